@@ -10,7 +10,8 @@ use Rattle.mmu_core.specs.machine.Machine.{Step, World, effect, hand_in, run}
 use Rattle.mmu_core.specs.machine.Sums.{one_if, sum_below}
 use Rattle.mmu_core.specs.machine.Turns.{line_of}
 use Rattle.mmu_core.proofs.lines.Forms.{most_small}
-use Rattle.core_theorem.specs.Turns.{AllStepsAreFew, begins_line, bound_of, bound_under_way, bounds_of, delays_line, how_many, is_under_way, lines_under_way, most_of_all}
+use Rattle.core_theorem.specs.Turns.{AllStepsAreFew, begins_line, bound_of, bound_under_way, bounds_of, delays_line, how_many, is_under_way}
+use Rattle.core_theorem.specs.Turns.{lines_under_way, most_of_all}
 use Rattle.core_theorem.proofs.Turns.{steps_are_few}
 
 few_each : (z : Sizes) (h : Held) → bound_of z h ≤ most_of_all z
@@ -20,7 +21,8 @@ one_more : (n : ℕ) (b : Bool) (x rest k : ℕ) → x ≤ n → rest ≤ n * k 
 one_more n true x rest k few le = let e : n * (1 + k) ≡ n + n * k = omega arith in omega (arith, few, le, e)
 one_more n false x rest k few le = let e : n * (0 + k) ≡ n * k = omega arith in omega (arith, le, e)
 
-bounds_few : (is_so : World Held → Step Kind → Bool) (z : Sizes) (w : World Held) (ss : List (Step Kind)) → bounds_of is_so z w ss ≤ most_of_all z * how_many is_so w ss
+bounds_few : (is_so : World Held → Step Kind → Bool) (z : Sizes) (w : World Held) (ss : List (Step Kind))
+    → bounds_of is_so z w ss ≤ most_of_all z * how_many is_so w ss
 bounds_few is_so z w [] = omega arith
 bounds_few is_so z w (s ∷ ss) =
     one_more (most_of_all z) (is_so w s) (bound_of z (hand_in mmu w s.actor)) (bounds_of is_so z (effect mmu w s) ss) (how_many is_so (effect mmu w s) ss)

@@ -32,7 +32,8 @@ use Rattle.mmu_laws.proofs.causes.StarvedScan.{legal_parts}
 use Rattle.mmu_core.proofs.machine.SumsBelow.{one_small, sum_only}
 use Rattle.core_theorem.specs.Turns.{LinesAreOpen, begins_line, bound_of, bounds_of, hand_delays, how_many, is_under_way}
 use Rattle.core_theorem.proofs.ActorSums.{sum_few, sum_moves, sum_of, sum_plus, sum_same}
-use Rattle.core_theorem.proofs.Turns.{CountsEnding, CountsGoing, IsReached, one_begins, open_in, part_still, reached_behind, reached_more, reached_sound, step_counts}
+use Rattle.core_theorem.proofs.Turns.{CountsEnding, CountsGoing, IsReached, one_begins, open_in, part_still, reached_behind, reached_more}
+use Rattle.core_theorem.proofs.Turns.{reached_sound, step_counts}
 
 -- ---- how many lines there are
 
@@ -61,7 +62,9 @@ chosen_few z [] = none (actors_of z)
     none zero = omega arith
     none (suc n) = omega (arith, none n)
 chosen_few z (line ∷ lines) =
-    let each = sum_same (actors_of z) (λ i. one_if (is_same (actor_at z i) line.actor) + length (lines_of (actor_at z i) lines)) (λ i. length (lines_of (actor_at z i) (line ∷ lines))) (λ i lt. chosen_more (is_same (actor_at z i) line.actor) line (lines_of (actor_at z i) lines)) in
+    let each =
+    sum_same (actors_of z) (λ i. one_if (is_same (actor_at z i) line.actor) + length (lines_of (actor_at z i) lines)) (λ i. length
+    (lines_of (actor_at z i) (line ∷ lines))) (λ i lt. chosen_more (is_same (actor_at z i) line.actor) line (lines_of (actor_at z i) lines)) in
     let both = sum_plus (actors_of z) (λ i. one_if (is_same (actor_at z i) line.actor)) (λ i. length (lines_of (actor_at z i) lines)) in
     let one = one_maker z line.actor in
     let rest = chosen_few z lines in
@@ -84,7 +87,9 @@ answers_few z u i R lt = subst (λ (x : World Held). length (hand_in mmu x i).an
     few : length g.answers ≤ length g.lines
     few =
         let there : i < actors_of R.reached.sizes = subst (λ (y : Sizes). i < actors_of y) (sym R.sizes) lt in
-        let same = ap (λ (ns : List ℕ). length ns) ((start_follows R.reached.sizes R.reached.lines R.reached.start R.reached.leads.steps i R.reached.is_start R.reached.leads.legal there).numbers refl) in
+        let same =
+        ap (λ (ns : List ℕ). length ns) ((start_follows R.reached.sizes R.reached.lines R.reached.start R.reached.leads.steps i R.reached.is_start
+        R.reached.leads.legal there).numbers refl) in
         let a = length-map g.answers (λ (x : AnsweredLine). x.number) in
         let b = length-map (take (length g.answers) g.lines) (λ (l : Line). l.number) in
         let c = length-take (length g.answers) g.lines in
@@ -121,7 +126,9 @@ module _ (z : Sizes) (u : World Held) (s : Step Kind) (R : IsReached z u) (may :
       by : (has_line h ≡ true) ⊎ (has_line h ≡ false) → begun_in g ≡ begun_in h + one_if (begins_line u s)
       by (inl has) = of_line (one_begins (has_line h) (is_under_way h.state.place) has) (step_counts z u s R may has).behind
       by (inr none) =
-          let same : begun_in g ≡ begun_in h = ap begun_in (part_still z u s R may none) in let no_begin = begins_none (has_line h) (not (is_under_way h.state.place)) none in omega (arith, same, no_begin)
+          let same : begun_in g ≡ begun_in h = ap begun_in (part_still z u s R may none) in
+          let no_begin = begins_none (has_line h) (not (is_under_way h.state.place)) none in
+          omega (arith, same, no_begin)
 
   lines_same : sum_of z lines_in_hand (effect mmu u s) ≡ sum_of z lines_in_hand u
   lines_same =
@@ -139,7 +146,8 @@ begins_few z u (s ∷ ss) R legal =
     let one = begins_one z u s R legal.0 in
     let moved = sum_moves z begun_in u s (own_there z u s R legal.0) in
     let same = lines_same z u s R legal.0 in
-    more (how_many begins_line (effect mmu u s) ss) (one_if (begins_line u s)) (sum_of z begun_in u) (sum_of z begun_in (effect mmu u s)) (begun_in (hand_in mmu u s.actor)) (begun_in (hand_in mmu (effect mmu u s) s.actor))
+    more (how_many begins_line (effect mmu u s) ss) (one_if (begins_line u s)) (sum_of z begun_in u) (sum_of z begun_in (effect mmu u s))
+    (begun_in (hand_in mmu u s.actor)) (begun_in (hand_in mmu (effect mmu u s) s.actor))
     (sum_of z lines_in_hand u) (sum_of z lines_in_hand (effect mmu u s)) rest one moved same
   where
     more : (begins one before behind h g all_before all : ℕ) → begins + behind ≤ all → g ≡ h + one → behind + h ≡ before + g → all ≡ all_before
@@ -151,7 +159,9 @@ lines_are_open z lines w ss ts R =
     let parts = legal_parts w ss ts R.legal in
     let few = begins_few z (run mmu w ss) ts (reached_behind z lines w ss (record { start = R.start; legal = parts.0 })) parts.1 in
     let both = sum_plus (actors_of z) (λ i. length (hand_in mmu (run mmu w ss) i).answers) (λ i. open_in (hand_in mmu (run mmu w ss) i)) in
-    let own = sum_same (actors_of z) (λ i. length (lines_of (actor_at z i) lines)) (λ i. lines_in_hand (hand_in mmu (run mmu w ss) i)) (λ i lt. ap (λ (xs : List Line). length xs) (start_follows z lines w ss i R.start parts.0 lt).lines) in
+    let own =
+    sum_same (actors_of z) (λ i. length (lines_of (actor_at z i) lines)) (λ i. lines_in_hand (hand_in mmu (run mmu w ss) i))
+    (λ i lt. ap (λ (xs : List Line). length xs) (start_follows z lines w ss i R.start parts.0 lt).lines) in
     let all = chosen_few z lines in
     omega (arith, few, both, own, all)
 

@@ -41,7 +41,8 @@ use Rattle.mmu_laws.proofs.causes.WaitsSee.{waits_see_another as step_waits_see_
 use Rattle.mmu_core.proofs.lines.LineWaits.{WaitsAs, line_waits_as}
 use Rattle.mmu_core.proofs.machine.Which.{is_next}
 use Rattle.mmu_core.proofs.machine.Worlds.{good_run}
-use Rattle.core_theorem.specs.Delays.{BeginsAnew, BetweenLinesSawNothing, DelaysHaveCauses, MissesEntry, StartsSawNothing, StepWaits, WaitsHaveCauses, WaitsInRunsSeeAnother}
+use Rattle.core_theorem.specs.Delays.{BeginsAnew, BetweenLinesSawNothing, DelaysHaveCauses, MissesEntry, StartsSawNothing, StepWaits, WaitsHaveCauses}
+use Rattle.core_theorem.specs.Delays.{WaitsInRunsSeeAnother}
 use Rattle.core_theorem.specs.Delays.{answer_of, hand_of}
 use Rattle.core_theorem.specs.Runs.{IsRun}
 use Rattle.core_theorem.proofs.Runs.{before, may_last, reached, sound}

@@ -12,7 +12,8 @@ use Rattle.mmu_core.specs.machine.Machine.{May, World, effect, hand_in, run}
 use Rattle.mmu_core.specs.invariant.PoolPart.{is_free}
 use Rattle.mmu_core.specs.machine.View.{word_in}
 use Rattle.mmu_core.specs.invariant.TopicsInvariant.{HoldsOld}
-use Rattle.mmu_core.proofs.pages.PoolPages.{left_no_table, left_not_free, left_not_owned, left_not_slots, not_free, one_leaver, one_owner, owned_not_free, owned_not_slots, set_use, table_not_free, table_not_owned}
+use Rattle.mmu_core.proofs.pages.PoolPages.{left_no_table, left_not_free, left_not_owned, left_not_slots, not_free, one_leaver, one_owner}
+use Rattle.mmu_core.proofs.pages.PoolPages.{owned_not_free, owned_not_slots, set_use, table_not_free, table_not_owned}
 use Rattle.mmu_core.proofs.held.ClaimGoes.{others_hand}
 use Rattle.mmu_core.proofs.machine.Worlds.{good_step}
 use Rattle.core_theorem.specs.Holdings.{HeldSetsAreKnown, NoneHoldsFreePages, NoOtherHolds, WatchedHoldNoOldSet, OfEachHeld, PagesAreReusedAlone}
@@ -62,7 +63,9 @@ module _ (z : Sizes) (u : World Held) (G : IsSound z u) where
   -- A page that an actor owns no other actor holds.
   no_other : (actor page : ℕ) → actor < actors_of z → Owns page (hand_in mmu u actor) → NoOtherHolds z actor page u
   no_other actor page there O other among apart = record {
-    tables = λ level H e. table_not_owned G.topics.uses G.topics.spot (table_at level (walk_of u other)) _ (stands_at z u G other level among H) actor O.owned there O.is (O.of_page ∙ sym e);
+    tables =
+        λ level H e. table_not_owned G.topics.uses G.topics.spot (table_at level (walk_of u other)) _ (stands_at z u G other level among H) actor
+        O.owned there O.is (O.of_page ∙ sym e);
     set = λ k is e. not_set k (G.topics.sets other k among is) (O.of_page ∙ sym e);
     owned = λ o is e. apart (one_owner G.topics.uses other actor o O.owned among there is O.is (O.of_page ∙ sym e));
   }
@@ -74,7 +77,9 @@ module _ (z : Sizes) (u : World Held) (G : IsSound z u) where
   -- An old slot set that is leaving for an actor which has watched all others since, no other actor holds.
   none_holds_old : (actor page : ℕ) → actor < actors_of z → MayGiveOld (hand_in mmu u actor) → leaving actor ≡ Some page → NoOtherHolds z actor page u
   none_holds_old actor page there M left other among apart = record {
-    tables = λ level H e. left_no_table G.topics.uses G.topics.spot actor page _ there left (ap (stands G.topics.up G.topics.spot) (sym e) ∙ stands_at z u G other level among H);
+    tables =
+        λ level H e. left_no_table G.topics.uses G.topics.spot actor page _ there left
+        (ap (stands G.topics.up G.topics.spot) (sym e) ∙ stands_at z u G other level among H);
     set = λ k is e. not_set k (G.topics.sets other k among is) e;
     owned = λ o is e. left_not_owned G.topics.uses actor page there left other o among is e;
   }
@@ -90,16 +95,20 @@ module _ (z : Sizes) (u : World Held) (G : IsSound z u) where
       own = ap (λ (y : Sizes). index_of y (hand_in mmu u actor).state.actor) (G.holds.lines actor there).sizes ∙ (G.holds.lines actor there).index
 
       over : actors_of z ≤ next_watched actor (hand_in mmu u actor).topics.watched
-      over = subst (λ i. actors_of z ≤ next_watched i (hand_in mmu u actor).topics.watched) own (subst (λ (y : Sizes). actors_of y ≤ next_watched (own_index (hand_in mmu u actor)) (hand_in mmu u actor).topics.watched) (G.holds.lines actor there).sizes M.watched)
+      over =
+          subst (λ i. actors_of z ≤ next_watched i (hand_in mmu u actor).topics.watched) own (subst (λ (y : Sizes). actors_of y
+          ≤ next_watched (own_index (hand_in mmu u actor)) (hand_in mmu u actor).topics.watched) (G.holds.lines actor there).sizes M.watched)
 
       not_set : (k : ℕ) → (k ≡ slots) ⊎ HoldsOld (actors_of z) (λ j. (hand_in mmu u j).topics) other k → k ≢ page
       not_set k (inl e) same = left_not_slots G.topics.uses actor page there left (sym same ∙ e)
       not_set k (inr H) same =
           let by_is : H.by ≡ actor = one_leaver G.topics.uses H.by actor page H.there there (H.leaves ∙ ap Some same) left in
-          watched_all actor (actors_of z) (hand_in mmu u actor).topics.watched other over (subst (λ i. (hand_in mmu u i).topics.watched ≤ other) by_is H.unwatched) among apart
+          watched_all actor (actors_of z) (hand_in mmu u actor).topics.watched other over
+          (subst (λ i. (hand_in mmu u i).topics.watched ≤ other) by_is H.unwatched) among apart
 
   -- Whom the watch has passed doesn't hold it.
-  watched_hold_none : (watcher other page : ℕ) → watcher < actors_of z → other < actors_of z → leaving watcher ≡ Some page → other < (hand_in mmu u watcher).topics.watched → (hand_in mmu u other).topics.search.set ≢ Some page
+  watched_hold_none : (watcher other page : ℕ) → watcher < actors_of z → other < actors_of z → leaving watcher ≡ Some page
+      → other < (hand_in mmu u watcher).topics.watched → (hand_in mmu u other).topics.search.set ≢ Some page
   watched_hold_none watcher other page there among left passed is = by (G.topics.sets other page among is)
     where
       by : (page ≡ slots) ⊎ HoldsOld (actors_of z) (λ j. (hand_in mmu u j).topics) other page → ⊥
@@ -114,7 +123,8 @@ none_holds_free_pages z lines w ss R actor there = none_free z (run mmu w ss) (s
 
 pub pages_are_reused_alone : PagesAreReusedAlone
 pages_are_reused_alone z lines w ss s R page = (
-  λ W other among apart. subst (λ (h : Held). OfEachHeld (λ held. held ≢ page) h.topics) (others_hand u s other apart) (no_other z (effect mmu u s) (good_step z u s G may) s.actor page there W.owns other among apart),
+  λ W other among apart. subst (λ (h : Held). OfEachHeld (λ held. held ≢ page) h.topics) (others_hand u s other apart)
+      (no_other z (effect mmu u s) (good_step z u s G may) s.actor page there W.owns other among apart),
   λ W. given W.gives W.had,
 )
   where
@@ -133,7 +143,8 @@ pages_are_reused_alone z lines w ss s R page = (
     there : s.actor < actors_of z
     there = last_actor z lines w ss s R
 
-    given : s.kind.code ≡ code_of kind.Give → Owns page (hand_in mmu u s.actor) ⊎ ((hand_in mmu u s.actor).topics.leaving ≡ Some page) → NoOtherHolds z s.actor page u
+    given : s.kind.code ≡ code_of kind.Give → Owns page (hand_in mmu u s.actor) ⊎ ((hand_in mmu u s.actor).topics.leaving ≡ Some page)
+        → NoOtherHolds z s.actor page u
     given gives (inl O) = no_other z u G s.actor page there O
     given gives (inr left) = none_holds_old z u G s.actor page there (gives_old z u G s page there may gives left).1 left
 
@@ -141,4 +152,5 @@ pub held_sets_are_known : HeldSetsAreKnown
 held_sets_are_known z lines w ss R = (sound z lines w ss R).topics.sets
 
 pub watched_hold_no_old_set : WatchedHoldNoOldSet
-watched_hold_no_old_set z lines w ss R watcher other page there among left passed = watched_hold_none z (run mmu w ss) (sound z lines w ss R) watcher other page there among left passed
+watched_hold_no_old_set z lines w ss R watcher other page there among left passed =
+    watched_hold_none z (run mmu w ss) (sound z lines w ss R) watcher other page there among left passed

@@ -21,7 +21,8 @@ use Rattle.mmu_core.proofs.machine.Stepping.{line_is_next}
 use Rattle.mmu_laws.proofs.flat.EveryAnswer.{run_follows}
 use Rattle.core_theorem.specs.Turns.{LinesMakeFewSteps, bound_of, delays_line, hand_delays, is_of, own_delays, own_line, own_steps}
 use Rattle.core_theorem.proofs.LineCounts.{and_false, going_takes, line_ends, line_goes, line_stays, one_few, one_if_false, own_few}
-use Rattle.core_theorem.proofs.Turns.{Counts, CountsEnding, CountsGoing, IsReached, count_few, counted_in, part_still, reached_behind, reached_more, reached_sound, step_counts}
+use Rattle.core_theorem.proofs.Turns.{Counts, CountsEnding, CountsGoing, IsReached, count_few, counted_in, part_still, reached_behind, reached_more}
+use Rattle.core_theorem.proofs.Turns.{reached_sound, step_counts}
 
 -- ---- one line
 
@@ -72,9 +73,15 @@ module _ (z : Sizes) (actor before most : ℕ) where
       by : (actor ≡ s.actor) ⊎ (actor ≢ s.actor) → (has_line (hand_in mmu u s.actor) ≡ true) ⊎ (has_line (hand_in mmu u s.actor) ≡ false) → Still u s ⊎ Own u s
       by (inr apart) has =
           let same : own_of (effect mmu u s) ≡ own_of u = others_hand u s actor apart in
-          inl (record { other = of_other (has_line (hand_in mmu u s.actor)) _ apart; answers = ap (λ (h : Held). length h.answers) same; counted = ap counted_in same })
+          inl (record {
+            other = of_other (has_line (hand_in mmu u s.actor)) _ apart;
+            answers = ap (λ (h : Held). length h.answers) same;
+            counted = ap counted_in same;
+          })
       by (inl here) (inl has) = inr (record {
-        own = of_own (has_line (hand_in mmu u s.actor)) (s.actor == actor) _ has (grind (arith, nat_tests)) ∙ ap (λ i. length (hand_in mmu u i).answers == before) (sym here);
+        own =
+            of_own (has_line (hand_in mmu u s.actor)) (s.actor == actor) _ has (grind (arith, nat_tests))
+            ∙ ap (λ i. length (hand_in mmu u i).answers == before) (sym here);
         delays = also (has_line (hand_in mmu u s.actor)) _ has ∙ ap (λ i. hand_delays (hand_in mmu u i) (answered mmu u s.kind)) (sym here);
         counts =
             subst
@@ -86,7 +93,9 @@ module _ (z : Sizes) (actor before most : ℕ) where
           let same = part_still z u s R may none in
           inl (record {
             other = of_none (has_line (hand_in mmu u s.actor)) _ none;
-            answers = ap (λ i. length (hand_in mmu (effect mmu u s) i).answers) here ∙ ap (λ (h : Held). length h.answers) same ∙ ap (λ i. length (hand_in mmu u i).answers) (sym here);
+            answers =
+                ap (λ i. length (hand_in mmu (effect mmu u s) i).answers) here ∙ ap (λ (h : Held). length h.answers) same
+                ∙ ap (λ i. length (hand_in mmu u i).answers) (sym here);
             counted = ap (λ i. counted_in (hand_in mmu (effect mmu u s) i)) here ∙ ap counted_in same ∙ ap (λ i. counted_in (hand_in mmu u i)) (sym here);
           })
 
@@ -105,7 +114,8 @@ module _ (z : Sizes) (actor before most : ℕ) where
       by (inl S) ih = let same = S.answers in none S.other (ih (omega (arith, past, same)))
       by (inr O) ih = none (O.own ∙ passed) (ih (at O.counts.behind))
         where
-          at : CountsGoing (hand_delays (own_of u) (answered mmu u s.kind)) (own_of u) (own_of (effect mmu u s)) ⊎ CountsEnding (own_of u) (own_of (effect mmu u s))
+          at : CountsGoing (hand_delays (own_of u) (answered mmu u s.kind)) (own_of u) (own_of (effect mmu u s))
+              ⊎ CountsEnding (own_of u) (own_of (effect mmu u s))
               → before < done_in (effect mmu u s)
           at (inl G) = let same = G.answers in omega (arith, past, same)
           at (inr E) = let more = E.answers in omega (arith, past, more)

@@ -69,11 +69,21 @@ module _ (z : Sizes) (u : World Held) (G : IsSound z u) (page : ℕ) where
 pub each_used : (z : Sizes) (u : World Held) (G : IsSound z u) (page : ℕ) → IsUsedFor z u G.topics.up G.topics.spot page (G.topics.up page)
 each_used z u G page = used z u G page (G.topics.up page) refl
 
-pub no_other_use : (z : Sizes) (u : World Held) (G : IsSound z u) (page : ℕ) (use_ : Use) → IsUsedFor z u G.topics.up G.topics.spot page use_ → G.topics.up page ≡ use_
+pub no_other_use : (z : Sizes) (u : World Held) (G : IsSound z u) (page : ℕ) (use_ : Use) → IsUsedFor z u G.topics.up G.topics.spot page use_
+    → G.topics.up page ≡ use_
 no_other_use z u G page use_ is = only_so z u G page use_ is
 
-pub stand_apart : (z : Sizes) (u : World Held) (G : IsSound z u) (k l : ℕ) (p : Position) → stands G.topics.up G.topics.spot k ≡ Some p → stands G.topics.up G.topics.spot l ≡ Some p → k ≡ l
+pub stand_apart : (z : Sizes) (u : World Held) (G : IsSound z u) (k l : ℕ) (p : Position) → stands G.topics.up G.topics.spot k ≡ Some p
+    → stands G.topics.up G.topics.spot l ≡ Some p → k ≡ l
 stand_apart z u G k l p at_k at_l = let T = G.topics.tree in one_place T k l p (all_reached T k p at_k) (all_reached T l p at_l) at_k at_l
 
 abbrev pub pages_are_used : (z : Sizes) (u : World Held) → IsSound z u → PagesAreUsed z u
-pages_are_used z u G = record { up = G.topics.up; spot = G.topics.spot; each = each_used z u G; only = no_other_use z u G; tables = G.topics.tree; leaves = G.topics.leaves; apart = stand_apart z u G }
+pages_are_used z u G = record {
+  up = G.topics.up;
+  spot = G.topics.spot;
+  each = each_used z u G;
+  only = no_other_use z u G;
+  tables = G.topics.tree;
+  leaves = G.topics.leaves;
+  apart = stand_apart z u G;
+}

@@ -85,7 +85,11 @@ module _ (z : Sizes) (w : World Held) (ss : List (Step Kind)) (s : Step Kind) (G
   looks M guest =
       made_now (FindsNoPause z a) (StaysInGuest a) w ss s (record {
         loads = ap (λ (k : Kind). k.code) M.is;
-        finds = record { by_actor = refl; on = word_on z u s G may part.Pause M; finds = ap (λ i. slice_index u.words i) (word_on z u s G may part.Pause M) ∙ G.no_pause };
+        finds = record {
+          by_actor = refl;
+          on = word_on z u s G may part.Pause M;
+          finds = ap (λ i. slice_index u.words i) (word_on z u s G may part.Pause M) ∙ G.no_pause;
+        };
         inside = guest;
       })
 
@@ -171,4 +175,5 @@ module _ (z : Sizes) (w : World Held) where
 pub pause_is_seen_in_stay : PauseIsSeenInStay
 pause_is_seen_in_stay z lines w ss R actor there touches =
     subst (λ (p : Place). PlaceSaw z w actor p ss) touches
-    (each_line z w (LineSaw z w) (lines_see z w) ss actor (start_good z lines w R.start) R.legal (ap (λ (h : Held). h.state.place) (hand_is z lines w actor R.start there)))
+    (each_line z w (LineSaw z w) (lines_see z w) ss actor (start_good z lines w R.start) R.legal
+    (ap (λ (h : Held). h.state.place) (hand_is z lines w actor R.start there)))

@@ -29,13 +29,17 @@ module _ (z : Sizes) (w : World Held) (A B : PagesAreUsed z w) where
       ap (stands B.up B.spot) root ∙ root_stands B.tables ∙ sym (root_stands A.tables) ∙ sym (ap (stands A.up A.spot) root) ∙ at_k
 
   -- Where the table above stands in the second, what it links to stands below it.
-  linked_in_both : (k m j : ℕ) (p : Position) → stands A.up A.spot k ≡ Some p → IsUnder pool A.up A.spot k p m j → stands B.up B.spot m ≡ Some (at (p.level + 1) (p.prefix / 512)) → stands B.up B.spot k ≡ Some p
+  linked_in_both : (k m j : ℕ) (p : Position) → stands A.up A.spot k ≡ Some p → IsUnder pool A.up A.spot k p m j
+      → stands B.up B.spot m ≡ Some (at (p.level + 1) (p.prefix / 512)) → stands B.up B.spot k ≡ Some p
   linked_in_both k m j p at_k V above =
       let least = (A.tables.there k p at_k).1 in
       let index = V.index in
       let upper : 2 ≤ p.level + 1 = omega (arith, least) in
-      let below : B.up k ≡ Under m j = B.only k (Under m j) (record { at = at (p.level + 1) (p.prefix / 512); table = above; upper = upper; low = omega (arith, index); link = V.link }) in
-      link_stands B.tables m (at (p.level + 1) (p.prefix / 512)) j (pool (pool_index m j)) above (record { page = k; upper = upper; is = V.link; below = below })
+      let below : B.up k ≡ Under m j =
+      B.only k (Under m j)
+      (record { at = at (p.level + 1) (p.prefix / 512); table = above; upper = upper; low = omega (arith, index); link = V.link }) in
+      link_stands B.tables m (at (p.level + 1) (p.prefix / 512)) j (pool (pool_index m j)) above
+      (record { page = k; upper = upper; is = V.link; below = below })
       ∙ ap Some (same_position _ p (omega arith) (omega (arith, index)))
 
   stands_within : (n k : ℕ) (p : Position) → 4 ≤ p.level + n → stands A.up A.spot k ≡ Some p → stands B.up B.spot k ≡ Some p
@@ -76,9 +80,12 @@ module _ (z : Sizes) (w : World Held) (A B : PagesAreUsed z w) where
       by false is = nowhere A.up A.spot k (A.up k) refl is ∙ sym (nowhere B.up B.spot k (A.up k) (sym (same_use k)) is)
 
   -- So what the first says of all entries below a table the second says of them too.
-  pub over_in_both : (IsSo : ℕ → ℕ → ℕ → Type 0) (m : ℕ) (p : Position) → stands A.up A.spot m ≡ Some p → AllOver A.up A.spot pool m IsSo → AllOver B.up B.spot pool m IsSo
+  pub over_in_both : (IsSo : ℕ → ℕ → ℕ → Type 0) (m : ℕ) (p : Position) → stands A.up A.spot m ≡ Some p → AllOver A.up A.spot pool m IsSo
+      → AllOver B.up B.spot pool m IsSo
   over_in_both IsSo m p at_m all_so table entry gfn R O =
       let reaches : Reaches A.up m table = subst (λ up. Reaches up m table) (sym same_uses) R in
       let is : is_table (A.up table) ≡ true = reached_table A.up m table (spot_of A.up A.spot m p at_m).0 reaches in
-      let spots : B.spot table ≡ A.spot table = (spot_of B.up B.spot table (A.spot table) (stands_so table (A.spot table) (at_spot A.up A.spot table (A.up table) refl is))).1 in
-      subst (λ (q : Position). IsSo q.level gfn (pool (pool_index table entry))) (sym spots) (all_so table entry gfn reaches (subst (λ q. IsEntryOver q entry gfn) spots O))
+      let spots : B.spot table ≡ A.spot table =
+      (spot_of B.up B.spot table (A.spot table) (stands_so table (A.spot table) (at_spot A.up A.spot table (A.up table) refl is))).1 in
+      subst (λ (q : Position). IsSo q.level gfn (pool (pool_index table entry))) (sym spots)
+      (all_so table entry gfn reaches (subst (λ q. IsEntryOver q entry gfn) spots O))

@@ -82,7 +82,8 @@ gives_old z u G s page there may gives left =
         → (h.state.place ≡ place.SlotChange Give) × MayGiveOld h
     by (place.SlotChange p) command at is K L U =
         let N = is_next h s.kind may.enabled (has_line_is h U.1) in
-        let task : task_of h ≡ slot_change_task p h command = ap (λ q. task_at (place_at q h) (line_at q h).command h) at ∙ ap (λ c. task_at (place.SlotChange p) c h) is in
+        let task : task_of h ≡ slot_change_task p h command =
+        ap (λ q. task_at (place_at q h) (line_at q h).command h) at ∙ ap (λ c. task_at (place.SlotChange p) c h) is in
         let there_now = old p command K.1 L (ap (λ (t : Task). code_of t.kind) (sym task) ∙ (sym (ap (λ (k : Kind). k.code) N.is) ∙ gives)) in
         (at ∙ there_now.0, there_now.1)
     by _ c at is K L U = let none = L.leaves refl in absurd (cc (none, left))
@@ -151,7 +152,8 @@ not_cleared : (z : Sizes) (v : View) (a : ℕ) (line : Line) (c : Command) (p : 
 not_cleared z v a line c p none S after same =
     let w : View = stepped a line c p v in
     let command : (w.hand a).state.line.command ≡ c = ap (λ (h : Held). h.state.line.command) same ∙ S.command_is in
-    other_cleared (w.words area.Role) (w.hand a).state.place c (w.hand a) none (subst (λ c. KnowsPart (w.hand a).state.place c (w.hand a)) command (after.knows a S.there))
+    other_cleared (w.words area.Role) (w.hand a).state.place c (w.hand a) none
+    (subst (λ c. KnowsPart (w.hand a).state.place c (w.hand a)) command (after.knows a S.there))
 
 own_cleared : (z : Sizes) (v : View) (a : ℕ) (line : Line) (c : Command) (p : Place) → IsStep z v a line c p → Invariant z (stepped a line c p v)
     → HandCleared (stepped a line c p v) a

@@ -33,7 +33,8 @@ use Rattle.mmu_laws.proofs.turns.StepsCounted.{counts_fit, counts_have_room, ste
 use Rattle.mmu_core.proofs.machine.Which.{next_of_part}
 use Rattle.core_theorem.specs.Runs.{IsRun}
 use Rattle.core_theorem.proofs.ActorSums.{sum_few, sum_moves, sum_of}
-use Rattle.core_theorem.specs.Turns.{CountsAreFew, StepsAreFew, begins_line, bound_of, bound_under_way, bounds_in, bounds_of, delays_line, hand_delays, how_many, is_of_line, is_under_way}
+use Rattle.core_theorem.specs.Turns.{CountsAreFew, StepsAreFew, begins_line, bound_of, bound_under_way, bounds_in, bounds_of, delays_line}
+use Rattle.core_theorem.specs.Turns.{hand_delays, how_many, is_of_line, is_under_way}
 
 -- ---- worlds that are reached
 
@@ -47,7 +48,13 @@ reached_sound z u R = subst (λ (y : Sizes). IsSound y u) R.sizes (reached_good 
 
 pub reached_more : (z : Sizes) (u : World Held) (s : Step Kind) → IsReached z u → May mmu u s → IsReached z (effect mmu u s)
 reached_more z u s R may = record {
-  reached = record { sizes = R.reached.sizes; lines = R.reached.lines; start = R.reached.start; is_start = R.reached.is_start; leads = goes_on mmu R.reached.start u s R.reached.leads may };
+  reached = record {
+    sizes = R.reached.sizes;
+    lines = R.reached.lines;
+    start = R.reached.start;
+    is_start = R.reached.is_start;
+    leads = goes_on mmu R.reached.start u s R.reached.leads may;
+  };
   sizes = R.sizes;
 }
 
@@ -143,7 +150,8 @@ module _ (z : Sizes) (u : World Held) (s : Step Kind) (R : IsReached z u) (may :
       let g : Held = hand_in mmu (effect mmu u s) s.actor in
       let C : CountsOn (hand_delays h v) h g = steps_counted_on u s R.reached may has in
       let left : length h.answers < length h.lines = grind (arith, nat_tests) in
-      let comes : Comes (outcome_of h v) (line_of h) h g = subst (Comes (outcome_of h v) (line_of h) h) (sym (own_hand u s may.there)) (next_comes h s.kind v left) in
+      let comes : Comes (outcome_of h v) (line_of h) h g =
+      subst (Comes (outcome_of h v) (line_of h) h) (sym (own_hand u s may.there)) (next_comes h s.kind v left) in
       record {
         room =
             subst (λ (y : Sizes). counted_in h + 1 ≤ bound_of y h) ((reached_sound z u R).holds.lines s.actor there).sizes

@@ -25,7 +25,9 @@ use Rattle.core_theorem.proofs.SamePages.{over_in_both, same_places}
 -- The tables that a walk holds stand at their levels.
 pub stands_at : (z : Sizes) (u : World Held) (G : IsSound z u) (actor level : ℕ) → actor < actors_of z → HoldsAt level (walk_of u actor)
     → stands G.topics.up G.topics.spot (table_at level (walk_of u actor)) ≡ Some (at level (run_at level (walk_of u actor)))
-stands_at z u G actor level there H = whole_path (stands G.topics.up G.topics.spot) (hand_in mmu u actor).topics (G.topics.held actor there) (G.topics.paths actor there) level H.some H.down H.up
+stands_at z u G actor level there H =
+    whole_path (stands G.topics.up G.topics.spot) (hand_in mmu u actor).topics (G.topics.held actor there) (G.topics.paths actor there) level
+    H.some H.down H.up
 
 -- So they do in any account of the pages, since it agrees with the one that the sound world gives; and leaves say in it what they say in that one.
 module _ (z : Sizes) (u : World Held) (G : IsSound z u) (pages : PagesAreUsed z u) where
@@ -50,5 +52,7 @@ pub held_leaves_are_linked : HeldLeavesAgree
 held_leaves_are_linked z lines w ss R actor level gfn entry there H small run_ leads leaf =
     let u : World Held = run mmu w ss in
     let G = sound z lines w ss R in
-    let same = leads_down z u gfn (table_at level (walk_of u actor)) level entry G (stands_at z u G actor level there H ∙ ap (λ r. Some (at level r)) (sym run_)) in
+    let same =
+    leads_down z u gfn (table_at level (walk_of u actor)) level entry G
+    (stands_at z u G actor level there H ∙ ap (λ r. Some (at level r)) (sym run_)) in
     leaves_agree z u gfn entry G small (same.above leads) leaf

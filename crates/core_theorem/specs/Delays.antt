@@ -43,7 +43,8 @@ answer_of w ss s = answered mmu (run mmu w ss) s.kind
 -- Where a step ends the section of a fault that begins anew, this has its cause in the steps before it, in this section.
 abbrev pub FaultsHaveCauses : Type 0
 FaultsHaveCauses =
-    (z : Sizes) (lines : List Line) (w : World Held) (ss : List (Step Kind)) (s : Step Kind) (cause : Cause) (gfn word : ℕ) (op : Op) → IsRun z lines w (ss ++ s ∷ [])
+    (z : Sizes) (lines : List Line) (w : World Held) (ss : List (Step Kind)) (s : Step Kind) (cause : Cause) (gfn word : ℕ) (op : Op)
+    → IsRun z lines w (ss ++ s ∷ [])
     → (hand_of w ss s).state.place ≡ place.Access (access.Fault (End (Retry cause))) → (hand_of w ss s).state.line.command ≡ Access gfn word op
     → IsCaused cause z s.actor gfn w ss
 
@@ -136,6 +137,7 @@ DelaysHaveCauses =
 -- starved ends a scan of the whole map by the line's actor since that moment, which found no page free in any of its words.
 abbrev pub StarvedLinesScanned : Type 0
 StarvedLinesScanned =
-    (z : Sizes) (lines : List Line) (w : World Held) (ss ts : List (Step Kind)) (s : Step Kind) → IsRun z lines w (ss ++ (ts ++ s ∷ [])) → (hand_in mmu (run mmu w ss) s.actor).state.place ≡ Between
+    (z : Sizes) (lines : List Line) (w : World Held) (ss ts : List (Step Kind)) (s : Step Kind) → IsRun z lines w (ss ++ (ts ++ s ∷ []))
+    → (hand_in mmu (run mmu w ss) s.actor).state.place ≡ Between
     → outcome_of (hand_of (run mmu w ss) ts s) (answer_of (run mmu w ss) ts s) ≡ Ends Starved
     → EndsWithScan z s.actor (words_of_bits z.pool) (run mmu w ss) (ts ++ s ∷ [])

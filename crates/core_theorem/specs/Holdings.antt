@@ -48,8 +48,10 @@ HeldSetsAreKnown =
 -- So whom a watch has passed holds no slot set that the watcher has taken out of use.
 abbrev pub WatchedHoldNoOldSet : Type 0
 WatchedHoldNoOldSet =
-    (z : Sizes) (lines : List Line) (w : World Held) (ss : List (Step Kind)) → IsRun z lines w ss → (watcher other page : ℕ) → watcher < actors_of z → other < actors_of z
-    → (hand_in mmu (run mmu w ss) watcher).topics.leaving ≡ Some page → other < (hand_in mmu (run mmu w ss) watcher).topics.watched → (hand_in mmu (run mmu w ss) other).topics.search.set ≢ Some page
+    (z : Sizes) (lines : List Line) (w : World Held) (ss : List (Step Kind)) → IsRun z lines w ss → (watcher other page : ℕ) → watcher < actors_of z
+    → other < actors_of z
+    → (hand_in mmu (run mmu w ss) watcher).topics.leaving ≡ Some page → other < (hand_in mmu (run mmu w ss) watcher).topics.watched
+    → (hand_in mmu (run mmu w ss) other).topics.search.set ≢ Some page
 
 -- The step, made in this world, is a claim that wins this page.
 pub record Wins (page : ℕ) (w : World Held) (s : Step Kind) : Type 0 where
@@ -82,5 +84,7 @@ ReturnedSetsAreCleared =
 -- has no lock, no page and no slot set, and no page leaves for it.
 abbrev pub AnsweredLinesRest : Type 0
 AnsweredLinesRest =
-    (z : Sizes) (lines : List Line) (w : World Held) (ss : List (Step Kind)) (s : Step Kind) (answer : Answer) → IsRun z lines w (ss ++ s ∷ []) → has_line (hand_in mmu (run mmu w ss) s.actor) ≡ true
-    → outcome_of (hand_in mmu (run mmu w ss) s.actor) (answered mmu (run mmu w ss) s.kind) ≡ Ends answer → HoldsNothing (hand_in mmu (effect mmu (run mmu w ss) s) s.actor).topics
+    (z : Sizes) (lines : List Line) (w : World Held) (ss : List (Step Kind)) (s : Step Kind) (answer : Answer) → IsRun z lines w (ss ++ s ∷ [])
+    → has_line (hand_in mmu (run mmu w ss) s.actor) ≡ true
+    → outcome_of (hand_in mmu (run mmu w ss) s.actor) (answered mmu (run mmu w ss) s.kind) ≡ Ends answer
+    → HoldsNothing (hand_in mmu (effect mmu (run mmu w ss) s) s.actor).topics

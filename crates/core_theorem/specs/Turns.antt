@@ -63,8 +63,8 @@ own_line actor before w = unwrap_or (slice_get (hand_in mmu w actor).lines befor
 -- last.
 abbrev pub LinesMakeFewSteps : Type 0
 LinesMakeFewSteps =
-    (z : Sizes) (lines : List Line) (w : World Held) (ss ts : List (Step Kind)) (s : Step Kind) → IsRun z lines w (ss ++ (ts ++ s ∷ [])) → (actor before : ℕ) → actor < actors_of z
-    → own_steps actor before (run mmu w ss) (ts ++ s ∷ [])
+    (z : Sizes) (lines : List Line) (w : World Held) (ss ts : List (Step Kind)) (s : Step Kind) → IsRun z lines w (ss ++ (ts ++ s ∷ []))
+    → (actor before : ℕ) → actor < actors_of z → own_steps actor before (run mmu w ss) (ts ++ s ∷ [])
     ≤ most_steps z (own_line actor before (run mmu w ss)).command * (own_delays actor before (run mmu w ss) ts + 1)
 
 -- how many lines are under way
@@ -82,7 +82,8 @@ lines_answered z w = sum_below (actors_of z) (λ i. length (hand_in mmu w i).ans
 -- They are no more than the lines that have no answer yet: each line begins once.
 abbrev pub LinesAreOpen : Type 0
 LinesAreOpen =
-    (z : Sizes) (lines : List Line) (w : World Held) (ss ts : List (Step Kind)) → IsRun z lines w (ss ++ ts) → lines_answered z (run mmu w ss) + lines_in z (run mmu w ss) ts ≤ length lines
+    (z : Sizes) (lines : List Line) (w : World Held) (ss ts : List (Step Kind)) → IsRun z lines w (ss ++ ts)
+    → lines_answered z (run mmu w ss) + lines_in z (run mmu w ss) ts ≤ length lines
 
 -- as many steps as the command of the hand's line allows
 abbrev pub bound_of : Sizes → Held → ℕ

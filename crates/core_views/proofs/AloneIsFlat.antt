@@ -225,11 +225,17 @@ line_shows : (z : Sizes) (line : Line) (lines : List Line) (within rest : List E
     → Shows z (line ∷ lines) f (by line (Begun line) ∷ (within ++ (by line (Answered line.number answer) ∷ rest)))
 line_shows z line lines within rest answer f idle are further lawful falls =
     let start : IsAt line.actor f.facts (f.under line.actor) f = record { facts_are = refl; line_is = refl; others = λ i apart. idle i } in
-    let begun : IsAlone line Fresh no_notes (after (by line (Begun line)) f) = record { at = step line.actor (Begun line) f.facts (f.under line.actor) f start; exact = λ fresh. record { slots = λ slots noted. absurd (cc noted); host = λ page entry noted. absurd (cc noted) } } in
+    let begun : IsAlone line Fresh no_notes (after (by line (Begun line)) f) =
+    record {
+      at = step line.actor (Begun line) f.facts (f.under line.actor) f start;
+      exact = λ fresh. record { slots = λ slots noted. absurd (cc noted); host = λ page entry noted. absurd (cc noted) };
+    } in
     let ends = whole_line z line within rest answer are Fresh no_notes (after (by line (Begun line)) f) begun lawful.1 falls.1 in
     let behind = further ends.behind ends.idle ends.lawful ends.falls in
     record {
-      shown = ap (λ (es : List Event). by line (Begun line) ∷ es) (ends.shown ∙ ap (λ (es : List Event). rest_of z line Fresh f.facts ++ es) (behind.shown ∙ ap (λ (g : Facts). without_looks (one_by_one z lines g)) ends.facts_are)) ∙ sym (flat_shows z line lines f.facts);
+      shown =
+          ap (λ (es : List Event). by line (Begun line) ∷ es) (ends.shown ∙ ap (λ (es : List Event). rest_of z line Fresh f.facts ++ es)
+          (behind.shown ∙ ap (λ (g : Facts). without_looks (one_by_one z lines g)) ends.facts_are)) ∙ sym (flat_shows z line lines f.facts);
       idle = subst (λ (g : Flat). AllIdle g) (sym ends.reaches) behind.idle;
     }
 
@@ -242,7 +248,8 @@ shows z (line ∷ lines) h f idle lawful stands falls =
     (line_shows z line lines first.within stands.0 first.answer f idle first.are_within
     (λ g idle_then lawful_then falls_then. shows z lines stands.0 g idle_then lawful_then stands.2 falls_then)) lawful falls
 
--- From this state on, the history is the flat one of these lines: in what it shows, answers and prints, in the facts behind it, and in that no line is under way then.
+-- From this state on, the history is the flat one of these lines: in what it shows, answers and prints, in the facts behind it, and in that no line
+-- is under way then.
 pub record GoesAsFlat (z : Sizes) (lines : List Line) (f : Flat) (h : List Event) : Type 0 where
   pub shown : without_looks h ≡ without_looks (one_by_one z lines f.facts)
   pub facts_are : (after_all h f).facts ≡ facts_after_all (one_by_one z lines f.facts) f.facts
@@ -259,7 +266,9 @@ goes_as_flat z lines h f idle lawful stands falls =
     let answered : answers_of h ≡ answers_of flat = answers_without_looks h ∙ (ap answers_of is.shown ∙ sym (answers_without_looks flat)) in
     record {
       shown = is.shown;
-      facts_are = facts_behind h f ∙ (facts_without_looks h f.facts ∙ (ap (λ (es : List Event). facts_after_all es f.facts) is.shown ∙ sym (facts_without_looks flat f.facts)));
+      facts_are =
+          facts_behind h f ∙ (facts_without_looks h f.facts
+          ∙ (ap (λ (es : List Event). facts_after_all es f.facts) is.shown ∙ sym (facts_without_looks flat f.facts)));
       idle = is.idle;
       answers = answered;
       prints = ap lines_text answered;

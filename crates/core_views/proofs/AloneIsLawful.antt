@@ -146,7 +146,16 @@ reaching_closes : (z : Sizes) (line : Line) (gfn word : ℕ) (op : Op) (facts : 
     → Closes z (reaching line gfn word op facts page denied) f
 reaching_closes z line gfn word op facts page true f behind denies is runs at =
     let saw : SawForbidden (noted line facts (with_entry page (facts.host page) no_notes.host)).notes gfn op =
-    record { runs = ap Some runs; slots = flat_slots facts.slots; noted = refl; page = page; behind = behind; entry = facts.host page; looked = seen page (facts.host page) no_notes.host; forbids = denies } in
+    record {
+      runs = ap Some runs;
+      slots = flat_slots facts.slots;
+      noted = refl;
+      page = page;
+      behind = behind;
+      entry = facts.host page;
+      looked = seen page (facts.host page) no_notes.host;
+      forbids = denies;
+    } in
     more z (by line (Exited HostFault)) (answers line HostFault) f
     (allowed z line.actor (Exited HostFault) facts _ f at (refl, rw is saw))
     (answered z line HostFault facts _ _ (step line.actor (Exited HostFault) facts _ f at) refl refl)
@@ -158,7 +167,8 @@ access_closes : (z : Sizes) (line : Line) (gfn word : ℕ) (op : Op) (facts : Fa
     → facts.paused ≡ false → IsAt line.actor facts (noted line facts no_notes.host) f
     → Closes z (looks_behind line page ++ accessing line gfn word op facts page) f
 access_closes z line gfn word op facts None f none is runs at =
-    let saw : SawNoPage (noted line facts no_notes.host).notes gfn op = record { runs = ap Some runs; slots = flat_slots facts.slots; noted = refl; none = none } in
+    let saw : SawNoPage (noted line facts no_notes.host).notes gfn op =
+    record { runs = ap Some runs; slots = flat_slots facts.slots; noted = refl; none = none } in
     more z (by line (Exited Mmio)) (answers line Mmio) f
     (allowed z line.actor (Exited Mmio) facts _ f at (refl, rw is saw))
     (answered z line Mmio facts _ _ (step line.actor (Exited Mmio) facts _ f at) refl refl)
@@ -270,6 +280,7 @@ one_by_one_lawful z [] f idle runs = tt
 one_by_one_lawful z (line ∷ lines) f idle runs =
     let closes = alone_closes z line f idle runs in
     let then_ : Flat = after_all (alone z line f.facts) f in
-    let still : then_.facts.paused ≡ false = ap (λ (g : Facts). g.paused) (facts_behind (alone z line f.facts) f) ∙ still_paused (alone z line f.facts) f.facts ∙ runs in
+    let still : then_.facts.paused ≡ false =
+    ap (λ (g : Facts). g.paused) (facts_behind (alone z line f.facts) f) ∙ still_paused (alone z line f.facts) f.facts ∙ runs in
     lawful_append z (alone z line f.facts) (one_by_one z lines (facts_after_all (alone z line f.facts) f.facts)) f closes.lawful
     (subst (λ (g : Facts). IsLawful z then_ (one_by_one z lines g)) closes.facts_are (one_by_one_lawful z lines then_ closes.idle still))

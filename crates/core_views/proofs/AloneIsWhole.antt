@@ -53,12 +53,14 @@ one_more : (b : Bool) (x : AnsweredLine) (line : Line) (xs : List AnsweredLine) 
 one_more true x line xs lines same rest = rw (same, rest) refl
 one_more false x line xs lines same rest = rest
 
-all_answered : (actor : Actor) (lines : List Line) (h : List Event) → StandsAlone h lines → numbers_of actor (answers_of h) ≡ map (λ line. line.number) (lines_of actor lines)
+all_answered : (actor : Actor) (lines : List Line) (h : List Event) → StandsAlone h lines
+    → numbers_of actor (answers_of h) ≡ map (λ line. line.number) (lines_of actor lines)
 all_answered actor [] h stands = ap (λ (es : List Event). numbers_of actor (answers_of es)) stands
 all_answered actor (line ∷ lines) h stands =
     let rest : List Event = stands.0 in
     ap (numbers_of actor) (first_answered line h rest stands.1)
-    ∙ one_more (is_same actor line.actor) (with_answer line stands.1.answer) line (filter (λ x. is_same actor x.actor) (answers_of rest)) (lines_of actor lines) refl (all_answered actor lines rest stands.2)
+    ∙ one_more (is_same actor line.actor) (with_answer line stands.1.answer) line (filter (λ x. is_same actor x.actor) (answers_of rest))
+    (lines_of actor lines) refl (all_answered actor lines rest stands.2)
 
 pub stands_whole : (lines : List Line) (h : List Event) → StandsAlone h lines → IsWhole h lines
 stands_whole lines h stands = record {

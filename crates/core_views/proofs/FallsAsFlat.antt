@@ -38,7 +38,8 @@ left_falls z f actor (ChangeHost page Protect) notes (Refused NoFrame) may none 
 left_falls z f actor (ChangeHost page Allow) notes (Refused NoFrame) may none fed = absurd may
 left_falls z f actor command notes _ may none fed = tt
 
-changed_falls : (z : Sizes) (f : Facts) (command : Command) (page : ℕ) (entry : HostEntry) → moves_page command ≡ false → FallsAsFlat z f command (HostChanged page entry)
+changed_falls : (z : Sizes) (f : Facts) (command : Command) (page : ℕ) (entry : HostEntry) → moves_page command ≡ false
+    → FallsAsFlat z f command (HostChanged page entry)
 changed_falls z f (ChangeHost at Move) page entry none = absurd (cc none)
 changed_falls z f (ChangeHost at Evict) page entry none = tt
 changed_falls z f (ChangeHost at Protect) page entry none = tt

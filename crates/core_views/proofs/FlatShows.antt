@@ -32,11 +32,13 @@ bringing_shows : (line : Line) (page : ℕ) (present : Bool) (es : List Event) �
 bringing_shows line page true es is = is
 bringing_shows line page false es is = ap (λ (xs : List Event). bringing line page false ++ xs) is
 
-reaching_shows : (line : Line) (gfn word : ℕ) (op : Op) (f : Facts) (page : ℕ) (denied : Bool) → without_looks (reaching line gfn word op f page denied) ≡ reaching line gfn word op f page denied
+reaching_shows : (line : Line) (gfn word : ℕ) (op : Op) (f : Facts) (page : ℕ) (denied : Bool)
+    → without_looks (reaching line gfn word op f page denied) ≡ reaching line gfn word op f page denied
 reaching_shows line gfn word op f page true = refl
 reaching_shows line gfn word op f page false = bringing_shows line page (f.host page).present _ refl
 
-accessing_shows : (line : Line) (gfn word : ℕ) (op : Op) (f : Facts) (page : Option ℕ) → without_looks (looks_behind line page ++ accessing line gfn word op f page) ≡ accessing line gfn word op f page
+accessing_shows : (line : Line) (gfn word : ℕ) (op : Op) (f : Facts) (page : Option ℕ)
+    → without_looks (looks_behind line page ++ accessing line gfn word op f page) ≡ accessing line gfn word op f page
 accessing_shows line gfn word op f None = refl
 accessing_shows line gfn word op f (Some page) = reaching_shows line gfn word op f page (is_denied op (f.host page))
 
@@ -74,9 +76,11 @@ alone_shows : (z : Sizes) (line : Line) (f : Facts) → without_looks (alone z l
 alone_shows z line f = ap (λ (es : List Event). by line (Begun line) ∷ es) (doing_shows z line line.command f)
 
 pub flat_shows : (z : Sizes) (line : Line) (lines : List Line) (f : Facts)
-    → without_looks (one_by_one z (line ∷ lines) f) ≡ by line (Begun line) ∷ (rest_of z line Fresh f ++ without_looks (one_by_one z lines (facts_after_all (rest_of z line Fresh f) f)))
+    → without_looks (one_by_one z (line ∷ lines) f) ≡ by line (Begun line)
+    ∷ (rest_of z line Fresh f ++ without_looks (one_by_one z lines (facts_after_all (rest_of z line Fresh f) f)))
 flat_shows z line lines f =
-    let facts_are : facts_after_all (alone z line f) f ≡ facts_after_all (rest_of z line Fresh f) f = facts_without_looks (alone z line f) f ∙ ap (λ (es : List Event). facts_after_all es f) (alone_shows z line f) in
+    let facts_are : facts_after_all (alone z line f) f ≡ facts_after_all (rest_of z line Fresh f) f =
+    facts_without_looks (alone z line f) f ∙ ap (λ (es : List Event). facts_after_all es f) (alone_shows z line f) in
     without_looks_append (alone z line f) (one_by_one z lines (facts_after_all (alone z line f) f))
     ∙ (ap (λ (es : List Event). es ++ without_looks (one_by_one z lines (facts_after_all (alone z line f) f))) (alone_shows z line f)
     ∙ ap (λ (g : Facts). by line (Begun line) ∷ (rest_of z line Fresh f ++ without_looks (one_by_one z lines g))) facts_are)

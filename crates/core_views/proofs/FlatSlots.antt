@@ -21,10 +21,12 @@ pub flat_with : (id : ℕ) (m : MemorySlot) (es : MemorySlots) → flat_slots (w
 flat_with id m [] = refl
 flat_with id m ((k, n) ∷ es) =
     by_order (nat_cmp id k) ((id, m) ∷ (k, n) ∷ es) ((k, m) ∷ es) ((k, n) ∷ with_slot_at id m es)
-    ∙ ap (λ (rest : Slots). match_ordering (nat_cmp id k) ((id, m.slot) ∷ (k, n.slot) ∷ flat_slots es) ((k, m.slot) ∷ flat_slots es) ((k, n.slot) ∷ rest)) (flat_with id m es)
+    ∙ ap (λ (rest : Slots). match_ordering (nat_cmp id k) ((id, m.slot) ∷ (k, n.slot) ∷ flat_slots es) ((k, m.slot) ∷ flat_slots es)
+    ((k, n.slot) ∷ rest)) (flat_with id m es)
 
 -- A place whose slot only gets or loses its dirty log changes nothing there.
-pub flat_same : (i k : ℕ) (m n : MemorySlot) (ps : Places) → get_or ps i None ≡ Some m → n.slot ≡ m.slot → flat_slots (slots_from k (set ps i (Some n))) ≡ flat_slots (slots_from k ps)
+pub flat_same : (i k : ℕ) (m n : MemorySlot) (ps : Places) → get_or ps i None ≡ Some m → n.slot ≡ m.slot
+    → flat_slots (slots_from k (set ps i (Some n))) ≡ flat_slots (slots_from k ps)
 flat_same i k m n [] at same = refl
 flat_same zero k m n (None ∷ ps) at same = cc
 flat_same zero k m n (Some x ∷ ps) at same =
@@ -33,7 +35,8 @@ flat_same zero k m n (Some x ∷ ps) at same =
 flat_same (suc i) k m n (None ∷ ps) at same = flat_same i (k + 1) m n ps at same
 flat_same (suc i) k m n (Some x ∷ ps) at same = ap (λ (rest : Slots). (k, x.slot) ∷ rest) (flat_same i (k + 1) m n ps at same)
 
-by_holding : (b : Bool) (e : ℕ × MemorySlot) (rest : Option (ℕ × MemorySlot)) → option_map (λ (x : ℕ × MemorySlot). x.1.slot) (cond b (Some e) rest) ≡ cond b (Some e.1.slot) (option_map (λ (x : ℕ × MemorySlot). x.1.slot) rest)
+by_holding : (b : Bool) (e : ℕ × MemorySlot) (rest : Option (ℕ × MemorySlot)) → option_map (λ (x : ℕ × MemorySlot). x.1.slot) (cond b (Some e) rest)
+    ≡ cond b (Some e.1.slot) (option_map (λ (x : ℕ × MemorySlot). x.1.slot) rest)
 by_holding true e rest = refl
 by_holding false e rest = refl
 
@@ -44,7 +47,8 @@ flat_holding gfn ((k, m) ∷ es) =
     by_holding (contains gfn m.slot) (k, m) (slot_holding gfn es)
     ∙ ap (λ (rest : Option Slot). cond (contains gfn m.slot) (Some m.slot) rest) (flat_holding gfn es)
 
-by_id : (b : Bool) (m : MemorySlot) (rest : Option MemorySlot) → cond b (Some m.slot) (option_map (λ (x : MemorySlot). x.slot) rest) ≡ option_map (λ (x : MemorySlot). x.slot) (cond b (Some m) rest)
+by_id : (b : Bool) (m : MemorySlot) (rest : Option MemorySlot)
+    → cond b (Some m.slot) (option_map (λ (x : MemorySlot). x.slot) rest) ≡ option_map (λ (x : MemorySlot). x.slot) (cond b (Some m) rest)
 by_id true m rest = refl
 by_id false m rest = refl
 

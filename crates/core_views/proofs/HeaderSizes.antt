@@ -18,7 +18,8 @@ first_within h is host = by (slice_get h.hosts host) refl
     by : (o : Option ℕ) → slice_get h.hosts host ≡ o → unwrap_or o h.pages ≤ h.pages
     by None e = omega arith
     by (Some page) e =
-        let below : page < h.pages = subst (λ (x : ℕ). x < h.pages) (get_or_from_slice_get h.hosts host page 0 e) (is.hosts.below host 0 (slice_get_within h.hosts host page e)) in
+        let below : page < h.pages =
+        subst (λ (x : ℕ). x < h.pages) (get_or_from_slice_get h.hosts host page 0 e) (is.hosts.below host 0 (slice_get_within h.hosts host page e)) in
         omega (arith, below)
 
 -- The first page of a host thread isn't behind that of the next one.
@@ -42,7 +43,8 @@ first_rising h is host = by (slice_get h.hosts host) (slice_get h.hosts (host + 
         omega (arith, less, one, next)
 
 -- So it is of the four first pages that the sizes list.
-rising_of : (h : Header) → IsHeader h → (host : ℕ) → first_page_in (sizes_of h).first_pages h.pages host ≤ first_page_in (sizes_of h).first_pages h.pages (host + 1)
+rising_of : (h : Header) → IsHeader h → (host : ℕ)
+    → first_page_in (sizes_of h).first_pages h.pages host ≤ first_page_in (sizes_of h).first_pages h.pages (host + 1)
 rising_of h is zero = first_rising h is 0
 rising_of h is (suc zero) = first_rising h is 1
 rising_of h is (suc (suc zero)) = first_rising h is 2
@@ -73,6 +75,8 @@ header_sizes h is = record {
   content = is.content;
   pool = is.pool;
   cache = is.cache;
-  firsts = four (λ page. page ≤ h.pages) (first_page_in h.hosts h.pages 0) (first_page_in h.hosts h.pages 1) (first_page_in h.hosts h.pages 2) (first_page_in h.hosts h.pages 3) (first_within h is 0) (first_within h is 1) (first_within h is 2) (first_within h is 3);
+  firsts =
+      four (λ page. page ≤ h.pages) (first_page_in h.hosts h.pages 0) (first_page_in h.hosts h.pages 1) (first_page_in h.hosts h.pages 2)
+      (first_page_in h.hosts h.pages 3) (first_within h is 0) (first_within h is 1) (first_within h is 2) (first_within h is 3);
   rising = record { each = rising_of h is };
 }

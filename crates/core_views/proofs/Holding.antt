@@ -11,17 +11,20 @@ use Rattle.core_views.specs.Places.{Places, none_below, slots_from}
 use Rattle.core_views.proofs.Sound.{by_test}
 
 -- Two slots that contain one guest frame have a guest frame in common.
-inside : (gfn a m b n : ℕ) → (nat_le a gfn && nat_lt gfn (a + m)) ≡ true → (nat_le b gfn && nat_lt gfn (b + n)) ≡ true → ((nat_le b a && nat_lt a (b + n)) || (nat_le a b && nat_lt b (a + m))) ≡ true
+inside : (gfn a m b n : ℕ) → (nat_le a gfn && nat_lt gfn (a + m)) ≡ true → (nat_le b gfn && nat_lt gfn (b + n)) ≡ true
+    → ((nat_le b a && nat_lt a (b + n)) || (nat_le a b && nat_lt b (a + m))) ≡ true
 inside gfn a m b n p q = grind (arith, nat_tests, p, q)
 
 -- What a search finds passes its test, and is the slot with its ID.
-finds : (test : ℕ × MemorySlot → Bool) (k : ℕ) (ps : Places) (e : ℕ × MemorySlot) → find test (slots_from k ps) ≡ Some e → (test e ≡ true) × (slot_at e.0 (slots_from k ps) ≡ Some e.1)
+finds : (test : ℕ × MemorySlot → Bool) (k : ℕ) (ps : Places) (e : ℕ × MemorySlot) → find test (slots_from k ps) ≡ Some e
+    → (test e ≡ true) × (slot_at e.0 (slots_from k ps) ≡ Some e.1)
 finds test k [] e f = cc
 finds test k (None ∷ ps) e f = finds test (k + 1) ps e f
 finds test k (Some m ∷ ps) e f = elim (by_test (test (k, m)) (k, m) e (find test (slots_from (k + 1) ps)) f) [
   | inl p ↦ (
     subst (λ (x : ℕ × MemorySlot). test x ≡ true) p.1 p.0,
-    subst (λ (x : ℕ × MemorySlot). slot_at x.0 ((k, m) ∷ slots_from (k + 1) ps) ≡ Some x.1) p.1 (cond-true (k == k) (Some m) (slot_at k (slots_from (k + 1) ps)) (eq-eqb k k refl)),
+    subst (λ (x : ℕ × MemorySlot). slot_at x.0 ((k, m) ∷ slots_from (k + 1) ps) ≡ Some x.1) p.1
+        (cond-true (k == k) (Some m) (slot_at k (slots_from (k + 1) ps)) (eq-eqb k k refl)),
   )
   | inr q ↦
       let later = finds test (k + 1) ps e q in (
@@ -38,7 +41,8 @@ misses : (test : ℕ × MemorySlot → Bool) (es : MemorySlots) (j : ℕ) (n : M
 misses test [] j n f at holds = cc
 misses test ((k, x) ∷ es) j n f at holds = elim (by_test (k == j) x n (slot_at j es) at) [
   | inl p ↦
-      let passes : test (k, x) ≡ true = subst (λ (y : MemorySlot). test (k, y) ≡ true) (sym p.1) (subst (λ (i : ℕ). test (i, n) ≡ true) (sym (eqb-true k j p.0)) holds) in
+      let passes : test (k, x) ≡ true =
+      subst (λ (y : MemorySlot). test (k, y) ≡ true) (sym p.1) (subst (λ (i : ℕ). test (i, n) ≡ true) (sym (eqb-true k j p.0)) holds) in
       none-some (k, x) (sym f ∙ cond-true (test (k, x)) (Some (k, x)) (find test es) passes)
   | inr q ↦ misses test es j n (past (test (k, x)) (k, x) (find test es) f) q holds
 ] where
@@ -47,7 +51,8 @@ misses test ((k, x) ∷ es) j n f at holds = elim (by_test (k == j) x n (slot_at
   past false e rest f = f
 
 -- The slot with an ID that contains the guest frame is the one that is found.
-pub only : (gfn : ℕ) (ps : Places) → IsSlotSet (slots_from 0 ps) → (id : ℕ) (m : MemorySlot) → slot_at id (slots_from 0 ps) ≡ Some m → contains gfn m.slot ≡ true → slot_holding gfn (slots_from 0 ps) ≡ Some (id, m)
+pub only : (gfn : ℕ) (ps : Places) → IsSlotSet (slots_from 0 ps) → (id : ℕ) (m : MemorySlot) → slot_at id (slots_from 0 ps) ≡ Some m
+    → contains gfn m.slot ≡ true → slot_holding gfn (slots_from 0 ps) ≡ Some (id, m)
 only gfn ps sound id m at holds = by_found (slot_holding gfn (slots_from 0 ps)) refl where
   by_found : (r : Option (ℕ × MemorySlot)) → slot_holding gfn (slots_from 0 ps) ≡ r → r ≡ Some (id, m)
   by_found None f = absurd (misses (λ entry. contains gfn entry.1.slot) (slots_from 0 ps) id m f at holds)

@@ -1,5 +1,5 @@
 -- Each host page is one host thread's own.
-use Rattle.std.proofs.Common.{◌≡◌, ◌⊎◌, inl, inr, ◌+◌, ◌-◌, ◌≤◌, ◌<◌, ℕ, zero, suc, refl, arith, subst}
+use Rattle.std.proofs.Common.{◌≡◌, ◌⊎◌, inl, inr, ◌+◌, ◌-◌, ◌≤◌, ◌<◌, ℕ, zero, suc, arith, subst}
 use Rattle.std.specs.Prelude.{true, nat_le, ◌&&◌, nat_lt}
 use Rattle.std.proofs.lemmas.Bool.{cases_lt}
 use Rattle.std.proofs.lemmas.Bool.Decides.{nat_tests}
@@ -39,7 +39,8 @@ one_owner z S page a b one other = by (cases_lt a b) (cases_lt b a)
         let A = low n one in
         let B = low m other in
         let later : first_page_in z.first_pages z.pages (n + 1) ≤ first_page_in z.first_pages z.pages m =
-        subst (λ k. first_page_in z.first_pages z.pages (n + 1) ≤ first_page_in z.first_pages z.pages k) (omega (arith, lt)) (first_later z S.rising (n + 1) (m - (n + 1))) in
+        subst (λ k. first_page_in z.first_pages z.pages (n + 1) ≤ first_page_in z.first_pages z.pages k) (omega (arith, lt))
+        (first_later z S.rising (n + 1) (m - (n + 1))) in
         omega (arith, A.1, B.0, later)
 
     by : (a < b) ⊎ (b ≤ a) → (b < a) ⊎ (a ≤ b) → a ≡ b

@@ -29,23 +29,27 @@ pub without_looks_append : (xs ys : List Event) → without_looks (xs ++ ys) ≡
 without_looks_append [] ys = refl
 without_looks_append (x ∷ xs) ys = one_more (is_look x.kind) x (without_looks xs) (without_looks ys) (without_looks (xs ++ ys)) (without_looks_append xs ys)
 
-same_facts : (b : Bool) (e : Event) (es : List Event) (f g : Facts) → (b ≡ true → facts_after e.kind f ≡ f) → g ≡ facts_after_all es (facts_after e.kind f) → g ≡ facts_after_all (cond b es (e ∷ es)) f
+same_facts : (b : Bool) (e : Event) (es : List Event) (f g : Facts) → (b ≡ true → facts_after e.kind f ≡ f)
+    → g ≡ facts_after_all es (facts_after e.kind f) → g ≡ facts_after_all (cond b es (e ∷ es)) f
 same_facts true e es f g silent is = is ∙ ap (facts_after_all es) (silent refl)
 same_facts false e es f g silent is = is
 
 pub facts_without_looks : (es : List Event) (f : Facts) → facts_after_all es f ≡ facts_after_all (without_looks es) f
 facts_without_looks [] f = refl
 facts_without_looks (e ∷ es) f =
-    same_facts (is_look e.kind) e (without_looks es) f (facts_after_all es (facts_after e.kind f)) (λ is. (looks_are_silent e.kind is).facts f) (facts_without_looks es (facts_after e.kind f))
+    same_facts (is_look e.kind) e (without_looks es) f (facts_after_all es (facts_after e.kind f)) (λ is. (looks_are_silent e.kind is).facts f)
+    (facts_without_looks es (facts_after e.kind f))
 
-same_answers : (b : Bool) (e : Event) (es : List Event) (xs : List AnsweredLine) → (b ≡ true → or_answered e.actor e.kind xs ≡ xs) → xs ≡ answers_of es → or_answered e.actor e.kind xs ≡ answers_of (cond b es (e ∷ es))
+same_answers : (b : Bool) (e : Event) (es : List Event) (xs : List AnsweredLine) → (b ≡ true → or_answered e.actor e.kind xs ≡ xs)
+    → xs ≡ answers_of es → or_answered e.actor e.kind xs ≡ answers_of (cond b es (e ∷ es))
 same_answers true e es xs silent is = silent refl ∙ is
 same_answers false e es xs silent is = ap (or_answered e.actor e.kind) is
 
 pub answers_without_looks : (es : List Event) → answers_of es ≡ answers_of (without_looks es)
 answers_without_looks [] = refl
 answers_without_looks (e ∷ es) =
-    same_answers (is_look e.kind) e (without_looks es) (answers_of es) (λ is. (looks_are_silent e.kind is).answers e.actor (answers_of es)) (answers_without_looks es)
+    same_answers (is_look e.kind) e (without_looks es) (answers_of es) (λ is. (looks_are_silent e.kind is).answers e.actor (answers_of es))
+    (answers_without_looks es)
 
 -- The facts behind a history hang on facts alone.
 pub facts_behind : (es : List Event) (f : Flat) → (after_all es f).facts ≡ facts_after_all es f.facts

@@ -1,4 +1,5 @@
--- What a line does next, alone: each event of its own that is allowed, and is no look, is the next one of the flat history. One lemma a form of line, and one of its answer.
+-- What a line does next, alone: each event of its own that is allowed, and is no look, is the next one of the flat history. One lemma a form of line,
+-- and one of its answer.
 use Rattle.std.proofs.Common.{◌≡◌, ℕ, List, ◌∷◌, ◌++◌, ◌&&◌, ◌||◌, Bool, true, false, cond, not, refl, sym, ap, ◌∙◌, subst}
 use Rattle.std.specs.Prelude.{Option, Some, None}
 use Rattle.core_views.specs.declared.answer.Answer.{Answer}
@@ -62,7 +63,8 @@ reached line gfn word op f (Some at) page frame before is named value_is =
 pub access_is_next : (z : Sizes) (f : Facts) (past : Past) (u : LineUnderWay) (gfn word : ℕ) (op : Op) (frame before : ℕ)
     → IsAllowed z f past u.line.actor u (Accessed gfn word op frame before) → IsNext z f u (Accessed gfn word op frame before)
 access_is_next z f past u gfn word op frame before may =
-    rw (may.0) (rw (may.1) (reached u.line gfn word op f (page_behind (flat_slots f.slots) gfn op) may.3.page frame before may.3.behind may.3.named may.3.value_is))
+    rw (may.0) (rw (may.1)
+    (reached u.line gfn word op f (page_behind (flat_slots f.slots) gfn op) may.3.page frame before may.3.behind may.3.named may.3.value_is))
 
 -- the page is brought in, and then reached as it is now
 brought : (z : Sizes) (line : Line) (command : Command) (f : Facts) (notes : Notes) (page : ℕ) → AreExact f notes → BringsIn f command notes page
@@ -89,7 +91,8 @@ bringing_is_next z f past u page exact may = rw (may.0) (brought z u.line u.line
 forbidden : (line : Line) (gfn word : ℕ) (op : Op) (f : Facts) (notes : Notes) → AreExact f notes → SawForbidden notes gfn op
     → accessing line gfn word op f (page_behind (flat_slots f.slots) gfn op) ≡ by line (Exited HostFault) ∷ answers line HostFault
 forbidden line gfn word op f notes exact saw =
-    let behind : page_behind (flat_slots f.slots) gfn op ≡ Some saw.page = subst (λ (slots : Slots). page_behind slots gfn op ≡ Some saw.page) (exact.slots saw.slots saw.noted) saw.behind in
+    let behind : page_behind (flat_slots f.slots) gfn op ≡ Some saw.page =
+    subst (λ (slots : Slots). page_behind slots gfn op ≡ Some saw.page) (exact.slots saw.slots saw.noted) saw.behind in
     let denies : is_denied op (f.host saw.page) ≡ true =
     subst (λ (b : Bool). (is_write op && not b) ≡ true) (exact.host saw.page saw.entry saw.looked) saw.forbids in
     ap (accessing line gfn word op f) behind ∙ ap (reaching line gfn word op f saw.page) denies

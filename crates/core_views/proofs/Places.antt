@@ -28,7 +28,8 @@ insert_front : (j k : ℕ) (m : MemorySlot) (ps : Places) → j < k → with_slo
 insert_front j k m [] lt = refl
 insert_front j k m (None ∷ ps) lt = insert_front j (k + 1) m ps (omega arith)
 insert_front j k m (Some n ∷ ps) lt =
-    ap (λ (o : Ordering). match_ordering o ((j, m) ∷ (k, n) ∷ slots_from (k + 1) ps) ((k, m) ∷ slots_from (k + 1) ps) ((k, n) ∷ with_slot_at j m (slots_from (k + 1) ps))) (less j k lt)
+    ap (λ (o : Ordering). match_ordering o ((j, m) ∷ (k, n) ∷ slots_from (k + 1) ps) ((k, m) ∷ slots_from (k + 1) ps)
+    ((k, n) ∷ with_slot_at j m (slots_from (k + 1) ps))) (less j k lt)
 
 -- A slot with an ID goes to its place, and takes that of a slot that has the ID.
 inserted : (i j k : ℕ) (m : MemorySlot) (ps : Places) → j ≡ k + i → i < length ps → with_slot_at j m (slots_from k ps) ≡ slots_from k (set ps i (Some m))
@@ -37,10 +38,12 @@ inserted zero j k m (None ∷ ps) e lt =
     let same : j ≡ k = omega arith in
     insert_front j (k + 1) m ps (omega arith) ∙ ap (λ (x : ℕ). (x, m) ∷ slots_from (k + 1) ps) same
 inserted zero j k m (Some n ∷ ps) e lt =
-    ap (λ (o : Ordering). match_ordering o ((j, m) ∷ (k, n) ∷ slots_from (k + 1) ps) ((k, m) ∷ slots_from (k + 1) ps) ((k, n) ∷ with_slot_at j m (slots_from (k + 1) ps))) (equal j k (omega arith))
+    ap (λ (o : Ordering). match_ordering o ((j, m) ∷ (k, n) ∷ slots_from (k + 1) ps) ((k, m) ∷ slots_from (k + 1) ps)
+    ((k, n) ∷ with_slot_at j m (slots_from (k + 1) ps))) (equal j k (omega arith))
 inserted (suc i) j k m (None ∷ ps) e lt = inserted i j (k + 1) m ps (omega arith) (omega (arith, lt))
 inserted (suc i) j k m (Some n ∷ ps) e lt =
-    ap (λ (o : Ordering). match_ordering o ((j, m) ∷ (k, n) ∷ slots_from (k + 1) ps) ((k, m) ∷ slots_from (k + 1) ps) ((k, n) ∷ with_slot_at j m (slots_from (k + 1) ps))) (greater j k (omega arith))
+    ap (λ (o : Ordering). match_ordering o ((j, m) ∷ (k, n) ∷ slots_from (k + 1) ps) ((k, m) ∷ slots_from (k + 1) ps)
+    ((k, n) ∷ with_slot_at j m (slots_from (k + 1) ps))) (greater j k (omega arith))
     ∙ ap (λ (rest : MemorySlots). (k, n) ∷ rest) (inserted i j (k + 1) m ps (omega arith) (omega (arith, lt)))
 
 -- A slot written to its place is at its ID.

@@ -1,5 +1,6 @@
 -- A slot set stays one where a slot that nothing refuses is set, where a slot is deleted, and where only a dirty log changes.
-use Rattle.std.proofs.Common.{◌≡◌, ◌≢◌, ◌+◌, ◌<◌, ◌≤◌, ◌^◌, ◌==◌, ◌&&◌, ◌||◌, ◌⊎◌, inl, inr, ℕ, Bool, true, false, not, cond, List, [], ◌∷◌, length, set, arith, refl, sym, subst, ◌∙◌}
+use Rattle.std.proofs.Common.{◌≡◌, ◌≢◌, ◌+◌, ◌<◌, ◌≤◌, ◌^◌, ◌==◌, ◌&&◌, ◌||◌, ◌⊎◌, inl, inr, ℕ, Bool, true, false, not, cond, List, [], ◌∷◌, length}
+use Rattle.std.proofs.Common.{set, arith, refl, sym, subst, ◌∙◌}
 use Rattle.std.proofs.lemmas.Bool.{cases_eq, eqb-true, ltb-false, ne_eqb, or_parts, or_from}
 use Rattle.std.proofs.lemmas.List.{get_or-set_same, get_or-set_other, length-set}
 use Rattle.std.proofs.lemmas.Map.Keys.{IsStrictlyIncreasing-from_sorted}
@@ -10,7 +11,8 @@ use Rattle.std.specs.Map.{keys_of}
 use Rattle.core_views.specs.declared.answer.Refusal.{Refusal}
 use Rattle.core_views.specs.declared.answer.Refusal.TheVariants.{BadId, TooLarge, Logged, Resize, Fixed, Overlap, HostOverlap}
 use Rattle.core_views.specs.declared.trace.Slot.{Slot}
-use Rattle.core_views.specs.Slots.{changes_fixed, contains, first_of, has_host_page, is_some_and, is_too_large, meets_guest_frames, meets_host_pages, resizes, share_guest_frames, share_host_pages, slot_with_id, Slots}
+use Rattle.core_views.specs.Slots.{changes_fixed, contains, first_of, has_host_page, is_some_and, is_too_large, meets_guest_frames, meets_host_pages}
+use Rattle.core_views.specs.Slots.{resizes, share_guest_frames, share_host_pages, slot_with_id, Slots}
 use Rattle.core_views.specs.declared.slot_set.MemorySlot.{MemorySlot}
 use Rattle.core_views.specs.SlotSets.{IsSlotSet, MemorySlots, flat_slots, slot_at}
 use Rattle.core_views.specs.Places.{Places, found, slots_from}
@@ -27,7 +29,8 @@ by_test true x y rest e = inl (refl, same_Some x y e)
 by_test false x y rest e = inr e
 
 -- Where no entry passes a test, the slot with an ID doesn't.
-none_passes : (test : ℕ × Slot → Bool) (es : MemorySlots) (j : ℕ) (n : MemorySlot) → list_any test (flat_slots es) ≡ false → slot_at j es ≡ Some n → test (j, n.slot) ≡ false
+none_passes : (test : ℕ × Slot → Bool) (es : MemorySlots) (j : ℕ) (n : MemorySlot) → list_any test (flat_slots es) ≡ false → slot_at j es ≡ Some n
+    → test (j, n.slot) ≡ false
 none_passes test [] j n none at = cc
 none_passes test ((k, x) ∷ es) j n none at =
     let parts = or_parts (test (k, x.slot)) (list_any test (flat_slots es)) none in
@@ -50,7 +53,8 @@ module _ (id : ℕ) (p : Option MemorySlot) (ps : Places) (lt : id < length ps) 
   at_other j ne = found j (set ps id p) ∙ get_or-set_other ps id j p None ne ∙ sym (found j ps)
 
   -- A slot that is there afterwards is the written one, or was there.
-  either : (j : ℕ) (n : MemorySlot) → slot_at j (slots_from 0 (set ps id p)) ≡ Some n → ((j ≡ id) × (p ≡ Some n)) ⊎ ((j ≢ id) × (slot_at j (slots_from 0 ps) ≡ Some n))
+  either : (j : ℕ) (n : MemorySlot) → slot_at j (slots_from 0 (set ps id p)) ≡ Some n
+      → ((j ≡ id) × (p ≡ Some n)) ⊎ ((j ≢ id) × (slot_at j (slots_from 0 ps) ≡ Some n))
   either j n at = elim (cases_eq j id) [
     | inl same ↦ inl (same, sym at_same ∙ subst (λ (i : ℕ). slot_at i (slots_from 0 (set ps id p)) ≡ Some n) same at)
     | inr ne ↦ inr (ne, sym (at_other j ne) ∙ at)
@@ -60,26 +64,32 @@ module _ (id : ℕ) (p : Option MemorySlot) (ps : Places) (lt : id < length ps) 
 module _ (id : ℕ) (m : MemorySlot) (ps : Places) (lt : id < length ps) (old : IsSlotSet (slots_from 0 ps))
     (guest : (j : ℕ) (n : MemorySlot) → j ≢ id → slot_at j (slots_from 0 ps) ≡ Some n → share_guest_frames m.slot n.slot ≡ false)
     (host : (j : ℕ) (n : MemorySlot) → j ≢ id → slot_at j (slots_from 0 ps) ≡ Some n → share_host_pages m.slot n.slot ≡ false) where
-  guest_apart : (i j : ℕ) (a b : MemorySlot) → i ≢ j → slot_at i (slots_from 0 (set ps id (Some m))) ≡ Some a → slot_at j (slots_from 0 (set ps id (Some m))) ≡ Some b → share_guest_frames a.slot b.slot ≡ false
+  guest_apart : (i j : ℕ) (a b : MemorySlot) → i ≢ j → slot_at i (slots_from 0 (set ps id (Some m))) ≡ Some a
+      → slot_at j (slots_from 0 (set ps id (Some m))) ≡ Some b → share_guest_frames a.slot b.slot ≡ false
   guest_apart i j a b ne ai bj = elim (either id (Some m) ps lt i a ai) [
     | inl p ↦ elim (either id (Some m) ps lt j b bj) [
       | inl q ↦ absurd (ne (p.0 ∙ sym q.0))
       | inr q ↦ subst (λ (x : MemorySlot). share_guest_frames x.slot b.slot ≡ false) (same_Some m a p.1) (guest j b q.0 q.1)
     ]
     | inr p ↦ elim (either id (Some m) ps lt j b bj) [
-      | inl q ↦ subst (λ (x : MemorySlot). share_guest_frames a.slot x.slot ≡ false) (same_Some m b q.1) (flip (contains m.slot.base a.slot) (contains a.slot.base m.slot) (guest i a p.0 p.1))
+      | inl q ↦
+          subst (λ (x : MemorySlot). share_guest_frames a.slot x.slot ≡ false) (same_Some m b q.1)
+          (flip (contains m.slot.base a.slot) (contains a.slot.base m.slot) (guest i a p.0 p.1))
       | inr q ↦ old.guest_apart i j a b ne p.1 q.1
     ]
   ]
 
-  host_apart : (i j : ℕ) (a b : MemorySlot) → i ≢ j → slot_at i (slots_from 0 (set ps id (Some m))) ≡ Some a → slot_at j (slots_from 0 (set ps id (Some m))) ≡ Some b → share_host_pages a.slot b.slot ≡ false
+  host_apart : (i j : ℕ) (a b : MemorySlot) → i ≢ j → slot_at i (slots_from 0 (set ps id (Some m))) ≡ Some a
+      → slot_at j (slots_from 0 (set ps id (Some m))) ≡ Some b → share_host_pages a.slot b.slot ≡ false
   host_apart i j a b ne ai bj = elim (either id (Some m) ps lt i a ai) [
     | inl p ↦ elim (either id (Some m) ps lt j b bj) [
       | inl q ↦ absurd (ne (p.0 ∙ sym q.0))
       | inr q ↦ subst (λ (x : MemorySlot). share_host_pages x.slot b.slot ≡ false) (same_Some m a p.1) (host j b q.0 q.1)
     ]
     | inr p ↦ elim (either id (Some m) ps lt j b bj) [
-      | inl q ↦ subst (λ (x : MemorySlot). share_host_pages a.slot x.slot ≡ false) (same_Some m b q.1) (flip (has_host_page m.slot.host a.slot) (has_host_page a.slot.host m.slot) (host i a p.0 p.1))
+      | inl q ↦
+          subst (λ (x : MemorySlot). share_host_pages a.slot x.slot ≡ false) (same_Some m b q.1)
+          (flip (has_host_page m.slot.host a.slot) (has_host_page a.slot.host m.slot) (host i a p.0 p.1))
       | inr q ↦ old.host_apart i j a b ne p.1 q.1
     ]
   ]
@@ -88,8 +98,16 @@ module _ (id : ℕ) (m : MemorySlot) (ps : Places) (lt : id < length ps) (old : 
   written low some below = record {
     rising = IsStrictlyIncreasing-from_sorted (keys_of (slots_from 0 (set ps id (Some m)))) (rising 0 (set ps id (Some m)));
     ids = λ j n at. elim (either id (Some m) ps lt j n at) [ inl p ↦ subst (λ (i : ℕ). i ≤ 31) (sym p.0) low | inr q ↦ old.ids j n q.1 ];
-    some = λ j n at. elim (either id (Some m) ps lt j n at) [ inl p ↦ subst (λ (x : MemorySlot). 1 ≤ x.slot.pages) (same_Some m n p.1) some | inr q ↦ old.some j n q.1 ];
-    below = λ j n at. elim (either id (Some m) ps lt j n at) [ inl p ↦ subst (λ (x : MemorySlot). x.slot.base + x.slot.pages ≤ 2 ^ 36) (same_Some m n p.1) below | inr q ↦ old.below j n q.1 ];
+    some =
+        λ j n at. elim (either id (Some m) ps lt j n at) [
+          | inl p ↦ subst (λ (x : MemorySlot). 1 ≤ x.slot.pages) (same_Some m n p.1) some
+          | inr q ↦ old.some j n q.1
+        ];
+    below =
+        λ j n at. elim (either id (Some m) ps lt j n at) [
+          | inl p ↦ subst (λ (x : MemorySlot). x.slot.base + x.slot.pages ≤ 2 ^ 36) (same_Some m n p.1) below
+          | inr q ↦ old.below j n q.1
+        ];
     guest_apart = guest_apart;
     host_apart = host_apart;
   }
@@ -112,10 +130,17 @@ pub record Passes (total id : ℕ) (slot : Slot) (slots : Slots) : Type 0 where
   pub guest : meets_guest_frames id slot slots ≡ false
   pub host : meets_host_pages id slot slots ≡ false
 
-by_parts : (total id : ℕ) (slot : Slot) (slots : Slots) → nat_lt 31 id ≡ false → is_too_large total slot ≡ false → meets_guest_frames id slot slots ≡ false → meets_host_pages id slot slots ≡ false → Passes total id slot slots
+by_parts : (total id : ℕ) (slot : Slot) (slots : Slots) → nat_lt 31 id ≡ false → is_too_large total slot ≡ false
+    → meets_guest_frames id slot slots ≡ false → meets_host_pages id slot slots ≡ false → Passes total id slot slots
 by_parts total id slot slots low large guest host =
     let ends = or_parts (nat_lt (2 ^ 36) (slot.base + slot.pages)) (nat_lt total (slot.host + slot.pages)) large in
-    record { low = ltb-false 31 id low; below = ltb-false (2 ^ 36) (slot.base + slot.pages) ends.0; fits = ltb-false total (slot.host + slot.pages) ends.1; guest = guest; host = host }
+    record {
+      low = ltb-false 31 id low;
+      below = ltb-false (2 ^ 36) (slot.base + slot.pages) ends.0;
+      fits = ltb-false total (slot.host + slot.pages) ends.1;
+      guest = guest;
+      host = host;
+    }
 
 -- the conditions that refuse a slot
 abbrev conditions : ℕ → ℕ → Slot → MemorySlots → List (Bool × Refusal)
@@ -139,7 +164,8 @@ abbrev pub AreSound : Places → Type 0
 AreSound ps = (length ps ≡ 32) × IsSlotSet (slots_from 0 ps)
 
 -- A slot that isn't refused is set.
-pub set_sound : (total id : ℕ) (slot : Slot) (logged : Bool) (ps : Places) → AreSound ps → 1 ≤ slot.pages → set_refusal total id slot (slots_from 0 ps) ≡ None → AreSound (set ps id (Some (record { slot = slot; logged = logged })))
+pub set_sound : (total id : ℕ) (slot : Slot) (logged : Bool) (ps : Places) → AreSound ps → 1 ≤ slot.pages
+    → set_refusal total id slot (slots_from 0 ps) ≡ None → AreSound (set ps id (Some (record { slot = slot; logged = logged })))
 set_sound total id slot logged ps old some e =
     let p = passes total id slot (slots_from 0 ps) e in
     let low : id ≤ 31 = p.low in
@@ -147,13 +173,16 @@ set_sound total id slot logged ps old some e =
     let m : MemorySlot = record { slot = slot; logged = logged } in (
       length-set ps id (Some m) ∙ old.0,
       written id m ps lt old.1
-          (λ j n ne at. other (j == id) (share_guest_frames slot n.slot) (ne_eqb j id ne) (none_passes (λ entry. not (entry.0 == id) && share_guest_frames slot entry.1) (slots_from 0 ps) j n p.guest at))
-          (λ j n ne at. other (j == id) (share_host_pages slot n.slot) (ne_eqb j id ne) (none_passes (λ entry. not (entry.0 == id) && share_host_pages slot entry.1) (slots_from 0 ps) j n p.host at))
+          (λ j n ne at. other (j == id) (share_guest_frames slot n.slot) (ne_eqb j id ne)
+          (none_passes (λ entry. not (entry.0 == id) && share_guest_frames slot entry.1) (slots_from 0 ps) j n p.guest at))
+          (λ j n ne at. other (j == id) (share_host_pages slot n.slot) (ne_eqb j id ne)
+          (none_passes (λ entry. not (entry.0 == id) && share_host_pages slot entry.1) (slots_from 0 ps) j n p.host at))
           low some p.below,
     )
 
 -- A dirty log is set or taken away.
-pub log_sound : (id : ℕ) (m : MemorySlot) (on : Bool) (ps : Places) → AreSound ps → slot_at id (slots_from 0 ps) ≡ Some m → AreSound (set ps id (Some (record { slot = m.slot; logged = on })))
+pub log_sound : (id : ℕ) (m : MemorySlot) (on : Bool) (ps : Places) → AreSound ps → slot_at id (slots_from 0 ps) ≡ Some m
+    → AreSound (set ps id (Some (record { slot = m.slot; logged = on })))
 log_sound id m on ps old at =
     let low : id ≤ 31 = old.1.ids id m at in
     let lt : id < length ps = omega (arith, old.0) in
@@ -169,7 +198,8 @@ log_sound id m on ps old at =
 pub delete_sound : (id : ℕ) (ps : Places) → AreSound ps → id ≤ 31 → AreSound (set ps id None)
 delete_sound id ps old low =
     let lt : id < length ps = omega (arith, old.0) in
-    let was : (j : ℕ) (n : MemorySlot) → slot_at j (slots_from 0 (set ps id None)) ≡ Some n → slot_at j (slots_from 0 ps) ≡ Some n = λ j n at. elim (either id None ps lt j n at) [ inl p ↦ absurd (none-some n p.1) | inr q ↦ q.1 ] in (
+    let was : (j : ℕ) (n : MemorySlot) → slot_at j (slots_from 0 (set ps id None)) ≡ Some n → slot_at j (slots_from 0 ps) ≡ Some n =
+    λ j n at. elim (either id None ps lt j n at) [ inl p ↦ absurd (none-some n p.1) | inr q ↦ q.1 ] in (
       length-set ps id None ∙ old.0,
       record {
         rising = IsStrictlyIncreasing-from_sorted (keys_of (slots_from 0 (set ps id None))) (rising 0 (set ps id None));

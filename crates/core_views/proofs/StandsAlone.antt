@@ -35,7 +35,8 @@ within_append line [] ys front back = back
 within_append line (x ∷ xs) ys front back = (front.0, front.1, within_append line xs ys front.2 back)
 
 -- the events of one line
-pub one_stands : (line : Line) (within : List Event) (answer : Answer) → AreWithin line within → StandsAlone (by line (Begun line) ∷ (within ++ answers line answer)) (line ∷ [])
+pub one_stands : (line : Line) (within : List Event) (answer : Answer) → AreWithin line within
+    → StandsAlone (by line (Begun line) ∷ (within ++ answers line answer)) (line ∷ [])
 one_stands line within answer are = ([], record { within = within; answer = answer; are_within = are; history_is = refl }, refl)
 
 more_behind : (line : Line) (h rest more : List Event) → StandsFirst line h rest → StandsFirst line (h ++ more) (rest ++ more)
@@ -48,9 +49,11 @@ more_behind line h rest more first = record {
 }
 
 -- A history of such lines, and behind it one of further lines.
-pub stands_append : (lines further : List Line) (h more : List Event) → StandsAlone h lines → StandsAlone more further → StandsAlone (h ++ more) (lines ++ further)
+pub stands_append : (lines further : List Line) (h more : List Event) → StandsAlone h lines → StandsAlone more further
+    → StandsAlone (h ++ more) (lines ++ further)
 stands_append [] further h more stands then_ = rw stands then_
-stands_append (line ∷ lines) further h more stands then_ = (stands.0 ++ more, more_behind line h stands.0 more stands.1, stands_append lines further stands.0 more stands.2 then_)
+stands_append (line ∷ lines) further h more stands then_ =
+    (stands.0 ++ more, more_behind line h stands.0 more stands.1, stands_append lines further stands.0 more stands.2 then_)
 
 -- The flat history: an access, and a line that changes a slot.
 
@@ -60,7 +63,8 @@ record Closed (line : Line) (es : List Event) : Type 0 where
   are_within : AreWithin line within
   events_are : es ≡ within ++ answers line answer
 
-reaching_closed : (line : Line) (gfn word : ℕ) (op : Op) (f : Facts) (page : ℕ) (denied : Bool) → Closed line (by line LookedAtPause ∷ by line LookedAtSlots ∷ by line (LookedAtHost page) ∷ reaching line gfn word op f page denied)
+reaching_closed : (line : Line) (gfn word : ℕ) (op : Op) (f : Facts) (page : ℕ) (denied : Bool)
+    → Closed line (by line LookedAtPause ∷ by line LookedAtSlots ∷ by line (LookedAtHost page) ∷ reaching line gfn word op f page denied)
 reaching_closed line gfn word op f page true = record {
   within = by line LookedAtPause ∷ by line LookedAtSlots ∷ by line (LookedAtHost page) ∷ by line (Exited HostFault) ∷ [];
   answer = HostFault;
@@ -88,8 +92,14 @@ reaching_closed line gfn word op f page false = by_present (f.host page).present
       events_are = refl;
     }
 
-accessing_closed : (line : Line) (gfn word : ℕ) (op : Op) (f : Facts) (page : Option ℕ) → Closed line (by line LookedAtPause ∷ by line LookedAtSlots ∷ (looks_behind line page ++ accessing line gfn word op f page))
-accessing_closed line gfn word op f None = record { within = by line LookedAtPause ∷ by line LookedAtSlots ∷ by line (Exited Mmio) ∷ []; answer = Mmio; are_within = (refl, tt, (refl, tt, (refl, tt, tt))); events_are = refl }
+accessing_closed : (line : Line) (gfn word : ℕ) (op : Op) (f : Facts) (page : Option ℕ)
+    → Closed line (by line LookedAtPause ∷ by line LookedAtSlots ∷ (looks_behind line page ++ accessing line gfn word op f page))
+accessing_closed line gfn word op f None = record {
+  within = by line LookedAtPause ∷ by line LookedAtSlots ∷ by line (Exited Mmio) ∷ [];
+  answer = Mmio;
+  are_within = (refl, tt, (refl, tt, (refl, tt, tt)));
+  events_are = refl;
+}
 accessing_closed line gfn word op f (Some page) = reaching_closed line gfn word op f page (is_denied op (f.host page))
 
 -- A line that changes a slot, or is answered at once.
@@ -142,7 +152,9 @@ alone_first z line f rest =
       within = closed.within;
       answer = closed.answer;
       are_within = closed.are_within;
-      history_is = ap (λ (es : List Event). by line (Begun line) ∷ es) (ap (λ (es : List Event). es ++ rest) closed.events_are ∙ append_assoc closed.within (answers line closed.answer) rest);
+      history_is =
+          ap (λ (es : List Event). by line (Begun line) ∷ es)
+          (ap (λ (es : List Event). es ++ rest) closed.events_are ∙ append_assoc closed.within (answers line closed.answer) rest);
     }
 
 pub one_by_one_stands : (z : Sizes) (lines : List Line) (f : Facts) → StandsAlone (one_by_one z lines f) lines

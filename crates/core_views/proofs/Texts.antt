@@ -17,7 +17,9 @@ answers_append (x ∷ xs) ys = ap (or_answered x.actor x.kind) (answers_append x
 
 pub lines_text_append : (xs ys : List AnsweredLine) → lines_text (xs ++ ys) ≡ lines_text xs ++ lines_text ys
 lines_text_append [] ys = refl
-lines_text_append (x ∷ xs) ys = ap (λ (t : List ℕ). line_text x.number x.actor x.answer ++ t) (lines_text_append xs ys) ∙ sym (append_assoc (line_text x.number x.actor x.answer) (lines_text xs) (lines_text ys))
+lines_text_append (x ∷ xs) ys =
+    ap (λ (t : List ℕ). line_text x.number x.actor x.answer ++ t) (lines_text_append xs ys)
+    ∙ sym (append_assoc (line_text x.number x.actor x.answer) (lines_text xs) (lines_text ys))
 
 pub text_append : (xs ys : List Event) → text (xs ++ ys) ≡ text xs ++ text ys
 text_append xs ys = ap lines_text (answers_append xs ys) ∙ lines_text_append (answers_of xs) (answers_of ys)

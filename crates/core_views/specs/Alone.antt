@@ -1,4 +1,5 @@
--- Histories in which each line stands alone: between its begin and its answer there is nothing of another line. And what such a history shows, beside what its lines looked at.
+-- Histories in which each line stands alone: between its begin and its answer there is nothing of another line. And what such a history shows, beside
+-- what its lines looked at.
 use Rattle.std.specs.Prelude.{◌≡◌, ◌≢◌, List, [], ◌∷◌, ◌++◌, Bool, true, false, if◌then◌else◌, Some, None}
 use Rattle.core_views.specs.declared.answer.Answer.{Answer}
 use Rattle.core_views.specs.declared.answer.Answer.TheVariants.{Refused, Starved}

@@ -107,7 +107,17 @@ abbrev pub no_search : SlotSearch
 no_search = record { set = None; id = 0; next = Flags; slot = no_slot; logged = false; whole = false }
 
 abbrev pub no_invalidations : Invalidations
-no_invalidations = record { snapshot = None; count = 0; start = 0; end = 0; seq = 0; checked = Nothing; opened = false; own = record { page = 0; start = 0; end = 0 }; raised = false }
+no_invalidations = record {
+  snapshot = None;
+  count = 0;
+  start = 0;
+  end = 0;
+  seq = 0;
+  checked = Nothing;
+  opened = false;
+  own = record { page = 0; start = 0; end = 0 };
+  raised = false;
+}
 
 abbrev pub no_walk : TableWalk
 no_walk = record { level = 0; prefix = 0; root = 0; third = 0; second = 0; first = 0; index = 512; entry = 0 }

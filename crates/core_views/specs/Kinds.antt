@@ -5,7 +5,9 @@ use Rattle.core_views.specs.declared.kind.Kind.{Kind}
 use Rattle.core_views.specs.declared.kind.Operation.{Operation}
 use Rattle.core_views.specs.declared.kind.Operation.TheVariants as operation
 use Rattle.core_views.specs.declared.kind.StepKind.{StepKind}
-use Rattle.core_views.specs.declared.kind.StepKind.TheVariants.{Enter, Leave, Walk, Read, Write, Add, Begin, End, Control, Slot, Host, Swap, Share, Unshare, Exclude, Release, Claim, Fill, Give, Set, Zap, Ask, Await, Change, Publish, Watch}
+use Rattle.core_views.specs.declared.kind.StepKind.TheVariants.{Enter, Leave, Walk, Read, Write, Add, Begin, End, Control, Slot, Host, Swap, Share}
+use Rattle.core_views.specs.declared.kind.StepKind.TheVariants.{Unshare, Exclude, Release, Claim, Fill, Give, Set, Zap, Ask, Await, Change, Publish}
+use Rattle.core_views.specs.declared.kind.StepKind.TheVariants.{Watch}
 
 -- the number of a kind
 abbrev pub code_of : StepKind → ℕ

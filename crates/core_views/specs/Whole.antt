@@ -23,12 +23,14 @@ lines_of actor lines = filter (λ line. is_same actor line.actor) lines
 -- Each actor begins its lines of the trace, in their order, and answers them, each once.
 pub record IsWhole (history : List Event) (lines : List Line) : Type 0 where
   pub begun : (actor : Actor) → lines_of actor (lines_begun history) ≡ lines_of actor lines
-  pub answered : (actor : Actor) → map (λ x. x.number) (filter (λ x. is_same actor x.actor) (answers_of history)) ≡ map (λ line. line.number) (lines_of actor lines)
+  pub answered : (actor : Actor)
+      → map (λ x. x.number) (filter (λ x. is_same actor x.actor) (answers_of history)) ≡ map (λ line. line.number) (lines_of actor lines)
 
 -- Each actor begins so many of its lines of the trace, the first ones in their order, and answers so many of them, each once: all that it
 -- has begun, but for perhaps the last.
 pub record IsWholeSoFar (history : List Event) (lines : List Line) (begun_count answered_count : Actor → ℕ) : Type 0 where
   pub begun : (actor : Actor) → lines_of actor (lines_begun history) ≡ take (begun_count actor) (lines_of actor lines)
-  pub answered : (actor : Actor) → map (λ x. x.number) (filter (λ x. is_same actor x.actor) (answers_of history)) ≡ map (λ line. line.number) (take (answered_count actor) (lines_of actor lines))
+  pub answered : (actor : Actor) → map (λ x. x.number) (filter (λ x. is_same actor x.actor) (answers_of history))
+      ≡ map (λ line. line.number) (take (answered_count actor) (lines_of actor lines))
   pub before : (actor : Actor) → answered_count actor ≤ begun_count actor
   pub but_one : (actor : Actor) → begun_count actor ≤ answered_count actor + 1

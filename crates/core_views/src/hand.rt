@@ -76,7 +76,17 @@ impl Model for Hand {
 
     ghost Value = { Handful };
 
-    ghost view = { λ h. record { core = record { state = state_of h.progress h.lines.items (length h.answers.items); topics = h.topics; cached = h.cache; slots = h.slots; lines = h.lines.items; answers = h.answers.items }; room = h.room } };
+    ghost view = { λ h. record {
+      core = record {
+        state = state_of h.progress h.lines.items (length h.answers.items);
+        topics = h.topics;
+        cached = h.cache;
+        slots = h.slots;
+        lines = h.lines.items;
+        answers = h.answers.items;
+      };
+      room = h.room;
+    } };
 
     ghost invariant = { λ h. vec_len h.answers + h.room ≤ vec_capacity h.answers };
 }
@@ -162,7 +172,17 @@ impl Hand {
     /// Where the line stands and what it loaded, to be changed in place.
     pub fn progress_mut(&mut self) -> &mut Progress
         ensures value { result.now ≡ progress_of self.old.core.state }
-        ensures* lends { sem 𝓛 (Lends the_row progress_row self.entry result (λ p. record { core = record { state = state_of p self.old.core.lines (length self.old.core.answers); topics = self.old.core.topics; cached = self.old.core.cached; slots = self.old.core.slots; lines = self.old.core.lines; answers = self.old.core.answers }; room = self.old.room })) }
+        ensures* lends { sem 𝓛 (Lends the_row progress_row self.entry result (λ p. record {
+          core = record {
+            state = state_of p self.old.core.lines (length self.old.core.answers);
+            topics = self.old.core.topics;
+            cached = self.old.core.cached;
+            slots = self.old.core.slots;
+            lines = self.old.core.lines;
+            answers = self.old.core.answers;
+          };
+          room = self.old.room;
+        })) }
     {
         &mut self.progress
     }
@@ -170,7 +190,17 @@ impl Hand {
     /// What is held of each part of the machine, to be changed in place.
     pub fn topics_mut(&mut self) -> &mut Topics
         ensures value { result.now ≡ self.old.core.topics }
-        ensures* lends { sem 𝓛 (Lends the_row topics_row self.entry result (λ t. record { core = record { state = self.old.core.state; topics = t; cached = self.old.core.cached; slots = self.old.core.slots; lines = self.old.core.lines; answers = self.old.core.answers }; room = self.old.room })) }
+        ensures* lends { sem 𝓛 (Lends the_row topics_row self.entry result (λ t. record {
+          core = record {
+            state = self.old.core.state;
+            topics = t;
+            cached = self.old.core.cached;
+            slots = self.old.core.slots;
+            lines = self.old.core.lines;
+            answers = self.old.core.answers;
+          };
+          room = self.old.room;
+        })) }
     {
         &mut self.topics
     }
@@ -185,7 +215,17 @@ impl Hand {
     /// The cached translations, to be changed in place.
     pub fn cache_mut(&mut self) -> &mut Cache
         ensures value { result.now ≡ self.old.core.cached }
-        ensures* lends { sem 𝓛 (Lends the_row cache_row self.entry result (λ c. record { core = record { state = self.old.core.state; topics = self.old.core.topics; cached = c; slots = self.old.core.slots; lines = self.old.core.lines; answers = self.old.core.answers }; room = self.old.room })) }
+        ensures* lends { sem 𝓛 (Lends the_row cache_row self.entry result (λ c. record {
+          core = record {
+            state = self.old.core.state;
+            topics = self.old.core.topics;
+            cached = c;
+            slots = self.old.core.slots;
+            lines = self.old.core.lines;
+            answers = self.old.core.answers;
+          };
+          room = self.old.room;
+        })) }
     {
         &mut self.cache
     }
@@ -193,7 +233,17 @@ impl Hand {
     /// The manager's own record of the slots, to be changed in place.
     pub fn slots_mut(&mut self) -> &mut SlotSet
         ensures value { result.now ≡ self.old.core.slots }
-        ensures* lends { sem 𝓛 (Lends the_row slots_row self.entry result (λ s. record { core = record { state = self.old.core.state; topics = self.old.core.topics; cached = self.old.core.cached; slots = s; lines = self.old.core.lines; answers = self.old.core.answers }; room = self.old.room })) }
+        ensures* lends { sem 𝓛 (Lends the_row slots_row self.entry result (λ s. record {
+          core = record {
+            state = self.old.core.state;
+            topics = self.old.core.topics;
+            cached = self.old.core.cached;
+            slots = s;
+            lines = self.old.core.lines;
+            answers = self.old.core.answers;
+          };
+          room = self.old.room;
+        })) }
     {
         &mut self.slots
     }

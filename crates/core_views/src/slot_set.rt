@@ -1,7 +1,8 @@
 ghost use Rattle.std.specs.Prelude.{◌≡◌, ◌+◌, ◌≤◌, [], ℕ, true, OnOk, OnErr, Some, nat_lt};
 ghost use Rattle.std.specs.Option.{option_map};
 ghost use Rattle.std.specs.Result.{result_err};
-ghost use Rattle.core_views.specs.Slots.{changes_fixed, contains, has_host_page, is_some_and, meets_guest_frames, meets_host_pages, resizes, share_guest_frames, share_host_pages, slot_of, slot_with_id, with_slot};
+ghost use Rattle.core_views.specs.Slots.{changes_fixed, contains, has_host_page, is_some_and, meets_guest_frames, meets_host_pages, resizes};
+ghost use Rattle.core_views.specs.Slots.{share_guest_frames, share_host_pages, slot_of, slot_with_id, with_slot};
 ghost use Rattle.core_views.specs.SlotSets.{IsSlotSet, flat_slots, slot_at, slot_holding, without_slot_at};
 ghost use Rattle.core_views.specs.Refusals.{after_log, after_set, delete_refusal, is_logged, log_refusal, moves_logged, set_refusal, slot_from};
 ghost use Rattle.core_views.specs.declared.slot_set.MemorySlot.{MemorySlot};

@@ -32,7 +32,8 @@ module _ (p : FaultPlace) (job : FaultJob) (h : Held) (R : Rests h) (S : StandsI
 
   gfn_small : job.gfn < 2 ^ 36
   gfn_small =
-      (access_vcpu h.state.sizes (line_of h).actor job.gfn S.word S.op (subst (λ (c : Command). IsCommandFor h.state.sizes (line_of h).actor c) S.command R.line)).1
+      (access_vcpu h.state.sizes (line_of h).actor job.gfn S.word S.op
+      (subst (λ (c : Command). IsCommandFor h.state.sizes (line_of h).actor c) S.command R.line)).1
 
   knows : KnowsPart (place_at h.state.place h) (line_of h).command h → FaultKnows p h.state.sizes job.gfn job.write h.topics
   knows K =

@@ -139,7 +139,8 @@ module _ (p : FaultPlace) (job : FaultJob) (turn : Turn Faulted) (before after :
       ∙ (next_same before.hand (part_kind before.hand (fault_part p job.gfn before.hand.topics) (access_note (Fault p))) M.found).sizes in
       let stood : hand_left before.hand ≡ fault_left p before.hand.state.sizes before.hand.topics + 9 =
       ap (λ (q : Place). steps_left q before.hand.state.sizes before.hand.topics) at in
-      subst (λ n. hand_left after.hand < n) (sym stood) (goes_nearer goes_to turn after.hand before.hand.state.sizes _ _ is M.turned stands same M.made.topics falls)
+      subst (λ n. hand_left after.hand < n) (sym stood)
+      (goes_nearer goes_to turn after.hand before.hand.state.sizes _ _ is M.turned stands same M.made.topics falls)
 
 pub turns_fault : (p : FaultPlace) (job : FaultJob) (turn : Turn Faulted) (before after : Seat) → PartRests before.hand → StandsInLine job before.hand
     → place_at before.hand.state.place before.hand ≡ place.Access (Fault p) → IsAt p job (access_note (Fault p)) before.hand

@@ -17,7 +17,8 @@ first pages x xs all = all 0 x (omega arith)
 others : (pages : ℕ) (x : Slot) (xs : List Slot) → All (IsSlotOf pages) (x ∷ xs) → All (IsSlotOf pages) xs
 others pages x xs all k d lt = all (suc k) d (omega arith)
 
-found : (gfn pages : ℕ) (xs : List Slot) (slot : Slot) → find (contains gfn) xs ≡ Some slot → All (IsSlotOf pages) xs → (contains gfn slot ≡ true) × IsSlotOf pages slot
+found : (gfn pages : ℕ) (xs : List Slot) (slot : Slot) → find (contains gfn) xs ≡ Some slot → All (IsSlotOf pages) xs
+    → (contains gfn slot ≡ true) × IsSlotOf pages slot
 found gfn pages [] slot e all = cc
 found gfn pages (x ∷ xs) slot e all = elim (by_test (contains gfn x) x slot (find (contains gfn) xs) e) [
   | inl p ↦ (subst (λ (s : Slot). contains gfn s ≡ true) p.1 p.0, subst (IsSlotOf pages) p.1 (first pages x xs all))
@@ -28,7 +29,8 @@ inside : (gfn base pages : ℕ) → (nat_le base gfn && nat_lt gfn (base + pages
 inside gfn base pages e = (grind (arith, nat_tests, e), grind (arith, nat_tests, e))
 
 -- The frame is at or above the slot's first, and its host page is one of the machine's.
-pub in_bounds : (gfn pages : ℕ) (slots : Slots) (slot : Slot) → slot_of slots gfn ≡ Some slot → AreSlotsOf pages slots → (slot.base ≤ gfn) × (slot.host + (gfn - slot.base) ≤ pages)
+pub in_bounds : (gfn pages : ℕ) (slots : Slots) (slot : Slot) → slot_of slots gfn ≡ Some slot → AreSlotsOf pages slots
+    → (slot.base ≤ gfn) × (slot.host + (gfn - slot.base) ≤ pages)
 in_bounds gfn pages slots slot e all =
     let f = found gfn pages (values_of slots) slot e all in
     let i = inside gfn slot.base slot.pages f.0 in

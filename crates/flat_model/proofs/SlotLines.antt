@@ -24,7 +24,8 @@ use Rattle.flat_model.specs.Steps.{SetsSlot}
 abbrev at_once : Option Refusal → Option Answer
 at_once refusal = option_map (λ r. Refused r) refusal
 
-pub slot_line : (line : Line) (id : ℕ) (slot : Slot) (before after : Kept) (answer : Answer) → line.command ≡ SetSlot id slot → SetsSlot id slot before after answer (set_refusal before.sizes.pages id slot before.slots)
+pub slot_line : (line : Line) (id : ℕ) (slot : Slot) (before after : Kept) (answer : Answer) → line.command ≡ SetSlot id slot
+    → SetsSlot id slot before after answer (set_refusal before.sizes.pages id slot before.slots)
     → GivesLine before.sizes line (facts_of before) (facts_of after) answer
 slot_line line id slot before after answer is sets = by_refusal (set_refusal before.sizes.pages id slot before.slots) refl sets
   where
@@ -40,7 +41,8 @@ slot_line line id slot before after answer is sets = by_refusal (set_refusal bef
     answered : Answer → List AnsweredLine
     answered x = record { number = line.number; actor = line.actor; answer = x } ∷ []
 
-    by_refusal : (r : Option Refusal) → set_refusal before.sizes.pages id slot before.slots ≡ r → SetsSlot id slot before after answer r → GivesLine before.sizes line f (facts_of after) answer
+    by_refusal : (r : Option Refusal) → set_refusal before.sizes.pages id slot before.slots ≡ r → SetsSlot id slot before after answer r
+        → GivesLine before.sizes line f (facts_of after) answer
     by_refusal None why done = record {
       leads = ap facts_of done.1 ∙ sym (ap (λ (es : List Event). facts_after_all es f) (whole None why));
       tells = ap answers_of (whole None why) ∙ ap answered (sym done.0);

@@ -19,7 +19,7 @@ use Rattle.part_steps.specs.PartHoldings.{next_watched}
 use Rattle.part_steps.specs.PartSteps.{PartNeeds}
 use Rattle.mmu_core.specs.machine.Steps.{next}
 use Rattle.part_steps.specs.StayTopics.{is_outside}
-use Rattle.part_steps.specs.ControlTopics.{in_section}
+use Rattle.part_steps.specs.ControlBits.{in_section}
 use Rattle.mmu_core.specs.machine.View.{word_in}
 use Rattle.mmu_core.proofs.machine.HandAfter.{next_same}
 use Rattle.mmu_core.proofs.held.StateTells.{own_place, state_tells}
@@ -33,18 +33,23 @@ use Rattle.grace_period.specs.Watches.{is_done, looked_at}
 
 -- the own state word of a hand of a told world
 own_tells : (w : World Held) (actor : ℕ) (h : Held) → HasHand actor h w → in_section (word_in h.state.sizes w State actor) ≡ not (is_outside h.topics.stay)
-own_tells w actor h has = subst (λ (x : Held). in_section (word_in x.state.sizes w State actor) ≡ not (is_outside x.topics.stay)) has.is (state_tells w actor has.reached has.there)
+own_tells w actor h has =
+    subst (λ (x : Held). in_section (word_in x.state.sizes w State actor) ≡ not (is_outside x.topics.stay)) has.is
+    (state_tells w actor has.reached has.there)
 
-pub told_in : (told : Option (World Held)) (actor : ℕ) (h : Held) → IfSome told (HasHand actor h) → h.topics.stay ≡ Section → IfSome told (IsTold h.state.sizes actor)
+pub told_in : (told : Option (World Held)) (actor : ℕ) (h : Held) → IfSome told (HasHand actor h) → h.topics.stay ≡ Section
+    → IfSome told (IsTold h.state.sizes actor)
 told_in None actor h has stay = tt
 told_in (Some w) actor h has stay = own_tells w actor h has ∙ ap (λ (s : Stay). not (is_outside s)) stay
 
-pub told_out : (told : Option (World Held)) (actor : ℕ) (h : Held) → IfSome told (HasHand actor h) → h.topics.stay ≡ Outside → IfSome told (IsUntold h.state.sizes actor)
+pub told_out : (told : Option (World Held)) (actor : ℕ) (h : Held) → IfSome told (HasHand actor h) → h.topics.stay ≡ Outside
+    → IfSome told (IsUntold h.state.sizes actor)
 told_out None actor h has stay = tt
 told_out (Some w) actor h has stay = own_tells w actor h has ∙ ap (λ (s : Stay). not (is_outside s)) stay
 
 -- Where the others hold nothing, the actor that is looked at is found outside.
-pub look_free : (told tells : Option (World Held)) (actor index note found : ℕ) (h : Held) → IfSome told (HasHand actor h) → Tells told actor (part_kind h (part.Watch index) note) found tells → PartNeeds (part.Watch index) h
+pub look_free : (told tells : Option (World Held)) (actor index note found : ℕ) (h : Held) → IfSome told (HasHand actor h)
+    → Tells told actor (part_kind h (part.Watch index) note) found tells → PartNeeds (part.Watch index) h
     → IfSome told (λ w. OthersRest actor w → in_section found ≡ false)
 look_free None tells actor index note found h has moves needs = tt
 look_free (Some w) tells actor index note found h has moves needs =
@@ -91,16 +96,20 @@ same_place h g k found is =
     (ap (λ (z : Sizes). index_of z g.state.actor) sizes ∙ ap (λ (a : Actor). index_of h.state.sizes a) actor, ap (λ (z : Sizes). actors_of z) sizes)
 
 -- Behind a look that isn't the last, the next one may be made.
-needs_behind : (h g : Held) (k : Kind) (seen found : ℕ) → g ≡ next h k found → g.topics.watched ≡ seen → next_watched (own_index h) seen < actors_of h.state.sizes → PartNeeds (part.Watch (looked_at (record { has_looked = true }) g)) g
+needs_behind : (h g : Held) (k : Kind) (seen found : ℕ) → g ≡ next h k found → g.topics.watched ≡ seen
+    → next_watched (own_index h) seen < actors_of h.state.sizes → PartNeeds (part.Watch (looked_at (record { has_looked = true }) g)) g
 needs_behind h g k seen found is watched lt =
     let same = same_place h g k found is in
-    let at : next_watched (own_index g) g.topics.watched ≡ next_watched (own_index h) seen = ap (λ n. next_watched n g.topics.watched) same.0 ∙ ap (next_watched (own_index h)) watched in
+    let at : next_watched (own_index g) g.topics.watched ≡ next_watched (own_index h) seen =
+    ap (λ n. next_watched n g.topics.watched) same.0 ∙ ap (next_watched (own_index h)) watched in
     (omega (arith, at, same.1, lt), never_own (own_index g) g.topics.watched, inr refl)
 
-pub more_needs : (h g : Held) (k : Kind) (index found : ℕ) → g ≡ next h k found → g.topics.watched ≡ index + 1 → next_watched (own_index h) (index + 1) < actors_of h.state.sizes → PartNeeds (part.Watch (looked_at (record { has_looked = true }) g)) g
+pub more_needs : (h g : Held) (k : Kind) (index found : ℕ) → g ≡ next h k found → g.topics.watched ≡ index + 1
+    → next_watched (own_index h) (index + 1) < actors_of h.state.sizes → PartNeeds (part.Watch (looked_at (record { has_looked = true }) g)) g
 more_needs h g k index found is watched lt = needs_behind h g k (index + 1) found is watched lt
 
-pub wait_needs : (h g : Held) (k : Kind) (index found : ℕ) → g ≡ next h k found → g.topics.watched ≡ index → PartNeeds (part.Watch index) h → PartNeeds (part.Watch (looked_at (record { has_looked = true }) g)) g
+pub wait_needs : (h g : Held) (k : Kind) (index found : ℕ) → g ≡ next h k found → g.topics.watched ≡ index → PartNeeds (part.Watch index) h
+    → PartNeeds (part.Watch (looked_at (record { has_looked = true }) g)) g
 wait_needs h g k index found is watched needs =
     needs_behind h g k index found is watched (rw same_index needs.0)
   where

@@ -4,7 +4,7 @@ use Rattle.core_views.specs.declared.sizes.Sizes.{Sizes}
 use Rattle.core_views.specs.Held.{Held}
 use Rattle.spte_words.specs.declared.area.Area.TheVariants.{State}
 use Rattle.mmu_core.specs.machine.Machine.{World}
-use Rattle.part_steps.specs.ControlTopics.{in_section}
+use Rattle.part_steps.specs.ControlBits.{in_section}
 use Rattle.mmu_core.specs.machine.View.{word_in}
 use Rattle.part_steps.specs.declared.part_step.PartStep.TheVariants.{Begin, End}
 use Rattle.step_seats.specs.PartTurns.{WherePartMade}

@@ -9,7 +9,7 @@ use Rattle.part_steps.specs.declared.part_step.PartStep.TheVariants as part
 use Rattle.part_steps.specs.PartTasks.{own_index}
 use Rattle.part_steps.specs.PartHoldings.{next_watched}
 use Rattle.part_steps.specs.Tasks.{map_of}
-use Rattle.part_steps.specs.ControlTopics.{in_section}
+use Rattle.part_steps.specs.ControlBits.{in_section}
 use Rattle.step_seats.specs.Seats.{Seat}
 use Rattle.step_seats.specs.declared.turn.Turn.{Turn}
 use Rattle.step_seats.specs.declared.turn.Turn.TheVariants.{More, Wait, Retry, Done}

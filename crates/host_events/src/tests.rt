@@ -29,7 +29,8 @@ const ASKED: u64 = 1 + 1 + 33 + 1 + 3 + 1 + 1;
 const ENDED: u64 = 1 + 1 + 1 + 6;
 
 fn header(alloc: Global) -> Result<Header, NoMemory>
-    ensures { IfOk result (λ h. h ≡ record { version = 1; vcpus = 1; workers = 0; pages = 64; frames = 64; words = 1; pool = 4; cache = 1; manual = 0; hosts = 0 ∷ 32 ∷ [] }) }
+    ensures { IfOk result (λ h. h
+        ≡ record { version = 1; vcpus = 1; workers = 0; pages = 64; frames = 64; words = 1; pool = 4; cache = 1; manual = 0; hosts = 0 ∷ 32 ∷ [] }) }
 {
     Ok(Header {
         version: 1,

@@ -21,7 +21,8 @@ use Rattle.step_seats.specs.Moves.{Tells, step_by}
 use Rattle.host_map.specs.Touching.{Touched, content_in, content_place, host_in, touch_kind}
 
 -- What a load of a host word finds is that word.
-pub host_found : (z : Sizes) (page note : ℕ) (told tells : Option (World Held)) (actor found : ℕ) → page < z.pages → Tells told actor (kind_of_task z (loads kind.Host area.Host page note)) found tells → IfSome told (λ w. found ≡ host_in z page w)
+pub host_found : (z : Sizes) (page note : ℕ) (told tells : Option (World Held)) (actor found : ℕ) → page < z.pages
+    → Tells told actor (kind_of_task z (loads kind.Host area.Host page note)) found tells → IfSome told (λ w. found ≡ host_in z page w)
 host_found z page note None tells actor found there moves = tt
 host_found z page note (Some w) tells actor found there moves = sym moves.1 ∙ answered_is z w (loads kind.Host area.Host page note) there
 
@@ -32,10 +33,16 @@ module _ (z : Sizes) (frame word : ℕ) (frame_in : frame < z.frames) (word_belo
   -- What the operation answers is what the word holds.
   answer_is : (op : Op) (note : ℕ) (w : World Held) → answered mmu w (touch_kind z frame word op note) ≡ content_in z frame word w
   answer_is Read note w = answered_is z w (loads kind.Read area.Content (content_index (map_of z) frame word) note) within
-  answer_is (Write x) note w = answered_is z w (record { kind = kind.Write; area = area.Content; index = content_index (map_of z) frame word; expected = 0; written = x; may_end = note }) within
-  answer_is (Add x) note w = answered_is z w (record { kind = kind.Add; area = area.Content; index = content_index (map_of z) frame word; expected = 0; written = x; may_end = note }) within
+  answer_is (Write x) note w =
+      answered_is z w
+      (record { kind = kind.Write; area = area.Content; index = content_index (map_of z) frame word; expected = 0; written = x; may_end = note })
+      within
+  answer_is (Add x) note w =
+      answered_is z w
+      (record { kind = kind.Add; area = area.Content; index = content_index (map_of z) frame word; expected = 0; written = x; may_end = note }) within
 
-  pub content_found : (op : Op) (note : ℕ) (told tells : Option (World Held)) (actor found : ℕ) → Tells told actor (touch_kind z frame word op note) found tells → IfSome told (λ w. found ≡ content_in z frame word w)
+  pub content_found : (op : Op) (note : ℕ) (told tells : Option (World Held)) (actor found : ℕ)
+      → Tells told actor (touch_kind z frame word op note) found tells → IfSome told (λ w. found ≡ content_in z frame word w)
   content_found op note None tells actor found moves = tt
   content_found op note (Some w) tells actor found moves = sym moves.1 ∙ answer_is op note w
 
@@ -56,19 +63,24 @@ module _ (z : Sizes) (frame word : ℕ) (frame_in : frame < z.frames) (word_belo
   content_at w = let e : nat_lt (content_index (map_of z) frame word) (size_of (map_of z) area.Content) ≡ true = grind (arith, nat_tests, within) in rw e refl
 
   -- the words behind the operation
-  words_behind : (op : Op) (note actor : ℕ) (w : World Held) → (effect mmu w (step_by actor (touch_kind z frame word op note))).words ≡ slice_set w.words (content_place z frame word) (stored op (slice_index w.words (content_place z frame word)))
+  words_behind : (op : Op) (note actor : ℕ) (w : World Held) → (effect mmu w (step_by actor (touch_kind z frame word op note))).words
+      ≡ slice_set w.words (content_place z frame word) (stored op (slice_index w.words (content_place z frame word)))
   unfolding effect
   words_behind Read note actor w = ap (slice_set w.words (content_place z frame word)) (after_is Read note _)
   words_behind (Write x) note actor w = ap (slice_set w.words (content_place z frame word)) (after_is (Write x) note _)
   words_behind (Add x) note actor w = ap (slice_set w.words (content_place z frame word)) (after_is (Add x) note _)
 
-  touched : (op : Op) (w v : World Held) → content_place z frame word < length w.words → v.words ≡ slice_set w.words (content_place z frame word) (stored op (slice_index w.words (content_place z frame word))) → Touched z frame word op w v
+  touched : (op : Op) (w v : World Held) → content_place z frame word < length w.words → v.words
+      ≡ slice_set w.words (content_place z frame word) (stored op (slice_index w.words (content_place z frame word))) → Touched z frame word op w v
   touched op w v inside is = record {
-    stores = content_at v ∙ ap (λ (ws : List ℕ). slice_index ws (content_place z frame word)) is ∙ get_or-set_same w.words (content_place z frame word) _ 0 inside ∙ ap (stored op) (sym (content_at w));
+    stores =
+        content_at v ∙ ap (λ (ws : List ℕ). slice_index ws (content_place z frame word)) is
+        ∙ get_or-set_same w.words (content_place z frame word) _ 0 inside ∙ ap (stored op) (sym (content_at w));
     others = λ i ne. ap (λ (ws : List ℕ). slice_index ws i) is ∙ get_or-set_other w.words (content_place z frame word) i _ 0 ne;
   }
 
-  pub content_behind : (op : Op) (note : ℕ) (told tells : Option (World Held)) (actor found : ℕ) → Tells told actor (touch_kind z frame word op note) found tells → IfSome told (λ w. IfSome tells (λ v. Touched z frame word op w v))
+  pub content_behind : (op : Op) (note : ℕ) (told tells : Option (World Held)) (actor found : ℕ)
+      → Tells told actor (touch_kind z frame word op note) found tells → IfSome told (λ w. IfSome tells (λ v. Touched z frame word op w v))
   content_behind op note None tells actor found moves = tt
   content_behind op note (Some w) None actor found moves = tt
   content_behind op note (Some w) (Some v) actor found moves =
@@ -76,7 +88,8 @@ module _ (z : Sizes) (frame word : ℕ) (frame_in : frame < z.frames) (word_belo
       (ap (λ (o : Option (World Held)). (unwrap_or o v).words) moves.2 ∙ words_behind op note actor w)
 
   -- A load changes no word.
-  pub words_stay : (note : ℕ) (told tells : Option (World Held)) (actor found : ℕ) → Tells told actor (touch_kind z frame word Read note) found tells → IfSome told (λ w. IfSome tells (λ v. v.words ≡ w.words))
+  pub words_stay : (note : ℕ) (told tells : Option (World Held)) (actor found : ℕ) → Tells told actor (touch_kind z frame word Read note) found tells
+      → IfSome told (λ w. IfSome tells (λ v. v.words ≡ w.words))
   words_stay note None tells actor found moves = tt
   words_stay note (Some w) None actor found moves = tt
   words_stay note (Some w) (Some v) actor found moves =

@@ -30,20 +30,29 @@ locked Exclusive is = refl
 
 -- Under the lock the sequence number is no snapshot, and the look-up goes on.
 pub seq_loaded : (before after : Topics) (v : ℕ) → has_lock before.hold ≡ true → after ≡ part_topics part.Seq before v
-    → after ≡ record before { invalidations = record before.invalidations { seq = v; checked = seq_checked (has_lock before.hold) before.invalidations.count before.invalidations.checked } }
+    → after ≡ record before {
+      invalidations = record before.invalidations {
+        seq = v;
+        checked = seq_checked (has_lock before.hold) before.invalidations.count before.invalidations.checked;
+      };
+    }
 seq_loaded before after v lock made = made ∙ ap (λ (b : Bool). sequenced b before v) (locked before.hold lock)
 
 pub loads_only : (stage : CheckStage) (before after : Topics) (v : ℕ) → has_lock before.hold ≡ true → after ≡ part_topics (step_of stage) before v
     → LoadsOnly stage before after
 loads_only Count before after v lock made =
-    made ∙ ap (λ (n : Invalidations). record before { invalidations = record before.invalidations { count = n.count; checked = n.checked } }) (sym (ap (λ (t : Topics). t.invalidations) made))
+    made ∙ ap (λ (n : Invalidations). record before { invalidations = record before.invalidations { count = n.count; checked = n.checked } })
+    (sym (ap (λ (t : Topics). t.invalidations) made))
 loads_only Start before after v lock made =
-    made ∙ ap (λ (n : Invalidations). record before { invalidations = record before.invalidations { start = n.start; checked = n.checked } }) (sym (ap (λ (t : Topics). t.invalidations) made))
+    made ∙ ap (λ (n : Invalidations). record before { invalidations = record before.invalidations { start = n.start; checked = n.checked } })
+    (sym (ap (λ (t : Topics). t.invalidations) made))
 loads_only End before after v lock made =
-    made ∙ ap (λ (n : Invalidations). record before { invalidations = record before.invalidations { end = n.end; checked = n.checked } }) (sym (ap (λ (t : Topics). t.invalidations) made))
+    made ∙ ap (λ (n : Invalidations). record before { invalidations = record before.invalidations { end = n.end; checked = n.checked } })
+    (sym (ap (λ (t : Topics). t.invalidations) made))
 loads_only Seq before after v lock made =
     let is = seq_loaded before after v lock made in
-    is ∙ ap (λ (n : Invalidations). record before { invalidations = record before.invalidations { seq = n.seq; checked = n.checked } }) (sym (ap (λ (t : Topics). t.invalidations) is))
+    is ∙ ap (λ (n : Invalidations). record before { invalidations = record before.invalidations { seq = n.seq; checked = n.checked } })
+    (sym (ap (λ (t : Topics). t.invalidations) is))
 
 loaded_is : (stage : CheckStage) (before after : Topics) (v : ℕ) → has_lock before.hold ≡ true → after ≡ part_topics (step_of stage) before v
     → loaded stage after.invalidations ≡ v

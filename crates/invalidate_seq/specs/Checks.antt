@@ -23,7 +23,11 @@ use Rattle.step_seats.specs.Seats.{Seat}
 -- that the actor holds has changed, but how far a check has come.
 abbrev pub TakesSnapshot : Turn ℕ → Topics → Topics → Type 0
 TakesSnapshot (Done n) before after =
-    after ≡ record before { search = record before.search { set = None; whole = false }; host = None; invalidations = record before.invalidations { snapshot = Some n; checked = after.invalidations.checked } }
+    after ≡ record before {
+      search = record before.search { set = None; whole = false };
+      host = None;
+      invalidations = record before.invalidations { snapshot = Some n; checked = after.invalidations.checked };
+    }
 TakesSnapshot More before after = ⊥
 TakesSnapshot (Wait seen) before after = ⊥
 TakesSnapshot (Retry cause) before after = ⊥

@@ -32,13 +32,20 @@ last_not gfn n s false not_in = refl
 pub none_of : (gfn : ℕ) (pool : ℕ → ℕ) (set n : ℕ) → NoneBelow gfn pool set n → slot_of (slots_below pool set n) gfn ≡ None
 none_of gfn pool set zero none = refl
 none_of gfn pool set (suc n) none =
-    none_then gfn (slots_below pool set n) (if live_at pool set n then (n, slot_at pool set n) ∷ [] else []) (none_of gfn pool set n (λ i lt live. none i (omega arith) live))
+    none_then gfn (slots_below pool set n) (if live_at pool set n then (n, slot_at pool set n) ∷ [] else [])
+    (none_of gfn pool set n (λ i lt live. none i (omega arith) live))
     ∙ last_not gfn n (slot_at pool set n) (live_at pool set n) (none n (omega arith))
 
-pub first_of : (gfn : ℕ) (pool : ℕ → ℕ) (set id n : ℕ) → id < n → live_at pool set id ≡ true → contains gfn (slot_at pool set id) ≡ true → NoneBelow gfn pool set id → slot_of (slots_below pool set n) gfn ≡ Some (slot_at pool set id)
+pub first_of : (gfn : ℕ) (pool : ℕ → ℕ) (set id n : ℕ) → id < n → live_at pool set id ≡ true → contains gfn (slot_at pool set id) ≡ true
+    → NoneBelow gfn pool set id → slot_of (slots_below pool set n) gfn ≡ Some (slot_at pool set id)
 first_of gfn pool set id zero lt live holds none = absurd (omega arith)
 first_of gfn pool set id (suc n) lt live holds none = case (same_or n id) (λ less. first_of gfn pool set id n less live holds none)
   where
-    case : (n ≡ id) ⊎ (n ≢ id) → (id < n → slot_of (slots_below pool set n) gfn ≡ Some (slot_at pool set id)) → slot_of (slots_below pool set (suc n)) gfn ≡ Some (slot_at pool set id)
-    case (inl e) before = rw (e) (none_then gfn (slots_below pool set id) (if live_at pool set id then (id, slot_at pool set id) ∷ [] else []) (none_of gfn pool set id none) ∙ rw (live, holds) refl)
-    case (inr apart) before = some_then gfn (slots_below pool set n) (if live_at pool set n then (n, slot_at pool set n) ∷ [] else []) (slot_at pool set id) (before (omega arith))
+    case : (n ≡ id) ⊎ (n ≢ id) → (id < n → slot_of (slots_below pool set n) gfn ≡ Some (slot_at pool set id))
+        → slot_of (slots_below pool set (suc n)) gfn ≡ Some (slot_at pool set id)
+    case (inl e) before =
+        rw (e) (none_then gfn (slots_below pool set id) (if live_at pool set id then (id, slot_at pool set id) ∷ [] else [])
+        (none_of gfn pool set id none) ∙ rw (live, holds) refl)
+    case (inr apart) before =
+        some_then gfn (slots_below pool set n) (if live_at pool set n then (n, slot_at pool set n) ∷ [] else []) (slot_at pool set id)
+        (before (omega arith))

@@ -21,7 +21,8 @@ use Rattle.memslots.proofs.FirstSlot.{first_of, none_of}
 abbrev pub next_word : (ℕ → ℕ) → SlotField → SlotSearch → ℕ
 next_word pool f s = pool (slot_index (set_held s.set) s.id f)
 
-no_more : (gfn : ℕ) (pool : ℕ → ℕ) (set id : ℕ) → NoneBelow gfn pool set id → (live_at pool set id ≡ true → contains gfn (slot_at pool set id) ≡ false) → NoneBelow gfn pool set (id + 1)
+no_more : (gfn : ℕ) (pool : ℕ → ℕ) (set id : ℕ) → NoneBelow gfn pool set id
+    → (live_at pool set id ≡ true → contains gfn (slot_at pool set id) ≡ false) → NoneBelow gfn pool set (id + 1)
 no_more gfn pool set id none this i lt live = by (same_or i id)
   where
     by : (i ≡ id) ⊎ (i ≢ id) → contains gfn (slot_at pool set i) ≡ false
@@ -33,20 +34,30 @@ not_true true no_ = absurd (no_ refl)
 not_true false no_ = refl
 
 -- behind the flags
-flags_then : (gfn : ℕ) (pool : ℕ → ℕ) (s : SlotSearch) (live : Bool) → is_some s.set ≡ true → live_at pool (set_held s.set) s.id ≡ live → NoneBelow gfn pool (set_held s.set) s.id
-    → IsSearchFor gfn pool (record s { id = if live then s.id else s.id + 1; next = if live then Base else Flags; slot = record s.slot { read_only = flags_read_only (next_word pool Flags s) }; logged = flags_logged (next_word pool Flags s); whole = false })
+flags_then : (gfn : ℕ) (pool : ℕ → ℕ) (s : SlotSearch) (live : Bool) → is_some s.set ≡ true → live_at pool (set_held s.set) s.id ≡ live
+    → NoneBelow gfn pool (set_held s.set) s.id
+    → IsSearchFor gfn pool (record s {
+      id = if live then s.id else s.id + 1;
+      next = if live then Base else Flags;
+      slot = record s.slot { read_only = flags_read_only (next_word pool Flags s) };
+      logged = flags_logged (next_word pool Flags s);
+      whole = false;
+    })
 flags_then gfn pool s true held is none = record { held = held; loaded = (is, refl, refl); before = none }
-flags_then gfn pool s false held is none = record { held = held; loaded = tt; before = no_more gfn pool (set_held s.set) s.id none (λ live. absurd (cc (is, live))) }
+flags_then gfn pool s false held is none =
+    record { held = held; loaded = tt; before = no_more gfn pool (set_held s.set) s.id none (λ live. absurd (cc (is, live))) }
 
 -- the slot whose last word was loaded
-whole_slot : (pool : ℕ → ℕ) (s : SlotSearch) → HasLoaded Host pool (set_held s.set) s → ◌≡◌ {A = Slot} (slot_at pool (set_held s.set) s.id) (record s.slot { host = next_word pool Host s })
+whole_slot : (pool : ℕ → ℕ) (s : SlotSearch) → HasLoaded Host pool (set_held s.set) s
+    → ◌≡◌ {A = Slot} (slot_at pool (set_held s.set) s.id) (record s.slot { host = next_word pool Host s })
 whole_slot pool s loaded =
     let read_only = sym loaded.0.1 in
     let base = sym loaded.1 in
     let pages = sym loaded.2 in
     λ i. record { base = base i; pages = pages i; host = next_word pool Host s; read_only = read_only i }
 
-goes_on : (f : SlotField) (gfn : ℕ) (pool : ℕ → ℕ) (s : SlotSearch) → is_some s.set ≡ true → HasLoaded f pool (set_held s.set) s → NoneBelow gfn pool (set_held s.set) s.id
+goes_on : (f : SlotField) (gfn : ℕ) (pool : ℕ → ℕ) (s : SlotSearch) → is_some s.set ≡ true → HasLoaded f pool (set_held s.set) s
+    → NoneBelow gfn pool (set_held s.set) s.id
     → (f ≡ Host → contains gfn (searched_at f s (next_word pool f s)).slot ≡ true → ⊥) → IsSearchFor gfn pool (searched_at f s (next_word pool f s))
 goes_on Flags gfn pool s held loaded none misses = flags_then gfn pool s (flags_live (next_word pool Flags s)) held refl none
 goes_on Base gfn pool s held loaded none misses = record { held = held; loaded = (loaded, refl); before = none }
@@ -56,15 +67,20 @@ goes_on Host gfn pool s held loaded none misses =
     record {
       held = held;
       loaded = tt;
-      before = no_more gfn pool (set_held s.set) s.id none (λ live. ap (contains gfn) whole ∙ not_true (contains gfn (record s.slot { host = next_word pool Host s })) (misses refl));
+      before =
+          no_more gfn pool (set_held s.set) s.id none
+          (λ live. ap (contains gfn) whole ∙ not_true (contains gfn (record s.slot { host = next_word pool Host s })) (misses refl));
     }
 
 -- a word that isn't the last one of a slot, or is one that doesn't make it contain the guest frame
-pub search_goes_on : (gfn : ℕ) (pool : ℕ → ℕ) (s : SlotSearch) → IsSearchFor gfn pool s → (Hits gfn s (searched s (next_word pool s.next s)) → ⊥) → IsSearchFor gfn pool (searched s (next_word pool s.next s))
+pub search_goes_on : (gfn : ℕ) (pool : ℕ → ℕ) (s : SlotSearch) → IsSearchFor gfn pool s → (Hits gfn s (searched s (next_word pool s.next s)) → ⊥)
+    → IsSearchFor gfn pool (searched s (next_word pool s.next s))
 search_goes_on gfn pool s I misses = goes_on s.next gfn pool s I.held I.loaded I.before (λ last holds. misses (last, holds))
 
-hit : (f : SlotField) (gfn : ℕ) (pool : ℕ → ℕ) (s : SlotSearch) → f ≡ Host → s.id ≤ 31 → HasLoaded f pool (set_held s.set) s → NoneBelow gfn pool (set_held s.set) s.id → contains gfn (searched_at f s (next_word pool f s)).slot ≡ true
-    → IsFirst gfn pool (set_held s.set) (record { id = s.id; slot = (searched_at f s (next_word pool f s)).slot; logged = (searched_at f s (next_word pool f s)).logged })
+hit : (f : SlotField) (gfn : ℕ) (pool : ℕ → ℕ) (s : SlotSearch) → f ≡ Host → s.id ≤ 31 → HasLoaded f pool (set_held s.set) s
+    → NoneBelow gfn pool (set_held s.set) s.id → contains gfn (searched_at f s (next_word pool f s)).slot ≡ true
+    → IsFirst gfn pool (set_held s.set)
+    (record { id = s.id; slot = (searched_at f s (next_word pool f s)).slot; logged = (searched_at f s (next_word pool f s)).logged })
 hit Flags gfn pool s last low loaded none holds = absurd (cc last)
 hit Base gfn pool s last low loaded none holds = absurd (cc last)
 hit Pages gfn pool s last low loaded none holds = absurd (cc last)
@@ -80,7 +96,8 @@ hit Host gfn pool s last low loaded none holds =
     }
 
 pub search_hits : (gfn : ℕ) (pool : ℕ → ℕ) (s : SlotSearch) → IsSearchFor gfn pool s → s.id ≤ 31 → Hits gfn s (searched s (next_word pool s.next s))
-    → IsFirst gfn pool (set_held s.set) (record { id = s.id; slot = (searched s (next_word pool s.next s)).slot; logged = (searched s (next_word pool s.next s)).logged })
+    → IsFirst gfn pool (set_held s.set)
+    (record { id = s.id; slot = (searched s (next_word pool s.next s)).slot; logged = (searched s (next_word pool s.next s)).logged })
 search_hits gfn pool s I low hits = hit s.next gfn pool s hits.0 low I.loaded I.before hits.1
 
 same_set : (f : SlotField) (s : SlotSearch) (v : ℕ) → (searched_at f s v).set ≡ s.set
@@ -90,7 +107,8 @@ same_set Pages s v = refl
 same_set Host s v = refl
 
 -- what a turn finds in the words that it was made over
-finds : (gfn : ℕ) (pool : ℕ → ℕ) (s : SlotSearch) (result : Turn (Option FoundSlot)) → IsSearchFor gfn pool s → s.id ≤ 31 → Searches gfn result s (searched s (next_word pool s.next s)) → FindsIn gfn pool (searched s (next_word pool s.next s)) result
+finds : (gfn : ℕ) (pool : ℕ → ℕ) (s : SlotSearch) (result : Turn (Option FoundSlot)) → IsSearchFor gfn pool s → s.id ≤ 31
+    → Searches gfn result s (searched s (next_word pool s.next s)) → FindsIn gfn pool (searched s (next_word pool s.next s)) result
 finds gfn pool s More I low found = search_goes_on gfn pool s I found.0
 finds gfn pool s (Done (Some x)) I low found =
     let first = search_hits gfn pool s I low found.0 in
@@ -103,7 +121,8 @@ finds gfn pool s (Done None) I low found =
 finds gfn pool s (Wait seen) I low found = absurd found
 finds gfn pool s (Retry cause) I low found = absurd found
 
-pub finds_by : (gfn : ℕ) (pool : ℕ → ℕ) (s after : SlotSearch) (v : ℕ) (result : Turn (Option FoundSlot)) → IsSearchFor gfn pool s → s.id ≤ 31 → v ≡ next_word pool s.next s → after ≡ searched s v → Searches gfn result s after → FindsIn gfn pool after result
+pub finds_by : (gfn : ℕ) (pool : ℕ → ℕ) (s after : SlotSearch) (v : ℕ) (result : Turn (Option FoundSlot)) → IsSearchFor gfn pool s → s.id ≤ 31
+    → v ≡ next_word pool s.next s → after ≡ searched s v → Searches gfn result s after → FindsIn gfn pool after result
 finds_by gfn pool s after v result I low is made found =
     let e : after ≡ searched s (next_word pool s.next s) = made ∙ ap (searched s) is in
     subst (λ (x : SlotSearch). FindsIn gfn pool x result) (sym e) (finds gfn pool s result I low (subst (λ (x : SlotSearch). Searches gfn result s x) e found))

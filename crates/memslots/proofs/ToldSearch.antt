@@ -39,7 +39,8 @@ use Rattle.core_views.specs.declared.place.SlotField.{SlotField}
 
 -- The load of a slot's word leaves the words of the pool.
 stays_in : (w : World Held) (a note : ℕ) → Reachable w → a < length w.hands → PartNeeds part.Slot (hand_in mmu w a)
-    → word_in (hand_in mmu w a).state.sizes (effect mmu w (step_by a (part_kind (hand_in mmu w a) part.Slot note))) area.Pool ≡ word_in (hand_in mmu w a).state.sizes w area.Pool
+    → word_in (hand_in mmu w a).state.sizes (effect mmu w (step_by a (part_kind (hand_in mmu w a) part.Slot note))) area.Pool
+    ≡ word_in (hand_in mmu w a).state.sizes w area.Pool
 stays_in w a note r there N =
     let G = reached_good w r in
     let lt = subst (λ n. a < n) G.hands there in
@@ -69,7 +70,8 @@ says_at : (job : Find) (note found a : ℕ) (before after : Held) (result : Turn
     → SearchesIn job before after result w (effect mmu w (step_by a (part_kind before part.Slot note)))
 says_at job note found a before after result w begun N has is made looks agrees =
     subst (λ (pool : ℕ → ℕ). FindsIn job.gfn pool after.topics.search result) (sym (pool_stays w a note before has N))
-    (finds_by job.gfn (word_in before.state.sizes w area.Pool) before.topics.search after.topics.search found result (agrees begun) N.1 is (behind_word before.topics after.topics found N.0 made) looks)
+    (finds_by job.gfn (word_in before.state.sizes w area.Pool) before.topics.search after.topics.search found result (agrees begun) N.1 is
+    (behind_word before.topics after.topics found N.0 made) looks)
 
 needs_slot : (job : Find) (h : Held) → job.begun ≡ true → PartNeeds (find_step job) h → PartNeeds part.Slot h
 needs_slot job h begun N = rw begun at N

@@ -13,7 +13,8 @@ use std::test::Fail;
 use step_seats::{PlainMachine, Stepper, Turn, make_part};
 
 fn header(alloc: Global) -> Result<Header, NoMemory>
-    ensures { IfOk result (λ h. h ≡ record { version = 1; vcpus = 2; workers = 0; pages = 70; frames = 130; words = 2; pool = 4; cache = 64; manual = 0; hosts = 0 ∷ [] }) }
+    ensures { IfOk result (λ h. h
+        ≡ record { version = 1; vcpus = 2; workers = 0; pages = 70; frames = 130; words = 2; pool = 4; cache = 64; manual = 0; hosts = 0 ∷ [] }) }
 {
     Ok(Header {
         version: 1,

@@ -1,10 +1,12 @@
 pub mod Grace
+pub mod EmptySections
 pub mod CountersKept
 pub mod FlushChanges
 pub mod FlushKept
 pub mod FlushSteps
 pub mod UsableKept
 pub mod UsableSteps
+pub mod LeadsDown
 pub mod HeldKept
 pub mod InvalidationsKept
 pub mod KnownRange
@@ -19,6 +21,7 @@ pub mod LooksKept
 pub mod OwnPages
 pub mod PassedKept
 pub mod ScopesKept
+pub mod InSection
 pub mod SetsKept
 pub mod StateTells
 pub mod StatesKept

@@ -32,6 +32,9 @@ pub mod FillMade
 pub mod LockHeld
 pub mod StepTopics
 pub mod InvalidateNeeds
+pub mod AloneKnown
+pub mod SearchKnown
+pub mod SweepKnown
 pub mod InvalidateKnown
 pub mod HostPlaces
 pub mod HostKnown

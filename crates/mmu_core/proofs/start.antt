@@ -1,3 +1,4 @@
+pub mod StartPages
 pub mod StartTopics
 pub mod StartViews
 pub mod StartWords

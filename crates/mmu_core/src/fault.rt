@@ -4,7 +4,8 @@ ghost use Rattle.core_views.specs.declared.place.Cause.TheVariants.{Entry};
 ghost use Rattle.core_views.specs.declared.place.FaultEnd.TheVariants.{HostFault, Retry};
 ghost use Rattle.core_views.specs.declared.place.FaultPlace.TheVariants.{End, Find, Give, Host, Share, Unshare};
 ghost use Rattle.core_views.specs.Sizes.{AreSizes};
-ghost use Rattle.mmu_core.specs.lines.FaultSteps.{after_claim, after_share, check_next, check_part, entry_word, fault_next, fault_part, find_next, share_next, walk_next};
+ghost use Rattle.mmu_core.specs.lines.FaultSteps.{after_claim, after_share, check_next, check_part, entry_word, fault_next, fault_part, find_next};
+ghost use Rattle.mmu_core.specs.lines.FaultSteps.{share_next, walk_next};
 ghost use Rattle.part_steps.specs.PartBounds.{PartRests};
 ghost use Rattle.part_steps.specs.PartTasks.{table_page};
 ghost use Rattle.part_steps.specs.PartSteps.{PartNeeds};
@@ -180,7 +181,9 @@ fn exchange_next(hand: &Hand, gfn: u64, found: u64, won: FaultPlace, link: bool)
     requires rests { PartRests hand.now.core }
     requires from { 1 ≤ hand.now.core.topics.walk.level }
     ensures won { found ≡ hand.now.core.topics.walk.entry → result ≡ won }
-    ensures lost { found ≢ hand.now.core.topics.walk.entry → result ≡ (if link then Give (Retry (Entry (entry_word hand.now.core.state.sizes gfn hand.now.core.topics.walk) hand.now.core.topics.walk.entry found)) else Unshare (Retry (Entry (entry_word hand.now.core.state.sizes gfn hand.now.core.topics.walk) hand.now.core.topics.walk.entry found))) }
+    ensures lost { found ≢ hand.now.core.topics.walk.entry → result ≡ (if link
+        then Give (Retry (Entry (entry_word hand.now.core.state.sizes gfn hand.now.core.topics.walk) hand.now.core.topics.walk.entry found))
+        else Unshare (Retry (Entry (entry_word hand.now.core.state.sizes gfn hand.now.core.topics.walk) hand.now.core.topics.walk.entry found))) }
 {
     let walk = &hand.topics().walk;
     if found == walk.entry {
@@ -198,7 +201,8 @@ fn exchange_next(hand: &Hand, gfn: u64, found: u64, won: FaultPlace, link: bool)
 // The place behind a step of the look-up or of the lock.
 fn looked_next(place: FaultPlace, gfn: u64, write: bool, topics: &Topics, found: u64) -> FaultPlace
     requires begun { place ≡ Find true → topics.now.search.id ≤ 31 }
-    ensures find { (begun : Bool) → place ≡ Find begun → result ≡ (if begun then find_next gfn write topics.now.search.next (searched topics.now.search found) else Find true) }
+    ensures find { (begun : Bool) → place ≡ Find begun
+        → result ≡ (if begun then find_next gfn write topics.now.search.next (searched topics.now.search found) else Find true) }
     ensures host { place ≡ Host → result ≡ (if write && not (host_allows_write found) then End HostFault else Share) }
     ensures share { place ≡ Share → result ≡ after_share (share_next topics.now.hold found) }
 {

@@ -85,7 +85,8 @@ pub fn note(place: HostPlace, page: u64, hand: &Hand) -> u64
 pub(crate) fn task(place: HostPlace, page: u64, change: HostChange, hand: &Hand) -> Task
     requires part { PartRests hand.now.core }
     requires needs { PartNeeds (host_part place page change hand.now.core) hand.now.core }
-    ensures task { result ≡ part_task (host_part place page change hand.now.core) (own_index hand.now.core) hand.now.core.topics (host_note place page hand.now.core) }
+    ensures task { result
+        ≡ part_task (host_part place page change hand.now.core) (own_index hand.now.core) hand.now.core.topics (host_note place page hand.now.core) }
     ensures within { result.index < size_of (map_of hand.now.core.state.sizes) result.area }
 {
     part_task(

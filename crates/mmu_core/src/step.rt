@@ -218,7 +218,8 @@ fn advance_line(hand: &mut Hand, place: Place, found: u64)
 fn step_line(hand: &mut Hand, found: u64)
     requires rests { has_line hand.old.core ≡ true → Rests hand.old.core }
     requires room { 0 < hand.old.room }
-    ensures line { has_line hand.old.core ≡ true → hand.new.core ≡ line_after (line_at hand.old.core.state.place hand.old.core) (place_at hand.old.core.state.place hand.old.core) hand.old.core found }
+    ensures line { has_line hand.old.core ≡ true → hand.new.core
+        ≡ line_after (line_at hand.old.core.state.place hand.old.core) (place_at hand.old.core.state.place hand.old.core) hand.old.core found }
     ensures none { has_line hand.old.core ≡ false → hand.new.core ≡ hand.old.core }
     ensures room { length hand.new.core.answers + hand.new.room ≡ length hand.old.core.answers + hand.old.room }
 {

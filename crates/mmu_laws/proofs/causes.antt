@@ -1,4 +1,5 @@
 pub mod ActorSaw
+pub mod EntryLoaded
 pub mod CauseOwn
 pub mod CausePlaces
 pub mod CauseSteps

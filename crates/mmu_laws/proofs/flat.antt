@@ -1,6 +1,7 @@
 pub mod AccessFlat
 pub mod EveryAnswer
 pub mod EveryHistory
+pub mod FaultNotes
 pub mod FaultFlat
 pub mod FindFlat
 pub mod FlatKept

@@ -7,7 +7,7 @@ use Rattle.core_views.specs.declared.topics.Topics.{Topics}
 use Rattle.part_steps.specs.declared.part_step.PartStep.{PartStep}
 use Rattle.part_steps.specs.declared.part_step.PartStep.TheVariants.{Exclude, Release, Unshare}
 use Rattle.part_steps.specs.StayTopics.{let_go, no_flush, unchecked}
-use Rattle.part_steps.specs.ControlTopics.{has_writer}
+use Rattle.part_steps.specs.ControlBits.{has_writer}
 use Rattle.mmu_core.specs.alone.OthersRest.{NoOtherHasLock, NoneHasLockAlone, OthersRest}
 use Rattle.mmu_core.specs.lines.ShareSteps.{share_part}
 use Rattle.mmu_core.specs.machine.Enabled.{mmu}

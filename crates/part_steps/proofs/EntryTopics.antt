@@ -26,7 +26,8 @@ no_table_if : (walk : TableWalk) → walk.level < 1 → is_in_table walk ≡ fal
 no_table_if walk below = grind (arith, nat_tests)
 
 -- An entry is loaded: the walk goes on where it has come to a table.
-pub entry_loaded : (z : Sizes) (k : Kind) (t : Topics) (found : ℕ) (walk : TableWalk) (i : ℕ) → kind_named k.code ≡ kind.Walk → 1 ≤ t.walk.level → i ≡ index_in_page z k.word → walk ≡ walked t.walk i found → record t { walk = walk } ≡ topics_after z k t found
+pub entry_loaded : (z : Sizes) (k : Kind) (t : Topics) (found : ℕ) (walk : TableWalk) (i : ℕ) → kind_named k.code ≡ kind.Walk → 1 ≤ t.walk.level
+    → i ≡ index_in_page z k.word → walk ≡ walked t.walk i found → record t { walk = walk } ≡ topics_after z k t found
 unfolding topics_after
 entry_loaded z k t found walk i named from at is =
     ap (λ (x : TableWalk). record t { walk = x }) (is ∙ ap (λ j. walked t.walk j found) at)
@@ -40,8 +41,10 @@ entry_not_loaded z k t found named below =
     ∙ sym (ap (λ (n : StepKind). topics_by n z k t found) named)
 
 -- An entry is exchanged.
-pub entry_exchanged : (z : Sizes) (k : Kind) (t : Topics) (found : ℕ) (walk : TableWalk) (owned : Option OwnedPage) (i : ℕ) → kind_named k.code ≡ kind.Swap → 1 ≤ t.walk.level → i ≡ index_in_page z k.word
-    → walk ≡ swapped (found == k.old) t.walk i k.new found → owned ≡ still_owned (found == k.old) t.walk k.new t.owned → record t { walk = walk; owned = owned } ≡ topics_after z k t found
+pub entry_exchanged : (z : Sizes) (k : Kind) (t : Topics) (found : ℕ) (walk : TableWalk) (owned : Option OwnedPage) (i : ℕ)
+    → kind_named k.code ≡ kind.Swap → 1 ≤ t.walk.level → i ≡ index_in_page z k.word
+    → walk ≡ swapped (found == k.old) t.walk i k.new found → owned ≡ still_owned (found == k.old) t.walk k.new t.owned
+    → record t { walk = walk; owned = owned } ≡ topics_after z k t found
 unfolding topics_after
 entry_exchanged z k t found walk owned i named from at is page =
     ap (λ (x : TableWalk). record t { walk = x; owned = owned }) (is ∙ ap (λ j. swapped (found == k.old) t.walk j k.new found) at)
@@ -62,11 +65,13 @@ entry_not_exchanged z k t found named below =
     ∙ sym (ap (λ (n : StepKind). topics_by n z k t found) named)
 
 -- The host word that was looked up is of this page.
-pub looked_at : (host : Option HostLook) (look : HostLook) (page : ℕ) → host ≡ Some look → look.page ≡ page → (word : ℕ) × (host ≡ Some (record { page = page; word = word }))
+pub looked_at : (host : Option HostLook) (look : HostLook) (page : ℕ) → host ≡ Some look → look.page ≡ page
+    → (word : ℕ) × (host ≡ Some (record { page = page; word = word }))
 looked_at host look page is same = (look.word, is ∙ ap Some (λ t. record { page = same t; word = look.word }))
 
 -- Its frame is one of the machine's.
 pub looked_frame : {gfn : ℕ} (h : Held) (t : Topics) → t ≡ h.topics → LookedUp gfn h.topics → PartRests h → host_frame (word_looked t.host) < 2 ^ 40
 looked_frame h t same U R =
     let looked = R.looked _ U.host in
-    subst (λ (x : Topics). host_frame (word_looked x.host) < 2 ^ 40) (sym same) (subst (λ o. host_frame (word_looked o) < 2 ^ 40) (sym U.host) (omega (arith, looked.1, R.sizes.frames.1)))
+    subst (λ (x : Topics). host_frame (word_looked x.host) < 2 ^ 40) (sym same)
+    (subst (λ o. host_frame (word_looked o) < 2 ^ 40) (sym U.host) (omega (arith, looked.1, R.sizes.frames.1)))

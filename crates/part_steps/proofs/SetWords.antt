@@ -28,12 +28,16 @@ put_at i id m ((k, n) ∷ es) = by (nat_cmp id k) refl (put_at i id m es)
     greater false it apart rest = rest
 
     by : (o : Ordering) → nat_cmp id k ≡ o → slot_at i (with_slot_at id m es) ≡ (if id == i then Some m else slot_at i es)
-        → slot_at i (match_ordering o ((id, m) ∷ (k, n) ∷ es) ((k, m) ∷ es) ((k, n) ∷ with_slot_at id m es)) ≡ (if id == i then Some m else if k == i then Some n else slot_at i es)
+        → slot_at i (match_ordering o ((id, m) ∷ (k, n) ∷ es) ((k, m) ∷ es) ((k, n) ∷ with_slot_at id m es))
+        ≡ (if id == i then Some m else if k == i then Some n else slot_at i es)
     by Less e rest = refl
-    by Equal e rest = let same : id ≡ k = grind (arith, nat_tests) in equal (k == i) ∙ ap (λ j. if j == i then Some m else if k == i then Some n else slot_at i es) (sym same)
+    by Equal e rest =
+        let same : id ≡ k = grind (arith, nat_tests) in
+        equal (k == i) ∙ ap (λ j. if j == i then Some m else if k == i then Some n else slot_at i es) (sym same)
     by Greater e rest = greater (k == i) (id == i) (λ here. grind (arith, nat_tests)) rest
 
-pub set_at : (i id : ℕ) (slot : Slot) (slots : MemorySlots) → slot_at i (after_set id slot slots) ≡ (if id == i then Some (record { slot = slot; logged = is_logged id slots }) else slot_at i slots)
+pub set_at : (i id : ℕ) (slot : Slot) (slots : MemorySlots)
+    → slot_at i (after_set id slot slots) ≡ (if id == i then Some (record { slot = slot; logged = is_logged id slots }) else slot_at i slots)
 set_at i id slot slots = put_at i id (record { slot = slot; logged = is_logged id slots }) slots
 
 -- The word of a slot has 64 bits, where the slot's numbers have.
@@ -62,14 +66,17 @@ word_small (Some m) i small = by (i == 0) (i == 1) (i == 2)
     by false false true = S.host
     by false false false = flags_small m.slot.read_only m.logged
 
-pub set_word_small : (id : ℕ) (slot : Slot) (slots : MemorySlots) (j : ℕ) → IsSmall slot → ((i : ℕ) (m : MemorySlot) → slot_at i slots ≡ Some m → IsSmall m.slot) → set_word (after_set id slot slots) j < 2 ^ 64
+pub set_word_small : (id : ℕ) (slot : Slot) (slots : MemorySlots) (j : ℕ) → IsSmall slot
+    → ((i : ℕ) (m : MemorySlot) → slot_at i slots ≡ Some m → IsSmall m.slot) → set_word (after_set id slot slots) j < 2 ^ 64
 set_word_small id slot slots j new_ old_ =
-    word_small (slot_at at (after_set id slot slots)) (j % 4) (λ m e. each (id == at) m (sym (put_at at id (record { slot = slot; logged = is_logged id slots }) slots) ∙ e))
+    word_small (slot_at at (after_set id slot slots)) (j % 4)
+    (λ m e. each (id == at) m (sym (put_at at id (record { slot = slot; logged = is_logged id slots }) slots) ∙ e))
   where
     at : ℕ
     at = j / 4
 
-    each : (here : Bool) (m : MemorySlot) → (if here then Some (record { slot = slot; logged = is_logged id slots }) else slot_at at slots) ≡ Some m → IsSmall m.slot
+    each : (here : Bool) (m : MemorySlot) → (if here then Some (record { slot = slot; logged = is_logged id slots }) else slot_at at slots) ≡ Some m
+        → IsSmall m.slot
     each true m e = subst (λ (s : MemorySlot). IsSmall s.slot) (some_slot e) new_
       where
         some_slot : {x y : MemorySlot} → Some x ≡ Some y → x ≡ y

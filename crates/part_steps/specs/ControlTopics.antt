@@ -1,5 +1,5 @@
 -- What words of the machine tell an actor: the lock's, a state word, the pool's map, the root, the published set, the invalidations'.
-use Rattle.std.specs.Prelude.{◌+◌, ◌-◌, ◌^◌, ℕ, Bool, true, false, ◌==◌, ◌&&◌, ◌||◌, nat_le, nat_lt, not, if◌then◌else◌, Some, None}
+use Rattle.std.specs.Prelude.{◌+◌, ◌-◌, ℕ, Bool, true, false, ◌==◌, ◌&&◌, ◌||◌, nat_lt, not, if◌then◌else◌, Some, None}
 use Rattle.core_views.specs.declared.place.SlotField.TheVariants as field
 use Rattle.core_views.specs.declared.sizes.Sizes.{Sizes}
 use Rattle.core_views.specs.declared.topics.Checked.{Checked}
@@ -11,51 +11,9 @@ use Rattle.core_views.specs.declared.topics.MapClaim.{MapClaim}
 use Rattle.core_views.specs.declared.topics.SlotSearch.{SlotSearch}
 use Rattle.core_views.specs.declared.topics.TableWalk.{TableWalk}
 use Rattle.core_views.specs.declared.topics.Topics.{Topics}
-use Rattle.spte_words.specs.declared.area.Area.{Area}
 use Rattle.spte_words.specs.declared.area.Area.TheVariants as area
-use Rattle.spte_words.specs.Areas.{number_of, place}
-use Rattle.spte_words.specs.Bits.{has_bit}
-use Rattle.part_steps.specs.Tasks.{map_of}
 use Rattle.part_steps.specs.StayTopics.{has_lock, is_loose, may_walk, may_search, kept_search}
-
--- Bit 63 of a lock word: a writer has it.
-abbrev pub writer : ℕ
-writer = 2 ^ 63
-
-abbrev pub has_writer : ℕ → Bool
-has_writer v = nat_le writer v
-
--- Bit 1 of a state word: the actor is in the guest or in a section; with bit 0 it is in the guest.
-abbrev pub section_bit : ℕ
-section_bit = 2
-
-abbrev pub guest_bits : ℕ
-guest_bits = 3
-
-abbrev pub in_section : ℕ → Bool
-in_section v = has_bit 1 v
-
--- Bit 2: a flush is asked for (vcpu-requests.rst, KVM_REQ_TLB_FLUSH).
-abbrev pub request_bit : ℕ
-request_bit = 4
-
--- The actor is in the guest, and has yet to make the flush that is asked for.
-abbrev pub has_to_flush : ℕ → Bool
-has_to_flush v = has_bit 0 v && has_bit 2 v
-
--- the lone words of the machine's control stand first, each at the number of its area
-abbrev pub is_word_of : Area → ℕ → Bool
-is_word_of a word = word == number_of a
-
--- where the words of the pool's map begin, and where they end
-abbrev pub map_begins : Sizes → ℕ
-map_begins z = place (map_of z) area.PoolMap 0
-
-abbrev pub map_ends : Sizes → ℕ
-map_ends z = place (map_of z) area.FrameMap 0
-
-abbrev pub is_pool_map : Sizes → ℕ → Bool
-is_pool_map z word = nat_le (map_begins z) word && nat_lt word (map_ends z)
+use Rattle.part_steps.specs.ControlBits.{is_pool_map, is_word_of, map_begins}
 
 -- The root was loaded: a walk begins at it, where its page is held.
 abbrev pub at_root : Bool → TableWalk → ℕ → TableWalk
@@ -149,7 +107,9 @@ takes_snapshot word hold = is_word_of area.Seq word && is_loose hold
 abbrev pub controlled : Sizes → ℕ → Topics → ℕ → Topics
 controlled z word t v = record t {
   walk = if is_word_of area.Root word then at_root (may_walk t.stay t.hold) t.walk v else t.walk;
-  search = if is_word_of area.Slots word then at_set (may_search t.stay t.hold) t.search v else if takes_snapshot word t.hold then kept_search false t.search else t.search;
+  search =
+      if is_word_of area.Slots word then at_set (may_search t.stay t.hold) t.search v else if takes_snapshot word t.hold
+      then kept_search false t.search else t.search;
   host = if takes_snapshot word t.hold then None else t.host;
   invalidations = noted word t.hold t.invalidations v;
   claim = at_word z word t.claim v;

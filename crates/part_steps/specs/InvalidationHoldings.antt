@@ -70,8 +70,8 @@ pub record MayOpen (t : Topics) : Type 0 where
   pub within : is_within_range t.invalidations.own t.invalidations ≡ true
   pub unasked : t.flush ≡ no_flush
 
--- What may be stored as the count of open invalidations: it was loaded under the lock that the actor has alone, outside of every section, and it is one more with
--- the actor's own, or one less, once the sequence number is raised.
+-- What may be stored as the count of open invalidations: it was loaded under the lock that the actor has alone, outside of every section, and it is
+-- one more with the actor's own, or one less, once the sequence number is raised.
 pub record MayCount (count : ℕ) (t : Topics) : Type 0 where
   pub alone : t.hold ≡ Exclusive
   pub outside : t.stay ≡ Outside

@@ -5,6 +5,7 @@ pub mod StayTopics
 pub mod WalkTopics
 pub mod PageTopics
 pub mod InvalidationRange
+pub mod ControlBits
 pub mod ControlTopics
 pub mod TopicSteps
 pub mod PartTasks

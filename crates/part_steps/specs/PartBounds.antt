@@ -12,7 +12,7 @@ use Rattle.spte_words.specs.Areas.{words_of_bits}
 use Rattle.core_views.specs.Sizes.{AreSizes, actors_of}
 use Rattle.spte_words.specs.HostWords.{host_frame}
 use Rattle.part_steps.specs.PartTasks.{own_index, table_page}
-use Rattle.part_steps.specs.ControlTopics.{has_writer}
+use Rattle.part_steps.specs.ControlBits.{has_writer}
 
 -- Its leaf is one of a level that has leaves, 1 to 3.
 abbrev pub IsAtLeafLevel : Translation → Type 0

@@ -15,7 +15,8 @@ use Rattle.spte_words.specs.Entries.{kind_of}
 use Rattle.part_steps.specs.declared.part_step.PartStep.{PartStep}
 use Rattle.part_steps.specs.declared.part_step.PartStep.TheVariants as part
 use Rattle.part_steps.specs.PartTasks.{own_index, word_looked}
-use Rattle.part_steps.specs.PartHoldings.{next_watched, OwnsPage, HasToFill, HasRoleToSet, HoldsSet, IsOver, OwnsTable, SawEntry, MayEnter, MayPublish, MayGiveOld}
+use Rattle.part_steps.specs.PartHoldings.{next_watched, OwnsPage, HasToFill, HasRoleToSet, HoldsSet, IsOver, OwnsTable, SawEntry, MayEnter}
+use Rattle.part_steps.specs.PartHoldings.{MayPublish, MayGiveOld}
 use Rattle.part_steps.specs.InvalidationHoldings.{revises, MayAsk, MayChange, MayCount, MayEndInvalidation, MaySetEnd, MaySetStart}
 use Rattle.part_steps.specs.InvalidationRange.{has_found, page_looked}
 use Rattle.part_steps.specs.StayTopics.{is_alone}
@@ -70,7 +71,8 @@ PartNeeds (part.Fill value) h = HasToFill h.topics × (value < 2 ^ 64)
 PartNeeds (part.Role value) h = HasRoleToSet h.topics × (value < 2 ^ 64)
 PartNeeds part.Give h = OwnsPage h.topics
 PartNeeds part.Slots h = Unit {0}
-PartNeeds part.Slot h = HoldsSet h.topics × (h.topics.search.id ≤ 31) × ((is_alone h.topics.hold && has_found (page_looked h.topics.host) h.topics.search) ≡ false)
+PartNeeds part.Slot h =
+    HoldsSet h.topics × (h.topics.search.id ≤ 31) × ((is_alone h.topics.hold && has_found (page_looked h.topics.host) h.topics.search) ≡ false)
 PartNeeds part.Seq h = Unit {0}
 PartNeeds part.Count h = Unit {0}
 PartNeeds part.RangeStart h = Unit {0}
@@ -78,7 +80,8 @@ PartNeeds part.RangeEnd h = Unit {0}
 PartNeeds part.Root h = Unit {0}
 PartNeeds (part.Walk gfn) h = IsOver gfn h.topics.walk
 PartNeeds (part.Link gfn) h =
-    MayEnter gfn h.topics × (2 ≤ h.topics.walk.level) × (kind_of h.topics.walk.level h.topics.walk.entry ≡ entry_kind.Absent) × OwnsTable (h.topics.walk.level - 1) h.topics
+    MayEnter gfn h.topics × (2 ≤ h.topics.walk.level) × (kind_of h.topics.walk.level h.topics.walk.entry ≡ entry_kind.Absent)
+    × OwnsTable (h.topics.walk.level - 1) h.topics
 PartNeeds (part.Leaf gfn) h = MayEnter gfn h.topics × (h.topics.walk.level ≡ 1)
 PartNeeds (part.Host page) h = (page < h.state.sizes.pages) × (is_alone h.topics.hold ≡ false)
 PartNeeds (part.Watch index) h =
@@ -90,7 +93,9 @@ PartNeeds (part.SetStart gfn) h = MaySetStart gfn h.topics × (gfn < 2 ^ 64)
 PartNeeds (part.SetEnd gfn) h = MaySetEnd gfn h.topics × (gfn < 2 ^ 64)
 PartNeeds (part.SetCount count) h = MayCount count h.topics
 PartNeeds (part.SetSeq seq) h = MayEndInvalidation h.topics × (seq ≡ h.topics.invalidations.seq + 1)
-PartNeeds (part.Zap gfn) h = (h.topics.hold ≡ Exclusive) × (h.topics.stay ≡ Outside) × SawEntry gfn h.topics.walk × (kind_of h.topics.walk.level h.topics.walk.entry ≡ entry_kind.Leaf)
+PartNeeds (part.Zap gfn) h =
+    (h.topics.hold ≡ Exclusive) × (h.topics.stay ≡ Outside) × SawEntry gfn h.topics.walk
+    × (kind_of h.topics.walk.level h.topics.walk.entry ≡ entry_kind.Leaf)
 PartNeeds (part.Ask index) h = MayAsk index h
 PartNeeds (part.Await index) h = (index < h.topics.flush.asked) × (index ≡ h.topics.flush.awaited) × (h.topics.stay ≡ Outside)
 PartNeeds (part.Change new_) h = MayChange h × (revises (word_looked h.topics.host) new_ ≡ true)

@@ -22,7 +22,7 @@ pub use Rattle.part_steps.specs.InvalidationRange.{page_looked}
 use Rattle.part_steps.specs.SlotWords.{leaf_of, slot_index}
 use Rattle.part_steps.specs.Tasks.{kind_of_task, loads, map_of}
 use Rattle.part_steps.specs.PageTopics.{tried_bit}
-use Rattle.part_steps.specs.ControlTopics.{guest_bits, request_bit, section_bit, writer}
+use Rattle.part_steps.specs.ControlBits.{guest_bits, request_bit, section_bit, writer}
 
 -- the number that keeps all bits but these
 abbrev pub all_but : ℕ → ℕ
@@ -83,7 +83,14 @@ leaf_written t = leaf_of t.search.slot (word_looked t.host)
 
 -- an exchange of a guest frame's entry in the table that the walk has come to, where it is as it was loaded
 abbrev pub entry_task : ℕ → ℕ → TableWalk → ℕ → Task
-entry_task gfn new_ walk note = record { kind = kind.Swap; area = area.Pool; index = pool_index (table_page walk) (entry_index gfn walk.level); expected = walk.entry; written = new_; may_end = note }
+entry_task gfn new_ walk note = record {
+  kind = kind.Swap;
+  area = area.Pool;
+  index = pool_index (table_page walk) (entry_index gfn walk.level);
+  expected = walk.entry;
+  written = new_;
+  may_end = note;
+}
 
 -- a step that stores, or an operation with this number
 abbrev pub works : StepKind → Area → ℕ → ℕ → ℕ → Task
@@ -127,7 +134,8 @@ part_task (part.SetSeq seq) own t note = works kind.Set area.Seq 0 seq note
 part_task (part.Zap gfn) own t note = works kind.Zap area.Pool (pool_index (table_page t.walk) (entry_index gfn t.walk.level)) 0 note
 part_task (part.Ask index) own t note = works kind.Ask area.State index request_bit note
 part_task (part.Await index) own t note = loads kind.Await area.State index note
-part_task (part.Change new_) own t note = record { kind = kind.Change; area = area.Host; index = page_looked t.host; expected = word_looked t.host; written = new_; may_end = note }
+part_task (part.Change new_) own t note =
+    record { kind = kind.Change; area = area.Host; index = page_looked t.host; expected = word_looked t.host; written = new_; may_end = note }
 
 -- the place of the hand's actor
 abbrev pub own_index : Held → ℕ

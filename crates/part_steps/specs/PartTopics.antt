@@ -11,7 +11,9 @@ use Rattle.part_steps.specs.PartTasks.{entry_index, leaf_written, link_written, 
 use Rattle.part_steps.specs.StayTopics.{begun, has_lock, is_loose, kept_search, let_go, may_search, may_walk, no_flush, unchecked}
 use Rattle.part_steps.specs.WalkTopics.{gone_down, still_owned, swapped, walked}
 use Rattle.part_steps.specs.PageTopics.{claimed, filled_more, given_back, published, searched, tried}
-use Rattle.part_steps.specs.ControlTopics.{at_root, at_set, count_checked, end_known, has_to_flush, has_writer, in_section, range_checked, seq_checked, start_checked, start_known}
+use Rattle.part_steps.specs.ControlTopics.{at_root, at_set, count_checked, end_known, range_checked}
+use Rattle.part_steps.specs.ControlBits.{has_to_flush, has_writer, in_section}
+use Rattle.part_steps.specs.ControlTopics.{seq_checked, start_checked, start_known}
 
 -- The sequence number was loaded: without the lock it is the snapshot, with which a look-up begins; else the check's last word.
 abbrev pub sequenced : Bool → Topics → ℕ → Topics
@@ -38,7 +40,8 @@ part_topics part.Begin t v = begun Section t
 part_topics part.End t v = begun Outside t
 part_topics part.Share t v = record t { hold = if has_writer v then Owing v else Shared; invalidations = unchecked t.invalidations }
 part_topics part.Unshare t v = let_go t
-part_topics part.Exclude t v = record t { hold = if v == 0 then Exclusive else t.hold; invalidations = unchecked t.invalidations; flush = if v == 0 then no_flush else t.flush }
+part_topics part.Exclude t v =
+    record t { hold = if v == 0 then Exclusive else t.hold; invalidations = unchecked t.invalidations; flush = if v == 0 then no_flush else t.flush }
 part_topics part.Release t v = let_go t
 part_topics (part.Map word) t v = record t { claim = record { at = word + (if v == 0 then 1 else 0); seen = v } }
 part_topics part.Claim t v = record t { owned = claimed t.claim v; claim = tried t.claim v }
@@ -60,7 +63,8 @@ part_topics (part.Watch index) t v = record t { watched = index + (if in_section
 part_topics part.Publish t v = published t v
 part_topics part.Clear t v = record t { owned = filled_more t.owned v }
 part_topics part.GiveOld t v = given_back t
-part_topics (part.SetStart gfn) t v = record t { invalidations = record t.invalidations { start = v; checked = start_known t.invalidations.checked; own = invalidated t } }
+part_topics (part.SetStart gfn) t v =
+    record t { invalidations = record t.invalidations { start = v; checked = start_known t.invalidations.checked; own = invalidated t } }
 part_topics (part.SetEnd gfn) t v = record t { invalidations = record t.invalidations { end = v; checked = end_known t.invalidations.checked } }
 part_topics (part.SetCount count) t v =
     record t { invalidations = record t.invalidations { count = v; checked = checked.Nothing; opened = nat_lt t.invalidations.count v; raised = false } }

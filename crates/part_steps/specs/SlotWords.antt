@@ -57,7 +57,8 @@ NoneBelow gfn pool set id = (i : ℕ) → i < id → live_at pool set i ≡ true
 
 -- No live slot of the set has a page for the access: each that has the guest frame is read-only, and the access is a write.
 abbrev pub NoneHasPage : ℕ → Bool → (ℕ → ℕ) → ℕ → Type 0
-NoneHasPage gfn write pool set = (i : ℕ) → i ≤ 31 → live_at pool set i ≡ true → contains gfn (slot_at pool set i) ≡ true → (write && (slot_at pool set i).read_only) ≡ true
+NoneHasPage gfn write pool set =
+    (i : ℕ) → i ≤ 31 → live_at pool set i ≡ true → contains gfn (slot_at pool set i) ≡ true → (write && (slot_at pool set i).read_only) ≡ true
 
 -- the host page behind a guest frame of the slot
 abbrev pub page_of : Slot → ℕ → ℕ

@@ -65,8 +65,19 @@ no_flush = record { asked = 0; awaited = 0 }
 
 -- what is held where the actor goes into the guest, into a section, or out of them: of tables, slots and look-ups nothing
 abbrev pub begun : Stay → Topics → Topics
-begun stay t = record t { stay = stay; walk = kept_walk false t.walk; search = kept_search false t.search; host = None; invalidations = forgotten t.invalidations }
+begun stay t = record t {
+  stay = stay;
+  walk = kept_walk false t.walk;
+  search = kept_search false t.search;
+  host = None;
+  invalidations = forgotten t.invalidations;
+}
 
 -- what is held without the lock: of tables and slots nothing, unless the actor is in the guest or in a section
 abbrev pub let_go : Topics → Topics
-let_go t = record t { hold = Loose; walk = kept_walk (not (is_outside t.stay)) t.walk; search = kept_search (is_section t.stay) t.search; invalidations = unchecked t.invalidations }
+let_go t = record t {
+  hold = Loose;
+  walk = kept_walk (not (is_outside t.stay)) t.walk;
+  search = kept_search (is_section t.stay) t.search;
+  invalidations = unchecked t.invalidations;
+}

@@ -16,7 +16,8 @@ use Rattle.part_steps.specs.InvalidationRange.{invalidated}
 use Rattle.part_steps.specs.StayTopics.{unchecked, begun, let_go, no_flush}
 use Rattle.part_steps.specs.WalkTopics.{gone_down, is_in_table, walked, swapped, still_owned}
 use Rattle.part_steps.specs.PageTopics.{searched, claimed, tried, filled_more, given_back, published}
-use Rattle.part_steps.specs.ControlTopics.{has_to_flush, has_writer, in_section, controlled, stored}
+use Rattle.part_steps.specs.ControlTopics.{controlled, stored}
+use Rattle.part_steps.specs.ControlBits.{has_to_flush, has_writer, in_section}
 
 -- where the host words begin, and the words of the pool
 abbrev pub host_begins : Sizes → ℕ
@@ -41,7 +42,8 @@ topics_by kind.Slot z k t v = record t { search = if is_some t.search.set then s
 topics_by kind.Host z k t v = record t { host = Some (record { page = k.word - host_begins z; word = v }) }
 topics_by kind.Share z k t v = record t { hold = if has_writer v then Owing v else Shared; invalidations = unchecked t.invalidations }
 topics_by kind.Unshare z k t v = let_go t
-topics_by kind.Exclude z k t v = record t { hold = if v == 0 then Exclusive else t.hold; invalidations = unchecked t.invalidations; flush = if v == 0 then no_flush else t.flush }
+topics_by kind.Exclude z k t v =
+    record t { hold = if v == 0 then Exclusive else t.hold; invalidations = unchecked t.invalidations; flush = if v == 0 then no_flush else t.flush }
 topics_by kind.Release z k t v = let_go t
 topics_by kind.Claim z k t v = record t { owned = claimed t.claim v; claim = tried t.claim v }
 topics_by kind.Fill z k t v = record t { owned = filled_more t.owned v }

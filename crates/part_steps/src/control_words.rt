@@ -1,7 +1,7 @@
 //! What the lone words of the machine's control say, and the state words.
 ghost use Rattle.std.specs.Prelude.{◌≡◌};
 ghost use Rattle.part_steps.specs.StayTopics.{has_lock};
-ghost use Rattle.part_steps.specs.ControlTopics.{has_to_flush, has_writer, in_section, is_word_of};
+ghost use Rattle.part_steps.specs.ControlBits.{has_to_flush, has_writer, in_section, is_word_of};
 
 use core_views::Hold;
 use spte_words::Area;

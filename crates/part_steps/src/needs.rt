@@ -68,7 +68,8 @@ fn is_behind(page: u64, slot: &Slot, gfn: u64) -> bool
 
 // Whether a slot with the guest frame, and the host word of its page, were loaded.
 fn looked_up(gfn: u64, search: &SlotSearch, host: Option<HostLook>) -> bool
-    ensures { result ≡ true → (search.now.whole ≡ true) × (contains gfn search.now.slot ≡ true) × ((word : ℕ) × (host ≡ Some (record { page = page_of search.now.slot gfn; word = word }))) }
+    ensures { result ≡ true → (search.now.whole ≡ true) × (contains gfn search.now.slot ≡ true)
+        × ((word : ℕ) × (host ≡ Some (record { page = page_of search.now.slot gfn; word = word }))) }
 {
     let slot = &search.slot;
     let Some(look) = host else {

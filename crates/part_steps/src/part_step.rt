@@ -6,14 +6,15 @@ ghost use Rattle.core_views.specs.declared.topics.OwnedPage.{OwnedPage};
 ghost use Rattle.spte_words.specs.declared.area.Area.TheVariants as Area;
 ghost use Rattle.spte_words.specs.Areas.{IsWordMap, pool_index, size_of};
 ghost use Rattle.part_steps.specs.PartBounds.{PartRests};
-ghost use Rattle.part_steps.specs.PartTasks.{all_but, entry_index, entry_task, leaf_written, own_index, page_left, page_looked, page_owned, part_kind, part_task, set_held, table_page, word_looked, words_filled, works};
+ghost use Rattle.part_steps.specs.PartTasks.{all_but, entry_index, entry_task, leaf_written, own_index, page_left, page_looked, page_owned};
+ghost use Rattle.part_steps.specs.PartTasks.{part_kind, part_task, set_held, table_page, word_looked, words_filled, works};
 ghost use Rattle.part_steps.specs.PartSteps.{PartNeeds};
 ghost use Rattle.part_steps.specs.SlotWords.{slot_index};
 ghost use Rattle.spte_words.specs.Entries.{level_span, table_word};
 ghost use Rattle.spte_words.specs.HostWords.{host_frame};
 ghost use Rattle.part_steps.specs.Tasks.{loads, map_of};
 ghost use Rattle.part_steps.specs.PageTopics.{tried_bit};
-ghost use Rattle.part_steps.specs.ControlTopics.{guest_bits, section_bit};
+ghost use Rattle.part_steps.specs.ControlBits.{guest_bits, section_bit};
 ghost use Rattle.part_steps.specs.declared.part_step.PartStep.TheVariants.{Enter, Leave, Begin, End, Clear};
 
 use crate::control_words::{GUEST_BITS, REQUEST_BIT, SECTION_BIT, WRITER};
@@ -333,7 +334,8 @@ fn zap(map: &WordMap, walk: &TableWalk, gfn: u64, note: u64) -> Task
 // Exchanges the host word that was looked up.
 fn change(host: Option<HostLook>, new: u64, note: u64) -> Task
     requires { is_some host ≡ true }
-    ensures { result ≡ record { kind = StepKind.Change; area = Area.Host; index = page_looked host; expected = word_looked host; written = new; may_end = note } }
+    ensures { result
+        ≡ record { kind = StepKind.Change; area = Area.Host; index = page_looked host; expected = word_looked host; written = new; may_end = note } }
 {
     let Some(HostLook { page, word }) = host else {
         unreachable!()

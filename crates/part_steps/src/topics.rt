@@ -10,7 +10,8 @@ ghost use Rattle.spte_words.specs.declared.area.Area.TheVariants as Area;
 ghost use Rattle.part_steps.specs.StayTopics.{begun, let_go, may_search, may_walk};
 ghost use Rattle.part_steps.specs.WalkTopics.{gone_down, is_in_table, still_owned, swapped, walked};
 ghost use Rattle.part_steps.specs.PageTopics.{claimed, filled_more, is_won, published, searched, tried, tried_bit};
-ghost use Rattle.part_steps.specs.ControlTopics.{at_word, checked_after, controlled, count_checked, end_known, noted, range_checked, seq_checked, start_checked, start_known, stored, takes_snapshot};
+ghost use Rattle.part_steps.specs.ControlTopics.{at_word, checked_after, controlled, count_checked, end_known, noted, range_checked, seq_checked};
+ghost use Rattle.part_steps.specs.ControlTopics.{start_checked, start_known, stored, takes_snapshot};
 ghost use Rattle.part_steps.specs.TopicSteps.{HasRoom, host_begins, index_in_page, topics_after};
 
 use crate::control_words::{has_lock, has_to_flush, has_writer, in_section, is_word_of};

@@ -25,7 +25,8 @@ const FILLED: u64 = 2 + 513;
 const SET: u64 = FILLED + 4 + 2 + 2;
 
 fn header(alloc: Global) -> Result<Header, NoMemory>
-    ensures { IfOk result (λ h. h ≡ record { version = 1; vcpus = 1; workers = 0; pages = 64; frames = 64; words = 1; pool = 4; cache = 1; manual = 0; hosts = 0 ∷ [] }) }
+    ensures { IfOk result (λ h. h
+        ≡ record { version = 1; vcpus = 1; workers = 0; pages = 64; frames = 64; words = 1; pool = 4; cache = 1; manual = 0; hosts = 0 ∷ [] }) }
 {
     Ok(Header {
         version: 1,

@@ -12,7 +12,8 @@ unfolding content_index
 content_within m frame word in_frames in_words = omega (arith, mul-add-lt frame m.words word m.frames in_frames in_words)
 
 -- One index is of one frame and word.
-pub same_content : (m : WordMap) (frame other word second : ℕ) → word < m.words → second < m.words → content_index m frame word ≡ content_index m other second → (frame ≡ other) × (word ≡ second)
+pub same_content : (m : WordMap) (frame other word second : ℕ) → word < m.words → second < m.words
+    → content_index m frame word ≡ content_index m other second → (frame ≡ other) × (word ≡ second)
 unfolding content_index
 same_content m frame other word second in_words second_in e = same_from_place frame word other second m.words in_words second_in (omega (arith, e))
 

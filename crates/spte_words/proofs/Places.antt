@@ -5,7 +5,8 @@ use Rattle.std.proofs.lemmas.Bool.{cases_lt, cases_order}
 use Rattle.std.proofs.lemmas.List.Sums.{sum_by-cons, sum_by_more}
 use Rattle.std.proofs.lemmas.Option.{slice_get_within, get_or_from_slice_get}
 use Rattle.spte_words.specs.declared.area.Area.{Area}
-use Rattle.spte_words.specs.declared.area.Area.TheVariants.{Root, Slots, Seq, Count, RangeStart, RangeEnd, Lock, Pause, State, PoolMap, FrameMap, Log, Host, Role, Pool, Content}
+use Rattle.spte_words.specs.declared.area.Area.TheVariants.{Root, Slots, Seq, Count, RangeStart, RangeEnd, Lock, Pause, State, PoolMap, FrameMap, Log}
+use Rattle.spte_words.specs.declared.area.Area.TheVariants.{Host, Role, Pool, Content}
 use Rattle.spte_words.specs.declared.word_map.WordMap.{WordMap}
 use Rattle.spte_words.specs.Areas.{IsWordMap, areas, number_of, size_of, place, total, StandsSomewhere}
 
@@ -106,12 +107,21 @@ last_place m = omega arith
 
 -- Each word below the total stands in some area.
 pub word_stands : (m : WordMap) (word : ℕ) → word < total m → StandsSomewhere m word
-word_stands m word below = last (on Pool Content refl (on Role Pool refl (on Host Role refl (on Log Host refl (on FrameMap Log refl (on PoolMap FrameMap refl (on State PoolMap refl (on Pause State refl (on Lock Pause refl (on RangeEnd Lock refl (on RangeStart RangeEnd refl (on Count RangeStart refl (on Seq Count refl (on Slots Seq refl (on Root Slots refl (inr (omega (arith, first_place m))))))))))))))))))
+word_stands m word below =
+    last (on Pool Content refl (on Role Pool refl (on Host Role refl (on Log Host refl (on FrameMap Log refl
+    (on PoolMap FrameMap refl (on State PoolMap refl (on Pause State refl (on Lock Pause refl (on RangeEnd Lock refl (on RangeStart RangeEnd refl
+    (on Count RangeStart refl (on Seq Count refl (on Slots Seq refl (on Root Slots refl (inr (omega (arith, first_place m))))))))))))))))))
   where
     here : (a : Area) → place m a 0 ≤ word → word < place m a (size_of m a) → StandsSomewhere m word
-    here a from to = record { area = a; i = word - place m a 0; within = omega (arith, place_at m a (size_of m a)); at = omega (arith, place_at m a (word - place m a 0)) }
+    here a from to = record {
+      area = a;
+      i = word - place m a 0;
+      within = omega (arith, place_at m a (size_of m a));
+      at = omega (arith, place_at m a (word - place m a 0));
+    }
 
-    split : (a b : Area) → number_of b ≡ number_of a + 1 → place m a 0 ≤ word → (word < place m a (size_of m a)) ⊎ (place m a (size_of m a) ≤ word) → StandsSomewhere m word ⊎ (place m b 0 ≤ word)
+    split : (a b : Area) → number_of b ≡ number_of a + 1 → place m a 0 ≤ word → (word < place m a (size_of m a)) ⊎ (place m a (size_of m a) ≤ word)
+        → StandsSomewhere m word ⊎ (place m b 0 ≤ word)
     split a b after from (inl to) = inl (here a from to)
     split a b after from (inr past) = inr (omega (arith, next_place m a b after))
 

@@ -27,4 +27,5 @@ lowest false half = even ((0 + 2 * half) % 2) (omega arith)
 
 -- the bit at the place
 pub reads_bit : (place word low high : ℕ) (set : Bool) → low < 2 ^ place → word ≡ (one_if set + 2 * high) * 2 ^ place + low → has_bit place word ≡ set
-reads_bit place word low high set small is = ap (λ w. w / 2 ^ place % 2 == 1) is ∙ ap (λ w. w % 2 == 1) (div-mul-add (one_if set + 2 * high) (2 ^ place) low small) ∙ lowest set high
+reads_bit place word low high set small is =
+    ap (λ w. w / 2 ^ place % 2 == 1) is ∙ ap (λ w. w % 2 == 1) (div-mul-add (one_if set + 2 * high) (2 ^ place) low small) ∙ lowest set high

@@ -16,14 +16,20 @@ flags_fit live read_only logged = omega (arith, flags_sum live read_only logged,
 -- their bits: live
 pub flags_are_live : (live read_only logged : Bool) → flags_live (flags_word live read_only logged) ≡ live
 unfolding flags_live
-flags_are_live live read_only logged = reads_bit 0 (flags_word live read_only logged) 0 (one_if read_only + one_if logged * 2) live (omega arith) (omega (arith, flags_sum live read_only logged))
+flags_are_live live read_only logged =
+    reads_bit 0 (flags_word live read_only logged) 0 (one_if read_only + one_if logged * 2) live (omega arith)
+    (omega (arith, flags_sum live read_only logged))
 
 -- read-only
 pub flags_are_read_only : (live read_only logged : Bool) → flags_read_only (flags_word live read_only logged) ≡ read_only
 unfolding flags_read_only
-flags_are_read_only live read_only logged = reads_bit 1 (flags_word live read_only logged) (one_if live) (one_if logged) read_only (omega (arith, one_small live)) (omega (arith, flags_sum live read_only logged))
+flags_are_read_only live read_only logged =
+    reads_bit 1 (flags_word live read_only logged) (one_if live) (one_if logged) read_only (omega (arith, one_small live))
+    (omega (arith, flags_sum live read_only logged))
 
 -- logged
 pub flags_are_logged : (live read_only logged : Bool) → flags_logged (flags_word live read_only logged) ≡ logged
 unfolding flags_logged
-flags_are_logged live read_only logged = reads_bit 2 (flags_word live read_only logged) (one_if live + one_if read_only * 2) 0 logged (omega (arith, one_small live, one_small read_only)) (omega (arith, flags_sum live read_only logged))
+flags_are_logged live read_only logged =
+    reads_bit 2 (flags_word live read_only logged) (one_if live + one_if read_only * 2) 0 logged (omega (arith, one_small live, one_small read_only))
+    (omega (arith, flags_sum live read_only logged))

@@ -2,7 +2,8 @@
 use Rattle.std.specs.Prelude.{◌+◌, ◌*◌, ◌/◌, ◌<◌, ◌≤◌, ◌≡◌, ℕ, List, [], ◌∷◌, take}
 use Rattle.std.specs.List.{sum_by}
 use Rattle.spte_words.specs.declared.area.Area.{Area}
-use Rattle.spte_words.specs.declared.area.Area.TheVariants.{Root, Slots, Seq, Count, RangeStart, RangeEnd, Lock, Pause, State, PoolMap, FrameMap, Log, Host, Role, Pool, Content}
+use Rattle.spte_words.specs.declared.area.Area.TheVariants.{Root, Slots, Seq, Count, RangeStart, RangeEnd, Lock, Pause, State, PoolMap, FrameMap, Log}
+use Rattle.spte_words.specs.declared.area.Area.TheVariants.{Host, Role, Pool, Content}
 use Rattle.spte_words.specs.declared.word_map.WordMap.{WordMap}
 
 -- the bounds of a machine; with them it has fewer than 2 ^ 32 words

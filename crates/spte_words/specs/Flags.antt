@@ -1,4 +1,5 @@
--- Memory slots in a pool page (api.rst, KVM_SET_USER_MEMORY_REGION): four words a slot, its base, pages, host page and flags. Flags: bit 0 live, bit 1 read-only, bit 2 logged.
+-- Memory slots in a pool page (api.rst, KVM_SET_USER_MEMORY_REGION): four words a slot, its base, pages, host page and flags. Flags: bit 0 live, bit
+-- 1 read-only, bit 2 logged.
 use Rattle.std.specs.Prelude.{◌+◌, ℕ, Bool}
 use Rattle.spte_words.specs.Bits.{has_bit, bit_if}
 

@@ -4,7 +4,8 @@ use Rattle.spte_words.specs.declared.area.Area.{Area}
 use Rattle.spte_words.specs.declared.area.Area.TheVariants.{Root, Host, Pool, Content}
 use Rattle.spte_words.specs.declared.spte_kind.SpteKind.TheVariants.{Absent, Frozen, Leaf, Table}
 use Rattle.spte_words.specs.declared.word_map.WordMap.{WordMap}
-use Rattle.spte_words.specs.Entries.{absent_word, frozen_word, table_word, leaf_word, frame_in, can_write, host_writable, mmu_writable, kind_of, with_write, without_write, child_word, level_span}
+use Rattle.spte_words.specs.Entries.{absent_word, frozen_word, table_word, leaf_word, frame_in, can_write, host_writable, mmu_writable, kind_of}
+use Rattle.spte_words.specs.Entries.{with_write, without_write, child_word, level_span}
 use Rattle.spte_words.specs.HostWords.{host_word, host_present, host_allows_write, host_level, host_frame}
 use Rattle.spte_words.specs.Flags.{flags_word, flags_live, flags_read_only, flags_logged}
 use Rattle.spte_words.specs.Areas.{IsWordMap, areas, number_of, size_of, place, total, content_index, pool_index, StandsSomewhere}

@@ -1,4 +1,6 @@
-ghost use Rattle.spte_words.specs.Laws.{LeavesTell, LinksTell, OthersTell, KindsDiffer, WriteIsOneBit, ChildrenAreLeaves, RunsNest, ExampleEntries, HostWordsTell, FirstHostWords, FlagsTell, AreasFollow, PlacesDiffer, PlacesFill, PlacesFit, ContentIndicesDiffer, PoolIndicesDiffer, ExamplePlaces};
+ghost use Rattle.spte_words.specs.Laws.{LeavesTell, LinksTell, OthersTell, KindsDiffer, WriteIsOneBit, ChildrenAreLeaves, RunsNest, ExampleEntries};
+ghost use Rattle.spte_words.specs.Laws.{HostWordsTell, FirstHostWords, FlagsTell, AreasFollow, PlacesDiffer, PlacesFill, PlacesFit};
+ghost use Rattle.spte_words.specs.Laws.{ContentIndicesDiffer, PoolIndicesDiffer, ExamplePlaces};
 
 /// Law: each reader of an entry gives back what the entry was made of, entries
 /// of different kinds are different words, and write, children and runs are

@@ -1,5 +1,6 @@
 ghost use Rattle.std.specs.Prelude.{◌≡◌, ℕ, ◌+◌, ◌<◌, ◌≤◌, ◌^◌};
-ghost use Rattle.spte_words.specs.Entries.{absent_word, frozen_word, table_word, leaf_word, mapped_frame, frame_in, can_write, host_writable, mmu_writable, kind_of, with_write, without_write, child_word, level_span};
+ghost use Rattle.spte_words.specs.Entries.{absent_word, frozen_word, table_word, leaf_word, mapped_frame, frame_in, can_write, host_writable};
+ghost use Rattle.spte_words.specs.Entries.{mmu_writable, kind_of, with_write, without_write, child_word, level_span};
 
 use crate::SpteKind;
 use crate::bit::bit_if;

@@ -36,7 +36,8 @@ pub answers : (w : World Held) (a note found : ℕ) (step : PartStep) (h : Held)
     → answered mmu w (part_kind h step note) ≡ found → Answers step note found h w
 answers w a note found step h has N is =
     let needs : PartNeeds step (hand_in mmu w a) = subst (λ (x : Held). PartNeeds step x) (sym has.is) N in
-    let of_its : Answers step note (answered mmu w (part_kind (hand_in mmu w a) step note)) (hand_in mmu w a) w = ∥∥₁_elim has.reached (hlevel props) (λ r. answers_in w a note step r has.there needs) in
+    let of_its : Answers step note (answered mmu w (part_kind (hand_in mmu w a) step note)) (hand_in mmu w a) w =
+    ∥∥₁_elim has.reached (hlevel props) (λ r. answers_in w a note step r has.there needs) in
     sym is ∙ subst (λ (x : Held). Answers step note (answered mmu w (part_kind x step note)) x w) has.is of_its
 
 answers_told : (before : Option (World Held)) (a note found : ℕ) (step : PartStep) (h : Held) (after : Option (World Held))

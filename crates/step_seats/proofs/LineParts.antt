@@ -21,7 +21,8 @@ use Rattle.mmu_core.proofs.machine.Which.{enabled_is}
 use Rattle.mmu_core.proofs.words.PartFits.{part_small, part_within_by}
 
 -- The hand's next line stands at this place.
-module _ (p : Place) (c : Command) (h : Held) (left : length h.answers < length h.lines) (rests : Rests h) (stands : place_at h.state.place h ≡ p) (command : (line_of h).command ≡ c) where
+module _ (p : Place) (c : Command) (h : Held) (left : length h.answers < length h.lines) (rests : Rests h) (stands : place_at h.state.place h ≡ p)
+    (command : (line_of h).command ≡ c) where
   pub place_rests : RestsAt p c h
   place_rests = subst (λ (x : Command). RestsAt p x h) command (subst (λ (q : Place). RestsAt q (line_of h).command h) stands rests.at)
 
@@ -39,7 +40,9 @@ module _ (p : Place) (c : Command) (h : Held) (left : length h.answers < length 
           left = left;
           rests = rests;
           is = sym (ap (λ (t : Task). kind_of_task h.state.sizes t) task);
-          inside = place_below (map_of h.state.sizes) (part_task step (own_index h) h.topics note).area (part_task step (own_index h) h.topics note).index (part_within_by step h note needs rests.part);
+          inside =
+              place_below (map_of h.state.sizes) (part_task step (own_index h) h.topics note).area (part_task step (own_index h) h.topics note).index
+              (part_within_by step h note needs rests.part);
           small = part_small step h note needs rests.part;
         });
       }

@@ -114,7 +114,10 @@ says_line More waits way t o line h g gives (inr G) comes = subst (λ (x : Outco
 says_line (Retry cause) waits way t o line h g gives (inl E) comes = let done = E.done in let same = gives.1 in absurd (cc (same, done))
 says_line (Retry cause) waits way t o line h g gives (inr G) comes = subst (λ (x : Outcome). Comes x line h g) G.is comes
 says_line (Done answer) waits way t o line h g gives (inl E) comes =
-    let done = E.done in let same = gives.1 in let is : E.answer ≡ answer = cc (same, done) in subst (λ (x : Answer). IsAnswered line x h g) is (subst (λ (x : Outcome). Comes x line h g) E.is comes)
+    let done = E.done in
+    let same = gives.1 in
+    let is : E.answer ≡ answer = cc (same, done) in
+    subst (λ (x : Answer). IsAnswered line x h g) is (subst (λ (x : Outcome). Comes x line h g) E.is comes)
 says_line (Done answer) waits way t o line h g gives (inr G) comes = absurd (G.more answer (sym gives.1))
 
 pub turns_say : (turn : Turn Answer) (before after : Seat) → length before.hand.answers < length before.hand.lines → TurnsLine turn before after
@@ -220,7 +223,8 @@ retry_has_more cause before after left T =
     let v : ℕ = T.makes.found in
     let B = anew (place_at h.state.place h) (line_of h).command h v cause (sym T.gives.1) in
     let few : hand_left h ≡ 10 = ap (λ (q : Place). steps_left q h.state.sizes h.topics) B.at in
-    let at : g.state.place ≡ place.Access (Enter false) = ap (λ (x : Held). x.state.place) (T.makes.hand ∙ next_of_line h T.makes.kind v (has_line_is h left)) ∙ ap place_after B.is in
+    let at : g.state.place ≡ place.Access (Enter false) =
+    ap (λ (x : Held). x.state.place) (T.makes.hand ∙ next_of_line h T.makes.kind v (has_line_is h left)) ∙ ap place_after B.is in
     let many : hand_left g ≡ steps_left (place.Access (Enter false)) g.state.sizes g.topics =
     ap (λ (q : Place). steps_left (place_at q g) g.state.sizes g.topics) at in
     omega (arith, few, many)

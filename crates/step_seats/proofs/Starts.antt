@@ -1,5 +1,6 @@
 -- The words of the start, made one after another; and the machine that they are with the hands of the start.
-use Rattle.std.proofs.Common.{refl, zero, suc, slice_index_or, All, ◌≡◌, ◌<◌, ◌≤◌, ◌+◌, ◌++◌, ◌⊎◌, inl, inr, ℕ, List, [], ◌∷◌, length, length-append, slice_index, ◌∙◌, ap, sym, subst, arith}
+use Rattle.std.proofs.Common.{refl, zero, suc, slice_index_or, All, ◌≡◌, ◌<◌, ◌≤◌, ◌+◌, ◌++◌, ◌⊎◌, inl, inr, ℕ, List, [], ◌∷◌, length, length-append}
+use Rattle.std.proofs.Common.{slice_index, ◌∙◌, ap, sym, subst, arith}
 use Rattle.std.specs.Prelude.{◌==◌}
 use Rattle.std.specs.List.{IsDistinct}
 use Rattle.std.proofs.Math.ListN.{get_or-append, length-map}

@@ -23,7 +23,9 @@ after_step k a w = effect mmu w (step_by a k)
 -- The world after the step is one that steps lead to, and has the hand after it.
 pub has_after : (k : Kind) (a : ℕ) (h g : Held) (w : World Held) → IsMadeIn k a h g w → HasHand a g (after_step k a w)
 has_after k a h g w M = record {
-  reached = ∥∥₁_map M.has.reached (λ r. record { sizes = r.sizes; lines = r.lines; start = r.start; is_start = r.is_start; leads = goes_on mmu r.start w (step_by a k) r.leads M.may });
+  reached =
+      ∥∥₁_map M.has.reached (λ r.
+      record { sizes = r.sizes; lines = r.lines; start = r.start; is_start = r.is_start; leads = goes_on mmu r.start w (step_by a k) r.leads M.may });
   there = subst (λ n. a < n) (sym (hands_of_effect mmu w (step_by a k))) M.has.there;
   is = own_hand w (step_by a k) M.has.there ∙ ap (λ (x : Held). next x k (answered mmu w k)) M.has.is ∙ sym M.hand;
 }

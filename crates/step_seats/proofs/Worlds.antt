@@ -43,7 +43,8 @@ world_after : (words : List ℕ) (hands : List Handful) (i : ℕ) (k : Kind) (h 
     → world_of (slice_set words k.word (after k (slice_index words k.word))) (slice_set hands i h) ≡ effect mmu (world_of words hands) (step_by i k)
 unfolding effect
 world_after words hands i k h made =
-    ap (λ t. record { words = slice_set words k.word (after k (slice_index words k.word)); hands = t }) (cores_set hands i h ∙ ap (slice_set (map core_of hands) i) made)
+    ap (λ t. record { words = slice_set words k.word (after k (slice_index words k.word)); hands = t })
+    (cores_set hands i h ∙ ap (slice_set (map core_of hands) i) made)
 
 -- the value of a machine with these fields
 abbrev pub machine_of : Sizes → List ℕ → List Handful → Machine
@@ -70,7 +71,8 @@ stepped_inside : (z : Sizes) (words : List ℕ) (hands : List Handful) (i : ℕ)
 stepped_inside z words hands i k was n v before h machine there enabled read hand stored told made =
     let at = core_at words hands i in
     let tells : answer k (slice_index words k.word) ≡ v = sym (told ∙ ap (answer k) read) in
-    let makes : core_of h ≡ next (hand_in mmu (world_of words hands) i) k (answer k (slice_index words k.word)) = made ∙ (ap (λ x. next x k v) (ap core_of hand ∙ at) ∙ ap (next (hand_in mmu (world_of words hands) i) k) (sym tells)) in
+    let makes : core_of h ≡ next (hand_in mmu (world_of words hands) i) k (answer k (slice_index words k.word)) =
+    made ∙ (ap (λ x. next x k v) (ap core_of hand ∙ at) ∙ ap (next (hand_in mmu (world_of words hands) i) k) (sym tells)) in
     let may = may_step z words hands i k machine there enabled in
     record {
       may = may;
@@ -115,7 +117,8 @@ step_made z words hands m i k was n v before h machine view there enabled read h
     let lt = there_inside z words hands m i view there in
     let word = get_or_read words k.word was (word_inside z words hands m i k machine view there enabled) read 0 in
     let old_ = get_or_read hands i before lt hand no_hand in
-    subst (λ x. Stepped x words hands i k n v h) view (stepped_inside z words hands i k was n v before h machine lt (enabled_in z words hands m i k view enabled) word old_ stored told made)
+    subst (λ x. Stepped x words hands i k n v h) view
+    (stepped_inside z words hands i k was n v before h machine lt (enabled_in z words hands m i k view enabled) word old_ stored told made)
 
 -- A step leaves a machine.
 pub machine_after : (z : Sizes) (words : List ℕ) (hands : List Handful) (m : Machine) (i : ℕ) (k : Kind) (n v : ℕ) (h : Handful) → IsMachine z words hands
@@ -126,7 +129,13 @@ machine_after z words hands m i k n v h machine view there room s =
     let before : Leads mmu r.start (world_in m) = subst (λ (x : Machine). Leads mmu r.start (world_in x)) view r.leads in
     let further = goes_on mmu r.start (world_in m) (step_by i k) before s.may in
     record {
-      reached = record { sizes = r.sizes; lines = r.lines; start = r.start; is_start = r.is_start; leads = subst (λ w. Leads mmu r.start w) (sym s.leaves) further };
+      reached = record {
+        sizes = r.sizes;
+        lines = r.lines;
+        start = r.start;
+        is_start = r.is_start;
+        leads = subst (λ w. Leads mmu r.start w) (sym s.leaves) further;
+      };
       sizes = machine.sizes;
       room = set_has_room hands i h (there_inside z words hands m i view there) machine.room room;
     }
@@ -135,7 +144,14 @@ machine_after z words hands m i k n v h machine view there room s =
 pub hand_reached : (z : Sizes) (words : List ℕ) (hands : List Handful) (m : Machine) (i : ℕ) → IsMachine z words hands → machine_of z words hands ≡ m
     → i < length m.hands → HandReached (core_of (handful_in m.hands i))
 hand_reached z words hands m i machine view there =
-    let inside : HandReached (core_of (handful_in hands i)) = record { world = world_of words hands; actor = i; reached = machine.reached; there = there_too hands i (there_inside z words hands m i view there); has = sym (core_at words hands i) } in
+    let inside : HandReached (core_of (handful_in hands i)) =
+    record {
+      world = world_of words hands;
+      actor = i;
+      reached = machine.reached;
+      there = there_too hands i (there_inside z words hands m i view there);
+      has = sym (core_at words hands i);
+    } in
     subst (λ (x : Machine). HandReached (core_of (handful_in x.hands i))) view inside
 
 -- What the hand at a place has under way has its room.
@@ -150,7 +166,12 @@ has_room z words hands m i machine view there =
 pub has_hand : (z : Sizes) (words : List ℕ) (hands : List Handful) (m : Machine) (i : ℕ) → IsMachine z words hands → machine_of z words hands ≡ m
     → i < length m.hands → HasHand i (core_of (handful_in m.hands i)) (world_in m)
 has_hand z words hands m i machine view there =
-    let inside : HasHand i (core_of (handful_in hands i)) (world_of words hands) = record { reached = merely machine.reached; there = there_too hands i (there_inside z words hands m i view there); is = sym (core_at words hands i) } in
+    let inside : HasHand i (core_of (handful_in hands i)) (world_of words hands) =
+    record {
+      reached = merely machine.reached;
+      there = there_too hands i (there_inside z words hands m i view there);
+      is = sym (core_at words hands i);
+    } in
     subst (λ (x : Machine). HasHand i (core_of (handful_in x.hands i)) (world_in x)) view inside
 
 -- The world is as it was where a hand takes the place of one that holds the same.

@@ -88,7 +88,8 @@ alone_in : (told : Option (World Held)) (a : ℕ) (h : Held) (o : OwnedPage) →
 alone_in None a h o has mine = tt
 alone_in (Some w) a h o has mine =
     subst (λ (x : Held). IsClaimersAlone x.state.sizes a o.page w) has.is
-    (∥∥₁_elim has.reached (sole_prop (hand_in mmu w a).state.sizes a o.page w) (λ r. sole_in w a o r has.there (subst (λ (x : Held). x.topics.owned ≡ Some o) (sym has.is) mine)))
+    (∥∥₁_elim has.reached (sole_prop (hand_in mmu w a).state.sizes a o.page w)
+    (λ r. sole_in w a o r has.there (subst (λ (x : Held). x.topics.owned ≡ Some o) (sym has.is) mine)))
 
 -- A page that was claimed is the claimer's alone.
 pub claimed_alone : (note found : ℕ) (before after : Seat) (a_behind : ℕ) (o : OwnedPage) → MadePart part.Claim note found before after

@@ -106,7 +106,8 @@ pub may_claim : (job : Claim) (note : ℕ) (h : Held) → ∥ HandReached h ∥�
     → (job.begun ≡ true → h.topics.claim.at < words_of_bits h.state.sizes.pool) → MayMake (claim_step job h.topics.claim) note h
 may_claim job note h reached idle none before =
     let R : PartRests h = reached_part_rests h reached in
-    may_make h (claim_step job h.topics.claim) note R idle (claims_free (sees_pages job h.topics.claim) (next_word job h.topics.claim)) (going job h R none before)
+    may_make h (claim_step job h.topics.claim) note R idle (claims_free (sees_pages job h.topics.claim) (next_word job h.topics.claim))
+    (going job h R none before)
 
 -- The claim hasn't begun, or saw no page.
 pub unbegun : (job : Claim) (claim : MapClaim) → job.begun ≡ false → sees_pages job claim ≡ false
@@ -184,7 +185,8 @@ module _ (note found : ℕ) (before after : Seat) (N : PartNeeds part.Claim befo
       let lost : has_bit (tried_bit claim) found ≡ false = lost_if claim found (ap (λ x. x.owned) (sym M.topics) ∙ is) in
       told_before before.tells.world after.tells.world before.actor note found part.Claim before.hand (λ w. SawStands before.hand.state.sizes claim w → ⊥) N
       M.has M.world
-      (λ w finds stands. let seen : found ≡ claim.seen = finds ∙ stands N.1 in let bit = saw_bit claim N.1 small in let clear = ap (has_bit (tried_bit claim)) (sym seen) ∙ lost in cc (bit, clear))
+      (λ w finds stands. let seen : found ≡ claim.seen = finds ∙ stands N.1 in let bit = saw_bit claim N.1 small in
+      let clear = ap (has_bit (tried_bit claim)) (sym seen) ∙ lost in cc (bit, clear))
 
   -- After a claim that was lost, what was seen stands in the world.
   pub claim_stands : found < 2 ^ 64 → ToldBoth before.tells.world after.tells.world (λ w t. SawStands before.hand.state.sizes after.hand.topics.claim t)

@@ -12,8 +12,12 @@ use Rattle.table_pool.specs.Claims.{IsFirstSeen}
 won_page : (claim : MapClaim) (found : ℕ) (o : OwnedPage) → claimed claim found ≡ Some o → o.page ≡ 64 * claim.at + tried_bit claim
 won_page claim found o is = by (is_won claim found) is
   where
-    by : (won : Bool) → ◌≡◌ {A = Option OwnedPage} (if won then Some (record { page = 64 * claim.at + tried_bit claim; filled = 0; absent = true; role = 0 }) else None) (Some o) → o.page ≡ 64 * claim.at + tried_bit claim
-    by true e = let same : record { page = 64 * claim.at + tried_bit claim; filled = 0; absent = true; role = 0 } ≡ o = cc e in ap (λ (x : OwnedPage). x.page) (sym same)
+    by : (won : Bool) → ◌≡◌ {A = Option OwnedPage} (if won
+        then Some (record { page = 64 * claim.at + tried_bit claim; filled = 0; absent = true; role = 0 }) else None) (Some o)
+        → o.page ≡ 64 * claim.at + tried_bit claim
+    by true e =
+        let same : record { page = 64 * claim.at + tried_bit claim; filled = 0; absent = true; role = 0 } ≡ o = cc e in
+        ap (λ (x : OwnedPage). x.page) (sym same)
     by false e = absurd (cc e)
 
 pub first_seen : (claim : MapClaim) (found : ℕ) (o : OwnedPage) → 0 < claim.seen → claim.seen < 2 ^ 64 → claimed claim found ≡ Some o → IsFirstSeen o.page claim

@@ -43,7 +43,8 @@ module _ (value own note : ℕ) (t : Topics) (words : Area → ℕ → ℕ) wher
   step_if full = if full then part.Role value else part.Fill value
 
   filled_here : (full : Bool)
-      → words_after (part_task (step_if full) own t note) words (if full then area.Role else area.Pool) (if full then page_owned t.owned else pool_index (page_owned t.owned) (words_filled t.owned)) ≡ value
+      → words_after (part_task (step_if full) own t note) words (if full then area.Role else area.Pool)
+      (if full then page_owned t.owned else pool_index (page_owned t.owned) (words_filled t.owned)) ≡ value
   filled_here true = upd_same (words area.Role) (page_owned t.owned) value
   filled_here false = upd_same (words area.Pool) (pool_index (page_owned t.owned) (words_filled t.owned)) value
 
@@ -107,7 +108,8 @@ give_frees page note found before after N is M =
         behind : (k : ℕ) → is_free (word_in before.hand.state.sizes u area.PoolMap) k ≡ upd (is_free map) own true k
         behind k =
             let bits = free_set map (own / 64) (own % 64) (omega arith) k in
-            ap (λ n. n / 2 ^ (k % 64) % 2 == 1) (moved.leaves area.PoolMap (k / 64)) ∙ subst (λ p. is_free (upd map (own / 64) (bit_or (map (own / 64)) (2 ^ (own % 64)))) k ≡ upd (is_free map) p true k) place_ bits
+            ap (λ n. n / 2 ^ (k % 64) % 2 == 1) (moved.leaves area.PoolMap (k / 64))
+            ∙ subst (λ p. is_free (upd map (own / 64) (bit_or (map (own / 64)) (2 ^ (own % 64)))) k ≡ upd (is_free map) p true k) place_ bits
 
 -- A fill answers what it wrote.
 pub fill_answers_value : (value note found : ℕ) (before after : Seat) → PartNeeds (fill_step (words_filled before.hand.topics.owned) value) before.hand

@@ -28,7 +28,14 @@ fill_step filled value = if filled == 512 then part.Role value else part.Fill va
 pub record FillsNext (page value : ℕ) (was : OwnedPage) (before after : Topics) : Type 0 where
   pub owned : before.owned ≡ Some was
   pub page_is : was.page ≡ page
-  pub behind : after ≡ record before { owned = Some (record { page = page; filled = was.filled + 1; absent = was.absent && (was.filled == 512 || value == 0); role = if was.filled == 512 then value else was.role }) }
+  pub behind : after ≡ record before {
+    owned = Some (record {
+      page = page;
+      filled = was.filled + 1;
+      absent = was.absent && (was.filled == 512 || value == 0);
+      role = if was.filled == 512 then value else was.role;
+    });
+  }
 
 -- A fill goes on while one of the 512 words was written, and is done where the role was.
 abbrev pub FillTurn : ℕ → ℕ → Turn (Unit {0}) → Topics → Topics → Type 0

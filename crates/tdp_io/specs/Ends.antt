@@ -83,7 +83,8 @@ TakesSome before after most = (taken : List ℕ) × Consumes before after taken 
 -- the source has ended and nothing is left. After a fault, or where memory was refused, some bytes may be gone: at most
 -- 16777216 of them after a fault, which comes before the last byte, and 16777217 where memory was refused.
 abbrev pub Read : Option (List ℕ) → Option (List ℕ) → Bool → Result Input NoMemory → Type 0
-Read before after ended (Ok (Bytes bytes)) = Consumes before after bytes.items × (length bytes.items ≤ 16777217) × ((length bytes.items ≡ 16777217) ⊎ ((ended ≡ true) × IsAtEnd after))
+Read before after ended (Ok (Bytes bytes)) =
+    Consumes before after bytes.items × (length bytes.items ≤ 16777217) × ((length bytes.items ≡ 16777217) ⊎ ((ended ≡ true) × IsAtEnd after))
 Read before after ended (Ok Fault) = TakesSome before after 16777216
 Read before after ended (Err e) = TakesSome before after 16777217
 

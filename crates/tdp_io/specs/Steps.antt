@@ -15,7 +15,8 @@ StillTakesSome before after old room = (start : Option (List ℕ)) → Consumes 
 -- taken from some start on, so are the new ones. A read that failed took nothing, and where memory was refused at most
 -- the room is gone.
 abbrev pub Gains : Option (List ℕ) → Option (List ℕ) → ℕ → List ℕ → List ℕ → Result Pulled NoMemory → Type 0
-Gains before after room old new (Ok (Got n)) = (1 ≤ n) × (n ≤ room) × (length new ≡ length old + n) × ((start : Option (List ℕ)) → Consumes start before old → Consumes start after new)
+Gains before after room old new (Ok (Got n)) =
+    (1 ≤ n) × (n ≤ room) × (length new ≡ length old + n) × ((start : Option (List ℕ)) → Consumes start before old → Consumes start after new)
 Gains before after room old new (Ok End) = (new ≡ old) × Keeps before after × IsAtEnd after
 Gains before after room old new (Ok ReadFailed) = StillTakesSome before after old 0
 Gains before after room old new (Err e) = StillTakesSome before after old room

@@ -32,7 +32,8 @@ unfolding kind_of is_leaf_at
 lowest v page is = by (v == frozen_word) (has_bit 11 v) is
   where
     by : (a b : Bool)
-        → (if a then entry_kind.Frozen else if b then (if true then entry_kind.Leaf else entry_kind.Table (frame_in v % 2 ^ 32)) else entry_kind.Absent) ≡ entry_kind.Table page
+        → (if a then entry_kind.Frozen else if b then (if true then entry_kind.Leaf else entry_kind.Table (frame_in v % 2 ^ 32))
+        else entry_kind.Absent) ≡ entry_kind.Table page
         → ⊥
     by true b e = absurd (cc e)
     by false true e = absurd (cc e)
@@ -67,7 +68,11 @@ run_below (suc (suc (suc (suc (suc level))))) gfn prefix from to is = absurd (om
 -- The root is over every guest frame below 2 ^ 36.
 pub stands_at_root : (before after : Topics) (gfn v : ℕ) → gfn < 2 ^ 36 → may_walk before.stay before.hold ≡ true
     → after ≡ part_topics part.Root before v → StandsAtRoot gfn before after
-stands_at_root before after gfn v small may made = record { over = subst (IsOver gfn) (sym walk) over; others = same ∙ ap (λ root. record before { walk = record before.walk { level = 4; prefix = 0; root = root; index = 512 } }) (sym (ap (λ (x : TableWalk). x.root) walk)) }
+stands_at_root before after gfn v small may made = record {
+  over = subst (IsOver gfn) (sym walk) over;
+  others = same ∙ ap (λ root. record before { walk = record before.walk { level = 4; prefix = 0; root = root; index = 512 } })
+      (sym (ap (λ (x : TableWalk). x.root) walk));
+}
   where
     same : after ≡ record before { walk = at_root true before.walk v }
     same = made ∙ ap (λ (b : Bool). record before { walk = at_root b before.walk v }) may
@@ -91,7 +96,9 @@ goes_down before after gfn v page over to is made =
       link = ap (kind_of before.walk.level) (ap (λ (x : TableWalk). x.entry) walk) ∙ is;
       down = omega (arith, level, two);
       there = ap table_page walk ∙ page_below before.walk.level before.walk.root before.walk.third before.walk.second before.walk.first page two to;
-      over = subst (IsOver gfn) (sym walk) (record { small = over.small; there = omega (arith, two); run = run_below before.walk.level gfn before.walk.prefix two to over.run });
+      over =
+          subst (IsOver gfn) (sym walk)
+          (record { small = over.small; there = omega (arith, two); run = run_below before.walk.level gfn before.walk.prefix two to over.run });
       others = made ∙ ap (λ (x : TableWalk). record before { walk = x }) (sym (ap (λ (t : Topics). t.walk) made));
     }
 
@@ -105,12 +112,16 @@ stops_at kind before after gfn v level none over here is made = (
     is = ap (kind_of level) entry ∙ is;
     here = here;
     saw = subst (SawEntry gfn) (sym walk) (record { over = record { small = over.small; there = over.there; run = over.run }; loaded = refl });
-    others = made ∙ ap (λ (x : TableWalk). record before { walk = x }) (sym (ap (λ (t : Topics). t.walk) made) ∙ walk) ∙ ap (λ (x : TableWalk). record before { walk = record before.walk { index = x.index; entry = x.entry } }) (sym walk);
+    others =
+        made ∙ ap (λ (x : TableWalk). record before { walk = x }) (sym (ap (λ (t : Topics). t.walk) made) ∙ walk)
+        ∙ ap (λ (x : TableWalk). record before { walk = record before.walk { index = x.index; entry = x.entry } }) (sym walk);
   },
 )
   where
     walk : after.walk ≡ gone_down None before.walk (entry_index gfn before.walk.level) v
-    walk = ap (λ (t : Topics). t.walk) made ∙ ap (λ (k : SpteKind). gone_down (linked_page k) before.walk (entry_index gfn before.walk.level) v) (ap (λ l. kind_of l v) (sym here) ∙ is) ∙ ap (λ (o : Option ℕ). gone_down o before.walk (entry_index gfn before.walk.level) v) none
+    walk =
+        ap (λ (t : Topics). t.walk) made ∙ ap (λ (k : SpteKind). gone_down (linked_page k) before.walk (entry_index gfn before.walk.level) v)
+        (ap (λ l. kind_of l v) (sym here) ∙ is) ∙ ap (λ (o : Option ℕ). gone_down o before.walk (entry_index gfn before.walk.level) v) none
 
     entry : after.walk.entry ≡ v
     entry = ap (λ (x : TableWalk). x.entry) walk

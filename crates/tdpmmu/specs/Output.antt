@@ -19,4 +19,5 @@ check_text lines need = codes "ok " ++ (decimal lines ++ (codes " need " ++ (dec
 -- a line that the program writes: a line of a replay or a weave, or all that there is to say
 abbrev pub IsWrittenLine : List ℕ → Type 0
 IsWrittenLine bytes =
-    IsPrintedLine bytes ⊎ ((bytes ≡ usage_text) ⊎ (((line : ℕ) × (reason : Reason) × (bytes ≡ refusal_text line reason)) ⊎ ((lines : ℕ) × (need : ℕ) × (bytes ≡ check_text lines need))))
+    IsPrintedLine bytes ⊎ ((bytes ≡ usage_text)
+    ⊎ (((line : ℕ) × (reason : Reason) × (bytes ≡ refusal_text line reason)) ⊎ ((lines : ℕ) × (need : ℕ) × (bytes ≡ check_text lines need))))

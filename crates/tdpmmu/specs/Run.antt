@@ -49,7 +49,8 @@ IsOutput Weave trace bytes = (closing : World Held) × WeavesAll trace rounds_li
 -- The output of a weave that ran out of turns in rounds: what it printed, and the first line of the file that has no answer.
 abbrev pub IsUnfinished : Command → Trace → Actor → ℕ → List ℕ → Type 0
 IsUnfinished Weave trace actor number text =
-    (closing : World Held) × (bytes : List ℕ) × (line : Line) × WeavesPart trace rounds_limit bytes closing line × (line.actor ≡ actor) × (line.number ≡ number) × (text ≡ bytes ++ unfinished_text line)
+    (closing : World Held) × (bytes : List ℕ) × (line : Line) × WeavesPart trace rounds_limit bytes closing line × (line.actor ≡ actor)
+    × (line.number ≡ number) × (text ≡ bytes ++ unfinished_text line)
 IsUnfinished _ trace actor number text = ⊥
 
 -- The output of a command that stopped for this, which may have come to only some of the trace's lines: where a write failed, to a line's
@@ -96,25 +97,33 @@ WasRead None a input = Consumes a.left a.left_after []
 abbrev pub StopsReading : Around → Type 0
 StopsReading a = (taken : List ℕ) × Consumes a.left a.left_after taken × (length taken ≤ 16777217) × (a.written_after ≡ a.written)
 
--- What the run did, by its status. Where the source tells what it has left, the input is what was taken of it; where it tells nothing, some input explains the run.
+-- What the run did, by its status. Where the source tells what it has left, the input is what was taken of it; where it tells nothing, some input
+-- explains the run.
 abbrev pub RunsTo : Option Command → Around → Status → Type 0
-RunsTo asked a Done = (command : Command) × (asked ≡ Some command) × (input : List ℕ) × (trace : Trace) × IsTraceOf a.left a.left_after a.ended input trace × (bytes : List ℕ) × IsOutput command trace bytes × Appends a.written a.written_after bytes
+RunsTo asked a Done = (command : Command) × (asked ≡ Some command) × (input : List ℕ) × (trace : Trace)
+    × IsTraceOf a.left a.left_after a.ended input trace × (bytes : List ℕ) × IsOutput command trace bytes × Appends a.written a.written_after bytes
 RunsTo asked a Usage = (asked ≡ None) × Consumes a.left a.left_after [] × Appends a.written a.written_after usage_text
-RunsTo asked a (Refused line reason) = (command : Command) × (asked ≡ Some command) × (input : List ℕ) × IsRefusalOf a.left a.left_after a.ended input line reason × Appends a.written a.written_after (refusal_text line reason)
-RunsTo asked a ReadFault = (command : Command) × (asked ≡ Some command) × (input : List ℕ) × Consumes a.left a.left_after input × (length input ≤ 16777216) × (a.written_after ≡ a.written)
+RunsTo asked a (Refused line reason) = (command : Command) × (asked ≡ Some command) × (input : List ℕ)
+    × IsRefusalOf a.left a.left_after a.ended input line reason × Appends a.written a.written_after (refusal_text line reason)
+RunsTo asked a ReadFault = (command : Command) × (asked ≡ Some command) × (input : List ℕ) × Consumes a.left a.left_after input
+    × (length input ≤ 16777216) × (a.written_after ≡ a.written)
 RunsTo asked a WriteFault = (input : List ℕ) × WasRead asked a input × WritesPrefix Failed asked input a.written a.written_after
 RunsTo asked a NoMemory = StopsReading a ⊎ ((input : List ℕ) × WasRead asked a input × WritesPrefix Full asked input a.written a.written_after)
-RunsTo asked a (Unfinished actor line) = (command : Command) × (asked ≡ Some command) × (input : List ℕ) × (trace : Trace) × IsTraceOf a.left a.left_after a.ended input trace × (bytes : List ℕ) × IsUnfinished command trace actor line bytes × Appends a.written a.written_after bytes
+RunsTo asked a (Unfinished actor line) = (command : Command) × (asked ≡ Some command) × (input : List ℕ) × (trace : Trace) × IsTraceOf a.left
+    a.left_after a.ended input trace × (bytes : List ℕ) × IsUnfinished command trace actor line bytes × Appends a.written a.written_after bytes
 
 -- The same where the source tells that it had this input left, of which no more than 16777217 bytes are looked at.
 abbrev pub Prints : Option Command → List ℕ → Option (List ℕ) → Option (List ℕ) → Status → Type 0
-Prints asked input before after Done = (command : Command) × (asked ≡ Some command) × (trace : Trace) × (reading input ≡ Ok trace) × (bytes : List ℕ) × IsOutput command trace bytes × Appends before after bytes
+Prints asked input before after Done = (command : Command) × (asked ≡ Some command) × (trace : Trace) × (reading input ≡ Ok trace) × (bytes : List ℕ)
+    × IsOutput command trace bytes × Appends before after bytes
 Prints asked input before after Usage = (asked ≡ None) × Appends before after usage_text
-Prints asked input before after (Refused line reason) = (command : Command) × (asked ≡ Some command) × (reading input ≡ Err (line, reason)) × Appends before after (refusal_text line reason)
+Prints asked input before after (Refused line reason) =
+    (command : Command) × (asked ≡ Some command) × (reading input ≡ Err (line, reason)) × Appends before after (refusal_text line reason)
 Prints asked input before after ReadFault = (command : Command) × (asked ≡ Some command) × (after ≡ before)
 Prints asked input before after WriteFault = WritesPrefix Failed asked input before after
 Prints asked input before after NoMemory = (after ≡ before) ⊎ WritesPrefix Full asked input before after
-Prints asked input before after (Unfinished actor line) = (command : Command) × (asked ≡ Some command) × (trace : Trace) × (reading input ≡ Ok trace) × (bytes : List ℕ) × IsUnfinished command trace actor line bytes × Appends before after bytes
+Prints asked input before after (Unfinished actor line) = (command : Command) × (asked ≡ Some command) × (trace : Trace) × (reading input ≡ Ok trace)
+    × (bytes : List ℕ) × IsUnfinished command trace actor line bytes × Appends before after bytes
 
 -- The count of failed reads rose where the status says that reading failed, and stayed at any other status.
 abbrev pub ReadCause : ℕ → ℕ → Status → Type 0

@@ -164,8 +164,15 @@ fn run_command<S: Source, K: Sink>(
     out: &mut K,
 ) -> Status
     requires unfailed { K.failed out.old ≡ false }
-    ensures runs { RunsTo (command_of (map string_bytes words.now)) (record { left = S.left src.old; left_after = S.left src.new; ended = S.ended src.new; written = K.written out.old; written_after = K.written out.new }) result }
-    ensures prints { IfSome (S.left src.old) (λ input. Prints (command_of (map string_bytes words.now)) (take 16777217 input) (K.written out.old) (K.written out.new) result) }
+    ensures runs { RunsTo (command_of (map string_bytes words.now)) (record {
+      left = S.left src.old;
+      left_after = S.left src.new;
+      ended = S.ended src.new;
+      written = K.written out.old;
+      written_after = K.written out.new;
+    }) result }
+    ensures prints { IfSome (S.left src.old)
+        (λ input. Prints (command_of (map string_bytes words.now)) (take 16777217 input) (K.written out.old) (K.written out.new) result) }
     ensures read { ReadCause (S.faults src.old) (S.faults src.new) result }
     ensures write { WriteCause (K.faults out.old) (K.faults out.new) result }
     ensures failed { K.failed out.new ≡ is_write_fault result }
@@ -201,8 +208,15 @@ pub fn run<R: Threads + Wait + Sync, S: Source, K: Sink, G: Gate + Sync>(
     _gate: &G,
 ) -> Status
     requires unfailed { K.failed out.old ≡ false }
-    ensures runs { RunsTo (command_of (map string_bytes words.now)) (record { left = S.left src.old; left_after = S.left src.new; ended = S.ended src.new; written = K.written out.old; written_after = K.written out.new }) result }
-    ensures prints { IfSome (S.left src.old) (λ input. Prints (command_of (map string_bytes words.now)) (take 16777217 input) (K.written out.old) (K.written out.new) result) }
+    ensures runs { RunsTo (command_of (map string_bytes words.now)) (record {
+      left = S.left src.old;
+      left_after = S.left src.new;
+      ended = S.ended src.new;
+      written = K.written out.old;
+      written_after = K.written out.new;
+    }) result }
+    ensures prints { IfSome (S.left src.old)
+        (λ input. Prints (command_of (map string_bytes words.now)) (take 16777217 input) (K.written out.old) (K.written out.new) result) }
     ensures read { ReadCause (S.faults src.old) (S.faults src.new) result }
     ensures write { WriteCause (K.faults out.old) (K.faults out.new) result }
     ensures failed { K.failed out.new ≡ is_write_fault result }

@@ -296,8 +296,10 @@ const TRACES: [(u64, &str, &str); 49] = [
     // the next page isn't. Once writes are allowed again it is written.
     (
         64,
-        "vm slot 0 0 16 0\nv0 write 0x2000 7\nh0 protect 2\nv1 read 0x2000\nv1 write 0x2000 8\nv0 add 0x2000 1\nv0 write 0x3000 1\nh0 allow 2\nv0 add 0x2000 1\ngo\n",
-        "2 vm done\n3 v0 frame 2 value 0\n4 h0 done\n5 v1 frame 2 value 7\n6 v1 hostfault\n7 v0 hostfault\n8 v0 frame 3 value 0\n9 h0 done\n10 v0 frame 2 value 7\n",
+        "vm slot 0 0 16 0\nv0 write 0x2000 7\nh0 protect 2\nv1 read 0x2000\nv1 write 0x2000 8\nv0 add 0x2000 1\nv0 write 0x3000 1\nh0 allow 2\n\
+        v0 add 0x2000 1\ngo\n",
+        "2 vm done\n3 v0 frame 2 value 0\n4 h0 done\n5 v1 frame 2 value 7\n6 v1 hostfault\n7 v0 hostfault\n8 v0 frame 3 value 0\n9 h0 done\n\
+        10 v0 frame 2 value 7\n",
     ),
     // A leaf that was put while writes were forbidden is gone once they are allowed.
     (
@@ -364,7 +366,8 @@ const TWO_THREADS: [(&str, &str); 7] = [
     // Guest frames 2 and 12 are invalidated: a fault of frame 13 goes on, and one of frame 7,
     // between them, begins anew. After the first has ended the range is as wide as before.
     (
-        "vm slot 0 0 16 0\nv0 write 0x2000 7\ngo\nh0 allow 2\nh1 allow 12\nv0 read 0x2000\nv1 read 0xd000\nv1 read 0x7000\n> h0 change\n> h1 change\n> v1 end\n> v1 end\n> h0 end\n> v0 end\n> h1 end\n> v0 end\n> v1 end\n",
+        "vm slot 0 0 16 0\nv0 write 0x2000 7\ngo\nh0 allow 2\nh1 allow 12\nv0 read 0x2000\nv1 read 0xd000\nv1 read 0x7000\n> h0 change\n> h1 change\n\
+        > v1 end\n> v1 end\n> h0 end\n> v0 end\n> h1 end\n> v0 end\n> v1 end\n",
         "2 vm done\n3 v0 frame 2 value 0\n8 v1 frame 13 value 0\n5 h0 done\n6 h1 done\n7 v0 frame 2 value 7\n9 v1 frame 7 value 0\n",
     ),
     // An invalidation begins and ends while another one is open, and doesn't wait for it.
@@ -390,7 +393,8 @@ const TWO_THREADS: [(&str, &str); 7] = [
     ),
     // The page of the second is in no slot: it leaves the range of frame 2 as it is.
     (
-        "vm slot 0 0 16 0\ngo\nh0 allow 2\nh1 allow 500\nv0 read 0x3000\nv1 read 0x2000\n> h0 change\n> h1 change\n> v0 end\n> v1 end\n> h0 end\n> h1 end\n> v1 end\n",
+        "vm slot 0 0 16 0\ngo\nh0 allow 2\nh1 allow 500\nv0 read 0x3000\nv1 read 0x2000\n> h0 change\n> h1 change\n> v0 end\n> v1 end\n> h0 end\n\
+        > h1 end\n> v1 end\n",
         "2 vm done\n6 v0 frame 3 value 0\n4 h0 done\n5 h1 done\n7 v1 frame 2 value 0\n",
     ),
 ];

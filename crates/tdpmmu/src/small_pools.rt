@@ -69,7 +69,8 @@ const CASES: [(u64, &str, &str, &str, &str); 15] = [
         7,
         ROW,
         "v0 write 0x0 1\nv1 write 0x200000 2\nv0 write 0x400000 3\nv1 read 0x0\nv0 read 0x200000\nv1 read 0x400000\n",
-        "2 vm done\n3 v0 frame 0 value 0\n4 v1 frame 512 value 0\n5 v0 frame 1024 value 0\n6 v1 frame 0 value 1\n7 v0 frame 512 value 2\n8 v1 frame 1024 value 3\n",
+        "2 vm done\n3 v0 frame 0 value 0\n4 v1 frame 512 value 0\n5 v0 frame 1024 value 0\n6 v1 frame 0 value 1\n7 v0 frame 512 value 2\n\
+        8 v1 frame 1024 value 3\n",
         "ok 7 need 9\n",
     ),
     // The starved access takes the last page for its table of level 2, so that
@@ -118,7 +119,8 @@ const CASES: [(u64, &str, &str, &str, &str); 15] = [
         5,
         READ_ONLY,
         "v0 write 0x0 1\nv0 add 0x1000 1\nv0 read 0x400000\nv1 write 0x200000 5\nv0 read 0x0\nv0 write 0x0 1\nv1 add 0x200000 1\nv0 read 0x200000\n",
-        "2 vm done\n3 vm done\n4 v0 mmio\n5 v0 mmio\n6 v0 mmio\n7 v1 frame 512 value 0\n8 v0 starved\n9 v0 mmio\n10 v1 frame 512 value 5\n11 v0 frame 512 value 6\n",
+        "2 vm done\n3 vm done\n4 v0 mmio\n5 v0 mmio\n6 v0 mmio\n7 v1 frame 512 value 0\n8 v0 starved\n9 v0 mmio\n10 v1 frame 512 value 5\n\
+        11 v0 frame 512 value 6\n",
         "ok 10 need 8\n",
     ),
     // A slot line fills a page with the new set: where none is free it is starved, and

@@ -15,7 +15,8 @@ use Rattle.trace_reader.specs.Operands.{◌>>=◌, address, number, vcpu}
 use Rattle.trace_reader.specs.Forms.{Said, read_form, write_form, add_form, by_command, by_form}
 use Rattle.trace_reader.specs.Grammar.{AreCommandWords, AreWords, IsAccessForm, IsActor, IsCommandForm, Spells}
 use Rattle.trace_reader.proofs.Judged.{AreTwo, IsOne, IsPairSaid, Judged, Tells, judged, named_why, none}
-use Rattle.trace_reader.proofs.Operands.{IsNumber, address_found, address_number, address_spelled, bound, number_found, number_number, number_spelled, vcpu_found, vcpu_named, vcpu_names}
+use Rattle.trace_reader.proofs.Operands.{IsNumber, address_found, address_number, address_spelled, bound, number_found, number_number, number_spelled}
+use Rattle.trace_reader.proofs.Operands.{vcpu_found, vcpu_named, vcpu_names}
 use Rattle.trace_reader.proofs.PlainWords.{actor_word, spelled_word, text_word}
 use Rattle.trace_reader.proofs.Results.{then_ok}
 
@@ -76,7 +77,8 @@ add_why h who (x ∷ y ∷ v ∷ more) only = none h (who ∷ codes "add" ∷ x 
 -- What is read is said.
 access_found : (h : Header) (seen : ℕ → Bool) (who x : List ℕ) (words : List (List ℕ)) (p : Actor × Command) (f : ℕ → ℕ × ℕ → Said)
     → (vcpu h who >>= λ n. address h x >>= λ a. f n a) ≡ Ok p
-    → ((i gfn word : ℕ) → who ≡ 118 ∷ decimal i → i < h.vcpus → Spells x (4096 * gfn + 8 * word) → gfn < 2 ^ 36 → word < h.words → f i (gfn, word) ≡ Ok p → IsPairSaid h seen words p) → IsPairSaid h seen words p
+    → ((i gfn word : ℕ) → who ≡ 118 ∷ decimal i → i < h.vcpus → Spells x (4096 * gfn + 8 * word) → gfn < 2 ^ 36 → word < h.words
+    → f i (gfn, word) ≡ Ok p → IsPairSaid h seen words p) → IsPairSaid h seen words p
 access_found h seen who x words p f e found =
     then_ok (vcpu h who) _ p e (λ i is_i e1.
     then_ok (address h x) _ p e1 (λ a is_a e2.

@@ -16,7 +16,8 @@ use Rattle.trace_reader.specs.declared.refusal.ReadError.TheVariants as errors
 use Rattle.trace_reader.proofs.Loop.{part}
 
 -- The first line, and the lines behind it.
-pub begun : (size : ℕ) (bytes text after : List ℕ) (whole : Bool) → parts_of bytes ≡ text ∷ cond whole (parts_of after) [] → (whole ≡ false → after ≡ []) → size ≡ length text + cond whole 1 0
+pub begun : (size : ℕ) (bytes text after : List ℕ) (whole : Bool) → parts_of bytes ≡ text ∷ cond whole (parts_of after) []
+    → (whole ≡ false → after ≡ []) → size ≡ length text + cond whole 1 0
     → reading bytes ≡ under (head_of (record { number = 1; end = size; ended_by_lf = whole; bytes = text })) (λ h. lines_of h 2 size none_seen (parts_of after))
 unfolding reading reading_of lines_of
 begun size bytes text after true e last is =
@@ -27,15 +28,19 @@ begun size bytes text after false e last is =
     let all : size ≡ length text = omega arith in
     rw (e, z, all) refl
 
-pub bad_head : (e : ReadError) (total : Result Trace (ℕ × Reason)) (head : Result Header Reason) (rest : Header → Result (List Told) (ℕ × Reason)) → total ≡ under head rest → Fails 1 e head → Tells {X = Trace} (λ t. t) (Err e) total
+pub bad_head : (e : ReadError) (total : Result Trace (ℕ × Reason)) (head : Result Header Reason) (rest : Header → Result (List Told) (ℕ × Reason))
+    → total ≡ under head rest → Fails 1 e head → Tells {X = Trace} (λ t. t) (Err e) total
 bad_head errors.NoMemory total head rest u fails = tt
 bad_head (errors.Refused line r) total head rest u fails = rw (u, fails.1, fails.0) refl
 
-pub bad_line : (e : ReadError) (total : Result Trace (ℕ × Reason)) (head : Result Header Reason) (h : Header) (rest : Header → Result (List Told) (ℕ × Reason)) → total ≡ under head rest → head ≡ Ok h → Tells {X = Trace} (λ t. t) (Err e) (with_header h (rest h)) → Tells {X = Trace} (λ t. t) (Err e) total
+pub bad_line :
+    (e : ReadError) (total : Result Trace (ℕ × Reason)) (head : Result Header Reason) (h : Header) (rest : Header → Result (List Told) (ℕ × Reason))
+    → total ≡ under head rest → head ≡ Ok h → Tells {X = Trace} (λ t. t) (Err e) (with_header h (rest h)) → Tells {X = Trace} (λ t. t) (Err e) total
 bad_line errors.NoMemory total head h rest u is fails = tt
 bad_line (errors.Refused line r) total head h rest u is fails = rw (u, is) fails
 
-pub all_read : (t : Trace) (total : Result Trace (ℕ × Reason)) (head : Result Header Reason) (h : Header) (rest : Header → Result (List Told) (ℕ × Reason)) → total ≡ under head rest → head ≡ Ok h → with_header h (rest h) ≡ Ok t → total ≡ Ok t
+pub all_read : (t : Trace) (total : Result Trace (ℕ × Reason)) (head : Result Header Reason) (h : Header)
+    (rest : Header → Result (List Told) (ℕ × Reason)) → total ≡ under head rest → head ≡ Ok h → with_header h (rest h) ≡ Ok t → total ≡ Ok t
 all_read t total head h rest u is more = rw (u, is) more
 
 -- What was read is what is looked at of the input.
@@ -43,7 +48,9 @@ front : (xs ys bytes : List ℕ) → xs ≡ bytes ++ ys → length bytes ≤ 167
 front xs ys bytes e le (inl full) = rw e (take_at bytes ys 16777217 full)
 front xs ys bytes e le (inr none) = rw (e, none, append-nil) (take_all 16777217 bytes le)
 
-pub told : (before after : Option (List ℕ)) (bytes now : List ℕ) (ended : Type 0) (r : Result Trace (ℕ × Reason)) → Consumes before after bytes × (length bytes ≤ 16777217) × ((length bytes ≡ 16777217) ⊎ (ended × IsAtEnd after)) → now ≡ bytes → reading now ≡ r → IfSome before (λ input. reading (take 16777217 input) ≡ r)
+pub told : (before after : Option (List ℕ)) (bytes now : List ℕ) (ended : Type 0) (r : Result Trace (ℕ × Reason))
+    → Consumes before after bytes × (length bytes ≤ 16777217) × ((length bytes ≡ 16777217) ⊎ (ended × IsAtEnd after)) → now ≡ bytes → reading now ≡ r
+    → IfSome before (λ input. reading (take 16777217 input) ≡ r)
 told None after bytes now ended r read same is = tt
 told (Some xs) None bytes now ended r read same is = absurd read.0
 told (Some xs) (Some ys) bytes now ended r read same is =

@@ -25,14 +25,19 @@ until_word : (w : List ℕ) (u : Until) → SaysUntil w u → IsWord w
 until_word w (Turns n) s = spelled_word w n s
 until_word w Answered e = rw e (text_word (codes "end") (omega arith) refl)
 until_word w (Made code) (never, named) =
-    let t = both (nat_lt 0 (length w)) (list_all (λ b. not (b == 32)) w) (kind_passes (λ v. nat_lt 0 (length v) && list_all (λ b. not (b == 32)) v) w code refl (kind_read w code named)) in
+    let t =
+    both (nat_lt 0 (length w)) (list_all (λ b. not (b == 32)) w)
+    (kind_passes (λ v. nat_lt 0 (length v) && list_all (λ b. not (b == 32)) v) w code refl (kind_read w code named)) in
     record { filled = grind (arith, nat_tests, t.0); plain = t.1 }
 
 pub say_words : (h : Header) (seen : Seen) (words : List (List ℕ)) (s : Saying) → IsHeader h → IsSayingOf h s → AreWordsOf seen words s → AreWords words
 say_words h seen words (Does a c) header range are = command_words seen.ids words a c (commanding h a c header range).0 are
 say_words h seen words Go header range (first, e) = rw e (text_word (codes "go") (omega arith) refl, tt)
 say_words h seen words (Schedules item) header range (last, e, says) =
-    rw e (text_word (codes ">") (omega arith) refl, (actor_word item.actor (has_declared h item.actor header range.actor).0, (until_word last item.until says, tt)))
+    rw e (
+      text_word (codes ">") (omega arith) refl,
+      (actor_word item.actor (has_declared h item.actor header range.actor).0, (until_word last item.until says, tt)),
+    )
 
 no_words : (a : Actor) → HasForm [] a → ⊥
 no_words a (inl form) = let (rest, e) = command_first [] a form in cc

@@ -20,7 +20,8 @@ byte_plain b (low, high) = grind (arith, nat_tests)
 
 pub bytes_plain : (bs : List ℕ) → list_all is_plain bs ≡ true → ArePlain bs
 bytes_plain [] e = All-nil (λ (b : ℕ). (32 ≤ b) × (b ≤ 126))
-bytes_plain (b ∷ bs) e = let t = both (is_plain b) (list_all is_plain bs) e in All-cons (λ (x : ℕ). (32 ≤ x) × (x ≤ 126)) b bs (plain_byte b t.0) (bytes_plain bs t.1)
+bytes_plain (b ∷ bs) e =
+    let t = both (is_plain b) (list_all is_plain bs) e in All-cons (λ (x : ℕ). (32 ≤ x) × (x ≤ 126)) b bs (plain_byte b t.0) (bytes_plain bs t.1)
 
 pub plain_bytes : (bs : List ℕ) → ArePlain bs → list_all is_plain bs ≡ true
 plain_bytes [] are = refl
@@ -51,24 +52,36 @@ abbrev pub Judged : Raw → Option Reason → Type 0
 Judged line None = PassesAll line
 Judged line (Some r) = FailsFirst line r
 
-by_checks : (line : Raw) (a b c d e : Bool) → nat_le line.end 16777216 ≡ a → nat_le line.number 1000000 ≡ b → (line.ended_by_lf || is_empty line.bytes) ≡ c → nat_le (length line.bytes) 65536 ≡ d → list_all is_plain line.bytes ≡ e
+by_checks : (line : Raw) (a b c d e : Bool) → nat_le line.end 16777216 ≡ a → nat_le line.number 1000000 ≡ b
+    → (line.ended_by_lf || is_empty line.bytes) ≡ c → nat_le (length line.bytes) 65536 ≡ d → list_all is_plain line.bytes ≡ e
     → Judged line (first_of ((a, reason.Size) ∷ (b, reason.Lines) ∷ (c, reason.Cut) ∷ (d, reason.Long) ∷ (e, reason.Byte) ∷ []))
 by_checks line false b c d e is0 is1 is2 is3 is4 = λ p. let t = at_most line.end 16777216 p in cc
 by_checks line true false c d e is0 is1 is2 is3 is4 = (most _ _ is0, λ p. let t = at_most line.number 1000000 p in cc)
 by_checks line true true false d e is0 is1 is2 is3 is4 = (most _ _ is0, most _ _ is1, λ p. let t = ended line.ended_by_lf line.bytes p in cc)
-by_checks line true true true false e is0 is1 is2 is3 is4 = (most _ _ is0, most _ _ is1, is_ended line.ended_by_lf line.bytes is2, λ p. let t = at_most (length line.bytes) 65536 p in cc)
-by_checks line true true true true false is0 is1 is2 is3 is4 = (most _ _ is0, most _ _ is1, is_ended line.ended_by_lf line.bytes is2, most _ _ is3, λ p. let t = plain_bytes line.bytes p in cc)
-by_checks line true true true true true is0 is1 is2 is3 is4 = (most _ _ is0, most _ _ is1, is_ended line.ended_by_lf line.bytes is2, most _ _ is3, bytes_plain line.bytes is4)
+by_checks line true true true false e is0 is1 is2 is3 is4 =
+    (most _ _ is0, most _ _ is1, is_ended line.ended_by_lf line.bytes is2, λ p. let t = at_most (length line.bytes) 65536 p in cc)
+by_checks line true true true true false is0 is1 is2 is3 is4 =
+    (most _ _ is0, most _ _ is1, is_ended line.ended_by_lf line.bytes is2, most _ _ is3, λ p. let t = plain_bytes line.bytes p in cc)
+by_checks line true true true true true is0 is1 is2 is3 is4 =
+    (most _ _ is0, most _ _ is1, is_ended line.ended_by_lf line.bytes is2, most _ _ is3, bytes_plain line.bytes is4)
 
 pub judged : (line : Raw) → Judged line (fault_of line)
 unfolding fault_of
-judged line = by_checks line (nat_le line.end 16777216) (nat_le line.number 1000000) (line.ended_by_lf || is_empty line.bytes) (nat_le (length line.bytes) 65536) (list_all is_plain line.bytes) refl refl refl refl refl
+judged line =
+    by_checks line (nat_le line.end 16777216) (nat_le line.number 1000000) (line.ended_by_lf || is_empty line.bytes)
+    (nat_le (length line.bytes) 65536) (list_all is_plain line.bytes) refl refl refl refl refl
 
 -- A line that passes all has no fault.
 pub faultless : (line : Raw) → PassesAll line → fault_of line ≡ None
 unfolding fault_of
 faultless line (a, b, c, d, e) =
-    rw (at_most line.end 16777216 a, at_most line.number 1000000 b, ended line.ended_by_lf line.bytes c, at_most (length line.bytes) 65536 d, plain_bytes line.bytes e) refl
+    rw (
+      at_most line.end 16777216 a,
+      at_most line.number 1000000 b,
+      ended line.ended_by_lf line.bytes c,
+      at_most (length line.bytes) 65536 d,
+      plain_bytes line.bytes e,
+    ) refl
 
 failing : (b : Bool) → (b ≡ true → ⊥) → b ≡ false
 failing true never = absurd (never refl)

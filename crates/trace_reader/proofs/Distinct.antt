@@ -96,15 +96,18 @@ id_in_front seen (Some i) ids new rest = record {
   unseen = λ id e. (apart seen id i e new, rest.unseen id (or_first (seen id) (i == id) e));
 }
 
-in_front : (seen : ℕ → Bool) (command : Command) (ids : List ℕ) → IsNew seen command → AreApart (λ id. seen id || sets_at id command) ids → AreApart seen (or_slot_id command ids)
+in_front : (seen : ℕ → Bool) (command : Command) (ids : List ℕ) → IsNew seen command → AreApart (λ id. seen id || sets_at id command) ids
+    → AreApart seen (or_slot_id command ids)
 in_front seen command ids new rest = rw (slot_id_first command ids) (id_in_front seen (slot_id command) ids new rest)
 
-in_front_of : (seen : Seen) (n : ℕ) (s : Saying) (told : List Told) → IsNewLine seen s → AreApart (seen_with seen s).ids (slot_ids (lines_in told)) → AreApart seen.ids (slot_ids (lines_in ((n, s) ∷ told)))
+in_front_of : (seen : Seen) (n : ℕ) (s : Saying) (told : List Told) → IsNewLine seen s → AreApart (seen_with seen s).ids (slot_ids (lines_in told))
+    → AreApart seen.ids (slot_ids (lines_in ((n, s) ∷ told)))
 in_front_of seen n (Does actor command) told new rest = in_front seen.ids command (slot_ids (lines_in told)) new rest
 in_front_of seen n Go told new rest = rest
 in_front_of seen n (Schedules item) told new rest = rest
 
-onto_new : (n : ℕ) (seen : Seen) (read : Result (Option Saying) Reason) (rest : Seen → Result (List Told) (ℕ × Reason)) → IsFirst seen read → ((now : Seen) → AreNew now (rest now)) → AreNew seen (onto n seen read rest)
+onto_new : (n : ℕ) (seen : Seen) (read : Result (Option Saying) Reason) (rest : Seen → Result (List Told) (ℕ × Reason)) → IsFirst seen read
+    → ((now : Seen) → AreNew now (rest now)) → AreNew seen (onto n seen read rest)
 onto_new n seen (Err r) rest first all = tt
 onto_new n seen (Ok None) rest first all = all seen
 onto_new n seen (Ok (Some s)) rest first all = by (rest (seen_with seen s)) (all (seen_with seen s))
@@ -126,7 +129,8 @@ lines_new h n at seen (last ∷ []) = by (is_empty last)
     by true = none seen
     by false = onto_new n seen (line_of h seen (raw n at false last)) (λ now. Ok []) (line_first h seen (raw n at false last)) none
 lines_new h n at seen (x ∷ y ∷ more) =
-    onto_new n seen (line_of h seen (raw n at true x)) (λ now. lines_of h (n + 1) (at + (length x + 1)) now (y ∷ more)) (line_first h seen (raw n at true x)) (λ now. lines_new h (n + 1) (at + (length x + 1)) now (y ∷ more))
+    onto_new n seen (line_of h seen (raw n at true x)) (λ now. lines_of h (n + 1) (at + (length x + 1)) now (y ∷ more))
+    (line_first h seen (raw n at true x)) (λ now. lines_new h (n + 1) (at + (length x + 1)) now (y ∷ more))
 
 abbrev HasApart : Result Trace (ℕ × Reason) → Type 0
 HasApart (Ok t) = AreDistinct (slot_ids t.lines)
@@ -136,5 +140,6 @@ under_header : (h : Header) (x : Result (List Told) (ℕ × Reason)) → AreNew 
 under_header h (Ok told) new = new.distinct
 under_header h (Err e) new = tt
 
-pub read_distinct : (h : Header) (n at : ℕ) (parts : List (List ℕ)) (t : Trace) → with_header h (lines_of h n at none_seen parts) ≡ Ok t → AreDistinct (slot_ids t.lines)
+pub read_distinct : (h : Header) (n at : ℕ) (parts : List (List ℕ)) (t : Trace) → with_header h (lines_of h n at none_seen parts) ≡ Ok t
+    → AreDistinct (slot_ids t.lines)
 read_distinct h n at parts t is = subst HasApart is (under_header h (lines_of h n at none_seen parts) (lines_new h n at none_seen parts))

@@ -50,20 +50,25 @@ sizes_header : (words : List (List ℕ)) → IsHeaderError (sizes_of words)
 unfolding sizes_of
 sizes_header words =
     bound (behind_version words) _ (version_header words) (λ r. bound (field (codes "vcpus") 1 16 r) _ (field_header (codes "vcpus") 1 16 r)
-    (λ v. bound (field (codes "workers") 0 4 v.1) _ (field_header (codes "workers") 0 4 v.1) (λ k. bound (field (codes "pages") 1 1048576 k.1) _ (field_header (codes "pages") 1 1048576 k.1)
-    (λ p. bound (field (codes "frames") p.0 2097152 p.1) _ (field_header (codes "frames") p.0 2097152 p.1) (λ f. bound (field (codes "words") 1 8 f.1) _ (field_header (codes "words") 1 8 f.1)
-    (λ n. bound (field (codes "pool") 4 16384 n.1) _ (field_header (codes "pool") 4 16384 n.1) (λ o. bound (field (codes "cache") 1 64 o.1) _ (field_header (codes "cache") 1 64 o.1)
+    (λ v. bound (field (codes "workers") 0 4 v.1) _ (field_header (codes "workers") 0 4 v.1)
+    (λ k. bound (field (codes "pages") 1 1048576 k.1) _ (field_header (codes "pages") 1 1048576 k.1)
+    (λ p. bound (field (codes "frames") p.0 2097152 p.1) _ (field_header (codes "frames") p.0 2097152 p.1)
+    (λ f. bound (field (codes "words") 1 8 f.1) _ (field_header (codes "words") 1 8 f.1)
+    (λ n. bound (field (codes "pool") 4 16384 n.1) _ (field_header (codes "pool") 4 16384 n.1)
+    (λ o. bound (field (codes "cache") 1 64 o.1) _ (field_header (codes "cache") 1 64 o.1)
     (λ c. bound (field (codes "manual") 0 2 c.1) _ (field_header (codes "manual") 0 2 c.1) (λ m. chosen (are_sizes f.0 n.0) _ _ tt refl)))))))))
 
 rising_header : (low high : ℕ) (ws : List (List ℕ)) → IsHeaderError (rising low high ws)
 unfolding rising
 rising_header low high [] = tt
-rising_header low high (w ∷ ws) = bound (ranged low high w) _ (ranged_header low high w) (λ n. bound (rising (n + 1) high ws) _ (rising_header (n + 1) high ws) (λ ns. tt))
+rising_header low high (w ∷ ws) =
+    bound (ranged low high w) _ (ranged_header low high w) (λ n. bound (rising (n + 1) high ws) _ (rising_header (n + 1) high ws) (λ ns. tt))
 
 host_list_header : (pages : ℕ) (ws : List (List ℕ)) → IsHeaderError (host_list pages ws)
 unfolding host_list
 host_list_header pages [] = refl
-host_list_header pages (w ∷ ws) = chosen (nat_le (length ws) 3) _ _ (bound (ranged 0 0 w) _ (ranged_header 0 0 w) (λ n. rising_header 0 (pages - 1) (w ∷ ws))) refl
+host_list_header pages (w ∷ ws) =
+    chosen (nat_le (length ws) 3) _ _ (bound (ranged 0 0 w) _ (ranged_header 0 0 w) (λ n. rising_header 0 (pages - 1) (w ∷ ws))) refl
 
 hosts_header : (pages : ℕ) (words : List (List ℕ)) → IsHeaderError (hosts_of pages words)
 unfolding hosts_of

@@ -106,7 +106,8 @@ by_words line (Err r) e all =
     let only = no_header line.bytes none in
     inr (all, cc, none)
 
-by_fault : (line : Raw) (o : Option Reason) (x : Result Header Reason) → Judged line o → (PassesAll line → HeadJudged line x) → HeadJudged line (after_checks o x)
+by_fault : (line : Raw) (o : Option Reason) (x : Result Header Reason) → Judged line o → (PassesAll line → HeadJudged line x)
+    → HeadJudged line (after_checks o x)
 by_fault line None x all more = more all
 by_fault line (Some r) x fails more = inl fails
 

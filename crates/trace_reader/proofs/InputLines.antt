@@ -43,24 +43,29 @@ LineJudged h seen line (Ok None) = PassesAll line × IsSkipped line.bytes
 LineJudged h seen line (Ok (Some s)) = PassesAll line × (IsSkipped line.bytes → ⊥) × SaysLine h seen line.bytes s
 LineJudged h seen line (Err r) = LineFails h seen line r
 
-by_content : (h : Header) (seen : Seen) (line : Raw) → IsHeader h → PassesAll line → (b : Bool) → is_skipped line.bytes ≡ b → (x : Result Saying Reason) → said h seen line.bytes ≡ x → LineJudged h seen line (cond b (Ok None) (x >>= λ s. Ok (Some s)))
+by_content : (h : Header) (seen : Seen) (line : Raw) → IsHeader h → PassesAll line → (b : Bool) → is_skipped line.bytes ≡ b
+    → (x : Result Saying Reason) → said h seen line.bytes ≡ x → LineJudged h seen line (cond b (Ok None) (x >>= λ s. Ok (Some s)))
 by_content h seen line header all true e x is = (all, skipped line.bytes e)
 by_content h seen line header all false e (Ok s) is = (all, (λ skip. let t = skips line.bytes skip in cc), only_said h seen line.bytes s is)
 by_content h seen line header all false e (Err r) is = inr (all, (λ skip. let t = skips line.bytes skip in cc), no_other h seen line.bytes r header is)
 
-by_fault : (h : Header) (seen : Seen) (line : Raw) (o : Option Reason) (x : Result (Option Saying) Reason) → Judged line o → (PassesAll line → LineJudged h seen line x) → LineJudged h seen line (after_checks o x)
+by_fault : (h : Header) (seen : Seen) (line : Raw) (o : Option Reason) (x : Result (Option Saying) Reason) → Judged line o
+    → (PassesAll line → LineJudged h seen line x) → LineJudged h seen line (after_checks o x)
 by_fault h seen line None x all more = more all
 by_fault h seen line (Some r) x fails more = inl fails
 
 line_judged : (h : Header) (seen : Seen) (line : Raw) → IsHeader h → LineJudged h seen line (line_of h seen line)
 unfolding line_of content
-line_judged h seen line header = by_fault h seen line (fault_of line) _ (judged line) (λ all. by_content h seen line header all (is_skipped line.bytes) refl (said h seen line.bytes) refl)
+line_judged h seen line header =
+    by_fault h seen line (fault_of line) _ (judged line)
+    (λ all. by_content h seen line header all (is_skipped line.bytes) refl (said h seen line.bytes) refl)
 
 line_skipped : (h : Header) (seen : Seen) (line : Raw) → PassesAll line → IsSkipped line.bytes → line_of h seen line ≡ Ok None
 unfolding line_of content
 line_skipped h seen line all s = rw (faultless line all, skips line.bytes s) refl
 
-line_says : (h : Header) (seen : Seen) (line : Raw) (s : Saying) → IsHeader h → PassesAll line → (IsSkipped line.bytes → ⊥) → SaysLine h seen line.bytes s → line_of h seen line ≡ Ok (Some s)
+line_says : (h : Header) (seen : Seen) (line : Raw) (s : Saying) → IsHeader h → PassesAll line → (IsSkipped line.bytes → ⊥)
+    → SaysLine h seen line.bytes s → line_of h seen line ≡ Ok (Some s)
 unfolding line_of content
 line_says h seen line s header all never is = rw (faultless line all, not_skipped line.bytes never, says h seen line.bytes s header is) refl
 
@@ -96,7 +101,9 @@ pub record IsCut (h : Header) (n at : ℕ) (seen : Seen) (parts : List (List ℕ
   pub ends : Ends h (n + length texts) (at + length (with_ends texts)) (seen_behind seen told) text rest told x
 
 pub long : (text : List ℕ) (texts : List (List ℕ)) → length (with_ends (text ∷ texts)) ≡ length text + 1 + length (with_ends texts)
-long text texts = let l : length (text ++ 10 ∷ with_ends texts) ≡ length text + length (10 ∷ with_ends texts) = length-append text (10 ∷ with_ends texts) in omega arith
+long text texts =
+    let l : length (text ++ 10 ∷ with_ends texts) ≡ length text + length (10 ∷ with_ends texts) = length-append text (10 ∷ with_ends texts) in
+    omega arith
 
 or_right : (a b c : Bool) → ((a || b) || c) ≡ (a || (b || c))
 or_right true b c = refl
@@ -115,21 +122,26 @@ go_there true = refl
 go_there false = refl
 
 seen_then : (seen : Seen) (n : ℕ) (s : Saying) (told : List Told) → seen_behind (seen_with seen s) told ≡ seen_behind seen ((n, s) ∷ told)
-seen_then seen n (Does a c) told = same_seen (seen_behind (seen_with seen (Does a c)) told) (seen_behind seen ((n, Does a c) ∷ told)) (λ id. or_right (seen.ids id) (sets_at id c) (set_by (lines_in told) id)) (more_there seen.go (go_in told))
+seen_then seen n (Does a c) told =
+    same_seen (seen_behind (seen_with seen (Does a c)) told) (seen_behind seen ((n, Does a c) ∷ told))
+    (λ id. or_right (seen.ids id) (sets_at id c) (set_by (lines_in told) id)) (more_there seen.go (go_in told))
 seen_then seen n Go told = same_seen (seen_behind (seen_with seen Go) told) (seen_behind seen ((n, Go) ∷ told)) (λ id. refl) (go_there seen.go)
 seen_then seen n (Schedules item) told = refl
 
 pub seen_alone : (seen : Seen) → seen ≡ seen_behind seen []
 seen_alone seen = same_seen seen (seen_behind seen []) (λ id. or_none (seen.ids id)) (or_none seen.go)
 
-moved : (h : Header) (n n1 at at1 : ℕ) (seen seen1 : Seen) (text : List ℕ) (rest : List (List ℕ)) (told : List Told) (x : Result (List Told) (ℕ × Reason)) → n ≡ n1 → at ≡ at1 → seen ≡ seen1 → Ends h n at seen text rest told x → Ends h n1 at1 seen1 text rest told x
+moved : (h : Header) (n n1 at at1 : ℕ) (seen seen1 : Seen) (text : List ℕ) (rest : List (List ℕ)) (told : List Told) (x : Result (List Told) (ℕ
+    × Reason)) → n ≡ n1 → at ≡ at1 → seen ≡ seen1 → Ends h n at seen text rest told x → Ends h n1 at1 seen1 text rest told x
 moved h n n1 at at1 seen seen1 text rest told x e e1 e2 ends = rw (← e, ← e1, ← e2) ends
 
-front_ends : (h : Header) (n at : ℕ) (seen : Seen) (text : List ℕ) (rest : List (List ℕ)) (m : ℕ) (s : Saying) (told : List Told) (x : Result (List Told) (ℕ × Reason)) → Ends h n at seen text rest told x → Ends h n at seen text rest ((m, s) ∷ told) (with_line m (Some s) x)
+front_ends : (h : Header) (n at : ℕ) (seen : Seen) (text : List ℕ) (rest : List (List ℕ)) (m : ℕ) (s : Saying) (told : List Told)
+    (x : Result (List Told) (ℕ × Reason)) → Ends h n at seen text rest told x → Ends h n at seen text rest ((m, s) ∷ told) (with_line m (Some s) x)
 front_ends h n at seen text rest m s told (Ok out) (e, a, b) = (ap (λ (v : List Told). (m, s) ∷ v) e, a, b)
 front_ends h n at seen text rest m s told (Err e) ends = ends
 
-skip_front : (h : Header) (n at : ℕ) (seen : Seen) (text : List ℕ) (parts : List (List ℕ)) (x : Result (List Told) (ℕ × Reason)) → IsText text → IsSkipped text → IsCut h (n + 1) (at + (length text + 1)) seen parts x → IsCut h n at seen (text ∷ parts) x
+skip_front : (h : Header) (n at : ℕ) (seen : Seen) (text : List ℕ) (parts : List (List ℕ)) (x : Result (List Told) (ℕ × Reason)) → IsText text
+    → IsSkipped text → IsCut h (n + 1) (at + (length text + 1)) seen parts x → IsCut h n at seen (text ∷ parts) x
 skip_front h n at seen text parts x is s k =
     let far : at + (length text + 1) + length (with_ends k.texts) ≡ at + length (with_ends (text ∷ k.texts)) = omega (arith, long text k.texts) in
     let next : n + 1 + length k.texts ≡ n + length (text ∷ k.texts) = omega arith in
@@ -145,7 +157,9 @@ skip_front h n at seen text parts x is s k =
       ends = moved h _ _ _ _ _ _ k.text k.rest k.told x next far refl k.ends;
     }
 
-line_front : (h : Header) (n at : ℕ) (seen : Seen) (text : List ℕ) (parts : List (List ℕ)) (s : Saying) (x : Result (List Told) (ℕ × Reason)) → IsText text → (IsSkipped text → ⊥) → SaysLine h seen text s → IsCut h (n + 1) (at + (length text + 1)) (seen_with seen s) parts x → IsCut h n at seen (text ∷ parts) (with_line n (Some s) x)
+line_front : (h : Header) (n at : ℕ) (seen : Seen) (text : List ℕ) (parts : List (List ℕ)) (s : Saying) (x : Result (List Told) (ℕ × Reason))
+    → IsText text → (IsSkipped text → ⊥) → SaysLine h seen text s → IsCut h (n + 1) (at + (length text + 1)) (seen_with seen s) parts x
+    → IsCut h n at seen (text ∷ parts) (with_line n (Some s) x)
 line_front h n at seen text parts s x is never says k =
     let far : at + (length text + 1) + length (with_ends k.texts) ≡ at + length (with_ends (text ∷ k.texts)) = omega (arith, long text k.texts) in
     let next : n + 1 + length k.texts ≡ n + length (text ∷ k.texts) = omega arith in
@@ -162,7 +176,8 @@ line_front h n at seen text parts s x is never says k =
     }
 
 -- The first of the lines fails.
-fails_here : (h : Header) (n at : ℕ) (seen : Seen) (text : List ℕ) (rest : List (List ℕ)) (r : Reason) → at ≤ 16777216 → n ≤ 1000001 → (rest ≡ [] → text ≡ [] → ⊥) → LineFails h seen (raw n at (more_of rest) text) r → IsCut h n at seen (text ∷ rest) (Err (n, r))
+fails_here : (h : Header) (n at : ℕ) (seen : Seen) (text : List ℕ) (rest : List (List ℕ)) (r : Reason) → at ≤ 16777216 → n ≤ 1000001
+    → (rest ≡ [] → text ≡ [] → ⊥) → LineFails h seen (raw n at (more_of rest) text) r → IsCut h n at seen (text ∷ rest) (Err (n, r))
 fails_here h n at seen text rest r small few some fails = record {
   texts = [];
   text = text;
@@ -176,9 +191,11 @@ fails_here h n at seen text rest r small few some fails = record {
 }
 
 nothing : (h : Header) (n at : ℕ) (seen : Seen) → at ≤ 16777216 → n ≤ 1000001 → IsCut h n at seen ([] ∷ []) (Ok [])
-nothing h n at seen small few = record { texts = []; text = []; rest = []; told = []; cut = refl; say = refl; size = omega arith; count = omega arith; ends = (refl, refl, refl) }
+nothing h n at seen small few =
+    record { texts = []; text = []; rest = []; told = []; cut = refl; say = refl; size = omega arith; count = omega arith; ends = (refl, refl, refl) }
 
-last_cut : (h : Header) (n at : ℕ) (seen : Seen) (c : ℕ) (cs : List ℕ) (z : Result (Option Saying) Reason) → at ≤ 16777216 → n ≤ 1000001 → LineJudged h seen (raw n at false (c ∷ cs)) z → IsCut h n at seen ((c ∷ cs) ∷ []) (onto n seen z (λ now. Ok []))
+last_cut : (h : Header) (n at : ℕ) (seen : Seen) (c : ℕ) (cs : List ℕ) (z : Result (Option Saying) Reason) → at ≤ 16777216 → n ≤ 1000001
+    → LineJudged h seen (raw n at false (c ∷ cs)) z → IsCut h n at seen ((c ∷ cs) ∷ []) (onto n seen z (λ now. Ok []))
 last_cut h n at seen c cs (Ok None) small few (all, s) = absurd (elim (all.2) [ inl e ↦ cc | inr e ↦ cc ])
 last_cut h n at seen c cs (Ok (Some l)) small few (all, never, s) = absurd (elim (all.2) [ inl e ↦ cc | inr e ↦ cc ])
 last_cut h n at seen c cs (Err r) small few fails = fails_here h n at seen (c ∷ cs) [] r small few (λ none empty. cc) fails
@@ -187,7 +204,9 @@ last_cut h n at seen c cs (Err r) small few fails = fails_here h n at seen (c �
 abbrev IsRest : Header → ℕ → ℕ → List (List ℕ) → Type 0
 IsRest h n at parts = (now : Seen) → at ≤ 16777216 → n ≤ 1000001 → IsCut h n at now parts (lines_of h n at now parts)
 
-next_cut : (h : Header) (n at : ℕ) (seen : Seen) (text y : List ℕ) (more : List (List ℕ)) (z : Result (Option Saying) Reason) → at ≤ 16777216 → n ≤ 1000001 → LineJudged h seen (raw n at true text) z → IsRest h (n + 1) (at + (length text + 1)) (y ∷ more) → IsCut h n at seen (text ∷ y ∷ more) (onto n seen z (λ now. lines_of h (n + 1) (at + (length text + 1)) now (y ∷ more)))
+next_cut : (h : Header) (n at : ℕ) (seen : Seen) (text y : List ℕ) (more : List (List ℕ)) (z : Result (Option Saying) Reason) → at ≤ 16777216
+    → n ≤ 1000001 → LineJudged h seen (raw n at true text) z → IsRest h (n + 1) (at + (length text + 1)) (y ∷ more)
+    → IsCut h n at seen (text ∷ y ∷ more) (onto n seen z (λ now. lines_of h (n + 1) (at + (length text + 1)) now (y ∷ more)))
 next_cut h n at seen text y more (Ok None) small few (all, s) rest =
     skip_front h n at seen text (y ∷ more) _ (all.3, all.4) s (rest seen all.0 (omega (arith, all.1)))
 next_cut h n at seen text y more (Ok (Some l)) small few (all, never, s) rest =
@@ -195,15 +214,20 @@ next_cut h n at seen text y more (Ok (Some l)) small few (all, never, s) rest =
 next_cut h n at seen text y more (Err r) small few fails rest = fails_here h n at seen text (y ∷ more) r small few (λ none empty. cc) fails
 
 -- What is read of the lines behind the header is what they say.
-pub cuts : (h : Header) (n at : ℕ) (seen : Seen) (p : List ℕ) (ps : List (List ℕ)) → IsHeader h → at ≤ 16777216 → n ≤ 1000001 → IsCut h n at seen (p ∷ ps) (lines_of h n at seen (p ∷ ps))
+pub cuts : (h : Header) (n at : ℕ) (seen : Seen) (p : List ℕ) (ps : List (List ℕ)) → IsHeader h → at ≤ 16777216 → n ≤ 1000001
+    → IsCut h n at seen (p ∷ ps) (lines_of h n at seen (p ∷ ps))
 unfolding lines_of
 cuts h n at seen [] [] header small few = nothing h n at seen small few
-cuts h n at seen (c ∷ cs) [] header small few = rw (not_empty c cs) (last_cut h n at seen c cs (line_of h seen (raw n at false (c ∷ cs))) small few (line_judged h seen (raw n at false (c ∷ cs)) header))
+cuts h n at seen (c ∷ cs) [] header small few =
+    rw (not_empty c cs)
+    (last_cut h n at seen c cs (line_of h seen (raw n at false (c ∷ cs))) small few (line_judged h seen (raw n at false (c ∷ cs)) header))
 cuts h n at seen p (y ∷ more) header small few =
-    next_cut h n at seen p y more (line_of h seen (raw n at true p)) small few (line_judged h seen (raw n at true p) header) (λ now little less. cuts h (n + 1) (at + (length p + 1)) now y more header little less)
+    next_cut h n at seen p y more (line_of h seen (raw n at true p)) small few (line_judged h seen (raw n at true p) header)
+    (λ now little less. cuts h (n + 1) (at + (length p + 1)) now y more header little less)
 
 -- What the lines behind the header say is read.
-unroll : (h : Header) (n at : ℕ) (seen : Seen) (x y : List ℕ) (zs ys : List (List ℕ)) → zs ≡ y ∷ ys → lines_of h n at seen (x ∷ zs) ≡ onto n seen (line_of h seen (raw n at true x)) (λ now. lines_of h (n + 1) (at + (length x + 1)) now zs)
+unroll : (h : Header) (n at : ℕ) (seen : Seen) (x y : List ℕ) (zs ys : List (List ℕ)) → zs ≡ y ∷ ys
+    → lines_of h n at seen (x ∷ zs) ≡ onto n seen (line_of h seen (raw n at true x)) (λ now. lines_of h (n + 1) (at + (length x + 1)) now zs)
 unfolding lines_of
 unroll h n at seen x y zs ys e = rw e refl
 
@@ -211,27 +235,32 @@ pub consed : (xs : List (List ℕ)) (p : List ℕ) (ps : List (List ℕ)) → (y
 consed [] p ps = (p, ps, refl)
 consed (x ∷ xs) p ps = (x, xs ++ p ∷ ps, refl)
 
-same_lines : (h : Header) (n n1 at at1 : ℕ) (seen seen1 : Seen) (parts : List (List ℕ)) → n ≡ n1 → at ≡ at1 → seen ≡ seen1 → lines_of h n at seen parts ≡ lines_of h n1 at1 seen1 parts
+same_lines : (h : Header) (n n1 at at1 : ℕ) (seen seen1 : Seen) (parts : List (List ℕ)) → n ≡ n1 → at ≡ at1 → seen ≡ seen1
+    → lines_of h n at seen parts ≡ lines_of h n1 at1 seen1 parts
 same_lines h n n1 at at1 seen seen1 parts e e1 e2 = rw (e, e1, e2) refl
 
 no_prefix : (x : Result (List Told) (ℕ × Reason)) → x ≡ with_prefix [] x
 no_prefix (Ok ls) = refl
 no_prefix (Err e) = refl
 
-onto_prefix : (n : ℕ) (s : Saying) (told : List Told) (x : Result (List Told) (ℕ × Reason)) → with_line n (Some s) (with_prefix told x) ≡ with_prefix ((n, s) ∷ told) x
+onto_prefix : (n : ℕ) (s : Saying) (told : List Told) (x : Result (List Told) (ℕ × Reason))
+    → with_line n (Some s) (with_prefix told x) ≡ with_prefix ((n, s) ∷ told) x
 onto_prefix n s told (Ok rest) = refl
 onto_prefix n s told (Err e) = refl
 
-pub said_lines : (h : Header) (n at : ℕ) (seen : Seen) (texts : List (List ℕ)) (told : List Told) (p : List ℕ) (ps : List (List ℕ)) → IsHeader h → SayLines h n seen texts told → at + length (with_ends texts) ≤ 16777216 → n + length texts ≤ 1000001
+pub said_lines : (h : Header) (n at : ℕ) (seen : Seen) (texts : List (List ℕ)) (told : List Told) (p : List ℕ) (ps : List (List ℕ)) → IsHeader h
+    → SayLines h n seen texts told → at + length (with_ends texts) ≤ 16777216 → n + length texts ≤ 1000001
     → lines_of h n at seen (texts ++ p ∷ ps) ≡ with_prefix told (lines_of h (n + length texts) (at + length (with_ends texts)) (seen_behind seen told) (p ∷ ps))
 said_lines h n at seen [] told p ps header say small few =
-    rw say (same_lines h n (n + 0) at (at + 0) seen (seen_behind seen []) (p ∷ ps) (omega arith) (omega arith) (seen_alone seen) ∙ no_prefix (lines_of h (n + 0) (at + 0) (seen_behind seen []) (p ∷ ps)))
+    rw say (same_lines h n (n + 0) at (at + 0) seen (seen_behind seen []) (p ∷ ps) (omega arith) (omega arith) (seen_alone seen)
+    ∙ no_prefix (lines_of h (n + 0) (at + 0) (seen_behind seen []) (p ∷ ps)))
 said_lines h n at seen (x ∷ xs) told p ps header (is, inl (s, say)) small few =
     let far : at + (length x + 1) + length (with_ends xs) ≡ at + length (with_ends (x ∷ xs)) = omega (arith, long x xs) in
     let next : n + 1 + length xs ≡ n + length (x ∷ xs) = omega arith in
     let (y, ys, e) = consed xs p ps in
     let all : PassesAll (raw n at true x) = (omega (arith, far), omega (arith, next), inl refl, is.0, is.1) in
-    let line : lines_of h n at seen (x ∷ (xs ++ p ∷ ps)) ≡ lines_of h (n + 1) (at + (length x + 1)) seen (xs ++ p ∷ ps) = unroll h n at seen x y (xs ++ p ∷ ps) ys e ∙ rw (line_skipped h seen (raw n at true x) all s) refl in
+    let line : lines_of h n at seen (x ∷ (xs ++ p ∷ ps)) ≡ lines_of h (n + 1) (at + (length x + 1)) seen (xs ++ p ∷ ps) =
+    unroll h n at seen x y (xs ++ p ∷ ps) ys e ∙ rw (line_skipped h seen (raw n at true x) all s) refl in
     line ∙ said_lines h (n + 1) (at + (length x + 1)) seen xs told p ps header say (omega (arith, far)) (omega (arith, next))
     ∙ ap (with_prefix told) (same_lines h _ _ _ _ _ _ (p ∷ ps) next far refl)
 said_lines h n at seen (x ∷ xs) told p ps header (is, inr (never, (s, more, e0, says, say))) small few =
@@ -239,7 +268,10 @@ said_lines h n at seen (x ∷ xs) told p ps header (is, inr (never, (s, more, e0
     let next : n + 1 + length xs ≡ n + length (x ∷ xs) = omega arith in
     let (y, ys, e) = consed xs p ps in
     let all : PassesAll (raw n at true x) = (omega (arith, far), omega (arith, next), inl refl, is.0, is.1) in
-    let line : lines_of h n at seen (x ∷ (xs ++ p ∷ ps)) ≡ with_line n (Some s) (lines_of h (n + 1) (at + (length x + 1)) (seen_with seen s) (xs ++ p ∷ ps)) = unroll h n at seen x y (xs ++ p ∷ ps) ys e ∙ rw (line_says h seen (raw n at true x) s header all never says) refl in
-    rw e0 (line ∙ ap (with_line n (Some s)) (said_lines h (n + 1) (at + (length x + 1)) (seen_with seen s) xs more p ps header say (omega (arith, far)) (omega (arith, next))
+    let line : lines_of h n at seen (x ∷ (xs ++ p ∷ ps))
+    ≡ with_line n (Some s) (lines_of h (n + 1) (at + (length x + 1)) (seen_with seen s) (xs ++ p ∷ ps)) =
+    unroll h n at seen x y (xs ++ p ∷ ps) ys e ∙ rw (line_says h seen (raw n at true x) s header all never says) refl in
+    rw e0 (line ∙ ap (with_line n (Some s))
+    (said_lines h (n + 1) (at + (length x + 1)) (seen_with seen s) xs more p ps header say (omega (arith, far)) (omega (arith, next))
     ∙ ap (with_prefix more) (same_lines h _ _ _ _ _ _ (p ∷ ps) next far (seen_then seen n s more)))
     ∙ onto_prefix n s more _)

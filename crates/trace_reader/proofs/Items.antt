@@ -1,5 +1,6 @@
 -- What the words of a schedule item say is read, and only that; and why they say nothing.
-use Rattle.std.proofs.Common.{◌≡◌, ◌≤◌, ◌<◌, ◌+◌, ◌&&◌, inl, inr, ℕ, List, [], ◌∷◌, Bool, true, false, cond, not, Result, Ok, Err, length, refl, arith, nat_le, ◌++◌, subst, sym, ap}
+use Rattle.std.proofs.Common.{◌≡◌, ◌≤◌, ◌<◌, ◌+◌, ◌&&◌, inl, inr, ℕ, List, [], ◌∷◌, Bool, true, false, cond, not, Result, Ok, Err, length, refl}
+use Rattle.std.proofs.Common.{arith, nat_le, ◌++◌, subst, sym, ap}
 use Rattle.std.specs.Prelude.{codes}
 use Rattle.std.specs.Fmt.{decimal}
 use Rattle.std.specs.List.{list_all}
@@ -28,7 +29,8 @@ use Rattle.trace_reader.proofs.Results.{both, branch, is_word, other_word, word_
 use Rattle.trace_reader.proofs.Spelled.{own, spelled, spelling}
 
 -- A name that is found among others passes their test, and its number is one of theirs.
-pub among_passes : (test : List ℕ → Bool) (n : ℕ) (names : List (List ℕ)) (w : List ℕ) (k : ℕ) → list_all test names ≡ true → number_among n names w ≡ Some k → test w ≡ true
+pub among_passes : (test : List ℕ → Bool) (n : ℕ) (names : List (List ℕ)) (w : List ℕ) (k : ℕ) → list_all test names ≡ true
+    → number_among n names w ≡ Some k → test w ≡ true
 among_passes test n [] w k all e = absurd (let no : ⊥ = cc in no)
 among_passes test n (name ∷ names) w k all e =
     let t = both (test name) (list_all test names) all in
@@ -71,7 +73,8 @@ passes_at : (test : List ℕ → Bool) (xs : List (List ℕ)) (w : List ℕ) (ys
 passes_at test [] w ys all = (both (test w) (list_all test ys) all).0
 passes_at test (x ∷ xs) w ys all = passes_at test xs w ys (both (test x) (list_all test (xs ++ w ∷ ys)) all).1
 
-found_at : (n k : ℕ) (xs : List (List ℕ)) (w : List ℕ) (ys : List (List ℕ)) → are_apart (xs ++ w ∷ ys) ≡ true → k ≡ n + length xs → number_among n (xs ++ w ∷ ys) w ≡ Some k
+found_at : (n k : ℕ) (xs : List (List ℕ)) (w : List ℕ) (ys : List (List ℕ)) → are_apart (xs ++ w ∷ ys) ≡ true → k ≡ n + length xs
+    → number_among n (xs ++ w ∷ ys) w ≡ Some k
 found_at n k [] w ys all e = let t : bytes_eq w w ≡ true = is_word w w refl in rw t (ap (λ (v : ℕ). Some v) (omega arith))
 found_at n k (x ∷ xs) w ys all e =
     let t = both (list_all (λ v. not (bytes_eq v x)) (xs ++ w ∷ ys)) (are_apart (xs ++ w ∷ ys)) all in
@@ -82,9 +85,11 @@ pub kind_read : (w : List ℕ) (code : ℕ) → IsKindNamed w code → kind_numb
 unfolding kind_number
 kind_read w code (xs, ys, e, k) =
     let all : are_apart kind_names ≡ true = refl in
-    subst (λ (names : List (List ℕ)). number_among 1 names w ≡ Some code) (sym e) (found_at 1 code xs w ys (subst (λ (names : List (List ℕ)). are_apart names ≡ true) e all) (omega arith))
+    subst (λ (names : List (List ℕ)). number_among 1 names w ≡ Some code) (sym e)
+    (found_at 1 code xs w ys (subst (λ (names : List (List ℕ)). are_apart names ≡ true) e all) (omega arith))
 
-stands_at : (n k : ℕ) (names : List (List ℕ)) (w : List ℕ) → number_among n names w ≡ Some k → (before after : List (List ℕ)) × (names ≡ before ++ w ∷ after) × (k ≡ length before + n)
+stands_at : (n k : ℕ) (names : List (List ℕ)) (w : List ℕ) → number_among n names w ≡ Some k
+    → (before after : List (List ℕ)) × (names ≡ before ++ w ∷ after) × (k ≡ length before + n)
 stands_at n k [] w e = absurd (let no : ⊥ = cc in no)
 stands_at n k (name ∷ names) w e = elim (branch (bytes_eq w name) (Some n) (number_among (n + 1) names w) (Some k) e) [
   | inl p ↦ let same : n ≡ k = cc in ([], names, ap (λ (v : List ℕ). v ∷ names) (sym (word_is w name p.0)), omega arith)
@@ -128,7 +133,8 @@ UntilJudged w (Err _) = ⊥
 turns_range : (n : ℕ) → (nat_le 1 n && nat_le n 10000000) ≡ true → (1 ≤ n) × (n ≤ 10000000)
 turns_range n e = (grind (arith, nat_tests, e), grind (arith, nat_tests, e))
 
-turns_in : (w : List ℕ) (n : ℕ) (b : Bool) → begins is_digit w ≡ true → number_of w ≡ Some n → (nat_le 1 n && nat_le n 10000000) ≡ b → UntilJudged w (cond b (Ok (Turns n)) (Err reason.Number))
+turns_in : (w : List ℕ) (n : ℕ) (b : Bool) → begins is_digit w ≡ true → number_of w ≡ Some n → (nat_le 1 n && nat_le n 10000000) ≡ b
+    → UntilJudged w (cond b (Ok (Turns n)) (Err reason.Number))
 turns_in w n true digit e range = (spelling w n e, turns_range n range, inl digit)
 turns_in w n false digit e range = inl digit
 
@@ -149,7 +155,8 @@ made_judged w (Some code) digit last e =
     let named = kind_stands w code e in
     ((never, named), kind_range w code e, inr (inr (code, named)))
 
-by_test : (w : List ℕ) (b c : Bool) → begins is_digit w ≡ b → bytes_eq w (codes "end") ≡ c → UntilJudged w (cond b (turns (number_of w)) (cond c (Ok Answered) (made (kind_number w))))
+by_test : (w : List ℕ) (b c : Bool) → begins is_digit w ≡ b → bytes_eq w (codes "end") ≡ c
+    → UntilJudged w (cond b (turns (number_of w)) (cond c (Ok Answered) (made (kind_number w))))
 by_test w true c digit last = turns_judged w (number_of w) digit refl
 by_test w false true digit last = let is = word_is w (codes "end") last in (is, tt, inr (inl is))
 by_test w false false digit last = made_judged w (kind_number w) digit last refl
@@ -172,7 +179,8 @@ has_declared h Manager header lt = (tt, tt)
 has_declared h (Worker i) header lt = let few = header.workers in (omega (arith, few, lt), lt)
 
 -- What the words of an item say is read.
-pub item_read : (h : Header) (who last : List ℕ) (item : Item) → IsHeader h → IsItemOf h item → who ≡ actor_name item.actor → SaysUntil last item.until → item_said h who last ≡ Ok item
+pub item_read : (h : Header) (who last : List ℕ) (item : Item) → IsHeader h → IsItemOf h item → who ≡ actor_name item.actor
+    → SaysUntil last item.until → item_said h who last ≡ Ok item
 unfolding item_said
 item_read h who last item header is name says =
     let k = has_declared h item.actor header is.actor in
@@ -186,19 +194,22 @@ ItemJudged h who last (Err reason.Actor) = (a : Actor) × IsActor a × (who ≡ 
 ItemJudged h who last (Err reason.Number) = (a : Actor) × IsActor a × (who ≡ actor_name a) × IsUntilForm last × IsDeclared h a
 ItemJudged h who last (Err _) = ⊥
 
-with_until : (h : Header) (who last : List ℕ) (x : Result Actor Reason) (u : Until) → NamesActor h who x → SaysUntil last u → IsUntilInRange u → IsUntilForm last → ItemJudged h who last (item_by x (Ok u))
+with_until : (h : Header) (who last : List ℕ) (x : Result Actor Reason) (u : Until) → NamesActor h who x → SaysUntil last u → IsUntilInRange u
+    → IsUntilForm last → ItemJudged h who last (item_by x (Ok u))
 with_until h who last (Ok a) u (is, known, name) says range form = (record { actor = declared_has h a known; until = range }, name, says)
 with_until h who last (Err reason.Word) u never says range form = λ a is e f. never a is e
 with_until h who last (Err reason.Actor) u (a, is, e, never) says range form = (a, is, e, form, never)
 with_until h who last (Err _) u never says range form = absurd never
 
-no_number : (h : Header) (who last : List ℕ) (x : Result Actor Reason) → NamesActor h who x → IsUntilForm last → ItemJudged h who last (item_by x (Err reason.Number))
+no_number : (h : Header) (who last : List ℕ) (x : Result Actor Reason) → NamesActor h who x → IsUntilForm last
+    → ItemJudged h who last (item_by x (Err reason.Number))
 no_number h who last (Ok a) (is, known, name) form = (a, is, name, form, known)
 no_number h who last (Err reason.Word) never form = λ a is e f. never a is e
 no_number h who last (Err reason.Actor) (a, is, e, never) form = (a, is, e, form, never)
 no_number h who last (Err _) never form = absurd never
 
-by_last : (h : Header) (who last : List ℕ) (x : Result Actor Reason) (y : Result Until Reason) → NamesActor h who x → UntilJudged last y → ItemJudged h who last (item_by x y)
+by_last : (h : Header) (who last : List ℕ) (x : Result Actor Reason) (y : Result Until Reason) → NamesActor h who x → UntilJudged last y
+    → ItemJudged h who last (item_by x y)
 by_last h who last x (Ok u) names (says, range, form) = with_until h who last x u names says range form
 by_last h who last x (Err reason.Word) names never = λ a is e form. never form
 by_last h who last x (Err reason.Number) names form = no_number h who last x names form

@@ -1,5 +1,6 @@
 -- Reading lines one after the other, as a loop does.
-use Rattle.std.proofs.Common.{◌≡◌, ◌≤◌, ◌<◌, ◌+◌, ℕ, List, [], ◌∷◌, Result, Ok, Err, Bool, true, false, length, take, drop, cond, not, ◌++◌, refl, sym, ap, subst, ◌∙◌, append_assoc, arith, ◌==◌, nat_lt}
+use Rattle.std.proofs.Common.{◌≡◌, ◌≤◌, ◌<◌, ◌+◌, ℕ, List, [], ◌∷◌, Result, Ok, Err, Bool, true, false, length, take, drop, cond, not, ◌++◌, refl}
+use Rattle.std.proofs.Common.{sym, ap, subst, ◌∙◌, append_assoc, arith, ◌==◌, nat_lt}
 use Rattle.std.proofs.lemmas.List.{append-nil, length-append}
 use Rattle.std.proofs.lemmas.List.Splits.{slice_split_first}
 use Rattle.std.proofs.lemmas.Bool.Decides.{nat_tests}
@@ -38,7 +39,8 @@ pub part : (bytes : List ℕ) → (x : List ℕ) × (xs : List (List ℕ)) × (p
 part [] = ([], [], refl)
 part (b ∷ bs) = cons_of (b == 10) b (parts_of bs)
 
-on_test : (c : Bool) (x : ℕ) (xs : List ℕ) (n : ℕ) (parts : List (List ℕ)) → length xs < cond (not c) (1 + n) 0 → (length xs ≤ n → parts ≡ xs ∷ []) → cond c ([] ∷ parts) (onto_first x parts) ≡ (x ∷ xs) ∷ []
+on_test : (c : Bool) (x : ℕ) (xs : List ℕ) (n : ℕ) (parts : List (List ℕ)) → length xs < cond (not c) (1 + n) 0 → (length xs ≤ n → parts ≡ xs ∷ [])
+    → cond c ([] ∷ parts) (onto_first x parts) ≡ (x ∷ xs) ∷ []
 on_test true x xs n parts le rest = absurd (omega arith)
 on_test false x xs n parts le rest = ap (onto_first x) (rest (omega arith))
 
@@ -69,8 +71,11 @@ pub not_empty : (c : ℕ) (cs : List ℕ) → is_empty (c ∷ cs) ≡ false
 not_empty c cs = grind (arith, nat_tests)
 
 -- The first line, and the lines behind it.
-pub unrolled : (h : Header) (n at size : ℕ) (seen : Seen) (rest text after : List ℕ) (ended : Bool) → 0 < length rest → parts_of rest ≡ text ∷ cond ended (parts_of after) [] → (ended ≡ false → after ≡ []) → length rest ≡ length text + cond ended 1 0 + length after → size ≡ length text + cond ended 1 0
-    → lines_of h n at seen (parts_of rest) ≡ onto n seen (line_of h seen (record { number = n; end = at + size; ended_by_lf = ended; bytes = text })) (λ now. lines_of h (n + 1) (at + size) now (parts_of after))
+pub unrolled : (h : Header) (n at size : ℕ) (seen : Seen) (rest text after : List ℕ) (ended : Bool) → 0 < length rest
+    → parts_of rest ≡ text ∷ cond ended (parts_of after) [] → (ended ≡ false → after ≡ []) → length rest ≡ length text + cond ended 1 0 + length after
+    → size ≡ length text + cond ended 1 0
+    → lines_of h n at seen (parts_of rest) ≡ onto n seen (line_of h seen (record { number = n; end = at + size; ended_by_lf = ended; bytes = text }))
+    (λ now. lines_of h (n + 1) (at + size) now (parts_of after))
 unfolding lines_of
 unrolled h n at size seen rest text after true lt e last len is =
     let p = part after in
@@ -83,7 +88,8 @@ unrolled h n at size seen rest (c ∷ cs) after false lt e last len is =
     rw (e, z, is, some) refl
 
 -- each line takes a byte
-pub moves : (size : ℕ) (rest text after : List ℕ) (ended : Bool) → 0 < length rest → (ended ≡ false → after ≡ []) → length rest ≡ length text + cond ended 1 0 + length after → size ≡ length text + cond ended 1 0 → 0 < size
+pub moves : (size : ℕ) (rest text after : List ℕ) (ended : Bool) → 0 < length rest → (ended ≡ false → after ≡ [])
+    → length rest ≡ length text + cond ended 1 0 + length after → size ≡ length text + cond ended 1 0 → 0 < size
 moves size rest text after true lt last len is = omega arith
 moves size rest text after false lt last len is = let z : length after ≡ 0 = ap length (last refl) in omega arith
 
@@ -126,16 +132,20 @@ one_longer lines l = length-append lines (l ∷ [])
 first_go : (count : ℕ) (go more : Option ℕ) → go ≡ None → go_behind go count (Some 0) ≡ go_behind (Some count) count more
 first_go count go more none = rw none (ap (λ (v : ℕ). Some v) (omega arith))
 
-read_on : (h : Header) (t : Trace) (n : ℕ) (found : Option Saying) (rest : Result (List Told) (ℕ × Reason)) → (found ≡ Some Go → t.go ≡ None) → with_front t (with_header h (with_line n found rest)) ≡ with_front (put_to t n found) (with_header h rest)
+read_on : (h : Header) (t : Trace) (n : ℕ) (found : Option Saying) (rest : Result (List Told) (ℕ × Reason)) → (found ≡ Some Go → t.go ≡ None)
+    → with_front t (with_header h (with_line n found rest)) ≡ with_front (put_to t n found) (with_header h rest)
 read_on h t n None (Ok told) first = refl
 read_on h t n None (Err e) first = refl
 read_on h t n (Some s) (Err e) first = refl
 read_on h t n (Some (Does a c)) (Ok told) first =
-    ap (λ (v : Trace). Ok v) (same_trace t.header _ _ _ _ _ _ (simp append_assoc refl) (go_line t.go (go_in told) (length t.lines) _ (one_longer t.lines (record { number = n; actor = a; command = c }))) refl)
+    ap (λ (v : Trace). Ok v) (same_trace t.header _ _ _ _ _ _ (simp append_assoc refl)
+    (go_line t.go (go_in told) (length t.lines) _ (one_longer t.lines (record { number = n; actor = a; command = c }))) refl)
 read_on h t n (Some Go) (Ok told) first =
-    ap (λ (v : Trace). Ok v) (same_trace t.header (t.lines ++ lines_in told) (t.lines ++ lines_in told) _ _ (t.items ++ items_in told) (t.items ++ items_in told) refl (first_go (length t.lines) t.go (go_in told) (first refl)) refl)
+    ap (λ (v : Trace). Ok v) (same_trace t.header (t.lines ++ lines_in told) (t.lines ++ lines_in told) _ _ (t.items ++ items_in told)
+    (t.items ++ items_in told) refl (first_go (length t.lines) t.go (go_in told) (first refl)) refl)
 read_on h t n (Some (Schedules item)) (Ok told) first =
-    ap (λ (v : Trace). Ok v) (same_trace t.header (t.lines ++ lines_in told) (t.lines ++ lines_in told) (go_behind t.go (length t.lines) (go_in told)) (go_behind t.go (length t.lines) (go_in told)) _ _ refl refl (simp append_assoc refl))
+    ap (λ (v : Trace). Ok v) (same_trace t.header (t.lines ++ lines_in told) (t.lines ++ lines_in told) (go_behind t.go (length t.lines) (go_in told))
+    (go_behind t.go (length t.lines) (go_in told)) _ _ refl refl (simp append_assoc refl))
 
 -- What the lines behind line n are read with.
 abbrev Rest : Type 0
@@ -151,22 +161,29 @@ go_seen before count (Some Go) = refl
 go_seen before count (Some (Schedules item)) = refl
 
 put_seen : (old new : Body) (n : ℕ) (found : Option Saying) → IsPut old new n found → seen_of new.before ≡ seen_after (seen_of old.before) found
-put_seen old new n found put = same_seen (seen_of new.before) (seen_after (seen_of old.before) found) put.ids (rw put.go (go_seen old.before (length old.lines.items) found))
+put_seen old new n found put =
+    same_seen (seen_of new.before) (seen_after (seen_of old.before) found) put.ids (rw put.go (go_seen old.before (length old.lines.items) found))
 
 not_there : (o : Option ℕ) → is_there o ≡ false → o ≡ None
 not_there None e = refl
 not_there (Some n) e = cc
 
-go_first : (before : Before) (read : Result (Option Saying) Reason) (found : Option Saying) → IsFirst (seen_of before) read → read ≡ Ok found → found ≡ Some Go → before.go ≡ None
+go_first : (before : Before) (read : Result (Option Saying) Reason) (found : Option Saying) → IsFirst (seen_of before) read → read ≡ Ok found
+    → found ≡ Some Go → before.go ≡ None
 go_first before read found first is go =
     let e : read ≡ Ok (Some Go) = rw (is, go) refl in
     not_there before.go (subst (IsFirst (seen_of before)) e first)
 
-pub goes_on : (h : Header) (old new : Body) (n : ℕ) (read : Result (Option Saying) Reason) (found : Option Saying) (here : Result (List Told) (ℕ × Reason)) (rest : Rest) (total : Result Trace (ℕ × Reason)) → here ≡ onto n (seen_of old.before) read rest → IsFirst (seen_of old.before) read → read ≡ Ok found → IsPut old new n found → with_front (trace_with h old) (with_header h here) ≡ total
+pub goes_on : (h : Header) (old new : Body) (n : ℕ) (read : Result (Option Saying) Reason) (found : Option Saying)
+    (here : Result (List Told) (ℕ × Reason)) (rest : Rest) (total : Result Trace (ℕ × Reason)) → here ≡ onto n (seen_of old.before) read rest
+    → IsFirst (seen_of old.before) read → read ≡ Ok found → IsPut old new n found → with_front (trace_with h old) (with_header h here) ≡ total
     → with_front (trace_with h new) (with_header h (rest (seen_of new.before))) ≡ total
 goes_on h old new n read found here rest total u first is put so_far =
     let now = put_seen old new n found put in
-    let one : with_front (trace_with h old) (with_header h here) ≡ with_front (put_to (trace_with h old) n found) (with_header h (rest (seen_after (seen_of old.before) found))) = rw (u, is) (read_on h (trace_with h old) n found (rest (seen_after (seen_of old.before) found)) (λ go. go_first old.before read found first is go)) in
+    let one : with_front (trace_with h old) (with_header h here)
+    ≡ with_front (put_to (trace_with h old) n found) (with_header h (rest (seen_after (seen_of old.before) found))) =
+    rw (u, is)
+    (read_on h (trace_with h old) n found (rest (seen_after (seen_of old.before) found)) (λ go. go_first old.before read found first is go)) in
     rw (put_trace h old new n found put, now) (sym one ∙ so_far)
 
 -- What was read stays in its ranges.
@@ -174,25 +191,30 @@ more_below : (o : Option ℕ) (m n : ℕ) → m ≤ n → IfSome o (λ above. ab
 more_below None m n le is = tt
 more_below (Some k) m n le is = omega arith
 
-put_lines : (h : Header) (lines : List Line) (n : ℕ) (found : Option Saying) → AreLinesOf h lines → IfSome found (λ s. IsSayingOf h s) → AreLinesOf h (with_found lines n found)
+put_lines : (h : Header) (lines : List Line) (n : ℕ) (found : Option Saying) → AreLinesOf h lines → IfSome found (λ s. IsSayingOf h s)
+    → AreLinesOf h (with_found lines n found)
 put_lines h lines n None all here = all
 put_lines h lines n (Some (Does a c)) all here = All-push (IsLineOf h) lines (record { number = n; actor = a; command = c }) all here
 put_lines h lines n (Some Go) all here = all
 put_lines h lines n (Some (Schedules item)) all here = all
 
-put_items : (h : Header) (items : List Item) (found : Option Saying) → All (IsItemOf h) items → IfSome found (λ s. IsSayingOf h s) → All (IsItemOf h) (with_item items found)
+put_items : (h : Header) (items : List Item) (found : Option Saying) → All (IsItemOf h) items → IfSome found (λ s. IsSayingOf h s)
+    → All (IsItemOf h) (with_item items found)
 put_items h items None all here = all
 put_items h items (Some (Does a c)) all here = all
 put_items h items (Some Go) all here = all
 put_items h items (Some (Schedules item)) all here = All-push (IsItemOf h) items item all here
 
-put_go : (lines : List Line) (n : ℕ) (go : Option ℕ) (found : Option Saying) → IfSome go (λ above. above ≤ length lines) → IfSome (with_go (length lines) go found) (λ above. above ≤ length (with_found lines n found))
+put_go : (lines : List Line) (n : ℕ) (go : Option ℕ) (found : Option Saying) → IfSome go (λ above. above ≤ length lines)
+    → IfSome (with_go (length lines) go found) (λ above. above ≤ length (with_found lines n found))
 put_go lines n go None is = is
-put_go lines n go (Some (Does a c)) is = let longer = one_longer lines (record { number = n; actor = a; command = c }) in more_below go (length lines) _ (omega (arith, longer)) is
+put_go lines n go (Some (Does a c)) is =
+    let longer = one_longer lines (record { number = n; actor = a; command = c }) in more_below go (length lines) _ (omega (arith, longer)) is
 put_go lines n go (Some Go) is = omega arith
 put_go lines n go (Some (Schedules item)) is = is
 
-pub all_read : (h : Header) (old new : Body) (n : ℕ) (found : Option Saying) → IsBodyOf h old → IfSome found (λ s. IsSayingOf h s) → IsPut old new n found → IsBodyOf h new
+pub all_read : (h : Header) (old new : Body) (n : ℕ) (found : Option Saying) → IsBodyOf h old → IfSome found (λ s. IsSayingOf h s)
+    → IsPut old new n found → IsBodyOf h new
 all_read h old new n found all here put = record {
   lines = rw put.lines (put_lines h old.lines.items n found all.lines here);
   items = rw put.items (put_items h old.items.items found all.items here);
@@ -214,10 +236,12 @@ no_lines None = refl
 no_lines (Some n) = ap (λ (v : ℕ). Some v) (omega arith)
 
 nothing_before : (h : Header) (x : Result (List Told) (ℕ × Reason)) → with_front (made_of h [] None []) (with_header h x) ≡ with_header h x
-nothing_before h (Ok told) = ap (λ (v : Trace). Ok v) (same_trace h (lines_in told) (lines_in told) _ _ (items_in told) (items_in told) refl (no_lines (go_in told)) refl)
+nothing_before h (Ok told) =
+    ap (λ (v : Trace). Ok v) (same_trace h (lines_in told) (lines_in told) _ _ (items_in told) (items_in told) refl (no_lines (go_in told)) refl)
 nothing_before h (Err e) = refl
 
-pub starts : (h : Header) (body : Body) (n at : ℕ) (parts : List (List ℕ)) → body.lines.items ≡ [] → body.items.items ≡ [] → body.before.go ≡ None → ((id : ℕ) → (seen_of body.before).ids id ≡ false)
+pub starts : (h : Header) (body : Body) (n at : ℕ) (parts : List (List ℕ)) → body.lines.items ≡ [] → body.items.items ≡ [] → body.before.go ≡ None
+    → ((id : ℕ) → (seen_of body.before).ids id ≡ false)
     → with_front (trace_with h body) (with_header h (lines_of h n at (seen_of body.before) parts)) ≡ with_header h (lines_of h n at none_seen parts)
 starts h body n at parts lines items go ids =
     let none : seen_of body.before ≡ none_seen = same_seen (seen_of body.before) none_seen ids (rw go refl) in
@@ -227,7 +251,9 @@ starts h body n at parts lines items go ids =
 pub none_read : (h : Header) (body : Body) → body.lines.items ≡ [] → body.items.items ≡ [] → body.before.go ≡ None → IsBodyOf h body
 none_read h body lines items go = record { lines = rw lines (All-nil (IsLineOf h)); items = rw items (All-nil (IsItemOf h)); go = rw go tt }
 
-pub stops : (h : Header) (body : Body) (n : ℕ) (read : Result (Option Saying) Reason) (e : ReadError) (here : Result (List Told) (ℕ × Reason)) (rest : Rest) (total : Result Trace (ℕ × Reason)) → here ≡ onto n (seen_of body.before) read rest → Fails n e read → with_front (trace_with h body) (with_header h here) ≡ total → Tells (trace_with h) (Err e) total
+pub stops : (h : Header) (body : Body) (n : ℕ) (read : Result (Option Saying) Reason) (e : ReadError) (here : Result (List Told) (ℕ × Reason))
+    (rest : Rest) (total : Result Trace (ℕ × Reason)) → here ≡ onto n (seen_of body.before) read rest → Fails n e read
+    → with_front (trace_with h body) (with_header h here) ≡ total → Tells (trace_with h) (Err e) total
 stops h body n read errors.NoMemory here rest total u fails so_far = tt
 stops h body n read (errors.Refused line r) here rest total u fails so_far =
     let one : with_front (trace_with h body) (with_header h here) ≡ Err (line, r) = rw (u, fails.1, fails.0) refl in
@@ -237,8 +263,10 @@ go_alone : (go : Option ℕ) (count : ℕ) → go_behind go count None ≡ go
 go_alone None count = refl
 go_alone (Some n) count = refl
 
-pub is_done : (h : Header) (body : Body) (n at : ℕ) (seen : Seen) (rest : List ℕ) (total : Result Trace (ℕ × Reason)) → length rest < 1 → with_front (trace_with h body) (with_header h (lines_of h n at seen (parts_of rest))) ≡ total → total ≡ Ok (trace_with h body)
+pub is_done : (h : Header) (body : Body) (n at : ℕ) (seen : Seen) (rest : List ℕ) (total : Result Trace (ℕ × Reason)) → length rest < 1
+    → with_front (trace_with h body) (with_header h (lines_of h n at seen (parts_of rest))) ≡ total → total ≡ Ok (trace_with h body)
 is_done h body n at seen rest total lt so_far =
     let whole = same_trace h _ _ _ _ _ _ (append-nil body.lines.items) (go_alone body.before.go (length body.lines.items)) (append-nil body.items.items) in
-    let one : with_front (trace_with h body) (with_header h (lines_of h n at seen (parts_of rest))) ≡ Ok (trace_with h body) = rw (nothing_left h n at seen rest lt) (ap (λ (v : Trace). Ok v) whole) in
+    let one : with_front (trace_with h body) (with_header h (lines_of h n at seen (parts_of rest))) ≡ Ok (trace_with h body) =
+    rw (nothing_left h n at seen rest lt) (ap (λ (v : Trace). Ok v) whole) in
     sym so_far ∙ one

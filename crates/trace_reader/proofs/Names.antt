@@ -1,5 +1,6 @@
 -- Which words name an actor.
-use Rattle.std.proofs.Common.{◌≡◌, ◌≤◌, ◌<◌, ℕ, List, [], ◌∷◌, Bool, true, false, cond, Result, Ok, Err, refl, sym, ap, subst, ◌∙◌, arith, nat_lt, nat_le, length, ◌==◌}
+use Rattle.std.proofs.Common.{◌≡◌, ◌≤◌, ◌<◌, ℕ, List, [], ◌∷◌, Bool, true, false, cond, Result, Ok, Err, refl, sym, ap, subst, ◌∙◌, arith, nat_lt}
+use Rattle.std.proofs.Common.{nat_le, length, ◌==◌}
 use Rattle.std.specs.Prelude.{codes}
 use Rattle.std.specs.Fmt.{decimal}
 use Rattle.std.specs.Str.{bytes_eq}
@@ -38,9 +39,12 @@ Names letter most count w (Err _) = ⊥
 in_decimal : (letter : ℕ) (ds : List ℕ) (i : ℕ) → i ≤ 15 → letter ∷ ds ≡ letter ∷ decimal i → decimal_number ds ≡ Some i
 in_decimal letter ds i le e = let same : ds ≡ decimal i = cc in rw same (decimal_only i (omega arith))
 
-index_in : (letter most count : ℕ) (ds : List ℕ) (n : ℕ) (small known : Bool) → most ≤ 15 → decimal_number ds ≡ Some n → nat_le n most ≡ small → nat_lt n count ≡ known → Names letter most count (letter ∷ ds) (cond small (cond known (Ok n) (Err reason.Actor)) (Err reason.Word))
-index_in letter most count ds n true true few e s k = (grind (arith, nat_tests), grind (arith, nat_tests), ap (λ (l : List ℕ). letter ∷ l) (decimal_found ds n e).1)
-index_in letter most count ds n true false few e s k = (n, grind (arith, nat_tests), (λ lt. grind (arith, nat_tests)), ap (λ (l : List ℕ). letter ∷ l) (decimal_found ds n e).1)
+index_in : (letter most count : ℕ) (ds : List ℕ) (n : ℕ) (small known : Bool) → most ≤ 15 → decimal_number ds ≡ Some n → nat_le n most ≡ small
+    → nat_lt n count ≡ known → Names letter most count (letter ∷ ds) (cond small (cond known (Ok n) (Err reason.Actor)) (Err reason.Word))
+index_in letter most count ds n true true few e s k =
+    (grind (arith, nat_tests), grind (arith, nat_tests), ap (λ (l : List ℕ). letter ∷ l) (decimal_found ds n e).1)
+index_in letter most count ds n true false few e s k =
+    (n, grind (arith, nat_tests), (λ lt. grind (arith, nat_tests)), ap (λ (l : List ℕ). letter ∷ l) (decimal_found ds n e).1)
 index_in letter most count ds n false known few e s k = λ i le is.
     let d : decimal_number ds ≡ Some i = in_decimal letter ds i (omega arith) is in
     let same : n ≡ i = cc in
@@ -50,7 +54,8 @@ index : (letter most count : ℕ) (ds : List ℕ) (o : Option ℕ) → most ≤ 
 index letter most count ds None few e = λ i le is. let d : decimal_number ds ≡ Some i = in_decimal letter ds i (omega arith) is in cc
 index letter most count ds (Some n) few e = index_in letter most count ds n (nat_le n most) (nat_lt n count) few e refl refl
 
-by_letter : (letter most count c : ℕ) (ds : List ℕ) (b : Bool) → most ≤ 15 → (c == letter) ≡ b → Names letter most count (c ∷ ds) (cond b (declared most count (decimal_number ds)) (Err reason.Word))
+by_letter : (letter most count c : ℕ) (ds : List ℕ) (b : Bool) → most ≤ 15 → (c == letter) ≡ b
+    → Names letter most count (c ∷ ds) (cond b (declared most count (decimal_number ds)) (Err reason.Word))
 by_letter letter most count c ds true few e = let v : c ≡ letter = grind (arith, nat_tests) in rw v (index letter most count ds (decimal_number ds) few refl)
 by_letter letter most count c ds false few e = λ i le is. let v : c ≡ letter = cc in let t : (c == letter) ≡ true = eq-eqb c letter v in cc
 
@@ -108,7 +113,8 @@ record IsKind (h : Header) (w : List ℕ) (letter most count : ℕ) (make : ℕ 
   name : (i : ℕ) → actor_name (make i) ≡ letter ∷ decimal i
   only : (a : Actor) → IsActor a → w ≡ actor_name a → (i : ℕ) × (i ≤ most) × (w ≡ letter ∷ decimal i)
 
-of_kind : (h : Header) (w : List ℕ) (letter most count : ℕ) (make : ℕ → Actor) (r : Result ℕ Reason) → IsKind h w letter most count make → Names letter most count w r → NamesActor h w (r >>= λ n. Ok (make n))
+of_kind : (h : Header) (w : List ℕ) (letter most count : ℕ) (make : ℕ → Actor) (r : Result ℕ Reason) → IsKind h w letter most count make
+    → Names letter most count w r → NamesActor h w (r >>= λ n. Ok (make n))
 of_kind h w letter most count make (Ok i) k (le, lt, e) = (k.is i le, k.known i lt, e ∙ sym (k.name i))
 of_kind h w letter most count make (Err reason.Word) k never = λ a is e. let f = k.only a is e in never f.0 f.1 f.2
 of_kind h w letter most count make (Err reason.Actor) k (i, le, never, e) = (make i, k.is i le, e ∙ sym (k.name i), λ d. never (k.below i d))
@@ -135,7 +141,8 @@ hosts h w t = record { is = λ i le. le; known = λ i lt. lt; below = λ i lt. l
     one Manager is e = absurd (let f : true ≡ false = other (λ c. c == 104) w Manager true false t e refl in cc)
     one (Worker i) is e = absurd (let f : true ≡ false = other (λ c. c == 104) w (Worker i) true false t e refl in cc)
 
-workers : (h : Header) (w : List ℕ) → (w ≡ codes "vm" → ⊥) → begins (λ c. c == 118) w ≡ false → begins (λ c. c == 104) w ≡ false → IsKind h w 119 3 h.workers Worker
+workers : (h : Header) (w : List ℕ) → (w ≡ codes "vm" → ⊥) → begins (λ c. c == 118) w ≡ false → begins (λ c. c == 104) w ≡ false
+    → IsKind h w 119 3 h.workers Worker
 workers h w never t u = record { is = λ i le. le; known = λ i lt. lt; below = λ i lt. lt; name = λ i. refl; only = λ a is e. one a is e }
   where
     one : (a : Actor) → IsActor a → w ≡ actor_name a → (i : ℕ) × (i ≤ 3) × (w ≡ 119 ∷ decimal i)
@@ -145,12 +152,14 @@ workers h w never t u = record { is = λ i le. le; known = λ i lt. lt; below = 
     one (Worker i) is e = (i, is, e)
 
 by_kind : (h : Header) (w : List ℕ) (b c : Bool) → (w ≡ codes "vm" → ⊥) → begins (λ c. c == 118) w ≡ b → begins (λ c. c == 104) w ≡ c
-    → NamesActor h w (cond b (indexed 118 15 h.vcpus w >>= λ n. Ok (Vcpu n)) (cond c (indexed 104 3 (length h.hosts) w >>= λ n. Ok (Host n)) (indexed 119 3 h.workers w >>= λ n. Ok (Worker n))))
+    → NamesActor h w (cond b (indexed 118 15 h.vcpus w >>= λ n. Ok (Vcpu n))
+    (cond c (indexed 104 3 (length h.hosts) w >>= λ n. Ok (Host n)) (indexed 119 3 h.workers w >>= λ n. Ok (Worker n))))
 by_kind h w true c never t u = of_kind h w 118 15 h.vcpus Vcpu _ (vcpus h w never t) (index_judged 118 15 h.vcpus w (omega arith))
 by_kind h w false true never t u = of_kind h w 104 3 (length h.hosts) Host _ (hosts h w u) (index_judged 104 3 (length h.hosts) w (omega arith))
 by_kind h w false false never t u = of_kind h w 119 3 h.workers Worker _ (workers h w never t u) (index_judged 119 3 h.workers w (omega arith))
 
-by_name : (h : Header) (w : List ℕ) (b : Bool) (y : Result Actor Reason) → bytes_eq w (codes "vm") ≡ b → ((w ≡ codes "vm" → ⊥) → NamesActor h w y) → NamesActor h w (cond b (Ok Manager) y)
+by_name : (h : Header) (w : List ℕ) (b : Bool) (y : Result Actor Reason) → bytes_eq w (codes "vm") ≡ b → ((w ≡ codes "vm" → ⊥) → NamesActor h w y)
+    → NamesActor h w (cond b (Ok Manager) y)
 by_name h w true y e more = (tt, tt, word_is w (codes "vm") e)
 by_name h w false y e more = more (λ is. let t : bytes_eq w (codes "vm") ≡ true = is_word w (codes "vm") is in cc)
 

@@ -14,16 +14,21 @@ end_by : (bound : ℕ) (runs : List Run) → 2 ^ 36 ≤ bound → All IsRun runs
 end_by bound runs le all = All-weaker IsRun (λ (r : Run). r.end ≤ bound) (λ r h. omega (arith, h.1, le)) runs all
 
 -- The count at one span is of the tables that some line wants.
-pub wanted : (n span count pages : ℕ) (lines given : List Line) (runs seen : List Run) → 2 ^ 36 ≤ n * span → given ≡ lines → seen ≡ runs → All IsRun runs → ((m : ℕ) → EndBy (m * span) seen → count ≡ count_below m (any_covers span seen)) → ((s i : ℕ) → any_covers s runs i ≡ list_any (λ line. wants pages s i line.command) given) → count ≡ count_below n (λ i. list_any (λ line. wants pages span i line.command) lines)
+pub wanted : (n span count pages : ℕ) (lines given : List Line) (runs seen : List Run) → 2 ^ 36 ≤ n * span → given ≡ lines → seen ≡ runs
+    → All IsRun runs → ((m : ℕ) → EndBy (m * span) seen → count ≡ count_below m (any_covers span seen)) → ((s i : ℕ) → any_covers s runs i
+    ≡ list_any (λ line. wants pages s i line.command) given) → count ≡ count_below n (λ i. list_any (λ line. wants pages span i line.command) lines)
 wanted n span count pages lines given runs seen le g e all counted same =
     counted n (end_by (n * span) seen le (All-same IsRun seen runs e all))
     ∙ count-same n _ _ (λ i. ap (λ l. any_covers span l i) e ∙ same span i ∙ ap (list_any (λ line. wants pages span i line.command)) g)
 
 -- It is no more than all tables.
-pub few : (n span count : ℕ) (runs seen : List Run) → 2 ^ 36 ≤ n * span → seen ≡ runs → All IsRun runs → ((m : ℕ) → EndBy (m * span) seen → count ≡ count_below m (any_covers span seen)) → count ≤ n
-few n span count runs seen le e all counted = omega (arith, counted n (end_by (n * span) seen le (All-same IsRun seen runs e all)), count-le n (any_covers span seen))
+pub few : (n span count : ℕ) (runs seen : List Run) → 2 ^ 36 ≤ n * span → seen ≡ runs → All IsRun runs
+    → ((m : ℕ) → EndBy (m * span) seen → count ≡ count_below m (any_covers span seen)) → count ≤ n
+few n span count runs seen le e all counted =
+    omega (arith, counted n (end_by (n * span) seen le (All-same IsRun seen runs e all)), count-le n (any_covers span seen))
 
 -- Four, and the tables of the three spans.
-pub total : (h : Header) (lines : List Line) (upper middle lower : ℕ) → upper ≡ tables_of h.pages lines (2 ^ 27) → middle ≡ tables_of h.pages lines (2 ^ 18) → lower ≡ tables_of h.pages lines (2 ^ 9) → 4 + upper + middle + lower ≡ need h lines
+pub total : (h : Header) (lines : List Line) (upper middle lower : ℕ) → upper ≡ tables_of h.pages lines (2 ^ 27)
+    → middle ≡ tables_of h.pages lines (2 ^ 18) → lower ≡ tables_of h.pages lines (2 ^ 9) → 4 + upper + middle + lower ≡ need h lines
 unfolding need
 total h lines upper middle lower a b c = rw (a, b, c) refl

@@ -1,5 +1,6 @@
 -- The words after a command's word, and the actor's name: what they spell, and why one is refused.
-use Rattle.std.proofs.Common.{◌≡◌, ◌≤◌, ◌<◌, ◌+◌, ◌*◌, ◌/◌, ◌%◌, ◌^◌, inl, inr, ℕ, List, ◌∷◌, Bool, true, false, cond, Result, Ok, Err, refl, ap, arith, subst, length}
+use Rattle.std.proofs.Common.{◌≡◌, ◌≤◌, ◌<◌, ◌+◌, ◌*◌, ◌/◌, ◌%◌, ◌^◌, inl, inr, ℕ, List, ◌∷◌, Bool, true, false, cond, Result, Ok, Err, refl, ap}
+use Rattle.std.proofs.Common.{arith, subst, length}
 use Rattle.std.specs.Fmt.{decimal}
 use Rattle.std.proofs.lemmas.Bool.Decides.{nat_tests}
 use Rattle.std.specs.declared.option.Option.{Option}

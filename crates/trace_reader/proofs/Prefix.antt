@@ -18,15 +18,20 @@ one_more prefix n (Ok ns) = ap (λ (v : List ℕ). Ok v) (simp append_assoc)
 one_more prefix n (Err e) = refl
 
 -- The first word gives a number, and the loop goes on.
-pub risen : (prefix new : List ℕ) (low high : ℕ) (rest : List (Bor (List ℕ))) (d : Bor (List ℕ)) (n : ℕ) (total : Result (List ℕ) Reason) → 0 < length rest → Ok n ≡ ranged low high (get_or rest 0 d).now → new ≡ prefix ++ n ∷ [] → with_prefix prefix (rising low high (texts rest)) ≡ total → with_prefix new (rising (n + 1) high (texts (drop 1 rest))) ≡ total
+pub risen : (prefix new : List ℕ) (low high : ℕ) (rest : List (Bor (List ℕ))) (d : Bor (List ℕ)) (n : ℕ) (total : Result (List ℕ) Reason)
+    → 0 < length rest → Ok n ≡ ranged low high (get_or rest 0 d).now → new ≡ prefix ++ n ∷ []
+    → with_prefix prefix (rising low high (texts rest)) ≡ total → with_prefix new (rising (n + 1) high (texts (drop 1 rest))) ≡ total
 unfolding rising
 risen prefix new low high [] d n total lt is more so_far = absurd (omega arith)
 risen prefix new low high (w ∷ ws) d n total lt is more so_far =
-    let step : with_prefix prefix (ranged low high w.now >>= λ n. rising (n + 1) high (texts ws) >>= λ ns. Ok (n ∷ ns)) ≡ with_prefix (prefix ++ n ∷ []) (rising (n + 1) high (texts ws)) = rw (← is) (one_more prefix n (rising (n + 1) high (texts ws))) in
+    let step : with_prefix prefix (ranged low high w.now >>= λ n. rising (n + 1) high (texts ws) >>= λ ns. Ok (n ∷ ns))
+    ≡ with_prefix (prefix ++ n ∷ []) (rising (n + 1) high (texts ws)) =
+    rw (← is) (one_more prefix n (rising (n + 1) high (texts ws))) in
     rw more (sym step ∙ so_far)
 
 -- The first word gives no number.
-pub not_risen : (prefix : List ℕ) (low high : ℕ) (rest : List (Bor (List ℕ))) (d : Bor (List ℕ)) (r : Reason) (total : Result (List ℕ) Reason) → 0 < length rest → Err r ≡ ranged low high (get_or rest 0 d).now → with_prefix prefix (rising low high (texts rest)) ≡ total → total ≡ Err r
+pub not_risen : (prefix : List ℕ) (low high : ℕ) (rest : List (Bor (List ℕ))) (d : Bor (List ℕ)) (r : Reason) (total : Result (List ℕ) Reason)
+    → 0 < length rest → Err r ≡ ranged low high (get_or rest 0 d).now → with_prefix prefix (rising low high (texts rest)) ≡ total → total ≡ Err r
 unfolding rising
 not_risen prefix low high [] d r total lt is so_far = absurd (omega arith)
 not_risen prefix low high (w ∷ ws) d r total lt is so_far =
@@ -34,7 +39,8 @@ not_risen prefix low high (w ∷ ws) d r total lt is so_far =
     sym so_far ∙ step
 
 -- No word is left.
-pub all_risen : (prefix : List ℕ) (low high : ℕ) (rest : List (Bor (List ℕ))) (total : Result (List ℕ) Reason) → length rest < 1 → with_prefix prefix (rising low high (texts rest)) ≡ total → total ≡ Ok prefix
+pub all_risen : (prefix : List ℕ) (low high : ℕ) (rest : List (Bor (List ℕ))) (total : Result (List ℕ) Reason) → length rest < 1
+    → with_prefix prefix (rising low high (texts rest)) ≡ total → total ≡ Ok prefix
 unfolding rising
 all_risen prefix low high [] total lt so_far = sym so_far ∙ ap (λ (v : List ℕ). Ok v) (append-nil prefix)
 all_risen prefix low high (w ∷ ws) total lt so_far = absurd (omega arith)

@@ -1,5 +1,6 @@
 -- The header that the words spell has its numbers in their ranges.
-use Rattle.std.proofs.Common.{◌≡◌, ◌≤◌, ◌<◌, ◌+◌, ◌-◌, ◌*◌, ◌⊎◌, inl, inr, ℕ, List, [], ◌∷◌, Bool, true, false, Result, Ok, length, get_or, refl, ap, arith, subst, ◌==◌, ◌&&◌, ◌||◌, nat_le, All, zero, suc, rules}
+use Rattle.std.proofs.Common.{◌≡◌, ◌≤◌, ◌<◌, ◌+◌, ◌-◌, ◌*◌, ◌⊎◌, inl, inr, ℕ, List, [], ◌∷◌, Bool, true, false, Result, Ok, length, get_or, refl, ap}
+use Rattle.std.proofs.Common.{arith, subst, ◌==◌, ◌&&◌, ◌||◌, nat_le, All, zero, suc, rules}
 use native.Mathlib.Numerals.{unary_clauses}
 use Rattle.std.specs.Prelude.{codes, slice_get}
 use Rattle.std.specs.Str.{bytes_eq}
@@ -98,7 +99,20 @@ sizes_range ws x e =
     then_ok (field (codes "manual") 0 2 cache.1) _ x e7 (λ manual is8 e8.
     elim (branch (are_sizes frames.0 size.0) _ _ (Ok x) e8) [
       | inl p ↦ let c = content_range frames.0 size.0 p.0 in
-          let same : (record { vcpus = vcpus.0; workers = workers.0; pages = pages.0; frames = frames.0; words = size.0; pool = pool.0; cache = cache.0; manual = manual.0 }, manual.1) ≡ x = cc in
+          let same : (
+            record {
+              vcpus = vcpus.0;
+              workers = workers.0;
+              pages = pages.0;
+              frames = frames.0;
+              words = size.0;
+              pool = pool.0;
+              cache = cache.0;
+              manual = manual.0;
+            },
+            manual.1,
+          ) ≡ x =
+          cc in
           subst (λ (z : Sizes × List (List ℕ)). AreSizes z.0) same (record {
             vcpus = field_range (codes "vcpus") 1 16 rest vcpus is1;
             workers = (field_range (codes "workers") 0 4 vcpus.1 workers is2).1;
@@ -159,7 +173,8 @@ one_number : (high : ℕ) (w : List ℕ) (n first : ℕ) → ranged 0 0 w ≡ Ok
 unfolding ranged
 one_number high w n first is is1 = same_number high (number_of w) n first is is1
 
-first_found : (high : ℕ) (w : List ℕ) (ws : List (List ℕ)) (ns : List ℕ) (n : ℕ) → ranged 0 0 w ≡ Ok n → rising 0 high (w ∷ ws) ≡ Ok ns → slice_get ns 0 ≡ Some 0
+first_found : (high : ℕ) (w : List ℕ) (ws : List (List ℕ)) (ns : List ℕ) (n : ℕ) → ranged 0 0 w ≡ Ok n → rising 0 high (w ∷ ws) ≡ Ok ns
+    → slice_get ns 0 ≡ Some 0
 unfolding rising
 first_found high w ws ns n is e =
     let (first, is1, e1) = bind_ok (ranged 0 high w) _ ns e in
@@ -197,8 +212,32 @@ header_range ws h e =
     then_ok (sizes_of ws) _ h e (λ s is e1.
     then_ok (hosts_of s.0.pages s.1) _ h e1 (λ hosts is1 e2.
     let r = sizes_range ws s is in
-    let same : record { version = 1; vcpus = s.0.vcpus; workers = s.0.workers; pages = s.0.pages; frames = s.0.frames; words = s.0.words; pool = s.0.pool; cache = s.0.cache; manual = s.0.manual; hosts = hosts } ≡ h = cc in
-    subst IsHeader same (record { version = refl; vcpus = r.vcpus; workers = r.workers; pages = r.pages; frames = r.frames; words = r.words; content = r.content; pool = r.pool; cache = r.cache; manual = r.manual; hosts = hosts_range s.0.pages s.1 hosts r.pages.0 is1 })))
+    let same : record {
+      version = 1;
+      vcpus = s.0.vcpus;
+      workers = s.0.workers;
+      pages = s.0.pages;
+      frames = s.0.frames;
+      words = s.0.words;
+      pool = s.0.pool;
+      cache = s.0.cache;
+      manual = s.0.manual;
+      hosts = hosts;
+    } ≡ h =
+    cc in
+    subst IsHeader same (record {
+      version = refl;
+      vcpus = r.vcpus;
+      workers = r.workers;
+      pages = r.pages;
+      frames = r.frames;
+      words = r.words;
+      content = r.content;
+      pool = r.pool;
+      cache = r.cache;
+      manual = r.manual;
+      hosts = hosts_range s.0.pages s.1 hosts r.pages.0 is1;
+    })))
 
 checked : {A : Type 0} (fault : Option Reason) (read : Result A Reason) (x : A) → after_checks fault read ≡ Ok x → read ≡ Ok x
 checked None read x e = e

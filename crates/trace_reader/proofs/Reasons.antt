@@ -62,7 +62,8 @@ no_form h seen bytes e = (
   λ go. let t : list_any is_empty (words_of bytes) ≡ false = rw (go_words bytes go.1) refl in cc,
 )
 
-lifted : (h : Header) (seen : Seen) (bytes : List ℕ) (r : Reason) → IsHeader h → said h seen bytes ≡ Err r → AreWords (words_of bytes) → WhyNot h seen (words_of bytes) r → SaysNothingFor h seen bytes r
+lifted : (h : Header) (seen : Seen) (bytes : List ℕ) (r : Reason) → IsHeader h → said h seen bytes ≡ Err r → AreWords (words_of bytes)
+    → WhyNot h seen (words_of bytes) r → SaysNothingFor h seen bytes r
 lifted h seen bytes reason.Word header e are never = (
   (λ a form. let f = of_form bytes a form in never.0 a f.0 f.1),
   λ go. never.1 go.0 (go_words bytes go.1),
@@ -72,12 +73,16 @@ lifted h seen bytes reason.Number header e are (a, form, is, known) =
     (a, (is, (words_of bytes, sym (join_with_byte-slice_split 32 bytes), are, form)), known, λ s line. let t = says h seen bytes s header line in cc)
 lifted h seen bytes _ header e are never = absurd never
 
-told : (h : Header) (seen : Seen) (words : List (List ℕ)) (x : Result Saying Reason) (r : Reason) → x ≡ Err r → WordsJudged h seen words x → WhyNot h seen words r
+told : (h : Header) (seen : Seen) (words : List (List ℕ)) (x : Result Saying Reason) (r : Reason) → x ≡ Err r → WordsJudged h seen words x
+    → WhyNot h seen words r
 told h seen words x r e is = subst (WordsJudged h seen words) e is
 
-by_test : (h : Header) (seen : Seen) (bytes : List ℕ) (b : Bool) (r : Reason) → IsHeader h → list_any is_empty (words_of bytes) ≡ b → said h seen bytes ≡ Err r → cond b (Err reason.Word) (by_first h seen (words_of bytes)) ≡ Err r → SaysNothingFor h seen bytes r
+by_test : (h : Header) (seen : Seen) (bytes : List ℕ) (b : Bool) (r : Reason) → IsHeader h → list_any is_empty (words_of bytes) ≡ b
+    → said h seen bytes ≡ Err r → cond b (Err reason.Word) (by_first h seen (words_of bytes)) ≡ Err r → SaysNothingFor h seen bytes r
 by_test h seen bytes true r header e line is = let same : reason.Word ≡ r = cc in subst (SaysNothingFor h seen bytes) same (no_form h seen bytes e)
-by_test h seen bytes false r header e line is = lifted h seen bytes r header line (words_filled (words_of bytes) (words_plain bytes) e) (told h seen (words_of bytes) (by_first h seen (words_of bytes)) r is (words_judged h seen (words_of bytes)))
+by_test h seen bytes false r header e line is =
+    lifted h seen bytes r header line (words_filled (words_of bytes) (words_plain bytes) e)
+    (told h seen (words_of bytes) (by_first h seen (words_of bytes)) r is (words_judged h seen (words_of bytes)))
 
 -- A line is refused only for the reason for which it says nothing.
 pub no_other : (h : Header) (seen : Seen) (bytes : List ℕ) (r : Reason) → IsHeader h → said h seen bytes ≡ Err r → SaysNothingFor h seen bytes r
@@ -92,7 +97,8 @@ same_second : (a b : Actor) (x y : List ℕ) → item_words a x ≡ item_words b
 same_second a b x y e = cc
 
 apart : (words : List (List ℕ)) (a b : Actor) → IsCommandForm words a → IsItemForm words b → ⊥
-apart words a b form (last, e, f) = let (rest, is) = command_first words a form in not_mark a (let same : actor_name a ∷ rest ≡ item_words b last = sym is ∙ e in cc)
+apart words a b form (last, e, f) =
+    let (rest, is) = command_first words a form in not_mark a (let same : actor_name a ∷ rest ≡ item_words b last = sym is ∙ e in cc)
 
 same_actor : (words : List (List ℕ)) (a b : Actor) → HasForm words a → HasForm words b → IsActor a → IsActor b → a ≡ b
 same_actor words a b (inl f) (inl g) le lt =
@@ -117,10 +123,12 @@ agree h seen bytes reason.Word reason.Number p (b, form, known, never) = absurd 
 agree h seen bytes reason.Word _ p q = absurd q
 agree h seen bytes reason.Actor reason.Word (a, form, never) q = absurd (q.0 a form)
 agree h seen bytes reason.Actor reason.Actor p q = refl
-agree h seen bytes reason.Actor reason.Number (a, form, never) (b, other, known, none) = absurd (never (subst (IsDeclared h) (one_actor bytes b a other form) known))
+agree h seen bytes reason.Actor reason.Number (a, form, never) (b, other, known, none) =
+    absurd (never (subst (IsDeclared h) (one_actor bytes b a other form) known))
 agree h seen bytes reason.Actor _ p q = absurd q
 agree h seen bytes reason.Number reason.Word (a, form, known, none) q = absurd (q.0 a form)
-agree h seen bytes reason.Number reason.Actor (a, form, known, none) (b, other, never) = absurd (never (subst (IsDeclared h) (one_actor bytes a b form other) known))
+agree h seen bytes reason.Number reason.Actor (a, form, known, none) (b, other, never) =
+    absurd (never (subst (IsDeclared h) (one_actor bytes a b form other) known))
 agree h seen bytes reason.Number reason.Number p q = refl
 agree h seen bytes reason.Number _ p q = absurd q
 agree h seen bytes _ k p q = absurd p
@@ -154,12 +162,14 @@ silent h seen bytes reason.Word (Does a c) header never line = never.0 a (line_f
 silent h seen bytes reason.Word (Schedules item) header never line = never.0 item.actor (line_form h seen bytes (Schedules item) header line).0
 silent h seen bytes reason.Actor Go header (b, form, never) line = go_no_form bytes b (line_form h seen bytes Go header line).1 form
 silent h seen bytes reason.Actor (Does a c) header (b, form, never) line = silent_actor h bytes a b form never (line_form h seen bytes (Does a c) header line)
-silent h seen bytes reason.Actor (Schedules item) header (b, form, never) line = silent_actor h bytes item.actor b form never (line_form h seen bytes (Schedules item) header line)
+silent h seen bytes reason.Actor (Schedules item) header (b, form, never) line =
+    silent_actor h bytes item.actor b form never (line_form h seen bytes (Schedules item) header line)
 silent h seen bytes reason.Number s header (b, form, known, none) line = none s line
 silent h seen bytes _ s header never line = never
 
 -- A line that says nothing for a reason is refused for this one.
-by_result : (h : Header) (seen : Seen) (bytes : List ℕ) (r : Reason) (x : Result Saying Reason) → IsHeader h → SaysNothingFor h seen bytes r → said h seen bytes ≡ x → x ≡ Err r
+by_result : (h : Header) (seen : Seen) (bytes : List ℕ) (r : Reason) (x : Result Saying Reason) → IsHeader h → SaysNothingFor h seen bytes r
+    → said h seen bytes ≡ x → x ≡ Err r
 by_result h seen bytes r (Ok s) header never e = absurd (silent h seen bytes r s header never (only_said h seen bytes s e))
 by_result h seen bytes r (Err k) header never e = ap (λ (z : Reason). Err z) (agree h seen bytes k r (no_other h seen bytes k header e) never)
 
@@ -188,11 +198,14 @@ chosen false x y p q = q
 
 said_of : (h : Header) (seen : Seen) (bytes : List ℕ) → IsOfLine (said h seen bytes)
 unfolding said by_words
-said_of h seen bytes = chosen (list_any is_empty (words_of bytes)) (Err reason.Word) _ (inl refl) (told_of h seen (words_of bytes) (by_first h seen (words_of bytes)) (words_judged h seen (words_of bytes)))
+said_of h seen bytes =
+    chosen (list_any is_empty (words_of bytes)) (Err reason.Word) _ (inl refl)
+    (told_of h seen (words_of bytes) (by_first h seen (words_of bytes)) (words_judged h seen (words_of bytes)))
 
 refused : (x : Result Saying Reason) → IsOfLine x → ((s : Saying) → x ≡ Ok s → ⊥) → (k : Reason) × (x ≡ Err k) × IsLineReason k
 refused (Ok s) is none = absurd (none s refl)
 refused (Err k) is none = (k, refl, is)
 
-pub refuses : (h : Header) (seen : Seen) (bytes : List ℕ) → ((s : Saying) → SaysLine h seen bytes s → ⊥) → (r : Reason) × (said h seen bytes ≡ Err r) × IsLineReason r
+pub refuses : (h : Header) (seen : Seen) (bytes : List ℕ) → ((s : Saying) → SaysLine h seen bytes s → ⊥)
+    → (r : Reason) × (said h seen bytes ≡ Err r) × IsLineReason r
 refuses h seen bytes none = refused (said h seen bytes) (said_of h seen bytes) (λ s e. none s (only_said h seen bytes s e))

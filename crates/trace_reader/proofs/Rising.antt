@@ -44,7 +44,8 @@ weaker : (n : ℕ) (x : Result (List Told) (ℕ × Reason)) → AreRising (n + 1
 weaker n (Ok told) rest = record { first = λ lt. let up = rest.first lt in omega (arith, up); rising = rest.rising }
 weaker n (Err e) rest = tt
 
-onto_rises : (n : ℕ) (seen : Seen) (read : Result (Option Saying) Reason) (rest : Seen → Result (List Told) (ℕ × Reason)) → ((now : Seen) → AreRising (n + 1) (rest now)) → AreRising n (onto n seen read rest)
+onto_rises : (n : ℕ) (seen : Seen) (read : Result (Option Saying) Reason) (rest : Seen → Result (List Told) (ℕ × Reason))
+    → ((now : Seen) → AreRising (n + 1) (rest now)) → AreRising n (onto n seen read rest)
 onto_rises n seen (Err r) rest all = tt
 onto_rises n seen (Ok None) rest all = weaker n (rest seen) (all seen)
 onto_rises n seen (Ok (Some s)) rest all = by (rest _) (all _)
@@ -62,7 +63,8 @@ lines_rise h n at seen (last ∷ []) = by (is_empty last)
     by true = none n
     by false = onto_rises n seen (line_of h seen (raw n at false last)) (λ now. Ok []) (λ now. none (n + 1))
 lines_rise h n at seen (x ∷ y ∷ more) =
-    onto_rises n seen (line_of h seen (raw n at true x)) (λ now. lines_of h (n + 1) (at + (length x + 1)) now (y ∷ more)) (λ now. lines_rise h (n + 1) (at + (length x + 1)) now (y ∷ more))
+    onto_rises n seen (line_of h seen (raw n at true x)) (λ now. lines_of h (n + 1) (at + (length x + 1)) now (y ∷ more))
+    (λ now. lines_rise h (n + 1) (at + (length x + 1)) now (y ∷ more))
 
 abbrev HasRising : Result Trace (ℕ × Reason) → Type 0
 HasRising (Ok t) = IsStrictlyIncreasing (numbers t.lines)
@@ -72,7 +74,8 @@ under_header : (h : Header) (n : ℕ) (x : Result (List Told) (ℕ × Reason)) �
 under_header h n (Ok told) rising = rising.rising
 under_header h n (Err e) rising = tt
 
-pub read_rising : (h : Header) (n at : ℕ) (parts : List (List ℕ)) (t : Trace) → with_header h (lines_of h n at none_seen parts) ≡ Ok t → IsStrictlyIncreasing (numbers t.lines)
+pub read_rising : (h : Header) (n at : ℕ) (parts : List (List ℕ)) (t : Trace) → with_header h (lines_of h n at none_seen parts) ≡ Ok t
+    → IsStrictlyIncreasing (numbers t.lines)
 read_rising h n at parts t is = subst HasRising is (under_header h n (lines_of h n at none_seen parts) (lines_rise h n at none_seen parts))
 
 -- So many lines, at most, have numbers from n on: the last number that a line may have is 1,000,000.

@@ -48,7 +48,8 @@ setting_why : (h : Header) (seen : ℕ → Bool) (words : List (List ℕ)) (i x 
 unfolding setting
 setting_why h seen words i x y z ro form =
     numbers h words Manager _ form tt tt
-    (bound (number i) _ (number_number i) (λ n. bound (new_number (seen n) n) _ (new_or_number (seen n) n) (λ id. bound (slot x y z ro) _ (slot_number x y z ro) (λ s. tt))))
+    (bound (number i) _ (number_number i)
+    (λ n. bound (new_number (seen n) n) _ (new_or_number (seen n) n) (λ id. bound (slot x y z ro) _ (slot_number x y z ro) (λ s. tt))))
 
 -- No other count of words has this form, and the fifth word is `ro`.
 counted : (rest : List (List ℕ)) → AreSetting rest → (length rest ≡ 4) ⊎ (length rest ≡ 5)
@@ -70,7 +71,8 @@ setting_form_why h seen (i ∷ b ∷ p ∷ k ∷ []) only = setting_why h seen (
 setting_form_why h seen (i ∷ b ∷ p ∷ k ∷ last ∷ []) only =
     row (Tells h (codes "vm" ∷ codes "slot" ∷ i ∷ b ∷ p ∷ k ∷ last ∷ [])) last (codes "ro") (bytes_eq last (codes "ro")) _ _ refl
     (λ is. setting_why h seen (codes "vm" ∷ codes "slot" ∷ i ∷ b ∷ p ∷ k ∷ last ∷ []) i b p k true (i, b, p, k, true, rw is refl))
-    (λ other. none h (codes "vm" ∷ codes "slot" ∷ i ∷ b ∷ p ∷ k ∷ last ∷ []) (λ a form. let (is, (manager, set)) = only a form in other (last_is i b p k last set)))
+    (λ other. none h (codes "vm" ∷ codes "slot" ∷ i ∷ b ∷ p ∷ k ∷ last ∷ [])
+    (λ a form. let (is, (manager, set)) = only a form in other (last_is i b p k last set)))
 setting_form_why h seen [] only = other_count h [] only (λ e. cc) (λ e. cc)
 setting_form_why h seen (i ∷ []) only = other_count h (i ∷ []) only (λ e. cc) (λ e. cc)
 setting_form_why h seen (i ∷ b ∷ []) only = other_count h (i ∷ b ∷ []) only (λ e. cc) (λ e. cc)
@@ -166,7 +168,12 @@ slot_fits base pages host a b c d e = grind (arith, nat_tests)
 slot_spelled : (x y z : List ℕ) (s : Slot) → Spells x s.base → Spells y s.pages → Spells z s.host → IsSlotInRange s → slot x y z s.read_only ≡ Ok s
 unfolding slot
 slot_spelled x y z s a b c fits =
-    rw (number_spelled x s.base a, number_spelled y s.pages b, number_spelled z s.host c, slot_fits s.base s.pages s.host fits.some fits.pages fits.base fits.host fits.aligned) refl
+    rw (
+      number_spelled x s.base a,
+      number_spelled y s.pages b,
+      number_spelled z s.host c,
+      slot_fits s.base s.pages s.host fits.some fits.pages fits.base fits.host fits.aligned,
+    ) refl
 
 setting_spelled : (seen : ℕ → Bool) (i x y z : List ℕ) (id : ℕ) (s : Slot) → seen id ≡ false → Spells i id → Spells x s.base → Spells y s.pages
     → Spells z s.host → IsSlotInRange s → setting seen i x y z s.read_only ≡ Ok (Manager, SetSlot id s)
@@ -194,4 +201,10 @@ last_word false = tt
 
 pub slot_plain : (seen : ℕ → Bool) (words : List (List ℕ)) (id : ℕ) (s : Slot) → AreCommandWords seen words Manager (SetSlot id s) → AreWords words
 slot_plain seen words id s (i, x, y, z, first, is, n, a, b, c) =
-    rw is (text_word (codes "vm") (omega arith) refl, (text_word (codes "slot") (omega arith) refl, (spelled_word i _ n, (spelled_word x _ a, (spelled_word y _ b, (spelled_word z _ c, last_word s.read_only))))))
+    rw is (
+      text_word (codes "vm") (omega arith) refl,
+      (
+        text_word (codes "slot") (omega arith) refl,
+        (spelled_word i _ n, (spelled_word x _ a, (spelled_word y _ b, (spelled_word z _ c, last_word s.read_only)))),
+      ),
+    )

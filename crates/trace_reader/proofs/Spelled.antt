@@ -1,5 +1,6 @@
 -- Which words spell a number.
-use Rattle.std.proofs.Common.{◌≡◌, ◌≤◌, ◌<◌, ◌+◌, ◌-◌, ◌*◌, ◌^◌, inl, inr, ℕ, List, [], ◌∷◌, length, get_or, Bool, true, false, cond, arith, refl, sym, ap, subst, ◌==◌, ◌&&◌, ◌||◌, nat_lt, not, zero, suc}
+use Rattle.std.proofs.Common.{◌≡◌, ◌≤◌, ◌<◌, ◌+◌, ◌-◌, ◌*◌, ◌^◌, inl, inr, ℕ, List, [], ◌∷◌, length, get_or, Bool, true, false, cond, arith, refl}
+use Rattle.std.proofs.Common.{sym, ap, subst, ◌==◌, ◌&&◌, ◌||◌, nat_lt, not, zero, suc}
 use Rattle.std.proofs.lemmas.Bool.Decides.{nat_tests}
 use Rattle.std.proofs.lemmas.Str.Parse.{IsNumeralModel, IsDigitsTest, FoldsDigits, numerals_by_fold}
 use Rattle.std.proofs.lemmas.Fmt.{decimal-digits_value, digits_decimal, digits_value-decimal, decimal_nonempty, first_decimal, decimal_digit}
@@ -78,7 +79,8 @@ plain zero lt = rw (decimal_digit 0 (omega arith)) refl
 plain (suc n) lt =
     let some : 0 < length (decimal (suc n)) = decimal_nonempty (suc n) lt in
     let first : 48 < get_or (decimal (suc n)) 0 0 = first_decimal (suc n) (omega arith) lt in
-    joined (nat_lt 0 (length (decimal (suc n)))) (nat_lt (length (decimal (suc n))) 2 || not (get_or (decimal (suc n)) 0 0 == 48)) (grind (arith, nat_tests, some)) (grind (arith, nat_tests, first))
+    joined (nat_lt 0 (length (decimal (suc n)))) (nat_lt (length (decimal (suc n))) 2 || not (get_or (decimal (suc n)) 0 0 == 48))
+    (grind (arith, nat_tests, some)) (grind (arith, nat_tests, first))
 
 pub decimal_only : (n : ℕ) → n < 2 ^ 64 → decimal_number (decimal n) ≡ Some n
 decimal_only n lt = reads (decimal n) n (digits_decimal own n lt) (plain n lt) (digits_value-decimal own n lt) lt
@@ -104,7 +106,8 @@ hex_read ds n lt low high all v =
     let fit : nat_lt n (2 ^ 64) ≡ true = grind (arith, nat_tests) in
     rw (some, few, all, v, fit) refl
 
-hex_found : (ds : List ℕ) (n : ℕ) → hex_number ds ≡ Some n → (n < 2 ^ 64) × (1 ≤ length ds) × (length ds ≤ 16) × (list_all is_hex_digit ds ≡ true) × (value 16 ds ≡ n)
+hex_found : (ds : List ℕ) (n : ℕ) → hex_number ds ≡ Some n
+    → (n < 2 ^ 64) × (1 ≤ length ds) × (length ds ≤ 16) × (list_all is_hex_digit ds ≡ true) × (value 16 ds ≡ n)
 hex_found ds n e =
     let t = taken (nat_lt 0 (length ds) && nat_lt (length ds) 17 && list_all is_hex_digit ds) (fitting (value 16 ds)) n e in
     let b = both (nat_lt 0 (length ds) && nat_lt (length ds) 17) (list_all is_hex_digit ds) t.0 in

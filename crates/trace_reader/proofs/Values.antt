@@ -25,7 +25,8 @@ pub tail : (ds : List ℕ) → 0 < length ds → list_all is_hex_digit ds ≡ tr
 tail [] lt all = absurd (omega arith)
 tail (c ∷ cs) lt all = Prim.grind (arith, nat_tests)
 
-pub add_over : (radix n : ℕ) (ds all : List ℕ) → 1 ≤ radix → value_after radix n ds ≡ value_after radix 0 all → 0 < length ds → 2 ^ 64 ≤ n * radix + digit (get_or ds 0 0) → None ≡ fitting (value radix all)
+pub add_over : (radix n : ℕ) (ds all : List ℕ) → 1 ≤ radix → value_after radix n ds ≡ value_after radix 0 all → 0 < length ds
+    → 2 ^ 64 ≤ n * radix + digit (get_or ds 0 0) → None ≡ fitting (value radix all)
 unfolding value
 add_over radix n ds all le e lt over =
     let g : n * radix + digit (get_or ds 0 0) ≤ value_after radix (n * radix + digit (get_or ds 0 0)) (drop 1 ds) = grows radix _ (drop 1 ds) le in

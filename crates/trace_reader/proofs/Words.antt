@@ -45,21 +45,26 @@ mark_not_go e = heads_differ 62 103 _ _ refl e
 
 -- A line of a form begins with its actor's name, or with `>`.
 go_no_form : (first : List ℕ) (rest : List (List ℕ)) (a : Actor) → first ≡ codes "go" → HasForm (first ∷ rest) a → ⊥
-go_no_form first rest a go (inl form) = let (more, e) = command_first (first ∷ rest) a form in not_go a (let f : first ≡ actor_name a = same_first first (actor_name a) rest more e in cc)
+go_no_form first rest a go (inl form) =
+    let (more, e) = command_first (first ∷ rest) a form in not_go a (let f : first ≡ actor_name a = same_first first (actor_name a) rest more e in cc)
 go_no_form first rest a go (inr (last, e, form)) = mark_not_go (let f : first ≡ codes ">" = same_first first (codes ">") rest _ e in cc)
 
 pub no_go_form : (a : Actor) → HasForm (codes "go" ∷ []) a → ⊥
 no_go_form a form = go_no_form (codes "go") [] a refl form
 
 mark_no_command : (first : List ℕ) (rest : List (List ℕ)) (a : Actor) → first ≡ codes ">" → IsCommandForm (first ∷ rest) a → ⊥
-mark_no_command first rest a mark form = let (more, e) = command_first (first ∷ rest) a form in not_mark a (let f : first ≡ actor_name a = same_first first (actor_name a) rest more e in cc)
+mark_no_command first rest a mark form =
+    let (more, e) = command_first (first ∷ rest) a form in
+    not_mark a (let f : first ≡ actor_name a = same_first first (actor_name a) rest more e in cc)
 
 -- What the words of a form say is read.
-by_the_command : (h : Header) (seen : Seen) (first : List ℕ) (rest : List (List ℕ)) → (first ≡ codes "go" → ⊥) → (first ≡ codes ">" → ⊥) → by_first h seen (first ∷ rest) ≡ command_said h seen.ids (first ∷ rest)
+by_the_command : (h : Header) (seen : Seen) (first : List ℕ) (rest : List (List ℕ)) → (first ≡ codes "go" → ⊥) → (first ≡ codes ">" → ⊥)
+    → by_first h seen (first ∷ rest) ≡ command_said h seen.ids (first ∷ rest)
 unfolding by_first
 by_the_command h seen first rest go mark = rw (other_word first (codes "go") go, other_word first (codes ">") mark) refl
 
-command_read : (h : Header) (seen : Seen) (words : List (List ℕ)) (a : Actor) (c : Command) → IsHeader h → IsCommandOf h a c → AreCommandWords seen.ids words a c → by_first h seen words ≡ Ok (Does a c)
+command_read : (h : Header) (seen : Seen) (words : List (List ℕ)) (a : Actor) (c : Command) → IsHeader h → IsCommandOf h a c
+    → AreCommandWords seen.ids words a c → by_first h seen words ≡ Ok (Does a c)
 unfolding command_said
 command_read h seen words a c header range are =
     let (rest, e) = command_first words a (command_form seen.ids words a c are) in
@@ -67,7 +72,8 @@ command_read h seen words a c header range are =
     let first = by_the_command h seen (actor_name a) rest (not_go a) (not_mark a) in
     rw e (first ∙ rw (← e, said) refl)
 
-pub words_read : (h : Header) (seen : Seen) (words : List (List ℕ)) (s : Saying) → IsHeader h → IsSayingOf h s → AreWordsOf seen words s → by_first h seen words ≡ Ok s
+pub words_read : (h : Header) (seen : Seen) (words : List (List ℕ)) (s : Saying) → IsHeader h → IsSayingOf h s → AreWordsOf seen words s
+    → by_first h seen words ≡ Ok s
 unfolding by_first schedule_said
 words_read h seen words (Does a c) header range are = command_read h seen words a c header range are
 words_read h seen words Go header range (first, e) = rw (e, first) refl
@@ -87,13 +93,15 @@ WordsJudged h seen words (Err r) = WhyNot h seen words r
 one_word : (first : List ℕ) (rest : List (List ℕ)) → first ∷ rest ≡ codes "go" ∷ [] → (first ≡ codes "go") × (rest ≡ [])
 one_word first rest e = (cc, cc)
 
-go_judged : (h : Header) (seen : Seen) (first : List ℕ) (rest : List (List ℕ)) (was : Bool) → first ≡ codes "go" → seen.go ≡ was → WordsJudged h seen (first ∷ rest) (go_said was rest)
+go_judged : (h : Header) (seen : Seen) (first : List ℕ) (rest : List (List ℕ)) (was : Bool) → first ≡ codes "go" → seen.go ≡ was
+    → WordsJudged h seen (first ∷ rest) (go_said was rest)
 go_judged h seen first [] true go was = ((λ a form is. go_no_form first [] a go form), λ never e. cc)
 go_judged h seen first [] false go was = (tt, (was, rw go refl))
 go_judged h seen first (w ∷ ws) was go e = ((λ a form is. go_no_form first (w ∷ ws) a go form), λ never is. let n = (one_word first (w ∷ ws) is).1 in cc)
 
 -- The words behind `>`.
-not_item : (h : Header) (seen : Seen) (first : List ℕ) (rest : List (List ℕ)) → first ≡ codes ">" → ((a : Actor) (last : List ℕ) → first ∷ rest ≡ item_words a last → ⊥) → WordsJudged h seen (first ∷ rest) (Err reason.Word)
+not_item : (h : Header) (seen : Seen) (first : List ℕ) (rest : List (List ℕ)) → first ≡ codes ">"
+    → ((a : Actor) (last : List ℕ) → first ∷ rest ≡ item_words a last → ⊥) → WordsJudged h seen (first ∷ rest) (Err reason.Word)
 not_item h seen first rest mark never = (
   (λ a form is. elim form [ inl f ↦ mark_no_command first rest a mark f | inr f ↦ never a f.0 f.1 ]),
   λ was is. let go = (one_word first rest is).0 in mark_not_go cc,
@@ -102,17 +110,22 @@ not_item h seen first rest mark never = (
 item_parts : (first who last : List ℕ) (a : Actor) (other : List ℕ) → first ∷ who ∷ last ∷ [] ≡ item_words a other → (who ≡ actor_name a) × (other ≡ last)
 item_parts first who last a other e = (cc, cc)
 
-item_why : (h : Header) (seen : Seen) (first who last : List ℕ) (r : Result Item Reason) → first ≡ codes ">" → ItemJudged h who last r → WordsJudged h seen (first ∷ who ∷ last ∷ []) (r >>= λ item. Ok (Schedules item))
+item_why : (h : Header) (seen : Seen) (first who last : List ℕ) (r : Result Item Reason) → first ≡ codes ">" → ItemJudged h who last r
+    → WordsJudged h seen (first ∷ who ∷ last ∷ []) (r >>= λ item. Ok (Schedules item))
 item_why h seen first who last (Ok item) mark (range, name, says) = (range, (last, rw (mark, name) refl, says))
 item_why h seen first who last (Err reason.Word) mark never = (
-  (λ a form is. elim form [ inl f ↦ mark_no_command first (who ∷ last ∷ []) a mark f | inr f ↦ let same = item_parts first who last a f.0 f.1 in never a is same.0 (subst IsUntilForm same.1 f.2) ]),
+  (λ a form is. elim form [
+    | inl f ↦ mark_no_command first (who ∷ last ∷ []) a mark f
+    | inr f ↦ let same = item_parts first who last a f.0 f.1 in never a is same.0 (subst IsUntilForm same.1 f.2)
+  ]),
   λ was is. let go = (one_word first (who ∷ last ∷ []) is).0 in mark_not_go cc,
 )
 item_why h seen first who last (Err reason.Actor) mark (a, is, name, form, never) = (a, inr (last, rw (mark, name) refl, form), is, never)
 item_why h seen first who last (Err reason.Number) mark (a, is, name, form, known) = (a, inr (last, rw (mark, name) refl, form), is, known)
 item_why h seen first who last (Err _) mark never = absurd never
 
-schedule_judged : (h : Header) (seen : Seen) (first : List ℕ) (rest : List (List ℕ)) → first ≡ codes ">" → WordsJudged h seen (first ∷ rest) (schedule_said h rest)
+schedule_judged : (h : Header) (seen : Seen) (first : List ℕ) (rest : List (List ℕ)) → first ≡ codes ">"
+    → WordsJudged h seen (first ∷ rest) (schedule_said h rest)
 unfolding schedule_said
 schedule_judged h seen first [] mark = not_item h seen first [] mark (λ a last e. cc)
 schedule_judged h seen first (w ∷ []) mark = not_item h seen first (w ∷ []) mark (λ a last e. cc)
@@ -120,7 +133,8 @@ schedule_judged h seen first (who ∷ last ∷ []) mark = item_why h seen first 
 schedule_judged h seen first (w ∷ x ∷ y ∷ more) mark = not_item h seen first (w ∷ x ∷ y ∷ more) mark (λ a last e. cc)
 
 -- An actor's words.
-lifted : (h : Header) (seen : Seen) (first : List ℕ) (rest : List (List ℕ)) (r : Reason) → (first ≡ codes "go" → ⊥) → (first ≡ codes ">" → ⊥) → Why h (first ∷ rest) r → WhyNot h seen (first ∷ rest) r
+lifted : (h : Header) (seen : Seen) (first : List ℕ) (rest : List (List ℕ)) (r : Reason) → (first ≡ codes "go" → ⊥) → (first ≡ codes ">" → ⊥)
+    → Why h (first ∷ rest) r → WhyNot h seen (first ∷ rest) r
 lifted h seen first rest reason.Word go mark never = (
   (λ a form is. elim form [ inl f ↦ never a f is | inr f ↦ mark (same_first first (codes ">") rest _ f.1) ]),
   λ was is. go (one_word first rest is).0,
@@ -129,11 +143,13 @@ lifted h seen first rest reason.Actor go mark (a, form, is, never) = (a, inl for
 lifted h seen first rest reason.Number go mark (a, form, is, known) = (a, inl form, is, known)
 lifted h seen first rest _ go mark never = absurd never
 
-command_why : (h : Header) (seen : Seen) (first : List ℕ) (rest : List (List ℕ)) (x : Said) → (first ≡ codes "go" → ⊥) → (first ≡ codes ">" → ⊥) → Judged h seen.ids (first ∷ rest) x → WordsJudged h seen (first ∷ rest) (x >>= λ p. Ok (Does p.0 p.1))
+command_why : (h : Header) (seen : Seen) (first : List ℕ) (rest : List (List ℕ)) (x : Said) → (first ≡ codes "go" → ⊥) → (first ≡ codes ">" → ⊥)
+    → Judged h seen.ids (first ∷ rest) x → WordsJudged h seen (first ∷ rest) (x >>= λ p. Ok (Does p.0 p.1))
 command_why h seen first rest (Ok p) go mark is = is
 command_why h seen first rest (Err r) go mark is = lifted h seen first rest r go mark is
 
-command_judged : (h : Header) (seen : Seen) (first : List ℕ) (rest : List (List ℕ)) → (first ≡ codes "go" → ⊥) → (first ≡ codes ">" → ⊥) → WordsJudged h seen (first ∷ rest) (command_said h seen.ids (first ∷ rest))
+command_judged : (h : Header) (seen : Seen) (first : List ℕ) (rest : List (List ℕ)) → (first ≡ codes "go" → ⊥) → (first ≡ codes ">" → ⊥)
+    → WordsJudged h seen (first ∷ rest) (command_said h seen.ids (first ∷ rest))
 unfolding command_said
 command_judged h seen first rest go mark = command_why h seen first rest (by_form h seen.ids (first ∷ rest)) go mark (by_form_judged h seen.ids (first ∷ rest))
 

@@ -32,4 +32,6 @@ IsLineReason r = (r ≡ reason.Word) ⊎ (r ≡ reason.Actor) ⊎ (r ≡ reason.
 
 -- A line that says nothing is refused.
 abbrev pub RefusesTheRest : Type 0
-RefusesTheRest = (h : Header) (seen : Seen) (bytes : List ℕ) → ((s : Saying) → SaysLine h seen bytes s → ⊥) → (r : Reason) × (said h seen bytes ≡ Err r) × IsLineReason r
+RefusesTheRest =
+    (h : Header) (seen : Seen) (bytes : List ℕ) → ((s : Saying) → SaysLine h seen bytes s → ⊥)
+    → (r : Reason) × (said h seen bytes ≡ Err r) × IsLineReason r

@@ -21,7 +21,9 @@ pub record HeaderWords : Type 0 where
 
 -- the words of line 1, with their labels
 abbrev pub labelled : HeaderWords → List (List ℕ)
-labelled w = codes "tdp" ∷ codes "1" ∷ codes "vcpus" ∷ w.vcpus ∷ codes "workers" ∷ w.workers ∷ codes "pages" ∷ w.pages ∷ codes "frames" ∷ w.frames ∷ codes "words" ∷ w.words ∷ codes "pool" ∷ w.pool ∷ codes "cache" ∷ w.cache ∷ codes "manual" ∷ w.manual ∷ codes "hosts" ∷ w.hosts
+labelled w =
+    codes "tdp" ∷ codes "1" ∷ codes "vcpus" ∷ w.vcpus ∷ codes "workers" ∷ w.workers ∷ codes "pages" ∷ w.pages ∷ codes "frames" ∷ w.frames
+    ∷ codes "words" ∷ w.words ∷ codes "pool" ∷ w.pool ∷ codes "cache" ∷ w.cache ∷ codes "manual" ∷ w.manual ∷ codes "hosts" ∷ w.hosts
 
 -- Each word spells the header's number.
 pub record SpellsHeader (w : HeaderWords) (h : Header) : Type 0 where

@@ -50,7 +50,19 @@ sizes_of words = do
   pool ← field (codes "pool") 4 16384 size.1
   cache ← field (codes "cache") 1 64 pool.1
   manual ← field (codes "manual") 0 2 cache.1
-  if are_sizes frames.0 size.0 then Ok (record { vcpus = vcpus.0; workers = workers.0; pages = pages.0; frames = frames.0; words = size.0; pool = pool.0; cache = cache.0; manual = manual.0 }, manual.1) else Err reason.Header
+  if are_sizes frames.0 size.0 then Ok (
+    record {
+      vcpus = vcpus.0;
+      workers = workers.0;
+      pages = pages.0;
+      frames = frames.0;
+      words = size.0;
+      pool = pool.0;
+      cache = cache.0;
+      manual = manual.0;
+    },
+    manual.1,
+  ) else Err reason.Header
 
 -- strictly rising numbers from low to high
 unfoldable pub rising : ℕ → ℕ → List (List ℕ) → Result (List ℕ) Reason
@@ -72,4 +84,15 @@ unfoldable pub header_of : List (List ℕ) → Result Header Reason
 header_of words = do
   s ← sizes_of words
   hosts ← hosts_of s.0.pages s.1
-  Ok (record { version = 1; vcpus = s.0.vcpus; workers = s.0.workers; pages = s.0.pages; frames = s.0.frames; words = s.0.words; pool = s.0.pool; cache = s.0.cache; manual = s.0.manual; hosts = hosts })
+  Ok (record {
+    version = 1;
+    vcpus = s.0.vcpus;
+    workers = s.0.workers;
+    pages = s.0.pages;
+    frames = s.0.frames;
+    words = s.0.words;
+    pool = s.0.pool;
+    cache = s.0.cache;
+    manual = s.0.manual;
+    hosts = hosts;
+  })

@@ -42,12 +42,16 @@ SaysHeader text h = (words : List (List ℕ)) × (text ≡ spaced words) × IsHe
 -- `seen`: what the lines before them say.
 abbrev pub SayLines : Header → ℕ → Seen → List (List ℕ) → List Told → Type 0
 SayLines h n seen [] told = told ≡ []
-SayLines h n seen (text ∷ texts) told = IsText text × ((IsSkipped text × SayLines h (n + 1) seen texts told) ⊎ ((IsSkipped text → ⊥) × ((s : Saying) × (more : List Told) × (told ≡ (n, s) ∷ more) × SaysLine h seen text s × SayLines h (n + 1) (seen_with seen s) texts more)))
+SayLines h n seen (text ∷ texts) told =
+    IsText text × ((IsSkipped text × SayLines h (n + 1) seen texts told) ⊎ ((IsSkipped text → ⊥)
+    × ((s : Saying) × (more : List Told) × (told ≡ (n, s) ∷ more) × SaysLine h seen text s × SayLines h (n + 1) (seen_with seen s) texts more)))
 
 -- The texts of an input's lines say the trace: the first its header, the others its lines, `go` and its items.
 abbrev pub SayTrace : List (List ℕ) → Trace → Type 0
 SayTrace [] t = ⊥
-SayTrace (first ∷ texts) t = (length (with_ends (first ∷ texts)) ≤ 16777216) × (length (first ∷ texts) ≤ 1000000) × IsText first × SaysHeader first t.header × ((told : List Told) × SayLines t.header 2 none_seen texts told × Gathers t told)
+SayTrace (first ∷ texts) t =
+    (length (with_ends (first ∷ texts)) ≤ 16777216) × (length (first ∷ texts) ≤ 1000000) × IsText first × SaysHeader first t.header
+    × ((told : List Told) × SayLines t.header 2 none_seen texts told × Gathers t told)
 
 -- The bytes of an input say the trace.
 abbrev pub SaysTrace : List ℕ → Trace → Type 0
@@ -72,7 +76,8 @@ FailsFirst line reason.Size = Passes line reason.Size → ⊥
 FailsFirst line reason.Lines = Passes line reason.Size × (Passes line reason.Lines → ⊥)
 FailsFirst line reason.Cut = Passes line reason.Size × Passes line reason.Lines × (Passes line reason.Cut → ⊥)
 FailsFirst line reason.Long = Passes line reason.Size × Passes line reason.Lines × Passes line reason.Cut × (Passes line reason.Long → ⊥)
-FailsFirst line reason.Byte = Passes line reason.Size × Passes line reason.Lines × Passes line reason.Cut × Passes line reason.Long × (Passes line reason.Byte → ⊥)
+FailsFirst line reason.Byte =
+    Passes line reason.Size × Passes line reason.Lines × Passes line reason.Cut × Passes line reason.Long × (Passes line reason.Byte → ⊥)
 FailsFirst line _ = ⊥
 
 -- Line 1 fails for this reason.
@@ -85,7 +90,12 @@ LineFails h seen line r = FailsFirst line r ⊎ (PassesAll line × (IsSkipped li
 
 -- the line with this text that stands behind lines with these texts
 abbrev pub line_behind : List (List ℕ) → List ℕ → Bool → Raw
-line_behind before text ended = record { number = length before + 1; end = length (with_ends before) + (length text + (if ended then 1 else 0)); ended_by_lf = ended; bytes = text }
+line_behind before text ended = record {
+  number = length before + 1;
+  end = length (with_ends before) + (length text + (if ended then 1 else 0));
+  ended_by_lf = ended;
+  bytes = text;
+}
 
 -- the IDs that the lines set slots at
 abbrev pub set_by : List Line → ℕ → Bool
@@ -106,7 +116,9 @@ FirstLineFails input r = (text : List ℕ) × (ended : Bool) × HasLine input []
 
 -- Line n of the input is a later one, and fails for this reason; the lines before it say a trace by themselves.
 abbrev pub LaterLineFails : List ℕ → ℕ → Reason → Type 0
-LaterLineFails input n r = (before : List (List ℕ)) × (t : Trace) × SayTrace before t × (n ≡ length before + 1) × ((text : List ℕ) × (ended : Bool) × HasLine input before text ended × (ended ≡ false → text ≡ [] → ⊥) × LineFails t.header (seen_in t) (line_behind before text ended) r)
+LaterLineFails input n r =
+    (before : List (List ℕ)) × (t : Trace) × SayTrace before t × (n ≡ length before + 1) × ((text : List ℕ) × (ended : Bool)
+    × HasLine input before text ended × (ended ≡ false → text ≡ [] → ⊥) × LineFails t.header (seen_in t) (line_behind before text ended) r)
 
 -- Line n is the first of the input that fails, and fails for this reason.
 abbrev pub FailsAt : List ℕ → ℕ → Reason → Type 0

@@ -38,7 +38,8 @@ under (Ok h) rest = with_header h (rest h)
 unfoldable pub reading_of : List (List ℕ) → Result Trace (ℕ × Reason)
 reading_of [] = Err (1, reason.Header)
 reading_of (last ∷ []) = under (head_of (record { number = 1; end = length last; ended_by_lf = false; bytes = last })) (λ h. Ok [])
-reading_of (x ∷ y ∷ more) = under (head_of (record { number = 1; end = length x + 1; ended_by_lf = true; bytes = x })) (λ h. lines_of h 2 (length x + 1) none_seen (y ∷ more))
+reading_of (x ∷ y ∷ more) =
+    under (head_of (record { number = 1; end = length x + 1; ended_by_lf = true; bytes = x })) (λ h. lines_of h 2 (length x + 1) none_seen (y ∷ more))
 
 -- what an input says: its trace, or the first line that is refused, and the reason
 unfoldable pub reading : List ℕ → Result Trace (ℕ × Reason)

@@ -4,7 +4,8 @@ ghost use Rattle.std.specs.Ordering.{nat_cmp};
 ghost use Rattle.std.specs.Str.{bytes_eq};
 ghost use Rattle.core_views.specs.Traces.{IsCommandOf, IsSlotInRange};
 ghost use Rattle.trace_reader.specs.Operands.{indexed, vcpu, host_thread, address, number as number_word};
-ghost use Rattle.trace_reader.specs.Forms.{new_number, slot, setting, read_form, write_form, add_form, slot_form, HostsMake, host_form, by_command, by_form, slot_id as slot_id_of};
+ghost use Rattle.trace_reader.specs.Forms.{new_number, slot, setting, read_form, write_form, add_form, slot_form, HostsMake, host_form, by_command};
+ghost use Rattle.trace_reader.specs.Forms.{by_form, slot_id as slot_id_of};
 
 use crate::Reason;
 use crate::number::{decimal, number};

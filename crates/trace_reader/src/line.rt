@@ -126,7 +126,8 @@ pub fn line(
 ) -> Result<Option<Saying>, ReadError>
     requires { header.now.words ≤ 8 }
     ensures small { OnOk result (end ≤ 16777216) }
-    ensures read { Gives number (λ x. x) result (line_of header.now (seen_of before.now) (record { number = number; end = end; ended_by_lf = ended; bytes = bytes.now })) }
+    ensures read { Gives number (λ x. x) result
+        (line_of header.now (seen_of before.now) (record { number = number; end = end; ended_by_lf = ended; bytes = bytes.now })) }
     ensures allowed { IfOk result (λ found. IfSome found (λ s. IsSayingOf header.now s)) }
 {
     if let Some(reason) = fault(number, end, ended, bytes) {

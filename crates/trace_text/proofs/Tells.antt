@@ -27,7 +27,8 @@ differ : (c d : ℕ) → (c ≡ d → ⊥) → c ≡ d → ⊥
 differ c d n e = n e
 
 -- Digits up to a byte that is none, and what comes from there on.
-parts : (xs ys r s : List ℕ) (c d : ℕ) → AllDigits 10 xs → AllDigits 10 ys → 10 ≤ digit_value c → 10 ≤ digit_value d → xs ++ c ∷ r ≡ ys ++ d ∷ s → (xs ≡ ys) × (c ∷ r ≡ d ∷ s)
+parts : (xs ys r s : List ℕ) (c d : ℕ) → AllDigits 10 xs → AllDigits 10 ys → 10 ≤ digit_value c → 10 ≤ digit_value d → xs ++ c ∷ r ≡ ys ++ d ∷ s
+    → (xs ≡ ys) × (c ∷ r ≡ d ∷ s)
 parts [] [] r s c d xd yd cs ds e = (refl, e)
 parts [] (y ∷ ys) r s c d xd yd cs ds e =
     let same : digit_value c ≡ digit_value y = ap digit_value (heads c y r (ys ++ d ∷ s) e) in
@@ -41,7 +42,8 @@ parts (x ∷ xs) (y ∷ ys) r s c d xd yd cs ds e =
     (rw (same, more.0) refl, more.1)
 
 -- A number and the byte behind it.
-number : (m n c d : ℕ) (r s : List ℕ) → m < 2 ^ 64 → n < 2 ^ 64 → 10 ≤ digit_value c → 10 ≤ digit_value d → decimal m ++ c ∷ r ≡ decimal n ++ d ∷ s → (m ≡ n) × (r ≡ s)
+number : (m n c d : ℕ) (r s : List ℕ) → m < 2 ^ 64 → n < 2 ^ 64 → 10 ≤ digit_value c → 10 ≤ digit_value d → decimal m ++ c ∷ r ≡ decimal n ++ d ∷ s
+    → (m ≡ n) × (r ≡ s)
 number m n c d r s mb nb cs ds e =
     let p = parts (decimal m) (decimal n) r s c d (decimal_is_IsNumeral m mb).0.1 (decimal_is_IsNumeral n nb).0.1 cs ds e in
     (decimal_injective m n mb nb p.0, tails c d r s p.1)

@@ -15,13 +15,12 @@ use Rattle.core_views.specs.declared.place.FaultPlace.{FaultPlace}
 use Rattle.core_views.specs.Slots.{is_write}
 use Rattle.fault_install.specs.declared.fault.FaultJob.{FaultJob}
 use Rattle.fault_install.specs.declared.fault.Faulted.{Faulted}
-use Rattle.fault_install.specs.Faults.{AnswersBy, EndsBy, TurnsAt, TurnsFault, WaitsBy, end_turn}
+use Rattle.fault_install.specs.Faults.{AnswersBy, EndsBy, TurnsAt, TurnsFault, end_turn}
 use Rattle.mmu_core.specs.lines.Cached.{frame_used}
 use Rattle.mmu_core.specs.declared.outcome.Outcome.{Outcome}
 use Rattle.mmu_core.specs.declared.outcome.Outcome.TheVariants as outcome
 use Rattle.mmu_core.specs.lines.FaultKnows.{EndKnows}
-use Rattle.mmu_core.specs.lines.FaultSteps.{fault_next, fault_part}
-use Rattle.mmu_core.specs.lines.PartWaits.{part_seen, part_waits}
+use Rattle.mmu_core.specs.lines.FaultSteps.{fault_next}
 use Rattle.mmu_core.specs.alone.LineAlone.{line_waits}
 use Rattle.step_seats.specs.Seats.{Seat}
 use Rattle.step_seats.specs.declared.turn.Turn.{Turn}
@@ -60,9 +59,8 @@ use Rattle.mmu_core.specs.machine.Turns.{line_of, outcome_of}
 use Rattle.mmu_core.proofs.lines.KnowsKept.{access_vcpu}
 use Rattle.mmu_core.proofs.machine.Which.{enabled_is}
 use Rattle.vcpu_run.specs.declared.access.AccessJob.{AccessJob}
-use Rattle.step_seats.specs.LineTurns.{Gives, MakesLine, TurnsLine, fault_turn, line_seen, line_turn, turn_of}
+use Rattle.step_seats.specs.LineTurns.{Gives, MakesLine, TurnsLine, line_seen, line_turn, turn_of}
 use Rattle.step_seats.proofs.LineParts.{place_may_make, place_rests, place_task}
-use Rattle.step_seats.proofs.LineTurns.{made_line}
 use Rattle.vcpu_run.specs.Accesses.{HasItsCause, IsStay, StandsAt, WalksAt, answer_of, walk_place}
 
 word_of : (z : Sizes) (actor : Actor) (gfn word : ℕ) (op : Op) → IsCommandFor z actor (Access gfn word op) → word < z.words
@@ -115,7 +113,8 @@ touches job h S small =
         left = S.left;
         rests = S.rests;
         is = ap (λ (t : Task). kind_of_task z t) (touch_same job.op index) ∙ sym (ap (λ (t : Task). kind_of_task z t) (task_is Touch job h S));
-        inside = inside_of job.op z index (place_below (map_of z) area.Content index (content_within (map_of z) frame job.word there.frame (word_there Touch job h S)));
+        inside = inside_of job.op z index
+            (place_below (map_of z) area.Content index (content_within (map_of z) frame job.word there.frame (word_there Touch job h S)));
         small = small_of job.op z index small;
       }),
     )
@@ -151,45 +150,9 @@ is_stay (Walk again) other = tt
 is_stay Touch other = tt
 is_stay (Leave how) other = tt
 
-not_true : (b : Bool) → b ≢ true → b ≡ false
-not_true true ne = absurd (ne refl)
-not_true false ne = refl
-
--- What a fault's turn answers of its step, for the access.
-over_gives : (e : FaultEnd) (waits : Bool) (way : Seen) → WaitsBy (end_turn e) waits way → Gives (answer_of (end_turn e)) waits way (fault_turn (Ends e))
-over_gives end_of.Installed waits way by_ = (not_true waits by_, refl)
-over_gives end_of.Mmio waits way by_ = (not_true waits by_, refl)
-over_gives end_of.HostFault waits way by_ = (not_true waits by_, refl)
-over_gives end_of.Starved waits way by_ = (not_true waits by_, refl)
-over_gives (end_of.Retry cause) waits way by_ = (not_true waits by_, refl)
-
-gives_fault : (turn : Turn Faulted) (next : FaultNext) (waits : Bool) (way : Seen) → AnswersBy turn next → WaitsBy turn waits way
-    → Gives (answer_of turn) waits way (fault_turn next)
-gives_fault More (Goes p) waits way is by_ = (not_true waits by_, refl)
-gives_fault (Wait seen) (Goes p) waits way is by_ = by_
-gives_fault (Done answer) (Goes p) waits way is by_ = absurd is
-gives_fault (Retry cause) (Goes p) waits way is by_ = absurd is
-gives_fault turn (Ends e) waits way is by_ =
-    subst (λ (t : Turn Faulted). Gives (answer_of t) waits way (fault_turn (Ends e))) (sym is) (over_gives e waits way (subst (λ (t : Turn Faulted). WaitsBy t waits way) is by_))
-
 -- what the fault of the access is
 abbrev pub fault_of : AccessJob → FaultJob
 fault_of job = record { gfn = job.gfn; write = is_write job.op }
-
--- The turn of a fault is the line's.
-pub turns_fault : (p : FaultPlace) (job : AccessJob) (fault : FaultJob) (turn : Turn Faulted) (before after : Seat) → StandsAt (Fault p) job before.hand
-    → fault ≡ fault_of job → TurnsFault fault turn before after → TurnsLine (answer_of turn) before after
-unfolding made_line
-turns_fault p job fault turn before after S is T =
-    let h : Held = before.hand in
-    let M = (subst (λ (j : FaultJob). TurnsAt p j turn before after) is (T p S.stands)).step in
-    let step : PartStep = fault_part p job.gfn h.topics in
-    record {
-      makes = made_line step (access_note (Fault p)) M.found before after (may_make (Fault p) job h S step refl) M.made;
-      gives = subst (λ (c : Command). Gives (answer_of turn) (line_waits (place_at h.state.place h) c h M.found) (line_seen (place_at h.state.place h) c h M.found) (line_turn (place_at h.state.place h) c h M.found)) (sym S.command)
-          (subst (λ (q : Place). Gives (answer_of turn) (line_waits q (Access job.gfn job.word job.op) h M.found) (line_seen q (Access job.gfn job.word job.op) h M.found) (line_turn q (Access job.gfn job.word job.op) h M.found)) (sym S.stands)
-          (gives_fault turn (fault_next p h.state.sizes job.gfn (is_write job.op) h.topics M.found) (part_waits step h.topics M.found) (part_seen step h M.found) M.turned M.waits_by));
-    }
 
 -- The turn of a stay answers by the answers of its hand.
 stay_waits : (p : AccessPlace) (gfn word : ℕ) (op : Op) (h : Held) (v : ℕ) → IsStay p → line_waits (place.Access p) (Access gfn word op) h v ≡ false
@@ -296,4 +259,5 @@ stay_outcome _ gfn word op h v turn job stay is = subst (λ (t : Turn Answer). H
 pub stay_cause : (p : AccessPlace) (job : AccessJob) (turn : Turn Answer) (h : Held) (v : ℕ) → StandsAt p job h → IsStay p
     → turn ≡ turn_of (outcome_of h v) → HasItsCause turn job h
 stay_cause p job turn h v S stay is =
-    stay_outcome p job.gfn job.word job.op h v turn job stay (is ∙ ap (λ (c : Command). turn_of (outcome_at (place_at h.state.place h) c h v)) S.command ∙ ap (λ (q : Place). turn_of (outcome_at q (Access job.gfn job.word job.op) h v)) S.stands)
+    stay_outcome p job.gfn job.word job.op h v turn job stay (is ∙ ap (λ (c : Command). turn_of (outcome_at (place_at h.state.place h) c h v)) S.command
+    ∙ ap (λ (q : Place). turn_of (outcome_at q (Access job.gfn job.word job.op) h v)) S.stands)

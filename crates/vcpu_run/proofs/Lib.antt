@@ -1,2 +1,3 @@
 pub mod Accessing
+pub mod FaultTurns
 pub mod ToldCauses

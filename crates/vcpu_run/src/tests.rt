@@ -52,7 +52,8 @@ const ROOT: u32 = 96;
 const CONTENT: usize = 4331;
 
 fn header(alloc: Global, pool: u32) -> Result<Header, NoMemory>
-    ensures { IfOk result (λ h. h ≡ record { version = 1; vcpus = 2; workers = 0; pages = 70; frames = 130; words = 2; pool = pool; cache = 64; manual = 0; hosts = 0 ∷ [] }) }
+    ensures { IfOk result (λ h. h
+        ≡ record { version = 1; vcpus = 2; workers = 0; pages = 70; frames = 130; words = 2; pool = pool; cache = 64; manual = 0; hosts = 0 ∷ [] }) }
 {
     Ok(Header {
         version: 1,

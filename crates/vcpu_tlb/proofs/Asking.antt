@@ -5,7 +5,7 @@ use Rattle.std.proofs.lemmas.Nat.Bits.{bit_at_set_same, bit_at_set_other}
 use Rattle.core_views.specs.declared.sizes.Sizes.{Sizes}
 use Rattle.core_views.specs.Held.{Held}
 use Rattle.spte_words.specs.declared.area.Area.TheVariants as area
-use Rattle.part_steps.specs.ControlTopics.{has_to_flush}
+use Rattle.part_steps.specs.ControlBits.{has_to_flush}
 use Rattle.part_steps.specs.PartSteps.{PartNeeds}
 use Rattle.part_steps.specs.PartTasks.{own_index, part_task}
 use Rattle.part_steps.specs.declared.part_step.PartStep.TheVariants as part

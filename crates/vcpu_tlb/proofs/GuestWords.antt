@@ -48,7 +48,8 @@ abbrev WorksOnState : PartStep → StepKind → ℕ → ℕ → Type 0
 WorksOnState step k x note = (own : ℕ) (t : Topics) → part_task step own t note ≡ works k area.State own x note
 
 -- the own state word behind it
-stored_in : (z : Sizes) (w : World Held) (a note : ℕ) (step : PartStep) (k : StepKind) (x : ℕ) (h : Held) → IsSound z w → a < length w.hands → hand_in mmu w a ≡ h → WorksOnState step k x note
+stored_in : (z : Sizes) (w : World Held) (a note : ℕ) (step : PartStep) (k : StepKind) (x : ℕ) (h : Held) → IsSound z w → a < length w.hands
+    → hand_in mmu w a ≡ h → WorksOnState step k x note
     → word_in z (effect mmu w (step_by a (part_kind h step note))) area.State a ≡ words_after (works k area.State a x note) (word_in z w) area.State a
 stored_in z w a note step k x h G there is on =
     let lt = subst (λ n. a < n) G.hands there in
@@ -56,7 +57,9 @@ stored_in z w a note step k x h G there is on =
     let same : h.state.sizes ≡ z = sym (ap (λ (y : Held). y.state.sizes) is) ∙ O.sizes in
     let own : own_index h ≡ a = ap (λ y. index_of y h.state.actor) same ∙ ap (λ (y : Held). index_of z y.state.actor) (sym is) ∙ O.index in
     let t : Task = works k area.State a x note in
-    let kind_is : part_kind h step note ≡ kind_of_task z t = ap (kind_of_task h.state.sizes) (on (own_index h) h.topics) ∙ ap (λ i. kind_of_task h.state.sizes (works k area.State i x note)) own ∙ ap (λ y. kind_of_task y t) same in
+    let kind_is : part_kind h step note ≡ kind_of_task z t =
+    ap (kind_of_task h.state.sizes) (on (own_index h) h.topics) ∙ ap (λ i. kind_of_task h.state.sizes (works k area.State i x note)) own
+    ∙ ap (λ y. kind_of_task y t) same in
     ap (λ c. word_in z (effect mmu w (step_by a c)) area.State a) kind_is ∙ ap (λ (v : View). v.words area.State a) (view_behind z w a t lt G.words there)
 
 -- What a step makes of its actor's state word, in worlds that are told before and behind it: f of the word before.
@@ -94,7 +97,8 @@ tells_stay w actor h has = ∥∥₁_elim has.reached (hlevel props) inside
         (subst (λ n. n < 8) (sym is) told.0, ap (λ n. n % 4) is ∙ told.1 ∙ ap (λ (x : Held). stay_bits x.topics.stay) has.is)
 
 -- Who is outside has a state word that says so.
-pub outside_told : (told : Option (World Held)) (actor : ℕ) (h : Held) → IfSome told (HasHand actor h) → h.topics.stay ≡ Outside → IfSome told (λ w. state_in h w % 4 ≡ 0)
+pub outside_told : (told : Option (World Held)) (actor : ℕ) (h : Held) → IfSome told (HasHand actor h) → h.topics.stay ≡ Outside
+    → IfSome told (λ w. state_in h w % 4 ≡ 0)
 outside_told None actor h has is = tt
 outside_told (Some w) actor h has is = (tells_stay w actor h has).1 ∙ ap stay_bits is
 
@@ -105,17 +109,21 @@ keeps_flush s lt =
     let d : bit_and s (all_but 3) / 2 ^ 2 ≡ s / 2 ^ 2 = omega (arith, e) in
     ap (λ n. n % 2 == 1) d
 
-pub flush_kept : (told tells : Option (World Held)) (actor note found : ℕ) (h g : Held) → IfSome told (HasHand actor h) → Tells told actor (part_kind h part.Leave note) found tells → IfSome tells (HasHand actor g)
+pub flush_kept : (told tells : Option (World Held)) (actor note found : ℕ) (h g : Held) → IfSome told (HasHand actor h)
+    → Tells told actor (part_kind h part.Leave note) found tells → IfSome tells (HasHand actor g)
     → IfSome told (λ w. IfSome tells (λ v. asks_flush (state_in g v) ≡ asks_flush (state_in h w)))
 flush_kept None tells actor note found h g has moves behind = tt
 flush_kept (Some w) None actor note found h g has moves behind = tt
 flush_kept (Some w) (Some v) actor note found h g has moves behind =
-    ap asks_flush (state_behind part.Leave kind.Leave (all_but 3) (λ n. bit_and n (all_but 3)) (Some w) (Some v) actor note found h g has moves behind (λ own t. refl) (λ words i. refl))
+    ap asks_flush (state_behind part.Leave kind.Leave (all_but 3) (λ n. bit_and n (all_but 3)) (Some w) (Some v) actor note found h g has moves behind
+    (λ own t. refl) (λ words i. refl))
     ∙ keeps_flush (state_in h w) (tells_stay w actor h has).0
 
-pub entered_word : (told tells : Option (World Held)) (actor note found : ℕ) (h g : Held) → IfSome told (HasHand actor h) → Tells told actor (part_kind h part.Enter note) found tells → IfSome tells (HasHand actor g)
+pub entered_word : (told tells : Option (World Held)) (actor note found : ℕ) (h g : Held) → IfSome told (HasHand actor h)
+    → Tells told actor (part_kind h part.Enter note) found tells → IfSome tells (HasHand actor g)
     → IfSome told (λ w. IfSome tells (λ v. state_in g v ≡ 3))
-entered_word told tells actor note found h g has moves behind = state_behind part.Enter kind.Enter 3 (λ n. 3) told tells actor note found h g has moves behind (λ own t. refl) (λ words i. refl)
+entered_word told tells actor note found h g has moves behind =
+    state_behind part.Enter kind.Enter 3 (λ n. 3) told tells actor note found h g has moves behind (λ own t. refl) (λ words i. refl)
 
 -- the answer to what was found
 pub found_flush : (n : ℕ) → asks_flush n ≡ true → answer_to n ≡ Flushed

@@ -37,7 +37,8 @@ use Rattle.mmu_laws.proofs.causes.StarvedScan.{legal_parts}
 use Rattle.mmu_core.proofs.machine.SumsBelow.{sum_ge, sum_none}
 use Rattle.mmu_core.proofs.machine.Worlds.{good_run}
 use Rattle.core_theorem.specs.Runs.{IsRun}
-use Rattle.core_theorem.specs.Turns.{begins_line, bound_of, bound_under_way, bounds_in, bounds_of, delays_line, how_many, is_of_line, is_under_way, lines_answered, lines_in}
+use Rattle.core_theorem.specs.Turns.{begins_line, bound_of, bound_under_way, bounds_in, bounds_of, delays_line, how_many, is_of_line, is_under_way}
+use Rattle.core_theorem.specs.Turns.{lines_answered, lines_in}
 use Rattle.core_theorem.proofs.ActorSums.{sum_plus, sum_same}
 use Rattle.core_theorem.proofs.Begins.{begins_bounded, begun_in, bounds_left, chosen_bounded, chosen_more, lines_are_open}
 use Rattle.core_theorem.proofs.Turns.{IsReached, open_in, reached_behind, steps_are_few}
@@ -69,12 +70,14 @@ one_more_of_line w s ss own rest = let one : one_if (is_of_line w s) ≡ 1 = ap 
 own_of_lines : (actor : ℕ) (w : World Held) (ss : List (Step Kind)) → AreTurns actor w ss → AreOfLines w ss
 own_of_lines actor w [] turns = refl
 own_of_lines actor w (s ∷ ss) turns =
-    one_more_of_line w s ss (subst (λ i. is_of_line w (record { actor = i; kind = s.kind }) ≡ true) (sym turns.0.own) turns.0.left) (own_of_lines actor (effect mmu w s) ss turns.1)
+    one_more_of_line w s ss (subst (λ i. is_of_line w (record { actor = i; kind = s.kind }) ≡ true) (sym turns.0.own) turns.0.left)
+    (own_of_lines actor (effect mmu w s) ss turns.1)
 
 pub items_of_lines : (z : Sizes) (items : List Item) (w : World Held) (ss : List (Step Kind)) → RunsItems z items w ss → AreOfLines w ss
 items_of_lines z [] w ss none = subst (AreOfLines w) (sym none) refl
 items_of_lines z (item ∷ items) w ss (own, rest, are, first, more) =
-    subst (AreOfLines w) (sym are) (both_of_lines w own rest (own_of_lines (index_of z item.actor) w own first.so_far.turns) (items_of_lines z items (run mmu w own) rest more))
+    subst (AreOfLines w) (sym are)
+    (both_of_lines w own rest (own_of_lines (index_of z item.actor) w own first.so_far.turns) (items_of_lines z items (run mmu w own) rest more))
 
 pub rounds_of_lines : (z : Sizes) (first next : ℕ) (w : World Held) (ss : List (Step Kind)) → RunsRounds z first next w ss → AreOfLines w ss
 rounds_of_lines z first next w [] rounds = refl
@@ -87,16 +90,23 @@ none_under_way : (p : Place) (h : Held) (own : List Line) (count : ℕ) → Unde
     → length (take (begun_count p (length h.answers)) own) ≡ count → p ≡ place.Between
 none_under_way place.Between h own count under lines answers begun = refl
 none_under_way _ h own count under lines answers begun =
-    let left = under.1 in let few = ap (λ (xs : List Line). length xs) lines in let taken = length-take (suc (length h.answers)) own in absurd (omega (arith, left, few, taken, answers, begun))
+    let left = under.1 in
+    let few = ap (λ (xs : List Line). length xs) lines in
+    let taken = length-take (suc (length h.answers)) own in
+    absurd (omega (arith, left, few, taken, answers, begun))
 
 -- The hand of an actor has no line under way, and has answered its lines among those that ran.
 record IsDone (z : Sizes) (ran : List Line) (i : ℕ) (h : Held) : Type 0 where
   between : h.state.place ≡ place.Between
   answered : length h.answers ≡ length (lines_of (actor_at z i) ran)
 
-module _ (z : Sizes) (lines : List Line) (start : World Held) (is_start : IsStart z lines start) (ran : List Line) (behind : World Held) (r : RunsLines z start ran behind) where
+module _ (z : Sizes) (lines : List Line) (start : World Held) (is_start : IsStart z lines start) (ran : List Line) (behind : World Held)
+    (r : RunsLines z start ran behind) where
   hands_done : (i : ℕ) → i < actors_of z → IsDone z ran i (hand_in mmu behind i)
-  hands_done i lt = subst (λ (w : World Held). IsDone z ran i (hand_in mmu w i)) r.ends (record { between = none_under_way g.state.place g own count under F.lines answered (ap (λ (xs : List Line). length xs) (F.begun ∙ W.begun (actor_at z i))); answered = answered })
+  hands_done i lt = subst (λ (w : World Held). IsDone z ran i (hand_in mmu w i)) r.ends (record {
+    between = none_under_way g.state.place g own count under F.lines answered (ap (λ (xs : List Line). length xs) (F.begun ∙ W.begun (actor_at z i)));
+    answered = answered;
+  })
     where
       g : Held
       g = hand_in mmu (run mmu start r.steps) i
@@ -134,13 +144,17 @@ all_chosen z [] each = omega arith
 all_chosen z (line ∷ ran) each =
     let may : IsCommandFor z line.actor line.command = All-head (λ (l : Line). IsCommandFor z l.actor l.command) line ran each in
     let rest = all_chosen z ran (All-tail (λ (l : Line). IsCommandFor z l.actor l.command) line ran each) in
-    let same = sum_same (actors_of z) (λ i. one_if (is_same (actor_at z i) line.actor) + length (lines_of (actor_at z i) ran)) (λ i. length (lines_of (actor_at z i) (line ∷ ran))) (λ i lt. chosen_more (is_same (actor_at z i) line.actor) line (lines_of (actor_at z i) ran)) in
+    let same =
+    sum_same (actors_of z) (λ i. one_if (is_same (actor_at z i) line.actor) + length (lines_of (actor_at z i) ran)) (λ i. length
+    (lines_of (actor_at z i) (line ∷ ran))) (λ i lt. chosen_more (is_same (actor_at z i) line.actor) line (lines_of (actor_at z i) ran)) in
     let both = sum_plus (actors_of z) (λ i. one_if (is_same (actor_at z i) line.actor)) (λ i. length (lines_of (actor_at z i) ran)) in
     let own = sum_ge (actors_of z) (λ i. one_if (is_same (actor_at z i) line.actor)) (index_of z line.actor) (maker_there z line.actor line.command may) in
-    let one : one_if (is_same (actor_at z (index_of z line.actor)) line.actor) ≡ 1 = ap one_if (subst (λ a. is_same a line.actor ≡ true) (sym (maker_is z line.actor line.command may)) (is_same_self line.actor)) in
+    let one : one_if (is_same (actor_at z (index_of z line.actor)) line.actor) ≡ 1 =
+    ap one_if (subst (λ a. is_same a line.actor ≡ true) (sym (maker_is z line.actor line.command may)) (is_same_self line.actor)) in
     omega (arith, rest, same, both, own, one)
 
-module _ (z : Sizes) (lines : List Line) (start : World Held) (is_start : IsStart z lines start) (above : ℕ) (behind : World Held) (r : RunsLines z start (take above lines) behind) (ss : List (Step Kind)) (legal : Legal mmu behind ss) where
+module _ (z : Sizes) (lines : List Line) (start : World Held) (is_start : IsStart z lines start) (above : ℕ) (behind : World Held)
+    (r : RunsLines z start (take above lines) behind) (ss : List (Step Kind)) (legal : Legal mmu behind ss) where
   abbrev ran : List Line
   ran = take above lines
 
@@ -197,7 +211,9 @@ module _ (z : Sizes) (lines : List Line) (start : World Held) (is_start : IsStar
   pub few_begin : how_many begins_line behind ss ≤ length (drop above lines)
   few_begin =
       let few = subst (λ (w : World Held). lines_answered z w + lines_in z w ss ≤ length lines) r.ends (lines_are_open z lines start r.steps ss is_run) in
-      let answers = sum_same (actors_of z) (λ i. length (lines_of (actor_at z i) ran)) (λ i. length (hand_in mmu behind i).answers) (λ i lt. (hands_done z lines start is_start ran behind r i lt).answered) in
+      let answers =
+      sum_same (actors_of z) (λ i. length (lines_of (actor_at z i) ran)) (λ i. length (hand_in mmu behind i).answers)
+      (λ i lt. (hands_done z lines start is_start ran behind r i lt).answered) in
       let all = all_chosen z ran (All-take (λ (l : Line). IsCommandFor z l.actor l.command) above lines is_start.allowed) in
       let front = length-append ran (drop above lines) in
       let whole = ap (λ (xs : List Line). length xs) (take-append-drop above lines) in
@@ -233,7 +249,9 @@ beside_delayed z lines start is_start above behind r ss legal own = record {
 
     stand : AreBelow z ran below behind
     stand = record {
-      lines = λ i lt. subst (λ (w : World Held). (hand_in mmu w i).lines ≡ lines_of (actor_at z i) (ran ++ below)) r.ends ((start_follows z lines start r.steps i is_start r.legal lt).lines ∙ ap (lines_of (actor_at z i)) (sym (take-append-drop above lines)));
+      lines =
+          λ i lt. subst (λ (w : World Held). (hand_in mmu w i).lines ≡ lines_of (actor_at z i) (ran ++ below)) r.ends
+          ((start_follows z lines start r.steps i is_start r.legal lt).lines ∙ ap (lines_of (actor_at z i)) (sym (take-append-drop above lines)));
       past = λ i lt. let same = (hands_done z lines start is_start ran behind r i lt).answered in omega (arith, same);
     }
 
@@ -246,7 +264,8 @@ pub turns_delayed : (trace : Trace) (limit : ℕ) (start : World Held) (steps : 
     → AreForDelays (sizes_of trace.header) (lines_below trace) (length S.scheduled + limit) S.behind (S.scheduled ++ S.rounds)
 turns_delayed trace limit start steps is_start legal S F used_up =
     subst (λ turns. AreForDelays z (lines_below trace) turns S.behind all) (length-append S.scheduled S.rounds ∙ ap (λ n. length S.scheduled + n) used_up)
-    (subst (λ n. AreForDelays z (drop n trace.lines) (length all) S.behind all) F.all_above (beside_delayed z trace.lines start is_start S.above S.behind S.alone all legal_behind own))
+    (subst (λ n. AreForDelays z (drop n trace.lines) (length all) S.behind all) F.all_above
+    (beside_delayed z trace.lines start is_start S.above S.behind S.alone all legal_behind own))
   where
     z : Sizes
     z = sizes_of trace.header
@@ -259,4 +278,5 @@ turns_delayed trace limit start steps is_start legal S F used_up =
 
     own : AreOfLines S.behind all
     own =
-        both_of_lines S.behind S.scheduled S.rounds (items_of_lines z trace.items S.behind S.scheduled F.all_items) (rounds_of_lines z 0 S.in_rounds.next (run mmu S.behind S.scheduled) S.rounds S.in_rounds.rounds)
+        both_of_lines S.behind S.scheduled S.rounds (items_of_lines z trace.items S.behind S.scheduled F.all_items)
+        (rounds_of_lines z 0 S.in_rounds.next (run mmu S.behind S.scheduled) S.rounds S.in_rounds.rounds)

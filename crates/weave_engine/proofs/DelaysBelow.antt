@@ -1,5 +1,6 @@
 -- Each delay below `go` is one of a line that stands there: so all delays are those of these lines together.
-use Rattle.std.proofs.Common.{◌≡◌, ◌⊎◌, inl, inr, ◌+◌, ◌*◌, ◌-◌, ◌<◌, ◌≤◌, ℕ, List, [], ◌∷◌, ◌++◌, get_or, length, length-append, refl, sym, subst, ap, ◌∙◌, arith}
+use Rattle.std.proofs.Common.{◌≡◌, ◌⊎◌, inl, inr, ◌+◌, ◌*◌, ◌-◌, ◌<◌, ◌≤◌, ℕ, List, [], ◌∷◌, ◌++◌, get_or, length, length-append, refl, sym, subst}
+use Rattle.std.proofs.Common.{ap, ◌∙◌, arith}
 use Rattle.std.proofs.lemmas.Bool.{cases_Bool, eq-eqb, ltb-true}
 use Rattle.std.proofs.lemmas.List.{get_or-append_right}
 use Rattle.std.proofs.lemmas.List.Elements.{All-contains, All-contains_itself, All-filter, Contains-get_or, filter-append}
@@ -65,7 +66,9 @@ module _ (z : Sizes) (ran below : List Line) where
   below_more : (u : World Held) (s : Step Kind) → IsSound z u → May mmu u s → AreBelow u → AreBelow (effect mmu u s)
   below_more u s G may B = record {
     lines = λ i lt. (run_follows z u (s ∷ []) i G (may, tt) lt).lines ∙ B.lines i lt;
-    past = λ i lt. grown (hand_in mmu (effect mmu u s) i).answers (hand_in mmu u i).answers _ (length (lines_of (actor_at z i) ran)) (run_follows z u (s ∷ []) i G (may, tt) lt).answers (B.past i lt);
+    past =
+        λ i lt. grown (hand_in mmu (effect mmu u s) i).answers (hand_in mmu u i).answers _ (length (lines_of (actor_at z i) ran))
+        (run_follows z u (s ∷ []) i G (may, tt) lt).answers (B.past i lt);
   }
     where
       grown : (after before more : List AnsweredLine) (n : ℕ) → after ≡ before ++ more → n ≤ length before → n ≤ length after
@@ -75,7 +78,9 @@ module _ (z : Sizes) (ran below : List Line) where
   -- The next line of a hand is one of these.
   next_below : (u : World Held) (i : ℕ) → i < actors_of z → AreBelow u → length (hand_in mmu u i).answers < length (hand_in mmu u i).lines
       → Contains below (next_line (hand_in mmu u i))
-  next_below u i lt B left = subst (Contains below) (sym next_is) (All-contains (Contains below) own line (All-filter (λ (l : Line). is_same (actor_at z i) l.actor) (Contains below) below (All-contains_itself below)) (Contains-get_or own (n - length front) no_line within))
+  next_below u i lt B left =
+      subst (Contains below) (sym next_is) (All-contains (Contains below) own line (All-filter (λ (l : Line). is_same (actor_at z i) l.actor)
+      (Contains below) below (All-contains_itself below)) (Contains-get_or own (n - length front) no_line within))
     where
       h : Held
       h = hand_in mmu u i

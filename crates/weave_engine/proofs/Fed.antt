@@ -46,4 +46,5 @@ step_fed h v left other =
     let p : Place = place_at h.state.place h in
     subst (λ b. NoneStarved (events_by b h v)) (sym left) (fed_events h.state.actor (event_kinds h.state.place line p h v)
     (fed_both (beginning h.state.place line) (tells_at p line.command h v ++ answering (outcome_at p line.command h v) line) (begin_fed h.state.place line)
-    (fed_both (tells_at p line.command h v) (answering (outcome_at p line.command h v) line) (tells_fed p line.command h v other) (answer_fed (outcome_at p line.command h v) line))))
+    (fed_both (tells_at p line.command h v) (answering (outcome_at p line.command h v) line) (tells_fed p line.command h v other)
+    (answer_fed (outcome_at p line.command h v) line))))

@@ -1,6 +1,7 @@
 -- Lines in file order: what has run of each actor's lines, and what is next.
 use Rattle.core_views.specs.declared.trace.HostChange.TheVariants.{Allow, Protect}
-use Rattle.std.proofs.Common.{◌≡◌, ◌≢◌, ◌<◌, ◌+◌, ◌-◌, ℕ, suc, List, [], ◌∷◌, ◌++◌, length, take, drop, get_or, refl, sym, ap, subst, ◌∙◌, arith, length-append, add-one}
+use Rattle.std.proofs.Common.{◌≡◌, ◌≢◌, ◌<◌, ◌+◌, ◌-◌, ℕ, suc, List, [], ◌∷◌, ◌++◌, length, take, drop, get_or, refl, sym, ap, subst, ◌∙◌, arith}
+use Rattle.std.proofs.Common.{length-append, add-one}
 use Rattle.std.proofs.Math.Seq.{drop-cons, get_or-append_seam, take-suc}
 use Rattle.std.proofs.lemmas.List.{append-nil, take-append-drop}
 use Rattle.std.proofs.lemmas.List.Elements.{filter-append}
@@ -31,19 +32,24 @@ one_more_line lines i d lt = rw add-one (take-suc lines i d lt)
 own_more : (actor : Actor) (line : Line) (b : Bool) → is_same actor line.actor ≡ b → lines_of actor (line ∷ []) ≡ (if b then line ∷ [] else [])
 own_more actor line b is = rw is refl
 
-pub own_line : (actor : Actor) (lines : List Line) (i : ℕ) (d : Line) → i < length lines → actor ≡ (get_or lines i d).actor → lines_of actor (take (i + 1) lines) ≡ lines_of actor (take i lines) ++ get_or lines i d ∷ []
+pub own_line : (actor : Actor) (lines : List Line) (i : ℕ) (d : Line) → i < length lines → actor ≡ (get_or lines i d).actor
+    → lines_of actor (take (i + 1) lines) ≡ lines_of actor (take i lines) ++ get_or lines i d ∷ []
 own_line actor lines i d lt is =
     let line : Line = get_or lines i d in
     let same : is_same actor line.actor ≡ true = subst (λ x. is_same actor x ≡ true) is (is_same_self actor) in
-    ap (lines_of actor) (one_more_line lines i d lt) ∙ lines_of_append actor (take i lines) (line ∷ []) ∙ ap (λ xs. lines_of actor (take i lines) ++ xs) (own_more actor line true same)
+    ap (lines_of actor) (one_more_line lines i d lt) ∙ lines_of_append actor (take i lines) (line ∷ [])
+    ∙ ap (λ xs. lines_of actor (take i lines) ++ xs) (own_more actor line true same)
 
-pub other_line : (actor : Actor) (lines : List Line) (i : ℕ) (d : Line) → i < length lines → is_same actor (get_or lines i d).actor ≡ false → lines_of actor (take (i + 1) lines) ≡ lines_of actor (take i lines)
+pub other_line : (actor : Actor) (lines : List Line) (i : ℕ) (d : Line) → i < length lines → is_same actor (get_or lines i d).actor ≡ false
+    → lines_of actor (take (i + 1) lines) ≡ lines_of actor (take i lines)
 other_line actor lines i d lt apart =
     let line : Line = get_or lines i d in
-    ap (lines_of actor) (one_more_line lines i d lt) ∙ lines_of_append actor (take i lines) (line ∷ []) ∙ ap (λ xs. lines_of actor (take i lines) ++ xs) (own_more actor line false apart) ∙ append-nil (lines_of actor (take i lines))
+    ap (lines_of actor) (one_more_line lines i d lt) ∙ lines_of_append actor (take i lines) (line ∷ [])
+    ∙ ap (λ xs. lines_of actor (take i lines) ++ xs) (own_more actor line false apart) ∙ append-nil (lines_of actor (take i lines))
 
 -- The next of an actor's lines, behind those among the first i, is line i, where it is the actor's.
-pub next_is : (actor : Actor) (lines : List Line) (i : ℕ) (d : Line) → i < length lines → actor ≡ (get_or lines i d).actor → slice_get (lines_of actor lines) (length (lines_of actor (take i lines))) ≡ Some (get_or lines i d)
+pub next_is : (actor : Actor) (lines : List Line) (i : ℕ) (d : Line) → i < length lines → actor ≡ (get_or lines i d).actor
+    → slice_get (lines_of actor lines) (length (lines_of actor (take i lines))) ≡ Some (get_or lines i d)
 next_is actor lines i d lt is =
     let line : Line = get_or lines i d in
     let front : List Line = lines_of actor (take i lines) in
@@ -54,7 +60,8 @@ next_is actor lines i d lt is =
     ap (lines_of actor) (sym (take-append-drop i lines)) ∙ lines_of_append actor (take i lines) (drop i lines)
     ∙ ap (λ xs. front ++ lines_of actor xs) (drop-cons lines i d lt) ∙ ap (λ xs. front ++ xs) rest in
     let count : length (front ++ line ∷ back) ≡ length front + length (line ∷ back) = length-append front (line ∷ back) in
-    let here : slice_get (front ++ line ∷ back) (length front) ≡ Some (get_or (front ++ line ∷ back) (length front) line) = slice_get-get_or (front ++ line ∷ back) (length front) line (omega (arith, count)) in
+    let here : slice_get (front ++ line ∷ back) (length front) ≡ Some (get_or (front ++ line ∷ back) (length front) line) =
+    slice_get-get_or (front ++ line ∷ back) (length front) line (omega (arith, count)) in
     subst (λ xs. slice_get xs (length front) ≡ Some line) (sym whole) (here ∙ ap Some (get_or-append_seam front line back line))
 
 -- An actor that makes a line is one of the machine's.

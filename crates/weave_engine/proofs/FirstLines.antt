@@ -13,7 +13,7 @@ use Rattle.mmu_core.specs.machine.Enabled.{mmu}
 use Rattle.mmu_core.specs.machine.Machine.{World, hand_in}
 use Rattle.mmu_core.specs.machine.Steps.{has_line, next_line}
 use Rattle.weave_engine.specs.Turning.{HasLineLeft, HasNoLineLeft}
-use Rattle.weave_engine.specs.Weaves.{FirstOpen, earlier_of}
+use Rattle.weave_engine.specs.FirstOpen.{FirstOpen, earlier_of}
 
 -- the next line of a hand, if it has one
 abbrev pub open_next : Held → Option Line
@@ -60,7 +60,8 @@ pub absurd_line : (w : World Held) (i : ℕ) → HasLineLeft i w → HasNoLineLe
 absurd_line w i has none = let e : true ≡ false = sym has ∙ none in cc e
 
 -- One actor more was looked at.
-pub looks_at : (w : World Held) (count : ℕ) (first : Option Line) → FirstBefore w count first → FirstBefore w (count + 1) (earlier_of first (open_next (hand_in mmu w count)))
+pub looks_at : (w : World Held) (count : ℕ) (first : Option Line) → FirstBefore w count first
+    → FirstBefore w (count + 1) (earlier_of first (open_next (hand_in mmu w count)))
 looks_at w count first F = by first (open_next (hand_in mmu w count)) refl F
   where
     by : (first next : Option Line) → open_next (hand_in mmu w count) ≡ next → FirstBefore w count first → FirstBefore w (count + 1) (earlier_of first next)
@@ -73,10 +74,20 @@ looks_at w count first F = by first (open_next (hand_in mmu w count)) refl F
         let N = has_next (hand_in mmu w count) other is in
         record { actor = count; before = omega arith; left = N.0; is = N.1; first = λ i lt has. at i (same_or_before i count lt) has N.1 }
       where
-        at : (i : ℕ) → (i ≡ count) ⊎ (i < count) → HasLineLeft i w → next_line (hand_in mmu w count) ≡ other → other.number ≤ (next_line (hand_in mmu w i)).number
-        at i (inl e) has same = let n : (next_line (hand_in mmu w i)).number ≡ other.number = ap (λ (n : ℕ). (next_line (hand_in mmu w n)).number) e ∙ ap (λ (l : Line). l.number) same in omega (arith, n)
+        at : (i : ℕ) → (i ≡ count) ⊎ (i < count) → HasLineLeft i w → next_line (hand_in mmu w count) ≡ other
+            → other.number ≤ (next_line (hand_in mmu w i)).number
+        at i (inl e) has same =
+            let n : (next_line (hand_in mmu w i)).number ≡ other.number =
+            ap (λ (n : ℕ). (next_line (hand_in mmu w n)).number) e ∙ ap (λ (l : Line). l.number) same in
+            omega (arith, n)
         at i (inr lt) has same = absurd (absurd_line w i has (F i lt))
-    by (Some line) None is F = record { actor = F.actor; before = let b = F.before in omega (arith, b); left = F.left; is = F.is; first = λ i lt has. at i (same_or_before i count lt) has }
+    by (Some line) None is F = record {
+      actor = F.actor;
+      before = let b = F.before in omega (arith, b);
+      left = F.left;
+      is = F.is;
+      first = λ i lt has. at i (same_or_before i count lt) has;
+    }
       where
         at : (i : ℕ) → (i ≡ count) ⊎ (i < count) → HasLineLeft i w → line.number ≤ (next_line (hand_in mmu w i)).number
         at i (inl e) has = absurd (absurd_line w count (subst (λ (n : ℕ). HasLineLeft n w) e has) (no_next (hand_in mmu w count) is))
@@ -98,7 +109,13 @@ looks_at w count first F = by first (open_next (hand_in mmu w count)) refl F
             at : (i : ℕ) → (i ≡ count) ⊎ (i < count) → HasLineLeft i w → other.number ≤ (next_line (hand_in mmu w i)).number
             at i (inl e) has = let n = of_other i e in omega (arith, n)
             at i (inr lt) has = let l = less in let f = F.first i lt has in omega (arith, l, f)
-        pick false e = record { actor = F.actor; before = let b = F.before in omega (arith, b); left = F.left; is = F.is; first = λ i lt has. at i (same_or_before i count lt) has }
+        pick false e = record {
+          actor = F.actor;
+          before = let b = F.before in omega (arith, b);
+          left = F.left;
+          is = F.is;
+          first = λ i lt has. at i (same_or_before i count lt) has;
+        }
           where
             least : line.number ≤ other.number
             least = grind (arith, nat_tests)

@@ -5,6 +5,7 @@ pub mod PartRuns
 pub mod PartEnds
 pub mod FileOrder
 pub mod LinesRun
+pub mod ReadyLines
 pub mod LinesPut
 pub mod TurnEnds
 pub mod Turns
@@ -17,6 +18,7 @@ pub mod FirstLines
 pub mod DelaysBelow
 pub mod Beside
 pub mod FirstInFile
+pub mod BeforeSteps
 pub mod WovenLaws
 pub mod WeaveEnds
 pub mod Nearer

@@ -1,9 +1,8 @@
 -- A replay, line by line: the list of steps goes on, the hands come behind the lines, and all actors rest between them.
-use Rattle.std.proofs.Common.{◌≡◌, ◌≢◌, ◌⊎◌, inl, inr, ◌<◌, ◌≤◌, ◌+◌, ℕ, suc, List, [], ◌∷◌, ◌++◌, length, length-append, take, get_or, refl, sym, ap, subst, ◌∙◌, append_assoc, arith}
-use Rattle.std.proofs.Math.ListN.{length-map}
+use Rattle.std.proofs.Common.{◌≡◌, ◌≢◌, ◌⊎◌, inl, inr, ◌<◌, ◌≤◌, ◌+◌, ℕ, suc, List, [], ◌∷◌, ◌++◌, length, length-append, take, get_or, refl, sym, ap}
+use Rattle.std.proofs.Common.{subst, ◌∙◌, append_assoc, arith}
 use Rattle.std.proofs.lemmas.List.{append-nil, get_or-set_other, take_all}
-use Rattle.std.proofs.lemmas.Option.{slice_get_within}
-use Rattle.std.specs.Prelude.{All, IfOk, Some, Result, Ok, Err, slice_get}
+use Rattle.std.specs.Prelude.{All, IfOk, Some, Result, Ok, Err}
 use Rattle.core_views.specs.declared.answer.Answer.{Answer}
 use Rattle.core_views.specs.declared.answer.AnsweredLine.{AnsweredLine}
 use Rattle.core_views.specs.declared.event.Event.{Event}
@@ -32,22 +31,19 @@ use Rattle.mmu_core.specs.alone.OthersRest.{HoldsNothing}
 use Rattle.mmu_core.specs.machine.Steps.{nobody}
 use Rattle.mmu_core.specs.machine.Turns.{IsAnswered, IsSameHand}
 use Rattle.mmu_core.specs.machine.Worlds.{IsStart, history}
-use Rattle.mmu_laws.proofs.alone.AloneRuns.{begins_alone}
 use Rattle.mmu_core.proofs.machine.Columns.{same_or}
 use Rattle.mmu_core.proofs.machine.Extend.{legal-append, run-append}
 use Rattle.mmu_core.proofs.machine.LineRuns.{history_append}
 use Rattle.mmu_core.proofs.start.Starts.{hand_is, start_good}
 use Rattle.mmu_core.proofs.machine.Worlds.{good_run}
 use Rattle.step_seats.specs.Machines.{Machine, seat_in, world_in}
-use Rattle.step_seats.specs.Moves.{core_of, handful_in}
-use Rattle.step_seats.proofs.Worlds.{core_at}
 use Rattle.step_seats.specs.LineTurns.{answer_given}
 use Rattle.weave_engine.specs.Given.{given_in}
 use Rattle.weave_engine.specs.Replays.{EachRunsAlone, RanOn, RunsAlone, RunsLines}
 use Rattle.weave_engine.specs.Turning.{EndsWithAnswer}
 use Rattle.weave_engine.specs.Turns.{RanAlone}
 use Rattle.weave_engine.proofs.Stopping.{answer_behind}
-use Rattle.weave_engine.proofs.FileOrder.{maker_is, maker_there, next_is, one_more_line, other_line, other_place, own_line}
+use Rattle.weave_engine.proofs.FileOrder.{maker_is, maker_there, one_more_line, other_line, other_place, own_line}
 
 -- No line of this hand is under way, and it has answered its actor's lines among the first of all.
 pub record IsBehind (z : Sizes) (lines : List Line) (done actor : ℕ) (h : Held) : Type 0 where
@@ -64,15 +60,22 @@ AreBehind z lines done w = (actor : ℕ) → actor < actors_of z → IsBehind z 
 each_more : (z : Sizes) (start : World Held) (done : List Line) (ss : List (Step Kind)) (line : Line) (answer : Answer) (own : List (Step Kind))
     → EachRunsAlone z start done ss → RunsAlone z (index_of z line.actor) line answer own (run mmu start ss)
     → EachRunsAlone z start (done ++ line ∷ []) (ss ++ own)
-each_more z start [] ss line answer own none ran =
-    (own, [], answer, ap (λ (l : List (Step Kind)). l ++ own) none ∙ sym (append-nil own), subst (λ (l : List (Step Kind)). RunsAlone z (index_of z line.actor) line answer own (run mmu start l)) none ran, refl)
+each_more z start [] ss line answer own none ran = (
+  own,
+  [],
+  answer,
+  ap (λ (l : List (Step Kind)). l ++ own) none ∙ sym (append-nil own),
+  subst (λ (l : List (Step Kind)). RunsAlone z (index_of z line.actor) line answer own (run mmu start l)) none ran,
+  refl,
+)
 each_more z start (first ∷ done) ss line answer own (front, rest, given, are, one, each) ran = (
   front,
   rest ++ own,
   given,
   ap (λ (l : List (Step Kind)). l ++ own) are ∙ append_assoc front rest own,
   one,
-  each_more z (run mmu start front) done rest line answer own each (subst (λ (w : World Held). RunsAlone z (index_of z line.actor) line answer own w) (ap (run mmu start) are ∙ run-append mmu start front rest) ran),
+  each_more z (run mmu start front) done rest line answer own each
+      (subst (λ (w : World Held). RunsAlone z (index_of z line.actor) line answer own w) (ap (run mmu start) are ∙ run-append mmu start front rest) ran),
 )
 
 runs_more : (z : Sizes) (start w t : World Held) (done more : List Line) (line : Line) (answer : Answer) → more ≡ done ++ line ∷ []
@@ -81,9 +84,11 @@ runs_more z start w t done more line answer are r ran = record {
   steps = r.steps ++ ran.steps;
   legal = legal-append mmu start r.steps ran.steps r.legal (subst (λ x. Legal mmu x ran.steps) (sym r.ends) ran.alone.runs.legal);
   ends = run-append mmu start r.steps ran.steps ∙ ap (λ x. run mmu x ran.steps) r.ends ∙ ran.ends;
-  each = subst (λ ls. EachRunsAlone z start ls (r.steps ++ ran.steps)) (sym are) (each_more z start done r.steps line answer ran.steps r.each (subst (λ (x : World Held). RunsAlone z (index_of z line.actor) line answer ran.steps x) (sym r.ends) ran.alone));
+  each = subst (λ ls. EachRunsAlone z start ls (r.steps ++ ran.steps)) (sym are) (each_more z start done r.steps line answer ran.steps r.each
+      (subst (λ (x : World Held). RunsAlone z (index_of z line.actor) line answer ran.steps x) (sym r.ends) ran.alone));
   alone = subst (λ ls. StandsAlone (history start (r.steps ++ ran.steps)) ls) (sym are)
-      (subst (λ es. StandsAlone es (done ++ line ∷ [])) (sym (history_append start r.steps ran.steps ∙ ap (λ x. history start r.steps ++ history x ran.steps) r.ends))
+      (subst (λ es. StandsAlone es (done ++ line ∷ []))
+      (sym (history_append start r.steps ran.steps ∙ ap (λ x. history start r.steps ++ history x ran.steps) r.ends))
       (stands_append done (line ∷ []) (history start r.steps) (history w ran.steps) r.alone ran.alone.runs.alone));
   few =
       let f : Line → ℕ = λ l. most_steps z l.command in
@@ -96,12 +101,14 @@ runs_more z start w t done more line answer are r ran = record {
 }
 
 -- What it tells is printed behind what was printed before.
-prints_more : (z : Sizes) (start w t : World Held) (done : List Line) (line : Line) (answer : Answer) (r : RunsLines z start done w) (ran : RanOn z line answer (index_of z line.actor) w t)
-    → text (history start (r.steps ++ ran.steps)) ≡ text (history start r.steps) ++ line_text line.number line.actor answer
+prints_more : (z : Sizes) (start w t : World Held) (done : List Line) (line : Line) (answer : Answer) (r : RunsLines z start done w) (ran : RanOn z line answer
+    (index_of z line.actor) w t) → text (history start (r.steps ++ ran.steps)) ≡ text (history start r.steps) ++ line_text line.number line.actor answer
 prints_more z start w t done line answer r ran =
-    let own : text (history w ran.steps) ≡ line_text line.number line.actor answer = ap lines_text ran.alone.runs.answers ∙ append-nil (line_text line.number line.actor answer) in
+    let own : text (history w ran.steps) ≡ line_text line.number line.actor answer =
+    ap lines_text ran.alone.runs.answers ∙ append-nil (line_text line.number line.actor answer) in
     ap text (history_append start r.steps ran.steps) ∙ text_append (history start r.steps) (history (run mmu start r.steps) ran.steps)
-    ∙ ap (λ (es : List Event). text (history start r.steps) ++ text es) (ap (λ x. history x ran.steps) r.ends) ∙ ap (λ (t : List ℕ). text (history start r.steps) ++ t) own
+    ∙ ap (λ (es : List Event). text (history start r.steps) ++ text es) (ap (λ x. history x ran.steps) r.ends)
+    ∙ ap (λ (t : List ℕ). text (history start r.steps) ++ t) own
 
 -- Nothing has run at the start.
 runs_none : (z : Sizes) (start : World Held) → RunsLines z start [] start
@@ -138,7 +145,9 @@ hands_more z lines i w t answer lt may ran behind b below = by (same_or b a)
       between = ran.answered.between;
       whose = ran.same.actor ∙ B.whose;
       lines_are = ran.same.lines ∙ B.lines_are;
-      answered = ap (λ (xs : List AnsweredLine). length xs) ran.answered.answers ∙ (length-append (hand_in mmu w a).answers _ ∙ (ap (λ n. n + 1) B.answered ∙ sym (ap (λ (xs : List Line). length xs) (own_line (actor_at z a) lines i no_line lt (maker_is z line.actor line.command may)) ∙ length-append (lines_of (actor_at z a) (take i lines)) (line ∷ []))));
+      answered = ap (λ (xs : List AnsweredLine). length xs) ran.answered.answers
+          ∙ (length-append (hand_in mmu w a).answers _ ∙ (ap (λ n. n + 1) B.answered ∙ sym (ap (λ (xs : List Line). length xs) (own_line (actor_at z a) lines i
+          no_line lt (maker_is z line.actor line.command may)) ∙ length-append (lines_of (actor_at z a) (take i lines)) (line ∷ []))));
     })
       where
         B : IsBehind z lines i a (hand_in mmu w a)
@@ -158,58 +167,6 @@ hands_more z lines i w t answer lt may ran behind b below = by (same_or b a)
     by : (b ≡ a) ⊎ (b ≢ a) → IsBehind z lines (i + 1) b (hand_in mmu t b)
     by (inl e) = own e
     by (inr ne) = other ne
-
--- The next line's hand: it is the machine's, nothing is under way in it, and the line is its next one.
-pub record IsReady (z : Sizes) (line : Line) (w : World Held) : Type 0 where
-  pub there : index_of z line.actor < actors_of z
-  pub idle : (hand_in mmu w (index_of z line.actor)).state.place ≡ Between
-  pub next : slice_get (hand_in mmu w (index_of z line.actor)).lines (length (hand_in mmu w (index_of z line.actor)).answers) ≡ Some line
-  pub own : line.actor ≡ (hand_in mmu w (index_of z line.actor)).state.actor
-
-pub is_ready : (z : Sizes) (lines : List Line) (i : ℕ) (w : World Held) → i < length lines
-    → IsCommandFor z (get_or lines i no_line).actor (get_or lines i no_line).command → AreBehind z lines i w → IsReady z (get_or lines i no_line) w
-is_ready z lines i w lt may behind =
-    let line : Line = get_or lines i no_line in
-    let there = maker_there z line.actor line.command may in
-    let is = maker_is z line.actor line.command may in
-    let B = behind (index_of z line.actor) there in
-    record {
-      there = there;
-      idle = B.between;
-      next = subst (λ xs. slice_get xs (length (hand_in mmu w (index_of z line.actor)).answers) ≡ Some line) (sym B.lines_are)
-          (subst (λ n. slice_get (lines_of (actor_at z (index_of z line.actor)) lines) n ≡ Some line) (sym B.answered) (next_is (actor_at z (index_of z line.actor)) lines i no_line lt is));
-      own = sym is ∙ sym B.whose;
-    }
-
--- the same of the machine's own lists; and the line is alone in it
-pub record IsReadyOn (m : Machine) (line : Line) : Type 0 where
-  pub there : index_of m.sizes line.actor < length m.hands
-  pub idle : (handful_in m.hands (index_of m.sizes line.actor)).core.state.place ≡ Between
-  pub next : slice_get (handful_in m.hands (index_of m.sizes line.actor)).core.lines (length (handful_in m.hands (index_of m.sizes line.actor)).core.answers) ≡ Some line
-  pub own : line.actor ≡ (handful_in m.hands (index_of m.sizes line.actor)).core.state.actor
-  pub alone : LineAlone m.sizes (world_in m) (index_of m.sizes line.actor)
-
-pub hands_at_start : (z : Sizes) (lines : List Line) (m : Machine) → IsStart z lines (world_in m) → length m.hands ≡ actors_of z
-hands_at_start z lines m start = sym (length-map m.hands core_of) ∙ (start_good z lines (world_in m) start).hands
-
-pub ready_on : (z : Sizes) (lines : List Line) (i : ℕ) (m : Machine) → m.sizes ≡ z → length m.hands ≡ actors_of z → i < length lines
-    → IsCommandFor z (get_or lines i no_line).actor (get_or lines i no_line).command → AreBehind z lines i (world_in m) → IsSound z (world_in m)
-    → AllRest (world_in m) → IsReadyOn m (get_or lines i no_line)
-ready_on z lines i m same count lt may behind sound rest =
-    let line : Line = get_or lines i no_line in
-    let R = is_ready z lines i (world_in m) lt may behind in
-    let place : index_of z line.actor ≡ index_of m.sizes line.actor = ap (λ (y : Sizes). index_of y line.actor) (sym same) in
-    let core : hand_in mmu (world_in m) (index_of z line.actor) ≡ (handful_in m.hands (index_of m.sizes line.actor)).core =
-    sym (core_at m.words m.hands (index_of z line.actor)) ∙ ap (λ (n : ℕ). (handful_in m.hands n).core) place in
-    record {
-      there = subst (λ n. n < length m.hands) place (subst (λ n. index_of z line.actor < n) (sym count) R.there);
-      idle = subst (λ (h : Held). h.state.place ≡ Between) core R.idle;
-      next = subst (λ (h : Held). slice_get h.lines (length h.answers) ≡ Some line) core R.next;
-      own = subst (λ (h : Held). line.actor ≡ h.state.actor) core R.own;
-      alone =
-          subst (λ y. LineAlone y (world_in m) (index_of y line.actor)) (sym same) (begins_alone z (world_in m) (index_of z line.actor) sound (λ j there apart. rest j there) R.there
-          (slice_get_within (hand_in mmu (world_in m) (index_of z line.actor)).lines (length (hand_in mmu (world_in m) (index_of z line.actor)).answers) line R.next) R.idle).0;
-    }
 
 -- All actors rest at the start, and behind each line.
 pub rest_at_start : (z : Sizes) (lines : List Line) (w : World Held) → IsStart z lines w → AllRest w
@@ -236,13 +193,15 @@ sound_between z lines i start w printed is_start B = subst (IsSound z) B.ran.end
 pub between_more : (z : Sizes) (lines : List Line) (i : ℕ) (start w t : World Held) (printed : List ℕ) (answer : Answer) → i < length lines
     → IsCommandFor z (get_or lines i no_line).actor (get_or lines i no_line).command
     → RanOn z (get_or lines i no_line) answer (index_of z (get_or lines i no_line).actor) w t → IsBetween z lines i start w printed
-    → (more : IsBetween z lines (i + 1) start t (printed ++ line_text (get_or lines i no_line).number (get_or lines i no_line).actor answer)) × EndsWithAnswer start more.ran.steps
+    → (more : IsBetween z lines (i + 1) start t (printed ++ line_text (get_or lines i no_line).number (get_or lines i no_line).actor answer))
+    × EndsWithAnswer start more.ran.steps
 unfolding runs_more
 between_more z lines i start w t printed answer lt may ran B =
     let line : Line = get_or lines i no_line in (
       record {
         ran = runs_more z start w t (take i lines) (take (i + 1) lines) line answer (one_more_line lines i no_line lt) B.ran ran;
-        prints = ap (λ (x : List ℕ). x ++ line_text line.number line.actor answer) B.prints ∙ sym (prints_more z start w t (take i lines) line answer B.ran ran);
+        prints =
+            ap (λ (x : List ℕ). x ++ line_text line.number line.actor answer) B.prints ∙ sym (prints_more z start w t (take i lines) line answer B.ran ran);
         behind = hands_more z lines i w t answer lt may ran B.behind;
         rest = subst (λ (x : World Held). AllRest x) ran.ends ran.alone.rest;
       },

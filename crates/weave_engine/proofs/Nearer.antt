@@ -31,7 +31,9 @@ goes_nearer actor w t bytes reached M =
     let s = M.step in
     let h : Held = hand_in mmu w s.actor in
     let v : ℕ = answered mmu w s.kind in
-    let one = either_false (line_waits (place_at h.state.place h) (line_of h).command h v) (begins_anew (place_at h.state.place h) || is_ended (outcome_of h v)) M.stops_ in
+    let one =
+    either_false (line_waits (place_at h.state.place h) (line_of h).command h v)
+    (begins_anew (place_at h.state.place h) || is_ended (outcome_of h v)) M.stops_ in
     let two = either_false (begins_anew (place_at h.state.place h)) (is_ended (outcome_of h v)) one.1 in
     let going = not_ended (outcome_of h v) two.1 in
     let left : has_line h ≡ true = subst (λ (a : ℕ). has_line (hand_in mmu w a) ≡ true) (sym M.turn.own) M.turn.left in

@@ -52,29 +52,36 @@ use Rattle.weave_engine.proofs.LinesRun.{between_at_start, ran_first}
 use Rattle.weave_engine.proofs.Writes.{WroteMost, ends_most, none_put, so_far_most}
 
 -- Lines that run alone, behind steps from a trace's start, aren't starved where the pool has as many pages as the trace needs.
-module _ (trace : Trace) (start : World Held) (is_start : IsStart (sizes_of trace.header) trace.lines start) (enough : need trace.header trace.lines ≤ trace.header.pool) where
+module _ (trace : Trace) (start : World Held) (is_start : IsStart (sizes_of trace.header) trace.lines start)
+    (enough : need trace.header trace.lines ≤ trace.header.pool) where
   abbrev z : Sizes
   z = sizes_of trace.header
 
-  not_starved : (ss own : List (Step Kind)) (line : Line) (answer : Answer) → Legal mmu start ss → RunsAlone z (index_of z line.actor) line answer own (run mmu start ss) → answer ≢ Starved
+  not_starved : (ss own : List (Step Kind)) (line : Line) (answer : Answer) → Legal mmu start ss
+      → RunsAlone z (index_of z line.actor) line answer own (run mmu start ss) → answer ≢ Starved
   not_starved ss own line answer legal ran starved =
       let both : run mmu start (ss ++ own) ≡ run mmu (run mmu start ss) own = run-append mmu start ss own in
       let all : Legal mmu start (ss ++ own) = legal-append mmu start ss own legal ran.runs.legal in
       let sound = good_run z start (ss ++ own) (start_good z trace.lines start is_start) all in
       let F : HasFreePage trace.header.pool (word_in z (run mmu start (ss ++ own)) area.PoolMap) =
       enough_pages trace.header trace.lines start (ss ++ own) is_start all enough
-      (λ i lt. subst (λ (w : World Held). (hand_in mmu w i).topics.owned ≡ None) (sym both) (ran.rest i (subst (λ (w : World Held). i < length w.hands) both (subst (λ n. i < n) (sym sound.hands) lt))).rests.owns_none) in
-      none_free trace.header.pool (word_in z (run mmu (run mmu start ss) own) area.PoolMap) (ran.no_page_free starved) (subst (λ (w : World Held). HasFreePage trace.header.pool (word_in z w area.PoolMap)) both F)
+      (λ i lt. subst (λ (w : World Held). (hand_in mmu w i).topics.owned ≡ None) (sym both)
+      (ran.rest i (subst (λ (w : World Held). i < length w.hands) both (subst (λ n. i < n) (sym sound.hands) lt))).rests.owns_none) in
+      none_free trace.header.pool (word_in z (run mmu (run mmu start ss) own) area.PoolMap) (ran.no_page_free starved)
+      (subst (λ (w : World Held). HasFreePage trace.header.pool (word_in z w area.PoolMap)) both F)
 
-  each_fed : (done : List (Step Kind)) (lines : List Line) (ss : List (Step Kind)) → Legal mmu start done → EachRunsAlone z (run mmu start done) lines ss → NoneStarved (history (run mmu start done) ss)
+  each_fed : (done : List (Step Kind)) (lines : List Line) (ss : List (Step Kind)) → Legal mmu start done
+      → EachRunsAlone z (run mmu start done) lines ss → NoneStarved (history (run mmu start done) ss)
   each_fed done [] ss legal none = subst (λ (l : List (Step Kind)). NoneStarved (history (run mmu start done) l)) (sym none) tt
   each_fed done (line ∷ lines) ss legal (own, rest, answer, are, ran, each) =
       let w : World Held = run mmu start done in
       let both : run mmu start (done ++ own) ≡ run mmu w own = run-append mmu start done own in
       let later : NoneStarved (history (run mmu w own) rest) =
       subst (λ (x : World Held). NoneStarved (history x rest)) both
-      (each_fed (done ++ own) lines rest (legal-append mmu start done own legal ran.runs.legal) (subst (λ (x : World Held). EachRunsAlone z x lines rest) (sym both) each)) in
-      subst (λ (es : List Event). NoneStarved es) (sym (ap (history w) are ∙ history_append w own rest)) (fed_append (history w own) (history (run mmu w own) rest) (ran.none_starved (not_starved done own line answer legal ran)) later)
+      (each_fed (done ++ own) lines rest (legal-append mmu start done own legal ran.runs.legal)
+      (subst (λ (x : World Held). EachRunsAlone z x lines rest) (sym both) each)) in
+      subst (λ (es : List Event). NoneStarved es) (sym (ap (history w) are ∙ history_append w own rest))
+      (fed_append (history w own) (history (run mmu w own) rest) (ran.none_starved (not_starved done own line answer legal ran)) later)
 
 -- Lines that ran alone from a trace's start are a replay of them.
 pub replays : (trace : Trace) (lines : List Line) (start end_ : World Held) (printed : List ℕ) → IsStart (sizes_of trace.header) trace.lines start
@@ -94,7 +101,8 @@ replays trace lines start end_ printed is_start may_have r prints =
       flat = λ enough. as_flat lawful (each_fed trace start is_start enough [] lines r.steps tt r.each);
     }
   where
-    as_flat : IsLawful (sizes_of trace.header) first_flat (history start r.steps) → NoneStarved (history start r.steps) → RunsAsFlat (sizes_of trace.header) lines printed (history start r.steps)
+    as_flat : IsLawful (sizes_of trace.header) first_flat (history start r.steps) → NoneStarved (history start r.steps)
+        → RunsAsFlat (sizes_of trace.header) lines printed (history start r.steps)
     as_flat lawful fed =
         let G = goes_as_flat (sizes_of trace.header) lines (history start r.steps) first_flat (λ i. refl) lawful r.alone
         (trace_falls (sizes_of trace.header) lines (history start r.steps) may_have lawful r.alone fed) in
@@ -121,7 +129,8 @@ writes_none trace before good =
     )
 
 -- It stopped behind some of the lines.
-stopped_replay : (trace : Trace) (count : ℕ) (start end_ : World Held) (stop : Stop) → IsStart (sizes_of trace.header) trace.lines start → (r : RunsLines (sizes_of trace.header) start (take count trace.lines) end_) → MayStop stop start r.steps
+stopped_replay : (trace : Trace) (count : ℕ) (start end_ : World Held) (stop : Stop) → IsStart (sizes_of trace.header) trace.lines start
+    → (r : RunsLines (sizes_of trace.header) start (take count trace.lines) end_) → MayStop stop start r.steps
     → ReplaysUntil stop trace end_ (text (history start r.steps))
 unfolding replays
 stopped_replay trace count start end_ stop is_start r may = inl (
@@ -132,8 +141,10 @@ stopped_replay trace count start end_ stop is_start r may = inl (
 )
 
 -- The writing stopped at a line.
-pub writes_first : (trace : Trace) (z : Sizes) (lines : List Line) (count : ℕ) (start end_ : World Held) (before after : Option (List ℕ)) (waited waits : List ℕ) (stop : Stop) → z ≡ sizes_of trace.header → lines ≡ trace.lines → waited ≡ []
-    → IsStart (sizes_of trace.header) trace.lines start → RunsAndPuts z start lines count end_ before after waited waits (Err stop) → WritesLines trace end_ before after (Err stop)
+pub writes_first : (trace : Trace) (z : Sizes) (lines : List Line) (count : ℕ) (start end_ : World Held) (before after : Option (List ℕ))
+    (waited waits : List ℕ) (stop : Stop) → z ≡ sizes_of trace.header → lines ≡ trace.lines → waited ≡ []
+    → IsStart (sizes_of trace.header) trace.lines start → RunsAndPuts z start lines count end_ before after waited waits (Err stop)
+    → WritesLines trace end_ before after (Err stop)
 writes_first trace z lines count start end_ before after waited waits stop sizes are none is_start puts =
     let of_trace : RunsAndPuts (sizes_of trace.header) start trace.lines count end_ before after [] waits (Err stop) =
     subst (λ (w : List ℕ). RunsAndPuts (sizes_of trace.header) start trace.lines count end_ before after w waits (Err stop)) none
@@ -145,8 +156,10 @@ writes_first trace z lines count start end_ before after waited waits stop sizes
     first (ran, few, r, may, prefix) = (text (history start r.steps), stopped_replay trace ran start end_ stop is_start r may, prefix)
 
 -- All lines ran, and what waits is written, or a prefix of it.
-pub writes_all : (trace : Trace) (z : Sizes) (lines : List Line) (count : ℕ) (start end_ : World Held) (before here after : Option (List ℕ)) (waited waits piece : List ℕ) (r : Result (Unit {0}) Stop) → z ≡ sizes_of trace.header → lines ≡ trace.lines → count ≡ length lines → waited ≡ []
-    → IsStart (sizes_of trace.header) trace.lines start → RunsAndPuts z start lines count end_ before here waited waits (Ok tt) → piece ≡ waits → Wrote here after r piece → (bytes : List ℕ) × Replays trace trace.lines bytes end_ × WroteMost before after r bytes
+pub writes_all : (trace : Trace) (z : Sizes) (lines : List Line) (count : ℕ) (start end_ : World Held) (before here after : Option (List ℕ))
+    (waited waits piece : List ℕ) (r : Result (Unit {0}) Stop) → z ≡ sizes_of trace.header → lines ≡ trace.lines → count ≡ length lines → waited ≡ []
+    → IsStart (sizes_of trace.header) trace.lines start → RunsAndPuts z start lines count end_ before here waited waits (Ok tt) → piece ≡ waits
+    → Wrote here after r piece → (bytes : List ℕ) × Replays trace trace.lines bytes end_ × WroteMost before after r bytes
 writes_all trace z lines count start end_ before here after waited waits piece r sizes are whole none is_start puts same wrote =
     let of_trace : RunsAndPuts (sizes_of trace.header) start trace.lines count end_ before here [] waits (Ok tt) =
     subst (λ (w : List ℕ). RunsAndPuts (sizes_of trace.header) start trace.lines count end_ before here w waits (Ok tt)) none

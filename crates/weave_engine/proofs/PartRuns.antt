@@ -1,5 +1,6 @@
 -- A line that runs alone, as far as it has come.
-use Rattle.std.proofs.Common.{◌≡◌, ◌≢◌, ◌≤◌, ◌<◌, ◌+◌, ℕ, List, [], ◌∷◌, ◌++◌, All, Option, Some, None, IfSome, length, slice_get, refl, sym, ap, ◌∙◌, subst, append_assoc, arith, length-append}
+use Rattle.std.proofs.Common.{◌≡◌, ◌≢◌, ◌≤◌, ◌<◌, ◌+◌, ℕ, List, [], ◌∷◌, ◌++◌, All, Option, Some, None, IfSome, length, slice_get, refl, sym, ap, ◌∙◌}
+use Rattle.std.proofs.Common.{subst, append_assoc, arith, length-append}
 use Rattle.std.specs.Prelude.{false}
 use Rattle.std.proofs.lemmas.List.{append-nil}
 use Rattle.std.proofs.lemmas.List.Elements.{All-append, All-cons, All-nil}
@@ -119,7 +120,8 @@ pub adds_on : (told mid tells : Option (List (Step Kind))) (actor : ℕ) (steps 
     → IfSome told (λ ss. tells ≡ Some (ss ++ (steps ++ step_by actor k ∷ [])))
 adds_on None mid tells actor steps k part adds = tt
 adds_on (Some ss) mid tells actor steps k part adds =
-    subst (λ (m : Option (List (Step Kind))). Adds m actor k tells) part adds ∙ ap (λ (xs : List (Step Kind)). Some xs) (append_assoc ss steps (step_by actor k ∷ []))
+    subst (λ (m : Option (List (Step Kind))). Adds m actor k tells) part adds
+    ∙ ap (λ (xs : List (Step Kind)). Some xs) (append_assoc ss steps (step_by actor k ∷ []))
 
 -- the line under way
 under_line : (p : Place) (h : Held) → IsUnderWay p → line_at p h ≡ h.state.line
@@ -181,7 +183,8 @@ module _ (turn : Turn Answer) (line : Line) (start from to : Seat) (left : lengt
 
   hand_is : hand_in mmu behind actor ≡ b
   hand_is =
-      own_hand here step moved.0.there ∙ (ap (λ (h : Held). next h S.kind (answered mmu here S.kind)) part.has ∙ (ap (λ (n : ℕ). next a S.kind n) moved.1 ∙ sym S.hand))
+      own_hand here step moved.0.there
+      ∙ (ap (λ (h : Held). next h S.kind (answered mmu here S.kind)) part.has ∙ (ap (λ (n : ℕ). next a S.kind n) moved.1 ∙ sym S.hand))
 
   own_on : All (λ s. s.actor ≡ actor) steps
   own_on = All-append (λ s. s.actor ≡ actor) part.steps (step ∷ []) part.own (All-cons (λ s. s.actor ≡ actor) step [] refl (All-nil (λ s. s.actor ≡ actor)))
@@ -189,15 +192,18 @@ module _ (turn : Turn Answer) (line : Line) (start from to : Seat) (left : lengt
   history_is : history part.before steps ≡ history part.before part.steps ++ events_of a S.found
   history_is =
       history_one_more part.before part.steps step
-      ∙ ap (λ (es : List Event). history part.before part.steps ++ es) (ap (λ (h : Held). events_of h (answered mmu here S.kind)) part.has ∙ ap (λ (n : ℕ). events_of a n) moved.1)
+      ∙ ap (λ (es : List Event). history part.before part.steps ++ es)
+      (ap (λ (h : Held). events_of h (answered mmu here S.kind)) part.has ∙ ap (λ (n : ℕ). events_of a n) moved.1)
 
   tells_line : events.Tells o line (history part.before steps)
   tells_line =
-      subst (λ (es : List Event). events.Tells o line es) (sym history_is) (step_tells a line S.found (history part.before part.steps) (has_line_is a left) part.line_is (part.same.actor ∙ sym mine) part.so_far)
+      subst (λ (es : List Event). events.Tells o line es) (sym history_is)
+      (step_tells a line S.found (history part.before part.steps) (has_line_is a left) part.line_is (part.same.actor ∙ sym mine) part.so_far)
 
   fed_on : o ≢ Ends Starved → NoneStarved (history part.before steps)
   fed_on other =
-      subst (λ (es : List Event). NoneStarved es) (sym history_is) (fed_append (history part.before part.steps) (events_of a S.found) part.fed (step_fed a S.found (has_line_is a left) other))
+      subst (λ (es : List Event). NoneStarved es) (sym history_is)
+      (fed_append (history part.before part.steps) (events_of a S.found) part.fed (step_fed a S.found (has_line_is a left) other))
 
   nearer_on : EachStepsAlone z part.before steps
   nearer_on = one_nearer z part.before part.steps step part.nearer (steps_alone z here step part.alone moved.0)
@@ -208,7 +214,8 @@ module _ (turn : Turn Answer) (line : Line) (start from to : Seat) (left : lengt
   scans : o ≡ Ends Starved → EndsWithScan z actor (words_of_bits z.pool) part.before steps
   scans is =
       starved_lines_scan z part.before part.steps step part.sound legal_on part.idle
-      (subst (λ n. outcome_of (hand_in mmu here actor) n ≡ Ends Starved) (sym moved.1) (subst (λ (h : Held). outcome_of h S.found ≡ Ends Starved) (sym part.has) is))
+      (subst (λ n. outcome_of (hand_in mmu here actor) n ≡ Ends Starved) (sym moved.1)
+      (subst (λ (h : Held). outcome_of h S.found ≡ Ends Starved) (sym part.has) is))
 
   -- A turn that says More leaves the line under way, alone and nearer to its end.
   pub goes_by : (q : Place) → o ≡ Goes q → GoesOn (line_of a) a b → IsSameHand a b → PartRun line actor start to × (hand_left b < hand_left a)

@@ -48,7 +48,8 @@ place_within count first far within lt = by (nat_lt (first + far) count) refl
     by true e = grind (arith, nat_tests)
     by false e = grind (arith, nat_tests)
 
-next_place : (count first passed index next : ℕ) → first ≤ count → passed + 1 < count → index ≡ place_behind count first passed → IsNextPlace count index next → next ≡ place_behind count first (passed + 1)
+next_place : (count first passed index next : ℕ) → first ≤ count → passed + 1 < count → index ≡ place_behind count first passed
+    → IsNextPlace count index next → next ≡ place_behind count first (passed + 1)
 next_place count first passed index next within lt at step = by (nat_lt (first + passed) count) refl step
   where
     by : (b : Bool) → nat_lt (first + passed) count ≡ b → IsNextPlace count index next → next ≡ place_behind count first (passed + 1)
@@ -87,14 +88,17 @@ none_made z w = record {
   count = refl;
 }
 
-module _ (z : Sizes) (index passed made next : ℕ) (w t u : World Held) (before here after : Option (List ℕ)) (waited waits more : List ℕ) (F : SoFar (InRounds z index passed made) w t before here waited waits) (some : passed < actors_of z) where
+module _ (z : Sizes) (index passed made next : ℕ) (w t u : World Held) (before here after : Option (List ℕ)) (waited waits more : List ℕ)
+    (F : SoFar (InRounds z index passed made) w t before here waited waits) (some : passed < actors_of z) where
   pub index_within : index < actors_of z
   index_within = subst (λ (n : ℕ). n < actors_of z) (sym (F.holds.at some)) (place_within (actors_of z) F.holds.first passed F.holds.first_within some)
 
   -- One actor more has no line left.
-  pub passes : IsNextPlace (actors_of z) index next → HasNoLineLeft index t → u ≡ t → Buffers here after waits more (Ok tt) [] → SoFar (InRounds z next (passed + 1) made) w u before after waited more
+  pub passes : IsNextPlace (actors_of z) index next → HasNoLineLeft index t → u ≡ t → Buffers here after waits more (Ok tt) []
+      → SoFar (InRounds z next (passed + 1) made) w u before after waited more
   passes step none same put =
-      let G : SoFar (InRounds z index passed made) w u before after waited more = nothing_more (InRounds z index passed made) w t u before here after waited waits more F same put in
+      let G : SoFar (InRounds z index passed made) w u before after waited more =
+      nothing_more (InRounds z index passed made) w t u before here after waited waits more F same put in
       record {
         steps = G.steps;
         bytes = G.bytes;
@@ -110,7 +114,8 @@ module _ (z : Sizes) (index passed made next : ℕ) (w t u : World Held) (before
         put = G.put;
       }
     where
-      none_there : (G : SoFar (InRounds z index passed made) w u before after waited more) (i : ℕ) → i < passed + 1 → HasNoLineLeft (place_behind (actors_of z) G.holds.first i) (run mmu w G.steps)
+      none_there : (G : SoFar (InRounds z index passed made) w u before after waited more) (i : ℕ) → i < passed + 1
+          → HasNoLineLeft (place_behind (actors_of z) G.holds.first i) (run mmu w G.steps)
       none_there G i lt = by (nat_lt i passed) refl
         where
           by : (b : Bool) → nat_lt i passed ≡ b → HasNoLineLeft (place_behind (actors_of z) G.holds.first i) (run mmu w G.steps)
@@ -118,7 +123,8 @@ module _ (z : Sizes) (index passed made next : ℕ) (w t u : World Held) (before
           by false e =
               let is : passed ≡ i = grind (arith, nat_tests) in
               subst (λ (n : ℕ). HasNoLineLeft (place_behind (actors_of z) G.holds.first n) (run mmu w G.steps)) is
-              (subst (λ (n : ℕ). HasNoLineLeft n (run mmu w G.steps)) (G.holds.at some) (subst (λ (x : World Held). HasNoLineLeft index x) (sym (G.comes.ends ∙ same)) none))
+              (subst (λ (n : ℕ). HasNoLineLeft n (run mmu w G.steps)) (G.holds.at some)
+              (subst (λ (x : World Held). HasNoLineLeft index x) (sym (G.comes.ends ∙ same)) none))
 
   -- its turn, in the round
   in_round : (stop : Bool) (bytes : List ℕ) (M : MakesTurn index t u stop bytes) → IsNextInRound z F.holds.first (run mmu w F.steps) M.step
@@ -133,24 +139,31 @@ module _ (z : Sizes) (index passed made next : ℕ) (w t u : World Held) (before
       }
 
   -- One turn more.
-  pub turns : IsNextPlace (actors_of z) index next → MadeTurn index t u here after waits more → SoFar (InRounds z next 0 (made + 1)) w u before after waited more
+  pub turns : IsNextPlace (actors_of z) index next → MadeTurn index t u here after waits more
+      → SoFar (InRounds z next 0 (made + 1)) w u before after waited more
   turns step M =
-      so_far_then (InRounds z index passed made) (InRounds z next 0 (made + 1)) w t u before here after waited waits more (M.makes.step ∷ []) M.bytes F M.makes.comes M.put
+      so_far_then (InRounds z index passed made) (InRounds z next 0 (made + 1)) w t u before here after waited waits more (M.makes.step ∷ []) M.bytes
+      F M.makes.comes M.put
       (record {
         first = suc M.makes.step.actor;
         rounds = rounds_more z 0 F.holds.first w F.steps M.makes.step F.holds.rounds (in_round M.stop M.bytes M.makes);
         first_within = let own = M.makes.turn.own in let lt = index_within in omega (arith, own, lt);
-        at = λ lt. subst (λ (a : ℕ). next ≡ place_behind (actors_of z) (suc a) 0) (sym M.makes.turn.own) (fresh_place (actors_of z) index next index_within step);
+        at =
+            λ lt. subst (λ (a : ℕ). next ≡ place_behind (actors_of z) (suc a) 0) (sym M.makes.turn.own)
+            (fresh_place (actors_of z) index next index_within step);
         none_left = λ i lt. absurd (omega (arith, lt));
         count = length-append F.steps (M.makes.step ∷ []) ∙ ap (λ (n : ℕ). n + 1) F.holds.count;
       })
 
-  pub rounds_stop : (limit : ℕ) (stop : Stop) → made < limit → PutsTurn index t u here after waits more (Err stop) → PutsRun (RunsAllRounds z limit) (RunsSomeRounds z limit) w u before after waited more (Err stop)
+  pub rounds_stop : (limit : ℕ) (stop : Stop) → made < limit → PutsTurn index t u here after waits more (Err stop)
+      → PutsRun (RunsAllRounds z limit) (RunsSomeRounds z limit) w u before after waited more (Err stop)
   rounds_stop limit stop lt (inl (full, same, prefix)) =
-      puts_stopped (InRounds z index passed made) (RunsAllRounds z limit) (RunsSomeRounds z limit) w t u before here after waited waits more stop F full same prefix
+      puts_stopped (InRounds z index passed made) (RunsAllRounds z limit) (RunsSomeRounds z limit) w t u before here after waited waits more stop F
+      full same prefix
       (record { next = F.holds.first; rounds = F.holds.rounds; few = let c = F.holds.count in omega (arith, c, lt) })
   rounds_stop limit stop lt (inr (bytes, M, answers, prefix)) =
-      puts_stopped_at (InRounds z index passed made) (RunsAllRounds z limit) (RunsSomeRounds z limit) w t u before here after waited waits more stop index bytes F M answers prefix
+      puts_stopped_at (InRounds z index passed made) (RunsAllRounds z limit) (RunsSomeRounds z limit) w t u before here after waited waits more stop
+      index bytes F M answers prefix
       (record {
         next = suc M.step.actor;
         rounds = rounds_more z 0 F.holds.first w F.steps M.step F.holds.rounds (in_round true bytes M);
@@ -158,7 +171,8 @@ module _ (z : Sizes) (index passed made next : ℕ) (w t u : World Held) (before
       })
 
 -- The rounds are over: all turns are made, or each actor was passed.
-pub rounds_over : (z : Sizes) (limit index passed made : ℕ) (w t : World Held) (before here : Option (List ℕ)) (waited waits : List ℕ) → SoFar (InRounds z index passed made) w t before here waited waits → made ≤ limit → (passed < actors_of z → made < limit → ⊥)
+pub rounds_over : (z : Sizes) (limit index passed made : ℕ) (w t : World Held) (before here : Option (List ℕ)) (waited waits : List ℕ)
+    → SoFar (InRounds z index passed made) w t before here waited waits → made ≤ limit → (passed < actors_of z → made < limit → ⊥)
     → PutsRun (RunsAllRounds z limit) (RunsSomeRounds z limit) w t before here waited waits (Ok tt)
 rounds_over z limit index passed made w t before here waited waits F few over =
     puts_all (InRounds z index passed made) (RunsAllRounds z limit) (RunsSomeRounds z limit) w t before here waited waits F
@@ -179,11 +193,13 @@ rounds_over z limit index passed made w t before here waited waits F few over =
             let before_ : i < H.first = grind (arith, nat_tests) in
             let within = H.first_within in
             let far : ℕ = i + actors_of z - H.first in
-            let is : place_behind (actors_of z) H.first far ≡ i = let r = place_round (actors_of z) H.first far (omega (arith, before_, within)) in omega (arith, r, before_, within) in
+            let is : place_behind (actors_of z) H.first far ≡ i =
+            let r = place_round (actors_of z) H.first far (omega (arith, before_, within)) in omega (arith, r, before_, within) in
             subst (λ (n : ℕ). HasNoLineLeft n (run mmu w F.steps)) is (H.none_left far (omega (arith, before_, within, all)))
         by false e =
             let behind : H.first ≤ i = grind (arith, nat_tests) in
-            let is : place_behind (actors_of z) H.first (i - H.first) ≡ i = let r = place_of (actors_of z) H.first (i - H.first) (omega (arith, behind, lt)) in omega (arith, r, behind) in
+            let is : place_behind (actors_of z) H.first (i - H.first) ≡ i =
+            let r = place_of (actors_of z) H.first (i - H.first) (omega (arith, behind, lt)) in omega (arith, r, behind) in
             subst (λ (n : ℕ). HasNoLineLeft n (run mmu w F.steps)) is (H.none_left (i - H.first) (omega (arith, behind, lt, all)))
 
     by : (m p : Bool) → nat_lt made limit ≡ m → nat_lt passed (actors_of z) ≡ p → (length F.steps ≡ limit) ⊎ AllAnswered z (run mmu w F.steps)

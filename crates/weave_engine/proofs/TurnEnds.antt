@@ -79,7 +79,9 @@ module _ (number : ℕ) (actor : Actor) where
       subst (λ (t : Turn Answer). TellsTurn number actor t true (Goes p)) (sym gives.1) (record { stops_ = refl; prints = refl })
 
   fault_ends : (e : FaultEnd) (turn : Turn Answer) (gfn word : ℕ) (op : Op) (h : Held) (v : ℕ)
-      → Gives turn (line_waits (place.Access (access.Fault (fault.End e))) (Access gfn word op) h v) (line_seen (place.Access (access.Fault (fault.End e))) (Access gfn word op) h v) (line_turn (place.Access (access.Fault (fault.End e))) (Access gfn word op) h v)
+      → Gives turn (line_waits (place.Access (access.Fault (fault.End e))) (Access gfn word op) h v)
+      (line_seen (place.Access (access.Fault (fault.End e))) (Access gfn word op) h v)
+      (line_turn (place.Access (access.Fault (fault.End e))) (Access gfn word op) h v)
       → TellsTurn number actor turn (false || (begins_anew (place.Access (access.Fault (fault.End e))) || is_ended (fault_over e))) (fault_over e)
   fault_ends end_of.Installed turn gfn word op h v gives = by_outcome turn _ (fault_over end_of.Installed) gives
   fault_ends end_of.Mmio turn gfn word op h v gives = by_outcome turn _ (fault_over end_of.Mmio) gives
@@ -89,7 +91,8 @@ module _ (number : ℕ) (actor : Actor) where
 
   abbrev Tells : Turn Answer → Place → Command → Held → ℕ → Type 0
   Tells turn p command h v =
-      Gives turn (line_waits p command h v) (line_seen p command h v) (line_turn p command h v) → TellsTurn number actor turn (line_waits p command h v || (begins_anew p || is_ended (outcome_at p command h v))) (outcome_at p command h v)
+      Gives turn (line_waits p command h v) (line_seen p command h v) (line_turn p command h v)
+      → TellsTurn number actor turn (line_waits p command h v || (begins_anew p || is_ended (outcome_at p command h v))) (outcome_at p command h v)
 
   fault_tells : (p : FaultPlace) (turn : Turn Answer) (gfn word : ℕ) (op : Op) (h : Held) (v : ℕ)
       → Tells turn (place.Access (access.Fault p)) (Access gfn word op) h v
@@ -138,7 +141,8 @@ pub record TurnIs (h : Held) (v : ℕ) (turn : Turn Answer) : Type 0 where
   pub prints : turn_text (line_of h).number h.state.actor turn ≡ text (events_of h v)
 
 pub turn_is : (h : Held) (v : ℕ) (turn : Turn Answer) → has_line h ≡ true → RestsAt (place_at h.state.place h) (line_of h).command h
-    → Gives turn (line_waits (place_at h.state.place h) (line_of h).command h v) (line_seen (place_at h.state.place h) (line_of h).command h v) (line_turn (place_at h.state.place h) (line_of h).command h v)
+    → Gives turn (line_waits (place_at h.state.place h) (line_of h).command h v) (line_seen (place_at h.state.place h) (line_of h).command h v)
+    (line_turn (place_at h.state.place h) (line_of h).command h v)
     → TurnIs h v turn
 turn_is h v turn left rests gives =
     let T = line_tells (line_of h).number h.state.actor (place_at h.state.place h) (line_of h).command turn h v rests gives in

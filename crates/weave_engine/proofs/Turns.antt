@@ -25,7 +25,6 @@ use Rattle.mmu_core.specs.machine.Enabled.{Enabled, mmu}
 use Rattle.mmu_core.specs.machine.Machine.{Step, World, answered, effect, hand_in}
 use Rattle.mmu_core.specs.invariant.Invariant.{UnderWay}
 use Rattle.mmu_core.specs.machine.Steps.{events_of, has_line, line_at, next, next_line, place_at}
-use Rattle.mmu_core.specs.alone.LineAlone.{line_waits}
 use Rattle.mmu_core.specs.machine.Turns.{IsAnswered, line_of, outcome_of, with_answer}
 use Rattle.mmu_core.specs.machine.Worlds.{Reachable}
 use Rattle.mmu_core.proofs.start.Starts.{reached_good}
@@ -67,7 +66,8 @@ none_open h is = at (has_line h) refl is
 -- The line that an actor has left is its own.
 owned_next : (h : Held) → length h.answers < length h.lines → All (λ line. line.actor ≡ h.state.actor) h.lines → (next_line h).actor ≡ h.state.actor
 owned_next h left own =
-    ap (λ (o : Option Line). (unwrap_or o no_line).actor) (slice_get-get_or h.lines (length h.answers) no_line left) ∙ All-get_or (λ line. line.actor ≡ h.state.actor) h.lines (length h.answers) no_line left own
+    ap (λ (o : Option Line). (unwrap_or o no_line).actor) (slice_get-get_or h.lines (length h.answers) no_line left)
+    ∙ All-get_or (λ line. line.actor ≡ h.state.actor) h.lines (length h.answers) no_line left own
 
 owned_at : (p : Place) (h : Held) → length h.answers < length h.lines → UnderWay p h → All (λ line. line.actor ≡ h.state.actor) h.lines
     → (line_at p h).actor ≡ h.state.actor
@@ -125,7 +125,8 @@ made_turn before after w line whose turn is hand open_ own made =
             legal = (moves.0, tt);
             ends = refl;
             prints =
-                ap (λ (n : ℕ). turn_text n whose turn) (ap (λ (l : Line). l.number) L.1) ∙ ap (λ (a : Actor). turn_text (line_of h).number a turn) own ∙ T.prints ∙ told
+                ap (λ (n : ℕ). turn_text n whose turn) (ap (λ (l : Line). l.number) L.1) ∙ ap (λ (a : Actor). turn_text (line_of h).number a turn) own
+                ∙ T.prints ∙ told
                 ∙ ap (λ (es : List Event). text es) (sym (append-nil (events_of (hand_in mmu w actor) (answered mmu w s.kind))));
           };
         };
@@ -149,7 +150,8 @@ pub answers_line : (number : ℕ) (whose : Actor) (turn : Turn Answer) (actor : 
     → (T : IsTurnOf number whose turn actor w t) → AnswersLine w T.makes.step
 answers_line number whose turn actor w t answer is T =
     let v : ℕ = answered mmu w T.makes.step.kind in
-    let ends : is_ended (outcome_of (hand_in mmu w actor) v) ≡ true = done_ends answer (hand_in mmu w actor) v (subst (λ (x : Turn Answer). AnswersBy x (hand_in mmu w actor) v) is T.answers) in
+    let ends : is_ended (outcome_of (hand_in mmu w actor) v) ≡ true =
+    done_ends answer (hand_in mmu w actor) v (subst (λ (x : Turn Answer). AnswersBy x (hand_in mmu w actor) v) is T.answers) in
     record {
       left = subst (λ (a : ℕ). has_line (hand_in mmu w a) ≡ true) (sym T.makes.turn.own) T.makes.turn.left;
       ends = subst (λ (a : ℕ). is_ended (outcome_of (hand_in mmu w a) v) ≡ true) (sym T.makes.turn.own) ends;

@@ -1,19 +1,14 @@
 -- What a weave writes, from what its phases put: the lines above `go`, the items, the rounds, and the line that is open.
-use Rattle.std.proofs.Common.{◌≡◌, ◌⊎◌, inl, inr, ◌<◌, ◌≤◌, ℕ, List, [], ◌∷◌, ◌++◌, Ok, Err, append_assoc, length, refl, sym, ap, subst, ◌∙◌, arith}
-use Rattle.std.proofs.Math.ListN.{length-map}
-use Rattle.std.proofs.lemmas.Bool.Decides.{nat_tests}
-use Rattle.std.proofs.lemmas.List.{append-nil, length-take}
+use Rattle.std.proofs.Common.{◌≡◌, ◌⊎◌, inl, inr, ◌<◌, ◌≤◌, ℕ, List, [], ◌++◌, Ok, Err, append_assoc, length, refl, sym, ap, subst, ◌∙◌, arith}
+use Rattle.std.proofs.lemmas.List.{append-nil}
 use Rattle.std.specs.Option.{option_map}
-use Rattle.std.specs.Prelude.{false, Some, None, map, take}
+use Rattle.std.specs.Prelude.{Some, None, map, take}
 use Rattle.std.specs.declared.option.Option.{Option}
 use Rattle.std.specs.List.Sorted.{IsStrictlyIncreasing}
-use Rattle.core_views.specs.declared.answer.AnsweredLine.{AnsweredLine}
 use Rattle.core_views.specs.declared.kind.Kind.{Kind}
 use Rattle.core_views.specs.declared.sizes.Sizes.{Sizes}
-use Rattle.core_views.specs.declared.trace.Item.{Item}
 use Rattle.core_views.specs.declared.trace.Line.{Line}
 use Rattle.core_views.specs.declared.trace.Trace.{Trace}
-use Rattle.core_views.specs.declared.trace.Until.{Until}
 use Rattle.core_views.specs.declared.trace.Until.TheVariants.{Turns}
 use Rattle.core_views.specs.Held.{Held}
 use Rattle.core_views.specs.Sizes.{actors_of, sizes_of}
@@ -23,10 +18,9 @@ use Rattle.core_views.specs.Whole.{IsWholeSoFar}
 use Rattle.core_views.proofs.HeaderSizes.{header_sizes}
 use Rattle.mmu_core.specs.machine.Enabled.{mmu}
 use Rattle.mmu_laws.specs.flat.Histories.{answered_in, begun_in}
-use Rattle.mmu_core.specs.machine.Machine.{Legal, Step, World, hand_in, run}
-use Rattle.mmu_core.specs.machine.Steps.{has_line}
+use Rattle.mmu_core.specs.machine.Machine.{Step, World, hand_in, run}
 use Rattle.mmu_core.specs.machine.Worlds.{IsStart, history}
-use Rattle.mmu_laws.proofs.flat.EveryAnswer.{ends_whole, start_follows}
+use Rattle.mmu_laws.proofs.flat.EveryAnswer.{ends_whole}
 use Rattle.mmu_laws.proofs.flat.EveryHistory.{every_history}
 use Rattle.mmu_core.proofs.start.StartViews.{a_start}
 use Rattle.mmu_laws.proofs.flat.WholeSoFar.{stays_whole}
@@ -39,8 +33,10 @@ use Rattle.weave_engine.specs.Pieces.{WritesMost}
 use Rattle.weave_engine.specs.Replays.{RunsLines}
 use Rattle.weave_engine.specs.Turned.{Comes, PutsRun}
 use Rattle.weave_engine.specs.Rounds.{AllAnswered}
-use Rattle.weave_engine.specs.Turning.{HasNoLineLeft, IsWithin, MayStop, RunsItems, RunsItemsSoFar}
-use Rattle.weave_engine.specs.Weaves.{FirstOpen, FollowsBoth, FollowsSoFar, IsFirstOpen, RunsAllRounds, RunsSomeRounds, Weaves, WeavesAll, WeavesPart, WeavesSoFar, lines_above, open_text, unfinished_text}
+use Rattle.weave_engine.specs.Turning.{HasNoLineLeft, MayStop, RunsItems, RunsItemsSoFar}
+use Rattle.weave_engine.specs.Weaves.{FollowsBoth, FollowsSoFar, RunsAllRounds, RunsSomeRounds, Weaves, WeavesAll, WeavesPart}
+use Rattle.weave_engine.specs.FirstOpen.{FirstOpen, IsFirstOpen}
+use Rattle.weave_engine.specs.Weaves.{WeavesSoFar, lines_above, open_text, unfinished_text}
 use Rattle.weave_engine.specs.Writes.{RunsAndPuts}
 use Rattle.weave_engine.specs.Woven.{WeavesUntil, WritesUntil, WritesWoven, open_of}
 use Rattle.weave_engine.proofs.Beside.{turns_delayed}
@@ -52,37 +48,15 @@ use Rattle.weave_engine.proofs.LinesRun.{between_at_start}
 use Rattle.weave_engine.proofs.StarvedScans.{starved_scan}
 use Rattle.weave_engine.proofs.Stopping.{stops_behind}
 use Rattle.weave_engine.proofs.Writes.{IsPut, ends, few_last, few_waiting, goes_on, none_put, so_far_most, stops, stops_here}
-
-none_within : (until : Until) → IsWithin until []
-none_within (Turns count) = omega arith
-none_within _ = tt
-
-none_so_far : (z : Sizes) (items : List Item) (w : World Held) → RunsItemsSoFar z items w []
-none_so_far z [] w = refl
-none_so_far z (item ∷ items) w = inl (record { turns = tt; none_ends = tt; within = none_within item.until })
-
-no_rounds : (z : Sizes) (limit : ℕ) (w : World Held) → RunsSomeRounds z limit w []
-no_rounds z limit w = record { next = 0; rounds = refl; few = omega arith }
-
--- A hand with no line left has answered all of its lines.
-few_answers : (z : Sizes) (lines : List Line) (w : World Held) (ss : List (Step Kind)) (i : ℕ) → IsStart z lines w → Legal mmu w ss → i < actors_of z → length (hand_in mmu (run mmu w ss) i).answers ≤ length (hand_in mmu (run mmu w ss) i).lines
-few_answers z lines w ss i start legal lt =
-    let g : Held = hand_in mmu (run mmu w ss) i in
-    let same = ap (λ (ns : List ℕ). length ns) ((start_follows z lines w ss i start legal lt).numbers refl) in
-    let a = length-map g.answers (λ (x : AnsweredLine). x.number) in
-    let b = length-map (take (length g.answers) g.lines) (λ (l : Line). l.number) in
-    let c = length-take (length g.answers) g.lines in
-    omega (arith, same, a, b, c)
-
-no_line_all : (h : Held) → length h.answers ≤ length h.lines → has_line h ≡ false → length h.answers ≡ length h.lines
-no_line_all h few none = let ge : length h.lines ≤ length h.answers = grind (arith, nat_tests) in omega (arith, few, ge)
+use Rattle.weave_engine.proofs.BeforeSteps.{few_answers, no_line_all, no_rounds, none_so_far}
 
 module _ (trace : Trace) (limit : ℕ) (start : World Held) (is_start : IsStart (sizes_of trace.header) trace.lines start) where
   abbrev z : Sizes
   z = sizes_of trace.header
 
   -- Steps that follow the trace so far weave it so far.
-  weaves_so_far : (ss : List (Step Kind)) (t : World Held) (bytes : List ℕ) → Comes start ss t bytes → FollowsSoFar trace limit start ss → WeavesSoFar trace limit bytes t
+  weaves_so_far : (ss : List (Step Kind)) (t : World Held) (bytes : List ℕ) → Comes start ss t bytes → FollowsSoFar trace limit start ss
+      → WeavesSoFar trace limit bytes t
   weaves_so_far ss t bytes C F = record {
     start = start;
     is_start = is_start;
@@ -91,18 +65,21 @@ module _ (trace : Trace) (limit : ℕ) (start : World Held) (is_start : IsStart 
     ends = C.ends;
     follows = F;
     lawful = every_history z trace.lines start ss is_start C.legal;
-    whole = subst (λ (x : World Held). IsWholeSoFar (history start ss) trace.lines (begun_in z x) (answered_in z x)) C.ends (stays_whole z trace.lines start ss is_start C.legal);
+    whole = subst (λ (x : World Held). IsWholeSoFar (history start ss) trace.lines (begun_in z x) (answered_in z x)) C.ends
+        (stays_whole z trace.lines start ss is_start C.legal);
     starved = starved_scan z trace.lines start ss is_start C.legal;
     prints = C.prints;
   }
 
   -- One list of steps weaves the trace so far, and may stop here for this.
-  stops_weaving : (stop : Stop) (ss : List (Step Kind)) (t : World Held) (bytes : List ℕ) → Comes start ss t bytes → FollowsSoFar trace limit start ss → MayStop stop start ss → WeavesUntil stop trace limit t bytes
+  stops_weaving : (stop : Stop) (ss : List (Step Kind)) (t : World Held) (bytes : List ℕ) → Comes start ss t bytes → FollowsSoFar trace limit start ss
+      → MayStop stop start ss → WeavesUntil stop trace limit t bytes
   unfolding weaves_so_far
   stops_weaving stop ss t bytes C F may = inl (weaves_so_far ss t bytes C F, may)
 
   -- Some lines above `go` ran, and nothing more.
-  lines_follow : (above : ℕ) → above ≤ lines_above trace.go → (w : World Held) (r : RunsLines z start (take above trace.lines) w) → FollowsSoFar trace limit start r.steps
+  lines_follow : (above : ℕ) → above ≤ lines_above trace.go → (w : World Held) (r : RunsLines z start (take above trace.lines) w)
+      → FollowsSoFar trace limit start r.steps
   lines_follow above few w r = record {
     above = above;
     few_above = few;
@@ -121,15 +98,21 @@ module _ (trace : Trace) (limit : ℕ) (start : World Held) (is_start : IsStart 
   pub nothing_ran : WeavesUntil Full trace limit start []
   nothing_ran =
       let B = between_at_start z trace.lines start is_start in
-      stops_weaving Full B.ran.steps start [] (record { legal = B.ran.legal; ends = B.ran.ends; prints = B.prints }) (lines_follow 0 (omega arith) start B.ran) tt
+      stops_weaving Full B.ran.steps start [] (record { legal = B.ran.legal; ends = B.ran.ends; prints = B.prints })
+      (lines_follow 0 (omega arith) start B.ran) tt
 
   -- It stopped among the lines above `go`.
-  pub stopped_in_lines : (t : World Held) (before after : Option (List ℕ)) (waits : List ℕ) (stop : Stop) → RunsAndPuts z start trace.lines (lines_above trace.go) t before after [] waits (Err stop) → WritesUntil stop trace limit t before after
-  stopped_in_lines t before after waits stop (above, few, r, may, prefix) =
-      (text (history start r.steps), stops_weaving stop r.steps t (text (history start r.steps)) (record { legal = r.legal; ends = r.ends; prints = refl }) (lines_follow above few t r) may, prefix)
+  pub stopped_in_lines : (t : World Held) (before after : Option (List ℕ)) (waits : List ℕ) (stop : Stop)
+      → RunsAndPuts z start trace.lines (lines_above trace.go) t before after [] waits (Err stop) → WritesUntil stop trace limit t before after
+  stopped_in_lines t before after waits stop (above, few, r, may, prefix) = (
+    text (history start r.steps),
+    stops_weaving stop r.steps t (text (history start r.steps)) (record { legal = r.legal; ends = r.ends; prints = refl }) (lines_follow above few t r) may,
+    prefix,
+  )
 
   -- The lines above `go` are answered, and what they print was put.
-  module _ (w : World Held) (before here : Option (List ℕ)) (waits : List ℕ) (L : RunsAndPuts z start trace.lines (lines_above trace.go) w before here [] waits (Ok tt)) where
+  module _ (w : World Held) (before here : Option (List ℕ)) (waits : List ℕ)
+      (L : RunsAndPuts z start trace.lines (lines_above trace.go) w before here [] waits (Ok tt)) where
     abbrev printed : List ℕ
     printed = text (history start L.0.steps)
 
@@ -162,16 +145,22 @@ module _ (trace : Trace) (limit : ℕ) (start : World Held) (is_start : IsStart 
     }
 
     -- It stopped among the items.
-    pub stopped_in_items : (t : World Held) (after : Option (List ℕ)) (more : List ℕ) (stop : Stop) → PutsRun (RunsItems z trace.items) (RunsItemsSoFar z trace.items) w t here after waits more (Err stop) → WritesUntil stop trace limit t before after
-    stopped_in_items t after more stop (ss, bytes, some, C, may, prefix) =
-        (printed ++ bytes, stops_weaving stop (L.0.steps ++ ss) t (printed ++ bytes) (from_start t ss bytes C) (items_follow ss some) (may_stop stop ss may), stops before here after waits bytes printed lines_put prefix)
+    pub stopped_in_items : (t : World Held) (after : Option (List ℕ)) (more : List ℕ) (stop : Stop)
+        → PutsRun (RunsItems z trace.items) (RunsItemsSoFar z trace.items) w t here after waits more (Err stop) → WritesUntil stop trace limit t before after
+    stopped_in_items t after more stop (ss, bytes, some, C, may, prefix) = (
+      printed ++ bytes,
+      stops_weaving stop (L.0.steps ++ ss) t (printed ++ bytes) (from_start t ss bytes C) (items_follow ss some) (may_stop stop ss may),
+      stops before here after waits bytes printed lines_put prefix,
+    )
 
     -- The items are over too.
-    module _ (u : World Held) (there : Option (List ℕ)) (waits_there : List ℕ) (I : PutsRun (RunsItems z trace.items) (RunsItemsSoFar z trace.items) w u here there waits waits_there (Ok tt)) where
+    module _ (u : World Held) (there : Option (List ℕ)) (waits_there : List ℕ)
+        (I : PutsRun (RunsItems z trace.items) (RunsItemsSoFar z trace.items) w u here there waits waits_there (Ok tt)) where
       items_put : IsPut before there waits_there (printed ++ I.1)
       items_put = goes_on before here there waits waits_there I.1 [] printed lines_put I.4
 
-      comes_both : (t : World Held) (ss : List (Step Kind)) (bytes : List ℕ) → Comes u ss t bytes → Comes start (L.0.steps ++ (I.0 ++ ss)) t (printed ++ (I.1 ++ bytes))
+      comes_both : (t : World Held) (ss : List (Step Kind)) (bytes : List ℕ) → Comes u ss t bytes
+          → Comes start (L.0.steps ++ (I.0 ++ ss)) t (printed ++ (I.1 ++ bytes))
       comes_both t ss bytes C = from_start t (I.0 ++ ss) (I.1 ++ bytes) (comes_then w u t I.0 ss I.1 bytes I.3 C)
 
       -- Turns in rounds follow all lines above `go` and all items.
@@ -195,7 +184,8 @@ module _ (trace : Trace) (limit : ℕ) (start : World Held) (is_start : IsStart 
       follows_both ss R = record { all_above = refl; all_items = I.2 }
 
       -- It stopped in the rounds.
-      pub stopped_in_rounds : (t : World Held) (after : Option (List ℕ)) (more : List ℕ) (stop : Stop) → PutsRun (RunsAllRounds z limit) (RunsSomeRounds z limit) u t there after waits_there more (Err stop) → WritesUntil stop trace limit t before after
+      pub stopped_in_rounds : (t : World Held) (after : Option (List ℕ)) (more : List ℕ) (stop : Stop)
+          → PutsRun (RunsAllRounds z limit) (RunsSomeRounds z limit) u t there after waits_there more (Err stop) → WritesUntil stop trace limit t before after
       stopped_in_rounds t after more stop (ss, bytes, some, C, may, prefix) = (
         printed ++ (I.1 ++ bytes),
         stops_weaving stop (L.0.steps ++ (I.0 ++ ss)) t (printed ++ (I.1 ++ bytes)) (comes_both t ss bytes C) (follows ss some)
@@ -204,7 +194,8 @@ module _ (trace : Trace) (limit : ℕ) (start : World Held) (is_start : IsStart 
       )
 
       -- The rounds are over.
-      module _ (t : World Held) (at : Option (List ℕ)) (waits_at : List ℕ) (R : PutsRun (RunsAllRounds z limit) (RunsSomeRounds z limit) u t there at waits_there waits_at (Ok tt)) where
+      module _ (t : World Held) (at : Option (List ℕ)) (waits_at : List ℕ)
+          (R : PutsRun (RunsAllRounds z limit) (RunsSomeRounds z limit) u t there at waits_there waits_at (Ok tt)) where
         abbrev all_text : List ℕ
         all_text = printed ++ (I.1 ++ R.1)
 
@@ -230,30 +221,36 @@ module _ (trace : Trace) (limit : ℕ) (start : World Held) (is_start : IsStart 
           whole = ends_whole z trace.lines start all_steps is_start all_come.legal answered_;
         }
           where
-            answered_ : (i : ℕ) → i < actors_of z → length (hand_in mmu (run mmu start all_steps) i).answers ≡ length (hand_in mmu (run mmu start all_steps) i).lines
+            answered_ : (i : ℕ) → i < actors_of z
+                → length (hand_in mmu (run mmu start all_steps) i).answers ≡ length (hand_in mmu (run mmu start all_steps) i).lines
             answered_ i lt =
                 let few = few_answers z trace.lines start all_steps i is_start all_come.legal lt in
                 let none : HasNoLineLeft i (run mmu start all_steps) = subst (λ (x : World Held). HasNoLineLeft i x) (sym all_come.ends) (all i lt) in
                 no_line_all (hand_in mmu (run mmu start all_steps) i) few none
 
-        used_up : IsStrictlyIncreasing (map (λ (l : Line). l.number) trace.lines) → (line : Line) → IsFirstOpen z t line → WeavesPart trace limit all_text t line
+        used_up : IsStrictlyIncreasing (map (λ (l : Line). l.number) trace.lines) → (line : Line) → IsFirstOpen z t line
+            → WeavesPart trace limit all_text t line
         unfolding woven follows weaves_so_far
         used_up up line open_ = record {
           weaves = woven;
           used_up = by R.2.over;
           open_ = open_;
-          delayed = turns_delayed trace limit woven.so_far.start woven.so_far.steps woven.so_far.is_start woven.so_far.legal woven.so_far.follows woven.follows (by R.2.over);
-          first_in_file = first_in_file z trace.lines start all_steps is_start all_come.legal up line (subst (λ (x : World Held). IsFirstOpen z x line) (sym all_come.ends) open_);
+          delayed = turns_delayed trace limit woven.so_far.start woven.so_far.steps woven.so_far.is_start woven.so_far.legal woven.so_far.follows woven.follows
+              (by R.2.over);
+          first_in_file = first_in_file z trace.lines start all_steps is_start all_come.legal up line
+              (subst (λ (x : World Held). IsFirstOpen z x line) (sym all_come.ends) open_);
         }
           where
             by : (length R.0 ≡ limit) ⊎ AllAnswered z (run mmu u R.0) → length R.0 ≡ limit
             by (inl e) = e
-            by (inr all) = absurd (absurd_line t open_.actor open_.left (subst (λ (x : World Held). HasNoLineLeft open_.actor x) R.3.ends (all open_.actor open_.there)))
+            by (inr all) =
+                absurd (absurd_line t open_.actor open_.left (subst (λ (x : World Held). HasNoLineLeft open_.actor x) R.3.ends (all open_.actor open_.there)))
 
         -- All is written: each line is answered, or this is the first that isn't.
         pub ends_open : IsStrictlyIncreasing (map (λ (l : Line). l.number) trace.lines) → (open_ : Option Line) (after : Option (List ℕ)) → FirstOpen z t open_
             → Appends at after (waits_at ++ open_text open_) → WritesWoven trace limit t before after (Ok (option_map open_of open_))
-        ends_open up None after none wrote = (all_text, all_answered none, ends before at after waits_at all_text (Ok (tt {0})) all_put (subst (Appends at after) (append-nil waits_at) wrote))
+        ends_open up None after none wrote =
+            (all_text, all_answered none, ends before at after waits_at all_text (Ok (tt {0})) all_put (subst (Appends at after) (append-nil waits_at) wrote))
         ends_open up (Some line) after open_ wrote =
             let u : List ℕ = unfinished_text line in
             let whole : all_put.0 ++ (waits_at ++ u) ≡ all_text ++ u = sym (append_assoc all_put.0 waits_at u) ∙ ap (λ (x : List ℕ). x ++ u) all_put.2 in (
@@ -268,13 +265,24 @@ module _ (trace : Trace) (limit : ℕ) (start : World Held) (is_start : IsStart 
             )
 
         -- The writing stopped behind all turns.
-        pub stops_open : IsStrictlyIncreasing (map (λ (l : Line). l.number) trace.lines) → (stop : Stop) (open_ : Option Line) (after : Option (List ℕ)) → FirstOpen z t open_ → AppendsPrefix at after (waits_at ++ open_text open_) → WritesUntil stop trace limit t before after
-        stops_open up stop None after none wrote = (all_text, inr (inl (all_answered none)), stops_here before at after waits_at all_text all_put (few_waiting at after waits_at all_put.3 (subst (AppendsPrefix at after) (append-nil waits_at) wrote)))
-        stops_open up stop (Some line) after open_ wrote =
-            (all_text ++ unfinished_text line, inr (inr (all_text, line, used_up up line open_, refl)), stops before at after waits_at (unfinished_text line) all_text all_put (few_last at after waits_at (unfinished_text line) all_put.3 (inr (inr (line, refl))) wrote))
+        pub stops_open : IsStrictlyIncreasing (map (λ (l : Line). l.number) trace.lines) → (stop : Stop) (open_ : Option Line) (after : Option (List ℕ))
+            → FirstOpen z t open_ → AppendsPrefix at after (waits_at ++ open_text open_) → WritesUntil stop trace limit t before after
+        stops_open up stop None after none wrote = (
+          all_text,
+          inr (inl (all_answered none)),
+          stops_here before at after waits_at all_text all_put
+              (few_waiting at after waits_at all_put.3 (subst (AppendsPrefix at after) (append-nil waits_at) wrote)),
+        )
+        stops_open up stop (Some line) after open_ wrote = (
+          all_text ++ unfinished_text line,
+          inr (inr (all_text, line, used_up up line open_, refl)),
+          stops before at after waits_at (unfinished_text line) all_text all_put
+              (few_last at after waits_at (unfinished_text line) all_put.3 (inr (inr (line, refl))) wrote),
+        )
 
 -- No machine was made: nothing ran.
-pub no_machine : (trace : Trace) (limit : ℕ) (before : Option (List ℕ)) → IsTrace trace → (closing : World Held) × WritesUntil Full trace limit closing before before
+pub no_machine : (trace : Trace) (limit : ℕ) (before : Option (List ℕ)) → IsTrace trace
+    → (closing : World Held) × WritesUntil Full trace limit closing before before
 no_machine trace limit before good =
     let made = a_start (sizes_of trace.header) trace.lines (header_sizes trace.header good.header) good.lines good.distinct good.few in
     (made.0, ([], nothing_ran trace limit made.0 made.1, so_far_most before before [] [] (none_put before [] (omega arith))))

@@ -6,6 +6,7 @@ pub mod Turning
 pub mod Rounds
 pub mod Turned
 pub mod Beside
+pub mod FirstOpen
 pub mod Weaves
 pub mod Pieces
 pub mod Woven

@@ -24,7 +24,8 @@ pub record LeavesFew (IsLine : List ℕ → Type 0) (before after : Option (List
 
 -- a line that a run prints: what a line of the trace is answered, or the first line of the file that has no answer
 abbrev pub IsPrintedLine : List ℕ → Type 0
-IsPrintedLine bytes = ((number : ℕ) × (actor : Actor) × (answer : Answer) × (bytes ≡ line_text number actor answer)) ⊎ ((line : Line) × (bytes ≡ unfinished_text line))
+IsPrintedLine bytes =
+    ((number : ℕ) × (actor : Actor) × (answer : Answer) × (bytes ≡ line_text number actor answer)) ⊎ ((line : Line) × (bytes ≡ unfinished_text line))
 
 -- the same of a text of such lines
 abbrev pub WritesMost : Option (List ℕ) → Option (List ℕ) → List ℕ → Type 0

@@ -55,7 +55,8 @@ pub record RunsAlone (z : Sizes) (actor : ℕ) (line : Line) (answer : Answer) (
 abbrev pub EachRunsAlone : Sizes → World Held → List Line → List (Step Kind) → Type 0
 EachRunsAlone z before [] steps = steps ≡ []
 EachRunsAlone z before (line ∷ lines) steps =
-    (own : List (Step Kind)) × (rest : List (Step Kind)) × (answer : Answer) × (steps ≡ own ++ rest) × RunsAlone z (index_of z line.actor) line answer own before × EachRunsAlone z (run mmu before own) lines rest
+    (own : List (Step Kind)) × (rest : List (Step Kind)) × (answer : Answer) × (steps ≡ own ++ rest)
+    × RunsAlone z (index_of z line.actor) line answer own before × EachRunsAlone z (run mmu before own) lines rest
 
 -- Steps that may be made one after another lead from the start to this world; they run these lines, each alone, in this order, and
 -- tell nothing else.

@@ -92,8 +92,10 @@ PutsTurn actor before after written writes waited waits (Err stop) =
 -- stopped, steps of which that holds were made, behind which it may stop for this, and what waited and what they print
 -- was written but for little.
 abbrev pub PutsRun :
-    (World Held → List (Step Kind) → Type 0) → (World Held → List (Step Kind) → Type 0) → World Held → World Held → Option (List ℕ) → Option (List ℕ) → List ℕ → List ℕ → Result (Unit {0}) Stop → Type 0
+    (World Held → List (Step Kind) → Type 0) → (World Held → List (Step Kind) → Type 0) → World Held → World Held → Option (List ℕ) → Option (List ℕ)
+    → List ℕ → List ℕ → Result (Unit {0}) Stop → Type 0
 PutsRun whole part before after written writes waited waits (Ok u) =
     (ss : List (Step Kind)) × (bytes : List ℕ) × whole before ss × Comes before ss after bytes × Buffers written writes waited waits (Ok u) bytes
 PutsRun whole part before after written writes waited waits (Err stop) =
-    (ss : List (Step Kind)) × (bytes : List ℕ) × part before ss × Comes before ss after bytes × MayStop stop before ss × WritesMost written writes (waited ++ bytes)
+    (ss : List (Step Kind)) × (bytes : List ℕ) × part before ss × Comes before ss after bytes × MayStop stop before ss
+    × WritesMost written writes (waited ++ bytes)

@@ -127,4 +127,5 @@ RunsItems z (item ∷ items) w ss =
 abbrev pub RunsItemsSoFar : Sizes → List Item → World Held → List (Step Kind) → Type 0
 RunsItemsSoFar z [] w ss = ss ≡ []
 RunsItemsSoFar z (item ∷ items) w ss =
-    RunsItemSoFar z item w ss ⊎ ((own : List (Step Kind)) × (rest : List (Step Kind)) × (ss ≡ own ++ rest) × RunsItem z item w own × RunsItemsSoFar z items (run mmu w own) rest)
+    RunsItemSoFar z item w ss ⊎ ((own : List (Step Kind)) × (rest : List (Step Kind)) × (ss ≡ own ++ rest) × RunsItem z item w own
+    × RunsItemsSoFar z items (run mmu w own) rest)

@@ -1,9 +1,8 @@
 -- What a weave of a trace is: the lines above `go`, each alone, then the turns of its schedule, then turns in rounds.
-use Rattle.std.specs.Prelude.{◌≡◌, ◌+◌, ◌<◌, ◌≤◌, ◌⊎◌, ℕ, List, [], ◌∷◌, ◌++◌, All, drop, length, map, take, codes, nat_lt, if◌then◌else◌, slice_get, Option, Some, None, unwrap_or}
+use Rattle.std.specs.Prelude.{◌≡◌, ◌+◌, ◌≤◌, ◌⊎◌, ℕ, List, [], ◌∷◌, ◌++◌, drop, length, take, codes}
+use Rattle.std.specs.Prelude.{Option, Some, None, unwrap_or}
 use Rattle.std.specs.Fmt.{decimal}
-use Rattle.std.specs.List.{Contains}
 use Rattle.core_views.specs.declared.answer.Answer.TheVariants.{Starved}
-use Rattle.core_views.specs.declared.event.Event.{Event}
 use Rattle.core_views.specs.declared.kind.Kind.{Kind}
 use Rattle.core_views.specs.declared.place.Place.TheVariants.{Between}
 use Rattle.core_views.specs.declared.sizes.Sizes.{Sizes}
@@ -12,8 +11,8 @@ use Rattle.core_views.specs.declared.trace.Trace.{Trace}
 use Rattle.core_views.specs.Flat.{first_flat}
 use Rattle.core_views.specs.Held.{Held}
 use Rattle.core_views.specs.Lawful.{IsLawful}
-use Rattle.core_views.specs.Sizes.{actors_of, sizes_of}
-use Rattle.core_views.specs.Text.{actor_name, answers_of, text}
+use Rattle.core_views.specs.Sizes.{sizes_of}
+use Rattle.core_views.specs.Text.{actor_name, text}
 use Rattle.core_views.specs.Whole.{IsWhole, IsWholeSoFar}
 use Rattle.spte_words.specs.Areas.{words_of_bits}
 use Rattle.mmu_core.specs.declared.outcome.Outcome.TheVariants.{Ends}
@@ -21,14 +20,14 @@ use Rattle.mmu_core.specs.machine.Enabled.{mmu}
 use Rattle.mmu_laws.specs.flat.Histories.{answered_in, begun_in}
 use Rattle.mmu_core.specs.machine.Machine.{Legal, Step, World, hand_in, run}
 use Rattle.mmu_core.specs.invariant.Scans.{EndsWithScan}
-use Rattle.mmu_core.specs.machine.Steps.{next_line}
 use Rattle.mmu_core.specs.machine.Turns.{outcome_of}
 use Rattle.mmu_core.specs.machine.Worlds.{IsStart, history}
 use Rattle.core_theorem.specs.Delays.{answer_of, hand_of}
 use Rattle.weave_engine.specs.Beside.{AreForDelays}
 use Rattle.weave_engine.specs.Replays.{RunsLines}
 use Rattle.weave_engine.specs.Rounds.{AllAnswered, RunsRounds}
-use Rattle.weave_engine.specs.Turning.{HasLineLeft, RunsItems, RunsItemsSoFar}
+use Rattle.weave_engine.specs.Turning.{RunsItems, RunsItemsSoFar}
+use Rattle.weave_engine.specs.FirstOpen.{IsFirstInFile, IsFirstOpen}
 
 -- how many of the trace's lines run alone: those above `go`
 abbrev pub lines_above : Option ℕ → ℕ
@@ -37,35 +36,6 @@ lines_above go = unwrap_or go 0
 -- the lines below `go`
 abbrev pub lines_below : Trace → List Line
 lines_below trace = drop (lines_above trace.go) trace.lines
-
--- This is the first line of the file that has no answer: its actor's next one, and no other actor's next one stands before it.
-pub record IsFirstOpen (z : Sizes) (w : World Held) (line : Line) : Type 0 where
-  pub actor : ℕ
-  pub there : actor < actors_of z
-  pub left : HasLineLeft actor w
-  pub is : next_line (hand_in mmu w actor) ≡ line
-  pub first : (i : ℕ) → i < actors_of z → HasLineLeft i w → line.number ≤ (next_line (hand_in mmu w i)).number
-
--- the numbers of the lines that a history answers
-abbrev pub numbers_answered : List Event → List ℕ
-numbers_answered history = map (λ x. x.number) (answers_of history)
-
--- The history answers each line that stands before this one in the file, and not this one.
-pub record IsFirstInFile (history : List Event) (lines : List Line) (line : Line) : Type 0 where
-  pub before : ℕ
-  pub is : slice_get lines before ≡ Some line
-  pub answered : All (λ other. Contains (numbers_answered history) other.number) (take before lines)
-  pub open_ : Contains (numbers_answered history) line.number → ⊥
-
--- the one of two lines that stands first in the file, if they are there
-abbrev pub earlier_of : Option Line → Option Line → Option Line
-earlier_of None next = next
-earlier_of (Some line) None = Some line
-earlier_of (Some line) (Some other) = if nat_lt other.number line.number then Some other else Some line
-
-abbrev pub FirstOpen : Sizes → World Held → Option Line → Type 0
-FirstOpen z w (Some line) = IsFirstOpen z w line
-FirstOpen z w None = AllAnswered z w
 
 -- At most so many turns were made in rounds, from the first actor on.
 pub record RunsSomeRounds (z : Sizes) (limit : ℕ) (w : World Held) (ss : List (Step Kind)) : Type 0 where
@@ -94,7 +64,8 @@ pub record FollowsSoFar (trace : Trace) (limit : ℕ) (start : World Held) (step
   pub after_items : (rounds ≡ []) ⊎ RunsItems (sizes_of trace.header) trace.items behind scheduled
 
 -- All lines above `go` and all items of the schedule had their turns.
-pub record FollowsBoth (trace : Trace) (limit : ℕ) (start : World Held) (steps : List (Step Kind)) (so_far : FollowsSoFar trace limit start steps) : Type 0 where
+pub record FollowsBoth (trace : Trace) (limit : ℕ) (start : World Held) (steps : List (Step Kind))
+    (so_far : FollowsSoFar trace limit start steps) : Type 0 where
   pub all_above : so_far.above ≡ lines_above trace.go
   pub all_items : RunsItems (sizes_of trace.header) trace.items so_far.behind so_far.scheduled
 
@@ -102,8 +73,8 @@ pub record FollowsBoth (trace : Trace) (limit : ℕ) (start : World Held) (steps
 -- starved ends a scan of the whole map by the line's actor since that moment, which found no page free in any of its words.
 abbrev pub StarvedLinesScan : Sizes → World Held → List (Step Kind) → Type 0
 StarvedLinesScan z start steps =
-    (earlier own later : List (Step Kind)) (s : Step Kind) → steps ≡ earlier ++ (own ++ s ∷ later) → (hand_in mmu (run mmu start earlier) s.actor).state.place ≡ Between
-    → outcome_of (hand_of (run mmu start earlier) own s) (answer_of (run mmu start earlier) own s) ≡ Ends Starved
+    (earlier own later : List (Step Kind)) (s : Step Kind) → steps ≡ earlier ++ (own ++ s ∷ later) → (hand_in mmu (run mmu start earlier) s.actor).state.place
+    ≡ Between → outcome_of (hand_of (run mmu start earlier) own s) (answer_of (run mmu start earlier) own s) ≡ Ends Starved
     → EndsWithScan z s.actor (words_of_bits z.pool) (run mmu start earlier) (own ++ s ∷ [])
 
 -- One list of enabled steps leads from the trace's start to this world, and follows the trace so far. What it tells is lawful, begins and answers
@@ -139,7 +110,8 @@ pub record WeavesPart (trace : Trace) (limit : ℕ) (bytes : List ℕ) (closing 
   pub open_ : IsFirstOpen (sizes_of trace.header) closing line
   pub first_in_file : IsFirstInFile (history weaves.so_far.start weaves.so_far.steps) trace.lines line
   pub delayed :
-      AreForDelays (sizes_of trace.header) (lines_below trace) (length weaves.so_far.follows.scheduled + limit) weaves.so_far.follows.behind (weaves.so_far.follows.scheduled ++ weaves.so_far.follows.rounds)
+      AreForDelays (sizes_of trace.header) (lines_below trace) (length weaves.so_far.follows.scheduled + limit) weaves.so_far.follows.behind
+      (weaves.so_far.follows.scheduled ++ weaves.so_far.follows.rounds)
 
 -- the first line that has no answer, and its actor
 unfoldable pub unfinished_text : Line → List ℕ

@@ -41,7 +41,8 @@ WritesAll trace limit closing before after = (bytes : List ℕ) × WeavesAll tra
 
 -- The rounds ended before this line was answered, the first one in the file.
 abbrev pub WritesPart : Trace → ℕ → World Held → Option (List ℕ) → Option (List ℕ) → Line → Type 0
-WritesPart trace limit closing before after line = (bytes : List ℕ) × WeavesPart trace limit bytes closing line × Appends before after (bytes ++ unfinished_text line)
+WritesPart trace limit closing before after line =
+    (bytes : List ℕ) × WeavesPart trace limit bytes closing line × Appends before after (bytes ++ unfinished_text line)
 
 -- The rounds ended before this line was answered, of which this is the actor and the number.
 abbrev pub WritesOpen : Trace → ℕ → World Held → Option (List ℕ) → Option (List ℕ) → OpenLine → Type 0

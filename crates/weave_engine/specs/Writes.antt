@@ -21,9 +21,11 @@ use Rattle.weave_engine.specs.declared.ran.How.TheVariants.{Done, WriteFault, Un
 use Rattle.weave_engine.specs.declared.ran.OpenLine.{OpenLine}
 use Rattle.weave_engine.specs.declared.ran.Ran.{Ran}
 
--- A text was put: what was written by it, and what waits after it, are what waited before and the text, and at most 8,192 bytes wait. Where the writing stopped, a prefix of what waited and of the text was written.
+-- A text was put: what was written by it, and what waits after it, are what waited before and the text, and at most 8,192 bytes wait. Where the
+-- writing stopped, a prefix of what waited and of the text was written.
 abbrev pub Buffers : Option (List ℕ) → Option (List ℕ) → List ℕ → List ℕ → Result (Unit {0}) Stop → List ℕ → Type 0
-Buffers before after waited waits (Ok u) text = (written : List ℕ) × Appends before after written × (written ++ waits ≡ waited ++ text) × (length waits ≤ most_waiting)
+Buffers before after waited waits (Ok u) text =
+    (written : List ℕ) × Appends before after written × (written ++ waits ≡ waited ++ text) × (length waits ≤ most_waiting)
 Buffers before after waited waits (Err e) text = AppendsPrefix before after (waited ++ text)
 
 -- What a replay of all lines prints was written, and no line is open; or, where it stopped, what it had printed but for little.
@@ -45,6 +47,8 @@ WritesReplay trace before after (Err e) = (closing : World Held) × WritesLines 
 -- The first lines ran one after another, each alone, from this world to that one, and what they are answered was put behind what waited to
 -- be written; or fewer of them ran so, and these bytes were written but for little.
 abbrev pub RunsAndPuts : Sizes → World Held → List Line → ℕ → World Held → Option (List ℕ) → Option (List ℕ) → List ℕ → List ℕ → Result (Unit {0}) Stop → Type 0
-RunsAndPuts z start lines count end_ before after waited waits (Ok u) = (r : RunsLines z start (take count lines) end_) × Buffers before after waited waits (Ok u) (text (history start r.steps))
+RunsAndPuts z start lines count end_ before after waited waits (Ok u) =
+    (r : RunsLines z start (take count lines) end_) × Buffers before after waited waits (Ok u) (text (history start r.steps))
 RunsAndPuts z start lines count end_ before after waited waits (Err stop) =
-    (ran : ℕ) × (ran ≤ count) × (r : RunsLines z start (take ran lines) end_) × MayStop stop start r.steps × WritesMost before after (waited ++ text (history start r.steps))
+    (ran : ℕ) × (ran ≤ count) × (r : RunsLines z start (take ran lines) end_) × MayStop stop start r.steps
+    × WritesMost before after (waited ++ text (history start r.steps))

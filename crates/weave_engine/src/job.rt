@@ -105,7 +105,8 @@ pub fn run_line<S: Stepper>(s: &mut S, line: &Line) -> Result<(), NoMemory>
     requires next { slice_get (S.seat s.old).hand.lines (length (S.seat s.old).hand.answers) ≡ Some line.now }
     requires own { line.now.actor ≡ (S.seat s.old).hand.state.actor }
     requires alone { IsAlone (S.seat s.old) }
-    ensures answered { IfOk result (λ done. IsAnswered line.now (answer_given (S.seat s.old).hand (S.seat s.new).hand) (S.seat s.old).hand (S.seat s.new).hand) }
+    ensures answered { IfOk result
+        (λ done. IsAnswered line.now (answer_given (S.seat s.old).hand (S.seat s.new).hand) (S.seat s.old).hand (S.seat s.new).hand) }
     ensures alone { IfOk result (λ done. RanAlone line.now (answer_given (S.seat s.old).hand (S.seat s.new).hand) (S.seat s.old) (S.seat s.new)) }
     ensures hand { IsSameHand (S.seat s.old).hand (S.seat s.new).hand }
     ensures refused { OnErr result (((S.seat s.new).hand ≡ (S.seat s.old).hand) × ((S.seat s.new).tells ≡ (S.seat s.old).tells)) }

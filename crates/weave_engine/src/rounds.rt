@@ -6,7 +6,8 @@ ghost use Rattle.tdp_io.specs.Ends.{WroteFaults, is_failed};
 ghost use Rattle.weave_engine.specs.Pieces.{most_waiting};
 ghost use Rattle.weave_engine.specs.Turned.{PutsRun};
 ghost use Rattle.weave_engine.specs.Rounds.{IsNextPlace};
-ghost use Rattle.weave_engine.specs.Weaves.{FirstOpen, RunsAllRounds, RunsSomeRounds, earlier_of};
+ghost use Rattle.weave_engine.specs.FirstOpen.{FirstOpen, earlier_of};
+ghost use Rattle.weave_engine.specs.Weaves.{RunsAllRounds, RunsSomeRounds};
 
 use crate::turning::{Turned, turn_and_put};
 use core_views::Line;

@@ -44,7 +44,8 @@ pub enum Turned {
 pub fn take_turn<S: Stepper>(s: &mut S) -> Result<Turn<()>, NoMemory>
     requires left { length (S.seat s.old).hand.answers < length (S.seat s.old).hand.lines }
     ensures turns { IfOk result (λ turn. TurnsLine (turn_told turn (S.seat s.old).hand (S.seat s.new).hand) (S.seat s.old) (S.seat s.new)) }
-    ensures says { IfOk result (λ turn. Says (turn_told turn (S.seat s.old).hand (S.seat s.new).hand) (line_of (S.seat s.old).hand) (S.seat s.old).hand (S.seat s.new).hand) }
+    ensures says { IfOk result (λ turn. Says (turn_told turn (S.seat s.old).hand (S.seat s.new).hand) (line_of (S.seat s.old).hand)
+        (S.seat s.old).hand (S.seat s.new).hand) }
     ensures hand { IsSameHand (S.seat s.old).hand (S.seat s.new).hand }
     ensures begins { OnErr result ((S.seat s.old).hand.state.place ≡ Between) }
     ensures refused { OnErr result (((S.seat s.new).hand ≡ (S.seat s.old).hand) × ((S.seat s.new).tells ≡ (S.seat s.old).tells)) }

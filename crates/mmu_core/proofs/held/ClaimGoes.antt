@@ -51,7 +51,8 @@ claim_is part.GiveOld t v = refl
 claim_is _ t v = refl
 
 -- the claim behind a load of word 0, whoever makes it
-pub loaded_first : (z : Sizes) (k : Kind) (t : Topics) (v : ℕ) → k.code ≡ code_of kind.Control → k.word ≡ place (map_of z) area.PoolMap 0 → 0 < words_of_bits z.pool → (topics_after z k t v).claim ≡ record { at = if v == 0 then 1 else 0; seen = v }
+pub loaded_first : (z : Sizes) (k : Kind) (t : Topics) (v : ℕ) → k.code ≡ code_of kind.Control → k.word ≡ place (map_of z) area.PoolMap 0
+    → 0 < words_of_bits z.pool → (topics_after z k t v).claim ≡ record { at = if v == 0 then 1 else 0; seen = v }
 unfolding topics_after
 loaded_first z k t v code at there =
     ap (λ c. (topics_by (kind_named c) z k t v).claim) code ∙ ap (λ word. (controlled z word t v).claim) at
@@ -77,14 +78,17 @@ at_in actor w = (hand_in mmu w actor).topics.claim.at
 -- its own step as it sees it
 pub at_behind : (w : World Held) (s : Step Kind) → s.actor < length w.hands
     → at_in s.actor (effect mmu w s) ≡ (topics_after (hand_in mmu w s.actor).state.sizes s.kind (hand_in mmu w s.actor).topics (answered mmu w s.kind)).claim.at
-at_behind w s there = ap (λ (x : Held). x.topics.claim.at) (own_hand w s there) ∙ ap (λ (t : Topics). t.claim.at) (next_topics (hand_in mmu w s.actor) s.kind (answered mmu w s.kind))
+at_behind w s there =
+    ap (λ (x : Held). x.topics.claim.at) (own_hand w s there)
+    ∙ ap (λ (t : Topics). t.claim.at) (next_topics (hand_in mmu w s.actor) s.kind (answered mmu w s.kind))
 
 -- A claim has come as far as before, or is over, or is behind a word that the step found 0.
 abbrev pub GoesTo : Sizes → ℕ → World Held → Step Kind → ℕ → ℕ → Type 0
 GoesTo z actor w s at behind = (behind ≡ at) ⊎ ((behind ≡ 0) ⊎ ((behind ≡ at + 1) × FindsNoneFree z actor at w s))
 
 -- A step of a part that is no load of word 0.
-part_goes : (z : Sizes) (actor : ℕ) (w : World Held) (s : Step Kind) (h : Held) (step : PartStep) (note : ℕ) → s.actor ≡ actor → h.topics.owned ≡ (hand_in mmu w actor).topics.owned → h.state.sizes ≡ z → s.kind ≡ part_kind h step note → PartNeeds step h → (LoadsMap z actor 0 s → ⊥)
+part_goes : (z : Sizes) (actor : ℕ) (w : World Held) (s : Step Kind) (h : Held) (step : PartStep) (note : ℕ) → s.actor ≡ actor → h.topics.owned
+    ≡ (hand_in mmu w actor).topics.owned → h.state.sizes ≡ z → s.kind ≡ part_kind h step note → PartNeeds step h → (LoadsMap z actor 0 s → ⊥)
     → GoesTo z actor w s h.topics.claim.at (claim_behind step h.topics.claim (answered mmu w s.kind)).at
 part_goes z actor w s h (part.Map word) note own hand same is N no_ = by N.2
   where
@@ -92,7 +96,11 @@ part_goes z actor w s h (part.Map word) note own hand same is N no_ = by N.2
     v = answered mmu w s.kind
 
     loads_ : (j : ℕ) → word ≡ j → LoadsMap z actor j s
-    loads_ j e = record { by_actor = own; loads = ap (λ (k : Kind). k.code) is; at = ap (λ (k : Kind). k.word) is ∙ (ap (λ (y : Sizes). place (map_of y) area.PoolMap word) same ∙ ap (place (map_of z) area.PoolMap) e) }
+    loads_ j e = record {
+      by_actor = own;
+      loads = ap (λ (k : Kind). k.code) is;
+      at = ap (λ (k : Kind). k.word) is ∙ (ap (λ (y : Sizes). place (map_of y) area.PoolMap word) same ∙ ap (place (map_of z) area.PoolMap) e);
+    }
 
     found : word ≡ h.topics.claim.at → (b : Bool) → (b ≡ true → v ≡ 0) → GoesTo z actor w s h.topics.claim.at (word + (if b then 1 else 0))
     found e true zero_ = inr (inr (ap (λ n. n + 1) e, record { load = loads_ h.topics.claim.at e; none_free = zero_ refl; owns_none = sym hand ∙ N.0 }))
@@ -111,7 +119,8 @@ part_goes z actor w s h part.GiveOld note own hand same is N no_ = inl refl
 part_goes z actor w s h _ note own hand same is N no_ = inl refl
 
 -- Any step that isn't the actor's load of word 0.
-pub goes : (z : Sizes) (actor : ℕ) (w : World Held) (s : Step Kind) → IsSound z w → May mmu w s → (LoadsMap z actor 0 s → ⊥) → GoesTo z actor w s (at_in actor w) (at_in actor (effect mmu w s))
+pub goes : (z : Sizes) (actor : ℕ) (w : World Held) (s : Step Kind) → IsSound z w → May mmu w s → (LoadsMap z actor 0 s → ⊥)
+    → GoesTo z actor w s (at_in actor w) (at_in actor (effect mmu w s))
 goes z actor w s G may no_ = by (same_or actor s.actor)
   where
     h : Held
@@ -123,12 +132,14 @@ goes z actor w s G may no_ = by (same_or actor s.actor)
     there : s.actor < actors_of z
     there = subst (λ n. s.actor < n) G.hands may.there
 
-    of_own : s.actor ≡ actor → IsPartKind h s.kind ⊎ IsQuiet h.state.sizes h.topics s.kind → GoesTo z actor w s h.topics.claim.at (at_in s.actor (effect mmu w s))
+    of_own : s.actor ≡ actor → IsPartKind h s.kind ⊎ IsQuiet h.state.sizes h.topics s.kind
+        → GoesTo z actor w s h.topics.claim.at (at_in s.actor (effect mmu w s))
     of_own own (inl N) =
         let at_is : at_in s.actor (effect mmu w s) ≡ (claim_behind N.step h.topics.claim v).at =
         ap (λ (x : Held). x.topics.claim.at) (own_hand w s may.there) ∙ ap (λ (k : Kind). (next h k v).topics.claim.at) N.is
         ∙ ap (λ (t : Topics). t.claim.at) (topics_behind h N.step N.note v N.needs) ∙ ap (λ (c : MapClaim). c.at) (claim_is N.step h.topics v) in
-        subst (GoesTo z actor w s h.topics.claim.at) (sym at_is) (part_goes z actor w s h N.step N.note own (ap (λ i. (hand_in mmu w i).topics.owned) own) (G.holds.lines s.actor there).sizes N.is N.needs no_)
+        subst (GoesTo z actor w s h.topics.claim.at) (sym at_is) (part_goes z actor w s h N.step N.note own
+        (ap (λ i. (hand_in mmu w i).topics.owned) own) (G.holds.lines s.actor there).sizes N.is N.needs no_)
     of_own own (inr Q) = inl (at_behind w s may.there ∙ ap (λ (t : Topics). t.claim.at) (Q.topics v))
 
     mine : s.actor ≡ actor → GoesTo z actor w s h.topics.claim.at (at_in s.actor (effect mmu w s))
@@ -150,7 +161,8 @@ sees_owns_none h _ N sees =
     absurd (omega (arith, none, one))
 
 -- Who loads word 0 of the map owns no page.
-pub first_owns_none : (z : Sizes) (h : Held) (k : Kind) → h.state.sizes ≡ z → 0 < words_of_bits z.pool → Enabled h k → k.code ≡ code_of kind.Control → k.word ≡ place (map_of z) area.PoolMap 0 → h.topics.owned ≡ None
+pub first_owns_none : (z : Sizes) (h : Held) (k : Kind) → h.state.sizes ≡ z → 0 < words_of_bits z.pool → Enabled h k → k.code ≡ code_of kind.Control
+    → k.word ≡ place (map_of z) area.PoolMap 0 → h.topics.owned ≡ None
 first_owns_none z h k same words enabled code at = by (step_kind h k enabled)
   where
     seen_is : (v : ℕ) → (topics_after h.state.sizes k h.topics v).claim.seen ≡ v
@@ -159,7 +171,8 @@ first_owns_none z h k same words enabled code at = by (step_kind h k enabled)
     by : IsPartKind h k ⊎ IsQuiet h.state.sizes h.topics k → h.topics.owned ≡ None
     by (inl N) =
         sees_owns_none h N.step N.needs
-        (λ v. ap (λ (c : MapClaim). c.seen) (sym (claim_is N.step h.topics v)) ∙ ap (λ (t : Topics). t.claim.seen) (sym (topics_behind h N.step N.note v N.needs)) ∙ ap (λ (x : Kind). (next h x v).topics.claim.seen) (sym N.is)
+        (λ v. ap (λ (c : MapClaim). c.seen) (sym (claim_is N.step h.topics v)) ∙ ap (λ (t : Topics). t.claim.seen)
+        (sym (topics_behind h N.step N.note v N.needs)) ∙ ap (λ (x : Kind). (next h x v).topics.claim.seen) (sym N.is)
         ∙ ap (λ (t : Topics). t.claim.seen) (next_topics h k v) ∙ seen_is v)
     by (inr Q) =
         let none : h.topics.claim.seen ≡ 0 = ap (λ (t : Topics). t.claim.seen) (sym (Q.topics 0)) ∙ seen_is 0 in

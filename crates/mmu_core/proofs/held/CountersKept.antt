@@ -26,7 +26,8 @@ use Rattle.mmu_core.specs.invariant.TopicsInvariant.{TopicsInvariant}
 use Rattle.part_steps.specs.StayTopics.{begun, is_loose, kept_search, let_go, may_walk, no_flush}
 use Rattle.part_steps.specs.WalkTopics.{gone_down, linked_page, swapped}
 use Rattle.part_steps.specs.PageTopics.{is_won, searched, searched_at}
-use Rattle.part_steps.specs.ControlTopics.{at_root, in_section}
+use Rattle.part_steps.specs.ControlTopics.{at_root}
+use Rattle.part_steps.specs.ControlBits.{in_section}
 use Rattle.mmu_core.specs.machine.View.{View, part_stepped, upd}
 use Rattle.core_views.specs.declared.topics.Flush.{Flush}
 use Rattle.mmu_core.proofs.held.InvalidationsKept.{count_few, counts_behind}
@@ -66,7 +67,8 @@ tried_seen : (b : Bool) (n : ℕ) → n < 2 ^ 64 → (if b then 0 else n) < 2 ^ 
 tried_seen true n lt = omega arith
 tried_seen false n lt = omega (arith, lt)
 
-pub all_count : (z : Sizes) (v : View) (a : ℕ) (h : Held) → TopicsInvariant z v → CountersPart z h.topics → (i : ℕ) → i < actors_of z → CountersPart z (upd v.hand a h i).topics
+pub all_count : (z : Sizes) (v : View) (a : ℕ) (h : Held) → TopicsInvariant z v → CountersPart z h.topics → (i : ℕ) → i < actors_of z
+    → CountersPart z (upd v.hand a h i).topics
 all_count z v a h I here = at_upd (λ i (k : Held). i < actors_of z → CountersPart z k.topics) v.hand a h (λ lt. here) (λ i ne. I.counters i)
 
 -- The run of a walk's table is one of those of its level.
@@ -101,8 +103,8 @@ same_counts : (z : Sizes) (t s : Topics) → s.search.id ≡ t.search.id → s.c
 same_counts z t s id claim watched numbers flush walk C = walked_counts z t s id claim watched numbers flush (subst RunFits (sym walk) C.run) C
 
 -- a hand that keeps its counters but those of the invalidations and of the flush
-numbered_counts : (z : Sizes) (t s : Topics) → s.search.id ≡ t.search.id → s.claim ≡ t.claim → s.watched ≡ t.watched → s.walk ≡ t.walk → Numbers z s.invalidations → s.flush.asked ≤ z.vcpus
-    → CountersPart z t → CountersPart z s
+numbered_counts : (z : Sizes) (t s : Topics) → s.search.id ≡ t.search.id → s.claim ≡ t.claim → s.watched ≡ t.watched → s.walk ≡ t.walk
+    → Numbers z s.invalidations → s.flush.asked ≤ z.vcpus → CountersPart z t → CountersPart z s
 numbered_counts z t s id claim watched walk numbers asked C = record {
   slots = omega (arith, id, C.slots);
   claim = subst (λ (c : MapClaim). c.at ≤ words_of_bits z.pool) (sym claim) C.claim;
@@ -116,8 +118,8 @@ numbered_counts z t s id claim watched walk numbers asked C = record {
 }
 
 -- a hand that keeps its counters but those of the slots, of the claim and of the watch
-other_counts : (z : Sizes) (t s : Topics) → s.search.id ≤ 32 → s.claim.at ≤ words_of_bits z.pool → s.claim.seen < 2 ^ 64 → s.watched ≤ actors_of z → s.walk ≡ t.walk → s.invalidations ≡ t.invalidations → s.flush ≡ t.flush
-    → CountersPart z t → CountersPart z s
+other_counts : (z : Sizes) (t s : Topics) → s.search.id ≤ 32 → s.claim.at ≤ words_of_bits z.pool → s.claim.seen < 2 ^ 64 → s.watched ≤ actors_of z
+    → s.walk ≡ t.walk → s.invalidations ≡ t.invalidations → s.flush ≡ t.flush → CountersPart z t → CountersPart z s
 other_counts z t s slots claim seen watched walk same flush C = record {
   slots = slots;
   claim = claim;
@@ -283,5 +285,6 @@ counters_behind z v a note (part.Leaf gfn) = λ S I.
 counters_behind z v a note _ = λ S I.
     all_count z v a _ I (same_counts z (v.hand a).topics _ refl refl refl (refl, refl, refl, refl) refl refl (I.counters a S.there))
 
-pub counters_kept : (z : Sizes) (v : View) (a : ℕ) (step : PartStep) (note : ℕ) → IsPart z v a step → TopicsInvariant z v → CountersAt z (part_stepped a step note v)
+pub counters_kept : (z : Sizes) (v : View) (a : ℕ) (step : PartStep) (note : ℕ) → IsPart z v a step → TopicsInvariant z v
+    → CountersAt z (part_stepped a step note v)
 counters_kept z v a step note S I = behind_step (CountersAt z) z v a step note S (counters_behind z v a note step S I)

@@ -13,7 +13,7 @@ use Rattle.core_views.specs.declared.topics.Invalidated.{Invalidated}
 use Rattle.core_views.specs.declared.topics.Stay.{Stay}
 use Rattle.core_views.specs.declared.topics.Stay.TheVariants.{Outside, Guest, Section}
 use Rattle.spte_words.specs.Bits.{has_bit}
-use Rattle.part_steps.specs.ControlTopics.{guest_bits, has_to_flush, request_bit, section_bit}
+use Rattle.part_steps.specs.ControlBits.{guest_bits, has_to_flush, request_bit, section_bit}
 use Rattle.part_steps.specs.PartTasks.{all_but}
 use Rattle.part_steps.specs.StayTopics.{no_flush}
 use Rattle.mmu_core.specs.invariant.InvalidatedPart.{IsClean, IsFlushed, IsIn, may_use}

@@ -15,7 +15,7 @@ use Rattle.spte_words.specs.declared.area.Area.TheVariants as area
 use Rattle.part_steps.specs.declared.part_step.PartStep.{PartStep}
 use Rattle.part_steps.specs.declared.part_step.PartStep.TheVariants as part
 use Rattle.part_steps.specs.declared.task.Task.{Task}
-use Rattle.part_steps.specs.ControlTopics.{request_bit}
+use Rattle.part_steps.specs.ControlBits.{request_bit}
 use Rattle.part_steps.specs.PartTasks.{part_task}
 use Rattle.part_steps.specs.PartTopics.{part_topics}
 use Rattle.part_steps.specs.StayTopics.{no_flush}

@@ -1,10 +1,9 @@
 -- What was checked under the lock, of open invalidations: none is of the guest frame, so none is of its page.
-use Rattle.std.proofs.Common.{◌≡◌, ◌≢◌, ◌⊎◌, inl, inr, ◌+◌, ◌-◌, ◌<◌, ◌≤◌, ℕ, refl, sym, subst, ap, ◌∙◌, arith}
-use Rattle.std.specs.Prelude.{true, false, Some, nat_le, ◌&&◌, nat_lt}
+use Rattle.std.proofs.Common.{◌≡◌, ◌≢◌, ◌⊎◌, inl, inr, ◌+◌, ◌-◌, ◌<◌, ◌≤◌, ℕ, sym, subst, ap, ◌∙◌, arith}
+use Rattle.std.specs.Prelude.{true, nat_le, ◌&&◌, nat_lt}
 use Rattle.std.proofs.lemmas.Bool.Decides.{nat_tests}
 use Rattle.core_views.specs.declared.sizes.Sizes.{Sizes}
 use Rattle.core_views.specs.declared.topics.Invalidations.{Invalidations}
-use Rattle.core_views.specs.declared.topics.HostLook.{HostLook}
 use Rattle.core_views.specs.declared.topics.Topics.{Topics}
 use Rattle.core_views.specs.declared.trace.Slot.{Slot as SlotOf}
 use Rattle.core_views.specs.Sizes.{actors_of}
@@ -12,7 +11,7 @@ use Rattle.core_views.specs.Slots.{contains, has_host_page}
 use Rattle.spte_words.specs.declared.area.Area.TheVariants as area
 use Rattle.part_steps.specs.InvalidationHoldings.{knows_count}
 use Rattle.part_steps.specs.InvalidationRange.{gfn_behind}
-use Rattle.part_steps.specs.PartHoldings.{IsFresh, LookedUp, MayEnter}
+use Rattle.part_steps.specs.PartHoldings.{IsFresh, MayEnter}
 use Rattle.part_steps.specs.PartTasks.{word_looked}
 use Rattle.part_steps.specs.SlotWords.{page_of}
 use Rattle.part_steps.specs.StayTopics.{has_lock}
@@ -52,7 +51,8 @@ fresh_in_none z v a i gfn I there lt lock fresh is_open is_in = by fresh.none_ov
     by (inr (inr behind)) = let end_ = known.1 in let to = range.1 in omega (arith, behind, end_, to)
 
 -- A slot that has the guest frame gives it to the page behind it.
-pub behind_it : (slot : SlotOf) (gfn : ℕ) → contains gfn slot ≡ true → (has_host_page (page_of slot gfn) slot ≡ true) × (gfn ≡ gfn_behind (page_of slot gfn) slot)
+pub behind_it : (slot : SlotOf) (gfn : ℕ) → contains gfn slot ≡ true
+    → (has_host_page (page_of slot gfn) slot ≡ true) × (gfn ≡ gfn_behind (page_of slot gfn) slot)
 behind_it slot gfn holds = by slot.base slot.pages slot.host holds
   where
     by : (base pages host : ℕ) → (nat_le base gfn && nat_lt gfn (base + pages)) ≡ true

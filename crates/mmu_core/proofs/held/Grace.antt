@@ -1,7 +1,6 @@
 -- Whom a watch has behind it was seen outside, and who comes from outside holds nothing that was loaded before.
 use Rattle.std.proofs.Common.{◌≡◌, ◌≢◌, ◌⊎◌, inl, inr, ◌+◌, ◌<◌, ◌≤◌, ℕ, List, [], ◌∷◌, length, refl, sym, subst, ap, ◌∙◌, arith}
-use Rattle.std.specs.Prelude.{Bool, true, false, ◌==◌, not, if◌then◌else◌, None}
-use Rattle.std.proofs.Math.Logic.{∥∥₁_map}
+use Rattle.std.specs.Prelude.{Bool, true, false, ◌==◌, not, if◌then◌else◌}
 use Rattle.std.proofs.lemmas.Bool.Decides.{nat_tests}
 use Rattle.std.proofs.lemmas.List.{get_or-set_other, get_or-set_same}
 use Rattle.core_views.specs.declared.kind.Kind.{Kind}
@@ -19,7 +18,7 @@ use Rattle.spte_words.specs.Areas.{place}
 use Rattle.part_steps.specs.declared.part_step.PartStep.{PartStep}
 use Rattle.part_steps.specs.declared.part_step.PartStep.TheVariants as part
 use Rattle.mmu_core.specs.machine.Enabled.{mmu}
-use Rattle.mmu_core.specs.invariant.Grace.{BeganEmpty, BeginNoWatch, IsLook, SawOutside, SectionsBeginEmpty, WatchedWasOutside, topics_in}
+use Rattle.mmu_core.specs.invariant.Grace.{BeginNoWatch, IsLook, SawOutside, WatchedWasOutside, topics_in}
 use Rattle.mmu_core.specs.invariant.Laws.{IsSound}
 use Rattle.mmu_core.specs.machine.Machine.{Legal, May, Step, World, answered, effect, hand_in, run}
 use Rattle.part_steps.specs.PartTasks.{own_index, part_kind, part_task}
@@ -29,12 +28,10 @@ use Rattle.part_steps.specs.PartTopics.{part_topics}
 use Rattle.mmu_core.specs.machine.Steps.{next, nobody}
 use Rattle.part_steps.specs.Tasks.{map_of}
 use Rattle.part_steps.specs.StayTopics.{is_outside}
-use Rattle.part_steps.specs.ControlTopics.{in_section}
+use Rattle.part_steps.specs.ControlBits.{in_section}
 use Rattle.mmu_core.specs.machine.View.{word_in}
-use Rattle.mmu_core.specs.machine.Worlds.{Reachable}
 use Rattle.mmu_core.proofs.invariant.AloneLaws.{part_found}
 use Rattle.mmu_core.proofs.machine.Columns.{same_or}
-use Rattle.mmu_core.proofs.machine.Extend.{goes_on, hands_of_effect}
 use Rattle.mmu_core.proofs.machine.LineParts.{IsPartKind, IsQuiet, step_kind}
 use Rattle.mmu_core.proofs.machine.NextTopics.{next_topics, topics_behind}
 use Rattle.mmu_core.proofs.start.Starts.{hand_is, start_good}
@@ -42,11 +39,12 @@ use Rattle.mmu_core.proofs.held.StateTells.{word_tells}
 use Rattle.mmu_core.proofs.machine.Worlds.{good_step}
 
 -- the hands behind a step
-hand_here : (w : World Held) (s : Step Kind) → s.actor < length w.hands → hand_in mmu (effect mmu w s) s.actor ≡ next (hand_in mmu w s.actor) s.kind (answered mmu w s.kind)
+pub hand_here : (w : World Held) (s : Step Kind) → s.actor < length w.hands
+    → hand_in mmu (effect mmu w s) s.actor ≡ next (hand_in mmu w s.actor) s.kind (answered mmu w s.kind)
 unfolding effect
 hand_here w s there = get_or-set_same w.hands s.actor _ nobody there
 
-hand_there : (w : World Held) (s : Step Kind) (i : ℕ) → i ≢ s.actor → hand_in mmu (effect mmu w s) i ≡ hand_in mmu w i
+pub hand_there : (w : World Held) (s : Step Kind) (i : ℕ) → i ≢ s.actor → hand_in mmu (effect mmu w s) i ≡ hand_in mmu w i
 unfolding effect
 hand_there w s i ne = get_or-set_other w.hands s.actor i _ nobody ne
 
@@ -80,8 +78,8 @@ abbrev OneLook : Sizes → World Held → Step Kind → ℕ → ℕ → Type 0
 OneLook z w s a i = i ≢ a → i < (topics_in (effect mmu w s) a).watched
     → (IsLook z a i s × ((topics_in w i).stay ≡ Outside)) ⊎ ((i < (topics_in w a).watched) × (IsLook z a (next_watched a 0) s → ⊥))
 
-watch_look : (z : Sizes) (w : World Held) (s : Step Kind) (i j note : ℕ) → IsSound z w → May mmu w s → s.kind ≡ part_kind (hand_in mmu w s.actor) (part.Watch j) note → PartNeeds (part.Watch j) (hand_in mmu w s.actor)
-    → OneLook z w s s.actor i
+watch_look : (z : Sizes) (w : World Held) (s : Step Kind) (i j note : ℕ) → IsSound z w → May mmu w s
+    → s.kind ≡ part_kind (hand_in mmu w s.actor) (part.Watch j) note → PartNeeds (part.Watch j) (hand_in mmu w s.actor) → OneLook z w s s.actor i
 watch_look z w s i j note G may is N ne lt = by (in_section found) refl (same_or i j)
   where
     a : ℕ
@@ -112,7 +110,8 @@ watch_look z w s i j note G may is N ne lt = by (in_section found) refl (same_or
     looks = record { by = refl; watch = ap (λ (k : Kind). k.code) is; word = word }
 
     watched : (topics_in (effect mmu w s) a).watched ≡ j + (if in_section found then 0 else 1)
-    watched = ap (λ (x : Held). x.topics.watched) (hand_here w s may.there) ∙ ap (λ (k : Kind). (next h k found).topics.watched) is ∙ ap (λ (t : Topics). t.watched) (topics_behind h (part.Watch j) note found N)
+    watched = ap (λ (x : Held). x.topics.watched) (hand_here w s may.there) ∙ ap (λ (k : Kind). (next h k found).topics.watched) is
+        ∙ ap (λ (t : Topics). t.watched) (topics_behind h (part.Watch j) note found N)
 
     below : i < j → i < h.topics.watched
     below less = from N.2
@@ -127,12 +126,19 @@ watch_look z w s i j note G may is N ne lt = by (in_section found) refl (same_or
         let none = below_next a 0 i (subst (λ n. i < n) e less) ne in
         absurd (omega (arith, none))
 
-    by : (b : Bool) → in_section found ≡ b → (i ≡ j) ⊎ (i ≢ j) → (IsLook z a i s × ((topics_in w i).stay ≡ Outside)) ⊎ ((i < h.topics.watched) × (IsLook z a (next_watched a 0) s → ⊥))
+    by : (b : Bool) → in_section found ≡ b → (i ≡ j) ⊎ (i ≢ j)
+        → (IsLook z a i s × ((topics_in w i).stay ≡ Outside)) ⊎ ((i < h.topics.watched) × (IsLook z a (next_watched a 0) s → ⊥))
     by true inside (inl e) = let u = watched ∙ ap (λ b. j + (if b then 0 else 1)) inside in absurd (omega (arith, u, lt, e))
-    by false clear (inl e) = subst (λ n. (IsLook z a n s × ((topics_in w n).stay ≡ Outside)) ⊎ ((n < h.topics.watched) × (IsLook z a (next_watched a 0) s → ⊥))) (sym e)
-        (inl (looks, outside_is (topics_in w j).stay (sym (word_tells z w j G (subst (λ (y : Sizes). j < actors_of y) same N.0)) ∙ ap in_section (sym found_is) ∙ clear)))
-    by true inside (inr other) = let u = watched ∙ ap (λ b. j + (if b then 0 else 1)) inside in let less : i < j = omega (arith, u, lt, other) in inr (below less, no_first less)
-    by false clear (inr other) = let u = watched ∙ ap (λ b. j + (if b then 0 else 1)) clear in let less : i < j = omega (arith, u, lt, other) in inr (below less, no_first less)
+    by false clear (inl e) =
+        subst (λ n. (IsLook z a n s × ((topics_in w n).stay ≡ Outside)) ⊎ ((n < h.topics.watched) × (IsLook z a (next_watched a 0) s → ⊥))) (sym e)
+        (inl (
+          looks,
+          outside_is (topics_in w j).stay (sym (word_tells z w j G (subst (λ (y : Sizes). j < actors_of y) same N.0)) ∙ ap in_section (sym found_is) ∙ clear),
+        ))
+    by true inside (inr other) =
+        let u = watched ∙ ap (λ b. j + (if b then 0 else 1)) inside in let less : i < j = omega (arith, u, lt, other) in inr (below less, no_first less)
+    by false clear (inr other) =
+        let u = watched ∙ ap (λ b. j + (if b then 0 else 1)) clear in let less : i < j = omega (arith, u, lt, other) in inr (below less, no_first less)
 
 own_look : (z : Sizes) (w : World Held) (s : Step Kind) (i : ℕ) → IsSound z w → May mmu w s → OneLook z w s s.actor i
 own_look z w s i G may ne lt = by (step_kind h s.kind may.enabled)
@@ -151,17 +157,23 @@ own_look z w s i G may ne lt = by (step_kind h s.kind may.enabled)
     part_look N (inl (j, e)) = watch_look z w s i j N.note G may (N.is ∙ ap (λ x. part_kind h x N.note) e) (subst (λ x. PartNeeds x h) e N.needs) ne lt
     part_look N (inr no_look) =
         let v = answered mmu w s.kind in
-        let topics : (topics_in (effect mmu w s) s.actor) ≡ part_topics N.step h.topics v = ap (λ (x : Held). x.topics) behind ∙ ap (λ (k : Kind). (next h k v).topics) N.is ∙ topics_behind h N.step N.note v N.needs in
+        let topics : (topics_in (effect mmu w s) s.actor) ≡ part_topics N.step h.topics v =
+        ap (λ (x : Held). x.topics) behind ∙ ap (λ (k : Kind). (next h k v).topics) N.is ∙ topics_behind h N.step N.note v N.needs in
         inr (
           below (subst (λ (t : Topics). i < t.watched) topics lt) (no_look.watched h.topics v),
           λ L. no_look.code (own_index h) N.note h.topics (sym (ap (λ (k : Kind). k.code) N.is) ∙ L.watch),
         )
 
-    by : IsPartKind h s.kind ⊎ IsQuiet h.state.sizes h.topics s.kind → (IsLook z s.actor i s × ((topics_in w i).stay ≡ Outside)) ⊎ ((i < h.topics.watched) × (IsLook z s.actor (next_watched s.actor 0) s → ⊥))
+    by : IsPartKind h s.kind ⊎ IsQuiet h.state.sizes h.topics s.kind
+        → (IsLook z s.actor i s × ((topics_in w i).stay ≡ Outside)) ⊎ ((i < h.topics.watched) × (IsLook z s.actor (next_watched s.actor 0) s → ⊥))
     by (inl N) = part_look N (look_or_not N.step)
     by (inr Q) =
         let v = answered mmu w s.kind in
-        inr (subst (λ n. i < n) (ap (λ (x : Held). x.topics.watched) behind ∙ ap (λ (t : Topics). t.watched) (next_topics h s.kind v) ∙ ap (λ (t : Topics). t.watched) (Q.topics v)) lt, λ L. Q.code L.watch)
+        inr (
+          subst (λ n. i < n) (ap (λ (x : Held). x.topics.watched) behind ∙ ap (λ (t : Topics). t.watched) (next_topics h s.kind v)
+              ∙ ap (λ (t : Topics). t.watched) (Q.topics v)) lt,
+          λ L. Q.code L.watch,
+        )
 
 one_look : (z : Sizes) (w : World Held) (s : Step Kind) (a i : ℕ) → IsSound z w → May mmu w s → OneLook z w s a i
 one_look z w s a i G may = by (same_or a s.actor)
@@ -171,8 +183,8 @@ one_look z w s a i G may = by (same_or a s.actor)
     by (inr other) = λ ne lt. inr (subst (λ (x : Held). i < x.topics.watched) (hand_there w s a other) lt, λ L. other (sym L.by))
 
 -- What the steps made of a watch: they have the look that saw the actor outside, or it was watched before, and no watch begins in them.
-watched_or_before : (z : Sizes) (w : World Held) (ss : List (Step Kind)) (a i : ℕ) → IsSound z w → Legal mmu w ss → i ≢ a → i < (topics_in (run mmu w ss) a).watched
-    → SawOutside z w a i ss ⊎ ((i < (topics_in w a).watched) × BeginNoWatch z a ss)
+watched_or_before : (z : Sizes) (w : World Held) (ss : List (Step Kind)) (a i : ℕ) → IsSound z w → Legal mmu w ss → i ≢ a
+    → i < (topics_in (run mmu w ss) a).watched → SawOutside z w a i ss ⊎ ((i < (topics_in w a).watched) × BeginNoWatch z a ss)
 watched_or_before z w [] a i G legal ne lt = inr (lt, tt)
 watched_or_before z w (s ∷ ss) a i G legal ne lt = by (watched_or_before z (effect mmu w s) ss a i (good_step z w s G legal.0) legal.1 ne lt)
   where
@@ -181,8 +193,17 @@ watched_or_before z w (s ∷ ss) a i G legal ne lt = by (watched_or_before z (ef
     first none (inl look) = inl (record { before = []; look = s; later = ss; split = refl; looks = look.0; outside = look.1; same_watch = none })
     first none (inr kept) = inr (kept.0, (kept.1, none))
 
-    by : SawOutside z (effect mmu w s) a i ss ⊎ ((i < (topics_in (effect mmu w s) a).watched) × BeginNoWatch z a ss) → SawOutside z w a i (s ∷ ss) ⊎ ((i < (topics_in w a).watched) × BeginNoWatch z a (s ∷ ss))
-    by (inl S) = inl (record { before = s ∷ S.before; look = S.look; later = S.later; split = ap (λ ts. s ∷ ts) S.split; looks = S.looks; outside = S.outside; same_watch = S.same_watch })
+    by : SawOutside z (effect mmu w s) a i ss ⊎ ((i < (topics_in (effect mmu w s) a).watched) × BeginNoWatch z a ss)
+        → SawOutside z w a i (s ∷ ss) ⊎ ((i < (topics_in w a).watched) × BeginNoWatch z a (s ∷ ss))
+    by (inl S) = inl (record {
+      before = s ∷ S.before;
+      look = S.look;
+      later = S.later;
+      split = ap (λ ts. s ∷ ts) S.split;
+      looks = S.looks;
+      outside = S.outside;
+      same_watch = S.same_watch;
+    })
     by (inr kept) = first kept.1 (one_look z w s a i G legal.0 ne kept.0)
 
 pub watched_was_outside : WatchedWasOutside
@@ -191,64 +212,3 @@ watched_was_outside z lines w ss a i start legal there lt ne = by (watched_or_be
     by : SawOutside z w a i ss ⊎ ((i < (topics_in w a).watched) × BeginNoWatch z a ss) → SawOutside z w a i ss
     by (inl S) = S
     by (inr kept) = let none = ap (λ (x : Held). x.topics.watched) (hand_is z lines w a start there) in absurd (omega (arith, none, kept.0))
-
--- The actor comes from outside, and holds nothing.
-record IsEmptyInside (t : Topics) : Type 0 where
-  inside : is_outside t.stay ≡ false
-  no_table : t.walk.level ≡ 0
-  no_set : t.search.set ≡ None
-
-part_comes : (step : PartStep) (t : Topics) (v : ℕ) → t.stay ≡ Outside → ((part_topics step t v).stay ≡ Outside) ⊎ IsEmptyInside (part_topics step t v)
-part_comes part.Enter t v out = inr (record { inside = refl; no_table = refl; no_set = refl })
-part_comes part.Begin t v out = inr (record { inside = refl; no_table = refl; no_set = refl })
-part_comes part.Leave t v out = inl refl
-part_comes part.End t v out = inl refl
-part_comes _ t v out = inl out
-
-own_comes : (w : World Held) (s : Step Kind) → May mmu w s → (topics_in w s.actor).stay ≡ Outside
-    → ((topics_in (effect mmu w s) s.actor).stay ≡ Outside) ⊎ IsEmptyInside (topics_in (effect mmu w s) s.actor)
-own_comes w s may out = by (step_kind h s.kind may.enabled)
-  where
-    h : Held
-    h = hand_in mmu w s.actor
-
-    v : ℕ
-    v = answered mmu w s.kind
-
-    by : IsPartKind h s.kind ⊎ IsQuiet h.state.sizes h.topics s.kind → ((topics_in (effect mmu w s) s.actor).stay ≡ Outside) ⊎ IsEmptyInside (topics_in (effect mmu w s) s.actor)
-    by (inl N) =
-        let topics : (topics_in (effect mmu w s) s.actor) ≡ part_topics N.step h.topics v = ap (λ (x : Held). x.topics) (hand_here w s may.there) ∙ ap (λ (k : Kind). (next h k v).topics) N.is ∙ topics_behind h N.step N.note v N.needs in
-        subst (λ t. (t.stay ≡ Outside) ⊎ IsEmptyInside t) (sym topics) (part_comes N.step h.topics v out)
-    by (inr Q) = inl (ap (λ (x : Held). x.topics.stay) (hand_here w s may.there) ∙ ap (λ (t : Topics). t.stay) (next_topics h s.kind v) ∙ ap (λ (t : Topics). t.stay) (Q.topics v) ∙ out)
-
--- An actor that was outside is so behind a step, or this step is its own, and it holds nothing inside.
-abbrev Comes : World Held → Step Kind → ℕ → Type 0
-Comes w s i = (topics_in w i).stay ≡ Outside → ((topics_in (effect mmu w s) i).stay ≡ Outside) ⊎ ((s.actor ≡ i) × IsEmptyInside (topics_in (effect mmu w s) i))
-
-comes : (w : World Held) (s : Step Kind) (i : ℕ) → May mmu w s → Comes w s i
-comes w s i may = by (same_or i s.actor)
-  where
-    own : Comes w s s.actor
-    own out = or (own_comes w s may out)
-      where
-        or : ((topics_in (effect mmu w s) s.actor).stay ≡ Outside) ⊎ IsEmptyInside (topics_in (effect mmu w s) s.actor) → ((topics_in (effect mmu w s) s.actor).stay ≡ Outside) ⊎ ((s.actor ≡ s.actor) × IsEmptyInside (topics_in (effect mmu w s) s.actor))
-        or (inl still) = inl still
-        or (inr empty) = inr (refl, empty)
-
-    by : (i ≡ s.actor) ⊎ (i ≢ s.actor) → Comes w s i
-    by (inl e) = subst (λ x. Comes w s x) (sym e) own
-    by (inr other) = λ out. inl (ap (λ (x : Held). x.topics.stay) (hand_there w s i other) ∙ out)
-
-reached_behind : (w : World Held) (s : Step Kind) → May mmu w s → ∥ Reachable w ∥₁ → ∥ Reachable (effect mmu w s) ∥₁
-reached_behind w s may reached = ∥∥₁_map reached (λ r. record { sizes = r.sizes; lines = r.lines; start = r.start; is_start = r.is_start; leads = goes_on mmu r.start w s r.leads may })
-
-pub sections_begin_empty : SectionsBeginEmpty
-sections_begin_empty w [] i reached legal there out inside = absurd (inside out)
-sections_begin_empty w (s ∷ ss) i reached legal there out inside =
-    by (λ still. sections_begin_empty (effect mmu w s) ss i (reached_behind w s legal.0 reached) legal.1 (subst (λ n. i < n) (sym (hands_of_effect mmu w s)) there) still inside) (comes w s i legal.0 out)
-  where
-    by : ((topics_in (effect mmu w s) i).stay ≡ Outside → BeganEmpty (effect mmu w s) i ss) → ((topics_in (effect mmu w s) i).stay ≡ Outside) ⊎ ((s.actor ≡ i) × IsEmptyInside (topics_in (effect mmu w s) i)) → BeganEmpty w i (s ∷ ss)
-    by later (inl still) =
-        let B = later still in
-        record { before = s ∷ B.before; begin = B.begin; later = B.later; split = ap (λ ts. s ∷ ts) B.split; by = B.by; outside = B.outside; inside = B.inside; no_table = B.no_table; no_set = B.no_set }
-    by later (inr came) = record { before = []; begin = s; later = ss; split = refl; by = came.0; outside = out; inside = came.1.inside; no_table = came.1.no_table; no_set = came.1.no_set }

@@ -1,5 +1,5 @@
 -- Each step of a part keeps what is said of what actors hold of tables and slot sets, and of their counters.
-use Rattle.std.proofs.Common.{◌≡◌, inl, inr, ◌+◌, ◌-◌, ◌*◌, ◌^◌, ◌<◌, ◌≤◌, ℕ, zero, suc, refl, sym, subst, ap, ◌∙◌, arith}
+use Rattle.std.proofs.Common.{◌≡◌, ◌-◌, ◌^◌, ◌<◌, ◌≤◌, ℕ, zero, suc, refl, sym, subst, ap, ◌∙◌, arith}
 use Rattle.std.specs.Prelude.{Bool, true, false, ◌==◌, ◌||◌, if◌then◌else◌, Option, Some, None, is_some}
 use Rattle.core_views.specs.declared.place.SlotField.{SlotField}
 use Rattle.core_views.specs.declared.place.SlotField.TheVariants as field
@@ -14,10 +14,8 @@ use Rattle.core_views.specs.declared.topics.Topics.{Topics}
 use Rattle.core_views.specs.Held.{Held}
 use Rattle.core_views.specs.Sizes.{actors_of}
 use Rattle.spte_words.specs.declared.area.Area.TheVariants as area
-use Rattle.spte_words.specs.declared.spte_kind.SpteKind.TheVariants.{Absent, Frozen, Leaf}
-use Rattle.spte_words.specs.Bits.{has_bit}
-use Rattle.spte_words.specs.Entries.{frozen_word, is_leaf_at, kind_of, table_word}
-use Rattle.spte_words.proofs.ReadsEntries.{kind_of_absent, kind_of_table}
+use Rattle.spte_words.specs.declared.spte_kind.SpteKind.TheVariants.{Leaf}
+use Rattle.spte_words.specs.Entries.{kind_of}
 use Rattle.part_steps.specs.declared.part_step.PartStep.{PartStep}
 use Rattle.part_steps.specs.declared.part_step.PartStep.TheVariants as part
 use Rattle.mmu_core.specs.invariant.HeldPart.{HeldPart}
@@ -27,8 +25,9 @@ use Rattle.mmu_core.specs.invariant.TopicsInvariant.{TopicsInvariant}
 use Rattle.part_steps.specs.StayTopics.{is_loose, begun, kept_search, let_go, may_search, may_walk, unchecked, no_flush}
 use Rattle.part_steps.specs.WalkTopics.{gone_down, linked_page}
 use Rattle.part_steps.specs.PageTopics.{searched, searched_at}
-use Rattle.part_steps.specs.ControlTopics.{at_root, at_set, has_writer}
-use Rattle.mmu_core.specs.invariant.TreePart.{EntryPart, Position, TreePart, Use, at, stands}
+use Rattle.part_steps.specs.ControlTopics.{at_root, at_set}
+use Rattle.part_steps.specs.ControlBits.{has_writer}
+use Rattle.mmu_core.specs.invariant.TreePart.{Position, at, stands}
 use Rattle.mmu_core.specs.invariant.TreePart.Use.{Under}
 use Rattle.mmu_core.specs.machine.View.{View, part_stepped, upd}
 use Rattle.mmu_core.proofs.machine.Columns.{at_upd, upd_same}
@@ -36,46 +35,14 @@ use Rattle.mmu_core.proofs.machine.PartStepping.{IsPart}
 use Rattle.mmu_core.proofs.words.PartTopics.{behind_step, part_behind}
 use Rattle.mmu_core.proofs.pages.PoolPages.{owned_there}
 use Rattle.mmu_core.proofs.pages.Standing.{at_spot, entry_now, position_below, spot_after, up_after, upd_if}
-use Rattle.mmu_core.proofs.pages.TreePlaces.{link_stands, root_stands}
+use Rattle.mmu_core.proofs.pages.TreePlaces.{root_stands}
 use Rattle.mmu_core.proofs.pages.UsesStay.{StaysStanding, stays_standing}
 use Rattle.mmu_core.proofs.pages.Owned.{table_owned}
+use Rattle.mmu_core.proofs.held.LeadsDown.{LeadsDown, entry_leads_down, link_leads_down, lowest_leads_down}
 
 -- what is said of what each hand holds, and of its counters, of a view
 abbrev pub HeldAt : Sizes → (ℕ → Option Position) → View → Type 0
 HeldAt z stands v = (i : ℕ) → i < actors_of z → HeldPart stands (v.hand i).topics
-
--- ---- Where the entries of tables lead to.
-
--- What an entry links to, if it is a link, stands one level below.
-abbrev pub LeadsDown : (ℕ → Option Position) → Position → ℕ → Option ℕ → Type 0
-LeadsDown stands p j None = Unit {0}
-LeadsDown stands p j (Some page) = (2 ≤ p.level) × (stands page ≡ Some (at (p.level - 1) (p.prefix * 512 + j)))
-
--- An entry of the lowest level is no link.
-lowest_leads : (w : ℕ) → linked_page (kind_of 1 w) ≡ None
-unfolding kind_of is_leaf_at
-lowest_leads w = by (w == frozen_word) (has_bit 11 w)
-  where
-    by : (frozen present : Bool) → linked_page (if frozen then Frozen else if present then Leaf else Absent) ≡ None
-    by true present = refl
-    by false true = refl
-    by false false = refl
-
-pub lowest_leads_down : (stands : ℕ → Option Position) (p : Position) (j w : ℕ) → p.level ≡ 1 → LeadsDown stands p j (linked_page (kind_of p.level w))
-lowest_leads_down stands p j w lowest = subst (LeadsDown stands p j) (sym (ap (λ level. linked_page (kind_of level w)) lowest ∙ lowest_leads w)) tt
-
--- A link leads to its page.
-pub link_leads_down : (stands : ℕ → Option Position) (p : Position) (j page : ℕ) → 2 ≤ p.level → page < 2 ^ 32 → stands page ≡ Some (at (p.level - 1) (p.prefix * 512 + j)) → LeadsDown stands p j (linked_page (kind_of p.level (table_word page)))
-link_leads_down stands p j page upper small below = subst (LeadsDown stands p j) (sym (ap linked_page (kind_of_table p.level page upper small))) (upper, below)
-
-pub entry_leads_down : {pages root set : ℕ} {role pool : ℕ → ℕ} {up : ℕ → Use} {spot : ℕ → Position} (T : TreePart pages root set role pool up spot) (k : ℕ) (p : Position) (j w : ℕ) → pages ≤ 2 ^ 32 → stands up spot k ≡ Some p → EntryPart up k p j w
-    → LeadsDown (stands up spot) p j (linked_page (kind_of p.level w))
-entry_leads_down {up = up} {spot = spot} T k p j w small at_k (inl absent) = subst (LeadsDown (stands up spot) p j) (sym (ap (λ x. linked_page (kind_of p.level x)) absent ∙ ap linked_page (kind_of_absent p.level))) tt
-entry_leads_down {up = up} {spot = spot} T k p j w small at_k (inr (inl link)) =
-    let below = link_stands T k p j w at_k link in
-    let there = T.there link.page (at (p.level - 1) (p.prefix * 512 + j)) below in
-    subst (λ x. LeadsDown (stands up spot) p j (linked_page (kind_of p.level x))) (sym link.is) (link_leads_down (stands up spot) p j link.page link.upper (omega (arith, small, there.0)) below)
-entry_leads_down {up = up} {spot = spot} T k p j w small at_k (inr (inr leaf)) = lowest_leads_down (stands up spot) p j w leaf.lowest
 
 -- ---- What is held behind each step, over plain topics.
 
@@ -86,7 +53,8 @@ never_or false e = cc
 begun_held : (stands : ℕ → Option Position) (stay : Stay) (t : Topics) → HeldPart stands (begun stay t)
 begun_held stands stay t = record { table = λ from. absurd (omega (arith, from)); no_table = λ f. refl; no_set = λ f. refl }
 
-shared_held : (stands : ℕ → Option Position) (t : Topics) (b : Bool) (w : ℕ) → t.hold ≡ Loose → HeldPart stands t → HeldPart stands (record t { hold = if b then Owing w else Shared; invalidations = unchecked t.invalidations })
+shared_held : (stands : ℕ → Option Position) (t : Topics) (b : Bool) (w : ℕ) → t.hold ≡ Loose → HeldPart stands t
+    → HeldPart stands (record t { hold = if b then Owing w else Shared; invalidations = unchecked t.invalidations })
 shared_held stands t true w is H = record {
   table = H.table;
   no_table = λ f. H.no_table (ap (λ (h : Hold). may_walk t.stay h) is ∙ f);
@@ -112,14 +80,18 @@ let_go_held stands t Outside H = record { table = λ from. absurd (omega (arith,
 let_go_held stands t Guest H = record { table = H.table; no_table = λ f. absurd (cc f); no_set = λ f. refl }
 let_go_held stands t Section H = record { table = H.table; no_table = λ f. absurd (cc f); no_set = λ f. absurd (cc f) }
 
-root_held : (root : ℕ) (stands : ℕ → Option Position) (t : Topics) → stands root ≡ Some (at 4 0) → HeldPart stands t → HeldPart stands (record t { walk = at_root (may_walk t.stay t.hold) t.walk root })
-root_held root stands t is H = record { table = by (may_walk t.stay t.hold); no_table = λ f. ap (λ (b : Bool). (at_root b t.walk root).level) f; no_set = H.no_set }
+root_held : (root : ℕ) (stands : ℕ → Option Position) (t : Topics) → stands root ≡ Some (at 4 0) → HeldPart stands t
+    → HeldPart stands (record t { walk = at_root (may_walk t.stay t.hold) t.walk root })
+root_held root stands t is H =
+    record { table = by (may_walk t.stay t.hold); no_table = λ f. ap (λ (b : Bool). (at_root b t.walk root).level) f; no_set = H.no_set }
   where
-    by : (b : Bool) → 1 ≤ (at_root b t.walk root).level → stands (table_page (at_root b t.walk root)) ≡ Some (at (at_root b t.walk root).level (at_root b t.walk root).prefix)
+    by : (b : Bool) → 1 ≤ (at_root b t.walk root).level
+        → stands (table_page (at_root b t.walk root)) ≡ Some (at (at_root b t.walk root).level (at_root b t.walk root).prefix)
     by true from = is
     by false from = absurd (omega (arith, from))
 
-slots_held : (slots : ℕ) (stands : ℕ → Option Position) (t : Topics) → HeldPart stands t → HeldPart stands (record t { search = at_set (may_search t.stay t.hold) t.search slots })
+slots_held : (slots : ℕ) (stands : ℕ → Option Position) (t : Topics) → HeldPart stands t
+    → HeldPart stands (record t { search = at_set (may_search t.stay t.hold) t.search slots })
 slots_held slots stands t H = record { table = H.table; no_table = H.no_table; no_set = λ f. ap (λ (b : Bool). (at_set b t.search slots).set) f }
 
 -- a search goes on in the same slot set
@@ -131,7 +103,8 @@ pub set_kept : (b : Bool) (s : SlotSearch) (v : ℕ) → (if b then searched s v
 set_kept true s v = searched_set s.next s v
 set_kept false s v = refl
 
-slot_held : (stands : ℕ → Option Position) (t : Topics) (b : Bool) (v : ℕ) → HeldPart stands t → HeldPart stands (record t { search = if b then searched t.search v else t.search })
+slot_held : (stands : ℕ → Option Position) (t : Topics) (b : Bool) (v : ℕ) → HeldPart stands t
+    → HeldPart stands (record t { search = if b then searched t.search v else t.search })
 slot_held stands t b v H = record {
   table = H.table;
   no_table = H.no_table;
@@ -139,20 +112,25 @@ slot_held stands t b v H = record {
 }
 
 -- a snapshot lets the search go, or leaves it
-snapshot_held : (stands : ℕ → Option Position) (t s : Topics) (b : Bool) → s.stay ≡ t.stay → s.hold ≡ t.hold → s.walk ≡ t.walk → s.search ≡ (if b then kept_search false t.search else t.search) → HeldPart stands t → HeldPart stands s
+snapshot_held : (stands : ℕ → Option Position) (t s : Topics) (b : Bool) → s.stay ≡ t.stay → s.hold ≡ t.hold → s.walk ≡ t.walk
+    → s.search ≡ (if b then kept_search false t.search else t.search) → HeldPart stands t → HeldPart stands s
 snapshot_held stands t s true stay hold walk search H = record {
   table = subst (λ (y : TableWalk). 1 ≤ y.level → stands (table_page y) ≡ Some (at y.level y.prefix)) (sym walk) H.table;
-  no_table = λ f. ap (λ (y : TableWalk). y.level) walk ∙ H.no_table (sym (ap (λ (y : Stay). may_walk y s.hold) stay ∙ ap (λ (y : Hold). may_walk t.stay y) hold) ∙ f);
+  no_table =
+      λ f. ap (λ (y : TableWalk). y.level) walk ∙ H.no_table (sym (ap (λ (y : Stay). may_walk y s.hold) stay ∙ ap (λ (y : Hold). may_walk t.stay y) hold) ∙ f);
   no_set = λ f. ap (λ (y : SlotSearch). y.set) search;
 }
 snapshot_held stands t s false stay hold walk search H = record {
   table = subst (λ (y : TableWalk). 1 ≤ y.level → stands (table_page y) ≡ Some (at y.level y.prefix)) (sym walk) H.table;
-  no_table = λ f. ap (λ (y : TableWalk). y.level) walk ∙ H.no_table (sym (ap (λ (y : Stay). may_walk y s.hold) stay ∙ ap (λ (y : Hold). may_walk t.stay y) hold) ∙ f);
-  no_set = λ f. ap (λ (y : SlotSearch). y.set) search ∙ H.no_set (sym (ap (λ (y : Stay). may_search y s.hold) stay ∙ ap (λ (y : Hold). may_search t.stay y) hold) ∙ f);
+  no_table =
+      λ f. ap (λ (y : TableWalk). y.level) walk ∙ H.no_table (sym (ap (λ (y : Stay). may_walk y s.hold) stay ∙ ap (λ (y : Hold). may_walk t.stay y) hold) ∙ f);
+  no_set = λ f. ap (λ (y : SlotSearch). y.set) search
+      ∙ H.no_set (sym (ap (λ (y : Stay). may_search y s.hold) stay ∙ ap (λ (y : Hold). may_search t.stay y) hold) ∙ f);
 }
 
 -- a hand that keeps what it holds
-same_held : (stands : ℕ → Option Position) (t s : Topics) → s.stay ≡ t.stay → s.hold ≡ t.hold → s.walk ≡ t.walk → s.search ≡ t.search → HeldPart stands t → HeldPart stands s
+same_held : (stands : ℕ → Option Position) (t s : Topics) → s.stay ≡ t.stay → s.hold ≡ t.hold → s.walk ≡ t.walk → s.search ≡ t.search → HeldPart stands t
+    → HeldPart stands s
 same_held stands t s stay hold walk search H = snapshot_held stands t s false stay hold walk search H
 
 -- the tables stand where they stood
@@ -161,7 +139,8 @@ held_stays before after t stays H = record { table = λ from. stays _ _ (H.table
 
 -- The page that a walk goes down to is its table there.
 pub page_below : (level root third second first page : ℕ) → 2 ≤ level → level ≤ 4
-    → (if level - 1 == 4 then root else if level - 1 == 3 then (if level == 4 then page else third) else if level - 1 == 2 then (if level == 3 then page else second) else (if level == 2 then page else first)) ≡ page
+    → (if level - 1 == 4 then root else if level - 1 == 3 then (if level == 4 then page else third) else if level - 1
+    == 2 then (if level == 3 then page else second) else (if level == 2 then page else first)) ≡ page
 page_below zero root third second first page from to = absurd (omega arith)
 page_below (suc zero) root third second first page from to = absurd (omega arith)
 page_below (suc (suc zero)) root third second first page from to = refl
@@ -170,17 +149,22 @@ page_below (suc (suc (suc (suc zero)))) root third second first page from to = r
 page_below (suc (suc (suc (suc (suc level))))) root third second first page from to = absurd (omega arith)
 
 -- An entry was loaded, or exchanged: the walk goes down where it is a link, and else stays.
-gone_held : (stands : ℕ → Option Position) (t s : Topics) (j v : ℕ) (o : Option ℕ) → s.stay ≡ t.stay → s.hold ≡ t.hold → s.search ≡ t.search → s.walk ≡ gone_down o t.walk j v → t.walk.level ≤ 4 → LeadsDown stands (at t.walk.level t.walk.prefix) j o
-    → HeldPart stands t → HeldPart stands s
+gone_held : (stands : ℕ → Option Position) (t s : Topics) (j v : ℕ) (o : Option ℕ) → s.stay ≡ t.stay → s.hold ≡ t.hold → s.search ≡ t.search
+    → s.walk ≡ gone_down o t.walk j v → t.walk.level ≤ 4 → LeadsDown stands (at t.walk.level t.walk.prefix) j o → HeldPart stands t → HeldPart stands s
 gone_held stands t s j v None stay hold search walk to leads H = record {
   table = subst (λ (y : TableWalk). 1 ≤ y.level → stands (table_page y) ≡ Some (at y.level y.prefix)) (sym walk) H.table;
-  no_table = λ f. ap (λ (y : TableWalk). y.level) walk ∙ H.no_table (sym (ap (λ (y : Stay). may_walk y s.hold) stay ∙ ap (λ (y : Hold). may_walk t.stay y) hold) ∙ f);
-  no_set = λ f. ap (λ (y : SlotSearch). y.set) search ∙ H.no_set (sym (ap (λ (y : Stay). may_search y s.hold) stay ∙ ap (λ (y : Hold). may_search t.stay y) hold) ∙ f);
+  no_table =
+      λ f. ap (λ (y : TableWalk). y.level) walk ∙ H.no_table (sym (ap (λ (y : Stay). may_walk y s.hold) stay ∙ ap (λ (y : Hold). may_walk t.stay y) hold) ∙ f);
+  no_set = λ f. ap (λ (y : SlotSearch). y.set) search
+      ∙ H.no_set (sym (ap (λ (y : Stay). may_search y s.hold) stay ∙ ap (λ (y : Hold). may_search t.stay y) hold) ∙ f);
 }
 gone_held stands t s j v (Some page) stay hold search walk to leads H = record {
-  table = subst (λ (y : TableWalk). 1 ≤ y.level → stands (table_page y) ≡ Some (at y.level y.prefix)) (sym walk) (λ from. ap stands (page_below t.walk.level t.walk.root t.walk.third t.walk.second t.walk.first page leads.0 to) ∙ leads.1);
-  no_table = λ f. ap (λ (y : TableWalk). y.level) walk ∙ (let none = H.no_table (sym (ap (λ (y : Stay). may_walk y s.hold) stay ∙ ap (λ (y : Hold). may_walk t.stay y) hold) ∙ f) in omega (arith, none));
-  no_set = λ f. ap (λ (y : SlotSearch). y.set) search ∙ H.no_set (sym (ap (λ (y : Stay). may_search y s.hold) stay ∙ ap (λ (y : Hold). may_search t.stay y) hold) ∙ f);
+  table = subst (λ (y : TableWalk). 1 ≤ y.level → stands (table_page y) ≡ Some (at y.level y.prefix)) (sym walk)
+      (λ from. ap stands (page_below t.walk.level t.walk.root t.walk.third t.walk.second t.walk.first page leads.0 to) ∙ leads.1);
+  no_table = λ f. ap (λ (y : TableWalk). y.level) walk
+      ∙ (let none = H.no_table (sym (ap (λ (y : Stay). may_walk y s.hold) stay ∙ ap (λ (y : Hold). may_walk t.stay y) hold) ∙ f) in omega (arith, none));
+  no_set = λ f. ap (λ (y : SlotSearch). y.set) search
+      ∙ H.no_set (sym (ap (λ (y : Stay). may_search y s.hold) stay ∙ ap (λ (y : Hold). may_search t.stay y) hold) ∙ f);
 }
 
 -- ---- Each step.
@@ -193,14 +177,17 @@ abbrev HeldBehind : Sizes → View → ℕ → ℕ → PartStep → Type 0
 HeldBehind z v a note step = IsPart z v a step → (I : TopicsInvariant z v) → HeldAt z (stands_after z v a step I) (part_behind a step note v)
 
 -- what all hands hold, where the actor's holds so
-all_held : (z : Sizes) (v : View) (a : ℕ) (step : PartStep) (h : Held) → IsPart z v a step → (I : TopicsInvariant z v) → HeldPart (stands_after z v a step I) h.topics → HeldAt z (stands_after z v a step I) (record { words = v.words; hand = upd v.hand a h })
+all_held : (z : Sizes) (v : View) (a : ℕ) (step : PartStep) (h : Held) → IsPart z v a step → (I : TopicsInvariant z v)
+    → HeldPart (stands_after z v a step I) h.topics → HeldAt z (stands_after z v a step I) (record { words = v.words; hand = upd v.hand a h })
 all_held z v a step h S I here =
     at_upd (λ i (k : Held). i < actors_of z → HeldPart (stands_after z v a step I) k.topics) v.hand a h (λ lt. here)
     (λ i ne lt. held_stays (stands I.up I.spot) (stands_after z v a step I) (v.hand i).topics (stays_standing z v a step S I) (I.held i lt))
 
 -- where it holds so with the tables where they stood
-still_held : (z : Sizes) (v : View) (a : ℕ) (step : PartStep) (h : Held) → IsPart z v a step → (I : TopicsInvariant z v) → HeldPart (stands I.up I.spot) h.topics → HeldAt z (stands_after z v a step I) (record { words = v.words; hand = upd v.hand a h })
-still_held z v a step h S I here = all_held z v a step h S I (held_stays (stands I.up I.spot) (stands_after z v a step I) h.topics (stays_standing z v a step S I) here)
+still_held : (z : Sizes) (v : View) (a : ℕ) (step : PartStep) (h : Held) → IsPart z v a step → (I : TopicsInvariant z v)
+    → HeldPart (stands I.up I.spot) h.topics → HeldAt z (stands_after z v a step I) (record { words = v.words; hand = upd v.hand a h })
+still_held z v a step h S I here =
+    all_held z v a step h S I (held_stays (stands I.up I.spot) (stands_after z v a step I) h.topics (stays_standing z v a step S I) here)
 
 -- The walk's table is at level 4 at most.
 walk_level : (z : Sizes) (v : View) (a : ℕ) → a < actors_of z → TopicsInvariant z v → 1 ≤ (v.hand a).topics.walk.level → (v.hand a).topics.walk.level ≤ 4
@@ -213,17 +200,19 @@ walk_held z v a note gfn S I =
     let j : ℕ = entry_index gfn t.walk.level in
     let H = I.held a S.there in
     still_held z v a (part.Walk gfn) _ S I (gone_held (stands I.up I.spot) t _ j _ _ refl refl refl refl (walk_level z v a S.there I from)
-    (entry_leads_down I.tree (table_page t.walk) (at t.walk.level t.walk.prefix) j _ (omega (arith, S.is_sizes.pool.1)) (H.table from) (I.tree.entries (table_page t.walk) _ (H.table from) j (omega arith))) H)
+    (entry_leads_down I.tree (table_page t.walk) (at t.walk.level t.walk.prefix) j _ (omega (arith, S.is_sizes.pool.1)) (H.table from)
+    (I.tree.entries (table_page t.walk) _ (H.table from) j (omega arith))) H)
 
 -- an exchange, won or lost
-exchanged_held : (stands : ℕ → Option Position) (t : Topics) (won : Bool) (j new_ v : ℕ) → t.walk.level ≤ 4 → (won ≡ true → LeadsDown stands (at t.walk.level t.walk.prefix) j (linked_page (kind_of t.walk.level new_)))
-    → HeldPart stands t → HeldPart stands (exchanged won j new_ t v)
+exchanged_held : (stands : ℕ → Option Position) (t : Topics) (won : Bool) (j new_ v : ℕ) → t.walk.level ≤ 4 → (won ≡ true → LeadsDown stands
+    (at t.walk.level t.walk.prefix) j (linked_page (kind_of t.walk.level new_))) → HeldPart stands t → HeldPart stands (exchanged won j new_ t v)
 exchanged_held stands t true j new_ v to leads H = gone_held stands t _ j new_ (linked_page (kind_of t.walk.level new_)) refl refl refl refl to (leads refl) H
 exchanged_held stands t false j new_ v to leads H = gone_held stands t _ j v None refl refl refl refl to tt H
 
 link_held : (z : Sizes) (v : View) (a note gfn : ℕ) → HeldBehind z v a note (part.Link gfn)
 link_held z v a note gfn S I =
-    all_held z v a (part.Link gfn) _ S I (exchanged_held after t won (entry_index gfn t.walk.level) (link_written t) _ (walk_level z v a S.there I S.needs.0.saw.over.there)
+    all_held z v a (part.Link gfn) _ S I
+    (exchanged_held after t won (entry_index gfn t.walk.level) (link_written t) _ (walk_level z v a S.there I S.needs.0.saw.over.there)
     (λ is. link_leads_down after (at t.walk.level t.walk.prefix) (entry_index gfn t.walk.level) page S.needs.1 small (added won is))
     (held_stays (stands I.up I.spot) after t (stays_standing z v a (part.Link gfn) S I) (I.held a S.there)))
   where
@@ -240,19 +229,23 @@ link_held z v a note gfn S I =
     after = stands_after z v a (part.Link gfn) I
 
     small : page < 2 ^ 32
-    small = let O = table_owned (t.walk.level - 1) t S.needs.3 in omega (arith, ap page_owned O.is, owned_there I.uses a O.owned S.there O.is, S.is_sizes.pool.1)
+    small =
+        let O = table_owned (t.walk.level - 1) t S.needs.3 in omega (arith, ap page_owned O.is, owned_there I.uses a O.owned S.there O.is, S.is_sizes.pool.1)
 
     -- the page that was linked stands where it was linked
-    added : (b : Bool) → b ≡ true → stands (upd_if b I.up page (Under (table_page t.walk) (entry_index gfn t.walk.level))) (upd_if b I.spot page (position_below gfn t)) page ≡ Some (position_below gfn t)
+    added : (b : Bool) → b ≡ true → stands (upd_if b I.up page (Under (table_page t.walk) (entry_index gfn t.walk.level)))
+        (upd_if b I.spot page (position_below gfn t)) page ≡ Some (position_below gfn t)
     added false is = absurd (cc is)
     added true is =
-        at_spot (upd I.up page (Under (table_page t.walk) (entry_index gfn t.walk.level))) (upd I.spot page (position_below gfn t)) page (Under (table_page t.walk) (entry_index gfn t.walk.level)) (upd_same I.up page (Under (table_page t.walk) (entry_index gfn t.walk.level))) refl
+        at_spot (upd I.up page (Under (table_page t.walk) (entry_index gfn t.walk.level))) (upd I.spot page (position_below gfn t)) page
+        (Under (table_page t.walk) (entry_index gfn t.walk.level)) (upd_same I.up page (Under (table_page t.walk) (entry_index gfn t.walk.level))) refl
         ∙ ap Some (upd_same I.spot page (position_below gfn t))
 
 leaf_held : (z : Sizes) (v : View) (a note gfn : ℕ) → HeldBehind z v a note (part.Leaf gfn)
 leaf_held z v a note gfn S I =
     let t : Topics = (v.hand a).topics in
-    still_held z v a (part.Leaf gfn) _ S I (exchanged_held (stands I.up I.spot) t (entry_now gfn t v == t.walk.entry) (entry_index gfn t.walk.level) (leaf_written t) _ (walk_level z v a S.there I S.needs.0.saw.over.there)
+    still_held z v a (part.Leaf gfn) _ S I (exchanged_held (stands I.up I.spot) t (entry_now gfn t v == t.walk.entry) (entry_index gfn t.walk.level)
+    (leaf_written t) _ (walk_level z v a S.there I S.needs.0.saw.over.there)
     (λ is. lowest_leads_down (stands I.up I.spot) (at t.walk.level t.walk.prefix) (entry_index gfn t.walk.level) (leaf_written t) S.needs.1) (I.held a S.there))
 
 held_behind : (z : Sizes) (v : View) (a note : ℕ) (step : PartStep) → HeldBehind z v a note step
@@ -260,15 +253,24 @@ held_behind z v a note part.Enter = λ S I. still_held z v a part.Enter _ S I (b
 held_behind z v a note part.Leave = λ S I. still_held z v a part.Leave _ S I (begun_held (stands I.up I.spot) Outside (v.hand a).topics)
 held_behind z v a note part.Begin = λ S I. still_held z v a part.Begin _ S I (begun_held (stands I.up I.spot) Section (v.hand a).topics)
 held_behind z v a note part.End = λ S I. still_held z v a part.End _ S I (begun_held (stands I.up I.spot) Outside (v.hand a).topics)
-held_behind z v a note part.Share = λ S I. still_held z v a part.Share _ S I (shared_held (stands I.up I.spot) (v.hand a).topics (has_writer (v.words area.Lock 0)) (v.words area.Lock 0) S.needs (I.held a S.there))
-held_behind z v a note part.Unshare = λ S I. still_held z v a part.Unshare _ S I (let_go_held (stands I.up I.spot) (v.hand a).topics (v.hand a).topics.stay (I.held a S.there))
-held_behind z v a note part.Exclude = λ S I. still_held z v a part.Exclude _ S I (excluded_held (stands I.up I.spot) (v.hand a).topics (v.words area.Lock 0 == 0) (I.held a S.there))
-held_behind z v a note part.Release = λ S I. still_held z v a part.Release _ S I (let_go_held (stands I.up I.spot) (v.hand a).topics (v.hand a).topics.stay (I.held a S.there))
-held_behind z v a note part.Slots = λ S I. still_held z v a part.Slots _ S I (slots_held (v.words area.Slots 0) (stands I.up I.spot) (v.hand a).topics (I.held a S.there))
-held_behind z v a note part.Slot = λ S I. still_held z v a part.Slot _ S I (slot_held (stands I.up I.spot) (v.hand a).topics (is_some (v.hand a).topics.search.set) _ (I.held a S.there))
-held_behind z v a note part.Seq = λ S I. still_held z v a part.Seq _ S I (snapshot_held (stands I.up I.spot) (v.hand a).topics _ (is_loose (v.hand a).topics.hold) refl refl refl refl (I.held a S.there))
-held_behind z v a note part.Publish = λ S I. still_held z v a part.Publish _ S I (snapshot_held (stands I.up I.spot) (v.hand a).topics _ true refl refl refl refl (I.held a S.there))
-held_behind z v a note part.Root = λ S I. still_held z v a part.Root _ S I (root_held (v.words area.Root 0) (stands I.up I.spot) (v.hand a).topics (root_stands I.tree) (I.held a S.there))
+held_behind z v a note part.Share = λ S I. still_held z v a part.Share _ S I
+    (shared_held (stands I.up I.spot) (v.hand a).topics (has_writer (v.words area.Lock 0)) (v.words area.Lock 0) S.needs (I.held a S.there))
+held_behind z v a note part.Unshare =
+    λ S I. still_held z v a part.Unshare _ S I (let_go_held (stands I.up I.spot) (v.hand a).topics (v.hand a).topics.stay (I.held a S.there))
+held_behind z v a note part.Exclude =
+    λ S I. still_held z v a part.Exclude _ S I (excluded_held (stands I.up I.spot) (v.hand a).topics (v.words area.Lock 0 == 0) (I.held a S.there))
+held_behind z v a note part.Release =
+    λ S I. still_held z v a part.Release _ S I (let_go_held (stands I.up I.spot) (v.hand a).topics (v.hand a).topics.stay (I.held a S.there))
+held_behind z v a note part.Slots =
+    λ S I. still_held z v a part.Slots _ S I (slots_held (v.words area.Slots 0) (stands I.up I.spot) (v.hand a).topics (I.held a S.there))
+held_behind z v a note part.Slot =
+    λ S I. still_held z v a part.Slot _ S I (slot_held (stands I.up I.spot) (v.hand a).topics (is_some (v.hand a).topics.search.set) _ (I.held a S.there))
+held_behind z v a note part.Seq = λ S I. still_held z v a part.Seq _ S I
+    (snapshot_held (stands I.up I.spot) (v.hand a).topics _ (is_loose (v.hand a).topics.hold) refl refl refl refl (I.held a S.there))
+held_behind z v a note part.Publish =
+    λ S I. still_held z v a part.Publish _ S I (snapshot_held (stands I.up I.spot) (v.hand a).topics _ true refl refl refl refl (I.held a S.there))
+held_behind z v a note part.Root =
+    λ S I. still_held z v a part.Root _ S I (root_held (v.words area.Root 0) (stands I.up I.spot) (v.hand a).topics (root_stands I.tree) (I.held a S.there))
 held_behind z v a note (part.Walk gfn) = walk_held z v a note gfn
 held_behind z v a note (part.Link gfn) = link_held z v a note gfn
 held_behind z v a note (part.Leaf gfn) = leaf_held z v a note gfn
@@ -278,5 +280,6 @@ held_behind z v a note (part.Zap gfn) = λ S I.
     (walk_level z v a S.there I S.needs.2.over.there) tt (I.held a S.there))
 held_behind z v a note step = λ S I. still_held z v a step _ S I (same_held (stands I.up I.spot) (v.hand a).topics _ refl refl refl refl (I.held a S.there))
 
-pub held_kept : (z : Sizes) (v : View) (a : ℕ) (step : PartStep) (note : ℕ) → IsPart z v a step → (I : TopicsInvariant z v) → HeldAt z (stands_after z v a step I) (part_stepped a step note v)
+pub held_kept : (z : Sizes) (v : View) (a : ℕ) (step : PartStep) (note : ℕ) → IsPart z v a step → (I : TopicsInvariant z v)
+    → HeldAt z (stands_after z v a step I) (part_stepped a step note v)
 held_kept z v a step note S I = behind_step (HeldAt z (stands_after z v a step I)) z v a step note S (held_behind z v a note step S I)

@@ -58,8 +58,10 @@ pub count_few : (n count : ℕ) (opened : ℕ → Bool) → CountPart n count op
 count_few n count opened C = omega (arith, C, sum_le n (λ i. one_if (opened i)) (λ i. one_small (opened i)))
 
 -- One more is open with the actor's own, or one less without it.
-counted_on : (n : ℕ) (hand : ℕ → Held) (a : ℕ) (h : Held) (was : Bool) (count now : ℕ) → a < n → (hand a).topics.invalidations.opened ≡ was → now ≡ (if was then count - 1 else count + 1)
-    → h.topics.invalidations.opened ≡ nat_lt count now → CountPart n count (λ i. (hand i).topics.invalidations.opened) → CountPart n now (λ i. (upd hand a h i).topics.invalidations.opened)
+counted_on : (n : ℕ) (hand : ℕ → Held) (a : ℕ) (h : Held) (was : Bool) (count now : ℕ) → a < n → (hand a).topics.invalidations.opened ≡ was
+    → now ≡ (if was then count - 1 else count + 1)
+    → h.topics.invalidations.opened ≡ nat_lt count now → CountPart n count (λ i. (hand i).topics.invalidations.opened)
+    → CountPart n now (λ i. (upd hand a h i).topics.invalidations.opened)
 counted_on n hand a h true count now lt is now_is opened C =
     let own : one_if (hand a).topics.invalidations.opened ≡ 1 = ap one_if is in
     let less : nat_lt count now ≡ false = grind (arith, nat_tests) in
@@ -111,27 +113,33 @@ without_lock count start end_ seq t none = record {
 abbrev Never : (Checked → Bool) → Checked → Type 0
 Never knows c = knows c ≡ true → ⊥
 
-count_only : (b : Bool) → Never knows_start (if b then checked.Count else checked.Nothing) × Never knows_end (if b then checked.Count else checked.Nothing) × Never knows_seq (if b then checked.Count else checked.Nothing)
+count_only : (b : Bool) → Never knows_start (if b then checked.Count else checked.Nothing)
+    × Never knows_end (if b then checked.Count else checked.Nothing) × Never knows_seq (if b then checked.Count else checked.Nothing)
 count_only true = (λ e. cc e, λ e. cc e, λ e. cc e)
 count_only false = (λ e. cc e, λ e. cc e, λ e. cc e)
 
-start_only : (c : Checked) → (knows_count (start_checked c) ≡ true → knows_count c ≡ true) × Never knows_end (start_checked c) × Never knows_seq (start_checked c)
+start_only : (c : Checked)
+    → (knows_count (start_checked c) ≡ true → knows_count c ≡ true) × Never knows_end (start_checked c) × Never knows_seq (start_checked c)
 start_only checked.Count = (λ e. refl, λ e. cc e, λ e. cc e)
 start_only _ = (λ e. absurd (cc e), λ e. cc e, λ e. cc e)
 
-range_only : (c : Checked) → (knows_count (range_checked c) ≡ true → knows_count c ≡ true) × (knows_start (range_checked c) ≡ true → knows_start c ≡ true) × Never knows_seq (range_checked c)
+range_only : (c : Checked) → (knows_count (range_checked c) ≡ true → knows_count c ≡ true)
+    × (knows_start (range_checked c) ≡ true → knows_start c ≡ true) × Never knows_seq (range_checked c)
 range_only checked.Start = (λ e. refl, λ e. refl, λ e. cc e)
 range_only _ = (λ e. absurd (cc e), λ e. absurd (cc e), λ e. cc e)
 
-seq_only : (locked : Bool) (n : ℕ) (c : Checked) → (knows_count (seq_checked locked n c) ≡ true → knows_count c ≡ true) × Never knows_start (seq_checked locked n c) × Never knows_end (seq_checked locked n c)
+seq_only : (locked : Bool) (n : ℕ) (c : Checked) → (knows_count (seq_checked locked n c) ≡ true → knows_count c ≡ true)
+    × Never knows_start (seq_checked locked n c) × Never knows_end (seq_checked locked n c)
 seq_only locked n checked.Count = by (n == 0)
   where
-    by : (b : Bool) → (knows_count (if b then checked.All else checked.Nothing) ≡ true → true ≡ true) × Never knows_start (if b then checked.All else checked.Nothing) × Never knows_end (if b then checked.All else checked.Nothing)
+    by : (b : Bool) → (knows_count (if b then checked.All else checked.Nothing) ≡ true → true ≡ true)
+        × Never knows_start (if b then checked.All else checked.Nothing) × Never knows_end (if b then checked.All else checked.Nothing)
     by true = (λ e. refl, λ e. cc e, λ e. cc e)
     by false = (λ e. refl, λ e. cc e, λ e. cc e)
 seq_only locked n checked.Nothing = by locked
   where
-    by : (b : Bool) → (knows_count (if b then checked.Seq else checked.Nothing) ≡ true → false ≡ true) × Never knows_start (if b then checked.Seq else checked.Nothing) × Never knows_end (if b then checked.Seq else checked.Nothing)
+    by : (b : Bool) → (knows_count (if b then checked.Seq else checked.Nothing) ≡ true → false ≡ true)
+        × Never knows_start (if b then checked.Seq else checked.Nothing) × Never knows_end (if b then checked.Seq else checked.Nothing)
     by true = (λ e. e, λ e. cc e, λ e. cc e)
     by false = (λ e. e, λ e. cc e, λ e. cc e)
 seq_only locked n checked.Range = (λ e. refl, λ e. cc e, λ e. cc e)
@@ -232,13 +240,16 @@ abbrev ChecksBehind : Sizes → View → ℕ → ℕ → PartStep → Type 0
 ChecksBehind z v a note step = IsPart z v a step → TopicsInvariant z v → ChecksAt z (part_behind a step note v)
 
 -- The words stay, and the actor's own hand has loaded what they hold.
-all_checked : (z : Sizes) (v : View) (a : ℕ) (h : Held) → TopicsInvariant z v → CheckedPart (v.words area.Count 0) (v.words area.RangeStart 0) (v.words area.RangeEnd 0) (v.words area.Seq 0) h.topics
+all_checked : (z : Sizes) (v : View) (a : ℕ) (h : Held) → TopicsInvariant z v
+    → CheckedPart (v.words area.Count 0) (v.words area.RangeStart 0) (v.words area.RangeEnd 0) (v.words area.Seq 0) h.topics
     → ChecksAt z (record { words = v.words; hand = upd v.hand a h })
 all_checked z v a h I here =
-    at_upd (λ i (k : Held). i < actors_of z → CheckedPart (v.words area.Count 0) (v.words area.RangeStart 0) (v.words area.RangeEnd 0) (v.words area.Seq 0) k.topics) v.hand a h (λ lt. here) (λ i ne. I.checks i)
+    at_upd (λ i (k : Held). i < actors_of z → CheckedPart (v.words area.Count 0) (v.words area.RangeStart 0) (v.words area.RangeEnd 0)
+    (v.words area.Seq 0) k.topics) v.hand a h (λ lt. here) (λ i ne. I.checks i)
 
 -- A word is stored by who has the lock alone: no other actor has it.
-stored_checked : (z : Sizes) (v : View) (a count start end_ seq : ℕ) (h : Held) → a < actors_of z → TopicsInvariant z v → (v.hand a).topics.hold ≡ Exclusive → CheckedPart count start end_ seq h.topics
+stored_checked : (z : Sizes) (v : View) (a count start end_ seq : ℕ) (h : Held) → a < actors_of z → TopicsInvariant z v
+    → (v.hand a).topics.hold ≡ Exclusive → CheckedPart count start end_ seq h.topics
     → (i : ℕ) → i < actors_of z → CheckedPart count start end_ seq (upd v.hand a h i).topics
 stored_checked z v a count start end_ seq h there I alone here =
     at_upd (λ i (k : Held). i < actors_of z → CheckedPart count start end_ seq k.topics) v.hand a h (λ lt. here)
@@ -266,14 +277,17 @@ checks_behind z v a note (part.SetCount count) = λ S I. stored_checked z v a co
 checks_behind z v a note (part.SetSeq seq) = λ S I. stored_checked z v a _ _ _ seq _ S.there I S.needs.0.alone (unknown _ _ _ _ _ refl)
 checks_behind z v a note _ = λ S I. all_checked z v a _ I (same_checked _ _ _ _ (v.hand a).topics (I.checks a S.there) _ refl refl)
 
-pub checks_kept : (z : Sizes) (v : View) (a : ℕ) (step : PartStep) (note : ℕ) → IsPart z v a step → TopicsInvariant z v → ChecksAt z (part_stepped a step note v)
+pub checks_kept : (z : Sizes) (v : View) (a : ℕ) (step : PartStep) (note : ℕ) → IsPart z v a step → TopicsInvariant z v
+    → ChecksAt z (part_stepped a step note v)
 checks_kept z v a step note S I = behind_step (ChecksAt z) z v a step note S (checks_behind z v a note step S I)
 
 -- ---- The sequence number.
 
-few_behind : (z : Sizes) (v : View) (a note : ℕ) (step : PartStep) → IsPart z v a step → TopicsInvariant z v → (part_behind a step note v).words area.Seq 0 < 2 ^ 40
+few_behind : (z : Sizes) (v : View) (a note : ℕ) (step : PartStep) → IsPart z v a step → TopicsInvariant z v
+    → (part_behind a step note v).words area.Seq 0 < 2 ^ 40
 few_behind z v a note (part.SetSeq seq) S I = S.replaces
 few_behind z v a note _ S I = I.few_ended
 
-pub few_kept : (z : Sizes) (v : View) (a : ℕ) (step : PartStep) (note : ℕ) → IsPart z v a step → TopicsInvariant z v → (part_stepped a step note v).words area.Seq 0 < 2 ^ 40
+pub few_kept : (z : Sizes) (v : View) (a : ℕ) (step : PartStep) (note : ℕ) → IsPart z v a step → TopicsInvariant z v
+    → (part_stepped a step note v).words area.Seq 0 < 2 ^ 40
 few_kept z v a step note S I = behind_step (λ (w : View). w.words area.Seq 0 < 2 ^ 40) z v a step note S (few_behind z v a note step S I)

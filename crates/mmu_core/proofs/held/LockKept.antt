@@ -60,7 +60,9 @@ moved z hand a h x y sizes lt is next = record {
   shared = sum_moved (λ k. one_if (is_shared k)) (actors_of z) hand a h x y lt is next;
   few = sum_le (actors_of z) (λ i. one_if (counts (hand i).topics.hold)) (λ i. one_small (counts (hand i).topics.hold));
   few_next = sum_le (actors_of z) (λ i. one_if (counts (upd hand a h i).topics.hold)) (λ i. one_small (counts (upd hand a h i).topics.hold));
-  fewer = sum_mono (actors_of z) (λ i. one_if (is_shared (hand i).topics.hold)) (λ i. one_if (counts (hand i).topics.hold)) (λ i. shared_counts (hand i).topics.hold);
+  fewer =
+      sum_mono (actors_of z) (λ i. one_if (is_shared (hand i).topics.hold)) (λ i. one_if (counts (hand i).topics.hold))
+      (λ i. shared_counts (hand i).topics.hold);
 }
 
 -- the lock behind each step on it, over plain numbers and columns
@@ -83,7 +85,8 @@ release : (n w : ℕ) (hold next : ℕ → Hold) → LockPart n w hold → Moved
 release n w hold next I m = record { word = omega arith; one = omega arith; alone = omega arith }
 
 -- a hold that is kept
-pub lock_frame : (n lock : ℕ) (hand : ℕ → Held) (a : ℕ) (h : Held) → h.topics.hold ≡ (hand a).topics.hold → LockPart n lock (λ i. (hand i).topics.hold) → LockPart n lock (λ i. (upd hand a h i).topics.hold)
+pub lock_frame : (n lock : ℕ) (hand : ℕ → Held) (a : ℕ) (h : Held) → h.topics.hold ≡ (hand a).topics.hold
+    → LockPart n lock (λ i. (hand i).topics.hold) → LockPart n lock (λ i. (upd hand a h i).topics.hold)
 lock_frame n lock hand a h e I = framed (λ (c : ℕ → Hold). LockPart n lock c) (λ (k : Held). k.topics.hold) hand a h e I
 
 abbrev LockBehind : Sizes → View → ℕ → ℕ → PartStep → Type 0
@@ -92,24 +95,35 @@ LockBehind z v a note step = IsPart z v a step → TopicsInvariant z v → LockA
 share_kept : (z : Sizes) (v : View) (a note : ℕ) → LockBehind z v a note part.Share
 share_kept z v a note S I = here (leb_tells (2 ^ 63) (v.words area.Lock 0))
   where
-    here : ((nat_le (2 ^ 63) (v.words area.Lock 0) ≡ true) × (2 ^ 63 ≤ v.words area.Lock 0)) ⊎ ((nat_le (2 ^ 63) (v.words area.Lock 0) ≡ false) × (v.words area.Lock 0 < 2 ^ 63)) → LockAt z (part_behind a part.Share note v)
-    here (inl p) = share_late (actors_of z) (v.words area.Lock 0) (v.words area.Lock 0) _ _ I.lock_part (moved z v.hand a _ Loose (Owing (v.words area.Lock 0)) S.is_sizes S.there S.needs (ap (λ (b : Bool). if b then Owing (v.words area.Lock 0) else Shared) p.0)) p.1
-    here (inr p) = share_free (actors_of z) (v.words area.Lock 0) _ _ I.lock_part (moved z v.hand a _ Loose Shared S.is_sizes S.there S.needs (ap (λ (b : Bool). if b then Owing (v.words area.Lock 0) else Shared) p.0)) p.1
+    here : ((nat_le (2 ^ 63) (v.words area.Lock 0) ≡ true) × (2 ^ 63 ≤ v.words area.Lock 0))
+        ⊎ ((nat_le (2 ^ 63) (v.words area.Lock 0) ≡ false) × (v.words area.Lock 0 < 2 ^ 63)) → LockAt z (part_behind a part.Share note v)
+    here (inl p) =
+        share_late (actors_of z) (v.words area.Lock 0) (v.words area.Lock 0) _ _ I.lock_part (moved z v.hand a _ Loose (Owing (v.words area.Lock 0))
+        S.is_sizes S.there S.needs (ap (λ (b : Bool). if b then Owing (v.words area.Lock 0) else Shared) p.0)) p.1
+    here (inr p) =
+        share_free (actors_of z) (v.words area.Lock 0) _ _ I.lock_part
+        (moved z v.hand a _ Loose Shared S.is_sizes S.there S.needs (ap (λ (b : Bool). if b then Owing (v.words area.Lock 0) else Shared) p.0)) p.1
 
 unshare_kept : (z : Sizes) (v : View) (a note : ℕ) → LockBehind z v a note part.Unshare
 unshare_kept z v a note S I = here (v.hand a).topics.hold refl S.needs
   where
     here : (x : Hold) → (v.hand a).topics.hold ≡ x → counts x ≡ true → LockAt z (part_behind a part.Unshare note v)
     here Shared is has = unshare (actors_of z) (v.words area.Lock 0) _ _ I.lock_part (moved z v.hand a _ Shared Loose S.is_sizes S.there is refl)
-    here (Owing seen) is has = take_back (actors_of z) (v.words area.Lock 0) seen _ _ I.lock_part (moved z v.hand a _ (Owing seen) Loose S.is_sizes S.there is refl)
+    here (Owing seen) is has =
+        take_back (actors_of z) (v.words area.Lock 0) seen _ _ I.lock_part (moved z v.hand a _ (Owing seen) Loose S.is_sizes S.there is refl)
     here _ is has = absurd (cc)
 
 exclude_kept : (z : Sizes) (v : View) (a note : ℕ) → LockBehind z v a note part.Exclude
 exclude_kept z v a note S I = here (eqb_tells (v.words area.Lock 0) 0)
   where
-    here : ((eqb (v.words area.Lock 0) 0 ≡ true) × (v.words area.Lock 0 ≡ 0)) ⊎ ((eqb (v.words area.Lock 0) 0 ≡ false) × (v.words area.Lock 0 ≢ 0)) → LockAt z (part_behind a part.Exclude note v)
-    here (inl p) = rw (ap (λ (b : Bool). if b then 2 ^ 63 else v.words area.Lock 0) p.0) (exclude (actors_of z) _ _ (rw p.1 at I.lock_part) (moved z v.hand a _ Loose Exclusive S.is_sizes S.there S.needs (ap (λ (b : Bool). if b then Exclusive else (v.hand a).topics.hold) p.0)))
-    here (inr p) = rw (ap (λ (b : Bool). if b then 2 ^ 63 else v.words area.Lock 0) p.0) (lock_frame (actors_of z) (v.words area.Lock 0) v.hand a _ (ap (λ (b : Bool). if b then Exclusive else (v.hand a).topics.hold) p.0) I.lock_part)
+    here : ((eqb (v.words area.Lock 0) 0 ≡ true) × (v.words area.Lock 0 ≡ 0)) ⊎ ((eqb (v.words area.Lock 0) 0 ≡ false) × (v.words area.Lock 0 ≢ 0))
+        → LockAt z (part_behind a part.Exclude note v)
+    here (inl p) =
+        rw (ap (λ (b : Bool). if b then 2 ^ 63 else v.words area.Lock 0) p.0) (exclude (actors_of z) _ _ (rw p.1 at I.lock_part)
+        (moved z v.hand a _ Loose Exclusive S.is_sizes S.there S.needs (ap (λ (b : Bool). if b then Exclusive else (v.hand a).topics.hold) p.0)))
+    here (inr p) =
+        rw (ap (λ (b : Bool). if b then 2 ^ 63 else v.words area.Lock 0) p.0) (lock_frame (actors_of z) (v.words area.Lock 0) v.hand a _
+        (ap (λ (b : Bool). if b then Exclusive else (v.hand a).topics.hold) p.0) I.lock_part)
 
 release_kept : (z : Sizes) (v : View) (a note : ℕ) → LockBehind z v a note part.Release
 release_kept z v a note S I =

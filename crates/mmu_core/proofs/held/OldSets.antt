@@ -30,17 +30,20 @@ use Rattle.mmu_core.proofs.held.SetsKept.{sets_kept}
 -- ---- The page of a slot set that is held, or leaving, keeps its words.
 
 -- a page that is leaving is no table
-left_no_walk : (z : Sizes) (v : View) (a i k : ℕ) → a < actors_of z → i < actors_of z → TopicsInvariant z v → 1 ≤ (v.hand a).topics.walk.level → (v.hand i).topics.leaving ≡ Some k → table_page (v.hand a).topics.walk ≢ k
+left_no_walk : (z : Sizes) (v : View) (a i k : ℕ) → a < actors_of z → i < actors_of z → TopicsInvariant z v → 1 ≤ (v.hand a).topics.walk.level
+    → (v.hand i).topics.leaving ≡ Some k → table_page (v.hand a).topics.walk ≢ k
 left_no_walk z v a i k there lt I from is e =
     left_no_table I.uses I.spot i k _ lt is (sym (ap (stands I.up I.spot) e) ∙ (I.held a there).table from)
 
 -- a page that is leaving is none that a step stores words in
-left_words_stay : (z : Sizes) (v : View) (a : ℕ) (step : PartStep) (note : ℕ) → IsPart z v a step → TopicsInvariant z v → (i k : ℕ) → i < actors_of z → (v.hand i).topics.leaving ≡ Some k
-    → SetStays k (v.words area.Pool) ((part_stepped a step note v).words area.Pool)
+left_words_stay : (z : Sizes) (v : View) (a : ℕ) (step : PartStep) (note : ℕ) → IsPart z v a step → TopicsInvariant z v → (i k : ℕ) → i < actors_of z
+    → (v.hand i).topics.leaving ≡ Some k → SetStays k (v.words area.Pool) ((part_stepped a step note v).words area.Pool)
 left_words_stay z v a (part.Fill value) note S I i k lt is =
     page_stays z v a (part.Fill value) note S k (λ o owned. left_not_owned I.uses i k lt is a o S.there owned)
-left_words_stay z v a (part.Link gfn) note S I i k lt is = page_stays z v a (part.Link gfn) note S k (left_no_walk z v a i k S.there lt I S.needs.0.saw.over.there is)
-left_words_stay z v a (part.Leaf gfn) note S I i k lt is = page_stays z v a (part.Leaf gfn) note S k (left_no_walk z v a i k S.there lt I S.needs.0.saw.over.there is)
+left_words_stay z v a (part.Link gfn) note S I i k lt is =
+    page_stays z v a (part.Link gfn) note S k (left_no_walk z v a i k S.there lt I S.needs.0.saw.over.there is)
+left_words_stay z v a (part.Leaf gfn) note S I i k lt is =
+    page_stays z v a (part.Leaf gfn) note S k (left_no_walk z v a i k S.there lt I S.needs.0.saw.over.there is)
 left_words_stay z v a (part.Zap gfn) note S I i k lt is = page_stays z v a (part.Zap gfn) note S k (left_no_walk z v a i k S.there lt I S.needs.2.over.there is)
 left_words_stay z v a _ note S I i k lt is = λ j low. refl
 
@@ -60,31 +63,39 @@ was_leaving part.GiveOld t v k never is = by t.owned is
 was_leaving _ t v k never is = is
 
 -- what an actor has leave behind a step that publishes nothing it had leave before
-left_before : (z : Sizes) (v : View) (a : ℕ) (step : PartStep) (note i k : ℕ) → is_publish step ≡ false → ((part_stepped a step note v).hand i).topics.leaving ≡ Some k → (v.hand i).topics.leaving ≡ Some k
+left_before : (z : Sizes) (v : View) (a : ℕ) (step : PartStep) (note i k : ℕ) → is_publish step ≡ false
+    → ((part_stepped a step note v).hand i).topics.leaving ≡ Some k → (v.hand i).topics.leaving ≡ Some k
 left_before z v a step note i k never is = by (same_or i a)
   where
     h : Held
-    h = idle_after (v.hand a) (kind_of_task (v.hand a).state.sizes (part_task step (own_index (v.hand a)) (v.hand a).topics note)) (answer_in (part_task step (own_index (v.hand a)) (v.hand a).topics note) v.words)
+    h =
+        idle_after (v.hand a) (kind_of_task (v.hand a).state.sizes (part_task step (own_index (v.hand a)) (v.hand a).topics note))
+        (answer_in (part_task step (own_index (v.hand a)) (v.hand a).topics note) v.words)
 
     by : (i ≡ a) ⊎ (i ≢ a) → (v.hand i).topics.leaving ≡ Some k
     by (inl e) =
         ap (λ j. (v.hand j).topics.leaving) e
         ∙ was_leaving step (v.hand a).topics _ k never
-        (sym (left_is step (v.hand a).state.sizes (own_index (v.hand a)) (v.hand a).topics note _) ∙ (sym (ap (λ (g : Held). g.topics.leaving) (upd_same v.hand a h)) ∙ (ap (λ j. (upd v.hand a h j).topics.leaving) (sym e) ∙ is)))
+        (sym (left_is step (v.hand a).state.sizes (own_index (v.hand a)) (v.hand a).topics note _)
+        ∙ (sym (ap (λ (g : Held). g.topics.leaving) (upd_same v.hand a h)) ∙ (ap (λ j. (upd v.hand a h j).topics.leaving) (sym e) ∙ is)))
     by (inr ne) = sym (ap (λ (g : Held). g.topics.leaving) (upd_other v.hand a i h ne)) ∙ is
 
 -- a publication stores in no page
-publish_leaves : (v : View) (a : ℕ) (step : PartStep) (note k : ℕ) → is_publish step ≡ true → SetStays k (v.words area.Pool) ((part_stepped a step note v).words area.Pool)
+publish_leaves : (v : View) (a : ℕ) (step : PartStep) (note k : ℕ) → is_publish step ≡ true
+    → SetStays k (v.words area.Pool) ((part_stepped a step note v).words area.Pool)
 publish_leaves v a part.Publish note k is = λ j low. refl
 publish_leaves v a _ note k is = absurd (cc is)
 
-pub held_words_stay : (z : Sizes) (v : View) (a : ℕ) (step : PartStep) (note : ℕ) → IsPart z v a step → TopicsInvariant z v → (i k : ℕ) → i < actors_of z → ((part_stepped a step note v).hand i).topics.search.set ≡ Some k
+pub held_words_stay : (z : Sizes) (v : View) (a : ℕ) (step : PartStep) (note : ℕ) → IsPart z v a step → TopicsInvariant z v → (i k : ℕ)
+    → i < actors_of z → ((part_stepped a step note v).hand i).topics.search.set ≡ Some k
     → SetStays k (v.words area.Pool) ((part_stepped a step note v).words area.Pool)
 held_words_stay z v a step note S I i k lt is = by (is_publish step) refl
   where
-    from : is_publish step ≡ false → (k ≡ (part_stepped a step note v).words area.Slots 0) ⊎ HoldsOld (actors_of z) (λ j. ((part_stepped a step note v).hand j).topics) i k → SetStays k (v.words area.Pool) ((part_stepped a step note v).words area.Pool)
+    from : is_publish step ≡ false → (k ≡ (part_stepped a step note v).words area.Slots 0) ⊎ HoldsOld (actors_of z) (λ j.
+        ((part_stepped a step note v).hand j).topics) i k → SetStays k (v.words area.Pool) ((part_stepped a step note v).words area.Pool)
     from never (inl e) =
-        subst (λ s. SetStays s (v.words area.Pool) ((part_stepped a step note v).words area.Pool)) (sym (e ∙ (slots_are v a step note ∙ slots_same step (v.hand a).topics (v.words area.Slots 0) never)))
+        subst (λ s. SetStays s (v.words area.Pool) ((part_stepped a step note v).words area.Pool))
+        (sym (e ∙ (slots_are v a step note ∙ slots_same step (v.hand a).topics (v.words area.Slots 0) never)))
         (published_stays z v a step note S I)
     from never (inr H) = left_words_stay z v a step note S I H.by k H.there (left_before z v a step note H.by k never H.leaves)
 
@@ -94,10 +105,12 @@ held_words_stay z v a step note S I i k lt is = by (is_publish step) refl
 
 -- ---- The slots of a set that is held, or leaving, are live in the published one.
 
-pub set_live : (z : Sizes) (v : View) (a k : ℕ) → a < actors_of z → TopicsInvariant z v → (v.hand a).topics.search.set ≡ Some k → StayLive (v.words area.Pool) k (v.words area.Pool) (v.words area.Slots 0)
+pub set_live : (z : Sizes) (v : View) (a k : ℕ) → a < actors_of z → TopicsInvariant z v → (v.hand a).topics.search.set ≡ Some k
+    → StayLive (v.words area.Pool) k (v.words area.Pool) (v.words area.Slots 0)
 set_live z v a k lt I held = by (I.sets a k lt held)
   where
-    by : (k ≡ v.words area.Slots 0) ⊎ HoldsOld (actors_of z) (λ j. (v.hand j).topics) a k → StayLive (v.words area.Pool) k (v.words area.Pool) (v.words area.Slots 0)
+    by : (k ≡ v.words area.Slots 0) ⊎ HoldsOld (actors_of z) (λ j. (v.hand j).topics) a k
+        → StayLive (v.words area.Pool) k (v.words area.Pool) (v.words area.Slots 0)
     by (inl e) = λ id slot L. subst (λ s. IsLiveIn (v.words area.Pool) s id slot) e L
     by (inr H) = I.old_sets H.by k H.there H.leaves
 
@@ -106,20 +119,24 @@ old_published : (z : Sizes) (v : View) (a note : ℕ) → IsPart z v a part.Publ
 old_published z v a note S I i k lt is id slot L = by (same_or i a)
   where
     h : Held
-    h = idle_after (v.hand a) (kind_of_task (v.hand a).state.sizes (part_task part.Publish (own_index (v.hand a)) (v.hand a).topics note)) (v.words area.Slots 0)
+    h =
+        idle_after (v.hand a) (kind_of_task (v.hand a).state.sizes (part_task part.Publish (own_index (v.hand a)) (v.hand a).topics note))
+        (v.words area.Slots 0)
 
     some_page : {x y : ℕ} → Some x ≡ Some y → x ≡ y
     some_page e = cc e
 
     by : (i ≡ a) ⊎ (i ≢ a) → IsLiveIn (v.words area.Pool) (page_owned (v.hand a).topics.owned) id slot
     by (inl e) =
-        let now_leaves : Some (v.words area.Slots 0) ≡ Some k = sym (left_is part.Publish (v.hand a).state.sizes (own_index (v.hand a)) (v.hand a).topics note (v.words area.Slots 0))
+        let now_leaves : Some (v.words area.Slots 0) ≡ Some k =
+        sym (left_is part.Publish (v.hand a).state.sizes (own_index (v.hand a)) (v.hand a).topics note (v.words area.Slots 0))
         ∙ (sym (ap (λ (g : Held). g.topics.leaving) (upd_same v.hand a h)) ∙ (ap (λ j. (upd v.hand a h j).topics.leaving) (sym e) ∙ is)) in
         S.replaces id slot (subst (λ s. IsLiveIn (v.words area.Pool) s id slot) (sym (some_page now_leaves)) L)
     by (inr ne) = S.replaces id slot (I.old_sets i k lt (sym (ap (λ (g : Held). g.topics.leaving) (upd_other v.hand a i h ne)) ∙ is) id slot L)
 
 old_stay : (z : Sizes) (v : View) (a : ℕ) (step : PartStep) (note : ℕ) → IsPart z v a step → TopicsInvariant z v → is_publish step ≡ false
-    → OldSetsPart (actors_of z) (v.words area.Slots 0) ((part_stepped a step note v).words area.Pool) (λ i. ((part_stepped a step note v).hand i).topics.leaving)
+    → OldSetsPart (actors_of z) (v.words area.Slots 0) ((part_stepped a step note v).words area.Pool)
+    (λ i. ((part_stepped a step note v).hand i).topics.leaving)
 old_stay z v a step note S I never i k lt is id slot L =
     let left = left_before z v a step note i k never is in
     let pool : ℕ → ℕ = v.words area.Pool in
@@ -129,7 +146,8 @@ old_stay z v a step note S I never i k lt is id slot L =
     (I.old_sets i k lt left id slot (live_in_stays k after pool id slot (words_live k after pool (λ j low. sym (old_words j low))) L))
 
 pub old_sets_kept : (z : Sizes) (v : View) (a : ℕ) (step : PartStep) (note : ℕ) → IsPart z v a step → TopicsInvariant z v
-    → OldSetsPart (actors_of z) ((part_stepped a step note v).words area.Slots 0) ((part_stepped a step note v).words area.Pool) (λ i. ((part_stepped a step note v).hand i).topics.leaving)
+    → OldSetsPart (actors_of z) ((part_stepped a step note v).words area.Slots 0) ((part_stepped a step note v).words area.Pool)
+    (λ i. ((part_stepped a step note v).hand i).topics.leaving)
 old_sets_kept z v a part.Publish note S I = old_published z v a note S I
 old_sets_kept z v a step note S I =
     subst (λ s. OldSetsPart (actors_of z) s ((part_stepped a step note v).words area.Pool) (λ i. ((part_stepped a step note v).hand i).topics.leaving))

@@ -1,30 +1,28 @@
--- Each step of a part keeps that the range of open invalidations has the guest frames of each, and that these are the ones that the published slots give to its page.
-use Rattle.std.proofs.Common.{◌≡◌, ◌≢◌, ◌⊎◌, inl, inr, ◌+◌, ◌-◌, ◌<◌, ◌≤◌, ℕ, refl, sym, subst, ap, ◌∙◌, arith}
-use Rattle.std.specs.Prelude.{Bool, true, false, ◌==◌, ◌&&◌, ◌||◌, nat_le, nat_lt, not, if◌then◌else◌, Option, Some, None, is_some}
+-- Each step of a part keeps that the range of open invalidations has the guest frames of each, and that these are the ones that the published slots
+-- give to its page.
+use Rattle.std.proofs.Common.{◌≡◌, ◌⊎◌, inl, inr, ◌+◌, ◌-◌, ◌<◌, ◌≤◌, ℕ, refl, ap, arith}
+use Rattle.std.specs.Prelude.{Bool, true, false, ◌==◌, ◌&&◌, ◌||◌, nat_le, nat_lt, not, if◌then◌else◌}
 use Rattle.std.proofs.lemmas.Bool.Decides.{nat_tests}
 use Rattle.core_views.specs.declared.sizes.Sizes.{Sizes}
 use Rattle.core_views.specs.declared.topics.Checked.{Checked}
 use Rattle.core_views.specs.declared.topics.Checked.TheVariants as checked
-use Rattle.core_views.specs.declared.topics.Hold.TheVariants.{Exclusive}
 use Rattle.core_views.specs.declared.topics.Topics.{Topics}
-use Rattle.core_views.specs.declared.trace.Slot.{Slot as SlotOf}
 use Rattle.core_views.specs.Held.{Held}
 use Rattle.core_views.specs.Sizes.{actors_of}
-use Rattle.core_views.specs.Slots.{has_host_page}
 use Rattle.spte_words.specs.declared.area.Area.TheVariants as area
 use Rattle.part_steps.specs.declared.part_step.PartStep.{PartStep}
 use Rattle.part_steps.specs.declared.part_step.PartStep.TheVariants as part
 use Rattle.part_steps.specs.InvalidationHoldings.{IsOpening, MayOpen, has_counted, has_widened, knows_count}
-use Rattle.part_steps.specs.InvalidationRange.{gfn_behind, greater, has_found, has_searched, invalidated, is_within_range, lesser, page_looked, range_end, range_start}
+use Rattle.part_steps.specs.InvalidationRange.{gfn_behind, greater, has_found, lesser, page_looked}
+use Rattle.part_steps.specs.InvalidationRange.{range_end, range_start}
 use Rattle.part_steps.specs.StayTopics.{has_lock}
-use Rattle.mmu_core.specs.invariant.InvalidatedPart.{Gives, IsIn, IsOfPage, RangePart, ScopePart}
+use Rattle.mmu_core.specs.invariant.InvalidatedPart.{IsIn, RangePart}
 use Rattle.mmu_core.specs.invariant.InvalidationsPart.{CountPart, knows_end, knows_start}
-use Rattle.mmu_core.specs.invariant.SlotSetPart.{IsLiveIn}
 use Rattle.mmu_core.specs.invariant.TopicsInvariant.{TopicsInvariant}
 use Rattle.mmu_core.specs.machine.Sums.{one_if}
 use Rattle.mmu_core.specs.machine.View.{View, part_stepped, upd}
 use Rattle.mmu_core.proofs.machine.Columns.{at_upd}
-use Rattle.mmu_core.proofs.machine.PartStepping.{AreApart, IsPart}
+use Rattle.mmu_core.proofs.machine.PartStepping.{IsPart}
 use Rattle.mmu_core.proofs.machine.SumsBelow.{sum_ge}
 use Rattle.mmu_core.proofs.words.PartTopics.{behind_step, part_behind}
 
@@ -122,7 +120,9 @@ module _ (z : Sizes) (v : View) (a : ℕ) (I : TopicsInvariant z v) (there : a <
       let some = some_open O (inl known) i lt opened in
       let range = range_known t.invalidations.checked t.invalidations.count some (inl known) in
       let same = (I.checks a there).started (ap has_lock O.alone) (ap knows_start range) in
-      let low = start_lower (has_found (page_looked t.host) t.search) t.invalidations.count t.invalidations.start (gfn_behind (page_looked t.host) t.search.slot)
+      let low =
+      start_lower (has_found (page_looked t.host) t.search) t.invalidations.count t.invalidations.start
+      (gfn_behind (page_looked t.host) t.search.slot)
       (if has_found (page_looked t.host) t.search then gfn_behind (page_looked t.host) t.search.slot else 0) some in
       omega (arith, is, same, low)
 
@@ -132,7 +132,9 @@ module _ (z : Sizes) (v : View) (a : ℕ) (I : TopicsInvariant z v) (there : a <
       let some = some_open O (inr known) i lt opened in
       let range = range_known t.invalidations.checked t.invalidations.count some (inr known) in
       let same = (I.checks a there).ended (ap has_lock O.alone) (ap knows_end range) in
-      let high = end_higher (has_found (page_looked t.host) t.search) t.invalidations.count t.invalidations.end (gfn_behind (page_looked t.host) t.search.slot + 1)
+      let high =
+      end_higher (has_found (page_looked t.host) t.search) t.invalidations.count t.invalidations.end
+      (gfn_behind (page_looked t.host) t.search.slot + 1)
       (if has_found (page_looked t.host) t.search then gfn_behind (page_looked t.host) t.search.slot + 1 else 0) some in
       omega (arith, is, same, high)
 
@@ -145,7 +147,9 @@ module _ (z : Sizes) (v : View) (a : ℕ) (I : TopicsInvariant z v) (there : a <
       let high = within.1 in
       let W = M.within in
       let lt : nat_lt t.invalidations.own.start t.invalidations.own.end ≡ true = grind (arith, nat_tests) in
-      let both = implied (nat_lt t.invalidations.own.start t.invalidations.own.end) (nat_le t.invalidations.start t.invalidations.own.start) (nat_le t.invalidations.own.end t.invalidations.end) lt W in
+      let both =
+      implied (nat_lt t.invalidations.own.start t.invalidations.own.end) (nat_le t.invalidations.start t.invalidations.own.start)
+      (nat_le t.invalidations.own.end t.invalidations.end) lt W in
       let first : t.invalidations.start ≤ t.invalidations.own.start = let e = both.0 in grind (arith, nat_tests) in
       let last : t.invalidations.own.end ≤ t.invalidations.end = let e = both.1 in grind (arith, nat_tests) in
       (omega (arith, first, low, start), omega (arith, last, high, end_))
@@ -156,7 +160,8 @@ module _ (z : Sizes) (v : View) (a : ℕ) (I : TopicsInvariant z v) (there : a <
       implied false y w is all = absurd (cc is)
 
   -- What is stored as the count: more, and then one is opened, or less.
-  pub opened_by : (opened : Bool) (count : ℕ) → t.invalidations.opened ≡ opened → count ≡ (if opened then t.invalidations.count - 1 else t.invalidations.count + 1)
+  pub opened_by : (opened : Bool) (count : ℕ) → t.invalidations.opened ≡ opened
+      → count ≡ (if opened then t.invalidations.count - 1 else t.invalidations.count + 1)
       → nat_lt t.invalidations.count count ≡ true → t.invalidations.opened ≡ false
   opened_by false count is counted more = is
   opened_by true count is counted more = absurd (let less : nat_lt t.invalidations.count count ≡ false = grind (arith, nat_tests) in cc (more, less))
@@ -175,10 +180,12 @@ ranges_behind z v a note (part.SetEnd gfn) S I =
 ranges_behind z v a note (part.SetCount count) S I =
     moved_ranges (actors_of z) (v.words area.RangeStart 0) (v.words area.RangeEnd 0) (v.words area.RangeStart 0) (v.words area.RangeEnd 0) v.hand a _ I.ranges
     (λ i g lt is R. R)
-    (λ g lt more within. opens_within z v a I S.there (S.needs.opens (opened_by z v a I S.there (v.hand a).topics.invalidations.opened count refl S.needs.is more)) g within)
+    (λ g lt more within. opens_within z v a I S.there
+    (S.needs.opens (opened_by z v a I S.there (v.hand a).topics.invalidations.opened count refl S.needs.is more)) g within)
 ranges_behind z v a note _ S I =
     moved_ranges (actors_of z) (v.words area.RangeStart 0) (v.words area.RangeEnd 0) (v.words area.RangeStart 0) (v.words area.RangeEnd 0) v.hand a _ I.ranges
     (λ i g lt is R. R) (λ g lt is within. I.ranges a g lt is within)
 
-pub ranges_kept : (z : Sizes) (v : View) (a : ℕ) (step : PartStep) (note : ℕ) → IsPart z v a step → TopicsInvariant z v → RangesAt z (part_stepped a step note v)
+pub ranges_kept : (z : Sizes) (v : View) (a : ℕ) (step : PartStep) (note : ℕ) → IsPart z v a step → TopicsInvariant z v
+    → RangesAt z (part_stepped a step note v)
 ranges_kept z v a step note S I = behind_step (RangesAt z) z v a step note S (ranges_behind z v a note step S I)

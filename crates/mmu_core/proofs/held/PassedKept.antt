@@ -1,11 +1,11 @@
 -- Each step of a part keeps that a search under the lock alone has passed no slot with the host page but the one that it has found.
-use Rattle.std.proofs.Common.{◌≡◌, ◌≢◌, ◌⊎◌, inl, inr, ◌+◌, ◌-◌, ◌<◌, ◌≤◌, ℕ, refl, sym, subst, ap, ◌∙◌, arith}
-use Rattle.std.specs.Prelude.{Bool, true, false, ◌==◌, ◌&&◌, if◌then◌else◌, Option, Some, None, is_some}
+use Rattle.std.proofs.Common.{◌≡◌, ◌⊎◌, inl, inr, ◌+◌, ◌-◌, ◌<◌, ◌≤◌, ℕ, refl, sym, subst, ap, ◌∙◌, arith}
+use Rattle.std.specs.Prelude.{Bool, true, false, ◌&&◌, if◌then◌else◌, Some, is_some}
 use Rattle.core_views.specs.declared.place.SlotField.{SlotField}
 use Rattle.core_views.specs.declared.place.SlotField.TheVariants as field
 use Rattle.core_views.specs.declared.sizes.Sizes.{Sizes}
 use Rattle.core_views.specs.declared.topics.Hold.{Hold}
-use Rattle.core_views.specs.declared.topics.Hold.TheVariants.{Loose, Shared, Owing, Exclusive}
+use Rattle.core_views.specs.declared.topics.Hold.TheVariants.{Shared, Owing, Exclusive}
 use Rattle.core_views.specs.declared.topics.SlotSearch.{SlotSearch}
 use Rattle.core_views.specs.declared.topics.Stay.{Stay}
 use Rattle.core_views.specs.declared.topics.Stay.TheVariants.{Outside}
@@ -18,7 +18,7 @@ use Rattle.spte_words.specs.declared.area.Area.TheVariants as area
 use Rattle.spte_words.specs.Flags.{flags_live}
 use Rattle.part_steps.specs.declared.part_step.PartStep.{PartStep}
 use Rattle.part_steps.specs.declared.part_step.PartStep.TheVariants as part
-use Rattle.part_steps.specs.ControlTopics.{has_writer}
+use Rattle.part_steps.specs.ControlBits.{has_writer}
 use Rattle.part_steps.specs.InvalidationRange.{has_found, page_looked}
 use Rattle.part_steps.specs.PageTopics.{searched, searched_at}
 use Rattle.part_steps.specs.PartTasks.{set_held, part_task}
@@ -29,7 +29,7 @@ use Rattle.mmu_core.specs.invariant.InvalidatedPart.{PassedPart}
 use Rattle.mmu_core.specs.invariant.SearchPart.{SearchPart}
 use Rattle.mmu_core.specs.invariant.SlotSetPart.{IsLiveIn}
 use Rattle.mmu_core.specs.invariant.TopicsInvariant.{TopicsInvariant}
-use Rattle.mmu_core.specs.machine.View.{View, part_stepped, upd, answer_in}
+use Rattle.mmu_core.specs.machine.View.{View, part_stepped, answer_in}
 use Rattle.std.proofs.lemmas.Bool.{cases_lt}
 use Rattle.mmu_core.proofs.held.HeldKept.{searched_set}
 use Rattle.mmu_core.proofs.held.OldSets.{held_words_stay}
@@ -37,7 +37,7 @@ use Rattle.mmu_core.proofs.held.SearchKept.{searched_part}
 use Rattle.mmu_core.proofs.machine.Columns.{at_upd}
 use Rattle.mmu_core.proofs.machine.PartStepping.{IsPart}
 use Rattle.mmu_core.proofs.slots.SlotsStay.{is_live_was}
-use Rattle.mmu_core.proofs.words.PartTopics.{behind_step, part_behind}
+use Rattle.mmu_core.proofs.words.PartTopics.{behind_step}
 use Rattle.part_steps.specs.PartTopics.{part_topics}
 
 -- It is so at each slot below this ID, where it is searched like this.
@@ -66,8 +66,12 @@ searched_passed f pool set page s at own low P unfound passed = by f at
         by_order x n (inr more) most = inr (omega (arith, more, most))
 
     by : (g : SlotField) → s.next ≡ g → PassedBelow pool set page (searched s (pool (slot_index set s.id f)))
-    by field.Base is = subst (λ (h : SlotField). PassedBelow pool set page (searched_at h s (pool (slot_index set s.id f)))) (sym is) (λ id slot L lt has. absurd (before id slot L lt has))
-    by field.Pages is = subst (λ (h : SlotField). PassedBelow pool set page (searched_at h s (pool (slot_index set s.id f)))) (sym is) (λ id slot L lt has. absurd (before id slot L lt has))
+    by field.Base is =
+        subst (λ (h : SlotField). PassedBelow pool set page (searched_at h s (pool (slot_index set s.id f)))) (sym is)
+        (λ id slot L lt has. absurd (before id slot L lt has))
+    by field.Pages is =
+        subst (λ (h : SlotField). PassedBelow pool set page (searched_at h s (pool (slot_index set s.id f)))) (sym is)
+        (λ id slot L lt has. absurd (before id slot L lt has))
     by field.Flags is =
         subst (λ (h : SlotField). PassedBelow pool set page (searched_at h s (pool (slot_index set s.id f)))) (sym is)
         (λ id slot L lt has. absurd (flagged (flags_live (pool (slot_index set s.id f))) refl id slot L lt has))
@@ -80,8 +84,10 @@ searched_passed f pool set page s at own low P unfound passed = by f at
             each : (id < s.id) ⊎ (id ≡ s.id) → ⊥
             each (inl less) = before id slot L less has
             each (inr same) =
-                let live : flags_live (pool (slot_index set s.id field.Flags)) ≡ true = ap (λ n. flags_live (pool (slot_index set n field.Flags))) (sym same) ∙ L.live in
-                let dead : flags_live (pool (slot_index set s.id field.Flags)) ≡ false = ap (λ (g : SlotField). flags_live (pool (slot_index set s.id g))) (sym (sym at ∙ is)) ∙ e in
+                let live : flags_live (pool (slot_index set s.id field.Flags)) ≡ true =
+                ap (λ n. flags_live (pool (slot_index set n field.Flags))) (sym same) ∙ L.live in
+                let dead : flags_live (pool (slot_index set s.id field.Flags)) ≡ false =
+                ap (λ (g : SlotField). flags_live (pool (slot_index set s.id g))) (sym (sym at ∙ is)) ∙ e in
                 cc (live, dead)
     by field.Host is =
         subst (λ (h : SlotField). PassedBelow pool set page (searched_at h s (pool (slot_index set s.id f)))) (sym is)
@@ -107,17 +113,23 @@ shares_not : (tried : Bool) (word : ℕ) → ◌≡◌ {A = Hold} (if tried then
 shares_not true word e = cc e
 shares_not false word e = cc e
 
-slot_passed : (pool : ℕ → ℕ) (t : Topics) → is_some t.search.set ≡ true → t.search.id ≤ 31 → (is_alone t.hold && has_found (page_looked t.host) t.search) ≡ false → SearchPart pool t.search → PassedPart pool t
-    → PassedPart pool (record t { search = if is_some t.search.set then searched t.search (pool (slot_index (set_held t.search.set) t.search.id t.search.next)) else t.search })
+slot_passed : (pool : ℕ → ℕ) (t : Topics) → is_some t.search.set ≡ true → t.search.id ≤ 31
+    → (is_alone t.hold && has_found (page_looked t.host) t.search) ≡ false → SearchPart pool t.search → PassedPart pool t
+    → PassedPart pool (record t {
+      search = if is_some t.search.set then searched t.search (pool (slot_index (set_held t.search.set) t.search.id t.search.next)) else t.search;
+    })
 slot_passed pool t some low unfound P passed alone out set held = by (is_some t.search.set) some held
   where
     -- where a set is held, it is this one
-    by : (b : Bool) → b ≡ true → (if b then searched t.search (pool (slot_index (set_held t.search.set) t.search.id t.search.next)) else t.search).set ≡ Some set
-        → PassedBelow pool set (page_looked t.host) (if b then searched t.search (pool (slot_index (set_held t.search.set) t.search.id t.search.next)) else t.search)
+    by : (b : Bool) → b ≡ true
+        → (if b then searched t.search (pool (slot_index (set_held t.search.set) t.search.id t.search.next)) else t.search).set ≡ Some set
+        → PassedBelow pool set (page_looked t.host)
+        (if b then searched t.search (pool (slot_index (set_held t.search.set) t.search.id t.search.next)) else t.search)
     by false is e = absurd (cc is)
     by true is e =
         let own : t.search.set ≡ Some set = sym (searched_set t.search.next t.search _) ∙ e in
-        let none : has_found (page_looked t.host) t.search ≡ false = ap (λ (k : Hold). is_alone k && has_found (page_looked t.host) t.search) (sym alone) ∙ unfound in
+        let none : has_found (page_looked t.host) t.search ≡ false =
+        ap (λ (k : Hold). is_alone k && has_found (page_looked t.host) t.search) (sym alone) ∙ unfound in
         subst (λ n. PassedBelow pool set (page_looked t.host) (searched t.search (pool (slot_index n t.search.id t.search.next)))) (sym (ap set_held own))
         (searched_passed t.search.next pool set (page_looked t.host) t.search refl own low P none (passed alone out set own))
 
@@ -136,11 +148,13 @@ own_passed z v a note part.Exclude S I = λ alone out set held.
     let none = (I.held a S.there).no_set (ap (λ (s : Stay). may_search s t.hold) out ∙ ap (may_search Outside) S.needs) in
     absurd (cc (held, none))
 own_passed z v a note part.Slots S I = λ alone out set held id slot L lt. absurd (omega (arith, lt))
-own_passed z v a note part.Slot S I = slot_passed (v.words area.Pool) (v.hand a).topics S.needs.0 S.needs.1 S.needs.2 (I.searches a S.there) (I.passed a S.there)
+own_passed z v a note part.Slot S I =
+    slot_passed (v.words area.Pool) (v.hand a).topics S.needs.0 S.needs.1 S.needs.2 (I.searches a S.there) (I.passed a S.there)
 own_passed z v a note part.Seq S I = λ alone out.
     let t : Topics = (v.hand a).topics in
     subst (λ (b : Bool). (set : ℕ) → (sequenced b t (v.words area.Seq 0)).search.set ≡ Some set
-    → PassedBelow (v.words area.Pool) set (page_looked (sequenced b t (v.words area.Seq 0)).host) (sequenced b t (v.words area.Seq 0)).search) (sym (ap is_loose alone))
+    → PassedBelow (v.words area.Pool) set (page_looked (sequenced b t (v.words area.Seq 0)).host) (sequenced b t (v.words area.Seq 0)).search)
+    (sym (ap is_loose alone))
     (I.passed a S.there alone out)
 own_passed z v a note (part.Host page) S I = λ alone. absurd (let none = S.needs.1 in let is = ap is_alone alone in cc (none, is))
 own_passed z v a note _ S I = I.passed a S.there
@@ -150,6 +164,7 @@ pub passed_kept : (z : Sizes) (v : View) (a : ℕ) (step : PartStep) (note : ℕ
 passed_kept z v a step note S I i lt alone out set held id slot L =
     let in_old : PassedIn z (v.words area.Pool) (part_stepped a step note v) =
     behind_step (PassedIn z (v.words area.Pool)) z v a step note S
-    (at_upd (λ j (k : Held). j < actors_of z → PassedPart (v.words area.Pool) k.topics) v.hand a _ (λ there. own_passed z v a note step S I) (λ j ne. I.passed j)) in
+    (at_upd (λ j (k : Held). j < actors_of z → PassedPart (v.words area.Pool) k.topics) v.hand a _ (λ there. own_passed z v a note step S I)
+    (λ j ne. I.passed j)) in
     in_old i lt alone out set held id slot
     (is_live_was set (v.words area.Pool) ((part_stepped a step note v).words area.Pool) (held_words_stay z v a step note S I i set lt held) id slot L)

@@ -11,7 +11,7 @@ use Rattle.part_steps.specs.declared.part_step.PartStep.TheVariants as part
 use Rattle.mmu_core.specs.invariant.LockPart.{SawWriter}
 use Rattle.part_steps.specs.PartTopics.{part_topics}
 use Rattle.mmu_core.specs.invariant.TopicsInvariant.{TopicsInvariant}
-use Rattle.part_steps.specs.ControlTopics.{has_writer}
+use Rattle.part_steps.specs.ControlBits.{has_writer}
 use Rattle.mmu_core.specs.machine.View.{View, part_stepped}
 use Rattle.mmu_core.proofs.machine.Columns.{at_upd}
 use Rattle.mmu_core.proofs.machine.PartStepping.{IsPart}
@@ -38,4 +38,5 @@ SawAt z v = (i : ℕ) → i < actors_of z → SawWriter (v.hand i).topics.hold
 pub saw_kept : (z : Sizes) (v : View) (a : ℕ) (step : PartStep) (note : ℕ) → IsPart z v a step → TopicsInvariant z v → SawAt z (part_stepped a step note v)
 saw_kept z v a step note S I =
     behind_step (SawAt z) z v a step note S
-    (at_upd (λ i (h : Held). i < actors_of z → SawWriter h.topics.hold) v.hand a _ (λ lt. saw_behind step (v.hand a).topics _ (I.saw_writer a lt)) (λ i ne lt. I.saw_writer i lt))
+    (at_upd (λ i (h : Held). i < actors_of z → SawWriter h.topics.hold) v.hand a _ (λ lt. saw_behind step (v.hand a).topics _ (I.saw_writer a lt))
+    (λ i ne lt. I.saw_writer i lt))

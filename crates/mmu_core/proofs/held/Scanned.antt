@@ -37,7 +37,8 @@ module _ (z : Sizes) (actor : ℕ) where
   saw_longer word w (s ∷ ss) ts (inl here) = inl here
   saw_longer word w (s ∷ ss) ts (inr later) = inr (saw_longer word (effect mmu w s) ss ts later)
 
-  saw_last : (word : ℕ) (w : World Held) (ss : List (Step Kind)) (s : Step Kind) → FindsNoneFree z actor word (run mmu w ss) s → SawNoneFree z actor word w (ss ++ s ∷ [])
+  saw_last : (word : ℕ) (w : World Held) (ss : List (Step Kind)) (s : Step Kind) → FindsNoneFree z actor word (run mmu w ss) s
+      → SawNoneFree z actor word w (ss ++ s ∷ [])
   saw_last word w [] s finds = inl finds
   saw_last word w (x ∷ ss) s finds = inr (saw_last word (effect mmu w x) ss s finds)
 
@@ -76,13 +77,22 @@ module _ (z : Sizes) (actor : ℕ) where
 
   -- Up to an earlier word too.
   pub shorter : (at before : ℕ) (w : World Held) (ss : List (Step Kind)) → before ≤ at → EndsWithScan z actor at w ss → EndsWithScan z actor before w ss
-  shorter at before w ss le S = record { earlier = S.earlier; first = S.first; later = S.later; are = S.are; begins = S.begins; latest = S.latest; each = λ word lt. S.each word (omega (arith, lt, le)) }
+  shorter at before w ss le S = record {
+    earlier = S.earlier;
+    first = S.first;
+    later = S.later;
+    are = S.are;
+    begins = S.begins;
+    latest = S.latest;
+    each = λ word lt. S.each word (omega (arith, lt, le));
+  }
 
   -- the actor's load of word 0, or another step
   is_first : (s : Step Kind) → LoadsMap z actor 0 s ⊎ IsOther s
   is_first s = by (same_or s.actor actor) (same_or s.kind.code (code_of kind.Control)) (same_or s.kind.word (place (map_of z) area.PoolMap 0))
     where
-      by : (s.actor ≡ actor) ⊎ (s.actor ≢ actor) → (s.kind.code ≡ code_of kind.Control) ⊎ (s.kind.code ≢ code_of kind.Control) → (s.kind.word ≡ place (map_of z) area.PoolMap 0) ⊎ (s.kind.word ≢ place (map_of z) area.PoolMap 0) → LoadsMap z actor 0 s ⊎ IsOther s
+      by : (s.actor ≡ actor) ⊎ (s.actor ≢ actor) → (s.kind.code ≡ code_of kind.Control) ⊎ (s.kind.code ≢ code_of kind.Control)
+          → (s.kind.word ≡ place (map_of z) area.PoolMap 0) ⊎ (s.kind.word ≢ place (map_of z) area.PoolMap 0) → LoadsMap z actor 0 s ⊎ IsOther s
       by (inl a) (inl b) (inl c) = inl (record { by_actor = a; loads = b; at = c })
       by (inr a) b c = inr (λ l. a l.by_actor)
       by (inl a) (inr b) c = inr (λ l. b l.loads)
@@ -113,8 +123,10 @@ module _ (z : Sizes) (actor : ℕ) where
 
       at_is : at_in actor (effect mmu u s) ≡ (if v == 0 then 1 else 0)
       at_is =
-          ap (λ i. at_in i (effect mmu u s)) (sym L.by_actor) ∙ ap (λ (x : Held). x.topics.claim.at) (own_hand u s may.there) ∙ ap (λ (t : Topics). t.claim.at) (next_topics h s.kind v)
-          ∙ ap (λ (y : Sizes). (topics_after y s.kind h.topics v).claim.at) same ∙ ap (λ (c : MapClaim). c.at) (loaded_first z s.kind h.topics v L.loads L.at words)
+          ap (λ i. at_in i (effect mmu u s)) (sym L.by_actor) ∙ ap (λ (x : Held). x.topics.claim.at) (own_hand u s may.there)
+          ∙ ap (λ (t : Topics). t.claim.at) (next_topics h s.kind v)
+          ∙ ap (λ (y : Sizes). (topics_after y s.kind h.topics v).claim.at) same
+          ∙ ap (λ (c : MapClaim). c.at) (loaded_first z s.kind h.topics v L.loads L.at words)
 
       owns_none : (hand_in mmu u actor).topics.owned ≡ None
       owns_none = subst (λ i. (hand_in mmu u i).topics.owned ≡ None) L.by_actor (first_owns_none z h s.kind same words may.enabled L.loads L.at)
@@ -125,13 +137,14 @@ module _ (z : Sizes) (actor : ℕ) where
       begun_at : (at : ℕ) → ((word : ℕ) → word < at → SawNoneFree z actor word u (s ∷ [])) → EndsWithScan z actor at w (ss ++ s ∷ [])
       begun_at at each = record { earlier = ss; first = s; later = []; are = refl; begins = L; latest = no_others; each = each }
 
-      scan : (b : Bool) → at_in actor (effect mmu u s) ≡ (if b then 1 else 0) → (b ≡ true → v ≡ 0) → EndsWithScan z actor (at_in actor (effect mmu u s)) w (ss ++ s ∷ [])
+      scan : (b : Bool) → at_in actor (effect mmu u s) ≡ (if b then 1 else 0) → (b ≡ true → v ≡ 0)
+          → EndsWithScan z actor (at_in actor (effect mmu u s)) w (ss ++ s ∷ [])
       scan true one none = subst (λ n. EndsWithScan z actor n w (ss ++ s ∷ [])) (sym one) (begun_at 1 (none_before (none refl)))
       scan false zero_ none = subst (λ n. EndsWithScan z actor n w (ss ++ s ∷ [])) (sym zero_) (begun_at 0 (λ word lt. absurd (omega (arith, lt))))
 
   -- It goes on with every other step.
-  goes_on : (w : World Held) (ss : List (Step Kind)) (s : Step Kind) → IsOther s → EndsWithScan z actor (at_in actor (run mmu w ss)) w ss → (behind : ℕ) → GoesTo z actor (run mmu w ss) s (at_in actor (run mmu w ss)) behind
-      → EndsWithScan z actor behind w (ss ++ s ∷ [])
+  goes_on : (w : World Held) (ss : List (Step Kind)) (s : Step Kind) → IsOther s → EndsWithScan z actor (at_in actor (run mmu w ss)) w ss
+      → (behind : ℕ) → GoesTo z actor (run mmu w ss) s (at_in actor (run mmu w ss)) behind → EndsWithScan z actor behind w (ss ++ s ∷ [])
   goes_on w ss s other S behind (inl same) = longer (at_in actor (run mmu w ss)) behind w ss s S other (λ word lt. inl (omega (arith, same, lt)))
   goes_on w ss s other S behind (inr (inl over)) = longer (at_in actor (run mmu w ss)) behind w ss s S other (λ word lt. absurd (omega (arith, over, lt)))
   goes_on w ss s other S behind (inr (inr next_)) = longer at behind w ss s S other (λ word lt. seen word lt (same_or word at))
@@ -144,8 +157,8 @@ module _ (z : Sizes) (actor : ℕ) where
       seen word lt (inr ne) = let b = next_.0 in inl (omega (arith, lt, ne, b))
 
   -- Once begun, the scan is there behind each step, or a later one.
-  pub scan_kept : (w : World Held) (ss : List (Step Kind)) (s : Step Kind) → IsSound z (run mmu w ss) → May mmu (run mmu w ss) s → EndsWithScan z actor (at_in actor (run mmu w ss)) w ss
-      → EndsWithScan z actor (at_in actor (effect mmu (run mmu w ss) s)) w (ss ++ s ∷ [])
+  pub scan_kept : (w : World Held) (ss : List (Step Kind)) (s : Step Kind) → IsSound z (run mmu w ss) → May mmu (run mmu w ss) s
+      → EndsWithScan z actor (at_in actor (run mmu w ss)) w ss → EndsWithScan z actor (at_in actor (effect mmu (run mmu w ss) s)) w (ss ++ s ∷ [])
   scan_kept w ss s G may S = by (is_first s)
     where
       by : LoadsMap z actor 0 s ⊎ IsOther s → EndsWithScan z actor (at_in actor (effect mmu (run mmu w ss) s)) w (ss ++ s ∷ [])
@@ -166,21 +179,26 @@ module _ (z : Sizes) (actor : ℕ) where
       by (inl first) = absurd (other (subst (λ j. LoadsMap z actor j s) first next_.1.load))
       by (inr more) = omega (arith, more)
 
-  one_more : (w : World Held) (ss : List (Step Kind)) (s : Step Kind) → IsSound z (run mmu w ss) → May mmu (run mmu w ss) s → Scans w ss (run mmu w ss) → Scans w (ss ++ s ∷ []) (effect mmu (run mmu w ss) s)
+  one_more : (w : World Held) (ss : List (Step Kind)) (s : Step Kind) → IsSound z (run mmu w ss) → May mmu (run mmu w ss) s
+      → Scans w ss (run mmu w ss) → Scans w (ss ++ s ∷ []) (effect mmu (run mmu w ss) s)
   one_more w ss s G may S past = by (is_first s)
     where
       by : LoadsMap z actor 0 s ⊎ IsOther s → EndsWithScan z actor (at_in actor (effect mmu (run mmu w ss) s)) w (ss ++ s ∷ [])
       by (inl L) = begins_scan w ss s G may L
       by (inr other) =
-          let to : GoesTo z actor (run mmu w ss) s (at_in actor (run mmu w ss)) (at_in actor (effect mmu (run mmu w ss) s)) = goes z actor (run mmu w ss) s G may other in
-          goes_on w ss s other (S (was_past (run mmu w ss) s (at_in actor (run mmu w ss)) (at_in actor (effect mmu (run mmu w ss) s)) other to past)) (at_in actor (effect mmu (run mmu w ss) s)) to
+          let to : GoesTo z actor (run mmu w ss) s (at_in actor (run mmu w ss)) (at_in actor (effect mmu (run mmu w ss) s)) =
+          goes z actor (run mmu w ss) s G may other in
+          goes_on w ss s other (S (was_past (run mmu w ss) s (at_in actor (run mmu w ss)) (at_in actor (effect mmu (run mmu w ss) s)) other to past))
+          (at_in actor (effect mmu (run mmu w ss) s)) to
 
-  all_more : (w : World Held) (ss ts : List (Step Kind)) → IsSound z (run mmu w ss) → Legal mmu (run mmu w ss) ts → Scans w ss (run mmu w ss) → Scans w (ss ++ ts) (run mmu w (ss ++ ts))
+  all_more : (w : World Held) (ss ts : List (Step Kind)) → IsSound z (run mmu w ss) → Legal mmu (run mmu w ss) ts → Scans w ss (run mmu w ss)
+      → Scans w (ss ++ ts) (run mmu w (ss ++ ts))
   all_more w ss [] G legal S = subst (λ (l : List (Step Kind)). Scans w l (run mmu w l)) (sym (append-nil ss)) S
   all_more w ss (s ∷ ts) G legal S =
       let here : run mmu w (ss ++ s ∷ []) ≡ effect mmu (run mmu w ss) s = run-append mmu w ss (s ∷ []) in
       subst (λ (l : List (Step Kind)). Scans w l (run mmu w l)) (append_assoc ss (s ∷ []) ts)
-      (all_more w (ss ++ s ∷ []) ts (subst (IsSound z) (sym here) (good_step z (run mmu w ss) s G legal.0)) (subst (λ (x : World Held). Legal mmu x ts) (sym here) legal.1)
+      (all_more w (ss ++ s ∷ []) ts (subst (IsSound z) (sym here) (good_step z (run mmu w ss) s G legal.0))
+      (subst (λ (x : World Held). Legal mmu x ts) (sym here) legal.1)
       (subst (Scans w (ss ++ s ∷ [])) (sym here) (one_more w ss s G legal.0 S)))
 
 -- A claim has seen each word of the map that it has gone past, since it began.
@@ -189,7 +207,8 @@ claims_scan_once z lines w ss start legal actor there =
     let first : at_in actor w ≡ 0 = ap (λ (h : Held). h.topics.claim.at) (hand_is z lines w actor start there) in
     all_more z actor w [] ss (start_good z lines w start) legal (λ some. absurd (omega (arith, first, some)))
 
-saw_behind : (z : Sizes) (actor word : ℕ) (w : World Held) (ss ts : List (Step Kind)) → SawNoneFree z actor word (run mmu w ss) ts → SawNoneFree z actor word w (ss ++ ts)
+saw_behind : (z : Sizes) (actor word : ℕ) (w : World Held) (ss ts : List (Step Kind)) → SawNoneFree z actor word (run mmu w ss) ts
+    → SawNoneFree z actor word w (ss ++ ts)
 saw_behind z actor word w [] ts saw = saw
 saw_behind z actor word w (s ∷ ss) ts saw = inr (saw_behind z actor word (effect mmu w s) ss ts saw)
 

@@ -1,10 +1,10 @@
 -- Each step of a part keeps that open invalidations are of the guest frames that the published slots give to their pages.
-use Rattle.std.proofs.Common.{◌≡◌, ◌≢◌, ◌⊎◌, inl, inr, ◌+◌, ◌-◌, ◌<◌, ◌≤◌, ℕ, refl, sym, subst, ap, ◌∙◌, arith}
+use Rattle.std.proofs.Common.{◌≡◌, ◌⊎◌, inl, inr, ◌+◌, ◌-◌, ◌<◌, ℕ, refl, sym, subst, ap, ◌∙◌, arith}
 use Rattle.std.specs.Prelude.{Bool, true, false, ◌==◌, ◌&&◌, ◌||◌, if◌then◌else◌, Some, Option, is_some, None}
 use Rattle.std.proofs.lemmas.Bool.Decides.{nat_tests}
 use Rattle.core_views.specs.declared.sizes.Sizes.{Sizes}
 use Rattle.core_views.specs.declared.topics.Invalidated.{Invalidated}
-use Rattle.core_views.specs.declared.topics.Stay.TheVariants.{Outside, Section}
+use Rattle.core_views.specs.declared.topics.Stay.TheVariants.{Outside}
 use Rattle.core_views.specs.declared.topics.Topics.{Topics}
 use Rattle.core_views.specs.declared.trace.Slot.{Slot as SlotOf}
 use Rattle.core_views.specs.Held.{Held}
@@ -14,12 +14,12 @@ use Rattle.spte_words.specs.declared.area.Area.TheVariants as area
 use Rattle.part_steps.specs.declared.part_step.PartStep.{PartStep}
 use Rattle.part_steps.specs.declared.part_step.PartStep.TheVariants as part
 use Rattle.part_steps.specs.InvalidationHoldings.{MayOpen, knows_count}
-use Rattle.part_steps.specs.InvalidationRange.{gfn_behind, has_found, has_searched, invalidated_by, page_looked}
+use Rattle.part_steps.specs.InvalidationRange.{gfn_behind, has_found, page_looked}
 use Rattle.mmu_core.specs.invariant.HeldPart.{HoldsOld}
-use Rattle.mmu_core.specs.invariant.InvalidatedPart.{Gives, IsIn, IsOfPage, ScopePart}
+use Rattle.mmu_core.specs.invariant.InvalidatedPart.{IsOfPage, ScopePart}
 use Rattle.mmu_core.specs.invariant.SlotSetPart.{IsLiveIn}
 use Rattle.mmu_core.specs.invariant.TopicsInvariant.{TopicsInvariant}
-use Rattle.mmu_core.specs.machine.View.{View, part_stepped, upd, answer_in}
+use Rattle.mmu_core.specs.machine.View.{View, part_stepped, answer_in}
 use Rattle.mmu_core.proofs.held.OpenFrames.{none_opened, opened_by}
 use Rattle.mmu_core.proofs.machine.Columns.{at_upd}
 use Rattle.mmu_core.proofs.machine.PartStepping.{AreApart, IsPart, is_publish}
@@ -50,8 +50,16 @@ scope_found : (pool : ℕ → ℕ) (set page : ℕ) (found : Bool) (id : ℕ) (s
 scope_found pool set page true id slot start end_ apart starts ends there none =
     let T = there refl in
     record {
-      covers = λ gfn G. let same = ap (gfn_behind page) (apart page G.id id G.slot slot G.live T.0 G.has T.1) in let is = G.is in (omega (arith, is, same, starts), omega (arith, is, same, ends));
-      only = λ gfn within. record { id = id; slot = slot; live = T.0; has = T.1; is = let low = within.0 in let high = within.1 in omega (arith, low, high, starts, ends) };
+      covers =
+          λ gfn G. let same = ap (gfn_behind page) (apart page G.id id G.slot slot G.live T.0 G.has T.1) in let is = G.is in
+          (omega (arith, is, same, starts), omega (arith, is, same, ends));
+      only = λ gfn within. record {
+        id = id;
+        slot = slot;
+        live = T.0;
+        has = T.1;
+        is = let low = within.0 in let high = within.1 in omega (arith, low, high, starts, ends);
+      };
     }
 scope_found pool set page false id slot start end_ apart starts ends there none = record {
   covers = λ gfn G. absurd (none refl G.id G.slot G.live G.has);
@@ -93,11 +101,15 @@ module _ (z : Sizes) (v : View) (a : ℕ) (I : TopicsInvariant z v) (there : a <
       found whole = subst (λ s. IsLiveIn (v.words area.Pool) s (t.search.id - 1) t.search.slot) published ((I.searches a there).whole held.0 held.1 whole).1
 
       -- Where none was found, the search has come to its end, and passed all.
-      passed : has_found page t.search ≡ false → (i : ℕ) (other : SlotOf) → IsLiveIn (v.words area.Pool) (v.words area.Slots 0) i other → has_host_page page other ≡ true → ⊥
+      passed : has_found page t.search ≡ false → (i : ℕ) (other : SlotOf) → IsLiveIn (v.words area.Pool) (v.words area.Slots 0) i other
+          → has_host_page page other ≡ true → ⊥
       passed none i other L has =
-          let last : t.search.id ≡ 32 = let over = M.opening.searched in let end_ = or_over (has_found page t.search) (t.search.id == 32) none over in grind (arith, nat_tests) in
+          let last : t.search.id ≡ 32 =
+          let over = M.opening.searched in let end_ = or_over (has_found page t.search) (t.search.id == 32) none over in grind (arith, nat_tests) in
           let low = L.low in
-          let P = I.passed a there M.opening.alone M.opening.outside held.0 held.1 i other (subst (λ s. IsLiveIn (v.words area.Pool) s i other) (sym published) L) (omega (arith, low, last)) has in
+          let P =
+          I.passed a there M.opening.alone M.opening.outside held.0 held.1 i other
+          (subst (λ s. IsLiveIn (v.words area.Pool) s i other) (sym published) L) (omega (arith, low, last)) has in
           let yes : has_found page t.search ≡ true = ap (λ (b : Bool). b && has_host_page page t.search.slot) P.0 ∙ (ap (has_host_page page) (sym P.1) ∙ has) in
           cc (none, yes)
         where
@@ -112,11 +124,14 @@ ScopesIn z pool slots v = ScopePart (actors_of z) pool slots (λ i. (v.hand i).t
 scopes_behind : (z : Sizes) (v : View) (a note : ℕ) (step : PartStep) → IsPart z v a step → TopicsInvariant z v
     → ScopesIn z (v.words area.Pool) (v.words area.Slots 0) (part_behind a step note v)
 scopes_behind z v a note step S I =
-    at_upd (λ i (k : Held). i < actors_of z → k.topics.invalidations.opened ≡ true → IsOfPage (v.words area.Pool) (v.words area.Slots 0) k.topics.invalidations.own) v.hand a _
+    at_upd (λ i (k : Held). i < actors_of z → k.topics.invalidations.opened ≡ true
+    → IsOfPage (v.words area.Pool) (v.words area.Slots 0) k.topics.invalidations.own) v.hand a _
     (λ lt. own step S) (λ i ne lt is. I.scopes i lt is)
   where
-    own : (step : PartStep) → IsPart z v a step → (part_topics step (v.hand a).topics (answer_in (part_task step a (v.hand a).topics note) v.words)).invalidations.opened ≡ true
-        → IsOfPage (v.words area.Pool) (v.words area.Slots 0) (part_topics step (v.hand a).topics (answer_in (part_task step a (v.hand a).topics note) v.words)).invalidations.own
+    own : (step : PartStep) → IsPart z v a step
+        → (part_topics step (v.hand a).topics (answer_in (part_task step a (v.hand a).topics note) v.words)).invalidations.opened ≡ true
+        → IsOfPage (v.words area.Pool) (v.words area.Slots 0)
+        (part_topics step (v.hand a).topics (answer_in (part_task step a (v.hand a).topics note) v.words)).invalidations.own
     own (part.SetStart gfn) T is = absurd (let closed = T.needs.0.opening.closed in cc (is, closed))
     own (part.SetCount count) T more =
         opens_scope z v a I T.there (T.needs.opens (opened_by z v a I T.there (v.hand a).topics.invalidations.opened count refl T.needs.is more)) T.replaces
@@ -136,7 +151,8 @@ none_published z v a note part.Publish S I is =
 none_published z v a note _ S I is = absurd (cc is)
 
 pub scopes_kept : (z : Sizes) (v : View) (a : ℕ) (step : PartStep) (note : ℕ) → IsPart z v a step → TopicsInvariant z v
-    → ScopePart (actors_of z) ((part_stepped a step note v).words area.Pool) ((part_stepped a step note v).words area.Slots 0) (λ i. ((part_stepped a step note v).hand i).topics)
+    → ScopePart (actors_of z) ((part_stepped a step note v).words area.Pool) ((part_stepped a step note v).words area.Slots 0)
+    (λ i. ((part_stepped a step note v).hand i).topics)
 scopes_kept z v a step note S I i lt opened = by (is_publish step) refl
   where
     after : ℕ → ℕ
@@ -145,7 +161,8 @@ scopes_kept z v a step note S I i lt opened = by (is_publish step) refl
     stays : SetStays (v.words area.Slots 0) (v.words area.Pool) after
     stays = published_stays z v a step note S I
 
-    by : (b : Bool) → is_publish step ≡ b → IsOfPage after ((part_stepped a step note v).words area.Slots 0) ((part_stepped a step note v).hand i).topics.invalidations.own
+    by : (b : Bool) → is_publish step ≡ b
+        → IsOfPage after ((part_stepped a step note v).words area.Slots 0) ((part_stepped a step note v).hand i).topics.invalidations.own
     by true is =
         absurd (behind_step (λ (w : View). (j : ℕ) → j < actors_of z → (w.hand j).topics.invalidations.opened ≡ true → ⊥) z v a step note S
         (none_published z v a note step S I is) i lt opened)

@@ -1,13 +1,9 @@
 -- Each step of a part keeps what is said of the slot sets that are held: the published one, and older ones that are leaving.
-use Rattle.std.proofs.Common.{◌≡◌, ◌≢◌, ◌⊎◌, inl, inr, ◌<◌, ◌≤◌, ℕ, refl, sym, subst, ap, ◌∙◌, arith, ◌+◌, ◌%◌}
-use Rattle.std.specs.Prelude.{Bool, true, false, ◌==◌, if◌then◌else◌, Option, Some, None, is_some}
-use Rattle.std.proofs.lemmas.Bool.Decides.{nat_tests}
+use Rattle.std.proofs.Common.{◌≡◌, ◌≢◌, ◌⊎◌, inl, inr, ◌<◌, ◌≤◌, ℕ, refl, sym, subst, ap, ◌∙◌, arith, ◌+◌}
+use Rattle.std.specs.Prelude.{Bool, true, false, if◌then◌else◌, Option, Some, None, is_some}
 use Rattle.core_views.specs.declared.sizes.Sizes.{Sizes}
-use Rattle.core_views.specs.declared.topics.Hold.{Hold}
-use Rattle.core_views.specs.declared.topics.Hold.TheVariants.{Exclusive}
 use Rattle.core_views.specs.declared.topics.OwnedPage.{OwnedPage}
 use Rattle.core_views.specs.declared.topics.SlotSearch.{SlotSearch}
-use Rattle.core_views.specs.declared.topics.Stay.{Stay}
 use Rattle.core_views.specs.declared.topics.Stay.TheVariants.{Section}
 use Rattle.core_views.specs.declared.topics.Topics.{Topics}
 use Rattle.core_views.specs.Held.{Held}
@@ -19,19 +15,18 @@ use Rattle.mmu_core.specs.invariant.HeldPart.{HoldsOld, SetsPart}
 use Rattle.part_steps.specs.PartTasks.{own_index, page_owned}
 use Rattle.part_steps.specs.PartHoldings.{next_watched}
 use Rattle.mmu_core.specs.invariant.TopicsInvariant.{TopicsInvariant}
-use Rattle.part_steps.specs.StayTopics.{may_search, is_alone, is_loose, is_section, kept_search}
+use Rattle.part_steps.specs.StayTopics.{may_search, is_loose, is_section, kept_search}
 use Rattle.part_steps.specs.PageTopics.{still_leaving}
-use Rattle.part_steps.specs.ControlTopics.{in_section, at_set}
+use Rattle.part_steps.specs.ControlTopics.{at_set}
+use Rattle.part_steps.specs.ControlBits.{in_section}
 use Rattle.mmu_core.specs.machine.View.{View, part_stepped, upd}
 use Rattle.mmu_core.proofs.machine.Columns.{same_or, upd_other, upd_same}
 use Rattle.mmu_core.proofs.machine.PartStepping.{IsPart}
 use Rattle.mmu_core.proofs.words.PartTopics.{behind_step, part_behind}
 use Rattle.mmu_core.proofs.words.PartWords.{slots_are, slots_behind}
 use Rattle.mmu_core.proofs.held.HeldKept.{set_kept}
-use Rattle.mmu_core.proofs.machine.SumsBelow.{sum_two}
-use Rattle.mmu_core.specs.machine.Sums.{one_if}
-use Rattle.mmu_core.specs.invariant.LockPart.{LockPart}
 use Rattle.mmu_core.specs.invariant.StatesPart.{stay_bits}
+use Rattle.mmu_core.proofs.held.InSection.{holder_in_section, next_before, section_shows, passed_not, all_passed}
 
 -- what all hands hold of the machine's parts
 abbrev topics_of : (ℕ → Held) → ℕ → Topics
@@ -113,8 +108,10 @@ module _ (n : ℕ) (hand : ℕ → Held) (a : ℕ) (h : Held) where
       by (inr ne) = theirs ne (P i k lt (sym (ap (λ (t : Topics). t.search.set) (is_there i ne)) ∙ is))
 
   -- What leaves for the actor, and how far it has watched, stays.
-  leaver_stays : h.topics.leaving ≡ (before a).leaving → h.topics.watched ≡ (before a).watched → (i k : ℕ) → i ≢ a → i < n → (H : HoldsOld n before i k) → H.by ≡ a → (h.topics.leaving ≡ Some k) × (h.topics.watched ≤ i)
-  leaver_stays leaves watched i k ne lt H e = (leaves ∙ ap (λ j. (before j).leaving) (sym e) ∙ H.leaves, omega (arith, watched, ap (λ j. (before j).watched) e, H.unwatched))
+  leaver_stays : h.topics.leaving ≡ (before a).leaving → h.topics.watched ≡ (before a).watched → (i k : ℕ) → i ≢ a → i < n
+      → (H : HoldsOld n before i k) → H.by ≡ a → (h.topics.leaving ≡ Some k) × (h.topics.watched ≤ i)
+  leaver_stays leaves watched i k ne lt H e =
+      (leaves ∙ ap (λ j. (before j).leaving) (sym e) ∙ H.leaves, omega (arith, watched, ap (λ j. (before j).watched) e, H.unwatched))
 
   -- Another slot set is published: what others hold of the one before it leaves for the actor.
   sets_published : (slots other : ℕ) → a < n → h.topics.search.set ≡ None → h.topics.leaving ≡ Some slots → h.topics.watched ≡ 0 → (before a).leaving ≡ None
@@ -130,62 +127,12 @@ module _ (n : ℕ) (hand : ℕ → Held) (a : ℕ) (h : Held) where
         leaves = ap (λ (t : Topics). t.leaving) is_here ∙ leaves ∙ ap (λ p. Some p) (sym published);
         unwatched = omega (arith, watched, ap (λ (t : Topics). t.watched) is_here);
       })
-      theirs ne held (inr H) = inr (other_old i k ne H (λ e. absurd (let some : Some k ≡ None = sym H.leaves ∙ ap (λ j. (before j).leaving) e ∙ left in cc some)))
+      theirs ne held (inr H) =
+          inr (other_old i k ne H (λ e. absurd (let some : Some k ≡ None = sym H.leaves ∙ ap (λ j. (before j).leaving) e ∙ left in cc some)))
 
       by : (i ≡ a) ⊎ (i ≢ a) → (k ≡ other) ⊎ HoldsOld n after i k
       by (inl e) = absurd (let some : Some k ≡ None = sym is ∙ ap (λ j. (after j).search.set) e ∙ ap (λ (t : Topics). t.search.set) is_here ∙ none in cc some)
       by (inr ne) = let held = sym (ap (λ (t : Topics). t.search.set) (is_there i ne)) ∙ is in theirs ne held (P i k lt held)
-
--- ---- Who holds a slot set while another actor has the lock alone is in a section.
-
-in_section_by : (stay : Stay) (hold : Hold) → may_search stay hold ≡ true → is_alone hold ≡ false → stay ≡ Section
-in_section_by Section hold may alone = refl
-in_section_by _ hold may alone = absurd (cc (may, alone))
-
-one_alone : (n lock : ℕ) (hold : ℕ → Hold) (a i : ℕ) → a < n → i < n → i ≢ a → LockPart n lock hold → hold a ≡ Exclusive → is_alone (hold i) ≡ false
-one_alone n lock hold a i there lt ne L alone = by (is_alone (hold i)) refl
-  where
-    by : (b : Bool) → is_alone (hold i) ≡ b → is_alone (hold i) ≡ false
-    by false e = e
-    by true e =
-        let mine : one_if (is_alone (hold a)) ≡ 1 = ap (λ x. one_if (is_alone x)) alone in
-        let its : one_if (is_alone (hold i)) ≡ 1 = ap one_if e in
-        absurd (omega (arith, L.one, sum_two n (λ j. one_if (is_alone (hold j))) i a lt there ne, mine, its))
-
-holder_in_section : (z : Sizes) (v : View) (a i k : ℕ) → a < actors_of z → i < actors_of z → i ≢ a → TopicsInvariant z v → (v.hand a).topics.hold ≡ Exclusive → (v.hand i).topics.search.set ≡ Some k → (v.hand i).topics.stay ≡ Section
-holder_in_section z v a i k there lt ne I alone held =
-    in_section_by t.stay t.hold (by (may_search t.stay t.hold) refl) (one_alone (actors_of z) (v.words area.Lock 0) (λ j. (v.hand j).topics.hold) a i there lt ne I.lock_part alone)
-  where
-    t : Topics
-    t = (v.hand i).topics
-
-    by : (b : Bool) → may_search t.stay t.hold ≡ b → may_search t.stay t.hold ≡ true
-    by true e = e
-    by false e = absurd (let none = (I.held i lt).no_set e in cc (held, none))
-
--- ---- A watch comes past nobody who is in a section.
-
-next_before : (own w i : ℕ) → w ≤ i → i ≢ own → next_watched own w ≤ i
-next_before own w i le ne = by (w == own) (λ e. grind (arith, nat_tests))
-  where
-    by : (b : Bool) → (b ≡ true → w ≡ own) → (if b then w + 1 else w) ≤ i
-    by true is = let e = is refl in omega (arith, le, ne, e)
-    by false is = le
-
-section_shows : (x : ℕ) → x < 8 → x % 4 ≡ 2 → in_section x ≡ true
-section_shows x lt is = grind (arith, nat_tests)
-
-passed_not : (b : Bool) (index i : ℕ) → index ≤ i → (index ≡ i → b ≡ true) → index + (if b then 0 else 1) ≤ i
-passed_not true index i le here = omega (arith, le)
-passed_not false index i le here = by (same_or index i)
-  where
-    by : (index ≡ i) ⊎ (index ≢ i) → index + 1 ≤ i
-    by (inl e) = let is = here e in absurd (cc is)
-    by (inr ne) = omega (arith, le, ne)
-
--- Who has watched all others has passed each of them.
-all_passed : (own w n i : ℕ) → n ≤ next_watched own w → i < n → i ≢ own → w ≤ i → ⊥
-all_passed own w n i all lt ne le = let next = next_before own w i le ne in omega (arith, all, lt, next)
 
 -- ---- Each step.
 
@@ -206,12 +153,15 @@ still_left None leaving some = absurd (cc some)
 still_left (Some o) leaving some = refl
 
 abbrev SetsBehind : Sizes → View → ℕ → ℕ → PartStep → Type 0
-SetsBehind z v a note step = IsPart z v a step → (I : TopicsInvariant z v) → SetsAt z (slots_behind step (v.hand a).topics (v.words area.Slots 0)) (part_behind a step note v)
+SetsBehind z v a note step =
+    IsPart z v a step → (I : TopicsInvariant z v) → SetsAt z (slots_behind step (v.hand a).topics (v.words area.Slots 0)) (part_behind a step note v)
 
 -- the step neither publishes nor moves what leaves or is watched
 module _ (z : Sizes) (v : View) (a : ℕ) (h : Held) (I : TopicsInvariant z v) where
-  sets_same : ((k : ℕ) → h.topics.search.set ≡ Some k → (k ≡ v.words area.Slots 0) ⊎ ((v.hand a).topics.search.set ≡ Some k) × (h.topics.stay ≡ (v.hand a).topics.stay))
-      → h.topics.leaving ≡ (v.hand a).topics.leaving → h.topics.watched ≡ (v.hand a).topics.watched → SetsPart (actors_of z) (v.words area.Slots 0) (λ i. (upd v.hand a h i).topics)
+  sets_same : ((k : ℕ) → h.topics.search.set ≡ Some k
+      → (k ≡ v.words area.Slots 0) ⊎ ((v.hand a).topics.search.set ≡ Some k) × (h.topics.stay ≡ (v.hand a).topics.stay))
+      → h.topics.leaving ≡ (v.hand a).topics.leaving → h.topics.watched ≡ (v.hand a).topics.watched
+      → SetsPart (actors_of z) (v.words area.Slots 0) (λ i. (upd v.hand a h i).topics)
   sets_same own leaves watched = sets_stay (actors_of z) v.hand a h (v.words area.Slots 0) own (leaver_stays (actors_of z) v.hand a h leaves watched) I.sets
 
 watch_sets : (z : Sizes) (v : View) (a note index : ℕ) → SetsBehind z v a note (part.Watch index)
@@ -221,11 +171,19 @@ watch_sets z v a note index S I =
     t : Topics
     t = (v.hand a).topics
 
-    reached : (i : ℕ) → i ≢ a → t.watched ≤ i → (index ≡ next_watched (own_index (v.hand a)) 0) ⊎ (index ≡ next_watched (own_index (v.hand a)) t.watched) → index ≤ i
-    reached i ne le (inl e) = let n = next_before a 0 i (omega arith) ne in let own : next_watched (own_index (v.hand a)) 0 ≡ next_watched a 0 = ap (λ o. next_watched o 0) S.own_place in omega (arith, e, n, own)
-    reached i ne le (inr e) = let n = next_before a t.watched i le ne in let own : next_watched (own_index (v.hand a)) t.watched ≡ next_watched a t.watched = ap (λ o. next_watched o t.watched) S.own_place in omega (arith, e, n, own)
+    reached : (i : ℕ) → i ≢ a → t.watched ≤ i
+        → (index ≡ next_watched (own_index (v.hand a)) 0) ⊎ (index ≡ next_watched (own_index (v.hand a)) t.watched) → index ≤ i
+    reached i ne le (inl e) =
+        let n = next_before a 0 i (omega arith) ne in
+        let own : next_watched (own_index (v.hand a)) 0 ≡ next_watched a 0 = ap (λ o. next_watched o 0) S.own_place in
+        omega (arith, e, n, own)
+    reached i ne le (inr e) =
+        let n = next_before a t.watched i le ne in
+        let own : next_watched (own_index (v.hand a)) t.watched ≡ next_watched a t.watched = ap (λ o. next_watched o t.watched) S.own_place in
+        omega (arith, e, n, own)
 
-    still : (i k : ℕ) → i ≢ a → i < actors_of z → (H : HoldsOld (actors_of z) (λ j. (v.hand j).topics) i k) → H.by ≡ a → (t.leaving ≡ Some k) × (index + (if in_section (v.words area.State index) then 0 else 1) ≤ i)
+    still : (i k : ℕ) → i ≢ a → i < actors_of z → (H : HoldsOld (actors_of z) (λ j. (v.hand j).topics) i k) → H.by ≡ a
+        → (t.leaving ≡ Some k) × (index + (if in_section (v.words area.State index) then 0 else 1) ≤ i)
     still i k ne lt H e =
         let unwatched : t.watched ≤ i = subst (λ j. (v.hand j).topics.watched ≤ i) e H.unwatched in
         let W = I.states_part i lt in (
@@ -246,10 +204,13 @@ give_old_sets z v a note S I =
     t : Topics
     t = (v.hand a).topics
 
-    still : (i k : ℕ) → i ≢ a → i < actors_of z → (H : HoldsOld (actors_of z) (λ j. (v.hand j).topics) i k) → H.by ≡ a → (still_leaving t.owned t.leaving ≡ Some k) × (t.watched ≤ i)
+    still : (i k : ℕ) → i ≢ a → i < actors_of z → (H : HoldsOld (actors_of z) (λ j. (v.hand j).topics) i k) → H.by ≡ a
+        → (still_leaving t.owned t.leaving ≡ Some k) × (t.watched ≤ i)
     still i k ne lt H e =
         let unwatched : t.watched ≤ i = subst (λ j. (v.hand j).topics.watched ≤ i) e H.unwatched in
-        let all : actors_of z ≤ next_watched a t.watched = subst (λ (y : Sizes). actors_of y ≤ next_watched a t.watched) S.sizes (subst (λ o. actors_of (v.hand a).state.sizes ≤ next_watched o t.watched) S.own_place S.needs.watched) in
+        let all : actors_of z ≤ next_watched a t.watched =
+        subst (λ (y : Sizes). actors_of y ≤ next_watched a t.watched) S.sizes
+        (subst (λ o. actors_of (v.hand a).state.sizes ≤ next_watched o t.watched) S.own_place S.needs.watched) in
         absurd (all_passed a t.watched (actors_of z) i all lt ne unwatched)
 
 sets_behind : (z : Sizes) (v : View) (a note : ℕ) (step : PartStep) → SetsBehind z v a note step
@@ -257,18 +218,25 @@ sets_behind z v a note part.Enter = λ S I. sets_same z v a _ I (λ k e. absurd 
 sets_behind z v a note part.Leave = λ S I. sets_same z v a _ I (λ k e. absurd (cc e)) refl refl
 sets_behind z v a note part.Begin = λ S I. sets_same z v a _ I (λ k e. absurd (cc e)) refl refl
 sets_behind z v a note part.End = λ S I. sets_same z v a _ I (λ k e. absurd (cc e)) refl refl
-sets_behind z v a note part.Unshare = λ S I. sets_same z v a _ I (λ k e. inr (let_go_set (is_section (v.hand a).topics.stay) (v.hand a).topics.search k e, refl)) refl refl
-sets_behind z v a note part.Release = λ S I. sets_same z v a _ I (λ k e. inr (let_go_set (is_section (v.hand a).topics.stay) (v.hand a).topics.search k e, refl)) refl refl
-sets_behind z v a note part.Seq = λ S I. sets_same z v a _ I (λ k e. inr (snapshot_set (is_loose (v.hand a).topics.hold) (v.hand a).topics.search k e, refl)) refl refl
-sets_behind z v a note part.Slots = λ S I. sets_same z v a _ I (λ k e. inl (begun_set (may_search (v.hand a).topics.stay (v.hand a).topics.hold) (v.hand a).topics.search (v.words area.Slots 0) k e)) refl refl
-sets_behind z v a note part.Slot = λ S I. sets_same z v a _ I (λ k e. inr (sym (set_kept (is_some (v.hand a).topics.search.set) (v.hand a).topics.search _) ∙ e, refl)) refl refl
+sets_behind z v a note part.Unshare =
+    λ S I. sets_same z v a _ I (λ k e. inr (let_go_set (is_section (v.hand a).topics.stay) (v.hand a).topics.search k e, refl)) refl refl
+sets_behind z v a note part.Release =
+    λ S I. sets_same z v a _ I (λ k e. inr (let_go_set (is_section (v.hand a).topics.stay) (v.hand a).topics.search k e, refl)) refl refl
+sets_behind z v a note part.Seq =
+    λ S I. sets_same z v a _ I (λ k e. inr (snapshot_set (is_loose (v.hand a).topics.hold) (v.hand a).topics.search k e, refl)) refl refl
+sets_behind z v a note part.Slots =
+    λ S I. sets_same z v a _ I
+    (λ k e. inl (begun_set (may_search (v.hand a).topics.stay (v.hand a).topics.hold) (v.hand a).topics.search (v.words area.Slots 0) k e)) refl refl
+sets_behind z v a note part.Slot =
+    λ S I. sets_same z v a _ I (λ k e. inr (sym (set_kept (is_some (v.hand a).topics.search.set) (v.hand a).topics.search _) ∙ e, refl)) refl refl
 sets_behind z v a note part.Give = λ S I. sets_same z v a _ I (λ k e. inr (e, refl)) (still_left (v.hand a).topics.owned (v.hand a).topics.leaving S.needs) refl
 sets_behind z v a note part.GiveOld = give_old_sets z v a note
 sets_behind z v a note (part.Watch index) = watch_sets z v a note index
 sets_behind z v a note part.Publish = publish_sets z v a note
 sets_behind z v a note _ = λ S I. sets_same z v a _ I (λ k e. inr (e, refl)) refl refl
 
-pub sets_kept : (z : Sizes) (v : View) (a : ℕ) (step : PartStep) (note : ℕ) → IsPart z v a step → TopicsInvariant z v → SetsPart (actors_of z) ((part_stepped a step note v).words area.Slots 0) (λ i. ((part_stepped a step note v).hand i).topics)
+pub sets_kept : (z : Sizes) (v : View) (a : ℕ) (step : PartStep) (note : ℕ) → IsPart z v a step → TopicsInvariant z v
+    → SetsPart (actors_of z) ((part_stepped a step note v).words area.Slots 0) (λ i. ((part_stepped a step note v).hand i).topics)
 sets_kept z v a step note S I =
     subst (λ s. SetsPart (actors_of z) s (λ i. ((part_stepped a step note v).hand i).topics)) (sym (slots_are v a step note))
     (behind_step (SetsAt z (slots_behind step (v.hand a).topics (v.words area.Slots 0))) z v a step note S (sets_behind z v a note step S I))

@@ -48,7 +48,8 @@ use Rattle.mmu_core.proofs.held.PassedKept.{passed_kept}
 use Rattle.mmu_core.proofs.held.ScopesKept.{scopes_kept}
 
 -- Each step of a part does.
-pub topics_part_kept : (z : Sizes) (v : View) (a : ℕ) (step : PartStep) (note : ℕ) → IsPart z v a step → TopicsInvariant z v → TopicsInvariant z (part_stepped a step note v)
+pub topics_part_kept : (z : Sizes) (v : View) (a : ℕ) (step : PartStep) (note : ℕ) → IsPart z v a step → TopicsInvariant z v
+    → TopicsInvariant z (part_stepped a step note v)
 topics_part_kept z v a step note S I = record {
   up = up_after step a (v.hand a).topics v I.up;
   spot = spot_after step (v.hand a).topics v I.spot;
@@ -97,7 +98,8 @@ kept_by z v a _ (Makes step note S) P = topics_part_kept z v a step note S P
 kept_by z v a _ (Touches op index) P = touch_kept z v a op index P
 
 -- Each step of a line keeps it.
-pub topics_line_kept : (z : Sizes) (v : View) (a : ℕ) (line : Line) (command : Command) (p : Place) → AreSmall v → IsStep z v a line command p → Invariant z v → TopicsInvariant z v → TopicsInvariant z (stepped a line command p v)
+pub topics_line_kept : (z : Sizes) (v : View) (a : ℕ) (line : Line) (command : Command) (p : Place) → AreSmall v → IsStep z v a line command p
+    → Invariant z v → TopicsInvariant z v → TopicsInvariant z (stepped a line command p v)
 topics_line_kept z v a line command p small S I P =
     same_topics z _ _ _ _ _ _ _ _ _ _ _ _ behind.hand (upd v.hand a after) (λ t i. same i t) (kept_by z v a task (step_in z v a line command p small S I P) P)
   where

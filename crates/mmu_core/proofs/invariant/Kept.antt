@@ -62,18 +62,23 @@ own_known _ line _ z h words begun may R K left N = absurd K
 -- The step of a line leaves its actor with what its next place asks, or at rest where the line is answered.
 pub line_knows : (z : Sizes) (v : View) (a : ℕ) (line : Line) (command : Command) (p : Place) → IsStep z v a line command p → Invariant z v
     → TopicsInvariant z v → a < actors_of z
-    → KnowsBehind (outcome_at p command (v.hand a) (answer_in (task_at p command (v.hand a)) v.words)) command (hand_after line command p (v.hand a) (answer_in (task_at p command (v.hand a)) v.words))
+    → KnowsBehind (outcome_at p command (v.hand a) (answer_in (task_at p command (v.hand a)) v.words)) command
+    (hand_after line command p (v.hand a) (answer_in (task_at p command (v.hand a)) v.words))
 line_knows z v a line command p S I P there =
-    own_known p line command z (v.hand a) v.words S.begun (subst (λ x. IsCommandFor z x command) S.own S.allowed) (part_rests_at z v a I P there) (step_knows z v a line command p S I) (step_leaves z v a line command p S I) (needs_at z v a line command p S I P)
+    own_known p line command z (v.hand a) v.words S.begun (subst (λ x. IsCommandFor z x command) S.own S.allowed) (part_rests_at z v a I P there)
+    (step_knows z v a line command p S I) (step_leaves z v a line command p S I) (needs_at z v a line command p S I P)
 
 -- Each step of a line leaves each actor with what its place asks.
 pub knows_behind : (z : Sizes) (v : View) (a : ℕ) (line : Line) (command : Command) (p : Place) → IsStep z v a line command p → Invariant z v
     → TopicsInvariant z v → (i : ℕ) → i < actors_of z
     → KnowsPart ((stepped a line command p v).hand i).state.place ((stepped a line command p v).hand i).state.line.command ((stepped a line command p v).hand i)
 knows_behind z v a line command p S I P =
-    at_upd (λ i (h : Held). i < actors_of z → KnowsPart h.state.place h.state.line.command h) v.hand a (hand_after line command p (v.hand a) (answer_in (task_at p command (v.hand a)) v.words))
-    (λ there. subst (λ c. KnowsPart (place_after (outcome_at p command (v.hand a) (answer_in (task_at p command (v.hand a)) v.words))) c (hand_after line command p (v.hand a) (answer_in (task_at p command (v.hand a)) v.words))) (sym S.command_is)
-    (knows_after (outcome_at p command (v.hand a) (answer_in (task_at p command (v.hand a)) v.words)) command (hand_after line command p (v.hand a) (answer_in (task_at p command (v.hand a)) v.words)) (line_knows z v a line command p S I P there)))
+    at_upd (λ i (h : Held). i < actors_of z → KnowsPart h.state.place h.state.line.command h) v.hand a
+    (hand_after line command p (v.hand a) (answer_in (task_at p command (v.hand a)) v.words))
+    (λ there. subst (λ c. KnowsPart (place_after (outcome_at p command (v.hand a) (answer_in (task_at p command (v.hand a)) v.words))) c
+    (hand_after line command p (v.hand a) (answer_in (task_at p command (v.hand a)) v.words))) (sym S.command_is)
+    (knows_after (outcome_at p command (v.hand a) (answer_in (task_at p command (v.hand a)) v.words)) command
+    (hand_after line command p (v.hand a) (answer_in (task_at p command (v.hand a)) v.words)) (line_knows z v a line command p S I P there)))
     (λ i ne. I.knows i)
 
 -- The step of a part that a line that changes a slot makes at its place is one that its actor may make.
@@ -99,7 +104,8 @@ pub step_kept : (z : Sizes) (v : View) (a : ℕ) (line : Line) (command : Comman
     → Invariant z v → TopicsInvariant z v → Invariant z (stepped a line command p v)
 step_kept z v a line command place.Between small S I P = absurd S.begun
 step_kept z v a line (Access gfn word op) (place.Access p) small S I P =
-    access_kept z v a line p gfn word op S I P (step_knows z v a line (Access gfn word op) (place.Access p) S I) (makes_parts z v a line p gfn word op small S I P) (knows_behind z v a line (Access gfn word op) (place.Access p) S I P)
+    access_kept z v a line p gfn word op S I P (step_knows z v a line (Access gfn word op) (place.Access p) S I)
+    (makes_parts z v a line p gfn word op small S I P) (knows_behind z v a line (Access gfn word op) (place.Access p) S I P)
 step_kept z v a line command (place.SlotChange p) small S I P =
     slot_change_kept z v a line p command S I P (makes_at z v a line command (place.SlotChange p) small S I P)
     (knows_behind z v a line command (place.SlotChange p) S I P)

@@ -29,7 +29,9 @@ use Rattle.mmu_core.proofs.held.OldSets.{set_live}
 pub part_rests_at : (z : Sizes) (v : View) (i : ℕ) → Invariant z v → TopicsInvariant z v → i < actors_of z → PartRests (v.hand i)
 part_rests_at z v i I P there = record {
   sizes = subst AreSizes (sym same) I.sizes;
-  own_place = subst (λ n. n < actors_of h.state.sizes) (sym (ap (λ y. index_of y h.state.actor) same ∙ O.index)) (subst (λ (y : Sizes). i < actors_of y) (sym same) there);
+  own_place =
+      subst (λ n. n < actors_of h.state.sizes) (sym (ap (λ y. index_of y h.state.actor) same ∙ O.index))
+      (subst (λ (y : Sizes). i < actors_of y) (sym same) there);
   level = level (cases_lt 0 h.topics.walk.level);
   table = λ from. subst (λ (y : Sizes). table_page h.topics.walk < y.pool) (sym same) (P.tree.there _ _ (H.table from)).0;
   set = λ k is. subst (λ (y : Sizes). k < y.pool) (sym same) (set_there k is);

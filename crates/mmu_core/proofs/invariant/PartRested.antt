@@ -1,4 +1,5 @@
--- What the steps of the parts rest on holds of every hand that some world has; with it, a hand with no line left may make each step that it holds the needs of and that isn't one of lines alone.
+-- What the steps of the parts rest on holds of every hand that some world has; with it, a hand with no line left may make each step that it holds the
+-- needs of and that isn't one of lines alone.
 use Rattle.std.proofs.Common.{◌≡◌, inr, ◌<◌, ℕ, refl, subst}
 use Rattle.std.specs.Prelude.{false}
 use Rattle.std.proofs.Math.Logic.{∥∥₁_elim}
@@ -26,7 +27,9 @@ pub rests_in : (z : Sizes) (w : World Held) (i : ℕ) → IsSound z w → i < ac
 rests_in z w i G there = part_rests_at z (view z w) i G.holds G.topics there
 
 pub reached_part_rests : (h : Held) → ∥ HandReached h ∥₁ → PartRests h
-reached_part_rests h reached = ∥∥₁_elim reached (part_rests_prop h) (λ x. let G = reached_good x.world x.reached in subst PartRests x.has (rests_in x.reached.sizes x.world x.actor G (subst (λ n. x.actor < n) G.hands x.there)))
+reached_part_rests h reached =
+    ∥∥₁_elim reached (part_rests_prop h) (λ x. let G = reached_good x.world x.reached in
+    subst PartRests x.has (rests_in x.reached.sizes x.world x.actor G (subst (λ n. x.actor < n) G.hands x.there)))
 
 enabled_part : (h : Held) (step : PartStep) (note : ℕ) → IsPartStep h (part_kind h step note) → Enabled h (part_kind h step note)
 unfolding Enabled
@@ -35,5 +38,15 @@ enabled_part h step note e = inr e
 pub may_make : (h : Held) (step : PartStep) (note : ℕ) → PartRests h → has_line h ≡ false → needs_line step ≡ false → PartNeeds step h → MayMake step note h
 may_make h step note R none free N = record {
   needs = N;
-  enabled = enabled_part h step note (record { none_left = none; sizes = R.sizes; step = step; free = free; note = note; is = refl; needs = N; within = part_within step h N R; small = part_small step h note N R });
+  enabled = enabled_part h step note (record {
+    none_left = none;
+    sizes = R.sizes;
+    step = step;
+    free = free;
+    note = note;
+    is = refl;
+    needs = N;
+    within = part_within step h N R;
+    small = part_small step h note N R;
+  });
 }

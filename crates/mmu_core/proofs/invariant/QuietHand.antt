@@ -16,7 +16,7 @@ use Rattle.part_steps.specs.declared.part_step.PartStep.{PartStep}
 use Rattle.part_steps.specs.Tasks.{kind_of_task}
 use Rattle.part_steps.specs.TopicSteps.{topics_after}
 use Rattle.mmu_core.specs.declared.outcome.Outcome.{Outcome}
-use Rattle.mmu_core.specs.invariant.Invariant.{CachedPart, Holds, Invariant, IsLeafFor, LeavesPart, lines_done}
+use Rattle.mmu_core.specs.invariant.Invariant.{CachedPart, Holds, Invariant, LeavesPart, lines_done}
 use Rattle.mmu_core.specs.invariant.TopicsInvariant.{TopicsInvariant}
 use Rattle.mmu_core.specs.lines.Cached.{flushed}
 use Rattle.mmu_core.specs.lines.Forms.{RestsAt, caches_at, may_leave, outcome_at, part_at, records_at}
@@ -30,8 +30,7 @@ use Rattle.mmu_core.proofs.lines.LinesKept.{answers_more}
 use Rattle.mmu_core.proofs.lines.StepTopics.{topics_of_step}
 use Rattle.mmu_core.proofs.machine.HandWith.{hand_with}
 use Rattle.mmu_core.proofs.machine.Stepping.{IsStep, none_done}
-use Rattle.mmu_core.proofs.slots.LiveStay.{StayLive, translations_stay}
-use Rattle.mmu_core.proofs.slots.SlotsStay.{AllKnow, is_live_stays}
+use Rattle.mmu_core.proofs.slots.SlotsStay.{AllKnow}
 use Rattle.spte_words.specs.Entries.{frame_in}
 
 same_step : {s step : PartStep} → Some s ≡ Some step → s ≡ step

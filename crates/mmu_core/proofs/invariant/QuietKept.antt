@@ -35,9 +35,9 @@ use Rattle.mmu_core.proofs.machine.HandAfter.{IsSameState, loads_same}
 use Rattle.mmu_core.proofs.machine.PartStepping.{IsPart, is_publish}
 use Rattle.mmu_core.proofs.machine.Stepping.{IsStep}
 use Rattle.mmu_core.proofs.slots.LiveStay.{StayLive, set_stays}
-use Rattle.mmu_core.proofs.slots.LiveStays.{MakesParts, OwnedStays, access_never, SetStays, published_stays, touch_leaves_host, touch_leaves_pool, touch_leaves_role, touch_leaves_slots}
+use Rattle.mmu_core.proofs.slots.LiveStays.{MakesParts, OwnedStays, access_never, SetStays, published_stays, touch_leaves_pool}
+use Rattle.mmu_core.proofs.slots.LiveStays.{touch_leaves_role, touch_leaves_slots}
 use Rattle.mmu_core.proofs.slots.SlotsStay.{AllKnow, hand_moved, is_live_stays, is_live_was, record_stays}
-use Rattle.mmu_core.proofs.words.HostStays.{host_stays}
 use Rattle.mmu_core.proofs.words.PartWords.{role_stays, slots_are, slots_other_role, slots_same}
 
 -- The step of a part that a line makes at a place is one that its actor may make.
@@ -122,7 +122,8 @@ pub quiet_kept : (z : Sizes) (v : View) (a : ℕ) (line : Line) (command : Comma
 quiet_kept z v a line command p S I W Q knows =
     subst (λ n. InvariantOf z n (words area.Role) (words area.Pool) (upd v.hand a after)) (sym W.slots)
     (hand_moved z set set (v.words area.Role) (words area.Role) (v.words area.Pool) (words area.Pool) v.hand a after live
-    (set_stays z (v.words area.Role) (words area.Role) (v.words area.Pool) set (words area.Pool) set (is_live_was set (v.words area.Pool) (words area.Pool) W.pool) (W.role ∙ I.set_part.role_is) I.set_part)
+    (set_stays z (v.words area.Role) (words area.Role) (v.words area.Pool) set (words area.Pool) set
+    (is_live_was set (v.words area.Pool) (words area.Pool) W.pool) (W.role ∙ I.set_part.role_is) I.set_part)
     W.owned (λ i lt ne is. recorded (v.hand i).slots (I.recorded i lt is)) own
     (subst (λ c. Holds z (words area.Pool) set after.state.place c after) (sym S.command_is) Q.holds) Q.leaves Q.cached
     (λ is. subst (RecordPart (words area.Pool) set) (sym Q.same) (recorded h.slots (I.recorded a S.there (sym loaded.actor ∙ is)))) knows I)
@@ -159,5 +160,6 @@ quiet_kept z v a line command p S I W Q knows =
         let O = I.lines a S.there in
         lines_behind z a h line (state_at p command h x) o after.topics after.cached after.slots O S.next S.left (loaded.sizes ∙ O.sizes) loaded.actor
         (flushed_room (kind_of_task h.state.sizes (task_at p command h)) (caches_at p command h x) x ∙ Q.room)
-        (subst (λ (s : MemorySlots). AreSetBy h.lines (lines_done after) (keys_of s)) (sym Q.same) (answered_kept (lines_done h) (lines_done after) h.lines (keys_of h.slots) Q.more O.answered))
+        (subst (λ (s : MemorySlots). AreSetBy h.lines (lines_done after) (keys_of s)) (sym Q.same)
+        (answered_kept (lines_done h) (lines_done after) h.lines (keys_of h.slots) Q.more O.answered))
         (subst (λ (s : MemorySlots). All (IsSetBy h.lines) s) (sym Q.same) O.set)

@@ -1,11 +1,10 @@
 -- What a line rests on, from the invariant; and that the word of its next step is one of the words.
 use Rattle.core_views.specs.declared.trace.HostChange.TheVariants.{Move, Evict, Protect, Allow}
-use Rattle.std.proofs.Common.{◌≡◌, ◌⊎◌, inl, inr, ◌<◌, ◌≤◌, ◌+◌, ℕ, length, refl, sym, subst, ap, ◌∙◌, arith}
-use Rattle.std.specs.Prelude.{Bool, true, ◌&&◌, nat_le, nat_lt, Option, Some, None}
+use Rattle.std.proofs.Common.{◌≡◌, ◌⊎◌, inl, inr, ◌<◌, ◌≤◌, ℕ, length, refl, sym, subst, ap, ◌∙◌, arith}
+use Rattle.std.specs.Prelude.{Bool, Option, Some, None}
 use Rattle.std.proofs.Math.Logic.{∥∥₁_elim, ∥∥₁_map}
 use Rattle.std.proofs.Props.{props}
 use Rattle.std.proofs.lemmas.Bool.{cases_lt}
-use Rattle.std.proofs.lemmas.Bool.Decides.{nat_tests}
 use Rattle.core_views.specs.declared.actor.Actor.{Actor}
 use Rattle.core_views.specs.declared.actor.Actor.TheVariants.{Vcpu, Host}
 use Rattle.core_views.specs.declared.place.AccessPlace.{AccessPlace}
@@ -22,17 +21,14 @@ use Rattle.core_views.specs.declared.trace.Command.TheVariants.{Access, ChangeHo
 use Rattle.core_views.specs.declared.trace.Line.{Line}
 use Rattle.core_views.specs.declared.trace.Op.{Op}
 use Rattle.core_views.specs.declared.trace.Op.TheVariants.{Read}
-use Rattle.core_views.specs.declared.trace.Slot.{Slot as SlotOf}
 use Rattle.core_views.specs.Held.{Held}
-use Rattle.core_views.specs.Sizes.{AreSizes, actors_of}
+use Rattle.core_views.specs.Sizes.{actors_of}
 use Rattle.core_views.specs.Slots.{is_write}
 use Rattle.core_views.specs.Traces.{IsCommandFor}
 use Rattle.spte_words.specs.declared.area.Area.TheVariants as area
 use Rattle.spte_words.specs.Areas.{content_index, size_of}
 use Rattle.spte_words.specs.Entries.{frame_in}
-use Rattle.spte_words.specs.HostWords.{host_allows_write, host_frame}
 use Rattle.spte_words.proofs.Indices.{content_within}
-use Rattle.spte_words.proofs.ReadsEntries.{leaf_frame}
 use Rattle.part_steps.specs.declared.part_step.PartStep.{PartStep}
 use Rattle.part_steps.specs.declared.part_step.PartStep.TheVariants as part
 use Rattle.mmu_core.specs.lines.Cached.{frame_used}
@@ -44,7 +40,7 @@ use Rattle.part_steps.specs.PartHoldings.{FoundSlot, IsFresh, LookedUp, MayEnter
 use Rattle.part_steps.specs.PartSteps.{GoesOnToWord, IsVcpu, PartNeeds}
 use Rattle.mmu_core.specs.lines.Forms.{AcceptsAt, RestsAt}
 use Rattle.mmu_core.specs.lines.Rests.{Rests}
-use Rattle.part_steps.specs.SlotWords.{may_write, page_of}
+use Rattle.part_steps.specs.SlotWords.{page_of}
 use Rattle.mmu_core.specs.machine.Steps.{line_at, place_at, task_at, task_of}
 use Rattle.part_steps.specs.Tasks.{map_of}
 use Rattle.mmu_core.specs.invariant.TopicsInvariant.{TopicsInvariant}
@@ -104,7 +100,9 @@ hand_rests z v a I P there left =
     record {
       part = R;
       line = subst (λ (y : Sizes). IsCommandFor y line.actor line.command) (sym same) S.allowed;
-      at = rests_at p line.command z v h (I.cached a there) same (subst (λ (x : Actor). IsCommandFor z x line.command) S.own S.allowed) R (step_knows z v a line line.command p S I) S.holds (needs_at z v a line line.command p S I P);
+      at =
+          rests_at p line.command z v h (I.cached a there) same (subst (λ (x : Actor). IsCommandFor z x line.command) S.own S.allowed) R
+          (step_knows z v a line line.command p S I) S.holds (needs_at z v a line line.command p S I P);
       accepts =
           subst (λ (y : Sizes). AcceptsAt p line.command y h.slots) (sym same)
           (accepts_at p line.command z (v.words area.Pool) (v.words area.Slots 0) h S.holds);

@@ -1,41 +1,30 @@
 -- The steps of an access keep the invariant.
 use Rattle.mmu_core.proofs.lines.OpenedStays.{access_opens_none}
-use Rattle.std.proofs.Common.{◌≡◌, ◌<◌, ℕ, refl, sym, subst, arith}
-use Rattle.std.specs.Prelude.{Bool, true, Option, Some, None}
-use Rattle.core_views.specs.declared.cache.Translation.{Translation}
+use Rattle.std.proofs.Common.{ℕ, refl, arith}
 use Rattle.core_views.specs.declared.place.AccessPlace.{AccessPlace}
-use Rattle.core_views.specs.declared.place.AccessPlace.TheVariants.{Pause, Walk, Leave, Fault}
+use Rattle.core_views.specs.declared.place.AccessPlace.TheVariants.{Leave, Fault}
 use Rattle.core_views.specs.declared.place.FaultEnd.TheVariants as end_of
 use Rattle.core_views.specs.declared.place.FaultNext.{FaultNext}
 use Rattle.core_views.specs.declared.place.FaultNext.TheVariants as next_of
 use Rattle.core_views.specs.declared.place.Leaving.TheVariants as leaving
-use Rattle.core_views.specs.declared.place.Place.{Place}
 use Rattle.core_views.specs.declared.place.Place.TheVariants as place
 use Rattle.core_views.specs.declared.sizes.Sizes.{Sizes}
 use Rattle.core_views.specs.declared.trace.Command.TheVariants.{Access}
 use Rattle.core_views.specs.declared.trace.Line.{Line}
 use Rattle.core_views.specs.declared.trace.Op.{Op}
 use Rattle.core_views.specs.Held.{Held}
-use Rattle.core_views.specs.Sizes.{actors_of}
 use Rattle.core_views.specs.Slots.{is_write}
 use Rattle.spte_words.specs.declared.area.Area.TheVariants as area
-use Rattle.spte_words.specs.declared.spte_kind.SpteKind.{SpteKind}
-use Rattle.spte_words.specs.declared.spte_kind.SpteKind.TheVariants as entry_kind
-use Rattle.spte_words.specs.Areas.{pool_index}
-use Rattle.spte_words.specs.Entries.{kind_of}
-use Rattle.mmu_core.specs.declared.outcome.Outcome.{Outcome}
-use Rattle.mmu_core.specs.lines.AccessSteps.{access_loads, access_outcome, access_task, behind_fault, use_found, pause_next, stay_next}
-use Rattle.mmu_core.specs.lines.Cached.{first_usable}
-use Rattle.mmu_core.specs.lines.FaultSteps.{allows_access, fault_next}
+use Rattle.mmu_core.specs.lines.AccessSteps.{access_outcome, access_task, behind_fault}
+use Rattle.mmu_core.specs.lines.FaultSteps.{fault_next}
 use Rattle.mmu_core.specs.lines.AccessKnows.{AccessKnows}
-use Rattle.part_steps.specs.PartTasks.{entry_index, table_page}
 use Rattle.mmu_core.specs.machine.Outcomes.{place_after}
 use Rattle.mmu_core.specs.invariant.TopicsInvariant.{TopicsInvariant}
 use Rattle.mmu_core.specs.machine.View.{View, answer_in, hand_after, stepped}
-use Rattle.mmu_core.proofs.lines.CachedKept.{cached_kept, leaf_found, used_leaf}
+use Rattle.mmu_core.proofs.lines.CachedKept.{cached_kept}
 use Rattle.mmu_core.proofs.lines.LinesKept.{answers_more}
 use Rattle.mmu_core.proofs.machine.Stepping.{IsStep, none_done}
-use Rattle.mmu_core.specs.invariant.Invariant.{Holds, Invariant, IsLeafFor}
+use Rattle.mmu_core.specs.invariant.Invariant.{Holds, Invariant}
 use Rattle.mmu_core.proofs.slots.LiveStays.{MakesParts}
 use Rattle.mmu_core.proofs.invariant.QuietKept.{access_sets_stay, quiet_kept}
 use Rattle.mmu_core.proofs.slots.SlotsStay.{AllKnow}

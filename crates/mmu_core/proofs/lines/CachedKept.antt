@@ -37,11 +37,8 @@ use Rattle.part_steps.specs.PartHoldings.{IsOver}
 use Rattle.part_steps.specs.Tasks.{kind_of_task}
 use Rattle.mmu_core.specs.invariant.TopicsInvariant.{TopicsInvariant}
 use Rattle.mmu_core.proofs.pages.LeavesOver.{leaf_for}
-use Rattle.mmu_core.specs.machine.View.{View, answer_in, hand_after, stepped}
+use Rattle.mmu_core.specs.machine.View.{View, answer_in, hand_after}
 pub use Rattle.mmu_core.proofs.slots.LiveStay.{leaf_stays, translations_stay}
-use Rattle.mmu_core.proofs.slots.LiveStays.{MakesParts}
-use Rattle.mmu_core.proofs.invariant.QuietKept.{access_sets_stay}
-use Rattle.mmu_core.proofs.slots.SlotsStay.{is_live_stays}
 use Rattle.mmu_core.proofs.words.HostFrames.{leaf_there}
 
 -- A step leaves what is cached, or flushes it.
@@ -61,12 +58,15 @@ flushed_kept P k c v all = by (kind_named k.code)
 
 -- A leaf in the walk's table, at the guest frame's entry, is of the lowest level, and is the guest frame's.
 pub leaf_found : (z : Sizes) (v : View) (a gfn : ℕ) → a < actors_of z → Invariant z v → TopicsInvariant z v → IsOver gfn (v.hand a).topics.walk
-    → kind_of (v.hand a).topics.walk.level (v.words area.Pool (pool_index (table_page (v.hand a).topics.walk) (entry_index gfn (v.hand a).topics.walk.level))) ≡ entry_kind.Leaf
-    → ((v.hand a).topics.walk.level ≡ 1) × IsLeafFor (v.words area.Pool) (v.words area.Host) (v.words area.Slots 0) gfn (v.words area.Pool (pool_index (table_page (v.hand a).topics.walk) (entry_index gfn (v.hand a).topics.walk.level)))
+    → kind_of (v.hand a).topics.walk.level
+    (v.words area.Pool (pool_index (table_page (v.hand a).topics.walk) (entry_index gfn (v.hand a).topics.walk.level))) ≡ entry_kind.Leaf
+    → ((v.hand a).topics.walk.level ≡ 1) × IsLeafFor (v.words area.Pool) (v.words area.Host) (v.words area.Slots 0) gfn
+    (v.words area.Pool (pool_index (table_page (v.hand a).topics.walk) (entry_index gfn (v.hand a).topics.walk.level)))
 leaf_found z v a gfn lt I P over leaf =
     let walk : TableWalk = (v.hand a).topics.walk in
     let run = over.run in
-    leaf_for z v P (table_page walk) walk.level walk.prefix (entry_index gfn walk.level) gfn ((P.held a lt).table over.there) (omega arith) (omega (arith, run)) leaf
+    leaf_for z v P (table_page walk) walk.level walk.prefix (entry_index gfn walk.level) gfn ((P.held a lt).table over.there) (omega arith)
+    (omega (arith, run)) leaf
 
 -- What a stay caches is a leaf.
 pub found_is_leaf : (k : SpteKind) (allowed : Bool) → is_found k allowed ≡ true → k ≡ entry_kind.Leaf
@@ -74,8 +74,8 @@ found_is_leaf entry_kind.Leaf allowed is = refl
 found_is_leaf _ allowed is = absurd (cc is)
 
 -- What holds of a new translation and of those before holds of all after it is cached.
-pub with_leaf_all : (P : Translation → Type 0) (gfn level leaf : ℕ) (c : Buffer Translation) → P (record { gfn = gfn; level = level; leaf = leaf }) → All P c.items
-    → All P (with_leaf gfn level leaf c).items
+pub with_leaf_all : (P : Translation → Type 0) (gfn level leaf : ℕ) (c : Buffer Translation) → P (record { gfn = gfn; level = level; leaf = leaf })
+    → All P c.items → All P (with_leaf gfn level leaf c).items
 with_leaf_all P gfn level leaf c new_ each =
     All-take P c.capacity (record { gfn = gfn; level = level; leaf = leaf } ∷ c.items)
     (All-cons P (record { gfn = gfn; level = level; leaf = leaf }) c.items new_ each)
@@ -113,7 +113,8 @@ first_of true b e = refl
 first_of false b e = absurd (cc e)
 
 -- What all cached translations have, the one has that an access uses.
-pub used_has : (P : Translation → Type 0) (gfn : ℕ) (write : Bool) (ts : List Translation) (t : Translation) → All P ts → first_usable gfn write ts ≡ Some t → P t
+pub used_has : (P : Translation → Type 0) (gfn : ℕ) (write : Bool) (ts : List Translation) (t : Translation) → All P ts
+    → first_usable gfn write ts ≡ Some t → P t
 used_has P gfn write ts t each is = (found_has P (is_usable gfn write) ts t each is).0
 
 -- One that is of the lowest level is of the guest frame itself.
@@ -147,8 +148,10 @@ caches_kept z v a (Walk again) gfn word op lt I P K =
     by : (b : Bool) → (b ≡ true → kind_of level w ≡ entry_kind.Leaf) → CachedPart z (if b then with_leaf gfn level w h.cached else h.cached).items
     by true leaf =
         let found = leaf_found z v a gfn lt I P K.1 (leaf refl) in
-        with_leaf_all (FitsMachine z) gfn level w h.cached
-        (found.0, leaf_there z (v.words area.Slots 0) (v.words area.Role) (v.words area.Pool) (v.words area.Host) gfn w I.sizes I.set_part P.hosts found.1) (I.cached a lt)
+        with_leaf_all (FitsMachine z) gfn level w h.cached (
+          found.0,
+          leaf_there z (v.words area.Slots 0) (v.words area.Role) (v.words area.Pool) (v.words area.Host) gfn w I.sizes I.set_part P.hosts found.1,
+        ) (I.cached a lt)
     by false leaf = I.cached a lt
 caches_kept z v a _ gfn word op lt I P K = I.cached a lt
 

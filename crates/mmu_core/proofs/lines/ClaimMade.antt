@@ -50,7 +50,8 @@ module _ (z : Sizes) (begun : Bool) (t : Topics) (v : ℕ) where
   tried false tries is = let B = both begun (nat_lt 0 t.claim.seen) tries in Lost tries B.0 (let some = B.1 in grind (arith, nat_tests)) is
 
   loaded : (more : Bool) → tries_page begun t.claim ≡ false → nat_lt (word_after_load begun t.claim v) (words_of_bits z.pool) ≡ more
-      → ClaimMade z begun t v (part.Map (map_word begun t.claim)) (if more then claims.Goes else claims.Empty) (record t { claim = record { at = word_after_load begun t.claim v; seen = v } })
+      → ClaimMade z begun t v (part.Map (map_word begun t.claim)) (if more then claims.Goes else claims.Empty)
+      (record t { claim = record { at = word_after_load begun t.claim v; seen = v } })
   loaded true not_ is = Saw not_ (grind (arith, nat_tests))
   loaded false not_ is = SawNone not_ (grind (arith, nat_tests))
 
@@ -59,21 +60,25 @@ module _ (z : Sizes) (begun : Bool) (t : Topics) (v : ℕ) where
     where
       by : (tries : Bool) → tries_page begun t.claim ≡ tries
           → ClaimMade z begun t v (if tries then part.Claim else part.Map (map_word begun t.claim))
-          (if tries then (if is_won t.claim v then claims.Got else claims.Goes) else if nat_lt (word_after_load begun t.claim v) (words_of_bits z.pool) then claims.Goes else claims.Empty)
+          (if tries then (if is_won t.claim v then claims.Got else claims.Goes)
+          else if nat_lt (word_after_load begun t.claim v) (words_of_bits z.pool) then claims.Goes else claims.Empty)
           (part_topics (if tries then part.Claim else part.Map (map_word begun t.claim)) t v)
       by true tries = tried (is_won t.claim v) tries refl
       by false not_ = loaded (nat_lt (word_after_load begun t.claim v) (words_of_bits z.pool)) not_ refl
 
 -- The word of the map is there.
-pub word_there : (begun : Bool) (z : Sizes) (claim : MapClaim) → AreSizes z → (begun ≡ true → claim.at < words_of_bits z.pool) → map_word begun claim < words_of_bits z.pool
+pub word_there : (begun : Bool) (z : Sizes) (claim : MapClaim) → AreSizes z → (begun ≡ true → claim.at < words_of_bits z.pool)
+    → map_word begun claim < words_of_bits z.pool
 word_there true z claim S low = low refl
 word_there false z claim S low = let four = S.pool.0 in omega (arith, four)
 
 -- Its step needs no page owned, and a word of the map to come to.
-pub claim_needs : (begun : Bool) (h : Held) → AreSizes h.state.sizes → h.topics.owned ≡ None → (begun ≡ true → h.topics.claim.at < words_of_bits h.state.sizes.pool) → PartNeeds (claim_part begun h.topics.claim) h
+pub claim_needs : (begun : Bool) (h : Held) → AreSizes h.state.sizes → h.topics.owned ≡ None
+    → (begun ≡ true → h.topics.claim.at < words_of_bits h.state.sizes.pool) → PartNeeds (claim_part begun h.topics.claim) h
 claim_needs begun h S none low = by (tries_page begun h.topics.claim) refl
   where
-    loads : (b : Bool) → tries_page b h.topics.claim ≡ false → (b ≡ true → h.topics.claim.at < words_of_bits h.state.sizes.pool) → PartNeeds (part.Map (map_word b h.topics.claim)) h
+    loads : (b : Bool) → tries_page b h.topics.claim ≡ false → (b ≡ true → h.topics.claim.at < words_of_bits h.state.sizes.pool)
+        → PartNeeds (part.Map (map_word b h.topics.claim)) h
     loads true is low = (none, low refl, inr (refl, grind (arith, nat_tests)))
     loads false is low = (none, word_there false h.state.sizes h.topics.claim S low, inl refl)
 
@@ -139,7 +144,8 @@ seen_falls true words word v is low = let none : nat_lt 0 v ≡ false = grind (a
 seen_falls false words word v is low = let some : nat_lt 0 v ≡ true = grind (arith, nat_tests) in rw some (omega arith)
 
 -- A step that doesn't wait leaves it fewer.
-pub claim_falls : (z : Sizes) (begun : Bool) (t : Topics) (v : ℕ) (step : PartStep) (next : ClaimNext) (u : Topics) → ClaimMade z begun t v step next u → part_waits step t v ≡ false
+pub claim_falls : (z : Sizes) (begun : Bool) (t : Topics) (v : ℕ) (step : PartStep) (next : ClaimNext) (u : Topics)
+    → ClaimMade z begun t v step next u → part_waits step t v ≡ false
     → map_word begun t.claim < words_of_bits z.pool → claim_left_after next z u.claim < claim_left begun z t.claim
 claim_falls z begun t v _ _ _ (Won tries b some is) goes low = rw tries (omega arith)
 claim_falls z begun t v _ _ _ (Lost tries b some is) goes low = absurd (cc (sym goes ∙ ap not is))

@@ -30,7 +30,8 @@ use Rattle.mmu_core.specs.declared.share.ShareNext.{ShareNext}
 use Rattle.mmu_core.specs.declared.share.ShareNext.TheVariants as shares
 use Rattle.mmu_core.specs.lines.FaultKnows.{FaultKnows}
 use Rattle.mmu_core.specs.lines.FaultLeft.{check_left, entering_left, fault_left, next_left, table_left, walk_left}
-use Rattle.mmu_core.specs.lines.FaultSteps.{after_claim, after_share, allows_access, check_next, entry_word, fault_next, fault_part, find_next, share_next, share_part, snapshot_taken, walk_next, claim_left, share_left}
+use Rattle.mmu_core.specs.lines.FaultSteps.{after_claim, after_share, allows_access, check_next, entry_word, fault_next, fault_part, find_next}
+use Rattle.mmu_core.specs.lines.FaultSteps.{share_next, share_part, snapshot_taken, walk_next, claim_left, share_left}
 use Rattle.mmu_core.specs.lines.PartWaits.{part_waits}
 use Rattle.part_steps.specs.PartBounds.{PartRests}
 use Rattle.part_steps.specs.PartTasks.{entry_index, link_written, page_owned, words_filled}
@@ -47,29 +48,42 @@ use Rattle.mmu_core.proofs.pages.Owned.{more_filled, table_owned}
 use Rattle.mmu_core.proofs.lines.ShareMade.{share_falls, share_made, share_left_after}
 
 -- the search
-search_falls : (b : Bool) (z : Sizes) (u : Topics) (n : ℕ) → (u.search.id == 32) ≡ b → (b ≡ false → 4 * (31 - u.search.id) + look_left u.search.next < n) → fault_left (if b then End Mmio else Find true) z u < entering_left z + 7 + n
+search_falls : (b : Bool) (z : Sizes) (u : Topics) (n : ℕ) → (u.search.id == 32) ≡ b → (b ≡ false
+    → 4 * (31 - u.search.id) + look_left u.search.next < n) → fault_left (if b then End Mmio else Find true) z u < entering_left z + 7 + n
 search_falls true z u n is less = omega arith
 search_falls false z u n is less = let few = less refl in omega (arith, few)
 
-pub flags_fall : (live : Bool) (id : ℕ) → id ≤ 31 → ((if live then id else id + 1) == 32) ≡ false → 4 * (31 - (if live then id else id + 1)) + look_left (if live then field.Base else field.Flags) < 4 * (31 - id) + 4
+pub flags_fall : (live : Bool) (id : ℕ) → id ≤ 31 → ((if live then id else id + 1) == 32) ≡ false
+    → 4 * (31 - (if live then id else id + 1)) + look_left (if live then field.Base else field.Flags) < 4 * (31 - id) + 4
 flags_fall true id low is = omega arith
 flags_fall false id low is = let lower : id + 1 ≢ 32 = grind (arith, nat_tests) in omega (arith, lower)
 
 found_falls : (holds denied : Bool) (z : Sizes) (u : Topics) (id : ℕ) → id ≤ 31 → u.search.id ≡ id + 1 → look_left u.search.next ≡ 4
-    → fault_left (if holds then (if denied then End Mmio else Host) else if u.search.id == 32 then End Mmio else Find true) z u < entering_left z + 7 + (4 * (31 - id) + 1)
+    → fault_left (if holds then (if denied then End Mmio else Host) else if u.search.id == 32 then End Mmio else Find true) z u
+    < entering_left z + 7 + (4 * (31 - id) + 1)
 found_falls true true z u id low is next = omega arith
 found_falls true false z u id low is next = omega arith
-found_falls false denied z u id low is next = search_falls (u.search.id == 32) z u (4 * (31 - id) + 1) refl (λ e. let lower : u.search.id ≢ 32 = grind (arith, nat_tests) in omega (arith, lower))
+found_falls false denied z u id low is next =
+    search_falls (u.search.id == 32) z u (4 * (31 - id) + 1) refl
+    (λ e. let lower : u.search.id ≢ 32 = grind (arith, nat_tests) in omega (arith, lower))
 
 find_falls : (f : SlotField) (z : Sizes) (gfn : ℕ) (write : Bool) (t : Topics) (v : ℕ) → t.search.id ≤ 31
-    → fault_left (find_next gfn write f (searched_at f t.search v)) z (record t { search = searched_at f t.search v }) < entering_left z + 7 + (4 * (31 - t.search.id) + look_left f)
-find_falls field.Flags z gfn write t v low = search_falls ((searched_at field.Flags t.search v).id == 32) z (record t { search = searched_at field.Flags t.search v }) (4 * (31 - t.search.id) + 4) refl (λ e. flags_fall (flags_live v) t.search.id low e)
-find_falls field.Base z gfn write t v low = search_falls (t.search.id == 32) z (record t { search = searched_at field.Base t.search v }) (4 * (31 - t.search.id) + 3) refl (λ e. omega arith)
-find_falls field.Pages z gfn write t v low = search_falls (t.search.id == 32) z (record t { search = searched_at field.Pages t.search v }) (4 * (31 - t.search.id) + 2) refl (λ e. omega arith)
-find_falls field.Host z gfn write t v low = found_falls (contains gfn (searched_at field.Host t.search v).slot) (write && t.search.slot.read_only) z (record t { search = searched_at field.Host t.search v }) t.search.id low refl refl
+    → fault_left (find_next gfn write f (searched_at f t.search v)) z (record t { search = searched_at f t.search v })
+    < entering_left z + 7 + (4 * (31 - t.search.id) + look_left f)
+find_falls field.Flags z gfn write t v low =
+    search_falls ((searched_at field.Flags t.search v).id == 32) z (record t { search = searched_at field.Flags t.search v })
+    (4 * (31 - t.search.id) + 4) refl (λ e. flags_fall (flags_live v) t.search.id low e)
+find_falls field.Base z gfn write t v low =
+    search_falls (t.search.id == 32) z (record t { search = searched_at field.Base t.search v }) (4 * (31 - t.search.id) + 3) refl (λ e. omega arith)
+find_falls field.Pages z gfn write t v low =
+    search_falls (t.search.id == 32) z (record t { search = searched_at field.Pages t.search v }) (4 * (31 - t.search.id) + 2) refl (λ e. omega arith)
+find_falls field.Host z gfn write t v low =
+    found_falls (contains gfn (searched_at field.Host t.search v).slot) (write && t.search.slot.read_only) z
+    (record t { search = searched_at field.Host t.search v }) t.search.id low refl refl
 
 slot_falls : (b : Bool) (z : Sizes) (gfn : ℕ) (write : Bool) (t : Topics) (v : ℕ) → b ≡ true → t.search.id ≤ 31
-    → fault_left (find_next gfn write t.search.next (searched t.search v)) z (record t { search = if b then searched t.search v else t.search }) < entering_left z + 7 + (4 * (31 - t.search.id) + look_left t.search.next)
+    → fault_left (find_next gfn write t.search.next (searched t.search v)) z (record t { search = if b then searched t.search v else t.search })
+    < entering_left z + 7 + (4 * (31 - t.search.id) + look_left t.search.next)
 slot_falls true z gfn write t v is low = find_falls t.search.next z gfn write t v low
 slot_falls false z gfn write t v is low = absurd (cc is)
 
@@ -78,7 +92,8 @@ host_falls : (b : Bool) (z : Sizes) (u : Topics) → u.hold ≡ Loose → fault_
 host_falls true z u loose = omega arith
 host_falls false z u loose = let two : share_left u.hold ≡ 2 = ap (λ (x : Hold). share_left x) loose in omega (arith, two)
 
-shares_fall : (next : ShareNext) (z : Sizes) (u : Topics) (n : ℕ) → share_left_after next u.hold < n → fault_left (after_share next) z u < entering_left z + 4 + n
+shares_fall : (next : ShareNext) (z : Sizes) (u : Topics) (n : ℕ) → share_left_after next u.hold < n
+    → fault_left (after_share next) z u < entering_left z + 4 + n
 shares_fall shares.Tries z u n less = omega (arith, less)
 shares_fall _ z u n less = omega (arith, less)
 
@@ -92,7 +107,8 @@ check_falls stage.Count z gfn t u v = by (v == 0)
 check_falls stage.Start z gfn t u v = omega arith
 check_falls stage.End z gfn t u v = by (nat_le t.invalidations.start gfn && nat_lt gfn v)
   where
-    by : (b : Bool) → fault_left (if b then Unshare (Retry (Open t.invalidations.count t.invalidations.start v gfn)) else Check stage.Seq) z u < entering_left z + 2
+    by : (b : Bool) → fault_left (if b then Unshare (Retry (Open t.invalidations.count t.invalidations.start v gfn)) else Check stage.Seq) z u
+        < entering_left z + 2
     by true = omega arith
     by false = omega arith
 check_falls stage.Seq z gfn t u v = by (v == snapshot_taken t.invalidations.snapshot)
@@ -117,11 +133,13 @@ root_falls false z = omega arith
 four_left : (z : Sizes) (level : ℕ) → 4 ≤ walk_left z level
 four_left z level = omega arith
 
-leaf_falls : (lowest allows : Bool) (z : Sizes) (word v level : ℕ) (u : Topics) → fault_left (if lowest then (if allows then Unshare Installed else Leaf) else Unshare (Retry (Entry word v v))) z u < walk_left z level
+leaf_falls : (lowest allows : Bool) (z : Sizes) (word v level : ℕ) (u : Topics)
+    → fault_left (if lowest then (if allows then Unshare Installed else Leaf) else Unshare (Retry (Entry word v v))) z u < walk_left z level
 leaf_falls true true z word v level u = let four = four_left z level in omega (arith, four)
 leaf_falls _ _ z word v level u = let four = four_left z level in omega (arith, four)
 
-none_falls : (lowest : Bool) (z : Sizes) (u : Topics) → (u.walk.level == 1) ≡ lowest → 1 ≤ u.walk.level → u.walk.level ≤ 4 → fault_left (if lowest then Leaf else Claim false) z u < walk_left z u.walk.level
+none_falls : (lowest : Bool) (z : Sizes) (u : Topics) → (u.walk.level == 1) ≡ lowest → 1 ≤ u.walk.level → u.walk.level ≤ 4
+    → fault_left (if lowest then Leaf else Claim false) z u < walk_left z u.walk.level
 none_falls true z u is from most = let four = four_left z u.walk.level in omega (arith, four)
 none_falls false z u is from most =
     let upper : 2 ≤ u.walk.level = grind (arith, nat_tests) in
@@ -129,28 +147,34 @@ none_falls false z u is from most =
     omega (arith, below)
 
 walk_falls : (k : SpteKind) (z : Sizes) (gfn : ℕ) (write : Bool) (t : Topics) (v : ℕ) → kind_of t.walk.level v ≡ k → 1 ≤ t.walk.level → t.walk.level ≤ 4
-    → fault_left (walk_next k z gfn write t.walk v) z (record t { walk = gone_down (linked_page k) t.walk (entry_index gfn t.walk.level) v }) < walk_left z t.walk.level
+    → fault_left (walk_next k z gfn write t.walk v) z (record t { walk = gone_down (linked_page k) t.walk (entry_index gfn t.walk.level) v })
+    < walk_left z t.walk.level
 walk_falls (entry_kind.Table page) z gfn write t v is from most =
     let below = table_below z t.walk.level (above_lowest t.walk.level v page from is) most in omega (arith, below)
 walk_falls entry_kind.Leaf z gfn write t v is from most = leaf_falls (t.walk.level == 1) (allows_access write v) z (entry_word z gfn t.walk) v t.walk.level _
-walk_falls entry_kind.Absent z gfn write t v is from most = none_falls (t.walk.level == 1) z (record t { walk = gone_down None t.walk (entry_index gfn t.walk.level) v }) refl from most
+walk_falls entry_kind.Absent z gfn write t v is from most =
+    none_falls (t.walk.level == 1) z (record t { walk = gone_down None t.walk (entry_index gfn t.walk.level) v }) refl from most
 walk_falls entry_kind.Frozen z gfn write t v is from most = let four = four_left z t.walk.level in omega (arith, four)
 
 -- the claim
-claims_fall : (z : Sizes) (begun : Bool) (t : Topics) (v : ℕ) (step : PartStep) (next : ClaimNext) (u : Topics) → ClaimMade z begun t v step next u → claim_left_after next z u.claim < claim_left begun z t.claim
+claims_fall : (z : Sizes) (begun : Bool) (t : Topics) (v : ℕ) (step : PartStep) (next : ClaimNext) (u : Topics) → ClaimMade z begun t v step next u
+    → claim_left_after next z u.claim < claim_left begun z t.claim
     → fault_left (after_claim next) z u < walk_left z (t.walk.level - 1) + 514 + claim_left begun z t.claim
 claims_fall z begun t v _ _ _ (made.Won tries b some is) less = omega (arith, less)
 claims_fall z begun t v _ _ _ _ less = omega (arith, less)
 
 -- the page's words, and the link
-fill_falls : (more : Bool) (z : Sizes) (t : Topics) (v : ℕ) → HasToFill t → fault_left (if more then Fill else Role) z (record t { owned = filled_more t.owned v }) < walk_left z (t.walk.level - 1) + 1 + (513 - words_filled t.owned)
+fill_falls : (more : Bool) (z : Sizes) (t : Topics) (v : ℕ) → HasToFill t → fault_left (if more then Fill
+    else Role) z (record t { owned = filled_more t.owned v }) < walk_left z (t.walk.level - 1) + 1 + (513 - words_filled t.owned)
 fill_falls true z t v F = omega (arith, F.1, more_filled t.owned v F.0)
 fill_falls false z t v F = omega (arith, F.1)
 
 link_falls : (b : Bool) (z : Sizes) (t : Topics) (gfn v : ℕ) (o : OwnedPage) → 2 ≤ t.walk.level → t.owned ≡ Some o → o.page < 2 ^ 32
-    → fault_left (if b then Walk true else Give (Retry (Entry (entry_word z gfn t.walk) t.walk.entry v))) z (exchanged b (entry_index gfn t.walk.level) (link_written t) t v) < walk_left z (t.walk.level - 1) + 1
+    → fault_left (if b then Walk true else Give (Retry (Entry (entry_word z gfn t.walk) t.walk.entry v))) z
+    (exchanged b (entry_index gfn t.walk.level) (link_written t) t v) < walk_left z (t.walk.level - 1) + 1
 link_falls true z t gfn v o from is small =
-    subst (λ (k : SpteKind). walk_left z (gone_down (linked_page k) t.walk (entry_index gfn t.walk.level) (link_written t)).level < walk_left z (t.walk.level - 1) + 1)
+    subst (λ (k : SpteKind). walk_left z (gone_down (linked_page k) t.walk (entry_index gfn t.walk.level) (link_written t)).level
+    < walk_left z (t.walk.level - 1) + 1)
     (sym linked) (omega arith)
   where
     linked : kind_of t.walk.level (link_written t) ≡ entry_kind.Table o.page
@@ -161,24 +185,33 @@ leaf_put : (b : Bool) (z : Sizes) (word read v : ℕ) (u : Topics) → fault_lef
 leaf_put true z word read v u = omega arith
 leaf_put false z word read v u = omega arith
 
-pub fault_falls : (p : FaultPlace) (h : Held) (gfn v : ℕ) (write : Bool) → gfn < 2 ^ 36 → PartRests h → FaultKnows p h.state.sizes gfn write h.topics → part_waits (fault_part p gfn h.topics) h.topics v ≡ false
-    → next_left (fault_next p h.state.sizes gfn write h.topics v) h.state.sizes (part_topics (fault_part p gfn h.topics) h.topics v) < fault_left p h.state.sizes h.topics
-fault_falls (Find true) h gfn v write small R K goes = let set = K.1 refl in slot_falls (is_some h.topics.search.set) h.state.sizes gfn write h.topics v set.0 set.1
+pub fault_falls : (p : FaultPlace) (h : Held) (gfn v : ℕ) (write : Bool) → gfn < 2 ^ 36 → PartRests h → FaultKnows p h.state.sizes gfn write h.topics
+    → part_waits (fault_part p gfn h.topics) h.topics v ≡ false
+    → next_left (fault_next p h.state.sizes gfn write h.topics v) h.state.sizes (part_topics (fault_part p gfn h.topics) h.topics v)
+    < fault_left p h.state.sizes h.topics
+fault_falls (Find true) h gfn v write small R K goes =
+    let set = K.1 refl in slot_falls (is_some h.topics.search.set) h.state.sizes gfn write h.topics v set.0 set.1
 fault_falls (Find false) h gfn v write small R K goes = omega arith
-fault_falls Host h gfn v write small R K goes = host_falls (write && not (host_allows_write v)) h.state.sizes (part_topics (fault_part Host gfn h.topics) h.topics v) K.0.loose
-fault_falls Share h gfn v write small R K goes = shares_fall (share_next h.topics.hold v) h.state.sizes (part_topics (share_part h.topics.hold) h.topics v) (share_left h.topics.hold) (share_falls h.topics v _ _ _ (share_made h.topics v K.1) goes)
+fault_falls Host h gfn v write small R K goes =
+    host_falls (write && not (host_allows_write v)) h.state.sizes (part_topics (fault_part Host gfn h.topics) h.topics v) K.0.loose
+fault_falls Share h gfn v write small R K goes =
+    shares_fall (share_next h.topics.hold v) h.state.sizes (part_topics (share_part h.topics.hold) h.topics v) (share_left h.topics.hold)
+    (share_falls h.topics v _ _ _ (share_made h.topics v K.1) goes)
 fault_falls (Check at) h gfn v write small R K goes = check_falls at h.state.sizes gfn h.topics _ v
-fault_falls (Walk true) h gfn v write small R K goes = let over = K.2 refl in walk_falls (kind_of h.topics.walk.level v) h.state.sizes gfn write h.topics v refl over.there R.level
+fault_falls (Walk true) h gfn v write small R K goes =
+    let over = K.2 refl in walk_falls (kind_of h.topics.walk.level v) h.state.sizes gfn write h.topics v refl over.there R.level
 fault_falls (Walk false) h gfn v write small R K goes = root_falls (may_walk h.topics.stay h.topics.hold) h.state.sizes
 fault_falls (Claim begun) h gfn v write small R K goes =
     let M = claim_made h.state.sizes begun h.topics v in
-    claims_fall h.state.sizes begun h.topics v _ _ _ M (claim_falls h.state.sizes begun h.topics v _ _ _ M goes (word_there begun h.state.sizes h.topics.claim R.sizes K.3))
+    claims_fall h.state.sizes begun h.topics v _ _ _ M
+    (claim_falls h.state.sizes begun h.topics v _ _ _ M goes (word_there begun h.state.sizes h.topics.claim R.sizes K.3))
 fault_falls Fill h gfn v write small R K goes = fill_falls (nat_lt (words_filled h.topics.owned + 1) 512) h.state.sizes h.topics v K.2
 fault_falls Link h gfn v write small R K goes =
     let O = table_owned (h.topics.walk.level - 1) h.topics K.2 in
     let low : O.owned.page < 2 ^ 32 = let page = R.page O.owned O.is in let most = R.sizes.pool.1 in omega (arith, page, most) in
     link_falls (v == h.topics.walk.entry) h.state.sizes h.topics gfn v O.owned K.1.upper O.is low
-fault_falls Leaf h gfn v write small R K goes = leaf_put (v == h.topics.walk.entry) h.state.sizes (entry_word h.state.sizes gfn h.topics.walk) h.topics.walk.entry v _
+fault_falls Leaf h gfn v write small R K goes =
+    leaf_put (v == h.topics.walk.entry) h.state.sizes (entry_word h.state.sizes gfn h.topics.walk) h.topics.walk.entry v _
 fault_falls _ h gfn v write small R K goes = omega arith
 
 pub fault_is_bounded : (z : Sizes) (t : Topics) → AreSizes z → fault_left Begin z t ≤ 8192 + z.pool

@@ -6,7 +6,8 @@ use Rattle.core_views.specs.declared.place.Cause.TheVariants.{Entry}
 use Rattle.core_views.specs.declared.place.FaultEnd.{FaultEnd}
 use Rattle.core_views.specs.declared.place.FaultEnd.TheVariants.{Installed, Retry}
 use Rattle.core_views.specs.declared.place.FaultPlace.{FaultPlace}
-use Rattle.core_views.specs.declared.place.FaultPlace.TheVariants.{Begin, Snapshot, Find, Host, Share, Check, Walk, Claim, Fill, Role, Link, Give, Leaf, Unshare, End}
+use Rattle.core_views.specs.declared.place.FaultPlace.TheVariants.{Begin, Snapshot, Find, Host, Share, Check, Walk, Claim, Fill, Role, Link, Give}
+use Rattle.core_views.specs.declared.place.FaultPlace.TheVariants.{Leaf, Unshare, End}
 use Rattle.core_views.specs.declared.sizes.Sizes.{Sizes}
 use Rattle.core_views.specs.declared.topics.HostLook.{HostLook}
 use Rattle.core_views.specs.declared.topics.OwnedPage.{OwnedPage}
@@ -98,23 +99,34 @@ saw_it gfn v walk O = record { over = record { small = O.small; there = O.there;
 leaf_seen : (lowest allows : Bool) (z : Sizes) (gfn : ℕ) (write : Bool) (t : Topics) (v : ℕ) → (t.walk.level == 1) ≡ lowest
     → allows_access write v ≡ allows → kind_of t.walk.level v ≡ entry_kind.Leaf
     → Entering gfn write t → t.owned ≡ None → IsOver gfn t.walk
-    → FaultKnows (if lowest then (if allows then Unshare Installed else Leaf) else Unshare (Retry (Entry (entry_word z gfn t.walk) v v))) z gfn write (record t { walk = gone_down None t.walk (entry_index gfn t.walk.level) v })
+    → FaultKnows (if lowest then (if allows then Unshare Installed else Leaf) else Unshare (Retry (Entry (entry_word z gfn t.walk) v v))) z gfn write
+    (record t { walk = gone_down None t.walk (entry_index gfn t.walk.level) v })
 leaf_seen true true z gfn write t v low may is E none O =
-    let one : t.walk.level ≡ 1 = grind (arith, nat_tests) in
-    (record { section = E.sharing.section; owns_none = none }, E.sharing.shares, record { saw = saw_it gfn v t.walk O; lowest = one; leaf = subst (λ l. kind_of l v ≡ entry_kind.Leaf) one is; allows = may })
+    let one : t.walk.level ≡ 1 = grind (arith, nat_tests) in (
+      record { section = E.sharing.section; owns_none = none },
+      E.sharing.shares,
+      record { saw = saw_it gfn v t.walk O; lowest = one; leaf = subst (λ l. kind_of l v ≡ entry_kind.Leaf) one is; allows = may },
+    )
 leaf_seen true false z gfn write t v low may is E none O =
     (same_entering gfn write t _ refl refl refl refl refl E, none, saw_it gfn v t.walk O, grind (arith, nat_tests))
 leaf_seen false allows z gfn write t v low may is E none O =
-    let from : 1 ≤ t.walk.level = O.there in
-    (record { section = E.sharing.section; owns_none = none }, E.sharing.shares, record { saw = saw_it gfn v t.walk O; is_entry = refl; holds = refl; why = inr (inr (is, grind (arith, nat_tests))) })
+    let from : 1 ≤ t.walk.level = O.there in (
+      record { section = E.sharing.section; owns_none = none },
+      E.sharing.shares,
+      record { saw = saw_it gfn v t.walk O; is_entry = refl; holds = refl; why = inr (inr (is, grind (arith, nat_tests))) },
+    )
 
 none_seen : (lowest : Bool) (z : Sizes) (gfn : ℕ) (write : Bool) (t : Topics) (v : ℕ) → (t.walk.level == 1) ≡ lowest
     → kind_of t.walk.level v ≡ entry_kind.Absent → Entering gfn write t → t.owned ≡ None → IsOver gfn t.walk
     → FaultKnows (if lowest then Leaf else Claim false) z gfn write (record t { walk = gone_down None t.walk (entry_index gfn t.walk.level) v })
 none_seen true z gfn write t v low is E none O = (same_entering gfn write t _ refl refl refl refl refl E, none, saw_it gfn v t.walk O, grind (arith, nat_tests))
 none_seen false z gfn write t v low is E none O =
-    let from : 1 ≤ t.walk.level = O.there in
-    (same_entering gfn write t _ refl refl refl refl refl E, none, record { saw = saw_it gfn v t.walk O; upper = grind (arith, nat_tests); absent = is }, λ e. absurd (cc e))
+    let from : 1 ≤ t.walk.level = O.there in (
+      same_entering gfn write t _ refl refl refl refl refl E,
+      none,
+      record { saw = saw_it gfn v t.walk O; upper = grind (arith, nat_tests); absent = is },
+      λ e. absurd (cc e),
+    )
 
 walk_known : (k : SpteKind) (z : Sizes) (gfn : ℕ) (write : Bool) (t : Topics) (v : ℕ) → kind_of t.walk.level v ≡ k → t.walk.level ≤ 4
     → Entering gfn write t → t.owned ≡ None → IsOver gfn t.walk
@@ -123,8 +135,11 @@ walk_known (entry_kind.Table page) z gfn write t v is most E none O =
     (same_entering gfn write t _ refl refl refl refl refl E, none, λ _. gone_over gfn page v t.walk (above_lowest t.walk.level v page O.there is) most O)
 walk_known entry_kind.Leaf z gfn write t v is most E none O = leaf_seen (t.walk.level == 1) (allows_access write v) z gfn write t v refl refl is E none O
 walk_known entry_kind.Absent z gfn write t v is most E none O = none_seen (t.walk.level == 1) z gfn write t v refl is E none O
-walk_known entry_kind.Frozen z gfn write t v is most E none O =
-    (record { section = E.sharing.section; owns_none = none }, E.sharing.shares, record { saw = saw_it gfn v t.walk O; is_entry = refl; holds = refl; why = inr (inl is) })
+walk_known entry_kind.Frozen z gfn write t v is most E none O = (
+  record { section = E.sharing.section; owns_none = none },
+  E.sharing.shares,
+  record { saw = saw_it gfn v t.walk O; is_entry = refl; holds = refl; why = inr (inl is) },
+)
 
 -- the claim
 claim_known : (z : Sizes) (gfn : ℕ) (write begun : Bool) (t : Topics) (v : ℕ) (step : PartStep) (next : ClaimNext) (u : Topics)
@@ -165,8 +180,10 @@ link_won : (z : Sizes) (gfn : ℕ) (write : Bool) (t : Topics) (v : ℕ) → t.w
     → t.owned ≡ Some o → o.page < 2 ^ 32
     → FaultKnows (Walk true) z gfn write (exchanged true (entry_index gfn t.walk.level) (link_written t) t v)
 link_won z gfn write t v most E S o is small =
-    subst (λ (k : SpteKind). FaultKnows (Walk true) z gfn write (record t { walk = gone_down (linked_page k) t.walk (entry_index gfn t.walk.level) (link_written t); owned = unless_linked (linked_page k) t.owned }))
-    (sym linked)
+    subst (λ (k : SpteKind). FaultKnows (Walk true) z gfn write (record t {
+      walk = gone_down (linked_page k) t.walk (entry_index gfn t.walk.level) (link_written t);
+      owned = unless_linked (linked_page k) t.owned;
+    })) (sym linked)
     (same_entering gfn write t _ refl refl refl refl refl E, refl, λ _. gone_over gfn o.page (link_written t) t.walk S.upper most S.saw.over)
   where
     linked : kind_of t.walk.level (link_written t) ≡ entry_kind.Table o.page
@@ -174,7 +191,8 @@ link_won z gfn write t v most E S o is small =
 
 link_known : (b : Bool) (z : Sizes) (gfn : ℕ) (write : Bool) (t : Topics) (v : ℕ) → (v == t.walk.entry) ≡ b → t.walk.level ≤ 4 → Entering gfn write t
     → SawAbsentEntry gfn t → (o : OwnedPage) → t.owned ≡ Some o → o.page < 2 ^ 32
-    → FaultKnows (if b then Walk true else Give (Retry (Entry (entry_word z gfn t.walk) t.walk.entry v))) z gfn write (exchanged b (entry_index gfn t.walk.level) (link_written t) t v)
+    → FaultKnows (if b then Walk true else Give (Retry (Entry (entry_word z gfn t.walk) t.walk.entry v))) z gfn write
+    (exchanged b (entry_index gfn t.walk.level) (link_written t) t v)
 link_known true z gfn write t v is most E S o owned small = link_won z gfn write t v most E S o owned small
 link_known false z gfn write t v is most E S o owned small = (
   E.sharing.section,
@@ -190,35 +208,47 @@ pub allowed_leaf : (write : Bool) (slot : Slot) (word : ℕ) → (write ≡ true
 allowed_leaf false slot word may = refl
 allowed_leaf true slot word may =
     let M = may refl in
-    leaf_can_write 1 (host_frame word) (may_write slot word) (host_allows_write word) (may_write slot word) ∙ ap (λ (b : Bool). b && not slot.read_only) M.1 ∙ ap (λ (b : Bool). not b) M.0
+    leaf_can_write 1 (host_frame word) (may_write slot word) (host_allows_write word) (may_write slot word)
+    ∙ ap (λ (b : Bool). b && not slot.read_only) M.1 ∙ ap (λ (b : Bool). not b) M.0
 
 leaf_won : (z : Sizes) (gfn : ℕ) (write : Bool) (t : Topics) (v : ℕ) → Entering gfn write t → t.owned ≡ None → SawEntry gfn t.walk → t.walk.level ≡ 1
     → FaultKnows (Unshare Installed) z gfn write (exchanged true (entry_index gfn t.walk.level) (leaf_written t) t v)
 leaf_won z gfn write t v E none S low =
-    subst (λ (k : SpteKind). FaultKnows (Unshare Installed) z gfn write (record t { walk = gone_down (linked_page k) t.walk (entry_index gfn t.walk.level) (leaf_written t); owned = unless_linked (linked_page k) t.owned }))
-    (sym stays)
-    (record { section = E.sharing.section; owns_none = none }, E.sharing.shares, record { saw = saw_it gfn (leaf_written t) t.walk S.over; lowest = low; leaf = leaf; allows = allows })
+    subst (λ (k : SpteKind). FaultKnows (Unshare Installed) z gfn write (record t {
+      walk = gone_down (linked_page k) t.walk (entry_index gfn t.walk.level) (leaf_written t);
+      owned = unless_linked (linked_page k) t.owned;
+    })) (sym stays) (
+      record { section = E.sharing.section; owns_none = none },
+      E.sharing.shares,
+      record { saw = saw_it gfn (leaf_written t) t.walk S.over; lowest = low; leaf = leaf; allows = allows },
+    )
   where
     L : LookedUp gfn t
     L = E.sharing.looked.looked_up
 
     leaf : kind_of 1 (leaf_written t) ≡ entry_kind.Leaf
     leaf =
-        kind_of_leaf 1 (host_frame (word_looked t.host)) (may_write t.search.slot (word_looked t.host)) (host_allows_write (word_looked t.host)) (may_write t.search.slot (word_looked t.host)) (omega arith) (omega arith)
+        kind_of_leaf 1 (host_frame (word_looked t.host)) (may_write t.search.slot (word_looked t.host)) (host_allows_write (word_looked t.host))
+        (may_write t.search.slot (word_looked t.host)) (omega arith) (omega arith)
 
     stays : kind_of t.walk.level (leaf_written t) ≡ entry_kind.Leaf
     stays = ap (λ l. kind_of l (leaf_written t)) low ∙ leaf
 
     allows : allows_access write (leaf_written t) ≡ true
     allows =
-        ap (λ (x : Option HostLook). allows_access write (leaf_of t.search.slot (word_looked x))) L.host ∙ allowed_leaf write t.search.slot L.word E.sharing.looked.allowed
+        ap (λ (x : Option HostLook). allows_access write (leaf_of t.search.slot (word_looked x))) L.host
+        ∙ allowed_leaf write t.search.slot L.word E.sharing.looked.allowed
 
 leaf_known : (b : Bool) (z : Sizes) (gfn : ℕ) (write : Bool) (t : Topics) (v : ℕ) → (v == t.walk.entry) ≡ b → Entering gfn write t → t.owned ≡ None
     → SawEntry gfn t.walk → t.walk.level ≡ 1
-    → FaultKnows (if b then Unshare Installed else Unshare (Retry (Entry (entry_word z gfn t.walk) t.walk.entry v))) z gfn write (exchanged b (entry_index gfn t.walk.level) (leaf_written t) t v)
+    → FaultKnows (if b then Unshare Installed else Unshare (Retry (Entry (entry_word z gfn t.walk) t.walk.entry v))) z gfn write
+    (exchanged b (entry_index gfn t.walk.level) (leaf_written t) t v)
 leaf_known true z gfn write t v is E none S low = leaf_won z gfn write t v E none S low
-leaf_known false z gfn write t v is E none S low =
-    (record { section = E.sharing.section; owns_none = none }, E.sharing.shares, record { saw = saw_it gfn v t.walk S.over; is_entry = refl; holds = refl; why = inl (grind (arith, nat_tests)) })
+leaf_known false z gfn write t v is E none S low = (
+  record { section = E.sharing.section; owns_none = none },
+  E.sharing.shares,
+  record { saw = saw_it gfn v t.walk S.over; is_entry = refl; holds = refl; why = inl (grind (arith, nat_tests)) },
+)
 
 -- the lock given back, and the section's end
 unshare_known : (e : FaultEnd) (z : Sizes) (gfn : ℕ) (write : Bool) (t : Topics) → InSection t → EndKnows e z gfn write t
@@ -234,14 +264,16 @@ fault_known Snapshot h gfn v write small R K A = (snapshot_known h.topics v K.0 
 fault_known (Find true) h gfn v write small R K A =
     let set = K.1 refl in slot_known h.state.sizes gfn write (is_some h.topics.search.set) h.topics v set.0 set.1 K.0 set.0
 fault_known (Find false) h gfn v write small R K A =
-    slots_known h.state.sizes gfn write (may_search h.topics.stay h.topics.hold) h.topics v (ap (λ (s : Stay). may_search s h.topics.hold) K.0.inside.section) K.0
+    slots_known h.state.sizes gfn write (may_search h.topics.stay h.topics.hold) h.topics v
+    (ap (λ (s : Stay). may_search s h.topics.hold) K.0.inside.section) K.0
 fault_known Host h gfn v write small R K A = host_known (write && not (host_allows_write v)) h.state.sizes gfn write h.topics v refl K.0 K.1 K.2
 fault_known Share h gfn v write small R K A = share_known h.state.sizes gfn write h.topics v _ _ _ (share_made h.topics v K.1) K.0 K.2
 fault_known (Check at) h gfn v write small R K A = check_known at h.state.sizes gfn write h.topics v K.0 K.1 K.2
 fault_known (Walk true) h gfn v write small R K A =
     walk_known (kind_of h.topics.walk.level v) h.state.sizes gfn write h.topics v refl R.level K.0 K.1 (K.2 refl)
 fault_known (Walk false) h gfn v write small R K A =
-    root_known (may_walk h.topics.stay h.topics.hold) h.state.sizes gfn write h.topics v (ap (λ (s : Stay). may_walk s h.topics.hold) K.0.sharing.section) small K.0 K.1
+    root_known (may_walk h.topics.stay h.topics.hold) h.state.sizes gfn write h.topics v
+    (ap (λ (s : Stay). may_walk s h.topics.hold) K.0.sharing.section) small K.0 K.1
 fault_known (Claim begun) h gfn v write small R K A =
     claim_known h.state.sizes gfn write begun h.topics v _ _ _ (claim_made h.state.sizes begun h.topics v) K.0 K.1 K.2 K.3
 fault_known Fill h gfn v write small R K A = fill_known (nat_lt (words_filled h.topics.owned + 1) 512) h.state.sizes gfn write h.topics v refl A K.0 K.1 K.2 K.3

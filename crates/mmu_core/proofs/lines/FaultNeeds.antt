@@ -4,7 +4,8 @@ use Rattle.std.specs.Prelude.{Bool, true, false, ◌&&◌}
 use Rattle.core_views.specs.declared.place.CheckStage.{CheckStage}
 use Rattle.core_views.specs.declared.place.CheckStage.TheVariants as stage
 use Rattle.core_views.specs.declared.place.FaultPlace.{FaultPlace}
-use Rattle.core_views.specs.declared.place.FaultPlace.TheVariants.{Begin, Snapshot, Find, Host, Share, Check, Walk, Claim, Fill, Role, Link, Give, Leaf, Unshare, End}
+use Rattle.core_views.specs.declared.place.FaultPlace.TheVariants.{Begin, Snapshot, Find, Host, Share, Check, Walk, Claim, Fill, Role, Link, Give}
+use Rattle.core_views.specs.declared.place.FaultPlace.TheVariants.{Leaf, Unshare, End}
 use Rattle.core_views.specs.declared.topics.Hold.{Hold}
 use Rattle.core_views.specs.declared.topics.Topics.{Topics}
 use Rattle.core_views.specs.Held.{Held}
@@ -33,7 +34,8 @@ check_needs _ h = tt
 may_enter : (gfn : ℕ) (write : Bool) (t : Topics) → Entering gfn write t → SawEntry gfn t.walk → MayEnter gfn t
 may_enter gfn write t E S = record { shares = E.sharing.shares; section = E.sharing.section; fresh = E.fresh; looked_up = E.sharing.looked.looked_up; saw = S }
 
-pub fault_needs : (p : FaultPlace) (h : Held) (gfn : ℕ) (write : Bool) → gfn < 2 ^ 36 → PartRests h → FaultKnows p h.state.sizes gfn write h.topics → PartNeeds (fault_part p gfn h.topics) h
+pub fault_needs : (p : FaultPlace) (h : Held) (gfn : ℕ) (write : Bool) → gfn < 2 ^ 36 → PartRests h → FaultKnows p h.state.sizes gfn write h.topics
+    → PartNeeds (fault_part p gfn h.topics) h
 fault_needs Begin h gfn write small R K = K.outside
 fault_needs Snapshot h gfn write small R K = tt
 fault_needs (Find true) h gfn write small R K =

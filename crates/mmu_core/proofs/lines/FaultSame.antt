@@ -52,21 +52,24 @@ same_looked_up gfn t u search host L =
     let look : SlotSearch → Option HostLook = λ s. Some (record { page = page_of s.slot gfn; word = L.word }) in
     record { found = same_found gfn t u search L.found; word = L.word; host = host ∙ L.host ∙ ap look (sym search) }
 
-pub same_looked : (gfn : ℕ) (write : Bool) (t u : Topics) → u.search ≡ t.search → u.host ≡ t.host → u.invalidations.snapshot ≡ t.invalidations.snapshot → LookedFor gfn write t → LookedFor gfn write u
+pub same_looked : (gfn : ℕ) (write : Bool) (t u : Topics) → u.search ≡ t.search → u.host ≡ t.host
+    → u.invalidations.snapshot ≡ t.invalidations.snapshot → LookedFor gfn write t → LookedFor gfn write u
 same_looked gfn write t u search host snapshot L = record {
   looked_up = same_looked_up gfn t u search host L.looked_up;
   allowed = λ w. (ap (λ (s : SlotSearch). s.slot.read_only) search ∙ (L.allowed w).0, (L.allowed w).1);
   snapshot = ap (λ (x : Option ℕ). is_some x) snapshot ∙ L.snapshot;
 }
 
-pub same_sharing : (gfn : ℕ) (write : Bool) (t u : Topics) → u.stay ≡ t.stay → u.hold ≡ t.hold → u.search ≡ t.search → u.host ≡ t.host → u.invalidations.snapshot ≡ t.invalidations.snapshot → Sharing gfn write t → Sharing gfn write u
+pub same_sharing : (gfn : ℕ) (write : Bool) (t u : Topics) → u.stay ≡ t.stay → u.hold ≡ t.hold → u.search ≡ t.search → u.host ≡ t.host
+    → u.invalidations.snapshot ≡ t.invalidations.snapshot → Sharing gfn write t → Sharing gfn write u
 same_sharing gfn write t u stay hold search host snapshot S = record {
   section = stay ∙ S.section;
   shares = hold ∙ S.shares;
   looked = same_looked gfn write t u search host snapshot S.looked;
 }
 
-pub same_entering : (gfn : ℕ) (write : Bool) (t u : Topics) → u.stay ≡ t.stay → u.hold ≡ t.hold → u.search ≡ t.search → u.host ≡ t.host → u.invalidations ≡ t.invalidations → Entering gfn write t → Entering gfn write u
+pub same_entering : (gfn : ℕ) (write : Bool) (t u : Topics) → u.stay ≡ t.stay → u.hold ≡ t.hold → u.search ≡ t.search → u.host ≡ t.host
+    → u.invalidations ≡ t.invalidations → Entering gfn write t → Entering gfn write u
 same_entering gfn write t u stay hold search host n E = record {
   sharing = same_sharing gfn write t u stay hold search host (ap (λ (x : Invalidations). x.snapshot) n) E.sharing;
   fresh = subst (IsFresh gfn) (sym n) E.fresh;
@@ -84,8 +87,8 @@ pub same_page : (gfn : ℕ) (write : Bool) (t u : Topics) → u.search ≡ t.sea
 same_page gfn write t u search (inl n) = inl (n.0, same_found gfn t u search n.1, ap (λ (s : SlotSearch). s.slot.read_only) search ∙ n.2)
 same_page gfn write t u search (inr e) = inr (ap (λ (s : SlotSearch). s.id) search ∙ e)
 
-pub ends_same : (e : FaultEnd) (z : Sizes) (gfn : ℕ) (write : Bool) (t u : Topics) → u.walk ≡ t.walk → u.search ≡ t.search → u.host ≡ t.host → u.claim.at ≡ t.claim.at → unchecked u.invalidations ≡ unchecked t.invalidations
-    → EndKnows e z gfn write t → EndKnows e z gfn write u
+pub ends_same : (e : FaultEnd) (z : Sizes) (gfn : ℕ) (write : Bool) (t u : Topics) → u.walk ≡ t.walk → u.search ≡ t.search → u.host ≡ t.host
+    → u.claim.at ≡ t.claim.at → unchecked u.invalidations ≡ unchecked t.invalidations → EndKnows e z gfn write t → EndKnows e z gfn write u
 ends_same Installed z gfn write t u walk search host claim n K = record {
   saw = subst (SawEntry gfn) (sym walk) K.saw;
   lowest = ap (λ (w : TableWalk). w.level) walk ∙ K.lowest;
@@ -93,11 +96,13 @@ ends_same Installed z gfn write t u walk search host claim n K = record {
   allows = ap (λ (w : TableWalk). allows_access write w.entry) walk ∙ K.allows;
 }
 ends_same Mmio z gfn write t u walk search host claim n K = same_page gfn write t u search K
-ends_same HostFault z gfn write t u walk search host claim n K = record { writes = K.writes; looked_up = same_looked_up gfn t u search host K.looked_up; forbids = K.forbids }
+ends_same HostFault z gfn write t u walk search host claim n K =
+    record { writes = K.writes; looked_up = same_looked_up gfn t u search host K.looked_up; forbids = K.forbids }
 ends_same Starved z gfn write t u walk search host claim n K = subst (λ n. words_of_bits z.pool ≤ n) (sym claim) K
 ends_same (Retry (Open count start end_ at)) z gfn write t u walk search host claim n K =
     (K.0, K.1, K.2, K.3, ap (λ (x : Invalidations). x.count) n ∙ K.4, ap (λ (x : Invalidations). x.start) n ∙ K.5, ap (λ (x : Invalidations). x.end) n ∙ K.6)
-ends_same (Retry (Moved old_ now_)) z gfn write t u walk search host claim n K = (ap (λ (x : Invalidations). x.snapshot) n ∙ K.0, ap (λ (x : Invalidations). x.seq) n ∙ K.1, K.2)
+ends_same (Retry (Moved old_ now_)) z gfn write t u walk search host claim n K =
+    (ap (λ (x : Invalidations). x.snapshot) n ∙ K.0, ap (λ (x : Invalidations). x.seq) n ∙ K.1, K.2)
 ends_same (Retry (Entry word read seen)) z gfn write t u walk search host claim n K = subst (IsInTheWay word read seen z gfn) (sym walk) K
 
 pub same_without : (t u : Topics) → u.stay ≡ t.stay → u.owned ≡ t.owned → u.hold ≡ t.hold → u.invalidations ≡ t.invalidations → WithoutLock t → WithoutLock u

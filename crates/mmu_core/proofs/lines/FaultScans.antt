@@ -18,7 +18,8 @@ use Rattle.spte_words.specs.Entries.{kind_of}
 use Rattle.spte_words.specs.HostWords.{host_allows_write}
 use Rattle.mmu_core.specs.declared.share.ShareNext.{ShareNext}
 use Rattle.mmu_core.specs.declared.share.ShareNext.TheVariants as shares
-use Rattle.mmu_core.specs.lines.FaultSteps.{after_share, allows_access, check_next, check_part, fault_next, fault_part, find_next, found_next, is_last_word, share_next, share_part, snapshot_taken, walk_next}
+use Rattle.mmu_core.specs.lines.FaultSteps.{after_share, allows_access, check_next, check_part, fault_next, fault_part, find_next, found_next}
+use Rattle.mmu_core.specs.lines.FaultSteps.{is_last_word, share_next, share_part, snapshot_taken, walk_next}
 use Rattle.mmu_core.specs.lines.ClaimSteps.{claim_part, map_word, tries_page}
 use Rattle.mmu_core.specs.lines.ScanPlaces.{BegunNext, HasBegun, IsStarvedEnd}
 use Rattle.mmu_core.specs.lines.FaultKnows.{FaultKnows, IsRetry}

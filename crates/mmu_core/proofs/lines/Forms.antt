@@ -48,7 +48,9 @@ use Rattle.mmu_core.proofs.lines.AccessLeft.{access_few, some_access_left}
 use Rattle.mmu_core.proofs.machine.GoesOn.{GoesToNoAccess, GoesUnderWay, IsNoAccess}
 use Rattle.mmu_core.proofs.slots.LiveStay.{StayLive}
 use Rattle.mmu_core.proofs.slots.LiveStays.{OwnedStays}
-use Rattle.mmu_core.proofs.slots.SlotChangePlaces.{accepts_prop, begins_at_once, slot_change_begins, slot_change_begins_known, slot_change_few, slot_change_goes, slot_change_knows_prop, slot_change_stays, change_accepts, some_change_left, slot_change_fed, slot_change_free}
+use Rattle.mmu_core.proofs.slots.SlotChangePlaces.{accepts_prop, begins_at_once, slot_change_begins, slot_change_begins_known, slot_change_few}
+use Rattle.mmu_core.proofs.slots.SlotChangePlaces.{slot_change_goes, slot_change_knows_prop, slot_change_stays, change_accepts, some_change_left}
+use Rattle.mmu_core.proofs.slots.SlotChangePlaces.{slot_change_fed, slot_change_free}
 use Rattle.mmu_core.proofs.lines.AccessEnds.{AreFed, access_fed, access_free}
 
 -- ---- where a line goes on to
@@ -94,7 +96,8 @@ pub record RestsOnPart (p : Place) (command : Command) (h : Held) : Type 1 where
 -- Or the place is one of another form than the line's.
 pub other_rests : (p : Place) (command : Command) (h : Held) → IsNoAccess p → (RestsAt p command h → ⊥) ⊎ RestsOnPart p command h
 other_rests (place.Access p) command h other = absurd other
-other_rests place.Between command h other = inr (record { step = part.Seq; at = refl; more = Unit {0}; more_prop = hlevel props; needs = λ R. (tt, tt); rests = λ N M. tt })
+other_rests place.Between command h other =
+    inr (record { step = part.Seq; at = refl; more = Unit {0}; more_prop = hlevel props; needs = λ R. (tt, tt); rests = λ N M. tt })
 other_rests (place.Host p) (ChangeHost page change) h other =
     inr (record { step = host_part p page change h; at = refl; more = HostRests p h; more_prop = host_rests_prop p h; needs = λ R. R; rests = λ N M. (N, M) })
 other_rests (place.Host p) (Access gfn word op) h other = inl (λ R. absurd R)
@@ -102,7 +105,14 @@ other_rests (place.Host p) (SetSlot id slot) h other = inl (λ R. absurd R)
 other_rests (place.SlotChange p) command h other = by (changes_slot command) refl
   where
     by : (b : Bool) → changes_slot command ≡ b → (RestsAt (place.SlotChange p) command h → ⊥) ⊎ RestsOnPart (place.SlotChange p) command h
-    by true is = inr (record { step = slot_change_part p h command; at = refl; more = Unit {0}; more_prop = hlevel props; needs = λ R. (R.1, tt); rests = λ N M. (is, N) })
+    by true is = inr (record {
+      step = slot_change_part p h command;
+      at = refl;
+      more = Unit {0};
+      more_prop = hlevel props;
+      needs = λ R. (R.1, tt);
+      rests = λ N M. (is, N);
+    })
     by false is = inl (λ R. let changes = R.0 in cc (changes, is))
 
 -- ---- how many steps it has left
@@ -197,7 +207,8 @@ first_holds z pool set (ChangeHost page change) h = tt
 first_holds z pool set command h = slot_change_begins z pool set command h (change_refusal z command h.slots) refl
 
 -- It stays, where live slots and the words of the line's own page do.
-module _ (z : Sizes) (before : ℕ → ℕ) (set : ℕ) (after : ℕ → ℕ) (other : ℕ) (h : Held) (stay : StayLive before set after other) (own : OwnedStays before after h) where
+module _ (z : Sizes) (before : ℕ → ℕ) (set : ℕ) (after : ℕ → ℕ) (other : ℕ) (h : Held) (stay : StayLive before set after other)
+    (own : OwnedStays before after h) where
   pub loads_stay : (p : Place) (command : Command) → Holds z before set p command h → Holds z after other p command h
   loads_stay place.Between command e = tt
   loads_stay (place.Access p) (Access gfn word op) e = tt
@@ -219,7 +230,8 @@ accepts_at_prop _ _ z slots = hlevel props
 -- ---- how it ends
 
 -- The step that ends it doesn't wait.
-pub ends_free : (p : Place) (command : Command) (h : Held) (v : ℕ) (answer : Answer) → RestsAt p command h → outcome_at p command h v ≡ Ends answer → line_waits p command h v ≡ false
+pub ends_free : (p : Place) (command : Command) (h : Held) (v : ℕ) (answer : Answer) → RestsAt p command h → outcome_at p command h v ≡ Ends answer
+    → line_waits p command h v ≡ false
 ends_free (place.Access p) (Access gfn word op) h v answer R e = access_free p h gfn op v answer e
 ends_free (place.SlotChange p) command h v answer R e = slot_change_free p h command v answer e
 ends_free (place.Host p) (ChangeHost page change) h v answer R e = host_free p page change h v answer R.1 e

@@ -44,7 +44,8 @@ host_notes (End _) page h v = refl
 
 scans_none : (p : HostPlace) (page : ℕ) (h : Held) (v : ℕ) → (HasScan (place_after (host_outcome p page h v)) → ⊥) × (host_outcome p page h v ≢ Ends Starved)
 scans_none Look page h v =
-    either_place (λ o. (HasScan (place_after o) → ⊥) × (o ≢ Ends Starved)) (is_own h.state.sizes h.state.actor page) (Goes (place.Host (Begin begins.Exclude))) (Ends (Refused OutOfRange))
+    either_place (λ o. (HasScan (place_after o) → ⊥) × (o ≢ Ends Starved)) (is_own h.state.sizes h.state.actor page)
+    (Goes (place.Host (Begin begins.Exclude))) (Ends (Refused OutOfRange))
     (λ S. S, λ e. absurd (cc e)) (λ S. S, λ e. absurd (cc e))
 scans_none (Begin p) page h v = (λ S. S, λ e. absurd (cc e))
 scans_none Change page h v = (λ S. S, λ e. absurd (cc e))

@@ -70,7 +70,8 @@ host_quiet (End _) page change h other = refl
 host_holds : (p : HostPlace) (page : ℕ) (change : HostChange) (h g : Held) (x : ℕ) (z : Sizes) (pool : ℕ → ℕ) (set : ℕ)
     → Holds z pool set (place_after (host_outcome p page h x)) (ChangeHost page change) g
 host_holds Look page change h g x z pool set =
-    either_place (λ o. Holds z pool set (place_after o) (ChangeHost page change) g) (is_own h.state.sizes h.state.actor page) (Goes (place.Host (Begin begins.Exclude))) (Ends (Refused OutOfRange)) tt tt
+    either_place (λ o. Holds z pool set (place_after o) (ChangeHost page change) g) (is_own h.state.sizes h.state.actor page)
+    (Goes (place.Host (Begin begins.Exclude))) (Ends (Refused OutOfRange)) tt tt
 host_holds (End ends.Release) page change h g x z pool set = tt
 host_holds (End _) page change h g x z pool set = tt
 host_holds _ page change h g x z pool set = tt
@@ -95,8 +96,10 @@ host_kept z v a line p page change S I P makes knows =
 
 pub own_host : (p : HostPlace) (line : Line) (h : Held) (page : ℕ) (change : HostChange) (words : Area → ℕ → ℕ) → PartRests h
     → KnowsPart (place.Host p) (ChangeHost page change) h → LeavesPart (place.Host p) h.topics
-    → KnowsAfter line (ChangeHost page change) (place.Host p) h (answer_in (part_task (host_part p page change h) (own_index h) h.topics (host_note p page h)) words)
+    → KnowsAfter line (ChangeHost page change) (place.Host p) h
+    (answer_in (part_task (host_part p page change h) (own_index h) h.topics (host_note p page h)) words)
 own_host p line h page change words R K left =
     let v : ℕ = answer_in (part_task (host_part p page change h) (own_index h) h.topics (host_note p page h)) words in
     let A = parts_answer (host_part p page change h) (own_index h) h.topics (host_note p page h) words in
-    knows_by (place.Host p) line (ChangeHost page change) h v (host_needs p h page change R K.0 K.1) (λ cached. host_known line h page change cached v K.0 p R K.1 left.opens A)
+    knows_by (place.Host p) line (ChangeHost page change) h v (host_needs p h page change R K.0 K.1)
+    (λ cached. host_known line h page change cached v K.0 p R K.1 left.opens A)

@@ -64,7 +64,9 @@ first_low z host S = by (slice_get z.first_pages host) refl
   where
     by : (o : Option ℕ) → slice_get z.first_pages host ≡ o → unwrap_or o z.pages ≤ z.pages
     by None e = omega arith
-    by (Some page) e = subst (λ (x : ℕ). x ≤ z.pages) (get_or_from_slice_get z.first_pages host page 0 e) (S.firsts host 0 (slice_get_within z.first_pages host page e))
+    by (Some page) e =
+        subst (λ (x : ℕ). x ≤ z.pages) (get_or_from_slice_get z.first_pages host page 0 e)
+        (S.firsts host 0 (slice_get_within z.first_pages host page e))
 
 pub own_low : (z : Sizes) (actor : Actor) (page : ℕ) → AreSizes z → is_own z actor page ≡ true → page < z.pages
 own_low z (Host n) page S is =
@@ -73,7 +75,8 @@ own_low z (Host n) page S is =
     omega (arith, O.1, low)
 own_low z _ page S is = absurd (cc is)
 
-look_needs : (b : Bool) (page : ℕ) (h : Held) → (b ≡ true → page < h.state.sizes.pages) → h.topics.hold ≡ Loose → PartNeeds (if b then part.Host page else part.Seq) h
+look_needs : (b : Bool) (page : ℕ) (h : Held) → (b ≡ true → page < h.state.sizes.pages) → h.topics.hold ≡ Loose
+    → PartNeeds (if b then part.Host page else part.Seq) h
 look_needs true page h low loose = (low refl, ap is_alone loose)
 look_needs false page h low loose = tt
 
@@ -83,7 +86,8 @@ ends_rest _ h K = tt
 
 -- The word that a change puts allows writes to the page, or forbids them.
 revises_it : (change : HostChange) (word : ℕ) → IsMade change → revises word (revised change word) ≡ true
-revises_it Allow word made = ap (λ (b : Bool). b || (with_writes true word == with_writes false word)) (eq-eqb (with_writes true word) (with_writes true word) refl)
+revises_it Allow word made =
+    ap (λ (b : Bool). b || (with_writes true word == with_writes false word)) (eq-eqb (with_writes true word) (with_writes true word) refl)
 revises_it Protect word made = or_same (with_writes false word == with_writes true word) (eq-eqb (with_writes false word) (with_writes false word) refl)
   where
     or_same : {b : Bool} (a : Bool) → b ≡ true → (a || b) ≡ true
@@ -140,8 +144,13 @@ module _ (line : Line) (h : Held) (page : ℕ) (change : HostChange) (cached : B
       → Knows (after_begin next) (behind (Begin p) u)
   begin_comes p (begins_next.Goes q) u same L C =
       (allows, (record { own_ = L.own_; looked = ap is_some same ∙ L.looked; at = ap page_looked same ∙ L.at }, C))
-  begin_comes p begins_next.Begun u same L C =
-      (allows, (record { own_ = L.own_; looked = ap is_some same ∙ L.looked; at = ap page_looked same ∙ L.at }, record { opened = C.0; invalid = C.1; asked = C.2; awaited = C.3 }))
+  begin_comes p begins_next.Begun u same L C = (
+    allows,
+    (
+      record { own_ = L.own_; looked = ap is_some same ∙ L.looked; at = ap page_looked same ∙ L.at },
+      record { opened = C.0; invalid = C.1; asked = C.2; awaited = C.3 },
+    ),
+  )
 
   end_comes : (p : EndPlace) (next : EndNext) (u : Topics) → EndComes next u → KnowsBehind (after_end next) (ChangeHost page change) (behind (End p) u)
   end_comes p (ends_next.Goes q) u C = (allows, C)
@@ -172,9 +181,15 @@ module _ (line : Line) (h : Held) (page : ℕ) (change : HostChange) (cached : B
         opened = K.1.opened.opened;
         unraised = K.1.opened.unraised;
       } in
-      either_place (λ q. Knows q (behind Change (part_topics (part.Change (word_put change h.topics)) h.topics v))) (v == word_looked h.topics.host) (End ends.Exclude) Change
-      (allows, opened)
-      (allows, (record { own_ = K.0.own_; looked = refl; at = K.0.at }, record { opened = opened; invalid = K.1.invalid; asked = K.1.asked; awaited = K.1.awaited }))
+      either_place (λ q. Knows q (behind Change (part_topics (part.Change (word_put change h.topics)) h.topics v))) (v == word_looked h.topics.host)
+      (End ends.Exclude) Change
+      (allows, opened) (
+        allows,
+        (
+          record { own_ = K.0.own_; looked = refl; at = K.0.at },
+          record { opened = opened; invalid = K.1.invalid; asked = K.1.asked; awaited = K.1.awaited },
+        ),
+      )
   host_known (End p) R K closed A = end_comes p (end_next p v) (part_topics (end_part p h.topics) h.topics v) (ending_known p h.topics v K A)
 
   -- ---- no page leaves, and its invalidation is open where its place says so
@@ -210,7 +225,8 @@ module _ (line : Line) (h : Held) (page : ℕ) (change : HostChange) (cached : B
   end_keeps _ = refl
 
   look_leaves : (b : Bool) → h.topics.leaving ≡ None → h.topics.invalidations.opened ≡ false
-      → LeavesPart (place_after (if b then Goes (place.Host (Begin begins.Exclude)) else Ends (Refused OutOfRange))) (part_topics (if b then part.Host page else part.Seq) h.topics v)
+      → LeavesPart (place_after (if b then Goes (place.Host (Begin begins.Exclude)) else Ends (Refused OutOfRange)))
+      (part_topics (if b then part.Host page else part.Seq) h.topics v)
   look_leaves true none closed = record { leaves = λ may. none; opens = λ may. closed }
   look_leaves false none closed = record { leaves = λ may. none; opens = λ may. closed }
 
@@ -221,7 +237,8 @@ module _ (line : Line) (h : Held) (page : ℕ) (change : HostChange) (cached : B
       begin_leaves (begin_next p h.state.sizes page h.topics v) h.state.sizes _ (begin_keeps p ∙ left.leaves refl)
       (begin_known p h.state.sizes page h.topics v R.sizes K.0.at R.flags R.frames R.level K.1 A)
   host_leaves Change R K left A =
-      either_place (λ q. LeavesPart (place.Host q) (part_topics (part.Change (word_put change h.topics)) h.topics v)) (v == word_looked h.topics.host) (End ends.Exclude) Change
+      either_place (λ q. LeavesPart (place.Host q) (part_topics (part.Change (word_put change h.topics)) h.topics v)) (v == word_looked h.topics.host)
+      (End ends.Exclude) Change
       (record { leaves = λ may. left.leaves refl; opens = λ may. absurd (cc may) })
       (record { leaves = λ may. left.leaves refl; opens = λ may. absurd (cc may) })
   host_leaves (End p) R K left A = end_leaves (end_next p v) _ (end_keeps p ∙ left.leaves refl) (ending_known p h.topics v K A)

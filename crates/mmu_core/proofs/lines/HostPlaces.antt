@@ -37,7 +37,8 @@ use Rattle.mmu_core.proofs.machine.GoesOn.{GoesToNoAccess, GoesUnderWay}
 
 pub host_goes : (p : HostPlace) (page : ℕ) (h : Held) (v : ℕ) → GoesUnderWay (host_outcome p page h v) × GoesToNoAccess (host_outcome p page h v)
 host_goes Look page h v =
-    either_place (λ o. GoesUnderWay o × GoesToNoAccess o) (is_own h.state.sizes h.state.actor page) (Goes (place.Host (Begin begins.Exclude))) (Ends (Refused OutOfRange)) (tt, tt) (tt, tt)
+    either_place (λ o. GoesUnderWay o × GoesToNoAccess o) (is_own h.state.sizes h.state.actor page) (Goes (place.Host (Begin begins.Exclude)))
+    (Ends (Refused OutOfRange)) (tt, tt) (tt, tt)
 host_goes (Begin p) page h v = (tt, tt)
 host_goes Change page h v = (tt, tt)
 host_goes (End ends.Release) page h v = (tt, tt)

@@ -8,12 +8,11 @@ use Rattle.core_views.specs.declared.place.BeginPlace.TheVariants as begins
 use Rattle.core_views.specs.declared.place.EndPlace.{EndPlace}
 use Rattle.core_views.specs.declared.place.EndPlace.TheVariants as ends
 use Rattle.core_views.specs.declared.topics.Checked.TheVariants as checked
-use Rattle.core_views.specs.declared.topics.Invalidations.{Invalidations}
 use Rattle.core_views.specs.declared.topics.Topics.{Topics}
 use Rattle.core_views.specs.Held.{Held}
 use Rattle.core_views.specs.Slots.{has_host_page}
 use Rattle.part_steps.specs.PartBounds.{PartRests}
-use Rattle.part_steps.specs.InvalidationHoldings.{MayCount, has_counted, has_widened, knows_count, IsOpening}
+use Rattle.part_steps.specs.InvalidationHoldings.{MayCount, has_counted, knows_count, IsOpening}
 use Rattle.part_steps.specs.PartSteps.{PartNeeds}
 use Rattle.mmu_core.specs.lines.InvalidateKnows.{BeginKnows, EndKnows, IsAloneWith, HasSearched}
 use Rattle.mmu_core.specs.lines.InvalidateSteps.{begin_part, end_part, gfn_behind, greater, has_found, lesser, range_end, range_start}
@@ -48,7 +47,8 @@ start_small : (page : ℕ) (t : Topics) → t.invalidations.start < 2 ^ 64 → (
 start_small page t small frames = by (t.invalidations.count == 0) (has_found page t.search) (found_low page t frames)
   where
     by : (none found : Bool) → (found ≡ true → gfn_behind page t.search.slot < 2 ^ 36)
-        → (if none then (if found then gfn_behind page t.search.slot else 0) else if found then lesser t.invalidations.start (gfn_behind page t.search.slot) else t.invalidations.start) < 2 ^ 64
+        → (if none then (if found then gfn_behind page t.search.slot else 0) else if found
+        then lesser t.invalidations.start (gfn_behind page t.search.slot) else t.invalidations.start) < 2 ^ 64
     by true true low = let l = low refl in omega (arith, l)
     by true false low = omega arith
     by false true low = let l = low refl in lesser_small t.invalidations.start (gfn_behind page t.search.slot) (omega (arith, l))
@@ -59,7 +59,8 @@ end_small : (page : ℕ) (t : Topics) → t.invalidations.end < 2 ^ 64 → (t.se
 end_small page t small frames = by (t.invalidations.count == 0) (has_found page t.search) (found_low page t frames)
   where
     by : (none found : Bool) → (found ≡ true → gfn_behind page t.search.slot < 2 ^ 36)
-        → (if none then (if found then gfn_behind page t.search.slot + 1 else 0) else if found then greater t.invalidations.end (gfn_behind page t.search.slot + 1) else t.invalidations.end) < 2 ^ 64
+        → (if none then (if found then gfn_behind page t.search.slot + 1 else 0) else if found
+        then greater t.invalidations.end (gfn_behind page t.search.slot + 1) else t.invalidations.end) < 2 ^ 64
     by true true low = let l = low refl in omega (arith, l)
     by true false low = omega arith
     by false true low = let l = low refl in greater_small t.invalidations.end (gfn_behind page t.search.slot + 1) small (omega (arith, l))
@@ -83,7 +84,8 @@ opening page t same S = record {
 }
 
 -- What is stored as the count is as many as were open, and one, or without one.
-one_more : (page : ℕ) (t : Topics) → page_looked t.host ≡ page → HasSearched page t → t.invalidations.checked ≡ checked.Range → t.invalidations.own ≡ invalidated_by page t.search
+one_more : (page : ℕ) (t : Topics) → page_looked t.host ≡ page → HasSearched page t → t.invalidations.checked ≡ checked.Range
+    → t.invalidations.own ≡ invalidated_by page t.search
     → is_within_range t.invalidations.own t.invalidations ≡ true → MayCount (t.invalidations.count + 1) t
 one_more page t same S known own_ within = record {
   alone = S.sweeping.with_lock.alone.alone;

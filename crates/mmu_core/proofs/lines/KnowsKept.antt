@@ -140,7 +140,8 @@ fault_over_known (next_of.Ends (end_of.Retry cause)) gfn word op g K = K
 -- behind each step of an access
 pub access_known : (p : AccessPlace) (line : Line) (h : Held) (gfn word : ℕ) (op : Op) (cached : Buffer Translation) (v : ℕ)
     → CachesBehind p h gfn op v cached → gfn < 2 ^ 36 → PartRests h → AccessKnows p gfn (is_write op) h → CanAnswerBy (access_part p gfn h.topics) v
-    → KnowsBehind (access_outcome p h gfn op v) (Access gfn word op) (hand_with line (Access gfn word op) (place.Access p) h (behind_part (access_part p gfn h.topics) h.topics v) cached v)
+    → KnowsBehind (access_outcome p h gfn op v) (Access gfn word op)
+    (hand_with line (Access gfn word op) (place.Access p) h (behind_part (access_part p gfn h.topics) h.topics v) cached v)
 access_known (Enter again) line h gfn word op cached v C small R K A = record { guest = refl; loose = K.loose; owns_none = K.owns_none; no_set = refl }
 access_known (Pause again) line h gfn word op cached v C small R K A =
     pause_known (first_usable gfn (is_write op) h.cached.items) again gfn (is_write op) h
@@ -148,7 +149,8 @@ access_known (Pause again) line h gfn word op cached v C small R K A =
     (record { guest = K.guest; loose = K.loose; owns_none = K.owns_none; no_set = K.no_set }) refl
 access_known (Root again) line h gfn word op cached v C small R K A = (
   record { guest = K.guest; loose = K.loose; owns_none = K.owns_none; no_set = K.no_set },
-  subst (λ (b : Bool). IsOver gfn (at_root b h.topics.walk v)) (sym (ap (λ (s : Stay). may_walk s h.topics.hold) K.guest)) (root_over gfn v h.topics.walk small),
+  subst (λ (b : Bool). IsOver gfn (at_root b h.topics.walk v)) (sym (ap (λ (s : Stay). may_walk s h.topics.hold) K.guest))
+      (root_over gfn v h.topics.walk small),
 )
 access_known (Walk again) line h gfn word op cached v C small R K A =
     walk_known (kind_of h.topics.walk.level v) (allows_access (is_write op) v) again gfn (is_write op) v h.topics h.cached
@@ -189,7 +191,8 @@ pub own_access : (p : AccessPlace) (line : Line) (h : Held) (gfn word : ℕ) (op
 own_access p line h gfn word op words vcpu small R K =
     let v : ℕ = answer_in (access_task p h gfn word op) words in
     let s : Option PartStep = access_part p gfn h.topics in
-    let cached : Buffer Translation = flushed (kind_of_task h.state.sizes (access_task p h gfn word op)) (caches_at (place.Access p) (Access gfn word op) h v) v in
+    let cached : Buffer Translation =
+    flushed (kind_of_task h.state.sizes (access_task p h gfn word op)) (caches_at (place.Access p) (Access gfn word op) h v) v in
     subst (λ (t : Topics). KnowsBehind (access_outcome p h gfn op v) (Access gfn word op) (hand_with line (Access gfn word op) (place.Access p) h t cached v))
     (sym (task_topics s h (access_note p) op _ v (access_needs p h gfn (is_write op) vcpu small R K)))
     (access_known p line h gfn word op cached v (flushed_behind p h gfn word op v) small R K (task_answers s h (access_note p) _ words))
@@ -216,7 +219,8 @@ pub step_knows : (z : Sizes) (v : View) (a : ℕ) (line : Line) (command : Comma
     → KnowsPart p command (v.hand a)
 step_knows z v a line command p S I =
     subst (λ q. KnowsPart q command (v.hand a)) S.place_is
-    (subst (λ c. KnowsPart (place_at (v.hand a).state.place (v.hand a)) c (v.hand a)) (ap (λ (l : Line). l.command) (sym S.line_is) ∙ S.command_is) (knows_at z v a I S.there S.left))
+    (subst (λ c. KnowsPart (place_at (v.hand a).state.place (v.hand a)) c (v.hand a)) (ap (λ (l : Line). l.command) (sym S.line_is) ∙ S.command_is)
+    (knows_at z v a I S.there S.left))
 
 -- Where a line begins no page leaves, and no invalidation is open.
 first_leaves : (z : Sizes) (command : Command) (slots : MemorySlots) (t : Topics) → t.leaving ≡ None → t.invalidations.opened ≡ false
@@ -231,7 +235,8 @@ pub step_leaves : (z : Sizes) (v : View) (a : ℕ) (line : Line) (command : Comm
     → LeavesPart p (v.hand a).topics
 step_leaves z v a line command p S I =
     subst (λ q. LeavesPart q (v.hand a).topics) S.place_is
-    (standing_leaves (v.hand a).state.place (v.hand a).state.sizes (v.hand a).slots (line_at (v.hand a).state.place (v.hand a)).command (v.hand a).topics (I.leaves a S.there))
+    (standing_leaves (v.hand a).state.place (v.hand a).state.sizes (v.hand a).slots (line_at (v.hand a).state.place (v.hand a)).command
+    (v.hand a).topics (I.leaves a S.there))
 
 -- Each step of a part leaves each actor with what its place asks; its own actor has no line left.
 idle_knows : (q : Place) (command : Command) (h g : Held) → has_line h ≡ false → UnderWay q h → has_line g ≡ has_line h → KnowsPart q command g

@@ -32,7 +32,8 @@ use Rattle.spte_words.specs.declared.spte_kind.SpteKind.{SpteKind}
 use Rattle.spte_words.specs.declared.spte_kind.SpteKind.TheVariants as entry_kind
 use Rattle.spte_words.specs.Entries.{kind_of}
 use Rattle.spte_words.specs.HostWords.{host_allows_write}
-use Rattle.mmu_core.specs.lines.FaultKnows.{CheckKnows, EndKnows, Entering, FaultKnows, FoundNoPage, HasCause, HostForbids, IsInTheWay, LookedFor, Sharing, IsRetry}
+use Rattle.mmu_core.specs.lines.FaultKnows.{CheckKnows, EndKnows, Entering, FaultKnows, FoundNoPage, HasCause, HostForbids, IsInTheWay, LookedFor}
+use Rattle.mmu_core.specs.lines.FaultKnows.{Sharing, IsRetry}
 use Rattle.mmu_core.specs.lines.AccessKnows.{AccessKnows}
 use Rattle.mmu_core.specs.lines.Forms.{KnowsPart}
 use Rattle.part_steps.specs.PartHoldings.{LookedUp}
@@ -69,7 +70,9 @@ looked_for_stays gfn write t x =
     let look = looked_stays gfn t (∥∥₁_map x (λ L. L.looked_up)) in
     record {
       looked_up = look;
-      allowed = ∥∥₁_elim x (hlevel props) (λ L. λ writes. let may = L.allowed writes in (may.0, ap host_allows_write (same_word gfn t look L.looked_up) ∙ may.1));
+      allowed =
+          ∥∥₁_elim x (hlevel props)
+          (λ L. λ writes. let may = L.allowed writes in (may.0, ap host_allows_write (same_word gfn t look L.looked_up) ∙ may.1));
       snapshot = ∥∥₁_elim x (hlevel props) (λ L. L.snapshot);
     }
 
@@ -198,4 +201,5 @@ reached_knows h reached left = knows_stay h (∥∥₁_map reached knows_of)
     knows_of x =
         let G = reached_good x.world x.reached in
         let there = subst (λ n. x.actor < n) G.hands x.there in
-        subst KnowsNow x.has (knows_at x.reached.sizes (view x.reached.sizes x.world) x.actor G.holds there (subst (λ (g : Held). length g.answers < length g.lines) (sym x.has) left))
+        subst KnowsNow x.has (knows_at x.reached.sizes (view x.reached.sizes x.world) x.actor G.holds there
+        (subst (λ (g : Held). length g.answers < length g.lines) (sym x.has) left))

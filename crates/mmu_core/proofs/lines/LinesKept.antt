@@ -46,7 +46,8 @@ adds_id (SetSlot id slot) = OneId id
 adds_id _ = NoId
 
 -- one more line, with the ID of the slot that it sets, if it sets one
-pub ids_more : (n : ℕ) (lines : List Line) → n < length lines → slot_ids (take (suc n) lines) ≡ slot_ids (take n lines) ++ or_slot_id (unwrap_or (slice_get lines n) no_line).command []
+pub ids_more : (n : ℕ) (lines : List Line) → n < length lines
+    → slot_ids (take (suc n) lines) ≡ slot_ids (take n lines) ++ or_slot_id (unwrap_or (slice_get lines n) no_line).command []
 ids_more n [] lt = absurd (omega arith)
 ids_more zero (line ∷ lines) lt = refl
 ids_more (suc n) (line ∷ lines) lt = by line.command (ids_more n lines (omega arith))
@@ -54,30 +55,36 @@ ids_more (suc n) (line ∷ lines) lt = by line.command (ids_more n lines (omega 
     last : List ℕ
     last = or_slot_id (unwrap_or (slice_get lines n) no_line).command []
 
-    by : (c : Command) → slot_ids (take (suc n) lines) ≡ slot_ids (take n lines) ++ last → or_slot_id c (slot_ids (take (suc n) lines)) ≡ or_slot_id c (slot_ids (take n lines)) ++ last
+    by : (c : Command) → slot_ids (take (suc n) lines) ≡ slot_ids (take n lines) ++ last
+        → or_slot_id c (slot_ids (take (suc n) lines)) ≡ or_slot_id c (slot_ids (take n lines)) ++ last
     by (SetSlot id slot) rest = ap (λ (ids : List ℕ). id ∷ ids) rest
     by _ rest = rest
 
 -- a line that sets a slot, among those up to it
-pub set_here : (n : ℕ) (lines : List Line) (id : ℕ) (slot : Slot) → n < length lines → (unwrap_or (slice_get lines n) no_line).command ≡ SetSlot id slot → Contains (slot_ids (take (suc n) lines)) id
+pub set_here : (n : ℕ) (lines : List Line) (id : ℕ) (slot : Slot) → n < length lines
+    → (unwrap_or (slice_get lines n) no_line).command ≡ SetSlot id slot → Contains (slot_ids (take (suc n) lines)) id
 set_here n lines id slot lt is =
     subst (λ (xs : List ℕ). Contains xs id) (sym (ids_more n lines lt ∙ ap (λ c. slot_ids (take n lines) ++ or_slot_id c []) is))
     (Contains-append_right (slot_ids (take n lines)) (id ∷ []) id (0, omega arith, refl))
 
 -- a line that sets this slot, among all
-pub line_sets : (n : ℕ) (lines : List Line) (id : ℕ) (slot : Slot) → n < length lines → (unwrap_or (slice_get lines n) no_line).command ≡ SetSlot id slot → Contains (map (λ (l : Line). l.command) lines) (SetSlot id slot)
+pub line_sets : (n : ℕ) (lines : List Line) (id : ℕ) (slot : Slot) → n < length lines
+    → (unwrap_or (slice_get lines n) no_line).command ≡ SetSlot id slot → Contains (map (λ (l : Line). l.command) lines) (SetSlot id slot)
 line_sets n [] id slot lt is = absurd (omega arith)
 line_sets zero (line ∷ lines) id slot lt is = (0, omega arith, is)
 line_sets (suc n) (line ∷ lines) id slot lt is = let rest = line_sets n lines id slot (omega arith) is in (suc rest.0, omega (arith, rest.1), rest.2)
 
 -- What holds of each slot and of one more holds of each where that one is put at its ID.
-pub set_by_with : (lines : List Line) (id : ℕ) (slot : MemorySlot) (slots : MemorySlots) → IsSetBy lines (id, slot) → All (IsSetBy lines) slots → All (IsSetBy lines) (insert_entry nat_cmp slots id slot)
+pub set_by_with : (lines : List Line) (id : ℕ) (slot : MemorySlot) (slots : MemorySlots) → IsSetBy lines (id, slot) → All (IsSetBy lines) slots
+    → All (IsSetBy lines) (insert_entry nat_cmp slots id slot)
 set_by_with lines id slot [] is all = All-cons (IsSetBy lines) (id, slot) [] is all
 set_by_with lines id slot (e ∷ es) is all = by (nat_cmp id e.0) refl (set_by_with lines id slot es is (All-tail (IsSetBy lines) e es all))
   where
-    by : (o : Ordering) → nat_cmp id e.0 ≡ o → All (IsSetBy lines) (insert_entry nat_cmp es id slot) → All (IsSetBy lines) (match_ordering o ((id, slot) ∷ e ∷ es) ((e.0, slot) ∷ es) (e ∷ insert_entry nat_cmp es id slot))
+    by : (o : Ordering) → nat_cmp id e.0 ≡ o → All (IsSetBy lines) (insert_entry nat_cmp es id slot)
+        → All (IsSetBy lines) (match_ordering o ((id, slot) ∷ e ∷ es) ((e.0, slot) ∷ es) (e ∷ insert_entry nat_cmp es id slot))
     by Less order rest = All-cons (IsSetBy lines) (id, slot) (e ∷ es) is all
-    by Equal order rest = All-cons (IsSetBy lines) (e.0, slot) es (subst (λ i. IsSetBy lines (i, slot)) (same_id id e.0 order) is) (All-tail (IsSetBy lines) e es all)
+    by Equal order rest =
+        All-cons (IsSetBy lines) (e.0, slot) es (subst (λ i. IsSetBy lines (i, slot)) (same_id id e.0 order) is) (All-tail (IsSetBy lines) e es all)
     by Greater order rest = All-cons (IsSetBy lines) e (insert_entry nat_cmp es id slot) (All-head (IsSetBy lines) e es all) rest
 
 pub answers_length : (answers : List AnsweredLine) (x : AnsweredLine) → length (answers ++ x ∷ []) ≡ suc (length answers)
@@ -97,32 +104,46 @@ more_set (suc m) (suc n) (line ∷ lines) id le has = by line.command (more_set 
     shifted : (first : ℕ) (ids : List ℕ) → Contains ids id → Contains (first ∷ ids) id
     shifted first ids has = (suc has.0, omega (arith, has.1), has.2)
 
-    behind_first : (first : ℕ) (before after : List ℕ) → (Contains before id → Contains after id) → (k : ℕ) → k < suc (length before) → get_or (first ∷ before) k id ≡ id → Contains (first ∷ after) id
+    behind_first : (first : ℕ) (before after : List ℕ) → (Contains before id → Contains after id) → (k : ℕ) → k < suc (length before)
+        → get_or (first ∷ before) k id ≡ id → Contains (first ∷ after) id
     behind_first first before after rest zero lt is = (0, omega arith, is)
     behind_first first before after rest (suc k) lt is = shifted first after (rest (k, omega arith, is))
 
-    by : (c : Command) → (Contains (slot_ids (take m lines)) id → Contains (slot_ids (take n lines)) id) → Contains (or_slot_id c (slot_ids (take m lines))) id → Contains (or_slot_id c (slot_ids (take n lines))) id
+    by : (c : Command) → (Contains (slot_ids (take m lines)) id → Contains (slot_ids (take n lines)) id)
+        → Contains (or_slot_id c (slot_ids (take m lines))) id → Contains (or_slot_id c (slot_ids (take n lines))) id
     by (SetSlot i slot) rest has = behind_first i (slot_ids (take m lines)) (slot_ids (take n lines)) rest has.0 has.1 has.2
     by _ rest has = rest has
 
 pub answered_kept : (m n : ℕ) (lines : List Line) (ids : List ℕ) → m ≤ n → AreSetBy lines m ids → AreSetBy lines n ids
-answered_kept m n lines ids le set = All-weaker (Contains (slot_ids (take m lines))) (Contains (slot_ids (take n lines))) (λ id has. more_set m n lines id le has) ids set
+answered_kept m n lines ids le set =
+    All-weaker (Contains (slot_ids (take m lines))) (Contains (slot_ids (take n lines))) (λ id has. more_set m n lines id le has) ids set
 
 -- No answer is taken back.
 pub answers_more : (o : Outcome) (line : Line) (answers : List AnsweredLine) → length answers ≤ length (answers_after o line answers)
 answers_more (Goes p) line answers = omega arith
-answers_more (Ends answer) line answers = let n = answers_length answers (record { number = line.number; actor = line.actor; answer = answer }) in omega (arith, n)
+answers_more (Ends answer) line answers =
+    let n = answers_length answers (record { number = line.number; actor = line.actor; answer = answer }) in omega (arith, n)
 
 -- the hand behind a step that went so
 abbrev pub behind : Held → Line → State → Outcome → Topics → Buffer Translation → MemorySlots → Held
-behind h line s o t c slots = record { state = record s { line = line; place = place_after o }; topics = t; cached = c; slots = slots; lines = h.lines; answers = answers_after o line h.answers }
+behind h line s o t c slots = record {
+  state = record s { line = line; place = place_after o };
+  topics = t;
+  cached = c;
+  slots = slots;
+  lines = h.lines;
+  answers = answers_after o line h.answers;
+}
 
-under_behind : (h : Held) (line : Line) (s : State) (p : Place) (t : Topics) (c : Buffer Translation) (slots : MemorySlots) → line ≡ next_line h → length h.answers < length h.lines → UnderWay p (behind h line s (Goes p) t c slots)
+under_behind : (h : Held) (line : Line) (s : State) (p : Place) (t : Topics) (c : Buffer Translation) (slots : MemorySlots) → line ≡ next_line h
+    → length h.answers < length h.lines → UnderWay p (behind h line s (Goes p) t c slots)
 under_behind h line s place.Between t c slots is left = tt
 under_behind h line s _ t c slots is left = (is, left)
 
-pub lines_behind : (z : Sizes) (a : ℕ) (h : Held) (line : Line) (s : State) (o : Outcome) (t : Topics) (c : Buffer Translation) (slots : MemorySlots) → OwnLines z a h → line ≡ next_line h → length h.answers < length h.lines
-    → s.sizes ≡ z → s.actor ≡ h.state.actor → c.capacity ≡ h.cached.capacity → AreSetBy h.lines (lines_done (behind h line s o t c slots)) (keys_of slots) → All (IsSetBy h.lines) slots → OwnLines z a (behind h line s o t c slots)
+pub lines_behind : (z : Sizes) (a : ℕ) (h : Held) (line : Line) (s : State) (o : Outcome) (t : Topics) (c : Buffer Translation) (slots : MemorySlots)
+    → OwnLines z a h → line ≡ next_line h → length h.answers < length h.lines
+    → s.sizes ≡ z → s.actor ≡ h.state.actor → c.capacity ≡ h.cached.capacity → AreSetBy h.lines (lines_done (behind h line s o t c slots))
+    (keys_of slots) → All (IsSetBy h.lines) slots → OwnLines z a (behind h line s o t c slots)
 lines_behind z a h line s (Goes p) t c slots O is left same actor room answered set = record {
   sizes = same;
   cache = room ∙ O.cache;

@@ -42,16 +42,18 @@ pub snapshot_known : (t : Topics) (v : ℕ) → InSection t → t.hold ≡ Loose
 snapshot_known t v I loose = subst (λ (x : Hold). WithoutLock (sequenced (is_loose x) t v)) (sym loose) (without_lock t v I loose)
 
 -- the search
-pub slots_known : (z : Sizes) (gfn : ℕ) (write b : Bool) (t : Topics) (v : ℕ) → b ≡ true → WithoutLock t → FaultKnows (Find true) z gfn write (record t { search = at_set b t.search v })
+pub slots_known : (z : Sizes) (gfn : ℕ) (write b : Bool) (t : Topics) (v : ℕ) → b ≡ true → WithoutLock t
+    → FaultKnows (Find true) z gfn write (record t { search = at_set b t.search v })
 slots_known z gfn write true t v holds W = (same_without t _ refl refl refl refl W, λ _. (refl, omega arith))
 slots_known z gfn write false t v holds W = absurd (cc holds)
 
-find_goes_on : (b : Bool) (z : Sizes) (gfn : ℕ) (write : Bool) (u : Topics) → (u.search.id == 32) ≡ b → u.search.id ≤ 32 → WithoutLock u → HoldsSet u → FaultKnows (if b then End Mmio else Find true) z gfn write u
+find_goes_on : (b : Bool) (z : Sizes) (gfn : ℕ) (write : Bool) (u : Topics) → (u.search.id == 32) ≡ b → u.search.id ≤ 32 → WithoutLock u → HoldsSet u
+    → FaultKnows (if b then End Mmio else Find true) z gfn write u
 find_goes_on true z gfn write u is most W set = (W.inside, W.loose, inr (grind (arith, nat_tests)))
 find_goes_on false z gfn write u is most W set = (W, λ _. (set, grind (arith, nat_tests)))
 
-slot_found : (holds denied : Bool) (z : Sizes) (gfn : ℕ) (write : Bool) (u : Topics) → contains gfn u.search.slot ≡ holds → (write && u.search.slot.read_only) ≡ denied → u.search.whole ≡ true
-    → u.search.id ≤ 32 → WithoutLock u → HoldsSet u
+slot_found : (holds denied : Bool) (z : Sizes) (gfn : ℕ) (write : Bool) (u : Topics) → contains gfn u.search.slot ≡ holds
+    → (write && u.search.slot.read_only) ≡ denied → u.search.whole ≡ true → u.search.id ≤ 32 → WithoutLock u → HoldsSet u
     → FaultKnows (if holds then (if denied then End Mmio else Host) else if u.search.id == 32 then End Mmio else Find true) z gfn write u
 slot_found true true z gfn write u is denied whole most W set =
     let D = both write u.search.slot.read_only denied in (W.inside, W.loose, inl (D.0, record { whole = whole; holds = is }, D.1))
@@ -64,9 +66,12 @@ one_further false id low = omega arith
 
 find_known : (f : SlotField) (z : Sizes) (gfn : ℕ) (write : Bool) (t : Topics) (v : ℕ) → t.search.id ≤ 31 → WithoutLock t → HoldsSet t
     → FaultKnows (find_next gfn write f (searched_at f t.search v)) z gfn write (record t { search = searched_at f t.search v })
-find_known field.Flags z gfn write t v low W set = find_goes_on ((searched_at field.Flags t.search v).id == 32) z gfn write _ refl (one_further _ t.search.id low) (same_without t _ refl refl refl refl W) set
+find_known field.Flags z gfn write t v low W set =
+    find_goes_on ((searched_at field.Flags t.search v).id == 32) z gfn write _ refl (one_further _ t.search.id low)
+    (same_without t _ refl refl refl refl W) set
 find_known field.Host z gfn write t v low W set =
-    slot_found (contains gfn (searched_at field.Host t.search v).slot) (write && t.search.slot.read_only) z gfn write _ refl refl refl (omega arith) (same_without t _ refl refl refl refl W) set
+    slot_found (contains gfn (searched_at field.Host t.search v).slot) (write && t.search.slot.read_only) z gfn write _ refl refl refl (omega arith)
+    (same_without t _ refl refl refl refl W) set
 find_known _ z gfn write t v low W set = find_goes_on (t.search.id == 32) z gfn write _ refl (omega arith) (same_without t _ refl refl refl refl W) set
 
 pub slot_known : (z : Sizes) (gfn : ℕ) (write b : Bool) (t : Topics) (v : ℕ) → b ≡ true → t.search.id ≤ 31 → WithoutLock t → HoldsSet t
@@ -75,7 +80,8 @@ slot_known z gfn write true t v is low W set = find_known t.search.next z gfn wr
 slot_known z gfn write false t v is low W set = absurd (cc is)
 
 -- the host word
-pub host_known : (b : Bool) (z : Sizes) (gfn : ℕ) (write : Bool) (t : Topics) (v : ℕ) → (write && not (host_allows_write v)) ≡ b → WithoutLock t → FoundSlot gfn t → (write && t.search.slot.read_only) ≡ false
+pub host_known : (b : Bool) (z : Sizes) (gfn : ℕ) (write : Bool) (t : Topics) (v : ℕ) → (write && not (host_allows_write v)) ≡ b → WithoutLock t
+    → FoundSlot gfn t → (write && t.search.slot.read_only) ≡ false
     → FaultKnows (if b then End HostFault else Share) z gfn write (record t { host = Some (record { page = page_of t.search.slot gfn; word = v }) })
 host_known true z gfn write t v is W F may =
     let D = both write (not (host_allows_write v)) is in (
@@ -104,16 +110,23 @@ kept t section = ap (λ (s : Stay). kept_search (is_section s) t.search) section
 pub kept_table : (t : Topics) → t.stay ≡ Section → kept_walk (not (is_outside t.stay)) t.walk ≡ t.walk
 kept_table t section = ap (λ (s : Stay). kept_walk (not (is_outside s)) t.walk) section
 
-pub share_known : (z : Sizes) (gfn : ℕ) (write : Bool) (t : Topics) (v : ℕ) (step : PartStep) (next : ShareNext) (u : Topics) → ShareMade t v step next u → InSection t → LookedFor gfn write t → FaultKnows (after_share next) z gfn write u
-share_known z gfn write t v _ _ _ (share.Got loose is) I L = (record { section = I.section; shares = refl; looked = same_looked gfn write t _ refl refl refl L }, I.owns_none, tt)
-share_known z gfn write t v _ _ _ (share.SawWriter loose is) I L = (record { section = I.section; owns_none = I.owns_none }, refl, same_looked gfn write t _ refl refl refl L)
-share_known z gfn write t v _ _ _ (share.TakesBack word is) I L = (record { section = I.section; owns_none = I.owns_none }, refl, same_looked gfn write t _ (kept t I.section) refl refl L)
+pub share_known : (z : Sizes) (gfn : ℕ) (write : Bool) (t : Topics) (v : ℕ) (step : PartStep) (next : ShareNext) (u : Topics)
+    → ShareMade t v step next u → InSection t → LookedFor gfn write t → FaultKnows (after_share next) z gfn write u
+share_known z gfn write t v _ _ _ (share.Got loose is) I L =
+    (record { section = I.section; shares = refl; looked = same_looked gfn write t _ refl refl refl L }, I.owns_none, tt)
+share_known z gfn write t v _ _ _ (share.SawWriter loose is) I L =
+    (record { section = I.section; owns_none = I.owns_none }, refl, same_looked gfn write t _ refl refl refl L)
+share_known z gfn write t v _ _ _ (share.TakesBack word is) I L =
+    (record { section = I.section; owns_none = I.owns_none }, refl, same_looked gfn write t _ (kept t I.section) refl refl L)
 
 -- the check
 count_known : (b : Bool) (z : Sizes) (gfn : ℕ) (write : Bool) (t : Topics) (v : ℕ) → (v == 0) ≡ b → Sharing gfn write t → t.owned ≡ None
-    → FaultKnows (if b then Check stage.Seq else Check stage.Start) z gfn write (record t { invalidations = record t.invalidations { count = v; checked = count_checked t.hold } })
-count_known true z gfn write t v is S none = (same_sharing gfn write t _ refl refl refl refl refl S, none, inl (ap (λ (x : Hold). count_checked x) S.shares, grind (arith, nat_tests)))
-count_known false z gfn write t v is S none = (same_sharing gfn write t _ refl refl refl refl refl S, none, (ap (λ (x : Hold). count_checked x) S.shares, grind (arith, nat_tests)))
+    → FaultKnows (if b then Check stage.Seq else Check stage.Start) z gfn write
+    (record t { invalidations = record t.invalidations { count = v; checked = count_checked t.hold } })
+count_known true z gfn write t v is S none =
+    (same_sharing gfn write t _ refl refl refl refl refl S, none, inl (ap (λ (x : Hold). count_checked x) S.shares, grind (arith, nat_tests)))
+count_known false z gfn write t v is S none =
+    (same_sharing gfn write t _ refl refl refl refl refl S, none, (ap (λ (x : Hold). count_checked x) S.shares, grind (arith, nat_tests)))
 
 past : (start gfn end_ : ℕ) → (nat_le start gfn && nat_lt gfn end_) ≡ false → (gfn < start) ⊎ (end_ ≤ gfn)
 past start gfn end_ e = by (nat_le start gfn) refl
@@ -122,8 +135,10 @@ past start gfn end_ e = by (nat_le start gfn) refl
     by true is = inr (grind (arith, nat_tests))
     by false is = inl (grind (arith, nat_tests))
 
-range_known : (b : Bool) (z : Sizes) (gfn : ℕ) (write : Bool) (t : Topics) (v : ℕ) → (nat_le t.invalidations.start gfn && nat_lt gfn v) ≡ b → Sharing gfn write t → t.owned ≡ None → CheckKnows stage.End gfn t.invalidations
-    → FaultKnows (if b then Unshare (Retry (Open t.invalidations.count t.invalidations.start v gfn)) else Check stage.Seq) z gfn write (record t { invalidations = record t.invalidations { end = v; checked = range_checked t.invalidations.checked } })
+range_known : (b : Bool) (z : Sizes) (gfn : ℕ) (write : Bool) (t : Topics) (v : ℕ) → (nat_le t.invalidations.start gfn && nat_lt gfn v) ≡ b
+    → Sharing gfn write t → t.owned ≡ None → CheckKnows stage.End gfn t.invalidations
+    → FaultKnows (if b then Unshare (Retry (Open t.invalidations.count t.invalidations.start v gfn)) else Check stage.Seq) z gfn write
+    (record t { invalidations = record t.invalidations { end = v; checked = range_checked t.invalidations.checked } })
 range_known true z gfn write t v is S none K =
     let O = over_it t.invalidations.start gfn v is in (record { section = S.section; owns_none = none }, S.shares, (refl, K.1, O.0, O.1, refl, refl, refl))
 range_known false z gfn write t v is S none K =
@@ -142,7 +157,8 @@ none_open locked n gfn (inr c) = (ap (λ (x : Checked). seq_checked locked n.cou
     over (inl lt) = inr (inl lt)
     over (inr le) = inr (inr le)
 
-seq_by : (b : Bool) (z : Sizes) (gfn : ℕ) (write : Bool) (t : Topics) (v : ℕ) → (v == snapshot_taken t.invalidations.snapshot) ≡ b → Sharing gfn write t → t.owned ≡ None → CheckKnows stage.Seq gfn t.invalidations
+seq_by : (b : Bool) (z : Sizes) (gfn : ℕ) (write : Bool) (t : Topics) (v : ℕ) → (v == snapshot_taken t.invalidations.snapshot) ≡ b
+    → Sharing gfn write t → t.owned ≡ None → CheckKnows stage.Seq gfn t.invalidations
     → FaultKnows (if b then Walk false else Unshare (Retry (Moved (snapshot_taken t.invalidations.snapshot) v))) z gfn write (sequenced false t v)
 seq_by true z gfn write t v is S none K =
     let N = none_open (has_lock t.hold) t.invalidations gfn K in
@@ -157,10 +173,12 @@ seq_by true z gfn write t v is S none K =
 seq_by false z gfn write t v is S none K =
     (record { section = S.section; owns_none = none }, S.shares, (taken t.invalidations.snapshot S.looked.snapshot, refl, grind (arith, nat_tests)))
 
-pub check_known : (at : CheckStage) (z : Sizes) (gfn : ℕ) (write : Bool) (t : Topics) (v : ℕ) → Sharing gfn write t → t.owned ≡ None → CheckKnows at gfn t.invalidations
-    → FaultKnows (check_next at gfn t v) z gfn write (part_topics (check_part at) t v)
+pub check_known : (at : CheckStage) (z : Sizes) (gfn : ℕ) (write : Bool) (t : Topics) (v : ℕ) → Sharing gfn write t → t.owned ≡ None
+    → CheckKnows at gfn t.invalidations → FaultKnows (check_next at gfn t v) z gfn write (part_topics (check_part at) t v)
 check_known stage.Count z gfn write t v S none K = count_known (v == 0) z gfn write t v refl S none
-check_known stage.Start z gfn write t v S none K = (same_sharing gfn write t _ refl refl refl refl refl S, none, (ap (λ (x : Checked). start_checked x) K.0, K.1))
+check_known stage.Start z gfn write t v S none K =
+    (same_sharing gfn write t _ refl refl refl refl refl S, none, (ap (λ (x : Checked). start_checked x) K.0, K.1))
 check_known stage.End z gfn write t v S none K = range_known (nat_le t.invalidations.start gfn && nat_lt gfn v) z gfn write t v refl S none K
 check_known stage.Seq z gfn write t v S none K =
-    subst (λ (x : Hold). FaultKnows (check_next stage.Seq gfn t v) z gfn write (sequenced (is_loose x) t v)) (sym S.shares) (seq_by (v == snapshot_taken t.invalidations.snapshot) z gfn write t v refl S none K)
+    subst (λ (x : Hold). FaultKnows (check_next stage.Seq gfn t v) z gfn write (sequenced (is_loose x) t v)) (sym S.shares)
+    (seq_by (v == snapshot_taken t.invalidations.snapshot) z gfn write t v refl S none K)

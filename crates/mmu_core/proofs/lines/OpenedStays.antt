@@ -30,8 +30,8 @@ opens_none step h note v N untold closed =
     ap (λ (t : Topics). t.invalidations.opened) (part_topics_is h.state.sizes step (own_index h) h.topics note v (is_there step h N))
     ∙ (opened_untold step h.topics v untold ∙ closed)
 
-pub access_opens_none : (h : Held) (p : AccessPlace) (gfn word : ℕ) (op : Op) (v : ℕ) → ((step : PartStep) → access_part p gfn h.topics ≡ Some step → PartNeeds step h)
-    → h.topics.invalidations.opened ≡ false
+pub access_opens_none : (h : Held) (p : AccessPlace) (gfn word : ℕ) (op : Op) (v : ℕ)
+    → ((step : PartStep) → access_part p gfn h.topics ≡ Some step → PartNeeds step h) → h.topics.invalidations.opened ≡ false
     → (topics_after h.state.sizes (kind_of_task h.state.sizes (access_task p h gfn word op)) h.topics v).invalidations.opened ≡ false
 access_opens_none h p gfn word op v needs closed = by (access_part p gfn h.topics) needs (λ step is. access_untold p gfn h.topics step is)
   where

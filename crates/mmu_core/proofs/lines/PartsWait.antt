@@ -16,7 +16,8 @@ share_waits (Owing word) t v is = sym (ap is_owing is)
 share_waits _ t v is = refl
 
 -- No step waits that is one of two which never wait.
-pub neither_waits : (b : Bool) (p q : PartStep) (t : Topics) (v : ℕ) → part_waits p t v ≡ false → part_waits q t v ≡ false → part_waits (if b then p else q) t v ≡ false
+pub neither_waits : (b : Bool) (p q : PartStep) (t : Topics) (v : ℕ) → part_waits p t v ≡ false → part_waits q t v ≡ false
+    → part_waits (if b then p else q) t v ≡ false
 neither_waits true p q t v one other = one
 neither_waits false p q t v one other = other
 

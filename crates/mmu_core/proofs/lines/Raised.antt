@@ -77,12 +77,14 @@ begin_rises (begins.Walk rooted) page t = either_place (λ step. rises step ≡ 
 begin_rises _ page t = refl
 
 -- Behind a step that doesn't raise it, of a line that hasn't raised it, nothing is taken back.
-none_raised : (o : Outcome) (line : Line) (answers : List AnsweredLine) (n : ℕ) → n ≡ 0 → length answers + 0 + n ≤ length (answers_after o line answers) + one_if (has_raised (place_after o))
+none_raised : (o : Outcome) (line : Line) (answers : List AnsweredLine) (n : ℕ) → n ≡ 0
+    → length answers + 0 + n ≤ length (answers_after o line answers) + one_if (has_raised (place_after o))
 none_raised o line answers n none = let more = answers_more o line answers in omega (arith, none, more)
 
 -- What a step adds to the lines that have raised the sequence number is no less than what it adds to the number.
 pub raised_on : (p : Place) (command : Command) (h : Held) (v : ℕ) (line : Line) → IsUnderWay p
-    → length h.answers + one_if (has_raised p) + raises (part_at p command h) ≤ length (answers_after (outcome_at p command h v) line h.answers) + one_if (has_raised (place_after (outcome_at p command h v)))
+    → length h.answers + one_if (has_raised p) + raises (part_at p command h)
+    ≤ length (answers_after (outcome_at p command h v) line h.answers) + one_if (has_raised (place_after (outcome_at p command h v)))
 raised_on place.Between command h v line begun = absurd begun
 raised_on (place.Access p) (Access gfn word op) h v line begun = none_raised (outcome_at (place.Access p) (Access gfn word op) h v) line h.answers _
     (access_raises p gfn h.topics)
@@ -104,15 +106,16 @@ raised_on (place.Host (host.End ends.Release)) (ChangeHost page c) h v line begu
 raised_on _ _ h v line begun = omega arith
 
 -- A line that begins has raised nothing yet.
-pub raised_before : (q : Place) (z : Sizes) (slots : MemorySlots) (command : Command) (p : Place) → standing q z slots command ≡ p → one_if (has_raised q) ≤ one_if (has_raised p)
+pub raised_before : (q : Place) (z : Sizes) (slots : MemorySlots) (command : Command) (p : Place) → standing q z slots command ≡ p
+    → one_if (has_raised q) ≤ one_if (has_raised p)
 raised_before place.Between z slots command p is = omega arith
 raised_before q z slots command p is = let same = ap (λ x. one_if (has_raised x)) is in omega (arith, same)
 
 -- ---- The next sequence number.
 
 -- What an actor stores that has loaded the number under the lock alone is far below 2 ^ 64.
-pub few_raised : (z : Sizes) (v : View) (a : ℕ) → AreSmall v → TopicsInvariant z v → a < actors_of z → (v.hand a).topics.hold ≡ Exclusive → (v.hand a).topics.invalidations.checked ≡ checked.Seq
-    → (v.hand a).topics.invalidations.seq + 1 < 2 ^ 40
+pub few_raised : (z : Sizes) (v : View) (a : ℕ) → AreSmall v → TopicsInvariant z v → a < actors_of z → (v.hand a).topics.hold ≡ Exclusive
+    → (v.hand a).topics.invalidations.checked ≡ checked.Seq → (v.hand a).topics.invalidations.seq + 1 < 2 ^ 40
 few_raised z v a small I there alone loaded =
     let is = (I.checks a there).numbered (ap has_lock alone) (ap knows_seq loaded) in
     let few = small.next_seq in

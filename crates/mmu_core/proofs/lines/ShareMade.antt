@@ -15,7 +15,7 @@ use Rattle.part_steps.specs.PartTasks.{part_task}
 use Rattle.part_steps.specs.PartSteps.{PartNeeds, counts}
 use Rattle.part_steps.specs.PartTopics.{part_topics}
 use Rattle.part_steps.specs.StayTopics.{let_go, unchecked}
-use Rattle.part_steps.specs.ControlTopics.{has_writer}
+use Rattle.part_steps.specs.ControlBits.{has_writer}
 use Rattle.mmu_core.specs.declared.share.ShareNext.{ShareNext}
 use Rattle.mmu_core.specs.declared.share.ShareNext.TheVariants as shares
 use Rattle.mmu_core.specs.lines.PartWaits.{is_owing}
@@ -33,7 +33,8 @@ pub share_made : (t : Topics) (v : ℕ) → is_trying t.hold ≡ true → ShareM
 share_made t v try_ = by t.hold refl try_
   where
     tried : (writer : Bool) → has_writer v ≡ writer → t.hold ≡ Loose
-        → ShareMade t v part.Share (if writer then shares.Tries else shares.Shares) (record t { hold = if writer then Owing v else Shared; invalidations = unchecked t.invalidations })
+        → ShareMade t v part.Share (if writer then shares.Tries else shares.Shares)
+        (record t { hold = if writer then Owing v else Shared; invalidations = unchecked t.invalidations })
     tried true is loose = SawWriter loose is
     tried false is loose = Got loose is
 

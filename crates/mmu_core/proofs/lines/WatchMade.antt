@@ -10,21 +10,25 @@ use Rattle.part_steps.specs.declared.part_step.PartStep.TheVariants as part
 use Rattle.part_steps.specs.PartTasks.{own_index}
 use Rattle.part_steps.specs.PartHoldings.{next_watched}
 use Rattle.part_steps.specs.PartTopics.{part_topics}
-use Rattle.part_steps.specs.ControlTopics.{in_section}
+use Rattle.part_steps.specs.ControlBits.{in_section}
 use Rattle.mmu_core.specs.declared.watch.WatchNext.{WatchNext}
 use Rattle.mmu_core.specs.declared.watch.WatchNext.TheVariants as watches
 use Rattle.mmu_core.specs.lines.WatchSteps.{looked_at, watch_next}
 
 pub data WatchMade (own n : ℕ) (t : Topics) (v : ℕ) : WatchNext → Topics → Type 0 where
   Again : in_section v ≡ true → WatchMade own n t v watches.Again (record t { watched = next_watched own t.watched + 0 })
-  Next : in_section v ≡ false → next_watched own (next_watched own t.watched + 1) < n → WatchMade own n t v watches.Next (record t { watched = next_watched own t.watched + 1 })
-  Last : in_section v ≡ false → n ≤ next_watched own (next_watched own t.watched + 1) → WatchMade own n t v watches.Last (record t { watched = next_watched own t.watched + 1 })
+  Next : in_section v ≡ false → next_watched own (next_watched own t.watched + 1) < n
+      → WatchMade own n t v watches.Next (record t { watched = next_watched own t.watched + 1 })
+  Last : in_section v ≡ false → n ≤ next_watched own (next_watched own t.watched + 1)
+      → WatchMade own n t v watches.Last (record t { watched = next_watched own t.watched + 1 })
 
-pub watch_made : (h : Held) (v : ℕ) → WatchMade (own_index h) (actors_of h.state.sizes) h.topics v (watch_next h v) (part_topics (part.Watch (looked_at h)) h.topics v)
+pub watch_made : (h : Held) (v : ℕ)
+    → WatchMade (own_index h) (actors_of h.state.sizes) h.topics v (watch_next h v) (part_topics (part.Watch (looked_at h)) h.topics v)
 watch_made h v = by (in_section v) (nat_lt (next_watched (own_index h) (looked_at h + 1)) (actors_of h.state.sizes)) refl refl
   where
     by : (inside more : Bool) → in_section v ≡ inside → nat_lt (next_watched (own_index h) (looked_at h + 1)) (actors_of h.state.sizes) ≡ more
-        → WatchMade (own_index h) (actors_of h.state.sizes) h.topics v (if inside then watches.Again else if more then watches.Next else watches.Last) (record h.topics { watched = looked_at h + (if inside then 0 else 1) })
+        → WatchMade (own_index h) (actors_of h.state.sizes) h.topics v (if inside then watches.Again else if more then watches.Next else watches.Last)
+        (record h.topics { watched = looked_at h + (if inside then 0 else 1) })
     by true more is lt = Again is
     by false true is lt = Next is (grind (arith, nat_tests))
     by false false is le = Last is (grind (arith, nat_tests))
@@ -45,7 +49,8 @@ abbrev pub WatchComes : WatchNext → ℕ → ℕ → Topics → Type 0
 WatchComes watches.Last own n u = n ≤ next_watched own u.watched
 WatchComes _ own n u = next_watched own u.watched < n
 
-pub watch_comes : (own n : ℕ) (t : Topics) (v : ℕ) (next : WatchNext) (u : Topics) → WatchMade own n t v next u → next_watched own t.watched < n → WatchComes next own n u
+pub watch_comes : (own n : ℕ) (t : Topics) (v : ℕ) (next : WatchNext) (u : Topics) → WatchMade own n t v next u → next_watched own t.watched < n
+    → WatchComes next own n u
 watch_comes own n t v _ _ (Again is) low = omega (arith, low, still own (next_watched own t.watched) (never_own own t.watched))
 watch_comes own n t v _ _ (Next is lt) low = lt
 watch_comes own n t v _ _ (Last is le) low = le
@@ -63,7 +68,8 @@ from_there own seen = by (seen == own)
     by false = omega arith
 
 -- A look that doesn't wait leaves fewer.
-pub watch_falls : (own n : ℕ) (t : Topics) (v : ℕ) (next : WatchNext) (u : Topics) → WatchMade own n t v next u → in_section v ≡ false → next_watched own t.watched < n → watch_left_after next n u < n - t.watched
+pub watch_falls : (own n : ℕ) (t : Topics) (v : ℕ) (next : WatchNext) (u : Topics) → WatchMade own n t v next u → in_section v ≡ false
+    → next_watched own t.watched < n → watch_left_after next n u < n - t.watched
 watch_falls own n t v _ _ (Again is) goes low = absurd (cc (is, goes))
 watch_falls own n t v _ _ (Next is lt) goes low = omega (arith, low, from_there own t.watched)
 watch_falls own n t v _ _ (Last is le) goes low = omega (arith, low, from_there own t.watched)

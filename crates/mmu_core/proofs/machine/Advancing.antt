@@ -90,10 +90,13 @@ task_room : (p : Place) (command : Command) (h : Held) → AreSizes h.state.size
 task_room p command h z small R = room_by command h (task_at p command h) z small (step_at p command h R)
 
 room_of : (h : Held) (k : Kind) → IsNext h k ⊎ IsPartStep h k → HasRoom (kind_named k.code) h.topics
-room_of h k (inl e) = subst (λ (x : Kind). HasRoom (kind_named x.code) h.topics) (sym e.is) (subst (λ x. HasRoom x h.topics) (sym (named_is (task_of h).kind)) (task_room (place_at h.state.place h) (line_at h.state.place h).command h e.rests.part.sizes e.rests.part.frames e.rests.at))
+room_of h k (inl e) =
+    subst (λ (x : Kind). HasRoom (kind_named x.code) h.topics) (sym e.is) (subst (λ x. HasRoom x h.topics) (sym (named_is (task_of h).kind))
+    (task_room (place_at h.state.place h) (line_at h.state.place h).command h e.rests.part.sizes e.rests.part.frames e.rests.at))
 room_of h k (inr e) =
     subst (λ (x : Kind). HasRoom (kind_named x.code) h.topics) (sym e.is)
-    (subst (λ x. HasRoom x h.topics) (sym (named_is (part_task e.step (own_index h) h.topics e.note).kind)) (part_room e.step h e.note e.sizes e.needs (λ line. absurd (let free = e.free in cc (free, line)))))
+    (subst (λ x. HasRoom x h.topics) (sym (named_is (part_task e.step (own_index h) h.topics e.note).kind))
+    (part_room e.step h e.note e.sizes e.needs (λ line. absurd (let free = e.free in cc (free, line)))))
 
 pub enabled_room : (h : Held) (k : Kind) → Enabled h k → HasRoom (kind_named k.code) h.topics
 unfolding Enabled
@@ -135,13 +138,16 @@ module _ (h : Held) (rests : has_line h ≡ true → Rests h) (has : has_line h 
       ∙ ap (λ (l : Line). line_after l (place_at h.state.place h) h v) (sym same_line)
 
 -- Behind the line's step, where a line is left, come the flush and the topics, and make the hand that the step leads to.
-module _ (h g : Held) (k : Kind) (v : ℕ) (enabled : Enabled h k) (line : has_line h ≡ true → g ≡ line_after (line_at h.state.place h) (place_at h.state.place h) h v) (none : has_line h ≡ false → g ≡ h) where
+module _ (h g : Held) (k : Kind) (v : ℕ) (enabled : Enabled h k)
+    (line : has_line h ≡ true → g ≡ line_after (line_at h.state.place h) (place_at h.state.place h) h v) (none : has_line h ≡ false → g ≡ h) where
   still : (g.state.sizes ≡ h.state.sizes) × (g.topics ≡ h.topics)
   still = by (has_line h) refl
     where
       by : (b : Bool) → has_line h ≡ b → (g.state.sizes ≡ h.state.sizes) × (g.topics ≡ h.topics)
-      by true has =
-          (ap (λ (y : Held). y.state.sizes) (line has) ∙ loads_keep_sizes (place_at h.state.place h) (line_at h.state.place h).command h v, ap (λ (y : Held). y.topics) (line has))
+      by true has = (
+        ap (λ (y : Held). y.state.sizes) (line has) ∙ loads_keep_sizes (place_at h.state.place h) (line_at h.state.place h).command h v,
+        ap (λ (y : Held). y.topics) (line has),
+      )
       by false no_ = (ap (λ (y : Held). y.state.sizes) (none no_), ap (λ (y : Held). y.topics) (none no_))
 
   pub sizes_still : (x : Held) → x ≡ record g { cached = flushed k g.cached v } → AreSizes x.state.sizes
@@ -156,7 +162,8 @@ module _ (h g : Held) (k : Kind) (v : ℕ) (enabled : Enabled h k) (line : has_l
       by : (b : Bool) → has_line h ≡ b → idle_after g k v ≡ next h k v
       by true has =
           ap (λ (y : Held). idle_after y k v) (line has)
-          ∙ ap (λ (z : Sizes). record (held_after (line_at h.state.place h) (place_at h.state.place h) h k v) { topics = topics_after z k h.topics v }) (loads_keep_sizes (place_at h.state.place h) (line_at h.state.place h).command h v)
+          ∙ ap (λ (z : Sizes). record (held_after (line_at h.state.place h) (place_at h.state.place h) h k
+          v) { topics = topics_after z k h.topics v }) (loads_keep_sizes (place_at h.state.place h) (line_at h.state.place h).command h v)
           ∙ sym (next_of_line h k v has)
       by false no_ = ap (λ (y : Held). idle_after y k v) (none no_) ∙ sym (next_of_part h k v no_)
 

@@ -40,7 +40,8 @@ use Rattle.mmu_core.proofs.machine.SumsBelow.{column, one_small, sum_upd}
 
 -- ---- The number behind each step.
 
-part_rises : (z : Sizes) (v : View) (a : ℕ) (step : PartStep) (note : ℕ) → IsPart z v a step → TopicsInvariant z v → (part_stepped a step note v).words area.Seq 0 ≤ v.words area.Seq 0 + rises step
+part_rises : (z : Sizes) (v : View) (a : ℕ) (step : PartStep) (note : ℕ) → IsPart z v a step → TopicsInvariant z v
+    → (part_stepped a step note v).words area.Seq 0 ≤ v.words area.Seq 0 + rises step
 part_rises z v a (part.SetSeq seq) note S I =
     let is = S.needs.1 in
     let loaded = (I.checks a S.there).numbered (ap has_lock S.needs.0.alone) (ap knows_seq S.needs.0.loaded) in
@@ -68,7 +69,8 @@ answers_few (Goes p) line h left = omega (arith, left)
 answers_few (Ends answer) line h left = let more = answers_length h.answers (record { number = line.number; actor = line.actor; answer = answer }) in
     omega (arith, left, more)
 
-pub line_ends_kept : (z : Sizes) (v : View) (a : ℕ) (line : Line) (command : Command) (p : Place) → AreSmall v → IsStep z v a line command p → Invariant z v → TopicsInvariant z v → EndsPart z (v.words area.Seq 0) v.hand
+pub line_ends_kept : (z : Sizes) (v : View) (a : ℕ) (line : Line) (command : Command) (p : Place) → AreSmall v → IsStep z v a line command p
+    → Invariant z v → TopicsInvariant z v → EndsPart z (v.words area.Seq 0) v.hand
     → EndsPart z ((stepped a line command p v).words area.Seq 0) (stepped a line command p v).hand
 line_ends_kept z v a line command p small S I P E = record {
   raised =
@@ -113,7 +115,8 @@ sum_most : (n : ℕ) (f : ℕ → ℕ) → ((i : ℕ) → i < n → f i ≤ 1000
 sum_most zero f each = omega arith
 sum_most (suc n) f each = omega (arith, sum_most n f (λ i lt. each i (omega arith)), each n (omega arith))
 
-pub next_few : (z : Sizes) (seq : ℕ) (hand : ℕ → Held) → AreSizes z → ((i : ℕ) → i < actors_of z → OwnLines z i (hand i)) → EndsPart z seq hand → seq + 1 < 2 ^ 40
+pub next_few : (z : Sizes) (seq : ℕ) (hand : ℕ → Held) → AreSizes z → ((i : ℕ) → i < actors_of z → OwnLines z i (hand i)) → EndsPart z seq hand
+    → seq + 1 < 2 ^ 40
 next_few z seq hand sizes lines E =
     let few : actors_of z ≤ 25 = omega (arith, sizes.actors.vcpus, sizes.actors.hosts, sizes.actors.workers) in
     let was = E.raised in

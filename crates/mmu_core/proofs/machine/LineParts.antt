@@ -55,5 +55,6 @@ line_kind p command h R = part_or_quiet command h (task_at p command h) (step_at
 pub step_kind : (h : Held) (k : Kind) → Enabled h k → IsPartKind h k ⊎ IsQuiet h.state.sizes h.topics k
 unfolding Enabled
 step_kind h k (inl e) =
-    subst (λ (x : Kind). IsPartKind h x ⊎ IsQuiet h.state.sizes h.topics x) (sym e.is) (line_kind (place_at h.state.place h) (line_at h.state.place h).command h e.rests.at)
+    subst (λ (x : Kind). IsPartKind h x ⊎ IsQuiet h.state.sizes h.topics x) (sym e.is)
+    (line_kind (place_at h.state.place h) (line_at h.state.place h).command h e.rests.at)
 step_kind h k (inr e) = inl (record { step = e.step; note = e.note; is = e.is; needs = e.needs })

@@ -28,7 +28,8 @@ history_one_more w (x ∷ ss) s =
     ∙ sym (append_assoc (told_last w x) (history (effect mmu w x) ss) (told_last (run mmu (effect mmu w x) ss) s))
 
 -- the actor's own hand after its step
-pub own_hand : (w : World Held) (s : Step Kind) → s.actor < length w.hands → hand_in mmu (effect mmu w s) s.actor ≡ next (hand_in mmu w s.actor) s.kind (answered mmu w s.kind)
+pub own_hand : (w : World Held) (s : Step Kind) → s.actor < length w.hands
+    → hand_in mmu (effect mmu w s) s.actor ≡ next (hand_in mmu w s.actor) s.kind (answered mmu w s.kind)
 unfolding effect
 own_hand w s there = get_or-set_same w.hands s.actor (next (hand_in mmu w s.actor) s.kind (answered mmu w s.kind)) nobody there
 

@@ -8,7 +8,7 @@ use Rattle.spte_words.specs.declared.area.Area.{Area}
 use Rattle.spte_words.specs.declared.area.Area.TheVariants as area
 use Rattle.part_steps.specs.declared.part_step.PartStep.TheVariants as part
 use Rattle.part_steps.specs.declared.part_step.PartStep.{PartStep}
-use Rattle.part_steps.specs.PartTasks.{IsWithin, own_index, page_owned, word_looked}
+use Rattle.part_steps.specs.PartTasks.{IsWithin, own_index, page_owned}
 use Rattle.part_steps.specs.PartSteps.{PartNeeds, needs_line}
 use Rattle.mmu_core.specs.invariant.SlotSetPart.{IsLiveIn}
 use Rattle.mmu_core.specs.machine.View.{View}
@@ -17,8 +17,8 @@ use Rattle.core_views.specs.Slots.{has_host_page}
 -- No two slots in this set have a host page in common.
 abbrev pub AreApart : (ℕ → ℕ) → ℕ → Type 0
 AreApart pool set =
-    (page i j : ℕ) (slot other : SlotOf) → IsLiveIn pool set i slot → IsLiveIn pool set j other → has_host_page page slot ≡ true → has_host_page page other ≡ true
-    → slot ≡ other
+    (page i j : ℕ) (slot other : SlotOf) → IsLiveIn pool set i slot → IsLiveIn pool set j other → has_host_page page slot ≡ true
+    → has_host_page page other ≡ true → slot ≡ other
 
 -- What a line says of its own step: a slot set that is published has each slot of the one before it; where one more invalidation is counted, no two published
 -- slots share a host page; and the sequence number stays far below 2 ^ 64.

@@ -4,10 +4,14 @@ use Rattle.core_views.specs.declared.sizes.Sizes.{Sizes}
 use Rattle.core_views.specs.declared.topics.Topics.{Topics}
 use Rattle.core_views.specs.Held.{Held}
 use Rattle.core_views.specs.Sizes.{actors_of}
-use Rattle.mmu_core.specs.invariant.TopicsInvariant.{CountersPart, FilledPart, HeldPart, LockPart, LookPart, OwnLooksPart, SawWriter, SearchPart, StatesPart, TopicsInvariantOf, SetsPart, OldSetsPart, PathPart, UsePart, stands, CountPart, CheckedPart, KnownRangePart, LoadedPart, PassedPart, RangePart, ScopePart, ZappedPart}
+use Rattle.mmu_core.specs.invariant.TopicsInvariant.{CountersPart, FilledPart, HeldPart, LockPart, LookPart, OwnLooksPart, SawWriter, SearchPart}
+use Rattle.mmu_core.specs.invariant.TopicsInvariant.{StatesPart, TopicsInvariantOf, SetsPart, OldSetsPart, PathPart, UsePart, stands, CountPart}
+use Rattle.mmu_core.specs.invariant.TopicsInvariant.{CheckedPart, KnownRangePart, LoadedPart, PassedPart, RangePart, ScopePart, ZappedPart}
 
-pub same_topics : (z : Sizes) (lock root slots seq count start end_ : ℕ) (states map host role pool : ℕ → ℕ) (hand other : ℕ → Held) → ◌≡◌ {A = ℕ → Topics} (λ i. (other i).topics) (λ i. (hand i).topics)
-    → TopicsInvariantOf z lock root slots seq count start end_ states map host role pool hand → TopicsInvariantOf z lock root slots seq count start end_ states map host role pool other
+pub same_topics : (z : Sizes) (lock root slots seq count start end_ : ℕ) (states map host role pool : ℕ → ℕ) (hand other : ℕ → Held)
+    → ◌≡◌ {A = ℕ → Topics} (λ i. (other i).topics) (λ i. (hand i).topics)
+    → TopicsInvariantOf z lock root slots seq count start end_ states map host role pool hand
+    → TopicsInvariantOf z lock root slots seq count start end_ states map host role pool other
 same_topics z lock root slots seq count start end_ states map host role pool hand other same I = record {
   up = I.up;
   spot = I.spot;

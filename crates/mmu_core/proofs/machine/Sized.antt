@@ -54,7 +54,8 @@ HasSizes z h = h.state.sizes ≡ z
 effect_keeps_sizes : (z : Sizes) (w : World Held) (s : Step Kind) → May mmu w s → All (HasSizes z) w.hands → All (HasSizes z) (effect mmu w s).hands
 unfolding effect
 effect_keeps_sizes z w s may all =
-    All-set (HasSizes z) w.hands s.actor _ (next_keeps_sizes (hand_in mmu w s.actor) s.kind _ ∙ All-get_or (HasSizes z) w.hands s.actor mmu.nobody may.there all) all
+    All-set (HasSizes z) w.hands s.actor _
+    (next_keeps_sizes (hand_in mmu w s.actor) s.kind _ ∙ All-get_or (HasSizes z) w.hands s.actor mmu.nobody may.there all) all
 
 run_keeps_sizes : (z : Sizes) (w : World Held) (ss : List (Step Kind)) → Legal mmu w ss → All (HasSizes z) w.hands → All (HasSizes z) (run mmu w ss).hands
 run_keeps_sizes z w [] legal all = all
@@ -84,8 +85,10 @@ as_many_as_mapped z lines w t start leads = as_many_words mmu w t leads ∙ star
 -- Each hand of a reachable world has the sizes of the start.
 pub reached_has_sizes : (w : World Held) (r : Reachable w) (actor : ℕ) → actor < length w.hands → (hand_in mmu w actor).state.sizes ≡ r.sizes
 reached_has_sizes w r actor there =
-    let start : All (HasSizes r.sizes) r.start.hands = subst (All (HasSizes r.sizes)) (sym r.is_start.hands) (start_has_sizes r.sizes r.lines (actors_of r.sizes)) in
-    let all : All (HasSizes r.sizes) w.hands = subst (λ (x : World Held). All (HasSizes r.sizes) x.hands) r.leads.ends (run_keeps_sizes r.sizes r.start r.leads.steps r.leads.legal start) in
+    let start : All (HasSizes r.sizes) r.start.hands =
+    subst (All (HasSizes r.sizes)) (sym r.is_start.hands) (start_has_sizes r.sizes r.lines (actors_of r.sizes)) in
+    let all : All (HasSizes r.sizes) w.hands =
+    subst (λ (x : World Held). All (HasSizes r.sizes) x.hands) r.leads.ends (run_keeps_sizes r.sizes r.start r.leads.steps r.leads.legal start) in
     All-get_or (HasSizes r.sizes) w.hands actor mmu.nobody there all
 
 -- A step of a part is at one of the words.
@@ -93,7 +96,9 @@ part_inside : (h : Held) (k : Kind) → IsPartStep h k → k.word < total (map_o
 part_inside h k N =
     let t : Task = part_task N.step (own_index h) h.topics N.note in
     let at = index_same N.step (own_index h) h.topics N.note in
-    let within : t.index < size_of (map_of h.state.sizes) t.area = subst (λ (b : Area). t.index < size_of (map_of h.state.sizes) b) (sym at.1) (subst (λ i. i < size_of (map_of h.state.sizes) (part_task N.step (own_index h) h.topics 0).area) (sym at.0) N.within) in
+    let within : t.index < size_of (map_of h.state.sizes) t.area =
+    subst (λ (b : Area). t.index < size_of (map_of h.state.sizes) b) (sym at.1)
+    (subst (λ i. i < size_of (map_of h.state.sizes) (part_task N.step (own_index h) h.topics 0).area) (sym at.0) N.within) in
     subst (λ (x : Kind). x.word < total (map_of h.state.sizes)) (sym N.is) (place_below (map_of h.state.sizes) t.area t.index within)
 
 -- A step that a reachable world's hand allows is at one of its words.

@@ -88,7 +88,8 @@ is_step z v a I there left =
       allowed = subst (λ l. IsCommandFor z l.actor l.command) (sym next) (next_has (λ l. IsCommandFor z l.actor l.command) h O.allowed left);
       own = subst (λ (l : Line). l.actor ≡ h.state.actor) (sym next) (next_has (λ l. l.actor ≡ h.state.actor) h O.own left);
       holds =
-          subst (λ y. Holds z (v.words area.Pool) (v.words area.Slots 0) (standing h.state.place y h.slots (line_at h.state.place h).command) (line_at h.state.place h).command h) (sym O.sizes)
+          subst (λ y. Holds z (v.words area.Pool) (v.words area.Slots 0) (standing h.state.place y h.slots (line_at h.state.place h).command)
+          (line_at h.state.place h).command h) (sym O.sizes)
           (standing_holds z (v.words area.Pool) (v.words area.Slots 0) h.state.place h refl (I.loads a there));
     }
 
@@ -102,4 +103,5 @@ pub none_done : (z : Sizes) (v : View) (a : ℕ) (line : Line) (command : Comman
     → lines_done (v.hand a) ≡ length (v.hand a).answers
 none_done z v a line command p S not_yet =
     let h : Held = v.hand a in
-    ap (λ b. length h.answers + (if b then 1 else 0)) (before_published h.state.place h.state.sizes h.slots (line_at h.state.place h).command p S.place_is not_yet) ∙ omega arith
+    ap (λ b. length h.answers + (if b then 1 else 0))
+    (before_published h.state.place h.state.sizes h.slots (line_at h.state.place h).command p S.place_is not_yet) ∙ omega arith

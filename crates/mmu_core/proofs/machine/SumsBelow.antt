@@ -14,11 +14,13 @@ sum_behind g (suc n) f a x le =
     omega (arith, sum_behind g n f a x (omega arith), e)
 
 -- the sum moves by what the one place contributes
-pub sum_upd : {X : Type 0} (g : X → ℕ) (n : ℕ) (f : ℕ → X) (a : ℕ) (x : X) → a < n → sum_below n (λ i. g (upd f a x i)) + g (f a) ≡ sum_below n (λ i. g (f i)) + g x
+pub sum_upd : {X : Type 0} (g : X → ℕ) (n : ℕ) (f : ℕ → X) (a : ℕ) (x : X) → a < n
+    → sum_below n (λ i. g (upd f a x i)) + g (f a) ≡ sum_below n (λ i. g (f i)) + g x
 sum_upd g zero f a x lt = omega arith
 sum_upd {X} g (suc n) f a x lt = here (λ l. sum_upd g n f a x l) (same_or n a)
   where
-    here : (a < n → sum_below n (λ i. g (upd f a x i)) + g (f a) ≡ sum_below n (λ i. g (f i)) + g x) → (n ≡ a) ⊎ (n ≢ a) → sum_below (suc n) (λ i. g (upd f a x i)) + g (f a) ≡ sum_below (suc n) (λ i. g (f i)) + g x
+    here : (a < n → sum_below n (λ i. g (upd f a x i)) + g (f a) ≡ sum_below n (λ i. g (f i)) + g x) → (n ≡ a) ⊎ (n ≢ a)
+        → sum_below (suc n) (λ i. g (upd f a x i)) + g (f a) ≡ sum_below (suc n) (λ i. g (f i)) + g x
     here ih (inl e) =
         let d : g (upd f a x n) ≡ g x = ap (λ j. g (upd f a x j)) e ∙ ap g (upd_same f a x) in
         let d2 : g (f n) ≡ g (f a) = ap (λ j. g (f j)) e in
@@ -79,7 +81,10 @@ sum_only zero f m none = omega arith
 sum_only (suc n) f m none = here (same_or n m) (λ fewer. sum_only n f m (λ i lt ne. none i (omega arith) ne))
   where
     here : (n ≡ m) ⊎ (n ≢ m) → (Unit {0} → sum_below n f ≤ f m) → sum_below (suc n) f ≤ f m
-    here (inl e) ih = let before = sum_none n f (λ i lt. none i (omega arith) (λ is. omega (arith, lt, is, e))) in let d : f n ≡ f m = ap f e in omega (arith, before, d)
+    here (inl e) ih =
+        let before = sum_none n f (λ i lt. none i (omega arith) (λ is. omega (arith, lt, is, e))) in
+        let d : f n ≡ f m = ap f e in
+        omega (arith, before, d)
     here (inr ne) ih = let last = none n (omega arith) ne in omega (arith, last, ih tt)
 
 pub one_small : (b : Bool) → one_if b ≤ 1

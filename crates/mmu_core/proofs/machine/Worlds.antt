@@ -63,7 +63,8 @@ after_small : (k : Kind) (n : ℕ) → k.new < 2 ^ 64 → n < 2 ^ 64 → after k
 unfolding after
 after_small k n small found = word_small (operation_of_code k.code) k.old k.new n small found
 
-words_small : (words : List ℕ) (a x : ℕ) → a < length words → x < 2 ^ 64 → ((i : ℕ) → slice_index words i < 2 ^ 64) → (i : ℕ) → slice_index (slice_set words a x) i < 2 ^ 64
+words_small : (words : List ℕ) (a x : ℕ) → a < length words → x < 2 ^ 64 → ((i : ℕ) → slice_index words i < 2 ^ 64) → (i : ℕ)
+    → slice_index (slice_set words a x) i < 2 ^ 64
 words_small words a x lt small all i = by (same_or i a)
   where
     by : (i ≡ a) ⊎ (i ≢ a) → slice_index (slice_set words a x) i < 2 ^ 64
@@ -72,24 +73,32 @@ words_small words a x lt small all i = by (same_or i a)
 
 -- the view behind a step, as the step of a line at its place
 stepped_is : (z : Sizes) (w : World Held) (a : ℕ) (h : Held) → hand_in mmu w a ≡ h → h.state.sizes ≡ z → has_line h ≡ true
-    → ◌≡◌ {A = View} (record { words = words_after (task_of (hand_in mmu w a)) (word_in z w); hand = upd (hand_in mmu w) a (next (hand_in mmu w a) (kind_of_task z (task_of (hand_in mmu w a))) (answer_in (task_of (hand_in mmu w a)) (word_in z w))) })
-    (stepped a (line_at (hand_in mmu w a).state.place (hand_in mmu w a)) (line_at (hand_in mmu w a).state.place (hand_in mmu w a)).command (place_at (hand_in mmu w a).state.place (hand_in mmu w a)) (view z w))
+    → ◌≡◌ {A = View} (record {
+      words = words_after (task_of (hand_in mmu w a)) (word_in z w);
+      hand = upd (hand_in mmu w) a
+          (next (hand_in mmu w a) (kind_of_task z (task_of (hand_in mmu w a))) (answer_in (task_of (hand_in mmu w a)) (word_in z w)));
+    })
+    (stepped a (line_at (hand_in mmu w a).state.place (hand_in mmu w a)) (line_at (hand_in mmu w a).state.place (hand_in mmu w a)).command
+    (place_at (hand_in mmu w a).state.place (hand_in mmu w a)) (view z w))
 stepped_is z w a h is sizes has =
     let g : Held = hand_in mmu w a in
     let v : ℕ = answer_in (task_of g) (word_in z w) in
     ap (λ (x : Held). record { words = words_after (task_of g) (word_in z w); hand = upd (hand_in mmu w) a x })
     (next_of_line g (kind_of_task z (task_of g)) v (ap has_line is ∙ has)
-    ∙ ap (λ y. held_after (line_at g.state.place g) (place_at g.state.place g) g (kind_of_task y (task_of g)) v) (sym (ap (λ (x : Held). x.state.sizes) is ∙ sizes)))
+    ∙ ap (λ y. held_after (line_at g.state.place g) (place_at g.state.place g) g (kind_of_task y (task_of g)) v)
+    (sym (ap (λ (x : Held). x.state.sizes) is ∙ sizes)))
 
 -- A step of a line that may be made, as the step of its line in the view.
 pub record Takes (z : Sizes) (w : World Held) (s : Step Kind) (h : Held) : Type 0 where
   pub has : has_line h ≡ true
   pub is_step : IsStep z (view z w) s.actor (line_at h.state.place h) (line_at h.state.place h).command (place_at h.state.place h)
-  pub leads : ◌≡◌ {A = View} (view z (effect mmu w s)) (stepped s.actor (line_at h.state.place h) (line_at h.state.place h).command (place_at h.state.place h) (view z w))
+  pub leads : ◌≡◌ {A = View} (view z (effect mmu w s))
+      (stepped s.actor (line_at h.state.place h) (line_at h.state.place h).command (place_at h.state.place h) (view z w))
   pub answers : answered mmu w s.kind ≡ answer_in (task_of h) (word_in z w)
   pub writes : s.kind.new < 2 ^ 64
 
-pub takes_line : (z : Sizes) (w : World Held) (s : Step Kind) → IsSound z w → May mmu w s → IsNext (hand_in mmu w s.actor) s.kind → Takes z w s (hand_in mmu w s.actor)
+pub takes_line : (z : Sizes) (w : World Held) (s : Step Kind) → IsSound z w → May mmu w s → IsNext (hand_in mmu w s.actor) s.kind
+    → Takes z w s (hand_in mmu w s.actor)
 takes_line z w s G may N =
     let h : Held = hand_in mmu w s.actor in
     let there : s.actor < actors_of z = omega (arith, may.there, G.hands) in
@@ -126,7 +135,12 @@ view_small z w small b i = by (nat_lt i (size_of (map_of z) b))
     by false = omega arith
 
 part_stepped_is : (z : Sizes) (w : World Held) (a : ℕ) (step : PartStep) (note : ℕ) → (hand_in mmu w a).state.sizes ≡ z → has_line (hand_in mmu w a) ≡ false
-    → ◌≡◌ {A = View} (record { words = words_after (part_task step (own_index (hand_in mmu w a)) (hand_in mmu w a).topics note) (word_in z w); hand = upd (hand_in mmu w) a (next (hand_in mmu w a) (kind_of_task z (part_task step (own_index (hand_in mmu w a)) (hand_in mmu w a).topics note)) (answer_in (part_task step (own_index (hand_in mmu w a)) (hand_in mmu w a).topics note) (word_in z w))) })
+    → ◌≡◌ {A = View} (record {
+      words = words_after (part_task step (own_index (hand_in mmu w a)) (hand_in mmu w a).topics note) (word_in z w);
+      hand = upd (hand_in mmu w) a
+          (next (hand_in mmu w a) (kind_of_task z (part_task step (own_index (hand_in mmu w a)) (hand_in mmu w a).topics note))
+          (answer_in (part_task step (own_index (hand_in mmu w a)) (hand_in mmu w a).topics note) (word_in z w)));
+    })
     (part_stepped a step note (view z w))
 part_stepped_is z w a step note sizes none =
     let h : Held = hand_in mmu w a in
@@ -135,7 +149,8 @@ part_stepped_is z w a step note sizes none =
     ap (λ (x : Held). record { words = words_after t (word_in z w); hand = upd (hand_in mmu w) a x })
     (next_of_part h (kind_of_task z t) v none ∙ ap (λ y. idle_after h (kind_of_task y t) v) (sym sizes))
 
-pub takes_part : (z : Sizes) (w : World Held) (s : Step Kind) → IsSound z w → May mmu w s → IsPartStep (hand_in mmu w s.actor) s.kind → TakesPart z w s (hand_in mmu w s.actor)
+pub takes_part : (z : Sizes) (w : World Held) (s : Step Kind) → IsSound z w → May mmu w s → IsPartStep (hand_in mmu w s.actor) s.kind
+    → TakesPart z w s (hand_in mmu w s.actor)
 takes_part z w s G may N =
     let h : Held = hand_in mmu w s.actor in
     let there : s.actor < actors_of z = omega (arith, may.there, G.hands) in
@@ -144,7 +159,9 @@ takes_part z w s G may N =
     let t : Task = part_task N.step (own_index h) h.topics N.note in
     let kind : s.kind ≡ kind_of_task z t = N.is ∙ ap (λ y. kind_of_task y t) same in
     let at = index_same N.step (own_index h) h.topics N.note in
-    let within : t.index < size_of (map_of z) t.area = subst (λ y. t.index < size_of (map_of y) t.area) same (subst (λ (b : Area). t.index < size_of (map_of h.state.sizes) b) (sym at.1) (subst (λ i. i < size_of (map_of h.state.sizes) (part_task N.step (own_index h) h.topics 0).area) (sym at.0) N.within)) in
+    let within : t.index < size_of (map_of z) t.area =
+    subst (λ y. t.index < size_of (map_of y) t.area) same (subst (λ (b : Area). t.index < size_of (map_of h.state.sizes) b) (sym at.1)
+    (subst (λ i. i < size_of (map_of h.state.sizes) (part_task N.step (own_index h) h.topics 0).area) (sym at.0) N.within)) in
     record {
       none_left = N.none_left;
       step = N.step;
@@ -167,7 +184,8 @@ takes_part z w s G may N =
     }
 
 -- A step that may be made is one of these.
-pub takes : (z : Sizes) (w : World Held) (s : Step Kind) → IsSound z w → May mmu w s → Takes z w s (hand_in mmu w s.actor) ⊎ TakesPart z w s (hand_in mmu w s.actor)
+pub takes : (z : Sizes) (w : World Held) (s : Step Kind) → IsSound z w → May mmu w s
+    → Takes z w s (hand_in mmu w s.actor) ⊎ TakesPart z w s (hand_in mmu w s.actor)
 takes z w s G may = by (has_line (hand_in mmu w s.actor)) refl
   where
     by : (b : Bool) → has_line (hand_in mmu w s.actor) ≡ b → Takes z w s (hand_in mmu w s.actor) ⊎ TakesPart z w s (hand_in mmu w s.actor)
@@ -186,7 +204,9 @@ good_step z w s G may = by (takes z w s G may)
     h = hand_in mmu w s.actor
 
     small : s.kind.new < 2 ^ 64 → (i : ℕ) → slice_index (effect mmu w s).words i < 2 ^ 64
-    small writes = words_small w.words s.kind.word (after s.kind (slice_index w.words s.kind.word)) may.inside (after_small s.kind (slice_index w.words s.kind.word) writes (G.small s.kind.word)) G.small
+    small writes =
+        words_small w.words s.kind.word (after s.kind (slice_index w.words s.kind.word)) may.inside
+        (after_small s.kind (slice_index w.words s.kind.word) writes (G.small s.kind.word)) G.small
 
     by : Takes z w s h ⊎ TakesPart z w s h → IsSound z (effect mmu w s)
     by (inl T) = record {
@@ -215,8 +235,12 @@ good_step z w s G may = by (takes z w s G may)
       ends = subst (λ (v : View). EndsPart z (v.words area.Seq 0) v.hand) (sym T.leads) (part_ends_kept z (view z w) s.actor T.step T.note T.free G.ends);
       usable = subst (UsableAt z) (sym T.leads) (part_usable_kept z (view z w) s.actor T.step T.note T.is_part G.topics G.flushes G.usable);
       flushes = subst (FlushAt z) (sym T.leads) (part_flushes_kept z (view z w) s.actor T.step T.note T.is_part G.topics G.flushes);
-      no_pause = subst (λ (v : View). v.words area.Pause 0 ≡ 0) (sym T.leads) (ap (λ (f : ℕ → ℕ). f 0) (areas_stay (view z w) s.actor T.step T.note area.Pause refl) ∙ G.no_pause);
-      holds = subst (Invariant z) (sym T.leads) (part_keeps_lines z (view z w) s.actor T.step T.note T.is_part T.free T.none_left G.holds G.topics (part_knows_behind z (view z w) s.actor T.step T.note T.none_left G.holds));
+      no_pause =
+          subst (λ (v : View). v.words area.Pause 0 ≡ 0) (sym T.leads)
+          (ap (λ (f : ℕ → ℕ). f 0) (areas_stay (view z w) s.actor T.step T.note area.Pause refl) ∙ G.no_pause);
+      holds =
+          subst (Invariant z) (sym T.leads) (part_keeps_lines z (view z w) s.actor T.step T.note T.is_part T.free T.none_left G.holds G.topics
+          (part_knows_behind z (view z w) s.actor T.step T.note T.none_left G.holds));
       topics = subst (TopicsInvariant z) (sym T.leads) (topics_part_kept z (view z w) s.actor T.step T.note T.is_part G.topics);
     }
 

@@ -36,7 +36,8 @@ pub record IsLight (IsSo : ℕ → ℕ → ℕ → Type 0) : Type 0 where
   pub absent : (level gfn : ℕ) → IsSo level gfn absent_word
   pub link : (level gfn page : ℕ) → 2 ≤ level → page < 2 ^ 32 → IsSo level gfn (table_word page)
 
-pub over_weaker : (up : ℕ → Use) (spot : ℕ → Position) (pool : ℕ → ℕ) (m : ℕ) (IsSo IsThen : ℕ → ℕ → ℕ → Type 0) → ((level gfn w : ℕ) → IsSo level gfn w → IsThen level gfn w) → AllOver up spot pool m IsSo → AllOver up spot pool m IsThen
+pub over_weaker : (up : ℕ → Use) (spot : ℕ → Position) (pool : ℕ → ℕ) (m : ℕ) (IsSo IsThen : ℕ → ℕ → ℕ → Type 0)
+    → ((level gfn w : ℕ) → IsSo level gfn w → IsThen level gfn w) → AllOver up spot pool m IsSo → AllOver up spot pool m IsThen
 over_weaker up spot pool m IsSo IsThen weaker A table entry gfn R O = weaker (spot table).level gfn (pool (pool_index table entry)) (A table entry gfn R O)
 
 -- What the chain from a table goes through are tables.
@@ -92,7 +93,8 @@ same_below up more m same (suc links) l hangs =
     by k j is (inr none) = let no = none.1 in let yes = ap is_table is in absurd (cc (no, yes))
 
 -- Where one table more is below a table, what is reached was reached, or is this table.
-module _ {pages root set : ℕ} {role pool : ℕ → ℕ} {up : ℕ → Use} {spot : ℕ → Position} (T : TreePart pages root set role pool up spot) (page : ℕ) (use_ : Use) (none : is_table (up page) ≡ false) (m : ℕ) where
+module _ {pages root set : ℕ} {role pool : ℕ → ℕ} {up : ℕ → Use} {spot : ℕ → Position} (T : TreePart pages root set role pool up spot) (page : ℕ)
+    (use_ : Use) (none : is_table (up page) ≡ false) (m : ℕ) where
   more_below : (links l : ℕ) → Below (upd up page use_) m links l → Below up m links l ⊎ (l ≡ page)
   more_below zero l e = inl e
   more_below (suc links) l hangs = by (same_or l page) (λ k. more_below links k)
@@ -113,13 +115,15 @@ module _ {pages root set : ℕ} {role pool : ℕ → ℕ} {up : ℕ → Use} {sp
 
 -- ---- What is stored.
 
-module _ (up : ℕ → Use) (spot : ℕ → Position) (pool : ℕ → ℕ) (m : ℕ) (IsSo : ℕ → ℕ → ℕ → Type 0) (table : is_table (up m) ≡ true) (A : AllOver up spot pool m IsSo) where
+module _ (up : ℕ → Use) (spot : ℕ → Position) (pool : ℕ → ℕ) (m : ℕ) (IsSo : ℕ → ℕ → ℕ → Type 0) (table : is_table (up m) ≡ true)
+    (A : AllOver up spot pool m IsSo) where
   -- The words of tables stay.
   over_words : (after : ℕ → ℕ) → ((k j : ℕ) → is_table (up k) ≡ true → j < 512 → after (pool_index k j) ≡ pool (pool_index k j)) → AllOver up spot after m IsSo
   over_words after same k j gfn R O = subst (IsSo (spot k).level gfn) (sym (same k j (reached_table up m k table R) O.0)) (A k j gfn R O)
 
   -- One entry is stored, of which it is said so.
-  over_stored : (k j w : ℕ) → j < 512 → ((gfn : ℕ) → IsEntryOver (spot k) j gfn → IsSo (spot k).level gfn w) → AllOver up spot (upd pool (pool_index k j) w) m IsSo
+  over_stored : (k j w : ℕ) → j < 512 → ((gfn : ℕ) → IsEntryOver (spot k) j gfn → IsSo (spot k).level gfn w)
+      → AllOver up spot (upd pool (pool_index k j) w) m IsSo
   over_stored k j w low stored l i gfn R O = by (same_or (pool_index l i) (pool_index k j))
     where
       by : (pool_index l i ≡ pool_index k j) ⊎ (pool_index l i ≢ pool_index k j) → IsSo (spot l).level gfn (upd pool (pool_index k j) w (pool_index l i))
@@ -127,15 +131,19 @@ module _ (up : ℕ → Use) (spot : ℕ → Position) (pool : ℕ → ℕ) (m : 
       by (inl e) =
           let s = same_pool_word l k i j O.0 low e in
           subst (IsSo (spot l).level gfn) (sym (ap (upd pool (pool_index k j) w) e ∙ upd_same pool (pool_index k j) w))
-          (subst (λ n. IsSo (spot n).level gfn w) (sym s.0) (stored gfn (subst (λ n. IsEntryOver (spot n) j gfn) s.0 (subst (λ n. IsEntryOver (spot l) n gfn) s.1 O))))
+          (subst (λ n. IsSo (spot n).level gfn w) (sym s.0)
+          (stored gfn (subst (λ n. IsEntryOver (spot n) j gfn) s.0 (subst (λ n. IsEntryOver (spot l) n gfn) s.1 O))))
 
-  over_exchanged : (k j w : ℕ) (won : Bool) → j < 512 → (won ≡ true → (gfn : ℕ) → IsEntryOver (spot k) j gfn → IsSo (spot k).level gfn w) → AllOver up spot (upd pool (pool_index k j) (if won then w else pool (pool_index k j))) m IsSo
+  over_exchanged : (k j w : ℕ) (won : Bool) → j < 512 → (won ≡ true → (gfn : ℕ) → IsEntryOver (spot k) j gfn → IsSo (spot k).level gfn w)
+      → AllOver up spot (upd pool (pool_index k j) (if won then w else pool (pool_index k j))) m IsSo
   over_exchanged k j w true low stored = over_stored k j w low (stored refl)
   over_exchanged k j w false low stored = subst (λ (words : ℕ → ℕ). AllOver up spot words m IsSo) (sym (upd_id pool (pool_index k j))) A
 
 -- A table without entries is linked.
-over_grown : {pages root set : ℕ} {role words : ℕ → ℕ} {up : ℕ → Use} {spot : ℕ → Position} (T : TreePart pages root set role words up spot) (pool : ℕ → ℕ) (m : ℕ) (IsSo : ℕ → ℕ → ℕ → Type 0) → is_table (up m) ≡ true → IsLight IsSo
-    → (won : Bool) (page : ℕ) (use_ : Use) (p : Position) → is_table (up page) ≡ false → (won ≡ true → (j : ℕ) → j < 512 → pool (pool_index page j) ≡ absent_word)
+over_grown : {pages root set : ℕ} {role words : ℕ → ℕ} {up : ℕ → Use} {spot : ℕ → Position} (T : TreePart pages root set role words up spot)
+    (pool : ℕ → ℕ) (m : ℕ) (IsSo : ℕ → ℕ → ℕ → Type 0) → is_table (up m) ≡ true → IsLight IsSo
+    → (won : Bool) (page : ℕ) (use_ : Use) (p : Position) → is_table (up page) ≡ false
+    → (won ≡ true → (j : ℕ) → j < 512 → pool (pool_index page j) ≡ absent_word)
     → AllOver up spot pool m IsSo → AllOver (upd_if won up page use_) (upd_if won spot page p) pool m IsSo
 over_grown T pool m IsSo table light false page use_ p none absent A l i gfn R O = A l i gfn R O
 over_grown {up = up} {spot = spot} T pool m IsSo table light true page use_ p none absent A l i gfn R O = by (more_below T page use_ none m R.0 l R.1)
@@ -153,7 +161,9 @@ over_grown {up = up} {spot = spot} T pool m IsSo table light true page use_ p no
 
     by : Below up m R.0 l ⊎ (l ≡ page) → IsSo (upd spot page p l).level gfn (pool (pool_index l i))
     by (inl chain) = old (differs chain) chain
-    by (inr e) = subst (IsSo (upd spot page p l).level gfn) (sym (ap (λ k. pool (pool_index k i)) e ∙ absent refl i O.0)) (light.absent (upd spot page p l).level gfn)
+    by (inr e) =
+        subst (IsSo (upd spot page p l).level gfn) (sym (ap (λ k. pool (pool_index k i)) e ∙ absent refl i O.0))
+        (light.absent (upd spot page p l).level gfn)
 
 -- ---- Behind each step.
 
@@ -162,7 +172,8 @@ abbrev pub OfNewLeaf : PartStep → Topics → (ℕ → ℕ → ℕ → Type 0) 
 OfNewLeaf (part.Leaf gfn) t IsSo = (other : ℕ) → other / level_span t.walk.level ≡ gfn / level_span t.walk.level → IsSo t.walk.level other (leaf_written t)
 OfNewLeaf _ t IsSo = Unit {0}
 
-module _ (z : Sizes) (v : View) (a : ℕ) (I : TopicsInvariant z v) (m : ℕ) (IsSo : ℕ → ℕ → ℕ → Type 0) (table : is_table (I.up m) ≡ true) (light : IsLight IsSo) (A : AllOver I.up I.spot (v.words area.Pool) m IsSo) where
+module _ (z : Sizes) (v : View) (a : ℕ) (I : TopicsInvariant z v) (m : ℕ) (IsSo : ℕ → ℕ → ℕ → Type 0) (table : is_table (I.up m) ≡ true)
+    (light : IsLight IsSo) (A : AllOver I.up I.spot (v.words area.Pool) m IsSo) where
   abbrev t : Topics
   t = (v.hand a).topics
 
@@ -171,16 +182,21 @@ module _ (z : Sizes) (v : View) (a : ℕ) (I : TopicsInvariant z v) (m : ℕ) (I
   at_walk lt from = (spot_of I.up I.spot (table_page t.walk) _ ((I.held a lt).table from)).1
 
   -- A step that is no exchange leaves the words of tables.
-  still_over : (step : PartStep) (note : ℕ) → IsPart z v a step → is_link step ≡ false → ((k : ℕ) → is_table (I.up k) ≡ true → IsElsewhere step t k) → AllOver (up_after step a t v I.up) I.spot ((part_stepped a step note v).words area.Pool) m IsSo
+  still_over : (step : PartStep) (note : ℕ) → IsPart z v a step → is_link step ≡ false → ((k : ℕ) → is_table (I.up k) ≡ true → IsElsewhere step t k)
+      → AllOver (up_after step a t v I.up) I.spot ((part_stepped a step note v).words area.Pool) m IsSo
   still_over step note S never elsewhere k j gfn R O =
       let same = same_tables z v a step S I never in
-      over_words I.up I.spot (v.words area.Pool) m IsSo table A ((part_stepped a step note v).words area.Pool) (λ l i is low. page_stays z v a step note S l (elsewhere l is) i low) k j gfn
+      over_words I.up I.spot (v.words area.Pool) m IsSo table A ((part_stepped a step note v).words area.Pool)
+      (λ l i is low. page_stays z v a step note S l (elsewhere l is) i low) k j gfn
       (R.0, same_below I.up (up_after step a t v I.up) m same R.0 k R.1) O
 
-  leaf_over : (gfn note : ℕ) → IsPart z v a (part.Leaf gfn) → OfNewLeaf (part.Leaf gfn) t IsSo → AllOver I.up I.spot ((part_stepped a (part.Leaf gfn) note v).words area.Pool) m IsSo
+  leaf_over : (gfn note : ℕ) → IsPart z v a (part.Leaf gfn) → OfNewLeaf (part.Leaf gfn) t IsSo
+      → AllOver I.up I.spot ((part_stepped a (part.Leaf gfn) note v).words area.Pool) m IsSo
   leaf_over gfn note S new_ =
-      over_exchanged I.up I.spot (v.words area.Pool) m IsSo table A (table_page t.walk) (entry_index gfn t.walk.level) (leaf_written t) (entry_now gfn t v == t.walk.entry) (omega arith)
-      (λ won other O. subst (λ p. IsSo p.level other (leaf_written t)) (sym here) (new_ other (own other (subst (λ p. IsEntryOver p (entry_index gfn t.walk.level) other) here O))))
+      over_exchanged I.up I.spot (v.words area.Pool) m IsSo table A (table_page t.walk) (entry_index gfn t.walk.level) (leaf_written t)
+      (entry_now gfn t v == t.walk.entry) (omega arith)
+      (λ won other O. subst (λ p. IsSo p.level other (leaf_written t)) (sym here)
+      (new_ other (own other (subst (λ p. IsEntryOver p (entry_index gfn t.walk.level) other) here O))))
     where
       over : IsOver gfn t.walk
       over = S.needs.0.saw.over
@@ -188,7 +204,8 @@ module _ (z : Sizes) (v : View) (a : ℕ) (I : TopicsInvariant z v) (m : ℕ) (I
       here : I.spot (table_page t.walk) ≡ at t.walk.level t.walk.prefix
       here = at_walk S.there over.there
 
-      own : (other : ℕ) → IsEntryOver (at t.walk.level t.walk.prefix) (entry_index gfn t.walk.level) other → other / level_span t.walk.level ≡ gfn / level_span t.walk.level
+      own : (other : ℕ) → IsEntryOver (at t.walk.level t.walk.prefix) (entry_index gfn t.walk.level) other
+          → other / level_span t.walk.level ≡ gfn / level_span t.walk.level
       own other O = let is = O.1 in let run = over.run in omega (arith, is, run)
 
   -- A leaf is zapped.
@@ -197,12 +214,17 @@ module _ (z : Sizes) (v : View) (a : ℕ) (I : TopicsInvariant z v) (m : ℕ) (I
       over_stored I.up I.spot (v.words area.Pool) m IsSo table A (table_page t.walk) (entry_index gfn t.walk.level) 0 (omega arith)
       (λ other O. subst (IsSo (I.spot (table_page t.walk)).level other) (sym absent_is) (light.absent (I.spot (table_page t.walk)).level other))
 
-  link_over : (gfn note : ℕ) → IsPart z v a (part.Link gfn) → AllOver (up_after (part.Link gfn) a t v I.up) (spot_after (part.Link gfn) t v I.spot) ((part_stepped a (part.Link gfn) note v).words area.Pool) m IsSo
+  link_over : (gfn note : ℕ) → IsPart z v a (part.Link gfn) → AllOver (up_after (part.Link gfn) a t v I.up) (spot_after (part.Link gfn) t v I.spot)
+      ((part_stepped a (part.Link gfn) note v).words area.Pool) m IsSo
   link_over gfn note S =
-      over_grown I.tree ((part_stepped a (part.Link gfn) note v).words area.Pool) m IsSo table light won (page_owned t.owned) (Under (table_page t.walk) (entry_index gfn t.walk.level)) (position_below gfn t) no_table_yet
-      (λ is j low. page_stays z v a (part.Link gfn) note S (page_owned t.owned) apart j low ∙ ap (λ k. v.words area.Pool (pool_index k j)) page ∙ filled.absent (ap is_absent (sym owns.is) ∙ S.needs.3.absent) j (omega (arith, low, owns.whole)) low ∙ absent_is)
+      over_grown I.tree ((part_stepped a (part.Link gfn) note v).words area.Pool) m IsSo table light won (page_owned t.owned)
+      (Under (table_page t.walk) (entry_index gfn t.walk.level)) (position_below gfn t) no_table_yet
+      (λ is j low. page_stays z v a (part.Link gfn) note S (page_owned t.owned) apart j low ∙ ap (λ k. v.words area.Pool (pool_index k j)) page
+      ∙ filled.absent (ap is_absent (sym owns.is) ∙ S.needs.3.absent) j (omega (arith, low, owns.whole)) low ∙ absent_is)
       (over_exchanged I.up I.spot (v.words area.Pool) m IsSo table A (table_page t.walk) (entry_index gfn t.walk.level) (link_written t) won (omega arith)
-      (λ is other O. light.link (I.spot (table_page t.walk)).level other (page_owned t.owned) (let upper = S.needs.1 in let level = ap (λ (p : Position). p.level) here in omega (arith, upper, level)) (omega (arith, page, owned_there I.uses a owns.owned S.there owns.is, S.is_sizes.pool.1))))
+      (λ is other O. light.link (I.spot (table_page t.walk)).level other (page_owned t.owned)
+      (let upper = S.needs.1 in let level = ap (λ (p : Position). p.level) here in omega (arith, upper, level))
+      (omega (arith, page, owned_there I.uses a owns.owned S.there owns.is, S.is_sizes.pool.1))))
     where
       won : Bool
       won = entry_now gfn t v == t.walk.entry
@@ -229,11 +251,14 @@ module _ (z : Sizes) (v : View) (a : ℕ) (I : TopicsInvariant z v) (m : ℕ) (I
           cc (yes, no)
 
 -- What is said of all entries below a table, of a claim that is light, is so behind each step, if the new leaf is.
-pub over_step : (z : Sizes) (v : View) (a : ℕ) (step : PartStep) (note : ℕ) → IsPart z v a step → (I : TopicsInvariant z v) (m : ℕ) (IsSo : ℕ → ℕ → ℕ → Type 0) → is_table (I.up m) ≡ true → IsLight IsSo → OfNewLeaf step (v.hand a).topics IsSo
-    → AllOver I.up I.spot (v.words area.Pool) m IsSo → AllOver (up_after step a (v.hand a).topics v I.up) (spot_after step (v.hand a).topics v I.spot) ((part_stepped a step note v).words area.Pool) m IsSo
+pub over_step : (z : Sizes) (v : View) (a : ℕ) (step : PartStep) (note : ℕ) → IsPart z v a step
+    → (I : TopicsInvariant z v) (m : ℕ) (IsSo : ℕ → ℕ → ℕ → Type 0) → is_table (I.up m) ≡ true → IsLight IsSo → OfNewLeaf step (v.hand a).topics IsSo
+    → AllOver I.up I.spot (v.words area.Pool) m IsSo → AllOver (up_after step a (v.hand a).topics v I.up) (spot_after step (v.hand a).topics v I.spot)
+    ((part_stepped a step note v).words area.Pool) m IsSo
 over_step z v a (part.Link gfn) note S I m IsSo table light new_ A = link_over z v a I m IsSo table light A gfn note S
 over_step z v a (part.Leaf gfn) note S I m IsSo table light new_ A = leaf_over z v a I m IsSo table light A gfn note S new_
 over_step z v a (part.Fill value) note S I m IsSo table light new_ A =
-    still_over z v a I m IsSo table light A (part.Fill value) note S refl (λ k is o owns e. let no = ap (λ l. is_table (I.up l)) (sym e) ∙ ap is_table (owned_use I.uses a o S.there owns) in absurd (cc (no, is)))
+    still_over z v a I m IsSo table light A (part.Fill value) note S refl
+    (λ k is o owns e. let no = ap (λ l. is_table (I.up l)) (sym e) ∙ ap is_table (owned_use I.uses a o S.there owns) in absurd (cc (no, is)))
 over_step z v a (part.Zap gfn) note S I m IsSo table light new_ A = zap_over z v a I m IsSo table light A gfn note
 over_step z v a step note S I m IsSo table light new_ A = still_over z v a I m IsSo table light A step note S refl (λ k is. tt)

@@ -29,10 +29,15 @@ use Rattle.mmu_core.proofs.pages.Standing.{entry_now}
 claim_filled : (role pool : ℕ → ℕ) (claim : MapClaim) (v : ℕ) (o : OwnedPage) → claimed claim v ≡ Some o → IsFilled role pool o
 claim_filled role pool claim v o is = by (is_won claim v) is
   where
-    by : (won : Bool) → ◌≡◌ {A = Option OwnedPage} (if won then Some (record { page = 64 * claim.at + tried_bit claim; filled = 0; absent = true; role = 0 }) else None) (Some o) → IsFilled role pool o
+    by : (won : Bool) → ◌≡◌ {A = Option OwnedPage} (if won
+        then Some (record { page = 64 * claim.at + tried_bit claim; filled = 0; absent = true; role = 0 }) else None) (Some o) → IsFilled role pool o
     by true e =
         let none : 0 ≡ o.filled = ap words_filled e in
-        record { most = omega (arith, none); absent = λ absent j below low. absurd (omega (arith, below, none)); role_is = λ whole. absurd (omega (arith, whole, none)) }
+        record {
+          most = omega (arith, none);
+          absent = λ absent j below low. absurd (omega (arith, below, none));
+          role_is = λ whole. absurd (omega (arith, whole, none));
+        }
     by false e = absurd (cc e)
 
 -- A word that is said to be absent is 0, besides all before it.
@@ -42,30 +47,43 @@ still_absent false filled v is = absurd (cc is)
 
 -- the page of which one more is filled
 abbrev more : OwnedPage → ℕ → OwnedPage
-more o value = record { page = o.page; filled = o.filled + 1; absent = o.absent && (nat_le 512 o.filled || value == 0); role = if o.filled == 512 then value else o.role }
+more o value = record {
+  page = o.page;
+  filled = o.filled + 1;
+  absent = o.absent && (nat_le 512 o.filled || value == 0);
+  role = if o.filled == 512 then value else o.role;
+}
 
 -- One more word of the page is filled.
-word_filled : (role pool : ℕ → ℕ) (o : OwnedPage) (value : ℕ) → o.filled < 512 → IsFilled role pool o → IsFilled role (upd pool (pool_index o.page o.filled) value) (more o value)
+word_filled : (role pool : ℕ → ℕ) (o : OwnedPage) (value : ℕ) → o.filled < 512 → IsFilled role pool o
+    → IsFilled role (upd pool (pool_index o.page o.filled) value) (more o value)
 word_filled role pool o value low F = record {
   most = omega (arith, low);
   absent = λ absent j below in_page. each (still_absent o.absent o.filled value absent) j below in_page (same_or j o.filled);
   role_is = λ all. absurd (omega (arith, all, low));
 }
   where
-    each : (o.absent ≡ true) × (o.filled < 512 → value ≡ 0) → (j : ℕ) → j < o.filled + 1 → j < 512 → (j ≡ o.filled) ⊎ (j ≢ o.filled) → upd pool (pool_index o.page o.filled) value (pool_index o.page j) ≡ 0
-    each absent j below in_page (inl e) = ap (λ i. upd pool (pool_index o.page o.filled) value (pool_index o.page i)) e ∙ upd_same pool (pool_index o.page o.filled) value ∙ absent.1 low
-    each absent j below in_page (inr ne) = fill_leaves o.page o.filled value pool o.page j low in_page (λ d e. ne (sym e)) ∙ F.absent absent.0 j (omega (arith, below, ne)) in_page
+    each : (o.absent ≡ true) × (o.filled < 512 → value ≡ 0) → (j : ℕ) → j < o.filled + 1 → j < 512 → (j ≡ o.filled) ⊎ (j ≢ o.filled)
+        → upd pool (pool_index o.page o.filled) value (pool_index o.page j) ≡ 0
+    each absent j below in_page (inl e) =
+        ap (λ i. upd pool (pool_index o.page o.filled) value (pool_index o.page i)) e ∙ upd_same pool (pool_index o.page o.filled) value
+        ∙ absent.1 low
+    each absent j below in_page (inr ne) =
+        fill_leaves o.page o.filled value pool o.page j low in_page (λ d e. ne (sym e)) ∙ F.absent absent.0 j (omega (arith, below, ne)) in_page
 
 -- Its role is stored.
 role_stored : (role pool : ℕ → ℕ) (o : OwnedPage) (value : ℕ) → o.filled ≡ 512 → IsFilled role pool o → IsFilled (upd role o.page value) pool (more o value)
 role_stored role pool o value full F = record {
   most = omega (arith, full);
   absent = λ absent j below in_page. F.absent (still_absent o.absent o.filled value absent).0 j (omega (arith, full, in_page)) in_page;
-  role_is = λ all. let last : (o.filled == 512) ≡ true = grind (arith, nat_tests, full) in upd_same role o.page value ∙ sym (ap (λ (b : Bool). if b then value else o.role) last);
+  role_is =
+      λ all. let last : (o.filled == 512) ≡ true = grind (arith, nat_tests, full) in upd_same role o.page value
+      ∙ sym (ap (λ (b : Bool). if b then value else o.role) last);
 }
 
 -- what is so of the page of which one more is filled
-of_more : (P : OwnedPage → Type 0) (owned : Option OwnedPage) (value : ℕ) → ((o : OwnedPage) → owned ≡ Some o → P (more o value)) → (o : OwnedPage) → filled_more owned value ≡ Some o → P o
+of_more : (P : OwnedPage → Type 0) (owned : Option OwnedPage) (value : ℕ) → ((o : OwnedPage) → owned ≡ Some o → P (more o value)) → (o : OwnedPage)
+    → filled_more owned value ≡ Some o → P o
 of_more P None value each o e = absurd (cc e)
 of_more P (Some q) value each o e = subst P (some_is e) (each q refl)
   where
@@ -73,7 +91,8 @@ of_more P (Some q) value each o e = subst P (some_is e) (each q refl)
     some_is e = cc e
 
 -- What is filled of a page that the step doesn't store in stays.
-still_filled : (z : Sizes) (v : View) (a : ℕ) (step : PartStep) (note : ℕ) → IsPart z v a step → (o : OwnedPage) → IsElsewhere step (v.hand a).topics o.page → HasOtherRole step (v.hand a).topics o.page → IsFilled (v.words area.Role) (v.words area.Pool) o
+still_filled : (z : Sizes) (v : View) (a : ℕ) (step : PartStep) (note : ℕ) → IsPart z v a step → (o : OwnedPage)
+    → IsElsewhere step (v.hand a).topics o.page → HasOtherRole step (v.hand a).topics o.page → IsFilled (v.words area.Role) (v.words area.Pool) o
     → IsFilled ((part_stepped a step note v).words area.Role) ((part_stepped a step note v).words area.Pool) o
 still_filled z v a step note S o apart other F = record {
   most = F.most;
@@ -83,40 +102,51 @@ still_filled z v a step note S o apart other F = record {
 
 -- What the actor has filled behind its step.
 own_filled : (z : Sizes) (v : View) (a : ℕ) (step : PartStep) (note : ℕ) → IsPart z v a step → TopicsInvariant z v
-    → (o : OwnedPage) → owned_behind step (v.hand a).topics (answer_in (part_task step (own_index (v.hand a)) (v.hand a).topics note) v.words) ≡ Some o → IsFilled ((part_stepped a step note v).words area.Role) ((part_stepped a step note v).words area.Pool) o
-own_filled z v a part.Claim note S I o is = claim_filled (v.words area.Role) (v.words area.Pool) (v.hand a).topics.claim (v.words area.PoolMap (v.hand a).topics.claim.at) o is
+    → (o : OwnedPage) → owned_behind step (v.hand a).topics (answer_in (part_task step (own_index (v.hand a)) (v.hand a).topics note) v.words)
+    ≡ Some o → IsFilled ((part_stepped a step note v).words area.Role) ((part_stepped a step note v).words area.Pool) o
+own_filled z v a part.Claim note S I o is =
+    claim_filled (v.words area.Role) (v.words area.Pool) (v.hand a).topics.claim (v.words area.PoolMap (v.hand a).topics.claim.at) o is
 own_filled z v a part.Give note S I o is = absurd (cc is)
 own_filled z v a part.GiveOld note S I o is = absurd (cc is)
 own_filled z v a part.Publish note S I o is = absurd (cc is)
-own_filled z v a part.Clear note S I o is = absurd (let none : filled_more (v.hand a).topics.owned 0 ≡ None = ap (λ x. filled_more x 0) S.needs.owns_none in cc (is, none))
+own_filled z v a part.Clear note S I o is =
+    absurd (let none : filled_more (v.hand a).topics.owned 0 ≡ None = ap (λ x. filled_more x 0) S.needs.owns_none in cc (is, none))
 own_filled z v a (part.Fill value) note S I o is =
     let t : Topics = (v.hand a).topics in
     of_more (IsFilled (v.words area.Role) (upd (v.words area.Pool) (pool_index (page_owned t.owned) (words_filled t.owned)) value)) t.owned value
-    (λ p mine. rw (ap page_owned mine, ap words_filled mine) (word_filled (v.words area.Role) (v.words area.Pool) p value (subst (λ n. n < 512) (ap words_filled mine) S.needs.0.1) (I.filled a p S.there mine))) o is
+    (λ p mine. rw (ap page_owned mine, ap words_filled mine) (word_filled (v.words area.Role) (v.words area.Pool) p value
+    (subst (λ n. n < 512) (ap words_filled mine) S.needs.0.1) (I.filled a p S.there mine))) o is
 own_filled z v a (part.Role value) note S I o is =
     let t : Topics = (v.hand a).topics in
     of_more (IsFilled (upd (v.words area.Role) (page_owned t.owned) value) (v.words area.Pool)) t.owned value
-    (λ p mine. rw (ap page_owned mine) (role_stored (v.words area.Role) (v.words area.Pool) p value (sym (ap words_filled mine) ∙ S.needs.0) (I.filled a p S.there mine))) o is
+    (λ p mine. rw (ap page_owned mine)
+    (role_stored (v.words area.Role) (v.words area.Pool) p value (sym (ap words_filled mine) ∙ S.needs.0) (I.filled a p S.there mine))) o is
 own_filled z v a (part.Link gfn) note S I o is =
     let t : Topics = (v.hand a).topics in
     let owns : OwnsWhole (t.walk.level - 1) t = table_owned (t.walk.level - 1) t S.needs.3 in
     let small : owns.owned.page < 2 ^ 32 = omega (arith, owned_there I.uses a owns.owned S.there owns.is, S.is_sizes.pool.1) in
-    let owned : t.owned ≡ Some o = unlinked (entry_now gfn t v == t.walk.entry) owns.owned owns.is (sym (link_owned gfn t owns.owned (entry_now gfn t v) S.needs.1 owns.is small) ∙ is) in
-    still_filled z v a (part.Link gfn) note S o (λ e. walks_unowned z v a S.there I S.needs.0.saw.over.there a o S.there owned (sym e)) tt (I.filled a o S.there owned)
+    let owned : t.owned ≡ Some o =
+    unlinked (entry_now gfn t v == t.walk.entry) owns.owned owns.is
+    (sym (link_owned gfn t owns.owned (entry_now gfn t v) S.needs.1 owns.is small) ∙ is) in
+    still_filled z v a (part.Link gfn) note S o (λ e. walks_unowned z v a S.there I S.needs.0.saw.over.there a o S.there owned (sym e)) tt
+    (I.filled a o S.there owned)
   where
-    unlinked : (won : Bool) (mine : OwnedPage) → (v.hand a).topics.owned ≡ Some mine → ◌≡◌ {A = Option OwnedPage} (if won then None else Some mine) (Some o) → (v.hand a).topics.owned ≡ Some o
+    unlinked : (won : Bool) (mine : OwnedPage) → (v.hand a).topics.owned ≡ Some mine
+        → ◌≡◌ {A = Option OwnedPage} (if won then None else Some mine) (Some o) → (v.hand a).topics.owned ≡ Some o
     unlinked true mine owned e = absurd (cc e)
     unlinked false mine owned e = owned ∙ e
 own_filled z v a (part.Leaf gfn) note S I o is =
     let t : Topics = (v.hand a).topics in
     let owned : t.owned ≡ Some o = sym (leaf_owned gfn t (entry_now gfn t v) S.needs.1) ∙ is in
-    still_filled z v a (part.Leaf gfn) note S o (λ e. walks_unowned z v a S.there I S.needs.0.saw.over.there a o S.there owned (sym e)) tt (I.filled a o S.there owned)
+    still_filled z v a (part.Leaf gfn) note S o (λ e. walks_unowned z v a S.there I S.needs.0.saw.over.there a o S.there owned (sym e)) tt
+    (I.filled a o S.there owned)
 own_filled z v a (part.Zap gfn) note S I o is =
     still_filled z v a (part.Zap gfn) note S o (λ e. walks_unowned z v a S.there I S.needs.2.over.there a o S.there is (sym e)) tt (I.filled a o S.there is)
 own_filled z v a _ note S I o is = I.filled a o S.there is
 
 -- Another owner's page is none that the step stores in.
-pub others_elsewhere : (z : Sizes) (v : View) (a : ℕ) (step : PartStep) → IsPart z v a step → TopicsInvariant z v → (i : ℕ) (o : OwnedPage) → i < actors_of z → i ≢ a → (v.hand i).topics.owned ≡ Some o → IsElsewhere step (v.hand a).topics o.page
+pub others_elsewhere : (z : Sizes) (v : View) (a : ℕ) (step : PartStep) → IsPart z v a step → TopicsInvariant z v → (i : ℕ) (o : OwnedPage)
+    → i < actors_of z → i ≢ a → (v.hand i).topics.owned ≡ Some o → IsElsewhere step (v.hand a).topics o.page
 others_elsewhere z v a (part.Fill value) S I i o lt apart is = λ p mine same. apart (one_owner I.uses i a o p lt S.there is mine same)
 others_elsewhere z v a (part.Link gfn) S I i o lt apart is = λ e. walks_unowned z v a S.there I S.needs.0.saw.over.there i o lt is (sym e)
 others_elsewhere z v a (part.Leaf gfn) S I i o lt apart is = λ e. walks_unowned z v a S.there I S.needs.0.saw.over.there i o lt is (sym e)
@@ -124,7 +154,8 @@ others_elsewhere z v a (part.Zap gfn) S I i o lt apart is = λ e. walks_unowned 
 others_elsewhere z v a _ S I i o lt apart is = tt
 
 -- And its role none.
-other_roles : (z : Sizes) (v : View) (a : ℕ) (step : PartStep) → IsPart z v a step → TopicsInvariant z v → (i : ℕ) (o : OwnedPage) → i < actors_of z → i ≢ a → (v.hand i).topics.owned ≡ Some o → HasOtherRole step (v.hand a).topics o.page
+other_roles : (z : Sizes) (v : View) (a : ℕ) (step : PartStep) → IsPart z v a step → TopicsInvariant z v → (i : ℕ) (o : OwnedPage) → i < actors_of z
+    → i ≢ a → (v.hand i).topics.owned ≡ Some o → HasOtherRole step (v.hand a).topics o.page
 other_roles z v a (part.Role value) S I i o lt apart is = λ p mine same. apart (one_owner I.uses i a o p lt S.there is mine same)
 other_roles z v a part.Clear S I i o lt apart is = left_elsewhere (v.hand a).topics S.needs.leaves o.page
     (λ k left e. left_not_owned I.uses a k S.there left i o lt is (sym e))
@@ -132,9 +163,11 @@ other_roles z v a _ S I i o lt apart is = tt
 
 -- Each step of a part keeps what the owners have filled.
 pub filled_kept : (z : Sizes) (v : View) (a : ℕ) (step : PartStep) (note : ℕ) → IsPart z v a step → TopicsInvariant z v
-    → FilledPart (actors_of z) ((part_stepped a step note v).words area.Role) ((part_stepped a step note v).words area.Pool) (λ i. ((part_stepped a step note v).hand i).topics.owned)
+    → FilledPart (actors_of z) ((part_stepped a step note v).words area.Role) ((part_stepped a step note v).words area.Pool)
+    (λ i. ((part_stepped a step note v).hand i).topics.owned)
 filled_kept z v a step note S I =
     let w : View = part_stepped a step note v in
     at_upd (λ i (g : Held). (o : OwnedPage) → i < actors_of z → g.topics.owned ≡ Some o → IsFilled (w.words area.Role) (w.words area.Pool) o) v.hand a _
     (λ o lt is. own_filled z v a step note S I o (sym (owned_is step (v.hand a).state.sizes (own_index (v.hand a)) (v.hand a).topics note _) ∙ is))
-    (λ i apart o lt is. still_filled z v a step note S o (others_elsewhere z v a step S I i o lt apart is) (other_roles z v a step S I i o lt apart is) (I.filled i o lt is))
+    (λ i apart o lt is. still_filled z v a step note S o (others_elsewhere z v a step S I i o lt apart is)
+    (other_roles z v a step S I i o lt apart is) (I.filled i o lt is))

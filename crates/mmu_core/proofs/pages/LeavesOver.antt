@@ -41,13 +41,19 @@ leaves_light pool host set = record {
 
 -- What was live is live, and the same, in the slot set that is published behind the step.
 live_behind : (z : Sizes) (v : View) (a : ℕ) (step : PartStep) (note : ℕ) → IsPart z v a step → TopicsInvariant z v
-    → StayLive (v.words area.Pool) (v.words area.Slots 0) ((part_stepped a step note v).words area.Pool) (slots_behind step (v.hand a).topics (v.words area.Slots 0))
+    → StayLive (v.words area.Pool) (v.words area.Slots 0) ((part_stepped a step note v).words area.Pool)
+    (slots_behind step (v.hand a).topics (v.words area.Slots 0))
 live_behind z v a part.Publish note S I = S.replaces
-live_behind z v a step note S I = λ id slot live. live_in_stays (v.words area.Slots 0) (v.words area.Pool) ((part_stepped a step note v).words area.Pool) id slot (part_live_stays z v a step note S I) live
+live_behind z v a step note S I =
+    λ id slot live. live_in_stays (v.words area.Slots 0) (v.words area.Pool) ((part_stepped a step note v).words area.Pool) id slot
+    (part_live_stays z v a step note S I) live
 
 -- A new leaf is the one for the guest frame that its fault is for.
-new_leaf : (z : Sizes) (v : View) (a : ℕ) (step : PartStep) → IsPart z v a step → TopicsInvariant z v → OfNewLeaf step (v.hand a).topics (LeafIsFor (v.words area.Pool) (v.words area.Host) (v.words area.Slots 0))
-new_leaf z v a (part.Leaf gfn) S I = λ other over leaf. (S.needs.1, subst (λ g. IsLeafFor (v.words area.Pool) (v.words area.Host) (v.words area.Slots 0) g (leaf_written t)) (sym (same other over)) own)
+new_leaf : (z : Sizes) (v : View) (a : ℕ) (step : PartStep) → IsPart z v a step → TopicsInvariant z v
+    → OfNewLeaf step (v.hand a).topics (LeafIsFor (v.words area.Pool) (v.words area.Host) (v.words area.Slots 0))
+new_leaf z v a (part.Leaf gfn) S I =
+    λ other over leaf.
+    (S.needs.1, subst (λ g. IsLeafFor (v.words area.Pool) (v.words area.Host) (v.words area.Slots 0) g (leaf_written t)) (sym (same other over)) own)
   where
     t : Topics
     t = (v.hand a).topics
@@ -70,7 +76,8 @@ new_leaf z v a _ S I = tt
 
 -- After a step that changes no host word.
 quiet_leaves : (z : Sizes) (v : View) (a : ℕ) (step : PartStep) (note : ℕ) → IsPart z v a step → (I : TopicsInvariant z v) → changes_word step ≡ false
-    → AllOver (up_after step a (v.hand a).topics v I.up) (spot_after step (v.hand a).topics v I.spot) ((part_stepped a step note v).words area.Pool) ((part_stepped a step note v).words area.Root 0)
+    → AllOver (up_after step a (v.hand a).topics v I.up) (spot_after step (v.hand a).topics v I.spot) ((part_stepped a step note v).words area.Pool)
+    ((part_stepped a step note v).words area.Root 0)
     (LeafIsFor ((part_stepped a step note v).words area.Pool) ((part_stepped a step note v).words area.Host) ((part_stepped a step note v).words area.Slots 0))
 quiet_leaves z v a step note S I other =
     let w : View = part_stepped a step note v in
@@ -80,16 +87,21 @@ quiet_leaves z v a step note S I other =
     let before : ℕ → ℕ = v.words area.Pool in
     let behind : ℕ = slots_behind step (v.hand a).topics set in
     let host : ℕ → ℕ = v.words area.Host in
-    subst (λ (r : ℕ → ℕ). AllOver up spot (w.words area.Pool) (r 0) (LeafIsFor (w.words area.Pool) (w.words area.Host) (w.words area.Slots 0))) (sym (areas_stay v a step note area.Root refl))
-    (subst (λ (h : ℕ → ℕ). AllOver up spot (w.words area.Pool) (v.words area.Root 0) (LeafIsFor (w.words area.Pool) h (w.words area.Slots 0))) (sym (host_stays v a step note other))
+    subst (λ (r : ℕ → ℕ). AllOver up spot (w.words area.Pool) (r 0) (LeafIsFor (w.words area.Pool) (w.words area.Host) (w.words area.Slots 0)))
+    (sym (areas_stay v a step note area.Root refl))
+    (subst (λ (h : ℕ → ℕ). AllOver up spot (w.words area.Pool) (v.words area.Root 0) (LeafIsFor (w.words area.Pool) h (w.words area.Slots 0)))
+    (sym (host_stays v a step note other))
     (subst (λ s. AllOver up spot (w.words area.Pool) (v.words area.Root 0) (LeafIsFor (w.words area.Pool) host s)) (sym (slots_are v a step note))
     (over_weaker up spot (w.words area.Pool) (v.words area.Root 0) (LeafIsFor before host set) (LeafIsFor (w.words area.Pool) host behind)
-    (λ level gfn word so leaf. let is = so leaf in (is.0, leaf_stays before set (w.words area.Pool) behind (live_behind z v a step note S I) host gfn word is.1))
-    (over_step z v a step note S I (v.words area.Root 0) (LeafIsFor before host set) (ap is_table I.tree.top) (leaves_light before host set) (new_leaf z v a step S I) I.leaves))))
+    (λ level gfn word so leaf. let is = so leaf in
+    (is.0, leaf_stays before set (w.words area.Pool) behind (live_behind z v a step note S I) host gfn word is.1))
+    (over_step z v a step note S I (v.words area.Root 0) (LeafIsFor before host set) (ap is_table I.tree.top) (leaves_light before host set)
+    (new_leaf z v a step S I) I.leaves))))
 
 -- Of a page that is changed there is no leaf: its guest frame was zapped.
 changed_leaves : (z : Sizes) (v : View) (a new_ note : ℕ) → IsPart z v a (part.Change new_) → (I : TopicsInvariant z v)
-    → AllOver I.up I.spot (v.words area.Pool) (v.words area.Root 0) (LeafIsFor (v.words area.Pool) ((part_stepped a (part.Change new_) note v).words area.Host) (v.words area.Slots 0))
+    → AllOver I.up I.spot (v.words area.Pool) (v.words area.Root 0)
+    (LeafIsFor (v.words area.Pool) ((part_stepped a (part.Change new_) note v).words area.Host) (v.words area.Slots 0))
 changed_leaves z v a new_ note S I table entry gfn R O leaf =
     let is = I.leaves table entry gfn R O leaf in (is.0, by is.1 (same_or (page_of is.1.slot gfn) page))
   where
@@ -100,15 +112,20 @@ changed_leaves z v a new_ note S I table entry gfn R O leaf =
     word = v.words area.Pool (pool_index table entry)
 
     asked : 1 ≤ (v.hand a).topics.flush.asked
-    asked = let some = S.is_sizes.some in let all = subst (λ (y : Sizes). y.vcpus ≤ (v.hand a).topics.flush.asked) S.sizes S.needs.0.asked in omega (arith, some, all)
+    asked =
+        let some = S.is_sizes.some in
+        let all = subst (λ (y : Sizes). y.vcpus ≤ (v.hand a).topics.flush.asked) S.sizes S.needs.0.asked in
+        omega (arith, some, all)
 
     by : (L : IsLeafFor (v.words area.Pool) (v.words area.Host) (v.words area.Slots 0) gfn word) → (page_of L.slot gfn ≡ page) ⊎ (page_of L.slot gfn ≢ page)
         → IsLeafFor (v.words area.Pool) ((part_stepped a (part.Change new_) note v).words area.Host) (v.words area.Slots 0) gfn word
     by L (inl e) =
         let B = behind_it L.slot gfn L.holds in
-        let given : Gives (v.words area.Pool) (v.words area.Slots 0) (page_of L.slot gfn) gfn = record { id = L.id; slot = L.slot; live = L.live; has = B.0; is = B.1 } in
+        let given : Gives (v.words area.Pool) (v.words area.Slots 0) (page_of L.slot gfn) gfn =
+        record { id = L.id; slot = L.slot; live = L.live; has = B.0; is = B.1 } in
         absurd (I.zapped a S.there S.needs.0.opened asked table entry gfn R O
-        ((I.scopes a S.there S.needs.0.opened).covers gfn (subst (λ p. Gives (v.words area.Pool) (v.words area.Slots 0) p gfn) (e ∙ sym S.needs.0.invalid) given)) leaf)
+        ((I.scopes a S.there S.needs.0.opened).covers gfn
+        (subst (λ p. Gives (v.words area.Pool) (v.words area.Slots 0) p gfn) (e ∙ sym S.needs.0.invalid) given)) leaf)
     by L (inr ne) = record {
       id = L.id;
       slot = L.slot;
@@ -118,15 +135,19 @@ changed_leaves z v a new_ note S I table entry gfn R O leaf =
     }
 
 pub leaves_kept : (z : Sizes) (v : View) (a : ℕ) (step : PartStep) (note : ℕ) → IsPart z v a step → (I : TopicsInvariant z v)
-    → AllOver (up_after step a (v.hand a).topics v I.up) (spot_after step (v.hand a).topics v I.spot) ((part_stepped a step note v).words area.Pool) ((part_stepped a step note v).words area.Root 0)
+    → AllOver (up_after step a (v.hand a).topics v I.up) (spot_after step (v.hand a).topics v I.spot) ((part_stepped a step note v).words area.Pool)
+    ((part_stepped a step note v).words area.Root 0)
     (LeafIsFor ((part_stepped a step note v).words area.Pool) ((part_stepped a step note v).words area.Host) ((part_stepped a step note v).words area.Slots 0))
 leaves_kept z v a (part.Change new_) note S I = changed_leaves z v a new_ note S I
 leaves_kept z v a step note S I = quiet_leaves z v a step note S I refl
 
 -- A leaf in a table that stands here is the one for each guest frame that its entry is over.
-pub leaf_for : (z : Sizes) (v : View) (I : TopicsInvariant z v) (k level prefix entry gfn : ℕ) → stands I.up I.spot k ≡ Some (at level prefix) → entry < 512 → gfn / level_span level ≡ prefix * 512 + entry
-    → kind_of level (v.words area.Pool (pool_index k entry)) ≡ entry_kind.Leaf → (level ≡ 1) × IsLeafFor (v.words area.Pool) (v.words area.Host) (v.words area.Slots 0) gfn (v.words area.Pool (pool_index k entry))
+pub leaf_for : (z : Sizes) (v : View) (I : TopicsInvariant z v) (k level prefix entry gfn : ℕ) → stands I.up I.spot k ≡ Some (at level prefix)
+    → entry < 512 → gfn / level_span level ≡ prefix * 512 + entry
+    → kind_of level (v.words area.Pool (pool_index k entry)) ≡ entry_kind.Leaf
+    → (level ≡ 1) × IsLeafFor (v.words area.Pool) (v.words area.Host) (v.words area.Slots 0) gfn (v.words area.Pool (pool_index k entry))
 leaf_for z v I k level prefix entry gfn at_k low over =
     let here : I.spot k ≡ at level prefix = (spot_of I.up I.spot k (at level prefix) at_k).1 in
     subst (λ (p : Position). LeafIsFor (v.words area.Pool) (v.words area.Host) (v.words area.Slots 0) p.level gfn (v.words area.Pool (pool_index k entry))) here
-    (I.leaves k entry gfn (all_reached I.tree k (at level prefix) at_k) (low, subst (λ (p : Position). gfn / level_span p.level ≡ p.prefix * 512 + entry) (sym here) over))
+    (I.leaves k entry gfn (all_reached I.tree k (at level prefix) at_k)
+    (low, subst (λ (p : Position). gfn / level_span p.level ≡ p.prefix * 512 + entry) (sym here) over))

@@ -16,7 +16,7 @@ use Rattle.spte_words.specs.Entries.{kind_of}
 use Rattle.part_steps.specs.declared.part_step.PartStep.{PartStep}
 use Rattle.part_steps.specs.declared.part_step.PartStep.TheVariants as part
 use Rattle.part_steps.specs.PartTasks.{entry_index, part_task, table_page}
-use Rattle.part_steps.specs.ControlTopics.{has_writer}
+use Rattle.part_steps.specs.ControlBits.{has_writer}
 use Rattle.part_steps.specs.PartTopics.{part_topics}
 use Rattle.part_steps.specs.StayTopics.{has_lock, may_walk}
 use Rattle.part_steps.specs.WalkTopics.{gone_down, linked_page}
@@ -81,8 +81,8 @@ own_loaded z v a note _ S I = I.loaded a S.there
 -- ---- Those of others.
 
 -- Nobody else has the lock, so none exchanges or zaps an entry; and who fills a page fills one that is no table.
-others_apart : (z : Sizes) (v : View) (a i : ℕ) (step : PartStep) → IsPart z v a step → TopicsInvariant z v → i < actors_of z → i ≢ a → (v.hand i).topics.hold ≡ Exclusive → 1 ≤ (v.hand i).topics.walk.level
-    → IsElsewhere step (v.hand a).topics (table_page (v.hand i).topics.walk)
+others_apart : (z : Sizes) (v : View) (a i : ℕ) (step : PartStep) → IsPart z v a step → TopicsInvariant z v → i < actors_of z → i ≢ a
+    → (v.hand i).topics.hold ≡ Exclusive → 1 ≤ (v.hand i).topics.walk.level → IsElsewhere step (v.hand a).topics (table_page (v.hand i).topics.walk)
 others_apart z v a i step S I lt ne alone from = by step S
   where
     none : has_lock (v.hand a).topics.hold ≡ false
@@ -95,7 +95,8 @@ others_apart z v a i step S I lt ne alone from = by step S
     by (part.Zap gfn) T = absurd (let lock = ap has_lock T.needs.0 in cc (none, lock))
     by _ T = tt
 
-pub loaded_kept : (z : Sizes) (v : View) (a : ℕ) (step : PartStep) (note : ℕ) → IsPart z v a step → TopicsInvariant z v → LoadedIn z ((part_stepped a step note v).words area.Pool) (part_stepped a step note v)
+pub loaded_kept : (z : Sizes) (v : View) (a : ℕ) (step : PartStep) (note : ℕ) → IsPart z v a step → TopicsInvariant z v
+    → LoadedIn z ((part_stepped a step note v).words area.Pool) (part_stepped a step note v)
 loaded_kept z v a step note S I = behind_step (LoadedIn z after) z v a step note S behind
   where
     after : ℕ → ℕ

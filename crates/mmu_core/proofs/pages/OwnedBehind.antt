@@ -34,7 +34,8 @@ owned_behind (part.Link gfn) t v = if is_in_table t.walk then still_owned (v == 
 owned_behind (part.Leaf gfn) t v = if is_in_table t.walk then still_owned (v == t.walk.entry) t.walk (leaf_written t) t.owned else t.owned
 owned_behind _ t v = t.owned
 
-pub owned_is : (step : PartStep) (z : Sizes) (own : ℕ) (t : Topics) (note v : ℕ) → (topics_after z (kind_of_task z (part_task step own t note)) t v).owned ≡ owned_behind step t v
+pub owned_is : (step : PartStep) (z : Sizes) (own : ℕ) (t : Topics) (note v : ℕ)
+    → (topics_after z (kind_of_task z (part_task step own t note)) t v).owned ≡ owned_behind step t v
 unfolding topics_after
 owned_is part.Claim z own t note v = refl
 owned_is _ z own t note v = refl
@@ -46,22 +47,27 @@ left_behind part.Give t v = still_leaving t.owned t.leaving
 left_behind part.GiveOld t v = still_leaving t.owned t.leaving
 left_behind _ t v = t.leaving
 
-pub left_is : (step : PartStep) (z : Sizes) (own : ℕ) (t : Topics) (note v : ℕ) → (topics_after z (kind_of_task z (part_task step own t note)) t v).leaving ≡ left_behind step t v
+pub left_is : (step : PartStep) (z : Sizes) (own : ℕ) (t : Topics) (note v : ℕ)
+    → (topics_after z (kind_of_task z (part_task step own t note)) t v).leaving ≡ left_behind step t v
 unfolding topics_after
 left_is part.Publish z own t note v = refl
 left_is _ z own t note v = refl
 
-pub left_same : (hand : ℕ → Held) (a : ℕ) (h : Held) → h.topics.leaving ≡ (hand a).topics.leaving → ◌≡◌ {A = ℕ → Option ℕ} (λ i. (upd hand a h i).topics.leaving) (λ i. (hand i).topics.leaving)
+pub left_same : (hand : ℕ → Held) (a : ℕ) (h : Held) → h.topics.leaving ≡ (hand a).topics.leaving
+    → ◌≡◌ {A = ℕ → Option ℕ} (λ i. (upd hand a h i).topics.leaving) (λ i. (hand i).topics.leaving)
 left_same = column (λ (h : Held). h.topics.leaving)
 
 -- A hand that owns what it owned before leaves the column.
-pub owned_same : (hand : ℕ → Held) (a : ℕ) (h : Held) → h.topics.owned ≡ (hand a).topics.owned → ◌≡◌ {A = ℕ → Option OwnedPage} (λ i. (upd hand a h i).topics.owned) (λ i. (hand i).topics.owned)
+pub owned_same : (hand : ℕ → Held) (a : ℕ) (h : Held) → h.topics.owned ≡ (hand a).topics.owned
+    → ◌≡◌ {A = ℕ → Option OwnedPage} (λ i. (upd hand a h i).topics.owned) (λ i. (hand i).topics.owned)
 owned_same = column (λ (h : Held). h.topics.owned)
 
 -- the page that the actor owns behind its step
 pub own_behind : (v : View) (a : ℕ) (step : PartStep) (note : ℕ)
-    → ((part_stepped a step note v).hand a).topics.owned ≡ owned_behind step (v.hand a).topics (answer_in (part_task step (own_index (v.hand a)) (v.hand a).topics note) v.words)
-own_behind v a step note = ap (λ (h : Held). h.topics.owned) (upd_same v.hand a _) ∙ owned_is step (v.hand a).state.sizes (own_index (v.hand a)) (v.hand a).topics note _
+    → ((part_stepped a step note v).hand a).topics.owned
+    ≡ owned_behind step (v.hand a).topics (answer_in (part_task step (own_index (v.hand a)) (v.hand a).topics note) v.words)
+own_behind v a step note =
+    ap (λ (h : Held). h.topics.owned) (upd_same v.hand a _) ∙ owned_is step (v.hand a).state.sizes (own_index (v.hand a)) (v.hand a).topics note _
 
 -- An entry of the lowest level is no link: who stores a leaf owns what it owned.
 no_link : (w : ℕ) → linked_page (kind_of 1 w) ≡ None
@@ -84,7 +90,8 @@ leaf_owned gfn t v lowest = by (nat_le 1 t.walk.level) (v == t.walk.entry)
     by _ _ = refl
 
 -- Who links its page owns none, where the link was stored.
-pub link_owned : (gfn : ℕ) (t : Topics) (o : OwnedPage) (v : ℕ) → 2 ≤ t.walk.level → t.owned ≡ Some o → o.page < 2 ^ 32 → owned_behind (part.Link gfn) t v ≡ (if v == t.walk.entry then None else Some o)
+pub link_owned : (gfn : ℕ) (t : Topics) (o : OwnedPage) (v : ℕ) → 2 ≤ t.walk.level → t.owned ≡ Some o → o.page < 2 ^ 32
+    → owned_behind (part.Link gfn) t v ≡ (if v == t.walk.entry then None else Some o)
 link_owned gfn t o v upper is small = by (nat_le 1 t.walk.level) (v == t.walk.entry) (grind (arith, nat_tests))
   where
     page : page_owned t.owned ≡ o.page
@@ -93,7 +100,8 @@ link_owned gfn t o v upper is small = by (nat_le 1 t.walk.level) (v == t.walk.en
     links : linked_page (kind_of t.walk.level (link_written t)) ≡ Some (page_owned t.owned)
     links = ap linked_page (kind_of_table t.walk.level (page_owned t.owned) upper (omega (arith, page, small)))
 
-    by : (in_table won : Bool) → in_table ≡ true → (if in_table then still_owned won t.walk (link_written t) t.owned else t.owned) ≡ (if won then None else Some o)
+    by : (in_table won : Bool) → in_table ≡ true
+        → (if in_table then still_owned won t.walk (link_written t) t.owned else t.owned) ≡ (if won then None else Some o)
     by false won e = absurd (cc e)
     by true false e = is
     by true true e = ap (λ to. unless_linked to t.owned) links

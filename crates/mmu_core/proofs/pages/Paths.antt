@@ -72,10 +72,14 @@ down_goes (Some page) walk index v low level from above most = record { from = o
     second e = grind (arith, nat_tests)
 
     same : table_at level (gone_down (Some page) walk index v) ≡ table_at level walk
-    same = by (level == 4) (level == 3) (level == 2) (λ e. third (grind (arith, nat_tests))) (λ e. second (grind (arith, nat_tests))) (λ e. grind (arith, nat_tests))
+    same =
+        by (level == 4) (level == 3) (level == 2) (λ e. third (grind (arith, nat_tests))) (λ e. second (grind (arith, nat_tests)))
+        (λ e. grind (arith, nat_tests))
       where
-        by : (four three two : Bool) → (three ≡ true → (walk.level == 4) ≡ false) → (two ≡ true → (walk.level == 3) ≡ false) → ((four ≡ false) × (three ≡ false) × (two ≡ false) → ⊥)
-            → (if four then walk.root else if three then (if walk.level == 4 then page else walk.third) else if two then (if walk.level == 3 then page else walk.second) else if walk.level == 2 then page else walk.first)
+        by : (four three two : Bool) → (three ≡ true → (walk.level == 4) ≡ false) → (two ≡ true → (walk.level == 3) ≡ false)
+            → ((four ≡ false) × (three ≡ false) × (two ≡ false) → ⊥)
+            → (if four then walk.root else if three then (if walk.level == 4 then page else walk.third) else if two
+            then (if walk.level == 3 then page else walk.second) else if walk.level == 2 then page else walk.first)
             ≡ (if four then walk.root else if three then walk.third else if two then walk.second else walk.first)
         by true three two a b c = refl
         by false true two a b c = ap (λ (x : Bool). if x then page else walk.third) (a refl)
@@ -104,7 +108,8 @@ part_goes _ t v = stays t.walk
 -- ---- The tables of a walk stand behind each step.
 
 -- The table that the walk has come to stands so as those that it has gone through.
-pub whole_path : (stands : ℕ → Option Position) (t : Topics) → HeldPart stands t → PathPart stands t.walk → (level : ℕ) → 1 ≤ t.walk.level → t.walk.level ≤ level → level ≤ 4 → stands (table_at level t.walk) ≡ Some (at level (run_at level t.walk))
+pub whole_path : (stands : ℕ → Option Position) (t : Topics) → HeldPart stands t → PathPart stands t.walk → (level : ℕ) → 1 ≤ t.walk.level
+    → t.walk.level ≤ level → level ≤ 4 → stands (table_at level t.walk) ≡ Some (at level (run_at level t.walk))
 whole_path stands t H P level from down most = by (cases_lt t.walk.level level)
   where
     by : (t.walk.level < level) ⊎ (level ≤ t.walk.level) → stands (table_at level t.walk) ≡ Some (at level (run_at level t.walk))
@@ -116,10 +121,12 @@ whole_path stands t H P level from down most = by (cases_lt t.walk.level level)
         subst (λ l. stands (table_at l t.walk) ≡ Some (at l (run_at l t.walk))) here (H.table from ∙ ap (λ r. Some (at t.walk.level r)) own)
 
 -- A walk that went on is at tables where those stand that it had come to.
-path_on : (before after : ℕ → Option Position) (t s : Topics) → ((k : ℕ) (p : Position) → before k ≡ Some p → after k ≡ Some p) → GoesOn t.walk s.walk → HeldPart before t → PathPart before t.walk → PathPart after s.walk
+path_on : (before after : ℕ → Option Position) (t s : Topics) → ((k : ℕ) (p : Position) → before k ≡ Some p → after k ≡ Some p) → GoesOn t.walk s.walk
+    → HeldPart before t → PathPart before t.walk → PathPart after s.walk
 path_on before after t s stay goes H P level from above most =
     let on = goes level from above most in
-    stay (table_at level s.walk) (at level (run_at level s.walk)) (ap before on.table ∙ whole_path before t H P level on.from on.down most ∙ ap (λ r. Some (at level r)) (sym on.run))
+    stay (table_at level s.walk) (at level (run_at level s.walk))
+    (ap before on.table ∙ whole_path before t H P level on.from on.down most ∙ ap (λ r. Some (at level r)) (sym on.run))
 
 -- what is said of the paths of all walks, of a view
 abbrev PathsAt : Sizes → (ℕ → Option Position) → View → Type 0
@@ -135,5 +142,8 @@ paths_kept z v a step note S I = behind_step (PathsAt z after) z v a step note S
     behind : PathsAt z after (part_behind a step note v)
     behind =
         at_upd (λ i (h : Held). i < actors_of z → PathPart after h.topics.walk) v.hand a _
-        (λ lt. path_on (stands I.up I.spot) after (v.hand a).topics (part_topics step (v.hand a).topics (answer_in (part_task step a (v.hand a).topics note) v.words)) (stays_standing z v a step S I) (part_goes step (v.hand a).topics _) (I.held a lt) (I.paths a lt))
-        (λ i apart lt level from above most. stays_standing z v a step S I (table_at level (v.hand i).topics.walk) (at level (run_at level (v.hand i).topics.walk)) (I.paths i lt level from above most))
+        (λ lt. path_on (stands I.up I.spot) after (v.hand a).topics
+        (part_topics step (v.hand a).topics (answer_in (part_task step a (v.hand a).topics note) v.words)) (stays_standing z v a step S I)
+        (part_goes step (v.hand a).topics _) (I.held a lt) (I.paths a lt))
+        (λ i apart lt level from above most. stays_standing z v a step S I (table_at level (v.hand i).topics.walk)
+        (at level (run_at level (v.hand i).topics.walk)) (I.paths i lt level from above most))

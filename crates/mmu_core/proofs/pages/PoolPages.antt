@@ -38,7 +38,8 @@ use_is Root Root is = refl
 use_is SlotSet SlotSet is = refl
 use_is Outside Outside is = refl
 use_is (Owned i) (Owned j) is = ap Owned (sym (tells i j is))
-use_is (Under k i) (Under l j) is = let e = both (k == l) (i == j) is in let page = tells k l e.0 in let entry = tells i j e.1 in λ t. Under (sym page t) (sym entry t)
+use_is (Under k i) (Under l j) is =
+    let e = both (k == l) (i == j) is in let page = tells k l e.0 in let entry = tells i j e.1 in λ t. Under (sym page t) (sym entry t)
 use_is (OldSet i) (OldSet j) is = ap OldSet (sym (tells i j is))
 use_is _ _ is = absurd (cc is)
 
@@ -63,7 +64,8 @@ leaving_tells : (x : Option ℕ) (page : ℕ) → is_leaving x page ≡ true →
 leaving_tells None page is = absurd (cc is)
 leaving_tells (Some k) page is = ap Some (tells k page is)
 
-module _ {n pages slots : ℕ} {map : ℕ → ℕ} {owned : ℕ → Option OwnedPage} {leaving : ℕ → Option ℕ} {up : ℕ → Use} (U : UsePart n pages slots map owned leaving up) where
+module _ {n pages slots : ℕ} {map : ℕ → ℕ} {owned : ℕ → Option OwnedPage} {leaving : ℕ → Option ℕ} {up : ℕ → Use}
+    (U : UsePart n pages slots map owned leaving up) where
   -- What a page is, by the words and hands.
   pub free_use : (k : ℕ) → is_free map k ≡ true → up k ≡ Free
   free_use k free = use_is Free (up k) (sym (U.free k) ∙ free)
@@ -137,7 +139,8 @@ module _ {n pages slots : ℕ} {map : ℕ → ℕ} {owned : ℕ → Option Owned
   pub table_not_slots : (spot : ℕ → Position) (k : ℕ) (p : Position) → stands up spot k ≡ Some p → k ≢ slots
   table_not_slots spot k p at e = no_table up spot k p SlotSet (ap up e ∙ set_use) refl at
 
-  pub table_not_owned : (spot : ℕ → Position) (k : ℕ) (p : Position) → stands up spot k ≡ Some p → (i : ℕ) (o : OwnedPage) → i < n → owned i ≡ Some o → o.page ≢ k
+  pub table_not_owned : (spot : ℕ → Position) (k : ℕ) (p : Position) → stands up spot k ≡ Some p → (i : ℕ) (o : OwnedPage) → i < n → owned i ≡ Some o
+      → o.page ≢ k
   table_not_owned spot k p at i o lt is e = owned_no_table spot i o p lt is (ap (stands up spot) e ∙ at)
 
   -- A page that is leaving isn't free, has no owner, is no table, and isn't the published slot set; and it leaves for one actor.

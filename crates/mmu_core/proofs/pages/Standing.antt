@@ -31,7 +31,8 @@ up_after part.Claim a t v up = upd_if (is_won t.claim (v.words area.PoolMap t.cl
 up_after part.Give a t v up = upd up (page_owned t.owned) Free
 up_after part.GiveOld a t v up = upd up (page_left t.leaving) Free
 up_after part.Publish a t v up = upd (upd up (v.words area.Slots 0) (OldSet a)) (page_owned t.owned) SlotSet
-up_after (part.Link gfn) a t v up = upd_if (entry_now gfn t v == t.walk.entry) up (page_owned t.owned) (Under (table_page t.walk) (entry_index gfn t.walk.level))
+up_after (part.Link gfn) a t v up =
+    upd_if (entry_now gfn t v == t.walk.entry) up (page_owned t.owned) (Under (table_page t.walk) (entry_index gfn t.walk.level))
 up_after _ a t v up = up
 
 -- where the tables stand behind it: the page that was linked stands below the walk's table

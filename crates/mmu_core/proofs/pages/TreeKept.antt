@@ -16,9 +16,8 @@ use Rattle.spte_words.proofs.Spans.{span_1, span_above}
 use Rattle.part_steps.specs.declared.part_step.PartStep.{PartStep}
 use Rattle.part_steps.specs.declared.part_step.PartStep.TheVariants as part
 use Rattle.part_steps.specs.PartTasks.{entry_index, is_absent, leaf_written, link_written, page_owned, table_page, word_looked}
-use Rattle.part_steps.specs.PartHoldings.{FoundSlot, LookedUp, MayEnter}
+use Rattle.part_steps.specs.PartHoldings.{FoundSlot, MayEnter}
 use Rattle.mmu_core.specs.invariant.PoolPart.{IsFilled}
-use Rattle.part_steps.specs.SlotWords.{page_of}
 use Rattle.mmu_core.specs.invariant.TopicsInvariant.{TopicsInvariant}
 use Rattle.mmu_core.specs.invariant.TreePart.{EntryPart, IsLeafAt, IsLiveIn, IsWanted, Position, TreePart, Use, at, is_table, stands}
 use Rattle.mmu_core.specs.invariant.TreePart.Use.{Under}
@@ -41,11 +40,13 @@ unfolding absent_word
 absent_is = refl
 
 -- The run of the guest frame's entry, one level below the table that it is in.
-run_below : (gfn level prefix : ℕ) → 2 ≤ level → gfn / level_span level / 512 ≡ prefix → gfn / level_span (level - 1) / 512 ≡ prefix * 512 + gfn / level_span level % 512
+run_below : (gfn level prefix : ℕ) → 2 ≤ level → gfn / level_span level / 512 ≡ prefix
+    → gfn / level_span (level - 1) / 512 ≡ prefix * 512 + gfn / level_span level % 512
 run_below gfn level prefix upper run =
     let up : level - 1 + 1 ≡ level = omega (arith, upper) in
     let span : level_span level ≡ 512 * level_span (level - 1) = ap level_span (sym up) ∙ span_above (level - 1) (omega (arith, upper)) in
-    let whole : gfn / level_span (level - 1) / 512 ≡ gfn / level_span level = div-div-eq-div-mul gfn (level_span (level - 1)) 512 ∙ ap (λ n. gfn / n) (omega (arith, span)) in
+    let whole : gfn / level_span (level - 1) / 512 ≡ gfn / level_span level =
+    div-div-eq-div-mul gfn (level_span (level - 1)) 512 ∙ ap (λ n. gfn / n) (omega (arith, span)) in
     omega (arith, whole, run)
 
 -- At the lowest level the entry is the guest frame's own.
@@ -56,7 +57,8 @@ run_lowest gfn level prefix lowest run =
     omega (arith, own, run)
 
 -- The slot that was loaded whole is live in the published slot set.
-pub found_live : (z : Sizes) (v : View) (a gfn : ℕ) → a < actors_of z → TopicsInvariant z v → FoundSlot gfn (v.hand a).topics → IsLiveIn (v.words area.Pool) (v.words area.Slots 0) ((v.hand a).topics.search.id - 1) (v.hand a).topics.search.slot
+pub found_live : (z : Sizes) (v : View) (a gfn : ℕ) → a < actors_of z → TopicsInvariant z v → FoundSlot gfn (v.hand a).topics
+    → IsLiveIn (v.words area.Pool) (v.words area.Slots 0) ((v.hand a).topics.search.id - 1) (v.hand a).topics.search.slot
 found_live z v a gfn lt I found =
     let t : Topics = (v.hand a).topics in
     let held = (I.searches a lt).held found.whole in
@@ -66,10 +68,12 @@ found_live z v a gfn lt I found =
 pub leaf_is : (t : Topics) → t.walk.level ≡ 1 → kind_of t.walk.level (leaf_written t) ≡ entry_kind.Leaf
 leaf_is t lowest =
     let word : ℕ = word_looked t.host in
-    ap (λ l. kind_of l (leaf_written t)) lowest ∙ kind_of_leaf 1 (host_frame word) (may_write t.search.slot word) (host_allows_write word) (may_write t.search.slot word) (omega arith) (omega arith)
+    ap (λ l. kind_of l (leaf_written t)) lowest ∙ kind_of_leaf 1 (host_frame word) (may_write t.search.slot word) (host_allows_write word)
+    (may_write t.search.slot word) (omega arith) (omega arith)
 
 -- An entry above the lowest level whose kind is absent is the absent word.
-pub absent_entry : {pages root set : ℕ} {role pool : ℕ → ℕ} {up : ℕ → Use} {spot : ℕ → Position} (T : TreePart pages root set role pool up spot) (k level prefix j : ℕ) → stands up spot k ≡ Some (at level prefix) → j < 512 → 2 ≤ level → pages < 2 ^ 32
+pub absent_entry : {pages root set : ℕ} {role pool : ℕ → ℕ} {up : ℕ → Use} {spot : ℕ → Position} (T : TreePart pages root set role pool up spot)
+    (k level prefix j : ℕ) → stands up spot k ≡ Some (at level prefix) → j < 512 → 2 ≤ level → pages < 2 ^ 32
     → kind_of level (pool (pool_index k j)) ≡ entry_kind.Absent → pool (pool_index k j) ≡ absent_word
 absent_entry {pages} {root} {set} {role} {pool} {up} {spot} T k level prefix j at_k low upper few kind = by (T.entries k (at level prefix) at_k j low)
   where
@@ -77,21 +81,27 @@ absent_entry {pages} {root} {set} {role} {pool} {up} {spot} T k level prefix j a
     by (inl e) = e
     by (inr (inl L)) =
         let there = T.there L.page (at (level - 1) (prefix * 512 + j)) (link_stands T k (at level prefix) j (pool (pool_index k j)) at_k L) in
-        let links : kind_of level (pool (pool_index k j)) ≡ entry_kind.Table L.page = ap (kind_of level) L.is ∙ kind_of_table level L.page upper (omega (arith, few, there.0)) in
+        let links : kind_of level (pool (pool_index k j)) ≡ entry_kind.Table L.page =
+        ap (kind_of level) L.is ∙ kind_of_table level L.page upper (omega (arith, few, there.0)) in
         absurd (cc (kind, links))
     by (inr (inr L)) = absurd (omega (arith, L.lowest, upper))
 
 -- Where the step stores in no table, all tables stay.
-stay : (z : Sizes) (v : View) (a : ℕ) (step : PartStep) (note : ℕ) → IsPart z v a step → (I : TopicsInvariant z v) → is_link step ≡ false → ((k : ℕ) (p : Position) → stands I.up I.spot k ≡ Some p → IsElsewhere step (v.hand a).topics k × HasOtherRole step (v.hand a).topics k)
-    → TreePart z.pool (v.words area.Root 0) (v.words area.Slots 0) ((part_stepped a step note v).words area.Role) ((part_stepped a step note v).words area.Pool) (up_after step a (v.hand a).topics v I.up) I.spot
+stay : (z : Sizes) (v : View) (a : ℕ) (step : PartStep) (note : ℕ) → IsPart z v a step → (I : TopicsInvariant z v) → is_link step ≡ false
+    → ((k : ℕ) (p : Position) → stands I.up I.spot k ≡ Some p → IsElsewhere step (v.hand a).topics k × HasOtherRole step (v.hand a).topics k)
+    → TreePart z.pool (v.words area.Root 0) (v.words area.Slots 0) ((part_stepped a step note v).words area.Role)
+    ((part_stepped a step note v).words area.Pool) (up_after step a (v.hand a).topics v I.up) I.spot
 stay z v a step note S I never elsewhere =
     let same = same_tables z v a step S I never in
     let after : ℕ → Use = up_after step a (v.hand a).topics v I.up in
-    tree_moved I.tree ((part_stepped a step note v).words area.Role) ((part_stepped a step note v).words area.Pool) after I.spot (stay_same I.up after I.spot same)
-    (λ k p is. inl (stood_same I.up after I.spot same k p is)) (λ k p is. role_stays z v a step note S k (elsewhere k p is).1) (λ k p is j low. inl (page_stays z v a step note S k (elsewhere k p is).0 j low)) (part_live_stays z v a step note S I)
+    tree_moved I.tree ((part_stepped a step note v).words area.Role) ((part_stepped a step note v).words area.Pool) after I.spot
+    (stay_same I.up after I.spot same)
+    (λ k p is. inl (stood_same I.up after I.spot same k p is)) (λ k p is. role_stays z v a step note S k (elsewhere k p is).1)
+    (λ k p is j low. inl (page_stays z v a step note S k (elsewhere k p is).0 j low)) (part_live_stays z v a step note S I)
 
 -- An exchange that was lost leaves the pool.
-lost : {pages root set : ℕ} {role pool : ℕ → ℕ} {up : ℕ → Use} {spot : ℕ → Position} (i : ℕ) → TreePart pages root set role pool up spot → TreePart pages root set role (upd pool i (pool i)) up spot
+lost : {pages root set : ℕ} {role pool : ℕ → ℕ} {up : ℕ → Use} {spot : ℕ → Position} (i : ℕ) → TreePart pages root set role pool up spot
+    → TreePart pages root set role (upd pool i (pool i)) up spot
 lost {pages} {root} {set} {role} {pool} {up} {spot} i T = subst (λ (words : ℕ → ℕ). TreePart pages root set role words up spot) (sym (upd_id pool i)) T
 
 module _ (z : Sizes) (v : View) (a gfn note : ℕ) (I : TopicsInvariant z v) where
@@ -108,16 +118,27 @@ module _ (z : Sizes) (v : View) (a gfn note : ℕ) (I : TopicsInvariant z v) whe
   abbrev exchanged : Bool → ℕ → ℕ → ℕ
   exchanged won new_ = upd (v.words area.Pool) here (if won then new_ else entry_now gfn t v)
 
-  linked : (S : IsPart z v a (part.Link gfn)) (won : Bool) → (entry_now gfn t v == t.walk.entry) ≡ won → LiveStays (v.words area.Slots 0) (v.words area.Pool) (exchanged won (link_written t))
-      → TreePart z.pool (v.words area.Root 0) (v.words area.Slots 0) (v.words area.Role) (exchanged won (link_written t)) (upd_if won I.up (page_owned t.owned) (Under (table_page t.walk) index)) (upd_if won I.spot (page_owned t.owned) (position_below gfn t))
+  linked : (S : IsPart z v a (part.Link gfn)) (won : Bool) → (entry_now gfn t v == t.walk.entry) ≡ won
+      → LiveStays (v.words area.Slots 0) (v.words area.Pool) (exchanged won (link_written t))
+      → TreePart z.pool (v.words area.Root 0) (v.words area.Slots 0) (v.words area.Role) (exchanged won (link_written t))
+      (upd_if won I.up (page_owned t.owned) (Under (table_page t.walk) index)) (upd_if won I.spot (page_owned t.owned) (position_below gfn t))
   linked S false is live = lost here I.tree
   linked S true is live =
-      table_linked I.tree (table_page t.walk) t.walk.level t.walk.prefix index (page_owned t.owned) ((I.held a S.there).table may.saw.over.there) S.needs.1 (omega arith) absent
+      table_linked I.tree (table_page t.walk) t.walk.level t.walk.prefix index (page_owned t.owned) ((I.held a S.there).table may.saw.over.there)
+      S.needs.1 (omega arith) absent
       (ap (λ k. is_table (I.up k)) page ∙ ap is_table (owned_use I.uses a owns.owned S.there owns.is))
       (omega (arith, page, owned_there I.uses a owns.owned S.there owns.is))
       (ap (v.words area.Role) page ∙ filled.role_is owns.whole ∙ owns.role)
-      (λ i low. ap (λ k. v.words area.Pool (pool_index k i)) page ∙ filled.absent (ap is_absent (sym owns.is) ∙ S.needs.3.absent) i (omega (arith, low, owns.whole)) low ∙ absent_is)
-      (record { gfn = gfn; id = t.search.id - 1; slot = t.search.slot; live = found_live z v a gfn S.there I may.looked_up.found; holds = may.looked_up.found.holds; run = run_below gfn t.walk.level t.walk.prefix S.needs.1 may.saw.over.run })
+      (λ i low. ap (λ k. v.words area.Pool (pool_index k i)) page
+      ∙ filled.absent (ap is_absent (sym owns.is) ∙ S.needs.3.absent) i (omega (arith, low, owns.whole)) low ∙ absent_is)
+      (record {
+        gfn = gfn;
+        id = t.search.id - 1;
+        slot = t.search.slot;
+        live = found_live z v a gfn S.there I may.looked_up.found;
+        holds = may.looked_up.found.holds;
+        run = run_below gfn t.walk.level t.walk.prefix S.needs.1 may.saw.over.run;
+      })
       live
     where
       may : MayEnter gfn t
@@ -129,7 +150,8 @@ module _ (z : Sizes) (v : View) (a gfn note : ℕ) (I : TopicsInvariant z v) whe
       absent : v.words area.Pool here ≡ absent_word
       absent =
           absent_entry I.tree (table_page t.walk) t.walk.level t.walk.prefix index
-          ((I.held a S.there).table may.saw.over.there) (omega arith) S.needs.1 (omega (arith, S.is_sizes.pool.1)) (ap (kind_of t.walk.level) (tells (entry_now gfn t v) t.walk.entry is) ∙ S.needs.2)
+          ((I.held a S.there).table may.saw.over.there) (omega arith) S.needs.1 (omega (arith, S.is_sizes.pool.1))
+          (ap (kind_of t.walk.level) (tells (entry_now gfn t v) t.walk.entry is) ∙ S.needs.2)
 
       page : page_owned t.owned ≡ owns.owned.page
       page = ap page_owned owns.is
@@ -171,7 +193,8 @@ module _ (z : Sizes) (v : View) (a gfn note : ℕ) (I : TopicsInvariant z v) whe
       leaf : kind_of t.walk.level (v.words area.Pool here) ≡ entry_kind.Leaf
       leaf = ap (kind_of t.walk.level) still ∙ S.needs.3
 
-      by : EntryPart I.up (table_page t.walk) (at t.walk.level t.walk.prefix) index (v.words area.Pool here) → (t.walk.level ≡ 1) ⊎ (v.words area.Pool here ≡ absent_word)
+      by : EntryPart I.up (table_page t.walk) (at t.walk.level t.walk.prefix) index (v.words area.Pool here)
+          → (t.walk.level ≡ 1) ⊎ (v.words area.Pool here ≡ absent_word)
       by (inl e) = inr e
       by (inr (inl L)) =
           let there = I.tree.there L.page (at (t.walk.level - 1) (t.walk.prefix * 512 + index))
@@ -183,9 +206,13 @@ module _ (z : Sizes) (v : View) (a gfn note : ℕ) (I : TopicsInvariant z v) whe
 
 -- What the tables are behind each step; the root, the published set and the host's words stay.
 tree_behind : (z : Sizes) (v : View) (a : ℕ) (step : PartStep) (note : ℕ) → IsPart z v a step → (I : TopicsInvariant z v)
-    → TreePart z.pool (v.words area.Root 0) (v.words area.Slots 0) ((part_stepped a step note v).words area.Role) ((part_stepped a step note v).words area.Pool) (up_after step a (v.hand a).topics v I.up) (spot_after step (v.hand a).topics v I.spot)
-tree_behind z v a (part.Link gfn) note S I = linked z v a gfn note I S (entry_now gfn (v.hand a).topics v == (v.hand a).topics.walk.entry) refl (part_live_stays z v a (part.Link gfn) note S I)
-tree_behind z v a (part.Leaf gfn) note S I = leafed z v a gfn note I S (entry_now gfn (v.hand a).topics v == (v.hand a).topics.walk.entry) (part_live_stays z v a (part.Leaf gfn) note S I)
+    → TreePart z.pool (v.words area.Root 0) (v.words area.Slots 0) ((part_stepped a step note v).words area.Role)
+    ((part_stepped a step note v).words area.Pool) (up_after step a (v.hand a).topics v I.up) (spot_after step (v.hand a).topics v I.spot)
+tree_behind z v a (part.Link gfn) note S I =
+    linked z v a gfn note I S (entry_now gfn (v.hand a).topics v == (v.hand a).topics.walk.entry) refl
+    (part_live_stays z v a (part.Link gfn) note S I)
+tree_behind z v a (part.Leaf gfn) note S I =
+    leafed z v a gfn note I S (entry_now gfn (v.hand a).topics v == (v.hand a).topics.walk.entry) (part_live_stays z v a (part.Leaf gfn) note S I)
 tree_behind z v a (part.Fill value) note S I =
     stay z v a (part.Fill value) note S I refl (λ k p is. (λ o owns. table_not_owned I.uses I.spot k p is a o S.there owns, tt))
 tree_behind z v a (part.Role value) note S I =
@@ -200,7 +227,8 @@ tree_behind z v a (part.Zap gfn) note S I = zapped z v a gfn note I S (part_live
 tree_behind z v a step note S I = stay z v a step note S I refl (λ k p is. (tt, tt))
 
 -- A slot set is published that has each slot of the one before it.
-tree_republished : {pages root set : ℕ} {role pool : ℕ → ℕ} {up : ℕ → Use} {spot : ℕ → Position} (other : ℕ) → StayLive pool set pool other → TreePart pages root set role pool up spot → TreePart pages root other role pool up spot
+tree_republished : {pages root set : ℕ} {role pool : ℕ → ℕ} {up : ℕ → Use} {spot : ℕ → Position} (other : ℕ) → StayLive pool set pool other
+    → TreePart pages root set role pool up spot → TreePart pages root other role pool up spot
 tree_republished {pages} {root} {set} {role} {pool} {up} {spot} other stay T = record {
   top = T.top;
   only = T.only;
@@ -218,18 +246,21 @@ tree_republished {pages} {root} {set} {role} {pool} {up} {spot} other stay T = r
 
 -- What the tables are of the set that is published behind each step.
 tree_set : (z : Sizes) (v : View) (a : ℕ) (step : PartStep) (note : ℕ) → IsPart z v a step → (I : TopicsInvariant z v)
-    → TreePart z.pool (v.words area.Root 0) (slots_behind step (v.hand a).topics (v.words area.Slots 0)) ((part_stepped a step note v).words area.Role) ((part_stepped a step note v).words area.Pool) (up_after step a (v.hand a).topics v I.up) (spot_after step (v.hand a).topics v I.spot)
+    → TreePart z.pool (v.words area.Root 0) (slots_behind step (v.hand a).topics (v.words area.Slots 0)) ((part_stepped a step note v).words
+    area.Role) ((part_stepped a step note v).words area.Pool) (up_after step a (v.hand a).topics v I.up) (spot_after step (v.hand a).topics v I.spot)
 tree_set z v a part.Publish note S I = tree_republished (page_owned (v.hand a).topics.owned) S.replaces (tree_behind z v a part.Publish note S I)
 tree_set z v a step note S I = tree_behind z v a step note S I
 
 -- Each step of a part keeps what the tables are.
 pub tree_kept : (z : Sizes) (v : View) (a : ℕ) (step : PartStep) (note : ℕ) → IsPart z v a step → (I : TopicsInvariant z v)
-    → TreePart z.pool ((part_stepped a step note v).words area.Root 0) ((part_stepped a step note v).words area.Slots 0) ((part_stepped a step note v).words area.Role) ((part_stepped a step note v).words area.Pool)
+    → TreePart z.pool ((part_stepped a step note v).words area.Root 0) ((part_stepped a step note v).words area.Slots 0)
+    ((part_stepped a step note v).words area.Role) ((part_stepped a step note v).words area.Pool)
     (up_after step a (v.hand a).topics v I.up) (spot_after step (v.hand a).topics v I.spot)
 tree_kept z v a step note S I =
     let w : View = part_stepped a step note v in
     let up : ℕ → Use = up_after step a (v.hand a).topics v I.up in
     let spot : ℕ → Position = spot_after step (v.hand a).topics v I.spot in
-    subst (λ (r : ℕ → ℕ). TreePart z.pool (r 0) (w.words area.Slots 0) (w.words area.Role) (w.words area.Pool) up spot) (sym (areas_stay v a step note area.Root refl))
+    subst (λ (r : ℕ → ℕ). TreePart z.pool (r 0) (w.words area.Slots 0) (w.words area.Role) (w.words area.Pool) up spot)
+    (sym (areas_stay v a step note area.Root refl))
     (subst (λ s. TreePart z.pool (v.words area.Root 0) s (w.words area.Role) (w.words area.Pool) up spot) (sym (slots_are v a step note))
     (tree_set z v a step note S I))

@@ -51,18 +51,22 @@ module _ {pages root set : ℕ} {role pool : ℕ → ℕ} {up : ℕ → Use} {sp
       by (suc links) hangs = inr (links, linked_by links k p hangs at_k)
 
   -- What an entry links to stands one level below, at the run of the entry.
-  pub link_stands : (k : ℕ) (p : Position) (j w : ℕ) → stands up spot k ≡ Some p → (L : LinksTo up k p j w) → stands up spot L.page ≡ Some (at (p.level - 1) (p.prefix * 512 + j))
+  pub link_stands : (k : ℕ) (p : Position) (j w : ℕ) → stands up spot k ≡ Some p → (L : LinksTo up k p j w)
+      → stands up spot L.page ≡ Some (at (p.level - 1) (p.prefix * 512 + j))
   link_stands k p j w at_k L =
       let V = T.under L.page k j L.below in
       let same : p ≡ at ((spot L.page).level + 1) ((spot L.page).prefix / 512) = one_position (sym at_k ∙ V.above) in
       let level : p.level ≡ (spot L.page).level + 1 = ap (λ (q : Position). q.level) same in
       let prefix : p.prefix ≡ (spot L.page).prefix / 512 = ap (λ (q : Position). q.prefix) same in
       let index = V.index in
-      at_spot up spot L.page (Under k j) L.below refl ∙ ap Some (same_position (spot L.page) (at (p.level - 1) (p.prefix * 512 + j)) (omega (arith, level)) (omega (arith, prefix, index)))
+      at_spot up spot L.page (Under k j) L.below refl
+      ∙ ap Some (same_position (spot L.page) (at (p.level - 1) (p.prefix * 512 + j)) (omega (arith, level)) (omega (arith, prefix, index)))
 
   -- No two tables that the root reaches stand at one place.
   at_root : (k : ℕ) (p : Position) → stands up spot k ≡ Some p → k ≡ root → p.level < 4 → ⊥
-  at_root k p at_k e lower = let top : p.level ≡ 4 = ap (λ (q : Position). q.level) (one_position (sym at_k ∙ ap (stands up spot) e ∙ root_stands)) in omega (arith, top, lower)
+  at_root k p at_k e lower =
+      let top : p.level ≡ 4 = ap (λ (q : Position). q.level) (one_position (sym at_k ∙ ap (stands up spot) e ∙ root_stands)) in
+      omega (arith, top, lower)
 
   one_chain : (links more k l : ℕ) (p : Position) → Below up root links k → Below up root more l → stands up spot k ≡ Some p → stands up spot l ≡ Some p → k ≡ l
   one_chain zero zero k l p e d at_k at_l = e ∙ sym d
@@ -78,7 +82,8 @@ module _ {pages root set : ℕ} {role pool : ℕ → ℕ} {up : ℕ → Use} {sp
   one_place k l p R Q = one_chain R.0 Q.0 k l p R.1 Q.1
 
   -- The root reaches each table.
-  pub table_or : {X : Type 0} (k : ℕ) (p : Position) → stands up spot k ≡ Some p → (up k ≡ Root → X) → ((m j : ℕ) → up k ≡ Under m j → IsUnder pool up spot k p m j → X) → X
+  pub table_or : {X : Type 0} (k : ℕ) (p : Position) → stands up spot k ≡ Some p → (up k ≡ Root → X)
+      → ((m j : ℕ) → up k ≡ Under m j → IsUnder pool up spot k p m j → X) → X
   table_or {X} k p at_k at_top linked_so = by (up k) refl (spot_of up spot k p at_k).0
     where
       by : (u : Use) → up k ≡ u → is_table u ≡ true → X

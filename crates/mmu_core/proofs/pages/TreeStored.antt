@@ -18,7 +18,8 @@ pub record TablesStay (up more : ℕ → Use) (spot place : ℕ → Position) : 
   pub use_ : (k : ℕ) → is_table (up k) ≡ true → more k ≡ up k
   pub place_ : (k : ℕ) → is_table (up k) ≡ true → place k ≡ spot k
 
-pub still_stands : (up more : ℕ → Use) (spot place : ℕ → Position) → TablesStay up more spot place → (k : ℕ) (p : Position) → stands up spot k ≡ Some p → stands more place k ≡ Some p
+pub still_stands : (up more : ℕ → Use) (spot place : ℕ → Position) → TablesStay up more spot place → (k : ℕ) (p : Position)
+    → stands up spot k ≡ Some p → stands more place k ≡ Some p
 still_stands up more spot place S k p at_k =
     let is = spot_of up spot k p at_k in
     at_spot more place k (up k) (S.use_ k is.0) is.0 ∙ ap Some (S.place_ k is.0 ∙ is.1)
@@ -41,19 +42,24 @@ pub record IsStored (up : ℕ → Use) (k : ℕ) (p : Position) (j old new_ : �
 
 -- What is said of an entry, and of a table, holds where the tables and the live slots stay.
 wanted_stays : (set : ℕ) (before after : ℕ → ℕ) (p : Position) → LiveStays set before after → IsWanted before set p → IsWanted after set p
-wanted_stays set before after p stays W = record { gfn = W.gfn; id = W.id; slot = W.slot; live = live_in_stays set before after W.id W.slot stays W.live; holds = W.holds; run = W.run }
+wanted_stays set before after p stays W =
+    record { gfn = W.gfn; id = W.id; slot = W.slot; live = live_in_stays set before after W.id W.slot stays W.live; holds = W.holds; run = W.run }
 
-entry_stays : (up more : ℕ → Use) (spot place : ℕ → Position) (k : ℕ) (p : Position) (j w : ℕ) → TablesStay up more spot place → EntryPart up k p j w → EntryPart more k p j w
+entry_stays : (up more : ℕ → Use) (spot place : ℕ → Position) (k : ℕ) (p : Position) (j w : ℕ) → TablesStay up more spot place → EntryPart up k p j w
+    → EntryPart more k p j w
 entry_stays up more spot place k p j w S (inl e) = inl e
-entry_stays up more spot place k p j w S (inr (inl L)) = inr (inl (record { page = L.page; upper = L.upper; is = L.is; below = S.use_ L.page (ap is_table L.below) ∙ L.below }))
+entry_stays up more spot place k p j w S (inr (inl L)) =
+    inr (inl (record { page = L.page; upper = L.upper; is = L.is; below = S.use_ L.page (ap is_table L.below) ∙ L.below }))
 entry_stays up more spot place k p j w S (inr (inr L)) = inr (inr L)
 
 -- Tables are kept where each stays that stands, each other one is new, and each entry stays or is stored as it should be.
-module _ {pages root set : ℕ} {role pool : ℕ → ℕ} {up : ℕ → Use} {spot : ℕ → Position} (T : TreePart pages root set role pool up spot) (other after : ℕ → ℕ) (more : ℕ → Use) (place : ℕ → Position)
+module _ {pages root set : ℕ} {role pool : ℕ → ℕ} {up : ℕ → Use} {spot : ℕ → Position} (T : TreePart pages root set role pool up spot)
+    (other after : ℕ → ℕ) (more : ℕ → Use) (place : ℕ → Position)
     (S : TablesStay up more spot place)
     (news : (k : ℕ) (p : Position) → stands more place k ≡ Some p → (stands up spot k ≡ Some p) ⊎ IsNew pages set other after more place k p)
     (roles : (k : ℕ) (p : Position) → stands up spot k ≡ Some p → other k ≡ role k)
-    (words : (k : ℕ) (p : Position) → stands up spot k ≡ Some p → (j : ℕ) → j < 512 → (after (pool_index k j) ≡ pool (pool_index k j)) ⊎ IsStored more k p j (pool (pool_index k j)) (after (pool_index k j)))
+    (words : (k : ℕ) (p : Position) → stands up spot k ≡ Some p → (j : ℕ) → j < 512
+    → (after (pool_index k j) ≡ pool (pool_index k j)) ⊎ IsStored more k p j (pool (pool_index k j)) (after (pool_index k j)))
     (stays : LiveStays set pool after) where
   abbrev Now : ℕ → Position → Type 0
   Now k p = (stands up spot k ≡ Some p) ⊎ IsNew pages set other after more place k p
@@ -70,17 +76,24 @@ module _ {pages root set : ℕ} {role pool : ℕ → ℕ} {up : ℕ → Use} {sp
   entry k p j low (inr N) = inl (N.absent j low)
   entry k p j low (inl is) = by (words k p is j low)
     where
-      by : (after (pool_index k j) ≡ pool (pool_index k j)) ⊎ IsStored more k p j (pool (pool_index k j)) (after (pool_index k j)) → EntryPart more k p j (after (pool_index k j))
+      by : (after (pool_index k j) ≡ pool (pool_index k j)) ⊎ IsStored more k p j (pool (pool_index k j)) (after (pool_index k j))
+          → EntryPart more k p j (after (pool_index k j))
       by (inl same) = subst (EntryPart more k p j) (sym same) (entry_stays up more spot place k p j (pool (pool_index k j)) S (T.entries k p is j low))
       by (inr stored) = stored.entry
 
   still : (c : ℕ) (p : Position) (k j : ℕ) → 1 ≤ p.level → IsUnder pool up spot c p k j → IsUnder after more place c p k j
-  still c p k j from V = record { lower = V.lower; above = still_stands up more spot place S k (at (p.level + 1) (p.prefix / 512)) V.above; index = V.index; link = by (words k (at (p.level + 1) (p.prefix / 512)) V.above j low) }
+  still c p k j from V = record {
+    lower = V.lower;
+    above = still_stands up more spot place S k (at (p.level + 1) (p.prefix / 512)) V.above;
+    index = V.index;
+    link = by (words k (at (p.level + 1) (p.prefix / 512)) V.above j low);
+  }
     where
       low : j < 512
       low = let index = V.index in omega (arith, index)
 
-      by : (after (pool_index k j) ≡ pool (pool_index k j)) ⊎ IsStored more k (at (p.level + 1) (p.prefix / 512)) j (pool (pool_index k j)) (after (pool_index k j)) → after (pool_index k j) ≡ table_word c
+      by : (after (pool_index k j) ≡ pool (pool_index k j)) ⊎ IsStored more k (at (p.level + 1) (p.prefix / 512)) j (pool (pool_index k j)) (after
+          (pool_index k j)) → after (pool_index k j) ≡ table_word c
       by (inl same) = same ∙ V.link
       by (inr stored) = none stored.no_link
         where
@@ -136,15 +149,17 @@ module _ {pages root set : ℕ} {role pool : ℕ → ℕ} {up : ℕ → Use} {sp
   }
 
 -- One entry of a table is stored.
-stored_words : (pool : ℕ → ℕ) (up more : ℕ → Use) (spot : ℕ → Position) (k : ℕ) (p : Position) (j w : ℕ) → stands up spot k ≡ Some p → j < 512 → IsStored more k p j (pool (pool_index k j)) w
-    → (l : ℕ) (q : Position) → stands up spot l ≡ Some q → (i : ℕ) → i < 512
-    → (upd pool (pool_index k j) w (pool_index l i) ≡ pool (pool_index l i)) ⊎ IsStored more l q i (pool (pool_index l i)) (upd pool (pool_index k j) w (pool_index l i))
+stored_words : (pool : ℕ → ℕ) (up more : ℕ → Use) (spot : ℕ → Position) (k : ℕ) (p : Position) (j w : ℕ) → stands up spot k ≡ Some p → j < 512
+    → IsStored more k p j (pool (pool_index k j)) w → (l : ℕ) (q : Position) → stands up spot l ≡ Some q → (i : ℕ) → i < 512
+    → (upd pool (pool_index k j) w (pool_index l i) ≡ pool (pool_index l i))
+    ⊎ IsStored more l q i (pool (pool_index l i)) (upd pool (pool_index k j) w (pool_index l i))
 stored_words pool up more spot k p j w at_k low S l q at_l i small = by (same_or (pool_index l i) (pool_index k j))
   where
     after : ℕ → ℕ
     after = upd pool (pool_index k j) w
 
-    by : (pool_index l i ≡ pool_index k j) ⊎ (pool_index l i ≢ pool_index k j) → (after (pool_index l i) ≡ pool (pool_index l i)) ⊎ IsStored more l q i (pool (pool_index l i)) (after (pool_index l i))
+    by : (pool_index l i ≡ pool_index k j) ⊎ (pool_index l i ≢ pool_index k j)
+        → (after (pool_index l i) ≡ pool (pool_index l i)) ⊎ IsStored more l q i (pool (pool_index l i)) (after (pool_index l i))
     by (inr ne) = inl (upd_other pool (pool_index k j) (pool_index l i) w ne)
     by (inl e) =
         let s = same_pool_word l k i j small low e in
@@ -158,14 +173,17 @@ stored_words pool up more spot k p j w at_k low S l q at_l i small = by (same_or
 pub all_stay : (up : ℕ → Use) (spot : ℕ → Position) → TablesStay up up spot spot
 all_stay up spot = record { use_ = λ k table. refl; place_ = λ k table. refl }
 
-pub entry_stored : {pages root set : ℕ} {role pool : ℕ → ℕ} {up : ℕ → Use} {spot : ℕ → Position} (T : TreePart pages root set role pool up spot) (k : ℕ) (p : Position) (j w : ℕ) → stands up spot k ≡ Some p → j < 512
+pub entry_stored : {pages root set : ℕ} {role pool : ℕ → ℕ} {up : ℕ → Use} {spot : ℕ → Position} (T : TreePart pages root set role pool up spot)
+    (k : ℕ) (p : Position) (j w : ℕ) → stands up spot k ≡ Some p → j < 512
     → IsStored up k p j (pool (pool_index k j)) w → LiveStays set pool (upd pool (pool_index k j) w)
     → TreePart pages root set role (upd pool (pool_index k j) w) up spot
 entry_stored {pages} {root} {set} {role} {pool} {up} {spot} T k p j w at_k low S stays =
-    tree_moved T role (upd pool (pool_index k j) w) up spot (all_stay up spot) (λ l q is. inl is) (λ l q is. refl) (stored_words pool up up spot k p j w at_k low S) stays
+    tree_moved T role (upd pool (pool_index k j) w) up spot (all_stay up spot) (λ l q is. inl is) (λ l q is. refl)
+    (stored_words pool up up spot k p j w at_k low S) stays
 
 -- A table is linked by an absent entry of a table one level above.
-module _ {pages root set : ℕ} {role pool : ℕ → ℕ} {up : ℕ → Use} {spot : ℕ → Position} (T : TreePart pages root set role pool up spot) (k level prefix j page : ℕ) (at_k : stands up spot k ≡ Some (at level prefix)) (upper : 2 ≤ level) (low : j < 512)
+module _ {pages root set : ℕ} {role pool : ℕ → ℕ} {up : ℕ → Use} {spot : ℕ → Position} (T : TreePart pages root set role pool up spot)
+    (k level prefix j page : ℕ) (at_k : stands up spot k ≡ Some (at level prefix)) (upper : 2 ≤ level) (low : j < 512)
     (was : pool (pool_index k j) ≡ absent_word) (none : is_table (up page) ≡ false) where
   -- the words, what the pages are and where the tables stand, behind the link
   abbrev linked_words : ℕ → ℕ
@@ -193,15 +211,18 @@ module _ {pages root set : ℕ} {role pool : ℕ → ℕ} {up : ℕ → Use} {sp
   is_under : IsUnder linked_words more place page below k j
   is_under = record {
     lower = omega (arith, top, upper);
-    above = still_stands up more spot place grow k (at level prefix) at_k ∙ ap Some (same_position (at level prefix) (at (level - 1 + 1) ((prefix * 512 + j) / 512)) (omega (arith, upper)) (omega (arith, low)));
+    above =
+        still_stands up more spot place grow k (at level prefix) at_k
+        ∙ ap Some (same_position (at level prefix) (at (level - 1 + 1) ((prefix * 512 + j) / 512)) (omega (arith, upper)) (omega (arith, low)));
     index = omega (arith, low);
     link = upd_same pool (pool_index k j) (table_word page);
   }
 
-  pub table_linked : page < pages → role page ≡ level - 1 → ((i : ℕ) → i < 512 → pool (pool_index page i) ≡ absent_word) → IsWanted pool set below → LiveStays set pool linked_words
-      → TreePart pages root set role linked_words more place
+  pub table_linked : page < pages → role page ≡ level - 1 → ((i : ℕ) → i < 512 → pool (pool_index page i) ≡ absent_word) → IsWanted pool set below
+      → LiveStays set pool linked_words → TreePart pages root set role linked_words more place
   table_linked there role_is absent wanted stays =
-      tree_moved T role linked_words more place grow news (λ l p is. refl) (stored_words pool up more spot k (at level prefix) j (table_word page) at_k low stored) stays
+      tree_moved T role linked_words more place grow news (λ l p is. refl)
+      (stored_words pool up more spot k (at level prefix) j (table_word page) at_k low stored) stays
     where
       apart : k ≢ page
       apart = differs k (spot_of up spot k (at level prefix) at_k).0
@@ -214,7 +235,9 @@ module _ {pages root set : ℕ} {role pool : ℕ → ℕ} {up : ℕ → Use} {sp
         entry = j;
         below = upd_same up page (Under k j);
         under = is_under;
-        absent = λ i small. upd_other pool (pool_index k j) (pool_index page i) (table_word page) (λ e. apart (sym (same_pool_word page k i j small low e).0)) ∙ absent i small;
+        absent =
+            λ i small. upd_other pool (pool_index k j) (pool_index page i) (table_word page)
+            (λ e. apart (sym (same_pool_word page k i j small low e).0)) ∙ absent i small;
         wanted = wanted_stays set pool linked_words below stays wanted;
       }
 
@@ -222,7 +245,9 @@ module _ {pages root set : ℕ} {role pool : ℕ → ℕ} {up : ℕ → Use} {sp
       at_page = at_spot more place page (Under k j) (upd_same up page (Under k j)) refl ∙ ap Some (upd_same spot page below)
 
       same_elsewhere : (l : ℕ) → l ≢ page → stands more place l ≡ stands up spot l
-      same_elsewhere l ne = ap (λ u. if is_table u then Some (place l) else None) (upd_other up page l (Under k j) ne) ∙ ap (λ p. if is_table (up l) then Some p else None) (upd_other spot page l below ne)
+      same_elsewhere l ne =
+          ap (λ u. if is_table u then Some (place l) else None) (upd_other up page l (Under k j) ne)
+          ∙ ap (λ p. if is_table (up l) then Some p else None) (upd_other spot page l below ne)
 
       news : (l : ℕ) (p : Position) → stands more place l ≡ Some p → (stands up spot l ≡ Some p) ⊎ IsNew pages set role linked_words more place l p
       news l p is = by (same_or l page)
@@ -231,7 +256,8 @@ module _ {pages root set : ℕ} {role pool : ℕ → ℕ} {up : ℕ → Use} {sp
           by (inr ne) = inl (sym (same_elsewhere l ne) ∙ is)
           by (inl e) =
               let same : below ≡ p = one_position (sym at_page ∙ ap (stands more place) (sym e) ∙ is) in
-              inr (subst (λ m. IsNew pages set role linked_words more place m p) (sym e) (subst (IsNew pages set role linked_words more place page) same new_one))
+              inr (subst (λ m. IsNew pages set role linked_words more place m p) (sym e)
+              (subst (IsNew pages set role linked_words more place page) same new_one))
 
       stored : IsStored more k (at level prefix) j (pool (pool_index k j)) (table_word page)
       stored = record { entry = inr (inl (record { page = page; upper = upper; is = refl; below = upd_same up page (Under k j) })); no_link = inr was }

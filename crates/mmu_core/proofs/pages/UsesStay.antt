@@ -49,7 +49,8 @@ claimed true up p a was = one_turned up p (Owned a) (was refl) refl
 claimed false up p a was = λ k. inl refl
 
 -- All steps but a link turn pages only that are no tables.
-pub same_tables : (z : Sizes) (v : View) (a : ℕ) (step : PartStep) → IsPart z v a step → (I : TopicsInvariant z v) → is_link step ≡ false → SameTables I.up (up_after step a (v.hand a).topics v I.up)
+pub same_tables : (z : Sizes) (v : View) (a : ℕ) (step : PartStep) → IsPart z v a step → (I : TopicsInvariant z v) → is_link step ≡ false
+    → SameTables I.up (up_after step a (v.hand a).topics v I.up)
 same_tables z v a part.Claim S I never =
     let t : Topics = (v.hand a).topics in
     let low : tried_bit t.claim < 64 = (bit_at-trailing_zeros w64 t.claim.seen S.needs.1 (I.counters a S.there).seen).0 in
@@ -57,10 +58,12 @@ same_tables z v a part.Claim S I never =
     (λ won. ap is_table (free_use I.uses (64 * t.claim.at + tried_bit t.claim) (page_free (v.words area.PoolMap) t.claim.at (tried_bit t.claim) low ∙ won)))
 same_tables z v a part.Give S I never =
     let o = owned_some (v.hand a).topics S.needs in
-    one_turned I.up (page_owned (v.hand a).topics.owned) Free (ap (λ x. is_table (I.up (page_owned x))) o.1 ∙ ap is_table (owned_use I.uses a o.0 S.there o.1)) refl
+    one_turned I.up (page_owned (v.hand a).topics.owned) Free
+    (ap (λ x. is_table (I.up (page_owned x))) o.1 ∙ ap is_table (owned_use I.uses a o.0 S.there o.1)) refl
 same_tables z v a part.GiveOld S I never =
     let k = leaving_some (v.hand a).topics S.needs.leaves in
-    one_turned I.up (page_left (v.hand a).topics.leaving) Free (ap (λ x. is_table (I.up (page_left x))) k.1 ∙ ap is_table (left_use I.uses a k.0 S.there k.1)) refl
+    one_turned I.up (page_left (v.hand a).topics.leaving) Free
+    (ap (λ x. is_table (I.up (page_left x))) k.1 ∙ ap is_table (left_use I.uses a k.0 S.there k.1)) refl
 same_tables z v a part.Publish S I never =
     let O = set_owned (v.hand a).topics S.needs.owns in
     two_turned I.up (upd I.up (v.words area.Slots 0) (OldSet a)) (page_owned (v.hand a).topics.owned) SlotSet
@@ -77,7 +80,8 @@ stay_same up more spot same = record { use_ = λ k table. by k table (same k); p
     by k table (inl e) = e
     by k table (inr none) = let was = none.0 in absurd (cc (was, table))
 
-pub stood_same : (up more : ℕ → Use) (spot : ℕ → Position) → SameTables up more → (k : ℕ) (p : Position) → stands more spot k ≡ Some p → stands up spot k ≡ Some p
+pub stood_same : (up more : ℕ → Use) (spot : ℕ → Position) → SameTables up more → (k : ℕ) (p : Position) → stands more spot k ≡ Some p
+    → stands up spot k ≡ Some p
 stood_same up more spot same k p at_k = by (same k)
   where
     by : SameTable (up k) (more k) → stands up spot k ≡ Some p
@@ -85,7 +89,8 @@ stood_same up more spot same k p at_k = by (same k)
     by (inr none) = let nowhere : stands more spot k ≡ None = ap (λ (b : Bool). if b then Some (spot k) else None) none.1 in absurd (cc (nowhere, at_k))
 
 -- A page that is linked was owned, so it was no table.
-linked_stay : (won : Bool) (up : ℕ → Use) (spot : ℕ → Position) (page : ℕ) (w : Use) (p : Position) → is_table (up page) ≡ false → TablesStay up (upd_if won up page w) spot (upd_if won spot page p)
+linked_stay : (won : Bool) (up : ℕ → Use) (spot : ℕ → Position) (page : ℕ) (w : Use) (p : Position) → is_table (up page) ≡ false
+    → TablesStay up (upd_if won up page w) spot (upd_if won spot page p)
 linked_stay false up spot page w p none = all_stay up spot
 linked_stay true up spot page w p none = record {
   use_ = at_upd (λ k u. is_table (up k) ≡ true → u ≡ up k) up page w (λ table. absurd (cc (none, table))) (λ k apart table. refl);
@@ -93,11 +98,13 @@ linked_stay true up spot page w p none = record {
 }
 
 -- Each table stays what it is, where it is.
-pub tables_stay : (z : Sizes) (v : View) (a : ℕ) (step : PartStep) → IsPart z v a step → (I : TopicsInvariant z v) → TablesStay I.up (up_after step a (v.hand a).topics v I.up) I.spot (spot_after step (v.hand a).topics v I.spot)
+pub tables_stay : (z : Sizes) (v : View) (a : ℕ) (step : PartStep) → IsPart z v a step → (I : TopicsInvariant z v)
+    → TablesStay I.up (up_after step a (v.hand a).topics v I.up) I.spot (spot_after step (v.hand a).topics v I.spot)
 tables_stay z v a (part.Link gfn) S I =
     let t : Topics = (v.hand a).topics in
     let O = table_owned (t.walk.level - 1) t S.needs.3 in
-    linked_stay (entry_now gfn t v == t.walk.entry) I.up I.spot (page_owned t.owned) (Under (table_page t.walk) (entry_index gfn t.walk.level)) (position_below gfn t)
+    linked_stay (entry_now gfn t v == t.walk.entry) I.up I.spot (page_owned t.owned) (Under (table_page t.walk) (entry_index gfn t.walk.level))
+    (position_below gfn t)
     (ap (λ x. is_table (I.up (page_owned x))) O.is ∙ ap is_table (owned_use I.uses a O.owned S.there O.is))
 tables_stay z v a step S I = stay_same I.up (up_after step a (v.hand a).topics v I.up) I.spot (same_tables z v a step S I refl)
 
@@ -107,4 +114,5 @@ StaysStanding before after = (k : ℕ) (p : Position) → before k ≡ Some p �
 
 pub stays_standing : (z : Sizes) (v : View) (a : ℕ) (step : PartStep) → IsPart z v a step → (I : TopicsInvariant z v)
     → StaysStanding (stands I.up I.spot) (stands (up_after step a (v.hand a).topics v I.up) (spot_after step (v.hand a).topics v I.spot))
-stays_standing z v a step S I = still_stands I.up (up_after step a (v.hand a).topics v I.up) I.spot (spot_after step (v.hand a).topics v I.spot) (tables_stay z v a step S I)
+stays_standing z v a step S I =
+    still_stands I.up (up_after step a (v.hand a).topics v I.up) I.spot (spot_after step (v.hand a).topics v I.spot) (tables_stay z v a step S I)

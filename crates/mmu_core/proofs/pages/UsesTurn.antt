@@ -25,7 +25,8 @@ record PageTurns (at : ℕ) (behind : ℕ → ℕ) (a : ℕ) (x : Option OwnedPa
   leavers : (i : ℕ) → i ≢ a → is_use (OldSet i) w ≡ is_use (OldSet i) u
   outside : is_use Outside w ≡ is_use Outside u
 
-module _ {n pages slots : ℕ} {map : ℕ → ℕ} (hand : ℕ → Held) {up : ℕ → Use} (U : UsePart n pages slots map (λ i. (hand i).topics.owned) (λ i. (hand i).topics.leaving) up)
+module _ {n pages slots : ℕ} {map : ℕ → ℕ} (hand : ℕ → Held) {up : ℕ → Use}
+    (U : UsePart n pages slots map (λ i. (hand i).topics.owned) (λ i. (hand i).topics.leaving) up)
     (a : ℕ) (h : Held) (x : Option OwnedPage) (y : Option ℕ) (lt : a < n) (owns_x : h.topics.owned ≡ x) (leaves_y : h.topics.leaving ≡ y) where
   -- The part is kept where each page turns as the words and the hand say.
   uses_moved : (at : ℕ) (behind : ℕ → ℕ) (after : ℕ → Use) → ((k : ℕ) → PageTurns at behind a x y k (up k) (after k))
@@ -34,17 +35,19 @@ module _ {n pages slots : ℕ} {map : ℕ → ℕ} (hand : ℕ → Held) {up : �
     free = λ k. (turns k).free;
     owner = λ i k.
         at_upd (λ j (g : Held). (nat_lt j n && is_owned g.topics.owned k) ≡ is_use (Owned j) (after k)) hand a h
-        (ap (λ b. b && is_owned h.topics.owned k) (among a n lt) ∙ ap (λ o. is_owned o k) owns_x ∙ (turns k).owner) (λ j apart. U.owner j k ∙ sym ((turns k).owners j apart)) i;
+        (ap (λ b. b && is_owned h.topics.owned k) (among a n lt) ∙ ap (λ o. is_owned o k) owns_x ∙ (turns k).owner)
+        (λ j apart. U.owner j k ∙ sym ((turns k).owners j apart)) i;
     set = λ k. (turns k).set;
     leaver = λ i k.
         at_upd (λ j (g : Held). (nat_lt j n && is_leaving g.topics.leaving k) ≡ is_use (OldSet j) (after k)) hand a h
-        (ap (λ b. b && is_leaving h.topics.leaving k) (among a n lt) ∙ ap (λ o. is_leaving o k) leaves_y ∙ (turns k).leaver) (λ j apart. U.leaver j k ∙ sym ((turns k).leavers j apart)) i;
+        (ap (λ b. b && is_leaving h.topics.leaving k) (among a n lt) ∙ ap (λ o. is_leaving o k) leaves_y ∙ (turns k).leaver)
+        (λ j apart. U.leaver j k ∙ sym ((turns k).leavers j apart)) i;
     outside = λ k. U.outside k ∙ sym (turns k).outside;
   }
 
   -- A page of which the words and the hand say what they said doesn't turn.
-  page_kept : (at : ℕ) (behind : ℕ → ℕ) (k : ℕ) → is_free behind k ≡ is_free map k → is_owned x k ≡ is_owned (hand a).topics.owned k → (at == k) ≡ (slots == k) → is_leaving y k ≡ is_leaving (hand a).topics.leaving k
-      → PageTurns at behind a x y k (up k) (up k)
+  page_kept : (at : ℕ) (behind : ℕ → ℕ) (k : ℕ) → is_free behind k ≡ is_free map k → is_owned x k ≡ is_owned (hand a).topics.owned k
+      → (at == k) ≡ (slots == k) → is_leaving y k ≡ is_leaving (hand a).topics.leaving k → PageTurns at behind a x y k (up k) (up k)
   page_kept at behind k free owned set left = record {
     free = free ∙ U.free k;
     owner = owned ∙ sym (ap (λ b. b && is_owned (hand a).topics.owned k) (among a n lt)) ∙ U.owner a k;
@@ -64,7 +67,8 @@ module _ {n pages slots : ℕ} {map : ℕ → ℕ} (hand : ℕ → Held) {up : �
 
   -- One page turns.
   one_turns : (behind : ℕ → ℕ) (p : ℕ) (u w : Use) → up p ≡ u → PageTurns slots behind a x y p u w
-      → ((k : ℕ) → k ≢ p → (is_free behind k ≡ is_free map k) × (is_owned x k ≡ is_owned (hand a).topics.owned k) × (is_leaving y k ≡ is_leaving (hand a).topics.leaving k))
+      → ((k : ℕ) → k ≢ p → (is_free behind k ≡ is_free map k) × (is_owned x k ≡ is_owned (hand a).topics.owned k)
+      × (is_leaving y k ≡ is_leaving (hand a).topics.leaving k))
       → UsePart n pages slots behind (λ i. (upd hand a h i).topics.owned) (λ i. (upd hand a h i).topics.leaving) (upd up p w)
   one_turns behind p u w is here there =
       uses_moved slots behind (upd up p w)
@@ -72,7 +76,8 @@ module _ {n pages slots : ℕ} {map : ℕ → ℕ} (hand : ℕ → Held) {up : �
       (λ k apart. let s = there k apart in page_kept slots behind k s.0 s.1 refl s.2))
 
   -- No page turns.
-  none_turns : ((k : ℕ) → is_owned x k ≡ is_owned (hand a).topics.owned k) → y ≡ (hand a).topics.leaving → UsePart n pages slots map (λ i. (upd hand a h i).topics.owned) (λ i. (upd hand a h i).topics.leaving) up
+  none_turns : ((k : ℕ) → is_owned x k ≡ is_owned (hand a).topics.owned k) → y ≡ (hand a).topics.leaving
+      → UsePart n pages slots map (λ i. (upd hand a h i).topics.owned) (λ i. (upd hand a h i).topics.leaving) up
   none_turns same left = uses_moved slots map up (λ k. page_kept slots map k refl (same k) refl (ap (λ o. is_leaving o k) left))
 
 -- A claim of bit j of word i, which was won or not.
@@ -83,12 +88,16 @@ filled_owned : (owned : Option OwnedPage) (v k : ℕ) → is_owned (filled_more 
 filled_owned None v k = refl
 filled_owned (Some o) v k = refl
 
-module _ {n pages slots : ℕ} {map : ℕ → ℕ} (hand : ℕ → Held) {up : ℕ → Use} (U : UsePart n pages slots map (λ i. (hand i).topics.owned) (λ i. (hand i).topics.leaving) up) (a : ℕ) (h : Held) (lt : a < n) where
-  pub claim_kept : (i j : ℕ) (won : Bool) → j < 64 → has_bit j (map i) ≡ won → (hand a).topics.owned ≡ None → h.topics.owned ≡ new_owned won i j → h.topics.leaving ≡ (hand a).topics.leaving
-      → UsePart n pages slots (upd map i (bit_and (map i) (bit_not w64 (2 ^ j)))) (λ l. (upd hand a h l).topics.owned) (λ l. (upd hand a h l).topics.leaving) (upd_if won up (64 * i + j) (Owned a))
+module _ {n pages slots : ℕ} {map : ℕ → ℕ} (hand : ℕ → Held) {up : ℕ → Use}
+    (U : UsePart n pages slots map (λ i. (hand i).topics.owned) (λ i. (hand i).topics.leaving) up) (a : ℕ) (h : Held) (lt : a < n) where
+  pub claim_kept : (i j : ℕ) (won : Bool) → j < 64 → has_bit j (map i) ≡ won → (hand a).topics.owned ≡ None → h.topics.owned ≡ new_owned won i j
+      → h.topics.leaving ≡ (hand a).topics.leaving
+      → UsePart n pages slots (upd map i (bit_and (map i) (bit_not w64 (2 ^ j)))) (λ l. (upd hand a h l).topics.owned)
+      (λ l. (upd hand a h l).topics.leaving) (upd_if won up (64 * i + j) (Owned a))
   claim_kept i j true low found none is leaves =
       let free : up (64 * i + j) ≡ Free = free_use U (64 * i + j) (page_free map i j low ∙ found) in
-      one_turns hand U a h (new_owned true i j) (hand a).topics.leaving lt is leaves (upd map i (bit_and (map i) (bit_not w64 (2 ^ j)))) (64 * i + j) Free (Owned a) free
+      one_turns hand U a h (new_owned true i j) (hand a).topics.leaving lt is leaves (upd map i (bit_and (map i) (bit_not w64 (2 ^ j)))) (64 * i + j)
+      Free (Owned a) free
       (record {
         free = free_cleared map i j low (64 * i + j) ∙ upd_same (is_free map) (64 * i + j) false;
         owner = itself (64 * i + j) ∙ sym (itself a);
@@ -98,17 +107,26 @@ module _ {n pages slots : ℕ} {map : ℕ → ℕ} (hand : ℕ → Held) {up : �
         leavers = λ l apart. refl;
         outside = refl;
       })
-      (λ k apart. (free_cleared map i j low k ∙ upd_other (is_free map) (64 * i + j) k false apart, other (64 * i + j) k (λ e. apart (sym e)) ∙ sym (ap (λ o. is_owned o k) none), refl))
+      (λ k apart. (
+        free_cleared map i j low k ∙ upd_other (is_free map) (64 * i + j) k false apart,
+        other (64 * i + j) k (λ e. apart (sym e)) ∙ sym (ap (λ o. is_owned o k) none),
+        refl,
+      ))
   claim_kept i j false low found none is leaves =
       uses_moved hand U a h None (hand a).topics.leaving lt is leaves slots (upd map i (bit_and (map i) (bit_not w64 (2 ^ j)))) up
-      (λ k. page_kept hand U a h None (hand a).topics.leaving lt is leaves slots (upd map i (bit_and (map i) (bit_not w64 (2 ^ j)))) k (clear k) (sym (ap (λ o. is_owned o k) none)) refl refl)
+      (λ k. page_kept hand U a h None (hand a).topics.leaving lt is leaves slots (upd map i (bit_and (map i) (bit_not w64 (2 ^ j)))) k (clear k)
+      (sym (ap (λ o. is_owned o k) none)) refl refl)
     where
       clear : (k : ℕ) → is_free (upd map i (bit_and (map i) (bit_not w64 (2 ^ j)))) k ≡ is_free map k
-      clear k = free_cleared map i j low k ∙ at_upd (λ l b. b ≡ is_free map l) (is_free map) (64 * i + j) false (sym (page_free map i j low ∙ found)) (λ l apart. refl) k
+      clear k =
+          free_cleared map i j low k
+          ∙ at_upd (λ l b. b ≡ is_free map l) (is_free map) (64 * i + j) false (sym (page_free map i j low ∙ found)) (λ l apart. refl) k
 
   -- The page that is owned is given back, or linked.
-  pub give_kept : (i j : ℕ) (o : OwnedPage) → j < 64 → 64 * i + j ≡ o.page → (hand a).topics.owned ≡ Some o → h.topics.owned ≡ None → h.topics.leaving ≡ (hand a).topics.leaving
-      → UsePart n pages slots (upd map i (bit_or (map i) (2 ^ j))) (λ l. (upd hand a h l).topics.owned) (λ l. (upd hand a h l).topics.leaving) (upd up o.page Free)
+  pub give_kept : (i j : ℕ) (o : OwnedPage) → j < 64 → 64 * i + j ≡ o.page → (hand a).topics.owned ≡ Some o → h.topics.owned ≡ None
+      → h.topics.leaving ≡ (hand a).topics.leaving
+      → UsePart n pages slots (upd map i (bit_or (map i) (2 ^ j))) (λ l. (upd hand a h l).topics.owned) (λ l. (upd hand a h l).topics.leaving)
+      (upd up o.page Free)
   give_kept i j o low at owned is leaves =
       let owned_is : up o.page ≡ Owned a = owned_use U a o lt owned in
       one_turns hand U a h None (hand a).topics.leaving lt is leaves (upd map i (bit_or (map i) (2 ^ j))) o.page (Owned a) Free owned_is
@@ -121,9 +139,14 @@ module _ {n pages slots : ℕ} {map : ℕ → ℕ} (hand : ℕ → Held) {up : �
         leavers = λ l apart. refl;
         outside = refl;
       })
-      (λ k apart. (free_set map i j low k ∙ upd_other (is_free map) (64 * i + j) k true (λ e. apart (e ∙ at)), sym (other o.page k (λ e. apart (sym e))) ∙ sym (ap (λ x. is_owned x k) owned), refl))
+      (λ k apart. (
+        free_set map i j low k ∙ upd_other (is_free map) (64 * i + j) k true (λ e. apart (e ∙ at)),
+        sym (other o.page k (λ e. apart (sym e))) ∙ sym (ap (λ x. is_owned x k) owned),
+        refl,
+      ))
 
-  pub link_kept : (o : OwnedPage) (won : Bool) (page index : ℕ) → (hand a).topics.owned ≡ Some o → h.topics.owned ≡ (if won then None else Some o) → h.topics.leaving ≡ (hand a).topics.leaving
+  pub link_kept : (o : OwnedPage) (won : Bool) (page index : ℕ) → (hand a).topics.owned ≡ Some o → h.topics.owned ≡ (if won then None else Some o)
+      → h.topics.leaving ≡ (hand a).topics.leaving
       → UsePart n pages slots map (λ l. (upd hand a h l).topics.owned) (λ l. (upd hand a h l).topics.leaving) (upd_if won up o.page (Under page index))
   link_kept o true page index owned is leaves =
       let owned_is : up o.page ≡ Owned a = owned_use U a o lt owned in
@@ -138,7 +161,8 @@ module _ {n pages slots : ℕ} {map : ℕ → ℕ} (hand : ℕ → Held) {up : �
         outside = refl;
       })
       (λ k apart. (refl, sym (other o.page k (λ e. apart (sym e))) ∙ sym (ap (λ x. is_owned x k) owned), refl))
-  link_kept o false page index owned is leaves = none_turns hand U a h (Some o) (hand a).topics.leaving lt is leaves (λ k. sym (ap (λ x. is_owned x k) owned)) refl
+  link_kept o false page index owned is leaves =
+      none_turns hand U a h (Some o) (hand a).topics.leaving lt is leaves (λ k. sym (ap (λ x. is_owned x k) owned)) refl
 
   -- A slot set is published in place of another one, which leaves.
   pub publish_kept : (o : OwnedPage) → (hand a).topics.owned ≡ Some o → (hand a).topics.leaving ≡ None → h.topics.owned ≡ None → h.topics.leaving ≡ Some slots
@@ -148,7 +172,8 @@ module _ {n pages slots : ℕ} {map : ℕ → ℕ} (hand : ℕ → Held) {up : �
       (at_upd (λ k w. PageTurns o.page map a None (Some slots) k (up k) w) (upd up slots (OldSet a)) o.page SlotSet
       (subst (λ u. PageTurns o.page map a None (Some slots) o.page u SlotSet) (sym owned_is) now_set)
       (λ k apart. at_upd (λ l w. l ≢ o.page → PageTurns o.page map a None (Some slots) l (up l) w) up slots (OldSet a)
-      (λ apart. subst (λ u. PageTurns o.page map a None (Some slots) slots u (OldSet a)) (sym (set_use U)) (now_old apart)) (λ l ne apart. elsewhere l ne apart) k apart))
+      (λ apart. subst (λ u. PageTurns o.page map a None (Some slots) slots u (OldSet a)) (sym (set_use U)) (now_old apart))
+      (λ l ne apart. elsewhere l ne apart) k apart))
     where
       owned_is : up o.page ≡ Owned a
       owned_is = owned_use U a o lt owned
@@ -181,7 +206,8 @@ module _ {n pages slots : ℕ} {map : ℕ → ℕ} (hand : ℕ → Held) {up : �
           (other o.page k (λ e. apart (sym e)) ∙ sym (other slots k (λ e. ne (sym e)))) (other slots k (λ e. ne (sym e)) ∙ sym (ap (λ x. is_leaving x k) none))
 
   -- The page that left is given back.
-  pub give_old_kept : (i j p : ℕ) → j < 64 → 64 * i + j ≡ p → (hand a).topics.owned ≡ None → (hand a).topics.leaving ≡ Some p → h.topics.owned ≡ None → h.topics.leaving ≡ None
+  pub give_old_kept : (i j p : ℕ) → j < 64 → 64 * i + j ≡ p → (hand a).topics.owned ≡ None → (hand a).topics.leaving ≡ Some p → h.topics.owned ≡ None
+      → h.topics.leaving ≡ None
       → UsePart n pages slots (upd map i (bit_or (map i) (2 ^ j))) (λ l. (upd hand a h l).topics.owned) (λ l. (upd hand a h l).topics.leaving) (upd up p Free)
   give_old_kept i j p low at none left is leaves =
       let left_is : up p ≡ OldSet a = left_use U a p lt left in
@@ -195,8 +221,15 @@ module _ {n pages slots : ℕ} {map : ℕ → ℕ} (hand : ℕ → Held) {up : �
         leavers = λ l apart. sym (other l a apart);
         outside = refl;
       })
-      (λ k apart. (free_set map i j low k ∙ upd_other (is_free map) (64 * i + j) k true (λ e. apart (e ∙ at)), sym (ap (λ x. is_owned x k) none), sym (other p k (λ e. apart (sym e))) ∙ sym (ap (λ x. is_leaving x k) left)))
+      (λ k apart. (
+        free_set map i j low k ∙ upd_other (is_free map) (64 * i + j) k true (λ e. apart (e ∙ at)),
+        sym (ap (λ x. is_owned x k) none),
+        sym (other p k (λ e. apart (sym e))) ∙ sym (ap (λ x. is_leaving x k) left),
+      ))
 
   -- One more word of a page is filled: its owner owns it still.
-  pub fill_kept : (v : ℕ) → h.topics.owned ≡ filled_more (hand a).topics.owned v → h.topics.leaving ≡ (hand a).topics.leaving → UsePart n pages slots map (λ l. (upd hand a h l).topics.owned) (λ l. (upd hand a h l).topics.leaving) up
-  fill_kept v is leaves = none_turns hand U a h (filled_more (hand a).topics.owned v) (hand a).topics.leaving lt is leaves (λ k. filled_owned (hand a).topics.owned v k) refl
+  pub fill_kept : (v : ℕ) → h.topics.owned ≡ filled_more (hand a).topics.owned v → h.topics.leaving ≡ (hand a).topics.leaving
+      → UsePart n pages slots map (λ l. (upd hand a h l).topics.owned) (λ l. (upd hand a h l).topics.leaving) up
+  fill_kept v is leaves =
+      none_turns hand U a h (filled_more (hand a).topics.owned v) (hand a).topics.leaving lt is leaves
+      (λ k. filled_owned (hand a).topics.owned v k) refl

@@ -6,7 +6,6 @@ use Rattle.std.proofs.lemmas.Bool.Decides.{nat_tests}
 use Rattle.core_views.specs.declared.sizes.Sizes.{Sizes}
 use Rattle.core_views.specs.declared.topics.Flush.{Flush}
 use Rattle.core_views.specs.declared.topics.Invalidated.{Invalidated}
-use Rattle.core_views.specs.declared.topics.Invalidations.{Invalidations}
 use Rattle.core_views.specs.declared.topics.Topics.{Topics}
 use Rattle.core_views.specs.Held.{Held}
 use Rattle.core_views.specs.Sizes.{actors_of}
@@ -18,18 +17,15 @@ use Rattle.spte_words.proofs.ReadsEntries.{kind_of_absent, kind_of_table}
 use Rattle.spte_words.proofs.Spans.{span_1, span_above}
 use Rattle.part_steps.specs.declared.part_step.PartStep.{PartStep}
 use Rattle.part_steps.specs.declared.part_step.PartStep.TheVariants as part
-use Rattle.part_steps.specs.InvalidationHoldings.{MayCount, SawNoLeaf, knows_count, leads_on}
-use Rattle.part_steps.specs.PartHoldings.{IsFresh}
+use Rattle.part_steps.specs.InvalidationHoldings.{MayCount, SawNoLeaf, leads_on}
 use Rattle.part_steps.specs.PartTasks.{entry_index, part_task, table_page}
 use Rattle.part_steps.specs.PartTopics.{part_topics}
 use Rattle.part_steps.specs.StayTopics.{has_lock, no_flush}
 use Rattle.mmu_core.specs.invariant.AllOver.{AllOver, IsEntryOver}
 use Rattle.mmu_core.specs.invariant.InvalidatedPart.{IsIn, IsNoLeafIn, ZappedPart}
-use Rattle.mmu_core.specs.invariant.InvalidationsPart.{KnownRangePart}
 use Rattle.mmu_core.specs.invariant.TopicsInvariant.{TopicsInvariant}
 use Rattle.mmu_core.specs.invariant.TreePart.{EntryPart, Position, Reaches, TreePart, Use, at, is_table, stands}
 use Rattle.mmu_core.specs.machine.View.{View, answer_in, part_stepped}
-use Rattle.mmu_core.proofs.held.OpenFrames.{none_opened}
 use Rattle.mmu_core.proofs.machine.Columns.{at_upd, same_or}
 use Rattle.mmu_core.proofs.machine.PartStepping.{IsPart}
 use Rattle.mmu_core.proofs.pages.AllOver.{IsLight, OfNewLeaf, over_step, reached_table}

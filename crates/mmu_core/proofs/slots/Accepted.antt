@@ -1,5 +1,6 @@
 -- A slot whose words are stored may be set: its ID isn't live, it fits the machine, and it has nothing in common with a live one.
-use Rattle.std.proofs.Common.{◌≡◌, ◌≢◌, ◌⊎◌, inl, inr, ◌+◌, ◌<◌, ◌≤◌, ◌==◌, ◌&&◌, ◌||◌, ℕ, zero, suc, List, [], ◌∷◌, ◌++◌, length, length-append, get_or, take, refl, sym, subst, ap, ◌∙◌, arith}
+use Rattle.std.proofs.Common.{◌≡◌, ◌≢◌, ◌⊎◌, inl, inr, ◌+◌, ◌<◌, ◌≤◌, ◌==◌, ◌&&◌, ◌||◌, ℕ, zero, suc, List, [], ◌∷◌, ◌++◌, length, length-append}
+use Rattle.std.proofs.Common.{get_or, take, refl, sym, subst, ap, ◌∙◌, arith}
 use Rattle.std.proofs.Math.Seq.{get_or-append_seam}
 use Rattle.std.proofs.lemmas.Bool.{or_parts}
 use Rattle.std.proofs.lemmas.Bool.Decides.{Decides-eqb, nat_tests}
@@ -57,10 +58,12 @@ not_set_before n lines id slot lt is distinct has =
     let before : List ℕ = slot_ids (take n lines) in
     let ids : List ℕ = before ++ id ∷ at.0 in
     let apart : (get_or ids has.0 id == get_or ids (length before) id) ≡ false =
-    apart_from_distinct (λ i j. i == j) ids has.0 (length before) id (subst (IsDistinct (λ i j. i == j)) at.1 distinct) has.1 (omega (arith, length-append before (id ∷ at.0))) in
+    apart_from_distinct (λ i j. i == j) ids has.0 (length before) id (subst (IsDistinct (λ i j. i == j)) at.1 distinct) has.1
+    (omega (arith, length-append before (id ∷ at.0))) in
     let first : get_or ids has.0 id ≡ id = get_or_append_left before (id ∷ at.0) id has.0 has.1 ∙ has.2 in
     let second : get_or ids (length before) id ≡ id = get_or-append_seam before id at.0 id in
-    let same : (get_or ids has.0 id == get_or ids (length before) id) ≡ true = (Decides-eqb (get_or ids has.0 id) (get_or ids (length before) id)).1 (first ∙ sym second) in
+    let same : (get_or ids has.0 id == get_or ids (length before) id) ≡ true =
+    (Decides-eqb (get_or ids has.0 id) (get_or ids (length before) id)).1 (first ∙ sym second) in
     absurd (cc (same, apart))
 
 -- the IDs of a record, and of the slots in it
@@ -72,7 +75,8 @@ same_keys (e ∷ es) = ap (λ (ids : List ℕ). e.0 ∷ ids) (same_keys es)
 live_is_listed : (pool : ℕ → ℕ) (set n id : ℕ) → id < n → live_at pool set id ≡ true → Contains (keys_of (slots_below pool set n)) id
 live_is_listed pool set zero id lt live = absurd (omega arith)
 live_is_listed pool set (suc n) id lt live =
-    subst (λ (ids : List ℕ). Contains ids id) (sym (map-append (λ (e : ℕ × Slot). e.0) (slots_below pool set n) (last (live_at pool set n)))) (case (same_or id n) (λ less. live_is_listed pool set n id less live))
+    subst (λ (ids : List ℕ). Contains ids id) (sym (map-append (λ (e : ℕ × Slot). e.0) (slots_below pool set n) (last (live_at pool set n))))
+    (case (same_or id n) (λ less. live_is_listed pool set n id less live))
   where
     last : Bool → Slots
     last b = if b then (n, slot_at pool set n) ∷ [] else []
@@ -84,14 +88,18 @@ live_is_listed pool set (suc n) id lt live =
     case : (id ≡ n) ⊎ (id ≢ n) → (id < n → Contains (keys_of (slots_below pool set n)) id)
         → Contains (keys_of (slots_below pool set n) ++ keys_of (last (live_at pool set n))) id
     case (inl e) before =
-        Contains-append_right (keys_of (slots_below pool set n)) (keys_of (last (live_at pool set n))) id (here e (live_at pool set n) (ap (live_at pool set) (sym e) ∙ live))
+        Contains-append_right (keys_of (slots_below pool set n)) (keys_of (last (live_at pool set n))) id
+        (here e (live_at pool set n) (ap (live_at pool set) (sym e) ∙ live))
     case (inr apart) before = Contains-append_left (keys_of (slots_below pool set n)) (keys_of (last (live_at pool set n))) id (before (omega arith))
 
 -- What no slot of the list passes, no live slot does.
 none_listed : (test : ℕ × Slot → Bool) (pool : ℕ → ℕ) (set n j : ℕ) → j < n → live_at pool set j ≡ true
     → list_any test (slots_below pool set n) ≡ false → test (j, slot_at pool set j) ≡ false
 none_listed test pool set zero j lt live none = absurd (omega arith)
-none_listed test pool set (suc n) j lt live none = case (same_or j n) (or_parts (list_any test (slots_below pool set n)) (list_any test (last (live_at pool set n))) (sym (list_any-append test (slots_below pool set n) (last (live_at pool set n))) ∙ none)) (λ less before. none_listed test pool set n j less live before)
+none_listed test pool set (suc n) j lt live none =
+    case (same_or j n) (or_parts (list_any test (slots_below pool set n)) (list_any test (last (live_at pool set n)))
+    (sym (list_any-append test (slots_below pool set n) (last (live_at pool set n))) ∙ none))
+    (λ less before. none_listed test pool set n j less live before)
   where
     last : Bool → Slots
     last b = if b then (n, slot_at pool set n) ∷ [] else []
@@ -131,11 +139,13 @@ may_be z pool set id slot P not_live = record {
   guest_apart = λ gfn j low live holds too.
       let s : Slot = slot_at pool set j in
       in_both slot.base (slot.base + slot.pages) s.base (s.base + s.pages) gfn too holds
-      (other j id (share_guest_frames slot s) (apart j live) (none_listed (λ e. not (e.0 == id) && share_guest_frames slot e.1) pool set 32 j (omega (arith, low)) live P.guest));
+      (other j id (share_guest_frames slot s) (apart j live)
+      (none_listed (λ e. not (e.0 == id) && share_guest_frames slot e.1) pool set 32 j (omega (arith, low)) live P.guest));
   host_apart = λ page j low live has too.
       let s : Slot = slot_at pool set j in
       in_both slot.host (slot.host + slot.pages) s.host (s.host + s.pages) page too has
-      (other j id (share_host_pages slot s) (apart j live) (none_listed (λ e. not (e.0 == id) && share_host_pages slot e.1) pool set 32 j (omega (arith, low)) live P.host));
+      (other j id (share_host_pages slot s) (apart j live)
+      (none_listed (λ e. not (e.0 == id) && share_host_pages slot e.1) pool set 32 j (omega (arith, low)) live P.host));
 }
   where
     apart : (j : ℕ) → live_at pool set j ≡ true → j ≢ id
@@ -154,8 +164,12 @@ not_live_yet z pool set i h id slot O left is R low done = case (live_at pool se
   where
     case : (b : Bool) → live_at pool set id ≡ b → live_at pool set id ≡ false
     case true live =
-        let listed : Contains (keys_of h.slots) id = subst (λ (ids : List ℕ). Contains ids id) (ap keys_of (sym (record_flat pool set h.slots R)) ∙ same_keys h.slots) (live_is_listed pool set 32 id (omega (arith, low)) live) in
-        absurd (not_set_before (length h.answers) h.lines id slot left is O.distinct (All-contains (Contains (slot_ids (take (length h.answers) h.lines))) (keys_of h.slots) id (subst (λ n. All (Contains (slot_ids (take n h.lines))) (keys_of h.slots)) done O.answered) listed))
+        let listed : Contains (keys_of h.slots) id =
+        subst (λ (ids : List ℕ). Contains ids id) (ap keys_of (sym (record_flat pool set h.slots R)) ∙ same_keys h.slots)
+        (live_is_listed pool set 32 id (omega (arith, low)) live) in
+        absurd
+        (not_set_before (length h.answers) h.lines id slot left is O.distinct (All-contains (Contains (slot_ids (take (length h.answers) h.lines)))
+        (keys_of h.slots) id (subst (λ n. All (Contains (slot_ids (take n h.lines))) (keys_of h.slots)) done O.answered) listed))
     case false e = e
 
 -- A line whose set isn't published yet, and that the record accepts, may set its slot.
@@ -166,5 +180,7 @@ pub may_be_set : (z : Sizes) (v : View) (a : ℕ) (line : Line) (id : ℕ) (slot
 may_be_set z v a line id slot p S not_yet I R accepts =
     let h : Held = v.hand a in
     let P = passes z.pages id slot h.slots accepts in
-    may_be z (v.words area.Pool) (v.words area.Slots 0) id slot (subst (Passes z.pages id slot) (record_flat (v.words area.Pool) (v.words area.Slots 0) h.slots R) P)
-    (not_live_yet z (v.words area.Pool) (v.words area.Slots 0) a h id slot (I.lines a S.there) S.left (ap (λ (l : Line). l.command) (sym S.next) ∙ S.command_is) R P.low (none_done z v a line (SetSlot id slot) p S not_yet))
+    may_be z (v.words area.Pool) (v.words area.Slots 0) id slot
+    (subst (Passes z.pages id slot) (record_flat (v.words area.Pool) (v.words area.Slots 0) h.slots R) P)
+    (not_live_yet z (v.words area.Pool) (v.words area.Slots 0) a h id slot (I.lines a S.there) S.left
+    (ap (λ (l : Line). l.command) (sym S.next) ∙ S.command_is) R P.low (none_done z v a line (SetSlot id slot) p S not_yet))

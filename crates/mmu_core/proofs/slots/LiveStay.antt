@@ -3,11 +3,8 @@ use Rattle.std.proofs.Common.{◌≡◌, ◌≤◌, ℕ, List, refl, subst, ap, 
 use Rattle.std.proofs.lemmas.List.Elements.{All-weaker}
 use Rattle.std.specs.Prelude.{true}
 use Rattle.core_views.specs.declared.cache.Translation.{Translation}
-use Rattle.core_views.specs.declared.place.AccessPlace.{AccessPlace}
-use Rattle.core_views.specs.declared.place.AccessPlace.TheVariants.{Touch}
 use Rattle.core_views.specs.declared.sizes.Sizes.{Sizes}
 use Rattle.core_views.specs.declared.trace.Slot.{Slot as SlotOf}
-use Rattle.core_views.specs.Held.{Held}
 use Rattle.core_views.specs.Slots.{contains, has_host_page}
 use Rattle.mmu_core.specs.invariant.Invariant.{IsLeafFor, IsLiveIn, SlotSetPart}
 use Rattle.part_steps.specs.SetWords.{set_role}
@@ -35,14 +32,19 @@ module _ (before : ℕ → ℕ) (set : ℕ) (after : ℕ → ℕ) (other : ℕ) 
       (λ t is. leaf_stays host t.gfn t.leaf is) ts each
 
 -- Each live slot was live, and the same: the set is one still.
-pub set_stays : (z : Sizes) (role behind before : ℕ → ℕ) (set : ℕ) (after : ℕ → ℕ) (other : ℕ) → StayLive after other before set → behind other ≡ set_role → SlotSetPart z set role before → SlotSetPart z other behind after
+pub set_stays : (z : Sizes) (role behind before : ℕ → ℕ) (set : ℕ) (after : ℕ → ℕ) (other : ℕ) → StayLive after other before set
+    → behind other ≡ set_role → SlotSetPart z set role before → SlotSetPart z other behind after
 set_stays z role behind before set after other was role_is part = record {
   role_is = role_is;
-  fits = λ id low live. subst (Fits z) (slot_stays after other before set was id low live) (part.fits id low (live_stays after other before set was id low live));
+  fits =
+      λ id low live. subst (Fits z) (slot_stays after other before set was id low live)
+      (part.fits id low (live_stays after other before set was id low live));
   guest_apart = λ gfn i j low under live more holds too.
       part.guest_apart gfn i j low under (live_stays after other before set was i low live) (live_stays after other before set was j under more)
-      (ap (contains gfn) (slot_stays after other before set was i low live) ∙ holds) (ap (contains gfn) (slot_stays after other before set was j under more) ∙ too);
+      (ap (contains gfn) (slot_stays after other before set was i low live) ∙ holds)
+      (ap (contains gfn) (slot_stays after other before set was j under more) ∙ too);
   host_apart = λ page i j low under live more has too.
       part.host_apart page i j low under (live_stays after other before set was i low live) (live_stays after other before set was j under more)
-      (ap (has_host_page page) (slot_stays after other before set was i low live) ∙ has) (ap (has_host_page page) (slot_stays after other before set was j under more) ∙ too);
+      (ap (has_host_page page) (slot_stays after other before set was i low live) ∙ has)
+      (ap (has_host_page page) (slot_stays after other before set was j under more) ∙ too);
 }

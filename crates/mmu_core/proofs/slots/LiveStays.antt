@@ -49,7 +49,8 @@ module _ (set : ℕ) (before after : ℕ → ℕ) (id : ℕ) (stays : LiveStays 
 
   pub slot_stays : slot_at after set id ≡ slot_at before set id
   slot_stays =
-      same_slot (slot_at after set id) (slot_at before set id) (stays.each id Base low live) (stays.each id Pages low live) (stays.each id Host low live) (ap flags_read_only (stays.each id Flags low live))
+      same_slot (slot_at after set id) (slot_at before set id) (stays.each id Base low live) (stays.each id Pages low live)
+      (stays.each id Host low live) (ap flags_read_only (stays.each id Flags low live))
 
 pub live_in_stays : (set : ℕ) (before after : ℕ → ℕ) (id : ℕ) (slot : SlotOf) → LiveStays set before after → IsLiveIn before set id slot
     → IsLiveIn after set id slot

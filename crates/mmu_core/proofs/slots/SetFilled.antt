@@ -38,7 +38,8 @@ live_slot pool set id = if live_at pool set id then Some (memory_slot_at pool se
 none_from : (pool : ℕ → ℕ) (set n id : ℕ) → n ≤ id → recorded_at id (memory_slots_below pool set n) ≡ None
 none_from pool set zero id le = refl
 none_from pool set (suc n) id le =
-    not_last n id (memory_slot_at pool set n) (memory_slots_below pool set n) (live_at pool set n) (λ e. absurd (omega arith)) ∙ none_from pool set n id (omega arith)
+    not_last n id (memory_slot_at pool set n) (memory_slots_below pool set n) (live_at pool set n) (λ e. absurd (omega arith))
+    ∙ none_from pool set n id (omega arith)
 
 -- the last slot of a list, where the others have other IDs
 is_last : (id : ℕ) (m : MemorySlot) (xs : MemorySlots) (b : Bool) → recorded_at id xs ≡ None
@@ -78,7 +79,8 @@ none_is_live : flags_live 0 ≡ false
 unfolding flags_live
 none_is_live = refl
 
-module _ (pool : ℕ → ℕ) (page : ℕ) (slots : MemorySlots) (filled : (j : ℕ) → j < 512 → pool (pool_index page j) ≡ set_word slots j) (id : ℕ) (low : id ≤ 31) where
+module _ (pool : ℕ → ℕ) (page : ℕ) (slots : MemorySlots) (filled : (j : ℕ) → j < 512 → pool (pool_index page j) ≡ set_word slots j) (id : ℕ)
+    (low : id ≤ 31) where
   field_is : (f : SlotField) → pool (slot_index page id f) ≡ word_of_slot (recorded_at id slots) (field_number f)
   field_is f =
       let n = is_number f in
@@ -98,17 +100,20 @@ module _ (pool : ℕ → ℕ) (page : ℕ) (slots : MemorySlots) (filled : (j : 
   pub some_slot : (m : MemorySlot) → recorded_at id slots ≡ Some m → slot_at pool page id ≡ m.slot
   some_slot m some =
       same_slot (slot_at pool page id) m.slot
-      (field_is field.Base ∙ ap (λ x. word_of_slot x 0) some) (field_is field.Pages ∙ ap (λ x. word_of_slot x 1) some) (field_is field.Host ∙ ap (λ x. word_of_slot x 2) some)
+      (field_is field.Base ∙ ap (λ x. word_of_slot x 0) some) (field_is field.Pages ∙ ap (λ x. word_of_slot x 1) some)
+      (field_is field.Host ∙ ap (λ x. word_of_slot x 2) some)
       (ap flags_read_only (field_is field.Flags ∙ ap (λ x. word_of_slot x 3) some) ∙ flags_are_read_only true m.slot.read_only m.logged)
 
   pub some_memory_slot : (m : MemorySlot) → recorded_at id slots ≡ Some m → memory_slot_at pool page id ≡ m
   some_memory_slot m some =
       ap (λ (s : Slot). record { slot = s; logged = flags_logged (pool (slot_index page id field.Flags)) }) (some_slot m some)
-      ∙ ap (λ logged. record { slot = m.slot; logged = logged }) (ap flags_logged (field_is field.Flags ∙ ap (λ x. word_of_slot x 3) some) ∙ flags_are_logged true m.slot.read_only m.logged)
+      ∙ ap (λ logged. record { slot = m.slot; logged = logged })
+      (ap flags_logged (field_is field.Flags ∙ ap (λ x. word_of_slot x 3) some) ∙ flags_are_logged true m.slot.read_only m.logged)
 
 -- ---- The page with one slot more than the published set has.
 
-module _ (pool : ℕ → ℕ) (set page id : ℕ) (slot : Slot) (slots : MemorySlots) (R : RecordPart pool set slots) (low : id ≤ 31) (not_yet : live_at pool set id ≡ false)
+module _ (pool : ℕ → ℕ) (set page id : ℕ) (slot : Slot) (slots : MemorySlots) (R : RecordPart pool set slots) (low : id ≤ 31)
+    (not_yet : live_at pool set id ≡ false)
     (filled : (j : ℕ) → j < 512 → pool (pool_index page j) ≡ set_word (after_set id slot slots) j) where
   abbrev new_one : MemorySlot
   new_one = record { slot = slot; logged = is_logged id slots }

@@ -12,7 +12,8 @@ use Rattle.mmu_core.proofs.slots.Accepted.{MayBeSet}
 use Rattle.mmu_core.proofs.machine.Columns.{same_or}
 
 module _ (z : Sizes) (pool : ℕ → ℕ) (set page id : ℕ) (slot : Slot) (may : MayBeSet z pool set id slot) (new_slot : slot_at pool page id ≡ slot)
-    (others_live : (i : ℕ) → i ≤ 31 → i ≢ id → live_at pool page i ≡ live_at pool set i) (others_same : (i : ℕ) → i ≤ 31 → i ≢ id → live_at pool set i ≡ true → slot_at pool page i ≡ slot_at pool set i) where
+    (others_live : (i : ℕ) → i ≤ 31 → i ≢ id → live_at pool page i ≡ live_at pool set i)
+    (others_same : (i : ℕ) → i ≤ 31 → i ≢ id → live_at pool set i ≡ true → slot_at pool page i ≡ slot_at pool set i) where
   -- what is live in the page and isn't the new slot was live, and the same
   was_live : (j : ℕ) → j ≤ 31 → j ≢ id → live_at pool page j ≡ true → live_at pool set j ≡ true
   was_live j below ne live = sym (others_live j below ne) ∙ live
@@ -23,7 +24,8 @@ module _ (z : Sizes) (pool : ℕ → ℕ) (set page id : ℕ) (slot : Slot) (may
   new_same : (j : ℕ) → j ≡ id → slot_at pool page j ≡ slot
   new_same j e = ap (slot_at pool page) e ∙ new_slot
 
-  one_fits : (j : ℕ) → j ≤ 31 → live_at pool page j ≡ true → ((i : ℕ) → i ≤ 31 → live_at pool set i ≡ true → Fits z (slot_at pool set i)) → Fits z (slot_at pool page j)
+  one_fits : (j : ℕ) → j ≤ 31 → live_at pool page j ≡ true → ((i : ℕ) → i ≤ 31 → live_at pool set i ≡ true → Fits z (slot_at pool set i))
+      → Fits z (slot_at pool page j)
   one_fits j below live each = by (same_or j id)
     where
       by : (j ≡ id) ⊎ (j ≢ id) → Fits z (slot_at pool page j)
@@ -39,14 +41,21 @@ module _ (z : Sizes) (pool : ℕ → ℕ) (set page id : ℕ) (slot : Slot) (may
     where
       by : (i ≡ id) ⊎ (i ≢ id) → (j ≡ id) ⊎ (j ≢ id) → i ≡ j
       by (inl e) (inl f) = e ∙ sym f
-      by (inl e) (inr ne) = absurd (new_ j below (was_live j below ne more) (ap test (sym (was_same j below ne more)) ∙ too) (ap test (sym (new_same i e)) ∙ holds))
+      by (inl e) (inr ne) =
+          absurd (new_ j below (was_live j below ne more) (ap test (sym (was_same j below ne more)) ∙ too) (ap test (sym (new_same i e)) ∙ holds))
       by (inr ne) (inl e) = absurd (new_ i low (was_live i low ne live) (ap test (sym (was_same i low ne live)) ∙ holds) (ap test (sym (new_same j e)) ∙ too))
-      by (inr ne) (inr nf) = old (was_live i low ne live) (was_live j below nf more) (ap test (sym (was_same i low ne live)) ∙ holds) (ap test (sym (was_same j below nf more)) ∙ too)
+      by (inr ne) (inr nf) =
+          old (was_live i low ne live) (was_live j below nf more) (ap test (sym (was_same i low ne live)) ∙ holds)
+          (ap test (sym (was_same j below nf more)) ∙ too)
 
   pub set_with : (role behind : ℕ → ℕ) → behind page ≡ set_role → SlotSetPart z set role pool → SlotSetPart z page behind pool
   set_with role behind role_is part = record {
     role_is = role_is;
     fits = λ j below live. one_fits j below live part.fits;
-    guest_apart = λ gfn i j low below live more holds too. apart_still (contains gfn) i j low below live more (may.guest_apart gfn) (part.guest_apart gfn i j low below) holds too;
-    host_apart = λ page i j low below live more has too. apart_still (has_host_page page) i j low below live more (may.host_apart page) (part.host_apart page i j low below) has too;
+    guest_apart =
+        λ gfn i j low below live more holds too. apart_still (contains gfn) i j low below live more (may.guest_apart gfn)
+        (part.guest_apart gfn i j low below) holds too;
+    host_apart =
+        λ page i j low below live more has too. apart_still (has_host_page page) i j low below live more (may.host_apart page)
+        (part.host_apart page i j low below) has too;
   }

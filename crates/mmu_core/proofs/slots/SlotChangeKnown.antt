@@ -106,7 +106,10 @@ module _ (line : Line) (h : Held) (command : Command) (cached : Buffer Translati
       let owns : OwnsSet (part_topics part.Count h.topics v) = same_set h.topics _ refl K.1 in
       let alone : h.topics.hold ≡ Exclusive = K.0.holds in
       one_place (λ q. Knows q (behind Count (part_topics part.Count h.topics v))) (v == 0) Publish Close
-      (λ e. (changes, (K.0, record { owns = owns; alone = alone; looked = ap count_checked alone; none_open = eqb-true v 0 e; none_leaves = left.leaves refl })))
+      (λ e. (
+        changes,
+        (K.0, record { owns = owns; alone = alone; looked = ap count_checked alone; none_open = eqb-true v 0 e; none_leaves = left.leaves refl }),
+      ))
       (λ e. (changes, (K.0, owns, sees_open h.topics v K.0 (left.opens refl) e)))
   slot_change_known Close R K left A = (changes, (lock_let_go Exclusive h.topics K.0, same_set h.topics _ refl K.1))
   slot_change_known Publish R K left A =
@@ -169,7 +172,9 @@ module _ (line : Line) (h : Held) (command : Command) (cached : Buffer Translati
 
   -- No invalidation of its own is opened.
   change_closed : (p : SlotChangePlace) → (part_topics (slot_change_part p h command) h.topics v).invalidations.opened ≡ h.topics.invalidations.opened
-  change_closed (Claim begun) = either_place (λ s. (part_topics s h.topics v).invalidations.opened ≡ h.topics.invalidations.opened) (tries_page begun h.topics.claim) part.Claim (part.Map (map_word begun h.topics.claim)) refl refl
+  change_closed (Claim begun) =
+      either_place (λ s. (part_topics s h.topics v).invalidations.opened ≡ h.topics.invalidations.opened) (tries_page begun h.topics.claim) part.Claim
+      (part.Map (map_word begun h.topics.claim)) refl refl
   change_closed _ = refl
 
   pub change_leaves : (p : SlotChangePlace) → SlotChangeKnows p h → LeavesPart (place.SlotChange p) h.topics

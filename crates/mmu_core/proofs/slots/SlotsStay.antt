@@ -14,7 +14,7 @@ use Rattle.part_steps.specs.SlotWords.{field_number, live_at, memory_slot_at, me
 use Rattle.mmu_core.specs.machine.View.{upd}
 use Rattle.mmu_core.proofs.machine.Columns.{at_upd}
 use Rattle.mmu_core.proofs.lines.Forms.{loads_stay}
-use Rattle.mmu_core.proofs.slots.LiveStay.{StayLive, translations_stay}
+use Rattle.mmu_core.proofs.slots.LiveStay.{StayLive}
 pub use Rattle.mmu_core.proofs.slots.LiveStays.{OwnedStays, SetStays}
 use Rattle.mmu_core.proofs.words.SlotFields.{is_number, same_slot}
 use Rattle.mmu_core.proofs.words.SlotLists.{same_below}
@@ -43,11 +43,14 @@ module _ (set : ℕ) (before after : ℕ → ℕ) (stays : SetStays set before a
       ∙ ap (λ word. record { slot = slot_at before set id; logged = flags_logged word }) (word_stays id field.Flags low)
 
   pub below_stay : (n : ℕ) → n ≤ 32 → slots_below after set n ≡ slots_below before set n
-  below_stay n le = same_below (live_at after set) (live_at before set) (slot_at after set) (slot_at before set) n (λ i lt. live_stays i (omega arith)) (λ i lt live. slot_stays i (omega arith))
+  below_stay n le =
+      same_below (live_at after set) (live_at before set) (slot_at after set) (slot_at before set) n (λ i lt. live_stays i (omega arith))
+      (λ i lt live. slot_stays i (omega arith))
 
   pub memory_below_stay : (n : ℕ) → n ≤ 32 → memory_slots_below after set n ≡ memory_slots_below before set n
   memory_below_stay n le =
-      same_below (live_at after set) (live_at before set) (memory_slot_at after set) (memory_slot_at before set) n (λ i lt. live_stays i (omega arith)) (λ i lt live. memory_slot_stays i (omega arith))
+      same_below (live_at after set) (live_at before set) (memory_slot_at after set) (memory_slot_at before set) n
+      (λ i lt. live_stays i (omega arith)) (λ i lt live. memory_slot_stays i (omega arith))
 
   pub record_stays : (slots : MemorySlots) → RecordPart before set slots → RecordPart after set slots
   record_stays slots R = record { same = R.same ∙ sym (memory_below_stay 32 (omega arith)) }
@@ -57,8 +60,10 @@ abbrev pub AllKnow : Sizes → (ℕ → Held) → Type 0
 AllKnow z hand = (i : ℕ) → i < actors_of z → KnowsPart (hand i).state.place (hand i).state.line.command (hand i)
 
 -- Live slots stay, the published set is one, and one hand is another one.
-pub hand_moved : (z : Sizes) (set other : ℕ) (role behind before after : ℕ → ℕ) (hand : ℕ → Held) (a : ℕ) (h : Held) → StayLive before set after other → SlotSetPart z other behind after
-    → ((i : ℕ) → i < actors_of z → i ≢ a → OwnedStays before after (hand i)) → ((i : ℕ) → i < actors_of z → i ≢ a → (hand i).state.actor ≡ Manager → RecordPart after other (hand i).slots)
+pub hand_moved : (z : Sizes) (set other : ℕ) (role behind before after : ℕ → ℕ) (hand : ℕ → Held) (a : ℕ) (h : Held) → StayLive before set after other
+    → SlotSetPart z other behind after
+    → ((i : ℕ) → i < actors_of z → i ≢ a → OwnedStays before after (hand i))
+    → ((i : ℕ) → i < actors_of z → i ≢ a → (hand i).state.actor ≡ Manager → RecordPart after other (hand i).slots)
     → OwnLines z a h → Holds z after other h.state.place h.state.line.command h → LeavesPart h.state.place h.topics
     → CachedPart z h.cached.items → (h.state.actor ≡ Manager → RecordPart after other h.slots) → AllKnow z (upd hand a h)
     → InvariantOf z set role before hand → InvariantOf z other behind after (upd hand a h)

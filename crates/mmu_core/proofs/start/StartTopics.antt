@@ -1,7 +1,7 @@
 -- At the start what holds of the machine's parts holds.
-use Rattle.std.proofs.Common.{◌≡◌, inl, ◌<◌, ◌≤◌, ◌%◌, ℕ, zero, suc, List, refl, sym, subst, ap, ◌∙◌, arith}
+use Rattle.std.proofs.Common.{◌≡◌, inl, ◌<◌, ◌%◌, ℕ, List, refl, sym, subst, ap, ◌∙◌, arith}
 use Rattle.std.proofs.lemmas.Bool.Decides.{nat_tests}
-use Rattle.std.specs.Prelude.{Bool, true, false, ◌==◌, ◌&&◌, nat_le, nat_lt, if◌then◌else◌, Option, Some, None}
+use Rattle.std.specs.Prelude.{Bool, true, false, ◌==◌, ◌&&◌, nat_lt, Option, Some, None}
 use Rattle.core_views.specs.declared.sizes.Sizes.{Sizes}
 use Rattle.core_views.specs.declared.topics.OwnedPage.{OwnedPage}
 use Rattle.core_views.specs.declared.topics.Topics.{Topics}
@@ -20,45 +20,52 @@ use Rattle.mmu_core.specs.invariant.InvalidationsPart.{CheckedPart, CountPart, L
 use Rattle.mmu_core.specs.invariant.LockPart.{LockPart, is_shared, readers, sharers, writers}
 use Rattle.mmu_core.specs.machine.Machine.{World, hand_in}
 use Rattle.part_steps.specs.PartSteps.{IsAtRest, counts}
-use Rattle.mmu_core.specs.invariant.PoolPart.{UsePart, is_free, is_leaving, is_owned, is_use}
+use Rattle.mmu_core.specs.invariant.PoolPart.{UsePart, is_free, is_leaving, is_owned}
 use Rattle.mmu_core.specs.invariant.SearchPart.{LookPart, SearchPart}
 use Rattle.mmu_core.specs.invariant.StatesPart.{stay_bits}
 use Rattle.mmu_core.specs.machine.Sums.{one_if, sum_below}
 use Rattle.mmu_core.specs.invariant.TopicsInvariant.{TopicsInvariant}
 use Rattle.part_steps.specs.StayTopics.{is_alone}
-use Rattle.mmu_core.specs.invariant.TreePart.{Position, TreePart, Use, at, is_table, stands}
-use Rattle.mmu_core.specs.invariant.TreePart.Use.{Free, OldSet, Outside, Owned, Root, SlotSet, Under}
+use Rattle.mmu_core.specs.invariant.TreePart.{Position, TreePart, stands}
+use Rattle.mmu_core.specs.invariant.TreePart.Use.{OldSet, Owned, Root}
 use Rattle.mmu_core.specs.machine.View.{view, word_in}
 use Rattle.mmu_core.specs.machine.Worlds.{IsStart}
 use Rattle.mmu_core.proofs.start.StartWords.{free_from_2, hand_is, none_behind, pool_word, used_below_2, word_at_start}
 use Rattle.mmu_core.proofs.machine.SumsBelow.{sum_none}
-use Rattle.mmu_core.proofs.pages.PoolPages.{among_tells, itself, other}
-use Rattle.mmu_core.proofs.pages.Standing.{one_position}
+use Rattle.mmu_core.proofs.pages.PoolPages.{among_tells}
 use Rattle.mmu_core.specs.invariant.InvalidatedPart.{PassedPart}
 use Rattle.mmu_core.specs.invariant.InvalidationsPart.{KnownRangePart}
 use Rattle.mmu_core.specs.invariant.HostWordsPart.{HostWordsPart}
 use Rattle.spte_words.specs.HostWords.{host_word, host_allows_write}
 use Rattle.spte_words.proofs.ReadsHost.{host_is_writable}
 use Rattle.core_views.specs.declared.topics.HostLook.{HostLook}
+use Rattle.mmu_core.proofs.start.StartPages.{never, none_under, only_zero, root_only, start_free, start_outside, start_set, start_spot, start_up}
 
 -- what actors hold of the parts: nothing
 topics_are : (z : Sizes) (lines : List Line) (w : World Held) (i : ℕ) → IsStart z lines w → i < actors_of z → (hand_in mmu w i).topics ≡ first_topics
 topics_are z lines w i start lt = ap (λ (h : Held). h.topics) (hand_is z lines w i start lt)
 
 -- how many actors are of a kind of which none is at the start
-none_counted : (z : Sizes) (lines : List Line) (w : World Held) (f : Topics → Bool) → IsStart z lines w → f first_topics ≡ false → sum_below (actors_of z) (λ i. one_if (f (hand_in mmu w i).topics)) ≡ 0
-none_counted z lines w f start none = sum_none (actors_of z) (λ i. one_if (f (hand_in mmu w i).topics)) (λ i lt. ap (λ (t : Topics). one_if (f t)) (topics_are z lines w i start lt) ∙ ap one_if none)
+none_counted : (z : Sizes) (lines : List Line) (w : World Held) (f : Topics → Bool) → IsStart z lines w → f first_topics ≡ false
+    → sum_below (actors_of z) (λ i. one_if (f (hand_in mmu w i).topics)) ≡ 0
+none_counted z lines w f start none = sum_none (actors_of z) (λ i. one_if (f (hand_in mmu w i).topics))
+    (λ i lt. ap (λ (t : Topics). one_if (f t)) (topics_are z lines w i start lt) ∙ ap one_if none)
 
-owns_none : (z : Sizes) (lines : List Line) (w : World Held) (i : ℕ) (o : OwnedPage) → IsStart z lines w → i < actors_of z → (hand_in mmu w i).topics.owned ≡ Some o → ⊥
-owns_none z lines w i o start lt is = let e : (hand_in mmu w i).topics.owned ≡ None = ap (λ (t : Topics). t.owned) (topics_are z lines w i start lt) in absurd (cc (e, is))
+owns_none : (z : Sizes) (lines : List Line) (w : World Held) (i : ℕ) (o : OwnedPage) → IsStart z lines w → i < actors_of z
+    → (hand_in mmu w i).topics.owned ≡ Some o → ⊥
+owns_none z lines w i o start lt is =
+    let e : (hand_in mmu w i).topics.owned ≡ None = ap (λ (t : Topics). t.owned) (topics_are z lines w i start lt) in absurd (cc (e, is))
 
 leaves_none : (z : Sizes) (lines : List Line) (w : World Held) (i k : ℕ) → IsStart z lines w → i < actors_of z → (hand_in mmu w i).topics.leaving ≡ Some k → ⊥
-leaves_none z lines w i k start lt is = let e : (hand_in mmu w i).topics.leaving ≡ None = ap (λ (t : Topics). t.leaving) (topics_are z lines w i start lt) in absurd (cc (e, is))
+leaves_none z lines w i k start lt is =
+    let e : (hand_in mmu w i).topics.leaving ≡ None = ap (λ (t : Topics). t.leaving) (topics_are z lines w i start lt) in absurd (cc (e, is))
 
 holds_none : (z : Sizes) (lines : List Line) (w : World Held) (i k : ℕ) → IsStart z lines w → i < actors_of z → (hand_in mmu w i).topics.search.set ≡ Some k → ⊥
-holds_none z lines w i k start lt is = let e : (hand_in mmu w i).topics.search.set ≡ None = ap (λ (t : Topics). t.search.set) (topics_are z lines w i start lt) in absurd (cc (e, is))
+holds_none z lines w i k start lt is =
+    let e : (hand_in mmu w i).topics.search.set ≡ None = ap (λ (t : Topics). t.search.set) (topics_are z lines w i start lt) in absurd (cc (e, is))
 
-lock_start : (z : Sizes) (lines : List Line) (w : World Held) → IsStart z lines w → LockPart (actors_of z) (word_in z w area.Lock 0) (λ i. (hand_in mmu w i).topics.hold)
+lock_start : (z : Sizes) (lines : List Line) (w : World Held) → IsStart z lines w
+    → LockPart (actors_of z) (word_in z w area.Lock 0) (λ i. (hand_in mmu w i).topics.hold)
 lock_start z lines w start =
     let lock : word_in z w area.Lock 0 ≡ 0 = word_at_start z w area.Lock 0 0 start.words (λ l. refl) (λ e. refl) in
     let reading : readers (actors_of z) (λ i. (hand_in mmu w i).topics.hold) ≡ 0 = none_counted z lines w (λ t. counts t.hold) start refl in
@@ -66,7 +73,8 @@ lock_start z lines w start =
     let writing : writers (actors_of z) (λ i. (hand_in mmu w i).topics.hold) ≡ 0 = none_counted z lines w (λ t. is_alone t.hold) start refl in
     record { word = omega (arith, lock, reading, writing); one = omega (arith, writing); alone = λ le. sharing }
 
-state_start : (z : Sizes) (lines : List Line) (w : World Held) (i : ℕ) → IsStart z lines w → i < actors_of z → (word_in z w area.State i < 8) × (word_in z w area.State i % 4 ≡ stay_bits (hand_in mmu w i).topics.stay)
+state_start : (z : Sizes) (lines : List Line) (w : World Held) (i : ℕ) → IsStart z lines w → i < actors_of z
+    → (word_in z w area.State i < 8) × (word_in z w area.State i % 4 ≡ stay_bits (hand_in mmu w i).topics.stay)
 state_start z lines w i start lt =
     let word : word_in z w area.State i ≡ 0 = word_at_start z w area.State i 0 start.words (λ l. refl) (λ e. refl) in
     (omega (arith, word), ap (λ n. n % 4) word ∙ ap (λ (t : Topics). stay_bits t.stay) (sym (topics_are z lines w i start lt)))
@@ -77,81 +85,12 @@ root_start z lines w start = word_at_start z w area.Root 0 0 start.words (λ l. 
 slots_start : (z : Sizes) (lines : List Line) (w : World Held) → IsStart z lines w → word_in z w area.Slots 0 ≡ 1
 slots_start z lines w start = word_at_start z w area.Slots 0 1 start.words (λ l. refl) (λ e. absurd (cc e))
 
--- Page 0 is the root, page 1 the published slot set, each other one of the pool is free.
-abbrev start_up : ℕ → ℕ → Use
-start_up pages zero = Root
-start_up pages (suc zero) = SlotSet
-start_up pages (suc (suc k)) = if nat_le pages (suc (suc k)) then Outside else Free
-
-abbrev start_spot : ℕ → Position
-start_spot k = at 4 0
-
--- So the root alone stands as a table, and no page is owned or leaves.
-other_stands : (b : Bool) (p : Position) → (if is_table (if b then Outside else Free) then Some (at 4 0) else None) ≡ Some p → ⊥
-other_stands true p is = absurd (cc is)
-other_stands false p is = absurd (cc is)
-
-root_only : (pages k : ℕ) (p : Position) → stands (start_up pages) start_spot k ≡ Some p → (0 ≡ k) × (at 4 0 ≡ p)
-root_only pages zero p is = (refl, one_position is)
-root_only pages (suc zero) p is = absurd (cc is)
-root_only pages (suc (suc k)) p is = absurd (other_stands (nat_le pages (suc (suc k))) p is)
-
--- A use that no page has at the start.
-never : (u : Use) → is_use u Root ≡ false → is_use u SlotSet ≡ false → is_use u Outside ≡ false → is_use u Free ≡ false → (pages k : ℕ) → is_use u (start_up pages k) ≡ false
-never u root set outside free pages zero = root
-never u root set outside free pages (suc zero) = set
-never u root set outside free pages (suc (suc k)) = by (nat_le pages (suc (suc k)))
-  where
-    by : (b : Bool) → is_use u (if b then Outside else Free) ≡ false
-    by true = outside
-    by false = free
-
-only_zero : (pages k : ℕ) → start_up pages k ≡ Root → k ≡ 0
-only_zero pages zero is = refl
-only_zero pages (suc zero) is = absurd (cc is)
-only_zero pages (suc (suc k)) is = by (nat_le pages (suc (suc k))) is
-  where
-    by : (b : Bool) → (if b then Outside else Free) ≡ Root → suc (suc k) ≡ 0
-    by true e = absurd (cc e)
-    by false e = absurd (cc e)
-
-none_under : (pages c k j : ℕ) → start_up pages c ≡ Under k j → ⊥
-none_under pages c k j is = let found : is_use (Under k j) (start_up pages c) ≡ true = ap (is_use (Under k j)) is ∙ same k j in let none = never (Under k j) refl refl refl refl pages c in cc (found, none)
-  where
-    same : (k j : ℕ) → is_use (Under k j) (Under k j) ≡ true
-    same k j = ap (λ b. b && (j == j)) (itself k) ∙ itself j
-
-start_free : (pages k : ℕ) (free : Bool) → (k < 2 → free ≡ false) → (2 ≤ k → k < pages → free ≡ true) → (pages ≤ k → free ≡ false) → free ≡ is_use Free (start_up pages k)
-start_free pages zero free low high behind = low (omega arith)
-start_free pages (suc zero) free low high behind = low (omega arith)
-start_free pages (suc (suc k)) free low high behind = by (nat_le pages (suc (suc k))) refl
-  where
-    by : (b : Bool) → nat_le pages (suc (suc k)) ≡ b → free ≡ is_use Free (if b then Outside else Free)
-    by true is = behind (grind (arith, nat_tests))
-    by false is = high (omega arith) (grind (arith, nat_tests))
-
-start_set : (pages k : ℕ) → (1 == k) ≡ is_use SlotSet (start_up pages k)
-start_set pages zero = refl
-start_set pages (suc zero) = refl
-start_set pages (suc (suc k)) = by (nat_le pages (suc (suc k)))
-  where
-    by : (b : Bool) → (1 == suc (suc k)) ≡ is_use SlotSet (if b then Outside else Free)
-    by true = other 1 (suc (suc k)) (λ e. omega (arith, e))
-    by false = other 1 (suc (suc k)) (λ e. omega (arith, e))
-
-start_outside : (pages k : ℕ) → 2 ≤ pages → nat_le pages k ≡ is_use Outside (start_up pages k)
-start_outside pages zero low = let none : nat_le pages 0 ≡ false = grind (arith, nat_tests) in none
-start_outside pages (suc zero) low = let none : nat_le pages 1 ≡ false = grind (arith, nat_tests) in none
-start_outside pages (suc (suc k)) low = by (nat_le pages (suc (suc k)))
-  where
-    by : (b : Bool) → b ≡ is_use Outside (if b then Outside else Free)
-    by true = refl
-    by false = refl
-
-uses_start : (z : Sizes) (lines : List Line) (w : World Held) → IsStart z lines w → UsePart (actors_of z) z.pool (word_in z w area.Slots 0) (word_in z w area.PoolMap) (λ i. (hand_in mmu w i).topics.owned) (λ i. (hand_in mmu w i).topics.leaving) (start_up z.pool)
+uses_start : (z : Sizes) (lines : List Line) (w : World Held) → IsStart z lines w → UsePart (actors_of z) z.pool (word_in z w area.Slots 0)
+    (word_in z w area.PoolMap) (λ i. (hand_in mmu w i).topics.owned) (λ i. (hand_in mmu w i).topics.leaving) (start_up z.pool)
 uses_start z lines w start = record {
   free = λ k.
-      start_free z.pool k (is_free (word_in z w area.PoolMap) k) (λ low. used_below_2 z w k start.sizes start.words low) (λ high lt. free_from_2 z w k start.sizes start.words high lt) (λ le. none_behind z w k start.sizes start.words le);
+      start_free z.pool k (is_free (word_in z w area.PoolMap) k) (λ low. used_below_2 z w k start.sizes start.words low)
+      (λ high lt. free_from_2 z w k start.sizes start.words high lt) (λ le. none_behind z w k start.sizes start.words le);
   owner = λ i k. owner i k (nat_lt i (actors_of z)) refl ∙ sym (never (Owned i) refl refl refl refl z.pool k);
   set = λ k. ap (λ s. s == k) (slots_start z lines w start) ∙ start_set z.pool k;
   leaver = λ i k. leaver i k (nat_lt i (actors_of z)) refl ∙ sym (never (OldSet i) refl refl refl refl z.pool k);
@@ -171,17 +110,20 @@ unfolding absent_word
 absent_is = refl
 
 -- The root has the role of level 4, and absent entries.
-tree_start : (z : Sizes) (lines : List Line) (w : World Held) → IsStart z lines w → TreePart z.pool (word_in z w area.Root 0) (word_in z w area.Slots 0) (word_in z w area.Role) (word_in z w area.Pool) (start_up z.pool) start_spot
-tree_start z lines w start = subst (λ r. TreePart z.pool r (word_in z w area.Slots 0) (word_in z w area.Role) (word_in z w area.Pool) (start_up z.pool) start_spot) (sym (root_start z lines w start)) (record {
-  top = refl;
-  only = λ k is. only_zero z.pool k is;
-  top_at = refl;
-  under = λ c k j is. absurd (none_under z.pool c k j is);
-  there = λ k p is. let e = root_only z.pool k p is in let level : 4 ≡ p.level = ap (λ (q : Position). q.level) e.1 in (omega (arith, e.0, start.sizes.pool.0), omega (arith, level), omega (arith, level));
-  roles = λ k p is. let e = root_only z.pool k p is in ap (word_in z w area.Role) (sym e.0) ∙ role ∙ ap (λ (q : Position). q.level) e.1;
-  entries = λ k p is j low. inl (pool_word z w (pool_index k j) start.words ∙ absent_is);
-  wanted = λ k p is. inl (sym (root_only z.pool k p is).0);
-})
+tree_start : (z : Sizes) (lines : List Line) (w : World Held) → IsStart z lines w
+    → TreePart z.pool (word_in z w area.Root 0) (word_in z w area.Slots 0) (word_in z w area.Role) (word_in z w area.Pool) (start_up z.pool) start_spot
+tree_start z lines w start = subst (λ r. TreePart z.pool r (word_in z w area.Slots 0) (word_in z w area.Role) (word_in z w area.Pool) (start_up z.pool)
+    start_spot) (sym (root_start z lines w start)) (record {
+      top = refl;
+      only = λ k is. only_zero z.pool k is;
+      top_at = refl;
+      under = λ c k j is. absurd (none_under z.pool c k j is);
+      there = λ k p is. let e = root_only z.pool k p is in let level : 4 ≡ p.level = ap (λ (q : Position). q.level) e.1 in
+          (omega (arith, e.0, start.sizes.pool.0), omega (arith, level), omega (arith, level));
+      roles = λ k p is. let e = root_only z.pool k p is in ap (word_in z w area.Role) (sym e.0) ∙ role ∙ ap (λ (q : Position). q.level) e.1;
+      entries = λ k p is j low. inl (pool_word z w (pool_index k j) start.words ∙ absent_is);
+      wanted = λ k p is. inl (sym (root_only z.pool k p is).0);
+    })
   where
     role : word_in z w area.Role 0 ≡ 4
     role = word_at_start z w area.Role 0 4 start.words (λ l. refl) (λ e. absurd (none e))
@@ -193,7 +135,8 @@ held_first : (stands : ℕ → Option Position) → HeldPart stands first_topics
 held_first stands = record { table = λ from. absurd (omega (arith, from)); no_table = λ e. refl; no_set = λ e. refl }
 
 search_first : (pool : ℕ → ℕ) → SearchPart pool first_topics.search
-search_first pool = record { listed = tt; loaded = λ k e. tt; whole = λ k e whole. absurd (cc whole); held = λ whole. absurd (cc whole); before_flags = λ whole. refl }
+search_first pool =
+    record { listed = tt; loaded = λ k e. tt; whole = λ k e whole. absurd (cc whole); held = λ whole. absurd (cc whole); before_flags = λ whole. refl }
 
 look_first : (z : Sizes) (n seq : ℕ) (host : ℕ → ℕ) (topics : ℕ → Topics) → LookPart z n seq host topics first_topics
 look_first z n seq host topics =
@@ -202,12 +145,13 @@ look_first z n seq host topics =
 -- Each host word maps its page to its own frame, and allows writes.
 hosts_start : (z : Sizes) (lines : List Line) (w : World Held) → IsStart z lines w → HostWordsPart z (word_in z w area.Host)
 hosts_start z lines w start p lt =
-    let is = word_at_start z w area.Host p (host_word p true true 1) start.words (λ l. refl) (λ e. absurd (let t : nat_lt p z.pages ≡ true = grind (arith, nat_tests) in cc (e, t))) in
-    is ∙ ap (λ (b : Bool). host_word p true b 1) (sym (ap host_allows_write is ∙ host_is_writable p true true 1))
+    let is = word_at_start z w area.Host p (host_word p true true 1) start.words (λ l. refl) (λ e. absurd (let t : nat_lt p z.pages ≡ true = grind
+    (arith, nat_tests) in cc (e, t))) in is ∙ ap (λ (b : Bool). host_word p true b 1) (sym (ap host_allows_write is ∙ host_is_writable p true true 1))
 
 looks_none : (z : Sizes) (lines : List Line) (w : World Held) (i : ℕ) (look : HostLook) → IsStart z lines w → i < actors_of z
     → (hand_in mmu w i).topics.host ≡ Some look → ⊥
-looks_none z lines w i look start lt is = let none : (hand_in mmu w i).topics.host ≡ None = ap (λ (t : Topics). t.host) (topics_are z lines w i start lt) in cc (none, is)
+looks_none z lines w i look start lt is =
+    let none : (hand_in mmu w i).topics.host ≡ None = ap (λ (t : Topics). t.host) (topics_are z lines w i start lt) in cc (none, is)
 
 counters_first : (z : Sizes) → CountersPart z first_topics
 counters_first z = record {
@@ -234,7 +178,8 @@ loaded_first : (pool : ℕ → ℕ) → LoadedPart pool first_topics
 loaded_first pool = λ alone. absurd (cc alone)
 
 -- No invalidation is open, and none has ended.
-count_start : (z : Sizes) (lines : List Line) (w : World Held) → IsStart z lines w → CountPart (actors_of z) (word_in z w area.Count 0) (λ i. (hand_in mmu w i).topics.invalidations.opened)
+count_start : (z : Sizes) (lines : List Line) (w : World Held) → IsStart z lines w
+    → CountPart (actors_of z) (word_in z w area.Count 0) (λ i. (hand_in mmu w i).topics.invalidations.opened)
 count_start z lines w start = word_at_start z w area.Count 0 0 start.words (λ l. refl) (λ e. refl)
     ∙ sym (none_counted z lines w (λ t. t.invalidations.opened) start refl)
 
@@ -247,7 +192,8 @@ rest_first = record { outside = refl; loose = refl; owns_none = refl; no_table =
 pub none_open_yet : (z : Sizes) (lines : List Line) (w : World Held) (i : ℕ) → IsStart z lines w → i < actors_of z
     → (hand_in mmu w i).topics.invalidations.opened ≡ true → ⊥
 none_open_yet z lines w i start lt is =
-    let closed : (hand_in mmu w i).topics.invalidations.opened ≡ false = ap (λ (t : Topics). t.invalidations.opened) (topics_are z lines w i start lt) in cc (is, closed)
+    let closed : (hand_in mmu w i).topics.invalidations.opened ≡ false = ap (λ (t : Topics). t.invalidations.opened) (topics_are z lines w i start lt) in
+    cc (is, closed)
 
 pub start_topics : (z : Sizes) (lines : List Line) (w : World Held) → IsStart z lines w → TopicsInvariant z (view z w)
 start_topics z lines w start = record {
@@ -259,20 +205,26 @@ start_topics z lines w start = record {
   uses = uses_start z lines w start;
   filled = λ i o lt is. absurd (owns_none z lines w i o start lt is);
   tree = tree_start z lines w start;
-  leaves = λ table entry gfn R O leaf. absurd (let none = ap (kind_of (start_spot table).level) (pool_word z w (pool_index table entry) start.words ∙ absent_is) ∙ kind_of_absent (start_spot table).level in cc (none, leaf));
-  held = λ i lt. subst (HeldPart (stands (start_up z.pool) start_spot)) (sym (topics_are z lines w i start lt)) (held_first (stands (start_up z.pool) start_spot));
-  paths = λ i lt. subst (λ (t : Topics). PathPart (stands (start_up z.pool) start_spot) t.walk) (sym (topics_are z lines w i start lt)) (λ level from above most. absurd (omega (arith, from)));
+  leaves = λ table entry gfn R O leaf. absurd (let none = ap (kind_of (start_spot table).level) (pool_word z w (pool_index table entry) start.words ∙ absent_is)
+      ∙ kind_of_absent (start_spot table).level in cc (none, leaf));
+  held =
+      λ i lt. subst (HeldPart (stands (start_up z.pool) start_spot)) (sym (topics_are z lines w i start lt)) (held_first (stands (start_up z.pool) start_spot));
+  paths = λ i lt. subst (λ (t : Topics). PathPart (stands (start_up z.pool) start_spot) t.walk) (sym (topics_are z lines w i start lt))
+      (λ level from above most. absurd (omega (arith, from)));
   sets = λ i k lt is. absurd (holds_none z lines w i k start lt is);
   old_sets = λ i k lt is. absurd (leaves_none z lines w i k start lt is);
-  searches = λ i lt. subst (λ (t : Topics). SearchPart (word_in z w area.Pool) t.search) (sym (topics_are z lines w i start lt)) (search_first (word_in z w area.Pool));
+  searches = λ i lt. subst (λ (t : Topics). SearchPart (word_in z w area.Pool) t.search) (sym (topics_are z lines w i start lt))
+      (search_first (word_in z w area.Pool));
   hosts = hosts_start z lines w start;
-  looks = λ i lt. subst (LookPart z (actors_of z) (word_in z w area.Seq 0) (word_in z w area.Host) (λ j. (hand_in mmu w j).topics)) (sym (topics_are z lines w i start lt))
+  looks = λ i lt. subst (LookPart z (actors_of z) (word_in z w area.Seq 0) (word_in z w area.Host) (λ j. (hand_in mmu w j).topics))
+      (sym (topics_are z lines w i start lt))
       (look_first z (actors_of z) (word_in z w area.Seq 0) (word_in z w area.Host) (λ j. (hand_in mmu w j).topics));
   own_looks = λ i look lt is. absurd (looks_none z lines w i look start lt is);
   counts = count_start z lines w start;
   checks = λ i lt. subst (CheckedPart (word_in z w area.Count 0) (word_in z w area.RangeStart 0) (word_in z w area.RangeEnd 0) (word_in z w area.Seq 0))
       (sym (topics_are z lines w i start lt)) (checked_first _ _ _ _);
-  known = λ i lt. subst (KnownRangePart (word_in z w area.RangeStart 0) (word_in z w area.RangeEnd 0)) (sym (topics_are z lines w i start lt)) (λ lock. absurd (cc lock));
+  known = λ i lt. subst (KnownRangePart (word_in z w area.RangeStart 0) (word_in z w area.RangeEnd 0)) (sym (topics_are z lines w i start lt))
+      (λ lock. absurd (cc lock));
   loaded = λ i lt. subst (LoadedPart (word_in z w area.Pool)) (sym (topics_are z lines w i start lt)) (loaded_first (word_in z w area.Pool));
   ranges = λ i gfn lt is within. absurd (none_open_yet z lines w i start lt is);
   passed = λ i lt. subst (PassedPart (word_in z w area.Pool)) (sym (topics_are z lines w i start lt)) (λ alone. absurd (cc alone));

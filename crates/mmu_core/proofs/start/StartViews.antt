@@ -20,7 +20,10 @@ use Rattle.mmu_core.specs.machine.View.{View, view, word_in}
 use Rattle.mmu_core.specs.machine.Worlds.{AreStartWords, IsStart, start_hands, start_word}
 
 abbrev pub start_view : Sizes → List Line → View
-start_view z lines = record { words = λ area i. if nat_lt i (size_of (map_of z) area) then start_word z area i else 0; hand = λ a. slice_index_or (start_hands z lines (actors_of z)) a nobody }
+start_view z lines = record {
+  words = λ area i. if nat_lt i (size_of (map_of z) area) then start_word z area i else 0;
+  hand = λ a. slice_index_or (start_hands z lines (actors_of z)) a nobody;
+}
 
 pub start_view_is : (z : Sizes) (lines : List Line) (w : World Held) → IsStart z lines w → ◌≡◌ {A = View} (view z w) (start_view z lines)
 start_view_is z lines w start = λ s. record { words = λ area i. word area i s; hand = λ a. slice_index_or (start.hands s) a nobody }
@@ -28,7 +31,8 @@ start_view_is z lines w start = λ s. record { words = λ area i. word area i s;
     word : (area : Area) (i : ℕ) → word_in z w area i ≡ (if nat_lt i (size_of (map_of z) area) then start_word z area i else 0)
     word area i = case (nat_lt i (size_of (map_of z) area)) (λ e. grind (arith, nat_tests))
       where
-        case : (b : Bool) → (b ≡ true → i < size_of (map_of z) area) → ◌≡◌ {A = ℕ} (if b then slice_index w.words (place (map_of z) area i) else 0) (if b then start_word z area i else 0)
+        case : (b : Bool) → (b ≡ true → i < size_of (map_of z) area)
+            → ◌≡◌ {A = ℕ} (if b then slice_index w.words (place (map_of z) area i) else 0) (if b then start_word z area i else 0)
         case true inside = start.words.each area i (inside refl)
         case false inside = refl
 
@@ -57,7 +61,9 @@ word_there z k (inr past) = 0
 abbrev pub word_of : Sizes → ℕ → ℕ
 word_of z k = word_there z k (cases_lt k (total (map_of z)))
 
-word_is : (z : Sizes) (area : Area) (i : ℕ) → i < size_of (map_of z) area → (c : (place (map_of z) area i < total (map_of z)) ⊎ (total (map_of z) ≤ place (map_of z) area i)) → word_there z (place (map_of z) area i) c ≡ start_word z area i
+word_is : (z : Sizes) (area : Area) (i : ℕ) → i < size_of (map_of z) area
+    → (c : (place (map_of z) area i < total (map_of z)) ⊎ (total (map_of z) ≤ place (map_of z) area i))
+    → word_there z (place (map_of z) area i) c ≡ start_word z area i
 word_is z area i lt (inl below) =
     let S : StandsSomewhere (map_of z) (place (map_of z) area i) = word_stands (map_of z) (place (map_of z) area i) below in
     let same : (S.area ≡ area) × (S.i ≡ i) = places_apart (map_of z) S.area area S.i i S.within lt S.at in
@@ -67,10 +73,13 @@ word_is z area i lt (inr past) = absurd (omega (arith, place_below (map_of z) ar
 pub start_words : (z : Sizes) → AreStartWords z (first_of (word_of z) (total (map_of z)))
 start_words z = record {
   count = first_count (word_of z) (total (map_of z));
-  each = λ area i lt. first_at (word_of z) (total (map_of z)) (place (map_of z) area i) (place_below (map_of z) area i lt) ∙ word_is z area i lt (cases_lt (place (map_of z) area i) (total (map_of z)));
+  each =
+      λ area i lt. first_at (word_of z) (total (map_of z)) (place (map_of z) area i) (place_below (map_of z) area i lt)
+      ∙ word_is z area i lt (cases_lt (place (map_of z) area i) (total (map_of z)));
 }
 
-pub a_start : (z : Sizes) (lines : List Line) → AreSizes z → All (λ line. IsCommandFor z line.actor line.command) lines → IsDistinct (λ i j. i == j) (slot_ids lines) → length lines ≤ 1000000 → (w : World Held) × IsStart z lines w
+pub a_start : (z : Sizes) (lines : List Line) → AreSizes z → All (λ line. IsCommandFor z line.actor line.command) lines
+    → IsDistinct (λ i j. i == j) (slot_ids lines) → length lines ≤ 1000000 → (w : World Held) × IsStart z lines w
 a_start z lines sizes allowed distinct few = (
   record { words = first_of (word_of z) (total (map_of z)); hands = start_hands z lines (actors_of z) },
   record { sizes = sizes; allowed = allowed; distinct = distinct; few = few; words = start_words z; hands = refl },

@@ -1,5 +1,6 @@
 -- What each word and each hand is at the start.
-use Rattle.std.proofs.Common.{◌≡◌, ◌<◌, ◌≤◌, ◌+◌, ◌-◌, ◌*◌, ◌/◌, ◌%◌, ◌^◌, ℕ, zero, suc, List, [], ◌∷◌, ◌++◌, length, length-append, get_or, refl, sym, subst, ap, ◌∙◌, arith}
+use Rattle.std.proofs.Common.{◌≡◌, ◌<◌, ◌≤◌, ◌+◌, ◌-◌, ◌*◌, ◌/◌, ◌%◌, ◌^◌, ℕ, zero, suc, List, [], ◌∷◌, ◌++◌, length, length-append, get_or, refl}
+use Rattle.std.proofs.Common.{sym, subst, ap, ◌∙◌, arith}
 use Rattle.std.proofs.lemmas.Bool.Decides.{nat_tests, Decides-eqb}
 use Rattle.std.proofs.lemmas.List.{get_or_append_left}
 use Rattle.std.proofs.lemmas.Nat.Bits.{bit_at_mask_above, bit_at_mask_below, bit_at_mask_inside}
@@ -22,7 +23,8 @@ use Rattle.mmu_core.specs.machine.View.{word_in}
 use Rattle.mmu_core.specs.machine.Worlds.{AreStartWords, IsStart, free_bits, least, start_hands, start_word}
 
 -- each word at the start, behind its area's end too where its start word is 0
-pub word_at_start : (z : Sizes) (w : World Held) (a : Area) (i x : ℕ) → AreStartWords z w.words → (i < size_of (map_of z) a → start_word z a i ≡ x) → (nat_lt i (size_of (map_of z) a) ≡ false → 0 ≡ x) → word_in z w a i ≡ x
+pub word_at_start : (z : Sizes) (w : World Held) (a : Area) (i x : ℕ) → AreStartWords z w.words → (i < size_of (map_of z) a → start_word z a i ≡ x)
+    → (nat_lt i (size_of (map_of z) a) ≡ false → 0 ≡ x) → word_in z w a i ≡ x
 word_at_start z w a i x start inside outside = by (nat_lt i (size_of (map_of z) a)) (λ e. grind (arith, nat_tests)) (λ e. outside e)
   where
     by : (b : Bool) → (b ≡ true → i < size_of (map_of z) a) → (b ≡ false → 0 ≡ x) → (if b then slice_index w.words (place (map_of z) a i) else 0) ≡ x
@@ -41,22 +43,26 @@ get_last : (xs : List Held) (y : Held) (d : Held) → get_or (xs ++ y ∷ []) (l
 get_last [] y d = refl
 get_last (x ∷ xs) y d = get_last xs y d
 
-hand_at : (z : Sizes) (lines : List Line) (n i : ℕ) → i < n → get_or (start_hands z lines n) i nobody ≡ first_held z (actor_at z i) (lines_of (actor_at z i) lines)
+hand_at : (z : Sizes) (lines : List Line) (n i : ℕ) → i < n
+    → get_or (start_hands z lines n) i nobody ≡ first_held z (actor_at z i) (lines_of (actor_at z i) lines)
 hand_at z lines zero i lt = absurd (omega arith)
 hand_at z lines (suc n) i lt = by (λ l. hand_at z lines n i l) (i == n) (λ e. (Decides-eqb i n).0 e) (λ e. grind (arith, nat_tests))
   where
     count : length (start_hands z lines n) ≡ n
     count = hands_count z lines n
 
-    by : (i < n → get_or (start_hands z lines n) i nobody ≡ first_held z (actor_at z i) (lines_of (actor_at z i) lines)) → (b : Bool) → (b ≡ true → i ≡ n) → (b ≡ false → i < n)
+    by : (i < n → get_or (start_hands z lines n) i nobody ≡ first_held z (actor_at z i) (lines_of (actor_at z i) lines)) → (b : Bool)
+        → (b ≡ true → i ≡ n) → (b ≡ false → i < n)
         → get_or (start_hands z lines (suc n)) i nobody ≡ first_held z (actor_at z i) (lines_of (actor_at z i) lines)
     by before true same less =
         subst (λ k. get_or (start_hands z lines (suc n)) k nobody ≡ first_held z (actor_at z k) (lines_of (actor_at z k) lines)) (sym (same refl))
-        (subst (λ k. get_or (start_hands z lines n ++ first_held z (actor_at z n) (lines_of (actor_at z n) lines) ∷ []) k nobody ≡ first_held z (actor_at z n) (lines_of (actor_at z n) lines)) count
+        (subst (λ k. get_or (start_hands z lines n ++ first_held z (actor_at z n) (lines_of (actor_at z n) lines) ∷ []) k nobody
+        ≡ first_held z (actor_at z n) (lines_of (actor_at z n) lines)) count
         (get_last (start_hands z lines n) (first_held z (actor_at z n) (lines_of (actor_at z n) lines)) nobody))
     by before false same less = get_or_append_left (start_hands z lines n) _ nobody i (subst (λ m. i < m) (sym count) (less refl)) ∙ before (less refl)
 
-pub hand_is : (z : Sizes) (lines : List Line) (w : World Held) (i : ℕ) → IsStart z lines w → i < actors_of z → hand_in mmu w i ≡ first_held z (actor_at z i) (lines_of (actor_at z i) lines)
+pub hand_is : (z : Sizes) (lines : List Line) (w : World Held) (i : ℕ) → IsStart z lines w → i < actors_of z
+    → hand_in mmu w i ≡ first_held z (actor_at z i) (lines_of (actor_at z i) lines)
 hand_is z lines w i start lt = ap (λ (hs : List Held). get_or hs i nobody) start.hands ∙ hand_at z lines (actors_of z) i lt
 
 pub least_low : (a b : ℕ) → least a b ≤ a
@@ -86,12 +92,15 @@ no_bits a b e = let same : 2 ^ least 64 a ≡ 2 ^ least 64 b = ap (λ n. 2 ^ lea
 
 -- the bits of the map of pool pages, behind its end too
 map_word : (z : Sizes) (w : World Held) (i : ℕ) → AreSizes z → AreStartWords z w.words → word_in z w area.PoolMap i ≡ free_bits 2 z.pool i
-map_word z w i sizes start = word_at_start z w area.PoolMap i (free_bits 2 z.pool i) start (λ lt. refl) (λ e. no_bits (z.pool - 64 * i) (2 - 64 * i) (empty (grind (arith, nat_tests))))
+map_word z w i sizes start =
+    word_at_start z w area.PoolMap i (free_bits 2 z.pool i) start (λ lt. refl)
+    (λ e. no_bits (z.pool - 64 * i) (2 - 64 * i) (empty (grind (arith, nat_tests))))
   where
     empty : (z.pool + 63) / 64 ≤ i → z.pool - 64 * i ≡ 2 - 64 * i
     empty le = omega (arith, le, sizes.pool.0)
 
-free_is : (z : Sizes) (w : World Held) (k : ℕ) → AreSizes z → AreStartWords z w.words → is_free (word_in z w area.PoolMap) k ≡ has_bit (k % 64) (free_bits 2 z.pool (k / 64))
+free_is : (z : Sizes) (w : World Held) (k : ℕ) → AreSizes z → AreStartWords z w.words
+    → is_free (word_in z w area.PoolMap) k ≡ has_bit (k % 64) (free_bits 2 z.pool (k / 64))
 free_is z w k sizes start = ap (has_bit (k % 64)) (map_word z w (k / 64) sizes start)
 
 -- Exactly the pool pages from 2 on are free.
@@ -99,7 +108,8 @@ pub free_from_2 : (z : Sizes) (w : World Held) (k : ℕ) → AreSizes z → AreS
 free_from_2 z w k sizes start low lt =
     let from = least_under 64 (2 - 64 * (k / 64)) in
     let to = least_over 64 (z.pool - 64 * (k / 64)) (k % 64) (omega arith) (omega (arith, lt)) in
-    free_is z w k sizes start ∙ ap (λ b. b == 1) (bit_at_mask_inside (least 64 (2 - 64 * (k / 64))) (least 64 (z.pool - 64 * (k / 64))) (k % 64) (omega (arith, from, low)) to)
+    free_is z w k sizes start
+    ∙ ap (λ b. b == 1) (bit_at_mask_inside (least 64 (2 - 64 * (k / 64))) (least 64 (z.pool - 64 * (k / 64))) (k % 64) (omega (arith, from, low)) to)
 
 pub used_below_2 : (z : Sizes) (w : World Held) (k : ℕ) → AreSizes z → AreStartWords z w.words → k < 2 → is_free (word_in z w area.PoolMap) k ≡ false
 used_below_2 z w k sizes start lt =
@@ -109,4 +119,5 @@ used_below_2 z w k sizes start lt =
 pub none_behind : (z : Sizes) (w : World Held) (k : ℕ) → AreSizes z → AreStartWords z w.words → z.pool ≤ k → is_free (word_in z w area.PoolMap) k ≡ false
 none_behind z w k sizes start le =
     let to = least_under 64 (z.pool - 64 * (k / 64)) in
-    free_is z w k sizes start ∙ ap (λ b. b == 1) (bit_at_mask_above (least 64 (2 - 64 * (k / 64))) (least 64 (z.pool - 64 * (k / 64))) (k % 64) (omega (arith, to, le)))
+    free_is z w k sizes start
+    ∙ ap (λ b. b == 1) (bit_at_mask_above (least 64 (2 - 64 * (k / 64))) (least 64 (z.pool - 64 * (k / 64))) (k % 64) (omega (arith, to, le)))

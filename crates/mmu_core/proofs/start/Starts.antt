@@ -24,11 +24,10 @@ use Rattle.spte_words.specs.declared.area.Area.TheVariants as area
 use Rattle.spte_words.specs.Areas.{size_of}
 use Rattle.spte_words.specs.Entries.{absent_word, frame_in}
 use Rattle.spte_words.specs.Flags.{flags_live}
-use Rattle.spte_words.specs.HostWords.{host_word}
 use Rattle.spte_words.specs.Areas.{StandsSomewhere}
 use Rattle.spte_words.proofs.Places.{word_stands}
 use Rattle.spte_words.proofs.ReadsHost.{host_fits}
-use Rattle.mmu_core.specs.invariant.Invariant.{CachedPart, Holds, IsLeafFor, IsSetBy, KnowsPart, OwnLines, RecordPart, LeavesPart}
+use Rattle.mmu_core.specs.invariant.Invariant.{CachedPart, Holds, IsSetBy, KnowsPart, OwnLines, RecordPart, LeavesPart}
 use Rattle.mmu_core.specs.machine.Enabled.{mmu}
 use Rattle.mmu_core.specs.machine.Machine.{World, hand_in}
 use Rattle.mmu_core.specs.lines.Rests.{Rests}
@@ -71,9 +70,12 @@ role_at_start z w sizes start =
 
 -- The place of the actor at a place is that place.
 pub place_of_actor : (z : Sizes) (i : ℕ) → i < actors_of z → index_of z (actor_at z i) ≡ i
-place_of_actor z i lt = by (nat_lt i z.vcpus) (nat_lt (i - z.vcpus) z.hosts) (i == z.vcpus + z.hosts) (λ e. grind (arith, nat_tests)) (λ e. grind (arith, nat_tests)) (λ e. (Decides-eqb i (z.vcpus + z.hosts)).0 e) (λ e. grind (arith, nat_tests))
+place_of_actor z i lt =
+    by (nat_lt i z.vcpus) (nat_lt (i - z.vcpus) z.hosts) (i == z.vcpus + z.hosts) (λ e. grind (arith, nat_tests)) (λ e. grind (arith, nat_tests))
+    (λ e. (Decides-eqb i (z.vcpus + z.hosts)).0 e) (λ e. grind (arith, nat_tests))
   where
-    by : (v h m : Bool) → (v ≡ false → z.vcpus ≤ i) → (h ≡ false → z.hosts ≤ i - z.vcpus) → (m ≡ true → i ≡ z.vcpus + z.hosts) → (m ≡ false → i ≢ z.vcpus + z.hosts)
+    by : (v h m : Bool) → (v ≡ false → z.vcpus ≤ i) → (h ≡ false → z.hosts ≤ i - z.vcpus) → (m ≡ true → i ≡ z.vcpus + z.hosts)
+        → (m ≡ false → i ≢ z.vcpus + z.hosts)
         → index_of z (if v then Vcpu i else if h then Host (i - z.vcpus) else if m then Manager else Worker (i - z.vcpus - z.hosts - 1)) ≡ i
     by true h m past behind is not = refl
     by false true m past behind is not = let p = past refl in omega (arith, p)
@@ -117,7 +119,8 @@ chosen_own : (actor : Actor) (lines : List Line) → Each (λ line. line.actor �
 chosen_own actor [] = tt
 chosen_own actor (line ∷ lines) = by (chosen_own actor lines) (is_same actor line.actor) (λ e. same_actor actor line.actor e)
   where
-    by : Each (λ line. line.actor ≡ actor) (lines_of actor lines) → (b : Bool) → (b ≡ true → line.actor ≡ actor) → Each (λ line. line.actor ≡ actor) (if b then line ∷ lines_of actor lines else lines_of actor lines)
+    by : Each (λ line. line.actor ≡ actor) (lines_of actor lines) → (b : Bool) → (b ≡ true → line.actor ≡ actor)
+        → Each (λ line. line.actor ≡ actor) (if b then line ∷ lines_of actor lines else lines_of actor lines)
     by rest true is = (is refl, rest)
     by rest false is = rest
 
@@ -135,7 +138,8 @@ chosen_ids : (P : ℕ → Type 0) (actor : Actor) (lines : List Line) → AllByR
 chosen_ids P actor [] e = tt
 chosen_ids P actor (line ∷ lines) e = by (is_same actor line.actor) (chosen_ids P actor lines)
   where
-    by : (b : Bool) → (AllByRecursion P (slot_ids lines) → AllByRecursion P (slot_ids (lines_of actor lines))) → AllByRecursion P (slot_ids (if b then line ∷ lines_of actor lines else lines_of actor lines))
+    by : (b : Bool) → (AllByRecursion P (slot_ids lines) → AllByRecursion P (slot_ids (lines_of actor lines)))
+        → AllByRecursion P (slot_ids (if b then line ∷ lines_of actor lines else lines_of actor lines))
     by true rest = all_with P (or_slot_id line.command) (slot_ids lines) (slot_ids (lines_of actor lines)) (adds_id line.command) rest e
     by false rest = rest (all_behind P (or_slot_id line.command) (slot_ids lines) (adds_id line.command) e)
 
@@ -158,7 +162,8 @@ chosen_distinct : (actor : Actor) (lines : List Line) → Differ (slot_ids lines
 chosen_distinct actor [] e = e
 chosen_distinct actor (line ∷ lines) e = by (is_same actor line.actor) (chosen_distinct actor lines)
   where
-    by : (b : Bool) → (Differ (slot_ids lines) → Differ (slot_ids (lines_of actor lines))) → Differ (slot_ids (if b then line ∷ lines_of actor lines else lines_of actor lines))
+    by : (b : Bool) → (Differ (slot_ids lines) → Differ (slot_ids (lines_of actor lines)))
+        → Differ (slot_ids (if b then line ∷ lines_of actor lines else lines_of actor lines))
     by true rest =
         differ_with (or_slot_id line.command) (slot_ids lines) (slot_ids (lines_of actor lines)) (adds_id line.command) (λ P. chosen_ids P actor lines) rest e
     by false rest = rest (differ_behind (or_slot_id line.command) (slot_ids lines) (adds_id line.command) e)
@@ -168,11 +173,13 @@ chosen_few : (actor : Actor) (lines : List Line) → length (lines_of actor line
 chosen_few actor [] = omega arith
 chosen_few actor (line ∷ lines) = by (is_same actor line.actor) (chosen_few actor lines)
   where
-    by : (b : Bool) → length (lines_of actor lines) ≤ length lines → length (if b then line ∷ lines_of actor lines else lines_of actor lines) ≤ suc (length lines)
+    by : (b : Bool) → length (lines_of actor lines) ≤ length lines
+        → length (if b then line ∷ lines_of actor lines else lines_of actor lines) ≤ suc (length lines)
     by true le = omega (arith, le)
     by false le = omega (arith, le)
 
-first_lines : (z : Sizes) (lines : List Line) (w : World Held) (i : ℕ) → IsStart z lines w → i < actors_of z → OwnLines z i (first_held z (actor_at z i) (lines_of (actor_at z i) lines))
+first_lines : (z : Sizes) (lines : List Line) (w : World Held) (i : ℕ) → IsStart z lines w → i < actors_of z
+    → OwnLines z i (first_held z (actor_at z i) (lines_of (actor_at z i) lines))
 first_lines z lines w i start lt =
     let actor : Actor = actor_at z i in
     let P : Line → Type 0 = λ line. IsCommandFor z line.actor line.command in
@@ -252,14 +259,19 @@ start_good z lines w start = record {
       host_apart = λ page i j low under live more has too. let e = none_live z w (word_in z w area.Slots 0) i start.words in absurd (cc (e, live));
     };
     lines = λ i lt. subst (OwnLines z i) (sym (hand_is z lines w i start lt)) (first_lines z lines w i start lt);
-    loads = λ i lt. subst (λ (h : Held). Holds z (word_in z w area.Pool) (word_in z w area.Slots 0) h.state.place h.state.line.command h) (sym (hand_is z lines w i start lt)) tt;
+    loads =
+        λ i lt. subst (λ (h : Held). Holds z (word_in z w area.Pool) (word_in z w area.Slots 0) h.state.place h.state.line.command h)
+        (sym (hand_is z lines w i start lt)) tt;
     knows = λ i lt. subst (λ (h : Held). KnowsPart h.state.place h.state.line.command h) (sym (hand_is z lines w i start lt)) (λ has. rest_first);
     leaves = λ i lt. subst (λ (h : Held). LeavesPart h.state.place h.topics) (sym (hand_is z lines w i start lt))
         (record { leaves = λ may. refl; opens = λ may. refl });
     cached = λ i lt. subst (λ (h : Held). CachedPart z h.cached.items) (sym (hand_is z lines w i start lt))
         (All-nil (λ (t : Translation). (t.level ≡ 1) × (frame_in t.leaf < z.frames)));
     recorded = λ i lt is. subst (λ (h : Held). RecordPart (word_in z w area.Pool) (word_in z w area.Slots 0) h.slots) (sym (hand_is z lines w i start lt))
-        (record { same = sym (none_below (live_at (word_in z w area.Pool) (word_in z w area.Slots 0)) (memory_slot_at (word_in z w area.Pool) (word_in z w area.Slots 0)) 32 (λ id low. none_live z w (word_in z w area.Slots 0) id start.words)) });
+        (record {
+          same = sym (none_below (live_at (word_in z w area.Pool) (word_in z w area.Slots 0)) (memory_slot_at (word_in z w area.Pool)
+              (word_in z w area.Slots 0)) 32 (λ id low. none_live z w (word_in z w area.Slots 0) id start.words));
+        });
   };
   topics = start_topics z lines w start;
 }
@@ -274,4 +286,5 @@ reached_rests h reached left = rests_stay h (∥∥₁_map reached rests_of)
     rests_of x =
         let G = reached_good x.world x.reached in
         let there = subst (λ n. x.actor < n) G.hands x.there in
-        subst Rests x.has (hand_rests x.reached.sizes (view x.reached.sizes x.world) x.actor G.holds G.topics there (subst (λ (g : Held). length g.answers < length g.lines) (sym x.has) left))
+        subst Rests x.has (hand_rests x.reached.sizes (view x.reached.sizes x.world) x.actor G.holds G.topics there
+        (subst (λ (g : Held). length g.answers < length g.lines) (sym x.has) left))

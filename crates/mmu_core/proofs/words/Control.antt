@@ -28,5 +28,6 @@ pause_by z v a _ (Makes step note S) = ap (λ (f : ℕ → ℕ). f 0) (areas_sta
 pause_by z v a _ (Touches op index) = pause_touched op index v.words
 
 -- Each step leaves the pause.
-pub pause_stays : (z : Sizes) (v : View) (a : ℕ) (line : Line) (command : Command) (p : Place) → AreSmall v → IsStep z v a line command p → Invariant z v → TopicsInvariant z v → (stepped a line command p v).words area.Pause 0 ≡ v.words area.Pause 0
+pub pause_stays : (z : Sizes) (v : View) (a : ℕ) (line : Line) (command : Command) (p : Place) → AreSmall v → IsStep z v a line command p
+    → Invariant z v → TopicsInvariant z v → (stepped a line command p v).words area.Pause 0 ≡ v.words area.Pause 0
 pause_stays z v a line command p small S I P = pause_by z v a (task_at p command (v.hand a)) (step_in z v a line command p small S I P)

@@ -1,5 +1,5 @@
 -- The frame of a host word, and of the leaf that slots and host give, is one of the machine's.
-use Rattle.std.proofs.Common.{◌≡◌, ◌+◌, ◌-◌, ◌<◌, ◌≤◌, ℕ, sym, subst, arith, ap, ◌∙◌}
+use Rattle.std.proofs.Common.{◌≡◌, ◌+◌, ◌<◌, ◌≤◌, ℕ, subst, arith, ap, ◌∙◌}
 use Rattle.std.specs.Prelude.{true, ◌&&◌, nat_le, nat_lt}
 use Rattle.std.proofs.lemmas.Bool.Decides.{nat_tests}
 use Rattle.core_views.specs.declared.sizes.Sizes.{Sizes}
@@ -35,6 +35,7 @@ leaf_there z set role pool host gfn leaf sizes part hosts L =
 
     page : page_of L.slot gfn < z.pages
     page =
-        let fits : L.slot.host + L.slot.pages ≤ z.pages = subst (λ (s : SlotOf). s.host + s.pages ≤ z.pages) L.live.is (part.fits L.id L.live.low L.live.live).pages in
+        let fits : L.slot.host + L.slot.pages ≤ z.pages =
+        subst (λ (s : SlotOf). s.host + s.pages ≤ z.pages) L.live.is (part.fits L.id L.live.low L.live.live).pages in
         let inside = bounds L.slot.base (L.slot.base + L.slot.pages) L.holds in
         omega (arith, fits, inside.0, inside.1)

@@ -18,7 +18,8 @@ use Rattle.spte_words.proofs.ReadsEntries.{leaf_fits, table_fits}
 use Rattle.part_steps.specs.declared.part_step.PartStep.{PartStep}
 use Rattle.part_steps.specs.declared.part_step.PartStep.TheVariants as part
 use Rattle.part_steps.specs.PartBounds.{PartRests}
-use Rattle.part_steps.specs.PartTasks.{IsWithin, all_but, leaf_written, link_written, own_index, page_owned, part_kind, part_task, set_held, table_page, word_looked, words_filled, page_left, page_looked}
+use Rattle.part_steps.specs.PartTasks.{IsWithin, all_but, leaf_written, link_written, own_index, page_owned, part_kind, part_task, set_held}
+use Rattle.part_steps.specs.PartTasks.{table_page, word_looked, words_filled, page_left, page_looked}
 use Rattle.part_steps.specs.InvalidationHoldings.{MayChange, MayCount, revises}
 use Rattle.part_steps.specs.PartHoldings.{LookedUp, OwnsTable, MayPublish, MayGiveOld}
 use Rattle.part_steps.specs.PartSteps.{PartNeeds}
@@ -46,7 +47,8 @@ give_within h note some R = let page = page_there h some R in omega (arith, page
 slot_within : (h : Held) (note : ℕ) → is_some h.topics.search.set ≡ true → h.topics.search.id ≤ 31 → PartRests h → IsWithinBy h part.Slot note
 slot_within h note some low R = by h.topics.search.set refl some
   where
-    by : (x : Option ℕ) → h.topics.search.set ≡ x → is_some x ≡ true → slot_index (set_held h.topics.search.set) h.topics.search.id h.topics.search.next < size_of (map_of h.state.sizes) area.Pool
+    by : (x : Option ℕ) → h.topics.search.set ≡ x → is_some x ≡ true
+        → slot_index (set_held h.topics.search.set) h.topics.search.id h.topics.search.next < size_of (map_of h.state.sizes) area.Pool
     by None is some = absurd (cc some)
     by (Some k) is some =
         let n = is_number h.topics.search.next in
@@ -79,7 +81,8 @@ part_within_by part.Begin h note N R = R.own_place
 part_within_by part.End h note N R = R.own_place
 part_within_by (part.Map word) h note N R = N.1
 part_within_by part.Claim h note N R = N.2
-part_within_by (part.Fill value) h note N R = pool_within (map_of h.state.sizes) (page_owned h.topics.owned) (words_filled h.topics.owned) (page_there h N.0.0 R) N.0.1
+part_within_by (part.Fill value) h note N R =
+    pool_within (map_of h.state.sizes) (page_owned h.topics.owned) (words_filled h.topics.owned) (page_there h N.0.0 R) N.0.1
 part_within_by (part.Role value) h note N R = page_there h (some_filled h.topics.owned 512 N.0 (omega arith)) R
 part_within_by part.Give h note N R = give_within h note N R
 part_within_by part.Slot h note N R = slot_within h note N.0 N.1 R
@@ -119,7 +122,8 @@ leaf_small : {gfn : ℕ} (h : Held) → LookedUp gfn h.topics → PartRests h �
 leaf_small h U R =
     let looked = R.looked _ U.host in
     subst (λ o. leaf_of h.topics.search.slot (word_looked o) < 2 ^ 64) (sym U.host)
-    (leaf_fits 1 (host_frame U.word) (may_write h.topics.search.slot U.word) (host_allows_write U.word) (may_write h.topics.search.slot U.word) (omega (arith, looked.1, R.sizes.frames.1)))
+    (leaf_fits 1 (host_frame U.word) (may_write h.topics.search.slot U.word) (host_allows_write U.word) (may_write h.topics.search.slot U.word)
+    (omega (arith, looked.1, R.sizes.frames.1)))
 
 -- A page that is published is one of the pool.
 publish_small : (h : Held) → MayPublish h.topics → PartRests h → page_owned h.topics.owned < 2 ^ 64
@@ -131,7 +135,8 @@ word_fits word allowed few = host_fits (host_frame word) (host_present word) all
 
 -- The word of a frame of the machine, to which writes are allowed or forbidden, has 64 bits.
 word_small : (word new_ : ℕ) → host_frame word ≤ 2097152 → revises word new_ ≡ true → new_ < 2 ^ 64
-word_small word new_ few is = by (new_ == with_writes true word) (new_ == with_writes false word) (λ e. grind (arith, nat_tests)) (λ e. grind (arith, nat_tests)) is
+word_small word new_ few is =
+    by (new_ == with_writes true word) (new_ == with_writes false word) (λ e. grind (arith, nat_tests)) (λ e. grind (arith, nat_tests)) is
   where
     by : (x y : Bool) → (x ≡ true → new_ ≡ with_writes true word) → (y ≡ true → new_ ≡ with_writes false word) → (x || y) ≡ true → new_ < 2 ^ 64
     by true y one other is = subst (λ n. n < 2 ^ 64) (sym (one refl)) (word_fits word true few)

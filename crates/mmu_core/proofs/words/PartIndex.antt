@@ -6,6 +6,7 @@ use Rattle.part_steps.specs.declared.part_step.PartStep.TheVariants as part
 use Rattle.part_steps.specs.PartTasks.{part_task}
 
 -- the index doesn't hang on the note
-pub index_same : (step : PartStep) (own_place : ℕ) (t : Topics) (note : ℕ) → ((part_task step own_place t note).index ≡ (part_task step own_place t 0).index) × ((part_task step own_place t note).area ≡ (part_task step own_place t 0).area)
+pub index_same : (step : PartStep) (own_place : ℕ) (t : Topics) (note : ℕ) → ((part_task step own_place t note).index
+    ≡ (part_task step own_place t 0).index) × ((part_task step own_place t note).area ≡ (part_task step own_place t 0).area)
 index_same part.Enter own_place t note = (refl, refl)
 index_same _ own_place t note = (refl, refl)

@@ -21,7 +21,10 @@ use Rattle.mmu_core.specs.machine.Steps.{idle_after}
 use Rattle.part_steps.specs.Tasks.{kind_of_task, map_of}
 use Rattle.part_steps.specs.StayTopics.{is_loose, kept_search, may_search, may_walk, has_lock}
 use Rattle.part_steps.specs.WalkTopics.{is_in_table, still_owned, swapped, walked, gone_down}
-use Rattle.part_steps.specs.ControlTopics.{at_root, at_set, at_word, controlled, count_checked, in_section, map_begins, map_ends, range_checked, seq_checked, start_checked, has_to_flush}
+use Rattle.part_steps.specs.ControlTopics.{at_root, at_set, at_word, controlled, count_checked, range_checked}
+use Rattle.part_steps.specs.ControlBits.{in_section, map_begins, map_ends}
+use Rattle.part_steps.specs.ControlTopics.{seq_checked, start_checked}
+use Rattle.part_steps.specs.ControlBits.{has_to_flush}
 use Rattle.part_steps.specs.TopicSteps.{host_begins, index_in_page, topics_after}
 use Rattle.mmu_core.specs.machine.View.{View, answer_in, part_stepped, upd, words_after}
 use Rattle.mmu_core.proofs.machine.PartStepping.{IsPart}
@@ -48,7 +51,8 @@ in_map begins ends word le lt = grind (arith, nat_tests)
 
 at_lone : (z : Sizes) (word : ℕ) (claim : MapClaim) (v : ℕ) → word < 8 → at_word z word claim v ≡ claim
 at_lone z word claim v lt =
-    ap (λ (b : Bool). record { at = if b then (word - map_begins z) + (if v == 0 then 1 else 0) else claim.at; seen = if b then v else claim.seen }) (before_map (map_begins z) (map_ends z) word (omega (arith, lone_begin z)))
+    ap (λ (b : Bool). record { at = if b then (word - map_begins z) + (if v == 0 then 1 else 0) else claim.at; seen = if b then v else claim.seen })
+    (before_map (map_begins z) (map_ends z) word (omega (arith, lone_begin z)))
 
 -- a load of a lone word leaves the claim
 lone_is : (z : Sizes) (word : ℕ) (t : Topics) (v : ℕ) → word < 8 → controlled z word t v ≡ record (controlled z word t v) { claim = t.claim }
@@ -92,7 +96,8 @@ told_so root slots seq count start end_ pause claim t v = record t {
 }
 
 -- the claim behind a load of a word of the map
-at_map : (z : Sizes) (i : ℕ) (claim : MapClaim) (v : ℕ) → i < words_of_bits z.pool → at_word z (map_begins z + i) claim v ≡ record { at = i + (if v == 0 then 1 else 0); seen = v }
+at_map : (z : Sizes) (i : ℕ) (claim : MapClaim) (v : ℕ) → i < words_of_bits z.pool
+    → at_word z (map_begins z + i) claim v ≡ record { at = i + (if v == 0 then 1 else 0); seen = v }
 at_map z i claim v lt =
     ap (λ (b : Bool). record { at = if b then (map_begins z + i - map_begins z) + (if v == 0 then 1 else 0) else claim.at; seen = if b then v else claim.seen })
     (in_map (map_begins z) (map_ends z) (map_begins z + i) (omega arith) (omega (arith, map_end z)))
@@ -101,10 +106,13 @@ at_map z i claim v lt =
     taken : (m : ℕ) → m + i - m ≡ i
     taken m = omega arith
 
-mapped : (z : Sizes) (word : ℕ) (claim : MapClaim) (t : Topics) (v : ℕ) → 8 ≤ word → at_word z word t.claim v ≡ claim → controlled z word t v ≡ record t { claim = claim }
+mapped : (z : Sizes) (word : ℕ) (claim : MapClaim) (t : Topics) (v : ℕ) → 8 ≤ word → at_word z word t.claim v ≡ claim
+    → controlled z word t v ≡ record t { claim = claim }
 mapped z word claim t v le is =
-    ap (λ (b : Bool). told_so b (word == 1) (word == 2) (word == 3) (word == 4) (word == 5) (word == 7) (at_word z word t.claim v) t v) (test_false word 0 (omega arith))
-    ∙ ap (λ (b : Bool). told_so false b (word == 2) (word == 3) (word == 4) (word == 5) (word == 7) (at_word z word t.claim v) t v) (test_false word 1 (omega arith))
+    ap (λ (b : Bool). told_so b (word == 1) (word == 2) (word == 3) (word == 4) (word == 5) (word == 7) (at_word z word t.claim v) t v)
+    (test_false word 0 (omega arith))
+    ∙ ap (λ (b : Bool). told_so false b (word == 2) (word == 3) (word == 4) (word == 5) (word == 7) (at_word z word t.claim v) t v)
+    (test_false word 1 (omega arith))
     ∙ ap (λ (b : Bool). told_so false false b (word == 3) (word == 4) (word == 5) (word == 7) (at_word z word t.claim v) t v) (test_false word 2 (omega arith))
     ∙ ap (λ (b : Bool). told_so false false false b (word == 4) (word == 5) (word == 7) (at_word z word t.claim v) t v) (test_false word 3 (omega arith))
     ∙ ap (λ (b : Bool). told_so false false false false b (word == 5) (word == 7) (at_word z word t.claim v) t v) (test_false word 4 (omega arith))
@@ -112,7 +120,8 @@ mapped z word claim t v le is =
     ∙ ap (λ (b : Bool). told_so false false false false false false b (at_word z word t.claim v) t v) (test_false word 7 (omega arith))
     ∙ ap (λ (c : MapClaim). record t { claim = c }) is
 
-map_topics : (z : Sizes) (own i : ℕ) (t : Topics) (note v : ℕ) → i < words_of_bits z.pool → topics_after z (kind_of_task z (part_task (part.Map i) own t note)) t v ≡ part_topics (part.Map i) t v
+map_topics : (z : Sizes) (own i : ℕ) (t : Topics) (note v : ℕ) → i < words_of_bits z.pool
+    → topics_after z (kind_of_task z (part_task (part.Map i) own t note)) t v ≡ part_topics (part.Map i) t v
 unfolding topics_after
 map_topics z own i t note v lt =
     ap (λ word. controlled z word t v) (map_word_at z i) ∙ mapped z (map_begins z + i) _ t v (omega (arith, lone_begin z)) (at_map z i t.claim v lt)
@@ -130,22 +139,30 @@ in_table : (walk : TableWalk) → 1 ≤ walk.level → is_in_table walk ≡ true
 in_table walk from = grind (arith, nat_tests)
 
 -- a load or an exchange of an entry, where the walk has come to a table
-walk_topics : (z : Sizes) (own gfn : ℕ) (t : Topics) (note v : ℕ) → 1 ≤ t.walk.level → topics_after z (kind_of_task z (part_task (part.Walk gfn) own t note)) t v ≡ part_topics (part.Walk gfn) t v
+walk_topics : (z : Sizes) (own gfn : ℕ) (t : Topics) (note v : ℕ) → 1 ≤ t.walk.level
+    → topics_after z (kind_of_task z (part_task (part.Walk gfn) own t note)) t v ≡ part_topics (part.Walk gfn) t v
 unfolding topics_after
 walk_topics z own gfn t note v from =
-    ap (λ (b : Bool). record t { walk = if b then walked t.walk (index_in_page z (place (map_of z) area.Pool (pool_index (table_page t.walk) (entry_index gfn t.walk.level)))) v else t.walk }) (in_table t.walk from)
+    ap (λ (b : Bool). record t {
+      walk = if b then walked t.walk (index_in_page z (place (map_of z) area.Pool (pool_index (table_page t.walk) (entry_index gfn t.walk.level)))) v
+          else t.walk;
+    }) (in_table t.walk from)
     ∙ ap (λ i. record t { walk = walked t.walk i v }) (in_its_page z (table_page t.walk) (entry_index gfn t.walk.level) (omega arith))
 
-swap_topics : (z : Sizes) (gfn new_ note : ℕ) (t : Topics) (v : ℕ) → 1 ≤ t.walk.level → topics_after z (kind_of_task z (entry_task gfn new_ t.walk note)) t v ≡ exchanged (v == t.walk.entry) (entry_index gfn t.walk.level) new_ t v
+swap_topics : (z : Sizes) (gfn new_ note : ℕ) (t : Topics) (v : ℕ) → 1 ≤ t.walk.level
+    → topics_after z (kind_of_task z (entry_task gfn new_ t.walk note)) t v ≡ exchanged (v == t.walk.entry) (entry_index gfn t.walk.level) new_ t v
 unfolding topics_after
 swap_topics z gfn new_ note t v from =
     ap (λ (b : Bool). record t {
-      walk = if b then swapped (v == t.walk.entry) t.walk (index_in_page z (place (map_of z) area.Pool (pool_index (table_page t.walk) (entry_index gfn t.walk.level)))) new_ v else t.walk;
+      walk =
+          if b then swapped (v == t.walk.entry) t.walk
+          (index_in_page z (place (map_of z) area.Pool (pool_index (table_page t.walk) (entry_index gfn t.walk.level)))) new_ v else t.walk;
       owned = if b then still_owned (v == t.walk.entry) t.walk new_ t.owned else t.owned;
     }) (in_table t.walk from)
     ∙ ap (λ i. exchanged (v == t.walk.entry) i new_ t v) (in_its_page z (table_page t.walk) (entry_index gfn t.walk.level) (omega arith))
 
-zap_topics : (z : Sizes) (own gfn : ℕ) (t : Topics) (note v : ℕ) → 1 ≤ t.walk.level → topics_after z (kind_of_task z (part_task (part.Zap gfn) own t note)) t v ≡ part_topics (part.Zap gfn) t v
+zap_topics : (z : Sizes) (own gfn : ℕ) (t : Topics) (note v : ℕ) → 1 ≤ t.walk.level
+    → topics_after z (kind_of_task z (part_task (part.Zap gfn) own t note)) t v ≡ part_topics (part.Zap gfn) t v
 unfolding topics_after
 zap_topics z own gfn t note v from =
     ap (λ (b : Bool). record t {
@@ -155,7 +172,8 @@ zap_topics z own gfn t note v from =
     ∙ ap (λ i. record t { walk = gone_down None t.walk i 0 }) (in_its_page z (table_page t.walk) (entry_index gfn t.walk.level) (omega arith))
 
 -- The topics behind a step are those written out above.
-pub part_topics_is : (z : Sizes) (step : PartStep) (own : ℕ) (t : Topics) (note v : ℕ) → IsThere z t step → topics_after z (kind_of_task z (part_task step own t note)) t v ≡ part_topics step t v
+pub part_topics_is : (z : Sizes) (step : PartStep) (own : ℕ) (t : Topics) (note v : ℕ) → IsThere z t step
+    → topics_after z (kind_of_task z (part_task step own t note)) t v ≡ part_topics step t v
 unfolding topics_after place
 part_topics_is z part.Pause own t note v there = lone_is z 7 t v (omega arith)
 part_topics_is z (part.Map word) own t note v there = map_topics z own word t note v there
@@ -208,20 +226,26 @@ pub part_stepped_is : (z : Sizes) (v : View) (a : ℕ) (step : PartStep) (note :
 part_stepped_is z v a step note S =
     ap (λ own. record {
       words = words_after (part_task step own (v.hand a).topics note) v.words;
-      hand = upd v.hand a (idle_after (v.hand a) (kind_of_task (v.hand a).state.sizes (part_task step own (v.hand a).topics note)) (answer_in (part_task step own (v.hand a).topics note) v.words));
+      hand =
+          upd v.hand a (idle_after (v.hand a) (kind_of_task (v.hand a).state.sizes (part_task step own (v.hand a).topics note))
+          (answer_in (part_task step own (v.hand a).topics note) v.words));
     }) S.own_place
     ∙ ap (λ (t : Topics). record {
       words = words_after (part_task step a (v.hand a).topics note) v.words;
       hand = upd v.hand a (record {
         state = (v.hand a).state;
         topics = t;
-        cached = flushed (kind_of_task (v.hand a).state.sizes (part_task step a (v.hand a).topics note)) (v.hand a).cached (answer_in (part_task step a (v.hand a).topics note) v.words);
+        cached =
+            flushed (kind_of_task (v.hand a).state.sizes (part_task step a (v.hand a).topics note)) (v.hand a).cached
+            (answer_in (part_task step a (v.hand a).topics note) v.words);
         slots = (v.hand a).slots;
         lines = (v.hand a).lines;
         answers = (v.hand a).answers;
       });
-    }) (part_topics_is (v.hand a).state.sizes step a (v.hand a).topics note (answer_in (part_task step a (v.hand a).topics note) v.words) (is_there step (v.hand a) S.needs))
+    }) (part_topics_is (v.hand a).state.sizes step a (v.hand a).topics note (answer_in (part_task step a (v.hand a).topics note) v.words)
+    (is_there step (v.hand a) S.needs))
 
 -- what holds behind the step as it is written out holds behind it
-pub behind_step : (P : View → Type 0) (z : Sizes) (v : View) (a : ℕ) (step : PartStep) (note : ℕ) → IsPart z v a step → P (part_behind a step note v) → P (part_stepped a step note v)
+pub behind_step : (P : View → Type 0) (z : Sizes) (v : View) (a : ℕ) (step : PartStep) (note : ℕ) → IsPart z v a step → P (part_behind a step note v)
+    → P (part_stepped a step note v)
 behind_step P z v a step note S = subst P (sym (part_stepped_is z v a step note S))

@@ -12,7 +12,8 @@ use Rattle.spte_words.specs.Areas.{number_of, pool_index}
 use Rattle.spte_words.proofs.Indices.{same_pool_word}
 use Rattle.part_steps.specs.declared.part_step.PartStep.{PartStep}
 use Rattle.part_steps.specs.declared.part_step.PartStep.TheVariants as part
-use Rattle.part_steps.specs.PartTasks.{entry_index, entry_task, leaf_written, link_written, own_index, page_owned, part_task, table_page, words_filled, page_left}
+use Rattle.part_steps.specs.PartTasks.{entry_index, entry_task, leaf_written, link_written, own_index, page_owned, part_task, table_page}
+use Rattle.part_steps.specs.PartTasks.{words_filled, page_left}
 use Rattle.mmu_core.specs.invariant.TopicsInvariant.{TopicsInvariant}
 use Rattle.mmu_core.specs.machine.View.{View, part_stepped, put, upd, words_after}
 use Rattle.mmu_core.proofs.machine.Columns.{upd_other}
@@ -78,7 +79,8 @@ apart _ is = record {
 put_elsewhere : (words : Area → ℕ → ℕ) (stored b : Area) (i x : ℕ) → (number_of b == number_of stored) ≡ false → put words stored i x b ≡ words b
 put_elsewhere words stored b i x is = ap (λ (t : Bool). if t then upd (words b) i x else words b) is
 
-words_stay : (step : PartStep) (own : ℕ) (t : Topics) (note : ℕ) (words : Area → ℕ → ℕ) (b : Area) → IsApart b → words_after (part_task step own t note) words b ≡ words b
+words_stay : (step : PartStep) (own : ℕ) (t : Topics) (note : ℕ) (words : Area → ℕ → ℕ) (b : Area) → IsApart b
+    → words_after (part_task step own t note) words b ≡ words b
 words_stay part.Enter own t note words b A = put_elsewhere words area.State b own _ A.state
 words_stay part.Leave own t note words b A = put_elsewhere words area.State b own _ A.state
 words_stay part.Begin own t note words b A = put_elsewhere words area.State b own _ A.state
@@ -114,7 +116,8 @@ abbrev pub slots_behind : PartStep → Topics → ℕ → ℕ
 slots_behind part.Publish t slots = page_owned t.owned
 slots_behind _ t slots = slots
 
-slots_after : (step : PartStep) (own : ℕ) (t : Topics) (note : ℕ) (words : Area → ℕ → ℕ) → words_after (part_task step own t note) words area.Slots 0 ≡ slots_behind step t (words area.Slots 0)
+slots_after : (step : PartStep) (own : ℕ) (t : Topics) (note : ℕ) (words : Area → ℕ → ℕ)
+    → words_after (part_task step own t note) words area.Slots 0 ≡ slots_behind step t (words area.Slots 0)
 slots_after part.Publish own t note words = refl
 slots_after _ own t note words = refl
 
@@ -122,7 +125,8 @@ pub slots_same : (step : PartStep) (t : Topics) (slots : ℕ) → is_publish ste
 slots_same part.Publish t slots never = absurd (cc never)
 slots_same _ t slots never = refl
 
-pub slots_are : (v : View) (a : ℕ) (step : PartStep) (note : ℕ) → (part_stepped a step note v).words area.Slots 0 ≡ slots_behind step (v.hand a).topics (v.words area.Slots 0)
+pub slots_are : (v : View) (a : ℕ) (step : PartStep) (note : ℕ)
+    → (part_stepped a step note v).words area.Slots 0 ≡ slots_behind step (v.hand a).topics (v.words area.Slots 0)
 slots_are v a step note = slots_after step (own_index (v.hand a)) (v.hand a).topics note v.words
 
 -- ---- a page that the step doesn't store in
@@ -147,21 +151,24 @@ owned_elsewhere : (t : Topics) → is_some t.owned ≡ true → (k : ℕ) → ((
 owned_elsewhere t some k each e = let o = owned_some t some in each o.0 o.1 (sym (ap page_owned o.1) ∙ e)
 
 -- A fill leaves each other word of the pool.
-pub fill_leaves : (page filled value : ℕ) (pool : ℕ → ℕ) (k j : ℕ) → filled < 512 → j < 512 → (page ≡ k → filled ≡ j → ⊥) → upd pool (pool_index page filled) value (pool_index k j) ≡ pool (pool_index k j)
+pub fill_leaves : (page filled value : ℕ) (pool : ℕ → ℕ) (k j : ℕ) → filled < 512 → j < 512 → (page ≡ k → filled ≡ j → ⊥)
+    → upd pool (pool_index page filled) value (pool_index k j) ≡ pool (pool_index k j)
 fill_leaves page filled value pool k j low in_page differs =
     upd_other pool (pool_index page filled) (pool_index k j) value (λ e. let s = same_pool_word k page j filled in_page low e in differs (sym s.0) (sym s.1))
 
 -- An exchange of an entry leaves each other page, and so does what zaps one.
-entry_apart : (gfn x : ℕ) (walk : TableWalk) (pool : ℕ → ℕ) (k j : ℕ) → j < 512 → table_page walk ≢ k → upd pool (pool_index (table_page walk) (entry_index gfn walk.level)) x (pool_index k j) ≡ pool (pool_index k j)
+entry_apart : (gfn x : ℕ) (walk : TableWalk) (pool : ℕ → ℕ) (k j : ℕ) → j < 512 → table_page walk ≢ k
+    → upd pool (pool_index (table_page walk) (entry_index gfn walk.level)) x (pool_index k j) ≡ pool (pool_index k j)
 entry_apart gfn x walk pool k j low apart =
     upd_other pool (pool_index (table_page walk) (entry_index gfn walk.level)) (pool_index k j) x
     (λ e. let s = same_pool_word k (table_page walk) j (entry_index gfn walk.level) low (omega arith) e in apart (sym s.0))
 
-pub entry_leaves : (gfn new_ note : ℕ) (walk : TableWalk) (words : Area → ℕ → ℕ) (k j : ℕ) → j < 512 → table_page walk ≢ k → words_after (entry_task gfn new_ walk note) words area.Pool (pool_index k j) ≡ words area.Pool (pool_index k j)
+pub entry_leaves : (gfn new_ note : ℕ) (walk : TableWalk) (words : Area → ℕ → ℕ) (k j : ℕ) → j < 512 → table_page walk ≢ k
+    → words_after (entry_task gfn new_ walk note) words area.Pool (pool_index k j) ≡ words area.Pool (pool_index k j)
 entry_leaves gfn new_ note walk words k j low apart = entry_apart gfn _ walk (words area.Pool) k j low apart
 
-pub page_stays : (z : Sizes) (v : View) (a : ℕ) (step : PartStep) (note : ℕ) → IsPart z v a step → (k : ℕ) → IsElsewhere step (v.hand a).topics k → (j : ℕ) → j < 512
-    → (part_stepped a step note v).words area.Pool (pool_index k j) ≡ v.words area.Pool (pool_index k j)
+pub page_stays : (z : Sizes) (v : View) (a : ℕ) (step : PartStep) (note : ℕ) → IsPart z v a step → (k : ℕ) → IsElsewhere step (v.hand a).topics k
+    → (j : ℕ) → j < 512 → (part_stepped a step note v).words area.Pool (pool_index k j) ≡ v.words area.Pool (pool_index k j)
 page_stays z v a (part.Fill value) note S k differs j low =
     let t : Topics = (v.hand a).topics in
     fill_leaves (page_owned t.owned) (words_filled t.owned) value (v.words area.Pool) k j S.needs.0.1 low (λ e d. owned_elsewhere t S.needs.0.0 k differs e)
@@ -170,7 +177,8 @@ page_stays z v a (part.Leaf gfn) note S k differs j low = entry_leaves gfn (leaf
 page_stays z v a (part.Zap gfn) note S k differs j low = entry_apart gfn 0 (v.hand a).topics.walk (v.words area.Pool) k j low differs
 page_stays z v a _ note S k differs j low = refl
 
-pub role_stays : (z : Sizes) (v : View) (a : ℕ) (step : PartStep) (note : ℕ) → IsPart z v a step → (k : ℕ) → HasOtherRole step (v.hand a).topics k → (part_stepped a step note v).words area.Role k ≡ v.words area.Role k
+pub role_stays : (z : Sizes) (v : View) (a : ℕ) (step : PartStep) (note : ℕ) → IsPart z v a step → (k : ℕ) → HasOtherRole step (v.hand a).topics k
+    → (part_stepped a step note v).words area.Role k ≡ v.words area.Role k
 role_stays z v a (part.Role value) note S k differs =
     let t : Topics = (v.hand a).topics in
     upd_other (v.words area.Role) (page_owned t.owned) k value (λ e. owned_elsewhere t (some_filled t.owned 512 S.needs.0 (omega arith)) k differs (sym e))
@@ -178,12 +186,14 @@ role_stays z v a part.Clear note S k differs = upd_other (v.words area.Role) (pa
 role_stays z v a _ note S k differs = refl
 
 -- The table that an entry is exchanged in is no page of the published slot set, and nobody owns it.
-pub walks_elsewhere : (z : Sizes) (v : View) (a : ℕ) → a < actors_of z → TopicsInvariant z v → 1 ≤ (v.hand a).topics.walk.level → table_page (v.hand a).topics.walk ≢ v.words area.Slots 0
+pub walks_elsewhere : (z : Sizes) (v : View) (a : ℕ) → a < actors_of z → TopicsInvariant z v → 1 ≤ (v.hand a).topics.walk.level
+    → table_page (v.hand a).topics.walk ≢ v.words area.Slots 0
 walks_elsewhere z v a lt I from =
     let at = (I.held a lt).table from in
     table_not_slots I.uses I.spot (table_page (v.hand a).topics.walk) _ at
 
-pub walks_unowned : (z : Sizes) (v : View) (a : ℕ) → a < actors_of z → TopicsInvariant z v → 1 ≤ (v.hand a).topics.walk.level → (i : ℕ) (o : OwnedPage) → i < actors_of z → (v.hand i).topics.owned ≡ Some o → o.page ≢ table_page (v.hand a).topics.walk
+pub walks_unowned : (z : Sizes) (v : View) (a : ℕ) → a < actors_of z → TopicsInvariant z v → 1 ≤ (v.hand a).topics.walk.level
+    → (i : ℕ) (o : OwnedPage) → i < actors_of z → (v.hand i).topics.owned ≡ Some o → o.page ≢ table_page (v.hand a).topics.walk
 walks_unowned z v a lt I from =
     table_not_owned I.uses I.spot (table_page (v.hand a).topics.walk) _ ((I.held a lt).table from)
 
@@ -196,7 +206,8 @@ left_elsewhere t some k each = by t.leaving refl some
     by (Some l) is some e = each l is (sym (ap page_left is) ∙ e)
 
 -- A step leaves the page of the published slot set.
-pub slots_elsewhere : (z : Sizes) (v : View) (a : ℕ) (step : PartStep) → IsPart z v a step → TopicsInvariant z v → IsElsewhere step (v.hand a).topics (v.words area.Slots 0)
+pub slots_elsewhere : (z : Sizes) (v : View) (a : ℕ) (step : PartStep) → IsPart z v a step → TopicsInvariant z v
+    → IsElsewhere step (v.hand a).topics (v.words area.Slots 0)
 slots_elsewhere z v a (part.Fill value) S I = λ o is. owned_not_slots I.uses a o S.there is
 slots_elsewhere z v a (part.Link gfn) S I = walks_elsewhere z v a S.there I S.needs.0.saw.over.there
 slots_elsewhere z v a (part.Leaf gfn) S I = walks_elsewhere z v a S.there I S.needs.0.saw.over.there
@@ -204,7 +215,8 @@ slots_elsewhere z v a (part.Zap gfn) S I = walks_elsewhere z v a S.there I S.nee
 slots_elsewhere z v a _ S I = tt
 
 -- And its role.
-pub slots_other_role : (z : Sizes) (v : View) (a : ℕ) (step : PartStep) → IsPart z v a step → TopicsInvariant z v → HasOtherRole step (v.hand a).topics (v.words area.Slots 0)
+pub slots_other_role : (z : Sizes) (v : View) (a : ℕ) (step : PartStep) → IsPart z v a step → TopicsInvariant z v
+    → HasOtherRole step (v.hand a).topics (v.words area.Slots 0)
 slots_other_role z v a (part.Role value) S I = λ o is. owned_not_slots I.uses a o S.there is
 slots_other_role z v a part.Clear S I = left_elsewhere (v.hand a).topics S.needs.leaves (v.words area.Slots 0)
     (λ k is. left_not_slots I.uses a k S.there is)

@@ -26,7 +26,8 @@ none_below live at (suc n) none = rw (none_below live at n (λ i lt. none i (ome
 pub flat_below : (pool : ℕ → ℕ) (set n : ℕ) → flat_slots (memory_slots_below pool set n) ≡ slots_below pool set n
 flat_below pool set zero = refl
 flat_below pool set (suc n) =
-    map-append (λ (e : ℕ × MemorySlot). (e.0, e.1.slot)) (memory_slots_below pool set n) (if live_at pool set n then (n, memory_slot_at pool set n) ∷ [] else [])
+    map-append (λ (e : ℕ × MemorySlot). (e.0, e.1.slot)) (memory_slots_below pool set n)
+    (if live_at pool set n then (n, memory_slot_at pool set n) ∷ [] else [])
     ∙ ap (λ (xs : Slots). xs ++ flat_slots (if live_at pool set n then (n, memory_slot_at pool set n) ∷ [] else [])) (flat_below pool set n)
     ∙ ap (λ (xs : Slots). slots_below pool set n ++ xs) (last (live_at pool set n))
   where
@@ -52,29 +53,37 @@ slot_before gfn (x ∷ xs) ys s some = by (contains gfn x.1) refl (slot_before g
     by false e then_ = let rest = rw e at some in rw e (then_ rest)
 
 -- Where no live slot holds the guest frame, none is found.
-none_holds : (gfn : ℕ) (pool : ℕ → ℕ) (set n : ℕ) → ((i : ℕ) → i < n → live_at pool set i ≡ true → contains gfn (slot_at pool set i) ≡ true → ⊥) → slot_of (slots_below pool set n) gfn ≡ None
+none_holds : (gfn : ℕ) (pool : ℕ → ℕ) (set n : ℕ) → ((i : ℕ) → i < n → live_at pool set i ≡ true → contains gfn (slot_at pool set i) ≡ true → ⊥)
+    → slot_of (slots_below pool set n) gfn ≡ None
 none_holds gfn pool set zero none = refl
 none_holds gfn pool set (suc n) none =
-    slot_behind gfn (slots_below pool set n) (if live_at pool set n then (n, slot_at pool set n) ∷ [] else []) (none_holds gfn pool set n (λ i lt. none i (omega arith)))
+    slot_behind gfn (slots_below pool set n) (if live_at pool set n then (n, slot_at pool set n) ∷ [] else [])
+    (none_holds gfn pool set n (λ i lt. none i (omega arith)))
     ∙ last (live_at pool set n) (contains gfn (slot_at pool set n)) refl (none n (omega arith))
   where
-    last : (b c : Bool) → contains gfn (slot_at pool set n) ≡ c → (b ≡ true → c ≡ true → ⊥) → slot_of (if b then (n, slot_at pool set n) ∷ [] else []) gfn ≡ None
+    last : (b c : Bool) → contains gfn (slot_at pool set n) ≡ c → (b ≡ true → c ≡ true → ⊥)
+        → slot_of (if b then (n, slot_at pool set n) ∷ [] else []) gfn ≡ None
     last true true e none = absurd (none refl refl)
     last true false e none = rw e refl
     last false c e none = refl
 
 -- One live slot alone holds the guest frame: it is found.
 pub only_one_holds : (gfn : ℕ) (pool : ℕ → ℕ) (set id n : ℕ) → id < n → live_at pool set id ≡ true → contains gfn (slot_at pool set id) ≡ true
-    → ((i : ℕ) → i < n → live_at pool set i ≡ true → contains gfn (slot_at pool set i) ≡ true → i ≡ id) → slot_of (slots_below pool set n) gfn ≡ Some (slot_at pool set id)
+    → ((i : ℕ) → i < n → live_at pool set i ≡ true → contains gfn (slot_at pool set i) ≡ true → i ≡ id)
+    → slot_of (slots_below pool set n) gfn ≡ Some (slot_at pool set id)
 only_one_holds gfn pool set id zero lt live holds only = absurd (omega arith)
-only_one_holds gfn pool set id (suc n) lt live holds only = case (same_or n id) (λ less. only_one_holds gfn pool set id n less live holds (λ i below. only i (omega arith)))
+only_one_holds gfn pool set id (suc n) lt live holds only =
+    case (same_or n id) (λ less. only_one_holds gfn pool set id n less live holds (λ i below. only i (omega arith)))
   where
-    case : (n ≡ id) ⊎ (n ≢ id) → (id < n → slot_of (slots_below pool set n) gfn ≡ Some (slot_at pool set id)) → slot_of (slots_below pool set (suc n)) gfn ≡ Some (slot_at pool set id)
+    case : (n ≡ id) ⊎ (n ≢ id) → (id < n → slot_of (slots_below pool set n) gfn ≡ Some (slot_at pool set id))
+        → slot_of (slots_below pool set (suc n)) gfn ≡ Some (slot_at pool set id)
     case (inl e) before =
         slot_behind gfn (slots_below pool set n) (if live_at pool set n then (n, slot_at pool set n) ∷ [] else [])
         (none_holds gfn pool set n (λ i below is too. let same : i ≡ id = only i (omega arith) is too in absurd (omega arith)))
         ∙ rw (e, live, holds) refl
-    case (inr apart) before = slot_before gfn (slots_below pool set n) (if live_at pool set n then (n, slot_at pool set n) ∷ [] else []) (slot_at pool set id) (before (omega arith))
+    case (inr apart) before =
+        slot_before gfn (slots_below pool set n) (if live_at pool set n then (n, slot_at pool set n) ∷ [] else []) (slot_at pool set id)
+        (before (omega arith))
 
 -- Each slot of the list is live.
 pub each_is_live : (pool : ℕ → ℕ) (set n : ℕ) → n ≤ 32 → All (λ e. IsLiveIn pool set e.0 e.1) (slots_below pool set n)
@@ -85,19 +94,24 @@ each_is_live pool set (suc n) few =
     (each_is_live pool set n (omega arith)) (last (live_at pool set n) refl)
   where
     last : (b : Bool) → live_at pool set n ≡ b → All (λ (e : ℕ × Slot). IsLiveIn pool set e.0 e.1) (if b then (n, slot_at pool set n) ∷ [] else [])
-    last true live = All-cons (λ (e : ℕ × Slot). IsLiveIn pool set e.0 e.1) (n, slot_at pool set n) [] (record { low = omega arith; live = live; is = refl }) (All-nil (λ (e : ℕ × Slot). IsLiveIn pool set e.0 e.1))
+    last true live =
+        All-cons (λ (e : ℕ × Slot). IsLiveIn pool set e.0 e.1) (n, slot_at pool set n) [] (record { low = omega arith; live = live; is = refl })
+        (All-nil (λ (e : ℕ × Slot). IsLiveIn pool set e.0 e.1))
     last false live = All-nil (λ (e : ℕ × Slot). IsLiveIn pool set e.0 e.1)
 
-same_last : {A : Type 0} (b c : Bool) (n : ℕ) (x y : A) → b ≡ c → (b ≡ true → x ≡ y) → ◌≡◌ {A = List (ℕ × A)} (if b then (n, x) ∷ [] else []) (if c then (n, y) ∷ [] else [])
+same_last : {A : Type 0} (b c : Bool) (n : ℕ) (x y : A) → b ≡ c → (b ≡ true → x ≡ y)
+    → ◌≡◌ {A = List (ℕ × A)} (if b then (n, x) ∷ [] else []) (if c then (n, y) ∷ [] else [])
 same_last true true n x y e is = rw (is refl) refl
 same_last false false n x y e is = refl
 same_last _ _ n x y e is = absurd (cc)
 
 -- The same IDs are live in two sets, with the same: the list is the same.
-pub same_below : {A : Type 0} (live other : ℕ → Bool) (at there : ℕ → A) (n : ℕ) → ((i : ℕ) → i < n → live i ≡ other i) → ((i : ℕ) → i < n → live i ≡ true → at i ≡ there i) → live_below live at n ≡ live_below other there n
+pub same_below : {A : Type 0} (live other : ℕ → Bool) (at there : ℕ → A) (n : ℕ) → ((i : ℕ) → i < n → live i ≡ other i)
+    → ((i : ℕ) → i < n → live i ≡ true → at i ≡ there i) → live_below live at n ≡ live_below other there n
 same_below live other at there zero alike is = refl
 same_below {A} live other at there (suc n) alike is =
-    ap (λ (xs : List (ℕ × A)). xs ++ (if live n then (n, at n) ∷ [] else [])) (same_below live other at there n (λ i lt. alike i (omega arith)) (λ i lt. is i (omega arith)))
+    ap (λ (xs : List (ℕ × A)). xs ++ (if live n then (n, at n) ∷ [] else []))
+    (same_below live other at there n (λ i lt. alike i (omega arith)) (λ i lt. is i (omega arith)))
     ∙ ap (λ (xs : List (ℕ × A)). live_below other there n ++ xs) (same_last (live n) (other n) n (at n) (there n) (alike n (omega arith)) (is n (omega arith)))
 
 -- How two IDs compare.
@@ -112,12 +126,14 @@ abbrev with_at : {A : Type 0} → ℕ → A → List (ℕ × A) → List (ℕ ×
 with_at id x xs = insert_entry nat_cmp xs id x
 
 -- Something is put between what stands before its ID and what stands after it.
-insert_then : {A : Type 0} (id : ℕ) (new_ : A) (xs ys : List (ℕ × A)) → with_at id new_ ys ≡ (id, new_) ∷ ys → with_at id new_ (xs ++ ys) ≡ with_at id new_ xs ++ ys
+insert_then : {A : Type 0} (id : ℕ) (new_ : A) (xs ys : List (ℕ × A)) → with_at id new_ ys ≡ (id, new_) ∷ ys
+    → with_at id new_ (xs ++ ys) ≡ with_at id new_ xs ++ ys
 insert_then id new_ [] ys front = front
 insert_then {A} id new_ (x ∷ xs) ys front = by (nat_cmp id x.0) (insert_then id new_ xs ys front)
   where
     by : (o : Ordering) → with_at id new_ (xs ++ ys) ≡ with_at id new_ xs ++ ys
-        → match_ordering o ((id, new_) ∷ x ∷ (xs ++ ys)) ((x.0, new_) ∷ (xs ++ ys)) (x ∷ with_at id new_ (xs ++ ys)) ≡ match_ordering o ((id, new_) ∷ x ∷ xs) ((x.0, new_) ∷ xs) (x ∷ with_at id new_ xs) ++ ys
+        → match_ordering o ((id, new_) ∷ x ∷ (xs ++ ys)) ((x.0, new_) ∷ (xs ++ ys)) (x ∷ with_at id new_ (xs ++ ys))
+        ≡ match_ordering o ((id, new_) ∷ x ∷ xs) ((x.0, new_) ∷ xs) (x ∷ with_at id new_ xs) ++ ys
     by Greater rest = ap (λ (zs : List (ℕ × A)). x ∷ zs) rest
     by _ rest = refl
 
@@ -154,13 +170,16 @@ one_more_live {A} live other at there id (suc n) lt not_yet lives same is =
     new_ = there id
 
     before_same : n ≡ id → live_below other there n ≡ live_below live at n
-    before_same e = same_below other live there at n (λ i below. same i (omega arith) (λ q. absurd (omega arith))) (λ i below on. is i (omega arith) (λ q. absurd (omega arith)) (sym (same i (omega arith) (λ q. absurd (omega arith))) ∙ on))
+    before_same e =
+        same_below other live there at n (λ i below. same i (omega arith) (λ q. absurd (omega arith)))
+        (λ i below on. is i (omega arith) (λ q. absurd (omega arith)) (sym (same i (omega arith) (λ q. absurd (omega arith))) ∙ on))
 
     behind : id < n → (b : Bool) (x : A) → with_at id new_ (last b x) ≡ (id, new_) ∷ last b x
     behind less true x = ap (λ (o : Ordering). match_ordering o ((id, new_) ∷ (n, x) ∷ []) ((n, new_) ∷ []) ((n, x) ∷ (id, new_) ∷ [])) (cmp_less id n less)
     behind less false x = refl
 
-    case : (n ≡ id) ⊎ (n ≢ id) → (id < n → live_below other there n ≡ with_at id new_ (live_below live at n)) → live_below other there (suc n) ≡ with_at id new_ (live_below live at (suc n))
+    case : (n ≡ id) ⊎ (n ≢ id) → (id < n → live_below other there n ≡ with_at id new_ (live_below live at n))
+        → live_below other there (suc n) ≡ with_at id new_ (live_below live at (suc n))
     case (inl e) before =
         ap (λ (xs : List (ℕ × A)). xs ++ last (other n) (there n)) (before_same e)
         ∙ ap (λ k. live_below live at n ++ (if other k then (k, there k) ∷ [] else [])) e
@@ -170,11 +189,13 @@ one_more_live {A} live other at there id (suc n) lt not_yet lives same is =
     case (inr apart) before =
         let less : id < n = omega arith in
         ap (λ (xs : List (ℕ × A)). xs ++ last (other n) (there n)) (before less)
-        ∙ ap (λ (xs : List (ℕ × A)). with_at id new_ (live_below live at n) ++ xs) (same_last (other n) (live n) n (there n) (at n) (same n (omega arith) apart) (λ on. is n (omega arith) apart (sym (same n (omega arith) apart) ∙ on)))
+        ∙ ap (λ (xs : List (ℕ × A)). with_at id new_ (live_below live at n) ++ xs) (same_last (other n) (live n) n (there n) (at n)
+        (same n (omega arith) apart) (λ on. is n (omega arith) apart (sym (same n (omega arith) apart) ∙ on)))
         ∙ sym (insert_then id new_ (live_below live at n) (last (live n) (at n)) (behind less (live n) (at n)))
 
 -- Slots none of which holds the guest frame, or only read-only ones for a write, give it no page.
-pub no_page_behind : (slots : Slots) (gfn : ℕ) (op : Op) → All (λ e. contains gfn e.1 ≡ true → (is_write op && e.1.read_only) ≡ true) slots → page_behind slots gfn op ≡ None
+pub no_page_behind : (slots : Slots) (gfn : ℕ) (op : Op) → All (λ e. contains gfn e.1 ≡ true → (is_write op && e.1.read_only) ≡ true) slots
+    → page_behind slots gfn op ≡ None
 no_page_behind [] gfn op each = refl
 no_page_behind (e ∷ es) gfn op each = case (contains gfn e.1) refl (All-head P e es each) (no_page_behind es gfn op (All-tail P e es each))
   where

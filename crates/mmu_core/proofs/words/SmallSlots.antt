@@ -21,19 +21,25 @@ in_range z Manager id slot may = record { base = omega (arith, may.base); pages 
 in_range z _ id slot may = absurd may
 
 -- What the lines are allowed, each of their commands is.
-set_is_small : (z : Sizes) (lines : List Line) (id : ℕ) (slot : Slot) → All (λ line. IsCommandFor z line.actor line.command) lines → Contains (map (λ line. line.command) lines) (SetSlot id slot) → IsSmall slot
+set_is_small : (z : Sizes) (lines : List Line) (id : ℕ) (slot : Slot) → All (λ line. IsCommandFor z line.actor line.command) lines
+    → Contains (map (λ line. line.command) lines) (SetSlot id slot) → IsSmall slot
 set_is_small z [] id slot allowed has = absurd (omega (arith, has.1))
-set_is_small z (line ∷ lines) id slot allowed has = by has.0 has.1 has.2 (set_is_small z lines id slot (All-tail (λ (l : Line). IsCommandFor z l.actor l.command) line lines allowed))
+set_is_small z (line ∷ lines) id slot allowed has =
+    by has.0 has.1 has.2 (set_is_small z lines id slot (All-tail (λ (l : Line). IsCommandFor z l.actor l.command) line lines allowed))
   where
     commands : List Command
     commands = map (λ (l : Line). l.command) lines
 
-    by : (k : ℕ) → k < suc (length commands) → get_or (line.command ∷ commands) k (SetSlot id slot) ≡ SetSlot id slot → (Contains commands (SetSlot id slot) → IsSmall slot) → IsSmall slot
-    by zero lt is rest = in_range z line.actor id slot (subst (IsCommandFor z line.actor) is (All-head (λ (l : Line). IsCommandFor z l.actor l.command) line lines allowed))
+    by : (k : ℕ) → k < suc (length commands) → get_or (line.command ∷ commands) k (SetSlot id slot) ≡ SetSlot id slot
+        → (Contains commands (SetSlot id slot) → IsSmall slot) → IsSmall slot
+    by zero lt is rest =
+        in_range z line.actor id slot
+        (subst (IsCommandFor z line.actor) is (All-head (λ (l : Line). IsCommandFor z l.actor l.command) line lines allowed))
     by (suc k) lt is rest = rest (k, omega arith, is)
 
 -- So does each slot of a record that lines set.
-pub record_small : (z : Sizes) (lines : List Line) (slots : MemorySlots) → All (λ line. IsCommandFor z line.actor line.command) lines → All (IsSetBy lines) slots → (i : ℕ) (m : MemorySlot) → slot_at i slots ≡ Some m → IsSmall m.slot
+pub record_small : (z : Sizes) (lines : List Line) (slots : MemorySlots) → All (λ line. IsCommandFor z line.actor line.command) lines
+    → All (IsSetBy lines) slots → (i : ℕ) (m : MemorySlot) → slot_at i slots ≡ Some m → IsSmall m.slot
 record_small z lines [] allowed set i m is = absurd (cc is)
 record_small z lines ((k, n) ∷ es) allowed set i m is = by (k == i) is (record_small z lines es allowed (All-tail (IsSetBy lines) (k, n) es set) i m)
   where

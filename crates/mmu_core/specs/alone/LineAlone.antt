@@ -57,7 +57,8 @@ ComesNearer (Ends answer) z a before after = IsSound z after × AllRest after ×
 
 -- The step doesn't wait for another actor, and comes nearer to the line's answer.
 pub record StepsAlone (z : Sizes) (w : World Held) (s : Step Kind) : Type 0 where
-  pub goes : line_waits (place_at (hand_in mmu w s.actor).state.place (hand_in mmu w s.actor)) (line_of (hand_in mmu w s.actor)).command (hand_in mmu w s.actor) (answered mmu w s.kind) ≡ false
+  pub goes : line_waits (place_at (hand_in mmu w s.actor).state.place (hand_in mmu w s.actor)) (line_of (hand_in mmu w s.actor)).command
+      (hand_in mmu w s.actor) (answered mmu w s.kind) ≡ false
   pub nearer : ComesNearer (outcome_of (hand_in mmu w s.actor) (answered mmu w s.kind)) z s.actor w (effect mmu w s)
 
 -- A line alone goes through: no step of it waits, none of its faults begins anew, and each step leaves it fewer steps, until it is answered.
@@ -88,6 +89,6 @@ LineEndsAlone = (z : Sizes) (w : World Held) (a : ℕ) → LineAlone z w a → H
 -- Where the pool has as many pages as the trace needs at most, no line that runs alone is starved.
 abbrev pub NoneStarvedAlone : Type 0
 NoneStarvedAlone =
-    (h : Header) (lines : List Line) (w : World Held) (ss : List (Step Kind)) (s : Step Kind) (answer : Answer) → IsStart (sizes_of h) lines w → Legal mmu w ss → need h lines ≤ h.pool
-    → LineAlone (sizes_of h) (run mmu w ss) s.actor → May mmu (run mmu w ss) s
+    (h : Header) (lines : List Line) (w : World Held) (ss : List (Step Kind)) (s : Step Kind) (answer : Answer) → IsStart (sizes_of h) lines w
+    → Legal mmu w ss → need h lines ≤ h.pool → LineAlone (sizes_of h) (run mmu w ss) s.actor → May mmu (run mmu w ss) s
     → outcome_of (hand_in mmu (run mmu w ss) s.actor) (answered mmu (run mmu w ss) s.kind) ≡ Ends answer → answer ≢ Starved

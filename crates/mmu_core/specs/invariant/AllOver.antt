@@ -17,7 +17,8 @@ IsEntryOver p entry gfn = (entry < 512) × (gfn / level_span p.level ≡ p.prefi
 
 -- Each entry of table m, and of each table to which links lead from it, is so: of its level, of each guest frame that it is over, and of its word.
 abbrev pub AllOver : (ℕ → Use) → (ℕ → Position) → (ℕ → ℕ) → ℕ → (ℕ → ℕ → ℕ → Type 0) → Type 0
-AllOver up spot pool m IsSo = (table entry gfn : ℕ) → Reaches up m table → IsEntryOver (spot table) entry gfn → IsSo (spot table).level gfn (pool (pool_index table entry))
+AllOver up spot pool m IsSo =
+    (table entry gfn : ℕ) → Reaches up m table → IsEntryOver (spot table) entry gfn → IsSo (spot table).level gfn (pool (pool_index table entry))
 
 -- A leaf is the one that slots and host give the guest frame.
 abbrev pub LeafIsFor : (ℕ → ℕ) → (ℕ → ℕ) → ℕ → ℕ → ℕ → ℕ → Type 0

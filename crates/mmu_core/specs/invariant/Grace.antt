@@ -46,7 +46,8 @@ pub record SawOutside (z : Sizes) (w : World Held) (actor i : ℕ) (ss : List (S
 
 -- After every list of steps from a start, each other actor that a watch has passed was seen outside in this very watch.
 abbrev pub WatchedWasOutside : Type 0
-WatchedWasOutside = (z : Sizes) (lines : List Line) (w : World Held) (ss : List (Step Kind)) (actor i : ℕ) → IsStart z lines w → Legal mmu w ss → actor < actors_of z
+WatchedWasOutside =
+    (z : Sizes) (lines : List Line) (w : World Held) (ss : List (Step Kind)) (actor i : ℕ) → IsStart z lines w → Legal mmu w ss → actor < actors_of z
     → i < (topics_in (run mmu w ss) actor).watched → i ≢ actor → SawOutside z w actor i ss
 
 -- One of these steps, made from this world on, is the actor's own: right before it the actor was outside, and right after it the actor is in

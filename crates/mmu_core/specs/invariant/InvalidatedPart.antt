@@ -1,6 +1,6 @@
 -- Open invalidations: which guest frames they are of, and that from the sweep on no leaf of these is left, and nothing cached of them once a flush was awaited
 -- (mmu_notifier.rst; tdp_mmu.c, kvm_tdp_mmu_unmap_gfn_range; vcpu-requests.rst).
-use Rattle.std.specs.Prelude.{◌≡◌, ◌<◌, ◌≤◌, ℕ, All, List, Bool, true, false, [], not, ◌||◌, Some}
+use Rattle.std.specs.Prelude.{◌≡◌, ◌<◌, ◌≤◌, ℕ, All, List, Bool, true, false, [], not, Some}
 use Rattle.core_views.specs.declared.cache.Translation.{Translation}
 use Rattle.core_views.specs.declared.topics.Hold.TheVariants.{Exclusive}
 use Rattle.core_views.specs.declared.topics.Invalidated.{Invalidated}
@@ -89,4 +89,5 @@ pub record IsFlushed (own_ : Invalidated) (asked awaited v state : ℕ) (stay : 
 abbrev pub FlushPart : ℕ → ℕ → (ℕ → ℕ) → (ℕ → Held) → Type 0
 FlushPart n vcpus states hand =
     (i v : ℕ) → i < n → v < vcpus → (hand i).topics.invalidations.opened ≡ true
-    → IsFlushed (hand i).topics.invalidations.own (hand i).topics.flush.asked (hand i).topics.flush.awaited v (states v) (hand v).topics.stay (hand v).cached.items
+    → IsFlushed (hand i).topics.invalidations.own (hand i).topics.flush.asked (hand i).topics.flush.awaited v (states v) (hand v).topics.stay
+    (hand v).cached.items

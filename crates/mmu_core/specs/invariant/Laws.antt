@@ -19,15 +19,16 @@ use Rattle.mmu_core.specs.invariant.TopicsInvariant.{TopicsInvariant}
 use Rattle.mmu_core.specs.machine.View.{view, word_in}
 use Rattle.mmu_core.specs.machine.Worlds.{IsStart, history}
 
--- The words and hands are as many as the machine has, each word is a number below 2 ^ 64, each end of an invalidation belongs to a line, what may be used of what is cached agrees,
--- flushes that were awaited are made, no pause was set, and
+-- The words and hands are as many as the machine has, each word is a number below 2 ^ 64, each end of an invalidation belongs to a line, what may be
+-- used of what is cached agrees, flushes that were awaited are made, no pause was set, and
 -- every part of the invariant holds: what lines rest on, and what is held of the machine's parts.
 pub record IsSound (z : Sizes) (w : World Held) : Type 0 where
   pub words : length w.words ≡ total (map_of z)
   pub hands : length w.hands ≡ actors_of z
   pub small : (i : ℕ) → slice_index w.words i < 2 ^ 64
   pub ends : EndsPart z (word_in z w area.Seq 0) (hand_in mmu w)
-  pub usable : UsablePart (actors_of z) z.vcpus (word_in z w area.State) (word_in z w area.Pool) (word_in z w area.Host) (word_in z w area.Slots 0) (hand_in mmu w)
+  pub usable : UsablePart (actors_of z) z.vcpus (word_in z w area.State) (word_in z w area.Pool) (word_in z w area.Host) (word_in z w area.Slots 0)
+      (hand_in mmu w)
   pub flushes : FlushPart (actors_of z) z.vcpus (word_in z w area.State) (hand_in mmu w)
   pub no_pause : word_in z w area.Pause 0 ≡ 0
   pub holds : Invariant z (view z w)
@@ -39,4 +40,6 @@ StaysSound = (z : Sizes) (lines : List Line) (w : World Held) (ss : List (Step K
 
 -- What every list of steps tells is what flat guest memory allows, event by event.
 abbrev pub TellsLawfully : Type 0
-TellsLawfully = (z : Sizes) (lines : List Line) (w : World Held) (ss : List (Step Kind)) → IsStart z lines w → Legal mmu w ss → IsLawful z first_flat (history w ss)
+TellsLawfully =
+    (z : Sizes) (lines : List Line) (w : World Held) (ss : List (Step Kind)) → IsStart z lines w → Legal mmu w ss
+    → IsLawful z first_flat (history w ss)

@@ -27,7 +27,8 @@ IsSetBy lines entry = Contains (map (λ line. line.command) lines) (SetSlot entr
 abbrev pub lines_done : Held → ℕ
 lines_done h = length h.answers + (if may_leave h.state.place then 1 else 0)
 
--- Lines: whose the hand is, with room in its cache as the sizes say, and that its lines are its actor's; no two of them set a slot at one ID, and each slot of its record was set, as it is, by one of them, which has done so.
+-- Lines: whose the hand is, with room in its cache as the sizes say, and that its lines are its actor's; no two of them set a slot at one ID, and
+-- each slot of its record was set, as it is, by one of them, which has done so.
 pub record OwnLines (z : Sizes) (i : ℕ) (h : Held) : Type 0 where
   pub sizes : h.state.sizes ≡ z
   pub index : index_of z h.state.actor ≡ i

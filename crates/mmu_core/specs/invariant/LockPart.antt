@@ -5,7 +5,7 @@ use Rattle.core_views.specs.declared.topics.Hold.TheVariants.{Shared, Owing}
 use Rattle.part_steps.specs.PartSteps.{counts}
 use Rattle.mmu_core.specs.machine.Sums.{one_if, sum_below}
 use Rattle.part_steps.specs.StayTopics.{is_alone}
-use Rattle.part_steps.specs.ControlTopics.{has_writer}
+use Rattle.part_steps.specs.ControlBits.{has_writer}
 
 -- how many actors count as readers; how many have the lock as readers; how many have it alone
 abbrev pub readers : ℕ → (ℕ → Hold) → ℕ

@@ -50,16 +50,21 @@ pub record EndsWithScan (z : Sizes) (actor at : ℕ) (w : World Held) (ss : List
 -- In every list of steps from every start: a claim that has come to a word of the map has seen each word before it with no free page.
 -- One that is over with none free has come behind the last word, and so has seen each.
 abbrev pub ClaimsSeeEachWord : Type 0
-ClaimsSeeEachWord = (z : Sizes) (lines : List Line) (w : World Held) (ss : List (Step Kind)) → IsStart z lines w → Legal mmu w ss → (actor : ℕ) → actor < actors_of z
+ClaimsSeeEachWord =
+    (z : Sizes) (lines : List Line) (w : World Held) (ss : List (Step Kind)) → IsStart z lines w → Legal mmu w ss → (actor : ℕ) → actor < actors_of z
     → (word : ℕ) → word < (hand_in mmu (run mmu w ss) actor).topics.claim.at → SawNoneFree z actor word w ss
 
 -- All of this it has seen since it began at word 0.
 abbrev pub ClaimsScanOnce : Type 0
-ClaimsScanOnce = (z : Sizes) (lines : List Line) (w : World Held) (ss : List (Step Kind)) → IsStart z lines w → Legal mmu w ss → (actor : ℕ) → actor < actors_of z
+ClaimsScanOnce =
+    (z : Sizes) (lines : List Line) (w : World Held) (ss : List (Step Kind)) → IsStart z lines w → Legal mmu w ss → (actor : ℕ) → actor < actors_of z
     → 0 < (hand_in mmu (run mmu w ss) actor).topics.claim.at → EndsWithScan z actor (hand_in mmu (run mmu w ss) actor).topics.claim.at w ss
 
 -- From every sound world in which no line of the actor is under way, whatever steps of whatever actors follow: where the last of them
 -- answers the actor's line starved, they end with a scan of the whole map by the actor. So the line's own claim found each word of it 0.
 abbrev pub StarvedLinesScan : Type 0
-StarvedLinesScan = (z : Sizes) (w : World Held) (ss : List (Step Kind)) (s : Step Kind) → IsSound z w → Legal mmu w (ss ++ s ∷ []) → (hand_in mmu w s.actor).state.place ≡ Between
-    → outcome_of (hand_in mmu (run mmu w ss) s.actor) (answered mmu (run mmu w ss) s.kind) ≡ Ends Starved → EndsWithScan z s.actor (words_of_bits z.pool) w (ss ++ s ∷ [])
+StarvedLinesScan =
+    (z : Sizes) (w : World Held) (ss : List (Step Kind)) (s : Step Kind) → IsSound z w → Legal mmu w (ss ++ s ∷ [])
+    → (hand_in mmu w s.actor).state.place ≡ Between
+    → outcome_of (hand_in mmu (run mmu w ss) s.actor) (answered mmu (run mmu w ss) s.kind) ≡ Ends Starved
+    → EndsWithScan z s.actor (words_of_bits z.pool) w (ss ++ s ∷ [])

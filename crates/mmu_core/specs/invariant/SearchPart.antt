@@ -13,14 +13,17 @@ use Rattle.mmu_core.specs.invariant.TreePart.{IsLiveIn}
 
 -- The slot under search is live, and its flags were loaded as the words of its slot set hold them.
 abbrev pub HasFlags : (ℕ → ℕ) → ℕ → SlotSearch → Type 0
-HasFlags pool set so_far = (live_at pool set so_far.id ≡ true) × (so_far.slot.read_only ≡ (slot_at pool set so_far.id).read_only) × (so_far.logged ≡ flags_logged (pool (slot_index set so_far.id Flags)))
+HasFlags pool set so_far =
+    (live_at pool set so_far.id ≡ true) × (so_far.slot.read_only ≡ (slot_at pool set so_far.id).read_only)
+    × (so_far.logged ≡ flags_logged (pool (slot_index set so_far.id Flags)))
 
 -- What was loaded of the slot under search, up to the word that is next, is what the words of its slot set hold.
 abbrev pub HasLoaded : SlotField → (ℕ → ℕ) → ℕ → SlotSearch → Type 0
 HasLoaded Flags pool set so_far = Unit {0}
 HasLoaded Base pool set so_far = HasFlags pool set so_far
 HasLoaded Pages pool set so_far = HasFlags pool set so_far × (so_far.slot.base ≡ (slot_at pool set so_far.id).base)
-HasLoaded Host pool set so_far = HasFlags pool set so_far × (so_far.slot.base ≡ (slot_at pool set so_far.id).base) × (so_far.slot.pages ≡ (slot_at pool set so_far.id).pages)
+HasLoaded Host pool set so_far =
+    HasFlags pool set so_far × (so_far.slot.base ≡ (slot_at pool set so_far.id).base) × (so_far.slot.pages ≡ (slot_at pool set so_far.id).pages)
 
 -- A word of a slot behind its flags is next only of one of the IDs.
 abbrev pub IsOnList : SlotField → ℕ → Type 0
@@ -42,11 +45,11 @@ pub record IsUnder (page : ℕ) (t : Topics) : Type 0 where
   pub unraised : t.invalidations.raised ≡ false
   pub of_page : t.invalidations.own.page ≡ page
 
--- What was looked up of a host page is a word of the page; it is the page's own as long as the sequence number is that of the snapshot, and no invalidation of the
--- page is open that hasn't raised it. The snapshot isn't ahead of the number.
+-- What was looked up of a host page is a word of the page; it is the page's own as long as the sequence number is that of the snapshot, and no
+-- invalidation of the page is open that hasn't raised it. The snapshot isn't ahead of the number.
 pub record LookPart (z : Sizes) (n seq : ℕ) (host : ℕ → ℕ) (topics : ℕ → Topics) (t : Topics) : Type 0 where
   pub there : (look : HostLook) → t.host ≡ Some look → look.page < z.pages
   pub is_word : (look : HostLook) → t.host ≡ Some look → IsHostWord look.page look.word
-  pub still : (look : HostLook) (s : ℕ) → t.host ≡ Some look → t.invalidations.snapshot ≡ Some s → s ≡ seq → ((j : ℕ) → j < n → IsUnder look.page (topics j) → ⊥)
-      → look.word ≡ host look.page
+  pub still : (look : HostLook) (s : ℕ) → t.host ≡ Some look → t.invalidations.snapshot ≡ Some s → s ≡ seq
+      → ((j : ℕ) → j < n → IsUnder look.page (topics j) → ⊥) → look.word ≡ host look.page
   pub snapshot : (s : ℕ) → t.invalidations.snapshot ≡ Some s → s ≤ seq

@@ -48,4 +48,7 @@ pub record TopicsInvariantOf (z : Sizes) (lock root slots seq count start end_ :
   pub counters : (i : ℕ) → i < actors_of z → CountersPart z (hand i).topics
 
 abbrev pub TopicsInvariant : Sizes → View → Type 0
-TopicsInvariant z v = TopicsInvariantOf z (v.words area.Lock 0) (v.words area.Root 0) (v.words area.Slots 0) (v.words area.Seq 0) (v.words area.Count 0) (v.words area.RangeStart 0) (v.words area.RangeEnd 0) (v.words area.State) (v.words area.PoolMap) (v.words area.Host) (v.words area.Role) (v.words area.Pool) v.hand
+TopicsInvariant z v =
+    TopicsInvariantOf z (v.words area.Lock 0) (v.words area.Root 0) (v.words area.Slots 0) (v.words area.Seq 0) (v.words area.Count 0)
+    (v.words area.RangeStart 0) (v.words area.RangeEnd 0) (v.words area.State) (v.words area.PoolMap) (v.words area.Host) (v.words area.Role)
+    (v.words area.Pool) v.hand

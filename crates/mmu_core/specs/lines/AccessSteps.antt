@@ -121,7 +121,8 @@ is_found entry_kind.Leaf allowed = allowed
 is_found _ allowed = false
 
 abbrev pub access_caches : AccessPlace → Held → ℕ → Op → ℕ → Buffer Translation
-access_caches (Walk again) h gfn op v = if is_found (kind_of h.topics.walk.level v) (allows_access (is_write op) v) then with_leaf gfn h.topics.walk.level v h.cached else h.cached
+access_caches (Walk again) h gfn op v =
+    if is_found (kind_of h.topics.walk.level v) (allows_access (is_write op) v) then with_leaf gfn h.topics.walk.level v h.cached else h.cached
 access_caches _ h gfn op v = h.cached
 
 -- the exit of a line that ends with its fault

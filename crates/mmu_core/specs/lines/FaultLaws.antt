@@ -54,7 +54,8 @@ FaultStepsFall =
     (p : FaultPlace) (h : Held) (gfn v : ℕ) (write : Bool)
     → gfn < 2 ^ 36 → PartRests h → FaultKnows p h.state.sizes gfn write h.topics
     → part_waits (fault_part p gfn h.topics) h.topics v ≡ false
-    → next_left (fault_next p h.state.sizes gfn write h.topics v) h.state.sizes (part_topics (fault_part p gfn h.topics) h.topics v) < fault_left p h.state.sizes h.topics
+    → next_left (fault_next p h.state.sizes gfn write h.topics v) h.state.sizes (part_topics (fault_part p gfn h.topics) h.topics v)
+    < fault_left p h.state.sizes h.topics
 
 -- A fault has at most so many steps.
 abbrev pub FaultIsBounded : Type 0

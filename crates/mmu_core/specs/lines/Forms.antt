@@ -30,7 +30,8 @@ use Rattle.mmu_core.specs.lines.AccessKnows.{AccessKnows, RestsOn}
 use Rattle.mmu_core.specs.lines.AccessSteps.{access_caches, access_loads, access_note, access_outcome, access_part, access_tells}
 use Rattle.mmu_core.specs.lines.Bounds.{access_left}
 use Rattle.mmu_core.specs.lines.SlotChangeKnows.{RecordAccepts, SlotChangeHolds, SlotChangeKnows}
-use Rattle.mmu_core.specs.lines.SlotChangeSteps.{slot_change_first, slot_change_left, slot_change_note, slot_change_outcome, slot_change_part, slot_change_records, slot_change_tells}
+use Rattle.mmu_core.specs.lines.SlotChangeSteps.{slot_change_first, slot_change_left, slot_change_note, slot_change_outcome, slot_change_part}
+use Rattle.mmu_core.specs.lines.SlotChangeSteps.{slot_change_records, slot_change_tells}
 
 -- ---- the order of its steps
 

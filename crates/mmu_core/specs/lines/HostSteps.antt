@@ -1,5 +1,5 @@
--- The order of steps of a line that changes a host page (mmu_notifier.rst; api.rst, KVM_CAP_SYNC_MMU): it looks at the page's host word, and is refused where the
--- page isn't the actor's own; within an invalidation of the guest frame that slots give to the page it exchanges the word.
+-- The order of steps of a line that changes a host page (mmu_notifier.rst; api.rst, KVM_CAP_SYNC_MMU): it looks at the page's host word, and is
+-- refused where the page isn't the actor's own; within an invalidation of the guest frame that slots give to the page it exchanges the word.
 use Rattle.std.specs.Prelude.{◌+◌, ℕ, List, [], ◌∷◌, ◌==◌, if◌then◌else◌, ◌*◌, true, false}
 use Rattle.core_views.specs.declared.answer.Answer.TheVariants.{Done, Refused}
 use Rattle.core_views.specs.declared.answer.Refusal.TheVariants.{OutOfRange}

@@ -18,7 +18,7 @@ use Rattle.part_steps.specs.PartBounds.{PartRests}
 use Rattle.part_steps.specs.PartSteps.{PartNeeds}
 use Rattle.part_steps.specs.PartTasks.{own_index, part_kind}
 use Rattle.part_steps.specs.Tasks.{map_of}
-use Rattle.part_steps.specs.ControlTopics.{has_writer, in_section, has_to_flush}
+use Rattle.part_steps.specs.ControlBits.{has_writer, in_section, has_to_flush}
 
 -- The actor is to take itself out of the lock's readers: it saw a writer, in this word of the lock.
 abbrev pub is_owing : Hold → Bool
@@ -62,7 +62,8 @@ part_seen step h v = record { word = (part_kind h step 0).word; value = v }
 
 -- What a step that waits has seen of another actor: taking itself out of the lock's readers, the lock's word with a writer; a claim, the map's word
 -- without the bit of the page that it tried, which was free; having the lock alone, the lock's word, which isn't 0; giving it back, how many
--- invalidations are open, above 0; a watch, the state word of another actor in a section; and a flush, that of a virtual processor in the guest, of which it is asked.
+-- invalidations are open, above 0; a watch, the state word of another actor in a section; and a flush, that of a virtual processor in the guest, of
+-- which it is asked.
 abbrev pub SawAnother : PartStep → Held → Seen → Type 0
 SawAnother part.Unshare h seen = (seen.word ≡ place (map_of h.state.sizes) area.Lock 0) × (has_writer seen.value ≡ true)
 SawAnother part.Claim h seen =

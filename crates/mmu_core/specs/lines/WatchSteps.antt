@@ -5,7 +5,7 @@ use Rattle.core_views.specs.Held.{Held}
 use Rattle.core_views.specs.Sizes.{actors_of}
 use Rattle.part_steps.specs.PartTasks.{own_index}
 use Rattle.part_steps.specs.PartHoldings.{next_watched}
-use Rattle.part_steps.specs.ControlTopics.{in_section}
+use Rattle.part_steps.specs.ControlBits.{in_section}
 use Rattle.mmu_core.specs.declared.watch.WatchNext.{WatchNext}
 use Rattle.mmu_core.specs.declared.watch.WatchNext.TheVariants.{Again, Next, Last}
 

@@ -72,7 +72,14 @@ held_after line p h k v = record {
 -- the hand after a step of a part, which is no line's
 abbrev pub idle_after : Held → Kind → ℕ → Held
 idle_after h k v =
-    record { state = h.state; topics = topics_after h.state.sizes k h.topics v; cached = flushed k h.cached v; slots = h.slots; lines = h.lines; answers = h.answers }
+    record {
+      state = h.state;
+      topics = topics_after h.state.sizes k h.topics v;
+      cached = flushed k h.cached v;
+      slots = h.slots;
+      lines = h.lines;
+      answers = h.answers;
+    }
 
 -- the hand after this step, which answered v: its line's next step where it has a line left, else a step of a part
 abbrev pub next_by : Bool → Held → Kind → ℕ → Held

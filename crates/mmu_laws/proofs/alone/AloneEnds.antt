@@ -75,7 +75,8 @@ module _ (z : Sizes) (w : World Held) (a : ℕ) (L : LineAlone z w a) (has : Has
 ends_by : (n : ℕ) (z : Sizes) (w : World Held) (a : ℕ) → hand_left (hand_in mmu w a) ≤ n → LineAlone z w a → HasLineThatFits (hand_in mmu w a) → EndsAlone z w a
 ends_by zero z w a le L has = let some = hand_some (hand_in mmu w a) in absurd (omega (arith, le, some))
 ends_by (suc n) z w a le L has =
-    ends_on z w a L has (outcome_of (hand_in mmu w a) (answered mmu w (next_step z w a).kind)) refl (steps_alone z w (next_step z w a) L (may z w a L has)).nearer (λ u less M more. ends_by n z u a (omega (arith, le, less)) M more)
+    ends_on z w a L has (outcome_of (hand_in mmu w a) (answered mmu w (next_step z w a).kind)) refl
+    (steps_alone z w (next_step z w a) L (may z w a L has)).nearer (λ u less M more. ends_by n z u a (omega (arith, le, less)) M more)
 
 pub ends_alone : (z : Sizes) (w : World Held) (a : ℕ) → LineAlone z w a → HasLineThatFits (hand_in mmu w a) → EndsAlone z w a
 ends_alone z w a L has = ends_by (hand_left (hand_in mmu w a)) z w a (omega arith) L has

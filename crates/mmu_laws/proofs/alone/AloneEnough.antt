@@ -43,9 +43,11 @@ pub none_starved : (h : Header) (lines : List Line) (w : World Held) (ss : List 
     → outcome_of (hand_in mmu (run mmu w ss) s.actor) (answered mmu (run mmu w ss) s.kind) ≡ Ends answer → answer ≢ Starved
 none_starved h lines w ss s answer start legal enough L may is starved =
     let z : Sizes = sizes_of h in
-    let N : ComesNearer (Ends answer) z s.actor (run mmu w ss) (effect mmu (run mmu w ss) s) = subst (λ (o : Outcome). ComesNearer o z s.actor (run mmu w ss) (effect mmu (run mmu w ss) s)) is (steps_alone z (run mmu w ss) s L may).nearer in
+    let N : ComesNearer (Ends answer) z s.actor (run mmu w ss) (effect mmu (run mmu w ss) s) =
+    subst (λ (o : Outcome). ComesNearer o z s.actor (run mmu w ss) (effect mmu (run mmu w ss) s)) is (steps_alone z (run mmu w ss) s L may).nearer in
     let further : run mmu w (ss ++ s ∷ []) ≡ effect mmu (run mmu w ss) s = run_one_more w ss s in
     let F : HasFreePage h.pool (word_in z (run mmu w (ss ++ s ∷ [])) area.PoolMap) =
     enough_pages h lines w (ss ++ s ∷ []) start (legal_one_more w ss s legal may) enough
     (λ i lt. subst (λ (u : World Held). (hand_in mmu u i).topics.owned ≡ None) (sym further) (N.1 i (subst (λ n. i < n) (sym N.0.hands) lt)).rests.owns_none) in
-    none_free h.pool (word_in z (effect mmu (run mmu w ss) s) area.PoolMap) (N.2 starved) (subst (λ (u : World Held). HasFreePage h.pool (word_in z u area.PoolMap)) further F)
+    none_free h.pool (word_in z (effect mmu (run mmu w ss) s) area.PoolMap) (N.2 starved)
+    (subst (λ (u : World Held). HasFreePage h.pool (word_in z u area.PoolMap)) further F)

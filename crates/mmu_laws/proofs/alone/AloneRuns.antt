@@ -101,9 +101,12 @@ goes_on : (q : Place) (z : Sizes) (w after : World Held) (a : ℕ) (line : Line)
     → Behind z a after g words → HandBy (Goes q) line (hand_in mmu w a) g
     → GoesAlone (Goes q) line.command (hand_in mmu w a).state.sizes words g.topics (hand_left (hand_in mmu w a)) → ComesNearer (Goes q) z a w after
 goes_on q z w after a line g words sizes B H G =
-    let knows : AloneKnows g.state.place (line_of g).command (word_in z after) g.topics = subst (λ (ws : Area → ℕ → ℕ). AloneKnows g.state.place (line_of g).command ws g.topics) (sym B.words_are) (knows_on q line g words H.stands H.line_is G.0 G.1) in
+    let knows : AloneKnows g.state.place (line_of g).command (word_in z after) g.topics =
+    subst (λ (ws : Area → ℕ → ℕ). AloneKnows g.state.place (line_of g).command ws g.topics) (sym B.words_are)
+    (knows_on q line g words H.stands H.line_is G.0 G.1) in
     let left : length g.answers < length g.lines = rw (H.answers, H.lines) H.left in
-    let same : g.state.sizes ≡ (hand_in mmu w a).state.sizes = sym (ap (λ (x : Held). x.state.sizes) B.hand) ∙ (B.sound.holds.lines a B.there).sizes ∙ sym sizes in
+    let same : g.state.sizes ≡ (hand_in mmu w a).state.sizes =
+    sym (ap (λ (x : Held). x.state.sizes) B.hand) ∙ (B.sound.holds.lines a B.there).sizes ∙ sym sizes in
     let left_now : hand_left g ≡ steps_left q (hand_in mmu w a).state.sizes g.topics = left_there q g H.stands G.0 ∙ ap (λ y. steps_left q y g.topics) same in
     let nearer : hand_left g < hand_left (hand_in mmu w a) = subst (λ n. n < hand_left (hand_in mmu w a)) (sym left_now) G.2 in (
       record {
@@ -121,8 +124,12 @@ comes_nearer : (o : Outcome) (z : Sizes) (w after : World Held) (a : ℕ) (line 
     → GoesAlone o line.command (hand_in mmu w a).state.sizes words g.topics (hand_left (hand_in mmu w a)) → KnowsBehind o line.command g
     → ComesNearer o z a w after
 comes_nearer (Goes q) z w after a line g words sizes B H G rests = goes_on q z w after a line g words sizes B H G
-comes_nearer (Ends answer) z w after a line g words sizes B H G rests =
-    (B.sound, all, subst (λ (ws : Area → ℕ → ℕ). StarvedOnlyWithout answer z (ws area.PoolMap)) (sym B.words_are) (subst (λ y. StarvedOnlyWithout answer y (words area.PoolMap)) sizes G))
+comes_nearer (Ends answer) z w after a line g words sizes B H G rests = (
+  B.sound,
+  all,
+  subst (λ (ws : Area → ℕ → ℕ). StarvedOnlyWithout answer z (ws area.PoolMap)) (sym B.words_are)
+      (subst (λ y. StarvedOnlyWithout answer y (words area.PoolMap)) sizes G),
+)
   where
     -- its line is over
     placed : (hand_in mmu after a).state.place ≡ place.Between
@@ -183,7 +190,10 @@ module _ (z : Sizes) (w : World Held) (s : Step Kind) (L : LineAlone z w s.actor
   behind : Behind z a (effect mmu w s) (hand_after line line.command stood h x) (words_after (task_at stood line.command h) words)
   behind = record {
     sound = good_step z w s L.sound may;
-    others = λ i lt ne. subst (λ (g : Held). HoldsNothing g.topics) (sym (ap (λ (v : View). v.hand i) taken.leads ∙ upd_other (hand_in mmu w) a i (hand_after line line.command stood h x) ne)) (L.others i (subst (λ n. i < n) (hands_of_effect mmu w s) lt) ne);
+    others =
+        λ i lt ne. subst (λ (g : Held). HoldsNothing g.topics)
+        (sym (ap (λ (v : View). v.hand i) taken.leads ∙ upd_other (hand_in mmu w) a i (hand_after line line.command stood h x) ne))
+        (L.others i (subst (λ n. i < n) (hands_of_effect mmu w s) lt) ne);
     there = L.there;
     hand = ap (λ (v : View). v.hand a) taken.leads ∙ upd_same (hand_in mmu w) a (hand_after line line.command stood h x);
     words_are = ap (λ (v : View). v.words) taken.leads;
@@ -191,7 +201,8 @@ module _ (z : Sizes) (w : World Held) (s : Step Kind) (L : LineAlone z w s.actor
 
   nearer : ComesNearer (outcome_at stood line.command h x) z a w (effect mmu w s)
   nearer =
-      comes_nearer (outcome_at stood line.command h x) z w (effect mmu w s) a line (hand_after line line.command stood h x) (words_after (task_at stood line.command h) words) sizes behind
+      comes_nearer (outcome_at stood line.command h x) z w (effect mmu w s) a line (hand_after line line.command stood h x)
+      (words_after (task_at stood line.command h) words) sizes behind
       (record { stands = refl; line_is = refl; lines = refl; answers = refl; left = L.left })
       stepped_alone.next
       (line_knows z (view z w) a line line.command stood taken.is_step L.sound.holds L.sound.topics L.there)
@@ -237,8 +248,11 @@ pub told_alone : (z : Sizes) (w after : World Held) (a v : ℕ) (k : Kind) (h g 
 told_alone z w after a v k h g L has then_ may found is =
     let N = steps_alone z w (record { actor = a; kind = k }) L may in
     let o : Outcome = outcome_of (hand_in mmu w a) (answered mmu w k) in
-    let told : ToldAlone o z a (hand_in mmu w a) (hand_in mmu after a) after = nearer_told o z a w after (subst (λ (u : World Held). ComesNearer o z a w u) (sym is) N.nearer) in (
-      subst (λ n. line_waits (place_at h.state.place h) (line_of h).command h n ≡ false) found (subst (λ (x : Held). line_waits (place_at x.state.place x) (line_of x).command x (answered mmu w k) ≡ false) has N.goes),
+    let told : ToldAlone o z a (hand_in mmu w a) (hand_in mmu after a) after =
+    nearer_told o z a w after (subst (λ (u : World Held). ComesNearer o z a w u) (sym is) N.nearer) in (
+      subst (λ n. line_waits (place_at h.state.place h) (line_of h).command h n ≡ false) found
+          (subst (λ (x : Held). line_waits (place_at x.state.place x) (line_of x).command x (answered mmu w k) ≡ false) has N.goes),
       subst (λ (y : Held). ToldAlone (outcome_of h v) z a h y after) then_
-          (subst (λ n. ToldAlone (outcome_of h n) z a h (hand_in mmu after a) after) found (subst (λ (x : Held). ToldAlone (outcome_of x (answered mmu w k)) z a x (hand_in mmu after a) after) has told)),
+          (subst (λ n. ToldAlone (outcome_of h n) z a h (hand_in mmu after a) after) found
+          (subst (λ (x : Held). ToldAlone (outcome_of x (answered mmu w k)) z a x (hand_in mmu after a) after) has told)),
     )

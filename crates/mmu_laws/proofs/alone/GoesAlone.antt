@@ -27,7 +27,8 @@ GoesAlone (Ends answer) command y words t n = StarvedOnlyWithout answer y (words
 -- The step of a place goes through.
 pub record GoesOnAlone (p : Place) (command : Command) (h : Held) (words : Area → ℕ → ℕ) (u : Topics) : Type 0 where
   pub goes : line_waits p command h (answer_in (task_at p command h) words) ≡ false
-  pub next : GoesAlone (outcome_at p command h (answer_in (task_at p command h) words)) command h.state.sizes (words_after (task_at p command h) words) u (steps_left p h.state.sizes h.topics)
+  pub next : GoesAlone (outcome_at p command h (answer_in (task_at p command h) words)) command h.state.sizes
+      (words_after (task_at p command h) words) u (steps_left p h.state.sizes h.topics)
 
 -- what is held after the step of a place
 abbrev pub topics_at : Place → Command → Held → (Area → ℕ → ℕ) → Topics

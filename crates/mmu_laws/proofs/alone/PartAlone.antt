@@ -18,7 +18,7 @@ use Rattle.part_steps.specs.PartTasks.{own_index, part_task}
 use Rattle.part_steps.specs.PartSteps.{GoesOnToWord, PartNeeds}
 use Rattle.part_steps.specs.PartTopics.{part_topics}
 use Rattle.part_steps.specs.PageTopics.{is_won}
-use Rattle.part_steps.specs.ControlTopics.{has_writer}
+use Rattle.part_steps.specs.ControlBits.{has_writer}
 use Rattle.part_steps.specs.StayTopics.{has_lock, is_loose}
 use Rattle.mmu_core.specs.alone.OthersRest.{OthersRest}
 use Rattle.mmu_core.specs.alone.SeenStands.{NoneFreeBefore, ScanStands, SeenStands}

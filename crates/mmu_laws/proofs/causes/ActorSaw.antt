@@ -21,14 +21,16 @@ use Rattle.part_steps.specs.PartTasks.{own_index, part_task}
 use Rattle.part_steps.specs.PartTopics.{part_topics}
 use Rattle.part_steps.specs.Tasks.{map_of}
 use Rattle.part_steps.specs.PageTopics.{is_won}
-use Rattle.part_steps.specs.ControlTopics.{end_known, has_writer, start_known}
+use Rattle.part_steps.specs.ControlTopics.{end_known, start_known}
+use Rattle.part_steps.specs.ControlBits.{has_writer}
 use Rattle.part_steps.specs.TopicSteps.{topics_after}
 use Rattle.mmu_laws.specs.causes.Causes.{Finds}
 use Rattle.mmu_core.specs.machine.Enabled.{mmu}
 use Rattle.mmu_core.specs.invariant.Laws.{IsSound}
 use Rattle.mmu_core.specs.machine.Machine.{Legal, May, Step, World, answered, effect, hand_in, run}
 use Rattle.mmu_core.specs.lines.PartWaits.{is_owing, saw_open, own_open, was_counted}
-use Rattle.mmu_laws.specs.causes.Waits.{FindsWriter, FoundCount, FoundWriter, IsOffLockAndCount, IsOffWord, LoadsCount, SawNothing, count_word, lock_word, pool_word}
+use Rattle.mmu_laws.specs.causes.Waits.{FindsWriter, FoundCount, FoundWriter, IsOffLockAndCount, IsOffWord, LoadsCount, SawNothing, count_word}
+use Rattle.mmu_laws.specs.causes.Waits.{lock_word, pool_word}
 use Rattle.mmu_laws.proofs.causes.Changes.{Knows, knows_longer, made_longer, made_now, of_each_list}
 use Rattle.mmu_laws.proofs.causes.ClaimSeen.{mapped_saw, tried_saw}
 use Rattle.mmu_core.proofs.machine.Columns.{same_or}
@@ -88,8 +90,10 @@ module _ (z : Sizes) (w : World Held) (ss : List (Step Kind)) (s : Step Kind) (G
   off_word step M b i inside apart at =
       let same : h.state.sizes ≡ z = own_sizes z u s G may in
       let here : (part_task step (own_index h) t M.note).index < size_of (map_of z) (part_task step (own_index h) t M.note).area =
-      subst (λ (y : Sizes). (part_task step (own_index h) t M.note).index < size_of (map_of y) (part_task step (own_index h) t M.note).area) same (part_within_by step h M.note M.needs (own_rests z u s G may)) in
-      apart (places_apart (map_of z) (part_task step (own_index h) t M.note).area b (part_task step (own_index h) t M.note).index i here inside (sym (word_on z u s G may step M) ∙ at)).0
+      subst (λ (y : Sizes). (part_task step (own_index h) t M.note).index < size_of (map_of y) (part_task step (own_index h) t M.note).area) same
+      (part_within_by step h M.note M.needs (own_rests z u s G may)) in
+      apart (places_apart (map_of z) (part_task step (own_index h) t M.note).area b (part_task step (own_index h) t M.note).index i here inside
+      (sym (word_on z u s G may step M) ∙ at)).0
 
   lock_off : (step : PartStep) (M : Made step) → ((part_task step (own_index h) t M.note).area ≡ area.Lock → ⊥) → IsOffWord a (lock_word z) s
   lock_off step M apart mine = off_word step M area.Lock 0 (omega arith) apart
@@ -105,7 +109,8 @@ module _ (z : Sizes) (w : World Held) (ss : List (Step Kind)) (s : Step Kind) (G
       → ((part_task step (own_index h) t M.note).area ≡ area.Count → ⊥) → SeesHere t → saw_open t.invalidations ≡ true
       → FoundCount z a t.hold t.invalidations.count w Behind
   count_longer step M no_lock no_count S is =
-      made_longer (LoadsCount z a t.hold t.invalidations.count) (IsOffLockAndCount z a) w ss s (lock_off step M no_lock, count_off step M no_count) (S.counted is)
+      made_longer (LoadsCount z a t.hold t.invalidations.count) (IsOffLockAndCount z a) w ss s (lock_off step M no_lock, count_off step M no_count)
+      (S.counted is)
 
   abbrev ClaimSaw : ℕ → ℕ → Type 0
   ClaimSaw at seen = Knows (IsOffWord a (pool_word z at)) a (pool_word z at) seen w Behind (effect mmu u s)
@@ -114,7 +119,8 @@ module _ (z : Sizes) (w : World Held) (ss : List (Step Kind)) (s : Step Kind) (G
       → ClaimSaw t.claim.at t.claim.seen
   claim_longer step M apart S some =
       let off : s.kind.word ≢ pool_word z t.claim.at = off_word step M area.PoolMap t.claim.at (S.alone some) apart in
-      knows_longer (IsOffWord a (pool_word z t.claim.at)) a (pool_word z t.claim.at) t.claim.seen w ss s may (λ mine. off) (λ mine at. absurd (off at)) (S.claim some)
+      knows_longer (IsOffWord a (pool_word z t.claim.at)) a (pool_word z t.claim.at) t.claim.seen w ss s may (λ mine. off)
+      (λ mine at. absurd (off at)) (S.claim some)
 
   -- ---- what an actor has seen after a step of a part
 
@@ -139,12 +145,17 @@ module _ (z : Sizes) (w : World Held) (ss : List (Step Kind)) (s : Step Kind) (G
   counted_saw : (step : PartStep) → Made step → SeesHere t → saw_open (part_topics step t v).invalidations ≡ true
       → FoundCount z a (part_topics step t v).hold (part_topics step t v).invalidations.count w Behind
   counted_saw part.Count M S is =
-      let finds : Finds a (count_word z) v u s = record { by_actor = refl; on = word_on z u s G may part.Count M; finds = load_finds z u s G may part.Count M tt } in
+      let finds : Finds a (count_word z) v u s =
+      record { by_actor = refl; on = word_on z u s G may part.Count M; finds = load_finds z u s G may part.Count M tt } in
       made_now (LoadsCount z a t.hold v) (IsOffLockAndCount z a) w ss s (record { loads = ap (λ (k : Kind). k.code) M.is; finds = finds; under = refl })
-  counted_saw part.RangeStart M S is = let none = start_not_open t.invalidations.checked (nat_lt (own_open t.invalidations) t.invalidations.count) in absurd (cc (none, is))
-  counted_saw part.RangeEnd M S is = let none = range_not_open t.invalidations.checked (nat_lt (own_open t.invalidations) t.invalidations.count) in absurd (cc (none, is))
+  counted_saw part.RangeStart M S is =
+      let none = start_not_open t.invalidations.checked (nat_lt (own_open t.invalidations) t.invalidations.count) in absurd (cc (none, is))
+  counted_saw part.RangeEnd M S is =
+      let none = range_not_open t.invalidations.checked (nat_lt (own_open t.invalidations) t.invalidations.count) in absurd (cc (none, is))
   counted_saw part.Seq M S is =
-      let none = seq_not_open (has_lock t.hold) t.invalidations.count t.invalidations.checked (nat_lt (own_open t.invalidations) t.invalidations.count) in absurd (cc (none, is))
+      let none =
+      seq_not_open (has_lock t.hold) t.invalidations.count t.invalidations.checked (nat_lt (own_open t.invalidations) t.invalidations.count) in
+      absurd (cc (none, is))
   counted_saw (part.SetStart gfn) M S is =
       count_longer (part.SetStart gfn) M (λ e. cc e) (λ e. cc e) S
       (start_counted t.invalidations.checked (nat_lt (own_open t.invalidations) t.invalidations.count) is)
@@ -207,9 +218,12 @@ module _ (z : Sizes) (w : World Held) (ss : List (Step Kind)) (s : Step Kind) (G
       → ActorSaw z w actor t_ ss u → ActorSaw z w actor t_ Behind (effect mmu u s)
   same_saw actor t_ lock count map S = record {
     owing = λ word is. made_longer (FindsWriter z actor word) (IsOffWord actor (lock_word z)) w ss s (lock (lock_word z) refl) (S.owing word is);
-    counted = λ is. made_longer (LoadsCount z actor t_.hold t_.invalidations.count) (IsOffLockAndCount z actor) w ss s (lock (lock_word z) refl, count) (S.counted is);
+    counted =
+        λ is. made_longer (LoadsCount z actor t_.hold t_.invalidations.count) (IsOffLockAndCount z actor) w ss s (lock (lock_word z) refl, count)
+        (S.counted is);
     claim = λ some. let off : IsOffWord actor (pool_word z t_.claim.at) s = map t_.claim.at (S.alone some) in
-        knows_longer (IsOffWord actor (pool_word z t_.claim.at)) actor (pool_word z t_.claim.at) t_.claim.seen w ss s may off (λ mine at. absurd (off mine at)) (S.claim some);
+        knows_longer (IsOffWord actor (pool_word z t_.claim.at)) actor (pool_word z t_.claim.at) t_.claim.seen w ss s may off
+        (λ mine at. absurd (off mine at)) (S.claim some);
     alone = S.alone;
   }
 
@@ -218,7 +232,8 @@ module _ (z : Sizes) (w : World Held) (ss : List (Step Kind)) (s : Step Kind) (G
 
   touch_saw : place (map_of z) area.Content 0 ≤ s.kind.word → SeesHere t → SeesBehind t
   touch_saw from S =
-      same_saw a t (λ word is mine at. far area.Lock 0 (omega arith) (omega arith) from (at ∙ is)) (λ mine. far area.Count 0 (omega arith) (omega arith) from) (λ i low mine. far area.PoolMap i (omega arith) low from) S
+      same_saw a t (λ word is mine at. far area.Lock 0 (omega arith) (omega arith) from (at ∙ is))
+      (λ mine. far area.Count 0 (omega arith) (omega arith) from) (λ i low mine. far area.PoolMap i (omega arith) low from) S
 
   -- ---- after each step
 
@@ -236,7 +251,8 @@ module _ (z : Sizes) (w : World Held) (ss : List (Step Kind)) (s : Step Kind) (G
           let M : Made N.step = record { note = N.note; is = N.is; needs = N.needs } in
           subst SeesBehind (sym (behind ∙ made_topics h s v N.step M)) (part_saw N.step M S)
       by (inr Q) =
-          subst SeesBehind (sym (behind ∙ Q.topics v)) (touch_saw (subst (λ (y : Sizes). place (map_of y) area.Content 0 ≤ s.kind.word) (own_sizes z u s G may) Q.content) S)
+          subst SeesBehind (sym (behind ∙ Q.topics v))
+          (touch_saw (subst (λ (y : Sizes). place (map_of y) area.Content 0 ≤ s.kind.word) (own_sizes z u s G may) Q.content) S)
 
   saw_more : (actor : ℕ) → HandSaw actor ss u → HandSaw actor Behind (effect mmu u s)
   saw_more actor S = by (same_or actor s.actor)
@@ -244,7 +260,8 @@ module _ (z : Sizes) (w : World Held) (ss : List (Step Kind)) (s : Step Kind) (G
       by : (actor ≡ s.actor) ⊎ (actor ≢ s.actor) → HandSaw actor Behind (effect mmu u s)
       by (inl own) = subst (λ i. HandSaw i Behind (effect mmu u s)) (sym own) (own_saw (subst (λ i. HandSaw i ss u) own S))
       by (inr apart) =
-          subst (λ (x : Held). ActorSaw z w actor x.topics Behind (effect mmu u s)) (sym (others_hand u s actor apart)) (others_saw actor (hand_in mmu u actor).topics (λ e. apart (sym e)) S)
+          subst (λ (x : Held). ActorSaw z w actor x.topics Behind (effect mmu u s)) (sym (others_hand u s actor apart))
+          (others_saw actor (hand_in mmu u actor).topics (λ e. apart (sym e)) S)
 
 first_saw : (z : Sizes) (w : World Held) (actor : ℕ) (t_ : Topics) → SawNothing t_ → ActorSaw z w actor t_ [] w
 first_saw z w actor t_ N = record {
@@ -258,5 +275,6 @@ first_saw z w actor t_ N = record {
 pub actor_saw : (z : Sizes) (w : World Held) (ss : List (Step Kind)) (actor : ℕ) → IsSound z w → Legal mmu w ss → SawNothing (hand_in mmu w actor).topics
     → ActorSaw z w actor (hand_in mmu (run mmu w ss) actor).topics ss (run mmu w ss)
 actor_saw z w ss actor G legal N =
-    of_each_list z w (λ (ts : List (Step Kind)) (x : World Held). ActorSaw z w actor (hand_in mmu x actor).topics ts x) (λ ts s sound may S. saw_more z w ts s sound may actor S) ss G legal
+    of_each_list z w (λ (ts : List (Step Kind)) (x : World Held). ActorSaw z w actor (hand_in mmu x actor).topics ts x)
+    (λ ts s sound may S. saw_more z w ts s sound may actor S) ss G legal
     (first_saw z w actor (hand_in mmu w actor).topics N)

@@ -27,7 +27,7 @@ use Rattle.spte_words.specs.declared.spte_kind.SpteKind.TheVariants as entry_kin
 use Rattle.spte_words.specs.Areas.{place as place_of, pool_index, size_of}
 use Rattle.spte_words.specs.Entries.{kind_of}
 use Rattle.spte_words.specs.HostWords.{host_allows_write}
-use Rattle.spte_words.proofs.Indices.{pool_within, same_pool_word}
+use Rattle.spte_words.proofs.Indices.{pool_within}
 use Rattle.part_steps.specs.declared.part_step.PartStep.{PartStep}
 use Rattle.part_steps.specs.declared.part_step.PartStep.TheVariants as part
 use Rattle.mmu_laws.specs.causes.Causes.{Finds, HasMade, SawChange, StaysInSection}
@@ -37,29 +37,26 @@ use Rattle.mmu_core.specs.declared.claim.ClaimNext.TheVariants as claims
 use Rattle.mmu_core.specs.declared.share.ShareNext.{ShareNext}
 use Rattle.mmu_core.specs.declared.share.ShareNext.TheVariants as shares
 use Rattle.mmu_core.specs.lines.FaultKnows.{CheckKnows, FaultKnows, is_trying}
-use Rattle.mmu_core.specs.lines.FaultSteps.{after_claim, after_share, allows_access, check_next, check_part, claim_next, entry_word, fault_next, fault_part, find_next, found_next, is_last_word, map_word, share_next, share_part, snapshot_taken, tries_page, walk_next}
+use Rattle.mmu_core.specs.lines.FaultSteps.{after_claim, after_share, allows_access, check_next, check_part, claim_next, entry_word, fault_next}
+use Rattle.mmu_core.specs.lines.FaultSteps.{fault_part, find_next, found_next, is_last_word, map_word, share_next, share_part, snapshot_taken}
+use Rattle.mmu_core.specs.lines.FaultSteps.{tries_page, walk_next}
 use Rattle.mmu_core.specs.invariant.Laws.{IsSound}
 use Rattle.mmu_core.specs.machine.Machine.{May, Step, World, answered, effect, found, hand_in, run}
 use Rattle.part_steps.specs.PartBounds.{PartRests}
-use Rattle.part_steps.specs.PartTasks.{entry_index, page_owned, table_page, words_filled}
-use Rattle.part_steps.specs.PartHoldings.{HasToFill}
+use Rattle.part_steps.specs.PartTasks.{entry_index, table_page, words_filled}
 use Rattle.part_steps.specs.PartTopics.{part_topics, sequenced}
 use Rattle.part_steps.specs.Tasks.{map_of}
 use Rattle.part_steps.specs.StayTopics.{is_loose}
 use Rattle.part_steps.specs.WalkTopics.{gone_down, linked_page}
 use Rattle.part_steps.specs.PageTopics.{searched}
-use Rattle.mmu_core.specs.invariant.TreePart.{EntryPart, at}
-use Rattle.mmu_core.specs.machine.View.{view, word_in}
-use Rattle.mmu_core.proofs.invariant.AloneLaws.{part_found}
 use Rattle.mmu_laws.proofs.causes.CausePlaces.{CauseSaw, FaultSaw, KnowsEntry, end_longer}
-use Rattle.mmu_laws.proofs.causes.CauseSteps.{IsAmid, IsExchange, IsLoad, Spares, entry_kinds, spared}
+use Rattle.mmu_laws.proofs.causes.CauseSteps.{IsAmid, IsExchange, IsLoad, Spares, spared}
 use Rattle.mmu_laws.proofs.causes.Changes.{Knows, knows_longer, knows_now, made_longer, made_now, saw_now, was_changed}
 use Rattle.mmu_core.proofs.lines.ClaimMade.{claim_made, claim_walk}
 use Rattle.mmu_laws.proofs.causes.EachFault.{NextIs}
 use Rattle.mmu_core.proofs.lines.FaultSame.{over_it}
 use Rattle.mmu_laws.proofs.causes.MadeSteps.{Makes, exchange_finds, in_machine, load_finds, load_keeps, own_rests, own_sizes, stays_in, word_on}
-use Rattle.mmu_core.proofs.words.PartWords.{walks_unowned}
-use Rattle.mmu_core.proofs.pages.Owned.{owned_some}
+use Rattle.mmu_laws.proofs.causes.EntryLoaded.{fill_spares, kinds, low}
 
 module _ (z : Sizes) (w : World Held) (ss : List (Step Kind)) (s : Step Kind) (G : IsSound z (run mmu w ss)) (may : May mmu (run mmu w ss) s) where
   abbrev a : ℕ
@@ -117,35 +114,43 @@ module _ (z : Sizes) (w : World Held) (ss : List (Step Kind)) (s : Step Kind) (G
   seq_longer : (number : ℕ) (step : PartStep) (M : Made step) → IsAmid step → Spares area.Seq 0 h step M.note → SeqIs number ss u → SeqIs number more behind
   seq_longer number step M is spares K = longer area.Seq 0 number step M is (omega arith) spares K
 
-  either : (b : Bool) (p q : FaultPlace) (gfn : ℕ) (t_ : Topics) → FaultSaw z a w p gfn t_ more behind → FaultSaw z a w q gfn t_ more behind → FaultSaw z a w (if b then p else q) gfn t_ more behind
+  either : (b : Bool) (p q : FaultPlace) (gfn : ℕ) (t_ : Topics) → FaultSaw z a w p gfn t_ more behind → FaultSaw z a w q gfn t_ more behind
+      → FaultSaw z a w (if b then p else q) gfn t_ more behind
   either true p q gfn t_ one other = one
   either false p q gfn t_ one other = other
 
   snapshot_saw : (gfn : ℕ) (hold : Hold) → hold ≡ Loose → Made part.Seq → FaultSaw z a w (Find false) gfn (sequenced (is_loose hold) t v) more behind
-  snapshot_saw gfn Loose loose M = knows_now So a (place_of (map_of z) area.Seq 0) v w ss s may (record { by_actor = refl; on = word_on z u s G may part.Seq M; leaves = load_keeps z u s G may part.Seq M tt })
+  snapshot_saw gfn Loose loose M = knows_now So a (place_of (map_of z) area.Seq 0) v w ss s may
+      (record { by_actor = refl; on = word_on z u s G may part.Seq M; leaves = load_keeps z u s G may part.Seq M tt })
   snapshot_saw gfn _ loose M = absurd (cc loose)
 
   -- ---- the search, the lock and the check
 
-  find_saw : (gfn : ℕ) (write : Bool) (f : SlotField) (so_far : SlotSearch) (t_ : Topics) → SeqIs (snapshot_taken t_.invalidations.snapshot) more behind → FaultSaw z a w (find_next gfn write f so_far) gfn t_ more behind
+  find_saw : (gfn : ℕ) (write : Bool) (f : SlotField) (so_far : SlotSearch) (t_ : Topics) → SeqIs (snapshot_taken t_.invalidations.snapshot) more behind
+      → FaultSaw z a w (find_next gfn write f so_far) gfn t_ more behind
   find_saw gfn write f so_far t_ K =
-      either (is_last_word f && contains gfn so_far.slot) (found_next write so_far) (if so_far.id == 32 then End Mmio else Find true) gfn t_ (either (write && so_far.slot.read_only) (End Mmio) Host gfn t_ tt K)
-      (either (so_far.id == 32) (End Mmio) (Find true) gfn t_ tt K)
+      either (is_last_word f && contains gfn so_far.slot) (found_next write so_far) (if so_far.id == 32 then End Mmio else Find true) gfn t_
+      (either (write && so_far.slot.read_only) (End Mmio) Host gfn t_ tt K) (either (so_far.id == 32) (End Mmio) (Find true) gfn t_ tt K)
 
-  tried_saw : (next : ShareNext) (gfn : ℕ) (t_ : Topics) → SeqIs (snapshot_taken t_.invalidations.snapshot) more behind → FaultSaw z a w (after_share next) gfn t_ more behind
+  tried_saw : (next : ShareNext) (gfn : ℕ) (t_ : Topics) → SeqIs (snapshot_taken t_.invalidations.snapshot) more behind
+      → FaultSaw z a w (after_share next) gfn t_ more behind
   tried_saw shares.Tries gfn t_ K = K
   tried_saw shares.Shares gfn t_ K = (K, tt)
 
-  share_saw : (hold : Hold) (gfn : ℕ) → is_trying hold ≡ true → Made (share_part hold) → SeqIs (snapshot_taken t.invalidations.snapshot) ss u → FaultSaw z a w (after_share (share_next hold v)) gfn (part_topics (share_part hold) t v) more behind
+  share_saw : (hold : Hold) (gfn : ℕ) → is_trying hold ≡ true → Made (share_part hold) → SeqIs (snapshot_taken t.invalidations.snapshot) ss u
+      → FaultSaw z a w (after_share (share_next hold v)) gfn (part_topics (share_part hold) t v) more behind
   share_saw Loose gfn try_ M K = tried_saw (share_next Loose v) gfn (part_topics part.Share t v) (seq_longer _ part.Share M tt (inr (λ e. absurd (cc e))) K)
   share_saw (Owing word) gfn try_ M K = seq_longer _ part.Unshare M tt (inr (λ e. absurd (cc e))) K
   share_saw _ gfn try_ M K = absurd (cc try_)
 
-  found_it : (step : PartStep) (b : Area) (M : Made step) → IsLoad step → s.kind.word ≡ place_of (map_of z) b 0 → HasMade (Finds a (place_of (map_of z) b 0) v) So w more
-  found_it step b M is here = made_now (Finds a (place_of (map_of z) b 0) v) So w ss s (record { by_actor = refl; on = here; finds = load_finds z u s G may step M is })
+  found_it : (step : PartStep) (b : Area) (M : Made step) → IsLoad step → s.kind.word ≡ place_of (map_of z) b 0
+      → HasMade (Finds a (place_of (map_of z) b 0) v) So w more
+  found_it step b M is here =
+      made_now (Finds a (place_of (map_of z) b 0) v) So w ss s (record { by_actor = refl; on = here; finds = load_finds z u s G may step M is })
 
   range_saw : (gfn : ℕ) (b : Bool) → (nat_le t.invalidations.start gfn && nat_lt gfn v) ≡ b → Made part.RangeEnd → CheckKnows stage.End gfn t.invalidations
-      → FaultSaw z a w (Check stage.End) gfn t ss u → FaultSaw z a w (if b then Unshare (Retry (Open t.invalidations.count t.invalidations.start v gfn)) else Check stage.Seq) gfn (part_topics part.RangeEnd t v) more behind
+      → FaultSaw z a w (Check stage.End) gfn t ss u → FaultSaw z a w
+      (if b then Unshare (Retry (Open t.invalidations.count t.invalidations.start v gfn)) else Check stage.Seq) gfn (part_topics part.RangeEnd t v) more behind
   range_saw gfn true is M C K =
       let O = over_it t.invalidations.start gfn v is in (
         refl,
@@ -161,22 +166,32 @@ module _ (z : Sizes) (w : World Held) (ss : List (Step Kind)) (s : Step Kind) (G
   range_saw gfn false is M C K = (seq_longer _ part.RangeEnd M tt (inl tt) K.0, tt)
 
   -- Where a word holds another number than the one that was known, its change was seen.
-  saw : (step : PartStep) (word number : ℕ) (M : Made step) → IsAmid step → s.kind.word ≡ word → n ≡ v → Knows So a word number w ss u → v ≢ number → SawChange a word number v w more
+  saw : (step : PartStep) (word number : ℕ) (M : Made step) → IsAmid step → s.kind.word ≡ word → n ≡ v → Knows So a word number w ss u → v ≢ number
+      → SawChange a word number v w more
   saw step word number M is here finds K differs =
-      saw_now a word number v w ss s (stays_in z u s G may step M is) (was_changed So a word number w ss u K (λ e. differs (sym finds ∙ ap (slice_index u.words) here ∙ e))) (record { by_actor = refl; on = here; finds = finds }) differs
+      saw_now a word number v w ss s (stays_in z u s G may step M is) (was_changed So a word number w ss u K
+      (λ e. differs (sym finds ∙ ap (slice_index u.words) here ∙ e))) (record { by_actor = refl; on = here; finds = finds }) differs
 
   seq_saw : (gfn : ℕ) (b : Bool) → (v == snapshot_taken t.invalidations.snapshot) ≡ b → Made part.Seq → SeqIs (snapshot_taken t.invalidations.snapshot) ss u
-      → FaultSaw z a w (if b then Walk false else Unshare (Retry (Moved (snapshot_taken t.invalidations.snapshot) v))) gfn (part_topics part.Seq t v) more behind
+      → FaultSaw z a w (if b then Walk false else Unshare (Retry (Moved (snapshot_taken t.invalidations.snapshot) v))) gfn
+      (part_topics part.Seq t v) more behind
   seq_saw gfn true is M K = tt
-  seq_saw gfn false is M K = saw part.Seq _ (snapshot_taken t.invalidations.snapshot) M tt (word_on z u s G may part.Seq M) (load_finds z u s G may part.Seq M tt) K (eqb-false v (snapshot_taken t.invalidations.snapshot) is)
+  seq_saw gfn false is M K = saw part.Seq _ (snapshot_taken t.invalidations.snapshot) M tt (word_on z u s G may part.Seq M)
+      (load_finds z u s G may part.Seq M tt) K (eqb-false v (snapshot_taken t.invalidations.snapshot) is)
 
   check_saw : (stage_ : CheckStage) (gfn : ℕ) → Made (check_part stage_) → CheckKnows stage_ gfn t.invalidations → FaultSaw z a w (Check stage_) gfn t ss u
       → FaultSaw z a w (check_next stage_ gfn t v) gfn (part_topics (check_part stage_) t v) more behind
   check_saw stage.Count gfn M C K =
       let K_ = seq_longer _ part.Count M tt (inl tt) K.0 in
-      either (v == 0) (Check stage.Seq) (Check stage.Start) gfn (part_topics part.Count t v) (K_, tt) (K_, found_it part.Count area.Count M tt (word_on z u s G may part.Count M))
-  check_saw stage.Start gfn M C K =
-      (seq_longer _ part.RangeStart M tt (inl tt) K.0, (made_longer (Finds a _ t.invalidations.count) So w ss s (stays_in z u s G may part.RangeStart M tt) K.1, found_it part.RangeStart area.RangeStart M tt (word_on z u s G may part.RangeStart M)))
+      either (v == 0) (Check stage.Seq) (Check stage.Start) gfn (part_topics part.Count t v) (K_, tt)
+      (K_, found_it part.Count area.Count M tt (word_on z u s G may part.Count M))
+  check_saw stage.Start gfn M C K = (
+    seq_longer _ part.RangeStart M tt (inl tt) K.0,
+    (
+      made_longer (Finds a _ t.invalidations.count) So w ss s (stays_in z u s G may part.RangeStart M tt) K.1,
+      found_it part.RangeStart area.RangeStart M tt (word_on z u s G may part.RangeStart M),
+    ),
+  )
   check_saw stage.End gfn M C K = range_saw gfn (nat_le t.invalidations.start gfn && nat_lt gfn v) refl M C K
   check_saw stage.Seq gfn M C K = seq_saw gfn (v == snapshot_taken t.invalidations.snapshot) refl M K.0
 
@@ -188,59 +203,47 @@ module _ (z : Sizes) (w : World Held) (ss : List (Step Kind)) (s : Step Kind) (G
   abbrev EntryIs : ℕ → ℕ → List (Step Kind) → World Held → Type 0
   EntryIs gfn number ts x = Knows So a (entry_word z gfn t.walk) number w ts x
 
-  low : (gfn : ℕ) → entry_index gfn t.walk.level < 512
-  low gfn = omega arith
-
-  entry_longer : (gfn : ℕ) (step : PartStep) (M : Made step) → 1 ≤ t.walk.level → IsAmid step → Spares area.Pool (entry_at gfn) h step M.note → EntryIs gfn t.walk.entry ss u → EntryIs gfn t.walk.entry more behind
+  entry_longer : (gfn : ℕ) (step : PartStep) (M : Made step) → 1 ≤ t.walk.level → IsAmid step → Spares area.Pool (entry_at gfn) h step M.note
+      → EntryIs gfn t.walk.entry ss u → EntryIs gfn t.walk.entry more behind
   entry_longer gfn step M from is spares K =
-      longer area.Pool (entry_at gfn) t.walk.entry step M is (pool_within (map_of z) (table_page t.walk) (entry_index gfn t.walk.level) (subst (λ (y : Sizes). table_page t.walk < y.pool) same (rests.table from)) (low gfn)) spares K
-
-  -- the entry that a walk loads: it isn't frozen, and where it is a leaf its table is of the lowest level
-  kinds : (gfn : ℕ) (M : Made (part.Walk gfn)) → (kind_of t.walk.level v ≡ entry_kind.Leaf → t.walk.level ≡ 1) × (kind_of t.walk.level v ≢ entry_kind.Frozen)
-  kinds gfn M =
-      let from : 1 ≤ t.walk.level = M.needs.there in
-      let is : v ≡ word_in z u area.Pool (entry_at gfn) = ap (answered mmu u) M.is ∙ part_found z u a (part.Walk gfn) M.note G there M.needs in
-      let most = G.holds.sizes.pool.1 in
-      let at_page = (G.topics.held a there).table from in
-      entry_kinds G.topics.tree (table_page t.walk) (at t.walk.level t.walk.prefix) (entry_index gfn t.walk.level) v (omega (arith, most)) at_page
-      (subst (EntryPart G.topics.up (table_page t.walk) (at t.walk.level t.walk.prefix) (entry_index gfn t.walk.level)) (sym is)
-      (G.topics.tree.entries (table_page t.walk) (at t.walk.level t.walk.prefix) at_page (entry_index gfn t.walk.level) (low gfn)))
+      longer area.Pool (entry_at gfn) t.walk.entry step M is (pool_within (map_of z) (table_page t.walk) (entry_index gfn t.walk.level)
+      (subst (λ (y : Sizes). table_page t.walk < y.pool) same (rests.table from)) (low z u s G may gfn)) spares K
 
   entry_now : (gfn : ℕ) → Made (part.Walk gfn) → EntryIs gfn v more behind
-  entry_now gfn M = knows_now So a (entry_word z gfn t.walk) v w ss s may (record { by_actor = refl; on = word_on z u s G may (part.Walk gfn) M; leaves = load_keeps z u s G may (part.Walk gfn) M tt })
+  entry_now gfn M = knows_now So a (entry_word z gfn t.walk) v w ss s may
+      (record { by_actor = refl; on = word_on z u s G may (part.Walk gfn) M; leaves = load_keeps z u s G may (part.Walk gfn) M tt })
 
   abbrev gone : ℕ → SpteKind → Topics
   gone gfn k = record t { walk = gone_down (linked_page k) t.walk (entry_index gfn t.walk.level) v }
 
   leaf_saw : (gfn : ℕ) (write : Bool) (b : Bool) → (t.walk.level == 1) ≡ b → kind_of t.walk.level v ≡ entry_kind.Leaf → Made (part.Walk gfn)
-      → FaultSaw z a w (if b then (if allows_access write v then Unshare Installed else Leaf) else Unshare (Retry (Entry (entry_word z gfn t.walk) v v))) gfn (gone gfn entry_kind.Leaf) more behind
+      → FaultSaw z a w (if b then (if allows_access write v then Unshare Installed else Leaf) else Unshare (Retry (Entry (entry_word z gfn t.walk) v v))) gfn
+      (gone gfn entry_kind.Leaf) more behind
   leaf_saw gfn write true is leaf M = either (allows_access write v) (Unshare Installed) Leaf gfn (gone gfn entry_kind.Leaf) tt (entry_now gfn M)
-  leaf_saw gfn write false is leaf M = let one = (kinds gfn M).0 leaf in absurd (grind (arith, nat_tests))
+  leaf_saw gfn write false is leaf M = let one = (kinds z u s G may gfn M).0 leaf in absurd (grind (arith, nat_tests))
 
-  walk_saw : (gfn : ℕ) (write : Bool) (k : SpteKind) → kind_of t.walk.level v ≡ k → Made (part.Walk gfn) → FaultSaw z a w (walk_next k z gfn write t.walk v) gfn (gone gfn k) more behind
+  walk_saw : (gfn : ℕ) (write : Bool) (k : SpteKind) → kind_of t.walk.level v ≡ k → Made (part.Walk gfn)
+      → FaultSaw z a w (walk_next k z gfn write t.walk v) gfn (gone gfn k) more behind
   walk_saw gfn write (entry_kind.Table page) is M = tt
   walk_saw gfn write entry_kind.Leaf is M = leaf_saw gfn write (t.walk.level == 1) refl is M
   walk_saw gfn write entry_kind.Absent is M = either (t.walk.level == 1) Leaf (Claim false) gfn (gone gfn entry_kind.Absent) (entry_now gfn M) (entry_now gfn M)
-  walk_saw gfn write entry_kind.Frozen is M = absurd ((kinds gfn M).1 is)
+  walk_saw gfn write entry_kind.Frozen is M = absurd ((kinds z u s G may gfn M).1 is)
 
-  claim_longer : (gfn : ℕ) (tries : Bool) (word : ℕ) → Made (if tries then part.Claim else part.Map word) → 1 ≤ t.walk.level → EntryIs gfn t.walk.entry ss u → EntryIs gfn t.walk.entry more behind
+  claim_longer : (gfn : ℕ) (tries : Bool) (word : ℕ) → Made (if tries then part.Claim else part.Map word) → 1 ≤ t.walk.level → EntryIs gfn t.walk.entry ss u
+      → EntryIs gfn t.walk.entry more behind
   claim_longer gfn true word M from K = entry_longer gfn part.Claim M from tt (inr (λ e. absurd (cc e))) K
   claim_longer gfn false word M from K = entry_longer gfn (part.Map word) M from tt (inl tt) K
 
-  claim_saw : (gfn : ℕ) (next : ClaimNext) (t_ : Topics) → t_.walk ≡ t.walk → EntryIs gfn t.walk.entry more behind → FaultSaw z a w (after_claim next) gfn t_ more behind
+  claim_saw : (gfn : ℕ) (next : ClaimNext) (t_ : Topics) → t_.walk ≡ t.walk → EntryIs gfn t.walk.entry more behind
+      → FaultSaw z a w (after_claim next) gfn t_ more behind
   claim_saw gfn claims.Empty t_ walk K = tt
   claim_saw gfn _ t_ walk K = subst (λ x. KnowsEntry z a w gfn x more behind) (sym walk) K
 
-  fill_spares : (gfn value note : ℕ) → HasToFill t → 1 ≤ t.walk.level → Spares area.Pool (entry_at gfn) h (part.Fill value) note
-  fill_spares gfn value note F from = inr (λ e here.
-      let o = owned_some t F.0 in
-      let P = same_pool_word (page_owned t.owned) (table_page t.walk) (words_filled t.owned) (entry_index gfn t.walk.level) F.1 (low gfn) here in
-      walks_unowned z (view z u) a there G.topics from a o.0 there o.1 (sym (ap page_owned o.1) ∙ P.0))
-
   -- A lost exchange saw that the entry was changed.
-  swap_saw : (gfn : ℕ) (step : PartStep) (M : Made step) → IsAmid step → IsExchange step → s.kind.word ≡ entry_word z gfn t.walk → EntryIs gfn t.walk.entry ss u → (v == t.walk.entry) ≡ false
-      → CauseSaw (Entry (entry_word z gfn t.walk) t.walk.entry v) z a gfn w more
-  swap_saw gfn step M is ex here K lost = saw step (entry_word z gfn t.walk) t.walk.entry M is here (exchange_finds z u s G may step M ex) K (eqb-false v t.walk.entry lost)
+  swap_saw : (gfn : ℕ) (step : PartStep) (M : Made step) → IsAmid step → IsExchange step → s.kind.word ≡ entry_word z gfn t.walk → EntryIs gfn t.walk.entry ss u
+      → (v == t.walk.entry) ≡ false → CauseSaw (Entry (entry_word z gfn t.walk) t.walk.entry v) z a gfn w more
+  swap_saw gfn step M is ex here K lost =
+      saw step (entry_word z gfn t.walk) t.walk.entry M is here (exchange_finds z u s G may step M ex) K (eqb-false v t.walk.entry lost)
 
   link_saw : (gfn : ℕ) (b : Bool) (t_ : Topics) → (v == t.walk.entry) ≡ b → Made (part.Link gfn) → EntryIs gfn t.walk.entry ss u
       → FaultSaw z a w (if b then Walk true else Give (Retry (Entry (entry_word z gfn t.walk) t.walk.entry v))) gfn t_ more behind
@@ -254,22 +257,26 @@ module _ (z : Sizes) (w : World Held) (ss : List (Step Kind)) (s : Step Kind) (G
 
   -- ---- each place
 
-  pub own_saw : (p : FaultPlace) (gfn : ℕ) (write : Bool) → Made (fault_part p gfn t) → FaultKnows p z gfn write t → FaultSaw z a w p gfn t ss u → NextIs (λ actor. FaultSaw z actor w) a (fault_next p z gfn write t v) gfn (part_topics (fault_part p gfn t) t v) more behind
+  pub own_saw : (p : FaultPlace) (gfn : ℕ) (write : Bool) → Made (fault_part p gfn t) → FaultKnows p z gfn write t → FaultSaw z a w p gfn t ss u
+      → NextIs (λ actor. FaultSaw z actor w) a (fault_next p z gfn write t v) gfn (part_topics (fault_part p gfn t) t v) more behind
   own_saw Snapshot gfn write M K S = snapshot_saw gfn t.hold K.1 M
-  own_saw (Find true) gfn write M K S = find_saw gfn write t.search.next (searched t.search v) (part_topics part.Slot t v) (seq_longer _ part.Slot M tt (inl tt) S)
+  own_saw (Find true) gfn write M K S =
+      find_saw gfn write t.search.next (searched t.search v) (part_topics part.Slot t v) (seq_longer _ part.Slot M tt (inl tt) S)
   own_saw (Find false) gfn write M K S = seq_longer _ part.Slots M tt (inl tt) S
-  own_saw Host gfn write M K S = either (write && not (host_allows_write v)) (End HostFault) Share gfn _ tt (seq_longer _ (fault_part Host gfn t) M tt (inl tt) S)
+  own_saw Host gfn write M K S =
+      either (write && not (host_allows_write v)) (End HostFault) Share gfn _ tt (seq_longer _ (fault_part Host gfn t) M tt (inl tt) S)
   own_saw Share gfn write M K S = share_saw t.hold gfn K.1 M S
   own_saw (Check stage_) gfn write M K S = check_saw stage_ gfn M K.2 S
   own_saw (Walk true) gfn write M K S = walk_saw gfn write (kind_of t.walk.level v) refl M
   own_saw (Walk false) gfn write M K S = tt
   own_saw (Claim begun) gfn write M K S =
       let up = K.2.upper in
-      claim_saw gfn (claim_next begun z t.claim v) _ (claim_walk z begun t v _ _ _ (claim_made z begun t v)) (claim_longer gfn (tries_page begun t.claim) (map_word begun t.claim) M (omega (arith, up)) S)
+      claim_saw gfn (claim_next begun z t.claim v) _ (claim_walk z begun t v _ _ _ (claim_made z begun t v))
+      (claim_longer gfn (tries_page begun t.claim) (map_word begun t.claim) M (omega (arith, up)) S)
   own_saw Fill gfn write M K S =
       let up = K.1.upper in
       let from : 1 ≤ t.walk.level = omega (arith, up) in
-      let K_ = entry_longer gfn (fault_part Fill gfn t) M from tt (fill_spares gfn 0 M.note K.2 from) S in
+      let K_ = entry_longer gfn (fault_part Fill gfn t) M from tt (fill_spares z u s G may gfn 0 M.note K.2 from) S in
       either (nat_lt (words_filled t.owned + 1) 512) Fill Role gfn _ K_ K_
   own_saw Role gfn write M K S = let up = K.1.upper in entry_longer gfn (fault_part Role gfn t) M (omega (arith, up)) tt (inr (λ e. absurd (cc e))) S
   own_saw Link gfn write M K S = link_saw gfn (v == t.walk.entry) _ refl M S

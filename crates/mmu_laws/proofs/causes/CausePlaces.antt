@@ -8,7 +8,8 @@ use Rattle.core_views.specs.declared.place.CheckStage.TheVariants as stage
 use Rattle.core_views.specs.declared.place.FaultEnd.{FaultEnd}
 use Rattle.core_views.specs.declared.place.FaultEnd.TheVariants.{Retry}
 use Rattle.core_views.specs.declared.place.FaultPlace.{FaultPlace}
-use Rattle.core_views.specs.declared.place.FaultPlace.TheVariants.{Begin, Snapshot, Find, Host, Share, Check, Walk, Claim, Fill, Role, Link, Give, Leaf, Unshare, End}
+use Rattle.core_views.specs.declared.place.FaultPlace.TheVariants.{Begin, Snapshot, Find, Host, Share, Check, Walk, Claim, Fill, Role, Link, Give}
+use Rattle.core_views.specs.declared.place.FaultPlace.TheVariants.{Leaf, Unshare, End}
 use Rattle.core_views.specs.declared.sizes.Sizes.{Sizes}
 use Rattle.core_views.specs.declared.topics.Invalidations.{Invalidations}
 use Rattle.core_views.specs.declared.topics.TableWalk.{TableWalk}
@@ -70,7 +71,10 @@ module _ (z : Sizes) (actor : ℕ) (w : World Held) where
   module _ (ss : List (Step Kind)) (s : Step Kind) (so : StaysInSection actor s) where
     check_longer : (at : CheckStage) (n : Invalidations) → CheckSaw at n ss → CheckSaw at n (ss ++ s ∷ [])
     check_longer stage.Start n C = made_longer (Finds actor _ n.count) (StaysInSection actor) w ss s so C
-    check_longer stage.End n C = (made_longer (Finds actor _ n.count) (StaysInSection actor) w ss s so C.0, made_longer (Finds actor _ n.start) (StaysInSection actor) w ss s so C.1)
+    check_longer stage.End n C = (
+      made_longer (Finds actor _ n.count) (StaysInSection actor) w ss s so C.0,
+      made_longer (Finds actor _ n.start) (StaysInSection actor) w ss s so C.1,
+    )
     check_longer _ n C = tt
 
     caused_longer : (cause : Cause) (gfn : ℕ) → CauseSaw cause z actor gfn w ss → CauseSaw cause z actor gfn w (ss ++ s ∷ [])
@@ -93,13 +97,15 @@ module _ (z : Sizes) (actor : ℕ) (w : World Held) where
     end_longer _ gfn C = tt
 
   -- Another actor's step takes nothing away.
-  pub others_saw : (p : FaultPlace) (gfn : ℕ) (t : Topics) (ss : List (Step Kind)) (s : Step Kind) → May mmu (run mmu w ss) s → s.actor ≢ actor → FaultSaw p gfn t ss (run mmu w ss) → FaultSaw p gfn t (ss ++ s ∷ []) (effect mmu (run mmu w ss) s)
+  pub others_saw : (p : FaultPlace) (gfn : ℕ) (t : Topics) (ss : List (Step Kind)) (s : Step Kind) → May mmu (run mmu w ss) s → s.actor ≢ actor
+      → FaultSaw p gfn t ss (run mmu w ss) → FaultSaw p gfn t (ss ++ s ∷ []) (effect mmu (run mmu w ss) s)
   others_saw p gfn t ss s may other S = by p S
     where
       so : StaysInSection actor s
       so mine = absurd (other mine)
 
-      longer : (word number : ℕ) → Knows (StaysInSection actor) actor word number w ss (run mmu w ss) → Knows (StaysInSection actor) actor word number w (ss ++ s ∷ []) (effect mmu (run mmu w ss) s)
+      longer : (word number : ℕ) → Knows (StaysInSection actor) actor word number w ss (run mmu w ss)
+          → Knows (StaysInSection actor) actor word number w (ss ++ s ∷ []) (effect mmu (run mmu w ss) s)
       longer word number K = knows_longer (StaysInSection actor) actor word number w ss s may so (λ mine. absurd (other mine)) K
 
       by : (q : FaultPlace) → FaultSaw q gfn t ss (run mmu w ss) → FaultSaw q gfn t (ss ++ s ∷ []) (effect mmu (run mmu w ss) s)

@@ -31,7 +31,8 @@ causes_seen z w = record {
 }
 
 -- The cause is what was seen, and where it is an entry, this is one of the guest frame.
-caused : (cause : Cause) (z : Sizes) (actor gfn : ℕ) (w : World Held) (ss : List (Step Kind)) → CauseSaw cause z actor gfn w ss → IsOfFrame cause z gfn → IsCaused cause z actor gfn w ss
+caused : (cause : Cause) (z : Sizes) (actor gfn : ℕ) (w : World Held) (ss : List (Step Kind)) → CauseSaw cause z actor gfn w ss
+    → IsOfFrame cause z gfn → IsCaused cause z actor gfn w ss
 caused (Open count start end_ at) z actor gfn w ss S F = S
 caused (Moved old_ now_) z actor gfn w ss S F = S
 caused (Entry word read seen) z actor gfn w ss S F = (F, S)
@@ -55,5 +56,7 @@ under_way_is_there u actor p stands = by (nat_lt actor (length u.hands)) refl
 pub faults_begin_anew_by_cause : FaultsBeginAnewByCause
 faults_begin_anew_by_cause z w ss actor gfn word op cause G legal idle ends command =
     let sound : IsSound z (run mmu w ss) = good_run z w ss G legal in
-    caused cause z actor gfn w ss (each_fault z w (λ actor. FaultSaw z actor w) (causes_seen z w) ss actor gfn word op (End (Retry cause)) G legal idle ends command)
-    (cause_of_frame z (run mmu w ss) actor gfn word op cause sound (subst (λ n. actor < n) sound.hands (under_way_is_there (run mmu w ss) actor (Fault (End (Retry cause))) ends)) ends command)
+    caused cause z actor gfn w ss
+    (each_fault z w (λ actor. FaultSaw z actor w) (causes_seen z w) ss actor gfn word op (End (Retry cause)) G legal idle ends command)
+    (cause_of_frame z (run mmu w ss) actor gfn word op cause sound
+    (subst (λ n. actor < n) sound.hands (under_way_is_there (run mmu w ss) actor (Fault (End (Retry cause))) ends)) ends command)

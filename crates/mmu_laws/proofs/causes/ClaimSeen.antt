@@ -71,9 +71,12 @@ module _ (z : Sizes) (w : World Held) (ss : List (Step Kind)) (s : Step Kind) (G
   SawNow at seen = KnowsWord z w a at seen (ss ++ s ∷ []) (effect mmu u s)
 
   -- what a claim has seen behind its own step
-  pub tried_saw : (won : Bool) → is_won t.claim v ≡ won → Made part.Claim → 0 < (if won then 0 else v) → SawNow (if won then 0 else t.claim.at) (if won then 0 else v)
+  pub tried_saw : (won : Bool) → is_won t.claim v ≡ won → Made part.Claim → 0 < (if won then 0 else v)
+      → SawNow (if won then 0 else t.claim.at) (if won then 0 else v)
   tried_saw true is M some = absurd (omega (arith, some))
-  tried_saw false lost M some = knows_now (IsOffWord a (pool_word z t.claim.at)) a (pool_word z t.claim.at) v w ss s may (record { by_actor = refl; on = word_on z u s G may part.Claim M; leaves = leaves })
+  tried_saw false lost M some =
+      knows_now (IsOffWord a (pool_word z t.claim.at)) a (pool_word z t.claim.at) v w ss s may
+      (record { by_actor = refl; on = word_on z u s G may part.Claim M; leaves = leaves })
     where
       bit : tried_bit t.claim < 64
       bit = (bit_at-trailing_zeros w64 t.claim.seen M.needs.1 (own_rests z u s G may).counters.seen).0
@@ -81,21 +84,25 @@ module _ (z : Sizes) (w : World Held) (ss : List (Step Kind)) (s : Step Kind) (G
       leaves : after s.kind n ≡ v
       leaves =
           let finds : n ≡ v = exchange_finds z u s G may part.Claim M tt in
-          ap (λ k. after k n) M.is ∙ try_leaves (hand_in mmu u s.actor) M.note n ∙ left_alone n (tried_bit t.claim) bit (G.small s.kind.word) (ap (has_bit (tried_bit t.claim)) finds ∙ lost) ∙ finds
+          ap (λ k. after k n) M.is ∙ try_leaves (hand_in mmu u s.actor) M.note n
+          ∙ left_alone n (tried_bit t.claim) bit (G.small s.kind.word) (ap (has_bit (tried_bit t.claim)) finds ∙ lost) ∙ finds
 
   pub mapped_saw : (none : Bool) (word : ℕ) → (v == 0) ≡ none → Made (part.Map word) → 0 < v → SawNow (word + (if none then 1 else 0)) v
   mapped_saw true word is M some = absurd (let zero_ : v ≡ 0 = grind (arith, nat_tests) in omega (arith, some, zero_))
   mapped_saw false word is M some =
       subst (λ i. SawNow i v) (omega arith)
-      (knows_now (IsOffWord a (pool_word z word)) a (pool_word z word) v w ss s may (record { by_actor = refl; on = word_on z u s G may (part.Map word) M; leaves = load_keeps z u s G may (part.Map word) M tt }))
+      (knows_now (IsOffWord a (pool_word z word)) a (pool_word z word) v w ss s may
+      (record { by_actor = refl; on = word_on z u s G may (part.Map word) M; leaves = load_keeps z u s G may (part.Map word) M tt }))
 
   -- A try is lost where another actor took the page.
   pub page_taken : not (is_won t.claim v) ≡ true → Made part.Claim → KnowsWord z w a t.claim.at t.claim.seen ss u → PageIsTaken z a t.claim v w ss
   page_taken lost M K =
       let gone : has_bit (tried_bit t.claim) v ≡ false = is_not (is_won t.claim v) lost in
       let saw : has_bit (tried_bit t.claim) t.claim.seen ≡ true = saw_bit t.claim M.needs.1 (own_rests z u s G may).counters.seen in
-      let here : slice_index u.words (pool_word z t.claim.at) ≡ v = ap (slice_index u.words) (sym (word_on z u s G may part.Claim M)) ∙ exchange_finds z u s G may part.Claim M tt in (
-        was_changed (IsOffWord a (pool_word z t.claim.at)) a (pool_word z t.claim.at) t.claim.seen w ss u K (λ same. let apart : has_bit (tried_bit t.claim) t.claim.seen ≡ false = ap (has_bit (tried_bit t.claim)) (sym same ∙ here) ∙ gone in cc (saw, apart)),
+      let here : slice_index u.words (pool_word z t.claim.at) ≡ v =
+      ap (slice_index u.words) (sym (word_on z u s G may part.Claim M)) ∙ exchange_finds z u s G may part.Claim M tt in (
+        was_changed (IsOffWord a (pool_word z t.claim.at)) a (pool_word z t.claim.at) t.claim.seen w ss u K (λ same. let apart : has_bit (tried_bit
+            t.claim) t.claim.seen ≡ false = ap (has_bit (tried_bit t.claim)) (sym same ∙ here) ∙ gone in cc (saw, apart)),
         saw,
         gone,
       )

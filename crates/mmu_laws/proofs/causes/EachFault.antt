@@ -56,7 +56,8 @@ pub record AreSeen (z : Sizes) (w : World Held) (Saw : Sights) : Type 0 where
       → FaultKnows p z gfn write (hand_in mmu (run mmu w ss) s.actor).topics
       → Saw s.actor p gfn (hand_in mmu (run mmu w ss) s.actor).topics ss (run mmu w ss)
       → NextIs Saw s.actor (fault_next p z gfn write (hand_in mmu (run mmu w ss) s.actor).topics (answered mmu (run mmu w ss) s.kind)) gfn
-      (part_topics (fault_part p gfn (hand_in mmu (run mmu w ss) s.actor).topics) (hand_in mmu (run mmu w ss) s.actor).topics (answered mmu (run mmu w ss) s.kind)) (ss ++ s ∷ []) (effect mmu (run mmu w ss) s)
+      (part_topics (fault_part p gfn (hand_in mmu (run mmu w ss) s.actor).topics) (hand_in mmu (run mmu w ss) s.actor).topics
+      (answered mmu (run mmu w ss) s.kind)) (ss ++ s ∷ []) (effect mmu (run mmu w ss) s)
   pub others : (actor : ℕ) (p : FaultPlace) (gfn : ℕ) (t : Topics) (ss : List (Step Kind)) (s : Step Kind) → May mmu (run mmu w ss) s → s.actor ≢ actor
       → Saw actor p gfn t ss (run mmu w ss) → Saw actor p gfn t (ss ++ s ∷ []) (effect mmu (run mmu w ss) s)
 
@@ -72,7 +73,8 @@ PlaceSaw Saw actor _ p t ss u = Unit {0}
 abbrev LineSaw : Sights → LineSights
 LineSaw Saw actor p c t ss u = PlaceSaw Saw actor c p t ss u
 
-module _ (z : Sizes) (w : World Held) (Saw : Sights) (A : AreSeen z w Saw) (ss : List (Step Kind)) (s : Step Kind) (G : IsSound z (run mmu w ss)) (may : May mmu (run mmu w ss) s) where
+module _ (z : Sizes) (w : World Held) (Saw : Sights) (A : AreSeen z w Saw) (ss : List (Step Kind)) (s : Step Kind) (G : IsSound z (run mmu w ss))
+    (may : May mmu (run mmu w ss) s) where
   abbrev u : World Held
   u = run mmu w ss
 
@@ -105,8 +107,10 @@ module _ (z : Sizes) (w : World Held) (Saw : Sights) (A : AreSeen z w Saw) (ss :
       → SawNow (place_after (behind_fault (fault_next p h.state.sizes gfn (is_write op) h.topics v))) (Access gfn word op) behind
   fault_saw p gfn word op K S =
       over_saw (fault_next p h.state.sizes gfn (is_write op) h.topics v) gfn word op behind
-      (subst (λ (t : Topics). NextIs Saw s.actor (fault_next p h.state.sizes gfn (is_write op) h.topics v) gfn t (ss ++ s ∷ []) (effect mmu u s)) (sym (made_topics h s v (fault_part p gfn h.topics) made))
-      (subst (λ y. NextIs Saw s.actor (fault_next p y gfn (is_write op) h.topics v) gfn (part_topics (fault_part p gfn h.topics) h.topics v) (ss ++ s ∷ []) (effect mmu u s)) (sym same)
+      (subst (λ (t : Topics). NextIs Saw s.actor (fault_next p h.state.sizes gfn (is_write op) h.topics v) gfn t (ss ++ s ∷ []) (effect mmu u s))
+      (sym (made_topics h s v (fault_part p gfn h.topics) made))
+      (subst (λ y. NextIs Saw s.actor (fault_next p y gfn (is_write op) h.topics v) gfn (part_topics (fault_part p gfn h.topics) h.topics v)
+      (ss ++ s ∷ []) (effect mmu u s)) (sym same)
       (A.own ss s G may p gfn (is_write op) made (subst (λ y. FaultKnows p y gfn (is_write op) h.topics) same K.knows) S)))
     where
       made : Makes h s (fault_part p gfn h.topics)
@@ -168,7 +172,8 @@ pub each_fault : (z : Sizes) (w : World Held) (Saw : Sights) → AreSeen z w Saw
     → Saw actor p gfn (hand_in mmu (run mmu w ss) actor).topics ss (run mmu w ss)
 each_fault z w Saw A ss actor gfn word op p G legal idle stands command =
     subst (λ (q : Place). LineSaw Saw actor q (Access gfn word op) (hand_in mmu (run mmu w ss) actor).topics ss (run mmu w ss)) stands
-    (subst (λ (c : Command). LineSaw Saw actor (hand_in mmu (run mmu w ss) actor).state.place c (hand_in mmu (run mmu w ss) actor).topics ss (run mmu w ss)) command
+    (subst (λ (c : Command). LineSaw Saw actor (hand_in mmu (run mmu w ss) actor).state.place c (hand_in mmu (run mmu w ss) actor).topics ss
+    (run mmu w ss)) command
     (each_line z w (LineSaw Saw) (lines_see z w Saw A) ss actor G legal idle))
 
 -- ---- the step of a fault

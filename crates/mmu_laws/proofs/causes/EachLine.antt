@@ -47,7 +47,8 @@ pub record LinesSee (z : Sizes) (w : World Held) (Saw : LineSights) : Type 0 whe
       → IsStepAt (hand_in mmu (run mmu w ss) s.actor) s p c
       → Saw s.actor p c (hand_in mmu (run mmu w ss) s.actor).topics ss (run mmu w ss)
       → Saw s.actor (place_after (outcome_at p c (hand_in mmu (run mmu w ss) s.actor) (answered mmu (run mmu w ss) s.kind))) c
-      (topics_after (hand_in mmu (run mmu w ss) s.actor).state.sizes s.kind (hand_in mmu (run mmu w ss) s.actor).topics (answered mmu (run mmu w ss) s.kind)) (ss ++ s ∷ []) (effect mmu (run mmu w ss) s)
+      (topics_after (hand_in mmu (run mmu w ss) s.actor).state.sizes s.kind (hand_in mmu (run mmu w ss) s.actor).topics
+      (answered mmu (run mmu w ss) s.kind)) (ss ++ s ∷ []) (effect mmu (run mmu w ss) s)
   pub others : (actor : ℕ) (p : Place) (c : Command) (t : Topics) (ss : List (Step Kind)) (s : Step Kind) → May mmu (run mmu w ss) s → s.actor ≢ actor
       → Saw actor p c t ss (run mmu w ss) → Saw actor p c t (ss ++ s ∷ []) (effect mmu (run mmu w ss) s)
 
@@ -55,7 +56,8 @@ pub record LinesSee (z : Sizes) (w : World Held) (Saw : LineSights) : Type 0 whe
 abbrev pub HandSaw : LineSights → ℕ → List (Step Kind) → World Held → Type 0
 HandSaw Saw actor ss u = Saw actor (hand_in mmu u actor).state.place (hand_in mmu u actor).state.line.command (hand_in mmu u actor).topics ss u
 
-module _ (z : Sizes) (w : World Held) (Saw : LineSights) (L : LinesSee z w Saw) (ss : List (Step Kind)) (s : Step Kind) (G : IsSound z (run mmu w ss)) (may : May mmu (run mmu w ss) s) where
+module _ (z : Sizes) (w : World Held) (Saw : LineSights) (L : LinesSee z w Saw) (ss : List (Step Kind)) (s : Step Kind) (G : IsSound z (run mmu w ss))
+    (may : May mmu (run mmu w ss) s) where
   abbrev u : World Held
   u = run mmu w ss
 
@@ -91,12 +93,14 @@ module _ (z : Sizes) (w : World Held) (Saw : LineSights) (L : LinesSee z w Saw) 
       of_line : has_line h ≡ true → IsNext h s.kind → HandSaw Saw s.actor (ss ++ s ∷ []) (effect mmu u s)
       of_line has N =
           to _ (next_of_line h s.kind v has)
-          (L.own ss s G may (place_at h.state.place h) (line_at h.state.place h).command (record { is = N.is; knows = knows_at z (view z u) s.actor G.holds there N.left; rests = N.rests.at }) (stood_saw h.state.place S))
+          (L.own ss s G may (place_at h.state.place h) (line_at h.state.place h).command
+          (record { is = N.is; knows = knows_at z (view z u) s.actor G.holds there N.left; rests = N.rests.at }) (stood_saw h.state.place S))
 
       by : (b : Bool) → has_line h ≡ b → HandSaw Saw s.actor (ss ++ s ∷ []) (effect mmu u s)
       by true has = of_line has (is_next h s.kind may.enabled has)
       by false none =
-          to _ (next_of_part h s.kind v none) (idle_saw h.state.place h.state.line.command (topics_after h.state.sizes s.kind h.topics v) none (G.holds.lines s.actor there).under)
+          to _ (next_of_part h s.kind v none)
+          (idle_saw h.state.place h.state.line.command (topics_after h.state.sizes s.kind h.topics v) none (G.holds.lines s.actor there).under)
 
   one_more : (actor : ℕ) → HandSaw Saw actor ss u → HandSaw Saw actor (ss ++ s ∷ []) (effect mmu u s)
   one_more actor S = by (same_or actor s.actor)
@@ -105,7 +109,8 @@ module _ (z : Sizes) (w : World Held) (Saw : LineSights) (L : LinesSee z w Saw) 
       by (inl own) = subst (λ i. HandSaw Saw i (ss ++ s ∷ []) (effect mmu u s)) (sym own) (own_step (subst (λ i. HandSaw Saw i ss u) own S))
       by (inr apart) =
           subst (λ (x : Held). Saw actor x.state.place x.state.line.command x.topics (ss ++ s ∷ []) (effect mmu u s)) (sym (others_hand u s actor apart))
-          (L.others actor (hand_in mmu u actor).state.place (hand_in mmu u actor).state.line.command (hand_in mmu u actor).topics ss s may (λ e. apart (sym e)) S)
+          (L.others actor (hand_in mmu u actor).state.place (hand_in mmu u actor).state.line.command (hand_in mmu u actor).topics ss s may
+          (λ e. apart (sym e)) S)
 
 -- From every sound world in which no line of the actor is under way: wherever its line stands behind some steps, it has seen it.
 pub each_line : (z : Sizes) (w : World Held) (Saw : LineSights) → LinesSee z w Saw → (ss : List (Step Kind)) (actor : ℕ) → IsSound z w
@@ -113,7 +118,8 @@ pub each_line : (z : Sizes) (w : World Held) (Saw : LineSights) → LinesSee z w
     → HandSaw Saw actor ss (run mmu w ss)
 each_line z w Saw L ss actor G legal idle =
     of_each_list z w (HandSaw Saw actor) (λ ts s sound may S. one_more z w Saw L ts s sound may actor S) ss G legal
-    (subst (λ (q : Place). Saw actor q (hand_in mmu w actor).state.line.command (hand_in mmu w actor).topics [] w) (sym idle) (L.between actor (hand_in mmu w actor).state.line.command (hand_in mmu w actor).topics [] w))
+    (subst (λ (q : Place). Saw actor q (hand_in mmu w actor).state.line.command (hand_in mmu w actor).topics [] w) (sym idle)
+    (L.between actor (hand_in mmu w actor).state.line.command (hand_in mmu w actor).topics [] w))
 
 -- ---- the step of a line that is under way
 

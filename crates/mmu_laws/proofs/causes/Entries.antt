@@ -53,5 +53,6 @@ cause_of_frame z u actor gfn word op cause G there ends command =
     let h : Held = hand_in mmu u actor in
     let same : h.state.sizes ≡ z = (G.holds.lines actor there).sizes in
     let K : KnowsPart (place.Access (access.Fault (End (Retry cause)))) (Access gfn word op) h =
-    subst (λ (c : Command). KnowsPart (place.Access (access.Fault (End (Retry cause)))) c h) command (subst (λ (p : Place). KnowsPart p h.state.line.command h) ends (G.holds.knows actor there)) in
+    subst (λ (c : Command). KnowsPart (place.Access (access.Fault (End (Retry cause)))) c h) command
+    (subst (λ (p : Place). KnowsPart p h.state.line.command h) ends (G.holds.knows actor there)) in
     frame_of z gfn cause h same (rests_in z u actor G there) (subst (λ (y : Sizes). FaultKnows (End (Retry cause)) y gfn (is_write op) h.topics) same K).2

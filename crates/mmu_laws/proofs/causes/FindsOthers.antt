@@ -24,7 +24,7 @@ use Rattle.part_steps.specs.PartTasks.{own_index}
 use Rattle.part_steps.specs.PartSteps.{counts}
 use Rattle.mmu_core.specs.machine.Sums.{one_if}
 use Rattle.part_steps.specs.StayTopics.{is_alone, is_outside}
-use Rattle.part_steps.specs.ControlTopics.{has_writer, in_section, has_to_flush}
+use Rattle.part_steps.specs.ControlBits.{has_writer, in_section, has_to_flush}
 use Rattle.mmu_core.specs.machine.View.{word_in}
 use Rattle.mmu_laws.specs.causes.Waits.{FindsLockTaken, FindsOtherInside, FindsWriter, FindsToFlush}
 use Rattle.mmu_core.proofs.invariant.AloneLaws.{part_found}
@@ -54,14 +54,16 @@ module _ (z : Sizes) (u : World Held) (s : Step Kind) (G : IsSound z u) (may : M
   there = in_machine z u s G may
 
   -- Where the lock's word isn't 0, some actor counts among its readers or is its writer.
-  lock_held : word_in z u area.Lock 0 ≢ 0 → Contributes (actors_of z) (λ i. one_if (counts (hold i))) ⊎ Contributes (actors_of z) (λ i. one_if (is_alone (hold i)))
+  lock_held : word_in z u area.Lock 0 ≢ 0
+      → Contributes (actors_of z) (λ i. one_if (counts (hold i))) ⊎ Contributes (actors_of z) (λ i. one_if (is_alone (hold i)))
   lock_held some = by (same_or (readers (actors_of z) hold) 0) (same_or (writers (actors_of z) hold) 0)
     where
       by : (readers (actors_of z) hold ≡ 0) ⊎ (readers (actors_of z) hold ≢ 0) → (writers (actors_of z) hold ≡ 0) ⊎ (writers (actors_of z) hold ≢ 0)
           → Contributes (actors_of z) (λ i. one_if (counts (hold i))) ⊎ Contributes (actors_of z) (λ i. one_if (is_alone (hold i)))
       by (inr read) _ = inl (sum_some (actors_of z) (λ i. one_if (counts (hold i))) read)
       by (inl none) (inr wrote) = inr (sum_some (actors_of z) (λ i. one_if (is_alone (hold i))) wrote)
-      by (inl none) (inl free) = absurd (some (G.topics.lock_part.word ∙ ap (λ m. m + 2 ^ 63 * writers (actors_of z) hold) none ∙ ap (λ m. 0 + 2 ^ 63 * m) free))
+      by (inl none) (inl free) =
+          absurd (some (G.topics.lock_part.word ∙ ap (λ m. m + 2 ^ 63 * writers (actors_of z) hold) none ∙ ap (λ m. 0 + 2 ^ 63 * m) free))
 
   pub lock_taken : Makes h s part.Exclude → not (v == 0) ≡ true → FindsLockTaken z u s
   lock_taken M is = by (lock_held (λ e. some (stands ∙ e)))
@@ -126,7 +128,9 @@ module _ (z : Sizes) (u : World Held) (s : Step Kind) (G : IsSound z u) (may : M
     is_other = λ e. M.needs.1 (e ∙ sym own_);
     on = word_on z u s G may (part.Watch index) M;
     tells = ap in_section (load_finds z u s G may (part.Watch index) M tt) ∙ is;
-    inside = λ outside. let says : in_section (word_in z u area.State index) ≡ false = word_tells z u index G in_ ∙ ap (λ (x : Stay). not (is_outside x)) outside in
+    inside =
+        λ outside. let says : in_section (word_in z u area.State index) ≡ false = word_tells z u index G in_
+        ∙ ap (λ (x : Stay). not (is_outside x)) outside in
         let inside : in_section (word_in z u area.State index) ≡ true = ap in_section (sym stands) ∙ is in cc (says, inside);
   }
     where
@@ -146,7 +150,9 @@ module _ (z : Sizes) (u : World Held) (s : Step Kind) (G : IsSound z u) (may : M
   to_flush index M is = record {
     other = index;
     there = low;
-    is_other = λ e. let own : h.topics.stay ≡ Guest = ap (λ (i : ℕ). (hand_in mmu u i).topics.stay) (sym e) ∙ guest in let outside = M.needs.2 in cc (own, outside);
+    is_other =
+        λ e. let own : h.topics.stay ≡ Guest = ap (λ (i : ℕ). (hand_in mmu u i).topics.stay) (sym e) ∙ guest in let outside = M.needs.2 in
+        cc (own, outside);
     on = word_on z u s G may (part.Await index) M;
     tells = ap has_to_flush (load_finds z u s G may (part.Await index) M tt) ∙ is;
     inside = guest;

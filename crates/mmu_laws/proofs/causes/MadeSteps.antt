@@ -28,8 +28,11 @@ pub record Makes (h : Held) (s : Step Kind) (step : PartStep) : Type 0 where
   pub needs : PartNeeds step h
 
 -- what is held behind it
-pub made_topics : (h : Held) (s : Step Kind) (v : ℕ) (step : PartStep) → Makes h s step → topics_after h.state.sizes s.kind h.topics v ≡ part_topics step h.topics v
-made_topics h s v step M = ap (λ k. topics_after h.state.sizes k h.topics v) M.is ∙ part_topics_is h.state.sizes step (own_index h) h.topics M.note v (is_there step h M.needs)
+pub made_topics : (h : Held) (s : Step Kind) (v : ℕ) (step : PartStep) → Makes h s step
+    → topics_after h.state.sizes s.kind h.topics v ≡ part_topics step h.topics v
+made_topics h s v step M =
+    ap (λ k. topics_after h.state.sizes k h.topics v) M.is
+    ∙ part_topics_is h.state.sizes step (own_index h) h.topics M.note v (is_there step h M.needs)
 
 module _ (z : Sizes) (u : World Held) (s : Step Kind) (G : IsSound z u) (may : May mmu u s) where
   abbrev h : Held
@@ -56,7 +59,8 @@ module _ (z : Sizes) (u : World Held) (s : Step Kind) (G : IsSound z u) (may : M
       let code = ap (λ (k : Kind). k.code) M.is in
       (λ e. A.0 (sym code ∙ e), λ e. A.1 (sym code ∙ e))
 
-  pub word_on : (step : PartStep) (M : Makes h s step) → s.kind.word ≡ place_of (map_of z) (part_task step (own_index h) h.topics M.note).area (part_task step (own_index h) h.topics M.note).index
+  pub word_on : (step : PartStep) (M : Makes h s step)
+      → s.kind.word ≡ place_of (map_of z) (part_task step (own_index h) h.topics M.note).area (part_task step (own_index h) h.topics M.note).index
   word_on step M =
       ap (λ (k : Kind). k.word) M.is
       ∙ ap (λ y. place_of (map_of y) (part_task step (own_index h) h.topics M.note).area (part_task step (own_index h) h.topics M.note).index) own_sizes

@@ -81,7 +81,8 @@ claim_over z begun t v _ _ _ (made.Saw not_ lt) low over = absurd (over refl)
 claims_nothing : (h : Held) (begun : Bool) (v : ℕ) → PartNeeds (claim_part begun h.topics.claim) h
     → claim_next begun h.state.sizes h.topics.claim v ≢ claims.Goes → (part_topics (claim_part begun h.topics.claim) h.topics v).claim.seen ≡ 0
 claims_nothing h begun v N over =
-    claim_over h.state.sizes begun h.topics v _ _ _ (claim_made h.state.sizes begun h.topics v) (λ word is. let at : PartNeeds (part.Map word) h = subst (λ s. PartNeeds s h) is N in at.1) over
+    claim_over h.state.sizes begun h.topics v _ _ _ (claim_made h.state.sizes begun h.topics v)
+    (λ word is. let at : PartNeeds (part.Map word) h = subst (λ s. PartNeeds s h) is N in at.1) over
 
 -- A claim that goes on is one at the next place too.
 goes_not : (next : ClaimNext) (o : Outcome) → LeadsFromClaim next o → claim_at (place_after o) ≡ None → next ≢ claims.Goes
@@ -145,7 +146,8 @@ module _ (z : Sizes) (w : World Held) (s : Step Kind) (G : IsSound z w) (may : M
     where
       by : (actor ≡ s.actor) ⊎ (actor ≢ s.actor) → has_line (hand_in mmu w actor) ≡ true
       by (inl own) =
-          ap (λ i. has_line (hand_in mmu w i)) own ∙ had_line h s.kind _ (has_line h) refl (sym (ap has_line (own_hand w s may.there)) ∙ sym (ap (λ i. has_line (hand_in mmu (effect mmu w s) i)) own) ∙ has)
+          ap (λ i. has_line (hand_in mmu w i)) own ∙ had_line h s.kind _ (has_line h) refl
+          (sym (ap has_line (own_hand w s may.there)) ∙ sym (ap (λ i. has_line (hand_in mmu (effect mmu w s) i)) own) ∙ has)
       by (inr apart) = sym (ap has_line (others_hand w s actor apart)) ∙ has
 
   none_more : (actor : ℕ) → HandNone (hand_in mmu w actor) → HandNone (hand_in mmu (effect mmu w s) actor)
@@ -166,7 +168,8 @@ module _ (z : Sizes) (w : World Held) (s : Step Kind) (G : IsSound z w) (may : M
 pub line_left_before : (z : Sizes) (w : World Held) (ss : List (Step Kind)) (actor : ℕ) → IsSound z w → Legal mmu w ss
     → has_line (hand_in mmu (run mmu w ss) actor) ≡ true → has_line (hand_in mmu w actor) ≡ true
 line_left_before z w ss actor G legal =
-    of_each_list z w (λ (ts : List (Step Kind)) (x : World Held). has_line (hand_in mmu x actor) ≡ true → has_line (hand_in mmu w actor) ≡ true) (λ ts s sound may had has. had (line_was_left z (run mmu w ts) s sound may actor has)) ss G legal (λ has. has)
+    of_each_list z w (λ (ts : List (Step Kind)) (x : World Held). has_line (hand_in mmu x actor) ≡ true → has_line (hand_in mmu w actor) ≡ true)
+    (λ ts s sound may had has. had (line_was_left z (run mmu w ts) s sound may actor has)) ss G legal (λ has. has)
 
 -- ---- at a start, and between lines
 
@@ -177,14 +180,17 @@ starts_saw_nothing z lines w actor start there =
 run_none : (z : Sizes) (lines : List Line) (w : World Held) (ss : List (Step Kind)) (actor : ℕ) → IsStart z lines w → Legal mmu w ss
     → actor < actors_of z → HandNone (hand_in mmu (run mmu w ss) actor)
 run_none z lines w ss actor start legal there =
-    of_each_list z w (λ (ts : List (Step Kind)) (x : World Held). HandNone (hand_in mmu x actor)) (λ ts s sound may S. none_more z (run mmu w ts) s sound may actor S) ss (start_good z lines w start) legal
+    of_each_list z w (λ (ts : List (Step Kind)) (x : World Held). HandNone (hand_in mmu x actor))
+    (λ ts s sound may S. none_more z (run mmu w ts) s sound may actor S) ss (start_good z lines w start) legal
     (let N = starts_saw_nothing z lines w actor start there in λ has. record { claims = λ is. N.claims; closed = λ none. N.closed })
 
 pub between_lines_saw_nothing : BetweenLinesSawNothing
 between_lines_saw_nothing w actor R there has idle =
     let G : IsSound R.sizes w = reached_good w R in
     let inside : actor < actors_of R.sizes = subst (λ n. actor < n) G.hands there in
-    let S = subst (λ (x : World Held). HandNone (hand_in mmu x actor)) R.leads.ends (run_none R.sizes R.lines R.start R.leads.steps actor R.is_start R.leads.legal inside) has in
+    let S =
+    subst (λ (x : World Held). HandNone (hand_in mmu x actor)) R.leads.ends
+    (run_none R.sizes R.lines R.start R.leads.steps actor R.is_start R.leads.legal inside) has in
     let here : SawNothingAt place.Between (hand_in mmu w actor).topics = subst (λ (q : Place). SawNothingAt q (hand_in mmu w actor).topics) idle S in
     let rests = subst (λ (q : Place). KnowsPart q (hand_in mmu w actor).state.line.command (hand_in mmu w actor)) idle (G.holds.knows actor inside) has in
     record { owes = ap is_owing rests.loose; closed = here.closed (ap has_lock rests.loose); claims = here.claims refl }

@@ -64,7 +64,8 @@ module _ (z : Sizes) (actor : ℕ) where
   all_more w ss (s ∷ ts) G legal S =
       let here : run mmu w (ss ++ s ∷ []) ≡ effect mmu (run mmu w ss) s = run_one_more w ss s in
       subst (λ (l : List (Step Kind)). ScanAtPlace w l (run mmu w l)) (append_assoc ss (s ∷ []) ts)
-      (all_more w (ss ++ s ∷ []) ts (subst (IsSound z) (sym here) (good_step z (run mmu w ss) s G legal.0)) (subst (λ (x : World Held). Legal mmu x ts) (sym here) legal.1)
+      (all_more w (ss ++ s ∷ []) ts (subst (IsSound z) (sym here) (good_step z (run mmu w ss) s G legal.0))
+      (subst (λ (x : World Held). Legal mmu x ts) (sym here) legal.1)
       (subst (ScanAtPlace w (ss ++ s ∷ [])) (sym here) (one_more w ss s G legal.0 S)))
 
 -- ---- where a line is starved

@@ -41,7 +41,8 @@ module _ (z : Sizes) (w : World Held) (ss : List (Step Kind)) (s : Step Kind) (G
 
   saw_some : h.topics.hold ≡ Exclusive → saw_open h.topics.invalidations ≡ true → Saw h.topics
       → FoundCount z s.actor Exclusive h.topics.invalidations.count w ss × (0 < h.topics.invalidations.count)
-  saw_some alone open_ S = (subst (λ hold. FoundCount z s.actor hold h.topics.invalidations.count w ss) alone (S.counted open_), more h.topics.invalidations open_)
+  saw_some alone open_ S =
+      (subst (λ hold. FoundCount z s.actor hold h.topics.invalidations.count w ss) alone (S.counted open_), more h.topics.invalidations open_)
 
   caused : (step : PartStep) → Makes h s step → part_waits step h.topics v ≡ true → Saw h.topics → StepWaitIsCaused step z w ss s
   caused part.Unshare M is S = owes h.topics.hold refl is S

@@ -7,7 +7,7 @@ use Rattle.core_views.specs.declared.topics.Hold.TheVariants.{Owing}
 use Rattle.core_views.specs.declared.topics.Invalidations.{Invalidations}
 use Rattle.core_views.specs.Held.{Held}
 use Rattle.part_steps.specs.declared.part_step.PartStep.TheVariants as part
-use Rattle.part_steps.specs.ControlTopics.{has_writer}
+use Rattle.part_steps.specs.ControlBits.{has_writer}
 use Rattle.part_steps.specs.PageTopics.{is_won}
 use Rattle.mmu_core.specs.lines.PartWaits.{WaitsSeeAnother, is_owing, saw_open, was_counted, word_owed, own_open}
 use Rattle.mmu_core.proofs.lines.FaultSame.{both, is_not}

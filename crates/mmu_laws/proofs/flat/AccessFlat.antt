@@ -20,7 +20,6 @@ use Rattle.core_views.specs.declared.trace.Op.TheVariants.{Read, Write, Add}
 use Rattle.core_views.specs.Events.{touched}
 use Rattle.core_views.specs.Flat.{Facts, LineUnderWay, Stage}
 use Rattle.core_views.specs.Past.{Past}
-use Rattle.core_views.specs.Host.{HostMap, own_frames}
 use Rattle.core_views.specs.Lawful.{Tells}
 use Rattle.core_views.specs.Memory.{Memory, stored, with_word}
 use Rattle.core_views.specs.Names.{frame_at, frame_for}
@@ -102,7 +101,8 @@ memory_behind z page word op memory content after page_in word_in is here there 
     other : (p ≡ page → j ≡ word → ⊥) → touched (Some page) word op memory p j ≡ after (content_index (map_of z) p j)
     other apart =
         with_word_other page word (stored op (memory page word)) memory p j apart ∙ is p j p_in j_in
-        ∙ sym (there (content_index (map_of z) p j) (λ e. let same : (p ≡ page) × (j ≡ word) = same_content (map_of z) p page j word j_in word_in e in apart same.0 same.1))
+        ∙ sym (there (content_index (map_of z) p j)
+        (λ e. let same : (p ≡ page) × (j ≡ word) = same_content (map_of z) p page j word j_in word_in e in apart same.0 same.1))
 
     case : (p ≡ page) ⊎ (p ≢ page) → (j ≡ word) ⊎ (j ≢ word) → touched (Some page) word op memory p j ≡ after (content_index (map_of z) p j)
     case (inl e) (inl f) =
@@ -127,7 +127,8 @@ record Touches (z : Sizes) (s : State) (gfn word : ℕ) (op : Op) (facts : Facts
   index : content_index (map_of s.sizes) (frame_used gfn s) word ≡ content_index (map_of z) page word
 
 -- The actor of an access is a virtual processor.
-vcpu_low : (z : Sizes) (v : View) (a : ℕ) (line : Line) (gfn word : ℕ) (op : Op) (p : AccessPlace) → IsStep z v a line (Access gfn word op) (place.Access p) → Invariant z v → a < z.vcpus
+vcpu_low : (z : Sizes) (v : View) (a : ℕ) (line : Line) (gfn word : ℕ) (op : Op) (p : AccessPlace)
+    → IsStep z v a line (Access gfn word op) (place.Access p) → Invariant z v → a < z.vcpus
 vcpu_low z v a line gfn word op p S I =
     let may = subst (λ (x : Actor). IsCommandFor z x (Access gfn word op)) S.own S.allowed in
     by (v.hand a).state.actor may (I.lines a S.there).index
@@ -159,7 +160,10 @@ touches z v a line gfn word op facts u S I P U K R =
       frame = frame;
       named = ap (frame_for op) (R.refines.host page page_in ∙ entry_is page (v.words area.Host page) (P.hosts page page_in))
           ∙ frame_named op page (host_allows_write (v.words area.Host page)) allowed.1;
-      behind_is = page_is_behind z (v.words area.Slots 0) (v.words area.Role) (v.words area.Pool) F.id gfn F.slot op (flat_slots facts.slots) I.set_part F.live F.holds allowed.0 (refined_slots z (v.words area.Slots 0) (v.words area.Pool) (v.words area.Host) (v.words area.Content) (v.words area.Pause 0) facts R.refines);
+      behind_is =
+          page_is_behind z (v.words area.Slots 0) (v.words area.Role) (v.words area.Pool) F.id gfn F.slot op (flat_slots facts.slots)
+          I.set_part F.live F.holds allowed.0 (refined_slots z (v.words area.Slots 0) (v.words area.Pool) (v.words area.Host) (v.words area.Content)
+          (v.words area.Pause 0) facts R.refines);
       index = rw ((I.lines a S.there).sizes, frame) refl;
     }
 
@@ -193,8 +197,10 @@ touch_goes z v a line gfn word op facts past u after t S R T slots_is pool_is ho
     slots = R.refines.slots ∙ rw (slots_is, pool_is) refl;
     host = λ p lt. R.refines.host p lt ∙ sym (ap (λ (g : ℕ → ℕ). entry_of (g p)) host_is);
     memory =
-        subst (λ page. (p j : ℕ) → p < z.pages → j < z.words → touched page word op facts.memory p j ≡ after area.Content (content_index (map_of z) p j)) (sym T.behind_is)
-        (memory_behind z T.page word op facts.memory (v.words area.Content) (after area.Content) T.page_in T.word_in R.refines.memory (rw T.index at here) (rw T.index at there));
+        subst (λ page. (p j : ℕ) → p < z.pages → j < z.words
+        → touched page word op facts.memory p j ≡ after area.Content (content_index (map_of z) p j)) (sym T.behind_is)
+        (memory_behind z T.page word op facts.memory (v.words area.Content) (after area.Content) T.page_in T.word_in R.refines.memory
+        (rw T.index at here) (rw T.index at there));
     paused = R.refines.paused ∙ ap (λ (g : ℕ → ℕ). not (g 0 == 0)) (sym pause_is);
   };
   under = (R.under.0, refl);
@@ -208,7 +214,8 @@ module _ (z : Sizes) (v : View) (a : ℕ) (line : Line) (gfn word : ℕ) (facts 
   -- what a step of the access owes, from what its actor knows
   abbrev Owes : Op → AccessPlace → Type 0
   Owes op p =
-      IsStep z v a line (Access gfn word op) (place.Access p) → Invariant z v → TopicsInvariant z v → UsableAt z v → IsPartOr z v a (access_part p gfn (v.hand a).topics) → AccessKnows p gfn (is_write op) (v.hand a)
+      IsStep z v a line (Access gfn word op) (place.Access p) → Invariant z v → TopicsInvariant z v → UsableAt z v
+      → IsPartOr z v a (access_part p gfn (v.hand a).topics) → AccessKnows p gfn (is_write op) (v.hand a)
       → Ready z v line (Access gfn word op) (place.Access p) (v.hand a).topics facts u → StepGoes z v a line (Access gfn word op) (place.Access p) facts past u
 
   abbrev words_behind : Op → AccessPlace → Area → ℕ → ℕ
@@ -265,7 +272,8 @@ module _ (z : Sizes) (v : View) (a : ℕ) (line : Line) (gfn word : ℕ) (facts 
     refines = refines_stay z v.words (words_behind op (Pause again)) facts (part_leaves z v a part.Pause 0 S P refl refl) R.refines;
     under = (
       R.under.0,
-      pause_under (words_behind op (Pause again) area.Pool) gfn op (held_behind op (Pause again)) (record u { notes = record u.notes { paused = Some facts.paused } }) again
+      pause_under (words_behind op (Pause again) area.Pool) gfn op (held_behind op (Pause again))
+          (record u { notes = record u.notes { paused = Some facts.paused } }) again
           (first_usable gfn (is_write op) (v.hand a).cached.items) (R.under.1, ap Some R.runs),
     );
   }

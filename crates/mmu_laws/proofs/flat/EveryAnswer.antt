@@ -42,7 +42,8 @@ use Rattle.part_steps.specs.Tasks.{kind_of_task}
 -- what a step of a world tells, as its view has it
 step_events : (z : Sizes) (w : World Held) (s : Step Kind) → Takes z w s (hand_in mmu w s.actor)
     → events_of (hand_in mmu w s.actor) (answered mmu w s.kind)
-    ≡ told_events (view z w) s.actor (line_at (hand_in mmu w s.actor).state.place (hand_in mmu w s.actor)) (line_at (hand_in mmu w s.actor).state.place (hand_in mmu w s.actor)).command (place_at (hand_in mmu w s.actor).state.place (hand_in mmu w s.actor))
+    ≡ told_events (view z w) s.actor (line_at (hand_in mmu w s.actor).state.place (hand_in mmu w s.actor)) (line_at
+    (hand_in mmu w s.actor).state.place (hand_in mmu w s.actor)).command (place_at (hand_in mmu w s.actor).state.place (hand_in mmu w s.actor))
 step_events z w s T =
     let h : Held = hand_in mmu w s.actor in
     ap (events_of h) T.answers ∙ sym (told_is_events z (view z w) s.actor (line_at h.state.place h) (place_at h.state.place h) T.is_step)
@@ -73,14 +74,18 @@ step_follows z w s i G may i_in = by (takes z w s G may)
         let task : Task = part_task T.step (own_index h) h.topics T.note in
         let k : Kind = kind_of_task h.state.sizes task in
         let x : ℕ = answer_in task (word_in z w) in
-        let F = at_upd (λ j (g : Held). Follows (hand_in mmu w j) g []) (hand_in mmu w) s.actor (idle_after h k x) (part_follows h k x) (λ j ne. follows_still (hand_in mmu w j) [] refl refl) i in
+        let F =
+        at_upd (λ j (g : Held). Follows (hand_in mmu w j) g []) (hand_in mmu w) s.actor (idle_after h k x) (part_follows h k x)
+        (λ j ne. follows_still (hand_in mmu w j) [] refl refl) i in
         subst (λ (g : Held). Follows (hand_in mmu w i) g (events_of h (answered mmu w s.kind))) (sym (ap (λ (v : View). v.hand i) T.leads))
         (subst (Follows (hand_in mmu w i) _) (sym (events_of_part h (answered mmu w s.kind) T.none_left)) F)
 
-pub run_follows : (z : Sizes) (w : World Held) (ss : List (Step Kind)) (i : ℕ) → IsSound z w → Legal mmu w ss → i < actors_of z → Follows (hand_in mmu w i) (hand_in mmu (run mmu w ss) i) (history w ss)
+pub run_follows : (z : Sizes) (w : World Held) (ss : List (Step Kind)) (i : ℕ) → IsSound z w → Legal mmu w ss → i < actors_of z
+    → Follows (hand_in mmu w i) (hand_in mmu (run mmu w ss) i) (history w ss)
 run_follows z w [] i G legal i_in = follows_still (hand_in mmu w i) [] refl refl
 run_follows z w (s ∷ ss) i G legal i_in =
-    follows_more (hand_in mmu w i) (hand_in mmu (effect mmu w s) i) (hand_in mmu (run mmu (effect mmu w s) ss) i) (events_of (hand_in mmu w s.actor) (answered mmu w s.kind)) (history (effect mmu w s) ss)
+    follows_more (hand_in mmu w i) (hand_in mmu (effect mmu w s) i) (hand_in mmu (run mmu (effect mmu w s) ss) i)
+    (events_of (hand_in mmu w s.actor) (answered mmu w s.kind)) (history (effect mmu w s) ss)
     (step_follows z w s i G legal.0 i_in)
     (run_follows z (effect mmu w s) ss i (good_step z w s G legal.0) legal.1 i_in)
 
@@ -93,7 +98,8 @@ record Silent (actor : Actor) (h : List Event) : Type 0 where
   answers : answers_by actor h ≡ []
   begun : begun_by actor h ≡ []
 
-silent_step : (z : Sizes) (w : World Held) (s : Step Kind) (actor : Actor) → IsSound z w → May mmu w s → Absent z w actor → Silent actor (events_of (hand_in mmu w s.actor) (answered mmu w s.kind))
+silent_step : (z : Sizes) (w : World Held) (s : Step Kind) (actor : Actor) → IsSound z w → May mmu w s → Absent z w actor
+    → Silent actor (events_of (hand_in mmu w s.actor) (answered mmu w s.kind))
 silent_step z w s actor G may absent = by (takes z w s G may)
   where
     h : Held
@@ -103,27 +109,43 @@ silent_step z w s actor G may absent = by (takes z w s G may)
     by (inl T) =
         let apart : is_same actor h.state.actor ≡ false = absent s.actor T.is_step.there in
         record {
-          answers = ap (answers_by actor) (step_events z w s T) ∙ silent_answers z (view z w) s.actor (line_at h.state.place h) (place_at h.state.place h) actor apart;
-          begun = ap (begun_by actor) (step_events z w s T) ∙ silent_begins z (view z w) s.actor (line_at h.state.place h) (place_at h.state.place h) actor T.is_step.own apart;
+          answers =
+              ap (answers_by actor) (step_events z w s T)
+              ∙ silent_answers z (view z w) s.actor (line_at h.state.place h) (place_at h.state.place h) actor apart;
+          begun =
+              ap (begun_by actor) (step_events z w s T)
+              ∙ silent_begins z (view z w) s.actor (line_at h.state.place h) (place_at h.state.place h) actor T.is_step.own apart;
         }
-    by (inr T) = record { answers = ap (answers_by actor) (events_of_part h (answered mmu w s.kind) T.none_left); begun = ap (begun_by actor) (events_of_part h (answered mmu w s.kind) T.none_left) }
+    by (inr T) = record {
+      answers = ap (answers_by actor) (events_of_part h (answered mmu w s.kind) T.none_left);
+      begun = ap (begun_by actor) (events_of_part h (answered mmu w s.kind) T.none_left);
+    }
 
-run_silent : (z : Sizes) (w : World Held) (ss : List (Step Kind)) (actor : Actor) → IsSound z w → Legal mmu w ss → Absent z w actor → Silent actor (history w ss)
+run_silent : (z : Sizes) (w : World Held) (ss : List (Step Kind)) (actor : Actor) → IsSound z w → Legal mmu w ss → Absent z w actor
+    → Silent actor (history w ss)
 run_silent z w [] actor G legal absent = record { answers = refl; begun = refl }
 run_silent z w (s ∷ ss) actor G legal absent =
     let h : Held = hand_in mmu w s.actor in
     let es : List Event = events_of h (answered mmu w s.kind) in
-    let rest = run_silent z (effect mmu w s) ss actor (good_step z w s G legal.0) legal.1 (λ i i_in. ap (is_same actor) (step_follows z w s i G legal.0 i_in).actor ∙ absent i i_in) in
+    let rest =
+    run_silent z (effect mmu w s) ss actor (good_step z w s G legal.0) legal.1
+    (λ i i_in. ap (is_same actor) (step_follows z w s i G legal.0 i_in).actor ∙ absent i i_in) in
     let here = silent_step z w s actor G legal.0 absent in
     record {
-      answers = answers_by_more actor es (history (effect mmu w s) ss) ∙ ap (λ (xs : List AnsweredLine). xs ++ answers_by actor (history (effect mmu w s) ss)) here.answers ∙ rest.answers;
-      begun = begun_by_append actor es (history (effect mmu w s) ss) ∙ ap (λ (xs : List Line). xs ++ begun_by actor (history (effect mmu w s) ss)) here.begun ∙ rest.begun;
+      answers =
+          answers_by_more actor es (history (effect mmu w s) ss)
+          ∙ ap (λ (xs : List AnsweredLine). xs ++ answers_by actor (history (effect mmu w s) ss)) here.answers ∙ rest.answers;
+      begun =
+          begun_by_append actor es (history (effect mmu w s) ss)
+          ∙ ap (λ (xs : List Line). xs ++ begun_by actor (history (effect mmu w s) ss)) here.begun ∙ rest.begun;
     }
 
 -- behind a start
 pub start_follows : (z : Sizes) (lines : List Line) (w : World Held) (ss : List (Step Kind)) (i : ℕ) → IsStart z lines w → Legal mmu w ss → i < actors_of z
     → Follows (first_held z (actor_at z i) (lines_of (actor_at z i) lines)) (hand_in mmu (run mmu w ss) i) (history w ss)
-start_follows z lines w ss i start legal i_in = subst (λ (h : Held). Follows h (hand_in mmu (run mmu w ss) i) (history w ss)) (hand_is z lines w i start i_in) (run_follows z w ss i (start_good z lines w start) legal i_in)
+start_follows z lines w ss i start legal i_in =
+    subst (λ (h : Held). Follows h (hand_in mmu (run mmu w ss) i) (history w ss)) (hand_is z lines w i start i_in)
+    (run_follows z w ss i (start_good z lines w start) legal i_in)
 
 pub answers_are_told : AnswersAreTold
 answers_are_told z lines w ss i start legal i_in = (start_follows z lines w ss i start legal i_in).answers
@@ -169,14 +191,21 @@ equal n = grind (arith, nat_tests)
 -- So has each host thread.
 host_present : (z : Sizes) (n : ℕ) → n < z.hosts → Present z (Host n)
 host_present z n may =
-    let same : z.vcpus + n - z.vcpus ≡ n = omega arith in
-    (z.vcpus + n, omega (arith, may), rw (not_less (z.vcpus + n) z.vcpus (omega arith), less (z.vcpus + n - z.vcpus) z.hosts (omega (arith, same, may))) (ap Host same))
+    let same : z.vcpus + n - z.vcpus ≡ n = omega arith in (
+      z.vcpus + n,
+      omega (arith, may),
+      rw (not_less (z.vcpus + n) z.vcpus (omega arith), less (z.vcpus + n - z.vcpus) z.hosts (omega (arith, same, may))) (ap Host same),
+    )
 
 -- Each line's actor has one.
 present : (z : Sizes) (actor : Actor) (command : Command) → IsCommandFor z actor command → Present z actor
 present z (Vcpu n) (Access gfn word op) may = (n, omega (arith, may.0), rw (less n z.vcpus may.0) refl)
-present z Manager command may =
-    (z.vcpus + z.hosts, omega arith, rw (not_less (z.vcpus + z.hosts) z.vcpus (omega arith), not_less (z.vcpus + z.hosts - z.vcpus) z.hosts (omega arith), equal (z.vcpus + z.hosts)) refl)
+present z Manager command may = (
+  z.vcpus + z.hosts,
+  omega arith,
+  rw (not_less (z.vcpus + z.hosts) z.vcpus (omega arith), not_less (z.vcpus + z.hosts - z.vcpus) z.hosts (omega arith), equal (z.vcpus + z.hosts))
+      refl,
+)
 present z (Host n) (ChangeHost page Allow) may = host_present z n may
 present z (Host n) (ChangeHost page Protect) may = host_present z n may
 present z _ (Access gfn word op) may = absurd may
@@ -202,9 +231,12 @@ present_or z actor = case (nat_lt (index_of z actor) (actors_of z)) (is_same act
     case : (inside same : Bool) → nat_lt (index_of z actor) (actors_of z) ≡ inside → is_same actor (actor_at z (index_of z actor)) ≡ same
         → Present z actor ⊎ ((j : ℕ) → j < actors_of z → is_same actor (actor_at z j) ≡ false)
     case true true inside same = inl (index_of z actor, below inside, same_actor actor (actor_at z (index_of z actor)) same)
-    case true false inside other = inr (λ j j_in. none j j_in (λ e. let f : true ≡ false = sym e ∙ ap (λ k. is_same actor (actor_at z k)) (sym (is_index j j_in e)) ∙ other in absurd (cc)))
+    case true false inside other =
+        inr (λ j j_in. none j j_in
+        (λ e. let f : true ≡ false = sym e ∙ ap (λ k. is_same actor (actor_at z k)) (sym (is_index j j_in e)) ∙ other in absurd (cc)))
     case false same outside _ =
-        inr (λ j j_in. none j j_in (λ e. let f : true ≡ false = sym (less (index_of z actor) (actors_of z) (subst (λ k. k < actors_of z) (sym (is_index j j_in e)) j_in)) ∙ outside in absurd (cc)))
+        inr (λ j j_in. none j j_in (λ e. let f : true ≡ false = sym (less (index_of z actor) (actors_of z)
+        (subst (λ k. k < actors_of z) (sym (is_index j j_in e)) j_in)) ∙ outside in absurd (cc)))
 
 none_chosen : (actor : Actor) (lines : List Line) → All (λ line. is_same actor line.actor ≡ false) lines → lines_of actor lines ≡ []
 none_chosen actor [] each = refl
@@ -213,8 +245,11 @@ none_chosen actor (line ∷ lines) each =
     ∙ none_chosen actor lines (All-tail (λ (l : Line). is_same actor l.actor ≡ false) line lines each)
 
 -- Who is no actor of the machine has no line in its trace.
-pub absent_lines : (z : Sizes) (lines : List Line) (w : World Held) (actor : Actor) → IsStart z lines w → ((j : ℕ) → j < actors_of z → is_same actor (actor_at z j) ≡ false) → lines_of actor lines ≡ []
-absent_lines z lines w actor start absent = none_chosen actor lines (All-weaker (λ (l : Line). IsCommandFor z l.actor l.command) (λ (l : Line). is_same actor l.actor ≡ false) not_its lines start.allowed)
+pub absent_lines : (z : Sizes) (lines : List Line) (w : World Held) (actor : Actor) → IsStart z lines w
+    → ((j : ℕ) → j < actors_of z → is_same actor (actor_at z j) ≡ false) → lines_of actor lines ≡ []
+absent_lines z lines w actor start absent =
+    none_chosen actor lines
+    (All-weaker (λ (l : Line). IsCommandFor z l.actor l.command) (λ (l : Line). is_same actor l.actor ≡ false) not_its lines start.allowed)
   where
     not_its : (line : Line) → IsCommandFor z line.actor line.command → is_same actor line.actor ≡ false
     not_its line may = let P = present z line.actor line.command may in ap (is_same actor) (sym P.2) ∙ absent P.0 P.1
@@ -222,7 +257,9 @@ absent_lines z lines w actor start absent = none_chosen actor lines (All-weaker 
 pub absent_whole : (z : Sizes) (lines : List Line) (w : World Held) (ss : List (Step Kind)) (actor : Actor) → IsStart z lines w → Legal mmu w ss
     → ((j : ℕ) → j < actors_of z → is_same actor (actor_at z j) ≡ false) → Whole actor (history w ss) lines
 absent_whole z lines w ss actor start legal absent =
-    let quiet = run_silent z w ss actor (start_good z lines w start) legal (λ i i_in. ap (λ (h : Held). is_same actor h.state.actor) (hand_is z lines w i start i_in) ∙ absent i i_in) in
+    let quiet =
+    run_silent z w ss actor (start_good z lines w start) legal
+    (λ i i_in. ap (λ (h : Held). is_same actor h.state.actor) (hand_is z lines w i start i_in) ∙ absent i i_in) in
     let none : lines_of actor lines ≡ [] = absent_lines z lines w actor start absent in
     record {
       begun = quiet.begun ∙ sym none;

@@ -54,14 +54,15 @@ none_under place.Between h under none = refl
 none_under _ h under none = let has = has_line_is h under.1 in absurd (cc (none, has))
 
 -- A step of a part tells nothing, and the words still stand for the same facts.
-part_keeps_flat : (z : Sizes) (v : View) (f : Flat) (a : ℕ) (step : PartStep) (note : ℕ) → IsPart z v a step → needs_line step ≡ false → has_line (v.hand a) ≡ false → Invariant z v → TopicsInvariant z v → FlatInvariant z v f
-    → FlatInvariant z (part_stepped a step note v) f
+part_keeps_flat : (z : Sizes) (v : View) (f : Flat) (a : ℕ) (step : PartStep) (note : ℕ) → IsPart z v a step → needs_line step ≡ false
+    → has_line (v.hand a) ≡ false → Invariant z v → TopicsInvariant z v → FlatInvariant z v f → FlatInvariant z (part_stepped a step note v) f
 part_keeps_flat z v f a step note S free none I P F = record {
   refines = refines_stay z v.words words f.facts L F.refines;
   under = at_upd (λ i (g : Held). i < actors_of z → UnderIs (words area.Pool) g.state.place g.state.line.command g (f.under g.state.actor)) v.hand a behind
       (λ lt. subst (λ q. UnderIs (words area.Pool) q h.state.line.command behind (f.under h.state.actor)) (sym (idle lt))
       (subst (λ q. UnderIs (v.words area.Pool) q h.state.line.command h (f.under h.state.actor)) (idle lt) (F.under a lt)))
-      (λ i ne lt. under_still (v.words area.Pool) (words area.Pool) (v.hand i).state.place (v.hand i).state.line.command (v.hand i) (f.under (v.hand i).state.actor) (λ k held. others_held z v a step note S P i k lt ne held) (F.under i lt));
+      (λ i ne lt. under_still (v.words area.Pool) (words area.Pool) (v.hand i).state.place (v.hand i).state.line.command (v.hand i)
+      (f.under (v.hand i).state.actor) (λ k held. others_held z v a step note S P i k lt ne held) (F.under i lt));
 }
   where
     h : Held
@@ -91,7 +92,8 @@ after_append [] ys f = refl
 after_append (x ∷ xs) ys f = after_append xs ys (after x f)
 
 -- It stays so with what one step tells, and with what the steps behind it tell.
-stays_flat : (z : Sizes) (u : World Held) (f : Flat) (es hs : List Event) → IsLawful z f es → IsLawful z (after_all es f) hs × FlatInvariant z (view z u) (after_all hs (after_all es f))
+stays_flat : (z : Sizes) (u : World Held) (f : Flat) (es hs : List Event) → IsLawful z f es
+    → IsLawful z (after_all es f) hs × FlatInvariant z (view z u) (after_all hs (after_all es f))
     → IsLawful z f (es ++ hs) × FlatInvariant z (view z u) (after_all (es ++ hs) f)
 stays_flat z u f es hs front back = (lawful_append z es hs f front back.0, subst (FlatInvariant z (view z u)) (sym (after_append es hs f)) back.1)
 
@@ -105,22 +107,33 @@ run_flat z w f (s ∷ ss) G F legal = by (takes z w s G legal.0) (λ es F. run_f
 
     -- the step tells this
     Tells : List Event → Type 0
-    Tells xs = IsLawful z f (xs ++ history (effect mmu w s) ss) × FlatInvariant z (view z (run mmu (effect mmu w s) ss)) (after_all (xs ++ history (effect mmu w s) ss) f)
+    Tells xs =
+        IsLawful z f (xs ++ history (effect mmu w s) ss)
+        × FlatInvariant z (view z (run mmu (effect mmu w s) ss)) (after_all (xs ++ history (effect mmu w s) ss) f)
 
-    by : Takes z w s h ⊎ TakesPart z w s h → ((es : List Event) → FlatInvariant z (view z (effect mmu w s)) (after_all es f) → StaysFlat z (effect mmu w s) (after_all es f) ss) → StaysFlat z w f (s ∷ ss)
+    by : Takes z w s h ⊎ TakesPart z w s h → ((es : List Event) → FlatInvariant z (view z (effect mmu w s)) (after_all es f)
+        → StaysFlat z (effect mmu w s) (after_all es f) ss) → StaysFlat z w f (s ∷ ss)
     by (inl T) more =
         let es : List Event = told_events (view z w) s.actor (line_at h.state.place h) (line_at h.state.place h).command (place_at h.state.place h) in
-        let is : events_of h (answered mmu w s.kind) ≡ es = ap (events_of h) T.answers ∙ sym (told_is_events z (view z w) s.actor (line_at h.state.place h) (place_at h.state.place h) T.is_step) in
-        let K = flat_kept z (view z w) f s.actor (line_at h.state.place h) (line_at h.state.place h).command (place_at h.state.place h) T.is_step G.holds G.topics (makes_at z (view z w) s.actor (line_at h.state.place h) (line_at h.state.place h).command (place_at h.state.place h) (are_small z w G) T.is_step G.holds G.topics)
-        (step_knows z (view z w) s.actor (line_at h.state.place h) (line_at h.state.place h).command (place_at h.state.place h) T.is_step G.holds) G.no_pause G.usable F in
+        let is : events_of h (answered mmu w s.kind) ≡ es =
+        ap (events_of h) T.answers ∙ sym (told_is_events z (view z w) s.actor (line_at h.state.place h) (place_at h.state.place h) T.is_step) in
+        let K =
+        flat_kept z (view z w) f s.actor (line_at h.state.place h) (line_at h.state.place h).command (place_at h.state.place h) T.is_step G.holds
+        G.topics (makes_at z (view z w) s.actor (line_at h.state.place h) (line_at h.state.place h).command (place_at h.state.place h)
+        (are_small z w G) T.is_step G.holds G.topics)
+        (step_knows z (view z w) s.actor (line_at h.state.place h) (line_at h.state.place h).command (place_at h.state.place h) T.is_step G.holds)
+        G.no_pause G.usable F in
         let then_ = more es (subst (λ (v : View). FlatInvariant z v (after_all es f)) (sym T.leads) K.1) in
         subst Tells (sym is) (stays_flat z (run mmu (effect mmu w s) ss) f es (history (effect mmu w s) ss) K.0 then_)
     by (inr T) more =
-        let then_ = more [] (subst (λ (v : View). FlatInvariant z v f) (sym T.leads) (part_keeps_flat z (view z w) f s.actor T.step T.note T.is_part T.free T.none_left G.holds G.topics F)) in
+        let then_ =
+        more [] (subst (λ (v : View). FlatInvariant z v f) (sym T.leads)
+        (part_keeps_flat z (view z w) f s.actor T.step T.note T.is_part T.free T.none_left G.holds G.topics F)) in
         subst Tells (sym (events_of_part h (answered mmu w s.kind) T.none_left)) then_
 
 -- Each page is mapped to its own frame, and may be written.
-entry_at_start : (z : Sizes) (lines : List Line) (w : World Held) → IsStart z lines w → (p : ℕ) → p < z.pages → entry_of (word_in z w area.Host p) ≡ own_frames p
+entry_at_start : (z : Sizes) (lines : List Line) (w : World Held) → IsStart z lines w → (p : ℕ) → p < z.pages
+    → entry_of (word_in z w area.Host p) ≡ own_frames p
 entry_at_start z lines w start p lt =
     let is = word_at_start z w area.Host p (host_word p true true 1) start.words (λ l. refl)
     (λ e. absurd (let low : nat_lt p z.pages ≡ true = grind (arith, nat_tests) in cc (e, low))) in
@@ -131,17 +144,23 @@ entry_at_start z lines w start p lt =
 start_flat : (z : Sizes) (lines : List Line) (w : World Held) → IsStart z lines w → FlatInvariant z (view z w) first_flat
 start_flat z lines w start = record {
   refines = record {
-    slots = sym (none_below (live_at (word_in z w area.Pool) (word_in z w area.Slots 0)) (memory_slot_at (word_in z w area.Pool) (word_in z w area.Slots 0)) 32 (λ id low. none_live z w (word_in z w area.Slots 0) id start.words));
+    slots =
+        sym (none_below (live_at (word_in z w area.Pool) (word_in z w area.Slots 0))
+        (memory_slot_at (word_in z w area.Pool) (word_in z w area.Slots 0)) 32 (λ id low. none_live z w (word_in z w area.Slots 0) id start.words));
     host = λ p lt. sym (entry_at_start z lines w start p lt);
     memory = λ p j lt below. sym (word_at_start z w area.Content _ 0 start.words (λ l. refl) (λ e. refl));
     paused = ap (λ n. not (n == 0)) (sym (word_at_start z w area.Pause 0 0 start.words (λ l. refl) (λ e. refl)));
   };
-  under = λ i lt. subst (λ (h : Held). UnderIs (word_in z w area.Pool) h.state.place h.state.line.command h (first_flat.under h.state.actor)) (sym (hand_is z lines w i start lt)) refl;
+  under =
+      λ i lt. subst (λ (h : Held). UnderIs (word_in z w area.Pool) h.state.place h.state.line.command h (first_flat.under h.state.actor))
+      (sym (hand_is z lines w i start lt)) refl;
 }
 
-pub every_history : (z : Sizes) (lines : List Line) (w : World Held) (ss : List (Step Kind)) → IsStart z lines w → Legal mmu w ss → IsLawful z first_flat (history w ss)
+pub every_history : (z : Sizes) (lines : List Line) (w : World Held) (ss : List (Step Kind)) → IsStart z lines w → Legal mmu w ss
+    → IsLawful z first_flat (history w ss)
 every_history z lines w ss start legal = (run_flat z w first_flat ss (start_good z lines w start) (start_flat z lines w start) legal).0
 
 -- Wherever the steps have come, the words and hands stand for the flat state that the history leaves.
-pub every_flat : (z : Sizes) (lines : List Line) (w : World Held) (ss : List (Step Kind)) → IsStart z lines w → Legal mmu w ss → FlatInvariant z (view z (run mmu w ss)) (after_all (history w ss) first_flat)
+pub every_flat : (z : Sizes) (lines : List Line) (w : World Held) (ss : List (Step Kind)) → IsStart z lines w → Legal mmu w ss
+    → FlatInvariant z (view z (run mmu w ss)) (after_all (history w ss) first_flat)
 every_flat z lines w ss start legal = (run_flat z w first_flat ss (start_good z lines w start) (start_flat z lines w start) legal).1

@@ -1,45 +1,38 @@
 -- What the steps of a fault owe flat memory.
 use Rattle.std.proofs.Common.{◌≡◌, ◌+◌, ◌<◌, ℕ, [], ◌∷◌, refl, sym, subst, ap, ◌∙◌, arith}
-use Rattle.std.proofs.lemmas.Bool.{eq-eqb}
-use Rattle.std.specs.Prelude.{Bool, true, false, ◌==◌, ◌&&◌, nat_le, nat_lt, not, if◌then◌else◌, Some}
+use Rattle.std.specs.Prelude.{Bool, true, false, ◌==◌, ◌&&◌, nat_lt, not, if◌then◌else◌, Some}
 use Rattle.core_views.specs.declared.answer.Answer.{Answer}
 use Rattle.core_views.specs.declared.answer.Answer.TheVariants as answer
 use Rattle.core_views.specs.declared.event.EventKind.TheVariants.{Answered, Exited}
-use Rattle.core_views.specs.declared.place.Cause.TheVariants.{Open, Moved, Entry}
-use Rattle.core_views.specs.declared.place.CheckStage.{CheckStage}
-use Rattle.core_views.specs.declared.place.CheckStage.TheVariants as stage
+use Rattle.core_views.specs.declared.place.Cause.TheVariants.{Entry}
 use Rattle.core_views.specs.declared.place.FaultEnd.{FaultEnd}
 use Rattle.core_views.specs.declared.place.FaultEnd.TheVariants.{Installed, Mmio, HostFault, Starved, Retry}
 use Rattle.core_views.specs.declared.place.FaultPlace.{FaultPlace}
-use Rattle.core_views.specs.declared.place.FaultPlace.TheVariants.{Begin, Snapshot, Find, Host, Share, Check, Walk, Claim, Fill, Role, Link, Give, Leaf, Unshare, End}
+use Rattle.core_views.specs.declared.place.FaultPlace.TheVariants.{Begin, Snapshot, Find, Host, Share, Check, Walk, Claim, Fill, Role, Link, Give}
+use Rattle.core_views.specs.declared.place.FaultPlace.TheVariants.{Leaf, Unshare, End}
 use Rattle.core_views.specs.declared.place.AccessPlace.TheVariants.{Enter, Fault}
 use Rattle.core_views.specs.declared.place.Place.TheVariants as place
 use Rattle.core_views.specs.declared.sizes.Sizes.{Sizes}
-use Rattle.core_views.specs.declared.topics.TableWalk.{TableWalk}
 use Rattle.core_views.specs.declared.topics.Topics.{Topics}
 use Rattle.core_views.specs.declared.trace.Command.TheVariants.{Access}
 use Rattle.core_views.specs.declared.trace.Line.{Line}
 use Rattle.core_views.specs.declared.trace.Op.{Op}
 use Rattle.core_views.specs.Flat.{Facts, LineUnderWay, Notes}
 use Rattle.core_views.specs.Past.{Past}
-use Rattle.core_views.specs.declared.host.HostEntry.{HostEntry}
-use Rattle.core_views.specs.Host.{HostMap, HostNotes, is_denied, own_frames, with_entry}
+use Rattle.core_views.specs.Host.{is_denied, with_entry}
 use Rattle.core_views.specs.Lawful.{MayLeave, SawPage, SawForbidden}
 use Rattle.core_views.specs.Slots.{is_write}
 use Rattle.spte_words.specs.declared.area.Area.{Area}
 use Rattle.spte_words.specs.declared.area.Area.TheVariants as area
-use Rattle.spte_words.specs.declared.spte_kind.SpteKind.{SpteKind}
-use Rattle.spte_words.specs.declared.spte_kind.SpteKind.TheVariants as entry_kind
 use Rattle.spte_words.specs.Entries.{kind_of}
 use Rattle.spte_words.specs.HostWords.{host_allows_write}
 use Rattle.part_steps.specs.declared.part_step.PartStep.TheVariants as part
 use Rattle.mmu_core.specs.declared.claim.ClaimNext.{ClaimNext}
-use Rattle.mmu_core.specs.declared.claim.ClaimNext.TheVariants as claims
 use Rattle.mmu_core.specs.declared.share.ShareNext.{ShareNext}
-use Rattle.mmu_core.specs.declared.share.ShareNext.TheVariants as shares
 use Rattle.mmu_core.specs.lines.AccessSteps.{access_note, access_task}
 use Rattle.mmu_core.specs.lines.FaultKnows.{FaultKnows}
-use Rattle.mmu_core.specs.lines.FaultSteps.{after_claim, after_share, allows_access, check_next, claim_next, entry_word, fault_part, find_next, share_next, snapshot_taken, walk_next}
+use Rattle.mmu_core.specs.lines.FaultSteps.{after_claim, after_share, check_next, claim_next, entry_word, fault_part, find_next}
+use Rattle.mmu_core.specs.lines.FaultSteps.{share_next, walk_next}
 use Rattle.mmu_laws.specs.flat.FlatInvariant.{NotedAt}
 use Rattle.mmu_core.specs.invariant.Invariant.{Invariant}
 use Rattle.part_steps.specs.PartTasks.{own_index, words_filled}
@@ -61,50 +54,7 @@ use Rattle.core_views.specs.declared.topics.SlotSearch.{SlotSearch}
 use Rattle.core_views.specs.declared.topics.Stay.{Stay}
 use Rattle.mmu_core.proofs.slots.LiveStays.{access_never, access_quiet}
 use Rattle.mmu_core.proofs.held.OldSets.{set_live}
-
--- Where a fault stands after most of its steps the line has noted nothing, up to its look at the host, and from there on that it saw a page.
-module _ (pool : ℕ → ℕ) (gfn : ℕ) (op : Op) (t : Topics) (notes : Notes) where
-  abbrev Noted : FaultPlace → Type 0
-  Noted p = NotedAt pool p gfn op t notes
-
-  share_noted : SawPage notes gfn op → (next : ShareNext) → Noted (after_share next)
-  share_noted saw shares.Tries = saw
-  share_noted saw _ = saw
-
-  check_noted : SawPage notes gfn op → (at : CheckStage) (h : Topics) (x : ℕ) → Noted (check_next at gfn h x)
-  check_noted saw stage.Count h x = either_place Noted (x == 0) (Check stage.Seq) (Check stage.Start) saw saw
-  check_noted saw stage.Start h x = saw
-  check_noted saw stage.End h x =
-      either_place Noted (nat_le h.invalidations.start gfn && nat_lt gfn x) (Unshare (Retry (Open h.invalidations.count h.invalidations.start x gfn)))
-      (Check stage.Seq) tt saw
-  check_noted saw stage.Seq h x =
-      either_place Noted (x == snapshot_taken h.invalidations.snapshot) (Walk false)
-      (Unshare (Retry (Moved (snapshot_taken h.invalidations.snapshot) x))) saw tt
-
-  walk_noted : SawPage notes gfn op → (k : SpteKind) (z : Sizes) (write : Bool) (walk : TableWalk) (x : ℕ) → Noted (walk_next k z gfn write walk x)
-  walk_noted saw entry_kind.Leaf z write walk x =
-      either_place Noted (walk.level == 1) (if allows_access write x then Unshare Installed else Leaf) (Unshare (Retry (Entry (entry_word z gfn walk) x x)))
-      (either_place Noted (allows_access write x) (Unshare Installed) Leaf tt saw) tt
-  walk_noted saw entry_kind.Absent z write walk x = either_place Noted (walk.level == 1) Leaf (Claim false) saw saw
-  walk_noted saw (entry_kind.Table page) z write walk x = saw
-  walk_noted saw entry_kind.Frozen z write walk x = tt
-
-  claim_noted : SawPage notes gfn op → (next : ClaimNext) → Noted (after_claim next)
-  claim_noted saw claims.Goes = saw
-  claim_noted saw _ = saw
-
-  -- The host allows the access, or forbids the write.
-  host_noted : (write : Bool) (x : ℕ) → ((write && not (host_allows_write x)) ≡ false → SawPage notes gfn op)
-      → ((write && not (host_allows_write x)) ≡ true → SawForbidden notes gfn op)
-      → Noted (if write && not (host_allows_write x) then End HostFault else Share)
-  host_noted write x saw denied = by (write && not (host_allows_write x)) refl
-    where
-      by : (b : Bool) → (write && not (host_allows_write x)) ≡ b → Noted (if b then End HostFault else Share)
-      by true is = denied is
-      by false is = saw is
-
-entry_noted : (page : ℕ) (entry : HostEntry) (host : HostNotes) → with_entry page entry host page ≡ Some entry
-entry_noted page entry host = rw (eq-eqb page page refl) refl
+use Rattle.mmu_laws.proofs.flat.FaultNotes.{Noted, check_noted, claim_noted, entry_noted, host_noted, share_noted, walk_noted}
 
 module _ (z : Sizes) (v : View) (a : ℕ) (line : Line) (gfn word : ℕ) (op : Op) (facts : Facts) (past : Past) (u : LineUnderWay) where
   abbrev held : Topics
@@ -127,8 +77,8 @@ module _ (z : Sizes) (v : View) (a : ℕ) (line : Line) (gfn word : ℕ) (op : O
       → Goes z (v.hand a).state.actor line (Access gfn word op) (words_behind p) (place.Access (Fault next)) (held_behind p) [] facts past u
   quiet p next S I P R noted =
       goes_by z v a line (Access gfn word op) (access_task (Fault p) (v.hand a) gfn word op) facts past u
-      (part_refines z v a (fault_part p gfn held) (access_note (Fault p)) facts S P (access_never (Fault p) gfn held (fault_part p gfn held) refl) (access_quiet (Fault p) gfn held (fault_part p gfn held) refl) R.refines)
-      (place.Access (Fault next)) (R.under.0, (R.under.1.0, noted))
+      (part_refines z v a (fault_part p gfn held) (access_note (Fault p)) facts S P (access_never (Fault p) gfn held (fault_part p gfn held) refl)
+      (access_quiet (Fault p) gfn held (fault_part p gfn held) refl) R.refines) (place.Access (Fault next)) (R.under.0, (R.under.1.0, noted))
 
   -- The line looks at the slots: those of the published set, which its search holds now, and none of them is passed yet.
   looks : FaultKnows (Find false) (v.hand a).state.sizes gfn (is_write op) held
@@ -137,7 +87,19 @@ module _ (z : Sizes) (v : View) (a : ℕ) (line : Line) (gfn word : ℕ) (op : O
   looks K R = record {
     allowed = (R.under.1.0.0, tt);
     refines = R.refines;
-    under = (R.under.0, (R.under.1.0, record { set = v.words area.Slots 0; held = set_is; noted = ap Some (refined_slots z (v.words area.Slots 0) (v.words area.Pool) (v.words area.Host) (v.words area.Content) (v.words area.Pause 0) facts R.refines); passed = λ k d lt low. absurd (omega (arith, first, low)) }));
+    under = (
+      R.under.0,
+      (
+        R.under.1.0,
+        record {
+          set = v.words area.Slots 0;
+          held = set_is;
+          noted = ap Some
+              (refined_slots z (v.words area.Slots 0) (v.words area.Pool) (v.words area.Host) (v.words area.Content) (v.words area.Pause 0) facts R.refines);
+          passed = λ k d lt low. absurd (omega (arith, first, low));
+        },
+      ),
+    );
   }
     where
       behind : (held_behind (Find false)).search ≡ at_set (may_search held.stay held.hold) held.search (v.words area.Slots 0)
@@ -159,7 +121,8 @@ module _ (z : Sizes) (v : View) (a : ℕ) (line : Line) (gfn word : ℕ) (op : O
       → StepGoes z v a line (Access gfn word op) (place.Access (Fault (Find true))) facts past u
   searches S part_ I P K R =
       quiet (Find true) (find_next gfn (is_write op) held.search.next (searched held.search (answered (Find true)))) part_ I P R
-      (find_noted z (v.words area.Slots 0) (v.words area.Role) (v.words area.Pool) gfn (answered (Find true)) op held.search.next held.search (held_behind (Find true)) u.notes I.set_part
+      (find_noted z (v.words area.Slots 0) (v.words area.Role) (v.words area.Pool) gfn (answered (Find true)) op held.search.next held.search
+      (held_behind (Find true)) u.notes I.set_part
       (λ k is. set_live z v a k S.there P is) (P.searches a S.there).loaded (K.1 refl).1 refl search R.under.1.0.1 R.under.1.1)
     where
       search : (held_behind (Find true)).search ≡ searched held.search (answered (Find true))
@@ -179,7 +142,8 @@ module _ (z : Sizes) (v : View) (a : ℕ) (line : Line) (gfn word : ℕ) (op : O
       → is_denied op (facts.host page_found) ≡ (is_write op && not (host_allows_write (v.words area.Host page_found)))
   denied_is R low = ap (is_denied op) (R.refines.host page_found low)
 
-  sees_page : Ready z v line (Access gfn word op) (place.Access (Fault Host)) held facts u → is_denied op (facts.host page_found) ≡ false → SawPage noted_entry gfn op
+  sees_page : Ready z v line (Access gfn word op) (place.Access (Fault Host)) held facts u → is_denied op (facts.host page_found) ≡ false
+      → SawPage noted_entry gfn op
   sees_page R allows =
       let N = R.under.1.1 in
       record {
@@ -268,14 +232,18 @@ module _ (z : Sizes) (v : View) (a : ℕ) (line : Line) (gfn word : ℕ) (op : O
       let next : ShareNext = share_next held.hold (answered Share) in
       quiet Share (after_share next) part_ I P R (share_noted (words_behind Share area.Pool) gfn op (held_behind Share) u.notes R.under.1.1 next)
   fault_goes (Check at) S part_ I P K R =
-      quiet (Check at) (check_next at gfn held (answered (Check at))) part_ I P R (check_noted (words_behind (Check at) area.Pool) gfn op (held_behind (Check at)) u.notes R.under.1.1 at held (answered (Check at)))
+      quiet (Check at) (check_next at gfn held (answered (Check at))) part_ I P R
+      (check_noted (words_behind (Check at) area.Pool) gfn op (held_behind (Check at)) u.notes R.under.1.1 at held (answered (Check at)))
   fault_goes (Walk false) S part_ I P K R = quiet (Walk false) (Walk true) part_ I P R R.under.1.1
   fault_goes (Walk true) S part_ I P K R =
-      quiet (Walk true) (walk_next (kind_of held.walk.level (answered (Walk true))) (v.hand a).state.sizes gfn (is_write op) held.walk (answered (Walk true))) part_ I P R
-      (walk_noted (words_behind (Walk true) area.Pool) gfn op (held_behind (Walk true)) u.notes R.under.1.1 (kind_of held.walk.level (answered (Walk true))) (v.hand a).state.sizes (is_write op) held.walk (answered (Walk true)))
+      quiet (Walk true)
+      (walk_next (kind_of held.walk.level (answered (Walk true))) (v.hand a).state.sizes gfn (is_write op) held.walk (answered (Walk true))) part_ I P R
+      (walk_noted (words_behind (Walk true) area.Pool) gfn op (held_behind (Walk true)) u.notes R.under.1.1 (kind_of held.walk.level (answered (Walk true)))
+      (v.hand a).state.sizes (is_write op) held.walk (answered (Walk true)))
   fault_goes (Claim begun) S part_ I P K R =
       let next : ClaimNext = claim_next begun (v.hand a).state.sizes held.claim (answered (Claim begun)) in
-      quiet (Claim begun) (after_claim next) part_ I P R (claim_noted (words_behind (Claim begun) area.Pool) gfn op (held_behind (Claim begun)) u.notes R.under.1.1 next)
+      quiet (Claim begun) (after_claim next) part_ I P R
+      (claim_noted (words_behind (Claim begun) area.Pool) gfn op (held_behind (Claim begun)) u.notes R.under.1.1 next)
   fault_goes Fill S part_ I P K R =
       quiet Fill (if nat_lt (words_filled held.owned + 1) 512 then Fill else Role) part_ I P R
       (either_place (Noted (words_behind Fill area.Pool) gfn op (held_behind Fill) u.notes) (nat_lt (words_filled held.owned + 1) 512) Fill Role R.under.1.1

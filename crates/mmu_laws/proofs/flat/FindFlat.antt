@@ -33,7 +33,8 @@ record NotedTo (pool : ℕ → ℕ) (notes : Notes) (k id gfn : ℕ) : Type 0 wh
   passed : All (λ e. e.0 < id → contains gfn e.1 ≡ false) (slots_below pool k 32)
 
 -- A slot that doesn't hold the guest frame is passed by.
-passes_one : (pool : ℕ → ℕ) (k gfn id : ℕ) (e : ℕ × SlotOf) → ((slot : SlotOf) → IsLiveIn pool k id slot → contains gfn slot ≡ false) → IsLiveIn pool k e.0 e.1 → (e.0 < id → contains gfn e.1 ≡ false) → e.0 < id + 1 → contains gfn e.1 ≡ false
+passes_one : (pool : ℕ → ℕ) (k gfn id : ℕ) (e : ℕ × SlotOf) → ((slot : SlotOf) → IsLiveIn pool k id slot → contains gfn slot ≡ false)
+    → IsLiveIn pool k e.0 e.1 → (e.0 < id → contains gfn e.1 ≡ false) → e.0 < id + 1 → contains gfn e.1 ≡ false
 passes_one pool k gfn id e here live before low = case (same_or e.0 id)
   where
     case : (e.0 ≡ id) ⊎ (e.0 ≢ id) → contains gfn e.1 ≡ false
@@ -43,23 +44,38 @@ passes_one pool k gfn id e here live before low = case (same_or e.0 id)
 listed : (pool : ℕ → ℕ) (k : ℕ) → All (λ e. IsLiveIn pool k e.0 e.1) (slots_below pool k 32)
 listed pool k = each_is_live pool k 32 (omega arith)
 
-passing : (pool : ℕ → ℕ) (notes : Notes) (k id gfn : ℕ) → NotedTo pool notes k id gfn → ((slot : SlotOf) → IsLiveIn pool k id slot → contains gfn slot ≡ false) → NotedTo pool notes k (id + 1) gfn
-passing pool notes k id gfn N here = record { runs = N.runs; noted = N.noted; passed = λ n d lt. passes_one pool k gfn id _ here (listed pool k n d lt) (N.passed n d lt) }
+passing : (pool : ℕ → ℕ) (notes : Notes) (k id gfn : ℕ) → NotedTo pool notes k id gfn
+    → ((slot : SlotOf) → IsLiveIn pool k id slot → contains gfn slot ≡ false) → NotedTo pool notes k (id + 1) gfn
+passing pool notes k id gfn N here =
+    record { runs = N.runs; noted = N.noted; passed = λ n d lt. passes_one pool k gfn id _ here (listed pool k n d lt) (N.passed n d lt) }
 
 -- Behind the last slot no slot gives the guest frame a page.
-beyond : (pool : ℕ → ℕ) (k gfn id : ℕ) (op : Op) (e : ℕ × SlotOf) → id ≡ 32 → IsLiveIn pool k e.0 e.1 → (e.0 < id → contains gfn e.1 ≡ false) → contains gfn e.1 ≡ true → (is_write op && e.1.read_only) ≡ true
+beyond : (pool : ℕ → ℕ) (k gfn id : ℕ) (op : Op) (e : ℕ × SlotOf) → id ≡ 32 → IsLiveIn pool k e.0 e.1 → (e.0 < id → contains gfn e.1 ≡ false)
+    → contains gfn e.1 ≡ true → (is_write op && e.1.read_only) ≡ true
 beyond pool k gfn id op e last live not_here holds = let not_it : contains gfn e.1 ≡ false = not_here (omega (arith, live.low)) in absurd (cc)
 
 -- The search goes on with this ID, or is over.
-goes_on : (pool : ℕ → ℕ) (k gfn id : ℕ) (op : Op) (t : Topics) (notes : Notes) → t.search.set ≡ Some k → t.search.id ≡ id → NotedTo pool notes k id gfn → NotedAt pool (if id == 32 then End Mmio else Find true) gfn op t notes
+goes_on : (pool : ℕ → ℕ) (k gfn id : ℕ) (op : Op) (t : Topics) (notes : Notes) → t.search.set ≡ Some k → t.search.id ≡ id
+    → NotedTo pool notes k id gfn → NotedAt pool (if id == 32 then End Mmio else Find true) gfn op t notes
 goes_on pool k gfn id op t notes held is N = case (id == 32) (Decides-eqb id 32).0
   where
     case : (last : Bool) → (last ≡ true → id ≡ 32) → NotedAt pool (if last then End Mmio else Find true) gfn op t notes
-    case true last = record { runs = N.runs; slots = slots_below pool k 32; noted = N.noted; none = no_page_behind (slots_below pool k 32) gfn op (λ n d lt. beyond pool k gfn id op _ (last refl) (listed pool k n d lt) (N.passed n d lt)) }
-    case false last = record { set = k; held = held; noted = N.noted; passed = subst (λ i. All (λ (e : ℕ × SlotOf). e.0 < i → contains gfn e.1 ≡ false) (slots_below pool k 32)) (sym is) N.passed }
+    case true last = record {
+      runs = N.runs;
+      slots = slots_below pool k 32;
+      noted = N.noted;
+      none = no_page_behind (slots_below pool k 32) gfn op (λ n d lt. beyond pool k gfn id op _ (last refl) (listed pool k n d lt) (N.passed n d lt));
+    }
+    case false last = record {
+      set = k;
+      held = held;
+      noted = N.noted;
+      passed = subst (λ i. All (λ (e : ℕ × SlotOf). e.0 < i → contains gfn e.1 ≡ false) (slots_below pool k 32)) (sym is) N.passed;
+    }
 
 -- The flags are loaded: a slot that isn't live is passed.
-flags_noted : (pool : ℕ → ℕ) (k gfn x : ℕ) (s : SlotSearch) (notes : Notes) → x ≡ pool (slot_index k s.id field.Flags) → NotedTo pool notes k s.id gfn → NotedTo pool notes k (if flags_live x then s.id else s.id + 1) gfn
+flags_noted : (pool : ℕ → ℕ) (k gfn x : ℕ) (s : SlotSearch) (notes : Notes) → x ≡ pool (slot_index k s.id field.Flags) → NotedTo pool notes k s.id gfn
+    → NotedTo pool notes k (if flags_live x then s.id else s.id + 1) gfn
 flags_noted pool k gfn x s notes is N = case (flags_live x) refl
   where
     dead : flags_live x ≡ false → (slot : SlotOf) → IsLiveIn pool k s.id slot → contains gfn slot ≡ false
@@ -70,15 +86,18 @@ flags_noted pool k gfn x s notes is N = case (flags_live x) refl
     case false e = passing pool notes k s.id gfn N (dead e)
 
 -- The slots of a set that are live in the published one, too, have no guest frame in common.
-held_apart : (z : Sizes) (set k : ℕ) (role pool : ℕ → ℕ) → SlotSetPart z set role pool → StayLive pool k pool set → (gfn i j : ℕ) (x y : SlotOf) → IsLiveIn pool k i x → IsLiveIn pool k j y → contains gfn x ≡ true → contains gfn y ≡ true → i ≡ j
+held_apart : (z : Sizes) (set k : ℕ) (role pool : ℕ → ℕ) → SlotSetPart z set role pool → StayLive pool k pool set → (gfn i j : ℕ) (x y : SlotOf)
+    → IsLiveIn pool k i x → IsLiveIn pool k j y → contains gfn x ≡ true → contains gfn y ≡ true → i ≡ j
 held_apart z set k role pool P live gfn i j x y first second holds too =
     let A : IsLiveIn pool set i x = live i x first in
     let B : IsLiveIn pool set j y = live j y second in
     P.guest_apart gfn i j A.low B.low A.live B.live (ap (contains gfn) A.is ∙ holds) (ap (contains gfn) B.is ∙ too)
 
 -- The slot is loaded whole: it holds the guest frame, and allows the operation or not, or it is passed.
-whole_noted : (z : Sizes) (set k : ℕ) (role pool : ℕ → ℕ) (gfn x : ℕ) (op : Op) (s : SlotSearch) (t : Topics) (notes : Notes) → SlotSetPart z set role pool → StayLive pool k pool set → HasLoaded field.Host pool k s → s.id ≤ 31
-    → x ≡ pool (slot_index k s.id field.Host) → t.search ≡ searched_at field.Host s x → t.search.set ≡ Some k → NotedTo pool notes k s.id gfn → NotedAt pool (find_next gfn (is_write op) field.Host (searched_at field.Host s x)) gfn op t notes
+whole_noted : (z : Sizes) (set k : ℕ) (role pool : ℕ → ℕ) (gfn x : ℕ) (op : Op) (s : SlotSearch) (t : Topics) (notes : Notes)
+    → SlotSetPart z set role pool → StayLive pool k pool set → HasLoaded field.Host pool k s → s.id ≤ 31
+    → x ≡ pool (slot_index k s.id field.Host) → t.search ≡ searched_at field.Host s x → t.search.set ≡ Some k → NotedTo pool notes k s.id gfn
+    → NotedAt pool (find_next gfn (is_write op) field.Host (searched_at field.Host s x)) gfn op t notes
 whole_noted z set k role pool gfn x op s t notes P live loaded low is search held N = case (contains gfn slot) (is_write op && s.slot.read_only) refl refl
   where
     slot : SlotOf
@@ -98,7 +117,8 @@ whole_noted z set k role pool gfn x op s t notes P live loaded low is search hel
     found holds =
         let here : contains gfn (slot_at pool k s.id) ≡ true = ap (contains gfn) is_slot ∙ holds in
         ap (page_in gfn op)
-        (only_one_holds gfn pool k s.id 32 (omega (arith, low)) loaded.0.0 here (λ i lt live_i too. held_apart z set k role pool P live gfn i s.id _ _ (record { low = omega arith; live = live_i; is = refl }) (record { low = low; live = loaded.0.0; is = refl }) too here)
+        (only_one_holds gfn pool k s.id 32 (omega (arith, low)) loaded.0.0 here (λ i lt live_i too. held_apart z set k role pool P live gfn i s.id _ _
+        (record { low = omega arith; live = live_i; is = refl }) (record { low = low; live = loaded.0.0; is = refl }) too here)
         ∙ ap Some is_slot)
 
     same_frames : contains gfn slot ≡ contains gfn (slot_at pool k s.id)
@@ -107,7 +127,8 @@ whole_noted z set k role pool gfn x op s t notes P live loaded low is search hel
     here_live : IsLiveIn pool k s.id (slot_at pool k s.id)
     here_live = record { low = low; live = loaded.0.0; is = refl }
 
-    denied_to : (e : ℕ × SlotOf) → contains gfn slot ≡ true → IsLiveIn pool k e.0 e.1 → (is_write op && s.slot.read_only) ≡ true → contains gfn e.1 ≡ true → (is_write op && e.1.read_only) ≡ true
+    denied_to : (e : ℕ × SlotOf) → contains gfn slot ≡ true → IsLiveIn pool k e.0 e.1 → (is_write op && s.slot.read_only) ≡ true
+        → contains gfn e.1 ≡ true → (is_write op && e.1.read_only) ≡ true
     denied_to e here is_live denied holds =
         let same : e.0 ≡ s.id = held_apart z set k role pool P live gfn e.0 s.id e.1 (slot_at pool k s.id) is_live here_live holds (sym same_frames ∙ here) in
         let is : slot_at pool k s.id ≡ e.1 = ap (slot_at pool k) (sym same) ∙ is_live.is in
@@ -115,21 +136,38 @@ whole_noted z set k role pool gfn x op s t notes P live loaded low is search hel
 
     case : (holds denied : Bool) → contains gfn slot ≡ holds → (is_write op && s.slot.read_only) ≡ denied
         → NotedAt pool (if holds then (if denied then End Mmio else Host) else (if s.id + 1 == 32 then End Mmio else Find true)) gfn op t notes
-    case true true holds denied = record { runs = N.runs; slots = slots_below pool k 32; noted = N.noted; none = no_page_behind (slots_below pool k 32) gfn op (λ n d lt. denied_to _ holds (listed pool k n d lt) denied) }
-    case true false holds denied = record { slots = slots_below pool k 32; noted = N.noted; behind = found holds ∙ page_allowed slot gfn op denied ∙ ap (λ (r : SlotOf). Some (page_of r gfn)) (sym found_slot) }
-    case false denied holds _ = goes_on pool k gfn (s.id + 1) op t notes held next (passing pool notes k s.id gfn N (λ r l. ap (contains gfn) (sym l.is) ∙ sym same_frames ∙ holds))
+    case true true holds denied = record {
+      runs = N.runs;
+      slots = slots_below pool k 32;
+      noted = N.noted;
+      none = no_page_behind (slots_below pool k 32) gfn op (λ n d lt. denied_to _ holds (listed pool k n d lt) denied);
+    }
+    case true false holds denied = record {
+      slots = slots_below pool k 32;
+      noted = N.noted;
+      behind = found holds ∙ page_allowed slot gfn op denied ∙ ap (λ (r : SlotOf). Some (page_of r gfn)) (sym found_slot);
+    }
+    case false denied holds _ =
+        goes_on pool k gfn (s.id + 1) op t notes held next
+        (passing pool notes k s.id gfn N (λ r l. ap (contains gfn) (sym l.is) ∙ sym same_frames ∙ holds))
 
 -- What the line has noted behind a word of a slot.
-word_noted : (z : Sizes) (set k : ℕ) (role pool : ℕ → ℕ) (gfn x : ℕ) (op : Op) (f : SlotField) (s : SlotSearch) (t : Topics) (notes : Notes) → SlotSetPart z set role pool → StayLive pool k pool set → s.set ≡ Some k → HasLoaded f pool k s → s.id ≤ 31
-    → x ≡ pool (slot_index k s.id f) → t.search ≡ searched_at f s x → NotedTo pool notes k s.id gfn → NotedAt pool (find_next gfn (is_write op) f (searched_at f s x)) gfn op t notes
+word_noted : (z : Sizes) (set k : ℕ) (role pool : ℕ → ℕ) (gfn x : ℕ) (op : Op) (f : SlotField) (s : SlotSearch) (t : Topics) (notes : Notes)
+    → SlotSetPart z set role pool → StayLive pool k pool set → s.set ≡ Some k → HasLoaded f pool k s → s.id ≤ 31
+    → x ≡ pool (slot_index k s.id f) → t.search ≡ searched_at f s x → NotedTo pool notes k s.id gfn
+    → NotedAt pool (find_next gfn (is_write op) f (searched_at f s x)) gfn op t notes
 word_noted z set k role pool gfn x op field.Flags s t notes P live held loaded low is search N =
-    goes_on pool k gfn (if flags_live x then s.id else s.id + 1) op t notes (ap (λ (r : SlotSearch). r.set) search ∙ held) (ap (λ (r : SlotSearch). r.id) search) (flags_noted pool k gfn x s notes is N)
+    goes_on pool k gfn (if flags_live x then s.id else s.id + 1) op t notes (ap (λ (r : SlotSearch). r.set) search ∙ held)
+    (ap (λ (r : SlotSearch). r.id) search) (flags_noted pool k gfn x s notes is N)
 word_noted z set k role pool gfn x op field.Host s t notes P live held loaded low is search N =
     whole_noted z set k role pool gfn x op s t notes P live loaded low is search (ap (λ (r : SlotSearch). r.set) search ∙ held) N
-word_noted z set k role pool gfn x op _ s t notes P live held loaded low is search N = goes_on pool k gfn s.id op t notes (ap (λ (r : SlotSearch). r.set) search ∙ held) (ap (λ (r : SlotSearch). r.id) search) N
+word_noted z set k role pool gfn x op _ s t notes P live held loaded low is search N =
+    goes_on pool k gfn s.id op t notes (ap (λ (r : SlotSearch). r.set) search ∙ held) (ap (λ (r : SlotSearch). r.id) search) N
 
-pub find_noted : (z : Sizes) (set : ℕ) (role pool : ℕ → ℕ) (gfn x : ℕ) (op : Op) (f : SlotField) (s : SlotSearch) (t : Topics) (notes : Notes) → SlotSetPart z set role pool → ((k : ℕ) → s.set ≡ Some k → StayLive pool k pool set)
-    → ((k : ℕ) → s.set ≡ Some k → HasLoaded f pool k s) → s.id ≤ 31 → x ≡ pool (slot_index (set_held s.set) s.id f) → t.search ≡ searched_at f s x → notes.paused ≡ Some false → NotedSlots pool notes s gfn
-    → NotedAt pool (find_next gfn (is_write op) f (searched_at f s x)) gfn op t notes
+pub find_noted : (z : Sizes) (set : ℕ) (role pool : ℕ → ℕ) (gfn x : ℕ) (op : Op) (f : SlotField) (s : SlotSearch) (t : Topics) (notes : Notes)
+    → SlotSetPart z set role pool → ((k : ℕ) → s.set ≡ Some k → StayLive pool k pool set)
+    → ((k : ℕ) → s.set ≡ Some k → HasLoaded f pool k s) → s.id ≤ 31 → x ≡ pool (slot_index (set_held s.set) s.id f) → t.search ≡ searched_at f s x
+    → notes.paused ≡ Some false → NotedSlots pool notes s gfn → NotedAt pool (find_next gfn (is_write op) f (searched_at f s x)) gfn op t notes
 find_noted z set role pool gfn x op f s t notes P live loaded low is search runs N =
-    word_noted z set N.set role pool gfn x op f s t notes P (live N.set N.held) N.held (loaded N.set N.held) low (is ∙ ap (λ o. pool (slot_index (set_held o) s.id f)) N.held) search (record { runs = runs; noted = N.noted; passed = N.passed })
+    word_noted z set N.set role pool gfn x op f s t notes P (live N.set N.held) N.held (loaded N.set N.held) low
+    (is ∙ ap (λ o. pool (slot_index (set_held o) s.id f)) N.held) search (record { runs = runs; noted = N.noted; passed = N.passed })

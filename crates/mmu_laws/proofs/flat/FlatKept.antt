@@ -79,7 +79,8 @@ apart_actors z a b apart = case (is_same a b) refl
 -- the lines of the other hands are flat's
 abbrev Others : Sizes → View → ℕ → Flat → Type 0
 Others z v a f =
-    (i : ℕ) → i < actors_of z → i ≢ a → UnderIs (v.words area.Pool) (v.hand i).state.place (v.hand i).state.line.command (v.hand i) (f.under (v.hand i).state.actor)
+    (i : ℕ) → i < actors_of z → i ≢ a
+    → UnderIs (v.words area.Pool) (v.hand i).state.place (v.hand i).state.line.command (v.hand i) (f.under (v.hand i).state.actor)
 
 pub other_actor : (z : Sizes) (v : View) (a i : ℕ) → Invariant z v → a < actors_of z → i < actors_of z → i ≢ a
     → is_same (v.hand a).state.actor (v.hand i).state.actor ≡ false
@@ -104,7 +105,9 @@ meets_begun : (z : Sizes) (v : View) (f : Flat) (a : ℕ) (line : Line) (command
 meets_begun z v f a line command p S I P part K U R others = (
   told_lawful z s.actor kinds f G.allowed,
   record {
-    refines = subst (Refines z (words area.Slots 0) (words area.Pool) (words area.Host) (words area.Content) (words area.Pause 0)) (sym (told_facts s.actor kinds f)) G.refines;
+    refines =
+        subst (Refines z (words area.Slots 0) (words area.Pool) (words area.Host) (words area.Content) (words area.Pause 0))
+        (sym (told_facts s.actor kinds f)) G.refines;
     under =
         at_upd (λ i (h : Held). i < actors_of z → UnderIs (words area.Pool) h.state.place h.state.line.command h (behind.under h.state.actor)) v.hand a then_
         (λ a_in. here) (λ i apart i_in. there i i_in apart);
@@ -144,7 +147,8 @@ meets_begun z v f a line command p S I P part K U R others = (
     there i i_in apart =
         subst (UnderIs (words area.Pool) (v.hand i).state.place (v.hand i).state.line.command (v.hand i))
         (sym (told_others s.actor (v.hand i).state.actor kinds f (other_actor z v a i I S.there i_in apart)))
-        (under_still (v.words area.Pool) (words area.Pool) (v.hand i).state.place (v.hand i).state.line.command (v.hand i) (f.under (v.hand i).state.actor) (λ k held. line_held z v a command p P part i k i_in apart held) (others i i_in apart))
+        (under_still (v.words area.Pool) (words area.Pool) (v.hand i).state.place (v.hand i).state.line.command (v.hand i)
+        (f.under (v.hand i).state.actor) (λ k held. line_held z v a command p P part i k i_in apart held) (others i i_in apart))
 
 -- Where the pause's word is 0 nothing is paused.
 not_paused : (z : Sizes) (v : View) (f : Flat) → FlatInvariant z v f → v.words area.Pause 0 ≡ 0 → f.facts.paused ≡ false
@@ -153,12 +157,14 @@ not_paused z v f F no_pause = F.refines.paused ∙ ap (λ n. not (n == 0)) no_pa
 ready_first : (z : Sizes) (v : View) (f : Flat) (a : ℕ) (line : Line) (command : Command) (p : Place) → IsStep z v a line command p
     → FlatInvariant z v f → v.words area.Pause 0 ≡ 0 → (v.hand a).state.place ≡ place.Between
     → let begun : Flat =
-    after (record { actor = (v.hand a).state.actor; kind = Begun line }) f in Ready z v line command p (v.hand a).topics begun.facts (begun.under (v.hand a).state.actor)
+    after (record { actor = (v.hand a).state.actor; kind = Begun line }) f in
+    Ready z v line command p (v.hand a).topics begun.facts (begun.under (v.hand a).state.actor)
 ready_first z v f a line command p S F no_pause e = record {
   runs = not_paused z v f F no_pause;
   refines = F.refines;
   under = subst (λ q. UnderAt (v.words area.Pool) q line command h.topics now_) first_is
-      (first_at (v.words area.Pool) h.state.sizes h.slots line command h.topics now_ (ap (λ (u : LineUnderWay). u.stage) begun) (ap (λ (u : LineUnderWay). u.line) begun));
+      (first_at (v.words area.Pool) h.state.sizes h.slots line command h.topics now_ (ap (λ (u : LineUnderWay). u.stage) begun)
+      (ap (λ (u : LineUnderWay). u.line) begun));
 }
   where
     h : Held
@@ -232,7 +238,8 @@ flat_kept z v f a line command p S I P part K no_pause U F = case (v.hand a).sta
     case : (q : Place) → (v.hand a).state.place ≡ q
         → Meets z v f a line command p (told (v.hand a).state.actor (beginning q line ++ told_kinds v a line command p))
     case place.Between e =
-        let idle : (f.under actor).stage ≡ Idle = subst (λ q. UnderIs (v.words area.Pool) q (v.hand a).state.line.command (v.hand a) (f.under actor)) e (F.under a S.there) in
+        let idle : (f.under actor).stage ≡ Idle =
+        subst (λ q. UnderIs (v.words area.Pool) q (v.hand a).state.line.command (v.hand a) (f.under actor)) e (F.under a S.there) in
         let rest = meets_begun z v begun a line command p S I P part K U (ready_first z v f a line command p S F no_pause e) others in
         (((idle, S.own), rest.0), rest.1)
     case _ e = on (subst IsUnderWay (sym e) tt)
@@ -241,7 +248,8 @@ flat_kept z v f a line command p S I P part K no_pause U F = case (v.hand a).sta
 pub told_is_events : (z : Sizes) (v : View) (a : ℕ) (line : Line) (p : Place) → IsStep z v a line line.command p
     → told_events v a line line.command p ≡ events_of (v.hand a) (answer_in (task_at p line.command (v.hand a)) v.words)
 told_is_events z v a line p S =
-    ap (λ l. of_line l p) S.line_is ∙ ap (of_line (line_at (v.hand a).state.place (v.hand a))) (sym S.place_is) ∙ sym (events_of_line (v.hand a) x (has_line_is (v.hand a) S.left))
+    ap (λ l. of_line l p) S.line_is ∙ ap (of_line (line_at (v.hand a).state.place (v.hand a))) (sym S.place_is)
+    ∙ sym (events_of_line (v.hand a) x (has_line_is (v.hand a) S.left))
   where
     x : ℕ
     x = answer_in (task_at p line.command (v.hand a)) v.words

@@ -61,7 +61,8 @@ StepGoes z v a line command p facts past u =
     let h : Held = v.hand a in
     let task : Task = task_at p command h in
     let x : ℕ = answer_in task v.words in
-    Goes z h.state.actor line command (words_after task v.words) (place_after (outcome_at p command h x)) (topics_after h.state.sizes (kind_of_task h.state.sizes task) h.topics x)
+    Goes z h.state.actor line command (words_after task v.words) (place_after (outcome_at p command h x))
+    (topics_after h.state.sizes (kind_of_task h.state.sizes task) h.topics x)
     (tells_at p command h x ++ answering (outcome_at p command h x) line) facts past u
 
 -- A step leaves which slot set is published, the words of its page, the host words, all content, and the pause.
@@ -94,7 +95,9 @@ pub refines_stay : (z : Sizes) (before after : Area → ℕ → ℕ) (facts : Fa
     → Refines z (before area.Slots 0) (before area.Pool) (before area.Host) (before area.Content) (before area.Pause 0) facts
     → Refines z (after area.Slots 0) (after area.Pool) (after area.Host) (after area.Content) (after area.Pause 0) facts
 refines_stay z before after facts L R = record {
-  slots = R.slots ∙ sym (memory_below_stay (before area.Slots 0) (before area.Pool) (after area.Pool) L.pool 32 (omega arith)) ∙ ap (λ k. memory_slots_below (after area.Pool) k 32) (sym L.slots);
+  slots =
+      R.slots ∙ sym (memory_below_stay (before area.Slots 0) (before area.Pool) (after area.Pool) L.pool 32 (omega arith))
+      ∙ ap (λ k. memory_slots_below (after area.Pool) k 32) (sym L.slots);
   host = λ p lt. R.host p lt ∙ sym (ap (λ (g : ℕ → ℕ). entry_of (g p)) L.host);
   memory = λ p j lt below. R.memory p j lt below ∙ sym (ap (λ (g : ℕ → ℕ). g (content_index (map_of z) p j)) L.content);
   paused = R.paused ∙ ap (λ (g : ℕ → ℕ). not (g 0 == 0)) (sym L.pause);
@@ -110,7 +113,8 @@ RefinesBy z v task facts =
 
 -- A step of a part that publishes nothing leaves them as they were.
 pub part_refines : (z : Sizes) (v : View) (a : ℕ) (step : PartStep) (note : ℕ) (facts : Facts) → IsPart z v a step → TopicsInvariant z v
-    → is_publish step ≡ false → changes_word step ≡ false → Refines z (v.words area.Slots 0) (v.words area.Pool) (v.words area.Host) (v.words area.Content) (v.words area.Pause 0) facts
+    → is_publish step ≡ false → changes_word step ≡ false
+    → Refines z (v.words area.Slots 0) (v.words area.Pool) (v.words area.Host) (v.words area.Content) (v.words area.Pause 0) facts
     → RefinesBy z v (part_task step (own_index (v.hand a)) (v.hand a).topics note) facts
 part_refines z v a step note facts S P never quiet R =
     refines_stay z v.words ((part_stepped a step note v).words) facts (part_leaves z v a step note S P never quiet) R

@@ -41,7 +41,8 @@ use Rattle.mmu_core.proofs.slots.SlotsStay.{below_stay}
 abbrev pub HeldStays : (ℕ → ℕ) → (ℕ → ℕ) → SlotSearch → Type 0
 HeldStays pool other search = (k : ℕ) → search.set ≡ Some k → SetStays k pool other
 
-noted_still : (pool other : ℕ → ℕ) (notes : Notes) (s : SlotSearch) (gfn : ℕ) → HeldStays pool other s → NotedSlots pool notes s gfn → NotedSlots other notes s gfn
+noted_still : (pool other : ℕ → ℕ) (notes : Notes) (s : SlotSearch) (gfn : ℕ) → HeldStays pool other s → NotedSlots pool notes s gfn
+    → NotedSlots other notes s gfn
 noted_still pool other notes s gfn still N = record {
   set = N.set;
   held = N.held;
@@ -52,11 +53,13 @@ noted_still pool other notes s gfn still N = record {
     same : slots_below other N.set 32 ≡ slots_below pool N.set 32
     same = below_stay N.set pool other (still N.set N.held) 32 (omega arith)
 
-noted_at_still : (pool other : ℕ → ℕ) (p : FaultPlace) (gfn : ℕ) (op : Op) (t : Topics) (notes : Notes) → HeldStays pool other t.search → NotedAt pool p gfn op t notes → NotedAt other p gfn op t notes
+noted_at_still : (pool other : ℕ → ℕ) (p : FaultPlace) (gfn : ℕ) (op : Op) (t : Topics) (notes : Notes) → HeldStays pool other t.search
+    → NotedAt pool p gfn op t notes → NotedAt other p gfn op t notes
 noted_at_still pool other (fault.Find true) gfn op t notes still N = noted_still pool other notes t.search gfn still N
 noted_at_still pool other _ gfn op t notes still N = N
 
-access_still : (pool other : ℕ → ℕ) (p : AccessPlace) (gfn : ℕ) (op : Op) (t : Topics) (u : LineUnderWay) → HeldStays pool other t.search → AccessUnder pool p gfn op t u → AccessUnder other p gfn op t u
+access_still : (pool other : ℕ → ℕ) (p : AccessPlace) (gfn : ℕ) (op : Op) (t : Topics) (u : LineUnderWay) → HeldStays pool other t.search
+    → AccessUnder pool p gfn op t u → AccessUnder other p gfn op t u
 access_still pool other (access.Fault p) gfn op t u still under = (under.0, noted_at_still pool other p gfn op t u.notes still under.1)
 access_still pool other (access.Enter again) gfn op t u still under = under
 access_still pool other (access.Pause again) gfn op t u still under = under
@@ -64,16 +67,18 @@ access_still pool other (access.Leave (leaving.Reached frame value)) gfn op t u 
 access_still pool other _ gfn op t u still under = under
 
 -- A line under way is flat's still.
-pub under_still : (pool other : ℕ → ℕ) (p : Place) (command : Command) (h : Held) (u : LineUnderWay) → HeldStays pool other h.topics.search → UnderIs pool p command h u → UnderIs other p command h u
+pub under_still : (pool other : ℕ → ℕ) (p : Place) (command : Command) (h : Held) (u : LineUnderWay) → HeldStays pool other h.topics.search
+    → UnderIs pool p command h u → UnderIs other p command h u
 under_still pool other (place.Access p) (Access gfn word op) h u still under = (under.0, access_still pool other p gfn op h.topics u still under.1)
 under_still pool other _ (Access gfn word op) h u still under = under
 under_still pool other _ _ h u still under = under
 
 -- ---- Each step leaves the slot sets that other actors hold.
 
-pub others_held : (z : Sizes) (v : View) (a : ℕ) (step : PartStep) (note : ℕ) → IsPart z v a step → TopicsInvariant z v → (i k : ℕ) → i < actors_of z → i ≢ a → (v.hand i).topics.search.set ≡ Some k
-    → SetStays k (v.words area.Pool) ((part_stepped a step note v).words area.Pool)
-others_held z v a step note S P i k lt ne held = held_words_stay z v a step note S P i k lt (ap (λ (g : Held). g.topics.search.set) (upd_other v.hand a i _ ne) ∙ held)
+pub others_held : (z : Sizes) (v : View) (a : ℕ) (step : PartStep) (note : ℕ) → IsPart z v a step → TopicsInvariant z v → (i k : ℕ) → i < actors_of z
+    → i ≢ a → (v.hand i).topics.search.set ≡ Some k → SetStays k (v.words area.Pool) ((part_stepped a step note v).words area.Pool)
+others_held z v a step note S P i k lt ne held =
+    held_words_stay z v a step note S P i k lt (ap (λ (g : Held). g.topics.search.set) (upd_other v.hand a i _ ne) ∙ held)
 
 -- A step of a line is one of a part that its actor may make, or none.
 pub part_or : (z : Sizes) (v : View) (a : ℕ) (o : Option PartStep) → ((step : PartStep) → o ≡ Some step → IsPart z v a step) → IsPartOr z v a o

@@ -29,7 +29,8 @@ use Rattle.mmu_core.proofs.lines.Forms.{outcome_goes}
 use Rattle.mmu_core.proofs.machine.GoesOn.{GoesUnderWay}
 use Rattle.mmu_laws.proofs.flat.LineEvents.{tells_within}
 use Rattle.mmu_core.proofs.machine.Stepping.{IsStep}
-use Rattle.mmu_laws.proofs.flat.ToldOf.{answered_with, answers_by_more, answers_told, begins_told, begun_by, begun_by_append, begun_from, other_answers, other_begins, own_answers, own_begins}
+use Rattle.mmu_laws.proofs.flat.ToldOf.{answered_with, answers_by_more, answers_told, begins_told, begun_by, begun_by_append, begun_from}
+use Rattle.mmu_laws.proofs.flat.ToldOf.{other_answers, other_begins, own_answers, own_begins}
 
 -- The answers are those of the first lines.
 abbrev pub Numbered : List AnsweredLine → List Line → Type 0
@@ -102,7 +103,8 @@ numbers_behind (Ends answer) line lines answers lt is numbers =
     map-append (λ (y : AnsweredLine). y.number) answers (x ∷ [])
     ∙ ap (λ (ns : List ℕ). ns ++ line.number ∷ []) numbers
     ∙ sym (map-append (λ (l : Line). l.number) (take (length answers) lines) (line ∷ []))
-    ∙ ap (map (λ (l : Line). l.number)) (ap (λ (l : Line). take (length answers) lines ++ l ∷ []) is ∙ sym (take_next lines (length answers) lt) ∙ ap (λ n. take n lines) (sym (count_push answers x)))
+    ∙ ap (map (λ (l : Line). l.number)) (ap (λ (l : Line). take (length answers) lines ++ l ∷ []) is ∙ sym (take_next lines (length answers) lt)
+    ∙ ap (λ n. take n lines) (sym (count_push answers x)))
 
 -- each hand behind a step of an actor
 module _ (z : Sizes) (v : View) (a : ℕ) (line : Line) (p : Place) where
@@ -114,21 +116,25 @@ module _ (z : Sizes) (v : View) (a : ℕ) (line : Line) (p : Place) where
 
   step_answers : answers_of (told_events v a line line.command p) ≡ answered_with (v.hand a).state.actor line outcome
   step_answers =
-      answers_told (v.hand a).state.actor (v.hand a).state.place line (tells_at p line.command (v.hand a) found) outcome (tells_within p line.command (v.hand a) found)
+      answers_told (v.hand a).state.actor (v.hand a).state.place line (tells_at p line.command (v.hand a) found) outcome
+      (tells_within p line.command (v.hand a) found)
 
   step_begins : lines_begun (told_events v a line line.command p) ≡ begun_from (v.hand a).state.place line
   step_begins =
-      begins_told (v.hand a).state.actor (v.hand a).state.place line (tells_at p line.command (v.hand a) found) outcome (tells_within p line.command (v.hand a) found)
+      begins_told (v.hand a).state.actor (v.hand a).state.place line (tells_at p line.command (v.hand a) found) outcome
+      (tells_within p line.command (v.hand a) found)
 
   own_follows : IsStep z v a line line.command p → Follows (v.hand a) (hand_after line line.command p (v.hand a) found) (told_events v a line line.command p)
   own_follows S = record {
     actor = same_actor p line.command (v.hand a) found;
     lines = refl;
     answers = answers_behind outcome line (v.hand a).state.actor (v.hand a).answers S.own
-        ∙ ap (λ (xs : List AnsweredLine). (v.hand a).answers ++ xs) (sym (ap (filter (λ (x : AnsweredLine). is_same (v.hand a).state.actor x.actor)) step_answers ∙ own_answers (v.hand a).state.actor line outcome));
+        ∙ ap (λ (xs : List AnsweredLine). (v.hand a).answers ++ xs) (sym
+        (ap (filter (λ (x : AnsweredLine). is_same (v.hand a).state.actor x.actor)) step_answers ∙ own_answers (v.hand a).state.actor line outcome));
     begun = ap (λ m. take m (v.hand a).lines) (begun_behind outcome line (v.hand a).answers (outcome_goes p line.command (v.hand a) found S.begun))
         ∙ take_begun (v.hand a).state.place line (v.hand a).lines (length (v.hand a).answers) S.left S.next
-        ∙ ap (λ (xs : List Line). take (begun_lines (v.hand a)) (v.hand a).lines ++ xs) (sym (ap (lines_of (v.hand a).state.actor) step_begins ∙ own_begins (v.hand a).state.actor (v.hand a).state.place line S.own));
+        ∙ ap (λ (xs : List Line). take (begun_lines (v.hand a)) (v.hand a).lines ++ xs)
+        (sym (ap (lines_of (v.hand a).state.actor) step_begins ∙ own_begins (v.hand a).state.actor (v.hand a).state.place line S.own));
     numbers = numbers_behind outcome line (v.hand a).lines (v.hand a).answers S.left S.next;
   }
 
@@ -143,8 +149,10 @@ module _ (z : Sizes) (v : View) (a : ℕ) (line : Line) (p : Place) where
   pub view_follows : (i : ℕ) → IsStep z v a line line.command p → Invariant z v → i < actors_of z
       → Follows (v.hand i) (upd v.hand a (hand_after line line.command p (v.hand a) found) i) (told_events v a line line.command p)
   view_follows i S I i_in =
-      at_upd (λ i (g : Held). i < actors_of z → Follows (v.hand i) g (told_events v a line line.command p)) v.hand a (hand_after line line.command p (v.hand a) found)
+      at_upd (λ i (g : Held). i < actors_of z → Follows (v.hand i) g (told_events v a line line.command p)) v.hand a
+      (hand_after line line.command p (v.hand a) found)
       (λ _. own_follows S)
       (λ i apart i_in. let other : is_same (v.hand i).state.actor (v.hand a).state.actor ≡ false = other_actor z v i a I i_in S.there (λ e. apart (sym e)) in
-      follows_still (v.hand i) (told_events v a line line.command p) (silent_answers (v.hand i).state.actor other) (silent_begins (v.hand i).state.actor S.own other))
+      follows_still (v.hand i) (told_events v a line line.command p) (silent_answers (v.hand i).state.actor other)
+      (silent_begins (v.hand i).state.actor S.own other))
       i i_in

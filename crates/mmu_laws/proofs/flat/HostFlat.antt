@@ -3,15 +3,14 @@ use Rattle.spte_words.specs.declared.area.Area.TheVariants as area
 use Rattle.mmu_core.proofs.lines.HostKnown.{own_low}
 use Rattle.core_views.specs.Sizes.{actors_of}
 use Rattle.mmu_core.specs.declared.outcome.Outcome.TheVariants.{Ends}
-use Rattle.spte_words.proofs.ReadsHost.{host_has_frame, host_is_present, host_is_writable}
 use Rattle.mmu_core.specs.declared.invalidate.BeginNext.{BeginNext}
 use Rattle.mmu_core.specs.machine.Outcomes.{place_after, answering}
 use Rattle.mmu_core.specs.invariant.Invariant.{Invariant}
 use Rattle.mmu_core.specs.declared.invalidate.EndNext.{EndNext}
 use Rattle.mmu_core.proofs.machine.Stepping.{IsStep}
 use Rattle.mmu_core.specs.invariant.TopicsInvariant.{TopicsInvariant}
-use Rattle.std.proofs.Common.{◌≡◌, ◌<◌, ℕ, [], ◌∷◌, ◌++◌, Bool, true, false, refl, sym, subst, ap, ◌∙◌, arith, is_some, eqb-true, eq-eqb, ◌⊎◌, ◌≢◌, inl, inr}
-use Rattle.std.specs.Prelude.{◌==◌, if◌then◌else◌, Option, Some, None}
+use Rattle.std.proofs.Common.{◌≡◌, ◌<◌, ℕ, [], ◌∷◌, ◌++◌, Bool, true, false, refl, sym, subst, ap, ◌∙◌, eqb-true, eq-eqb, ◌⊎◌, ◌≢◌, inl, inr}
+use Rattle.std.specs.Prelude.{◌==◌, if◌then◌else◌, Option, Some}
 use Rattle.core_views.specs.declared.answer.Answer.TheVariants.{Done, Refused}
 use Rattle.core_views.specs.declared.answer.Refusal.TheVariants.{OutOfRange}
 use Rattle.core_views.specs.declared.event.EventKind.TheVariants.{HostChanged, LookedAtHost}
@@ -23,7 +22,6 @@ use Rattle.core_views.specs.declared.place.HostPlace.{HostPlace}
 use Rattle.core_views.specs.declared.place.HostPlace.TheVariants.{Look, Begin, Change, End}
 use Rattle.core_views.specs.declared.place.Place.TheVariants as place
 use Rattle.core_views.specs.declared.sizes.Sizes.{Sizes}
-use Rattle.core_views.specs.declared.topics.HostLook.{HostLook}
 use Rattle.core_views.specs.declared.topics.Topics.{Topics}
 use Rattle.core_views.specs.declared.trace.Command.{Command}
 use Rattle.core_views.specs.declared.trace.Command.TheVariants.{ChangeHost}
@@ -33,7 +31,7 @@ use Rattle.core_views.specs.declared.trace.Line.{Line}
 use Rattle.core_views.specs.Flat.{Facts, LineUnderWay}
 use Rattle.core_views.specs.Flat as stage
 use Rattle.core_views.specs.Held.{Held}
-use Rattle.core_views.specs.Host.{HostMap, mapping, own_frames, with_entry}
+use Rattle.core_views.specs.Host.{HostMap, mapping, with_entry}
 use Rattle.core_views.specs.HostChanges.{is_own, host_answer, Changes}
 use Rattle.core_views.specs.Lawful.{Tells, answer_at_once}
 use Rattle.core_views.specs.Past.{Past}
@@ -43,11 +41,8 @@ use Rattle.mmu_core.specs.declared.invalidate.BeginNext.TheVariants as begins_ne
 use Rattle.mmu_core.specs.declared.invalidate.EndNext.{EndNext}
 use Rattle.mmu_core.specs.declared.invalidate.EndNext.TheVariants as ends_next
 use Rattle.mmu_core.specs.declared.outcome.Outcome.TheVariants as outcome
-use Rattle.spte_words.specs.HostWords.{host_word, host_present, host_allows_write}
 use Rattle.part_steps.specs.PartTasks.{own_index, part_task, word_looked, page_looked}
 use Rattle.part_steps.specs.declared.task.Task.{Task}
-use Rattle.mmu_core.specs.invariant.HostWordsPart.{HostWordsPart}
-use Rattle.mmu_core.specs.invariant.SearchPart.{LookPart}
 use Rattle.mmu_core.specs.lines.HostKnows.{HostKnows, IsMade}
 use Rattle.mmu_core.specs.lines.HostSteps.{after_begin, after_end, entry_of, host_note, host_part, word_put, revised}
 use Rattle.mmu_core.specs.lines.InvalidateSteps.{begin_next, end_next, begin_part}
@@ -65,7 +60,6 @@ use Rattle.mmu_core.proofs.machine.Columns.{upd_same, upd_other, same_or}
 use Rattle.mmu_core.proofs.lines.EitherPlace.{either_place}
 use Rattle.part_steps.specs.PartTopics.{part_topics}
 use Rattle.part_steps.specs.declared.part_step.PartStep.TheVariants as part
-use Rattle.std.proofs.lemmas.Bool.{eqb-false}
 
 -- ---- what the page is
 
@@ -139,8 +133,10 @@ module _ (z : Sizes) (v : View) (a : ℕ) (line : Line) (page : ℕ) (change : H
   -- It looks at its page, or is refused.
   look_goes : (own : Bool) → is_own h.state.sizes h.state.actor page ≡ own → IsStep z v a line command (place.Host Look) → Invariant z v → ReadyAt Look
       → RefinesBy z v (task Look) facts → (own ≡ true → word_looked (after Look).host ≡ v.words area.Host page)
-      → GoesBy z v a line command (task Look) (place_after (if own then outcome.Goes (place.Host (Begin begins.Exclude)) else outcome.Ends (Refused OutOfRange)))
-      ((if own then LookedAtHost page ∷ [] else []) ++ answering (if own then outcome.Goes (place.Host (Begin begins.Exclude)) else outcome.Ends (Refused OutOfRange)) line) facts past u
+      → GoesBy z v a line command (task Look)
+      (place_after (if own then outcome.Goes (place.Host (Begin begins.Exclude)) else outcome.Ends (Refused OutOfRange)))
+      ((if own then LookedAtHost page ∷ [] else [])
+      ++ answering (if own then outcome.Goes (place.Host (Begin begins.Exclude)) else outcome.Ends (Refused OutOfRange)) line) facts past u
   look_goes true is S I R stands looked = record {
     allowed = (R.under.1, tt);
     refines = stands;
@@ -160,8 +156,10 @@ module _ (z : Sizes) (v : View) (a : ℕ) (line : Line) (page : ℕ) (change : H
   looked_now : (own : Bool) → is_own h.state.sizes h.state.actor page ≡ own → own ≡ true → word_looked (after Look).host ≡ v.words area.Host page
   looked_now own own_is so =
       let is : is_own h.state.sizes h.state.actor page ≡ true = own_is ∙ so in
-      ap (λ (s : PartStep). word_looked (topics_by v a (part_task s (own_index h) h.topics (host_note Look page h))).host) (ap (λ (b : Bool). if b then part.Host page else part.Seq) is)
-      ∙ ap (λ (t : Topics). word_looked t.host) (part_topics_is h.state.sizes (part.Host page) (own_index h) h.topics (host_note Look page h) (v.words area.Host page) tt)
+      ap (λ (s : PartStep). word_looked (topics_by v a (part_task s (own_index h) h.topics (host_note Look page h))).host)
+      (ap (λ (b : Bool). if b then part.Host page else part.Seq) is)
+      ∙ ap (λ (t : Topics). word_looked t.host)
+      (part_topics_is h.state.sizes (part.Host page) (own_index h) h.topics (host_note Look page h) (v.words area.Host page) tt)
 
   -- The words after its change stand for the facts with it.
   changed_refines : HostKnows Change page h → IsPart z v a (host_part Change page change h) → TopicsInvariant z v → ReadyAt Change
@@ -233,12 +231,14 @@ module _ (z : Sizes) (v : View) (a : ℕ) (line : Line) (page : ℕ) (change : H
   end_goes p ends_next.Ended made M P R S =
       answers_by z v a line command (task (End p)) facts past u (still (End p) refl M P R) Done R.under.0
       (subst (λ s. Tells z facts.slots h.state.actor u.line.command s Done) (sym R.under.1.1)
-      (sym (ap (λ (c : Command). host_answer c R.under.1.0) (ap (λ (l : Line). l.command) R.under.0 ∙ S.command_is) ∙ answers_done change page R.under.1.0 made)))
+      (sym (ap (λ (c : Command). host_answer c R.under.1.0) (ap (λ (l : Line). l.command) R.under.0 ∙ S.command_is)
+      ∙ answers_done change page R.under.1.0 made)))
 
   -- The word that was looked at is no topic of the invalidation's begin.
   still_looked : (p : BeginPlace) → HostKnows (Begin p) page h → (after (Begin p)).host ≡ h.topics.host
   still_looked p K =
-      ap (λ (t : Topics). t.host) (part_topics_is h.state.sizes (begin_part p page h.topics) (own_index h) h.topics (host_note (Begin p) page h) _ (begin_there p K))
+      ap (λ (t : Topics). t.host)
+      (part_topics_is h.state.sizes (begin_part p page h.topics) (own_index h) h.topics (host_note (Begin p) page h) _ (begin_there p K))
       ∙ host_kept_by p _
     where
       begin_there : (p : BeginPlace) → HostKnows (Begin p) page h → IsThere h.state.sizes h.topics (begin_part p page h.topics)

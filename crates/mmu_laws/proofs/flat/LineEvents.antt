@@ -103,7 +103,8 @@ Tells (Ends answer) line h = IsClosed line answer h
 tells_by : (o : Outcome) (stood : Place) (line : Line) (h : List Event) (kinds : List EventKind) → AllWithin kinds → SoFar stood line h
     → Tells o line (h ++ told_by line (beginning stood line ++ (kinds ++ answering o line)))
 tells_by (Goes p) stood line h kinds all so_far =
-    subst (λ (ks : List EventKind). IsOpen line (h ++ told_by line (beginning stood line ++ ks))) (sym (append-nil kinds)) (tells_more stood line h kinds all so_far)
+    subst (λ (ks : List EventKind). IsOpen line (h ++ told_by line (beginning stood line ++ ks))) (sym (append-nil kinds))
+    (tells_more stood line h kinds all so_far)
 tells_by (Ends answer) stood line h kinds all so_far =
     subst (λ (es : List Event). IsClosed line answer es) (sym (regroup line h (beginning stood line) kinds (Answered line.number answer ∷ [])))
     (closes line answer (h ++ told_by line (beginning stood line ++ kinds)) (tells_more stood line h kinds all so_far))
@@ -125,5 +126,6 @@ pub step_tells : (hand : Held) (line : Line) (v : ℕ) (told : List Event) → h
     → hand.state.actor ≡ line.actor → SoFar hand.state.place line told
     → Tells (outcome_at (place_at hand.state.place hand) (line_at hand.state.place hand).command hand v) line (told ++ events_of hand v)
 step_tells hand line v told has is own so_far =
-    subst (λ (es : List Event). Tells (outcome_at (place_at hand.state.place hand) (line_at hand.state.place hand).command hand v) line (told ++ es)) (sym (events_of_line hand v has))
+    subst (λ (es : List Event). Tells (outcome_at (place_at hand.state.place hand) (line_at hand.state.place hand).command hand v) line (told ++ es))
+    (sym (events_of_line hand v has))
     (step_tells_at hand.state.place line (line_at hand.state.place hand) hand.state.actor (place_at hand.state.place hand) hand v told is own so_far)

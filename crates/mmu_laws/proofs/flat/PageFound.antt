@@ -14,7 +14,7 @@ use Rattle.core_views.specs.Traces.{IsCommandFor}
 use Rattle.spte_words.specs.Entries.{can_write, frame_in}
 use Rattle.spte_words.specs.HostWords.{host_allows_write, host_frame, host_present}
 use Rattle.spte_words.proofs.ReadsEntries.{leaf_can_write, leaf_frame}
-use Rattle.spte_words.proofs.ReadsHost.{host_has_frame, host_is_writable, host_is_present}
+use Rattle.spte_words.proofs.ReadsHost.{host_is_present}
 use Rattle.mmu_core.specs.lines.FaultSteps.{allows_access}
 use Rattle.mmu_core.specs.invariant.Invariant.{IsLiveIn, SlotSetPart}
 use Rattle.mmu_core.specs.invariant.HostWordsPart.{HostWordsPart, IsHostWord}
@@ -35,7 +35,8 @@ word_in_page z (Vcpu n) gfn word op may = may.2
 word_in_page z _ gfn word op may = absurd may
 
 -- The page found is one of the machine's.
-pub page_in_machine : (z : Sizes) (set : ℕ) (role pool : ℕ → ℕ) (id gfn : ℕ) (slot : Slot) → SlotSetPart z set role pool → IsLiveIn pool set id slot → contains gfn slot ≡ true → page_of slot gfn < z.pages
+pub page_in_machine : (z : Sizes) (set : ℕ) (role pool : ℕ → ℕ) (id gfn : ℕ) (slot : Slot) → SlotSetPart z set role pool → IsLiveIn pool set id slot
+    → contains gfn slot ≡ true → page_of slot gfn < z.pages
 page_in_machine z set role pool id gfn slot P L holds =
     let fits : slot.host + slot.pages ≤ z.pages = subst (λ (t : Slot). t.host + t.pages ≤ z.pages) L.is ((P.fits id L.low L.live).pages) in
     let bounds : (slot.base ≤ gfn) × (gfn < slot.base + slot.pages) = contains_bounds gfn slot holds in
@@ -45,16 +46,19 @@ page_in_machine z set role pool id gfn slot P L holds =
 pub frame_of_host : (z : Sizes) (host : ℕ → ℕ) (page : ℕ) → HostWordsPart z host → page < z.pages → host_frame (host page) ≡ page
 frame_of_host z host page P lt = frame_of_word page (host page) (P page lt)
 
-pub frame_of_leaf : (z : Sizes) (host : ℕ → ℕ) (slot : Slot) (page : ℕ) → AreSizes z → HostWordsPart z host → page < z.pages → frame_in (leaf_of slot (host page)) ≡ page
+pub frame_of_leaf : (z : Sizes) (host : ℕ → ℕ) (slot : Slot) (page : ℕ) → AreSizes z → HostWordsPart z host → page < z.pages
+    → frame_in (leaf_of slot (host page)) ≡ page
 frame_of_leaf z host slot page sizes P lt =
     let own : host_frame (host page) ≡ page = frame_of_host z host page P lt in
-    leaf_frame 1 (host_frame (host page)) (may_write slot (host page)) (host_allows_write (host page)) (may_write slot (host page)) (omega (arith, own, lt, sizes.pages)) ∙ own
+    leaf_frame 1 (host_frame (host page)) (may_write slot (host page)) (host_allows_write (host page)) (may_write slot (host page))
+    (omega (arith, own, lt, sizes.pages)) ∙ own
 
 -- What the host maps the page to, as its word says: present, at the page's own frame.
 pub entry_is : (page word : ℕ) → IsHostWord page word → entry_of word ≡ record { frame = page; present = true; writable = host_allows_write word }
 entry_is page word W =
     ap (λ (f : ℕ). record { frame = f; present = host_present word; writable = host_allows_write word }) (frame_of_word page word W)
-    ∙ ap (λ (b : Bool). record { frame = page; present = b; writable = host_allows_write word }) (ap host_present W ∙ host_is_present page true (host_allows_write word) 1)
+    ∙ ap (λ (b : Bool). record { frame = page; present = b; writable = host_allows_write word })
+    (ap host_present W ∙ host_is_present page true (host_allows_write word) 1)
 
 -- A leaf that allows the access is of a slot that allows it, and of a host word that does.
 not_denied : (write host read_only : Bool) → (not write || (host && not read_only)) ≡ true → ((write && read_only) ≡ false) × ((write && not host) ≡ false)
@@ -68,10 +72,12 @@ pub leaf_allows : (op : Op) (slot : Slot) (host leaf : ℕ) → leaf ≡ leaf_of
     → ((is_write op && slot.read_only) ≡ false) × ((is_write op && not (host_allows_write host)) ≡ false)
 leaf_allows op slot host leaf is allows =
     not_denied (is_write op) (host_allows_write host) slot.read_only
-    (subst (λ b. (not (is_write op) || b) ≡ true) (ap can_write is ∙ leaf_can_write 1 (host_frame host) (may_write slot host) (host_allows_write host) (may_write slot host)) allows)
+    (subst (λ b. (not (is_write op) || b) ≡ true)
+    (ap can_write is ∙ leaf_can_write 1 (host_frame host) (may_write slot host) (host_allows_write host) (may_write slot host)) allows)
 
 -- The slots give the guest frame the page that was found.
-pub page_is_behind : (z : Sizes) (set : ℕ) (role pool : ℕ → ℕ) (id gfn : ℕ) (slot : Slot) (op : Op) (now_ : Slots) → SlotSetPart z set role pool → IsLiveIn pool set id slot → contains gfn slot ≡ true → (is_write op && slot.read_only) ≡ false
+pub page_is_behind : (z : Sizes) (set : ℕ) (role pool : ℕ → ℕ) (id gfn : ℕ) (slot : Slot) (op : Op) (now_ : Slots) → SlotSetPart z set role pool
+    → IsLiveIn pool set id slot → contains gfn slot ≡ true → (is_write op && slot.read_only) ≡ false
     → now_ ≡ slots_below pool set 32 → page_behind now_ gfn op ≡ Some (page_of slot gfn)
 page_is_behind z set role pool id gfn slot op now_ P L in_slot allows is =
     let holds : contains gfn (slot_at pool set id) ≡ true = ap (contains gfn) L.is ∙ in_slot in

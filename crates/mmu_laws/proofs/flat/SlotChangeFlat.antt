@@ -11,7 +11,7 @@ use Rattle.core_views.specs.declared.sizes.Sizes.{Sizes}
 use Rattle.core_views.specs.declared.trace.Command.TheVariants.{Access, ChangeHost}
 use Rattle.core_views.specs.declared.trace.Line.{Line}
 use Rattle.core_views.specs.declared.trace.Command.{Command}
-use Rattle.core_views.specs.Flat.{Facts, LineUnderWay, Notes, Stage}
+use Rattle.core_views.specs.Flat.{Facts, LineUnderWay, Notes}
 use Rattle.core_views.specs.Flat as stage
 use Rattle.core_views.specs.declared.slot_set.MemorySlot.{MemorySlot}
 use Rattle.core_views.specs.Lawful.{HasWork, MayLeave, Tells, answer_at_once, slot_change}
@@ -70,7 +70,8 @@ module _ (z : Sizes) (v : View) (a : ℕ) (line : Line) (command : Command) (fac
   -- After a step that publishes nothing the words stand for the same facts.
   still : (p : SlotChangePlace) → is_publication p ≡ false → MakesAt p → TopicsInvariant z v → ReadyAt p → RefinesBy z v (task p) facts
   still p never S P R =
-      part_refines z v a (slot_change_part p (v.hand a) command) (slot_change_note p (v.hand a)) facts S P (change_never p (v.hand a) command never) (change_quiet p (v.hand a) command never) R.refines
+      part_refines z v a (slot_change_part p (v.hand a) command) (slot_change_note p (v.hand a)) facts S P (change_never p (v.hand a) command never)
+      (change_quiet p (v.hand a) command never) R.refines
 
   -- It tells nothing, where it goes on at this place.
   quiet : (p next : SlotChangePlace) → is_publication p ≡ false → MakesAt p → TopicsInvariant z v → ReadyAt p → Under next

@@ -37,10 +37,13 @@ abbrev pub begun_by : Actor → List Event → List Line
 begun_by actor h = lines_of actor (lines_begun h)
 
 pub answers_by_more : (actor : Actor) (xs ys : List Event) → answers_by actor (xs ++ ys) ≡ answers_by actor xs ++ answers_by actor ys
-answers_by_more actor xs ys = ap (filter (λ (x : AnsweredLine). is_same actor x.actor)) (answers_append xs ys) ∙ filter-append (λ (x : AnsweredLine). is_same actor x.actor) (answers_of xs) (answers_of ys)
+answers_by_more actor xs ys =
+    ap (filter (λ (x : AnsweredLine). is_same actor x.actor)) (answers_append xs ys)
+    ∙ filter-append (λ (x : AnsweredLine). is_same actor x.actor) (answers_of xs) (answers_of ys)
 
 pub begun_by_append : (actor : Actor) (xs ys : List Event) → begun_by actor (xs ++ ys) ≡ begun_by actor xs ++ begun_by actor ys
-begun_by_append actor xs ys = ap (lines_of actor) (begun_more xs ys) ∙ filter-append (λ (line : Line). is_same actor line.actor) (lines_begun xs) (lines_begun ys)
+begun_by_append actor xs ys =
+    ap (lines_of actor) (begun_more xs ys) ∙ filter-append (λ (line : Line). is_same actor line.actor) (lines_begun xs) (lines_begun ys)
 
 -- An event that stands within a line neither begins nor answers one.
 answers_none : (actor : Actor) (kind : EventKind) (rest : List AnsweredLine) → IsWithin kind → or_answered actor kind rest ≡ rest
@@ -53,7 +56,8 @@ begins_none _ rest within = refl
 
 within_then_answers : (actor : Actor) (kinds more : List EventKind) → AllWithin kinds → answers_of (told actor (kinds ++ more)) ≡ answers_of (told actor more)
 within_then_answers actor [] more all = refl
-within_then_answers actor (kind ∷ kinds) more all = answers_none actor kind (answers_of (told actor (kinds ++ more))) all.0 ∙ within_then_answers actor kinds more all.1
+within_then_answers actor (kind ∷ kinds) more all =
+    answers_none actor kind (answers_of (told actor (kinds ++ more))) all.0 ∙ within_then_answers actor kinds more all.1
 
 within_then_begins : (actor : Actor) (kinds more : List EventKind) → AllWithin kinds → lines_begun (told actor (kinds ++ more)) ≡ lines_begun (told actor more)
 within_then_begins actor [] more all = refl
@@ -77,16 +81,20 @@ no_begin_told actor line (Goes p) = refl
 no_begin_told actor line (Ends answer) = refl
 
 -- what a step tells, with its begin
-pub answers_told : (actor : Actor) (stood : Place) (line : Line) (kinds : List EventKind) (o : Outcome) → AllWithin kinds → answers_of (told actor (beginning stood line ++ (kinds ++ answering o line))) ≡ answered_with actor line o
+pub answers_told : (actor : Actor) (stood : Place) (line : Line) (kinds : List EventKind) (o : Outcome) → AllWithin kinds
+    → answers_of (told actor (beginning stood line ++ (kinds ++ answering o line))) ≡ answered_with actor line o
 answers_told actor place.Between line kinds o all = within_then_answers actor kinds (answering o line) all ∙ answer_told actor line o
 answers_told actor _ line kinds o all = within_then_answers actor kinds (answering o line) all ∙ answer_told actor line o
 
-pub begins_told : (actor : Actor) (stood : Place) (line : Line) (kinds : List EventKind) (o : Outcome) → AllWithin kinds → lines_begun (told actor (beginning stood line ++ (kinds ++ answering o line))) ≡ begun_from stood line
-begins_told actor place.Between line kinds o all = ap (λ (lines : List Line). line ∷ lines) (within_then_begins actor kinds (answering o line) all ∙ no_begin_told actor line o)
+pub begins_told : (actor : Actor) (stood : Place) (line : Line) (kinds : List EventKind) (o : Outcome) → AllWithin kinds
+    → lines_begun (told actor (beginning stood line ++ (kinds ++ answering o line))) ≡ begun_from stood line
+begins_told actor place.Between line kinds o all =
+    ap (λ (lines : List Line). line ∷ lines) (within_then_begins actor kinds (answering o line) all ∙ no_begin_told actor line o)
 begins_told actor _ line kinds o all = within_then_begins actor kinds (answering o line) all ∙ no_begin_told actor line o
 
 -- Of another actor it answers and begins none, and of its own what it answers and begins.
-pub other_answers : (actor other : Actor) (line : Line) (o : Outcome) → is_same other actor ≡ false → filter (λ x. is_same other x.actor) (answered_with actor line o) ≡ []
+pub other_answers : (actor other : Actor) (line : Line) (o : Outcome) → is_same other actor ≡ false
+    → filter (λ x. is_same other x.actor) (answered_with actor line o) ≡ []
 other_answers actor other line (Goes p) apart = refl
 other_answers actor other line (Ends answer) apart = rw apart refl
 

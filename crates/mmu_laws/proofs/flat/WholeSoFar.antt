@@ -50,24 +50,32 @@ stays_whole z lines w ss start legal = record {
     there : (actor : Actor) (i : ℕ) → i < actors_of z → actor_at z i ≡ actor → index_of z actor ≡ i
     there actor i i_in is = ap (index_of z) (sym is) ∙ place_of_actor z i i_in
 
-    of_hand : (i : ℕ) → i < actors_of z → First (actor_at z i) (begun_lines (hand_in mmu (run mmu w ss) i)) (length (hand_in mmu (run mmu w ss) i).answers) (history w ss) lines
+    of_hand : (i : ℕ) → i < actors_of z
+        → First (actor_at z i) (begun_lines (hand_in mmu (run mmu w ss) i)) (length (hand_in mmu (run mmu w ss) i).answers) (history w ss) lines
     of_hand i i_in =
         let g : Held = hand_in mmu (run mmu w ss) i in
         let F = start_follows z lines w ss i start legal i_in in
         record {
           begins = sym F.begun;
-          answers = ap (map (λ (x : AnsweredLine). x.number)) (sym F.answers) ∙ F.numbers refl ∙ ap (λ (ls : List Line). map (λ (l : Line). l.number) (take (length g.answers) ls)) F.lines;
+          answers =
+              ap (map (λ (x : AnsweredLine). x.number)) (sym F.answers) ∙ F.numbers refl
+              ∙ ap (λ (ls : List Line). map (λ (l : Line). l.number) (take (length g.answers) ls)) F.lines;
         }
 
-    one : (actor : Actor) → Present z actor ⊎ ((j : ℕ) → j < actors_of z → is_same actor (actor_at z j) ≡ false) → First actor (begun_lines (hand actor)) (length (hand actor).answers) (history w ss) lines
+    one : (actor : Actor) → Present z actor ⊎ ((j : ℕ) → j < actors_of z → is_same actor (actor_at z j) ≡ false)
+        → First actor (begun_lines (hand actor)) (length (hand actor).answers) (history w ss) lines
     one actor (inl P) =
-        subst (λ (n : ℕ). First actor (begun_lines (hand_in mmu (run mmu w ss) n)) (length (hand_in mmu (run mmu w ss) n).answers) (history w ss) lines) (sym (there actor P.0 P.1 P.2))
-        (subst (λ (a : Actor). First a (begun_lines (hand_in mmu (run mmu w ss) P.0)) (length (hand_in mmu (run mmu w ss) P.0).answers) (history w ss) lines) P.2 (of_hand P.0 P.1))
+        subst (λ (n : ℕ). First actor (begun_lines (hand_in mmu (run mmu w ss) n)) (length (hand_in mmu (run mmu w ss) n).answers) (history w ss)
+        lines) (sym (there actor P.0 P.1 P.2))
+        (subst (λ (a : Actor). First a (begun_lines (hand_in mmu (run mmu w ss) P.0)) (length (hand_in mmu (run mmu w ss) P.0).answers) (history w ss)
+        lines) P.2 (of_hand P.0 P.1))
     one actor (inr absent) =
         let W = absent_whole z lines w ss actor start legal absent in
         record {
           begins = W.begun ∙ none ∙ sym (ap (take (begun_lines (hand actor))) none ∙ take_none (begun_lines (hand actor)));
-          answers = W.answered_ ∙ ap (map (λ (l : Line). l.number)) (none ∙ sym (ap (take (length (hand actor).answers)) none ∙ take_none (length (hand actor).answers)));
+          answers =
+              W.answered_ ∙ ap (map (λ (l : Line). l.number))
+              (none ∙ sym (ap (take (length (hand actor).answers)) none ∙ take_none (length (hand actor).answers)));
         }
       where
         none : lines_of actor lines ≡ []

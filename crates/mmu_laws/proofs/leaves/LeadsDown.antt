@@ -31,7 +31,8 @@ same_page e = cc e
 pub run_above : (gfn level : ℕ) → 1 ≤ level → gfn / level_span level / 512 ≡ gfn / level_span (level + 1)
 run_above gfn level from = div-div-eq-div-mul gfn (level_span level) 512 ∙ ap (λ n. gfn / n) (let up = span_above level from in omega (arith, up))
 
-module _ {pages root set : ℕ} {role pool : ℕ → ℕ} {up : ℕ → Use} {spot : ℕ → Position} (T : TreePart pages root set role pool up spot) (few : pages ≤ 2 ^ 32) (gfn entry : ℕ) where
+module _ {pages root set : ℕ} {role pool : ℕ → ℕ} {up : ℕ → Use} {spot : ℕ → Position} (T : TreePart pages root set role pool up spot)
+    (few : pages ≤ 2 ^ 32) (gfn entry : ℕ) where
   -- Behind a link of a table stands a table, one level below, at the run of this entry.
   pub below_stands : (level prefix page below : ℕ) → stands up spot page ≡ Some (at (suc (suc level)) prefix)
       → linked_page (kind_of (suc (suc level)) (pool (pool_index page (entry_index gfn (suc (suc level)))))) ≡ Some below
@@ -45,12 +46,16 @@ module _ {pages root set : ℕ} {role pool : ℕ → ℕ} {up : ℕ → Use} {sp
       word = pool (pool_index page j)
 
       by : EntryPart up page (at (suc (suc level)) prefix) j word → stands up spot below ≡ Some (at (suc level) (prefix * 512 + j))
-      by (inl e) = let none : linked_page (kind_of (suc (suc level)) word) ≡ None = ap (λ n. linked_page (kind_of (suc (suc level)) n)) e ∙ ap (λ (k : SpteKind). linked_page k) (kind_of_absent (suc (suc level))) in absurd (cc (none, link))
+      by (inl e) =
+          let none : linked_page (kind_of (suc (suc level)) word) ≡ None =
+          ap (λ n. linked_page (kind_of (suc (suc level)) n)) e ∙ ap (λ (k : SpteKind). linked_page k) (kind_of_absent (suc (suc level))) in
+          absurd (cc (none, link))
       by (inr (inl L)) =
           let stands_there = link_stands T page (at (suc (suc level)) prefix) j word at_page L in
           let low = (T.there L.page _ stands_there).0 in
           let links : linked_page (kind_of (suc (suc level)) word) ≡ Some L.page =
-          ap (λ n. linked_page (kind_of (suc (suc level)) n)) L.is ∙ ap (λ (k : SpteKind). linked_page k) (kind_of_table (suc (suc level)) L.page L.upper (omega (arith, low, few))) in
+          ap (λ n. linked_page (kind_of (suc (suc level)) n)) L.is
+          ∙ ap (λ (k : SpteKind). linked_page k) (kind_of_table (suc (suc level)) L.page L.upper (omega (arith, low, few))) in
           ap (stands up spot) (same_page (sym link ∙ links)) ∙ stands_there ∙ ap (λ n. Some (at n (prefix * 512 + j))) (omega arith)
       by (inr (inr L)) = let lowest : suc (suc level) ≡ 1 = L.lowest in absurd (omega (arith, lowest))
 
@@ -67,14 +72,16 @@ module _ {pages root set : ℕ} {role pool : ℕ → ℕ} {up : ℕ → Use} {sp
       → LeadSame pool root (suc level) page gfn entry
   leads_at_root level page at_page e =
       let top : suc level ≡ 4 = ap (λ (p : Position). p.level) (one_position (sym at_page ∙ ap (stands up spot) e ∙ root_stands T)) in
-      subst (λ l. LeadSame pool root l page gfn entry) (sym top) (subst (λ k. LeadSame pool root 4 k gfn entry) (sym e) (record { below = λ leads. leads; above = λ leads. leads }))
+      subst (λ l. LeadSame pool root l page gfn entry) (sym top)
+      (subst (λ k. LeadSame pool root 4 k gfn entry) (sym e) (record { below = λ leads. leads; above = λ leads. leads }))
 
   -- the table's parent stands over the guest frame too, and its entry there is the link
   parent_over : (level page links : ℕ) (L : IsLinked pool up spot root links page (at (suc level) (gfn / level_span (suc level) / 512)))
       → stands up spot L.parent ≡ Some (at (suc (suc level)) (gfn / level_span (suc (suc level)) / 512))
   parent_over level page links L =
       let one : suc level + 1 ≡ suc (suc level) = omega arith in
-      let run : gfn / level_span (suc level) / 512 ≡ gfn / level_span (suc (suc level)) = run_above gfn (suc level) (omega arith) ∙ ap (λ n. gfn / level_span n) one in
+      let run : gfn / level_span (suc level) / 512 ≡ gfn / level_span (suc (suc level)) =
+      run_above gfn (suc level) (omega arith) ∙ ap (λ n. gfn / level_span n) one in
       L.above ∙ ap (λ n. Some (at n (gfn / level_span (suc level) / 512 / 512))) one ∙ ap (λ n. Some (at (suc (suc level)) (n / 512))) run
 
   parent_links : (level page links : ℕ) → stands up spot page ≡ Some (at (suc level) (gfn / level_span (suc level) / 512))
@@ -82,22 +89,26 @@ module _ {pages root set : ℕ} {role pool : ℕ → ℕ} {up : ℕ → Use} {sp
       → linked_page (kind_of (suc (suc level)) (pool (pool_index L.parent (entry_index gfn (suc (suc level)))))) ≡ Some page
   parent_links level page links at_page L =
       let one : suc level + 1 ≡ suc (suc level) = omega arith in
-      let run : gfn / level_span (suc (suc level)) ≡ gfn / level_span (suc level) / 512 = sym (run_above gfn (suc level) (omega arith) ∙ ap (λ n. gfn / level_span n) one) in
+      let run : gfn / level_span (suc (suc level)) ≡ gfn / level_span (suc level) / 512 =
+      sym (run_above gfn (suc level) (omega arith) ∙ ap (λ n. gfn / level_span n) one) in
       ap (λ n. linked_page (kind_of (suc (suc level)) (pool (pool_index L.parent (n % 512))))) run
       ∙ ap (λ w. linked_page (kind_of (suc (suc level)) w)) L.link
-      ∙ ap (λ (k : SpteKind). linked_page k) (kind_of_table (suc (suc level)) page (omega arith) (let lt = (T.there page _ at_page).0 in omega (arith, lt, few)))
+      ∙ ap (λ (k : SpteKind). linked_page k)
+      (kind_of_table (suc (suc level)) page (omega arith) (let lt = (T.there page _ at_page).0 in omega (arith, lt, few)))
 
   -- The table is the root, or linked.
   leads_from : (level page : ℕ) → Reaches up root page → stands up spot page ≡ Some (at (suc level) (gfn / level_span (suc level) / 512))
-      → ((k : ℕ) → suc level < 4 → Reaches up root k → stands up spot k ≡ Some (at (suc (suc level)) (gfn / level_span (suc (suc level)) / 512)) → LeadSame pool root (suc (suc level)) k gfn entry)
-      → LeadSame pool root (suc level) page gfn entry
+      → ((k : ℕ) → suc level < 4 → Reaches up root k → stands up spot k ≡ Some (at (suc (suc level)) (gfn / level_span (suc (suc level)) / 512))
+      → LeadSame pool root (suc (suc level)) k gfn entry) → LeadSame pool root (suc level) page gfn entry
   leads_from level page R at_page over = by (linked T page _ R at_page)
     where
       by : (page ≡ root) ⊎ ((links : ℕ) × IsLinked pool up spot root links page (at (suc level) (gfn / level_span (suc level) / 512)))
           → LeadSame pool root (suc level) page gfn entry
       by (inl e) = leads_at_root level page at_page e
       by (inr found) =
-          let L = found.1 in one_down level L.parent page (parent_links level page found.0 at_page L) (over L.parent L.lower (found.0, L.chain) (parent_over level page found.0 L))
+          let L = found.1 in
+          one_down level L.parent page (parent_links level page found.0 at_page L)
+          (over L.parent L.lower (found.0, L.chain) (parent_over level page found.0 L))
 
   leads_by : (above level page : ℕ) → level + above ≡ 3 → Reaches up root page
       → stands up spot page ≡ Some (at (suc level) (gfn / level_span (suc level) / 512)) → LeadSame pool root (suc level) page gfn entry

@@ -62,9 +62,11 @@ one_level (Some p) low = let there = low p refl in of_four p.level there.0 there
 abbrev AreWanted : Header → List Line → ℕ → (ℕ → Option Position) → Type 0
 AreWanted h lines root stands = (k : ℕ) (p : Position) → stands k ≡ Some p → (k ≡ root) ⊎ IsWantedRun h lines p
 
-module _ (h : Header) (lines : List Line) {root set : ℕ} {role pool : ℕ → ℕ} {up : ℕ → Use} {spot : ℕ → Position} (T : TreePart h.pool root set role pool up spot) (A : AreWanted h lines root (stands up spot)) where
+module _ (h : Header) (lines : List Line) {root set : ℕ} {role pool : ℕ → ℕ} {up : ℕ → Use} {spot : ℕ → Position}
+    (T : TreePart h.pool root set role pool up spot) (A : AreWanted h lines root (stands up spot)) where
   -- No two tables of a level stand at one run.
-  one_run : (level k l : ℕ) → stands_at level (stands up spot k) ≡ true → stands_at level (stands up spot l) ≡ true → run_of (stands up spot k) ≡ run_of (stands up spot l) → k ≡ l
+  one_run : (level k l : ℕ) → stands_at level (stands up spot k) ≡ true → stands_at level (stands up spot l) ≡ true
+      → run_of (stands up spot k) ≡ run_of (stands up spot l) → k ≡ l
   one_run level k l is be same =
       let x = stands_where level (stands up spot k) is in
       let y = stands_where level (stands up spot l) be in
@@ -72,16 +74,21 @@ module _ (h : Header) (lines : List Line) {root set : ℕ} {role pool : ℕ → 
       one_place T k l x.0 (all_reached T k x.0 x.1) (all_reached T l y.0 y.1) x.1 (y.1 ∙ ap Some (same_position y.0 x.0 (y.2 ∙ sym x.2) (sym run_same)))
 
   -- the tables of a level below the root's
-  few_of_level : (level : ℕ) → level ≤ 3 → sum_below h.pool (λ k. one_if (stands_at level (stands up spot k))) ≤ count_below (2 ^ 36 / 512 ^ level) (some_line_wants h lines level)
-  few_of_level level below = pigeonhole h.pool (2 ^ 36 / 512 ^ level) (λ k. stands_at level (stands up spot k)) (λ k. run_of (stands up spot k)) (some_line_wants h lines level) (λ k lt is. at k is) (one_run level)
+  few_of_level : (level : ℕ) → level ≤ 3
+      → sum_below h.pool (λ k. one_if (stands_at level (stands up spot k))) ≤ count_below (2 ^ 36 / 512 ^ level) (some_line_wants h lines level)
+  few_of_level level below =
+      pigeonhole h.pool (2 ^ 36 / 512 ^ level) (λ k. stands_at level (stands up spot k)) (λ k. run_of (stands up spot k))
+      (some_line_wants h lines level) (λ k lt is. at k is) (one_run level)
     where
-      at : (k : ℕ) → stands_at level (stands up spot k) ≡ true → (run_of (stands up spot k) < 2 ^ 36 / 512 ^ level) × (some_line_wants h lines level (run_of (stands up spot k)) ≡ true)
+      at : (k : ℕ) → stands_at level (stands up spot k) ≡ true
+          → (run_of (stands up spot k) < 2 ^ 36 / 512 ^ level) × (some_line_wants h lines level (run_of (stands up spot k)) ≡ true)
       at k is = by (A k x.0 x.1)
         where
           x : (p : Position) × (stands up spot k ≡ Some p) × (p.level ≡ level)
           x = stands_where level (stands up spot k) is
 
-          by : (k ≡ root) ⊎ IsWantedRun h lines x.0 → (run_of (stands up spot k) < 2 ^ 36 / 512 ^ level) × (some_line_wants h lines level (run_of (stands up spot k)) ≡ true)
+          by : (k ≡ root) ⊎ IsWantedRun h lines x.0
+              → (run_of (stands up spot k) < 2 ^ 36 / 512 ^ level) × (some_line_wants h lines level (run_of (stands up spot k)) ≡ true)
           by (inl e) =
               let top : 4 ≡ level = ap level_of (sym (root_stands T) ∙ sym (ap (stands up spot) e) ∙ x.1) ∙ x.2 in
               absurd (omega (arith, top, below))
@@ -93,7 +100,12 @@ module _ (h : Header) (lines : List Line) {root set : ℕ} {role pool : ℕ → 
 
   -- The root stands alone at its level.
   few_roots : sum_below h.pool (λ k. one_if (stands_at 4 (stands up spot k))) ≤ 1
-  few_roots = omega (arith, pigeonhole h.pool 1 (λ k. stands_at 4 (stands up spot k)) (λ k. run_of (stands up spot k)) (λ index. true) (λ k lt is. (at k is, refl)) (one_run 4), count_le 1 (λ index. true))
+  few_roots = omega (
+    arith,
+    pigeonhole h.pool 1 (λ k. stands_at 4 (stands up spot k)) (λ k. run_of (stands up spot k)) (λ index. true) (λ k lt is. (at k is, refl))
+        (one_run 4),
+    count_le 1 (λ index. true),
+  )
     where
       at : (k : ℕ) → stands_at 4 (stands up spot k) ≡ true → run_of (stands up spot k) < 1
       at k is = by (A k x.0 x.1)
@@ -103,7 +115,9 @@ module _ (h : Header) (lines : List Line) {root set : ℕ} {role pool : ℕ → 
 
           by : (k ≡ root) ⊎ IsWantedRun h lines x.0 → run_of (stands up spot k) < 1
           by (inl e) = let first : run_of (stands up spot k) ≡ 0 = ap run_of (ap (stands up spot) e ∙ root_stands T) in omega (arith, first)
-          by (inr R) = let run_is : x.0.prefix ≡ run_of (stands up spot k) = sym (ap run_of x.1) in subst (λ i. i < 1) run_is (subst (λ n. x.0.prefix < 2 ^ 36 / 512 ^ n) x.2 R.below)
+          by (inr R) =
+              let run_is : x.0.prefix ≡ run_of (stands up spot k) = sym (ap run_of x.1) in
+              subst (λ i. i < 1) run_is (subst (λ n. x.0.prefix < 2 ^ 36 / 512 ^ n) x.2 R.below)
 
   -- the tables altogether, by level
   abbrev of_level : ℕ → ℕ
@@ -111,36 +125,54 @@ module _ (h : Header) (lines : List Line) {root set : ℕ} {role pool : ℕ → 
 
   by_level : sum_below h.pool (λ k. one_if (is_some (stands up spot k))) ≤ of_level 4 + (of_level 3 + (of_level 2 + of_level 1))
   by_level =
-      let each = sum_mono h.pool (λ k. one_if (is_some (stands up spot k))) (λ k. one_if (stands_at 4 (stands up spot k)) + (one_if (stands_at 3 (stands up spot k)) + (one_if (stands_at 2 (stands up spot k)) + one_if (stands_at 1 (stands up spot k)))))
+      let each =
+      sum_mono h.pool (λ k. one_if (is_some (stands up spot k))) (λ k. one_if (stands_at 4 (stands up spot k))
+      + (one_if (stands_at 3 (stands up spot k)) + (one_if (stands_at 2 (stands up spot k)) + one_if (stands_at 1 (stands up spot k)))))
       (λ k. one_level (stands up spot k) (λ p is. let there = T.there k p is in (there.1, there.2))) in
-      let a = sum_plus h.pool (λ k. one_if (stands_at 4 (stands up spot k))) (λ k. one_if (stands_at 3 (stands up spot k)) + (one_if (stands_at 2 (stands up spot k)) + one_if (stands_at 1 (stands up spot k)))) in
-      let b = sum_plus h.pool (λ k. one_if (stands_at 3 (stands up spot k))) (λ k. one_if (stands_at 2 (stands up spot k)) + one_if (stands_at 1 (stands up spot k))) in
+      let a =
+      sum_plus h.pool (λ k. one_if (stands_at 4 (stands up spot k)))
+      (λ k. one_if (stands_at 3 (stands up spot k)) + (one_if (stands_at 2 (stands up spot k)) + one_if (stands_at 1 (stands up spot k)))) in
+      let b =
+      sum_plus h.pool (λ k. one_if (stands_at 3 (stands up spot k)))
+      (λ k. one_if (stands_at 2 (stands up spot k)) + one_if (stands_at 1 (stands up spot k))) in
       let c = sum_plus h.pool (λ k. one_if (stands_at 2 (stands up spot k))) (λ k. one_if (stands_at 1 (stands up spot k))) in
       omega (arith, each, a, b, c)
 
 -- Four pages more than there are tables below the root: enough for the root, the slot set, one that leaves, and a free page.
-room : (pool need_ upper middle lower free tables sets left roots third second first : ℕ) → 4 + upper + middle + lower ≡ need_ → need_ ≤ pool → pool ≤ free + (tables + (sets + left)) → sets ≤ 1 → left ≤ 1
+room : (pool need_ upper middle lower free tables sets left roots third second first : ℕ) → 4 + upper + middle + lower ≡ need_ → need_ ≤ pool
+    → pool ≤ free + (tables + (sets + left)) → sets ≤ 1 → left ≤ 1
     → tables ≤ roots + (third + (second + first)) → roots ≤ 1 → third ≤ upper → second ≤ middle → first ≤ lower → 1 ≤ free
 room pool need_ upper middle lower free tables sets left roots third second first is most all one gone levels a b c d = omega arith
 
-need_is : (h : Header) (lines : List Line) → 4 + count_below (2 ^ 36 / 512 ^ 3) (some_line_wants h lines 3) + count_below (2 ^ 36 / 512 ^ 2) (some_line_wants h lines 2) + count_below (2 ^ 36 / 512 ^ 1) (some_line_wants h lines 1) ≡ need h lines
+need_is : (h : Header) (lines : List Line) → 4 + count_below (2 ^ 36 / 512 ^ 3) (some_line_wants h lines 3)
+    + count_below (2 ^ 36 / 512 ^ 2) (some_line_wants h lines 2) + count_below (2 ^ 36 / 512 ^ 1) (some_line_wants h lines 1) ≡ need h lines
 unfolding need
 need_is h lines = refl
 
 -- Where no actor owns a page, each page is free, a table, the published slot set, or leaves.
-module _ {n pages slots : ℕ} {map : ℕ → ℕ} {owned : ℕ → Option OwnedPage} {leaving : ℕ → Option ℕ} {up : ℕ → Use} (U : UsePart n pages slots map owned leaving up) (spot : ℕ → Position) (none : (i : ℕ) → i < n → owned i ≡ None) where
-  is_one : (k : ℕ) → k < pages → (u : Use) → up k ≡ u → 1 ≤ one_if (is_free map k) + (one_if (is_some (stands up spot k)) + (one_if (slots == k) + one_if (is_old (up k))))
+module _ {n pages slots : ℕ} {map : ℕ → ℕ} {owned : ℕ → Option OwnedPage} {leaving : ℕ → Option ℕ} {up : ℕ → Use}
+    (U : UsePart n pages slots map owned leaving up) (spot : ℕ → Position) (none : (i : ℕ) → i < n → owned i ≡ None) where
+  is_one : (k : ℕ) → k < pages → (u : Use) → up k ≡ u
+      → 1 ≤ one_if (is_free map k) + (one_if (is_some (stands up spot k)) + (one_if (slots == k) + one_if (is_old (up k))))
   is_one k lt Free is = let free : one_if (is_free map k) ≡ 1 = ap one_if (U.free k) ∙ ap (λ u. one_if (is_use Free u)) is in omega (arith, free)
-  is_one k lt Root is = let table : one_if (is_some (stands up spot k)) ≡ 1 = ap (λ (x : Option Position). one_if (is_some x)) (at_spot up spot k Root is refl) in omega (arith, table)
-  is_one k lt (Under page entry) is = let table : one_if (is_some (stands up spot k)) ≡ 1 = ap (λ (x : Option Position). one_if (is_some x)) (at_spot up spot k (Under page entry) is refl) in omega (arith, table)
+  is_one k lt Root is =
+      let table : one_if (is_some (stands up spot k)) ≡ 1 = ap (λ (x : Option Position). one_if (is_some x)) (at_spot up spot k Root is refl) in
+      omega (arith, table)
+  is_one k lt (Under page entry) is =
+      let table : one_if (is_some (stands up spot k)) ≡ 1 =
+      ap (λ (x : Option Position). one_if (is_some x)) (at_spot up spot k (Under page entry) is refl) in
+      omega (arith, table)
   is_one k lt SlotSet is = let set : one_if (slots == k) ≡ 1 = ap one_if (U.set k) ∙ ap (λ u. one_if (is_use SlotSet u)) is in omega (arith, set)
   is_one k lt (OldSet i) is = let old : one_if (is_old (up k)) ≡ 1 = ap (λ u. one_if (is_old u)) is in omega (arith, old)
   is_one k lt (Owned i) is = let O = has_owner U i k is in let owns_none = none i O.there in let owns_one = O.is in absurd (cc (owns_none, owns_one))
   is_one k lt Outside is = absurd (let inside = no_outside k pages lt in let outside = U.outside k ∙ ap (is_use Outside) is in cc (inside, outside))
 
-  free_or_not : pages ≤ sum_below pages (λ k. one_if (is_free map k)) + (sum_below pages (λ k. one_if (is_some (stands up spot k))) + (sum_below pages (λ k. one_if (slots == k)) + sum_below pages (λ k. one_if (is_old (up k)))))
+  free_or_not : pages ≤ sum_below pages (λ k. one_if (is_free map k)) + (sum_below pages (λ k. one_if (is_some (stands up spot k)))
+      + (sum_below pages (λ k. one_if (slots == k)) + sum_below pages (λ k. one_if (is_old (up k)))))
   free_or_not =
-      let each = sum_each pages (λ k. one_if (is_free map k) + (one_if (is_some (stands up spot k)) + (one_if (slots == k) + one_if (is_old (up k))))) (λ k lt. is_one k lt (up k) refl) in
+      let each =
+      sum_each pages (λ k. one_if (is_free map k) + (one_if (is_some (stands up spot k)) + (one_if (slots == k) + one_if (is_old (up k)))))
+      (λ k lt. is_one k lt (up k) refl) in
       let a = sum_plus pages (λ k. one_if (is_free map k)) (λ k. one_if (is_some (stands up spot k)) + (one_if (slots == k) + one_if (is_old (up k)))) in
       let b = sum_plus pages (λ k. one_if (is_some (stands up spot k))) (λ k. one_if (slots == k) + one_if (is_old (up k))) in
       let c = sum_plus pages (λ k. one_if (slots == k)) (λ k. one_if (is_old (up k))) in
@@ -150,8 +182,10 @@ module _ {n pages slots : ℕ} {map : ℕ → ℕ} {owned : ℕ → Option Owned
 no_use : (k l : ℕ) → (k == l) ≡ true → l ≢ k → ⊥
 no_use k l is ne = ne (sym (tells k l is))
 
-module _ {n pages slots : ℕ} {map : ℕ → ℕ} {owned : ℕ → Option OwnedPage} {leaving : ℕ → Option ℕ} {up : ℕ → Use} (U : UsePart n pages slots map owned leaving up) (spot : ℕ → Position) (k : ℕ) where
-  is_table_there : k < pages → is_free map k ≡ false → ((i : ℕ) → i < n → is_owned (owned i) k ≡ false) → ((i : ℕ) → i < n → is_leaving (leaving i) k ≡ false) → k ≢ slots → (p : Position) × (stands up spot k ≡ Some p)
+module _ {n pages slots : ℕ} {map : ℕ → ℕ} {owned : ℕ → Option OwnedPage} {leaving : ℕ → Option ℕ} {up : ℕ → Use}
+    (U : UsePart n pages slots map owned leaving up) (spot : ℕ → Position) (k : ℕ) where
+  is_table_there : k < pages → is_free map k ≡ false → ((i : ℕ) → i < n → is_owned (owned i) k ≡ false)
+      → ((i : ℕ) → i < n → is_leaving (leaving i) k ≡ false) → k ≢ slots → (p : Position) × (stands up spot k ≡ Some p)
   is_table_there lt taken none stays ne = by (up k) refl
     where
       by : (u : Use) → up k ≡ u → (p : Position) × (stands up spot k ≡ Some p)
@@ -160,32 +194,42 @@ module _ {n pages slots : ℕ} {map : ℕ → ℕ} {owned : ℕ → Option Owned
       by Free is = absurd (let free = U.free k ∙ ap (is_use Free) is in cc (free, taken))
       by SlotSet is = absurd (no_use slots k (U.set k ∙ ap (is_use SlotSet) is) ne)
       by Outside is = absurd (let inside = no_outside k pages lt in let outside = U.outside k ∙ ap (is_use Outside) is in cc (inside, outside))
-      by (Owned i) is = absurd (let O = has_owner U i k is in let owns_it = ap (λ o. is_owned o k) O.is ∙ ap (λ p. p == k) O.of_page ∙ itself k in let owns_none = none i O.there in cc (owns_it, owns_none))
-      by (OldSet i) is = absurd (let L = has_leaver U i k is in let leaves_it = ap (λ o. is_leaving o k) L.1 ∙ itself k in let leaves_none = stays i L.0 in cc (leaves_it, leaves_none))
+      by (Owned i) is =
+          absurd (let O = has_owner U i k is in let owns_it = ap (λ o. is_owned o k) O.is ∙ ap (λ p. p == k) O.of_page ∙ itself k in
+          let owns_none = none i O.there in cc (owns_it, owns_none))
+      by (OldSet i) is =
+          absurd (let L = has_leaver U i k is in let leaves_it = ap (λ o. is_leaving o k) L.1 ∙ itself k in let leaves_none = stays i L.0 in
+          cc (leaves_it, leaves_none))
 
 -- what is known of each table behind a list of steps
-wanted_behind : (h : Header) (lines : List Line) (w : World Held) (ss : List (Step Kind)) → IsStart (sizes_of h) lines w → Legal mmu w ss → (G : IsSound (sizes_of h) (run mmu w ss))
+wanted_behind : (h : Header) (lines : List Line) (w : World Held) (ss : List (Step Kind)) → IsStart (sizes_of h) lines w → Legal mmu w ss
+    → (G : IsSound (sizes_of h) (run mmu w ss))
     → AreWanted h lines (word_in (sizes_of h) (run mmu w ss) area.Root 0) (stands G.topics.up G.topics.spot)
 wanted_behind h lines w ss start legal G k p is = by (G.topics.tree.wanted k p is)
   where
     z : Sizes
     z = sizes_of h
 
-    by : (k ≡ word_in z (run mmu w ss) area.Root 0) ⊎ IsWanted (word_in z (run mmu w ss) area.Pool) (word_in z (run mmu w ss) area.Slots 0) p → (k ≡ word_in z (run mmu w ss) area.Root 0) ⊎ IsWantedRun h lines p
+    by : (k ≡ word_in z (run mmu w ss) area.Root 0) ⊎ IsWanted (word_in z (run mmu w ss) area.Pool) (word_in z (run mmu w ss) area.Slots 0) p
+        → (k ≡ word_in z (run mmu w ss) area.Root 0) ⊎ IsWantedRun h lines p
     by (inl e) = inl e
     by (inr W) =
         let there = G.topics.tree.there k p is in
         inr (wanted_by_line h lines w ss p start legal there.1 there.2 W)
 
 -- A table below the root's level isn't the root.
-below_root : (root k level prefix : ℕ) (stands : ℕ → Option Position) → stands root ≡ Some (at 4 0) → stands k ≡ Some (at level prefix) → level < 4 → k ≡ root → ⊥
+below_root : (root k level prefix : ℕ) (stands : ℕ → Option Position) → stands root ≡ Some (at 4 0) → stands k ≡ Some (at level prefix) → level < 4
+    → k ≡ root → ⊥
 below_root root k level prefix stands top is low e = let same : 4 ≡ level = ap level_of (sym top ∙ sym (ap stands e) ∙ is) in omega (arith, same, low)
 
 pub tables_are_for_their_runs : TablesAreForTheirRuns
-tables_are_for_their_runs h lines w ss start legal G k level prefix is low = (by (wanted_behind h lines w ss start legal G k (at level prefix) is), G.topics.tree.roles k (at level prefix) is)
+tables_are_for_their_runs h lines w ss start legal G k level prefix is low =
+    (by (wanted_behind h lines w ss start legal G k (at level prefix) is), G.topics.tree.roles k (at level prefix) is)
   where
     by : (k ≡ word_in (sizes_of h) (run mmu w ss) area.Root 0) ⊎ IsWantedRun h lines (at level prefix) → some_line_wants h lines level prefix ≡ true
-    by (inl e) = absurd (below_root (word_in (sizes_of h) (run mmu w ss) area.Root 0) k level prefix (stands G.topics.up G.topics.spot) (root_stands G.topics.tree) is low e)
+    by (inl e) =
+        absurd (below_root (word_in (sizes_of h) (run mmu w ss) area.Root 0) k level prefix (stands G.topics.up G.topics.spot)
+        (root_stands G.topics.tree) is low e)
     by (inr R) = R.wanted
 
 pub enough_pages : EnoughPages
@@ -205,14 +249,17 @@ enough_pages h lines w ss start legal most none =
     record { page = found.0; there = found.1; free = found.2 }
 
 -- A table for a run that is wanted is the root, or stands below it, where its role says.
-wanted_below : (h : Header) (lines : List Line) {root set : ℕ} {role pool : ℕ → ℕ} {up : ℕ → Use} {spot : ℕ → Position} (T : TreePart h.pool root set role pool up spot) (k : ℕ) (p : Position) → stands up spot k ≡ Some p
+wanted_below : (h : Header) (lines : List Line) {root set : ℕ} {role pool : ℕ → ℕ} {up : ℕ → Use} {spot : ℕ → Position}
+    (T : TreePart h.pool root set role pool up spot) (k : ℕ) (p : Position) → stands up spot k ≡ Some p
     → IsWantedRun h lines p → (p.level ≡ 4) ⊎ (p.level ≢ 4) → (k ≡ root) ⊎ IsWantedTable h lines (role k)
 wanted_below h lines T k p is R (inl e) =
     let first : p.prefix < 1 = subst (λ n. p.prefix < 2 ^ 36 / 512 ^ n) e R.below in
-    inl (one_place T k _ p (all_reached T k p is) (all_reached T _ _ (root_stands T)) is (root_stands T ∙ ap Some (same_position (at 4 0) p (sym e) (omega (arith, first)))))
+    inl (one_place T k _ p (all_reached T k p is) (all_reached T _ _ (root_stands T)) is
+    (root_stands T ∙ ap Some (same_position (at 4 0) p (sym e) (omega (arith, first)))))
 wanted_below h lines T k p is R (inr ne) =
     let there = T.there k p is in
-    inr (subst (IsWantedTable h lines) (sym (T.roles k p is)) (record { below_root = (there.1, omega (arith, there.2, ne)); index = p.prefix; wanted = R.wanted }))
+    inr (subst (IsWantedTable h lines) (sym (T.roles k p is))
+    (record { below_root = (there.1, omega (arith, there.2, ne)); index = p.prefix; wanted = R.wanted }))
 
 pub each_table_is_wanted : EachTableIsWanted
 each_table_is_wanted h lines w ss k start legal there taken none stays ne = by (wanted_behind h lines w ss start legal G k table.0 table.1)

@@ -19,7 +19,12 @@ use Rattle.mmu_core.proofs.invariant.Kept.{leaver_is_manager}
 -- one place of a column at most is this one
 pub one_number : (n it : ℕ) → sum_below n (λ k. one_if (it == k)) ≤ 1
 one_number n it =
-    omega (arith, pigeonhole n 1 (λ k. it == k) (λ k. 0) (λ index. true) (λ k lt is. (omega arith, refl)) (λ k l is be same. sym ((Decides-eqb it k).0 is) ∙ (Decides-eqb it l).0 be), count_le 1 (λ index. true))
+    omega (
+      arith,
+      pigeonhole n 1 (λ k. it == k) (λ k. 0) (λ index. true) (λ k lt is. (omega arith, refl))
+          (λ k l is be same. sym ((Decides-eqb it k).0 is) ∙ (Decides-eqb it l).0 be),
+      count_le 1 (λ index. true),
+    )
 
 -- The page is an old slot set.
 abbrev pub is_old : Use → Bool
@@ -32,7 +37,11 @@ old_of _ is = absurd (cc is)
 
 -- One page of the pool leaves at most.
 pub one_left : (z : Sizes) (w : World Held) (G : IsSound z w) → sum_below z.pool (λ k. one_if (is_old (G.topics.up k))) ≤ 1
-one_left z w G = omega (arith, pigeonhole z.pool 1 (λ k. is_old (G.topics.up k)) (λ k. 0) (λ index. true) (λ k lt is. (omega arith, refl)) (λ k l is be same. one k l is be), count_le 1 (λ index. true))
+one_left z w G = omega (
+  arith,
+  pigeonhole z.pool 1 (λ k. is_old (G.topics.up k)) (λ k. 0) (λ index. true) (λ k lt is. (omega arith, refl)) (λ k l is be same. one k l is be),
+  count_le 1 (λ index. true),
+)
   where
     manager : (i k : ℕ) → i < actors_of z → (hand_in mmu w i).topics.leaving ≡ Some k → i ≡ index_of z Manager
     manager i k lt is =

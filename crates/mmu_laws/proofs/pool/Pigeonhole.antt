@@ -36,8 +36,11 @@ unfolding count_below
 count_without zero x test lt passes = absurd (omega arith)
 count_without (suc m) x test lt passes = by (same_or m x) (λ below. count_without m x test below passes)
   where
-    by : (m ≡ x) ⊎ (m ≢ x) → (x < m → count_below m (but_for x test) + 1 ≡ count_below m test) → count_below (suc m) (but_for x test) + 1 ≡ count_below (suc m) test
-    by (inl e) before = let own : one_if (test m) ≡ 1 = ap one_if (ap test e ∙ passes) in omega (arith, count_behind m x test (omega arith), own_counts m x (test m) e, own)
+    by : (m ≡ x) ⊎ (m ≢ x) → (x < m → count_below m (but_for x test) + 1 ≡ count_below m test)
+        → count_below (suc m) (but_for x test) + 1 ≡ count_below (suc m) test
+    by (inl e) before =
+        let own : one_if (test m) ≡ 1 = ap one_if (ap test e ∙ passes) in
+        omega (arith, count_behind m x test (omega arith), own_counts m x (test m) e, own)
     by (inr ne) before = omega (arith, before (omega arith), other_counts m x (test m) ne)
 
 still_passes : (i x : ℕ) (b : Bool) → b ≡ true → i ≢ x → (b && not (i == x)) ≡ true
@@ -49,8 +52,8 @@ pub pigeonhole : (n m : ℕ) (counts : ℕ → Bool) (spot : ℕ → ℕ) (test 
 pigeonhole zero m counts spot test at apart = omega arith
 pigeonhole (suc n) m counts spot test at apart = by (counts n) refl (λ fewer still. pigeonhole n m counts spot fewer still apart)
   where
-    by : (b : Bool) → counts n ≡ b → ((fewer : ℕ → Bool) → ((k : ℕ) → k < n → counts k ≡ true → (spot k < m) × (fewer (spot k) ≡ true)) → sum_below n (λ k. one_if (counts k)) ≤ count_below m fewer)
-        → sum_below n (λ k. one_if (counts k)) + one_if b ≤ count_below m test
+    by : (b : Bool) → counts n ≡ b → ((fewer : ℕ → Bool) → ((k : ℕ) → k < n → counts k ≡ true → (spot k < m) × (fewer (spot k) ≡ true))
+        → sum_below n (λ k. one_if (counts k)) ≤ count_below m fewer) → sum_below n (λ k. one_if (counts k)) + one_if b ≤ count_below m test
     by true is before =
         let here = at n (omega arith) is in
         let rest = before (but_for (spot n) test) (λ k lt more.
@@ -74,6 +77,7 @@ pub sum_some : (n : ℕ) (counts : ℕ → Bool) → 1 ≤ sum_below n (λ k. on
 sum_some zero counts some = absurd (omega arith)
 sum_some (suc n) counts some = by (counts n) refl some (λ before. sum_some n counts before)
   where
-    by : (b : Bool) → counts n ≡ b → 1 ≤ sum_below n (λ k. one_if (counts k)) + one_if b → (1 ≤ sum_below n (λ k. one_if (counts k)) → (k : ℕ) × (k < n) × (counts k ≡ true)) → (k : ℕ) × (k < suc n) × (counts k ≡ true)
+    by : (b : Bool) → counts n ≡ b → 1 ≤ sum_below n (λ k. one_if (counts k)) + one_if b
+        → (1 ≤ sum_below n (λ k. one_if (counts k)) → (k : ℕ) × (k < n) × (counts k ≡ true)) → (k : ℕ) × (k < suc n) × (counts k ≡ true)
     by true is some before = (n, omega arith, is)
     by false is some before = let rest = before (omega (arith, some)) in (rest.0, omega (arith, rest.1), rest.2)

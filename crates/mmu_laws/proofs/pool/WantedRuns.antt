@@ -1,5 +1,6 @@
 -- A live slot is one that a slot line of the trace sets: so the runs of its guest frames are wanted.
-use Rattle.std.proofs.Common.{◌≡◌, ◌≢◌, ◌⊎◌, inl, inr, ◌+◌, ◌-◌, ◌*◌, ◌/◌, ◌^◌, ◌<◌, ◌≤◌, ◌&&◌, ◌||◌, ℕ, zero, suc, List, [], ◌∷◌, ◌++◌, length, get_or, refl, sym, subst, ap, ◌∙◌, arith}
+use Rattle.std.proofs.Common.{◌≡◌, ◌≢◌, ◌⊎◌, inl, inr, ◌+◌, ◌-◌, ◌*◌, ◌/◌, ◌^◌, ◌<◌, ◌≤◌, ◌&&◌, ◌||◌, ℕ, zero, suc, List, [], ◌∷◌, ◌++◌, length}
+use Rattle.std.proofs.Common.{get_or, refl, sym, subst, ap, ◌∙◌, arith}
 use Rattle.std.proofs.Math.Bool.{or-true}
 use Rattle.std.proofs.Math.Nat.{div-div-eq-div-mul, div-lt_iff_lt-mul, div-mul-le_self, pow-suc}
 use Rattle.std.proofs.lemmas.Bool.Decides.{nat_tests}
@@ -51,20 +52,24 @@ slot_is_listed pool set (suc n) id lt live = by (same_or id n) (λ less. slot_is
     here true on = (0, omega arith, refl)
     here false on = absurd (cc on)
 
-    by : (id ≡ n) ⊎ (id ≢ n) → (id < n → Contains (slots_below pool set n) (id, slot_at pool set id)) → Contains (slots_below pool set n ++ last (live_at pool set n)) (id, slot_at pool set id)
+    by : (id ≡ n) ⊎ (id ≢ n) → (id < n → Contains (slots_below pool set n) (id, slot_at pool set id))
+        → Contains (slots_below pool set n ++ last (live_at pool set n)) (id, slot_at pool set id)
     by (inl e) before = subst (λ k. Contains (slots_below pool set n ++ last (live_at pool set n)) (k, slot_at pool set k)) (sym e)
-        (Contains-append_right (slots_below pool set n) (last (live_at pool set n)) (n, slot_at pool set n) (here (live_at pool set n) (ap (live_at pool set) (sym e) ∙ live)))
+        (Contains-append_right (slots_below pool set n) (last (live_at pool set n)) (n, slot_at pool set n)
+        (here (live_at pool set n) (ap (live_at pool set) (sym e) ∙ live)))
     by (inr ne) before = Contains-append_left (slots_below pool set n) (last (live_at pool set n)) (id, slot_at pool set id) (before (omega arith))
 
 -- What a command of the lines passes, some line does.
-any_of : (test : Command → Bool) (lines : List Line) (c : Command) → Contains (map (λ (l : Line). l.command) lines) c → test c ≡ true → list_any (λ (l : Line). test l.command) lines ≡ true
+any_of : (test : Command → Bool) (lines : List Line) (c : Command) → Contains (map (λ (l : Line). l.command) lines) c → test c ≡ true
+    → list_any (λ (l : Line). test l.command) lines ≡ true
 any_of test [] c has passes = absurd (omega (arith, has.1))
 any_of test (line ∷ lines) c has passes = by has.0 has.1 has.2 (any_of test lines c)
   where
     commands : List Command
     commands = map (λ (l : Line). l.command) lines
 
-    by : (k : ℕ) → k < suc (length commands) → get_or (line.command ∷ commands) k c ≡ c → (Contains commands c → test c ≡ true → list_any (λ (l : Line). test l.command) lines ≡ true)
+    by : (k : ℕ) → k < suc (length commands) → get_or (line.command ∷ commands) k c ≡ c
+        → (Contains commands c → test c ≡ true → list_any (λ (l : Line). test l.command) lines ≡ true)
         → (test line.command || list_any (λ (l : Line). test l.command) lines) ≡ true
     by zero lt is rest = rw (is, passes) refl
     by (suc k) lt is rest = rw (rest (k, omega arith, is) passes, or-true (test line.command)) refl
@@ -74,8 +79,8 @@ any_of_all : (test : Line → Bool) (actor : Actor) (lines : List Line) → list
 any_of_all test actor [] some = some
 any_of_all test actor (line ∷ lines) some = by (is_same actor line.actor) (test line) refl some (any_of_all test actor lines)
   where
-    by : (own passes : Bool) → test line ≡ passes → list_any test (if own then line ∷ lines_of actor lines else lines_of actor lines) ≡ true → (list_any test (lines_of actor lines) ≡ true → list_any test lines ≡ true)
-        → (passes || list_any test lines) ≡ true
+    by : (own passes : Bool) → test line ≡ passes → list_any test (if own then line ∷ lines_of actor lines else lines_of actor lines) ≡ true
+        → (list_any test (lines_of actor lines) ≡ true → list_any test lines ≡ true) → (passes || list_any test lines) ≡ true
     by own true is some rest = refl
     by true false is some rest = rest (rw is at some)
     by false false is some rest = rest some
@@ -89,7 +94,8 @@ manager_at z = grind (arith, nat_tests)
 
 -- A slot that is live behind a list of steps is one that a slot line of the trace sets.
 live_is_set : (z : Sizes) (lines : List Line) (w : World Held) (ss : List (Step Kind)) (id : ℕ) (slot : Slot) → IsStart z lines w → Legal mmu w ss
-    → IsLiveIn (word_in z (run mmu w ss) area.Pool) (word_in z (run mmu w ss) area.Slots 0) id slot → Contains (map (λ (l : Line). l.command) (lines_of Manager lines)) (SetSlot id slot)
+    → IsLiveIn (word_in z (run mmu w ss) area.Pool) (word_in z (run mmu w ss) area.Slots 0) id slot
+    → Contains (map (λ (l : Line). l.command) (lines_of Manager lines)) (SetSlot id slot)
 live_is_set z lines w ss id slot start legal L =
     let manager : ℕ = z.vcpus + z.hosts in
     let g : Held = hand_in mmu (run mmu w ss) manager in
@@ -102,14 +108,17 @@ live_is_set z lines w ss id slot start legal L =
     let IsSet : ℕ × Slot → Type 0 = λ e. Contains (map (λ (l : Line). l.command) g.lines) (SetSlot e.0 e.1) in
     let each : All IsSet (flat_slots g.slots) = All-map IsSet (λ (e : ℕ × MemorySlot). (e.0, e.1.slot)) g.slots (G.holds.lines manager (manager_place z)).set in
     let listed = slot_is_listed pool set 32 id (omega (arith, L.low)) L.live in
-    let here : IsSet (id, slot_at pool set id) = All-contains IsSet (slots_below pool set 32) (id, slot_at pool set id) (subst (λ (xs : Slots). All IsSet xs) (record_flat pool set g.slots R) each) listed in
+    let here : IsSet (id, slot_at pool set id) =
+    All-contains IsSet (slots_below pool set 32) (id, slot_at pool set id)
+    (subst (λ (xs : Slots). All IsSet xs) (record_flat pool set g.slots R) each) listed in
     subst (λ (xs : List Line). Contains (map (λ (l : Line). l.command) xs) (SetSlot id slot)) own (subst (λ (s : Slot). IsSet (id, s)) L.is here)
 
 -- A slot that fits and holds a guest frame counts, and has a guest frame in the run that this one is in.
 counts : (z : Sizes) (gfn : ℕ) (slot : Slot) → Fits z slot → contains gfn slot ≡ true → is_counted z.pages slot ≡ true
 counts z gfn slot fits holds = counted slot.base slot.pages slot.host z.pages gfn fits.pages fits.frames holds
   where
-    counted : (base pages host total gfn : ℕ) → host + pages ≤ total → base + pages ≤ 2 ^ 36 → (nat_le base gfn && nat_lt gfn (base + pages)) ≡ true → (nat_le 1 pages && nat_le pages total && nat_le (base + pages) (2 ^ 36)) ≡ true
+    counted : (base pages host total gfn : ℕ) → host + pages ≤ total → base + pages ≤ 2 ^ 36 → (nat_le base gfn && nat_lt gfn (base + pages)) ≡ true
+        → (nat_le 1 pages && nat_le pages total && nat_le (base + pages) (2 ^ 36)) ≡ true
     counted base pages host total gfn small low holds = grind (arith, nat_tests)
 
 met : (base end from past gfn : ℕ) → from ≤ gfn → gfn < past → (nat_le base gfn && nat_lt gfn end) ≡ true → (nat_lt base past && nat_lt from end) ≡ true
@@ -117,7 +126,8 @@ met base end from past gfn le lt holds = grind (arith, nat_tests)
 
 meets_run : (span gfn index : ℕ) (slot : Slot) → 0 < span → gfn / span ≡ index → contains gfn slot ≡ true → meets span index slot ≡ true
 meets_run span gfn index slot pos is holds = subst (λ i. meets span i slot ≡ true) is
-    (met slot.base (slot.base + slot.pages) (gfn / span * span) ((gfn / span + 1) * span) gfn (div-mul-le_self gfn span) ((div-lt_iff_lt-mul {k = span} {x = gfn} {y = gfn / span + 1} pos).0 (omega arith)) holds)
+    (met slot.base (slot.base + slot.pages) (gfn / span * span) ((gfn / span + 1) * span) gfn (div-mul-le_self gfn span)
+    ((div-lt_iff_lt-mul {k = span} {x = gfn} {y = gfn / span + 1} pos).0 (omega arith)) holds)
 
 -- the run of 512 entries that a guest frame is in
 run_at : (level gfn : ℕ) → 1 ≤ level → gfn / level_span level / 512 ≡ gfn / 512 ^ level
@@ -152,7 +162,8 @@ below_all z gfn slot fits holds = under slot.base (slot.base + slot.pages) gfn f
     under base end gfn low holds = grind (arith, nat_tests)
 
 -- A table that is wanted by a live slot, behind a list of steps, is for a run that is wanted.
-pub wanted_by_line : (h : Header) (lines : List Line) (w : World Held) (ss : List (Step Kind)) (p : Position) → IsStart (sizes_of h) lines w → Legal mmu w ss → 1 ≤ p.level → p.level ≤ 4
+pub wanted_by_line : (h : Header) (lines : List Line) (w : World Held) (ss : List (Step Kind)) (p : Position) → IsStart (sizes_of h) lines w
+    → Legal mmu w ss → 1 ≤ p.level → p.level ≤ 4
     → IsWanted (word_in (sizes_of h) (run mmu w ss) area.Pool) (word_in (sizes_of h) (run mmu w ss) area.Slots 0) p → IsWantedRun h lines p
 wanted_by_line h lines w ss p start legal some most W =
     let z : Sizes = sizes_of h in
@@ -161,8 +172,12 @@ wanted_by_line h lines w ss p start legal some most W =
     let fits : Fits z W.slot = subst (Fits z) W.live.is (G.holds.set_part.fits W.id W.live.low W.live.live) in
     let run_is : W.gfn / 512 ^ p.level ≡ p.prefix = sym (run_at p.level W.gfn some) ∙ W.run in
     let is_set = live_is_set z lines w ss W.id W.slot start legal W.live in
-    let wanted : wants z.pages (512 ^ p.level) p.prefix (SetSlot W.id W.slot) ≡ true = ap (λ b. b && meets (512 ^ p.level) p.prefix W.slot) (counts z W.gfn W.slot fits W.holds) ∙ meets_run (512 ^ p.level) W.gfn p.prefix W.slot (span_some p.level) run_is W.holds in
+    let wanted : wants z.pages (512 ^ p.level) p.prefix (SetSlot W.id W.slot) ≡ true =
+    ap (λ b. b && meets (512 ^ p.level) p.prefix W.slot) (counts z W.gfn W.slot fits W.holds)
+    ∙ meets_run (512 ^ p.level) W.gfn p.prefix W.slot (span_some p.level) run_is W.holds in
     record {
       below = subst (λ i. i < 2 ^ 36 / 512 ^ p.level) run_is (run_below p.level W.gfn some most (below_all z W.gfn W.slot fits W.holds));
-      wanted = any_of_all (λ (l : Line). wants z.pages (512 ^ p.level) p.prefix l.command) Manager lines (any_of (wants z.pages (512 ^ p.level) p.prefix) (lines_of Manager lines) (SetSlot W.id W.slot) is_set wanted);
+      wanted =
+          any_of_all (λ (l : Line). wants z.pages (512 ^ p.level) p.prefix l.command) Manager lines
+          (any_of (wants z.pages (512 ^ p.level) p.prefix) (lines_of Manager lines) (SetSlot W.id W.slot) is_set wanted);
     }

@@ -105,12 +105,23 @@ host_distinct = (tt, tt)
 
 host_prints : text host_events ≡ codes "2 vm done\n3 v0 frame 65 value 0\n4 v0 frame 65 value 7\n5 h0 done\n6 v1 frame 65 value 7\n"
 unfolding line_text
-host_prints = simp (decimal_digit 0 (lit< tt), decimal_digit 1 (lit< tt), decimal_digit 2 (lit< tt), decimal_digit 3 (lit< tt), decimal_digit 4 (lit< tt), decimal_digit 5 (lit< tt), decimal_digit 6 (lit< tt), decimal_digit 7 (lit< tt), two_digits 65 (lit≤ tt) (lit< tt))
+host_prints = simp (
+  decimal_digit 0 (lit< tt),
+  decimal_digit 1 (lit< tt),
+  decimal_digit 2 (lit< tt),
+  decimal_digit 3 (lit< tt),
+  decimal_digit 4 (lit< tt),
+  decimal_digit 5 (lit< tt),
+  decimal_digit 6 (lit< tt),
+  decimal_digit 7 (lit< tt),
+  two_digits 65 (lit≤ tt) (lit< tt),
+)
 
 pub example_host : ExampleHost
 example_host = (
   run_delays run_sizes host_lines host_order host_events 2 1 run_in_range host_allowed host_distinct (omega arith) host_have host_tale host_counts,
-  run_leaves run_sizes host_lines (order_to_zap 16) area.Pool (pool_index 4 6) (leaf_word 1 65 true true true) run_in_range host_allowed host_distinct (omega arith) have_16 host_zap_16,
+  run_leaves run_sizes host_lines (order_to_zap 16) area.Pool (pool_index 4 6) (leaf_word 1 65 true true true) run_in_range host_allowed host_distinct
+      (omega arith) have_16 host_zap_16,
   run_leaves run_sizes host_lines (order_to_zap 17) area.Pool (pool_index 4 6) 0 run_in_range host_allowed host_distinct (omega arith) have_17 host_zap_17,
   run_leaves run_sizes host_lines (order_to_zap 17) area.Count 0 1 run_in_range host_allowed host_distinct (omega arith) have_17 host_opens,
   run_leaves run_sizes host_lines (order_to_zap 17) area.RangeStart 0 6 run_in_range host_allowed host_distinct (omega arith) have_17 host_starts,

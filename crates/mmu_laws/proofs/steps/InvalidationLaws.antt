@@ -119,7 +119,8 @@ module _ (z : Sizes) (w : World Held) (s : Step Kind) (G : IsSound z w) (may : M
   raises_line : (T : Takes z w s h) → (words_after (task_of h) words area.Seq 0 ≡ words area.Seq 0) ⊎ Raises h words (task_of h)
       → (word_in z (effect mmu w s) area.Seq 0 ≡ words area.Seq 0) ⊎ RaisesSequence z w s
   raises_line T (inl stays) = inl (ap (λ (v : View). v.words area.Seq 0) T.leads ∙ stays)
-  raises_line T (inr R) = inr (record { sets = named T R.sets; alone = R.alone; opened = R.opened; raised = ap (λ (v : View). v.words area.Seq 0) T.leads ∙ R.raised })
+  raises_line T (inr R) =
+      inr (record { sets = named T R.sets; alone = R.alone; opened = R.opened; raised = ap (λ (v : View). v.words area.Seq 0) T.leads ∙ R.raised })
 
   counts_line : (T : Takes z w s h) → (words_after (task_of h) words area.Count 0 ≡ words area.Count 0) ⊎ Counts h words (task_of h)
       → (word_in z (effect mmu w s) area.Count 0 ≡ words area.Count 0) ⊎ CountsInvalidation z w s
@@ -127,12 +128,14 @@ module _ (z : Sizes) (w : World Held) (s : Step Kind) (G : IsSound z w) (may : M
   counts_line T (inr C) = inr (record { sets = named T C.sets; alone = C.alone; counted = ap (λ (v : View). v.words area.Count 0) T.leads ∙ C.counted })
 
   -- and a step of a part without a line stores no number of the invalidations
-  raises_part : (T : TakesPart z w s h) → (words_after (part_task T.step (own_index h) h.topics T.note) words area.Seq 0 ≡ words area.Seq 0) ⊎ Raises h words (part_task T.step (own_index h) h.topics T.note)
+  raises_part : (T : TakesPart z w s h) → (words_after (part_task T.step (own_index h) h.topics T.note) words area.Seq 0 ≡ words area.Seq 0)
+      ⊎ Raises h words (part_task T.step (own_index h) h.topics T.note)
       → (word_in z (effect mmu w s) area.Seq 0 ≡ words area.Seq 0) ⊎ RaisesSequence z w s
   raises_part T (inl stays) = inl (ap (λ (v : View). v.words area.Seq 0) T.leads ∙ stays)
   raises_part T (inr R) = absurd (never_sets T.step (own_index h) h.topics T.note T.free R.sets)
 
-  counts_part : (T : TakesPart z w s h) → (words_after (part_task T.step (own_index h) h.topics T.note) words area.Count 0 ≡ words area.Count 0) ⊎ Counts h words (part_task T.step (own_index h) h.topics T.note)
+  counts_part : (T : TakesPart z w s h) → (words_after (part_task T.step (own_index h) h.topics T.note) words area.Count 0 ≡ words area.Count 0)
+      ⊎ Counts h words (part_task T.step (own_index h) h.topics T.note)
       → (word_in z (effect mmu w s) area.Count 0 ≡ words area.Count 0) ⊎ CountsInvalidation z w s
   counts_part T (inl stays) = inl (ap (λ (v : View). v.words area.Count 0) T.leads ∙ stays)
   counts_part T (inr C) = absurd (never_sets T.step (own_index h) h.topics T.note T.free C.sets)

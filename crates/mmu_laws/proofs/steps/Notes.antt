@@ -13,7 +13,7 @@ use Rattle.spte_words.specs.Areas.{words_of_bits}
 use Rattle.part_steps.specs.declared.part_step.PartStep.{PartStep}
 use Rattle.part_steps.specs.declared.part_step.PartStep.TheVariants as part
 use Rattle.part_steps.specs.declared.task.Task.{Task}
-use Rattle.part_steps.specs.ControlTopics.{map_ends}
+use Rattle.part_steps.specs.ControlBits.{map_ends}
 use Rattle.part_steps.specs.PartSteps.{PartNeeds}
 use Rattle.part_steps.specs.PartTasks.{own_index, part_task}
 use Rattle.part_steps.specs.Tasks.{kind_of_task}

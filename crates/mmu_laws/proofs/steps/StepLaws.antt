@@ -83,12 +83,14 @@ on_its_area z t within on =
 pub steps_are_on_their_areas : (h : Held) (k : Kind) → Enabled h k → IsOnItsArea h.state.sizes k
 unfolding Enabled
 steps_are_on_their_areas h k (inl N) =
-    subst (IsOnItsArea h.state.sizes) (sym N.is) (on_its_area h.state.sizes (task_of h) (task_within h N.rests) (line_on (place_at h.state.place h) (line_of h).command h N.rests.at))
+    subst (IsOnItsArea h.state.sizes) (sym N.is)
+    (on_its_area h.state.sizes (task_of h) (task_within h N.rests) (line_on (place_at h.state.place h) (line_of h).command h N.rests.at))
 steps_are_on_their_areas h k (inr N) =
     let t : Task = part_task N.step (own_index h) h.topics N.note in
     let same = index_same N.step (own_index h) h.topics N.note in
     let within : t.index < size_of (map_of h.state.sizes) t.area =
-    subst (λ (b : Area). t.index < size_of (map_of h.state.sizes) b) (sym same.1) (subst (λ i. i < size_of (map_of h.state.sizes) (part_task N.step (own_index h) h.topics 0).area) (sym same.0) N.within) in
+    subst (λ (b : Area). t.index < size_of (map_of h.state.sizes) b) (sym same.1)
+    (subst (λ i. i < size_of (map_of h.state.sizes) (part_task N.step (own_index h) h.topics 0).area) (sym same.0) N.within) in
     subst (IsOnItsArea h.state.sizes) (sym N.is) (on_its_area h.state.sizes t within (tells_part N.step (own_index h) h.topics N.note).on)
 
 -- ---- what a step leaves of what is cached

@@ -24,10 +24,14 @@ use Rattle.mmu_core.proofs.machine.Which.{has_line_is, is_next}
 
 -- the words and hands behind the actor's next step, and what it tells
 abbrev pub turned : View → ℕ → View
-turned v a = stepped a (line_at (v.hand a).state.place (v.hand a)) (line_at (v.hand a).state.place (v.hand a)).command (place_at (v.hand a).state.place (v.hand a)) v
+turned v a =
+    stepped a (line_at (v.hand a).state.place (v.hand a)) (line_at (v.hand a).state.place (v.hand a)).command
+    (place_at (v.hand a).state.place (v.hand a)) v
 
 abbrev pub tells : View → ℕ → List Event
-tells v a = told_events v a (line_at (v.hand a).state.place (v.hand a)) (line_at (v.hand a).state.place (v.hand a)).command (place_at (v.hand a).state.place (v.hand a))
+tells v a =
+    told_events v a (line_at (v.hand a).state.place (v.hand a)) (line_at (v.hand a).state.place (v.hand a)).command
+    (place_at (v.hand a).state.place (v.hand a))
 
 -- what the actors tell, one after another
 abbrev pub tale : View → List ℕ → List Event
@@ -49,7 +53,8 @@ writes_one_word _ = true
 abbrev pub have_lines : Sizes → View → List ℕ → Bool
 have_lines z v [] = true
 have_lines z v (a ∷ actors) =
-    (nat_lt a (actors_of z) && (nat_lt (length (v.hand a).answers) (length (v.hand a).lines) && writes_one_word (next_line (v.hand a)).command)) && have_lines z (turned v a) actors
+    (nat_lt a (actors_of z) && (nat_lt (length (v.hand a).answers) (length (v.hand a).lines) && writes_one_word (next_line (v.hand a)).command))
+    && have_lines z (turned v a) actors
 
 both : (a b : Bool) → (a && b) ≡ true → (a ≡ true) × (b ≡ true)
 both true b e = (refl, e)
@@ -68,20 +73,29 @@ pub have_lines_by : (z : Sizes) (v : View) (actors : List ℕ) → have_lines z 
 have_lines_by z v [] e = tt
 have_lines_by z v (a ∷ actors) e =
     let h : Held = v.hand a in
-    let now_ = both (nat_lt a (actors_of z) && (nat_lt (length h.answers) (length h.lines) && writes_one_word (next_line h).command)) (have_lines z (turned v a) actors) e in
+    let now_ =
+    both (nat_lt a (actors_of z) && (nat_lt (length h.answers) (length h.lines) && writes_one_word (next_line h).command))
+    (have_lines z (turned v a) actors) e in
     let there = both (nat_lt a (actors_of z)) (nat_lt (length h.answers) (length h.lines) && writes_one_word (next_line h).command) now_.0 in
-    let has = both (nat_lt (length h.answers) (length h.lines)) (writes_one_word (next_line h).command) there.1 in
-    (below a (actors_of z) there.0, record { left = below (length h.answers) (length h.lines) has.0; fits = writes (next_line h).command has.1 }, have_lines_by z (turned v a) actors now_.1)
+    let has = both (nat_lt (length h.answers) (length h.lines)) (writes_one_word (next_line h).command) there.1 in (
+      below a (actors_of z) there.0,
+      record { left = below (length h.answers) (length h.lines) has.0; fits = writes (next_line h).command has.1 },
+      have_lines_by z (turned v a) actors now_.1,
+    )
 
 -- Their steps can be made, and tell that.
-pub turns_are : (z : Sizes) (w : World Held) (actors : List ℕ) → IsSound z w → HaveLines z (view z w) actors → Legal mmu w (turns z w actors) × (history w (turns z w actors) ≡ tale (view z w) actors)
+pub turns_are : (z : Sizes) (w : World Held) (actors : List ℕ) → IsSound z w → HaveLines z (view z w) actors
+    → Legal mmu w (turns z w actors) × (history w (turns z w actors) ≡ tale (view z w) actors)
 turns_are z w [] G have = (tt, refl)
 turns_are z w (a ∷ actors) G have =
     let h : Held = hand_in mmu w a in
     let may = may_step z w a G have.0 have.1 in
     let T = takes_line z w (next_step z w a) G may (is_next h (next_step z w a).kind may.enabled (has_line_is h have.1.left)) in
-    let rest = turns_are z (effect mmu w (next_step z w a)) actors (good_step z w (next_step z w a) G may) (subst (λ (v : View). HaveLines z v actors) (sym T.leads) have.2) in
-    let here : events_of h (answered mmu w (next_step z w a).kind) ≡ tells (view z w) a = ap (events_of h) T.answers ∙ sym (told_is_events z (view z w) a (line_at h.state.place h) (place_at h.state.place h) T.is_step) in (
+    let rest =
+    turns_are z (effect mmu w (next_step z w a)) actors (good_step z w (next_step z w a) G may)
+    (subst (λ (v : View). HaveLines z v actors) (sym T.leads) have.2) in
+    let here : events_of h (answered mmu w (next_step z w a).kind) ≡ tells (view z w) a =
+    ap (events_of h) T.answers ∙ sym (told_is_events z (view z w) a (line_at h.state.place h) (place_at h.state.place h) T.is_step) in (
       (may, rest.0),
       ap (λ (es : List Event). es ++ history (effect mmu w (next_step z w a)) (turns z (effect mmu w (next_step z w a)) actors)) here
           ∙ ap (λ (es : List Event). tells (view z w) a ++ es) (rest.1 ∙ ap (λ (v : View). tale v actors) T.leads),
@@ -92,10 +106,12 @@ abbrev pub turned_all : View → List ℕ → View
 turned_all v [] = v
 turned_all v (a ∷ actors) = turned_all (turned v a) actors
 
-pub turns_lead : (z : Sizes) (w : World Held) (actors : List ℕ) → IsSound z w → HaveLines z (view z w) actors → ◌≡◌ {A = View} (view z (run mmu w (turns z w actors))) (turned_all (view z w) actors)
+pub turns_lead : (z : Sizes) (w : World Held) (actors : List ℕ) → IsSound z w → HaveLines z (view z w) actors
+    → ◌≡◌ {A = View} (view z (run mmu w (turns z w actors))) (turned_all (view z w) actors)
 turns_lead z w [] G have = refl
 turns_lead z w (a ∷ actors) G have =
     let may = may_step z w a G have.0 have.1 in
     let T = takes_line z w (next_step z w a) G may (is_next (hand_in mmu w a) (next_step z w a).kind may.enabled (has_line_is (hand_in mmu w a) have.1.left)) in
-    turns_lead z (effect mmu w (next_step z w a)) actors (good_step z w (next_step z w a) G may) (subst (λ (v : View). HaveLines z v actors) (sym T.leads) have.2)
+    turns_lead z (effect mmu w (next_step z w a)) actors (good_step z w (next_step z w a) G may)
+    (subst (λ (v : View). HaveLines z v actors) (sym T.leads) have.2)
     ∙ ap (λ (v : View). turned_all v actors) T.leads

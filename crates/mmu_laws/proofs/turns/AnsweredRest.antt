@@ -66,4 +66,5 @@ module _ (z : Sizes) (w : World Held) (s : Step Kind) (G : IsSound z w) (may : M
 
   pub answered_rests : (answer : Answer) → outcome_of h (answered mmu w s.kind) ≡ Ends answer → HoldsNothing (hand_in mmu (effect mmu w s) s.actor).topics
   answered_rests answer ends =
-      rests_where (outcome_at stood line.command h x) answer refl (ap (λ (n : ℕ). outcome_at stood line.command h n) (sym taken.answers) ∙ ends) (line_knows z (view z w) s.actor line line.command stood taken.is_step G.holds G.topics there)
+      rests_where (outcome_at stood line.command h x) answer refl (ap (λ (n : ℕ). outcome_at stood line.command h n) (sym taken.answers) ∙ ends)
+      (line_knows z (view z w) s.actor line line.command stood taken.is_step G.holds G.topics there)

@@ -30,7 +30,8 @@ use Rattle.mmu_core.specs.declared.share.ShareNext.{ShareNext}
 use Rattle.mmu_core.specs.declared.share.ShareNext.TheVariants as shares
 use Rattle.mmu_core.specs.alone.FaultAlone.{EntryStands}
 use Rattle.mmu_core.specs.lines.FaultKnows.{FaultKnows}
-use Rattle.mmu_core.specs.lines.FaultSteps.{after_claim, after_share, check_next, check_part, claim_next, claim_part, entry_word, fault_next, fault_part, find_next, is_last_word, share_next, share_part, snapshot_taken, walk_next}
+use Rattle.mmu_core.specs.lines.FaultSteps.{after_claim, after_share, check_next, check_part, claim_next, claim_part, entry_word, fault_next}
+use Rattle.mmu_core.specs.lines.FaultSteps.{fault_part, find_next, is_last_word, share_next, share_part, snapshot_taken, walk_next}
 use Rattle.part_steps.specs.PartTasks.{entry_index, leaf_written, part_task, table_page, word_looked, words_filled}
 use Rattle.part_steps.specs.PartTopics.{exchanged, part_topics}
 use Rattle.part_steps.specs.SlotWords.{may_write, page_of}
@@ -49,7 +50,8 @@ neither : (b : Bool) (p q : FaultPlace) → ends_installed p ≡ false → ends_
 neither true p q first second is = cc (first, is)
 neither false p q first second is = cc (second, is)
 
-finds_by : (holds denied last : Bool) → ends_installed (if holds then (if denied then fault.End end_of.Mmio else fault.Host) else if last then fault.End end_of.Mmio else fault.Find true) ≡ true → ⊥
+finds_by : (holds denied last : Bool) → ends_installed (if holds then (if denied then fault.End end_of.Mmio else fault.Host) else if last
+    then fault.End end_of.Mmio else fault.Find true) ≡ true → ⊥
 finds_by true denied last is = neither denied (fault.End end_of.Mmio) fault.Host refl refl is
 finds_by false denied last is = neither last (fault.End end_of.Mmio) (fault.Find true) refl refl is
 
@@ -64,25 +66,34 @@ checks_not : (at_ : CheckStage) (gfn : ℕ) (t : Topics) (v : ℕ) → ends_inst
 checks_not stage.Count gfn t v is = neither (v == 0) (fault.Check stage.Seq) (fault.Check stage.Start) refl refl is
 checks_not stage.Start gfn t v is = cc is
 checks_not stage.End gfn t v is =
-    neither (nat_le t.invalidations.start gfn && nat_lt gfn v) (fault.Unshare (end_of.Retry (Open t.invalidations.count t.invalidations.start v gfn))) (fault.Check stage.Seq) refl refl is
+    neither (nat_le t.invalidations.start gfn && nat_lt gfn v) (fault.Unshare (end_of.Retry (Open t.invalidations.count t.invalidations.start v gfn)))
+    (fault.Check stage.Seq) refl refl is
 checks_not stage.Seq gfn t v is =
-    neither (v == snapshot_taken t.invalidations.snapshot) (fault.Walk false) (fault.Unshare (end_of.Retry (Moved (snapshot_taken t.invalidations.snapshot) v))) refl refl is
+    neither (v == snapshot_taken t.invalidations.snapshot) (fault.Walk false)
+    (fault.Unshare (end_of.Retry (Moved (snapshot_taken t.invalidations.snapshot) v))) refl refl is
 
 claims_not : (next : ClaimNext) → ends_installed (after_claim next) ≡ true → ⊥
 claims_not claims.Goes is = cc is
 claims_not _ is = cc is
 
-walk_sees : (k : SpteKind) (z : Sizes) (gfn : ℕ) (write : Bool) (t : Topics) (pool : ℕ → ℕ) (v : ℕ) → pool (pool_index (table_page t.walk) (entry_index gfn t.walk.level)) ≡ v
-    → SeesEntry (next_of.Goes (walk_next k z gfn write t.walk v)) pool gfn (record t { walk = gone_down (linked_page k) t.walk (entry_index gfn t.walk.level) v })
+walk_sees : (k : SpteKind) (z : Sizes) (gfn : ℕ) (write : Bool) (t : Topics) (pool : ℕ → ℕ) (v : ℕ)
+    → pool (pool_index (table_page t.walk) (entry_index gfn t.walk.level)) ≡ v
+    → SeesEntry (next_of.Goes (walk_next k z gfn write t.walk v)) pool gfn
+    (record t { walk = gone_down (linked_page k) t.walk (entry_index gfn t.walk.level) v })
 walk_sees (entry_kind.Table page) z gfn write t pool v here = λ is. absurd (cc is)
 walk_sees _ z gfn write t pool v here = λ is. here
 
-leaf_sees : (won : Bool) (z : Sizes) (gfn v : ℕ) (t : Topics) (pool : ℕ → ℕ) (cause : FaultEnd) → has_installed cause ≡ false → t.walk.level ≡ 1 → v ≡ pool (pool_index (table_page t.walk) (entry_index gfn t.walk.level))
+leaf_sees : (won : Bool) (z : Sizes) (gfn v : ℕ) (t : Topics) (pool : ℕ → ℕ) (cause : FaultEnd) → has_installed cause ≡ false → t.walk.level ≡ 1
+    → v ≡ pool (pool_index (table_page t.walk) (entry_index gfn t.walk.level))
     → SeesEntry (next_of.Goes (if won then fault.Unshare end_of.Installed else fault.Unshare cause))
-    (upd pool (pool_index (table_page t.walk) (entry_index gfn t.walk.level)) (if won then leaf_written t else v)) gfn (exchanged won (entry_index gfn t.walk.level) (leaf_written t) t v)
+    (upd pool (pool_index (table_page t.walk) (entry_index gfn t.walk.level)) (if won then leaf_written t else v)) gfn
+    (exchanged won (entry_index gfn t.walk.level) (leaf_written t) t v)
 leaf_sees false z gfn v t pool cause not_ low is = λ ends. absurd (cc (not_, ends))
 leaf_sees true z gfn v t pool cause not_ low is =
-    subst (λ (k : SpteKind). SeesEntry (next_of.Goes (fault.Unshare end_of.Installed)) behind gfn (record t { walk = gone_down (linked_page k) t.walk (entry_index gfn t.walk.level) (leaf_written t); owned = unless_linked (linked_page k) t.owned }))
+    subst (λ (k : SpteKind). SeesEntry (next_of.Goes (fault.Unshare end_of.Installed)) behind gfn (record t {
+      walk = gone_down (linked_page k) t.walk (entry_index gfn t.walk.level) (leaf_written t);
+      owned = unless_linked (linked_page k) t.owned;
+    }))
     (sym stays) (λ ends. upd_same pool (pool_index (table_page t.walk) (entry_index gfn t.walk.level)) (leaf_written t))
   where
     behind : ℕ → ℕ
@@ -90,10 +101,13 @@ leaf_sees true z gfn v t pool cause not_ low is =
 
     stays : kind_of t.walk.level (leaf_written t) ≡ entry_kind.Leaf
     stays = ap (λ l. kind_of l (leaf_written t)) low
-        ∙ kind_of_leaf 1 (host_frame (word_looked t.host)) (may_write t.search.slot (word_looked t.host)) (host_allows_write (word_looked t.host)) (may_write t.search.slot (word_looked t.host)) (omega arith) (omega arith)
+        ∙ kind_of_leaf 1 (host_frame (word_looked t.host)) (may_write t.search.slot (word_looked t.host)) (host_allows_write (word_looked t.host))
+        (may_write t.search.slot (word_looked t.host)) (omega arith) (omega arith)
 
-pub fault_sees : (p : FaultPlace) (z : Sizes) (own gfn note : ℕ) (write : Bool) (t : Topics) (words : Area → ℕ → ℕ) → ends_installed p ≡ false → FaultKnows p z gfn write t
-    → SeesEntry (fault_next p z gfn write t (answer_in (part_task (fault_part p gfn t) own t note) words)) (words_after (part_task (fault_part p gfn t) own t note) words area.Pool) gfn
+pub fault_sees : (p : FaultPlace) (z : Sizes) (own gfn note : ℕ) (write : Bool) (t : Topics) (words : Area → ℕ → ℕ) → ends_installed p ≡ false
+    → FaultKnows p z gfn write t
+    → SeesEntry (fault_next p z gfn write t (answer_in (part_task (fault_part p gfn t) own t note) words))
+    (words_after (part_task (fault_part p gfn t) own t note) words area.Pool) gfn
     (part_topics (fault_part p gfn t) t (answer_in (part_task (fault_part p gfn t) own t note) words))
 fault_sees (fault.Find true) z own gfn note write t words not_ K =
     let v : ℕ = answer_in (part_task part.Slot own t note) words in
@@ -102,13 +116,16 @@ fault_sees (fault.Find false) z own gfn note write t words not_ K = λ is. absur
 fault_sees fault.Host z own gfn note write t words not_ K =
     let v : ℕ = answer_in (part_task (part.Host (page_of t.search.slot gfn)) own t note) words in
     λ is. absurd (neither (write && not (host_allows_write v)) (fault.End end_of.HostFault) fault.Share refl refl is)
-fault_sees fault.Share z own gfn note write t words not_ K = λ is. absurd (shares_not (share_next t.hold (answer_in (part_task (share_part t.hold) own t note) words)) is)
-fault_sees (fault.Check at_) z own gfn note write t words not_ K = λ is. absurd (checks_not at_ gfn t (answer_in (part_task (check_part at_) own t note) words) is)
+fault_sees fault.Share z own gfn note write t words not_ K =
+    λ is. absurd (shares_not (share_next t.hold (answer_in (part_task (share_part t.hold) own t note) words)) is)
+fault_sees (fault.Check at_) z own gfn note write t words not_ K =
+    λ is. absurd (checks_not at_ gfn t (answer_in (part_task (check_part at_) own t note) words) is)
 fault_sees (fault.Walk true) z own gfn note write t words not_ K =
     let v : ℕ = words area.Pool (pool_index (table_page t.walk) (entry_index gfn t.walk.level)) in
     walk_sees (kind_of t.walk.level v) z gfn write t (words area.Pool) v refl
 fault_sees (fault.Walk false) z own gfn note write t words not_ K = λ is. absurd (cc is)
-fault_sees (fault.Claim begun) z own gfn note write t words not_ K = λ is. absurd (claims_not (claim_next begun z t.claim (answer_in (part_task (claim_part begun t.claim) own t note) words)) is)
+fault_sees (fault.Claim begun) z own gfn note write t words not_ K =
+    λ is. absurd (claims_not (claim_next begun z t.claim (answer_in (part_task (claim_part begun t.claim) own t note) words)) is)
 fault_sees fault.Fill z own gfn note write t words not_ K = λ is. absurd (neither (nat_lt (words_filled t.owned + 1) 512) fault.Fill fault.Role refl refl is)
 fault_sees fault.Link z own gfn note write t words not_ K =
     let v : ℕ = words area.Pool (pool_index (table_page t.walk) (entry_index gfn t.walk.level)) in

@@ -24,8 +24,9 @@ use Rattle.mmu_core.proofs.lines.ByStep.{step_needs}
 use Rattle.mmu_core.proofs.lines.FaultFalls.{flags_fall}
 use Rattle.mmu_core.proofs.lines.FaultKnown.{above_lowest}
 use Rattle.mmu_core.proofs.lines.HostPlaces.{look_some}
-use Rattle.mmu_core.proofs.lines.InvalidateKnown.{may_search_alone, not_either}
-use Rattle.part_steps.specs.ControlTopics.{at_root, at_set, has_to_flush}
+use Rattle.mmu_core.proofs.lines.SearchKnown.{may_search_alone, not_either}
+use Rattle.part_steps.specs.ControlTopics.{at_root, at_set}
+use Rattle.part_steps.specs.ControlBits.{has_to_flush}
 use Rattle.part_steps.specs.PartTasks.{own_index, part_task}
 use Rattle.part_steps.specs.StayTopics.{may_search, may_walk}
 use Rattle.spte_words.specs.Flags.{flags_live}

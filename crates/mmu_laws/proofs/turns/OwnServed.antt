@@ -90,17 +90,20 @@ walk_installed X _ again _ still = λ is. absurd (cc is)
 -- a step of an access: from such a place, or one that has just seen the entry
 module _ (X : Type 0) (h : Held) (gfn word : ℕ) (op : Op) (words : Area → ℕ → ℕ) (vcpu : IsVcpu h.state.actor) (small : gfn < 2 ^ 36) (R : PartRests h) where
   fault_installed : (p : FaultPlace) (b : Bool) → ends_installed p ≡ b → (ends_installed p ≡ true → X) → FaultKnows p h.state.sizes gfn (is_write op) h.topics
-      → Makes h.state.sizes (words_after (access_task (Fault p) h gfn word op) words area.Pool) gfn (is_write op) (part_topics (fault_part p gfn h.topics) h.topics (answer_in (access_task (Fault p) h gfn word op) words)) X
+      → Makes h.state.sizes (words_after (access_task (Fault p) h gfn word op) words area.Pool) gfn (is_write op)
+      (part_topics (fault_part p gfn h.topics) h.topics (answer_in (access_task (Fault p) h gfn word op) words)) X
       → WhereInstalled (access_outcome (Fault p) h gfn op (answer_in (access_task (Fault p) h gfn word op) words)) X
   fault_installed p true is still K make = always X (access_outcome (Fault p) h gfn op (answer_in (access_task (Fault p) h gfn word op) words)) (still is)
   fault_installed p false is still K make =
       let v : ℕ = answer_in (access_task (Fault p) h gfn word op) words in
-      behind_fault_installed X (fault_next p h.state.sizes gfn (is_write op) h.topics v) h.state.sizes gfn (is_write op) (words_after (access_task (Fault p) h gfn word op) words area.Pool) (part_topics (fault_part p gfn h.topics) h.topics v)
+      behind_fault_installed X (fault_next p h.state.sizes gfn (is_write op) h.topics v) h.state.sizes gfn (is_write op)
+      (words_after (access_task (Fault p) h gfn word op) words area.Pool) (part_topics (fault_part p gfn h.topics) h.topics v)
       (fault_sees p h.state.sizes (own_index h) gfn (access_note (Fault p)) (is_write op) h.topics words is K)
       (fault_known p h gfn v (is_write op) small R K (parts_answer (fault_part p gfn h.topics) (own_index h) h.topics (access_note (Fault p)) words)) make
 
   access_installed : (p : AccessPlace) → (is_installed p ≡ true → X) → AccessKnows p gfn (is_write op) h
-      → Makes h.state.sizes (words_after (access_task p h gfn word op) words area.Pool) gfn (is_write op) (topics_at (place.Access p) (Access gfn word op) h words) X
+      → Makes h.state.sizes (words_after (access_task p h gfn word op) words area.Pool) gfn (is_write op)
+      (topics_at (place.Access p) (Access gfn word op) h words) X
       → WhereInstalled (access_outcome p h gfn op (answer_in (access_task p h gfn word op) words)) X
   access_installed (Pause again) still K make = pause_installed X (first_usable gfn (is_write op) h.cached.items) again still
   access_installed (Walk again) still K make =
@@ -114,7 +117,8 @@ module _ (X : Type 0) (h : Held) (gfn word : ℕ) (op : Op) (words : Area → �
       let same : topics_at (place.Access (Fault p)) (Access gfn word op) h words ≡ part_topics (fault_part p gfn h.topics) h.topics v =
       task_topics (access_part (Fault p) gfn h.topics) h (access_note (Fault p)) op (content_index (map_of h.state.sizes) (frame_used gfn h.state) word) v
       (access_needs (Fault p) h gfn (is_write op) vcpu small R K) in
-      fault_installed p (ends_installed p) refl still K (subst (λ (t : Topics). Makes h.state.sizes (words_after (access_task (Fault p) h gfn word op) words area.Pool) gfn (is_write op) t X) same make)
+      fault_installed p (ends_installed p) refl still K (subst
+      (λ (t : Topics). Makes h.state.sizes (words_after (access_task (Fault p) h gfn word op) words area.Pool) gfn (is_write op) t X) same make)
   access_installed _ still K make = still
 
 -- Where a line's access stands there, this is so of its guest frame, and of whether it is a write.

@@ -8,7 +8,7 @@ use Rattle.core_views.specs.Held.{Held}
 use Rattle.core_views.specs.Sizes.{actors_of}
 use Rattle.spte_words.specs.declared.area.Area.TheVariants as area
 use Rattle.spte_words.specs.Areas.{place}
-use Rattle.part_steps.specs.ControlTopics.{has_to_flush, in_section}
+use Rattle.part_steps.specs.ControlBits.{has_to_flush, in_section}
 use Rattle.part_steps.specs.Tasks.{map_of}
 use Rattle.mmu_core.specs.machine.Enabled.{mmu}
 use Rattle.mmu_core.specs.machine.Machine.{Step, World, found, hand_in}

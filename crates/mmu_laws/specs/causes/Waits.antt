@@ -23,7 +23,7 @@ use Rattle.part_steps.specs.PartTasks.{part_kind}
 use Rattle.part_steps.specs.PartSteps.{PartNeeds}
 use Rattle.part_steps.specs.Tasks.{map_of}
 use Rattle.part_steps.specs.PageTopics.{tried_bit}
-use Rattle.part_steps.specs.ControlTopics.{has_writer}
+use Rattle.part_steps.specs.ControlBits.{has_writer}
 use Rattle.mmu_laws.specs.causes.Causes.{Finds, HasMade, WasChanged}
 use Rattle.mmu_core.specs.machine.Enabled.{mmu}
 use Rattle.mmu_core.specs.invariant.Laws.{IsSound}

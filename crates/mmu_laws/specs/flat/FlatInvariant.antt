@@ -22,7 +22,6 @@ use Rattle.core_views.specs.declared.trace.Line.{Line}
 use Rattle.core_views.specs.declared.trace.Op.{Op}
 use Rattle.core_views.specs.Flat.{Facts, Flat, LineUnderWay, Notes, Fresh, HasAccessed, HasChanged, Idle, HasChangedHost}
 use Rattle.core_views.specs.Held.{Held}
-use Rattle.core_views.specs.Host.{HostMap, own_frames}
 use Rattle.core_views.specs.Lawful.{SawForbidden, SawNoPage, SawPage}
 use Rattle.core_views.specs.Sizes.{actors_of}
 use Rattle.core_views.specs.Slots.{Slots, contains, page_behind}

@@ -14,7 +14,9 @@ use Rattle.mmu_core.specs.machine.NextSteps.{HasLineThatFits, next_step}
 
 -- Every machine has a start, with all lines that a trace may have.
 abbrev pub EveryMachineStarts : Type 0
-EveryMachineStarts = (z : Sizes) (lines : List Line) → AreSizes z → All (λ line. IsCommandFor z line.actor line.command) lines → IsDistinct (λ i j. i == j) (slot_ids lines) → length lines ≤ 1000000 → (w : World Held) × IsStart z lines w
+EveryMachineStarts =
+    (z : Sizes) (lines : List Line) → AreSizes z → All (λ line. IsCommandFor z line.actor line.command) lines
+    → IsDistinct (λ i j. i == j) (slot_ids lines) → length lines ≤ 1000000 → (w : World Held) × IsStart z lines w
 
 -- Behind every list of steps each actor that has a line without an answer may make its next step: none has to wait for another.
 abbrev pub EachMayStep : Type 0

@@ -1,4 +1,5 @@
--- Which step tells which event: what a line's step tells of pause, slots, host and memory is of the word that the step is on, and of what it finds and leaves there.
+-- Which step tells which event: what a line's step tells of pause, slots, host and memory is of the word that the step is on, and of what it finds
+-- and leaves there.
 use Rattle.std.specs.Prelude.{◌≡◌, ℕ, All}
 use Rattle.core_views.specs.declared.event.Event.{Event}
 use Rattle.core_views.specs.declared.event.EventKind.{EventKind}

@@ -3,7 +3,8 @@ use Rattle.std.specs.Prelude.{◌≡◌, List, [], ◌∷◌, ◌++◌, replicat
 use Rattle.core_views.specs.declared.actor.Actor.TheVariants.{Host}
 use Rattle.core_views.specs.declared.answer.Answer.TheVariants.{Done, Reached}
 use Rattle.core_views.specs.declared.event.Event.{Event}
-use Rattle.core_views.specs.declared.event.EventKind.TheVariants.{Accessed, Answered, Begun, HostChanged, LookedAtHost, LookedAtPause, LookedAtSlots, SlotChanged}
+use Rattle.core_views.specs.declared.event.EventKind.TheVariants.{Accessed, Answered, Begun, HostChanged, LookedAtHost, LookedAtPause, LookedAtSlots}
+use Rattle.core_views.specs.declared.event.EventKind.TheVariants.{SlotChanged}
 use Rattle.core_views.specs.declared.trace.Command.TheVariants.{ChangeHost}
 use Rattle.core_views.specs.declared.trace.HostChange.TheVariants.{Allow}
 use Rattle.core_views.specs.declared.trace.Line.{Line}
@@ -39,7 +40,9 @@ abbrev pub order_to_zap : ℕ → List ℕ
 order_to_zap steps = replicate 524 3 ++ replicate 1581 0 ++ replicate 2 0 ++ replicate steps 2
 
 abbrev pub host_order : List ℕ
-host_order = replicate 524 3 ++ replicate 1581 0 ++ replicate 2 0 ++ replicate 20 2 ++ replicate 2 0 ++ replicate 3 2 ++ replicate 21 1 ++ replicate 7 2 ++ replicate 37 1
+host_order =
+    replicate 524 3 ++ replicate 1581 0 ++ replicate 2 0 ++ replicate 20 2 ++ replicate 2 0 ++ replicate 3 2 ++ replicate 21 1 ++ replicate 7 2
+    ++ replicate 37 1
 
 abbrev pub host_events : List Event
 host_events =

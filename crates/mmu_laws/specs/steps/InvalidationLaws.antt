@@ -28,7 +28,8 @@ pub record RaisesSequence (z : Sizes) (w : World Held) (s : Step Kind) : Type 0 
 pub record CountsInvalidation (z : Sizes) (w : World Held) (s : Step Kind) : Type 0 where
   pub sets : kind_named s.kind.code ≡ kind.Set
   pub alone : (held_by w s).hold ≡ Exclusive
-  pub counted : word_in z (effect mmu w s) area.Count 0 ≡ (if (held_by w s).invalidations.opened then word_in z w area.Count 0 - 1 else word_in z w area.Count 0 + 1)
+  pub counted : word_in z (effect mmu w s) area.Count 0
+      ≡ (if (held_by w s).invalidations.opened then word_in z w area.Count 0 - 1 else word_in z w area.Count 0 + 1)
 
 -- Each other step leaves the number, and the count.
 abbrev pub SequenceIsRaised : Type 0

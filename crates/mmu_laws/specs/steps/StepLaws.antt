@@ -21,7 +21,7 @@ use Rattle.mmu_core.specs.lines.ScanPlaces.{ends_with_claim}
 use Rattle.mmu_core.specs.machine.Enabled.{Enabled}
 use Rattle.mmu_core.specs.machine.Steps.{has_line, next, place_at}
 use Rattle.part_steps.specs.Tasks.{map_of}
-use Rattle.part_steps.specs.ControlTopics.{map_ends}
+use Rattle.part_steps.specs.ControlBits.{map_ends}
 use Rattle.mmu_core.specs.machine.Turns.{outcome_of}
 
 -- The words that are loaded as control words: those of the machine's control, and those of the pool's map.

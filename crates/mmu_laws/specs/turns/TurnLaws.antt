@@ -32,7 +32,8 @@ abbrev pub TurnsComeNearer : Type 0
 TurnsComeNearer =
     (z : Sizes) (lines : List Line) (start : World Held) (ss : List (Step Kind)) (s : Step Kind) → IsStart z lines start → Legal mmu start (ss ++ s ∷ [])
     → has_line (hand_in mmu (run mmu start ss) s.actor) ≡ true
-    → line_waits (stands_at (run mmu start ss) s) (line_of (hand_in mmu (run mmu start ss) s.actor)).command (hand_in mmu (run mmu start ss) s.actor) (answered mmu (run mmu start ss) s.kind) ≡ false
+    → line_waits (stands_at (run mmu start ss) s) (line_of (hand_in mmu (run mmu start ss) s.actor)).command (hand_in mmu (run mmu start ss) s.actor)
+    (answered mmu (run mmu start ss) s.kind) ≡ false
     → begins_anew (stands_at (run mmu start ss) s) ≡ false
     → (p : Place) → outcome_of (hand_in mmu (run mmu start ss) s.actor) (answered mmu (run mmu start ss) s.kind) ≡ Goes p
     → (hand_left (hand_in mmu (effect mmu (run mmu start ss) s) s.actor) < hand_left (hand_in mmu (run mmu start ss) s.actor)) ⊎ StayMisses z start ss s
@@ -74,5 +75,6 @@ abbrev pub DelaysWaitBeginAnewOrMiss : Type 0
 DelaysWaitBeginAnewOrMiss =
     (z : Sizes) (lines : List Line) (start : World Held) (ss : List (Step Kind)) (s : Step Kind) → IsStart z lines start → Legal mmu start (ss ++ s ∷ [])
     → has_line (hand_in mmu (run mmu start ss) s.actor) ≡ true → is_counted (run mmu start ss) s ≡ true
-    → (line_waits (hand_in mmu (run mmu start ss) s.actor).state.place (line_of (hand_in mmu (run mmu start ss) s.actor)).command (hand_in mmu (run mmu start ss) s.actor) (answered mmu (run mmu start ss) s.kind) ≡ true)
+    → (line_waits (hand_in mmu (run mmu start ss) s.actor).state.place (line_of (hand_in mmu (run mmu start ss) s.actor)).command
+    (hand_in mmu (run mmu start ss) s.actor) (answered mmu (run mmu start ss) s.kind) ≡ true)
     ⊎ (begins_anew (hand_in mmu (run mmu start ss) s.actor).state.place ≡ true) ⊎ StayMisses z start ss s

@@ -64,16 +64,49 @@ access_answers =
 answers_are : answers_of (one_by_one example_sizes example first_facts) ≡ slot_answers ++ access_answers
 answers_are = refl
 
-slots_print : lines_text slot_answers ≡ codes "2 vm refused too-large\n3 vm refused bad-id\n4 vm done\n5 v0 mmio\n6 v0 frame 65 value 0\n7 vm refused overlap\n8 vm refused host-overlap\n9 vm done\n"
+slots_print : lines_text slot_answers ≡ codes
+    "2 vm refused too-large\n3 vm refused bad-id\n4 vm done\n5 v0 mmio\n6 v0 frame 65 value 0\n7 vm refused overlap\n8 vm refused host-overlap\n9 vm done\n"
 unfolding line_text
-slots_print = simp (decimal_digit 0 (lit< tt), decimal_digit 2 (lit< tt), decimal_digit 3 (lit< tt), decimal_digit 4 (lit< tt), decimal_digit 5 (lit< tt), decimal_digit 6 (lit< tt), decimal_digit 7 (lit< tt), decimal_digit 8 (lit< tt), decimal_digit 9 (lit< tt), two_digits 65 (lit≤ tt) (lit< tt))
+slots_print = simp (
+  decimal_digit 0 (lit< tt),
+  decimal_digit 2 (lit< tt),
+  decimal_digit 3 (lit< tt),
+  decimal_digit 4 (lit< tt),
+  decimal_digit 5 (lit< tt),
+  decimal_digit 6 (lit< tt),
+  decimal_digit 7 (lit< tt),
+  decimal_digit 8 (lit< tt),
+  decimal_digit 9 (lit< tt),
+  two_digits 65 (lit≤ tt) (lit< tt),
+)
 
 accesses_print : lines_text access_answers ≡ codes "10 v0 frame 1 value 0\n11 v1 frame 1 value 0\n12 v1 frame 1 value 7\n13 v0 frame 1 value 6\n14 v0 frame 1 value 8\n15 v0 frame 0 value 0\n16 v0 frame 2 value 0\n17 v0 frame 66 value 0\n18 v0 mmio\n19 v0 mmio\n"
 unfolding line_text
-accesses_print = simp (decimal_digit 0 (lit< tt), decimal_digit 1 (lit< tt), decimal_digit 2 (lit< tt), decimal_digit 6 (lit< tt), decimal_digit 7 (lit< tt), decimal_digit 8 (lit< tt), two_digits 10 (lit≤ tt) (lit< tt), two_digits 11 (lit≤ tt) (lit< tt), two_digits 12 (lit≤ tt) (lit< tt), two_digits 13 (lit≤ tt) (lit< tt), two_digits 14 (lit≤ tt) (lit< tt), two_digits 15 (lit≤ tt) (lit< tt), two_digits 16 (lit≤ tt) (lit< tt), two_digits 17 (lit≤ tt) (lit< tt), two_digits 18 (lit≤ tt) (lit< tt), two_digits 19 (lit≤ tt) (lit< tt), two_digits 66 (lit≤ tt) (lit< tt))
+accesses_print = simp (
+  decimal_digit 0 (lit< tt),
+  decimal_digit 1 (lit< tt),
+  decimal_digit 2 (lit< tt),
+  decimal_digit 6 (lit< tt),
+  decimal_digit 7 (lit< tt),
+  decimal_digit 8 (lit< tt),
+  two_digits 10 (lit≤ tt) (lit< tt),
+  two_digits 11 (lit≤ tt) (lit< tt),
+  two_digits 12 (lit≤ tt) (lit< tt),
+  two_digits 13 (lit≤ tt) (lit< tt),
+  two_digits 14 (lit≤ tt) (lit< tt),
+  two_digits 15 (lit≤ tt) (lit< tt),
+  two_digits 16 (lit≤ tt) (lit< tt),
+  two_digits 17 (lit≤ tt) (lit< tt),
+  two_digits 18 (lit≤ tt) (lit< tt),
+  two_digits 19 (lit≤ tt) (lit< tt),
+  two_digits 66 (lit≤ tt) (lit< tt),
+)
 
 pub returns-clause-prints : goal.returns-clause-prints
-returns-clause-prints c = ap lines_text answers_are ∙ (lines_text_append slot_answers access_answers ∙ (ap (λ (t : List ℕ). t ++ lines_text access_answers) slots_print ∙ ap (λ (t : List ℕ). codes "2 vm refused too-large\n3 vm refused bad-id\n4 vm done\n5 v0 mmio\n6 v0 frame 65 value 0\n7 vm refused overlap\n8 vm refused host-overlap\n9 vm done\n" ++ t) accesses_print))
+returns-clause-prints c = ap lines_text answers_are
+    ∙ (lines_text_append slot_answers access_answers ∙ (ap (λ (t : List ℕ). t ++ lines_text access_answers) slots_print ∙ ap (λ (t : List ℕ). codes
+    "2 vm refused too-large\n3 vm refused bad-id\n4 vm done\n5 v0 mmio\n6 v0 frame 65 value 0\n7 vm refused overlap\n8 vm refused host-overlap\n9 vm done\n"
+    ++ t) accesses_print))
 
 -- Of the other two the bytes are computed.
 

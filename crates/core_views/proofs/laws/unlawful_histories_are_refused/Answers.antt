@@ -19,7 +19,10 @@ pub returns-clause-starved : goal.returns-clause-starved
 returns-clause-starved c lawful = absurd (cc lawful.1.1.1.1.0.1)
 
 no_page : (slots noted : Slots) (gfn page : ℕ) (op : Op) → page_behind slots gfn op ≡ None → Some slots ≡ Some noted → page_behind noted gfn op ≡ Some page → ⊥
-no_page slots noted gfn page op none is behind = let same : slots ≡ noted = same_Some slots noted is in let other = sym none ∙ ap (λ (xs : Slots). page_behind xs gfn op) same ∙ behind in absurd (cc other)
+no_page slots noted gfn page op none is behind =
+    let same : slots ≡ noted = same_Some slots noted is in
+    let other = sym none ∙ ap (λ (xs : Slots). page_behind xs gfn op) same ∙ behind in
+    absurd (cc other)
 
 pub returns-clause-no_page : goal.returns-clause-no_page
 returns-clause-no_page c lawful = let saw = lawful.1.1.1.1.1.1.1.0.1.1 in no_page _ saw.slots 4 saw.page Read refl saw.noted saw.behind

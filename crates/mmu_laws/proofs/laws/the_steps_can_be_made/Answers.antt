@@ -13,7 +13,8 @@ pub returns-clause-starts : goal.returns-clause-starts
 returns-clause-starts c = a_start
 
 pub returns-clause-goes_on : goal.returns-clause-goes_on
-returns-clause-goes_on c z lines w ss actor start legal there has = may_step z (run mmu w ss) actor (good_run z w ss (start_good z lines w start) legal) there has
+returns-clause-goes_on c z lines w ss actor start legal there has =
+    may_step z (run mmu w ss) actor (good_run z w ss (start_good z lines w start) legal) there has
 
 pub returns-clause-example : goal.returns-clause-example
 returns-clause-example c = example_runs

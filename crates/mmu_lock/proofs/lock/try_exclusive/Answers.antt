@@ -29,7 +29,8 @@ returns-else-word-eq0-clause-tried g c = (
 pub returns-else-word-eq0-clause-alone : goal.returns-else-word-eq0-clause-alone
 returns-else-word-eq0-clause-alone g c =
     let some : c.make_part-word.result ≢ 0 = c.if-word-eq0.false in
-    where_made c.make_part-word.ensures.made (λ w at has others. absurd (some (exclude_free (Some _) (Some _) _ _ _ _ at.has at.world c.requires.may.needs others)))
+    where_made c.make_part-word.ensures.made
+    (λ w at has others. absurd (some (exclude_free (Some _) (Some _) _ _ _ _ at.has at.world c.requires.may.needs others)))
 
 pub returns-then-word-eq0-clause-alone : goal.returns-then-word-eq0-clause-alone
 returns-then-word-eq0-clause-alone g c = where_made c.make_part-word.ensures.made (λ w at has others. refl)

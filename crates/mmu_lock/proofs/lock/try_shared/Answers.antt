@@ -1,5 +1,5 @@
 use Rattle.std.specs.Prelude.{true}
-use Rattle.part_steps.specs.ControlTopics.{has_writer}
+use Rattle.part_steps.specs.ControlBits.{has_writer}
 use Rattle.std.proofs.Common.{Some, ◌≡◌, ℕ, refl, sym, subst, ap, ◌∙◌}
 use Rattle.core_views.specs.declared.topics.Hold.TheVariants.{Owing}
 use Rattle.core_views.specs.declared.topics.Topics.{Topics}

@@ -12,14 +12,17 @@ use Rattle.flat_model.specs.Kept.{GivesLine, facts_of}
 use Rattle.plain_replay.proofs.plain_text.plain_text.Goals as goal
 
 -- A line's answer is printed, and the lines behind it are yet to be run.
-goes_on : (z : Sizes) (line : Line) (rest : List Line) (f g : Facts) (answer : Answer) (before after printed total : List ℕ) → GivesLine z line f g answer → printed ≡ line_text line.number line.actor answer
+goes_on : (z : Sizes) (line : Line) (rest : List Line) (f g : Facts) (answer : Answer) (before after printed total : List ℕ)
+    → GivesLine z line f g answer → printed ≡ line_text line.number line.actor answer
     → after ≡ before ++ printed → before ++ text (one_by_one z (line ∷ rest) f) ≡ total → after ++ text (one_by_one z rest g) ≡ total
 goes_on z line rest f g answer before after printed total gives is more so_far =
     let alone_prints : text (alone z line f) ≡ printed = ap lines_text gives.tells ∙ append-nil (line_text line.number line.actor answer) ∙ sym is in
     let then_ : text (one_by_one z (line ∷ rest) f) ≡ printed ++ text (one_by_one z rest g) =
-    text_append (alone z line f) (one_by_one z rest (facts_after_all (alone z line f) f)) ∙ ap (λ (t : List ℕ). t ++ text (one_by_one z rest (facts_after_all (alone z line f) f))) alone_prints
+    text_append (alone z line f) (one_by_one z rest (facts_after_all (alone z line f) f))
+    ∙ ap (λ (t : List ℕ). t ++ text (one_by_one z rest (facts_after_all (alone z line f) f))) alone_prints
     ∙ ap (λ (h : Facts). printed ++ text (one_by_one z rest h)) (sym gives.leads) in
-    ap (λ (t : List ℕ). t ++ text (one_by_one z rest g)) more ∙ append_assoc before printed (text (one_by_one z rest g)) ∙ ap (λ (t : List ℕ). before ++ t) (sym then_) ∙ so_far
+    ap (λ (t : List ℕ). t ++ text (one_by_one z rest g)) more ∙ append_assoc before printed (text (one_by_one z rest g))
+    ∙ ap (λ (t : List ℕ). before ++ t) (sym then_) ∙ so_far
 
 pub loop-line-preserved : goal.loop-line-preserved
 loop-line-preserved c =
@@ -31,8 +34,11 @@ loop-line-preserved c =
     let front : drop i lines ≡ get_or lines i no_line ∷ drop (i + 1) lines = drop_more lines i no_line c.loop-line-test.true in
     let so_far = ap (λ (ls : List Line). before ++ text (one_by_one z ls facts)) (sym front) ∙ c.loop-line.invariant.so_far in
     record {
-      so_far = subst (λ (sizes : Sizes). string_bytes c.push_str.new.self ++ text (one_by_one sizes (drop (i + 1) lines) (facts_of c.line.new.self)) ≡ text (flat_history c.args.trace.now)) (sym c.in_ok-answer.ensures.sizes)
-          (goes_on z (get_or lines i no_line) (drop (i + 1) lines) facts (facts_of c.line.new.self) c.in_ok-answer.answer before _ (string_bytes c.in_ok-answer_line.field-0) _ c.in_ok-answer.ensures.gives c.in_ok-answer_line.ensures (search rules) so_far);
+      so_far =
+          subst (λ (sizes : Sizes). string_bytes c.push_str.new.self ++ text (one_by_one sizes (drop (i + 1) lines) (facts_of c.line.new.self))
+          ≡ text (flat_history c.args.trace.now)) (sym c.in_ok-answer.ensures.sizes)
+          (goes_on z (get_or lines i no_line) (drop (i + 1) lines) facts (facts_of c.line.new.self) c.in_ok-answer.answer before _
+          (string_bytes c.in_ok-answer_line.field-0) _ c.in_ok-answer.ensures.gives c.in_ok-answer_line.ensures (search rules) so_far);
       same = search rules;
       sizes = search rules;
     }

@@ -1,11 +1,21 @@
 use Rattle.std.proofs.Common.{refl}
 use Rattle.spte_words.specs.Entries.{leaf_word, table_word}
-use Rattle.spte_words.proofs.ReadsEntries.{leaf_fits, table_fits, leaf_can_write, leaf_host_writable, leaf_mmu_writable, leaf_frame, absent_not_frozen, leaf_not_absent, leaf_not_frozen, table_not_absent, table_not_frozen, leaf_not_table, kind_of_leaf, kind_of_table, kind_of_absent, kind_of_frozen, frozen_from_kind, leaf_with_write, leaf_without_write, child_of_leaf}
+use Rattle.spte_words.proofs.ReadsEntries.{leaf_fits, table_fits, leaf_can_write, leaf_host_writable, leaf_mmu_writable, leaf_frame}
+use Rattle.spte_words.proofs.ReadsEntries.{absent_not_frozen, leaf_not_absent, leaf_not_frozen, table_not_absent, table_not_frozen, leaf_not_table}
+use Rattle.spte_words.proofs.ReadsEntries.{kind_of_leaf, kind_of_table, kind_of_absent, kind_of_frozen, frozen_from_kind, leaf_with_write}
+use Rattle.spte_words.proofs.ReadsEntries.{leaf_without_write, child_of_leaf}
 use Rattle.spte_words.proofs.Spans.{span_1, span_above}
 use Rattle.spte_words.proofs.laws.entries_tell_what_they_are.Goals as goal
 
 pub returns-clause-leaves : goal.returns-clause-leaves
-returns-clause-leaves c level frame w hw mw from to small = (kind_of_leaf level frame w hw mw from to, leaf_frame level frame w hw mw small, leaf_can_write level frame w hw mw, leaf_host_writable level frame w hw mw small, leaf_mmu_writable level frame w hw mw small, leaf_fits level frame w hw mw small)
+returns-clause-leaves c level frame w hw mw from to small = (
+  kind_of_leaf level frame w hw mw from to,
+  leaf_frame level frame w hw mw small,
+  leaf_can_write level frame w hw mw,
+  leaf_host_writable level frame w hw mw small,
+  leaf_mmu_writable level frame w hw mw small,
+  leaf_fits level frame w hw mw small,
+)
 
 pub returns-clause-links : goal.returns-clause-links
 returns-clause-links c level page from to small = (kind_of_table level page from small, table_fits page small)
@@ -14,7 +24,14 @@ pub returns-clause-others : goal.returns-clause-others
 returns-clause-others c level = (kind_of_absent level, kind_of_frozen level, frozen_from_kind level)
 
 pub returns-clause-differ : goal.returns-clause-differ
-returns-clause-differ c level frame page w hw mw = (absent_not_frozen, leaf_not_absent level frame w hw mw, leaf_not_frozen level frame w hw mw, table_not_absent page, table_not_frozen page, leaf_not_table level frame page w hw mw)
+returns-clause-differ c level frame page w hw mw = (
+  absent_not_frozen,
+  leaf_not_absent level frame w hw mw,
+  leaf_not_frozen level frame w hw mw,
+  table_not_absent page,
+  table_not_frozen page,
+  leaf_not_table level frame page w hw mw,
+)
 
 pub returns-clause-write : goal.returns-clause-write
 returns-clause-write c level frame w hw mw = (leaf_with_write level frame w hw mw, leaf_without_write level frame w hw mw)

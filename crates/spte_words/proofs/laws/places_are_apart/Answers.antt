@@ -17,7 +17,8 @@ pub returns-clause-fit : goal.returns-clause-fit
 returns-clause-fit c = total_fits
 
 pub returns-clause-content : goal.returns-clause-content
-returns-clause-content c m frame other word second in_words second_in = (λ in_frames. content_within m frame word in_frames in_words, same_content m frame other word second in_words second_in)
+returns-clause-content c m frame other word second in_words second_in =
+    (λ in_frames. content_within m frame word in_frames in_words, same_content m frame other word second in_words second_in)
 
 pub returns-clause-pool : goal.returns-clause-pool
 returns-clause-pool c m page other i j i_in j_in = (λ in_pool. pool_within m page i in_pool i_in, same_pool_word page other i j i_in j_in)

@@ -23,24 +23,34 @@ returns-in_err-found-clause-read c =
     let p = err_from_is_err_and c.from_residual.result c.from_residual.ensures.1 in
     let f = c.first_line-ended.ensures in
     rw (p.1, p.2) (stops c.args.header.now c.loop-rest.body c.loop-rest.number _ c.in_err-found.field-0.0 _ _ _
-    (unrolled c.args.header.now c.loop-rest.number c.loop-rest.at c.taken-at.result (seen_of c.loop-rest.body.before) c.loop-rest.rest.now c.first_line-ended.result.0.now c.first_line-ended.result.2.now c.first_line-ended.result.1 (grind (arith, common_steps)) f.parts f.ended f.length c.taken-at.ensures)
+    (unrolled c.args.header.now c.loop-rest.number c.loop-rest.at c.taken-at.result (seen_of c.loop-rest.body.before) c.loop-rest.rest.now
+    c.first_line-ended.result.0.now c.first_line-ended.result.2.now c.first_line-ended.result.1 (grind (arith, common_steps)) f.parts f.ended f.length
+    c.taken-at.ensures)
     c.in_err-found.ensures.read c.loop-rest.invariant.so_far)
 
 pub loop-rest-preserved : goal.loop-rest-preserved
 loop-rest-preserved c =
     let f = c.first_line-ended.ensures in
-    let m = moves c.taken-at.result c.loop-rest.rest.now c.first_line-ended.result.0.now c.first_line-ended.result.2.now c.first_line-ended.result.1 (grind (arith, common_steps)) f.ended f.length c.taken-at.ensures in
+    let m =
+    moves c.taken-at.result c.loop-rest.rest.now c.first_line-ended.result.0.now c.first_line-ended.result.2.now c.first_line-ended.result.1
+    (grind (arith, common_steps)) f.ended f.length c.taken-at.ensures in
     let longer = one_line c.loop-rest.body c.put.new.self c.loop-rest.number c.in_ok-found.found c.in_ok-put.ensures in
     record {
       so_far = goes_on c.args.header.now c.loop-rest.body c.put.new.self c.loop-rest.number _ c.in_ok-found.found _ _ _
-          (unrolled c.args.header.now c.loop-rest.number c.loop-rest.at c.taken-at.result (seen_of c.loop-rest.body.before) c.loop-rest.rest.now c.first_line-ended.result.0.now c.first_line-ended.result.2.now c.first_line-ended.result.1 (grind (arith, common_steps)) f.parts f.ended f.length c.taken-at.ensures)
+          (unrolled c.args.header.now c.loop-rest.number c.loop-rest.at c.taken-at.result (seen_of c.loop-rest.body.before) c.loop-rest.rest.now
+          c.first_line-ended.result.0.now c.first_line-ended.result.2.now c.first_line-ended.result.1 (grind (arith, common_steps)) f.parts f.ended
+          f.length c.taken-at.ensures)
           (line_first c.args.header.now (seen_of c.loop-rest.body.before) _) c.in_ok-found.ensures.read c.in_ok-put.ensures c.loop-rest.invariant.so_far;
       room = omega arith;
       small = c.in_ok-found.ensures.small;
-      allowed = all_read c.args.header.now c.loop-rest.body c.put.new.self c.loop-rest.number c.in_ok-found.found c.loop-rest.invariant.allowed c.in_ok-found.ensures.allowed c.in_ok-put.ensures;
+      allowed =
+          all_read c.args.header.now c.loop-rest.body c.put.new.self c.loop-rest.number c.in_ok-found.found c.loop-rest.invariant.allowed
+          c.in_ok-found.ensures.allowed c.in_ok-put.ensures;
       counted = omega arith;
       few = omega (arith, m, longer, c.loop-rest.invariant.few);
     }
 
 pub returns-clause-read : goal.returns-clause-read
-returns-clause-read c = is_done c.args.header.now c.loop-rest.body c.loop-rest.number c.loop-rest.at (seen_of c.loop-rest.body.before) c.loop-rest.rest.now _ (grind (arith, common_steps)) c.loop-rest.invariant.so_far
+returns-clause-read c =
+    is_done c.args.header.now c.loop-rest.body c.loop-rest.number c.loop-rest.at (seen_of c.loop-rest.body.before) c.loop-rest.rest.now _
+    (grind (arith, common_steps)) c.loop-rest.invariant.so_far

@@ -4,10 +4,14 @@ use Rattle.trace_reader.proofs.Values.{add_over, ends}
 use Rattle.trace_reader.proofs.number.value_of.Goals as goal
 
 pub returns-in_err-checked_mul : goal.returns-in_err-checked_mul
-returns-in_err-checked_mul c = rw c.from_residual.ensures (add_over c.args.radix c.loop-rest.total c.loop-rest.rest.now c.args.digits.now c.requires.radix c.loop-rest.invariant.0 (omega arith) (grind (arith, common_steps)))
+returns-in_err-checked_mul c =
+    rw c.from_residual.ensures (add_over c.args.radix c.loop-rest.total c.loop-rest.rest.now c.args.digits.now c.requires.radix
+    c.loop-rest.invariant.0 (omega arith) (grind (arith, common_steps)))
 
 pub returns-in_err-total : goal.returns-in_err-total
-returns-in_err-total c = rw c.from_residual-in_err-total.ensures (add_over c.args.radix c.loop-rest.total c.loop-rest.rest.now c.args.digits.now c.requires.radix c.loop-rest.invariant.0 (omega arith) (grind (arith, common_steps)))
+returns-in_err-total c =
+    rw c.from_residual-in_err-total.ensures (add_over c.args.radix c.loop-rest.total c.loop-rest.rest.now c.args.digits.now c.requires.radix
+    c.loop-rest.invariant.0 (omega arith) (grind (arith, common_steps)))
 
 pub returns : goal.returns
 returns c = ends c.args.radix c.loop-rest.total c.loop-rest.rest.now c.args.digits.now c.loop-rest.invariant.0 c.in_default.len_below c.loop-rest.invariant.2

@@ -25,5 +25,6 @@ returns c =
     let r = c.in_ok-runs.ensures in
     total c.args.trace.now.header c.args.trace.now.lines _ _ _
     (wanted (2 ^ 9) (2 ^ 27) _ c.args.trace.now.header.pages _ _ _ _ (lit≤ tt) c.as_slice.ensures c.deref.ensures.value r.runs c.tables-upper.ensures r.same)
-    (wanted (2 ^ 18) (2 ^ 18) _ c.args.trace.now.header.pages _ _ _ _ (lit≤ tt) c.as_slice.ensures c.deref-2.ensures.value r.runs c.tables-middle.ensures r.same)
+    (wanted (2 ^ 18) (2 ^ 18) _ c.args.trace.now.header.pages _ _ _ _ (lit≤ tt) c.as_slice.ensures c.deref-2.ensures.value r.runs
+    c.tables-middle.ensures r.same)
     (wanted (2 ^ 27) (2 ^ 9) _ c.args.trace.now.header.pages _ _ _ _ (lit≤ tt) c.as_slice.ensures c.deref-3.ensures.value r.runs c.tables-lower.ensures r.same)

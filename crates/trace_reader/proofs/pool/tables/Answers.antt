@@ -10,13 +10,21 @@ loop-run-preserved c =
     elim c.if-first-end.branch [
       | then-first-end w ↦ record {
         low = omega arith;
-        counted = λ n ends. taken n c.args.span c.loop-run.run-index _ c.args.runs.now c.loop-run.count c.loop-run.next c.max-first.result c.if-first-end.count c.if-first-end.next _ c.requires.span c.loop-run-test.true c.requires.runs c.requires.rising ends f w.if-first-end.true w.count-is w.next-is (i.counted n ends);
+        counted =
+            λ n ends. taken n c.args.span c.loop-run.run-index _ c.args.runs.now c.loop-run.count c.loop-run.next c.max-first.result
+            c.if-first-end.count c.if-first-end.next _ c.requires.span c.loop-run-test.true c.requires.runs c.requires.rising ends f
+            w.if-first-end.true w.count-is w.next-is (i.counted n ends);
       }
       | else-first-end w ↦ record {
         low = omega (arith, i.low, w.count-is, w.next-is);
-        counted = λ n ends. passed n c.args.span c.loop-run.run-index _ c.args.runs.now c.loop-run.count c.loop-run.next c.max-first.result c.if-first-end.count c.if-first-end.next _ c.requires.span c.loop-run-test.true c.requires.runs c.requires.rising ends f w.if-first-end.false w.count-is w.next-is (i.counted n ends);
+        counted =
+            λ n ends. passed n c.args.span c.loop-run.run-index _ c.args.runs.now c.loop-run.count c.loop-run.next c.max-first.result
+            c.if-first-end.count c.if-first-end.next _ c.requires.span c.loop-run-test.true c.requires.runs c.requires.rising ends f
+            w.if-first-end.false w.count-is w.next-is (i.counted n ends);
       }
     ]
 
 pub returns : goal.returns
-returns c = λ n ends. sym (omega (arith, c.loop-run.invariant.counted n ends, finish n c.args.span c.loop-run.next c.loop-run.run-index c.args.runs.now c.loop-run-test.false))
+returns c =
+    λ n ends. sym (omega
+    (arith, c.loop-run.invariant.counted n ends, finish n c.args.span c.loop-run.next c.loop-run.run-index c.args.runs.now c.loop-run-test.false))

@@ -7,5 +7,6 @@ use Rattle.trace_reader.proofs.pool.tables.Given as goal
 abbrev pub invariant-loop-run : goal.invariant-loop-run
 invariant-loop-run l = record {
   low : l.count ≤ l.next;
-  counted : (n : ℕ) → EndBy (n * l.span) l.runs → l.count + count_below n (any_later l.span (drop l.run-index l.runs) l.next) ≡ count_below n (any_covers l.span l.runs);
+  counted : (n : ℕ) → EndBy (n * l.span) l.runs
+      → l.count + count_below n (any_later l.span (drop l.run-index l.runs) l.next) ≡ count_below n (any_covers l.span l.runs);
 }

@@ -12,9 +12,14 @@ pub returns-in_err-how-clause-writes : goal.returns-in_err-how-clause-writes
 returns-in_err-how-clause-writes g c =
     let p = err_from_is_err_and c.from_residual-in_err-how.result c.from_residual-in_err-how.ensures.1 in
     let w = world_in c.replay_on.new.machine in
-    rw p.1 (w, replay_refused c.args.trace.now w (g.K.Sink.written c.args.out.now) (g.K.Sink.written c.replay_on.new.out) c.replay_on.result c.in_err-how.ensures.refused c.replay_on.ensures.writes)
+    rw p.1 (
+      w,
+      replay_refused c.args.trace.now w (g.K.Sink.written c.args.out.now) (g.K.Sink.written c.replay_on.new.out) c.replay_on.result
+          c.in_err-how.ensures.refused c.replay_on.ensures.writes,
+    )
 
 pub returns-clause-writes : goal.returns-clause-writes
 returns-clause-writes g c =
     rw (c.into_closing.ensures.words, c.into_closing.ensures.hands)
-    (replays_by c.args.trace.now (world_in c.replay_on.new.machine) (g.K.Sink.written c.args.out.now) (g.K.Sink.written c.replay_on.new.out) c.replay_on.result c.in_ok-how.how c.in_ok-how.ensures.ran c.replay_on.ensures.writes)
+    (replays_by c.args.trace.now (world_in c.replay_on.new.machine) (g.K.Sink.written c.args.out.now) (g.K.Sink.written c.replay_on.new.out)
+    c.replay_on.result c.in_ok-how.how c.in_ok-how.ensures.ran c.replay_on.ensures.writes)

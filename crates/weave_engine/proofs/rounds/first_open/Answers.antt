@@ -5,7 +5,7 @@ use Rattle.core_views.specs.Sizes.{actors_of}
 use Rattle.mmu_core.specs.machine.Enabled.{mmu}
 use Rattle.mmu_core.specs.machine.Machine.{hand_in}
 use Rattle.step_seats.specs.Machines.{world_in}
-use Rattle.weave_engine.specs.Weaves.{earlier_of}
+use Rattle.weave_engine.specs.FirstOpen.{earlier_of}
 use Rattle.weave_engine.proofs.FirstLines.{FirstBefore, looks_at, open_next}
 use Rattle.weave_engine.proofs.rounds.first_open.Goals as goal
 

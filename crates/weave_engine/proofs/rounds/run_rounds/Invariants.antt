@@ -6,7 +6,8 @@ use Rattle.weave_engine.proofs.rounds.run_rounds.Given as goal
 
 abbrev pub invariant-loop-passed : goal.invariant-loop-passed
 invariant-loop-passed g l = record {
-  so_far : SoFar (InRounds l.fn.machine.sizes l.index l.passed l.made) (world_in l.fn.machine) (world_in l.machine) (g.K.Sink.written l.fn.out) (g.K.Sink.written l.out) (string_bytes l.fn.waiting) (string_bytes l.waiting);
+  so_far : SoFar (InRounds l.fn.machine.sizes l.index l.passed l.made) (world_in l.fn.machine) (world_in l.machine) (g.K.Sink.written l.fn.out)
+      (g.K.Sink.written l.out) (string_bytes l.fn.waiting) (string_bytes l.waiting);
   within : l.passed ≤ l.count;
   few : l.made ≤ l.fn.limit;
   sizes : l.machine.sizes ≡ l.fn.machine.sizes;

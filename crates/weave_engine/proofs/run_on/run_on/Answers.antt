@@ -33,7 +33,9 @@ alone_at m i A = record {
   world = world_in m;
   is = refl;
   has = sym (core_at m.words m.hands i);
-  alone = subst (λ (z : Sizes). LineAlone z (world_in m) i) (sym (ap (λ (h : Held). h.state.sizes) (core_at m.words m.hands i) ∙ (A.sound.holds.lines i A.there).sizes)) A;
+  alone =
+      subst (λ (z : Sizes). LineAlone z (world_in m) i)
+      (sym (ap (λ (h : Held). h.state.sizes) (core_at m.words m.hands i) ∙ (A.sound.holds.lines i A.there).sizes)) A;
 }
 
 pub run_line-requires-clause-alone : goal.run_line-requires-clause-alone
@@ -52,7 +54,10 @@ returns-clause-same c =
     let e = c.run_line.ensures in
     let n = c.run_line.new.s in
     let seat = c.as_actor-seat.result in
-    let rooms : length (other_rooms n.machine.now.hands n.index) ≡ length (other_rooms seat.machine.now.hands seat.index) = ap (λ (f : Frame). length f.rooms) e.same.1 in
+    let rooms : length (other_rooms n.machine.now.hands n.index) ≡ length (other_rooms seat.machine.now.hands seat.index) =
+    ap (λ (f : Frame). length f.rooms) e.same.1 in
     let sizes = ap (λ (f : Frame). f.sizes) e.same.1 ∙ ap (λ (m : Machine). m.sizes) i.machine in
-    let count = sym (rooms_of_hands n.machine.now.hands n.index) ∙ rooms ∙ rooms_of_hands seat.machine.now.hands seat.index ∙ ap (λ (m : Machine). length m.hands) i.machine in
+    let count =
+    sym (rooms_of_hands n.machine.now.hands n.index) ∙ rooms ∙ rooms_of_hands seat.machine.now.hands seat.index
+    ∙ ap (λ (m : Machine). length m.hands) i.machine in
     (search (rules, sizes), search (rules, count))

@@ -6,7 +6,8 @@ use Rattle.weave_engine.proofs.schedule.run_turns.Given as goal
 
 abbrev pub invariant-loop-made : goal.invariant-loop-made
 invariant-loop-made g l = record {
-  so_far : SoFar (TurnsMade l.fn.index l._made) (world_in l.fn.machine) (world_in l.machine) (g.K.Sink.written l.fn.out) (g.K.Sink.written l.out) (string_bytes l.fn.waiting) (string_bytes l.waiting);
+  so_far : SoFar (TurnsMade l.fn.index l._made) (world_in l.fn.machine) (world_in l.machine) (g.K.Sink.written l.fn.out) (g.K.Sink.written l.out)
+      (string_bytes l.fn.waiting) (string_bytes l.waiting);
   within : l._made ≤ l.count;
   sizes : l.machine.sizes ≡ l.fn.machine.sizes;
   hands : length l.machine.hands ≡ length l.fn.machine.hands;

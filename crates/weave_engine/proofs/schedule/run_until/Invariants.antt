@@ -7,7 +7,8 @@ use Rattle.weave_engine.proofs.schedule.run_until.Given as goal
 
 abbrev pub invariant-loop : goal.invariant-loop
 invariant-loop g l = record {
-  so_far : SoFar (TurnsGoOn l.until l.fn.index) (world_in l.fn.machine) (world_in l.machine) (g.K.Sink.written l.fn.out) (g.K.Sink.written l.out) (string_bytes l.fn.waiting) (string_bytes l.waiting);
+  so_far : SoFar (TurnsGoOn l.until l.fn.index) (world_in l.fn.machine) (world_in l.machine) (g.K.Sink.written l.fn.out) (g.K.Sink.written l.out)
+      (string_bytes l.fn.waiting) (string_bytes l.waiting);
   sizes : l.machine.sizes ≡ l.fn.machine.sizes;
   hands : length l.machine.hands ≡ length l.fn.machine.hands;
   faults : g.K.Sink.faults l.out ≡ g.K.Sink.faults l.fn.out;

@@ -25,7 +25,9 @@ returns-in_ok-put_answer-in-Done-clause-puts g c =
 
 pub returns-in-Wait-clause-puts : goal.returns-in-Wait-clause-puts
 returns-in-Wait-clause-puts g c =
-    puts_waiting c.in-Some.made c.args.index (world_in c.args.machine.now) (world_in c.turn_on.new.machine) (g.K.Sink.written c.args.out.now) (string_bytes c.args.waiting.now) c.requires.waiting c.in-Wait.is (rw c.in-Some.is at c.in-Ok.ensures.turned)
+    puts_waiting c.in-Some.made c.args.index (world_in c.args.machine.now) (world_in c.turn_on.new.machine) (g.K.Sink.written c.args.out.now)
+    (string_bytes c.args.waiting.now) c.requires.waiting c.in-Wait.is (rw c.in-Some.is at c.in-Ok.ensures.turned)
 
 pub returns-in_default-clause-puts : goal.returns-in_default-clause-puts
-returns-in_default-clause-puts g c = inl (refl, c.in_default.ensures.refused, none_written (g.K.Sink.written c.args.out.now) (string_bytes c.args.waiting.now) c.requires.waiting)
+returns-in_default-clause-puts g c =
+    inl (refl, c.in_default.ensures.refused, none_written (g.K.Sink.written c.args.out.now) (string_bytes c.args.waiting.now) c.requires.waiting)

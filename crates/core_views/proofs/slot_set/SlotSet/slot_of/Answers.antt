@@ -11,7 +11,8 @@ use Rattle.core_views.proofs.slot_set.SlotSet.slot_of.Goals as goal
 pub returns-in-loop-id-clause-only : goal.returns-in-loop-id-clause-only
 returns-in-loop-id-clause-only c id m at holds =
     let is : slot_holding c.args.gfn c.args.self.now ≡ Some (c.loop-id.id, c.in-Some.found) = grind (arith, common_steps) in
-    sym is ∙ ap (slot_holding c.args.gfn) (sym c.self.view_is) ∙ only c.args.gfn c.self.inside.places c.self.invariant.1 id m (ap (slot_at id) c.self.view_is ∙ at) holds
+    sym is ∙ ap (slot_holding c.args.gfn) (sym c.self.view_is)
+    ∙ only c.args.gfn c.self.inside.places c.self.invariant.1 id m (ap (slot_at id) c.self.view_is ∙ at) holds
 
 pub returns-in-loop-id-clause-flat : goal.returns-in-loop-id-clause-flat
 returns-in-loop-id-clause-flat c =
@@ -21,7 +22,8 @@ returns-in-loop-id-clause-flat c =
 pub returns-clause-only : goal.returns-clause-only
 returns-clause-only c id m at holds =
     let is : slot_holding c.args.gfn c.args.self.now ≡ None = grind (arith, common_steps) in
-    sym is ∙ ap (slot_holding c.args.gfn) (sym c.self.view_is) ∙ only c.args.gfn c.self.inside.places c.self.invariant.1 id m (ap (slot_at id) c.self.view_is ∙ at) holds
+    sym is ∙ ap (slot_holding c.args.gfn) (sym c.self.view_is)
+    ∙ only c.args.gfn c.self.inside.places c.self.invariant.1 id m (ap (slot_at id) c.self.view_is ∙ at) holds
 
 pub returns-clause-flat : goal.returns-clause-flat
 returns-clause-flat c =

@@ -24,5 +24,6 @@ returns-clause-set c =
 
 pub returns-clause-flat : goal.returns-clause-flat
 returns-clause-flat c =
-    let at : get_or c.self.inside.places c.args.id None ≡ Some c.in-Some.slot = sym (found c.args.id c.self.inside.places) ∙ ap (slot_at c.args.id) c.self.view_is ∙ sym c.in-Some.ensures.is in
+    let at : get_or c.self.inside.places c.args.id None ≡ Some c.in-Some.slot =
+    sym (found c.args.id c.self.inside.places) ∙ ap (slot_at c.args.id) c.self.view_is ∙ sym c.in-Some.ensures.is in
     flat_same c.args.id 0 c.in-Some.slot (record { slot = c.in-Some.slot.slot; logged = c.args.on }) c.self.inside.places at refl ∙ ap flat_slots c.self.view_is

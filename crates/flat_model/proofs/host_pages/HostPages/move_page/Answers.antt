@@ -15,7 +15,8 @@ invariant_of-self-then-page-self c =
 
 pub returns-then-page-self-clause-changes : goal.returns-then-page-self-clause-changes
 returns-then-page-self-clause-changes c =
-    rw (← c.self.view_is) (to_lowest c.self.inside.sizes c.args.page c.lowest-frame.result c.args.was c.self.inside.changed.entries c.insert.new.self.entries c.self.inside.free
+    rw (← c.self.view_is) (to_lowest c.self.inside.sizes c.args.page c.lowest-frame.result c.args.was c.self.inside.changed.entries
+    c.insert.new.self.entries c.self.inside.free
     (rw (← c.self.view_is) at c.requires) c.self.invariant c.lowest-frame.ensures.free c.lowest-frame.ensures.lowest c.if-frame-self.false
     (put c.args.page _ c.self.inside.changed.entries c.insert.new.self.entries c.in_ok-insert.ensures.updates.0))
 
@@ -45,6 +46,7 @@ invariant_of-self-in-Ok c =
 
 pub returns-in-Ok-clause-changes : goal.returns-in-Ok-clause-changes
 returns-in-Ok-clause-changes c =
-    rw (← c.self.view_is) (to_lowest c.self.inside.sizes c.args.page c.lowest-frame.result c.args.was c.self.inside.changed.entries c.insert-2.new.self.entries c.self.inside.free
+    rw (← c.self.view_is) (to_lowest c.self.inside.sizes c.args.page c.lowest-frame.result c.args.was c.self.inside.changed.entries
+    c.insert-2.new.self.entries c.self.inside.free
     (rw (← c.self.view_is) at c.requires) c.self.invariant c.lowest-frame.ensures.free c.lowest-frame.ensures.lowest c.if-frame-self.false
     (put c.args.page _ c.self.inside.changed.entries c.insert-2.new.self.entries c.in-Ok.ensures.updates.0))

@@ -6,7 +6,8 @@ use Rattle.core_views.specs.SlotSets.{flat_slots}
 use Rattle.flat_model.specs.Kept.{Kept, memory_of}
 use Rattle.flat_model.proofs.Words.{reached, unwritten, written}
 use Rattle.flat_model.proofs.plain.Plain.access.Goals as goal
-use Rattle.flat_model.proofs.plain.Plain.access.Goals.{else-is_write-via-then-is_write+else-not-entry, else-is_write-via-else-is_write, then-is_write-2+in_ok-insert, else-is_write-2}
+use Rattle.flat_model.proofs.plain.Plain.access.Goals.{else-is_write-via-then-is_write+else-not-entry, else-is_write-via-else-is_write}
+use Rattle.flat_model.proofs.plain.Plain.access.Goals.{then-is_write-2+in_ok-insert, else-is_write-2}
 
 pub returns-clause-reached : goal.returns-clause-reached
 returns-clause-reached c =
@@ -15,7 +16,13 @@ returns-clause-reached c =
     let op = c.args.op in
     let entry = c.entry_of-entry.result in
     let value = c.unwrap_or-value.result in
-    let before : Kept = record { sizes = c.self.inside.host.sizes; slots = c.self.inside.slots; changed = c.self.inside.host.changed; words = c.self.inside.memory.entries } in
+    let before : Kept =
+    record {
+      sizes = c.self.inside.host.sizes;
+      slots = c.self.inside.slots;
+      changed = c.self.inside.host.changed;
+      words = c.self.inside.memory.entries;
+    } in
     let behind : Some page ≡ page_behind (flat_slots before.slots) c.args.gfn op = rw (← c.self.view_is) at c.in-Some.ensures in
     let value_is : value ≡ memory_of before.words page word = search rules in
     let allows : is_denied op entry ≡ false = elim c.else-is_write.branch [

@@ -7,8 +7,10 @@ use Rattle.host_events.proofs.job.HostJob.turn.Goals as goal
 pub step-requires-clause-is_at : goal.step-requires-clause-is_at
 step-requires-clause-is_at g c =
     let L =
-    stands_in_line c.host_place-place.result c.page_of-page.result c.change_of-change.result c.note-note.result (g.S.Stepper.seat c.args.s.now).hand c.requires.left
-    (rw c.hand-hand.ensures.hand at c.rests.ensures) (rw c.hand-hand.ensures.hand at c.page_of-page.ensures) (rw c.hand-hand.ensures.hand at c.change_of-change.ensures)
+    stands_in_line c.host_place-place.result c.page_of-page.result c.change_of-change.result c.note-note.result (g.S.Stepper.seat c.args.s.now).hand
+    c.requires.left
+    (rw c.hand-hand.ensures.hand at c.rests.ensures) (rw c.hand-hand.ensures.hand at c.page_of-page.ensures)
+    (rw c.hand-hand.ensures.hand at c.change_of-change.ensures)
     (rw c.hand-hand.ensures.hand at c.host_place-place.ensures)
     (rw c.hand-hand.ensures.hand at c.knows.ensures) (rw c.hand-hand.ensures.hand at c.note-note.ensures) in
     L.is_at
@@ -16,8 +18,10 @@ step-requires-clause-is_at g c =
 pub returns-in-Some-clause-turns : goal.returns-in-Some-clause-turns
 returns-in-Some-clause-turns g c =
     let L =
-    stands_in_line c.host_place-place.result c.page_of-page.result c.change_of-change.result c.note-note.result (g.S.Stepper.seat c.args.s.now).hand c.requires.left
-    (rw c.hand-hand.ensures.hand at c.rests.ensures) (rw c.hand-hand.ensures.hand at c.page_of-page.ensures) (rw c.hand-hand.ensures.hand at c.change_of-change.ensures)
+    stands_in_line c.host_place-place.result c.page_of-page.result c.change_of-change.result c.note-note.result (g.S.Stepper.seat c.args.s.now).hand
+    c.requires.left
+    (rw c.hand-hand.ensures.hand at c.rests.ensures) (rw c.hand-hand.ensures.hand at c.page_of-page.ensures)
+    (rw c.hand-hand.ensures.hand at c.change_of-change.ensures)
     (rw c.hand-hand.ensures.hand at c.host_place-place.ensures)
     (rw c.hand-hand.ensures.hand at c.knows.ensures) (rw c.hand-hand.ensures.hand at c.note-note.ensures) in
     change_waits c.step.result c.host_place-place.result c.page_of-page.result c.change_of-change.result c.note-note.result (g.S.Stepper.seat c.args.s.now)
@@ -35,11 +39,14 @@ returns-in-Some-clause-hand g c =
 pub returns-in-Some-get-clause-turns : goal.returns-in-Some-get-clause-turns
 returns-in-Some-get-clause-turns g c =
     let L =
-    stands_in_line c.host_place-place.result c.page_of-page.result c.change_of-change.result c.note-note.result (g.S.Stepper.seat c.args.s.now).hand c.requires.left
-    (rw c.hand-hand.ensures.hand at c.rests.ensures) (rw c.hand-hand.ensures.hand at c.page_of-page.ensures) (rw c.hand-hand.ensures.hand at c.change_of-change.ensures)
+    stands_in_line c.host_place-place.result c.page_of-page.result c.change_of-change.result c.note-note.result (g.S.Stepper.seat c.args.s.now).hand
+    c.requires.left
+    (rw c.hand-hand.ensures.hand at c.rests.ensures) (rw c.hand-hand.ensures.hand at c.page_of-page.ensures)
+    (rw c.hand-hand.ensures.hand at c.change_of-change.ensures)
     (rw c.hand-hand.ensures.hand at c.host_place-place.ensures)
     (rw c.hand-hand.ensures.hand at c.knows.ensures) (rw c.hand-hand.ensures.hand at c.note-note.ensures) in
-    change_done c.step.result c.host_place-place.result c.page_of-page.result c.change_of-change.result c.note-note.result (g.S.Stepper.seat c.args.s.now) (g.S.Stepper.seat c.step.new.s)
+    change_done c.step.result c.host_place-place.result c.page_of-page.result c.change_of-change.result c.note-note.result
+    (g.S.Stepper.seat c.args.s.now) (g.S.Stepper.seat c.step.new.s)
     L c.step.ensures.makes
     c.args.self.now.index c.answers.result.now c.in-Some-get.field-0.now c.in_default.is (rw c.hand.ensures.hand at c.answers.ensures) c.requires.next
     c.in-Some-get.ensures.lookup.3.0 c.in-Some-get.ensures.lookup.1
@@ -58,11 +65,14 @@ returns-in-Some-get-clause-hand g c =
 pub returns-in-None-clause-turns : goal.returns-in-None-clause-turns
 returns-in-None-clause-turns g c =
     let L =
-    stands_in_line c.host_place-place.result c.page_of-page.result c.change_of-change.result c.note-note.result (g.S.Stepper.seat c.args.s.now).hand c.requires.left
-    (rw c.hand-hand.ensures.hand at c.rests.ensures) (rw c.hand-hand.ensures.hand at c.page_of-page.ensures) (rw c.hand-hand.ensures.hand at c.change_of-change.ensures)
+    stands_in_line c.host_place-place.result c.page_of-page.result c.change_of-change.result c.note-note.result (g.S.Stepper.seat c.args.s.now).hand
+    c.requires.left
+    (rw c.hand-hand.ensures.hand at c.rests.ensures) (rw c.hand-hand.ensures.hand at c.page_of-page.ensures)
+    (rw c.hand-hand.ensures.hand at c.change_of-change.ensures)
     (rw c.hand-hand.ensures.hand at c.host_place-place.ensures)
     (rw c.hand-hand.ensures.hand at c.knows.ensures) (rw c.hand-hand.ensures.hand at c.note-note.ensures) in
-    change_more c.step.result c.host_place-place.result c.page_of-page.result c.change_of-change.result c.note-note.result (g.S.Stepper.seat c.args.s.now) (g.S.Stepper.seat c.step.new.s)
+    change_more c.step.result c.host_place-place.result c.page_of-page.result c.change_of-change.result c.note-note.result
+    (g.S.Stepper.seat c.args.s.now) (g.S.Stepper.seat c.step.new.s)
     L c.step.ensures.makes
     c.args.self.now.index c.answers.result.now c.in_default.is (rw c.hand.ensures.hand at c.answers.ensures) c.requires.next c.in-None.ensures.lookup.3
 

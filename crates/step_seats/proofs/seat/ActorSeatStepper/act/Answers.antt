@@ -8,7 +8,8 @@ use Rattle.step_seats.proofs.seat.ActorSeatStepper.act.Goals as goal
 pub returns-clause-same : goal.returns-clause-same
 returns-clause-same c = (
   refl,
-  frame_same c.args.self.now.machine.ghost_name c.args.self.now.machine.now c.make_step.new.self c.args.self.now.index (handful_in c.make_step.new.self.hands c.args.self.now.index) c.make_step.ensures.same.0 c.make_step.ensures.others,
+  frame_same c.args.self.now.machine.ghost_name c.args.self.now.machine.now c.make_step.new.self c.args.self.now.index
+      (handful_in c.make_step.new.self.hands c.args.self.now.index) c.make_step.ensures.same.0 c.make_step.ensures.others,
 )
 
 pub returns-clause-acts : goal.returns-clause-acts

@@ -2,7 +2,8 @@ use Rattle.std.proofs.Common.{◌≡◌, ◌<◌, ◌^◌, Some, None, ap, sym, 
 use Rattle.std.specs.Prelude.{false}
 use Rattle.part_steps.specs.declared.part_step.PartStep.TheVariants as part
 use Rattle.table_pool.specs.Claims.{IsClaimersAlone, IsFirstSeen, IsFreePage, SawStands, next_word, sees_pages, claim_step}
-use Rattle.table_pool.proofs.Claiming.{claim_alone, claim_needs, claim_stands, claimed_free, never_waits, page_in, saw_none, unbegun, won_waits_not, word_begun, word_unbegun, claims, where_claimed, load_stands_there, load_waits_not}
+use Rattle.table_pool.proofs.Claiming.{claim_alone, claim_needs, claim_stands, claimed_free, never_waits, page_in, saw_none, unbegun, won_waits_not}
+use Rattle.table_pool.proofs.Claiming.{word_begun, word_unbegun, claims, where_claimed, load_stands_there, load_waits_not}
 use Rattle.table_pool.proofs.ClaimedAlone.{claimed_alone}
 use Rattle.table_pool.proofs.FirstSeen.{first_seen}
 use Rattle.step_seats.specs.PartTurns.{WherePartMade}
@@ -11,7 +12,8 @@ use Rattle.core_views.specs.declared.hand.Seen.{Seen}
 use Rattle.core_views.specs.declared.topics.Topics.{Topics}
 use Rattle.step_seats.specs.declared.turn.Turn.TheVariants.{Wait, More, Done}
 use Rattle.table_pool.specs.declared.claim.Claimed.TheVariants.{Empty}
-use Rattle.table_pool.proofs.claim.Claim.turn.Goals.{in-Some, in-None, else-self-via-then-self+else-claim-gt0, else-self-via-else-self, then-self-2, else-self-2}
+use Rattle.table_pool.proofs.claim.Claim.turn.Goals.{in-Some, in-None, else-self-via-then-self+else-claim-gt0, else-self-via-else-self, then-self-2}
+use Rattle.table_pool.proofs.claim.Claim.turn.Goals.{else-self-2}
 use Rattle.table_pool.proofs.claim.Claim.turn.Goals as goal
 
 pub returns-then-claim-gt0-clause-first : goal.returns-then-claim-gt0-clause-first
@@ -22,9 +24,11 @@ returns-then-claim-gt0-clause-first g c page is =
     let small : h.topics.claim.seen < 2 ^ 64 = rw (sym c.hand.ensures.hand) c.part_rests.ensures.counters.seen in
     elim c.match-topics.branch [
       | in-Some w ↦
-          let behind : after.topics.owned ≡ Some w.in-Some.owned = rw (sym c.hand-then-claim-gt0.ensures.hand, sym c.topics-then-claim-gt0.ensures) w.in-Some.is in
+          let behind : after.topics.owned ≡ Some w.in-Some.owned =
+          rw (sym c.hand-then-claim-gt0.ensures.hand, sym c.topics-then-claim-gt0.ensures) w.in-Some.is in
           subst (λ k. IsFirstSeen k h.topics.claim) (ap page_in (sym w.result-is ∙ is))
-          (first_seen h.topics.claim c.make_part-value.result w.in-Some.owned some small (sym (ap (λ (t : Topics). t.owned) c.make_part-value.ensures.made.topics) ∙ behind))
+          (first_seen h.topics.claim c.make_part-value.result w.in-Some.owned some small
+          (sym (ap (λ (t : Topics). t.owned) c.make_part-value.ensures.made.topics) ∙ behind))
       | in-None w ↦ absurd (cc (is, w.result-is))
     ]
 
@@ -39,7 +43,8 @@ returns-then-claim-gt0-clause-free g c page is =
     let needs = claim_needs c.args.self.now c.args.note h c.if-self.true some c.requires.may in
     elim c.match-topics.branch [
       | in-Some w ↦
-          let behind : after.topics.owned ≡ Some w.in-Some.owned = rw (sym c.hand-then-claim-gt0.ensures.hand, sym c.topics-then-claim-gt0.ensures) w.in-Some.is in
+          let behind : after.topics.owned ≡ Some w.in-Some.owned =
+          rw (sym c.hand-then-claim-gt0.ensures.hand, sym c.topics-then-claim-gt0.ensures) w.in-Some.is in
           subst (λ k. WherePartMade (claim_step c.args.self.now h.topics.claim) c.args.note (g.S.Stepper.seat s) (g.S.Stepper.seat c.make_part-value.new.s)
           (λ v t. IsFreePage h.state.sizes k v)) (ap page_in (sym w.result-is ∙ is))
           (where_claimed c.args.self.now part.Claim c.args.note c.make_part-value.result (g.S.Stepper.seat s) (g.S.Stepper.seat c.make_part-value.new.s)
@@ -58,7 +63,8 @@ returns-then-claim-gt0-clause-sole g c page is =
     let is_claim = claims c.args.self.now h.topics.claim c.if-self.true some in
     elim c.match-topics.branch [
       | in-Some w ↦
-          let behind : after.topics.owned ≡ Some w.in-Some.owned = rw (sym c.hand-then-claim-gt0.ensures.hand, sym c.topics-then-claim-gt0.ensures) w.in-Some.is in
+          let behind : after.topics.owned ≡ Some w.in-Some.owned =
+          rw (sym c.hand-then-claim-gt0.ensures.hand, sym c.topics-then-claim-gt0.ensures) w.in-Some.is in
           subst (λ k. WherePartMade (claim_step c.args.self.now h.topics.claim) c.args.note (g.S.Stepper.seat s) (g.S.Stepper.seat c.make_part-value.new.s)
           (λ v t. IsClaimersAlone h.state.sizes (g.S.Stepper.seat s).actor k t)) (ap page_in (sym w.result-is ∙ is))
           (where_claimed c.args.self.now part.Claim c.args.note c.make_part-value.result (g.S.Stepper.seat s) (g.S.Stepper.seat c.make_part-value.new.s)
@@ -108,11 +114,13 @@ returns-then-topics-size_of-clause-stands g c =
     let h = (g.S.Stepper.seat s).hand in
     let after = (g.S.Stepper.seat c.make_part.new.s).hand in
     let none : sees_pages c.args.self.now h.topics.claim ≡ false = elim c.else-self.branch [
-      | else-self-via-then-self+else-claim-gt0 w ↦ saw_none c.args.self.now h.topics.claim w.if-self.true (rw (sym c.hand-3.ensures.hand, sym c.topics.ensures) w.if-claim-gt0.false)
+      | else-self-via-then-self+else-claim-gt0 w ↦
+          saw_none c.args.self.now h.topics.claim w.if-self.true (rw (sym c.hand-3.ensures.hand, sym c.topics.ensures) w.if-claim-gt0.false)
       | else-self-via-else-self w ↦ unbegun c.args.self.now h.topics.claim w.if-self.false
     ] in
     let word : c.if-self-2.word ≡ next_word c.args.self.now h.topics.claim = elim c.if-self-2.branch [
-      | then-self-2 w ↦ word_begun c.args.self.now h.topics.claim c.if-self-2.word w.if-self-2.true (rw (sym c.hand-3.ensures.hand, sym c.topics.ensures) w.word-is)
+      | then-self-2 w ↦
+          word_begun c.args.self.now h.topics.claim c.if-self-2.word w.if-self-2.true (rw (sym c.hand-3.ensures.hand, sym c.topics.ensures) w.word-is)
       | else-self-2 w ↦ word_unbegun c.args.self.now h.topics.claim c.if-self-2.word w.if-self-2.false w.word-is
     ] in
     load_stands_there c.args.self.now c.if-self-2.word c.args.note c.make_part.result (g.S.Stepper.seat s) (g.S.Stepper.seat c.make_part.new.s) none word
@@ -124,11 +132,13 @@ returns-then-topics-size_of-clause-alone g c =
     let h = (g.S.Stepper.seat s).hand in
     let after = (g.S.Stepper.seat c.make_part.new.s).hand in
     let none : sees_pages c.args.self.now h.topics.claim ≡ false = elim c.else-self.branch [
-      | else-self-via-then-self+else-claim-gt0 w ↦ saw_none c.args.self.now h.topics.claim w.if-self.true (rw (sym c.hand-3.ensures.hand, sym c.topics.ensures) w.if-claim-gt0.false)
+      | else-self-via-then-self+else-claim-gt0 w ↦
+          saw_none c.args.self.now h.topics.claim w.if-self.true (rw (sym c.hand-3.ensures.hand, sym c.topics.ensures) w.if-claim-gt0.false)
       | else-self-via-else-self w ↦ unbegun c.args.self.now h.topics.claim w.if-self.false
     ] in
     let word : c.if-self-2.word ≡ next_word c.args.self.now h.topics.claim = elim c.if-self-2.branch [
-      | then-self-2 w ↦ word_begun c.args.self.now h.topics.claim c.if-self-2.word w.if-self-2.true (rw (sym c.hand-3.ensures.hand, sym c.topics.ensures) w.word-is)
+      | then-self-2 w ↦
+          word_begun c.args.self.now h.topics.claim c.if-self-2.word w.if-self-2.true (rw (sym c.hand-3.ensures.hand, sym c.topics.ensures) w.word-is)
       | else-self-2 w ↦ word_unbegun c.args.self.now h.topics.claim c.if-self-2.word w.if-self-2.false w.word-is
     ] in
     load_waits_not c.args.self.now c.if-self-2.word c.args.note c.make_part.result (g.S.Stepper.seat s) (g.S.Stepper.seat c.make_part.new.s) none word
@@ -140,11 +150,13 @@ returns-else-topics-size_of-clause-stands g c =
     let h = (g.S.Stepper.seat s).hand in
     let after = (g.S.Stepper.seat c.make_part.new.s).hand in
     let none : sees_pages c.args.self.now h.topics.claim ≡ false = elim c.else-self.branch [
-      | else-self-via-then-self+else-claim-gt0 w ↦ saw_none c.args.self.now h.topics.claim w.if-self.true (rw (sym c.hand-3.ensures.hand, sym c.topics.ensures) w.if-claim-gt0.false)
+      | else-self-via-then-self+else-claim-gt0 w ↦
+          saw_none c.args.self.now h.topics.claim w.if-self.true (rw (sym c.hand-3.ensures.hand, sym c.topics.ensures) w.if-claim-gt0.false)
       | else-self-via-else-self w ↦ unbegun c.args.self.now h.topics.claim w.if-self.false
     ] in
     let word : c.if-self-2.word ≡ next_word c.args.self.now h.topics.claim = elim c.if-self-2.branch [
-      | then-self-2 w ↦ word_begun c.args.self.now h.topics.claim c.if-self-2.word w.if-self-2.true (rw (sym c.hand-3.ensures.hand, sym c.topics.ensures) w.word-is)
+      | then-self-2 w ↦
+          word_begun c.args.self.now h.topics.claim c.if-self-2.word w.if-self-2.true (rw (sym c.hand-3.ensures.hand, sym c.topics.ensures) w.word-is)
       | else-self-2 w ↦ word_unbegun c.args.self.now h.topics.claim c.if-self-2.word w.if-self-2.false w.word-is
     ] in
     load_stands_there c.args.self.now c.if-self-2.word c.args.note c.make_part.result (g.S.Stepper.seat s) (g.S.Stepper.seat c.make_part.new.s) none word
@@ -156,11 +168,13 @@ returns-else-topics-size_of-clause-alone g c =
     let h = (g.S.Stepper.seat s).hand in
     let after = (g.S.Stepper.seat c.make_part.new.s).hand in
     let none : sees_pages c.args.self.now h.topics.claim ≡ false = elim c.else-self.branch [
-      | else-self-via-then-self+else-claim-gt0 w ↦ saw_none c.args.self.now h.topics.claim w.if-self.true (rw (sym c.hand-3.ensures.hand, sym c.topics.ensures) w.if-claim-gt0.false)
+      | else-self-via-then-self+else-claim-gt0 w ↦
+          saw_none c.args.self.now h.topics.claim w.if-self.true (rw (sym c.hand-3.ensures.hand, sym c.topics.ensures) w.if-claim-gt0.false)
       | else-self-via-else-self w ↦ unbegun c.args.self.now h.topics.claim w.if-self.false
     ] in
     let word : c.if-self-2.word ≡ next_word c.args.self.now h.topics.claim = elim c.if-self-2.branch [
-      | then-self-2 w ↦ word_begun c.args.self.now h.topics.claim c.if-self-2.word w.if-self-2.true (rw (sym c.hand-3.ensures.hand, sym c.topics.ensures) w.word-is)
+      | then-self-2 w ↦
+          word_begun c.args.self.now h.topics.claim c.if-self-2.word w.if-self-2.true (rw (sym c.hand-3.ensures.hand, sym c.topics.ensures) w.word-is)
       | else-self-2 w ↦ word_unbegun c.args.self.now h.topics.claim c.if-self-2.word w.if-self-2.false w.word-is
     ] in
     load_waits_not c.args.self.now c.if-self-2.word c.args.note c.make_part.result (g.S.Stepper.seat s) (g.S.Stepper.seat c.make_part.new.s) none word

@@ -8,5 +8,6 @@ returns-clause-bytes c = (
   grind (arith, common_steps),
   grind (arith, common_steps),
   ap (λ supply. supply.left) (sym c.self.view_is)
-      ∙ prefix_given c.copy_from_slice.new.self c.args.buf.now c.self.inside.bytes.items c.min-count.result c.self.inside.at (grind (arith, common_steps)) (grind (arith, common_steps)),
+      ∙ prefix_given c.copy_from_slice.new.self c.args.buf.now c.self.inside.bytes.items c.min-count.result c.self.inside.at
+      (grind (arith, common_steps)) (grind (arith, common_steps)),
 )

@@ -2,7 +2,8 @@ use Rattle.std.proofs.Common.{ap}
 use Rattle.step_seats.proofs.LineTurns.{turns_told}
 use Rattle.fault_install.specs.declared.fault.FaultJob.{FaultJob}
 use Rattle.vcpu_run.specs.Accesses.{answer_of}
-use Rattle.vcpu_run.proofs.Accessing.{fault_cause, turns_fault}
+use Rattle.vcpu_run.proofs.Accessing.{fault_cause}
+use Rattle.vcpu_run.proofs.FaultTurns.{turns_fault}
 use Rattle.vcpu_run.proofs.ToldCauses.{told_cause}
 use Rattle.vcpu_run.proofs.access.AccessJob.fault.Goals as goal
 
