@@ -84,6 +84,13 @@ trace() {
 # and four entries, and puts the leaf, gives the lock back and ends; for each table
 # that is missing it loads words of the map up to a free page, claims it, fills
 # its 512 words and its role, and links it.
+# A line of a host thread, which has to be `allow` of a page of its own and of a slot
+# whose frames are its pages' numbers, loads the host word, takes the lock, loads the
+# slot set, the slots words up to the slot, and the count, stores the range and the
+# count, loads the root and an entry of each table that is there, zaps the leaf if
+# there is one, asks for each flush and awaits it, gives the lock back, changes the
+# host word, takes the lock, loads and stores sequence number and count, and gives
+# the lock back. What processors have cached is gone.
 steps() {
   awk '
     function is_cached(vcpu, page) { return (vcpu, page) in filled && filled[vcpu, page] > fills[vcpu] - cache }
@@ -95,6 +102,11 @@ steps() {
         if (base[id] <= page && page < base[id] + pages[id]) break
       }
       return words
+    }
+    function tables_over(page,   level, span, tables) {
+      span = 134217728; tables = 1
+      for (level = 3; level >= 1 && (level, int(page / span)) in table; level--) { tables++; span /= 512 }
+      return tables
     }
     function fault(page,   level, span, tables, made) {
       span = 134217728; tables = 1
@@ -109,12 +121,18 @@ steps() {
     NR == 1 {
       for (i = 1; i < NF; i++) {
         if ($i == "cache") cache = $(i + 1)
+        if ($i == "vcpus") vcpus = $(i + 1)
         if ($i == "vcpus" || $i == "workers") others += $(i + 1)
         if ($i == "hosts") others += NF - i
       }
       next_page = 2
     }
     $1 == "vm" { base[$3 + 0] = $4; pages[$3 + 0] = $5; steps += 521 + others }
+    $1 ~ /^h[0-9]/ {
+      steps += 16 + slot_words($3) + tables_over($3) + 2 * vcpus
+      if ($3 in has_leaf) { steps++; delete has_leaf[$3] }
+      for (v = 0; v < vcpus; v++) fills["v" v] += cache
+    }
     $1 ~ /^v[0-9]/ {
       page = int($3 / 4096)
       if (is_cached($1, page)) { steps += 4; next }

@@ -68,7 +68,7 @@ const WARM_SCHEDULES: [(&str, &str); 34] = [
 ];
 
 // Whole traces behind the header with another pool, and what is printed.
-const TRACES: [(u64, &str, &str); 49] = [
+const TRACES: [(u64, &str, &str); 62] = [
     // No slot is set before the manager's turns.
     (
         64,
@@ -354,10 +354,101 @@ const TRACES: [(u64, &str, &str); 49] = [
         "go\nvm slot 0 0 16 0\nh0 allow 2\nv0 read 0x2000\n> h0 end\n> vm end\n> v0 end\n",
         "4 h0 done\n3 vm done\n5 v0 frame 2 value 0\n",
     ),
+    // The page is in no slot: its invalidation is of no guest frame, and a fault of another page
+    // goes on while it is open.
+    (
+        64,
+        "vm slot 0 0 16 0\ngo\nh0 protect 20\nv0 write 0x2000 5\n> h0 change\n> v0 end\n> h0 end\n",
+        "2 vm done\n5 v0 frame 2 value 0\n4 h0 done\n",
+    ),
+    // A slot set with a slot of the page is published when it has ended, all the same, and the
+    // write by that slot is a host fault.
+    (
+        64,
+        "vm slot 0 0 16 0\ngo\nh0 protect 68\nvm slot 1 100 16 64\nv0 write 0x68000 1\nv0 read 0x68000\n> h0 change\n> vm end\n> h0 end\n> vm end\n> v0 end\n",
+        "2 vm done\n4 h0 done\n5 vm done\n6 v0 hostfault\n7 v0 frame 68 value 0\n",
+    ),
+    // The manager has the lock, to publish the slot of the page: the thread waits for it, and
+    // searches the new set.
+    (
+        64,
+        "vm slot 0 0 16 0\ngo\nvm slot 1 100 16 64\nh0 protect 70\nv0 write 0x6a000 1\n> vm exclude\n> h0 end\n> vm end\n> h0 end\n> v0 end\n",
+        "2 vm done\n4 vm done\n5 h0 done\n6 v0 hostfault\n",
+    ),
+    // A processor that has entered with nothing cached finds no leaf, and leaves: so its flush is
+    // awaited, though its fault waits for the lock that the thread has.
+    (
+        64,
+        "vm slot 0 0 16 0\nv0 write 0x2000 7\ngo\nh0 protect 2\nv1 write 0x2000 8\n> v1 1\n> h0 end\n> v1 end\n> h0 end\n> v1 end\n> v1 end\n",
+        "2 vm done\n3 v0 frame 2 value 0\n5 h0 done\n6 v1 hostfault\n",
+    ),
+    // Both processors are in the guest with their translations: each is awaited, and each still
+    // writes the page.
+    (
+        64,
+        "vm slot 0 0 16 0\nv0 write 0x2000 7\nv1 read 0x2000\ngo\nv0 write 0x2000 8\nv1 write 0x2000 9\nh0 protect 2\n> v0 2\n> v1 2\n> h0 end\n\
+        > v1 end\n> h0 end\n> v0 end\n> h0 end\n",
+        "2 vm done\n3 v0 frame 2 value 0\n4 v1 frame 2 value 7\n7 v1 frame 2 value 7\n6 v0 frame 2 value 9\n8 h0 done\n",
+    ),
+    // A processor is awaited that is in the guest at another page; the other one's fault waits for
+    // the lock.
+    (
+        64,
+        "vm slot 0 0 16 0\nv1 write 0x3000 4\ngo\nv1 write 0x3000 5\nh0 protect 2\nv0 write 0x2000 6\n> v1 2\n> h0 end\n> v0 end\n> v1 end\n> h0 end\n\
+        > v0 end\n> v0 end\n",
+        "2 vm done\n3 v1 frame 3 value 0\n5 v1 frame 3 value 4\n6 h0 done\n7 v0 hostfault\n",
+    ),
+    // A processor that has left and entered again since it was asked has flushed: it isn't awaited,
+    // though it is in the guest.
+    (
+        64,
+        "vm slot 0 0 16 0\nv0 write 0x2000 7\ngo\nv0 write 0x2000 8\nv0 read 0x3000\nh0 protect 2\n> v0 2\n> h0 end\n> v0 end\n> v0 2\n> h0 end\n> v0 end\n",
+        "2 vm done\n3 v0 frame 2 value 0\n5 v0 frame 2 value 7\n7 h0 done\n6 v0 frame 3 value 0\n",
+    ),
+    // The writer's fault shares the lock: the thread waits for it. It puts its leaf and writes, and
+    // its next write is a host fault.
+    (
+        64,
+        "vm slot 0 0 16 0\ngo\nv0 write 0x2000 5\nh0 protect 2\nv0 write 0x2000 6\n> v0 share\n> h0 end\n> v0 end\n> h0 end\n> v0 end\n",
+        "2 vm done\n4 v0 frame 2 value 0\n5 h0 done\n6 v0 hostfault\n",
+    ),
+    // Writes are forbidden twice: a read goes on each time, and no write does.
+    (
+        64,
+        "vm slot 0 0 16 0\nh0 protect 2\nv0 read 0x2000\nh0 protect 2\nv0 read 0x2000\nv0 write 0x2000 1\ngo\n",
+        "2 vm done\n3 h0 done\n4 v0 frame 2 value 0\n5 h0 done\n6 v0 frame 2 value 0\n7 v0 hostfault\n",
+    ),
+    // Writes are allowed again: before the exchange a write is a host fault, though the
+    // invalidation is open.
+    (
+        64,
+        "vm slot 0 0 16 0\nh0 protect 2\ngo\nv0 write 0x2000 5\nh0 allow 2\nv0 write 0x2000 6\n> h0 await\n> v0 end\n> h0 end\n> v0 end\n",
+        "2 vm done\n3 h0 done\n5 v0 hostfault\n6 h0 done\n7 v0 frame 2 value 0\n",
+    ),
+    // After the exchange the write begins anew, until the invalidation has ended.
+    (
+        64,
+        "vm slot 0 0 16 0\nh0 protect 2\ngo\nv0 write 0x2000 5\nh0 allow 2\nv0 write 0x2000 6\n> h0 change\n> v0 end\n> h0 end\n> v0 end\n> v0 end\n",
+        "2 vm done\n3 h0 done\n6 h0 done\n5 v0 frame 2 value 0\n7 v0 frame 2 value 5\n",
+    ),
+    // Writes are forbidden and allowed again since the writer looked: the word is what it saw, and
+    // it begins anew.
+    (
+        64,
+        "vm slot 0 0 16 0\ngo\nv0 write 0x2000 5\nh0 protect 2\nh0 allow 2\nv1 read 0x2000\n> v0 host\n> h0 end\n> h0 end\n> v0 end\n> v1 end\n> v0 end\n",
+        "2 vm done\n5 h0 done\n6 h0 done\n7 v1 frame 2 value 0\n4 v0 frame 2 value 0\n",
+    ),
+    // The reader has its snapshot, and hasn't looked at the host's word: it looks after the change,
+    // and begins anew for the number alone.
+    (
+        64,
+        "vm slot 0 0 16 0\ngo\nv0 read 0x2000\nh0 protect 2\nv1 write 0x2000 4\n> v0 slot\n> h0 end\n> v0 end\n> v1 end\n> v0 end\n",
+        "2 vm done\n5 h0 done\n6 v1 hostfault\n4 v0 frame 2 value 0\n",
+    ),
 ];
 
 // Two host threads, of which the first has the host pages 0 to 7 and the second the others.
-const TWO_THREADS: [(&str, &str); 7] = [
+const TWO_THREADS: [(&str, &str); 11] = [
     // Each allows writes to pages of its own alone.
     (
         "h0 allow 12\nh1 allow 2\nh1 allow 8\nh0 allow 7\nh1 allow 1023\nh1 allow 1024\ngo\n",
@@ -396,6 +487,33 @@ const TWO_THREADS: [(&str, &str); 7] = [
         "vm slot 0 0 16 0\ngo\nh0 allow 2\nh1 allow 500\nv0 read 0x3000\nv1 read 0x2000\n> h0 change\n> h1 change\n> v0 end\n> v1 end\n> h0 end\n\
         > h1 end\n> v1 end\n",
         "2 vm done\n6 v0 frame 3 value 0\n4 h0 done\n5 h1 done\n7 v1 frame 2 value 0\n",
+    ),
+    // The pages of both stand side by side: the range is guest frames 7 and 8, and faults of the
+    // frames at either side go on.
+    (
+        "vm slot 0 0 16 0\ngo\nh0 protect 7\nh1 protect 8\nv0 write 0x6000 1\nv1 write 0x9000 1\n> h0 change\n> h1 change\n> v0 end\n> v1 end\n\
+        > h0 end\n> h1 end\n",
+        "2 vm done\n6 v0 frame 6 value 0\n7 v1 frame 9 value 0\n4 h0 done\n5 h1 done\n",
+    ),
+    // The page of the first that opens is in no slot: its range is empty, from 0 to 0, and the
+    // second widens it to guest frames 0 to 2.
+    (
+        "vm slot 0 0 16 0\ngo\nh0 allow 2\nh1 allow 500\nv0 read 0x1000\nv1 read 0x3000\n> h1 change\n> h0 change\n> v0 end\n> v1 end\n> h0 end\n> h1 end\n\
+        > v0 end\n",
+        "2 vm done\n7 v1 frame 3 value 0\n4 h0 done\n5 h1 done\n6 v0 frame 1 value 0\n",
+    ),
+    // The first thread invalidates twice while the second's is open: the range stays as wide, and
+    // a fault between begins anew until all have ended.
+    (
+        "vm slot 0 0 16 0\ngo\nh1 allow 12\nh0 allow 2\nh0 allow 5\nv0 read 0x3000\n> h1 change\n> h0 end\n> h0 change\n> v0 end\n> h1 end\n> v0 end\n\
+        > h0 end\n> v0 end\n",
+        "2 vm done\n5 h0 done\n4 h1 done\n6 h0 done\n7 v0 frame 3 value 0\n",
+    ),
+    // One thread allows writes again while the other forbids them: each is of its own page alone.
+    (
+        "vm slot 0 0 16 0\nh0 protect 2\ngo\nh0 allow 2\nh1 protect 12\nv0 write 0x2000 1\nv1 write 0xc000 1\n> h0 change\n> h1 change\n> v0 end\n\
+        > v1 end\n> h1 end\n> h0 end\n> v1 end\n> v0 end\n",
+        "2 vm done\n3 h0 done\n8 v1 hostfault\n6 h1 done\n5 h0 done\n7 v0 frame 2 value 0\n",
     ),
 ];
 

@@ -339,7 +339,7 @@ fn answers_the_table(rt: HostRuntime) -> Result<(), Fail> {
             cases = cases.saturating_add(1);
         }
     }
-    assert_eq!(rt; cases, 252);
+    assert_eq!(rt; cases, 256);
     Ok(())
 }
 
