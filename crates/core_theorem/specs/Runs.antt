@@ -24,11 +24,13 @@ pub record IsRun (z : Sizes) (lines : List Line) (w : World Held) (ss : List (St
 abbrev pub TellsLawfully : Type 0
 TellsLawfully = (z : Sizes) (lines : List Line) (w : World Held) (ss : List (Step Kind)) → IsRun z lines w ss → IsLawful z first_flat (history w ss)
 
--- The words of this world stand for these facts: published slots with their logs, content words and the pause; and each host word is what
--- the host maps its page to.
+-- The words of this world stand for these facts: published slots with their logs, the content words of the pages' frames, and the pause; each host word is
+-- what the host maps its page to; and no two pages have one frame.
 pub record StandsForFacts (z : Sizes) (w : World Held) (f : Facts) : Type 0 where
   pub refines : Refines z (word_in z w area.Slots 0) (word_in z w area.Pool) (word_in z w area.Host) (word_in z w area.Content) (word_in z w area.Pause 0) f
   pub host : (page : ℕ) → page < z.pages → word_in z w area.Host page ≡ host_word (f.host page).frame (f.host page).present (f.host page).writable 1
+  pub frames : (page : ℕ) → page < z.pages → (f.host page).frame < z.frames
+  pub apart : (page other : ℕ) → page < z.pages → other < z.pages → (f.host page).frame ≡ (f.host other).frame → page ≡ other
 
 -- The words after a run stand for the facts that its history gives.
 abbrev pub WordsStandForFacts : Type 0

@@ -211,7 +211,7 @@ may_change z line page change facts entry own changed = record {
   works = rw own refl;
   seen = facts.host page;
   looked = seen page (facts.host page) no_notes.host;
-  agrees = (refl, refl);
+  agrees = (refl, refl, λ there. there);
   changes = changed;
 }
 

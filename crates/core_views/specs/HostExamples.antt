@@ -67,7 +67,10 @@ host_example =
 
 abbrev pub HostPrints : Type 0
 HostPrints = text (one_by_one host_sizes host_example first_facts)
-    ≡ codes "2 vm done\n3 v0 frame 1 value 0\n4 h0 frame 4\n5 v0 frame 4 value 7\n6 h0 done\n7 h0 done\n8 v0 hostfault\n9 v0 frame 4 value 7\n10 h0 done\n11 v0 frame 4 value 7\n12 h0 frame 1\n13 v0 frame 1 value 10\n14 h0 refused out-of-range\n15 h1 frame 4\n16 h1 refused out-of-range\n17 v0 frame 4 value 0\n18 h1 done\n19 h1 done\n20 v0 frame 4 value 0\n21 v0 frame 4 value 5\n"
+    ≡ codes "2 vm done\n3 v0 frame 1 value 0\n4 h0 frame 4\n5 v0 frame 4 value 7\n6 h0 done\n7 h0 done\n8 v0 hostfault\n"
+    ++ codes "9 v0 frame 4 value 7\n10 h0 done\n11 v0 frame 4 value 7\n12 h0 frame 1\n13 v0 frame 1 value 10\n"
+    ++ codes "14 h0 refused out-of-range\n15 h1 frame 4\n16 h1 refused out-of-range\n17 v0 frame 4 value 0\n18 h1 done\n"
+    ++ codes "19 h1 done\n20 v0 frame 4 value 0\n21 v0 frame 4 value 5\n"
 
 -- Where there are as many pages as frames none can be moved. A page that is not present still names its frame.
 abbrev pub full_example : List Line

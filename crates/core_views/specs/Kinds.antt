@@ -5,7 +5,7 @@ use Rattle.core_views.specs.declared.kind.Kind.{Kind}
 use Rattle.core_views.specs.declared.kind.Operation.{Operation}
 use Rattle.core_views.specs.declared.kind.Operation.TheVariants as operation
 use Rattle.core_views.specs.declared.kind.StepKind.{StepKind}
-use Rattle.core_views.specs.declared.kind.StepKind.TheVariants.{Enter, Leave, Walk, Read, Write, Add, Begin, End, Control, Slot, Host, Swap, Share}
+use Rattle.core_views.specs.declared.kind.StepKind.TheVariants.{Enter, Leave, Walk, Read, Write, Add, Begin, End, Control, Slot, Host, Bring, Swap, Share}
 use Rattle.core_views.specs.declared.kind.StepKind.TheVariants.{Unshare, Exclude, Release, Claim, Fill, Give, Set, Zap, Ask, Await, Change, Publish}
 use Rattle.core_views.specs.declared.kind.StepKind.TheVariants.{Watch}
 
@@ -22,6 +22,7 @@ code_of End = 8
 code_of Control = 9
 code_of Slot = 10
 code_of Host = 11
+code_of Bring = 12
 code_of Swap = 13
 code_of Share = 15
 code_of Unshare = 16
@@ -51,6 +52,7 @@ kind_named code =
     if code == code_of End then End else
     if code == code_of Slot then Slot else
     if code == code_of Host then Host else
+    if code == code_of Bring then Bring else
     if code == code_of Swap then Swap else
     if code == code_of Share then Share else
     if code == code_of Unshare then Unshare else
@@ -80,6 +82,7 @@ operation_of End = operation.FetchAnd
 operation_of Control = operation.Load
 operation_of Slot = operation.Load
 operation_of Host = operation.Load
+operation_of Bring = operation.CompareExchange
 operation_of Swap = operation.CompareExchange
 operation_of Share = operation.FetchAdd
 operation_of Unshare = operation.FetchSub

@@ -1,5 +1,5 @@
 -- What holds of the definitions alone.
-use Rattle.std.specs.Prelude.{◌≡◌, ◌-◌, ◌^◌, ℕ, List, [], ◌∷◌, Bool, true, false, codes}
+use Rattle.std.specs.Prelude.{◌≡◌, ◌-◌, ◌^◌, ℕ, List, [], ◌∷◌, Bool, true, false, codes, ◌++◌}
 use Rattle.core_views.specs.declared.actor.Actor.TheVariants.{Vcpu, Manager}
 use Rattle.core_views.specs.declared.event.Event.{Event}
 use Rattle.core_views.specs.declared.trace.Command.TheVariants.{Access, SetSlot}
@@ -90,4 +90,7 @@ example =
 
 abbrev pub FlatPrints : Type 0
 FlatPrints = text (one_by_one example_sizes example first_facts)
-    ≡ codes "2 vm refused too-large\n3 vm refused bad-id\n4 vm done\n5 v0 mmio\n6 v0 frame 65 value 0\n7 vm refused overlap\n8 vm refused host-overlap\n9 vm done\n10 v0 frame 1 value 0\n11 v1 frame 1 value 0\n12 v1 frame 1 value 7\n13 v0 frame 1 value 6\n14 v0 frame 1 value 8\n15 v0 frame 0 value 0\n16 v0 frame 2 value 0\n17 v0 frame 66 value 0\n18 v0 mmio\n19 v0 mmio\n"
+    ≡ codes "2 vm refused too-large\n3 vm refused bad-id\n4 vm done\n5 v0 mmio\n6 v0 frame 65 value 0\n"
+    ++ codes "7 vm refused overlap\n8 vm refused host-overlap\n9 vm done\n10 v0 frame 1 value 0\n11 v1 frame 1 value 0\n"
+    ++ codes "12 v1 frame 1 value 7\n13 v0 frame 1 value 6\n14 v0 frame 1 value 8\n15 v0 frame 0 value 0\n"
+    ++ codes "16 v0 frame 2 value 0\n17 v0 frame 66 value 0\n18 v0 mmio\n19 v0 mmio\n"

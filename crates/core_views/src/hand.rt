@@ -1,5 +1,6 @@
 ghost use Rattle.std.specs.Prelude.{◌≤◌, IfOk, None, ◌≡◌, ◌-◌, ◌<◌, OnErr, OnOk, length, slice_get};
 ghost use Rattle.std.specs.Option.{option_copied};
+ghost use Rattle.core_views.specs.HostChanges.{is_own};
 ghost use Rattle.core_views.specs.SlotCommands.{change_refusal, slots_after};
 ghost use Rattle.core_views.specs.Traces.{IsCommandFor};
 ghost use Rattle.core_views.specs.Held.{answered, first_held, first_progress, has_line, line_at, next_line, progress_of, state_of};
@@ -52,6 +53,17 @@ impl Progress {
             },
             steps: 0,
             delays: 0,
+        }
+    }
+
+    /// Whether the host page is one of the actor's own, which it may change: the pages of a
+    /// machine are the host threads', so another actor has none.
+    pub fn owns(&self, page: u64) -> bool
+        ensures { result ≡ is_own self.now.sizes self.now.actor page }
+    {
+        match self.actor {
+            Actor::Host(host) => self.sizes.owns(host, page),
+            _ => false,
         }
     }
 }

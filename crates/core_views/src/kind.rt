@@ -26,6 +26,8 @@ pub enum StepKind {
     Slot,
     /// Loads a host word.
     Host,
+    /// Sets the bit of a host page that is present in its host word, where the word is as it was seen.
+    Bring,
     /// Exchanges an entry of the table, where it is as it was seen.
     Swap,
     /// Adds itself to the readers of the lock.
@@ -95,6 +97,7 @@ impl StepKind {
             StepKind::Control => 9,
             StepKind::Slot => 10,
             StepKind::Host => 11,
+            StepKind::Bring => 12,
             StepKind::Swap => 13,
             StepKind::Share => 15,
             StepKind::Unshare => 16,
@@ -132,7 +135,8 @@ impl StepKind {
                 Operation::FetchAnd
             }
             StepKind::Begin | StepKind::Give | StepKind::Ask => Operation::FetchOr,
-            StepKind::Swap | StepKind::Exclude | StepKind::Change => Operation::CompareExchange,
+            StepKind::Bring | StepKind::Swap => Operation::CompareExchange,
+            StepKind::Exclude | StepKind::Change => Operation::CompareExchange,
         }
     }
 }
@@ -167,6 +171,7 @@ impl Kind {
             8 => StepKind::End,
             10 => StepKind::Slot,
             11 => StepKind::Host,
+            12 => StepKind::Bring,
             13 => StepKind::Swap,
             15 => StepKind::Share,
             16 => StepKind::Unshare,

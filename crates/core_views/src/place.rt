@@ -164,7 +164,8 @@ pub enum Cause {
         old: u64,
         now: u64,
     },
-    /// This word held `read`, and holds `seen`, which isn't `read` or is frozen.
+    /// This word, an entry or the host word of the page, held `read`, and holds `seen`, which isn't
+    /// `read` or is frozen.
     Entry {
         word: u32,
         read: u64,
@@ -212,6 +213,8 @@ pub enum FaultPlace {
     Find { begun: bool },
     /// Loads the host word of the page behind the guest frame.
     Host,
+    /// Brings this page in, which isn't present.
+    Bring,
     /// Tries to share the lock, or takes itself out of its readers again.
     Share,
     /// Loads the next word of the check.

@@ -1,7 +1,7 @@
 ghost use Rattle.std.specs.Prelude.{◌≡◌, ◌+◌, ◌≤◌, [], ℕ, true, OnOk, OnErr, Some, nat_lt};
 ghost use Rattle.std.specs.Option.{option_map};
 ghost use Rattle.std.specs.Result.{result_err};
-ghost use Rattle.core_views.specs.Slots.{changes_fixed, contains, has_host_page, is_some_and, meets_guest_frames, meets_host_pages, resizes};
+ghost use Rattle.core_views.specs.Slots.{changes_fixed, contains, is_some_and, meets_guest_frames, meets_host_pages, resizes};
 ghost use Rattle.core_views.specs.Slots.{share_guest_frames, share_host_pages, slot_of, slot_with_id, with_slot};
 ghost use Rattle.core_views.specs.SlotSets.{IsSlotSet, flat_slots, slot_at, slot_holding, without_slot_at};
 ghost use Rattle.core_views.specs.Refusals.{after_log, after_set, delete_refusal, is_logged, log_refusal, moves_logged, set_refusal, slot_from};
@@ -58,13 +58,6 @@ fn reaches_past(end: u64, first: u64, count: u64) -> bool
     count > end || first > end - count
 }
 
-// Whether the slot has the host page.
-fn has_host_page(page: u64, slot: &Slot) -> bool
-    ensures { result ≡ has_host_page page slot.now }
-{
-    slot.host <= page && page - slot.host < slot.pages
-}
-
 // Whether two slots have a guest frame in common.
 fn share_guest_frames(a: &Slot, b: &Slot) -> bool
     ensures { result ≡ share_guest_frames a.now b.now }
@@ -76,7 +69,7 @@ fn share_guest_frames(a: &Slot, b: &Slot) -> bool
 fn share_host_pages(a: &Slot, b: &Slot) -> bool
     ensures { result ≡ share_host_pages a.now b.now }
 {
-    has_host_page(a.host, b) || has_host_page(b.host, a)
+    b.has_host_page(a.host) || a.has_host_page(b.host)
 }
 
 // Whether a slot was there, with another number of pages.

@@ -113,7 +113,8 @@ pub struct Invalidations {
 /// awaited.
 #[derive(Clone, Copy, Debug, PartialEq, Eq, Drop)]
 pub struct Flush {
-    /// How many were asked since the actor took the lock alone.
+    /// How many were asked since the actor took the lock alone with no invalidation of its own
+    /// open.
     pub asked: u64,
     /// How many of these were seen outside of the guest, or with nothing asked of them, since.
     pub awaited: u64,

@@ -1,6 +1,6 @@
 ghost use Rattle.std.specs.Prelude.{◌≡◌, [], None};
 ghost use Rattle.core_views.specs.Memory.{stored};
-ghost use Rattle.core_views.specs.Slots.{contains, is_write};
+ghost use Rattle.core_views.specs.Slots.{contains, has_host_page, is_write};
 
 use crate::{Actor, Sequence};
 use std::alloc::Global;
@@ -64,6 +64,13 @@ impl Slot {
         ensures { result ≡ contains gfn self.now }
     {
         self.base <= gfn && gfn - self.base < self.pages
+    }
+
+    /// Whether the host page is one of those behind its guest frames.
+    pub fn has_host_page(&self, page: u64) -> bool
+        ensures { result ≡ has_host_page page self.now }
+    {
+        self.host <= page && page - self.host < self.pages
     }
 }
 

@@ -6,7 +6,7 @@ use Rattle.core_views.specs.declared.place.FaultNext.{FaultNext}
 use Rattle.core_views.specs.declared.place.FaultNext.TheVariants.{Goes, Ends}
 use Rattle.core_views.specs.declared.hand.Seen.{Seen}
 use Rattle.core_views.specs.declared.place.FaultPlace.{FaultPlace}
-use Rattle.core_views.specs.declared.place.FaultPlace.TheVariants.{Begin, Snapshot, Find, Host, Share, Check, Claim, End}
+use Rattle.core_views.specs.declared.place.FaultPlace.TheVariants.{Begin, Snapshot, Find, Host, Bring, Share, Check, Claim, End}
 use Rattle.core_views.specs.declared.place.AccessPlace.TheVariants.{Fault}
 use Rattle.core_views.specs.declared.place.Place.TheVariants as place
 use Rattle.core_views.specs.declared.trace.Command.TheVariants.{Access}
@@ -80,6 +80,7 @@ ComesAfterCheck Begin = ⊥
 ComesAfterCheck Snapshot = ⊥
 ComesAfterCheck (Find begun) = ⊥
 ComesAfterCheck Host = ⊥
+ComesAfterCheck Bring = ⊥
 ComesAfterCheck Share = ⊥
 ComesAfterCheck (Check at) = ⊥
 ComesAfterCheck (End e) = ⊥

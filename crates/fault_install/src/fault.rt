@@ -15,7 +15,7 @@ ghost use Rattle.step_seats.specs.declared.turn.Turn.TheVariants.{More};
 use crate::answers::{claim_turn, end_turn, lock_turn};
 use core_views::{AccessPlace, FaultEnd, FaultPlace, Hand, Place};
 use grace_period::{begin, end};
-use host_map::look;
+use host_map::{bring_in, look};
 use invalidate_seq::{Check, Snapshot};
 use memslots::Find;
 use mmu_core::{access_note, part_rests};
@@ -94,6 +94,9 @@ impl FaultJob {
                 part_rests(s.hand());
                 let page = page_of(&s.hand().topics().search.slot, gfn);
                 let _ = look(s, page, note);
+            }
+            FaultPlace::Bring => {
+                let _ = bring_in(s, note);
             }
             FaultPlace::Check(stage) => {
                 let _ = Check { gfn, stage }.turn(s, note);
@@ -198,8 +201,8 @@ impl FaultJob {
 
     /// Makes the next step of the hand's line, which stands in its fault. `Wait`
     /// where a writer has the lock or a page was claimed by another actor meanwhile,
-    /// and `Retry` where the look-up holds no more or another actor's entry stood in
-    /// the way: the section is over then, and the access is to begin anew.
+    /// and `Retry` where the look-up holds no more, or another actor's entry or host
+    /// word stood in the way: the section is over then, and the access is to begin anew.
     pub fn turn<S: Stepper>(&self, s: &mut S) -> Turn<Faulted>
         requires stands { StandsInLine self.now (S.seat s.old).hand }
         requires reserved { 0 < (S.seat s.old).room }

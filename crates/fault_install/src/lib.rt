@@ -1,6 +1,6 @@
 //! The fault of a guest access that found no translation (tdp_mmu.c,
 //! `kvm_tdp_mmu_map`; locking.rst): in a section it looks up slot and host page,
-//! and while it shares the MMU lock it checks the look-up, goes down from the
+//! which it brings in where it isn't present, and while it shares the MMU lock it checks the look-up, goes down from the
 //! root, links the tables that are missing, and puts the leaf.
 #![tactic(auto)]
 

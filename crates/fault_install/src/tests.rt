@@ -1,17 +1,19 @@
 //! Faults of the accesses of two processors, beside a manager that sets slot 0: of
-//! guest frames 0 to 5, which are host pages 64 to 69, at frames 64 to 69.
+//! guest frames 0 to 5, which are host pages 64 to 69, at frames 64 to 69. A host thread
+//! evicts the last of them, in the tests that run its line.
 ghost use Rattle.std.specs.Prelude.{◌≡◌, ◌<◌, ◌≤◌, ◌^◌, false, [], ◌∷◌, IfOk, IfSome, OnOk, length};
 ghost use Rattle.core_views.specs.Sizes.{index_of};
 ghost use Rattle.core_views.specs.Traces.{IsTrace};
-ghost use Rattle.core_views.specs.declared.actor.Actor.TheVariants.{Manager, Vcpu};
-ghost use Rattle.core_views.specs.declared.trace.Command.TheVariants.{Access, SetSlot};
+ghost use Rattle.core_views.specs.declared.actor.Actor.TheVariants.{Host, Manager, Vcpu};
+ghost use Rattle.core_views.specs.declared.trace.Command.TheVariants.{Access, ChangeHost, SetSlot};
+ghost use Rattle.core_views.specs.declared.trace.HostChange.TheVariants.{Evict};
 ghost use Rattle.core_views.specs.declared.trace.Op.TheVariants.{Read, Write};
 ghost use Rattle.fault_install.specs.Faults.{StandsInLine};
 
 use crate::{FaultJob, Faulted};
 use core_views::{
-    AccessPlace, Actor, Cause, Command, FaultPlace, Hand, Header, Line, Lines, NoMemory, Op, Place,
-    Slot, Trace, Words,
+    AccessPlace, Actor, Cause, Command, FaultPlace, Hand, Header, HostChange, Line, Lines,
+    NoMemory, Op, Place, Slot, Trace, Words,
 };
 use mmu_core::{next_kind, rests};
 use std::alloc::Global;
@@ -21,6 +23,9 @@ use step_seats::{PlainMachine, Stepper, Turn};
 // Where the pool's map stands, and with 8 pool pages the entries of the root and
 // of pages 1, 3, 4 and 5.
 const MAP: usize = 12;
+
+// Where the host word of page 69 stands.
+const HOST_69: usize = 18 + 69;
 
 const ROOT: usize = 96;
 
@@ -128,8 +133,22 @@ fn writing(number: u32, gfn: u64) -> Line
     }
 }
 
-// The manager's line, accesses of one guest frame by both processors, and one of
-// guest frame 4 by the second one.
+// Takes away host page 69, which is guest frame 5.
+fn evicting() -> Line
+    ensures { result ≡ record { number = 6; actor = Host 0; command = ChangeHost 69 Evict } }
+{
+    Line {
+        number: 6,
+        actor: Actor::Host(0),
+        command: Command::ChangeHost {
+            page: 69,
+            change: HostChange::Evict,
+        },
+    }
+}
+
+// The manager's line, accesses of one guest frame by both processors, one of guest
+// frame 4 by the second one, and the host thread's line.
 #[tactic(auto, using(step_seats::proofs::Starts::one_is_distinct))]
 fn trace(alloc: Global, pool: u32, gfn: u64) -> Result<Trace, NoMemory>
     requires from { 4 ≤ pool }
@@ -140,7 +159,13 @@ fn trace(alloc: Global, pool: u32, gfn: u64) -> Result<Trace, NoMemory>
     Ok(Trace::unscheduled(
         alloc,
         header(alloc, pool)?,
-        Lines::from_vec(vec![in alloc; setting(), reading(gfn), writing(4, gfn), writing(5, 4)]?),
+        Lines::from_vec(vec![in alloc;
+            setting(),
+            reading(gfn),
+            writing(4, gfn),
+            writing(5, 4),
+            evicting(),
+        ]?),
     ))
 }
 
@@ -189,15 +214,15 @@ fn go_to_fault<S: Stepper>(s: &mut S) -> Result<(), Fail>
 }
 
 // Makes the turns of the fault that the seat's line stands in up to its end, or up
-// to its first link: how many they were, and the last one.
-fn run<S: Stepper>(s: &mut S, stops: bool) -> Result<(u64, Turn<Faulted>), Fail> {
-    let link = Place::Access(AccessPlace::Fault(FaultPlace::Link));
+// to this place: how many they were, and the last one.
+fn run<S: Stepper>(s: &mut S, stop: Option<FaultPlace>) -> Result<(u64, Turn<Faulted>), Fail> {
+    let stop = stop.map(|place| Place::Access(AccessPlace::Fault(place)));
     for turns in 0..9000 {
         s.reserve()?;
         let Some(job) = fault_of(s.hand()) else {
             return Err(Fail::new("the line stands in no fault"));
         };
-        if stops && s.hand().progress().place == link {
+        if stop == Some(s.hand().progress().place) {
             return Ok((turns, Turn::More));
         }
         let last = job.turn(s);
@@ -217,12 +242,16 @@ fn leave_the_guest(machine: &mut PlainMachine, vcpu: u8) -> Result<(), Fail> {
 }
 
 // The turns of the next fault of a processor of the machine.
-fn fault(machine: &mut PlainMachine, vcpu: u8, stops: bool) -> Result<(u64, Turn<Faulted>), Fail> {
+fn fault(
+    machine: &mut PlainMachine,
+    vcpu: u8,
+    stop: Option<FaultPlace>,
+) -> Result<(u64, Turn<Faulted>), Fail> {
     let actor = Actor::Vcpu(vcpu);
     expect_actor(machine, actor)?;
     let mut seat = machine.as_actor(actor);
     go_to_fault(&mut seat)?;
-    run(&mut seat, stops)
+    run(&mut seat, stop)
 }
 
 // The first fault makes 12 turns up to the root, then for the levels 4, 3 and 2
@@ -235,15 +264,15 @@ fn puts_tables_and_leaves(rt: HostRuntime) -> Result<(), Fail> {
     let mut machine = start(rt.alloc(), &trace(rt.alloc(), 8, 5)?)?;
     leave_the_guest(&mut machine, 1)?;
     assert_eq!(rt;
-        fault(&mut machine, 0, false)?,
+        fault(&mut machine, 0, None)?,
         (12 + 3 * 517 + 4, Turn::Done(Faulted::Installed))
     );
     assert_eq!(rt;
-        fault(&mut machine, 1, false)?,
+        fault(&mut machine, 1, None)?,
         (12 + 4 + 2, Turn::Done(Faulted::Installed))
     );
     assert_eq!(rt;
-        fault(&mut machine, 1, false)?,
+        fault(&mut machine, 1, None)?,
         (12 + 3 + 4, Turn::Done(Faulted::Installed))
     );
     let closing = machine.into_closing();
@@ -263,7 +292,7 @@ fn puts_tables_and_leaves(rt: HostRuntime) -> Result<(), Fail> {
 fn leaves_outside_the_slot(rt: HostRuntime) -> Result<(), Fail> {
     let mut machine = start(rt.alloc(), &trace(rt.alloc(), 4, 6)?)?;
     assert_eq!(rt;
-        fault(&mut machine, 0, false)?,
+        fault(&mut machine, 0, None)?,
         (3 + 4 + 31 + 1, Turn::Done(Faulted::Mmio))
     );
     Ok(())
@@ -274,7 +303,7 @@ fn leaves_outside_the_slot(rt: HostRuntime) -> Result<(), Fail> {
 fn starves_where_no_page_is_free(rt: HostRuntime) -> Result<(), Fail> {
     let mut machine = start(rt.alloc(), &trace(rt.alloc(), 4, 5)?)?;
     assert_eq!(rt;
-        fault(&mut machine, 0, false)?,
+        fault(&mut machine, 0, None)?,
         (12 + 2 * 517 + 4, Turn::Done(Faulted::Starved))
     );
     let closing = machine.into_closing();
@@ -292,13 +321,16 @@ fn starves_where_no_page_is_free(rt: HostRuntime) -> Result<(), Fail> {
 #[test]
 fn loses_its_link(rt: HostRuntime) -> Result<(), Fail> {
     let mut machine = start(rt.alloc(), &trace(rt.alloc(), 8, 5)?)?;
-    assert_eq!(rt; fault(&mut machine, 0, true)?, (12 + 516, Turn::More));
     assert_eq!(rt;
-        fault(&mut machine, 1, false)?,
+        fault(&mut machine, 0, Some(FaultPlace::Link))?,
+        (12 + 516, Turn::More)
+    );
+    assert_eq!(rt;
+        fault(&mut machine, 1, None)?,
         (12 + 3 * 517 + 4, Turn::Done(Faulted::Installed))
     );
     assert_eq!(rt;
-        fault(&mut machine, 0, false)?,
+        fault(&mut machine, 0, None)?,
         (
             4,
             Turn::Retry(Cause::Entry {
@@ -316,5 +348,78 @@ fn loses_its_link(rt: HostRuntime) -> Result<(), Fail> {
     assert_eq!(rt; words[PAGE_3], 0x4807);
     assert_eq!(rt; words[PAGE_4], 0x5807);
     assert_eq!(rt; words[PAGE_5 + 5], 0x0600_0000_0004_5807);
+    Ok(())
+}
+
+// Makes the host thread's line.
+fn evict(machine: &mut PlainMachine) -> Result<(), Fail> {
+    expect_actor(machine, Actor::Host(0))?;
+    let mut seat = machine.as_actor(Actor::Host(0));
+    run_lines(&mut seat, 40)?;
+    Ok(())
+}
+
+// The first processor brings the page in, after 8 turns, and goes on as for a page that is
+// present; the second one finds it present.
+#[test]
+fn brings_an_absent_page_in(rt: HostRuntime) -> Result<(), Fail> {
+    let mut machine = start(rt.alloc(), &trace(rt.alloc(), 8, 5)?)?;
+    evict(&mut machine)?;
+    leave_the_guest(&mut machine, 1)?;
+    assert_eq!(rt;
+        fault(&mut machine, 0, Some(FaultPlace::Bring))?,
+        (8, Turn::More)
+    );
+    assert_eq!(rt;
+        fault(&mut machine, 0, None)?,
+        (5 + 3 * 517 + 4, Turn::Done(Faulted::Installed))
+    );
+    assert_eq!(rt;
+        fault(&mut machine, 1, None)?,
+        (12 + 4 + 2, Turn::Done(Faulted::Installed))
+    );
+    let closing = machine.into_closing();
+    let words = closing.words.as_slice();
+    assert_eq!(rt; words.len(), 4452);
+    assert_eq!(rt; words[HOST_69], 0x4_5007);
+    assert_eq!(rt; words[PAGE_4 + 5], 0x0600_0000_0004_5807);
+    Ok(())
+}
+
+// Both processors see the page absent, and the first one brings it in before: the second one
+// ends its section, and is to begin anew. Its line finds the leaf then, and its next fault is
+// one of guest frame 4, which is present.
+#[test]
+fn loses_a_page_that_it_brings_in(rt: HostRuntime) -> Result<(), Fail> {
+    let mut machine = start(rt.alloc(), &trace(rt.alloc(), 8, 5)?)?;
+    evict(&mut machine)?;
+    assert_eq!(rt;
+        fault(&mut machine, 1, Some(FaultPlace::Bring))?,
+        (8, Turn::More)
+    );
+    assert_eq!(rt;
+        fault(&mut machine, 0, None)?,
+        (13 + 3 * 517 + 4, Turn::Done(Faulted::Installed))
+    );
+    assert_eq!(rt;
+        fault(&mut machine, 1, None)?,
+        (
+            2,
+            Turn::Retry(Cause::Entry {
+                word: 87,
+                read: 0x4_5006,
+                seen: 0x4_5007
+            })
+        )
+    );
+    assert_eq!(rt;
+        fault(&mut machine, 1, None)?,
+        (12 + 3 + 4, Turn::Done(Faulted::Installed))
+    );
+    let closing = machine.into_closing();
+    let words = closing.words.as_slice();
+    assert_eq!(rt; words.len(), 4452);
+    assert_eq!(rt; words[HOST_69], 0x4_5007);
+    assert_eq!(rt; words[PAGE_4 + 4], 0x0600_0000_0004_4807);
     Ok(())
 }

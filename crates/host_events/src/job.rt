@@ -1,5 +1,5 @@
 ghost use Rattle.std.specs.Prelude.{◌≡◌, ◌<◌, None, length, true};
-ghost use Rattle.core_views.specs.HostChanges.{changes_host, is_own};
+ghost use Rattle.core_views.specs.HostChanges.{changes_host};
 ghost use Rattle.core_views.specs.declared.place.HostPlace.TheVariants as at;
 ghost use Rattle.host_events.specs.HostLines.{ChangesPage, IsAt, MakesChange, MakesStep};
 ghost use Rattle.mmu_core.specs.lines.HostSteps.{word_put};
@@ -7,10 +7,11 @@ ghost use Rattle.mmu_core.specs.machine.Turns.{IsSameHand, line_of};
 ghost use Rattle.step_seats.specs.LineTurns.{Says, TurnsLine, turn_told};
 ghost use Rattle.step_seats.specs.Moves.{KeepsRoom};
 
-use core_views::{Actor, Command, Hand, HostChange, HostPlace, Seen, Topics};
+use core_views::{Command, Hand, HostChange, HostPlace, Seen, Topics};
 use host_map::{change, look};
 use invalidate_seq::Snapshot;
 use mmu_core::{host_note, host_place, knows, rests, revised};
+use part_steps::word_looked;
 use range_notifier::{BeginJob, EndJob};
 use step_seats::{Stepper, Turn};
 
@@ -47,26 +48,11 @@ fn change_of(hand: &Hand) -> HostChange
     }
 }
 
-// Whether the page is the actor's own.
-fn is_own(hand: &Hand, page: u64) -> bool
-    ensures { result ≡ is_own hand.now.core.state.sizes hand.now.core.state.actor page }
-{
-    let progress = hand.progress();
-    match progress.actor {
-        Actor::Host(host) => progress.sizes.owns(host, page),
-        _ => false,
-    }
-}
-
 // The host word that is to stand in place of the one that was looked up.
 fn word_put(change: HostChange, topics: &Topics) -> u64
     ensures { result ≡ word_put change topics.now }
 {
-    let looked = match topics.host {
-        Some(look) => look.word,
-        None => 0,
-    };
-    revised(change, looked)
+    revised(change, word_looked(topics.host))
 }
 
 // Looks at the page's host word; where the page isn't the actor's own, at the sequence number
@@ -78,7 +64,7 @@ fn look_up<S: Stepper>(s: &mut S, page: u64, change: HostChange, note: u64)
     ensures room { KeepsRoom (S.seat s.old) (S.seat s.new) }
     ensures same { ((S.seat s.new).actor ≡ (S.seat s.old).actor) × (S.frame s.new ≡ S.frame s.old) }
 {
-    if is_own(s.hand(), page) {
+    if s.hand().progress().owns(page) {
         let _ = look(s, page, note);
     } else {
         let _ = Snapshot::new().turn(s, note);

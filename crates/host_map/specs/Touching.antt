@@ -1,5 +1,5 @@
 -- Host words, and the guest's operations on the words of frames (mmu.rst, "Memory").
-use Rattle.std.specs.Prelude.{◌≡◌, ◌≢◌, ℕ, Some, slice_index}
+use Rattle.std.specs.Prelude.{◌≡◌, ◌≢◌, ℕ, true, Some, slice_index}
 use Rattle.core_views.specs.declared.topics.Topics.{Topics}
 use Rattle.core_views.specs.declared.kind.Kind.{Kind}
 use Rattle.core_views.specs.declared.sizes.Sizes.{Sizes}
@@ -9,9 +9,11 @@ use Rattle.core_views.specs.Held.{Held}
 use Rattle.core_views.specs.Memory.{stored}
 use Rattle.spte_words.specs.declared.area.Area.TheVariants as area
 use Rattle.spte_words.specs.Areas.{content_index, place}
+use Rattle.spte_words.specs.HostWords.{with_presence}
 use Rattle.mmu_core.specs.lines.AccessSteps.{touch_of}
 use Rattle.mmu_core.specs.machine.Machine.{World}
 use Rattle.part_steps.specs.Tasks.{kind_of_task, map_of}
+use Rattle.part_steps.specs.declared.part_step.PartStep.{PartStep}
 use Rattle.part_steps.specs.declared.part_step.PartStep.TheVariants.{Host}
 use Rattle.part_steps.specs.declared.part_step.PartStep.TheVariants as part
 use Rattle.part_steps.specs.PartTasks.{page_looked, word_looked}
@@ -59,7 +61,21 @@ LeavesWords frame word note before after = WhereMade (touch_kind before.hand.sta
 abbrev pub WasHostWord : ℕ → ℕ → ℕ → Seat → Seat → Type 0
 WasHostWord page note answer before after = WherePartMade (Host page) note before after (λ w v. answer ≡ host_in before.hand.state.sizes page w)
 
--- What came of an exchange of the host word that was looked up: it stands in the map where the word was still this one, and else another word was seen.
+-- ---- exchanges of the host word that was looked up
+
+-- The step is such an exchange: a page is brought in, or its host word is changed.
+abbrev pub IsExchange : PartStep → Type 0
+IsExchange part.Bring = Unit {0}
+IsExchange (part.Change new_) = Unit {0}
+IsExchange _ = ⊥
+
+-- the host word that it puts in place of the one that was looked up
+abbrev pub word_exchanged : PartStep → Topics → ℕ
+word_exchanged part.Bring t = with_presence true (word_looked t.host)
+word_exchanged (part.Change new_) t = new_
+word_exchanged _ t = word_looked t.host
+
+-- What came of it: the new word stands in the map where the word was still this one, and else another word was seen.
 abbrev pub change_found : ℕ → Changed → ℕ
 change_found was Set = was
 change_found was (Lost seen) = seen
@@ -79,13 +95,13 @@ WasAnother was Set = Unit {0}
 WasAnother was (Lost seen) = seen ≢ was
 
 -- The exchange was made, and answers by what it found.
-pub record Changes (new_ note : ℕ) (answer : Changed) (before after : Seat) : Type 0 where
-  pub made : MadePart (part.Change new_) note (change_found (word_looked before.hand.topics.host) answer) before after
+pub record Changes (step : PartStep) (note : ℕ) (answer : Changed) (before after : Seat) : Type 0 where
+  pub made : MadePart step note (change_found (word_looked before.hand.topics.host) answer) before after
   pub differs : WasAnother (word_looked before.hand.topics.host) answer
 
 -- Where it was made, the page's host word is the new one after it, if it won, and else the one that it saw, as before.
-abbrev pub LeavesHostWord : Changed → ℕ → ℕ → Seat → Seat → Type 0
-LeavesHostWord answer new_ note before after =
-    WherePartMade (part.Change new_) note before after
+abbrev pub LeavesHostWord : Changed → PartStep → ℕ → Seat → Seat → Type 0
+LeavesHostWord answer step note before after =
+    WherePartMade step note before after
     (λ w v. (host_in before.hand.state.sizes (page_looked before.hand.topics.host) w ≡ change_found (word_looked before.hand.topics.host) answer)
-    × (host_in before.hand.state.sizes (page_looked before.hand.topics.host) v ≡ word_held new_ answer))
+    × (host_in before.hand.state.sizes (page_looked before.hand.topics.host) v ≡ word_held (word_exchanged step before.hand.topics) answer))

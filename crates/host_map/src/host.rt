@@ -1,13 +1,13 @@
-ghost use Rattle.std.specs.Prelude.{◌≡◌, ◌<◌, Some};
-ghost use Rattle.host_map.specs.Touching.{Changes, LeavesHostWord, WasHostWord, holding_word};
+ghost use Rattle.std.specs.Prelude.{◌≡◌, ◌<◌, Some, true};
+ghost use Rattle.host_map.specs.Touching.{Changes, IsExchange, LeavesHostWord, WasHostWord, holding_word, word_exchanged};
 ghost use Rattle.mmu_core.specs.machine.MayMake.{MayMake};
-ghost use Rattle.part_steps.specs.declared.part_step.PartStep.TheVariants.{Change, Host};
+ghost use Rattle.part_steps.specs.declared.part_step.PartStep.TheVariants.{Bring, Change, Host};
 ghost use Rattle.part_steps.specs.PartTasks.{word_looked};
+ghost use Rattle.spte_words.specs.HostWords.{with_presence};
 ghost use Rattle.step_seats.specs.Moves.{KeepsRoom};
 ghost use Rattle.step_seats.specs.PartTurns.{MadePart};
 
-use core_views::HostLook;
-use part_steps::PartStep;
+use part_steps::{PartStep, word_looked};
 use step_seats::{Stepper, make_part};
 
 /// Loads the host word of a host page (below the pages of the machine), keeps it
@@ -26,23 +26,51 @@ pub fn look<S: Stepper>(s: &mut S, page: u64, note: u64) -> u64
     make_part(s, PartStep::Host(page), note)
 }
 
-/// What came of an exchange of a host word.
+/// What came of an exchange of the host word that was looked up.
 #[derive(Clone, Copy, Debug, PartialEq, Eq, Drop)]
 pub enum Changed {
     /// The page has the new host word.
     Set,
-    /// Another actor had changed the host word before: this one was found, and stays.
+    /// Another actor had exchanged the host word before: this one was found, and stays.
     Lost(u64),
 }
 
-// The host word that was looked up; 0 where none was.
-fn word_looked(look: Option<HostLook>) -> u64
-    ensures { result ≡ word_looked look }
+// Makes this step, which exchanges the host word that was looked up, and says what came of it.
+fn exchange<S: Stepper>(s: &mut S, step: PartStep, note: u64) -> Changed
+    requires exchange { IsExchange step }
+    requires may { MayMake step note (S.seat s.old).hand }
+    requires reserved { 0 < (S.seat s.old).room }
+    ensures step { Changes step note result (S.seat s.old) (S.seat s.new) }
+    ensures host { (S.seat s.new).hand.topics ≡ holding_word (word_exchanged step (S.seat s.old).hand.topics) result (S.seat s.old).hand.topics }
+    ensures told { LeavesHostWord result step note (S.seat s.old) (S.seat s.new) }
+    ensures room { KeepsRoom (S.seat s.old) (S.seat s.new) }
+    ensures same { ((S.seat s.new).actor ≡ (S.seat s.old).actor) × (S.frame s.new ≡ S.frame s.old) }
 {
-    match look {
-        Some(look) => look.word,
-        None => 0,
+    let looked = word_looked(s.hand().topics().host);
+    let seen = make_part(s, step, note);
+    if seen == looked {
+        Changed::Set
+    } else {
+        Changed::Lost(seen)
     }
+}
+
+/// Brings the host page in that was looked up, which isn't present: exchanges its host word for
+/// the same one with the page present (KVM's mmu.rst, "Memory": the host's map is what the
+/// tables follow, so the host has the page first). The hand keeps what the page's host word is
+/// then: with the page present after `Set`, and after `Lost` the one that was found. It never
+/// waits and takes no memory.
+pub fn bring_in<S: Stepper>(s: &mut S, note: u64) -> Changed
+    requires may { MayMake Bring note (S.seat s.old).hand }
+    requires reserved { 0 < (S.seat s.old).room }
+    ensures step { Changes Bring note result (S.seat s.old) (S.seat s.new) }
+    ensures host { (S.seat s.new).hand.topics
+        ≡ holding_word (with_presence true (word_looked (S.seat s.old).hand.topics.host)) result (S.seat s.old).hand.topics }
+    ensures told { LeavesHostWord result Bring note (S.seat s.old) (S.seat s.new) }
+    ensures room { KeepsRoom (S.seat s.old) (S.seat s.new) }
+    ensures same { ((S.seat s.new).actor ≡ (S.seat s.old).actor) × (S.frame s.new ≡ S.frame s.old) }
+{
+    exchange(s, PartStep::Bring, note)
 }
 
 /// Exchanges the host word that was looked up for this one (KVM's mmu_notifier.rst: the
@@ -52,17 +80,11 @@ fn word_looked(look: Option<HostLook>) -> u64
 pub fn change<S: Stepper>(s: &mut S, word: u64, note: u64) -> Changed
     requires may { MayMake (Change word) note (S.seat s.old).hand }
     requires reserved { 0 < (S.seat s.old).room }
-    ensures step { Changes word note result (S.seat s.old) (S.seat s.new) }
+    ensures step { Changes (Change word) note result (S.seat s.old) (S.seat s.new) }
     ensures host { (S.seat s.new).hand.topics ≡ holding_word word result (S.seat s.old).hand.topics }
-    ensures told { LeavesHostWord result word note (S.seat s.old) (S.seat s.new) }
+    ensures told { LeavesHostWord result (Change word) note (S.seat s.old) (S.seat s.new) }
     ensures room { KeepsRoom (S.seat s.old) (S.seat s.new) }
     ensures same { ((S.seat s.new).actor ≡ (S.seat s.old).actor) × (S.frame s.new ≡ S.frame s.old) }
 {
-    let looked = word_looked(s.hand().topics().host);
-    let seen = make_part(s, PartStep::Change(word), note);
-    if seen == looked {
-        Changed::Set
-    } else {
-        Changed::Lost(seen)
-    }
+    exchange(s, PartStep::Change(word), note)
 }

@@ -7,7 +7,7 @@ mod content;
 mod host;
 
 pub use content::{load, touch};
-pub use host::{Changed, change, look};
+pub use host::{Changed, bring_in, change, look};
 
 #[cfg(test)]
 mod tests;

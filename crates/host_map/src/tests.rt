@@ -1,15 +1,22 @@
 //! Host words and content words, at a machine.
-ghost use Rattle.std.specs.Prelude.{◌≡◌, ◌-◌, ◌^◌, [], ◌∷◌, IfOk, false};
-ghost use Rattle.core_views.specs.declared.actor.Actor.TheVariants.{Manager, Vcpu};
-ghost use Rattle.core_views.specs.declared.trace.Command.TheVariants.{Access, SetSlot};
+ghost use Rattle.std.specs.Prelude.{◌≡◌, ◌<◌, ◌-◌, ◌^◌, [], ◌∷◌, IfOk, OnOk, false, length, true};
+ghost use Rattle.core_views.specs.declared.actor.Actor.TheVariants.{Host, Manager, Vcpu};
+ghost use Rattle.core_views.specs.declared.trace.Command.TheVariants.{Access, ChangeHost, SetSlot};
+ghost use Rattle.core_views.specs.declared.trace.HostChange.TheVariants.{Allow, Evict};
 ghost use Rattle.core_views.specs.declared.trace.Op.TheVariants.{Add, Read, Write};
+ghost use Rattle.core_views.specs.Sizes.{index_of};
 ghost use Rattle.core_views.specs.Traces.{IsTrace};
+ghost use Rattle.mmu_core.specs.machine.MayMake.{MayMake};
+ghost use Rattle.mmu_core.specs.machine.Worlds.{HandReached};
 
 use crate::content::touch_kind;
-use crate::{load, look, touch};
-use core_views::{Actor, Command, Header, HostLook, Line, Lines, NoMemory, Op, Slot, Trace, Words};
+use crate::{Changed, bring_in, change, load, look, touch};
+use core_views::{
+    Actor, Command, Hand, Header, HostChange, HostLook, Line, Lines, NoMemory, Op, Slot, Trace,
+    Words,
+};
 use mmu_core::{allows, next_kind, part_rests, rests};
-use part_steps::PartStep;
+use part_steps::{PartStep, has_needs, part_kind};
 use std::alloc::Global;
 use std::test::Fail;
 use step_seats::{PlainMachine, Stepper};
@@ -51,18 +58,34 @@ fn slot_line() -> Line
     }
 }
 
-// A line of v0 at word 1 of guest frame 18, which is host page 66.
-fn access_line(number: u32, op: Op) -> Line
-    ensures { result ≡ record { number = number; actor = Vcpu 0; command = Access 18 1 op } }
+// The host word of page 66, where it is present, and where it isn't.
+const PRESENT: u64 = 4096 * 66 + 7;
+
+const ABSENT: u64 = 4096 * 66 + 6;
+
+// A line of a processor at word 1 of guest frame 18, which is host page 66.
+fn access_line(number: u32, vcpu: u8, op: Op) -> Line
+    ensures { result ≡ record { number = number; actor = Vcpu vcpu; command = Access 18 1 op } }
 {
     Line {
         number,
-        actor: Actor::Vcpu(0),
+        actor: Actor::Vcpu(vcpu),
         command: Command::Access {
             gfn: 18,
             word: 1,
             op,
         },
+    }
+}
+
+// A line of h0 that changes host page 66.
+fn host_line(number: u32, change: HostChange) -> Line
+    ensures { result ≡ record { number = number; actor = Host 0; command = ChangeHost 66 change } }
+{
+    Line {
+        number,
+        actor: Actor::Host(0),
+        command: Command::ChangeHost { page: 66, change },
     }
 }
 
@@ -113,6 +136,58 @@ fn touch_next<S: Stepper>(
     Ok(None)
 }
 
+// Whether the next step of the hand's line is this step of a part, with which it doesn't end.
+fn is_next(hand: &Hand, step: PartStep) -> bool
+    requires reached { ∥ HandReached hand.now.core ∥₁ }
+    ensures { result ≡ true → MayMake step 0 hand.now.core }
+{
+    if hand.next_line().is_none() {
+        return false;
+    }
+    rests(hand);
+    part_rests(hand);
+    if !has_needs(hand, step) {
+        return false;
+    }
+    next_kind(hand) == part_kind(hand, step, 0)
+}
+
+// Makes the steps of the seat's lines until the next one is this step of a part.
+fn go_to<S: Stepper>(seat: &mut S, step: PartStep) -> Result<(), NoMemory> {
+    for _ in 0..80 {
+        seat.reserve()?;
+        let hand = seat.hand();
+        if hand.next_line().is_none() || is_next(hand, step) {
+            break;
+        }
+        rests(hand);
+        let kind = next_kind(hand);
+        let _ = seat.act(kind);
+    }
+    Ok(())
+}
+
+// Brings the page in that the seat has looked up, if that is the next step of its line.
+fn bring_next<S: Stepper>(seat: &mut S) -> Result<Option<Changed>, NoMemory> {
+    seat.reserve()?;
+    if is_next(seat.hand(), PartStep::Bring) {
+        Ok(Some(bring_in(seat, 0)))
+    } else {
+        Ok(None)
+    }
+}
+
+// Changes the host word that the seat has looked up to this one, if that is the next step of its
+// line.
+fn change_next<S: Stepper>(seat: &mut S, word: u64) -> Result<Option<Changed>, NoMemory> {
+    seat.reserve()?;
+    if is_next(seat.hand(), PartStep::Change(word)) {
+        Ok(Some(change(seat, word, 0)))
+    } else {
+        Ok(None)
+    }
+}
+
 // A trace with no line.
 #[tactic(auto, using(step_seats::proofs::Starts::one_is_distinct))]
 fn trace(alloc: Global) -> Result<Trace, NoMemory>
@@ -135,6 +210,27 @@ fn lines_trace(alloc: Global, write: Line, add: Line, read: Line) -> Result<Trac
         alloc,
         header(alloc)?,
         Lines::from_vec(vec![in alloc; slot_line(), write, add, read]?),
+    ))
+}
+
+// A trace of the manager's line, a read by each processor, and two lines of h0: the page of the
+// reads is taken away, and writes to it are allowed.
+#[tactic(auto, using(step_seats::proofs::Starts::one_is_distinct))]
+fn absent_trace(alloc: Global) -> Result<Trace, NoMemory>
+    ensures trace { IfOk result IsTrace }
+    ensures vcpus { IfOk result (λ t. t.header.vcpus ≡ 2) }
+{
+    let reads = [access_line(3, 0, Op::Read), access_line(4, 1, Op::Read)];
+    let changes = [
+        host_line(5, HostChange::Evict),
+        host_line(6, HostChange::Allow),
+    ];
+    let [first, second] = reads;
+    let [evict, allow] = changes;
+    Ok(Trace::unscheduled(
+        alloc,
+        header(alloc)?,
+        Lines::from_vec(vec![in alloc; slot_line(), first, second, evict, allow]?),
     ))
 }
 
@@ -163,9 +259,9 @@ fn looks_at_a_page(rt: HostRuntime) -> Result<(), Fail> {
 fn touches_a_word(rt: HostRuntime) -> Result<(), Fail> {
     let alloc = rt.alloc();
     let [write, add, read] = [
-        access_line(3, Op::Write(77)),
-        access_line(4, Op::Add(u64::MAX - 1)),
-        access_line(5, Op::Read),
+        access_line(3, 0, Op::Write(77)),
+        access_line(4, 0, Op::Add(u64::MAX - 1)),
+        access_line(5, 0, Op::Read),
     ];
     let trace = lines_trace(alloc, write, add, read)?;
     let mut machine = PlainMachine::new(alloc, &trace)?;
@@ -194,5 +290,78 @@ fn touches_a_word(rt: HostRuntime) -> Result<(), Fail> {
             "content word {i}"
         );
     }
+    Ok(())
+}
+
+// Looks whether the machine has this actor.
+fn expect_actor(machine: &PlainMachine, actor: Actor) -> Result<(), Fail>
+    ensures { OnOk result (index_of machine.now.sizes actor < length machine.now.hands) }
+{
+    let sizes = machine.sizes();
+    if sizes.index_of(actor) >= sizes.actors() {
+        return Err(Fail::new("there is no such actor"));
+    }
+    Ok(())
+}
+
+// Makes the steps of the actor's lines until the next one is this step of a part.
+fn lead(machine: &mut PlainMachine, actor: Actor, step: PartStep) -> Result<(), Fail> {
+    expect_actor(machine, actor)?;
+    let mut seat = machine.as_actor(actor);
+    go_to(&mut seat, step)?;
+    Ok(())
+}
+
+// Brings the page in that the processor has looked up: what comes of it, and what it holds then.
+fn bring(
+    machine: &mut PlainMachine,
+    vcpu: u8,
+) -> Result<(Option<Changed>, Option<HostLook>), Fail> {
+    expect_actor(machine, Actor::Vcpu(vcpu))?;
+    let mut seat = machine.as_actor(Actor::Vcpu(vcpu));
+    let changed = bring_next(&mut seat)?;
+    Ok((changed, seat.hand().topics().host))
+}
+
+// Changes the host word that h0 has looked up to this one.
+fn change_to(machine: &mut PlainMachine, word: u64) -> Result<Option<Changed>, Fail> {
+    expect_actor(machine, Actor::Host(0))?;
+    let mut seat = machine.as_actor(Actor::Host(0));
+    Ok(change_next(&mut seat, word)?)
+}
+
+// A page is taken away, and looked at by h0 again and by both processors. The first one brings it
+// in: the second one's exchange is lost, and so is that of h0, which tries again with the word
+// that it found.
+#[test]
+fn brings_a_page_in_once(rt: HostRuntime) -> Result<(), Fail> {
+    let alloc = rt.alloc();
+    let trace = absent_trace(alloc)?;
+    let mut machine = PlainMachine::new(alloc, &trace)?;
+    expect_actor(&machine, Actor::Manager)?;
+    let mut manager = machine.as_actor(Actor::Manager);
+    run(&mut manager)?;
+    drop(manager);
+    lead(&mut machine, Actor::Host(0), PartStep::Change(ABSENT))?;
+    assert_eq!(rt; change_to(&mut machine, ABSENT)?, Some(Changed::Set));
+    lead(&mut machine, Actor::Host(0), PartStep::Change(ABSENT))?;
+    lead(&mut machine, Actor::Vcpu(1), PartStep::Bring)?;
+    lead(&mut machine, Actor::Vcpu(0), PartStep::Bring)?;
+    let look = Some(HostLook {
+        page: 66,
+        word: PRESENT,
+    });
+    let lost = Some(Changed::Lost(PRESENT));
+    assert_eq!(rt; bring(&mut machine, 0)?, (Some(Changed::Set), look));
+    assert_eq!(rt; bring(&mut machine, 0)?, (None, look));
+    assert_eq!(rt; bring(&mut machine, 1)?, (lost, look));
+    assert_eq!(rt; change_to(&mut machine, ABSENT)?, lost);
+    assert_eq!(rt; change_to(&mut machine, ABSENT)?, None);
+    assert_eq!(rt; change_to(&mut machine, PRESENT)?, Some(Changed::Set));
+    let closing = machine.into_closing();
+    let words = closing.words.as_slice();
+    assert_eq!(rt; words.len(), 4452);
+    // the host words begin at word 18
+    assert_eq!(rt; words[18 + 66], PRESENT);
     Ok(())
 }

@@ -1,14 +1,14 @@
 -- The words of an invalidation's begin and end, each under the lock alone (kvm_main.c, kvm_mmu_invalidate_begin and kvm_mmu_invalidate_end; locking.rst,
 -- mmu_invalidate_seq and mmu_invalidate_in_progress): its begin widens the range of the open ones and counts one more, its end raises the sequence number
 -- and counts one less.
-use Rattle.std.specs.Prelude.{◌≡◌, ◌+◌, ◌-◌, ◌<◌, ◌≤◌, ℕ, ◌==◌, if◌then◌else◌, true, false, Option, Some, None, IfSome}
+use Rattle.std.specs.Prelude.{◌≡◌, ◌+◌, ◌-◌, ◌<◌, ◌≤◌, ℕ, ◌==◌, if◌then◌else◌, true, false, Option, IfSome}
 use Rattle.core_views.specs.declared.place.CheckStage.{CheckStage}
 use Rattle.core_views.specs.declared.place.CheckStage.TheVariants as word_of
 use Rattle.core_views.specs.declared.topics.Invalidations.{Invalidations}
 use Rattle.core_views.specs.declared.topics.Topics.{Topics}
 use Rattle.part_steps.specs.declared.part_step.PartStep.{PartStep}
 use Rattle.part_steps.specs.declared.part_step.PartStep.TheVariants as part
-use Rattle.part_steps.specs.InvalidationRange.{greater, lesser}
+use Rattle.part_steps.specs.InvalidationRange.{end_with, start_with}
 use Rattle.mmu_core.specs.machine.View.{word_in}
 use Rattle.step_seats.specs.PartTurns.{WherePartMade}
 use Rattle.step_seats.specs.Seats.{Seat}
@@ -22,16 +22,6 @@ use Rattle.invalidate_seq.specs.declared.open.OpenStage.TheVariants as opens
 use Rattle.invalidate_seq.specs.declared.shut.Shut.{Shut}
 use Rattle.invalidate_seq.specs.declared.shut.ShutStage.{ShutStage}
 use Rattle.invalidate_seq.specs.declared.shut.ShutStage.TheVariants as shuts
-
--- The range of the open invalidations, with one more over this guest frame, or over none: from its first frame up to the frame after it. It is empty where
--- there is neither.
-abbrev pub start_with : Option ℕ → Invalidations → ℕ
-start_with (Some gfn) n = if n.count == 0 then gfn else lesser n.start gfn
-start_with None n = if n.count == 0 then 0 else n.start
-
-abbrev pub end_with : Option ℕ → Invalidations → ℕ
-end_with (Some gfn) n = if n.count == 0 then gfn + 1 else greater n.end (gfn + 1)
-end_with None n = if n.count == 0 then 0 else n.end
 
 -- ---- its begin
 

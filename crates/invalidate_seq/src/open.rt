@@ -1,6 +1,7 @@
 ghost use Rattle.std.specs.Prelude.{◌≡◌, ◌+◌, ◌<◌, ◌^◌, IfSome};
 ghost use Rattle.core_views.specs.declared.topics.Hold.TheVariants.{Exclusive};
 ghost use Rattle.mmu_core.specs.machine.MayMake.{MayMake};
+ghost use Rattle.part_steps.specs.InvalidationRange.{end_with, start_with};
 ghost use Rattle.step_seats.specs.Moves.{KeepsRoom};
 ghost use Rattle.step_seats.specs.PartTurns.{MakesPart};
 ghost use Rattle.step_seats.specs.declared.turn.Turn.TheVariants.{More};
@@ -8,19 +9,17 @@ ghost use Rattle.invalidate_seq.specs.Invalidating.{
   IsWidened,
   KeepsWord,
   Opens,
-  end_with,
   open_after,
   open_at,
   open_step,
   open_turn,
   open_word,
   opens_left,
-  start_with,
 };
 
 use core_views::Invalidations;
 use mmu_core::part_rests;
-use part_steps::PartStep;
+use part_steps::{PartStep, end_with, start_with};
 use step_seats::{Stepper, Turn, make_part};
 
 /// Which word the begin of an invalidation loads or stores next, under the lock alone.
@@ -58,12 +57,7 @@ fn widened(gfn: Option<u64>, kept: &Invalidations) -> (u64, u64)
     ensures end { result.1 ≡ end_with gfn kept.now }
     ensures widened { IsWidened gfn kept.now result.0 result.1 }
 {
-    match gfn {
-        Some(gfn) if kept.count == 0 => (gfn, gfn + 1),
-        Some(gfn) => (kept.start.min(gfn), kept.end.max(gfn + 1)),
-        None if kept.count == 0 => (0, 0),
-        None => (kept.start, kept.end),
-    }
+    (start_with(gfn, kept), end_with(gfn, kept))
 }
 
 impl Open {

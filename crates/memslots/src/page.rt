@@ -1,5 +1,4 @@
 ghost use Rattle.std.specs.Prelude.{◌≡◌, ◌<◌, ◌≤◌, true, false};
-ghost use Rattle.core_views.specs.Slots.{has_host_page};
 ghost use Rattle.core_views.specs.declared.place.SlotField.TheVariants.{Host};
 ghost use Rattle.mmu_core.specs.machine.MayMake.{MayMake};
 ghost use Rattle.part_steps.specs.StayTopics.{may_search};
@@ -11,17 +10,10 @@ ghost use Rattle.memslots.specs.FindingPage.{SearchesPage, find_page_step, turns
 
 use crate::FoundSlot;
 use crate::find::IDS;
-use core_views::{Slot, SlotField, SlotSearch};
+use core_views::{SlotField, SlotSearch};
 use mmu_core::part_rests;
 use part_steps::PartStep;
 use step_seats::{Stepper, Turn, make_part};
-
-// Whether the slot has the host page.
-fn has_page(slot: &Slot, page: u64) -> bool
-    ensures { result ≡ has_host_page page slot.now }
-{
-    slot.host <= page && page - slot.host < slot.pages
-}
 
 /// A search of the published slot set for the slot that has one host page, a step a turn:
 /// its slots by rising ID, of each the flags first, and where it is live its base, pages and
@@ -49,7 +41,7 @@ impl FindPage {
         requires whole { before.now.next ≡ Host → after.now.whole ≡ true }
         ensures { SearchesPage self.now.page result before.now after.now }
     {
-        if before.next == SlotField::Host && has_page(&after.slot, self.page) {
+        if before.next == SlotField::Host && after.slot.has_host_page(self.page) {
             return Turn::Done(Some(FoundSlot {
                 id: before.id,
                 slot: after.slot,

@@ -18,6 +18,7 @@ pub mod OthersStay
 pub mod SawWriterKept
 pub mod SearchKept
 pub mod LooksKept
+pub mod OwnLooksKept
 pub mod OwnPages
 pub mod PassedKept
 pub mod ScopesKept

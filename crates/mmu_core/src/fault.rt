@@ -1,24 +1,24 @@
 //! The steps of a fault.
-ghost use Rattle.std.specs.Prelude.{◌≡◌, ◌≢◌, ◌≤◌, ◌<◌, ◌^◌, ◌&&◌, Bool, true, not, if◌then◌else◌};
+ghost use Rattle.std.specs.Prelude.{◌≡◌, ◌≢◌, ◌≤◌, ◌<◌, ◌^◌, ◌==◌, Bool, true, if◌then◌else◌};
 ghost use Rattle.core_views.specs.declared.place.Cause.TheVariants.{Entry};
-ghost use Rattle.core_views.specs.declared.place.FaultEnd.TheVariants.{HostFault, Retry};
+ghost use Rattle.core_views.specs.declared.place.FaultEnd.TheVariants.{Retry};
 ghost use Rattle.core_views.specs.declared.place.FaultPlace.TheVariants.{End, Find, Give, Host, Share, Unshare};
 ghost use Rattle.core_views.specs.Sizes.{AreSizes};
 ghost use Rattle.mmu_core.specs.lines.FaultSteps.{after_claim, after_share, check_next, check_part, entry_word, fault_next, fault_part, find_next};
-ghost use Rattle.mmu_core.specs.lines.FaultSteps.{share_next, walk_next};
+ghost use Rattle.mmu_core.specs.lines.FaultSteps.{host_word_at, page_next, share_next, walk_next};
+ghost use Rattle.part_steps.specs.declared.part_step.PartStep.TheVariants as part;
 ghost use Rattle.part_steps.specs.PartBounds.{PartRests};
-ghost use Rattle.part_steps.specs.PartTasks.{table_page};
+ghost use Rattle.part_steps.specs.PartTasks.{table_page, word_looked};
 ghost use Rattle.part_steps.specs.PartSteps.{PartNeeds};
 ghost use Rattle.part_steps.specs.SlotWords.{page_of};
 ghost use Rattle.part_steps.specs.PageTopics.{searched};
 ghost use Rattle.spte_words.specs.Entries.{kind_of};
-ghost use Rattle.spte_words.specs.HostWords.{host_allows_write};
 
 use crate::claim::{ClaimNext, claim_next, claim_part};
 use crate::share::{ShareNext, is_owing, share_next, share_part};
 use core_views::{
-    Cause, CheckStage, FaultEnd, FaultNext, FaultPlace, Hand, Sizes, SlotField, SlotSearch,
-    TableWalk, Topics,
+    Cause, CheckStage, FaultEnd, FaultNext, FaultPlace, Hand, HostLook, Sizes, SlotField,
+    SlotSearch, TableWalk, Topics,
 };
 use part_steps::{PartStep, entry_index, map_of, page_of, search, table_page, words_filled};
 use spte_words::{Area, HostWord, Spte, SpteKind};
@@ -48,6 +48,7 @@ pub(crate) fn part(place: FaultPlace, gfn: u64, topics: &Topics) -> PartStep
         FaultPlace::Find { begun: true } => PartStep::Slot,
         FaultPlace::Find { begun: false } => PartStep::Slots,
         FaultPlace::Host => PartStep::Host(page_of(&topics.search.slot, gfn)),
+        FaultPlace::Bring => PartStep::Bring,
         FaultPlace::Share => share_part(topics.hold),
         FaultPlace::Check(stage) => check_part(stage),
         FaultPlace::Walk { rooted: true } => PartStep::Walk(gfn),
@@ -78,6 +79,36 @@ fn find_next(gfn: u64, write: bool, loaded: SlotField, found: &SlotSearch) -> Fa
     } else {
         FaultPlace::Find { begun: true }
     }
+}
+
+// After the host word of the page.
+fn page_next(write: bool, word: HostWord) -> FaultPlace
+    ensures { result ≡ page_next write word }
+{
+    if write && !word.is_writable() {
+        FaultPlace::End(FaultEnd::HostFault)
+    } else if word.is_present() {
+        FaultPlace::Share
+    } else {
+        FaultPlace::Bring
+    }
+}
+
+// After the exchange with which the page is brought in.
+fn brought_next(hand: &Hand, found: u64) -> FaultPlace
+    requires rests { PartRests hand.now.core }
+    requires needs { PartNeeds part.Bring hand.now.core }
+    ensures { result ≡ (if found == word_looked hand.now.core.topics.host then Share
+        else End (Retry (Entry (host_word_at hand.now.core.state.sizes hand.now.core.topics.host) (word_looked hand.now.core.topics.host) found))) }
+{
+    let Some(HostLook { page, word }) = hand.topics().host else {
+        unreachable!()
+    };
+    if found == word {
+        return FaultPlace::Share;
+    }
+    let at = map_of(&hand.progress().sizes).word_of(Area::Host, page);
+    FaultPlace::End(changed(at, word, found))
 }
 
 // After a step of sharing the lock.
@@ -203,7 +234,7 @@ fn looked_next(place: FaultPlace, gfn: u64, write: bool, topics: &Topics, found:
     requires begun { place ≡ Find true → topics.now.search.id ≤ 31 }
     ensures find { (begun : Bool) → place ≡ Find begun
         → result ≡ (if begun then find_next gfn write topics.now.search.next (searched topics.now.search found) else Find true) }
-    ensures host { place ≡ Host → result ≡ (if write && not (host_allows_write found) then End HostFault else Share) }
+    ensures host { place ≡ Host → result ≡ page_next write found }
     ensures share { place ≡ Share → result ≡ after_share (share_next topics.now.hold found) }
 {
     match place {
@@ -213,10 +244,7 @@ fn looked_next(place: FaultPlace, gfn: u64, write: bool, topics: &Topics, found:
             find_next(gfn, write, topics.search.next, &after)
         }
         FaultPlace::Find { begun: false } => FaultPlace::Find { begun: true },
-        FaultPlace::Host if write && !HostWord::from_word(found).is_writable() => {
-            FaultPlace::End(FaultEnd::HostFault)
-        }
-        FaultPlace::Host => FaultPlace::Share,
+        FaultPlace::Host => page_next(write, HostWord::from_word(found)),
         _ => after_share(share_next(topics.hold, found)),
     }
 }
@@ -235,6 +263,7 @@ pub(crate) fn next(place: FaultPlace, hand: &Hand, gfn: u64, write: bool, found:
         FaultPlace::Find { .. } | FaultPlace::Host | FaultPlace::Share => {
             looked_next(place, gfn, write, topics, found)
         }
+        FaultPlace::Bring => brought_next(hand, found),
         FaultPlace::Check(stage) => check_next(stage, gfn, topics, found),
         FaultPlace::Walk { rooted: true } => walk_next(sizes, gfn, write, &topics.walk, found),
         FaultPlace::Walk { rooted: false } => FaultPlace::Walk { rooted: true },

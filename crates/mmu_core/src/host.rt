@@ -1,9 +1,8 @@
 //! The steps of a line that changes a host page.
-ghost use Rattle.std.specs.Prelude.{◌≡◌, ◌<◌, ◌^◌, true};
-ghost use Rattle.core_views.specs.HostChanges.{changes_host, is_own};
+ghost use Rattle.std.specs.Prelude.{◌≡◌, ◌<◌, true};
+ghost use Rattle.core_views.specs.HostChanges.{changes_host};
 ghost use Rattle.core_views.specs.declared.place.Place.TheVariants as place;
 ghost use Rattle.mmu_core.specs.lines.HostSteps.{after_begin, after_end, host_note, host_outcome, host_part, revised};
-ghost use Rattle.mmu_core.specs.lines.InvalidateSteps.{gfn_behind, sweeps};
 ghost use Rattle.mmu_core.specs.lines.Rests.{Rests};
 ghost use Rattle.mmu_core.specs.machine.Steps.{place_at};
 ghost use Rattle.mmu_core.specs.machine.Turns.{line_of};
@@ -15,22 +14,9 @@ ghost use Rattle.spte_words.specs.Areas.{size_of};
 
 use crate::invalidate::{BeginNext, EndNext, begin_next, begin_part, end_next, end_part};
 use crate::outcome::Outcome;
-use core_views::{
-    Actor, Answer, BeginPlace, EndPlace, Hand, HostChange, HostPlace, Place, Refusal, Topics,
-};
-use part_steps::{PartStep, Task, part_task};
+use core_views::{Answer, BeginPlace, EndPlace, Hand, HostChange, HostPlace, Place, Refusal};
+use part_steps::{PartStep, Task, part_task, word_looked};
 use spte_words::HostWord;
-
-// Whether the host page is the actor's own.
-fn is_own(hand: &Hand, page: u64) -> bool
-    ensures { result ≡ is_own hand.now.core.state.sizes hand.now.core.state.actor page }
-{
-    let progress = hand.progress();
-    match progress.actor {
-        Actor::Host(host) => progress.sizes.owns(host, page),
-        _ => false,
-    }
-}
 
 /// The host word that the change puts in place of another one.
 pub fn revised(change: HostChange, word: u64) -> u64
@@ -38,19 +24,10 @@ pub fn revised(change: HostChange, word: u64) -> u64
 {
     let word = HostWord::from_word(word);
     match change {
+        HostChange::Evict => word.with_presence(false).word(),
         HostChange::Allow => word.with_writes(true).word(),
         HostChange::Protect => word.with_writes(false).word(),
-        HostChange::Move | HostChange::Evict => word.word(),
-    }
-}
-
-// The host word that was looked up.
-fn word_looked(topics: &Topics) -> u64
-    ensures { result ≡ word_looked topics.now.host }
-{
-    match topics.host {
-        Some(look) => look.word,
-        None => 0,
+        HostChange::Move => word.word(),
     }
 }
 
@@ -62,10 +39,10 @@ pub(crate) fn part(place: HostPlace, page: u64, change: HostChange, hand: &Hand)
 {
     let topics = hand.topics();
     match place {
-        HostPlace::Look if is_own(hand, page) => PartStep::Host(page),
+        HostPlace::Look if hand.progress().owns(page) => PartStep::Host(page),
         HostPlace::Look => PartStep::Seq,
         HostPlace::Begin(place) => begin_part(place, page, topics),
-        HostPlace::Change => { PartStep::Change(revised(change, word_looked(topics))) }
+        HostPlace::Change => { PartStep::Change(revised(change, word_looked(topics.host))) }
         HostPlace::End(place) => end_part(place, topics),
     }
 }
@@ -75,7 +52,7 @@ pub fn note(place: HostPlace, page: u64, hand: &Hand) -> u64
     ensures { result ≡ host_note place page hand.now.core }
 {
     match place {
-        HostPlace::Look if is_own(hand, page) => 0,
+        HostPlace::Look if hand.progress().owns(page) => 0,
         HostPlace::Look | HostPlace::End(EndPlace::Release) => 1,
         _ => 0,
     }
@@ -130,13 +107,13 @@ pub(crate) fn outcome(
 {
     let topics = hand.topics();
     let next = match place {
-        HostPlace::Look if is_own(hand, page) => HostPlace::Begin(BeginPlace::Exclude),
+        HostPlace::Look if hand.progress().owns(page) => HostPlace::Begin(BeginPlace::Exclude),
         HostPlace::Look => return Outcome::Ends(Answer::Refused(Refusal::OutOfRange)),
         HostPlace::Begin(place) => {
             let sizes = &hand.progress().sizes;
             after_begin(begin_next(place, sizes, page, topics, found))
         }
-        HostPlace::Change if found == word_looked(topics) => HostPlace::End(EndPlace::Exclude),
+        HostPlace::Change if found == word_looked(topics.host) => HostPlace::End(EndPlace::Exclude),
         HostPlace::Change => HostPlace::Change,
         HostPlace::End(place) => return after_end(end_next(place, found)),
     };

@@ -30,9 +30,7 @@ pub enum EndNext {
 fn search_next(page: u64, loaded: SlotField, found: &SlotSearch) -> BeginPlace
     ensures { result ≡ search_next page loaded found.now }
 {
-    let slot = &found.slot;
-    let has_page = slot.host <= page && page - slot.host < slot.pages;
-    if loaded == SlotField::Host && has_page || found.id == 32 {
+    if loaded == SlotField::Host && found.slot.has_host_page(page) || found.id == 32 {
         BeginPlace::Count
     } else {
         BeginPlace::Find { begun: true }

@@ -1,6 +1,8 @@
 pub mod AccessFlat
 pub mod EveryAnswer
 pub mod EveryHistory
+pub mod BringFlat
+pub mod ExchangeFlat
 pub mod FaultNotes
 pub mod FaultFlat
 pub mod FindFlat
@@ -13,6 +15,8 @@ pub mod LineEvents
 pub mod PageFound
 pub mod SlotChangeFlat
 pub mod Told
+pub mod TouchedMemory
 pub mod ToldOf
 pub mod WholeSoFar
+pub mod HostEntries
 pub mod HostFlat

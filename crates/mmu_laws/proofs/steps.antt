@@ -2,9 +2,12 @@ pub mod CanStep
 pub mod ExampleRun
 pub mod Notes
 pub mod StepLaws
+pub mod KindLaws
 pub mod AllowedWords
 pub mod EventLaws
 pub mod InvalidationLaws
 pub mod ViewRuns
 pub mod ExampleHostRun
 pub mod ExampleProtectRun
+pub mod ExampleEvictRun
+pub mod ExampleOverlapRun

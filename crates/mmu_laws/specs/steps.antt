@@ -9,3 +9,5 @@ pub mod ExampleRaces
 pub mod ExampleWaits
 pub mod ExampleHost
 pub mod ExampleProtect
+pub mod ExampleEvict
+pub mod ExampleOverlap

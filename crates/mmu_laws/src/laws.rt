@@ -2,6 +2,8 @@ ghost use Rattle.mmu_laws.specs.causes.Causes.{FaultsBeginAnewByCause};
 ghost use Rattle.mmu_laws.specs.pool.Enough.{EachTableIsWanted, EnoughPages, TablesAreForTheirRuns};
 ghost use Rattle.mmu_laws.specs.steps.CanStep.{EachMayStep, EveryMachineStarts};
 ghost use Rattle.mmu_laws.specs.steps.ExampleHost.{ExampleHost};
+ghost use Rattle.mmu_laws.specs.steps.ExampleEvict.{ExampleEvict};
+ghost use Rattle.mmu_laws.specs.steps.ExampleOverlap.{ExampleOverlap};
 ghost use Rattle.mmu_laws.specs.steps.ExampleProtect.{ExampleProtect};
 ghost use Rattle.mmu_laws.specs.steps.ExampleRaces.{ExampleRaces};
 ghost use Rattle.mmu_laws.specs.steps.ExampleRuns.{ExamplePrints, ExampleRuns};
@@ -17,7 +19,8 @@ ghost use Rattle.mmu_laws.specs.leaves.OpenFrames.{OpenFramesAreFlushed, OpenFra
 ghost use Rattle.mmu_core.specs.alone.LineAlone.{LineBeginsAlone, LineEndsAlone, LineGoesThrough, NoneStarvedAlone};
 ghost use Rattle.mmu_core.specs.invariant.Scans.{StarvedLinesScan};
 ghost use Rattle.mmu_laws.specs.steps.EventLaws.{EventsAreOfTheirSteps};
-ghost use Rattle.mmu_laws.specs.steps.InvalidationLaws.{InvalidationsAreCounted, SequenceIsRaised};
+ghost use Rattle.mmu_laws.specs.steps.InvalidationLaws.{BringsAreOfAbsentPages, ChangesAreInvalidated, InvalidationsAreCounted};
+ghost use Rattle.mmu_laws.specs.steps.InvalidationLaws.{SequenceIsRaised, ZapsAreOfOpenInvalidations};
 ghost use Rattle.mmu_laws.specs.steps.StepLaws.{EnteringFlushes, NotesTellEnds, OthersCacheOneAtMost, RevisedWordsTell, StepsAreOnTheirAreas};
 ghost use Rattle.mmu_laws.specs.turns.Breaking.{BreakingChangesEntries};
 ghost use Rattle.mmu_laws.specs.turns.Removal.{InstalledEntriesServe, LeavesStay};
@@ -39,7 +42,7 @@ pub fn every_list_of_steps()
 /// begins anew only where in this section it found an invalidation open over its
 /// guest frame, or found another number in a word of which it knew the number, since
 /// another actor's step changed it: in the sequence number after its snapshot, or in
-/// an entry of its guest frame after its load. A step waits, whoever makes it, only
+/// an entry of its guest frame, or the host word of its page, after its load. A step waits, whoever makes it, only
 /// where its actor, with its last step on the lock, found another actor having it
 /// alone; where the page that it tries was free at its actor's last step on this word
 /// of the pool's map, and another actor's step changed this word since; where it finds
@@ -75,6 +78,15 @@ pub fn each_delay_has_its_cause()
 /// guest, and makes the fault of another processor begin anew. And where a host thread
 /// forbids writes to a page to which a fault had found them allowed, this fault begins anew and
 /// ends its write with a host fault; once writes are allowed again, a write goes through.
+/// Where a host thread takes a page away, and two processors that found it absent bring it in at
+/// a time, one does, the other one begins anew and finds the page there, and both find what was
+/// written to it before; and where a page is brought in between a host thread's look at it and
+/// its exchange of the host word, the thread's next exchange forbids the writes. Of two host
+/// threads that begin invalidations at a time, the second one waits for the lock. While both are
+/// open their range has the guest frame between theirs, too: a fault of it begins anew, as it
+/// does while the second one alone is open, and where this one ends after the fault's snapshot;
+/// the next fault goes through. A slot line gives the lock back while both are open, and while
+/// one is, and sets its slot once none is.
 pub fn the_steps_can_be_made()
     ensures starts { EveryMachineStarts }
     ensures goes_on { EachMayStep }
@@ -85,6 +97,8 @@ pub fn the_steps_can_be_made()
     ensures slot_waits { ExampleWaits }
     ensures host { ExampleHost }
     ensures protect { ExampleProtect }
+    ensures evict { ExampleEvict }
+    ensures overlap { ExampleOverlap }
 {}
 
 /// What a step's numbers tell of it: each step that a hand allows is on a word of the
@@ -93,13 +107,17 @@ pub fn the_steps_can_be_made()
 /// the pool's map has note 1, and is its answer exactly where it finds 0. Who enters the
 /// guest with a flush asked for has nothing cached after that step; each other step
 /// leaves at most one more translation (vcpu-requests.rst, KVM_REQ_TLB_FLUSH). The host
-/// word that is put to allow writes, or to forbid them, does so, and is of the same frame
-/// and level as the one before it, and present where that was. And each event that a step
+/// word that is put to allow writes or forbid them, or to have its page in memory or not,
+/// does so, and tells the same else as the one before it. And each event that a step
 /// tells of the pause, of slots, host pages or memory is of the word that the step is on,
 /// and of what it found and left there. The sequence number of invalidations is raised by
 /// one, and only by an actor that has the lock alone and an invalidation open; how many
-/// are open rises by one with such an actor's own one, and falls by one with it
-/// (kvm_main.c, `kvm_mmu_invalidate_begin`, `kvm_mmu_invalidate_end`).
+/// are open rises by one with such an actor's own one, and falls by one with it, once the
+/// number was raised (kvm_main.c, `kvm_mmu_invalidate_begin`, `kvm_mmu_invalidate_end`). A
+/// step that zaps is on the leaf to which links lead a guest frame of its actor's own open
+/// invalidation. One that changes a host word, whatever it leaves there, is of a page of its
+/// actor's own, while this actor's invalidation of the page is open and flushed. And one that
+/// brings a page in is in a section, of the page that its actor looked at and saw absent.
 pub fn steps_tell_what_they_are()
     ensures areas { StepsAreOnTheirAreas }
     ensures notes { NotesTellEnds }
@@ -109,6 +127,9 @@ pub fn steps_tell_what_they_are()
     ensures events { EventsAreOfTheirSteps }
     ensures raised { SequenceIsRaised }
     ensures counted { InvalidationsAreCounted }
+    ensures zaps { ZapsAreOfOpenInvalidations }
+    ensures changes { ChangesAreInvalidated }
+    ensures brings { BringsAreOfAbsentPages }
 {}
 
 /// What each hand has answered after a list of steps is what the history tells
@@ -217,7 +238,7 @@ pub fn a_line_alone_goes_through()
 /// lead to such a leaf once, they do so after every list of steps, or one of them took an
 /// entry of the guest frame away. A step that takes an entry of the guest frame away is on
 /// the word of such an entry, which isn't absent, and leaves another number there
-/// (`breaking`): it is one with which a host thread zaps a leaf (tdp_mmu.c,
+/// (`breaking`): it is one that zaps a leaf (tdp_mmu.c,
 /// `kvm_tdp_mmu_map`, `kvm_tdp_mmu_unmap_gfn_range`; locking.rst).
 pub fn turns_come_to_an_end()
     ensures nearer { TurnsComeNearer }

@@ -10,7 +10,7 @@ use Rattle.part_steps.specs.declared.part_step.PartStep.TheVariants.{Share}
 use Rattle.mmu_core.specs.machine.MayMake.{MayMake}
 use Rattle.part_steps.specs.PartSteps.{PartNeeds}
 use Rattle.part_steps.specs.ControlBits.{has_writer}
-use Rattle.part_steps.specs.StayTopics.{no_flush, unchecked}
+use Rattle.part_steps.specs.StayTopics.{flush_kept, unchecked}
 use Rattle.mmu_core.specs.alone.OthersRest.{OthersRest}
 use Rattle.part_steps.specs.declared.part_step.PartStep.{PartStep}
 use Rattle.step_seats.specs.PartTurns.{MadePart}
@@ -40,7 +40,7 @@ shares_behind before after found is none = is ∙ ap (λ (b : Bool). holding (if
 
 -- what is held after a writer's try, which got the lock or didn't
 abbrev pub tried : Bool → Topics → Topics
-tried got t = record t { hold = if got then Exclusive else t.hold; invalidations = unchecked t.invalidations; flush = if got then no_flush else t.flush }
+tried got t = record t { hold = if got then Exclusive else t.hold; invalidations = unchecked t.invalidations; flush = flush_kept got t }
 
 -- A writer's try, won or lost.
 pub excludes_behind : (before after : Topics) (found : ℕ) → after ≡ tried (found == 0) before → found ≡ 0 → after ≡ alone before

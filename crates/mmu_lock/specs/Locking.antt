@@ -6,7 +6,7 @@ use Rattle.core_views.specs.declared.topics.Hold.TheVariants.{Loose, Shared, Owi
 use Rattle.core_views.specs.declared.topics.Topics.{Topics}
 use Rattle.part_steps.specs.declared.part_step.PartStep.{PartStep}
 use Rattle.part_steps.specs.declared.part_step.PartStep.TheVariants.{Exclude, Release, Unshare}
-use Rattle.part_steps.specs.StayTopics.{let_go, no_flush, unchecked}
+use Rattle.part_steps.specs.StayTopics.{flush_kept, let_go, unchecked}
 use Rattle.part_steps.specs.ControlBits.{has_writer}
 use Rattle.mmu_core.specs.alone.OthersRest.{NoOtherHasLock, NoneHasLockAlone, OthersRest}
 use Rattle.mmu_core.specs.lines.ShareSteps.{share_part}
@@ -33,9 +33,9 @@ unlock_step _ = Unshare
 abbrev pub holding : Hold → Topics → Topics
 holding hold t = record t { hold = hold; invalidations = unchecked t.invalidations }
 
--- what is held where the actor has the lock alone from now on: no virtual processor was asked for a flush since
+-- what is held where the actor has the lock alone from now on: no virtual processor was asked for a flush, but for an open invalidation of its own
 abbrev pub alone : Topics → Topics
-alone t = record (holding Exclusive t) { flush = no_flush }
+alone t = record (holding Exclusive t) { flush = flush_kept true t }
 
 -- A reader's try: it goes on where a writer was found, which is then remembered; it is over where the actor shares the lock, or where it
 -- has taken itself out again, with the word that it had found, which has a writer in it. Nothing else that the actor holds has changed,

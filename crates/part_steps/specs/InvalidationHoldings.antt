@@ -13,7 +13,7 @@ use Rattle.core_views.specs.HostChanges.{is_own}
 use Rattle.spte_words.specs.declared.spte_kind.SpteKind.{SpteKind}
 use Rattle.spte_words.specs.declared.spte_kind.SpteKind.TheVariants.{Absent, Frozen, Leaf, Table}
 use Rattle.spte_words.specs.Entries.{kind_of}
-use Rattle.spte_words.specs.HostWords.{with_writes}
+use Rattle.spte_words.specs.HostWords.{with_presence, with_writes}
 use Rattle.part_steps.specs.InvalidationRange.{has_searched, invalidated, is_within_range, page_looked, range_end, range_start}
 use Rattle.part_steps.specs.PartHoldings.{HoldsSet, SawEntry}
 use Rattle.part_steps.specs.StayTopics.{no_flush}
@@ -96,6 +96,16 @@ pub record SawNoLeaf (own : Invalidated) (walk : TableWalk) : Type 0 where
 abbrev pub IsSwept : Topics → Type 0
 IsSwept t = nat_lt t.invalidations.own.start t.invalidations.own.end ≡ true → SawNoLeaf t.invalidations.own t.walk
 
+-- A leaf may be zapped that is of a frame of the actor's own open invalidation, where the lock is the actor's alone and the entry was seen.
+pub record MayZap (gfn : ℕ) (t : Topics) : Type 0 where
+  pub alone : t.hold ≡ Exclusive
+  pub outside : t.stay ≡ Outside
+  pub opened : t.invalidations.opened ≡ true
+  pub from : t.invalidations.own.start ≤ gfn
+  pub to : gfn < t.invalidations.own.end
+  pub saw : SawEntry gfn t.walk
+  pub leaf : kind_of t.walk.level t.walk.entry ≡ Leaf
+
 -- The next virtual processor may be asked for a flush: under the lock that the actor has alone, with its own invalidation open; the first one once no leaf of
 -- the frame is left.
 pub record MayAsk (index : ℕ) (h : Held) : Type 0 where
@@ -119,9 +129,9 @@ pub record MayChange (h : Held) : Type 0 where
   pub asked : h.state.sizes.vcpus ≤ h.topics.flush.asked
   pub awaited : h.state.sizes.vcpus ≤ h.topics.flush.awaited
 
--- The new host word allows writes to the page of the old one, or forbids them, and is the same else.
+-- The new host word allows writes to the page of the old one, or forbids them, or takes the page away, and is the same else.
 abbrev pub revises : ℕ → ℕ → Bool
-revises word new_ = (new_ == with_writes true word) || (new_ == with_writes false word)
+revises word new_ = (new_ == with_writes true word) || (new_ == with_writes false word) || (new_ == with_presence false word)
 
 -- ---- the end
 

@@ -25,11 +25,25 @@ has_searched page search = has_found page search || (search.id == 32)
 abbrev pub gfn_behind : ℕ → Slot → ℕ
 gfn_behind page slot = slot.base + (page - slot.host)
 
+-- the guest frame that the slot found gives to the host page, if the search has found one
+abbrev pub frame_found : ℕ → SlotSearch → Option ℕ
+frame_found page search = if has_found page search then Some (gfn_behind page search.slot) else None
+
 abbrev pub lesser : ℕ → ℕ → ℕ
 lesser a b = if nat_le a b then a else b
 
 abbrev pub greater : ℕ → ℕ → ℕ
 greater a b = if nat_le a b then b else a
+
+-- The range of the open invalidations, with one more over this guest frame, or over none: from its first frame up to the frame after it. It is empty where
+-- there is neither.
+abbrev pub start_with : Option ℕ → Invalidations → ℕ
+start_with (Some gfn) n = if n.count == 0 then gfn else lesser n.start gfn
+start_with None n = if n.count == 0 then 0 else n.start
+
+abbrev pub end_with : Option ℕ → Invalidations → ℕ
+end_with (Some gfn) n = if n.count == 0 then gfn + 1 else greater n.end (gfn + 1)
+end_with None n = if n.count == 0 then 0 else n.end
 
 -- The range of open invalidations, with the guest frame of the page, if a slot has it: from its first frame up to the frame after it. It is empty where
 -- there is neither.

@@ -8,6 +8,7 @@ pub mod InvalidationRange
 pub mod ControlBits
 pub mod ControlTopics
 pub mod TopicSteps
+pub mod HeldNumbers
 pub mod PartTasks
 pub mod PartHoldings
 pub mod InvalidationHoldings

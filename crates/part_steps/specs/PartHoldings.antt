@@ -1,5 +1,5 @@
 -- What a hand holds that a step of a part needs: of pages, of the walk, of the look-up and of the invalidations.
-use Rattle.std.specs.Prelude.{◌≡◌, ◌+◌, ◌/◌, ◌^◌, ◌<◌, ◌≤◌, ◌⊎◌, ℕ, true, ◌==◌, if◌then◌else◌, Some, None, is_some}
+use Rattle.std.specs.Prelude.{◌≡◌, ◌+◌, ◌/◌, ◌^◌, ◌<◌, ◌≤◌, ◌⊎◌, ℕ, true, false, ◌==◌, if◌then◌else◌, Some, None, is_some}
 use Rattle.core_views.specs.declared.topics.Checked.TheVariants as checked
 use Rattle.core_views.specs.declared.topics.Hold.TheVariants.{Shared, Exclusive}
 use Rattle.core_views.specs.declared.topics.Invalidations.{Invalidations}
@@ -10,9 +10,10 @@ use Rattle.core_views.specs.Held.{Held}
 use Rattle.core_views.specs.Sizes.{actors_of}
 use Rattle.core_views.specs.Slots.{contains}
 use Rattle.spte_words.specs.Entries.{level_span}
+use Rattle.spte_words.specs.HostWords.{host_present}
 use Rattle.part_steps.specs.SetWords.{set_role}
 use Rattle.part_steps.specs.SlotWords.{page_of}
-use Rattle.part_steps.specs.PartTasks.{entry_index, words_filled, is_absent, role_filled, own_index}
+use Rattle.part_steps.specs.PartTasks.{entry_index, words_filled, is_absent, role_filled, own_index, word_looked}
 
 -- the actor whose state word comes next, where those before this place were looked at: each but the own
 abbrev pub next_watched : ℕ → ℕ → ℕ
@@ -60,6 +61,12 @@ pub record LookedUp (gfn : ℕ) (t : Topics) : Type 0 where
   pub word : ℕ
   pub host : t.host ≡ Some (record { page = page_of t.search.slot gfn; word = word })
 
+-- A host page that was looked at in a section, and isn't present, may be brought in.
+pub record MayBring (t : Topics) : Type 0 where
+  pub section : t.stay ≡ Section
+  pub looked : is_some t.host ≡ true
+  pub absent : host_present (word_looked t.host) ≡ false
+
 -- The look-up is checked under the lock: its snapshot is the sequence number still, and no invalidation is open over the guest frame
 -- (locking.rst, mmu_invalidate_retry_gfn).
 pub record IsFresh (gfn : ℕ) (n : Invalidations) : Type 0 where
@@ -67,12 +74,13 @@ pub record IsFresh (gfn : ℕ) (n : Invalidations) : Type 0 where
   pub still : n.snapshot ≡ Some n.seq
   pub none_over : (n.count ≡ 0) ⊎ (gfn < n.start) ⊎ (n.end ≤ gfn)
 
--- A fault may store an entry of the guest frame's: it shares the lock, in a section, with a fresh look-up, and saw the entry.
+-- A fault may store an entry of the guest frame's: it shares the lock, in a section, with a fresh look-up of a page that is present, and saw the entry.
 pub record MayEnter (gfn : ℕ) (t : Topics) : Type 0 where
   pub shares : t.hold ≡ Shared
   pub section : t.stay ≡ Section
   pub fresh : IsFresh gfn t.invalidations
   pub looked_up : LookedUp gfn t
+  pub present : host_present (word_looked t.host) ≡ true
   pub saw : SawEntry gfn t.walk
 
 -- The page that is owned is filled whole, as a slot set.

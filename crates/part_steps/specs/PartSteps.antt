@@ -15,9 +15,9 @@ use Rattle.spte_words.specs.Entries.{kind_of}
 use Rattle.part_steps.specs.declared.part_step.PartStep.{PartStep}
 use Rattle.part_steps.specs.declared.part_step.PartStep.TheVariants as part
 use Rattle.part_steps.specs.PartTasks.{own_index, word_looked}
-use Rattle.part_steps.specs.PartHoldings.{next_watched, OwnsPage, HasToFill, HasRoleToSet, HoldsSet, IsOver, OwnsTable, SawEntry, MayEnter}
+use Rattle.part_steps.specs.PartHoldings.{next_watched, OwnsPage, HasToFill, HasRoleToSet, HoldsSet, IsOver, MayBring, OwnsTable, MayEnter}
 use Rattle.part_steps.specs.PartHoldings.{MayPublish, MayGiveOld}
-use Rattle.part_steps.specs.InvalidationHoldings.{revises, MayAsk, MayChange, MayCount, MayEndInvalidation, MaySetEnd, MaySetStart}
+use Rattle.part_steps.specs.InvalidationHoldings.{revises, MayAsk, MayChange, MayCount, MayEndInvalidation, MaySetEnd, MaySetStart, MayZap}
 use Rattle.part_steps.specs.InvalidationRange.{has_found, page_looked}
 use Rattle.part_steps.specs.StayTopics.{is_alone}
 
@@ -52,6 +52,7 @@ needs_line (part.Zap gfn) = true
 needs_line (part.Ask index) = true
 needs_line (part.Await index) = true
 needs_line (part.Change new_) = true
+needs_line part.Bring = true
 needs_line _ = false
 
 -- what a step needs of the hand
@@ -84,6 +85,7 @@ PartNeeds (part.Link gfn) h =
     × OwnsTable (h.topics.walk.level - 1) h.topics
 PartNeeds (part.Leaf gfn) h = MayEnter gfn h.topics × (h.topics.walk.level ≡ 1)
 PartNeeds (part.Host page) h = (page < h.state.sizes.pages) × (is_alone h.topics.hold ≡ false)
+PartNeeds part.Bring h = MayBring h.topics
 PartNeeds (part.Watch index) h =
     (index < actors_of h.state.sizes) × (index ≢ own_index h) × ((index ≡ next_watched (own_index h) 0) ⊎ (index ≡ next_watched (own_index h) h.topics.watched))
 PartNeeds part.Publish h = MayPublish h.topics
@@ -93,9 +95,7 @@ PartNeeds (part.SetStart gfn) h = MaySetStart gfn h.topics × (gfn < 2 ^ 64)
 PartNeeds (part.SetEnd gfn) h = MaySetEnd gfn h.topics × (gfn < 2 ^ 64)
 PartNeeds (part.SetCount count) h = MayCount count h.topics
 PartNeeds (part.SetSeq seq) h = MayEndInvalidation h.topics × (seq ≡ h.topics.invalidations.seq + 1)
-PartNeeds (part.Zap gfn) h =
-    (h.topics.hold ≡ Exclusive) × (h.topics.stay ≡ Outside) × SawEntry gfn h.topics.walk
-    × (kind_of h.topics.walk.level h.topics.walk.entry ≡ entry_kind.Leaf)
+PartNeeds (part.Zap gfn) h = MayZap gfn h.topics
 PartNeeds (part.Ask index) h = MayAsk index h
 PartNeeds (part.Await index) h = (index < h.topics.flush.asked) × (index ≡ h.topics.flush.awaited) × (h.topics.stay ≡ Outside)
 PartNeeds (part.Change new_) h = MayChange h × (revises (word_looked h.topics.host) new_ ≡ true)

@@ -1,12 +1,10 @@
 -- Which step of the machine each step of a part is: its kind, its word, what it expects there and what it writes.
-use Rattle.std.specs.Prelude.{◌/◌, ◌%◌, ◌^◌, ◌<◌, ℕ, Bool, false, ◌==◌, if◌then◌else◌, Option, Some, None}
+use Rattle.std.specs.Prelude.{◌/◌, ◌%◌, ◌^◌, ◌<◌, ℕ, true, ◌==◌, if◌then◌else◌}
 use Rattle.std.specs.Int.{bit_not}
 use mir.Syntax.{w64}
 use Rattle.core_views.specs.declared.kind.Kind.{Kind}
 use Rattle.core_views.specs.declared.kind.StepKind.{StepKind}
 use Rattle.core_views.specs.declared.kind.StepKind.TheVariants as kind
-use Rattle.core_views.specs.declared.topics.HostLook.{HostLook}
-use Rattle.core_views.specs.declared.topics.OwnedPage.{OwnedPage}
 use Rattle.core_views.specs.declared.topics.TableWalk.{TableWalk}
 use Rattle.core_views.specs.declared.topics.Topics.{Topics}
 use Rattle.core_views.specs.Held.{Held}
@@ -15,9 +13,11 @@ use Rattle.spte_words.specs.declared.area.Area.{Area}
 use Rattle.spte_words.specs.declared.area.Area.TheVariants as area
 use Rattle.spte_words.specs.Areas.{pool_index, size_of}
 use Rattle.spte_words.specs.Entries.{level_span, table_word}
+use Rattle.spte_words.specs.HostWords.{with_presence}
 use Rattle.part_steps.specs.declared.task.Task.{Task}
 use Rattle.part_steps.specs.declared.part_step.PartStep.{PartStep}
 use Rattle.part_steps.specs.declared.part_step.PartStep.TheVariants as part
+pub use Rattle.part_steps.specs.HeldNumbers.{is_absent, page_left, page_owned, role_filled, set_held, word_looked, words_filled}
 pub use Rattle.part_steps.specs.InvalidationRange.{page_looked}
 use Rattle.part_steps.specs.SlotWords.{leaf_of, slot_index}
 use Rattle.part_steps.specs.Tasks.{kind_of_task, loads, map_of}
@@ -40,40 +40,6 @@ table_page walk =
 abbrev pub entry_index : ℕ → ℕ → ℕ
 entry_index gfn level = gfn / level_span level % 512
 
--- the page that is owned, and how far it is filled
-abbrev pub page_owned : Option OwnedPage → ℕ
-page_owned None = 0
-page_owned (Some o) = o.page
-
-abbrev pub words_filled : Option OwnedPage → ℕ
-words_filled None = 0
-words_filled (Some o) = o.filled
-
--- Each word that is filled so far is 0.
-abbrev pub is_absent : Option OwnedPage → Bool
-is_absent None = false
-is_absent (Some o) = o.absent
-
--- the role that is stored for the page
-abbrev pub role_filled : Option OwnedPage → ℕ
-role_filled None = 0
-role_filled (Some o) = o.role
-
--- the page that is leaving
-abbrev pub page_left : Option ℕ → ℕ
-page_left None = 0
-page_left (Some page) = page
-
--- the pool page of the slot set that is held
-abbrev pub set_held : Option ℕ → ℕ
-set_held None = 0
-set_held (Some set) = set
-
--- the host word that was loaded
-abbrev pub word_looked : Option HostLook → ℕ
-word_looked None = 0
-word_looked (Some look) = look.word
-
 -- what a link to the owned page is, and the leaf of the page that was looked up
 abbrev pub link_written : Topics → ℕ
 link_written t = table_word (page_owned t.owned)
@@ -95,6 +61,11 @@ entry_task gfn new_ walk note = record {
 -- a step that stores, or an operation with this number
 abbrev pub works : StepKind → Area → ℕ → ℕ → ℕ → Task
 works k a index written note = record { kind = k; area = a; index = index; expected = 0; written = written; may_end = note }
+
+-- an exchange of the host word that was looked up
+abbrev pub exchanges_host : StepKind → ℕ → Topics → ℕ → Task
+exchanges_host k new_ t note =
+    record { kind = k; area = area.Host; index = page_looked t.host; expected = word_looked t.host; written = new_; may_end = note }
 
 -- what the step does for the actor at a place, that holds these topics
 abbrev pub part_task : PartStep → ℕ → Topics → ℕ → Task
@@ -134,8 +105,8 @@ part_task (part.SetSeq seq) own t note = works kind.Set area.Seq 0 seq note
 part_task (part.Zap gfn) own t note = works kind.Zap area.Pool (pool_index (table_page t.walk) (entry_index gfn t.walk.level)) 0 note
 part_task (part.Ask index) own t note = works kind.Ask area.State index request_bit note
 part_task (part.Await index) own t note = loads kind.Await area.State index note
-part_task (part.Change new_) own t note =
-    record { kind = kind.Change; area = area.Host; index = page_looked t.host; expected = word_looked t.host; written = new_; may_end = note }
+part_task part.Bring own t note = exchanges_host kind.Bring (with_presence true (word_looked t.host)) t note
+part_task (part.Change new_) own t note = exchanges_host kind.Change new_ t note
 
 -- the place of the hand's actor
 abbrev pub own_index : Held → ℕ

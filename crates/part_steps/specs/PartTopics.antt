@@ -6,9 +6,10 @@ use Rattle.core_views.specs.declared.topics.Stay.TheVariants.{Outside, Guest, Se
 use Rattle.core_views.specs.declared.topics.Topics.{Topics}
 use Rattle.part_steps.specs.declared.part_step.PartStep.{PartStep}
 use Rattle.part_steps.specs.declared.part_step.PartStep.TheVariants as part
+use Rattle.spte_words.specs.HostWords.{with_presence}
 use Rattle.part_steps.specs.InvalidationRange.{invalidated}
 use Rattle.part_steps.specs.PartTasks.{entry_index, leaf_written, link_written, page_looked, word_looked}
-use Rattle.part_steps.specs.StayTopics.{begun, has_lock, is_loose, kept_search, let_go, may_search, may_walk, no_flush, unchecked}
+use Rattle.part_steps.specs.StayTopics.{begun, flush_kept, has_lock, is_loose, kept_search, let_go, may_search, may_walk, unchecked}
 use Rattle.part_steps.specs.WalkTopics.{gone_down, still_owned, swapped, walked}
 use Rattle.part_steps.specs.PageTopics.{claimed, filled_more, given_back, published, searched, tried}
 use Rattle.part_steps.specs.ControlTopics.{at_root, at_set, count_checked, end_known, range_checked}
@@ -31,6 +32,10 @@ sequenced without_lock t v = record t {
 abbrev pub exchanged : Bool → ℕ → ℕ → Topics → ℕ → Topics
 exchanged won index new_ t v = record t { walk = swapped won t.walk index new_ v; owned = still_owned won t.walk new_ t.owned }
 
+-- The host word that was looked up was to be exchanged for a new one, and v was found there.
+abbrev pub exchanged_host : ℕ → Topics → ℕ → Topics
+exchanged_host new_ t v = record t { host = Some (record { page = page_looked t.host; word = if v == word_looked t.host then new_ else v }) }
+
 -- what is held after the step, which answered v
 abbrev pub part_topics : PartStep → Topics → ℕ → Topics
 part_topics part.Enter t v = begun Guest t
@@ -41,7 +46,7 @@ part_topics part.End t v = begun Outside t
 part_topics part.Share t v = record t { hold = if has_writer v then Owing v else Shared; invalidations = unchecked t.invalidations }
 part_topics part.Unshare t v = let_go t
 part_topics part.Exclude t v =
-    record t { hold = if v == 0 then Exclusive else t.hold; invalidations = unchecked t.invalidations; flush = if v == 0 then no_flush else t.flush }
+    record t { hold = if v == 0 then Exclusive else t.hold; invalidations = unchecked t.invalidations; flush = flush_kept (v == 0) t }
 part_topics part.Release t v = let_go t
 part_topics (part.Map word) t v = record t { claim = record { at = word + (if v == 0 then 1 else 0); seen = v } }
 part_topics part.Claim t v = record t { owned = claimed t.claim v; claim = tried t.claim v }
@@ -72,4 +77,5 @@ part_topics (part.SetSeq seq) t v = record t { invalidations = record t.invalida
 part_topics (part.Zap gfn) t v = record t { walk = gone_down None t.walk (entry_index gfn t.walk.level) 0 }
 part_topics (part.Ask index) t v = record t { flush = record t.flush { asked = index + 1 } }
 part_topics (part.Await index) t v = record t { flush = record t.flush { awaited = index + (if has_to_flush v then 0 else 1) } }
-part_topics (part.Change new_) t v = record t { host = Some (record { page = page_looked t.host; word = if v == word_looked t.host then new_ else v }) }
+part_topics part.Bring t v = exchanged_host (with_presence true (word_looked t.host)) t v
+part_topics (part.Change new_) t v = exchanged_host new_ t v

@@ -1,5 +1,5 @@
 -- Where an actor is and how it holds the lock; what it keeps as it goes in and out of guest, section and lock.
-use Rattle.std.specs.Prelude.{Bool, true, false, ◌||◌, not, if◌then◌else◌, None}
+use Rattle.std.specs.Prelude.{Bool, true, false, ◌||◌, not, if◌then◌else◌, None, ◌&&◌}
 use Rattle.core_views.specs.declared.topics.Checked.TheVariants as checked
 use Rattle.core_views.specs.declared.topics.Flush.{Flush}
 use Rattle.core_views.specs.declared.topics.Hold.{Hold}
@@ -62,6 +62,10 @@ forgotten n = record n { snapshot = None; checked = checked.Nothing }
 -- No virtual processor was asked for a flush yet.
 abbrev pub no_flush : Flush
 no_flush = record { asked = 0; awaited = 0 }
+
+-- Who has tried for the lock alone counts the flushes anew if it was won, but for those of its own open invalidation.
+abbrev pub flush_kept : Bool → Topics → Flush
+flush_kept won t = if won && not t.invalidations.opened then no_flush else t.flush
 
 -- what is held where the actor goes into the guest, into a section, or out of them: of tables, slots and look-ups nothing
 abbrev pub begun : Stay → Topics → Topics

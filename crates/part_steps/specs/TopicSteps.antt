@@ -13,7 +13,7 @@ use Rattle.spte_words.specs.declared.area.Area.TheVariants as area
 use Rattle.spte_words.specs.Areas.{number_of, place}
 use Rattle.part_steps.specs.Tasks.{map_of}
 use Rattle.part_steps.specs.InvalidationRange.{invalidated}
-use Rattle.part_steps.specs.StayTopics.{unchecked, begun, let_go, no_flush}
+use Rattle.part_steps.specs.StayTopics.{unchecked, begun, flush_kept, let_go}
 use Rattle.part_steps.specs.WalkTopics.{gone_down, is_in_table, walked, swapped, still_owned}
 use Rattle.part_steps.specs.PageTopics.{searched, claimed, tried, filled_more, given_back, published}
 use Rattle.part_steps.specs.ControlTopics.{controlled, stored}
@@ -30,6 +30,10 @@ pool_begins z = place (map_of z) area.Pool 0
 abbrev pub index_in_page : Sizes → ℕ → ℕ
 index_in_page z word = (word - pool_begins z) % 512
 
+-- A host word was to be exchanged: it was seen as it is now.
+abbrev pub host_exchanged : Sizes → Kind → Topics → ℕ → Topics
+host_exchanged z k t v = record t { host = Some (record { page = k.word - host_begins z; word = if v == k.old then k.new else v }) }
+
 -- what is held after a step of the kind with these numbers, which answered v
 abbrev pub topics_by : StepKind → Sizes → Kind → Topics → ℕ → Topics
 topics_by kind.Enter z k t v = begun Guest t
@@ -43,7 +47,7 @@ topics_by kind.Host z k t v = record t { host = Some (record { page = k.word - h
 topics_by kind.Share z k t v = record t { hold = if has_writer v then Owing v else Shared; invalidations = unchecked t.invalidations }
 topics_by kind.Unshare z k t v = let_go t
 topics_by kind.Exclude z k t v =
-    record t { hold = if v == 0 then Exclusive else t.hold; invalidations = unchecked t.invalidations; flush = if v == 0 then no_flush else t.flush }
+    record t { hold = if v == 0 then Exclusive else t.hold; invalidations = unchecked t.invalidations; flush = flush_kept (v == 0) t }
 topics_by kind.Release z k t v = let_go t
 topics_by kind.Claim z k t v = record t { owned = claimed t.claim v; claim = tried t.claim v }
 topics_by kind.Fill z k t v = record t { owned = filled_more t.owned v }
@@ -52,7 +56,8 @@ topics_by kind.Set z k t v = record t { invalidations = stored k.word (invalidat
 topics_by kind.Zap z k t v = record t { walk = if is_in_table t.walk then gone_down None t.walk (index_in_page z k.word) 0 else t.walk }
 topics_by kind.Ask z k t v = record t { flush = record t.flush { asked = (k.word - number_of area.State) + 1 } }
 topics_by kind.Await z k t v = record t { flush = record t.flush { awaited = (k.word - number_of area.State) + (if has_to_flush v then 0 else 1) } }
-topics_by kind.Change z k t v = record t { host = Some (record { page = k.word - host_begins z; word = if v == k.old then k.new else v }) }
+topics_by kind.Bring z k t v = host_exchanged z k t v
+topics_by kind.Change z k t v = host_exchanged z k t v
 topics_by kind.Publish z k t v = published t v
 topics_by kind.Watch z k t v = record t { watched = (k.word - number_of area.State) + (if in_section v then 0 else 1) }
 topics_by kind.Read z k t v = t

@@ -1,6 +1,6 @@
 //! Invalidations: the range of guest frames of the open ones, and what an actor's own is of
 //! (KVM's kvm_main.c, `kvm_mmu_invalidate_range_add`); and what each of its steps needs.
-ghost use Rattle.std.specs.Prelude.{◌≡◌, ◌≤◌, ◌<◌, ◌+◌, ◌^◌, true, false};
+ghost use Rattle.std.specs.Prelude.{◌≡◌, ◌≤◌, ◌<◌, ◌+◌, ◌^◌, IfSome, true, false};
 ghost use Rattle.part_steps.specs.InvalidationHoldings.{
   IsOpening,
   IsSwept,
@@ -16,6 +16,8 @@ ghost use Rattle.part_steps.specs.InvalidationHoldings.{
   knows_count,
 };
 ghost use Rattle.part_steps.specs.InvalidationRange.{
+  end_with,
+  frame_found,
   gfn_behind,
   has_found,
   has_searched,
@@ -24,6 +26,7 @@ ghost use Rattle.part_steps.specs.InvalidationRange.{
   page_looked,
   range_end,
   range_start,
+  start_with,
 };
 ghost use Rattle.part_steps.specs.PartBounds.{PartRests};
 
@@ -56,7 +59,46 @@ pub fn gfn_behind(page: u64, slot: &Slot) -> u64
 pub fn has_found(page: u64, search: &SlotSearch) -> bool
     ensures { result ≡ has_found page search.now }
 {
-    search.whole && search.slot.host <= page && page - search.slot.host < search.slot.pages
+    search.whole && search.slot.has_host_page(page)
+}
+
+/// The guest frame that the slot found gives to the host page, if the search has found one.
+pub fn frame_found(page: u64, search: &SlotSearch) -> Option<u64>
+    requires { search.now.whole ≡ true → search.now.slot.base + search.now.slot.pages ≤ 2 ^ 36 }
+    ensures is { result ≡ frame_found page search.now }
+    ensures small { IfSome result (λ g. g < 2 ^ 36) }
+{
+    if has_found(page, search) {
+        Some(gfn_behind(page, &search.slot))
+    } else {
+        None
+    }
+}
+
+/// The first guest frame of the range of open invalidations, with this guest frame, if there
+/// is one.
+pub fn start_with(gfn: Option<u64>, seen: &Invalidations) -> u64
+    ensures { result ≡ start_with gfn seen.now }
+{
+    match gfn {
+        Some(gfn) if seen.count == 0 => gfn,
+        Some(gfn) => seen.start.min(gfn),
+        None if seen.count == 0 => 0,
+        None => seen.start,
+    }
+}
+
+/// The guest frame after its last one.
+pub fn end_with(gfn: Option<u64>, seen: &Invalidations) -> u64
+    requires { IfSome gfn (λ g. g < 2 ^ 36) }
+    ensures { result ≡ end_with gfn seen.now }
+{
+    match gfn {
+        Some(gfn) if seen.count == 0 => gfn + 1,
+        Some(gfn) => seen.end.max(gfn + 1),
+        None if seen.count == 0 => 0,
+        None => seen.end,
+    }
 }
 
 /// The first guest frame of the range of open invalidations, with that of the page, if a
@@ -65,14 +107,7 @@ pub fn range_start(page: u64, topics: &Topics) -> u64
     requires frames { topics.now.search.whole ≡ true → topics.now.search.slot.base + topics.now.search.slot.pages ≤ 2 ^ 36 }
     ensures { result ≡ range_start page topics.now }
 {
-    let found = has_found(page, &topics.search);
-    let seen = &topics.invalidations;
-    match (seen.count == 0, found) {
-        (true, true) => gfn_behind(page, &topics.search.slot),
-        (true, false) => 0,
-        (false, true) => seen.start.min(gfn_behind(page, &topics.search.slot)),
-        (false, false) => seen.start,
-    }
+    start_with(frame_found(page, &topics.search), &topics.invalidations)
 }
 
 /// The guest frame after its last one.
@@ -80,14 +115,7 @@ pub fn range_end(page: u64, topics: &Topics) -> u64
     requires frames { topics.now.search.whole ≡ true → topics.now.search.slot.base + topics.now.search.slot.pages ≤ 2 ^ 36 }
     ensures { result ≡ range_end page topics.now }
 {
-    let found = has_found(page, &topics.search);
-    let seen = &topics.invalidations;
-    match (seen.count == 0, found) {
-        (true, true) => gfn_behind(page, &topics.search.slot) + 1,
-        (true, false) => 0,
-        (false, true) => seen.end.max(gfn_behind(page, &topics.search.slot) + 1),
-        (false, false) => seen.end,
-    }
+    end_with(frame_found(page, &topics.search), &topics.invalidations)
 }
 
 /// What an invalidation of the host page is of that was looked at last.

@@ -11,10 +11,13 @@ mod task;
 mod topics;
 
 pub use control_words::{WRITER, has_to_flush, has_writer, in_section};
-pub use invalidations::{gfn_behind, has_found, invalidated, range_end, range_start};
+pub use invalidations::{
+    end_with, frame_found, gfn_behind, has_found, invalidated, range_end, range_start, start_with,
+};
 pub use needs::{has_needs, needs_line, next_watched};
 pub use part_step::{
-    PartStep, entry_index, page_owned, part_kind, part_task, run_of, table_page, words_filled,
+    PartStep, entry_index, page_owned, part_kind, part_task, run_of, table_page, word_looked,
+    words_filled,
 };
 pub use slot_words::{SLOT_SET_ROLE, page_of, set_word};
 pub use task::{Task, kind_of, map_of};

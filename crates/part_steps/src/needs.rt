@@ -6,7 +6,9 @@ ghost use Rattle.part_steps.specs.PartBounds.{PartRests};
 ghost use Rattle.core_views.specs.Slots.{contains};
 ghost use Rattle.part_steps.specs.PartTasks.{role_filled, word_looked, words_filled};
 ghost use Rattle.part_steps.specs.PartHoldings.{IsFresh, IsOver, MayEnter, MayGiveOld, MayPublish, OwnsTable, SawEntry, next_watched};
-ghost use Rattle.part_steps.specs.InvalidationHoldings.{MayChange, revises};
+ghost use Rattle.part_steps.specs.PartHoldings.{MayBring};
+ghost use Rattle.spte_words.specs.HostWords.{host_present};
+ghost use Rattle.part_steps.specs.InvalidationHoldings.{MayChange, MayZap, revises};
 ghost use Rattle.part_steps.specs.PartSteps.{PartNeeds, needs_line};
 ghost use Rattle.part_steps.specs.SetWords.{set_role};
 ghost use Rattle.part_steps.specs.SlotWords.{page_of};
@@ -16,7 +18,7 @@ ghost use Rattle.part_steps.specs.declared.part_step.PartStep.TheVariants.{Enter
 use crate::invalidations::{
     has_found, may_ask, may_change, may_count, may_raise, may_set_end, may_set_start, page_looked,
 };
-use crate::part_step::{PartStep, entry_index, run_of, words_filled};
+use crate::part_step::{PartStep, entry_index, run_of, word_looked, words_filled};
 use crate::slot_words::SLOT_SET_ROLE;
 use crate::task::map_of;
 use core_views::{
@@ -78,6 +80,13 @@ fn looked_up(gfn: u64, search: &SlotSearch, host: Option<HostLook>) -> bool
     search.whole && slot.contains(gfn) && is_behind(look.page, slot, gfn)
 }
 
+// Whether the host page that was looked up is present.
+fn is_present(host: Option<HostLook>) -> bool
+    ensures { result ≡ host_present (word_looked host) }
+{
+    HostWord::from_word(word_looked(host)).is_present()
+}
+
 // Whether the hand may store an entry of the guest frame's.
 fn may_enter(gfn: u64, topics: &Topics) -> bool
     requires { topics.now.walk.level ≤ 4 }
@@ -87,6 +96,7 @@ fn may_enter(gfn: u64, topics: &Topics) -> bool
         && topics.stay == Stay::Section
         && is_fresh(gfn, &topics.invalidations)
         && looked_up(gfn, &topics.search, topics.host)
+        && is_present(topics.host)
         && saw_entry(gfn, &topics.walk)
 }
 
@@ -137,6 +147,28 @@ fn may_give_old(hand: &Hand) -> bool
         && sizes.actors() <= next_watched(own, topics.watched)
 }
 
+// Whether the leaf of the guest frame may be zapped.
+fn may_zap(gfn: u64, topics: &Topics) -> bool
+    requires { topics.now.walk.level ≤ 4 }
+    ensures { result ≡ true → MayZap gfn topics.now }
+{
+    let own = &topics.invalidations.own;
+    topics.hold == Hold::Exclusive
+        && topics.stay == Stay::Outside
+        && topics.invalidations.opened
+        && own.start <= gfn
+        && gfn < own.end
+        && saw_entry(gfn, &topics.walk)
+        && Spte::from_word(topics.walk.entry).kind(topics.walk.level) == SpteKind::Leaf
+}
+
+// Whether the host page that was looked up may be brought in.
+fn may_bring(topics: &Topics) -> bool
+    ensures { result ≡ true → MayBring topics.now }
+{
+    topics.stay == Stay::Section && topics.host.is_some() && !is_present(topics.host)
+}
+
 // Whether the host page that was looked up may be changed, to this word.
 fn may_change_to(new: u64, hand: &Hand) -> bool
     ensures { result ≡ true → MayChange hand.now.core × (revises (word_looked hand.now.core.topics.host) new ≡ true) }
@@ -145,7 +177,9 @@ fn may_change_to(new: u64, hand: &Hand) -> bool
         Some(look) => {
             let word = HostWord::from_word(look.word);
             may_change(hand)
-                && (new == word.with_writes(true).word() || new == word.with_writes(false).word())
+                && (new == word.with_writes(true).word()
+                    || new == word.with_writes(false).word()
+                    || new == word.with_presence(false).word())
         }
         None => false,
     }
@@ -162,7 +196,7 @@ pub fn needs_line(step: PartStep) -> bool
         PartStep::Publish | PartStep::Clear | PartStep::GiveOld => true,
         PartStep::SetStart(_) | PartStep::SetEnd(_) => true,
         PartStep::SetCount(_) | PartStep::SetSeq(_) => true,
-        PartStep::Ask(_) | PartStep::Await(_) | PartStep::Change(_) => true,
+        PartStep::Ask(_) | PartStep::Await(_) | PartStep::Change(_) | PartStep::Bring => true,
         _ => false,
     }
 }
@@ -213,6 +247,7 @@ pub fn has_needs(hand: &Hand, step: PartStep) -> bool
         }
         PartStep::Leaf(gfn) => may_enter(gfn, topics) && topics.walk.level == 1,
         PartStep::Host(page) => page < sizes.pages && topics.hold != Hold::Exclusive,
+        PartStep::Bring => may_bring(topics),
         PartStep::Watch(index) => {
             index < sizes.actors()
                 && index != own
@@ -224,12 +259,7 @@ pub fn has_needs(hand: &Hand, step: PartStep) -> bool
         PartStep::SetEnd(gfn) => may_set_end(gfn, topics),
         PartStep::SetCount(count) => may_count(count, topics),
         PartStep::SetSeq(seq) => may_raise(seq, topics),
-        PartStep::Zap(gfn) => {
-            topics.hold == Hold::Exclusive
-                && topics.stay == Stay::Outside
-                && saw_entry(gfn, &topics.walk)
-                && Spte::from_word(topics.walk.entry).kind(topics.walk.level) == SpteKind::Leaf
-        }
+        PartStep::Zap(gfn) => may_zap(gfn, topics),
         PartStep::Ask(index) => may_ask(index, hand),
         PartStep::Await(index) => {
             index < topics.flush.asked

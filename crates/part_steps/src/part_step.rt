@@ -7,11 +7,11 @@ ghost use Rattle.spte_words.specs.declared.area.Area.TheVariants as Area;
 ghost use Rattle.spte_words.specs.Areas.{IsWordMap, pool_index, size_of};
 ghost use Rattle.part_steps.specs.PartBounds.{PartRests};
 ghost use Rattle.part_steps.specs.PartTasks.{all_but, entry_index, entry_task, leaf_written, own_index, page_left, page_looked, page_owned};
-ghost use Rattle.part_steps.specs.PartTasks.{part_kind, part_task, set_held, table_page, word_looked, words_filled, works};
+ghost use Rattle.part_steps.specs.PartTasks.{exchanges_host, part_kind, part_task, set_held, table_page, word_looked, words_filled, works};
 ghost use Rattle.part_steps.specs.PartSteps.{PartNeeds};
 ghost use Rattle.part_steps.specs.SlotWords.{slot_index};
 ghost use Rattle.spte_words.specs.Entries.{level_span, table_word};
-ghost use Rattle.spte_words.specs.HostWords.{host_frame};
+ghost use Rattle.spte_words.specs.HostWords.{host_frame, with_presence};
 ghost use Rattle.part_steps.specs.Tasks.{loads, map_of};
 ghost use Rattle.part_steps.specs.PageTopics.{tried_bit};
 ghost use Rattle.part_steps.specs.ControlBits.{guest_bits, section_bit};
@@ -24,7 +24,7 @@ use crate::topics::tried_bit;
 use core_views::{
     Hand, HostLook, Kind, MapClaim, OwnedPage, SlotSearch, StepKind, TableWalk, Topics,
 };
-use spte_words::{Area, Spte, WordMap};
+use spte_words::{Area, HostWord, Spte, WordMap};
 
 /// One step of a part of the machine, with the number that its caller gives.
 /// Which word it is on follows from this, and from what the hand holds.
@@ -102,6 +102,8 @@ pub enum PartStep {
     Ask(u64),
     /// Loads the state word of this virtual processor, which was asked.
     Await(u64),
+    /// Brings the host page in that was looked up.
+    Bring,
     /// Exchanges the host word that was looked up for this one.
     Change(u64),
 }
@@ -331,17 +333,35 @@ fn zap(map: &WordMap, walk: &TableWalk, gfn: u64, note: u64) -> Task
     work(StepKind::Zap, Area::Pool, index, 0, note)
 }
 
-// Exchanges the host word that was looked up.
-fn change(host: Option<HostLook>, new: u64, note: u64) -> Task
-    requires { is_some host ≡ true }
-    ensures { result
-        ≡ record { kind = StepKind.Change; area = Area.Host; index = page_looked host; expected = word_looked host; written = new; may_end = note } }
+/// The host word that was looked up; 0 where none was.
+pub fn word_looked(host: Option<HostLook>) -> u64
+    ensures { result ≡ word_looked host }
 {
-    let Some(HostLook { page, word }) = host else {
+    match host {
+        Some(look) => look.word,
+        None => 0,
+    }
+}
+
+// The same, with the page in memory.
+fn word_brought(host: Option<HostLook>) -> u64
+    ensures { result ≡ with_presence true (word_looked host) }
+{
+    HostWord::from_word(word_looked(host))
+        .with_presence(true)
+        .word()
+}
+
+// Exchanges the host word that was looked up.
+fn exchange_host(kind: StepKind, topics: &Topics, new: u64, note: u64) -> Task
+    requires { is_some topics.now.host ≡ true }
+    ensures { result ≡ exchanges_host kind new topics.now note }
+{
+    let Some(HostLook { page, word }) = topics.host else {
         unreachable!()
     };
     Task {
-        kind: StepKind::Change,
+        kind,
         area: Area::Host,
         index: page,
         expected: word,
@@ -423,7 +443,8 @@ pub fn part_task(hand: &Hand, step: PartStep, note: u64) -> Task
         PartStep::Zap(gfn) => zap(map, &topics.walk, gfn, note),
         PartStep::Ask(index) => work(StepKind::Ask, Area::State, index, REQUEST_BIT, note),
         PartStep::Await(index) => Task::load(StepKind::Await, Area::State, index, note),
-        PartStep::Change(new) => change(topics.host, new, note),
+        PartStep::Bring => exchange_host(StepKind::Bring, topics, word_brought(topics.host), note),
+        PartStep::Change(new) => exchange_host(StepKind::Change, topics, new, note),
     }
 }
 

@@ -395,7 +395,7 @@ fn state_index(word: u32) -> u64
 }
 
 // A host word was to be exchanged.
-fn change_host(sizes: &Sizes, kind: Kind, found: u64) -> HostLook
+fn exchange_host(sizes: &Sizes, kind: Kind, found: u64) -> HostLook
     requires { AreSizes sizes.now }
     ensures { result ≡ record { page = kind.word - host_begins sizes.now; word = if found == kind.old then kind.new else found } }
 {
@@ -501,10 +501,12 @@ pub fn step_topics(sizes: &Sizes, kind: Kind, topics: &mut Topics, found: u64)
             topics.invalidations.checked = Checked::Nothing;
             if found == 0 {
                 topics.hold = Hold::Exclusive;
-                topics.flush = Flush {
-                    asked: 0,
-                    awaited: 0,
-                };
+                if !topics.invalidations.opened {
+                    topics.flush = Flush {
+                        asked: 0,
+                        awaited: 0,
+                    };
+                }
             }
         }
         StepKind::Claim => topics.owned = claim(&mut topics.claim, found),
@@ -526,7 +528,7 @@ pub fn step_topics(sizes: &Sizes, kind: Kind, topics: &mut Topics, found: u64)
         StepKind::Await => {
             topics.flush.awaited = state_index(kind.word) + if has_to_flush(found) { 0 } else { 1 };
         }
-        StepKind::Change => topics.host = Some(change_host(sizes, kind, found)),
+        StepKind::Bring | StepKind::Change => topics.host = Some(exchange_host(sizes, kind, found)),
         StepKind::Watch => {
             topics.watched = state_index(kind.word) + if in_section(found) { 0 } else { 1 };
         }

@@ -1,6 +1,6 @@
 -- The begin and the end of an invalidation, a step a turn, by the calls of the machine's parts (mmu_notifier.rst; kvm_main.c,
 -- kvm_mmu_notifier_invalidate_range_start and kvm_mmu_notifier_invalidate_range_end).
-use Rattle.std.specs.Prelude.{◌≡◌, ℕ, if◌then◌else◌, Option, Some, None}
+use Rattle.std.specs.Prelude.{◌≡◌, ℕ, Option, Some, None}
 use Rattle.core_views.specs.declared.place.BeginPlace.{BeginPlace}
 use Rattle.core_views.specs.declared.place.BeginPlace.TheVariants as begins
 use Rattle.core_views.specs.declared.place.EndPlace.{EndPlace}
@@ -8,7 +8,6 @@ use Rattle.core_views.specs.declared.place.EndPlace.TheVariants as ends
 use Rattle.core_views.specs.declared.place.HostPlace.TheVariants.{Begin, End}
 use Rattle.core_views.specs.declared.place.Place.{Place}
 use Rattle.core_views.specs.declared.place.Place.TheVariants as place
-use Rattle.core_views.specs.declared.topics.SlotSearch.{SlotSearch}
 use Rattle.core_views.specs.Held.{Held}
 use Rattle.invalidate_seq.specs.declared.open.OpenStage.{OpenStage}
 use Rattle.invalidate_seq.specs.declared.open.OpenStage.TheVariants as opens
@@ -19,17 +18,13 @@ use Rattle.mmu_core.specs.declared.invalidate.BeginNext.TheVariants as begins_ne
 use Rattle.mmu_core.specs.declared.invalidate.EndNext.{EndNext}
 use Rattle.mmu_core.specs.declared.invalidate.EndNext.TheVariants as ends_next
 use Rattle.mmu_core.specs.lines.InvalidateKnows.{BeginKnows, EndKnows}
-use Rattle.mmu_core.specs.lines.InvalidateSteps.{begin_next, begin_part, end_next, end_part, gfn_behind, has_found}
+use Rattle.mmu_core.specs.lines.InvalidateSteps.{begin_next, begin_part, end_next, end_part}
 use Rattle.mmu_core.specs.machine.MayMake.{MayMake}
 use Rattle.range_notifier.specs.declared.begin.BeginJob.{BeginJob}
 use Rattle.step_seats.specs.PartTurns.{MadeTelling, in_way}
 use Rattle.step_seats.specs.Seats.{Seat}
 use Rattle.step_seats.specs.declared.turn.Turn.{Turn}
 use Rattle.step_seats.specs.declared.turn.Turn.TheVariants.{More, Wait, Done}
-
--- the guest frame that the slot found gives to the host page, if the search has found one
-abbrev pub frame_found : ℕ → SlotSearch → Option ℕ
-frame_found page search = if has_found page search then Some (gfn_behind page search.slot) else None
 
 -- ---- the begin
 

@@ -1,17 +1,17 @@
 ghost use Rattle.std.specs.Prelude.{◌≡◌, ◌<◌, ◌≤◌, ◌+◌, ◌^◌, IfSome, Some, None, true, false};
 ghost use Rattle.core_views.specs.declared.place.BeginPlace.TheVariants as at;
-ghost use Rattle.mmu_core.specs.lines.InvalidateSteps.{begin_part, gfn_behind, has_found};
+ghost use Rattle.mmu_core.specs.lines.InvalidateSteps.{begin_part};
 ghost use Rattle.part_steps.specs.PartBounds.{PartRests};
-ghost use Rattle.range_notifier.specs.Notifying.{BeginsNext, GoesOn, IsInBegin, TurnsBegin, begin_at, frame_found, opens_at};
+ghost use Rattle.range_notifier.specs.Notifying.{BeginsNext, GoesOn, IsInBegin, TurnsBegin, begin_at, opens_at};
 ghost use Rattle.step_seats.specs.Moves.{KeepsRoom};
 ghost use Rattle.step_seats.specs.PartTurns.{MadeTelling, MakesPart};
 
 use crate::lock::{exclude, release};
-use core_views::{BeginPlace, Hand, HostPlace, Place, Seen, SlotSearch};
+use core_views::{BeginPlace, Hand, HostPlace, Place, Seen};
 use invalidate_seq::{Open, OpenStage};
 use memslots::FindPage;
 use mmu_core::part_rests;
-use part_steps::{gfn_behind, has_found, map_of};
+use part_steps::{frame_found, gfn_behind, map_of};
 use step_seats::{Stepper, Turn};
 use tdp_walk::{Walk, zap};
 use vcpu_tlb::{ask_flush, await_flush};
@@ -31,19 +31,6 @@ fn place_of(hand: &Hand) -> Option<BeginPlace>
     match hand.progress().place {
         Place::Host(HostPlace::Begin(place)) => Some(place),
         _ => None,
-    }
-}
-
-// The guest frame that the search has found for the host page.
-fn frame_found(page: u64, search: &SlotSearch) -> Option<u64>
-    requires { search.now.whole ≡ true → search.now.slot.base + search.now.slot.pages ≤ 2 ^ 36 }
-    ensures is { result ≡ frame_found page search.now }
-    ensures small { IfSome result (λ g. g < 2 ^ 36) }
-{
-    if has_found(page, search) {
-        Some(gfn_behind(page, &search.slot))
-    } else {
-        None
     }
 }
 

@@ -49,3 +49,6 @@ offset_small level gfn from to =
 pub mapped_frame_1 : (leaf gfn : ℕ) → mapped_frame 1 leaf gfn ≡ frame_in leaf
 unfolding mapped_frame level_span
 mapped_frame_1 leaf gfn = let least : gfn % 1 < 1 = mod_below gfn 1 (omega arith) in omega (arith, least)
+
+-- What the frame of a guest frame in the run of a leaf is told by.
+pub ruleset in_run = (span_positive, offset_small)

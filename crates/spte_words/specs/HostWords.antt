@@ -20,3 +20,7 @@ host_frame word = word / 2 ^ 12
 -- the host word of the same page, to which writes are allowed, or aren't
 abbrev pub with_writes : Bool → ℕ → ℕ
 with_writes allowed word = host_word (host_frame word) (host_present word) allowed (host_level word)
+
+-- the host word of the same page, which is present, or isn't
+abbrev pub with_presence : Bool → ℕ → ℕ
+with_presence present word = host_word (host_frame word) present (host_allows_write word) (host_level word)

@@ -1,5 +1,5 @@
 ghost use Rattle.std.specs.Prelude.{◌≡◌, ℕ, ◌<◌, ◌^◌};
-ghost use Rattle.spte_words.specs.HostWords.{host_word, host_present, host_allows_write, host_level, host_frame, with_writes};
+ghost use Rattle.spte_words.specs.HostWords.{host_word, host_present, host_allows_write, host_level, host_frame, with_writes, with_presence};
 
 use crate::bit::bit_if;
 use std::marker::Model;
@@ -26,10 +26,10 @@ impl Model for HostWord {
     ghost inverse = { λ word. record { word = word } };
 }
 
-#[tactic(auto, unfolding(crate::specs::HostWords::host_word, crate::specs::HostWords::host_present, crate::specs::HostWords::host_allows_write, crate::specs::HostWords::host_level, crate::specs::HostWords::host_frame))]
 impl HostWord {
     /// The page is at `frame` (below 2^52), by a mapping of this level (1 to
     /// 3), where it is present.
+    #[tactic(auto, unfolding(crate::specs::HostWords::host_word))]
     pub fn new(frame: u64, present: bool, writable: bool, level: u8) -> HostWord
         requires frame_in { frame < 2 ^ 52 }
         requires level_in { level < 4 }
@@ -56,6 +56,7 @@ impl HostWord {
     }
 
     /// The frame that holds the page.
+    #[tactic(auto, unfolding(crate::specs::HostWords::host_frame))]
     pub fn frame(self) -> u64
         ensures { result ≡ host_frame self }
     {
@@ -63,6 +64,7 @@ impl HostWord {
     }
 
     /// Whether the host has the page in memory.
+    #[tactic(auto, unfolding(crate::specs::HostWords::host_present))]
     pub fn is_present(self) -> bool
         ensures { result ≡ host_present self }
     {
@@ -70,6 +72,7 @@ impl HostWord {
     }
 
     /// Whether the host allows writes to it.
+    #[tactic(auto, unfolding(crate::specs::HostWords::host_allows_write))]
     pub fn is_writable(self) -> bool
         ensures { result ≡ host_allows_write self }
     {
@@ -77,6 +80,7 @@ impl HostWord {
     }
 
     /// The level of the host's mapping, 1 to 3.
+    #[tactic(auto, unfolding(crate::specs::HostWords::host_level))]
     pub fn level(self) -> u8
         ensures { result ≡ host_level self }
     {
@@ -84,9 +88,18 @@ impl HostWord {
     }
 
     /// The same, with writes allowed to the page, or forbidden.
+    #[tactic(auto, unfolding(crate::specs::HostWords::host_frame, crate::specs::HostWords::host_level))]
     pub fn with_writes(self, allowed: bool) -> HostWord
         ensures { result ≡ with_writes allowed self }
     {
         HostWord::new(self.frame(), self.is_present(), allowed, self.level())
+    }
+
+    /// The same, with the page in memory, or not.
+    #[tactic(auto, unfolding(crate::specs::HostWords::host_frame, crate::specs::HostWords::host_level))]
+    pub fn with_presence(self, present: bool) -> HostWord
+        ensures { result ≡ with_presence present self }
+    {
+        HostWord::new(self.frame(), present, self.is_writable(), self.level())
     }
 }

@@ -24,10 +24,10 @@ impl Model for SlotFlags {
     ghost inverse = { λ word. record { word = word } };
 }
 
-#[tactic(auto, unfolding(crate::specs::Flags::flags_word, crate::specs::Flags::flags_live, crate::specs::Flags::flags_read_only, crate::specs::Flags::flags_logged))]
 impl SlotFlags {
     /// The flags of a slot that is in use, that guest writes leave
     /// (`KVM_MEM_READONLY`), that has a dirty log (`KVM_MEM_LOG_DIRTY_PAGES`).
+    #[tactic(auto, unfolding(crate::specs::Flags::flags_word))]
     pub fn new(live: bool, read_only: bool, logged: bool) -> SlotFlags
         ensures { result ≡ flags_word live read_only logged }
     {
@@ -51,6 +51,7 @@ impl SlotFlags {
     }
 
     /// Whether the slot is in use.
+    #[tactic(auto, unfolding(crate::specs::Flags::flags_live))]
     pub fn is_live(self) -> bool
         ensures { result ≡ flags_live self }
     {
@@ -58,6 +59,7 @@ impl SlotFlags {
     }
 
     /// Whether guest writes leave the guest.
+    #[tactic(auto, unfolding(crate::specs::Flags::flags_read_only))]
     pub fn is_read_only(self) -> bool
         ensures { result ≡ flags_read_only self }
     {
@@ -65,6 +67,7 @@ impl SlotFlags {
     }
 
     /// Whether guest writes are logged.
+    #[tactic(auto, unfolding(crate::specs::Flags::flags_logged))]
     pub fn is_logged(self) -> bool
         ensures { result ≡ flags_logged self }
     {

@@ -38,9 +38,9 @@ impl Model for Spte {
     ghost inverse = { λ word. record { word = word } };
 }
 
-#[tactic(auto, unfolding(crate::specs::Entries::absent_word, crate::specs::Entries::frozen_word, crate::specs::Entries::table_word, crate::specs::Entries::leaf_word, crate::specs::Entries::frame_in, crate::specs::Entries::can_write, crate::specs::Entries::host_writable, crate::specs::Entries::mmu_writable, crate::specs::Entries::with_write, crate::specs::Entries::without_write, crate::specs::Entries::is_leaf_at, crate::specs::Entries::kind_of))]
 impl Spte {
     /// The entry under which nothing is mapped.
+    #[tactic(auto, unfolding(crate::specs::Entries::absent_word))]
     pub fn absent() -> Spte
         ensures { result ≡ absent_word }
     {
@@ -48,6 +48,7 @@ impl Spte {
     }
 
     /// The entry of a table that is being removed.
+    #[tactic(auto, unfolding(crate::specs::Entries::frozen_word))]
     pub fn frozen() -> Spte
         ensures { result ≡ frozen_word }
     {
@@ -55,6 +56,7 @@ impl Spte {
     }
 
     /// A link to the table in this pool page.
+    #[tactic(auto, unfolding(crate::specs::Entries::table_word))]
     pub fn table(page: u32) -> Spte
         ensures { result ≡ table_word page }
     {
@@ -65,6 +67,7 @@ impl Spte {
 
     /// A leaf of level 1 to 3: `frame` is the first of its run, `w` allows
     /// guest writes, `hw` and `mw` say that the host and the MMU would.
+    #[tactic(auto, unfolding(crate::specs::Entries::leaf_word))]
     pub fn leaf(level: u8, frame: u64, w: bool, hw: bool, mw: bool) -> Spte
         requires { frame < 2 ^ 40 }
         ensures { result ≡ leaf_word level frame w hw mw }
@@ -90,6 +93,7 @@ impl Spte {
     }
 
     /// What it says at this level.
+    #[tactic(auto, unfolding(crate::specs::Entries::kind_of, crate::specs::Entries::frozen_word, crate::specs::Entries::is_leaf_at))]
     pub fn kind(self, level: u8) -> SpteKind
         ensures { result ≡ kind_of level self }
     {
@@ -106,6 +110,7 @@ impl Spte {
     }
 
     /// The first frame of a leaf's run (of a link, its pool page).
+    #[tactic(auto, unfolding(crate::specs::Entries::frame_in))]
     pub fn frame(self) -> u64
         ensures { result ≡ frame_in self }
     {
@@ -114,7 +119,7 @@ impl Spte {
 
     /// The frame of this guest frame, which is in the run of the leaf, of level 1 to 3:
     /// the leaf's own frame is that of the first guest frame of its run.
-    #[tactic(auto, unfolding(crate::specs::Entries::mapped_frame, crate::specs::Entries::frame_in), using(crate::proofs::Spans::span_positive, crate::proofs::Spans::offset_small))]
+    #[tactic(auto, unfolding(crate::specs::Entries::mapped_frame, crate::specs::Entries::frame_in), using(crate::proofs::Spans::in_run))]
     pub fn mapped_frame(self, level: u8, gfn: u64) -> u64
         requires level_from { 1 ≤ level }
         requires level_to { level ≤ 4 }
@@ -124,6 +129,7 @@ impl Spte {
     }
 
     /// Whether the guest may write through it.
+    #[tactic(auto, unfolding(crate::specs::Entries::can_write))]
     pub fn is_writable(self) -> bool
         ensures { result ≡ can_write self }
     {
@@ -131,6 +137,7 @@ impl Spte {
     }
 
     /// Whether the host allows writes to its frames.
+    #[tactic(auto, unfolding(crate::specs::Entries::host_writable))]
     pub fn is_host_writable(self) -> bool
         ensures { result ≡ host_writable self }
     {
@@ -138,6 +145,7 @@ impl Spte {
     }
 
     /// Whether the memory slot allows guest writes too.
+    #[tactic(auto, unfolding(crate::specs::Entries::mmu_writable))]
     pub fn is_mmu_writable(self) -> bool
         ensures { result ≡ mmu_writable self }
     {
@@ -145,6 +153,7 @@ impl Spte {
     }
 
     /// The entry with guest writes allowed.
+    #[tactic(auto, unfolding(crate::specs::Entries::with_write, crate::specs::Entries::can_write))]
     pub fn with_write(self) -> Spte
         ensures { result ≡ with_write self }
     {
@@ -158,6 +167,7 @@ impl Spte {
     }
 
     /// The entry with guest writes denied.
+    #[tactic(auto, unfolding(crate::specs::Entries::without_write, crate::specs::Entries::can_write))]
     pub fn without_write(self) -> Spte
         ensures { result ≡ without_write self }
     {

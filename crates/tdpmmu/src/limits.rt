@@ -31,6 +31,16 @@ const FIRST: [(&str, u64); 13] = [
     ("write", 1580),
 ];
 
+// Where the page is absent the fault brings it in after it has looked at it: that is
+// one step more, after the 13th.
+const ABSENT: [(&str, u64); 5] = [
+    ("host", 13),
+    ("bring", 14),
+    ("share", 15),
+    ("claim", 21),
+    ("write", 1581),
+];
+
 // How a weave of the lines behind the header ends within so many turns in rounds,
 // and what it prints.
 fn weave_lines(alloc: Global, lines: &str, limit: u64) -> Result<Option<(How, MemSink)>, Fail> {
@@ -70,6 +80,56 @@ fn leaves_the_steps_behind_each_kind(rt: HostRuntime) -> Result<(), Fail> {
         let part = "2 vm done\nunfinished 4 v0\n";
         assert!(rt; ends(alloc, &lines, left, How::Done, all)?, "on {kind}");
         assert!(rt; ends(alloc, &lines, left - 1, open, part)?, "on {kind}");
+    }
+    Ok(())
+}
+
+#[test]
+fn brings_a_page_in_with_one_step_more(rt: HostRuntime) -> Result<(), Fail> {
+    let open = How::Unfinished {
+        actor: Actor::Vcpu(0),
+        line: 5,
+    };
+    for (kind, turn) in ABSENT {
+        let alloc = rt.alloc();
+        let lines = format!(in alloc;
+            "vm slot 0 0 16 0\nh0 evict 1\ngo\nv0 write 0x1000 5\n> v0 {kind}\n"
+        )?;
+        let left = COLD + 1 - turn;
+        let all = "2 vm done\n3 h0 done\n5 v0 frame 1 value 0\n";
+        let part = "2 vm done\n3 h0 done\nunfinished 5 v0\n";
+        assert!(rt; ends(alloc, &lines, left, How::Done, all)?, "on {kind}");
+        assert!(rt; ends(alloc, &lines, left - 1, open, part)?, "on {kind}");
+    }
+    Ok(())
+}
+
+// A host line makes six steps after its exchange: the end of its invalidation. Where a
+// fault brings the page in before the exchange, that is lost, and one more comes before
+// the six.
+#[test]
+fn exchanges_once_more_where_it_loses(rt: HostRuntime) -> Result<(), Fail> {
+    let open = How::Unfinished {
+        actor: Actor::Host(0),
+        line: 5,
+    };
+    let ended = How::Unfinished {
+        actor: Actor::Vcpu(0),
+        line: 6,
+    };
+    let (early, late) = ("> h0 host\n> v0 bring\n", "> v0 host\n> h0 host\n");
+    for (items, turns, how, text) in [
+        (early, 6, open, "unfinished 5 h0\n"),
+        (early, 7, ended, "5 h0 done\nunfinished 6 v0\n"),
+        (late, 5, open, "unfinished 5 h0\n"),
+        (late, 6, ended, "5 h0 done\nunfinished 6 v0\n"),
+    ] {
+        let alloc = rt.alloc();
+        let lines = format!(in alloc;
+            "vm slot 0 0 16 0\nh0 evict 2\ngo\nh0 evict 2\nv0 read 0x2000\n{items}> h0 change\n> h0 {turns}\n"
+        )?;
+        let printed = format!(in alloc; "2 vm done\n3 h0 done\n{text}")?;
+        assert!(rt; ends(alloc, &lines, 0, how, &printed)?, "on {items}{turns}");
     }
     Ok(())
 }

@@ -1,8 +1,9 @@
-//! The machine beside flat guest memory: on each trace of a table both answer
+//! The machine beside flat guest memory: on each trace of two tables both answer
 //! the same, with the pool that the trace needs and with a larger one, and with
 //! one cached translation and with 64.
 ghost use Rattle.core_views.specs.Traces.{AreLinesOf};
 
+use crate::host_traces::{HOST_COUNT, HOST_TRACES};
 use crate::status::Status;
 use crate::tests::run_on;
 use crate::traces::{COUNT, TRACES};
@@ -16,11 +17,15 @@ use tdp_io::MemSource;
 use trace_reader::{Read, need, read_trace};
 use trace_text::answer_line;
 
-// A whole trace of a text of the table, for a pool of so many pages and caches
-// of so many translations.
+// A whole trace of a text of a table, for a pool of so many pages and caches
+// of so many translations. The sizes end with the first pages of the host threads,
+// where there are several.
 fn whole_trace(alloc: Global, text: &str, pool: u64, cache: u8) -> Result<String, Fail> {
     let (sizes, lines) = text.split_once("\n").unwrap_or((text, ""));
-    Ok(format!(in alloc; "tdp 1 {sizes} pool {pool} cache {cache} manual 0 hosts 0\n{lines}")?)
+    let (sizes, hosts) = sizes.split_once(" hosts ").unwrap_or((sizes, "0"));
+    Ok(format!(in alloc;
+        "tdp 1 {sizes} pool {pool} cache {cache} manual 0 hosts {hosts}\n{lines}"
+    )?)
 }
 
 // What flat guest memory answers the trace, as text.
@@ -68,17 +73,41 @@ fn differing<R: Threads + Wait + Sync>(
     Ok(None)
 }
 
-#[test]
-fn answers_as_flat_memory(rt: HostRuntime) -> Result<(), Fail> {
-    let mut rest = TRACES;
-    for _ in 0..COUNT {
+// The first of so many traces of the table that the machine answers otherwise than
+// flat guest memory, if there is one, and what stands after the traces that were
+// compared.
+fn first_differing<'t, R: Threads + Wait + Sync>(
+    rt: &R,
+    alloc: Global,
+    table: &'t str,
+    count: usize,
+) -> Result<(Option<String>, &'t str), Fail> {
+    let mut rest = table;
+    for _ in 0..count {
         let Some((text, more)) = rest.split_once("--\n") else {
             break;
         };
-        let found = differing(&rt, rt.alloc(), text)?;
-        assert!(rt; found.is_none(), "on {found:?}");
+        let found = differing(rt, alloc, text)?;
+        if found.is_some() {
+            return Ok((found, rest));
+        }
         rest = more;
     }
+    Ok((None, rest))
+}
+
+#[test]
+fn answers_as_flat_memory(rt: HostRuntime) -> Result<(), Fail> {
+    let (found, rest) = first_differing(&rt, rt.alloc(), TRACES, COUNT)?;
+    assert!(rt; found.is_none(), "on {found:?}");
+    assert_eq!(rt; rest, "");
+    Ok(())
+}
+
+#[test]
+fn answers_host_threads_as_flat_memory(rt: HostRuntime) -> Result<(), Fail> {
+    let (found, rest) = first_differing(&rt, rt.alloc(), HOST_TRACES, HOST_COUNT)?;
+    assert!(rt; found.is_none(), "on {found:?}");
     assert_eq!(rt; rest, "");
     Ok(())
 }

@@ -68,7 +68,7 @@ const WARM_SCHEDULES: [(&str, &str); 34] = [
 ];
 
 // Whole traces behind the header with another pool, and what is printed.
-const TRACES: [(u64, &str, &str); 62] = [
+const TRACES: [(u64, &str, &str); 82] = [
     // No slot is set before the manager's turns.
     (
         64,
@@ -445,10 +445,157 @@ const TRACES: [(u64, &str, &str); 62] = [
         "vm slot 0 0 16 0\ngo\nv0 read 0x2000\nh0 protect 2\nv1 write 0x2000 4\n> v0 slot\n> h0 end\n> v0 end\n> v1 end\n> v0 end\n",
         "2 vm done\n5 h0 done\n6 v1 hostfault\n4 v0 frame 2 value 0\n",
     ),
+    // A page is taken away, and a read brings it in: at the same frame, with its value. Once and twice
+    // taken away it is written too.
+    (
+        64,
+        "vm slot 0 0 16 0\nv0 write 0x2000 7\nh0 evict 2\nv1 read 0x2000\nh0 evict 2\nh0 evict 2\nv0 add 0x2000 1\nv1 read 0x2000\ngo\n",
+        "2 vm done\n3 v0 frame 2 value 0\n4 h0 done\n5 v1 frame 2 value 7\n6 h0 done\n7 h0 done\n8 v0 frame 2 value 7\n9 v1 frame 2 value 8\n",
+    ),
+    // A page is taken away before its first access, which writes it.
+    (
+        64,
+        "vm slot 0 0 16 0\nh0 evict 2\nv0 write 0x2000 5\nv0 read 0x2000\nh0 evict 2\nv0 read 0x2000\ngo\n",
+        "2 vm done\n3 h0 done\n4 v0 frame 2 value 0\n5 v0 frame 2 value 5\n6 h0 done\n7 v0 frame 2 value 5\n",
+    ),
+    // The host forbids writes to the page that it has taken away: a write is a host fault before the
+    // page would be brought in. The read after it finds it absent: its turns stop at `bring`.
+    (
+        64,
+        "vm slot 0 0 16 0\nh0 protect 2\nh0 evict 2\nv0 write 0x2000 1\nv0 add 0x2000 1\ngo\nv0 read 0x2000\nv1 read 0x3000\nv0 write 0x2000 1\n\
+        > v0 bring\n> v1 end\n",
+        "2 vm done\n3 h0 done\n4 h0 done\n5 v0 hostfault\n6 v0 hostfault\n9 v1 frame 3 value 0\n8 v0 frame 2 value 0\n10 v0 hostfault\n",
+    ),
+    // A page in no slot is taken away: a fault of another page goes on meanwhile. By the slot that is
+    // set then, the page is brought in.
+    (
+        64,
+        "vm slot 0 0 16 0\ngo\nh0 evict 68\nvm slot 1 100 16 64\nv0 read 0x2000\nv0 read 0x68000\nv1 read 0x3000\n> h0 change\n> v0 end\n> vm end\n\
+        > h0 end\n> vm end\n> v0 bring\n> v1 end\n",
+        "2 vm done\n6 v0 frame 2 value 0\n4 h0 done\n5 vm done\n8 v1 frame 3 value 0\n7 v0 frame 68 value 0\n",
+    ),
+    // Both processors look at the absent page. The second one brings it in: the first one's exchange
+    // is lost, and its fault begins anew.
+    (
+        64,
+        "vm slot 0 0 16 0\nv0 write 0x2000 7\nh0 evict 2\ngo\nv0 read 0x2000\nv1 add 0x2000 1\n> v0 host\n> v1 bring\n> v0 end\n> v1 end\n> v0 end\n",
+        "2 vm done\n3 v0 frame 2 value 0\n4 h0 done\n7 v1 frame 2 value 7\n6 v0 frame 2 value 8\n",
+    ),
+    // The same, where the second one is answered before the first one tries.
+    (
+        64,
+        "vm slot 0 0 16 0\nv0 write 0x2000 7\nh0 evict 2\ngo\nv0 read 0x2000\nv1 add 0x2000 1\nv1 add 0x2000 10\n> v0 host\n> v1 end\n> v0 end\n\
+        > v1 end\n> v0 end\n",
+        "2 vm done\n3 v0 frame 2 value 0\n4 h0 done\n7 v1 frame 2 value 7\n8 v1 frame 2 value 8\n6 v0 frame 2 value 18\n",
+    ),
+    // A read brings the page in after the thread has looked at it. The thread's first exchange is lost,
+    // so that a write isn't refused yet, but begins anew; after the second one it is a host fault.
+    (
+        64,
+        "vm slot 0 0 16 0\nv0 write 0x2000 7\nh0 evict 2\ngo\nh0 protect 2\nv0 read 0x2000\nv1 write 0x2000 1\nvm slot 40 0 1 0\n> h0 host\n\
+        > v0 bring\n> h0 change\n> v1 end\n> vm end\n> h0 change\n> v1 end\n> h0 end\n> v0 end\n",
+        "2 vm done\n3 v0 frame 2 value 0\n4 h0 done\n9 vm refused bad-id\n8 v1 hostfault\n6 h0 done\n7 v0 frame 2 value 7\n",
+    ),
+    // The same of a thread that allows writes again: between its two exchanges a write is a host
+    // fault.
+    (
+        64,
+        "vm slot 0 0 16 0\nh0 protect 2\nh0 evict 2\ngo\nh0 allow 2\nv0 read 0x2000\nv1 write 0x2000 5\nv1 write 0x2000 6\n> h0 host\n> v0 bring\n\
+        > h0 change\n> v1 end\n> h0 change\n> h0 end\n> v0 end\n> v0 end\n> v1 end\n",
+        "2 vm done\n3 h0 done\n4 h0 done\n8 v1 hostfault\n6 h0 done\n7 v0 frame 2 value 0\n9 v1 frame 2 value 0\n",
+    ),
+    // A page is taken away a second time, and brought in before the exchange, which is lost: the next
+    // one takes it away. The read begins anew for the number, and brings the page in again.
+    (
+        64,
+        "vm slot 0 0 16 0\nv0 write 0x2000 7\nh0 evict 2\ngo\nh0 evict 2\nv0 read 0x2000\nv1 read 0x3000\n> h0 host\n> v0 bring\n> h0 change\n\
+        > h0 change\n> h0 end\n> v0 end\n> v0 bring\n> v1 end\n",
+        "2 vm done\n3 v0 frame 2 value 0\n4 h0 done\n6 h0 done\n8 v1 frame 3 value 0\n7 v0 frame 2 value 7\n",
+    ),
+    // A read brings the page in while the thread's invalidation is open, and begins anew for the open
+    // range. The thread's second exchange leaves the page present.
+    (
+        64,
+        "vm slot 0 0 16 0\nh0 evict 2\ngo\nh0 allow 2\nv0 read 0x2000\nv1 read 0x3000\n> h0 release\n> v0 end\n> h0 change\n> h0 change\n> h0 end\n\
+        > v0 bring\n> v1 end\n",
+        "2 vm done\n3 h0 done\n5 h0 done\n6 v0 frame 2 value 0\n7 v1 frame 3 value 0\n",
+    ),
+    // A read has brought the page in when another page's invalidation begins and ends: it begins anew
+    // for the number alone.
+    (
+        64,
+        "vm slot 0 0 16 0\nh0 evict 2\ngo\nh0 allow 9\nv0 read 0x2000\nv1 read 0x2000\n> v0 bring\n> h0 end\n> v0 end\n> v1 end\n> v0 end\n",
+        "2 vm done\n3 h0 done\n5 h0 done\n7 v1 frame 2 value 0\n6 v0 frame 2 value 0\n",
+    ),
+    // Writes to an absent page are allowed and forbidden: it stays absent.
+    (
+        64,
+        "vm slot 0 0 16 0\nv0 write 0x2000 7\nh0 evict 2\nh0 allow 2\nh0 protect 2\nh0 allow 2\ngo\nv0 read 0x2000\nv1 read 0x3000\n> v0 bring\n\
+        > v1 end\n",
+        "2 vm done\n3 v0 frame 2 value 0\n4 h0 done\n5 h0 done\n6 h0 done\n7 h0 done\n10 v1 frame 3 value 0\n9 v0 frame 2 value 7\n",
+    ),
+    // A read brings a page in to which writes are forbidden: they are still. A page that is taken away
+    // again keeps what the host allows.
+    (
+        64,
+        "vm slot 0 0 16 0\nh0 evict 2\nh0 protect 2\nv0 read 0x2000\nv0 write 0x2000 1\nh0 allow 2\nv0 write 0x2000 1\nh0 evict 2\n\
+        v1 write 0x2000 2\nv0 read 0x2000\ngo\n",
+        "2 vm done\n3 h0 done\n4 h0 done\n5 v0 frame 2 value 0\n6 v0 hostfault\n7 h0 done\n8 v0 frame 2 value 0\n9 h0 done\n10 v1 frame 2 value 1\n\
+        11 v0 frame 2 value 2\n",
+    ),
+    // A write by a read-only slot leaves the absent page absent.
+    (
+        64,
+        "vm slot 0 0 16 0 ro\nh0 evict 2\nv0 write 0x2000 1\ngo\nv0 read 0x2000\nv1 read 0x3000\n> v0 bring\n> v1 end\n",
+        "2 vm done\n3 h0 done\n4 v0 mmio\n7 v1 frame 3 value 0\n6 v0 frame 2 value 0\n",
+    ),
+    // Both processors look at the absent page. One brings it in, and the thread takes it away again: so
+    // the other one finds the word that it saw, and brings it in too. Both begin anew for the number.
+    (
+        64,
+        "vm slot 0 0 16 0\nv0 write 0x2000 7\nh0 evict 2\ngo\nv0 read 0x2000\nv1 read 0x2000\nh0 evict 2\n> v0 host\n> v1 bring\n> h0 end\n\
+        > v0 bring\n> v1 end\n> v0 end\n> v1 bring\n> v0 end\n",
+        "2 vm done\n3 v0 frame 2 value 0\n4 h0 done\n8 h0 done\n7 v1 frame 2 value 7\n6 v0 frame 2 value 7\n",
+    ),
+    // The writer is in the guest with its translation: the thread waits until it has left, and takes the
+    // page away with what it wrote.
+    (
+        64,
+        "vm slot 0 0 16 0\nv0 write 0x2000 7\ngo\nv0 write 0x2000 8\nh0 evict 2\nv1 read 0x2000\n> v0 2\n> h0 end\n> v0 end\n> h0 end\n> v1 bring\n\
+        > v1 end\n",
+        "2 vm done\n3 v0 frame 2 value 0\n5 v0 frame 2 value 7\n6 h0 done\n7 v1 frame 2 value 8\n",
+    ),
+    // The writer has seen the page present before it is taken away: it begins anew, and brings it in.
+    (
+        64,
+        "vm slot 0 0 16 0\ngo\nv0 write 0x2000 5\nh0 evict 2\nv1 read 0x3000\n> v0 host\n> h0 end\n> v0 end\n> v0 bring\n> v1 end\n> v0 end\n",
+        "2 vm done\n5 h0 done\n6 v1 frame 3 value 0\n4 v0 frame 2 value 0\n",
+    ),
+    // Between the exchange that takes the page away and the end of the invalidation a read brings it in,
+    // and begins anew. It is present from then on, also after the end.
+    (
+        64,
+        "vm slot 0 0 16 0\nv0 write 0x2000 7\ngo\nh0 evict 2\nv0 read 0x2000\nv1 read 0x3000\n> h0 change\n> v0 end\n> v0 end\n> h0 end\n\
+        > v0 bring\n> v1 end\n",
+        "2 vm done\n3 v0 frame 2 value 0\n5 h0 done\n6 v0 frame 2 value 7\n7 v1 frame 3 value 0\n",
+    ),
+    // A fault that finds no free pool page has brought the page in before.
+    (
+        4,
+        "vm slot 0 0 16 0\nh0 evict 2\nv0 read 0x2000\ngo\nv0 read 0x2000\nv1 read 0x100000\n> v0 bring\n> v1 end\n",
+        "2 vm done\n3 h0 done\n4 v0 starved\n6 v0 starved\n7 v1 mmio\n",
+    ),
+    // The fault that has brought the page in shares the lock: the thread that takes it away again waits
+    // for it.
+    (
+        64,
+        "vm slot 0 0 16 0\nh0 evict 2\ngo\nv0 read 0x2000\nh0 evict 2\nv1 read 0x2000\n> v0 share\n> h0 end\n> v0 end\n> h0 end\n> v1 end\n",
+        "2 vm done\n3 h0 done\n5 v0 frame 2 value 0\n6 h0 done\n7 v1 frame 2 value 0\n",
+    ),
 ];
 
 // Two host threads, of which the first has the host pages 0 to 7 and the second the others.
-const TWO_THREADS: [(&str, &str); 11] = [
+const TWO_THREADS: [(&str, &str); 14] = [
     // Each allows writes to pages of its own alone.
     (
         "h0 allow 12\nh1 allow 2\nh1 allow 8\nh0 allow 7\nh1 allow 1023\nh1 allow 1024\ngo\n",
@@ -514,6 +661,25 @@ const TWO_THREADS: [(&str, &str); 11] = [
         "vm slot 0 0 16 0\nh0 protect 2\ngo\nh0 allow 2\nh1 protect 12\nv0 write 0x2000 1\nv1 write 0xc000 1\n> h0 change\n> h1 change\n> v0 end\n\
         > v1 end\n> h1 end\n> h0 end\n> v1 end\n> v0 end\n",
         "2 vm done\n3 h0 done\n8 v1 hostfault\n6 h1 done\n5 h0 done\n7 v0 frame 2 value 0\n",
+    ),
+    // Each takes pages of its own away alone.
+    (
+        "h0 evict 12\nh1 evict 2\nh1 evict 8\nh0 evict 7\nh1 evict 1023\nh1 evict 1024\nh0 evict 18446744073709551615\ngo\n",
+        "2 h0 refused out-of-range\n3 h1 refused out-of-range\n4 h1 done\n5 h0 done\n6 h1 done\n7 h1 refused out-of-range\n\
+        8 h0 refused out-of-range\n",
+    ),
+    // Both take a page away. Each read brings its page in and begins anew, the first one until the second
+    // thread has ended too.
+    (
+        "vm slot 0 0 16 0\ngo\nh0 evict 2\nh1 evict 12\nv0 read 0x2000\nv1 read 0xc000\nv1 read 0xd000\n> h0 change\n> h1 change\n> v0 end\n\
+        > v1 end\n> h0 end\n> v0 end\n> h1 end\n> v1 bring\n> v0 bring\n",
+        "2 vm done\n4 h0 done\n5 h1 done\n7 v1 frame 12 value 0\n6 v0 frame 2 value 0\n8 v1 frame 13 value 0\n",
+    ),
+    // The page of the first is brought in after both have looked at theirs: its exchange alone is lost.
+    (
+        "vm slot 0 0 16 0\nh0 evict 2\nh1 evict 12\ngo\nh0 protect 2\nh1 protect 12\nv0 read 0x2000\nv1 write 0x2000 1\nvm slot 40 0 1 0\n\
+        > h0 host\n> h1 host\n> v0 bring\n> h1 change\n> h1 end\n> h0 change\n> v1 end\n> vm end\n> h0 change\n> v1 end\n> h0 end\n",
+        "2 vm done\n3 h0 done\n4 h1 done\n7 h1 done\n10 vm refused bad-id\n9 v1 hostfault\n6 h0 done\n8 v0 frame 2 value 0\n",
     ),
 ];
 

@@ -13,7 +13,7 @@ use Rattle.core_views.specs.declared.actor.Actor.TheVariants.{Vcpu, Host, Manage
 use Rattle.core_views.specs.declared.trace.Command.{Command}
 use Rattle.core_views.specs.declared.trace.Command.TheVariants.{Access, ChangeHost, SetSlot}
 use Rattle.core_views.specs.declared.trace.HostChange.{HostChange}
-use Rattle.core_views.specs.declared.trace.HostChange.TheVariants.{Allow, Protect}
+use Rattle.core_views.specs.declared.trace.HostChange.TheVariants.{Allow, Evict, Protect}
 use Rattle.core_views.specs.declared.trace.Header.{Header}
 use Rattle.trace_reader.specs.Forms.{by_command, by_form, slot_id}
 use Rattle.trace_reader.specs.Grammar.{AreCommandWords, AreWords, IsActor, IsCommandForm, IsDeclared, TellsChange}
@@ -37,14 +37,16 @@ IsRow command a rest =
     Either (bytes_eq command (codes "write")) (IsVcpu a × AreTwo rest) (
     Either (bytes_eq command (codes "add")) (IsVcpu a × AreTwo rest) (
     Either (bytes_eq command (codes "slot")) (IsManager a × AreSetting rest) (
+    Either (bytes_eq command (codes "evict")) (IsHost a × IsOne rest) (
     Either (bytes_eq command (codes "protect")) (IsHost a × IsOne rest) (
-    Either (bytes_eq command (codes "allow")) (IsHost a × IsOne rest) ⊥)))))
+    Either (bytes_eq command (codes "allow")) (IsHost a × IsOne rest) ⊥))))))
 
 -- The words of a form are the actor's name, a command's word, and those of its row.
 abbrev HasRow : List (List ℕ) → Actor → Type 0
 HasRow words a = (command : List ℕ) × (rest : List (List ℕ)) × (words ≡ actor_name a ∷ command ∷ rest) × IsRow command a rest
 
 host_row : (i : ℕ) (command p : List ℕ) (change : HostChange) → TellsChange command change → IsRow command (Host i) (p ∷ [])
+host_row i command p Evict tells = rw tells (tt, (p, refl))
 host_row i command p Protect tells = rw tells (tt, (p, refl))
 host_row i command p Allow tells = rw tells (tt, (p, refl))
 host_row i command p _ tells = absurd tells
@@ -83,6 +85,8 @@ by_command_judged h seen who command rest =
     (λ is. rw is (add_judged h seen who rest (only who (codes "add") rest))) (λ add.
     row (Judged h seen (who ∷ command ∷ rest)) command (codes "slot") _ _ _ refl
     (λ is. rw is (slot_judged h seen who rest (only who (codes "slot") rest))) (λ slot.
+    row (Judged h seen (who ∷ command ∷ rest)) command (codes "evict") _ _ _ refl
+    (λ is. rw is (host_judged h seen who (codes "evict") Evict rest (λ n page lt. lt) refl (only who (codes "evict") rest))) (λ evict.
     row (Judged h seen (who ∷ command ∷ rest)) command (codes "protect") _ _ _ refl
     (λ is. rw is (host_judged h seen who (codes "protect") Protect rest (λ n page lt. lt) refl (only who (codes "protect") rest))) (λ protect.
     row (Judged h seen (who ∷ command ∷ rest)) command (codes "allow") _ _ _ refl
@@ -93,9 +97,10 @@ by_command_judged h seen who command rest =
       other_word command (codes "write") write,
       other_word command (codes "add") add,
       other_word command (codes "slot") slot,
+      other_word command (codes "evict") evict,
       other_word command (codes "protect") protect,
       other_word command (codes "allow") allow,
-    ) at (only who command rest a form).1 in no)))))))
+    ) at (only who command rest a form).1 in no))))))))
 
 pub by_form_judged : (h : Header) (seen : ℕ → Bool) (words : List (List ℕ)) → Judged h seen words (by_form h seen words)
 unfolding by_form

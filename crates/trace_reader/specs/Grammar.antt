@@ -8,7 +8,7 @@ use Rattle.core_views.specs.declared.actor.Actor.TheVariants.{Vcpu, Host, Manage
 use Rattle.core_views.specs.declared.trace.Command.{Command}
 use Rattle.core_views.specs.declared.trace.Command.TheVariants.{Access, SetSlot, ChangeHost}
 use Rattle.core_views.specs.declared.trace.HostChange.{HostChange}
-use Rattle.core_views.specs.declared.trace.HostChange.TheVariants.{Allow, Protect}
+use Rattle.core_views.specs.declared.trace.HostChange.TheVariants.{Allow, Evict, Protect}
 use Rattle.core_views.specs.declared.trace.Op.TheVariants.{Read, Write, Add}
 use Rattle.core_views.specs.declared.trace.Header.{Header}
 use Rattle.trace_reader.specs.Numbers.{is_hex_digit, value}
@@ -47,6 +47,7 @@ slot_words i b p k read_only = actor_name Manager ∷ codes "slot" ∷ i ∷ b �
 
 -- The word is that of a host thread's line that makes this change.
 abbrev pub TellsChange : List ℕ → HostChange → Type 0
+TellsChange w Evict = w ≡ codes "evict"
 TellsChange w Protect = w ≡ codes "protect"
 TellsChange w Allow = w ≡ codes "allow"
 TellsChange w _ = ⊥

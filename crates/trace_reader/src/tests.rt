@@ -113,7 +113,11 @@ const TABLE: &str = "\
 2 word|&v16 read z;\n\
 2 word|&v2 look z;\n\
 2 word|&h0 move 5;\n\
-2 word|&h0 evict 5;\n\
+2 word|&h0 move 5 6;\n\
+2 word|&h0 evict;\n\
+2 word|&h0 evict 5 6;\n\
+2 word|&h0 Evict 5;\n\
+2 word|&v0 evict 5;\n\
 2 word|&h0 protect;\n\
 2 word|&v0 protect 5;\n\
 2 word|&h0 allow;\n\
@@ -171,6 +175,8 @@ const TABLE: &str = "\
 2 number|&h0 allow 05;\n\
 2 number|&h0 protect 05;\n\
 2 actor|&h2 protect 5;\n\
+2 number|&h0 evict 05;\n\
+2 actor|&h2 evict 5;\n\
 2 number|&h0 allow z;\n\
 2 number|&h1 allow 0xFF;\n\
 2 number|&h0 allow 18446744073709551616;\n\
@@ -260,6 +266,8 @@ const TABLE: &str = "\
 1 lines|&vm slot 0x20 0 1 0 ro;\n\
 1 lines|&h0 allow 5;\n\
 1 lines|&h0 protect 5;\n\
+1 lines|&h0 evict 5;\n\
+2 lines|&h1 evict 0xffffffffffffffff;h0 evict 0;\n\
 1 lines|&h1 allow 0;\n\
 1 lines|&h0 allow 18446744073709551615;\n\
 1 lines|<32 frames 32 words 1 pool 4 cache 1 manual 0 hosts 0 8 16 24;h3 allow 0xff;\n\
@@ -339,7 +347,7 @@ fn answers_the_table(rt: HostRuntime) -> Result<(), Fail> {
             cases = cases.saturating_add(1);
         }
     }
-    assert_eq!(rt; cases, 256);
+    assert_eq!(rt; cases, 264);
     Ok(())
 }
 
@@ -448,12 +456,21 @@ fn compares_each_id_with_those_before(rt: HostRuntime) -> Result<(), Fail> {
     Ok(())
 }
 
+// A line of this host thread that makes this change of this page.
+fn host_line(number: u32, thread: u8, page: u64, change: HostChange) -> Line {
+    Line {
+        number,
+        actor: Actor::Host(thread),
+        command: Command::ChangeHost { page, change },
+    }
+}
+
 #[test]
 fn reads_a_trace(rt: HostRuntime) -> Result<(), Fail> {
     let alloc = rt.alloc();
     let bytes = behind(
         alloc,
-        "v1 read 0x12018\nv0 write 8 0xff\n\n# c\nv0 add 0 18446744073709551615\nh1 allow 0x2a\n",
+        "v1 read 0x12018\nv0 write 8 0xff\n\n# c\nv0 add 0 18446744073709551615\nh1 allow 0x2a\nh0 evict 7\n",
     )?;
     let mut source = MemSource::new(bytes, Vec::new(alloc));
     let Read::Trace(trace) = read_trace(alloc, &mut source)? else {
@@ -503,14 +520,8 @@ fn reads_a_trace(rt: HostRuntime) -> Result<(), Fail> {
                 op: Op::Add(18_446_744_073_709_551_615),
             },
         },
-        Line {
-            number: 8,
-            actor: Actor::Host(1),
-            command: Command::ChangeHost {
-                page: 42,
-                change: HostChange::Allow,
-            },
-        },
+        host_line(8, 1, 42, HostChange::Allow),
+        host_line(9, 0, 7, HostChange::Evict),
     ];
     assert_eq!(rt; trace.lines.as_slice(), lines.as_slice());
     let mut failing = MemSource::new(behind(alloc, "")?, vec![in alloc; 0]?);

@@ -22,7 +22,6 @@ use Rattle.core_views.specs.declared.place.Place.{Place}
 use Rattle.core_views.specs.declared.trace.Command.{Command}
 use Rattle.core_views.specs.declared.trace.Command.TheVariants.{Access}
 use Rattle.core_views.specs.Held.{Held}
-use Rattle.spte_words.specs.Areas.{place}
 use Rattle.part_steps.specs.declared.part_step.PartStep.{PartStep}
 use Rattle.mmu_core.specs.lines.AccessSteps.{access_note}
 use Rattle.mmu_core.specs.machine.Steps.{place_at}

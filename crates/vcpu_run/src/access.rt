@@ -130,8 +130,8 @@ impl AccessJob {
     /// Makes the next step of the line, and says whether it is answered: the hand has
     /// the answer then. `Wait` where a writer has the lock, or a page was claimed by another actor
     /// meanwhile; `Retry` where the fault's look-up holds no more, or another
-    /// actor's entry stood in its way: the access begins anew then, from outside
-    /// the guest.
+    /// actor's entry or host word stood in its way: the access begins anew then, from
+    /// outside the guest.
     pub fn turn<S: Stepper>(&mut self, s: &mut S) -> Turn<()>
         requires left { length (S.seat s.old).hand.answers < length (S.seat s.old).hand.lines }
         requires next { self.old.index ≡ length (S.seat s.old).hand.answers }

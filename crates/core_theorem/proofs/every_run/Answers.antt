@@ -1,12 +1,13 @@
-use Rattle.std.proofs.Common.{[], ◌∷◌, ◌++◌, ap, sym, ◌∙◌}
+use Rattle.std.proofs.Common.{[], ◌∷◌, ◌++◌, ap, sym, ◌∙◌, subst, ◌<◌, ℕ, ◌≡◌}
 use Rattle.core_views.specs.declared.host.HostEntry.{HostEntry}
-use Rattle.spte_words.specs.HostWords.{host_word}
+use Rattle.spte_words.specs.HostWords.{host_word, host_frame}
+use Rattle.spte_words.specs.declared.area.Area.TheVariants as area
 use Rattle.mmu_core.specs.machine.Enabled.{mmu}
 use Rattle.mmu_core.specs.machine.Machine.{run}
+use Rattle.mmu_core.specs.machine.Worlds.{history}
 use Rattle.mmu_laws.proofs.turns.AnsweredRest.{answered_rests}
 use Rattle.mmu_laws.proofs.causes.Causes.{faults_begin_anew_by_cause}
 use Rattle.mmu_laws.proofs.flat.EveryHistory.{every_flat, every_history}
-use Rattle.mmu_laws.proofs.flat.PageFound.{entry_is}
 use Rattle.mmu_laws.proofs.leaves.LeafLaws.{cached_leaves_agree, leaves_agree, used_leaves_agree}
 use Rattle.mmu_laws.proofs.leaves.OpenFrames.{open_frames_are_flushed, open_frames_are_of_the_page, open_frames_are_recorded, open_frames_are_zapped}
 use Rattle.mmu_laws.proofs.causes.StarvedScan.{legal_parts, starved_lines_scan}
@@ -23,6 +24,9 @@ use Rattle.core_theorem.proofs.Runs.{before, may_last, sound, starts_between}
 use Rattle.core_theorem.proofs.SetsCleared.{returned_sets_are_cleared}
 use Rattle.core_theorem.proofs.WalksKept.{held_leaves_are_linked, walks_hold_tables}
 use Rattle.core_theorem.proofs.every_run.Goals as goal
+use Rattle.core_views.specs.Flat.{first_flat}
+use Rattle.core_views.specs.Events.{after_all}
+use Rattle.mmu_core.specs.machine.View.{word_in}
 
 pub returns-clause-pages : goal.returns-clause-pages
 returns-clause-pages c z lines w ss R = pages_are_used z _ (sound z lines w ss R)
@@ -80,11 +84,15 @@ returns-clause-lawful c z lines w ss R = every_history z lines w ss R.start R.le
 
 pub returns-clause-facts : goal.returns-clause-facts
 returns-clause-facts c z lines w ss R =
-    let F = (every_flat z lines w ss R.start R.legal).refines in record {
+    let F = (every_flat z lines w ss R.start R.legal).refines in
+    let H = (sound z lines w ss R).topics.hosts in
+    let frame : (page : ℕ) → page < z.pages
+    → ((after_all (history w ss) first_flat).facts.host page).frame ≡ host_frame (word_in z (run mmu w ss) area.Host page)
+    = λ page there. ap (λ (e : HostEntry). e.frame) (F.host page there) in record {
       refines = F;
-      host = λ page there.
-          let is = (sound z lines w ss R).topics.hosts page there in
-          is ∙ ap (λ (e : HostEntry). host_word e.frame e.present e.writable 1) (sym (F.host page there ∙ entry_is page _ is));
+      host = λ page there. (H.words page there).0 ∙ ap (λ (e : HostEntry). host_word e.frame e.present e.writable 1) (sym (F.host page there));
+      frames = λ page there. subst (λ n. n < z.frames) (sym (frame page there)) (H.words page there).1;
+      apart = λ page other low too same. H.apart page other low too (sym (frame page low) ∙ (same ∙ frame other too));
     }
 
 pub returns-clause-rest : goal.returns-clause-rest

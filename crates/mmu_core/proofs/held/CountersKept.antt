@@ -1,6 +1,6 @@
 -- Each step of a part keeps the counters of what actors hold within what they count, and so the run of a walk's table.
 use Rattle.std.proofs.Common.{◌≡◌, ◌+◌, ◌*◌, ◌/◌, ◌%◌, ◌^◌, ◌<◌, ◌≤◌, ℕ, refl, sym, subst, ap, arith}
-use Rattle.std.specs.Prelude.{Bool, true, false, ◌==◌, not, if◌then◌else◌, Option, Some, None, is_some}
+use Rattle.std.specs.Prelude.{Bool, true, false, ◌==◌, ◌&&◌, not, if◌then◌else◌, Option, Some, None, is_some}
 use Rattle.core_views.specs.declared.place.SlotField.{SlotField}
 use Rattle.core_views.specs.declared.place.SlotField.TheVariants as field
 use Rattle.core_views.specs.declared.sizes.Sizes.{Sizes}
@@ -255,7 +255,7 @@ counters_behind z v a note (part.SetSeq seq) = λ S I.
 counters_behind z v a note part.Exclude = λ S I.
     let C = I.counters a S.there in
     all_count z v a _ I (numbered_counts z (v.hand a).topics _ refl refl refl refl (C.counted, C.seq, C.range)
-    (flush_few (v.words area.Lock 0 == 0) (v.hand a).topics.flush z.vcpus C.asked) C)
+    (flush_few (v.words area.Lock 0 == 0 && not (v.hand a).topics.invalidations.opened) (v.hand a).topics.flush z.vcpus C.asked) C)
 counters_behind z v a note (part.Ask index) = λ S I.
     let C = I.counters a S.there in
     let lt : index < z.vcpus = subst (λ (y : Sizes). index < y.vcpus) S.sizes S.needs.low in
@@ -264,7 +264,7 @@ counters_behind z v a note (part.Await index) = λ S I.
     let C = I.counters a S.there in all_count z v a _ I (numbered_counts z (v.hand a).topics _ refl refl refl refl (C.counted, C.seq, C.range) C.asked C)
 counters_behind z v a note (part.Zap gfn) = λ S I.
     all_count z v a _ I (walked_counts z (v.hand a).topics _ refl refl refl (refl, refl, refl, refl) refl
-    (gone_run gfn 0 (v.hand a).topics.walk None S.needs.2.over) (I.counters a S.there))
+    (gone_run gfn 0 (v.hand a).topics.walk None S.needs.saw.over) (I.counters a S.there))
 counters_behind z v a note part.Publish = λ S I.
     let C = I.counters a S.there in
     all_count z v a _ I (other_counts z (v.hand a).topics _ C.slots C.claim C.seen (omega arith) refl refl refl C)

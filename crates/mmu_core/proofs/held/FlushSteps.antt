@@ -1,7 +1,7 @@
 -- Each step of a part keeps what is said of the flush of each virtual processor, for each open invalidation.
 use Rattle.std.proofs.Common.{◌≡◌, ◌⊎◌, inl, inr, ◌+◌, ◌-◌, ◌%◌, ◌<◌, ℕ, List, refl, sym, subst, ap, ◌∙◌, arith}
 use Rattle.std.specs.Int.Bits.{bit_or}
-use Rattle.std.specs.Prelude.{Bool, true, false, ◌==◌, ◌≢◌, nat_lt, if◌then◌else◌}
+use Rattle.std.specs.Prelude.{Bool, true, false, ◌==◌, ◌&&◌, ◌≢◌, nat_lt, not, if◌then◌else◌}
 use Rattle.std.proofs.lemmas.Bool.Decides.{nat_tests}
 use Rattle.circular_buffer.specs.Buffer.{Buffer}
 use Rattle.core_views.specs.declared.cache.Translation.{Translation}
@@ -161,7 +161,7 @@ module _ (z : Sizes) (v : View) (a note : ℕ) (c : Buffer Translation) (g : Hel
   module _ {state : ℕ} {stay : Stay} {kept : List Translation} where
     -- The lock was taken alone, or not.
     locked_flushed : (k : ℕ) → FlushFor h.topics k state stay kept → FlushFor (topics part.Exclude) k state stay kept
-    locked_flushed k F = by (found part.Exclude == 0)
+    locked_flushed k F = by (found part.Exclude == 0 && not h.topics.invalidations.opened)
       where
         by : (b : Bool) → FlushFor (record h.topics { flush = if b then no_flush else h.topics.flush }) k state stay kept
         by true opened = unasked no_flush refl

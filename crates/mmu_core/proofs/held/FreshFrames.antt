@@ -1,6 +1,6 @@
--- What was checked under the lock, of open invalidations: none is of the guest frame, so none is of its page.
-use Rattle.std.proofs.Common.{◌≡◌, ◌≢◌, ◌⊎◌, inl, inr, ◌+◌, ◌-◌, ◌<◌, ◌≤◌, ℕ, sym, subst, ap, ◌∙◌, arith}
-use Rattle.std.specs.Prelude.{true, nat_le, ◌&&◌, nat_lt}
+-- What was checked under the lock, of open invalidations: none is of the guest frame, so none is of its page. And which leaves a change of a host word leaves.
+use Rattle.std.proofs.Common.{◌≡◌, ◌≢◌, ◌⊎◌, inl, inr, ◌+◌, ◌-◌, ◌<◌, ◌≤◌, ℕ, refl, sym, subst, ap, ◌∙◌, arith}
+use Rattle.std.specs.Prelude.{Bool, true, false, nat_le, ◌&&◌, nat_lt, ◌==◌, if◌then◌else◌}
 use Rattle.std.proofs.lemmas.Bool.Decides.{nat_tests}
 use Rattle.core_views.specs.declared.sizes.Sizes.{Sizes}
 use Rattle.core_views.specs.declared.topics.Invalidations.{Invalidations}
@@ -9,19 +9,23 @@ use Rattle.core_views.specs.declared.trace.Slot.{Slot as SlotOf}
 use Rattle.core_views.specs.Sizes.{actors_of}
 use Rattle.core_views.specs.Slots.{contains, has_host_page}
 use Rattle.spte_words.specs.declared.area.Area.TheVariants as area
+use Rattle.spte_words.specs.HostWords.{host_present, with_presence}
 use Rattle.part_steps.specs.InvalidationHoldings.{knows_count}
 use Rattle.part_steps.specs.InvalidationRange.{gfn_behind}
 use Rattle.part_steps.specs.PartHoldings.{IsFresh, MayEnter}
 use Rattle.part_steps.specs.PartTasks.{word_looked}
-use Rattle.part_steps.specs.SlotWords.{page_of}
+use Rattle.part_steps.specs.SlotWords.{leaf_of, page_of}
 use Rattle.part_steps.specs.StayTopics.{has_lock}
 use Rattle.mmu_core.specs.invariant.InvalidatedPart.{Gives, IsIn}
 use Rattle.mmu_core.specs.invariant.InvalidationsPart.{knows_seq}
 use Rattle.mmu_core.specs.invariant.SearchPart.{IsUnder}
 use Rattle.mmu_core.specs.invariant.TopicsInvariant.{TopicsInvariant}
-use Rattle.mmu_core.specs.machine.View.{View}
+use Rattle.mmu_core.specs.machine.View.{View, upd}
+use Rattle.mmu_core.specs.invariant.CachedPart.{IsLeafFor}
+use Rattle.mmu_core.proofs.machine.Columns.{same_or, upd_other, upd_same}
 use Rattle.mmu_core.proofs.held.OpenFrames.{none_opened}
 use Rattle.mmu_core.proofs.pages.TreeKept.{found_live}
+use Rattle.mmu_core.proofs.words.HostStays.{still_present}
 
 -- A guest frame that was checked under the lock is in no open invalidation.
 pub fresh_in_none : (z : Sizes) (v : View) (a i gfn : ℕ) → TopicsInvariant z v → a < actors_of z → i < actors_of z
@@ -67,8 +71,10 @@ pub looked_word : (z : Sizes) (v : View) (a gfn : ℕ) → a < actors_of z → T
     → word_looked (v.hand a).topics.host ≡ v.words area.Host (page_of (v.hand a).topics.search.slot gfn)
 looked_word z v a gfn there I M =
     ap word_looked M.looked_up.host
-    ∙ (I.looks a there).still (record { page = page_of slot gfn; word = M.looked_up.word }) t.invalidations.seq M.looked_up.host M.fresh.still
-    ((I.checks a there).numbered lock (ap knows_seq M.fresh.checked_all)) none
+    ∙ still_present M.looked_up.word (v.words area.Host (page_of slot gfn))
+    ((I.looks a there).still (record { page = page_of slot gfn; word = M.looked_up.word }) t.invalidations.seq M.looked_up.host M.fresh.still
+    ((I.checks a there).numbered lock (ap knows_seq M.fresh.checked_all)) none)
+    (sym (ap (λ o. host_present (word_looked o)) M.looked_up.host) ∙ M.present)
   where
     t : Topics
     t = (v.hand a).topics
@@ -86,3 +92,33 @@ looked_word z v a gfn there I M =
         record { id = t.search.id - 1; slot = slot; live = found_live z v a gfn there I M.looked_up.found; has = B.0; is = B.1 } in
         fresh_in_none z v a j gfn I there lt lock M.fresh U.opened
         ((I.scopes j lt U.opened).covers gfn (subst (λ p. Gives (v.words area.Pool) (v.words area.Slots 0) p gfn) (sym U.of_page) given))
+
+-- A leaf agrees still where its page's host word stays.
+pub leaf_same : (pool host : ℕ → ℕ) (set page word gfn leaf : ℕ) → (L : IsLeafFor pool host set gfn leaf)
+    → (page_of L.slot gfn ≡ page → word ≡ host page) → IsLeafFor pool (upd host page word) set gfn leaf
+leaf_same pool host set page word gfn leaf L same = record {
+  id = L.id;
+  slot = L.slot;
+  live = L.live;
+  holds = L.holds;
+  is = L.is ∙ ap (leaf_of L.slot) (sym stays);
+  present = ap host_present stays ∙ L.present;
+}
+  where
+    stays : upd host page word (page_of L.slot gfn) ≡ host (page_of L.slot gfn)
+    stays = by (same_or (page_of L.slot gfn) page)
+      where
+        by : (page_of L.slot gfn ≡ page) ⊎ (page_of L.slot gfn ≢ page) → upd host page word (page_of L.slot gfn) ≡ host (page_of L.slot gfn)
+        by (inl e) = ap (upd host page word) e ∙ (upd_same host page word ∙ (same e ∙ ap host (sym e)))
+        by (inr ne) = upd_other host page (page_of L.slot gfn) word ne
+
+-- So it does where a page is brought in: of one that isn't present there is no leaf.
+pub leaf_brought : (pool host : ℕ → ℕ) (set page old_ gfn leaf : ℕ) → host_present old_ ≡ false → IsLeafFor pool host set gfn leaf
+    → IsLeafFor pool (upd host page (if host page == old_ then with_presence true old_ else host page)) set gfn leaf
+leaf_brought pool host set page old_ gfn leaf absent L =
+    leaf_same pool host set page _ gfn leaf L
+    (λ e. lost (host page == old_) (λ won. grind (arith, nat_tests)) (ap (λ p. host_present (host p)) (sym e) ∙ L.present))
+  where
+    lost : (won : Bool) → (won ≡ true → host page ≡ old_) → host_present (host page) ≡ true → (if won then with_presence true old_ else host page) ≡ host page
+    lost false same there = refl
+    lost true same there = absurd (let gone : host_present (host page) ≡ false = ap host_present (same refl) ∙ absent in cc (gone, there))

@@ -4,6 +4,7 @@ use Rattle.std.specs.Prelude.{Bool, true, false, ◌==◌, ◌||◌, if◌then�
 use Rattle.core_views.specs.declared.place.SlotField.{SlotField}
 use Rattle.core_views.specs.declared.place.SlotField.TheVariants as field
 use Rattle.core_views.specs.declared.sizes.Sizes.{Sizes}
+use Rattle.core_views.specs.declared.topics.Flush.{Flush}
 use Rattle.core_views.specs.declared.topics.Hold.{Hold}
 use Rattle.core_views.specs.declared.topics.Hold.TheVariants.{Loose, Shared, Owing, Exclusive}
 use Rattle.core_views.specs.declared.topics.SlotSearch.{SlotSearch}
@@ -14,7 +15,6 @@ use Rattle.core_views.specs.declared.topics.Topics.{Topics}
 use Rattle.core_views.specs.Held.{Held}
 use Rattle.core_views.specs.Sizes.{actors_of}
 use Rattle.spte_words.specs.declared.area.Area.TheVariants as area
-use Rattle.spte_words.specs.declared.spte_kind.SpteKind.TheVariants.{Leaf}
 use Rattle.spte_words.specs.Entries.{kind_of}
 use Rattle.part_steps.specs.declared.part_step.PartStep.{PartStep}
 use Rattle.part_steps.specs.declared.part_step.PartStep.TheVariants as part
@@ -22,7 +22,7 @@ use Rattle.mmu_core.specs.invariant.HeldPart.{HeldPart}
 use Rattle.part_steps.specs.PartTasks.{entry_index, leaf_written, link_written, page_owned, table_page}
 use Rattle.part_steps.specs.PartTopics.{exchanged}
 use Rattle.mmu_core.specs.invariant.TopicsInvariant.{TopicsInvariant}
-use Rattle.part_steps.specs.StayTopics.{is_loose, begun, kept_search, let_go, may_search, may_walk, unchecked, no_flush}
+use Rattle.part_steps.specs.StayTopics.{is_loose, begun, kept_search, let_go, may_search, may_walk, unchecked}
 use Rattle.part_steps.specs.WalkTopics.{gone_down, linked_page}
 use Rattle.part_steps.specs.PageTopics.{searched, searched_at}
 use Rattle.part_steps.specs.ControlTopics.{at_root, at_set}
@@ -66,14 +66,10 @@ shared_held stands t false w is H = record {
   no_set = λ f. H.no_set (ap (λ (h : Hold). may_search t.stay h) is ∙ f);
 }
 
-excluded_held : (stands : ℕ → Option Position) (t : Topics) (b : Bool) → HeldPart stands t
-    → HeldPart stands (record t {
-      hold = if b then Exclusive else t.hold;
-      invalidations = unchecked t.invalidations;
-      flush = if b then no_flush else t.flush;
-    })
-excluded_held stands t true H = record { table = H.table; no_table = λ f. absurd (never_or _ f); no_set = λ f. absurd (never_or _ f) }
-excluded_held stands t false H = record { table = H.table; no_table = H.no_table; no_set = H.no_set }
+excluded_held : (stands : ℕ → Option Position) (t : Topics) (b : Bool) (f : Flush) → HeldPart stands t
+    → HeldPart stands (record t { hold = if b then Exclusive else t.hold; invalidations = unchecked t.invalidations; flush = f })
+excluded_held stands t true f H = record { table = H.table; no_table = λ f. absurd (never_or _ f); no_set = λ f. absurd (never_or _ f) }
+excluded_held stands t false f H = record { table = H.table; no_table = H.no_table; no_set = H.no_set }
 
 let_go_held : (stands : ℕ → Option Position) (t : Topics) (stay : Stay) → HeldPart stands t → HeldPart stands (let_go (record t { stay = stay }))
 let_go_held stands t Outside H = record { table = λ from. absurd (omega (arith, from)); no_table = λ f. refl; no_set = λ f. refl }
@@ -258,7 +254,7 @@ held_behind z v a note part.Share = λ S I. still_held z v a part.Share _ S I
 held_behind z v a note part.Unshare =
     λ S I. still_held z v a part.Unshare _ S I (let_go_held (stands I.up I.spot) (v.hand a).topics (v.hand a).topics.stay (I.held a S.there))
 held_behind z v a note part.Exclude =
-    λ S I. still_held z v a part.Exclude _ S I (excluded_held (stands I.up I.spot) (v.hand a).topics (v.words area.Lock 0 == 0) (I.held a S.there))
+    λ S I. still_held z v a part.Exclude _ S I (excluded_held (stands I.up I.spot) (v.hand a).topics (v.words area.Lock 0 == 0) _ (I.held a S.there))
 held_behind z v a note part.Release =
     λ S I. still_held z v a part.Release _ S I (let_go_held (stands I.up I.spot) (v.hand a).topics (v.hand a).topics.stay (I.held a S.there))
 held_behind z v a note part.Slots =
@@ -277,7 +273,7 @@ held_behind z v a note (part.Leaf gfn) = leaf_held z v a note gfn
 held_behind z v a note (part.Zap gfn) = λ S I.
     let j : ℕ = entry_index gfn (v.hand a).topics.walk.level in
     still_held z v a (part.Zap gfn) _ S I (gone_held (stands I.up I.spot) (v.hand a).topics _ j 0 None refl refl refl refl
-    (walk_level z v a S.there I S.needs.2.over.there) tt (I.held a S.there))
+    (walk_level z v a S.there I S.needs.saw.over.there) tt (I.held a S.there))
 held_behind z v a note step = λ S I. still_held z v a step _ S I (same_held (stands I.up I.spot) (v.hand a).topics _ refl refl refl refl (I.held a S.there))
 
 pub held_kept : (z : Sizes) (v : View) (a : ℕ) (step : PartStep) (note : ℕ) → IsPart z v a step → (I : TopicsInvariant z v)

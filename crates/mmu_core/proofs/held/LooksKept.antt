@@ -10,34 +10,33 @@ use Rattle.spte_words.specs.declared.area.Area.TheVariants as area
 use Rattle.part_steps.specs.declared.part_step.PartStep.{PartStep}
 use Rattle.part_steps.specs.declared.part_step.PartStep.TheVariants as part
 use Rattle.part_steps.specs.PartTasks.{page_looked, part_task, word_looked}
-use Rattle.part_steps.specs.PartTopics.{part_topics, sequenced}
+use Rattle.part_steps.specs.PartTopics.{exchanged_host, part_topics, sequenced}
 use Rattle.part_steps.specs.StayTopics.{has_lock, is_loose}
-use Rattle.mmu_core.specs.invariant.HostWordsPart.{IsHostWord, OwnLooksPart, owns_page}
+use Rattle.mmu_core.specs.invariant.HostWordsPart.{IsHostWord, IsStill}
 use Rattle.mmu_core.specs.invariant.InvalidationsPart.{knows_seq}
 use Rattle.mmu_core.specs.invariant.SearchPart.{IsUnder, LookPart}
 use Rattle.mmu_core.specs.invariant.TopicsInvariant.{TopicsInvariant}
 use Rattle.mmu_core.specs.machine.View.{View, answer_in, part_stepped}
 use Rattle.mmu_core.proofs.machine.Columns.{at_upd, same_or, upd_other, upd_same}
 use Rattle.mmu_core.proofs.machine.PartStepping.{IsPart}
-use Rattle.mmu_core.proofs.words.HostStays.{exchanged_word}
+use Rattle.mmu_core.proofs.words.HostStays.{IsRevised, brought_word, changed_word, exchanged_word, still_brought}
 use Rattle.mmu_core.proofs.words.PartTopics.{behind_step, part_behind}
-use Rattle.mmu_core.proofs.held.OwnPages.{changes_own, one_place_owns}
 
-this_look : {page word : ℕ} {look : HostLook} → Some (record { page = page; word = word }) ≡ Some look → look ≡ record { page = page; word = word }
+pub this_look : {page word : ℕ} {look : HostLook} → Some (record { page = page; word = word }) ≡ Some look → look ≡ record { page = page; word = word }
 this_look e = cc e
 
 -- the topics after the actor's own step, and the host words
-abbrev topics_now : View → ℕ → ℕ → PartStep → Topics
+abbrev pub topics_now : View → ℕ → ℕ → PartStep → Topics
 topics_now v a note step = part_topics step (v.hand a).topics (answer_in (part_task step a (v.hand a).topics note) v.words)
 
-abbrev host_now : View → ℕ → ℕ → PartStep → ℕ → ℕ
+abbrev pub host_now : View → ℕ → ℕ → PartStep → ℕ → ℕ
 host_now v a note step = (part_behind a step note v).words area.Host
 
 -- ---- which page was looked at, what its word is, and that the snapshot isn't ahead
 
 pub record IsLook (z : Sizes) (seq : ℕ) (t : Topics) : Type 0 where
   pub there : (look : HostLook) → t.host ≡ Some look → look.page < z.pages
-  pub is_word : (look : HostLook) → t.host ≡ Some look → IsHostWord look.page look.word
+  pub is_word : (look : HostLook) → t.host ≡ Some look → IsHostWord z.frames look.word
   pub snapshot : (s : ℕ) → t.invalidations.snapshot ≡ Some s → s ≤ seq
 
 no_look : (z : Sizes) (seq : ℕ) (t : Topics) → t.host ≡ None → t.invalidations.snapshot ≡ None → IsLook z seq t
@@ -51,11 +50,11 @@ was_look : (z : Sizes) (v : View) (a : ℕ) → TopicsInvariant z v → a < acto
 was_look z v a I lt = record { there = (I.looks a lt).there; is_word = (I.looks a lt).is_word; snapshot = (I.looks a lt).snapshot }
 
 -- The look is this one.
-looks_at : (z : Sizes) (seq page word : ℕ) (t : Topics) → t.host ≡ Some (record { page = page; word = word }) → page < z.pages → IsHostWord page word
+looks_at : (z : Sizes) (seq page word : ℕ) (t : Topics) → t.host ≡ Some (record { page = page; word = word }) → page < z.pages → IsHostWord z.frames word
     → ((s : ℕ) → t.invalidations.snapshot ≡ Some s → s ≤ seq) → IsLook z seq t
 looks_at z seq page word t at low W snapshot = record {
   there = λ look e. let is = this_look (sym at ∙ e) in subst (λ (l : HostLook). l.page < z.pages) (sym is) low;
-  is_word = λ look e. let is = this_look (sym at ∙ e) in subst (λ (l : HostLook). IsHostWord l.page l.word) (sym is) W;
+  is_word = λ look e. let is = this_look (sym at ∙ e) in subst (λ (l : HostLook). IsHostWord z.frames l.word) (sym is) W;
   snapshot = snapshot;
 }
 
@@ -67,14 +66,24 @@ sequenced_look z seq true t L = record {
 }
 sequenced_look z seq false t L = record { there = L.there; is_word = L.is_word; snapshot = L.snapshot }
 
--- The page that a change is of was looked at.
-page_there : (z : Sizes) (v : View) (a : ℕ) → TopicsInvariant z v → a < actors_of z → is_some (v.hand a).topics.host ≡ true
+-- The page that was looked at is one of the machine's.
+pub page_there : (z : Sizes) (v : View) (a : ℕ) → TopicsInvariant z v → a < actors_of z → is_some (v.hand a).topics.host ≡ true
     → page_looked (v.hand a).topics.host < z.pages
 page_there z v a I lt looked = by (v.hand a).topics.host refl looked
   where
     by : (o : Option HostLook) → (v.hand a).topics.host ≡ o → is_some o ≡ true → page_looked o < z.pages
     by None is some = absurd (cc some)
     by (Some look) is some = (I.looks a lt).there look is
+
+-- The word that an exchange leaves was looked up then.
+exchanged_look : (z : Sizes) (v : View) (a new_ : ℕ) → TopicsInvariant z v → a < actors_of z → is_some (v.hand a).topics.host ≡ true
+    → IsRevised z.frames (word_looked (v.hand a).topics.host) new_
+    → IsLook z (v.words area.Seq 0) (exchanged_host new_ (v.hand a).topics (v.words area.Host (page_looked (v.hand a).topics.host)))
+exchanged_look z v a new_ I lt looked put =
+    let t : Topics = (v.hand a).topics in
+    let low = page_there z v a I lt looked in
+    looks_at z _ (page_looked t.host) _ _ refl low
+    (exchanged_word z.frames (v.words area.Host (page_looked t.host)) (word_looked t.host) new_ (I.hosts.words _ low) put).0 (I.looks a lt).snapshot
 
 own_look : (z : Sizes) (v : View) (a note : ℕ) (step : PartStep) → IsPart z v a step → TopicsInvariant z v
     → IsLook z ((part_behind a step note v).words area.Seq 0) (topics_now v a note step)
@@ -85,13 +94,10 @@ own_look z v a note part.End S I = no_look z _ _ refl refl
 own_look z v a note part.Seq S I = sequenced_look z (v.words area.Seq 0) (is_loose (v.hand a).topics.hold) (v.hand a).topics (was_look z v a I S.there)
 own_look z v a note (part.Host page) S I =
     let low : page < z.pages = subst (λ (y : Sizes). page < y.pages) S.sizes S.needs.0 in
-    looks_at z _ page (v.words area.Host page) _ refl low (I.hosts page low) (I.looks a S.there).snapshot
+    looks_at z _ page (v.words area.Host page) _ refl low (I.hosts.words page low) (I.looks a S.there).snapshot
+own_look z v a note part.Bring S I = exchanged_look z v a _ I S.there S.needs.looked (brought_word z.frames (word_looked (v.hand a).topics.host))
 own_look z v a note (part.Change new_) S I =
-    let t : Topics = (v.hand a).topics in
-    let low = page_there z v a I S.there S.needs.0.looked in
-    looks_at z _ (page_looked t.host) _ _ refl low
-    (exchanged_word (page_looked t.host) (v.words area.Host (page_looked t.host)) (word_looked t.host) new_ (I.hosts _ low) S.needs.1)
-    (I.looks a S.there).snapshot
+    exchanged_look z v a new_ I S.there S.needs.0.looked (changed_word z.frames (word_looked (v.hand a).topics.host) new_ S.needs.1)
 own_look z v a note (part.SetSeq seq) S I =
     let L = was_look z v a I S.there in
     let is = S.needs.1 in
@@ -126,25 +132,25 @@ NoneUnder z v page = (j : ℕ) → j < actors_of z → IsUnder page (v.hand j).t
 -- ---- what was looked up is still so
 
 -- what was looked up with this snapshot, in these words
-abbrev IsStill : Topics → ℕ → (ℕ → ℕ) → (ℕ → Type 0) → Type 0
-IsStill t seq host Free =
-    (look : HostLook) (s : ℕ) → t.host ≡ Some look → t.invalidations.snapshot ≡ Some s → s ≡ seq → Free look.page → look.word ≡ host look.page
+abbrev AreStill : Topics → ℕ → (ℕ → ℕ) → (ℕ → Type 0) → Type 0
+AreStill t seq host Free =
+    (look : HostLook) (s : ℕ) → t.host ≡ Some look → t.invalidations.snapshot ≡ Some s → s ≡ seq → Free look.page → IsStill look.word (host look.page)
 
 abbrev StillBehind : Sizes → View → ℕ → ℕ → PartStep → Type 0
 StillBehind z v a note step =
     (i : ℕ) → i < actors_of z
-    → IsStill ((part_behind a step note v).hand i).topics ((part_behind a step note v).words area.Seq 0) (host_now v a note step)
+    → AreStill ((part_behind a step note v).hand i).topics ((part_behind a step note v).words area.Seq 0) (host_now v a note step)
     (NoneUnder z (part_behind a step note v))
 
 -- The words stay, and what the actor itself has looked up is so.
 stays_still : (z : Sizes) (v : View) (a note : ℕ) (step : PartStep) → IsPart z v a step → TopicsInvariant z v → raises_number step ≡ false
     → (part_behind a step note v).words area.Seq 0 ≡ v.words area.Seq 0 → host_now v a note step ≡ v.words area.Host
-    → IsStill (topics_now v a note step) (v.words area.Seq 0) (v.words area.Host) (NoneUnder z v) → StillBehind z v a note step
+    → AreStill (topics_now v a note step) (v.words area.Seq 0) (v.words area.Host) (NoneUnder z v) → StillBehind z v a note step
 stays_still z v a note step S I other seq host own i lt look s at snapshot same none =
-    at_upd (λ j (k : Held). j < actors_of z → IsStill k.topics (v.words area.Seq 0) (v.words area.Host) (NoneUnder z v)) v.hand a _ (λ there. own)
+    subst (λ (h : ℕ → ℕ). IsStill look.word (h look.page)) (sym host)
+    (at_upd (λ j (k : Held). j < actors_of z → AreStill k.topics (v.words area.Seq 0) (v.words area.Host) (NoneUnder z v)) v.hand a _ (λ there. own)
     (λ j ne there. (I.looks j there).still)
-    i lt look s at snapshot (same ∙ seq) (λ j low U. none j low (under_behind z v a note look.page step S I other j U))
-    ∙ sym (ap (λ (h : ℕ → ℕ). h look.page) host)
+    i lt look s at snapshot (same ∙ seq) (λ j low U. none j low (under_behind z v a note look.page step S I other j U)))
 
 -- No snapshot is the number that was raised.
 raised_still : (z : Sizes) (v : View) (a note seq : ℕ) → IsPart z v a (part.SetSeq seq) → TopicsInvariant z v → StillBehind z v a note (part.SetSeq seq)
@@ -175,17 +181,49 @@ changed_still z v a note new_ S I i lt look s at snapshot same none = by (same_o
         under_behind z v a note page (part.Change new_) S I refl a
         (record { opened = S.needs.0.opened; unraised = S.needs.0.unraised; of_page = S.needs.0.invalid })
 
-    by : (look.page ≡ page) ⊎ (look.page ≢ page) → look.word ≡ host_now v a note (part.Change new_) look.page
+    by : (look.page ≡ page) ⊎ (look.page ≢ page) → IsStill look.word (host_now v a note (part.Change new_) look.page)
     by (inl e) = absurd (none a S.there (subst (λ p. IsUnder p ((part_behind a (part.Change new_) note v).hand a).topics) (sym e) under))
     by (inr ne) =
-        at_upd (λ j (k : Held). j < actors_of z → IsStill k.topics (v.words area.Seq 0) (v.words area.Host) (λ p. NoneUnder z v p × (p ≢ page))) v.hand a _
+        subst (IsStill look.word) (sym (upd_other (v.words area.Host) page look.page _ ne))
+        (at_upd (λ j (k : Held). j < actors_of z → AreStill k.topics (v.words area.Seq 0) (v.words area.Host) (λ p. NoneUnder z v p × (p ≢ page))) v.hand a _
         (λ there l n here e f free. absurd (free.1 (ap (λ (x : HostLook). x.page) (this_look here))))
         (λ j ne there l n here e f free. (I.looks j there).still l n here e f free.0) i lt look s at snapshot same
-        ((λ j low U. none j low (under_behind z v a note look.page (part.Change new_) S I refl j U)), ne)
-        ∙ sym (upd_other (v.words area.Host) page look.page _ ne)
+        ((λ j low U. none j low (under_behind z v a note look.page (part.Change new_) S I refl j U)), ne))
+
+-- What an exchange leaves is what its actor has looked up then.
+pub own_now : (v : View) (a note page word : ℕ) (step : PartStep) (look : HostLook) → Some (record { page = page; word = word }) ≡ Some look
+    → host_now v a note step page ≡ word → IsStill look.word (host_now v a note step look.page)
+own_now v a note page word step look at is =
+    let this = this_look at in
+    inl (ap (λ (l : HostLook). l.word) this ∙ (sym is ∙ sym (ap (λ (l : HostLook). host_now v a note step l.page) this)))
+
+-- What others have looked up is so still after a page was brought in.
+pub others_now : (z : Sizes) (v : View) (a note : ℕ) → IsPart z v a part.Bring → (look : HostLook) → IsStill look.word (v.words area.Host look.page)
+    → IsStill look.word (host_now v a note part.Bring look.page)
+others_now z v a note S look still = by (same_or look.page page) still
+  where
+    page : ℕ
+    page = page_looked (v.hand a).topics.host
+
+    by : (look.page ≡ page) ⊎ (look.page ≢ page) → IsStill look.word (v.words area.Host look.page)
+        → IsStill look.word (host_now v a note part.Bring look.page)
+    by (inl e) still =
+        subst (λ p. IsStill look.word (host_now v a note part.Bring p)) (sym e)
+        (subst (IsStill look.word) (sym (upd_same (v.words area.Host) page _))
+        (still_brought look.word (v.words area.Host page) (word_looked (v.hand a).topics.host) S.needs.absent
+        (subst (λ p. IsStill look.word (v.words area.Host p)) e still)))
+    by (inr ne) still = subst (IsStill look.word) (sym (upd_other (v.words area.Host) page look.page _ ne)) still
+
+brought_still : (z : Sizes) (v : View) (a note : ℕ) → IsPart z v a part.Bring → TopicsInvariant z v → StillBehind z v a note part.Bring
+brought_still z v a note S I i lt look s at snapshot same none =
+    at_upd (λ j (k : Held). j < actors_of z → AreStill k.topics (v.words area.Seq 0) (host_now v a note part.Bring) (NoneUnder z v)) v.hand a _
+    (λ there l n here e f free. own_now v a note (page_looked (v.hand a).topics.host) _ part.Bring l here (upd_same (v.words area.Host) _ _))
+    (λ j ne there l n here e f free. others_now z v a note S l ((I.looks j there).still l n here e f free))
+    i lt look s at snapshot same (λ j low U. none j low (under_behind z v a note look.page part.Bring S I refl j U))
 
 still_behind : (z : Sizes) (v : View) (a note : ℕ) (step : PartStep) → IsPart z v a step → TopicsInvariant z v → StillBehind z v a note step
 still_behind z v a note (part.SetSeq seq) S I = raised_still z v a note seq S I
+still_behind z v a note part.Bring S I = brought_still z v a note S I
 still_behind z v a note (part.Change new_) S I = changed_still z v a note new_ S I
 still_behind z v a note part.Enter S I = stays_still z v a note part.Enter S I refl refl refl (λ look s at. absurd (cc at))
 still_behind z v a note part.Leave S I = stays_still z v a note part.Leave S I refl refl refl (λ look s at. absurd (cc at))
@@ -193,12 +231,12 @@ still_behind z v a note part.Begin S I = stays_still z v a note part.Begin S I r
 still_behind z v a note part.End S I = stays_still z v a note part.End S I refl refl refl (λ look s at. absurd (cc at))
 still_behind z v a note part.Seq S I = stays_still z v a note part.Seq S I refl refl refl (by (is_loose (v.hand a).topics.hold))
   where
-    by : (loose : Bool) → IsStill (sequenced loose (v.hand a).topics (v.words area.Seq 0)) (v.words area.Seq 0) (v.words area.Host) (NoneUnder z v)
+    by : (loose : Bool) → AreStill (sequenced loose (v.hand a).topics (v.words area.Seq 0)) (v.words area.Seq 0) (v.words area.Host) (NoneUnder z v)
     by true = λ look s at. absurd (cc at)
     by false = (I.looks a S.there).still
 still_behind z v a note (part.Host page) S I =
     stays_still z v a note (part.Host page) S I refl refl refl
-    (λ look s at snapshot same none. let is = this_look at in ap (λ (l : HostLook). l.word) is ∙ sym (ap (λ (l : HostLook). v.words area.Host l.page) is))
+    (λ look s at snapshot same none. own_now v a note page (v.words area.Host page) (part.Host page) look at refl)
 still_behind z v a note step S I = stays_still z v a note step S I refl refl refl (I.looks a S.there).still
 
 abbrev pub LooksAt : Sizes → View → Type 0
@@ -227,50 +265,3 @@ looks_behind z v a note step S I i lt =
 
 pub looks_kept : (z : Sizes) (v : View) (a : ℕ) (step : PartStep) (note : ℕ) → IsPart z v a step → TopicsInvariant z v → LooksAt z (part_stepped a step note v)
 looks_kept z v a step note S I = behind_step (LooksAt z) z v a step note S (looks_behind z v a note step S I)
-
--- ---- what its owner has looked up
-
-abbrev OwnLooksAt : Sizes → (ℕ → ℕ) → View → Type 0
-OwnLooksAt z host v = OwnLooksPart z (actors_of z) host (λ i. (v.hand i).topics)
-
--- The words stay, and what the actor itself has looked up of its own pages is so.
-owned_still : (z : Sizes) (v : View) (a note : ℕ) (step : PartStep) → IsPart z v a step → TopicsInvariant z v → host_now v a note step ≡ v.words area.Host
-    → ((look : HostLook) → (topics_now v a note step).host ≡ Some look → owns_page z a look.page ≡ true → look.word ≡ v.words area.Host look.page)
-    → OwnLooksAt z (host_now v a note step) (part_behind a step note v)
-owned_still z v a note step S I host own i look lt at owner =
-    at_upd (λ j (k : Held). j < actors_of z → k.topics.host ≡ Some look → owns_page z j look.page ≡ true → look.word ≡ v.words area.Host look.page) v.hand a _
-    (λ there. own look) (λ j ne there. I.own_looks j look there) i lt at owner
-    ∙ sym (ap (λ (h : ℕ → ℕ). h look.page) host)
-
-own_looks_behind : (z : Sizes) (v : View) (a note : ℕ) (step : PartStep) → IsPart z v a step → TopicsInvariant z v
-    → OwnLooksAt z (host_now v a note step) (part_behind a step note v)
-own_looks_behind z v a note (part.Change new_) S I = λ i look lt.
-    at_upd (λ j (k : Held). j < actors_of z → k.topics.host ≡ Some look → owns_page z j look.page ≡ true
-    → look.word ≡ host_now v a note (part.Change new_) look.page) v.hand a _
-    (λ there at own_. let is = this_look at in
-    ap (λ (l : HostLook). l.word) is
-    ∙ (sym (upd_same (v.words area.Host) page _) ∙ sym (ap (λ (l : HostLook). host_now v a note (part.Change new_) l.page) is)))
-    (λ j ne there at own_. I.own_looks j look there at own_ ∙ sym (upd_other (v.words area.Host) page look.page _
-    (λ e. ne (one_place_owns z S.is_sizes j a page (subst (λ p. owns_page z j p ≡ true) e own_) (changes_own z v a new_ S))))) i lt
-  where
-    page : ℕ
-    page = page_looked (v.hand a).topics.host
-own_looks_behind z v a note part.Enter S I = owned_still z v a note part.Enter S I refl (λ look at. absurd (cc at))
-own_looks_behind z v a note part.Leave S I = owned_still z v a note part.Leave S I refl (λ look at. absurd (cc at))
-own_looks_behind z v a note part.Begin S I = owned_still z v a note part.Begin S I refl (λ look at. absurd (cc at))
-own_looks_behind z v a note part.End S I = owned_still z v a note part.End S I refl (λ look at. absurd (cc at))
-own_looks_behind z v a note part.Seq S I = owned_still z v a note part.Seq S I refl (λ look at own_. by look (is_loose (v.hand a).topics.hold) at own_)
-  where
-    by : (look : HostLook) (loose : Bool) → (sequenced loose (v.hand a).topics (v.words area.Seq 0)).host ≡ Some look → owns_page z a look.page ≡ true
-        → look.word ≡ v.words area.Host look.page
-    by look true at own_ = absurd (cc at)
-    by look false at own_ = I.own_looks a look S.there at own_
-own_looks_behind z v a note (part.Host page) S I =
-    owned_still z v a note (part.Host page) S I refl
-    (λ look at own_. let is = this_look at in ap (λ (l : HostLook). l.word) is ∙ sym (ap (λ (l : HostLook). v.words area.Host l.page) is))
-own_looks_behind z v a note step S I = owned_still z v a note step S I refl (λ look at own_. I.own_looks a look S.there at own_)
-
-pub own_looks_kept : (z : Sizes) (v : View) (a : ℕ) (step : PartStep) (note : ℕ) → IsPart z v a step → TopicsInvariant z v
-    → OwnLooksAt z ((part_stepped a step note v).words area.Host) (part_stepped a step note v)
-own_looks_kept z v a step note S I =
-    behind_step (λ (w : View). OwnLooksAt z (w.words area.Host) w) z v a step note S (own_looks_behind z v a note step S I)

@@ -44,7 +44,8 @@ left_words_stay z v a (part.Link gfn) note S I i k lt is =
     page_stays z v a (part.Link gfn) note S k (left_no_walk z v a i k S.there lt I S.needs.0.saw.over.there is)
 left_words_stay z v a (part.Leaf gfn) note S I i k lt is =
     page_stays z v a (part.Leaf gfn) note S k (left_no_walk z v a i k S.there lt I S.needs.0.saw.over.there is)
-left_words_stay z v a (part.Zap gfn) note S I i k lt is = page_stays z v a (part.Zap gfn) note S k (left_no_walk z v a i k S.there lt I S.needs.2.over.there is)
+left_words_stay z v a (part.Zap gfn) note S I i k lt is =
+    page_stays z v a (part.Zap gfn) note S k (left_no_walk z v a i k S.there lt I S.needs.saw.over.there is)
 left_words_stay z v a _ note S I i k lt is = λ j low. refl
 
 -- what is leaving behind a step was leaving before it, or is the page that was published

@@ -13,7 +13,7 @@ use Rattle.core_views.proofs.HostOwners.{one_owner}
 use Rattle.spte_words.specs.declared.area.Area.TheVariants as area
 use Rattle.part_steps.specs.declared.part_step.PartStep.TheVariants as part
 use Rattle.part_steps.specs.PartTasks.{page_looked}
-use Rattle.mmu_core.specs.invariant.HostWordsPart.{owns_page}
+use Rattle.mmu_core.specs.invariant.HostWordsPart.{IsStill, owns_page}
 use Rattle.mmu_core.specs.invariant.TopicsInvariant.{TopicsInvariant}
 use Rattle.mmu_core.specs.machine.View.{View}
 use Rattle.mmu_core.proofs.lines.FaultSame.{both}
@@ -47,9 +47,10 @@ one_place_owns z sizes i j page one other =
     let same = one_owner z sizes page (i - z.vcpus) (j - z.vcpus) A.1 B.1 in
     omega (arith, same, low, low_too)
 
--- What a hand has looked up of its actor's own pages is their words.
+-- What a hand has looked up of its actor's own pages is their words still.
 abbrev pub OwnWords : Held → (ℕ → ℕ) → Type 0
-OwnWords h host = (look : HostLook) → h.topics.host ≡ Some look → is_own h.state.sizes h.state.actor look.page ≡ true → look.word ≡ host look.page
+OwnWords h host = (look : HostLook) → h.topics.host ≡ Some look → is_own h.state.sizes h.state.actor look.page ≡ true
+    → IsStill look.word (host look.page)
 
 pub own_words : (z : Sizes) (v : View) (a : ℕ) → TopicsInvariant z v → a < actors_of z → (v.hand a).state.sizes ≡ z → index_of z (v.hand a).state.actor ≡ a
     → OwnWords (v.hand a) (v.words area.Host)

@@ -29,7 +29,8 @@ use Rattle.mmu_core.proofs.pages.Paths.{paths_kept}
 use Rattle.mmu_core.proofs.pages.PoolKept.{uses_kept}
 use Rattle.mmu_core.proofs.machine.SameTopics.{same_topics}
 use Rattle.mmu_core.proofs.held.SawWriterKept.{saw_kept}
-use Rattle.mmu_core.proofs.held.LooksKept.{looks_kept, own_looks_kept}
+use Rattle.mmu_core.proofs.held.LooksKept.{looks_kept}
+use Rattle.mmu_core.proofs.held.OwnLooksKept.{own_looks_kept}
 use Rattle.mmu_core.proofs.held.SearchKept.{searches_kept}
 use Rattle.mmu_core.proofs.words.HostStays.{hosts_kept}
 use Rattle.mmu_core.proofs.pages.Standing.{spot_after, up_after}

@@ -20,9 +20,9 @@ use Rattle.spte_words.specs.declared.area.Area.TheVariants as area
 use Rattle.part_steps.specs.declared.part_step.PartStep.{PartStep}
 use Rattle.part_steps.specs.declared.part_step.PartStep.TheVariants as part
 use Rattle.part_steps.specs.declared.task.Task.{Task}
-use Rattle.part_steps.specs.PartTasks.{page_looked, part_task}
+use Rattle.part_steps.specs.PartTasks.{page_looked, part_task, word_looked}
 use Rattle.part_steps.specs.PartTopics.{part_topics}
-use Rattle.part_steps.specs.SlotWords.{leaf_of, page_of}
+use Rattle.part_steps.specs.SlotWords.{page_of}
 use Rattle.part_steps.specs.Tasks.{kind_of_task}
 use Rattle.mmu_core.specs.invariant.CachedPart.{AgreePart, IsLeafFor}
 use Rattle.mmu_core.specs.invariant.InvalidatedPart.{Gives, IsClean, IsIn, IsOfPage, UsablePart, may_use}
@@ -31,7 +31,7 @@ use Rattle.mmu_core.specs.lines.Cached.{asks_flush, flushed, flushed_by}
 use Rattle.mmu_core.specs.machine.View.{View, answer_in, part_stepped, upd, words_after}
 use Rattle.mmu_core.proofs.held.FlushChanges.{begun_asks, cached_more, ended_asks, left_asks, none_asked, used_asked, used_gone}
 use Rattle.mmu_core.proofs.held.FlushSteps.{FlushAt, FlushFor, KeepsClean, asked_there}
-use Rattle.mmu_core.proofs.held.FreshFrames.{behind_it}
+use Rattle.mmu_core.proofs.held.FreshFrames.{behind_it, leaf_brought, leaf_same}
 use Rattle.mmu_core.proofs.machine.Columns.{at_upd, same_or, upd_other, upd_same}
 use Rattle.mmu_core.proofs.machine.PartStepping.{IsPart}
 use Rattle.mmu_core.proofs.slots.LiveStay.{StayLive, translations_stay}
@@ -51,13 +51,7 @@ Agrees words cached = AgreePart (words area.Pool) (words area.Host) (words area.
 -- An invalidation is of a page, and not of this guest frame: where the page's host word changes, the leaf of the guest frame is the same.
 leaf_elsewhere : (pool host : ℕ → ℕ) (set page x : ℕ) (own_ : Invalidated) (gfn leaf : ℕ) → IsOfPage pool set own_ → own_.page ≡ page
     → (IsIn own_ gfn → ⊥) → IsLeafFor pool host set gfn leaf → IsLeafFor pool (upd host page x) set gfn leaf
-leaf_elsewhere pool host set page x own_ gfn leaf scope same out L = record {
-  id = L.id;
-  slot = L.slot;
-  live = L.live;
-  holds = L.holds;
-  is = L.is ∙ ap (leaf_of L.slot) (sym (upd_other host page (page_of L.slot gfn) x apart));
-}
+leaf_elsewhere pool host set page x own_ gfn leaf scope same out L = leaf_same pool host set page x gfn leaf L (λ e. absurd (apart e))
   where
     apart : page_of L.slot gfn ≢ page
     apart e =
@@ -87,6 +81,9 @@ CleanFor _ own_ cached = Unit {0}
 -- Then what agrees agrees behind the step.
 agrees_behind : (z : Sizes) (v : View) (a : ℕ) (step : PartStep) (note : ℕ) (cached : List Translation) → IsPart z v a step → TopicsInvariant z v
     → CleanFor step (v.hand a).topics.invalidations.own cached → Agrees v.words cached → Agrees (part_stepped a step note v).words cached
+agrees_behind z v a part.Bring note cached S I clean agrees = λ k d lt.
+    leaf_brought (v.words area.Pool) (v.words area.Host) (v.words area.Slots 0) (page_looked (v.hand a).topics.host) (word_looked (v.hand a).topics.host) _ _
+    S.needs.absent (agrees k d lt)
 agrees_behind z v a (part.Change new_) note cached S I clean agrees =
     agree_elsewhere (v.words area.Pool) (v.words area.Host) (v.words area.Slots 0) (page_looked (v.hand a).topics.host) _ (v.hand a).topics.invalidations.own
     cached (I.scopes a S.there S.needs.0.opened) S.needs.0.invalid clean agrees

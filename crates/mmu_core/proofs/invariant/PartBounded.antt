@@ -10,7 +10,6 @@ use Rattle.core_views.specs.Held.{Held}
 use Rattle.core_views.specs.Sizes.{AreSizes, actors_of, index_of}
 use Rattle.spte_words.specs.declared.area.Area.TheVariants as area
 use Rattle.spte_words.specs.HostWords.{host_frame}
-use Rattle.mmu_core.proofs.words.HostFrames.{frame_of_word}
 use Rattle.spte_words.specs.Entries.{frame_in}
 use Rattle.part_steps.specs.PartBounds.{IsAtLeafLevel}
 use Rattle.part_steps.specs.PartBounds.{CountersPart}
@@ -87,7 +86,4 @@ part_rests_at z v i I P there = record {
     looked : (look : HostLook) → h.topics.host ≡ Some look → (look.page < z.pages) × (host_frame look.word < z.frames)
     looked look is =
         let L = P.looks i there in
-        let frame = frame_of_word look.page look.word (L.is_word look is) in
-        let low = L.there look is in
-        let few = I.sizes.frames.0 in
-        (low, omega (arith, frame, low, few))
+        (L.there look is, (L.is_word look is).1)

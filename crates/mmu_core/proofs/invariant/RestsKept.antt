@@ -160,6 +160,7 @@ enter_stays gfn t x = record {
   section = ∥∥₁_elim x (hlevel props) (λ M. M.section);
   fresh = fresh_stays gfn t.invalidations (∥∥₁_map x (λ M. M.fresh));
   looked_up = looked_stays gfn t (∥∥₁_map x (λ M. M.looked_up));
+  present = ∥∥₁_elim x (hlevel props) (λ M. M.present);
   saw = ∥∥₁_elim x (hlevel props) (λ M. M.saw);
 }
 

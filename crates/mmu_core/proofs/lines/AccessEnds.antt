@@ -1,10 +1,10 @@
 -- How an access ends: the step that ends it doesn't wait, and an exit for want of a page is told only where the line is answered so.
 use Rattle.std.proofs.Common.{◌≡◌, ◌≢◌, ℕ, List, [], ◌∷◌, ap, refl}
-use Rattle.std.specs.Prelude.{Bool, true, false, if◌then◌else◌}
+use Rattle.std.specs.Prelude.{Bool, true, false, ◌==◌, if◌then◌else◌}
 use Rattle.core_views.specs.declared.answer.Answer.{Answer}
 use Rattle.core_views.specs.declared.answer.Answer.TheVariants.{Starved}
 use Rattle.core_views.specs.declared.event.EventKind.{EventKind}
-use Rattle.core_views.specs.declared.event.EventKind.TheVariants.{Exited, LookedAtSlots}
+use Rattle.core_views.specs.declared.event.EventKind.TheVariants.{BroughtIn, Exited, LookedAtSlots}
 use Rattle.core_views.specs.declared.place.AccessPlace.{AccessPlace}
 use Rattle.core_views.specs.declared.place.AccessPlace.TheVariants.{Pause, Touch, Leave, Fault}
 use Rattle.core_views.specs.declared.place.FaultPlace.{FaultPlace}
@@ -18,6 +18,7 @@ use Rattle.mmu_core.specs.lines.AccessSteps.{access_outcome, access_part, access
 use Rattle.mmu_core.specs.lines.Delays.{waits_by}
 use Rattle.mmu_core.specs.lines.FaultSteps.{fault_next, fault_part}
 use Rattle.mmu_core.specs.lines.PartWaits.{part_waits}
+use Rattle.part_steps.specs.PartTasks.{page_looked, word_looked}
 
 -- ---- it doesn't wait
 
@@ -47,11 +48,16 @@ look_fed : (begun : Bool) → AreFed (if begun then [] else LookedAtSlots ∷ []
 look_fed true = tt
 look_fed false = (λ e. absurd (cc e), tt)
 
+brought_fed : (won : Bool) (page : ℕ) → AreFed (if won then BroughtIn page ∷ [] else [])
+brought_fed true page = (λ e. absurd (cc e), tt)
+brought_fed false page = tt
+
 pub access_fed : (p : AccessPlace) (h : Held) (gfn word : ℕ) (op : Op) (v : ℕ) → access_outcome p h gfn op v ≢ Ends Starved
     → AreFed (access_tells p h gfn word op v)
 access_fed (Pause again) h gfn word op v other = (λ e. absurd (cc e), tt)
 access_fed Touch h gfn word op v other = (λ e. absurd (cc e), tt)
 access_fed (Fault (fault.Find begun)) h gfn word op v other = look_fed begun
 access_fed (Fault fault.Host) h gfn word op v other = (λ e. absurd (cc e), tt)
+access_fed (Fault fault.Bring) h gfn word op v other = brought_fed (v == word_looked h.topics.host) (page_looked h.topics.host)
 access_fed (Fault (fault.End end_)) h gfn word op v other = exit_fed (fault_over end_) other
 access_fed _ h gfn word op v other = tt

@@ -26,7 +26,7 @@ use Rattle.mmu_core.specs.declared.outcome.Outcome.TheVariants.{Ends}
 use Rattle.mmu_core.specs.lines.LockKnows.{HoldsLock}
 use Rattle.mmu_core.specs.lines.ClaimSteps.{claim_left, claim_next, claim_outcome, claim_part, map_word, tries_page, word_after_load}
 use Rattle.mmu_core.proofs.lines.FaultSame.{both}
-use Rattle.mmu_core.proofs.machine.PartStepping.{is_told}
+use Rattle.mmu_core.proofs.lines.EitherPlace.{either_place}
 
 -- the page that a claim tries, of which nothing is filled
 abbrev pub page_won : MapClaim → OwnedPage
@@ -86,13 +86,10 @@ claim_needs begun h S none low = by (tries_page begun h.topics.claim) refl
     by true is = let B = both begun (nat_lt 0 h.topics.claim.seen) is in (none, grind (arith, nat_tests), low B.0)
     by false is = loads begun is low
 
--- It publishes nothing, and is no step of which a line says more than what it needs.
-pub claim_untold : (begun : Bool) (claim : MapClaim) → is_told (claim_part begun claim) ≡ false
-claim_untold begun claim = by (tries_page begun claim)
-  where
-    by : (tries : Bool) → is_told (if tries then part.Claim else part.Map (map_word begun claim)) ≡ false
-    by true = refl
-    by false = refl
+-- It tries a page, or loads a word of the map.
+pub claim_is : (IsSo : PartStep → Type 0) (begun : Bool) (claim : MapClaim) → IsSo part.Claim → ((word : ℕ) → IsSo (part.Map word))
+    → IsSo (claim_part begun claim)
+claim_is IsSo begun claim tries loads = either_place IsSo (tries_page begun claim) part.Claim (part.Map (map_word begun claim)) tries (loads _)
 
 -- The page that a claim tries is one of those that it saw.
 pub saw_bit : (claim : MapClaim) → 0 < claim.seen → claim.seen < 2 ^ 64 → is_won claim claim.seen ≡ true

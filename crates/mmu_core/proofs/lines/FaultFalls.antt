@@ -7,7 +7,8 @@ use Rattle.core_views.specs.declared.place.CheckStage.{CheckStage}
 use Rattle.core_views.specs.declared.place.CheckStage.TheVariants as stage
 use Rattle.core_views.specs.declared.place.FaultEnd.TheVariants.{Installed, Mmio, HostFault, Retry}
 use Rattle.core_views.specs.declared.place.FaultPlace.{FaultPlace}
-use Rattle.core_views.specs.declared.place.FaultPlace.TheVariants.{Begin, Find, Host, Share, Check, Walk, Claim, Fill, Role, Link, Give, Leaf, Unshare, End}
+use Rattle.core_views.specs.declared.place.FaultPlace.TheVariants.{Begin, Find, Host, Bring, Share, Check, Walk, Claim, Fill, Role, Link, Give}
+use Rattle.core_views.specs.declared.place.FaultPlace.TheVariants.{Leaf, Unshare, End}
 use Rattle.core_views.specs.declared.place.SlotField.{SlotField}
 use Rattle.core_views.specs.declared.place.SlotField.TheVariants as field
 use Rattle.core_views.specs.declared.sizes.Sizes.{Sizes}
@@ -22,7 +23,7 @@ use Rattle.spte_words.specs.declared.spte_kind.SpteKind.{SpteKind}
 use Rattle.spte_words.specs.declared.spte_kind.SpteKind.TheVariants as entry_kind
 use Rattle.spte_words.specs.Entries.{kind_of, table_word}
 use Rattle.spte_words.specs.Flags.{flags_live}
-use Rattle.spte_words.specs.HostWords.{host_allows_write}
+use Rattle.spte_words.specs.HostWords.{host_allows_write, host_present}
 use Rattle.spte_words.proofs.ReadsEntries.{kind_of_table}
 use Rattle.part_steps.specs.declared.part_step.PartStep.{PartStep}
 use Rattle.mmu_core.specs.declared.claim.ClaimNext.{ClaimNext}
@@ -31,10 +32,10 @@ use Rattle.mmu_core.specs.declared.share.ShareNext.TheVariants as shares
 use Rattle.mmu_core.specs.lines.FaultKnows.{FaultKnows}
 use Rattle.mmu_core.specs.lines.FaultLeft.{check_left, entering_left, fault_left, next_left, table_left, walk_left}
 use Rattle.mmu_core.specs.lines.FaultSteps.{after_claim, after_share, allows_access, check_next, entry_word, fault_next, fault_part, find_next}
-use Rattle.mmu_core.specs.lines.FaultSteps.{share_next, share_part, snapshot_taken, walk_next, claim_left, share_left}
+use Rattle.mmu_core.specs.lines.FaultSteps.{host_word_at, share_next, share_part, snapshot_taken, walk_next, claim_left, share_left}
 use Rattle.mmu_core.specs.lines.PartWaits.{part_waits}
 use Rattle.part_steps.specs.PartBounds.{PartRests}
-use Rattle.part_steps.specs.PartTasks.{entry_index, link_written, page_owned, words_filled}
+use Rattle.part_steps.specs.PartTasks.{entry_index, link_written, page_owned, word_looked, words_filled}
 use Rattle.part_steps.specs.PartHoldings.{HasToFill}
 use Rattle.part_steps.specs.PartTopics.{exchanged, part_topics}
 use Rattle.mmu_core.specs.lines.SearchLeft.{look_left}
@@ -49,7 +50,7 @@ use Rattle.mmu_core.proofs.lines.ShareMade.{share_falls, share_made, share_left_
 
 -- the search
 search_falls : (b : Bool) (z : Sizes) (u : Topics) (n : ℕ) → (u.search.id == 32) ≡ b → (b ≡ false
-    → 4 * (31 - u.search.id) + look_left u.search.next < n) → fault_left (if b then End Mmio else Find true) z u < entering_left z + 7 + n
+    → 4 * (31 - u.search.id) + look_left u.search.next < n) → fault_left (if b then End Mmio else Find true) z u < entering_left z + 8 + n
 search_falls true z u n is less = omega arith
 search_falls false z u n is less = let few = less refl in omega (arith, few)
 
@@ -60,7 +61,7 @@ flags_fall false id low is = let lower : id + 1 ≢ 32 = grind (arith, nat_tests
 
 found_falls : (holds denied : Bool) (z : Sizes) (u : Topics) (id : ℕ) → id ≤ 31 → u.search.id ≡ id + 1 → look_left u.search.next ≡ 4
     → fault_left (if holds then (if denied then End Mmio else Host) else if u.search.id == 32 then End Mmio else Find true) z u
-    < entering_left z + 7 + (4 * (31 - id) + 1)
+    < entering_left z + 8 + (4 * (31 - id) + 1)
 found_falls true true z u id low is next = omega arith
 found_falls true false z u id low is next = omega arith
 found_falls false denied z u id low is next =
@@ -69,7 +70,7 @@ found_falls false denied z u id low is next =
 
 find_falls : (f : SlotField) (z : Sizes) (gfn : ℕ) (write : Bool) (t : Topics) (v : ℕ) → t.search.id ≤ 31
     → fault_left (find_next gfn write f (searched_at f t.search v)) z (record t { search = searched_at f t.search v })
-    < entering_left z + 7 + (4 * (31 - t.search.id) + look_left f)
+    < entering_left z + 8 + (4 * (31 - t.search.id) + look_left f)
 find_falls field.Flags z gfn write t v low =
     search_falls ((searched_at field.Flags t.search v).id == 32) z (record t { search = searched_at field.Flags t.search v })
     (4 * (31 - t.search.id) + 4) refl (λ e. flags_fall (flags_live v) t.search.id low e)
@@ -83,14 +84,24 @@ find_falls field.Host z gfn write t v low =
 
 slot_falls : (b : Bool) (z : Sizes) (gfn : ℕ) (write : Bool) (t : Topics) (v : ℕ) → b ≡ true → t.search.id ≤ 31
     → fault_left (find_next gfn write t.search.next (searched t.search v)) z (record t { search = if b then searched t.search v else t.search })
-    < entering_left z + 7 + (4 * (31 - t.search.id) + look_left t.search.next)
+    < entering_left z + 8 + (4 * (31 - t.search.id) + look_left t.search.next)
 slot_falls true z gfn write t v is low = find_falls t.search.next z gfn write t v low
 slot_falls false z gfn write t v is low = absurd (cc is)
 
 -- the host word, and the lock
-host_falls : (b : Bool) (z : Sizes) (u : Topics) → u.hold ≡ Loose → fault_left (if b then End HostFault else Share) z u < entering_left z + 7
-host_falls true z u loose = omega arith
-host_falls false z u loose = let two : share_left u.hold ≡ 2 = ap (λ (x : Hold). share_left x) loose in omega (arith, two)
+begins_share : (z : Sizes) (u : Topics) → u.hold ≡ Loose → fault_left Share z u < entering_left z + 7
+begins_share z u loose = let two : share_left u.hold ≡ 2 = ap (λ (x : Hold). share_left x) loose in omega (arith, two)
+
+host_falls : (b present : Bool) (z : Sizes) (u : Topics) → u.hold ≡ Loose
+    → fault_left (if b then End HostFault else if present then Share else Bring) z u < entering_left z + 8
+host_falls true present z u loose = omega arith
+host_falls false true z u loose = let less = begins_share z u loose in omega (arith, less)
+host_falls false false z u loose = omega arith
+
+bring_falls : (b : Bool) (z : Sizes) (word read v : ℕ) (u : Topics) → u.hold ≡ Loose
+    → fault_left (if b then Share else End (Retry (Entry word read v))) z u < entering_left z + 7
+bring_falls true z word read v u loose = begins_share z u loose
+bring_falls false z word read v u loose = omega arith
 
 shares_fall : (next : ShareNext) (z : Sizes) (u : Topics) (n : ℕ) → share_left_after next u.hold < n
     → fault_left (after_share next) z u < entering_left z + 4 + n
@@ -193,7 +204,10 @@ fault_falls (Find true) h gfn v write small R K goes =
     let set = K.1 refl in slot_falls (is_some h.topics.search.set) h.state.sizes gfn write h.topics v set.0 set.1
 fault_falls (Find false) h gfn v write small R K goes = omega arith
 fault_falls Host h gfn v write small R K goes =
-    host_falls (write && not (host_allows_write v)) h.state.sizes (part_topics (fault_part Host gfn h.topics) h.topics v) K.0.loose
+    host_falls (write && not (host_allows_write v)) (host_present v) h.state.sizes (part_topics (fault_part Host gfn h.topics) h.topics v) K.0.loose
+fault_falls Bring h gfn v write small R K goes =
+    bring_falls (v == word_looked h.topics.host) h.state.sizes (host_word_at h.state.sizes h.topics.host) (word_looked h.topics.host) v
+    (part_topics (fault_part Bring gfn h.topics) h.topics v) K.0.loose
 fault_falls Share h gfn v write small R K goes =
     shares_fall (share_next h.topics.hold v) h.state.sizes (part_topics (share_part h.topics.hold) h.topics v) (share_left h.topics.hold)
     (share_falls h.topics v _ _ _ (share_made h.topics v K.1) goes)

@@ -3,11 +3,10 @@ use Rattle.std.proofs.Common.{◌≡◌, inl, inr, ◌+◌, ◌-◌, ◌*◌, �
 use Rattle.std.specs.Prelude.{Bool, true, false, ◌==◌, ◌&&◌, nat_lt, not, if◌then◌else◌, Option, Some, None, is_some}
 use Rattle.std.proofs.lemmas.Bool.Decides.{nat_tests}
 use Rattle.core_views.specs.declared.place.Cause.TheVariants.{Entry}
-use Rattle.core_views.specs.declared.place.FaultEnd.{FaultEnd}
 use Rattle.core_views.specs.declared.place.FaultEnd.TheVariants.{Installed, Retry}
 use Rattle.core_views.specs.declared.place.FaultPlace.{FaultPlace}
-use Rattle.core_views.specs.declared.place.FaultPlace.TheVariants.{Begin, Snapshot, Find, Host, Share, Check, Walk, Claim, Fill, Role, Link, Give}
-use Rattle.core_views.specs.declared.place.FaultPlace.TheVariants.{Leaf, Unshare, End}
+use Rattle.core_views.specs.declared.place.FaultPlace.TheVariants.{Begin, Snapshot, Find, Host, Bring, Share, Check, Walk, Claim, Fill, Role, Link}
+use Rattle.core_views.specs.declared.place.FaultPlace.TheVariants.{Give, Leaf, Unshare, End}
 use Rattle.core_views.specs.declared.sizes.Sizes.{Sizes}
 use Rattle.core_views.specs.declared.topics.HostLook.{HostLook}
 use Rattle.core_views.specs.declared.topics.OwnedPage.{OwnedPage}
@@ -22,12 +21,12 @@ use Rattle.spte_words.specs.declared.spte_kind.SpteKind.TheVariants as entry_kin
 use Rattle.spte_words.specs.Areas.{words_of_bits}
 use Rattle.spte_words.specs.Bits.{has_bit}
 use Rattle.spte_words.specs.Entries.{frozen_word, is_leaf_at, kind_of, level_span, table_word}
-use Rattle.spte_words.specs.HostWords.{host_allows_write, host_frame}
+use Rattle.spte_words.specs.HostWords.{host_allows_write, host_frame, host_present}
 use Rattle.spte_words.proofs.ReadsEntries.{kind_of_leaf, kind_of_table, leaf_can_write}
 use Rattle.spte_words.proofs.Spans.{span_1, span_2, span_3, span_4}
 use Rattle.part_steps.specs.declared.part_step.PartStep.{PartStep}
 use Rattle.part_steps.specs.declared.part_step.PartStep.TheVariants as part
-use Rattle.mmu_core.specs.lines.FaultKnows.{EndKnows, Entering, FaultKnows, InSection, KnowsNext, SawAbsentEntry}
+use Rattle.mmu_core.specs.lines.FaultKnows.{Entering, FaultKnows, KnowsNext, SawAbsentEntry}
 use Rattle.mmu_core.specs.lines.FaultLaws.{CanAnswer}
 use Rattle.mmu_core.specs.lines.FaultSteps.{allows_access, entry_word, fault_next, fault_part, walk_next, after_claim}
 use Rattle.mmu_core.specs.declared.claim.ClaimNext.{ClaimNext}
@@ -36,7 +35,7 @@ use Rattle.part_steps.specs.PartTasks.{entry_index, leaf_written, link_written, 
 use Rattle.part_steps.specs.PartHoldings.{IsOver, LookedUp, SawEntry, HasRoleToSet, HasToFill}
 use Rattle.part_steps.specs.PartTopics.{exchanged, part_topics}
 use Rattle.part_steps.specs.SlotWords.{leaf_of, may_write}
-use Rattle.part_steps.specs.StayTopics.{let_go, may_search, may_walk}
+use Rattle.part_steps.specs.StayTopics.{may_search, may_walk}
 use Rattle.part_steps.specs.WalkTopics.{gone_down, linked_page, unless_linked}
 use Rattle.part_steps.specs.PageTopics.{filled_more}
 use Rattle.part_steps.specs.ControlTopics.{at_root}
@@ -47,7 +46,7 @@ use Rattle.mmu_core.proofs.lines.ClaimMade.{ClaimMade, claim_made}
 use Rattle.mmu_core.proofs.lines.ClaimMade as made
 use Rattle.mmu_core.proofs.lines.ShareMade.{share_made}
 use Rattle.mmu_core.proofs.lines.FaultSame.{ends_same, same_entering, same_none}
-use Rattle.mmu_core.proofs.lines.LookKnown.{snapshot_known, slots_known, slot_known, host_known, kept, kept_table, share_known, check_known}
+use Rattle.mmu_core.proofs.lines.LookKnown.{snapshot_known, slots_known, slot_known, bring_known, host_known, share_known, check_known, unshare_known}
 
 -- the walk: a link leads down to the table that has the guest frame's entry of the level below
 down_run : (gfn level : ℕ) → 2 ≤ level → level ≤ 4 → gfn / level_span (level - 1) / 512 ≡ gfn / level_span level / 512 * 512 + gfn / level_span level % 512
@@ -113,7 +112,7 @@ leaf_seen false allows z gfn write t v low may is E none O =
     let from : 1 ≤ t.walk.level = O.there in (
       record { section = E.sharing.section; owns_none = none },
       E.sharing.shares,
-      record { saw = saw_it gfn v t.walk O; is_entry = refl; holds = refl; why = inr (inr (is, grind (arith, nat_tests))) },
+      inl (record { saw = saw_it gfn v t.walk O; is_entry = refl; holds = refl; why = inr (inr (is, grind (arith, nat_tests))) }),
     )
 
 none_seen : (lowest : Bool) (z : Sizes) (gfn : ℕ) (write : Bool) (t : Topics) (v : ℕ) → (t.walk.level == 1) ≡ lowest
@@ -138,7 +137,7 @@ walk_known entry_kind.Absent z gfn write t v is most E none O = none_seen (t.wal
 walk_known entry_kind.Frozen z gfn write t v is most E none O = (
   record { section = E.sharing.section; owns_none = none },
   E.sharing.shares,
-  record { saw = saw_it gfn v t.walk O; is_entry = refl; holds = refl; why = inr (inl is) },
+  inl (record { saw = saw_it gfn v t.walk O; is_entry = refl; holds = refl; why = inr (inl is) }),
 )
 
 -- the claim
@@ -198,7 +197,7 @@ link_known false z gfn write t v is most E S o owned small = (
   E.sharing.section,
   E.sharing.shares,
   ap (λ (x : Option OwnedPage). is_some x) owned,
-  record { saw = saw_it gfn v t.walk S.saw.over; is_entry = refl; holds = refl; why = inl (grind (arith, nat_tests)) },
+  inl (record { saw = saw_it gfn v t.walk S.saw.over; is_entry = refl; holds = refl; why = inl (grind (arith, nat_tests)) }),
   tt,
 )
 
@@ -247,14 +246,8 @@ leaf_known true z gfn write t v is E none S low = leaf_won z gfn write t v E non
 leaf_known false z gfn write t v is E none S low = (
   record { section = E.sharing.section; owns_none = none },
   E.sharing.shares,
-  record { saw = saw_it gfn v t.walk S.over; is_entry = refl; holds = refl; why = inl (grind (arith, nat_tests)) },
+  inl (record { saw = saw_it gfn v t.walk S.over; is_entry = refl; holds = refl; why = inl (grind (arith, nat_tests)) }),
 )
-
--- the lock given back, and the section's end
-unshare_known : (e : FaultEnd) (z : Sizes) (gfn : ℕ) (write : Bool) (t : Topics) → InSection t → EndKnows e z gfn write t
-    → FaultKnows (End e) z gfn write (let_go t)
-unshare_known e z gfn write t I K =
-    (record { section = I.section; owns_none = I.owns_none }, refl, ends_same e z gfn write t _ (kept_table t I.section) (kept t I.section) refl refl refl K)
 
 pub fault_known : (p : FaultPlace) (h : Held) (gfn v : ℕ) (write : Bool) → gfn < 2 ^ 36 → PartRests h → FaultKnows p h.state.sizes gfn write h.topics
     → CanAnswer (fault_part p gfn h.topics) v
@@ -266,7 +259,9 @@ fault_known (Find true) h gfn v write small R K A =
 fault_known (Find false) h gfn v write small R K A =
     slots_known h.state.sizes gfn write (may_search h.topics.stay h.topics.hold) h.topics v
     (ap (λ (s : Stay). may_search s h.topics.hold) K.0.inside.section) K.0
-fault_known Host h gfn v write small R K A = host_known (write && not (host_allows_write v)) h.state.sizes gfn write h.topics v refl K.0 K.1 K.2
+fault_known Host h gfn v write small R K A =
+    host_known (write && not (host_allows_write v)) (host_present v) h.state.sizes gfn write h.topics v refl refl K.0 K.1 K.2
+fault_known Bring h gfn v write small R K A = bring_known (v == word_looked h.topics.host) h.state.sizes gfn write h.topics v refl K.0 K.1
 fault_known Share h gfn v write small R K A = share_known h.state.sizes gfn write h.topics v _ _ _ (share_made h.topics v K.1) K.0 K.2
 fault_known (Check at) h gfn v write small R K A = check_known at h.state.sizes gfn write h.topics v K.0 K.1 K.2
 fault_known (Walk true) h gfn v write small R K A =

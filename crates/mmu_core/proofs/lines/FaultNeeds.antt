@@ -1,12 +1,13 @@
 -- What a fault knows at a place is what the step of this place needs.
 use Rattle.std.proofs.Common.{◌+◌, ◌^◌, ◌<◌, ℕ, refl, ap, arith}
-use Rattle.std.specs.Prelude.{Bool, true, false, ◌&&◌}
+use Rattle.std.specs.Prelude.{Bool, true, false, ◌&&◌, Option, is_some}
 use Rattle.core_views.specs.declared.place.CheckStage.{CheckStage}
 use Rattle.core_views.specs.declared.place.CheckStage.TheVariants as stage
 use Rattle.core_views.specs.declared.place.FaultPlace.{FaultPlace}
-use Rattle.core_views.specs.declared.place.FaultPlace.TheVariants.{Begin, Snapshot, Find, Host, Share, Check, Walk, Claim, Fill, Role, Link, Give}
-use Rattle.core_views.specs.declared.place.FaultPlace.TheVariants.{Leaf, Unshare, End}
+use Rattle.core_views.specs.declared.place.FaultPlace.TheVariants.{Begin, Snapshot, Find, Host, Bring, Share, Check, Walk, Claim, Fill, Role, Link}
+use Rattle.core_views.specs.declared.place.FaultPlace.TheVariants.{Give, Leaf, Unshare, End}
 use Rattle.core_views.specs.declared.topics.Hold.{Hold}
+use Rattle.core_views.specs.declared.topics.HostLook.{HostLook}
 use Rattle.core_views.specs.declared.topics.Topics.{Topics}
 use Rattle.core_views.specs.Held.{Held}
 use Rattle.mmu_core.specs.lines.FaultKnows.{Entering, FaultKnows}
@@ -32,7 +33,14 @@ check_needs stage.Count h = tt
 check_needs _ h = tt
 
 may_enter : (gfn : ℕ) (write : Bool) (t : Topics) → Entering gfn write t → SawEntry gfn t.walk → MayEnter gfn t
-may_enter gfn write t E S = record { shares = E.sharing.shares; section = E.sharing.section; fresh = E.fresh; looked_up = E.sharing.looked.looked_up; saw = S }
+may_enter gfn write t E S = record {
+  shares = E.sharing.shares;
+  section = E.sharing.section;
+  fresh = E.fresh;
+  looked_up = E.sharing.looked.looked_up;
+  present = E.sharing.looked.presence;
+  saw = S;
+}
 
 pub fault_needs : (p : FaultPlace) (h : Held) (gfn : ℕ) (write : Bool) → gfn < 2 ^ 36 → PartRests h → FaultKnows p h.state.sizes gfn write h.topics
     → PartNeeds (fault_part p gfn h.topics) h
@@ -42,6 +50,8 @@ fault_needs (Find true) h gfn write small R K =
     let S = K.1 refl in (S.0, S.1, ap (λ (k : Hold). is_alone k && has_found (page_looked h.topics.host) h.topics.search) K.0.loose)
 fault_needs (Find false) h gfn write small R K = tt
 fault_needs Host h gfn write small R K = (page_within gfn h R K.1, ap is_alone K.0.loose)
+fault_needs Bring h gfn write small R K =
+    record { section = K.0.inside.section; looked = ap (λ (o : Option HostLook). is_some o) K.1.looked_up.host; absent = K.1.presence }
 fault_needs Share h gfn write small R K = share_needs h.topics.hold h refl K.1
 fault_needs (Check at) h gfn write small R K = check_needs at h
 fault_needs (Walk true) h gfn write small R K = K.2 refl

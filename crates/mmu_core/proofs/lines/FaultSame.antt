@@ -14,9 +14,11 @@ use Rattle.core_views.specs.declared.topics.Topics.{Topics}
 use Rattle.core_views.specs.Slots.{contains}
 use Rattle.spte_words.specs.Areas.{words_of_bits}
 use Rattle.spte_words.specs.Entries.{kind_of}
+use Rattle.spte_words.specs.HostWords.{host_present}
 use Rattle.mmu_core.specs.lines.FaultKnows.{EndKnows, Entering, FoundNoPage, IsInTheWay, LookedFor, SawAbsentEntry, Sharing, WithoutLock}
-use Rattle.mmu_core.specs.lines.FaultSteps.{allows_access}
+use Rattle.mmu_core.specs.lines.FaultSteps.{allows_access, host_word_at}
 use Rattle.part_steps.specs.PartHoldings.{FoundSlot, IsFresh, LookedUp, SawEntry}
+use Rattle.part_steps.specs.PartTasks.{word_looked}
 use Rattle.part_steps.specs.SlotWords.{page_of}
 use Rattle.part_steps.specs.StayTopics.{unchecked}
 
@@ -52,10 +54,11 @@ same_looked_up gfn t u search host L =
     let look : SlotSearch → Option HostLook = λ s. Some (record { page = page_of s.slot gfn; word = L.word }) in
     record { found = same_found gfn t u search L.found; word = L.word; host = host ∙ L.host ∙ ap look (sym search) }
 
-pub same_looked : (gfn : ℕ) (write : Bool) (t u : Topics) → u.search ≡ t.search → u.host ≡ t.host
-    → u.invalidations.snapshot ≡ t.invalidations.snapshot → LookedFor gfn write t → LookedFor gfn write u
-same_looked gfn write t u search host snapshot L = record {
+pub same_looked : (present : Bool) (gfn : ℕ) (write : Bool) (t u : Topics) → u.search ≡ t.search → u.host ≡ t.host
+    → u.invalidations.snapshot ≡ t.invalidations.snapshot → LookedFor present gfn write t → LookedFor present gfn write u
+same_looked present gfn write t u search host snapshot L = record {
   looked_up = same_looked_up gfn t u search host L.looked_up;
+  presence = ap (λ (x : Option HostLook). host_present (word_looked x)) host ∙ L.presence;
   allowed = λ w. (ap (λ (s : SlotSearch). s.slot.read_only) search ∙ (L.allowed w).0, (L.allowed w).1);
   snapshot = ap (λ (x : Option ℕ). is_some x) snapshot ∙ L.snapshot;
 }
@@ -65,7 +68,7 @@ pub same_sharing : (gfn : ℕ) (write : Bool) (t u : Topics) → u.stay ≡ t.st
 same_sharing gfn write t u stay hold search host snapshot S = record {
   section = stay ∙ S.section;
   shares = hold ∙ S.shares;
-  looked = same_looked gfn write t u search host snapshot S.looked;
+  looked = same_looked true gfn write t u search host snapshot S.looked;
 }
 
 pub same_entering : (gfn : ℕ) (write : Bool) (t u : Topics) → u.stay ≡ t.stay → u.hold ≡ t.hold → u.search ≡ t.search → u.host ≡ t.host
@@ -103,7 +106,13 @@ ends_same (Retry (Open count start end_ at)) z gfn write t u walk search host cl
     (K.0, K.1, K.2, K.3, ap (λ (x : Invalidations). x.count) n ∙ K.4, ap (λ (x : Invalidations). x.start) n ∙ K.5, ap (λ (x : Invalidations). x.end) n ∙ K.6)
 ends_same (Retry (Moved old_ now_)) z gfn write t u walk search host claim n K =
     (ap (λ (x : Invalidations). x.snapshot) n ∙ K.0, ap (λ (x : Invalidations). x.seq) n ∙ K.1, K.2)
-ends_same (Retry (Entry word read seen)) z gfn write t u walk search host claim n K = subst (IsInTheWay word read seen z gfn) (sym walk) K
+ends_same (Retry (Entry word read seen)) z gfn write t u walk search host claim n (inl W) = inl (subst (IsInTheWay word read seen z gfn) (sym walk) W)
+ends_same (Retry (Entry word read seen)) z gfn write t u walk search host claim n (inr M) = inr (record {
+  looked_up = same_looked_up gfn t u search host M.looked_up;
+  is_word = M.is_word ∙ ap (λ (x : Option HostLook). host_word_at z x) (sym host);
+  holds = ap (λ (x : Option HostLook). word_looked x) host ∙ M.holds;
+  why = M.why;
+})
 
 pub same_without : (t u : Topics) → u.stay ≡ t.stay → u.owned ≡ t.owned → u.hold ≡ t.hold → u.invalidations ≡ t.invalidations → WithoutLock t → WithoutLock u
 same_without t u stay owned hold n W = record {

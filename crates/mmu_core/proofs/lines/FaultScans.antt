@@ -5,7 +5,7 @@ use Rattle.core_views.specs.declared.place.CheckStage.{CheckStage}
 use Rattle.core_views.specs.declared.place.CheckStage.TheVariants as stage
 use Rattle.core_views.specs.declared.place.FaultEnd.TheVariants.{Installed, Mmio, HostFault, Retry}
 use Rattle.core_views.specs.declared.place.FaultPlace.{FaultPlace}
-use Rattle.core_views.specs.declared.place.FaultPlace.TheVariants.{Find, Host, Share, Check, Walk, Claim, Fill, Role, Link, Give, Leaf, Unshare, End}
+use Rattle.core_views.specs.declared.place.FaultPlace.TheVariants.{Find, Host, Bring, Share, Check, Walk, Claim, Fill, Role, Link, Give, Leaf, Unshare, End}
 use Rattle.core_views.specs.declared.place.SlotField.{SlotField}
 use Rattle.core_views.specs.declared.sizes.Sizes.{Sizes}
 use Rattle.core_views.specs.declared.topics.SlotSearch.{SlotSearch}
@@ -15,7 +15,7 @@ use Rattle.core_views.specs.Slots.{contains}
 use Rattle.spte_words.specs.declared.spte_kind.SpteKind.{SpteKind}
 use Rattle.spte_words.specs.declared.spte_kind.SpteKind.TheVariants as entry_kind
 use Rattle.spte_words.specs.Entries.{kind_of}
-use Rattle.spte_words.specs.HostWords.{host_allows_write}
+use Rattle.spte_words.specs.HostWords.{host_allows_write, host_present}
 use Rattle.mmu_core.specs.declared.share.ShareNext.{ShareNext}
 use Rattle.mmu_core.specs.declared.share.ShareNext.TheVariants as shares
 use Rattle.mmu_core.specs.lines.FaultSteps.{after_share, allows_access, check_next, check_part, fault_next, fault_part, find_next, found_next}
@@ -31,7 +31,7 @@ use Rattle.core_views.specs.declared.topics.Hold.TheVariants.{Owing}
 use Rattle.core_views.specs.declared.topics.MapClaim.{MapClaim}
 use Rattle.part_steps.specs.declared.part_step.PartStep.{PartStep}
 use Rattle.part_steps.specs.declared.part_step.PartStep.TheVariants as part
-use Rattle.part_steps.specs.PartTasks.{words_filled}
+use Rattle.part_steps.specs.PartTasks.{word_looked, words_filled}
 use Rattle.part_steps.specs.PageTopics.{searched}
 
 -- The fault is at a step of its claim, or is to be starved.
@@ -81,7 +81,10 @@ pub fault_claims : (p : FaultPlace) (z : Sizes) (gfn : ℕ) (write : Bool) (t : 
 fault_claims (Find begun) z gfn write t v K e =
     either_place NotBegun begun (find_next gfn write t.search.next (searched t.search v)) (Find true)
     (not_by_find gfn write t.search.next (searched t.search v)) (λ x. x) e
-fault_claims Host z gfn write t v K e = either_place NotBegun (write && not (host_allows_write v)) (End HostFault) Share (λ x. x) (λ x. x) e
+fault_claims Host z gfn write t v K e =
+    either_place NotBegun (write && not (host_allows_write v)) (End HostFault) (if host_present v then Share else Bring) (λ x. x)
+    (either_place NotBegun (host_present v) Share Bring (λ x. x) (λ x. x)) e
+fault_claims Bring z gfn write t v K e = either_place NotBegun (v == word_looked t.host) Share (End (Retry _)) (λ x. x) (λ x. x) e
 fault_claims Share z gfn write t v K e = not_by_share (share_next t.hold v) e
 fault_claims (Check at) z gfn write t v K e = not_by_check at gfn t v e
 fault_claims (Walk rooted) z gfn write t v K e =

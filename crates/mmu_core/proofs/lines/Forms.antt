@@ -159,9 +159,9 @@ first_no_end z slots _ is = cc is
 -- A host thread makes the changes that lines make.
 only_made : (z : Sizes) (actor : Actor) (page : ℕ) (change : HostChange) → IsCommandFor z actor (ChangeHost page change) → IsMade change
 only_made z (actors.Host n) page Allow may = tt
+only_made z (actors.Host n) page Evict may = tt
 only_made z (actors.Host n) page Protect may = tt
 only_made z (actors.Host n) page Move may = absurd may
-only_made z (actors.Host n) page Evict may = absurd may
 only_made z (actors.Vcpu n) page change may = absurd may
 only_made z actors.Manager page change may = absurd may
 only_made z (actors.Worker n) page change may = absurd may

@@ -54,7 +54,7 @@ use Rattle.mmu_core.proofs.machine.HandWith.{hand_with}
 use Rattle.core_views.specs.declared.topics.Hold.TheVariants.{Loose}
 use Rattle.part_steps.specs.StayTopics.{is_alone}
 use Rattle.part_steps.specs.InvalidationHoldings.{revises}
-use Rattle.spte_words.specs.HostWords.{with_writes}
+use Rattle.spte_words.specs.HostWords.{with_presence, with_writes}
 
 -- ---- what each step needs
 
@@ -84,17 +84,24 @@ ends_rest : (p : EndPlace) (h : Held) → EndKnows p h.topics → HostRests (End
 ends_rest ends.Release h K = ap (λ (c : Checked). was_counted c && nat_lt (own_open h.topics.invalidations) h.topics.invalidations.count) K.1
 ends_rest _ h K = tt
 
--- The word that a change puts allows writes to the page, or forbids them.
+-- The word that a change puts allows writes to the page, or forbids them, or takes the page away.
+or_same : {b : Bool} (a : Bool) → b ≡ true → (a || b) ≡ true
+or_same true is = refl
+or_same false is = is
+
+is_itself : (n : ℕ) → (n == n) ≡ true
+is_itself n = eq-eqb n n refl
+
 revises_it : (change : HostChange) (word : ℕ) → IsMade change → revises word (revised change word) ≡ true
 revises_it Allow word made =
-    ap (λ (b : Bool). b || (with_writes true word == with_writes false word)) (eq-eqb (with_writes true word) (with_writes true word) refl)
-revises_it Protect word made = or_same (with_writes false word == with_writes true word) (eq-eqb (with_writes false word) (with_writes false word) refl)
-  where
-    or_same : {b : Bool} (a : Bool) → b ≡ true → (a || b) ≡ true
-    or_same true is = refl
-    or_same false is = is
+    ap (λ (b : Bool). b || (with_writes true word == with_writes false word) || (with_writes true word == with_presence false word))
+    (is_itself (with_writes true word))
+revises_it Protect word made =
+    ap (λ (b : Bool). b || (with_writes false word == with_presence false word))
+    (or_same (with_writes false word == with_writes true word) (is_itself (with_writes false word)))
+revises_it Evict word made =
+    or_same ((with_presence false word == with_writes true word) || (with_presence false word == with_writes false word)) (is_itself (with_presence false word))
 revises_it Move word made = absurd made
-revises_it Evict word made = absurd made
 
 pub host_needs : (p : HostPlace) (h : Held) (page : ℕ) (change : HostChange) → PartRests h → IsMade change → HostKnows p page h
     → PartNeeds (host_part p page change h) h × HostRests p h

@@ -17,7 +17,7 @@ use Rattle.spte_words.specs.declared.area.Area.TheVariants as area
 use Rattle.part_steps.specs.declared.part_step.PartStep.{PartStep}
 use Rattle.part_steps.specs.declared.part_step.PartStep.TheVariants as part
 use Rattle.part_steps.specs.PartTasks.{page_looked, word_looked}
-use Rattle.mmu_core.specs.invariant.HostWordsPart.{owns_page}
+use Rattle.mmu_core.specs.invariant.HostWordsPart.{IsStill, owns_page}
 use Rattle.mmu_core.specs.invariant.Invariant.{Invariant}
 use Rattle.mmu_core.specs.invariant.TopicsInvariant.{TopicsInvariant}
 use Rattle.mmu_core.specs.lines.HostKnows.{HostKnows}
@@ -67,12 +67,13 @@ makes_host z v a line p page change small S I P =
     may_make z v a (host_part p page change (v.hand a)) small I P S.there (host_needs p (v.hand a) page change (part_rests_at z v a I P S.there) K.0 K.1).0
     (host_says z v a page change p small I P S.there K.1)
 
--- Whose change of its page is next exchanges the page's word: nobody else has changed it since it was looked up.
-pub change_won : (z : Sizes) (v : View) (a page : ℕ) (change : HostChange) → TopicsInvariant z v → IsPart z v a (host_part Change page change (v.hand a))
-    → v.words area.Host (page_looked (v.hand a).topics.host) ≡ word_looked (v.hand a).topics.host
-change_won z v a page change P S = looked (v.hand a).topics.host refl S.needs.0.looked (changes_own z v a (word_put change (v.hand a).topics) S)
+-- Whose change of its page is next finds the word that it looked up, or this word with the page present, which it saw absent: nobody else
+-- has changed it since, but by bringing the page in.
+pub change_finds : (z : Sizes) (v : View) (a page : ℕ) (change : HostChange) → TopicsInvariant z v → IsPart z v a (host_part Change page change (v.hand a))
+    → IsStill (word_looked (v.hand a).topics.host) (v.words area.Host (page_looked (v.hand a).topics.host))
+change_finds z v a page change P S = looked (v.hand a).topics.host refl S.needs.0.looked (changes_own z v a (word_put change (v.hand a).topics) S)
   where
     looked : (o : Option HostLook) → (v.hand a).topics.host ≡ o → is_some o ≡ true → owns_page z a (page_looked o) ≡ true
-        → v.words area.Host (page_looked o) ≡ word_looked o
+        → IsStill (word_looked o) (v.words area.Host (page_looked o))
     looked None is some own_ = absurd (cc some)
-    looked (Some look) is some own_ = sym (P.own_looks a look S.there is own_)
+    looked (Some look) is some own_ = P.own_looks a look S.there is own_

@@ -3,7 +3,7 @@ use Rattle.part_steps.specs.PartTasks.{word_looked}
 use Rattle.std.proofs.Props.{props}
 use Rattle.mmu_core.proofs.lines.AccessEnds.{AreFed}
 use Rattle.std.proofs.Common.{◌≡◌, ◌≤◌, ◌<◌, ◌+◌, ◌*◌, ◌∷◌, [], ℕ, Bool, true, false, refl, arith}
-use Rattle.std.specs.Prelude.{◌==◌}
+use Rattle.std.specs.Prelude.{◌==◌, if◌then◌else◌}
 use Rattle.core_views.specs.declared.answer.Answer.{Answer}
 use Rattle.core_views.specs.declared.answer.Answer.TheVariants.{Refused}
 use Rattle.core_views.specs.declared.answer.Refusal.TheVariants.{OutOfRange}
@@ -23,6 +23,7 @@ use Rattle.core_views.specs.declared.trace.HostChange.TheVariants.{Allow, Evict,
 use Rattle.core_views.specs.Held.{Held}
 use Rattle.core_views.specs.HostChanges.{is_own}
 use Rattle.part_steps.specs.declared.part_step.PartStep.TheVariants as part
+use Rattle.spte_words.specs.HostWords.{host_present}
 use Rattle.mmu_core.specs.declared.outcome.Outcome.TheVariants.{Goes, Ends}
 use Rattle.mmu_core.specs.lines.FaultLeft.{find_left}
 use Rattle.mmu_core.specs.lines.HostKnows.{HostKnows, HostRests, IsMade}
@@ -62,12 +63,18 @@ look_some field.Base = omega arith
 look_some field.Pages = omega arith
 look_some field.Host = omega arith
 
+-- The exchange is made once more where its page was seen absent.
+change_few : (present : Bool) → 7 + (if present then 0 else 1) ≤ 8
+change_few true = omega arith
+change_few false = omega arith
+
 -- Few beside those of the search of a slot, of the walk, and of two looks at each virtual processor.
-pub host_few : (p : HostPlace) (z : Sizes) (t : Topics) → t.walk.level ≤ 4 → host_left p z t ≤ 2 * z.vcpus + 151
+pub host_few : (p : HostPlace) (z : Sizes) (t : Topics) → t.walk.level ≤ 4 → host_left p z t ≤ 2 * z.vcpus + 152
 host_few (Begin (begins.Find begun)) z t most = let few = find_few begun t.search in omega (arith, few)
 host_few (Begin (begins.Walk true)) z t most = omega (arith, most)
 host_few (Begin (begins.Walk false)) z t most = omega arith
 host_few (Begin _) z t most = omega arith
+host_few Change z t most = let few = change_few (host_present (word_looked t.host)) in omega (arith, few)
 host_few (End ends.Release) z t most = omega arith
 host_few (End _) z t most = omega arith
 host_few _ z t most = omega arith

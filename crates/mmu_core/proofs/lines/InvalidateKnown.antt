@@ -20,10 +20,9 @@ use Rattle.spte_words.specs.Entries.{kind_of}
 use Rattle.part_steps.specs.declared.part_step.PartStep.TheVariants as part
 use Rattle.part_steps.specs.ControlTopics.{count_checked, range_checked, seq_checked, start_checked, end_known, start_known}
 use Rattle.part_steps.specs.ControlBits.{has_to_flush}
-use Rattle.part_steps.specs.PageTopics.{searched}
 use Rattle.part_steps.specs.PartSteps.{IsAtRest}
 use Rattle.part_steps.specs.PartTopics.{part_topics}
-use Rattle.part_steps.specs.StayTopics.{has_lock, is_loose, kept_search, may_search, may_walk, no_flush}
+use Rattle.part_steps.specs.StayTopics.{flush_kept, has_lock, is_loose, kept_search, may_search, may_walk, no_flush}
 use Rattle.mmu_core.specs.declared.invalidate.BeginNext.{BeginNext}
 use Rattle.mmu_core.specs.declared.invalidate.BeginNext.TheVariants as begins_next
 use Rattle.mmu_core.specs.declared.invalidate.EndNext.{EndNext}
@@ -150,7 +149,10 @@ pub begin_known : (p : BeginPlace) (z : Sizes) (page : ℕ) (t : Topics) (v : �
 begin_known begins.Exclude z page t v sizes looked flags frames most K A =
     one_place (λ q. BeginKnows q z page (part_topics part.Exclude t v)) (v == 0) (begins.Find false) begins.Exclude
     (λ e. (
-      record { with_lock = alone_taken false t v K.0 K.1 e; unasked = ap (λ (b : Bool). if b then no_flush else t.flush) e },
+      record {
+        with_lock = alone_taken false t v K.0 K.1 e;
+        unasked = ap (λ (b : Bool). flush_kept b t) e ∙ ap (λ (b : Bool). if not b then no_flush else t.flush) K.1;
+      },
       λ begun. absurd (cc begun),
     ))
     (λ e. (alone_tried t v K.0 e, K.1))

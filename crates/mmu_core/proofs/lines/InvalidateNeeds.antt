@@ -8,6 +8,7 @@ use Rattle.core_views.specs.declared.place.BeginPlace.TheVariants as begins
 use Rattle.core_views.specs.declared.place.EndPlace.{EndPlace}
 use Rattle.core_views.specs.declared.place.EndPlace.TheVariants as ends
 use Rattle.core_views.specs.declared.topics.Checked.TheVariants as checked
+use Rattle.core_views.specs.declared.topics.Invalidated.{Invalidated}
 use Rattle.core_views.specs.declared.topics.Topics.{Topics}
 use Rattle.core_views.specs.Held.{Held}
 use Rattle.core_views.specs.Slots.{has_host_page}
@@ -137,7 +138,19 @@ begin_needs begins.SetEnd h page R same K = (
 begin_needs begins.SetCount h page R same K = one_more page h.topics same K.0 K.1 K.2 K.3
 begin_needs (begins.Walk true) h page R same K = (K.1 refl).1
 begin_needs begins.Zap h page R same K =
-    (K.0.sweeping.with_lock.alone.alone, K.0.sweeping.with_lock.alone.outside, K.2.saw, K.2.leaf)
+    let first : h.topics.invalidations.own.start ≡ gfn_behind page h.topics.search.slot =
+    ap (λ (o : Invalidated). o.start) K.0.found ∙ ap (λ (b : Bool). if b then gfn_behind page h.topics.search.slot else 0) K.1 in
+    let behind : h.topics.invalidations.own.end ≡ gfn_behind page h.topics.search.slot + 1 =
+    ap (λ (o : Invalidated). o.end) K.0.found ∙ ap (λ (b : Bool). if b then gfn_behind page h.topics.search.slot + 1 else 0) K.1 in
+    record {
+      alone = K.0.sweeping.with_lock.alone.alone;
+      outside = K.0.sweeping.with_lock.alone.outside;
+      opened = K.0.sweeping.with_lock.is;
+      from = omega (arith, first);
+      to = omega (arith, behind);
+      saw = K.2.saw;
+      leaf = K.2.leaf;
+    }
 begin_needs begins.Ask h page R same K =
     record { low = K.2; next = refl; alone = K.0.alone.alone; outside = K.0.alone.outside; opened = K.0.is; swept = K.4 }
 begin_needs begins.Await h page R same K = (let asked = K.2 in let lt = K.3 in omega (arith, asked, lt), refl, K.0.alone.outside)

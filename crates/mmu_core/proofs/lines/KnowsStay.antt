@@ -1,7 +1,7 @@
 -- What a line knows at its place holds where there merely is a world that shows it: each part of it has at most one proof, or speaks of
 -- what the topics name, or can be decided. So every reached hand knows what the place of its next step asks.
 use Rattle.std.proofs.Common.{◌≡◌, ◌≢◌, ◌⊎◌, inl, inr, ⊎_elim, ◌<◌, ◌≤◌, ℕ, length, refl, sym, subst, ap, ◌∙◌}
-use Rattle.std.specs.Prelude.{Bool}
+use Rattle.std.specs.Prelude.{Bool, true, false, Option, Some, None}
 use Rattle.std.proofs.Math.Logic.{∥∥₁_elim, ∥∥₁_map}
 use Rattle.std.proofs.Props.{props}
 use Rattle.std.proofs.lemmas.Bool.{cases_lt}
@@ -27,16 +27,20 @@ use Rattle.core_views.specs.declared.topics.Topics.{Topics}
 use Rattle.core_views.specs.declared.trace.Command.{Command}
 use Rattle.core_views.specs.declared.trace.Command.TheVariants.{Access}
 use Rattle.core_views.specs.Held.{Held}
-use Rattle.core_views.specs.Slots.{is_write}
+use Rattle.core_views.specs.Slots.{contains, is_write}
 use Rattle.spte_words.specs.declared.spte_kind.SpteKind.{SpteKind}
 use Rattle.spte_words.specs.declared.spte_kind.SpteKind.TheVariants as entry_kind
 use Rattle.spte_words.specs.Entries.{kind_of}
 use Rattle.spte_words.specs.HostWords.{host_allows_write}
-use Rattle.mmu_core.specs.lines.FaultKnows.{CheckKnows, EndKnows, Entering, FaultKnows, FoundNoPage, HasCause, HostForbids, IsInTheWay, LookedFor}
-use Rattle.mmu_core.specs.lines.FaultKnows.{Sharing, IsRetry}
+use Rattle.mmu_core.specs.lines.FaultKnows.{CheckKnows, EndKnows, Entering, FaultKnows, FoundNoPage, HasCause, HostForbids, IsInTheWay}
+use Rattle.mmu_core.specs.lines.FaultKnows.{IsHostWordMoved, LookedFor, Sharing, IsRetry}
+use Rattle.mmu_core.specs.lines.FaultSteps.{host_word_at}
 use Rattle.mmu_core.specs.lines.AccessKnows.{AccessKnows}
 use Rattle.mmu_core.specs.lines.Forms.{KnowsPart}
 use Rattle.part_steps.specs.PartHoldings.{LookedUp}
+use Rattle.part_steps.specs.PartTasks.{word_looked}
+use Rattle.part_steps.specs.SlotWords.{page_of}
+use Rattle.part_steps.proofs.EntryTopics.{looked_at}
 use Rattle.mmu_core.specs.machine.Steps.{line_at, place_at}
 use Rattle.mmu_core.specs.machine.View.{view}
 use Rattle.mmu_core.specs.machine.Worlds.{HandReached}
@@ -65,11 +69,12 @@ is_frozen _ = inr (λ e. absurd (cc e))
 same_word : (gfn : ℕ) (t : Topics) (a b : LookedUp gfn t) → a.word ≡ b.word
 same_word gfn t a b = ap (λ (look : HostLook). look.word) (same_look (sym a.host ∙ b.host))
 
-looked_for_stays : (gfn : ℕ) (write : Bool) (t : Topics) → ∥ LookedFor gfn write t ∥₁ → LookedFor gfn write t
-looked_for_stays gfn write t x =
+looked_for_stays : (present : Bool) (gfn : ℕ) (write : Bool) (t : Topics) → ∥ LookedFor present gfn write t ∥₁ → LookedFor present gfn write t
+looked_for_stays present gfn write t x =
     let look = looked_stays gfn t (∥∥₁_map x (λ L. L.looked_up)) in
     record {
       looked_up = look;
+      presence = ∥∥₁_elim x (hlevel props) (λ L. L.presence);
       allowed =
           ∥∥₁_elim x (hlevel props)
           (λ L. λ writes. let may = L.allowed writes in (may.0, ap host_allows_write (same_word gfn t look L.looked_up) ∙ may.1));
@@ -80,7 +85,7 @@ sharing_stays : (gfn : ℕ) (write : Bool) (t : Topics) → ∥ Sharing gfn writ
 sharing_stays gfn write t x = record {
   section = ∥∥₁_elim x (hlevel props) (λ S. S.section);
   shares = ∥∥₁_elim x (hlevel props) (λ S. S.shares);
-  looked = looked_for_stays gfn write t (∥∥₁_map x (λ S. S.looked));
+  looked = looked_for_stays true gfn write t (∥∥₁_map x (λ S. S.looked));
 }
 
 entering_stays : (gfn : ℕ) (write : Bool) (t : Topics) → ∥ Entering gfn write t ∥₁ → Entering gfn write t
@@ -138,8 +143,51 @@ way_stays word read seen z gfn walk x = record {
     why (inl same) y = either_stays (inr (λ differs. differs same)) (either_stays (is_frozen (kind_of walk.level seen)) (prop_stays (hlevel props))) y
     why (inr differs) y = inl differs
 
+-- Whether the page behind the guest frame was looked up, and its word is another one now.
+looked_or_not : (gfn : ℕ) (t : Topics) → LookedUp gfn t ⊎ (LookedUp gfn t → ⊥)
+looked_or_not gfn t = by t.search.whole (contains gfn t.search.slot) t.host refl refl refl
+  where
+    of_page : (look : HostLook) → t.search.whole ≡ true → contains gfn t.search.slot ≡ true → t.host ≡ Some look
+        → (look.page ≡ page_of t.search.slot gfn) ⊎ (look.page ≢ page_of t.search.slot gfn) → LookedUp gfn t ⊎ (LookedUp gfn t → ⊥)
+    of_page look whole holds is (inl at) =
+        let L = looked_at t.host look (page_of t.search.slot gfn) is at in
+        inl (record { found = record { whole = whole; holds = holds }; word = L.0; host = L.1 })
+    of_page look whole holds is (inr apart) = inr (λ L. apart (ap (λ (l : HostLook). l.page) (same_look (sym is ∙ L.host))))
+
+    by : (whole holds : Bool) (o : Option HostLook) → t.search.whole ≡ whole → contains gfn t.search.slot ≡ holds → t.host ≡ o
+        → LookedUp gfn t ⊎ (LookedUp gfn t → ⊥)
+    by true true (Some look) w c is = of_page look w c is (same_or look.page (page_of t.search.slot gfn))
+    by true true None w c is = inr (λ L. let e = L.host in cc (e, is))
+    by true false o w c is = inr (λ L. let e = L.found.holds in cc (e, c))
+    by false holds o w c is = inr (λ L. let e = L.found.whole in cc (e, w))
+
+moved_or_not : (word read seen : ℕ) (z : Sizes) (gfn : ℕ) (t : Topics)
+    → IsHostWordMoved word read seen z gfn t ⊎ (IsHostWordMoved word read seen z gfn t → ⊥)
+moved_or_not word read seen z gfn t =
+    by (looked_or_not gfn t) (both_or (same_or word (host_word_at z t.host)) (same_or (word_looked t.host) seen)) (same_or read seen)
+  where
+    Words : Type 0
+    Words = (word ≡ host_word_at z t.host) × (word_looked t.host ≡ seen)
+
+    by : LookedUp gfn t ⊎ (LookedUp gfn t → ⊥) → Words ⊎ (Words → ⊥) → (read ≡ seen) ⊎ (read ≢ seen)
+        → IsHostWordMoved word read seen z gfn t ⊎ (IsHostWordMoved word read seen z gfn t → ⊥)
+    by (inl look) (inl w) (inr differs) = inl (record { looked_up = look; is_word = w.0; holds = w.1; why = differs })
+    by (inr never) w d = inr (λ M. never M.looked_up)
+    by (inl look) (inr never) d = inr (λ M. never (M.is_word, M.holds))
+    by (inl look) (inl w) (inl same) = inr (λ M. M.why same)
+
 cause_stays : (cause : Cause) (z : Sizes) (gfn : ℕ) (t : Topics) → ∥ HasCause cause z gfn t ∥₁ → HasCause cause z gfn t
-cause_stays (Entry word read seen) z gfn t x = way_stays word read seen z gfn t.walk x
+cause_stays (Entry word read seen) z gfn t x = by (moved_or_not word read seen z gfn t)
+  where
+    Way : Type 0
+    Way = IsInTheWay word read seen z gfn t.walk
+
+    Moves : Type 0
+    Moves = IsHostWordMoved word read seen z gfn t
+
+    by : Moves ⊎ (Moves → ⊥) → Way ⊎ Moves
+    by (inl moves) = inr moves
+    by (inr never) = inl (way_stays word read seen z gfn t.walk (∥∥₁_map x (⊎_elim (λ way. way) (λ moves. absurd (never moves)))))
 cause_stays _ z gfn t x = prop_stays (hlevel props) x
 
 end_stays : (e : FaultEnd) (z : Sizes) (gfn : ℕ) (write : Bool) (t : Topics) → ∥ EndKnows e z gfn write t ∥₁ → EndKnows e z gfn write t
@@ -154,8 +202,9 @@ retry_stays _ x = prop_stays (hlevel props) x
 
 -- each place of a fault, of an access, and of a line
 fault_stays : (p : FaultPlace) (z : Sizes) (gfn : ℕ) (write : Bool) (t : Topics) → ∥ FaultKnows p z gfn write t ∥₁ → FaultKnows p z gfn write t
+fault_stays fault.Bring z gfn write t x = (∥∥₁_elim x (hlevel props) (λ K. K.0), looked_for_stays false gfn write t (∥∥₁_map x (λ K. K.1)))
 fault_stays fault.Share z gfn write t x =
-    (∥∥₁_elim x (hlevel props) (λ K. K.0), ∥∥₁_elim x (hlevel props) (λ K. K.1), looked_for_stays gfn write t (∥∥₁_map x (λ K. K.2)))
+    (∥∥₁_elim x (hlevel props) (λ K. K.0), ∥∥₁_elim x (hlevel props) (λ K. K.1), looked_for_stays true gfn write t (∥∥₁_map x (λ K. K.2)))
 fault_stays (fault.Check at) z gfn write t x =
     (sharing_stays gfn write t (∥∥₁_map x (λ K. K.0)), ∥∥₁_elim x (hlevel props) (λ K. K.1), check_stays at gfn t.invalidations (∥∥₁_map x (λ K. K.2)))
 fault_stays (fault.Walk rooted) z gfn write t x = entering_two gfn write t x (hlevel props) (hlevel props)

@@ -1,12 +1,13 @@
--- After each step of its look-up and of its check under the lock a fault knows what its next place asks.
+-- After each step of its look-up, of its check under the lock, and after it gives the lock back a fault knows what its next place asks.
 use Rattle.std.proofs.Common.{◌≡◌, ◌⊎◌, inl, inr, ◌+◌, ◌<◌, ◌≤◌, ℕ, refl, sym, subst, ap, ◌∙◌, arith}
 use Rattle.std.specs.Prelude.{Bool, true, false, ◌==◌, ◌&&◌, nat_le, nat_lt, not, if◌then◌else◌, Option, Some, None, is_some}
 use Rattle.std.proofs.lemmas.Bool.Decides.{nat_tests}
-use Rattle.core_views.specs.declared.place.Cause.TheVariants.{Open, Moved}
+use Rattle.core_views.specs.declared.place.Cause.TheVariants.{Open, Moved, Entry}
 use Rattle.core_views.specs.declared.place.CheckStage.{CheckStage}
 use Rattle.core_views.specs.declared.place.CheckStage.TheVariants as stage
+use Rattle.core_views.specs.declared.place.FaultEnd.{FaultEnd}
 use Rattle.core_views.specs.declared.place.FaultEnd.TheVariants.{Mmio, HostFault, Retry}
-use Rattle.core_views.specs.declared.place.FaultPlace.TheVariants.{Find, Host, Share, Check, Walk, Unshare, End}
+use Rattle.core_views.specs.declared.place.FaultPlace.TheVariants.{Find, Host, Bring, Share, Check, Walk, Unshare, End}
 use Rattle.core_views.specs.declared.place.SlotField.{SlotField}
 use Rattle.core_views.specs.declared.place.SlotField.TheVariants as field
 use Rattle.core_views.specs.declared.sizes.Sizes.{Sizes}
@@ -14,25 +15,28 @@ use Rattle.core_views.specs.declared.topics.Checked.{Checked}
 use Rattle.core_views.specs.declared.topics.Checked.TheVariants as checked
 use Rattle.core_views.specs.declared.topics.Hold.{Hold}
 use Rattle.core_views.specs.declared.topics.Hold.TheVariants.{Loose}
+use Rattle.core_views.specs.declared.topics.HostLook.{HostLook}
 use Rattle.core_views.specs.declared.topics.Invalidations.{Invalidations}
 use Rattle.core_views.specs.declared.topics.Stay.{Stay}
 use Rattle.core_views.specs.declared.topics.Stay.TheVariants.{Section}
 use Rattle.core_views.specs.declared.topics.Topics.{Topics}
 use Rattle.core_views.specs.Slots.{contains}
-use Rattle.spte_words.specs.HostWords.{host_allows_write}
+use Rattle.spte_words.specs.HostWords.{host_allows_write, host_frame, host_level, host_present, with_presence}
+use Rattle.spte_words.proofs.ReadsHost.{host_is_present, host_is_writable}
 use Rattle.part_steps.specs.declared.part_step.PartStep.{PartStep}
-use Rattle.mmu_core.specs.lines.FaultKnows.{CheckKnows, FaultKnows, InSection, LookedFor, Sharing, WithoutLock, is_trying}
-use Rattle.mmu_core.specs.lines.FaultSteps.{check_next, check_part, find_next, snapshot_taken, after_share}
+use Rattle.mmu_core.specs.lines.FaultKnows.{CheckKnows, EndKnows, FaultKnows, InSection, LookedFor, Sharing, WithoutLock, is_trying}
+use Rattle.mmu_core.specs.lines.FaultSteps.{check_next, check_part, find_next, host_word_at, snapshot_taken, after_share}
 use Rattle.mmu_core.specs.declared.share.ShareNext.{ShareNext}
-use Rattle.part_steps.specs.PartHoldings.{FoundSlot, HoldsSet}
+use Rattle.part_steps.specs.PartHoldings.{FoundSlot, HoldsSet, LookedUp}
+use Rattle.part_steps.specs.PartTasks.{page_looked, word_looked}
 use Rattle.part_steps.specs.PartTopics.{part_topics, sequenced}
 use Rattle.part_steps.specs.SlotWords.{page_of}
-use Rattle.part_steps.specs.StayTopics.{is_loose, is_outside, is_section, kept_search, kept_walk, has_lock}
+use Rattle.part_steps.specs.StayTopics.{is_loose, is_outside, is_section, kept_search, kept_walk, has_lock, let_go}
 use Rattle.part_steps.specs.PageTopics.{searched, searched_at}
 use Rattle.part_steps.specs.ControlTopics.{at_set, count_checked, range_checked, seq_checked, start_checked}
 use Rattle.mmu_core.proofs.lines.ShareMade.{ShareMade}
 use Rattle.mmu_core.proofs.lines.ShareMade as share
-use Rattle.mmu_core.proofs.lines.FaultSame.{both, is_not, not_not, not_then, over_it, same_looked, same_sharing, same_without}
+use Rattle.mmu_core.proofs.lines.FaultSame.{both, ends_same, is_not, not_not, not_then, over_it, same_looked, same_sharing, same_without}
 
 -- the section, and the snapshot
 without_lock : (t : Topics) (v : ℕ) → InSection t → t.hold ≡ Loose → WithoutLock (sequenced true t v)
@@ -80,10 +84,21 @@ slot_known z gfn write true t v is low W set = find_known t.search.next z gfn wr
 slot_known z gfn write false t v is low W set = absurd (cc is)
 
 -- the host word
-pub host_known : (b : Bool) (z : Sizes) (gfn : ℕ) (write : Bool) (t : Topics) (v : ℕ) → (write && not (host_allows_write v)) ≡ b → WithoutLock t
-    → FoundSlot gfn t → (write && t.search.slot.read_only) ≡ false
-    → FaultKnows (if b then End HostFault else Share) z gfn write (record t { host = Some (record { page = page_of t.search.slot gfn; word = v }) })
-host_known true z gfn write t v is W F may =
+looked_for : (present : Bool) (gfn : ℕ) (write : Bool) (t : Topics) (v : ℕ) → (write && not (host_allows_write v)) ≡ false → host_present v ≡ present
+    → WithoutLock t → FoundSlot gfn t → (write && t.search.slot.read_only) ≡ false
+    → LookedFor present gfn write (record t { host = Some (record { page = page_of t.search.slot gfn; word = v }) })
+looked_for present gfn write t v is there W F may = record {
+  looked_up = record { found = record { whole = F.whole; holds = F.holds }; word = v; host = refl };
+  presence = there;
+  allowed = λ w. (not_then write t.search.slot.read_only may w, not_not (host_allows_write v) (not_then write (not (host_allows_write v)) is w));
+  snapshot = W.snapshot;
+}
+
+pub host_known : (b present : Bool) (z : Sizes) (gfn : ℕ) (write : Bool) (t : Topics) (v : ℕ) → (write && not (host_allows_write v)) ≡ b
+    → host_present v ≡ present → WithoutLock t → FoundSlot gfn t → (write && t.search.slot.read_only) ≡ false
+    → FaultKnows (if b then End HostFault else if present then Share else Bring) z gfn write
+    (record t { host = Some (record { page = page_of t.search.slot gfn; word = v }) })
+host_known true present z gfn write t v is there W F may =
     let D = both write (not (host_allows_write v)) is in (
       record { section = W.inside.section; owns_none = W.inside.owns_none },
       W.loose,
@@ -93,14 +108,46 @@ host_known true z gfn write t v is W F may =
         forbids = is_not (host_allows_write v) D.1;
       },
     )
-host_known false z gfn write t v is W F may = (
+host_known false true z gfn write t v is there W F may = (
   record { section = W.inside.section; owns_none = W.inside.owns_none },
   ap (λ (x : Hold). is_trying x) W.loose,
-  record {
-    looked_up = record { found = record { whole = F.whole; holds = F.holds }; word = v; host = refl };
-    allowed = λ w. (not_then write t.search.slot.read_only may w, not_not (host_allows_write v) (not_then write (not (host_allows_write v)) is w));
-    snapshot = W.snapshot;
-  },
+  looked_for true gfn write t v is there W F may,
+)
+host_known false false z gfn write t v is there W F may = (same_without t _ refl refl refl refl W, looked_for false gfn write t v is there W F may)
+
+-- the page that was absent: the word with it present allows what it did
+abbrev brought : (gfn : ℕ) (t : Topics) (v : ℕ) → LookedUp gfn t → LookedUp gfn (record t { host = Some (record { page = page_looked t.host; word = v }) })
+brought gfn t v L = record {
+  found = record { whole = L.found.whole; holds = L.found.holds };
+  word = v;
+  host = ap (λ (x : Option HostLook). Some (record { page = page_looked x; word = v })) L.host;
+}
+
+pub bring_known : (b : Bool) (z : Sizes) (gfn : ℕ) (write : Bool) (t : Topics) (v : ℕ) → (v == word_looked t.host) ≡ b → WithoutLock t
+    → LookedFor false gfn write t
+    → FaultKnows (if b then Share else End (Retry (Entry (host_word_at z t.host) (word_looked t.host) v))) z gfn write
+    (record t { host = Some (record { page = page_looked t.host; word = if b then with_presence true (word_looked t.host) else v }) })
+bring_known true z gfn write t v is W L =
+    let w : ℕ = word_looked t.host in (
+      record { section = W.inside.section; owns_none = W.inside.owns_none },
+      ap (λ (x : Hold). is_trying x) W.loose,
+      record {
+        looked_up = brought gfn t (with_presence true w) L.looked_up;
+        presence = host_is_present (host_frame w) true (host_allows_write w) (host_level w);
+        allowed =
+            λ writes.
+            let may = L.allowed writes in (
+              may.0,
+              host_is_writable (host_frame w) true (host_allows_write w) (host_level w)
+                  ∙ (ap (λ (x : Option HostLook). host_allows_write (word_looked x)) L.looked_up.host ∙ may.1),
+            );
+        snapshot = W.snapshot;
+      },
+    )
+bring_known false z gfn write t v is W L = (
+  record { section = W.inside.section; owns_none = W.inside.owns_none },
+  W.loose,
+  inr (record { looked_up = brought gfn t v L.looked_up; is_word = refl; holds = refl; why = grind (arith, nat_tests) }),
 )
 
 -- the lock
@@ -111,13 +158,13 @@ pub kept_table : (t : Topics) → t.stay ≡ Section → kept_walk (not (is_outs
 kept_table t section = ap (λ (s : Stay). kept_walk (not (is_outside s)) t.walk) section
 
 pub share_known : (z : Sizes) (gfn : ℕ) (write : Bool) (t : Topics) (v : ℕ) (step : PartStep) (next : ShareNext) (u : Topics)
-    → ShareMade t v step next u → InSection t → LookedFor gfn write t → FaultKnows (after_share next) z gfn write u
+    → ShareMade t v step next u → InSection t → LookedFor true gfn write t → FaultKnows (after_share next) z gfn write u
 share_known z gfn write t v _ _ _ (share.Got loose is) I L =
-    (record { section = I.section; shares = refl; looked = same_looked gfn write t _ refl refl refl L }, I.owns_none, tt)
+    (record { section = I.section; shares = refl; looked = same_looked true gfn write t _ refl refl refl L }, I.owns_none, tt)
 share_known z gfn write t v _ _ _ (share.SawWriter loose is) I L =
-    (record { section = I.section; owns_none = I.owns_none }, refl, same_looked gfn write t _ refl refl refl L)
+    (record { section = I.section; owns_none = I.owns_none }, refl, same_looked true gfn write t _ refl refl refl L)
 share_known z gfn write t v _ _ _ (share.TakesBack word is) I L =
-    (record { section = I.section; owns_none = I.owns_none }, refl, same_looked gfn write t _ (kept t I.section) refl refl L)
+    (record { section = I.section; owns_none = I.owns_none }, refl, same_looked true gfn write t _ (kept t I.section) refl refl L)
 
 -- the check
 count_known : (b : Bool) (z : Sizes) (gfn : ℕ) (write : Bool) (t : Topics) (v : ℕ) → (v == 0) ≡ b → Sharing gfn write t → t.owned ≡ None
@@ -182,3 +229,9 @@ check_known stage.End z gfn write t v S none K = range_known (nat_le t.invalidat
 check_known stage.Seq z gfn write t v S none K =
     subst (λ (x : Hold). FaultKnows (check_next stage.Seq gfn t v) z gfn write (sequenced (is_loose x) t v)) (sym S.shares)
     (seq_by (v == snapshot_taken t.invalidations.snapshot) z gfn write t v refl S none K)
+
+-- the lock given back, and the section's end
+pub unshare_known : (e : FaultEnd) (z : Sizes) (gfn : ℕ) (write : Bool) (t : Topics) → InSection t → EndKnows e z gfn write t
+    → FaultKnows (End e) z gfn write (let_go t)
+unshare_known e z gfn write t I K =
+    (record { section = I.section; owns_none = I.owns_none }, refl, ends_same e z gfn write t _ (kept_table t I.section) (kept t I.section) refl refl refl K)

@@ -38,7 +38,7 @@ use Rattle.mmu_core.specs.machine.Steps.{standing}
 use Rattle.mmu_core.specs.machine.Sums.{one_if}
 use Rattle.mmu_core.specs.machine.View.{View}
 use Rattle.mmu_core.proofs.lines.AccessParts.{AreSmall}
-use Rattle.mmu_core.proofs.lines.ClaimMade.{claim_untold}
+use Rattle.mmu_core.proofs.lines.ClaimMade.{claim_is}
 use Rattle.mmu_core.proofs.lines.EitherPlace.{either_place}
 use Rattle.mmu_core.proofs.lines.LinesKept.{answers_length, answers_more}
 use Rattle.mmu_core.proofs.machine.PartStepping.{is_told}
@@ -67,7 +67,8 @@ access_raises p gfn t = by (access_part p gfn t) (λ step is. access_untold p gf
     by (Some step) untold = untold_rises step (untold step refl)
 
 change_rises : (p : SlotChangePlace) (h : Held) (command : Command) → rises (slot_change_part p h command) ≡ 0
-change_rises (change.Claim begun) h command = untold_rises (slot_change_part (change.Claim begun) h command) (claim_untold begun h.topics.claim)
+change_rises (change.Claim begun) h command =
+    untold_rises (slot_change_part (change.Claim begun) h command) (claim_is (λ s. is_told s ≡ false) begun h.topics.claim refl (λ word. refl))
 change_rises (change.Refuse refusal) h command = refl
 change_rises _ h command = refl
 

@@ -21,7 +21,6 @@ use Rattle.mmu_core.specs.declared.share.ShareNext.TheVariants as shares
 use Rattle.mmu_core.specs.lines.PartWaits.{is_owing}
 use Rattle.mmu_core.specs.lines.ShareSteps.{is_trying, share_left, share_next, share_part}
 use Rattle.mmu_core.specs.machine.View.{answer_in}
-use Rattle.mmu_core.proofs.machine.PartStepping.{is_told}
 
 pub data ShareMade (t : Topics) (v : ℕ) : PartStep → ShareNext → Topics → Type 0 where
   Got : t.hold ≡ Loose → has_writer v ≡ false → ShareMade t v part.Share shares.Shares (record t { hold = Shared; invalidations = unchecked t.invalidations })
@@ -49,10 +48,10 @@ share_needs Loose h is try_ = is
 share_needs (Owing word) h is try_ = ap (λ (x : Hold). counts x) is
 share_needs _ h is try_ = absurd (cc try_)
 
--- It publishes nothing, and is no step of which a line says more than what it needs.
-pub share_untold : (k : Hold) → is_told (share_part k) ≡ false
-share_untold (Owing word) = refl
-share_untold _ = refl
+-- It is one of two steps.
+pub share_is : (IsSo : PartStep → Type 0) (k : Hold) → IsSo part.Share → IsSo part.Unshare → IsSo (share_part k)
+share_is IsSo (Owing word) shares gives = gives
+share_is IsSo _ shares gives = shares
 
 -- the most steps that are left of it after one
 abbrev pub share_left_after : ShareNext → Hold → ℕ

@@ -46,6 +46,7 @@ is_publish _ = false
 
 -- The step changes a host word.
 abbrev pub changes_word : PartStep → Bool
+changes_word part.Bring = true
 changes_word (part.Change new_) = true
 changes_word _ = false
 
@@ -55,10 +56,17 @@ idle_never part.Publish free = absurd (cc free)
 idle_never _ free = refl
 
 pub idle_quiet : (step : PartStep) → needs_line step ≡ false → changes_word step ≡ false
+idle_quiet part.Bring free = absurd (cc free)
 idle_quiet (part.Change new_) free = absurd (cc free)
 idle_quiet _ free = refl
 
--- It is a step of which a line says more than what it needs, which opens or ends an invalidation of the actor's own, or which changes a host word.
+-- It brings a host page in.
+abbrev pub brings : PartStep → Bool
+brings part.Bring = true
+brings _ = false
+
+-- It is a step of which a line says more than what it needs, which opens or ends an invalidation of the actor's own, or with which its owner changes a
+-- host word.
 abbrev pub is_told : PartStep → Bool
 is_told part.Publish = true
 is_told (part.SetCount count) = true
@@ -70,9 +78,10 @@ pub never_told : (step : PartStep) → is_told step ≡ false → is_publish ste
 never_told part.Publish untold = absurd (cc untold)
 never_told _ untold = refl
 
-pub quiet_told : (step : PartStep) → is_told step ≡ false → changes_word step ≡ false
-quiet_told (part.Change new_) untold = absurd (cc untold)
-quiet_told _ untold = refl
+pub quiet_told : (step : PartStep) → is_told step ≡ false → brings step ≡ false → changes_word step ≡ false
+quiet_told part.Bring untold other = absurd (cc other)
+quiet_told (part.Change new_) untold other = absurd (cc untold)
+quiet_told _ untold other = refl
 
 pub idle_untold : (step : PartStep) → needs_line step ≡ false → is_told step ≡ false
 idle_untold part.Publish free = absurd (cc free)

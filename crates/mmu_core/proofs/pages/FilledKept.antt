@@ -141,7 +141,7 @@ own_filled z v a (part.Leaf gfn) note S I o is =
     still_filled z v a (part.Leaf gfn) note S o (λ e. walks_unowned z v a S.there I S.needs.0.saw.over.there a o S.there owned (sym e)) tt
     (I.filled a o S.there owned)
 own_filled z v a (part.Zap gfn) note S I o is =
-    still_filled z v a (part.Zap gfn) note S o (λ e. walks_unowned z v a S.there I S.needs.2.over.there a o S.there is (sym e)) tt (I.filled a o S.there is)
+    still_filled z v a (part.Zap gfn) note S o (λ e. walks_unowned z v a S.there I S.needs.saw.over.there a o S.there is (sym e)) tt (I.filled a o S.there is)
 own_filled z v a _ note S I o is = I.filled a o S.there is
 
 -- Another owner's page is none that the step stores in.
@@ -150,7 +150,7 @@ pub others_elsewhere : (z : Sizes) (v : View) (a : ℕ) (step : PartStep) → Is
 others_elsewhere z v a (part.Fill value) S I i o lt apart is = λ p mine same. apart (one_owner I.uses i a o p lt S.there is mine same)
 others_elsewhere z v a (part.Link gfn) S I i o lt apart is = λ e. walks_unowned z v a S.there I S.needs.0.saw.over.there i o lt is (sym e)
 others_elsewhere z v a (part.Leaf gfn) S I i o lt apart is = λ e. walks_unowned z v a S.there I S.needs.0.saw.over.there i o lt is (sym e)
-others_elsewhere z v a (part.Zap gfn) S I i o lt apart is = λ e. walks_unowned z v a S.there I S.needs.2.over.there i o lt is (sym e)
+others_elsewhere z v a (part.Zap gfn) S I i o lt apart is = λ e. walks_unowned z v a S.there I S.needs.saw.over.there i o lt is (sym e)
 others_elsewhere z v a _ S I i o lt apart is = tt
 
 -- And its role none.

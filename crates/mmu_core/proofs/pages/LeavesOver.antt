@@ -7,11 +7,12 @@ use Rattle.spte_words.specs.declared.area.Area.TheVariants as area
 use Rattle.spte_words.specs.declared.spte_kind.SpteKind.TheVariants as entry_kind
 use Rattle.spte_words.specs.Areas.{pool_index}
 use Rattle.spte_words.specs.Entries.{kind_of, level_span}
+use Rattle.spte_words.specs.HostWords.{host_present}
 use Rattle.spte_words.proofs.ReadsEntries.{kind_of_absent, kind_of_table}
 use Rattle.spte_words.proofs.Spans.{span_1}
 use Rattle.part_steps.specs.declared.part_step.PartStep.{PartStep}
 use Rattle.part_steps.specs.declared.part_step.PartStep.TheVariants as part
-use Rattle.part_steps.specs.PartTasks.{leaf_written}
+use Rattle.part_steps.specs.PartTasks.{leaf_written, word_looked}
 use Rattle.part_steps.specs.SlotWords.{leaf_of, page_of}
 use Rattle.mmu_core.specs.invariant.AllOver.{AllOver, LeafIsFor}
 use Rattle.mmu_core.specs.invariant.CachedPart.{IsLeafFor}
@@ -25,12 +26,12 @@ use Rattle.mmu_core.proofs.machine.PartStepping.{IsPart, changes_word}
 use Rattle.mmu_core.proofs.words.HostStays.{host_stays}
 use Rattle.mmu_core.proofs.words.PartWords.{areas_stay, slots_are, slots_behind}
 use Rattle.mmu_core.proofs.pages.Standing.{spot_after, spot_of, up_after}
-use Rattle.mmu_core.proofs.held.FreshFrames.{behind_it, looked_word}
+use Rattle.mmu_core.proofs.held.FreshFrames.{behind_it, leaf_brought, leaf_same, looked_word}
 use Rattle.mmu_core.proofs.pages.TreeKept.{found_live}
 use Rattle.mmu_core.proofs.pages.TreePlaces.{all_reached}
 use Rattle.part_steps.specs.InvalidationRange.{page_looked}
 use Rattle.mmu_core.specs.invariant.InvalidatedPart.{Gives}
-use Rattle.mmu_core.proofs.machine.Columns.{upd_other, same_or}
+use Rattle.mmu_core.proofs.machine.Columns.{same_or}
 
 -- It says nothing of what is no leaf.
 pub leaves_light : (pool host : ℕ → ℕ) (set : ℕ) → IsLight (LeafIsFor pool host set)
@@ -71,6 +72,7 @@ new_leaf z v a (part.Leaf gfn) S I =
       live = found_live z v a gfn S.there I found.found;
       holds = found.found.holds;
       is = ap (leaf_of t.search.slot) (looked_word z v a gfn S.there I S.needs.0);
+      present = ap host_present (sym (looked_word z v a gfn S.there I S.needs.0)) ∙ S.needs.0.present;
     }
 new_leaf z v a _ S I = tt
 
@@ -126,18 +128,26 @@ changed_leaves z v a new_ note S I table entry gfn R O leaf =
         absurd (I.zapped a S.there S.needs.0.opened asked table entry gfn R O
         ((I.scopes a S.there S.needs.0.opened).covers gfn
         (subst (λ p. Gives (v.words area.Pool) (v.words area.Slots 0) p gfn) (e ∙ sym S.needs.0.invalid) given)) leaf)
-    by L (inr ne) = record {
-      id = L.id;
-      slot = L.slot;
-      live = L.live;
-      holds = L.holds;
-      is = L.is ∙ ap (leaf_of L.slot) (sym (upd_other (v.words area.Host) page (page_of L.slot gfn) _ ne));
-    }
+    by L (inr ne) = leaf_same (v.words area.Pool) (v.words area.Host) (v.words area.Slots 0) page _ gfn word L (λ e. absurd (ne e))
+
+-- Of a page that is brought in there is none either: it wasn't present.
+brought_leaves : (z : Sizes) (v : View) (a note : ℕ) → IsPart z v a part.Bring → (I : TopicsInvariant z v)
+    → AllOver I.up I.spot (v.words area.Pool) (v.words area.Root 0)
+    (LeafIsFor (v.words area.Pool) ((part_stepped a part.Bring note v).words area.Host) (v.words area.Slots 0))
+brought_leaves z v a note S I =
+    over_weaker I.up I.spot (v.words area.Pool) (v.words area.Root 0) (LeafIsFor (v.words area.Pool) (v.words area.Host) (v.words area.Slots 0))
+    (LeafIsFor (v.words area.Pool) ((part_stepped a part.Bring note v).words area.Host) (v.words area.Slots 0))
+    (λ level gfn word so leaf. let is = so leaf in (
+      is.0,
+      leaf_brought (v.words area.Pool) (v.words area.Host) (v.words area.Slots 0)
+          (page_looked (v.hand a).topics.host) (word_looked (v.hand a).topics.host) gfn word S.needs.absent is.1,
+    )) I.leaves
 
 pub leaves_kept : (z : Sizes) (v : View) (a : ℕ) (step : PartStep) (note : ℕ) → IsPart z v a step → (I : TopicsInvariant z v)
     → AllOver (up_after step a (v.hand a).topics v I.up) (spot_after step (v.hand a).topics v I.spot) ((part_stepped a step note v).words area.Pool)
     ((part_stepped a step note v).words area.Root 0)
     (LeafIsFor ((part_stepped a step note v).words area.Pool) ((part_stepped a step note v).words area.Host) ((part_stepped a step note v).words area.Slots 0))
+leaves_kept z v a part.Bring note S I = brought_leaves z v a note S I
 leaves_kept z v a (part.Change new_) note S I = changed_leaves z v a new_ note S I
 leaves_kept z v a step note S I = quiet_leaves z v a step note S I refl
 

@@ -92,7 +92,7 @@ others_apart z v a i step S I lt ne alone from = by step S
     by (part.Fill value) T = λ o is. table_not_owned I.uses I.spot (table_page (v.hand i).topics.walk) _ ((I.held i lt).table from) a o S.there is
     by (part.Link gfn) T = absurd (let lock = ap has_lock T.needs.0.shares in cc (none, lock))
     by (part.Leaf gfn) T = absurd (let lock = ap has_lock T.needs.0.shares in cc (none, lock))
-    by (part.Zap gfn) T = absurd (let lock = ap has_lock T.needs.0 in cc (none, lock))
+    by (part.Zap gfn) T = absurd (let lock = ap has_lock T.needs.alone in cc (none, lock))
     by _ T = tt
 
 pub loaded_kept : (z : Sizes) (v : View) (a : ℕ) (step : PartStep) (note : ℕ) → IsPart z v a step → TopicsInvariant z v

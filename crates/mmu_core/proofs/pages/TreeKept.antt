@@ -182,16 +182,16 @@ module _ (z : Sizes) (v : View) (a gfn note : ℕ) (I : TopicsInvariant z v) whe
       (record { entry = inl absent_is; no_link = by (I.tree.entries (table_page t.walk) (at t.walk.level t.walk.prefix) at_walk index (omega arith)) }) live
     where
       at_walk : stands I.up I.spot (table_page t.walk) ≡ Some (at t.walk.level t.walk.prefix)
-      at_walk = (I.held a S.there).table S.needs.2.over.there
+      at_walk = (I.held a S.there).table S.needs.saw.over.there
 
       still : v.words area.Pool here ≡ t.walk.entry
       still =
-          let seen = S.needs.2.loaded in
+          let seen = S.needs.saw.loaded in
           ap (λ i. v.words area.Pool (pool_index (table_page t.walk) i)) (sym seen)
-          ∙ I.loaded a S.there S.needs.0 S.needs.1 S.needs.2.over.there (omega (arith, seen))
+          ∙ I.loaded a S.there S.needs.alone S.needs.outside S.needs.saw.over.there (omega (arith, seen))
 
       leaf : kind_of t.walk.level (v.words area.Pool here) ≡ entry_kind.Leaf
-      leaf = ap (kind_of t.walk.level) still ∙ S.needs.3
+      leaf = ap (kind_of t.walk.level) still ∙ S.needs.leaf
 
       by : EntryPart I.up (table_page t.walk) (at t.walk.level t.walk.prefix) index (v.words area.Pool here)
           → (t.walk.level ≡ 1) ⊎ (v.words area.Pool here ≡ absent_word)

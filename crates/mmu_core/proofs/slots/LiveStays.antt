@@ -1,6 +1,6 @@
 -- The words of live slots, which no step changes.
 use Rattle.std.proofs.Common.{◌≡◌, ◌+◌, ◌*◌, ◌<◌, ◌≤◌, ℕ, refl, sym, ap, ◌∙◌, arith, false, Bool}
-use Rattle.std.specs.Prelude.{true, Option, Some, None, Bool, false, if◌then◌else◌}
+use Rattle.std.specs.Prelude.{true, Option, Some, None, Bool, false}
 use Rattle.core_views.specs.declared.place.AccessPlace.{AccessPlace}
 use Rattle.core_views.specs.declared.place.AccessPlace.TheVariants as access
 use Rattle.core_views.specs.declared.place.CheckStage.TheVariants as stage
@@ -32,10 +32,11 @@ use Rattle.part_steps.specs.Tasks.{map_of}
 use Rattle.mmu_core.specs.invariant.TopicsInvariant.{TopicsInvariant}
 use Rattle.mmu_core.specs.invariant.TreePart.{IsLiveIn}
 use Rattle.mmu_core.specs.machine.View.{View, part_stepped, stepped, words_after}
-use Rattle.mmu_core.proofs.lines.ClaimMade.{claim_untold}
-use Rattle.mmu_core.proofs.machine.PartStepping.{IsPart, is_publish, is_told, never_told, changes_word, quiet_told}
+use Rattle.mmu_core.proofs.lines.ClaimMade.{claim_is}
+use Rattle.mmu_core.proofs.lines.EitherPlace.{either_place}
+use Rattle.mmu_core.proofs.machine.PartStepping.{IsPart, brings, is_publish, is_told, never_told, changes_word, quiet_told}
 use Rattle.mmu_core.proofs.words.PartWords.{fill_elsewhere}
-use Rattle.mmu_core.proofs.lines.ShareMade.{share_untold}
+use Rattle.mmu_core.proofs.lines.ShareMade.{share_is}
 use Rattle.mmu_core.proofs.words.SlotFields.{is_number, same_slot}
 
 -- Each word of a slot that is live in the slot set of a page stays as it is.
@@ -117,25 +118,30 @@ pub touch_leaves_host : (words : Area → ℕ → ℕ) (op : Op) (index : ℕ) �
 touch_leaves_host words Read index = refl
 touch_leaves_host words _ index = refl
 
+-- A step of an access brings its page in at one place alone.
+abbrev pub is_bring : AccessPlace → Bool
+is_bring (access.Fault fault.Bring) = true
+is_bring _ = false
+
 -- No step of an access is a publication.
+abbrev IsPlain : PartStep → Type 0
+IsPlain step = (is_told step ≡ false) × (brings step ≡ false)
+
+plain_by_fault : (p : FaultPlace) (gfn : ℕ) (t : Topics) → is_bring (access.Fault p) ≡ false → IsPlain (fault_part p gfn t)
+plain_by_fault fault.Bring gfn t other = absurd (cc other)
+plain_by_fault (fault.Find begun) gfn t other = either_place IsPlain begun part.Slot part.Slots (refl, refl) (refl, refl)
+plain_by_fault fault.Share gfn t other = share_is IsPlain t.hold (refl, refl) (refl, refl)
+plain_by_fault (fault.Check stage.Count) gfn t other = (refl, refl)
+plain_by_fault (fault.Check stage.Start) gfn t other = (refl, refl)
+plain_by_fault (fault.Check stage.End) gfn t other = (refl, refl)
+plain_by_fault (fault.Check stage.Seq) gfn t other = (refl, refl)
+plain_by_fault (fault.Walk rooted) gfn t other = either_place IsPlain rooted (part.Walk gfn) part.Root (refl, refl) (refl, refl)
+plain_by_fault (fault.Claim begun) gfn t other = claim_is IsPlain begun t.claim (refl, refl) (λ word. (refl, refl))
+plain_by_fault _ gfn t other = (refl, refl)
+
 untold_by_fault : (p : FaultPlace) (gfn : ℕ) (t : Topics) → is_told (fault_part p gfn t) ≡ false
-untold_by_fault (fault.Find begun) gfn t = by begun
-  where
-    by : (b : Bool) → is_told (if b then part.Slot else part.Slots) ≡ false
-    by true = refl
-    by false = refl
-untold_by_fault fault.Share gfn t = share_untold t.hold
-untold_by_fault (fault.Check stage.Count) gfn t = refl
-untold_by_fault (fault.Check stage.Start) gfn t = refl
-untold_by_fault (fault.Check stage.End) gfn t = refl
-untold_by_fault (fault.Check stage.Seq) gfn t = refl
-untold_by_fault (fault.Walk rooted) gfn t = by rooted
-  where
-    by : (b : Bool) → is_told (if b then part.Walk gfn else part.Root) ≡ false
-    by true = refl
-    by false = refl
-untold_by_fault (fault.Claim begun) gfn t = claim_untold begun t.claim
-untold_by_fault _ gfn t = refl
+untold_by_fault fault.Bring gfn t = refl
+untold_by_fault p gfn t = (plain_by_fault p gfn t refl).0
 
 pub access_untold : (p : AccessPlace) (gfn : ℕ) (t : Topics) (step : PartStep) → access_part p gfn t ≡ Some step → is_told step ≡ false
 access_untold p gfn t step is = by (access_part p gfn t) step is (none p)
@@ -154,6 +160,14 @@ access_untold p gfn t step is = by (access_part p gfn t) step is (none p)
 pub access_never : (p : AccessPlace) (gfn : ℕ) (t : Topics) (step : PartStep) → access_part p gfn t ≡ Some step → is_publish step ≡ false
 access_never p gfn t step is = never_told step (access_untold p gfn t step is)
 
--- Nor does one change a host word.
-pub access_quiet : (p : AccessPlace) (gfn : ℕ) (t : Topics) (step : PartStep) → access_part p gfn t ≡ Some step → changes_word step ≡ false
-access_quiet p gfn t step is = quiet_told step (access_untold p gfn t step is)
+-- Nor does one change a host word, but the one that brings the page in.
+pub access_quiet : (p : AccessPlace) (gfn : ℕ) (t : Topics) (step : PartStep) → access_part p gfn t ≡ Some step → is_bring p ≡ false → changes_word step ≡ false
+access_quiet p gfn t step is other = quiet_told step (access_untold p gfn t step is) (sym (ap some_brings is) ∙ none p other)
+  where
+    some_brings : Option PartStep → Bool
+    some_brings None = false
+    some_brings (Some step) = brings step
+
+    none : (p : AccessPlace) → is_bring p ≡ false → some_brings (access_part p gfn t) ≡ false
+    none (access.Fault p) other = (plain_by_fault p gfn t other).1
+    none _ other = refl

@@ -27,10 +27,10 @@ use Rattle.mmu_core.specs.lines.SlotChangeKnows.{FillsSet, SlotChangeHolds, Reco
 use Rattle.mmu_core.specs.lines.SlotChangeSteps.{slot_change_left, slot_change_first, slot_change_outcome, slot_change_part, slot_change_tells, changed}
 use Rattle.mmu_core.proofs.lines.AccessEnds.{AreFed, exit_fed}
 use Rattle.mmu_core.proofs.lines.AccessLeft.{claim_few}
-use Rattle.mmu_core.proofs.lines.ClaimMade.{claim_free, claim_made, claim_untold}
+use Rattle.mmu_core.proofs.lines.ClaimMade.{claim_free, claim_is, claim_made}
 use Rattle.mmu_core.proofs.lines.EitherPlace.{each_claim}
 use Rattle.mmu_core.proofs.machine.GoesOn.{GoesToNoAccess, GoesUnderWay}
-use Rattle.mmu_core.proofs.machine.PartStepping.{is_publish, is_told, never_told, changes_word, quiet_told}
+use Rattle.mmu_core.proofs.machine.PartStepping.{brings, is_publish, is_told, never_told, changes_word, quiet_told}
 use Rattle.mmu_core.proofs.slots.LiveStays.{OwnedStays}
 
 -- It publishes at one place alone.
@@ -40,14 +40,18 @@ is_publication _ = false
 
 pub change_untold : (p : SlotChangePlace) (h : Held) (command : Command) → is_publication p ≡ false → is_told (slot_change_part p h command) ≡ false
 change_untold Publish h command other = absurd (cc other)
-change_untold (Claim begun) h command other = claim_untold begun h.topics.claim
+change_untold (Claim begun) h command other = claim_is (λ s. is_told s ≡ false) begun h.topics.claim refl (λ word. refl)
 change_untold _ h command other = refl
 
 pub change_never : (p : SlotChangePlace) (h : Held) (command : Command) → is_publication p ≡ false → is_publish (slot_change_part p h command) ≡ false
 change_never p h command other = never_told (slot_change_part p h command) (change_untold p h command other)
 
 pub change_quiet : (p : SlotChangePlace) (h : Held) (command : Command) → is_publication p ≡ false → changes_word (slot_change_part p h command) ≡ false
-change_quiet p h command other = quiet_told (slot_change_part p h command) (change_untold p h command other)
+change_quiet p h command other = quiet_told (slot_change_part p h command) (change_untold p h command other) (brings_none p)
+  where
+    brings_none : (p : SlotChangePlace) → brings (slot_change_part p h command) ≡ false
+    brings_none (Claim begun) = claim_is (λ s. brings s ≡ false) begun h.topics.claim refl (λ word. refl)
+    brings_none _ = refl
 
 -- ---- where it goes on to
 

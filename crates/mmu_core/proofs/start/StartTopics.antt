@@ -27,7 +27,7 @@ use Rattle.mmu_core.specs.machine.Sums.{one_if, sum_below}
 use Rattle.mmu_core.specs.invariant.TopicsInvariant.{TopicsInvariant}
 use Rattle.part_steps.specs.StayTopics.{is_alone}
 use Rattle.mmu_core.specs.invariant.TreePart.{Position, TreePart, stands}
-use Rattle.mmu_core.specs.invariant.TreePart.Use.{OldSet, Owned, Root}
+use Rattle.mmu_core.specs.invariant.TreePart.Use.{OldSet, Owned}
 use Rattle.mmu_core.specs.machine.View.{view, word_in}
 use Rattle.mmu_core.specs.machine.Worlds.{IsStart}
 use Rattle.mmu_core.proofs.start.StartWords.{free_from_2, hand_is, none_behind, pool_word, used_below_2, word_at_start}
@@ -35,9 +35,10 @@ use Rattle.mmu_core.proofs.machine.SumsBelow.{sum_none}
 use Rattle.mmu_core.proofs.pages.PoolPages.{among_tells}
 use Rattle.mmu_core.specs.invariant.InvalidatedPart.{PassedPart}
 use Rattle.mmu_core.specs.invariant.InvalidationsPart.{KnownRangePart}
-use Rattle.mmu_core.specs.invariant.HostWordsPart.{HostWordsPart}
-use Rattle.spte_words.specs.HostWords.{host_word, host_allows_write}
-use Rattle.spte_words.proofs.ReadsHost.{host_is_writable}
+use Rattle.mmu_core.specs.invariant.HostWordsPart.{HostWordsPart, IsHostWord}
+use Rattle.spte_words.specs.HostWords.{host_frame, host_word}
+use Rattle.spte_words.proofs.ReadsHost.{host_has_frame}
+use Rattle.mmu_core.proofs.words.HostStays.{is_word_of}
 use Rattle.core_views.specs.declared.topics.HostLook.{HostLook}
 use Rattle.mmu_core.proofs.start.StartPages.{never, none_under, only_zero, root_only, start_free, start_outside, start_set, start_spot, start_up}
 
@@ -144,9 +145,18 @@ look_first z n seq host topics =
 
 -- Each host word maps its page to its own frame, and allows writes.
 hosts_start : (z : Sizes) (lines : List Line) (w : World Held) → IsStart z lines w → HostWordsPart z (word_in z w area.Host)
-hosts_start z lines w start p lt =
-    let is = word_at_start z w area.Host p (host_word p true true 1) start.words (λ l. refl) (λ e. absurd (let t : nat_lt p z.pages ≡ true = grind
-    (arith, nat_tests) in cc (e, t))) in is ∙ ap (λ (b : Bool). host_word p true b 1) (sym (ap host_allows_write is ∙ host_is_writable p true true 1))
+hosts_start z lines w start = record {
+  words = λ p lt. subst (IsHostWord z.frames) (sym (is p lt)) (is_word_of z.frames p true true (omega (arith, lt, start.sizes.frames.0)));
+  apart = λ p q low too e. sym (own p low) ∙ (e ∙ own q too);
+}
+  where
+    is : (p : ℕ) → p < z.pages → word_in z w area.Host p ≡ host_word p true true 1
+    is p lt =
+        word_at_start z w area.Host p (host_word p true true 1) start.words (λ l. refl)
+        (λ e. absurd (let t : nat_lt p z.pages ≡ true = grind (arith, nat_tests) in cc (e, t)))
+
+    own : (p : ℕ) → p < z.pages → host_frame (word_in z w area.Host p) ≡ p
+    own p lt = ap host_frame (is p lt) ∙ host_has_frame p true true 1 (omega arith)
 
 looks_none : (z : Sizes) (lines : List Line) (w : World Held) (i : ℕ) (look : HostLook) → IsStart z lines w → i < actors_of z
     → (hand_in mmu w i).topics.host ≡ Some look → ⊥

@@ -1,5 +1,5 @@
 -- The frame of a host word, and of the leaf that slots and host give, is one of the machine's.
-use Rattle.std.proofs.Common.{◌≡◌, ◌+◌, ◌<◌, ◌≤◌, ℕ, subst, arith, ap, ◌∙◌}
+use Rattle.std.proofs.Common.{◌≡◌, ◌+◌, ◌<◌, ◌≤◌, ℕ, subst, arith}
 use Rattle.std.specs.Prelude.{true, ◌&&◌, nat_le, nat_lt}
 use Rattle.std.proofs.lemmas.Bool.Decides.{nat_tests}
 use Rattle.core_views.specs.declared.sizes.Sizes.{Sizes}
@@ -8,26 +8,17 @@ use Rattle.core_views.specs.Sizes.{AreSizes}
 use Rattle.spte_words.specs.Entries.{frame_in}
 use Rattle.spte_words.specs.HostWords.{host_allows_write, host_frame}
 use Rattle.spte_words.proofs.ReadsEntries.{leaf_frame}
-use Rattle.spte_words.proofs.ReadsHost.{host_has_frame}
 use Rattle.part_steps.specs.SlotWords.{may_write, page_of}
 use Rattle.mmu_core.specs.invariant.CachedPart.{IsLeafFor}
-use Rattle.mmu_core.specs.invariant.HostWordsPart.{HostWordsPart, IsHostWord}
+use Rattle.mmu_core.specs.invariant.HostWordsPart.{HostWordsPart}
 use Rattle.mmu_core.specs.invariant.SlotSetPart.{SlotSetPart}
-
--- a word of this page
-pub frame_of_word : (page word : ℕ) → IsHostWord page word → host_frame word ≡ page
-frame_of_word page word W = ap host_frame W ∙ host_has_frame page true (host_allows_write word) 1 (omega arith)
-
--- the host word of a page that the machine has
-pub host_at : (z : Sizes) (host : ℕ → ℕ) (p : ℕ) → AreSizes z → HostWordsPart z host → p < z.pages → host_frame (host p) < z.frames
-host_at z host p sizes hosts lt = let is = frame_of_word p (host p) (hosts p lt) in let few = sizes.frames.0 in omega (arith, is, few, lt)
 
 -- The leaf that slots and host give is at a frame of the machine.
 pub leaf_there : (z : Sizes) (set : ℕ) (role pool host : ℕ → ℕ) (gfn leaf : ℕ) → AreSizes z → SlotSetPart z set role pool → HostWordsPart z host
     → IsLeafFor pool host set gfn leaf → frame_in leaf < z.frames
 leaf_there z set role pool host gfn leaf sizes part hosts L =
     let w : ℕ = host (page_of L.slot gfn) in
-    let h : host_frame w < z.frames = host_at z host (page_of L.slot gfn) sizes hosts page in
+    let h : host_frame w < z.frames = (hosts.words (page_of L.slot gfn) page).1 in
     rw (L.is, leaf_frame 1 (host_frame w) (may_write L.slot w) (host_allows_write w) (may_write L.slot w) (omega (arith, h, sizes.frames.1))) h
   where
     bounds : (low high : ℕ) → (nat_le low gfn && nat_lt gfn high) ≡ true → (low ≤ gfn) × (gfn < high)

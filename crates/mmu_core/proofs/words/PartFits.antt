@@ -1,6 +1,6 @@
 -- The word of each step of a part is one of its area, and what it writes has 64 bits.
 use Rattle.std.proofs.Common.{◌≡◌, ◌<◌, ◌≤◌, ◌^◌, ◌%◌, ◌+◌, ◌-◌, ◌*◌, ℕ, refl, sym, subst, ap, arith, Bool}
-use Rattle.std.specs.Prelude.{Bool, true, false, Some, None, is_some, Option, if◌then◌else◌, ◌||◌, ◌==◌}
+use Rattle.std.specs.Prelude.{Bool, true, false, Some, None, is_some, Option, if◌then◌else◌}
 use Rattle.std.proofs.Math.Pow.{pow-lt}
 use Rattle.core_views.specs.declared.place.SlotField.{SlotField}
 use Rattle.core_views.specs.declared.place.SlotField.TheVariants as field
@@ -11,7 +11,7 @@ use Rattle.core_views.specs.Held.{Held}
 use Rattle.core_views.specs.Sizes.{actors_of}
 use Rattle.spte_words.specs.declared.area.Area.TheVariants as area
 use Rattle.spte_words.specs.Areas.{size_of}
-use Rattle.spte_words.specs.HostWords.{host_allows_write, host_frame, host_level, host_present, with_writes}
+use Rattle.spte_words.specs.HostWords.{host_allows_write, host_frame, host_level, host_present, host_word}
 use Rattle.spte_words.proofs.Indices.{pool_within}
 use Rattle.spte_words.proofs.ReadsHost.{host_fits}
 use Rattle.spte_words.proofs.ReadsEntries.{leaf_fits, table_fits}
@@ -20,14 +20,14 @@ use Rattle.part_steps.specs.declared.part_step.PartStep.TheVariants as part
 use Rattle.part_steps.specs.PartBounds.{PartRests}
 use Rattle.part_steps.specs.PartTasks.{IsWithin, all_but, leaf_written, link_written, own_index, page_owned, part_kind, part_task, set_held}
 use Rattle.part_steps.specs.PartTasks.{table_page, word_looked, words_filled, page_left, page_looked}
-use Rattle.part_steps.specs.InvalidationHoldings.{MayChange, MayCount, revises}
+use Rattle.part_steps.specs.InvalidationHoldings.{MayCount, revises}
 use Rattle.part_steps.specs.PartHoldings.{LookedUp, OwnsTable, MayPublish, MayGiveOld}
 use Rattle.part_steps.specs.PartSteps.{PartNeeds}
 use Rattle.part_steps.specs.SlotWords.{field_number, leaf_of, may_write, slot_index}
 use Rattle.part_steps.specs.Tasks.{map_of}
 use Rattle.part_steps.specs.PageTopics.{tried_bit}
 use Rattle.mmu_core.proofs.pages.Owned.{owned_some, some_filled}
-use Rattle.std.proofs.lemmas.Bool.Decides.{nat_tests}
+use Rattle.mmu_core.proofs.words.HostStays.{each_revision}
 
 pub is_number : (f : SlotField) → field_number f ≤ 3
 is_number field.Base = omega arith
@@ -67,8 +67,8 @@ vcpu_within : (index : ℕ) (z : Sizes) → index < z.vcpus → index < actors_o
 vcpu_within index z lt = omega (arith, lt)
 
 -- the host page that was looked up is one of the machine's
-looked_there : (h : Held) → MayChange h → PartRests h → page_looked h.topics.host < h.state.sizes.pages
-looked_there h M R = by h.topics.host refl M.looked
+looked_there : (h : Held) → is_some h.topics.host ≡ true → PartRests h → page_looked h.topics.host < h.state.sizes.pages
+looked_there h looked R = by h.topics.host refl looked
   where
     by : (x : Option HostLook) → h.topics.host ≡ x → is_some x ≡ true → page_looked h.topics.host < h.state.sizes.pages
     by None is some = absurd (cc some)
@@ -93,10 +93,11 @@ part_within_by (part.Host page) h note N R = N.0
 part_within_by (part.Watch index) h note N R = N.0
 part_within_by part.Clear h note N R = left_there h N R
 part_within_by part.GiveOld h note N R = let at = left_there h N R in omega (arith, at)
-part_within_by (part.Zap gfn) h note N R = pool_within (map_of h.state.sizes) (table_page h.topics.walk) _ (R.table N.2.over.there) (omega arith)
+part_within_by (part.Zap gfn) h note N R = pool_within (map_of h.state.sizes) (table_page h.topics.walk) _ (R.table N.saw.over.there) (omega arith)
 part_within_by (part.Ask index) h note N R = vcpu_within index h.state.sizes N.low
 part_within_by (part.Await index) h note N R = vcpu_within index h.state.sizes (let few = R.counters.asked in omega (arith, few, N.0))
-part_within_by (part.Change new_) h note N R = looked_there h N.0 R
+part_within_by part.Bring h note N R = looked_there h N.looked R
+part_within_by (part.Change new_) h note N R = looked_there h N.0.looked R
 part_within_by _ h note N R = omega arith
 
 pub part_within : (step : PartStep) (h : Held) → PartNeeds step h → PartRests h → IsWithin h step
@@ -129,19 +130,14 @@ leaf_small h U R =
 publish_small : (h : Held) → MayPublish h.topics → PartRests h → page_owned h.topics.owned < 2 ^ 64
 publish_small h M R = let page = page_there h (some_filled h.topics.owned 513 M.owns.whole (omega arith)) R in omega (arith, page, R.sizes.pool.1)
 
-word_fits : (word : ℕ) (allowed : Bool) → host_frame word ≤ 2097152 → with_writes allowed word < 2 ^ 64
+word_fits : (word : ℕ) (present allowed : Bool) → host_frame word ≤ 2097152 → host_word (host_frame word) present allowed (host_level word) < 2 ^ 64
 unfolding host_level
-word_fits word allowed few = host_fits (host_frame word) (host_present word) allowed (host_level word) (omega (arith, few)) (omega arith)
+word_fits word present allowed few = host_fits (host_frame word) present allowed (host_level word) (omega (arith, few)) (omega arith)
 
--- The word of a frame of the machine, to which writes are allowed or forbidden, has 64 bits.
+-- The word of a frame of the machine, with other bits, has 64 bits.
 word_small : (word new_ : ℕ) → host_frame word ≤ 2097152 → revises word new_ ≡ true → new_ < 2 ^ 64
 word_small word new_ few is =
-    by (new_ == with_writes true word) (new_ == with_writes false word) (λ e. grind (arith, nat_tests)) (λ e. grind (arith, nat_tests)) is
-  where
-    by : (x y : Bool) → (x ≡ true → new_ ≡ with_writes true word) → (y ≡ true → new_ ≡ with_writes false word) → (x || y) ≡ true → new_ < 2 ^ 64
-    by true y one other is = subst (λ n. n < 2 ^ 64) (sym (one refl)) (word_fits word true few)
-    by false true one other is = subst (λ n. n < 2 ^ 64) (sym (other refl)) (word_fits word false few)
-    by false false one other is = absurd (cc is)
+    each_revision word new_ (λ n. n < 2 ^ 64) (λ allowed. word_fits word (host_present word) allowed few) (word_fits word false (host_allows_write word) few) is
 
 -- The count that is stored is one more or one less than one that was loaded.
 count_small : (h : Held) (count : ℕ) → MayCount count h.topics → PartRests h → count < 2 ^ 64
@@ -158,12 +154,12 @@ count_small h count M R = rw M.is (by h.topics.invalidations.opened)
     by false = omega (arith, few)
 
 -- The frame of a host word that was looked up is one of the machine's, so the word that is put in its place has 64 bits.
-changed_small : (h : Held) (new_ : ℕ) → MayChange h → revises (word_looked h.topics.host) new_ ≡ true → PartRests h → new_ < 2 ^ 64
-changed_small h new_ M is R = by h.topics.host refl M.looked is
+looked_few : (h : Held) → is_some h.topics.host ≡ true → PartRests h → host_frame (word_looked h.topics.host) ≤ 2097152
+looked_few h looked R = by h.topics.host refl looked
   where
-    by : (x : Option HostLook) → h.topics.host ≡ x → is_some x ≡ true → revises (word_looked x) new_ ≡ true → new_ < 2 ^ 64
-    by None at some is = absurd (cc some)
-    by (Some look) at some is = word_small look.word new_ (omega (arith, (R.looked look at).1, R.sizes.frames.1)) is
+    by : (x : Option HostLook) → h.topics.host ≡ x → is_some x ≡ true → host_frame (word_looked x) ≤ 2097152
+    by None at some = absurd (cc some)
+    by (Some look) at some = omega (arith, (R.looked look at).1, R.sizes.frames.1)
 
 pub part_small : (step : PartStep) (h : Held) (note : ℕ) → PartNeeds step h → PartRests h → (part_kind h step note).new < 2 ^ 64
 part_small part.Leave h note N R = not_small 3
@@ -181,5 +177,7 @@ part_small (part.SetStart gfn) h note N R = N.1
 part_small (part.SetEnd gfn) h note N R = N.1
 part_small (part.SetCount count) h note N R = count_small h count N R
 part_small (part.SetSeq seq) h note N R = let is = N.1 in let few = R.counters.seq in omega (arith, is, few)
-part_small (part.Change new_) h note N R = changed_small h new_ N.0 N.1 R
+part_small part.Bring h note N R =
+    word_fits (word_looked h.topics.host) true (host_allows_write (word_looked h.topics.host)) (looked_few h N.looked R)
+part_small (part.Change new_) h note N R = word_small (word_looked h.topics.host) new_ (looked_few h N.0.looked R) N.1
 part_small _ h note N R = omega arith

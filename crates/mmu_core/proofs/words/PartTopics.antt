@@ -16,7 +16,7 @@ use Rattle.part_steps.specs.declared.part_step.PartStep.{PartStep}
 use Rattle.part_steps.specs.declared.part_step.PartStep.TheVariants as part
 use Rattle.part_steps.specs.PartTasks.{entry_index, entry_task, leaf_written, link_written, part_task, table_page, word_looked, page_looked}
 use Rattle.part_steps.specs.PartSteps.{PartNeeds}
-use Rattle.part_steps.specs.PartTopics.{exchanged, part_topics}
+use Rattle.part_steps.specs.PartTopics.{exchanged, part_topics, exchanged_host}
 use Rattle.mmu_core.specs.machine.Steps.{idle_after}
 use Rattle.part_steps.specs.Tasks.{kind_of_task, map_of}
 use Rattle.part_steps.specs.StayTopics.{is_loose, kept_search, may_search, may_walk, has_lock}
@@ -28,6 +28,7 @@ use Rattle.part_steps.specs.ControlBits.{has_to_flush}
 use Rattle.part_steps.specs.TopicSteps.{host_begins, index_in_page, topics_after}
 use Rattle.mmu_core.specs.machine.View.{View, answer_in, part_stepped, upd, words_after}
 use Rattle.mmu_core.proofs.machine.PartStepping.{IsPart}
+use Rattle.spte_words.specs.HostWords.{with_presence}
 
 -- the word of the map that the step loads, if it does, is there; and the table whose entry it loads, exchanges or zaps
 abbrev pub IsThere : Sizes → Topics → PartStep → Type 0
@@ -171,7 +172,15 @@ zap_topics z own gfn t note v from =
     }) (in_table t.walk from)
     ∙ ap (λ i. record t { walk = gone_down None t.walk i 0 }) (in_its_page z (table_page t.walk) (entry_index gfn t.walk.level) (omega arith))
 
--- The topics behind a step are those written out above.
+host_topics : (z : Sizes) (new_ : ℕ) (t : Topics) (v : ℕ)
+    → record t {
+      host = Some (record { page = place (map_of z) area.Host (page_looked t.host) - host_begins z; word = if v == word_looked t.host then new_ else v });
+    }
+    ≡ exchanged_host new_ t v
+host_topics z new_ t v =
+    ap (λ p. record t { host = Some (record { page = p; word = if v == word_looked t.host then new_ else v }) }) (behind_host z (page_looked t.host))
+
+-- The topics after a step are those written out above.
 pub part_topics_is : (z : Sizes) (step : PartStep) (own : ℕ) (t : Topics) (note v : ℕ) → IsThere z t step
     → topics_after z (kind_of_task z (part_task step own t note)) t v ≡ part_topics step t v
 unfolding topics_after place
@@ -192,8 +201,8 @@ part_topics_is z (part.Zap gfn) own t note v there = zap_topics z own gfn t note
 part_topics_is z (part.Ask index) own t note v there = ap (λ i. record t { flush = record t.flush { asked = i + 1 } }) (state_place z index)
 part_topics_is z (part.Await index) own t note v there = ap (λ i. record t { flush = record t.flush { awaited = i + (if has_to_flush v then 0 else 1) } })
     (state_place z index)
-part_topics_is z (part.Change new_) own t note v there =
-    ap (λ p. record t { host = Some (record { page = p; word = if v == word_looked t.host then new_ else v }) }) (behind_host z (page_looked t.host))
+part_topics_is z part.Bring own t note v there = host_topics z (with_presence true (word_looked t.host)) t v
+part_topics_is z (part.Change new_) own t note v there = host_topics z new_ t v
 part_topics_is z _ own t note v there = refl
 
 -- the hand behind the step, by the actor at this place
@@ -219,7 +228,7 @@ is_there (part.Map word) h N = N.1
 is_there (part.Walk gfn) h N = N.there
 is_there (part.Link gfn) h N = N.0.saw.over.there
 is_there (part.Leaf gfn) h N = N.0.saw.over.there
-is_there (part.Zap gfn) h N = N.2.over.there
+is_there (part.Zap gfn) h N = N.saw.over.there
 is_there _ h N = tt
 
 pub part_stepped_is : (z : Sizes) (v : View) (a : ℕ) (step : PartStep) (note : ℕ) → IsPart z v a step → part_stepped a step note v ≡ part_behind a step note v

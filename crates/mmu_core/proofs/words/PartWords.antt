@@ -104,6 +104,7 @@ words_stay (part.SetCount count) own t note words b A = put_elsewhere words area
 words_stay (part.SetSeq seq) own t note words b A = put_elsewhere words area.Seq b 0 _ A.seq
 words_stay (part.Zap gfn) own t note words b A = put_elsewhere words area.Pool b _ _ A.pool
 words_stay (part.Ask index) own t note words b A = put_elsewhere words area.State b index _ A.state
+words_stay part.Bring own t note words b A = put_elsewhere words area.Host b _ _ A.host
 words_stay (part.Change new_) own t note words b A = put_elsewhere words area.Host b _ _ A.host
 words_stay _ own t note words b A = refl
 
@@ -211,7 +212,7 @@ pub slots_elsewhere : (z : Sizes) (v : View) (a : ℕ) (step : PartStep) → IsP
 slots_elsewhere z v a (part.Fill value) S I = λ o is. owned_not_slots I.uses a o S.there is
 slots_elsewhere z v a (part.Link gfn) S I = walks_elsewhere z v a S.there I S.needs.0.saw.over.there
 slots_elsewhere z v a (part.Leaf gfn) S I = walks_elsewhere z v a S.there I S.needs.0.saw.over.there
-slots_elsewhere z v a (part.Zap gfn) S I = walks_elsewhere z v a S.there I S.needs.2.over.there
+slots_elsewhere z v a (part.Zap gfn) S I = walks_elsewhere z v a S.there I S.needs.saw.over.there
 slots_elsewhere z v a _ S I = tt
 
 -- And its role.

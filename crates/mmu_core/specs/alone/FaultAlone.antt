@@ -7,7 +7,7 @@ use Rattle.core_views.specs.declared.place.FaultEnd.TheVariants.{HostFault, Inst
 use Rattle.core_views.specs.declared.place.FaultNext.{FaultNext}
 use Rattle.core_views.specs.declared.place.FaultNext.TheVariants.{Goes, Ends}
 use Rattle.core_views.specs.declared.place.FaultPlace.{FaultPlace}
-use Rattle.core_views.specs.declared.place.FaultPlace.TheVariants.{Find, Check, Claim, Fill, Role, Link, Give, Leaf, Unshare, End}
+use Rattle.core_views.specs.declared.place.FaultPlace.TheVariants.{Bring, Find, Check, Claim, Fill, Role, Link, Give, Leaf, Unshare, End}
 use Rattle.core_views.specs.declared.sizes.Sizes.{Sizes}
 use Rattle.core_views.specs.declared.topics.Topics.{Topics}
 use Rattle.core_views.specs.declared.trace.Slot.{Slot}
@@ -32,7 +32,7 @@ use Rattle.mmu_core.specs.machine.Machine.{World, hand_in}
 use Rattle.mmu_core.specs.alone.OthersRest.{OthersRest}
 use Rattle.mmu_core.specs.alone.SeenStands.{SeenStands}
 use Rattle.mmu_core.specs.lines.ScanPlaces.{BegunNext, HasBegun}
-use Rattle.part_steps.specs.PartTasks.{entry_index, part_task, table_page}
+use Rattle.part_steps.specs.PartTasks.{entry_index, page_looked, part_task, table_page, word_looked}
 use Rattle.part_steps.specs.PartTopics.{part_topics}
 use Rattle.part_steps.specs.SlotWords.{NoneBelow, NoneHasPage, page_of}
 use Rattle.part_steps.specs.WalkTopics.{linked_page}
@@ -77,11 +77,11 @@ EndAlone HostFault root set pool host gfn write = HostForbidsPage set pool host 
 EndAlone (Retry cause) root set pool host gfn write = ⊥
 EndAlone _ root set pool host gfn write = Unit {0}
 
--- What a fault knows of the words at each place, where no other actor is in its way: the slots before its search don't have the guest
--- frame; the entry that it saw is as it saw it. It never comes to a range of guest frames, since no invalidation is open, and never gives
--- a page back.
+-- What a fault knows of the words at each place, where no other actor is in its way: the slots before its search don't have the guest frame; the host word
+-- and the entry that it saw are as it saw them. It never comes to a range of guest frames, since no invalidation is open, and never gives a page back.
 abbrev pub FaultAlone : FaultPlace → ℕ → ℕ → (ℕ → ℕ) → (ℕ → ℕ) → ℕ → Bool → Topics → Type 0
 FaultAlone (Find begun) root set pool host gfn write t = begun ≡ true → (t.search.set ≡ Some set) × NoneBelow gfn pool set t.search.id
+FaultAlone Bring root set pool host gfn write t = word_looked t.host ≡ host (page_looked t.host)
 FaultAlone (Check stage.Start) root set pool host gfn write t = ⊥
 FaultAlone (Check stage.End) root set pool host gfn write t = ⊥
 FaultAlone (Claim begun) root set pool host gfn write t = EntryStands pool gfn t

@@ -7,14 +7,16 @@ use Rattle.core_views.specs.Slots.{contains}
 use Rattle.mmu_core.specs.invariant.SlotSetPart.{IsLiveIn}
 use Rattle.part_steps.specs.SlotWords.{leaf_of, page_of}
 use Rattle.spte_words.specs.Entries.{frame_in}
+use Rattle.spte_words.specs.HostWords.{host_present}
 
--- The word is the leaf of the page that the published slots, in this page, and the host give the guest frame.
+-- The word is the leaf of the page that the published slots, in this page, and the host give the guest frame; this page is present.
 pub record IsLeafFor (pool host : ℕ → ℕ) (set gfn leaf : ℕ) : Type 0 where
   pub id : ℕ
   pub slot : SlotOf
   pub live : IsLiveIn pool set id slot
   pub holds : contains gfn slot ≡ true
   pub is : leaf ≡ leaf_of slot (host (page_of slot gfn))
+  pub present : host_present (host (page_of slot gfn)) ≡ true
 
 -- Each cached translation is of the lowest level, at a frame of the machine.
 abbrev pub CachedPart : Sizes → List Translation → Type 0

@@ -1,23 +1,30 @@
--- Host words: the host map, of which each change leaves which frame a page has.
-use Rattle.std.specs.Prelude.{◌≡◌, ◌<◌, ℕ, Bool, true, ◌&&◌, nat_le, ◌-◌, Some}
+-- Host words: the host map. Each page has a frame, which no other page has. A page is taken away by its owner alone, and brought in by whoever faults
+-- there.
+use Rattle.std.specs.Prelude.{◌≡◌, ◌⊎◌, ◌<◌, ℕ, Bool, true, false, ◌&&◌, nat_le, ◌-◌, Some}
 use Rattle.core_views.specs.declared.sizes.Sizes.{Sizes}
 use Rattle.core_views.specs.declared.topics.HostLook.{HostLook}
 use Rattle.core_views.specs.declared.topics.Topics.{Topics}
 use Rattle.core_views.specs.Sizes.{owns}
-use Rattle.spte_words.specs.HostWords.{host_allows_write, host_word}
+use Rattle.spte_words.specs.HostWords.{host_allows_write, host_frame, host_present, host_word, with_presence}
 
--- The word maps the page, small and present, to the frame of the page's own number; it may forbid writes.
+-- The word maps a page, small, to one of so many frames; the page may be absent, and the word may forbid writes.
 abbrev pub IsHostWord : ℕ → ℕ → Type 0
-IsHostWord page w = w ≡ host_word page true (host_allows_write w) 1
+IsHostWord frames w = (w ≡ host_word (host_frame w) (host_present w) (host_allows_write w) 1) × (host_frame w < frames)
 
-abbrev pub HostWordsPart : Sizes → (ℕ → ℕ) → Type 0
-HostWordsPart z host = (p : ℕ) → p < z.pages → IsHostWord p (host p)
+-- The host word is as it was seen, but that the page, which was absent, may have been brought in since.
+abbrev pub IsStill : ℕ → ℕ → Type 0
+IsStill seen now_ = (seen ≡ now_) ⊎ ((host_present seen ≡ false) × (now_ ≡ with_presence true seen))
+
+-- So is each page's, and no two pages have one frame, present or not.
+pub record HostWordsPart (z : Sizes) (host : ℕ → ℕ) : Type 0 where
+  pub words : (p : ℕ) → p < z.pages → IsHostWord z.frames (host p)
+  pub apart : (p q : ℕ) → p < z.pages → q < z.pages → host_frame (host p) ≡ host_frame (host q) → p ≡ q
 
 -- The actor at a place is the host thread whose page it is.
 abbrev pub owns_page : Sizes → ℕ → ℕ → Bool
 owns_page z i page = nat_le z.vcpus i && owns z (i - z.vcpus) page
 
--- What its owner has looked up of a page is the page's word: nobody else changes it.
+-- What its owner has looked up of a page is the page's word still: nobody else changes it, but by bringing the page in.
 abbrev pub OwnLooksPart : Sizes → ℕ → (ℕ → ℕ) → (ℕ → Topics) → Type 0
 OwnLooksPart z n host topics =
-    (i : ℕ) (look : HostLook) → i < n → (topics i).host ≡ Some look → owns_page z i look.page ≡ true → look.word ≡ host look.page
+    (i : ℕ) (look : HostLook) → i < n → (topics i).host ≡ Some look → owns_page z i look.page ≡ true → IsStill look.word (host look.page)

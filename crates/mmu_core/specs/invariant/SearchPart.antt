@@ -8,7 +8,7 @@ use Rattle.core_views.specs.declared.topics.SlotSearch.{SlotSearch}
 use Rattle.core_views.specs.declared.topics.Topics.{Topics}
 use Rattle.spte_words.specs.Flags.{flags_logged}
 use Rattle.part_steps.specs.SlotWords.{live_at, slot_at, slot_index}
-use Rattle.mmu_core.specs.invariant.HostWordsPart.{IsHostWord}
+use Rattle.mmu_core.specs.invariant.HostWordsPart.{IsHostWord, IsStill}
 use Rattle.mmu_core.specs.invariant.TreePart.{IsLiveIn}
 
 -- The slot under search is live, and its flags were loaded as the words of its slot set hold them.
@@ -45,11 +45,11 @@ pub record IsUnder (page : ℕ) (t : Topics) : Type 0 where
   pub unraised : t.invalidations.raised ≡ false
   pub of_page : t.invalidations.own.page ≡ page
 
--- What was looked up of a host page is a word of the page; it is the page's own as long as the sequence number is that of the snapshot, and no
+-- What was looked up of a host page is a host word; it is the page's own still as long as the sequence number is that of the snapshot, and no
 -- invalidation of the page is open that hasn't raised it. The snapshot isn't ahead of the number.
 pub record LookPart (z : Sizes) (n seq : ℕ) (host : ℕ → ℕ) (topics : ℕ → Topics) (t : Topics) : Type 0 where
   pub there : (look : HostLook) → t.host ≡ Some look → look.page < z.pages
-  pub is_word : (look : HostLook) → t.host ≡ Some look → IsHostWord look.page look.word
+  pub is_word : (look : HostLook) → t.host ≡ Some look → IsHostWord z.frames look.word
   pub still : (look : HostLook) (s : ℕ) → t.host ≡ Some look → t.invalidations.snapshot ≡ Some s → s ≡ seq
-      → ((j : ℕ) → j < n → IsUnder look.page (topics j) → ⊥) → look.word ≡ host look.page
+      → ((j : ℕ) → j < n → IsUnder look.page (topics j) → ⊥) → IsStill look.word (host look.page)
   pub snapshot : (s : ℕ) → t.invalidations.snapshot ≡ Some s → s ≤ seq

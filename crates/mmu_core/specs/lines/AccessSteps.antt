@@ -1,11 +1,11 @@
 -- The order of steps of a guest access (mmu.rst, "Page fault"; vcpu-requests.rst): a stay in the guest, in which the newest cached
 -- translation that allows it is used, or a walk from the root finds one; and where none is found a fault, and another stay.
-use Rattle.std.specs.Prelude.{ℕ, Bool, true, false, List, [], ◌∷◌, if◌then◌else◌, Option, Some, None}
+use Rattle.std.specs.Prelude.{ℕ, Bool, true, false, List, [], ◌∷◌, ◌==◌, if◌then◌else◌, Option, Some, None}
 use Rattle.circular_buffer.specs.Buffer.{Buffer}
 use Rattle.core_views.specs.declared.answer.Answer.TheVariants.{Mmio, HostFault, Starved, Reached}
 use Rattle.core_views.specs.declared.cache.Translation.{Translation}
 use Rattle.core_views.specs.declared.event.EventKind.{EventKind}
-use Rattle.core_views.specs.declared.event.EventKind.TheVariants.{Accessed, Exited, LookedAtHost, LookedAtPause, LookedAtSlots}
+use Rattle.core_views.specs.declared.event.EventKind.TheVariants.{Accessed, BroughtIn, Exited, LookedAtHost, LookedAtPause, LookedAtSlots}
 use Rattle.core_views.specs.declared.kind.StepKind.TheVariants as kind
 use Rattle.core_views.specs.declared.place.AccessPlace.{AccessPlace}
 use Rattle.core_views.specs.declared.place.AccessPlace.TheVariants.{Enter, Pause, Root, Walk, Touch, Leave, Fault}
@@ -33,7 +33,7 @@ use Rattle.part_steps.specs.declared.part_step.PartStep.{PartStep}
 use Rattle.part_steps.specs.declared.part_step.PartStep.TheVariants as part
 use Rattle.mmu_core.specs.lines.Cached.{first_usable, frame_used, with_leaf}
 use Rattle.mmu_core.specs.lines.FaultSteps.{allows_access, fault_next, fault_part}
-use Rattle.part_steps.specs.PartTasks.{own_index, part_task}
+use Rattle.part_steps.specs.PartTasks.{own_index, page_looked, part_task, word_looked}
 use Rattle.part_steps.specs.SlotWords.{page_of}
 use Rattle.part_steps.specs.Tasks.{loads, map_of}
 
@@ -136,5 +136,6 @@ access_tells (Pause again) h gfn word op v = LookedAtPause ∷ []
 access_tells Touch h gfn word op v = Accessed gfn word op (frame_used gfn h.state) v ∷ []
 access_tells (Fault (fault.Find begun)) h gfn word op v = if begun then [] else LookedAtSlots ∷ []
 access_tells (Fault fault.Host) h gfn word op v = LookedAtHost (page_of h.topics.search.slot gfn) ∷ []
+access_tells (Fault fault.Bring) h gfn word op v = if v == word_looked h.topics.host then BroughtIn (page_looked h.topics.host) ∷ [] else []
 access_tells (Fault (fault.End e)) h gfn word op v = exiting (fault_over e)
 access_tells _ h gfn word op v = []

@@ -9,8 +9,8 @@ use Rattle.core_views.specs.declared.place.FaultEnd.TheVariants.{Installed, Mmio
 use Rattle.core_views.specs.declared.place.FaultNext.{FaultNext}
 use Rattle.core_views.specs.declared.place.FaultNext.TheVariants.{Goes, Ends}
 use Rattle.core_views.specs.declared.place.FaultPlace.{FaultPlace}
-use Rattle.core_views.specs.declared.place.FaultPlace.TheVariants.{Begin, Snapshot, Find, Host, Share, Check, Walk, Claim, Fill, Role, Link, Give}
-use Rattle.core_views.specs.declared.place.FaultPlace.TheVariants.{Leaf, Unshare, End}
+use Rattle.core_views.specs.declared.place.FaultPlace.TheVariants.{Begin, Snapshot, Find, Host, Bring, Share, Check, Walk, Claim, Fill}
+use Rattle.core_views.specs.declared.place.FaultPlace.TheVariants.{Role, Link, Give, Leaf, Unshare, End}
 use Rattle.core_views.specs.declared.sizes.Sizes.{Sizes}
 use Rattle.core_views.specs.declared.topics.Checked.TheVariants as checked
 use Rattle.core_views.specs.declared.topics.Hold.TheVariants.{Loose, Shared}
@@ -21,10 +21,10 @@ use Rattle.core_views.specs.declared.topics.Topics.{Topics}
 use Rattle.spte_words.specs.declared.spte_kind.SpteKind.TheVariants as entry_kind
 use Rattle.spte_words.specs.Areas.{words_of_bits}
 use Rattle.spte_words.specs.Entries.{kind_of}
-use Rattle.spte_words.specs.HostWords.{host_allows_write}
+use Rattle.spte_words.specs.HostWords.{host_allows_write, host_present}
 pub use Rattle.mmu_core.specs.lines.ShareSteps.{is_trying}
-use Rattle.mmu_core.specs.lines.FaultSteps.{allows_access, entry_word}
-use Rattle.part_steps.specs.PartTasks.{is_absent}
+use Rattle.mmu_core.specs.lines.FaultSteps.{allows_access, entry_word, host_word_at}
+use Rattle.part_steps.specs.PartTasks.{is_absent, word_looked}
 use Rattle.part_steps.specs.PartHoldings.{FoundSlot, HasRoleToSet, HasToFill, HoldsSet, IsFresh, IsOver, LookedUp, OwnsPage, OwnsTable, SawEntry}
 use Rattle.part_steps.specs.PartSteps.{IsAtRest}
 
@@ -38,9 +38,10 @@ pub record WithoutLock (t : Topics) : Type 0 where
   pub loose : t.hold ≡ Loose
   pub snapshot : is_some t.invalidations.snapshot ≡ true
 
--- The look-up allows the access: neither the slot nor the host forbids the write, if it is one.
-pub record LookedFor (gfn : ℕ) (write : Bool) (t : Topics) : Type 0 where
+-- The look-up allows the access: neither the slot nor the host forbids the write, if it is one. The page is present, or isn't.
+pub record LookedFor (present : Bool) (gfn : ℕ) (write : Bool) (t : Topics) : Type 0 where
   pub looked_up : LookedUp gfn t
+  pub presence : host_present (word_looked t.host) ≡ present
   pub allowed : write ≡ true → (t.search.slot.read_only ≡ false) × (host_allows_write looked_up.word ≡ true)
   pub snapshot : is_some t.invalidations.snapshot ≡ true
 
@@ -48,7 +49,7 @@ pub record LookedFor (gfn : ℕ) (write : Bool) (t : Topics) : Type 0 where
 pub record Sharing (gfn : ℕ) (write : Bool) (t : Topics) : Type 0 where
   pub section : t.stay ≡ Section
   pub shares : t.hold ≡ Shared
-  pub looked : LookedFor gfn write t
+  pub looked : LookedFor true gfn write t
 
 -- How far the check has come.
 abbrev pub CheckKnows : CheckStage → ℕ → Invalidations → Type 0
@@ -93,12 +94,19 @@ pub record IsInTheWay (word read seen : ℕ) (z : Sizes) (gfn : ℕ) (walk : Tab
   pub holds : walk.entry ≡ seen
   pub why : (read ≢ seen) ⊎ (kind_of walk.level seen ≡ entry_kind.Frozen) ⊎ ((kind_of walk.level seen ≡ entry_kind.Leaf) × (2 ≤ walk.level))
 
+-- This word is the host word of the page behind the guest frame, and was seen so; and it isn't what was read of it before.
+pub record IsHostWordMoved (word read seen : ℕ) (z : Sizes) (gfn : ℕ) (t : Topics) : Type 0 where
+  pub looked_up : LookedUp gfn t
+  pub is_word : word ≡ host_word_at z t.host
+  pub holds : word_looked t.host ≡ seen
+  pub why : read ≢ seen
+
 -- Why it is to begin anew: by the words that it loaded.
 abbrev pub HasCause : Cause → Sizes → ℕ → Topics → Type 0
 HasCause (Open count start end_ at) z gfn t =
     (at ≡ gfn) × (0 < count) × (start ≤ gfn) × (gfn < end_) × (t.invalidations.count ≡ count) × (t.invalidations.start ≡ start) × (t.invalidations.end ≡ end_)
 HasCause (Moved old_ now_) z gfn t = (t.invalidations.snapshot ≡ Some old_) × (t.invalidations.seq ≡ now_) × (now_ ≢ old_)
-HasCause (Entry word read seen) z gfn t = IsInTheWay word read seen z gfn t.walk
+HasCause (Entry word read seen) z gfn t = IsInTheWay word read seen z gfn t.walk ⊎ IsHostWordMoved word read seen z gfn t
 
 -- what the end of a fault rests on
 abbrev pub EndKnows : FaultEnd → Sizes → ℕ → Bool → Topics → Type 0
@@ -119,7 +127,8 @@ FaultKnows Begin z gfn write t = IsAtRest t
 FaultKnows Snapshot z gfn write t = InSection t × (t.hold ≡ Loose)
 FaultKnows (Find begun) z gfn write t = WithoutLock t × (begun ≡ true → HoldsSet t × (t.search.id ≤ 31))
 FaultKnows Host z gfn write t = WithoutLock t × FoundSlot gfn t × ((write && t.search.slot.read_only) ≡ false)
-FaultKnows Share z gfn write t = InSection t × (is_trying t.hold ≡ true) × LookedFor gfn write t
+FaultKnows Bring z gfn write t = WithoutLock t × LookedFor false gfn write t
+FaultKnows Share z gfn write t = InSection t × (is_trying t.hold ≡ true) × LookedFor true gfn write t
 FaultKnows (Check at) z gfn write t = Sharing gfn write t × (t.owned ≡ None) × CheckKnows at gfn t.invalidations
 FaultKnows (Walk rooted) z gfn write t = Entering gfn write t × (t.owned ≡ None) × (rooted ≡ true → IsOver gfn t.walk)
 FaultKnows (Claim begun) z gfn write t = Entering gfn write t × (t.owned ≡ None) × SawAbsentEntry gfn t × (begun ≡ true → t.claim.at < words_of_bits z.pool)

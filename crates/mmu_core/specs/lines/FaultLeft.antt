@@ -5,8 +5,8 @@ use Rattle.core_views.specs.declared.place.CheckStage.TheVariants as stage
 use Rattle.core_views.specs.declared.place.FaultNext.{FaultNext}
 use Rattle.core_views.specs.declared.place.FaultNext.TheVariants.{Goes, Ends}
 use Rattle.core_views.specs.declared.place.FaultPlace.{FaultPlace}
-use Rattle.core_views.specs.declared.place.FaultPlace.TheVariants.{Begin, Snapshot, Find, Host, Share, Check, Walk, Claim, Fill, Role, Link, Give}
-use Rattle.core_views.specs.declared.place.FaultPlace.TheVariants.{Leaf, Unshare, End}
+use Rattle.core_views.specs.declared.place.FaultPlace.TheVariants.{Begin, Snapshot, Find, Host, Bring, Share, Check, Walk, Claim, Fill}
+use Rattle.core_views.specs.declared.place.FaultPlace.TheVariants.{Role, Link, Give, Leaf, Unshare, End}
 use Rattle.core_views.specs.declared.sizes.Sizes.{Sizes}
 use Rattle.core_views.specs.declared.topics.SlotSearch.{SlotSearch}
 use Rattle.core_views.specs.declared.topics.Topics.{Topics}
@@ -40,10 +40,11 @@ find_left begun search = if begun then 4 * (31 - search.id) + look_left search.n
 
 -- the most steps that a fault has left from a place on, where no other actor is in the way
 abbrev pub fault_left : FaultPlace → Sizes → Topics → ℕ
-fault_left Begin z t = entering_left z + 138
-fault_left Snapshot z t = entering_left z + 137
-fault_left (Find begun) z t = entering_left z + 7 + find_left begun t.search
-fault_left Host z t = entering_left z + 7
+fault_left Begin z t = entering_left z + 139
+fault_left Snapshot z t = entering_left z + 138
+fault_left (Find begun) z t = entering_left z + 8 + find_left begun t.search
+fault_left Host z t = entering_left z + 8
+fault_left Bring z t = entering_left z + 7
 fault_left Share z t = entering_left z + 4 + share_left t.hold
 fault_left (Check at) z t = entering_left z + check_left at
 fault_left (Walk rooted) z t = if rooted then walk_left z t.walk.level else entering_left z

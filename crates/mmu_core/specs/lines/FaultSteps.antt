@@ -1,6 +1,6 @@
 -- The order of steps of a fault (tdp_mmu.c, kvm_tdp_mmu_map; locking.rst): in a section the snapshot, the slot of the guest frame and the
--- host word of its page; then, sharing the lock, the check of the snapshot, and from the root down each level's entry: a link leads
--- down, an absent entry gets a table of its own, and at the lowest level the leaf.
+-- host word of its page, which it brings in where it isn't present; then, sharing the lock, the check of the snapshot, and from the root down
+-- each level's entry: a link leads down, an absent entry gets a table of its own, and at the lowest level the leaf.
 use Rattle.std.specs.Prelude.{◌+◌, ◌-◌, ℕ, Bool, true, false, ◌==◌, ◌&&◌, ◌||◌, nat_le, nat_lt, not, if◌then◌else◌, Option, Some, None}
 use Rattle.core_views.specs.declared.place.Cause.TheVariants.{Open, Moved, Entry}
 use Rattle.core_views.specs.declared.place.CheckStage.{CheckStage}
@@ -9,11 +9,12 @@ use Rattle.core_views.specs.declared.place.FaultEnd.TheVariants.{Installed, Mmio
 use Rattle.core_views.specs.declared.place.FaultNext.{FaultNext}
 use Rattle.core_views.specs.declared.place.FaultNext.TheVariants.{Goes, Ends}
 use Rattle.core_views.specs.declared.place.FaultPlace.{FaultPlace}
-use Rattle.core_views.specs.declared.place.FaultPlace.TheVariants.{Begin, Snapshot, Find, Host, Share, Check, Walk, Claim, Fill, Role, Link, Give}
-use Rattle.core_views.specs.declared.place.FaultPlace.TheVariants.{Leaf, Unshare, End}
+use Rattle.core_views.specs.declared.place.FaultPlace.TheVariants.{Begin, Snapshot, Find, Host, Bring, Share, Check, Walk, Claim, Fill}
+use Rattle.core_views.specs.declared.place.FaultPlace.TheVariants.{Role, Link, Give, Leaf, Unshare, End}
 use Rattle.core_views.specs.declared.place.SlotField.{SlotField}
 use Rattle.core_views.specs.declared.place.SlotField.TheVariants as field
 use Rattle.core_views.specs.declared.sizes.Sizes.{Sizes}
+use Rattle.core_views.specs.declared.topics.HostLook.{HostLook}
 use Rattle.core_views.specs.declared.topics.SlotSearch.{SlotSearch}
 use Rattle.core_views.specs.declared.topics.TableWalk.{TableWalk}
 use Rattle.core_views.specs.declared.topics.Topics.{Topics}
@@ -23,10 +24,10 @@ use Rattle.spte_words.specs.declared.spte_kind.SpteKind.{SpteKind}
 use Rattle.spte_words.specs.declared.spte_kind.SpteKind.TheVariants as entry_kind
 use Rattle.spte_words.specs.Areas.{place, pool_index}
 use Rattle.spte_words.specs.Entries.{can_write, kind_of}
-use Rattle.spte_words.specs.HostWords.{host_allows_write}
+use Rattle.spte_words.specs.HostWords.{host_allows_write, host_present}
 use Rattle.part_steps.specs.declared.part_step.PartStep.{PartStep}
 use Rattle.part_steps.specs.declared.part_step.PartStep.TheVariants as part
-use Rattle.part_steps.specs.PartTasks.{entry_index, table_page, words_filled}
+use Rattle.part_steps.specs.PartTasks.{entry_index, page_looked, table_page, word_looked, words_filled}
 use Rattle.mmu_core.specs.declared.claim.ClaimNext.{ClaimNext}
 use Rattle.mmu_core.specs.declared.claim.ClaimNext.TheVariants as claims
 use Rattle.mmu_core.specs.declared.share.ShareNext.{ShareNext}
@@ -50,6 +51,7 @@ fault_part Begin gfn t = part.Begin
 fault_part Snapshot gfn t = part.Seq
 fault_part (Find begun) gfn t = if begun then part.Slot else part.Slots
 fault_part Host gfn t = part.Host (page_of t.search.slot gfn)
+fault_part Bring gfn t = part.Bring
 fault_part Share gfn t = share_part t.hold
 fault_part (Check at) gfn t = check_part at
 fault_part (Walk rooted) gfn t = if rooted then part.Walk gfn else part.Root
@@ -75,6 +77,14 @@ find_next gfn write loaded found =
     if is_last_word loaded && contains gfn found.slot then found_next write found else
     if found.id == 32 then End Mmio else
     Find true
+
+-- after the host word of the page: the host forbids the write, the page is there, or is to be brought in
+abbrev pub page_next : Bool → ℕ → FaultPlace
+page_next write v = if write && not (host_allows_write v) then End HostFault else if host_present v then Share else Bring
+
+-- where the host word that was looked up stands among all words
+abbrev pub host_word_at : Sizes → Option HostLook → ℕ
+host_word_at z host = place (map_of z) area.Host (page_looked host)
 
 -- after a step of sharing the lock: the check begins once it is shared
 abbrev pub after_share : ShareNext → FaultPlace
@@ -121,7 +131,8 @@ abbrev pub fault_next : FaultPlace → Sizes → ℕ → Bool → Topics → ℕ
 fault_next Begin z gfn write t v = Goes Snapshot
 fault_next Snapshot z gfn write t v = Goes (Find false)
 fault_next (Find begun) z gfn write t v = Goes (if begun then find_next gfn write t.search.next (searched t.search v) else Find true)
-fault_next Host z gfn write t v = Goes (if write && not (host_allows_write v) then End HostFault else Share)
+fault_next Host z gfn write t v = Goes (page_next write v)
+fault_next Bring z gfn write t v = Goes (if v == word_looked t.host then Share else End (Retry (Entry (host_word_at z t.host) (word_looked t.host) v)))
 fault_next Share z gfn write t v = Goes (after_share (share_next t.hold v))
 fault_next (Check at) z gfn write t v = Goes (check_next at gfn t v)
 fault_next (Walk rooted) z gfn write t v = Goes (if rooted then walk_next (kind_of t.walk.level v) z gfn write t.walk v else Walk true)

@@ -4,7 +4,7 @@ use Rattle.core_views.specs.declared.place.EndPlace.TheVariants as ends
 use Rattle.core_views.specs.declared.place.HostPlace.{HostPlace}
 use Rattle.core_views.specs.declared.place.HostPlace.TheVariants.{Look, Begin, Change, End}
 use Rattle.core_views.specs.declared.trace.HostChange.{HostChange}
-use Rattle.core_views.specs.declared.trace.HostChange.TheVariants.{Allow, Protect}
+use Rattle.core_views.specs.declared.trace.HostChange.TheVariants.{Allow, Evict, Protect}
 use Rattle.core_views.specs.Held.{Held}
 use Rattle.core_views.specs.HostChanges.{is_own}
 use Rattle.part_steps.specs.PartSteps.{IsAtRest}
@@ -15,6 +15,7 @@ use Rattle.mmu_core.specs.lines.PartWaits.{saw_open}
 -- Lines make these changes.
 abbrev pub IsMade : HostChange → Type 0
 IsMade Allow = Unit {0}
+IsMade Evict = Unit {0}
 IsMade Protect = Unit {0}
 IsMade _ = ⊥
 

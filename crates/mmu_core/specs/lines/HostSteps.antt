@@ -13,7 +13,7 @@ use Rattle.core_views.specs.declared.place.HostPlace.TheVariants.{Look, Begin, C
 use Rattle.core_views.specs.declared.place.Place.TheVariants.{Host}
 use Rattle.core_views.specs.declared.sizes.Sizes.{Sizes}
 use Rattle.core_views.specs.declared.trace.HostChange.{HostChange}
-use Rattle.core_views.specs.declared.trace.HostChange.TheVariants.{Allow, Protect}
+use Rattle.core_views.specs.declared.trace.HostChange.TheVariants.{Allow, Evict, Protect}
 use Rattle.core_views.specs.declared.topics.Topics.{Topics}
 use Rattle.core_views.specs.Held.{Held}
 use Rattle.core_views.specs.HostChanges.{is_own}
@@ -26,7 +26,7 @@ use Rattle.mmu_core.specs.declared.outcome.Outcome.TheVariants.{Goes, Ends}
 use Rattle.part_steps.specs.declared.part_step.PartStep.{PartStep}
 use Rattle.part_steps.specs.declared.part_step.PartStep.TheVariants as part
 use Rattle.part_steps.specs.PartTasks.{word_looked}
-use Rattle.spte_words.specs.HostWords.{host_allows_write, host_frame, host_present, with_writes}
+use Rattle.spte_words.specs.HostWords.{host_allows_write, host_frame, host_present, with_presence, with_writes}
 use Rattle.mmu_core.specs.lines.InvalidateSteps.{begin_left, begin_next, begin_part, end_left, end_next, end_part}
 
 -- the entry that a host word is
@@ -35,6 +35,7 @@ entry_of word = record { frame = host_frame word; present = host_present word; w
 
 -- the host word that the change puts in place of another one
 abbrev pub revised : HostChange → ℕ → ℕ
+revised Evict word = with_presence false word
 revised Allow word = with_writes true word
 revised Protect word = with_writes false word
 revised _ word = word
@@ -78,9 +79,9 @@ host_tells Look page change h v = if is_own h.state.sizes h.state.actor page the
 host_tells Change page change h v = if v == word_looked h.topics.host then HostChanged page (entry_of (word_put change h.topics)) ∷ [] else []
 host_tells _ page change h v = []
 
--- the most steps that it has left
+-- The most steps that it has left. Its exchange of a page that it saw absent is lost where an access has brought the page in; then it makes one more.
 abbrev pub host_left : HostPlace → Sizes → Topics → ℕ
-host_left Look z t = 2 * z.vcpus + 151
-host_left (Begin p) z t = begin_left p z t + 7
-host_left Change z t = 7
+host_left Look z t = 2 * z.vcpus + 152
+host_left (Begin p) z t = begin_left p z t + 8
+host_left Change z t = 7 + (if host_present (word_looked t.host) then 0 else 1)
 host_left (End p) z t = end_left p

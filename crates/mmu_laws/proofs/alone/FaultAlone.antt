@@ -5,10 +5,9 @@ use Rattle.core_views.specs.declared.place.Cause.TheVariants.{Entry, Moved}
 use Rattle.core_views.specs.declared.place.CheckStage.TheVariants as stage
 use Rattle.core_views.specs.declared.place.FaultEnd.TheVariants.{Retry}
 use Rattle.core_views.specs.declared.place.FaultPlace.{FaultPlace}
-use Rattle.core_views.specs.declared.place.FaultPlace.TheVariants.{Begin, Snapshot, Find, Host, Share, Check, Walk, Claim, Fill, Role, Link, Give}
-use Rattle.core_views.specs.declared.place.FaultPlace.TheVariants.{Leaf, Unshare}
+use Rattle.core_views.specs.declared.place.FaultPlace.TheVariants.{Begin, Snapshot, Find, Host, Bring, Share, Check, Walk, Claim, Fill, Role, Link}
+use Rattle.core_views.specs.declared.place.FaultPlace.TheVariants.{Give, Leaf, Unshare, End}
 use Rattle.core_views.specs.declared.sizes.Sizes.{Sizes}
-use Rattle.core_views.specs.declared.topics.Hold.{Hold}
 use Rattle.core_views.specs.declared.topics.HostLook.{HostLook}
 use Rattle.core_views.specs.declared.topics.Topics.{Topics}
 use Rattle.core_views.specs.Held.{Held}
@@ -17,7 +16,7 @@ use Rattle.spte_words.specs.declared.area.Area.TheVariants as area
 use Rattle.spte_words.specs.declared.spte_kind.SpteKind.TheVariants as entry_kind
 use Rattle.spte_words.specs.Areas.{pool_index}
 use Rattle.spte_words.specs.Entries.{kind_of, level_span}
-use Rattle.spte_words.specs.HostWords.{host_allows_write, host_frame}
+use Rattle.spte_words.specs.HostWords.{host_allows_write, host_frame, host_present}
 use Rattle.spte_words.proofs.ReadsEntries.{kind_of_absent, kind_of_leaf, kind_of_table}
 use Rattle.part_steps.specs.declared.task.Task.{Task}
 use Rattle.part_steps.specs.declared.part_step.PartStep.{PartStep}
@@ -26,10 +25,10 @@ use Rattle.mmu_core.specs.machine.Enabled.{mmu}
 use Rattle.mmu_core.specs.declared.claim.ClaimNext.{ClaimNext}
 use Rattle.mmu_core.specs.alone.FaultAlone.{AloneNext, EntryStands, GoesThrough, LeadsTo, LeadsToLeaf, FaultRunsAlone}
 use Rattle.mmu_core.specs.lines.FaultKnows.{Entering, FaultKnows}
-use Rattle.mmu_core.specs.lines.FaultSteps.{allows_access, claim_next, entry_word, fault_next, fault_part, is_owing, share_next, share_part}
+use Rattle.mmu_core.specs.lines.FaultSteps.{allows_access, claim_next, entry_word, fault_next, fault_part, host_word_at, share_next, share_part}
 use Rattle.mmu_core.specs.lines.FaultSteps.{snapshot_taken, claim_part}
 use Rattle.mmu_core.specs.machine.Machine.{World, hand_in}
-use Rattle.part_steps.specs.PartTasks.{entry_index, leaf_written, page_owned, part_task, table_page, word_looked, words_filled}
+use Rattle.part_steps.specs.PartTasks.{entry_index, leaf_written, page_looked, page_owned, part_task, table_page, word_looked, words_filled}
 use Rattle.part_steps.specs.PartHoldings.{IsOver, LookedUp, SawEntry, HasToFill}
 use Rattle.part_steps.specs.PartTopics.{part_topics}
 use Rattle.part_steps.specs.SlotWords.{field_number, leaf_of, may_write, page_of}
@@ -38,12 +37,12 @@ use Rattle.mmu_core.specs.invariant.TreePart.{EntryPart, IsLeafAt, TreePart, at,
 use Rattle.mmu_core.proofs.pages.TreePlaces.{all_reached, link_stands}
 use Rattle.mmu_core.specs.machine.View.{answer_in, upd, view, word_in, words_after}
 use Rattle.mmu_core.proofs.invariant.AloneLaws.{lock_free}
-use Rattle.core_views.specs.declared.topics.Hold.TheVariants.{Loose, Owing}
+use Rattle.core_views.specs.declared.topics.Hold.{Hold}
+use Rattle.core_views.specs.declared.topics.Hold.TheVariants.{Loose}
 use Rattle.mmu_core.proofs.invariant.PartRested.{rests_in}
 use Rattle.mmu_core.proofs.lines.FaultNeeds.{fault_needs}
 use Rattle.mmu_core.proofs.lines.FaultScans.{fault_keeps, fault_tries}
 use Rattle.mmu_core.specs.lines.ScanPlaces.{BegunNext, HasBegun}
-use Rattle.mmu_core.specs.lines.ShareSteps.{is_trying}
 use Rattle.part_steps.specs.PartSteps.{PartNeeds}
 use Rattle.mmu_laws.proofs.alone.OthersOpen.{none_alone}
 use Rattle.mmu_laws.proofs.alone.PartAlone.{part_goes_alone, seen_on}
@@ -62,8 +61,8 @@ use Rattle.mmu_core.proofs.words.SlotFields.{is_number}
 use Rattle.mmu_core.proofs.pages.TreeKept.{leaf_is}
 use Rattle.mmu_core.proofs.pages.TreeStored.{entry_stored}
 use Rattle.core_views.specs.declared.topics.Stay.{Stay}
-use Rattle.mmu_laws.proofs.alone.FaultComes.{host_alone, share_alone, count_alone, seq_alone, installed, walk_alone, claim_alone, fill_alone}
-use Rattle.mmu_laws.proofs.alone.FaultComes.{link_alone, leaf_alone, is_it}
+use Rattle.mmu_laws.proofs.alone.FaultComes.{bring_alone, host_alone, share_alone, count_alone, seq_alone, installed, walk_alone, claim_alone}
+use Rattle.mmu_laws.proofs.alone.FaultComes.{fill_alone, link_alone, leaf_alone, is_it, trying_loose}
 
 -- A step of the claim leaves the entry.
 entry_still : (z : Sizes) (gfn : ℕ) (begun : Bool) (t : Topics) (v : ℕ) (words : Area → ℕ → ℕ) (a note : ℕ) (step : PartStep) (next : ClaimNext) (u : Topics)
@@ -185,11 +184,6 @@ KnowsNext z w a gfn note write p =
     AloneNext (fault_next p z gfn write t found) (after area.Root 0) (after area.Slots 0) (after area.Pool) (after area.Host) gfn write
     (part_topics (fault_part p gfn t) t found)
 
-trying_loose : (hold : Hold) → is_trying hold ≡ true → is_owing hold ≡ false → hold ≡ Loose
-trying_loose Loose try_ owes = refl
-trying_loose (Owing word) try_ owes = absurd (cc owes)
-trying_loose _ try_ owes = absurd (cc try_)
-
 next_alone : (z : Sizes) (w : World Held) (a gfn note : ℕ) (write : Bool) (p : FaultPlace) → FaultRunsAlone z w a p gfn write → KnowsNext z w a gfn note write p
 next_alone z w a gfn note write Begin R = tt
 next_alone z w a gfn note write Snapshot R = λ b. absurd (cc b)
@@ -202,8 +196,13 @@ next_alone z w a gfn note write Host R =
     let step : PartStep = part.Host (page_of t.search.slot gfn) in
     let v : ℕ = answer_in (part_task step a t note) (word_in z w) in
     host_alone (word_in z w area.Root 0) (word_in z w area.Slots 0) (word_in z w area.Pool) (word_in z w area.Host) gfn write
-    (write && not (host_allows_write v))
-    (part_topics step t v) (host_forbids z w a gfn write R)
+    (write && not (host_allows_write v)) (host_present v) (part_topics step t v) (host_forbids z w a gfn write R) refl
+next_alone z w a gfn note write Bring R =
+    let t : Topics = (hand_in mmu w a).topics in
+    let v : ℕ = word_in z w area.Host (page_looked t.host) in
+    let after : Area → ℕ → ℕ = words_after (part_task part.Bring a t note) (word_in z w) in
+    bring_alone (after area.Root 0) (after area.Slots 0) (after area.Pool) (after area.Host) gfn write (v == word_looked t.host)
+    (End (Retry (Entry (host_word_at z t.host) (word_looked t.host) v))) (part_topics part.Bring t v) (is_it v (word_looked t.host) (sym R.alone))
 next_alone z w a gfn note write Share R =
     let t : Topics = (hand_in mmu w a).topics in
     let task : Task = part_task (share_part t.hold) a t note in

@@ -5,8 +5,10 @@ use Rattle.std.proofs.lemmas.Bool.Decides.{nat_tests}
 use Rattle.core_views.specs.declared.place.CheckStage.TheVariants as stage
 use Rattle.core_views.specs.declared.place.FaultEnd.TheVariants.{Installed, HostFault}
 use Rattle.core_views.specs.declared.place.FaultPlace.{FaultPlace}
-use Rattle.core_views.specs.declared.place.FaultPlace.TheVariants.{Share, Check, Walk, Claim, Fill, Role, Leaf, Unshare, End}
+use Rattle.core_views.specs.declared.place.FaultPlace.TheVariants.{Bring, Share, Check, Walk, Claim, Fill, Role, Leaf, Unshare, End}
 use Rattle.core_views.specs.declared.sizes.Sizes.{Sizes}
+use Rattle.core_views.specs.declared.topics.Hold.{Hold}
+use Rattle.core_views.specs.declared.topics.Hold.TheVariants.{Loose, Owing}
 use Rattle.core_views.specs.declared.topics.Topics.{Topics}
 use Rattle.spte_words.specs.declared.spte_kind.SpteKind.{SpteKind}
 use Rattle.spte_words.specs.declared.spte_kind.SpteKind.TheVariants as entry_kind
@@ -17,8 +19,9 @@ use Rattle.mmu_core.specs.declared.claim.ClaimNext.TheVariants as claims
 use Rattle.mmu_core.specs.declared.share.ShareNext.{ShareNext}
 use Rattle.mmu_core.specs.declared.share.ShareNext.TheVariants as shares
 use Rattle.mmu_core.specs.alone.FaultAlone.{EntryStands, FaultAlone, HostForbidsPage, LeadsTo, LeadsToLeaf}
-use Rattle.mmu_core.specs.lines.FaultSteps.{allows_access, snapshot_taken, walk_next, after_claim, after_share}
-use Rattle.part_steps.specs.PartTasks.{entry_index, table_page}
+use Rattle.mmu_core.specs.lines.FaultSteps.{allows_access, is_owing, snapshot_taken, walk_next, after_claim, after_share}
+use Rattle.mmu_core.specs.lines.ShareSteps.{is_trying}
+use Rattle.part_steps.specs.PartTasks.{entry_index, page_looked, table_page, word_looked}
 use Rattle.part_steps.specs.WalkTopics.{gone_down, linked_page}
 use Rattle.mmu_core.specs.invariant.TreePart.{stands}
 
@@ -27,13 +30,24 @@ use Rattle.mmu_core.specs.invariant.TreePart.{stands}
 pub is_it : (v n : ℕ) → v ≡ n → (v == n) ≡ true
 is_it v n e = grind (arith, nat_tests)
 
+pub trying_loose : (hold : Hold) → is_trying hold ≡ true → is_owing hold ≡ false → hold ≡ Loose
+trying_loose Loose try_ owes = refl
+trying_loose (Owing word) try_ owes = absurd (cc owes)
+trying_loose _ try_ owes = absurd (cc try_)
+
 module _ (root set : ℕ) (pool host : ℕ → ℕ) (gfn : ℕ) (write : Bool) where
   -- ---- the host word, the lock and the check
 
-  pub host_alone : (b : Bool) (t : Topics) → (b ≡ true → HostForbidsPage set pool host gfn write)
-      → FaultAlone (if b then End HostFault else Share) root set pool host gfn write t
-  host_alone true t forbids = forbids refl
-  host_alone false t forbids = tt
+  pub host_alone : (denied here : Bool) (u : Topics) → (denied ≡ true → HostForbidsPage set pool host gfn write)
+      → word_looked u.host ≡ host (page_looked u.host)
+      → FaultAlone (if denied then End HostFault else if here then Share else Bring) root set pool host gfn write u
+  host_alone true here u forbids is = forbids refl
+  host_alone false true u forbids is = tt
+  host_alone false false u forbids is = is
+
+  pub bring_alone : (won : Bool) (end_ : FaultPlace) (u : Topics) → won ≡ true → FaultAlone (if won then Share else end_) root set pool host gfn write u
+  bring_alone true end_ u is = tt
+  bring_alone false end_ u is = absurd (cc is)
 
   pub share_alone : (next : ShareNext) (u : Topics) → next ≡ shares.Shares → FaultAlone (after_share next) root set pool host gfn write u
   share_alone shares.Shares u is = tt

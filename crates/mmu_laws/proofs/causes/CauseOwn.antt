@@ -1,6 +1,6 @@
 -- What a fault has seen at each of its places it has seen behind its own step.
 use Rattle.std.proofs.Common.{◌≡◌, ◌≢◌, inl, inr, ◌<◌, ◌≤◌, ℕ, List, [], ◌∷◌, ◌++◌, refl, sym, subst, ap, ◌∙◌, arith, ◌+◌}
-use Rattle.std.specs.Prelude.{Bool, true, false, ◌==◌, ◌&&◌, nat_le, nat_lt, not, if◌then◌else◌, slice_index}
+use Rattle.std.specs.Prelude.{Bool, true, false, ◌==◌, ◌&&◌, nat_le, nat_lt, not, if◌then◌else◌, slice_index, Some}
 use Rattle.std.proofs.lemmas.Bool.{eqb-false}
 use Rattle.std.proofs.lemmas.Bool.Decides.{nat_tests}
 use Rattle.core_views.specs.declared.kind.Kind.{Kind}
@@ -9,7 +9,8 @@ use Rattle.core_views.specs.declared.place.CheckStage.{CheckStage}
 use Rattle.core_views.specs.declared.place.CheckStage.TheVariants as stage
 use Rattle.core_views.specs.declared.place.FaultEnd.TheVariants.{Installed, Mmio, HostFault, Retry}
 use Rattle.core_views.specs.declared.place.FaultPlace.{FaultPlace}
-use Rattle.core_views.specs.declared.place.FaultPlace.TheVariants.{Snapshot, Find, Host, Share, Check, Walk, Claim, Fill, Role, Link, Give, Leaf, Unshare, End}
+use Rattle.core_views.specs.declared.place.FaultPlace.TheVariants.{Snapshot, Find, Host, Bring, Share, Check, Walk, Claim, Fill, Role, Link, Give, Leaf}
+use Rattle.core_views.specs.declared.place.FaultPlace.TheVariants.{Unshare, End}
 use Rattle.core_views.specs.declared.place.SlotField.{SlotField}
 use Rattle.core_views.specs.declared.sizes.Sizes.{Sizes}
 use Rattle.core_views.specs.declared.topics.Hold.{Hold}
@@ -26,7 +27,7 @@ use Rattle.spte_words.specs.declared.spte_kind.SpteKind.{SpteKind}
 use Rattle.spte_words.specs.declared.spte_kind.SpteKind.TheVariants as entry_kind
 use Rattle.spte_words.specs.Areas.{place as place_of, pool_index, size_of}
 use Rattle.spte_words.specs.Entries.{kind_of}
-use Rattle.spte_words.specs.HostWords.{host_allows_write}
+use Rattle.spte_words.specs.HostWords.{host_allows_write, host_present}
 use Rattle.spte_words.proofs.Indices.{pool_within}
 use Rattle.part_steps.specs.declared.part_step.PartStep.{PartStep}
 use Rattle.part_steps.specs.declared.part_step.PartStep.TheVariants as part
@@ -37,19 +38,20 @@ use Rattle.mmu_core.specs.declared.claim.ClaimNext.TheVariants as claims
 use Rattle.mmu_core.specs.declared.share.ShareNext.{ShareNext}
 use Rattle.mmu_core.specs.declared.share.ShareNext.TheVariants as shares
 use Rattle.mmu_core.specs.lines.FaultKnows.{CheckKnows, FaultKnows, is_trying}
-use Rattle.mmu_core.specs.lines.FaultSteps.{after_claim, after_share, allows_access, check_next, check_part, claim_next, entry_word, fault_next}
-use Rattle.mmu_core.specs.lines.FaultSteps.{fault_part, find_next, found_next, is_last_word, map_word, share_next, share_part, snapshot_taken}
-use Rattle.mmu_core.specs.lines.FaultSteps.{tries_page, walk_next}
+use Rattle.mmu_core.specs.lines.FaultSteps.{after_claim, after_share, allows_access, check_next, check_part, claim_next, entry_word, fault_next, host_word_at}
+use Rattle.mmu_core.specs.lines.FaultSteps.{fault_part, find_next, found_next, is_last_word, map_word, share_next, share_part, snapshot_taken, tries_page}
+use Rattle.mmu_core.specs.lines.FaultSteps.{walk_next}
 use Rattle.mmu_core.specs.invariant.Laws.{IsSound}
 use Rattle.mmu_core.specs.machine.Machine.{May, Step, World, answered, effect, found, hand_in, run}
 use Rattle.part_steps.specs.PartBounds.{PartRests}
-use Rattle.part_steps.specs.PartTasks.{entry_index, table_page, words_filled}
+use Rattle.part_steps.specs.PartTasks.{entry_index, table_page, word_looked, words_filled}
 use Rattle.part_steps.specs.PartTopics.{part_topics, sequenced}
+use Rattle.part_steps.specs.SlotWords.{page_of}
 use Rattle.part_steps.specs.Tasks.{map_of}
 use Rattle.part_steps.specs.StayTopics.{is_loose}
 use Rattle.part_steps.specs.WalkTopics.{gone_down, linked_page}
 use Rattle.part_steps.specs.PageTopics.{searched}
-use Rattle.mmu_laws.proofs.causes.CausePlaces.{CauseSaw, FaultSaw, KnowsEntry, end_longer}
+use Rattle.mmu_laws.proofs.causes.CausePlaces.{CauseSaw, FaultSaw, KnowsEntry, KnowsHostWord, end_longer}
 use Rattle.mmu_laws.proofs.causes.CauseSteps.{IsAmid, IsExchange, IsLoad, Spares, spared}
 use Rattle.mmu_laws.proofs.causes.Changes.{Knows, knows_longer, knows_now, made_longer, made_now, saw_now, was_changed}
 use Rattle.mmu_core.proofs.lines.ClaimMade.{claim_made, claim_walk}
@@ -106,6 +108,11 @@ module _ (z : Sizes) (w : World Held) (ss : List (Step Kind)) (s : Step Kind) (G
       knows_longer So a (place_of (map_of z) b i) number w ss s may (stays_in z u s G may step M is)
       (λ mine here. ap (λ k. after k n) M.is ∙ spared z b i h step M.note n same inside M.needs rests spares (sym (ap (λ (k : Kind). k.word) M.is) ∙ here)) K
 
+  -- What is known of a word that it loads.
+  loads_now : (step : PartStep) (word : ℕ) → IsLoad step → (M : Made step) → s.kind.word ≡ word → Knows So a word v w more behind
+  loads_now step word is M here =
+      knows_now So a word v w ss s may (record { by_actor = refl; on = here; leaves = load_keeps z u s G may step M is })
+
   -- ---- the snapshot
 
   abbrev SeqIs : ℕ → List (Step Kind) → World Held → Type 0
@@ -120,8 +127,7 @@ module _ (z : Sizes) (w : World Held) (ss : List (Step Kind)) (s : Step Kind) (G
   either false p q gfn t_ one other = other
 
   snapshot_saw : (gfn : ℕ) (hold : Hold) → hold ≡ Loose → Made part.Seq → FaultSaw z a w (Find false) gfn (sequenced (is_loose hold) t v) more behind
-  snapshot_saw gfn Loose loose M = knows_now So a (place_of (map_of z) area.Seq 0) v w ss s may
-      (record { by_actor = refl; on = word_on z u s G may part.Seq M; leaves = load_keeps z u s G may part.Seq M tt })
+  snapshot_saw gfn Loose loose M = loads_now part.Seq (place_of (map_of z) area.Seq 0) tt M (word_on z u s G may part.Seq M)
   snapshot_saw gfn _ loose M = absurd (cc loose)
 
   -- ---- the search, the lock and the check
@@ -152,17 +158,11 @@ module _ (z : Sizes) (w : World Held) (ss : List (Step Kind)) (s : Step Kind) (G
       → FaultSaw z a w (Check stage.End) gfn t ss u → FaultSaw z a w
       (if b then Unshare (Retry (Open t.invalidations.count t.invalidations.start v gfn)) else Check stage.Seq) gfn (part_topics part.RangeEnd t v) more behind
   range_saw gfn true is M C K =
-      let O = over_it t.invalidations.start gfn v is in (
-        refl,
-        record {
-          some = C.1;
-          from = O.0;
-          to = O.1;
-          counted = made_longer (Finds a _ t.invalidations.count) So w ss s (stays_in z u s G may part.RangeEnd M tt) K.1.0;
-          began = made_longer (Finds a _ t.invalidations.start) So w ss s (stays_in z u s G may part.RangeEnd M tt) K.1.1;
-          ended = found_it part.RangeEnd area.RangeEnd M tt (word_on z u s G may part.RangeEnd M);
-        },
-      )
+      let O = over_it t.invalidations.start gfn v is in
+      let counted = made_longer (Finds a _ t.invalidations.count) So w ss s (stays_in z u s G may part.RangeEnd M tt) K.1.0 in
+      let began = made_longer (Finds a _ t.invalidations.start) So w ss s (stays_in z u s G may part.RangeEnd M tt) K.1.1 in
+      let ended = found_it part.RangeEnd area.RangeEnd M tt (word_on z u s G may part.RangeEnd M) in
+      (refl, record { some = C.1; from = O.0; to = O.1; counted = counted; began = began; ended = ended })
   range_saw gfn false is M C K = (seq_longer _ part.RangeEnd M tt (inl tt) K.0, tt)
 
   -- Where a word holds another number than the one that was known, its change was seen.
@@ -185,13 +185,9 @@ module _ (z : Sizes) (w : World Held) (ss : List (Step Kind)) (s : Step Kind) (G
       let K_ = seq_longer _ part.Count M tt (inl tt) K.0 in
       either (v == 0) (Check stage.Seq) (Check stage.Start) gfn (part_topics part.Count t v) (K_, tt)
       (K_, found_it part.Count area.Count M tt (word_on z u s G may part.Count M))
-  check_saw stage.Start gfn M C K = (
-    seq_longer _ part.RangeStart M tt (inl tt) K.0,
-    (
-      made_longer (Finds a _ t.invalidations.count) So w ss s (stays_in z u s G may part.RangeStart M tt) K.1,
-      found_it part.RangeStart area.RangeStart M tt (word_on z u s G may part.RangeStart M),
-    ),
-  )
+  check_saw stage.Start gfn M C K =
+      let counted = made_longer (Finds a _ t.invalidations.count) So w ss s (stays_in z u s G may part.RangeStart M tt) K.1 in
+      (seq_longer _ part.RangeStart M tt (inl tt) K.0, (counted, found_it part.RangeStart area.RangeStart M tt (word_on z u s G may part.RangeStart M)))
   check_saw stage.End gfn M C K = range_saw gfn (nat_le t.invalidations.start gfn && nat_lt gfn v) refl M C K
   check_saw stage.Seq gfn M C K = seq_saw gfn (v == snapshot_taken t.invalidations.snapshot) refl M K.0
 
@@ -210,8 +206,7 @@ module _ (z : Sizes) (w : World Held) (ss : List (Step Kind)) (s : Step Kind) (G
       (subst (λ (y : Sizes). table_page t.walk < y.pool) same (rests.table from)) (low z u s G may gfn)) spares K
 
   entry_now : (gfn : ℕ) → Made (part.Walk gfn) → EntryIs gfn v more behind
-  entry_now gfn M = knows_now So a (entry_word z gfn t.walk) v w ss s may
-      (record { by_actor = refl; on = word_on z u s G may (part.Walk gfn) M; leaves = load_keeps z u s G may (part.Walk gfn) M tt })
+  entry_now gfn M = loads_now (part.Walk gfn) (entry_word z gfn t.walk) tt M (word_on z u s G may (part.Walk gfn) M)
 
   abbrev gone : ℕ → SpteKind → Topics
   gone gfn k = record t { walk = gone_down (linked_page k) t.walk (entry_index gfn t.walk.level) v }
@@ -255,6 +250,20 @@ module _ (z : Sizes) (w : World Held) (ss : List (Step Kind)) (s : Step Kind) (G
   put_saw gfn true t_ is M K = tt
   put_saw gfn false t_ is M K = swap_saw gfn (part.Leaf gfn) M tt tt (word_on z u s G may (part.Leaf gfn) M) K is
 
+  -- ---- the host word
+
+  host_now : (gfn : ℕ) → Made (fault_part Host gfn t) → KnowsHostWord z a w (Some (record { page = page_of t.search.slot gfn; word = v })) more behind
+  host_now gfn M = loads_now (fault_part Host gfn t) (place_of (map_of z) area.Host (page_of t.search.slot gfn)) tt M
+      (word_on z u s G may (fault_part Host gfn t) M)
+
+  -- A lost exchange saw that the page's word was changed.
+  bring_saw : (gfn : ℕ) (b : Bool) → (v == word_looked t.host) ≡ b → Made part.Bring → FaultSaw z a w Bring gfn t ss u
+      → FaultSaw z a w (if b then Share else End (Retry (Entry (host_word_at z t.host) (word_looked t.host) v))) gfn (part_topics part.Bring t v) more behind
+  bring_saw gfn true is M K = seq_longer _ part.Bring M tt (inr (λ e. absurd (cc e))) K.0
+  bring_saw gfn false is M K =
+      saw part.Bring (host_word_at z t.host) (word_looked t.host) M tt (word_on z u s G may part.Bring M) (exchange_finds z u s G may part.Bring M tt) K.1
+      (eqb-false v (word_looked t.host) is)
+
   -- ---- each place
 
   pub own_saw : (p : FaultPlace) (gfn : ℕ) (write : Bool) → Made (fault_part p gfn t) → FaultKnows p z gfn write t → FaultSaw z a w p gfn t ss u
@@ -264,7 +273,10 @@ module _ (z : Sizes) (w : World Held) (ss : List (Step Kind)) (s : Step Kind) (G
       find_saw gfn write t.search.next (searched t.search v) (part_topics part.Slot t v) (seq_longer _ part.Slot M tt (inl tt) S)
   own_saw (Find false) gfn write M K S = seq_longer _ part.Slots M tt (inl tt) S
   own_saw Host gfn write M K S =
-      either (write && not (host_allows_write v)) (End HostFault) Share gfn _ tt (seq_longer _ (fault_part Host gfn t) M tt (inl tt) S)
+      let K_ = seq_longer _ (fault_part Host gfn t) M tt (inl tt) S in
+      either (write && not (host_allows_write v)) (End HostFault) (if host_present v then Share else Bring) gfn _ tt
+      (either (host_present v) Share Bring gfn _ K_ (K_, host_now gfn M))
+  own_saw Bring gfn write M K S = bring_saw gfn (v == word_looked t.host) refl M S
   own_saw Share gfn write M K S = share_saw t.hold gfn K.1 M S
   own_saw (Check stage_) gfn write M K S = check_saw stage_ gfn M K.2 S
   own_saw (Walk true) gfn write M K S = walk_saw gfn write (kind_of t.walk.level v) refl M

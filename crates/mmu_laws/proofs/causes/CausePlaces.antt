@@ -1,5 +1,5 @@
 -- What a fault has seen at each of its places, and that it has seen it behind its own step.
-use Rattle.std.proofs.Common.{◌≡◌, ◌≢◌, ℕ, List, [], ◌∷◌, ◌++◌}
+use Rattle.std.proofs.Common.{◌≡◌, ◌≢◌, ℕ, List, [], ◌∷◌, ◌++◌, Option}
 use Rattle.core_views.specs.declared.kind.Kind.{Kind}
 use Rattle.core_views.specs.declared.place.Cause.{Cause}
 use Rattle.core_views.specs.declared.place.Cause.TheVariants.{Open, Moved, Entry}
@@ -8,9 +8,10 @@ use Rattle.core_views.specs.declared.place.CheckStage.TheVariants as stage
 use Rattle.core_views.specs.declared.place.FaultEnd.{FaultEnd}
 use Rattle.core_views.specs.declared.place.FaultEnd.TheVariants.{Retry}
 use Rattle.core_views.specs.declared.place.FaultPlace.{FaultPlace}
-use Rattle.core_views.specs.declared.place.FaultPlace.TheVariants.{Begin, Snapshot, Find, Host, Share, Check, Walk, Claim, Fill, Role, Link, Give}
-use Rattle.core_views.specs.declared.place.FaultPlace.TheVariants.{Leaf, Unshare, End}
+use Rattle.core_views.specs.declared.place.FaultPlace.TheVariants.{Begin, Snapshot, Find, Host, Bring, Share, Check, Walk, Claim, Fill}
+use Rattle.core_views.specs.declared.place.FaultPlace.TheVariants.{Role, Link, Give, Leaf, Unshare, End}
 use Rattle.core_views.specs.declared.sizes.Sizes.{Sizes}
+use Rattle.core_views.specs.declared.topics.HostLook.{HostLook}
 use Rattle.core_views.specs.declared.topics.Invalidations.{Invalidations}
 use Rattle.core_views.specs.declared.topics.TableWalk.{TableWalk}
 use Rattle.core_views.specs.declared.topics.Topics.{Topics}
@@ -20,8 +21,9 @@ use Rattle.spte_words.specs.declared.area.Area.TheVariants as area
 use Rattle.spte_words.specs.Areas.{place as place_of}
 use Rattle.mmu_laws.specs.causes.Causes.{Finds, HasMade, SawChange, SawOpen, StaysInSection}
 use Rattle.mmu_core.specs.machine.Enabled.{mmu}
-use Rattle.mmu_core.specs.lines.FaultSteps.{entry_word, snapshot_taken}
+use Rattle.mmu_core.specs.lines.FaultSteps.{entry_word, host_word_at, snapshot_taken}
 use Rattle.mmu_core.specs.machine.Machine.{May, Step, World, effect, run}
+use Rattle.part_steps.specs.PartTasks.{word_looked}
 use Rattle.part_steps.specs.Tasks.{map_of}
 use Rattle.mmu_laws.proofs.causes.Changes.{Knows, made_longer, knows_longer, saw_longer}
 
@@ -32,12 +34,15 @@ CauseSaw (Moved old_ now_) z actor gfn w ss = SawChange actor (place_of (map_of 
 CauseSaw (Entry word read seen) z actor gfn w ss = SawChange actor word read seen w ss
 
 module _ (z : Sizes) (actor : ℕ) (w : World Held) where
-  -- The snapshot, the words of the check and the entry seen are what the fault found in these words, or they were changed since.
+  -- The snapshot, the words of the check, the host word and the entry seen are what the fault found in these words, or they were changed since.
   abbrev KnowsSeq : Invalidations → List (Step Kind) → World Held → Type 0
   KnowsSeq n ss u = Knows (StaysInSection actor) actor (place_of (map_of z) area.Seq 0) (snapshot_taken n.snapshot) w ss u
 
   abbrev pub KnowsEntry : ℕ → TableWalk → List (Step Kind) → World Held → Type 0
   KnowsEntry gfn walk ss u = Knows (StaysInSection actor) actor (entry_word z gfn walk) walk.entry w ss u
+
+  abbrev pub KnowsHostWord : Option HostLook → List (Step Kind) → World Held → Type 0
+  KnowsHostWord host ss u = Knows (StaysInSection actor) actor (host_word_at z host) (word_looked host) w ss u
 
   abbrev FoundWord : Area → ℕ → List (Step Kind) → Type 0
   FoundWord a number ss = HasMade (Finds actor (place_of (map_of z) a 0) number) (StaysInSection actor) w ss
@@ -54,6 +59,7 @@ module _ (z : Sizes) (actor : ℕ) (w : World Held) where
   abbrev pub FaultSaw : FaultPlace → ℕ → Topics → List (Step Kind) → World Held → Type 0
   FaultSaw (Find begun) gfn t ss u = KnowsSeq t.invalidations ss u
   FaultSaw Host gfn t ss u = KnowsSeq t.invalidations ss u
+  FaultSaw Bring gfn t ss u = KnowsSeq t.invalidations ss u × KnowsHostWord t.host ss u
   FaultSaw Share gfn t ss u = KnowsSeq t.invalidations ss u
   FaultSaw (Check at) gfn t ss u = KnowsSeq t.invalidations ss u × CheckSaw at t.invalidations ss
   FaultSaw (Claim begun) gfn t ss u = KnowsEntry gfn t.walk ss u
@@ -111,6 +117,7 @@ module _ (z : Sizes) (actor : ℕ) (w : World Held) where
       by : (q : FaultPlace) → FaultSaw q gfn t ss (run mmu w ss) → FaultSaw q gfn t (ss ++ s ∷ []) (effect mmu (run mmu w ss) s)
       by Begin K = tt
       by Snapshot K = tt
+      by Bring K = (longer _ _ K.0, longer _ _ K.1)
       by (Check at) K = (longer _ _ K.0, check_longer ss s so at t.invalidations K.1)
       by (Walk rooted) K = tt
       by (Give e) K = end_longer ss s so e gfn K

@@ -70,11 +70,12 @@ load_leaves (part.Host page) h note n is = (refl, refl)
 load_leaves (part.Watch index) h note n is = (refl, refl)
 load_leaves _ h note n is = absurd is
 
--- An exchange of an entry, a try to share the lock or to have it alone, and a try for a page answer what they find.
+-- An exchange of an entry or of a host word, a try to share the lock or to have it alone, and a try for a page answer what they find.
 abbrev pub IsExchange : PartStep → Type 0
 IsExchange part.Share = Unit {0}
 IsExchange part.Exclude = Unit {0}
 IsExchange part.Claim = Unit {0}
+IsExchange part.Bring = Unit {0}
 IsExchange (part.Link gfn) = Unit {0}
 IsExchange (part.Leaf gfn) = Unit {0}
 IsExchange _ = ⊥
@@ -84,6 +85,7 @@ unfolding answer
 exchange_answers part.Share h note n is = refl
 exchange_answers part.Exclude h note n is = refl
 exchange_answers part.Claim h note n is = refl
+exchange_answers part.Bring h note n is = refl
 exchange_answers (part.Link gfn) h note n is = refl
 exchange_answers (part.Leaf gfn) h note n is = refl
 exchange_answers _ h note n is = absurd is

@@ -32,7 +32,7 @@ causes_seen z w = record {
 
 -- The cause is what was seen, and where it is an entry, this is one of the guest frame.
 caused : (cause : Cause) (z : Sizes) (actor gfn : ℕ) (w : World Held) (ss : List (Step Kind)) → CauseSaw cause z actor gfn w ss
-    → IsOfFrame cause z gfn → IsCaused cause z actor gfn w ss
+    → IsOfFrame cause z gfn (hand_in mmu (run mmu w ss) actor).topics → IsCaused cause z actor gfn w ss
 caused (Open count start end_ at) z actor gfn w ss S F = S
 caused (Moved old_ now_) z actor gfn w ss S F = S
 caused (Entry word read seen) z actor gfn w ss S F = (F, S)

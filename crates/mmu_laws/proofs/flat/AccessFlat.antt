@@ -1,8 +1,7 @@
 -- What the steps of an access owe flat memory.
 use Rattle.core_views.specs.Held.{State}
-use Rattle.std.proofs.Common.{◌≡◌, ◌≢◌, ◌<◌, ◌⊎◌, inl, inr, ℕ, [], ◌∷◌, refl, sym, subst, ap, ◌∙◌, arith}
+use Rattle.std.proofs.Common.{◌≡◌, ◌≢◌, ◌<◌, ℕ, [], ◌∷◌, refl, sym, subst, ap, ◌∙◌, arith}
 use Rattle.std.specs.Prelude.{Bool, true, false, ◌==◌, ◌&&◌, ◌||◌, not, if◌then◌else◌, Option, Some, None}
-use Rattle.std.proofs.lemmas.Bool.Decides.{nat_tests}
 use Rattle.core_views.specs.declared.answer.Answer.TheVariants.{Reached}
 use Rattle.core_views.specs.declared.cache.Translation.{Translation}
 use Rattle.core_views.specs.declared.event.EventKind.TheVariants.{Accessed}
@@ -21,7 +20,7 @@ use Rattle.core_views.specs.Events.{touched}
 use Rattle.core_views.specs.Flat.{Facts, LineUnderWay, Stage}
 use Rattle.core_views.specs.Past.{Past}
 use Rattle.core_views.specs.Lawful.{Tells}
-use Rattle.core_views.specs.Memory.{Memory, stored, with_word}
+use Rattle.core_views.specs.Memory.{stored}
 use Rattle.core_views.specs.Names.{frame_at, frame_for}
 use Rattle.core_views.specs.Slots.{is_write, page_behind}
 use Rattle.core_views.specs.SlotSets.{flat_slots}
@@ -31,7 +30,6 @@ use Rattle.spte_words.specs.declared.spte_kind.SpteKind.{SpteKind}
 use Rattle.spte_words.specs.declared.spte_kind.SpteKind.TheVariants as entry_kind
 use Rattle.spte_words.specs.Areas.{content_index}
 use Rattle.spte_words.specs.Entries.{frame_in, kind_of}
-use Rattle.spte_words.proofs.Indices.{same_content}
 use Rattle.part_steps.specs.declared.part_step.PartStep.{PartStep}
 use Rattle.part_steps.specs.declared.part_step.PartStep.TheVariants as part
 use Rattle.mmu_core.specs.lines.AccessSteps.{access_note, access_part, access_task, pause_next, task_by, touch_of, stay_next}
@@ -42,24 +40,25 @@ use Rattle.mmu_core.specs.invariant.Invariant.{Invariant, IsLeafFor}
 use Rattle.mmu_core.specs.lines.AccessKnows.{AccessKnows}
 use Rattle.part_steps.specs.SlotWords.{page_of}
 use Rattle.part_steps.specs.Tasks.{kind_of_task, map_of}
-use Rattle.mmu_core.specs.invariant.TopicsInvariant.{TopicsInvariant}
+use Rattle.mmu_core.specs.invariant.TopicsInvariant.{TopicsInvariant, HostWordsPart}
 use Rattle.part_steps.specs.TopicSteps.{topics_after}
 use Rattle.mmu_core.specs.machine.View.{View, answer_in, put, words_after}
-use Rattle.mmu_core.proofs.machine.Columns.{same_or, upd_same, upd_other}
+use Rattle.mmu_core.proofs.machine.Columns.{upd_same, upd_other}
 use Rattle.mmu_laws.proofs.flat.FaultFlat.{fault_goes}
 use Rattle.mmu_laws.proofs.flat.FlatSteps.{Goes, Leaves, Ready, StepGoes, answers_by, part_leaves, part_refines, refined_slots, refines_stay}
-use Rattle.mmu_laws.proofs.flat.PageFound.{frame_of_leaf, leaf_allows, page_in_machine, page_is_behind, word_in_page, entry_is}
+use Rattle.mmu_laws.proofs.flat.PageFound.{frame_of_leaf, leaf_allows, page_in_machine, page_is_behind, word_in_page}
 use Rattle.mmu_core.proofs.machine.PartStepping.{IsPart}
 use Rattle.mmu_core.proofs.machine.Stepping.{IsStep}
-use Rattle.mmu_core.proofs.slots.LiveStays.{access_never, access_quiet}
+use Rattle.mmu_core.proofs.slots.LiveStays.{access_never, access_quiet, is_bring}
 use Rattle.mmu_core.proofs.lines.UsedTranslations.{lowest_frame, uses_allows}
 use Rattle.core_views.specs.declared.actor.Actor.{Actor}
 use Rattle.mmu_core.proofs.held.UsableSteps.{UsableAt}
+use Rattle.mmu_laws.proofs.flat.TouchedMemory.{memory_behind}
 use Rattle.mmu_core.specs.lines.HostSteps.{entry_of}
 use Rattle.core_views.specs.Traces.{IsCommandFor}
 use Rattle.mmu_core.proofs.held.UsableKept.{used_agrees}
 use Rattle.core_views.specs.Sizes.{index_of}
-use Rattle.spte_words.specs.HostWords.{host_allows_write}
+use Rattle.spte_words.specs.HostWords.{host_allows_write, host_frame}
 use Rattle.core_views.specs.declared.actor.Actor.TheVariants.{Vcpu}
 use Rattle.core_views.specs.declared.actor.Actor.TheVariants as actors
 
@@ -84,47 +83,20 @@ walk_under : (pool : ℕ → ℕ) (gfn : ℕ) (op : Op) (t : Topics) (u : LineUn
 walk_under pool gfn op t u again entry_kind.Leaf allowed runs = leaf_under pool gfn op t u allowed runs
 walk_under pool gfn op t u again _ allowed runs = runs
 
-with_word_here : (page word x : ℕ) (memory : Memory) (p w : ℕ) → p ≡ page → w ≡ word → with_word page word x memory p w ≡ x
-with_word_here page word x memory p w e f = grind (arith, nat_tests)
-
-with_word_other : (page word x : ℕ) (memory : Memory) (p w : ℕ) → (p ≡ page → w ≡ word → ⊥) → with_word page word x memory p w ≡ memory p w
-with_word_other page word x memory p w apart = grind (arith, nat_tests)
-
--- The touched word is memory's behind the touch, and so is each other one.
-memory_behind : (z : Sizes) (page word : ℕ) (op : Op) (memory : Memory) (content after : ℕ → ℕ) → page < z.pages → word < z.words
-    → ((p j : ℕ) → p < z.pages → j < z.words → memory p j ≡ content (content_index (map_of z) p j))
-    → after (content_index (map_of z) page word) ≡ stored op (content (content_index (map_of z) page word))
-    → ((i : ℕ) → i ≢ content_index (map_of z) page word → after i ≡ content i)
-    → (p j : ℕ) → p < z.pages → j < z.words → touched (Some page) word op memory p j ≡ after (content_index (map_of z) p j)
-memory_behind z page word op memory content after page_in word_in is here there p j p_in j_in = case (same_or p page) (same_or j word)
-  where
-    other : (p ≡ page → j ≡ word → ⊥) → touched (Some page) word op memory p j ≡ after (content_index (map_of z) p j)
-    other apart =
-        with_word_other page word (stored op (memory page word)) memory p j apart ∙ is p j p_in j_in
-        ∙ sym (there (content_index (map_of z) p j)
-        (λ e. let same : (p ≡ page) × (j ≡ word) = same_content (map_of z) p page j word j_in word_in e in apart same.0 same.1))
-
-    case : (p ≡ page) ⊎ (p ≢ page) → (j ≡ word) ⊎ (j ≢ word) → touched (Some page) word op memory p j ≡ after (content_index (map_of z) p j)
-    case (inl e) (inl f) =
-        with_word_here page word (stored op (memory page word)) memory p j e f ∙ ap (stored op) (is page word page_in word_in) ∙ sym here
-        ∙ rw (e, f) refl
-    case (inr e) f = other (λ same _. e same)
-    case (inl e) (inr f) = other (λ _ same. f same)
-
 -- A page that is present, and of which the host forbids nothing to the operation, names its frame.
-frame_named : (op : Op) (page : ℕ) (writable : Bool) → (is_write op && not writable) ≡ false
-    → frame_for op (record { frame = page; present = true; writable = writable }) ≡ Some page
-frame_named op page writable allowed = ap (λ (b : Bool). if b || not true then None else Some page) allowed
+frame_named : (op : Op) (frame : ℕ) (writable : Bool) → (is_write op && not writable) ≡ false
+    → frame_for op (record { frame = frame; present = true; writable = writable }) ≡ Some frame
+frame_named op frame writable allowed = ap (λ (b : Bool). if b || not true then None else Some frame) allowed
 
 -- what a touch finds: the page behind the guest frame, and its word in memory
-record Touches (z : Sizes) (s : State) (gfn word : ℕ) (op : Op) (facts : Facts) : Type 0 where
+record Touches (z : Sizes) (host : ℕ → ℕ) (s : State) (gfn word : ℕ) (op : Op) (facts : Facts) : Type 0 where
   page : ℕ
   page_in : page < z.pages
   word_in : word < z.words
-  frame : frame_used gfn s ≡ page
-  named : frame_for op (facts.host page) ≡ Some page
+  frame : frame_used gfn s ≡ host_frame (host page)
+  named : frame_for op (facts.host page) ≡ Some (host_frame (host page))
   behind_is : page_behind (flat_slots facts.slots) gfn op ≡ Some page
-  index : content_index (map_of s.sizes) (frame_used gfn s) word ≡ content_index (map_of z) page word
+  index : content_index (map_of s.sizes) (frame_used gfn s) word ≡ content_index (map_of z) (host_frame (host page)) word
 
 -- The actor of an access is a virtual processor.
 vcpu_low : (z : Sizes) (v : View) (a : ℕ) (line : Line) (gfn word : ℕ) (op : Op) (p : AccessPlace)
@@ -143,14 +115,14 @@ touches : (z : Sizes) (v : View) (a : ℕ) (line : Line) (gfn word : ℕ) (op : 
     → IsStep z v a line (Access gfn word op) (place.Access Touch) → Invariant z v → TopicsInvariant z v → UsableAt z v
     → AccessKnows Touch gfn (is_write op) (v.hand a)
     → Ready z v line (Access gfn word op) (place.Access Touch) (v.hand a).topics facts u
-    → Touches z (v.hand a).state gfn word op facts
+    → Touches z (v.words area.Host) (v.hand a).state gfn word op facts
 touches z v a line gfn word op facts u S I P U K R =
     let s : State = (v.hand a).state in
     let used = used_agrees z v a gfn (is_write op) U (vcpu_low z v a line gfn word op (Touch) S I) K.0.guest (I.cached a S.there) K.1 in
     let F : IsLeafFor (v.words area.Pool) (v.words area.Host) (v.words area.Slots 0) gfn s.used.leaf = used.1 in
     let page : ℕ = page_of F.slot gfn in
     let page_in : page < z.pages = page_in_machine z (v.words area.Slots 0) (v.words area.Role) (v.words area.Pool) F.id gfn F.slot I.set_part F.live F.holds in
-    let frame : frame_used gfn s ≡ page = lowest_frame gfn s used.0 ∙ ap frame_in F.is
+    let frame : frame_used gfn s ≡ host_frame (v.words area.Host page) = lowest_frame gfn s used.0 ∙ ap frame_in F.is
     ∙ frame_of_leaf z (v.words area.Host) F.slot page I.sizes P.hosts page_in in
     let allowed = leaf_allows op F.slot (v.words area.Host page) s.used.leaf F.is (uses_allows gfn (is_write op) (v.hand a) K.1) in
     record {
@@ -158,8 +130,11 @@ touches z v a line gfn word op facts u S I P U K R =
       page_in = page_in;
       word_in = word_in_page z line.actor gfn word op S.allowed;
       frame = frame;
-      named = ap (frame_for op) (R.refines.host page page_in ∙ entry_is page (v.words area.Host page) (P.hosts page page_in))
-          ∙ frame_named op page (host_allows_write (v.words area.Host page)) allowed.1;
+      named =
+          let word : ℕ = v.words area.Host page in
+          ap (frame_for op) (R.refines.host page page_in)
+          ∙ (ap (λ (b : Bool). frame_for op (record { frame = host_frame word; present = b; writable = host_allows_write word })) F.present
+          ∙ frame_named op (host_frame word) (host_allows_write word) allowed.1);
       behind_is =
           page_is_behind z (v.words area.Slots 0) (v.words area.Role) (v.words area.Pool) F.id gfn F.slot op (flat_slots facts.slots)
           I.set_part F.live F.holds allowed.0 (refined_slots z (v.words area.Slots 0) (v.words area.Pool) (v.words area.Host) (v.words area.Content)
@@ -170,7 +145,7 @@ touches z v a line gfn word op facts u S I P U K R =
 touch_goes : (z : Sizes) (v : View) (a : ℕ) (line : Line) (gfn word : ℕ) (op : Op) (facts : Facts) (past : Past) (u : LineUnderWay)
     (after : Area → ℕ → ℕ) (t : Topics)
     → IsStep z v a line (Access gfn word op) (place.Access Touch) → Ready z v line (Access gfn word op) (place.Access Touch) (v.hand a).topics facts u
-    → (T : Touches z (v.hand a).state gfn word op facts)
+    → HostWordsPart z (v.words area.Host) → (T : Touches z (v.words area.Host) (v.hand a).state gfn word op facts)
     → after area.Slots ≡ v.words area.Slots → after area.Pool ≡ v.words area.Pool → after area.Host ≡ v.words area.Host → after area.Pause ≡ v.words area.Pause
     → after area.Content (content_index (map_of (v.hand a).state.sizes) (frame_used gfn (v.hand a).state) word) ≡ stored op
     (v.words area.Content (content_index (map_of (v.hand a).state.sizes) (frame_used gfn (v.hand a).state) word))
@@ -178,7 +153,7 @@ touch_goes : (z : Sizes) (v : View) (a : ℕ) (line : Line) (gfn word : ℕ) (op
     → let x : ℕ = v.words area.Content (content_index (map_of (v.hand a).state.sizes) (frame_used gfn (v.hand a).state) word) in
     Goes z (v.hand a).state.actor line (Access gfn word op) after (place.Access (Leave (leaving.Reached (frame_used gfn (v.hand a).state) x))) t
     (Accessed gfn word op (frame_used gfn (v.hand a).state) x ∷ []) facts past u
-touch_goes z v a line gfn word op facts past u after t S R T slots_is pool_is host_is pause_is here there = record {
+touch_goes z v a line gfn word op facts past u after t S R P T slots_is pool_is host_is pause_is here there = record {
   allowed = (
     (
       R.under.1.0,
@@ -197,10 +172,13 @@ touch_goes z v a line gfn word op facts past u after t S R T slots_is pool_is ho
     slots = R.refines.slots ∙ rw (slots_is, pool_is) refl;
     host = λ p lt. R.refines.host p lt ∙ sym (ap (λ (g : ℕ → ℕ). entry_of (g p)) host_is);
     memory =
-        subst (λ page. (p j : ℕ) → p < z.pages → j < z.words
-        → touched page word op facts.memory p j ≡ after area.Content (content_index (map_of z) p j)) (sym T.behind_is)
-        (memory_behind z T.page word op facts.memory (v.words area.Content) (after area.Content) T.page_in T.word_in R.refines.memory
-        (rw T.index at here) (rw T.index at there));
+        subst (λ (host : ℕ → ℕ). (p j : ℕ) → p < z.pages → j < z.words
+        → touched (page_behind (flat_slots facts.slots) gfn op) word op facts.memory p j
+        ≡ after area.Content (content_index (map_of z) (host_frame (host p)) j)) (sym host_is)
+        (subst (λ page. (p j : ℕ) → p < z.pages → j < z.words
+        → touched page word op facts.memory p j ≡ after area.Content (content_index (map_of z) (host_frame (v.words area.Host p)) j)) (sym T.behind_is)
+        (memory_behind z T.page word op facts.memory (v.words area.Host) (v.words area.Content) (after area.Content) P T.page_in T.word_in R.refines.memory
+        (rw T.index at here) (rw T.index at there)));
     paused = R.refines.paused ∙ ap (λ (g : ℕ → ℕ). not (g 0 == 0)) (sym pause_is);
   };
   under = (R.under.0, refl);
@@ -231,30 +209,31 @@ module _ (z : Sizes) (v : View) (a : ℕ) (line : Line) (gfn word : ℕ) (facts 
   touch_owes : (op : Op) → Owes op Touch
   touch_owes Read S I P U part_ K R =
       touch_goes z v a line gfn word Read facts past u v.words (held_behind Read Touch) S R
-      (touches z v a line gfn word Read facts u S I P U K R) refl refl refl refl refl (λ i apart. refl)
+      P.hosts (touches z v a line gfn word Read facts u S I P U K R) refl refl refl refl refl (λ i apart. refl)
   touch_owes (Write x) S I P U part_ K R =
       touch_goes z v a line gfn word (Write x) facts past u (put v.words area.Content (touched_index gfn (v.hand a).state word) x)
-      (held_behind (Write x) Touch) S R (touches z v a line gfn word (Write x) facts u S I P U K R) refl refl refl refl
+      (held_behind (Write x) Touch) S R P.hosts (touches z v a line gfn word (Write x) facts u S I P U K R) refl refl refl refl
       (upd_same (v.words area.Content) (touched_index gfn (v.hand a).state word) x)
       (λ i apart. upd_other (v.words area.Content) (touched_index gfn (v.hand a).state word) i x apart)
   touch_owes (Add x) S I P U part_ K R =
       let sum : ℕ = stored (Add x) (v.words area.Content (touched_index gfn (v.hand a).state word)) in
       touch_goes z v a line gfn word (Add x) facts past u (put v.words area.Content (touched_index gfn (v.hand a).state word) sum)
-      (held_behind (Add x) Touch) S R (touches z v a line gfn word (Add x) facts u S I P U K R) refl refl refl refl
+      (held_behind (Add x) Touch) S R P.hosts (touches z v a line gfn word (Add x) facts u S I P U K R) refl refl refl refl
       (upd_same (v.words area.Content) (touched_index gfn (v.hand a).state word) sum)
       (λ i apart. upd_other (v.words area.Content) (touched_index gfn (v.hand a).state word) i sum apart)
 
   -- A step of a stay that tells nothing.
-  quiet : (op : Op) (p next : AccessPlace) (step : PartStep) → access_part p gfn (v.hand a).topics ≡ Some step → IsPart z v a step → Invariant z v
-      → TopicsInvariant z v
+  quiet : (op : Op) (p next : AccessPlace) (step : PartStep) → access_part p gfn (v.hand a).topics ≡ Some step → is_bring p ≡ false → IsPart z v a step
+      → Invariant z v → TopicsInvariant z v
       → Ready z v line (Access gfn word op) (place.Access p) (v.hand a).topics facts u
       → (u.line ≡ line) × AccessUnder (words_behind op p area.Pool) next gfn op (held_behind op p) u
       → Goes z (v.hand a).state.actor line (Access gfn word op) (words_behind op p) (place.Access next) (held_behind op p) [] facts past u
-  quiet op p next step is S I P R under = record { allowed = tt; refines = refines_stay z v.words (words_behind op p) facts L R.refines; under = under }
+  quiet op p next step is other S I P R under = record { allowed = tt; refines = refines_stay z v.words (words_behind op p) facts L R.refines; under = under }
     where
       L : Leaves v.words (words_behind op p)
       L = subst (λ o. Leaves v.words (words_after (task_by o (v.hand a) (access_note p) (touch_of op (touched_index gfn (v.hand a).state word))) v.words))
-          (sym is) (part_leaves z v a step (access_note p) S P (access_never p gfn (v.hand a).topics step is) (access_quiet p gfn (v.hand a).topics step is))
+          (sym is)
+          (part_leaves z v a step (access_note p) S P (access_never p gfn (v.hand a).topics step is) (access_quiet p gfn (v.hand a).topics step is other))
 
   -- The access is answered.
   reached_owes : (op : Op) (frame value : ℕ) → Owes op (Leave (leaving.Reached frame value))
@@ -279,16 +258,16 @@ module _ (z : Sizes) (v : View) (a : ℕ) (line : Line) (gfn word : ℕ) (facts 
   }
 
   pub access_goes : (op : Op) (p : AccessPlace) → Owes op p
-  access_goes op (Enter again) S I P U part_ K R = quiet op (Enter again) (Pause again) part.Enter refl part_ I P R R.under
+  access_goes op (Enter again) S I P U part_ K R = quiet op (Enter again) (Pause again) part.Enter refl refl part_ I P R R.under
   access_goes op (Pause again) S I P U part_ K R = looks_at_pause op again part_ P R
-  access_goes op (Root again) S I P U part_ K R = quiet op (Root again) (Walk again) part.Root refl part_ I P R R.under
+  access_goes op (Root again) S I P U part_ K R = quiet op (Root again) (Walk again) part.Root refl refl part_ I P R R.under
   access_goes op (Walk again) S I P U part_ K R =
       let k : SpteKind = kind_of (v.hand a).topics.walk.level (answered op (Walk again)) in
       let allowed : Bool = allows_access (is_write op) (answered op (Walk again)) in
-      quiet op (Walk again) (stay_next again k allowed) (part.Walk gfn) refl part_ I P R
+      quiet op (Walk again) (stay_next again k allowed) (part.Walk gfn) refl refl part_ I P R
       (R.under.0, walk_under (words_behind op (Walk again) area.Pool) gfn op (held_behind op (Walk again)) u again k allowed R.under.1)
   access_goes op Touch S I P U part_ K R = touch_owes op S I P U part_ K R
   access_goes op (Leave (leaving.Reached frame value)) S I P U part_ K R = reached_owes op frame value S I P U part_ K R
   access_goes op (Leave leaving.Faults) S I P U part_ K R =
-      quiet op (Leave leaving.Faults) (Fault fault.Begin) part.Leave refl part_ I P R (R.under.0, (R.under.1, tt))
+      quiet op (Leave leaving.Faults) (Fault fault.Begin) part.Leave refl refl part_ I P R (R.under.0, (R.under.1, tt))
   access_goes op (Fault p) S I P U part_ K R = fault_goes z v a line gfn word op facts past u p S part_ I P K R

@@ -1,5 +1,5 @@
 -- What every list of steps tells is lawful.
-use Rattle.std.proofs.Common.{◌≡◌, ◌⊎◌, inl, inr, ◌<◌, ℕ, List, [], ◌∷◌, ◌++◌, refl, sym, subst, ap, ◌∙◌, true, nat_lt, arith, Bool}
+use Rattle.std.proofs.Common.{◌≡◌, ◌⊎◌, inl, inr, ◌<◌, ℕ, List, [], ◌∷◌, ◌++◌, refl, sym, subst, ap, ◌∙◌, true, nat_lt, arith}
 use Rattle.std.specs.Prelude.{◌==◌, false, not}
 use Rattle.core_views.specs.declared.event.Event.{Event}
 use Rattle.core_views.specs.declared.kind.Kind.{Kind}
@@ -45,8 +45,7 @@ use Rattle.mmu_core.specs.lines.HostSteps.{entry_of}
 use Rattle.core_views.specs.Host.{own_frames}
 use Rattle.spte_words.specs.HostWords.{host_word}
 use Rattle.std.proofs.lemmas.Bool.Decides.{nat_tests}
-use Rattle.mmu_laws.proofs.flat.PageFound.{entry_is}
-use Rattle.spte_words.proofs.ReadsHost.{host_is_writable}
+use Rattle.mmu_laws.proofs.steps.AllowedWords.{entry_made}
 
 -- A hand with no line left has none under way.
 none_under : (p : Place) (h : Held) → UnderWay p h → has_line h ≡ false → p ≡ place.Between
@@ -137,8 +136,7 @@ entry_at_start : (z : Sizes) (lines : List Line) (w : World Held) → IsStart z 
 entry_at_start z lines w start p lt =
     let is = word_at_start z w area.Host p (host_word p true true 1) start.words (λ l. refl)
     (λ e. absurd (let low : nat_lt p z.pages ≡ true = grind (arith, nat_tests) in cc (e, low))) in
-    ap entry_of is ∙ (entry_is p (host_word p true true 1) (ap (λ (b : Bool). host_word p true b 1) (sym (host_is_writable p true true 1)))
-    ∙ ap (λ (b : Bool). record { frame = p; present = true; writable = b }) (host_is_writable p true true 1))
+    ap entry_of is ∙ entry_made p true true 1 (omega arith)
 
 -- The start stands for the first flat state.
 start_flat : (z : Sizes) (lines : List Line) (w : World Held) → IsStart z lines w → FlatInvariant z (view z w) first_flat

@@ -8,8 +8,8 @@ use Rattle.core_views.specs.declared.place.Cause.TheVariants.{Entry}
 use Rattle.core_views.specs.declared.place.FaultEnd.{FaultEnd}
 use Rattle.core_views.specs.declared.place.FaultEnd.TheVariants.{Installed, Mmio, HostFault, Starved, Retry}
 use Rattle.core_views.specs.declared.place.FaultPlace.{FaultPlace}
-use Rattle.core_views.specs.declared.place.FaultPlace.TheVariants.{Begin, Snapshot, Find, Host, Share, Check, Walk, Claim, Fill, Role, Link, Give}
-use Rattle.core_views.specs.declared.place.FaultPlace.TheVariants.{Leaf, Unshare, End}
+use Rattle.core_views.specs.declared.place.FaultPlace.TheVariants.{Begin, Snapshot, Find, Host, Bring, Share, Check, Walk, Claim, Fill}
+use Rattle.core_views.specs.declared.place.FaultPlace.TheVariants.{Role, Link, Give, Leaf, Unshare, End}
 use Rattle.core_views.specs.declared.place.AccessPlace.TheVariants.{Enter, Fault}
 use Rattle.core_views.specs.declared.place.Place.TheVariants as place
 use Rattle.core_views.specs.declared.sizes.Sizes.{Sizes}
@@ -33,12 +33,14 @@ use Rattle.mmu_core.specs.lines.AccessSteps.{access_note, access_task}
 use Rattle.mmu_core.specs.lines.FaultKnows.{FaultKnows}
 use Rattle.mmu_core.specs.lines.FaultSteps.{after_claim, after_share, check_next, claim_next, entry_word, fault_part, find_next}
 use Rattle.mmu_core.specs.lines.FaultSteps.{share_next, walk_next}
-use Rattle.mmu_laws.specs.flat.FlatInvariant.{NotedAt}
+use Rattle.mmu_laws.specs.flat.FlatInvariant.{NotedAt, NotedLook, NotedPage}
+use Rattle.mmu_core.specs.lines.HostSteps.{entry_of}
 use Rattle.mmu_core.specs.invariant.Invariant.{Invariant}
 use Rattle.part_steps.specs.PartTasks.{own_index, words_filled}
 use Rattle.part_steps.specs.Tasks.{kind_of_task}
 use Rattle.mmu_core.specs.invariant.TopicsInvariant.{TopicsInvariant}
 use Rattle.mmu_core.specs.machine.View.{View, answer_in, words_after}
+use Rattle.mmu_laws.proofs.flat.BringFlat.{brings}
 use Rattle.mmu_laws.proofs.flat.FindFlat.{find_noted}
 use Rattle.mmu_core.proofs.lines.EitherPlace.{either_place}
 use Rattle.mmu_laws.proofs.flat.FlatSteps.{Goes, Ready, StepGoes, goes_by, leaves_by, part_refines, refined_slots}
@@ -52,7 +54,7 @@ use Rattle.part_steps.specs.ControlTopics.{at_set}
 use Rattle.part_steps.specs.TopicSteps.{topics_after}
 use Rattle.core_views.specs.declared.topics.SlotSearch.{SlotSearch}
 use Rattle.core_views.specs.declared.topics.Stay.{Stay}
-use Rattle.mmu_core.proofs.slots.LiveStays.{access_never, access_quiet}
+use Rattle.mmu_core.proofs.slots.LiveStays.{access_never, access_quiet, is_bring}
 use Rattle.mmu_core.proofs.held.OldSets.{set_live}
 use Rattle.mmu_laws.proofs.flat.FaultNotes.{Noted, check_noted, claim_noted, entry_noted, host_noted, share_noted, walk_noted}
 
@@ -71,14 +73,14 @@ module _ (z : Sizes) (v : View) (a : ℕ) (line : Line) (gfn word : ℕ) (op : O
   held_behind p = topics_after (v.hand a).state.sizes (kind_of_task (v.hand a).state.sizes (access_task (Fault p) (v.hand a) gfn word op)) held (answered p)
 
   -- A step that tells nothing, behind which the line has noted what its next place asks.
-  quiet : (p next : FaultPlace) → IsPart z v a (fault_part p gfn held) → Invariant z v → TopicsInvariant z v
+  quiet : (p next : FaultPlace) → is_bring (Fault p) ≡ false → IsPart z v a (fault_part p gfn held) → Invariant z v → TopicsInvariant z v
       → Ready z v line (Access gfn word op) (place.Access (Fault p)) held facts u
       → NotedAt (words_behind p area.Pool) next gfn op (held_behind p) u.notes
       → Goes z (v.hand a).state.actor line (Access gfn word op) (words_behind p) (place.Access (Fault next)) (held_behind p) [] facts past u
-  quiet p next S I P R noted =
+  quiet p next other S I P R noted =
       goes_by z v a line (Access gfn word op) (access_task (Fault p) (v.hand a) gfn word op) facts past u
       (part_refines z v a (fault_part p gfn held) (access_note (Fault p)) facts S P (access_never (Fault p) gfn held (fault_part p gfn held) refl)
-      (access_quiet (Fault p) gfn held (fault_part p gfn held) refl) R.refines) (place.Access (Fault next)) (R.under.0, (R.under.1.0, noted))
+      (access_quiet (Fault p) gfn held (fault_part p gfn held) refl other) R.refines) (place.Access (Fault next)) (R.under.0, (R.under.1.0, noted))
 
   -- The line looks at the slots: those of the published set, which its search holds now, and none of them is passed yet.
   looks : FaultKnows (Find false) (v.hand a).state.sizes gfn (is_write op) held
@@ -120,7 +122,7 @@ module _ (z : Sizes) (v : View) (a : ℕ) (line : Line) (gfn word : ℕ) (op : O
       → Ready z v line (Access gfn word op) (place.Access (Fault (Find true))) held facts u
       → StepGoes z v a line (Access gfn word op) (place.Access (Fault (Find true))) facts past u
   searches S part_ I P K R =
-      quiet (Find true) (find_next gfn (is_write op) held.search.next (searched held.search (answered (Find true)))) part_ I P R
+      quiet (Find true) (find_next gfn (is_write op) held.search.next (searched held.search (answered (Find true)))) refl part_ I P R
       (find_noted z (v.words area.Slots 0) (v.words area.Role) (v.words area.Pool) gfn (answered (Find true)) op held.search.next held.search
       (held_behind (Find true)) u.notes I.set_part
       (λ k is. set_live z v a k S.there P is) (P.searches a S.there).loaded (K.1 refl).1 refl search R.under.1.0.1 R.under.1.1)
@@ -172,6 +174,27 @@ module _ (z : Sizes) (v : View) (a : ℕ) (line : Line) (gfn word : ℕ) (op : O
         forbids = forbids;
       }
 
+  -- The word that it has noted is the one that it holds.
+  sees_look : IsPart z v a (part.Host page_found) → Ready z v line (Access gfn word op) (place.Access (Fault Host)) held facts u → page_found < z.pages
+      → is_denied op (facts.host page_found) ≡ false → NotedLook noted_entry (held_behind Host).host gfn op
+  sees_look S R low allows =
+      subst (λ host. NotedLook noted_entry host gfn op) (sym at) (record {
+        slots = N.slots;
+        noted = N.noted;
+        behind = N.behind;
+        looked = entry_noted page_found (facts.host page_found) u.notes.host ∙ ap Some is;
+        allows = ap (is_denied op) (sym is) ∙ allows;
+      })
+    where
+      N : NotedPage u.notes held.search gfn op
+      N = R.under.1.1
+
+      is : facts.host page_found ≡ entry_of (v.words area.Host page_found)
+      is = R.refines.host page_found low
+
+      at : (held_behind Host).host ≡ Some (record { page = page_found; word = v.words area.Host page_found })
+      at = ap (λ (t : Topics). t.host) (part_topics_is (v.hand a).state.sizes (part.Host page_found) (own_index (v.hand a)) held 0 (answered Host) tt)
+
   -- The line looks at the host word of the page, which allows the access or forbids the write.
   looks_at_host : IsPart z v a (part.Host page_found) → Ready z v line (Access gfn word op) (place.Access (Fault Host)) held facts u
       → StepGoes z v a line (Access gfn word op) (place.Access (Fault Host)) facts past u
@@ -185,7 +208,7 @@ module _ (z : Sizes) (v : View) (a : ℕ) (line : Line) (gfn word : ℕ) (op : O
           (
             R.under.1.0,
             host_noted (v.words area.Pool) gfn op (held_behind Host) noted_entry (is_write op) (answered Host)
-                (λ e. sees_page R (denied_is R low ∙ e)) (λ e. sees_forbidden R (denied_is R low ∙ e)),
+                (λ e. sees_page R (denied_is R low ∙ e)) (λ e. sees_forbidden R (denied_is R low ∙ e)) (λ e. sees_look S R low (denied_is R low ∙ e)),
           ),
         );
       }
@@ -223,42 +246,43 @@ module _ (z : Sizes) (v : View) (a : ℕ) (line : Line) (gfn word : ℕ) (op : O
       → Invariant z v → TopicsInvariant z v
       → FaultKnows p (v.hand a).state.sizes gfn (is_write op) held → Ready z v line (Access gfn word op) (place.Access (Fault p)) held facts u
       → StepGoes z v a line (Access gfn word op) (place.Access (Fault p)) facts past u
-  fault_goes Begin S part_ I P K R = quiet Begin Snapshot part_ I P R tt
-  fault_goes Snapshot S part_ I P K R = quiet Snapshot (Find false) part_ I P R tt
+  fault_goes Begin S part_ I P K R = quiet Begin Snapshot refl part_ I P R tt
+  fault_goes Snapshot S part_ I P K R = quiet Snapshot (Find false) refl part_ I P R tt
   fault_goes (Find false) S part_ I P K R = looks K R
   fault_goes (Find true) S part_ I P K R = searches S part_ I P K R
   fault_goes Host S part_ I P K R = looks_at_host part_ R
+  fault_goes Bring S part_ I P K R = brings z v a line gfn word op facts past u S.command_is K part_ P R
   fault_goes Share S part_ I P K R =
       let next : ShareNext = share_next held.hold (answered Share) in
-      quiet Share (after_share next) part_ I P R (share_noted (words_behind Share area.Pool) gfn op (held_behind Share) u.notes R.under.1.1 next)
+      quiet Share (after_share next) refl part_ I P R (share_noted (words_behind Share area.Pool) gfn op (held_behind Share) u.notes R.under.1.1 next)
   fault_goes (Check at) S part_ I P K R =
-      quiet (Check at) (check_next at gfn held (answered (Check at))) part_ I P R
+      quiet (Check at) (check_next at gfn held (answered (Check at))) refl part_ I P R
       (check_noted (words_behind (Check at) area.Pool) gfn op (held_behind (Check at)) u.notes R.under.1.1 at held (answered (Check at)))
-  fault_goes (Walk false) S part_ I P K R = quiet (Walk false) (Walk true) part_ I P R R.under.1.1
+  fault_goes (Walk false) S part_ I P K R = quiet (Walk false) (Walk true) refl part_ I P R R.under.1.1
   fault_goes (Walk true) S part_ I P K R =
       quiet (Walk true)
-      (walk_next (kind_of held.walk.level (answered (Walk true))) (v.hand a).state.sizes gfn (is_write op) held.walk (answered (Walk true))) part_ I P R
+      (walk_next (kind_of held.walk.level (answered (Walk true))) (v.hand a).state.sizes gfn (is_write op) held.walk (answered (Walk true))) refl part_ I P R
       (walk_noted (words_behind (Walk true) area.Pool) gfn op (held_behind (Walk true)) u.notes R.under.1.1 (kind_of held.walk.level (answered (Walk true)))
       (v.hand a).state.sizes (is_write op) held.walk (answered (Walk true)))
   fault_goes (Claim begun) S part_ I P K R =
       let next : ClaimNext = claim_next begun (v.hand a).state.sizes held.claim (answered (Claim begun)) in
-      quiet (Claim begun) (after_claim next) part_ I P R
+      quiet (Claim begun) (after_claim next) refl part_ I P R
       (claim_noted (words_behind (Claim begun) area.Pool) gfn op (held_behind (Claim begun)) u.notes R.under.1.1 next)
   fault_goes Fill S part_ I P K R =
-      quiet Fill (if nat_lt (words_filled held.owned + 1) 512 then Fill else Role) part_ I P R
+      quiet Fill (if nat_lt (words_filled held.owned + 1) 512 then Fill else Role) refl part_ I P R
       (either_place (Noted (words_behind Fill area.Pool) gfn op (held_behind Fill) u.notes) (nat_lt (words_filled held.owned + 1) 512) Fill Role R.under.1.1
       R.under.1.1)
-  fault_goes Role S part_ I P K R = quiet Role Link part_ I P R R.under.1.1
+  fault_goes Role S part_ I P K R = quiet Role Link refl part_ I P R R.under.1.1
   fault_goes Link S part_ I P K R =
       let x : ℕ = answered Link in
       let lost : FaultPlace = Give (Retry (Entry (entry_word (v.hand a).state.sizes gfn held.walk) held.walk.entry x)) in
-      quiet Link (if x == held.walk.entry then Walk true else lost) part_ I P R
+      quiet Link (if x == held.walk.entry then Walk true else lost) refl part_ I P R
       (either_place (Noted (words_behind Link area.Pool) gfn op (held_behind Link) u.notes) (x == held.walk.entry) (Walk true) lost R.under.1.1 tt)
-  fault_goes (Give e) S part_ I P K R = quiet (Give e) (Unshare e) part_ I P R R.under.1.1
+  fault_goes (Give e) S part_ I P K R = quiet (Give e) (Unshare e) refl part_ I P R R.under.1.1
   fault_goes Leaf S part_ I P K R =
       let x : ℕ = answered Leaf in
       let lost : FaultPlace = Unshare (Retry (Entry (entry_word (v.hand a).state.sizes gfn held.walk) held.walk.entry x)) in
-      quiet Leaf (if x == held.walk.entry then Unshare Installed else lost) part_ I P R
+      quiet Leaf (if x == held.walk.entry then Unshare Installed else lost) refl part_ I P R
       (either_place (Noted (words_behind Leaf area.Pool) gfn op (held_behind Leaf) u.notes) (x == held.walk.entry) (Unshare Installed) lost tt tt)
-  fault_goes (Unshare e) S part_ I P K R = quiet (Unshare e) (End e) part_ I P R R.under.1.1
+  fault_goes (Unshare e) S part_ I P K R = quiet (Unshare e) (End e) refl part_ I P R R.under.1.1
   fault_goes (End e) S part_ I P K R = ends e S.command_is part_ I P R

@@ -7,7 +7,7 @@ use Rattle.core_views.specs.declared.place.CheckStage.{CheckStage}
 use Rattle.core_views.specs.declared.place.CheckStage.TheVariants as stage
 use Rattle.core_views.specs.declared.place.FaultEnd.TheVariants.{Installed, HostFault, Retry}
 use Rattle.core_views.specs.declared.place.FaultPlace.{FaultPlace}
-use Rattle.core_views.specs.declared.place.FaultPlace.TheVariants.{Share, Check, Walk, Claim}
+use Rattle.core_views.specs.declared.place.FaultPlace.TheVariants.{Bring, Share, Check, Walk, Claim}
 use Rattle.core_views.specs.declared.place.FaultPlace.TheVariants.{Leaf, Unshare, End}
 use Rattle.core_views.specs.declared.sizes.Sizes.{Sizes}
 use Rattle.core_views.specs.declared.topics.TableWalk.{TableWalk}
@@ -19,16 +19,15 @@ use Rattle.core_views.specs.Host.{HostNotes, with_entry}
 use Rattle.core_views.specs.Lawful.{SawPage, SawForbidden}
 use Rattle.spte_words.specs.declared.spte_kind.SpteKind.{SpteKind}
 use Rattle.spte_words.specs.declared.spte_kind.SpteKind.TheVariants as entry_kind
-use Rattle.spte_words.specs.HostWords.{host_allows_write}
+use Rattle.spte_words.specs.HostWords.{host_allows_write, host_present}
 use Rattle.mmu_core.specs.declared.claim.ClaimNext.{ClaimNext}
 use Rattle.mmu_core.specs.declared.claim.ClaimNext.TheVariants as claims
 use Rattle.mmu_core.specs.declared.share.ShareNext.{ShareNext}
 use Rattle.mmu_core.specs.declared.share.ShareNext.TheVariants as shares
 use Rattle.mmu_core.specs.lines.FaultSteps.{after_claim, after_share, allows_access, check_next, entry_word}
-use Rattle.mmu_core.specs.lines.FaultSteps.{snapshot_taken, walk_next}
-use Rattle.mmu_laws.specs.flat.FlatInvariant.{NotedAt}
+use Rattle.mmu_core.specs.lines.FaultSteps.{page_next, snapshot_taken, walk_next}
+use Rattle.mmu_laws.specs.flat.FlatInvariant.{NotedAt, NotedLook}
 use Rattle.mmu_core.proofs.lines.EitherPlace.{either_place}
-use Rattle.mmu_laws.proofs.flat.FlatSteps.{Goes}
 
 -- Where a fault stands after most of its steps the line has noted nothing, up to its look at the host, and from there on that it saw a page.
 module _ (pool : ℕ → ℕ) (gfn : ℕ) (op : Op) (t : Topics) (notes : Notes) where
@@ -64,12 +63,12 @@ module _ (pool : ℕ → ℕ) (gfn : ℕ) (op : Op) (t : Topics) (notes : Notes)
   -- The host allows the access, or forbids the write.
   pub host_noted : (write : Bool) (x : ℕ) → ((write && not (host_allows_write x)) ≡ false → SawPage notes gfn op)
       → ((write && not (host_allows_write x)) ≡ true → SawForbidden notes gfn op)
-      → Noted (if write && not (host_allows_write x) then End HostFault else Share)
-  host_noted write x saw denied = by (write && not (host_allows_write x)) refl
+      → ((write && not (host_allows_write x)) ≡ false → NotedLook notes t.host gfn op) → Noted (page_next write x)
+  host_noted write x saw denied looked = by (write && not (host_allows_write x)) refl
     where
-      by : (b : Bool) → (write && not (host_allows_write x)) ≡ b → Noted (if b then End HostFault else Share)
+      by : (b : Bool) → (write && not (host_allows_write x)) ≡ b → Noted (if b then End HostFault else if host_present x then Share else Bring)
       by true is = denied is
-      by false is = saw is
+      by false is = either_place Noted (host_present x) Share Bring (saw is) (looked is)
 
 pub entry_noted : (page : ℕ) (entry : HostEntry) (host : HostNotes) → with_entry page entry host page ≡ Some entry
 entry_noted page entry host = rw (eq-eqb page page refl) refl

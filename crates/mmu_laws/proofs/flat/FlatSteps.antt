@@ -40,6 +40,7 @@ use Rattle.core_views.specs.Lawful.{MayLeave, Tells}
 use Rattle.core_views.specs.Past.{Past}
 use Rattle.mmu_core.specs.lines.HostSteps.{entry_of}
 use Rattle.mmu_core.proofs.words.HostStays.{host_stays}
+use Rattle.spte_words.specs.HostWords.{host_frame}
 
 -- The line has begun and stands at this place; the facts are what the words say, and nothing is paused.
 pub record Ready (z : Sizes) (v : View) (line : Line) (command : Command) (p : Place) (t : Topics) (facts : Facts) (u : LineUnderWay) : Type 0 where
@@ -99,7 +100,9 @@ refines_stay z before after facts L R = record {
       R.slots ∙ sym (memory_below_stay (before area.Slots 0) (before area.Pool) (after area.Pool) L.pool 32 (omega arith))
       ∙ ap (λ k. memory_slots_below (after area.Pool) k 32) (sym L.slots);
   host = λ p lt. R.host p lt ∙ sym (ap (λ (g : ℕ → ℕ). entry_of (g p)) L.host);
-  memory = λ p j lt below. R.memory p j lt below ∙ sym (ap (λ (g : ℕ → ℕ). g (content_index (map_of z) p j)) L.content);
+  memory = λ p j lt below. R.memory p j lt below
+      ∙ (sym (ap (λ (g : ℕ → ℕ). g (content_index (map_of z) (host_frame (before area.Host p)) j)) L.content)
+      ∙ sym (ap (λ (g : ℕ → ℕ). after area.Content (content_index (map_of z) (host_frame (g p)) j)) L.host));
   paused = R.paused ∙ ap (λ (g : ℕ → ℕ). not (g 0 == 0)) (sym L.pause);
 }
 

@@ -1,6 +1,6 @@
 -- What each form of line tells of flat memory, a clause a form: its steps' events stand within the line and are lawful, and where it begins it is under way.
 use Rattle.mmu_laws.proofs.flat.HostFlat.{host_goes_on}
-use Rattle.part_steps.specs.PartTasks.{word_looked}
+use Rattle.part_steps.specs.PartTasks.{word_looked, page_looked}
 use Rattle.std.specs.Prelude.{◌==◌}
 use Rattle.core_views.specs.HostChanges.{is_own}
 use Rattle.mmu_core.proofs.lines.EitherPlace.{either_place}
@@ -8,7 +8,7 @@ use Rattle.mmu_core.specs.lines.HostSteps.{host_tells, entry_of, word_put, host_
 use Rattle.core_views.specs.declared.place.HostPlace.{HostPlace}
 use Rattle.core_views.specs.declared.place.HostPlace.TheVariants as host_at
 use Rattle.core_views.specs.declared.trace.Command.TheVariants.{ChangeHost}
-use Rattle.core_views.specs.declared.event.EventKind.TheVariants.{HostChanged, LookedAtHost}
+use Rattle.core_views.specs.declared.event.EventKind.TheVariants.{BroughtIn, HostChanged, LookedAtHost}
 use Rattle.std.proofs.Common.{◌≡◌, ℕ, List, [], ◌∷◌, refl}
 use Rattle.std.specs.Prelude.{Bool, true, false, if◌then◌else◌, Option, Some, None}
 use Rattle.core_views.specs.declared.answer.Refusal.{Refusal}
@@ -69,6 +69,8 @@ access_within (Pause again) h gfn word op v = (tt, tt)
 access_within Touch h gfn word op v = (tt, tt)
 access_within (Fault (fault.Find begun)) h gfn word op v = look_within begun
 access_within (Fault fault.Host) h gfn word op v = (tt, tt)
+access_within (Fault fault.Bring) h gfn word op v =
+    either_place AllWithin (v == word_looked h.topics.host) (BroughtIn (page_looked h.topics.host) ∷ []) [] (tt, tt) tt
 access_within (Fault (fault.End e)) h gfn word op v = exit_within (fault_over e)
 access_within _ h gfn word op v = tt
 

@@ -2,19 +2,17 @@
 use Rattle.spte_words.specs.declared.area.Area.TheVariants as area
 use Rattle.mmu_core.proofs.lines.HostKnown.{own_low}
 use Rattle.core_views.specs.Sizes.{actors_of}
-use Rattle.mmu_core.specs.declared.outcome.Outcome.TheVariants.{Ends}
 use Rattle.mmu_core.specs.declared.invalidate.BeginNext.{BeginNext}
 use Rattle.mmu_core.specs.machine.Outcomes.{place_after, answering}
 use Rattle.mmu_core.specs.invariant.Invariant.{Invariant}
 use Rattle.mmu_core.specs.declared.invalidate.EndNext.{EndNext}
 use Rattle.mmu_core.proofs.machine.Stepping.{IsStep}
 use Rattle.mmu_core.specs.invariant.TopicsInvariant.{TopicsInvariant}
-use Rattle.std.proofs.Common.{◌≡◌, ◌<◌, ℕ, [], ◌∷◌, ◌++◌, Bool, true, false, refl, sym, subst, ap, ◌∙◌, eqb-true, eq-eqb, ◌⊎◌, ◌≢◌, inl, inr}
-use Rattle.std.specs.Prelude.{◌==◌, if◌then◌else◌, Option, Some}
+use Rattle.std.proofs.Common.{◌≡◌, ◌<◌, ℕ, [], ◌∷◌, ◌++◌, Bool, true, false, refl, sym, subst, ap, ◌∙◌, eqb-true}
+use Rattle.std.specs.Prelude.{◌==◌, if◌then◌else◌}
 use Rattle.core_views.specs.declared.answer.Answer.TheVariants.{Done, Refused}
 use Rattle.core_views.specs.declared.answer.Refusal.TheVariants.{OutOfRange}
 use Rattle.core_views.specs.declared.event.EventKind.TheVariants.{HostChanged, LookedAtHost}
-use Rattle.core_views.specs.declared.host.HostEntry.{HostEntry}
 use Rattle.core_views.specs.declared.place.BeginPlace.TheVariants as begins
 use Rattle.core_views.specs.declared.place.EndPlace.{EndPlace}
 use Rattle.core_views.specs.declared.place.EndPlace.TheVariants as ends
@@ -26,67 +24,40 @@ use Rattle.core_views.specs.declared.topics.Topics.{Topics}
 use Rattle.core_views.specs.declared.trace.Command.{Command}
 use Rattle.core_views.specs.declared.trace.Command.TheVariants.{ChangeHost}
 use Rattle.core_views.specs.declared.trace.HostChange.{HostChange}
-use Rattle.core_views.specs.declared.trace.HostChange.TheVariants.{Allow, Evict, Move, Protect}
 use Rattle.core_views.specs.declared.trace.Line.{Line}
 use Rattle.core_views.specs.Flat.{Facts, LineUnderWay}
-use Rattle.core_views.specs.Flat as stage
 use Rattle.core_views.specs.Held.{Held}
-use Rattle.core_views.specs.Host.{HostMap, mapping, with_entry}
-use Rattle.core_views.specs.HostChanges.{is_own, host_answer, Changes}
+use Rattle.core_views.specs.Host.{mapping}
+use Rattle.core_views.specs.HostChanges.{Agree, is_own, host_answer}
 use Rattle.core_views.specs.Lawful.{Tells, answer_at_once}
 use Rattle.core_views.specs.Past.{Past}
 use Rattle.core_views.proofs.HostLines.{owned_answer}
-use Rattle.mmu_core.specs.declared.invalidate.BeginNext.{BeginNext}
 use Rattle.mmu_core.specs.declared.invalidate.BeginNext.TheVariants as begins_next
-use Rattle.mmu_core.specs.declared.invalidate.EndNext.{EndNext}
 use Rattle.mmu_core.specs.declared.invalidate.EndNext.TheVariants as ends_next
 use Rattle.mmu_core.specs.declared.outcome.Outcome.TheVariants as outcome
 use Rattle.part_steps.specs.PartTasks.{own_index, part_task, word_looked, page_looked}
 use Rattle.part_steps.specs.declared.task.Task.{Task}
 use Rattle.mmu_core.specs.lines.HostKnows.{HostKnows, IsMade}
-use Rattle.mmu_core.specs.lines.HostSteps.{after_begin, after_end, entry_of, host_note, host_part, word_put, revised}
+use Rattle.mmu_core.specs.lines.HostSteps.{after_begin, after_end, entry_of, host_note, host_part, word_put}
 use Rattle.mmu_core.specs.lines.InvalidateSteps.{begin_next, end_next, begin_part}
 use Rattle.mmu_core.specs.machine.View.{View, answer_in, words_after}
 use Rattle.mmu_core.proofs.lines.HostKept.{host_never, is_change, host_quiet}
-use Rattle.mmu_core.proofs.lines.HostMakes.{change_won}
+use Rattle.mmu_core.proofs.lines.HostMakes.{change_finds}
 use Rattle.mmu_core.proofs.machine.PartStepping.{IsPart}
 use Rattle.mmu_laws.specs.flat.FlatInvariant.{HostUnder}
 use Rattle.mmu_laws.proofs.flat.FlatSteps.{GoesBy, Ready, RefinesBy, StepGoes, answers_by, goes_by, part_refines, topics_by}
-use Rattle.mmu_laws.proofs.steps.AllowedWords.{words_tell}
 use Rattle.core_views.specs.declared.place.BeginPlace.{BeginPlace}
 use Rattle.part_steps.specs.declared.part_step.PartStep.{PartStep}
 use Rattle.mmu_core.proofs.words.PartTopics.{IsThere, part_topics_is}
-use Rattle.mmu_core.proofs.machine.Columns.{upd_same, upd_other, same_or}
+use Rattle.mmu_laws.proofs.flat.ExchangeFlat.{lost_maps, memory_stays, won_maps}
+use Rattle.mmu_laws.proofs.flat.HostEntries.{answers_done, revised_entry, revised_frame, same_agree, still_agree}
+use Rattle.spte_words.specs.Areas.{content_index}
+use Rattle.spte_words.specs.HostWords.{host_frame}
+use Rattle.part_steps.specs.Tasks.{map_of}
+use Rattle.mmu_laws.proofs.flat.FaultNotes.{entry_noted}
 use Rattle.mmu_core.proofs.lines.EitherPlace.{either_place}
 use Rattle.part_steps.specs.PartTopics.{part_topics}
 use Rattle.part_steps.specs.declared.part_step.PartStep.TheVariants as part
-
--- ---- what the page is
-
--- A change revises what the host maps the page to.
-revised_entry : (change : HostChange) (word : ℕ) → IsMade change → (entry : HostEntry) → entry ≡ entry_of word
-    → (z : Sizes) (host : HostMap) (page : ℕ) → host page ≡ entry → Changes z host page change (entry_of (revised change word))
-revised_entry Allow word made entry is z host page at = (words_tell true word).0 ∙ ap (λ (e : HostEntry). record e { writable = true }) (sym is ∙ sym at)
-revised_entry Protect word made entry is z host page at = (words_tell false word).0 ∙ ap (λ (e : HostEntry). record e { writable = false }) (sym is ∙ sym at)
-revised_entry Move word made entry is z host page at = absurd made
-revised_entry Evict word made entry is z host page at = absurd made
-
--- Such a line is answered done.
-answers_done : (change : HostChange) (page : ℕ) (entry : HostEntry) → IsMade change → host_answer (ChangeHost page change) entry ≡ Done
-answers_done Allow page entry made = refl
-answers_done Protect page entry made = refl
-answers_done Move page entry made = absurd made
-answers_done Evict page entry made = absurd made
-
-apart_false : (a b : ℕ) → (a ≡ b → ⊥) → (a == b) ≡ false
-apart_false a b never = by (a == b) refl
-  where
-    by : (x : Bool) → (a == b) ≡ x → (a == b) ≡ false
-    by true is = absurd (never (eqb-true a b is))
-    by false is = is
-
-noted_now : (page : ℕ) (entry : HostEntry) (noted : ℕ → Option HostEntry) → with_entry page entry noted page ≡ Some entry
-noted_now page entry noted = rw (eq-eqb page page refl) refl
 
 module _ (z : Sizes) (v : View) (a : ℕ) (line : Line) (page : ℕ) (change : HostChange) (facts : Facts) (past : Past) (u : LineUnderWay) where
   abbrev command : Command
@@ -144,7 +115,12 @@ module _ (z : Sizes) (v : View) (a : ℕ) (line : Line) (page : ℕ) (change : H
       R.under.0,
       (
         R.under.1,
-        noted_now page (facts.host page) u.notes.host ∙ ap Some (R.refines.host page (page_low I S.there is) ∙ ap entry_of (sym (looked refl))),
+        (
+          facts.host page,
+          entry_noted page (facts.host page) u.notes.host,
+          same_agree (facts.host page) (entry_of (word_looked (after Look).host))
+              (R.refines.host page (page_low I S.there is) ∙ ap entry_of (sym (looked refl))),
+        ),
       ),
     );
   }
@@ -161,49 +137,38 @@ module _ (z : Sizes) (v : View) (a : ℕ) (line : Line) (page : ℕ) (change : H
       ∙ ap (λ (t : Topics). word_looked t.host)
       (part_topics_is h.state.sizes (part.Host page) (own_index h) h.topics (host_note Look page h) (v.words area.Host page) tt)
 
+  abbrev looked : ℕ
+  looked = word_looked h.topics.host
+
+  abbrev at_page : ℕ
+  at_page = page_looked h.topics.host
+
+  -- The frame stays, and so does memory.
+  same_memory : IsMade change → ReadyAt Change → (p j : ℕ) → p < z.pages → j < z.words → facts.memory p j
+      ≡ v.words area.Content (content_index (map_of z) (host_frame (words_after (task Change) v.words area.Host p)) j)
+  same_memory made R =
+      memory_stays z (v.words area.Host) facts.host R.refines.host at_page looked (word_put change h.topics) facts.memory (v.words area.Content)
+      (revised_frame change looked made) R.refines.memory
+
   -- The words after its change stand for the facts with it.
-  changed_refines : HostKnows Change page h → IsPart z v a (host_part Change page change h) → TopicsInvariant z v → ReadyAt Change
+  changed_refines : IsMade change → HostKnows Change page h → v.words area.Host at_page ≡ looked → ReadyAt Change
       → RefinesBy z v (task Change) (record facts { host = mapping page (entry_of (word_put change h.topics)) facts.host })
-  changed_refines K S P R = record {
+  changed_refines made K won R = record {
     slots = R.refines.slots;
-    host = λ p lt. each p lt (same_or p page);
-    memory = R.refines.memory;
+    host = λ p lt. subst (λ q. mapping q (entry_of (word_put change h.topics)) facts.host p ≡ entry_of (words_after (task Change) v.words area.Host p)) K.0.at
+        (won_maps z (v.words area.Host) facts.host R.refines.host at_page looked (word_put change h.topics) (entry_of (word_put change h.topics)) won refl
+        p lt);
+    memory = same_memory made R;
     paused = R.refines.paused;
   }
-    where
-      at_page : page_looked h.topics.host ≡ page
-      at_page = K.0.at
-
-      won : v.words area.Host (page_looked h.topics.host) ≡ word_looked h.topics.host
-      won = change_won z v a page change P S
-
-      -- what is left at the page
-      left : words_after (task Change) v.words area.Host page ≡ word_put change h.topics
-      left =
-          ap (λ p. words_after (task Change) v.words area.Host p) (sym at_page)
-          ∙ (upd_same (v.words area.Host) (page_looked h.topics.host) _
-          ∙ ap (λ (b : Bool). if b then word_put change h.topics else v.words area.Host (page_looked h.topics.host))
-          (eq-eqb (v.words area.Host (page_looked h.topics.host)) (word_looked h.topics.host) won))
-
-      each : (p : ℕ) → p < z.pages → (p ≡ page) ⊎ (p ≢ page)
-          → mapping page (entry_of (word_put change h.topics)) facts.host p ≡ entry_of (words_after (task Change) v.words area.Host p)
-      each p lt (inl e) =
-          ap (mapping page (entry_of (word_put change h.topics)) facts.host) e
-          ∙ (ap (λ (b : Bool). if b then entry_of (word_put change h.topics) else facts.host page) (eq-eqb page page refl)
-          ∙ (ap entry_of (sym left) ∙ ap (λ q. entry_of (words_after (task Change) v.words area.Host q)) (sym e)))
-      each p lt (inr ne) =
-          ap (λ (b : Bool). if b then entry_of (word_put change h.topics) else facts.host p) (apart_false page p (λ e. ne (sym e)))
-          ∙ (R.refines.host p lt
-          ∙ ap entry_of (sym (upd_other (v.words area.Host) (page_looked h.topics.host) p _ (λ e. ne (e ∙ at_page)))))
 
   -- It changes its page, which was as it looked at it.
-  change_goes : IsMade change → HostKnows Change page h → IsStep z v a line command (place.Host Change) → Invariant z v → TopicsInvariant z v
-      → IsPart z v a (host_part Change page change h) → ReadyAt Change
+  change_goes : IsMade change → HostKnows Change page h → IsStep z v a line command (place.Host Change) → Invariant z v
+      → v.words area.Host at_page ≡ looked → ReadyAt Change
       → GoesBy z v a line command (task Change) (place.Host (End ends.Exclude)) (HostChanged page (entry_of (word_put change h.topics)) ∷ []) facts past u
-  change_goes made K S I P M R =
-      let low = page_low I S.there K.0.own_ in
-      let now_ : facts.host page ≡ entry_of (word_looked h.topics.host) =
-      R.refines.host page low ∙ ap entry_of (ap (v.words area.Host) (sym K.0.at) ∙ change_won z v a page change P M) in
+  change_goes made K S I won R =
+      let now_ : facts.host page ≡ entry_of looked =
+      R.refines.host page (page_low I S.there K.0.own_) ∙ ap entry_of (ap (v.words area.Host) (sym K.0.at) ∙ won) in
       record {
         allowed = (
           (
@@ -212,17 +177,47 @@ module _ (z : Sizes) (v : View) (a : ℕ) (line : Line) (page : ℕ) (change : H
               change = change;
               asked = ap (λ (l : Line). l.command) R.under.0 ∙ S.command_is;
               works = at_once Change true S I R K.0.own_;
-              seen = entry_of (word_looked h.topics.host);
-              looked = R.under.1.1;
-              agrees = (ap (λ (e : HostEntry). e.frame) (sym now_), ap (λ (e : HostEntry). e.writable) (sym now_));
-              changes = revised_entry change (word_looked h.topics.host) made (entry_of (word_looked h.topics.host)) refl z facts.host page now_;
+              seen = R.under.1.1.0;
+              looked = R.under.1.1.1;
+              agrees = subst (Agree R.under.1.1.0) (sym now_) R.under.1.1.2;
+              changes = revised_entry change looked made (entry_of looked) refl z facts.host page now_;
             },
           ),
           tt,
         );
-        refines = changed_refines K M P R;
+        refines = changed_refines made K won R;
         under = (R.under.0, (entry_of (word_put change h.topics), refl));
       }
+
+  -- Where the page was brought in meanwhile it has changed nothing, and tries again.
+  change_lost : IsMade change → (v.words area.Host at_page == looked) ≡ false → IsPart z v a (host_part Change page change h) → TopicsInvariant z v
+      → ReadyAt Change
+      → GoesBy z v a line command (task Change) (place.Host Change) [] facts past u
+  change_lost made lost P M R =
+      goes_by z v a line command (task Change) facts past u (record {
+        slots = R.refines.slots;
+        host = lost_maps z (v.words area.Host) facts.host R.refines.host at_page looked (word_put change h.topics) lost;
+        memory = same_memory made R;
+        paused = R.refines.paused;
+      }) (place.Host Change) (
+        R.under.0,
+        (
+          R.under.1.0,
+          (
+            R.under.1.1.0,
+            R.under.1.1.1,
+            subst (λ w. Agree R.under.1.1.0 (entry_of w)) (sym found)
+                (still_agree R.under.1.1.0 looked (v.words area.Host at_page) R.under.1.1.2 (change_finds z v a page change M P)),
+          ),
+        ),
+      )
+    where
+      found : word_looked (after Change).host ≡ v.words area.Host at_page
+      found =
+          ap (λ (t : Topics). word_looked t.host)
+          (part_topics_is h.state.sizes (part.Change (word_put change h.topics)) (own_index h) h.topics (host_note Change page h) (v.words area.Host at_page)
+          tt)
+          ∙ ap (λ (b : Bool). if b then word_put change h.topics else v.words area.Host at_page) lost
 
   end_goes : (p : EndPlace) (next : EndNext) → IsMade change → IsPart z v a (host_part (End p) page change h) → TopicsInvariant z v → ReadyAt (End p)
       → IsStep z v a line command (place.Host (End p))
@@ -258,19 +253,29 @@ module _ (z : Sizes) (v : View) (a : ℕ) (line : Line) (page : ℕ) (change : H
   host_goes_on Look made K S I P M R =
       look_goes (is_own h.state.sizes h.state.actor page) refl S I R (still Look refl M P R) (looked_now (is_own h.state.sizes h.state.actor page) refl)
   host_goes_on (Begin p) made K S I P M R =
-      quiet (Begin p) (after_begin next_) refl M P R
-      (R.under.0, begun_under next_ (R.under.1.0, R.under.1.1 ∙ ap (λ o. Some (entry_of (word_looked o))) (sym (still_looked p K))))
+      quiet (Begin p) (after_begin next_) refl M P R (
+        R.under.0,
+        begun_under next_ (
+          R.under.1.0,
+          (
+            R.under.1.1.0,
+            R.under.1.1.1,
+            subst (λ o. Agree R.under.1.1.0 (entry_of (word_looked o))) (sym (still_looked p K)) R.under.1.1.2,
+          ),
+        ),
+      )
     where
       next_ : BeginNext
       next_ = begin_next p h.state.sizes page h.topics (answer_in (task (Begin p)) v.words)
 
-      begun_under : (next : BeginNext) → (u.stage ≡ stage.Fresh) × (u.notes.host page ≡ Some (entry_of (word_looked (after (Begin p)).host)))
-          → HostUnder (after_begin next) page (after (Begin p)) u
+      begun_under : (next : BeginNext) → HostUnder Change page (after (Begin p)) u → HostUnder (after_begin next) page (after (Begin p)) u
       begun_under (begins_next.Goes q) under = under
       begun_under begins_next.Begun under = under
-  host_goes_on Change made K S I P M R =
-      subst (λ (b : Bool). GoesBy z v a line command (task Change) (place.Host (if b then End ends.Exclude else Change))
-      ((if b then HostChanged page (entry_of (word_put change h.topics)) ∷ [] else []) ++ []) facts past u)
-      (sym (eq-eqb (v.words area.Host (page_looked h.topics.host)) (word_looked h.topics.host) (change_won z v a page change P M)))
-      (change_goes made K S I P M R)
+  host_goes_on Change made K S I P M R = by (v.words area.Host at_page == looked) refl
+    where
+      by : (won : Bool) → (v.words area.Host at_page == looked) ≡ won
+          → GoesBy z v a line command (task Change) (place.Host (if won then End ends.Exclude else Change))
+          ((if won then HostChanged page (entry_of (word_put change h.topics)) ∷ [] else []) ++ []) facts past u
+      by true won = change_goes made K S I (eqb-true (v.words area.Host at_page) looked won) R
+      by false lost = change_lost made lost M P R
   host_goes_on (End p) made K S I P M R = end_goes p (end_next p (answer_in (task (End p)) v.words)) made M P R S

@@ -1,6 +1,6 @@
--- What an access has found: a host page of the machine, at the frame of its own number, that the slots give.
+-- What an access has found: a host page of the machine that the slots give, at its frame.
 use Rattle.std.proofs.Common.{◌≡◌, ◌+◌, ◌<◌, ◌≤◌, ℕ, refl, subst, ap, ◌∙◌, arith}
-use Rattle.std.specs.Prelude.{Bool, true, false, ◌&&◌, ◌||◌, not, Some, nat_le, nat_lt}
+use Rattle.std.specs.Prelude.{Bool, true, false, ◌&&◌, ◌||◌, not, Some, nat_le, nat_lt, ◌^◌}
 use Rattle.std.proofs.lemmas.Bool.Decides.{nat_tests}
 use Rattle.core_views.specs.declared.actor.Actor.{Actor}
 use Rattle.core_views.specs.declared.actor.Actor.TheVariants.{Vcpu}
@@ -12,16 +12,13 @@ use Rattle.core_views.specs.Sizes.{AreSizes}
 use Rattle.core_views.specs.Slots.{Slots, contains, is_write, page_behind, page_in, slot_of}
 use Rattle.core_views.specs.Traces.{IsCommandFor}
 use Rattle.spte_words.specs.Entries.{can_write, frame_in}
-use Rattle.spte_words.specs.HostWords.{host_allows_write, host_frame, host_present}
+use Rattle.spte_words.specs.HostWords.{host_allows_write, host_frame}
 use Rattle.spte_words.proofs.ReadsEntries.{leaf_can_write, leaf_frame}
-use Rattle.spte_words.proofs.ReadsHost.{host_is_present}
 use Rattle.mmu_core.specs.lines.FaultSteps.{allows_access}
 use Rattle.mmu_core.specs.invariant.Invariant.{IsLiveIn, SlotSetPart}
-use Rattle.mmu_core.specs.invariant.HostWordsPart.{HostWordsPart, IsHostWord}
-use Rattle.mmu_core.proofs.words.HostFrames.{frame_of_word}
+use Rattle.mmu_core.specs.invariant.HostWordsPart.{HostWordsPart}
 use Rattle.part_steps.specs.SlotWords.{leaf_of, may_write, page_of, slot_at, slots_below}
 use Rattle.mmu_core.proofs.words.SlotLists.{only_one_holds, page_allowed}
-use Rattle.mmu_core.specs.lines.HostSteps.{entry_of}
 
 pub contains_bounds : (gfn : ℕ) (slot : Slot) → contains gfn slot ≡ true → (slot.base ≤ gfn) × (gfn < slot.base + slot.pages)
 contains_bounds gfn slot holds = bounds slot.base (slot.base + slot.pages) holds
@@ -42,23 +39,15 @@ page_in_machine z set role pool id gfn slot P L holds =
     let bounds : (slot.base ≤ gfn) × (gfn < slot.base + slot.pages) = contains_bounds gfn slot holds in
     omega arith
 
--- A page's host word names its own number, and so does its leaf.
-pub frame_of_host : (z : Sizes) (host : ℕ → ℕ) (page : ℕ) → HostWordsPart z host → page < z.pages → host_frame (host page) ≡ page
-frame_of_host z host page P lt = frame_of_word page (host page) (P page lt)
+-- The frame of a page is one of the machine's, and its leaf names it.
+pub frame_small : (z : Sizes) (host : ℕ → ℕ) (page : ℕ) → AreSizes z → HostWordsPart z host → page < z.pages → host_frame (host page) < 2 ^ 40
+frame_small z host page sizes P lt = omega (arith, (P.words page lt).1, sizes.frames.1)
 
 pub frame_of_leaf : (z : Sizes) (host : ℕ → ℕ) (slot : Slot) (page : ℕ) → AreSizes z → HostWordsPart z host → page < z.pages
-    → frame_in (leaf_of slot (host page)) ≡ page
+    → frame_in (leaf_of slot (host page)) ≡ host_frame (host page)
 frame_of_leaf z host slot page sizes P lt =
-    let own : host_frame (host page) ≡ page = frame_of_host z host page P lt in
     leaf_frame 1 (host_frame (host page)) (may_write slot (host page)) (host_allows_write (host page)) (may_write slot (host page))
-    (omega (arith, own, lt, sizes.pages)) ∙ own
-
--- What the host maps the page to, as its word says: present, at the page's own frame.
-pub entry_is : (page word : ℕ) → IsHostWord page word → entry_of word ≡ record { frame = page; present = true; writable = host_allows_write word }
-entry_is page word W =
-    ap (λ (f : ℕ). record { frame = f; present = host_present word; writable = host_allows_write word }) (frame_of_word page word W)
-    ∙ ap (λ (b : Bool). record { frame = page; present = b; writable = host_allows_write word })
-    (ap host_present W ∙ host_is_present page true (host_allows_write word) 1)
+    (frame_small z host page sizes P lt)
 
 -- A leaf that allows the access is of a slot that allows it, and of a host word that does.
 not_denied : (write host read_only : Bool) → (not write || (host && not read_only)) ≡ true → ((write && read_only) ≡ false) × ((write && not host) ≡ false)

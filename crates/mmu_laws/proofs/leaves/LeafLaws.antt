@@ -40,7 +40,7 @@ use Rattle.mmu_core.proofs.pages.AllOver.{reaches_on}
 use Rattle.mmu_core.proofs.pages.LeavesOver.{leaf_for}
 use Rattle.mmu_core.proofs.pages.TreePlaces.{root_stands}
 use Rattle.mmu_laws.proofs.leaves.LeadsDown.{below_stands, leads_down, run_above}
-use Rattle.mmu_laws.proofs.flat.PageFound.{frame_of_host, page_in_machine}
+use Rattle.mmu_laws.proofs.flat.PageFound.{frame_small, page_in_machine}
 use Rattle.mmu_core.proofs.words.SlotLists.{only_one_holds}
 use Rattle.mmu_core.proofs.lines.UsedTranslations.{uses_allows}
 use Rattle.mmu_core.proofs.machine.Stepping.{line_allowed}
@@ -59,6 +59,7 @@ leaf_agrees : (z : Sizes) (set : ℕ) (role pool host : ℕ → ℕ) (gfn leaf :
 leaf_agrees z set role pool host gfn leaf sizes hosts P L = record {
   page = page_of slot gfn;
   behind = ap (page_in gfn Read) found;
+  present = L.present;
   frame = ap frame_in L.is ∙ leaf_frame 1 (host_frame word) (may_write slot word) (host_allows_write word) (may_write slot word) small;
   writes = λ op is. writes_are
       ∙ ap (λ b. host_allows_write word && b)
@@ -79,7 +80,7 @@ leaf_agrees z set role pool host gfn leaf sizes hosts P L = record {
     there = page_in_machine z set role pool L.id gfn slot P L.live L.holds
 
     small : host_frame word < 2 ^ 40
-    small = let own = frame_of_host z host (page_of slot gfn) hosts there in omega (arith, own, there, sizes.pages)
+    small = frame_small z host (page_of slot gfn) sizes hosts there
 
     writes_are : can_write leaf ≡ may_write slot word
     writes_are = ap can_write L.is ∙ leaf_can_write 1 (host_frame word) (may_write slot word) (host_allows_write word) (may_write slot word)
@@ -123,7 +124,7 @@ leaf_says z set role pool host level gfn leaf sizes hosts P lowest L = record {
     there = page_in_machine z set role pool L.id gfn slot P L.live L.holds
 
     small : host_frame word < 2 ^ 40
-    small = let own = frame_of_host z host (page_of slot gfn) hosts there in omega (arith, own, there, sizes.pages)
+    small = frame_small z host (page_of slot gfn) sizes hosts there
 
     names : frame_in leaf ≡ host_frame word
     names = ap frame_in L.is ∙ leaf_frame 1 (host_frame word) (may_write slot word) (host_allows_write word) (may_write slot word) small

@@ -1,34 +1,28 @@
--- The host word that allows writes, or forbids them, is else as the one before it.
+-- The host word that is put to allow writes or forbid them, or to have the page in memory or not, is as the one before it but for this.
 use Rattle.std.proofs.Common.{◌≡◌, ◌<◌, ℕ, ap, ◌∙◌, arith}
 use Rattle.std.specs.Prelude.{Bool}
-use Rattle.spte_words.specs.HostWords.{host_allows_write, host_frame, host_level, host_present, with_writes}
+use Rattle.spte_words.specs.HostWords.{host_allows_write, host_frame, host_level, host_present, host_word}
 use Rattle.spte_words.proofs.ReadsHost.{host_has_frame, host_has_level, host_is_present, host_is_writable}
 use Rattle.mmu_core.specs.lines.HostSteps.{entry_of}
+use Rattle.mmu_laws.specs.steps.StepLaws.{WordsTell}
 
 level_low : (word : ℕ) → host_level word < 4
 unfolding host_level
 level_low word = omega arith
 
-pub words_tell : (allowed : Bool) (word : ℕ)
-    → (entry_of (with_writes allowed word) ≡ record (entry_of word) { writable = allowed }) × (host_level (with_writes allowed word) ≡ host_level word)
-words_tell allowed word = (
-  ap (λ (f : ℕ). record { frame = f; present = host_present put; writable = host_allows_write put }) (host_has_frame frame present allowed level low)
-      ∙ (ap (λ (b : Bool). record { frame = frame; present = b; writable = host_allows_write put }) (host_is_present frame present allowed level)
-      ∙ ap (λ (b : Bool). record { frame = frame; present = present; writable = b }) (host_is_writable frame present allowed level)),
-  host_has_level frame present allowed level low,
-)
-  where
-    frame : ℕ
-    frame = host_frame word
+-- what a host word is made of, as an entry
+pub entry_made : (frame : ℕ) (present allowed : Bool) (level : ℕ) → level < 4
+    → entry_of (host_word frame present allowed level) ≡ record { frame = frame; present = present; writable = allowed }
+entry_made frame present allowed level low =
+    let put : ℕ = host_word frame present allowed level in
+    ap (λ (f : ℕ). record { frame = f; present = host_present put; writable = host_allows_write put }) (host_has_frame frame present allowed level low)
+    ∙ (ap (λ (b : Bool). record { frame = frame; present = b; writable = host_allows_write put }) (host_is_present frame present allowed level)
+    ∙ ap (λ (b : Bool). record { frame = frame; present = present; writable = b }) (host_is_writable frame present allowed level))
 
-    present : Bool
-    present = host_present word
-
-    level : ℕ
-    level = host_level word
-
-    low : level < 4
-    low = level_low word
-
-    put : ℕ
-    put = with_writes allowed word
+pub words_tell : (one : Bool) (word : ℕ) → WordsTell one word
+words_tell one word = record {
+  writes = entry_made (host_frame word) (host_present word) one (host_level word) (level_low word);
+  writes_level = host_has_level (host_frame word) (host_present word) one (host_level word) (level_low word);
+  presence = entry_made (host_frame word) one (host_allows_write word) (host_level word) (level_low word);
+  presence_level = host_has_level (host_frame word) one (host_allows_write word) (host_level word) (level_low word);
+}

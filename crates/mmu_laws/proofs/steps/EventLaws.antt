@@ -4,7 +4,7 @@ use Rattle.std.proofs.lemmas.List.Elements.{All-append, All-cons, All-map, All-n
 use Rattle.std.specs.Prelude.{All, Bool, Option, None, Some, true, false, ◌==◌, if◌then◌else◌}
 use Rattle.core_views.specs.declared.event.Event.{Event}
 use Rattle.core_views.specs.declared.event.EventKind.{EventKind}
-use Rattle.core_views.specs.declared.event.EventKind.TheVariants.{Answered, Begun, Exited, HostChanged, LookedAtHost, SlotChanged}
+use Rattle.core_views.specs.declared.event.EventKind.TheVariants.{Answered, Begun, BroughtIn, Exited, HostChanged, LookedAtHost, SlotChanged}
 use Rattle.core_views.specs.declared.kind.Kind.{Kind}
 use Rattle.core_views.specs.declared.place.AccessPlace.{AccessPlace}
 use Rattle.core_views.specs.declared.place.AccessPlace.TheVariants.{Fault, Pause, Touch}
@@ -25,6 +25,10 @@ use Rattle.core_views.specs.declared.trace.Op.{Op}
 use Rattle.core_views.specs.declared.trace.Op.TheVariants.{Add, Read, Write}
 use Rattle.core_views.specs.Held.{Held, has_line}
 use Rattle.core_views.specs.HostChanges.{is_own}
+use Rattle.core_views.specs.Slots.{is_write}
+use Rattle.mmu_core.specs.lines.AccessKnows.{AccessKnows}
+use Rattle.spte_words.specs.HostWords.{host_present}
+use Rattle.mmu_laws.proofs.steps.AllowedWords.{words_tell}
 use Rattle.mmu_core.specs.declared.outcome.Outcome.{Outcome}
 use Rattle.mmu_core.specs.declared.outcome.Outcome.TheVariants.{Ends, Goes}
 use Rattle.mmu_core.specs.invariant.Laws.{IsSound}
@@ -94,13 +98,26 @@ module _ (h : Held) (v : ℕ) where
   find_told true gfn word op = none z v _
   find_told false gfn word op = one z v _ _ (record { kind_is = refl; on = refl })
 
-  access_told : (p : AccessPlace) (gfn word : ℕ) (op : Op) → AllTold (place.Access p) (Access gfn word op)
-  access_told (Pause again) gfn word op = one z v _ _ (record { kind_is = refl; on = refl })
-  access_told Touch gfn word op = touch_told gfn word op
-  access_told (Fault (fault.Find begun)) gfn word op = find_told begun gfn word op
-  access_told (Fault fault.Host) gfn word op = one z v _ _ (record { kind_is = refl; on = refl })
-  access_told (Fault (fault.End e)) gfn word op = exits_so z v _ (fault_over e)
-  access_told _ gfn word op = none z v _
+  bring_told : (won : Bool) (gfn word : ℕ) (op : Op) → (v == word_looked h.topics.host) ≡ won → host_present (word_looked h.topics.host) ≡ false
+      → AllMay z v (kind_of_task z (task_at (place.Access (Fault fault.Bring)) (Access gfn word op) h))
+      (if won then BroughtIn (page_looked h.topics.host) ∷ [] else [])
+  bring_told true gfn word op is absent =
+      one z v _ _ (record {
+        at = record { kind_is = refl; on = refl };
+        won = eqb-true v (word_looked h.topics.host) is;
+        absent = absent;
+        leaves = (words_tell true (word_looked h.topics.host)).presence;
+      })
+  bring_told false gfn word op is absent = none z v _
+
+  access_told : (p : AccessPlace) (gfn word : ℕ) (op : Op) → AccessKnows p gfn (is_write op) h → AllTold (place.Access p) (Access gfn word op)
+  access_told (Pause again) gfn word op K = one z v _ _ (record { kind_is = refl; on = refl })
+  access_told Touch gfn word op K = touch_told gfn word op
+  access_told (Fault (fault.Find begun)) gfn word op K = find_told begun gfn word op
+  access_told (Fault fault.Host) gfn word op K = one z v _ _ (record { kind_is = refl; on = refl })
+  access_told (Fault fault.Bring) gfn word op K = bring_told (v == word_looked h.topics.host) gfn word op refl K.1.presence
+  access_told (Fault (fault.End e)) gfn word op K = exits_so z v _ (fault_over e)
+  access_told _ gfn word op K = none z v _
 
   changes_so : (k : Kind) (c : Option (ℕ × Option MemorySlot)) → IsAt z kind.Publish area.Slots 0 k → AllMay z v k (changed c)
   changes_so k None at = none z v k
@@ -134,7 +151,7 @@ module _ (h : Held) (v : ℕ) where
   host_told _ page change K = none z v _
 
   line_told : (p : Place) (command : Command) → KnowsPart p command h → AllTold p command
-  line_told (place.Access p) (Access gfn word op) K = access_told p gfn word op
+  line_told (place.Access p) (Access gfn word op) K = access_told p gfn word op K
   line_told (place.SlotChange p) command K = slot_change_told p command
   line_told (place.Host p) (ChangeHost page change) K = host_told p page change K.1
   line_told _ _ K = none z v _

@@ -21,7 +21,7 @@ use Rattle.core_views.specs.Text.{line_text, text}
 use Rattle.spte_words.specs.Areas.{content_index, place, pool_index}
 use Rattle.spte_words.specs.Entries.{absent_word, can_write, frame_in, frozen_word, is_leaf_at, kind_of, leaf_word, level_span, mapped_frame, table_word}
 use Rattle.spte_words.specs.Flags.{flags_live, flags_logged, flags_read_only, flags_word}
-use Rattle.spte_words.specs.HostWords.{host_allows_write, host_frame, host_word}
+use Rattle.spte_words.specs.HostWords.{host_allows_write, host_frame, host_present, host_word}
 use Rattle.mmu_laws.specs.steps.ExampleRaces.{ExampleRaces, first_line, race_events, race_lines, race_order, second_line}
 use Rattle.mmu_laws.specs.steps.ExampleRuns.{ExamplePrints, ExampleRuns, add_line, forbidden_line, other_slot_line, outside_line, read_line}
 use Rattle.mmu_laws.specs.steps.ExampleRuns.{run_events, run_lines, run_order, sum_line, write_line}
@@ -92,12 +92,12 @@ run_leaves z lines order a index value sizes allowed distinct few has holds =
 
 run_tale : tale (start_view run_sizes run_lines) run_order ≡ run_events
 unfolding flushed topics_after place kind_of level_span table_word frozen_word content_index pool_index absent_word frame_in mapped_frame leaf_word flags_live
-    flags_read_only flags_word host_allows_write host_frame host_word can_write is_leaf_at flags_logged count_trailing_zeros
+    flags_read_only flags_word host_allows_write host_frame host_present host_word can_write is_leaf_at flags_logged count_trailing_zeros
 run_tale = refl
 
 run_has_lines : have_lines run_sizes (start_view run_sizes run_lines) run_order ≡ true
 unfolding flushed topics_after place kind_of level_span table_word frozen_word content_index pool_index absent_word frame_in mapped_frame leaf_word flags_live
-    flags_read_only flags_word host_allows_write host_frame host_word can_write is_leaf_at flags_logged count_trailing_zeros
+    flags_read_only flags_word host_allows_write host_frame host_present host_word can_write is_leaf_at flags_logged count_trailing_zeros
 run_has_lines = refl
 
 -- The one host thread has all pages.
@@ -185,12 +185,12 @@ example_prints =
 
 small_tale : tale (start_view small_sizes small_lines) small_order ≡ small_events
 unfolding flushed topics_after place kind_of level_span table_word frozen_word content_index pool_index absent_word frame_in mapped_frame leaf_word flags_live
-    flags_read_only flags_word host_allows_write host_frame host_word can_write is_leaf_at flags_logged count_trailing_zeros
+    flags_read_only flags_word host_allows_write host_frame host_present host_word can_write is_leaf_at flags_logged count_trailing_zeros
 small_tale = refl
 
 small_has_lines : have_lines small_sizes (start_view small_sizes small_lines) small_order ≡ true
 unfolding flushed topics_after place kind_of level_span table_word frozen_word content_index pool_index absent_word frame_in mapped_frame leaf_word flags_live
-    flags_read_only flags_word host_allows_write host_frame host_word can_write is_leaf_at flags_logged count_trailing_zeros
+    flags_read_only flags_word host_allows_write host_frame host_present host_word can_write is_leaf_at flags_logged count_trailing_zeros
 small_has_lines = refl
 
 small_in_range : AreSizes small_sizes
@@ -231,12 +231,12 @@ example_starves = (
 
 race_tale : tale (start_view run_sizes race_lines) race_order ≡ race_events
 unfolding flushed topics_after place kind_of level_span table_word frozen_word content_index pool_index absent_word frame_in mapped_frame leaf_word flags_live
-    flags_read_only flags_word host_allows_write host_frame host_word can_write is_leaf_at flags_logged count_trailing_zeros
+    flags_read_only flags_word host_allows_write host_frame host_present host_word can_write is_leaf_at flags_logged count_trailing_zeros
 race_tale = refl
 
 race_has_lines : have_lines run_sizes (start_view run_sizes race_lines) race_order ≡ true
 unfolding flushed topics_after place kind_of level_span table_word frozen_word content_index pool_index absent_word frame_in mapped_frame leaf_word flags_live
-    flags_read_only flags_word host_allows_write host_frame host_word can_write is_leaf_at flags_logged count_trailing_zeros
+    flags_read_only flags_word host_allows_write host_frame host_present host_word can_write is_leaf_at flags_logged count_trailing_zeros
 race_has_lines = refl
 
 race_allowed : All (May run_sizes) race_lines
@@ -271,17 +271,17 @@ example_races = (
 
 wait_tale : tale (start_view run_sizes wait_lines) wait_order ≡ wait_events
 unfolding flushed topics_after place kind_of level_span table_word frozen_word content_index pool_index absent_word frame_in mapped_frame leaf_word flags_live
-    flags_read_only flags_word host_allows_write host_frame host_word can_write is_leaf_at flags_logged count_trailing_zeros
+    flags_read_only flags_word host_allows_write host_frame host_present host_word can_write is_leaf_at flags_logged count_trailing_zeros
 wait_tale = refl
 
 wait_has_lines : have_lines run_sizes (start_view run_sizes wait_lines) wait_order ≡ true
 unfolding flushed topics_after place kind_of level_span table_word frozen_word content_index pool_index absent_word frame_in mapped_frame leaf_word flags_live
-    flags_read_only flags_word host_allows_write host_frame host_word can_write is_leaf_at flags_logged count_trailing_zeros
+    flags_read_only flags_word host_allows_write host_frame host_present host_word can_write is_leaf_at flags_logged count_trailing_zeros
 wait_has_lines = refl
 
 wait_counts : ((turned_all (start_view run_sizes wait_lines) wait_order).hand 3).state.delays ≡ 3
 unfolding flushed topics_after place kind_of level_span table_word frozen_word content_index pool_index absent_word frame_in mapped_frame leaf_word flags_live
-    flags_read_only flags_word host_allows_write host_frame host_word can_write is_leaf_at flags_logged count_trailing_zeros
+    flags_read_only flags_word host_allows_write host_frame host_present host_word can_write is_leaf_at flags_logged count_trailing_zeros
 wait_counts = refl
 
 wait_allowed : All (May run_sizes) wait_lines

@@ -48,6 +48,7 @@ module _ (h : Held) (words : Area → ℕ → ℕ) where
     pub sets : t.kind ≡ kind.Set
     pub alone : h.topics.hold ≡ Exclusive
     pub counted : words_after t words area.Count 0 ≡ (if h.topics.invalidations.opened then words area.Count 0 - 1 else words area.Count 0 + 1)
+    pub ends : h.topics.invalidations.opened ≡ true → h.topics.invalidations.raised ≡ true
 
   abbrev Loaded : Type 0
   Loaded = CheckedPart (words area.Count 0) (words area.RangeStart 0) (words area.RangeEnd 0) (words area.Seq 0) h.topics
@@ -71,6 +72,7 @@ module _ (h : Held) (words : Area → ℕ → ℕ) where
     sets = refl;
     alone = N.alone;
     counted = N.is ∙ ap (λ n. if h.topics.invalidations.opened then n - 1 else n + 1) (C.counted (has_alone h.topics.hold N.alone) N.knows);
+    ends = N.closes;
   })
   counts_or_stays _ note N C = inl refl
 
@@ -125,7 +127,9 @@ module _ (z : Sizes) (w : World Held) (s : Step Kind) (G : IsSound z w) (may : M
   counts_line : (T : Takes z w s h) → (words_after (task_of h) words area.Count 0 ≡ words area.Count 0) ⊎ Counts h words (task_of h)
       → (word_in z (effect mmu w s) area.Count 0 ≡ words area.Count 0) ⊎ CountsInvalidation z w s
   counts_line T (inl stays) = inl (ap (λ (v : View). v.words area.Count 0) T.leads ∙ stays)
-  counts_line T (inr C) = inr (record { sets = named T C.sets; alone = C.alone; counted = ap (λ (v : View). v.words area.Count 0) T.leads ∙ C.counted })
+  counts_line T (inr C) =
+      let counted = ap (λ (v : View). v.words area.Count 0) T.leads ∙ C.counted in
+      inr (record { sets = named T C.sets; alone = C.alone; counted = counted; ends = C.ends })
 
   -- and a step of a part without a line stores no number of the invalidations
   raises_part : (T : TakesPart z w s h) → (words_after (part_task T.step (own_index h) h.topics T.note) words area.Seq 0 ≡ words area.Seq 0)

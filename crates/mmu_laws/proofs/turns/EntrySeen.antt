@@ -21,7 +21,7 @@ use Rattle.spte_words.specs.declared.spte_kind.SpteKind.{SpteKind}
 use Rattle.spte_words.specs.declared.spte_kind.SpteKind.TheVariants as entry_kind
 use Rattle.spte_words.specs.Areas.{pool_index}
 use Rattle.spte_words.specs.Entries.{kind_of}
-use Rattle.spte_words.specs.HostWords.{host_allows_write, host_frame}
+use Rattle.spte_words.specs.HostWords.{host_allows_write, host_frame, host_present}
 use Rattle.spte_words.proofs.ReadsEntries.{kind_of_leaf}
 use Rattle.part_steps.specs.declared.part_step.PartStep.TheVariants as part
 use Rattle.mmu_core.specs.declared.claim.ClaimNext.{ClaimNext}
@@ -31,8 +31,8 @@ use Rattle.mmu_core.specs.declared.share.ShareNext.TheVariants as shares
 use Rattle.mmu_core.specs.alone.FaultAlone.{EntryStands}
 use Rattle.mmu_core.specs.lines.FaultKnows.{FaultKnows}
 use Rattle.mmu_core.specs.lines.FaultSteps.{after_claim, after_share, check_next, check_part, claim_next, claim_part, entry_word, fault_next}
-use Rattle.mmu_core.specs.lines.FaultSteps.{fault_part, find_next, is_last_word, share_next, share_part, snapshot_taken, walk_next}
-use Rattle.part_steps.specs.PartTasks.{entry_index, leaf_written, part_task, table_page, word_looked, words_filled}
+use Rattle.mmu_core.specs.lines.FaultSteps.{fault_part, find_next, host_word_at, is_last_word, share_next, share_part, snapshot_taken, walk_next}
+use Rattle.part_steps.specs.PartTasks.{entry_index, leaf_written, page_looked, part_task, table_page, word_looked, words_filled}
 use Rattle.part_steps.specs.PartTopics.{exchanged, part_topics}
 use Rattle.part_steps.specs.SlotWords.{may_write, page_of}
 use Rattle.part_steps.specs.WalkTopics.{gone_down, linked_page, unless_linked}
@@ -57,6 +57,10 @@ finds_by false denied last is = neither last (fault.End end_of.Mmio) (fault.Find
 
 finds_not : (gfn : ℕ) (write : Bool) (f : SlotField) (found : SlotSearch) → ends_installed (find_next gfn write f found) ≡ true → ⊥
 finds_not gfn write f found is = finds_by (is_last_word f && contains gfn found.slot) (write && found.slot.read_only) (found.id == 32) is
+
+looks_by : (denied here : Bool) → ends_installed (if denied then fault.End end_of.HostFault else if here then fault.Share else fault.Bring) ≡ true → ⊥
+looks_by true here is = cc is
+looks_by false here is = neither here fault.Share fault.Bring refl refl is
 
 shares_not : (next : ShareNext) → ends_installed (after_share next) ≡ true → ⊥
 shares_not shares.Tries is = cc is
@@ -115,7 +119,10 @@ fault_sees (fault.Find true) z own gfn note write t words not_ K =
 fault_sees (fault.Find false) z own gfn note write t words not_ K = λ is. absurd (cc is)
 fault_sees fault.Host z own gfn note write t words not_ K =
     let v : ℕ = answer_in (part_task (part.Host (page_of t.search.slot gfn)) own t note) words in
-    λ is. absurd (neither (write && not (host_allows_write v)) (fault.End end_of.HostFault) fault.Share refl refl is)
+    λ is. absurd (looks_by (write && not (host_allows_write v)) (host_present v) is)
+fault_sees fault.Bring z own gfn note write t words not_ K =
+    let v : ℕ = words area.Host (page_looked t.host) in
+    λ is. absurd (neither (v == word_looked t.host) fault.Share (fault.End (end_of.Retry (Entry (host_word_at z t.host) (word_looked t.host) v))) refl refl is)
 fault_sees fault.Share z own gfn note write t words not_ K =
     λ is. absurd (shares_not (share_next t.hold (answer_in (part_task (share_part t.hold) own t note) words)) is)
 fault_sees (fault.Check at_) z own gfn note write t words not_ K =

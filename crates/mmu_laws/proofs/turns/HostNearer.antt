@@ -1,5 +1,5 @@
--- Each step of a line that changes a host page, and doesn't wait, leaves it fewer steps, beside other actors too: its exchange of the host word is won, since
--- the page is its actor's own, so that the word that it looked up is the word now.
+-- Each step of a line that changes a host page, and doesn't wait, leaves it fewer steps, beside other actors too: since the page is its actor's own, its
+-- exchange of the host word is won, but where an access has brought the page in, which it saw absent; the next one is won then.
 use Rattle.part_steps.specs.declared.part_step.PartStep.TheVariants as part
 use Rattle.spte_words.specs.declared.area.Area.TheVariants as area
 use Rattle.spte_words.specs.declared.spte_kind.SpteKind.TheVariants as entry_kind
@@ -38,6 +38,9 @@ use Rattle.mmu_core.specs.lines.FaultLeft.{find_left}
 use Rattle.part_steps.specs.PartTopics.{part_topics}
 use Rattle.part_steps.specs.WalkTopics.{gone_down, linked_page}
 use Rattle.mmu_core.proofs.held.OwnPages.{OwnWords}
+use Rattle.mmu_core.specs.invariant.HostWordsPart.{IsStill}
+use Rattle.spte_words.specs.HostWords.{host_allows_write, host_frame, host_level, host_present}
+use Rattle.spte_words.proofs.ReadsHost.{host_is_present}
 use Rattle.mmu_core.specs.lines.HostSteps.{host_part, after_end, host_outcome, after_begin, host_left}
 use Rattle.mmu_core.specs.lines.HostKnows.{HostKnows}
 use Rattle.mmu_core.specs.lines.PartWaits.{part_waits}
@@ -70,39 +73,39 @@ use Rattle.core_views.specs.declared.place.Place.{Place}
 use Rattle.core_views.specs.declared.trace.HostChange.{HostChange}
 use Rattle.core_views.specs.declared.topics.HostLook.{HostLook}
 use Rattle.part_steps.specs.declared.part_step.PartStep.{PartStep}
-use Rattle.std.proofs.Common.{◌≡◌, ◌≢◌, ◌+◌, ◌-◌, ◌*◌, ◌<◌, ◌≤◌, ℕ, refl, sym, ap, ◌∙◌, arith}
+use Rattle.std.proofs.Common.{◌≡◌, ◌≢◌, inl, inr, ◌+◌, ◌-◌, ◌*◌, ◌<◌, ◌≤◌, ℕ, refl, sym, ap, ◌∙◌, arith}
 use Rattle.std.specs.Prelude.{Bool, true, false, ◌==◌, ◌&&◌, ◌||◌, nat_lt, not, is_some, if◌then◌else◌, Option, Some, None}
 use Rattle.std.proofs.lemmas.Bool.Decides.{nat_tests}
 
 -- ---- the exchange
 
--- Where the step is one that exchanges a host word, it finds the word that was looked up.
-abbrev pub Wins : Option PartStep → Topics → ℕ → Type 0
-Wins (Some (part.Change new_)) t v = (v == word_looked t.host) ≡ true
-Wins _ t v = Unit {0}
+-- Where the step is one that exchanges a host word, it finds the word that was looked up, or this word with the page present, which was absent.
+abbrev pub FindsStill : Option PartStep → Topics → ℕ → Type 0
+FindsStill (Some (part.Change new_)) t v = IsStill (word_looked t.host) v
+FindsStill _ t v = Unit {0}
 
-is_word_now : (o : Option HostLook) (host : ℕ → ℕ) → ((look : HostLook) → o ≡ Some look → look.word ≡ host look.page) → is_some o ≡ true
-    → (host (page_looked o) == word_looked o) ≡ true
+is_word_now : (o : Option HostLook) (host : ℕ → ℕ) → ((look : HostLook) → o ≡ Some look → IsStill look.word (host look.page)) → is_some o ≡ true
+    → IsStill (word_looked o) (host (page_looked o))
 is_word_now None host is some = absurd (cc some)
-is_word_now (Some look) host is some = let same : look.word ≡ host look.page = is look refl in grind (arith, nat_tests)
+is_word_now (Some look) host is some = is look refl
 
-part_wins : (step : PartStep) (own_ note : ℕ) (h : Held) (words : Area → ℕ → ℕ) → PartNeeds step h → OwnWords h (words area.Host)
-    → Wins (Some step) h.topics (answer_in (part_task step own_ h.topics note) words)
-part_wins (part.Change new_) own_ note h words N looks = is_word_now h.topics.host (words area.Host) looked N.0.looked
+part_finds : (step : PartStep) (own_ note : ℕ) (h : Held) (words : Area → ℕ → ℕ) → PartNeeds step h → OwnWords h (words area.Host)
+    → FindsStill (Some step) h.topics (answer_in (part_task step own_ h.topics note) words)
+part_finds (part.Change new_) own_ note h words N looks = is_word_now h.topics.host (words area.Host) looked N.0.looked
   where
-    looked : (look : HostLook) → h.topics.host ≡ Some look → look.word ≡ words area.Host look.page
+    looked : (look : HostLook) → h.topics.host ≡ Some look → IsStill look.word (words area.Host look.page)
     looked look is = looks look is (ap (λ (o : Option HostLook). is_own h.state.sizes h.state.actor (page_looked o)) (sym is) ∙ N.0.own_)
-part_wins _ own_ note h words N looks = tt
+part_finds _ own_ note h words N looks = tt
 
-wins_by : (s : Option PartStep) (note : ℕ) (touch : Task) (h : Held) (words : Area → ℕ → ℕ)
+finds_by : (s : Option PartStep) (note : ℕ) (touch : Task) (h : Held) (words : Area → ℕ → ℕ)
     → ((step : PartStep) → s ≡ Some step → PartNeeds step h) → OwnWords h (words area.Host)
-    → Wins s h.topics (answer_in (task_by s h note touch) words)
-wins_by None note touch h words needs looks = tt
-wins_by (Some step) note touch h words needs looks = part_wins step (own_index h) note h words (needs step refl) looks
+    → FindsStill s h.topics (answer_in (task_by s h note touch) words)
+finds_by None note touch h words needs looks = tt
+finds_by (Some step) note touch h words needs looks = part_finds step (own_index h) note h words (needs step refl) looks
 
-pub wins_at : (p : Place) (c : Command) (h : Held) (words : Area → ℕ → ℕ) → RestsAt p c h → OwnWords h (words area.Host)
-    → Wins (part_at p c h) h.topics (answer_in (task_at p c h) words)
-wins_at p c h words R looks = wins_by (part_at p c h) (note_at p c h) (touch_at c h) h words (λ step is. step_needs p c h step R is) looks
+pub finds_at : (p : Place) (c : Command) (h : Held) (words : Area → ℕ → ℕ) → RestsAt p c h → OwnWords h (words area.Host)
+    → FindsStill (part_at p c h) h.topics (answer_in (task_at p c h) words)
+finds_at p c h words R looks = finds_by (part_at p c h) (note_at p c h) (touch_at c h) h words (λ step is. step_needs p c h step R is) looks
 
 -- ---- its begin
 
@@ -194,11 +197,34 @@ end_left_after : EndNext → ℕ
 end_left_after (ends_next.Goes p) = end_left p
 end_left_after ends_next.Ended = 0
 
+-- ---- the exchange of the word
+
+-- One more exchange may be left where the page was seen absent, and none where it was seen present.
+few_tries : (present : Bool) → 7 + (if present then 0 else 1) ≤ 8
+few_tries true = omega arith
+few_tries false = omega arith
+
+fewer_tries : (found seen : Bool) → found ≡ true → seen ≡ false → 7 + (if found then 0 else 1) < 7 + (if seen then 0 else 1)
+fewer_tries true false there absent = omega arith
+fewer_tries true true there absent = absurd (cc absent)
+fewer_tries false seen there absent = absurd (cc there)
+
+-- Where it is lost, the page was seen absent, and found present.
+change_nearer : (won : Bool) (z : Sizes) (t : Topics) (v new_ : ℕ) → (v == word_looked t.host) ≡ won → IsStill (word_looked t.host) v
+    → Nearer (Goes (place.Host (if won then End ends.Exclude else Change))) z
+    (record t { host = Some (record { page = page_looked t.host; word = if won then new_ else v }) }) (7 + (if host_present (word_looked t.host) then 0 else 1))
+change_nearer true z t v new_ is still = omega arith
+change_nearer false z t v new_ is (inl same) = absurd (grind (arith, nat_tests))
+change_nearer false z t v new_ is (inr brought) =
+    let seen : ℕ = word_looked t.host in
+    fewer_tries (host_present v) (host_present seen)
+    (ap host_present brought.1 ∙ host_is_present (host_frame seen) true (host_allows_write seen) (host_level seen)) brought.0
+
 -- ---- each place
 
-begin_nearer : (next : BeginNext) (z : Sizes) (u : Topics) (n : ℕ) → begin_left_after next z u < n → Nearer (Goes (place.Host (after_begin next))) z u (n + 7)
+begin_nearer : (next : BeginNext) (z : Sizes) (u : Topics) (n : ℕ) → begin_left_after next z u < n → Nearer (Goes (place.Host (after_begin next))) z u (n + 8)
 begin_nearer (begins_next.Goes p) z u n less = omega (arith, less)
-begin_nearer begins_next.Begun z u n less = omega (arith, less)
+begin_nearer begins_next.Begun z u n less = let few = few_tries (host_present (word_looked u.host)) in omega (arith, less, few)
 
 end_nearer : (p : EndPlace) (z : Sizes) (t u : Topics) (v : ℕ) → part_waits (end_part p t) t v ≡ false → Nearer (after_end (end_next p v)) z u (end_left p)
 end_nearer ends.Exclude z t u v goes =
@@ -210,17 +236,15 @@ end_nearer ends.SetCount z t u v goes = omega arith
 end_nearer ends.Release z t u v goes = tt
 
 pub host_nearer : (p : HostPlace) (page : ℕ) (change : HostChange) (h : Held) (v : ℕ) → PartRests h → HostKnows p page h
-    → Wins (Some (host_part p page change h)) h.topics v → part_waits (host_part p page change h) h.topics v ≡ false
+    → FindsStill (Some (host_part p page change h)) h.topics v → part_waits (host_part p page change h) h.topics v ≡ false
     → Nearer (host_outcome p page h v) h.state.sizes (part_topics (host_part p page change h) h.topics v) (host_left p h.state.sizes h.topics)
-host_nearer Look page change h v R K wins goes =
-    either_place (λ o. Nearer o h.state.sizes (part_topics (host_part Look page change h) h.topics v) (2 * h.state.sizes.vcpus + 151))
+host_nearer Look page change h v R K finds goes =
+    either_place (λ o. Nearer o h.state.sizes (part_topics (host_part Look page change h) h.topics v) (2 * h.state.sizes.vcpus + 152))
     (is_own h.state.sizes h.state.actor page) (Goes (place.Host (Begin begins.Exclude))) (Ends (Refused OutOfRange))
     (omega arith) tt
-host_nearer (Begin p) page change h v R K wins goes =
+host_nearer (Begin p) page change h v R K finds goes =
     begin_nearer (begin_next p h.state.sizes page h.topics v) h.state.sizes _ (begin_left p h.state.sizes h.topics)
     (begin_falls p h.state.sizes page h.topics v K.1 goes)
-host_nearer Change page change h v R K wins goes =
-    one_place (λ q. Nearer (Goes (place.Host q)) h.state.sizes (part_topics (part.Change (word_put change h.topics)) h.topics v) 7)
-    (v == word_looked h.topics.host) (End ends.Exclude) Change
-    (λ e. omega arith) (λ e. absurd (cc (wins, e)))
-host_nearer (End p) page change h v R K wins goes = end_nearer p h.state.sizes h.topics _ v goes
+host_nearer Change page change h v R K finds goes =
+    change_nearer (v == word_looked h.topics.host) h.state.sizes h.topics v (word_put change h.topics) refl finds
+host_nearer (End p) page change h v R K finds goes = end_nearer p h.state.sizes h.topics _ v goes

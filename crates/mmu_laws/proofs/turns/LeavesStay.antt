@@ -192,13 +192,13 @@ module _ (z : Sizes) (v : View) (a gfn : ℕ) (J : Invariant z v) (I : TopicsInv
   zapped : (S : IsPart z v a (part.Zap gfn)) (own_ note k : ℕ) (p : Position) (j : ℕ) → j < 512 → stands I.up I.spot k ≡ Some p → pool_index k j ≡ here
       → IsZapped (part_task (part.Zap gfn) own_ t note) pool k p j
   zapped S own_ note k p j low at_k e =
-      let over = S.needs.2.over in
+      let over = S.needs.saw.over in
       let page : k ≡ table_page t.walk = (same_pool_word k (table_page t.walk) j index low (omega arith) e).0 in
       let there : stands I.up I.spot (table_page t.walk) ≡ Some (at t.walk.level t.walk.prefix) = (I.held a S.there).table over.there in
       let both : Some p ≡ Some (at t.walk.level t.walk.prefix) = sym at_k ∙ ap (stands I.up I.spot) page ∙ there in
       let is : p ≡ at t.walk.level t.walk.prefix = cc both in
-      let loaded = S.needs.2.loaded in
-      let entry : pool (pool_index (table_page t.walk) t.walk.index) ≡ t.walk.entry = I.loaded a S.there S.needs.0 S.needs.1 over.there
+      let loaded = S.needs.saw.loaded in
+      let entry : pool (pool_index (table_page t.walk) t.walk.index) ≡ t.walk.entry = I.loaded a S.there S.needs.alone S.needs.outside over.there
       (omega (arith, loaded)) in
       let found : pool (pool_index k j) ≡ t.walk.entry = ap pool e ∙ ap (λ i. pool (pool_index (table_page t.walk) i)) (sym loaded) ∙ entry in
       record {
@@ -206,7 +206,7 @@ module _ (z : Sizes) (v : View) (a gfn : ℕ) (J : Invariant z v) (I : TopicsInv
         area_is = refl;
         index_is = sym e;
         writes = refl;
-        leaf = ap (λ (q : Position). kind_of q.level (pool (pool_index k j))) is ∙ ap (kind_of t.walk.level) found ∙ S.needs.3;
+        leaf = ap (λ (q : Position). kind_of q.level (pool (pool_index k j))) is ∙ ap (kind_of t.walk.level) found ∙ S.needs.leaf;
       }
 
 either_stays : (task : Task) (before after : ℕ → ℕ) (k : ℕ) (p : Position) (j : ℕ) → LeavesOrFindsNone before after (pool_index k j)

@@ -54,7 +54,7 @@ use Rattle.mmu_core.specs.machine.View.{answer_in}
 use Rattle.mmu_laws.proofs.alone.GoesAlone.{topics_at}
 use Rattle.mmu_core.proofs.lines.FaultFalls.{fault_falls}
 pub use Rattle.mmu_laws.proofs.turns.Nearer.{Nearer}
-use Rattle.mmu_laws.proofs.turns.HostNearer.{Wins, host_nearer, wins_at}
+use Rattle.mmu_laws.proofs.turns.HostNearer.{FindsStill, host_nearer, finds_at}
 use Rattle.mmu_laws.proofs.turns.SlotChangeNearer.{slot_change_nearer}
 use Rattle.mmu_core.proofs.lines.FaultKnown.{above_lowest}
 use Rattle.mmu_core.proofs.lines.AccessLeft.{two_left}
@@ -161,16 +161,16 @@ module _ (h : Held) (gfn word : ℕ) (op : Op) (v : ℕ) (small : gfn < 2 ^ 36) 
 
 -- a clause for each form of line
 form_nearer : (p : Place) (c : Command) (z : Sizes) (h : Held) (v : ℕ) → IsUnderWay p → IsCommandFor z h.state.actor c → PartRests h → KnowsPart p c h
-    → Wins (part_at p c h) h.topics v → delays_at p c h v ≡ false
+    → FindsStill (part_at p c h) h.topics v → delays_at p c h v ≡ false
     → Nearer (outcome_at p c h v) h.state.sizes (behind_part (part_at p c h) h.topics v) (steps_left p h.state.sizes h.topics)
-form_nearer place.Between c z h v begun may rests K wins on = absurd begun
-form_nearer (place.Access p) (Access gfn word op) z h v begun may rests K wins on =
+form_nearer place.Between c z h v begun may rests K finds on = absurd begun
+form_nearer (place.Access p) (Access gfn word op) z h v begun may rests K finds on =
     let V = access_vcpu z h.state.actor gfn word op may in access_nearer h gfn word op v V.1 rests p K on
-form_nearer (place.SlotChange p) command z h v begun may rests K wins on =
+form_nearer (place.SlotChange p) command z h v begun may rests K finds on =
     slot_change_nearer p h command v rests K.1 (first_of_none (part_waits (slot_change_part p h command) h.topics v) false on)
-form_nearer (place.Host p) (ChangeHost page change) z h v begun may rests K wins on =
-    host_nearer p page change h v rests K.1 wins (first_of_none (part_waits (host_part p page change h) h.topics v) false on)
-form_nearer _ _ z h v begun may rests K wins on = absurd K
+form_nearer (place.Host p) (ChangeHost page change) z h v begun may rests K finds on =
+    host_nearer p page change h v rests K.1 finds (first_of_none (part_waits (host_part p page change h) h.topics v) false on)
+form_nearer _ _ z h v begun may rests K finds on = absurd K
 
 -- So each step comes nearer that is no delay, where what its hand has looked up of its actor's own pages is their words, as in every sound world.
 pub place_nearer : (p : Place) (c : Command) (z : Sizes) (h : Held) (words : Area → ℕ → ℕ) → IsUnderWay p → IsCommandFor z h.state.actor c
@@ -179,4 +179,4 @@ pub place_nearer : (p : Place) (c : Command) (z : Sizes) (h : Held) (words : Are
 place_nearer p c z h words begun may rests R K looks on =
     let v : ℕ = answer_in (task_at p c h) words in
     subst (λ (t : Topics). Nearer (outcome_at p c h v) h.state.sizes t (steps_left p h.state.sizes h.topics)) (sym (topics_of_step p c h v R))
-    (form_nearer p c z h v begun may rests K (wins_at p c h words R looks) on)
+    (form_nearer p c z h v begun may rests K (finds_at p c h words R looks) on)

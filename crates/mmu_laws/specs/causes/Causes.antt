@@ -1,5 +1,5 @@
 -- Why a fault begins anew, in every list of steps: what its actor found in a word, and who changed this word since.
-use Rattle.std.specs.Prelude.{◌≡◌, ◌≢◌, ◌<◌, ◌≤◌, ℕ, List, ◌∷◌, ◌++◌, All}
+use Rattle.std.specs.Prelude.{◌≡◌, ◌≢◌, ◌⊎◌, ◌<◌, ◌≤◌, ℕ, List, ◌∷◌, ◌++◌, All}
 use Rattle.core_views.specs.declared.kind.Kind.{Kind}
 use Rattle.core_views.specs.declared.kind.StepKind.TheVariants as kind
 use Rattle.core_views.specs.declared.place.AccessPlace.TheVariants as access
@@ -9,6 +9,7 @@ use Rattle.core_views.specs.declared.place.FaultEnd.TheVariants.{Retry}
 use Rattle.core_views.specs.declared.place.FaultPlace.TheVariants.{End}
 use Rattle.core_views.specs.declared.place.Place.TheVariants as place
 use Rattle.core_views.specs.declared.sizes.Sizes.{Sizes}
+use Rattle.core_views.specs.declared.topics.Topics.{Topics}
 use Rattle.core_views.specs.declared.trace.Command.TheVariants.{Access}
 use Rattle.core_views.specs.declared.trace.Op.{Op}
 use Rattle.core_views.specs.Held.{Held}
@@ -18,7 +19,9 @@ use Rattle.spte_words.specs.Areas.{place as place_of, pool_index}
 use Rattle.mmu_core.specs.machine.Enabled.{mmu}
 use Rattle.mmu_core.specs.invariant.Laws.{IsSound}
 use Rattle.mmu_core.specs.machine.Machine.{Legal, Step, World, found, hand_in, run}
+use Rattle.part_steps.specs.PartHoldings.{FoundSlot}
 use Rattle.part_steps.specs.PartTasks.{entry_index}
+use Rattle.part_steps.specs.SlotWords.{page_of}
 use Rattle.part_steps.specs.Tasks.{map_of}
 
 -- The step is this actor's, and finds this number in this word.
@@ -96,12 +99,18 @@ pub record IsEntryOf (z : Sizes) (gfn word : ℕ) : Type 0 where
   pub there : page < z.pool
   pub is : word ≡ place_of (map_of z) area.Pool (pool_index page (entry_index gfn level))
 
+-- The word is the host word of the page behind the guest frame, in the slot that was found.
+pub record IsHostWordOf (z : Sizes) (gfn word : ℕ) (t : Topics) : Type 0 where
+  pub found : FoundSlot gfn t
+  pub is : word ≡ place_of (map_of z) area.Host (page_of t.search.slot gfn)
+
 -- Why the actor's fault of a guest frame begins anew: an invalidation was open over the guest frame, another actor's step moved the
--- sequence number after the snapshot, or another actor's step changed an entry of the guest frame after its load.
+-- sequence number after the snapshot, or another actor's step changed an entry of the guest frame, or the host word of its page, after its load.
 abbrev pub IsCaused : Cause → Sizes → ℕ → ℕ → World Held → List (Step Kind) → Type 0
 IsCaused (Open count start end_ at) z actor gfn w ss = (at ≡ gfn) × SawOpen z actor gfn count start end_ w ss
 IsCaused (Moved old_ now_) z actor gfn w ss = SawChange actor (place_of (map_of z) area.Seq 0) old_ now_ w ss
-IsCaused (Entry word read seen) z actor gfn w ss = IsEntryOf z gfn word × SawChange actor word read seen w ss
+IsCaused (Entry word read seen) z actor gfn w ss =
+    (IsEntryOf z gfn word ⊎ IsHostWordOf z gfn word (hand_in mmu (run mmu w ss) actor).topics) × SawChange actor word read seen w ss
 
 -- From every sound world in which no line of the actor is under way, whatever steps of whatever actors follow: where its fault then is
 -- about to end its section to begin anew, this has its cause in these steps, in this section.

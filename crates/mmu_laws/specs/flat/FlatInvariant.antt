@@ -1,7 +1,7 @@
 -- The words and hands as flat guest memory: the facts that the words stand for, and the lines that the hands have under way.
 use Rattle.core_views.specs.declared.place.HostPlace.{HostPlace}
 use Rattle.core_views.specs.declared.place.HostPlace.TheVariants as host_at
-use Rattle.std.specs.Prelude.{◌≡◌, ◌<◌, ◌==◌, ℕ, All, Some, true, false, not}
+use Rattle.std.specs.Prelude.{◌≡◌, ◌<◌, ◌==◌, ℕ, All, Option, Some, true, false, not}
 use Rattle.core_views.specs.declared.place.AccessPlace.{AccessPlace}
 use Rattle.core_views.specs.declared.place.AccessPlace.TheVariants as access
 use Rattle.core_views.specs.declared.place.FaultEnd.{FaultEnd}
@@ -14,6 +14,7 @@ use Rattle.core_views.specs.declared.place.Place.TheVariants as place
 use Rattle.core_views.specs.declared.place.SlotChangePlace.{SlotChangePlace}
 use Rattle.core_views.specs.declared.place.SlotChangePlace.TheVariants.{Release, Watch, Clear, Give}
 use Rattle.core_views.specs.declared.sizes.Sizes.{Sizes}
+use Rattle.core_views.specs.declared.topics.HostLook.{HostLook}
 use Rattle.core_views.specs.declared.topics.SlotSearch.{SlotSearch}
 use Rattle.core_views.specs.declared.topics.Topics.{Topics}
 use Rattle.core_views.specs.declared.trace.Command.{Command}
@@ -22,24 +23,27 @@ use Rattle.core_views.specs.declared.trace.Line.{Line}
 use Rattle.core_views.specs.declared.trace.Op.{Op}
 use Rattle.core_views.specs.Flat.{Facts, Flat, LineUnderWay, Notes, Fresh, HasAccessed, HasChanged, Idle, HasChangedHost}
 use Rattle.core_views.specs.Held.{Held}
+use Rattle.core_views.specs.Host.{is_denied}
+use Rattle.core_views.specs.HostChanges.{Agree}
 use Rattle.core_views.specs.Lawful.{SawForbidden, SawNoPage, SawPage}
 use Rattle.core_views.specs.Sizes.{actors_of}
 use Rattle.core_views.specs.Slots.{Slots, contains, page_behind}
 use Rattle.spte_words.specs.Areas.{content_index}
+use Rattle.spte_words.specs.HostWords.{host_frame}
 use Rattle.spte_words.specs.declared.area.Area.TheVariants as area
 use Rattle.part_steps.specs.SlotWords.{memory_slots_below, page_of, slots_below}
 use Rattle.part_steps.specs.Tasks.{map_of}
 use Rattle.mmu_core.specs.machine.View.{View}
 use Rattle.core_views.specs.declared.host.HostEntry.{HostEntry}
 use Rattle.mmu_core.specs.lines.HostSteps.{entry_of}
-use Rattle.part_steps.specs.PartTasks.{word_looked}
+use Rattle.part_steps.specs.PartTasks.{page_looked, word_looked}
 
 -- The slots are the live ones of the published set, in this page, each with its dirty log or without; each host page is mapped as its word says;
--- the content words are memory; and a pause is set where its word isn't 0.
+-- the content words of its frame are its memory; and a pause is set where its word isn't 0.
 pub record Refines (z : Sizes) (set : ℕ) (pool hosts content : ℕ → ℕ) (pause : ℕ) (f : Facts) : Type 0 where
   pub slots : f.slots ≡ memory_slots_below pool set 32
   pub host : (p : ℕ) → p < z.pages → f.host p ≡ entry_of (hosts p)
-  pub memory : (p j : ℕ) → p < z.pages → j < z.words → f.memory p j ≡ content (content_index (map_of z) p j)
+  pub memory : (p j : ℕ) → p < z.pages → j < z.words → f.memory p j ≡ content (content_index (map_of z) (host_frame (hosts p)) j)
   pub paused : f.paused ≡ not (pause == 0)
 
 -- The slots that the line looked at are those of the slot set that its search holds, and the ones that the search has passed don't hold
@@ -56,6 +60,14 @@ pub record NotedPage (notes : Notes) (search : SlotSearch) (gfn : ℕ) (op : Op)
   pub noted : notes.slots ≡ Some slots
   pub behind : page_behind slots gfn op ≡ Some (page_of search.slot gfn)
 
+-- The line has noted the page that it looked at, as its word was then: it allows the access.
+pub record NotedLook (notes : Notes) (host : Option HostLook) (gfn : ℕ) (op : Op) : Type 0 where
+  pub slots : Slots
+  pub noted : notes.slots ≡ Some slots
+  pub behind : page_behind slots gfn op ≡ Some (page_looked host)
+  pub looked : notes.host (page_looked host) ≡ Some (entry_of (word_looked host))
+  pub allows : is_denied op (entry_of (word_looked host)) ≡ false
+
 -- what the line has noted where its fault is to end so
 abbrev pub EndNoted : FaultEnd → ℕ → Op → Notes → Type 0
 EndNoted end_of.Mmio gfn op notes = SawNoPage notes gfn op
@@ -70,6 +82,7 @@ NotedAt pool fault.Snapshot gfn op t notes = Unit {0}
 NotedAt pool (fault.Find false) gfn op t notes = Unit {0}
 NotedAt pool (fault.Find true) gfn op t notes = NotedSlots pool notes t.search gfn
 NotedAt pool fault.Host gfn op t notes = NotedPage notes t.search gfn op
+NotedAt pool fault.Bring gfn op t notes = NotedLook notes t.host gfn op
 NotedAt pool (fault.Give e) gfn op t notes = EndNoted e gfn op notes
 NotedAt pool (fault.Unshare e) gfn op t notes = EndNoted e gfn op notes
 NotedAt pool (fault.End e) gfn op t notes = EndNoted e gfn op notes
@@ -95,12 +108,12 @@ SlotChangeUnder Clear u = u.stage ≡ HasChanged
 SlotChangeUnder Give u = u.stage ≡ HasChanged
 SlotChangeUnder _ u = u.stage ≡ Fresh
 
--- A host line has done nothing yet, up to its change, and from its first step on it has looked at its page, which its word maps so; after it, it has changed
--- the page.
+-- A host line has done nothing yet, up to its change, and from its first step on it has looked at its page, which its word maps so, but that the page may have
+-- been brought in since; after it, it has changed the page.
 abbrev pub HostUnder : HostPlace → ℕ → Topics → LineUnderWay → Type 0
 HostUnder host_at.Look page t u = u.stage ≡ Fresh
 HostUnder (host_at.End p) page t u = (entry : HostEntry) × (u.stage ≡ HasChangedHost entry)
-HostUnder _ page t u = (u.stage ≡ Fresh) × (u.notes.host page ≡ Some (entry_of (word_looked t.host)))
+HostUnder _ page t u = (u.stage ≡ Fresh) × ((seen : HostEntry) × (u.notes.host page ≡ Some seen) × Agree seen (entry_of (word_looked t.host)))
 
 -- The line under way is this one, with this command, at this place, and its actor holds these topics.
 abbrev pub UnderAt : (ℕ → ℕ) → Place → Line → Command → Topics → LineUnderWay → Type 0

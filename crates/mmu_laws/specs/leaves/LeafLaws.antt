@@ -12,7 +12,7 @@ use Rattle.core_views.specs.Slots.{is_write, page_behind}
 use Rattle.spte_words.specs.declared.area.Area.TheVariants as area
 use Rattle.spte_words.specs.declared.spte_kind.SpteKind.TheVariants as entry_kind
 use Rattle.spte_words.specs.Entries.{can_write, frame_in, host_writable, kind_of, mmu_writable}
-use Rattle.spte_words.specs.HostWords.{host_allows_write, host_frame}
+use Rattle.spte_words.specs.HostWords.{host_allows_write, host_frame, host_present}
 use Rattle.mmu_core.specs.machine.Enabled.{mmu}
 use Rattle.mmu_core.specs.alone.FaultAlone.{LeadsTo}
 use Rattle.mmu_core.specs.lines.FaultSteps.{allows_access}
@@ -24,11 +24,12 @@ use Rattle.part_steps.specs.PartHoldings.{IsOver}
 use Rattle.part_steps.specs.SlotWords.{slots_below}
 use Rattle.mmu_core.specs.machine.View.{word_in}
 
--- The leaf is of the page that the live slots of the published set give the guest frame, and names the frame that this page's host word
--- names. It allows writes exactly where the slots give a write its page too and the host allows writes to this page.
+-- The leaf is of the page that the live slots of the published set give the guest frame; this page is present, and the leaf names the frame that its
+-- host word names. It allows writes exactly where the slots give a write its page too and the host allows writes to this page.
 pub record LeafAgrees (set : ℕ) (pool host : ℕ → ℕ) (gfn leaf : ℕ) : Type 0 where
   pub page : ℕ
   pub behind : page_behind (slots_below pool set 32) gfn Read ≡ Some page
+  pub present : host_present (host page) ≡ true
   pub frame : frame_in leaf ≡ host_frame (host page)
   pub writes : (op : Op) → is_write op ≡ true → can_write leaf ≡ (host_allows_write (host page) && is_some (page_behind (slots_below pool set 32) gfn op))
   pub host_bit : host_writable leaf ≡ host_allows_write (host page)

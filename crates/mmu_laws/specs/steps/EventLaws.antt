@@ -1,9 +1,9 @@
 -- Which step tells which event: what a line's step tells of pause, slots, host and memory is of the word that the step is on, and of what it finds
 -- and leaves there.
-use Rattle.std.specs.Prelude.{◌≡◌, ℕ, All}
+use Rattle.std.specs.Prelude.{◌≡◌, ℕ, All, true, false}
 use Rattle.core_views.specs.declared.event.Event.{Event}
 use Rattle.core_views.specs.declared.event.EventKind.{EventKind}
-use Rattle.core_views.specs.declared.event.EventKind.TheVariants.{Accessed, HostChanged, LookedAtHost, LookedAtPause, LookedAtSlots, SlotChanged}
+use Rattle.core_views.specs.declared.event.EventKind.TheVariants.{Accessed, BroughtIn, HostChanged, LookedAtHost, LookedAtPause, LookedAtSlots, SlotChanged}
 use Rattle.core_views.specs.declared.host.HostEntry.{HostEntry}
 use Rattle.core_views.specs.declared.kind.Kind.{Kind}
 use Rattle.core_views.specs.declared.kind.StepKind.{StepKind}
@@ -34,6 +34,13 @@ pub record ChangesHostWord (z : Sizes) (page : ℕ) (entry : HostEntry) (k : Kin
   pub won : v ≡ k.old
   pub leaves : entry ≡ entry_of k.new
 
+-- It brings this host page in: it finds the word that it expects, of a page that isn't present, and leaves the same but that the page is.
+pub record BringsPageIn (z : Sizes) (page : ℕ) (k : Kind) (v : ℕ) : Type 0 where
+  pub at : IsAt z kind.Bring area.Host page k
+  pub won : v ≡ k.old
+  pub absent : (entry_of k.old).present ≡ false
+  pub leaves : entry_of k.new ≡ record (entry_of k.old) { present = true }
+
 -- the kind of step with which a guest makes this operation
 abbrev pub kind_for : Op → StepKind
 kind_for Read = kind.Read
@@ -50,6 +57,7 @@ abbrev pub MayTell : Sizes → Kind → ℕ → EventKind → Type 0
 MayTell z k v LookedAtPause = IsAt z kind.Control area.Pause 0 k
 MayTell z k v LookedAtSlots = IsAt z kind.Control area.Slots 0 k
 MayTell z k v (LookedAtHost page) = IsAt z kind.Host area.Host page k
+MayTell z k v (BroughtIn page) = BringsPageIn z page k v
 MayTell z k v (HostChanged page entry) = ChangesHostWord z page entry k v
 MayTell z k v (SlotChanged id slot) = IsAt z kind.Publish area.Slots 0 k
 MayTell z k v (Accessed gfn word op frame before) = TouchesWord z op frame word before k v

@@ -103,4 +103,5 @@ ExampleRuns = RunTells run_sizes run_lines run_order run_events
 -- So it prints this.
 abbrev pub ExamplePrints : Type 0
 ExamplePrints = text run_events
-    ≡ codes "2 vm done\n3 vm done\n4 v0 mmio\n5 v1 frame 65 value 0\n6 v0 frame 65 value 7\n7 v0 frame 65 value 7\n8 v1 frame 65 value 9\n9 v0 frame 1 value 0\n10 v0 mmio\n"
+    ≡ codes "2 vm done\n3 vm done\n4 v0 mmio\n5 v1 frame 65 value 0\n6 v0 frame 65 value 7\n7 v0 frame 65 value 7\n"
+    ++ codes "8 v1 frame 65 value 9\n9 v0 frame 1 value 0\n10 v0 mmio\n"

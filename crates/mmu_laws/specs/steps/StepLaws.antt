@@ -12,7 +12,7 @@ use Rattle.core_views.specs.Kinds.{kind_named}
 use Rattle.spte_words.specs.declared.area.Area.{Area}
 use Rattle.spte_words.specs.declared.area.Area.TheVariants as area
 use Rattle.spte_words.specs.Areas.{place, size_of}
-use Rattle.spte_words.specs.HostWords.{host_level, with_writes}
+use Rattle.spte_words.specs.HostWords.{host_level, with_presence, with_writes}
 use Rattle.mmu_core.specs.lines.HostSteps.{entry_of}
 use Rattle.mmu_core.specs.declared.outcome.Outcome.{Outcome}
 use Rattle.mmu_core.specs.lines.AccessSteps.{ends_with}
@@ -68,6 +68,7 @@ IsOn kind.Walk a = a ≡ area.Pool
 IsOn kind.Swap a = a ≡ area.Pool
 IsOn kind.Zap a = a ≡ area.Pool
 IsOn kind.Host a = a ≡ area.Host
+IsOn kind.Bring a = a ≡ area.Host
 IsOn kind.Change a = a ≡ area.Host
 IsOn kind.Read a = a ≡ area.Content
 IsOn kind.Write a = a ≡ area.Content
@@ -114,8 +115,12 @@ abbrev pub OthersCacheOneAtMost : Type 0
 OthersCacheOneAtMost =
     (h : Held) (k : Kind) (v : ℕ) → Enabled h k → (kind_named k.code ≡ kind.Enter → asks_flush v ≡ false) → CachesOneAtMost h.cached (next h k v).cached
 
--- The host word that a host thread puts to allow writes, or to forbid them, is as the one before it, and allows writes or doesn't.
+-- The host word that is put to allow writes or forbid them, or to have the page in memory or not, is as the one before it but for this.
+pub record WordsTell (one : Bool) (word : ℕ) : Type 0 where
+  pub writes : entry_of (with_writes one word) ≡ record (entry_of word) { writable = one }
+  pub writes_level : host_level (with_writes one word) ≡ host_level word
+  pub presence : entry_of (with_presence one word) ≡ record (entry_of word) { present = one }
+  pub presence_level : host_level (with_presence one word) ≡ host_level word
+
 abbrev pub RevisedWordsTell : Type 0
-RevisedWordsTell =
-    (allowed : Bool) (word : ℕ)
-    → (entry_of (with_writes allowed word) ≡ record (entry_of word) { writable = allowed }) × (host_level (with_writes allowed word) ≡ host_level word)
+RevisedWordsTell = (one : Bool) (word : ℕ) → WordsTell one word

@@ -4,6 +4,7 @@ use Rattle.mmu_laws.proofs.steps.AllowedWords.{words_tell}
 use Rattle.mmu_laws.proofs.steps.Notes.{notes_tell_ends}
 use Rattle.mmu_laws.proofs.steps.StepLaws.{entering_flushes, others_cache_one, steps_are_on_their_areas}
 use Rattle.mmu_laws.proofs.laws.steps_tell_what_they_are.Goals as goal
+use Rattle.mmu_laws.proofs.steps.KindLaws.{brings_are_of_absent_pages, changes_are_invalidated, zaps_are_of_open_invalidations}
 
 pub returns-clause-areas : goal.returns-clause-areas
 returns-clause-areas c = steps_are_on_their_areas
@@ -28,3 +29,12 @@ returns-clause-raised c = sequence_is_raised
 
 pub returns-clause-counted : goal.returns-clause-counted
 returns-clause-counted c = invalidations_are_counted
+
+pub returns-clause-zaps : goal.returns-clause-zaps
+returns-clause-zaps c = zaps_are_of_open_invalidations
+
+pub returns-clause-changes : goal.returns-clause-changes
+returns-clause-changes c = changes_are_invalidated
+
+pub returns-clause-brings : goal.returns-clause-brings
+returns-clause-brings c = brings_are_of_absent_pages

@@ -1,5 +1,7 @@
 use Rattle.mmu_laws.proofs.steps.ExampleHostRun.{example_host}
 use Rattle.mmu_laws.proofs.steps.ExampleProtectRun.{example_protect}
+use Rattle.mmu_laws.proofs.steps.ExampleEvictRun.{example_evict}
+use Rattle.mmu_laws.proofs.steps.ExampleOverlapRun.{example_overlap}
 use Rattle.mmu_core.specs.machine.Enabled.{mmu}
 use Rattle.mmu_core.specs.machine.Machine.{run}
 use Rattle.mmu_laws.proofs.steps.CanStep.{may_step}
@@ -36,3 +38,9 @@ returns-clause-host c = example_host
 
 pub returns-clause-protect : goal.returns-clause-protect
 returns-clause-protect c = example_protect
+
+pub returns-clause-evict : goal.returns-clause-evict
+returns-clause-evict c = example_evict
+
+pub returns-clause-overlap : goal.returns-clause-overlap
+returns-clause-overlap c = example_overlap

@@ -1,0 +1,203 @@
+-- The run in which the invalidations of two host threads are open at a time, by computation.
+use Rattle.core_views.specs.Traces.{slot_ids}
+use Rattle.core_views.specs.Sizes.{AreSizes, first_page_in}
+use Rattle.part_steps.specs.TopicSteps.{topics_after}
+use Rattle.std.proofs.lemmas.Fmt.{decimal_digit}
+use Rattle.std.proofs.lemmas.Option.{slice_get_past}
+use Rattle.std.specs.List.{IsDistinct}
+use Rattle.std.proofs.lemmas.List.Elements.{All-cons, All-nil}
+use Rattle.core_views.proofs.HeaderSizes.{four}
+use Rattle.mmu_core.specs.lines.Cached.{flushed}
+use Rattle.mmu_core.specs.machine.View.{View}
+use Rattle.std.proofs.Common.{ℕ, zero, suc, List, ◌≤◌, ◌+◌, ◌≡◌, ◌==◌, [], ◌∷◌, refl, ap, arith, lit<, lit≤}
+use Rattle.std.specs.Prelude.{All, Option, true, codes, unwrap_or}
+use Rattle.spte_words.specs.Areas.{content_index, place, pool_index}
+use Rattle.spte_words.specs.Entries.{absent_word, can_write, frame_in, frozen_word, is_leaf_at, kind_of, leaf_word, level_span, mapped_frame, table_word}
+use Rattle.spte_words.specs.Flags.{flags_live, flags_logged, flags_read_only, flags_word}
+use Rattle.spte_words.specs.HostWords.{host_allows_write, host_frame, host_level, host_present, host_word}
+use lib.Count.{count_trailing_zeros}
+use Rattle.core_views.specs.Text.{line_text, text}
+use Rattle.core_views.specs.declared.event.Event.{Event}
+use Rattle.mmu_laws.specs.steps.ExampleOverlap.{ExampleOverlap, evict_above, events_to_both, events_to_none, events_to_one, order_to_both, order_to_first}
+use Rattle.mmu_laws.specs.steps.ExampleOverlap.{order_to_none, order_to_one, overlap_events, overlap_lines, overlap_order, overlap_sizes, protect_below}
+use Rattle.mmu_laws.specs.steps.ExampleOverlap.{read_inside}
+use Rattle.spte_words.specs.declared.area.Area.{Area}
+use Rattle.spte_words.specs.declared.area.Area.TheVariants as area
+use Rattle.mmu_laws.specs.steps.ExampleSteps.{RunDelays, RunLeaves, set_line, set_read_only_line}
+use Rattle.mmu_laws.proofs.steps.ExampleRun.{May, may_set, run_delays, run_leaves, two_digits}
+use Rattle.mmu_laws.proofs.steps.ViewRuns.{have_lines, tale, turned_all}
+use Rattle.mmu_core.proofs.start.StartViews.{start_view}
+
+-- the start, and what hands have counted and words hold after these actors in turn
+abbrev begun : View
+begun = start_view overlap_sizes overlap_lines
+
+abbrev delays_after : List ℕ → ℕ → ℕ
+delays_after order actor = ((turned_all begun order).hand actor).state.delays
+
+abbrev word_after : List ℕ → Area → ℕ → ℕ
+word_after order a index = (turned_all begun order).words a index
+
+-- where the first host thread's invalidation is open
+first_is_open :
+    (have_lines overlap_sizes begun order_to_first ≡ true)
+    × (word_after order_to_first area.Count 0 ≡ 1)
+    × (word_after order_to_first area.RangeStart 0 ≡ 5)
+    × (word_after order_to_first area.RangeEnd 0 ≡ 6)
+unfolding flushed topics_after place kind_of level_span table_word frozen_word content_index pool_index absent_word frame_in mapped_frame leaf_word flags_live
+    flags_read_only flags_word host_allows_write host_frame host_present host_level host_word can_write is_leaf_at flags_logged count_trailing_zeros
+first_is_open = (refl, refl, refl, refl)
+
+-- where both are
+both_are_open :
+    (have_lines overlap_sizes begun order_to_both ≡ true)
+    × (tale begun order_to_both ≡ events_to_both)
+    × (delays_after order_to_both 0 ≡ 1)
+    × (delays_after order_to_both 4 ≡ 1)
+    × (word_after order_to_both area.Count 0 ≡ 2)
+    × (word_after order_to_both area.RangeStart 0 ≡ 5)
+    × (word_after order_to_both area.RangeEnd 0 ≡ 8)
+unfolding flushed topics_after place kind_of level_span table_word frozen_word content_index pool_index absent_word frame_in mapped_frame leaf_word flags_live
+    flags_read_only flags_word host_allows_write host_frame host_present host_level host_word can_write is_leaf_at flags_logged count_trailing_zeros
+both_are_open = (refl, refl, refl, refl, refl, refl, refl)
+
+-- where the second one's alone is
+one_is_open :
+    (have_lines overlap_sizes begun order_to_one ≡ true)
+    × (tale begun order_to_one ≡ events_to_one)
+    × (delays_after order_to_one 0 ≡ 2)
+    × (delays_after order_to_one 4 ≡ 2)
+    × (word_after order_to_one area.Seq 0 ≡ 1)
+    × (word_after order_to_one area.Count 0 ≡ 1)
+    × (word_after order_to_one area.RangeStart 0 ≡ 5)
+    × (word_after order_to_one area.RangeEnd 0 ≡ 8)
+unfolding flushed topics_after place kind_of level_span table_word frozen_word content_index pool_index absent_word frame_in mapped_frame leaf_word flags_live
+    flags_read_only flags_word host_allows_write host_frame host_present host_level host_word can_write is_leaf_at flags_logged count_trailing_zeros
+one_is_open = (refl, refl, refl, refl, refl, refl, refl, refl)
+
+-- where none is any more
+none_is_open :
+    (have_lines overlap_sizes begun order_to_none ≡ true)
+    × (tale begun order_to_none ≡ events_to_none)
+    × (delays_after order_to_none 0 ≡ 3)
+    × (word_after order_to_none area.Seq 0 ≡ 2)
+    × (word_after order_to_none area.Count 0 ≡ 0)
+    × (word_after order_to_none area.Slots 0 ≡ 2)
+unfolding flushed topics_after place kind_of level_span table_word frozen_word content_index pool_index absent_word frame_in mapped_frame leaf_word flags_live
+    flags_read_only flags_word host_allows_write host_frame host_present host_level host_word can_write is_leaf_at flags_logged count_trailing_zeros
+none_is_open = (refl, refl, refl, refl, refl, refl)
+
+-- the whole run
+all_are_answered :
+    (have_lines overlap_sizes begun overlap_order ≡ true)
+    × (tale begun overlap_order ≡ overlap_events)
+    × (delays_after overlap_order 0 ≡ 3)
+    × (delays_after overlap_order 2 ≡ 0)
+    × (delays_after overlap_order 3 ≡ 1)
+    × (delays_after overlap_order 4 ≡ 2)
+    × (word_after overlap_order area.Slots 0 ≡ 1)
+    × (word_after overlap_order area.Pool (pool_index 5 6) ≡ leaf_word 1 65 true true true)
+unfolding flushed topics_after place kind_of level_span table_word frozen_word content_index pool_index absent_word frame_in mapped_frame leaf_word flags_live
+    flags_read_only flags_word host_allows_write host_frame host_present host_level host_word can_write is_leaf_at flags_logged count_trailing_zeros
+all_are_answered = (refl, refl, refl, refl, refl, refl, refl, refl)
+
+-- Each thread's first page isn't after the next one's.
+firsts_rise : (host : ℕ) → first_page_in (0 ∷ 66 ∷ 128 ∷ 128 ∷ []) 128 host ≤ first_page_in (0 ∷ 66 ∷ 128 ∷ 128 ∷ []) 128 (host + 1)
+firsts_rise zero = omega arith
+firsts_rise (suc zero) = omega arith
+firsts_rise (suc (suc zero)) = omega arith
+firsts_rise (suc (suc (suc n))) = let last = past (suc (suc (suc n)) + 1) (omega arith) in let here = from_third n in omega (arith, here, last)
+  where
+    past : (k : ℕ) → 4 ≤ k → first_page_in (0 ∷ 66 ∷ 128 ∷ 128 ∷ []) 128 k ≡ 128
+    past k le = ap (λ (o : Option ℕ). unwrap_or o 128) (slice_get_past (0 ∷ 66 ∷ 128 ∷ 128 ∷ []) k le)
+
+    from_third : (m : ℕ) → first_page_in (0 ∷ 66 ∷ 128 ∷ 128 ∷ []) 128 (suc (suc (suc m))) ≡ 128
+    from_third zero = refl
+    from_third (suc m) = past (suc (suc (suc (suc m)))) (omega arith)
+
+overlap_in_range : AreSizes overlap_sizes
+overlap_in_range = record {
+  actors = record { vcpus = omega arith; hosts = omega arith; workers = omega arith };
+  some = omega arith;
+  pages = (omega arith, omega arith);
+  frames = (omega arith, omega arith);
+  words = (omega arith, omega arith);
+  content = omega arith;
+  pool = (omega arith, omega arith);
+  cache = (omega arith, omega arith);
+  firsts = four (λ page. page ≤ 128) 0 66 128 128 (omega arith) (omega arith) (omega arith) (omega arith);
+  rising = record { each = firsts_rise };
+}
+
+may_set_read_only : May overlap_sizes set_read_only_line
+may_set_read_only = record { some = omega arith; pages = omega arith; base = omega arith; host = omega arith; aligned = omega arith }
+
+overlap_allowed : All (May overlap_sizes) overlap_lines
+overlap_allowed =
+    All-cons (May overlap_sizes) set_line (set_read_only_line ∷ protect_below ∷ evict_above ∷ read_inside ∷ []) may_set
+    (All-cons (May overlap_sizes) set_read_only_line (protect_below ∷ evict_above ∷ read_inside ∷ []) may_set_read_only
+    (All-cons (May overlap_sizes) protect_below (evict_above ∷ read_inside ∷ []) (omega arith)
+    (All-cons (May overlap_sizes) evict_above (read_inside ∷ []) (omega arith)
+    (All-cons (May overlap_sizes) read_inside [] (omega arith, omega arith, omega arith) (All-nil (May overlap_sizes))))))
+
+overlap_distinct : IsDistinct (λ i j. i == j) (slot_ids overlap_lines)
+unfolding IsDistinct
+overlap_distinct = ((refl, tt), (tt, tt))
+
+overlap_prints : text overlap_events ≡ codes "2 vm done\n4 h0 done\n5 h1 done\n6 v0 frame 65 value 0\n3 vm done\n"
+unfolding line_text
+overlap_prints =
+    simp (
+      decimal_digit 0 (lit< tt),
+      decimal_digit 1 (lit< tt),
+      decimal_digit 2 (lit< tt),
+      decimal_digit 3 (lit< tt),
+      decimal_digit 4 (lit< tt),
+      decimal_digit 5 (lit< tt),
+      decimal_digit 6 (lit< tt),
+      two_digits 65 (lit≤ tt) (lit< tt),
+    )
+
+-- That these actors in turn tell this, and what one of them has counted then; and what a word holds after them.
+counts : (order : List ℕ) (events : List Event) (actor delays : ℕ) → have_lines overlap_sizes begun order ≡ true → tale begun order ≡ events
+    → delays_after order actor ≡ delays → RunDelays overlap_sizes overlap_lines order events actor delays
+counts order events actor delays =
+    run_delays overlap_sizes overlap_lines order events actor delays overlap_in_range overlap_allowed overlap_distinct (omega arith)
+
+leaves : (order : List ℕ) (a : Area) (index value : ℕ) → have_lines overlap_sizes begun order ≡ true → word_after order a index ≡ value
+    → RunLeaves overlap_sizes overlap_lines order a index value
+leaves order a index value = run_leaves overlap_sizes overlap_lines order a index value overlap_in_range overlap_allowed overlap_distinct (omega arith)
+
+pub example_overlap : ExampleOverlap
+example_overlap =
+    let (first_have, first_count, first_start, first_end) = first_is_open in
+    let (both_have, both_tale, both_read, both_set, both_count, both_start, both_end) = both_are_open in
+    let (one_have, one_tale, one_read, one_set, one_seq, one_count, one_start, one_end) = one_is_open in
+    let (none_have, none_tale, none_read, none_seq, none_count, none_slots) = none_is_open in
+    let (all_have, all_tale, all_read, all_below, all_above, all_set, all_slots, all_leaf) = all_are_answered in (
+      counts order_to_both events_to_both 0 1 both_have both_tale both_read,
+      counts order_to_both events_to_both 4 1 both_have both_tale both_set,
+      counts order_to_one events_to_one 0 2 one_have one_tale one_read,
+      counts order_to_one events_to_one 4 2 one_have one_tale one_set,
+      counts order_to_none events_to_none 0 3 none_have none_tale none_read,
+      counts overlap_order overlap_events 0 3 all_have all_tale all_read,
+      counts overlap_order overlap_events 2 0 all_have all_tale all_below,
+      counts overlap_order overlap_events 3 1 all_have all_tale all_above,
+      counts overlap_order overlap_events 4 2 all_have all_tale all_set,
+      leaves order_to_first area.Count 0 1 first_have first_count,
+      leaves order_to_first area.RangeStart 0 5 first_have first_start,
+      leaves order_to_first area.RangeEnd 0 6 first_have first_end,
+      leaves order_to_both area.Count 0 2 both_have both_count,
+      leaves order_to_both area.RangeStart 0 5 both_have both_start,
+      leaves order_to_both area.RangeEnd 0 8 both_have both_end,
+      leaves order_to_one area.Seq 0 1 one_have one_seq,
+      leaves order_to_one area.Count 0 1 one_have one_count,
+      leaves order_to_one area.RangeStart 0 5 one_have one_start,
+      leaves order_to_one area.RangeEnd 0 8 one_have one_end,
+      leaves order_to_none area.Seq 0 2 none_have none_seq,
+      leaves order_to_none area.Count 0 0 none_have none_count,
+      leaves order_to_none area.Slots 0 2 none_have none_slots,
+      leaves overlap_order area.Slots 0 1 all_have all_slots,
+      leaves overlap_order area.Pool (pool_index 5 6) (leaf_word 1 65 true true true) all_have all_leaf,
+      overlap_prints,
+    )

@@ -1,0 +1,212 @@
+-- What a hand holds that makes a step of a kind: which step of a part it is, what this needs, and so what is zapped, changed and brought in.
+use Rattle.std.proofs.Common.{◌≡◌, ◌≢◌, ◌⊎◌, inl, inr, ◌<◌, ◌≤◌, ◌/◌, ℕ, refl, sym, subst, ap, ◌∙◌, arith}
+use Rattle.std.specs.Prelude.{true, Some, Option, None, is_some}
+use Rattle.core_views.specs.declared.kind.Kind.{Kind}
+use Rattle.core_views.specs.declared.kind.StepKind.{StepKind}
+use Rattle.core_views.specs.declared.kind.StepKind.TheVariants as kind
+use Rattle.core_views.specs.declared.sizes.Sizes.{Sizes}
+use Rattle.core_views.specs.declared.topics.HostLook.{HostLook}
+use Rattle.core_views.specs.declared.topics.Topics.{Topics}
+use Rattle.core_views.specs.declared.trace.Line.{Line}
+use Rattle.core_views.specs.declared.trace.Op.{Op}
+use Rattle.core_views.specs.declared.trace.Op.TheVariants.{Add, Read, Write}
+use Rattle.core_views.specs.Held.{Held}
+use Rattle.core_views.specs.HostChanges.{is_own}
+use Rattle.core_views.specs.Kinds.{kind_named}
+use Rattle.core_views.specs.Sizes.{actors_of}
+use Rattle.spte_words.specs.HostWords.{host_present, with_presence}
+use Rattle.spte_words.specs.declared.area.Area.TheVariants as area
+use Rattle.spte_words.specs.Areas.{place as place_of, pool_index}
+use Rattle.spte_words.specs.Entries.{kind_of, level_span}
+use Rattle.part_steps.specs.declared.part_step.PartStep.{PartStep}
+use Rattle.part_steps.specs.declared.part_step.PartStep.TheVariants as part
+use Rattle.part_steps.specs.declared.task.Task.{Task}
+use Rattle.part_steps.specs.PartTasks.{entry_index, own_index, page_looked, part_task, table_page, word_looked}
+use Rattle.part_steps.specs.Tasks.{kind_of_task, map_of}
+use Rattle.mmu_core.specs.alone.FaultAlone.{LeadsTo}
+use Rattle.mmu_core.specs.invariant.Laws.{IsSound}
+use Rattle.mmu_core.specs.invariant.TreePart.{at, stands}
+use Rattle.mmu_core.specs.lines.AccessSteps.{touch_of}
+use Rattle.mmu_core.specs.machine.Enabled.{IsPartStep, mmu}
+use Rattle.mmu_core.specs.machine.Machine.{May, Step, World, hand_in}
+use Rattle.mmu_core.specs.machine.Steps.{line_at, place_at, task_of}
+use Rattle.mmu_core.specs.machine.View.{view, word_in}
+use Rattle.mmu_core.proofs.lines.StepIn.{StepIn, Touches, step_in}
+use Rattle.mmu_core.proofs.lines.StepIn as step_in_
+use Rattle.mmu_core.proofs.machine.Advancing.{named_is}
+use Rattle.mmu_core.proofs.machine.Which.{is_next, is_part}
+use Rattle.mmu_core.proofs.machine.Worlds.{Takes, TakesPart, are_small, takes}
+use Rattle.mmu_laws.specs.steps.InvalidationLaws.{BringsAbsentPage, BringsAreOfAbsentPages, ChangesAreInvalidated, ChangesOwnPage, ZapsAreOfOpenInvalidations}
+use Rattle.mmu_laws.specs.steps.InvalidationLaws.{ZapsOwnFrame}
+use Rattle.mmu_laws.proofs.causes.CauseSteps.{entry_kinds}
+use Rattle.mmu_laws.proofs.causes.MadeSteps.{Makes, in_machine, own_sizes, word_on}
+use Rattle.mmu_laws.proofs.leaves.LeadsDown.{leads_down}
+
+-- A step of this kind is one of a part.
+abbrev IsOfPart : StepKind → Type 0
+IsOfPart k = (op : Op) (index : ℕ) → (touch_of op index).kind ≢ k
+
+module _ (z : Sizes) (w : World Held) (s : Step Kind) (G : IsSound z w) (may : May mmu w s) where
+  abbrev h : Held
+  h = hand_in mmu w s.actor
+
+  abbrev t : Topics
+  t = h.topics
+
+  -- The step of a part that it is, of this kind.
+  record Made (k : StepKind) : Type 0 where
+    step : PartStep
+    makes : Makes h s step
+    kind_is : (part_task step (own_index h) t makes.note).kind ≡ k
+
+  of_kind : (k : StepKind) (task : Task) → s.kind ≡ kind_of_task h.state.sizes task → kind_named s.kind.code ≡ k → task.kind ≡ k
+  of_kind k task is named = sym (named_is task.kind) ∙ (sym (ap (λ (x : Kind). kind_named x.code) is) ∙ named)
+
+  by_task : (k : StepKind) → IsOfPart k → kind_named s.kind.code ≡ k → (task : Task) → StepIn z (view z w) s.actor task
+      → s.kind ≡ kind_of_task h.state.sizes task → Made k
+  by_task k other named _ (step_in_.Makes step note P) is = record {
+    step = step;
+    makes = record { note = note; is = is; needs = P.needs };
+    kind_is = of_kind k (part_task step (own_index h) t note) is named;
+  }
+  by_task k other named _ (Touches op index) is = absurd (other op index (of_kind k (touch_of op index) is named))
+
+  made : (k : StepKind) → IsOfPart k → kind_named s.kind.code ≡ k → Made k
+  made k other named = by (takes z w s G may)
+    where
+      by : Takes z w s h ⊎ TakesPart z w s h → Made k
+      by (inl T) =
+          let line : Line = line_at h.state.place h in
+          by_task k other named (task_of h)
+          (step_in z (view z w) s.actor line line.command (place_at h.state.place h) (are_small z w G) T.is_step G.holds G.topics)
+          (is_next h s.kind may.enabled T.has).is
+      by (inr T) =
+          let P : IsPartStep h s.kind = is_part h s.kind may.enabled T.none_left in
+          record {
+            step = P.step;
+            makes = record { note = P.note; is = P.is; needs = P.needs };
+            kind_is = of_kind k (part_task P.step (own_index h) t P.note) P.is named;
+          }
+
+  -- ---- what is zapped
+
+  zaps_leaf : (gfn : ℕ) → Makes h s (part.Zap gfn) → ZapsOwnFrame z w s
+  zaps_leaf gfn M = record {
+    alone = M.needs.alone;
+    opened = M.needs.opened;
+    gfn = gfn;
+    of_own = (M.needs.from, M.needs.to);
+    page = page;
+    on = word_on z w s G may (part.Zap gfn) M ∙ ap (λ l. place_of (map_of z) area.Pool (pool_index page (entry_index gfn l))) lowest;
+    leads = (leads_down z w gfn page t.walk.level entry G stood).above (subst (λ l. LeadsTo pool l page gfn entry) (sym lowest) refl);
+    leaf = ap (λ l. kind_of l entry) (sym lowest) ∙ (ap (kind_of t.walk.level) seen ∙ M.needs.leaf);
+  }
+    where
+      page : ℕ
+      page = table_page t.walk
+
+      pool : ℕ → ℕ
+      pool = word_in z w area.Pool
+
+      entry : ℕ
+      entry = pool (pool_index page (entry_index gfn 1))
+
+      there : s.actor < actors_of z
+      there = in_machine z w s G may
+
+      at_page : stands G.topics.up G.topics.spot page ≡ Some (at t.walk.level t.walk.prefix)
+      at_page = (G.topics.held s.actor there).table M.needs.saw.over.there
+
+      stood : stands G.topics.up G.topics.spot page ≡ Some (at t.walk.level (gfn / level_span t.walk.level / 512))
+      stood = at_page ∙ ap (λ p. Some (at t.walk.level p)) (sym M.needs.saw.over.run)
+
+      here : pool (pool_index page (entry_index gfn t.walk.level)) ≡ t.walk.entry
+      here =
+          let loaded = M.needs.saw.loaded in
+          ap (λ i. pool (pool_index page i)) (sym loaded)
+          ∙ G.topics.loaded s.actor there M.needs.alone M.needs.outside M.needs.saw.over.there (omega (arith, loaded))
+
+      lowest : t.walk.level ≡ 1
+      lowest =
+          let most = G.holds.sizes.pool.1 in
+          (entry_kinds G.topics.tree page (at t.walk.level t.walk.prefix) (entry_index gfn t.walk.level) (pool (pool_index page (entry_index gfn t.walk.level)))
+          (omega (arith, most)) at_page (G.topics.tree.entries page (at t.walk.level t.walk.prefix) at_page (entry_index gfn t.walk.level) (omega arith))).0
+          (ap (kind_of t.walk.level) here ∙ M.needs.leaf)
+
+      seen : entry ≡ t.walk.entry
+      seen = ap (λ l. pool (pool_index page (entry_index gfn l))) (sym lowest) ∙ here
+
+  -- ---- what is changed, and what is brought in
+
+  changes_page : (new_ : ℕ) → Makes h s (part.Change new_) → ChangesOwnPage z w s
+  changes_page new_ M =
+      let N = M.needs.0 in
+      let same = own_sizes z w s G may in
+      record {
+        page = page_looked t.host;
+        on = word_on z w s G may (part.Change new_) M;
+        own_ = subst (λ (y : Sizes). is_own y h.state.actor (page_looked t.host) ≡ true) same N.own_;
+        opened = N.opened;
+        unraised = N.unraised;
+        invalid = N.invalid;
+        asked = subst (λ (y : Sizes). y.vcpus ≤ t.flush.asked) same N.asked;
+        awaited = subst (λ (y : Sizes). y.vcpus ≤ t.flush.awaited) same N.awaited;
+      }
+
+  this_look : (o : Option HostLook) → is_some o ≡ true → o ≡ Some (record { page = page_looked o; word = word_looked o })
+  this_look None some = absurd (cc some)
+  this_look (Some look) some = refl
+
+  brings_page : Makes h s part.Bring → BringsAbsentPage z w s
+  brings_page M = record {
+    page = page_looked t.host;
+    on = word_on z w s G may part.Bring M;
+    section = M.needs.section;
+    looked = this_look t.host M.needs.looked ∙ ap (λ x. Some (record { page = page_looked t.host; word = x })) (sym (ap (λ (k : Kind). k.old) M.is));
+    absent = ap host_present (ap (λ (k : Kind). k.old) M.is) ∙ M.needs.absent;
+    puts = ap (λ (k : Kind). k.new) M.is ∙ ap (with_presence true) (sym (ap (λ (k : Kind). k.old) M.is));
+  }
+
+  -- ---- by the kind
+
+  zapping : (step : PartStep) (M : Makes h s step) → (part_task step (own_index h) t M.note).kind ≡ kind.Zap → ZapsOwnFrame z w s
+  zapping (part.Zap gfn) M is = zaps_leaf gfn M
+  zapping (part.Fill value) M is = absurd (cc is)
+  zapping _ M is = absurd (cc is)
+
+  changing : (step : PartStep) (M : Makes h s step) → (part_task step (own_index h) t M.note).kind ≡ kind.Change → ChangesOwnPage z w s
+  changing (part.Change new_) M is = changes_page new_ M
+  changing (part.Fill value) M is = absurd (cc is)
+  changing _ M is = absurd (cc is)
+
+  bringing : (step : PartStep) (M : Makes h s step) → (part_task step (own_index h) t M.note).kind ≡ kind.Bring → BringsAbsentPage z w s
+  bringing part.Bring M is = brings_page M
+  bringing (part.Fill value) M is = absurd (cc is)
+  bringing _ M is = absurd (cc is)
+
+no_touch_zaps : IsOfPart kind.Zap
+no_touch_zaps Read index is = cc is
+no_touch_zaps (Write x) index is = cc is
+no_touch_zaps (Add x) index is = cc is
+
+no_touch_changes : IsOfPart kind.Change
+no_touch_changes Read index is = cc is
+no_touch_changes (Write x) index is = cc is
+no_touch_changes (Add x) index is = cc is
+
+no_touch_brings : IsOfPart kind.Bring
+no_touch_brings Read index is = cc is
+no_touch_brings (Write x) index is = cc is
+no_touch_brings (Add x) index is = cc is
+
+pub zaps_are_of_open_invalidations : ZapsAreOfOpenInvalidations
+zaps_are_of_open_invalidations z w s G may named =
+    let M = made z w s G may kind.Zap no_touch_zaps named in zapping z w s G may M.step M.makes M.kind_is
+
+pub changes_are_invalidated : ChangesAreInvalidated
+changes_are_invalidated z w s G may named =
+    let M = made z w s G may kind.Change no_touch_changes named in changing z w s G may M.step M.makes M.kind_is
+
+pub brings_are_of_absent_pages : BringsAreOfAbsentPages
+brings_are_of_absent_pages z w s G may named =
+    let M = made z w s G may kind.Bring no_touch_brings named in bringing z w s G may M.step M.makes M.kind_is

@@ -1,0 +1,38 @@
+-- What is held, as numbers: of the page that is owned, of the one that leaves, of the slot set, and of the host word.
+use Rattle.std.specs.Prelude.{ℕ, Bool, false, Option, Some, None}
+use Rattle.core_views.specs.declared.topics.HostLook.{HostLook}
+use Rattle.core_views.specs.declared.topics.OwnedPage.{OwnedPage}
+
+-- the page that is owned, and how far it is filled
+abbrev pub page_owned : Option OwnedPage → ℕ
+page_owned None = 0
+page_owned (Some o) = o.page
+
+abbrev pub words_filled : Option OwnedPage → ℕ
+words_filled None = 0
+words_filled (Some o) = o.filled
+
+-- Each word that is filled so far is 0.
+abbrev pub is_absent : Option OwnedPage → Bool
+is_absent None = false
+is_absent (Some o) = o.absent
+
+-- the role that is stored for the page
+abbrev pub role_filled : Option OwnedPage → ℕ
+role_filled None = 0
+role_filled (Some o) = o.role
+
+-- the page that is leaving
+abbrev pub page_left : Option ℕ → ℕ
+page_left None = 0
+page_left (Some page) = page
+
+-- the pool page of the slot set that is held
+abbrev pub set_held : Option ℕ → ℕ
+set_held None = 0
+set_held (Some set) = set
+
+-- the host word that was loaded
+abbrev pub word_looked : Option HostLook → ℕ
+word_looked None = 0
+word_looked (Some look) = look.word
