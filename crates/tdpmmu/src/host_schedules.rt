@@ -367,7 +367,7 @@ const TWO_THREADS: [(&str, &str); 14] = [
 #[test]
 fn follows_changed_permissions(rt: HostRuntime) -> Result<(), Fail> {
     for (pool, lines, text) in PERMISSIONS {
-        follows(&rt, pool, lines, text)?;
+        follows(&rt, rt.alloc(), pool, lines, text)?;
     }
     Ok(())
 }
@@ -375,7 +375,7 @@ fn follows_changed_permissions(rt: HostRuntime) -> Result<(), Fail> {
 #[test]
 fn follows_pages_taken_away(rt: HostRuntime) -> Result<(), Fail> {
     for (pool, lines, text) in PRESENCE {
-        follows(&rt, pool, lines, text)?;
+        follows(&rt, rt.alloc(), pool, lines, text)?;
     }
     Ok(())
 }

@@ -2,7 +2,11 @@
 //! from the order of steps.
 use crate::status::Status;
 use crate::tests::run_on;
+use std::alloc::Global;
+use std::process::Abort;
+use std::sync::Wait;
 use std::test::Fail;
+use std::thread::Threads;
 
 const H: &str =
     "tdp 1 vcpus 2 workers 1 pages 1024 frames 1040 words 1 pool 64 cache 64 manual 0 hosts 0\n";
@@ -296,8 +300,13 @@ fn follows_warm_schedules(rt: HostRuntime) -> Result<(), Fail> {
 }
 
 // The trace, in a machine with so many pool pages, prints this text.
-pub(crate) fn follows(rt: &HostRuntime, pool: u64, lines: &str, text: &str) -> Result<(), Fail> {
-    let alloc = rt.alloc();
+pub(crate) fn follows<R: Threads + Wait + Sync + Abort>(
+    rt: &R,
+    alloc: Global,
+    pool: u64,
+    lines: &str,
+    text: &str,
+) -> Result<(), Fail> {
     let header = format!(in alloc;
         "tdp 1 vcpus 2 workers 1 pages 1024 frames 1040 words 1 pool {pool} cache 64 manual 0 hosts 0\n"
     )?;
@@ -310,7 +319,7 @@ pub(crate) fn follows(rt: &HostRuntime, pool: u64, lines: &str, text: &str) -> R
 #[test]
 fn follows_whole_traces(rt: HostRuntime) -> Result<(), Fail> {
     for (pool, lines, text) in TRACES {
-        follows(&rt, pool, lines, text)?;
+        follows(&rt, rt.alloc(), pool, lines, text)?;
     }
     Ok(())
 }
