@@ -1,6 +1,11 @@
 pub mod WalksKept
 pub mod Pages
+pub mod FrameLooks
+pub mod FrameSteps
+pub mod SeenFrames
+pub mod Frames
 pub mod SamePages
+pub mod LookUps
 pub mod Holdings
 pub mod SetsCleared
 pub mod Runs

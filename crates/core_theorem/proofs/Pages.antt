@@ -18,10 +18,10 @@ use Rattle.mmu_core.proofs.pages.Standing.{at_spot}
 use Rattle.mmu_core.proofs.pages.TreePlaces.{all_reached, one_place}
 use Rattle.core_theorem.specs.Pages.{IsUsedFor, LinksPage, PagesAreUsed}
 
-from_end : (k pages : ℕ) → nat_le pages k ≡ true → pages ≤ k
+pub from_end : (k pages : ℕ) → nat_le pages k ≡ true → pages ≤ k
 from_end k pages is = grind (arith, nat_tests)
 
-at_end : (k pages : ℕ) → pages ≤ k → nat_le pages k ≡ true
+pub at_end : (k pages : ℕ) → pages ≤ k → nat_le pages k ≡ true
 at_end k pages le = grind (arith, nat_tests)
 
 module _ (z : Sizes) (u : World Held) (G : IsSound z u) (page : ℕ) where

@@ -29,6 +29,7 @@ use Rattle.part_steps.specs.Tasks.{kind_of_task}
 use Rattle.part_steps.specs.TopicSteps.{topics_after}
 use Rattle.mmu_core.specs.declared.claim.ClaimNext.{ClaimNext}
 use Rattle.mmu_core.specs.declared.claim.ClaimNext.TheVariants as claims
+use Rattle.mmu_core.specs.declared.claim.FreeMap.TheVariants.{Pages}
 use Rattle.mmu_core.specs.lines.AccessSteps.{touch_of}
 use Rattle.mmu_core.specs.machine.Enabled.{mmu}
 use Rattle.mmu_core.specs.lines.ClaimSteps.{claim_next}
@@ -119,7 +120,7 @@ module _ (role : ℕ → ℕ) (x : ℕ) (t : Topics) where
 
   -- From no other place does a slot line come to give the page back.
   no_give : (p : SlotChangePlace) (h : Held) → clears p ≡ false → PlaceCleared role (place_after (slot_change_outcome p h x)) t
-  no_give (Claim begun) h never = claim_cleared (claim_next begun h.state.sizes h.topics.claim x)
+  no_give (Claim begun) h never = claim_cleared (claim_next Pages begun h.state.sizes h.topics.claim x)
   no_give Fill h never = either_place (λ q. SlotChangeCleared role q t) (nat_lt (words_filled h.topics.owned + 1) 512) Fill Role tt tt
   no_give Exclude h never = either_place (λ q. SlotChangeCleared role q t) (x == 0) Count Exclude tt tt
   no_give Count h never = either_place (λ q. SlotChangeCleared role q t) (x == 0) Publish Close tt tt

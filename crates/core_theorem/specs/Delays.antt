@@ -1,6 +1,5 @@
 -- Why a fault begins anew, why a step waits and why a line is starved, in every run.
 use Rattle.std.specs.Prelude.{◌≡◌, ◌≢◌, ◌⊎◌, ◌<◌, ℕ, Bool, List, [], ◌∷◌, ◌++◌, true}
-use Rattle.core_views.specs.declared.answer.Answer.TheVariants.{Starved}
 use Rattle.core_views.specs.declared.kind.Kind.{Kind}
 use Rattle.core_views.specs.declared.place.AccessPlace.TheVariants as access
 use Rattle.core_views.specs.declared.place.Cause.{Cause}
@@ -16,7 +15,6 @@ use Rattle.core_views.specs.declared.trace.Op.{Op}
 use Rattle.core_views.specs.Held.{Held}
 use Rattle.core_views.specs.Sizes.{actors_of}
 use Rattle.core_views.specs.Slots.{is_write}
-use Rattle.spte_words.specs.Areas.{words_of_bits}
 use Rattle.part_steps.specs.declared.part_step.PartStep.{PartStep}
 use Rattle.part_steps.specs.PartTasks.{part_kind}
 use Rattle.part_steps.specs.PartSteps.{PartNeeds}
@@ -24,6 +22,9 @@ use Rattle.mmu_core.specs.declared.outcome.Outcome.TheVariants.{Ends, Goes}
 use Rattle.mmu_laws.specs.causes.Causes.{IsCaused}
 use Rattle.mmu_core.specs.machine.Enabled.{mmu}
 use Rattle.mmu_core.specs.machine.Machine.{Step, World, answered, hand_in, run}
+use Rattle.mmu_core.specs.declared.claim.FreeMap.{FreeMap}
+use Rattle.mmu_core.specs.lines.ClaimSteps.{map_words}
+use Rattle.mmu_core.specs.lines.ScanPlaces.{answer_without}
 use Rattle.mmu_core.specs.lines.PartWaits.{SawAnother, part_seen, part_waits}
 use Rattle.mmu_core.specs.invariant.Scans.{EndsWithScan}
 use Rattle.mmu_core.specs.machine.Steps.{delays_at, has_line, place_at}
@@ -134,10 +135,10 @@ DelaysHaveCauses =
     → BeginsAnew z (run mmu w ss) ts s ⊎ StepWaits z (run mmu w ss) ts s ⊎ MissesEntry z (run mmu w ss) ts s
 
 -- From any moment on in which no line of an actor is under way, so from the one at which its line begins: a step that answers the line
--- starved ends a scan of the whole map by the line's actor since that moment, which found no page free in any of its words.
+-- starved, or refuses it a frame, ends a scan of the whole map by the line's actor since that moment, which found nothing free in any of its words.
 abbrev pub StarvedLinesScanned : Type 0
 StarvedLinesScanned =
-    (z : Sizes) (lines : List Line) (w : World Held) (ss ts : List (Step Kind)) (s : Step Kind) → IsRun z lines w (ss ++ (ts ++ s ∷ []))
+    (z : Sizes) (map : FreeMap) (lines : List Line) (w : World Held) (ss ts : List (Step Kind)) (s : Step Kind) → IsRun z lines w (ss ++ (ts ++ s ∷ []))
     → (hand_in mmu (run mmu w ss) s.actor).state.place ≡ Between
-    → outcome_of (hand_of (run mmu w ss) ts s) (answer_of (run mmu w ss) ts s) ≡ Ends Starved
-    → EndsWithScan z s.actor (words_of_bits z.pool) (run mmu w ss) (ts ++ s ∷ [])
+    → outcome_of (hand_of (run mmu w ss) ts s) (answer_of (run mmu w ss) ts s) ≡ Ends (answer_without map)
+    → EndsWithScan z map s.actor (map_words map z) (run mmu w ss) (ts ++ s ∷ [])

@@ -81,7 +81,7 @@ ReturnedSetsAreCleared =
     → GivesBack page (run mmu w ss) s → (hand_in mmu (run mmu w ss) s.actor).topics.leaving ≡ Some page → word_in z (run mmu w ss) area.Role page ≡ 0
 
 -- Where a step answers a line, also its actor's last one, the actor holds nothing after it: it is out of the guest and of every section,
--- has no lock, no page and no slot set, and no page leaves for it.
+-- has no lock, no page, no frame and no slot set, no page leaves for it, and no invalidation of its own is open.
 abbrev pub AnsweredLinesRest : Type 0
 AnsweredLinesRest =
     (z : Sizes) (lines : List Line) (w : World Held) (ss : List (Step Kind)) (s : Step Kind) (answer : Answer) → IsRun z lines w (ss ++ s ∷ [])

@@ -1,8 +1,10 @@
 pub mod Runs
 pub mod Pages
+pub mod Frames
 pub mod Walks
 pub mod Leaves
 pub mod OpenFrames
+pub mod LookUps
 pub mod Locks
 pub mod Holdings
 pub mod Delays

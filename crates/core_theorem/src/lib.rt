@@ -6,8 +6,10 @@ ghost use Rattle.core_theorem.specs.Delays.{BetweenLinesSawNothing, StartsSawNot
 ghost use Rattle.core_theorem.specs.Delays.{DelaysHaveCauses, FaultsHaveCauses, StarvedLinesScanned, WaitsHaveCauses, WaitsInRunsSeeAnother};
 ghost use Rattle.core_theorem.specs.Holdings.{AnsweredLinesRest, HeldSetsAreKnown, NoneHoldsFreePages, PagesAreReusedAlone, ReturnedSetsAreCleared};
 ghost use Rattle.core_theorem.specs.Holdings.{WatchedHoldNoOldSet};
+ghost use Rattle.core_theorem.specs.Frames.{CopiedWordsAreThePages, EachFrameHasOneUse, FramesAreReusedAlone, WatchedHoldNoOldFrame};
 ghost use Rattle.core_theorem.specs.Leaves.{HeldLeavesAgree, LinkedLeavesAgree, TranslationsAgree, UsedLeavesAgree};
 ghost use Rattle.core_theorem.specs.Locks.{LockIsKept};
+ghost use Rattle.core_theorem.specs.LookUps.{FoundSlotsAreLive, LookedUpPagesStand};
 ghost use Rattle.core_theorem.specs.OpenFrames.{OpenFramesAreFlushed, OpenFramesAreOfThePage, OpenFramesAreRecorded, OpenFramesAreZapped};
 ghost use Rattle.core_theorem.specs.Pages.{EachPageHasOneUse};
 ghost use Rattle.core_theorem.specs.Runs.{TellsLawfully, WordsStandForFacts};
@@ -32,14 +34,23 @@ ghost use Rattle.core_theorem.specs.Walks.{WalksHoldTables};
 /// guest frames that the published slots give to its host page. `zapped`: once its actor
 /// has asked for a first flush, no links lead such a guest frame from the root to a leaf.
 /// `flushed`: a virtual processor whose flush was awaited, and which is in the guest or
-/// has no flush asked of it, has nothing cached of such a guest frame. `lock`: the lock's
-/// word counts its readers and has the bit of its one writer, beside whom none has it as
-/// a reader. `grace`: what an actor holds of tables and slot sets isn't free. `sets`,
+/// has no flush asked of it, has nothing cached of such a guest frame. `found`: the slot
+/// that an actor has found is live in the published set. `looked`: what an actor has
+/// looked up of a host page is so still, while the sequence number is the one that it took
+/// before and no invalidation of the page is open that has yet to raise it; but an absent
+/// page may have been brought in. `lock`: the lock's word counts its readers and has the
+/// bit of its one writer, beside whom none has it as a reader. `grace`: what an actor holds of tables and slot sets isn't free. `sets`,
 /// `watched`: a slot set that an actor holds is the published one, or an old one, held in
 /// a section and leaving for another actor, whose watch hasn't passed this one since; so
 /// whom a watch has passed holds no slot set that the watcher has taken out of use.
 /// `reuse`: a page that is taken from the pool or given back to it nobody else holds.
 /// `cleared`: where an old slot set is given back to the pool, its role word is 0.
+/// `frames`: each frame is exactly one of free, that of one host page, owned by one
+/// actor, and none of the machine. `copied`: while its actor's invalidation is open, each
+/// word that a move has copied is the page's. `frame_reuse`: a frame that is claimed or
+/// given back nobody else owns or has looked at in its section, no translation that may be
+/// used is to it, and no host page names it. `moved`: whom a watch has passed since a page
+/// was moved out of a frame has looked at no page there.
 /// `rest`: whose line is answered holds nothing after it. `lawful`: each access, each
 /// exit and each answer is one that flat guest memory allows. `facts`: the words stand
 /// for the slots, host pages and contents that the events so far make of flat guest
@@ -52,20 +63,21 @@ ghost use Rattle.core_theorem.specs.Walks.{WalksHoldTables};
 /// in the guest after a fault that installed an entry, and finds no translation: since
 /// that fault began another actor took an entry of the guest frame away. `sees`: a step
 /// that waits has seen this: a writer in the lock's word, or that the lock isn't free,
-/// the map's word without the bit of the page that it tried, how many invalidations are
-/// open, the state word of another actor in a section, or that of a virtual processor in
-/// the guest that has yet to flush. `at_start`, `between_lines`: what a step waits for
-/// was seen since any moment at which the actor had seen nothing, as at the start and, of
-/// an actor that has a line left, between its lines (tdp_mmu.c; locking.rst; mmu.rst;
-/// mmu_notifier.rst; vcpu-requests.rst).
+/// the map's word without the bit of the page or frame that it tried, how many
+/// invalidations are open, the state word of another actor in a section, or that of a
+/// virtual processor in the guest that has yet to flush. `at_start`, `between_lines`:
+/// what a step waits for was seen since any moment at which the actor had seen nothing, as
+/// at the start and, of an actor that has a line left, between its lines (tdp_mmu.c;
+/// locking.rst; mmu.rst; mmu_notifier.rst; page_migration.rst; vcpu-requests.rst).
 ///
 /// `counts`, `line_turns`: a line makes no more steps than its command allows
-/// (`most_steps`: an access 8,192, one for each pool page and one for each frame; each other
-/// line 1,024 and one for each word of the pool's map) up to the end of its first delay,
-/// as many from there to the end of the next, and as many after its last. `turns`: so
-/// all lines together make at most as many for each of their delays and for each line.
-/// `all_turns`, `open_lines`: no line makes more than 8,192, one for each pool page and
-/// one for each frame, and there are no more lines than have no answer yet.
+/// (`most_steps`: an access 8,192, one for each pool page and one for each frame; a slot
+/// line 1,024 and one for each word of the pool's map; a host line 1,024 and one for each
+/// word of the map of frames) up to the end of its first delay, as many from there to the
+/// end of the next, and as many after its last. `turns`: so all lines together make at
+/// most as many for each of their delays and for each line. `all_turns`, `open_lines`: no
+/// line makes more than 8,192, one for each pool page and one for each frame, and there
+/// are no more lines than have no answer yet.
 pub fn every_run()
     ensures pages { EachPageHasOneUse }
     ensures walks { WalksHoldTables }
@@ -77,12 +89,18 @@ pub fn every_run()
     ensures scopes { OpenFramesAreOfThePage }
     ensures zapped { OpenFramesAreZapped }
     ensures flushed { OpenFramesAreFlushed }
+    ensures found { FoundSlotsAreLive }
+    ensures looked { LookedUpPagesStand }
     ensures lock { LockIsKept }
     ensures grace { NoneHoldsFreePages }
     ensures sets { HeldSetsAreKnown }
     ensures watched { WatchedHoldNoOldSet }
     ensures reuse { PagesAreReusedAlone }
     ensures cleared { ReturnedSetsAreCleared }
+    ensures frames { EachFrameHasOneUse }
+    ensures copied { CopiedWordsAreThePages }
+    ensures frame_reuse { FramesAreReusedAlone }
+    ensures moved { WatchedHoldNoOldFrame }
     ensures rest { AnsweredLinesRest }
     ensures lawful { TellsLawfully }
     ensures facts { WordsStandForFacts }

@@ -31,7 +31,8 @@ use Rattle.core_views.specs.Lawful.{HasWork, IsLawful, IsAllowed, MayChangeHost,
 use Rattle.core_views.specs.FlatHistory.{by, answers, accessing, bringing, changing_host, moving, reaching, doing, doing_by, rest_of, looks, looks_behind}
 use Rattle.core_views.specs.FlatHistory.{alone, one_by_one, working}
 use Rattle.core_views.proofs.Looks.{facts_behind, still_paused}
-use Rattle.core_views.proofs.HostLines.{owned_answer, free_is, mapped}
+use Rattle.core_views.proofs.HostLines.{owned_answer, mapped}
+use Rattle.core_views.proofs.LowestFrames.{free_is}
 use Rattle.core_views.proofs.SlotChanges.{changes}
 use Rattle.core_views.proofs.SameActor.{changed_here}
 

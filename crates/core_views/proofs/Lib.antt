@@ -18,4 +18,6 @@ pub mod Writes
 pub mod Written
 pub mod SlotLines
 pub mod HostLines
+pub mod Ranges
+pub mod LowestFrames
 pub mod FallsAsFlat

@@ -103,9 +103,9 @@ left : (z : Sizes) (line : Line) (command : Command) (f : Facts) (notes : Notes)
 left z line (Access gfn word op) f notes Mmio exact fed may =
     ap (accessing line gfn word op f) (subst (λ (slots : Slots). page_behind slots gfn op ≡ None) (exact.slots may.slots may.noted) may.none)
 left z line (Access gfn word op) f notes HostFault exact fed may = forbidden line gfn word op f notes exact may
-left z line command f notes Starved exact fed may = absurd fed
+left z line command f notes Starved exact fed may = absurd (fed.0 refl)
 left z line (ChangeHost page Move) f notes (Refused NoFrame) exact fed may =
-    ap (doing_by z line (ChangeHost page Move) f) may ∙ ap (moving line page f) fed
+    ap (doing_by z line (ChangeHost page Move) f) may ∙ ap (moving line page f) fed.1
 left z line (ChangeHost page Evict) f notes _ exact fed may = absurd may
 left z line (ChangeHost page Protect) f notes _ exact fed may = absurd may
 left z line (ChangeHost page Allow) f notes _ exact fed may = absurd may
@@ -134,7 +134,7 @@ changed_host : (z : Sizes) (line : Line) (page : ℕ) (change : HostChange) (f :
     → doing z line (ChangeHost page change) f ≡ by line (HostChanged page entry) ∷ answers line (host_answer (ChangeHost page change) entry)
 changed_host z line page Move f entry works falls is =
     ap (doing_by z line (ChangeHost page Move) f) works
-    ∙ (ap (moving line page f) falls ∙ ap (λ (e : HostEntry). by line (HostChanged page e) ∷ answers line (Moved entry.frame)) (sym is.0))
+    ∙ (ap (moving line page f) falls.1 ∙ ap (λ (e : HostEntry). by line (HostChanged page e) ∷ answers line (Moved entry.frame)) (sym is.0))
 changed_host z line page Evict f entry works falls is =
     ap (doing_by z line (ChangeHost page Evict) f) works ∙ ap (λ (e : HostEntry). by line (HostChanged page e) ∷ answers line Done) (sym is)
 changed_host z line page Protect f entry works falls is =

@@ -52,20 +52,28 @@ abbrev pub StandsAlone : List Event → List Line → Type 0
 StandsAlone history [] = history ≡ []
 StandsAlone history (line ∷ lines) = (rest : List Event) × StandsFirst line history rest × StandsAlone rest lines
 
--- Where flat memory leaves an event of such a line open, it falls as the flat history's does: no line is given up for want of a pool page, a move takes the
--- lowest frame that no page names, and it is refused a frame only where there is none.
-abbrev pub FallsAsFlat : Sizes → Facts → Command → EventKind → Type 0
-FallsAsFlat z f command (Exited Starved) = ⊥
-FallsAsFlat z f command (Exited (Refused NoFrame)) = lowest_free z f.host ≡ None
-FallsAsFlat z f (ChangeHost page Move) (HostChanged other entry) = lowest_free z f.host ≡ Some entry.frame
-FallsAsFlat _ _ _ _ = Unit {0}
+-- A move takes the lowest frame that no page names, and it is refused a frame only where there is none.
+abbrev pub TakesLowest : Sizes → Facts → Command → EventKind → Type 0
+TakesLowest z f command (Exited (Refused NoFrame)) = lowest_free z f.host ≡ None
+TakesLowest z f (ChangeHost page Move) (HostChanged other entry) = lowest_free z f.host ≡ Some entry.frame
+TakesLowest _ _ _ _ = Unit {0}
 
--- So falls each event of the history, in the state that the events before it give.
-abbrev pub FallAsFlat : Sizes → Flat → List Event → Type 0
-FallAsFlat z f [] = Unit {0}
-FallAsFlat z f (e ∷ es) = FallsAsFlat z f.facts (f.under e.actor).line.command e.kind × FallAsFlat z (after e f) es
+-- So does each move of the history, in the state that the events before it give.
+abbrev pub TakeLowest : Sizes → Flat → List Event → Type 0
+TakeLowest z f [] = Unit {0}
+TakeLowest z f (e ∷ es) = TakesLowest z f.facts (f.under e.actor).line.command e.kind × TakeLowest z (after e f) es
 
 -- No line of the history is given up for want of a pool page.
 abbrev pub NoneStarved : List Event → Type 0
 NoneStarved [] = Unit {0}
 NoneStarved (e ∷ es) = (e.kind ≢ Exited Starved) × NoneStarved es
+
+-- Where flat memory leaves an event of such a line open, it falls as the flat history's does: no line is given up for want of a pool page, and a move takes
+-- the lowest frame.
+abbrev pub FallsAsFlat : Sizes → Facts → Command → EventKind → Type 0
+FallsAsFlat z f command kind = (kind ≢ Exited Starved) × TakesLowest z f command kind
+
+-- So falls each event of the history, in the state that the events before it give.
+abbrev pub FallAsFlat : Sizes → Flat → List Event → Type 0
+FallAsFlat z f [] = Unit {0}
+FallAsFlat z f (e ∷ es) = FallsAsFlat z f.facts (f.under e.actor).line.command e.kind × FallAsFlat z (after e f) es

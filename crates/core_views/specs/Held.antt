@@ -140,6 +140,7 @@ first_topics = record {
   host = None;
   pause = 0;
   flush = record { asked = 0; awaited = 0 };
+  frames = record { claim = no_claim; owned = None };
 }
 
 abbrev pub first_held : Sizes → Actor → List Line → Held

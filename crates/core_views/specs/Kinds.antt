@@ -6,8 +6,8 @@ use Rattle.core_views.specs.declared.kind.Operation.{Operation}
 use Rattle.core_views.specs.declared.kind.Operation.TheVariants as operation
 use Rattle.core_views.specs.declared.kind.StepKind.{StepKind}
 use Rattle.core_views.specs.declared.kind.StepKind.TheVariants.{Enter, Leave, Walk, Read, Write, Add, Begin, End, Control, Slot, Host, Bring, Swap, Share}
-use Rattle.core_views.specs.declared.kind.StepKind.TheVariants.{Unshare, Exclude, Release, Claim, Fill, Give, Set, Zap, Ask, Await, Change, Publish}
-use Rattle.core_views.specs.declared.kind.StepKind.TheVariants.{Watch}
+use Rattle.core_views.specs.declared.kind.StepKind.TheVariants.{Unshare, Exclude, Release, Claim, Fill, Give, Set, Zap, Ask, Await, Change}
+use Rattle.core_views.specs.declared.kind.StepKind.TheVariants.{Copy, Frame, Unframe, Publish, Watch}
 
 -- the number of a kind
 abbrev pub code_of : StepKind → ℕ
@@ -36,6 +36,9 @@ code_of Zap = 23
 code_of Ask = 24
 code_of Await = 25
 code_of Change = 26
+code_of Copy = 27
+code_of Frame = 28
+code_of Unframe = 29
 code_of Publish = 30
 code_of Watch = 31
 
@@ -66,6 +69,9 @@ kind_named code =
     if code == code_of Ask then Ask else
     if code == code_of Await then Await else
     if code == code_of Change then Change else
+    if code == code_of Copy then Copy else
+    if code == code_of Frame then Frame else
+    if code == code_of Unframe then Unframe else
     if code == code_of Publish then Publish else
     if code == code_of Watch then Watch else
     Control
@@ -96,6 +102,9 @@ operation_of Zap = operation.Swap
 operation_of Ask = operation.FetchOr
 operation_of Await = operation.Load
 operation_of Change = operation.CompareExchange
+operation_of Copy = operation.Load
+operation_of Frame = operation.FetchAnd
+operation_of Unframe = operation.FetchOr
 operation_of Publish = operation.Swap
 operation_of Watch = operation.Load
 

@@ -7,7 +7,6 @@ use Rattle.core_views.specs.declared.actor.Actor.TheVariants.{Vcpu, Host, Manage
 use Rattle.core_views.specs.declared.trace.Command.{Command}
 use Rattle.core_views.specs.declared.trace.Command.TheVariants.{Access, ChangeHost, SetSlot}
 use Rattle.core_views.specs.declared.trace.Header.{Header}
-use Rattle.core_views.specs.declared.trace.HostChange.TheVariants.{Allow, Evict, Protect}
 use Rattle.core_views.specs.declared.trace.Item.{Item}
 use Rattle.core_views.specs.declared.trace.Line.{Line}
 use Rattle.core_views.specs.declared.trace.Slot.{Slot}
@@ -29,9 +28,7 @@ pub record IsSlotInRange (slot : Slot) : Type 0 where
 abbrev pub IsCommandFor : Sizes → Actor → Command → Type 0
 IsCommandFor z (Vcpu n) (Access gfn word op) = (n < z.vcpus) × (gfn < 2 ^ 36) × (word < z.words)
 IsCommandFor z Manager (SetSlot id slot) = IsSlotInRange slot
-IsCommandFor z (Host n) (ChangeHost page Evict) = n < z.hosts
-IsCommandFor z (Host n) (ChangeHost page Protect) = n < z.hosts
-IsCommandFor z (Host n) (ChangeHost page Allow) = n < z.hosts
+IsCommandFor z (Host n) (ChangeHost page change) = n < z.hosts
 IsCommandFor z _ _ = ⊥
 
 -- The same of the machine of a header.

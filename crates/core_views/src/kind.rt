@@ -40,8 +40,8 @@ pub enum StepKind {
     Release,
     /// Takes the bit of a free page out of the pool's map.
     Claim,
-    /// Stores a word of a page that the actor owns, or the role of a page that it
-    /// takes out of use.
+    /// Stores a word of a page or of a frame that the actor owns, or the role of a page
+    /// that it takes out of use.
     Fill,
     /// Puts the bit of a free page into the pool's map.
     Give,
@@ -56,6 +56,12 @@ pub enum StepKind {
     Await,
     /// Exchanges a host word, where it is as it was seen.
     Change,
+    /// Loads a content word of a page that is to be moved.
+    Copy,
+    /// Takes the bit of a free frame out of the map of frames.
+    Frame,
+    /// Puts the bit of a free frame into the map of frames.
+    Unframe,
     /// Swaps the published slot set for a page that the actor owns.
     Publish,
     /// Loads the state word of another actor.
@@ -111,6 +117,9 @@ impl StepKind {
             StepKind::Ask => 24,
             StepKind::Await => 25,
             StepKind::Change => 26,
+            StepKind::Copy => 27,
+            StepKind::Frame => 28,
+            StepKind::Unframe => 29,
             StepKind::Publish => 30,
             StepKind::Watch => 31,
         }
@@ -124,17 +133,20 @@ impl StepKind {
             StepKind::Walk | StepKind::Read | StepKind::Control | StepKind::Slot => {
                 Operation::Load
             }
-            StepKind::Host | StepKind::Await | StepKind::Watch => Operation::Load,
+            StepKind::Host | StepKind::Await | StepKind::Copy | StepKind::Watch => Operation::Load,
             StepKind::Fill | StepKind::Set => Operation::Store,
             StepKind::Enter | StepKind::Write | StepKind::Zap | StepKind::Publish => {
                 Operation::Swap
             }
             StepKind::Add | StepKind::Share => Operation::FetchAdd,
             StepKind::Unshare => Operation::FetchSub,
-            StepKind::Leave | StepKind::End | StepKind::Release | StepKind::Claim => {
-                Operation::FetchAnd
-            }
-            StepKind::Begin | StepKind::Give | StepKind::Ask => Operation::FetchOr,
+            StepKind::Leave
+            | StepKind::End
+            | StepKind::Release
+            | StepKind::Claim
+            | StepKind::Frame => { Operation::FetchAnd }
+            StepKind::Begin | StepKind::Give | StepKind::Ask | StepKind::Unframe =>
+                Operation::FetchOr,
             StepKind::Bring | StepKind::Swap => Operation::CompareExchange,
             StepKind::Exclude | StepKind::Change => Operation::CompareExchange,
         }
@@ -185,6 +197,9 @@ impl Kind {
             24 => StepKind::Ask,
             25 => StepKind::Await,
             26 => StepKind::Change,
+            27 => StepKind::Copy,
+            28 => StepKind::Frame,
+            29 => StepKind::Unframe,
             30 => StepKind::Publish,
             31 => StepKind::Watch,
             _ => StepKind::Control,

@@ -39,8 +39,8 @@ pub use sequence::Sequence;
 pub use sizes::{LogMode, Sizes};
 pub use slot_set::{MemorySlot, SlotSet};
 pub use topics::{
-    Checked, Flush, Hold, HostLook, Invalidated, Invalidations, MapClaim, OwnedPage, SlotSearch,
-    Stay, TableWalk, Topics,
+    Checked, Flush, Frames, Hold, HostLook, Invalidated, Invalidations, MapClaim, OwnedFrame,
+    OwnedPage, SlotSearch, Stay, TableWalk, Topics,
 };
 pub use trace::{
     Command, Header, HostChange, Item, Items, Line, Lines, Op, Slot, Trace, Until, Words,

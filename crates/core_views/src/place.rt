@@ -133,18 +133,30 @@ pub enum EndPlace {
 
 /// The steps of a line that changes a host page, in their order: it looks at the page's
 /// host word, and changes it within an invalidation of the guest frames that slots give
-/// to the page.
+/// to the page. A line that moves the page claims a frame before, into which it copies the
+/// page's words within the invalidation, and gives the old frame back after a grace period
+/// (page_migration.rst).
 #[derive(Clone, Copy, Debug, PartialEq, Eq, Drop)]
 pub enum HostPlace {
     /// Loads the host word of the page; where the page isn't the actor's own, the line is
     /// refused with this step.
-    Look,
+    Look { moves: bool },
+    /// Loads a word of the map of frames, or tries a frame that it saw there.
+    Claim { begun: bool },
     /// A step that begins its invalidation.
     Begin(BeginPlace),
+    /// Loads the next word of the page.
+    Copy,
+    /// Stores it in the frame that it owns.
+    Store,
     /// Exchanges the host word.
     Change,
     /// A step that ends its invalidation.
     End(EndPlace),
+    /// Looks at the next other actor, until it is seen in no section.
+    Watch,
+    /// Gives the old frame back.
+    Free,
 }
 
 /// Why a fault is to begin anew (locking.rst; tdp_mmu.c, `RET_PF_RETRY`).

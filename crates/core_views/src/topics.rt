@@ -142,13 +142,14 @@ pub struct TableWalk {
     pub entry: u64,
 }
 
-/// A claim of a free page of the pool's map.
+/// A claim of what is free in a map of bits: of a page in the pool's map, or of a frame in the
+/// map of frames.
 #[derive(Clone, Copy, Debug, PartialEq, Eq, Drop)]
 pub struct MapClaim {
     /// The word of the map that the claim has come to: each before it was seen 0.
     pub at: u64,
-    /// The free pages that were seen in this word, a bit for each; 0 where it is
-    /// yet to be loaded.
+    /// What was seen free in this word, a bit for each; 0 where it is yet to be
+    /// loaded.
     pub seen: u64,
 }
 
@@ -162,6 +163,26 @@ pub struct OwnedPage {
     pub absent: bool,
     /// The role that was stored, once all is filled.
     pub role: u64,
+}
+
+/// A frame that an actor owns alone: claimed, or that of a page which it has moved away, and
+/// not given back.
+#[derive(Clone, Copy, Debug, PartialEq, Eq, Drop)]
+pub struct OwnedFrame {
+    pub frame: u64,
+    /// How many of its words are filled with those of a page.
+    pub filled: u64,
+    /// The word that was copied for the next one of them, if it was.
+    pub copied: Option<u64>,
+}
+
+/// What an actor holds of the frames of the host.
+#[derive(Clone, Copy, Debug, PartialEq, Eq, Drop)]
+pub struct Frames {
+    /// Its claim of a free frame in their map.
+    pub claim: MapClaim,
+    /// The frame that it owns.
+    pub owned: Option<OwnedFrame>,
 }
 
 /// What an actor holds of each part of the machine. Each field is a topic of its
@@ -186,6 +207,7 @@ pub struct Topics {
     pub pause: u64,
     /// The flush that the actor has asked for.
     pub flush: Flush,
+    pub frames: Frames,
 }
 
 impl Topics {
@@ -247,6 +269,10 @@ impl Topics {
             flush: Flush {
                 asked: 0,
                 awaited: 0,
+            },
+            frames: Frames {
+                claim: MapClaim { at: 0, seen: 0 },
+                owned: None,
             },
         }
     }

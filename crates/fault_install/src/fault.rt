@@ -18,7 +18,7 @@ use grace_period::{begin, end};
 use host_map::{bring_in, look};
 use invalidate_seq::{Check, Snapshot};
 use memslots::Find;
-use mmu_core::{access_note, part_rests};
+use mmu_core::{FreeMap, access_note, part_rests};
 use mmu_lock::{try_shared, unlock};
 use part_steps::{PartStep, map_of, page_of, page_owned};
 use spte_words::Area;
@@ -164,7 +164,11 @@ impl FaultJob {
         ensures room { KeepsRoom (S.seat s.old) (S.seat s.new) }
         ensures same { ((S.seat s.new).actor ≡ (S.seat s.old).actor) × (S.frame s.new ≡ S.frame s.old) }
     {
-        claim_turn(Claim { begun }.turn(s, note))
+        let mut claim = Claim {
+            map: FreeMap::Pages,
+            begun,
+        };
+        claim_turn(claim.turn(s, note))
     }
 
     // Ends the section, and the fault with it.

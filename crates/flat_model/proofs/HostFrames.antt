@@ -8,21 +8,8 @@ use Rattle.core_views.specs.Host.{HostMap, own_frames}
 use Rattle.core_views.specs.HostChanges.{is_taken, lowest_free}
 use Rattle.flat_model.specs.Frames.{Frames, is_free}
 use Rattle.flat_model.specs.HostPages.{AreFree}
-use Rattle.flat_model.proofs.Ranges.{alike, any_passes, by_test, first_found, none_found, passing}
-
--- The page's frame is taken.
-taken_by : (pages : ℕ) (host : HostMap) (page frame : ℕ) → page < pages → (host page).frame ≡ frame → is_taken pages host frame ≡ true
-taken_by pages host page frame lt is = any_passes 0 pages (λ p. (host p).frame == frame) page (omega arith) (omega arith) (eq-eqb (host page).frame frame is)
-
--- Some page has a frame that is taken.
-taker : (pages : ℕ) (host : HostMap) (frame : ℕ) → is_taken pages host frame ≡ true → (page : ℕ) × (page < pages) × ((host page).frame ≡ frame)
-taker pages host frame is =
-    let there = passing 0 pages (λ p. (host p).frame == frame) is in
-    (there.0, omega (arith, there.1), eqb-true (host there.0).frame frame there.2)
-
-is_not : (b : Bool) → not b ≡ true → b ≡ false
-is_not true e = absurd (cc e)
-is_not false e = refl
+use Rattle.core_views.proofs.LowestFrames.{is_not, lowest_is, none_left, taken_by, taker}
+use Rattle.core_views.proofs.Ranges.{alike, by_test}
 
 same_tests : (a b : Bool) → (a ≡ true → b ≡ true) → (b ≡ true → a ≡ true) → a ≡ b
 same_tests true b there back = sym (there refl)
@@ -41,6 +28,15 @@ joined : (a b c : Bool) → a ≡ false → (b ≡ false → c ≡ true) → (no
 joined true b c e later = absurd (cc e)
 joined false true c e later = refl
 joined false false c e later = later refl
+
+-- What isn't free is taken.
+taken_where : (pages : ℕ) (host : HostMap) (frames : Frames) (frame : ℕ) → AreFree pages host frames → is_free frames frame ≡ false
+    → is_taken pages host frame ≡ true
+taken_where pages host frames frame is unlike = by (is_taken pages host frame) (sym (is.free frame) ∙ unlike)
+  where
+    by : (b : Bool) → not b ≡ false → b ≡ true
+    by true e = refl
+    by false e = absurd (cc e)
 
 pub frames_alike : (pages : ℕ) (host then_ : HostMap) (frames after : Frames) → ((page : ℕ) → page < pages → (then_ page).frame ≡ (host page).frame)
     → ((frame : ℕ) → is_free after frame ≡ is_free frames frame) → AreFree pages host frames → AreFree pages then_ after
@@ -66,16 +62,14 @@ first_free pages = record {
     below frame false e unlike = let lt : frame < pages = grind (arith, nat_tests, e) in let yes = taken_by pages own_frames frame frame lt refl in cc
 
 -- The lowest free number is the lowest free frame, if it is a frame.
-pub lowest_is : (z : Sizes) (host : HostMap) (frames : Frames) (x : ℕ) → AreFree z.pages host frames → is_free frames x ≡ true
+pub lowest_frame : (z : Sizes) (host : HostMap) (frames : Frames) (x : ℕ) → AreFree z.pages host frames → is_free frames x ≡ true
     → ((frame : ℕ) → frame < x → is_free frames frame ≡ false) → x < z.frames → lowest_free z host ≡ Some x
-lowest_is z host frames x is free lowest lt =
-    first_found 0 z.frames (λ frame. not (is_taken z.pages host frame)) x (omega arith) (omega arith) (sym (is.free x) ∙ free)
-    (λ y below. sym (is.free y) ∙ lowest y below)
+lowest_frame z host frames x is free lowest lt =
+    lowest_is z host x lt (is_not (is_taken z.pages host x) (sym (is.free x) ∙ free)) (λ y below. taken_where z.pages host frames y is (lowest y below))
 
 pub none_free : (z : Sizes) (host : HostMap) (frames : Frames) (x : ℕ) → AreFree z.pages host frames → ((frame : ℕ) → frame < x → is_free frames frame ≡ false)
     → z.frames ≤ x → lowest_free z host ≡ None
-none_free z host frames x is lowest le = none_found 0 z.frames (λ frame. not (is_taken z.pages host frame))
-    (λ y lt. sym (is.free y) ∙ lowest y (omega (arith, lt)))
+none_free z host frames x is lowest le = none_left z host (λ y lt. taken_where z.pages host frames y is (lowest y (omega (arith, lt))))
 
 -- No page's frame is free.
 pub own_not_free : (pages : ℕ) (host : HostMap) (frames : Frames) (page : ℕ) → AreFree pages host frames → page < pages

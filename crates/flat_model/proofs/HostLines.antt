@@ -18,7 +18,7 @@ use Rattle.core_views.specs.declared.trace.HostChange.TheVariants.{Move}
 use Rattle.core_views.specs.HostChanges.{host_answer}
 use Rattle.flat_model.specs.Frames.{Frames, is_free}
 use Rattle.flat_model.specs.HostPages.{AreFree, Changed, Changes, ChangesTo, Maps, entry_after, host_of}
-use Rattle.flat_model.proofs.HostFrames.{frames_alike, lowest_is, moved, none_free, own_not_free}
+use Rattle.flat_model.proofs.HostFrames.{frames_alike, lowest_frame, moved, none_free, own_not_free}
 
 value_at : (b : Bool) (entry own : HostEntry) (o : Option HostEntry) → unwrap_or (cond b (Some entry) o) own ≡ cond b entry (unwrap_or o own)
 value_at true entry own o = refl
@@ -108,7 +108,7 @@ pub to_lowest : (z : Sizes) (page x : ℕ) (was : HostEntry) (before after : Cha
     → Changes z page Move before after (Moved x)
 to_lowest z page x was before after frames was_is is free lowest lt maps =
     subst (λ (o : Option ℕ). ChangesTo page Move before after (Moved x) (option_map (λ frame. record (host_of before page) { frame = frame }) o))
-    (sym (lowest_is z (host_of before) frames x is free lowest lt))
+    (sym (lowest_frame z (host_of before) frames x is free lowest lt))
     (refl, subst (λ (e : HostEntry). Maps page (record e { frame = x }) before after) was_is maps)
 
 -- A change that leaves the page its frame is done.

@@ -3,6 +3,5 @@ pub mod Frames
 pub mod HostChangeLines
 pub mod HostFrames
 pub mod HostLines
-pub mod Ranges
 pub mod SlotLines
 pub mod Words

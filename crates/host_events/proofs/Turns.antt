@@ -6,7 +6,7 @@ use Rattle.core_views.specs.declared.answer.AnsweredLine.{AnsweredLine}
 use Rattle.core_views.specs.declared.hand.Seen.{Seen}
 use Rattle.core_views.specs.declared.kind.Kind.{Kind}
 use Rattle.core_views.specs.declared.place.HostPlace.{HostPlace}
-use Rattle.core_views.specs.declared.place.HostPlace.TheVariants.{Look, Begin, Change, End}
+use Rattle.core_views.specs.declared.place.HostPlace.TheVariants.{Look, Begin}
 use Rattle.core_views.specs.declared.place.Place.{Place}
 use Rattle.core_views.specs.declared.place.Place.TheVariants as place
 use Rattle.core_views.specs.declared.trace.Command.{Command}
@@ -48,15 +48,13 @@ changes_page page change (SetSlot id slot) is made = absurd is
 -- A place behind the first one is where the hand says that its line stands.
 stands_there : (q : Place) (p : HostPlace) (page : ℕ) (change : HostChange) (h : Held) → h.state.place ≡ q
     → standing q h.state.sizes h.slots (ChangeHost page change) ≡ place.Host p → StandsThere p h
-stands_there q Look page change h is stands = tt
+stands_there q (Look moves) page change h is stands = tt
 stands_there place.Between (Begin x) page change h is stands = absurd (cc stands)
-stands_there place.Between Change page change h is stands = absurd (cc stands)
-stands_there place.Between (End x) page change h is stands = absurd (cc stands)
-stands_there (place.Access a) p page change h is stands = absurd (cc stands)
-stands_there (place.SlotChange a) p page change h is stands = absurd (cc stands)
+stands_there place.Between _ page change h is stands = absurd (cc stands)
+stands_there (place.Access a) _ page change h is stands = absurd (cc stands)
+stands_there (place.SlotChange a) _ page change h is stands = absurd (cc stands)
 stands_there (place.Host a) (Begin x) page change h is stands = is ∙ stands
-stands_there (place.Host a) Change page change h is stands = is ∙ stands
-stands_there (place.Host a) (End x) page change h is stands = is ∙ stands
+stands_there (place.Host a) _ page change h is stands = is ∙ stands
 
 pub stands_in_line : (p : HostPlace) (page : ℕ) (change : HostChange) (note : ℕ) (h : Held) → length h.answers < length h.lines → Rests h
     → ChangesPage page (line_of h).command → MakesChange change (line_of h).command
@@ -72,8 +70,8 @@ stands_in_line p page change note h left rests changes makes stands knows is =
         left = left;
         may = subst (λ n. MayMake step n h) (sym is) (place_may_make (place.Host p) (ChangeHost page change) h left rests stands command step refl);
         knows =
-            (subst (λ (c : Command). KnowsPart (place.Host p) c h) command
-            (subst (λ (q : Place). KnowsPart q (line_of h).command h) stands knows)).1;
+            subst (λ (c : Command). KnowsPart (place.Host p) c h) command
+            (subst (λ (q : Place). KnowsPart q (line_of h).command h) stands knows);
         stands = stands_there h.state.place p page change h refl
             (ap (λ (c : Command). standing h.state.place h.state.sizes h.slots c) (sym command) ∙ stands);
       };

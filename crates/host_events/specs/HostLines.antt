@@ -26,14 +26,14 @@ MakesChange change _ = ⊥
 
 -- A line under way says so itself: only a line that has begun is within its invalidation, or changes its page.
 abbrev pub StandsThere : HostPlace → Held → Type 0
-StandsThere Look h = Unit {0}
+StandsThere (Look moves) h = Unit {0}
 StandsThere p h = h.state.place ≡ place.Host p
 
 -- The line of this page is at this place, whose step its actor may make, and knows what the place asks.
 pub record IsAt (p : HostPlace) (page : ℕ) (change : HostChange) (note : ℕ) (h : Held) : Type 0 where
   pub left : length h.answers < length h.lines
   pub may : MayMake (host_part p page change h) note h
-  pub knows : HostKnows p page h
+  pub knows : HostKnows p page change h
   pub stands : StandsThere p h
 
 -- The step of the place was made, and what is in its way is told.

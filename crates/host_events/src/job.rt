@@ -1,22 +1,18 @@
-ghost use Rattle.std.specs.Prelude.{◌≡◌, ◌<◌, None, length, true};
+ghost use Rattle.std.specs.Prelude.{◌≡◌, ◌<◌, length, true};
 ghost use Rattle.core_views.specs.HostChanges.{changes_host};
-ghost use Rattle.core_views.specs.declared.place.HostPlace.TheVariants as at;
 ghost use Rattle.host_events.specs.HostLines.{ChangesPage, IsAt, MakesChange, MakesStep};
-ghost use Rattle.mmu_core.specs.lines.HostSteps.{word_put};
 ghost use Rattle.mmu_core.specs.machine.Turns.{IsSameHand, line_of};
 ghost use Rattle.step_seats.specs.LineTurns.{Says, TurnsLine, turn_told};
 ghost use Rattle.step_seats.specs.Moves.{KeepsRoom};
 
-use core_views::{Command, Hand, HostChange, HostPlace, Seen, Topics};
-use host_map::{change, look};
-use invalidate_seq::Snapshot;
-use mmu_core::{host_note, host_place, knows, rests, revised};
-use part_steps::word_looked;
+use crate::places::{claim, copy_word, exchange, free, look_up, store_word, watch};
+use core_views::{Command, Hand, HostChange, HostPlace, Seen};
+use mmu_core::{host_note, host_place, knows, part_rests, rests};
 use range_notifier::{BeginJob, EndJob};
 use step_seats::{Stepper, Turn};
 
-/// The change of a host page, a step a turn. Where it stands is kept in the host thread's
-/// hand, which drives the job.
+/// The change of a host page, or its move to another frame, a step a turn. Where it stands
+/// is kept in the host thread's hand, which drives the job.
 #[derive(Clone, Copy, Debug, PartialEq, Eq, Drop)]
 pub struct HostJob {
     /// The place of the line among the lines of its actor, from 0. The line itself is
@@ -48,42 +44,6 @@ fn change_of(hand: &Hand) -> HostChange
     }
 }
 
-// The host word that is to stand in place of the one that was looked up.
-fn word_put(change: HostChange, topics: &Topics) -> u64
-    ensures { result ≡ word_put change topics.now }
-{
-    revised(change, word_looked(topics.host))
-}
-
-// Looks at the page's host word; where the page isn't the actor's own, at the sequence number
-// alone, and the line is refused. It never waits.
-fn look_up<S: Stepper>(s: &mut S, page: u64, change: HostChange, note: u64)
-    requires is_at { IsAt at.Look page change note (S.seat s.old).hand }
-    requires reserved { 0 < (S.seat s.old).room }
-    ensures makes { MakesStep None at.Look page change note (S.seat s.old) (S.seat s.new) }
-    ensures room { KeepsRoom (S.seat s.old) (S.seat s.new) }
-    ensures same { ((S.seat s.new).actor ≡ (S.seat s.old).actor) × (S.frame s.new ≡ S.frame s.old) }
-{
-    if s.hand().progress().owns(page) {
-        let _ = look(s, page, note);
-    } else {
-        let _ = Snapshot::new().turn(s, note);
-    }
-}
-
-// Exchanges the page's host word; where another actor has changed it before, the next turn
-// tries again. It never waits.
-fn exchange<S: Stepper>(s: &mut S, page: u64, how: HostChange, note: u64)
-    requires is_at { IsAt at.Change page how note (S.seat s.old).hand }
-    requires reserved { 0 < (S.seat s.old).room }
-    ensures makes { MakesStep None at.Change page how note (S.seat s.old) (S.seat s.new) }
-    ensures room { KeepsRoom (S.seat s.old) (S.seat s.new) }
-    ensures same { ((S.seat s.new).actor ≡ (S.seat s.old).actor) × (S.frame s.new ≡ S.frame s.old) }
-{
-    let word = word_put(how, s.hand().topics());
-    let _ = change(s, word, note);
-}
-
 // Makes the step of this place, and says what is in its way.
 fn step<S: Stepper>(
     s: &mut S,
@@ -99,25 +59,26 @@ fn step<S: Stepper>(
     ensures same { ((S.seat s.new).actor ≡ (S.seat s.old).actor) × (S.frame s.new ≡ S.frame s.old) }
 {
     match place {
-        HostPlace::Look => {
-            look_up(s, page, change, note);
-            None
-        }
+        HostPlace::Look { moves } => look_up(s, moves, page, change, note),
+        HostPlace::Claim { begun } => claim(s, begun, page, change, note),
         HostPlace::Begin(_) => BeginJob { page }.turn(s, note).in_way(),
-        HostPlace::Change => {
-            exchange(s, page, change, note);
-            None
-        }
+        HostPlace::Copy => copy_word(s, page, change, note),
+        HostPlace::Store => store_word(s, page, change, note),
+        HostPlace::Change => exchange(s, page, change, note),
         HostPlace::End(_) => EndJob.turn(s, note).in_way(),
+        HostPlace::Watch => watch(s, page, change, note),
+        HostPlace::Free => free(s, page, change, note),
     }
 }
 
 impl HostJob {
     /// Makes the next step of the line, and says whether it is answered: `Done` after its
     /// last step, where the hand has the answer. A page that isn't the actor's own is
-    /// refused with the first step. `Wait` where the lock's word isn't 0, or a virtual
-    /// processor is in the guest and has yet to flush; never `Retry`. It takes no memory
-    /// but the room that was reserved.
+    /// refused with the first step, and a move with the load that found no free frame in
+    /// the last word of their map. `Wait` where the lock's word isn't 0, a virtual processor
+    /// is in the guest and has yet to flush, the frame that it tries is gone, or another
+    /// actor is in a section while it watches; never `Retry`. It takes no memory but the
+    /// room that was reserved.
     pub fn turn<S: Stepper>(&mut self, s: &mut S) -> Turn<()>
         requires left { length (S.seat s.old).hand.answers < length (S.seat s.old).hand.lines }
         requires next { self.old.index ≡ length (S.seat s.old).hand.answers }
@@ -133,6 +94,7 @@ impl HostJob {
         let hand = s.hand();
         rests(hand);
         knows(hand);
+        part_rests(hand);
         let place = host_place(hand);
         let page = page_of(hand);
         let change = change_of(hand);

@@ -22,11 +22,11 @@ use step_seats::{PlainMachine, Stepper, Turn, make_part};
 // Steps of the line up to the flush that it awaits: the host word, the lock alone, the slot
 // set and the flags of its 32 slots, the count, the range and the count that are stored, the
 // root, and the flush that is asked for.
-const ASKED: u64 = 1 + 1 + 33 + 1 + 3 + 1 + 1;
+pub(crate) const ASKED: u64 = 1 + 1 + 33 + 1 + 3 + 1 + 1;
 
 // The flush seen, the lock given back, the host word exchanged, and the end: the lock alone,
 // the sequence number and the count, each loaded and stored, and the lock given back.
-const ENDED: u64 = 1 + 1 + 1 + 6;
+pub(crate) const ENDED: u64 = 1 + 1 + 1 + 6;
 
 fn header(alloc: Global) -> Result<Header, NoMemory>
     ensures { IfOk result (λ h. h
@@ -72,7 +72,7 @@ fn trace(alloc: Global, page: u64) -> Result<Trace, NoMemory>
 }
 
 // Looks whether the machine has this actor.
-fn expect_actor(machine: &PlainMachine, actor: Actor) -> Result<(), Fail>
+pub(crate) fn expect_actor(machine: &PlainMachine, actor: Actor) -> Result<(), Fail>
     ensures { OnOk result (index_of machine.now.sizes actor < length machine.now.hands) }
 {
     let sizes = machine.sizes();
@@ -128,7 +128,7 @@ fn turn<S: Stepper>(s: &mut S) -> Result<Turn<Answer>, Fail> {
 
 // Makes turns of one line, up to one that says something else than that there is more, but
 // at most 100: how many they were, and what the last one said.
-fn run<S: Stepper>(s: &mut S) -> Result<(u64, Turn<Answer>), Fail> {
+pub(crate) fn run<S: Stepper>(s: &mut S) -> Result<(u64, Turn<Answer>), Fail> {
     for turns in 0..100 {
         let said = turn(s)?;
         if said != Turn::More {
@@ -139,7 +139,7 @@ fn run<S: Stepper>(s: &mut S) -> Result<(u64, Turn<Answer>), Fail> {
 }
 
 // The same of the first host thread.
-fn change_page(machine: &mut PlainMachine) -> Result<(u64, Turn<Answer>), Fail> {
+pub(crate) fn change_page(machine: &mut PlainMachine) -> Result<(u64, Turn<Answer>), Fail> {
     expect_actor(machine, Actor::Host(0))?;
     let mut seat = machine.as_actor(Actor::Host(0));
     run(&mut seat)

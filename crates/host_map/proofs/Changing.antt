@@ -1,15 +1,18 @@
 -- The host word of a page that is exchanged.
-use Rattle.std.proofs.Common.{◌≡◌, ℕ, Some, refl, sym, ap, ◌∙◌, arith}
+use Rattle.std.proofs.Common.{◌≡◌, ℕ, Option, Some, refl, sym, ap, ◌∙◌, arith}
 use Rattle.std.specs.Prelude.{◌==◌, Bool, true, false, if◌then◌else◌}
 use Rattle.std.proofs.lemmas.Bool.Decides.{nat_tests}
 use Rattle.core_views.specs.declared.sizes.Sizes.{Sizes}
+use Rattle.core_views.specs.declared.topics.OwnedFrame.{OwnedFrame}
 use Rattle.core_views.specs.declared.topics.Topics.{Topics}
 use Rattle.core_views.specs.Held.{Held}
 use Rattle.spte_words.specs.declared.area.Area.{Area}
 use Rattle.spte_words.specs.declared.area.Area.TheVariants as area
+use Rattle.spte_words.specs.HostWords.{host_frame, with_presence}
+use Rattle.part_steps.specs.FrameTopics.{frame_after}
 use Rattle.part_steps.specs.PartSteps.{PartNeeds}
 use Rattle.part_steps.specs.PartTasks.{own_index, page_looked, part_task, word_looked}
-use Rattle.part_steps.specs.PartTopics.{exchanged_host, part_topics}
+use Rattle.part_steps.specs.PartTopics.{changed_host, exchanged_host, part_topics}
 use Rattle.part_steps.specs.declared.part_step.PartStep.{PartStep}
 use Rattle.part_steps.specs.declared.part_step.PartStep.TheVariants as part
 use Rattle.mmu_core.specs.machine.Machine.{World}
@@ -21,7 +24,8 @@ use Rattle.step_seats.proofs.ToldWords.{StepsTo, told_both}
 use Rattle.step_seats.proofs.Where.{ToldBoth}
 use Rattle.host_map.specs.declared.host.Changed.{Changed}
 use Rattle.host_map.specs.declared.host.Changed.TheVariants.{Set, Lost}
-use Rattle.host_map.specs.Touching.{IsExchange, WasAnother, change_found, holding_word, host_in, word_exchanged, word_held}
+use Rattle.host_map.specs.Touching.{IsExchange, WasAnother, change_found, frame_held, held_after, holding_changed, holding_word, host_in, word_exchanged}
+use Rattle.host_map.specs.Touching.{word_held}
 
 -- what the exchange leaves of a word, by its answer
 leaves_so : (was new_ : ℕ) (answer : Changed) → WasAnother was answer
@@ -30,16 +34,40 @@ leaves_so was new_ Set other = let same : (was == was) ≡ true = grind (arith, 
 leaves_so was new_ (Lost seen) other = let apart : (seen == was) ≡ false = grind (arith, nat_tests) in ap (λ (b : Bool). if b then new_ else seen) apart
 
 -- what it leaves of what is held
-holds_so : (new_ found : ℕ) (answer : Changed) (t : Topics) → found ≡ change_found (word_looked t.host) answer → WasAnother (word_looked t.host) answer
+brings_so : (new_ found : ℕ) (answer : Changed) (t : Topics) → found ≡ change_found (word_looked t.host) answer → WasAnother (word_looked t.host) answer
     → exchanged_host new_ t found ≡ holding_word new_ answer t
-holds_so new_ found answer t is other =
+brings_so new_ found answer t is other =
     ap (λ v. exchanged_host new_ t v) is
     ∙ ap (λ n. record t { host = Some (record { page = page_looked t.host; word = n }) }) (leaves_so (word_looked t.host) new_ answer other)
 
+-- the frame that is owned after a change, by its answer
+frame_so : (was old_ : ℕ) (answer : Changed) (owned : Option OwnedFrame) → WasAnother was answer
+    → frame_after (change_found was answer == was) old_ owned ≡ frame_held answer old_ owned
+frame_so was old_ Set owned other = let same : (was == was) ≡ true = grind (arith, nat_tests) in ap (λ (b : Bool). frame_after b old_ owned) same
+frame_so was old_ (Lost seen) owned other = let apart : (seen == was) ≡ false = grind (arith, nat_tests) in ap (λ (b : Bool). frame_after b old_ owned) apart
+
+changes_so : (new_ found : ℕ) (answer : Changed) (t : Topics) → found ≡ change_found (word_looked t.host) answer → WasAnother (word_looked t.host) answer
+    → changed_host new_ t found ≡ holding_changed new_ answer t
+changes_so new_ found answer t is other =
+    ap (λ v. changed_host new_ t v) is
+    ∙ ap (λ n. record t {
+      host = Some (record { page = page_looked t.host; word = n });
+      watched = 0;
+      frames = record t.frames { owned = frame_after (change_found was answer == was) (host_frame was) t.frames.owned };
+    }) (leaves_so was new_ answer other)
+    ∙ ap (λ o. record t {
+      host = Some (record { page = page_looked t.host; word = word_held new_ answer });
+      watched = 0;
+      frames = record t.frames { owned = o };
+    }) (frame_so was (host_frame was) answer t.frames.owned other)
+  where
+    was : ℕ
+    was = word_looked t.host
+
 pub holding : (step : PartStep) (found : ℕ) (answer : Changed) (t : Topics) → IsExchange step → found ≡ change_found (word_looked t.host) answer
-    → WasAnother (word_looked t.host) answer → part_topics step t found ≡ holding_word (word_exchanged step t) answer t
-holding part.Bring found answer t exchange is other = holds_so (word_exchanged part.Bring t) found answer t is other
-holding (part.Change new_) found answer t exchange is other = holds_so new_ found answer t is other
+    → WasAnother (word_looked t.host) answer → part_topics step t found ≡ held_after step answer t
+holding part.Bring found answer t exchange is other = brings_so (with_presence true (word_looked t.host)) found answer t is other
+holding (part.Change new_) found answer t exchange is other = changes_so new_ found answer t is other
 holding _ found answer t exchange is other = absurd exchange
 
 -- It answers the word of its page.

@@ -1,3 +1,4 @@
 pub mod ContentWords
 pub mod Touches
 pub mod Changing
+pub mod Moving

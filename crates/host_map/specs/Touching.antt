@@ -1,5 +1,6 @@
 -- Host words, and the guest's operations on the words of frames (mmu.rst, "Memory").
-use Rattle.std.specs.Prelude.{◌≡◌, ◌≢◌, ℕ, true, Some, slice_index}
+use Rattle.std.specs.Prelude.{◌≡◌, ◌≢◌, ℕ, true, Option, Some, slice_index}
+use Rattle.core_views.specs.declared.topics.OwnedFrame.{OwnedFrame}
 use Rattle.core_views.specs.declared.topics.Topics.{Topics}
 use Rattle.core_views.specs.declared.kind.Kind.{Kind}
 use Rattle.core_views.specs.declared.sizes.Sizes.{Sizes}
@@ -9,7 +10,8 @@ use Rattle.core_views.specs.Held.{Held}
 use Rattle.core_views.specs.Memory.{stored}
 use Rattle.spte_words.specs.declared.area.Area.TheVariants as area
 use Rattle.spte_words.specs.Areas.{content_index, place}
-use Rattle.spte_words.specs.HostWords.{with_presence}
+use Rattle.spte_words.specs.HostWords.{host_frame, with_presence}
+use Rattle.part_steps.specs.FrameTopics.{frame_left}
 use Rattle.mmu_core.specs.lines.AccessSteps.{touch_of}
 use Rattle.mmu_core.specs.machine.Machine.{World}
 use Rattle.part_steps.specs.Tasks.{kind_of_task, map_of}
@@ -85,9 +87,27 @@ abbrev pub word_held : ℕ → Changed → ℕ
 word_held new_ Set = new_
 word_held new_ (Lost seen) = seen
 
--- what is held then: nothing else has changed
+-- what is held after a page was to be brought in: nothing else has changed
 abbrev pub holding_word : ℕ → Changed → Topics → Topics
 holding_word new_ answer t = record t { host = Some (record { page = page_looked t.host; word = word_held new_ answer }) }
+
+-- The frame that is owned after a change: where this was won, the page's old one stands in its place, if one was owned.
+abbrev pub frame_held : Changed → ℕ → Option OwnedFrame → Option OwnedFrame
+frame_held Set old_ owned = frame_left old_ owned
+frame_held (Lost seen) old_ owned = owned
+
+-- what is held after a change: the word and this frame, and nobody was watched since; nothing else has changed
+abbrev pub holding_changed : ℕ → Changed → Topics → Topics
+holding_changed new_ answer t = record t {
+  host = Some (record { page = page_looked t.host; word = word_held new_ answer });
+  watched = 0;
+  frames = record t.frames { owned = frame_held answer (host_frame (word_looked t.host)) t.frames.owned };
+}
+
+abbrev pub held_after : PartStep → Changed → Topics → Topics
+held_after part.Bring answer t = holding_word (with_presence true (word_looked t.host)) answer t
+held_after (part.Change new_) answer t = holding_changed new_ answer t
+held_after _ answer t = t
 
 -- Another word than the one that was looked up was found.
 abbrev pub WasAnother : ℕ → Changed → Type 0

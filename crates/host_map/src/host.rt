@@ -1,5 +1,5 @@
 ghost use Rattle.std.specs.Prelude.{◌≡◌, ◌<◌, Some, true};
-ghost use Rattle.host_map.specs.Touching.{Changes, IsExchange, LeavesHostWord, WasHostWord, holding_word, word_exchanged};
+ghost use Rattle.host_map.specs.Touching.{Changes, IsExchange, LeavesHostWord, WasHostWord, holding_changed, holding_word, held_after};
 ghost use Rattle.mmu_core.specs.machine.MayMake.{MayMake};
 ghost use Rattle.part_steps.specs.declared.part_step.PartStep.TheVariants.{Bring, Change, Host};
 ghost use Rattle.part_steps.specs.PartTasks.{word_looked};
@@ -41,7 +41,7 @@ fn exchange<S: Stepper>(s: &mut S, step: PartStep, note: u64) -> Changed
     requires may { MayMake step note (S.seat s.old).hand }
     requires reserved { 0 < (S.seat s.old).room }
     ensures step { Changes step note result (S.seat s.old) (S.seat s.new) }
-    ensures host { (S.seat s.new).hand.topics ≡ holding_word (word_exchanged step (S.seat s.old).hand.topics) result (S.seat s.old).hand.topics }
+    ensures host { (S.seat s.new).hand.topics ≡ held_after step result (S.seat s.old).hand.topics }
     ensures told { LeavesHostWord result step note (S.seat s.old) (S.seat s.new) }
     ensures room { KeepsRoom (S.seat s.old) (S.seat s.new) }
     ensures same { ((S.seat s.new).actor ≡ (S.seat s.old).actor) × (S.frame s.new ≡ S.frame s.old) }
@@ -75,13 +75,14 @@ pub fn bring_in<S: Stepper>(s: &mut S, note: u64) -> Changed
 
 /// Exchanges the host word that was looked up for this one (KVM's mmu_notifier.rst: the
 /// secondary tables were invalidated before). The hand keeps what the page's host word is
-/// then: the new one after `Set`, and after `Lost` the one that was found. It never waits
-/// and takes no memory.
+/// then: the new one after `Set`, and after `Lost` the one that was found. Who owned a frame
+/// owns the old one after `Set`, out of which the page was moved (page_migration.rst); nobody
+/// was watched since. It never waits and takes no memory.
 pub fn change<S: Stepper>(s: &mut S, word: u64, note: u64) -> Changed
     requires may { MayMake (Change word) note (S.seat s.old).hand }
     requires reserved { 0 < (S.seat s.old).room }
     ensures step { Changes (Change word) note result (S.seat s.old) (S.seat s.new) }
-    ensures host { (S.seat s.new).hand.topics ≡ holding_word word result (S.seat s.old).hand.topics }
+    ensures host { (S.seat s.new).hand.topics ≡ holding_changed word result (S.seat s.old).hand.topics }
     ensures told { LeavesHostWord result (Change word) note (S.seat s.old) (S.seat s.new) }
     ensures room { KeepsRoom (S.seat s.old) (S.seat s.new) }
     ensures same { ((S.seat s.new).actor ≡ (S.seat s.old).actor) × (S.frame s.new ≡ S.frame s.old) }

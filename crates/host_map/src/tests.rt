@@ -21,7 +21,7 @@ use std::alloc::Global;
 use std::test::Fail;
 use step_seats::{PlainMachine, Stepper};
 
-fn header(alloc: Global) -> Result<Header, NoMemory>
+pub(crate) fn header(alloc: Global) -> Result<Header, NoMemory>
     ensures { IfOk result (λ h. h
         ≡ record { version = 1; vcpus = 2; workers = 0; pages = 70; frames = 130; words = 2; pool = 8; cache = 64; manual = 0; hosts = 0 ∷ [] }) }
 {
@@ -40,7 +40,7 @@ fn header(alloc: Global) -> Result<Header, NoMemory>
 }
 
 // The line that sets slot 0: guest frames 16 to 19 are host pages 64 to 67.
-fn slot_line() -> Line
+pub(crate) fn slot_line() -> Line
     ensures { result ≡ record { number = 2; actor = Manager; command = SetSlot 0 (record { base = 16; pages = 4; host = 64; read_only = false }) } }
 {
     Line {
@@ -64,7 +64,7 @@ const PRESENT: u64 = 4096 * 66 + 7;
 const ABSENT: u64 = 4096 * 66 + 6;
 
 // A line of a processor at word 1 of guest frame 18, which is host page 66.
-fn access_line(number: u32, vcpu: u8, op: Op) -> Line
+pub(crate) fn access_line(number: u32, vcpu: u8, op: Op) -> Line
     ensures { result ≡ record { number = number; actor = Vcpu vcpu; command = Access 18 1 op } }
 {
     Line {
@@ -79,7 +79,7 @@ fn access_line(number: u32, vcpu: u8, op: Op) -> Line
 }
 
 // A line of h0 that changes host page 66.
-fn host_line(number: u32, change: HostChange) -> Line
+pub(crate) fn host_line(number: u32, change: HostChange) -> Line
     ensures { result ≡ record { number = number; actor = Host 0; command = ChangeHost 66 change } }
 {
     Line {
@@ -90,7 +90,7 @@ fn host_line(number: u32, change: HostChange) -> Line
 }
 
 // Makes the steps of the seat's lines until none is left.
-fn run<S: Stepper>(seat: &mut S) -> Result<(), NoMemory> {
+pub(crate) fn run<S: Stepper>(seat: &mut S) -> Result<(), NoMemory> {
     for _ in 0..600 {
         seat.reserve()?;
         let hand = seat.hand();
@@ -136,10 +136,10 @@ fn touch_next<S: Stepper>(
     Ok(None)
 }
 
-// Whether the next step of the hand's line is this step of a part, with which it doesn't end.
-fn is_next(hand: &Hand, step: PartStep) -> bool
+// Whether the next step of the hand's line is this step of a part, with this note.
+pub(crate) fn is_next(hand: &Hand, step: PartStep, note: u64) -> bool
     requires reached { ∥ HandReached hand.now.core ∥₁ }
-    ensures { result ≡ true → MayMake step 0 hand.now.core }
+    ensures { result ≡ true → MayMake step note hand.now.core }
 {
     if hand.next_line().is_none() {
         return false;
@@ -149,15 +149,16 @@ fn is_next(hand: &Hand, step: PartStep) -> bool
     if !has_needs(hand, step) {
         return false;
     }
-    next_kind(hand) == part_kind(hand, step, 0)
+    next_kind(hand) == part_kind(hand, step, note)
 }
 
-// Makes the steps of the seat's lines until the next one is this step of a part.
-fn go_to<S: Stepper>(seat: &mut S, step: PartStep) -> Result<(), NoMemory> {
+// Makes the steps of the seat's lines until the next one is this step of a part, with this
+// note.
+pub(crate) fn go_to<S: Stepper>(seat: &mut S, step: PartStep, note: u64) -> Result<(), NoMemory> {
     for _ in 0..80 {
         seat.reserve()?;
         let hand = seat.hand();
-        if hand.next_line().is_none() || is_next(hand, step) {
+        if hand.next_line().is_none() || is_next(hand, step, note) {
             break;
         }
         rests(hand);
@@ -170,7 +171,7 @@ fn go_to<S: Stepper>(seat: &mut S, step: PartStep) -> Result<(), NoMemory> {
 // Brings the page in that the seat has looked up, if that is the next step of its line.
 fn bring_next<S: Stepper>(seat: &mut S) -> Result<Option<Changed>, NoMemory> {
     seat.reserve()?;
-    if is_next(seat.hand(), PartStep::Bring) {
+    if is_next(seat.hand(), PartStep::Bring, 0) {
         Ok(Some(bring_in(seat, 0)))
     } else {
         Ok(None)
@@ -181,7 +182,7 @@ fn bring_next<S: Stepper>(seat: &mut S) -> Result<Option<Changed>, NoMemory> {
 // line.
 fn change_next<S: Stepper>(seat: &mut S, word: u64) -> Result<Option<Changed>, NoMemory> {
     seat.reserve()?;
-    if is_next(seat.hand(), PartStep::Change(word)) {
+    if is_next(seat.hand(), PartStep::Change(word), 0) {
         Ok(Some(change(seat, word, 0)))
     } else {
         Ok(None)
@@ -294,7 +295,7 @@ fn touches_a_word(rt: HostRuntime) -> Result<(), Fail> {
 }
 
 // Looks whether the machine has this actor.
-fn expect_actor(machine: &PlainMachine, actor: Actor) -> Result<(), Fail>
+pub(crate) fn expect_actor(machine: &PlainMachine, actor: Actor) -> Result<(), Fail>
     ensures { OnOk result (index_of machine.now.sizes actor < length machine.now.hands) }
 {
     let sizes = machine.sizes();
@@ -308,7 +309,7 @@ fn expect_actor(machine: &PlainMachine, actor: Actor) -> Result<(), Fail>
 fn lead(machine: &mut PlainMachine, actor: Actor, step: PartStep) -> Result<(), Fail> {
     expect_actor(machine, actor)?;
     let mut seat = machine.as_actor(actor);
-    go_to(&mut seat, step)?;
+    go_to(&mut seat, step, 0)?;
     Ok(())
 }
 
@@ -324,7 +325,7 @@ fn bring(
 }
 
 // Changes the host word that h0 has looked up to this one.
-fn change_to(machine: &mut PlainMachine, word: u64) -> Result<Option<Changed>, Fail> {
+pub(crate) fn change_to(machine: &mut PlainMachine, word: u64) -> Result<Option<Changed>, Fail> {
     expect_actor(machine, Actor::Host(0))?;
     let mut seat = machine.as_actor(Actor::Host(0));
     Ok(change_next(&mut seat, word)?)

@@ -1,6 +1,9 @@
 pub mod Grace
 pub mod EmptySections
+pub mod CopiedKept
+pub mod CopiedSteps
 pub mod CountersKept
+pub mod FrameCounters
 pub mod FlushChanges
 pub mod FlushKept
 pub mod FlushSteps
@@ -11,6 +14,7 @@ pub mod HeldKept
 pub mod InvalidationsKept
 pub mod KnownRange
 pub mod LockKept
+pub mod MovingPlaces
 pub mod OpenFrames
 pub mod FreshFrames
 pub mod OldSets

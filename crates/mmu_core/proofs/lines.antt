@@ -17,6 +17,7 @@ pub mod LinesKept
 pub mod StepIn
 pub mod UsedTranslations
 pub mod ClaimMade
+pub mod ClaimRests
 pub mod ShareMade
 pub mod WatchMade
 pub mod PartsWait
@@ -37,7 +38,10 @@ pub mod SearchKnown
 pub mod SweepKnown
 pub mod InvalidateKnown
 pub mod HostPlaces
+pub mod HostMoves
+pub mod HostNeeds
 pub mod HostKnown
+pub mod HostLeaves
 pub mod HostKept
 pub mod HostClaims
 pub mod HostMakes

@@ -1,5 +1,9 @@
 pub mod AllOver
+pub mod CopiedWords
 pub mod FilledKept
+pub mod FrameUses
+pub mod FramesKept
+pub mod FramesTurn
 pub mod LeavesOver
 pub mod LoadedKept
 pub mod ZappedKept

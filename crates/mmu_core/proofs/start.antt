@@ -1,3 +1,4 @@
+pub mod StartFrames
 pub mod StartPages
 pub mod StartTopics
 pub mod StartViews

@@ -1,6 +1,7 @@
 pub mod Control
 pub mod HostStays
 pub mod HostFrames
+pub mod MapTopics
 pub mod PartFits
 pub mod PartIndex
 pub mod PartTopics

@@ -1,6 +1,7 @@
 pub mod Laws
 pub mod Invariant
 pub mod TopicsInvariant
+pub mod FramesPart
 pub mod HostWordsPart
 pub mod SlotSetPart
 pub mod CachedPart

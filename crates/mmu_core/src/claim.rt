@@ -1,26 +1,50 @@
-//! The steps of a claim of a page of the pool, which several kinds of line make in the
-//! same order.
+//! The steps of a claim of a page of the pool, or of a frame of the host, which several
+//! kinds of line make in the same order.
 ghost use Rattle.std.specs.Prelude.{◌≡◌, ◌<◌, ◌^◌, true};
 ghost use Rattle.core_views.specs.Sizes.{AreSizes};
-ghost use Rattle.mmu_core.specs.lines.ClaimSteps.{claim_next, claim_part, loads_last_word, map_word, tries_page};
+ghost use Rattle.mmu_core.specs.lines.ClaimSteps.{claim_next, claim_part, loads_last_word, map_word, map_words, tries_one};
 
 use core_views::{MapClaim, Sizes};
 use part_steps::{PartStep, is_won, map_of};
 use spte_words::Area;
+
+/// A map of bits, one for each thing that may be claimed, set where this is free.
+#[derive(Clone, Copy)]
+pub enum FreeMap {
+    /// That of the pages of the pool.
+    Pages,
+    /// That of the frames of the host.
+    Frames,
+}
+
+impl FreeMap {
+    // How many words it has.
+    fn words(self, sizes: &Sizes) -> u64
+        requires { AreSizes sizes.now }
+        ensures is { result ≡ map_words self sizes.now }
+        ensures few { result < 2 ^ 32 }
+    {
+        let area = match self {
+            FreeMap::Pages => Area::PoolMap,
+            FreeMap::Frames => Area::FrameMap,
+        };
+        map_of(sizes).size_of(area) as u64
+    }
+}
 
 /// What a claim comes to with one of its steps.
 #[derive(Clone, Copy)]
 pub enum ClaimNext {
     /// It goes on.
     Goes,
-    /// It has got a page, which is to be filled.
+    /// It has got a page or a frame, which is to be filled.
     Got,
-    /// No word of the map had a page free.
+    /// No word of the map had one free.
     Empty,
 }
 
-fn tries_page(begun: bool, claim: &MapClaim) -> bool
-    ensures { result ≡ tries_page begun claim.now }
+fn tries_one(begun: bool, claim: &MapClaim) -> bool
+    ensures { result ≡ tries_one begun claim.now }
 {
     begun && claim.seen > 0
 }
@@ -32,33 +56,40 @@ fn map_word(begun: bool, claim: &MapClaim) -> u64
 }
 
 /// The step of a claim.
-pub(crate) fn claim_part(begun: bool, claim: &MapClaim) -> PartStep
-    ensures { result ≡ claim_part begun claim.now }
+pub(crate) fn claim_part(map: FreeMap, begun: bool, claim: &MapClaim) -> PartStep
+    ensures { result ≡ claim_part map begun claim.now }
 {
-    if tries_page(begun, claim) {
-        PartStep::Claim
-    } else {
-        PartStep::Map(map_word(begun, claim))
+    let word = map_word(begun, claim);
+    match map {
+        FreeMap::Pages if tries_one(begun, claim) => PartStep::Claim,
+        FreeMap::Pages => PartStep::Map(word),
+        FreeMap::Frames if tries_one(begun, claim) => PartStep::Frame,
+        FreeMap::Frames => PartStep::FrameMap(word),
     }
 }
 
 /// The step loads the last word of the map.
-pub(crate) fn loads_last_word(begun: bool, sizes: &Sizes, claim: &MapClaim) -> bool
+pub(crate) fn loads_last_word(map: FreeMap, begun: bool, sizes: &Sizes, claim: &MapClaim) -> bool
     requires sizes { AreSizes sizes.now }
     requires at { claim.now.at < 2 ^ 32 }
-    ensures { result ≡ loads_last_word begun sizes.now claim.now }
+    ensures { result ≡ loads_last_word map begun sizes.now claim.now }
 {
-    let words = map_of(sizes).size_of(Area::PoolMap) as u64;
-    !tries_page(begun, claim) && map_word(begun, claim) + 1 == words
+    !tries_one(begun, claim) && map_word(begun, claim) + 1 == map.words(sizes)
 }
 
 /// What a claim comes to with its step, which answered `found`.
-pub(crate) fn claim_next(begun: bool, sizes: &Sizes, claim: &MapClaim, found: u64) -> ClaimNext
+pub(crate) fn claim_next(
+    map: FreeMap,
+    begun: bool,
+    sizes: &Sizes,
+    claim: &MapClaim,
+    found: u64,
+) -> ClaimNext
     requires sizes { AreSizes sizes.now }
     requires at { claim.now.at < 2 ^ 32 }
-    ensures { result ≡ claim_next begun sizes.now claim.now found }
+    ensures { result ≡ claim_next map begun sizes.now claim.now found }
 {
-    if tries_page(begun, claim) {
+    if tries_one(begun, claim) {
         return if is_won(claim, found) {
             ClaimNext::Got
         } else {
@@ -66,7 +97,7 @@ pub(crate) fn claim_next(begun: bool, sizes: &Sizes, claim: &MapClaim, found: u6
         };
     }
     let at = map_word(begun, claim) + if found == 0 { 1 } else { 0 };
-    if at < map_of(sizes).size_of(Area::PoolMap) as u64 {
+    if at < map.words(sizes) {
         ClaimNext::Goes
     } else {
         ClaimNext::Empty

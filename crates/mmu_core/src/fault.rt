@@ -14,7 +14,7 @@ ghost use Rattle.part_steps.specs.SlotWords.{page_of};
 ghost use Rattle.part_steps.specs.PageTopics.{searched};
 ghost use Rattle.spte_words.specs.Entries.{kind_of};
 
-use crate::claim::{ClaimNext, claim_next, claim_part};
+use crate::claim::{ClaimNext, FreeMap, claim_next, claim_part};
 use crate::share::{ShareNext, is_owing, share_next, share_part};
 use core_views::{
     Cause, CheckStage, FaultEnd, FaultNext, FaultPlace, Hand, HostLook, Sizes, SlotField,
@@ -53,7 +53,7 @@ pub(crate) fn part(place: FaultPlace, gfn: u64, topics: &Topics) -> PartStep
         FaultPlace::Check(stage) => check_part(stage),
         FaultPlace::Walk { rooted: true } => PartStep::Walk(gfn),
         FaultPlace::Walk { rooted: false } => PartStep::Root,
-        FaultPlace::Claim { begun } => claim_part(begun, &topics.claim),
+        FaultPlace::Claim { begun } => claim_part(FreeMap::Pages, begun, &topics.claim),
         FaultPlace::Fill => PartStep::Fill(0),
         FaultPlace::Role => PartStep::Role(topics.walk.level.saturating_sub(1) as u64),
         FaultPlace::Link => PartStep::Link(gfn),
@@ -268,7 +268,7 @@ pub(crate) fn next(place: FaultPlace, hand: &Hand, gfn: u64, write: bool, found:
         FaultPlace::Walk { rooted: true } => walk_next(sizes, gfn, write, &topics.walk, found),
         FaultPlace::Walk { rooted: false } => FaultPlace::Walk { rooted: true },
         FaultPlace::Claim { begun } => {
-            after_claim(claim_next(begun, sizes, &topics.claim, found))
+            after_claim(claim_next(FreeMap::Pages, begun, sizes, &topics.claim, found))
         }
         FaultPlace::Fill if words_filled(topics.owned) + 1 < ENTRIES => FaultPlace::Fill,
         FaultPlace::Fill => FaultPlace::Role,

@@ -20,9 +20,9 @@ mod watch;
 
 pub use access::{access_note, frame_used};
 pub use cached::lookup;
-pub use claim::ClaimNext;
+pub use claim::{ClaimNext, FreeMap};
 pub use fault::entry_word;
-pub use host::{host_place, note as host_note, revised};
+pub use host::{host_place, note as host_note, word_put, word_to_copy, word_to_store};
 pub use invalidate::{BeginNext, EndNext};
 pub use laws::{knows, rests};
 pub use outcome::Outcome;

@@ -14,7 +14,7 @@ ghost use Rattle.part_steps.specs.Tasks.{map_of};
 ghost use Rattle.mmu_core.specs.machine.Turns.{line_of};
 ghost use Rattle.spte_words.specs.Areas.{size_of};
 
-use crate::claim::{ClaimNext, claim_next, claim_part, loads_last_word};
+use crate::claim::{ClaimNext, FreeMap, claim_next, claim_part, loads_last_word};
 use crate::outcome::Outcome;
 use crate::watch::{WatchNext, looked_at, watch_next};
 use core_views::{Answer, Command, Hand, Place, Sizes, SlotChangePlace, SlotSet};
@@ -41,7 +41,7 @@ pub(crate) fn part(place: SlotChangePlace, hand: &Hand, command: &Command) -> Pa
     let topics = hand.topics();
     match place {
         SlotChangePlace::Refuse(_) => PartStep::Seq,
-        SlotChangePlace::Claim { begun } => claim_part(begun, &topics.claim),
+        SlotChangePlace::Claim { begun } => claim_part(FreeMap::Pages, begun, &topics.claim),
         SlotChangePlace::Fill => {
             PartStep::Fill(set_word(hand.slots(), command, words_filled(topics.owned)))
         }
@@ -64,7 +64,12 @@ pub fn note(place: SlotChangePlace, hand: &Hand) -> u64
     match place {
         SlotChangePlace::Refuse(_) | SlotChangePlace::Give => 1,
         SlotChangePlace::Claim { begun } => {
-            let last = loads_last_word(begun, &hand.progress().sizes, &hand.topics().claim);
+            let last = loads_last_word(
+                FreeMap::Pages,
+                begun,
+                &hand.progress().sizes,
+                &hand.topics().claim,
+            );
             if last { 1 } else { 0 }
         }
         _ => 0,
@@ -125,7 +130,7 @@ pub(crate) fn outcome(place: SlotChangePlace, hand: &Hand, found: u64) -> Outcom
         SlotChangePlace::Refuse(refusal) => return Outcome::Ends(Answer::Refused(refusal)),
         SlotChangePlace::Claim { begun } => {
             let sizes = &hand.progress().sizes;
-            return after_set_claim(claim_next(begun, sizes, &topics.claim, found));
+            return after_set_claim(claim_next(FreeMap::Pages, begun, sizes, &topics.claim, found));
         }
         SlotChangePlace::Fill if words_filled(topics.owned) + 1 < WORDS => SlotChangePlace::Fill,
         SlotChangePlace::Fill => SlotChangePlace::Role,

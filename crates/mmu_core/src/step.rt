@@ -8,7 +8,7 @@ ghost use Rattle.mmu_core.specs.lines.Rests.{IsUnderWay, Rests};
 ghost use Rattle.mmu_core.specs.machine.Enabled.{Enabled};
 ghost use Rattle.mmu_core.specs.machine.Steps.{has_line, line_after, line_at, next, next_line, place_at, standing, task_at};
 ghost use Rattle.mmu_core.specs.lines.Cached.{asks_flush, flushed};
-ghost use Rattle.part_steps.specs.declared.part_step.PartStep.TheVariants.{Claim};
+ghost use Rattle.part_steps.specs.declared.part_step.PartStep.TheVariants.{Claim, Frame};
 ghost use Rattle.part_steps.specs.PartBounds.{PartRests};
 ghost use Rattle.core_views.specs.Kinds.{kind_named};
 ghost use Rattle.part_steps.specs.Tasks.{map_of};
@@ -19,8 +19,7 @@ use crate::delays::{delays_behind, is_delay, steps_behind};
 use crate::outcome::Outcome;
 use crate::{access, host, slot_change};
 use core_views::{
-    AccessPlace, AnsweredLine, Command, Hand, HostPlace, Kind, Line, Place, Progress, StepKind,
-    Translation,
+    AccessPlace, AnsweredLine, Command, Hand, Kind, Line, Place, Progress, StepKind, Translation,
 };
 use part_steps::{PartStep, Task, kind_of, step_topics};
 
@@ -30,7 +29,7 @@ fn first(hand: &Hand, line: &Line) -> Place
 {
     match &line.command {
         Command::Access { .. } => Place::Access(AccessPlace::Enter { again: false }),
-        Command::ChangeHost { .. } => Place::Host(HostPlace::Look),
+        Command::ChangeHost { .. } => Place::Host(host::first(&line.command)),
         command => {
             let sizes = &hand.progress().sizes;
             Place::SlotChange(slot_change::first(sizes, hand.slots(), command))
@@ -91,6 +90,7 @@ pub(crate) fn part_of(place: Place, command: &Command, hand: &Hand) -> Option<Pa
     requires rests { RestsAt place command.now hand.now.core }
     ensures step { result ≡ part_at place command.now hand.now.core }
     ensures seen { result ≡ Some Claim → 0 < hand.now.core.topics.claim.seen }
+    ensures frame_seen { result ≡ Some Frame → 0 < hand.now.core.topics.frames.claim.seen }
 {
     match (place, command) {
         (Place::Access(place), Command::Access { gfn, .. }) => access::part(place, *gfn, hand),
@@ -109,6 +109,7 @@ pub fn next_step(hand: &Hand) -> Option<PartStep>
     requires rests { Rests hand.now.core }
     ensures step { result ≡ part_at (place_at hand.now.core.state.place hand.now.core) (line_at hand.now.core.state.place hand.now.core).command hand.now.core }
     ensures seen { result ≡ Some Claim → 0 < hand.now.core.topics.claim.seen }
+    ensures frame_seen { result ≡ Some Frame → 0 < hand.now.core.topics.frames.claim.seen }
 {
     let line = hand.line();
     part_of(place_of(hand, line), &line.command, hand)

@@ -3,7 +3,7 @@ ghost use Rattle.std.specs.Prelude.{◌≡◌, ◌<◌, Some};
 ghost use Rattle.mmu_core.specs.lines.Delays.{line_waits, waits_by};
 ghost use Rattle.mmu_core.specs.lines.PartWaits.{part_waits, saw_open};
 ghost use Rattle.mmu_core.specs.lines.Forms.{RestsAt};
-ghost use Rattle.part_steps.specs.declared.part_step.PartStep.TheVariants.{Claim};
+ghost use Rattle.part_steps.specs.declared.part_step.PartStep.TheVariants.{Claim, Frame};
 ghost use Rattle.part_steps.specs.PartBounds.{PartRests};
 
 use crate::step::part_of;
@@ -19,16 +19,18 @@ fn saw_open(invalidations: &Invalidations) -> bool
 }
 
 /// The step waits for another actor: it takes back the try for the lock that
-/// found a writer, the page that it tries is gone, it finds the lock taken, it
+/// found a writer, the page or frame that it tries is gone, it finds the lock taken, it
 /// gives the lock back under which it saw invalidations of others open, it finds another
 /// actor in the guest or in a section, or a virtual processor that has yet to flush.
 pub fn part_waits(step: PartStep, topics: &Topics, found: u64) -> bool
     requires seen { step ≡ Claim → 0 < topics.now.claim.seen }
+    requires frame_seen { step ≡ Frame → 0 < topics.now.frames.claim.seen }
     ensures { result ≡ part_waits step topics.now found }
 {
     match step {
         PartStep::Unshare => matches!(topics.hold, Hold::Owing(_)),
         PartStep::Claim => !is_won(&topics.claim, found),
+        PartStep::Frame => !is_won(&topics.frames.claim, found),
         PartStep::Exclude => found != 0,
         PartStep::Release => saw_open(&topics.invalidations),
         PartStep::Watch(_) => in_section(found),
@@ -41,6 +43,7 @@ pub fn part_waits(step: PartStep, topics: &Topics, found: u64) -> bool
 /// content word never does.
 pub fn waits_by(step: Option<PartStep>, topics: &Topics, found: u64) -> bool
     requires seen { step ≡ Some Claim → 0 < topics.now.claim.seen }
+    requires frame_seen { step ≡ Some Frame → 0 < topics.now.frames.claim.seen }
     ensures { result ≡ waits_by step topics.now found }
 {
     match step {

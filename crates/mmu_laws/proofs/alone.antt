@@ -6,6 +6,9 @@ pub mod FaultComes
 pub mod FaultAlone
 pub mod FindAlone
 pub mod HostAlone
+pub mod HostLines
+pub mod LowestFrames
+pub mod NoMoves
 pub mod GoesAlone
 pub mod OthersOpen
 pub mod PartAlone

@@ -20,3 +20,5 @@ pub mod ToldOf
 pub mod WholeSoFar
 pub mod HostEntries
 pub mod HostFlat
+pub mod HostChangeFlat
+pub mod HostReady

@@ -1,4 +1,5 @@
 pub mod CanStep
+pub mod Decimals
 pub mod ExampleRun
 pub mod Notes
 pub mod StepLaws
@@ -10,4 +11,5 @@ pub mod ViewRuns
 pub mod ExampleHostRun
 pub mod ExampleProtectRun
 pub mod ExampleEvictRun
+pub mod ExampleMoveRun
 pub mod ExampleOverlapRun

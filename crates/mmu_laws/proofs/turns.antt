@@ -17,3 +17,4 @@ pub mod OwnTakesNone
 pub mod OwnTurns
 pub mod Removal
 pub mod Nearer
+pub mod BeginNearer

@@ -10,4 +10,5 @@ pub mod ExampleWaits
 pub mod ExampleHost
 pub mod ExampleProtect
 pub mod ExampleEvict
+pub mod ExampleMove
 pub mod ExampleOverlap

@@ -1,8 +1,10 @@
 ghost use Rattle.mmu_laws.specs.causes.Causes.{FaultsBeginAnewByCause};
 ghost use Rattle.mmu_laws.specs.pool.Enough.{EachTableIsWanted, EnoughPages, TablesAreForTheirRuns};
+ghost use Rattle.mmu_laws.specs.alone.LowestFrames.{MovesAloneTakeLowest};
 ghost use Rattle.mmu_laws.specs.steps.CanStep.{EachMayStep, EveryMachineStarts};
 ghost use Rattle.mmu_laws.specs.steps.ExampleHost.{ExampleHost};
 ghost use Rattle.mmu_laws.specs.steps.ExampleEvict.{ExampleEvict};
+ghost use Rattle.mmu_laws.specs.steps.ExampleMove.{ExampleMove};
 ghost use Rattle.mmu_laws.specs.steps.ExampleOverlap.{ExampleOverlap};
 ghost use Rattle.mmu_laws.specs.steps.ExampleProtect.{ExampleProtect};
 ghost use Rattle.mmu_laws.specs.steps.ExampleRaces.{ExampleRaces};
@@ -31,7 +33,8 @@ ghost use Rattle.mmu_laws.specs.causes.Waits.{BetweenLinesSawNothing, StartsSawN
 /// actors in any order, from the start of every machine. Where one of them answers
 /// a line starved, its actor has gone through the whole map of the pool since the
 /// line began, word by word, owned no page at these loads, and found each word 0
-/// (tdp_mmu.c, `kvm_tdp_mmu_map`).
+/// (tdp_mmu.c, `kvm_tdp_mmu_map`); and so through the whole map of frames where one of
+/// them refuses a line a frame.
 pub fn every_list_of_steps()
     ensures sound { StaysSound }
     ensures lawful { TellsLawfully }
@@ -44,8 +47,8 @@ pub fn every_list_of_steps()
 /// another actor's step changed it: in the sequence number after its snapshot, or in
 /// an entry of its guest frame, or the host word of its page, after its load. A step waits, whoever makes it, only
 /// where its actor, with its last step on the lock, found another actor having it
-/// alone; where the page that it tries was free at its actor's last step on this word
-/// of the pool's map, and another actor's step changed this word since; where it finds
+/// alone; where the page or the frame that it tries was free at its actor's last step on
+/// this word of the map, and another actor's step changed this word since; where it finds
 /// the lock held by another actor; where it gives the lock back, and its actor loaded
 /// the count of open invalidations while it had the lock alone, found some open, and made
 /// no step on the count or on the lock since; where it finds another actor in
@@ -81,7 +84,10 @@ pub fn each_delay_has_its_cause()
 /// Where a host thread takes a page away, and two processors that found it absent bring it in at
 /// a time, one does, the other one begins anew and finds the page there, and both find what was
 /// written to it before; and where a page is brought in between a host thread's look at it and
-/// its exchange of the host word, the thread's next exchange forbids the writes. Of two host
+/// its exchange of the host word, the thread's next exchange forbids the writes. Where a host
+/// thread moves a page that a fault has looked at, the thread waits for the fault's section
+/// before it gives the old frame back, and the fault begins anew; the content of a page is in
+/// its new frame before the page is; and where no frame is free a move is refused. Of two host
 /// threads that begin invalidations at a time, the second one waits for the lock. While both are
 /// open their range has the guest frame between theirs, too: a fault of it begins anew, as it
 /// does while the second one alone is open, and where this one ends after the fault's snapshot;
@@ -98,17 +104,19 @@ pub fn the_steps_can_be_made()
     ensures host { ExampleHost }
     ensures protect { ExampleProtect }
     ensures evict { ExampleEvict }
+    ensures moves { ExampleMove }
     ensures overlap { ExampleOverlap }
 {}
 
 /// What a step's numbers tell of it: each step that a hand allows is on a word of the
 /// area that its kind is for, and the note of a line's step says whether the line is
 /// answered with it, whatever the step finds; but a slot line's load of the last word of
-/// the pool's map has note 1, and is its answer exactly where it finds 0. Who enters the
+/// the pool's map, and a host line's of the map of frames, has note 1, and is its answer
+/// exactly where it finds 0. Who enters the
 /// guest with a flush asked for has nothing cached after that step; each other step
 /// leaves at most one more translation (vcpu-requests.rst, KVM_REQ_TLB_FLUSH). The host
-/// word that is put to allow writes or forbid them, or to have its page in memory or not,
-/// does so, and tells the same else as the one before it. And each event that a step
+/// word that is put to allow writes or forbid them, to have its page in memory or not, or
+/// at another frame, does so, and tells the same else as the one before it. And each event that a step
 /// tells of the pause, of slots, host pages or memory is of the word that the step is on,
 /// and of what it found and left there. The sequence number of invalidations is raised by
 /// one, and only by an actor that has the lock alone and an invalidation open; how many
@@ -217,15 +225,18 @@ pub fn a_fault_alone_goes_through()
 /// waits, none of its faults begins anew, and each step leaves it fewer steps, of
 /// which it has no more than its command allows (an access at most 8,192, one for each
 /// pool page and one for each frame; a slot line 1,024 and one for each word of the
-/// pool's map); where it is answered, all actors rest again, and it is starved only
-/// where no page of the pool is free, so never where the pool has as many pages as the
-/// trace needs at most. And its steps can be made, up to its answer (tdp_mmu.c,
-/// `kvm_tdp_mmu_map`; locking.rst).
+/// pool's map; a host line 1,024 and one for each word of the map of frames); where it is
+/// answered, all actors rest again, and it is starved only where no page of the pool is
+/// free, so never where the pool has as many pages as the trace needs at most, and refused
+/// a frame only where none is free. And its steps can be made, up to its answer. Where it
+/// moves a page it takes the lowest frame that no page names (tdp_mmu.c,
+/// `kvm_tdp_mmu_map`; locking.rst; page_migration.rst).
 pub fn a_line_alone_goes_through()
     ensures through { LineGoesThrough }
     ensures begins { LineBeginsAlone }
     ensures ends { LineEndsAlone }
     ensures enough { NoneStarvedAlone }
+    ensures lowest { MovesAloneTakeLowest }
 {}
 
 /// A line's turns come to an end between its delays, beside other actors that stand

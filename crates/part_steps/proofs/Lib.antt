@@ -1,2 +1,3 @@
 pub mod EntryTopics
 pub mod SetWords
+pub mod FrameWords

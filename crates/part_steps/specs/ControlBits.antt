@@ -45,3 +45,17 @@ map_ends z = place (map_of z) area.FrameMap 0
 
 abbrev pub is_pool_map : Sizes → ℕ → Bool
 is_pool_map z word = nat_le (map_begins z) word && nat_lt word (map_ends z)
+
+-- where the words of the map of frames begin, and where they end
+abbrev pub frames_begin : Sizes → ℕ
+frames_begin z = place (map_of z) area.FrameMap 0
+
+abbrev pub frames_end : Sizes → ℕ
+frames_end z = place (map_of z) area.Log 0
+
+abbrev pub is_frame_map : Sizes → ℕ → Bool
+is_frame_map z word = nat_le (frames_begin z) word && nat_lt word (frames_end z)
+
+-- The word is one of a frame.
+abbrev pub is_content : Sizes → ℕ → Bool
+is_content z word = nat_le (place (map_of z) area.Content 0) word

@@ -13,7 +13,7 @@ use Rattle.core_views.specs.declared.topics.TableWalk.{TableWalk}
 use Rattle.core_views.specs.declared.topics.Topics.{Topics}
 use Rattle.spte_words.specs.declared.area.Area.TheVariants as area
 use Rattle.part_steps.specs.StayTopics.{has_lock, is_loose, may_walk, may_search, kept_search}
-use Rattle.part_steps.specs.ControlBits.{is_pool_map, is_word_of, map_begins}
+use Rattle.part_steps.specs.ControlBits.{frames_begin, is_frame_map, is_pool_map, is_word_of, map_begins}
 
 -- The root was loaded: a walk begins at it, where its page is held.
 abbrev pub at_root : Bool → TableWalk → ℕ → TableWalk
@@ -91,11 +91,11 @@ stored word own n v = record n {
   raised = if is_word_of area.Count word then false else if is_word_of area.Seq word then true else n.raised;
 }
 
--- A word of the pool's map was loaded: a claim has come to it, or to the next one where it is 0.
-abbrev pub at_word : Sizes → ℕ → MapClaim → ℕ → MapClaim
-at_word z word claim v = record {
-  at = if is_pool_map z word then (word - map_begins z) + (if v == 0 then 1 else 0) else claim.at;
-  seen = if is_pool_map z word then v else claim.seen;
+-- A word was loaded, which is one of a map that begins at this place, if it is: a claim has come to it, or to the next one where it is 0.
+abbrev pub at_word : Bool → ℕ → ℕ → MapClaim → ℕ → MapClaim
+at_word is begins word claim v = record {
+  at = if is then (word - begins) + (if v == 0 then 1 else 0) else claim.at;
+  seen = if is then v else claim.seen;
 }
 
 -- The load takes the snapshot of a look-up, which begins with it.
@@ -112,6 +112,7 @@ controlled z word t v = record t {
       then kept_search false t.search else t.search;
   host = if takes_snapshot word t.hold then None else t.host;
   invalidations = noted word t.hold t.invalidations v;
-  claim = at_word z word t.claim v;
+  claim = at_word (is_pool_map z word) (map_begins z) word t.claim v;
+  frames = record t.frames { claim = at_word (is_frame_map z word) (frames_begin z) word t.frames.claim v };
   pause = if is_word_of area.Pause word then v else t.pause;
 }

@@ -1,6 +1,6 @@
 -- What a hand holds that a step of an invalidation needs, and the change of a host page within one (kvm_main.c, kvm_mmu_invalidate_begin and
 -- kvm_mmu_invalidate_end).
-use Rattle.std.specs.Prelude.{◌≡◌, ◌+◌, ◌-◌, ◌<◌, ◌≤◌, ℕ, Bool, true, false, ◌==◌, ◌||◌, nat_lt, if◌then◌else◌, is_some}
+use Rattle.std.specs.Prelude.{◌≡◌, ◌+◌, ◌-◌, ◌<◌, ◌≤◌, ℕ, Bool, true, false, ◌==◌, nat_lt, if◌then◌else◌, is_some}
 use Rattle.core_views.specs.declared.topics.Checked.{Checked}
 use Rattle.core_views.specs.declared.topics.Checked.TheVariants as checked
 use Rattle.core_views.specs.declared.topics.Hold.TheVariants.{Exclusive}
@@ -13,8 +13,8 @@ use Rattle.core_views.specs.HostChanges.{is_own}
 use Rattle.spte_words.specs.declared.spte_kind.SpteKind.{SpteKind}
 use Rattle.spte_words.specs.declared.spte_kind.SpteKind.TheVariants.{Absent, Frozen, Leaf, Table}
 use Rattle.spte_words.specs.Entries.{kind_of}
-use Rattle.spte_words.specs.HostWords.{with_presence, with_writes}
 use Rattle.part_steps.specs.InvalidationRange.{has_searched, invalidated, is_within_range, page_looked, range_end, range_start}
+use Rattle.part_steps.specs.FrameTopics.{is_uncopied}
 use Rattle.part_steps.specs.PartHoldings.{HoldsSet, SawEntry}
 use Rattle.part_steps.specs.StayTopics.{no_flush}
 
@@ -62,13 +62,15 @@ pub record MaySetEnd (gfn : ℕ) (t : Topics) : Type 0 where
   pub own_ : t.invalidations.own ≡ invalidated t
   pub is : gfn ≡ range_end (page_looked t.host) t
 
--- One more may be counted with the actor's own: the range that is stored has its frame, and no virtual processor was asked for a flush yet.
+-- One more may be counted with the actor's own: the range that is stored has its frame, no virtual processor was asked for a flush yet, and no word of a page
+-- is copied.
 pub record MayOpen (t : Topics) : Type 0 where
   pub opening : IsOpening t
   pub known : t.invalidations.checked ≡ checked.Range
   pub own_ : t.invalidations.own ≡ invalidated t
   pub within : is_within_range t.invalidations.own t.invalidations ≡ true
   pub unasked : t.flush ≡ no_flush
+  pub uncopied : is_uncopied t.frames.owned ≡ true
 
 -- What may be stored as the count of open invalidations: it was loaded under the lock that the actor has alone, outside of every section, and it is
 -- one more with the actor's own, or one less, once the sequence number is raised.
@@ -128,10 +130,6 @@ pub record MayChange (h : Held) : Type 0 where
   pub invalid : h.topics.invalidations.own.page ≡ page_looked h.topics.host
   pub asked : h.state.sizes.vcpus ≤ h.topics.flush.asked
   pub awaited : h.state.sizes.vcpus ≤ h.topics.flush.awaited
-
--- The new host word allows writes to the page of the old one, or forbids them, or takes the page away, and is the same else.
-abbrev pub revises : ℕ → ℕ → Bool
-revises word new_ = (new_ == with_writes true word) || (new_ == with_writes false word) || (new_ == with_presence false word)
 
 -- ---- the end
 

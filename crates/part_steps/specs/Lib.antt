@@ -4,6 +4,7 @@ pub mod SetWords
 pub mod StayTopics
 pub mod WalkTopics
 pub mod PageTopics
+pub mod FrameTopics
 pub mod InvalidationRange
 pub mod ControlBits
 pub mod ControlTopics
@@ -12,6 +13,7 @@ pub mod HeldNumbers
 pub mod PartTasks
 pub mod PartHoldings
 pub mod InvalidationHoldings
+pub mod FrameHoldings
 pub mod PartSteps
 pub mod PartTopics
 pub mod PartBounds

@@ -3,6 +3,8 @@ use Rattle.std.specs.Prelude.{◌≡◌, ◌+◌, ◌^◌, ◌<◌, ◌≤◌, �
 use Rattle.core_views.specs.declared.topics.Hold.TheVariants.{Owing}
 use Rattle.core_views.specs.declared.place.SlotField.TheVariants.{Flags}
 use Rattle.core_views.specs.declared.topics.HostLook.{HostLook}
+use Rattle.core_views.specs.declared.topics.Frames.{Frames}
+use Rattle.core_views.specs.declared.topics.OwnedFrame.{OwnedFrame}
 use Rattle.core_views.specs.declared.topics.OwnedPage.{OwnedPage}
 use Rattle.core_views.specs.Held.{Held}
 use Rattle.core_views.specs.declared.cache.Translation.{Translation}
@@ -11,12 +13,21 @@ use Rattle.core_views.specs.declared.topics.Topics.{Topics}
 use Rattle.spte_words.specs.Areas.{words_of_bits}
 use Rattle.core_views.specs.Sizes.{AreSizes, actors_of}
 use Rattle.spte_words.specs.HostWords.{host_frame}
+use Rattle.part_steps.specs.FrameTopics.{word_held, words_moved}
 use Rattle.part_steps.specs.PartTasks.{own_index, table_page}
 use Rattle.part_steps.specs.ControlBits.{has_writer}
 
 -- Its leaf is one of a level that has leaves, 1 to 3.
 abbrev pub IsAtLeafLevel : Translation → Type 0
 IsAtLeafLevel t = (1 ≤ t.level) × (t.level ≤ 3)
+
+-- The counters of an actor's frames stay within what they count: the words of their map, and those of the frame that is owned; the word copied for it is one
+-- of 64 bits.
+pub record FrameCountersPart (z : Sizes) (f : Frames) : Type 0 where
+  pub claim : f.claim.at ≤ words_of_bits z.frames
+  pub seen : f.claim.seen < 2 ^ 64
+  pub filled : words_moved f.owned ≤ z.words
+  pub copied : word_held f.owned < 2 ^ 64
 
 -- The counters of an actor stay within what they count.
 pub record CountersPart (z : Sizes) (t : Topics) : Type 0 where
@@ -29,9 +40,10 @@ pub record CountersPart (z : Sizes) (t : Topics) : Type 0 where
   pub seq : t.invalidations.seq < 2 ^ 40
   pub asked : t.flush.asked ≤ z.vcpus
   pub range : (t.invalidations.start < 2 ^ 64) × (t.invalidations.end < 2 ^ 64)
+  pub frames : FrameCountersPart z t.frames
 
--- What holds of every hand that some world has: its actor is one of the machine's, its pages are pages of the pool, its counters
--- stay within what they count, its cache has room for a translation, and where it has yet to take itself out of the lock's readers it saw a writer.
+-- What holds of every hand that some world has: its actor is one of the machine's, its pages are pages of the pool, its frame is one of the machine's, its
+-- counters stay within what they count, its cache has room for a translation, and where it has yet to take itself out of the lock's readers it saw a writer.
 pub record PartRests (h : Held) : Type 0 where
   pub sizes : AreSizes h.state.sizes
   pub own_place : own_index h < actors_of h.state.sizes
@@ -40,6 +52,7 @@ pub record PartRests (h : Held) : Type 0 where
   pub set : (k : ℕ) → h.topics.search.set ≡ Some k → k < h.state.sizes.pool
   pub page : (o : OwnedPage) → h.topics.owned ≡ Some o → o.page < h.state.sizes.pool
   pub left : (k : ℕ) → h.topics.leaving ≡ Some k → k < h.state.sizes.pool
+  pub frame : (o : OwnedFrame) → h.topics.frames.owned ≡ Some o → o.frame < h.state.sizes.frames
   pub filled : (o : OwnedPage) → h.topics.owned ≡ Some o → o.filled ≤ 513
   pub counters : CountersPart h.state.sizes h.topics
   pub found : h.topics.search.whole ≡ true → h.topics.search.slot.host + h.topics.search.slot.pages ≤ h.state.sizes.pages

@@ -13,7 +13,7 @@ use Rattle.spte_words.specs.Entries.{level_span}
 use Rattle.spte_words.specs.HostWords.{host_present}
 use Rattle.part_steps.specs.SetWords.{set_role}
 use Rattle.part_steps.specs.SlotWords.{page_of}
-use Rattle.part_steps.specs.PartTasks.{entry_index, words_filled, is_absent, role_filled, own_index, word_looked}
+use Rattle.part_steps.specs.PartTasks.{entry_index, words_filled, is_absent, role_filled, own_index, page_left, word_looked}
 
 -- the actor whose state word comes next, where those before this place were looked at: each but the own
 abbrev pub next_watched : ℕ → ℕ → ℕ
@@ -97,8 +97,9 @@ pub record MayPublish (t : Topics) : Type 0 where
   pub none_open : t.invalidations.count ≡ 0
   pub none_leaves : t.leaving ≡ None
 
--- A page is leaving, and each other actor was watched since; the actor owns no page.
+-- A page is leaving, one of the pool, and each other actor was watched since; the actor owns no page.
 pub record MayGiveOld (h : Held) : Type 0 where
   pub leaves : is_some h.topics.leaving ≡ true
+  pub in_pool : page_left h.topics.leaving < h.state.sizes.pool
   pub owns_none : h.topics.owned ≡ None
   pub watched : actors_of h.state.sizes ≤ next_watched (own_index h) h.topics.watched

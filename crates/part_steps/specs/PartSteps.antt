@@ -4,6 +4,7 @@ use Rattle.core_views.specs.declared.actor.Actor.{Actor}
 use Rattle.core_views.specs.declared.actor.Actor.TheVariants.{Vcpu}
 use Rattle.core_views.specs.declared.topics.Hold.{Hold}
 use Rattle.core_views.specs.declared.topics.Hold.TheVariants.{Loose, Shared, Owing, Exclusive}
+use Rattle.core_views.specs.declared.topics.MapClaim.{MapClaim}
 use Rattle.core_views.specs.declared.topics.Stay.TheVariants.{Outside, Guest, Section}
 use Rattle.core_views.specs.declared.topics.Topics.{Topics}
 use Rattle.core_views.specs.Held.{Held}
@@ -14,10 +15,11 @@ use Rattle.spte_words.specs.Areas.{words_of_bits}
 use Rattle.spte_words.specs.Entries.{kind_of}
 use Rattle.part_steps.specs.declared.part_step.PartStep.{PartStep}
 use Rattle.part_steps.specs.declared.part_step.PartStep.TheVariants as part
-use Rattle.part_steps.specs.PartTasks.{own_index, word_looked}
+use Rattle.part_steps.specs.PartTasks.{own_index, page_owned, word_looked}
+use Rattle.part_steps.specs.FrameHoldings.{MayCopy, MayGiveFrame, MayStore, revises}
 use Rattle.part_steps.specs.PartHoldings.{next_watched, OwnsPage, HasToFill, HasRoleToSet, HoldsSet, IsOver, MayBring, OwnsTable, MayEnter}
 use Rattle.part_steps.specs.PartHoldings.{MayPublish, MayGiveOld}
-use Rattle.part_steps.specs.InvalidationHoldings.{revises, MayAsk, MayChange, MayCount, MayEndInvalidation, MaySetEnd, MaySetStart, MayZap}
+use Rattle.part_steps.specs.InvalidationHoldings.{MayAsk, MayChange, MayCount, MayEndInvalidation, MaySetEnd, MaySetStart, MayZap}
 use Rattle.part_steps.specs.InvalidationRange.{has_found, page_looked}
 use Rattle.part_steps.specs.StayTopics.{is_alone}
 
@@ -32,12 +34,12 @@ counts Shared = true
 counts (Owing word) = true
 counts Exclusive = false
 
--- A claim begins with the first word of the map, and goes on to the next one where it saw 0.
-abbrev pub GoesOnToWord : ℕ → Topics → Type 0
-GoesOnToWord word t = (word ≡ 0) ⊎ ((word ≡ t.claim.at) × (t.claim.seen ≡ 0))
+-- A claim begins with the first word of its map, and goes on to the next one where it saw 0.
+abbrev pub GoesOnToWord : ℕ → MapClaim → Type 0
+GoesOnToWord word claim = (word ≡ 0) ⊎ ((word ≡ claim.at) × (claim.seen ≡ 0))
 
 -- The step is one of lines alone, in their order: it changes an entry of the tables, or is of a publication, of an invalidation or of a change
--- of a host page. No actor makes it that has no line left.
+-- or move of a host page. No actor makes it that has no line left.
 abbrev pub needs_line : PartStep → Bool
 needs_line (part.Link gfn) = true
 needs_line (part.Leaf gfn) = true
@@ -53,6 +55,11 @@ needs_line (part.Ask index) = true
 needs_line (part.Await index) = true
 needs_line (part.Change new_) = true
 needs_line part.Bring = true
+needs_line (part.FrameMap word) = true
+needs_line part.Frame = true
+needs_line (part.Copy index) = true
+needs_line (part.Store index) = true
+needs_line part.GiveFrame = true
 needs_line _ = false
 
 -- what a step needs of the hand
@@ -66,10 +73,10 @@ PartNeeds part.Share h = h.topics.hold ≡ Loose
 PartNeeds part.Unshare h = counts h.topics.hold ≡ true
 PartNeeds part.Exclude h = h.topics.hold ≡ Loose
 PartNeeds part.Release h = h.topics.hold ≡ Exclusive
-PartNeeds (part.Map word) h = (h.topics.owned ≡ None) × (word < words_of_bits h.state.sizes.pool) × GoesOnToWord word h.topics
+PartNeeds (part.Map word) h = (h.topics.owned ≡ None) × (word < words_of_bits h.state.sizes.pool) × GoesOnToWord word h.topics.claim
 PartNeeds part.Claim h = (h.topics.owned ≡ None) × (0 < h.topics.claim.seen) × (h.topics.claim.at < words_of_bits h.state.sizes.pool)
-PartNeeds (part.Fill value) h = HasToFill h.topics × (value < 2 ^ 64)
-PartNeeds (part.Role value) h = HasRoleToSet h.topics × (value < 2 ^ 64)
+PartNeeds (part.Fill value) h = HasToFill h.topics × (value < 2 ^ 64) × (page_owned h.topics.owned < h.state.sizes.pool)
+PartNeeds (part.Role value) h = HasRoleToSet h.topics × (value < 2 ^ 64) × (page_owned h.topics.owned < h.state.sizes.pool)
 PartNeeds part.Give h = OwnsPage h.topics
 PartNeeds part.Slots h = Unit {0}
 PartNeeds part.Slot h =
@@ -98,7 +105,14 @@ PartNeeds (part.SetSeq seq) h = MayEndInvalidation h.topics × (seq ≡ h.topics
 PartNeeds (part.Zap gfn) h = MayZap gfn h.topics
 PartNeeds (part.Ask index) h = MayAsk index h
 PartNeeds (part.Await index) h = (index < h.topics.flush.asked) × (index ≡ h.topics.flush.awaited) × (h.topics.stay ≡ Outside)
-PartNeeds (part.Change new_) h = MayChange h × (revises (word_looked h.topics.host) new_ ≡ true)
+PartNeeds (part.Change new_) h = MayChange h × (revises h.state.sizes.words h.topics.frames.owned (word_looked h.topics.host) new_ ≡ true)
+PartNeeds (part.FrameMap word) h =
+    (h.topics.frames.owned ≡ None) × (word < words_of_bits h.state.sizes.frames) × GoesOnToWord word h.topics.frames.claim
+PartNeeds part.Frame h =
+    (h.topics.frames.owned ≡ None) × (0 < h.topics.frames.claim.seen) × (h.topics.frames.claim.at < words_of_bits h.state.sizes.frames)
+PartNeeds (part.Copy index) h = MayCopy index h
+PartNeeds (part.Store index) h = MayStore index h
+PartNeeds part.GiveFrame h = MayGiveFrame h
 
 -- The actor holds nothing: it is outside, and has no lock, no page, no table and no slot set.
 pub record IsAtRest (t : Topics) : Type 0 where

@@ -21,6 +21,7 @@ pub use Rattle.part_steps.specs.HeldNumbers.{is_absent, page_left, page_owned, r
 pub use Rattle.part_steps.specs.InvalidationRange.{page_looked}
 use Rattle.part_steps.specs.SlotWords.{leaf_of, slot_index}
 use Rattle.part_steps.specs.Tasks.{kind_of_task, loads, map_of}
+use Rattle.part_steps.specs.FrameTopics.{frame_owned, word_held}
 use Rattle.part_steps.specs.PageTopics.{tried_bit}
 use Rattle.part_steps.specs.ControlBits.{guest_bits, request_bit, section_bit, writer}
 
@@ -107,6 +108,12 @@ part_task (part.Ask index) own t note = works kind.Ask area.State index request_
 part_task (part.Await index) own t note = loads kind.Await area.State index note
 part_task part.Bring own t note = exchanges_host kind.Bring (with_presence true (word_looked t.host)) t note
 part_task (part.Change new_) own t note = exchanges_host kind.Change new_ t note
+part_task (part.FrameMap word) own t note = loads kind.Control area.FrameMap word note
+part_task part.Frame own t note = works kind.Frame area.FrameMap t.frames.claim.at (all_but (2 ^ tried_bit t.frames.claim)) note
+part_task (part.Copy index) own t note = loads kind.Copy area.Content index note
+part_task (part.Store index) own t note = works kind.Fill area.Content index (word_held t.frames.owned) note
+part_task part.GiveFrame own t note =
+    works kind.Unframe area.FrameMap (frame_owned t.frames.owned / 64) (2 ^ (frame_owned t.frames.owned % 64)) note
 
 -- the place of the hand's actor
 abbrev pub own_index : Held → ℕ

@@ -6,7 +6,8 @@ use Rattle.core_views.specs.declared.topics.Stay.TheVariants.{Outside, Guest, Se
 use Rattle.core_views.specs.declared.topics.Topics.{Topics}
 use Rattle.part_steps.specs.declared.part_step.PartStep.{PartStep}
 use Rattle.part_steps.specs.declared.part_step.PartStep.TheVariants as part
-use Rattle.spte_words.specs.HostWords.{with_presence}
+use Rattle.spte_words.specs.HostWords.{host_frame, with_presence}
+use Rattle.part_steps.specs.FrameTopics.{frame_after, frame_given, frame_tried, word_copied, word_stored}
 use Rattle.part_steps.specs.InvalidationRange.{invalidated}
 use Rattle.part_steps.specs.PartTasks.{entry_index, leaf_written, link_written, page_looked, word_looked}
 use Rattle.part_steps.specs.StayTopics.{begun, flush_kept, has_lock, is_loose, kept_search, let_go, may_search, may_walk, unchecked}
@@ -35,6 +36,14 @@ exchanged won index new_ t v = record t { walk = swapped won t.walk index new_ v
 -- The host word that was looked up was to be exchanged for a new one, and v was found there.
 abbrev pub exchanged_host : ℕ → Topics → ℕ → Topics
 exchanged_host new_ t v = record t { host = Some (record { page = page_looked t.host; word = if v == word_looked t.host then new_ else v }) }
+
+-- And where the page was moved with it, its old frame is owned, which nobody was watched since.
+abbrev pub changed_host : ℕ → Topics → ℕ → Topics
+changed_host new_ t v = record t {
+  host = Some (record { page = page_looked t.host; word = if v == word_looked t.host then new_ else v });
+  watched = 0;
+  frames = record t.frames { owned = frame_after (v == word_looked t.host) (host_frame (word_looked t.host)) t.frames.owned };
+}
 
 -- what is held after the step, which answered v
 abbrev pub part_topics : PartStep → Topics → ℕ → Topics
@@ -78,4 +87,9 @@ part_topics (part.Zap gfn) t v = record t { walk = gone_down None t.walk (entry_
 part_topics (part.Ask index) t v = record t { flush = record t.flush { asked = index + 1 } }
 part_topics (part.Await index) t v = record t { flush = record t.flush { awaited = index + (if has_to_flush v then 0 else 1) } }
 part_topics part.Bring t v = exchanged_host (with_presence true (word_looked t.host)) t v
-part_topics (part.Change new_) t v = exchanged_host new_ t v
+part_topics (part.Change new_) t v = changed_host new_ t v
+part_topics (part.FrameMap word) t v = record t { frames = record t.frames { claim = record { at = word + (if v == 0 then 1 else 0); seen = v } } }
+part_topics part.Frame t v = record t { frames = frame_tried t.frames v }
+part_topics (part.Copy index) t v = record t { frames = record t.frames { owned = word_copied t.frames.owned v } }
+part_topics (part.Store index) t v = record t { frames = record t.frames { owned = word_stored t.frames.owned } }
+part_topics part.GiveFrame t v = record t { frames = frame_given t.frames }

@@ -30,6 +30,7 @@ ghost use Rattle.part_steps.specs.InvalidationRange.{
 };
 ghost use Rattle.part_steps.specs.PartBounds.{PartRests};
 
+use crate::frames::is_uncopied;
 use crate::needs::saw_entry;
 use core_views::{
     Actor, Checked, Flush, Hand, Hold, HostLook, Invalidated, Invalidations, Slot, SlotSearch,
@@ -209,6 +210,7 @@ fn may_open(topics: &Topics) -> bool
                 asked: 0,
                 awaited: 0,
             }
+        && is_uncopied(topics.frames.owned)
 }
 
 /// Whether this may be stored as the count of open invalidations.

@@ -3,6 +3,7 @@
 #![tactic(auto)]
 
 mod control_words;
+mod frames;
 mod invalidations;
 mod needs;
 mod part_step;
@@ -11,6 +12,7 @@ mod task;
 mod topics;
 
 pub use control_words::{WRITER, has_to_flush, has_writer, in_section};
+pub use frames::{frame_owned, word_held, words_moved};
 pub use invalidations::{
     end_with, frame_found, gfn_behind, has_found, invalidated, range_end, range_start, start_with,
 };

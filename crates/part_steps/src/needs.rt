@@ -3,18 +3,20 @@ ghost use Rattle.std.specs.Prelude.{◌≡◌, ◌≢◌, ◌⊎◌, ◌≤◌, 
 ghost use Rattle.core_views.specs.declared.topics.OwnedPage.{OwnedPage};
 ghost use Rattle.spte_words.specs.Areas.{size_of};
 ghost use Rattle.part_steps.specs.PartBounds.{PartRests};
+ghost use Rattle.core_views.specs.Sizes.{actors_of};
 ghost use Rattle.core_views.specs.Slots.{contains};
-ghost use Rattle.part_steps.specs.PartTasks.{role_filled, word_looked, words_filled};
+ghost use Rattle.part_steps.specs.PartTasks.{own_index, page_owned, role_filled, word_looked, words_filled};
 ghost use Rattle.part_steps.specs.PartHoldings.{IsFresh, IsOver, MayEnter, MayGiveOld, MayPublish, OwnsTable, SawEntry, next_watched};
 ghost use Rattle.part_steps.specs.PartHoldings.{MayBring};
 ghost use Rattle.spte_words.specs.HostWords.{host_present};
-ghost use Rattle.part_steps.specs.InvalidationHoldings.{MayChange, MayZap, revises};
+ghost use Rattle.part_steps.specs.InvalidationHoldings.{MayZap};
 ghost use Rattle.part_steps.specs.PartSteps.{PartNeeds, needs_line};
 ghost use Rattle.part_steps.specs.SetWords.{set_role};
 ghost use Rattle.part_steps.specs.SlotWords.{page_of};
 ghost use Rattle.part_steps.specs.Tasks.{map_of};
-ghost use Rattle.part_steps.specs.declared.part_step.PartStep.TheVariants.{Enter, Leave, Begin, End, Clear};
+ghost use Rattle.part_steps.specs.declared.part_step.PartStep.TheVariants.{Change};
 
+use crate::frames::{may_copy, may_give_frame, may_store, revises};
 use crate::invalidations::{
     has_found, may_ask, may_change, may_count, may_raise, may_set_end, may_set_start, page_looked,
 };
@@ -134,17 +136,28 @@ fn may_publish(topics: &Topics) -> bool
         && topics.leaving.is_none()
 }
 
+// Whether each other actor was watched.
+pub(crate) fn has_watched(hand: &Hand) -> bool
+    requires { PartRests hand.now.core }
+    ensures { result ≡ true → actors_of hand.now.core.state.sizes ≤ next_watched (own_index hand.now.core) hand.now.core.topics.watched }
+{
+    let sizes = &hand.progress().sizes;
+    let own = sizes.index_of(hand.progress().actor);
+    sizes.actors() <= next_watched(own, hand.topics().watched)
+}
+
 // Whether the page of the old slot set may be given back.
 fn may_give_old(hand: &Hand) -> bool
     requires { PartRests hand.now.core }
     ensures { result ≡ true → MayGiveOld hand.now.core }
 {
-    let sizes = &hand.progress().sizes;
     let topics = hand.topics();
-    let own = sizes.index_of(hand.progress().actor);
-    topics.leaving.is_some()
-        && topics.owned.is_none()
-        && sizes.actors() <= next_watched(own, topics.watched)
+    match topics.leaving {
+        Some(page) => {
+            page < hand.progress().sizes.pool && topics.owned.is_none() && has_watched(hand)
+        }
+        None => false,
+    }
 }
 
 // Whether the leaf of the guest frame may be zapped.
@@ -171,23 +184,27 @@ fn may_bring(topics: &Topics) -> bool
 
 // Whether the host page that was looked up may be changed, to this word.
 fn may_change_to(new: u64, hand: &Hand) -> bool
-    ensures { result ≡ true → MayChange hand.now.core × (revises (word_looked hand.now.core.topics.host) new ≡ true) }
+    requires { PartRests hand.now.core }
+    ensures { result ≡ true → PartNeeds (Change new) hand.now.core }
 {
-    match hand.topics().host {
-        Some(look) => {
-            let word = HostWord::from_word(look.word);
-            may_change(hand)
-                && (new == word.with_writes(true).word()
-                    || new == word.with_writes(false).word()
-                    || new == word.with_presence(false).word())
-        }
-        None => false,
+    let topics = hand.topics();
+    let words = hand.progress().sizes.words;
+    may_change(hand) && revises(words, topics.frames.owned, word_looked(topics.host), new)
+}
+
+// Whether the page that is owned is one of the pool.
+fn is_of_pool(pool: u64, owned: Option<OwnedPage>) -> bool
+    ensures { result ≡ true → page_owned owned < pool }
+{
+    match owned {
+        Some(owned) => owned.page < pool,
+        None => pool > 0,
     }
 }
 
 /// Whether the step is one of lines alone, which no actor makes that has no line
 /// left: it changes an entry of the tables, or is of a publication, of an invalidation or of
-/// a change of a host page.
+/// a change or move of a host page.
 pub fn needs_line(step: PartStep) -> bool
     ensures { result ≡ needs_line step }
 {
@@ -197,6 +214,8 @@ pub fn needs_line(step: PartStep) -> bool
         PartStep::SetStart(_) | PartStep::SetEnd(_) => true,
         PartStep::SetCount(_) | PartStep::SetSeq(_) => true,
         PartStep::Ask(_) | PartStep::Await(_) | PartStep::Change(_) | PartStep::Bring => true,
+        PartStep::FrameMap(_) | PartStep::Frame | PartStep::GiveFrame => true,
+        PartStep::Copy(_) | PartStep::Store(_) => true,
         _ => false,
     }
 }
@@ -229,8 +248,14 @@ pub fn has_needs(hand: &Hand, step: PartStep) -> bool
         PartStep::Claim => {
             topics.owned.is_none() && claim.seen > 0 && claim.at < map.size_of(Area::PoolMap) as u64
         }
-        PartStep::Fill(_) => topics.owned.is_some() && words_filled(topics.owned) < 512,
-        PartStep::Role(_) => words_filled(topics.owned) == 512,
+        PartStep::Fill(_) => {
+            topics.owned.is_some()
+                && words_filled(topics.owned) < 512
+                && is_of_pool(sizes.pool, topics.owned)
+        }
+        PartStep::Role(_) => {
+            words_filled(topics.owned) == 512 && is_of_pool(sizes.pool, topics.owned)
+        }
         PartStep::Give => topics.owned.is_some(),
         PartStep::Slot => {
             topics.search.set.is_some()
@@ -267,6 +292,19 @@ pub fn has_needs(hand: &Hand, step: PartStep) -> bool
                 && topics.stay == Stay::Outside
         }
         PartStep::Change(new) => may_change_to(new, hand),
+        PartStep::FrameMap(word) => {
+            topics.frames.owned.is_none()
+                && word < map.size_of(Area::FrameMap) as u64
+                && goes_on_to(word, &topics.frames.claim)
+        }
+        PartStep::Frame => {
+            topics.frames.owned.is_none()
+                && topics.frames.claim.seen > 0
+                && topics.frames.claim.at < map.size_of(Area::FrameMap) as u64
+        }
+        PartStep::Copy(index) => may_copy(index, hand),
+        PartStep::Store(index) => may_store(index, hand),
+        PartStep::GiveFrame => may_give_frame(hand),
         PartStep::Pause | PartStep::Slots | PartStep::Root => true,
         PartStep::Seq | PartStep::Count | PartStep::RangeStart | PartStep::RangeEnd => true,
     }

@@ -13,16 +13,18 @@ ghost use Rattle.part_steps.specs.SlotWords.{slot_index};
 ghost use Rattle.spte_words.specs.Entries.{level_span, table_word};
 ghost use Rattle.spte_words.specs.HostWords.{host_frame, with_presence};
 ghost use Rattle.part_steps.specs.Tasks.{loads, map_of};
+ghost use Rattle.part_steps.specs.FrameTopics.{frame_owned};
 ghost use Rattle.part_steps.specs.PageTopics.{tried_bit};
 ghost use Rattle.part_steps.specs.ControlBits.{guest_bits, section_bit};
 ghost use Rattle.part_steps.specs.declared.part_step.PartStep.TheVariants.{Enter, Leave, Begin, End, Clear};
 
 use crate::control_words::{GUEST_BITS, REQUEST_BIT, SECTION_BIT, WRITER};
+use crate::frames::{frame_owned, word_held};
 use crate::slot_words::{leaf_of, slot_word};
 use crate::task::{Task, kind_of, map_of};
 use crate::topics::tried_bit;
 use core_views::{
-    Hand, HostLook, Kind, MapClaim, OwnedPage, SlotSearch, StepKind, TableWalk, Topics,
+    Hand, HostLook, Kind, MapClaim, OwnedFrame, OwnedPage, SlotSearch, StepKind, TableWalk, Topics,
 };
 use spte_words::{Area, HostWord, Spte, WordMap};
 
@@ -106,6 +108,16 @@ pub enum PartStep {
     Bring,
     /// Exchanges the host word that was looked up for this one.
     Change(u64),
+    /// Loads this word of the map of frames.
+    FrameMap(u64),
+    /// Tries to take the lowest free frame of those seen there.
+    Frame,
+    /// Loads the content word with this index, the next one of the page that is to move.
+    Copy(u64),
+    /// Stores it in the content word with this index, of the frame that it owns.
+    Store(u64),
+    /// Gives its frame back.
+    GiveFrame,
 }
 
 // An operation that writes, or works with, this number.
@@ -379,6 +391,29 @@ fn claim(claim: &MapClaim, note: u64) -> Task
     work(StepKind::Claim, Area::PoolMap, claim.at, !bit, note)
 }
 
+// Tries to take the lowest free frame of those seen.
+fn claim_frame(claim: &MapClaim, note: u64) -> Task
+    requires { 0 < claim.now.seen }
+    ensures { result ≡ works StepKind.Frame Area.FrameMap claim.now.at (all_but (2 ^ tried_bit claim.now)) note }
+{
+    let bit = 1 << tried_bit(claim);
+    work(StepKind::Frame, Area::FrameMap, claim.at, !bit, note)
+}
+
+// Gives the frame back that is owned.
+fn give_frame(owned: Option<OwnedFrame>, note: u64) -> Task
+    ensures { result ≡ works StepKind.Unframe Area.FrameMap (frame_owned owned / 64) (2 ^ (frame_owned owned % 64)) note }
+{
+    let frame = frame_owned(owned);
+    work(
+        StepKind::Unframe,
+        Area::FrameMap,
+        frame / 64,
+        1 << (frame % 64),
+        note,
+    )
+}
+
 // What the step does with the actor's own state word.
 fn own_task(step: PartStep, own: u64, note: u64) -> Task
     ensures area { result.area ≡ Area.State }
@@ -445,6 +480,14 @@ pub fn part_task(hand: &Hand, step: PartStep, note: u64) -> Task
         PartStep::Await(index) => Task::load(StepKind::Await, Area::State, index, note),
         PartStep::Bring => exchange_host(StepKind::Bring, topics, word_brought(topics.host), note),
         PartStep::Change(new) => exchange_host(StepKind::Change, topics, new, note),
+        PartStep::FrameMap(word) => Task::load(StepKind::Control, Area::FrameMap, word, note),
+        PartStep::Frame => claim_frame(&topics.frames.claim, note),
+        PartStep::Copy(index) => Task::load(StepKind::Copy, Area::Content, index, note),
+        PartStep::Store(index) => {
+            let word = word_held(topics.frames.owned);
+            work(StepKind::Fill, Area::Content, index, word, note)
+        }
+        PartStep::GiveFrame => give_frame(topics.frames.owned, note),
     }
 }
 

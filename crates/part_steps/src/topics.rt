@@ -1,5 +1,5 @@
 //! What a step changes of what an actor holds of each part of the machine.
-ghost use Rattle.std.specs.Prelude.{◌≡◌, ◌≤◌, ◌<◌, ◌^◌, true, Some, is_some, if◌then◌else◌, ◌-◌, ◌==◌};
+ghost use Rattle.std.specs.Prelude.{◌≡◌, ◌≤◌, ◌<◌, ◌^◌, true, Some, is_some, if◌then◌else◌, ◌-◌, ◌==◌, ◌&&◌, nat_le, nat_lt};
 ghost use Rattle.core_views.specs.declared.topics.OwnedPage.{OwnedPage};
 ghost use Rattle.core_views.specs.Kinds.{kind_named};
 ghost use Rattle.core_views.specs.Sizes.{AreSizes};
@@ -7,21 +7,23 @@ ghost use Rattle.core_views.specs.declared.place.SlotField.TheVariants.{Flags};
 ghost use Rattle.core_views.specs.declared.kind.StepKind.TheVariants.{Walk, Swap};
 ghost use Rattle.spte_words.specs.Areas.{number_of};
 ghost use Rattle.spte_words.specs.declared.area.Area.TheVariants as Area;
+ghost use Rattle.part_steps.specs.ControlBits.{is_content};
 ghost use Rattle.part_steps.specs.StayTopics.{begun, let_go, may_search, may_walk};
 ghost use Rattle.part_steps.specs.WalkTopics.{gone_down, is_in_table, still_owned, swapped, walked};
 ghost use Rattle.part_steps.specs.PageTopics.{claimed, filled_more, is_won, published, searched, tried, tried_bit};
 ghost use Rattle.part_steps.specs.ControlTopics.{at_word, checked_after, controlled, count_checked, end_known, noted, range_checked, seq_checked};
 ghost use Rattle.part_steps.specs.ControlTopics.{start_checked, start_known, stored, takes_snapshot};
-ghost use Rattle.part_steps.specs.TopicSteps.{HasRoom, host_begins, index_in_page, topics_after};
+ghost use Rattle.part_steps.specs.TopicSteps.{HasRoom, host_begins, host_changed, index_in_page, topics_after};
 
 use crate::control_words::{has_lock, has_to_flush, has_writer, in_section, is_word_of};
+use crate::frames::{claim_frame, copy_word, give_frame, move_frame, store_word};
 use crate::invalidations::invalidated;
 use crate::task::map_of;
 use core_views::{
     Checked, Flush, Hold, HostLook, Invalidated, Invalidations, Kind, MapClaim, OwnedPage, Sizes,
     SlotField, SlotSearch, Stay, StepKind, TableWalk, Topics,
 };
-use spte_words::{Area, SlotFlags, Spte, SpteKind};
+use spte_words::{Area, HostWord, SlotFlags, Spte, SpteKind};
 
 fn may_walk(stay: Stay, hold: Hold) -> bool
     ensures { result ≡ may_walk stay hold }
@@ -406,14 +408,10 @@ fn exchange_host(sizes: &Sizes, kind: Kind, found: u64) -> HostLook
     }
 }
 
-// A word of the pool's map was loaded.
-fn look_at_map(sizes: &Sizes, word: u32, claim: &mut MapClaim, found: u64)
-    requires { AreSizes sizes.now }
-    ensures { claim.new ≡ at_word sizes.now word claim.old found }
+// A word was loaded, which is one of a map from this place up to the other one, if it is.
+fn look_at_map(begins: u32, ends: u32, word: u32, claim: &mut MapClaim, found: u64)
+    ensures { claim.new ≡ at_word (nat_le begins word && nat_lt word ends) begins word claim.old found }
 {
-    let map = map_of(sizes);
-    let begins = map.word_of(Area::PoolMap, 0);
-    let ends = map.word_of(Area::FrameMap, 0);
     if word >= begins && word < ends {
         claim.at = (word - begins) as u64 + if found == 0 { 1 } else { 0 };
         claim.seen = found;
@@ -458,7 +456,31 @@ fn control(sizes: &Sizes, word: u32, topics: &mut Topics, found: u64)
         topics.pause = found;
     }
     note(word, topics.hold, &mut topics.invalidations, found);
-    look_at_map(sizes, word, &mut topics.claim, found);
+    let map = map_of(sizes);
+    let pool_map = map.word_of(Area::PoolMap, 0);
+    let frame_map = map.word_of(Area::FrameMap, 0);
+    let log = map.word_of(Area::Log, 0);
+    look_at_map(pool_map, frame_map, word, &mut topics.claim, found);
+    look_at_map(frame_map, log, word, &mut topics.frames.claim, found);
+}
+
+// Whether the word is one of a frame.
+fn is_content(sizes: &Sizes, word: u32) -> bool
+    requires { AreSizes sizes.now }
+    ensures { result ≡ is_content sizes.now word }
+{
+    word >= map_of(sizes).word_of(Area::Content, 0)
+}
+
+// A host word was to be exchanged by a line that changes the page.
+fn change_host(sizes: &Sizes, kind: Kind, topics: &mut Topics, found: u64)
+    requires { AreSizes sizes.now }
+    ensures { topics.new ≡ host_changed sizes.now kind topics.old found }
+{
+    topics.host = Some(exchange_host(sizes, kind, found));
+    topics.watched = 0;
+    let old = HostWord::from_word(kind.old).frame();
+    move_frame(found == kind.old, old, &mut topics.frames.owned);
 }
 
 /// What the actor holds after a step, which answered `found`.
@@ -510,6 +532,7 @@ pub fn step_topics(sizes: &Sizes, kind: Kind, topics: &mut Topics, found: u64)
             }
         }
         StepKind::Claim => topics.owned = claim(&mut topics.claim, found),
+        StepKind::Fill if is_content(sizes, kind.word) => store_word(&mut topics.frames.owned),
         StepKind::Fill => fill(&mut topics.owned, found),
         StepKind::Give => {
             if topics.owned.is_none() {
@@ -528,7 +551,13 @@ pub fn step_topics(sizes: &Sizes, kind: Kind, topics: &mut Topics, found: u64)
         StepKind::Await => {
             topics.flush.awaited = state_index(kind.word) + if has_to_flush(found) { 0 } else { 1 };
         }
-        StepKind::Bring | StepKind::Change => topics.host = Some(exchange_host(sizes, kind, found)),
+        StepKind::Bring => topics.host = Some(exchange_host(sizes, kind, found)),
+        StepKind::Change => change_host(sizes, kind, topics, found),
+        StepKind::Copy => copy_word(&mut topics.frames.owned, found),
+        StepKind::Frame => {
+            topics.frames.owned = claim_frame(&mut topics.frames.claim, found);
+        }
+        StepKind::Unframe => give_frame(&mut topics.frames),
         StepKind::Watch => {
             topics.watched = state_index(kind.word) + if in_section(found) { 0 } else { 1 };
         }

@@ -9,7 +9,7 @@ ghost use Rattle.step_seats.specs.Moves.{KeepsRoom};
 
 use core_views::{Hand, Seen, SlotChangePlace};
 use grace_period::Watch;
-use mmu_core::part_rests;
+use mmu_core::{FreeMap, part_rests};
 use mmu_lock::{try_exclusive, unlock};
 use part_steps::{PartStep, SLOT_SET_ROLE, map_of, page_owned, set_word, words_filled};
 use spte_words::Area;
@@ -24,7 +24,10 @@ pub(crate) fn claim<S: Stepper>(s: &mut S, begun: bool, note: u64) -> Option<See
     ensures room { KeepsRoom (S.seat s.old) (S.seat s.new) }
     ensures same { ((S.seat s.new).actor ≡ (S.seat s.old).actor) × (S.frame s.new ≡ S.frame s.old) }
 {
-    let mut claim = Claim { begun };
+    let mut claim = Claim {
+        map: FreeMap::Pages,
+        begun,
+    };
     claim.turn(s, note).in_way()
 }
 

@@ -21,6 +21,10 @@ host_frame word = word / 2 ^ 12
 abbrev pub with_writes : Bool → ℕ → ℕ
 with_writes allowed word = host_word (host_frame word) (host_present word) allowed (host_level word)
 
+-- the host word of the same page, at another frame
+abbrev pub with_frame : ℕ → ℕ → ℕ
+with_frame frame word = host_word frame (host_present word) (host_allows_write word) (host_level word)
+
 -- the host word of the same page, which is present, or isn't
 abbrev pub with_presence : Bool → ℕ → ℕ
 with_presence present word = host_word (host_frame word) present (host_allows_write word) (host_level word)

@@ -1,5 +1,5 @@
 ghost use Rattle.std.specs.Prelude.{◌≡◌, ℕ, ◌<◌, ◌^◌};
-ghost use Rattle.spte_words.specs.HostWords.{host_word, host_present, host_allows_write, host_level, host_frame, with_writes, with_presence};
+ghost use Rattle.spte_words.specs.HostWords.{host_word, host_present, host_allows_write, host_level, host_frame, with_frame, with_writes, with_presence};
 
 use crate::bit::bit_if;
 use std::marker::Model;
@@ -93,6 +93,15 @@ impl HostWord {
         ensures { result ≡ with_writes allowed self }
     {
         HostWord::new(self.frame(), self.is_present(), allowed, self.level())
+    }
+
+    /// The same, at another frame (below 2^52).
+    #[tactic(auto, unfolding(crate::specs::HostWords::host_level))]
+    pub fn with_frame(self, frame: u64) -> HostWord
+        requires { frame < 2 ^ 52 }
+        ensures { result ≡ with_frame frame self }
+    {
+        HostWord::new(frame, self.is_present(), self.is_writable(), self.level())
     }
 
     /// The same, with the page in memory, or not.

@@ -1,20 +1,25 @@
--- A page that an actor owns, as after a claim that was won, is its own alone.
+-- A page or frame that an actor owns, as after a claim that was won, is its own alone.
 use Rattle.std.proofs.Common.{◌≡◌, ◌≢◌, ◌<◌, ℕ, Option, Some, None, length, refl, sym, subst, ap, ◌∙◌, arith}
 use Rattle.std.proofs.Math.Logic.{∥∥₁_elim}
 use Rattle.std.proofs.Props.{props}
 use Rattle.std.specs.Prelude.{Bool, true, false, ◌==◌, IfSome}
 use Rattle.std.proofs.lemmas.Bool.Decides.{nat_tests}
 use Rattle.core_views.specs.declared.sizes.Sizes.{Sizes}
+use Rattle.core_views.specs.declared.topics.OwnedFrame.{OwnedFrame}
 use Rattle.core_views.specs.declared.topics.OwnedPage.{OwnedPage}
 use Rattle.core_views.specs.Held.{Held}
 use Rattle.core_views.specs.Sizes.{actors_of}
 use Rattle.spte_words.specs.declared.area.Area.TheVariants as area
-use Rattle.part_steps.specs.declared.part_step.PartStep.TheVariants as part
 use Rattle.mmu_core.specs.machine.Enabled.{mmu}
 use Rattle.mmu_core.specs.invariant.Laws.{IsSound}
 use Rattle.mmu_core.specs.machine.Machine.{World, hand_in}
 use Rattle.part_steps.specs.PartTasks.{part_kind}
+use Rattle.mmu_core.specs.declared.claim.FreeMap.{FreeMap}
+use Rattle.mmu_core.specs.declared.claim.FreeMap.TheVariants.{Pages, Frames}
+use Rattle.mmu_core.specs.invariant.FramesPart.{FramesPart, is_frame_of}
 use Rattle.mmu_core.specs.invariant.PoolPart.{UsePart, is_leaving, is_owned}
+use Rattle.mmu_core.specs.lines.ClaimSteps.{try_part}
+use Rattle.mmu_core.proofs.pages.FrameUses.{one_frame_owner, owned_frame_not_free, owned_frame_there, owned_of_no_page}
 use Rattle.mmu_core.specs.invariant.TreePart.{at, stands}
 use Rattle.mmu_core.specs.machine.View.{word_in}
 use Rattle.mmu_core.specs.machine.Worlds.{Reachable}
@@ -24,13 +29,14 @@ use Rattle.mmu_core.proofs.start.Starts.{reached_good}
 use Rattle.step_seats.specs.Seats.{Seat}
 use Rattle.step_seats.specs.PartTurns.{MadePart}
 use Rattle.step_seats.specs.Where.{HasHand}
-use Rattle.table_pool.specs.Claims.{IsClaimersAlone}
+use Rattle.table_pool.specs.ClaimedAlone.{IsClaimersAlone, IsFrameAlone, IsPageAlone}
+use Rattle.table_pool.specs.Maps.{frame_got, got_in, page_got}
 use Rattle.mmu_core.proofs.machine.Sized.{next_keeps_sizes}
 
--- What an actor owns in a world that steps lead to is its own alone.
-sole_in : (w : World Held) (a : ℕ) (o : OwnedPage) (r : Reachable w) → a < length w.hands → (hand_in mmu w a).topics.owned ≡ Some o
-    → IsClaimersAlone (hand_in mmu w a).state.sizes a o.page w
-sole_in w a o r there mine = subst (λ (y : Sizes). IsClaimersAlone y a o.page w) (sym (G.holds.lines a lt).sizes) alone
+-- A page that an actor owns in a world that steps lead to is its own alone.
+sole_page : (w : World Held) (a : ℕ) (o : OwnedPage) (r : Reachable w) → a < length w.hands → (hand_in mmu w a).topics.owned ≡ Some o
+    → IsPageAlone (hand_in mmu w a).state.sizes a o.page w
+sole_page w a o r there mine = subst (λ (y : Sizes). IsPageAlone y a o.page w) (sym (G.holds.lines a lt).sizes) alone
   where
     z : Sizes
     z = r.sizes
@@ -69,7 +75,7 @@ sole_in w a o r there mine = subst (λ (y : Sizes). IsClaimersAlone y a o.page w
         by true same = absurd (left_not_owned P i k i_lt is a o lt mine (sym (same refl)))
         by false same = refl
 
-    alone : IsClaimersAlone z a o.page w
+    alone : IsPageAlone z a o.page w
     alone = record {
       there = owned_there P a o lt mine;
       owned = ap (λ x. is_owned x o.page) mine ∙ itself;
@@ -80,22 +86,81 @@ sole_in w a o r there mine = subst (λ (y : Sizes). IsClaimersAlone y a o.page w
       not_leaving = λ i i_in. stays i (subst (λ n. i < n) G.hands i_in) (leaving i) refl;
     }
 
-sole_prop : (z : Sizes) (a page : ℕ) (w : World Held) → IsProp (IsClaimersAlone z a page w)
-sole_prop z a page w = hlevel props
+-- So is a frame.
+sole_frame : (w : World Held) (a : ℕ) (o : OwnedFrame) (r : Reachable w) → a < length w.hands → (hand_in mmu w a).topics.frames.owned ≡ Some o
+    → IsFrameAlone (hand_in mmu w a).state.sizes a o.frame w
+sole_frame w a o r there mine = subst (λ (y : Sizes). IsFrameAlone y a o.frame w) (sym (G.holds.lines a lt).sizes) alone
+  where
+    z : Sizes
+    z = r.sizes
 
-alone_in : (told : Option (World Held)) (a : ℕ) (h : Held) (o : OwnedPage) → IfSome told (HasHand a h) → h.topics.owned ≡ Some o
-    → IfSome told (IsClaimersAlone h.state.sizes a o.page)
-alone_in None a h o has mine = tt
-alone_in (Some w) a h o has mine =
-    subst (λ (x : Held). IsClaimersAlone x.state.sizes a o.page w) has.is
-    (∥∥₁_elim has.reached (sole_prop (hand_in mmu w a).state.sizes a o.page w)
-    (λ r. sole_in w a o r has.there (subst (λ (x : Held). x.topics.owned ≡ Some o) (sym has.is) mine)))
+    G : IsSound z w
+    G = reached_good w r
 
--- A page that was claimed is the claimer's alone.
-pub claimed_alone : (note found : ℕ) (before after : Seat) (a_behind : ℕ) (o : OwnedPage) → MadePart part.Claim note found before after
-    → IfSome after.tells.world (HasHand a_behind after.hand) → after.hand.topics.owned ≡ Some o
-    → IfSome after.tells.world (IsClaimersAlone before.hand.state.sizes a_behind o.page)
-claimed_alone note found before after a_behind o M has mine =
+    lt : a < actors_of z
+    lt = subst (λ n. a < n) G.hands there
+
+    owned : ℕ → Option OwnedFrame
+    owned i = (hand_in mmu w i).topics.frames.owned
+
+    P : FramesPart z (actors_of z) (word_in z w area.FrameMap) (word_in z w area.Host) owned G.topics.use_of
+    P = G.topics.frames
+
+    itself : (o.frame == o.frame) ≡ true
+    itself = grind (arith, nat_tests)
+
+    other : (i : ℕ) → i < actors_of z → i ≢ a → (x : Option OwnedFrame) → owned i ≡ x → is_frame_of x o.frame ≡ false
+    other i i_lt apart None is = refl
+    other i i_lt apart (Some p) is = by (p.frame == o.frame) (λ e. grind (arith, nat_tests))
+      where
+        by : (b : Bool) → (b ≡ true → p.frame ≡ o.frame) → b ≡ false
+        by true same = absurd (apart (sym (one_frame_owner P a i o p lt i_lt mine is (same refl))))
+        by false same = refl
+
+    alone : IsFrameAlone z a o.frame w
+    alone = record {
+      there = owned_frame_there P a o lt mine;
+      owned = ap (λ x. is_frame_of x o.frame) mine ∙ itself;
+      others = λ i i_in apart. other i (subst (λ n. i < n) G.hands i_in) apart (owned i) refl;
+      not_free = owned_frame_not_free P a o lt mine;
+      of_no_page = λ page in_pages. owned_of_no_page P a o page lt mine in_pages;
+    }
+
+-- What an actor has got is its own alone.
+page_by : (w : World Held) (a one : ℕ) (x : Option OwnedPage) (r : Reachable w) → a < length w.hands → (hand_in mmu w a).topics.owned ≡ x
+    → page_got x ≡ Some one → IsPageAlone (hand_in mmu w a).state.sizes a one w
+page_by w a one None r there is got = absurd (cc got)
+page_by w a one (Some o) r there is got =
+    let same : o.page ≡ one = cc got in subst (λ k. IsPageAlone (hand_in mmu w a).state.sizes a k w) same (sole_page w a o r there is)
+
+frame_by : (w : World Held) (a one : ℕ) (x : Option OwnedFrame) (r : Reachable w) → a < length w.hands → (hand_in mmu w a).topics.frames.owned ≡ x
+    → frame_got x ≡ Some one → IsFrameAlone (hand_in mmu w a).state.sizes a one w
+frame_by w a one None r there is got = absurd (cc got)
+frame_by w a one (Some o) r there is got =
+    let same : o.frame ≡ one = cc got in subst (λ k. IsFrameAlone (hand_in mmu w a).state.sizes a k w) same (sole_frame w a o r there is)
+
+sole_in : (map : FreeMap) (w : World Held) (a one : ℕ) (r : Reachable w) → a < length w.hands → got_in map (hand_in mmu w a).topics ≡ Some one
+    → IsClaimersAlone map (hand_in mmu w a).state.sizes a one w
+sole_in Pages w a one r there got = page_by w a one (hand_in mmu w a).topics.owned r there refl got
+sole_in Frames w a one r there got = frame_by w a one (hand_in mmu w a).topics.frames.owned r there refl got
+
+sole_prop : (map : FreeMap) (z : Sizes) (a one : ℕ) (w : World Held) → IsProp (IsClaimersAlone map z a one w)
+sole_prop Pages z a one w = hlevel props
+sole_prop Frames z a one w = hlevel props
+
+alone_in : (map : FreeMap) (told : Option (World Held)) (a : ℕ) (h : Held) (one : ℕ) → IfSome told (HasHand a h) → got_in map h.topics ≡ Some one
+    → IfSome told (IsClaimersAlone map h.state.sizes a one)
+alone_in map None a h one has got = tt
+alone_in map (Some w) a h one has got =
+    subst (λ (x : Held). IsClaimersAlone map x.state.sizes a one w) has.is
+    (∥∥₁_elim has.reached (sole_prop map (hand_in mmu w a).state.sizes a one w)
+    (λ r. sole_in map w a one r has.there (subst (λ (x : Held). got_in map x.topics ≡ Some one) (sym has.is) got)))
+
+-- What was claimed is the claimer's alone.
+pub claimed_alone : (map : FreeMap) (note found : ℕ) (before after : Seat) (a_behind one : ℕ) → MadePart (try_part map) note found before after
+    → IfSome after.tells.world (HasHand a_behind after.hand) → got_in map after.hand.topics ≡ Some one
+    → IfSome after.tells.world (IsClaimersAlone map before.hand.state.sizes a_behind one)
+claimed_alone map note found before after a_behind one M has got =
     let same : after.hand.state.sizes ≡ before.hand.state.sizes =
-    ap (λ (h : Held). h.state.sizes) M.hand ∙ next_keeps_sizes before.hand (part_kind before.hand part.Claim note) found in
-    subst (λ (y : Sizes). IfSome after.tells.world (IsClaimersAlone y a_behind o.page)) same (alone_in after.tells.world a_behind after.hand o has mine)
+    ap (λ (h : Held). h.state.sizes) M.hand ∙ next_keeps_sizes before.hand (part_kind before.hand (try_part map) note) found in
+    subst (λ (y : Sizes). IfSome after.tells.world (IsClaimersAlone map y a_behind one)) same (alone_in map after.tells.world a_behind after.hand one has got)

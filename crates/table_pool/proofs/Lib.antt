@@ -1,4 +1,7 @@
+pub mod EitherMap
 pub mod Claiming
+pub mod ClaimTold
+pub mod ClaimTurns
+pub mod FirstSeen
 pub mod ClaimedAlone
 pub mod Paging
-pub mod FirstSeen

@@ -1,2 +1,4 @@
+pub mod Maps
+pub mod ClaimedAlone
 pub mod Claims
 pub mod Pages

@@ -1,8 +1,10 @@
-ghost use Rattle.std.specs.Prelude.{◌≡◌, ◌<◌, ℕ, true, false, None};
+ghost use Rattle.std.specs.Prelude.{◌≡◌, ◌<◌, ℕ, true, false};
+ghost use Rattle.mmu_core.specs.declared.claim.FreeMap.TheVariants.{Pages};
+ghost use Rattle.mmu_core.specs.invariant.Scans.{OwnsNone};
+ghost use Rattle.mmu_core.specs.lines.ClaimSteps.{claim_over, map_words};
 ghost use Rattle.mmu_core.specs.machine.MayMake.{MayMake};
 ghost use Rattle.mmu_core.specs.machine.Steps.{has_line};
 ghost use Rattle.mmu_core.specs.machine.Worlds.{HandReached};
-ghost use Rattle.spte_words.specs.Areas.{words_of_bits};
 ghost use Rattle.step_seats.specs.Moves.{KeepsRoom};
 ghost use Rattle.step_seats.specs.PartTurns.{TurnsPart, waits};
 ghost use Rattle.step_seats.specs.declared.turn.Turn.TheVariants.{More, Done};
@@ -16,60 +18,65 @@ ghost use Rattle.table_pool.specs.Claims.{
   WasFree,
   claim_step,
 };
-ghost use Rattle.table_pool.specs.declared.claim.Claimed.TheVariants.{Page};
+ghost use Rattle.table_pool.specs.declared.claim.Claimed.TheVariants.{Got};
 
+use crate::maps::{claim_over, got_in, load_part, map_words, try_part, word_of};
 use core_views::{Hand, Seen};
-use mmu_core::part_rests;
-use part_steps::{PartStep, map_of};
-use spte_words::Area;
+use mmu_core::{FreeMap, part_rests};
 use step_seats::{Stepper, Turn, make_part};
 
 /// What a claim ended with.
 #[derive(Clone, Copy, Debug, PartialEq, Eq, Drop)]
 pub enum Claimed {
-    /// The actor owns this page of the pool, and no other actor does.
-    Page(u64),
-    /// Each word of the map was seen with no free page.
+    /// The actor owns this page of the pool, or this frame of the host, and no other
+    /// actor does.
+    Got(u64),
+    /// Each word of the map was seen with nothing free.
     Empty,
 }
 
-/// A claim of a free page, a step a turn. It goes through the words of the
-/// pool's map in their order, and tries the lowest free page of the first one
-/// where it sees any (tdp_mmu.c, `tdp_mmu_alloc_sp`).
-#[derive(Clone, Copy, Debug, PartialEq, Eq, Drop)]
+/// A claim of a free page of the pool, or of a free frame of the host, a step a turn. It
+/// goes through the words of the map in their order, and tries the lowest page or frame of
+/// the first one where it sees any free (tdp_mmu.c, `tdp_mmu_alloc_sp`;
+/// page_migration.rst).
+#[derive(Clone, Copy, Drop)]
 pub struct Claim {
+    /// The map that it goes through.
+    pub map: FreeMap,
     /// Whether the first word of the map was loaded.
     pub begun: bool,
 }
 
 impl Claim {
-    /// A claim that is yet to begin.
-    pub fn new() -> Claim
-        ensures { result ≡ record { begun = false } }
+    /// A claim in this map that is yet to begin.
+    pub fn new(map: FreeMap) -> Claim
+        ensures { result ≡ record { map = map; begun = false } }
     {
-        Claim { begun: false }
+        Claim { map, begun: false }
     }
 
-    /// A claim that isn't over may take its next turn, by a hand that has no line
-    /// left and owns no page.
+    /// A claim of a page that isn't over may take its next turn, by a hand that has no
+    /// line left and owns no page. A frame is claimed by lines alone.
     pub fn may_turn(&self, hand: &Hand, note: u64)
+        requires pages { self.now.map ≡ Pages }
         requires reached { ∥ HandReached hand.now.core ∥₁ }
         requires idle { has_line hand.now.core ≡ false }
-        requires owns_none { hand.now.core.topics.owned ≡ None }
-        requires not_over { self.now.begun ≡ true → hand.now.core.topics.claim.at < words_of_bits hand.now.core.state.sizes.pool }
-        ensures { MayMake (claim_step self.now hand.now.core.topics.claim) note hand.now.core }
+        requires owns_none { OwnsNone self.now.map hand.now.core.topics }
+        requires not_over { self.now.begun ≡ true
+            → (claim_over self.now.map hand.now.core.topics).at < map_words self.now.map hand.now.core.state.sizes }
+        ensures { MayMake (claim_step self.now hand.now.core.topics) note hand.now.core }
     {}
 
-    /// Tries the lowest page of those seen, or loads the next word of the map.
-    /// `Wait` exactly where its step waits, since another actor took the page
+    /// Tries the lowest page or frame of those seen, or loads the next word of the map.
+    /// `Wait` exactly where its step waits, since another actor took this page or frame
     /// meanwhile: what was seen then is what the claim goes on with.
     pub fn turn<S: Stepper>(&mut self, s: &mut S, note: u64) -> Turn<Claimed>
-        requires may { MayMake (claim_step self.old (S.seat s.old).hand.topics.claim) note (S.seat s.old).hand }
+        requires may { MayMake (claim_step self.old (S.seat s.old).hand.topics) note (S.seat s.old).hand }
         requires reserved { 0 < (S.seat s.old).room }
-        ensures step { TurnsPart (waits result) (claim_step self.old (S.seat s.old).hand.topics.claim) note (S.seat s.old) (S.seat s.new) }
+        ensures step { TurnsPart (waits result) (claim_step self.old (S.seat s.old).hand.topics) note (S.seat s.old) (S.seat s.new) }
         ensures turned { ClaimTurn (S.seat s.old).hand.state.sizes self.old result (S.seat s.old).hand.topics (S.seat s.new).hand.topics }
-        ensures begun { self.new.begun ≡ true }
-        ensures first { (page : ℕ) → result ≡ Done (Page page) → IsFirstSeen page (S.seat s.old).hand.topics.claim }
+        ensures begun { self.new ≡ record { map = self.old.map; begun = true } }
+        ensures first { (one : ℕ) → result ≡ Done (Got one) → IsFirstSeen one (claim_over self.old.map (S.seat s.old).hand.topics) }
         ensures free { WasFree result self.old note (S.seat s.old) (S.seat s.new) }
         ensures sole { IsItsAlone result self.old note (S.seat s.old) (S.seat s.new) }
         ensures stands { SawWhatStands self.old note (S.seat s.old) (S.seat s.new) }
@@ -79,20 +86,20 @@ impl Claim {
         ensures same { ((S.seat s.new).actor ≡ (S.seat s.old).actor) × (S.frame s.new ≡ S.frame s.old) }
     {
         part_rests(s.hand());
-        let map = map_of(&s.hand().progress().sizes);
-        let claim = s.hand().topics().claim;
+        let sizes = s.hand().progress().sizes;
+        let claim = claim_over(self.map, s.hand().topics());
         if self.begun && claim.seen > 0 {
-            let word = map.word_of(Area::PoolMap, claim.at);
-            let value = make_part(s, PartStep::Claim, note);
-            return match s.hand().topics().owned {
-                Some(owned) => Turn::Done(Claimed::Page(owned.page)),
+            let word = word_of(self.map, &sizes, claim.at);
+            let value = make_part(s, try_part(self.map), note);
+            return match got_in(self.map, s.hand().topics()) {
+                Some(one) => Turn::Done(Claimed::Got(one)),
                 None => Turn::Wait(Seen { word, value }),
             };
         }
         let word = if self.begun { claim.at } else { 0 };
         self.begun = true;
-        let _ = make_part(s, PartStep::Map(word), note);
-        if s.hand().topics().claim.at < map.size_of(Area::PoolMap) as u64 {
+        let _ = make_part(s, load_part(self.map, word), note);
+        if claim_over(self.map, s.hand().topics()).at < map_words(self.map, &sizes) {
             Turn::More
         } else {
             Turn::Done(Claimed::Empty)

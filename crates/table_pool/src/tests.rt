@@ -2,6 +2,7 @@
 //! and 3 are free.
 ghost use Rattle.std.specs.Prelude.{◌≡◌, ◌<◌, [], ◌∷◌, IfOk, OnOk, length};
 ghost use Rattle.core_views.specs.Sizes.{index_of};
+ghost use Rattle.mmu_core.specs.declared.claim.FreeMap.TheVariants.{Pages};
 ghost use Rattle.mmu_core.specs.machine.MayMake.{MayMake};
 ghost use Rattle.part_steps.specs.PartTasks.{page_owned};
 ghost use Rattle.table_pool.specs.Claims.{claim_step};
@@ -9,7 +10,7 @@ ghost use Rattle.table_pool.specs.Claims.{claim_step};
 use crate::page::fill_step;
 use crate::{Claim, Claimed, Fill, Give};
 use core_views::{Actor, Header, Lines, NoMemory, Seen, Trace, Words};
-use mmu_core::{allows, part_rests};
+use mmu_core::{FreeMap, allows, part_rests};
 use part_steps::{PartStep, map_of, words_filled};
 use spte_words::Area;
 use std::alloc::Global;
@@ -67,7 +68,8 @@ fn make_ready<S: Stepper>(seat: &mut S, step: PartStep) -> Result<(), Fail>
 // Looks whether the claim may go on: the hand has no line left and owns no page,
 // and the claim isn't over.
 fn expect_claim<S: Stepper>(seat: &S, job: &Claim) -> Result<(), Fail>
-    ensures { OnOk result (MayMake (claim_step job.now (S.seat seat.now).hand.topics.claim) 0 (S.seat seat.now).hand) }
+    requires { job.now.map ≡ Pages }
+    ensures { OnOk result (MayMake (claim_step job.now (S.seat seat.now).hand.topics) 0 (S.seat seat.now).hand) }
 {
     let hand = seat.hand();
     part_rests(hand);
@@ -80,7 +82,10 @@ fn expect_claim<S: Stepper>(seat: &S, job: &Claim) -> Result<(), Fail>
     Ok(())
 }
 
-fn claim_by<S: Stepper>(seat: &mut S, job: &mut Claim) -> Result<Turn<Claimed>, Fail> {
+fn claim_by<S: Stepper>(seat: &mut S, job: &mut Claim) -> Result<Turn<Claimed>, Fail>
+    requires { job.old.map ≡ Pages }
+    ensures { job.new.map ≡ Pages }
+{
     seat.reserve()?;
     expect_claim(seat, job)?;
     Ok(job.turn(seat, 0))
@@ -122,7 +127,10 @@ fn expect_actor(machine: &PlainMachine, actor: Actor) -> Result<(), Fail>
 }
 
 // One turn of the actor's claim.
-fn claim(machine: &mut PlainMachine, actor: Actor, job: &mut Claim) -> Result<Turn<Claimed>, Fail> {
+fn claim(machine: &mut PlainMachine, actor: Actor, job: &mut Claim) -> Result<Turn<Claimed>, Fail>
+    requires { job.old.map ≡ Pages }
+    ensures { job.new.map ≡ Pages }
+{
     expect_actor(machine, actor)?;
     let mut seat = machine.as_actor(actor);
     claim_by(&mut seat, job)
@@ -149,7 +157,7 @@ fn give(machine: &mut PlainMachine, actor: Actor, page: u64) -> Result<Turn<()>,
 
 // A claim of at most two turns.
 fn claim_page(machine: &mut PlainMachine, actor: Actor) -> Result<Turn<Claimed>, Fail> {
-    let mut job = Claim::new();
+    let mut job = Claim::new(FreeMap::Pages);
     match claim(machine, actor, &mut job)? {
         Turn::More => claim(machine, actor, &mut job),
         turn => Ok(turn),
@@ -159,18 +167,18 @@ fn claim_page(machine: &mut PlainMachine, actor: Actor) -> Result<Turn<Claimed>,
 #[test]
 fn claims_the_lowest_page(rt: HostRuntime) -> Result<(), Fail> {
     let mut machine = start(rt.alloc())?;
-    let mut first = Claim::new();
+    let mut first = Claim::new(FreeMap::Pages);
     assert_eq!(rt;
         claim(&mut machine, Actor::Vcpu(0), &mut first)?,
         Turn::More
     );
     assert_eq!(rt;
         claim(&mut machine, Actor::Vcpu(0), &mut first)?,
-        Turn::Done(Claimed::Page(2))
+        Turn::Done(Claimed::Got(2))
     );
     assert_eq!(rt;
         claim_page(&mut machine, Actor::Vcpu(1))?,
-        Turn::Done(Claimed::Page(3))
+        Turn::Done(Claimed::Got(3))
     );
     assert_eq!(rt;
         claim_page(&mut machine, Actor::Host(0))?,
@@ -188,13 +196,13 @@ fn claims_the_lowest_page(rt: HostRuntime) -> Result<(), Fail> {
 #[test]
 fn loses_pages_to_others(rt: HostRuntime) -> Result<(), Fail> {
     let mut machine = start(rt.alloc())?;
-    let mut slow = Claim::new();
-    let mut late = Claim::new();
+    let mut slow = Claim::new(FreeMap::Pages);
+    let mut late = Claim::new(FreeMap::Pages);
     assert_eq!(rt; claim(&mut machine, Actor::Vcpu(0), &mut slow)?, Turn::More);
     assert_eq!(rt; claim(&mut machine, Actor::Host(0), &mut late)?, Turn::More);
     assert_eq!(rt;
         claim_page(&mut machine, Actor::Vcpu(1))?,
-        Turn::Done(Claimed::Page(2))
+        Turn::Done(Claimed::Got(2))
     );
     let one_left = Seen { word: 12, value: 8 };
     assert_eq!(rt;
@@ -207,7 +215,7 @@ fn loses_pages_to_others(rt: HostRuntime) -> Result<(), Fail> {
     );
     assert_eq!(rt;
         claim(&mut machine, Actor::Host(0), &mut late)?,
-        Turn::Done(Claimed::Page(3))
+        Turn::Done(Claimed::Got(3))
     );
     let none_left = Seen { word: 12, value: 0 };
     assert_eq!(rt;
@@ -226,7 +234,7 @@ fn fills_a_page_and_its_role(rt: HostRuntime) -> Result<(), Fail> {
     let mut machine = start(rt.alloc())?;
     assert_eq!(rt;
         claim_page(&mut machine, Actor::Vcpu(0))?,
-        Turn::Done(Claimed::Page(2))
+        Turn::Done(Claimed::Got(2))
     );
     let mut job = Fill::new(2);
     for _ in 0..512 {
@@ -253,7 +261,7 @@ fn gives_a_page_back(rt: HostRuntime) -> Result<(), Fail> {
     let mut machine = start(rt.alloc())?;
     assert_eq!(rt;
         claim_page(&mut machine, Actor::Vcpu(0))?,
-        Turn::Done(Claimed::Page(2))
+        Turn::Done(Claimed::Got(2))
     );
     let mut job = Fill::new(2);
     assert_eq!(rt;
@@ -267,7 +275,7 @@ fn gives_a_page_back(rt: HostRuntime) -> Result<(), Fail> {
     assert_eq!(rt; give(&mut machine, Actor::Vcpu(0), 2)?, Turn::Done(()));
     assert_eq!(rt;
         claim_page(&mut machine, Actor::Vcpu(1))?,
-        Turn::Done(Claimed::Page(2))
+        Turn::Done(Claimed::Got(2))
     );
     let closing = machine.into_closing();
     let words = closing.words.as_slice();

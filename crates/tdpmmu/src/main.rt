@@ -42,6 +42,10 @@ mod host_traces;
 #[cfg(test)]
 mod limits;
 #[cfg(test)]
+mod move_schedules;
+#[cfg(test)]
+mod move_traces;
+#[cfg(test)]
 mod plain_tests;
 #[cfg(test)]
 mod schedules;

@@ -310,7 +310,18 @@ pub(crate) fn follows<R: Threads + Wait + Sync + Abort>(
     let header = format!(in alloc;
         "tdp 1 vcpus 2 workers 1 pages 1024 frames 1040 words 1 pool {pool} cache 64 manual 0 hosts 0\n"
     )?;
-    let (status, out) = run_on(rt, alloc, &["tdpmmu", "weave"], &header, lines, &[], &[])?;
+    prints(rt, alloc, &header, lines, text)
+}
+
+// The trace of these lines behind this header prints this text.
+pub(crate) fn prints<R: Threads + Wait + Sync + Abort>(
+    rt: &R,
+    alloc: Global,
+    header: &str,
+    lines: &str,
+    text: &str,
+) -> Result<(), Fail> {
+    let (status, out) = run_on(rt, alloc, &["tdpmmu", "weave"], header, lines, &[], &[])?;
     assert_eq!(rt; status, Status::Done, "on {lines}");
     assert_eq!(rt; out.bytes(), text.as_bytes(), "on {lines}");
     Ok(())

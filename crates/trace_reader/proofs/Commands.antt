@@ -13,12 +13,12 @@ use Rattle.core_views.specs.declared.actor.Actor.TheVariants.{Vcpu, Host, Manage
 use Rattle.core_views.specs.declared.trace.Command.{Command}
 use Rattle.core_views.specs.declared.trace.Command.TheVariants.{Access, ChangeHost, SetSlot}
 use Rattle.core_views.specs.declared.trace.HostChange.{HostChange}
-use Rattle.core_views.specs.declared.trace.HostChange.TheVariants.{Allow, Evict, Protect}
+use Rattle.core_views.specs.declared.trace.HostChange.TheVariants.{Allow, Evict, Move, Protect}
 use Rattle.core_views.specs.declared.trace.Header.{Header}
 use Rattle.trace_reader.specs.Forms.{by_command, by_form, slot_id}
 use Rattle.trace_reader.specs.Grammar.{AreCommandWords, AreWords, IsActor, IsCommandForm, IsDeclared, TellsChange}
 use Rattle.trace_reader.proofs.Accesses.{IsVcpu, access_form, access_plain, access_reads, add_judged, read_judged, write_judged}
-use Rattle.trace_reader.proofs.HostLines.{IsHost, change_known, host_judged, host_line_form, host_plain, host_reads}
+use Rattle.trace_reader.proofs.HostLines.{IsHost, host_judged, host_line_form, host_plain, host_reads}
 use Rattle.trace_reader.proofs.Items.{has_declared}
 use Rattle.trace_reader.proofs.Judged.{AreTwo, IsOne, Judged, none, row}
 use Rattle.trace_reader.proofs.Operands.{small_words}
@@ -37,19 +37,20 @@ IsRow command a rest =
     Either (bytes_eq command (codes "write")) (IsVcpu a × AreTwo rest) (
     Either (bytes_eq command (codes "add")) (IsVcpu a × AreTwo rest) (
     Either (bytes_eq command (codes "slot")) (IsManager a × AreSetting rest) (
+    Either (bytes_eq command (codes "move")) (IsHost a × IsOne rest) (
     Either (bytes_eq command (codes "evict")) (IsHost a × IsOne rest) (
     Either (bytes_eq command (codes "protect")) (IsHost a × IsOne rest) (
-    Either (bytes_eq command (codes "allow")) (IsHost a × IsOne rest) ⊥))))))
+    Either (bytes_eq command (codes "allow")) (IsHost a × IsOne rest) ⊥)))))))
 
 -- The words of a form are the actor's name, a command's word, and those of its row.
 abbrev HasRow : List (List ℕ) → Actor → Type 0
 HasRow words a = (command : List ℕ) × (rest : List (List ℕ)) × (words ≡ actor_name a ∷ command ∷ rest) × IsRow command a rest
 
 host_row : (i : ℕ) (command p : List ℕ) (change : HostChange) → TellsChange command change → IsRow command (Host i) (p ∷ [])
+host_row i command p Move tells = rw tells (tt, (p, refl))
 host_row i command p Evict tells = rw tells (tt, (p, refl))
 host_row i command p Protect tells = rw tells (tt, (p, refl))
 host_row i command p Allow tells = rw tells (tt, (p, refl))
-host_row i command p _ tells = absurd tells
 
 has_row : (words : List (List ℕ)) (a : Actor) → IsCommandForm words a → HasRow words a
 has_row words (Vcpu i) (inl (x, e)) = (codes "read", x ∷ [], e, (tt, (x, refl)))
@@ -85,6 +86,8 @@ by_command_judged h seen who command rest =
     (λ is. rw is (add_judged h seen who rest (only who (codes "add") rest))) (λ add.
     row (Judged h seen (who ∷ command ∷ rest)) command (codes "slot") _ _ _ refl
     (λ is. rw is (slot_judged h seen who rest (only who (codes "slot") rest))) (λ slot.
+    row (Judged h seen (who ∷ command ∷ rest)) command (codes "move") _ _ _ refl
+    (λ is. rw is (host_judged h seen who (codes "move") Move rest (λ n page lt. lt) refl (only who (codes "move") rest))) (λ moves.
     row (Judged h seen (who ∷ command ∷ rest)) command (codes "evict") _ _ _ refl
     (λ is. rw is (host_judged h seen who (codes "evict") Evict rest (λ n page lt. lt) refl (only who (codes "evict") rest))) (λ evict.
     row (Judged h seen (who ∷ command ∷ rest)) command (codes "protect") _ _ _ refl
@@ -97,10 +100,11 @@ by_command_judged h seen who command rest =
       other_word command (codes "write") write,
       other_word command (codes "add") add,
       other_word command (codes "slot") slot,
+      other_word command (codes "move") moves,
       other_word command (codes "evict") evict,
       other_word command (codes "protect") protect,
       other_word command (codes "allow") allow,
-    ) at (only who command rest a form).1 in no))))))))
+    ) at (only who command rest a form).1 in no)))))))))
 
 pub by_form_judged : (h : Header) (seen : ℕ → Bool) (words : List (List ℕ)) → Judged h seen words (by_form h seen words)
 unfolding by_form
@@ -134,7 +138,7 @@ command_words ids words _ _ le are = absurd are
 commands : (h : Header) (a : Actor) (c : Command) → IsCommandOf h a c → HasActor (sizes_of h) a
 commands h (Vcpu i) (Access gfn word op) range = range.0
 commands h Manager (SetSlot id s) range = tt
-commands h (Host i) (ChangeHost page change) range = change_known h i page change range
+commands h (Host i) (ChangeHost page change) range = range
 commands h _ _ range = absurd range
 
 pub commanding : (h : Header) (a : Actor) (c : Command) → IsHeader h → IsCommandOf h a c → IsActor a × IsDeclared h a

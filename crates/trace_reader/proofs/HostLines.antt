@@ -9,7 +9,7 @@ use Rattle.core_views.specs.declared.actor.Actor.TheVariants.{Vcpu, Host, Manage
 use Rattle.core_views.specs.declared.trace.Command.{Command}
 use Rattle.core_views.specs.declared.trace.Command.TheVariants.{ChangeHost}
 use Rattle.core_views.specs.declared.trace.HostChange.{HostChange}
-use Rattle.core_views.specs.declared.trace.HostChange.TheVariants.{Allow, Evict, Protect}
+use Rattle.core_views.specs.declared.trace.HostChange.TheVariants.{Allow, Evict, Move, Protect}
 use Rattle.core_views.specs.declared.trace.Header.{Header}
 use Rattle.trace_reader.specs.Operands.{host_thread, number}
 use Rattle.trace_reader.specs.Forms.{HostsMake, by_command, by_form, host_form}
@@ -81,24 +81,17 @@ host_spelled h change x i page few known e = rw (host_named h i known few, e) re
 change_row : (h : Header) (seen : ℕ → Bool) (who command : List ℕ) (change : HostChange) (rest : List (List ℕ)) → TellsChange command change
     → by_form h seen (who ∷ command ∷ rest) ≡ host_form h change who rest
 unfolding by_form by_command
+change_row h seen who command Move rest tells = rw tells refl
 change_row h seen who command Evict rest tells = rw tells refl
 change_row h seen who command Protect rest tells = rw tells refl
 change_row h seen who command Allow rest tells = rw tells refl
-change_row h seen who command _ rest tells = absurd tells
-
--- The actor of a line of a change is declared.
-pub change_known : (h : Header) (i page : ℕ) (change : HostChange) → IsCommandOf h (Host i) (ChangeHost page change) → i < length h.hosts
-change_known h i page Evict range = range
-change_known h i page Protect range = range
-change_known h i page Allow range = range
-change_known h i page _ range = absurd range
 
 pub host_reads : (h : Header) (seen : ℕ → Bool) (words : List (List ℕ)) (i page : ℕ) (change : HostChange) → length h.hosts ≤ 4
     → IsCommandOf h (Host i) (ChangeHost page change) → AreCommandWords seen words (Host i) (ChangeHost page change)
     → by_form h seen words ≡ Ok (Host i, ChangeHost page change)
 host_reads h seen words i page change few range (command, x, tells, e, s) =
     rw (e, change_row h seen (104 ∷ decimal i) command change (x ∷ []) tells)
-    (host_spelled h change x i page few (change_known h i page change range) (number_spelled x page s))
+    (host_spelled h change x i page few range (number_spelled x page s))
 
 -- They are of its form, and words.
 pub host_line_form : (seen : ℕ → Bool) (words : List (List ℕ)) (i page : ℕ) (change : HostChange)
@@ -106,10 +99,10 @@ pub host_line_form : (seen : ℕ → Bool) (words : List (List ℕ)) (i page : �
 host_line_form seen words i page change (command, x, tells, e, s) = (command, x, change, tells, e)
 
 change_word : (command : List ℕ) (change : HostChange) → TellsChange command change → IsWord command
+change_word command Move tells = rw tells (text_word (codes "move") (omega arith) refl)
 change_word command Evict tells = rw tells (text_word (codes "evict") (omega arith) refl)
 change_word command Protect tells = rw tells (text_word (codes "protect") (omega arith) refl)
 change_word command Allow tells = rw tells (text_word (codes "allow") (omega arith) refl)
-change_word command _ tells = absurd tells
 
 pub host_plain : (seen : ℕ → Bool) (words : List (List ℕ)) (i page : ℕ) (change : HostChange) → i ≤ 3
     → AreCommandWords seen words (Host i) (ChangeHost page change) → AreWords words

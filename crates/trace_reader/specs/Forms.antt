@@ -10,7 +10,7 @@ use Rattle.core_views.specs.declared.actor.Actor.TheVariants.{Vcpu, Host, Manage
 use Rattle.core_views.specs.declared.trace.Command.{Command}
 use Rattle.core_views.specs.declared.trace.Command.TheVariants.{Access, SetSlot, ChangeHost}
 use Rattle.core_views.specs.declared.trace.HostChange.{HostChange}
-use Rattle.core_views.specs.declared.trace.HostChange.TheVariants.{Allow, Evict, Protect}
+use Rattle.core_views.specs.declared.trace.HostChange.TheVariants.{Allow, Evict, Move, Protect}
 use Rattle.core_views.specs.declared.trace.Op.TheVariants.{Read, Write, Add}
 use Rattle.core_views.specs.declared.trace.Slot.{Slot}
 use Rattle.core_views.specs.declared.trace.Header.{Header}
@@ -84,6 +84,7 @@ by_command h seen who command rest =
     if bytes_eq command (codes "write") then write_form h who rest else
     if bytes_eq command (codes "add") then add_form h who rest else
     if bytes_eq command (codes "slot") then slot_form seen who rest else
+    if bytes_eq command (codes "move") then host_form h Move who rest else
     if bytes_eq command (codes "evict") then host_form h Evict who rest else
     if bytes_eq command (codes "protect") then host_form h Protect who rest else
     if bytes_eq command (codes "allow") then host_form h Allow who rest else

@@ -8,7 +8,7 @@ use Rattle.core_views.specs.declared.actor.Actor.TheVariants.{Vcpu, Host, Manage
 use Rattle.core_views.specs.declared.trace.Command.{Command}
 use Rattle.core_views.specs.declared.trace.Command.TheVariants.{Access, SetSlot, ChangeHost}
 use Rattle.core_views.specs.declared.trace.HostChange.{HostChange}
-use Rattle.core_views.specs.declared.trace.HostChange.TheVariants.{Allow, Evict, Protect}
+use Rattle.core_views.specs.declared.trace.HostChange.TheVariants.{Allow, Evict, Move, Protect}
 use Rattle.core_views.specs.declared.trace.Op.TheVariants.{Read, Write, Add}
 use Rattle.core_views.specs.declared.trace.Header.{Header}
 use Rattle.trace_reader.specs.Numbers.{is_hex_digit, value}
@@ -47,10 +47,10 @@ slot_words i b p k read_only = actor_name Manager ∷ codes "slot" ∷ i ∷ b �
 
 -- The word is that of a host thread's line that makes this change.
 abbrev pub TellsChange : List ℕ → HostChange → Type 0
+TellsChange w Move = w ≡ codes "move"
 TellsChange w Evict = w ≡ codes "evict"
 TellsChange w Protect = w ≡ codes "protect"
 TellsChange w Allow = w ≡ codes "allow"
-TellsChange w _ = ⊥
 
 -- the words of `hN WORD P`
 abbrev pub host_words : ℕ → List ℕ → List ℕ → List (List ℕ)

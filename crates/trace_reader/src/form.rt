@@ -245,6 +245,9 @@ fn command_said(
     if is(command, "slot") {
         return slot_said(header, seen, who, rest);
     }
+    if is(command, "move") {
+        return host_said(header, HostChange::Move, who, rest);
+    }
     if is(command, "evict") {
         return host_said(header, HostChange::Evict, who, rest);
     }

@@ -112,8 +112,10 @@ const TABLE: &str = "\
 2 word|&vm read 0;\n\
 2 word|&v16 read z;\n\
 2 word|&v2 look z;\n\
-2 word|&h0 move 5;\n\
+2 word|&h0 move;\n\
 2 word|&h0 move 5 6;\n\
+2 word|&h0 Move 5;\n\
+2 word|&v0 move 5;\n\
 2 word|&h0 evict;\n\
 2 word|&h0 evict 5 6;\n\
 2 word|&h0 Evict 5;\n\
@@ -175,6 +177,8 @@ const TABLE: &str = "\
 2 number|&h0 allow 05;\n\
 2 number|&h0 protect 05;\n\
 2 actor|&h2 protect 5;\n\
+2 number|&h0 move 05;\n\
+2 actor|&h2 move 5;\n\
 2 number|&h0 evict 05;\n\
 2 actor|&h2 evict 5;\n\
 2 number|&h0 allow z;\n\
@@ -266,6 +270,8 @@ const TABLE: &str = "\
 1 lines|&vm slot 0x20 0 1 0 ro;\n\
 1 lines|&h0 allow 5;\n\
 1 lines|&h0 protect 5;\n\
+1 lines|&h0 move 5;\n\
+2 lines|&h1 move 0xffffffffffffffff;h0 move 0;\n\
 1 lines|&h0 evict 5;\n\
 2 lines|&h1 evict 0xffffffffffffffff;h0 evict 0;\n\
 1 lines|&h1 allow 0;\n\
@@ -347,7 +353,7 @@ fn answers_the_table(rt: HostRuntime) -> Result<(), Fail> {
             cases = cases.saturating_add(1);
         }
     }
-    assert_eq!(rt; cases, 264);
+    assert_eq!(rt; cases, 270);
     Ok(())
 }
 
@@ -470,7 +476,7 @@ fn reads_a_trace(rt: HostRuntime) -> Result<(), Fail> {
     let alloc = rt.alloc();
     let bytes = behind(
         alloc,
-        "v1 read 0x12018\nv0 write 8 0xff\n\n# c\nv0 add 0 18446744073709551615\nh1 allow 0x2a\nh0 evict 7\n",
+        "v1 read 0x12018\nv0 write 8 0xff\n\n# c\nv0 add 0 18446744073709551615\nh1 allow 0x2a\nh0 evict 7\nh1 move 9\n",
     )?;
     let mut source = MemSource::new(bytes, Vec::new(alloc));
     let Read::Trace(trace) = read_trace(alloc, &mut source)? else {
@@ -522,6 +528,7 @@ fn reads_a_trace(rt: HostRuntime) -> Result<(), Fail> {
         },
         host_line(8, 1, 42, HostChange::Allow),
         host_line(9, 0, 7, HostChange::Evict),
+        host_line(10, 1, 9, HostChange::Move),
     ];
     assert_eq!(rt; trace.lines.as_slice(), lines.as_slice());
     let mut failing = MemSource::new(behind(alloc, "")?, vec![in alloc; 0]?);

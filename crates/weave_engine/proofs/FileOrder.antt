@@ -1,5 +1,4 @@
 -- Lines in file order: what has run of each actor's lines, and what is next.
-use Rattle.core_views.specs.declared.trace.HostChange.TheVariants.{Allow, Evict, Protect}
 use Rattle.std.proofs.Common.{◌≡◌, ◌≢◌, ◌<◌, ◌+◌, ◌-◌, ℕ, suc, List, [], ◌∷◌, ◌++◌, length, take, drop, get_or, refl, sym, ap, subst, ◌∙◌, arith}
 use Rattle.std.proofs.Common.{length-append, add-one}
 use Rattle.std.proofs.Math.Seq.{drop-cons, get_or-append_seam, take-suc}
@@ -68,9 +67,7 @@ next_is actor lines i d lt is =
 pub maker_there : (z : Sizes) (actor : Actor) (command : Command) → IsCommandFor z actor command → index_of z actor < actors_of z
 maker_there z (Vcpu n) (Access gfn word op) may = let lt = may.0 in omega (arith, lt)
 maker_there z Manager command may = omega arith
-maker_there z (Host n) (ChangeHost page Evict) may = omega (arith, may)
-maker_there z (Host n) (ChangeHost page Allow) may = omega (arith, may)
-maker_there z (Host n) (ChangeHost page Protect) may = omega (arith, may)
+maker_there z (Host n) (ChangeHost page change) may = omega (arith, may)
 maker_there z _ _ may = absurd may
 
 vcpu_at : (z : Sizes) (n : ℕ) → n < z.vcpus → actor_at z n ≡ Vcpu n
@@ -93,9 +90,7 @@ host_at z n lt =
 pub maker_is : (z : Sizes) (actor : Actor) (command : Command) → IsCommandFor z actor command → actor_at z (index_of z actor) ≡ actor
 maker_is z (Vcpu n) (Access gfn word op) may = vcpu_at z n may.0
 maker_is z Manager command may = manager_at z
-maker_is z (Host n) (ChangeHost page Evict) may = host_at z n may
-maker_is z (Host n) (ChangeHost page Allow) may = host_at z n may
-maker_is z (Host n) (ChangeHost page Protect) may = host_at z n may
+maker_is z (Host n) (ChangeHost page change) may = host_at z n may
 maker_is z _ _ may = absurd may
 
 -- The actor at another place is another one.

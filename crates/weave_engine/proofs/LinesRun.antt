@@ -172,7 +172,12 @@ hands_more z lines i w t answer lt may ran behind b below = by (same_or b a)
 pub rest_at_start : (z : Sizes) (lines : List Line) (w : World Held) → IsStart z lines w → AllRest w
 rest_at_start z lines w start =
     λ i lt. subst (λ (h : Held). HoldsNothing h.topics) (sym (hand_is z lines w i start (subst (λ n. i < n) (start_good z lines w start).hands lt)))
-    (record { rests = record { outside = refl; loose = refl; owns_none = refl; no_table = refl; no_set = refl }; leaves_none = refl; opens_none = refl })
+    (record {
+      rests = record { outside = refl; loose = refl; owns_none = refl; no_table = refl; no_set = refl };
+      leaves_none = refl;
+      opens_none = refl;
+      owns_no_frame = refl;
+    })
 
 -- Between lines: the first lines of a trace have run, and print this; the hands are behind them, and all actors rest.
 pub record IsBetween (z : Sizes) (lines : List Line) (i : ℕ) (start w : World Held) (printed : List ℕ) : Type 0 where

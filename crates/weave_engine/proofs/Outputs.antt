@@ -1,5 +1,5 @@
 -- What the replay of a trace prints, from the lines that ran: lawful, whole, and flat where the pool is large enough.
-use Rattle.std.proofs.Common.{◌≡◌, ◌≢◌, ◌<◌, ◌≤◌, arith, inl, ℕ, All, List, [], ◌∷◌, ◌++◌, Result, Ok, Err, length, take, refl, sym, ap, subst, ◌∙◌}
+use Rattle.std.proofs.Common.{◌≡◌, ◌≢◌, ◌<◌, ◌≤◌, arith, inl, ℕ, List, [], ◌∷◌, ◌++◌, Result, Ok, Err, length, take, refl, sym, ap, subst, ◌∙◌, append_assoc}
 use Rattle.std.proofs.Math.Seq.{take-length}
 use Rattle.std.specs.declared.option.Option.{Option}
 use Rattle.std.specs.Prelude.{Some, None}
@@ -10,20 +10,21 @@ use Rattle.core_views.specs.declared.kind.Kind.{Kind}
 use Rattle.core_views.specs.declared.sizes.Sizes.{Sizes}
 use Rattle.core_views.specs.declared.trace.Line.{Line}
 use Rattle.core_views.specs.declared.trace.Trace.{Trace}
-use Rattle.core_views.specs.Alone.{NoneStarved}
-use Rattle.core_views.proofs.FallsAsFlat.{trace_falls}
-use Rattle.std.proofs.lemmas.List.Elements.{All-take}
+use Rattle.core_views.specs.Alone.{NoneStarved, TakeLowest}
+use Rattle.core_views.proofs.FallsAsFlat.{all_fall}
+use Rattle.std.proofs.lemmas.List.{append-nil}
 use Rattle.core_views.specs.Flat.{first_flat}
 use Rattle.core_views.specs.Held.{Held}
 use Rattle.core_views.specs.Lawful.{IsLawful}
 use Rattle.core_views.specs.Need.{need}
 use Rattle.core_views.specs.Sizes.{index_of, sizes_of}
 use Rattle.core_views.specs.Text.{text}
-use Rattle.core_views.specs.Traces.{IsCommandFor, IsTrace}
+use Rattle.core_views.specs.Traces.{IsTrace}
 use Rattle.core_views.proofs.AloneIsFlat.{goes_as_flat}
 use Rattle.core_views.proofs.AloneIsWhole.{stands_whole}
 use Rattle.core_views.proofs.HeaderSizes.{header_sizes}
 use Rattle.spte_words.specs.declared.area.Area.TheVariants as area
+use Rattle.mmu_core.specs.declared.claim.FreeMap.TheVariants.{Pages}
 use Rattle.mmu_core.specs.machine.Enabled.{mmu}
 use Rattle.mmu_laws.specs.pool.Enough.{HasFreePage}
 use Rattle.mmu_core.specs.machine.Machine.{Legal, Step, World, hand_in, run}
@@ -67,7 +68,7 @@ module _ (trace : Trace) (start : World Held) (is_start : IsStart (sizes_of trac
       enough_pages trace.header trace.lines start (ss ++ own) is_start all enough
       (λ i lt. subst (λ (w : World Held). (hand_in mmu w i).topics.owned ≡ None) (sym both)
       (ran.rest i (subst (λ (w : World Held). i < length w.hands) both (subst (λ n. i < n) (sym sound.hands) lt))).rests.owns_none) in
-      none_free trace.header.pool (word_in z (run mmu (run mmu start ss) own) area.PoolMap) (ran.no_page_free starved)
+      none_free trace.header.pool (word_in z (run mmu (run mmu start ss) own) area.PoolMap) (ran.none_free Pages starved)
       (subst (λ (w : World Held). HasFreePage trace.header.pool (word_in z w area.PoolMap)) both F)
 
   each_fed : (done : List (Step Kind)) (lines : List Line) (ss : List (Step Kind)) → Legal mmu start done
@@ -83,12 +84,23 @@ module _ (trace : Trace) (start : World Held) (is_start : IsStart (sizes_of trac
       subst (λ (es : List Event). NoneStarved es) (sym (ap (history w) are ∙ history_append w own rest))
       (fed_append (history w own) (history (run mmu w own) rest) (ran.none_starved (not_starved done own line answer legal ran)) later)
 
+-- And their moves take the lowest frame that no page names.
+each_lowest : (z : Sizes) (all : List Line) (start : World Held) → IsStart z all start → (done : List (Step Kind)) (lines : List Line) (ss : List (Step Kind))
+    → Legal mmu start done → TakeLowest z first_flat (history start done) → EachRunsAlone z (run mmu start done) lines ss
+    → TakeLowest z first_flat (history start (done ++ ss))
+each_lowest z all start is_start done [] ss legal takes none =
+    subst (λ (l : List (Step Kind)). TakeLowest z first_flat (history start l)) (sym (ap (λ (l : List (Step Kind)). done ++ l) none ∙ append-nil done)) takes
+each_lowest z all start is_start done (line ∷ lines) ss legal takes (own, rest, answer, are, ran, each) =
+    let both : run mmu start (done ++ own) ≡ run mmu (run mmu start done) own = run-append mmu start done own in
+    subst (λ (l : List (Step Kind)). TakeLowest z first_flat (history start l))
+    (append_assoc done own rest ∙ ap (λ (l : List (Step Kind)). done ++ l) (sym are))
+    (each_lowest z all start is_start (done ++ own) lines rest (legal-append mmu start done own legal ran.runs.legal)
+    (ran.lowest all start done is_start legal refl takes) (subst (λ (x : World Held). EachRunsAlone z x lines rest) (sym both) each))
+
 -- Lines that ran alone from a trace's start are a replay of them.
 pub replays : (trace : Trace) (lines : List Line) (start end_ : World Held) (printed : List ℕ) → IsStart (sizes_of trace.header) trace.lines start
-    → All (λ line. IsCommandFor (sizes_of trace.header) line.actor line.command) lines → (r : RunsLines (sizes_of trace.header) start lines end_)
-    → printed ≡ text (history start r.steps)
-    → Replays trace lines printed end_
-replays trace lines start end_ printed is_start may_have r prints =
+    → (r : RunsLines (sizes_of trace.header) start lines end_) → printed ≡ text (history start r.steps) → Replays trace lines printed end_
+replays trace lines start end_ printed is_start r prints =
     let z : Sizes = sizes_of trace.header in
     let lawful = every_history z trace.lines start r.steps is_start r.legal in
     record {
@@ -105,7 +117,8 @@ replays trace lines start end_ printed is_start may_have r prints =
         → RunsAsFlat (sizes_of trace.header) lines printed (history start r.steps)
     as_flat lawful fed =
         let G = goes_as_flat (sizes_of trace.header) lines (history start r.steps) first_flat (λ i. refl) lawful r.alone
-        (trace_falls (sizes_of trace.header) lines (history start r.steps) may_have lawful r.alone fed) in
+        (all_fall (sizes_of trace.header) first_flat (history start r.steps) fed
+        (each_lowest (sizes_of trace.header) trace.lines start is_start [] lines r.steps tt tt r.each)) in
         record { none_starved = fed; same = G.shown; prints = prints ∙ G.prints }
 
 -- The machine of a trace wasn't made: nothing ran, and nothing was written.
@@ -119,8 +132,7 @@ writes_none trace before good =
         [],
         inl (
           0,
-          replays trace (take 0 trace.lines) made.0 made.0 [] made.1
-              (All-take (λ line. IsCommandFor z line.actor line.command) 0 trace.lines good.lines) none.0 none.1,
+          replays trace (take 0 trace.lines) made.0 made.0 [] made.1 none.0 none.1,
           tt,
         ),
         so_far_most before before [] []
@@ -135,8 +147,7 @@ stopped_replay : (trace : Trace) (count : ℕ) (start end_ : World Held) (stop :
 unfolding replays
 stopped_replay trace count start end_ stop is_start r may = inl (
   count,
-  replays trace (take count trace.lines) start end_ (text (history start r.steps)) is_start
-      (All-take (λ line. IsCommandFor (sizes_of trace.header) line.actor line.command) count trace.lines is_start.allowed) r refl,
+  replays trace (take count trace.lines) start end_ (text (history start r.steps)) is_start r refl,
   may,
 )
 
@@ -174,7 +185,7 @@ writes_all trace z lines count start end_ before here after waited waits piece r
     all : Put trace.lines → (bytes : List ℕ) × Replays trace trace.lines bytes end_ × WroteMost before after r bytes
     all (ran, put) = (
       text (history start ran.steps),
-      replays trace trace.lines start end_ (text (history start ran.steps)) is_start is_start.allowed ran refl,
+      replays trace trace.lines start end_ (text (history start ran.steps)) is_start ran refl,
       ends_most before here after waits (text (history start ran.steps)) r put (subst (Wrote here after r) same wrote),
     )
 

@@ -12,10 +12,12 @@ use Rattle.core_views.specs.declared.place.Place.{Place}
 use Rattle.core_views.specs.declared.place.Place.TheVariants as place
 use Rattle.core_views.specs.declared.sizes.Sizes.{Sizes}
 use Rattle.core_views.specs.declared.trace.Line.{Line}
-use Rattle.core_views.specs.Alone.{NoneStarved}
+use Rattle.core_views.specs.Alone.{NoneStarved, TakeLowest}
+use Rattle.core_views.specs.Flat.{first_flat}
 use Rattle.core_views.specs.Held.{Held}
-use Rattle.spte_words.specs.declared.area.Area.TheVariants as area
-use Rattle.spte_words.specs.Areas.{words_of_bits}
+use Rattle.mmu_core.specs.declared.claim.FreeMap.{FreeMap}
+use Rattle.mmu_core.specs.lines.ClaimSteps.{map_words}
+use Rattle.mmu_core.specs.lines.ScanPlaces.{answer_without}
 use Rattle.mmu_core.specs.declared.outcome.Outcome.{Outcome}
 use Rattle.mmu_core.specs.declared.outcome.Outcome.TheVariants.{Goes, Ends}
 use Rattle.mmu_core.specs.lines.Bounds.{most_steps}
@@ -30,7 +32,9 @@ use Rattle.mmu_core.specs.machine.View.{view, word_in}
 use Rattle.mmu_core.specs.machine.Turns.{GoesOn, IsSameHand, line_of, outcome_of}
 use Rattle.mmu_core.specs.machine.Worlds.{history}
 use Rattle.mmu_core.proofs.invariant.HandLeft.{hand_few, hand_some}
+use Rattle.mmu_core.proofs.machine.Extend.{legal-append, run-append}
 use Rattle.mmu_laws.proofs.alone.AloneRuns.{ToldAlone, steps_alone, told_alone}
+use Rattle.mmu_laws.proofs.alone.LowestFrames.{moves_take_lowest}
 use Rattle.mmu_laws.proofs.flat.LineEvents as events
 use Rattle.mmu_laws.proofs.flat.LineEvents.{IsClosed, IsOpen, SoFar, step_tells}
 use Rattle.mmu_core.proofs.machine.LineRuns.{history_one_more, legal_one_more, own_hand, run_one_more}
@@ -39,7 +43,7 @@ use Rattle.mmu_core.proofs.machine.Which.{has_line_is}
 use Rattle.step_seats.specs.Seats.{Seat, Told}
 use Rattle.step_seats.specs.Moves.{Adds, Tells, step_by}
 use Rattle.step_seats.specs.declared.turn.Turn.{Turn}
-use Rattle.weave_engine.specs.Replays.{EachStepsAlone, RunsAlone}
+use Rattle.weave_engine.specs.Replays.{EachStepsAlone, RunsAlone, TakeLowestFrom}
 use Rattle.weave_engine.specs.Turning.{is_ended}
 use Rattle.weave_engine.specs.Turns.{IsAlone}
 use Rattle.step_seats.specs.LineTurns.{MakesLine, TurnsLine}
@@ -63,6 +67,7 @@ pub record PartRun (line : Line) (actor : ℕ) (start here : Seat) : Type 0 wher
   pub has : hand_in mmu (run mmu before steps) actor ≡ here.hand
   pub so_far : SoFar here.hand.state.place line (history before steps)
   pub fed : NoneStarved (history before steps)
+  pub lowest : TakeLowestFrom start.hand.state.sizes before steps
   pub nearer : EachStepsAlone start.hand.state.sizes before steps
   pub alone : LineAlone start.hand.state.sizes (run mmu before steps) actor
   pub few : length steps + hand_left here.hand ≤ most_steps start.hand.state.sizes line.command
@@ -107,6 +112,8 @@ part_starts line start here hand tells idle first L = record {
   has = L.has ∙ sym hand;
   so_far = rw hand (none_told start.hand.state.place line idle);
   fed = tt;
+  lowest = λ lines w ss is legal ends takes. subst (λ (l : List (Step Kind)). TakeLowest start.hand.state.sizes first_flat (history w l))
+      (sym (append-nil ss)) takes;
   nearer = tt;
   alone = L.alone;
   few = rw hand (all_left line start (next_is start.hand.state.place start.hand line idle first) L);
@@ -205,17 +212,27 @@ module _ (turn : Turn Answer) (line : Line) (start from to : Seat) (left : lengt
       subst (λ (es : List Event). NoneStarved es) (sym history_is)
       (fed_append (history part.before part.steps) (events_of a S.found) part.fed (step_fed a S.found (has_line_is a left) other))
 
+  -- Its moves take the lowest frame, since the line is alone.
+  lowest_on : TakeLowestFrom z part.before steps
+  lowest_on lines w ss is legal ends takes =
+      let same : run mmu w (ss ++ part.steps) ≡ here = run-append mmu w ss part.steps ∙ ap (λ (x : World Held). run mmu x part.steps) ends in
+      subst (λ (l : List (Step Kind)). TakeLowest z first_flat (history w l)) (append_assoc ss part.steps (step ∷ []))
+      (moves_take_lowest z lines w (ss ++ part.steps) step is
+      (legal-append mmu w ss part.steps legal (subst (λ (x : World Held). Legal mmu x part.steps) (sym ends) part.legal))
+      (subst (λ (x : World Held). LineAlone z x actor) (sym same) part.alone) (subst (λ (x : World Held). May mmu x step) (sym same) moved.0)
+      (part.lowest lines w ss is legal ends takes))
+
   nearer_on : EachStepsAlone z part.before steps
   nearer_on = one_nearer z part.before part.steps step part.nearer (steps_alone z here step part.alone moved.0)
 
   pub comes : ToldAlone o z actor a b behind
   comes = (told_alone z here behind actor S.found S.kind a b part.alone part.has hand_is moved.0 moved.1 refl).1
 
-  scans : o ≡ Ends Starved → EndsWithScan z actor (words_of_bits z.pool) part.before steps
-  scans is =
-      starved_lines_scan z part.before part.steps step part.sound legal_on part.idle
-      (subst (λ n. outcome_of (hand_in mmu here actor) n ≡ Ends Starved) (sym moved.1)
-      (subst (λ (h : Held). outcome_of h S.found ≡ Ends Starved) (sym part.has) is))
+  scans : (map : FreeMap) → o ≡ Ends (answer_without map) → EndsWithScan z map actor (map_words map z) part.before steps
+  scans map is =
+      starved_lines_scan z map part.before part.steps step part.sound legal_on part.idle
+      (subst (λ n. outcome_of (hand_in mmu here actor) n ≡ Ends (answer_without map)) (sym moved.1)
+      (subst (λ (h : Held). outcome_of h S.found ≡ Ends (answer_without map)) (sym part.has) is))
 
   -- A turn that says More leaves the line under way, alone and nearer to its end.
   pub goes_by : (q : Place) → o ≡ Goes q → GoesOn (line_of a) a b → IsSameHand a b → PartRun line actor start to × (hand_left b < hand_left a)
@@ -237,6 +254,7 @@ module _ (turn : Turn Answer) (line : Line) (start from to : Seat) (left : lengt
           has = ap (λ (w : World Held). hand_in mmu w actor) further ∙ hand_is;
           so_far = under_told b.state.place line (history part.before steps) says.under_way opened;
           fed = fed_on (λ e. absurd (cc (is, e)));
+          lowest = lowest_on;
           nearer = nearer_on;
           alone = subst (λ (w : World Held). LineAlone z w actor) (sym further) near.0;
           few = let n = length-append part.steps (step ∷ []) in let less = near.1 in let few = part.few in omega (arith, n, less, few);
@@ -260,9 +278,10 @@ module _ (turn : Turn Answer) (line : Line) (start from to : Seat) (left : lengt
           left = ap (λ (h : Held). has_line h) part.has ∙ has_line_is a left;
           ends = ap is_ended (ap (λ (n : ℕ). outcome_of (hand_in mmu here actor) n) moved.1 ∙ ap (λ (h : Held). outcome_of h S.found) part.has ∙ is);
         });
-        no_page_free = subst (λ (w : World Held). StarvedOnlyWithout answer z (word_in z w area.PoolMap)) (sym further) near.2;
+        none_free = subst (λ (w : World Held). StarvedOnlyWithout answer z (word_in z w)) (sym further) near.2;
         none_starved = λ other. fed_on (λ e. other (cc (is, e)));
-        saw_each_word = λ starved. scans (is ∙ ap (λ (x : Answer). Ends x) starved);
+        saw_each_word = λ map without. scans map (is ∙ ap (λ (x : Answer). Ends x) without);
+        lowest = lowest_on;
       }
 
   -- It never waits, and never begins anew.

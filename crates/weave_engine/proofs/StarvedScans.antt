@@ -14,9 +14,9 @@ use Rattle.weave_engine.specs.Weaves.{StarvedLinesScan}
 
 pub starved_scan : (z : Sizes) (lines : List Line) (start : World Held) (steps : List (Step Kind)) → IsStart z lines start → Legal mmu start steps
     → StarvedLinesScan z start steps
-starved_scan z lines start steps is_start legal earlier own later s are idle starved =
+starved_scan z lines start steps is_start legal map earlier own later s are idle starved =
     let front = legal_parts start earlier (own ++ s ∷ later) (subst (Legal mmu start) are legal) in
     let line =
     legal_parts (run mmu start earlier) (own ++ s ∷ []) later
     (subst (Legal mmu (run mmu start earlier)) (sym (append_assoc own (s ∷ []) later)) front.1) in
-    starved_lines_scan z (run mmu start earlier) own s (good_run z start earlier (start_good z lines start is_start) front.0) line.0 idle starved
+    starved_lines_scan z map (run mmu start earlier) own s (good_run z start earlier (start_good z lines start is_start) front.0) line.0 idle starved

@@ -8,7 +8,7 @@ use Rattle.core_views.specs.declared.kind.Kind.{Kind}
 use Rattle.core_views.specs.declared.sizes.Sizes.{Sizes}
 use Rattle.core_views.specs.declared.trace.Line.{Line}
 use Rattle.core_views.specs.declared.trace.Trace.{Trace}
-use Rattle.core_views.specs.Alone.{NoneStarved, StandsAlone, without_looks}
+use Rattle.core_views.specs.Alone.{NoneStarved, StandsAlone, TakeLowest, without_looks}
 use Rattle.core_views.specs.Flat.{first_facts, first_flat}
 use Rattle.core_views.specs.FlatHistory.{one_by_one}
 use Rattle.core_views.specs.Held.{Held}
@@ -17,8 +17,9 @@ use Rattle.core_views.specs.Need.{need}
 use Rattle.core_views.specs.Sizes.{index_of, sizes_of}
 use Rattle.core_views.specs.Text.{text}
 use Rattle.core_views.specs.Whole.{IsWhole}
-use Rattle.spte_words.specs.declared.area.Area.TheVariants as area
-use Rattle.spte_words.specs.Areas.{words_of_bits}
+use Rattle.mmu_core.specs.declared.claim.FreeMap.{FreeMap}
+use Rattle.mmu_core.specs.lines.ClaimSteps.{map_words}
+use Rattle.mmu_core.specs.lines.ScanPlaces.{answer_without}
 use Rattle.mmu_core.specs.lines.Bounds.{most_steps}
 use Rattle.mmu_core.specs.machine.Enabled.{mmu}
 use Rattle.mmu_core.specs.alone.LineAlone.{AllRest, StarvedOnlyWithout, StepsAlone}
@@ -36,10 +37,16 @@ abbrev pub EachStepsAlone : Sizes → World Held → List (Step Kind) → Type 0
 EachStepsAlone z before [] = Unit {0}
 EachStepsAlone z before (s ∷ steps) = StepsAlone z before s × EachStepsAlone z (effect mmu before s) steps
 
+-- The moves among these steps take the lowest frame that no page names, wherever those among the steps before them did, back to a start.
+abbrev pub TakeLowestFrom : Sizes → World Held → List (Step Kind) → Type 0
+TakeLowestFrom z before steps =
+    (lines : List Line) (start : World Held) (ss : List (Step Kind)) → IsStart z lines start → Legal mmu start ss → run mmu start ss ≡ before
+    → TakeLowest z first_flat (history start ss) → TakeLowest z first_flat (history start (ss ++ steps))
+
 -- The steps run the line alone: they are of its actor alone, at most as many as its command allows, none of them waits or leads away from the
 -- line's answer; the last one answers it, and they tell the line from its begin to this answer. After them all actors rest. Where the line is
--- starved no page of the pool is free then, and its claim found each word of the pool's map 0; where it is answered otherwise, no access of it
--- left for want of a page.
+-- starved no page of the pool is free then, and its claim found each word of the pool's map 0, and so it is with frames where it is refused one; where it is
+-- answered otherwise, no access of it left for want of a page. And if it moves a page, it takes the lowest frame that no page names.
 pub record RunsAlone (z : Sizes) (actor : ℕ) (line : Line) (answer : Answer) (steps : List (Step Kind)) (before : World Held) : Type 0 where
   pub own : All (λ s. s.actor ≡ actor) steps
   pub few : length steps ≤ most_steps z line.command
@@ -47,9 +54,10 @@ pub record RunsAlone (z : Sizes) (actor : ℕ) (line : Line) (answer : Answer) (
   pub last : EndsWithAnswer before steps
   pub runs : RunsLine line answer steps before (Some (run mmu before steps))
   pub rest : AllRest (run mmu before steps)
-  pub no_page_free : StarvedOnlyWithout answer z (word_in z (run mmu before steps) area.PoolMap)
-  pub saw_each_word : answer ≡ Starved → EndsWithScan z actor (words_of_bits z.pool) before steps
+  pub none_free : StarvedOnlyWithout answer z (word_in z (run mmu before steps))
+  pub saw_each_word : (map : FreeMap) → answer ≡ answer_without map → EndsWithScan z map actor (map_words map z) before steps
   pub none_starved : answer ≢ Starved → NoneStarved (history before steps)
+  pub lowest : TakeLowestFrom z before steps
 
 -- From this world on the steps run these lines one after another, each alone.
 abbrev pub EachRunsAlone : Sizes → World Held → List Line → List (Step Kind) → Type 0

@@ -2,7 +2,6 @@
 use Rattle.std.specs.Prelude.{◌≡◌, ◌+◌, ◌≤◌, ◌⊎◌, ℕ, List, [], ◌∷◌, ◌++◌, drop, length, take, codes}
 use Rattle.std.specs.Prelude.{Option, Some, None, unwrap_or}
 use Rattle.std.specs.Fmt.{decimal}
-use Rattle.core_views.specs.declared.answer.Answer.TheVariants.{Starved}
 use Rattle.core_views.specs.declared.kind.Kind.{Kind}
 use Rattle.core_views.specs.declared.place.Place.TheVariants.{Between}
 use Rattle.core_views.specs.declared.sizes.Sizes.{Sizes}
@@ -14,7 +13,9 @@ use Rattle.core_views.specs.Lawful.{IsLawful}
 use Rattle.core_views.specs.Sizes.{sizes_of}
 use Rattle.core_views.specs.Text.{actor_name, text}
 use Rattle.core_views.specs.Whole.{IsWhole, IsWholeSoFar}
-use Rattle.spte_words.specs.Areas.{words_of_bits}
+use Rattle.mmu_core.specs.declared.claim.FreeMap.{FreeMap}
+use Rattle.mmu_core.specs.lines.ClaimSteps.{map_words}
+use Rattle.mmu_core.specs.lines.ScanPlaces.{answer_without}
 use Rattle.mmu_core.specs.declared.outcome.Outcome.TheVariants.{Ends}
 use Rattle.mmu_core.specs.machine.Enabled.{mmu}
 use Rattle.mmu_laws.specs.flat.Histories.{answered_in, begun_in}
@@ -70,15 +71,17 @@ pub record FollowsBoth (trace : Trace) (limit : ℕ) (start : World Held) (steps
   pub all_items : RunsItems (sizes_of trace.header) trace.items so_far.behind so_far.scheduled
 
 -- From any moment on at which no line of an actor is under way, so from the one at which its line begins: the step that answers the line
--- starved ends a scan of the whole map by the line's actor since that moment, which found no page free in any of its words.
+-- starved, or refuses it a frame, ends a scan of the whole map by the line's actor since that moment, which found nothing free in any of its words.
 abbrev pub StarvedLinesScan : Sizes → World Held → List (Step Kind) → Type 0
 StarvedLinesScan z start steps =
-    (earlier own later : List (Step Kind)) (s : Step Kind) → steps ≡ earlier ++ (own ++ s ∷ later) → (hand_in mmu (run mmu start earlier) s.actor).state.place
-    ≡ Between → outcome_of (hand_of (run mmu start earlier) own s) (answer_of (run mmu start earlier) own s) ≡ Ends Starved
-    → EndsWithScan z s.actor (words_of_bits z.pool) (run mmu start earlier) (own ++ s ∷ [])
+    (map : FreeMap) (earlier own later : List (Step Kind)) (s : Step Kind) → steps ≡ earlier ++ (own ++ s ∷ later)
+    → (hand_in mmu (run mmu start earlier) s.actor).state.place ≡ Between
+    → outcome_of (hand_of (run mmu start earlier) own s) (answer_of (run mmu start earlier) own s) ≡ Ends (answer_without map)
+    → EndsWithScan z map s.actor (map_words map z) (run mmu start earlier) (own ++ s ∷ [])
 
 -- One list of enabled steps leads from the trace's start to this world, and follows the trace so far. What it tells is lawful, begins and answers
--- the first lines of each actor, as many as its hand has here, and has these bytes as its text. Each starved line has looked through the whole map.
+-- the first lines of each actor, as many as its hand has here, and has these bytes as its text. Each line that is starved, or refused a frame, has looked
+-- through the whole map.
 pub record WeavesSoFar (trace : Trace) (limit : ℕ) (bytes : List ℕ) (closing : World Held) : Type 0 where
   pub start : World Held
   pub is_start : IsStart (sizes_of trace.header) trace.lines start

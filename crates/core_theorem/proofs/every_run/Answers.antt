@@ -11,9 +11,12 @@ use Rattle.mmu_laws.proofs.flat.EveryHistory.{every_flat, every_history}
 use Rattle.mmu_laws.proofs.leaves.LeafLaws.{cached_leaves_agree, leaves_agree, used_leaves_agree}
 use Rattle.mmu_laws.proofs.leaves.OpenFrames.{open_frames_are_flushed, open_frames_are_of_the_page, open_frames_are_recorded, open_frames_are_zapped}
 use Rattle.mmu_laws.proofs.causes.StarvedScan.{legal_parts, starved_lines_scan}
+use Rattle.mmu_core.proofs.pages.FrameUses.{frames_apart}
 use Rattle.mmu_core.proofs.start.Starts.{start_good}
 use Rattle.core_theorem.proofs.Begins.{lines_are_open}
 use Rattle.core_theorem.proofs.DelayCauses.{between_lines_see_nothing, delays_have_causes, starts_saw_nothing, waits_have_causes, waits_see_another}
+use Rattle.core_theorem.proofs.LookUps.{found_slots_are_live, looked_up_pages_stand}
+use Rattle.core_theorem.proofs.Frames.{copied_words_are_the_pages, frames_are_reused_alone, frames_are_used, watched_hold_no_old_frame}
 use Rattle.core_theorem.proofs.Holdings.{held_sets_are_known, none_holds_free_pages, pages_are_reused_alone, watched_hold_no_old_set}
 use Rattle.core_theorem.proofs.LineTurns.{lines_make_few_steps}
 use Rattle.core_theorem.proofs.AllTurns.{all_steps_are_few}
@@ -30,6 +33,18 @@ use Rattle.mmu_core.specs.machine.View.{word_in}
 
 pub returns-clause-pages : goal.returns-clause-pages
 returns-clause-pages c z lines w ss R = pages_are_used z _ (sound z lines w ss R)
+
+pub returns-clause-frames : goal.returns-clause-frames
+returns-clause-frames c z lines w ss R = frames_are_used z _ (sound z lines w ss R)
+
+pub returns-clause-copied : goal.returns-clause-copied
+returns-clause-copied c = copied_words_are_the_pages
+
+pub returns-clause-frame_reuse : goal.returns-clause-frame_reuse
+returns-clause-frame_reuse c = frames_are_reused_alone
+
+pub returns-clause-moved : goal.returns-clause-moved
+returns-clause-moved c = watched_hold_no_old_frame
 
 pub returns-clause-leaves : goal.returns-clause-leaves
 returns-clause-leaves c z lines w ss R gfn entry low leads leaf = leaves_agree z _ gfn entry (sound z lines w ss R) low leads leaf
@@ -58,6 +73,12 @@ pub returns-clause-flushed : goal.returns-clause-flushed
 returns-clause-flushed c z lines w ss R actor v there opened low awaited may =
     open_frames_are_flushed z _ actor v (sound z lines w ss R) there opened low awaited may
 
+pub returns-clause-found : goal.returns-clause-found
+returns-clause-found c = found_slots_are_live
+
+pub returns-clause-looked : goal.returns-clause-looked
+returns-clause-looked c = looked_up_pages_stand
+
 pub returns-clause-lock : goal.returns-clause-lock
 returns-clause-lock c z lines w ss R = (sound z lines w ss R).topics.lock_part
 
@@ -85,14 +106,14 @@ returns-clause-lawful c z lines w ss R = every_history z lines w ss R.start R.le
 pub returns-clause-facts : goal.returns-clause-facts
 returns-clause-facts c z lines w ss R =
     let F = (every_flat z lines w ss R.start R.legal).refines in
-    let H = (sound z lines w ss R).topics.hosts in
+    let T = (sound z lines w ss R).topics in
     let frame : (page : ℕ) → page < z.pages
     → ((after_all (history w ss) first_flat).facts.host page).frame ≡ host_frame (word_in z (run mmu w ss) area.Host page)
     = λ page there. ap (λ (e : HostEntry). e.frame) (F.host page there) in record {
       refines = F;
-      host = λ page there. (H.words page there).0 ∙ ap (λ (e : HostEntry). host_word e.frame e.present e.writable 1) (sym (F.host page there));
-      frames = λ page there. subst (λ n. n < z.frames) (sym (frame page there)) (H.words page there).1;
-      apart = λ page other low too same. H.apart page other low too (sym (frame page low) ∙ (same ∙ frame other too));
+      host = λ page there. (T.hosts page there).0 ∙ ap (λ (e : HostEntry). host_word e.frame e.present e.writable 1) (sym (F.host page there));
+      frames = λ page there. subst (λ n. n < z.frames) (sym (frame page there)) (T.hosts page there).1;
+      apart = λ page other low too same. frames_apart T.frames page other low too (sym (frame page low) ∙ (same ∙ frame other too));
     }
 
 pub returns-clause-rest : goal.returns-clause-rest
@@ -138,6 +159,6 @@ pub returns-clause-delays : goal.returns-clause-delays
 returns-clause-delays c = delays_have_causes
 
 pub returns-clause-starved : goal.returns-clause-starved
-returns-clause-starved c z lines w ss ts s R idle starved =
+returns-clause-starved c z map lines w ss ts s R idle starved =
     let parts = legal_parts w ss (ts ++ s ∷ []) R.legal in
-    starved_lines_scan z _ ts s (sound z lines w ss (record { start = R.start; legal = parts.0 })) parts.1 idle starved
+    starved_lines_scan z map _ ts s (sound z lines w ss (record { start = R.start; legal = parts.0 })) parts.1 idle starved

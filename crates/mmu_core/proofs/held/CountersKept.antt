@@ -19,17 +19,22 @@ use Rattle.spte_words.specs.Entries.{kind_of, level_span}
 use Rattle.spte_words.specs.Flags.{flags_live}
 use Rattle.part_steps.specs.declared.part_step.PartStep.{PartStep}
 use Rattle.part_steps.specs.declared.part_step.PartStep.TheVariants as part
-use Rattle.part_steps.specs.PartBounds.{CountersPart}
-use Rattle.part_steps.specs.PartTasks.{entry_index, leaf_written, link_written, table_page}
+use Rattle.part_steps.specs.PartBounds.{CountersPart, FrameCountersPart}
+use Rattle.part_steps.specs.FrameTopics.{words_moved}
+use Rattle.core_views.specs.declared.topics.Frames.{Frames}
+use Rattle.spte_words.specs.HostWords.{host_frame}
+use Rattle.part_steps.specs.PartTasks.{entry_index, leaf_written, link_written, table_page, word_looked}
 use Rattle.part_steps.specs.PartHoldings.{IsOver}
 use Rattle.mmu_core.specs.invariant.TopicsInvariant.{TopicsInvariant}
-use Rattle.part_steps.specs.StayTopics.{begun, is_loose, kept_search, let_go, may_walk, no_flush}
+use Rattle.part_steps.specs.StayTopics.{begun, is_loose, kept_search, let_go, may_walk}
 use Rattle.part_steps.specs.WalkTopics.{gone_down, linked_page, swapped}
 use Rattle.part_steps.specs.PageTopics.{is_won, searched, searched_at}
 use Rattle.part_steps.specs.ControlTopics.{at_root}
 use Rattle.part_steps.specs.ControlBits.{in_section}
 use Rattle.mmu_core.specs.machine.View.{View, part_stepped, upd}
 use Rattle.core_views.specs.declared.topics.Flush.{Flush}
+use Rattle.mmu_core.proofs.held.FrameCounters.{changed_frames, copied_frames, given_frames, map_frames, stored_frames, tried_frames}
+use Rattle.mmu_core.proofs.held.FrameCounters.{flush_few, one_more, one_more_unless, seq_few, tried_at, tried_seen}
 use Rattle.mmu_core.proofs.held.InvalidationsKept.{count_few, counts_behind}
 use Rattle.mmu_core.proofs.machine.Columns.{at_upd}
 use Rattle.mmu_core.proofs.machine.PartStepping.{IsPart}
@@ -51,22 +56,6 @@ slot_counts : (b : Bool) (s : SlotSearch) (v : ℕ) → s.id ≤ 31 → (if b th
 slot_counts true s v le = searched_id s.next s v le
 slot_counts false s v le = omega (arith, le)
 
-one_more : (b : Bool) (n most : ℕ) → n < most → n + (if b then 1 else 0) ≤ most
-one_more true n most lt = omega (arith, lt)
-one_more false n most lt = omega (arith, lt)
-
-one_more_unless : (b : Bool) (n most : ℕ) → n < most → n + (if b then 0 else 1) ≤ most
-one_more_unless true n most lt = omega (arith, lt)
-one_more_unless false n most lt = omega (arith, lt)
-
-tried_at : (b : Bool) (n most : ℕ) → n ≤ most → (if b then 0 else n) ≤ most
-tried_at true n most le = omega arith
-tried_at false n most le = omega (arith, le)
-
-tried_seen : (b : Bool) (n : ℕ) → n < 2 ^ 64 → (if b then 0 else n) < 2 ^ 64
-tried_seen true n lt = omega arith
-tried_seen false n lt = omega (arith, lt)
-
 pub all_count : (z : Sizes) (v : View) (a : ℕ) (h : Held) → TopicsInvariant z v → CountersPart z h.topics → (i : ℕ) → i < actors_of z
     → CountersPart z (upd v.hand a h i).topics
 all_count z v a h I here = at_upd (λ i (k : Held). i < actors_of z → CountersPart z k.topics) v.hand a h (λ lt. here) (λ i ne. I.counters i)
@@ -84,8 +73,8 @@ Numbers z n = (n.count ≤ actors_of z) × (n.seq < 2 ^ 40) × ((n.start < 2 ^ 6
 
 -- a hand that keeps its counters but the walk's
 walked_counts : (z : Sizes) (t s : Topics) → s.search.id ≡ t.search.id → s.claim ≡ t.claim → s.watched ≡ t.watched → SameNumbers s.invalidations t.invalidations
-    → s.flush ≡ t.flush → RunFits s.walk → CountersPart z t → CountersPart z s
-walked_counts z t s id claim watched numbers flush run C = record {
+    → s.flush ≡ t.flush → s.frames ≡ t.frames → RunFits s.walk → CountersPart z t → CountersPart z s
+walked_counts z t s id claim watched numbers flush frames run C = record {
   slots = omega (arith, id, C.slots);
   claim = subst (λ (c : MapClaim). c.at ≤ words_of_bits z.pool) (sym claim) C.claim;
   seen = subst (λ (c : MapClaim). c.seen < 2 ^ 64) (sym claim) C.seen;
@@ -95,17 +84,18 @@ walked_counts z t s id claim watched numbers flush run C = record {
   seq = omega (arith, numbers.1, C.seq);
   range = (omega (arith, numbers.2, C.range.0), omega (arith, numbers.3, C.range.1));
   asked = subst (λ (f : Flush). f.asked ≤ z.vcpus) (sym flush) C.asked;
+  frames = subst (FrameCountersPart z) (sym frames) C.frames;
 }
 
 -- a hand that keeps its counters
 same_counts : (z : Sizes) (t s : Topics) → s.search.id ≡ t.search.id → s.claim ≡ t.claim → s.watched ≡ t.watched → SameNumbers s.invalidations t.invalidations
-    → s.flush ≡ t.flush → s.walk ≡ t.walk → CountersPart z t → CountersPart z s
-same_counts z t s id claim watched numbers flush walk C = walked_counts z t s id claim watched numbers flush (subst RunFits (sym walk) C.run) C
+    → s.flush ≡ t.flush → s.frames ≡ t.frames → s.walk ≡ t.walk → CountersPart z t → CountersPart z s
+same_counts z t s id claim watched numbers flush frames walk C = walked_counts z t s id claim watched numbers flush frames (subst RunFits (sym walk) C.run) C
 
 -- a hand that keeps its counters but those of the invalidations and of the flush
 numbered_counts : (z : Sizes) (t s : Topics) → s.search.id ≡ t.search.id → s.claim ≡ t.claim → s.watched ≡ t.watched → s.walk ≡ t.walk
-    → Numbers z s.invalidations → s.flush.asked ≤ z.vcpus → CountersPart z t → CountersPart z s
-numbered_counts z t s id claim watched walk numbers asked C = record {
+    → s.frames ≡ t.frames → Numbers z s.invalidations → s.flush.asked ≤ z.vcpus → CountersPart z t → CountersPart z s
+numbered_counts z t s id claim watched walk frames numbers asked C = record {
   slots = omega (arith, id, C.slots);
   claim = subst (λ (c : MapClaim). c.at ≤ words_of_bits z.pool) (sym claim) C.claim;
   seen = subst (λ (c : MapClaim). c.seen < 2 ^ 64) (sym claim) C.seen;
@@ -115,12 +105,13 @@ numbered_counts z t s id claim watched walk numbers asked C = record {
   seq = numbers.1;
   asked = asked;
   range = numbers.2;
+  frames = subst (FrameCountersPart z) (sym frames) C.frames;
 }
 
--- a hand that keeps its counters but those of the slots, of the claim and of the watch
+-- a hand that keeps its counters but those of the slots, of the claims, of the watch and of the frame that is owned
 other_counts : (z : Sizes) (t s : Topics) → s.search.id ≤ 32 → s.claim.at ≤ words_of_bits z.pool → s.claim.seen < 2 ^ 64 → s.watched ≤ actors_of z
-    → s.walk ≡ t.walk → s.invalidations ≡ t.invalidations → s.flush ≡ t.flush → CountersPart z t → CountersPart z s
-other_counts z t s slots claim seen watched walk same flush C = record {
+    → s.walk ≡ t.walk → s.invalidations ≡ t.invalidations → s.flush ≡ t.flush → FrameCountersPart z s.frames → CountersPart z t → CountersPart z s
+other_counts z t s slots claim seen watched walk same flush frames C = record {
   slots = slots;
   claim = claim;
   seen = seen;
@@ -130,6 +121,7 @@ other_counts z t s slots claim seen watched walk same flush C = record {
   seq = subst (λ (n : Invalidations). n.seq < 2 ^ 40) (sym same) C.seq;
   asked = subst (λ (f : Flush). f.asked ≤ z.vcpus) (sym flush) C.asked;
   range = subst (λ (n : Invalidations). (n.start < 2 ^ 64) × (n.end < 2 ^ 64)) (sym same) C.range;
+  frames = frames;
 }
 
 abbrev CountersBehind : Sizes → View → ℕ → ℕ → PartStep → Type 0
@@ -143,7 +135,7 @@ map_counts z v a note word S I =
     let C = I.counters a S.there in
     let lt : word < words_of_bits z.pool = subst (λ n. word < n) (pool_of z v a (part.Map word) S) S.needs.1 in
     all_count z v a _ I (other_counts z (v.hand a).topics _ C.slots (one_more (v.words area.PoolMap word == 0) word (words_of_bits z.pool) lt)
-    (S.small area.PoolMap word) C.watched refl refl refl C)
+    (S.small area.PoolMap word) C.watched refl refl refl C.frames C)
 
 claim_counts : (z : Sizes) (v : View) (a note : ℕ) → CountersBehind z v a note part.Claim
 claim_counts z v a note S I =
@@ -151,14 +143,14 @@ claim_counts z v a note S I =
     let claim : MapClaim = (v.hand a).topics.claim in
     let found : ℕ = v.words area.PoolMap claim.at in
     all_count z v a _ I (other_counts z (v.hand a).topics _ C.slots (tried_at (is_won claim found) claim.at (words_of_bits z.pool) C.claim)
-    (tried_seen (is_won claim found) found (S.small area.PoolMap claim.at)) C.watched refl refl refl C)
+    (tried_seen (is_won claim found) found (S.small area.PoolMap claim.at)) C.watched refl refl refl C.frames C)
 
 watch_counts : (z : Sizes) (v : View) (a note index : ℕ) → CountersBehind z v a note (part.Watch index)
 watch_counts z v a note index S I =
     let C = I.counters a S.there in
     let lt : index < actors_of z = subst (λ (y : Sizes). index < actors_of y) S.sizes S.needs.0 in
     all_count z v a _ I (other_counts z (v.hand a).topics _ C.slots C.claim C.seen
-    (one_more_unless (in_section (v.words area.State index)) index (actors_of z) lt) refl refl refl C)
+    (one_more_unless (in_section (v.words area.State index)) index (actors_of z) lt) refl refl refl C.frames C)
 
 pub snapshot_id : (b : Bool) (s : SlotSearch) → (if b then kept_search false s else s).id ≡ s.id
 snapshot_id true s = refl
@@ -185,105 +177,120 @@ exchanged_run : (gfn v new_ : ℕ) (walk : TableWalk) (won : Bool) → IsOver gf
 exchanged_run gfn v new_ walk true over = gone_run gfn new_ walk (linked_page (kind_of walk.level new_)) over
 exchanged_run gfn v new_ walk false over = gone_run gfn v walk None over
 
--- A sequence number is the word's, or the one that was loaded before.
-seq_few : (b : Bool) (v n : ℕ) → v < 2 ^ 40 → n < 2 ^ 40 → (if b then v else n) < 2 ^ 40
-seq_few true v n few was = few
-seq_few false v n few was = was
-
-flush_few : (b : Bool) (f : Flush) (n : ℕ) → f.asked ≤ n → (if b then no_flush else f).asked ≤ n
-flush_few true f n few = omega arith
-flush_few false f n few = few
-
 -- who goes in or out of the guest or a section has come to no table
 begun_counts : (z : Sizes) (stay : Stay) (t : Topics) → CountersPart z t → CountersPart z (begun stay t)
-begun_counts z stay t C = walked_counts z t _ refl refl refl (refl, refl, refl, refl) refl (λ from. absurd (omega (arith, from))) C
+begun_counts z stay t C = walked_counts z t _ refl refl refl (refl, refl, refl, refl) refl refl (λ from. absurd (omega (arith, from))) C
+
+-- who only changes what it holds of frames
+framed_counts : (z : Sizes) (v : View) (a : ℕ) (h : Held) (f : Frames) → TopicsInvariant z v → a < actors_of z
+    → h.topics ≡ record (v.hand a).topics { frames = f } → FrameCountersPart z f → (i : ℕ) → i < actors_of z → CountersPart z (upd v.hand a h i).topics
+framed_counts z v a h f I there is F =
+    let C = I.counters a there in
+    all_count z v a h I (subst (CountersPart z) (sym is)
+    (other_counts z (v.hand a).topics (record (v.hand a).topics { frames = f }) C.slots C.claim C.seen C.watched refl refl refl F C))
 
 counters_behind : (z : Sizes) (v : View) (a note : ℕ) (step : PartStep) → CountersBehind z v a note step
 counters_behind z v a note (part.Map word) = map_counts z v a note word
 counters_behind z v a note part.Claim = claim_counts z v a note
 counters_behind z v a note part.Give = λ S I.
     let C = I.counters a S.there in
-    all_count z v a _ I (other_counts z (v.hand a).topics _ C.slots C.claim (omega arith) C.watched refl refl refl C)
+    all_count z v a _ I (other_counts z (v.hand a).topics _ C.slots C.claim (omega arith) C.watched refl refl refl C.frames C)
 counters_behind z v a note part.GiveOld = λ S I.
     let C = I.counters a S.there in
-    all_count z v a _ I (other_counts z (v.hand a).topics _ C.slots C.claim (omega arith) C.watched refl refl refl C)
+    all_count z v a _ I (other_counts z (v.hand a).topics _ C.slots C.claim (omega arith) C.watched refl refl refl C.frames C)
 counters_behind z v a note (part.Watch index) = watch_counts z v a note index
 counters_behind z v a note part.Slots = λ S I.
     let C = I.counters a S.there in
-    all_count z v a _ I (other_counts z (v.hand a).topics _ (omega arith) C.claim C.seen C.watched refl refl refl C)
+    all_count z v a _ I (other_counts z (v.hand a).topics _ (omega arith) C.claim C.seen C.watched refl refl refl C.frames C)
 counters_behind z v a note part.Slot = λ S I.
     let C = I.counters a S.there in
     all_count z v a _ I (other_counts z (v.hand a).topics _ (slot_counts (is_some (v.hand a).topics.search.set)
-    (v.hand a).topics.search _ S.needs.1) C.claim C.seen C.watched refl refl refl C)
+    (v.hand a).topics.search _ S.needs.1) C.claim C.seen C.watched refl refl refl C.frames C)
 counters_behind z v a note part.Enter = λ S I. all_count z v a _ I (begun_counts z Guest (v.hand a).topics (I.counters a S.there))
 counters_behind z v a note part.Leave = λ S I. all_count z v a _ I (begun_counts z Outside (v.hand a).topics (I.counters a S.there))
 counters_behind z v a note part.Begin = λ S I. all_count z v a _ I (begun_counts z Section (v.hand a).topics (I.counters a S.there))
 counters_behind z v a note part.End = λ S I. all_count z v a _ I (begun_counts z Outside (v.hand a).topics (I.counters a S.there))
 counters_behind z v a note part.Unshare = λ S I.
-    all_count z v a _ I (walked_counts z (v.hand a).topics _ refl refl refl (refl, refl, refl, refl) refl
+    all_count z v a _ I (walked_counts z (v.hand a).topics _ refl refl refl (refl, refl, refl, refl) refl refl
     (let_go_run (v.hand a).topics.stay (v.hand a).topics (I.counters a S.there).run) (I.counters a S.there))
 counters_behind z v a note part.Release = λ S I.
-    all_count z v a _ I (walked_counts z (v.hand a).topics _ refl refl refl (refl, refl, refl, refl) refl
+    all_count z v a _ I (walked_counts z (v.hand a).topics _ refl refl refl (refl, refl, refl, refl) refl refl
     (let_go_run (v.hand a).topics.stay (v.hand a).topics (I.counters a S.there).run) (I.counters a S.there))
 counters_behind z v a note part.Seq = λ S I.
     let t : Topics = (v.hand a).topics in
     let C = I.counters a S.there in
-    all_count z v a _ I (numbered_counts z t _ (snapshot_id (is_loose t.hold) t.search) refl refl refl
+    all_count z v a _ I (numbered_counts z t _ (snapshot_id (is_loose t.hold) t.search) refl refl refl refl
     (C.counted, seq_few (not (is_loose t.hold)) (v.words area.Seq 0) t.invalidations.seq I.few_ended C.seq, C.range) C.asked C)
 counters_behind z v a note part.Count = λ S I.
     let C = I.counters a S.there in
-    all_count z v a _ I (numbered_counts z (v.hand a).topics _ refl refl refl refl (count_few (actors_of z) _ _ I.counts, C.seq, C.range) C.asked C)
+    all_count z v a _ I (numbered_counts z (v.hand a).topics _ refl refl refl refl refl (count_few (actors_of z) _ _ I.counts, C.seq, C.range) C.asked C)
 counters_behind z v a note part.RangeStart = λ S I.
     let C = I.counters a S.there in
-    all_count z v a _ I (numbered_counts z (v.hand a).topics _ refl refl refl refl (C.counted, C.seq, (S.small area.RangeStart 0, C.range.1)) C.asked C)
+    all_count z v a _ I (numbered_counts z (v.hand a).topics _ refl refl refl refl refl (C.counted, C.seq, (S.small area.RangeStart 0, C.range.1)) C.asked C)
 counters_behind z v a note part.RangeEnd = λ S I.
     let C = I.counters a S.there in
-    all_count z v a _ I (numbered_counts z (v.hand a).topics _ refl refl refl refl (C.counted, C.seq, (C.range.0, S.small area.RangeEnd 0)) C.asked C)
+    all_count z v a _ I (numbered_counts z (v.hand a).topics _ refl refl refl refl refl (C.counted, C.seq, (C.range.0, S.small area.RangeEnd 0)) C.asked C)
 counters_behind z v a note (part.SetStart gfn) = λ S I.
     let C = I.counters a S.there in
-    all_count z v a _ I (numbered_counts z (v.hand a).topics _ refl refl refl refl (C.counted, C.seq, (S.needs.1, C.range.1)) C.asked C)
+    all_count z v a _ I (numbered_counts z (v.hand a).topics _ refl refl refl refl refl (C.counted, C.seq, (S.needs.1, C.range.1)) C.asked C)
 counters_behind z v a note (part.SetEnd gfn) = λ S I.
     let C = I.counters a S.there in
-    all_count z v a _ I (numbered_counts z (v.hand a).topics _ refl refl refl refl (C.counted, C.seq, (C.range.0, S.needs.1)) C.asked C)
+    all_count z v a _ I (numbered_counts z (v.hand a).topics _ refl refl refl refl refl (C.counted, C.seq, (C.range.0, S.needs.1)) C.asked C)
 counters_behind z v a note (part.SetCount count) = λ S I.
     let C = I.counters a S.there in
-    all_count z v a _ I (numbered_counts z (v.hand a).topics _ refl refl refl refl
+    all_count z v a _ I (numbered_counts z (v.hand a).topics _ refl refl refl refl refl
     (count_few (actors_of z) _ _ (counts_behind z v a note (part.SetCount count) S I), C.seq, C.range) C.asked C)
 counters_behind z v a note (part.SetSeq seq) = λ S I.
     let C = I.counters a S.there in
-    all_count z v a _ I (numbered_counts z (v.hand a).topics _ refl refl refl refl (C.counted, S.replaces, C.range) C.asked C)
+    all_count z v a _ I (numbered_counts z (v.hand a).topics _ refl refl refl refl refl (C.counted, S.replaces, C.range) C.asked C)
 counters_behind z v a note part.Exclude = λ S I.
     let C = I.counters a S.there in
-    all_count z v a _ I (numbered_counts z (v.hand a).topics _ refl refl refl refl (C.counted, C.seq, C.range)
+    all_count z v a _ I (numbered_counts z (v.hand a).topics _ refl refl refl refl refl (C.counted, C.seq, C.range)
     (flush_few (v.words area.Lock 0 == 0 && not (v.hand a).topics.invalidations.opened) (v.hand a).topics.flush z.vcpus C.asked) C)
 counters_behind z v a note (part.Ask index) = λ S I.
     let C = I.counters a S.there in
     let lt : index < z.vcpus = subst (λ (y : Sizes). index < y.vcpus) S.sizes S.needs.low in
-    all_count z v a _ I (numbered_counts z (v.hand a).topics _ refl refl refl refl (C.counted, C.seq, C.range) (omega (arith, lt)) C)
+    all_count z v a _ I (numbered_counts z (v.hand a).topics _ refl refl refl refl refl (C.counted, C.seq, C.range) (omega (arith, lt)) C)
 counters_behind z v a note (part.Await index) = λ S I.
-    let C = I.counters a S.there in all_count z v a _ I (numbered_counts z (v.hand a).topics _ refl refl refl refl (C.counted, C.seq, C.range) C.asked C)
+    let C = I.counters a S.there in all_count z v a _ I (numbered_counts z (v.hand a).topics _ refl refl refl refl refl (C.counted, C.seq, C.range) C.asked C)
 counters_behind z v a note (part.Zap gfn) = λ S I.
-    all_count z v a _ I (walked_counts z (v.hand a).topics _ refl refl refl (refl, refl, refl, refl) refl
+    all_count z v a _ I (walked_counts z (v.hand a).topics _ refl refl refl (refl, refl, refl, refl) refl refl
     (gone_run gfn 0 (v.hand a).topics.walk None S.needs.saw.over) (I.counters a S.there))
 counters_behind z v a note part.Publish = λ S I.
     let C = I.counters a S.there in
-    all_count z v a _ I (other_counts z (v.hand a).topics _ C.slots C.claim C.seen (omega arith) refl refl refl C)
+    all_count z v a _ I (other_counts z (v.hand a).topics _ C.slots C.claim C.seen (omega arith) refl refl refl C.frames C)
+counters_behind z v a note (part.Change new_) = λ S I.
+    let C = I.counters a S.there in
+    all_count z v a _ I (other_counts z (v.hand a).topics _ C.slots C.claim C.seen (omega arith) refl refl refl
+    (changed_frames z (v.hand a).topics.frames C.frames _ (host_frame (word_looked (v.hand a).topics.host))) C)
+counters_behind z v a note (part.FrameMap word) = λ S I. framed_counts z v a _ _ I S.there refl
+    (map_frames z (v.hand a).topics.frames (I.counters a S.there).frames word (v.words area.FrameMap word)
+    (subst (λ (y : Sizes). word < words_of_bits y.frames) S.sizes S.needs.1) (S.small area.FrameMap word))
+counters_behind z v a note part.Frame = λ S I. framed_counts z v a _ _ I S.there refl
+    (tried_frames z (v.hand a).topics.frames (I.counters a S.there).frames _ (S.small area.FrameMap (v.hand a).topics.frames.claim.at))
+counters_behind z v a note (part.Copy index) = λ S I. framed_counts z v a _ _ I S.there refl
+    (copied_frames z (v.hand a).topics.frames (I.counters a S.there).frames _ (S.small area.Content index))
+counters_behind z v a note (part.Store index) = λ S I. framed_counts z v a _ _ I S.there refl
+    (stored_frames z (v.hand a).topics.frames (I.counters a S.there).frames
+    (subst (λ (y : Sizes). words_moved (v.hand a).topics.frames.owned < y.words) S.sizes S.needs.left))
+counters_behind z v a note part.GiveFrame = λ S I. framed_counts z v a _ _ I S.there refl
+    (given_frames z (v.hand a).topics.frames (I.counters a S.there).frames)
 counters_behind z v a note part.Root = λ S I.
-    all_count z v a _ I (walked_counts z (v.hand a).topics _ refl refl refl (refl, refl, refl, refl) refl
+    all_count z v a _ I (walked_counts z (v.hand a).topics _ refl refl refl (refl, refl, refl, refl) refl refl
     (root_run (may_walk (v.hand a).topics.stay (v.hand a).topics.hold) (v.hand a).topics.walk (v.words area.Root 0)) (I.counters a S.there))
 counters_behind z v a note (part.Walk gfn) = λ S I.
     let walk : TableWalk = (v.hand a).topics.walk in
     let found : ℕ = v.words area.Pool (pool_index (table_page walk) (entry_index gfn walk.level)) in
-    all_count z v a _ I (walked_counts z (v.hand a).topics _ refl refl refl (refl, refl, refl, refl) refl
+    all_count z v a _ I (walked_counts z (v.hand a).topics _ refl refl refl (refl, refl, refl, refl) refl refl
     (gone_run gfn found walk (linked_page (kind_of walk.level found)) S.needs) (I.counters a S.there))
 counters_behind z v a note (part.Link gfn) = λ S I.
-    all_count z v a _ I (walked_counts z (v.hand a).topics _ refl refl refl (refl, refl, refl, refl) refl
+    all_count z v a _ I (walked_counts z (v.hand a).topics _ refl refl refl (refl, refl, refl, refl) refl refl
     (exchanged_run gfn _ (link_written (v.hand a).topics) (v.hand a).topics.walk _ S.needs.0.saw.over) (I.counters a S.there))
 counters_behind z v a note (part.Leaf gfn) = λ S I.
-    all_count z v a _ I (walked_counts z (v.hand a).topics _ refl refl refl (refl, refl, refl, refl) refl
+    all_count z v a _ I (walked_counts z (v.hand a).topics _ refl refl refl (refl, refl, refl, refl) refl refl
     (exchanged_run gfn _ (leaf_written (v.hand a).topics) (v.hand a).topics.walk _ S.needs.0.saw.over) (I.counters a S.there))
 counters_behind z v a note _ = λ S I.
-    all_count z v a _ I (same_counts z (v.hand a).topics _ refl refl refl (refl, refl, refl, refl) refl refl (I.counters a S.there))
+    all_count z v a _ I (same_counts z (v.hand a).topics _ refl refl refl (refl, refl, refl, refl) refl refl refl (I.counters a S.there))
 
 pub counters_kept : (z : Sizes) (v : View) (a : ℕ) (step : PartStep) (note : ℕ) → IsPart z v a step → TopicsInvariant z v
     → CountersAt z (part_stepped a step note v)

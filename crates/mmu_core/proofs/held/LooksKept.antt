@@ -19,7 +19,7 @@ use Rattle.mmu_core.specs.invariant.TopicsInvariant.{TopicsInvariant}
 use Rattle.mmu_core.specs.machine.View.{View, answer_in, part_stepped}
 use Rattle.mmu_core.proofs.machine.Columns.{at_upd, same_or, upd_other, upd_same}
 use Rattle.mmu_core.proofs.machine.PartStepping.{IsPart}
-use Rattle.mmu_core.proofs.words.HostStays.{IsRevised, brought_word, changed_word, exchanged_word, still_brought}
+use Rattle.mmu_core.proofs.words.HostStays.{IsRevised, brought_word, exchanged_word, put_word, still_brought}
 use Rattle.mmu_core.proofs.words.PartTopics.{behind_step, part_behind}
 
 pub this_look : {page word : ℕ} {look : HostLook} → Some (record { page = page; word = word }) ≡ Some look → look ≡ record { page = page; word = word }
@@ -83,7 +83,7 @@ exchanged_look z v a new_ I lt looked put =
     let t : Topics = (v.hand a).topics in
     let low = page_there z v a I lt looked in
     looks_at z _ (page_looked t.host) _ _ refl low
-    (exchanged_word z.frames (v.words area.Host (page_looked t.host)) (word_looked t.host) new_ (I.hosts.words _ low) put).0 (I.looks a lt).snapshot
+    (exchanged_word z.frames (v.words area.Host (page_looked t.host)) (word_looked t.host) new_ (I.hosts _ low) put) (I.looks a lt).snapshot
 
 own_look : (z : Sizes) (v : View) (a note : ℕ) (step : PartStep) → IsPart z v a step → TopicsInvariant z v
     → IsLook z ((part_behind a step note v).words area.Seq 0) (topics_now v a note step)
@@ -94,10 +94,11 @@ own_look z v a note part.End S I = no_look z _ _ refl refl
 own_look z v a note part.Seq S I = sequenced_look z (v.words area.Seq 0) (is_loose (v.hand a).topics.hold) (v.hand a).topics (was_look z v a I S.there)
 own_look z v a note (part.Host page) S I =
     let low : page < z.pages = subst (λ (y : Sizes). page < y.pages) S.sizes S.needs.0 in
-    looks_at z _ page (v.words area.Host page) _ refl low (I.hosts.words page low) (I.looks a S.there).snapshot
+    looks_at z _ page (v.words area.Host page) _ refl low (I.hosts page low) (I.looks a S.there).snapshot
 own_look z v a note part.Bring S I = exchanged_look z v a _ I S.there S.needs.looked (brought_word z.frames (word_looked (v.hand a).topics.host))
 own_look z v a note (part.Change new_) S I =
-    exchanged_look z v a new_ I S.there S.needs.0.looked (changed_word z.frames (word_looked (v.hand a).topics.host) new_ S.needs.1)
+    let L = exchanged_look z v a new_ I S.there S.needs.0.looked (put_word z v a new_ S I) in
+    record { there = L.there; is_word = L.is_word; snapshot = L.snapshot }
 own_look z v a note (part.SetSeq seq) S I =
     let L = was_look z v a I S.there in
     let is = S.needs.1 in

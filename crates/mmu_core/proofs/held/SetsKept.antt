@@ -197,6 +197,12 @@ publish_sets z v a note S I =
     sets_published (actors_of z) v.hand a _ (v.words area.Slots 0) (page_owned (v.hand a).topics.owned) S.there refl refl refl S.needs.none_leaves
     (λ i k ne lt held. holder_in_section z v a i k S.there lt ne I S.needs.alone held) I.sets
 
+-- Nobody is watched since a change of a host word: so nobody was passed.
+change_sets : (z : Sizes) (v : View) (a note new_ : ℕ) → SetsBehind z v a note (part.Change new_)
+change_sets z v a note new_ S I =
+    sets_stay (actors_of z) v.hand a _ (v.words area.Slots 0) (λ k e. inr (e, refl))
+    (λ i k ne lt H e. (ap (λ j. (v.hand j).topics.leaving) (sym e) ∙ H.leaves, omega arith)) I.sets
+
 give_old_sets : (z : Sizes) (v : View) (a note : ℕ) → SetsBehind z v a note part.GiveOld
 give_old_sets z v a note S I =
     sets_stay (actors_of z) v.hand a _ (v.words area.Slots 0) (λ k e. inr (e, refl)) still I.sets
@@ -233,6 +239,7 @@ sets_behind z v a note part.Give = λ S I. sets_same z v a _ I (λ k e. inr (e, 
 sets_behind z v a note part.GiveOld = give_old_sets z v a note
 sets_behind z v a note (part.Watch index) = watch_sets z v a note index
 sets_behind z v a note part.Publish = publish_sets z v a note
+sets_behind z v a note (part.Change new_) = change_sets z v a note new_
 sets_behind z v a note _ = λ S I. sets_same z v a _ I (λ k e. inr (e, refl)) refl refl
 
 pub sets_kept : (z : Sizes) (v : View) (a : ℕ) (step : PartStep) (note : ℕ) → IsPart z v a step → TopicsInvariant z v

@@ -19,6 +19,7 @@ use Rattle.mmu_core.specs.invariant.TopicsInvariant.{TopicsInvariant}
 use Rattle.mmu_core.specs.machine.View.{View, answer_in, hand_after, part_stepped, stepped, upd, words_after}
 use Rattle.mmu_core.proofs.lines.AccessParts.{AreSmall}
 use Rattle.mmu_core.proofs.pages.FilledKept.{filled_kept}
+use Rattle.mmu_core.proofs.pages.FramesKept.{frames_kept, use_after}
 use Rattle.mmu_core.proofs.held.CountersKept.{counters_kept}
 use Rattle.mmu_core.proofs.held.HeldKept.{held_kept}
 use Rattle.mmu_core.proofs.held.InvalidationsKept.{checks_kept, counts_kept, few_kept}
@@ -54,6 +55,7 @@ pub topics_part_kept : (z : Sizes) (v : View) (a : ℕ) (step : PartStep) (note 
 topics_part_kept z v a step note S I = record {
   up = up_after step a (v.hand a).topics v I.up;
   spot = spot_after step (v.hand a).topics v I.spot;
+  use_of = use_after step a (v.hand a).topics v I.use_of;
   lock_part = lock_kept z v a step note S I;
   saw_writer = saw_kept z v a step note S I;
   states_part = states_kept z v a step note S I;
@@ -67,6 +69,7 @@ topics_part_kept z v a step note S I = record {
   old_sets = old_sets_kept z v a step note S I;
   searches = searches_kept z v a step note S I;
   hosts = hosts_kept z v a step note S I;
+  frames = frames_kept z v a step note S I;
   looks = looks_kept z v a step note S I;
   own_looks = own_looks_kept z v a step note S I;
   counts = counts_kept z v a step note S I;
@@ -91,8 +94,8 @@ topics_behind v a task = record {
 -- A touch stores in content alone, and leaves what actors hold.
 touch_kept : (z : Sizes) (v : View) (a : ℕ) (op : Op) (index : ℕ) → TopicsInvariant z v → TopicsInvariant z (topics_behind v a (touch_of op index))
 unfolding topics_after
-touch_kept z v a Read index P = same_topics z _ _ _ _ _ _ _ _ _ _ _ _ v.hand _ (column (λ (h : Held). h.topics) v.hand a _ refl) P
-touch_kept z v a _ index P = same_topics z _ _ _ _ _ _ _ _ _ _ _ _ v.hand _ (column (λ (h : Held). h.topics) v.hand a _ refl) P
+touch_kept z v a Read index P = same_topics z _ _ _ _ _ _ _ _ _ _ _ _ _ v.hand _ (column (λ (h : Held). h.topics) v.hand a _ refl) P
+touch_kept z v a _ index P = same_topics z _ _ _ _ _ _ _ _ _ _ _ _ _ v.hand _ (column (λ (h : Held). h.topics) v.hand a _ refl) P
 
 kept_by : (z : Sizes) (v : View) (a : ℕ) (task : Task) → StepIn z v a task → TopicsInvariant z v → TopicsInvariant z (topics_behind v a task)
 kept_by z v a _ (Makes step note S) P = topics_part_kept z v a step note S P
@@ -102,7 +105,7 @@ kept_by z v a _ (Touches op index) P = touch_kept z v a op index P
 pub topics_line_kept : (z : Sizes) (v : View) (a : ℕ) (line : Line) (command : Command) (p : Place) → AreSmall v → IsStep z v a line command p
     → Invariant z v → TopicsInvariant z v → TopicsInvariant z (stepped a line command p v)
 topics_line_kept z v a line command p small S I P =
-    same_topics z _ _ _ _ _ _ _ _ _ _ _ _ behind.hand (upd v.hand a after) (λ t i. same i t) (kept_by z v a task (step_in z v a line command p small S I P) P)
+    same_topics z _ _ _ _ _ _ _ _ _ _ _ _ _ behind.hand (upd v.hand a after) (λ t i. same i t) (kept_by z v a task (step_in z v a line command p small S I P) P)
   where
     h : Held
     h = v.hand a

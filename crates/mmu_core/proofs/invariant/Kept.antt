@@ -2,7 +2,7 @@
 use Rattle.mmu_core.proofs.lines.HostMakes.{makes_host}
 use Rattle.mmu_core.specs.lines.HostSteps.{host_part}
 use Rattle.mmu_core.proofs.lines.HostKept.{own_host, host_kept}
-use Rattle.mmu_core.proofs.lines.HostKnown.{host_needs}
+use Rattle.mmu_core.proofs.lines.HostNeeds.{host_needs}
 use Rattle.std.proofs.Common.{◌≡◌, ℕ, refl, subst, sym, ◌<◌}
 use Rattle.std.specs.Prelude.{Some}
 use Rattle.core_views.specs.declared.actor.Actor.TheVariants.{Manager}
@@ -43,7 +43,7 @@ pub needs_at : (z : Sizes) (v : View) (a : ℕ) (line : Line) (command : Command
 needs_at z v a line command place.Between S I P = tt
 needs_at z v a line command (place.Access p) S I P = tt
 needs_at z v a line (ChangeHost page change) (place.Host p) S I P =
-    let K = step_knows z v a line (ChangeHost page change) (place.Host p) S I in host_needs p (v.hand a) page change (part_rests_at z v a I P S.there) K.0 K.1
+    host_needs p (v.hand a) page change (part_rests_at z v a I P S.there) (step_knows z v a line (ChangeHost page change) (place.Host p) S I)
 needs_at z v a line (Access gfn word op) (place.Host p) S I P = absurd S.holds
 needs_at z v a line (SetSlot id slot) (place.Host p) S I P = absurd S.holds
 needs_at z v a line command (place.SlotChange p) S I P = ((step_knows z v a line command (place.SlotChange p) S I).0, change_needs z v a line p command S I P)

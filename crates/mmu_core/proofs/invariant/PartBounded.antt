@@ -21,6 +21,7 @@ use Rattle.part_steps.specs.PartBounds.{PartRests}
 use Rattle.part_steps.specs.PartTasks.{table_page}
 use Rattle.mmu_core.specs.invariant.TopicsInvariant.{TopicsInvariant}
 use Rattle.mmu_core.specs.invariant.TreePart.{IsLiveIn, stands}
+use Rattle.mmu_core.proofs.pages.FrameUses.{owned_frame_there}
 use Rattle.mmu_core.proofs.pages.PoolPages.{left_there, owned_there, slots_there}
 use Rattle.mmu_core.specs.machine.View.{View}
 use Rattle.mmu_core.proofs.held.OldSets.{set_live}
@@ -36,6 +37,7 @@ part_rests_at z v i I P there = record {
   set = λ k is. subst (λ (y : Sizes). k < y.pool) (sym same) (set_there k is);
   page = λ o is. subst (λ (y : Sizes). o.page < y.pool) (sym same) (owned_there P.uses i o there is);
   left = λ k is. subst (λ (y : Sizes). k < y.pool) (sym same) (left_there P.uses i k there is);
+  frame = λ o is. subst (λ (y : Sizes). o.frame < y.frames) (sym same) (owned_frame_there P.frames i o there is);
   filled = λ o is. (P.filled i o there is).most;
   counters = subst (λ y. CountersPart y h.topics) (sym same) (P.counters i there);
   found = λ whole. subst (λ (y : Sizes). h.topics.search.slot.host + h.topics.search.slot.pages ≤ y.pages) (sym same) (found whole).pages;

@@ -1,5 +1,5 @@
 -- The steps of the parts keep what the lines rest on.
-use Rattle.mmu_core.proofs.lines.OpenedStays.{opens_none}
+use Rattle.mmu_core.proofs.lines.OpenedStays.{frame_stays, opens_none}
 use Rattle.circular_buffer.specs.Buffer.{Buffer}
 use Rattle.core_views.specs.declared.cache.Translation.{Translation}
 use Rattle.core_views.specs.declared.place.Place.{Place}
@@ -77,6 +77,7 @@ part_keeps_lines z v a step note S free none I P knows =
     (record {
       leaves = λ may. leaves_none step h.state.sizes (own_index h) h.topics note x never ((I.leaves a S.there).leaves may);
       opens = λ may. opens_none step h note x S.needs (idle_untold step free) ((I.leaves a S.there).opens may);
+      frames = λ may. frame_stays step h note x S.needs (idle_untold step free) ∙ (I.leaves a S.there).frames may;
     }) cached (λ is. recorded h.slots (I.recorded a S.there is)) knows I)
   where
     h : Held

@@ -41,6 +41,7 @@ may_make h step note R none free N = record {
   enabled = enabled_part h step note (record {
     none_left = none;
     sizes = R.sizes;
+    counters = R.counters.frames;
     step = step;
     free = free;
     note = note;

@@ -14,6 +14,7 @@ use Rattle.core_views.specs.declared.place.Place.TheVariants as place
 use Rattle.core_views.specs.declared.sizes.Sizes.{Sizes}
 use Rattle.core_views.specs.declared.topics.HostLook.{HostLook}
 use Rattle.core_views.specs.declared.topics.Invalidations.{Invalidations}
+use Rattle.core_views.specs.declared.topics.MapClaim.{MapClaim}
 use Rattle.core_views.specs.declared.topics.OwnedPage.{OwnedPage}
 use Rattle.core_views.specs.declared.topics.Topics.{Topics}
 use Rattle.core_views.specs.declared.trace.Command.{Command}
@@ -164,8 +165,8 @@ enter_stays gfn t x = record {
   saw = ∥∥₁_elim x (hlevel props) (λ M. M.saw);
 }
 
-word_stays : (word : ℕ) (t : Topics) → ∥ GoesOnToWord word t ∥₁ → GoesOnToWord word t
-word_stays word t x = either_stays (same_or word 0) (λ y. prop_stays (hlevel props) y) x
+word_stays : (word : ℕ) (claim : MapClaim) → ∥ GoesOnToWord word claim ∥₁ → GoesOnToWord word claim
+word_stays word claim x = either_stays (same_or word 0) (λ y. prop_stays (hlevel props) y) x
 
 vcpu_prop : (actor : Actor) → IsProp (IsVcpu actor)
 vcpu_prop (Vcpu n) = hlevel props
@@ -173,7 +174,10 @@ vcpu_prop _ = hlevel props
 
 needs_stay : (step : PartStep) (h : Held) → ∥ PartNeeds step h ∥₁ → PartNeeds step h
 needs_stay part.Enter h x = (∥∥₁_elim x (vcpu_prop h.state.actor) (λ N. N.0), ∥∥₁_elim x (hlevel props) (λ N. N.1))
-needs_stay (part.Map word) h x = (∥∥₁_elim x (hlevel props) (λ N. N.0), ∥∥₁_elim x (hlevel props) (λ N. N.1), word_stays word h.topics (∥∥₁_map x (λ N. N.2)))
+needs_stay (part.Map word) h x =
+    (∥∥₁_elim x (hlevel props) (λ N. N.0), ∥∥₁_elim x (hlevel props) (λ N. N.1), word_stays word h.topics.claim (∥∥₁_map x (λ N. N.2)))
+needs_stay (part.FrameMap word) h x =
+    (∥∥₁_elim x (hlevel props) (λ N. N.0), ∥∥₁_elim x (hlevel props) (λ N. N.1), word_stays word h.topics.frames.claim (∥∥₁_map x (λ N. N.2)))
 needs_stay (part.Link gfn) h x = (
   enter_stays gfn h.topics (∥∥₁_map x (λ N. N.0)),
   ∥∥₁_elim x (hlevel props) (λ N. N.1),

@@ -1,5 +1,5 @@
 -- The steps of an access keep the invariant.
-use Rattle.mmu_core.proofs.lines.OpenedStays.{access_opens_none}
+use Rattle.mmu_core.proofs.lines.OpenedStays.{access_opens_none, access_owns_none}
 use Rattle.std.proofs.Common.{ℕ, refl, arith}
 use Rattle.core_views.specs.declared.place.AccessPlace.{AccessPlace}
 use Rattle.core_views.specs.declared.place.AccessPlace.TheVariants.{Leave, Fault}
@@ -64,6 +64,7 @@ access_kept z v a line p gfn word op S I P K makes knows =
           record {
             leaves = λ may. access_leaves_none h p gfn word op x (L.leaves refl);
             opens = λ may. access_opens_none h p gfn word op x (λ step is. (makes step is).needs) (L.opens refl);
+            frames = λ may. access_owns_none h p gfn word op x (λ step is. (makes step is).needs) (L.frames refl);
           };
       holds = access_holds z _ (v.words area.Slots 0) p h gfn word op x (hand_after line (Access gfn word op) (place.Access p) h x);
       cached = cached_kept z v a line p gfn word op S.there I P K;

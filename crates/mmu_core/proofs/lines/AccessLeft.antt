@@ -1,9 +1,9 @@
 -- An access has no more steps left at any place than where it begins, nor has its fault; and at each place it has one.
 use Rattle.mmu_core.specs.lines.ShareSteps.{share_left}
-use Rattle.mmu_core.specs.lines.ClaimSteps.{claim_left, map_word, tries_page}
+use Rattle.mmu_core.specs.lines.ClaimSteps.{Pages}
 use Rattle.std.proofs.Math.Nat.{mul-le-mul_right}
 use Rattle.std.proofs.Common.{◌+◌, ◌-◌, ◌*◌, ◌<◌, ◌≤◌, ℕ, arith}
-use Rattle.std.specs.Prelude.{Bool, true, false, if◌then◌else◌}
+use Rattle.std.specs.Prelude.{Bool, true, false}
 use Rattle.core_views.specs.declared.place.AccessPlace.{AccessPlace}
 use Rattle.core_views.specs.declared.place.AccessPlace.TheVariants.{Enter, Pause, Root, Walk, Touch, Leave, Fault}
 use Rattle.core_views.specs.declared.place.CheckStage.{CheckStage}
@@ -18,23 +18,16 @@ use Rattle.core_views.specs.declared.topics.Hold.{Hold}
 use Rattle.core_views.specs.declared.topics.Hold.TheVariants.{Loose}
 use Rattle.core_views.specs.declared.topics.SlotSearch.{SlotSearch}
 use Rattle.core_views.specs.declared.topics.Topics.{Topics}
-use Rattle.spte_words.specs.Areas.{words_of_bits}
 use Rattle.mmu_core.specs.lines.Bounds.{access_left, stay_left}
 use Rattle.mmu_core.specs.lines.FaultLeft.{check_left, fault_left, find_left, table_left}
 use Rattle.mmu_core.specs.lines.SearchLeft.{look_left}
+use Rattle.mmu_core.proofs.lines.ClaimMade.{claim_few}
 
 tables_few : (z : Sizes) (level : ℕ) → level ≤ 4 → (level - 1) * table_left z ≤ 3 * table_left z
 tables_few z level most = let few : level - 1 ≤ 3 = omega (arith, most) in mul-le-mul_right (table_left z) few
 
 more_tables_few : (z : Sizes) (level : ℕ) → level ≤ 4 → (level - 1 - 1) * table_left z ≤ 2 * table_left z
 more_tables_few z level most = let few : level - 1 - 1 ≤ 2 = omega (arith, most) in mul-le-mul_right (table_left z) few
-
-pub claim_few : (b : Bool) (z : Sizes) (t : Topics) → claim_left b z t.claim ≤ words_of_bits z.pool + 1
-claim_few b z t = by (tries_page b t.claim)
-  where
-    by : (tries : Bool) → (if tries then 1 else words_of_bits z.pool - map_word b t.claim + 1) ≤ words_of_bits z.pool + 1
-    by true = omega arith
-    by false = omega arith
 
 look_few : (f : SlotField) → look_left f ≤ 4
 look_few field.Flags = omega arith
@@ -59,7 +52,7 @@ fault_few fault.Share z t most = let few = lock_few t.hold in omega (arith, few)
 fault_few (fault.Check at_) z t most = let few = check_few at_ in omega (arith, few)
 fault_few (fault.Walk true) z t most = let few = tables_few z t.walk.level most in omega (arith, few)
 fault_few (fault.Walk false) z t most = omega arith
-fault_few (fault.Claim b) z t most = let tables = more_tables_few z t.walk.level most in let few = claim_few b z t in omega (arith, few, tables)
+fault_few (fault.Claim b) z t most = let tables = more_tables_few z t.walk.level most in let few = claim_few Pages b z t.claim in omega (arith, few, tables)
 fault_few fault.Fill z t most = let tables = more_tables_few z t.walk.level most in omega (arith, tables)
 fault_few fault.Role z t most = let tables = more_tables_few z t.walk.level most in omega (arith, tables)
 fault_few fault.Link z t most = let tables = more_tables_few z t.walk.level most in omega (arith, tables)

@@ -32,7 +32,7 @@ use Rattle.mmu_core.specs.declared.share.ShareNext.TheVariants as shares
 use Rattle.mmu_core.specs.lines.FaultKnows.{FaultKnows}
 use Rattle.mmu_core.specs.lines.FaultLeft.{check_left, entering_left, fault_left, next_left, table_left, walk_left}
 use Rattle.mmu_core.specs.lines.FaultSteps.{after_claim, after_share, allows_access, check_next, entry_word, fault_next, fault_part, find_next}
-use Rattle.mmu_core.specs.lines.FaultSteps.{host_word_at, share_next, share_part, snapshot_taken, walk_next, claim_left, share_left}
+use Rattle.mmu_core.specs.lines.FaultSteps.{Pages, host_word_at, share_next, share_part, snapshot_taken, walk_next, claim_left, share_left}
 use Rattle.mmu_core.specs.lines.PartWaits.{part_waits}
 use Rattle.part_steps.specs.PartBounds.{PartRests}
 use Rattle.part_steps.specs.PartTasks.{entry_index, link_written, page_owned, word_looked, words_filled}
@@ -168,9 +168,9 @@ walk_falls entry_kind.Absent z gfn write t v is from most =
 walk_falls entry_kind.Frozen z gfn write t v is from most = let four = four_left z t.walk.level in omega (arith, four)
 
 -- the claim
-claims_fall : (z : Sizes) (begun : Bool) (t : Topics) (v : ℕ) (step : PartStep) (next : ClaimNext) (u : Topics) → ClaimMade z begun t v step next u
-    → claim_left_after next z u.claim < claim_left begun z t.claim
-    → fault_left (after_claim next) z u < walk_left z (t.walk.level - 1) + 514 + claim_left begun z t.claim
+claims_fall : (z : Sizes) (begun : Bool) (t : Topics) (v : ℕ) (step : PartStep) (next : ClaimNext) (u : Topics) → ClaimMade z Pages begun t v step next u
+    → claim_left_after Pages next z u.claim < claim_left Pages begun z t.claim
+    → fault_left (after_claim next) z u < walk_left z (t.walk.level - 1) + 514 + claim_left Pages begun z t.claim
 claims_fall z begun t v _ _ _ (made.Won tries b some is) less = omega (arith, less)
 claims_fall z begun t v _ _ _ _ less = omega (arith, less)
 
@@ -216,9 +216,9 @@ fault_falls (Walk true) h gfn v write small R K goes =
     let over = K.2 refl in walk_falls (kind_of h.topics.walk.level v) h.state.sizes gfn write h.topics v refl over.there R.level
 fault_falls (Walk false) h gfn v write small R K goes = root_falls (may_walk h.topics.stay h.topics.hold) h.state.sizes
 fault_falls (Claim begun) h gfn v write small R K goes =
-    let M = claim_made h.state.sizes begun h.topics v in
+    let M = claim_made h.state.sizes Pages begun h.topics v in
     claims_fall h.state.sizes begun h.topics v _ _ _ M
-    (claim_falls h.state.sizes begun h.topics v _ _ _ M goes (word_there begun h.state.sizes h.topics.claim R.sizes K.3))
+    (claim_falls h.state.sizes Pages begun h.topics v _ _ _ M goes (word_there Pages begun h.state.sizes h.topics.claim R.sizes K.3))
 fault_falls Fill h gfn v write small R K goes = fill_falls (nat_lt (words_filled h.topics.owned + 1) 512) h.state.sizes h.topics v K.2
 fault_falls Link h gfn v write small R K goes =
     let O = table_owned (h.topics.walk.level - 1) h.topics K.2 in

@@ -28,7 +28,7 @@ use Rattle.part_steps.specs.declared.part_step.PartStep.{PartStep}
 use Rattle.part_steps.specs.declared.part_step.PartStep.TheVariants as part
 use Rattle.mmu_core.specs.lines.FaultKnows.{Entering, FaultKnows, KnowsNext, SawAbsentEntry}
 use Rattle.mmu_core.specs.lines.FaultLaws.{CanAnswer}
-use Rattle.mmu_core.specs.lines.FaultSteps.{allows_access, entry_word, fault_next, fault_part, walk_next, after_claim}
+use Rattle.mmu_core.specs.lines.FaultSteps.{Pages, allows_access, entry_word, fault_next, fault_part, walk_next, after_claim}
 use Rattle.mmu_core.specs.declared.claim.ClaimNext.{ClaimNext}
 use Rattle.part_steps.specs.PartBounds.{PartRests}
 use Rattle.part_steps.specs.PartTasks.{entry_index, leaf_written, link_written, page_owned, part_task, word_looked, words_filled, is_absent}
@@ -142,7 +142,7 @@ walk_known entry_kind.Frozen z gfn write t v is most E none O = (
 
 -- the claim
 claim_known : (z : Sizes) (gfn : ℕ) (write begun : Bool) (t : Topics) (v : ℕ) (step : PartStep) (next : ClaimNext) (u : Topics)
-    → ClaimMade z begun t v step next u → Entering gfn write t → t.owned ≡ None → SawAbsentEntry gfn t
+    → ClaimMade z Pages begun t v step next u → Entering gfn write t → t.owned ≡ None → SawAbsentEntry gfn t
     → (begun ≡ true → t.claim.at < words_of_bits z.pool) → FaultKnows (after_claim next) z gfn write u
 claim_known z gfn write begun t v _ _ _ (made.Won tries b some is) E none S low =
     (same_entering gfn write t _ refl refl refl refl refl E, same_none gfn t _ refl S, (refl, omega arith), refl)
@@ -270,7 +270,7 @@ fault_known (Walk false) h gfn v write small R K A =
     root_known (may_walk h.topics.stay h.topics.hold) h.state.sizes gfn write h.topics v
     (ap (λ (s : Stay). may_walk s h.topics.hold) K.0.sharing.section) small K.0 K.1
 fault_known (Claim begun) h gfn v write small R K A =
-    claim_known h.state.sizes gfn write begun h.topics v _ _ _ (claim_made h.state.sizes begun h.topics v) K.0 K.1 K.2 K.3
+    claim_known h.state.sizes gfn write begun h.topics v _ _ _ (claim_made h.state.sizes Pages begun h.topics v) K.0 K.1 K.2 K.3
 fault_known Fill h gfn v write small R K A = fill_known (nat_lt (words_filled h.topics.owned + 1) 512) h.state.sizes gfn write h.topics v refl A K.0 K.1 K.2 K.3
 fault_known Role h gfn v write small R K A = role_known h.state.sizes gfn write h.topics v A K.0 K.1 K.2 K.3
 fault_known Link h gfn v write small R K A =

@@ -1,6 +1,6 @@
 -- What a fault knows at a place is what the step of this place needs.
-use Rattle.std.proofs.Common.{◌+◌, ◌^◌, ◌<◌, ℕ, refl, ap, arith}
-use Rattle.std.specs.Prelude.{Bool, true, false, ◌&&◌, Option, is_some}
+use Rattle.std.proofs.Common.{◌≡◌, ◌+◌, ◌^◌, ◌<◌, ℕ, refl, ap, arith}
+use Rattle.std.specs.Prelude.{Bool, true, false, ◌&&◌, Option, Some, None, is_some}
 use Rattle.core_views.specs.declared.place.CheckStage.{CheckStage}
 use Rattle.core_views.specs.declared.place.CheckStage.TheVariants as stage
 use Rattle.core_views.specs.declared.place.FaultPlace.{FaultPlace}
@@ -8,13 +8,15 @@ use Rattle.core_views.specs.declared.place.FaultPlace.TheVariants.{Begin, Snapsh
 use Rattle.core_views.specs.declared.place.FaultPlace.TheVariants.{Give, Leaf, Unshare, End}
 use Rattle.core_views.specs.declared.topics.Hold.{Hold}
 use Rattle.core_views.specs.declared.topics.HostLook.{HostLook}
+use Rattle.core_views.specs.declared.topics.OwnedPage.{OwnedPage}
 use Rattle.core_views.specs.declared.topics.Topics.{Topics}
 use Rattle.core_views.specs.Held.{Held}
 use Rattle.mmu_core.specs.lines.FaultKnows.{Entering, FaultKnows}
-use Rattle.mmu_core.specs.lines.FaultSteps.{check_part, fault_part}
+use Rattle.mmu_core.specs.lines.FaultSteps.{Pages, check_part, fault_part}
 use Rattle.part_steps.specs.PartBounds.{PartRests}
 use Rattle.part_steps.specs.PartHoldings.{FoundSlot, MayEnter, SawEntry}
 use Rattle.part_steps.specs.PartSteps.{PartNeeds, counts}
+use Rattle.part_steps.specs.PartTasks.{page_owned, words_filled}
 use Rattle.part_steps.specs.SlotWords.{page_of}
 use Rattle.mmu_core.proofs.lines.ClaimMade.{claim_needs}
 use Rattle.mmu_core.proofs.lines.FaultSame.{over_it}
@@ -42,6 +44,18 @@ may_enter gfn write t E S = record {
   saw = S;
 }
 
+-- A page that is owned is one of the pool; so is one that is filled but for its role.
+pub owned_below : (h : Held) → PartRests h → is_some h.topics.owned ≡ true → page_owned h.topics.owned < h.state.sizes.pool
+owned_below h R owns = by h.topics.owned refl owns
+  where
+    by : (o : Option OwnedPage) → h.topics.owned ≡ o → is_some o ≡ true → page_owned o < h.state.sizes.pool
+    by None is some = absurd (cc some)
+    by (Some o) is some = R.page o is
+
+pub full_owns : (o : Option OwnedPage) → words_filled o ≡ 512 → is_some o ≡ true
+full_owns None full = absurd (omega (arith, full))
+full_owns (Some o) full = refl
+
 pub fault_needs : (p : FaultPlace) (h : Held) (gfn : ℕ) (write : Bool) → gfn < 2 ^ 36 → PartRests h → FaultKnows p h.state.sizes gfn write h.topics
     → PartNeeds (fault_part p gfn h.topics) h
 fault_needs Begin h gfn write small R K = K.outside
@@ -56,9 +70,9 @@ fault_needs Share h gfn write small R K = share_needs h.topics.hold h refl K.1
 fault_needs (Check at) h gfn write small R K = check_needs at h
 fault_needs (Walk true) h gfn write small R K = K.2 refl
 fault_needs (Walk false) h gfn write small R K = tt
-fault_needs (Claim begun) h gfn write small R K = claim_needs begun h R.sizes K.1 K.3
-fault_needs Fill h gfn write small R K = (K.2, omega arith)
-fault_needs Role h gfn write small R K = (K.2, omega (arith, R.level))
+fault_needs (Claim begun) h gfn write small R K = claim_needs Pages begun h R.sizes K.1 K.3
+fault_needs Fill h gfn write small R K = (K.2, omega arith, owned_below h R K.2.0)
+fault_needs Role h gfn write small R K = (K.2, omega (arith, R.level), owned_below h R (full_owns h.topics.owned K.2))
 fault_needs Link h gfn write small R K = (may_enter gfn write h.topics K.0 K.1.saw, K.1.upper, K.1.absent, K.2)
 fault_needs (Give e) h gfn write small R K = K.2
 fault_needs Leaf h gfn write small R K = (may_enter gfn write h.topics K.0 K.2, K.3)

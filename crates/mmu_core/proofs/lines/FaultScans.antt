@@ -20,10 +20,11 @@ use Rattle.mmu_core.specs.declared.share.ShareNext.{ShareNext}
 use Rattle.mmu_core.specs.declared.share.ShareNext.TheVariants as shares
 use Rattle.mmu_core.specs.lines.FaultSteps.{after_share, allows_access, check_next, check_part, fault_next, fault_part, find_next, found_next}
 use Rattle.mmu_core.specs.lines.FaultSteps.{is_last_word, share_next, share_part, snapshot_taken, walk_next}
-use Rattle.mmu_core.specs.lines.ClaimSteps.{claim_part, map_word, tries_page}
+use Rattle.mmu_core.specs.lines.ClaimSteps.{FreeMap, Pages, Frames, claim_part, load_part, map_word, tries_one, try_part}
 use Rattle.mmu_core.specs.lines.ScanPlaces.{BegunNext, HasBegun, IsStarvedEnd}
 use Rattle.mmu_core.specs.lines.FaultKnows.{FaultKnows, IsRetry}
 use Rattle.core_views.specs.declared.place.FaultEnd.{FaultEnd}
+use Rattle.mmu_core.proofs.lines.ClaimMade.{claim_is}
 use Rattle.mmu_core.proofs.lines.EitherPlace.{either_place}
 use Rattle.mmu_core.proofs.lines.FaultSame.{both}
 use Rattle.core_views.specs.declared.topics.Hold.{Hold}
@@ -99,76 +100,112 @@ fault_claims _ z gfn write t v K e = e
 
 -- ---- which steps claim
 
--- The step loads a word of the pool's map, or tries for a page there; and it gives a page back.
-abbrev pub maps : PartStep → Bool
-maps (part.Map word) = true
-maps part.Claim = true
-maps _ = false
+-- The map is that of the pool's pages.
+abbrev pub is_pages : FreeMap → Bool
+is_pages Pages = true
+is_pages Frames = false
 
-abbrev pub gives : PartStep → Bool
-gives part.Give = true
-gives part.GiveOld = true
-gives _ = false
+-- The step loads a word of the map, or tries for a page or a frame there; and it gives one back.
+abbrev pub maps : FreeMap → PartStep → Bool
+maps map (part.Map word) = is_pages map
+maps map part.Claim = is_pages map
+maps map (part.FrameMap word) = not (is_pages map)
+maps map part.Frame = not (is_pages map)
+maps map _ = false
 
--- A claim tries a page only after it has begun, and gives none back.
-pub claim_tries : (begun : Bool) (claim : MapClaim) → claim_part begun claim ≡ part.Claim → begun ≡ true
-claim_tries begun claim is = by (tries_page begun claim) refl is
+abbrev pub gives : FreeMap → PartStep → Bool
+gives map part.Give = is_pages map
+gives map part.GiveOld = is_pages map
+gives map part.GiveFrame = not (is_pages map)
+gives map _ = false
+
+pub try_maps : (map : FreeMap) → maps map (try_part map) ≡ true
+try_maps Pages = refl
+try_maps Frames = refl
+
+-- A claim tries a page or frame only after it has begun, and one of its own map; and it gives none back.
+not_try : (map other : FreeMap) (word : ℕ) → load_part map word ≡ try_part other → ⊥
+not_try Pages Pages word e = cc e
+not_try Pages Frames word e = cc e
+not_try Frames Pages word e = cc e
+not_try Frames Frames word e = cc e
+
+one_try : (map other : FreeMap) → try_part map ≡ try_part other → map ≡ other
+one_try Pages Pages e = refl
+one_try Pages Frames e = absurd (cc e)
+one_try Frames Pages e = absurd (cc e)
+one_try Frames Frames e = refl
+
+pub claim_tries : (map other : FreeMap) (begun : Bool) (claim : MapClaim) → claim_part map begun claim ≡ try_part other → (map ≡ other) × (begun ≡ true)
+claim_tries map other begun claim is = by (tries_one begun claim) refl is
   where
-    by : (tries : Bool) → tries_page begun claim ≡ tries → (if tries then part.Claim else part.Map (map_word begun claim)) ≡ part.Claim → begun ≡ true
-    by true tries e = (both begun (nat_lt 0 claim.seen) tries).0
-    by false not_ e = absurd (cc e)
+    by : (tries : Bool) → tries_one begun claim ≡ tries → (if tries then try_part map else load_part map (map_word begun claim)) ≡ try_part other
+        → (map ≡ other) × (begun ≡ true)
+    by true tries e = (one_try map other e, (both begun (nat_lt 0 claim.seen) tries).0)
+    by false not_ e = absurd (not_try map other (map_word begun claim) e)
 
-pub claim_gives_none : (begun : Bool) (claim : MapClaim) → gives (claim_part begun claim) ≡ false
-claim_gives_none begun claim = by (tries_page begun claim)
-  where
-    by : (tries : Bool) → gives (if tries then part.Claim else part.Map (map_word begun claim)) ≡ false
-    by true = refl
-    by false = refl
+try_gives_none : (map : FreeMap) → gives map (try_part map) ≡ false
+try_gives_none Pages = refl
+try_gives_none Frames = refl
 
--- A step that gives no page back keeps the scan; the load of the map's first word begins one.
-pub data KeepsScan (scan : Type 0) : PartStep → Type 0 where
-  Keeps : (step : PartStep) → scan → gives step ≡ false → KeepsScan scan step
-  Begins : KeepsScan scan (part.Map 0)
+load_gives_none : (map : FreeMap) (word : ℕ) → gives map (load_part map word) ≡ false
+load_gives_none Pages word = refl
+load_gives_none Frames word = refl
+
+pub claim_gives_none : (map : FreeMap) (begun : Bool) (claim : MapClaim) → gives map (claim_part map begun claim) ≡ false
+claim_gives_none map begun claim = claim_is (λ s. gives map s ≡ false) map begun claim (try_gives_none map) (load_gives_none map)
+
+-- A claim of a frame makes no step on the map of the pool's pages, nor does one of a page on that of frames.
+pub page_maps_not : (begun : Bool) (claim : MapClaim) → maps Frames (claim_part Pages begun claim) ≡ false
+page_maps_not begun claim = claim_is (λ s. maps Frames s ≡ false) Pages begun claim refl (λ word. refl)
+
+pub frame_maps_not : (begun : Bool) (claim : MapClaim) → maps Pages (claim_part Frames begun claim) ≡ false
+frame_maps_not begun claim = claim_is (λ s. maps Pages s ≡ false) Frames begun claim refl (λ word. refl)
+
+-- A step that gives none back keeps the scan; the load of the map's first word begins one.
+pub data KeepsScan (map : FreeMap) (scan : Type 0) : PartStep → Type 0 where
+  Keeps : (step : PartStep) → scan → gives map step ≡ false → KeepsScan map scan step
+  Begins : KeepsScan map scan (load_part map 0)
 
 -- A claim goes on with its scan, or begins one.
-pub claim_keeps : (begun : Bool) (claim : MapClaim) (scan : Type 0) → (begun ≡ true → scan) → KeepsScan scan (claim_part begun claim)
-claim_keeps true claim scan S = Keeps (claim_part true claim) (S refl) (claim_gives_none true claim)
-claim_keeps false claim scan S = Begins
+pub claim_keeps : (map : FreeMap) (begun : Bool) (claim : MapClaim) (scan : Type 0) → (begun ≡ true → scan) → KeepsScan map scan (claim_part map begun claim)
+claim_keeps map true claim scan S = Keeps (claim_part map true claim) (S refl) (claim_gives_none map true claim)
+claim_keeps map false claim scan S = Begins
 
-one_maps_not : (b : Bool) (p q : PartStep) → maps p ≡ false → maps q ≡ false → maps (if b then p else q) ≡ false
-one_maps_not true p q one other = one
-one_maps_not false p q one other = other
+one_maps_not : (map : FreeMap) (b : Bool) (p q : PartStep) → maps map p ≡ false → maps map q ≡ false → maps map (if b then p else q) ≡ false
+one_maps_not map true p q one other = one
+one_maps_not map false p q one other = other
 
-share_maps_not : (hold : Hold) → maps (share_part hold) ≡ false
-share_maps_not (Owing word) = refl
-share_maps_not _ = refl
+share_maps_not : (map : FreeMap) (hold : Hold) → maps map (share_part hold) ≡ false
+share_maps_not map (Owing word) = refl
+share_maps_not map _ = refl
 
-check_maps_not : (at : CheckStage) → maps (check_part at) ≡ false
-check_maps_not stage.Count = refl
-check_maps_not _ = refl
+check_maps_not : (map : FreeMap) (at : CheckStage) → maps map (check_part at) ≡ false
+check_maps_not map stage.Count = refl
+check_maps_not map _ = refl
 
 -- Whether the fault stands at its claim.
 abbrev pub is_claim : FaultPlace → Bool
 is_claim (Claim begun) = true
 is_claim _ = false
 
-pub fault_maps_not : (p : FaultPlace) (gfn : ℕ) (t : Topics) → is_claim p ≡ false → maps (fault_part p gfn t) ≡ false
-fault_maps_not (Claim begun) gfn t is = absurd (cc is)
-fault_maps_not (Find begun) gfn t is = one_maps_not begun part.Slot part.Slots refl refl
-fault_maps_not Share gfn t is = share_maps_not t.hold
-fault_maps_not (Check at) gfn t is = check_maps_not at
-fault_maps_not (Walk rooted) gfn t is = one_maps_not rooted (part.Walk gfn) part.Root refl refl
-fault_maps_not _ gfn t is = refl
+pub fault_maps_not : (map : FreeMap) (p : FaultPlace) (gfn : ℕ) (t : Topics) → is_claim p ≡ false → maps map (fault_part p gfn t) ≡ false
+fault_maps_not map (Claim begun) gfn t is = absurd (cc is)
+fault_maps_not map (Find begun) gfn t is = one_maps_not map begun part.Slot part.Slots refl refl
+fault_maps_not map Share gfn t is = share_maps_not map t.hold
+fault_maps_not map (Check at) gfn t is = check_maps_not map at
+fault_maps_not map (Walk rooted) gfn t is = one_maps_not map rooted (part.Walk gfn) part.Root refl refl
+fault_maps_not map _ gfn t is = refl
 
 -- A fault tries a page only with a scan.
 pub fault_tries : (p : FaultPlace) (gfn : ℕ) (t : Topics) → fault_part p gfn t ≡ part.Claim → HasBegun p
-fault_tries (Claim begun) gfn t is = claim_tries begun t.claim is
-fault_tries p gfn t is = let maps_one = ap maps is in absurd (cc (fault_maps_not p gfn t refl, maps_one))
+fault_tries (Claim begun) gfn t is = (claim_tries Pages Pages begun t.claim is).1
+fault_tries p gfn t is = let maps_one = ap (maps Pages) is in absurd (cc (fault_maps_not Pages p gfn t refl, maps_one))
 
 -- A step to a place with a scan keeps the scan, or begins it.
 pub fault_keeps : (p : FaultPlace) (z : Sizes) (gfn : ℕ) (write : Bool) (t : Topics) (v : ℕ) → FaultKnows p z gfn write t
-    → BegunNext (fault_next p z gfn write t v) → KeepsScan (HasBegun p) (fault_part p gfn t)
-fault_keeps (Claim begun) z gfn write t v K e = claim_keeps begun t.claim (begun ≡ true) (λ b. b)
+    → BegunNext (fault_next p z gfn write t v) → KeepsScan Pages (HasBegun p) (fault_part p gfn t)
+fault_keeps (Claim begun) z gfn write t v K e = claim_keeps Pages begun t.claim (begun ≡ true) (λ b. b)
 fault_keeps (Unshare end) z gfn write t v K e = Keeps part.Unshare e refl
 fault_keeps (End end) z gfn write t v K e = Keeps part.End e refl
 fault_keeps p z gfn write t v K e = absurd (fault_claims p z gfn write t v K e)

@@ -1,15 +1,14 @@
 -- What is so of the lines of every form: the one place where it is told by the form. A form of line writes a clause in each of these.
-use Rattle.mmu_core.specs.lines.HostKnows.{HostRests, IsMade}
+use Rattle.mmu_core.specs.lines.HostKnows.{HostRests, is_move}
 use Rattle.core_views.specs.Traces.{IsCommandFor}
 use Rattle.mmu_core.specs.lines.HostSteps.{host_part}
 use Rattle.mmu_core.proofs.lines.HostPlaces.{host_goes, host_few, some_host_left, look_goes, host_knows_prop, host_free, host_fed, host_rests_prop}
 use Rattle.core_views.specs.declared.actor.Actor.{Actor}
-use Rattle.core_views.specs.declared.actor.Actor.TheVariants as actors
 use Rattle.core_views.specs.declared.trace.HostChange.{HostChange}
 use Rattle.core_views.specs.declared.trace.HostChange.TheVariants.{Move, Evict, Protect, Allow}
 use Rattle.std.proofs.Common.{◌≡◌, ◌⊎◌, inl, inr, ◌<◌, ◌≤◌, ℕ, refl, arith, ◌≢◌, Bool, ◌+◌}
 use Rattle.std.proofs.Props.{props}
-use Rattle.std.specs.Prelude.{Some, true, false}
+use Rattle.std.specs.Prelude.{Some, None, true, false}
 use Rattle.core_views.specs.declared.answer.Answer.{Answer}
 use Rattle.core_views.specs.declared.answer.Answer.TheVariants.{Starved}
 use Rattle.core_views.specs.declared.place.AccessPlace.{AccessPlace}
@@ -27,6 +26,7 @@ use Rattle.core_views.specs.declared.trace.Command.{Command}
 use Rattle.core_views.specs.declared.trace.Command.TheVariants.{Access, ChangeHost, SetSlot}
 use Rattle.core_views.specs.declared.trace.Op.{Op}
 use Rattle.core_views.specs.Held.{Held}
+use Rattle.core_views.specs.HostChanges.{moves_page}
 use Rattle.core_views.specs.SlotCommands.{change_refusal, changes_slot}
 use Rattle.core_views.specs.Sizes.{AreSizes}
 use Rattle.core_views.specs.SlotSets.{MemorySlots}
@@ -128,7 +128,7 @@ place_few (place.SlotChange p) (Access gfn word op) y z pool set h t holds S mos
 place_few (place.SlotChange p) command y z pool set h t holds S most =
     let few = slot_change_few p z t in let actors = S.actors in omega (arith, few, actors)
 place_few (place.Host p) (ChangeHost page change) y z pool set h t holds S most =
-    let few = host_few p z t most in let actors = S.actors in omega (arith, few, actors)
+    let few = host_few p z t most in let actors = S.actors in let words = S.words.1 in omega (arith, few, actors, words)
 place_few _ _ y z pool set h t holds S most = absurd holds
 
 -- A slot line makes no more than an access.
@@ -148,7 +148,7 @@ some_left (place.Host p) z t under = some_host_left p z t
 -- Its first step doesn't wait, and is no end of a fault that begins anew.
 pub first_goes : (z : Sizes) (slots : MemorySlots) (command : Command) (h : Held) (v : ℕ) → line_waits (first_place z slots command) command h v ≡ true → ⊥
 first_goes z slots (Access gfn word op) h v is = cc is
-first_goes z slots (ChangeHost page change) h v is = let goes = look_goes page change h v in cc (is, goes)
+first_goes z slots (ChangeHost page change) h v is = let goes = look_goes (moves_page (ChangeHost page change)) page change h v in cc (is, goes)
 first_goes z slots command h v is = begins_at_once (change_refusal z command slots) command h v is
 
 pub first_no_end : (z : Sizes) (slots : MemorySlots) (command : Command) → begins_anew (first_place z slots command) ≡ true → ⊥
@@ -156,22 +156,19 @@ first_no_end z slots (Access gfn word op) is = cc is
 first_no_end z slots (ChangeHost page change) is = cc is
 first_no_end z slots _ is = cc is
 
--- A host thread makes the changes that lines make.
-only_made : (z : Sizes) (actor : Actor) (page : ℕ) (change : HostChange) → IsCommandFor z actor (ChangeHost page change) → IsMade change
-only_made z (actors.Host n) page Allow may = tt
-only_made z (actors.Host n) page Evict may = tt
-only_made z (actors.Host n) page Protect may = tt
-only_made z (actors.Host n) page Move may = absurd may
-only_made z (actors.Vcpu n) page change may = absurd may
-only_made z actors.Manager page change may = absurd may
-only_made z (actors.Worker n) page change may = absurd may
+-- A line that moves its page says so where it begins.
+says_move : (page : ℕ) (change : HostChange) → moves_page (ChangeHost page change) ≡ is_move change
+says_move page Move = refl
+says_move page Evict = refl
+says_move page Protect = refl
+says_move page Allow = refl
 
--- Its actor, which was at rest, knows what its first place asks.
+-- Its actor, which was at rest and owned no frame, knows what its first place asks.
 pub first_known : (z : Sizes) (command : Command) (h : Held) (y : Sizes) (actor : Actor) → IsCommandFor y actor command → IsAtRest h.topics
-    → KnowsPart (first_place z h.slots command) command h
-first_known z (Access gfn word op) h y actor may R = R
-first_known z (ChangeHost page change) h y actor may R = (only_made y actor page change may, R)
-first_known z command h y actor may R = (refl, slot_change_begins_known (change_refusal z command h.slots) h R)
+    → h.topics.frames.owned ≡ None → KnowsPart (first_place z h.slots command) command h
+first_known z (Access gfn word op) h y actor may R none = R
+first_known z (ChangeHost page change) h y actor may R none = (R, says_move page change, none)
+first_known z command h y actor may R none = (refl, slot_change_begins_known z command h R)
 
 -- Alone, it knows what its first place asks of the words.
 pub first_alone : (z : Sizes) (slots : MemorySlots) (command : Command) (words : Area → ℕ → ℕ) (t : Topics)

@@ -1,6 +1,6 @@
 -- The steps of a line that changes a host page keep the invariant.
-use Rattle.core_views.specs.declared.answer.Refusal.TheVariants.{OutOfRange}
-use Rattle.core_views.specs.declared.answer.Answer.TheVariants.{Refused}
+use Rattle.core_views.specs.declared.answer.Refusal.TheVariants.{NoFrame, OutOfRange}
+use Rattle.core_views.specs.declared.answer.Answer.TheVariants.{Done, Refused}
 use Rattle.mmu_core.specs.declared.outcome.Outcome.TheVariants.{Goes, Ends}
 use Rattle.mmu_core.proofs.slots.SlotsStay.{AllKnow}
 use Rattle.mmu_core.proofs.machine.Stepping.{IsStep}
@@ -10,7 +10,7 @@ use Rattle.std.specs.Prelude.{if◌then◌else◌}
 use Rattle.core_views.specs.declared.place.BeginPlace.TheVariants as begins
 use Rattle.core_views.specs.declared.place.EndPlace.TheVariants as ends
 use Rattle.core_views.specs.declared.place.HostPlace.{HostPlace}
-use Rattle.core_views.specs.declared.place.HostPlace.TheVariants.{Look, Begin, Change, End}
+use Rattle.core_views.specs.declared.place.HostPlace.TheVariants.{Look, Claim, Begin, Change, End, Watch}
 use Rattle.core_views.specs.declared.place.Place.TheVariants as place
 use Rattle.core_views.specs.declared.sizes.Sizes.{Sizes}
 use Rattle.core_views.specs.declared.trace.Command.TheVariants.{ChangeHost}
@@ -25,13 +25,17 @@ use Rattle.part_steps.specs.PartBounds.{PartRests}
 use Rattle.part_steps.specs.PartTasks.{own_index, part_task}
 use Rattle.mmu_core.specs.invariant.Invariant.{Invariant, KnowsPart, LeavesPart, Holds}
 use Rattle.mmu_core.specs.invariant.TopicsInvariant.{TopicsInvariant}
-use Rattle.mmu_core.specs.lines.HostSteps.{host_note, host_outcome, host_part}
+use Rattle.mmu_core.specs.lines.HostSteps.{host_note, host_outcome, host_part, moves}
 use Rattle.mmu_core.specs.machine.View.{View, answer_in, stepped}
 use Rattle.mmu_core.proofs.invariant.QuietHand.{one_step, quiet_hand}
 use Rattle.mmu_core.proofs.invariant.QuietKept.{MakesAt}
-use Rattle.mmu_core.proofs.lines.EitherPlace.{either_place}
+use Rattle.mmu_core.proofs.lines.EitherPlace.{each_claim, either_place}
 use Rattle.mmu_core.proofs.lines.FaultKnown.{parts_answer}
-use Rattle.mmu_core.proofs.lines.HostKnown.{host_known, host_leaves, host_needs}
+use Rattle.mmu_core.specs.lines.ClaimSteps.{Frames, claim_next}
+use Rattle.mmu_core.proofs.lines.ClaimMade.{claim_is}
+use Rattle.mmu_core.proofs.lines.HostKnown.{host_known}
+use Rattle.mmu_core.proofs.lines.HostLeaves.{host_leaves}
+use Rattle.mmu_core.proofs.lines.HostNeeds.{host_needs}
 use Rattle.mmu_core.proofs.lines.KnowsKept.{KnowsAfter, step_knows, step_leaves}
 use Rattle.mmu_core.proofs.lines.StepTopics.{knows_by}
 use Rattle.mmu_core.proofs.invariant.PartBounded.{part_rests_at}
@@ -43,13 +47,14 @@ begin_never : (begun : Bool) (p q : PartStep) → is_publish p ≡ false → is_
 begin_never begun p q one other = either_place (λ s. is_publish s ≡ false) begun p q one other
 
 pub host_never : (p : HostPlace) (page : ℕ) (change : HostChange) (h : Held) → is_publish (host_part p page change h) ≡ false
-host_never Look page change h = begin_never (is_own h.state.sizes h.state.actor page) (part.Host page) part.Seq refl refl
+host_never (Claim begun) page change h = claim_is (λ s. is_publish s ≡ false) Frames begun h.topics.frames.claim refl (λ word. refl)
+host_never (Look moving) page change h = begin_never (is_own h.state.sizes h.state.actor page) (part.Host page) part.Seq refl refl
 host_never (Begin (begins.Find begun)) page change h = begin_never begun part.Slot part.Slots refl refl
 host_never (Begin (begins.Walk rooted)) page change h = begin_never rooted (part.Walk _) part.Root refl refl
 host_never (Begin _) page change h = refl
-host_never Change page change h = refl
 host_never (End ends.Exclude) page change h = refl
 host_never (End _) page change h = refl
+host_never _ page change h = refl
 
 -- And but for its change it changes no host word.
 abbrev pub is_change : HostPlace → Bool
@@ -57,7 +62,9 @@ is_change Change = true
 is_change _ = false
 
 pub host_quiet : (p : HostPlace) (page : ℕ) (change : HostChange) (h : Held) → is_change p ≡ false → changes_word (host_part p page change h) ≡ false
-host_quiet Look page change h other =
+host_quiet (Claim begun) page change h other =
+    claim_is (λ s. changes_word s ≡ false) Frames begun h.topics.frames.claim refl (λ word. refl)
+host_quiet (Look moving) page change h other =
     either_place (λ s. changes_word s ≡ false) (is_own h.state.sizes h.state.actor page) (part.Host page) part.Seq refl refl
 host_quiet (Begin (begins.Find begun)) page change h other = either_place (λ s. changes_word s ≡ false) begun part.Slot part.Slots refl refl
 host_quiet (Begin (begins.Walk rooted)) page change h other = either_place (λ s. changes_word s ≡ false) rooted (part.Walk _) part.Root refl refl
@@ -65,14 +72,19 @@ host_quiet (Begin _) page change h other = refl
 host_quiet Change page change h other = absurd (cc other)
 host_quiet (End ends.Exclude) page change h other = refl
 host_quiet (End _) page change h other = refl
+host_quiet _ page change h other = refl
 
 -- It has loaded nothing that its places speak of.
 host_holds : (p : HostPlace) (page : ℕ) (change : HostChange) (h g : Held) (x : ℕ) (z : Sizes) (pool : ℕ → ℕ) (set : ℕ)
     → Holds z pool set (place_after (host_outcome p page h x)) (ChangeHost page change) g
-host_holds Look page change h g x z pool set =
+host_holds (Look moving) page change h g x z pool set =
     either_place (λ o. Holds z pool set (place_after o) (ChangeHost page change) g) (is_own h.state.sizes h.state.actor page)
-    (Goes (place.Host (Begin begins.Exclude))) (Ends (Refused OutOfRange)) tt tt
-host_holds (End ends.Release) page change h g x z pool set = tt
+    (Goes (place.Host (if moving then Claim false else Begin begins.Exclude))) (Ends (Refused OutOfRange)) tt tt
+host_holds (Claim begun) page change h g x z pool set =
+    each_claim (λ o. Holds z pool set (place_after o) (ChangeHost page change) g) (claim_next Frames begun h.state.sizes h.topics.frames.claim x)
+    (place.Host (Claim true)) (place.Host (Begin begins.Exclude)) (Refused NoFrame) tt tt tt
+host_holds (End ends.Release) page change h g x z pool set =
+    either_place (λ o. Holds z pool set (place_after o) (ChangeHost page change) g) (moves h.topics) (Goes (place.Host Watch)) (Ends Done) tt tt
 host_holds (End _) page change h g x z pool set = tt
 host_holds _ page change h g x z pool set = tt
 
@@ -85,12 +97,12 @@ host_kept z v a line p page change S I P makes knows =
     let K = step_knows z v a line (ChangeHost page change) (place.Host p) S I in
     let R = part_rests_at z v a I P S.there in
     let A = parts_answer (host_part p page change h) (own_index h) h.topics (host_note p page h) v.words in
-    quiet_hand z v a line (ChangeHost page change) (place.Host p) S I P makes (host_needs p h page change R K.0 K.1) (record {
+    quiet_hand z v a line (ChangeHost page change) (place.Host p) S I P makes (host_needs p h page change R K) (record {
       never = one_step (λ s. is_publish s ≡ false) (host_part p page change h) (host_never p page change h);
       same = refl;
       caches = refl;
       counts = λ may. absurd (cc may);
-      leaves = host_leaves line h page change h.cached x K.0 p R K.1 (step_leaves z v a line (ChangeHost page change) (place.Host p) S I) A;
+      leaves = host_leaves p page change h x R K (step_leaves z v a line (ChangeHost page change) (place.Host p) S I) A;
       holds = λ cached. host_holds p page change h _ x z _ (v.words area.Slots 0);
     }) knows
 
@@ -101,5 +113,5 @@ pub own_host : (p : HostPlace) (line : Line) (h : Held) (page : ℕ) (change : H
 own_host p line h page change words R K left =
     let v : ℕ = answer_in (part_task (host_part p page change h) (own_index h) h.topics (host_note p page h)) words in
     let A = parts_answer (host_part p page change h) (own_index h) h.topics (host_note p page h) words in
-    knows_by (place.Host p) line (ChangeHost page change) h v (host_needs p h page change R K.0 K.1)
-    (λ cached. host_known line h page change cached v K.0 p R K.1 left.opens A)
+    knows_by (place.Host p) line (ChangeHost page change) h v (host_needs p h page change R K)
+    (λ cached. host_known line h page change cached v p R K left.opens A)

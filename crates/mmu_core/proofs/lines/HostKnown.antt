@@ -1,133 +1,84 @@
--- A line that changes a host page has what each of its steps needs, and knows after it what its next place asks.
-use Rattle.std.proofs.lemmas.Option.{get_or_from_slice_get, slice_get_within}
-use Rattle.core_views.specs.declared.answer.Answer.TheVariants.{Refused}
-use Rattle.core_views.specs.declared.answer.Refusal.TheVariants.{OutOfRange}
-use Rattle.mmu_core.specs.declared.outcome.Outcome.TheVariants.{Goes, Ends}
-use Rattle.mmu_core.specs.declared.invalidate.BeginNext.TheVariants.{Goes}
-use Rattle.std.proofs.Common.{◌≡◌, ◌+◌, ◌<◌, ◌≤◌, ℕ, Bool, true, false, refl, subst, ap, ◌∙◌, arith, Option, is_some, None, sym, eq-eqb}
-use Rattle.std.specs.Prelude.{◌==◌, ◌&&◌, if◌then◌else◌, nat_lt, Some, slice_get, unwrap_or, ◌||◌}
+-- A line that changes a host page knows after each of its steps what its next place asks.
+use Rattle.std.proofs.Common.{◌≡◌, ◌≤◌, ℕ, Bool, true, false, refl, subst, ap, ◌∙◌, sym}
+use Rattle.std.specs.Prelude.{◌+◌, ◌==◌, if◌then◌else◌, nat_lt, Some, None, is_some}
 use Rattle.circular_buffer.specs.Buffer.{Buffer}
-use Rattle.core_views.specs.declared.actor.Actor.{Actor}
-use Rattle.core_views.specs.declared.actor.Actor.TheVariants.{Host}
+use Rattle.core_views.specs.declared.answer.Answer.TheVariants.{Done, Refused}
+use Rattle.core_views.specs.declared.answer.Refusal.TheVariants.{OutOfRange}
 use Rattle.core_views.specs.declared.cache.Translation.{Translation}
 use Rattle.core_views.specs.declared.place.BeginPlace.{BeginPlace}
 use Rattle.core_views.specs.declared.place.BeginPlace.TheVariants as begins
 use Rattle.core_views.specs.declared.place.EndPlace.{EndPlace}
 use Rattle.core_views.specs.declared.place.EndPlace.TheVariants as ends
 use Rattle.core_views.specs.declared.place.HostPlace.{HostPlace}
-use Rattle.core_views.specs.declared.place.HostPlace.TheVariants.{Look, Begin, Change, End}
+use Rattle.core_views.specs.declared.place.HostPlace.TheVariants.{Look, Claim, Begin, Copy, Store, Change, End, Watch, Free}
 use Rattle.core_views.specs.declared.place.Place.TheVariants as place
-use Rattle.core_views.specs.declared.sizes.Sizes.{Sizes}
-use Rattle.core_views.specs.declared.topics.Checked.{Checked}
+use Rattle.core_views.specs.declared.topics.Frames.{Frames as HeldFrames}
 use Rattle.core_views.specs.declared.topics.Topics.{Topics}
 use Rattle.core_views.specs.declared.trace.Command.TheVariants.{ChangeHost}
 use Rattle.core_views.specs.declared.trace.HostChange.{HostChange}
-use Rattle.core_views.specs.declared.trace.HostChange.TheVariants.{Allow, Evict, Move, Protect}
 use Rattle.core_views.specs.declared.trace.Line.{Line}
 use Rattle.core_views.specs.Held.{Held}
 use Rattle.core_views.specs.HostChanges.{is_own}
-use Rattle.core_views.specs.Sizes.{AreSizes, first_page_in}
+use Rattle.core_views.specs.Sizes.{actors_of}
+use Rattle.spte_words.specs.HostWords.{host_frame}
 use Rattle.part_steps.specs.declared.part_step.PartStep.TheVariants as part
+use Rattle.part_steps.specs.FrameTopics.{frame_after, words_moved}
 use Rattle.part_steps.specs.PartBounds.{PartRests}
-use Rattle.part_steps.specs.PartSteps.{PartNeeds}
-use Rattle.part_steps.specs.PartTasks.{page_looked, word_looked}
+use Rattle.part_steps.specs.PartTasks.{own_index, page_looked, word_looked}
 use Rattle.part_steps.specs.PartTopics.{part_topics}
+use Rattle.mmu_core.specs.declared.claim.ClaimNext.{ClaimNext}
+use Rattle.mmu_core.specs.declared.claim.ClaimNext.TheVariants as claims
 use Rattle.mmu_core.specs.declared.invalidate.BeginNext.{BeginNext}
 use Rattle.mmu_core.specs.declared.invalidate.BeginNext.TheVariants as begins_next
 use Rattle.mmu_core.specs.declared.invalidate.EndNext.{EndNext}
 use Rattle.mmu_core.specs.declared.invalidate.EndNext.TheVariants as ends_next
+use Rattle.mmu_core.specs.declared.outcome.Outcome.TheVariants.{Goes, Ends}
+use Rattle.mmu_core.specs.declared.watch.WatchNext.{WatchNext}
+use Rattle.mmu_core.specs.lines.ClaimSteps.{Frames}
 use Rattle.mmu_core.specs.lines.FaultLaws.{CanAnswer}
-use Rattle.mmu_core.specs.lines.Forms.{KnowsPart, LeavesPart, may_open}
-use Rattle.mmu_core.specs.lines.HostKnows.{HostKnows, HostRests, LooksAt, IsMade}
-use Rattle.mmu_core.specs.lines.HostSteps.{after_begin, after_end, host_outcome, host_part, word_put, revised}
-use Rattle.mmu_core.specs.lines.InvalidateKnows.{BeginKnows, EndKnows, IsOpen}
-use Rattle.mmu_core.specs.lines.InvalidateSteps.{begin_next, begin_part, end_next, end_part, is_counted}
-use Rattle.mmu_core.specs.lines.PartWaits.{own_open, was_counted}
-use Rattle.mmu_core.specs.machine.Outcomes.{place_after}
-use Rattle.mmu_core.proofs.lines.EitherPlace.{either_place}
-use Rattle.mmu_core.proofs.lines.FaultSame.{over_it}
+use Rattle.mmu_core.specs.lines.Forms.{KnowsPart, may_open}
+use Rattle.mmu_core.specs.lines.HostKnows.{HasFlushed, HostKnows, LooksAt, OwnsToMove}
+use Rattle.mmu_core.specs.lines.HostSteps.{after_begin, after_end, after_frame_claim, after_frame_watch, host_outcome, host_part, moves, word_put}
+use Rattle.mmu_core.specs.lines.InvalidateKnows.{EndKnows}
+use Rattle.part_steps.specs.StayTopics.{is_loose}
+use Rattle.mmu_core.specs.lines.InvalidateSteps.{begin_next, begin_part, end_next, end_part}
+use Rattle.mmu_core.proofs.lines.ClaimMade.{claim_host, claim_made, claim_opens}
+use Rattle.mmu_core.proofs.lines.ClaimRests.{RestsAfterClaim, claim_rests}
+use Rattle.mmu_core.proofs.lines.EitherPlace.{either_place, one_place}
+use Rattle.mmu_core.proofs.lines.HostMoves.{copied_next, copies_first, copies_none, open_still, owns_none, owns_old, rests_still, stored_last, stored_more}
 use Rattle.mmu_core.proofs.lines.InvalidateKnown.{BeginComes, EndComes, begin_known, ending_known}
-use Rattle.mmu_core.proofs.lines.InvalidateNeeds.{begin_needs, end_needs}
 use Rattle.mmu_core.proofs.lines.KnowsKept.{KnowsBehind}
 use Rattle.mmu_core.proofs.lines.LockHeld.{rests_by_seq}
+use Rattle.mmu_core.proofs.lines.WatchMade.{WatchMade, watch_begins, watch_comes, watch_made}
+use Rattle.mmu_core.proofs.lines.WatchMade as made
 use Rattle.mmu_core.proofs.machine.HandWith.{hand_with}
-use Rattle.core_views.specs.declared.topics.Hold.TheVariants.{Loose}
-use Rattle.part_steps.specs.StayTopics.{is_alone}
-use Rattle.part_steps.specs.InvalidationHoldings.{revises}
-use Rattle.spte_words.specs.HostWords.{with_presence, with_writes}
 
--- ---- what each step needs
+-- What an invalidation's steps leave: what the line has looked up, and the frames.
+pub begin_leaves_host : (p : BeginPlace) (page : ℕ) (t : Topics) (v : ℕ) → (part_topics (begin_part p page t) t v).host ≡ t.host
+begin_leaves_host (begins.Find begun) page t v = either_place (λ s. (part_topics s t v).host ≡ t.host) begun part.Slot part.Slots refl refl
+begin_leaves_host (begins.Walk rooted) page t v = either_place (λ s. (part_topics s t v).host ≡ t.host) rooted (part.Walk _) part.Root refl refl
+begin_leaves_host _ page t v = refl
 
--- A page of a host thread's own is one of the machine's.
-first_low : (z : Sizes) (host : ℕ) → AreSizes z → first_page_in z.first_pages z.pages host ≤ z.pages
-first_low z host S = by (slice_get z.first_pages host) refl
-  where
-    by : (o : Option ℕ) → slice_get z.first_pages host ≡ o → unwrap_or o z.pages ≤ z.pages
-    by None e = omega arith
-    by (Some page) e =
-        subst (λ (x : ℕ). x ≤ z.pages) (get_or_from_slice_get z.first_pages host page 0 e)
-        (S.firsts host 0 (slice_get_within z.first_pages host page e))
+pub begin_leaves_frames : (p : BeginPlace) (page : ℕ) (t : Topics) (v : ℕ) → (part_topics (begin_part p page t) t v).frames ≡ t.frames
+begin_leaves_frames (begins.Find begun) page t v = either_place (λ s. (part_topics s t v).frames ≡ t.frames) begun part.Slot part.Slots refl refl
+begin_leaves_frames (begins.Walk rooted) page t v = either_place (λ s. (part_topics s t v).frames ≡ t.frames) rooted (part.Walk _) part.Root refl refl
+begin_leaves_frames _ page t v = refl
 
-pub own_low : (z : Sizes) (actor : Actor) (page : ℕ) → AreSizes z → is_own z actor page ≡ true → page < z.pages
-own_low z (Host n) page S is =
-    let O = over_it (first_page_in z.first_pages z.pages n) page (first_page_in z.first_pages z.pages (n + 1)) is in
-    let low = first_low z (n + 1) S in
-    omega (arith, O.1, low)
-own_low z _ page S is = absurd (cc is)
+-- Under the lock, or without a step on the sequence number, the look-up stays; and the watch.
+pub end_leaves_frames : (p : EndPlace) (t : Topics) (v : ℕ) → (part_topics (end_part p t) t v).frames ≡ t.frames
+end_leaves_frames ends.Exclude t v = refl
+end_leaves_frames _ t v = refl
 
-look_needs : (b : Bool) (page : ℕ) (h : Held) → (b ≡ true → page < h.state.sizes.pages) → h.topics.hold ≡ Loose
-    → PartNeeds (if b then part.Host page else part.Seq) h
-look_needs true page h low loose = (low refl, ap is_alone loose)
-look_needs false page h low loose = tt
+pub end_leaves_host : (p : EndPlace) (t : Topics) (v : ℕ) → EndKnows p t → (part_topics (end_part p t) t v).host ≡ t.host
+end_leaves_host ends.Exclude t v K = refl
+end_leaves_host ends.Seq t v K = ap (λ (b : Bool). if b then None else t.host) (ap is_loose K.0.alone.alone)
+end_leaves_host _ t v K = refl
 
-ends_rest : (p : EndPlace) (h : Held) → EndKnows p h.topics → HostRests (End p) h
-ends_rest ends.Release h K = ap (λ (c : Checked). was_counted c && nat_lt (own_open h.topics.invalidations) h.topics.invalidations.count) K.1
-ends_rest _ h K = tt
+pub end_leaves_watch : (p : EndPlace) (t : Topics) (v : ℕ) → (part_topics (end_part p t) t v).watched ≡ t.watched
+end_leaves_watch ends.Exclude t v = refl
+end_leaves_watch _ t v = refl
 
--- The word that a change puts allows writes to the page, or forbids them, or takes the page away.
-or_same : {b : Bool} (a : Bool) → b ≡ true → (a || b) ≡ true
-or_same true is = refl
-or_same false is = is
-
-is_itself : (n : ℕ) → (n == n) ≡ true
-is_itself n = eq-eqb n n refl
-
-revises_it : (change : HostChange) (word : ℕ) → IsMade change → revises word (revised change word) ≡ true
-revises_it Allow word made =
-    ap (λ (b : Bool). b || (with_writes true word == with_writes false word) || (with_writes true word == with_presence false word))
-    (is_itself (with_writes true word))
-revises_it Protect word made =
-    ap (λ (b : Bool). b || (with_writes false word == with_presence false word))
-    (or_same (with_writes false word == with_writes true word) (is_itself (with_writes false word)))
-revises_it Evict word made =
-    or_same ((with_presence false word == with_writes true word) || (with_presence false word == with_writes false word)) (is_itself (with_presence false word))
-revises_it Move word made = absurd made
-
-pub host_needs : (p : HostPlace) (h : Held) (page : ℕ) (change : HostChange) → PartRests h → IsMade change → HostKnows p page h
-    → PartNeeds (host_part p page change h) h × HostRests p h
-host_needs Look h page change R made K =
-    (look_needs (is_own h.state.sizes h.state.actor page) page h (λ e. own_low h.state.sizes h.state.actor page R.sizes e) K.loose, tt)
-host_needs (Begin p) h page change R made K = (begin_needs p h page R K.0.at K.1, tt)
-host_needs Change h page change R made K = (
-  (
-    record {
-      looked = K.0.looked;
-      own_ = ap (is_own h.state.sizes h.state.actor) K.0.at ∙ K.0.own_;
-      opened = K.1.opened.opened;
-      unraised = K.1.opened.unraised;
-      invalid = K.1.invalid ∙ sym K.0.at;
-      asked = K.1.asked;
-      awaited = K.1.awaited;
-    },
-    revises_it change (word_looked h.topics.host) made,
-  ),
-  tt,
-)
-host_needs (End p) h page change R made K = (end_needs p h K, ends_rest p h K)
-
--- ---- what is known after each step
-
-module _ (line : Line) (h : Held) (page : ℕ) (change : HostChange) (cached : Buffer Translation) (v : ℕ) (allows : IsMade change) where
+module _ (line : Line) (h : Held) (page : ℕ) (change : HostChange) (cached : Buffer Translation) (v : ℕ) where
   -- the hand after the step of a place, with these topics
   abbrev behind : HostPlace → Topics → Held
   behind p t = hand_with line (ChangeHost page change) (place.Host p) h t cached v
@@ -135,117 +86,157 @@ module _ (line : Line) (h : Held) (page : ℕ) (change : HostChange) (cached : B
   abbrev Knows : HostPlace → Held → Type 0
   Knows p g = KnowsPart (place.Host p) (ChangeHost page change) g
 
-  look_known : (b : Bool) → is_own h.state.sizes h.state.actor page ≡ b → HostKnows Look page h → h.topics.invalidations.opened ≡ false
-      → KnowsBehind (if b then Goes (place.Host (Begin begins.Exclude)) else Ends (Refused OutOfRange)) (ChangeHost page change)
-      (behind Look (part_topics (if b then part.Host page else part.Seq) h.topics v))
-  look_known true is K closed = (
-    allows,
-    (
-      record { own_ = is; looked = refl; at = refl },
-      (record { outside = K.outside; loose = K.loose; owns_none = K.owns_none; no_table = K.no_table; no_set = K.no_set }, closed),
-    ),
+  -- What it has looked up stays.
+  looks_still : (p : HostPlace) (u : Topics) → u.host ≡ h.topics.host → LooksAt page h → LooksAt page (behind p u)
+  looks_still p u same L = record { own_ = L.own_; looked = ap is_some same ∙ L.looked; at = ap page_looked same ∙ L.at }
+
+  -- ---- the look, and the claim
+
+  look_known : (moving own_ : Bool) → is_own h.state.sizes h.state.actor page ≡ own_ → HostKnows (Look moving) page change h
+      → h.topics.invalidations.opened ≡ false
+      → KnowsBehind (if own_ then Goes (place.Host (if moving then Claim false else Begin begins.Exclude)) else Ends (Refused OutOfRange))
+      (ChangeHost page change) (behind (Look moving) (part_topics (if own_ then part.Host page else part.Seq) h.topics v))
+  look_known moving false is K closed = rests_by_seq h.topics v K.0
+  look_known moving true is K closed =
+      let u : Topics = part_topics (part.Host page) h.topics v in
+      let looks : LooksAt page (behind (Look moving) u) = record { own_ = is; looked = refl; at = refl } in
+      one_place (λ q. Knows q (behind (Look moving) u)) moving (Claim false) (Begin begins.Exclude)
+      (λ e. (
+        rests_still h.topics u refl refl refl refl refl K.0,
+        looks,
+        record { moves = sym K.1 ∙ e; owns_none = K.2; within = λ b. absurd (cc b) },
+      ))
+      (λ e. (
+        looks,
+        (rests_still h.topics u refl refl refl refl refl K.0, closed),
+        owns_none change h.topics.frames.owned K.2 (sym K.1 ∙ e),
+      ))
+
+  claim_known : (begun : Bool) (next : ClaimNext) (u : Topics) → u.host ≡ h.topics.host → u.invalidations ≡ h.topics.invalidations
+      → RestsAfterClaim Frames next h.state.sizes u → HostKnows (Claim begun) page change h → h.topics.invalidations.opened ≡ false
+      → KnowsBehind (after_frame_claim next) (ChangeHost page change) (behind (Claim begun) u)
+  claim_known begun claims.Goes u same opens C K closed =
+      (C.0, looks_still (Claim begun) u same K.1, record { moves = K.2.moves; owns_none = C.1; within = λ b. C.2 })
+  claim_known begun claims.Got u same opens C K closed = (
+    looks_still (Claim begun) u same K.1,
+    (C.0, ap (λ n. n.opened) opens ∙ closed),
+    record { owns = C.1.owns ∙ sym K.2.moves; uncopied = C.1.uncopied },
   )
-  look_known false is K closed = rests_by_seq h.topics v K
+  claim_known begun claims.Empty u same opens C K closed = C.0
 
-  begin_comes : (p : BeginPlace) (next : BeginNext) (u : Topics) → u.host ≡ h.topics.host → LooksAt page h → BeginComes next h.state.sizes page u
-      → Knows (after_begin next) (behind (Begin p) u)
-  begin_comes p (begins_next.Goes q) u same L C =
-      (allows, (record { own_ = L.own_; looked = ap is_some same ∙ L.looked; at = ap page_looked same ∙ L.at }, C))
-  begin_comes p begins_next.Begun u same L C = (
-    allows,
-    (
-      record { own_ = L.own_; looked = ap is_some same ∙ L.looked; at = ap page_looked same ∙ L.at },
-      record { opened = C.0; invalid = C.1; asked = C.2; awaited = C.3 },
-    ),
+  -- ---- the invalidation
+
+  begin_comes : (p : BeginPlace) (next : BeginNext) (u : Topics) → u.host ≡ h.topics.host → u.frames ≡ h.topics.frames → LooksAt page h
+      → 1 ≤ h.state.sizes.words → OwnsToMove change h.topics.frames.owned → BeginComes next h.state.sizes page u
+      → Knows (after_begin (moves h.topics) next) (behind (Begin p) u)
+  begin_comes p (begins_next.Goes q) u same frames L some O C =
+      (looks_still (Begin p) u same L, C, subst (λ (f : HeldFrames). OwnsToMove change f.owned) (sym frames) O)
+  begin_comes p begins_next.Begun u same frames L some O C =
+      let flushed : HasFlushed page (behind (Begin p) u) = record { opened = C.0; invalid = C.1; asked = C.2; awaited = C.3 } in
+      let looks = looks_still (Begin p) u same L in
+      let owns : OwnsToMove change u.frames.owned = subst (λ (f : HeldFrames). OwnsToMove change f.owned) (sym frames) O in
+      let same_owned = ap (λ (f : HeldFrames). is_some f.owned) frames in
+      one_place (λ q. Knows q (behind (Begin p) u)) (moves h.topics) Copy Change
+      (λ e. (looks, flushed, copies_first change h.state.sizes.words u.frames.owned some owns (same_owned ∙ e)))
+      (λ e. (looks, flushed, copies_none change h.state.sizes.words u.frames.owned owns (same_owned ∙ e)))
+
+  end_comes : (p : EndPlace) (next : EndNext) (u : Topics) → PartRests h → u.host ≡ h.topics.host → u.frames ≡ h.topics.frames → u.watched ≡ h.topics.watched
+      → HostKnows (End p) page change h → EndComes next u → KnowsBehind (after_end (moves h.topics) next) (ChangeHost page change) (behind (End p) u)
+  end_comes p (ends_next.Goes q) u R same frames watch K C =
+      (looks_still (End p) u same K.0, C, subst (λ (f : HeldFrames). OwnsToMove change f.owned) (sym frames) K.2, watch ∙ K.3)
+  end_comes p ends_next.Ended u R same frames watch K C =
+      one_place (λ o. KnowsBehind o (ChangeHost page change) (behind (End p) u)) (moves h.topics) (Goes (place.Host Watch)) (Ends Done)
+      (λ e. (
+        looks_still (End p) u same K.0,
+        C.0,
+        record { moves = sym K.2.owns ∙ e; owns = ap (λ (f : HeldFrames). is_some f.owned) frames ∙ e; closed = C.1 },
+        watch_begins (behind (End p) u) (watch ∙ K.3) R.sizes,
+      ))
+      (λ e. C.0)
+
+  -- ---- the copy, and the exchange
+
+  flushed_still : (p : HostPlace) (u : Topics) → u.stay ≡ h.topics.stay → u.hold ≡ h.topics.hold → u.owned ≡ h.topics.owned → u.walk ≡ h.topics.walk
+      → u.search ≡ h.topics.search → u.invalidations ≡ h.topics.invalidations → u.flush ≡ h.topics.flush → HasFlushed page h → HasFlushed page (behind p u)
+  flushed_still p u stay hold owned walk search own_ flush F = record {
+    opened = open_still h.topics u stay hold owned walk search own_ F.opened;
+    invalid = ap (λ n. n.own.page) own_ ∙ F.invalid;
+    asked = subst (λ f. h.state.sizes.vcpus ≤ f.asked) (sym flush) F.asked;
+    awaited = subst (λ f. h.state.sizes.vcpus ≤ f.awaited) (sym flush) F.awaited;
+  }
+
+  change_known : (won : Bool) → HostKnows Change page change h
+      → Knows (if won then End ends.Exclude else Change) (behind Change (record h.topics {
+        host = Some (record { page = page_looked h.topics.host; word = if won then word_put change h.topics else v });
+        watched = 0;
+        frames = record h.topics.frames { owned = frame_after won (host_frame (word_looked h.topics.host)) h.topics.frames.owned };
+      }))
+  change_known true K = (
+    record { own_ = K.0.own_; looked = refl; at = K.0.at },
+    open_still h.topics _ refl refl refl refl refl refl K.1.opened,
+    owns_old change h.state.sizes.words h.topics.frames.owned (host_frame (word_looked h.topics.host)) K.2,
+    refl,
+  )
+  change_known false K = (
+    record { own_ = K.0.own_; looked = refl; at = K.0.at },
+    flushed_still Change _ refl refl refl refl refl refl refl K.1,
+    K.2,
   )
 
-  end_comes : (p : EndPlace) (next : EndNext) (u : Topics) → EndComes next u → KnowsBehind (after_end next) (ChangeHost page change) (behind (End p) u)
-  end_comes p (ends_next.Goes q) u C = (allows, C)
-  end_comes p ends_next.Ended u C = C.0
+  -- ---- the watch
 
-  -- The host word that was looked up is no topic of the invalidation's.
-  host_stays : (p : BeginPlace) → (part_topics (begin_part p page h.topics) h.topics v).host ≡ h.topics.host
-  host_stays (begins.Find begun) = either_place (λ s. (part_topics s h.topics v).host ≡ h.topics.host) begun part.Slot part.Slots refl refl
-  host_stays (begins.Walk rooted) = either_place (λ s. (part_topics s h.topics v).host ≡ h.topics.host) rooted (part.Walk _) part.Root refl refl
-  host_stays _ = refl
+  watch_known : (next : WatchNext) (u : Topics) → WatchMade (own_index h) (actors_of h.state.sizes) h.topics v next u → HostKnows Watch page change h
+      → Knows (after_frame_watch next) (behind Watch u)
+  watch_known _ _ (made.Again is) K = (
+    looks_still Watch _ refl K.0,
+    rests_still h.topics _ refl refl refl refl refl K.1,
+    record { moves = K.2.moves; owns = K.2.owns; closed = K.2.closed },
+    watch_comes (own_index h) (actors_of h.state.sizes) h.topics v _ _ (made.Again is) K.3,
+  )
+  watch_known _ _ (made.Next is lt) K = (
+    looks_still Watch _ refl K.0,
+    rests_still h.topics _ refl refl refl refl refl K.1,
+    record { moves = K.2.moves; owns = K.2.owns; closed = K.2.closed },
+    lt,
+  )
+  watch_known _ _ (made.Last is le) K = (
+    looks_still Watch _ refl K.0,
+    rests_still h.topics _ refl refl refl refl refl K.1,
+    record { moves = K.2.moves; owns = K.2.owns; closed = K.2.closed },
+    record { owns = K.2.owns; closed = K.2.closed; watched = le },
+  )
 
-  pub host_known : (p : HostPlace) → PartRests h → HostKnows p page h → (may_open (place.Host p) ≡ false → h.topics.invalidations.opened ≡ false)
+  pub host_known : (p : HostPlace) → PartRests h → HostKnows p page change h → (may_open (place.Host p) ≡ false → h.topics.invalidations.opened ≡ false)
       → CanAnswer (host_part p page change h) v
       → KnowsBehind (host_outcome p page h v) (ChangeHost page change) (behind p (part_topics (host_part p page change h) h.topics v))
-  host_known Look R K closed A = look_known (is_own h.state.sizes h.state.actor page) refl K (closed refl)
+  host_known (Look moving) R K closed A = look_known moving (is_own h.state.sizes h.state.actor page) refl K (closed refl)
+  host_known (Claim begun) R K closed A =
+      let M = claim_made h.state.sizes Frames begun h.topics v in
+      claim_known begun _ _ (claim_host h.state.sizes Frames begun h.topics v _ _ _ M) (claim_opens h.state.sizes Frames begun h.topics v _ _ _ M)
+      (claim_rests h.state.sizes Frames begun h.topics v _ _ _ M K.0 K.2.owns_none K.2.within) K (closed refl)
   host_known (Begin p) R K closed A =
-      begin_comes p (begin_next p h.state.sizes page h.topics v) (part_topics (begin_part p page h.topics) h.topics v) (host_stays p) K.0
+      begin_comes p (begin_next p h.state.sizes page h.topics v) (part_topics (begin_part p page h.topics) h.topics v)
+      (begin_leaves_host p page h.topics v) (begin_leaves_frames p page h.topics v) K.0 R.sizes.words.0 K.2
       (begin_known p h.state.sizes page h.topics v R.sizes K.0.at R.flags R.frames R.level K.1 A)
-  host_known Change R K closed A =
-      let opened : IsOpen (part_topics (part.Change (word_put change h.topics)) h.topics v) = record {
-        rests = record {
-          outside = K.1.opened.rests.outside;
-          loose = K.1.opened.rests.loose;
-          owns_none = K.1.opened.rests.owns_none;
-          no_table = K.1.opened.rests.no_table;
-          no_set = K.1.opened.rests.no_set;
-        };
-        opened = K.1.opened.opened;
-        unraised = K.1.opened.unraised;
-      } in
-      either_place (λ q. Knows q (behind Change (part_topics (part.Change (word_put change h.topics)) h.topics v))) (v == word_looked h.topics.host)
-      (End ends.Exclude) Change
-      (allows, opened) (
-        allows,
-        (
-          record { own_ = K.0.own_; looked = refl; at = K.0.at },
-          record { opened = opened; invalid = K.1.invalid; asked = K.1.asked; awaited = K.1.awaited },
-        ),
-      )
-  host_known (End p) R K closed A = end_comes p (end_next p v) (part_topics (end_part p h.topics) h.topics v) (ending_known p h.topics v K A)
-
-  -- ---- no page leaves, and its invalidation is open where its place says so
-
-  uncounted : (p : BeginPlace) (z : Sizes) (t : Topics) → is_counted p ≡ false → BeginKnows p z page t → t.invalidations.opened ≡ false
-  uncounted begins.Exclude z t is K = K.1
-  uncounted (begins.Find begun) z t is K = K.0.with_lock.is
-  uncounted begins.Count z t is K = K.sweeping.with_lock.is
-  uncounted begins.RangeStart z t is K = K.0.sweeping.with_lock.is
-  uncounted begins.RangeEnd z t is K = K.0.sweeping.with_lock.is
-  uncounted begins.SetStart z t is K = K.0.sweeping.with_lock.is
-  uncounted begins.SetEnd z t is K = K.0.sweeping.with_lock.is
-  uncounted begins.SetCount z t is K = K.0.sweeping.with_lock.is
-  uncounted _ z t is K = absurd (cc is)
-
-  begin_leaves : (next : BeginNext) (z : Sizes) (u : Topics) → u.leaving ≡ None → BeginComes next z page u → LeavesPart (place.Host (after_begin next)) u
-  begin_leaves (begins_next.Goes p) z u none C = record { leaves = λ may. none; opens = λ may. uncounted p z u may C }
-  begin_leaves begins_next.Begun z u none C = record { leaves = λ may. none; opens = λ may. absurd (cc may) }
-
-  end_leaves : (next : EndNext) (u : Topics) → u.leaving ≡ None → EndComes next u → LeavesPart (place_after (after_end next)) u
-  end_leaves (ends_next.Goes ends.Release) u none C = record { leaves = λ may. none; opens = λ may. C.0.is }
-  end_leaves (ends_next.Goes _) u none C = record { leaves = λ may. none; opens = λ may. absurd (cc may) }
-  end_leaves ends_next.Ended u none C = record { leaves = λ may. none; opens = λ may. C.1 }
-
-  begin_keeps : (p : BeginPlace) → (part_topics (begin_part p page h.topics) h.topics v).leaving ≡ h.topics.leaving
-  begin_keeps (begins.Find begun) = either_place (λ s. (part_topics s h.topics v).leaving ≡ h.topics.leaving) begun part.Slot part.Slots refl refl
-  begin_keeps (begins.Walk rooted) = either_place (λ s. (part_topics s h.topics v).leaving ≡ h.topics.leaving) rooted (part.Walk _) part.Root refl refl
-  begin_keeps _ = refl
-
-  end_keeps : (p : EndPlace) → (part_topics (end_part p h.topics) h.topics v).leaving ≡ h.topics.leaving
-  end_keeps ends.Exclude = refl
-  end_keeps ends.Seq = refl
-  end_keeps _ = refl
-
-  look_leaves : (b : Bool) → h.topics.leaving ≡ None → h.topics.invalidations.opened ≡ false
-      → LeavesPart (place_after (if b then Goes (place.Host (Begin begins.Exclude)) else Ends (Refused OutOfRange)))
-      (part_topics (if b then part.Host page else part.Seq) h.topics v)
-  look_leaves true none closed = record { leaves = λ may. none; opens = λ may. closed }
-  look_leaves false none closed = record { leaves = λ may. none; opens = λ may. closed }
-
-  pub host_leaves : (p : HostPlace) → PartRests h → HostKnows p page h → LeavesPart (place.Host p) h.topics → CanAnswer (host_part p page change h) v
-      → LeavesPart (place_after (host_outcome p page h v)) (part_topics (host_part p page change h) h.topics v)
-  host_leaves Look R K left A = look_leaves (is_own h.state.sizes h.state.actor page) (left.leaves refl) (left.opens refl)
-  host_leaves (Begin p) R K left A =
-      begin_leaves (begin_next p h.state.sizes page h.topics v) h.state.sizes _ (begin_keeps p ∙ left.leaves refl)
-      (begin_known p h.state.sizes page h.topics v R.sizes K.0.at R.flags R.frames R.level K.1 A)
-  host_leaves Change R K left A =
-      either_place (λ q. LeavesPart (place.Host q) (part_topics (part.Change (word_put change h.topics)) h.topics v)) (v == word_looked h.topics.host)
-      (End ends.Exclude) Change
-      (record { leaves = λ may. left.leaves refl; opens = λ may. absurd (cc may) })
-      (record { leaves = λ may. left.leaves refl; opens = λ may. absurd (cc may) })
-  host_leaves (End p) R K left A = end_leaves (end_next p v) _ (end_keeps p ∙ left.leaves refl) (ending_known p h.topics v K A)
+  host_known Copy R K closed A =
+      let C = copied_next change h.state.sizes.words h.topics.frames.owned v K.2 in
+      (looks_still Copy _ refl K.0, flushed_still Copy _ refl refl refl refl refl refl refl K.1, C.0, C.1)
+  host_known Store R K closed A =
+      let u : Topics = part_topics (part.Store 0) h.topics v in
+      one_place (λ q. Knows q (behind Store u)) (nat_lt (words_moved h.topics.frames.owned + 1) h.state.sizes.words) Copy Change
+      (λ e. (
+        looks_still Store u refl K.0,
+        flushed_still Store u refl refl refl refl refl refl refl K.1,
+        stored_more change h.state.sizes.words h.topics.frames.owned K.2 e,
+      ))
+      (λ e. (
+        looks_still Store u refl K.0,
+        flushed_still Store u refl refl refl refl refl refl refl K.1,
+        stored_last change h.state.sizes.words h.topics.frames.owned K.2 e,
+      ))
+  host_known Change R K closed A = change_known (v == word_looked h.topics.host) K
+  host_known (End p) R K closed A =
+      end_comes p (end_next p v) (part_topics (end_part p h.topics) h.topics v) R (end_leaves_host p h.topics v K.1) (end_leaves_frames p h.topics v)
+      (end_leaves_watch p h.topics v) K (ending_known p h.topics v K.1 A)
+  host_known Watch R K closed A = watch_known _ _ (watch_made h v) K
+  host_known Free R K closed A = rests_still h.topics _ refl refl refl refl refl K.1

@@ -5,7 +5,7 @@ use Rattle.std.specs.Prelude.{Option, Some, None, is_some}
 use Rattle.core_views.specs.declared.place.BeginPlace.TheVariants as begins
 use Rattle.core_views.specs.declared.place.EndPlace.TheVariants as ends
 use Rattle.core_views.specs.declared.place.HostPlace.{HostPlace}
-use Rattle.core_views.specs.declared.place.HostPlace.TheVariants.{Look, Begin, Change, End}
+use Rattle.core_views.specs.declared.place.HostPlace.TheVariants.{Look, Claim, Begin, Change, End}
 use Rattle.core_views.specs.declared.place.Place.TheVariants as place
 use Rattle.core_views.specs.declared.sizes.Sizes.{Sizes}
 use Rattle.core_views.specs.declared.topics.HostLook.{HostLook}
@@ -26,7 +26,9 @@ use Rattle.mmu_core.specs.machine.View.{View}
 use Rattle.mmu_core.proofs.invariant.PartBounded.{part_rests_at}
 use Rattle.mmu_core.proofs.lines.AccessParts.{may_make, AreSmall}
 use Rattle.mmu_core.proofs.lines.EitherPlace.{either_place}
-use Rattle.mmu_core.proofs.lines.HostKnown.{host_needs}
+use Rattle.mmu_core.specs.lines.ClaimSteps.{Frames}
+use Rattle.mmu_core.proofs.lines.ClaimMade.{claim_is}
+use Rattle.mmu_core.proofs.lines.HostNeeds.{host_needs}
 use Rattle.mmu_core.proofs.lines.Raised.{few_raised}
 use Rattle.mmu_core.proofs.lines.KnowsKept.{step_knows}
 use Rattle.mmu_core.proofs.machine.PartStepping.{IsPart, Replaces, AreApart}
@@ -47,25 +49,26 @@ module _ (z : Sizes) (v : View) (a : ℕ) (page : ℕ) (change : HostChange) whe
   abbrev Says : PartStep → Type 0
   Says step = Replaces step (v.words area.Pool) (v.words area.Slots 0) (v.hand a).topics
 
-  host_says : (p : HostPlace) → AreSmall v → Invariant z v → TopicsInvariant z v → a < actors_of z → HostKnows p page (v.hand a)
+  host_says : (p : HostPlace) → AreSmall v → Invariant z v → TopicsInvariant z v → a < actors_of z → HostKnows p page change (v.hand a)
       → Says (host_part p page change (v.hand a))
-  host_says Look small I P there K = either_place Says (is_own (v.hand a).state.sizes (v.hand a).state.actor page) (part.Host page) part.Seq tt tt
+  host_says (Claim begun) small I P there K = claim_is Says Frames begun (v.hand a).topics.frames.claim tt (λ word. tt)
+  host_says (Look moving) small I P there K = either_place Says (is_own (v.hand a).state.sizes (v.hand a).state.actor page) (part.Host page) part.Seq tt tt
   host_says (Begin (begins.Find begun)) small I P there K = either_place Says begun part.Slot part.Slots tt tt
   host_says (Begin (begins.Walk rooted)) small I P there K = either_place Says rooted (part.Walk _) part.Root tt tt
   host_says (Begin begins.SetCount) small I P there K = slots_apart z (v.words area.Slots 0) (v.words area.Role) (v.words area.Pool) I.set_part
   host_says (Begin _) small I P there K = tt
   host_says (End ends.SetCount) small I P there K = slots_apart z (v.words area.Slots 0) (v.words area.Role) (v.words area.Pool) I.set_part
-  host_says (End ends.SetSeq) small I P there K = few_raised z v a small P there K.0.alone.alone K.1
+  host_says (End ends.SetSeq) small I P there K = few_raised z v a small P there K.1.0.alone.alone K.1.1
   host_says (End ends.Exclude) small I P there K = tt
   host_says (End _) small I P there K = tt
-  host_says Change small I P there K = tt
+  host_says _ small I P there K = tt
 
 pub makes_host : (z : Sizes) (v : View) (a : ℕ) (line : Line) (p : HostPlace) (page : ℕ) (change : HostChange) → AreSmall v
     → IsStep z v a line (ChangeHost page change) (place.Host p) → Invariant z v → TopicsInvariant z v → IsPart z v a (host_part p page change (v.hand a))
 makes_host z v a line p page change small S I P =
     let K = step_knows z v a line (ChangeHost page change) (place.Host p) S I in
-    may_make z v a (host_part p page change (v.hand a)) small I P S.there (host_needs p (v.hand a) page change (part_rests_at z v a I P S.there) K.0 K.1).0
-    (host_says z v a page change p small I P S.there K.1)
+    may_make z v a (host_part p page change (v.hand a)) small I P S.there (host_needs p (v.hand a) page change (part_rests_at z v a I P S.there) K).0
+    (host_says z v a page change p small I P S.there K)
 
 -- Whose change of its page is next finds the word that it looked up, or this word with the page present, which it saw absent: nobody else
 -- has changed it since, but by bringing the page in.

@@ -2,16 +2,16 @@
 use Rattle.part_steps.specs.PartTasks.{word_looked}
 use Rattle.std.proofs.Props.{props}
 use Rattle.mmu_core.proofs.lines.AccessEnds.{AreFed}
-use Rattle.std.proofs.Common.{◌≡◌, ◌≤◌, ◌<◌, ◌+◌, ◌*◌, ◌∷◌, [], ℕ, Bool, true, false, refl, arith}
-use Rattle.std.specs.Prelude.{◌==◌, if◌then◌else◌}
+use Rattle.std.proofs.Common.{◌≡◌, ◌≤◌, ◌<◌, ◌+◌, ◌-◌, ◌*◌, ◌∷◌, [], ℕ, Bool, true, false, refl, arith}
+use Rattle.std.specs.Prelude.{◌==◌, if◌then◌else◌, None}
 use Rattle.core_views.specs.declared.answer.Answer.{Answer}
-use Rattle.core_views.specs.declared.answer.Answer.TheVariants.{Refused}
-use Rattle.core_views.specs.declared.answer.Refusal.TheVariants.{OutOfRange}
+use Rattle.core_views.specs.declared.answer.Answer.TheVariants.{Done, Refused}
+use Rattle.core_views.specs.declared.answer.Refusal.TheVariants.{NoFrame, OutOfRange}
 use Rattle.core_views.specs.declared.event.EventKind.TheVariants.{HostChanged, LookedAtHost}
 use Rattle.core_views.specs.declared.place.BeginPlace.TheVariants as begins
 use Rattle.core_views.specs.declared.place.EndPlace.TheVariants as ends
 use Rattle.core_views.specs.declared.place.HostPlace.{HostPlace}
-use Rattle.core_views.specs.declared.place.HostPlace.TheVariants.{Look, Begin, Change, End}
+use Rattle.core_views.specs.declared.place.HostPlace.TheVariants.{Look, Claim, Begin, Copy, Store, Change, End, Watch, Free}
 use Rattle.core_views.specs.declared.place.Place.TheVariants as place
 use Rattle.core_views.specs.declared.place.SlotField.{SlotField}
 use Rattle.core_views.specs.declared.place.SlotField.TheVariants as field
@@ -19,31 +19,41 @@ use Rattle.core_views.specs.declared.sizes.Sizes.{Sizes}
 use Rattle.core_views.specs.declared.topics.SlotSearch.{SlotSearch}
 use Rattle.core_views.specs.declared.topics.Topics.{Topics}
 use Rattle.core_views.specs.declared.trace.HostChange.{HostChange}
-use Rattle.core_views.specs.declared.trace.HostChange.TheVariants.{Allow, Evict, Move, Protect}
 use Rattle.core_views.specs.Held.{Held}
 use Rattle.core_views.specs.HostChanges.{is_own}
 use Rattle.part_steps.specs.declared.part_step.PartStep.TheVariants as part
 use Rattle.spte_words.specs.HostWords.{host_present}
 use Rattle.mmu_core.specs.declared.outcome.Outcome.TheVariants.{Goes, Ends}
 use Rattle.mmu_core.specs.lines.FaultLeft.{find_left}
-use Rattle.mmu_core.specs.lines.HostKnows.{HostKnows, HostRests, IsMade}
-use Rattle.mmu_core.specs.lines.HostSteps.{host_left, host_outcome, host_part, host_tells, entry_of, word_put}
+use Rattle.mmu_core.specs.lines.HostKnows.{HostKnows, HostRests}
+use Rattle.mmu_core.specs.lines.HostSteps.{copies_left, frees_left, moves, host_left, host_outcome, host_part, host_tells, entry_of, word_put}
 use Rattle.mmu_core.specs.lines.PartWaits.{part_waits}
 use Rattle.mmu_core.specs.lines.SearchLeft.{look_left}
-use Rattle.mmu_core.proofs.lines.EitherPlace.{either_place}
+use Rattle.mmu_core.specs.lines.AccessSteps.{exiting}
+use Rattle.mmu_core.specs.lines.ClaimSteps.{Frames, claim_next, tries_one}
+use Rattle.mmu_core.specs.lines.InvalidateSteps.{begin_left, end_left}
+use Rattle.spte_words.specs.Areas.{words_of_bits}
+use Rattle.core_views.specs.Sizes.{actors_of}
+use Rattle.core_views.specs.declared.place.BeginPlace.{BeginPlace}
+use Rattle.core_views.specs.declared.place.EndPlace.{EndPlace}
+use Rattle.mmu_core.proofs.lines.ClaimMade.{claim_free, claim_made}
+use Rattle.mmu_core.proofs.lines.EitherPlace.{each_claim, either_place}
 use Rattle.mmu_core.proofs.lines.PartsWait.{neither_waits}
 use Rattle.mmu_core.proofs.machine.GoesOn.{GoesToNoAccess, GoesUnderWay}
 
 -- ---- where it goes on to
 
 pub host_goes : (p : HostPlace) (page : ℕ) (h : Held) (v : ℕ) → GoesUnderWay (host_outcome p page h v) × GoesToNoAccess (host_outcome p page h v)
-host_goes Look page h v =
-    either_place (λ o. GoesUnderWay o × GoesToNoAccess o) (is_own h.state.sizes h.state.actor page) (Goes (place.Host (Begin begins.Exclude)))
-    (Ends (Refused OutOfRange)) (tt, tt) (tt, tt)
-host_goes (Begin p) page h v = (tt, tt)
-host_goes Change page h v = (tt, tt)
-host_goes (End ends.Release) page h v = (tt, tt)
+host_goes (Look moving) page h v =
+    either_place (λ o. GoesUnderWay o × GoesToNoAccess o) (is_own h.state.sizes h.state.actor page)
+    (Goes (place.Host (if moving then Claim false else Begin begins.Exclude))) (Ends (Refused OutOfRange)) (tt, tt) (tt, tt)
+host_goes (Claim begun) page h v =
+    each_claim (λ o. GoesUnderWay o × GoesToNoAccess o) (claim_next Frames begun h.state.sizes h.topics.frames.claim v) (place.Host (Claim true))
+    (place.Host (Begin begins.Exclude)) (Refused NoFrame) (tt, tt) (tt, tt) (tt, tt)
+host_goes (End ends.Release) page h v =
+    either_place (λ o. GoesUnderWay o × GoesToNoAccess o) (moves h.topics) (Goes (place.Host Watch)) (Ends Done) (tt, tt) (tt, tt)
 host_goes (End _) page h v = (tt, tt)
+host_goes _ page h v = (tt, tt)
 
 -- ---- how many steps it has left
 
@@ -68,15 +78,51 @@ change_few : (present : Bool) → 7 + (if present then 0 else 1) ≤ 8
 change_few true = omega arith
 change_few false = omega arith
 
--- Few beside those of the search of a slot, of the walk, and of two looks at each virtual processor.
-pub host_few : (p : HostPlace) (z : Sizes) (t : Topics) → t.walk.level ≤ 4 → host_left p z t ≤ 2 * z.vcpus + 152
-host_few (Begin (begins.Find begun)) z t most = let few = find_few begun t.search in omega (arith, few)
-host_few (Begin (begins.Walk true)) z t most = omega (arith, most)
-host_few (Begin (begins.Walk false)) z t most = omega arith
-host_few (Begin _) z t most = omega arith
-host_few Change z t most = let few = change_few (host_present (word_looked t.host)) in omega (arith, few)
-host_few (End ends.Release) z t most = omega arith
-host_few (End _) z t most = omega arith
+-- What a move has left besides.
+frees_few : (moving : Bool) (z : Sizes) → frees_left moving z ≤ 1 + actors_of z
+frees_few true z = omega arith
+frees_few false z = omega arith
+
+copies_few : (moving : Bool) (z : Sizes) → (if moving then copies_left z None else 0) ≤ 2 * z.words
+copies_few true z = omega arith
+copies_few false z = omega arith
+
+look_left_few : (moving : Bool) (z : Sizes)
+    → (if moving then words_of_bits z.frames + 1 + copies_left z None + frees_left true z else 0) ≤ words_of_bits z.frames + 2 + 2 * z.words + actors_of z
+look_left_few true z = omega arith
+look_left_few false z = omega arith
+
+tries_few : (tries begun : Bool) (words at : ℕ) → (if tries then 1 else words - (if begun then at else 0) + 1) ≤ words + 1
+tries_few true begun words at = omega arith
+tries_few false true words at = omega arith
+tries_few false false words at = omega arith
+
+begin_few : (p : BeginPlace) (z : Sizes) (t : Topics) → t.walk.level ≤ 4 → begin_left p z t ≤ 2 * z.vcpus + 143
+begin_few (begins.Find begun) z t most = let few = find_few begun t.search in omega (arith, few)
+begin_few (begins.Walk true) z t most = omega (arith, most)
+begin_few (begins.Walk false) z t most = omega arith
+begin_few _ z t most = omega arith
+
+end_few : (p : EndPlace) → end_left p ≤ 6
+end_few ends.Release = omega arith
+end_few _ = omega arith
+
+-- Few beside those of the claim of a frame, of the search of a slot, of the walk, of two looks at each virtual processor, of the copy, and of a look at each
+-- other actor.
+pub host_few : (p : HostPlace) (z : Sizes) (t : Topics) → t.walk.level ≤ 4
+    → host_left p z t ≤ 2 * z.vcpus + 154 + words_of_bits z.frames + 2 * z.words + actors_of z
+host_few (Look moving) z t most = let few = look_left_few moving z in omega (arith, few)
+host_few (Claim begun) z t most =
+    let few = tries_few (tries_one begun t.frames.claim) begun (words_of_bits z.frames) t.frames.claim.at in omega (arith, few)
+host_few (Begin p) z t most =
+    let few = begin_few p z t most in
+    let copies = copies_few (moves t) z in
+    let frees = frees_few (moves t) z in
+    omega (arith, few, copies, frees)
+host_few Copy z t most = omega arith
+host_few Store z t most = omega arith
+host_few Change z t most = let few = change_few (host_present (word_looked t.host)) in let frees = frees_few (moves t) z in omega (arith, few, frees)
+host_few (End p) z t most = let few = end_few p in let frees = frees_few (moves t) z in omega (arith, few, frees)
 host_few _ z t most = omega arith
 
 pub some_host_left : (p : HostPlace) (z : Sizes) (t : Topics) → 0 < host_left p z t
@@ -88,48 +134,43 @@ some_host_left _ z t = omega arith
 -- ---- how it ends
 
 -- Its first step doesn't wait.
-pub look_goes : (page : ℕ) (change : HostChange) (h : Held) (v : ℕ) → part_waits (host_part Look page change h) h.topics v ≡ false
-look_goes page change h v = neither_waits (is_own h.state.sizes h.state.actor page) (part.Host page) part.Seq h.topics v refl refl
+pub look_goes : (moving : Bool) (page : ℕ) (change : HostChange) (h : Held) (v : ℕ) → part_waits (host_part (Look moving) page change h) h.topics v ≡ false
+look_goes moving page change h v = neither_waits (is_own h.state.sizes h.state.actor page) (part.Host page) part.Seq h.topics v refl refl
 
 -- Nor does the step that ends it.
 pub host_free : (p : HostPlace) (page : ℕ) (change : HostChange) (h : Held) (v : ℕ) (answer : Answer) → HostRests p h → host_outcome p page h v ≡ Ends answer
     → part_waits (host_part p page change h) h.topics v ≡ false
-host_free Look page change h v answer R e = look_goes page change h v
+host_free (Look moving) page change h v answer R e = look_goes moving page change h v
+host_free (Claim begun) page change h v answer R e =
+    claim_free h.state.sizes Frames begun h.topics v _ _ _ (claim_made h.state.sizes Frames begun h.topics v) (place.Host (Claim true))
+    (place.Host (Begin begins.Exclude)) (Refused NoFrame) answer e
 host_free (Begin p) page change h v answer R e = absurd (cc e)
 host_free Change page change h v answer R e = absurd (cc e)
 host_free (End ends.Release) page change h v answer R e = R
 host_free (End _) page change h v answer R e = absurd (cc e)
+host_free Free page change h v answer R e = refl
+host_free _ page change h v answer R e = absurd (cc e)
 
--- It tells no exit.
+-- It tells no exit for want of a page.
 pub host_fed : (p : HostPlace) (page : ℕ) (change : HostChange) (h : Held) (v : ℕ) → AreFed (host_tells p page change h v)
-host_fed Look page change h v = either_place AreFed (is_own h.state.sizes h.state.actor page) (LookedAtHost page ∷ []) [] (λ e. absurd (cc e), tt) tt
+host_fed (Claim begun) page change h v =
+    each_claim (λ o. AreFed (exiting o)) (claim_next Frames begun h.state.sizes h.topics.frames.claim v) (place.Host (Claim true))
+    (place.Host (Begin begins.Exclude)) (Refused NoFrame) tt tt (λ e. absurd (cc e), tt)
+host_fed (Look moving) page change h v = either_place AreFed (is_own h.state.sizes h.state.actor page) (LookedAtHost page ∷ []) [] (λ e. absurd (cc e), tt) tt
 host_fed Change page change h v =
     either_place AreFed (v == word_looked h.topics.host) (HostChanged page (entry_of (word_put change h.topics)) ∷ []) [] (λ e. absurd (cc e), tt) tt
 host_fed _ page change h v = tt
 
 -- ---- what it knows is a proposition
 
-made_prop : (change : HostChange) → IsProp (IsMade change)
-made_prop Allow = hlevel props
-made_prop Protect = hlevel props
-made_prop Move = hlevel props
-made_prop Evict = hlevel props
-
-knows_alone_prop : (p : HostPlace) (page : ℕ) (h : Held) → IsProp (HostKnows p page h)
-knows_alone_prop Look page h = hlevel props
-knows_alone_prop (Begin begins.Exclude) page h = hlevel props
-knows_alone_prop (Begin (begins.Find begun)) page h = hlevel props
-knows_alone_prop (Begin (begins.Walk rooted)) page h = hlevel props
-knows_alone_prop (Begin _) page h = hlevel props
-knows_alone_prop Change page h = hlevel props
-knows_alone_prop (End ends.Exclude) page h = hlevel props
-knows_alone_prop (End _) page h = hlevel props
-
-pub host_knows_prop : (p : HostPlace) (page : ℕ) (change : HostChange) (h : Held) → IsProp (IsMade change × HostKnows p page h)
-host_knows_prop p page change h = both_props (made_prop change) (knows_alone_prop p page h)
-  where
-    both_props : {A B : Type 0} → IsProp A → IsProp B → IsProp (A × B)
-    both_props a b = λ x y i. (a x.0 y.0 i, b x.1 y.1 i)
+pub host_knows_prop : (p : HostPlace) (page : ℕ) (change : HostChange) (h : Held) → IsProp (HostKnows p page change h)
+host_knows_prop (Begin begins.Exclude) page change h = hlevel props
+host_knows_prop (Begin (begins.Find begun)) page change h = hlevel props
+host_knows_prop (Begin (begins.Walk rooted)) page change h = hlevel props
+host_knows_prop (Begin _) page change h = hlevel props
+host_knows_prop (End ends.Exclude) page change h = hlevel props
+host_knows_prop (End _) page change h = hlevel props
+host_knows_prop _ page change h = hlevel props
 
 pub host_rests_prop : (p : HostPlace) (h : Held) → IsProp (HostRests p h)
 host_rests_prop (End ends.Release) h = hlevel props

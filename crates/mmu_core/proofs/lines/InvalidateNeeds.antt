@@ -13,6 +13,7 @@ use Rattle.core_views.specs.declared.topics.Topics.{Topics}
 use Rattle.core_views.specs.Held.{Held}
 use Rattle.core_views.specs.Slots.{has_host_page}
 use Rattle.part_steps.specs.PartBounds.{PartRests}
+use Rattle.part_steps.specs.FrameTopics.{is_uncopied}
 use Rattle.part_steps.specs.InvalidationHoldings.{MayCount, has_counted, knows_count, IsOpening}
 use Rattle.part_steps.specs.PartSteps.{PartNeeds}
 use Rattle.mmu_core.specs.lines.InvalidateKnows.{BeginKnows, EndKnows, IsAloneWith, HasSearched}
@@ -87,8 +88,8 @@ opening page t same S = record {
 -- What is stored as the count is as many as were open, and one, or without one.
 one_more : (page : ℕ) (t : Topics) → page_looked t.host ≡ page → HasSearched page t → t.invalidations.checked ≡ checked.Range
     → t.invalidations.own ≡ invalidated_by page t.search
-    → is_within_range t.invalidations.own t.invalidations ≡ true → MayCount (t.invalidations.count + 1) t
-one_more page t same S known own_ within = record {
+    → is_within_range t.invalidations.own t.invalidations ≡ true → is_uncopied t.frames.owned ≡ true → MayCount (t.invalidations.count + 1) t
+one_more page t same S known own_ within uncopied = record {
   alone = S.sweeping.with_lock.alone.alone;
   outside = S.sweeping.with_lock.alone.outside;
   knows = ap knows_count known;
@@ -99,6 +100,7 @@ one_more page t same S known own_ within = record {
     own_ = own_ ∙ ap (λ p. invalidated_by p t.search) (sym same);
     within = within;
     unasked = S.sweeping.unasked;
+    uncopied = uncopied;
   };
   closes = λ opened. absurd (let closed = S.sweeping.with_lock.is in cc (opened, closed));
 }
@@ -113,20 +115,20 @@ one_less t A known raised = record {
   closes = λ opened. raised;
 }
 
-pub begin_needs : (p : BeginPlace) (h : Held) (page : ℕ) → PartRests h → page_looked h.topics.host ≡ page → BeginKnows p h.state.sizes page h.topics
-    → PartNeeds (begin_part p page h.topics) h
-begin_needs begins.Exclude h page R same K = K.0.loose
-begin_needs (begins.Find true) h page R same K =
+pub begin_needs : (p : BeginPlace) (h : Held) (page : ℕ) → PartRests h → page_looked h.topics.host ≡ page → is_uncopied h.topics.frames.owned ≡ true
+    → BeginKnows p h.state.sizes page h.topics → PartNeeds (begin_part p page h.topics) h
+begin_needs begins.Exclude h page R same none K = K.0.loose
+begin_needs (begins.Find true) h page R same none K =
     let S = K.1 refl in (S.0, S.1, ap (λ p. is_alone h.topics.hold && has_found p h.topics.search) same ∙ none_found (is_alone h.topics.hold) S.2)
   where
     none_found : {found : Bool} (alone : Bool) → found ≡ false → (alone && found) ≡ false
     none_found true is = is
     none_found false is = refl
-begin_needs begins.SetStart h page R same K = (
+begin_needs begins.SetStart h page R same none K = (
   record { opening = opening page h.topics same K.0; counted = K.1; is = ap (λ p. range_start p h.topics) (sym same) },
   start_small page h.topics R.counters.range.0 R.frames,
 )
-begin_needs begins.SetEnd h page R same K = (
+begin_needs begins.SetEnd h page R same none K = (
   record {
     opening = opening page h.topics same K.0;
     widened = K.1;
@@ -135,9 +137,9 @@ begin_needs begins.SetEnd h page R same K = (
   },
   end_small page h.topics R.counters.range.1 R.frames,
 )
-begin_needs begins.SetCount h page R same K = one_more page h.topics same K.0 K.1 K.2 K.3
-begin_needs (begins.Walk true) h page R same K = (K.1 refl).1
-begin_needs begins.Zap h page R same K =
+begin_needs begins.SetCount h page R same none K = one_more page h.topics same K.0 K.1 K.2 K.3 none
+begin_needs (begins.Walk true) h page R same none K = (K.1 refl).1
+begin_needs begins.Zap h page R same none K =
     let first : h.topics.invalidations.own.start ≡ gfn_behind page h.topics.search.slot =
     ap (λ (o : Invalidated). o.start) K.0.found ∙ ap (λ (b : Bool). if b then gfn_behind page h.topics.search.slot else 0) K.1 in
     let behind : h.topics.invalidations.own.end ≡ gfn_behind page h.topics.search.slot + 1 =
@@ -151,13 +153,13 @@ begin_needs begins.Zap h page R same K =
       saw = K.2.saw;
       leaf = K.2.leaf;
     }
-begin_needs begins.Ask h page R same K =
+begin_needs begins.Ask h page R same none K =
     record { low = K.2; next = refl; alone = K.0.alone.alone; outside = K.0.alone.outside; opened = K.0.is; swept = K.4 }
-begin_needs begins.Await h page R same K = (let asked = K.2 in let lt = K.3 in omega (arith, asked, lt), refl, K.0.alone.outside)
-begin_needs begins.Release h page R same K = K.0.alone.alone
-begin_needs (begins.Find false) h page R same K = tt
-begin_needs (begins.Walk false) h page R same K = tt
-begin_needs _ h page R same K = tt
+begin_needs begins.Await h page R same none K = (let asked = K.2 in let lt = K.3 in omega (arith, asked, lt), refl, K.0.alone.outside)
+begin_needs begins.Release h page R same none K = K.0.alone.alone
+begin_needs (begins.Find false) h page R same none K = tt
+begin_needs (begins.Walk false) h page R same none K = tt
+begin_needs _ h page R same none K = tt
 
 pub end_needs : (p : EndPlace) (h : Held) → EndKnows p h.topics → PartNeeds (end_part p h.topics) h
 end_needs ends.Exclude h K = K.rests.loose

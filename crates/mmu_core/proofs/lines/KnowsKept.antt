@@ -204,16 +204,17 @@ NeedsAt p command h = RestsAt p command h
 
 -- what a hand knows where its line stands, also where this is about to begin
 standing_known : (q : Place) (z : Sizes) (h : Held) (y : Sizes) (actor : Actor) → length h.answers < length h.lines → IsCommandFor y actor (line_at q h).command
-    → KnowsPart q h.state.line.command h → KnowsPart (standing q z h.slots (line_at q h).command) (line_at q h).command h
-standing_known place.Between z h y actor left may K = first_known z (line_at place.Between h).command h y actor may (K (has_line_is h left))
-standing_known _ z h y actor left may K = K
+    → KnowsPart q h.state.line.command h → LeavesPart q h.topics → KnowsPart (standing q z h.slots (line_at q h).command) (line_at q h).command h
+standing_known place.Between z h y actor left may K L =
+    first_known z (line_at place.Between h).command h y actor may (K (has_line_is h left)) (L.frames refl)
+standing_known _ z h y actor left may K L = K
 
 pub knows_at : (z : Sizes) (v : View) (a : ℕ) → Invariant z v → a < actors_of z → length (v.hand a).answers < length (v.hand a).lines
     → KnowsPart (place_at (v.hand a).state.place (v.hand a)) (line_at (v.hand a).state.place (v.hand a)).command (v.hand a)
 knows_at z v a I there left =
     let line : Line = line_at (v.hand a).state.place (v.hand a) in
     standing_known (v.hand a).state.place (v.hand a).state.sizes (v.hand a) z line.actor left (is_step z v a I there left).allowed
-    (I.knows a there)
+    (I.knows a there) (I.leaves a there)
 
 pub step_knows : (z : Sizes) (v : View) (a : ℕ) (line : Line) (command : Command) (p : Place) → IsStep z v a line command p → Invariant z v
     → KnowsPart p command (v.hand a)
@@ -222,13 +223,13 @@ step_knows z v a line command p S I =
     (subst (λ c. KnowsPart (place_at (v.hand a).state.place (v.hand a)) c (v.hand a)) (ap (λ (l : Line). l.command) (sym S.line_is) ∙ S.command_is)
     (knows_at z v a I S.there S.left))
 
--- Where a line begins no page leaves, and no invalidation is open.
+-- Where a line begins no page leaves, no invalidation is open, and no frame is owned.
 first_leaves : (z : Sizes) (command : Command) (slots : MemorySlots) (t : Topics) → t.leaving ≡ None → t.invalidations.opened ≡ false
-    → LeavesPart (first_place z slots command) t
-first_leaves z command slots t none closed = record { leaves = λ may. none; opens = λ may. closed }
+    → t.frames.owned ≡ None → LeavesPart (first_place z slots command) t
+first_leaves z command slots t none closed loose = record { leaves = λ may. none; opens = λ may. closed; frames = λ may. loose }
 
 standing_leaves : (q : Place) (z : Sizes) (slots : MemorySlots) (command : Command) (t : Topics) → LeavesPart q t → LeavesPart (standing q z slots command) t
-standing_leaves place.Between z slots command t L = first_leaves z command slots t (L.leaves refl) (L.opens refl)
+standing_leaves place.Between z slots command t L = first_leaves z command slots t (L.leaves refl) (L.opens refl) (L.frames refl)
 standing_leaves _ z slots command t L = L
 
 pub step_leaves : (z : Sizes) (v : View) (a : ℕ) (line : Line) (command : Command) (p : Place) → IsStep z v a line command p → Invariant z v

@@ -12,6 +12,7 @@ use Rattle.part_steps.specs.PartTasks.{part_kind}
 use Rattle.part_steps.specs.PartSteps.{PartNeeds}
 use Rattle.part_steps.specs.Tasks.{kind_of_task}
 use Rattle.mmu_core.specs.lines.AccessSteps.{task_by}
+use Rattle.mmu_core.specs.lines.ClaimSteps.{FreeMap, Pages, Frames, claim_over, try_part}
 use Rattle.mmu_core.specs.lines.Delays.{line_waits, waits_by}
 use Rattle.mmu_core.specs.machine.Enabled.{IsNext}
 use Rattle.mmu_core.specs.lines.Forms.{note_at, part_at, RestsAt}
@@ -42,9 +43,11 @@ waits_as p command h v R is = by (part_at p command h) refl is
       waits_ = waits;
     }
 
--- A line that tries a page has seen it.
-pub claims_seen : (p : Place) (command : Command) (h : Held) → RestsAt p command h → part_at p command h ≡ Some part.Claim → 0 < h.topics.claim.seen
-claims_seen p command h R is = (step_needs p command h part.Claim R is).1
+-- A line that tries a page or a frame has seen it.
+pub claims_seen : (p : Place) (command : Command) (h : Held) → RestsAt p command h → (map : FreeMap) → part_at p command h ≡ Some (try_part map)
+    → 0 < (claim_over map h.topics).seen
+claims_seen p command h R Pages is = (step_needs p command h part.Claim R is).1
+claims_seen p command h R Frames is = (step_needs p command h part.Frame R is).1
 
 -- the place of a line that has yet to begin is no place of waiting
 at_its_place : (q : Place) (h : Held) (v : ℕ) → line_waits q (line_at q h).command h v ≡ true → RestsAt (place_at q h) (line_at q h).command h

@@ -1,4 +1,4 @@
--- Which steps of the parts leave it so that no invalidation was seen open, and that a claim has seen no page.
+-- Which steps of the parts leave it so that no invalidation was seen open, and that a claim has seen no page or frame.
 use Rattle.std.proofs.Common.{◌≡◌, ℕ, refl, nat_lt}
 use Rattle.std.specs.Prelude.{Bool, true, false, ◌==◌, ◌&&◌, if◌then◌else◌}
 use Rattle.core_views.specs.declared.topics.Checked.{Checked}
@@ -8,6 +8,7 @@ use Rattle.part_steps.specs.declared.part_step.PartStep.{PartStep}
 use Rattle.part_steps.specs.declared.part_step.PartStep.TheVariants as part
 use Rattle.part_steps.specs.PartTopics.{part_topics}
 use Rattle.part_steps.specs.ControlTopics.{range_checked, seq_checked, start_checked}
+use Rattle.mmu_core.specs.lines.ClaimSteps.{FreeMap, Pages, Frames, claim_over}
 use Rattle.mmu_core.specs.lines.PartWaits.{saw_open, was_counted, own_open}
 use Rattle.part_steps.specs.StayTopics.{has_lock}
 use Rattle.mmu_core.proofs.lines.FaultScans.{maps}
@@ -86,9 +87,14 @@ closed_without part.Exclude t v closed none = refl
 closed_without part.Release t v closed none = refl
 closed_without step t v closed none = closed_on step t v refl (closed none)
 
-pub unseen_on : (step : PartStep) (t : Topics) (v : ℕ) → maps step ≡ false → t.claim.seen ≡ 0 → (part_topics step t v).claim.seen ≡ 0
-unseen_on (part.Map word) t v other none = absurd (cc other)
-unseen_on part.Claim t v other none = absurd (cc other)
-unseen_on part.Give t v other none = refl
-unseen_on part.GiveOld t v other none = refl
-unseen_on _ t v other none = none
+pub unseen_on : (map : FreeMap) (step : PartStep) (t : Topics) (v : ℕ) → maps map step ≡ false → (claim_over map t).seen ≡ 0
+    → (claim_over map (part_topics step t v)).seen ≡ 0
+unseen_on Pages (part.Map word) t v other none = absurd (cc other)
+unseen_on Pages part.Claim t v other none = absurd (cc other)
+unseen_on Pages part.Give t v other none = refl
+unseen_on Pages part.GiveOld t v other none = refl
+unseen_on Pages _ t v other none = none
+unseen_on Frames (part.FrameMap word) t v other none = absurd (cc other)
+unseen_on Frames part.Frame t v other none = absurd (cc other)
+unseen_on Frames part.GiveFrame t v other none = refl
+unseen_on Frames _ t v other none = none

@@ -1,8 +1,8 @@
 -- A line that raises the sequence number does so once: what its places say of how many lines have raised it.
 use Rattle.std.proofs.Common.{◌≡◌, ◌+◌, ◌^◌, ◌<◌, ◌≤◌, ℕ, length, refl, ap, arith}
-use Rattle.std.specs.Prelude.{false, List, Option, Some, None}
+use Rattle.std.specs.Prelude.{Bool, true, false, List, Option, Some, None}
 use Rattle.core_views.specs.declared.answer.AnsweredLine.{AnsweredLine}
-use Rattle.core_views.specs.declared.answer.Answer.TheVariants.{Done}
+use Rattle.core_views.specs.declared.answer.Answer.TheVariants.{Done, Moved}
 use Rattle.core_views.specs.declared.place.AccessPlace.{AccessPlace}
 use Rattle.core_views.specs.declared.place.BeginPlace.{BeginPlace}
 use Rattle.core_views.specs.declared.place.BeginPlace.TheVariants as begins
@@ -39,7 +39,13 @@ use Rattle.mmu_core.specs.machine.Sums.{one_if}
 use Rattle.mmu_core.specs.machine.View.{View}
 use Rattle.mmu_core.proofs.lines.AccessParts.{AreSmall}
 use Rattle.mmu_core.proofs.lines.ClaimMade.{claim_is}
-use Rattle.mmu_core.proofs.lines.EitherPlace.{either_place}
+use Rattle.mmu_core.proofs.lines.EitherPlace.{each_watch, either_place}
+use Rattle.mmu_core.specs.declared.invalidate.EndNext.TheVariants as ends_next
+use Rattle.mmu_core.specs.lines.ClaimSteps.{Frames, Pages}
+use Rattle.mmu_core.specs.lines.HostSteps.{after_end, moves}
+use Rattle.mmu_core.specs.lines.WatchSteps.{watch_next}
+use Rattle.part_steps.specs.PartTasks.{word_looked}
+use Rattle.spte_words.specs.HostWords.{host_frame}
 use Rattle.mmu_core.proofs.lines.LinesKept.{answers_length, answers_more}
 use Rattle.mmu_core.proofs.machine.PartStepping.{is_told}
 use Rattle.mmu_core.proofs.slots.LiveStays.{access_untold}
@@ -68,7 +74,7 @@ access_raises p gfn t = by (access_part p gfn t) (λ step is. access_untold p gf
 
 change_rises : (p : SlotChangePlace) (h : Held) (command : Command) → rises (slot_change_part p h command) ≡ 0
 change_rises (change.Claim begun) h command =
-    untold_rises (slot_change_part (change.Claim begun) h command) (claim_is (λ s. is_told s ≡ false) begun h.topics.claim refl (λ word. refl))
+    untold_rises (slot_change_part (change.Claim begun) h command) (claim_is (λ s. is_told s ≡ false) Pages begun h.topics.claim refl (λ word. refl))
 change_rises (change.Refuse refusal) h command = refl
 change_rises _ h command = refl
 
@@ -90,11 +96,18 @@ raised_on place.Between command h v line begun = absurd begun
 raised_on (place.Access p) (Access gfn word op) h v line begun = none_raised (outcome_at (place.Access p) (Access gfn word op) h v) line h.answers _
     (access_raises p gfn h.topics)
 raised_on (place.SlotChange p) command h v line begun = none_raised (outcome_at (place.SlotChange p) command h v) line h.answers _ (change_rises p h command)
-raised_on (place.Host host.Look) (ChangeHost page c) h v line begun =
-    none_raised (outcome_at (place.Host host.Look) (ChangeHost page c) h v) line h.answers _
+raised_on (place.Host (host.Look moving)) (ChangeHost page c) h v line begun =
+    none_raised (outcome_at (place.Host (host.Look moving)) (ChangeHost page c) h v) line h.answers _
     (either_place (λ step. rises step ≡ 0) _ (part.Host page) part.Seq refl refl)
+raised_on (place.Host (host.Claim going)) (ChangeHost page c) h v line begun =
+    none_raised (outcome_at (place.Host (host.Claim going)) (ChangeHost page c) h v) line h.answers _
+    (claim_is (λ step. rises step ≡ 0) Frames going h.topics.frames.claim refl (λ word. refl))
 raised_on (place.Host (host.Begin p)) (ChangeHost page c) h v line begun = none_raised
     (outcome_at (place.Host (host.Begin p)) (ChangeHost page c) h v) line h.answers _ (begin_rises p page h.topics)
+raised_on (place.Host host.Copy) (ChangeHost page c) h v line begun =
+    none_raised (outcome_at (place.Host host.Copy) (ChangeHost page c) h v) line h.answers _ refl
+raised_on (place.Host host.Store) (ChangeHost page c) h v line begun =
+    none_raised (outcome_at (place.Host host.Store) (ChangeHost page c) h v) line h.answers _ refl
 raised_on (place.Host host.Change) (ChangeHost page c) h v line begun = none_raised
     (outcome_at (place.Host host.Change) (ChangeHost page c) h v) line h.answers _ refl
 raised_on (place.Host (host.End ends.Exclude)) (ChangeHost page c) h v line begun = omega arith
@@ -102,8 +115,18 @@ raised_on (place.Host (host.End ends.Seq)) (ChangeHost page c) h v line begun = 
 raised_on (place.Host (host.End ends.SetSeq)) (ChangeHost page c) h v line begun = omega arith
 raised_on (place.Host (host.End ends.Count)) (ChangeHost page c) h v line begun = omega arith
 raised_on (place.Host (host.End ends.SetCount)) (ChangeHost page c) h v line begun = omega arith
-raised_on (place.Host (host.End ends.Release)) (ChangeHost page c) h v line begun =
-    let more = answers_length h.answers (record { number = line.number; actor = line.actor; answer = Done }) in omega (arith, more)
+raised_on (place.Host (host.End ends.Release)) (ChangeHost page c) h v line begun = by (moves h.topics)
+  where
+    by : (moving : Bool) → length h.answers + 1 + 0
+        ≤ length (answers_after (after_end moving ends_next.Ended) line h.answers) + one_if (has_raised (place_after (after_end moving ends_next.Ended)))
+    by true = omega arith
+    by false = let more = answers_length h.answers (record { number = line.number; actor = line.actor; answer = Done }) in omega (arith, more)
+raised_on (place.Host host.Watch) (ChangeHost page c) h v line begun =
+    each_watch (λ q. length h.answers + 1 + 0 ≤ length h.answers + one_if (has_raised (place.Host q))) (watch_next h v) host.Watch host.Free (omega arith)
+    (omega arith)
+raised_on (place.Host host.Free) (ChangeHost page c) h v line begun =
+    let more = answers_length h.answers (record { number = line.number; actor = line.actor; answer = Moved (host_frame (word_looked h.topics.host)) }) in
+    omega (arith, more)
 raised_on _ _ h v line begun = omega arith
 
 -- A line that begins has raised nothing yet.

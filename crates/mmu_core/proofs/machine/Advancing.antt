@@ -30,7 +30,10 @@ use Rattle.mmu_core.specs.lines.Forms.{AcceptsAt, RestsAt}
 use Rattle.mmu_core.specs.lines.Rests.{IsUnderWay, Rests}
 use Rattle.mmu_core.proofs.machine.Stepping.{is_begun}
 use Rattle.mmu_core.specs.lines.Cached.{flushed}
-use Rattle.part_steps.specs.PartBounds.{PartRests}
+use Rattle.part_steps.specs.PartBounds.{FrameCountersPart, PartRests}
+use Rattle.part_steps.specs.FrameTopics.{words_moved}
+use Rattle.core_views.specs.declared.topics.Frames.{Frames}
+use Rattle.core_views.specs.declared.topics.OwnedPage.{OwnedPage}
 use Rattle.core_views.specs.declared.sizes.Sizes.{Sizes}
 use Rattle.mmu_core.proofs.lines.ByStep.{StepAt, step_at, Makes, Touches}
 use Rattle.mmu_core.proofs.machine.Sized.{loads_keep_sizes}
@@ -43,10 +46,6 @@ pub enabled_sizes : (h : Held) (k : Kind) → Enabled h k → AreSizes h.state.s
 unfolding Enabled
 enabled_sizes h k (inl e) = e.rests.part.sizes
 enabled_sizes h k (inr e) = e.sizes
-
--- a hand at rest has nothing that a line's step would count
-no_page_room : (t : Topics) → t.owned ≡ None → HasRoom kind.Fill t
-no_page_room t none = λ o is. let e : None ≡ Some o = sym none ∙ is in absurd (cc e)
 
 -- the run of a guest frame is a small number
 pub run_small : (gfn : ℕ) (walk : TableWalk) → IsOver gfn walk → walk.prefix < 2 ^ 36
@@ -61,42 +60,57 @@ named_is _ = refl
 abbrev HasSmallFrames : Topics → Type 0
 HasSmallFrames t = t.search.whole ≡ true → t.search.slot.base + t.search.slot.pages ≤ 2 ^ 36
 
-part_room : (step : PartStep) (h : Held) (note : ℕ) → AreSizes h.state.sizes → PartNeeds step h → (needs_line step ≡ true → HasSmallFrames h.topics)
-    → HasRoom (part_task step (own_index h) h.topics note).kind h.topics
-part_room (part.Fill value) h note z N small = λ o is. let filled : words_filled h.topics.owned ≡ o.filled = ap words_filled is in omega (arith, filled, N.0.1)
-part_room (part.Role value) h note z N small = λ o is. let filled : words_filled h.topics.owned ≡ o.filled = ap words_filled is in omega (arith, filled, N.0)
-part_room part.Slot h note z N small = λ some. N.1
-part_room part.Claim h note z N small = (N.1, omega (arith, N.2, z.pool.1))
-part_room (part.Walk gfn) h note z N small = λ from. run_small gfn h.topics.walk N
-part_room (part.Link gfn) h note z N small = λ from. run_small gfn h.topics.walk N.0.saw.over
-part_room (part.Leaf gfn) h note z N small = λ from. run_small gfn h.topics.walk N.0.saw.over
-part_room part.Clear h note z N small = λ o is. let e : None ≡ Some o = sym N.owns_none ∙ is in absurd (cc e)
-part_room (part.SetStart gfn) h note z N small = small refl
-part_room (part.SetEnd gfn) h note z N small = small refl
-part_room (part.SetCount count) h note z N small = small refl
-part_room (part.SetSeq seq) h note z N small = small refl
-part_room _ h note z N small = tt
+-- A frame has few words, so few of them are filled.
+few_moved : (z : Sizes) (f : Frames) → AreSizes z → FrameCountersPart z f → words_moved f.owned < 2 ^ 32
+few_moved z f sizes few = omega (arith, few.filled, sizes.words.1)
+
+-- An actor that owns no page fills none of its words.
+no_page_room : (t : Topics) → t.owned ≡ None → (o : OwnedPage) → t.owned ≡ Some o → o.filled < 513
+no_page_room t none o is = let e : None ≡ Some o = sym none ∙ is in absurd (cc e)
+
+part_room : (step : PartStep) (h : Held) (note : ℕ) → AreSizes h.state.sizes → FrameCountersPart h.state.sizes h.topics.frames → PartNeeds step h
+    → (needs_line step ≡ true → HasSmallFrames h.topics) → HasRoom (part_task step (own_index h) h.topics note).kind h.topics
+part_room (part.Fill value) h note z few N small = (
+  λ o is. let filled : words_filled h.topics.owned ≡ o.filled = ap words_filled is in omega (arith, filled, N.0.1),
+  few_moved h.state.sizes h.topics.frames z few,
+)
+part_room (part.Role value) h note z few N small = (
+  λ o is. let filled : words_filled h.topics.owned ≡ o.filled = ap words_filled is in omega (arith, filled, N.0),
+  few_moved h.state.sizes h.topics.frames z few,
+)
+part_room part.Slot h note z few N small = λ some. N.1
+part_room part.Claim h note z few N small = (N.1, omega (arith, N.2, z.pool.1))
+part_room (part.Walk gfn) h note z few N small = λ from. run_small gfn h.topics.walk N
+part_room (part.Link gfn) h note z few N small = λ from. run_small gfn h.topics.walk N.0.saw.over
+part_room (part.Leaf gfn) h note z few N small = λ from. run_small gfn h.topics.walk N.0.saw.over
+part_room part.Clear h note z few N small = (no_page_room h.topics N.owns_none, few_moved h.state.sizes h.topics.frames z few)
+part_room (part.SetStart gfn) h note z few N small = small refl
+part_room (part.SetEnd gfn) h note z few N small = small refl
+part_room (part.SetCount count) h note z few N small = small refl
+part_room (part.SetSeq seq) h note z few N small = small refl
+part_room part.Frame h note z few N small = (N.1, omega (arith, N.2, z.frames.1))
+part_room (part.Store index) h note z few N small = (no_page_room h.topics N.no_page, few_moved h.state.sizes h.topics.frames z few)
+part_room _ h note z few N small = tt
 
 touch_room : (op : Op) (index : ℕ) (t : Topics) → HasRoom (touch_of op index).kind t
 touch_room Read index t = tt
 touch_room _ index t = tt
 
-room_by : (command : Command) (h : Held) (t : Task) → AreSizes h.state.sizes → HasSmallFrames h.topics → StepAt command h t → HasRoom t.kind h.topics
-room_by command h _ z small (Makes step note N) = part_room step h note z N (λ e. small)
-room_by command h _ z small (Touches gfn word op is R) = touch_room op _ h.topics
+room_by : (command : Command) (h : Held) (t : Task) → PartRests h → StepAt command h t → HasRoom t.kind h.topics
+room_by command h _ R (Makes step note N) = part_room step h note R.sizes R.counters.frames N (λ e. R.frames)
+room_by command h _ R (Touches gfn word op is N) = touch_room op _ h.topics
 
-task_room : (p : Place) (command : Command) (h : Held) → AreSizes h.state.sizes → HasSmallFrames h.topics → RestsAt p command h
-    → HasRoom (task_at p command h).kind h.topics
-task_room p command h z small R = room_by command h (task_at p command h) z small (step_at p command h R)
+task_room : (p : Place) (command : Command) (h : Held) → PartRests h → RestsAt p command h → HasRoom (task_at p command h).kind h.topics
+task_room p command h R at = room_by command h (task_at p command h) R (step_at p command h at)
 
 room_of : (h : Held) (k : Kind) → IsNext h k ⊎ IsPartStep h k → HasRoom (kind_named k.code) h.topics
 room_of h k (inl e) =
     subst (λ (x : Kind). HasRoom (kind_named x.code) h.topics) (sym e.is) (subst (λ x. HasRoom x h.topics) (sym (named_is (task_of h).kind))
-    (task_room (place_at h.state.place h) (line_at h.state.place h).command h e.rests.part.sizes e.rests.part.frames e.rests.at))
+    (task_room (place_at h.state.place h) (line_at h.state.place h).command h e.rests.part e.rests.at))
 room_of h k (inr e) =
     subst (λ (x : Kind). HasRoom (kind_named x.code) h.topics) (sym e.is)
     (subst (λ x. HasRoom x h.topics) (sym (named_is (part_task e.step (own_index h) h.topics e.note).kind))
-    (part_room e.step h e.note e.sizes e.needs (λ line. absurd (let free = e.free in cc (free, line)))))
+    (part_room e.step h e.note e.sizes e.counters e.needs (λ line. absurd (let free = e.free in cc (free, line)))))
 
 pub enabled_room : (h : Held) (k : Kind) → Enabled h k → HasRoom (kind_named k.code) h.topics
 unfolding Enabled

@@ -65,13 +65,17 @@ abbrev pub brings : PartStep → Bool
 brings part.Bring = true
 brings _ = false
 
--- It is a step of which a line says more than what it needs, which opens or ends an invalidation of the actor's own, or with which its owner changes a
--- host word.
+-- It is a step of which a line says more than what it needs, which opens or ends an invalidation of the actor's own, with which its owner changes a host word,
+-- or which is of the frame that is owned.
 abbrev pub is_told : PartStep → Bool
 is_told part.Publish = true
 is_told (part.SetCount count) = true
 is_told (part.SetSeq seq) = true
 is_told (part.Change new_) = true
+is_told part.Frame = true
+is_told (part.Copy index) = true
+is_told (part.Store index) = true
+is_told part.GiveFrame = true
 is_told _ = false
 
 pub never_told : (step : PartStep) → is_told step ≡ false → is_publish step ≡ false
@@ -88,6 +92,10 @@ idle_untold part.Publish free = absurd (cc free)
 idle_untold (part.SetCount count) free = absurd (cc free)
 idle_untold (part.SetSeq seq) free = absurd (cc free)
 idle_untold (part.Change new_) free = absurd (cc free)
+idle_untold part.Frame free = absurd (cc free)
+idle_untold (part.Copy index) free = absurd (cc free)
+idle_untold (part.Store index) free = absurd (cc free)
+idle_untold part.GiveFrame free = absurd (cc free)
 idle_untold _ free = refl
 
 pub replaces_none : (step : PartStep) (pool : ℕ → ℕ) (slots : ℕ) (t : Topics) → is_told step ≡ false → Replaces step pool slots t

@@ -4,17 +4,18 @@ use Rattle.core_views.specs.declared.sizes.Sizes.{Sizes}
 use Rattle.core_views.specs.declared.topics.Topics.{Topics}
 use Rattle.core_views.specs.Held.{Held}
 use Rattle.core_views.specs.Sizes.{actors_of}
-use Rattle.mmu_core.specs.invariant.TopicsInvariant.{CountersPart, FilledPart, HeldPart, LockPart, LookPart, OwnLooksPart, SawWriter, SearchPart}
+use Rattle.mmu_core.specs.invariant.TopicsInvariant.{CountersPart, FilledPart, FramesPart, HeldPart, LockPart, LookPart, OwnLooksPart, SawWriter, SearchPart}
 use Rattle.mmu_core.specs.invariant.TopicsInvariant.{StatesPart, TopicsInvariantOf, SetsPart, OldSetsPart, PathPart, UsePart, stands, CountPart}
 use Rattle.mmu_core.specs.invariant.TopicsInvariant.{CheckedPart, KnownRangePart, LoadedPart, PassedPart, RangePart, ScopePart, ZappedPart}
 
-pub same_topics : (z : Sizes) (lock root slots seq count start end_ : ℕ) (states map host role pool : ℕ → ℕ) (hand other : ℕ → Held)
+pub same_topics : (z : Sizes) (lock root slots seq count start end_ : ℕ) (states map frame_map host role pool : ℕ → ℕ) (hand other : ℕ → Held)
     → ◌≡◌ {A = ℕ → Topics} (λ i. (other i).topics) (λ i. (hand i).topics)
-    → TopicsInvariantOf z lock root slots seq count start end_ states map host role pool hand
-    → TopicsInvariantOf z lock root slots seq count start end_ states map host role pool other
-same_topics z lock root slots seq count start end_ states map host role pool hand other same I = record {
+    → TopicsInvariantOf z lock root slots seq count start end_ states map frame_map host role pool hand
+    → TopicsInvariantOf z lock root slots seq count start end_ states map frame_map host role pool other
+same_topics z lock root slots seq count start end_ states map frame_map host role pool hand other same I = record {
   up = I.up;
   spot = I.spot;
+  use_of = I.use_of;
   lock_part = subst (λ (t : ℕ → Topics). LockPart (actors_of z) lock (λ i. (t i).hold)) (sym same) I.lock_part;
   saw_writer = subst (λ (t : ℕ → Topics). (i : ℕ) → i < actors_of z → SawWriter (t i).hold) (sym same) I.saw_writer;
   states_part = subst (λ (t : ℕ → Topics). StatesPart (actors_of z) states (λ i. (t i).stay)) (sym same) I.states_part;
@@ -28,6 +29,7 @@ same_topics z lock root slots seq count start end_ states map host role pool han
   old_sets = subst (λ (t : ℕ → Topics). OldSetsPart (actors_of z) slots pool (λ i. (t i).leaving)) (sym same) I.old_sets;
   searches = subst (λ (t : ℕ → Topics). (i : ℕ) → i < actors_of z → SearchPart pool (t i).search) (sym same) I.searches;
   hosts = I.hosts;
+  frames = subst (λ (t : ℕ → Topics). FramesPart z (actors_of z) frame_map host (λ i. (t i).frames.owned) I.use_of) (sym same) I.frames;
   looks = subst (λ (t : ℕ → Topics). (i : ℕ) → i < actors_of z → LookPart z (actors_of z) seq host t (t i)) (sym same) I.looks;
   own_looks = subst (λ (t : ℕ → Topics). OwnLooksPart z (actors_of z) host t) (sym same) I.own_looks;
   counts = subst (λ (t : ℕ → Topics). CountPart (actors_of z) count (λ i. (t i).invalidations.opened)) (sym same) I.counts;

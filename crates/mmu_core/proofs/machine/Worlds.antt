@@ -9,6 +9,7 @@ use Rattle.core_views.specs.Kinds.{after, operation_of_code, word_after}
 use Rattle.mmu_core.specs.invariant.InvalidationsPart.{EndsPart}
 use Rattle.mmu_core.specs.invariant.Laws.{IsSound}
 use Rattle.mmu_core.proofs.lines.AccessParts.{AreSmall}
+use Rattle.mmu_core.proofs.held.CopiedKept.{CopiedAt, line_copied_kept, part_copied_kept}
 use Rattle.mmu_core.proofs.held.FlushKept.{FlushAt, line_flushes_kept, part_flushes_kept}
 use Rattle.mmu_core.proofs.held.UsableKept.{UsableAt, line_usable_kept, part_usable_kept}
 use Rattle.mmu_core.proofs.machine.EndsKept.{line_ends_kept, next_few, part_ends_kept}
@@ -220,6 +221,8 @@ good_step z w s G may = by (takes z w s G may)
           (place_at h.state.place h) (are_small z w G) T.is_step G.holds G.topics G.flushes G.usable);
       flushes = subst (FlushAt z) (sym T.leads) (line_flushes_kept z (view z w) s.actor (line_at h.state.place h) (line_at h.state.place h).command
           (place_at h.state.place h) (are_small z w G) T.is_step G.holds G.topics G.flushes);
+      copied = subst (CopiedAt z) (sym T.leads) (line_copied_kept z (view z w) s.actor (line_at h.state.place h) (line_at h.state.place h).command
+          (place_at h.state.place h) (are_small z w G) T.is_step G.holds G.topics G.flushes G.usable G.copied);
       no_pause = subst (λ (v : View). v.words area.Pause 0 ≡ 0) (sym T.leads)
           (pause_stays z (view z w) s.actor (line_at h.state.place h) (line_at h.state.place h).command (place_at h.state.place h)
           (are_small z w G) T.is_step G.holds G.topics ∙ G.no_pause);
@@ -235,6 +238,7 @@ good_step z w s G may = by (takes z w s G may)
       ends = subst (λ (v : View). EndsPart z (v.words area.Seq 0) v.hand) (sym T.leads) (part_ends_kept z (view z w) s.actor T.step T.note T.free G.ends);
       usable = subst (UsableAt z) (sym T.leads) (part_usable_kept z (view z w) s.actor T.step T.note T.is_part G.topics G.flushes G.usable);
       flushes = subst (FlushAt z) (sym T.leads) (part_flushes_kept z (view z w) s.actor T.step T.note T.is_part G.topics G.flushes);
+      copied = subst (CopiedAt z) (sym T.leads) (part_copied_kept z (view z w) s.actor T.step T.note T.is_part T.none_left G.holds G.topics G.copied);
       no_pause =
           subst (λ (v : View). v.words area.Pause 0 ≡ 0) (sym T.leads)
           (ap (λ (f : ℕ → ℕ). f 0) (areas_stay (view z w) s.actor T.step T.note area.Pause refl) ∙ G.no_pause);

@@ -21,6 +21,7 @@ use Rattle.mmu_core.proofs.machine.Columns.{at_upd, same_or, upd_same}
 use Rattle.mmu_core.proofs.pages.Owned.{OwnsWhole, table_owned}
 use Rattle.mmu_core.proofs.pages.OwnedBehind.{leaf_owned, link_owned, owned_behind, owned_is}
 use Rattle.mmu_core.proofs.machine.PartStepping.{IsPart}
+use Rattle.mmu_core.proofs.words.PartTopics.{is_there}
 use Rattle.mmu_core.proofs.words.PartWords.{HasOtherRole, IsElsewhere, fill_leaves, page_stays, role_stays, walks_unowned, left_elsewhere}
 use Rattle.mmu_core.proofs.pages.PoolPages.{left_not_owned, one_owner, owned_there}
 use Rattle.mmu_core.proofs.pages.Standing.{entry_now}
@@ -168,6 +169,7 @@ pub filled_kept : (z : Sizes) (v : View) (a : ℕ) (step : PartStep) (note : ℕ
 filled_kept z v a step note S I =
     let w : View = part_stepped a step note v in
     at_upd (λ i (g : Held). (o : OwnedPage) → i < actors_of z → g.topics.owned ≡ Some o → IsFilled (w.words area.Role) (w.words area.Pool) o) v.hand a _
-    (λ o lt is. own_filled z v a step note S I o (sym (owned_is step (v.hand a).state.sizes (own_index (v.hand a)) (v.hand a).topics note _) ∙ is))
+    (λ o lt is. own_filled z v a step note S I o (sym (owned_is step (v.hand a).state.sizes (own_index (v.hand a)) (v.hand a).topics note _
+    (is_there step (v.hand a) S.needs)) ∙ is))
     (λ i apart o lt is. still_filled z v a step note S o (others_elsewhere z v a step S I i o lt apart is)
     (other_roles z v a step S I i o lt apart is) (I.filled i o lt is))

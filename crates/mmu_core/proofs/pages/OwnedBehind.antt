@@ -20,6 +20,7 @@ use Rattle.part_steps.specs.TopicSteps.{topics_after}
 use Rattle.mmu_core.specs.machine.View.{View, answer_in, part_stepped, upd}
 use Rattle.mmu_core.proofs.machine.Columns.{upd_same}
 use Rattle.mmu_core.proofs.machine.SumsBelow.{column}
+use Rattle.mmu_core.proofs.words.PartTopics.{IsThere, part_topics_is}
 
 -- what is owned behind a step that answered v
 abbrev pub owned_behind : PartStep → Topics → ℕ → Option OwnedPage
@@ -35,10 +36,14 @@ owned_behind (part.Leaf gfn) t v = if is_in_table t.walk then still_owned (v == 
 owned_behind _ t v = t.owned
 
 pub owned_is : (step : PartStep) (z : Sizes) (own : ℕ) (t : Topics) (note v : ℕ)
-    → (topics_after z (kind_of_task z (part_task step own t note)) t v).owned ≡ owned_behind step t v
+    → IsThere z t step → (topics_after z (kind_of_task z (part_task step own t note)) t v).owned ≡ owned_behind step t v
 unfolding topics_after
-owned_is part.Claim z own t note v = refl
-owned_is _ z own t note v = refl
+owned_is part.Claim z own t note v there = refl
+owned_is (part.Fill value) z own t note v there = ap (λ (x : Topics). x.owned) (part_topics_is z (part.Fill value) own t note v there)
+owned_is (part.Role value) z own t note v there = ap (λ (x : Topics). x.owned) (part_topics_is z (part.Role value) own t note v there)
+owned_is part.Clear z own t note v there = ap (λ (x : Topics). x.owned) (part_topics_is z part.Clear own t note v there)
+owned_is (part.Store index) z own t note v there = ap (λ (x : Topics). x.owned) (part_topics_is z (part.Store index) own t note v there)
+owned_is _ z own t note v there = refl
 
 -- what leaves behind a step that answered v
 abbrev pub left_behind : PartStep → Topics → ℕ → Option ℕ
@@ -63,11 +68,11 @@ pub owned_same : (hand : ℕ → Held) (a : ℕ) (h : Held) → h.topics.owned �
 owned_same = column (λ (h : Held). h.topics.owned)
 
 -- the page that the actor owns behind its step
-pub own_behind : (v : View) (a : ℕ) (step : PartStep) (note : ℕ)
+pub own_behind : (v : View) (a : ℕ) (step : PartStep) (note : ℕ) → IsThere (v.hand a).state.sizes (v.hand a).topics step
     → ((part_stepped a step note v).hand a).topics.owned
     ≡ owned_behind step (v.hand a).topics (answer_in (part_task step (own_index (v.hand a)) (v.hand a).topics note) v.words)
-own_behind v a step note =
-    ap (λ (h : Held). h.topics.owned) (upd_same v.hand a _) ∙ owned_is step (v.hand a).state.sizes (own_index (v.hand a)) (v.hand a).topics note _
+own_behind v a step note there =
+    ap (λ (h : Held). h.topics.owned) (upd_same v.hand a _) ∙ owned_is step (v.hand a).state.sizes (own_index (v.hand a)) (v.hand a).topics note _ there
 
 -- An entry of the lowest level is no link: who stores a leaf owns what it owned.
 no_link : (w : ℕ) → linked_page (kind_of 1 w) ≡ None

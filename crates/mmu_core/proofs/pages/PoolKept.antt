@@ -22,6 +22,7 @@ use Rattle.mmu_core.specs.invariant.TreePart.Use.{Free, OldSet, SlotSet, Under}
 use Rattle.mmu_core.specs.machine.View.{View, answer_in, part_stepped, upd}
 use Rattle.mmu_core.proofs.pages.OwnedBehind.{leaf_owned, link_owned, owned_is, owned_same, left_same, left_is}
 use Rattle.mmu_core.proofs.machine.PartStepping.{IsPart}
+use Rattle.mmu_core.proofs.words.PartTopics.{is_there}
 use Rattle.mmu_core.proofs.words.PartWords.{slots_are, slots_behind}
 use Rattle.mmu_core.proofs.pages.PoolPages.{owned_there}
 use Rattle.mmu_core.proofs.pages.Standing.{entry_now, up_after, upd_if}
@@ -67,7 +68,7 @@ map_kept z v a part.Claim note S I =
     let t : Topics = (v.hand a).topics in
     let low : tried_bit t.claim < 64 = (bit_at-trailing_zeros w64 t.claim.seen S.needs.1 (I.counters a S.there).seen).0 in
     claim_kept v.hand I.uses a (hand_behind v a part.Claim note) S.there t.claim.at (tried_bit t.claim) (is_won t.claim (v.words area.PoolMap t.claim.at))
-    low refl S.needs.0 (owned_is part.Claim (v.hand a).state.sizes (own_index (v.hand a)) t note _)
+    low refl S.needs.0 (owned_is part.Claim (v.hand a).state.sizes (own_index (v.hand a)) t note _ (is_there part.Claim (v.hand a) S.needs))
     (left_is part.Claim (v.hand a).state.sizes (own_index (v.hand a)) t note _)
 map_kept z v a part.Give note S I =
     let t : Topics = (v.hand a).topics in
@@ -77,7 +78,7 @@ map_kept z v a part.Give note S I =
     subst (λ p. UsePart (actors_of z) z.pool (v.words area.Slots 0) ((part_stepped a part.Give note v).words area.PoolMap)
     (λ i. (upd v.hand a h i).topics.owned) (λ i. (upd v.hand a h i).topics.leaving) (upd I.up p Free)) (sym page)
     (give_kept v.hand I.uses a h S.there (page_owned t.owned / 64) (page_owned t.owned % 64) o.0 (omega arith) (omega (arith, page)) o.1
-    (owned_is part.Give (v.hand a).state.sizes (own_index (v.hand a)) t note _)
+    (owned_is part.Give (v.hand a).state.sizes (own_index (v.hand a)) t note _ (is_there part.Give (v.hand a) S.needs))
     (left_is part.Give (v.hand a).state.sizes (own_index (v.hand a)) t note _ ∙ ap (λ x. still_leaving x t.leaving) o.1))
 map_kept z v a part.GiveOld note S I =
     let t : Topics = (v.hand a).topics in
@@ -87,7 +88,7 @@ map_kept z v a part.GiveOld note S I =
     subst (λ p. UsePart (actors_of z) z.pool (v.words area.Slots 0) ((part_stepped a part.GiveOld note v).words area.PoolMap)
     (λ i. (upd v.hand a h i).topics.owned) (λ i. (upd v.hand a h i).topics.leaving) (upd I.up p Free)) (sym page)
     (give_old_kept v.hand I.uses a h S.there (page_left t.leaving / 64) (page_left t.leaving % 64) k.0 (omega arith) (omega (arith, page)) S.needs.owns_none k.1
-    (owned_is part.GiveOld (v.hand a).state.sizes (own_index (v.hand a)) t note _)
+    (owned_is part.GiveOld (v.hand a).state.sizes (own_index (v.hand a)) t note _ (is_there part.GiveOld (v.hand a) S.needs))
     (left_is part.GiveOld (v.hand a).state.sizes (own_index (v.hand a)) t note _ ∙ ap (λ x. still_leaving x t.leaving) S.needs.owns_none))
 map_kept z v a part.Publish note S I =
     let t : Topics = (v.hand a).topics in
@@ -97,19 +98,19 @@ map_kept z v a part.Publish note S I =
     subst (λ p. UsePart (actors_of z) z.pool p (v.words area.PoolMap) (λ i. (upd v.hand a h i).topics.owned) (λ i. (upd v.hand a h i).topics.leaving)
     (upd (upd I.up (v.words area.Slots 0) (OldSet a)) p SlotSet)) (sym page)
     (publish_kept v.hand I.uses a h S.there owns.owned owns.is S.needs.none_leaves
-    (owned_is part.Publish (v.hand a).state.sizes (own_index (v.hand a)) t note _)
+    (owned_is part.Publish (v.hand a).state.sizes (own_index (v.hand a)) t note _ (is_there part.Publish (v.hand a) S.needs))
     (left_is part.Publish (v.hand a).state.sizes (own_index (v.hand a)) t note _))
 map_kept z v a part.Clear note S I =
     fill_kept v.hand I.uses a (hand_behind v a part.Clear note) S.there _
-    (owned_is part.Clear (v.hand a).state.sizes (own_index (v.hand a)) (v.hand a).topics note _)
+    (owned_is part.Clear (v.hand a).state.sizes (own_index (v.hand a)) (v.hand a).topics note _ (is_there part.Clear (v.hand a) S.needs))
     (left_is part.Clear (v.hand a).state.sizes (own_index (v.hand a)) (v.hand a).topics note _)
 map_kept z v a (part.Fill value) note S I =
     fill_kept v.hand I.uses a (hand_behind v a (part.Fill value) note) S.there _
-    (owned_is (part.Fill value) (v.hand a).state.sizes (own_index (v.hand a)) (v.hand a).topics note _)
+    (owned_is (part.Fill value) (v.hand a).state.sizes (own_index (v.hand a)) (v.hand a).topics note _ (is_there (part.Fill value) (v.hand a) S.needs))
     (left_is (part.Fill value) (v.hand a).state.sizes (own_index (v.hand a)) (v.hand a).topics note _)
 map_kept z v a (part.Role value) note S I =
     fill_kept v.hand I.uses a (hand_behind v a (part.Role value) note) S.there _
-    (owned_is (part.Role value) (v.hand a).state.sizes (own_index (v.hand a)) (v.hand a).topics note _)
+    (owned_is (part.Role value) (v.hand a).state.sizes (own_index (v.hand a)) (v.hand a).topics note _ (is_there (part.Role value) (v.hand a) S.needs))
     (left_is (part.Role value) (v.hand a).state.sizes (own_index (v.hand a)) (v.hand a).topics note _)
 map_kept z v a (part.Link gfn) note S I =
     let t : Topics = (v.hand a).topics in
@@ -117,7 +118,7 @@ map_kept z v a (part.Link gfn) note S I =
     let page : page_owned t.owned ≡ owns.owned.page = ap page_owned owns.is in
     let small : owns.owned.page < 2 ^ 32 = omega (arith, owned_there I.uses a owns.owned S.there owns.is, S.is_sizes.pool.1) in
     let is =
-    owned_is (part.Link gfn) (v.hand a).state.sizes (own_index (v.hand a)) t note (entry_now gfn t v)
+    owned_is (part.Link gfn) (v.hand a).state.sizes (own_index (v.hand a)) t note (entry_now gfn t v) (is_there (part.Link gfn) (v.hand a) S.needs)
     ∙ link_owned gfn t owns.owned (entry_now gfn t v) S.needs.1 owns.is small in
     let h : Held = hand_behind v a (part.Link gfn) note in
     let won : Bool = entry_now gfn t v == t.walk.entry in
@@ -128,11 +129,12 @@ map_kept z v a (part.Link gfn) note S I =
 map_kept z v a (part.Leaf gfn) note S I =
     let t : Topics = (v.hand a).topics in
     let is =
-    owned_is (part.Leaf gfn) (v.hand a).state.sizes (own_index (v.hand a)) t note (entry_now gfn t v)
+    owned_is (part.Leaf gfn) (v.hand a).state.sizes (own_index (v.hand a)) t note (entry_now gfn t v) (is_there (part.Leaf gfn) (v.hand a) S.needs)
     ∙ leaf_owned gfn t (entry_now gfn t v) S.needs.1 in
     same_pages z v a (hand_behind v a (part.Leaf gfn) note) I is (left_is (part.Leaf gfn) (v.hand a).state.sizes (own_index (v.hand a)) t note _)
 map_kept z v a step note S I =
-    same_pages z v a (hand_behind v a step note) I (owned_is step (v.hand a).state.sizes (own_index (v.hand a)) (v.hand a).topics note _)
+    same_pages z v a (hand_behind v a step note) I (owned_is step (v.hand a).state.sizes (own_index (v.hand a)) (v.hand a).topics note _
+    (is_there step (v.hand a) S.needs))
     (left_is step (v.hand a).state.sizes (own_index (v.hand a)) (v.hand a).topics note _)
 
 -- Each step of a part keeps what the pool pages are.

@@ -27,6 +27,7 @@ use Rattle.part_steps.specs.declared.part_step.PartStep.{PartStep}
 use Rattle.mmu_core.specs.lines.Cached.{frame_used}
 use Rattle.mmu_core.specs.lines.AccessSteps.{access_note, access_part, task_by, touch_of}
 use Rattle.mmu_core.specs.lines.FaultSteps.{fault_part}
+use Rattle.mmu_core.specs.declared.claim.FreeMap.TheVariants as free
 use Rattle.part_steps.specs.SlotWords.{field_number, live_at, slot_at, slot_index}
 use Rattle.part_steps.specs.Tasks.{map_of}
 use Rattle.mmu_core.specs.invariant.TopicsInvariant.{TopicsInvariant}
@@ -136,7 +137,7 @@ plain_by_fault (fault.Check stage.Start) gfn t other = (refl, refl)
 plain_by_fault (fault.Check stage.End) gfn t other = (refl, refl)
 plain_by_fault (fault.Check stage.Seq) gfn t other = (refl, refl)
 plain_by_fault (fault.Walk rooted) gfn t other = either_place IsPlain rooted (part.Walk gfn) part.Root (refl, refl) (refl, refl)
-plain_by_fault (fault.Claim begun) gfn t other = claim_is IsPlain begun t.claim (refl, refl) (λ word. (refl, refl))
+plain_by_fault (fault.Claim begun) gfn t other = claim_is IsPlain free.Pages begun t.claim (refl, refl) (λ word. (refl, refl))
 plain_by_fault _ gfn t other = (refl, refl)
 
 untold_by_fault : (p : FaultPlace) (gfn : ℕ) (t : Topics) → is_told (fault_part p gfn t) ≡ false

@@ -1,51 +1,99 @@
 -- Which steps of a line that changes a slot claim: those of its claim, with the last of which it may be starved.
-use Rattle.std.proofs.Common.{◌≡◌, ◌⊎◌, inl, ◌+◌, ℕ, refl}
-use Rattle.std.specs.Prelude.{true, ◌==◌, nat_lt, Option, Some, None}
+use Rattle.std.proofs.Common.{◌≡◌, ◌≢◌, ◌⊎◌, inl, inr, ◌+◌, ℕ, refl, ap}
+use Rattle.std.specs.Prelude.{Bool, true, false, ◌==◌, nat_lt, Option, Some, None}
+use Rattle.core_views.specs.declared.answer.Answer.TheVariants.{Done, Refused}
 use Rattle.core_views.specs.declared.answer.Refusal.{Refusal}
+use Rattle.core_views.specs.declared.answer.Refusal.TheVariants.{NoFrame}
 use Rattle.core_views.specs.declared.place.Place.TheVariants as place
 use Rattle.core_views.specs.declared.place.SlotChangePlace.{SlotChangePlace}
-use Rattle.core_views.specs.declared.place.SlotChangePlace.TheVariants.{Claim, Fill, Role, Exclude, Count, Close, Publish, Watch, Clear}
+use Rattle.core_views.specs.declared.place.SlotChangePlace.TheVariants.{Refuse, Claim, Fill, Role, Exclude, Count, Close, Publish, Release, Watch, Clear, Give}
 use Rattle.core_views.specs.declared.trace.Command.{Command}
 use Rattle.core_views.specs.Held.{Held}
 use Rattle.part_steps.specs.PartTasks.{words_filled}
 use Rattle.mmu_core.specs.declared.claim.ClaimNext.{ClaimNext}
-use Rattle.mmu_core.specs.lines.ClaimSteps.{claim_next}
-use Rattle.mmu_core.specs.lines.ScanPlaces.{HasScan, claim_at}
+use Rattle.mmu_core.specs.declared.outcome.Outcome.TheVariants.{Goes, Ends}
+use Rattle.mmu_core.specs.lines.ClaimSteps.{FreeMap, Pages, Frames, claim_next}
+use Rattle.mmu_core.specs.lines.ScanPlaces.{HasScan, answer_without, claim_at}
+use Rattle.mmu_core.specs.lines.SlotChangeKnows.{is_of_frames}
 use Rattle.mmu_core.specs.lines.SlotChangeSteps.{slot_change_first, slot_change_outcome, watch_next}
-use Rattle.mmu_core.specs.machine.Outcomes.{place_after}
-use Rattle.mmu_core.proofs.lines.EitherPlace.{each_watch, either_place}
-use Rattle.mmu_core.proofs.lines.LineClaims.{Claims, ClaimsNot, claim_leads, claim_notes, to_no_scan}
+use Rattle.mmu_core.proofs.lines.EitherPlace.{each_map, each_watch, either_place}
+use Rattle.mmu_core.proofs.lines.LineClaims.{Claims, ClaimsNot, HasNoScan, claim_leads, claim_notes, claim_scans, is_answered, no_scan_between, to_no_scan}
+
+abbrev is_claim : SlotChangePlace → Bool
+is_claim (Claim begun) = true
+is_claim _ = false
+
+no_claim : (p : SlotChangePlace) → is_claim p ≡ false → (map : FreeMap) → claim_at map (place.SlotChange p) ≡ None
+no_claim (Claim begun) other Pages = absurd (cc other)
+no_claim _ other Pages = refl
+no_claim p other Frames = refl
+
+abbrev is_refusal : SlotChangePlace → Bool
+is_refusal (Refuse refusal) = true
+is_refusal _ = false
+
+-- A line that is refused for another reason isn't refused for want of a frame.
+refused_not : (refusal : Refusal) (map : FreeMap) → is_of_frames refusal ≡ false → Ends (Refused refusal) ≡ Ends (answer_without map) → ⊥
+refused_not refusal Pages other e = cc e
+refused_not refusal Frames other e = let is : refusal ≡ NoFrame = cc e in let same = ap is_of_frames is in cc (other, same)
+
+abbrev NoScan : SlotChangePlace → Type 0
+NoScan p = HasNoScan (Goes (place.SlotChange p))
+
+goes_on : (p : SlotChangePlace) → (HasScan (place.SlotChange p) Pages → ⊥) → NoScan p
+goes_on p none = record { no_scan = each_map (λ map. HasScan (place.SlotChange p) map → ⊥) none (λ S. S); fed = λ map e. cc e }
+
+scans_pages : (map : FreeMap) → HasScan (place.SlotChange (Claim true)) map → map ≡ Pages
+scans_pages Pages S = refl
+scans_pages Frames S = absurd S
 
 module _ (command : Command) (h : Held) (v : ℕ) where
   abbrev OfPlace : SlotChangePlace → Type 0
   OfPlace p = Claims (place.SlotChange p) command h v ⊎ ClaimsNot (place.SlotChange p) command h v
 
-  abbrev NoScan : SlotChangePlace → Type 0
-  NoScan p = HasScan (place.SlotChange p) → ⊥
-
   -- Any other step leads to no scan.
-  no_scan : (p : SlotChangePlace) → claim_at (place.SlotChange p) ≡ None → HasScan (place_after (slot_change_outcome p h v)) → ⊥
-  no_scan (Claim begun) other = absurd (cc other)
-  no_scan Fill other = either_place NoScan (nat_lt (words_filled h.topics.owned + 1) 512) Fill Role (λ S. S) (λ S. S)
-  no_scan Exclude other = either_place NoScan (v == 0) Count Exclude (λ S. S) (λ S. S)
-  no_scan Count other = either_place NoScan (v == 0) Publish Close (λ S. S) (λ S. S)
-  no_scan Watch other = each_watch NoScan (watch_next h v) Watch Clear (λ S. S) (λ S. S)
-  no_scan _ other = λ S. S
+  no_scan : (p : SlotChangePlace) → is_claim p ≡ false → is_refusal p ≡ false → HasNoScan (slot_change_outcome p h v)
+  no_scan (Claim begun) other not_ = absurd (cc other)
+  no_scan (Refuse refusal) other not_ = absurd (cc not_)
+  no_scan Fill other not_ = either_place NoScan (nat_lt (words_filled h.topics.owned + 1) 512) Fill Role (goes_on Fill (λ S. S)) (goes_on Role (λ S. S))
+  no_scan Role other not_ = goes_on Exclude (λ S. S)
+  no_scan Exclude other not_ = either_place NoScan (v == 0) Count Exclude (goes_on Count (λ S. S)) (goes_on Exclude (λ S. S))
+  no_scan Count other not_ = either_place NoScan (v == 0) Publish Close (goes_on Publish (λ S. S)) (goes_on Close (λ S. S))
+  no_scan Close other not_ = goes_on Exclude (λ S. S)
+  no_scan Publish other not_ = goes_on Release (λ S. S)
+  no_scan Release other not_ = goes_on Watch (λ S. S)
+  no_scan Watch other not_ = each_watch NoScan (watch_next h v) Watch Clear (goes_on Watch (λ S. S)) (goes_on Clear (λ S. S))
+  no_scan Clear other not_ = goes_on Give (λ S. S)
+  no_scan Give other not_ = is_answered Done (each_map (λ map. Ends Done ≢ Ends (answer_without map)) (λ e. cc e) (λ e. cc e))
 
   pub change_claims_or_not : (p : SlotChangePlace) → OfPlace p
   change_claims_or_not (Claim begun) =
-      let next : ClaimNext = claim_next begun h.state.sizes h.topics.claim v in
+      let next : ClaimNext = claim_next Pages begun h.state.sizes h.topics.claim v in
+      let on = place.SlotChange (Claim true) in
+      let got = place.SlotChange Fill in
+      let none = (goes_on Fill (λ S. S)).no_scan in
       inl (record {
+        map = Pages;
         begun = begun;
         at = refl;
         step = refl;
         scan = λ b. b;
-        leads = claim_leads (place.SlotChange (Claim true)) (place.SlotChange Fill) next refl (λ S. S);
-        note = (refl, claim_notes (place.SlotChange (Claim true)) (place.SlotChange Fill) next);
+        one = claim_scans Pages on got next scans_pages none;
+        leads = claim_leads Pages on got next refl none;
+        note = (refl, claim_notes on got (answer_without Pages) next);
       })
-  change_claims_or_not p = to_no_scan (place.SlotChange p) command h v refl refl refl (no_scan p refl) (λ e. cc e)
+  change_claims_or_not (Refuse refusal) = inr (record {
+    at = no_claim (Refuse refusal) refl;
+    step = λ map. refl;
+    note = refl;
+    keeps = λ K map S. absurd (no_scan_between map S);
+    starved = λ K map e. absurd (refused_not refusal map K.1.1 e);
+  })
+  change_claims_or_not p = to_no_scan (place.SlotChange p) command h v (no_claim p refl) (λ map. refl) refl (no_scan p refl refl)
 
 -- It begins with no scan.
-pub begins_without_scan : (refused : Option Refusal) → HasScan (place.SlotChange (slot_change_first refused)) → ⊥
-begins_without_scan (Some refusal) S = S
-begins_without_scan None S = absurd (cc S)
+pub begins_without_scan : (refused : Option Refusal) (map : FreeMap) → HasScan (place.SlotChange (slot_change_first refused)) map → ⊥
+begins_without_scan (Some refusal) Pages S = S
+begins_without_scan (Some refusal) Frames S = S
+begins_without_scan None Pages S = absurd (cc S)
+begins_without_scan None Frames S = S

@@ -4,7 +4,7 @@ use Rattle.mmu_core.proofs.words.PartTopics.{part_topics_is, is_there}
 use Rattle.core_views.specs.declared.topics.Topics.{Topics}
 use Rattle.std.proofs.Common.{◌≡◌, ◌≤◌, ◌+◌, ℕ, length, refl, sym, subst, ap, ◌∙◌, arith}
 use Rattle.std.specs.Map.{keys_of}
-use Rattle.std.specs.Prelude.{true, false, if◌then◌else◌}
+use Rattle.std.specs.Prelude.{true, false, if◌then◌else◌, None}
 use Rattle.core_views.specs.declared.actor.Actor.TheVariants.{Manager}
 use Rattle.core_views.specs.declared.place.Place.TheVariants as place
 use Rattle.core_views.specs.declared.place.SlotChangePlace.{SlotChangePlace}
@@ -101,6 +101,7 @@ published_kept z v a line command S I P knows =
     (record {
       leaves = λ may. absurd (cc may);
       opens = λ may. closed;
+      frames = λ may. owns_no_frame;
     })
     (still_cached z (kind_of_task h.state.sizes (slot_change_task Publish h command)) h.cached set (I.cached a S.there))
     (λ is. record { same = new_set.list }) knows I
@@ -130,6 +131,11 @@ published_kept z v a line command S I P knows =
     closed =
         ap (λ (t : Topics). t.invalidations.opened) (part_topics_is h.state.sizes part.Publish (own_index h) h.topics 0 set (is_there part.Publish h K.1.1))
         ∙ (step_leaves z v a line command (place.SlotChange Publish) S I).opens refl
+
+    owns_no_frame : after.topics.frames.owned ≡ None
+    owns_no_frame =
+        ap (λ (t : Topics). t.frames.owned) (part_topics_is h.state.sizes part.Publish (own_index h) h.topics 0 set (is_there part.Publish h K.1.1))
+        ∙ (step_leaves z v a line command (place.SlotChange Publish) S I).frames refl
 
     new_set : Publishes z pool set page command h.slots
     new_set = change_published z v a line command S I

@@ -15,6 +15,7 @@ use Rattle.spte_words.proofs.ReadsEntries.{kind_of_absent}
 use Rattle.mmu_core.specs.invariant.LockPart.{SawWriter}
 use Rattle.mmu_core.specs.machine.Enabled.{mmu}
 use Rattle.part_steps.specs.PartBounds.{CountersPart}
+use Rattle.mmu_core.specs.invariant.FramesPart.{FramesPart}
 use Rattle.mmu_core.specs.invariant.HeldPart.{HeldPart, PathPart}
 use Rattle.mmu_core.specs.invariant.InvalidationsPart.{CheckedPart, CountPart, LoadedPart}
 use Rattle.mmu_core.specs.invariant.LockPart.{LockPart, is_shared, readers, sharers, writers}
@@ -29,8 +30,8 @@ use Rattle.part_steps.specs.StayTopics.{is_alone}
 use Rattle.mmu_core.specs.invariant.TreePart.{Position, TreePart, stands}
 use Rattle.mmu_core.specs.invariant.TreePart.Use.{OldSet, Owned}
 use Rattle.mmu_core.specs.machine.View.{view, word_in}
-use Rattle.mmu_core.specs.machine.Worlds.{IsStart}
-use Rattle.mmu_core.proofs.start.StartWords.{free_from_2, hand_is, none_behind, pool_word, used_below_2, word_at_start}
+use Rattle.mmu_core.specs.machine.Worlds.{AreStartWords, IsStart, free_bits}
+use Rattle.mmu_core.proofs.start.StartWords.{bits_behind, bits_below, bits_inside, frame_word, hand_is, map_word, pool_word, word_at_start}
 use Rattle.mmu_core.proofs.machine.SumsBelow.{sum_none}
 use Rattle.mmu_core.proofs.pages.PoolPages.{among_tells}
 use Rattle.mmu_core.specs.invariant.InvalidatedPart.{PassedPart}
@@ -40,6 +41,7 @@ use Rattle.spte_words.specs.HostWords.{host_frame, host_word}
 use Rattle.spte_words.proofs.ReadsHost.{host_has_frame}
 use Rattle.mmu_core.proofs.words.HostStays.{is_word_of}
 use Rattle.core_views.specs.declared.topics.HostLook.{HostLook}
+use Rattle.mmu_core.proofs.start.StartFrames.{start_frames, start_use}
 use Rattle.mmu_core.proofs.start.StartPages.{never, none_under, only_zero, root_only, start_free, start_outside, start_set, start_spot, start_up}
 
 -- what actors hold of the parts: nothing
@@ -90,14 +92,17 @@ uses_start : (z : Sizes) (lines : List Line) (w : World Held) → IsStart z line
     (word_in z w area.PoolMap) (λ i. (hand_in mmu w i).topics.owned) (λ i. (hand_in mmu w i).topics.leaving) (start_up z.pool)
 uses_start z lines w start = record {
   free = λ k.
-      start_free z.pool k (is_free (word_in z w area.PoolMap) k) (λ low. used_below_2 z w k start.sizes start.words low)
-      (λ high lt. free_from_2 z w k start.sizes start.words high lt) (λ le. none_behind z w k start.sizes start.words le);
+      start_free z.pool k (is_free (word_in z w area.PoolMap) k) (λ low. bits_below (word_in z w area.PoolMap) 2 z.pool bits k low)
+      (λ high lt. bits_inside (word_in z w area.PoolMap) 2 z.pool bits k high lt) (λ le. bits_behind (word_in z w area.PoolMap) 2 z.pool bits k le);
   owner = λ i k. owner i k (nat_lt i (actors_of z)) refl ∙ sym (never (Owned i) refl refl refl refl z.pool k);
   set = λ k. ap (λ s. s == k) (slots_start z lines w start) ∙ start_set z.pool k;
   leaver = λ i k. leaver i k (nat_lt i (actors_of z)) refl ∙ sym (never (OldSet i) refl refl refl refl z.pool k);
   outside = λ k. start_outside z.pool k (omega (arith, start.sizes.pool.0));
 }
   where
+    bits : (i : ℕ) → word_in z w area.PoolMap i ≡ free_bits 2 z.pool i
+    bits i = map_word z w i start.sizes start.words
+
     owner : (i k : ℕ) (b : Bool) → nat_lt i (actors_of z) ≡ b → (b && is_owned (hand_in mmu w i).topics.owned k) ≡ false
     owner i k false is = refl
     owner i k true is = ap (λ (t : Topics). is_owned t.owned k) (topics_are z lines w i start (among_tells i (actors_of z) is))
@@ -144,19 +149,23 @@ look_first z n seq host topics =
     record { there = λ look e. absurd (cc e); is_word = λ look e. absurd (cc e); still = λ look s e. absurd (cc e); snapshot = λ s e. absurd (cc e) }
 
 -- Each host word maps its page to its own frame, and allows writes.
-hosts_start : (z : Sizes) (lines : List Line) (w : World Held) → IsStart z lines w → HostWordsPart z (word_in z w area.Host)
-hosts_start z lines w start = record {
-  words = λ p lt. subst (IsHostWord z.frames) (sym (is p lt)) (is_word_of z.frames p true true (omega (arith, lt, start.sizes.frames.0)));
-  apart = λ p q low too e. sym (own p low) ∙ (e ∙ own q too);
-}
-  where
-    is : (p : ℕ) → p < z.pages → word_in z w area.Host p ≡ host_word p true true 1
-    is p lt =
-        word_at_start z w area.Host p (host_word p true true 1) start.words (λ l. refl)
-        (λ e. absurd (let t : nat_lt p z.pages ≡ true = grind (arith, nat_tests) in cc (e, t)))
+host_at_start : (z : Sizes) (w : World Held) (p : ℕ) → AreStartWords z w.words → p < z.pages → word_in z w area.Host p ≡ host_word p true true 1
+host_at_start z w p start lt =
+    word_at_start z w area.Host p (host_word p true true 1) start (λ l. refl)
+    (λ e. absurd (let t : nat_lt p z.pages ≡ true = grind (arith, nat_tests) in cc (e, t)))
 
-    own : (p : ℕ) → p < z.pages → host_frame (word_in z w area.Host p) ≡ p
-    own p lt = ap host_frame (is p lt) ∙ host_has_frame p true true 1 (omega arith)
+hosts_start : (z : Sizes) (lines : List Line) (w : World Held) → IsStart z lines w → HostWordsPart z (word_in z w area.Host)
+hosts_start z lines w start p lt =
+    subst (IsHostWord z.frames) (sym (host_at_start z w p start.words lt)) (is_word_of z.frames p true true (omega (arith, lt, start.sizes.frames.0)))
+
+frames_start : (z : Sizes) (lines : List Line) (w : World Held) → IsStart z lines w
+    → FramesPart z (actors_of z) (word_in z w area.FrameMap) (word_in z w area.Host) (λ i. (hand_in mmu w i).topics.frames.owned)
+    (start_use z.pages z.frames)
+frames_start z lines w start =
+    start_frames z (actors_of z) (word_in z w area.FrameMap) (word_in z w area.Host) (λ i. (hand_in mmu w i).topics.frames.owned) start.sizes.frames.0
+    (λ i. frame_word z w i start.sizes start.words)
+    (λ p lt. ap host_frame (host_at_start z w p start.words lt) ∙ host_has_frame p true true 1 (omega arith))
+    (λ i lt. ap (λ (t : Topics). t.frames.owned) (topics_are z lines w i start lt))
 
 looks_none : (z : Sizes) (lines : List Line) (w : World Held) (i : ℕ) (look : HostLook) → IsStart z lines w → i < actors_of z
     → (hand_in mmu w i).topics.host ≡ Some look → ⊥
@@ -174,6 +183,7 @@ counters_first z = record {
   seq = omega arith;
   asked = omega arith;
   range = (omega arith, omega arith);
+  frames = record { claim = omega arith; seen = omega arith; filled = omega arith; copied = omega arith };
 }
 
 checked_first : (count start end_ seq : ℕ) → CheckedPart count start end_ seq first_topics
@@ -209,6 +219,7 @@ pub start_topics : (z : Sizes) (lines : List Line) (w : World Held) → IsStart 
 start_topics z lines w start = record {
   up = start_up z.pool;
   spot = start_spot;
+  use_of = start_use z.pages z.frames;
   lock_part = lock_start z lines w start;
   saw_writer = λ i lt. subst (λ (t : Topics). SawWriter t.hold) (sym (topics_are z lines w i start lt)) tt;
   states_part = λ i lt. state_start z lines w i start lt;
@@ -226,6 +237,7 @@ start_topics z lines w start = record {
   searches = λ i lt. subst (λ (t : Topics). SearchPart (word_in z w area.Pool) t.search) (sym (topics_are z lines w i start lt))
       (search_first (word_in z w area.Pool));
   hosts = hosts_start z lines w start;
+  frames = frames_start z lines w start;
   looks = λ i lt. subst (LookPart z (actors_of z) (word_in z w area.Seq 0) (word_in z w area.Host) (λ j. (hand_in mmu w j).topics))
       (sym (topics_are z lines w i start lt))
       (look_first z (actors_of z) (word_in z w area.Seq 0) (word_in z w area.Host) (λ j. (hand_in mmu w j).topics));

@@ -12,7 +12,7 @@ use Rattle.core_views.specs.Sizes.{AreSizes, actor_at, actors_of}
 use Rattle.core_views.specs.Whole.{lines_of}
 use Rattle.spte_words.specs.declared.area.Area.{Area}
 use Rattle.spte_words.specs.declared.area.Area.TheVariants as area
-use Rattle.spte_words.specs.Areas.{place, size_of}
+use Rattle.spte_words.specs.Areas.{place, size_of, words_of_bits}
 use Rattle.spte_words.specs.Bits.{has_bit}
 use Rattle.mmu_core.specs.machine.Enabled.{mmu}
 use Rattle.mmu_core.specs.machine.Machine.{World, hand_in}
@@ -90,34 +90,39 @@ least_over a b j low under = by (nat_le a b)
 no_bits : (a b : ℕ) → a ≡ b → 0 ≡ 2 ^ least 64 a - 2 ^ least 64 b
 no_bits a b e = let same : 2 ^ least 64 a ≡ 2 ^ least 64 b = ap (λ n. 2 ^ least 64 n) e in omega (arith, same)
 
--- the bits of the map of pool pages, behind its end too
-map_word : (z : Sizes) (w : World Held) (i : ℕ) → AreSizes z → AreStartWords z w.words → word_in z w area.PoolMap i ≡ free_bits 2 z.pool i
-map_word z w i sizes start =
-    word_at_start z w area.PoolMap i (free_bits 2 z.pool i) start (λ lt. refl)
-    (λ e. no_bits (z.pool - 64 * i) (2 - 64 * i) (empty (grind (arith, nat_tests))))
+-- The words of a map of bits, behind its end too, in which exactly the bits from one on are set, up to another one.
+module _ (map : ℕ → ℕ) (first count : ℕ) (bits : (i : ℕ) → map i ≡ free_bits first count i) where
+  pub bits_inside : (k : ℕ) → first ≤ k → k < count → is_free map k ≡ true
+  bits_inside k low lt =
+      let from = least_under 64 (first - 64 * (k / 64)) in
+      let to = least_over 64 (count - 64 * (k / 64)) (k % 64) (omega arith) (omega (arith, lt)) in
+      ap (has_bit (k % 64)) (bits (k / 64))
+      ∙ ap (λ b. b == 1) (bit_at_mask_inside (least 64 (first - 64 * (k / 64))) (least 64 (count - 64 * (k / 64))) (k % 64) (omega (arith, from, low)) to)
+
+  pub bits_below : (k : ℕ) → k < first → is_free map k ≡ false
+  bits_below k lt =
+      let from = least_over 64 (first - 64 * (k / 64)) (k % 64) (omega arith) (omega (arith, lt)) in
+      ap (has_bit (k % 64)) (bits (k / 64))
+      ∙ ap (λ b. b == 1) (bit_at_mask_below (least 64 (first - 64 * (k / 64))) (least 64 (count - 64 * (k / 64))) (k % 64) from)
+
+  pub bits_behind : (k : ℕ) → count ≤ k → is_free map k ≡ false
+  bits_behind k le =
+      let to = least_under 64 (count - 64 * (k / 64)) in
+      ap (has_bit (k % 64)) (bits (k / 64))
+      ∙ ap (λ b. b == 1) (bit_at_mask_above (least 64 (first - 64 * (k / 64))) (least 64 (count - 64 * (k / 64))) (k % 64) (omega (arith, to, le)))
+
+-- Past the words of a map of so many bits none is set.
+none_past : (first count i : ℕ) → first ≤ count → nat_lt i (words_of_bits count) ≡ false → 0 ≡ free_bits first count i
+none_past first count i within e = no_bits (count - 64 * i) (first - 64 * i) (empty (grind (arith, nat_tests)))
   where
-    empty : (z.pool + 63) / 64 ≤ i → z.pool - 64 * i ≡ 2 - 64 * i
-    empty le = omega (arith, le, sizes.pool.0)
+    empty : words_of_bits count ≤ i → count - 64 * i ≡ first - 64 * i
+    empty le = omega (arith, le, within)
 
-free_is : (z : Sizes) (w : World Held) (k : ℕ) → AreSizes z → AreStartWords z w.words
-    → is_free (word_in z w area.PoolMap) k ≡ has_bit (k % 64) (free_bits 2 z.pool (k / 64))
-free_is z w k sizes start = ap (has_bit (k % 64)) (map_word z w (k / 64) sizes start)
+-- the words of the maps of pool pages and of frames
+pub map_word : (z : Sizes) (w : World Held) (i : ℕ) → AreSizes z → AreStartWords z w.words → word_in z w area.PoolMap i ≡ free_bits 2 z.pool i
+map_word z w i sizes start =
+    word_at_start z w area.PoolMap i (free_bits 2 z.pool i) start (λ lt. refl) (λ e. none_past 2 z.pool i (omega (arith, sizes.pool.0)) e)
 
--- Exactly the pool pages from 2 on are free.
-pub free_from_2 : (z : Sizes) (w : World Held) (k : ℕ) → AreSizes z → AreStartWords z w.words → 2 ≤ k → k < z.pool → is_free (word_in z w area.PoolMap) k ≡ true
-free_from_2 z w k sizes start low lt =
-    let from = least_under 64 (2 - 64 * (k / 64)) in
-    let to = least_over 64 (z.pool - 64 * (k / 64)) (k % 64) (omega arith) (omega (arith, lt)) in
-    free_is z w k sizes start
-    ∙ ap (λ b. b == 1) (bit_at_mask_inside (least 64 (2 - 64 * (k / 64))) (least 64 (z.pool - 64 * (k / 64))) (k % 64) (omega (arith, from, low)) to)
-
-pub used_below_2 : (z : Sizes) (w : World Held) (k : ℕ) → AreSizes z → AreStartWords z w.words → k < 2 → is_free (word_in z w area.PoolMap) k ≡ false
-used_below_2 z w k sizes start lt =
-    let from = least_over 64 (2 - 64 * (k / 64)) (k % 64) (omega arith) (omega (arith, lt)) in
-    free_is z w k sizes start ∙ ap (λ b. b == 1) (bit_at_mask_below (least 64 (2 - 64 * (k / 64))) (least 64 (z.pool - 64 * (k / 64))) (k % 64) from)
-
-pub none_behind : (z : Sizes) (w : World Held) (k : ℕ) → AreSizes z → AreStartWords z w.words → z.pool ≤ k → is_free (word_in z w area.PoolMap) k ≡ false
-none_behind z w k sizes start le =
-    let to = least_under 64 (z.pool - 64 * (k / 64)) in
-    free_is z w k sizes start
-    ∙ ap (λ b. b == 1) (bit_at_mask_above (least 64 (2 - 64 * (k / 64))) (least 64 (z.pool - 64 * (k / 64))) (k % 64) (omega (arith, to, le)))
+pub frame_word : (z : Sizes) (w : World Held) (i : ℕ) → AreSizes z → AreStartWords z w.words → word_in z w area.FrameMap i ≡ free_bits z.pages z.frames i
+frame_word z w i sizes start =
+    word_at_start z w area.FrameMap i (free_bits z.pages z.frames i) start (λ lt. refl) (λ e. none_past z.pages z.frames i sizes.frames.0 e)

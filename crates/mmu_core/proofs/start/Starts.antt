@@ -249,6 +249,9 @@ start_good z lines w start = record {
   flushes = λ i v lt low opened.
       let closed : (hand_in mmu w i).topics.invalidations.opened ≡ false = ap (λ (h : Held). h.topics.invalidations.opened) (hand_is z lines w i start lt) in
       absurd (cc (closed, opened));
+  copied = λ i o lt opened owned.
+      let closed : (hand_in mmu w i).topics.invalidations.opened ≡ false = ap (λ (h : Held). h.topics.invalidations.opened) (hand_is z lines w i start lt) in
+      absurd (cc (closed, opened));
   no_pause = word_at_start z w area.Pause 0 0 start.words (λ l. refl) (λ e. refl);
   holds = record {
     sizes = start.sizes;
@@ -264,7 +267,7 @@ start_good z lines w start = record {
         (sym (hand_is z lines w i start lt)) tt;
     knows = λ i lt. subst (λ (h : Held). KnowsPart h.state.place h.state.line.command h) (sym (hand_is z lines w i start lt)) (λ has. rest_first);
     leaves = λ i lt. subst (λ (h : Held). LeavesPart h.state.place h.topics) (sym (hand_is z lines w i start lt))
-        (record { leaves = λ may. refl; opens = λ may. refl });
+        (record { leaves = λ may. refl; opens = λ may. refl; frames = λ may. refl });
     cached = λ i lt. subst (λ (h : Held). CachedPart z h.cached.items) (sym (hand_is z lines w i start lt))
         (All-nil (λ (t : Translation). (t.level ≡ 1) × (frame_in t.leaf < z.frames)));
     recorded = λ i lt is. subst (λ (h : Held). RecordPart (word_in z w area.Pool) (word_in z w area.Slots 0) h.slots) (sym (hand_is z lines w i start lt))

@@ -1,6 +1,6 @@
--- Each step of a part leaves the host words but the one that it changes, which stays a word of its page. And the sequence number never falls.
+-- Each step of a part leaves the host words but the one that it changes, which stays a host word. And the sequence number never falls.
 use Rattle.std.proofs.Common.{◌≡◌, ◌≤◌, ℕ, inl, inr, refl, sym, ap, ◌∙◌, arith, subst, ◌<◌}
-use Rattle.std.specs.Prelude.{Bool, true, false, ◌==◌, if◌then◌else◌, ◌||◌}
+use Rattle.std.specs.Prelude.{Bool, true, false, ◌==◌, if◌then◌else◌, ◌||◌, ◌&&◌, Option, Some, None}
 use Rattle.std.proofs.lemmas.Bool.Decides.{nat_tests}
 use Rattle.core_views.specs.declared.sizes.Sizes.{Sizes}
 use Rattle.spte_words.specs.declared.area.Area.TheVariants as area
@@ -14,8 +14,10 @@ use Rattle.mmu_core.specs.machine.View.{View, part_stepped, upd}
 use Rattle.mmu_core.proofs.machine.PartStepping.{IsPart, changes_word}
 use Rattle.mmu_core.specs.invariant.HostWordsPart.{HostWordsPart, IsHostWord, IsStill}
 use Rattle.mmu_core.proofs.machine.Columns.{at_upd}
-use Rattle.part_steps.specs.InvalidationHoldings.{revises}
-use Rattle.spte_words.specs.HostWords.{with_presence, with_writes, host_word, host_present, host_level, host_frame, host_allows_write}
+use Rattle.mmu_core.proofs.pages.FrameUses.{owned_frame_there}
+use Rattle.core_views.specs.declared.topics.OwnedFrame.{OwnedFrame}
+use Rattle.part_steps.specs.FrameHoldings.{revises}
+use Rattle.spte_words.specs.HostWords.{with_frame, with_presence, with_writes, host_word, host_present, host_level, host_frame, host_allows_write}
 use Rattle.spte_words.proofs.ReadsHost.{host_has_frame, host_is_present, host_has_level, host_is_writable}
 
 pub host_stays : (v : View) (a : ℕ) (step : PartStep) (note : ℕ) → changes_word step ≡ false → (part_stepped a step note v).words area.Host ≡ v.words area.Host
@@ -43,55 +45,79 @@ level_low word = omega arith
 pub same_frame : (word : ℕ) (present allowed : Bool) → host_frame (host_word (host_frame word) present allowed (host_level word)) ≡ host_frame word
 same_frame word present allowed = host_has_frame (host_frame word) present allowed (host_level word) (level_low word)
 
+lowest_level : (frames word : ℕ) → IsHostWord frames word → host_level word ≡ 1
+lowest_level frames word W =
+    ap host_level W.0 ∙ host_has_level (host_frame word) (host_present word) (host_allows_write word) 1 (omega arith)
+
 pub other_bits : (frames word : ℕ) (present allowed : Bool) → IsHostWord frames word
     → IsHostWord frames (host_word (host_frame word) present allowed (host_level word))
 other_bits frames word present allowed W =
-    subst (IsHostWord frames) (ap (λ (n : ℕ). host_word (host_frame word) present allowed n) (sym small))
+    subst (IsHostWord frames) (ap (λ (n : ℕ). host_word (host_frame word) present allowed n) (sym (lowest_level frames word W)))
     (is_word_of frames (host_frame word) present allowed W.1)
-  where
-    small : host_level word ≡ 1
-    small = ap host_level W.0 ∙ host_has_level (host_frame word) (host_present word) (host_allows_write word) 1 (omega arith)
 
--- What is so of each word that a change may put in place of another one.
-pub each_revision : (word new_ : ℕ) (IsSo : ℕ → Type 0) → ((allowed : Bool) → IsSo (with_writes allowed word)) → IsSo (with_presence false word)
-    → revises word new_ ≡ true → IsSo new_
-each_revision word new_ IsSo writes gone is =
+-- At another frame it is one, too, and names this frame.
+pub moved_frame : (word frame : ℕ) → host_frame (with_frame frame word) ≡ frame
+moved_frame word frame = host_has_frame frame (host_present word) (host_allows_write word) (host_level word) (level_low word)
+
+pub other_frame : (frames word frame : ℕ) → frame < frames → IsHostWord frames word → IsHostWord frames (with_frame frame word)
+other_frame frames word frame low W =
+    subst (IsHostWord frames) (ap (λ (n : ℕ). host_word frame (host_present word) (host_allows_write word) n) (sym (lowest_level frames word W)))
+    (is_word_of frames frame (host_present word) (host_allows_write word) low)
+
+-- What is so of each word that a change may put in place of another one: where no frame is owned, and where the page is moved into the one that is.
+pub each_revision : (words : ℕ) (owned : Option OwnedFrame) (word new_ : ℕ) (IsSo : ℕ → Type 0)
+    → (owned ≡ None → (allowed : Bool) → IsSo (with_writes allowed word)) → (owned ≡ None → IsSo (with_presence false word))
+    → ((o : OwnedFrame) → owned ≡ Some o → o.filled ≡ words → IsSo (with_frame o.frame word)) → revises words owned word new_ ≡ true → IsSo new_
+each_revision words None word new_ IsSo writes gone moved is =
     by (new_ == with_writes true word) (new_ == with_writes false word) (new_ == with_presence false word) (λ e. grind (arith, nat_tests))
     (λ e. grind (arith, nat_tests)) (λ e. grind (arith, nat_tests)) is
   where
     by : (x y w : Bool) → (x ≡ true → new_ ≡ with_writes true word) → (y ≡ true → new_ ≡ with_writes false word)
         → (w ≡ true → new_ ≡ with_presence false word) → (x || y || w) ≡ true → IsSo new_
-    by true y w one two three is = subst IsSo (sym (one refl)) (writes true)
-    by false true w one two three is = subst IsSo (sym (two refl)) (writes false)
-    by false false true one two three is = subst IsSo (sym (three refl)) gone
+    by true y w one two three is = subst IsSo (sym (one refl)) (writes refl true)
+    by false true w one two three is = subst IsSo (sym (two refl)) (writes refl false)
+    by false false true one two three is = subst IsSo (sym (three refl)) (gone refl)
     by false false false one two three is = absurd (cc is)
+each_revision words (Some o) word new_ IsSo writes gone moved is =
+    by (o.filled == words) (new_ == with_frame o.frame word) (λ e. grind (arith, nat_tests)) (λ e. grind (arith, nat_tests)) is
+  where
+    by : (x y : Bool) → (x ≡ true → o.filled ≡ words) → (y ≡ true → new_ ≡ with_frame o.frame word) → (x && y) ≡ true → IsSo new_
+    by true true full put is = subst IsSo (sym (put refl)) (moved o refl (full refl))
+    by true false full put is = absurd (cc is)
+    by false y full put is = absurd (cc is)
 
--- A change leaves the frame.
+-- A change, and a fault that brings the page in, put a host word in place of one.
 abbrev pub IsRevised : ℕ → ℕ → ℕ → Type 0
-IsRevised frames old_ new_ = (IsHostWord frames old_ → IsHostWord frames new_) × (host_frame new_ ≡ host_frame old_)
+IsRevised frames old_ new_ = IsHostWord frames old_ → IsHostWord frames new_
 
-pub changed_word : (frames word new_ : ℕ) → revises word new_ ≡ true → IsRevised frames word new_
-changed_word frames word new_ is =
-    each_revision word new_ (IsRevised frames word)
-    (λ allowed. (other_bits frames word (host_present word) allowed, same_frame word (host_present word) allowed))
-    (other_bits frames word false (host_allows_write word), same_frame word false (host_allows_write word)) is
+pub changed_word : (frames words : ℕ) (owned : Option OwnedFrame) (word new_ : ℕ) → ((o : OwnedFrame) → owned ≡ Some o → o.frame < frames)
+    → revises words owned word new_ ≡ true → IsRevised frames word new_
+changed_word frames words owned word new_ there is =
+    each_revision words owned word new_ (IsRevised frames word) (λ none allowed. other_bits frames word (host_present word) allowed)
+    (λ none. other_bits frames word false (host_allows_write word)) (λ o at full. other_frame frames word o.frame (there o at)) is
 
 pub brought_word : (frames word : ℕ) → IsRevised frames word (with_presence true word)
-brought_word frames word = (other_bits frames word true (host_allows_write word), same_frame word true (host_allows_write word))
+brought_word frames word = other_bits frames word true (host_allows_write word)
 
 -- So is what an exchange leaves.
 pub exchanged_word : (frames found old_ new_ : ℕ) → IsHostWord frames found → IsRevised frames old_ new_
-    → IsHostWord frames (if found == old_ then new_ else found) × (host_frame (if found == old_ then new_ else found) ≡ host_frame found)
+    → IsHostWord frames (if found == old_ then new_ else found)
 exchanged_word frames found old_ new_ W put = by (found == old_) (λ e. grind (arith, nat_tests))
   where
-    by : (won : Bool) → (won ≡ true → found ≡ old_)
-        → IsHostWord frames (if won then new_ else found) × (host_frame (if won then new_ else found) ≡ host_frame found)
-    by true same = (put.0 (subst (IsHostWord frames) (same refl) W), put.1 ∙ ap host_frame (sym (same refl)))
-    by false same = (W, refl)
+    by : (won : Bool) → (won ≡ true → found ≡ old_) → IsHostWord frames (if won then new_ else found)
+    by true same = put (subst (IsHostWord frames) (same refl) W)
+    by false same = W
 
-hosts_behind : (z : Sizes) (v : View) (a note : ℕ) (step : PartStep) → IsPart z v a step → HostWordsPart z (v.words area.Host)
+-- The frame that an actor owns is one of the machine's, so a change puts a host word in place of the one that the actor looked at.
+pub put_word : (z : Sizes) (v : View) (a new_ : ℕ) → IsPart z v a (part.Change new_) → TopicsInvariant z v
+    → IsRevised z.frames (word_looked (v.hand a).topics.host) new_
+put_word z v a new_ S I =
+    changed_word z.frames (v.hand a).state.sizes.words (v.hand a).topics.frames.owned (word_looked (v.hand a).topics.host) new_
+    (λ o is. owned_frame_there I.frames a o S.there is) S.needs.1
+
+hosts_behind : (z : Sizes) (v : View) (a note : ℕ) (step : PartStep) → IsPart z v a step → TopicsInvariant z v
     → HostWordsPart z ((part_stepped a step note v).words area.Host)
-hosts_behind z v a note step S W = by step S
+hosts_behind z v a note step S I = by step S
   where
     host : ℕ → ℕ
     host = v.words area.Host
@@ -103,22 +129,14 @@ hosts_behind z v a note step S W = by step S
     looked = word_looked (v.hand a).topics.host
 
     put : (new_ : ℕ) → IsRevised z.frames looked new_ → HostWordsPart z (upd host page (if host page == looked then new_ else host page))
-    put new_ is = record {
-      words = λ p lt. (each p lt).0;
-      apart = λ p q low too e. W.apart p q low too (sym (each p low).1 ∙ (e ∙ (each q too).1));
-    }
-      where
-        each : (p : ℕ) → p < z.pages
-            → IsHostWord z.frames (upd host page (if host page == looked then new_ else host page) p)
-            × (host_frame (upd host page (if host page == looked then new_ else host page) p) ≡ host_frame (host p))
-        each =
-            at_upd (λ (q w : ℕ). q < z.pages → IsHostWord z.frames w × (host_frame w ≡ host_frame (host q))) host page _
-            (λ there. exchanged_word z.frames (host page) looked new_ (W.words page there) is) (λ q ne there. (W.words q there, refl))
+    put new_ is =
+        at_upd (λ (q w : ℕ). q < z.pages → IsHostWord z.frames w) host page _
+        (λ there. exchanged_word z.frames (host page) looked new_ (I.hosts page there) is) (λ q ne there. I.hosts q there)
 
     by : (step : PartStep) → IsPart z v a step → HostWordsPart z ((part_stepped a step note v).words area.Host)
     by part.Bring S = put _ (brought_word z.frames looked)
-    by (part.Change new_) S = put new_ (changed_word z.frames looked new_ S.needs.1)
-    by _ S = W
+    by (part.Change new_) S = put new_ (put_word z v a new_ S I)
+    by _ S = I.hosts
 
 -- ---- what was seen of a page
 
@@ -145,7 +163,7 @@ still_brought seen found old_ absent still = by (found == old_) (λ e. grind (ar
 -- Each host word stays one of its page.
 pub hosts_kept : (z : Sizes) (v : View) (a : ℕ) (step : PartStep) (note : ℕ) → IsPart z v a step → TopicsInvariant z v
     → HostWordsPart z ((part_stepped a step note v).words area.Host)
-hosts_kept z v a step note S I = hosts_behind z v a note step S I.hosts
+hosts_kept z v a step note S I = hosts_behind z v a note step S I
 
 -- The sequence number that is stored is one more than the one that stands there.
 pub seq_rises : (z : Sizes) (v : View) (a : ℕ) (step : PartStep) (note : ℕ) → IsPart z v a step → TopicsInvariant z v

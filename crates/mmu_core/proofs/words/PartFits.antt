@@ -20,7 +20,11 @@ use Rattle.part_steps.specs.declared.part_step.PartStep.TheVariants as part
 use Rattle.part_steps.specs.PartBounds.{PartRests}
 use Rattle.part_steps.specs.PartTasks.{IsWithin, all_but, leaf_written, link_written, own_index, page_owned, part_kind, part_task, set_held}
 use Rattle.part_steps.specs.PartTasks.{table_page, word_looked, words_filled, page_left, page_looked}
-use Rattle.part_steps.specs.InvalidationHoldings.{MayCount, revises}
+use Rattle.core_views.specs.declared.topics.OwnedFrame.{OwnedFrame}
+use Rattle.part_steps.specs.FrameHoldings.{revises}
+use Rattle.part_steps.specs.FrameTopics.{frame_owned}
+use Rattle.part_steps.proofs.FrameWords.{copied_within, stored_within}
+use Rattle.part_steps.specs.InvalidationHoldings.{MayCount}
 use Rattle.part_steps.specs.PartHoldings.{LookedUp, OwnsTable, MayPublish, MayGiveOld}
 use Rattle.part_steps.specs.PartSteps.{PartNeeds}
 use Rattle.part_steps.specs.SlotWords.{field_number, leaf_of, may_write, slot_index}
@@ -74,6 +78,14 @@ looked_there h looked R = by h.topics.host refl looked
     by None is some = absurd (cc some)
     by (Some look) is some = rw (ap page_looked is) (R.looked look is).0
 
+-- the frame that is owned is one of the machine's
+frame_there : (h : Held) → is_some h.topics.frames.owned ≡ true → PartRests h → frame_owned h.topics.frames.owned < h.state.sizes.frames
+frame_there h some R = by h.topics.frames.owned refl some
+  where
+    by : (x : Option OwnedFrame) → h.topics.frames.owned ≡ x → is_some x ≡ true → frame_owned x < h.state.sizes.frames
+    by None is some = absurd (cc some)
+    by (Some o) is some = R.frame o is
+
 pub part_within_by : (step : PartStep) (h : Held) (note : ℕ) → PartNeeds step h → PartRests h → IsWithinBy h step note
 part_within_by part.Enter h note N R = R.own_place
 part_within_by part.Leave h note N R = R.own_place
@@ -98,6 +110,11 @@ part_within_by (part.Ask index) h note N R = vcpu_within index h.state.sizes N.l
 part_within_by (part.Await index) h note N R = vcpu_within index h.state.sizes (let few = R.counters.asked in omega (arith, few, N.0))
 part_within_by part.Bring h note N R = looked_there h N.looked R
 part_within_by (part.Change new_) h note N R = looked_there h N.0.looked R
+part_within_by (part.FrameMap word) h note N R = N.1
+part_within_by part.Frame h note N R = N.2
+part_within_by (part.Copy index) h note N R = copied_within h index R N
+part_within_by (part.Store index) h note N R = stored_within h index R N
+part_within_by part.GiveFrame h note N R = let at = frame_there h N.owns R in omega (arith, at)
 part_within_by _ h note N R = omega arith
 
 pub part_within : (step : PartStep) (h : Held) → PartNeeds step h → PartRests h → IsWithin h step
@@ -130,14 +147,17 @@ leaf_small h U R =
 publish_small : (h : Held) → MayPublish h.topics → PartRests h → page_owned h.topics.owned < 2 ^ 64
 publish_small h M R = let page = page_there h (some_filled h.topics.owned 513 M.owns.whole (omega arith)) R in omega (arith, page, R.sizes.pool.1)
 
-word_fits : (word : ℕ) (present allowed : Bool) → host_frame word ≤ 2097152 → host_word (host_frame word) present allowed (host_level word) < 2 ^ 64
+word_fits : (word frame : ℕ) (present allowed : Bool) → frame ≤ 2097152 → host_word frame present allowed (host_level word) < 2 ^ 64
 unfolding host_level
-word_fits word present allowed few = host_fits (host_frame word) present allowed (host_level word) (omega (arith, few)) (omega arith)
+word_fits word frame present allowed few = host_fits frame present allowed (host_level word) (omega (arith, few)) (omega arith)
 
--- The word of a frame of the machine, with other bits, has 64 bits.
-word_small : (word new_ : ℕ) → host_frame word ≤ 2097152 → revises word new_ ≡ true → new_ < 2 ^ 64
-word_small word new_ few is =
-    each_revision word new_ (λ n. n < 2 ^ 64) (λ allowed. word_fits word (host_present word) allowed few) (word_fits word false (host_allows_write word) few) is
+-- The word of a frame of the machine, with other bits, or at another frame of it, has 64 bits.
+word_small : (words : ℕ) (owned : Option OwnedFrame) (word new_ : ℕ) → host_frame word ≤ 2097152 → ((o : OwnedFrame) → owned ≡ Some o → o.frame ≤ 2097152)
+    → revises words owned word new_ ≡ true → new_ < 2 ^ 64
+word_small words owned word new_ few owned_few is =
+    each_revision words owned word new_ (λ n. n < 2 ^ 64) (λ none allowed. word_fits word (host_frame word) (host_present word) allowed few)
+    (λ none. word_fits word (host_frame word) false (host_allows_write word) few)
+    (λ o at full. word_fits word o.frame (host_present word) (host_allows_write word) (owned_few o at)) is
 
 -- The count that is stored is one more or one less than one that was loaded.
 count_small : (h : Held) (count : ℕ) → MayCount count h.topics → PartRests h → count < 2 ^ 64
@@ -178,6 +198,12 @@ part_small (part.SetEnd gfn) h note N R = N.1
 part_small (part.SetCount count) h note N R = count_small h count N R
 part_small (part.SetSeq seq) h note N R = let is = N.1 in let few = R.counters.seq in omega (arith, is, few)
 part_small part.Bring h note N R =
-    word_fits (word_looked h.topics.host) true (host_allows_write (word_looked h.topics.host)) (looked_few h N.looked R)
-part_small (part.Change new_) h note N R = word_small (word_looked h.topics.host) new_ (looked_few h N.0.looked R) N.1
+    word_fits (word_looked h.topics.host) (host_frame (word_looked h.topics.host)) true (host_allows_write (word_looked h.topics.host))
+    (looked_few h N.looked R)
+part_small (part.Change new_) h note N R =
+    word_small h.state.sizes.words h.topics.frames.owned (word_looked h.topics.host) new_ (looked_few h N.0.looked R)
+    (λ o is. let there = R.frame o is in omega (arith, there, R.sizes.frames.1)) N.1
+part_small part.Frame h note N R = not_small (2 ^ tried_bit h.topics.frames.claim)
+part_small (part.Store index) h note N R = R.counters.frames.copied
+part_small part.GiveFrame h note N R = power_small (frame_owned h.topics.frames.owned % 64) (omega arith)
 part_small _ h note N R = omega arith

@@ -1,131 +1,51 @@
 -- What an actor holds behind each step of a part: the topics of the step, written out.
 use Rattle.std.proofs.Common.{◌≡◌, ◌+◌, ◌-◌, ◌<◌, ◌≤◌, ℕ, refl, sym, subst, ap, ◌∙◌, arith}
-use Rattle.std.specs.Prelude.{Bool, true, false, ◌==◌, ◌&&◌, nat_le, nat_lt, not, if◌then◌else◌, Some, None}
+use Rattle.std.specs.Prelude.{Bool, true, ◌==◌, if◌then◌else◌, Some, None}
 use Rattle.std.proofs.lemmas.Bool.Decides.{nat_tests}
 use Rattle.core_views.specs.declared.sizes.Sizes.{Sizes}
-use Rattle.core_views.specs.declared.topics.MapClaim.{MapClaim}
 use Rattle.core_views.specs.declared.topics.TableWalk.{TableWalk}
 use Rattle.core_views.specs.declared.topics.Topics.{Topics}
 use Rattle.core_views.specs.Held.{Held}
 use Rattle.spte_words.specs.declared.area.Area.TheVariants as area
 use Rattle.spte_words.specs.Areas.{number_of, place, pool_index, words_of_bits}
-use Rattle.spte_words.proofs.Places.{next_place, place_at}
+use Rattle.spte_words.proofs.Indices.{pool_within}
 use Rattle.part_steps.specs.declared.task.Task.{Task}
 use Rattle.mmu_core.specs.lines.Cached.{flushed}
 use Rattle.part_steps.specs.declared.part_step.PartStep.{PartStep}
 use Rattle.part_steps.specs.declared.part_step.PartStep.TheVariants as part
 use Rattle.part_steps.specs.PartTasks.{entry_index, entry_task, leaf_written, link_written, part_task, table_page, word_looked, page_looked}
+use Rattle.part_steps.specs.PartTasks.{page_left, page_owned, words_filled}
 use Rattle.part_steps.specs.PartSteps.{PartNeeds}
-use Rattle.part_steps.specs.PartTopics.{exchanged, part_topics, exchanged_host}
+use Rattle.part_steps.specs.PartTopics.{changed_host, exchanged, part_topics, exchanged_host}
 use Rattle.mmu_core.specs.machine.Steps.{idle_after}
+use Rattle.mmu_core.proofs.words.MapTopics.{filled_topics, frame_map_topics, lone_is, map_topics, stored_topics}
+pub use Rattle.mmu_core.proofs.words.MapTopics.{map_end, map_word_at}
 use Rattle.part_steps.specs.Tasks.{kind_of_task, map_of}
-use Rattle.part_steps.specs.StayTopics.{is_loose, kept_search, may_search, may_walk, has_lock}
 use Rattle.part_steps.specs.WalkTopics.{is_in_table, still_owned, swapped, walked, gone_down}
-use Rattle.part_steps.specs.ControlTopics.{at_root, at_set, at_word, controlled, count_checked, range_checked}
-use Rattle.part_steps.specs.ControlBits.{in_section, map_begins, map_ends}
-use Rattle.part_steps.specs.ControlTopics.{seq_checked, start_checked}
+use Rattle.part_steps.specs.ControlBits.{in_section}
 use Rattle.part_steps.specs.ControlBits.{has_to_flush}
 use Rattle.part_steps.specs.TopicSteps.{host_begins, index_in_page, topics_after}
 use Rattle.mmu_core.specs.machine.View.{View, answer_in, part_stepped, upd, words_after}
 use Rattle.mmu_core.proofs.machine.PartStepping.{IsPart}
 use Rattle.spte_words.specs.HostWords.{with_presence}
 
--- the word of the map that the step loads, if it does, is there; and the table whose entry it loads, exchanges or zaps
+-- the word of a map that the step loads, if it does, is there; the page that it fills, or whose role it stores; and the table whose entry it loads,
+-- exchanges or zaps
 abbrev pub IsThere : Sizes → Topics → PartStep → Type 0
 IsThere z t (part.Map word) = word < words_of_bits z.pool
+IsThere z t (part.FrameMap word) = word < words_of_bits z.frames
+IsThere z t (part.Fill value) = (page_owned t.owned < z.pool) × (words_filled t.owned < 512)
+IsThere z t (part.Role value) = page_owned t.owned < z.pool
+IsThere z t part.Clear = page_left t.leaving < z.pool
 IsThere z t (part.Walk gfn) = 1 ≤ t.walk.level
 IsThere z t (part.Link gfn) = 1 ≤ t.walk.level
 IsThere z t (part.Leaf gfn) = 1 ≤ t.walk.level
 IsThere z t (part.Zap gfn) = 1 ≤ t.walk.level
 IsThere z t _ = Unit {0}
 
--- The lone words stand before the map.
-lone_begin : (z : Sizes) → 8 ≤ map_begins z
-unfolding place
-lone_begin z = omega arith
-
-before_map : (begins ends word : ℕ) → word < begins → (nat_le begins word && nat_lt word ends) ≡ false
-before_map begins ends word lt = grind (arith, nat_tests)
-
-in_map : (begins ends word : ℕ) → begins ≤ word → word < ends → (nat_le begins word && nat_lt word ends) ≡ true
-in_map begins ends word le lt = grind (arith, nat_tests)
-
-at_lone : (z : Sizes) (word : ℕ) (claim : MapClaim) (v : ℕ) → word < 8 → at_word z word claim v ≡ claim
-at_lone z word claim v lt =
-    ap (λ (b : Bool). record { at = if b then (word - map_begins z) + (if v == 0 then 1 else 0) else claim.at; seen = if b then v else claim.seen })
-    (before_map (map_begins z) (map_ends z) word (omega (arith, lone_begin z)))
-
--- a load of a lone word leaves the claim
-lone_is : (z : Sizes) (word : ℕ) (t : Topics) (v : ℕ) → word < 8 → controlled z word t v ≡ record (controlled z word t v) { claim = t.claim }
-lone_is z word t v lt = ap (λ (c : MapClaim). record (controlled z word t v) { claim = c }) (at_lone z word t.claim v lt)
-
--- the place of the map's words
-pub map_word_at : (z : Sizes) (i : ℕ) → place (map_of z) area.PoolMap i ≡ map_begins z + i
-map_word_at z i = place_at (map_of z) area.PoolMap i
-
-pub map_end : (z : Sizes) → map_ends z ≡ map_begins z + words_of_bits z.pool
-map_end z = next_place (map_of z) area.PoolMap area.FrameMap refl ∙ place_at (map_of z) area.PoolMap (words_of_bits z.pool)
-
 state_place : (z : Sizes) (i : ℕ) → place (map_of z) area.State i - number_of area.State ≡ i
 unfolding place
 state_place z i = omega arith
-
-test_false : (word n : ℕ) → n < word → (word == n) ≡ false
-test_false word n lt = grind (arith, nat_tests)
-
--- what a load of a control word makes, where each test went so
-abbrev told_so : Bool → Bool → Bool → Bool → Bool → Bool → Bool → MapClaim → Topics → ℕ → Topics
-told_so root slots seq count start end_ pause claim t v = record t {
-  walk = if root then at_root (may_walk t.stay t.hold) t.walk v else t.walk;
-  search = if slots then at_set (may_search t.stay t.hold) t.search v else if seq && is_loose t.hold then kept_search false t.search else t.search;
-  host = if seq && is_loose t.hold then None else t.host;
-  invalidations = record t.invalidations {
-    snapshot = if seq && is_loose t.hold then Some v else t.invalidations.snapshot;
-    count = if count then v else t.invalidations.count;
-    start = if start then v else t.invalidations.start;
-    end = if end_ then v else t.invalidations.end;
-    seq = if seq && not (is_loose t.hold) then v else t.invalidations.seq;
-    checked =
-        if count then count_checked t.hold else
-        if start then start_checked t.invalidations.checked else
-        if end_ then range_checked t.invalidations.checked else
-        if seq then seq_checked (has_lock t.hold) t.invalidations.count t.invalidations.checked else
-        t.invalidations.checked;
-  };
-  claim = claim;
-  pause = if pause then v else t.pause;
-}
-
--- the claim behind a load of a word of the map
-at_map : (z : Sizes) (i : ℕ) (claim : MapClaim) (v : ℕ) → i < words_of_bits z.pool
-    → at_word z (map_begins z + i) claim v ≡ record { at = i + (if v == 0 then 1 else 0); seen = v }
-at_map z i claim v lt =
-    ap (λ (b : Bool). record { at = if b then (map_begins z + i - map_begins z) + (if v == 0 then 1 else 0) else claim.at; seen = if b then v else claim.seen })
-    (in_map (map_begins z) (map_ends z) (map_begins z + i) (omega arith) (omega (arith, map_end z)))
-    ∙ ap (λ n. record { at = n + (if v == 0 then 1 else 0); seen = v }) (taken (map_begins z))
-  where
-    taken : (m : ℕ) → m + i - m ≡ i
-    taken m = omega arith
-
-mapped : (z : Sizes) (word : ℕ) (claim : MapClaim) (t : Topics) (v : ℕ) → 8 ≤ word → at_word z word t.claim v ≡ claim
-    → controlled z word t v ≡ record t { claim = claim }
-mapped z word claim t v le is =
-    ap (λ (b : Bool). told_so b (word == 1) (word == 2) (word == 3) (word == 4) (word == 5) (word == 7) (at_word z word t.claim v) t v)
-    (test_false word 0 (omega arith))
-    ∙ ap (λ (b : Bool). told_so false b (word == 2) (word == 3) (word == 4) (word == 5) (word == 7) (at_word z word t.claim v) t v)
-    (test_false word 1 (omega arith))
-    ∙ ap (λ (b : Bool). told_so false false b (word == 3) (word == 4) (word == 5) (word == 7) (at_word z word t.claim v) t v) (test_false word 2 (omega arith))
-    ∙ ap (λ (b : Bool). told_so false false false b (word == 4) (word == 5) (word == 7) (at_word z word t.claim v) t v) (test_false word 3 (omega arith))
-    ∙ ap (λ (b : Bool). told_so false false false false b (word == 5) (word == 7) (at_word z word t.claim v) t v) (test_false word 4 (omega arith))
-    ∙ ap (λ (b : Bool). told_so false false false false false b (word == 7) (at_word z word t.claim v) t v) (test_false word 5 (omega arith))
-    ∙ ap (λ (b : Bool). told_so false false false false false false b (at_word z word t.claim v) t v) (test_false word 7 (omega arith))
-    ∙ ap (λ (c : MapClaim). record t { claim = c }) is
-
-map_topics : (z : Sizes) (own i : ℕ) (t : Topics) (note v : ℕ) → i < words_of_bits z.pool
-    → topics_after z (kind_of_task z (part_task (part.Map i) own t note)) t v ≡ part_topics (part.Map i) t v
-unfolding topics_after
-map_topics z own i t note v lt =
-    ap (λ word. controlled z word t v) (map_word_at z i) ∙ mapped z (map_begins z + i) _ t v (omega (arith, lone_begin z)) (at_map z i t.claim v lt)
 
 -- a word of a pool page stands at its own place in the page, and a host word behind the first one
 in_its_page : (z : Sizes) (page j : ℕ) → j < 512 → index_in_page z (place (map_of z) area.Pool (pool_index page j)) ≡ j
@@ -180,6 +100,15 @@ host_topics : (z : Sizes) (new_ : ℕ) (t : Topics) (v : ℕ)
 host_topics z new_ t v =
     ap (λ p. record t { host = Some (record { page = p; word = if v == word_looked t.host then new_ else v }) }) (behind_host z (page_looked t.host))
 
+changed_topics : (z : Sizes) (new_ : ℕ) (t : Topics) (v : ℕ)
+    → record (changed_host new_ t v) {
+      host = Some (record { page = place (map_of z) area.Host (page_looked t.host) - host_begins z; word = if v == word_looked t.host then new_ else v });
+    }
+    ≡ changed_host new_ t v
+changed_topics z new_ t v =
+    ap (λ p. record (changed_host new_ t v) { host = Some (record { page = p; word = if v == word_looked t.host then new_ else v }) })
+    (behind_host z (page_looked t.host))
+
 -- The topics after a step are those written out above.
 pub part_topics_is : (z : Sizes) (step : PartStep) (own : ℕ) (t : Topics) (note v : ℕ) → IsThere z t step
     → topics_after z (kind_of_task z (part_task step own t note)) t v ≡ part_topics step t v
@@ -202,7 +131,14 @@ part_topics_is z (part.Ask index) own t note v there = ap (λ i. record t { flus
 part_topics_is z (part.Await index) own t note v there = ap (λ i. record t { flush = record t.flush { awaited = i + (if has_to_flush v then 0 else 1) } })
     (state_place z index)
 part_topics_is z part.Bring own t note v there = host_topics z (with_presence true (word_looked t.host)) t v
-part_topics_is z (part.Change new_) own t note v there = host_topics z new_ t v
+part_topics_is z (part.Change new_) own t note v there = changed_topics z new_ t v
+part_topics_is z (part.Fill value) own t note v there =
+    filled_topics z area.Pool (pool_index (page_owned t.owned) (words_filled t.owned)) t v (omega arith)
+    (pool_within (map_of z) (page_owned t.owned) (words_filled t.owned) there.0 there.1)
+part_topics_is z (part.Role value) own t note v there = filled_topics z area.Role (page_owned t.owned) t v (omega arith) there
+part_topics_is z part.Clear own t note v there = filled_topics z area.Role (page_left t.leaving) t v (omega arith) there
+part_topics_is z (part.FrameMap word) own t note v there = frame_map_topics z own word t note v there
+part_topics_is z (part.Store index) own t note v there = stored_topics z index t v
 part_topics_is z _ own t note v there = refl
 
 -- the hand behind the step, by the actor at this place
@@ -225,6 +161,10 @@ part_behind a step note v =
 -- The step makes of the words and hands what is written out above.
 pub is_there : (step : PartStep) (h : Held) → PartNeeds step h → IsThere h.state.sizes h.topics step
 is_there (part.Map word) h N = N.1
+is_there (part.FrameMap word) h N = N.1
+is_there (part.Fill value) h N = (N.2, N.0.1)
+is_there (part.Role value) h N = N.2
+is_there part.Clear h N = N.in_pool
 is_there (part.Walk gfn) h N = N.there
 is_there (part.Link gfn) h N = N.0.saw.over.there
 is_there (part.Leaf gfn) h N = N.0.saw.over.there

@@ -34,6 +34,8 @@ stays area.Count = false
 stays area.RangeStart = false
 stays area.RangeEnd = false
 stays area.Host = false
+stays area.FrameMap = false
+stays area.Content = false
 stays _ = true
 
 -- The area is none of those that a step of a part stores in.
@@ -49,6 +51,8 @@ record IsApart (b : Area) : Type 0 where
   start : (number_of b == number_of area.RangeStart) ≡ false
   end_ : (number_of b == number_of area.RangeEnd) ≡ false
   host : (number_of b == number_of area.Host) ≡ false
+  frames : (number_of b == number_of area.FrameMap) ≡ false
+  content : (number_of b == number_of area.Content) ≡ false
 
 apart : (b : Area) → stays b ≡ true → IsApart b
 apart area.Lock is = absurd (cc is)
@@ -62,6 +66,8 @@ apart area.Count is = absurd (cc is)
 apart area.RangeStart is = absurd (cc is)
 apart area.RangeEnd is = absurd (cc is)
 apart area.Host is = absurd (cc is)
+apart area.FrameMap is = absurd (cc is)
+apart area.Content is = absurd (cc is)
 apart _ is = record {
   lock = refl;
   state = refl;
@@ -74,6 +80,8 @@ apart _ is = record {
   start = refl;
   end_ = refl;
   host = refl;
+  frames = refl;
+  content = refl;
 }
 
 put_elsewhere : (words : Area → ℕ → ℕ) (stored b : Area) (i x : ℕ) → (number_of b == number_of stored) ≡ false → put words stored i x b ≡ words b
@@ -106,9 +114,12 @@ words_stay (part.Zap gfn) own t note words b A = put_elsewhere words area.Pool b
 words_stay (part.Ask index) own t note words b A = put_elsewhere words area.State b index _ A.state
 words_stay part.Bring own t note words b A = put_elsewhere words area.Host b _ _ A.host
 words_stay (part.Change new_) own t note words b A = put_elsewhere words area.Host b _ _ A.host
+words_stay part.Frame own t note words b A = put_elsewhere words area.FrameMap b _ _ A.frames
+words_stay part.GiveFrame own t note words b A = put_elsewhere words area.FrameMap b _ _ A.frames
+words_stay (part.Store index) own t note words b A = put_elsewhere words area.Content b index _ A.content
 words_stay _ own t note words b A = refl
 
--- Whole areas stay: the root, the pause, content, the frame map and the log.
+-- Whole areas stay: the root, the pause and the log.
 pub areas_stay : (v : View) (a : ℕ) (step : PartStep) (note : ℕ) (b : Area) → stays b ≡ true → (part_stepped a step note v).words b ≡ v.words b
 areas_stay v a step note b is = words_stay step (own_index (v.hand a)) (v.hand a).topics note v.words b (apart b is)
 

@@ -31,7 +31,7 @@ use Rattle.mmu_core.specs.invariant.SlotSetPart.{IsLiveIn}
 use Rattle.mmu_core.specs.machine.Machine.{World, hand_in}
 use Rattle.mmu_core.specs.alone.OthersRest.{OthersRest}
 use Rattle.mmu_core.specs.alone.SeenStands.{SeenStands}
-use Rattle.mmu_core.specs.lines.ScanPlaces.{BegunNext, HasBegun}
+use Rattle.mmu_core.specs.lines.ScanPlaces.{BegunNext, HasBegun, OfPages}
 use Rattle.part_steps.specs.PartTasks.{entry_index, page_looked, part_task, table_page, word_looked}
 use Rattle.part_steps.specs.PartTopics.{part_topics}
 use Rattle.part_steps.specs.SlotWords.{NoneBelow, NoneHasPage, page_of}
@@ -107,7 +107,7 @@ pub record FaultRunsAlone (z : Sizes) (w : World Held) (a : ℕ) (p : FaultPlace
   pub there : a < actors_of z
   pub small : gfn < 2 ^ 36
   pub knows : FaultKnows p z gfn write (hand_in mmu w a).topics
-  pub seen : SeenStands (HasBegun p) (word_in z w) (hand_in mmu w a).topics
+  pub seen : SeenStands (OfPages (HasBegun p)) (word_in z w) (hand_in mmu w a).topics
   pub opens_none : (hand_in mmu w a).topics.invalidations.opened ≡ false
   pub alone : FaultAlone p (word_in z w area.Root 0) (word_in z w area.Slots 0) (word_in z w area.Pool) (word_in z w area.Host) gfn write
       (hand_in mmu w a).topics
@@ -127,7 +127,7 @@ pub record GoesThrough (z : Sizes) (words : Area → ℕ → ℕ) (a : ℕ) (t :
       let step : PartStep = fault_part p gfn t in
       let task : Task = part_task step a t note in
       let found : ℕ = answer_in task words in
-      SeenStands (BegunNext (fault_next p z gfn write t found)) (words_after task words) (part_topics step t found)
+      SeenStands (OfPages (BegunNext (fault_next p z gfn write t found))) (words_after task words) (part_topics step t found)
 
 -- A fault alone goes through: no step of it waits, it never begins anew; where it ends with an entry installed, links lead from the root to
 -- a leaf that allows the access; where it ends with MMIO, no slot has a page for the access; where it ends with a host fault, a slot has one, whose

@@ -10,12 +10,13 @@ use Rattle.core_views.specs.declared.trace.Line.{Line}
 use Rattle.core_views.specs.Held.{Held}
 use Rattle.core_views.specs.Need.{need}
 use Rattle.core_views.specs.Sizes.{actors_of, sizes_of}
-use Rattle.spte_words.specs.declared.area.Area.TheVariants as area
-use Rattle.spte_words.specs.Areas.{words_of_bits}
+use Rattle.spte_words.specs.declared.area.Area.{Area}
 use Rattle.mmu_core.specs.declared.outcome.Outcome.{Outcome}
 use Rattle.mmu_core.specs.declared.outcome.Outcome.TheVariants.{Goes, Ends}
 use Rattle.mmu_core.specs.alone.AloneKnows.{AloneKnows}
 use Rattle.mmu_core.specs.lines.Bounds.{most_steps}
+use Rattle.mmu_core.specs.lines.ClaimSteps.{FreeMap, map_area, map_words}
+use Rattle.mmu_core.specs.lines.ScanPlaces.{answer_without}
 use Rattle.mmu_core.specs.lines.Forms.{steps_left}
 pub use Rattle.mmu_core.specs.lines.Delays.{line_waits}
 use Rattle.mmu_core.specs.machine.Enabled.{mmu}
@@ -45,15 +46,15 @@ pub record LineAlone (z : Sizes) (w : World Held) (a : ℕ) : Type 0 where
 abbrev pub AllRest : World Held → Type 0
 AllRest w = (i : ℕ) → i < length w.hands → HoldsNothing (hand_in mmu w i).topics
 
--- A line is starved only where no page of the pool is free.
-abbrev pub StarvedOnlyWithout : Answer → Sizes → (ℕ → ℕ) → Type 0
-StarvedOnlyWithout answer z map = answer ≡ Starved → NoneFreeBefore map (words_of_bits z.pool)
+-- A line is starved only where no page of the pool is free, and refused a frame only where none is.
+abbrev pub StarvedOnlyWithout : Answer → Sizes → (Area → ℕ → ℕ) → Type 0
+StarvedOnlyWithout answer z words = (map : FreeMap) → answer ≡ answer_without map → NoneFreeBefore (words (map_area map)) (map_words map z)
 
 -- After a step the line is alone still, with fewer steps left; or it is answered, all actors rest, and it is starved only where no
--- page is free.
+-- page is free, or refused a frame only where none is.
 abbrev pub ComesNearer : Outcome → Sizes → ℕ → World Held → World Held → Type 0
 ComesNearer (Goes p) z a before after = LineAlone z after a × (hand_left (hand_in mmu after a) < hand_left (hand_in mmu before a))
-ComesNearer (Ends answer) z a before after = IsSound z after × AllRest after × StarvedOnlyWithout answer z (word_in z after area.PoolMap)
+ComesNearer (Ends answer) z a before after = IsSound z after × AllRest after × StarvedOnlyWithout answer z (word_in z after)
 
 -- The step doesn't wait for another actor, and comes nearer to the line's answer.
 pub record StepsAlone (z : Sizes) (w : World Held) (s : Step Kind) : Type 0 where

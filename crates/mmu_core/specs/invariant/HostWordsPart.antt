@@ -15,10 +15,9 @@ IsHostWord frames w = (w ≡ host_word (host_frame w) (host_present w) (host_all
 abbrev pub IsStill : ℕ → ℕ → Type 0
 IsStill seen now_ = (seen ≡ now_) ⊎ ((host_present seen ≡ false) × (now_ ≡ with_presence true seen))
 
--- So is each page's, and no two pages have one frame, present or not.
-pub record HostWordsPart (z : Sizes) (host : ℕ → ℕ) : Type 0 where
-  pub words : (p : ℕ) → p < z.pages → IsHostWord z.frames (host p)
-  pub apart : (p q : ℕ) → p < z.pages → q < z.pages → host_frame (host p) ≡ host_frame (host q) → p ≡ q
+-- So is each page's. That no two pages have one frame, present or not, is part of what each frame is used for.
+abbrev pub HostWordsPart : Sizes → (ℕ → ℕ) → Type 0
+HostWordsPart z host = (p : ℕ) → p < z.pages → IsHostWord z.frames (host p)
 
 -- The actor at a place is the host thread whose page it is.
 abbrev pub owns_page : Sizes → ℕ → ℕ → Bool

@@ -60,6 +60,8 @@ abbrev pub has_raised : Place → Bool
 has_raised (place.Host (host.End ends.Count)) = true
 has_raised (place.Host (host.End ends.SetCount)) = true
 has_raised (place.Host (host.End ends.Release)) = true
+has_raised (place.Host host.Watch) = true
+has_raised (place.Host host.Free) = true
 has_raised _ = false
 
 -- how many lines of a hand may have raised it: those that are answered, and the one under way that has

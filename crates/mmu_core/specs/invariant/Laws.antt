@@ -1,4 +1,5 @@
 -- What holds of every list of steps, from every start.
+use Rattle.mmu_core.specs.invariant.FramesPart.{CopiedPart}
 use Rattle.mmu_core.specs.invariant.InvalidatedPart.{FlushPart, UsablePart}
 use Rattle.mmu_core.specs.invariant.InvalidationsPart.{EndsPart}
 use Rattle.std.specs.Prelude.{◌≡◌, ◌<◌, ◌^◌, ℕ, List, length, slice_index}
@@ -20,8 +21,8 @@ use Rattle.mmu_core.specs.machine.View.{view, word_in}
 use Rattle.mmu_core.specs.machine.Worlds.{IsStart, history}
 
 -- The words and hands are as many as the machine has, each word is a number below 2 ^ 64, each end of an invalidation belongs to a line, what may be
--- used of what is cached agrees, flushes that were awaited are made, no pause was set, and
--- every part of the invariant holds: what lines rest on, and what is held of the machine's parts.
+-- used of what is cached agrees, flushes that were awaited are made, what
+-- moves have copied is their pages', no pause was set, and every part of the invariant holds: what lines rest on, and what is held of the machine's parts.
 pub record IsSound (z : Sizes) (w : World Held) : Type 0 where
   pub words : length w.words ≡ total (map_of z)
   pub hands : length w.hands ≡ actors_of z
@@ -30,6 +31,7 @@ pub record IsSound (z : Sizes) (w : World Held) : Type 0 where
   pub usable : UsablePart (actors_of z) z.vcpus (word_in z w area.State) (word_in z w area.Pool) (word_in z w area.Host) (word_in z w area.Slots 0)
       (hand_in mmu w)
   pub flushes : FlushPart (actors_of z) z.vcpus (word_in z w area.State) (hand_in mmu w)
+  pub copied : CopiedPart z (actors_of z) (word_in z w area.Content) (λ i. (hand_in mmu w i).topics)
   pub no_pause : word_in z w area.Pause 0 ≡ 0
   pub holds : Invariant z (view z w)
   pub topics : TopicsInvariant z (view z w)

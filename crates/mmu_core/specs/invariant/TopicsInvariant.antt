@@ -7,6 +7,7 @@ use Rattle.spte_words.specs.declared.area.Area.TheVariants as area
 use Rattle.mmu_core.specs.machine.View.{View}
 pub use Rattle.part_steps.specs.PartBounds.{CountersPart}
 pub use Rattle.mmu_core.specs.invariant.AllOver.{AllOver, LeafIsFor}
+pub use Rattle.mmu_core.specs.invariant.FramesPart.{CopiedPart, FrameUse, FramesPart}
 pub use Rattle.mmu_core.specs.invariant.HostWordsPart.{HostWordsPart, IsHostWord, OwnLooksPart}
 pub use Rattle.mmu_core.specs.invariant.HeldPart.{HeldPart, HoldsOld, OldSetsPart, PathPart, SetsPart}
 pub use Rattle.mmu_core.specs.invariant.InvalidationsPart.{CheckedPart, CountPart, KnownRangePart, LoadedPart}
@@ -17,10 +18,12 @@ pub use Rattle.mmu_core.specs.invariant.SearchPart.{IsUnder, LookPart, SearchPar
 pub use Rattle.mmu_core.specs.invariant.StatesPart.{StatesPart}
 pub use Rattle.mmu_core.specs.invariant.TreePart.{Position, TreePart, Use, stands}
 
--- All parts, of the columns of words and the column of hands; and what each page of the pool is, and where it stands if it is a table.
-pub record TopicsInvariantOf (z : Sizes) (lock root slots seq count start end_ : ℕ) (states map host role pool : ℕ → ℕ) (hand : ℕ → Held) : Type 0 where
+-- All parts, of the columns of words and the column of hands; what each page of the pool is, and where it stands if it is a table; and what each frame is.
+pub record TopicsInvariantOf (z : Sizes) (lock root slots seq count start end_ : ℕ) (states map frame_map host role pool : ℕ → ℕ) (hand : ℕ → Held)
+    : Type 0 where
   pub up : ℕ → Use
   pub spot : ℕ → Position
+  pub use_of : ℕ → FrameUse
   pub lock_part : LockPart (actors_of z) lock (λ i. (hand i).topics.hold)
   pub saw_writer : (i : ℕ) → i < actors_of z → SawWriter (hand i).topics.hold
   pub states_part : StatesPart (actors_of z) states (λ i. (hand i).topics.stay)
@@ -34,6 +37,7 @@ pub record TopicsInvariantOf (z : Sizes) (lock root slots seq count start end_ :
   pub old_sets : OldSetsPart (actors_of z) slots pool (λ i. (hand i).topics.leaving)
   pub searches : (i : ℕ) → i < actors_of z → SearchPart pool (hand i).topics.search
   pub hosts : HostWordsPart z host
+  pub frames : FramesPart z (actors_of z) frame_map host (λ i. (hand i).topics.frames.owned) use_of
   pub looks : (i : ℕ) → i < actors_of z → LookPart z (actors_of z) seq host (λ j. (hand j).topics) (hand i).topics
   pub own_looks : OwnLooksPart z (actors_of z) host (λ i. (hand i).topics)
   pub counts : CountPart (actors_of z) count (λ i. (hand i).topics.invalidations.opened)
@@ -50,5 +54,5 @@ pub record TopicsInvariantOf (z : Sizes) (lock root slots seq count start end_ :
 abbrev pub TopicsInvariant : Sizes → View → Type 0
 TopicsInvariant z v =
     TopicsInvariantOf z (v.words area.Lock 0) (v.words area.Root 0) (v.words area.Slots 0) (v.words area.Seq 0) (v.words area.Count 0)
-    (v.words area.RangeStart 0) (v.words area.RangeEnd 0) (v.words area.State) (v.words area.PoolMap) (v.words area.Host) (v.words area.Role)
-    (v.words area.Pool) v.hand
+    (v.words area.RangeStart 0) (v.words area.RangeEnd 0) (v.words area.State) (v.words area.PoolMap) (v.words area.FrameMap) (v.words area.Host)
+    (v.words area.Role) (v.words area.Pool) v.hand

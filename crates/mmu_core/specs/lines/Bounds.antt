@@ -7,7 +7,7 @@ use Rattle.core_views.specs.declared.place.Leaving.TheVariants as leaving
 use Rattle.core_views.specs.declared.sizes.Sizes.{Sizes}
 use Rattle.core_views.specs.declared.topics.Topics.{Topics}
 use Rattle.core_views.specs.declared.trace.Command.{Command}
-use Rattle.core_views.specs.declared.trace.Command.TheVariants.{Access}
+use Rattle.core_views.specs.declared.trace.Command.TheVariants.{Access, ChangeHost}
 use Rattle.spte_words.specs.Areas.{words_of_bits}
 use Rattle.mmu_core.specs.lines.FaultLeft.{fault_left}
 pub use Rattle.mmu_core.specs.lines.SearchLeft.{look_left}
@@ -27,7 +27,9 @@ access_left (Leave (leaving.Reached frame value)) z t = 1
 access_left (Leave leaving.Faults) z t = 1 + (fault_left fault.Begin z t + 9)
 access_left (Fault p) z t = fault_left p z t + 9
 
--- The most steps of a line with this command, alone. One that changes a slot makes as many whatever the pool, but for the words of the pool's map.
+-- The most steps of a line with this command, alone. One that changes a slot or a host page makes as many whatever the pool and the frames, but for the words
+-- of the map in which it may claim.
 abbrev pub most_steps : Sizes → Command → ℕ
 most_steps z (Access gfn word op) = 8192 + z.pool + z.frames
+most_steps z (ChangeHost page change) = 1024 + words_of_bits z.frames
 most_steps z _ = 1024 + words_of_bits z.pool

@@ -12,7 +12,7 @@ use Rattle.core_views.specs.declared.topics.SlotSearch.{SlotSearch}
 use Rattle.core_views.specs.declared.topics.Topics.{Topics}
 use Rattle.spte_words.specs.Areas.{words_of_bits}
 use Rattle.part_steps.specs.PartTasks.{words_filled}
-use Rattle.mmu_core.specs.lines.ClaimSteps.{claim_left}
+use Rattle.mmu_core.specs.lines.ClaimSteps.{Pages, claim_left}
 use Rattle.mmu_core.specs.lines.ShareSteps.{share_left}
 use Rattle.mmu_core.specs.lines.SearchLeft.{look_left}
 
@@ -48,7 +48,7 @@ fault_left Bring z t = entering_left z + 7
 fault_left Share z t = entering_left z + 4 + share_left t.hold
 fault_left (Check at) z t = entering_left z + check_left at
 fault_left (Walk rooted) z t = if rooted then walk_left z t.walk.level else entering_left z
-fault_left (Claim begun) z t = walk_left z (t.walk.level - 1) + 514 + claim_left begun z t.claim
+fault_left (Claim begun) z t = walk_left z (t.walk.level - 1) + 514 + claim_left Pages begun z t.claim
 fault_left Fill z t = walk_left z (t.walk.level - 1) + 1 + (513 - words_filled t.owned)
 fault_left Role z t = walk_left z (t.walk.level - 1) + 2
 fault_left Link z t = walk_left z (t.walk.level - 1) + 1

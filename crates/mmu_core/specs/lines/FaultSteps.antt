@@ -35,7 +35,7 @@ use Rattle.mmu_core.specs.declared.share.ShareNext.TheVariants as shares
 use Rattle.part_steps.specs.SlotWords.{page_of}
 use Rattle.part_steps.specs.Tasks.{map_of}
 use Rattle.part_steps.specs.PageTopics.{searched}
-pub use Rattle.mmu_core.specs.lines.ClaimSteps.{claim_left, claim_next, claim_part, map_word, tries_page}
+pub use Rattle.mmu_core.specs.lines.ClaimSteps.{Pages, claim_left, claim_next, claim_part, map_word, tries_one}
 pub use Rattle.mmu_core.specs.lines.PartWaits.{is_owing}
 pub use Rattle.mmu_core.specs.lines.ShareSteps.{share_left, share_next, share_part}
 
@@ -55,7 +55,7 @@ fault_part Bring gfn t = part.Bring
 fault_part Share gfn t = share_part t.hold
 fault_part (Check at) gfn t = check_part at
 fault_part (Walk rooted) gfn t = if rooted then part.Walk gfn else part.Root
-fault_part (Claim begun) gfn t = claim_part begun t.claim
+fault_part (Claim begun) gfn t = claim_part Pages begun t.claim
 fault_part Fill gfn t = part.Fill 0
 fault_part Role gfn t = part.Role (t.walk.level - 1)
 fault_part Link gfn t = part.Link gfn
@@ -136,7 +136,7 @@ fault_next Bring z gfn write t v = Goes (if v == word_looked t.host then Share e
 fault_next Share z gfn write t v = Goes (after_share (share_next t.hold v))
 fault_next (Check at) z gfn write t v = Goes (check_next at gfn t v)
 fault_next (Walk rooted) z gfn write t v = Goes (if rooted then walk_next (kind_of t.walk.level v) z gfn write t.walk v else Walk true)
-fault_next (Claim begun) z gfn write t v = Goes (after_claim (claim_next begun z t.claim v))
+fault_next (Claim begun) z gfn write t v = Goes (after_claim (claim_next Pages begun z t.claim v))
 fault_next Fill z gfn write t v = Goes (if nat_lt (words_filled t.owned + 1) 512 then Fill else Role)
 fault_next Role z gfn write t v = Goes Link
 fault_next Link z gfn write t v = Goes (if v == t.walk.entry then Walk true else Give (Retry (Entry (entry_word z gfn t.walk) t.walk.entry v)))

@@ -1,23 +1,21 @@
 -- What each form of line says at its places: a clause a form in each table. The tables are filled in by the form's own files.
-use Rattle.mmu_core.specs.lines.InvalidateSteps.{is_counted}
-use Rattle.mmu_core.specs.lines.HostKnows.{HostKnows, HostRests, IsMade}
+pub use Rattle.mmu_core.specs.lines.Leaves.{LeavesPart, may_leave, may_open, may_own_frame}
+use Rattle.mmu_core.specs.lines.HostKnows.{HostKnows, HostRests}
 use Rattle.mmu_core.specs.lines.HostSteps.{host_left, host_note, host_outcome, host_part, host_tells}
-use Rattle.core_views.specs.declared.place.EndPlace.TheVariants as ends
 use Rattle.core_views.specs.declared.place.HostPlace.TheVariants as host
-use Rattle.core_views.specs.declared.place.Place.TheVariants.{Host}
-use Rattle.std.specs.Prelude.{◌≡◌, ℕ, List, [], Option, Some, None, true, false, Bool}
+use Rattle.std.specs.Prelude.{◌≡◌, ℕ, List, [], Option, Some, true, false}
 use Rattle.circular_buffer.specs.Buffer.{Buffer}
 use Rattle.core_views.specs.declared.cache.Translation.{Translation}
 use Rattle.core_views.specs.declared.event.EventKind.{EventKind}
 use Rattle.core_views.specs.declared.place.AccessPlace.TheVariants.{Enter}
 use Rattle.core_views.specs.declared.place.Place.{Place}
 use Rattle.core_views.specs.declared.place.Place.TheVariants as place
-use Rattle.core_views.specs.declared.place.SlotChangePlace.TheVariants as change
 use Rattle.core_views.specs.declared.sizes.Sizes.{Sizes}
 use Rattle.core_views.specs.declared.topics.Topics.{Topics}
 use Rattle.core_views.specs.declared.trace.Command.{Command}
 use Rattle.core_views.specs.declared.trace.Command.TheVariants.{Access, ChangeHost}
 use Rattle.core_views.specs.Held.{Held, State}
+use Rattle.core_views.specs.HostChanges.{moves_page}
 use Rattle.core_views.specs.SlotCommands.{change_refusal, changes_slot}
 use Rattle.core_views.specs.Slots.{is_write}
 use Rattle.core_views.specs.SlotSets.{MemorySlots}
@@ -38,7 +36,7 @@ use Rattle.mmu_core.specs.lines.SlotChangeSteps.{slot_change_records, slot_chang
 -- where a line begins
 abbrev pub first_place : Sizes → MemorySlots → Command → Place
 first_place z slots (Access gfn word op) = place.Access (Enter false)
-first_place z slots (ChangeHost page change) = place.Host host.Look
+first_place z slots (ChangeHost page change) = place.Host (host.Look (moves_page (ChangeHost page change)))
 first_place z slots command = place.SlotChange (slot_change_first (change_refusal z command slots))
 
 -- the step of a part at each place; none where the guest touches
@@ -113,28 +111,8 @@ abbrev pub KnowsPart : Place → Command → Held → Type 0
 KnowsPart place.Between command h = has_line h ≡ true → IsAtRest h.topics
 KnowsPart (place.Access p) (Access gfn word op) h = AccessKnows p gfn (is_write op) h
 KnowsPart (place.SlotChange p) command h = (changes_slot command ≡ true) × SlotChangeKnows p h
-KnowsPart (place.Host p) (ChangeHost page change) h = IsMade change × HostKnows p page h
+KnowsPart (place.Host p) (ChangeHost page change) h = HostKnows p page change h
 KnowsPart _ _ h = ⊥
-
--- A page leaves its use only after a publication, up to the end of the line.
-abbrev pub may_leave : Place → Bool
-may_leave (place.SlotChange change.Release) = true
-may_leave (place.SlotChange change.Watch) = true
-may_leave (place.SlotChange change.Clear) = true
-may_leave (place.SlotChange change.Give) = true
-may_leave _ = false
-
--- An invalidation of its own is open only from the store of one more to that of one less.
-abbrev pub may_open : Place → Bool
-may_open (place.Host (host.Begin p)) = is_counted p
-may_open (place.Host host.Change) = true
-may_open (place.Host (host.End ends.Release)) = false
-may_open (place.Host (host.End p)) = true
-may_open _ = false
-
-pub record LeavesPart (p : Place) (t : Topics) : Type 0 where
-  pub leaves : may_leave p ≡ false → t.leaving ≡ None
-  pub opens : may_open p ≡ false → t.invalidations.opened ≡ false
 
 -- Loads: what the line under way has loaded or stored agrees with the words of the pool, and with the published set.
 abbrev pub Holds : Sizes → (ℕ → ℕ) → ℕ → Place → Command → Held → Type 0

@@ -42,11 +42,12 @@ own_open n = if n.opened then 1 else 0
 abbrev pub saw_open : Invalidations → Bool
 saw_open n = was_counted n.checked && nat_lt (own_open n) n.count
 
--- The step waits: it takes back the try for the lock that found a writer, the page that it tries is gone, it finds the lock taken, it gives the lock back
--- under which it saw invalidations of others open, it finds another actor in the guest or in a section, or a virtual processor that has yet to flush.
+-- The step waits: it takes back the try for the lock that found a writer, the page or frame that it tries is gone, it finds the lock taken, it gives the lock
+-- back under which it saw invalidations of others open, it finds another actor in the guest or in a section, or a virtual processor that has yet to flush.
 abbrev pub part_waits : PartStep → Topics → ℕ → Bool
 part_waits part.Unshare t v = is_owing t.hold
 part_waits part.Claim t v = not (is_won t.claim v)
+part_waits part.Frame t v = not (is_won t.frames.claim v)
 part_waits part.Exclude t v = not (v == 0)
 part_waits part.Release t v = saw_open t.invalidations
 part_waits (part.Watch index) t v = in_section v
@@ -61,7 +62,7 @@ part_seen part.Release h v = record { word = place (map_of h.state.sizes) area.C
 part_seen step h v = record { word = (part_kind h step 0).word; value = v }
 
 -- What a step that waits has seen of another actor: taking itself out of the lock's readers, the lock's word with a writer; a claim, the map's word
--- without the bit of the page that it tried, which was free; having the lock alone, the lock's word, which isn't 0; giving it back, how many
+-- without the bit of the page or frame that it tried, which was free; having the lock alone, the lock's word, which isn't 0; giving it back, how many
 -- invalidations are open, above 0; a watch, the state word of another actor in a section; and a flush, that of a virtual processor in the guest, of
 -- which it is asked.
 abbrev pub SawAnother : PartStep → Held → Seen → Type 0
@@ -70,6 +71,10 @@ SawAnother part.Claim h seen =
     (seen.word ≡ place (map_of h.state.sizes) area.PoolMap h.topics.claim.at)
     × (0 < h.topics.claim.seen)
     × (has_bit (tried_bit h.topics.claim) seen.value ≡ false)
+SawAnother part.Frame h seen =
+    (seen.word ≡ place (map_of h.state.sizes) area.FrameMap h.topics.frames.claim.at)
+    × (0 < h.topics.frames.claim.seen)
+    × (has_bit (tried_bit h.topics.frames.claim) seen.value ≡ false)
 SawAnother part.Exclude h seen = (seen.word ≡ place (map_of h.state.sizes) area.Lock 0) × (seen.value ≢ 0)
 SawAnother part.Release h seen = (seen.word ≡ place (map_of h.state.sizes) area.Count 0) × (0 < seen.value)
 SawAnother (part.Await index) h seen = (seen.word ≡ place (map_of h.state.sizes) area.State index) × (has_to_flush seen.value ≡ true)

@@ -1,4 +1,4 @@
--- Where a line stands at its claim of a page, and where it has a scan of the pool's map: a row for each form of line that claims.
+-- Where a line stands at its claim, and where it has a scan of the map of what is free: a row for each form of line that claims.
 use Rattle.std.specs.Prelude.{◌≡◌, Bool, true, false, Option, Some, None, is_some}
 use Rattle.core_views.specs.declared.place.AccessPlace.TheVariants as access
 use Rattle.core_views.specs.declared.place.FaultEnd.{FaultEnd}
@@ -9,18 +9,28 @@ use Rattle.core_views.specs.declared.place.FaultPlace.{FaultPlace}
 use Rattle.core_views.specs.declared.place.FaultPlace.TheVariants.{Claim, Unshare, End}
 use Rattle.core_views.specs.declared.place.Place.{Place}
 use Rattle.core_views.specs.declared.place.Place.TheVariants as place
+use Rattle.core_views.specs.declared.place.HostPlace.TheVariants as host
 use Rattle.core_views.specs.declared.place.SlotChangePlace.TheVariants as change
+use Rattle.core_views.specs.declared.answer.Answer.{Answer}
+use Rattle.core_views.specs.declared.answer.Refusal.TheVariants.{NoFrame}
+pub use Rattle.mmu_core.specs.lines.ClaimSteps.{FreeMap, Pages, Frames}
 
--- At the claim: whether it has loaded a word of the map.
-abbrev pub claim_at : Place → Option Bool
-claim_at (place.Access (access.Fault (Claim begun))) = Some begun
-claim_at (place.SlotChange (change.Claim begun)) = Some begun
-claim_at _ = None
+-- At the claim of a page, or of a frame: whether it has loaded a word of the map.
+abbrev pub claim_at : FreeMap → Place → Option Bool
+claim_at Pages (place.Access (access.Fault (Claim begun))) = Some begun
+claim_at Pages (place.SlotChange (change.Claim begun)) = Some begun
+claim_at Frames (place.Host (host.Claim begun)) = Some begun
+claim_at _ _ = None
 
--- A line is answered with the last step of its claim, where this finds no page; but an access gives the lock back first.
-abbrev pub ends_with_claim : Place → Bool
-ends_with_claim (place.Access p) = false
-ends_with_claim p = is_some (claim_at p)
+-- A line is answered with the last step of its claim, where this finds nothing free; but an access gives the lock back first.
+abbrev pub ends_with_claim : FreeMap → Place → Bool
+ends_with_claim map (place.Access p) = false
+ends_with_claim map p = is_some (claim_at map p)
+
+-- the answer of a line that found nothing free in the map
+abbrev pub answer_without : FreeMap → Answer
+answer_without Pages = Answer.Starved
+answer_without Frames = Answer.Refused NoFrame
 
 abbrev pub IsStarvedEnd : FaultEnd → Type 0
 IsStarvedEnd Starved = Unit {0}
@@ -43,7 +53,12 @@ abbrev pub HasLoaded : Option Bool → Type 0
 HasLoaded (Some begun) = begun ≡ true
 HasLoaded None = ⊥
 
+-- So it is of the map of the pool's pages, and never of the map of frames.
+abbrev pub OfPages : Type 0 → FreeMap → Type 0
+OfPages A Pages = A
+OfPages A Frames = ⊥
+
 -- The line has loaded the first word of the map, and goes on with its claim; or its fault is to be starved.
-abbrev pub HasScan : Place → Type 0
-HasScan (place.Access (access.Fault p)) = HasBegun p
-HasScan p = HasLoaded (claim_at p)
+abbrev pub HasScan : Place → FreeMap → Type 0
+HasScan (place.Access (access.Fault p)) map = OfPages (HasBegun p) map
+HasScan p map = HasLoaded (claim_at map p)

@@ -1,5 +1,7 @@
 -- What a line that changes a slot knows at each of its places, from what its actor holds alone.
-use Rattle.std.specs.Prelude.{◌≡◌, ◌<◌, ℕ, Option, Some, true, None, is_some}
+use Rattle.std.specs.Prelude.{◌≡◌, ◌<◌, ℕ, Bool, Option, Some, true, false, None, is_some}
+use Rattle.core_views.specs.declared.answer.Refusal.{Refusal}
+use Rattle.core_views.specs.declared.answer.Refusal.TheVariants.{NoFrame}
 use Rattle.core_views.specs.declared.place.SlotChangePlace.{SlotChangePlace}
 use Rattle.core_views.specs.declared.place.SlotChangePlace.TheVariants.{Refuse, Claim, Fill, Role, Exclude, Count, Close, Publish, Release, Watch, Clear, Give}
 use Rattle.core_views.specs.declared.topics.Hold.TheVariants.{Loose, Exclusive}
@@ -23,9 +25,14 @@ pub record HasPublished (leaving : Option ℕ) (owned : Option OwnedPage) : Type
   pub leaves : is_some leaving ≡ true
   pub owns_none : owned ≡ None
 
+-- A line is refused for want of a frame. No line that changes a slot is.
+abbrev pub is_of_frames : Refusal → Bool
+is_of_frames NoFrame = true
+is_of_frames _ = false
+
 -- what it knows at each place
 abbrev pub SlotChangeKnows : SlotChangePlace → Held → Type 0
-SlotChangeKnows (Refuse refusal) h = IsAtRest h.topics
+SlotChangeKnows (Refuse refusal) h = IsAtRest h.topics × (is_of_frames refusal ≡ false)
 SlotChangeKnows (Claim begun) h = IsAtRest h.topics × (begun ≡ true → h.topics.claim.at < words_of_bits h.state.sizes.pool)
 SlotChangeKnows Fill h = HoldsLock Loose h.topics × HasToFill h.topics
 SlotChangeKnows Role h = HoldsLock Loose h.topics × HasRoleToSet h.topics

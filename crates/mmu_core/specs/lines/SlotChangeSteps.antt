@@ -2,7 +2,7 @@
 -- one makes one load of the sequence. Else a page is claimed and filled with the new slot set; under the lock alone, with no invalidation open, it
 -- is published in place of the old one; and after a watch of all other actors the old page is given back.
 use Rattle.std.specs.Prelude.{ℕ, true, false, List, [], ◌∷◌, Option, Some, None, ◌==◌, nat_lt, if◌then◌else◌, ◌+◌, ◌-◌}
-use Rattle.core_views.specs.declared.answer.Answer.TheVariants.{Done, Refused}
+use Rattle.core_views.specs.declared.answer.Answer.TheVariants.{Done, Refused, Starved}
 use Rattle.core_views.specs.declared.answer.Refusal.{Refusal}
 use Rattle.core_views.specs.declared.event.EventKind.{EventKind}
 use Rattle.core_views.specs.declared.event.EventKind.TheVariants.{SlotChanged}
@@ -25,7 +25,7 @@ use Rattle.part_steps.specs.declared.part_step.PartStep.TheVariants as part
 use Rattle.mmu_core.specs.lines.AccessSteps.{exiting}
 use Rattle.part_steps.specs.PartTasks.{own_index, part_task, words_filled}
 use Rattle.part_steps.specs.SetWords.{set_role, set_word}
-use Rattle.mmu_core.specs.lines.ClaimSteps.{claim_left, claim_next, claim_outcome, claim_part, loads_last_word}
+use Rattle.mmu_core.specs.lines.ClaimSteps.{Pages, claim_left, claim_next, claim_outcome, claim_part, loads_last_word}
 use Rattle.mmu_core.specs.declared.claim.ClaimNext.{ClaimNext}
 use Rattle.mmu_core.specs.declared.watch.WatchNext.{WatchNext}
 pub use Rattle.mmu_core.specs.lines.WatchSteps.{looked_at, watch_next}
@@ -39,7 +39,7 @@ slot_change_first None = Claim false
 -- the step of each place
 abbrev pub slot_change_part : SlotChangePlace → Held → Command → PartStep
 slot_change_part (Refuse refusal) h command = part.Seq
-slot_change_part (Claim begun) h command = claim_part begun h.topics.claim
+slot_change_part (Claim begun) h command = claim_part Pages begun h.topics.claim
 slot_change_part Fill h command = part.Fill (set_word (slots_after command h.slots) (words_filled h.topics.owned))
 slot_change_part Role h command = part.Role set_role
 slot_change_part Exclude h command = part.Exclude
@@ -54,7 +54,7 @@ slot_change_part Give h command = part.GiveOld
 -- 1 where the line may end with the step
 abbrev pub slot_change_note : SlotChangePlace → Held → ℕ
 slot_change_note (Refuse refusal) h = 1
-slot_change_note (Claim begun) h = if loads_last_word begun h.state.sizes h.topics.claim then 1 else 0
+slot_change_note (Claim begun) h = if loads_last_word Pages begun h.state.sizes h.topics.claim then 1 else 0
 slot_change_note Give h = 1
 slot_change_note _ h = 0
 
@@ -68,7 +68,7 @@ slot_change_records _ command slots = slots
 
 -- after a step of its claim: the page is to be filled, or the line is answered, since no page is free
 abbrev pub after_set_claim : ClaimNext → Outcome
-after_set_claim next = claim_outcome (SlotChange (Claim true)) (SlotChange Fill) next
+after_set_claim next = claim_outcome (SlotChange (Claim true)) (SlotChange Fill) Starved next
 
 -- after a look of its watch
 abbrev pub after_watch : WatchNext → SlotChangePlace
@@ -77,7 +77,7 @@ after_watch next = watch_place Watch Clear next
 -- where the line stands after the step of its place, which found v
 abbrev pub slot_change_outcome : SlotChangePlace → Held → ℕ → Outcome
 slot_change_outcome (Refuse refusal) h v = Ends (Refused refusal)
-slot_change_outcome (Claim begun) h v = after_set_claim (claim_next begun h.state.sizes h.topics.claim v)
+slot_change_outcome (Claim begun) h v = after_set_claim (claim_next Pages begun h.state.sizes h.topics.claim v)
 slot_change_outcome Fill h v = Goes (SlotChange (if nat_lt (words_filled h.topics.owned + 1) 512 then Fill else Role))
 slot_change_outcome Role h v = Goes (SlotChange Exclude)
 slot_change_outcome Exclude h v = Goes (SlotChange (if v == 0 then Count else Exclude))
@@ -104,7 +104,7 @@ slot_change_tells _ h command v = []
 -- page. What follows a step that waits, as the one that gives the lock back with an invalidation open, isn't counted there.
 abbrev pub slot_change_left : SlotChangePlace → Sizes → Topics → ℕ
 slot_change_left (Refuse refusal) z t = 1
-slot_change_left (Claim begun) z t = 520 + actors_of z + claim_left begun z t.claim
+slot_change_left (Claim begun) z t = 520 + actors_of z + claim_left Pages begun z t.claim
 slot_change_left Fill z t = 7 + actors_of z + (513 - words_filled t.owned)
 slot_change_left Role z t = 8 + actors_of z
 slot_change_left Close z t = 5 + actors_of z

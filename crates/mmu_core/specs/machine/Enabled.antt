@@ -7,6 +7,7 @@ use Rattle.core_views.specs.Sizes.{AreSizes}
 use Rattle.spte_words.specs.Areas.{total}
 use Rattle.part_steps.specs.declared.part_step.PartStep.{PartStep}
 use Rattle.mmu_core.specs.machine.Machine.{Core}
+use Rattle.part_steps.specs.PartBounds.{FrameCountersPart}
 use Rattle.part_steps.specs.PartTasks.{IsWithin, part_kind}
 use Rattle.part_steps.specs.PartSteps.{PartNeeds, needs_line}
 use Rattle.mmu_core.specs.lines.Rests.{Rests}
@@ -22,10 +23,12 @@ pub record IsNext (h : Held) (k : Kind) : Type 0 where
   pub inside : k.word < total (map_of h.state.sizes)
   pub small : k.new < 2 ^ 64
 
--- The hand has no line left, and holds what a step of a part needs that isn't one of lines alone; the step is on a word of its area.
+-- The hand has no line left, its counters of frames are in their bounds, and it holds what a step of a part needs that isn't one of lines alone; the step is on
+-- a word of its area.
 pub record IsPartStep (h : Held) (k : Kind) : Type 0 where
   pub none_left : has_line h ≡ false
   pub sizes : AreSizes h.state.sizes
+  pub counters : FrameCountersPart h.state.sizes h.topics.frames
   pub step : PartStep
   pub free : needs_line step ≡ false
   pub note : ℕ

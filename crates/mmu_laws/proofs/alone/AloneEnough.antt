@@ -16,6 +16,7 @@ use Rattle.spte_words.specs.Areas.{words_of_bits}
 use Rattle.spte_words.specs.Bits.{has_bit}
 use Rattle.mmu_core.specs.declared.outcome.Outcome.{Outcome}
 use Rattle.mmu_core.specs.declared.outcome.Outcome.TheVariants.{Ends}
+use Rattle.mmu_core.specs.declared.claim.FreeMap.TheVariants.{Pages}
 use Rattle.mmu_core.specs.machine.Enabled.{mmu}
 use Rattle.mmu_laws.specs.pool.Enough.{HasFreePage}
 use Rattle.mmu_core.specs.alone.SeenStands.{NoneFreeBefore}
@@ -49,5 +50,5 @@ none_starved h lines w ss s answer start legal enough L may is starved =
     let F : HasFreePage h.pool (word_in z (run mmu w (ss ++ s ∷ [])) area.PoolMap) =
     enough_pages h lines w (ss ++ s ∷ []) start (legal_one_more w ss s legal may) enough
     (λ i lt. subst (λ (u : World Held). (hand_in mmu u i).topics.owned ≡ None) (sym further) (N.1 i (subst (λ n. i < n) (sym N.0.hands) lt)).rests.owns_none) in
-    none_free h.pool (word_in z (effect mmu (run mmu w ss) s) area.PoolMap) (N.2 starved)
+    none_free h.pool (word_in z (effect mmu (run mmu w ss) s) area.PoolMap) (N.2 Pages starved)
     (subst (λ (u : World Held). HasFreePage h.pool (word_in z u area.PoolMap)) further F)

@@ -13,11 +13,10 @@ use Rattle.core_views.specs.Sizes.{actors_of}
 use Rattle.core_views.specs.SlotSets.{MemorySlots}
 use Rattle.core_views.specs.Traces.{IsCommandFor}
 use Rattle.spte_words.specs.declared.area.Area.{Area}
-use Rattle.spte_words.specs.declared.area.Area.TheVariants as area
 use Rattle.mmu_core.specs.declared.outcome.Outcome.{Outcome}
 use Rattle.mmu_core.specs.declared.outcome.Outcome.TheVariants.{Goes, Ends}
 use Rattle.mmu_core.specs.alone.AloneKnows.{AloneKnows}
-use Rattle.mmu_core.specs.lines.Forms.{LeavesPart, may_leave, may_open, steps_left, outcome_at, KnowsPart}
+use Rattle.mmu_core.specs.lines.Forms.{LeavesPart, may_leave, may_open, may_own_frame, steps_left, outcome_at, KnowsPart}
 use Rattle.mmu_core.specs.lines.Bounds.{most_steps}
 use Rattle.mmu_core.specs.machine.Enabled.{mmu}
 use Rattle.mmu_core.specs.invariant.Laws.{IsSound}
@@ -33,6 +32,7 @@ use Rattle.mmu_core.specs.machine.View.{View, answer_in, hand_after, view, word_
 use Rattle.mmu_laws.proofs.alone.AloneStep.{alone_step}
 use Rattle.mmu_laws.proofs.alone.GoesAlone.{GoesAlone, GoesOnAlone, topics_at}
 use Rattle.mmu_core.proofs.lines.ClaimPlaces.{begins_without}
+use Rattle.mmu_core.proofs.lines.LineClaims.{no_scan_between}
 use Rattle.mmu_core.specs.lines.PartWaits.{is_owing}
 use Rattle.part_steps.specs.StayTopics.{has_lock}
 use Rattle.mmu_core.proofs.machine.Columns.{same_or, upd_other, upd_same}
@@ -52,7 +52,7 @@ standing_alone place.Between y slots command words t K = record {
   seen = record {
     owes_none = K.seen.owes_none;
     saw_closed = K.seen.saw_closed;
-    scan = λ has. absurd (begins_without y slots command has);
+    scan = λ map has. absurd (begins_without y slots command map has);
     snapshot = K.seen.snapshot;
   };
   form = first_alone y slots command words t;
@@ -65,7 +65,7 @@ between_alone command words t rests = record {
   seen = record {
     owes_none = ap is_owing rests.loose;
     saw_closed = λ has. let loose = ap has_lock rests.loose in absurd (cc (loose, has));
-    scan = λ has. absurd has;
+    scan = λ map has. absurd (no_scan_between map has);
     snapshot = λ inside s is. let outside = rests.outside in absurd (cc (outside, inside));
   };
   form = tt;
@@ -127,15 +127,14 @@ comes_nearer (Goes q) z w after a line g words sizes B H G rests = goes_on q z w
 comes_nearer (Ends answer) z w after a line g words sizes B H G rests = (
   B.sound,
   all,
-  subst (λ (ws : Area → ℕ → ℕ). StarvedOnlyWithout answer z (ws area.PoolMap)) (sym B.words_are)
-      (subst (λ y. StarvedOnlyWithout answer y (words area.PoolMap)) sizes G),
+  subst (StarvedOnlyWithout answer z) (sym B.words_are) (subst (λ y. StarvedOnlyWithout answer y words) sizes G),
 )
   where
     -- its line is over
     placed : (hand_in mmu after a).state.place ≡ place.Between
     placed = ap (λ (x : Held). x.state.place) B.hand ∙ H.stands
 
-    -- So no page leaves, and no invalidation is open.
+    -- So no page leaves, no invalidation is open, and no frame is owned.
     left : LeavesPart (hand_in mmu after a).state.place (hand_in mmu after a).topics
     left = B.sound.holds.leaves a B.there
 
@@ -144,6 +143,7 @@ comes_nearer (Ends answer) z w after a line g words sizes B H G rests = (
       rests = subst (λ (x : Held). IsAtRest x.topics) (sym B.hand) rests;
       leaves_none = left.leaves (ap may_leave placed);
       opens_none = left.opens (ap may_open placed);
+      owns_no_frame = left.frames (ap may_own_frame placed);
     }
 
     all : AllRest after
@@ -233,7 +233,7 @@ begins_alone z w a sound others there left idle =
 -- What is told of a step of a line alone: of the hands before and after it, and the world after it.
 abbrev pub ToldAlone : Outcome → Sizes → ℕ → Held → Held → World Held → Type 0
 ToldAlone (Goes p) z a h g after = LineAlone z after a × (hand_left g < hand_left h)
-ToldAlone (Ends answer) z a h g after = IsSound z after × AllRest after × StarvedOnlyWithout answer z (word_in z after area.PoolMap)
+ToldAlone (Ends answer) z a h g after = IsSound z after × AllRest after × StarvedOnlyWithout answer z (word_in z after)
 
 nearer_told : (o : Outcome) (z : Sizes) (a : ℕ) (w after : World Held) → ComesNearer o z a w after
     → ToldAlone o z a (hand_in mmu w a) (hand_in mmu after a) after

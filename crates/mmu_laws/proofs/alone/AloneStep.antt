@@ -2,7 +2,6 @@
 -- answered or has fewer steps left.
 use Rattle.std.proofs.Common.{◌≡◌, ◌⊎◌, ◌<◌, ◌≤◌, ℕ, refl, sym, subst, ap, ◌∙◌, arith}
 use Rattle.std.specs.Prelude.{false, ◌&&◌, Option, Some, None}
-use Rattle.core_views.specs.declared.answer.Answer.TheVariants.{Starved}
 use Rattle.core_views.specs.declared.place.AccessPlace.TheVariants.{Walk, Fault}
 use Rattle.core_views.specs.declared.place.FaultEnd.TheVariants as end_of
 use Rattle.core_views.specs.declared.place.FaultPlace.TheVariants as fault
@@ -11,15 +10,13 @@ use Rattle.core_views.specs.declared.place.Place.TheVariants as place
 use Rattle.core_views.specs.declared.sizes.Sizes.{Sizes}
 use Rattle.core_views.specs.declared.topics.Topics.{Topics}
 use Rattle.core_views.specs.declared.trace.Command.{Command}
-use Rattle.core_views.specs.declared.trace.Command.TheVariants.{Access}
+use Rattle.core_views.specs.declared.trace.Command.TheVariants.{Access, ChangeHost}
 use Rattle.core_views.specs.declared.trace.Op.{Op}
 use Rattle.core_views.specs.declared.trace.Op.TheVariants.{Read}
 use Rattle.core_views.specs.Held.{Held}
 use Rattle.core_views.specs.Sizes.{actors_of, index_of}
 use Rattle.core_views.specs.Traces.{IsCommandFor}
 use Rattle.spte_words.specs.declared.area.Area.{Area}
-use Rattle.spte_words.specs.declared.area.Area.TheVariants as area
-use Rattle.spte_words.specs.Areas.{words_of_bits}
 use Rattle.part_steps.specs.declared.part_step.PartStep.{PartStep}
 use Rattle.mmu_core.specs.lines.AccessSteps.{task_by, touch_of}
 use Rattle.mmu_core.specs.alone.AloneKnows.{AloneKnows, FormAlone}
@@ -28,19 +25,21 @@ use Rattle.mmu_core.specs.lines.Forms.{KnowsPart, LeavesPart, steps_left, note_a
 use Rattle.mmu_core.specs.invariant.Laws.{IsSound}
 use Rattle.mmu_core.specs.machine.Machine.{World, hand_in}
 use Rattle.mmu_core.specs.alone.OthersRest.{OthersRest}
-use Rattle.part_steps.specs.declared.part_step.PartStep.TheVariants as part
 use Rattle.part_steps.specs.declared.task.Task.{Task}
 use Rattle.part_steps.specs.PartBounds.{PartRests}
 use Rattle.part_steps.specs.PartTasks.{own_index, part_task}
 use Rattle.part_steps.specs.PartTopics.{part_topics}
-use Rattle.mmu_core.specs.alone.SeenStands.{NoneFreeBefore, SeenStands}
+use Rattle.mmu_core.specs.alone.SeenStands.{NoneFreeBefore, ScanStands, SeenStands}
 use Rattle.mmu_core.specs.declared.outcome.Outcome.{Outcome}
 use Rattle.mmu_core.specs.declared.outcome.Outcome.TheVariants.{Goes, Ends}
+use Rattle.mmu_core.specs.declared.claim.FreeMap.{FreeMap}
+use Rattle.mmu_core.specs.declared.claim.FreeMap.TheVariants.{Frames, Pages}
+use Rattle.mmu_core.specs.lines.ClaimSteps.{claim_over, map_area, map_words, try_part}
 use Rattle.mmu_core.specs.lines.Delays.{begins_anew, leaves_to_fault, line_waits, walks_again, waits_by}
 use Rattle.mmu_core.specs.lines.PartAt.{touch_at}
 use Rattle.mmu_core.specs.lines.PartWaits.{part_waits}
 use Rattle.mmu_core.specs.lines.Rests.{IsUnderWay}
-use Rattle.mmu_core.specs.lines.ScanPlaces.{HasScan}
+use Rattle.mmu_core.specs.lines.ScanPlaces.{HasScan, answer_without}
 use Rattle.mmu_core.specs.machine.Outcomes.{place_after}
 use Rattle.mmu_core.specs.machine.Steps.{delays_at, task_at}
 use Rattle.mmu_core.specs.machine.View.{answer_in, word_in, words_after, view}
@@ -48,23 +47,18 @@ use Rattle.mmu_core.proofs.invariant.QuietKept.{touched}
 use Rattle.mmu_core.proofs.lines.ByStep.{step_needs}
 use Rattle.mmu_core.proofs.lines.ClaimPlaces.{claims_or_not}
 use Rattle.mmu_core.proofs.lines.LineClaims.{Claims, ClaimsNot, KeepsAt, keeps_scan, starves, tries_with_scan}
-use Rattle.mmu_core.proofs.lines.Forms.{outcome_apart, outcome_goes}
+use Rattle.mmu_core.proofs.lines.Forms.{outcome_goes}
 use Rattle.mmu_core.proofs.lines.KnowsKept.{access_vcpu, behind_part}
 use Rattle.mmu_core.proofs.lines.StepIn.{topics_of_step}
-use Rattle.mmu_core.proofs.machine.GoesOn.{GoesToNoAccess, GoesUnderWay}
+use Rattle.mmu_core.proofs.machine.GoesOn.{GoesUnderWay}
 use Rattle.mmu_laws.specs.turns.Removal.{WalksInstalled}
 use Rattle.mmu_laws.proofs.alone.GoesAlone.{GoesAlone, GoesOnAlone, topics_at}
+use Rattle.mmu_laws.proofs.alone.HostLines.{change_form, host_form}
 use Rattle.mmu_laws.proofs.alone.PartAlone.{part_goes_alone, seen_on}
 use Rattle.mmu_laws.proofs.turns.StayNearer.{Nearer, place_nearer}
 use Rattle.mmu_laws.proofs.turns.TurnsNearer.{no_miss, none_of}
 use Rattle.mmu_laws.proofs.alone.AccessAlone.{FormNext, KnowsAfter, access_form}
 use Rattle.mmu_core.proofs.held.OwnPages.{own_words}
-
--- A line of another form knows nothing of its own.
-form_apart : (o : Outcome) (command : Command) (words : Area → ℕ → ℕ) (t : Topics) → GoesToNoAccess o → FormNext o command words t
-form_apart (Goes (place.Access p)) command words t other = absurd other
-form_apart (Goes _) command words t other = tt
-form_apart (Ends answer) command words t other = tt
 
 -- ---- what an access knows and never does alone
 
@@ -79,19 +73,35 @@ walks_installed (place.Access (Walk again)) (Access gfn word op) words t alone =
 walks_installed _ _ words t alone = tt
 
 -- A touch leaves what its actor has seen.
-seen_touched : (before after : Type 0) (op : Op) (index : ℕ) (words : Area → ℕ → ℕ) (t : Topics) → SeenStands before words t → (after → before)
-    → SeenStands after (words_after (touch_of op index) words) t
-seen_touched before after Read index words t S keeps =
-    record { owes_none = S.owes_none; saw_closed = S.saw_closed; scan = λ has. S.scan (keeps has); snapshot = S.snapshot }
-seen_touched before after _ index words t S keeps =
-    record { owes_none = S.owes_none; saw_closed = S.saw_closed; scan = λ has. S.scan (keeps has); snapshot = S.snapshot }
+scan_touched : (map : FreeMap) (op : Op) (index : ℕ) (words : Area → ℕ → ℕ) (t : Topics) → ScanStands (words (map_area map)) (claim_over map t)
+    → ScanStands (words_after (touch_of op index) words (map_area map)) (claim_over map t)
+scan_touched Pages Read index words t S = S
+scan_touched Pages _ index words t S = S
+scan_touched Frames Read index words t S = S
+scan_touched Frames _ index words t S = S
+
+seen_touched : (before after : FreeMap → Type 0) (op : Op) (index : ℕ) (words : Area → ℕ → ℕ) (t : Topics) → SeenStands before words t
+    → ((map : FreeMap) → after map → before map) → SeenStands after (words_after (touch_of op index) words) t
+seen_touched before after Read index words t S keeps = record {
+  owes_none = S.owes_none;
+  saw_closed = S.saw_closed;
+  scan = λ map has. scan_touched map Read index words t (S.scan map (keeps map has));
+  snapshot = S.snapshot;
+}
+seen_touched before after op index words t S keeps = record {
+  owes_none = S.owes_none;
+  saw_closed = S.saw_closed;
+  scan = λ map has. scan_touched map op index words t (S.scan map (keeps map has));
+  snapshot = S.snapshot;
+}
 
 -- What the step comes to, put together.
 comes_alone : (o : Outcome) (command : Command) (y : Sizes) (words : Area → ℕ → ℕ) (t : Topics) (left : ℕ) → GoesUnderWay o
     → SeenStands (HasScan (place_after o)) words t → FormNext o command words t
-    → Nearer o y t left → (o ≡ Ends Starved → NoneFreeBefore (words area.PoolMap) (words_of_bits y.pool)) → GoesAlone o command y words t left
+    → Nearer o y t left → ((map : FreeMap) → o ≡ Ends (answer_without map) → NoneFreeBefore (words (map_area map)) (map_words map y))
+    → GoesAlone o command y words t left
 comes_alone (Goes p) command y words t left under seen form nearer starved = (under, record { seen = seen; form = form }, nearer)
-comes_alone (Ends answer) command y words t left under seen form nearer starved = λ e. starved (ap Ends e)
+comes_alone (Ends answer) command y words t left under seen form nearer starved = λ map e. starved map (ap Ends e)
 
 -- ---- in a sound world
 
@@ -121,8 +131,8 @@ module _ (z : Sizes) (w : World Held) (a : ℕ) (sound : IsSound z w) (others : 
     C : Claims p command h v ⊎ ClaimsNot p command h v
     C = claims_or_not p command h v R
 
-    tries : (step : PartStep) → part_at p command h ≡ Some step → step ≡ part.Claim → HasScan p
-    tries step at is = tries_with_scan p command h v C (at ∙ ap (λ (x : PartStep). Some x) is)
+    tries : (step : PartStep) → part_at p command h ≡ Some step → (map : FreeMap) → step ≡ try_part map → HasScan p map
+    tries step at map is = tries_with_scan p command h v C map (at ∙ ap (λ (x : PartStep). Some x) is)
 
     -- Its step doesn't wait, whatever its form.
     goes_by : (s : Option PartStep) → part_at p command h ≡ s → waits_by s h.topics (answer_in (task_of s) words) ≡ false
@@ -135,30 +145,30 @@ module _ (z : Sizes) (w : World Held) (a : ℕ) (sound : IsSound z w) (others : 
     goes_alone = goes_by (part_at p command h) refl
 
     -- What its actor has seen stands after it.
-    module _ (has_scan : Type 0) (keeps : has_scan → KeepsAt p (part_at p command h)) where
+    module _ (has_scan : FreeMap → Type 0) (keeps : (map : FreeMap) → has_scan map → KeepsAt map p (part_at p command h)) where
       seen_by : (s : Option PartStep) → part_at p command h ≡ s
           → SeenStands has_scan (words_after (task_of s) words) (behind_part s h.topics (answer_in (task_of s) words))
       seen_by None at =
           let T = touched p command h at in
           subst (λ (x : Task). SeenStands has_scan (words_after x words) h.topics) (sym T.2)
-          (seen_touched (HasScan p) has_scan T.0 T.1 words h.topics L.seen (λ has. subst (KeepsAt p) at (keeps has)))
+          (seen_touched (HasScan p) has_scan T.0 T.1 words h.topics L.seen (λ map has. subst (KeepsAt map p) at (keeps map has)))
       seen_by (Some step) at =
           let note : ℕ = note_at p command h in
           let u : ℕ → Topics = λ i. part_topics step h.topics (answer_in (part_task step i h.topics note) words) in
           subst (λ i. SeenStands has_scan (words_after (part_task step i h.topics note) words) (u i)) (sym own)
           (seen_on z w a note sound others there (HasScan p) L.seen has_scan step (step_needs p command h step R at) (tries step at)
-          (λ has. subst (KeepsAt p) at (keeps has)))
+          (λ map has. subst (KeepsAt map p) at (keeps map has)))
 
       seen_after : SeenStands has_scan after (topics_at p command h words)
       seen_after = subst (SeenStands has_scan after) (sym (topics_of_step p command h v R)) (seen_by (part_at p command h) refl)
 
-    -- It is starved only where no page is free.
-    starved_alone : o ≡ Ends Starved → NoneFreeBefore (after area.PoolMap) (words_of_bits h.state.sizes.pool)
-    starved_alone e i lt =
-        let over = starves p command h v C K e in
-        let past : words_of_bits h.state.sizes.pool ≤ (topics_at p command h words).claim.at =
-        subst (λ (t : Topics). words_of_bits h.state.sizes.pool ≤ t.claim.at) (sym (topics_of_step p command h v R)) over.1 in
-        ((seen_after (o ≡ Ends Starved) (λ is. (starves p command h v C K is).0)).scan e).before i (omega (arith, lt, past))
+    -- It is starved only where no page is free, and refused a frame only where none is.
+    starved_alone : (map : FreeMap) → o ≡ Ends (answer_without map) → NoneFreeBefore (after (map_area map)) (map_words map h.state.sizes)
+    starved_alone map e i lt =
+        let over = starves p command h v C K map e in
+        let past : map_words map h.state.sizes ≤ (claim_over map (topics_at p command h words)).at =
+        subst (λ (t : Topics). map_words map h.state.sizes ≤ (claim_over map t).at) (sym (topics_of_step p command h v R)) over.1 in
+        ((seen_after (λ m. o ≡ Ends (answer_without m)) (λ m is. (starves p command h v C K m is).0)).scan map e).before i (omega (arith, lt, past))
 
     -- It is no delay, so it leaves fewer steps.
     no_delay : delays_at p command h v ≡ false
@@ -179,10 +189,13 @@ module _ (z : Sizes) (w : World Held) (a : ℕ) (sound : IsSound z w) (others : 
   form_after (place.Access p) (Access gfn word op) may rests left R K L =
       access_form z w a sound others there p gfn word op (access_vcpu z h.state.actor gfn word op may).1 rests (left.opens refl) K L
   form_after (place.Access p) _ may rests left R K L = absurd R
-  form_after p command may rests left R K L =
-      let v : ℕ = answer_in (task_at p command h) words in
-      form_apart (outcome_at p command h v) command (words_after (task_at p command h) words) (behind_part (part_at p command h) h.topics v)
-      (outcome_apart p command h v tt)
+  form_after (place.SlotChange p) command may rests left R K L =
+      let v : ℕ = answer_in (task_at (place.SlotChange p) command h) words in
+      change_form p h v command (words_after (task_at (place.SlotChange p) command h) words)
+      (behind_part (part_at (place.SlotChange p) command h) h.topics v)
+  form_after (place.Host p) (ChangeHost page change) may rests left R K L = host_form z w a sound there p page change K L
+  form_after (place.Host p) _ may rests left R K L = absurd R
+  form_after place.Between command may rests left R K L = tt
 
   pub alone_step : (p : Place) (command : Command) → IsUnderWay p → IsCommandFor z h.state.actor command → PartRests h → LeavesPart p h.topics
       → RestsAt p command h → KnowsPart p command h

@@ -25,8 +25,9 @@ use Rattle.mmu_core.specs.machine.Enabled.{mmu}
 use Rattle.mmu_core.specs.declared.claim.ClaimNext.{ClaimNext}
 use Rattle.mmu_core.specs.alone.FaultAlone.{AloneNext, EntryStands, GoesThrough, LeadsTo, LeadsToLeaf, FaultRunsAlone}
 use Rattle.mmu_core.specs.lines.FaultKnows.{Entering, FaultKnows}
-use Rattle.mmu_core.specs.lines.FaultSteps.{allows_access, claim_next, entry_word, fault_next, fault_part, host_word_at, share_next, share_part}
-use Rattle.mmu_core.specs.lines.FaultSteps.{snapshot_taken, claim_part}
+use Rattle.mmu_core.specs.declared.claim.FreeMap.TheVariants.{Pages}
+use Rattle.mmu_core.specs.lines.ClaimSteps.{claim_next, claim_part}
+use Rattle.mmu_core.specs.lines.FaultSteps.{allows_access, entry_word, fault_next, fault_part, host_word_at, share_next, share_part, snapshot_taken}
 use Rattle.mmu_core.specs.machine.Machine.{World, hand_in}
 use Rattle.part_steps.specs.PartTasks.{entry_index, leaf_written, page_looked, page_owned, part_task, table_page, word_looked, words_filled}
 use Rattle.part_steps.specs.PartHoldings.{IsOver, LookedUp, SawEntry, HasToFill}
@@ -41,8 +42,7 @@ use Rattle.core_views.specs.declared.topics.Hold.{Hold}
 use Rattle.core_views.specs.declared.topics.Hold.TheVariants.{Loose}
 use Rattle.mmu_core.proofs.invariant.PartRested.{rests_in}
 use Rattle.mmu_core.proofs.lines.FaultNeeds.{fault_needs}
-use Rattle.mmu_core.proofs.lines.FaultScans.{fault_keeps, fault_tries}
-use Rattle.mmu_core.specs.lines.ScanPlaces.{BegunNext, HasBegun}
+use Rattle.mmu_core.specs.lines.ScanPlaces.{BegunNext, HasBegun, OfPages}
 use Rattle.part_steps.specs.PartSteps.{PartNeeds}
 use Rattle.mmu_laws.proofs.alone.OthersOpen.{none_alone}
 use Rattle.mmu_laws.proofs.alone.PartAlone.{part_goes_alone, seen_on}
@@ -62,11 +62,11 @@ use Rattle.mmu_core.proofs.pages.TreeKept.{leaf_is}
 use Rattle.mmu_core.proofs.pages.TreeStored.{entry_stored}
 use Rattle.core_views.specs.declared.topics.Stay.{Stay}
 use Rattle.mmu_laws.proofs.alone.FaultComes.{bring_alone, host_alone, share_alone, count_alone, seq_alone, installed, walk_alone, claim_alone}
-use Rattle.mmu_laws.proofs.alone.FaultComes.{fill_alone, link_alone, leaf_alone, is_it, trying_loose}
+use Rattle.mmu_laws.proofs.alone.FaultComes.{fill_alone, keeps_pages, link_alone, leaf_alone, is_it, tries_pages, trying_loose}
 
 -- A step of the claim leaves the entry.
 entry_still : (z : Sizes) (gfn : ℕ) (begun : Bool) (t : Topics) (v : ℕ) (words : Area → ℕ → ℕ) (a note : ℕ) (step : PartStep) (next : ClaimNext) (u : Topics)
-    → ClaimMade z begun t v step next u
+    → ClaimMade z Pages begun t v step next u
     → EntryStands (words area.Pool) gfn t → EntryStands (words_after (part_task step a t note) words area.Pool) gfn u
 entry_still z gfn begun t v words a note _ _ _ (made.Won tries b some is) stands = stands
 entry_still z gfn begun t v words a note _ _ _ _ stands = stands
@@ -237,12 +237,13 @@ next_alone z w a gfn note write (Walk true) R =
     (above_now z w a gfn note write (Walk true) R over v) k.0 k.1
 next_alone z w a gfn note write (Claim begun) R =
     let t : Topics = (hand_in mmu w a).topics in
-    let step : PartStep = claim_part begun t.claim in
+    let step : PartStep = claim_part Pages begun t.claim in
     let task : Task = part_task step a t note in
     let v : ℕ = answer_in task (word_in z w) in
     let after : Area → ℕ → ℕ = words_after task (word_in z w) in
-    claim_alone (after area.Root 0) (after area.Slots 0) (after area.Pool) (after area.Host) gfn write (claim_next begun z t.claim v) (part_topics step t v)
-    (entry_still z gfn begun t v (word_in z w) a note _ _ _ (claim_made z begun t v) R.alone)
+    claim_alone (after area.Root 0) (after area.Slots 0) (after area.Pool) (after area.Host) gfn write (claim_next Pages begun z t.claim v)
+    (part_topics step t v)
+    (entry_still z gfn begun t v (word_in z w) a note _ _ _ (claim_made z Pages begun t v) R.alone)
 next_alone z w a gfn note write Fill R =
     let t : Topics = (hand_in mmu w a).topics in
     let step : PartStep = part.Fill 0 in
@@ -272,11 +273,11 @@ next_alone z w a gfn note write _ R = R.alone
 pub goes_through : (z : Sizes) (w : World Held) (a gfn note : ℕ) (write : Bool) (p : FaultPlace) → FaultRunsAlone z w a p gfn write
     → GoesThrough z (word_in z w) a (hand_in mmu w a).topics note p gfn write
 goes_through z w a gfn note write p R = record {
-  goes = part_goes_alone z w a note R.sound R.others R.there (HasBegun p) R.seen step needs (fault_tries p gfn t);
+  goes = part_goes_alone z w a note R.sound R.others R.there (OfPages (HasBegun p)) R.seen step needs (tries_pages p gfn t);
   next = next_alone z w a gfn note write p R;
   seen =
-      seen_on z w a note R.sound R.others R.there (HasBegun p) R.seen (BegunNext (fault_next p z gfn write t v)) step needs (fault_tries p gfn t)
-      (fault_keeps p z gfn write t v R.knows);
+      seen_on z w a note R.sound R.others R.there (OfPages (HasBegun p)) R.seen (OfPages (BegunNext (fault_next p z gfn write t v))) step needs
+      (tries_pages p gfn t) (keeps_pages p z gfn write t v R.knows);
 }
   where
     h : Held

@@ -1,5 +1,5 @@
 -- What each place of a fault comes to that runs while all other actors rest, by what it finds there.
-use Rattle.std.proofs.Common.{◌≡◌, ◌≢◌, ℕ, refl, sym, subst, arith}
+use Rattle.std.proofs.Common.{◌≡◌, ◌≢◌, ℕ, refl, sym, subst, ap, arith}
 use Rattle.std.specs.Prelude.{Bool, true, false, ◌==◌, if◌then◌else◌, Option, Some, None, is_some}
 use Rattle.std.proofs.lemmas.Bool.Decides.{nat_tests}
 use Rattle.core_views.specs.declared.place.CheckStage.TheVariants as stage
@@ -19,11 +19,17 @@ use Rattle.mmu_core.specs.declared.claim.ClaimNext.TheVariants as claims
 use Rattle.mmu_core.specs.declared.share.ShareNext.{ShareNext}
 use Rattle.mmu_core.specs.declared.share.ShareNext.TheVariants as shares
 use Rattle.mmu_core.specs.alone.FaultAlone.{EntryStands, FaultAlone, HostForbidsPage, LeadsTo, LeadsToLeaf}
-use Rattle.mmu_core.specs.lines.FaultSteps.{allows_access, is_owing, snapshot_taken, walk_next, after_claim, after_share}
+use Rattle.mmu_core.specs.declared.claim.FreeMap.{FreeMap}
+use Rattle.mmu_core.specs.declared.claim.FreeMap.TheVariants.{Frames, Pages}
+use Rattle.mmu_core.specs.lines.ClaimSteps.{try_part}
+use Rattle.mmu_core.specs.lines.FaultKnows.{FaultKnows}
+use Rattle.mmu_core.specs.lines.FaultSteps.{allows_access, fault_next, fault_part, is_owing, snapshot_taken, walk_next, after_claim, after_share}
+use Rattle.mmu_core.specs.lines.ScanPlaces.{BegunNext, HasBegun, OfPages}
 use Rattle.mmu_core.specs.lines.ShareSteps.{is_trying}
 use Rattle.part_steps.specs.PartTasks.{entry_index, page_looked, table_page, word_looked}
 use Rattle.part_steps.specs.WalkTopics.{gone_down, linked_page}
 use Rattle.mmu_core.specs.invariant.TreePart.{stands}
+use Rattle.mmu_core.proofs.lines.FaultScans.{KeepsScan, fault_keeps, fault_maps_not, fault_tries, maps, page_maps_not}
 
 -- ---- tests
 
@@ -34,6 +40,24 @@ pub trying_loose : (hold : Hold) → is_trying hold ≡ true → is_owing hold �
 trying_loose Loose try_ owes = refl
 trying_loose (Owing word) try_ owes = absurd (cc owes)
 trying_loose _ try_ owes = absurd (cc try_)
+
+-- ---- its scan of the map of pages
+
+-- A fault tries a page only with a scan, and never a frame.
+maps_no_frame : (p : FaultPlace) (gfn : ℕ) (t : Topics) → maps Frames (fault_part p gfn t) ≡ false
+maps_no_frame (Claim begun) gfn t = page_maps_not begun t.claim
+maps_no_frame p gfn t = fault_maps_not Frames p gfn t refl
+
+pub tries_pages : (p : FaultPlace) (gfn : ℕ) (t : Topics) (map : FreeMap) → fault_part p gfn t ≡ try_part map → OfPages (HasBegun p) map
+tries_pages p gfn t Pages is = fault_tries p gfn t is
+tries_pages p gfn t Frames is =
+    let tries : maps Frames (fault_part p gfn t) ≡ true = ap (maps Frames) is in let none = maps_no_frame p gfn t in absurd (cc (tries, none))
+
+-- To a place with a scan it comes with a step that keeps it, or begins it.
+pub keeps_pages : (p : FaultPlace) (z : Sizes) (gfn : ℕ) (write : Bool) (t : Topics) (v : ℕ) → FaultKnows p z gfn write t → (map : FreeMap)
+    → OfPages (BegunNext (fault_next p z gfn write t v)) map → KeepsScan map (OfPages (HasBegun p) map) (fault_part p gfn t)
+keeps_pages p z gfn write t v K Pages e = fault_keeps p z gfn write t v K e
+keeps_pages p z gfn write t v K Frames e = absurd e
 
 module _ (root set : ℕ) (pool host : ℕ → ℕ) (gfn : ℕ) (write : Bool) where
   -- ---- the host word, the lock and the check

@@ -7,7 +7,6 @@ use Rattle.core_views.specs.declared.topics.Topics.{Topics}
 use Rattle.core_views.specs.declared.trace.Command.{Command}
 use Rattle.core_views.specs.Held.{Held}
 use Rattle.spte_words.specs.declared.area.Area.{Area}
-use Rattle.spte_words.specs.declared.area.Area.TheVariants as area
 use Rattle.mmu_core.specs.declared.outcome.Outcome.{Outcome}
 use Rattle.mmu_core.specs.declared.outcome.Outcome.TheVariants.{Goes, Ends}
 use Rattle.mmu_core.specs.alone.AloneKnows.{AloneKnows}
@@ -22,7 +21,7 @@ use Rattle.part_steps.specs.TopicSteps.{topics_after}
 -- After a step the line goes on, with what its next place asks and fewer than n steps left; or it is answered.
 abbrev pub GoesAlone : Outcome → Command → Sizes → (Area → ℕ → ℕ) → Topics → ℕ → Type 0
 GoesAlone (Goes p) command y words t n = IsUnderWay p × AloneKnows p command words t × (steps_left p y t < n)
-GoesAlone (Ends answer) command y words t n = StarvedOnlyWithout answer y (words area.PoolMap)
+GoesAlone (Ends answer) command y words t n = StarvedOnlyWithout answer y words
 
 -- The step of a place goes through.
 pub record GoesOnAlone (p : Place) (command : Command) (h : Held) (words : Area → ℕ → ℕ) (u : Topics) : Type 0 where

@@ -23,6 +23,9 @@ use Rattle.part_steps.specs.StayTopics.{has_lock, is_loose}
 use Rattle.mmu_core.specs.alone.OthersRest.{OthersRest}
 use Rattle.mmu_core.specs.alone.SeenStands.{NoneFreeBefore, ScanStands, SeenStands}
 use Rattle.mmu_core.specs.invariant.Laws.{IsSound}
+use Rattle.mmu_core.specs.declared.claim.FreeMap.{FreeMap}
+use Rattle.mmu_core.specs.declared.claim.FreeMap.TheVariants.{Frames, Pages}
+use Rattle.mmu_core.specs.lines.ClaimSteps.{claim_over, map_area, try_part}
 use Rattle.mmu_core.specs.lines.PartWaits.{is_owing, part_waits, saw_open}
 use Rattle.mmu_core.specs.machine.Enabled.{mmu}
 use Rattle.mmu_core.specs.machine.Machine.{World, hand_in}
@@ -57,15 +60,20 @@ scan_loaded : (map : ℕ → ℕ) (word : ℕ) → NoneFreeBefore map word → S
 scan_loaded map word before = record { before = past_word map (map word == 0) word refl before; seen = at_word map (map word == 0) word refl }
 
 -- A claim goes on to its next word, or begins anew.
-before_next : (map : ℕ → ℕ) (word : ℕ) (t : Topics) → ScanStands map t.claim → GoesOnToWord word t → NoneFreeBefore map word
-before_next map word t S (inl first) i lt = absurd (omega (arith, first, lt))
-before_next map word t S (inr goes) i lt = S.before i (subst (λ n. i < n) goes.0 lt)
+before_next : (map : ℕ → ℕ) (word : ℕ) (claim : MapClaim) → ScanStands map claim → GoesOnToWord word claim → NoneFreeBefore map word
+before_next map word claim S (inl first) i lt = absurd (omega (arith, first, lt))
+before_next map word claim S (inr goes) i lt = S.before i (subst (λ n. i < n) goes.0 lt)
 
--- A claim that has won its page has no scan yet.
+-- A claim that is won has no scan yet.
 scan_won : (map : ℕ → ℕ) (won : Bool) (claim : MapClaim) (v : ℕ) → won ≡ true
     → ScanStands map (record { at = if won then 0 else claim.at; seen = if won then 0 else v })
 scan_won map true claim v is = record { before = λ i lt. absurd (omega (arith, lt)); seen = λ some. absurd (omega (arith, some)) }
 scan_won map false claim v is = absurd (cc is)
+
+-- A try that doesn't wait is won.
+goes_won : (b : Bool) → not b ≡ false → b ≡ true
+goes_won true is = refl
+goes_won false is = absurd (cc is)
 
 -- ---- the lock
 
@@ -95,18 +103,23 @@ module _ (z : Sizes) (w : World Held) (a note : ℕ) (sound : IsSound z w) (othe
   abbrev after : PartStep → Area → ℕ → ℕ
   after step = words_after (part_task step a t note) words
 
-  abbrev map_after : PartStep → ℕ → ℕ
-  map_after step = after step area.PoolMap
+  -- It tries a page or a frame only with a scan of its map.
+  abbrev pub TriesWith : (FreeMap → Type 0) → PartStep → Type 0
+  TriesWith has_scan step = (map : FreeMap) → step ≡ try_part map → has_scan map
 
   own : own_index h ≡ a
   own = ap (λ (y : Sizes). index_of y h.state.actor) (sound.holds.lines a there).sizes ∙ (sound.holds.lines a there).index
 
-  module _ (has_scan : Type 0) (S : SeenStands has_scan words t) where
-    -- The lock is free, nobody else is in a section or has a flush to make, no invalidation of others is open, and the page that is tried is there still.
-    pub part_goes_alone : (step : PartStep) → PartNeeds step h → (step ≡ part.Claim → has_scan) → part_waits step t (found step) ≡ false
+  module _ (has_scan : FreeMap → Type 0) (S : SeenStands has_scan words t) where
+    -- The lock is free, nobody else is in a section or has a flush to make, no invalidation of others is open, and the page or frame that is tried is there
+    -- still.
+    pub part_goes_alone : (step : PartStep) → PartNeeds step h → TriesWith has_scan step → part_waits step t (found step) ≡ false
     part_goes_alone part.Unshare N tries = S.owes_none
     part_goes_alone part.Claim N tries =
-        ap not (ap (is_won t.claim) ((S.scan (tries refl)).seen N.1) ∙ saw_bit t.claim N.1 (sound.topics.counters a there).seen)
+        ap not (ap (is_won t.claim) ((S.scan Pages (tries Pages refl)).seen N.1) ∙ saw_bit t.claim N.1 (sound.topics.counters a there).seen)
+    part_goes_alone part.Frame N tries =
+        ap not (ap (is_won t.frames.claim) ((S.scan Frames (tries Frames refl)).seen N.1)
+        ∙ saw_bit t.frames.claim N.1 (sound.topics.counters a there).frames.seen)
     part_goes_alone part.Exclude N tries = ap not (is_it (found part.Exclude) 0 (lock_free z w a sound there others N))
     part_goes_alone part.Release N tries = S.saw_closed (ap (λ (x : Hold). has_lock x) N)
     part_goes_alone (part.Watch index) N tries =
@@ -150,31 +163,37 @@ module _ (z : Sizes) (w : World Held) (a note : ℕ) (sound : IsSound z w) (othe
     snapshot_on (part.SetSeq seq) N inside s is = let outside = N.0.outside in absurd (cc (outside, inside))
     snapshot_on _ N inside s is = S.snapshot inside s is
 
-    -- A scan stands, as long as the actor gives no page back.
-    scan_on : (step : PartStep) → PartNeeds step h → ScanStands (words area.PoolMap) t.claim → gives step ≡ false → part_waits step t (found step) ≡ false
-        → ScanStands (map_after step) (part_topics step t (found step)).claim
-    scan_on (part.Map word) N scan none goes = scan_loaded (words area.PoolMap) word (before_next (words area.PoolMap) word t scan N.2)
-    scan_on part.Claim N scan none goes =
-        scan_won (map_after part.Claim) (is_won t.claim (found part.Claim)) t.claim (found part.Claim) (won (is_won t.claim (found part.Claim)) goes)
-      where
-        won : (b : Bool) → not b ≡ false → b ≡ true
-        won true is = refl
-        won false is = absurd (cc is)
-    scan_on part.Give N scan none goes = absurd (cc none)
-    scan_on part.GiveOld N scan none goes = absurd (cc none)
-    scan_on _ N scan none goes = scan
+    -- A scan stands, as long as the actor gives back nothing of what it is for.
+    scan_on : (map : FreeMap) (step : PartStep) → PartNeeds step h → ScanStands (words (map_area map)) (claim_over map t) → gives map step ≡ false
+        → part_waits step t (found step) ≡ false → ScanStands (after step (map_area map)) (claim_over map (part_topics step t (found step)))
+    scan_on Pages (part.Map word) N scan none goes =
+        scan_loaded (words area.PoolMap) word (before_next (words area.PoolMap) word t.claim scan N.2)
+    scan_on Pages part.Claim N scan none goes =
+        scan_won (after part.Claim area.PoolMap) (is_won t.claim (found part.Claim)) t.claim (found part.Claim)
+        (goes_won (is_won t.claim (found part.Claim)) goes)
+    scan_on Pages part.Give N scan none goes = absurd (cc none)
+    scan_on Pages part.GiveOld N scan none goes = absurd (cc none)
+    scan_on Pages _ N scan none goes = scan
+    scan_on Frames (part.FrameMap word) N scan none goes =
+        scan_loaded (words area.FrameMap) word (before_next (words area.FrameMap) word t.frames.claim scan N.2)
+    scan_on Frames part.Frame N scan none goes =
+        scan_won (after part.Frame area.FrameMap) (is_won t.frames.claim (found part.Frame)) t.frames.claim (found part.Frame)
+        (goes_won (is_won t.frames.claim (found part.Frame)) goes)
+    scan_on Frames part.GiveFrame N scan none goes = absurd (cc none)
+    scan_on Frames _ N scan none goes = scan
 
-    pub scan_kept : (step : PartStep) → PartNeeds step h → (step ≡ part.Claim → has_scan) → KeepsScan has_scan step
-        → ScanStands (map_after step) (part_topics step t (found step)).claim
-    scan_kept _ N tries (scans.Keeps step has none) = scan_on step N (S.scan has) none (part_goes_alone step N tries)
-    scan_kept _ N tries scans.Begins = scan_loaded (words area.PoolMap) 0 (λ i lt. absurd (omega (arith, lt)))
+    pub scan_kept : (map : FreeMap) (step : PartStep) → PartNeeds step h → TriesWith has_scan step → KeepsScan map (has_scan map) step
+        → ScanStands (after step (map_area map)) (claim_over map (part_topics step t (found step)))
+    scan_kept map _ N tries (scans.Keeps step has none) = scan_on map step N (S.scan map has) none (part_goes_alone step N tries)
+    scan_kept Pages _ N tries scans.Begins = scan_loaded (words area.PoolMap) 0 (λ i lt. absurd (omega (arith, lt)))
+    scan_kept Frames _ N tries scans.Begins = scan_loaded (words area.FrameMap) 0 (λ i lt. absurd (omega (arith, lt)))
 
     -- So what it has seen stands after the step.
-    pub seen_on : (next : Type 0) (step : PartStep) → PartNeeds step h → (step ≡ part.Claim → has_scan) → (next → KeepsScan has_scan step)
-        → SeenStands next (after step) (part_topics step t (found step))
+    pub seen_on : (next : FreeMap → Type 0) (step : PartStep) → PartNeeds step h → TriesWith has_scan step
+        → ((map : FreeMap) → next map → KeepsScan map (has_scan map) step) → SeenStands next (after step) (part_topics step t (found step))
     seen_on next step N tries keeps = record {
       owes_none = owes_on step N;
       saw_closed = closed_after step;
-      scan = λ has. scan_kept step N tries (keeps has);
+      scan = λ map has. scan_kept map step N tries (keeps map has);
       snapshot = snapshot_on step N;
     }

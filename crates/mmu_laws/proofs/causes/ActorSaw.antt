@@ -1,9 +1,8 @@
 -- What each actor has seen that waits for another one, in every list of steps from a world in which it has seen nothing, whatever it does: of the lock the
--- writer that it found, of the open invalidations their count, and of the pool's map the word that its claim has come to.
+-- writer that it found, of the open invalidations their count, and of each map of what is free the word that its claim has come to.
 use Rattle.part_steps.specs.StayTopics.{has_lock}
-use Rattle.std.proofs.Common.{◌≡◌, ◌≢◌, ◌⊎◌, inl, inr, ◌<◌, ◌≤◌, ◌+◌, ℕ, List, [], ◌∷◌, ◌++◌, refl, sym, subst, ap, ◌∙◌, arith, nat_lt}
+use Rattle.std.proofs.Common.{◌≡◌, ◌≢◌, ◌⊎◌, inl, inr, ◌<◌, ◌≤◌, ℕ, List, [], ◌∷◌, ◌++◌, refl, sym, subst, ap, ◌∙◌, arith, nat_lt}
 use Rattle.std.specs.Prelude.{Bool, true, false, ◌&&◌, ◌==◌, if◌then◌else◌}
-use Rattle.std.proofs.lemmas.Bool.Decides.{nat_tests}
 use Rattle.core_views.specs.declared.kind.Kind.{Kind}
 use Rattle.core_views.specs.declared.sizes.Sizes.{Sizes}
 use Rattle.core_views.specs.declared.topics.Checked.{Checked}
@@ -13,7 +12,7 @@ use Rattle.core_views.specs.declared.topics.Topics.{Topics}
 use Rattle.core_views.specs.Held.{Held}
 use Rattle.spte_words.specs.declared.area.Area.{Area}
 use Rattle.spte_words.specs.declared.area.Area.TheVariants as area
-use Rattle.spte_words.specs.Areas.{number_of, place, size_of, words_of_bits}
+use Rattle.spte_words.specs.Areas.{number_of, place, size_of}
 use Rattle.spte_words.proofs.Places.{areas_apart, place_at, places_apart}
 use Rattle.part_steps.specs.declared.part_step.PartStep.{PartStep}
 use Rattle.part_steps.specs.declared.part_step.PartStep.TheVariants as part
@@ -25,14 +24,17 @@ use Rattle.part_steps.specs.ControlTopics.{end_known, start_known}
 use Rattle.part_steps.specs.ControlBits.{has_writer}
 use Rattle.part_steps.specs.TopicSteps.{topics_after}
 use Rattle.mmu_laws.specs.causes.Causes.{Finds}
+use Rattle.mmu_core.specs.declared.claim.FreeMap.{FreeMap}
+use Rattle.mmu_core.specs.declared.claim.FreeMap.TheVariants.{Frames, Pages}
+use Rattle.mmu_core.specs.lines.ClaimSteps.{claim_over, map_area, map_words}
 use Rattle.mmu_core.specs.machine.Enabled.{mmu}
 use Rattle.mmu_core.specs.invariant.Laws.{IsSound}
 use Rattle.mmu_core.specs.machine.Machine.{Legal, May, Step, World, answered, effect, hand_in, run}
 use Rattle.mmu_core.specs.lines.PartWaits.{is_owing, saw_open, own_open, was_counted}
 use Rattle.mmu_laws.specs.causes.Waits.{FindsWriter, FoundCount, FoundWriter, IsOffLockAndCount, IsOffWord, LoadsCount, SawNothing, count_word}
-use Rattle.mmu_laws.specs.causes.Waits.{lock_word, pool_word}
-use Rattle.mmu_laws.proofs.causes.Changes.{Knows, knows_longer, made_longer, made_now, of_each_list}
-use Rattle.mmu_laws.proofs.causes.ClaimSeen.{mapped_saw, tried_saw}
+use Rattle.mmu_laws.specs.causes.Waits.{lock_word, word_of_map}
+use Rattle.mmu_laws.proofs.causes.Changes.{knows_longer, made_longer, made_now, of_each_list}
+use Rattle.mmu_laws.proofs.causes.ClaimSeen.{KnowsWord, mapped_low, mapped_saw, tried_low, tried_saw, word_inside}
 use Rattle.mmu_core.proofs.machine.Columns.{same_or}
 use Rattle.mmu_laws.proofs.causes.FindsOthers.{writer_found}
 use Rattle.mmu_core.proofs.machine.LineParts.{IsPartKind, IsQuiet, step_kind}
@@ -46,8 +48,8 @@ use Rattle.mmu_core.proofs.held.ClaimGoes.{others_hand}
 pub record ActorSaw (z : Sizes) (w : World Held) (actor : ℕ) (t : Topics) (ss : List (Step Kind)) (u : World Held) : Type 0 where
   pub owing : (word : ℕ) → t.hold ≡ Owing word → FoundWriter z actor word w ss
   pub counted : saw_open t.invalidations ≡ true → FoundCount z actor t.hold t.invalidations.count w ss
-  pub claim : 0 < t.claim.seen → Knows (IsOffWord actor (pool_word z t.claim.at)) actor (pool_word z t.claim.at) t.claim.seen w ss u
-  pub alone : 0 < t.claim.seen → t.claim.at < words_of_bits z.pool
+  pub claim : (map : FreeMap) → 0 < (claim_over map t).seen → KnowsWord z w actor map (claim_over map t).at (claim_over map t).seen ss u
+  pub alone : (map : FreeMap) → 0 < (claim_over map t).seen → (claim_over map t).at < map_words map z
 
 -- What is counted after a store of the range was counted before it.
 start_counted : (c : Checked) (b : Bool) → (was_counted (start_known c) && b) ≡ true → (was_counted c && b) ≡ true
@@ -112,15 +114,15 @@ module _ (z : Sizes) (w : World Held) (ss : List (Step Kind)) (s : Step Kind) (G
       made_longer (LoadsCount z a t.hold t.invalidations.count) (IsOffLockAndCount z a) w ss s (lock_off step M no_lock, count_off step M no_count)
       (S.counted is)
 
-  abbrev ClaimSaw : ℕ → ℕ → Type 0
-  ClaimSaw at seen = Knows (IsOffWord a (pool_word z at)) a (pool_word z at) seen w Behind (effect mmu u s)
+  abbrev ClaimSaw : FreeMap → ℕ → ℕ → Type 0
+  ClaimSaw map at seen = KnowsWord z w a map at seen Behind (effect mmu u s)
 
-  claim_longer : (step : PartStep) (M : Made step) → ((part_task step (own_index h) t M.note).area ≡ area.PoolMap → ⊥) → SeesHere t → 0 < t.claim.seen
-      → ClaimSaw t.claim.at t.claim.seen
-  claim_longer step M apart S some =
-      let off : s.kind.word ≢ pool_word z t.claim.at = off_word step M area.PoolMap t.claim.at (S.alone some) apart in
-      knows_longer (IsOffWord a (pool_word z t.claim.at)) a (pool_word z t.claim.at) t.claim.seen w ss s may (λ mine. off)
-      (λ mine at. absurd (off at)) (S.claim some)
+  claim_longer : (map : FreeMap) (step : PartStep) (M : Made step) → ((part_task step (own_index h) t M.note).area ≡ map_area map → ⊥) → SeesHere t
+      → 0 < (claim_over map t).seen → ClaimSaw map (claim_over map t).at (claim_over map t).seen
+  claim_longer map step M apart S some =
+      let word : ℕ = word_of_map z map (claim_over map t).at in
+      let off : s.kind.word ≢ word = off_word step M (map_area map) (claim_over map t).at (word_inside z map (claim_over map t).at (S.alone map some)) apart in
+      knows_longer (IsOffWord a word) a word (claim_over map t).seen w ss s may (λ mine. off) (λ mine at. absurd (off at)) (S.claim map some)
 
   -- ---- what an actor has seen after a step of a part
 
@@ -174,34 +176,40 @@ module _ (z : Sizes) (w : World Held) (ss : List (Step Kind)) (s : Step Kind) (G
   counted_saw part.Release M S is = absurd (cc is)
   counted_saw step M S is = count_longer step M (λ e. cc e) (λ e. cc e) S is
 
-  claim_saw : (step : PartStep) → Made step → SeesHere t → 0 < (part_topics step t v).claim.seen
-      → ClaimSaw (part_topics step t v).claim.at (part_topics step t v).claim.seen
-  claim_saw (part.Map word) M S some = mapped_saw z w ss s G may (v == 0) word refl M some
-  claim_saw part.Claim M S some = tried_saw z w ss s G may (is_won t.claim v) refl M some
-  claim_saw part.Give M S some = absurd (omega (arith, some))
-  claim_saw part.GiveOld M S some = absurd (omega (arith, some))
-  claim_saw step M S some = claim_longer step M (λ e. cc e) S some
+  claim_saw : (map : FreeMap) (step : PartStep) → Made step → SeesHere t → 0 < (claim_over map (part_topics step t v)).seen
+      → ClaimSaw map (claim_over map (part_topics step t v)).at (claim_over map (part_topics step t v)).seen
+  claim_saw Pages (part.Map word) M S some = mapped_saw z w ss s G may Pages (v == 0) word refl M some
+  claim_saw Pages part.Claim M S some = tried_saw z w ss s G may Pages (is_won t.claim v) refl M some
+  claim_saw Pages part.Give M S some = absurd (omega (arith, some))
+  claim_saw Pages part.GiveOld M S some = absurd (omega (arith, some))
+  claim_saw Pages step M S some = claim_longer Pages step M (λ e. cc e) S some
+  claim_saw Frames (part.FrameMap word) M S some = mapped_saw z w ss s G may Frames (v == 0) word refl M some
+  claim_saw Frames part.Frame M S some = tried_saw z w ss s G may Frames (is_won t.frames.claim v) refl M some
+  claim_saw Frames part.GiveFrame M S some = absurd (omega (arith, some))
+  claim_saw Frames step M S some = claim_longer Frames step M (λ e. cc e) S some
 
-  mapped_low : (none : Bool) (word : ℕ) → (v == 0) ≡ none → word < words_of_bits z.pool → 0 < v → word + (if none then 1 else 0) < words_of_bits z.pool
-  mapped_low true word is low some = let none : v ≡ 0 = grind (arith, nat_tests) in absurd (omega (arith, some, none))
-  mapped_low false word is low some = omega (arith, low)
-
-  tried_low : (won : Bool) → t.claim.at < words_of_bits z.pool → 0 < (if won then 0 else v) → (if won then 0 else t.claim.at) < words_of_bits z.pool
-  tried_low true low some = absurd (omega (arith, some))
-  tried_low false low some = low
-
-  low_saw : (step : PartStep) → Made step → SeesHere t → 0 < (part_topics step t v).claim.seen → (part_topics step t v).claim.at < words_of_bits z.pool
-  low_saw (part.Map word) M S some = mapped_low (v == 0) word refl (subst (λ (y : Sizes). word < words_of_bits y.pool) (own_sizes z u s G may) M.needs.1) some
-  low_saw part.Claim M S some = tried_low (is_won t.claim v) (subst (λ (y : Sizes). t.claim.at < words_of_bits y.pool) (own_sizes z u s G may) M.needs.2) some
-  low_saw part.Give M S some = absurd (omega (arith, some))
-  low_saw part.GiveOld M S some = absurd (omega (arith, some))
-  low_saw _ M S some = S.alone some
+  low_saw : (map : FreeMap) (step : PartStep) → Made step → SeesHere t → 0 < (claim_over map (part_topics step t v)).seen
+      → (claim_over map (part_topics step t v)).at < map_words map z
+  low_saw Pages (part.Map word) M S some = mapped_low z w ss s G may Pages (v == 0) word refl M some
+  low_saw Pages part.Claim M S some = tried_low z w ss s G may Pages (is_won t.claim v) M some
+  low_saw Pages part.Give M S some = absurd (omega (arith, some))
+  low_saw Pages part.GiveOld M S some = absurd (omega (arith, some))
+  low_saw Pages _ M S some = S.alone Pages some
+  low_saw Frames (part.FrameMap word) M S some = mapped_low z w ss s G may Frames (v == 0) word refl M some
+  low_saw Frames part.Frame M S some = tried_low z w ss s G may Frames (is_won t.frames.claim v) M some
+  low_saw Frames part.GiveFrame M S some = absurd (omega (arith, some))
+  low_saw Frames _ M S some = S.alone Frames some
 
   abbrev SeesBehind : Topics → Type 0
   SeesBehind t_ = ActorSaw z w a t_ Behind (effect mmu u s)
 
   part_saw : (step : PartStep) → Made step → SeesHere t → SeesBehind (part_topics step t v)
-  part_saw step M S = record { owing = owing_saw step M S; counted = counted_saw step M S; claim = claim_saw step M S; alone = low_saw step M S }
+  part_saw step M S = record {
+    owing = owing_saw step M S;
+    counted = counted_saw step M S;
+    claim = λ map. claim_saw map step M S;
+    alone = λ map. low_saw map step M S;
+  }
 
   -- ---- and after a touch, and another actor's step
 
@@ -213,27 +221,31 @@ module _ (z : Sizes) (w : World Held) (ss : List (Step Kind)) (s : Step Kind) (G
       let last = place_at (map_of z) b (size_of (map_of z) b) in
       omega (arith, ends, here, last, inside, from, at)
 
+  map_far : (map : FreeMap) (i : ℕ) → i < map_words map z → place (map_of z) area.Content 0 ≤ s.kind.word → s.kind.word ≢ word_of_map z map i
+  map_far Pages i low from = far area.PoolMap i (omega arith) low from
+  map_far Frames i low from = far area.FrameMap i (omega arith) low from
+
   same_saw : (actor : ℕ) (t_ : Topics) → ((word : ℕ) → word ≡ lock_word z → IsOffWord actor word s) → IsOffWord actor (count_word z) s
-      → ((i : ℕ) → i < words_of_bits z.pool → IsOffWord actor (pool_word z i) s)
+      → ((map : FreeMap) (i : ℕ) → i < map_words map z → IsOffWord actor (word_of_map z map i) s)
       → ActorSaw z w actor t_ ss u → ActorSaw z w actor t_ Behind (effect mmu u s)
-  same_saw actor t_ lock count map S = record {
+  same_saw actor t_ lock count off S = record {
     owing = λ word is. made_longer (FindsWriter z actor word) (IsOffWord actor (lock_word z)) w ss s (lock (lock_word z) refl) (S.owing word is);
     counted =
         λ is. made_longer (LoadsCount z actor t_.hold t_.invalidations.count) (IsOffLockAndCount z actor) w ss s (lock (lock_word z) refl, count)
         (S.counted is);
-    claim = λ some. let off : IsOffWord actor (pool_word z t_.claim.at) s = map t_.claim.at (S.alone some) in
-        knows_longer (IsOffWord actor (pool_word z t_.claim.at)) actor (pool_word z t_.claim.at) t_.claim.seen w ss s may off
-        (λ mine at. absurd (off mine at)) (S.claim some);
+    claim = λ map some. let word : ℕ = word_of_map z map (claim_over map t_).at in
+        let away : IsOffWord actor word s = off map (claim_over map t_).at (S.alone map some) in
+        knows_longer (IsOffWord actor word) actor word (claim_over map t_).seen w ss s may away (λ mine at. absurd (away mine at)) (S.claim map some);
     alone = S.alone;
   }
 
   others_saw : (actor : ℕ) (t_ : Topics) → s.actor ≢ actor → ActorSaw z w actor t_ ss u → ActorSaw z w actor t_ Behind (effect mmu u s)
-  others_saw actor t_ other S = same_saw actor t_ (λ word is mine. absurd (other mine)) (λ mine. absurd (other mine)) (λ i low mine. absurd (other mine)) S
+  others_saw actor t_ other S = same_saw actor t_ (λ word is mine. absurd (other mine)) (λ mine. absurd (other mine)) (λ map i low mine. absurd (other mine)) S
 
   touch_saw : place (map_of z) area.Content 0 ≤ s.kind.word → SeesHere t → SeesBehind t
   touch_saw from S =
       same_saw a t (λ word is mine at. far area.Lock 0 (omega arith) (omega arith) from (at ∙ is))
-      (λ mine. far area.Count 0 (omega arith) (omega arith) from) (λ i low mine. far area.PoolMap i (omega arith) low from) S
+      (λ mine. far area.Count 0 (omega arith) (omega arith) from) (λ map i low mine. map_far map i low from) S
 
   -- ---- after each step
 
@@ -267,8 +279,8 @@ first_saw : (z : Sizes) (w : World Held) (actor : ℕ) (t_ : Topics) → SawNoth
 first_saw z w actor t_ N = record {
   owing = λ word is. let owes = ap is_owing is in absurd (cc (N.owes, owes));
   counted = λ is. absurd (cc (N.closed, is));
-  claim = λ some. absurd (omega (arith, some, N.claims));
-  alone = λ some. absurd (omega (arith, some, N.claims));
+  claim = λ map some. let none = N.claims map in absurd (omega (arith, some, none));
+  alone = λ map some. let none = N.claims map in absurd (omega (arith, some, none));
 }
 
 -- From every sound world in which the actor has seen nothing: what it has seen after every list of steps.

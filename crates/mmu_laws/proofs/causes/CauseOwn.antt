@@ -38,9 +38,11 @@ use Rattle.mmu_core.specs.declared.claim.ClaimNext.TheVariants as claims
 use Rattle.mmu_core.specs.declared.share.ShareNext.{ShareNext}
 use Rattle.mmu_core.specs.declared.share.ShareNext.TheVariants as shares
 use Rattle.mmu_core.specs.lines.FaultKnows.{CheckKnows, FaultKnows, is_trying}
-use Rattle.mmu_core.specs.lines.FaultSteps.{after_claim, after_share, allows_access, check_next, check_part, claim_next, entry_word, fault_next, host_word_at}
-use Rattle.mmu_core.specs.lines.FaultSteps.{fault_part, find_next, found_next, is_last_word, map_word, share_next, share_part, snapshot_taken, tries_page}
+use Rattle.mmu_core.specs.lines.FaultSteps.{after_claim, after_share, allows_access, check_next, check_part, entry_word, fault_next, host_word_at}
+use Rattle.mmu_core.specs.lines.FaultSteps.{fault_part, find_next, found_next, is_last_word, share_next, share_part, snapshot_taken}
 use Rattle.mmu_core.specs.lines.FaultSteps.{walk_next}
+use Rattle.mmu_core.specs.declared.claim.FreeMap.TheVariants.{Pages}
+use Rattle.mmu_core.specs.lines.ClaimSteps.{claim_next, map_word, tries_one}
 use Rattle.mmu_core.specs.invariant.Laws.{IsSound}
 use Rattle.mmu_core.specs.machine.Machine.{May, Step, World, answered, effect, found, hand_in, run}
 use Rattle.part_steps.specs.PartBounds.{PartRests}
@@ -283,8 +285,8 @@ module _ (z : Sizes) (w : World Held) (ss : List (Step Kind)) (s : Step Kind) (G
   own_saw (Walk false) gfn write M K S = tt
   own_saw (Claim begun) gfn write M K S =
       let up = K.2.upper in
-      claim_saw gfn (claim_next begun z t.claim v) _ (claim_walk z begun t v _ _ _ (claim_made z begun t v))
-      (claim_longer gfn (tries_page begun t.claim) (map_word begun t.claim) M (omega (arith, up)) S)
+      claim_saw gfn (claim_next Pages begun z t.claim v) _ (claim_walk z Pages begun t v _ _ _ (claim_made z Pages begun t v))
+      (claim_longer gfn (tries_one begun t.claim) (map_word begun t.claim) M (omega (arith, up)) S)
   own_saw Fill gfn write M K S =
       let up = K.1.upper in
       let from : 1 ≤ t.walk.level = omega (arith, up) in

@@ -40,6 +40,7 @@ amid _ own t note is = (λ e. absurd (omega (arith, e)), λ e. absurd (omega (ar
 abbrev pub IsLoad : PartStep → Type 0
 IsLoad part.Pause = Unit {0}
 IsLoad (part.Map word) = Unit {0}
+IsLoad (part.FrameMap word) = Unit {0}
 IsLoad part.Slots = Unit {0}
 IsLoad part.Slot = Unit {0}
 IsLoad part.Seq = Unit {0}
@@ -49,6 +50,7 @@ IsLoad part.RangeEnd = Unit {0}
 IsLoad part.Root = Unit {0}
 IsLoad (part.Walk gfn) = Unit {0}
 IsLoad (part.Host page) = Unit {0}
+IsLoad (part.Copy index) = Unit {0}
 IsLoad (part.Watch index) = Unit {0}
 IsLoad (part.Await index) = Unit {0}
 IsLoad _ = ⊥
@@ -58,6 +60,7 @@ unfolding after answer
 load_leaves part.Pause h note n is = (refl, refl)
 load_leaves (part.Await index) h note n is = (refl, refl)
 load_leaves (part.Map word) h note n is = (refl, refl)
+load_leaves (part.FrameMap word) h note n is = (refl, refl)
 load_leaves part.Slots h note n is = (refl, refl)
 load_leaves part.Slot h note n is = (refl, refl)
 load_leaves part.Seq h note n is = (refl, refl)
@@ -67,14 +70,16 @@ load_leaves part.RangeEnd h note n is = (refl, refl)
 load_leaves part.Root h note n is = (refl, refl)
 load_leaves (part.Walk gfn) h note n is = (refl, refl)
 load_leaves (part.Host page) h note n is = (refl, refl)
+load_leaves (part.Copy index) h note n is = (refl, refl)
 load_leaves (part.Watch index) h note n is = (refl, refl)
 load_leaves _ h note n is = absurd is
 
--- An exchange of an entry or of a host word, a try to share the lock or to have it alone, and a try for a page answer what they find.
+-- An exchange of an entry or of a host word, a try to share the lock or to have it alone, and a try for a page or a frame answer what they find.
 abbrev pub IsExchange : PartStep → Type 0
 IsExchange part.Share = Unit {0}
 IsExchange part.Exclude = Unit {0}
 IsExchange part.Claim = Unit {0}
+IsExchange part.Frame = Unit {0}
 IsExchange part.Bring = Unit {0}
 IsExchange (part.Link gfn) = Unit {0}
 IsExchange (part.Leaf gfn) = Unit {0}
@@ -85,6 +90,7 @@ unfolding answer
 exchange_answers part.Share h note n is = refl
 exchange_answers part.Exclude h note n is = refl
 exchange_answers part.Claim h note n is = refl
+exchange_answers part.Frame h note n is = refl
 exchange_answers part.Bring h note n is = refl
 exchange_answers (part.Link gfn) h note n is = refl
 exchange_answers (part.Leaf gfn) h note n is = refl

@@ -10,13 +10,14 @@ use Rattle.core_views.specs.declared.topics.Topics.{Topics}
 use Rattle.core_views.specs.Held.{Held}
 use Rattle.part_steps.specs.declared.part_step.PartStep.{PartStep}
 use Rattle.part_steps.specs.declared.part_step.PartStep.TheVariants as part
+use Rattle.mmu_core.specs.declared.claim.FreeMap.TheVariants.{Frames, Pages}
 use Rattle.mmu_core.specs.machine.Enabled.{mmu}
 use Rattle.mmu_core.specs.invariant.Laws.{IsSound}
 use Rattle.mmu_core.specs.machine.Machine.{May, Step, World, answered, hand_in, run}
 use Rattle.mmu_core.specs.lines.PartWaits.{is_owing, part_waits, word_owed, saw_open}
 use Rattle.mmu_laws.specs.causes.Waits.{FoundCount, FoundWriter, StepWaitIsCaused, StepWaitsAreByCause}
 use Rattle.mmu_laws.proofs.causes.ActorSaw.{ActorSaw, actor_saw}
-use Rattle.mmu_laws.proofs.causes.ClaimSeen.{page_taken}
+use Rattle.mmu_laws.proofs.causes.ClaimSeen.{is_taken}
 use Rattle.mmu_laws.proofs.causes.FindsOthers.{lock_taken, other_inside, to_flush}
 use Rattle.mmu_laws.proofs.causes.MadeSteps.{Makes}
 use Rattle.mmu_laws.proofs.causes.StarvedScan.{legal_parts}
@@ -46,7 +47,8 @@ module _ (z : Sizes) (w : World Held) (ss : List (Step Kind)) (s : Step Kind) (G
 
   caused : (step : PartStep) → Makes h s step → part_waits step h.topics v ≡ true → Saw h.topics → StepWaitIsCaused step z w ss s
   caused part.Unshare M is S = owes h.topics.hold refl is S
-  caused part.Claim M is S = page_taken z w ss s G may is M (S.claim M.needs.1)
+  caused part.Claim M is S = is_taken z w ss s G may Pages is M (S.claim Pages M.needs.1)
+  caused part.Frame M is S = is_taken z w ss s G may Frames is M (S.claim Frames M.needs.1)
   caused part.Exclude M is S = lock_taken z u s G may M is
   caused part.Release M is S = saw_some M.needs is S
   caused (part.Await index) M is S = to_flush z u s G may index M is

@@ -31,6 +31,7 @@ more n is = above (own_open n) n.count (both (was_counted n.checked) (nat_lt (ow
 pub waits_see_another : WaitsSeeAnother
 waits_see_another part.Unshare h v R needs is = (refl, owes h.topics.hold h refl is R.saw_writer)
 waits_see_another part.Claim h v R needs is = (refl, needs.1, is_not (is_won h.topics.claim v) is)
+waits_see_another part.Frame h v R needs is = (refl, needs.1, is_not (is_won h.topics.frames.claim v) is)
 waits_see_another part.Exclude h v R needs is = (refl, some v is)
 waits_see_another part.Release h v R needs is = (refl, more h.topics.invalidations is)
 waits_see_another (part.Await index) h v R needs is = (refl, is)

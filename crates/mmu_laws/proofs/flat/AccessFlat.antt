@@ -40,7 +40,7 @@ use Rattle.mmu_core.specs.invariant.Invariant.{Invariant, IsLeafFor}
 use Rattle.mmu_core.specs.lines.AccessKnows.{AccessKnows}
 use Rattle.part_steps.specs.SlotWords.{page_of}
 use Rattle.part_steps.specs.Tasks.{kind_of_task, map_of}
-use Rattle.mmu_core.specs.invariant.TopicsInvariant.{TopicsInvariant, HostWordsPart}
+use Rattle.mmu_core.specs.invariant.TopicsInvariant.{TopicsInvariant}
 use Rattle.part_steps.specs.TopicSteps.{topics_after}
 use Rattle.mmu_core.specs.machine.View.{View, answer_in, put, words_after}
 use Rattle.mmu_core.proofs.machine.Columns.{upd_same, upd_other}
@@ -53,7 +53,8 @@ use Rattle.mmu_core.proofs.slots.LiveStays.{access_never, access_quiet, is_bring
 use Rattle.mmu_core.proofs.lines.UsedTranslations.{lowest_frame, uses_allows}
 use Rattle.core_views.specs.declared.actor.Actor.{Actor}
 use Rattle.mmu_core.proofs.held.UsableSteps.{UsableAt}
-use Rattle.mmu_laws.proofs.flat.TouchedMemory.{memory_behind}
+use Rattle.mmu_core.proofs.pages.FrameUses.{frames_apart}
+use Rattle.mmu_laws.proofs.flat.TouchedMemory.{AreDistinct, memory_behind}
 use Rattle.mmu_core.specs.lines.HostSteps.{entry_of}
 use Rattle.core_views.specs.Traces.{IsCommandFor}
 use Rattle.mmu_core.proofs.held.UsableKept.{used_agrees}
@@ -145,7 +146,7 @@ touches z v a line gfn word op facts u S I P U K R =
 touch_goes : (z : Sizes) (v : View) (a : ℕ) (line : Line) (gfn word : ℕ) (op : Op) (facts : Facts) (past : Past) (u : LineUnderWay)
     (after : Area → ℕ → ℕ) (t : Topics)
     → IsStep z v a line (Access gfn word op) (place.Access Touch) → Ready z v line (Access gfn word op) (place.Access Touch) (v.hand a).topics facts u
-    → HostWordsPart z (v.words area.Host) → (T : Touches z (v.words area.Host) (v.hand a).state gfn word op facts)
+    → AreDistinct z (v.words area.Host) → (T : Touches z (v.words area.Host) (v.hand a).state gfn word op facts)
     → after area.Slots ≡ v.words area.Slots → after area.Pool ≡ v.words area.Pool → after area.Host ≡ v.words area.Host → after area.Pause ≡ v.words area.Pause
     → after area.Content (content_index (map_of (v.hand a).state.sizes) (frame_used gfn (v.hand a).state) word) ≡ stored op
     (v.words area.Content (content_index (map_of (v.hand a).state.sizes) (frame_used gfn (v.hand a).state) word))
@@ -153,7 +154,7 @@ touch_goes : (z : Sizes) (v : View) (a : ℕ) (line : Line) (gfn word : ℕ) (op
     → let x : ℕ = v.words area.Content (content_index (map_of (v.hand a).state.sizes) (frame_used gfn (v.hand a).state) word) in
     Goes z (v.hand a).state.actor line (Access gfn word op) after (place.Access (Leave (leaving.Reached (frame_used gfn (v.hand a).state) x))) t
     (Accessed gfn word op (frame_used gfn (v.hand a).state) x ∷ []) facts past u
-touch_goes z v a line gfn word op facts past u after t S R P T slots_is pool_is host_is pause_is here there = record {
+touch_goes z v a line gfn word op facts past u after t S R distinct T slots_is pool_is host_is pause_is here there = record {
   allowed = (
     (
       R.under.1.0,
@@ -177,7 +178,8 @@ touch_goes z v a line gfn word op facts past u after t S R P T slots_is pool_is 
         ≡ after area.Content (content_index (map_of z) (host_frame (host p)) j)) (sym host_is)
         (subst (λ page. (p j : ℕ) → p < z.pages → j < z.words
         → touched page word op facts.memory p j ≡ after area.Content (content_index (map_of z) (host_frame (v.words area.Host p)) j)) (sym T.behind_is)
-        (memory_behind z T.page word op facts.memory (v.words area.Host) (v.words area.Content) (after area.Content) P T.page_in T.word_in R.refines.memory
+        (memory_behind z T.page word op facts.memory (v.words area.Host) (v.words area.Content) (after area.Content) distinct T.page_in T.word_in
+        R.refines.memory
         (rw T.index at here) (rw T.index at there)));
     paused = R.refines.paused ∙ ap (λ (g : ℕ → ℕ). not (g 0 == 0)) (sym pause_is);
   };
@@ -209,16 +211,16 @@ module _ (z : Sizes) (v : View) (a : ℕ) (line : Line) (gfn word : ℕ) (facts 
   touch_owes : (op : Op) → Owes op Touch
   touch_owes Read S I P U part_ K R =
       touch_goes z v a line gfn word Read facts past u v.words (held_behind Read Touch) S R
-      P.hosts (touches z v a line gfn word Read facts u S I P U K R) refl refl refl refl refl (λ i apart. refl)
+      (frames_apart P.frames) (touches z v a line gfn word Read facts u S I P U K R) refl refl refl refl refl (λ i apart. refl)
   touch_owes (Write x) S I P U part_ K R =
       touch_goes z v a line gfn word (Write x) facts past u (put v.words area.Content (touched_index gfn (v.hand a).state word) x)
-      (held_behind (Write x) Touch) S R P.hosts (touches z v a line gfn word (Write x) facts u S I P U K R) refl refl refl refl
+      (held_behind (Write x) Touch) S R (frames_apart P.frames) (touches z v a line gfn word (Write x) facts u S I P U K R) refl refl refl refl
       (upd_same (v.words area.Content) (touched_index gfn (v.hand a).state word) x)
       (λ i apart. upd_other (v.words area.Content) (touched_index gfn (v.hand a).state word) i x apart)
   touch_owes (Add x) S I P U part_ K R =
       let sum : ℕ = stored (Add x) (v.words area.Content (touched_index gfn (v.hand a).state word)) in
       touch_goes z v a line gfn word (Add x) facts past u (put v.words area.Content (touched_index gfn (v.hand a).state word) sum)
-      (held_behind (Add x) Touch) S R P.hosts (touches z v a line gfn word (Add x) facts u S I P U K R) refl refl refl refl
+      (held_behind (Add x) Touch) S R (frames_apart P.frames) (touches z v a line gfn word (Add x) facts u S I P U K R) refl refl refl refl
       (upd_same (v.words area.Content) (touched_index gfn (v.hand a).state word) sum)
       (λ i apart. upd_other (v.words area.Content) (touched_index gfn (v.hand a).state word) i sum apart)
 
@@ -230,8 +232,8 @@ module _ (z : Sizes) (v : View) (a : ℕ) (line : Line) (gfn word : ℕ) (facts 
       → Goes z (v.hand a).state.actor line (Access gfn word op) (words_behind op p) (place.Access next) (held_behind op p) [] facts past u
   quiet op p next step is other S I P R under = record { allowed = tt; refines = refines_stay z v.words (words_behind op p) facts L R.refines; under = under }
     where
-      L : Leaves v.words (words_behind op p)
-      L = subst (λ o. Leaves v.words (words_after (task_by o (v.hand a) (access_note p) (touch_of op (touched_index gfn (v.hand a).state word))) v.words))
+      L : Leaves z v.words (words_behind op p)
+      L = subst (λ o. Leaves z v.words (words_after (task_by o (v.hand a) (access_note p) (touch_of op (touched_index gfn (v.hand a).state word))) v.words))
           (sym is)
           (part_leaves z v a step (access_note p) S P (access_never p gfn (v.hand a).topics step is) (access_quiet p gfn (v.hand a).topics step is other))
 

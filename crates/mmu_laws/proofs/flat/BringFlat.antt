@@ -104,7 +104,7 @@ module _ (z : Sizes) (v : View) (a : ℕ) (line : Line) (gfn word : ℕ) (op : O
     refines = record {
       slots = R.refines.slots;
       host = won_maps z (v.words area.Host) facts.host R.refines.host page looked (with_presence true looked) (brought_in (facts.host page)) found
-          (ap brought_in now_ ∙ sym (words_tell true looked).presence);
+          (ap brought_in now_ ∙ sym (words_tell true 0 looked).presence);
       memory = same_memory R;
       paused = R.refines.paused;
     };

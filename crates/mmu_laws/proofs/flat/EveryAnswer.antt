@@ -1,5 +1,4 @@
 -- What the hands hold behind a list of steps is what its history tells; where all is answered it answers the trace.
-use Rattle.core_views.specs.declared.trace.HostChange.TheVariants.{Allow, Evict, Protect}
 use Rattle.std.proofs.Common.{◌≡◌, ◌⊎◌, inl, inr, ◌+◌, ◌-◌, ◌<◌, ◌≤◌, ℕ, List, [], ◌∷◌, ◌++◌, length, take, refl, sym, subst, ap, ◌∙◌, arith}
 use Rattle.std.specs.Prelude.{All, Bool, true, false, ◌==◌, map, nat_lt, if◌then◌else◌}
 use Rattle.std.proofs.lemmas.Bool.Decides.{nat_tests}
@@ -206,9 +205,7 @@ present z Manager command may = (
   rw (not_less (z.vcpus + z.hosts) z.vcpus (omega arith), not_less (z.vcpus + z.hosts - z.vcpus) z.hosts (omega arith), equal (z.vcpus + z.hosts))
       refl,
 )
-present z (Host n) (ChangeHost page Evict) may = host_present z n may
-present z (Host n) (ChangeHost page Allow) may = host_present z n may
-present z (Host n) (ChangeHost page Protect) may = host_present z n may
+present z (Host n) (ChangeHost page change) may = host_present z n may
 present z _ (Access gfn word op) may = absurd may
 present z _ _ may = absurd may
 

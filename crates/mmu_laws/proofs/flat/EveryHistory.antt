@@ -76,7 +76,7 @@ part_keeps_flat z v f a step note S free none I P F = record {
     behind : Held
     behind = idle_after h (kind_of_task h.state.sizes task) (answer_in task v.words)
 
-    L : Leaves v.words words
+    L : Leaves z v.words words
     L = part_leaves z v a step note S P (idle_never step free) (idle_quiet step free)
 
     idle : a < actors_of z → h.state.place ≡ place.Between
@@ -86,7 +86,7 @@ part_keeps_flat z v f a step note S free none I P F = record {
 abbrev StaysFlat : Sizes → World Held → Flat → List (Step Kind) → Type 0
 StaysFlat z w f ss = IsLawful z f (history w ss) × FlatInvariant z (view z (run mmu w ss)) (after_all (history w ss) f)
 
-after_append : (xs ys : List Event) (f : Flat) → ◌≡◌ {A = Flat} (after_all (xs ++ ys) f) (after_all ys (after_all xs f))
+pub after_append : (xs ys : List Event) (f : Flat) → ◌≡◌ {A = Flat} (after_all (xs ++ ys) f) (after_all ys (after_all xs f))
 after_append [] ys f = refl
 after_append (x ∷ xs) ys f = after_append xs ys (after x f)
 
@@ -121,7 +121,7 @@ run_flat z w f (s ∷ ss) G F legal = by (takes z w s G legal.0) (λ es F. run_f
         G.topics (makes_at z (view z w) s.actor (line_at h.state.place h) (line_at h.state.place h).command (place_at h.state.place h)
         (are_small z w G) T.is_step G.holds G.topics)
         (step_knows z (view z w) s.actor (line_at h.state.place h) (line_at h.state.place h).command (place_at h.state.place h) T.is_step G.holds)
-        G.no_pause G.usable F in
+        G.no_pause G.usable G.copied F in
         let then_ = more es (subst (λ (v : View). FlatInvariant z v (after_all es f)) (sym T.leads) K.1) in
         subst Tells (sym is) (stays_flat z (run mmu (effect mmu w s) ss) f es (history (effect mmu w s) ss) K.0 then_)
     by (inr T) more =

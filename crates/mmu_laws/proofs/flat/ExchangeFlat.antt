@@ -49,20 +49,30 @@ module _ (z : Sizes) (hosts : ℕ → ℕ) (host : HostMap) (maps : (p : ℕ) �
           ap left e ∙ (upd_same hosts page _ ∙ (ap (λ (b : Bool). if b then new_ else hosts page) lost ∙ ap hosts (sym e)))
       stays (inr ne) = upd_other hosts page p _ ne
 
-  -- The new word names the frame of the old one: so each page has the frame that it had, and its words are memory.
+  -- The words of the frame that the new word names are those of the old one's frame: so the words of each page's frame are memory.
+  pub memory_moves : (memory : Memory) (content : ℕ → ℕ)
+      → (hosts page ≡ old_ → (j : ℕ) → j < z.words
+      → content (content_index (map_of z) (host_frame new_) j) ≡ content (content_index (map_of z) (host_frame old_) j))
+      → ((p j : ℕ) → p < z.pages → j < z.words → memory p j ≡ content (content_index (map_of z) (host_frame (hosts p)) j))
+      → (p j : ℕ) → p < z.pages → j < z.words → memory p j ≡ content (content_index (map_of z) (host_frame (left p)) j)
+  memory_moves memory content same is p j low below = is p j low below ∙ sym (stays (same_or p page))
+    where
+      named : ℕ → ℕ
+      named w = content (content_index (map_of z) (host_frame w) j)
+
+      exchanged : (won : Bool) → (won ≡ true → hosts page ≡ old_) → named (if won then new_ else hosts page) ≡ named (hosts page)
+      exchanged true found = same (found refl) j below ∙ ap named (sym (found refl))
+      exchanged false found = refl
+
+      stays : (p ≡ page) ⊎ (p ≢ page) → named (left p) ≡ named (hosts p)
+      stays (inl e) =
+          ap (λ q. named (left q)) e
+          ∙ (ap named (upd_same hosts page _)
+          ∙ (exchanged (hosts page == old_) (eqb-true (hosts page) old_) ∙ ap (λ q. named (hosts q)) (sym e)))
+      stays (inr ne) = ap named (upd_other hosts page p _ ne)
+
+  -- So they are where it names the frame of the old one.
   pub memory_stays : (memory : Memory) (content : ℕ → ℕ) → host_frame new_ ≡ host_frame old_
       → ((p j : ℕ) → p < z.pages → j < z.words → memory p j ≡ content (content_index (map_of z) (host_frame (hosts p)) j))
       → (p j : ℕ) → p < z.pages → j < z.words → memory p j ≡ content (content_index (map_of z) (host_frame (left p)) j)
-  memory_stays memory content same is p j low below =
-      is p j low below ∙ sym (ap (λ n. content (content_index (map_of z) n j)) (stays (same_or p page)))
-    where
-      exchanged : (won : Bool) → (won ≡ true → hosts page ≡ old_) → host_frame (if won then new_ else hosts page) ≡ host_frame (hosts page)
-      exchanged true found = same ∙ ap host_frame (sym (found refl))
-      exchanged false found = refl
-
-      stays : (p ≡ page) ⊎ (p ≢ page) → host_frame (left p) ≡ host_frame (hosts p)
-      stays (inl e) =
-          ap (λ q. host_frame (left q)) e
-          ∙ (ap host_frame (upd_same hosts page _)
-          ∙ (exchanged (hosts page == old_) (eqb-true (hosts page) old_) ∙ ap (λ q. host_frame (hosts q)) (sym e)))
-      stays (inr ne) = ap host_frame (upd_other hosts page p _ ne)
+  memory_stays memory content same = memory_moves memory content (λ found j below. ap (λ n. content (content_index (map_of z) n j)) same)

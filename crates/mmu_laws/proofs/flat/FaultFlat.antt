@@ -31,6 +31,7 @@ use Rattle.mmu_core.specs.declared.claim.ClaimNext.{ClaimNext}
 use Rattle.mmu_core.specs.declared.share.ShareNext.{ShareNext}
 use Rattle.mmu_core.specs.lines.AccessSteps.{access_note, access_task}
 use Rattle.mmu_core.specs.lines.FaultKnows.{FaultKnows}
+use Rattle.mmu_core.specs.declared.claim.FreeMap.TheVariants.{Pages}
 use Rattle.mmu_core.specs.lines.FaultSteps.{after_claim, after_share, check_next, claim_next, entry_word, fault_part, find_next}
 use Rattle.mmu_core.specs.lines.FaultSteps.{share_next, walk_next}
 use Rattle.mmu_laws.specs.flat.FlatInvariant.{NotedAt, NotedLook, NotedPage}
@@ -265,7 +266,7 @@ module _ (z : Sizes) (v : View) (a : ℕ) (line : Line) (gfn word : ℕ) (op : O
       (walk_noted (words_behind (Walk true) area.Pool) gfn op (held_behind (Walk true)) u.notes R.under.1.1 (kind_of held.walk.level (answered (Walk true)))
       (v.hand a).state.sizes (is_write op) held.walk (answered (Walk true)))
   fault_goes (Claim begun) S part_ I P K R =
-      let next : ClaimNext = claim_next begun (v.hand a).state.sizes held.claim (answered (Claim begun)) in
+      let next : ClaimNext = claim_next Pages begun (v.hand a).state.sizes held.claim (answered (Claim begun)) in
       quiet (Claim begun) (after_claim next) refl part_ I P R
       (claim_noted (words_behind (Claim begun) area.Pool) gfn op (held_behind (Claim begun)) u.notes R.under.1.1 next)
   fault_goes Fill S part_ I P K R =

@@ -43,6 +43,7 @@ use Rattle.mmu_core.proofs.invariant.Kept.{MakesAt}
 use Rattle.mmu_core.proofs.machine.Stepping.{IsStep}
 use Rattle.mmu_laws.proofs.flat.Told.{told, told_facts, told_lawful, told_line, told_others}
 use Rattle.mmu_laws.proofs.flat.FlatStill.{line_held, under_still}
+use Rattle.mmu_core.proofs.held.CopiedSteps.{CopiedAt}
 use Rattle.mmu_core.proofs.held.UsableSteps.{UsableAt}
 
 -- what a step tells besides that its line begins
@@ -99,10 +100,10 @@ same_actor _ _ h x = refl
 
 -- Behind the begin of its line a step meets flat memory.
 meets_begun : (z : Sizes) (v : View) (f : Flat) (a : ℕ) (line : Line) (command : Command) (p : Place) → IsStep z v a line command p → Invariant z v
-    → TopicsInvariant z v → MakesAt z v a p command → KnowsPart p command (v.hand a) → UsableAt z v
+    → TopicsInvariant z v → MakesAt z v a p command → KnowsPart p command (v.hand a) → UsableAt z v → CopiedAt z v
     → Ready z v line command p (v.hand a).topics f.facts (f.under (v.hand a).state.actor) → Others z v a f
     → Meets z v f a line command p (told (v.hand a).state.actor (told_kinds v a line command p))
-meets_begun z v f a line command p S I P part K U R others = (
+meets_begun z v f a line command p S I P part K U C R others = (
   told_lawful z s.actor kinds f G.allowed,
   record {
     refines =
@@ -133,7 +134,7 @@ meets_begun z v f a line command p S I P part K U R others = (
     then_ = hand_after line command p (v.hand a) x
 
     G : StepGoes z v a line command p f.facts f.past (f.under s.actor)
-    G = step_goes z v a line command p f (f.under s.actor) S I P part K U R
+    G = step_goes z v a line command p f (f.under s.actor) S I P part K U C R
 
     here : UnderIs (words area.Pool) then_.state.place then_.state.line.command then_ (behind.under then_.state.actor)
     here =
@@ -217,9 +218,9 @@ ready_on z v f a line command p S F no_pause stands = record {
 
 pub flat_kept : (z : Sizes) (v : View) (f : Flat) (a : ℕ) (line : Line) (command : Command) (p : Place)
     → IsStep z v a line command p → Invariant z v → TopicsInvariant z v → MakesAt z v a p command → KnowsPart p command (v.hand a) → v.words area.Pause 0 ≡ 0
-    → UsableAt z v → FlatInvariant z v f
+    → UsableAt z v → CopiedAt z v → FlatInvariant z v f
     → IsLawful z f (told_events v a line command p) × FlatInvariant z (stepped a line command p v) (after_all (told_events v a line command p) f)
-flat_kept z v f a line command p S I P part K no_pause U F = case (v.hand a).state.place refl
+flat_kept z v f a line command p S I P part K no_pause U C F = case (v.hand a).state.place refl
   where
     actor : Actor
     actor = (v.hand a).state.actor
@@ -233,14 +234,14 @@ flat_kept z v f a line command p S I P part K no_pause U F = case (v.hand a).sta
         (sym (told_others actor (v.hand i).state.actor (Begun line ∷ []) f (other_actor z v a i I S.there i_in apart))) (F.under i i_in)
 
     on : IsUnderWay (v.hand a).state.place → Meets z v f a line command p (told actor (told_kinds v a line command p))
-    on stands = meets_begun z v f a line command p S I P part K U (ready_on z v f a line command p S F no_pause stands) (λ i i_in apart. F.under i i_in)
+    on stands = meets_begun z v f a line command p S I P part K U C (ready_on z v f a line command p S F no_pause stands) (λ i i_in apart. F.under i i_in)
 
     case : (q : Place) → (v.hand a).state.place ≡ q
         → Meets z v f a line command p (told (v.hand a).state.actor (beginning q line ++ told_kinds v a line command p))
     case place.Between e =
         let idle : (f.under actor).stage ≡ Idle =
         subst (λ q. UnderIs (v.words area.Pool) q (v.hand a).state.line.command (v.hand a) (f.under actor)) e (F.under a S.there) in
-        let rest = meets_begun z v begun a line command p S I P part K U (ready_first z v f a line command p S F no_pause e) others in
+        let rest = meets_begun z v begun a line command p S I P part K U C (ready_first z v f a line command p S F no_pause e) others in
         (((idle, S.own), rest.0), rest.1)
     case _ e = on (subst IsUnderWay (sym e) tt)
 

@@ -1,5 +1,5 @@
 -- What a step owes the flat side: its events are allowed, and words and its hand are flat memory after them.
-use Rattle.std.proofs.Common.{◌≡◌, ℕ, List, [], ◌∷◌, ◌++◌, refl, sym, ap, ◌∙◌, arith}
+use Rattle.std.proofs.Common.{◌≡◌, ℕ, List, [], ◌∷◌, ◌++◌, refl, sym, subst, ap, ◌∙◌, arith}
 use Rattle.core_views.specs.declared.actor.Actor.{Actor}
 use Rattle.core_views.specs.declared.answer.Answer.{Answer}
 use Rattle.core_views.specs.declared.event.EventKind.{EventKind}
@@ -7,6 +7,7 @@ use Rattle.core_views.specs.declared.event.EventKind.TheVariants.{Answered, Exit
 use Rattle.core_views.specs.declared.place.Place.{Place}
 use Rattle.core_views.specs.declared.place.Place.TheVariants as place
 use Rattle.core_views.specs.declared.sizes.Sizes.{Sizes}
+use Rattle.core_views.specs.declared.topics.OwnedFrame.{OwnedFrame}
 use Rattle.core_views.specs.declared.topics.Topics.{Topics}
 use Rattle.core_views.specs.declared.trace.Command.{Command}
 use Rattle.core_views.specs.declared.trace.Line.{Line}
@@ -15,11 +16,16 @@ use Rattle.core_views.specs.SlotSets.{flat_slots}
 use Rattle.spte_words.specs.declared.area.Area.{Area}
 use Rattle.spte_words.specs.declared.area.Area.TheVariants as area
 use Rattle.spte_words.specs.Areas.{content_index}
+use Rattle.spte_words.proofs.Indices.{same_content}
+use Rattle.mmu_core.proofs.machine.Columns.{upd_other}
+use Rattle.mmu_core.proofs.pages.FrameUses.{owned_of_no_page}
 use Rattle.part_steps.specs.declared.task.Task.{Task}
 use Rattle.part_steps.specs.declared.part_step.PartStep.{PartStep}
 use Rattle.mmu_core.specs.lines.Forms.{outcome_at, tells_at}
 use Rattle.mmu_core.specs.machine.Steps.{task_at}
 use Rattle.mmu_core.specs.machine.Outcomes.{answering, place_after}
+use Rattle.part_steps.specs.declared.part_step.PartStep.TheVariants as part
+use Rattle.part_steps.specs.FrameTopics.{copy_held, frame_owned, words_moved}
 use Rattle.part_steps.specs.PartTasks.{own_index, part_task}
 use Rattle.part_steps.specs.Tasks.{kind_of_task, map_of}
 use Rattle.mmu_core.specs.invariant.TopicsInvariant.{TopicsInvariant}
@@ -29,7 +35,7 @@ use Rattle.mmu_laws.proofs.flat.Told.{AreAllowed, facts_behind, line_behind}
 use Rattle.mmu_laws.specs.flat.FlatInvariant.{Refines}
 pub use Rattle.mmu_laws.specs.flat.FlatInvariant.{UnderAt}
 use Rattle.part_steps.specs.SlotWords.{memory_slots_below, slots_below}
-use Rattle.std.specs.Prelude.{◌==◌, false, not}
+use Rattle.std.specs.Prelude.{◌+◌, ◌*◌, ◌<◌, ◌==◌, true, false, not, Option, Some, None, is_some}
 use Rattle.mmu_core.proofs.slots.LiveStays.{SetStays, published_stays}
 use Rattle.mmu_core.proofs.machine.PartStepping.{IsPart, is_publish, changes_word}
 use Rattle.mmu_core.proofs.words.PartWords.{areas_stay, slots_are, slots_same}
@@ -66,23 +72,47 @@ StepGoes z v a line command p facts past u =
     (topics_after h.state.sizes (kind_of_task h.state.sizes task) h.topics x)
     (tells_at p command h x ++ answering (outcome_at p command h x) line) facts past u
 
--- A step leaves which slot set is published, the words of its page, the host words, all content, and the pause.
-pub record Leaves (before after : Area → ℕ → ℕ) : Type 0 where
+-- A step leaves which slot set is published, the words of its page, the host words, the words of each host page, and the pause.
+pub record Leaves (z : Sizes) (before after : Area → ℕ → ℕ) : Type 0 where
   pub slots : after area.Slots 0 ≡ before area.Slots 0
   pub pool : SetStays (before area.Slots 0) (before area.Pool) (after area.Pool)
   pub host : after area.Host ≡ before area.Host
-  pub content : after area.Content ≡ before area.Content
+  pub content : (p j : ℕ) → p < z.pages → j < z.words → after area.Content (content_index (map_of z) (host_frame (before area.Host p)) j)
+      ≡ before area.Content (content_index (map_of z) (host_frame (before area.Host p)) j)
   pub pause : after area.Pause ≡ before area.Pause
+
+copied_owned : (x : Option OwnedFrame) → is_some (copy_held x) ≡ true → (o : OwnedFrame) × (x ≡ Some o)
+copied_owned None some = absurd (cc some)
+copied_owned (Some o) some = (o, refl)
+
+stored_at : (z y : Sizes) (index : ℕ) (owned : Option OwnedFrame) (o : OwnedFrame) → y ≡ z → owned ≡ Some o
+    → index ≡ y.words * frame_owned owned + words_moved owned → index ≡ content_index (map_of z) o.frame o.filled
+unfolding content_index
+stored_at z y index owned o same owns is =
+    is ∙ ap (λ (x : Sizes). x.words * frame_owned owned + words_moved owned) same ∙ ap (λ x. z.words * frame_owned x + words_moved x) owns
+
+-- A step of a part stores in content a word of the frame that its actor owns, which is no page's.
+pages_stay : (z : Sizes) (v : View) (a : ℕ) (step : PartStep) (note : ℕ) → IsPart z v a step → TopicsInvariant z v → (p j : ℕ) → p < z.pages → j < z.words
+    → (part_stepped a step note v).words area.Content (content_index (map_of z) (host_frame (v.words area.Host p)) j)
+    ≡ v.words area.Content (content_index (map_of z) (host_frame (v.words area.Host p)) j)
+pages_stay z v a (part.Store index) note S I p j low below =
+    let frame : ℕ = host_frame (v.words area.Host p) in
+    let owns = copied_owned (v.hand a).topics.frames.owned S.needs.copied in
+    let at = stored_at z (v.hand a).state.sizes index (v.hand a).topics.frames.owned owns.0 S.sizes owns.1 S.needs.is in
+    let filled : owns.0.filled < z.words = subst (λ x. words_moved x < z.words) owns.1
+    (subst (λ (y : Sizes). words_moved (v.hand a).topics.frames.owned < y.words) S.sizes S.needs.left) in
+    upd_other (v.words area.Content) index (content_index (map_of z) frame j) _
+    (λ e. owned_of_no_page I.frames a owns.0 p S.there owns.1 low (same_content (map_of z) frame owns.0.frame j owns.0.filled below filled (e ∙ at)).0)
+pages_stay z v a _ note S I p j low below = refl
 
 -- So does each step of a part but a publication and a change of a host word.
 pub part_leaves : (z : Sizes) (v : View) (a : ℕ) (step : PartStep) (note : ℕ) → IsPart z v a step → TopicsInvariant z v → is_publish step ≡ false
-    → changes_word step ≡ false
-    → Leaves v.words ((part_stepped a step note v).words)
+    → changes_word step ≡ false → Leaves z v.words ((part_stepped a step note v).words)
 part_leaves z v a step note S P never quiet = record {
   slots = slots_are v a step note ∙ slots_same step (v.hand a).topics (v.words area.Slots 0) never;
   pool = published_stays z v a step note S P;
   host = host_stays v a step note quiet;
-  content = areas_stay v a step note area.Content refl;
+  content = pages_stay z v a step note S P;
   pause = areas_stay v a step note area.Pause refl;
 }
 
@@ -92,7 +122,7 @@ pub refined_slots : (z : Sizes) (set : ℕ) (pool host content : ℕ → ℕ) (p
 refined_slots z set pool host content pause facts R = ap flat_slots R.slots ∙ flat_below pool set 32
 
 -- The words after it still stand for the same facts.
-pub refines_stay : (z : Sizes) (before after : Area → ℕ → ℕ) (facts : Facts) → Leaves before after
+pub refines_stay : (z : Sizes) (before after : Area → ℕ → ℕ) (facts : Facts) → Leaves z before after
     → Refines z (before area.Slots 0) (before area.Pool) (before area.Host) (before area.Content) (before area.Pause 0) facts
     → Refines z (after area.Slots 0) (after area.Pool) (after area.Host) (after area.Content) (after area.Pause 0) facts
 refines_stay z before after facts L R = record {
@@ -101,7 +131,7 @@ refines_stay z before after facts L R = record {
       ∙ ap (λ k. memory_slots_below (after area.Pool) k 32) (sym L.slots);
   host = λ p lt. R.host p lt ∙ sym (ap (λ (g : ℕ → ℕ). entry_of (g p)) L.host);
   memory = λ p j lt below. R.memory p j lt below
-      ∙ (sym (ap (λ (g : ℕ → ℕ). g (content_index (map_of z) (host_frame (before area.Host p)) j)) L.content)
+      ∙ (sym (L.content p j lt below)
       ∙ sym (ap (λ (g : ℕ → ℕ). after area.Content (content_index (map_of z) (host_frame (g p)) j)) L.host));
   paused = R.paused ∙ ap (λ (g : ℕ → ℕ). not (g 0 == 0)) (sym L.pause);
 }

@@ -4,7 +4,7 @@ use Rattle.part_steps.specs.PartTasks.{word_looked, page_looked}
 use Rattle.std.specs.Prelude.{◌==◌}
 use Rattle.core_views.specs.HostChanges.{is_own}
 use Rattle.mmu_core.proofs.lines.EitherPlace.{either_place}
-use Rattle.mmu_core.specs.lines.HostSteps.{host_tells, entry_of, word_put, host_part}
+use Rattle.mmu_core.specs.lines.HostSteps.{host_tells, entry_of, word_put, host_outcome, host_part}
 use Rattle.core_views.specs.declared.place.HostPlace.{HostPlace}
 use Rattle.core_views.specs.declared.place.HostPlace.TheVariants as host_at
 use Rattle.core_views.specs.declared.trace.Command.TheVariants.{ChangeHost}
@@ -49,6 +49,7 @@ use Rattle.mmu_laws.proofs.flat.FlatSteps.{Ready, StepGoes, UnderAt}
 use Rattle.mmu_laws.proofs.flat.FlatStill.{part_or}
 use Rattle.mmu_laws.proofs.flat.SlotChangeFlat.{slot_change_goes}
 use Rattle.core_views.specs.declared.trace.HostChange.{HostChange}
+use Rattle.mmu_core.proofs.held.CopiedSteps.{CopiedAt}
 use Rattle.mmu_core.proofs.held.UsableSteps.{UsableAt}
 
 -- Each of the events stands within a line.
@@ -84,7 +85,8 @@ slot_change_within Publish h command v = change_within (slot_change h.slots comm
 slot_change_within _ h command v = tt
 
 host_within : (p : HostPlace) (page : ℕ) (change : HostChange) (h : Held) (v : ℕ) → AllWithin (host_tells p page change h v)
-host_within host_at.Look page change h v = either_place AllWithin (is_own h.state.sizes h.state.actor page) (LookedAtHost page ∷ []) [] (tt, tt) tt
+host_within (host_at.Look moving) page change h v = either_place AllWithin (is_own h.state.sizes h.state.actor page) (LookedAtHost page ∷ []) [] (tt, tt) tt
+host_within (host_at.Claim begun) page change h v = exit_within (host_outcome (host_at.Claim begun) page h v)
 host_within host_at.Change page change h v =
     either_place AllWithin (v == word_looked h.topics.host) (HostChanged page (entry_of (word_put change h.topics)) ∷ []) [] (tt, tt) tt
 host_within _ page change h v = tt
@@ -99,15 +101,15 @@ tells_within _ _ h v = tt
 -- The step of each place, once its line has begun.
 pub step_goes : (z : Sizes) (v : View) (a : ℕ) (line : Line) (command : Command) (p : Place) (f : Flat) (u : LineUnderWay)
     → IsStep z v a line command p → Invariant z v → TopicsInvariant z v → MakesAt z v a p command → KnowsPart p command (v.hand a) → UsableAt z v
-    → Ready z v line command p (v.hand a).topics f.facts u → StepGoes z v a line command p f.facts f.past u
-step_goes z v a line command place.Between f u S I P part K U R = absurd S.begun
-step_goes z v a line (Access gfn word op) (place.Access p) f u S I P part K U R =
+    → CopiedAt z v → Ready z v line command p (v.hand a).topics f.facts u → StepGoes z v a line command p f.facts f.past u
+step_goes z v a line command place.Between f u S I P part K U C R = absurd S.begun
+step_goes z v a line (Access gfn word op) (place.Access p) f u S I P part K U C R =
     access_goes z v a line gfn word f.facts f.past u op p S I P U (part_or z v a (access_part p gfn (v.hand a).topics) part) K R
-step_goes z v a line command (place.SlotChange p) f u S I P part K U R =
+step_goes z v a line command (place.SlotChange p) f u S I P part K U C R =
     slot_change_goes z v a line command f.facts f.past u p K.0 S I P (part (slot_change_part p (v.hand a) command) refl) R
-step_goes z v a line (ChangeHost page change) (place.Host p) f u S I P part K U R =
-    host_goes_on z v a line page change f.facts f.past u p K.0 K.1 S I P (part (host_part p page change (v.hand a)) refl) R
-step_goes z v a line _ _ f u S I P part K U R = absurd S.holds
+step_goes z v a line (ChangeHost page change) (place.Host p) f u S I P part K U C R =
+    host_goes_on z v a line page change f.facts f.past u p K S I P C (part (host_part p page change (v.hand a)) refl) R
+step_goes z v a line _ _ f u S I P part K U C R = absurd S.holds
 
 -- A line that begins is under way, and has done nothing.
 pub first_at : (pool : ℕ → ℕ) (z : Sizes) (slots : MemorySlots) (line : Line) (command : Command) (t : Topics) (u : LineUnderWay) → u.stage ≡ Fresh

@@ -1,63 +1,75 @@
 -- What the steps of a host line owe flat memory.
-use Rattle.spte_words.specs.declared.area.Area.TheVariants as area
-use Rattle.mmu_core.proofs.lines.HostKnown.{own_low}
-use Rattle.core_views.specs.Sizes.{actors_of}
-use Rattle.mmu_core.specs.declared.invalidate.BeginNext.{BeginNext}
-use Rattle.mmu_core.specs.machine.Outcomes.{place_after, answering}
-use Rattle.mmu_core.specs.invariant.Invariant.{Invariant}
-use Rattle.mmu_core.specs.declared.invalidate.EndNext.{EndNext}
-use Rattle.mmu_core.proofs.machine.Stepping.{IsStep}
-use Rattle.mmu_core.specs.invariant.TopicsInvariant.{TopicsInvariant}
-use Rattle.std.proofs.Common.{◌≡◌, ◌<◌, ℕ, [], ◌∷◌, ◌++◌, Bool, true, false, refl, sym, subst, ap, ◌∙◌, eqb-true}
-use Rattle.std.specs.Prelude.{◌==◌, if◌then◌else◌}
-use Rattle.core_views.specs.declared.answer.Answer.TheVariants.{Done, Refused}
-use Rattle.core_views.specs.declared.answer.Refusal.TheVariants.{OutOfRange}
+use Rattle.std.proofs.Common.{◌≡◌, ℕ, [], ◌∷◌, ◌++◌, Bool, true, false, refl, sym, subst, ap, ◌∙◌, eqb-true}
+use Rattle.std.specs.Prelude.{◌+◌, ◌==◌, if◌then◌else◌, nat_lt}
+use Rattle.core_views.specs.declared.answer.Answer.{Answer}
+use Rattle.core_views.specs.declared.answer.Answer.TheVariants.{Done, Moved, Refused}
+use Rattle.core_views.specs.declared.answer.Refusal.TheVariants.{NoFrame, OutOfRange}
 use Rattle.core_views.specs.declared.event.EventKind.TheVariants.{HostChanged, LookedAtHost}
 use Rattle.core_views.specs.declared.place.BeginPlace.TheVariants as begins
 use Rattle.core_views.specs.declared.place.EndPlace.{EndPlace}
 use Rattle.core_views.specs.declared.place.EndPlace.TheVariants as ends
 use Rattle.core_views.specs.declared.place.HostPlace.{HostPlace}
-use Rattle.core_views.specs.declared.place.HostPlace.TheVariants.{Look, Begin, Change, End}
+use Rattle.core_views.specs.declared.place.HostPlace.TheVariants.{Look, Claim, Begin, Copy, Store, Change, End, Watch, Free}
 use Rattle.core_views.specs.declared.place.Place.TheVariants as place
 use Rattle.core_views.specs.declared.sizes.Sizes.{Sizes}
 use Rattle.core_views.specs.declared.topics.Topics.{Topics}
 use Rattle.core_views.specs.declared.trace.Command.{Command}
 use Rattle.core_views.specs.declared.trace.Command.TheVariants.{ChangeHost}
 use Rattle.core_views.specs.declared.trace.HostChange.{HostChange}
+use Rattle.core_views.specs.declared.trace.HostChange.TheVariants.{Move}
 use Rattle.core_views.specs.declared.trace.Line.{Line}
-use Rattle.core_views.specs.Flat.{Facts, LineUnderWay}
+use Rattle.core_views.specs.Flat.{Facts, HasChangedHost, LineUnderWay, Notes}
 use Rattle.core_views.specs.Held.{Held}
-use Rattle.core_views.specs.Host.{mapping}
-use Rattle.core_views.specs.HostChanges.{Agree, is_own, host_answer}
-use Rattle.core_views.specs.Lawful.{Tells, answer_at_once}
+use Rattle.core_views.specs.HostChanges.{host_answer, is_own}
+use Rattle.core_views.specs.Lawful.{HasWork, MayLeave, Tells}
 use Rattle.core_views.specs.Past.{Past}
-use Rattle.core_views.proofs.HostLines.{owned_answer}
-use Rattle.mmu_core.specs.declared.invalidate.BeginNext.TheVariants as begins_next
-use Rattle.mmu_core.specs.declared.invalidate.EndNext.TheVariants as ends_next
-use Rattle.mmu_core.specs.declared.outcome.Outcome.TheVariants as outcome
-use Rattle.part_steps.specs.PartTasks.{own_index, part_task, word_looked, page_looked}
-use Rattle.part_steps.specs.declared.task.Task.{Task}
-use Rattle.mmu_core.specs.lines.HostKnows.{HostKnows, IsMade}
-use Rattle.mmu_core.specs.lines.HostSteps.{after_begin, after_end, entry_of, host_note, host_part, word_put}
-use Rattle.mmu_core.specs.lines.InvalidateSteps.{begin_next, end_next, begin_part}
-use Rattle.mmu_core.specs.machine.View.{View, answer_in, words_after}
-use Rattle.mmu_core.proofs.lines.HostKept.{host_never, is_change, host_quiet}
-use Rattle.mmu_core.proofs.lines.HostMakes.{change_finds}
-use Rattle.mmu_core.proofs.machine.PartStepping.{IsPart}
-use Rattle.mmu_laws.specs.flat.FlatInvariant.{HostUnder}
-use Rattle.mmu_laws.proofs.flat.FlatSteps.{GoesBy, Ready, RefinesBy, StepGoes, answers_by, goes_by, part_refines, topics_by}
-use Rattle.core_views.specs.declared.place.BeginPlace.{BeginPlace}
-use Rattle.part_steps.specs.declared.part_step.PartStep.{PartStep}
-use Rattle.mmu_core.proofs.words.PartTopics.{IsThere, part_topics_is}
-use Rattle.mmu_laws.proofs.flat.ExchangeFlat.{lost_maps, memory_stays, won_maps}
-use Rattle.mmu_laws.proofs.flat.HostEntries.{answers_done, revised_entry, revised_frame, same_agree, still_agree}
-use Rattle.spte_words.specs.Areas.{content_index}
+use Rattle.spte_words.specs.declared.area.Area.TheVariants as area
 use Rattle.spte_words.specs.HostWords.{host_frame}
-use Rattle.part_steps.specs.Tasks.{map_of}
-use Rattle.mmu_laws.proofs.flat.FaultNotes.{entry_noted}
-use Rattle.mmu_core.proofs.lines.EitherPlace.{either_place}
-use Rattle.part_steps.specs.PartTopics.{part_topics}
+use Rattle.part_steps.specs.declared.part_step.PartStep.{PartStep}
 use Rattle.part_steps.specs.declared.part_step.PartStep.TheVariants as part
+use Rattle.part_steps.specs.declared.task.Task.{Task}
+use Rattle.part_steps.specs.FrameTopics.{words_moved}
+use Rattle.part_steps.specs.PartTasks.{own_index, page_looked, part_task, word_looked}
+use Rattle.part_steps.specs.PartTopics.{part_topics}
+use Rattle.mmu_core.specs.declared.claim.ClaimNext.{ClaimNext}
+use Rattle.mmu_core.specs.declared.claim.ClaimNext.TheVariants as claims
+use Rattle.mmu_core.specs.declared.invalidate.BeginNext.{BeginNext}
+use Rattle.mmu_core.specs.declared.invalidate.BeginNext.TheVariants as begins_next
+use Rattle.mmu_core.specs.declared.invalidate.EndNext.{EndNext}
+use Rattle.mmu_core.specs.declared.invalidate.EndNext.TheVariants as ends_next
+use Rattle.mmu_core.specs.declared.outcome.Outcome.{Outcome}
+use Rattle.mmu_core.specs.declared.outcome.Outcome.TheVariants.{Ends, Goes}
+use Rattle.mmu_core.specs.invariant.Invariant.{Invariant}
+use Rattle.mmu_core.specs.invariant.TopicsInvariant.{TopicsInvariant}
+use Rattle.mmu_core.specs.lines.AccessSteps.{exiting}
+use Rattle.mmu_core.specs.declared.claim.FreeMap.TheVariants.{Frames}
+use Rattle.mmu_core.specs.lines.ClaimSteps.{claim_next}
+use Rattle.mmu_core.specs.lines.HostKnows.{HostKnows, is_move}
+use Rattle.mmu_core.specs.lines.HostSteps.{after_begin, after_end, after_frame_claim, after_frame_watch, entry_of, host_part, moves, word_put}
+use Rattle.mmu_core.specs.lines.InvalidateSteps.{begin_next, end_next}
+use Rattle.mmu_core.specs.lines.WatchSteps.{watch_next}
+use Rattle.mmu_core.specs.machine.Outcomes.{answering, place_after}
+use Rattle.mmu_core.specs.machine.View.{View, answer_in}
+use Rattle.mmu_core.proofs.held.CopiedSteps.{CopiedAt}
+use Rattle.mmu_core.proofs.lines.ClaimMade.{claim_host, claim_made}
+use Rattle.mmu_core.proofs.lines.EitherPlace.{each_watch, either_place, one_place}
+use Rattle.mmu_core.proofs.lines.HostKept.{is_change}
+use Rattle.mmu_core.proofs.lines.HostKnown.{begin_leaves_host, end_leaves_host}
+use Rattle.mmu_core.proofs.machine.PartStepping.{IsPart}
+use Rattle.mmu_core.proofs.machine.Stepping.{IsStep}
+use Rattle.mmu_laws.specs.flat.FlatInvariant.{HostUnder}
+use Rattle.mmu_laws.proofs.flat.FaultNotes.{entry_noted}
+use Rattle.mmu_laws.proofs.flat.FlatSteps.{GoesBy, RefinesBy, StepGoes, answers_by, leaves_by}
+use Rattle.mmu_laws.proofs.flat.HostChangeFlat.{change_lost, change_won}
+use Rattle.mmu_laws.proofs.flat.HostEntries.{answers_done, answers_moved, same_agree}
+use Rattle.mmu_laws.proofs.flat.HostReady.{HasLooked, HostTask, ReadyHost, host_after, host_after_is, host_at_once, host_page_low, host_still, host_tells_none}
+use Rattle.mmu_laws.proofs.flat.HostReady.{looked_still, noted_still}
+
+-- A line that moves its page, and has work, may be given up where no frame is free.
+gives_up : (z : Sizes) (facts : Facts) (h : Held) (page : ℕ) (change : HostChange) (notes : Notes) → is_move change ≡ true
+    → HasWork z facts h.state.actor (ChangeHost page change) → MayLeave z facts h.state.actor (ChangeHost page change) notes (Refused NoFrame)
+gives_up z facts h page Move notes moves works = works
+gives_up z facts h page _ notes moves works = absurd (cc moves)
 
 module _ (z : Sizes) (v : View) (a : ℕ) (line : Line) (page : ℕ) (change : HostChange) (facts : Facts) (past : Past) (u : LineUnderWay) where
   abbrev command : Command
@@ -67,215 +79,165 @@ module _ (z : Sizes) (v : View) (a : ℕ) (line : Line) (page : ℕ) (change : H
   h = v.hand a
 
   abbrev task : HostPlace → Task
-  task p = part_task (host_part p page change h) (own_index h) h.topics (host_note p page h)
+  task p = HostTask z v a line page change facts past u p
 
   abbrev ReadyAt : HostPlace → Type 0
-  ReadyAt p = Ready z v line command (place.Host p) h.topics facts u
+  ReadyAt p = ReadyHost z v a line page change facts past u p
 
-  abbrev Under : HostPlace → Topics → Type 0
-  Under p t = (u.line ≡ line) × HostUnder p page t u
-
-  -- what is held after the step of a place
   abbrev after : HostPlace → Topics
-  after p = topics_by v a (task p)
+  after p = host_after z v a line page change facts past u p
 
-  -- After each of its steps but its change the words stand for the same facts.
-  still : (p : HostPlace) → is_change p ≡ false → IsPart z v a (host_part p page change h) → TopicsInvariant z v → ReadyAt p → RefinesBy z v (task p) facts
-  still p other S P R =
-      part_refines z v a (host_part p page change h) (host_note p page h) facts S P (host_never p page change h) (host_quiet p page change h other) R.refines
+  abbrev Made : HostPlace → Type 0
+  Made p = IsPart z v a (host_part p page change h)
 
-  -- It tells nothing, where it goes on at this place.
-  quiet : (p next : HostPlace) → is_change p ≡ false → IsPart z v a (host_part p page change h) → TopicsInvariant z v → ReadyAt p → Under next (after p)
-      → GoesBy z v a line command (task p) (place.Host next) [] facts past u
-  quiet p next other S P R under = goes_by z v a line command (task p) facts past u (still p other S P R) (place.Host next) under
+  abbrev found : HostPlace → ℕ
+  found p = answer_in (task p) v.words
 
-  -- What the line is answered at once, by whether the page is its actor's own.
-  at_once : (p : HostPlace) (own : Bool) → IsStep z v a line command (place.Host p) → Invariant z v → ReadyAt p → is_own h.state.sizes h.state.actor page ≡ own
-      → answer_at_once z facts.slots h.state.actor u.line.command ≡ owned_answer own
-  at_once p own S I R is =
-      ap (answer_at_once z facts.slots h.state.actor) (ap (λ (l : Line). l.command) R.under.0 ∙ S.command_is)
-      ∙ ap owned_answer
-      (ap (λ (y : Sizes). is_own y h.state.actor page) (sym (I.lines a S.there).sizes) ∙ is)
+  -- what is held after the step of a place, written out
+  abbrev behind : HostPlace → Topics
+  behind p = part_topics (host_part p page change h) h.topics (found p)
 
-  -- Its page is one of the machine's.
-  page_low : Invariant z v → a < actors_of z → is_own h.state.sizes h.state.actor page ≡ true → page < z.pages
-  page_low I there own_ = own_low z h.state.actor page I.sizes (ap (λ (y : Sizes). is_own y h.state.actor page) (sym (I.lines a there).sizes) ∙ own_)
+  own_command : (p : HostPlace) → IsStep z v a line command (place.Host p) → u.line ≡ line → u.line.command ≡ command
+  own_command p S under = ap (λ (l : Line). l.command) under ∙ S.command_is
+
+  -- ---- the look
+
+  abbrev after_look : Bool → Bool → Outcome
+  after_look moving own = if own then Goes (place.Host (if moving then Claim false else Begin begins.Exclude)) else Ends (Refused OutOfRange)
+
+  looks_under : (moving : Bool) (t : Topics) (w : LineUnderWay) → HasLooked page t w → HostUnder (if moving then Claim false else Begin begins.Exclude) page t w
+  looks_under true t w L = L
+  looks_under false t w L = L
 
   -- It looks at its page, or is refused.
-  look_goes : (own : Bool) → is_own h.state.sizes h.state.actor page ≡ own → IsStep z v a line command (place.Host Look) → Invariant z v → ReadyAt Look
-      → RefinesBy z v (task Look) facts → (own ≡ true → word_looked (after Look).host ≡ v.words area.Host page)
-      → GoesBy z v a line command (task Look)
-      (place_after (if own then outcome.Goes (place.Host (Begin begins.Exclude)) else outcome.Ends (Refused OutOfRange)))
-      ((if own then LookedAtHost page ∷ [] else [])
-      ++ answering (if own then outcome.Goes (place.Host (Begin begins.Exclude)) else outcome.Ends (Refused OutOfRange)) line) facts past u
-  look_goes true is S I R stands looked = record {
+  look_goes : (moving own : Bool) → is_own h.state.sizes h.state.actor page ≡ own → IsStep z v a line command (place.Host (Look moving)) → Invariant z v
+      → ReadyAt (Look moving) → RefinesBy z v (task (Look moving)) facts → (own ≡ true → word_looked (after (Look moving)).host ≡ v.words area.Host page)
+      → GoesBy z v a line command (task (Look moving)) (place_after (after_look moving own))
+      ((if own then LookedAtHost page ∷ [] else []) ++ answering (after_look moving own) line) facts past u
+  look_goes moving true is S I R stands looked = record {
     allowed = (R.under.1, tt);
     refines = stands;
     under = (
       R.under.0,
-      (
+      looks_under moving (after (Look moving)) _ (
         R.under.1,
         (
           facts.host page,
           entry_noted page (facts.host page) u.notes.host,
-          same_agree (facts.host page) (entry_of (word_looked (after Look).host))
-              (R.refines.host page (page_low I S.there is) ∙ ap entry_of (sym (looked refl))),
+          same_agree (facts.host page) (entry_of (word_looked (after (Look moving)).host))
+              (R.refines.host page (host_page_low z v a line page change facts past u I S.there is) ∙ ap entry_of (sym (looked refl))),
         ),
       ),
     );
   }
-  look_goes false is S I R stands looked =
-      answers_by z v a line command (task Look) facts past u stands (Refused OutOfRange) R.under.0
-      (subst (λ s. Tells z facts.slots h.state.actor u.line.command s (Refused OutOfRange)) (sym R.under.1) (at_once Look false S I R is))
+  look_goes moving false is S I R stands looked =
+      answers_by z v a line command (task (Look moving)) facts past u stands (Refused OutOfRange) R.under.0
+      (subst (λ s. Tells z facts.slots h.state.actor u.line.command s (Refused OutOfRange)) (sym R.under.1)
+      (host_at_once z v a line page change facts past u (Look moving) false S I R.under.0 is))
 
   -- What it holds after it has looked at its page.
-  looked_now : (own : Bool) → is_own h.state.sizes h.state.actor page ≡ own → own ≡ true → word_looked (after Look).host ≡ v.words area.Host page
-  looked_now own own_is so =
-      let is : is_own h.state.sizes h.state.actor page ≡ true = own_is ∙ so in
-      ap (λ (s : PartStep). word_looked (topics_by v a (part_task s (own_index h) h.topics (host_note Look page h))).host)
-      (ap (λ (b : Bool). if b then part.Host page else part.Seq) is)
-      ∙ ap (λ (t : Topics). word_looked t.host)
-      (part_topics_is h.state.sizes (part.Host page) (own_index h) h.topics (host_note Look page h) (v.words area.Host page) tt)
-
-  abbrev looked : ℕ
-  looked = word_looked h.topics.host
-
-  abbrev at_page : ℕ
-  at_page = page_looked h.topics.host
-
-  -- The frame stays, and so does memory.
-  same_memory : IsMade change → ReadyAt Change → (p j : ℕ) → p < z.pages → j < z.words → facts.memory p j
-      ≡ v.words area.Content (content_index (map_of z) (host_frame (words_after (task Change) v.words area.Host p)) j)
-  same_memory made R =
-      memory_stays z (v.words area.Host) facts.host R.refines.host at_page looked (word_put change h.topics) facts.memory (v.words area.Content)
-      (revised_frame change looked made) R.refines.memory
-
-  -- The words after its change stand for the facts with it.
-  changed_refines : IsMade change → HostKnows Change page h → v.words area.Host at_page ≡ looked → ReadyAt Change
-      → RefinesBy z v (task Change) (record facts { host = mapping page (entry_of (word_put change h.topics)) facts.host })
-  changed_refines made K won R = record {
-    slots = R.refines.slots;
-    host = λ p lt. subst (λ q. mapping q (entry_of (word_put change h.topics)) facts.host p ≡ entry_of (words_after (task Change) v.words area.Host p)) K.0.at
-        (won_maps z (v.words area.Host) facts.host R.refines.host at_page looked (word_put change h.topics) (entry_of (word_put change h.topics)) won refl
-        p lt);
-    memory = same_memory made R;
-    paused = R.refines.paused;
-  }
-
-  -- It changes its page, which was as it looked at it.
-  change_goes : IsMade change → HostKnows Change page h → IsStep z v a line command (place.Host Change) → Invariant z v
-      → v.words area.Host at_page ≡ looked → ReadyAt Change
-      → GoesBy z v a line command (task Change) (place.Host (End ends.Exclude)) (HostChanged page (entry_of (word_put change h.topics)) ∷ []) facts past u
-  change_goes made K S I won R =
-      let now_ : facts.host page ≡ entry_of looked =
-      R.refines.host page (page_low I S.there K.0.own_) ∙ ap entry_of (ap (v.words area.Host) (sym K.0.at) ∙ won) in
-      record {
-        allowed = (
-          (
-            R.under.1.0,
-            record {
-              change = change;
-              asked = ap (λ (l : Line). l.command) R.under.0 ∙ S.command_is;
-              works = at_once Change true S I R K.0.own_;
-              seen = R.under.1.1.0;
-              looked = R.under.1.1.1;
-              agrees = subst (Agree R.under.1.1.0) (sym now_) R.under.1.1.2;
-              changes = revised_entry change looked made (entry_of looked) refl z facts.host page now_;
-            },
-          ),
-          tt,
-        );
-        refines = changed_refines made K won R;
-        under = (R.under.0, (entry_of (word_put change h.topics), refl));
-      }
-
-  -- Where the page was brought in meanwhile it has changed nothing, and tries again.
-  change_lost : IsMade change → (v.words area.Host at_page == looked) ≡ false → IsPart z v a (host_part Change page change h) → TopicsInvariant z v
-      → ReadyAt Change
-      → GoesBy z v a line command (task Change) (place.Host Change) [] facts past u
-  change_lost made lost P M R =
-      goes_by z v a line command (task Change) facts past u (record {
-        slots = R.refines.slots;
-        host = lost_maps z (v.words area.Host) facts.host R.refines.host at_page looked (word_put change h.topics) lost;
-        memory = same_memory made R;
-        paused = R.refines.paused;
-      }) (place.Host Change) (
-        R.under.0,
-        (
-          R.under.1.0,
-          (
-            R.under.1.1.0,
-            R.under.1.1.1,
-            subst (λ w. Agree R.under.1.1.0 (entry_of w)) (sym found)
-                (still_agree R.under.1.1.0 looked (v.words area.Host at_page) R.under.1.1.2 (change_finds z v a page change M P)),
-          ),
-        ),
-      )
+  looked_now : (moving : Bool) → Made (Look moving) → is_own h.state.sizes h.state.actor page ≡ true
+      → word_looked (after (Look moving)).host ≡ v.words area.Host page
+  looked_now moving M is =
+      ap (λ (t : Topics). word_looked t.host) (host_after_is z v a line page change facts past u (Look moving) M)
+      ∙ ap (λ (b : Bool). looked_by (if b then part.Host page else part.Seq) (if b then 0 else 1)) is
     where
-      found : word_looked (after Change).host ≡ v.words area.Host at_page
-      found =
-          ap (λ (t : Topics). word_looked t.host)
-          (part_topics_is h.state.sizes (part.Change (word_put change h.topics)) (own_index h) h.topics (host_note Change page h) (v.words area.Host at_page)
-          tt)
-          ∙ ap (λ (b : Bool). if b then word_put change h.topics else v.words area.Host at_page) lost
+      looked_by : PartStep → ℕ → ℕ
+      looked_by s note = word_looked (part_topics s h.topics (answer_in (part_task s (own_index h) h.topics note) v.words)).host
 
-  end_goes : (p : EndPlace) (next : EndNext) → IsMade change → IsPart z v a (host_part (End p) page change h) → TopicsInvariant z v → ReadyAt (End p)
-      → IsStep z v a line command (place.Host (End p))
-      → GoesBy z v a line command (task (End p)) (place_after (after_end next)) (answering (after_end next) line) facts past u
-  end_goes p (ends_next.Goes q) made M P R S = quiet (End p) (End q) refl M P R R.under
-  end_goes p ends_next.Ended made M P R S =
-      answers_by z v a line command (task (End p)) facts past u (still (End p) refl M P R) Done R.under.0
-      (subst (λ s. Tells z facts.slots h.state.actor u.line.command s Done) (sym R.under.1.1)
-      (sym (ap (λ (c : Command). host_answer c R.under.1.0) (ap (λ (l : Line). l.command) R.under.0 ∙ S.command_is)
-      ∙ answers_done change page R.under.1.0 made)))
+  -- ---- the claim
 
-  -- The word that was looked at is no topic of the invalidation's begin.
-  still_looked : (p : BeginPlace) → HostKnows (Begin p) page h → (after (Begin p)).host ≡ h.topics.host
-  still_looked p K =
-      ap (λ (t : Topics). t.host)
-      (part_topics_is h.state.sizes (begin_part p page h.topics) (own_index h) h.topics (host_note (Begin p) page h) _ (begin_there p K))
-      ∙ host_kept_by p _
+  claim_goes : (begun : Bool) (next : ClaimNext) → HostKnows (Claim begun) page change h → IsStep z v a line command (place.Host (Claim begun))
+      → Invariant z v → TopicsInvariant z v → Made (Claim begun) → ReadyAt (Claim begun) → HasLooked page (after (Claim begun)) u
+      → GoesBy z v a line command (task (Claim begun)) (place_after (after_frame_claim next))
+      (exiting (after_frame_claim next) ++ answering (after_frame_claim next) line) facts past u
+  claim_goes begun claims.Goes K S I P M R L = host_tells_none z v a line page change facts past u (Claim begun) (Claim true) refl M P R (R.under.0, L)
+  claim_goes begun claims.Got K S I P M R L =
+      host_tells_none z v a line page change facts past u (Claim begun) (Begin begins.Exclude) refl M P R (R.under.0, L)
+  claim_goes begun claims.Empty K S I P M R L =
+      let own : u.line.command ≡ command = own_command (Claim begun) S R.under.0 in
+      leaves_by z v a line command (task (Claim begun)) facts past u (host_still z v a line page change facts past u (Claim begun) refl M P R) (Refused NoFrame)
+      R.under.0 R.under.1.0
+      (subst (λ c. MayLeave z facts h.state.actor c u.notes (Refused NoFrame)) (sym own) (gives_up z facts h page change u.notes K.2.moves
+      (subst (HasWork z facts h.state.actor) own (host_at_once z v a line page change facts past u (Claim begun) true S I R.under.0 K.1.own_))))
+
+  -- ---- the end
+
+  -- After its change the line is answered what its page's entry says.
+  answered : (p : HostPlace) (answer : Answer) → IsStep z v a line command (place.Host p) → TopicsInvariant z v → Made p → ReadyAt p → is_change p ≡ false
+      → u.stage ≡ HasChangedHost (entry_of (word_looked h.topics.host)) → host_answer command (entry_of (word_looked h.topics.host)) ≡ answer
+      → GoesBy z v a line command (task p) place.Between (answering (Ends answer) line) facts past u
+  answered p answer S P M R other stage is =
+      answers_by z v a line command (task p) facts past u (host_still z v a line page change facts past u p other M P R) answer R.under.0
+      (subst (λ s. Tells z facts.slots h.state.actor u.line.command s answer) (sym stage)
+      (sym (ap (λ (c : Command). host_answer c (entry_of (word_looked h.topics.host))) (own_command p S R.under.0) ∙ is)))
+
+  end_goes : (p : EndPlace) (next : EndNext) → HostKnows (End p) page change h → IsStep z v a line command (place.Host (End p)) → TopicsInvariant z v
+      → Made (End p) → ReadyAt (End p) → u.stage ≡ HasChangedHost (entry_of (word_looked (after (End p)).host))
+      → GoesBy z v a line command (task (End p)) (place_after (after_end (moves h.topics) next)) (answering (after_end (moves h.topics) next) line) facts past u
+  end_goes p (ends_next.Goes q) K S P M R stage = host_tells_none z v a line page change facts past u (End p) (End q) refl M P R (R.under.0, stage)
+  end_goes p ends_next.Ended K S P M R stage =
+      one_place (λ o. GoesBy z v a line command (task (End p)) (place_after o) (answering o line) facts past u) (moves h.topics) (Goes (place.Host Watch))
+      (Ends Done)
+      (λ e. host_tells_none z v a line page change facts past u (End p) Watch refl M P R (R.under.0, stage))
+      (λ e. answered (End p) Done S P M R refl R.under.1 (answers_done change page (entry_of (word_looked h.topics.host)) (sym K.2.owns ∙ e)))
+
+  -- ---- each place
+
+  -- A step that looks at nothing leaves what the line has noted, and what its change has told.
+  noted : (p : HostPlace) → Made p → (behind p).host ≡ h.topics.host → HasLooked page h.topics u → HasLooked page (after p) u
+  noted p M same L =
+      noted_still z v a line page change facts past u p (looked_still z v a line page change facts past u p M same) L
+
+  changed : (p : HostPlace) → Made p → (behind p).host ≡ h.topics.host → u.stage ≡ HasChangedHost (entry_of (word_looked h.topics.host))
+      → u.stage ≡ HasChangedHost (entry_of (word_looked (after p).host))
+  changed p M same stage =
+      stage ∙ ap (λ (w : ℕ). HasChangedHost (entry_of w)) (sym (looked_still z v a line page change facts past u p M same))
+
+  begun_under : (moving : Bool) (next : BeginNext) (t : Topics) → HasLooked page t u → HostUnder (after_begin moving next) page t u
+  begun_under moving (begins_next.Goes q) t L = L
+  begun_under true begins_next.Begun t L = L
+  begun_under false begins_next.Begun t L = L
+
+  pub host_goes_on : (p : HostPlace) → HostKnows p page change h → IsStep z v a line command (place.Host p) → Invariant z v → TopicsInvariant z v
+      → CopiedAt z v → Made p → ReadyAt p → StepGoes z v a line command (place.Host p) facts past u
+  host_goes_on (Look moving) K S I P C M R =
+      look_goes moving (is_own h.state.sizes h.state.actor page) refl S I R (host_still z v a line page change facts past u (Look moving) refl M P R)
+      (looked_now moving M)
+  host_goes_on (Claim begun) K S I P C M R =
+      let x : ℕ = found (Claim begun) in
+      claim_goes begun (claim_next Frames begun h.state.sizes h.topics.frames.claim x) K S I P M R
+      (noted (Claim begun) M (claim_host h.state.sizes Frames begun h.topics x _ _ _ (claim_made h.state.sizes Frames begun h.topics x)) R.under.1)
+  host_goes_on (Begin p) K S I P C M R =
+      let next : BeginNext = begin_next p h.state.sizes page h.topics (found (Begin p)) in
+      host_tells_none z v a line page change facts past u (Begin p) (after_begin (moves h.topics) next) refl M P R
+      (R.under.0, begun_under (moves h.topics) next (after (Begin p)) (noted (Begin p) M (begin_leaves_host p page h.topics (found (Begin p))) R.under.1))
+  host_goes_on Copy K S I P C M R =
+      host_tells_none z v a line page change facts past u Copy Store refl M P R (R.under.0, noted Copy M refl R.under.1)
+  host_goes_on Store K S I P C M R =
+      let more : Bool = nat_lt (words_moved h.topics.frames.owned + 1) h.state.sizes.words in
+      let L = noted Store M refl R.under.1 in
+      host_tells_none z v a line page change facts past u Store (if more then Copy else Change) refl M P R
+      (R.under.0, either_place (λ q. HostUnder q page (after Store) u) more Copy Change L L)
+  host_goes_on Change K S I P C M R = by (v.words area.Host at_page == looked) refl
     where
-      begin_there : (p : BeginPlace) → HostKnows (Begin p) page h → IsThere h.state.sizes h.topics (begin_part p page h.topics)
-      begin_there (begins.Find begun) K = either_place (IsThere h.state.sizes h.topics) begun part.Slot part.Slots tt tt
-      begin_there (begins.Walk true) K = (K.1.1 refl).1.there
-      begin_there (begins.Walk false) K = tt
-      begin_there begins.Zap K = K.1.2.saw.over.there
-      begin_there _ K = tt
+      looked : ℕ
+      looked = word_looked h.topics.host
 
-      host_kept_by : (p : BeginPlace) (x : ℕ) → (part_topics (begin_part p page h.topics) h.topics x).host ≡ h.topics.host
-      host_kept_by (begins.Find begun) x = either_place (λ s. (part_topics s h.topics x).host ≡ h.topics.host) begun part.Slot part.Slots refl refl
-      host_kept_by (begins.Walk rooted) x = either_place (λ s. (part_topics s h.topics x).host ≡ h.topics.host) rooted (part.Walk _) part.Root refl refl
-      host_kept_by _ x = refl
+      at_page : ℕ
+      at_page = page_looked h.topics.host
 
-  pub host_goes_on : (p : HostPlace) → IsMade change → HostKnows p page h → IsStep z v a line command (place.Host p) → Invariant z v
-      → TopicsInvariant z v → IsPart z v a (host_part p page change h) → ReadyAt p → StepGoes z v a line command (place.Host p) facts past u
-  host_goes_on Look made K S I P M R =
-      look_goes (is_own h.state.sizes h.state.actor page) refl S I R (still Look refl M P R) (looked_now (is_own h.state.sizes h.state.actor page) refl)
-  host_goes_on (Begin p) made K S I P M R =
-      quiet (Begin p) (after_begin next_) refl M P R (
-        R.under.0,
-        begun_under next_ (
-          R.under.1.0,
-          (
-            R.under.1.1.0,
-            R.under.1.1.1,
-            subst (λ o. Agree R.under.1.1.0 (entry_of (word_looked o))) (sym (still_looked p K)) R.under.1.1.2,
-          ),
-        ),
-      )
-    where
-      next_ : BeginNext
-      next_ = begin_next p h.state.sizes page h.topics (answer_in (task (Begin p)) v.words)
-
-      begun_under : (next : BeginNext) → HostUnder Change page (after (Begin p)) u → HostUnder (after_begin next) page (after (Begin p)) u
-      begun_under (begins_next.Goes q) under = under
-      begun_under begins_next.Begun under = under
-  host_goes_on Change made K S I P M R = by (v.words area.Host at_page == looked) refl
-    where
       by : (won : Bool) → (v.words area.Host at_page == looked) ≡ won
           → GoesBy z v a line command (task Change) (place.Host (if won then End ends.Exclude else Change))
           ((if won then HostChanged page (entry_of (word_put change h.topics)) ∷ [] else []) ++ []) facts past u
-      by true won = change_goes made K S I (eqb-true (v.words area.Host at_page) looked won) R
-      by false lost = change_lost made lost M P R
-  host_goes_on (End p) made K S I P M R = end_goes p (end_next p (answer_in (task (End p)) v.words)) made M P R S
+      by true won = change_won z v a line page change facts past u K S I P C M won (eqb-true (v.words area.Host at_page) looked won) R
+      by false lost = change_lost z v a line page change facts past u K P C M lost R
+  host_goes_on (End p) K S I P C M R =
+      end_goes p (end_next p (found (End p))) K S P M R (changed (End p) M (end_leaves_host p h.topics (found (End p)) K.1) R.under.1)
+  host_goes_on Watch K S I P C M R =
+      let stage = changed Watch M refl R.under.1 in
+      host_tells_none z v a line page change facts past u Watch (after_frame_watch (watch_next h (found Watch))) refl M P R
+      (R.under.0, each_watch (λ q. HostUnder q page (after Watch) u) (watch_next h (found Watch)) Watch Free stage stage)
+  host_goes_on Free K S I P C M R =
+      answered Free (Moved (host_frame (word_looked h.topics.host))) S P M R refl R.under.1
+      (answers_moved change page (entry_of (word_looked h.topics.host)) K.2.moves)

@@ -41,7 +41,7 @@ page_in_machine z set role pool id gfn slot P L holds =
 
 -- The frame of a page is one of the machine's, and its leaf names it.
 pub frame_small : (z : Sizes) (host : ℕ → ℕ) (page : ℕ) → AreSizes z → HostWordsPart z host → page < z.pages → host_frame (host page) < 2 ^ 40
-frame_small z host page sizes P lt = omega (arith, (P.words page lt).1, sizes.frames.1)
+frame_small z host page sizes P lt = omega (arith, (P page lt).1, sizes.frames.1)
 
 pub frame_of_leaf : (z : Sizes) (host : ℕ → ℕ) (slot : Slot) (page : ℕ) → AreSizes z → HostWordsPart z host → page < z.pages
     → frame_in (leaf_of slot (host page)) ≡ host_frame (host page)

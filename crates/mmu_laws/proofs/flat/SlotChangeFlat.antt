@@ -22,6 +22,7 @@ use Rattle.core_views.proofs.SlotChanges.{refused_by_slots}
 use Rattle.mmu_core.specs.declared.claim.ClaimNext.{ClaimNext}
 use Rattle.mmu_core.specs.declared.claim.ClaimNext.TheVariants as claims
 use Rattle.mmu_core.specs.lines.AccessSteps.{exiting}
+use Rattle.mmu_core.specs.declared.claim.FreeMap.TheVariants.{Pages}
 use Rattle.mmu_core.specs.lines.ClaimSteps.{claim_next}
 use Rattle.mmu_core.specs.invariant.Invariant.{Invariant}
 use Rattle.part_steps.specs.PartTasks.{words_filled}
@@ -127,7 +128,7 @@ module _ (z : Sizes) (v : View) (a : ℕ) (line : Line) (command : Command) (fac
       (subst (λ s. Tells z facts.slots (v.hand a).state.actor u.line.command s (Refused refusal)) (sym R.under.1)
       (at_once (Refuse refusal) (Some refusal) changes S I R S.holds))
   slot_change_goes (Claim begun) changes S I P M R =
-      claim_goes begun (claim_next begun (v.hand a).state.sizes (v.hand a).topics.claim (answer_in (task (Claim begun)) v.words))
+      claim_goes begun (claim_next Pages begun (v.hand a).state.sizes (v.hand a).topics.claim (answer_in (task (Claim begun)) v.words))
       (ap changes_slot (ap (λ (l : Line). l.command) R.under.0 ∙ S.command_is) ∙ changes) (at_once (Claim begun) None changes S I R S.holds) M P R
   slot_change_goes Fill changes S I P M R =
       quiet Fill _ refl M P R (either_place Under (nat_lt (words_filled (v.hand a).topics.owned + 1) 512) Fill Role R.under R.under)

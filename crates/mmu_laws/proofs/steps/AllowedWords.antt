@@ -1,4 +1,4 @@
--- The host word that is put to allow writes or forbid them, or to have the page in memory or not, is as the one before it but for this.
+-- The host word that is put to allow writes or forbid them, to have the page in memory or not, or at another frame, is as the one before it but for this.
 use Rattle.std.proofs.Common.{◌≡◌, ◌<◌, ℕ, ap, ◌∙◌, arith}
 use Rattle.std.specs.Prelude.{Bool}
 use Rattle.spte_words.specs.HostWords.{host_allows_write, host_frame, host_level, host_present, host_word}
@@ -19,8 +19,10 @@ entry_made frame present allowed level low =
     ∙ (ap (λ (b : Bool). record { frame = frame; present = b; writable = host_allows_write put }) (host_is_present frame present allowed level)
     ∙ ap (λ (b : Bool). record { frame = frame; present = present; writable = b }) (host_is_writable frame present allowed level))
 
-pub words_tell : (one : Bool) (word : ℕ) → WordsTell one word
-words_tell one word = record {
+pub words_tell : (one : Bool) (frame word : ℕ) → WordsTell one frame word
+words_tell one frame word = record {
+  frames = entry_made frame (host_present word) (host_allows_write word) (host_level word) (level_low word);
+  frames_level = host_has_level frame (host_present word) (host_allows_write word) (host_level word) (level_low word);
   writes = entry_made (host_frame word) (host_present word) one (host_level word) (level_low word);
   writes_level = host_has_level (host_frame word) (host_present word) one (host_level word) (level_low word);
   presence = entry_made (host_frame word) one (host_allows_write word) (host_level word) (level_low word);

@@ -10,7 +10,7 @@ use Rattle.core_views.specs.declared.place.AccessPlace.{AccessPlace}
 use Rattle.core_views.specs.declared.place.AccessPlace.TheVariants.{Fault, Pause, Touch}
 use Rattle.core_views.specs.declared.place.FaultPlace.TheVariants as fault
 use Rattle.core_views.specs.declared.place.HostPlace.{HostPlace}
-use Rattle.core_views.specs.declared.place.HostPlace.TheVariants.{Change, Look}
+use Rattle.core_views.specs.declared.place.HostPlace.TheVariants as host_at
 use Rattle.core_views.specs.declared.place.Place.{Place}
 use Rattle.core_views.specs.declared.place.Place.TheVariants as place
 use Rattle.core_views.specs.declared.place.SlotChangePlace.{SlotChangePlace}
@@ -40,7 +40,7 @@ use Rattle.mmu_core.specs.machine.Machine.{May, Step, World, answered, hand_in}
 use Rattle.mmu_core.specs.machine.Outcomes.{answering}
 use Rattle.mmu_core.specs.lines.AccessSteps.{exiting, fault_over}
 use Rattle.mmu_core.specs.lines.HostKnows.{HostKnows}
-use Rattle.mmu_core.specs.lines.HostSteps.{entry_of, word_put}
+use Rattle.mmu_core.specs.lines.HostSteps.{entry_of, host_outcome, word_put}
 use Rattle.core_views.specs.declared.kind.StepKind.TheVariants as kind
 use Rattle.spte_words.specs.Areas.{place as place_of}
 use Rattle.spte_words.specs.declared.area.Area.TheVariants as area
@@ -106,7 +106,7 @@ module _ (h : Held) (v : ℕ) where
         at = record { kind_is = refl; on = refl };
         won = eqb-true v (word_looked h.topics.host) is;
         absent = absent;
-        leaves = (words_tell true (word_looked h.topics.host)).presence;
+        leaves = (words_tell true 0 (word_looked h.topics.host)).presence;
       })
   bring_told false gfn word op is absent = none z v _
 
@@ -135,7 +135,7 @@ module _ (h : Held) (v : ℕ) where
   look_told false page is = none z v _
 
   exchange_told : (won : Bool) (page : ℕ) (change : HostChange) → (v == word_looked h.topics.host) ≡ won → page_looked h.topics.host ≡ page
-      → AllMay z v (kind_of_task z (task_at (place.Host Change) (ChangeHost page change) h))
+      → AllMay z v (kind_of_task z (task_at (place.Host host_at.Change) (ChangeHost page change) h))
       (if won then HostChanged page (entry_of (word_put change h.topics)) ∷ [] else [])
   exchange_told true page change is at =
       one z v _ _ (record {
@@ -145,15 +145,16 @@ module _ (h : Held) (v : ℕ) where
       })
   exchange_told false page change is at = none z v _
 
-  host_told : (p : HostPlace) (page : ℕ) (change : HostChange) → HostKnows p page h → AllTold (place.Host p) (ChangeHost page change)
-  host_told Look page change K = look_told (is_own z h.state.actor page) page refl
-  host_told Change page change K = exchange_told (v == word_looked h.topics.host) page change refl K.0.at
+  host_told : (p : HostPlace) (page : ℕ) (change : HostChange) → HostKnows p page change h → AllTold (place.Host p) (ChangeHost page change)
+  host_told (host_at.Look moving) page change K = look_told (is_own z h.state.actor page) page refl
+  host_told (host_at.Claim begun) page change K = exits_so z v _ (host_outcome (host_at.Claim begun) page h v)
+  host_told host_at.Change page change K = exchange_told (v == word_looked h.topics.host) page change refl K.0.at
   host_told _ page change K = none z v _
 
   line_told : (p : Place) (command : Command) → KnowsPart p command h → AllTold p command
   line_told (place.Access p) (Access gfn word op) K = access_told p gfn word op K
   line_told (place.SlotChange p) command K = slot_change_told p command
-  line_told (place.Host p) (ChangeHost page change) K = host_told p page change K.1
+  line_told (place.Host p) (ChangeHost page change) K = host_told p page change K
   line_told _ _ K = none z v _
 
   -- with its line's begin and its answer

@@ -16,7 +16,8 @@ use Rattle.core_views.specs.Text.{line_text, text}
 use Rattle.mmu_laws.specs.steps.ExampleHost.{ExampleHost, allow_line, host_events, host_lines, host_order, order_to_zap, read_again, read_cached, write_first}
 use Rattle.spte_words.specs.declared.area.Area.TheVariants as area
 use Rattle.mmu_laws.specs.steps.ExampleSteps.{run_sizes, set_line}
-use Rattle.mmu_laws.proofs.steps.ExampleRun.{May, may_set, run_delays, run_in_range, run_leaves, two_digits}
+use Rattle.mmu_laws.proofs.steps.ExampleRun.{May, may_set, run_delays, run_in_range, run_leaves}
+use Rattle.mmu_laws.proofs.steps.Decimals.{two_digits}
 use Rattle.mmu_laws.proofs.steps.ViewRuns.{have_lines, tale, turned_all}
 use Rattle.mmu_core.proofs.start.StartViews.{start_view}
 

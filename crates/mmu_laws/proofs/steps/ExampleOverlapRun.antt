@@ -24,7 +24,8 @@ use Rattle.mmu_laws.specs.steps.ExampleOverlap.{read_inside}
 use Rattle.spte_words.specs.declared.area.Area.{Area}
 use Rattle.spte_words.specs.declared.area.Area.TheVariants as area
 use Rattle.mmu_laws.specs.steps.ExampleSteps.{RunDelays, RunLeaves, set_line, set_read_only_line}
-use Rattle.mmu_laws.proofs.steps.ExampleRun.{May, may_set, run_delays, run_leaves, two_digits}
+use Rattle.mmu_laws.proofs.steps.ExampleRun.{May, may_set, run_delays, run_leaves}
+use Rattle.mmu_laws.proofs.steps.Decimals.{two_digits}
 use Rattle.mmu_laws.proofs.steps.ViewRuns.{have_lines, tale, turned_all}
 use Rattle.mmu_core.proofs.start.StartViews.{start_view}
 

@@ -7,8 +7,8 @@ use Rattle.core_views.proofs.HeaderSizes.{four}
 use lib.Count.{count_trailing_zeros}
 use Rattle.std.proofs.Common.{ℕ, zero, suc, List, ◌<◌, ◌≤◌, ◌+◌, ◌/◌, ◌%◌, lit≤, ◌≡◌, [], ◌∷◌, refl, sym, subst, ap, ◌∙◌, arith, lit<, length}
 use Rattle.std.proofs.lemmas.Option.{slice_get_past}
-use Rattle.std.proofs.lemmas.Fmt.{decimal_digit, decimal_step}
-use Rattle.std.specs.Fmt.{decimal}
+use Rattle.std.proofs.lemmas.Fmt.{decimal_digit}
+use Rattle.mmu_laws.proofs.steps.Decimals.{two_digits}
 use Rattle.std.specs.List.{IsDistinct}
 use Rattle.std.specs.Prelude.{◌==◌, All, Option, codes, true, unwrap_or}
 use Rattle.std.proofs.lemmas.List.Elements.{All-cons, All-nil}
@@ -38,7 +38,7 @@ use Rattle.mmu_core.proofs.start.Starts.{start_good}
 use Rattle.mmu_laws.proofs.steps.ViewRuns.{HaveLines, have_lines, have_lines_by, tale, turned_all, turns_are, turns_lead}
 
 -- What a run over words and hands as columns tells, a run of worlds tells.
-run_tells : (z : Sizes) (lines : List Line) (order : List ℕ) (events : List Event) → AreSizes z
+pub run_tells : (z : Sizes) (lines : List Line) (order : List ℕ) (events : List Event) → AreSizes z
     → All (λ line. IsCommandFor z line.actor line.command) lines → IsDistinct (λ i j. i == j) (slot_ids lines) → length lines ≤ 1000000
     → have_lines z (start_view z lines) order ≡ true → tale (start_view z lines) order ≡ events → RunTells z lines order events
 run_tells z lines order events sizes allowed distinct few has told =
@@ -114,19 +114,23 @@ firsts_rise (suc (suc (suc n))) = let last = past (suc (suc (suc n)) + 1) (omega
     from_third zero = refl
     from_third (suc m) = past (suc (suc (suc (suc m)))) (omega arith)
 
-pub run_in_range : AreSizes run_sizes
-run_in_range = record {
+-- So many frames are in their range, and the other sizes, too.
+pub frames_in_range : (frames : ℕ) → 128 ≤ frames → frames ≤ 1000 → AreSizes (record run_sizes { frames = frames })
+frames_in_range frames least most = record {
   actors = record { vcpus = omega arith; hosts = omega arith; workers = omega arith };
   some = omega arith;
   pages = (omega arith, omega arith);
-  frames = (omega arith, omega arith);
+  frames = (omega (arith, least), omega (arith, most));
   words = (omega arith, omega arith);
-  content = omega arith;
+  content = omega (arith, most);
   pool = (omega arith, omega arith);
   cache = (omega arith, omega arith);
   firsts = four (λ page. page ≤ 128) 0 128 128 128 (omega arith) (omega arith) (omega arith) (omega arith);
   rising = record { each = firsts_rise };
 }
+
+pub run_in_range : AreSizes run_sizes
+run_in_range = frames_in_range 128 (omega arith) (omega arith)
 
 abbrev pub May : Sizes → Line → Type 0
 May z line = IsCommandFor z line.actor line.command
@@ -158,9 +162,6 @@ run_distinct = ((refl, tt), (tt, tt))
 
 pub example_runs : ExampleRuns
 example_runs = run_tells run_sizes run_lines run_order run_events run_in_range run_allowed run_distinct (omega arith) run_has_lines run_tale
-
-pub two_digits : (n : ℕ) → 10 ≤ n → n < 100 → decimal n ≡ (48 + n / 10) ∷ (48 + n % 10) ∷ []
-two_digits n low high = rw (decimal_step n low (omega arith), decimal_digit (n / 10) (omega arith)) refl
 
 -- what it prints
 pub example_prints : ExamplePrints

@@ -47,20 +47,22 @@ pub record TellsPart (note : ℕ) (t : Task) : Type 0 where
 
 pub tells_part : (step : PartStep) (own : ℕ) (t : Topics) (note : ℕ) → TellsPart note (part_task step own t note)
 tells_part (part.Fill value) own t note = record { on = inl refl; note_is = refl }
-tells_part (part.Role value) own t note = record { on = inr refl; note_is = refl }
+tells_part (part.Role value) own t note = record { on = inr (inl refl); note_is = refl }
+tells_part (part.Store index) own t note = record { on = inr (inr refl); note_is = refl }
 tells_part (part.SetStart gfn) own t note = record { on = tt; note_is = refl }
 tells_part (part.SetEnd gfn) own t note = record { on = tt; note_is = refl }
 tells_part (part.SetCount count) own t note = record { on = tt; note_is = refl }
 tells_part (part.SetSeq seq) own t note = record { on = tt; note_is = refl }
 tells_part part.Pause own t note = record { on = tt; note_is = refl }
 tells_part (part.Map word) own t note = record { on = tt; note_is = refl }
+tells_part (part.FrameMap word) own t note = record { on = tt; note_is = refl }
 tells_part part.Slots own t note = record { on = tt; note_is = refl }
 tells_part part.Seq own t note = record { on = tt; note_is = refl }
 tells_part part.Count own t note = record { on = tt; note_is = refl }
 tells_part part.RangeStart own t note = record { on = tt; note_is = refl }
 tells_part part.RangeEnd own t note = record { on = tt; note_is = refl }
 tells_part part.Root own t note = record { on = tt; note_is = refl }
-tells_part part.Clear own t note = record { on = inr refl; note_is = refl }
+tells_part part.Clear own t note = record { on = inr (inl refl); note_is = refl }
 tells_part _ own t note = record { on = refl; note_is = refl }
 
 pub tells_touch : (op : Op) (index : ℕ) → TellsPart 0 (touch_of op index)

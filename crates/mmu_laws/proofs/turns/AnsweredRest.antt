@@ -13,7 +13,7 @@ use Rattle.part_steps.specs.PartSteps.{IsAtRest}
 use Rattle.mmu_core.specs.declared.outcome.Outcome.{Outcome}
 use Rattle.mmu_core.specs.declared.outcome.Outcome.TheVariants.{Ends}
 use Rattle.mmu_core.specs.machine.Enabled.{mmu}
-use Rattle.mmu_core.specs.lines.Forms.{may_leave, may_open, outcome_at}
+use Rattle.mmu_core.specs.lines.Forms.{may_leave, may_open, may_own_frame, outcome_at}
 use Rattle.mmu_core.specs.invariant.Laws.{IsSound}
 use Rattle.mmu_core.specs.machine.Machine.{May, Step, World, answered, effect, hand_in}
 use Rattle.mmu_core.specs.alone.OthersRest.{HoldsNothing}
@@ -62,6 +62,7 @@ module _ (z : Sizes) (w : World Held) (s : Step Kind) (G : IsSound z w) (may : M
         rests = subst (λ (g : Held). IsAtRest g.topics) (sym hand_is) (subst (λ (p : Outcome). KnowsBehind p line.command behind) ends knows);
         leaves_none = L.leaves (ap may_leave (ap (λ (g : Held). g.state.place) hand_is ∙ stands));
         opens_none = L.opens (ap may_open (ap (λ (g : Held). g.state.place) hand_is ∙ stands));
+        owns_no_frame = L.frames (ap may_own_frame (ap (λ (g : Held). g.state.place) hand_is ∙ stands));
       }
 
   pub answered_rests : (answer : Answer) → outcome_of h (answered mmu w s.kind) ≡ Ends answer → HoldsNothing (hand_in mmu (effect mmu w s) s.actor).topics

@@ -30,6 +30,7 @@ use Rattle.mmu_core.specs.declared.share.ShareNext.{ShareNext}
 use Rattle.mmu_core.specs.declared.share.ShareNext.TheVariants as shares
 use Rattle.mmu_core.specs.alone.FaultAlone.{EntryStands}
 use Rattle.mmu_core.specs.lines.FaultKnows.{FaultKnows}
+use Rattle.mmu_core.specs.declared.claim.FreeMap.TheVariants.{Pages}
 use Rattle.mmu_core.specs.lines.FaultSteps.{after_claim, after_share, check_next, check_part, claim_next, claim_part, entry_word, fault_next}
 use Rattle.mmu_core.specs.lines.FaultSteps.{fault_part, find_next, host_word_at, is_last_word, share_next, share_part, snapshot_taken, walk_next}
 use Rattle.part_steps.specs.PartTasks.{entry_index, leaf_written, page_looked, part_task, table_page, word_looked, words_filled}
@@ -132,7 +133,7 @@ fault_sees (fault.Walk true) z own gfn note write t words not_ K =
     walk_sees (kind_of t.walk.level v) z gfn write t (words area.Pool) v refl
 fault_sees (fault.Walk false) z own gfn note write t words not_ K = λ is. absurd (cc is)
 fault_sees (fault.Claim begun) z own gfn note write t words not_ K =
-    λ is. absurd (claims_not (claim_next begun z t.claim (answer_in (part_task (claim_part begun t.claim) own t note) words)) is)
+    λ is. absurd (claims_not (claim_next Pages begun z t.claim (answer_in (part_task (claim_part Pages begun t.claim) own t note) words)) is)
 fault_sees fault.Fill z own gfn note write t words not_ K = λ is. absurd (neither (nat_lt (words_filled t.owned + 1) 512) fault.Fill fault.Role refl refl is)
 fault_sees fault.Link z own gfn note write t words not_ K =
     let v : ℕ = words area.Pool (pool_index (table_page t.walk) (entry_index gfn t.walk.level)) in

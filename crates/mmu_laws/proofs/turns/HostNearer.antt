@@ -2,15 +2,10 @@
 -- exchange of the host word is won, but where an access has brought the page in, which it saw absent; the next one is won then.
 use Rattle.part_steps.specs.declared.part_step.PartStep.TheVariants as part
 use Rattle.spte_words.specs.declared.area.Area.TheVariants as area
-use Rattle.spte_words.specs.declared.spte_kind.SpteKind.TheVariants as entry_kind
 use Rattle.core_views.specs.declared.place.BeginPlace.TheVariants as begins
 use Rattle.core_views.specs.declared.place.EndPlace.TheVariants as ends
-use Rattle.core_views.specs.declared.place.HostPlace.TheVariants.{Look, Begin, Change, End}
 use Rattle.core_views.specs.declared.place.Place.TheVariants as place
-use Rattle.core_views.specs.declared.place.SlotField.TheVariants as field
 use Rattle.core_views.specs.declared.answer.Answer.TheVariants.{Refused}
-use Rattle.core_views.specs.declared.answer.Refusal.TheVariants.{OutOfRange}
-use Rattle.core_views.specs.declared.topics.Flush.{Flush}
 use Rattle.mmu_core.specs.declared.invalidate.BeginNext.TheVariants as begins_next
 use Rattle.mmu_core.specs.declared.invalidate.EndNext.TheVariants as ends_next
 use Rattle.mmu_core.specs.declared.outcome.Outcome.TheVariants.{Goes, Ends}
@@ -18,64 +13,54 @@ use Rattle.mmu_core.specs.lines.AccessSteps.{task_by}
 use Rattle.mmu_core.specs.lines.PartAt.{task_at, touch_at}
 use Rattle.mmu_core.specs.lines.Forms.{note_at, part_at}
 use Rattle.mmu_core.specs.machine.View.{answer_in}
-use Rattle.mmu_core.specs.lines.HostSteps.{word_put}
-use Rattle.mmu_core.specs.lines.InvalidateSteps.{gfn_behind}
 use Rattle.mmu_core.proofs.lines.ByStep.{step_needs}
-use Rattle.mmu_core.proofs.lines.FaultFalls.{flags_fall}
-use Rattle.mmu_core.proofs.lines.FaultKnown.{above_lowest}
-use Rattle.mmu_core.proofs.lines.HostPlaces.{look_some}
-use Rattle.mmu_core.proofs.lines.SearchKnown.{may_search_alone, not_either}
-use Rattle.part_steps.specs.ControlTopics.{at_root, at_set}
-use Rattle.part_steps.specs.ControlBits.{has_to_flush}
 use Rattle.part_steps.specs.PartTasks.{own_index, part_task}
-use Rattle.part_steps.specs.StayTopics.{may_search, may_walk}
-use Rattle.spte_words.specs.Flags.{flags_live}
 use Rattle.core_views.specs.HostChanges.{is_own}
-use Rattle.core_views.specs.Slots.{has_host_page}
 use Rattle.mmu_core.proofs.lines.EitherPlace.{either_place, one_place}
-use Rattle.mmu_core.specs.lines.FaultSteps.{is_last_word}
-use Rattle.mmu_core.specs.lines.FaultLeft.{find_left}
 use Rattle.part_steps.specs.PartTopics.{part_topics}
-use Rattle.part_steps.specs.WalkTopics.{gone_down, linked_page}
 use Rattle.mmu_core.proofs.held.OwnPages.{OwnWords}
 use Rattle.mmu_core.specs.invariant.HostWordsPart.{IsStill}
 use Rattle.spte_words.specs.HostWords.{host_allows_write, host_frame, host_level, host_present}
 use Rattle.spte_words.proofs.ReadsHost.{host_is_present}
-use Rattle.mmu_core.specs.lines.HostSteps.{host_part, after_end, host_outcome, after_begin, host_left}
 use Rattle.mmu_core.specs.lines.HostKnows.{HostKnows}
 use Rattle.mmu_core.specs.lines.PartWaits.{part_waits}
-use Rattle.mmu_laws.proofs.turns.Nearer.{Nearer}
-use Rattle.mmu_core.specs.lines.InvalidateKnows.{BeginKnows}
-use Rattle.spte_words.specs.Entries.{kind_of}
-use Rattle.part_steps.specs.StayTopics.{no_flush}
-use Rattle.mmu_core.specs.lines.InvalidateSteps.{begin_left, search_next, has_found, sweep_next, begin_part, end_part, begin_next, end_left, end_next}
-use Rattle.mmu_core.specs.lines.SearchLeft.{look_left}
+use Rattle.mmu_core.specs.lines.InvalidateSteps.{begin_left, end_part, begin_next, end_left, end_next}
 use Rattle.mmu_core.specs.lines.Forms.{RestsAt}
 use Rattle.part_steps.specs.PartSteps.{PartNeeds}
 use Rattle.part_steps.specs.PartBounds.{PartRests}
-use Rattle.part_steps.specs.PageTopics.{searched_at, searched}
 use Rattle.spte_words.specs.declared.area.Area.{Area}
 use Rattle.core_views.specs.declared.topics.Topics.{Topics}
-use Rattle.core_views.specs.declared.topics.SlotSearch.{SlotSearch}
 use Rattle.core_views.specs.declared.trace.Command.{Command}
 use Rattle.part_steps.specs.declared.task.Task.{Task}
 use Rattle.core_views.specs.Held.{Held}
-use Rattle.part_steps.specs.PartTasks.{page_looked, word_looked, entry_index}
+use Rattle.part_steps.specs.PartTasks.{page_looked, word_looked}
 use Rattle.core_views.specs.declared.place.HostPlace.{HostPlace}
 use Rattle.core_views.specs.declared.place.EndPlace.{EndPlace}
 use Rattle.mmu_core.specs.declared.invalidate.EndNext.{EndNext}
-use Rattle.core_views.specs.declared.place.BeginPlace.{BeginPlace}
-use Rattle.spte_words.specs.declared.spte_kind.SpteKind.{SpteKind}
 use Rattle.core_views.specs.declared.sizes.Sizes.{Sizes}
-use Rattle.core_views.specs.declared.place.SlotField.{SlotField}
 use Rattle.mmu_core.specs.declared.invalidate.BeginNext.{BeginNext}
 use Rattle.core_views.specs.declared.place.Place.{Place}
 use Rattle.core_views.specs.declared.trace.HostChange.{HostChange}
 use Rattle.core_views.specs.declared.topics.HostLook.{HostLook}
 use Rattle.part_steps.specs.declared.part_step.PartStep.{PartStep}
-use Rattle.std.proofs.Common.{◌≡◌, ◌≢◌, inl, inr, ◌+◌, ◌-◌, ◌*◌, ◌<◌, ◌≤◌, ℕ, refl, sym, ap, ◌∙◌, arith}
-use Rattle.std.specs.Prelude.{Bool, true, false, ◌==◌, ◌&&◌, ◌||◌, nat_lt, not, is_some, if◌then◌else◌, Option, Some, None}
+use Rattle.std.proofs.Common.{◌≡◌, inl, inr, ◌+◌, ◌-◌, ◌*◌, ◌<◌, ◌≤◌, ℕ, refl, sym, ap, ◌∙◌, arith}
+use Rattle.std.specs.Prelude.{Bool, true, false, ◌==◌, nat_lt, not, is_some, if◌then◌else◌, Option, Some, None}
 use Rattle.std.proofs.lemmas.Bool.Decides.{nat_tests}
+use Rattle.core_views.specs.declared.place.HostPlace.TheVariants.{Look, Claim, Begin, Copy, Store, Change, End, Watch, Free}
+use Rattle.core_views.specs.declared.answer.Refusal.TheVariants.{NoFrame, OutOfRange}
+use Rattle.core_views.specs.declared.topics.Frames.{Frames as HeldFrames}
+use Rattle.core_views.specs.declared.topics.OwnedFrame.{OwnedFrame}
+use Rattle.core_views.specs.Sizes.{actors_of}
+use Rattle.part_steps.specs.FrameTopics.{frame_after, word_copied, word_stored, words_moved}
+use Rattle.mmu_core.specs.declared.claim.FreeMap.TheVariants.{Frames}
+use Rattle.mmu_core.specs.lines.ClaimSteps.{claim_left, claim_next}
+use Rattle.mmu_core.specs.lines.HostSteps.{word_put, host_part, after_end, host_outcome, after_begin, host_left, copies_left, frees_left, moves}
+use Rattle.mmu_core.specs.lines.WatchSteps.{looked_at, watch_next}
+use Rattle.mmu_core.proofs.lines.ClaimMade.{claim_falls, claim_made, word_there}
+use Rattle.mmu_core.proofs.lines.HostKnown.{begin_leaves_frames, end_leaves_frames}
+use Rattle.mmu_core.proofs.lines.WatchMade.{watch_falls, watch_made}
+use Rattle.mmu_laws.proofs.turns.BeginNearer.{begin_falls, begin_left_after}
+use Rattle.mmu_laws.proofs.turns.Nearer.{Nearer, claim_nearer, watch_nearer}
 
 -- ---- the exchange
 
@@ -107,93 +92,8 @@ pub finds_at : (p : Place) (c : Command) (h : Held) (words : Area → ℕ → �
     → FindsStill (part_at p c h) h.topics (answer_in (task_at p c h) words)
 finds_at p c h words R looks = finds_by (part_at p c h) (note_at p c h) (touch_at c h) h words (λ step is. step_needs p c h step R is) looks
 
--- ---- its begin
-
--- how many steps the line has left after a step of the begin
-abbrev begin_left_after : BeginNext → Sizes → Topics → ℕ
-begin_left_after (begins_next.Goes p) z t = begin_left p z t
-begin_left_after begins_next.Begun z t = 0
-
--- the search
-look_falls : (f : SlotField) (s : SlotSearch) (v : ℕ) → s.id ≤ 31 → ((searched_at f s v).id == 32) ≡ false
-    → 4 * (31 - (searched_at f s v).id) + look_left (searched_at f s v).next < 4 * (31 - s.id) + look_left f
-look_falls field.Flags s v low is = flags_fall (flags_live v) s.id low is
-look_falls field.Base s v low is = omega arith
-look_falls field.Pages s v low is = omega arith
-look_falls field.Host s v low is = let lower : s.id + 1 ≢ 32 = grind (arith, nat_tests) in omega (arith, lower)
-
-find_falls : (b : Bool) (z : Sizes) (page : ℕ) (t : Topics) (v : ℕ) → b ≡ true → t.search.id ≤ 31
-    → begin_left (search_next page t.search.next (searched t.search v)) z (record t { search = if b then searched t.search v else t.search })
-    < 2 * z.vcpus + 13 + find_left true t.search
-find_falls false z page t v is low = absurd (cc is)
-find_falls true z page t v is low =
-    one_place (λ q. begin_left q z (record t { search = searched t.search v }) < 2 * z.vcpus + 13 + find_left true t.search) over begins.Count
-    (begins.Find true)
-    (λ e. let some = look_some t.search.next in omega (arith, some))
-    (λ e. let less = look_falls t.search.next t.search v low
-    (not_either (is_last_word t.search.next && has_host_page page (searched t.search v).slot) ((searched t.search v).id == 32) e) in omega (arith, less))
-  where
-    over : Bool
-    over = (is_last_word t.search.next && has_host_page page (searched t.search v).slot) || ((searched t.search v).id == 32)
-
--- the sweep
-root_falls : (b : Bool) (z : Sizes) (page : ℕ) (t : Topics) (v : ℕ) → t.flush ≡ no_flush
-    → begin_left (if has_found page t.search then begins.Walk true else begins.Ask) z (record t { walk = at_root b t.walk v }) < 2 * z.vcpus + 7
-root_falls b z page t v none =
-    let asked = ap (λ (f : Flush). f.asked) none in
-    either_place (λ q. begin_left q z (record t { walk = at_root b t.walk v }) < 2 * z.vcpus + 7) (has_found page t.search) (begins.Walk true) begins.Ask
-    (rooted b) (omega (arith, asked))
-  where
-    rooted : (c : Bool) → 2 * z.vcpus + (2 + (at_root c t.walk v).level) < 2 * z.vcpus + 7
-    rooted true = omega arith
-    rooted false = omega arith
-
-sweep_falls : (k : SpteKind) (z : Sizes) (gfn : ℕ) (t : Topics) (v : ℕ) → kind_of t.walk.level v ≡ k → 1 ≤ t.walk.level → t.flush ≡ no_flush
-    → begin_left (sweep_next k) z (record t { walk = gone_down (linked_page k) t.walk (entry_index gfn t.walk.level) v }) < 2 * z.vcpus + (2 + t.walk.level)
-sweep_falls (entry_kind.Table page) z gfn t v is from none = let upper = above_lowest t.walk.level v page from is in omega (arith, upper)
-sweep_falls entry_kind.Leaf z gfn t v is from none = omega (arith, from)
-sweep_falls _ z gfn t v is from none = let asked = ap (λ (f : Flush). f.asked) none in omega (arith, from, asked)
-
--- the flush
-await_falls : (waits : Bool) (z : Sizes) (t : Topics) → waits ≡ false → t.flush.awaited < z.vcpus
-    → begin_left (if waits || nat_lt (t.flush.awaited + 1) z.vcpus then begins.Await else begins.Release) z
-    (record t { flush = record t.flush { awaited = t.flush.awaited + (if waits then 0 else 1) } })
-    < 1 + (z.vcpus - t.flush.awaited)
-await_falls true z t is lt = absurd (cc is)
-await_falls false z t is lt =
-    either_place (λ q. begin_left q z (record t { flush = record t.flush { awaited = t.flush.awaited + 1 } }) < 1 + (z.vcpus - t.flush.awaited))
-    (nat_lt (t.flush.awaited + 1) z.vcpus) begins.Await begins.Release
-    (omega (arith, lt)) (omega (arith, lt))
-
-begin_falls : (p : BeginPlace) (z : Sizes) (page : ℕ) (t : Topics) (v : ℕ) → BeginKnows p z page t → part_waits (begin_part p page t) t v ≡ false
-    → begin_left_after (begin_next p z page t v) z (part_topics (begin_part p page t) t v) < begin_left p z t
-begin_falls begins.Exclude z page t v K goes =
-    one_place (λ q. begin_left q z (part_topics part.Exclude t v) < 2 * z.vcpus + 143) (v == 0) (begins.Find false) begins.Exclude (λ e. omega arith)
-    (λ e. absurd (cc (goes, ap not e)))
-begin_falls (begins.Find true) z page t v K goes = let set = K.1 refl in find_falls (is_some t.search.set) z page t v set.0 set.1
-begin_falls (begins.Find false) z page t v K goes = slots_fall (may_search t.stay t.hold) (may_search_alone t K.0.with_lock.alone)
-  where
-    slots_fall : (b : Bool) → b ≡ true → 2 * z.vcpus + 13 + find_left true (at_set b t.search v) < 2 * z.vcpus + 13 + 129
-    slots_fall true is = omega arith
-    slots_fall false is = absurd (cc is)
-begin_falls begins.Count z page t v K goes =
-    either_place (λ q. begin_left q z (part_topics part.Count t v) < 2 * z.vcpus + 13) (v == 0) begins.SetStart begins.RangeStart (omega arith) (omega arith)
-begin_falls (begins.Walk true) z page t v K goes =
-    sweep_falls (kind_of t.walk.level v) z (gfn_behind page t.search.slot) t v refl (K.1 refl).1.there K.0.sweeping.unasked
-begin_falls (begins.Walk false) z page t v K goes = root_falls (may_walk t.stay t.hold) z page t v K.0.sweeping.unasked
-begin_falls begins.Zap z page t v K goes = let asked = ap (λ (f : Flush). f.asked) K.0.sweeping.unasked in omega (arith, asked)
-begin_falls begins.Ask z page t v K goes =
-    let lt = K.2 in
-    one_place (λ q. begin_left q z (part_topics (part.Ask t.flush.asked) t v) < z.vcpus + 1 + (z.vcpus - t.flush.asked))
-    (nat_lt (t.flush.asked + 1) z.vcpus) begins.Ask begins.Await
-    (λ e. omega (arith, lt)) (λ e. omega (arith, lt))
-begin_falls begins.Await z page t v K goes = await_falls (has_to_flush v) z t goes K.3
-begin_falls begins.Release z page t v K goes = omega arith
-begin_falls _ z page t v K goes = omega arith
-
--- ---- its end
-
-end_left_after : EndNext → ℕ
+-- the most steps that are left of the end of its invalidation
+abbrev end_left_after : EndNext → ℕ
 end_left_after (ends_next.Goes p) = end_left p
 end_left_after ends_next.Ended = 0
 
@@ -204,47 +104,126 @@ few_tries : (present : Bool) → 7 + (if present then 0 else 1) ≤ 8
 few_tries true = omega arith
 few_tries false = omega arith
 
-fewer_tries : (found seen : Bool) → found ≡ true → seen ≡ false → 7 + (if found then 0 else 1) < 7 + (if seen then 0 else 1)
-fewer_tries true false there absent = omega arith
-fewer_tries true true there absent = absurd (cc absent)
-fewer_tries false seen there absent = absurd (cc there)
+fewer_tries : (found seen : Bool) (k : ℕ) → found ≡ true → seen ≡ false → 7 + (if found then 0 else 1) + k < 7 + (if seen then 0 else 1) + k
+fewer_tries true false k there absent = omega arith
+fewer_tries true true k there absent = absurd (cc absent)
+fewer_tries false seen k there absent = absurd (cc there)
+
+-- A frame is owned after it exactly where one was before.
+still_owner : (won : Bool) (frame : ℕ) (owned : Option OwnedFrame) → is_some (frame_after won frame owned) ≡ is_some owned
+still_owner true frame None = refl
+still_owner true frame (Some o) = refl
+still_owner false frame owned = refl
 
 -- Where it is lost, the page was seen absent, and found present.
 change_nearer : (won : Bool) (z : Sizes) (t : Topics) (v new_ : ℕ) → (v == word_looked t.host) ≡ won → IsStill (word_looked t.host) v
-    → Nearer (Goes (place.Host (if won then End ends.Exclude else Change))) z
-    (record t { host = Some (record { page = page_looked t.host; word = if won then new_ else v }) }) (7 + (if host_present (word_looked t.host) then 0 else 1))
-change_nearer true z t v new_ is still = omega arith
+    → Nearer (Goes (place.Host (if won then End ends.Exclude else Change))) z (record t {
+      host = Some (record { page = page_looked t.host; word = if won then new_ else v });
+      watched = 0;
+      frames = record t.frames { owned = frame_after won (host_frame (word_looked t.host)) t.frames.owned };
+    }) (host_left Change z t)
+change_nearer true z t v new_ is still =
+    let same = ap (λ (b : Bool). frees_left b z) (still_owner true (host_frame (word_looked t.host)) t.frames.owned) in
+    omega (arith, same)
 change_nearer false z t v new_ is (inl same) = absurd (grind (arith, nat_tests))
 change_nearer false z t v new_ is (inr brought) =
     let seen : ℕ = word_looked t.host in
-    fewer_tries (host_present v) (host_present seen)
+    fewer_tries (host_present v) (host_present seen) (frees_left (moves t) z)
     (ap host_present brought.1 ∙ host_is_present (host_frame seen) true (host_allows_write seen) (host_level seen)) brought.0
+
+-- ---- a move
+
+-- A line that moves a page has the copy left, and to give the old frame back; it has no more than that.
+begin_most : (b : Bool) (z : Sizes)
+    → 2 * z.vcpus + 143 + 8 + (if b then copies_left z None else 0) + frees_left b z ≤ 2 * z.vcpus + 151 + copies_left z None + frees_left true z
+begin_most true z = omega arith
+begin_most false z = omega arith
+
+frees_most : (b : Bool) (z : Sizes) → frees_left b z ≤ frees_left true z
+frees_most true z = omega arith
+frees_most false z = omega arith
+
+-- The look leads to the claim, or to the begin.
+look_nearer : (moving own_ : Bool) (z : Sizes) (t u : Topics) → t.frames.owned ≡ None → u.frames ≡ t.frames
+    → Nearer (if own_ then Goes (place.Host (if moving then Claim false else Begin begins.Exclude)) else Ends (Refused OutOfRange)) z u
+    (host_left (Look moving) z t)
+look_nearer moving false z t u none same = tt
+look_nearer true true z t u none same = omega arith
+look_nearer false true z t u none same =
+    let no : moves u ≡ false = ap (λ (f : HeldFrames). is_some f.owned) same ∙ ap is_some none in
+    rw no (omega arith)
+
+-- A word that is copied is stored next, and one that is stored is left no more.
+copied_moved : (owned : Option OwnedFrame) (v : ℕ) → words_moved (word_copied owned v) ≡ words_moved owned
+copied_moved None v = refl
+copied_moved (Some o) v = refl
+
+stored_moved : (owned : Option OwnedFrame) → is_some owned ≡ true → words_moved (word_stored owned) ≡ words_moved owned + 1
+stored_moved None some = absurd (cc some)
+stored_moved (Some o) some = refl
+
+store_nearer : (more : Bool) (z : Sizes) (t : Topics) → is_some t.frames.owned ≡ true → words_moved t.frames.owned < z.words
+    → Nearer (Goes (place.Host (if more then Copy else Change))) z (record t { frames = record t.frames { owned = word_stored t.frames.owned } })
+    (host_left Store z t)
+store_nearer true z t owns left = let stored = stored_moved t.frames.owned owns in omega (arith, stored, left)
+store_nearer false z t owns left =
+    let few = few_tries (host_present (word_looked t.host)) in
+    let most = frees_most (is_some (word_stored t.frames.owned)) z in
+    omega (arith, few, most, left)
+
+-- ---- the invalidation
+
+begin_nearer : (moving : Bool) (next : BeginNext) (z : Sizes) (u : Topics) (n : ℕ) → moves u ≡ moving → begin_left_after next z u < n
+    → Nearer (Goes (place.Host (after_begin moving next))) z u (n + 8 + (if moving then copies_left z None else 0) + frees_left moving z)
+begin_nearer true (begins_next.Goes p) z u n is less = rw is (omega (arith, less))
+begin_nearer false (begins_next.Goes p) z u n is less = rw is (omega (arith, less))
+begin_nearer true begins_next.Begun z u n is less = omega (arith, less)
+begin_nearer false begins_next.Begun z u n is less = let few = few_tries (host_present (word_looked u.host)) in rw is (omega (arith, less, few))
+
+end_less : (p : EndPlace) (t : Topics) (v : ℕ) → part_waits (end_part p t) t v ≡ false → end_left_after (end_next p v) < end_left p
+end_less ends.Exclude t v goes =
+    one_place (λ q. end_left q < 6) (v == 0) ends.Seq ends.Exclude (λ e. omega arith) (λ e. absurd (cc (goes, ap not e)))
+end_less ends.Seq t v goes = omega arith
+end_less ends.SetSeq t v goes = omega arith
+end_less ends.Count t v goes = omega arith
+end_less ends.SetCount t v goes = omega arith
+end_less ends.Release t v goes = omega arith
+
+end_nearer : (moving : Bool) (next : EndNext) (z : Sizes) (u : Topics) (n : ℕ) → moves u ≡ moving → end_left_after next < n
+    → Nearer (after_end moving next) z u (n + frees_left moving z)
+end_nearer moving (ends_next.Goes q) z u n is less = rw is (omega (arith, less))
+end_nearer true ends_next.Ended z u n is less = omega (arith, less)
+end_nearer false ends_next.Ended z u n is less = tt
 
 -- ---- each place
 
-begin_nearer : (next : BeginNext) (z : Sizes) (u : Topics) (n : ℕ) → begin_left_after next z u < n → Nearer (Goes (place.Host (after_begin next))) z u (n + 8)
-begin_nearer (begins_next.Goes p) z u n less = omega (arith, less)
-begin_nearer begins_next.Begun z u n less = let few = few_tries (host_present (word_looked u.host)) in omega (arith, less, few)
-
-end_nearer : (p : EndPlace) (z : Sizes) (t u : Topics) (v : ℕ) → part_waits (end_part p t) t v ≡ false → Nearer (after_end (end_next p v)) z u (end_left p)
-end_nearer ends.Exclude z t u v goes =
-    one_place (λ q. end_left q < 6) (v == 0) ends.Seq ends.Exclude (λ e. omega arith) (λ e. absurd (cc (goes, ap not e)))
-end_nearer ends.Seq z t u v goes = omega arith
-end_nearer ends.SetSeq z t u v goes = omega arith
-end_nearer ends.Count z t u v goes = omega arith
-end_nearer ends.SetCount z t u v goes = omega arith
-end_nearer ends.Release z t u v goes = tt
-
-pub host_nearer : (p : HostPlace) (page : ℕ) (change : HostChange) (h : Held) (v : ℕ) → PartRests h → HostKnows p page h
+pub host_nearer : (p : HostPlace) (page : ℕ) (change : HostChange) (h : Held) (v : ℕ) → PartRests h → HostKnows p page change h
     → FindsStill (Some (host_part p page change h)) h.topics v → part_waits (host_part p page change h) h.topics v ≡ false
     → Nearer (host_outcome p page h v) h.state.sizes (part_topics (host_part p page change h) h.topics v) (host_left p h.state.sizes h.topics)
-host_nearer Look page change h v R K finds goes =
-    either_place (λ o. Nearer o h.state.sizes (part_topics (host_part Look page change h) h.topics v) (2 * h.state.sizes.vcpus + 152))
-    (is_own h.state.sizes h.state.actor page) (Goes (place.Host (Begin begins.Exclude))) (Ends (Refused OutOfRange))
-    (omega arith) tt
+host_nearer (Look moving) page change h v R K finds goes =
+    look_nearer moving (is_own h.state.sizes h.state.actor page) h.state.sizes h.topics (part_topics (host_part (Look moving) page change h) h.topics v) K.2
+    (either_place (λ s. (part_topics s h.topics v).frames ≡ h.topics.frames) (is_own h.state.sizes h.state.actor page) (part.Host page) part.Seq refl refl)
+host_nearer (Claim begun) page change h v R K finds goes =
+    let z : Sizes = h.state.sizes in
+    let u : Topics = part_topics (host_part (Claim begun) page change h) h.topics v in
+    let low = word_there Frames begun z h.topics.frames.claim R.sizes K.2.within in
+    let less = claim_falls z Frames begun h.topics v _ _ _ (claim_made z Frames begun h.topics v) goes low in
+    claim_nearer Frames (claim_next Frames begun z h.topics.frames.claim v) (place.Host (Claim true)) (place.Host (Begin begins.Exclude)) (Refused NoFrame) z u
+    (2 * z.vcpus + 151 + copies_left z None + frees_left true z) (claim_left Frames begun z h.topics.frames.claim) less refl (begin_most (moves u) z)
 host_nearer (Begin p) page change h v R K finds goes =
-    begin_nearer (begin_next p h.state.sizes page h.topics v) h.state.sizes _ (begin_left p h.state.sizes h.topics)
+    let same = ap (λ (f : HeldFrames). is_some f.owned) (begin_leaves_frames p page h.topics v) in
+    begin_nearer (moves h.topics) (begin_next p h.state.sizes page h.topics v) h.state.sizes _ (begin_left p h.state.sizes h.topics) same
     (begin_falls p h.state.sizes page h.topics v K.1 goes)
+host_nearer Copy page change h v R K finds goes = let moved = copied_moved h.topics.frames.owned v in omega (arith, moved)
+host_nearer Store page change h v R K finds goes =
+    store_nearer (nat_lt (words_moved h.topics.frames.owned + 1) h.state.sizes.words) h.state.sizes h.topics K.2.owns K.2.left
 host_nearer Change page change h v R K finds goes =
     change_nearer (v == word_looked h.topics.host) h.state.sizes h.topics v (word_put change h.topics) refl finds
-host_nearer (End p) page change h v R K finds goes = end_nearer p h.state.sizes h.topics _ v goes
+host_nearer (End p) page change h v R K finds goes =
+    let same = ap (λ (f : HeldFrames). is_some f.owned) (end_leaves_frames p h.topics v) in
+    end_nearer (moves h.topics) (end_next p v) h.state.sizes _ (end_left p) same (end_less p h.topics v goes)
+host_nearer Watch page change h v R K finds goes =
+    let less = watch_falls (own_index h) (actors_of h.state.sizes) h.topics v _ _ (watch_made h v) goes K.3 in
+    watch_nearer (λ q. place.Host q) (watch_next h v) Watch Free h.state.sizes (part_topics (part.Watch (looked_at h)) h.topics v) 1
+    (actors_of h.state.sizes - h.topics.watched) less refl (omega arith)
+host_nearer Free page change h v R K finds goes = tt

@@ -1,6 +1,7 @@
 -- That a line comes nearer to its end with a step, by where the step leads; and with what several forms do in the same order.
 use Rattle.std.proofs.Common.{◌≡◌, ◌+◌, ◌-◌, ◌<◌, ◌≤◌, ℕ, arith}
 use Rattle.std.specs.Prelude.{true}
+use Rattle.core_views.specs.declared.answer.Answer.{Answer}
 use Rattle.core_views.specs.declared.place.Place.{Place}
 use Rattle.core_views.specs.declared.sizes.Sizes.{Sizes}
 use Rattle.core_views.specs.declared.topics.Topics.{Topics}
@@ -11,7 +12,8 @@ use Rattle.mmu_core.specs.declared.outcome.Outcome.{Outcome}
 use Rattle.mmu_core.specs.declared.outcome.Outcome.TheVariants.{Goes, Ends}
 use Rattle.mmu_core.specs.declared.watch.WatchNext.{WatchNext}
 use Rattle.mmu_core.specs.declared.watch.WatchNext.TheVariants as watches
-use Rattle.mmu_core.specs.lines.ClaimSteps.{claim_left, claim_outcome}
+use Rattle.mmu_core.specs.declared.claim.FreeMap.{FreeMap}
+use Rattle.mmu_core.specs.lines.ClaimSteps.{claim_left, claim_outcome, claim_over}
 use Rattle.mmu_core.specs.lines.Forms.{steps_left}
 use Rattle.mmu_core.specs.lines.WatchSteps.{watch_place}
 use Rattle.mmu_core.proofs.lines.ClaimMade.{claim_left_after}
@@ -23,11 +25,12 @@ Nearer (Goes p) y u n = steps_left p y u < n
 Nearer (Ends answer) y u n = Unit {0}
 
 -- After a step of a claim, which had n steps left, with k more for the line.
-pub claim_nearer : (next : ClaimNext) (on got : Place) (y : Sizes) (u : Topics) (k n : ℕ) → claim_left_after next y u.claim < n
-    → steps_left on y u ≡ k + claim_left true y u.claim → steps_left got y u ≤ k → Nearer (claim_outcome on got next) y u (k + n)
-claim_nearer claims.Goes on got y u k n less left after = omega (arith, less, left)
-claim_nearer claims.Got on got y u k n less left after = omega (arith, less, after)
-claim_nearer claims.Empty on got y u k n less left after = tt
+pub claim_nearer : (map : FreeMap) (next : ClaimNext) (on got : Place) (without : Answer) (y : Sizes) (u : Topics) (k n : ℕ)
+    → claim_left_after map next y (claim_over map u) < n → steps_left on y u ≡ k + claim_left map true y (claim_over map u) → steps_left got y u ≤ k
+    → Nearer (claim_outcome on got without next) y u (k + n)
+claim_nearer map claims.Goes on got without y u k n less left after = omega (arith, less, left)
+claim_nearer map claims.Got on got without y u k n less left after = omega (arith, less, after)
+claim_nearer map claims.Empty on got without y u k n less left after = tt
 
 -- After a look of a watch.
 pub watch_nearer : {A : Type 0} (at : A → Place) (next : WatchNext) (looks over : A) (y : Sizes) (u : Topics) (k n : ℕ)

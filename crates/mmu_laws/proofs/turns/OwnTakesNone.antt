@@ -27,7 +27,7 @@ use Rattle.part_steps.specs.declared.part_step.PartStep.{PartStep}
 use Rattle.part_steps.specs.declared.part_step.PartStep.TheVariants as part
 use Rattle.part_steps.specs.PartTasks.{part_task}
 use Rattle.mmu_core.specs.lines.AccessSteps.{touch_of}
-use Rattle.mmu_core.specs.lines.ClaimSteps.{map_word, tries_page}
+use Rattle.mmu_core.specs.lines.ClaimSteps.{map_word, tries_one}
 use Rattle.mmu_core.specs.lines.FaultSteps.{check_part, fault_part, share_part}
 use Rattle.mmu_core.specs.invariant.Invariant.{UnderWay}
 use Rattle.mmu_core.specs.invariant.Laws.{IsSound}
@@ -60,7 +60,7 @@ fault_never (fault.Check at_) gfn t = check_never at_
 fault_never fault.Share gfn t = share_never t.hold
 fault_never (fault.Walk rooted) gfn t = either_place NeverZaps rooted (part.Walk gfn) part.Root (λ own_ note u e. cc e) (λ own_ note u e. cc e)
 fault_never (fault.Claim begun) gfn t =
-    either_place NeverZaps (tries_page begun t.claim) part.Claim (part.Map (map_word begun t.claim)) (λ own_ note u e. cc e) (λ own_ note u e. cc e)
+    either_place NeverZaps (tries_one begun t.claim) part.Claim (part.Map (map_word begun t.claim)) (λ own_ note u e. cc e) (λ own_ note u e. cc e)
 fault_never _ gfn t = λ own_ note u e. cc e
 
 touch_never : (op : Op) (index : ℕ) → (touch_of op index).kind ≡ kind.Zap → ⊥

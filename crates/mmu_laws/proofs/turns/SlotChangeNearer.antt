@@ -1,6 +1,7 @@
 -- Each step of a slot line that doesn't wait leaves it fewer steps, beside other actors too.
 use Rattle.std.proofs.Common.{◌≡◌, ◌+◌, ◌-◌, ℕ, refl, ap, arith}
 use Rattle.std.specs.Prelude.{true, false, ◌==◌, nat_lt, not}
+use Rattle.core_views.specs.declared.answer.Answer.TheVariants.{Starved}
 use Rattle.core_views.specs.declared.place.Place.TheVariants as place
 use Rattle.core_views.specs.declared.place.SlotChangePlace.{SlotChangePlace}
 use Rattle.core_views.specs.declared.place.SlotChangePlace.TheVariants.{Refuse, Claim, Fill, Role, Exclude, Count, Close, Publish, Watch, Give, Clear}
@@ -12,6 +13,7 @@ use Rattle.core_views.specs.Sizes.{actors_of}
 use Rattle.mmu_core.specs.declared.outcome.Outcome.TheVariants.{Goes}
 use Rattle.part_steps.specs.declared.part_step.PartStep.TheVariants as part
 use Rattle.mmu_core.specs.lines.SlotChangeSteps.{slot_change_left, looked_at, slot_change_outcome, slot_change_part, watch_next}
+use Rattle.mmu_core.specs.declared.claim.FreeMap.TheVariants.{Pages}
 use Rattle.mmu_core.specs.lines.ClaimSteps.{claim_left, claim_next, claim_part}
 use Rattle.mmu_core.specs.lines.PartWaits.{part_waits}
 use Rattle.part_steps.specs.PartBounds.{PartRests}
@@ -34,11 +36,11 @@ pub slot_change_nearer : (p : SlotChangePlace) (h : Held) (command : Command) (v
     → Nearer (slot_change_outcome p h v) h.state.sizes (part_topics (slot_change_part p h command) h.topics v) (slot_change_left p h.state.sizes h.topics)
 slot_change_nearer (Refuse refusal) h command v R K goes = tt
 slot_change_nearer (Claim begun) h command v R K goes =
-    let low = word_there begun h.state.sizes h.topics.claim R.sizes K.1 in
-    let less = claim_falls h.state.sizes begun h.topics v _ _ _ (claim_made h.state.sizes begun h.topics v) goes low in
-    let left = claim_left begun h.state.sizes h.topics.claim in
-    claim_nearer (claim_next begun h.state.sizes h.topics.claim v) (place.SlotChange (Claim true)) (place.SlotChange Fill) h.state.sizes
-    (part_topics (claim_part begun h.topics.claim) h.topics v) (520 + actors_of h.state.sizes) left less refl (omega arith)
+    let low = word_there Pages begun h.state.sizes h.topics.claim R.sizes K.1 in
+    let less = claim_falls h.state.sizes Pages begun h.topics v _ _ _ (claim_made h.state.sizes Pages begun h.topics v) goes low in
+    let left = claim_left Pages begun h.state.sizes h.topics.claim in
+    claim_nearer Pages (claim_next Pages begun h.state.sizes h.topics.claim v) (place.SlotChange (Claim true)) (place.SlotChange Fill) Starved h.state.sizes
+    (part_topics (claim_part Pages begun h.topics.claim) h.topics v) (520 + actors_of h.state.sizes) left less refl (omega arith)
 slot_change_nearer Fill h command v R K goes =
     let room = K.1.1 in
     let more = more_filled h.topics.owned v K.1.0 in

@@ -169,7 +169,7 @@ form_nearer (place.Access p) (Access gfn word op) z h v begun may rests K finds 
 form_nearer (place.SlotChange p) command z h v begun may rests K finds on =
     slot_change_nearer p h command v rests K.1 (first_of_none (part_waits (slot_change_part p h command) h.topics v) false on)
 form_nearer (place.Host p) (ChangeHost page change) z h v begun may rests K finds on =
-    host_nearer p page change h v rests K.1 finds (first_of_none (part_waits (host_part p page change h) h.topics v) false on)
+    host_nearer p page change h v rests K finds (first_of_none (part_waits (host_part p page change h) h.topics v) false on)
 form_nearer _ _ z h v begun may rests K finds on = absurd K
 
 -- So each step comes nearer that is no delay, where what its hand has looked up of its actor's own pages is their words, as in every sound world.

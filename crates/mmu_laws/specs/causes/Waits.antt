@@ -25,6 +25,9 @@ use Rattle.part_steps.specs.Tasks.{map_of}
 use Rattle.part_steps.specs.PageTopics.{tried_bit}
 use Rattle.part_steps.specs.ControlBits.{has_writer}
 use Rattle.mmu_laws.specs.causes.Causes.{Finds, HasMade, WasChanged}
+use Rattle.mmu_core.specs.declared.claim.FreeMap.{FreeMap}
+use Rattle.mmu_core.specs.declared.claim.FreeMap.TheVariants.{Frames, Pages}
+use Rattle.mmu_core.specs.lines.ClaimSteps.{claim_over, map_area}
 use Rattle.mmu_core.specs.machine.Enabled.{mmu}
 use Rattle.mmu_core.specs.invariant.Laws.{IsSound}
 use Rattle.mmu_core.specs.machine.Machine.{Legal, Step, World, answered, hand_in, run}
@@ -32,12 +35,12 @@ use Rattle.mmu_core.specs.lines.PartWaits.{is_owing, part_waits, saw_open, word_
 use Rattle.mmu_core.specs.machine.Steps.{has_line}
 use Rattle.mmu_core.specs.machine.Worlds.{IsStart, Reachable}
 
--- the other words that steps wait at: that of the open invalidations' count, and word i of the pool's map
+-- the other words that steps wait at: that of the open invalidations' count, and word i of a map of what is free
 abbrev pub count_word : Sizes → ℕ
 count_word z = place (map_of z) area.Count 0
 
-abbrev pub pool_word : Sizes → ℕ → ℕ
-pool_word z i = place (map_of z) area.PoolMap i
+abbrev pub word_of_map : Sizes → FreeMap → ℕ → ℕ
+word_of_map z map i = place (map_of z) (map_area map) i
 
 -- The step is none of this actor's on this word.
 abbrev pub IsOffWord : ℕ → ℕ → Step Kind → Type 0
@@ -73,20 +76,23 @@ IsOffLockAndCount z actor s = IsOffWord actor (lock_word z) s × IsOffWord actor
 abbrev pub FoundCount : Sizes → ℕ → Hold → ℕ → World Held → List (Step Kind) → Type 0
 FoundCount z actor hold count w ss = HasMade (LoadsCount z actor hold count) (IsOffLockAndCount z actor) w ss
 
--- The page that the actor's claim tries was free where its last step on this word of the map found it, another actor's step changed the word
--- since, and the page isn't free now, where v is found.
-abbrev pub PageIsTaken : Sizes → ℕ → MapClaim → ℕ → World Held → List (Step Kind) → Type 0
-PageIsTaken z actor claim v w ss =
-    WasChanged (IsOffWord actor (pool_word z claim.at)) actor (pool_word z claim.at) claim.seen w ss
+-- The page or frame that the actor's claim tries was free where its last step on this word of the map found it, another actor's step changed the word
+-- since, and it isn't free now, where v is found.
+abbrev pub IsTaken : Sizes → FreeMap → ℕ → MapClaim → ℕ → World Held → List (Step Kind) → Type 0
+IsTaken z map actor claim v w ss =
+    WasChanged (IsOffWord actor (word_of_map z map claim.at)) actor (word_of_map z map claim.at) claim.seen w ss
     × (has_bit (tried_bit claim) claim.seen ≡ true)
     × (has_bit (tried_bit claim) v ≡ false)
 
--- Why a step of a part waits, that is made after these steps: its actor found a writer with the try for the lock that it takes back; the page that it
--- tries was taken; it finds the lock taken; it gives the lock back, under which its actor found invalidations open; it finds another actor in the
+-- Why a step of a part waits, that is made after these steps: its actor found a writer with the try for the lock that it takes back; the page or frame
+-- that it tries was taken; it finds the lock taken; it gives the lock back, under which its actor found invalidations open; it finds another actor in the
 -- guest or in a section; or it finds a virtual processor that has yet to flush.
 abbrev pub StepWaitIsCaused : PartStep → Sizes → World Held → List (Step Kind) → Step Kind → Type 0
 StepWaitIsCaused part.Unshare z w ss s = FoundWriter z s.actor (word_owed (hand_in mmu (run mmu w ss) s.actor).topics.hold) w ss
-StepWaitIsCaused part.Claim z w ss s = PageIsTaken z s.actor (hand_in mmu (run mmu w ss) s.actor).topics.claim (answered mmu (run mmu w ss) s.kind) w ss
+StepWaitIsCaused part.Claim z w ss s =
+    IsTaken z Pages s.actor (hand_in mmu (run mmu w ss) s.actor).topics.claim (answered mmu (run mmu w ss) s.kind) w ss
+StepWaitIsCaused part.Frame z w ss s =
+    IsTaken z Frames s.actor (hand_in mmu (run mmu w ss) s.actor).topics.frames.claim (answered mmu (run mmu w ss) s.kind) w ss
 StepWaitIsCaused part.Exclude z w ss s = FindsLockTaken z (run mmu w ss) s
 StepWaitIsCaused part.Release z w ss s =
     FoundCount z s.actor Exclusive (hand_in mmu (run mmu w ss) s.actor).topics.invalidations.count w ss
@@ -95,12 +101,12 @@ StepWaitIsCaused (part.Watch index) z w ss s = FindsOtherInside z (run mmu w ss)
 StepWaitIsCaused (part.Await index) z w ss s = FindsToFlush z (run mmu w ss) s
 StepWaitIsCaused _ z w ss s = ⊥
 
--- The actor has seen nothing that a step waits for: it owes the lock no reader, it saw no invalidation open under the lock, and its claim has seen no
--- page.
+-- The actor has seen nothing that a step waits for: it owes the lock no reader, it saw no invalidation open under the lock, and its claims have seen
+-- nothing free.
 pub record SawNothing (t : Topics) : Type 0 where
   pub owes : is_owing t.hold ≡ false
   pub closed : saw_open t.invalidations ≡ false
-  pub claims : t.claim.seen ≡ 0
+  pub claims : (map : FreeMap) → (claim_over map t).seen ≡ 0
 
 -- From every sound world in which its actor has seen nothing that a step waits for: each step of a part that waits, whoever makes it, has its cause in the
 -- steps since then, or in what another actor holds as it is made.

@@ -109,10 +109,12 @@ SlotChangeUnder Give u = u.stage ≡ HasChanged
 SlotChangeUnder _ u = u.stage ≡ Fresh
 
 -- A host line has done nothing yet, up to its change, and from its first step on it has looked at its page, which its word maps so, but that the page may have
--- been brought in since; after it, it has changed the page.
+-- been brought in since; after it, it has changed the page, to the word that it has put.
 abbrev pub HostUnder : HostPlace → ℕ → Topics → LineUnderWay → Type 0
-HostUnder host_at.Look page t u = u.stage ≡ Fresh
-HostUnder (host_at.End p) page t u = (entry : HostEntry) × (u.stage ≡ HasChangedHost entry)
+HostUnder (host_at.Look moving) page t u = u.stage ≡ Fresh
+HostUnder (host_at.End p) page t u = u.stage ≡ HasChangedHost (entry_of (word_looked t.host))
+HostUnder host_at.Watch page t u = u.stage ≡ HasChangedHost (entry_of (word_looked t.host))
+HostUnder host_at.Free page t u = u.stage ≡ HasChangedHost (entry_of (word_looked t.host))
 HostUnder _ page t u = (u.stage ≡ Fresh) × ((seen : HostEntry) × (u.notes.host page ≡ Some seen) × Agree seen (entry_of (word_looked t.host)))
 
 -- The line under way is this one, with this command, at this place, and its actor holds these topics.

@@ -12,19 +12,20 @@ use Rattle.core_views.specs.Kinds.{kind_named}
 use Rattle.spte_words.specs.declared.area.Area.{Area}
 use Rattle.spte_words.specs.declared.area.Area.TheVariants as area
 use Rattle.spte_words.specs.Areas.{place, size_of}
-use Rattle.spte_words.specs.HostWords.{host_level, with_presence, with_writes}
+use Rattle.spte_words.specs.HostWords.{host_level, with_frame, with_presence, with_writes}
 use Rattle.mmu_core.specs.lines.HostSteps.{entry_of}
 use Rattle.mmu_core.specs.declared.outcome.Outcome.{Outcome}
 use Rattle.mmu_core.specs.lines.AccessSteps.{ends_with}
 use Rattle.mmu_core.specs.lines.Cached.{asks_flush, with_leaf}
+use Rattle.mmu_core.specs.declared.claim.FreeMap.{FreeMap}
+use Rattle.mmu_core.specs.lines.ClaimSteps.{map_area, map_words}
 use Rattle.mmu_core.specs.lines.ScanPlaces.{ends_with_claim}
 use Rattle.mmu_core.specs.machine.Enabled.{Enabled}
 use Rattle.mmu_core.specs.machine.Steps.{has_line, next, place_at}
 use Rattle.part_steps.specs.Tasks.{map_of}
-use Rattle.part_steps.specs.ControlBits.{map_ends}
 use Rattle.mmu_core.specs.machine.Turns.{outcome_of}
 
--- The words that are loaded as control words: those of the machine's control, and those of the pool's map.
+-- The words that are loaded as control words: those of the machine's control, and those of the maps of what is free.
 abbrev pub IsControl : Area → Type 0
 IsControl area.Root = Unit {0}
 IsControl area.Slots = Unit {0}
@@ -34,6 +35,7 @@ IsControl area.RangeStart = Unit {0}
 IsControl area.RangeEnd = Unit {0}
 IsControl area.Pause = Unit {0}
 IsControl area.PoolMap = Unit {0}
+IsControl area.FrameMap = Unit {0}
 IsControl _ = ⊥
 
 -- The words of the invalidations.
@@ -62,7 +64,7 @@ IsOn kind.Release a = a ≡ area.Lock
 IsOn kind.Claim a = a ≡ area.PoolMap
 IsOn kind.Give a = a ≡ area.PoolMap
 IsOn kind.Publish a = a ≡ area.Slots
-IsOn kind.Fill a = (a ≡ area.Pool) ⊎ (a ≡ area.Role)
+IsOn kind.Fill a = (a ≡ area.Pool) ⊎ (a ≡ area.Role) ⊎ (a ≡ area.Content)
 IsOn kind.Slot a = a ≡ area.Pool
 IsOn kind.Walk a = a ≡ area.Pool
 IsOn kind.Swap a = a ≡ area.Pool
@@ -70,6 +72,9 @@ IsOn kind.Zap a = a ≡ area.Pool
 IsOn kind.Host a = a ≡ area.Host
 IsOn kind.Bring a = a ≡ area.Host
 IsOn kind.Change a = a ≡ area.Host
+IsOn kind.Copy a = a ≡ area.Content
+IsOn kind.Frame a = a ≡ area.FrameMap
+IsOn kind.Unframe a = a ≡ area.FrameMap
 IsOn kind.Read a = a ≡ area.Content
 IsOn kind.Write a = a ≡ area.Content
 IsOn kind.Add a = a ≡ area.Content
@@ -86,14 +91,15 @@ pub record IsOnItsArea (z : Sizes) (k : Kind) : Type 0 where
 abbrev pub StepsAreOnTheirAreas : Type 0
 StepsAreOnTheirAreas = (h : Held) (k : Kind) → Enabled h k → IsOnItsArea h.state.sizes k
 
--- The step of this place loads the last word of the pool's map, for a claim with which its line may end.
+-- The step of this place loads the last word of the map of what is free, for a claim with which its line may end.
 pub record LoadsLastWord (p : Place) (z : Sizes) (k : Kind) : Type 0 where
-  pub ends : ends_with_claim p ≡ true
+  pub map : FreeMap
+  pub ends : ends_with_claim map p ≡ true
   pub loads : kind_named k.code ≡ kind.Control
-  pub last : k.word + 1 ≡ map_ends z
+  pub last : k.word + 1 ≡ place (map_of z) (map_area map) (map_words map z)
 
 -- The note of a step that found v is 1 where its line is answered with it, and 0 where the line goes on; but that of the load of the last
--- word of the map is 1, and the line is answered with this load exactly where it found 0.
+-- word of a map is 1, and the line is answered with this load exactly where it found 0.
 pub record NoteTells (p : Place) (z : Sizes) (k : Kind) (o : Outcome) (v : ℕ) : Type 0 where
   pub tells : (k.note ≡ ends_with o) ⊎ LoadsLastWord p z k
   pub last : LoadsLastWord p z k → (k.note ≡ 1) × (ends_with o ≡ (if v == 0 then 1 else 0))
@@ -115,12 +121,14 @@ abbrev pub OthersCacheOneAtMost : Type 0
 OthersCacheOneAtMost =
     (h : Held) (k : Kind) (v : ℕ) → Enabled h k → (kind_named k.code ≡ kind.Enter → asks_flush v ≡ false) → CachesOneAtMost h.cached (next h k v).cached
 
--- The host word that is put to allow writes or forbid them, or to have the page in memory or not, is as the one before it but for this.
-pub record WordsTell (one : Bool) (word : ℕ) : Type 0 where
+-- The host word that is put to allow writes or forbid them, to have the page in memory or not, or at another frame, is as the one before it but for this.
+pub record WordsTell (one : Bool) (frame word : ℕ) : Type 0 where
+  pub frames : entry_of (with_frame frame word) ≡ record (entry_of word) { frame = frame }
+  pub frames_level : host_level (with_frame frame word) ≡ host_level word
   pub writes : entry_of (with_writes one word) ≡ record (entry_of word) { writable = one }
   pub writes_level : host_level (with_writes one word) ≡ host_level word
   pub presence : entry_of (with_presence one word) ≡ record (entry_of word) { present = one }
   pub presence_level : host_level (with_presence one word) ≡ host_level word
 
 abbrev pub RevisedWordsTell : Type 0
-RevisedWordsTell = (one : Bool) (word : ℕ) → WordsTell one word
+RevisedWordsTell = (one : Bool) (frame word : ℕ) → WordsTell one frame word

@@ -1,6 +1,7 @@
 use Rattle.mmu_laws.proofs.alone.AloneEnds.{ends_alone}
 use Rattle.mmu_laws.proofs.alone.AloneEnough.{none_starved}
 use Rattle.mmu_laws.proofs.alone.AloneRuns.{begins_alone, steps_alone}
+use Rattle.mmu_laws.proofs.alone.LowestFrames.{moves_take_lowest}
 use Rattle.mmu_laws.proofs.laws.a_line_alone_goes_through.Goals as goal
 
 pub returns-clause-through : goal.returns-clause-through
@@ -14,3 +15,6 @@ returns-clause-ends c = ends_alone
 
 pub returns-clause-enough : goal.returns-clause-enough
 returns-clause-enough c = none_starved
+
+pub returns-clause-lowest : goal.returns-clause-lowest
+returns-clause-lowest c = moves_take_lowest

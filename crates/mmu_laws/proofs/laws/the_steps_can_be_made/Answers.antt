@@ -1,6 +1,7 @@
 use Rattle.mmu_laws.proofs.steps.ExampleHostRun.{example_host}
 use Rattle.mmu_laws.proofs.steps.ExampleProtectRun.{example_protect}
 use Rattle.mmu_laws.proofs.steps.ExampleEvictRun.{example_evict}
+use Rattle.mmu_laws.proofs.steps.ExampleMoveRun.{example_move}
 use Rattle.mmu_laws.proofs.steps.ExampleOverlapRun.{example_overlap}
 use Rattle.mmu_core.specs.machine.Enabled.{mmu}
 use Rattle.mmu_core.specs.machine.Machine.{run}
@@ -41,6 +42,9 @@ returns-clause-protect c = example_protect
 
 pub returns-clause-evict : goal.returns-clause-evict
 returns-clause-evict c = example_evict
+
+pub returns-clause-moves : goal.returns-clause-moves
+returns-clause-moves c = example_move
 
 pub returns-clause-overlap : goal.returns-clause-overlap
 returns-clause-overlap c = example_overlap

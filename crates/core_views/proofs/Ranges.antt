@@ -1,6 +1,7 @@
 -- Tests of the numbers of a range: whether any passes, and the first that does.
-use Rattle.std.proofs.Common.{◌≡◌, ◌+◌, ◌<◌, ◌≤◌, ◌||◌, ◌⊎◌, inl, inr, ℕ, zero, suc, Bool, true, false, cond, refl, ap, arith, ◌∙◌}
+use Rattle.std.proofs.Common.{◌≡◌, ◌+◌, ◌<◌, ◌≤◌, ◌||◌, ◌⊎◌, inl, inr, ℕ, zero, suc, Bool, true, false, cond, refl, ap, arith, subst, ◌∙◌}
 use Rattle.std.proofs.lemmas.Bool.Decides.{eqb_tells}
+use Rattle.std.proofs.lemmas.Option.{same_Some}
 use Rattle.std.specs.Prelude.{Some, None, find}
 use Rattle.std.specs.List.{list_any, range_with_len}
 
@@ -53,3 +54,13 @@ pub none_found : (a n : ℕ) (test : ℕ → Bool) → ((y : ℕ) → y < a + n 
 none_found a zero test none = refl
 none_found a (suc n) test none =
     ap (λ (b : Bool). cond b (Some a) (find test (range_with_len (a + 1) n))) (none a (omega arith)) ∙ none_found (a + 1) n test (λ y lt. none y (omega arith))
+
+-- What is found is a number of the range, and passes.
+pub found_passes : (a n : ℕ) (test : ℕ → Bool) (x : ℕ) → find test (range_with_len a n) ≡ Some x → (x < a + n) × (test x ≡ true)
+found_passes a zero test x is = absurd (cc is)
+found_passes a (suc n) test x is = by (test a) refl is (λ e. found_passes (a + 1) n test x e)
+  where
+    by : (b : Bool) → test a ≡ b → cond b (Some a) (find test (range_with_len (a + 1) n)) ≡ Some x
+        → (find test (range_with_len (a + 1) n) ≡ Some x → (x < a + 1 + n) × (test x ≡ true)) → (x < a + suc n) × (test x ≡ true)
+    by true passes e later = let same : a ≡ x = same_Some a x e in (omega (arith, same), subst (λ (y : ℕ). test y ≡ true) same passes)
+    by false passes e later = let there = later e in (omega (arith, there.0), there.1)

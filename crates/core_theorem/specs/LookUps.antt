@@ -1,0 +1,39 @@
+-- What actors have looked up of slots and host, since they took the sequence number, is so still (mmu_notifier.rst).
+use Rattle.std.specs.Prelude.{◌≡◌, ◌-◌, ◌<◌, ℕ, List, true, Some}
+use Rattle.core_views.specs.declared.kind.Kind.{Kind}
+use Rattle.core_views.specs.declared.sizes.Sizes.{Sizes}
+use Rattle.core_views.specs.declared.topics.HostLook.{HostLook}
+use Rattle.core_views.specs.declared.topics.Topics.{Topics}
+use Rattle.core_views.specs.declared.trace.Line.{Line}
+use Rattle.core_views.specs.Held.{Held}
+use Rattle.core_views.specs.Sizes.{actors_of}
+use Rattle.spte_words.specs.declared.area.Area.TheVariants as area
+use Rattle.mmu_core.specs.invariant.HostWordsPart.{IsStill}
+use Rattle.mmu_core.specs.invariant.SearchPart.{IsUnder}
+use Rattle.mmu_core.specs.invariant.SlotSetPart.{IsLiveIn}
+use Rattle.mmu_core.specs.machine.Enabled.{mmu}
+use Rattle.mmu_core.specs.machine.Machine.{Step, World, hand_in, run}
+use Rattle.mmu_core.specs.machine.View.{word_in}
+use Rattle.core_theorem.specs.Runs.{IsRun}
+
+-- what the actor holds of the machine's parts
+abbrev pub topics_in : World Held → ℕ → Topics
+topics_in w actor = (hand_in mmu w actor).topics
+
+-- The slot that an actor has found whole is live in the published set, as it was found.
+abbrev pub FoundSlotsAreLive : Type 0
+FoundSlotsAreLive =
+    (z : Sizes) (lines : List Line) (w : World Held) (ss : List (Step Kind)) → IsRun z lines w ss → (actor : ℕ) → actor < actors_of z
+    → (topics_in (run mmu w ss) actor).search.whole ≡ true
+    → IsLiveIn (word_in z (run mmu w ss) area.Pool) (word_in z (run mmu w ss) area.Slots 0) ((topics_in (run mmu w ss) actor).search.id - 1)
+    (topics_in (run mmu w ss) actor).search.slot
+
+-- What an actor has looked up of a host page is the page's host word still, where the sequence number is the one that it took before, and no invalidation of
+-- the page is open that has yet to raise it; but an absent page may have been brought in since.
+abbrev pub LookedUpPagesStand : Type 0
+LookedUpPagesStand =
+    (z : Sizes) (lines : List Line) (w : World Held) (ss : List (Step Kind)) → IsRun z lines w ss → (actor : ℕ) (look : HostLook) → actor < actors_of z
+    → (topics_in (run mmu w ss) actor).host ≡ Some look
+    → (topics_in (run mmu w ss) actor).invalidations.snapshot ≡ Some (word_in z (run mmu w ss) area.Seq 0)
+    → ((other : ℕ) → other < actors_of z → IsUnder look.page (topics_in (run mmu w ss) other) → ⊥)
+    → IsStill look.word (word_in z (run mmu w ss) area.Host look.page)

@@ -1,0 +1,54 @@
+-- The frames of the host: what each of them is used for; and what an actor has copied of a page that it moves (page_migration.rst).
+use Rattle.std.specs.Prelude.{◌≡◌, ◌+◌, ◌*◌, ◌<◌, ℕ, Bool, true, false, ◌==◌, ◌&&◌, nat_le, nat_lt, Option, Some, None}
+use Rattle.core_views.specs.declared.sizes.Sizes.{Sizes}
+use Rattle.core_views.specs.declared.topics.OwnedFrame.{OwnedFrame}
+use Rattle.core_views.specs.declared.topics.Topics.{Topics}
+use Rattle.spte_words.specs.HostWords.{host_frame}
+use Rattle.part_steps.specs.PartTasks.{word_looked}
+use Rattle.mmu_core.specs.invariant.PoolPart.{is_free}
+
+-- what a frame is: free; that of a host page, present or not; owned by the actor at a place; or none, since its number is outside of the machine
+pub data FrameUse : Type 0 where
+  Free Outside : FrameUse
+  Page : (page : ℕ) → FrameUse
+  Owned : (actor : ℕ) → FrameUse
+
+-- Two uses are one.
+abbrev pub is_frame_use : FrameUse → FrameUse → Bool
+is_frame_use FrameUse.Free FrameUse.Free = true
+is_frame_use FrameUse.Outside FrameUse.Outside = true
+is_frame_use (FrameUse.Page p) (FrameUse.Page q) = p == q
+is_frame_use (FrameUse.Owned i) (FrameUse.Owned j) = i == j
+is_frame_use _ _ = false
+
+-- The host page, of so many, names the frame.
+abbrev pub names : ℕ → (ℕ → ℕ) → ℕ → ℕ → Bool
+names pages host page frame = nat_lt page pages && (host_frame (host page) == frame)
+
+-- The actor at place i, of n, owns the frame.
+abbrev pub is_frame_of : Option OwnedFrame → ℕ → Bool
+is_frame_of None frame = false
+is_frame_of (Some o) frame = o.frame == frame
+
+abbrev pub owns_frame : ℕ → (ℕ → Option OwnedFrame) → ℕ → ℕ → Bool
+owns_frame n owned i frame = nat_lt i n && is_frame_of (owned i) frame
+
+-- Of each number `use_of` says what the frame is. It is free exactly where its bit in the map of frames is set; a page's exactly where the page names it; an
+-- actor's exactly where the actor owns it; and outside of the machine exactly from the end of its frames on. So each frame is exactly one of these, and no two
+-- pages have one frame.
+pub record FramesPart (z : Sizes) (n : ℕ) (map host : ℕ → ℕ) (owned : ℕ → Option OwnedFrame) (use_of : ℕ → FrameUse) : Type 0 where
+  pub free : (frame : ℕ) → is_free map frame ≡ is_frame_use FrameUse.Free (use_of frame)
+  pub named : (page frame : ℕ) → names z.pages host page frame ≡ is_frame_use (FrameUse.Page page) (use_of frame)
+  pub owner : (i frame : ℕ) → owns_frame n owned i frame ≡ is_frame_use (FrameUse.Owned i) (use_of frame)
+  pub outside : (frame : ℕ) → nat_le z.frames frame ≡ is_frame_use FrameUse.Outside (use_of frame)
+
+-- Each word of its frame that an actor has filled is the one of the page that it looked at, and so is the one that it has copied for the next, if the frame
+-- has one.
+pub record IsCopied (words : ℕ) (content : ℕ → ℕ) (t : Topics) (o : OwnedFrame) : Type 0 where
+  pub stored : (j : ℕ) → j < o.filled → content (words * o.frame + j) ≡ content (words * host_frame (word_looked t.host) + j)
+  pub held : (v : ℕ) → o.copied ≡ Some v → (o.filled < words) × (content (words * host_frame (word_looked t.host) + o.filled) ≡ v)
+
+-- So it is for each actor whose own invalidation is open.
+abbrev pub CopiedPart : Sizes → ℕ → (ℕ → ℕ) → (ℕ → Topics) → Type 0
+CopiedPart z n content topics =
+    (i : ℕ) (o : OwnedFrame) → i < n → (topics i).invalidations.opened ≡ true → (topics i).frames.owned ≡ Some o → IsCopied z.words content (topics i) o

@@ -1,0 +1,135 @@
+-- Which events are no move of a page, nor a move that is refused a frame: all that lines tell but at the claim of a frame and at the exchange of a host word.
+use Rattle.std.proofs.Common.{◌≡◌, List, [], ◌∷◌, ◌++◌, ℕ, refl}
+use Rattle.std.specs.Prelude.{Bool, true, false, ◌==◌, if◌then◌else◌, Option, Some, None}
+use Rattle.core_views.specs.declared.actor.Actor.{Actor}
+use Rattle.core_views.specs.declared.answer.Answer.TheVariants.{Refused, Starved}
+use Rattle.core_views.specs.declared.answer.Refusal.TheVariants.{NoFrame}
+use Rattle.core_views.specs.declared.event.EventKind.{EventKind}
+use Rattle.core_views.specs.declared.event.EventKind.TheVariants.{BroughtIn, Exited, HostChanged, LookedAtHost, LookedAtSlots}
+use Rattle.core_views.specs.declared.place.AccessPlace.{AccessPlace}
+use Rattle.core_views.specs.declared.place.AccessPlace.TheVariants as access
+use Rattle.core_views.specs.declared.place.FaultEnd.{FaultEnd}
+use Rattle.core_views.specs.declared.place.FaultEnd.TheVariants as end_of
+use Rattle.core_views.specs.declared.place.FaultPlace.TheVariants as fault
+use Rattle.core_views.specs.declared.place.HostPlace.TheVariants as host
+use Rattle.core_views.specs.declared.place.Place.{Place}
+use Rattle.core_views.specs.declared.place.Place.TheVariants as place
+use Rattle.core_views.specs.declared.place.SlotChangePlace.{SlotChangePlace}
+use Rattle.core_views.specs.declared.place.SlotChangePlace.TheVariants as change_at
+use Rattle.core_views.specs.declared.sizes.Sizes.{Sizes}
+use Rattle.core_views.specs.declared.slot_set.MemorySlot.{MemorySlot}
+use Rattle.core_views.specs.declared.trace.Command.{Command}
+use Rattle.core_views.specs.declared.trace.Command.TheVariants.{Access, ChangeHost}
+use Rattle.core_views.specs.declared.trace.Line.{Line}
+use Rattle.core_views.specs.declared.trace.Op.{Op}
+use Rattle.core_views.specs.Alone.{TakeLowest, TakesLowest}
+use Rattle.core_views.specs.Events.{after}
+use Rattle.core_views.specs.Flat.{Facts, Flat}
+use Rattle.core_views.specs.Held.{Held}
+use Rattle.core_views.specs.HostChanges.{is_own}
+use Rattle.core_views.specs.SlotCommands.{slot_change}
+use Rattle.core_views.specs.SlotSets.{MemorySlots}
+use Rattle.part_steps.specs.PartTasks.{page_looked, word_looked}
+use Rattle.mmu_core.specs.declared.outcome.Outcome.{Outcome}
+use Rattle.mmu_core.specs.declared.outcome.Outcome.TheVariants.{Goes, Ends}
+use Rattle.mmu_core.specs.lines.AccessSteps.{access_tells, exiting, fault_over}
+use Rattle.mmu_core.specs.declared.claim.FreeMap.TheVariants.{Pages}
+use Rattle.mmu_core.specs.lines.ClaimSteps.{claim_next}
+use Rattle.mmu_core.specs.lines.Forms.{first_place, tells_at}
+use Rattle.mmu_core.specs.lines.SlotChangeSteps.{changed, slot_change_tells}
+use Rattle.mmu_core.specs.machine.Outcomes.{answering}
+use Rattle.mmu_core.specs.machine.Steps.{beginning}
+use Rattle.mmu_core.proofs.lines.EitherPlace.{each_claim, either_place}
+use Rattle.mmu_laws.proofs.flat.Told.{told}
+
+abbrev pub IsNoMove : EventKind → Type 0
+IsNoMove (Exited (Refused NoFrame)) = ⊥
+IsNoMove (HostChanged page entry) = ⊥
+IsNoMove _ = Unit {0}
+
+abbrev pub AreNoMoves : List EventKind → Type 0
+AreNoMoves [] = Unit {0}
+AreNoMoves (kind ∷ kinds) = IsNoMove kind × AreNoMoves kinds
+
+-- ---- what follows
+
+no_move_takes : (z : Sizes) (f : Facts) (command : Command) (kind : EventKind) → IsNoMove kind → TakesLowest z f command kind
+no_move_takes z f command (Exited (Refused NoFrame)) none = absurd none
+no_move_takes z f command (HostChanged page entry) none = absurd none
+no_move_takes z f command _ none = tt
+
+pub no_moves_take : (z : Sizes) (f : Flat) (actor : Actor) (kinds : List EventKind) → AreNoMoves kinds → TakeLowest z f (told actor kinds)
+no_moves_take z f actor [] none = tt
+no_moves_take z f actor (kind ∷ kinds) none =
+    (no_move_takes z f.facts (f.under actor).line.command kind none.0, no_moves_take z (after (record { actor = actor; kind = kind }) f) actor kinds none.1)
+
+no_moves_append : (xs ys : List EventKind) → AreNoMoves xs → AreNoMoves ys → AreNoMoves (xs ++ ys)
+no_moves_append [] ys one other = other
+no_moves_append (x ∷ xs) ys one other = (one.0, no_moves_append xs ys one.1 other)
+
+-- A line's begin is none, nor is its answer.
+begin_no_move : (stood : Place) (line : Line) → AreNoMoves (beginning stood line)
+begin_no_move place.Between line = (tt, tt)
+begin_no_move _ line = tt
+
+answer_no_move : (o : Outcome) (line : Line) → AreNoMoves (answering o line)
+answer_no_move (Goes p) line = tt
+answer_no_move (Ends answer) line = (tt, tt)
+
+pub whole_no_move : (stood : Place) (line : Line) (kinds : List EventKind) (o : Outcome) → AreNoMoves kinds
+    → AreNoMoves (beginning stood line ++ (kinds ++ answering o line))
+whole_no_move stood line kinds o none =
+    no_moves_append (beginning stood line) (kinds ++ answering o line) (begin_no_move stood line)
+    (no_moves_append kinds (answering o line) none (answer_no_move o line))
+
+-- ---- which steps tell none
+
+-- The line stands at its claim of a frame, or at its exchange of a host word.
+abbrev pub moves_at : Place → Command → Bool
+moves_at (place.Host (host.Claim begun)) (ChangeHost page change) = true
+moves_at (place.Host host.Change) (ChangeHost page change) = true
+moves_at _ _ = false
+
+-- No line begins there.
+pub first_moves_not : (z : Sizes) (slots : MemorySlots) (command : Command) → moves_at (first_place z slots command) command ≡ false
+first_moves_not z slots (Access gfn word op) = refl
+first_moves_not z slots (ChangeHost page change) = refl
+first_moves_not z slots _ = refl
+
+end_no_move : (e : FaultEnd) → AreNoMoves (exiting (fault_over e))
+end_no_move end_of.Installed = tt
+end_no_move end_of.Mmio = (tt, tt)
+end_no_move end_of.HostFault = (tt, tt)
+end_no_move end_of.Starved = (tt, tt)
+end_no_move (end_of.Retry cause) = tt
+
+access_no_move : (p : AccessPlace) (h : Held) (gfn word : ℕ) (op : Op) (v : ℕ) → AreNoMoves (access_tells p h gfn word op v)
+access_no_move (access.Pause again) h gfn word op v = (tt, tt)
+access_no_move access.Touch h gfn word op v = (tt, tt)
+access_no_move (access.Fault (fault.Find begun)) h gfn word op v = either_place AreNoMoves begun [] (LookedAtSlots ∷ []) tt (tt, tt)
+access_no_move (access.Fault fault.Host) h gfn word op v = (tt, tt)
+access_no_move (access.Fault fault.Bring) h gfn word op v =
+    either_place AreNoMoves (v == word_looked h.topics.host) (BroughtIn (page_looked h.topics.host) ∷ []) [] (tt, tt) tt
+access_no_move (access.Fault (fault.End e)) h gfn word op v = end_no_move e
+access_no_move _ h gfn word op v = tt
+
+changed_no_move : (change : Option (ℕ × Option MemorySlot)) → AreNoMoves (changed change)
+changed_no_move None = tt
+changed_no_move (Some (id, slot)) = (tt, tt)
+
+change_no_move : (p : SlotChangePlace) (h : Held) (command : Command) (v : ℕ) → AreNoMoves (slot_change_tells p h command v)
+change_no_move (change_at.Claim begun) h command v =
+    each_claim (λ o. AreNoMoves (exiting o)) (claim_next Pages begun h.state.sizes h.topics.claim v) (place.SlotChange (change_at.Claim true))
+    (place.SlotChange change_at.Fill) Starved tt tt (tt, tt)
+change_no_move change_at.Publish h command v = changed_no_move (slot_change h.slots command)
+change_no_move _ h command v = tt
+
+pub tells_no_move : (p : Place) (command : Command) (h : Held) (v : ℕ) → moves_at p command ≡ false → AreNoMoves (tells_at p command h v)
+tells_no_move (place.Access p) (Access gfn word op) h v other = access_no_move p h gfn word op v
+tells_no_move (place.SlotChange p) command h v other = change_no_move p h command v
+tells_no_move (place.Host (host.Claim begun)) (ChangeHost page change) h v other = absurd (cc other)
+tells_no_move (place.Host host.Change) (ChangeHost page change) h v other = absurd (cc other)
+tells_no_move (place.Host (host.Look moving)) (ChangeHost page change) h v other =
+    either_place AreNoMoves (is_own h.state.sizes h.state.actor page) (LookedAtHost page ∷ []) [] (tt, tt) tt
+tells_no_move (place.Host p) (ChangeHost page change) h v other = tt
+tells_no_move _ _ h v other = tt
