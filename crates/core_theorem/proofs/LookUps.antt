@@ -1,35 +1,27 @@
--- A slot that an actor has found is live: the set that it holds is the published one, or an old one, whose slots are all live still.
-use Rattle.std.proofs.Common.{◌≡◌, ◌⊎◌, inl, inr, ◌-◌, ◌<◌, ℕ, refl, subst}
-use Rattle.std.specs.Prelude.{true}
-use Rattle.core_views.specs.declared.sizes.Sizes.{Sizes}
-use Rattle.core_views.specs.Held.{Held}
-use Rattle.core_views.specs.Sizes.{actors_of}
+-- What actors have looked up of slots and host is so still, while the sequence number is the one that they took before.
+use Rattle.std.proofs.Common.{refl}
 use Rattle.spte_words.specs.declared.area.Area.TheVariants as area
-use Rattle.mmu_core.specs.invariant.HeldPart.{HoldsOld}
-use Rattle.mmu_core.specs.invariant.Laws.{IsSound}
-use Rattle.mmu_core.specs.invariant.SlotSetPart.{IsLiveIn}
-use Rattle.mmu_core.specs.machine.Machine.{World, run}
 use Rattle.mmu_core.specs.machine.Enabled.{mmu}
-use Rattle.mmu_core.specs.machine.View.{word_in}
-use Rattle.core_theorem.specs.LookUps.{FoundSlotsAreLive, LookedUpPagesStand, topics_in}
+use Rattle.mmu_core.specs.machine.Machine.{run}
+use Rattle.mmu_core.specs.machine.View.{view, word_in}
+use Rattle.mmu_core.proofs.held.OldSets.{held_are_slots}
+use Rattle.core_theorem.specs.LookUps.{FoundSlotsAreHeld, HeldSlotsStand, LookedUpPagesStand}
 use Rattle.core_theorem.proofs.Runs.{sound}
 
-live_still : (z : Sizes) (u : World Held) → IsSound z u → (actor : ℕ) → actor < actors_of z → (topics_in u actor).search.whole ≡ true
-    → IsLiveIn (word_in z u area.Pool) (word_in z u area.Slots 0) ((topics_in u actor).search.id - 1) (topics_in u actor).search.slot
-live_still z u G actor there whole =
+pub found_slots_are_held : FoundSlotsAreHeld
+found_slots_are_held z lines w ss R actor there whole =
+    let G = sound z lines w ss R in
     let S = G.topics.searches actor there in
     let held = S.held whole in
-    by held.0 (S.whole held.0 held.1 whole).1 (G.topics.sets actor held.0 there held.1)
-  where
-    Live : ℕ → Type 0
-    Live set = IsLiveIn (word_in z u area.Pool) set ((topics_in u actor).search.id - 1) (topics_in u actor).search.slot
+    record {
+      set = held.0;
+      held = held.1;
+      slots = held_are_slots z (view z (run mmu w ss)) actor held.0 there G.topics G.holds.set_part.slots held.1;
+      live = (S.whole held.0 held.1 whole).1;
+    }
 
-    by : (set : ℕ) → Live set → (set ≡ word_in z u area.Slots 0) ⊎ HoldsOld (actors_of z) (topics_in u) actor set → Live (word_in z u area.Slots 0)
-    by set live (inl e) = subst Live e live
-    by set live (inr H) = G.topics.old_sets H.by set H.there H.leaves ((topics_in u actor).search.id - 1) (topics_in u actor).search.slot live
-
-pub found_slots_are_live : FoundSlotsAreLive
-found_slots_are_live z lines w ss R actor there whole = live_still z (run mmu w ss) (sound z lines w ss R) actor there whole
+pub held_slots_stand : HeldSlotsStand
+held_slots_stand z lines w ss R = (sound z lines w ss R).topics.held_slots
 
 pub looked_up_pages_stand : LookedUpPagesStand
 looked_up_pages_stand z lines w ss R actor look there is taken none =

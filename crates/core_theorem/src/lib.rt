@@ -9,7 +9,7 @@ ghost use Rattle.core_theorem.specs.Holdings.{WatchedHoldNoOldSet};
 ghost use Rattle.core_theorem.specs.Frames.{CopiedWordsAreThePages, EachFrameHasOneUse, FramesAreReusedAlone, WatchedHoldNoOldFrame};
 ghost use Rattle.core_theorem.specs.Leaves.{HeldLeavesAgree, LinkedLeavesAgree, TranslationsAgree, UsedLeavesAgree};
 ghost use Rattle.core_theorem.specs.Locks.{LockIsKept};
-ghost use Rattle.core_theorem.specs.LookUps.{FoundSlotsAreLive, LookedUpPagesStand};
+ghost use Rattle.core_theorem.specs.LookUps.{FoundSlotsAreHeld, HeldSlotsStand, LookedUpPagesStand};
 ghost use Rattle.core_theorem.specs.OpenFrames.{OpenFramesAreFlushed, OpenFramesAreOfThePage, OpenFramesAreRecorded, OpenFramesAreZapped};
 ghost use Rattle.core_theorem.specs.Pages.{EachPageHasOneUse};
 ghost use Rattle.core_theorem.specs.Runs.{TellsLawfully, WordsStandForFacts};
@@ -35,10 +35,12 @@ ghost use Rattle.core_theorem.specs.Walks.{WalksHoldTables};
 /// has asked for a first flush, no links lead such a guest frame from the root to a leaf.
 /// `flushed`: a virtual processor whose flush was awaited, and which is in the guest or
 /// has no flush asked of it, has nothing cached of such a guest frame. `found`: the slot
-/// that an actor has found is live in the published set. `looked`: what an actor has
-/// looked up of a host page is so still, while the sequence number is the one that it took
-/// before and no invalidation of the page is open that has yet to raise it; but an absent
-/// page may have been brought in. `lock`: the lock's word counts its readers and has the
+/// that an actor has found is one of the slot set that it holds, of which no two slots
+/// meet. `held_slots`: of each guest frame this set says what the published one says,
+/// while the sequence number is the one that the actor took before and no invalidation of
+/// the frame is open that has yet to raise it. `looked`: so is what an actor has looked up
+/// of a host page, while no invalidation of the page is; but an absent page may have been
+/// brought in. `lock`: the lock's word counts its readers and has the
 /// bit of its one writer, beside whom none has it as a reader. `grace`: what an actor holds of tables and slot sets isn't free. `sets`,
 /// `watched`: a slot set that an actor holds is the published one, or an old one, held in
 /// a section and leaving for another actor, whose watch hasn't passed this one since; so
@@ -89,7 +91,8 @@ pub fn every_run()
     ensures scopes { OpenFramesAreOfThePage }
     ensures zapped { OpenFramesAreZapped }
     ensures flushed { OpenFramesAreFlushed }
-    ensures found { FoundSlotsAreLive }
+    ensures found { FoundSlotsAreHeld }
+    ensures held_slots { HeldSlotsStand }
     ensures looked { LookedUpPagesStand }
     ensures lock { LockIsKept }
     ensures grace { NoneHoldsFreePages }

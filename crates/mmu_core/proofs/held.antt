@@ -18,6 +18,8 @@ pub mod MovingPlaces
 pub mod OpenFrames
 pub mod FreshFrames
 pub mod OldSets
+pub mod Invalidating
+pub mod HeldSlotsKept
 pub mod OthersStay
 pub mod SawWriterKept
 pub mod SearchKept

@@ -2,9 +2,20 @@
 //! kinds of line make in the same order.
 ghost use Rattle.std.specs.Prelude.{◌≡◌, ◌<◌, ◌^◌, true};
 ghost use Rattle.core_views.specs.Sizes.{AreSizes};
-ghost use Rattle.mmu_core.specs.lines.ClaimSteps.{claim_next, claim_part, loads_last_word, map_word, map_words, tries_one};
+ghost use Rattle.mmu_core.specs.lines.ClaimSteps.{
+  claim_next,
+  claim_over,
+  claim_part,
+  load_part,
+  loads_last_word,
+  map_area,
+  map_word,
+  map_words,
+  tries_one,
+  try_part,
+};
 
-use core_views::{MapClaim, Sizes};
+use core_views::{MapClaim, Sizes, Topics};
 use part_steps::{PartStep, is_won, map_of};
 use spte_words::Area;
 
@@ -18,17 +29,53 @@ pub enum FreeMap {
 }
 
 impl FreeMap {
-    // How many words it has.
-    fn words(self, sizes: &Sizes) -> u64
+    /// The area of its words.
+    pub fn area(self) -> Area
+        ensures { result ≡ map_area self }
+    {
+        match self {
+            FreeMap::Pages => Area::PoolMap,
+            FreeMap::Frames => Area::FrameMap,
+        }
+    }
+
+    /// How many words it has.
+    pub fn words(self, sizes: &Sizes) -> u64
         requires { AreSizes sizes.now }
         ensures is { result ≡ map_words self sizes.now }
         ensures few { result < 2 ^ 32 }
     {
-        let area = match self {
-            FreeMap::Pages => Area::PoolMap,
-            FreeMap::Frames => Area::FrameMap,
-        };
-        map_of(sizes).size_of(area) as u64
+        map_of(sizes).size_of(self.area()) as u64
+    }
+
+    /// What an actor holds of its claim in it.
+    pub fn claim_of(self, topics: &Topics) -> MapClaim
+        ensures { result ≡ claim_over self topics.now }
+    {
+        match self {
+            FreeMap::Pages => topics.claim,
+            FreeMap::Frames => topics.frames.claim,
+        }
+    }
+
+    /// The step that loads this word of it.
+    pub fn load_part(self, word: u64) -> PartStep
+        ensures { result ≡ load_part self word }
+    {
+        match self {
+            FreeMap::Pages => PartStep::Map(word),
+            FreeMap::Frames => PartStep::FrameMap(word),
+        }
+    }
+
+    /// The step that tries one of those seen free in the word loaded last.
+    pub fn try_part(self) -> PartStep
+        ensures { result ≡ try_part self }
+    {
+        match self {
+            FreeMap::Pages => PartStep::Claim,
+            FreeMap::Frames => PartStep::Frame,
+        }
     }
 }
 
@@ -59,12 +106,10 @@ fn map_word(begun: bool, claim: &MapClaim) -> u64
 pub(crate) fn claim_part(map: FreeMap, begun: bool, claim: &MapClaim) -> PartStep
     ensures { result ≡ claim_part map begun claim.now }
 {
-    let word = map_word(begun, claim);
-    match map {
-        FreeMap::Pages if tries_one(begun, claim) => PartStep::Claim,
-        FreeMap::Pages => PartStep::Map(word),
-        FreeMap::Frames if tries_one(begun, claim) => PartStep::Frame,
-        FreeMap::Frames => PartStep::FrameMap(word),
+    if tries_one(begun, claim) {
+        map.try_part()
+    } else {
+        map.load_part(map_word(begun, claim))
     }
 }
 

@@ -1,6 +1,6 @@
 -- What the two steps of a claim need, answer and leave, in either map.
 use Rattle.std.proofs.Common.{◌≡◌, ◌+◌, ◌*◌, ◌^◌, ◌<◌, ℕ, Option, Some, None, refl, sym, ap, ◌∙◌, bit_and, w64}
-use Rattle.std.specs.Prelude.{Bool, true, false, ◌==◌, if◌then◌else◌}
+use Rattle.std.specs.Prelude.{Bool, true, false, ◌==◌, if◌then◌else◌, not}
 use Rattle.std.specs.Int.{bit_not}
 use Rattle.core_views.specs.declared.topics.MapClaim.{MapClaim}
 use Rattle.core_views.specs.declared.topics.OwnedFrame.{OwnedFrame}
@@ -17,6 +17,7 @@ use Rattle.mmu_core.specs.declared.claim.FreeMap.{FreeMap}
 use Rattle.mmu_core.specs.declared.claim.FreeMap.TheVariants.{Pages, Frames}
 use Rattle.mmu_core.specs.invariant.Scans.{OwnsNone}
 use Rattle.mmu_core.specs.lines.ClaimSteps.{claim_over, load_part, map_area, map_words, try_part}
+use Rattle.mmu_core.specs.lines.PartWaits.{part_waits}
 use Rattle.mmu_core.specs.machine.View.{answer_in, words_after}
 use Rattle.mmu_core.proofs.machine.Columns.{upd_same}
 use Rattle.table_pool.specs.Maps.{frame_got, got_in, page_got, with_claim, with_got}
@@ -67,6 +68,11 @@ owns_same Frames claim t none = none
 pub try_claims : (map : FreeMap) (t : Topics) (v : ℕ) → claim_over map (part_topics (try_part map) t v) ≡ tried (claim_over map t) v
 try_claims Pages t v = refl
 try_claims Frames t v = refl
+
+-- A try waits where it is lost.
+pub try_waits : (map : FreeMap) (t : Topics) (v : ℕ) → part_waits (try_part map) t v ≡ not (is_won (claim_over map t) v)
+try_waits Pages t v = refl
+try_waits Frames t v = refl
 
 -- the page or frame that a try gets, if it is won
 abbrev pub got_by : MapClaim → ℕ → Option ℕ

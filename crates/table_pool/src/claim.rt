@@ -8,6 +8,7 @@ ghost use Rattle.mmu_core.specs.machine.Worlds.{HandReached};
 ghost use Rattle.step_seats.specs.Moves.{KeepsRoom};
 ghost use Rattle.step_seats.specs.PartTurns.{TurnsPart, waits};
 ghost use Rattle.step_seats.specs.declared.turn.Turn.TheVariants.{More, Done};
+ghost use Rattle.table_pool.specs.Maps.{got_in};
 ghost use Rattle.table_pool.specs.Claims.{
   ClaimTurn,
   GoesOnWhereSawStands,
@@ -20,10 +21,21 @@ ghost use Rattle.table_pool.specs.Claims.{
 };
 ghost use Rattle.table_pool.specs.declared.claim.Claimed.TheVariants.{Got};
 
-use crate::maps::{claim_over, got_in, load_part, map_words, try_part, word_of};
-use core_views::{Hand, Seen};
+use core_views::{Hand, Seen, Topics};
 use mmu_core::{FreeMap, part_rests};
+use part_steps::map_of;
 use step_seats::{Stepper, Turn, make_part};
+
+// The page, or the frame, that the actor owns.
+fn got_in(map: FreeMap, topics: &Topics) -> Option<u64>
+    ensures { result ≡ got_in map topics.now }
+{
+    match (map, topics.owned, topics.frames.owned) {
+        (FreeMap::Pages, Some(owned), _) => Some(owned.page),
+        (FreeMap::Frames, _, Some(owned)) => Some(owned.frame),
+        _ => None,
+    }
+}
 
 /// What a claim ended with.
 #[derive(Clone, Copy, Debug, PartialEq, Eq, Drop)]
@@ -87,10 +99,10 @@ impl Claim {
     {
         part_rests(s.hand());
         let sizes = s.hand().progress().sizes;
-        let claim = claim_over(self.map, s.hand().topics());
+        let claim = self.map.claim_of(s.hand().topics());
         if self.begun && claim.seen > 0 {
-            let word = word_of(self.map, &sizes, claim.at);
-            let value = make_part(s, try_part(self.map), note);
+            let word = map_of(&sizes).word_of(self.map.area(), claim.at);
+            let value = make_part(s, self.map.try_part(), note);
             return match got_in(self.map, s.hand().topics()) {
                 Some(one) => Turn::Done(Claimed::Got(one)),
                 None => Turn::Wait(Seen { word, value }),
@@ -98,8 +110,8 @@ impl Claim {
         }
         let word = if self.begun { claim.at } else { 0 };
         self.begun = true;
-        let _ = make_part(s, load_part(self.map, word), note);
-        if claim_over(self.map, s.hand().topics()).at < map_words(self.map, &sizes) {
+        let _ = make_part(s, self.map.load_part(word), note);
+        if self.map.claim_of(s.hand().topics()).at < self.map.words(&sizes) {
             Turn::More
         } else {
             Turn::Done(Claimed::Empty)

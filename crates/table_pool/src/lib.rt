@@ -7,7 +7,6 @@
 
 mod claim;
 mod laws;
-mod maps;
 mod page;
 
 pub use claim::{Claim, Claimed};

@@ -15,7 +15,7 @@ use Rattle.mmu_core.proofs.pages.FrameUses.{frames_apart}
 use Rattle.mmu_core.proofs.start.Starts.{start_good}
 use Rattle.core_theorem.proofs.Begins.{lines_are_open}
 use Rattle.core_theorem.proofs.DelayCauses.{between_lines_see_nothing, delays_have_causes, starts_saw_nothing, waits_have_causes, waits_see_another}
-use Rattle.core_theorem.proofs.LookUps.{found_slots_are_live, looked_up_pages_stand}
+use Rattle.core_theorem.proofs.LookUps.{found_slots_are_held, held_slots_stand, looked_up_pages_stand}
 use Rattle.core_theorem.proofs.Frames.{copied_words_are_the_pages, frames_are_reused_alone, frames_are_used, watched_hold_no_old_frame}
 use Rattle.core_theorem.proofs.Holdings.{held_sets_are_known, none_holds_free_pages, pages_are_reused_alone, watched_hold_no_old_set}
 use Rattle.core_theorem.proofs.LineTurns.{lines_make_few_steps}
@@ -74,7 +74,10 @@ returns-clause-flushed c z lines w ss R actor v there opened low awaited may =
     open_frames_are_flushed z _ actor v (sound z lines w ss R) there opened low awaited may
 
 pub returns-clause-found : goal.returns-clause-found
-returns-clause-found c = found_slots_are_live
+returns-clause-found c = found_slots_are_held
+
+pub returns-clause-held_slots : goal.returns-clause-held_slots
+returns-clause-held_slots c = held_slots_stand
 
 pub returns-clause-looked : goal.returns-clause-looked
 returns-clause-looked c = looked_up_pages_stand

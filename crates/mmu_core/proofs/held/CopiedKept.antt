@@ -92,7 +92,7 @@ module _ (z : Sizes) (v : View) (a gfn : ℕ) (write : Bool) (I : Invariant z v)
       let page : ℕ = page_of L.slot gfn in
       let w : ℕ = v.words area.Host page in
       let fits : L.slot.host + L.slot.pages ≤ z.pages =
-      subst (λ (s : SlotOf). s.host + s.pages ≤ z.pages) L.live.is (I.set_part.fits L.id L.live.low L.live.live).pages in
+      subst (λ (s : SlotOf). s.host + s.pages ≤ z.pages) L.live.is (I.set_part.slots.fits L.id L.live.low L.live.live).pages in
       let in_ : page < z.pages = in_machine z gfn L.slot fits L.holds in
       let B = behind_it L.slot gfn L.holds in
       record {

@@ -1,6 +1,6 @@
 -- What was checked under the lock, of open invalidations: none is of the guest frame, so none is of its page. And which leaves a change of a host word leaves.
 use Rattle.std.proofs.Common.{◌≡◌, ◌≢◌, ◌⊎◌, inl, inr, ◌+◌, ◌-◌, ◌<◌, ◌≤◌, ℕ, refl, sym, subst, ap, ◌∙◌, arith}
-use Rattle.std.specs.Prelude.{Bool, true, false, nat_le, ◌&&◌, nat_lt, ◌==◌, if◌then◌else◌}
+use Rattle.std.specs.Prelude.{Bool, true, false, nat_le, ◌&&◌, nat_lt, ◌==◌, if◌then◌else◌, Some}
 use Rattle.std.proofs.lemmas.Bool.Decides.{nat_tests}
 use Rattle.core_views.specs.declared.sizes.Sizes.{Sizes}
 use Rattle.core_views.specs.declared.topics.Invalidations.{Invalidations}
@@ -18,13 +18,13 @@ use Rattle.part_steps.specs.SlotWords.{leaf_of, page_of}
 use Rattle.part_steps.specs.StayTopics.{has_lock}
 use Rattle.mmu_core.specs.invariant.InvalidatedPart.{Gives, IsIn}
 use Rattle.mmu_core.specs.invariant.InvalidationsPart.{knows_seq}
-use Rattle.mmu_core.specs.invariant.SearchPart.{IsUnder}
+use Rattle.mmu_core.specs.invariant.SearchPart.{IsInvalidating, IsOnPage}
+use Rattle.mmu_core.specs.invariant.SlotSetPart.{IsLiveIn}
 use Rattle.mmu_core.specs.invariant.TopicsInvariant.{TopicsInvariant}
 use Rattle.mmu_core.specs.machine.View.{View, upd}
 use Rattle.mmu_core.specs.invariant.CachedPart.{IsLeafFor}
 use Rattle.mmu_core.proofs.machine.Columns.{same_or, upd_other, upd_same}
 use Rattle.mmu_core.proofs.held.OpenFrames.{none_opened}
-use Rattle.mmu_core.proofs.pages.TreeKept.{found_live}
 use Rattle.mmu_core.proofs.words.HostStays.{still_present}
 
 -- A guest frame that was checked under the lock is in no open invalidation.
@@ -53,6 +53,18 @@ fresh_in_none z v a i gfn I there lt lock fresh is_open is_in = by fresh.none_ov
     by (inl none) = absurd (some none)
     by (inr (inl before)) = let start = known.0 in let from = range.0 in omega (arith, before, start, from)
     by (inr (inr behind)) = let end_ = known.1 in let to = range.1 in omega (arith, behind, end_, to)
+
+-- No actor is invalidating it, so the slot that the fault has found for it is live in the published set.
+pub found_live : (z : Sizes) (v : View) (a gfn : ℕ) → a < actors_of z → TopicsInvariant z v → MayEnter gfn (v.hand a).topics
+    → IsLiveIn (v.words area.Pool) (v.words area.Slots 0) ((v.hand a).topics.search.id - 1) (v.hand a).topics.search.slot
+found_live z v a gfn lt I M =
+    let t : Topics = (v.hand a).topics in
+    let held = (I.searches a lt).held M.looked_up.found.whole in
+    let lock : has_lock t.hold ≡ true = ap has_lock M.shares in
+    I.held_slots a held.0 gfn (t.search.id - 1) t.search.slot lt held.1
+    (M.fresh.still ∙ ap Some ((I.checks a lt).numbered lock (ap knows_seq M.fresh.checked_all)))
+    (λ j low U. fresh_in_none z v a j gfn I lt low lock M.fresh U.opened U.of_it)
+    ((I.searches a lt).whole held.0 held.1 M.looked_up.found.whole).1 M.looked_up.found.holds
 
 -- A slot that has the guest frame gives it to the page behind it.
 pub behind_it : (slot : SlotOf) (gfn : ℕ) → contains gfn slot ≡ true
@@ -85,13 +97,13 @@ looked_word z v a gfn there I M =
     lock : has_lock t.hold ≡ true
     lock = ap has_lock M.shares
 
-    none : (j : ℕ) → j < actors_of z → IsUnder (page_of slot gfn) (v.hand j).topics → ⊥
+    none : (j : ℕ) → j < actors_of z → IsInvalidating (IsOnPage (page_of slot gfn)) (v.hand j).topics → ⊥
     none j lt U =
         let B = behind_it slot gfn M.looked_up.found.holds in
         let given : Gives (v.words area.Pool) (v.words area.Slots 0) (page_of slot gfn) gfn =
-        record { id = t.search.id - 1; slot = slot; live = found_live z v a gfn there I M.looked_up.found; has = B.0; is = B.1 } in
+        record { id = t.search.id - 1; slot = slot; live = found_live z v a gfn there I M; has = B.0; is = B.1 } in
         fresh_in_none z v a j gfn I there lt lock M.fresh U.opened
-        ((I.scopes j lt U.opened).covers gfn (subst (λ p. Gives (v.words area.Pool) (v.words area.Slots 0) p gfn) (sym U.of_page) given))
+        ((I.scopes j lt U.opened).covers gfn (subst (λ p. Gives (v.words area.Pool) (v.words area.Slots 0) p gfn) (sym U.of_it) given))
 
 -- A leaf agrees still where its page's host word stays.
 pub leaf_same : (pool host : ℕ → ℕ) (set page word gfn leaf : ℕ) → (L : IsLeafFor pool host set gfn leaf)

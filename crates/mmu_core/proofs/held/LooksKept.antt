@@ -14,9 +14,10 @@ use Rattle.part_steps.specs.PartTopics.{exchanged_host, part_topics, sequenced}
 use Rattle.part_steps.specs.StayTopics.{has_lock, is_loose}
 use Rattle.mmu_core.specs.invariant.HostWordsPart.{IsHostWord, IsStill}
 use Rattle.mmu_core.specs.invariant.InvalidationsPart.{knows_seq}
-use Rattle.mmu_core.specs.invariant.SearchPart.{IsUnder, LookPart}
+use Rattle.mmu_core.specs.invariant.SearchPart.{IsInvalidating, IsOnPage, LookPart}
 use Rattle.mmu_core.specs.invariant.TopicsInvariant.{TopicsInvariant}
 use Rattle.mmu_core.specs.machine.View.{View, answer_in, part_stepped}
+use Rattle.mmu_core.proofs.held.Invalidating.{NoneInvalidating, invalidating_after, none_is_raised, raises_number, topics_now}
 use Rattle.mmu_core.proofs.machine.Columns.{at_upd, same_or, upd_other, upd_same}
 use Rattle.mmu_core.proofs.machine.PartStepping.{IsPart}
 use Rattle.mmu_core.proofs.words.HostStays.{IsRevised, brought_word, exchanged_word, put_word, still_brought}
@@ -25,10 +26,7 @@ use Rattle.mmu_core.proofs.words.PartTopics.{behind_step, part_behind}
 pub this_look : {page word : ℕ} {look : HostLook} → Some (record { page = page; word = word }) ≡ Some look → look ≡ record { page = page; word = word }
 this_look e = cc e
 
--- the topics after the actor's own step, and the host words
-abbrev pub topics_now : View → ℕ → ℕ → PartStep → Topics
-topics_now v a note step = part_topics step (v.hand a).topics (answer_in (part_task step a (v.hand a).topics note) v.words)
-
+-- the host words after the actor's own step
 abbrev pub host_now : View → ℕ → ℕ → PartStep → ℕ → ℕ
 host_now v a note step = (part_behind a step note v).words area.Host
 
@@ -107,28 +105,13 @@ own_look z v a note (part.SetSeq seq) S I =
 own_look z v a note _ S I =
     let L = was_look z v a I S.there in record { there = L.there; is_word = L.is_word; snapshot = L.snapshot }
 
--- ---- which invalidations are open over a page
-
-abbrev raises_number : PartStep → Bool
-raises_number (part.SetSeq seq) = true
-raises_number _ = false
-
-own_under : (z : Sizes) (v : View) (a note page : ℕ) (step : PartStep) → IsPart z v a step → TopicsInvariant z v → raises_number step ≡ false
-    → IsUnder page (v.hand a).topics → IsUnder page (topics_now v a note step)
-own_under z v a note page (part.SetSeq seq) S I other U = absurd (cc other)
-own_under z v a note page (part.SetStart gfn) S I other U = absurd (let closed = S.needs.0.opening.closed in let opened = U.opened in cc (closed, opened))
-own_under z v a note page (part.SetCount count) S I other U =
-    absurd (let raised = S.needs.closes U.opened in let unraised = U.unraised in cc (raised, unraised))
-own_under z v a note page _ S I other U = record { opened = U.opened; unraised = U.unraised; of_page = U.of_page }
-
--- Each that is open over it is so after a step that raises no number.
-under_behind : (z : Sizes) (v : View) (a note page : ℕ) (step : PartStep) → IsPart z v a step → TopicsInvariant z v → raises_number step ≡ false
-    → (j : ℕ) → IsUnder page (v.hand j).topics → IsUnder page ((part_behind a step note v).hand j).topics
-under_behind z v a note page step S I other =
-    at_upd (λ j (k : Held). IsUnder page (v.hand j).topics → IsUnder page k.topics) v.hand a _ (own_under z v a note page step S I other) (λ j ne U. U)
-
+-- No actor is invalidating the page.
 abbrev NoneUnder : Sizes → View → ℕ → Type 0
-NoneUnder z v page = (j : ℕ) → j < actors_of z → IsUnder page (v.hand j).topics → ⊥
+NoneUnder z v page = NoneInvalidating z v (IsOnPage page)
+
+under_behind : (z : Sizes) (v : View) (a note page : ℕ) (step : PartStep) → IsPart z v a step → raises_number step ≡ false → (j : ℕ)
+    → IsInvalidating (IsOnPage page) (v.hand j).topics → IsInvalidating (IsOnPage page) ((part_behind a step note v).hand j).topics
+under_behind z v a note page = invalidating_after z v a note (IsOnPage page)
 
 -- ---- what was looked up is still so
 
@@ -151,21 +134,11 @@ stays_still z v a note step S I other seq host own i lt look s at snapshot same 
     subst (λ (h : ℕ → ℕ). IsStill look.word (h look.page)) (sym host)
     (at_upd (λ j (k : Held). j < actors_of z → AreStill k.topics (v.words area.Seq 0) (v.words area.Host) (NoneUnder z v)) v.hand a _ (λ there. own)
     (λ j ne there. (I.looks j there).still)
-    i lt look s at snapshot (same ∙ seq) (λ j low U. none j low (under_behind z v a note look.page step S I other j U)))
+    i lt look s at snapshot (same ∙ seq) (λ j low U. none j low (under_behind z v a note look.page step S other j U)))
 
 -- No snapshot is the number that was raised.
 raised_still : (z : Sizes) (v : View) (a note seq : ℕ) → IsPart z v a (part.SetSeq seq) → TopicsInvariant z v → StillBehind z v a note (part.SetSeq seq)
-raised_still z v a note seq S I i lt look s at snapshot same none =
-    let is = S.needs.1 in
-    let loaded = (I.checks a S.there).numbered (ap has_lock S.needs.0.alone) (ap knows_seq S.needs.0.loaded) in
-    let early = early_snapshot i lt s snapshot in
-    absurd (omega (arith, early, same, is, loaded))
-  where
-    early_snapshot : (j : ℕ) → j < actors_of z → (n : ℕ) → ((part_behind a (part.SetSeq seq) note v).hand j).topics.invalidations.snapshot ≡ Some n
-        → n ≤ v.words area.Seq 0
-    early_snapshot =
-        at_upd (λ j (k : Held). j < actors_of z → (n : ℕ) → k.topics.invalidations.snapshot ≡ Some n → n ≤ v.words area.Seq 0) v.hand a _
-        (λ there. (I.looks a there).snapshot) (λ j ne there. (I.looks j there).snapshot)
+raised_still z v a note seq S I i lt look s at snapshot same none = absurd (none_is_raised z v a note seq S I i s lt snapshot same)
 
 -- The page that is changed is under the actor's own open invalidation.
 changed_still : (z : Sizes) (v : View) (a note new_ : ℕ) → IsPart z v a (part.Change new_) → TopicsInvariant z v → StillBehind z v a note (part.Change new_)
@@ -177,19 +150,19 @@ changed_still z v a note new_ S I i lt look s at snapshot same none = by (same_o
     page : ℕ
     page = page_looked t.host
 
-    under : IsUnder page ((part_behind a (part.Change new_) note v).hand a).topics
+    under : IsInvalidating (IsOnPage page) ((part_behind a (part.Change new_) note v).hand a).topics
     under =
-        under_behind z v a note page (part.Change new_) S I refl a
-        (record { opened = S.needs.0.opened; unraised = S.needs.0.unraised; of_page = S.needs.0.invalid })
+        under_behind z v a note page (part.Change new_) S refl a
+        (record { opened = S.needs.0.opened; unraised = S.needs.0.unraised; of_it = S.needs.0.invalid })
 
     by : (look.page ≡ page) ⊎ (look.page ≢ page) → IsStill look.word (host_now v a note (part.Change new_) look.page)
-    by (inl e) = absurd (none a S.there (subst (λ p. IsUnder p ((part_behind a (part.Change new_) note v).hand a).topics) (sym e) under))
+    by (inl e) = absurd (none a S.there (subst (λ p. IsInvalidating (IsOnPage p) ((part_behind a (part.Change new_) note v).hand a).topics) (sym e) under))
     by (inr ne) =
         subst (IsStill look.word) (sym (upd_other (v.words area.Host) page look.page _ ne))
         (at_upd (λ j (k : Held). j < actors_of z → AreStill k.topics (v.words area.Seq 0) (v.words area.Host) (λ p. NoneUnder z v p × (p ≢ page))) v.hand a _
         (λ there l n here e f free. absurd (free.1 (ap (λ (x : HostLook). x.page) (this_look here))))
         (λ j ne there l n here e f free. (I.looks j there).still l n here e f free.0) i lt look s at snapshot same
-        ((λ j low U. none j low (under_behind z v a note look.page (part.Change new_) S I refl j U)), ne))
+        ((λ j low U. none j low (under_behind z v a note look.page (part.Change new_) S refl j U)), ne))
 
 -- What an exchange leaves is what its actor has looked up then.
 pub own_now : (v : View) (a note page word : ℕ) (step : PartStep) (look : HostLook) → Some (record { page = page; word = word }) ≡ Some look
@@ -220,7 +193,7 @@ brought_still z v a note S I i lt look s at snapshot same none =
     at_upd (λ j (k : Held). j < actors_of z → AreStill k.topics (v.words area.Seq 0) (host_now v a note part.Bring) (NoneUnder z v)) v.hand a _
     (λ there l n here e f free. own_now v a note (page_looked (v.hand a).topics.host) _ part.Bring l here (upd_same (v.words area.Host) _ _))
     (λ j ne there l n here e f free. others_now z v a note S l ((I.looks j there).still l n here e f free))
-    i lt look s at snapshot same (λ j low U. none j low (under_behind z v a note look.page part.Bring S I refl j U))
+    i lt look s at snapshot same (λ j low U. none j low (under_behind z v a note look.page part.Bring S refl j U))
 
 still_behind : (z : Sizes) (v : View) (a note : ℕ) (step : PartStep) → IsPart z v a step → TopicsInvariant z v → StillBehind z v a note step
 still_behind z v a note (part.SetSeq seq) S I = raised_still z v a note seq S I

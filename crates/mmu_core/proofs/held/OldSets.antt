@@ -1,4 +1,4 @@
--- The slot sets that are held, or leaving: no step stores in their pages, and their slots are live in the published one.
+-- The slot sets that are held, or leaving: no step stores in their pages.
 use Rattle.std.proofs.Common.{◌≡◌, ◌≢◌, ◌⊎◌, inl, inr, ◌<◌, ◌≤◌, ℕ, refl, sym, subst, ap, ◌∙◌}
 use Rattle.std.specs.Prelude.{Bool, true, false, Option, Some, None}
 use Rattle.core_views.specs.declared.sizes.Sizes.{Sizes}
@@ -11,14 +11,14 @@ use Rattle.part_steps.specs.declared.part_step.PartStep.{PartStep}
 use Rattle.part_steps.specs.declared.part_step.PartStep.TheVariants as part
 use Rattle.mmu_core.specs.invariant.HeldPart.{HoldsOld, OldSetsPart}
 use Rattle.part_steps.specs.PartTasks.{own_index, page_owned, part_task, table_page}
-use Rattle.mmu_core.specs.invariant.SlotSetPart.{IsLiveIn}
+use Rattle.mmu_core.specs.invariant.SlotSetPart.{AreSlots}
 use Rattle.mmu_core.specs.invariant.TopicsInvariant.{TopicsInvariant}
 use Rattle.part_steps.specs.PageTopics.{still_leaving}
 use Rattle.mmu_core.specs.invariant.TreePart.{stands}
 use Rattle.mmu_core.specs.machine.View.{View, part_stepped, upd, answer_in}
 use Rattle.mmu_core.proofs.machine.Columns.{same_or, upd_other, upd_same}
 use Rattle.mmu_core.proofs.machine.PartStepping.{IsPart, is_publish}
-use Rattle.mmu_core.proofs.slots.LiveStay.{StayLive}
+use Rattle.mmu_core.proofs.slots.LiveStay.{slots_stay}
 use Rattle.mmu_core.proofs.slots.LiveStays.{SetStays, live_in_stays, published_stays, words_live}
 use Rattle.mmu_core.proofs.words.PartWords.{page_stays, slots_are, slots_same}
 use Rattle.mmu_core.proofs.pages.PoolPages.{left_no_table, left_not_owned}
@@ -104,20 +104,19 @@ held_words_stay z v a step note S I i k lt is = by (is_publish step) refl
     by true e = publish_leaves v a step note k e
     by false e = from e (sets_kept z v a step note S I i k lt is)
 
--- ---- The slots of a set that is held, or leaving, are live in the published one.
+-- ---- A set that is held, or leaving, is a slot set.
 
-pub set_live : (z : Sizes) (v : View) (a k : ℕ) → a < actors_of z → TopicsInvariant z v → (v.hand a).topics.search.set ≡ Some k
-    → StayLive (v.words area.Pool) k (v.words area.Pool) (v.words area.Slots 0)
-set_live z v a k lt I held = by (I.sets a k lt held)
+pub held_are_slots : (z : Sizes) (v : View) (a k : ℕ) → a < actors_of z → TopicsInvariant z v → AreSlots z (v.words area.Pool) (v.words area.Slots 0)
+    → (v.hand a).topics.search.set ≡ Some k → AreSlots z (v.words area.Pool) k
+held_are_slots z v a k lt I published held = by (I.sets a k lt held)
   where
-    by : (k ≡ v.words area.Slots 0) ⊎ HoldsOld (actors_of z) (λ j. (v.hand j).topics) a k
-        → StayLive (v.words area.Pool) k (v.words area.Pool) (v.words area.Slots 0)
-    by (inl e) = λ id slot L. subst (λ s. IsLiveIn (v.words area.Pool) s id slot) e L
+    by : (k ≡ v.words area.Slots 0) ⊎ HoldsOld (actors_of z) (λ j. (v.hand j).topics) a k → AreSlots z (v.words area.Pool) k
+    by (inl e) = subst (AreSlots z (v.words area.Pool)) (sym e) published
     by (inr H) = I.old_sets H.by k H.there H.leaves
 
 old_published : (z : Sizes) (v : View) (a note : ℕ) → IsPart z v a part.Publish → TopicsInvariant z v
-    → OldSetsPart (actors_of z) (page_owned (v.hand a).topics.owned) (v.words area.Pool) (λ i. ((part_stepped a part.Publish note v).hand i).topics.leaving)
-old_published z v a note S I i k lt is id slot L = by (same_or i a)
+    → OldSetsPart z (actors_of z) (v.words area.Pool) (λ i. ((part_stepped a part.Publish note v).hand i).topics.leaving)
+old_published z v a note S I i k lt is = by (same_or i a)
   where
     h : Held
     h =
@@ -127,29 +126,21 @@ old_published z v a note S I i k lt is id slot L = by (same_or i a)
     some_page : {x y : ℕ} → Some x ≡ Some y → x ≡ y
     some_page e = cc e
 
-    by : (i ≡ a) ⊎ (i ≢ a) → IsLiveIn (v.words area.Pool) (page_owned (v.hand a).topics.owned) id slot
+    by : (i ≡ a) ⊎ (i ≢ a) → AreSlots z (v.words area.Pool) k
     by (inl e) =
         let now_leaves : Some (v.words area.Slots 0) ≡ Some k =
         sym (left_is part.Publish (v.hand a).state.sizes (own_index (v.hand a)) (v.hand a).topics note (v.words area.Slots 0))
         ∙ (sym (ap (λ (g : Held). g.topics.leaving) (upd_same v.hand a h)) ∙ (ap (λ j. (upd v.hand a h j).topics.leaving) (sym e) ∙ is)) in
-        S.replaces id slot (subst (λ s. IsLiveIn (v.words area.Pool) s id slot) (sym (some_page now_leaves)) L)
-    by (inr ne) = S.replaces id slot (I.old_sets i k lt (sym (ap (λ (g : Held). g.topics.leaving) (upd_other v.hand a i h ne)) ∙ is) id slot L)
-
-old_stay : (z : Sizes) (v : View) (a : ℕ) (step : PartStep) (note : ℕ) → IsPart z v a step → TopicsInvariant z v → is_publish step ≡ false
-    → OldSetsPart (actors_of z) (v.words area.Slots 0) ((part_stepped a step note v).words area.Pool)
-    (λ i. ((part_stepped a step note v).hand i).topics.leaving)
-old_stay z v a step note S I never i k lt is id slot L =
-    let left = left_before z v a step note i k never is in
-    let pool : ℕ → ℕ = v.words area.Pool in
-    let after : ℕ → ℕ = (part_stepped a step note v).words area.Pool in
-    let old_words : SetStays k pool after = left_words_stay z v a step note S I i k lt left in
-    live_in_stays (v.words area.Slots 0) pool after id slot (words_live (v.words area.Slots 0) pool after (published_stays z v a step note S I))
-    (I.old_sets i k lt left id slot (live_in_stays k after pool id slot (words_live k after pool (λ j low. sym (old_words j low))) L))
+        subst (AreSlots z (v.words area.Pool)) (some_page now_leaves) S.replaces.old
+    by (inr ne) = I.old_sets i k lt (sym (ap (λ (g : Held). g.topics.leaving) (upd_other v.hand a i h ne)) ∙ is)
 
 pub old_sets_kept : (z : Sizes) (v : View) (a : ℕ) (step : PartStep) (note : ℕ) → IsPart z v a step → TopicsInvariant z v
-    → OldSetsPart (actors_of z) ((part_stepped a step note v).words area.Slots 0) ((part_stepped a step note v).words area.Pool)
-    (λ i. ((part_stepped a step note v).hand i).topics.leaving)
+    → OldSetsPart z (actors_of z) ((part_stepped a step note v).words area.Pool) (λ i. ((part_stepped a step note v).hand i).topics.leaving)
 old_sets_kept z v a part.Publish note S I = old_published z v a note S I
-old_sets_kept z v a step note S I =
-    subst (λ s. OldSetsPart (actors_of z) s ((part_stepped a step note v).words area.Pool) (λ i. ((part_stepped a step note v).hand i).topics.leaving))
-    (sym (slots_are v a step note ∙ slots_same step (v.hand a).topics (v.words area.Slots 0) refl)) (old_stay z v a step note S I refl)
+old_sets_kept z v a step note S I = λ i k lt is.
+    let left = left_before z v a step note i k refl is in
+    let before : ℕ → ℕ = v.words area.Pool in
+    let after : ℕ → ℕ = (part_stepped a step note v).words area.Pool in
+    slots_stay z before k after k
+    (λ id slot L. live_in_stays k after before id slot (words_live k after before (λ j low. sym (left_words_stay z v a step note S I i k lt left j low))) L)
+    (I.old_sets i k lt left)

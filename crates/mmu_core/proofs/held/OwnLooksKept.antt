@@ -18,7 +18,8 @@ use Rattle.mmu_core.proofs.machine.Columns.{at_upd, upd_other, upd_same}
 use Rattle.mmu_core.proofs.machine.PartStepping.{IsPart}
 use Rattle.mmu_core.proofs.words.PartTopics.{behind_step, part_behind}
 use Rattle.mmu_core.proofs.held.OwnPages.{changes_own, one_place_owns}
-use Rattle.mmu_core.proofs.held.LooksKept.{host_now, others_now, own_now, topics_now}
+use Rattle.mmu_core.proofs.held.Invalidating.{topics_now}
+use Rattle.mmu_core.proofs.held.LooksKept.{host_now, others_now, own_now}
 
 abbrev OwnLooksAt : Sizes → (ℕ → ℕ) → View → Type 0
 OwnLooksAt z host v = OwnLooksPart z (actors_of z) host (λ i. (v.hand i).topics)

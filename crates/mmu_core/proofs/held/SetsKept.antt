@@ -136,7 +136,7 @@ module _ (n : ℕ) (hand : ℕ → Held) (a : ℕ) (h : Held) where
 
 -- ---- Each step.
 
-let_go_set : (b : Bool) (s : SlotSearch) (k : ℕ) → (kept_search b s).set ≡ Some k → s.set ≡ Some k
+pub let_go_set : (b : Bool) (s : SlotSearch) (k : ℕ) → (kept_search b s).set ≡ Some k → s.set ≡ Some k
 let_go_set true s k e = e
 let_go_set false s k e = absurd (cc e)
 
@@ -144,7 +144,7 @@ snapshot_set : (b : Bool) (s : SlotSearch) (k : ℕ) → (if b then kept_search 
 snapshot_set true s k e = absurd (cc e)
 snapshot_set false s k e = e
 
-begun_set : (b : Bool) (s : SlotSearch) (slots k : ℕ) → (at_set b s slots).set ≡ Some k → k ≡ slots
+pub begun_set : (b : Bool) (s : SlotSearch) (slots k : ℕ) → (at_set b s slots).set ≡ Some k → k ≡ slots
 begun_set true s slots k e = cc
 begun_set false s slots k e = absurd (cc e)
 

@@ -41,6 +41,7 @@ use Rattle.mmu_core.proofs.pages.TreeKept.{tree_kept}
 use Rattle.mmu_core.proofs.machine.PartStepping.{IsPart}
 use Rattle.mmu_core.proofs.lines.StepIn.{StepIn, step_in, Makes, Touches}
 use Rattle.mmu_core.proofs.machine.Stepping.{IsStep}
+use Rattle.mmu_core.proofs.held.HeldSlotsKept.{held_slots_kept}
 use Rattle.mmu_core.proofs.held.OldSets.{old_sets_kept}
 use Rattle.mmu_core.proofs.held.SetsKept.{sets_kept}
 use Rattle.mmu_core.proofs.held.KnownRange.{known_range_kept}
@@ -67,6 +68,7 @@ topics_part_kept z v a step note S I = record {
   paths = paths_kept z v a step note S I;
   sets = sets_kept z v a step note S I;
   old_sets = old_sets_kept z v a step note S I;
+  held_slots = held_slots_kept z v a step note S I;
   searches = searches_kept z v a step note S I;
   hosts = hosts_kept z v a step note S I;
   frames = frames_kept z v a step note S I;

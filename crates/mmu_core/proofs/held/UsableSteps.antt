@@ -69,7 +69,7 @@ agree_elsewhere pool host set page x own_ cached scope same clean agrees k d lt 
 live_behind : (z : Sizes) (v : View) (a : ℕ) (step : PartStep) (note : ℕ) → IsPart z v a step → TopicsInvariant z v
     → StayLive (v.words area.Pool) (v.words area.Slots 0) ((part_stepped a step note v).words area.Pool)
     (slots_behind step (v.hand a).topics (v.words area.Slots 0))
-live_behind z v a part.Publish note S I = S.replaces
+live_behind z v a part.Publish note S I = S.replaces.stay
 live_behind z v a step note S I = λ id slot live.
     live_in_stays (v.words area.Slots 0) (v.words area.Pool) ((part_stepped a step note v).words area.Pool) id slot (part_live_stays z v a step note S I) live
 

@@ -24,7 +24,7 @@ use Rattle.mmu_core.specs.invariant.TreePart.{IsLiveIn, stands}
 use Rattle.mmu_core.proofs.pages.FrameUses.{owned_frame_there}
 use Rattle.mmu_core.proofs.pages.PoolPages.{left_there, owned_there, slots_there}
 use Rattle.mmu_core.specs.machine.View.{View}
-use Rattle.mmu_core.proofs.held.OldSets.{set_live}
+use Rattle.mmu_core.proofs.held.OldSets.{held_are_slots}
 
 pub part_rests_at : (z : Sizes) (v : View) (i : ℕ) → Invariant z v → TopicsInvariant z v → i < actors_of z → PartRests (v.hand i)
 part_rests_at z v i I P there = record {
@@ -76,14 +76,14 @@ part_rests_at z v i I P there = record {
         by (inl e) = subst (λ n. n < z.pool) (sym e) (slots_there P.uses)
         by (inr O) = left_there P.uses O.by k O.there O.leaves
 
-    -- The slot that was loaded whole is live in the published set, so it fits the machine.
+    -- The slot that was loaded whole is one of the set that is held, so it fits the machine.
     found : h.topics.search.whole ≡ true → Fits z h.topics.search.slot
     found whole =
         let S = P.searches i there in
         let own = S.held whole in
-        let live : IsLiveIn (v.words area.Pool) (v.words area.Slots 0) (h.topics.search.id - 1) h.topics.search.slot =
-        set_live z v i own.0 there P own.1 (h.topics.search.id - 1) h.topics.search.slot (S.whole own.0 own.1 whole).1 in
-        subst (Fits z) live.is (I.set_part.fits (h.topics.search.id - 1) live.low live.live)
+        let live : IsLiveIn (v.words area.Pool) own.0 (h.topics.search.id - 1) h.topics.search.slot =
+        (S.whole own.0 own.1 whole).1 in
+        subst (Fits z) live.is ((held_are_slots z v i own.0 there P I.set_part.slots own.1).fits (h.topics.search.id - 1) live.low live.live)
 
     looked : (look : HostLook) → h.topics.host ≡ Some look → (look.page < z.pages) × (host_frame look.word < z.frames)
     looked look is =

@@ -32,7 +32,7 @@ pub record AreSmall (v : View) : Type 0 where
 
 -- What an actor holds the needs of, in a view where the invariant holds, it may make.
 pub may_make : (z : Sizes) (v : View) (a : ℕ) (step : PartStep) → AreSmall v → Invariant z v → TopicsInvariant z v → a < actors_of z
-    → PartNeeds step (v.hand a) → Replaces step (v.words area.Pool) (v.words area.Slots 0) (v.hand a).topics → IsPart z v a step
+    → PartNeeds step (v.hand a) → Replaces z step (v.words area.Pool) (v.words area.Slots 0) (v.hand a).topics → IsPart z v a step
 may_make z v a step small I P there needs replaces = record {
   is_sizes = I.sizes;
   there = there;
@@ -51,7 +51,7 @@ pub makes_parts : (z : Sizes) (v : View) (a : ℕ) (line : Line) (p : AccessPlac
     → IsStep z v a line (Access gfn word op) (place.Access p) → Invariant z v → TopicsInvariant z v → MakesParts z v a p gfn
 makes_parts z v a line p gfn word op small S I P step is =
     may_make z v a step small I P S.there (subst (λ (o : Option PartStep). NeedsOf o (v.hand a)) is needs)
-    (replaces_none step (v.words area.Pool) (v.words area.Slots 0) (v.hand a).topics (access_untold p gfn (v.hand a).topics step is))
+    (replaces_none z step (v.words area.Pool) (v.words area.Slots 0) (v.hand a).topics (access_untold p gfn (v.hand a).topics step is))
   where
     may : IsVcpu (v.hand a).state.actor × (gfn < 2 ^ 36)
     may = access_vcpu z (v.hand a).state.actor gfn word op (subst (λ x. IsCommandFor z x (Access gfn word op)) S.own S.allowed)

@@ -42,12 +42,12 @@ use Rattle.mmu_core.proofs.held.OwnPages.{changes_own}
 slots_apart : (z : Sizes) (set : ℕ) (role pool : ℕ → ℕ) → SlotSetPart z set role pool → AreApart pool set
 slots_apart z set role pool P page i j slot other live also has too =
     let same : i ≡ j =
-    P.host_apart page i j live.low also.low live.live also.live (ap (has_host_page page) live.is ∙ has) (ap (has_host_page page) also.is ∙ too) in
+    P.slots.host_apart page i j live.low also.low live.live also.live (ap (has_host_page page) live.is ∙ has) (ap (has_host_page page) also.is ∙ too) in
     sym live.is ∙ ap (slot_at pool set) same ∙ also.is
 
 module _ (z : Sizes) (v : View) (a : ℕ) (page : ℕ) (change : HostChange) where
   abbrev Says : PartStep → Type 0
-  Says step = Replaces step (v.words area.Pool) (v.words area.Slots 0) (v.hand a).topics
+  Says step = Replaces z step (v.words area.Pool) (v.words area.Slots 0) (v.hand a).topics
 
   host_says : (p : HostPlace) → AreSmall v → Invariant z v → TopicsInvariant z v → a < actors_of z → HostKnows p page change (v.hand a)
       → Says (host_part p page change (v.hand a))

@@ -10,7 +10,7 @@ use Rattle.part_steps.specs.declared.part_step.PartStep.TheVariants as part
 use Rattle.part_steps.specs.declared.part_step.PartStep.{PartStep}
 use Rattle.part_steps.specs.PartTasks.{IsWithin, own_index, page_owned}
 use Rattle.part_steps.specs.PartSteps.{PartNeeds, needs_line}
-use Rattle.mmu_core.specs.invariant.SlotSetPart.{IsLiveIn}
+use Rattle.mmu_core.specs.invariant.SlotSetPart.{AreSlots, IsLiveIn}
 use Rattle.mmu_core.specs.machine.View.{View}
 use Rattle.core_views.specs.Slots.{has_host_page}
 
@@ -20,13 +20,18 @@ AreApart pool set =
     (page i j : ℕ) (slot other : SlotOf) → IsLiveIn pool set i slot → IsLiveIn pool set j other → has_host_page page slot ≡ true
     → has_host_page page other ≡ true → slot ≡ other
 
+-- A slot set may be published in place of this one, which is a slot set: each slot of this one is live there, and the same.
+pub record MayReplace (z : Sizes) (pool : ℕ → ℕ) (slots page : ℕ) : Type 0 where
+  pub old : AreSlots z pool slots
+  pub stay : (id : ℕ) (slot : SlotOf) → IsLiveIn pool slots id slot → IsLiveIn pool page id slot
+
 -- What a line says of its own step: a slot set that is published has each slot of the one before it; where one more invalidation is counted, no two published
 -- slots share a host page; and the sequence number stays far below 2 ^ 64.
-abbrev pub Replaces : PartStep → (ℕ → ℕ) → ℕ → Topics → Type 0
-Replaces part.Publish pool slots t = (id : ℕ) (slot : SlotOf) → IsLiveIn pool slots id slot → IsLiveIn pool (page_owned t.owned) id slot
-Replaces (part.SetCount count) pool slots t = AreApart pool slots
-Replaces (part.SetSeq seq) pool slots t = seq < 2 ^ 40
-Replaces _ pool slots t = Unit {0}
+abbrev pub Replaces : Sizes → PartStep → (ℕ → ℕ) → ℕ → Topics → Type 0
+Replaces z part.Publish pool slots t = MayReplace z pool slots (page_owned t.owned)
+Replaces z (part.SetCount count) pool slots t = AreApart pool slots
+Replaces z (part.SetSeq seq) pool slots t = seq < 2 ^ 40
+Replaces z _ pool slots t = Unit {0}
 
 -- The actor makes this step of a part, for its line or with no line left.
 pub record IsPart (z : Sizes) (v : View) (a : ℕ) (step : PartStep) : Type 0 where
@@ -35,7 +40,7 @@ pub record IsPart (z : Sizes) (v : View) (a : ℕ) (step : PartStep) : Type 0 wh
   pub sizes : (v.hand a).state.sizes ≡ z
   pub own_place : own_index (v.hand a) ≡ a
   pub needs : PartNeeds step (v.hand a)
-  pub replaces : Replaces step (v.words area.Pool) (v.words area.Slots 0) (v.hand a).topics
+  pub replaces : Replaces z step (v.words area.Pool) (v.words area.Slots 0) (v.hand a).topics
   pub within : IsWithin (v.hand a) step
   pub small : (b : Area) (i : ℕ) → v.words b i < 2 ^ 64
 
@@ -98,8 +103,8 @@ idle_untold (part.Store index) free = absurd (cc free)
 idle_untold part.GiveFrame free = absurd (cc free)
 idle_untold _ free = refl
 
-pub replaces_none : (step : PartStep) (pool : ℕ → ℕ) (slots : ℕ) (t : Topics) → is_told step ≡ false → Replaces step pool slots t
-replaces_none part.Publish pool slots t never = absurd (cc never)
-replaces_none (part.SetCount count) pool slots t never = absurd (cc never)
-replaces_none (part.SetSeq seq) pool slots t never = absurd (cc never)
-replaces_none _ pool slots t never = tt
+pub replaces_none : (z : Sizes) (step : PartStep) (pool : ℕ → ℕ) (slots : ℕ) (t : Topics) → is_told step ≡ false → Replaces z step pool slots t
+replaces_none z part.Publish pool slots t never = absurd (cc never)
+replaces_none z (part.SetCount count) pool slots t never = absurd (cc never)
+replaces_none z (part.SetSeq seq) pool slots t never = absurd (cc never)
+replaces_none z _ pool slots t never = tt

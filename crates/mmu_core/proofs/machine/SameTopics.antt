@@ -6,7 +6,7 @@ use Rattle.core_views.specs.Held.{Held}
 use Rattle.core_views.specs.Sizes.{actors_of}
 use Rattle.mmu_core.specs.invariant.TopicsInvariant.{CountersPart, FilledPart, FramesPart, HeldPart, LockPart, LookPart, OwnLooksPart, SawWriter, SearchPart}
 use Rattle.mmu_core.specs.invariant.TopicsInvariant.{StatesPart, TopicsInvariantOf, SetsPart, OldSetsPart, PathPart, UsePart, stands, CountPart}
-use Rattle.mmu_core.specs.invariant.TopicsInvariant.{CheckedPart, KnownRangePart, LoadedPart, PassedPart, RangePart, ScopePart, ZappedPart}
+use Rattle.mmu_core.specs.invariant.TopicsInvariant.{CheckedPart, HeldSlotsPart, KnownRangePart, LoadedPart, PassedPart, RangePart, ScopePart, ZappedPart}
 
 pub same_topics : (z : Sizes) (lock root slots seq count start end_ : ℕ) (states map frame_map host role pool : ℕ → ℕ) (hand other : ℕ → Held)
     → ◌≡◌ {A = ℕ → Topics} (λ i. (other i).topics) (λ i. (hand i).topics)
@@ -26,7 +26,8 @@ same_topics z lock root slots seq count start end_ states map frame_map host rol
   held = subst (λ (t : ℕ → Topics). (i : ℕ) → i < actors_of z → HeldPart (stands I.up I.spot) (t i)) (sym same) I.held;
   paths = subst (λ (t : ℕ → Topics). (i : ℕ) → i < actors_of z → PathPart (stands I.up I.spot) (t i).walk) (sym same) I.paths;
   sets = subst (λ (t : ℕ → Topics). SetsPart (actors_of z) slots t) (sym same) I.sets;
-  old_sets = subst (λ (t : ℕ → Topics). OldSetsPart (actors_of z) slots pool (λ i. (t i).leaving)) (sym same) I.old_sets;
+  old_sets = subst (λ (t : ℕ → Topics). OldSetsPart z (actors_of z) pool (λ i. (t i).leaving)) (sym same) I.old_sets;
+  held_slots = subst (λ (t : ℕ → Topics). HeldSlotsPart (actors_of z) seq pool slots t) (sym same) I.held_slots;
   searches = subst (λ (t : ℕ → Topics). (i : ℕ) → i < actors_of z → SearchPart pool (t i).search) (sym same) I.searches;
   hosts = I.hosts;
   frames = subst (λ (t : ℕ → Topics). FramesPart z (actors_of z) frame_map host (λ i. (t i).frames.owned) I.use_of) (sym same) I.frames;

@@ -174,7 +174,7 @@ takes_part z w s G may N =
         sizes = same;
         own_place = ap (λ y. index_of y h.state.actor) same ∙ O.index;
         needs = N.needs;
-        replaces = replaces_none N.step (word_in z w area.Pool) (word_in z w area.Slots 0) h.topics (idle_untold N.step N.free);
+        replaces = replaces_none z N.step (word_in z w area.Pool) (word_in z w area.Slots 0) h.topics (idle_untold N.step N.free);
         within = N.within;
         small = view_small z w G.small;
       };

@@ -26,8 +26,7 @@ use Rattle.mmu_core.proofs.machine.PartStepping.{IsPart, changes_word}
 use Rattle.mmu_core.proofs.words.HostStays.{host_stays}
 use Rattle.mmu_core.proofs.words.PartWords.{areas_stay, slots_are, slots_behind}
 use Rattle.mmu_core.proofs.pages.Standing.{spot_after, spot_of, up_after}
-use Rattle.mmu_core.proofs.held.FreshFrames.{behind_it, leaf_brought, leaf_same, looked_word}
-use Rattle.mmu_core.proofs.pages.TreeKept.{found_live}
+use Rattle.mmu_core.proofs.held.FreshFrames.{found_live, behind_it, leaf_brought, leaf_same, looked_word}
 use Rattle.mmu_core.proofs.pages.TreePlaces.{all_reached}
 use Rattle.part_steps.specs.InvalidationRange.{page_looked}
 use Rattle.mmu_core.specs.invariant.InvalidatedPart.{Gives}
@@ -44,7 +43,7 @@ leaves_light pool host set = record {
 live_behind : (z : Sizes) (v : View) (a : ℕ) (step : PartStep) (note : ℕ) → IsPart z v a step → TopicsInvariant z v
     → StayLive (v.words area.Pool) (v.words area.Slots 0) ((part_stepped a step note v).words area.Pool)
     (slots_behind step (v.hand a).topics (v.words area.Slots 0))
-live_behind z v a part.Publish note S I = S.replaces
+live_behind z v a part.Publish note S I = S.replaces.stay
 live_behind z v a step note S I =
     λ id slot live. live_in_stays (v.words area.Slots 0) (v.words area.Pool) ((part_stepped a step note v).words area.Pool) id slot
     (part_live_stays z v a step note S I) live
@@ -69,7 +68,7 @@ new_leaf z v a (part.Leaf gfn) S I =
     own = let found = S.needs.0.looked_up in record {
       id = t.search.id - 1;
       slot = t.search.slot;
-      live = found_live z v a gfn S.there I found.found;
+      live = found_live z v a gfn S.there I S.needs.0;
       holds = found.found.holds;
       is = ap (leaf_of t.search.slot) (looked_word z v a gfn S.there I S.needs.0);
       present = ap host_present (sym (looked_word z v a gfn S.there I S.needs.0)) ∙ S.needs.0.present;

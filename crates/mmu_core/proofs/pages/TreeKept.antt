@@ -16,7 +16,7 @@ use Rattle.spte_words.proofs.Spans.{span_1, span_above}
 use Rattle.part_steps.specs.declared.part_step.PartStep.{PartStep}
 use Rattle.part_steps.specs.declared.part_step.PartStep.TheVariants as part
 use Rattle.part_steps.specs.PartTasks.{entry_index, is_absent, leaf_written, link_written, page_owned, table_page, word_looked}
-use Rattle.part_steps.specs.PartHoldings.{FoundSlot, MayEnter}
+use Rattle.part_steps.specs.PartHoldings.{MayEnter}
 use Rattle.mmu_core.specs.invariant.PoolPart.{IsFilled}
 use Rattle.mmu_core.specs.invariant.TopicsInvariant.{TopicsInvariant}
 use Rattle.mmu_core.specs.invariant.TreePart.{EntryPart, IsLeafAt, IsLiveIn, IsWanted, Position, TreePart, Use, at, is_table, stands}
@@ -32,7 +32,7 @@ use Rattle.mmu_core.proofs.machine.SumsBelow.{upd_id}
 use Rattle.mmu_core.proofs.pages.TreePlaces.{link_stands}
 use Rattle.mmu_core.proofs.pages.TreeStored.{entry_stored, table_linked, tree_moved}
 use Rattle.mmu_core.proofs.pages.UsesStay.{is_link, same_tables, stay_same, stood_same}
-use Rattle.mmu_core.proofs.held.OldSets.{set_live}
+use Rattle.mmu_core.proofs.held.FreshFrames.{found_live}
 use Rattle.mmu_core.proofs.slots.LiveStay.{StayLive}
 
 absent_is : 0 ≡ absent_word
@@ -55,14 +55,6 @@ run_lowest gfn level prefix lowest run =
     let span : level_span level ≡ 1 = ap level_span lowest ∙ span_1 in
     let own : gfn / level_span level ≡ gfn = ap (λ n. gfn / n) span ∙ omega arith in
     omega (arith, own, run)
-
--- The slot that was loaded whole is live in the published slot set.
-pub found_live : (z : Sizes) (v : View) (a gfn : ℕ) → a < actors_of z → TopicsInvariant z v → FoundSlot gfn (v.hand a).topics
-    → IsLiveIn (v.words area.Pool) (v.words area.Slots 0) ((v.hand a).topics.search.id - 1) (v.hand a).topics.search.slot
-found_live z v a gfn lt I found =
-    let t : Topics = (v.hand a).topics in
-    let held = (I.searches a lt).held found.whole in
-    set_live z v a held.0 lt I held.1 (t.search.id - 1) t.search.slot ((I.searches a lt).whole held.0 held.1 found.whole).1
 
 -- What a fault puts into a table of the lowest level is a leaf.
 pub leaf_is : (t : Topics) → t.walk.level ≡ 1 → kind_of t.walk.level (leaf_written t) ≡ entry_kind.Leaf
@@ -135,7 +127,7 @@ module _ (z : Sizes) (v : View) (a gfn note : ℕ) (I : TopicsInvariant z v) whe
         gfn = gfn;
         id = t.search.id - 1;
         slot = t.search.slot;
-        live = found_live z v a gfn S.there I may.looked_up.found;
+        live = found_live z v a gfn S.there I may;
         holds = may.looked_up.found.holds;
         run = run_below gfn t.walk.level t.walk.prefix S.needs.1 may.saw.over.run;
       })
@@ -248,7 +240,7 @@ tree_republished {pages} {root} {set} {role} {pool} {up} {spot} other stay T = r
 tree_set : (z : Sizes) (v : View) (a : ℕ) (step : PartStep) (note : ℕ) → IsPart z v a step → (I : TopicsInvariant z v)
     → TreePart z.pool (v.words area.Root 0) (slots_behind step (v.hand a).topics (v.words area.Slots 0)) ((part_stepped a step note v).words
     area.Role) ((part_stepped a step note v).words area.Pool) (up_after step a (v.hand a).topics v I.up) (spot_after step (v.hand a).topics v I.spot)
-tree_set z v a part.Publish note S I = tree_republished (page_owned (v.hand a).topics.owned) S.replaces (tree_behind z v a part.Publish note S I)
+tree_set z v a part.Publish note S I = tree_republished (page_owned (v.hand a).topics.owned) S.replaces.stay (tree_behind z v a part.Publish note S I)
 tree_set z v a step note S I = tree_behind z v a step note S I
 
 -- Each step of a part keeps what the tables are.

@@ -8,7 +8,7 @@ use Rattle.core_views.specs.declared.trace.Slot.{Slot as SlotOf}
 use Rattle.core_views.specs.Slots.{contains, has_host_page}
 use Rattle.mmu_core.specs.invariant.Invariant.{IsLeafFor, IsLiveIn, SlotSetPart}
 use Rattle.part_steps.specs.SetWords.{set_role}
-use Rattle.mmu_core.specs.invariant.SlotSetPart.{Fits}
+use Rattle.mmu_core.specs.invariant.SlotSetPart.{AreSlots, Fits}
 use Rattle.part_steps.specs.SlotWords.{live_at, slot_at}
 use Rattle.mmu_core.specs.invariant.CachedPart.{AgreePart}
 
@@ -31,11 +31,10 @@ module _ (before : ℕ → ℕ) (set : ℕ) (after : ℕ → ℕ) (other : ℕ) 
       All-weaker (λ (t : Translation). IsLeafFor before host set t.gfn t.leaf) (λ (t : Translation). IsLeafFor after host other t.gfn t.leaf)
       (λ t is. leaf_stays host t.gfn t.leaf is) ts each
 
--- Each live slot was live, and the same: the set is one still.
-pub set_stays : (z : Sizes) (role behind before : ℕ → ℕ) (set : ℕ) (after : ℕ → ℕ) (other : ℕ) → StayLive after other before set
-    → behind other ≡ set_role → SlotSetPart z set role before → SlotSetPart z other behind after
-set_stays z role behind before set after other was role_is part = record {
-  role_is = role_is;
+-- Each live slot was live, and the same: they are slots of a set still.
+pub slots_stay : (z : Sizes) (before : ℕ → ℕ) (set : ℕ) (after : ℕ → ℕ) (other : ℕ) → StayLive after other before set → AreSlots z before set
+    → AreSlots z after other
+slots_stay z before set after other was part = record {
   fits =
       λ id low live. subst (Fits z) (slot_stays after other before set was id low live)
       (part.fits id low (live_stays after other before set was id low live));
@@ -48,3 +47,7 @@ set_stays z role behind before set after other was role_is part = record {
       (ap (has_host_page page) (slot_stays after other before set was i low live) ∙ has)
       (ap (has_host_page page) (slot_stays after other before set was j under more) ∙ too);
 }
+
+pub set_stays : (z : Sizes) (role behind before : ℕ → ℕ) (set : ℕ) (after : ℕ → ℕ) (other : ℕ) → StayLive after other before set
+    → behind other ≡ set_role → SlotSetPart z set role before → SlotSetPart z other behind after
+set_stays z role behind before set after other was role_is part = record { role_is = role_is; slots = slots_stay z before set after other was part.slots }

@@ -51,11 +51,13 @@ module _ (z : Sizes) (pool : ℕ → ℕ) (set page id : ℕ) (slot : Slot) (may
   pub set_with : (role behind : ℕ → ℕ) → behind page ≡ set_role → SlotSetPart z set role pool → SlotSetPart z page behind pool
   set_with role behind role_is part = record {
     role_is = role_is;
-    fits = λ j below live. one_fits j below live part.fits;
-    guest_apart =
-        λ gfn i j low below live more holds too. apart_still (contains gfn) i j low below live more (may.guest_apart gfn)
-        (part.guest_apart gfn i j low below) holds too;
-    host_apart =
-        λ page i j low below live more has too. apart_still (has_host_page page) i j low below live more (may.host_apart page)
-        (part.host_apart page i j low below) has too;
+    slots = record {
+      fits = λ j below live. one_fits j below live part.slots.fits;
+      guest_apart =
+          λ gfn i j low below live more holds too. apart_still (contains gfn) i j low below live more (may.guest_apart gfn)
+          (part.slots.guest_apart gfn i j low below) holds too;
+      host_apart =
+          λ page i j low below live more has too. apart_still (has_host_page page) i j low below live more (may.host_apart page)
+          (part.slots.host_apart page i j low below) has too;
+    };
   }

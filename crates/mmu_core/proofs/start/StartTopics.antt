@@ -234,6 +234,7 @@ start_topics z lines w start = record {
       (λ level from above most. absurd (omega (arith, from)));
   sets = λ i k lt is. absurd (holds_none z lines w i k start lt is);
   old_sets = λ i k lt is. absurd (leaves_none z lines w i k start lt is);
+  held_slots = λ i set gfn id slot lt is. absurd (holds_none z lines w i set start lt is);
   searches = λ i lt. subst (λ (t : Topics). SearchPart (word_in z w area.Pool) t.search) (sym (topics_are z lines w i start lt))
       (search_first (word_in z w area.Pool));
   hosts = hosts_start z lines w start;

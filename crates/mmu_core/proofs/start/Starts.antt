@@ -257,9 +257,11 @@ start_good z lines w start = record {
     sizes = start.sizes;
     set_part = record {
       role_is = role_at_start z w start.sizes start.words;
-      fits = λ id low live. let e = none_live z w (word_in z w area.Slots 0) id start.words in absurd (cc (e, live));
-      guest_apart = λ gfn i j low under live more holds too. let e = none_live z w (word_in z w area.Slots 0) i start.words in absurd (cc (e, live));
-      host_apart = λ page i j low under live more has too. let e = none_live z w (word_in z w area.Slots 0) i start.words in absurd (cc (e, live));
+      slots = record {
+        fits = λ id low live. let e = none_live z w (word_in z w area.Slots 0) id start.words in absurd (cc (e, live));
+        guest_apart = λ gfn i j low under live more holds too. let e = none_live z w (word_in z w area.Slots 0) i start.words in absurd (cc (e, live));
+        host_apart = λ page i j low under live more has too. let e = none_live z w (word_in z w area.Slots 0) i start.words in absurd (cc (e, live));
+      };
     };
     lines = λ i lt. subst (OwnLines z i) (sym (hand_is z lines w i start lt)) (first_lines z lines w i start lt);
     loads =

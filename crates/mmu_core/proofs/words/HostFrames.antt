@@ -27,6 +27,6 @@ leaf_there z set role pool host gfn leaf sizes part hosts L =
     page : page_of L.slot gfn < z.pages
     page =
         let fits : L.slot.host + L.slot.pages ≤ z.pages =
-        subst (λ (s : SlotOf). s.host + s.pages ≤ z.pages) L.live.is (part.fits L.id L.live.low L.live.live).pages in
+        subst (λ (s : SlotOf). s.host + s.pages ≤ z.pages) L.live.is (part.slots.fits L.id L.live.low L.live.live).pages in
         let inside = bounds L.slot.base (L.slot.base + L.slot.pages) L.holds in
         omega (arith, fits, inside.0, inside.1)

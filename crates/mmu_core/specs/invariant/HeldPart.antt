@@ -1,11 +1,11 @@
 -- What an actor holds of tables and slot sets.
 use Rattle.std.specs.Prelude.{◌≡◌, ◌≢◌, ◌<◌, ◌≤◌, ◌⊎◌, ◌-◌, ◌/◌, ◌^◌, ℕ, false, Option, Some, None}
+use Rattle.core_views.specs.declared.sizes.Sizes.{Sizes}
 use Rattle.core_views.specs.declared.topics.Stay.TheVariants.{Section}
 use Rattle.core_views.specs.declared.topics.TableWalk.{TableWalk}
 use Rattle.core_views.specs.declared.topics.Topics.{Topics}
 use Rattle.part_steps.specs.PartTasks.{table_page}
-use Rattle.mmu_core.specs.invariant.SlotSetPart.{IsLiveIn}
-use Rattle.core_views.specs.declared.trace.Slot.{Slot as SlotOf}
+use Rattle.mmu_core.specs.invariant.SlotSetPart.{AreSlots}
 use Rattle.part_steps.specs.StayTopics.{may_search, may_walk}
 use Rattle.mmu_core.specs.invariant.TreePart.{Position, at}
 
@@ -41,6 +41,6 @@ pub record HoldsOld (n : ℕ) (topics : ℕ → Topics) (i k : ℕ) : Type 0 whe
 abbrev pub SetsPart : ℕ → ℕ → (ℕ → Topics) → Type 0
 SetsPart n slots topics = (i k : ℕ) → i < n → (topics i).search.set ≡ Some k → (k ≡ slots) ⊎ HoldsOld n topics i k
 
--- Each slot of a slot set that is leaving is live, as it is, in the published one.
-abbrev pub OldSetsPart : ℕ → ℕ → (ℕ → ℕ) → (ℕ → Option ℕ) → Type 0
-OldSetsPart n slots pool leaving = (i k : ℕ) → i < n → leaving i ≡ Some k → (id : ℕ) (slot : SlotOf) → IsLiveIn pool k id slot → IsLiveIn pool slots id slot
+-- A page that is leaving has the slots of a slot set still: nobody stores in it.
+abbrev pub OldSetsPart : Sizes → ℕ → (ℕ → ℕ) → (ℕ → Option ℕ) → Type 0
+OldSetsPart z n pool leaving = (i k : ℕ) → i < n → leaving i ≡ Some k → AreSlots z pool k

@@ -4,12 +4,16 @@ use Rattle.core_views.specs.declared.place.SlotField.{SlotField}
 use Rattle.core_views.specs.declared.place.SlotField.TheVariants.{Base, Pages, Host, Flags}
 use Rattle.core_views.specs.declared.sizes.Sizes.{Sizes}
 use Rattle.core_views.specs.declared.topics.HostLook.{HostLook}
+use Rattle.core_views.specs.declared.topics.Invalidated.{Invalidated}
 use Rattle.core_views.specs.declared.topics.SlotSearch.{SlotSearch}
 use Rattle.core_views.specs.declared.topics.Topics.{Topics}
+use Rattle.core_views.specs.declared.trace.Slot.{Slot as SlotOf}
+use Rattle.core_views.specs.Slots.{contains}
 use Rattle.spte_words.specs.Flags.{flags_logged}
 use Rattle.part_steps.specs.SlotWords.{live_at, slot_at, slot_index}
 use Rattle.mmu_core.specs.invariant.HostWordsPart.{IsHostWord, IsStill}
-use Rattle.mmu_core.specs.invariant.TreePart.{IsLiveIn}
+use Rattle.mmu_core.specs.invariant.InvalidatedPart.{IsIn}
+use Rattle.mmu_core.specs.invariant.SlotSetPart.{IsLiveIn}
 
 -- The slot under search is live, and its flags were loaded as the words of its slot set hold them.
 abbrev pub HasFlags : (ℕ → ℕ) → ℕ → SlotSearch → Type 0
@@ -39,11 +43,18 @@ pub record SearchPart (pool : ℕ → ℕ) (s : SlotSearch) : Type 0 where
   pub held : s.whole ≡ true → (k : ℕ) × (s.set ≡ Some k)
   pub before_flags : s.whole ≡ true → s.next ≡ Flags
 
--- An invalidation of the host page is open that hasn't raised the sequence number yet.
-pub record IsUnder (page : ℕ) (t : Topics) : Type 0 where
+-- The actor's own invalidation is open, is of what is meant, and hasn't raised the sequence number yet.
+pub record IsInvalidating (IsOf : Invalidated → Type 0) (t : Topics) : Type 0 where
   pub opened : t.invalidations.opened ≡ true
   pub unraised : t.invalidations.raised ≡ false
-  pub of_page : t.invalidations.own.page ≡ page
+  pub of_it : IsOf t.invalidations.own
+
+-- An invalidation is on the host page; or on the guest frame.
+abbrev pub IsOnPage : ℕ → Invalidated → Type 0
+IsOnPage page own_ = own_.page ≡ page
+
+abbrev pub IsOnFrame : ℕ → Invalidated → Type 0
+IsOnFrame gfn own_ = IsIn own_ gfn
 
 -- What was looked up of a host page is a host word; it is the page's own still as long as the sequence number is that of the snapshot, and no
 -- invalidation of the page is open that hasn't raised it. The snapshot isn't ahead of the number.
@@ -51,5 +62,12 @@ pub record LookPart (z : Sizes) (n seq : ℕ) (host : ℕ → ℕ) (topics : ℕ
   pub there : (look : HostLook) → t.host ≡ Some look → look.page < z.pages
   pub is_word : (look : HostLook) → t.host ≡ Some look → IsHostWord z.frames look.word
   pub still : (look : HostLook) (s : ℕ) → t.host ≡ Some look → t.invalidations.snapshot ≡ Some s → s ≡ seq
-      → ((j : ℕ) → j < n → IsUnder look.page (topics j) → ⊥) → IsStill look.word (host look.page)
+      → ((j : ℕ) → j < n → IsInvalidating (IsOnPage look.page) (topics j) → ⊥) → IsStill look.word (host look.page)
   pub snapshot : (s : ℕ) → t.invalidations.snapshot ≡ Some s → s ≤ seq
+
+-- Of each guest frame the slot set that an actor holds says what the published one says, as long as the sequence number is that of the actor's snapshot, and no
+-- invalidation of the frame is open that hasn't raised it: the slot that has the frame there is live, as it is.
+abbrev pub HeldSlotsPart : ℕ → ℕ → (ℕ → ℕ) → ℕ → (ℕ → Topics) → Type 0
+HeldSlotsPart n seq pool slots topics =
+    (i set gfn id : ℕ) (slot : SlotOf) → i < n → (topics i).search.set ≡ Some set → (topics i).invalidations.snapshot ≡ Some seq
+    → ((j : ℕ) → j < n → IsInvalidating (IsOnFrame gfn) (topics j) → ⊥) → IsLiveIn pool set id slot → contains gfn slot ≡ true → IsLiveIn pool slots id slot

@@ -14,7 +14,7 @@ pub use Rattle.mmu_core.specs.invariant.InvalidationsPart.{CheckedPart, CountPar
 pub use Rattle.mmu_core.specs.invariant.InvalidatedPart.{PassedPart, RangePart, ScopePart, ZappedPart}
 pub use Rattle.mmu_core.specs.invariant.LockPart.{LockPart, SawWriter}
 pub use Rattle.mmu_core.specs.invariant.PoolPart.{FilledPart, IsFilled, UsePart, is_leaving}
-pub use Rattle.mmu_core.specs.invariant.SearchPart.{IsUnder, LookPart, SearchPart}
+pub use Rattle.mmu_core.specs.invariant.SearchPart.{HeldSlotsPart, IsInvalidating, LookPart, SearchPart}
 pub use Rattle.mmu_core.specs.invariant.StatesPart.{StatesPart}
 pub use Rattle.mmu_core.specs.invariant.TreePart.{Position, TreePart, Use, stands}
 
@@ -34,7 +34,8 @@ pub record TopicsInvariantOf (z : Sizes) (lock root slots seq count start end_ :
   pub held : (i : ℕ) → i < actors_of z → HeldPart (stands up spot) (hand i).topics
   pub paths : (i : ℕ) → i < actors_of z → PathPart (stands up spot) (hand i).topics.walk
   pub sets : SetsPart (actors_of z) slots (λ i. (hand i).topics)
-  pub old_sets : OldSetsPart (actors_of z) slots pool (λ i. (hand i).topics.leaving)
+  pub old_sets : OldSetsPart z (actors_of z) pool (λ i. (hand i).topics.leaving)
+  pub held_slots : HeldSlotsPart (actors_of z) seq pool slots (λ i. (hand i).topics)
   pub searches : (i : ℕ) → i < actors_of z → SearchPart pool (hand i).topics.search
   pub hosts : HostWordsPart z host
   pub frames : FramesPart z (actors_of z) frame_map host (λ i. (hand i).topics.frames.owned) use_of

@@ -72,7 +72,7 @@ module _ (root set : ℕ) (pool host : ℕ → ℕ) (gfn : ℕ) (write : Bool) w
 
       forbidden : contains gfn slot ≡ true → (write && s.slot.read_only) ≡ true → NoneHasPage gfn write pool set
       forbidden here denied i is_low live holds =
-          let same : i ≡ s.id = P.guest_apart gfn i s.id is_low low live loaded.0.0 holds (sym same_frames ∙ here) in
+          let same : i ≡ s.id = P.slots.guest_apart gfn i s.id is_low low live loaded.0.0 holds (sym same_frames ∙ here) in
           ap (λ n. write && (slot_at pool set n).read_only) same ∙ ap (λ b. write && b) (sym loaded.0.1) ∙ denied
 
       by : (holds denied : Bool) → contains gfn slot ≡ holds → (write && s.slot.read_only) ≡ denied

@@ -56,7 +56,7 @@ use Rattle.part_steps.specs.TopicSteps.{topics_after}
 use Rattle.core_views.specs.declared.topics.SlotSearch.{SlotSearch}
 use Rattle.core_views.specs.declared.topics.Stay.{Stay}
 use Rattle.mmu_core.proofs.slots.LiveStays.{access_never, access_quiet, is_bring}
-use Rattle.mmu_core.proofs.held.OldSets.{set_live}
+use Rattle.mmu_core.proofs.held.OldSets.{held_are_slots}
 use Rattle.mmu_laws.proofs.flat.FaultNotes.{Noted, check_noted, claim_noted, entry_noted, host_noted, share_noted, walk_noted}
 
 module _ (z : Sizes) (v : View) (a : ℕ) (line : Line) (gfn word : ℕ) (op : Op) (facts : Facts) (past : Past) (u : LineUnderWay) where
@@ -124,9 +124,8 @@ module _ (z : Sizes) (v : View) (a : ℕ) (line : Line) (gfn word : ℕ) (op : O
       → StepGoes z v a line (Access gfn word op) (place.Access (Fault (Find true))) facts past u
   searches S part_ I P K R =
       quiet (Find true) (find_next gfn (is_write op) held.search.next (searched held.search (answered (Find true)))) refl part_ I P R
-      (find_noted z (v.words area.Slots 0) (v.words area.Role) (v.words area.Pool) gfn (answered (Find true)) op held.search.next held.search
-      (held_behind (Find true)) u.notes I.set_part
-      (λ k is. set_live z v a k S.there P is) (P.searches a S.there).loaded (K.1 refl).1 refl search R.under.1.0.1 R.under.1.1)
+      (find_noted z (v.words area.Pool) gfn (answered (Find true)) op held.search.next held.search (held_behind (Find true)) u.notes
+      (λ k is. held_are_slots z v a k S.there P I.set_part.slots is) (P.searches a S.there).loaded (K.1 refl).1 refl search R.under.1.0.1 R.under.1.1)
     where
       search : (held_behind (Find true)).search ≡ searched held.search (answered (Find true))
       search =

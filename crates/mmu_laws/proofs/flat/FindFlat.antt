@@ -15,7 +15,7 @@ use Rattle.core_views.specs.Slots.{contains, is_write, page_behind, page_in}
 use Rattle.spte_words.specs.Flags.{flags_live}
 use Rattle.mmu_core.specs.lines.FaultSteps.{find_next}
 use Rattle.mmu_laws.specs.flat.FlatInvariant.{NotedAt, NotedSlots}
-use Rattle.mmu_core.specs.invariant.Invariant.{IsLiveIn, SlotSetPart}
+use Rattle.mmu_core.specs.invariant.SlotSetPart.{AreSlots, IsLiveIn}
 use Rattle.mmu_core.specs.invariant.SearchPart.{HasLoaded}
 use Rattle.part_steps.specs.PageTopics.{searched_at}
 use Rattle.mmu_core.proofs.machine.Columns.{same_or}
@@ -23,7 +23,6 @@ use Rattle.std.proofs.Common.{◌⊎◌, inl, inr, ◌≢◌}
 use Rattle.std.specs.Prelude.{All, Bool, true, false, ◌==◌, ◌&&◌, if◌then◌else◌, Some}
 use Rattle.part_steps.specs.SlotWords.{page_of, slot_at, slot_index, slots_below}
 use Rattle.mmu_core.proofs.words.SlotLists.{each_is_live, no_page_behind, only_one_holds, page_allowed}
-use Rattle.mmu_core.proofs.slots.LiveStay.{StayLive}
 use Rattle.part_steps.specs.PartTasks.{set_held}
 
 -- No pause was seen, what is noted are the slots of the slot set in this page, and those with IDs below this one don't hold the guest frame.
@@ -85,20 +84,18 @@ flags_noted pool k gfn x s notes is N = case (flags_live x) refl
     case true e = N
     case false e = passing pool notes k s.id gfn N (dead e)
 
--- The slots of a set that are live in the published one, too, have no guest frame in common.
-held_apart : (z : Sizes) (set k : ℕ) (role pool : ℕ → ℕ) → SlotSetPart z set role pool → StayLive pool k pool set → (gfn i j : ℕ) (x y : SlotOf)
-    → IsLiveIn pool k i x → IsLiveIn pool k j y → contains gfn x ≡ true → contains gfn y ≡ true → i ≡ j
-held_apart z set k role pool P live gfn i j x y first second holds too =
-    let A : IsLiveIn pool set i x = live i x first in
-    let B : IsLiveIn pool set j y = live j y second in
+-- Two slots of a set that have a guest frame in common have one ID.
+held_apart : (z : Sizes) (k : ℕ) (pool : ℕ → ℕ) → AreSlots z pool k → (gfn i j : ℕ) (x y : SlotOf) → IsLiveIn pool k i x → IsLiveIn pool k j y
+    → contains gfn x ≡ true → contains gfn y ≡ true → i ≡ j
+held_apart z k pool P gfn i j x y A B holds too =
     P.guest_apart gfn i j A.low B.low A.live B.live (ap (contains gfn) A.is ∙ holds) (ap (contains gfn) B.is ∙ too)
 
 -- The slot is loaded whole: it holds the guest frame, and allows the operation or not, or it is passed.
-whole_noted : (z : Sizes) (set k : ℕ) (role pool : ℕ → ℕ) (gfn x : ℕ) (op : Op) (s : SlotSearch) (t : Topics) (notes : Notes)
-    → SlotSetPart z set role pool → StayLive pool k pool set → HasLoaded field.Host pool k s → s.id ≤ 31
+whole_noted : (z : Sizes) (k : ℕ) (pool : ℕ → ℕ) (gfn x : ℕ) (op : Op) (s : SlotSearch) (t : Topics) (notes : Notes)
+    → AreSlots z pool k → HasLoaded field.Host pool k s → s.id ≤ 31
     → x ≡ pool (slot_index k s.id field.Host) → t.search ≡ searched_at field.Host s x → t.search.set ≡ Some k → NotedTo pool notes k s.id gfn
     → NotedAt pool (find_next gfn (is_write op) field.Host (searched_at field.Host s x)) gfn op t notes
-whole_noted z set k role pool gfn x op s t notes P live loaded low is search held N = case (contains gfn slot) (is_write op && s.slot.read_only) refl refl
+whole_noted z k pool gfn x op s t notes P loaded low is search held N = case (contains gfn slot) (is_write op && s.slot.read_only) refl refl
   where
     slot : SlotOf
     slot = record s.slot { host = x }
@@ -117,7 +114,7 @@ whole_noted z set k role pool gfn x op s t notes P live loaded low is search hel
     found holds =
         let here : contains gfn (slot_at pool k s.id) ≡ true = ap (contains gfn) is_slot ∙ holds in
         ap (page_in gfn op)
-        (only_one_holds gfn pool k s.id 32 (omega (arith, low)) loaded.0.0 here (λ i lt live_i too. held_apart z set k role pool P live gfn i s.id _ _
+        (only_one_holds gfn pool k s.id 32 (omega (arith, low)) loaded.0.0 here (λ i lt live_i too. held_apart z k pool P gfn i s.id _ _
         (record { low = omega arith; live = live_i; is = refl }) (record { low = low; live = loaded.0.0; is = refl }) too here)
         ∙ ap Some is_slot)
 
@@ -130,7 +127,7 @@ whole_noted z set k role pool gfn x op s t notes P live loaded low is search hel
     denied_to : (e : ℕ × SlotOf) → contains gfn slot ≡ true → IsLiveIn pool k e.0 e.1 → (is_write op && s.slot.read_only) ≡ true
         → contains gfn e.1 ≡ true → (is_write op && e.1.read_only) ≡ true
     denied_to e here is_live denied holds =
-        let same : e.0 ≡ s.id = held_apart z set k role pool P live gfn e.0 s.id e.1 (slot_at pool k s.id) is_live here_live holds (sym same_frames ∙ here) in
+        let same : e.0 ≡ s.id = held_apart z k pool P gfn e.0 s.id e.1 (slot_at pool k s.id) is_live here_live holds (sym same_frames ∙ here) in
         let is : slot_at pool k s.id ≡ e.1 = ap (slot_at pool k) (sym same) ∙ is_live.is in
         ap (λ (r : SlotOf). is_write op && r.read_only) (sym is) ∙ ap (λ b. is_write op && b) (sym loaded.0.1) ∙ denied
 
@@ -152,22 +149,22 @@ whole_noted z set k role pool gfn x op s t notes P live loaded low is search hel
         (passing pool notes k s.id gfn N (λ r l. ap (contains gfn) (sym l.is) ∙ sym same_frames ∙ holds))
 
 -- What the line has noted behind a word of a slot.
-word_noted : (z : Sizes) (set k : ℕ) (role pool : ℕ → ℕ) (gfn x : ℕ) (op : Op) (f : SlotField) (s : SlotSearch) (t : Topics) (notes : Notes)
-    → SlotSetPart z set role pool → StayLive pool k pool set → s.set ≡ Some k → HasLoaded f pool k s → s.id ≤ 31
+word_noted : (z : Sizes) (k : ℕ) (pool : ℕ → ℕ) (gfn x : ℕ) (op : Op) (f : SlotField) (s : SlotSearch) (t : Topics) (notes : Notes)
+    → AreSlots z pool k → s.set ≡ Some k → HasLoaded f pool k s → s.id ≤ 31
     → x ≡ pool (slot_index k s.id f) → t.search ≡ searched_at f s x → NotedTo pool notes k s.id gfn
     → NotedAt pool (find_next gfn (is_write op) f (searched_at f s x)) gfn op t notes
-word_noted z set k role pool gfn x op field.Flags s t notes P live held loaded low is search N =
+word_noted z k pool gfn x op field.Flags s t notes P held loaded low is search N =
     goes_on pool k gfn (if flags_live x then s.id else s.id + 1) op t notes (ap (λ (r : SlotSearch). r.set) search ∙ held)
     (ap (λ (r : SlotSearch). r.id) search) (flags_noted pool k gfn x s notes is N)
-word_noted z set k role pool gfn x op field.Host s t notes P live held loaded low is search N =
-    whole_noted z set k role pool gfn x op s t notes P live loaded low is search (ap (λ (r : SlotSearch). r.set) search ∙ held) N
-word_noted z set k role pool gfn x op _ s t notes P live held loaded low is search N =
+word_noted z k pool gfn x op field.Host s t notes P held loaded low is search N =
+    whole_noted z k pool gfn x op s t notes P loaded low is search (ap (λ (r : SlotSearch). r.set) search ∙ held) N
+word_noted z k pool gfn x op _ s t notes P held loaded low is search N =
     goes_on pool k gfn s.id op t notes (ap (λ (r : SlotSearch). r.set) search ∙ held) (ap (λ (r : SlotSearch). r.id) search) N
 
-pub find_noted : (z : Sizes) (set : ℕ) (role pool : ℕ → ℕ) (gfn x : ℕ) (op : Op) (f : SlotField) (s : SlotSearch) (t : Topics) (notes : Notes)
-    → SlotSetPart z set role pool → ((k : ℕ) → s.set ≡ Some k → StayLive pool k pool set)
+pub find_noted : (z : Sizes) (pool : ℕ → ℕ) (gfn x : ℕ) (op : Op) (f : SlotField) (s : SlotSearch) (t : Topics) (notes : Notes)
+    → ((k : ℕ) → s.set ≡ Some k → AreSlots z pool k)
     → ((k : ℕ) → s.set ≡ Some k → HasLoaded f pool k s) → s.id ≤ 31 → x ≡ pool (slot_index (set_held s.set) s.id f) → t.search ≡ searched_at f s x
     → notes.paused ≡ Some false → NotedSlots pool notes s gfn → NotedAt pool (find_next gfn (is_write op) f (searched_at f s x)) gfn op t notes
-find_noted z set role pool gfn x op f s t notes P live loaded low is search runs N =
-    word_noted z set N.set role pool gfn x op f s t notes P (live N.set N.held) N.held (loaded N.set N.held) low
+find_noted z pool gfn x op f s t notes P loaded low is search runs N =
+    word_noted z N.set pool gfn x op f s t notes (P N.set N.held) N.held (loaded N.set N.held) low
     (is ∙ ap (λ o. pool (slot_index (set_held o) s.id f)) N.held) search (record { runs = runs; noted = N.noted; passed = N.passed })

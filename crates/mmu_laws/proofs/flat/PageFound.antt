@@ -35,7 +35,7 @@ word_in_page z _ gfn word op may = absurd may
 pub page_in_machine : (z : Sizes) (set : ℕ) (role pool : ℕ → ℕ) (id gfn : ℕ) (slot : Slot) → SlotSetPart z set role pool → IsLiveIn pool set id slot
     → contains gfn slot ≡ true → page_of slot gfn < z.pages
 page_in_machine z set role pool id gfn slot P L holds =
-    let fits : slot.host + slot.pages ≤ z.pages = subst (λ (t : Slot). t.host + t.pages ≤ z.pages) L.is ((P.fits id L.low L.live).pages) in
+    let fits : slot.host + slot.pages ≤ z.pages = subst (λ (t : Slot). t.host + t.pages ≤ z.pages) L.is ((P.slots.fits id L.low L.live).pages) in
     let bounds : (slot.base ≤ gfn) × (gfn < slot.base + slot.pages) = contains_bounds gfn slot holds in
     omega arith
 
@@ -73,6 +73,6 @@ page_is_behind z set role pool id gfn slot op now_ P L in_slot allows is =
     ap (page_in gfn op)
     (ap (λ (xs : Slots). slot_of xs gfn) is
     ∙ only_one_holds gfn pool set id 32 (omega (arith, L.low)) L.live holds
-    (λ i lt live too. P.guest_apart gfn i id (omega arith) L.low live L.live too holds)
+    (λ i lt live too. P.slots.guest_apart gfn i id (omega arith) L.low live L.live too holds)
     ∙ ap Some L.is)
     ∙ page_allowed slot gfn op allows

@@ -91,7 +91,7 @@ leaf_agrees z set role pool host gfn leaf sizes hosts P L = record {
     found : slot_of (slots_below pool set 32) gfn ≡ Some slot
     found =
         only_one_holds gfn pool set L.id 32 (omega (arith, L.live.low)) L.live.live holds
-        (λ i lt live too. P.guest_apart gfn i L.id (omega arith) L.live.low live L.live.live too holds)
+        (λ i lt live too. P.slots.guest_apart gfn i L.id (omega arith) L.live.low live L.live.live too holds)
         ∙ ap Some L.live.is
 
 -- So it says of its guest frame what slots and host say.

@@ -34,7 +34,7 @@ open_frames_are_of_the_page z w actor sound lt opened = sound.topics.scopes acto
 -- A guest frame that a published slot gives to a host page lies below 2 ^ 36.
 given_small : (z : Sizes) (set page gfn : ℕ) (role pool : ℕ → ℕ) → SlotSetPart z set role pool → Gives pool set page gfn → gfn < 2 ^ 36
 given_small z set page gfn role pool P G =
-    let fits = subst (λ slot. slot.base + slot.pages ≤ 2 ^ 36) G.live.is (P.fits G.id G.live.low G.live.live).frames in
+    let fits = subst (λ slot. slot.base + slot.pages ≤ 2 ^ 36) G.live.is (P.slots.fits G.id G.live.low G.live.live).frames in
     let has = G.has in
     let is = G.is in
     grind (arith, nat_tests)

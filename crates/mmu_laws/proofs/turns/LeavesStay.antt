@@ -43,7 +43,8 @@ use Rattle.mmu_core.proofs.pages.PoolPages.{table_not_owned}
 use Rattle.mmu_core.proofs.pages.Standing.{entry_now}
 use Rattle.mmu_core.proofs.machine.SumsBelow.{upd_id}
 use Rattle.mmu_core.proofs.held.FreshFrames.{looked_word}
-use Rattle.mmu_core.proofs.pages.TreeKept.{absent_entry, found_live}
+use Rattle.mmu_core.proofs.pages.TreeKept.{absent_entry}
+use Rattle.mmu_core.proofs.held.FreshFrames.{found_live}
 use Rattle.part_steps.specs.declared.task.Task.{Task}
 use Rattle.mmu_core.proofs.lines.StepIn.{StepIn, Makes, Touches}
 
@@ -170,9 +171,9 @@ module _ (z : Sizes) (v : View) (a gfn : ℕ) (J : Invariant z v) (I : TopicsInv
   same_leaf : IsPart z v a (part.Leaf gfn) → (w : ℕ) → IsLeafFor pool (v.words area.Host) (v.words area.Slots 0) gfn w → leaf_written t ≡ w
   same_leaf S w L =
       let may : MayEnter gfn t = S.needs.0 in
-      let live : IsLiveIn pool (v.words area.Slots 0) (t.search.id - 1) t.search.slot = found_live z v a gfn S.there I may.looked_up.found in
+      let live : IsLiveIn pool (v.words area.Slots 0) (t.search.id - 1) t.search.slot = found_live z v a gfn S.there I may in
       let same : t.search.id - 1 ≡ L.id =
-      J.set_part.guest_apart gfn (t.search.id - 1) L.id live.low L.live.low live.live L.live.live (ap (contains gfn) live.is ∙ may.looked_up.found.holds)
+      J.set_part.slots.guest_apart gfn (t.search.id - 1) L.id live.low L.live.low live.live L.live.live (ap (contains gfn) live.is ∙ may.looked_up.found.holds)
       (ap (contains gfn) L.live.is ∙ L.holds) in
       let slot : t.search.slot ≡ L.slot = sym live.is ∙ ap (slot_at pool (v.words area.Slots 0)) same ∙ L.live.is in
       ap (leaf_of t.search.slot) (looked_word z v a gfn S.there I may) ∙ ap (λ (s : Slot). leaf_of s (v.words area.Host (page_of s gfn))) slot

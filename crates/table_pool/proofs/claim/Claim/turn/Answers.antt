@@ -1,20 +1,20 @@
 use Rattle.std.proofs.Common.{◌≡◌, ◌<◌, Some, None, ap, sym, ◌∙◌, subst, ◌≢◌}
-use Rattle.std.specs.Prelude.{false}
+use Rattle.std.specs.Prelude.{false, not}
 use Rattle.core_views.specs.declared.hand.Seen.{Seen}
 use Rattle.mmu_core.specs.lines.ClaimSteps.{claim_over, map_words, try_part}
 use Rattle.step_seats.specs.declared.turn.Turn.TheVariants.{Done, More, Wait}
-use Rattle.step_seats.specs.PartTurns.{WherePartMade}
+use Rattle.step_seats.specs.PartTurns.{TurnsPart, WherePartMade, waits}
 use Rattle.step_seats.proofs.Where.{telling}
 use Rattle.table_pool.specs.ClaimedAlone.{IsClaimersAlone}
 use Rattle.table_pool.specs.Claims.{ClaimTurn, IsFirstSeen, SawStands, claim_step, next_word, sees_free}
 use Rattle.table_pool.specs.Maps.{IsFreeIn, got_in}
 use Rattle.table_pool.specs.declared.claim.Claimed.TheVariants.{Empty}
 use Rattle.table_pool.proofs.Claiming.{claim_needs, claims, got_of, load_needs, never_waits, saw_none, unbegun, where_claimed, won_waits_not, word_begun}
-use Rattle.table_pool.proofs.Claiming.{word_unbegun}
+use Rattle.table_pool.proofs.Claiming.{lost_if, word_unbegun}
 use Rattle.table_pool.proofs.ClaimedAlone.{claimed_alone}
 use Rattle.table_pool.proofs.ClaimTold.{claim_alone, claim_stands, claimed_free, load_stands_there, load_waits_not}
 use Rattle.table_pool.proofs.ClaimTurns.{comes_nearer, finds_none, looks_on, loses_one, takes_one, what_is_won}
-use Rattle.table_pool.proofs.EitherMap.{seen_small, try_owns_none}
+use Rattle.table_pool.proofs.EitherMap.{seen_small, try_gets, try_owns_none, try_waits}
 use Rattle.table_pool.proofs.FirstSeen.{first_seen}
 use Rattle.table_pool.proofs.claim.Claim.turn.Goals.{in-Some, in-None, else-self-via-then-self+else-claim-gt0, else-self-via-else-self, then-self-2}
 use Rattle.table_pool.proofs.claim.Claim.turn.Goals.{else-self-2}
@@ -26,7 +26,7 @@ returns-then-claim-gt0-clause-turned g c =
     let after = g.S.Stepper.seat c.make_part-value.new.s in
     let job = c.args.self.now in
     let some : 0 < (claim_over job.map s.hand.topics).seen =
-    rw (sym c.hand-3.ensures.hand, sym c.topics.ensures, sym c.claim_over-claim.ensures) c.if-claim-gt0.true in
+    rw (sym c.hand-3.ensures.hand, sym c.topics.ensures, sym c.claim_of-claim.ensures) c.if-claim-gt0.true in
     let small = seen_small job.map s.hand (rw c.hand.ensures.hand at c.part_rests.ensures) in
     let needs = claim_needs job c.args.note s.hand c.if-self.true some c.requires.may in
     let made = rw c.try_part.ensures at c.make_part-value.ensures.made in
@@ -39,12 +39,40 @@ returns-then-claim-gt0-clause-turned g c =
       | in-None w ↦
           let got : got_in job.map after.hand.topics ≡ None =
           rw (sym c.hand-then-claim-gt0.ensures.hand, sym c.topics-then-claim-gt0.ensures, sym c.got_in.ensures) w.in-None.is in
-          let at = rw (c.claim_over-claim.ensures, c.topics.ensures, c.hand-3.ensures.hand, c.progress.ensures, c.hand-2.ensures.hand)
-          at c.word_of-word.ensures in
+          let at = rw (c.area.ensures, c.map_of.ensures.is, c.claim_of-claim.ensures, c.topics.ensures, c.hand-3.ensures.hand, c.progress.ensures,
+          c.hand-2.ensures.hand) at c.word_of-word.ensures in
           subst (λ r. ClaimTurn s.hand.state.sizes job r s.hand.topics after.hand.topics) (sym w.result-is)
           (loses_one job s.hand.topics after.hand.topics c.make_part-value.result c.if-self.true some made.topics s.hand.state.sizes c.word_of-word.result
           (try_owns_none job.map s.hand needs) at got)
     ]
+
+pub returns-then-claim-gt0-clause-step : goal.returns-then-claim-gt0-clause-step
+returns-then-claim-gt0-clause-step g c =
+    let s = g.S.Stepper.seat c.args.s.now in
+    let after = g.S.Stepper.seat c.make_part-value.new.s in
+    let job = c.args.self.now in
+    let found = c.make_part-value.result in
+    let some : 0 < (claim_over job.map s.hand.topics).seen =
+    rw (sym c.hand-3.ensures.hand, sym c.topics.ensures, sym c.claim_of-claim.ensures) c.if-claim-gt0.true in
+    let made = rw c.try_part.ensures at c.make_part-value.ensures.made in
+    let way = try_waits job.map s.hand.topics found in
+    subst (λ p. TurnsPart (waits c.match-got_in.result) p c.args.note s after) (sym (claims job s.hand.topics c.if-self.true some)) (record {
+      found = found;
+      made = made;
+      waits_as = elim c.match-got_in.branch [
+        | in-Some w ↦
+            let got : got_in job.map after.hand.topics ≡ Some w.in-Some.one =
+            rw (sym c.hand-then-claim-gt0.ensures.hand, sym c.topics-then-claim-gt0.ensures, sym c.got_in.ensures) w.in-Some.is in
+            let won = what_is_won job s.hand.topics after.hand.topics found c.if-self.true some made.topics w.in-Some.one got in
+            ap waits w.result-is ∙ sym (way ∙ ap not won.0)
+        | in-None w ↦
+            let got : got_in job.map after.hand.topics ≡ None =
+            rw (sym c.hand-then-claim-gt0.ensures.hand, sym c.topics-then-claim-gt0.ensures, sym c.got_in.ensures) w.in-None.is in
+            let lost = lost_if (claim_over job.map s.hand.topics) found
+            (sym (try_gets job.map s.hand.topics found) ∙ ap (got_in job.map) (sym made.topics) ∙ got) in
+            ap waits w.result-is ∙ sym (way ∙ ap not lost)
+      ];
+    })
 
 pub returns-then-claim-gt0-clause-first : goal.returns-then-claim-gt0-clause-first
 returns-then-claim-gt0-clause-first g c one is =
@@ -52,7 +80,7 @@ returns-then-claim-gt0-clause-first g c one is =
     let after = g.S.Stepper.seat c.make_part-value.new.s in
     let job = c.args.self.now in
     let some : 0 < (claim_over job.map s.hand.topics).seen =
-    rw (sym c.hand-3.ensures.hand, sym c.topics.ensures, sym c.claim_over-claim.ensures) c.if-claim-gt0.true in
+    rw (sym c.hand-3.ensures.hand, sym c.topics.ensures, sym c.claim_of-claim.ensures) c.if-claim-gt0.true in
     let small = seen_small job.map s.hand (rw c.hand.ensures.hand at c.part_rests.ensures) in
     let made = rw c.try_part.ensures at c.make_part-value.ensures.made in
     elim c.match-got_in.branch [
@@ -71,7 +99,7 @@ returns-then-claim-gt0-clause-free g c one is =
     let after = g.S.Stepper.seat c.make_part-value.new.s in
     let job = c.args.self.now in
     let some : 0 < (claim_over job.map s.hand.topics).seen =
-    rw (sym c.hand-3.ensures.hand, sym c.topics.ensures, sym c.claim_over-claim.ensures) c.if-claim-gt0.true in
+    rw (sym c.hand-3.ensures.hand, sym c.topics.ensures, sym c.claim_of-claim.ensures) c.if-claim-gt0.true in
     let small = seen_small job.map s.hand (rw c.hand.ensures.hand at c.part_rests.ensures) in
     let needs = claim_needs job c.args.note s.hand c.if-self.true some c.requires.may in
     let made = rw c.try_part.ensures at c.make_part-value.ensures.made in
@@ -93,7 +121,7 @@ returns-then-claim-gt0-clause-sole g c one is =
     let after = g.S.Stepper.seat c.make_part-value.new.s in
     let job = c.args.self.now in
     let some : 0 < (claim_over job.map s.hand.topics).seen =
-    rw (sym c.hand-3.ensures.hand, sym c.topics.ensures, sym c.claim_over-claim.ensures) c.if-claim-gt0.true in
+    rw (sym c.hand-3.ensures.hand, sym c.topics.ensures, sym c.claim_of-claim.ensures) c.if-claim-gt0.true in
     let made = rw c.try_part.ensures at c.make_part-value.ensures.made in
     elim c.match-got_in.branch [
       | in-Some w ↦
@@ -114,7 +142,7 @@ returns-then-claim-gt0-clause-stands g c =
     let after = g.S.Stepper.seat c.make_part-value.new.s in
     let job = c.args.self.now in
     let some : 0 < (claim_over job.map s.hand.topics).seen =
-    rw (sym c.hand-3.ensures.hand, sym c.topics.ensures, sym c.claim_over-claim.ensures) c.if-claim-gt0.true in
+    rw (sym c.hand-3.ensures.hand, sym c.topics.ensures, sym c.claim_of-claim.ensures) c.if-claim-gt0.true in
     let small = seen_small job.map s.hand (rw c.hand.ensures.hand at c.part_rests.ensures) in
     let needs = claim_needs job c.args.note s.hand c.if-self.true some c.requires.may in
     let made = rw c.try_part.ensures at c.make_part-value.ensures.made in
@@ -129,7 +157,7 @@ returns-then-claim-gt0-clause-alone g c =
     let after = g.S.Stepper.seat c.make_part-value.new.s in
     let job = c.args.self.now in
     let some : 0 < (claim_over job.map s.hand.topics).seen =
-    rw (sym c.hand-3.ensures.hand, sym c.topics.ensures, sym c.claim_over-claim.ensures) c.if-claim-gt0.true in
+    rw (sym c.hand-3.ensures.hand, sym c.topics.ensures, sym c.claim_of-claim.ensures) c.if-claim-gt0.true in
     let small = seen_small job.map s.hand (rw c.hand.ensures.hand at c.part_rests.ensures) in
     let needs = claim_needs job c.args.note s.hand c.if-self.true some c.requires.may in
     let made = rw c.try_part.ensures at c.make_part-value.ensures.made in
@@ -146,150 +174,150 @@ returns-then-claim-gt0-clause-alone g c =
           (claim_alone job.map _ _ (telling v s) _ needs small at got)
     ])
 
-pub returns-then-claim_over-map_words-clause-turned : goal.returns-then-claim_over-map_words-clause-turned
-returns-then-claim_over-map_words-clause-turned g c =
+pub returns-then-claim_of-words-clause-turned : goal.returns-then-claim_of-words-clause-turned
+returns-then-claim_of-words-clause-turned g c =
     let s = g.S.Stepper.seat c.args.s.now in
     let after = g.S.Stepper.seat c.make_part.new.s in
     let job = c.args.self.now in
     let none : sees_free job (claim_over job.map s.hand.topics) ≡ false = elim c.else-self.branch [
       | else-self-via-then-self+else-claim-gt0 w ↦
           saw_none job (claim_over job.map s.hand.topics) w.if-self.true
-          (rw (sym c.hand-3.ensures.hand, sym c.topics.ensures, sym c.claim_over-claim.ensures) w.if-claim-gt0.false)
+          (rw (sym c.hand-3.ensures.hand, sym c.topics.ensures, sym c.claim_of-claim.ensures) w.if-claim-gt0.false)
       | else-self-via-else-self w ↦ unbegun job (claim_over job.map s.hand.topics) w.if-self.false
     ] in
     let word : c.if-self-2.word ≡ next_word job (claim_over job.map s.hand.topics) = elim c.if-self-2.branch [
       | then-self-2 w ↦
           word_begun job (claim_over job.map s.hand.topics) c.if-self-2.word w.if-self-2.true
-          (rw (sym c.hand-3.ensures.hand, sym c.topics.ensures, sym c.claim_over-claim.ensures) w.word-is)
+          (rw (sym c.hand-3.ensures.hand, sym c.topics.ensures, sym c.claim_of-claim.ensures) w.word-is)
       | else-self-2 w ↦ word_unbegun job (claim_over job.map s.hand.topics) c.if-self-2.word w.if-self-2.false w.word-is
     ] in
     let made = rw c.load_part.ensures at c.make_part.ensures.made in
     let needs = load_needs job c.if-self-2.word c.args.note s.hand none word c.requires.may in
-    let words : c.map_words.result ≡ map_words job.map s.hand.state.sizes = rw (c.progress.ensures, c.hand-2.ensures.hand) at c.map_words.ensures in
-    let at : c.claim_over.result ≡ claim_over job.map after.hand.topics = rw (c.topics-2.ensures, c.hand-4.ensures.hand) at c.claim_over.ensures in
+    let words : c.words.result ≡ map_words job.map s.hand.state.sizes = rw (c.progress.ensures, c.hand-2.ensures.hand) at c.words.ensures.is in
+    let at : c.claim_of.result ≡ claim_over job.map after.hand.topics = rw (c.topics-2.ensures, c.hand-4.ensures.hand) at c.claim_of.ensures in
     looks_on job c.if-self-2.word c.make_part.result s.hand after.hand.topics none word needs made.topics
-    (rw (sym at, sym words) c.if-claim_over-map_words.true)
+    (rw (sym at, sym words) c.if-claim_of-words.true)
 
-pub returns-then-claim_over-map_words-clause-stands : goal.returns-then-claim_over-map_words-clause-stands
-returns-then-claim_over-map_words-clause-stands g c =
+pub returns-then-claim_of-words-clause-stands : goal.returns-then-claim_of-words-clause-stands
+returns-then-claim_of-words-clause-stands g c =
     let s = g.S.Stepper.seat c.args.s.now in
     let after = g.S.Stepper.seat c.make_part.new.s in
     let job = c.args.self.now in
     let none : sees_free job (claim_over job.map s.hand.topics) ≡ false = elim c.else-self.branch [
       | else-self-via-then-self+else-claim-gt0 w ↦
           saw_none job (claim_over job.map s.hand.topics) w.if-self.true
-          (rw (sym c.hand-3.ensures.hand, sym c.topics.ensures, sym c.claim_over-claim.ensures) w.if-claim-gt0.false)
+          (rw (sym c.hand-3.ensures.hand, sym c.topics.ensures, sym c.claim_of-claim.ensures) w.if-claim-gt0.false)
       | else-self-via-else-self w ↦ unbegun job (claim_over job.map s.hand.topics) w.if-self.false
     ] in
     let word : c.if-self-2.word ≡ next_word job (claim_over job.map s.hand.topics) = elim c.if-self-2.branch [
       | then-self-2 w ↦
           word_begun job (claim_over job.map s.hand.topics) c.if-self-2.word w.if-self-2.true
-          (rw (sym c.hand-3.ensures.hand, sym c.topics.ensures, sym c.claim_over-claim.ensures) w.word-is)
+          (rw (sym c.hand-3.ensures.hand, sym c.topics.ensures, sym c.claim_of-claim.ensures) w.word-is)
       | else-self-2 w ↦ word_unbegun job (claim_over job.map s.hand.topics) c.if-self-2.word w.if-self-2.false w.word-is
     ] in
     let made = rw c.load_part.ensures at c.make_part.ensures.made in
     load_stands_there job c.if-self-2.word c.args.note c.make_part.result s after none word c.requires.may made
 
-pub returns-then-claim_over-map_words-clause-alone : goal.returns-then-claim_over-map_words-clause-alone
-returns-then-claim_over-map_words-clause-alone g c =
+pub returns-then-claim_of-words-clause-alone : goal.returns-then-claim_of-words-clause-alone
+returns-then-claim_of-words-clause-alone g c =
     let s = g.S.Stepper.seat c.args.s.now in
     let after = g.S.Stepper.seat c.make_part.new.s in
     let job = c.args.self.now in
     let none : sees_free job (claim_over job.map s.hand.topics) ≡ false = elim c.else-self.branch [
       | else-self-via-then-self+else-claim-gt0 w ↦
           saw_none job (claim_over job.map s.hand.topics) w.if-self.true
-          (rw (sym c.hand-3.ensures.hand, sym c.topics.ensures, sym c.claim_over-claim.ensures) w.if-claim-gt0.false)
+          (rw (sym c.hand-3.ensures.hand, sym c.topics.ensures, sym c.claim_of-claim.ensures) w.if-claim-gt0.false)
       | else-self-via-else-self w ↦ unbegun job (claim_over job.map s.hand.topics) w.if-self.false
     ] in
     let word : c.if-self-2.word ≡ next_word job (claim_over job.map s.hand.topics) = elim c.if-self-2.branch [
       | then-self-2 w ↦
           word_begun job (claim_over job.map s.hand.topics) c.if-self-2.word w.if-self-2.true
-          (rw (sym c.hand-3.ensures.hand, sym c.topics.ensures, sym c.claim_over-claim.ensures) w.word-is)
+          (rw (sym c.hand-3.ensures.hand, sym c.topics.ensures, sym c.claim_of-claim.ensures) w.word-is)
       | else-self-2 w ↦ word_unbegun job (claim_over job.map s.hand.topics) c.if-self-2.word w.if-self-2.false w.word-is
     ] in
     let made = rw c.load_part.ensures at c.make_part.ensures.made in
     load_waits_not job c.if-self-2.word c.args.note c.make_part.result s after none word c.requires.may made More (λ seen e. cc e)
 
-pub returns-then-claim_over-map_words-clause-nearer : goal.returns-then-claim_over-map_words-clause-nearer
-returns-then-claim_over-map_words-clause-nearer g c is =
+pub returns-then-claim_of-words-clause-nearer : goal.returns-then-claim_of-words-clause-nearer
+returns-then-claim_of-words-clause-nearer g c is =
     let s = g.S.Stepper.seat c.args.s.now in
     let after = g.S.Stepper.seat c.make_part.new.s in
     let job = c.args.self.now in
     let none : sees_free job (claim_over job.map s.hand.topics) ≡ false = elim c.else-self.branch [
       | else-self-via-then-self+else-claim-gt0 w ↦
           saw_none job (claim_over job.map s.hand.topics) w.if-self.true
-          (rw (sym c.hand-3.ensures.hand, sym c.topics.ensures, sym c.claim_over-claim.ensures) w.if-claim-gt0.false)
+          (rw (sym c.hand-3.ensures.hand, sym c.topics.ensures, sym c.claim_of-claim.ensures) w.if-claim-gt0.false)
       | else-self-via-else-self w ↦ unbegun job (claim_over job.map s.hand.topics) w.if-self.false
     ] in
     let word : c.if-self-2.word ≡ next_word job (claim_over job.map s.hand.topics) = elim c.if-self-2.branch [
       | then-self-2 w ↦
           word_begun job (claim_over job.map s.hand.topics) c.if-self-2.word w.if-self-2.true
-          (rw (sym c.hand-3.ensures.hand, sym c.topics.ensures, sym c.claim_over-claim.ensures) w.word-is)
+          (rw (sym c.hand-3.ensures.hand, sym c.topics.ensures, sym c.claim_of-claim.ensures) w.word-is)
       | else-self-2 w ↦ word_unbegun job (claim_over job.map s.hand.topics) c.if-self-2.word w.if-self-2.false w.word-is
     ] in
     let made = rw c.load_part.ensures at c.make_part.ensures.made in
     let needs = load_needs job c.if-self-2.word c.args.note s.hand none word c.requires.may in
     comes_nearer job c.if-self-2.word c.make_part.result s.hand after.hand.topics none word needs made.topics
 
-pub returns-else-claim_over-map_words-clause-turned : goal.returns-else-claim_over-map_words-clause-turned
-returns-else-claim_over-map_words-clause-turned g c =
+pub returns-else-claim_of-words-clause-turned : goal.returns-else-claim_of-words-clause-turned
+returns-else-claim_of-words-clause-turned g c =
     let s = g.S.Stepper.seat c.args.s.now in
     let after = g.S.Stepper.seat c.make_part.new.s in
     let job = c.args.self.now in
     let none : sees_free job (claim_over job.map s.hand.topics) ≡ false = elim c.else-self.branch [
       | else-self-via-then-self+else-claim-gt0 w ↦
           saw_none job (claim_over job.map s.hand.topics) w.if-self.true
-          (rw (sym c.hand-3.ensures.hand, sym c.topics.ensures, sym c.claim_over-claim.ensures) w.if-claim-gt0.false)
+          (rw (sym c.hand-3.ensures.hand, sym c.topics.ensures, sym c.claim_of-claim.ensures) w.if-claim-gt0.false)
       | else-self-via-else-self w ↦ unbegun job (claim_over job.map s.hand.topics) w.if-self.false
     ] in
     let word : c.if-self-2.word ≡ next_word job (claim_over job.map s.hand.topics) = elim c.if-self-2.branch [
       | then-self-2 w ↦
           word_begun job (claim_over job.map s.hand.topics) c.if-self-2.word w.if-self-2.true
-          (rw (sym c.hand-3.ensures.hand, sym c.topics.ensures, sym c.claim_over-claim.ensures) w.word-is)
+          (rw (sym c.hand-3.ensures.hand, sym c.topics.ensures, sym c.claim_of-claim.ensures) w.word-is)
       | else-self-2 w ↦ word_unbegun job (claim_over job.map s.hand.topics) c.if-self-2.word w.if-self-2.false w.word-is
     ] in
     let made = rw c.load_part.ensures at c.make_part.ensures.made in
     let needs = load_needs job c.if-self-2.word c.args.note s.hand none word c.requires.may in
-    let words : c.map_words.result ≡ map_words job.map s.hand.state.sizes = rw (c.progress.ensures, c.hand-2.ensures.hand) at c.map_words.ensures in
-    let at : c.claim_over.result ≡ claim_over job.map after.hand.topics = rw (c.topics-2.ensures, c.hand-4.ensures.hand) at c.claim_over.ensures in
+    let words : c.words.result ≡ map_words job.map s.hand.state.sizes = rw (c.progress.ensures, c.hand-2.ensures.hand) at c.words.ensures.is in
+    let at : c.claim_of.result ≡ claim_over job.map after.hand.topics = rw (c.topics-2.ensures, c.hand-4.ensures.hand) at c.claim_of.ensures in
     finds_none job c.if-self-2.word c.make_part.result s.hand after.hand.topics none word needs made.topics
-    (rw (sym at, sym words) c.if-claim_over-map_words.false)
+    (rw (sym at, sym words) c.if-claim_of-words.false)
 
-pub returns-else-claim_over-map_words-clause-stands : goal.returns-else-claim_over-map_words-clause-stands
-returns-else-claim_over-map_words-clause-stands g c =
+pub returns-else-claim_of-words-clause-stands : goal.returns-else-claim_of-words-clause-stands
+returns-else-claim_of-words-clause-stands g c =
     let s = g.S.Stepper.seat c.args.s.now in
     let after = g.S.Stepper.seat c.make_part.new.s in
     let job = c.args.self.now in
     let none : sees_free job (claim_over job.map s.hand.topics) ≡ false = elim c.else-self.branch [
       | else-self-via-then-self+else-claim-gt0 w ↦
           saw_none job (claim_over job.map s.hand.topics) w.if-self.true
-          (rw (sym c.hand-3.ensures.hand, sym c.topics.ensures, sym c.claim_over-claim.ensures) w.if-claim-gt0.false)
+          (rw (sym c.hand-3.ensures.hand, sym c.topics.ensures, sym c.claim_of-claim.ensures) w.if-claim-gt0.false)
       | else-self-via-else-self w ↦ unbegun job (claim_over job.map s.hand.topics) w.if-self.false
     ] in
     let word : c.if-self-2.word ≡ next_word job (claim_over job.map s.hand.topics) = elim c.if-self-2.branch [
       | then-self-2 w ↦
           word_begun job (claim_over job.map s.hand.topics) c.if-self-2.word w.if-self-2.true
-          (rw (sym c.hand-3.ensures.hand, sym c.topics.ensures, sym c.claim_over-claim.ensures) w.word-is)
+          (rw (sym c.hand-3.ensures.hand, sym c.topics.ensures, sym c.claim_of-claim.ensures) w.word-is)
       | else-self-2 w ↦ word_unbegun job (claim_over job.map s.hand.topics) c.if-self-2.word w.if-self-2.false w.word-is
     ] in
     let made = rw c.load_part.ensures at c.make_part.ensures.made in
     load_stands_there job c.if-self-2.word c.args.note c.make_part.result s after none word c.requires.may made
 
-pub returns-else-claim_over-map_words-clause-alone : goal.returns-else-claim_over-map_words-clause-alone
-returns-else-claim_over-map_words-clause-alone g c =
+pub returns-else-claim_of-words-clause-alone : goal.returns-else-claim_of-words-clause-alone
+returns-else-claim_of-words-clause-alone g c =
     let s = g.S.Stepper.seat c.args.s.now in
     let after = g.S.Stepper.seat c.make_part.new.s in
     let job = c.args.self.now in
     let none : sees_free job (claim_over job.map s.hand.topics) ≡ false = elim c.else-self.branch [
       | else-self-via-then-self+else-claim-gt0 w ↦
           saw_none job (claim_over job.map s.hand.topics) w.if-self.true
-          (rw (sym c.hand-3.ensures.hand, sym c.topics.ensures, sym c.claim_over-claim.ensures) w.if-claim-gt0.false)
+          (rw (sym c.hand-3.ensures.hand, sym c.topics.ensures, sym c.claim_of-claim.ensures) w.if-claim-gt0.false)
       | else-self-via-else-self w ↦ unbegun job (claim_over job.map s.hand.topics) w.if-self.false
     ] in
     let word : c.if-self-2.word ≡ next_word job (claim_over job.map s.hand.topics) = elim c.if-self-2.branch [
       | then-self-2 w ↦
           word_begun job (claim_over job.map s.hand.topics) c.if-self-2.word w.if-self-2.true
-          (rw (sym c.hand-3.ensures.hand, sym c.topics.ensures, sym c.claim_over-claim.ensures) w.word-is)
+          (rw (sym c.hand-3.ensures.hand, sym c.topics.ensures, sym c.claim_of-claim.ensures) w.word-is)
       | else-self-2 w ↦ word_unbegun job (claim_over job.map s.hand.topics) c.if-self-2.word w.if-self-2.false w.word-is
     ] in
     let made = rw c.load_part.ensures at c.make_part.ensures.made in
