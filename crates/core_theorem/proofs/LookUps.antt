@@ -24,7 +24,8 @@ live_still z u G actor there whole =
     Live : ℕ → Type 0
     Live set = IsLiveIn (word_in z u area.Pool) set ((topics_in u actor).search.id - 1) (topics_in u actor).search.slot
 
-    by : (set : ℕ) → Live set → (set ≡ word_in z u area.Slots 0) ⊎ HoldsOld (actors_of z) (topics_in u) actor set → Live (word_in z u area.Slots 0)
+    by : (set : ℕ) → Live set → (set ≡ word_in z u area.Slots 0) ⊎ HoldsOld (λ t. t.leaving) (actors_of z) (topics_in u) actor set
+        → Live (word_in z u area.Slots 0)
     by set live (inl e) = subst Live e live
     by set live (inr H) = G.topics.old_sets H.by set H.there H.leaves ((topics_in u actor).search.id - 1) (topics_in u actor).search.slot live
 

@@ -92,7 +92,7 @@ pub held_words_stay : (z : Sizes) (v : View) (a : ℕ) (step : PartStep) (note :
     → SetStays k (v.words area.Pool) ((part_stepped a step note v).words area.Pool)
 held_words_stay z v a step note S I i k lt is = by (is_publish step) refl
   where
-    from : is_publish step ≡ false → (k ≡ (part_stepped a step note v).words area.Slots 0) ⊎ HoldsOld (actors_of z) (λ j.
+    from : is_publish step ≡ false → (k ≡ (part_stepped a step note v).words area.Slots 0) ⊎ HoldsOld (λ t. t.leaving) (actors_of z) (λ j.
         ((part_stepped a step note v).hand j).topics) i k → SetStays k (v.words area.Pool) ((part_stepped a step note v).words area.Pool)
     from never (inl e) =
         subst (λ s. SetStays s (v.words area.Pool) ((part_stepped a step note v).words area.Pool))
@@ -110,7 +110,7 @@ pub set_live : (z : Sizes) (v : View) (a k : ℕ) → a < actors_of z → Topics
     → StayLive (v.words area.Pool) k (v.words area.Pool) (v.words area.Slots 0)
 set_live z v a k lt I held = by (I.sets a k lt held)
   where
-    by : (k ≡ v.words area.Slots 0) ⊎ HoldsOld (actors_of z) (λ j. (v.hand j).topics) a k
+    by : (k ≡ v.words area.Slots 0) ⊎ HoldsOld (λ t. t.leaving) (actors_of z) (λ j. (v.hand j).topics) a k
         → StayLive (v.words area.Pool) k (v.words area.Pool) (v.words area.Slots 0)
     by (inl e) = λ id slot L. subst (λ s. IsLiveIn (v.words area.Pool) s id slot) e L
     by (inr H) = I.old_sets H.by k H.there H.leaves
