@@ -1,11 +1,13 @@
 -- Each frame has one use; what moves have copied is their pages'; and what one actor owns of frames no other one owns, and no page names.
 use Rattle.std.proofs.Common.{◌≡◌, ◌≢◌, ◌⊎◌, inl, inr, ◌<◌, ◌≤◌, ℕ, List, refl, sym, subst, ap, ◌∙◌, arith}
-use Rattle.std.specs.Prelude.{Bool, true, false, if◌then◌else◌, nat_lt, All, slice_index}
+use Rattle.std.specs.Prelude.{Bool, true, false, if◌then◌else◌, nat_lt, All, Option, Some, None, slice_index}
 use Rattle.std.proofs.lemmas.Bool.Decides.{nat_tests}
 use Rattle.core_views.specs.declared.cache.Translation.{Translation}
 use Rattle.core_views.specs.declared.kind.Kind.{Kind}
+use Rattle.core_views.specs.declared.kind.StepKind.{StepKind}
 use Rattle.core_views.specs.declared.kind.StepKind.TheVariants as kind
 use Rattle.core_views.specs.declared.sizes.Sizes.{Sizes}
+use Rattle.core_views.specs.declared.topics.OwnedFrame.{OwnedFrame}
 use Rattle.core_views.specs.declared.topics.Topics.{Topics}
 use Rattle.core_views.specs.declared.trace.Op.TheVariants.{Add, Read, Write}
 use Rattle.core_views.specs.Held.{Held}
@@ -19,12 +21,12 @@ use Rattle.spte_words.proofs.Places.{places_apart}
 use Rattle.part_steps.specs.declared.part_step.PartStep.{PartStep}
 use Rattle.part_steps.specs.declared.part_step.PartStep.TheVariants as part
 use Rattle.part_steps.specs.declared.task.Task.{Task}
-use Rattle.part_steps.specs.PartHoldings.{next_watched}
 use Rattle.part_steps.specs.PartSteps.{needs_line}
 use Rattle.part_steps.specs.PartTasks.{own_index, part_task}
 use Rattle.part_steps.specs.Tasks.{map_of}
-use Rattle.mmu_core.specs.invariant.FramesPart.{FrameUse, is_frame_use}
+use Rattle.mmu_core.specs.invariant.FramesPart.{FrameUse, IsNamed, frame_looked, is_frame_use, number_owned}
 use Rattle.mmu_core.specs.invariant.FramesPart.FrameUse.{Free, Outside, Page, Owned}
+use Rattle.mmu_core.specs.invariant.HeldPart.{HoldsOld}
 use Rattle.mmu_core.specs.invariant.InvalidatedPart.{may_use}
 use Rattle.mmu_core.specs.invariant.Laws.{IsSound}
 use Rattle.mmu_core.specs.machine.Enabled.{mmu}
@@ -38,7 +40,7 @@ use Rattle.mmu_core.proofs.machine.Columns.{same_or}
 use Rattle.mmu_core.proofs.machine.PartStepping.{IsPart}
 use Rattle.mmu_core.proofs.machine.Which.{is_next, is_part}
 use Rattle.mmu_core.proofs.machine.Worlds.{are_small, good_step, takes_line}
-use Rattle.mmu_core.proofs.pages.FrameUses.{HasFrameOwner, frame_use_is, free_frame_use, has_frame_owner, has_page, one_frame_owner, owned_frame_use}
+use Rattle.mmu_core.proofs.pages.FrameUses.{frame_use_is, free_frame_use, has_frame_owner, has_page, one_frame_owner, owned_frame_use}
 use Rattle.mmu_core.proofs.pages.FrameUses.{owned_of_no_page, page_use}
 use Rattle.core_theorem.specs.Frames.{CopiedWordsAreThePages, FramesAreReusedAlone, FramesAreUsed, GivesFrame, IsFrameUsedFor, IsNobodyElses}
 use Rattle.core_theorem.specs.Frames.{LooksAtFrame, OwnsFrame, WatchedHoldNoOldFrame, WinsFrame}
@@ -47,10 +49,8 @@ use Rattle.mmu_laws.specs.steps.StepLaws.{IsOn, IsOnItsArea}
 use Rattle.mmu_laws.proofs.causes.Changes.{word_stays}
 use Rattle.mmu_laws.proofs.leaves.LeafLaws.{cached_leaves_agree}
 use Rattle.mmu_laws.proofs.steps.StepLaws.{steps_are_on_their_areas}
-use Rattle.core_theorem.proofs.FrameLooks.{MayBeSeen, SeenAt, uses_are_seen}
 use Rattle.core_theorem.proofs.Pages.{at_end, from_end}
 use Rattle.core_theorem.proofs.Runs.{before, last_actor, may_last, sound}
-use Rattle.core_theorem.proofs.SeenFrames.{frames_are_seen}
 
 module _ (z : Sizes) (u : World Held) (G : IsSound z u) (frame : ℕ) where
   used : (use_ : FrameUse) → G.topics.use_of frame ≡ use_ → IsFrameUsedFor z u frame use_
@@ -102,107 +102,111 @@ module _ (z : Sizes) (u : World Held) (G : IsSound z u) (frame : ℕ)
   unused_frame vcpu low may =
       agreeing_apart (hand_in mmu u vcpu).cached.items ((cached_leaves_agree z u vcpu G (omega (arith, low))).agrees low may)
 
+-- ---- the frames at which actors have looked in their sections
+
+looked_at : (frame : ℕ) (t : Topics) → LooksAtFrame frame t → frame_looked t.host t.stay ≡ Some frame
+looked_at frame t L = ap (λ x. frame_looked x t.stay) L.is ∙ ap (frame_looked (Some L.look)) L.section ∙ ap (λ f. Some f) L.of_frame
+
+owns_number : (frame : ℕ) (h : Held) → number_owned h.topics.frames.owned ≡ Some frame → OwnsFrame frame h
+owns_number frame h = by h.topics.frames.owned refl
+  where
+    by : (x : Option OwnedFrame) → h.topics.frames.owned ≡ x → number_owned x ≡ Some frame → OwnsFrame frame h
+    by None is e = absurd (cc e)
+    by (Some o) is e = record { owned = o; is = is; of_frame = cc e }
+
+-- The frame is a page's still, or owned by an actor that hasn't watched this one since.
+abbrev IsHeldStill : Sizes → World Held → ℕ → ℕ → Type 0
+IsHeldStill z u other frame =
+    IsNamed z.pages (word_in z u area.Host) frame
+    ⊎ HoldsOld (λ t. number_owned t.frames.owned) (actors_of z) (λ i. (hand_in mmu u i).topics) other frame
+
+held_look : (z : Sizes) (u : World Held) → IsSound z u → (other frame : ℕ) → other < actors_of z → LooksAtFrame frame (hand_in mmu u other).topics
+    → IsHeldStill z u other frame
+held_look z u G other frame among L = G.topics.looked_frames other frame among (looked_at frame (hand_in mmu u other).topics L)
+
 -- Nobody that the owner of a frame has watched since it has this has looked at a page there.
-unwatched_look : (z : Sizes) (u : World Held) → IsSound z u → SeenAt z (view z u) → (actor frame other : ℕ) → actor < actors_of z → other < actors_of z
+unwatched_look : (z : Sizes) (u : World Held) → IsSound z u → (actor frame other : ℕ) → actor < actors_of z → other < actors_of z
     → OwnsFrame frame (hand_in mmu u actor) → LooksAtFrame frame (hand_in mmu u other).topics → (hand_in mmu u actor).topics.watched ≤ other
-unwatched_look z u G P actor frame other there among O L =
-    (subst (MayBeSeen (λ i. (hand_in mmu u i).topics) other)
-    (ap G.topics.use_of (L.of_frame ∙ sym O.of_frame) ∙ owned_frame_use G.topics.frames actor O.owned there O.is)
-    (uses_are_seen z (view z u) G.topics P other L.look among L.section L.is)).1
+unwatched_look z u G actor frame other there among O L = by (held_look z u G other frame among L)
+  where
+    by : IsHeldStill z u other frame → (hand_in mmu u actor).topics.watched ≤ other
+    by (inl named) = absurd (owned_of_no_page G.topics.frames actor O.owned named.0 there O.is named.1 (named.2 ∙ sym O.of_frame))
+    by (inr H) =
+        let F = owns_number frame (hand_in mmu u H.by) H.leaves in
+        let same = one_frame_owner G.topics.frames H.by actor F.owned O.owned H.there there F.is O.is (O.of_frame ∙ sym F.of_frame) in
+        subst (λ i. (hand_in mmu u i).topics.watched ≤ other) same H.unwatched
 
 pub watched_hold_no_old_frame : WatchedHoldNoOldFrame
 watched_hold_no_old_frame z lines w ss R watcher other frame there among O passed L =
-    let le = unwatched_look z (run mmu w ss) (sound z lines w ss R) (frames_are_seen z lines w ss R.start R.legal) watcher frame other there among O L in
-    omega (arith, le, passed)
+    let le = unwatched_look z (run mmu w ss) (sound z lines w ss R) watcher frame other there among O L in omega (arith, le, passed)
 
 -- ---- the step that claims a frame, or gives it back
 
-claims_frame : (z : Sizes) (v : View) (a : ℕ) (task : Task) → StepIn z v a task → code_of task.kind ≡ code_of kind.Frame → IsPart z v a part.Frame
-claims_frame z v a _ (Makes step note S) e = by step S e
+-- A step of this kind is that of a part, one of lines.
+record IsOnly (kind_ : StepKind) (made : PartStep) : Type 0 where
+  made_so : (step : PartStep) (own_ : ℕ) (t : Topics) (note : ℕ) → code_of (part_task step own_ t note).kind ≡ code_of kind_ → step ≡ made
+  no_touch : code_of kind.Add < code_of kind_
+  of_lines : needs_line made ≡ true
+
+only_claim : IsOnly kind.Frame part.Frame
+only_claim = record { made_so = by; no_touch = omega arith; of_lines = refl }
   where
-    by : (step : PartStep) → IsPart z v a step → code_of (part_task step (own_index (v.hand a)) (v.hand a).topics note).kind ≡ code_of kind.Frame
-        → IsPart z v a part.Frame
-    by part.Frame S e = S
-    by _ S e = absurd (omega (arith, e))
-claims_frame z v a _ (Touches Read index) e = absurd (omega (arith, e))
-claims_frame z v a _ (Touches (Write x) index) e = absurd (omega (arith, e))
-claims_frame z v a _ (Touches (Add x) index) e = absurd (omega (arith, e))
+    by : (step : PartStep) (own_ : ℕ) (t : Topics) (note : ℕ) → code_of (part_task step own_ t note).kind ≡ code_of kind.Frame → step ≡ part.Frame
+    by part.Frame own_ t note e = refl
+    by _ own_ t note e = absurd (omega (arith, e))
 
-gives_frame : (z : Sizes) (v : View) (a : ℕ) (task : Task) → StepIn z v a task → code_of task.kind ≡ code_of kind.Unframe → IsPart z v a part.GiveFrame
-gives_frame z v a _ (Makes step note S) e = by step S e
+only_gift : IsOnly kind.Unframe part.GiveFrame
+only_gift = record { made_so = by; no_touch = omega arith; of_lines = refl }
   where
-    by : (step : PartStep) → IsPart z v a step → code_of (part_task step (own_index (v.hand a)) (v.hand a).topics note).kind ≡ code_of kind.Unframe
-        → IsPart z v a part.GiveFrame
-    by part.GiveFrame S e = S
-    by _ S e = absurd (omega (arith, e))
-gives_frame z v a _ (Touches Read index) e = absurd (omega (arith, e))
-gives_frame z v a _ (Touches (Write x) index) e = absurd (omega (arith, e))
-gives_frame z v a _ (Touches (Add x) index) e = absurd (omega (arith, e))
+    by : (step : PartStep) (own_ : ℕ) (t : Topics) (note : ℕ) → code_of (part_task step own_ t note).kind ≡ code_of kind.Unframe → step ≡ part.GiveFrame
+    by part.GiveFrame own_ t note e = refl
+    by _ own_ t note e = absurd (omega (arith, e))
 
--- Who has no line left neither claims a frame nor gives one back.
-idle_claims_none : (step : PartStep) (own_ : ℕ) (t : Topics) (note : ℕ) → needs_line step ≡ false
-    → code_of (part_task step own_ t note).kind ≡ code_of kind.Frame → ⊥
-idle_claims_none part.Frame own_ t note free e = absurd (cc free)
-idle_claims_none _ own_ t note free e = absurd (omega (arith, e))
+line_makes : (z : Sizes) (v : View) (a : ℕ) (kind_ : StepKind) (made : PartStep) (task : Task) → IsOnly kind_ made → StepIn z v a task
+    → code_of task.kind ≡ code_of kind_ → IsPart z v a made
+line_makes z v a kind_ made _ O (Makes step note S) e = subst (IsPart z v a) (O.made_so step (own_index (v.hand a)) (v.hand a).topics note e) S
+line_makes z v a kind_ made _ O (Touches Read index) e = absurd (omega (arith, e, O.no_touch))
+line_makes z v a kind_ made _ O (Touches (Write x) index) e = absurd (omega (arith, e, O.no_touch))
+line_makes z v a kind_ made _ O (Touches (Add x) index) e = absurd (omega (arith, e, O.no_touch))
 
-idle_gives_none : (step : PartStep) (own_ : ℕ) (t : Topics) (note : ℕ) → needs_line step ≡ false
-    → code_of (part_task step own_ t note).kind ≡ code_of kind.Unframe → ⊥
-idle_gives_none part.GiveFrame own_ t note free e = absurd (cc free)
-idle_gives_none _ own_ t note free e = absurd (omega (arith, e))
+-- Who makes a step of the kind makes it for its line: who has no line left makes none of lines.
+makes_part : (z : Sizes) (u : World Held) (s : Step Kind) → IsSound z u → May mmu u s → (kind_ : StepKind) (made : PartStep) → IsOnly kind_ made
+    → s.kind.code ≡ code_of kind_ → IsPart z (view z u) s.actor made
+makes_part z u s G may kind_ made O e = by (has_line h) refl
+  where
+    h : Held
+    h = hand_in mmu u s.actor
 
-module _ (z : Sizes) (u : World Held) (s : Step Kind) (G : IsSound z u) (may : May mmu u s) where
-  abbrev h : Held
-  h = hand_in mmu u s.actor
-
-  -- a line's step, as that of the part which it makes, or a touch
-  line_made : (has : has_line h ≡ true) → StepIn z (view z u) s.actor (task_of h)
-  line_made has =
-      step_in z (view z u) s.actor (line_at h.state.place h) (line_at h.state.place h).command (place_at h.state.place h) (are_small z u G)
-      (takes_line z u s G may (is_next h s.kind may.enabled has)).is_step G.holds G.topics
-
-  claims_part : s.kind.code ≡ code_of kind.Frame → IsPart z (view z u) s.actor part.Frame
-  claims_part e = by (has_line h) refl
-    where
-      by : (b : Bool) → has_line h ≡ b → IsPart z (view z u) s.actor part.Frame
-      by true has =
-          claims_frame z (view z u) s.actor (task_of h) (line_made has) (sym (ap (λ (k : Kind). k.code) (is_next h s.kind may.enabled has).is) ∙ e)
-      by false none =
-          let N = is_part h s.kind may.enabled none in
-          absurd (idle_claims_none N.step (own_index h) h.topics N.note N.free (sym (ap (λ (k : Kind). k.code) N.is) ∙ e))
-
-  gives_part : s.kind.code ≡ code_of kind.Unframe → IsPart z (view z u) s.actor part.GiveFrame
-  gives_part e = by (has_line h) refl
-    where
-      by : (b : Bool) → has_line h ≡ b → IsPart z (view z u) s.actor part.GiveFrame
-      by true has =
-          gives_frame z (view z u) s.actor (task_of h) (line_made has) (sym (ap (λ (k : Kind). k.code) (is_next h s.kind may.enabled has).is) ∙ e)
-      by false none =
-          let N = is_part h s.kind may.enabled none in
-          absurd (idle_gives_none N.step (own_index h) h.topics N.note N.free (sym (ap (λ (k : Kind). k.code) N.is) ∙ e))
+    by : (b : Bool) → has_line h ≡ b → IsPart z (view z u) s.actor made
+    by true has =
+        let N = is_next h s.kind may.enabled has in
+        line_makes z (view z u) s.actor kind_ made (task_of h) O
+        (step_in z (view z u) s.actor (line_at h.state.place h) (line_at h.state.place h).command (place_at h.state.place h) (are_small z u G)
+        (takes_line z u s G may N).is_step G.holds G.topics) (sym (ap (λ (k : Kind). k.code) N.is) ∙ e)
+    by false none =
+        let N = is_part h s.kind may.enabled none in
+        let free = N.free in
+        let same = ap needs_line (O.made_so N.step (own_index h) h.topics N.note (sym (ap (λ (k : Kind). k.code) N.is) ∙ e)) ∙ O.of_lines in
+        absurd (cc (free, same))
 
 -- A frame that is given back is nobody else's: each other actor was watched since its page was moved out of it.
-given_nobody_elses : (z : Sizes) (u : World Held) (s : Step Kind) → IsSound z u → May mmu u s → SeenAt z (view z u) → (frame : ℕ) → s.actor < actors_of z
+given_nobody_elses : (z : Sizes) (u : World Held) (s : Step Kind) → IsSound z u → May mmu u s → (frame : ℕ) → s.actor < actors_of z
     → GivesFrame frame u s → IsNobodyElses z s.actor frame u
-given_nobody_elses z u s G may P frame there W = record {
+given_nobody_elses z u s G may frame there W = record {
   others = λ other among apart O.
       apart (one_frame_owner G.topics.frames other s.actor O.owned W.had.owned among there O.is W.had.is (W.had.of_frame ∙ sym O.of_frame));
   looks = λ other among apart L.
-      all_passed s.actor (hand_in mmu u s.actor).topics.watched (actors_of z) other all among apart
-      (unwatched_look z u G P s.actor frame other there among W.had L);
+      all_passed z (hand_in mmu u s.actor) s.actor other S.sizes S.own_place S.needs.watched among apart
+      (unwatched_look z u G s.actor frame other there among W.had L);
   unused = unused_frame z u G frame pages;
   pages = pages;
 }
   where
     S : IsPart z (view z u) s.actor part.GiveFrame
-    S = gives_part z u s G may W.gives
+    S = makes_part z u s G may kind.Unframe part.GiveFrame only_gift W.gives
 
     pages : (page : ℕ) → page < z.pages → host_frame (word_in z u area.Host page) ≢ frame
     pages page low e = owned_of_no_page G.topics.frames s.actor W.had.owned page there W.had.is low (e ∙ sym W.had.of_frame)
-
-    all : actors_of z ≤ next_watched s.actor (hand_in mmu u s.actor).topics.watched
-    all =
-        subst (λ (y : Sizes). actors_of y ≤ next_watched s.actor (hand_in mmu u s.actor).topics.watched) S.sizes
-        (subst (λ o. actors_of (hand_in mmu u s.actor).state.sizes ≤ next_watched o (hand_in mmu u s.actor).topics.watched) S.own_place S.needs.watched)
 
 -- A claim of a frame leaves each host word.
 host_stays : (z : Sizes) (u : World Held) (s : Step Kind) → IsSound z u → May mmu u s → s.kind.code ≡ code_of kind.Frame → (page : ℕ) → page < z.pages
@@ -228,9 +232,9 @@ host_stays z u s G may claims page low =
         absurd (cc (same, map))
 
 -- A frame that a claim wins was nobody else's before it.
-won_nobody_elses : (z : Sizes) (u : World Held) (s : Step Kind) → IsSound z u → May mmu u s → SeenAt z (view z u) → (frame : ℕ) → s.actor < actors_of z
+won_nobody_elses : (z : Sizes) (u : World Held) (s : Step Kind) → IsSound z u → May mmu u s → (frame : ℕ) → s.actor < actors_of z
     → WinsFrame frame u s → IsNobodyElses z s.actor frame u
-won_nobody_elses z u s G may P frame there W = record { others = others; looks = looks; unused = unused_frame z u G frame pages; pages = pages }
+won_nobody_elses z u s G may frame there W = record { others = others; looks = looks; unused = unused_frame z u G frame pages; pages = pages }
   where
     v : World Held
     v = effect mmu u s
@@ -239,7 +243,7 @@ won_nobody_elses z u s G may P frame there W = record { others = others; looks =
     after = good_step z u s G may
 
     S : IsPart z (view z u) s.actor part.Frame
-    S = claims_part z u s G may W.claims
+    S = makes_part z u s G may kind.Frame part.Frame only_claim W.claims
 
     pages : (page : ℕ) → page < z.pages → host_frame (word_in z u area.Host page) ≢ frame
     pages page low e =
@@ -253,30 +257,22 @@ won_nobody_elses z u s G may P frame there W = record { others = others; looks =
         (W.owns.of_frame ∙ sym O_after.of_frame))
 
     looks : (other : ℕ) → other < actors_of z → other ≢ s.actor → LooksAtFrame frame (hand_in mmu u other).topics → ⊥
-    looks other among apart L =
-        by (G.topics.use_of frame) refl (subst (λ f. MayBeSeen (λ i. (hand_in mmu u i).topics) other (G.topics.use_of f)) L.of_frame
-        (uses_are_seen z (view z u) G.topics P other L.look among L.section L.is))
+    looks other among apart L = by (held_look z u G other frame among L)
       where
-        by : (x : FrameUse) → G.topics.use_of frame ≡ x → MayBeSeen (λ i. (hand_in mmu u i).topics) other x → ⊥
-        by (Page page) is seen = let H = has_page G.topics.frames page frame is in pages page H.0 H.1
-        by (Owned i) is seen = owner (same_or i s.actor)
+        by : IsHeldStill z u other frame → ⊥
+        by (inl named) = pages named.0 named.1 named.2
+        by (inr H) = owner (owns_number frame (hand_in mmu u H.by) H.leaves) (same_or H.by s.actor)
           where
-            O : HasFrameOwner (actors_of z) (λ j. (hand_in mmu u j).topics.frames.owned) i frame
-            O = has_frame_owner G.topics.frames i frame is
-
-            owner : (i ≡ s.actor) ⊎ (i ≢ s.actor) → ⊥
-            owner (inl e) =
+            owner : OwnsFrame frame (hand_in mmu u H.by) → (H.by ≡ s.actor) ⊎ (H.by ≢ s.actor) → ⊥
+            owner O (inl e) =
                 let none = S.needs.0 in
                 let some = ap (λ j. (hand_in mmu u j).topics.frames.owned) (sym e) ∙ O.is in absurd (cc (none, some))
-            owner (inr ne) = others i O.there ne (record { owned = O.owned_frame; is = O.is; of_frame = O.of_frame })
-        by Free is seen = absurd seen
-        by Outside is seen = absurd seen
+            owner O (inr ne) = others H.by H.there ne O
 
 pub frames_are_reused_alone : FramesAreReusedAlone
 frames_are_reused_alone z lines w ss s R frame =
     let earlier = before z lines w ss s R in
     let G = sound z lines w ss earlier in
-    let P = frames_are_seen z lines w ss earlier.start earlier.legal in
     let may = may_last z lines w ss s R in
     let there = last_actor z lines w ss s R in
-    (λ W. won_nobody_elses z (run mmu w ss) s G may P frame there W, λ W. given_nobody_elses z (run mmu w ss) s G may P frame there W)
+    (λ W. won_nobody_elses z (run mmu w ss) s G may frame there W, λ W. given_nobody_elses z (run mmu w ss) s G may frame there W)

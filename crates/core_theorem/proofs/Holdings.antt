@@ -1,6 +1,6 @@
 -- What actors hold is not free, and what one of them owns no other one holds.
-use Rattle.std.proofs.Common.{◌≡◌, ◌⊎◌, inl, inr, ◌≢◌, ◌<◌, ℕ, refl, sym, subst, ap, ◌∙◌, arith, ◌≤◌, ◌+◌}
-use Rattle.std.specs.Prelude.{Bool, true, false, Option, Some, ◌==◌, if◌then◌else◌}
+use Rattle.std.proofs.Common.{◌≡◌, ◌⊎◌, inl, inr, ◌≢◌, ◌<◌, ℕ, refl, sym, subst, ap, ◌∙◌, arith, ◌≤◌}
+use Rattle.std.specs.Prelude.{false, Option, Some}
 use Rattle.core_views.specs.declared.sizes.Sizes.{Sizes}
 use Rattle.core_views.specs.declared.topics.OwnedPage.{OwnedPage}
 use Rattle.core_views.specs.Held.{Held}
@@ -15,6 +15,7 @@ use Rattle.mmu_core.specs.invariant.TopicsInvariant.{HoldsOld}
 use Rattle.mmu_core.proofs.pages.PoolPages.{left_no_table, left_not_free, left_not_owned, left_not_slots, not_free, one_leaver, one_owner}
 use Rattle.mmu_core.proofs.pages.PoolPages.{owned_not_free, owned_not_slots, set_use, table_not_free, table_not_owned}
 use Rattle.mmu_core.proofs.held.ClaimGoes.{others_hand}
+use Rattle.mmu_core.proofs.held.InSection.{all_passed}
 use Rattle.mmu_core.proofs.machine.Worlds.{good_step}
 use Rattle.core_theorem.specs.Holdings.{HeldSetsAreKnown, NoneHoldsFreePages, NoOtherHolds, WatchedHoldNoOldSet, OfEachHeld, PagesAreReusedAlone}
 use Rattle.core_theorem.specs.Pages.{Owns}
@@ -25,9 +26,8 @@ use Rattle.core_theorem.proofs.WalksKept.{stands_at}
 use Rattle.core_theorem.specs.Walks.{table_at, walk_of}
 use Rattle.mmu_core.specs.invariant.TreePart.{stands}
 use Rattle.mmu_core.specs.invariant.TreePart.Use.{SlotSet}
-use Rattle.std.proofs.lemmas.Bool.Decides.{nat_tests}
 use Rattle.part_steps.specs.PartTasks.{own_index}
-use Rattle.part_steps.specs.PartHoldings.{MayGiveOld, next_watched}
+use Rattle.part_steps.specs.PartHoldings.{MayGiveOld}
 use Rattle.core_views.specs.Kinds.{code_of}
 use Rattle.core_views.specs.declared.kind.StepKind.TheVariants as kind
 
@@ -44,12 +44,16 @@ module _ (z : Sizes) (u : World Held) (G : IsSound z u) where
   abbrev leaving : ℕ → Option ℕ
   leaving i = (hand_in mmu u i).topics.leaving
 
+  -- The page is the published slot set, or an older one that is leaving, which the actor may hold still.
+  abbrev IsSet : ℕ → ℕ → Type 0
+  IsSet actor page = (page ≡ slots) ⊎ HoldsOld (λ t. t.leaving) (actors_of z) (λ i. (hand_in mmu u i).topics) actor page
+
   -- The published slot set isn't free.
   set_not_free : is_free map slots ≡ false
   set_not_free = not_free G.topics.uses slots SlotSet (set_use G.topics.uses) refl
 
   -- Nor is an older one that is leaving.
-  set_held : {actor : ℕ} (page : ℕ) → (page ≡ slots) ⊎ HoldsOld (actors_of z) (λ i. (hand_in mmu u i).topics) actor page → is_free map page ≡ false
+  set_held : {actor : ℕ} (page : ℕ) → IsSet actor page → is_free map page ≡ false
   set_held page (inl e) = subst (λ k. is_free map k ≡ false) (sym e) set_not_free
   set_held page (inr H) = left_not_free G.topics.uses H.by page H.there H.leaves
 
@@ -70,7 +74,7 @@ module _ (z : Sizes) (u : World Held) (G : IsSound z u) where
     owned = λ o is e. apart (one_owner G.topics.uses other actor o O.owned among there is O.is (O.of_page ∙ sym e));
   }
     where
-      not_set : {i : ℕ} (k : ℕ) → (k ≡ slots) ⊎ HoldsOld (actors_of z) (λ j. (hand_in mmu u j).topics) i k → O.owned.page ≢ k
+      not_set : {i : ℕ} (k : ℕ) → IsSet i k → O.owned.page ≢ k
       not_set k (inl e) same = owned_not_slots G.topics.uses actor O.owned there O.is (same ∙ e)
       not_set k (inr H) same = left_not_owned G.topics.uses H.by k H.there H.leaves actor O.owned there O.is same
 
@@ -84,34 +88,22 @@ module _ (z : Sizes) (u : World Held) (G : IsSound z u) where
     owned = λ o is e. left_not_owned G.topics.uses actor page there left other o among is e;
   }
     where
-      watched_all : (own n w i : ℕ) → n ≤ next_watched own w → w ≤ i → i < n → i ≢ own → ⊥
-      watched_all own n w i over not_yet lt ne = by (w == own) (λ e. grind (arith, nat_tests)) over
-        where
-          by : (b : Bool) → (b ≡ true → w ≡ own) → n ≤ (if b then w + 1 else w) → ⊥
-          by true same over = let e = same refl in omega (arith, e, over, not_yet, lt, ne)
-          by false same over = omega (arith, over, not_yet, lt)
-
       own : own_index (hand_in mmu u actor) ≡ actor
       own = ap (λ (y : Sizes). index_of y (hand_in mmu u actor).state.actor) (G.holds.lines actor there).sizes ∙ (G.holds.lines actor there).index
 
-      over : actors_of z ≤ next_watched actor (hand_in mmu u actor).topics.watched
-      over =
-          subst (λ i. actors_of z ≤ next_watched i (hand_in mmu u actor).topics.watched) own (subst (λ (y : Sizes). actors_of y
-          ≤ next_watched (own_index (hand_in mmu u actor)) (hand_in mmu u actor).topics.watched) (G.holds.lines actor there).sizes M.watched)
-
-      not_set : (k : ℕ) → (k ≡ slots) ⊎ HoldsOld (actors_of z) (λ j. (hand_in mmu u j).topics) other k → k ≢ page
+      not_set : (k : ℕ) → IsSet other k → k ≢ page
       not_set k (inl e) same = left_not_slots G.topics.uses actor page there left (sym same ∙ e)
       not_set k (inr H) same =
           let by_is : H.by ≡ actor = one_leaver G.topics.uses H.by actor page H.there there (H.leaves ∙ ap Some same) left in
-          watched_all actor (actors_of z) (hand_in mmu u actor).topics.watched other over
-          (subst (λ i. (hand_in mmu u i).topics.watched ≤ other) by_is H.unwatched) among apart
+          all_passed z (hand_in mmu u actor) actor other (G.holds.lines actor there).sizes own M.watched among apart
+          (subst (λ i. (hand_in mmu u i).topics.watched ≤ other) by_is H.unwatched)
 
   -- Whom the watch has passed doesn't hold it.
   watched_hold_none : (watcher other page : ℕ) → watcher < actors_of z → other < actors_of z → leaving watcher ≡ Some page
       → other < (hand_in mmu u watcher).topics.watched → (hand_in mmu u other).topics.search.set ≢ Some page
   watched_hold_none watcher other page there among left passed is = by (G.topics.sets other page among is)
     where
-      by : (page ≡ slots) ⊎ HoldsOld (actors_of z) (λ j. (hand_in mmu u j).topics) other page → ⊥
+      by : IsSet other page → ⊥
       by (inl e) = left_not_slots G.topics.uses watcher page there left e
       by (inr H) =
           let by_is : H.by ≡ watcher = one_leaver G.topics.uses H.by watcher page H.there there H.leaves left in

@@ -1,8 +1,5 @@
 pub mod WalksKept
 pub mod Pages
-pub mod FrameLooks
-pub mod FrameSteps
-pub mod SeenFrames
 pub mod Frames
 pub mod SamePages
 pub mod LookUps

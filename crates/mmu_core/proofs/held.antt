@@ -29,7 +29,9 @@ pub mod OwnPages
 pub mod PassedKept
 pub mod ScopesKept
 pub mod InSection
+pub mod Retired
 pub mod SetsKept
+pub mod LookedFrames
 pub mod StateTells
 pub mod StatesKept
 pub mod TopicsKept

@@ -1,5 +1,5 @@
 -- Who holds a slot set while another actor has the lock alone is in a section, and a watch comes past nobody who is in one.
-use Rattle.std.proofs.Common.{◌≡◌, ◌≢◌, ◌⊎◌, inl, inr, ◌<◌, ◌≤◌, ℕ, refl, ap, arith, ◌+◌, ◌%◌}
+use Rattle.std.proofs.Common.{◌≡◌, ◌≢◌, ◌⊎◌, inl, inr, ◌<◌, ◌≤◌, ℕ, refl, subst, ap, ◌∙◌, arith, ◌+◌, ◌%◌}
 use Rattle.std.specs.Prelude.{Bool, true, false, ◌==◌, if◌then◌else◌, Some}
 use Rattle.std.proofs.lemmas.Bool.Decides.{nat_tests}
 use Rattle.core_views.specs.declared.sizes.Sizes.{Sizes}
@@ -8,14 +8,19 @@ use Rattle.core_views.specs.declared.topics.Hold.TheVariants.{Exclusive}
 use Rattle.core_views.specs.declared.topics.Stay.{Stay}
 use Rattle.core_views.specs.declared.topics.Stay.TheVariants.{Section}
 use Rattle.core_views.specs.declared.topics.Topics.{Topics}
+use Rattle.core_views.specs.Held.{Held}
 use Rattle.core_views.specs.Sizes.{actors_of}
 use Rattle.spte_words.specs.declared.area.Area.TheVariants as area
+use Rattle.part_steps.specs.declared.part_step.PartStep.TheVariants as part
 use Rattle.part_steps.specs.PartHoldings.{next_watched}
+use Rattle.part_steps.specs.PartTasks.{own_index}
+use Rattle.mmu_core.specs.invariant.StatesPart.{stay_bits}
 use Rattle.mmu_core.specs.invariant.TopicsInvariant.{TopicsInvariant}
 use Rattle.part_steps.specs.StayTopics.{may_search, is_alone}
 use Rattle.part_steps.specs.ControlBits.{in_section}
 use Rattle.mmu_core.specs.machine.View.{View}
 use Rattle.mmu_core.proofs.machine.Columns.{same_or}
+use Rattle.mmu_core.proofs.machine.PartStepping.{IsPart}
 use Rattle.mmu_core.proofs.machine.SumsBelow.{sum_two}
 use Rattle.mmu_core.specs.machine.Sums.{one_if}
 use Rattle.mmu_core.specs.invariant.LockPart.{LockPart}
@@ -49,17 +54,17 @@ holder_in_section z v a i k there lt ne I alone held =
 
 -- ---- A watch comes past nobody who is in a section.
 
-pub next_before : (own w i : ℕ) → w ≤ i → i ≢ own → next_watched own w ≤ i
+next_before : (own w i : ℕ) → w ≤ i → i ≢ own → next_watched own w ≤ i
 next_before own w i le ne = by (w == own) (λ e. grind (arith, nat_tests))
   where
     by : (b : Bool) → (b ≡ true → w ≡ own) → (if b then w + 1 else w) ≤ i
     by true is = let e = is refl in omega (arith, le, ne, e)
     by false is = le
 
-pub section_shows : (x : ℕ) → x < 8 → x % 4 ≡ 2 → in_section x ≡ true
+section_shows : (x : ℕ) → x < 8 → x % 4 ≡ 2 → in_section x ≡ true
 section_shows x lt is = grind (arith, nat_tests)
 
-pub passed_not : (b : Bool) (index i : ℕ) → index ≤ i → (index ≡ i → b ≡ true) → index + (if b then 0 else 1) ≤ i
+passed_not : (b : Bool) (index i : ℕ) → index ≤ i → (index ≡ i → b ≡ true) → index + (if b then 0 else 1) ≤ i
 passed_not true index i le here = omega (arith, le)
 passed_not false index i le here = by (same_or index i)
   where
@@ -67,6 +72,34 @@ passed_not false index i le here = by (same_or index i)
     by (inl e) = let is = here e in absurd (cc is)
     by (inr ne) = omega (arith, le, ne)
 
+-- A watch passes nobody who is in a section.
+pub watch_passes_none : (z : Sizes) (v : View) (a index : ℕ) → IsPart z v a (part.Watch index) → TopicsInvariant z v → (i : ℕ) → i ≢ a → i < actors_of z
+    → (v.hand i).topics.stay ≡ Section → (v.hand a).topics.watched ≤ i → index + (if in_section (v.words area.State index) then 0 else 1) ≤ i
+watch_passes_none z v a index S I i ne lt section unwatched =
+    let W = I.states_part i lt in
+    passed_not (in_section (v.words area.State index)) index i (reached S.needs.2)
+    (λ same. ap (λ j. in_section (v.words area.State j)) same ∙ section_shows (v.words area.State i) W.0 (W.1 ∙ ap stay_bits section))
+  where
+    own : ℕ
+    own = own_index (v.hand a)
+
+    -- It is of nobody after him.
+    by : (w : ℕ) → w ≤ i → index ≡ next_watched own w → index ≤ i
+    by w le e =
+        let next = next_before a w i le ne in
+        let same : next_watched own w ≡ next_watched a w = ap (λ o. next_watched o w) S.own_place in
+        omega (arith, e, next, same)
+
+    reached : (index ≡ next_watched own 0) ⊎ (index ≡ next_watched own (v.hand a).topics.watched) → index ≤ i
+    reached (inl e) = by 0 (omega arith) e
+    reached (inr e) = by (v.hand a).topics.watched unwatched e
+
 -- Who has watched all others has passed each of them.
-pub all_passed : (own w n i : ℕ) → n ≤ next_watched own w → i < n → i ≢ own → w ≤ i → ⊥
-all_passed own w n i all lt ne le = let next = next_before own w i le ne in omega (arith, all, lt, next)
+pub all_passed : (z : Sizes) (h : Held) (a i : ℕ) → h.state.sizes ≡ z → own_index h ≡ a → actors_of h.state.sizes ≤ next_watched (own_index h) h.topics.watched
+    → i < actors_of z → i ≢ a → h.topics.watched ≤ i → ⊥
+all_passed z h a i sizes own all lt ne unwatched =
+    let next = next_before a h.topics.watched i unwatched ne in
+    let over : actors_of z ≤ next_watched a h.topics.watched =
+    subst (λ (y : Sizes). actors_of y ≤ next_watched a h.topics.watched) sizes
+    (subst (λ o. actors_of h.state.sizes ≤ next_watched o h.topics.watched) own all) in
+    omega (arith, over, lt, next)

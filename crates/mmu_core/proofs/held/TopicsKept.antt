@@ -30,6 +30,7 @@ use Rattle.mmu_core.proofs.pages.Paths.{paths_kept}
 use Rattle.mmu_core.proofs.pages.PoolKept.{uses_kept}
 use Rattle.mmu_core.proofs.machine.SameTopics.{same_topics}
 use Rattle.mmu_core.proofs.held.SawWriterKept.{saw_kept}
+use Rattle.mmu_core.proofs.held.LookedFrames.{looked_frames_kept}
 use Rattle.mmu_core.proofs.held.LooksKept.{looks_kept}
 use Rattle.mmu_core.proofs.held.OwnLooksKept.{own_looks_kept}
 use Rattle.mmu_core.proofs.held.SearchKept.{searches_kept}
@@ -72,6 +73,7 @@ topics_part_kept z v a step note S I = record {
   searches = searches_kept z v a step note S I;
   hosts = hosts_kept z v a step note S I;
   frames = frames_kept z v a step note S I;
+  looked_frames = looked_frames_kept z v a step note S I;
   looks = looks_kept z v a step note S I;
   own_looks = own_looks_kept z v a step note S I;
   counts = counts_kept z v a step note S I;

@@ -6,7 +6,7 @@ use Rattle.core_views.specs.Held.{Held}
 use Rattle.core_views.specs.Sizes.{actors_of}
 use Rattle.mmu_core.specs.invariant.TopicsInvariant.{CountersPart, FilledPart, FramesPart, HeldPart, LockPart, LookPart, OwnLooksPart, SawWriter, SearchPart}
 use Rattle.mmu_core.specs.invariant.TopicsInvariant.{StatesPart, TopicsInvariantOf, SetsPart, OldSetsPart, PathPart, UsePart, stands, CountPart}
-use Rattle.mmu_core.specs.invariant.TopicsInvariant.{CheckedPart, HeldSlotsPart, KnownRangePart, LoadedPart, PassedPart, RangePart, ScopePart, ZappedPart}
+use Rattle.mmu_core.specs.invariant.TopicsInvariant.{CheckedPart, HeldSlotsPart, KnownRangePart, LoadedPart, LookedFramesPart, PassedPart, RangePart, ScopePart, ZappedPart}
 
 pub same_topics : (z : Sizes) (lock root slots seq count start end_ : ℕ) (states map frame_map host role pool : ℕ → ℕ) (hand other : ℕ → Held)
     → ◌≡◌ {A = ℕ → Topics} (λ i. (other i).topics) (λ i. (hand i).topics)
@@ -31,6 +31,7 @@ same_topics z lock root slots seq count start end_ states map frame_map host rol
   searches = subst (λ (t : ℕ → Topics). (i : ℕ) → i < actors_of z → SearchPart pool (t i).search) (sym same) I.searches;
   hosts = I.hosts;
   frames = subst (λ (t : ℕ → Topics). FramesPart z (actors_of z) frame_map host (λ i. (t i).frames.owned) I.use_of) (sym same) I.frames;
+  looked_frames = subst (λ (t : ℕ → Topics). LookedFramesPart z (actors_of z) host t) (sym same) I.looked_frames;
   looks = subst (λ (t : ℕ → Topics). (i : ℕ) → i < actors_of z → LookPart z (actors_of z) seq host t (t i)) (sym same) I.looks;
   own_looks = subst (λ (t : ℕ → Topics). OwnLooksPart z (actors_of z) host t) (sym same) I.own_looks;
   counts = subst (λ (t : ℕ → Topics). CountPart (actors_of z) count (λ i. (t i).invalidations.opened)) (sym same) I.counts;

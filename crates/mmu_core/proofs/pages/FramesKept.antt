@@ -3,7 +3,6 @@ use Rattle.std.proofs.Common.{◌≡◌, ◌+◌, ◌*◌, ◌/◌, ◌%◌, ◌
 use Rattle.std.specs.Prelude.{Bool, true, false, ◌==◌, ◌||◌, if◌then◌else◌, Option, Some, None, is_some}
 use Rattle.std.proofs.lemmas.Nat.Bits.{bit_at-trailing_zeros}
 use Rattle.core_views.specs.declared.sizes.Sizes.{Sizes}
-use Rattle.core_views.specs.declared.topics.HostLook.{HostLook}
 use Rattle.core_views.specs.declared.topics.OwnedFrame.{OwnedFrame}
 use Rattle.core_views.specs.declared.topics.Topics.{Topics}
 use Rattle.core_views.specs.Held.{Held}
@@ -20,6 +19,7 @@ use Rattle.part_steps.specs.PartTasks.{page_looked, part_task, word_looked}
 use Rattle.mmu_core.specs.invariant.FramesPart.{FrameUse, FramesPart, is_frame_of}
 use Rattle.mmu_core.specs.invariant.TopicsInvariant.{TopicsInvariant}
 use Rattle.mmu_core.specs.machine.View.{View, answer_in, part_stepped, upd}
+use Rattle.mmu_core.proofs.held.LooksKept.{page_there}
 use Rattle.mmu_core.proofs.machine.Columns.{at_upd}
 use Rattle.mmu_core.proofs.machine.PartStepping.{IsPart}
 use Rattle.mmu_core.proofs.machine.SumsBelow.{column}
@@ -77,7 +77,7 @@ pub brought_frame : (word : ℕ) (present : Bool) → host_frame (with_presence 
 brought_frame word present = host_has_frame (host_frame word) present (host_allows_write word) (host_level word) (level_small word)
 
 -- What a change puts in place of a word names the same frame, or the one that is owned.
-revised_frame : (words word new_ : ℕ) → revises words None word new_ ≡ true → host_frame new_ ≡ host_frame word
+pub revised_frame : (words word new_ : ℕ) → revises words None word new_ ≡ true → host_frame new_ ≡ host_frame word
 revised_frame words word new_ is =
     by (new_ == with_writes true word) (new_ == with_writes false word) (new_ == with_presence false word) (λ e. tells new_ (with_writes true word) e)
     (λ e. tells new_ (with_writes false word) e) (λ e. tells new_ (with_presence false word) e) is
@@ -92,7 +92,7 @@ revised_frame words word new_ is =
     by false false true one two three is = ap host_frame (three refl) ∙ other_bits false (host_allows_write word)
     by false false false one two three is = absurd (cc is)
 
-moved_frame : (words word new_ : ℕ) (o : OwnedFrame) → revises words (Some o) word new_ ≡ true → host_frame new_ ≡ o.frame
+pub moved_frame : (words word new_ : ℕ) (o : OwnedFrame) → revises words (Some o) word new_ ≡ true → host_frame new_ ≡ o.frame
 moved_frame words word new_ o is =
     ap host_frame (tells new_ (with_frame o.frame word) (both (o.filled == words) (new_ == with_frame o.frame word) is).1)
     ∙ host_has_frame o.frame (host_present word) (host_allows_write word) (host_level word) (level_small word)
@@ -101,20 +101,12 @@ moved_frame words word new_ o is =
 names_same : (host : ℕ → ℕ) (page w : ℕ) → host_frame w ≡ host_frame (host page) → (p : ℕ) → host_frame (upd host page w p) ≡ host_frame (host p)
 names_same host page w same = at_upd (λ q x. host_frame x ≡ host_frame (host q)) host page w same (λ q ne. refl)
 
-same_word : (found looked new_ : ℕ) → host_frame new_ ≡ host_frame looked → host_frame (if found == looked then new_ else found) ≡ host_frame found
+pub same_word : (found looked new_ : ℕ) → host_frame new_ ≡ host_frame looked → host_frame (if found == looked then new_ else found) ≡ host_frame found
 same_word found looked new_ same = by (found == looked) (λ e. tells found looked e)
   where
     by : (won : Bool) → (won ≡ true → found ≡ looked) → host_frame (if won then new_ else found) ≡ host_frame found
     by true is = same ∙ ap host_frame (sym (is refl))
     by false is = refl
-
-looked_there : (z : Sizes) (v : View) (a : ℕ) → a < actors_of z → TopicsInvariant z v → is_some (v.hand a).topics.host ≡ true
-    → page_looked (v.hand a).topics.host < z.pages
-looked_there z v a lt I some = by (v.hand a).topics.host refl some
-  where
-    by : (x : Option HostLook) → (v.hand a).topics.host ≡ x → is_some x ≡ true → page_looked x < z.pages
-    by None is some = absurd (cc some)
-    by (Some look) is some = (I.looks a lt).there look is
 
 -- The change of a host word, which moves its page where a frame is owned.
 change_kept : (z : Sizes) (v : View) (a new_ : ℕ) → IsPart z v a (part.Change new_) → (I : TopicsInvariant z v) → (h : Held) (x : Option OwnedFrame)
@@ -161,7 +153,7 @@ change_kept z v a new_ S I h x won owned found is = by x won owned found is
         subst (λ old. FramesPart z (actors_of z) (v.words area.FrameMap) (upd host page new_) (λ i. (upd v.hand a h i).topics.frames.owned)
         (upd (upd I.use_of o.frame (FrameUse.Page page)) old (FrameUse.Owned a))) (ap host_frame (found refl))
         (frame_move_kept v.hand I.frames a h S.there page new_ o (record { frame = host_frame looked; filled = 0; copied = None })
-        (looked_there z v a S.there I S.needs.0.looked) (moved_frame (v.hand a).state.sizes.words looked new_ o (may (Some o) owned))
+        (page_there z v a I S.there S.needs.0.looked) (moved_frame (v.hand a).state.sizes.words looked new_ o (may (Some o) owned))
         (ap host_frame (sym (found refl))) owned is)
 
 -- ---- each step

@@ -15,7 +15,7 @@ use Rattle.spte_words.proofs.ReadsEntries.{kind_of_absent}
 use Rattle.mmu_core.specs.invariant.LockPart.{SawWriter}
 use Rattle.mmu_core.specs.machine.Enabled.{mmu}
 use Rattle.part_steps.specs.PartBounds.{CountersPart}
-use Rattle.mmu_core.specs.invariant.FramesPart.{FramesPart}
+use Rattle.mmu_core.specs.invariant.FramesPart.{FramesPart, frame_looked}
 use Rattle.mmu_core.specs.invariant.HeldPart.{HeldPart, PathPart}
 use Rattle.mmu_core.specs.invariant.InvalidationsPart.{CheckedPart, CountPart, LoadedPart}
 use Rattle.mmu_core.specs.invariant.LockPart.{LockPart, is_shared, readers, sharers, writers}
@@ -172,6 +172,13 @@ looks_none : (z : Sizes) (lines : List Line) (w : World Held) (i : ℕ) (look : 
 looks_none z lines w i look start lt is =
     let none : (hand_in mmu w i).topics.host ≡ None = ap (λ (t : Topics). t.host) (topics_are z lines w i start lt) in cc (none, is)
 
+looked_none : (z : Sizes) (lines : List Line) (w : World Held) (i k : ℕ) → IsStart z lines w → i < actors_of z
+    → frame_looked (hand_in mmu w i).topics.host (hand_in mmu w i).topics.stay ≡ Some k → ⊥
+looked_none z lines w i k start lt is =
+    let none : frame_looked (hand_in mmu w i).topics.host (hand_in mmu w i).topics.stay ≡ None
+    = ap (λ (t : Topics). frame_looked t.host t.stay) (topics_are z lines w i start lt) in
+    cc (none, is)
+
 counters_first : (z : Sizes) → CountersPart z first_topics
 counters_first z = record {
   slots = omega arith;
@@ -239,6 +246,7 @@ start_topics z lines w start = record {
       (search_first (word_in z w area.Pool));
   hosts = hosts_start z lines w start;
   frames = frames_start z lines w start;
+  looked_frames = λ i k lt is. absurd (looked_none z lines w i k start lt is);
   looks = λ i lt. subst (LookPart z (actors_of z) (word_in z w area.Seq 0) (word_in z w area.Host) (λ j. (hand_in mmu w j).topics))
       (sym (topics_are z lines w i start lt))
       (look_first z (actors_of z) (word_in z w area.Seq 0) (word_in z w area.Host) (λ j. (hand_in mmu w j).topics));

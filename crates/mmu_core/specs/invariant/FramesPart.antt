@@ -1,10 +1,15 @@
--- The frames of the host: what each of them is used for; and what an actor has copied of a page that it moves (page_migration.rst).
+-- The frames of the host: what each of them is used for, and at which of them actors have looked in their sections; and what an actor has copied of a page that
+-- it moves (page_migration.rst).
 use Rattle.std.specs.Prelude.{◌≡◌, ◌+◌, ◌*◌, ◌<◌, ℕ, Bool, true, false, ◌==◌, ◌&&◌, nat_le, nat_lt, Option, Some, None}
 use Rattle.core_views.specs.declared.sizes.Sizes.{Sizes}
+use Rattle.core_views.specs.declared.topics.HostLook.{HostLook}
 use Rattle.core_views.specs.declared.topics.OwnedFrame.{OwnedFrame}
+use Rattle.core_views.specs.declared.topics.Stay.{Stay}
+use Rattle.core_views.specs.declared.topics.Stay.TheVariants.{Section}
 use Rattle.core_views.specs.declared.topics.Topics.{Topics}
 use Rattle.spte_words.specs.HostWords.{host_frame}
 use Rattle.part_steps.specs.PartTasks.{word_looked}
+use Rattle.mmu_core.specs.invariant.HeldPart.{HeldStill}
 use Rattle.mmu_core.specs.invariant.PoolPart.{is_free}
 
 -- what a frame is: free; that of a host page, present or not; owned by the actor at a place; or none, since its number is outside of the machine
@@ -41,6 +46,25 @@ pub record FramesPart (z : Sizes) (n : ℕ) (map host : ℕ → ℕ) (owned : �
   pub named : (page frame : ℕ) → names z.pages host page frame ≡ is_frame_use (FrameUse.Page page) (use_of frame)
   pub owner : (i frame : ℕ) → owns_frame n owned i frame ≡ is_frame_use (FrameUse.Owned i) (use_of frame)
   pub outside : (frame : ℕ) → nat_le z.frames frame ≡ is_frame_use FrameUse.Outside (use_of frame)
+
+-- the frame at which an actor has looked at a host page, in the section that it is in
+abbrev pub frame_looked : Option HostLook → Stay → Option ℕ
+frame_looked (Some look) Section = Some (host_frame look.word)
+frame_looked _ _ = None
+
+-- the frame that an actor owns
+abbrev pub number_owned : Option OwnedFrame → Option ℕ
+number_owned None = None
+number_owned (Some o) = Some o.frame
+
+-- One of so many host pages names the frame.
+abbrev pub IsNamed : ℕ → (ℕ → ℕ) → ℕ → Type 0
+IsNamed pages host frame = (page : ℕ) × (page < pages) × (host_frame (host page) ≡ frame)
+
+-- The frame at which an actor has looked at a host page, in the section that it is in, is a page's, or owned by another actor, which hasn't watched it since.
+abbrev pub LookedFramesPart : Sizes → ℕ → (ℕ → ℕ) → (ℕ → Topics) → Type 0
+LookedFramesPart z n host topics =
+    HeldStill (λ t. frame_looked t.host t.stay) (λ t. number_owned t.frames.owned) n (IsNamed z.pages host) topics
 
 -- Each word of its frame that an actor has filled is the one of the page that it looked at, and so is the one that it has copied for the next, if the frame
 -- has one.

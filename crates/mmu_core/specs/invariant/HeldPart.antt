@@ -1,4 +1,4 @@
--- What an actor holds of tables and slot sets.
+-- What an actor holds of tables and slot sets; and what a section may hold still of what another actor has taken out of use.
 use Rattle.std.specs.Prelude.{◌≡◌, ◌≢◌, ◌<◌, ◌≤◌, ◌⊎◌, ◌-◌, ◌/◌, ◌^◌, ℕ, false, Option, Some, None}
 use Rattle.core_views.specs.declared.sizes.Sizes.{Sizes}
 use Rattle.core_views.specs.declared.topics.Stay.TheVariants.{Section}
@@ -28,18 +28,22 @@ run_at level walk = walk.prefix / 512 ^ (level - walk.level)
 abbrev pub PathPart : (ℕ → Option Position) → TableWalk → Type 0
 PathPart stands walk = (level : ℕ) → 1 ≤ walk.level → walk.level < level → level ≤ 4 → stands (table_at level walk) ≡ Some (at level (run_at level walk))
 
--- The actor at place i is in a section, page k is leaving for another actor, and this one hasn't watched it since.
-pub record HoldsOld (n : ℕ) (topics : ℕ → Topics) (i k : ℕ) : Type 0 where
+-- The actor at place i is in a section. Another one has taken k out of use (`retires` says what each actor has), and hasn't watched this one since.
+pub record HoldsOld (retires : Topics → Option ℕ) (n : ℕ) (topics : ℕ → Topics) (i k : ℕ) : Type 0 where
   pub section : (topics i).stay ≡ Section
   pub by : ℕ
   pub there : by < n
   pub other : by ≢ i
-  pub leaves : (topics by).leaving ≡ Some k
+  pub leaves : retires (topics by) ≡ Some k
   pub unwatched : (topics by).watched ≤ i
+
+-- What an actor holds (`holds` says what) is in use; or the actor is in a section, and holds still what another one has taken out of use.
+abbrev pub HeldStill : (Topics → Option ℕ) → (Topics → Option ℕ) → ℕ → (ℕ → Type 0) → (ℕ → Topics) → Type 0
+HeldStill holds retires n IsInUse topics = (i k : ℕ) → i < n → holds (topics i) ≡ Some k → IsInUse k ⊎ HoldsOld retires n topics i k
 
 -- The slot set that an actor holds is the published one, or an older one that is leaving, for an actor that hasn't watched it since.
 abbrev pub SetsPart : ℕ → ℕ → (ℕ → Topics) → Type 0
-SetsPart n slots topics = (i k : ℕ) → i < n → (topics i).search.set ≡ Some k → (k ≡ slots) ⊎ HoldsOld n topics i k
+SetsPart n slots topics = HeldStill (λ t. t.search.set) (λ t. t.leaving) n (λ k. k ≡ slots) topics
 
 -- A page that is leaving has the slots of a slot set still: nobody stores in it.
 abbrev pub OldSetsPart : Sizes → ℕ → (ℕ → ℕ) → (ℕ → Option ℕ) → Type 0

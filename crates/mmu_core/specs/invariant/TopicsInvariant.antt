@@ -7,7 +7,7 @@ use Rattle.spte_words.specs.declared.area.Area.TheVariants as area
 use Rattle.mmu_core.specs.machine.View.{View}
 pub use Rattle.part_steps.specs.PartBounds.{CountersPart}
 pub use Rattle.mmu_core.specs.invariant.AllOver.{AllOver, LeafIsFor}
-pub use Rattle.mmu_core.specs.invariant.FramesPart.{CopiedPart, FrameUse, FramesPart}
+pub use Rattle.mmu_core.specs.invariant.FramesPart.{CopiedPart, FrameUse, FramesPart, LookedFramesPart}
 pub use Rattle.mmu_core.specs.invariant.HostWordsPart.{HostWordsPart, IsHostWord, OwnLooksPart}
 pub use Rattle.mmu_core.specs.invariant.HeldPart.{HeldPart, HoldsOld, OldSetsPart, PathPart, SetsPart}
 pub use Rattle.mmu_core.specs.invariant.InvalidationsPart.{CheckedPart, CountPart, KnownRangePart, LoadedPart}
@@ -39,6 +39,7 @@ pub record TopicsInvariantOf (z : Sizes) (lock root slots seq count start end_ :
   pub searches : (i : ℕ) → i < actors_of z → SearchPart pool (hand i).topics.search
   pub hosts : HostWordsPart z host
   pub frames : FramesPart z (actors_of z) frame_map host (λ i. (hand i).topics.frames.owned) use_of
+  pub looked_frames : LookedFramesPart z (actors_of z) host (λ i. (hand i).topics)
   pub looks : (i : ℕ) → i < actors_of z → LookPart z (actors_of z) seq host (λ j. (hand j).topics) (hand i).topics
   pub own_looks : OwnLooksPart z (actors_of z) host (λ i. (hand i).topics)
   pub counts : CountPart (actors_of z) count (λ i. (hand i).topics.invalidations.opened)
