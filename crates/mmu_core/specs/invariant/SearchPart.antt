@@ -9,7 +9,7 @@ use Rattle.core_views.specs.declared.topics.Topics.{Topics}
 use Rattle.spte_words.specs.Flags.{flags_logged}
 use Rattle.part_steps.specs.SlotWords.{live_at, slot_at, slot_index}
 use Rattle.mmu_core.specs.invariant.HostWordsPart.{IsHostWord, IsStill}
-use Rattle.mmu_core.specs.invariant.TreePart.{IsLiveIn}
+use Rattle.mmu_core.specs.invariant.SlotSetPart.{IsLiveIn}
 
 -- The slot under search is live, and its flags were loaded as the words of its slot set hold them.
 abbrev pub HasFlags : (ℕ → ℕ) → ℕ → SlotSearch → Type 0
