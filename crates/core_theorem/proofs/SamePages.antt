@@ -1,5 +1,5 @@
 -- Any two accounts of what the pages of a world are used for agree: each page has the same use in both, and each table stands at one place.
-use Rattle.std.proofs.Common.{◌≡◌, ◌+◌, ◌/◌, ◌≤◌, ℕ, zero, suc, refl, sym, subst, ap, ◌∙◌, arith}
+use Rattle.std.proofs.Common.{◌≡◌, ℕ, refl, sym, subst, ◌∙◌}
 use Rattle.std.specs.Prelude.{Bool, true, false, Some}
 use Rattle.core_views.specs.declared.sizes.Sizes.{Sizes}
 use Rattle.core_views.specs.Held.{Held}
@@ -7,12 +7,12 @@ use Rattle.spte_words.specs.declared.area.Area.TheVariants as area
 use Rattle.spte_words.specs.Areas.{pool_index}
 use Rattle.mmu_core.specs.invariant.AllOver.{AllOver, IsEntryOver}
 use Rattle.mmu_core.specs.machine.Machine.{World}
-use Rattle.mmu_core.specs.invariant.TreePart.{IsUnder, Position, Reaches, Use, at, is_table, stands}
+use Rattle.mmu_core.specs.invariant.TreePart.{Position, Reaches, Use, is_table, stands}
 use Rattle.mmu_core.specs.invariant.TreePart.Use.{Free, OldSet, Outside, Owned, Root, SlotSet, Under}
 use Rattle.mmu_core.specs.machine.View.{word_in}
 use Rattle.mmu_core.proofs.pages.AllOver.{reached_table}
 use Rattle.mmu_core.proofs.pages.Standing.{at_spot, nowhere, spot_of}
-use Rattle.mmu_core.proofs.pages.TreePlaces.{link_stands, root_stands, same_position, table_or}
+use Rattle.mmu_core.proofs.pages.TreePlaces.{stands_in_both}
 use Rattle.core_theorem.specs.Pages.{IsUsedFor, LinksPage, PagesAreUsed}
 
 module _ (z : Sizes) (w : World Held) (A B : PagesAreUsed z w) where
@@ -22,35 +22,9 @@ module _ (z : Sizes) (w : World Held) (A B : PagesAreUsed z w) where
   used_so : (k : ℕ) (use_ : Use) → A.up k ≡ use_ → IsUsedFor z w A.up A.spot k use_
   used_so k use_ is = subst (IsUsedFor z w A.up A.spot k) is (A.each k)
 
-  -- The root stands at the top in both.
-  root_in_both : (k : ℕ) (p : Position) → stands A.up A.spot k ≡ Some p → A.up k ≡ Root → stands B.up B.spot k ≡ Some p
-  root_in_both k p at_k is =
-      let root = A.tables.only k is in
-      ap (stands B.up B.spot) root ∙ root_stands B.tables ∙ sym (root_stands A.tables) ∙ sym (ap (stands A.up A.spot) root) ∙ at_k
-
-  -- Where the table above stands in the second, what it links to stands below it.
-  linked_in_both : (k m j : ℕ) (p : Position) → stands A.up A.spot k ≡ Some p → IsUnder pool A.up A.spot k p m j
-      → stands B.up B.spot m ≡ Some (at (p.level + 1) (p.prefix / 512)) → stands B.up B.spot k ≡ Some p
-  linked_in_both k m j p at_k V above =
-      let least = (A.tables.there k p at_k).1 in
-      let index = V.index in
-      let upper : 2 ≤ p.level + 1 = omega (arith, least) in
-      let below : B.up k ≡ Under m j =
-      B.only k (Under m j)
-      (record { at = at (p.level + 1) (p.prefix / 512); table = above; upper = upper; low = omega (arith, index); link = V.link }) in
-      link_stands B.tables m (at (p.level + 1) (p.prefix / 512)) j (pool (pool_index m j)) above
-      (record { page = k; upper = upper; is = V.link; below = below })
-      ∙ ap Some (same_position _ p (omega arith) (omega (arith, index)))
-
-  stands_within : (n k : ℕ) (p : Position) → 4 ≤ p.level + n → stands A.up A.spot k ≡ Some p → stands B.up B.spot k ≡ Some p
-  stands_within zero k p near at_k = table_or A.tables k p at_k (root_in_both k p at_k) (λ m j is V. absurd (let lower = V.lower in omega (arith, near, lower)))
-  stands_within (suc n) k p near at_k =
-      table_or A.tables k p at_k (root_in_both k p at_k) (λ m j is V.
-      linked_in_both k m j p at_k V (stands_within n m (at (p.level + 1) (p.prefix / 512)) (omega (arith, near)) V.above))
-
   -- What stands at a place in the first account stands there in the second.
   stands_so : (k : ℕ) (p : Position) → stands A.up A.spot k ≡ Some p → stands B.up B.spot k ≡ Some p
-  stands_so k p = stands_within 4 k p (omega arith)
+  stands_so = stands_in_both A.tables B.tables
 
   links_so : (parent entry page : ℕ) → LinksPage z w A.up A.spot parent entry page → LinksPage z w B.up B.spot parent entry page
   links_so parent entry page L = record { at = L.at; table = stands_so parent L.at L.table; upper = L.upper; low = L.low; link = L.link }

@@ -51,7 +51,7 @@ pub record PagesAreUsed (z : Sizes) (w : World Held) : Type 0 where
   pub spot : ℕ → Position
   pub each : (page : ℕ) → IsUsedFor z w up spot page (up page)
   pub only : (page : ℕ) (use_ : Use) → IsUsedFor z w up spot page use_ → up page ≡ use_
-  pub tables : TreePart z.pool (word_in z w area.Root 0) (word_in z w area.Slots 0) (word_in z w area.Role) (word_in z w area.Pool) up spot
+  pub tables : TreePart z.pool (word_in z w area.Root 0) (word_in z w area.Role) (word_in z w area.Pool) up spot
   pub leaves : AllOver up spot (word_in z w area.Pool) (word_in z w area.Root 0)
       (LeafIsFor (word_in z w area.Pool) (word_in z w area.Host) (word_in z w area.Slots 0))
   pub apart : (k l : ℕ) (p : Position) → stands up spot k ≡ Some p → stands up spot l ≡ Some p → k ≡ l

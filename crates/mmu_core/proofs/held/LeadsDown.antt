@@ -32,7 +32,7 @@ pub link_leads_down : (stands : ℕ → Option Position) (p : Position) (j page 
     → stands page ≡ Some (at (p.level - 1) (p.prefix * 512 + j)) → LeadsDown stands p j (linked_page (kind_of p.level (table_word page)))
 link_leads_down stands p j page upper small below = subst (LeadsDown stands p j) (sym (ap linked_page (kind_of_table p.level page upper small))) (upper, below)
 
-pub entry_leads_down : {pages root set : ℕ} {role pool : ℕ → ℕ} {up : ℕ → Use} {spot : ℕ → Position} (T : TreePart pages root set role pool up spot) (k : ℕ)
+pub entry_leads_down : {pages root : ℕ} {role pool : ℕ → ℕ} {up : ℕ → Use} {spot : ℕ → Position} (T : TreePart pages root role pool up spot) (k : ℕ)
     (p : Position) (j w : ℕ) → pages ≤ 2 ^ 32 → stands up spot k ≡ Some p → EntryPart up k p j w
     → LeadsDown (stands up spot) p j (linked_page (kind_of p.level w))
 entry_leads_down {up = up} {spot = spot} T k p j w small at_k (inl absent) =

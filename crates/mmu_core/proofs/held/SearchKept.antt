@@ -19,7 +19,7 @@ use Rattle.mmu_core.specs.invariant.TopicsInvariant.{TopicsInvariant}
 use Rattle.part_steps.specs.StayTopics.{is_loose, is_section, kept_search, may_search}
 use Rattle.part_steps.specs.PageTopics.{searched, searched_at}
 use Rattle.part_steps.specs.ControlTopics.{at_set}
-use Rattle.mmu_core.specs.invariant.TreePart.{IsLiveIn}
+use Rattle.mmu_core.specs.invariant.SlotSetPart.{IsLiveIn}
 use Rattle.mmu_core.specs.machine.View.{View, part_stepped, upd}
 use Rattle.mmu_core.proofs.words.SlotFields.{same_slot}
 use Rattle.mmu_core.proofs.machine.Columns.{at_upd}

@@ -15,12 +15,12 @@ use Rattle.part_steps.specs.PartBounds.{IsAtLeafLevel}
 use Rattle.part_steps.specs.PartBounds.{CountersPart}
 use Rattle.mmu_core.specs.invariant.HeldPart.{HeldPart, HoldsOld}
 use Rattle.mmu_core.specs.invariant.Invariant.{Invariant, OwnLines}
-use Rattle.mmu_core.specs.invariant.SlotSetPart.{Fits}
+use Rattle.mmu_core.specs.invariant.SlotSetPart.{Fits, IsLiveIn}
 use Rattle.mmu_core.specs.invariant.LockPart.{SawWriter}
 use Rattle.part_steps.specs.PartBounds.{PartRests}
 use Rattle.part_steps.specs.PartTasks.{table_page}
 use Rattle.mmu_core.specs.invariant.TopicsInvariant.{TopicsInvariant}
-use Rattle.mmu_core.specs.invariant.TreePart.{IsLiveIn, stands}
+use Rattle.mmu_core.specs.invariant.TreePart.{stands}
 use Rattle.mmu_core.proofs.pages.FrameUses.{owned_frame_there}
 use Rattle.mmu_core.proofs.pages.PoolPages.{left_there, owned_there, slots_there}
 use Rattle.mmu_core.specs.machine.View.{View}

@@ -93,7 +93,7 @@ same_below up more m same (suc links) l hangs =
     by k j is (inr none) = let no = none.1 in let yes = ap is_table is in absurd (cc (no, yes))
 
 -- Where one table more is below a table, what is reached was reached, or is this table.
-module _ {pages root set : ℕ} {role pool : ℕ → ℕ} {up : ℕ → Use} {spot : ℕ → Position} (T : TreePart pages root set role pool up spot) (page : ℕ)
+module _ {pages root : ℕ} {role pool : ℕ → ℕ} {up : ℕ → Use} {spot : ℕ → Position} (T : TreePart pages root role pool up spot) (page : ℕ)
     (use_ : Use) (none : is_table (up page) ≡ false) (m : ℕ) where
   more_below : (links l : ℕ) → Below (upd up page use_) m links l → Below up m links l ⊎ (l ≡ page)
   more_below zero l e = inl e
@@ -140,7 +140,7 @@ module _ (up : ℕ → Use) (spot : ℕ → Position) (pool : ℕ → ℕ) (m : 
   over_exchanged k j w false low stored = subst (λ (words : ℕ → ℕ). AllOver up spot words m IsSo) (sym (upd_id pool (pool_index k j))) A
 
 -- A table without entries is linked.
-over_grown : {pages root set : ℕ} {role words : ℕ → ℕ} {up : ℕ → Use} {spot : ℕ → Position} (T : TreePart pages root set role words up spot)
+over_grown : {pages root : ℕ} {role words : ℕ → ℕ} {up : ℕ → Use} {spot : ℕ → Position} (T : TreePart pages root role words up spot)
     (pool : ℕ → ℕ) (m : ℕ) (IsSo : ℕ → ℕ → ℕ → Type 0) → is_table (up m) ≡ true → IsLight IsSo
     → (won : Bool) (page : ℕ) (use_ : Use) (p : Position) → is_table (up page) ≡ false
     → (won ≡ true → (j : ℕ) → j < 512 → pool (pool_index page j) ≡ absent_word)

@@ -1,5 +1,4 @@
 -- Each step of a part keeps what the tables are.
-use Rattle.std.proofs.Math.Nat.{div-div-eq-div-mul}
 use Rattle.std.proofs.Common.{◌≡◌, ◌⊎◌, inl, inr, ◌+◌, ◌*◌, ◌/◌, ◌%◌, ◌^◌, ◌<◌, ◌≤◌, ℕ, refl, sym, subst, ap, ◌∙◌, arith}
 use Rattle.std.specs.Prelude.{Bool, true, false, ◌-◌, ◌==◌, if◌then◌else◌, Some}
 use Rattle.core_views.specs.declared.sizes.Sizes.{Sizes}
@@ -12,42 +11,30 @@ use Rattle.spte_words.specs.Entries.{absent_word, kind_of, level_span}
 use Rattle.spte_words.proofs.ReadsEntries.{kind_of_leaf, kind_of_table}
 use Rattle.spte_words.specs.HostWords.{host_allows_write, host_frame}
 use Rattle.part_steps.specs.SlotWords.{may_write}
-use Rattle.spte_words.proofs.Spans.{span_1, span_above}
+use Rattle.spte_words.proofs.Spans.{span_1}
 use Rattle.part_steps.specs.declared.part_step.PartStep.{PartStep}
 use Rattle.part_steps.specs.declared.part_step.PartStep.TheVariants as part
 use Rattle.part_steps.specs.PartTasks.{entry_index, is_absent, leaf_written, link_written, page_owned, table_page, word_looked}
 use Rattle.part_steps.specs.PartHoldings.{MayEnter}
 use Rattle.mmu_core.specs.invariant.PoolPart.{IsFilled}
+use Rattle.mmu_core.specs.invariant.SlotSetPart.{IsLiveIn}
 use Rattle.mmu_core.specs.invariant.TopicsInvariant.{TopicsInvariant}
-use Rattle.mmu_core.specs.invariant.TreePart.{EntryPart, IsLeafAt, IsLiveIn, IsWanted, Position, TreePart, Use, at, is_table, stands}
+use Rattle.mmu_core.specs.invariant.TreePart.{EntryPart, IsLeafAt, Position, TreePart, Use, at, is_table, stands}
 use Rattle.mmu_core.specs.invariant.TreePart.Use.{Under}
 use Rattle.mmu_core.specs.machine.View.{View, part_stepped, upd}
-use Rattle.mmu_core.proofs.slots.LiveStays.{LiveStays, part_live_stays}
 use Rattle.mmu_core.proofs.pages.Owned.{OwnsWhole, table_owned}
 use Rattle.mmu_core.proofs.machine.PartStepping.{IsPart}
-use Rattle.mmu_core.proofs.words.PartWords.{HasOtherRole, IsElsewhere, areas_stay, page_stays, role_stays, left_elsewhere, slots_are, slots_behind}
+use Rattle.mmu_core.proofs.words.PartWords.{HasOtherRole, IsElsewhere, areas_stay, page_stays, role_stays, left_elsewhere}
 use Rattle.mmu_core.proofs.pages.PoolPages.{left_no_table, owned_there, owned_use, table_not_owned, tells}
 use Rattle.mmu_core.proofs.pages.Standing.{entry_now, position_below, spot_after, up_after, upd_if}
 use Rattle.mmu_core.proofs.machine.SumsBelow.{upd_id}
 use Rattle.mmu_core.proofs.pages.TreePlaces.{link_stands}
 use Rattle.mmu_core.proofs.pages.TreeStored.{entry_stored, table_linked, tree_moved}
 use Rattle.mmu_core.proofs.pages.UsesStay.{is_link, same_tables, stay_same, stood_same}
-use Rattle.mmu_core.proofs.held.FreshFrames.{found_live}
-use Rattle.mmu_core.proofs.slots.LiveStay.{StayLive}
 
 absent_is : 0 ≡ absent_word
 unfolding absent_word
 absent_is = refl
-
--- The run of the guest frame's entry, one level below the table that it is in.
-run_below : (gfn level prefix : ℕ) → 2 ≤ level → gfn / level_span level / 512 ≡ prefix
-    → gfn / level_span (level - 1) / 512 ≡ prefix * 512 + gfn / level_span level % 512
-run_below gfn level prefix upper run =
-    let up : level - 1 + 1 ≡ level = omega (arith, upper) in
-    let span : level_span level ≡ 512 * level_span (level - 1) = ap level_span (sym up) ∙ span_above (level - 1) (omega (arith, upper)) in
-    let whole : gfn / level_span (level - 1) / 512 ≡ gfn / level_span level =
-    div-div-eq-div-mul gfn (level_span (level - 1)) 512 ∙ ap (λ n. gfn / n) (omega (arith, span)) in
-    omega (arith, whole, run)
 
 -- At the lowest level the entry is the guest frame's own.
 pub run_lowest : (gfn level prefix : ℕ) → level ≡ 1 → gfn / level_span level / 512 ≡ prefix → prefix * 512 + gfn / level_span level % 512 ≡ gfn
@@ -64,10 +51,10 @@ leaf_is t lowest =
     (may_write t.search.slot word) (omega arith) (omega arith)
 
 -- An entry above the lowest level whose kind is absent is the absent word.
-pub absent_entry : {pages root set : ℕ} {role pool : ℕ → ℕ} {up : ℕ → Use} {spot : ℕ → Position} (T : TreePart pages root set role pool up spot)
+pub absent_entry : {pages root : ℕ} {role pool : ℕ → ℕ} {up : ℕ → Use} {spot : ℕ → Position} (T : TreePart pages root role pool up spot)
     (k level prefix j : ℕ) → stands up spot k ≡ Some (at level prefix) → j < 512 → 2 ≤ level → pages < 2 ^ 32
     → kind_of level (pool (pool_index k j)) ≡ entry_kind.Absent → pool (pool_index k j) ≡ absent_word
-absent_entry {pages} {root} {set} {role} {pool} {up} {spot} T k level prefix j at_k low upper few kind = by (T.entries k (at level prefix) at_k j low)
+absent_entry {pages} {root} {role} {pool} {up} {spot} T k level prefix j at_k low upper few kind = by (T.entries k (at level prefix) at_k j low)
   where
     by : EntryPart up k (at level prefix) j (pool (pool_index k j)) → pool (pool_index k j) ≡ absent_word
     by (inl e) = e
@@ -81,20 +68,20 @@ absent_entry {pages} {root} {set} {role} {pool} {up} {spot} T k level prefix j a
 -- Where the step stores in no table, all tables stay.
 stay : (z : Sizes) (v : View) (a : ℕ) (step : PartStep) (note : ℕ) → IsPart z v a step → (I : TopicsInvariant z v) → is_link step ≡ false
     → ((k : ℕ) (p : Position) → stands I.up I.spot k ≡ Some p → IsElsewhere step (v.hand a).topics k × HasOtherRole step (v.hand a).topics k)
-    → TreePart z.pool (v.words area.Root 0) (v.words area.Slots 0) ((part_stepped a step note v).words area.Role)
-    ((part_stepped a step note v).words area.Pool) (up_after step a (v.hand a).topics v I.up) I.spot
+    → TreePart z.pool (v.words area.Root 0) ((part_stepped a step note v).words area.Role) ((part_stepped a step note v).words area.Pool)
+    (up_after step a (v.hand a).topics v I.up) I.spot
 stay z v a step note S I never elsewhere =
     let same = same_tables z v a step S I never in
     let after : ℕ → Use = up_after step a (v.hand a).topics v I.up in
     tree_moved I.tree ((part_stepped a step note v).words area.Role) ((part_stepped a step note v).words area.Pool) after I.spot
     (stay_same I.up after I.spot same)
     (λ k p is. inl (stood_same I.up after I.spot same k p is)) (λ k p is. role_stays z v a step note S k (elsewhere k p is).1)
-    (λ k p is j low. inl (page_stays z v a step note S k (elsewhere k p is).0 j low)) (part_live_stays z v a step note S I)
+    (λ k p is j low. inl (page_stays z v a step note S k (elsewhere k p is).0 j low))
 
 -- An exchange that was lost leaves the pool.
-lost : {pages root set : ℕ} {role pool : ℕ → ℕ} {up : ℕ → Use} {spot : ℕ → Position} (i : ℕ) → TreePart pages root set role pool up spot
-    → TreePart pages root set role (upd pool i (pool i)) up spot
-lost {pages} {root} {set} {role} {pool} {up} {spot} i T = subst (λ (words : ℕ → ℕ). TreePart pages root set role words up spot) (sym (upd_id pool i)) T
+lost : {pages root : ℕ} {role pool : ℕ → ℕ} {up : ℕ → Use} {spot : ℕ → Position} (i : ℕ) → TreePart pages root role pool up spot
+    → TreePart pages root role (upd pool i (pool i)) up spot
+lost {pages} {root} {role} {pool} {up} {spot} i T = subst (λ (words : ℕ → ℕ). TreePart pages root role words up spot) (sym (upd_id pool i)) T
 
 module _ (z : Sizes) (v : View) (a gfn note : ℕ) (I : TopicsInvariant z v) where
   abbrev t : Topics
@@ -111,11 +98,10 @@ module _ (z : Sizes) (v : View) (a gfn note : ℕ) (I : TopicsInvariant z v) whe
   exchanged won new_ = upd (v.words area.Pool) here (if won then new_ else entry_now gfn t v)
 
   linked : (S : IsPart z v a (part.Link gfn)) (won : Bool) → (entry_now gfn t v == t.walk.entry) ≡ won
-      → LiveStays (v.words area.Slots 0) (v.words area.Pool) (exchanged won (link_written t))
-      → TreePart z.pool (v.words area.Root 0) (v.words area.Slots 0) (v.words area.Role) (exchanged won (link_written t))
+      → TreePart z.pool (v.words area.Root 0) (v.words area.Role) (exchanged won (link_written t))
       (upd_if won I.up (page_owned t.owned) (Under (table_page t.walk) index)) (upd_if won I.spot (page_owned t.owned) (position_below gfn t))
-  linked S false is live = lost here I.tree
-  linked S true is live =
+  linked S false is = lost here I.tree
+  linked S true is =
       table_linked I.tree (table_page t.walk) t.walk.level t.walk.prefix index (page_owned t.owned) ((I.held a S.there).table may.saw.over.there)
       S.needs.1 (omega arith) absent
       (ap (λ k. is_table (I.up k)) page ∙ ap is_table (owned_use I.uses a owns.owned S.there owns.is))
@@ -123,15 +109,6 @@ module _ (z : Sizes) (v : View) (a gfn note : ℕ) (I : TopicsInvariant z v) whe
       (ap (v.words area.Role) page ∙ filled.role_is owns.whole ∙ owns.role)
       (λ i low. ap (λ k. v.words area.Pool (pool_index k i)) page
       ∙ filled.absent (ap is_absent (sym owns.is) ∙ S.needs.3.absent) i (omega (arith, low, owns.whole)) low ∙ absent_is)
-      (record {
-        gfn = gfn;
-        id = t.search.id - 1;
-        slot = t.search.slot;
-        live = found_live z v a gfn S.there I may;
-        holds = may.looked_up.found.holds;
-        run = run_below gfn t.walk.level t.walk.prefix S.needs.1 may.saw.over.run;
-      })
-      live
     where
       may : MayEnter gfn t
       may = S.needs.0
@@ -151,14 +128,13 @@ module _ (z : Sizes) (v : View) (a gfn note : ℕ) (I : TopicsInvariant z v) whe
       filled : IsFilled (v.words area.Role) (v.words area.Pool) owns.owned
       filled = I.filled a owns.owned S.there owns.is
 
-  leafed : (S : IsPart z v a (part.Leaf gfn)) (won : Bool) → LiveStays (v.words area.Slots 0) (v.words area.Pool) (exchanged won (leaf_written t))
-      → TreePart z.pool (v.words area.Root 0) (v.words area.Slots 0) (v.words area.Role) (exchanged won (leaf_written t)) I.up I.spot
-  leafed S false live = lost here I.tree
-  leafed S true live =
+  leafed : (S : IsPart z v a (part.Leaf gfn)) (won : Bool)
+      → TreePart z.pool (v.words area.Root 0) (v.words area.Role) (exchanged won (leaf_written t)) I.up I.spot
+  leafed S false = lost here I.tree
+  leafed S true =
       entry_stored I.tree (table_page t.walk) (at t.walk.level t.walk.prefix) index (leaf_written t)
       ((I.held a S.there).table may.saw.over.there) (omega arith)
       (record { entry = inr (inr leaf); no_link = inl S.needs.1 })
-      live
     where
       may : MayEnter gfn t
       may = S.needs.0
@@ -167,11 +143,10 @@ module _ (z : Sizes) (v : View) (a gfn note : ℕ) (I : TopicsInvariant z v) whe
       leaf = record { lowest = S.needs.1; leaf = leaf_is t S.needs.1 }
 
   -- An entry of which a leaf was loaded that is there still is no link.
-  zapped : (S : IsPart z v a (part.Zap gfn)) → LiveStays (v.words area.Slots 0) (v.words area.Pool) (upd (v.words area.Pool) here 0)
-      → TreePart z.pool (v.words area.Root 0) (v.words area.Slots 0) (v.words area.Role) (upd (v.words area.Pool) here 0) I.up I.spot
-  zapped S live =
+  zapped : (S : IsPart z v a (part.Zap gfn)) → TreePart z.pool (v.words area.Root 0) (v.words area.Role) (upd (v.words area.Pool) here 0) I.up I.spot
+  zapped S =
       entry_stored I.tree (table_page t.walk) (at t.walk.level t.walk.prefix) index 0 at_walk (omega arith)
-      (record { entry = inl absent_is; no_link = by (I.tree.entries (table_page t.walk) (at t.walk.level t.walk.prefix) at_walk index (omega arith)) }) live
+      (record { entry = inl absent_is; no_link = by (I.tree.entries (table_page t.walk) (at t.walk.level t.walk.prefix) at_walk index (omega arith)) })
     where
       at_walk : stands I.up I.spot (table_page t.walk) ≡ Some (at t.walk.level t.walk.prefix)
       at_walk = (I.held a S.there).table S.needs.saw.over.there
@@ -196,15 +171,14 @@ module _ (z : Sizes) (v : View) (a gfn note : ℕ) (I : TopicsInvariant z v) whe
           absurd (cc (leaf, links))
       by (inr (inr L)) = inl L.lowest
 
--- What the tables are behind each step; the root, the published set and the host's words stay.
+-- What the tables are after each step; the root stays.
 tree_behind : (z : Sizes) (v : View) (a : ℕ) (step : PartStep) (note : ℕ) → IsPart z v a step → (I : TopicsInvariant z v)
-    → TreePart z.pool (v.words area.Root 0) (v.words area.Slots 0) ((part_stepped a step note v).words area.Role)
-    ((part_stepped a step note v).words area.Pool) (up_after step a (v.hand a).topics v I.up) (spot_after step (v.hand a).topics v I.spot)
+    → TreePart z.pool (v.words area.Root 0) ((part_stepped a step note v).words area.Role) ((part_stepped a step note v).words area.Pool)
+    (up_after step a (v.hand a).topics v I.up) (spot_after step (v.hand a).topics v I.spot)
 tree_behind z v a (part.Link gfn) note S I =
     linked z v a gfn note I S (entry_now gfn (v.hand a).topics v == (v.hand a).topics.walk.entry) refl
-    (part_live_stays z v a (part.Link gfn) note S I)
 tree_behind z v a (part.Leaf gfn) note S I =
-    leafed z v a gfn note I S (entry_now gfn (v.hand a).topics v == (v.hand a).topics.walk.entry) (part_live_stays z v a (part.Leaf gfn) note S I)
+    leafed z v a gfn note I S (entry_now gfn (v.hand a).topics v == (v.hand a).topics.walk.entry)
 tree_behind z v a (part.Fill value) note S I =
     stay z v a (part.Fill value) note S I refl (λ k p is. (λ o owns. table_not_owned I.uses I.spot k p is a o S.there owns, tt))
 tree_behind z v a (part.Role value) note S I =
@@ -215,44 +189,14 @@ tree_behind z v a part.Clear note S I =
       left_elsewhere (v.hand a).topics S.needs.leaves k
           (λ l left e. left_no_table I.uses I.spot a l p S.there left (ap (stands I.up I.spot) e ∙ is)),
     ))
-tree_behind z v a (part.Zap gfn) note S I = zapped z v a gfn note I S (part_live_stays z v a (part.Zap gfn) note S I)
+tree_behind z v a (part.Zap gfn) note S I = zapped z v a gfn note I S
 tree_behind z v a step note S I = stay z v a step note S I refl (λ k p is. (tt, tt))
-
--- A slot set is published that has each slot of the one before it.
-tree_republished : {pages root set : ℕ} {role pool : ℕ → ℕ} {up : ℕ → Use} {spot : ℕ → Position} (other : ℕ) → StayLive pool set pool other
-    → TreePart pages root set role pool up spot → TreePart pages root other role pool up spot
-tree_republished {pages} {root} {set} {role} {pool} {up} {spot} other stay T = record {
-  top = T.top;
-  only = T.only;
-  top_at = T.top_at;
-  under = T.under;
-  there = T.there;
-  roles = T.roles;
-  entries = T.entries;
-  wanted = λ k p is. want k p (T.wanted k p is);
-}
-  where
-    want : (k : ℕ) (p : Position) → (k ≡ root) ⊎ IsWanted pool set p → (k ≡ root) ⊎ IsWanted pool other p
-    want k p (inl e) = inl e
-    want k p (inr W) = inr (record { gfn = W.gfn; id = W.id; slot = W.slot; live = stay W.id W.slot W.live; holds = W.holds; run = W.run })
-
--- What the tables are of the set that is published behind each step.
-tree_set : (z : Sizes) (v : View) (a : ℕ) (step : PartStep) (note : ℕ) → IsPart z v a step → (I : TopicsInvariant z v)
-    → TreePart z.pool (v.words area.Root 0) (slots_behind step (v.hand a).topics (v.words area.Slots 0)) ((part_stepped a step note v).words
-    area.Role) ((part_stepped a step note v).words area.Pool) (up_after step a (v.hand a).topics v I.up) (spot_after step (v.hand a).topics v I.spot)
-tree_set z v a part.Publish note S I = tree_republished (page_owned (v.hand a).topics.owned) S.replaces.stay (tree_behind z v a part.Publish note S I)
-tree_set z v a step note S I = tree_behind z v a step note S I
 
 -- Each step of a part keeps what the tables are.
 pub tree_kept : (z : Sizes) (v : View) (a : ℕ) (step : PartStep) (note : ℕ) → IsPart z v a step → (I : TopicsInvariant z v)
-    → TreePart z.pool ((part_stepped a step note v).words area.Root 0) ((part_stepped a step note v).words area.Slots 0)
-    ((part_stepped a step note v).words area.Role) ((part_stepped a step note v).words area.Pool)
-    (up_after step a (v.hand a).topics v I.up) (spot_after step (v.hand a).topics v I.spot)
+    → TreePart z.pool ((part_stepped a step note v).words area.Root 0) ((part_stepped a step note v).words area.Role)
+    ((part_stepped a step note v).words area.Pool) (up_after step a (v.hand a).topics v I.up) (spot_after step (v.hand a).topics v I.spot)
 tree_kept z v a step note S I =
     let w : View = part_stepped a step note v in
-    let up : ℕ → Use = up_after step a (v.hand a).topics v I.up in
-    let spot : ℕ → Position = spot_after step (v.hand a).topics v I.spot in
-    subst (λ (r : ℕ → ℕ). TreePart z.pool (r 0) (w.words area.Slots 0) (w.words area.Role) (w.words area.Pool) up spot)
-    (sym (areas_stay v a step note area.Root refl))
-    (subst (λ s. TreePart z.pool (v.words area.Root 0) s (w.words area.Role) (w.words area.Pool) up spot) (sym (slots_are v a step note))
-    (tree_set z v a step note S I))
+    subst (λ (r : ℕ → ℕ). TreePart z.pool (r 0) (w.words area.Role) (w.words area.Pool) (up_after step a (v.hand a).topics v I.up)
+    (spot_after step (v.hand a).topics v I.spot)) (sym (areas_stay v a step note area.Root refl)) (tree_behind z v a step note S I)

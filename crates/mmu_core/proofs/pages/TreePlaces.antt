@@ -1,10 +1,10 @@
--- Where tables stand: the root at the top, each other one below the entry that links it, and no two at one place.
+-- Where tables stand: the root at the top, each other one below the entry that links it, and no two at one place; and any two accounts agree.
 use Rattle.std.proofs.Common.{◌≡◌, ◌⊎◌, inl, inr, ◌+◌, ◌*◌, ◌/◌, ◌%◌, ◌<◌, ◌≤◌, ℕ, zero, suc, refl, sym, subst, ap, ◌∙◌, arith}
 use Rattle.std.specs.Prelude.{true, ◌-◌, Some}
 use Rattle.spte_words.specs.Areas.{pool_index}
 use Rattle.spte_words.specs.Entries.{table_word}
-use Rattle.spte_words.proofs.ReadsEntries.{same_table}
-use Rattle.mmu_core.specs.invariant.TreePart.{IsUnder, LinksTo, Position, TreePart, Below, Reaches, Use, at, is_table, stands, through}
+use Rattle.spte_words.proofs.ReadsEntries.{same_table, table_not_absent}
+use Rattle.mmu_core.specs.invariant.TreePart.{EntryPart, IsUnder, LinksTo, Position, TreePart, Below, Reaches, Use, at, is_table, stands, through}
 use Rattle.mmu_core.specs.invariant.TreePart.Use.{Free, OldSet, Outside, Owned, Root, SlotSet, Under}
 use Rattle.mmu_core.proofs.pages.Standing.{at_spot, one_position, spot_of}
 
@@ -19,7 +19,7 @@ pub record IsLinked (pool : ℕ → ℕ) (up : ℕ → Use) (spot : ℕ → Posi
   pub above : stands up spot parent ≡ Some (at (p.level + 1) (p.prefix / 512))
   pub link : pool (pool_index parent (p.prefix % 512)) ≡ table_word k
 
-module _ {pages root set : ℕ} {role pool : ℕ → ℕ} {up : ℕ → Use} {spot : ℕ → Position} (T : TreePart pages root set role pool up spot) where
+module _ {pages root : ℕ} {role pool : ℕ → ℕ} {up : ℕ → Use} {spot : ℕ → Position} (T : TreePart pages root role pool up spot) where
   pub root_stands : stands up spot root ≡ Some (at 4 0)
   root_stands = at_spot up spot root Root T.top refl ∙ ap Some T.top_at
 
@@ -104,3 +104,35 @@ module _ {pages root set : ℕ} {role pool : ℕ → ℕ} {up : ℕ → Use} {sp
 
   pub all_reached : (k : ℕ) (p : Position) → stands up spot k ≡ Some p → Reaches up root k
   all_reached k p = reached_within 4 k p (omega arith)
+
+-- What stands at a place in one account of the words stands there in any other one.
+module _ {pages root : ℕ} {role pool : ℕ → ℕ} {up more : ℕ → Use} {spot place : ℕ → Position} (T : TreePart pages root role pool up spot)
+    (N : TreePart pages root role pool more place) where
+  root_in_both : (k : ℕ) (p : Position) → stands up spot k ≡ Some p → up k ≡ Root → stands more place k ≡ Some p
+  root_in_both k p at_k is =
+      let e = T.only k is in
+      ap (stands more place) e ∙ root_stands N ∙ sym (root_stands T) ∙ sym (ap (stands up spot) e) ∙ at_k
+
+  -- Where the table above stands in the second, what it links to stands below it.
+  linked_in_both : (k m j : ℕ) (p : Position) → stands up spot k ≡ Some p → IsUnder pool up spot k p m j
+      → stands more place m ≡ Some (at (p.level + 1) (p.prefix / 512)) → stands more place k ≡ Some p
+  linked_in_both k m j p at_k V above = by (N.entries m (at (p.level + 1) (p.prefix / 512)) above j (let index = V.index in omega (arith, index)))
+    where
+      by : EntryPart more m (at (p.level + 1) (p.prefix / 512)) j (pool (pool_index m j)) → stands more place k ≡ Some p
+      by (inl absent) = absurd (table_not_absent k (sym V.link ∙ absent))
+      by (inr (inl L)) =
+          let index = V.index in
+          ap (stands more place) (same_table k L.page (sym V.link ∙ L.is))
+          ∙ link_stands N m (at (p.level + 1) (p.prefix / 512)) j (pool (pool_index m j)) above L
+          ∙ ap Some (same_position _ p (omega arith) (omega (arith, index)))
+      by (inr (inr F)) = absurd (let lowest = F.lowest in let least = (T.there k p at_k).1 in omega (arith, lowest, least))
+
+  stands_within : (n k : ℕ) (p : Position) → 4 ≤ p.level + n → stands up spot k ≡ Some p → stands more place k ≡ Some p
+  stands_within zero k p near at_k =
+      table_or T k p at_k (root_in_both k p at_k) (λ m j is V. absurd (let lower = V.lower in omega (arith, near, lower)))
+  stands_within (suc n) k p near at_k =
+      table_or T k p at_k (root_in_both k p at_k) (λ m j is V.
+      linked_in_both k m j p at_k V (stands_within n m (at (p.level + 1) (p.prefix / 512)) (omega (arith, near)) V.above))
+
+  pub stands_in_both : (k : ℕ) (p : Position) → stands up spot k ≡ Some p → stands more place k ≡ Some p
+  stands_in_both k p = stands_within 4 k p (omega arith)

@@ -5,11 +5,10 @@ use Rattle.spte_words.specs.Areas.{pool_index}
 use Rattle.spte_words.specs.Entries.{absent_word, table_word}
 use Rattle.spte_words.proofs.Indices.{same_pool_word}
 use Rattle.spte_words.proofs.ReadsEntries.{table_not_absent}
-use Rattle.mmu_core.specs.invariant.TreePart.{EntryPart, IsUnder, IsWanted, Position, TreePart, Use, at, is_table, stands}
+use Rattle.mmu_core.specs.invariant.TreePart.{EntryPart, IsUnder, Position, TreePart, Use, at, is_table, stands}
 use Rattle.mmu_core.specs.invariant.TreePart.Use.{Root, Under}
 use Rattle.mmu_core.specs.machine.View.{upd}
 use Rattle.mmu_core.proofs.machine.Columns.{same_or, upd_other, upd_same}
-use Rattle.mmu_core.proofs.slots.LiveStays.{LiveStays, live_in_stays}
 use Rattle.mmu_core.proofs.pages.Standing.{at_spot, one_position, spot_of}
 use Rattle.mmu_core.proofs.pages.TreePlaces.{same_position}
 
@@ -25,7 +24,7 @@ still_stands up more spot place S k p at_k =
     at_spot more place k (up k) (S.use_ k is.0) is.0 ∙ ap Some (S.place_ k is.0 ∙ is.1)
 
 -- One more table: linked, and without entries.
-pub record IsNew (pages set : ℕ) (role pool : ℕ → ℕ) (up : ℕ → Use) (spot : ℕ → Position) (k : ℕ) (p : Position) : Type 0 where
+pub record IsNew (pages : ℕ) (role pool : ℕ → ℕ) (up : ℕ → Use) (spot : ℕ → Position) (k : ℕ) (p : Position) : Type 0 where
   pub there : (k < pages) × (1 ≤ p.level) × (p.level ≤ 4)
   pub role_is : role k ≡ p.level
   pub parent : ℕ
@@ -33,18 +32,13 @@ pub record IsNew (pages set : ℕ) (role pool : ℕ → ℕ) (up : ℕ → Use) 
   pub below : up k ≡ Under parent entry
   pub under : IsUnder pool up spot k p parent entry
   pub absent : (j : ℕ) → j < 512 → pool (pool_index k j) ≡ absent_word
-  pub wanted : IsWanted pool set p
 
 -- What was stored in an entry makes it what it should be, and what was there was no link.
 pub record IsStored (up : ℕ → Use) (k : ℕ) (p : Position) (j old new_ : ℕ) : Type 0 where
   pub entry : EntryPart up k p j new_
   pub no_link : (p.level ≡ 1) ⊎ (old ≡ absent_word)
 
--- What is said of an entry, and of a table, holds where the tables and the live slots stay.
-wanted_stays : (set : ℕ) (before after : ℕ → ℕ) (p : Position) → LiveStays set before after → IsWanted before set p → IsWanted after set p
-wanted_stays set before after p stays W =
-    record { gfn = W.gfn; id = W.id; slot = W.slot; live = live_in_stays set before after W.id W.slot stays W.live; holds = W.holds; run = W.run }
-
+-- What is said of an entry holds where the tables stay.
 entry_stays : (up more : ℕ → Use) (spot place : ℕ → Position) (k : ℕ) (p : Position) (j w : ℕ) → TablesStay up more spot place → EntryPart up k p j w
     → EntryPart more k p j w
 entry_stays up more spot place k p j w S (inl e) = inl e
@@ -53,16 +47,15 @@ entry_stays up more spot place k p j w S (inr (inl L)) =
 entry_stays up more spot place k p j w S (inr (inr L)) = inr (inr L)
 
 -- Tables are kept where each stays that stands, each other one is new, and each entry stays or is stored as it should be.
-module _ {pages root set : ℕ} {role pool : ℕ → ℕ} {up : ℕ → Use} {spot : ℕ → Position} (T : TreePart pages root set role pool up spot)
+module _ {pages root : ℕ} {role pool : ℕ → ℕ} {up : ℕ → Use} {spot : ℕ → Position} (T : TreePart pages root role pool up spot)
     (other after : ℕ → ℕ) (more : ℕ → Use) (place : ℕ → Position)
     (S : TablesStay up more spot place)
-    (news : (k : ℕ) (p : Position) → stands more place k ≡ Some p → (stands up spot k ≡ Some p) ⊎ IsNew pages set other after more place k p)
+    (news : (k : ℕ) (p : Position) → stands more place k ≡ Some p → (stands up spot k ≡ Some p) ⊎ IsNew pages other after more place k p)
     (roles : (k : ℕ) (p : Position) → stands up spot k ≡ Some p → other k ≡ role k)
     (words : (k : ℕ) (p : Position) → stands up spot k ≡ Some p → (j : ℕ) → j < 512
-    → (after (pool_index k j) ≡ pool (pool_index k j)) ⊎ IsStored more k p j (pool (pool_index k j)) (after (pool_index k j)))
-    (stays : LiveStays set pool after) where
+    → (after (pool_index k j) ≡ pool (pool_index k j)) ⊎ IsStored more k p j (pool (pool_index k j)) (after (pool_index k j))) where
   abbrev Now : ℕ → Position → Type 0
-  Now k p = (stands up spot k ≡ Some p) ⊎ IsNew pages set other after more place k p
+  Now k p = (stands up spot k ≡ Some p) ⊎ IsNew pages other after more place k p
 
   there : (k : ℕ) (p : Position) → Now k p → (k < pages) × (1 ≤ p.level) × (p.level ≤ 4)
   there k p (inl is) = T.there k p is
@@ -107,7 +100,7 @@ module _ {pages root set : ℕ} {role pool : ℕ → ℕ} {up : ℕ → Use} {sp
       let was = spot_of up spot c (place c) at_c in
       still c (place c) k j (T.there c (place c) at_c).1 (subst (λ p. IsUnder pool up spot c p k j) was.1 (T.under c k j (sym (S.use_ c was.0) ∙ is)))
 
-  new_under : (c k j : ℕ) → more c ≡ Under k j → IsNew pages set other after more place c (place c) → IsUnder after more place c (place c) k j
+  new_under : (c k j : ℕ) → more c ≡ Under k j → IsNew pages other after more place c (place c) → IsUnder after more place c (place c) k j
   new_under c k j is N =
       let same : Under N.parent N.entry ≡ Under k j = sym N.below ∙ is in
       let parent : N.parent ≡ k = cc same in
@@ -128,15 +121,7 @@ module _ {pages root set : ℕ} {role pool : ℕ → ℕ} {up : ℕ → Use} {sp
       by (inl at_k) = T.only k (sym (S.use_ k (spot_of up spot k (place k) at_k).0) ∙ is)
       by (inr N) = let both = sym N.below ∙ is in absurd (cc both)
 
-  want : (k : ℕ) (p : Position) → Now k p → (k ≡ root) ⊎ IsWanted after set p
-  want k p (inr N) = inr N.wanted
-  want k p (inl is) = by (T.wanted k p is)
-    where
-      by : (k ≡ root) ⊎ IsWanted pool set p → (k ≡ root) ⊎ IsWanted after set p
-      by (inl e) = inl e
-      by (inr W) = inr (wanted_stays set pool after p stays W)
-
-  pub tree_moved : TreePart pages root set other after more place
+  pub tree_moved : TreePart pages root other after more place
   tree_moved = record {
     top = S.use_ root (ap is_table T.top) ∙ T.top;
     only = only;
@@ -145,7 +130,6 @@ module _ {pages root set : ℕ} {role pool : ℕ → ℕ} {up : ℕ → Use} {sp
     there = λ k p is. there k p (news k p is);
     roles = λ k p is. role_is k p (news k p is);
     entries = λ k p is j low. entry k p j low (news k p is);
-    wanted = λ k p is. want k p (news k p is);
   }
 
 -- One entry of a table is stored.
@@ -173,16 +157,16 @@ stored_words pool up more spot k p j w at_k low S l q at_l i small = by (same_or
 pub all_stay : (up : ℕ → Use) (spot : ℕ → Position) → TablesStay up up spot spot
 all_stay up spot = record { use_ = λ k table. refl; place_ = λ k table. refl }
 
-pub entry_stored : {pages root set : ℕ} {role pool : ℕ → ℕ} {up : ℕ → Use} {spot : ℕ → Position} (T : TreePart pages root set role pool up spot)
+pub entry_stored : {pages root : ℕ} {role pool : ℕ → ℕ} {up : ℕ → Use} {spot : ℕ → Position} (T : TreePart pages root role pool up spot)
     (k : ℕ) (p : Position) (j w : ℕ) → stands up spot k ≡ Some p → j < 512
-    → IsStored up k p j (pool (pool_index k j)) w → LiveStays set pool (upd pool (pool_index k j) w)
-    → TreePart pages root set role (upd pool (pool_index k j) w) up spot
-entry_stored {pages} {root} {set} {role} {pool} {up} {spot} T k p j w at_k low S stays =
+    → IsStored up k p j (pool (pool_index k j)) w
+    → TreePart pages root role (upd pool (pool_index k j) w) up spot
+entry_stored {pages} {root} {role} {pool} {up} {spot} T k p j w at_k low S =
     tree_moved T role (upd pool (pool_index k j) w) up spot (all_stay up spot) (λ l q is. inl is) (λ l q is. refl)
-    (stored_words pool up up spot k p j w at_k low S) stays
+    (stored_words pool up up spot k p j w at_k low S)
 
 -- A table is linked by an absent entry of a table one level above.
-module _ {pages root set : ℕ} {role pool : ℕ → ℕ} {up : ℕ → Use} {spot : ℕ → Position} (T : TreePart pages root set role pool up spot)
+module _ {pages root : ℕ} {role pool : ℕ → ℕ} {up : ℕ → Use} {spot : ℕ → Position} (T : TreePart pages root role pool up spot)
     (k level prefix j page : ℕ) (at_k : stands up spot k ≡ Some (at level prefix)) (upper : 2 ≤ level) (low : j < 512)
     (was : pool (pool_index k j) ≡ absent_word) (none : is_table (up page) ≡ false) where
   -- the words, what the pages are and where the tables stand, behind the link
@@ -218,16 +202,16 @@ module _ {pages root set : ℕ} {role pool : ℕ → ℕ} {up : ℕ → Use} {sp
     link = upd_same pool (pool_index k j) (table_word page);
   }
 
-  pub table_linked : page < pages → role page ≡ level - 1 → ((i : ℕ) → i < 512 → pool (pool_index page i) ≡ absent_word) → IsWanted pool set below
-      → LiveStays set pool linked_words → TreePart pages root set role linked_words more place
-  table_linked there role_is absent wanted stays =
+  pub table_linked : page < pages → role page ≡ level - 1 → ((i : ℕ) → i < 512 → pool (pool_index page i) ≡ absent_word)
+      → TreePart pages root role linked_words more place
+  table_linked there role_is absent =
       tree_moved T role linked_words more place grow news (λ l p is. refl)
-      (stored_words pool up more spot k (at level prefix) j (table_word page) at_k low stored) stays
+      (stored_words pool up more spot k (at level prefix) j (table_word page) at_k low stored)
     where
       apart : k ≢ page
       apart = differs k (spot_of up spot k (at level prefix) at_k).0
 
-      new_one : IsNew pages set role linked_words more place page below
+      new_one : IsNew pages role linked_words more place page below
       new_one = record {
         there = (there, omega (arith, upper), omega (arith, top));
         role_is = role_is;
@@ -238,7 +222,6 @@ module _ {pages root set : ℕ} {role pool : ℕ → ℕ} {up : ℕ → Use} {sp
         absent =
             λ i small. upd_other pool (pool_index k j) (pool_index page i) (table_word page)
             (λ e. apart (sym (same_pool_word page k i j small low e).0)) ∙ absent i small;
-        wanted = wanted_stays set pool linked_words below stays wanted;
       }
 
       at_page : stands more place page ≡ Some below
@@ -249,15 +232,15 @@ module _ {pages root set : ℕ} {role pool : ℕ → ℕ} {up : ℕ → Use} {sp
           ap (λ u. if is_table u then Some (place l) else None) (upd_other up page l (Under k j) ne)
           ∙ ap (λ p. if is_table (up l) then Some p else None) (upd_other spot page l below ne)
 
-      news : (l : ℕ) (p : Position) → stands more place l ≡ Some p → (stands up spot l ≡ Some p) ⊎ IsNew pages set role linked_words more place l p
+      news : (l : ℕ) (p : Position) → stands more place l ≡ Some p → (stands up spot l ≡ Some p) ⊎ IsNew pages role linked_words more place l p
       news l p is = by (same_or l page)
         where
-          by : (l ≡ page) ⊎ (l ≢ page) → (stands up spot l ≡ Some p) ⊎ IsNew pages set role linked_words more place l p
+          by : (l ≡ page) ⊎ (l ≢ page) → (stands up spot l ≡ Some p) ⊎ IsNew pages role linked_words more place l p
           by (inr ne) = inl (sym (same_elsewhere l ne) ∙ is)
           by (inl e) =
               let same : below ≡ p = one_position (sym at_page ∙ ap (stands more place) (sym e) ∙ is) in
-              inr (subst (λ m. IsNew pages set role linked_words more place m p) (sym e)
-              (subst (IsNew pages set role linked_words more place page) same new_one))
+              inr (subst (λ m. IsNew pages role linked_words more place m p) (sym e)
+              (subst (IsNew pages role linked_words more place page) same new_one))
 
       stored : IsStored more k (at level prefix) j (pool (pool_index k j)) (table_word page)
       stored = record { entry = inr (inl (record { page = page; upper = upper; is = refl; below = upd_same up page (Under k j) })); no_link = inr was }

@@ -1,5 +1,5 @@
 -- What was a table stays the same table behind each step of a part.
-use Rattle.std.proofs.Common.{◌≡◌, ◌⊎◌, inl, inr, ◌+◌, ◌*◌, ℕ, refl, sym, ap, ◌∙◌, ◌-◌}
+use Rattle.std.proofs.Common.{◌≡◌, ◌≢◌, ◌⊎◌, inl, inr, ◌+◌, ◌*◌, ℕ, refl, sym, ap, ◌∙◌, ◌-◌}
 use Rattle.std.specs.Prelude.{Bool, true, false, ◌==◌, if◌then◌else◌, Option, Some, None}
 use Rattle.std.proofs.lemmas.Nat.Bits.{bit_at-trailing_zeros}
 use Rattle.core_views.specs.declared.sizes.Sizes.{Sizes}
@@ -14,13 +14,13 @@ use Rattle.mmu_core.specs.invariant.TopicsInvariant.{TopicsInvariant}
 use Rattle.mmu_core.specs.invariant.TreePart.{Position, Use, is_table, stands}
 use Rattle.mmu_core.specs.invariant.TreePart.Use.{Free, OldSet, Owned, SlotSet, Under}
 use Rattle.mmu_core.specs.machine.View.{View, upd}
-use Rattle.mmu_core.proofs.machine.Columns.{at_upd}
+use Rattle.mmu_core.proofs.machine.Columns.{at_upd, same_or, upd_other, upd_same}
 use Rattle.mmu_core.proofs.machine.PartStepping.{IsPart}
 use Rattle.mmu_core.proofs.words.PoolBits.{page_free}
 use Rattle.mmu_core.proofs.pages.Owned.{owned_some, set_owned, table_owned}
 use Rattle.mmu_core.proofs.pages.PoolKept.{leaving_some}
 use Rattle.mmu_core.proofs.pages.PoolPages.{free_use, left_use, owned_use, set_use}
-use Rattle.mmu_core.proofs.pages.Standing.{entry_now, position_below, spot_after, up_after, upd_if}
+use Rattle.mmu_core.proofs.pages.Standing.{entry_now, position_below, spot_after, spot_of, up_after, upd_if}
 use Rattle.mmu_core.proofs.pages.TreeStored.{TablesStay, all_stay, still_stands}
 
 -- A page is what it was, or it was no table and is none.
@@ -116,3 +116,30 @@ pub stays_standing : (z : Sizes) (v : View) (a : ℕ) (step : PartStep) → IsPa
     → StaysStanding (stands I.up I.spot) (stands (up_after step a (v.hand a).topics v I.up) (spot_after step (v.hand a).topics v I.spot))
 stays_standing z v a step S I =
     still_stands I.up (up_after step a (v.hand a).topics v I.up) I.spot (spot_after step (v.hand a).topics v I.spot) (tables_stay z v a step S I)
+
+-- The step puts a table at this place, where it wins its exchange.
+abbrev pub IsLinkedAt : PartStep → Topics → Position → Type 0
+IsLinkedAt (part.Link gfn) t p = position_below gfn t ≡ p
+IsLinkedAt _ t p = ⊥
+
+linked_or_stood : (won : Bool) (up : ℕ → Use) (spot : ℕ → Position) (page : ℕ) (w : Use) (q : Position) (k : ℕ) (p : Position)
+    → stands (upd_if won up page w) (upd_if won spot page q) k ≡ Some p → (stands up spot k ≡ Some p) ⊎ (q ≡ p)
+linked_or_stood false up spot page w q k p is = inl is
+linked_or_stood true up spot page w q k p is = by (same_or k page)
+  where
+    by : (k ≡ page) ⊎ (k ≢ page) → (stands up spot k ≡ Some p) ⊎ (q ≡ p)
+    by (inl e) = inr (sym (upd_same spot page q) ∙ ap (upd spot page q) (sym e) ∙ (spot_of (upd up page w) (upd spot page q) k p is).1)
+    by (inr ne) =
+        inl (sym (ap (λ u. if is_table u then Some (upd spot page q k) else None) (upd_other up page k w ne)
+        ∙ ap (λ x. if is_table (up k) then Some x else None) (upd_other spot page k q ne)) ∙ is)
+
+-- What stands after a step stood there before, or where the step puts a table.
+pub stood_or_linked : (z : Sizes) (v : View) (a : ℕ) (step : PartStep) → IsPart z v a step → (I : TopicsInvariant z v) → (k : ℕ) (p : Position)
+    → stands (up_after step a (v.hand a).topics v I.up) (spot_after step (v.hand a).topics v I.spot) k ≡ Some p
+    → (stands I.up I.spot k ≡ Some p) ⊎ IsLinkedAt step (v.hand a).topics p
+stood_or_linked z v a (part.Link gfn) S I k p is =
+    let t : Topics = (v.hand a).topics in
+    linked_or_stood (entry_now gfn t v == t.walk.entry) I.up I.spot (page_owned t.owned) (Under (table_page t.walk) (entry_index gfn t.walk.level))
+    (position_below gfn t) k p is
+stood_or_linked z v a step S I k p is =
+    inl (stood_same I.up (up_after step a (v.hand a).topics v I.up) I.spot (same_tables z v a step S I refl) k p is)

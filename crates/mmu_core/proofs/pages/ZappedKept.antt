@@ -75,7 +75,7 @@ record LeadsAt (pool : ℕ → ℕ) (up : ℕ → Use) (spot : ℕ → Position)
   here : stands up spot table ≡ Some (over_frame level gfn)
   leads : leads_on (kind_of level (pool (pool_index table (entry_index gfn level)))) ≡ true
 
-module _ {pages root set : ℕ} {role pool : ℕ → ℕ} {up : ℕ → Use} {spot : ℕ → Position} (T : TreePart pages root set role pool up spot)
+module _ {pages root : ℕ} {role pool : ℕ → ℕ} {up : ℕ → Use} {spot : ℕ → Position} (T : TreePart pages root role pool up spot)
     (few : pages ≤ 2 ^ 32) where
   -- Leaves are at the lowest level.
   leaf_lowest : (k : ℕ) (p : Position) (j : ℕ) → stands up spot k ≡ Some p → j < 512 → kind_of p.level (pool (pool_index k j)) ≡ entry_kind.Leaf

@@ -31,7 +31,7 @@ use Rattle.mmu_core.specs.declared.claim.FreeMap.TheVariants as free
 use Rattle.part_steps.specs.SlotWords.{field_number, live_at, slot_at, slot_index}
 use Rattle.part_steps.specs.Tasks.{map_of}
 use Rattle.mmu_core.specs.invariant.TopicsInvariant.{TopicsInvariant}
-use Rattle.mmu_core.specs.invariant.TreePart.{IsLiveIn}
+use Rattle.mmu_core.specs.invariant.SlotSetPart.{IsLiveIn}
 use Rattle.mmu_core.specs.machine.View.{View, part_stepped, stepped, words_after}
 use Rattle.mmu_core.proofs.lines.ClaimMade.{claim_is}
 use Rattle.mmu_core.proofs.lines.EitherPlace.{either_place}

@@ -117,8 +117,8 @@ absent_is = refl
 
 -- The root has the role of level 4, and absent entries.
 tree_start : (z : Sizes) (lines : List Line) (w : World Held) → IsStart z lines w
-    → TreePart z.pool (word_in z w area.Root 0) (word_in z w area.Slots 0) (word_in z w area.Role) (word_in z w area.Pool) (start_up z.pool) start_spot
-tree_start z lines w start = subst (λ r. TreePart z.pool r (word_in z w area.Slots 0) (word_in z w area.Role) (word_in z w area.Pool) (start_up z.pool)
+    → TreePart z.pool (word_in z w area.Root 0) (word_in z w area.Role) (word_in z w area.Pool) (start_up z.pool) start_spot
+tree_start z lines w start = subst (λ r. TreePart z.pool r (word_in z w area.Role) (word_in z w area.Pool) (start_up z.pool)
     start_spot) (sym (root_start z lines w start)) (record {
       top = refl;
       only = λ k is. only_zero z.pool k is;
@@ -128,7 +128,6 @@ tree_start z lines w start = subst (λ r. TreePart z.pool r (word_in z w area.Sl
           (omega (arith, e.0, start.sizes.pool.0), omega (arith, level), omega (arith, level));
       roles = λ k p is. let e = root_only z.pool k p is in ap (word_in z w area.Role) (sym e.0) ∙ role ∙ ap (λ (q : Position). q.level) e.1;
       entries = λ k p is j low. inl (pool_word z w (pool_index k j) start.words ∙ absent_is);
-      wanted = λ k p is. inl (sym (root_only z.pool k p is).0);
     })
   where
     role : word_in z w area.Role 0 ≡ 4

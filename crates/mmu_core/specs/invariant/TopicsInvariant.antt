@@ -28,7 +28,7 @@ pub record TopicsInvariantOf (z : Sizes) (lock root slots seq count start end_ :
   pub saw_writer : (i : ℕ) → i < actors_of z → SawWriter (hand i).topics.hold
   pub states_part : StatesPart (actors_of z) states (λ i. (hand i).topics.stay)
   pub uses : UsePart (actors_of z) z.pool slots map (λ i. (hand i).topics.owned) (λ i. (hand i).topics.leaving) up
-  pub tree : TreePart z.pool root slots role pool up spot
+  pub tree : TreePart z.pool root role pool up spot
   pub leaves : AllOver up spot pool root (LeafIsFor pool host slots)
   pub filled : FilledPart (actors_of z) role pool (λ i. (hand i).topics.owned)
   pub held : (i : ℕ) → i < actors_of z → HeldPart (stands up spot) (hand i).topics

@@ -1,11 +1,8 @@
 -- Tables: where each stands in the tree below the root, and what its entries are (tdp_mmu.c; mmu.rst, "Translation").
 use Rattle.std.specs.Prelude.{◌≡◌, ◌+◌, ◌/◌, ◌%◌, ◌<◌, ◌≤◌, ◌⊎◌, ℕ, zero, suc, Bool, true, false, if◌then◌else◌, Option, Some, None}
-use Rattle.core_views.specs.declared.trace.Slot.{Slot as SlotOf}
-use Rattle.core_views.specs.Slots.{contains}
 use Rattle.spte_words.specs.Areas.{pool_index}
 use Rattle.spte_words.specs.declared.spte_kind.SpteKind.TheVariants.{Leaf}
-use Rattle.spte_words.specs.Entries.{absent_word, kind_of, level_span, table_word}
-pub use Rattle.mmu_core.specs.invariant.SlotSetPart.{IsLiveIn}
+use Rattle.spte_words.specs.Entries.{absent_word, kind_of, table_word}
 
 -- where a table stands: its level, and which of the runs of guest frames that tables of this level are for is its own
 pub record Position : Type 0 where
@@ -69,18 +66,9 @@ pub record IsUnder (pool : ℕ → ℕ) (up : ℕ → Use) (spot : ℕ → Posit
   pub index : p.prefix % 512 ≡ j
   pub link : pool (pool_index k j) ≡ table_word c
 
--- Some guest frame of the table's run is in a slot.
-pub record IsWanted (pool : ℕ → ℕ) (set : ℕ) (p : Position) : Type 0 where
-  pub gfn : ℕ
-  pub id : ℕ
-  pub slot : SlotOf
-  pub live : IsLiveIn pool set id slot
-  pub holds : contains gfn slot ≡ true
-  pub run : gfn / level_span p.level / 512 ≡ p.prefix
-
--- The tables are the root and what is linked below it: each by the one entry that it is under, with the role of its level; each entry is what
--- it should be; and each table but the root is for some guest frame of a slot.
-pub record TreePart (pages root set : ℕ) (role pool : ℕ → ℕ) (up : ℕ → Use) (spot : ℕ → Position) : Type 0 where
+-- The tables are the root and what is linked below it: each by the one entry that it is under, with the role of its level; and each entry is
+-- what it should be.
+pub record TreePart (pages root : ℕ) (role pool : ℕ → ℕ) (up : ℕ → Use) (spot : ℕ → Position) : Type 0 where
   pub top : up root ≡ Root
   pub only : (k : ℕ) → up k ≡ Root → k ≡ root
   pub top_at : spot root ≡ at 4 0
@@ -88,4 +76,3 @@ pub record TreePart (pages root set : ℕ) (role pool : ℕ → ℕ) (up : ℕ �
   pub there : (k : ℕ) (p : Position) → stands up spot k ≡ Some p → (k < pages) × (1 ≤ p.level) × (p.level ≤ 4)
   pub roles : (k : ℕ) (p : Position) → stands up spot k ≡ Some p → role k ≡ p.level
   pub entries : (k : ℕ) (p : Position) → stands up spot k ≡ Some p → (j : ℕ) → j < 512 → EntryPart up k p j (pool (pool_index k j))
-  pub wanted : (k : ℕ) (p : Position) → stands up spot k ≡ Some p → (k ≡ root) ⊎ IsWanted pool set p

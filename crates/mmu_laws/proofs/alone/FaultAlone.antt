@@ -1,5 +1,5 @@
 -- A fault that runs while all other actors rest never waits and never begins anew.
-use Rattle.std.proofs.Common.{◌≡◌, ◌≢◌, inl, inr, ◌+◌, ◌*◌, ◌/◌, ◌^◌, ◌≤◌, ℕ, refl, sym, subst, ap, ◌∙◌, arith}
+use Rattle.std.proofs.Common.{◌≡◌, ◌≢◌, inl, inr, ◌+◌, ◌/◌, ◌^◌, ◌≤◌, ℕ, refl, sym, subst, ap, ◌∙◌, arith}
 use Rattle.std.specs.Prelude.{Bool, true, false, ◌==◌, ◌&&◌, nat_lt, not, if◌then◌else◌, Option, Some, None}
 use Rattle.core_views.specs.declared.place.Cause.TheVariants.{Entry, Moved}
 use Rattle.core_views.specs.declared.place.CheckStage.TheVariants as stage
@@ -32,7 +32,7 @@ use Rattle.mmu_core.specs.machine.Machine.{World, hand_in}
 use Rattle.part_steps.specs.PartTasks.{entry_index, leaf_written, page_looked, page_owned, part_task, table_page, word_looked, words_filled}
 use Rattle.part_steps.specs.PartHoldings.{IsOver, LookedUp, SawEntry, HasToFill}
 use Rattle.part_steps.specs.PartTopics.{part_topics}
-use Rattle.part_steps.specs.SlotWords.{field_number, leaf_of, may_write, page_of}
+use Rattle.part_steps.specs.SlotWords.{leaf_of, may_write, page_of}
 use Rattle.part_steps.specs.StayTopics.{may_search}
 use Rattle.mmu_core.specs.invariant.TreePart.{EntryPart, IsLeafAt, TreePart, at, stands}
 use Rattle.mmu_core.proofs.pages.TreePlaces.{all_reached, link_stands}
@@ -53,11 +53,9 @@ use Rattle.mmu_core.proofs.lines.FaultKnown.{allowed_leaf}
 use Rattle.mmu_laws.proofs.alone.FindAlone.{find_goes}
 use Rattle.mmu_laws.proofs.alone.HostAlone.{host_forbids}
 use Rattle.mmu_laws.proofs.leaves.LeadsDown.{leads_same}
-use Rattle.mmu_core.proofs.slots.LiveStays.{LiveStays}
 use Rattle.mmu_core.proofs.pages.Owned.{owned_some}
-use Rattle.mmu_core.proofs.words.PartWords.{entry_leaves, fill_leaves, walks_elsewhere, walks_unowned}
+use Rattle.mmu_core.proofs.words.PartWords.{fill_leaves, walks_unowned}
 use Rattle.mmu_core.proofs.lines.ShareMade.{share_comes, share_made}
-use Rattle.mmu_core.proofs.words.SlotFields.{is_number}
 use Rattle.mmu_core.proofs.pages.TreeKept.{leaf_is}
 use Rattle.mmu_core.proofs.pages.TreeStored.{entry_stored}
 use Rattle.core_views.specs.declared.topics.Stay.{Stay}
@@ -139,24 +137,15 @@ module _ (z : Sizes) (w : World Held) (a gfn note : ℕ) (write : Bool) (p : Fau
         ap (λ (b : Bool). upd (words area.Pool) (pool_index page index) (if b then leaf_written t else words area.Pool (pool_index page index)))
         (is_it (words area.Pool (pool_index page index)) t.walk.entry stands)
 
-    slots_stay : LiveStays (words area.Slots 0) (words area.Pool) leafed
-    slots_stay = record {
-      each =
-          λ id f small live. let low_field = is_number f in entry_leaves gfn (leaf_written t) note t.walk words (words area.Slots 0)
-          (4 * id + field_number f) (omega (arith, small, low_field)) (walks_elsewhere z (view z w) a R.there R.sound.topics saw.over.there);
-    }
-
     is_leaf : IsLeafAt (at t.walk.level t.walk.prefix) (leaf_written t)
     is_leaf = record { lowest = low; leaf = leaf_is t low }
 
-    tree_leafed : TreePart z.pool (words area.Root 0) (words area.Slots 0) (words area.Role) leafed R.sound.topics.up R.sound.topics.spot
+    tree_leafed : TreePart z.pool (words area.Root 0) (words area.Role) leafed R.sound.topics.up R.sound.topics.spot
     tree_leafed =
-        subst (λ (pool : ℕ → ℕ). TreePart z.pool (words area.Root 0) (words area.Slots 0) (words area.Role) pool R.sound.topics.up
-        R.sound.topics.spot) (sym stored)
+        subst (λ (pool : ℕ → ℕ). TreePart z.pool (words area.Root 0) (words area.Role) pool R.sound.topics.up R.sound.topics.spot) (sym stored)
         (entry_stored R.sound.topics.tree page (at t.walk.level t.walk.prefix) index (leaf_written t)
         ((R.sound.topics.held a R.there).table saw.over.there) (omega arith)
-        (record { entry = inr (inr is_leaf); no_link = inl low })
-        (subst (LiveStays (words area.Slots 0) (words area.Pool)) stored slots_stay))
+        (record { entry = inr (inr is_leaf); no_link = inl low }))
 
     leaf_leads : LeadsToLeaf leafed 4 (words area.Root 0) gfn write
     leaf_leads =

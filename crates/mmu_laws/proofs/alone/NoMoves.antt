@@ -1,6 +1,6 @@
 -- Which events are no move of a page, nor a move that is refused a frame: all that lines tell but at the claim of a frame and at the exchange of a host word.
 use Rattle.std.proofs.Common.{◌≡◌, List, [], ◌∷◌, ◌++◌, ℕ, refl}
-use Rattle.std.specs.Prelude.{Bool, true, false, ◌==◌, if◌then◌else◌, Option, Some, None}
+use Rattle.std.specs.Prelude.{Bool, true, false, ◌==◌, Option, Some, None}
 use Rattle.core_views.specs.declared.actor.Actor.{Actor}
 use Rattle.core_views.specs.declared.answer.Answer.TheVariants.{Refused, Starved}
 use Rattle.core_views.specs.declared.answer.Refusal.TheVariants.{NoFrame}

@@ -112,7 +112,7 @@ spared z a i h step note n same inside N R (inr apart) at =
     absurd (apart P.0 P.1)
 
 -- The entries of tables: none is frozen, and leaves are of the lowest level.
-pub entry_kinds : {pages root set : ℕ} {role pool : ℕ → ℕ} {up : ℕ → Use} {spot : ℕ → Position} (T : TreePart pages root set role pool up spot)
+pub entry_kinds : {pages root : ℕ} {role pool : ℕ → ℕ} {up : ℕ → Use} {spot : ℕ → Position} (T : TreePart pages root role pool up spot)
     (k : ℕ) (p : Position) (j w : ℕ) → pages ≤ 2 ^ 32 → stands up spot k ≡ Some p → EntryPart up k p j w
     → (kind_of p.level w ≡ entry_kind.Leaf → p.level ≡ 1) × (kind_of p.level w ≢ entry_kind.Frozen)
 entry_kinds T k p j w small at_k (inl e) =

@@ -57,7 +57,7 @@ part_follows h k x = record {
   numbers = λ n. n;
 }
 
-step_follows : (z : Sizes) (w : World Held) (s : Step Kind) (i : ℕ) → IsSound z w → May mmu w s → i < actors_of z
+pub step_follows : (z : Sizes) (w : World Held) (s : Step Kind) (i : ℕ) → IsSound z w → May mmu w s → i < actors_of z
     → Follows (hand_in mmu w i) (hand_in mmu (effect mmu w s) i) (events_of (hand_in mmu w s.actor) (answered mmu w s.kind))
 step_follows z w s i G may i_in = by (takes z w s G may)
   where

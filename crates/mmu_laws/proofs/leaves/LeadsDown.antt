@@ -31,7 +31,7 @@ same_page e = cc e
 pub run_above : (gfn level : ℕ) → 1 ≤ level → gfn / level_span level / 512 ≡ gfn / level_span (level + 1)
 run_above gfn level from = div-div-eq-div-mul gfn (level_span level) 512 ∙ ap (λ n. gfn / n) (let up = span_above level from in omega (arith, up))
 
-module _ {pages root set : ℕ} {role pool : ℕ → ℕ} {up : ℕ → Use} {spot : ℕ → Position} (T : TreePart pages root set role pool up spot)
+module _ {pages root : ℕ} {role pool : ℕ → ℕ} {up : ℕ → Use} {spot : ℕ → Position} (T : TreePart pages root role pool up spot)
     (few : pages ≤ 2 ^ 32) (gfn entry : ℕ) where
   -- Behind a link of a table stands a table, one level below, at the run of this entry.
   pub below_stands : (level prefix page below : ℕ) → stands up spot page ≡ Some (at (suc (suc level)) prefix)

@@ -141,7 +141,7 @@ leaves_say z w sound k R table entry gfn Q O leaf =
 
 -- ---- where links lead
 
-module _ {pages root set : ℕ} {role pool : ℕ → ℕ} {up : ℕ → Use} {spot : ℕ → Position} (T : TreePart pages root set role pool up spot)
+module _ {pages root : ℕ} {role pool : ℕ → ℕ} {up : ℕ → Use} {spot : ℕ → Position} (T : TreePart pages root role pool up spot)
     (few : pages ≤ 2 ^ 32) (gfn entry : ℕ) where
   -- Behind a link of a table over the guest frame stands a table over it, one level below.
   one_below : (level page below : ℕ) → stands up spot page ≡ Some (at (suc (suc level)) (gfn / level_span (suc (suc level)) / 512))

@@ -17,11 +17,12 @@ use Rattle.mmu_core.specs.invariant.Laws.{IsSound}
 use Rattle.mmu_core.specs.machine.Machine.{Legal, Step, World, run}
 use Rattle.mmu_core.specs.invariant.PoolPart.{UsePart, is_free, is_leaving, is_owned, is_use}
 use Rattle.mmu_core.specs.machine.Sums.{one_if, sum_below}
-use Rattle.mmu_core.specs.invariant.TreePart.{IsWanted, Position, TreePart, Use, at, stands}
+use Rattle.mmu_core.specs.invariant.TreePart.{Position, TreePart, Use, at, stands}
 use Rattle.mmu_core.specs.invariant.TreePart.Use.{Free, OldSet, Outside, Owned, Root, SlotSet, Under}
 use Rattle.mmu_core.specs.machine.View.{word_in}
 use Rattle.mmu_core.specs.machine.Worlds.{IsStart}
-use Rattle.mmu_laws.proofs.pool.WantedRuns.{IsWantedRun, wanted_by_line}
+use Rattle.mmu_laws.proofs.pool.TablesWanted.{AreWanted, tables_are_wanted}
+use Rattle.mmu_laws.proofs.pool.WantedRuns.{IsWantedRun}
 use Rattle.mmu_core.proofs.machine.Columns.{same_or}
 use Rattle.mmu_laws.proofs.pool.Pigeonhole.{count_le, pigeonhole, sum_each, sum_plus, sum_some}
 use Rattle.mmu_core.proofs.start.Starts.{start_good}
@@ -58,12 +59,8 @@ one_level (Some p) low = let there = low p refl in of_four p.level there.0 there
     of_four : (level : ℕ) → 1 ≤ level → level ≤ 4 → 1 ≤ one_if (level == 4) + (one_if (level == 3) + (one_if (level == 2) + one_if (level == 1)))
     of_four level some most = grind (arith, nat_tests)
 
--- What is known of each table: it is the root, or for a run that is wanted.
-abbrev AreWanted : Header → List Line → ℕ → (ℕ → Option Position) → Type 0
-AreWanted h lines root stands = (k : ℕ) (p : Position) → stands k ≡ Some p → (k ≡ root) ⊎ IsWantedRun h lines p
-
-module _ (h : Header) (lines : List Line) {root set : ℕ} {role pool : ℕ → ℕ} {up : ℕ → Use} {spot : ℕ → Position}
-    (T : TreePart h.pool root set role pool up spot) (A : AreWanted h lines root (stands up spot)) where
+module _ (h : Header) (lines : List Line) {root : ℕ} {role pool : ℕ → ℕ} {up : ℕ → Use} {spot : ℕ → Position}
+    (T : TreePart h.pool root role pool up spot) (A : AreWanted h lines root (stands up spot)) where
   -- No two tables of a level stand at one run.
   one_run : (level k l : ℕ) → stands_at level (stands up spot k) ≡ true → stands_at level (stands up spot l) ≡ true
       → run_of (stands up spot k) ≡ run_of (stands up spot l) → k ≡ l
@@ -201,21 +198,11 @@ module _ {n pages slots : ℕ} {map : ℕ → ℕ} {owned : ℕ → Option Owned
           absurd (let L = has_leaver U i k is in let leaves_it = ap (λ o. is_leaving o k) L.1 ∙ itself k in let leaves_none = stays i L.0 in
           cc (leaves_it, leaves_none))
 
--- what is known of each table behind a list of steps
-wanted_behind : (h : Header) (lines : List Line) (w : World Held) (ss : List (Step Kind)) → IsStart (sizes_of h) lines w → Legal mmu w ss
+-- what is known of each table after a list of steps, in any account of the pages
+wanted_after : (h : Header) (lines : List Line) (w : World Held) (ss : List (Step Kind)) → IsStart (sizes_of h) lines w → Legal mmu w ss
     → (G : IsSound (sizes_of h) (run mmu w ss))
     → AreWanted h lines (word_in (sizes_of h) (run mmu w ss) area.Root 0) (stands G.topics.up G.topics.spot)
-wanted_behind h lines w ss start legal G k p is = by (G.topics.tree.wanted k p is)
-  where
-    z : Sizes
-    z = sizes_of h
-
-    by : (k ≡ word_in z (run mmu w ss) area.Root 0) ⊎ IsWanted (word_in z (run mmu w ss) area.Pool) (word_in z (run mmu w ss) area.Slots 0) p
-        → (k ≡ word_in z (run mmu w ss) area.Root 0) ⊎ IsWantedRun h lines p
-    by (inl e) = inl e
-    by (inr W) =
-        let there = G.topics.tree.there k p is in
-        inr (wanted_by_line h lines w ss p start legal there.1 there.2 W)
+wanted_after h lines w ss start legal G = tables_are_wanted h lines w ss start legal G.topics.up G.topics.spot G.topics.tree
 
 -- A table below the root's level isn't the root.
 below_root : (root k level prefix : ℕ) (stands : ℕ → Option Position) → stands root ≡ Some (at 4 0) → stands k ≡ Some (at level prefix) → level < 4
@@ -224,7 +211,7 @@ below_root root k level prefix stands top is low e = let same : 4 ≡ level = ap
 
 pub tables_are_for_their_runs : TablesAreForTheirRuns
 tables_are_for_their_runs h lines w ss start legal G k level prefix is low =
-    (by (wanted_behind h lines w ss start legal G k (at level prefix) is), G.topics.tree.roles k (at level prefix) is)
+    (by (wanted_after h lines w ss start legal G k (at level prefix) is), G.topics.tree.roles k (at level prefix) is)
   where
     by : (k ≡ word_in (sizes_of h) (run mmu w ss) area.Root 0) ⊎ IsWantedRun h lines (at level prefix) → some_line_wants h lines level prefix ≡ true
     by (inl e) =
@@ -237,7 +224,7 @@ enough_pages h lines w ss start legal most none =
     let z : Sizes = sizes_of h in
     let u : World Held = run mmu w ss in
     let G : IsSound z u = good_run z w ss (start_good z lines w start) legal in
-    let A = wanted_behind h lines w ss start legal G in
+    let A = wanted_after h lines w ss start legal G in
     let T = G.topics.tree in
     let set : ℕ = word_in z u area.Slots 0 in
     let few = few_of_level h lines T A in
@@ -249,8 +236,8 @@ enough_pages h lines w ss start legal most none =
     record { page = found.0; there = found.1; free = found.2 }
 
 -- A table for a run that is wanted is the root, or stands below it, where its role says.
-wanted_below : (h : Header) (lines : List Line) {root set : ℕ} {role pool : ℕ → ℕ} {up : ℕ → Use} {spot : ℕ → Position}
-    (T : TreePart h.pool root set role pool up spot) (k : ℕ) (p : Position) → stands up spot k ≡ Some p
+wanted_below : (h : Header) (lines : List Line) {root : ℕ} {role pool : ℕ → ℕ} {up : ℕ → Use} {spot : ℕ → Position}
+    (T : TreePart h.pool root role pool up spot) (k : ℕ) (p : Position) → stands up spot k ≡ Some p
     → IsWantedRun h lines p → (p.level ≡ 4) ⊎ (p.level ≢ 4) → (k ≡ root) ⊎ IsWantedTable h lines (role k)
 wanted_below h lines T k p is R (inl e) =
     let first : p.prefix < 1 = subst (λ n. p.prefix < 2 ^ 36 / 512 ^ n) e R.below in
@@ -262,7 +249,7 @@ wanted_below h lines T k p is R (inr ne) =
     (record { below_root = (there.1, omega (arith, there.2, ne)); index = p.prefix; wanted = R.wanted }))
 
 pub each_table_is_wanted : EachTableIsWanted
-each_table_is_wanted h lines w ss k start legal there taken none stays ne = by (wanted_behind h lines w ss start legal G k table.0 table.1)
+each_table_is_wanted h lines w ss k start legal there taken none stays ne = by (wanted_after h lines w ss start legal G k table.0 table.1)
   where
     z : Sizes
     z = sizes_of h

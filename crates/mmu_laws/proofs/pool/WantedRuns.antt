@@ -9,7 +9,6 @@ use Rattle.std.specs.List.{Contains, list_any}
 use Rattle.std.specs.Prelude.{All, Bool, true, false, map, nat_le, nat_lt, if◌then◌else◌}
 use Rattle.core_views.specs.declared.actor.Actor.{Actor}
 use Rattle.core_views.specs.declared.actor.Actor.TheVariants.{Manager}
-use Rattle.core_views.specs.declared.kind.Kind.{Kind}
 use Rattle.core_views.specs.declared.sizes.Sizes.{Sizes}
 use Rattle.core_views.specs.declared.slot_set.MemorySlot.{MemorySlot}
 use Rattle.core_views.specs.declared.trace.Command.{Command}
@@ -22,23 +21,20 @@ use Rattle.core_views.specs.Held.{Held}
 use Rattle.core_views.specs.Need.{is_counted, meets, wants}
 use Rattle.core_views.specs.SlotSets.{flat_slots}
 use Rattle.core_views.specs.Slots.{Slots, contains}
-use Rattle.core_views.specs.Sizes.{actor_at, actors_of, sizes_of}
+use Rattle.core_views.specs.Sizes.{actors_of, sizes_of}
 use Rattle.core_views.specs.Whole.{lines_of}
 use Rattle.spte_words.specs.declared.area.Area.TheVariants as area
 use Rattle.spte_words.specs.Entries.{level_span}
 use Rattle.mmu_core.specs.machine.Enabled.{mmu}
 use Rattle.mmu_laws.specs.pool.Enough.{some_line_wants}
-use Rattle.mmu_core.specs.machine.Machine.{Legal, Step, World, hand_in, run}
-use Rattle.mmu_core.specs.invariant.SlotSetPart.{Fits}
+use Rattle.mmu_core.specs.machine.Machine.{World, hand_in}
+use Rattle.mmu_core.specs.invariant.Laws.{IsSound}
+use Rattle.mmu_core.specs.invariant.SlotSetPart.{Fits, IsLiveIn}
 use Rattle.part_steps.specs.SlotWords.{live_at, slot_at, slots_below}
-use Rattle.mmu_core.specs.invariant.TreePart.{IsLiveIn, IsWanted, Position}
+use Rattle.mmu_core.specs.invariant.TreePart.{Position}
 use Rattle.mmu_core.specs.machine.View.{word_in}
-use Rattle.mmu_core.specs.machine.Worlds.{IsStart}
 use Rattle.mmu_core.proofs.slots.Accepted.{record_flat}
 use Rattle.mmu_core.proofs.machine.Columns.{same_or}
-use Rattle.mmu_laws.proofs.flat.EveryAnswer.{start_follows}
-use Rattle.mmu_core.proofs.start.Starts.{start_good}
-use Rattle.mmu_core.proofs.machine.Worlds.{good_run}
 
 -- A live slot is on the list, as it is.
 slot_is_listed : (pool : ℕ → ℕ) (set n id : ℕ) → id < n → live_at pool set id ≡ true → Contains (slots_below pool set n) (id, slot_at pool set id)
@@ -85,33 +81,32 @@ any_of_all test actor (line ∷ lines) some = by (is_same actor line.actor) (tes
     by true false is some rest = rest (rw is at some)
     by false false is some rest = rest some
 
--- The manager stands behind the virtual processors and the hosts.
-manager_place : (z : Sizes) → z.vcpus + z.hosts < actors_of z
+-- The manager's place is after those of the virtual processors and the hosts.
+pub manager_place : (z : Sizes) → z.vcpus + z.hosts < actors_of z
 manager_place z = omega arith
 
-manager_at : (z : Sizes) → actor_at z (z.vcpus + z.hosts) ≡ Manager
-manager_at z = grind (arith, nat_tests)
+-- The hand at this place is the manager's, and has the lines of the trace that are its own.
+pub record HasOwnLines (z : Sizes) (lines : List Line) (w : World Held) : Type 0 where
+  pub actor : (hand_in mmu w (z.vcpus + z.hosts)).state.actor ≡ Manager
+  pub own : (hand_in mmu w (z.vcpus + z.hosts)).lines ≡ lines_of Manager lines
 
--- A slot that is live behind a list of steps is one that a slot line of the trace sets.
-live_is_set : (z : Sizes) (lines : List Line) (w : World Held) (ss : List (Step Kind)) (id : ℕ) (slot : Slot) → IsStart z lines w → Legal mmu w ss
-    → IsLiveIn (word_in z (run mmu w ss) area.Pool) (word_in z (run mmu w ss) area.Slots 0) id slot
+-- A live slot is one that a slot line of the trace sets.
+live_is_set : (z : Sizes) (lines : List Line) (w : World Held) (id : ℕ) (slot : Slot) → IsSound z w → HasOwnLines z lines w
+    → IsLiveIn (word_in z w area.Pool) (word_in z w area.Slots 0) id slot
     → Contains (map (λ (l : Line). l.command) (lines_of Manager lines)) (SetSlot id slot)
-live_is_set z lines w ss id slot start legal L =
+live_is_set z lines w id slot G H L =
     let manager : ℕ = z.vcpus + z.hosts in
-    let g : Held = hand_in mmu (run mmu w ss) manager in
-    let pool : ℕ → ℕ = word_in z (run mmu w ss) area.Pool in
-    let set : ℕ = word_in z (run mmu w ss) area.Slots 0 in
-    let F = start_follows z lines w ss manager start legal (manager_place z) in
-    let G = good_run z w ss (start_good z lines w start) legal in
-    let R = G.holds.recorded manager (manager_place z) (F.actor ∙ manager_at z) in
-    let own : g.lines ≡ lines_of Manager lines = F.lines ∙ ap (λ (a : Actor). lines_of a lines) (manager_at z) in
+    let g : Held = hand_in mmu w manager in
+    let pool : ℕ → ℕ = word_in z w area.Pool in
+    let set : ℕ = word_in z w area.Slots 0 in
+    let R = G.holds.recorded manager (manager_place z) H.actor in
     let IsSet : ℕ × Slot → Type 0 = λ e. Contains (map (λ (l : Line). l.command) g.lines) (SetSlot e.0 e.1) in
     let each : All IsSet (flat_slots g.slots) = All-map IsSet (λ (e : ℕ × MemorySlot). (e.0, e.1.slot)) g.slots (G.holds.lines manager (manager_place z)).set in
     let listed = slot_is_listed pool set 32 id (omega (arith, L.low)) L.live in
     let here : IsSet (id, slot_at pool set id) =
     All-contains IsSet (slots_below pool set 32) (id, slot_at pool set id)
     (subst (λ (xs : Slots). All IsSet xs) (record_flat pool set g.slots R) each) listed in
-    subst (λ (xs : List Line). Contains (map (λ (l : Line). l.command) xs) (SetSlot id slot)) own (subst (λ (s : Slot). IsSet (id, s)) L.is here)
+    subst (λ (xs : List Line). Contains (map (λ (l : Line). l.command) xs) (SetSlot id slot)) H.own (subst (λ (s : Slot). IsSet (id, s)) L.is here)
 
 -- A slot that fits and holds a guest frame counts, and has a guest frame in the run that this one is in.
 counts : (z : Sizes) (gfn : ℕ) (slot : Slot) → Fits z slot → contains gfn slot ≡ true → is_counted z.pages slot ≡ true
@@ -161,17 +156,23 @@ below_all z gfn slot fits holds = under slot.base (slot.base + slot.pages) gfn f
     under : (base end gfn : ℕ) → end ≤ 2 ^ 36 → (nat_le base gfn && nat_lt gfn end) ≡ true → gfn < 2 ^ 36
     under base end gfn low holds = grind (arith, nat_tests)
 
--- A table that is wanted by a live slot, behind a list of steps, is for a run that is wanted.
-pub wanted_by_line : (h : Header) (lines : List Line) (w : World Held) (ss : List (Step Kind)) (p : Position) → IsStart (sizes_of h) lines w
-    → Legal mmu w ss → 1 ≤ p.level → p.level ≤ 4
-    → IsWanted (word_in (sizes_of h) (run mmu w ss) area.Pool) (word_in (sizes_of h) (run mmu w ss) area.Slots 0) p → IsWantedRun h lines p
-wanted_by_line h lines w ss p start legal some most W =
+-- Some guest frame of the run that tables at this place are for is in a slot that is live in this set.
+pub record IsForSlot (pool : ℕ → ℕ) (set : ℕ) (p : Position) : Type 0 where
+  pub gfn : ℕ
+  pub id : ℕ
+  pub slot : Slot
+  pub live : IsLiveIn pool set id slot
+  pub holds : contains gfn slot ≡ true
+  pub run : gfn / level_span p.level / 512 ≡ p.prefix
+
+-- Such a run is wanted.
+pub wanted_by_line : (h : Header) (lines : List Line) (w : World Held) (p : Position) → IsSound (sizes_of h) w → HasOwnLines (sizes_of h) lines w
+    → 1 ≤ p.level → p.level ≤ 4 → IsForSlot (word_in (sizes_of h) w area.Pool) (word_in (sizes_of h) w area.Slots 0) p → IsWantedRun h lines p
+wanted_by_line h lines w p G H some most W =
     let z : Sizes = sizes_of h in
-    let pool : ℕ → ℕ = word_in z (run mmu w ss) area.Pool in
-    let G = good_run z w ss (start_good z lines w start) legal in
     let fits : Fits z W.slot = subst (Fits z) W.live.is (G.holds.set_part.slots.fits W.id W.live.low W.live.live) in
     let run_is : W.gfn / 512 ^ p.level ≡ p.prefix = sym (run_at p.level W.gfn some) ∙ W.run in
-    let is_set = live_is_set z lines w ss W.id W.slot start legal W.live in
+    let is_set = live_is_set z lines w W.id W.slot G H W.live in
     let wanted : wants z.pages (512 ^ p.level) p.prefix (SetSlot W.id W.slot) ≡ true =
     ap (λ b. b && meets (512 ^ p.level) p.prefix W.slot) (counts z W.gfn W.slot fits W.holds)
     ∙ meets_run (512 ^ p.level) W.gfn p.prefix W.slot (span_some p.level) run_is W.holds in

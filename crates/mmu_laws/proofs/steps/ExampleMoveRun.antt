@@ -6,8 +6,8 @@ use Rattle.std.proofs.lemmas.Fmt.{decimal_digit}
 use Rattle.std.specs.List.{IsDistinct}
 use Rattle.std.proofs.lemmas.List.Elements.{All-cons, All-nil}
 use Rattle.mmu_core.specs.lines.Cached.{flushed}
-use Rattle.std.proofs.Common.{ℕ, List, ◌≡◌, ◌==◌, ◌++◌, ◌+◌, ◌/◌, ◌%◌, ◌≤◌, ◌<◌, [], ◌∷◌, refl, arith, lit<, lit≤}
-use Rattle.std.specs.Prelude.{All, true, false, codes, replicate}
+use Rattle.std.proofs.Common.{ℕ, List, ◌≡◌, ◌==◌, [], ◌∷◌, refl, arith, lit<, lit≤}
+use Rattle.std.specs.Prelude.{All, true, codes, replicate}
 use Rattle.core_views.specs.Sizes.{AreSizes}
 use Rattle.mmu_core.specs.machine.View.{View}
 use Rattle.spte_words.specs.Areas.{content_index, place, pool_index}

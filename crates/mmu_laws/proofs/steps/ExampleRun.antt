@@ -5,7 +5,7 @@ use Rattle.core_views.specs.Held.{Held}
 use Rattle.spte_words.specs.declared.area.Area.{Area}
 use Rattle.core_views.proofs.HeaderSizes.{four}
 use lib.Count.{count_trailing_zeros}
-use Rattle.std.proofs.Common.{ℕ, zero, suc, List, ◌<◌, ◌≤◌, ◌+◌, ◌/◌, ◌%◌, lit≤, ◌≡◌, [], ◌∷◌, refl, sym, subst, ap, ◌∙◌, arith, lit<, length}
+use Rattle.std.proofs.Common.{ℕ, zero, suc, List, ◌≤◌, ◌+◌, lit≤, ◌≡◌, [], ◌∷◌, refl, sym, subst, ap, ◌∙◌, arith, lit<, length}
 use Rattle.std.proofs.lemmas.Option.{slice_get_past}
 use Rattle.std.proofs.lemmas.Fmt.{decimal_digit}
 use Rattle.mmu_laws.proofs.steps.Decimals.{two_digits}

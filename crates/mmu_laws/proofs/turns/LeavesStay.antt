@@ -31,7 +31,8 @@ use Rattle.part_steps.specs.PartHoldings.{MayEnter}
 use Rattle.part_steps.specs.SlotWords.{leaf_of, page_of, slot_at}
 use Rattle.mmu_core.specs.invariant.TopicsInvariant.{TopicsInvariant}
 use Rattle.part_steps.specs.WalkTopics.{linked_page}
-use Rattle.mmu_core.specs.invariant.TreePart.{EntryPart, IsLiveIn, Position, TreePart, at, Use, stands}
+use Rattle.mmu_core.specs.invariant.SlotSetPart.{IsLiveIn}
+use Rattle.mmu_core.specs.invariant.TreePart.{EntryPart, Position, TreePart, at, Use, stands}
 use Rattle.mmu_core.proofs.pages.TreePlaces.{root_stands}
 use Rattle.mmu_core.specs.machine.View.{View, part_stepped, upd, view, word_in, words_after}
 use Rattle.mmu_core.proofs.pages.LeavesOver.{leaf_for}
@@ -78,7 +79,7 @@ pub record ZapsEntry (task : Task) (stands : ℕ → Option Position) (before : 
 
 -- ---- where links lead
 
-module _ {pages root set : ℕ} {role before : ℕ → ℕ} {up : ℕ → Use} {spot : ℕ → Position} (T : TreePart pages root set role before up spot) (after : ℕ → ℕ)
+module _ {pages root : ℕ} {role before : ℕ → ℕ} {up : ℕ → Use} {spot : ℕ → Position} (T : TreePart pages root role before up spot) (after : ℕ → ℕ)
     (few : pages ≤ 2 ^ 32) (task : Task)
     (stay : EntriesStay task (stands up spot) before after) (gfn entry : ℕ) where
   abbrev Zaps : Type 0
