@@ -17,7 +17,7 @@ use core_views::{AccessPlace, FaultEnd, FaultPlace, Hand, Place};
 use grace_period::{begin, end};
 use host_map::{bring_in, look};
 use invalidate_seq::{Check, Snapshot};
-use memslots::Find;
+use memslots::{Find, Sought};
 use mmu_core::{FreeMap, access_note, part_rests};
 use mmu_lock::{try_shared, unlock};
 use part_steps::{PartStep, map_of, page_of, page_owned};
@@ -88,7 +88,8 @@ impl FaultJob {
                 let _ = Snapshot::new().turn(s, note);
             }
             FaultPlace::Find { begun } => {
-                let _ = Find { gfn, begun }.turn(s, note);
+                let sought = Sought::GuestFrame(gfn);
+                let _ = Find { sought, begun }.turn(s, note);
             }
             FaultPlace::Host => {
                 part_rests(s.hand());

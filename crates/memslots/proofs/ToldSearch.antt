@@ -5,6 +5,7 @@ use Rattle.std.proofs.Math.Logic.{∥∥₁_elim}
 use Rattle.std.proofs.Props.{props}
 use Rattle.core_views.specs.declared.sizes.Sizes.{Sizes}
 use Rattle.core_views.specs.declared.topics.Topics.{Topics}
+use Rattle.core_views.specs.declared.trace.Slot.{Slot}
 use Rattle.core_views.specs.Held.{Held}
 use Rattle.spte_words.specs.declared.area.Area.TheVariants as area
 use Rattle.spte_words.specs.Areas.{size_of}
@@ -30,7 +31,7 @@ use Rattle.step_seats.specs.Where.{HasHand}
 use Rattle.step_seats.specs.declared.turn.Turn.{Turn}
 use Rattle.memslots.specs.declared.find.Find.{Find}
 use Rattle.memslots.specs.declared.find.FoundSlot.{FoundSlot}
-use Rattle.memslots.specs.Finding.{FindsIn, HasLoaded, IsPublished, IsSearchFor, Searches, SearchesIn, find_step}
+use Rattle.memslots.specs.Finding.{FindsIn, HasLoaded, IsPublished, IsSearchFor, Searches, SearchesIn, find_step, is_sought}
 use Rattle.step_seats.proofs.Where.{telling, where_made}
 use Rattle.step_seats.proofs.Found.{Answers, found_told}
 use Rattle.memslots.proofs.Searching.{finds_by}
@@ -66,11 +67,11 @@ behind_word before after v held made = ap (λ (t : Topics). t.search) made ∙ a
 
 says_at : (job : Find) (note found a : ℕ) (before after : Held) (result : Turn (Option FoundSlot)) (w : World Held) → job.begun ≡ true
     → PartNeeds part.Slot before → HasHand a before w → Answers part.Slot note found before w → after.topics ≡ part_topics part.Slot before.topics found
-    → Searches job.gfn result before.topics.search after.topics.search
+    → Searches (is_sought job.sought) result before.topics.search after.topics.search
     → SearchesIn job before after result w (effect mmu w (step_by a (part_kind before part.Slot note)))
 says_at job note found a before after result w begun N has is made looks agrees =
-    subst (λ (pool : ℕ → ℕ). FindsIn job.gfn pool after.topics.search result) (sym (pool_stays w a note before has N))
-    (finds_by job.gfn (word_in before.state.sizes w area.Pool) before.topics.search after.topics.search found result (agrees begun) N.1 is
+    subst (λ (pool : ℕ → ℕ). FindsIn (is_sought job.sought) pool after.topics.search result) (sym (pool_stays w a note before has N))
+    (finds_by (is_sought job.sought) (word_in before.state.sizes w area.Pool) before.topics.search after.topics.search found result (agrees begun) N.1 is
     (behind_word before.topics after.topics found N.0 made) looks)
 
 needs_slot : (job : Find) (h : Held) → job.begun ≡ true → PartNeeds (find_step job) h → PartNeeds part.Slot h
@@ -78,7 +79,7 @@ needs_slot job h begun N = rw begun at N
 
 pub now_found : (job : Find) (note found : ℕ) (before after : Seat) (result : Turn (Option FoundSlot)) → job.begun ≡ true
     → PartNeeds (find_step job) before.hand → MadePart part.Slot note found before after
-    → Searches job.gfn result before.hand.topics.search after.hand.topics.search
+    → Searches (is_sought job.sought) result before.hand.topics.search after.hand.topics.search
     → WherePartMade (find_step job) note before after (SearchesIn job before.hand after.hand result)
 now_found job note found before after result begun needs made looks =
     let N = needs_slot job before.hand begun needs in
@@ -98,9 +99,9 @@ set_published job note found before after not_yet held made =
     ∙ ap Some (found_told part.Slots note found (telling w before) _ at tt)))
 
 -- A search that begins agrees with all words of the pool: nothing was loaded of them yet.
-search_begins : (gfn : ℕ) (pool : ℕ → ℕ) (before after : Topics) (v : ℕ) → may_search before.stay before.hold ≡ true
-    → after ≡ part_topics part.Slots before v → IsSearchFor gfn pool after.search
-search_begins gfn pool before after v held made = record {
+search_begins : (test : Slot → Bool) (pool : ℕ → ℕ) (before after : Topics) (v : ℕ) → may_search before.stay before.hold ≡ true
+    → after ≡ part_topics part.Slots before v → IsSearchFor test pool after.search
+search_begins test pool before after v held made = record {
   held = ap is_some set;
   loaded = subst (λ (f : SlotField). HasLoaded f pool (set_held after.search.set) after.search) (sym (ap (λ (t : Topics). t.search.next) made)) tt;
   before = λ i lt. let first : after.search.id ≡ 0 = ap (λ (t : Topics). t.search.id) made in absurd (omega (arith, lt, first));
@@ -114,4 +115,4 @@ pub begins_found : (job : Find) (note found : ℕ) (before after : Seat) → job
     → WherePartMade (find_step job) note before after (SearchesIn job before.hand after.hand More)
 begins_found job note found before after not_yet held made =
     subst (λ (b : Bool). WherePartMade (if b then part.Slot else part.Slots) note before after (SearchesIn job before.hand after.hand More)) (sym not_yet)
-    (where_made made (λ w at has agrees. search_begins job.gfn _ before.hand.topics after.hand.topics found held made.topics))
+    (where_made made (λ w at has agrees. search_begins (is_sought job.sought) _ before.hand.topics after.hand.topics found held made.topics))

@@ -5,7 +5,15 @@ ghost use Rattle.part_steps.specs.StayTopics.{may_search};
 ghost use Rattle.step_seats.specs.Moves.{KeepsRoom};
 ghost use Rattle.step_seats.specs.PartTurns.{MakesPart};
 ghost use Rattle.step_seats.specs.declared.turn.Turn.TheVariants.{More};
-ghost use Rattle.memslots.specs.Finding.{Begins, BeginsInPublished, Searches, SearchesWhereMade, find_step, turns_left};
+ghost use Rattle.memslots.specs.Finding.{
+  Begins,
+  BeginsInPublished,
+  Searches,
+  SearchesWhereMade,
+  find_step,
+  is_sought,
+  turns_left,
+};
 
 use core_views::{Slot, SlotField, SlotSearch};
 use mmu_core::part_rests;
@@ -13,9 +21,30 @@ use part_steps::PartStep;
 use step_seats::{Stepper, Turn, make_part};
 
 /// How many IDs there are.
-pub(crate) const IDS: u64 = 32;
+const IDS: u64 = 32;
 
-/// The slot that contains a guest frame.
+/// What a slot set is searched for: the slot that has it.
+#[derive(Clone, Copy, Debug, PartialEq, Eq, Drop)]
+pub enum Sought {
+    /// This guest frame.
+    GuestFrame(u64),
+    /// This host page.
+    HostPage(u64),
+}
+
+impl Sought {
+    // The slot has it.
+    fn is_in(self, slot: &Slot) -> bool
+        ensures { result ≡ is_sought self slot.now }
+    {
+        match self {
+            Sought::GuestFrame(gfn) => slot.contains(gfn),
+            Sought::HostPage(page) => slot.has_host_page(page),
+        }
+    }
+}
+
+/// The slot that a search has found.
 #[derive(Clone, Copy, Debug, PartialEq, Eq, Drop)]
 pub struct FoundSlot {
     /// Its ID, 0 to 31.
@@ -25,33 +54,38 @@ pub struct FoundSlot {
     pub logged: bool,
 }
 
-/// A search of the published slot set for the slot that contains one guest
-/// frame, a step a turn: its slots by rising ID, of each the flags first, and
-/// where it is live its base, pages and host page (KVM's api.rst,
-/// `KVM_SET_USER_MEMORY_REGION`).
+/// A search of the published slot set for the slot that has one guest frame, or
+/// one host page, a step a turn: its slots by rising ID, of each the flags first,
+/// and where it is live its base, pages and host page (api.rst,
+/// `KVM_SET_USER_MEMORY_REGION`; kvm_main.c, `kvm_for_each_memslot_in_hva_range`).
+/// No two slots have a guest frame or a host page in common, so there is one such
+/// slot at most.
 #[derive(Clone, Copy, Debug, PartialEq, Eq, Drop)]
 pub struct Find {
-    /// The guest frame.
-    pub gfn: u64,
+    /// What is searched for.
+    pub sought: Sought,
     /// Whether it was loaded which slot set is published.
     pub begun: bool,
 }
 
 impl Find {
-    /// A search that is yet to begin, for this guest frame.
-    pub fn new(gfn: u64) -> Find
-        ensures { result ≡ record { gfn = gfn; begun = false } }
+    /// A search that is yet to begin.
+    pub fn new(sought: Sought) -> Find
+        ensures { result ≡ record { sought = sought; begun = false } }
     {
-        Find { gfn, begun: false }
+        Find {
+            sought,
+            begun: false,
+        }
     }
 
-    // What the search has come to behind its last word.
+    // What the search has come to after its last word.
     fn look(&self, before: &SlotSearch, after: &SlotSearch) -> Turn<Option<FoundSlot>>
         requires id { after.now.id ≤ 32 }
         requires whole { before.now.next ≡ Host → after.now.whole ≡ true }
-        ensures { Searches self.now.gfn result before.now after.now }
+        ensures { Searches (is_sought self.now.sought) result before.now after.now }
     {
-        if before.next == SlotField::Host && after.slot.contains(self.gfn) {
+        if before.next == SlotField::Host && self.sought.is_in(&after.slot) {
             return Turn::Done(Some(FoundSlot {
                 id: before.id,
                 slot: after.slot,
@@ -66,19 +100,19 @@ impl Find {
     }
 
     /// Loads which slot set is published, or the next word of its search. The
-    /// answer is the first live slot that contains the guest frame, or none
-    /// where no slot does. It never waits.
+    /// answer is the first live slot that has what is sought, or none where no
+    /// slot has. It never waits, and takes no memory.
     pub fn turn<S: Stepper>(&mut self, s: &mut S, note: u64) -> Turn<Option<FoundSlot>>
         requires may { MayMake (find_step self.old) note (S.seat s.old).hand }
         requires reserved { 0 < (S.seat s.old).room }
         requires held { self.old.begun ≡ false → may_search (S.seat s.old).hand.topics.stay (S.seat s.old).hand.topics.hold ≡ true }
         ensures step { MakesPart (find_step self.old) note (S.seat s.old) (S.seat s.new) }
         ensures begins { self.old.begun ≡ false → Begins result (S.seat s.old).hand.topics.search (S.seat s.new).hand.topics.search }
-        ensures searches { self.old.begun ≡ true → Searches self.old.gfn result (S.seat s.old).hand.topics.search (S.seat s.new).hand.topics.search }
+        ensures searches { self.old.begun ≡ true → Searches (is_sought self.old.sought) result (S.seat s.old).hand.topics.search (S.seat s.new).hand.topics.search }
         ensures others { (S.seat s.new).hand.topics ≡ record (S.seat s.old).hand.topics { search = (S.seat s.new).hand.topics.search } }
         ensures published { BeginsInPublished self.old note (S.seat s.old) (S.seat s.new) }
         ensures now { SearchesWhereMade self.old note (S.seat s.old) (S.seat s.new) result }
-        ensures goes_on { self.new ≡ record { gfn = self.old.gfn; begun = true } }
+        ensures goes_on { self.new ≡ record { sought = self.old.sought; begun = true } }
         ensures nearer { result ≡ More → turns_left self.new (S.seat s.new).hand.topics.search < turns_left self.old (S.seat s.old).hand.topics.search }
         ensures room { KeepsRoom (S.seat s.old) (S.seat s.new) }
         ensures same { ((S.seat s.new).actor ≡ (S.seat s.old).actor) × (S.frame s.new ≡ S.frame s.old) }

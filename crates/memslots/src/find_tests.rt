@@ -4,7 +4,7 @@ ghost use Rattle.core_views.specs.Traces.{IsTrace};
 ghost use Rattle.core_views.specs.declared.actor.Actor.TheVariants.{Manager};
 ghost use Rattle.core_views.specs.declared.trace.Command.TheVariants.{SetSlot};
 
-use crate::{Find, FoundSlot};
+use crate::{Find, FoundSlot, Sought};
 use core_views::{Actor, Command, Header, Line, Lines, NoMemory, Slot, Stay, Trace, Words};
 use mmu_core::{allows, next_kind, rests};
 use part_steps::PartStep;
@@ -120,7 +120,7 @@ fn finds_none_at_the_start(rt: HostRuntime) -> Result<(), Fail> {
     let _sizes = machine.sizes();
     let mut seat = machine.as_actor(Actor::Vcpu(0));
     assert!(rt; begin(&mut seat)?);
-    let mut find = Find::new(5);
+    let mut find = Find::new(Sought::GuestFrame(5));
     for i in 0..32 {
         assert_eq!(rt; turn(&mut find, &mut seat)?, Some(Turn::More), "at {i}");
     }
@@ -159,24 +159,28 @@ fn finds_the_slot_of_a_frame(rt: HostRuntime) -> Result<(), Fail> {
     };
     let mut seat = machine.as_actor(Actor::Vcpu(0));
     assert!(rt; begin(&mut seat)?);
-    for (gfn, more, want) in [
-        (5, 7, Some(found)),
-        (7, 7, Some(found)),
-        (4, 35, None),
-        (8, 35, None),
+    for (sought, more, want) in [
+        (Sought::GuestFrame(5), 7, Some(found)),
+        (Sought::GuestFrame(7), 7, Some(found)),
+        (Sought::GuestFrame(4), 35, None),
+        (Sought::GuestFrame(8), 35, None),
+        (Sought::HostPage(64), 7, Some(found)),
+        (Sought::HostPage(66), 7, Some(found)),
+        (Sought::HostPage(63), 35, None),
+        (Sought::HostPage(67), 35, None),
     ] {
-        let mut find = Find::new(gfn);
+        let mut find = Find::new(sought);
         for i in 0..more {
             assert_eq!(rt;
                 turn(&mut find, &mut seat)?,
                 Some(Turn::More),
-                "frame {gfn} at {i}"
+                "{sought:?} at {i}"
             );
         }
         assert_eq!(rt;
             turn(&mut find, &mut seat)?,
             Some(Turn::Done(want)),
-            "frame {gfn}"
+            "{sought:?}"
         );
     }
     Ok(())

@@ -3,11 +3,9 @@
 #![tactic(auto)]
 
 mod find;
-mod page;
 
 pub use core_views::{MemorySlot, SlotSet};
-pub use find::{Find, FoundSlot};
-pub use page::FindPage;
+pub use find::{Find, FoundSlot, Sought};
 
 #[cfg(test)]
 mod find_tests;

@@ -9,7 +9,7 @@ ghost use Rattle.step_seats.specs.PartTurns.{MadeTelling, MakesPart};
 use crate::lock::{exclude, release};
 use core_views::{BeginPlace, Hand, HostPlace, Place, Seen};
 use invalidate_seq::{Open, OpenStage};
-use memslots::FindPage;
+use memslots::{Find, Sought};
 use mmu_core::part_rests;
 use part_steps::{frame_found, gfn_behind, map_of};
 use step_seats::{Stepper, Turn};
@@ -43,8 +43,8 @@ impl BeginJob {
         ensures room { KeepsRoom (S.seat s.old) (S.seat s.new) }
         ensures same { ((S.seat s.new).actor ≡ (S.seat s.old).actor) × (S.frame s.new ≡ S.frame s.old) }
     {
-        let mut find = FindPage {
-            page: self.page,
+        let mut find = Find {
+            sought: Sought::HostPage(self.page),
             begun,
         };
         let _ = find.turn(s, note);
