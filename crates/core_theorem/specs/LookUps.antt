@@ -34,8 +34,8 @@ FoundSlotsAreHeld =
     → (topics_in (run mmu w ss) actor).search.whole ≡ true
     → FoundIn z (word_in z (run mmu w ss) area.Pool) (topics_in (run mmu w ss) actor).search
 
--- Of each guest frame the slot set that an actor holds says what the published one says, where the sequence number is the one that it took before, and no
--- invalidation of the frame is open that has yet to raise it: the slot that has the frame there is live, and the same.
+-- The slot that has a guest frame in the set that an actor holds is live in the published one, and the same, where the sequence number is the one that the
+-- actor took before, and no invalidation of the frame is open that has yet to raise it.
 abbrev pub HeldSlotsStand : Type 0
 HeldSlotsStand =
     (z : Sizes) (lines : List Line) (w : World Held) (ss : List (Step Kind)) → IsRun z lines w ss

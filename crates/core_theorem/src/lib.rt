@@ -36,9 +36,9 @@ ghost use Rattle.core_theorem.specs.Walks.{WalksHoldTables};
 /// `flushed`: a virtual processor whose flush was awaited, and which is in the guest or
 /// has no flush asked of it, has nothing cached of such a guest frame. `found`: the slot
 /// that an actor has found is one of the slot set that it holds, of which no two slots
-/// meet. `held_slots`: of each guest frame this set says what the published one says,
-/// while the sequence number is the one that the actor took before and no invalidation of
-/// the frame is open that has yet to raise it. `looked`: so is what an actor has looked up
+/// meet. `held_slots`: the slot that has a guest frame in this set is live in the published
+/// one, and the same, while the sequence number is the one that the actor took before and
+/// no invalidation of the frame is open that has yet to raise it. `looked`: so is what an actor has looked up
 /// of a host page, while no invalidation of the page is; but an absent page may have been
 /// brought in. `lock`: the lock's word counts its readers and has the
 /// bit of its one writer, beside whom none has it as a reader. `grace`: what an actor holds of tables and slot sets isn't free. `sets`,

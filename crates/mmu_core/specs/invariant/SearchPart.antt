@@ -65,8 +65,8 @@ pub record LookPart (z : Sizes) (n seq : ℕ) (host : ℕ → ℕ) (topics : ℕ
       → ((j : ℕ) → j < n → IsInvalidating (IsOnPage look.page) (topics j) → ⊥) → IsStill look.word (host look.page)
   pub snapshot : (s : ℕ) → t.invalidations.snapshot ≡ Some s → s ≤ seq
 
--- Of each guest frame the slot set that an actor holds says what the published one says, as long as the sequence number is that of the actor's snapshot, and no
--- invalidation of the frame is open that hasn't raised it: the slot that has the frame there is live, as it is.
+-- The slot that has a guest frame in the set that an actor holds is live in the published one, and the same, as long as the sequence number is that of the
+-- actor's snapshot, and no invalidation of the frame is open that hasn't raised it. The published one may have slots that the held one hasn't.
 abbrev pub HeldSlotsPart : ℕ → ℕ → (ℕ → ℕ) → ℕ → (ℕ → Topics) → Type 0
 HeldSlotsPart n seq pool slots topics =
     (i set gfn id : ℕ) (slot : SlotOf) → i < n → (topics i).search.set ≡ Some set → (topics i).invalidations.snapshot ≡ Some seq
