@@ -24,7 +24,7 @@ use Rattle.part_steps.specs.declared.task.Task.{Task}
 use Rattle.part_steps.specs.PartSteps.{needs_line}
 use Rattle.part_steps.specs.PartTasks.{own_index, part_task}
 use Rattle.part_steps.specs.Tasks.{map_of}
-use Rattle.mmu_core.specs.invariant.FramesPart.{FrameUse, IsNamed, frame_looked, is_frame_use, number_owned}
+use Rattle.mmu_core.specs.invariant.FramesPart.{FrameUse, IsNamed, frame_looked, number_owned}
 use Rattle.mmu_core.specs.invariant.FramesPart.FrameUse.{Free, Outside, Page, Owned}
 use Rattle.mmu_core.specs.invariant.HeldPart.{HoldsOld}
 use Rattle.mmu_core.specs.invariant.InvalidatedPart.{may_use}
@@ -37,11 +37,13 @@ use Rattle.mmu_core.proofs.held.ClaimGoes.{others_hand}
 use Rattle.mmu_core.proofs.held.InSection.{all_passed}
 use Rattle.mmu_core.proofs.lines.StepIn.{StepIn, Makes, Touches, step_in}
 use Rattle.mmu_core.proofs.machine.Columns.{same_or}
+use Rattle.mmu_core.proofs.machine.ColumnsTell.{is_outside, outside_tells}
 use Rattle.mmu_core.proofs.machine.PartStepping.{IsPart}
 use Rattle.mmu_core.proofs.machine.Which.{is_next, is_part}
 use Rattle.mmu_core.proofs.machine.Worlds.{are_small, good_step, takes_line}
 use Rattle.mmu_core.proofs.pages.FrameUses.{frame_use_is, free_frame_use, has_frame_owner, has_page, one_frame_owner, owned_frame_use}
 use Rattle.mmu_core.proofs.pages.FrameUses.{owned_of_no_page, page_use}
+use Rattle.mmu_core.proofs.pages.Uses.{has_use, told_so}
 use Rattle.core_theorem.specs.Frames.{CopiedWordsAreThePages, FramesAreReusedAlone, FramesAreUsed, GivesFrame, IsFrameUsedFor, IsNobodyElses}
 use Rattle.core_theorem.specs.Frames.{LooksAtFrame, OwnsFrame, WatchedHoldNoOldFrame, WinsFrame}
 use Rattle.mmu_laws.specs.leaves.LeafLaws.{LeafAgrees}
@@ -49,22 +51,21 @@ use Rattle.mmu_laws.specs.steps.StepLaws.{IsOn, IsOnItsArea}
 use Rattle.mmu_laws.proofs.causes.Changes.{word_stays}
 use Rattle.mmu_laws.proofs.leaves.LeafLaws.{cached_leaves_agree}
 use Rattle.mmu_laws.proofs.steps.StepLaws.{steps_are_on_their_areas}
-use Rattle.core_theorem.proofs.Pages.{at_end, from_end}
 use Rattle.core_theorem.proofs.Runs.{before, last_actor, may_last, sound}
 
 module _ (z : Sizes) (u : World Held) (G : IsSound z u) (frame : ℕ) where
   used : (use_ : FrameUse) → G.topics.use_of frame ≡ use_ → IsFrameUsedFor z u frame use_
-  used Free is = G.topics.frames.free frame ∙ ap (is_frame_use Free) is
+  used Free is = told_so frame_use_is G.topics.frames.told frame Free is Free
   used (Page page) is = has_page G.topics.frames page frame is
   used (Owned actor) is =
-      let O = has_frame_owner G.topics.frames actor frame is in (O.there, record { owned = O.owned_frame; is = O.is; of_frame = O.of_frame })
-  used Outside is = from_end frame z.frames (G.topics.frames.outside frame ∙ ap (is_frame_use Outside) is)
+      let O = has_frame_owner G.topics.frames actor frame is in (O.there, record { owned = O.held; is = O.is; of_frame = O.of_number })
+  used Outside is = outside_tells frame z.frames (told_so frame_use_is G.topics.frames.told frame Outside is Outside)
 
   only_so : (use_ : FrameUse) → IsFrameUsedFor z u frame use_ → G.topics.use_of frame ≡ use_
   only_so Free is = free_frame_use G.topics.frames frame is
   only_so (Page page) U = ap G.topics.use_of (sym U.1) ∙ page_use G.topics.frames page U.0
   only_so (Owned actor) U = ap G.topics.use_of (sym U.1.of_frame) ∙ owned_frame_use G.topics.frames actor U.1.owned U.0 U.1.is
-  only_so Outside le = frame_use_is Outside (G.topics.use_of frame) (sym (G.topics.frames.outside frame) ∙ at_end frame z.frames le)
+  only_so Outside le = has_use frame_use_is G.topics.frames.told Outside frame (is_outside frame z.frames le)
 
 pub frames_are_used : (z : Sizes) (u : World Held) → IsSound z u → FramesAreUsed z u
 frames_are_used z u G = record {

@@ -1,7 +1,6 @@
 -- Each pool page has one use.
-use Rattle.std.proofs.Common.{◌≡◌, inl, inr, ◌≤◌, ℕ, refl, sym, ap, ◌∙◌, arith}
-use Rattle.std.specs.Prelude.{true, nat_le, Some}
-use Rattle.std.proofs.lemmas.Bool.Decides.{nat_tests}
+use Rattle.std.proofs.Common.{◌≡◌, inl, inr, ℕ, refl, sym, ap, ◌∙◌, arith}
+use Rattle.std.specs.Prelude.{Some}
 use Rattle.core_views.specs.declared.sizes.Sizes.{Sizes}
 use Rattle.core_views.specs.Held.{Held}
 use Rattle.spte_words.specs.declared.area.Area.TheVariants as area
@@ -9,20 +8,15 @@ use Rattle.spte_words.specs.Areas.{pool_index}
 use Rattle.spte_words.proofs.ReadsEntries.{same_table, table_not_absent}
 use Rattle.mmu_core.specs.invariant.Laws.{IsSound}
 use Rattle.mmu_core.specs.machine.Machine.{World}
-use Rattle.mmu_core.specs.invariant.PoolPart.{is_use}
 use Rattle.mmu_core.specs.invariant.TreePart.{EntryPart, Position, Use, stands}
 use Rattle.mmu_core.specs.invariant.TreePart.Use.{Free, OldSet, Outside, Owned, Root, SlotSet, Under}
 use Rattle.mmu_core.specs.machine.View.{word_in}
-use Rattle.mmu_core.proofs.pages.PoolPages.{free_use, has_leaver, has_owner, left_use, owned_use, set_use, tells, use_is}
+use Rattle.mmu_core.proofs.machine.ColumnsTell.{is_outside, outside_tells, tells}
+use Rattle.mmu_core.proofs.pages.PoolPages.{free_use, has_leaver, has_owner, left_use, owned_use, set_use, use_is}
 use Rattle.mmu_core.proofs.pages.Standing.{at_spot}
+use Rattle.mmu_core.proofs.pages.Uses.{has_use, told_so}
 use Rattle.mmu_core.proofs.pages.TreePlaces.{all_reached, one_place}
 use Rattle.core_theorem.specs.Pages.{IsUsedFor, LinksPage, PagesAreUsed}
-
-pub from_end : (k pages : ℕ) → nat_le pages k ≡ true → pages ≤ k
-from_end k pages is = grind (arith, nat_tests)
-
-pub at_end : (k pages : ℕ) → pages ≤ k → nat_le pages k ≡ true
-at_end k pages le = grind (arith, nat_tests)
 
 module _ (z : Sizes) (u : World Held) (G : IsSound z u) (page : ℕ) where
   abbrev up : ℕ → Use
@@ -49,13 +43,13 @@ module _ (z : Sizes) (u : World Held) (G : IsSound z u) (page : ℕ) where
       by (inr (inr F)) = absurd (let lowest = F.lowest in let upper = L.upper in omega (arith, lowest, upper))
 
   used : (use_ : Use) → up page ≡ use_ → IsUsedFor z u up spot page use_
-  used Free is = G.topics.uses.free page ∙ ap (is_use Free) is
+  used Free is = told_so use_is G.topics.uses.told page Free is Free
   used Root is = sym (G.topics.tree.only page is)
-  used (Owned actor) is = let O = has_owner G.topics.uses actor page is in (O.there, record { owned = O.owned_page; is = O.is; of_page = O.of_page })
+  used (Owned actor) is = let O = has_owner G.topics.uses actor page is in (O.there, record { owned = O.held; is = O.is; of_page = O.of_number })
   used (Under parent entry) is = links_page parent entry is
-  used SlotSet is = tells (word_in z u area.Slots 0) page (G.topics.uses.set page ∙ ap (is_use SlotSet) is)
+  used SlotSet is = tells (word_in z u area.Slots 0) page (told_so use_is G.topics.uses.told page SlotSet is SlotSet)
   used (OldSet actor) is = has_leaver G.topics.uses actor page is
-  used Outside is = from_end page z.pool (G.topics.uses.outside page ∙ ap (is_use Outside) is)
+  used Outside is = outside_tells page z.pool (told_so use_is G.topics.uses.told page Outside is Outside)
 
   only_so : (use_ : Use) → IsUsedFor z u up spot page use_ → up page ≡ use_
   only_so Free is = free_use G.topics.uses page is
@@ -64,7 +58,7 @@ module _ (z : Sizes) (u : World Held) (G : IsSound z u) (page : ℕ) where
   only_so (Under parent entry) L = under_it parent entry L
   only_so SlotSet is = ap up (sym is) ∙ set_use G.topics.uses
   only_so (OldSet actor) U = left_use G.topics.uses actor page U.0 U.1
-  only_so Outside le = use_is Outside (up page) (sym (G.topics.uses.outside page) ∙ at_end page z.pool le)
+  only_so Outside le = has_use use_is G.topics.uses.told Outside page (is_outside page z.pool le)
 
 pub each_used : (z : Sizes) (u : World Held) (G : IsSound z u) (page : ℕ) → IsUsedFor z u G.topics.up G.topics.spot page (G.topics.up page)
 each_used z u G page = used z u G page (G.topics.up page) refl

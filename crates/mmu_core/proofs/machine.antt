@@ -1,5 +1,6 @@
 pub mod Advancing
 pub mod Columns
+pub mod ColumnsTell
 pub mod EndsKept
 pub mod Extend
 pub mod GoesOn

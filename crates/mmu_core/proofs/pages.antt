@@ -14,6 +14,7 @@ pub mod Standing
 pub mod TreeKept
 pub mod TreePlaces
 pub mod TreeStored
+pub mod Uses
 pub mod UsesStay
 pub mod UsesTurn
 pub mod Paths

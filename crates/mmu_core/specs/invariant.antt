@@ -11,6 +11,7 @@ pub mod LockPart
 pub mod InvalidationsPart
 pub mod InvalidatedPart
 pub mod StatesPart
+pub mod AreUsed
 pub mod TreePart
 pub mod AllOver
 pub mod PoolPart

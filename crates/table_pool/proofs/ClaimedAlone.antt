@@ -1,9 +1,8 @@
 -- A page or frame that an actor owns, as after a claim that was won, is its own alone.
-use Rattle.std.proofs.Common.{◌≡◌, ◌≢◌, ◌<◌, ℕ, Option, Some, None, length, refl, sym, subst, ap, ◌∙◌, arith}
+use Rattle.std.proofs.Common.{◌≡◌, ◌<◌, ℕ, Option, Some, None, length, refl, sym, subst, ap, ◌∙◌}
 use Rattle.std.proofs.Math.Logic.{∥∥₁_elim}
 use Rattle.std.proofs.Props.{props}
-use Rattle.std.specs.Prelude.{Bool, true, false, ◌==◌, IfSome}
-use Rattle.std.proofs.lemmas.Bool.Decides.{nat_tests}
+use Rattle.std.specs.Prelude.{IfSome}
 use Rattle.core_views.specs.declared.sizes.Sizes.{Sizes}
 use Rattle.core_views.specs.declared.topics.OwnedFrame.{OwnedFrame}
 use Rattle.core_views.specs.declared.topics.OwnedPage.{OwnedPage}
@@ -16,14 +15,17 @@ use Rattle.mmu_core.specs.machine.Machine.{World, hand_in}
 use Rattle.part_steps.specs.PartTasks.{part_kind}
 use Rattle.mmu_core.specs.declared.claim.FreeMap.{FreeMap}
 use Rattle.mmu_core.specs.declared.claim.FreeMap.TheVariants.{Pages, Frames}
-use Rattle.mmu_core.specs.invariant.FramesPart.{FramesPart, is_frame_of}
-use Rattle.mmu_core.specs.invariant.PoolPart.{UsePart, is_leaving, is_owned}
+use Rattle.mmu_core.specs.invariant.FramesPart.{FrameUse, FramesPart, is_frame_of}
+use Rattle.mmu_core.specs.invariant.PoolPart.{UsePart, is_leaving, is_owned, is_use, page_told}
 use Rattle.mmu_core.specs.lines.ClaimSteps.{try_part}
-use Rattle.mmu_core.proofs.pages.FrameUses.{one_frame_owner, owned_frame_not_free, owned_frame_there, owned_of_no_page}
-use Rattle.mmu_core.specs.invariant.TreePart.{at, stands}
+use Rattle.mmu_core.proofs.pages.FrameUses.{frame_use_is, owned_frame_not_free, owned_frame_there, owned_frame_use, owned_of_no_page}
+use Rattle.mmu_core.specs.invariant.TreePart.{Use, at, stands}
+use Rattle.mmu_core.specs.invariant.TreePart.Use.{OldSet, Owned}
 use Rattle.mmu_core.specs.machine.View.{word_in}
 use Rattle.mmu_core.specs.machine.Worlds.{Reachable}
-use Rattle.mmu_core.proofs.pages.PoolPages.{left_not_owned, one_owner, owned_no_table, owned_not_free, owned_not_slots, owned_there}
+use Rattle.mmu_core.proofs.machine.ColumnsTell.{at_place, itself, other}
+use Rattle.mmu_core.proofs.pages.PoolPages.{owned_no_table, owned_not_free, owned_not_slots, owned_there, owned_use, use_is}
+use Rattle.mmu_core.proofs.pages.Uses.{told_so}
 use Rattle.mmu_core.proofs.pages.TreePlaces.{root_stands}
 use Rattle.mmu_core.proofs.start.Starts.{reached_good}
 use Rattle.step_seats.specs.Seats.{Seat}
@@ -56,34 +58,21 @@ sole_page w a o r there mine = subst (λ (y : Sizes). IsPageAlone y a o.page w) 
     P : UsePart (actors_of z) z.pool (word_in z w area.Slots 0) (word_in z w area.PoolMap) owned leaving G.topics.up
     P = G.topics.uses
 
-    itself : (o.page == o.page) ≡ true
-    itself = grind (arith, nat_tests)
-
-    other : (i : ℕ) → i < actors_of z → i ≢ a → (x : Option OwnedPage) → owned i ≡ x → is_owned x o.page ≡ false
-    other i i_lt apart None is = refl
-    other i i_lt apart (Some p) is = by (p.page == o.page) (λ e. grind (arith, nat_tests))
-      where
-        by : (b : Bool) → (b ≡ true → p.page ≡ o.page) → b ≡ false
-        by true same = absurd (apart (sym (one_owner P a i o p lt i_lt mine is (same refl))))
-        by false same = refl
-
-    stays : (i : ℕ) → i < actors_of z → (x : Option ℕ) → leaving i ≡ x → is_leaving x o.page ≡ false
-    stays i i_lt None is = refl
-    stays i i_lt (Some k) is = by (k == o.page) (λ e. grind (arith, nat_tests))
-      where
-        by : (b : Bool) → (b ≡ true → k ≡ o.page) → b ≡ false
-        by true same = absurd (left_not_owned P i k i_lt is a o lt mine (sym (same refl)))
-        by false same = refl
+    -- What is told of the page: that this actor owns it.
+    told : (u : Use)
+        → page_told (actors_of z) z.pool (word_in z w area.Slots 0) (word_in z w area.PoolMap) owned leaving G.topics.up u o.page ≡ is_use u (Owned a)
+    told = told_so use_is P.told o.page (Owned a) (owned_use P a o lt mine)
 
     alone : IsPageAlone z a o.page w
     alone = record {
       there = owned_there P a o lt mine;
-      owned = ap (λ x. is_owned x o.page) mine ∙ itself;
-      others = λ i i_in apart. other i (subst (λ n. i < n) G.hands i_in) apart (owned i) refl;
+      owned = ap (λ x. is_owned x o.page) mine ∙ itself o.page;
+      others = λ i i_in apart.
+          sym (at_place is_owned (actors_of z) owned i o.page (subst (λ n. i < n) G.hands i_in) refl) ∙ told (Owned i) ∙ other i a apart;
       not_free = owned_not_free P a o lt mine;
       not_root = λ e. owned_no_table P G.topics.spot a o (at 4 0) lt mine (sym (ap (stands G.topics.up G.topics.spot) e) ∙ root_stands G.topics.tree);
       not_slots = λ e. owned_not_slots P a o lt mine (sym e);
-      not_leaving = λ i i_in. stays i (subst (λ n. i < n) G.hands i_in) (leaving i) refl;
+      not_leaving = λ i i_in. sym (at_place is_leaving (actors_of z) leaving i o.page (subst (λ n. i < n) G.hands i_in) refl) ∙ told (OldSet i);
     }
 
 -- So is a frame.
@@ -106,22 +95,13 @@ sole_frame w a o r there mine = subst (λ (y : Sizes). IsFrameAlone y a o.frame 
     P : FramesPart z (actors_of z) (word_in z w area.FrameMap) (word_in z w area.Host) owned G.topics.use_of
     P = G.topics.frames
 
-    itself : (o.frame == o.frame) ≡ true
-    itself = grind (arith, nat_tests)
-
-    other : (i : ℕ) → i < actors_of z → i ≢ a → (x : Option OwnedFrame) → owned i ≡ x → is_frame_of x o.frame ≡ false
-    other i i_lt apart None is = refl
-    other i i_lt apart (Some p) is = by (p.frame == o.frame) (λ e. grind (arith, nat_tests))
-      where
-        by : (b : Bool) → (b ≡ true → p.frame ≡ o.frame) → b ≡ false
-        by true same = absurd (apart (sym (one_frame_owner P a i o p lt i_lt mine is (same refl))))
-        by false same = refl
-
     alone : IsFrameAlone z a o.frame w
     alone = record {
       there = owned_frame_there P a o lt mine;
-      owned = ap (λ x. is_frame_of x o.frame) mine ∙ itself;
-      others = λ i i_in apart. other i (subst (λ n. i < n) G.hands i_in) apart (owned i) refl;
+      owned = ap (λ x. is_frame_of x o.frame) mine ∙ itself o.frame;
+      others = λ i i_in apart.
+          sym (at_place is_frame_of (actors_of z) owned i o.frame (subst (λ n. i < n) G.hands i_in) refl)
+          ∙ told_so frame_use_is P.told o.frame (FrameUse.Owned a) (owned_frame_use P a o lt mine) (FrameUse.Owned i) ∙ other i a apart;
       not_free = owned_frame_not_free P a o lt mine;
       of_no_page = λ page in_pages. owned_of_no_page P a o page lt mine in_pages;
     }

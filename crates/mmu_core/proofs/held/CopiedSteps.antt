@@ -26,7 +26,8 @@ use Rattle.mmu_core.proofs.machine.Columns.{at_upd}
 use Rattle.mmu_core.proofs.machine.PartStepping.{IsPart}
 use Rattle.mmu_core.proofs.pages.CopiedWords.{FrameStays, copied_as, copied_next, copied_stays, none_copied, stored_elsewhere, stored_next}
 use Rattle.mmu_core.proofs.pages.FrameUses.{one_frame_owner, owned_of_no_page}
-use Rattle.mmu_core.proofs.pages.FramesKept.{brought_frame, frame_some}
+use Rattle.mmu_core.proofs.pages.FramesKept.{brought_frame}
+use Rattle.mmu_core.proofs.machine.ColumnsTell.{some_is}
 use Rattle.mmu_core.proofs.words.PartTopics.{behind_step, part_behind, part_hand}
 
 -- what is copied, in a view
@@ -143,7 +144,7 @@ module _ (z : Sizes) (v : View) (a note : ℕ) (I : TopicsInvariant z v) (C : Co
   own_copy : (index : ℕ) → IsPart z v a (part.Copy index) → (o : OwnedFrame) → t.invalidations.opened ≡ true
       → (now (part.Copy index)).frames.owned ≡ Some o → IsCopied z.words (v.words area.Content) (now (part.Copy index)) o
   own_copy index S o opened owned =
-      let was = frame_some t.frames.owned S.needs.owns in
+      let was = some_is t.frames.owned S.needs.owns in
       let p : OwnedFrame = was.0 in
       let low : p.filled < z.words = left_words z v a p S.sizes was.1 S.needs.left in
       let is : index ≡ z.words * host_frame (word_looked t.host) + p.filled =
@@ -226,7 +227,7 @@ module _ (z : Sizes) (v : View) (a note : ℕ) (I : TopicsInvariant z v) (C : Co
   others_store index S movers i ne o lt opened owned = by (movers i lt opened)
     where
       was : (p : OwnedFrame) × (t.frames.owned ≡ Some p)
-      was = frame_some t.frames.owned (copied_some t.frames.owned S.needs.copied)
+      was = some_is t.frames.owned (copied_some t.frames.owned S.needs.copied)
 
       p : OwnedFrame
       p = was.0

@@ -27,7 +27,7 @@ use Rattle.mmu_core.proofs.held.Retired.{OldStays, OwnStays, held_quiet, held_sa
 use Rattle.mmu_core.proofs.machine.Columns.{same_or, upd_other, upd_same}
 use Rattle.mmu_core.proofs.machine.PartStepping.{IsPart}
 use Rattle.mmu_core.proofs.pages.FramesKept.{brought_frame, is_as_looked, moved_frame, revised_frame, same_word}
-use Rattle.mmu_core.proofs.pages.PoolPages.{tells}
+use Rattle.mmu_core.proofs.machine.ColumnsTell.{tells}
 use Rattle.mmu_core.proofs.words.PartTopics.{behind_step, part_behind}
 
 abbrev LookedAt : Sizes → View → Type 0

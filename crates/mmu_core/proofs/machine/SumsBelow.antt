@@ -3,7 +3,7 @@ use Rattle.std.proofs.Common.{◌≡◌, ◌≢◌, ◌⊎◌, inl, inr, ◌+◌
 use Rattle.std.specs.Prelude.{Bool, true, false}
 use Rattle.mmu_core.specs.machine.Sums.{one_if, sum_below}
 use Rattle.mmu_core.specs.machine.View.{upd}
-use Rattle.mmu_core.proofs.machine.Columns.{same_or, upd_other, upd_same}
+use Rattle.mmu_core.proofs.machine.Columns.{at_upd, same_or, upd_other, upd_same}
 
 -- a place from n on is no part of the sum
 pub sum_behind : {X : Type 0} (g : X → ℕ) (n : ℕ) (f : ℕ → X) (a : ℕ) (x : X) → n ≤ a → sum_below n (λ i. g (upd f a x i)) ≡ sum_below n (λ i. g (f i))
@@ -101,6 +101,13 @@ column g f a x e = λ t i. at i t
         here : (i ≡ a) ⊎ (i ≢ a) → g (upd f a x i) ≡ g (f i)
         here (inl p) = ap (λ j. g (upd f a x j)) p ∙ ap g (upd_same f a x) ∙ e ∙ ap (λ j. g (f j)) (sym p)
         here (inr p) = ap g (upd_other f a i x p)
+
+-- A field of the new hand is one place of the field's column.
+pub column_upd : {X Y : Type 0} (g : X → Y) (f : ℕ → X) (a : ℕ) (x : X) → ◌≡◌ {A = ℕ → Y} (λ i. g (upd f a x i)) (upd (λ i. g (f i)) a (g x))
+column_upd g f a x = λ t i. at i t
+  where
+    at : (i : ℕ) → g (upd f a x i) ≡ upd (λ j. g (f j)) a (g x) i
+    at = at_upd (λ i y. g y ≡ upd (λ j. g (f j)) a (g x) i) f a x (sym (upd_same (λ j. g (f j)) a (g x))) (λ i ne. sym (upd_other (λ j. g (f j)) a i (g x) ne))
 
 -- a column whose value at the place is as it was
 pub upd_id : {X : Type 0} (f : ℕ → X) (a : ℕ) → ◌≡◌ {A = ℕ → X} (upd f a (f a)) f

@@ -10,7 +10,7 @@ use Rattle.part_steps.specs.PartTasks.{word_looked}
 use Rattle.mmu_core.specs.invariant.FramesPart.{IsCopied}
 use Rattle.mmu_core.specs.machine.View.{upd}
 use Rattle.mmu_core.proofs.machine.Columns.{same_or, upd_other, upd_same}
-use Rattle.mmu_core.proofs.pages.PoolPages.{both, tells}
+use Rattle.mmu_core.proofs.machine.ColumnsTell.{both, tells}
 
 -- Where nothing is copied there is nothing to say.
 pub none_copied : (words : ℕ) (content : ℕ → ℕ) (t : Topics) (o : OwnedFrame) → is_uncopied (Some o) ≡ true → IsCopied words content t o

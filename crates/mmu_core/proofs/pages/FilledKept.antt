@@ -14,14 +14,15 @@ use Rattle.part_steps.specs.declared.part_step.PartStep.{PartStep}
 use Rattle.part_steps.specs.declared.part_step.PartStep.TheVariants as part
 use Rattle.part_steps.specs.PartTasks.{own_index, page_owned, part_task, words_filled}
 use Rattle.mmu_core.specs.invariant.PoolPart.{FilledPart, IsFilled}
+use Rattle.part_steps.specs.PartTopics.{part_topics}
 use Rattle.part_steps.specs.PageTopics.{claimed, filled_more, is_won, tried_bit}
 use Rattle.mmu_core.specs.invariant.TopicsInvariant.{TopicsInvariant}
 use Rattle.mmu_core.specs.machine.View.{View, answer_in, part_stepped, upd}
 use Rattle.mmu_core.proofs.machine.Columns.{at_upd, same_or, upd_same}
 use Rattle.mmu_core.proofs.pages.Owned.{OwnsWhole, table_owned}
-use Rattle.mmu_core.proofs.pages.OwnedBehind.{leaf_owned, link_owned, owned_behind, owned_is}
+use Rattle.mmu_core.proofs.pages.OwnedBehind.{leaf_stored, link_stored}
 use Rattle.mmu_core.proofs.machine.PartStepping.{IsPart}
-use Rattle.mmu_core.proofs.words.PartTopics.{is_there}
+use Rattle.mmu_core.proofs.words.PartTopics.{is_there, part_topics_is}
 use Rattle.mmu_core.proofs.words.PartWords.{HasOtherRole, IsElsewhere, fill_leaves, page_stays, role_stays, walks_unowned, left_elsewhere}
 use Rattle.mmu_core.proofs.pages.PoolPages.{left_not_owned, one_owner, owned_there}
 use Rattle.mmu_core.proofs.pages.Standing.{entry_now}
@@ -103,7 +104,7 @@ still_filled z v a step note S o apart other F = record {
 
 -- What the actor has filled behind its step.
 own_filled : (z : Sizes) (v : View) (a : ℕ) (step : PartStep) (note : ℕ) → IsPart z v a step → TopicsInvariant z v
-    → (o : OwnedPage) → owned_behind step (v.hand a).topics (answer_in (part_task step (own_index (v.hand a)) (v.hand a).topics note) v.words)
+    → (o : OwnedPage) → (part_topics step (v.hand a).topics (answer_in (part_task step (own_index (v.hand a)) (v.hand a).topics note) v.words)).owned
     ≡ Some o → IsFilled ((part_stepped a step note v).words area.Role) ((part_stepped a step note v).words area.Pool) o
 own_filled z v a part.Claim note S I o is =
     claim_filled (v.words area.Role) (v.words area.Pool) (v.hand a).topics.claim (v.words area.PoolMap (v.hand a).topics.claim.at) o is
@@ -128,7 +129,7 @@ own_filled z v a (part.Link gfn) note S I o is =
     let small : owns.owned.page < 2 ^ 32 = omega (arith, owned_there I.uses a owns.owned S.there owns.is, S.is_sizes.pool.1) in
     let owned : t.owned ≡ Some o =
     unlinked (entry_now gfn t v == t.walk.entry) owns.owned owns.is
-    (sym (link_owned gfn t owns.owned (entry_now gfn t v) S.needs.1 owns.is small) ∙ is) in
+    (sym (link_stored t owns.owned (entry_now gfn t v == t.walk.entry) S.needs.1 owns.is small) ∙ is) in
     still_filled z v a (part.Link gfn) note S o (λ e. walks_unowned z v a S.there I S.needs.0.saw.over.there a o S.there owned (sym e)) tt
     (I.filled a o S.there owned)
   where
@@ -138,7 +139,7 @@ own_filled z v a (part.Link gfn) note S I o is =
     unlinked false mine owned e = owned ∙ e
 own_filled z v a (part.Leaf gfn) note S I o is =
     let t : Topics = (v.hand a).topics in
-    let owned : t.owned ≡ Some o = sym (leaf_owned gfn t (entry_now gfn t v) S.needs.1) ∙ is in
+    let owned : t.owned ≡ Some o = sym (leaf_stored t (entry_now gfn t v == t.walk.entry) S.needs.1) ∙ is in
     still_filled z v a (part.Leaf gfn) note S o (λ e. walks_unowned z v a S.there I S.needs.0.saw.over.there a o S.there owned (sym e)) tt
     (I.filled a o S.there owned)
 own_filled z v a (part.Zap gfn) note S I o is =
@@ -169,7 +170,7 @@ pub filled_kept : (z : Sizes) (v : View) (a : ℕ) (step : PartStep) (note : ℕ
 filled_kept z v a step note S I =
     let w : View = part_stepped a step note v in
     at_upd (λ i (g : Held). (o : OwnedPage) → i < actors_of z → g.topics.owned ≡ Some o → IsFilled (w.words area.Role) (w.words area.Pool) o) v.hand a _
-    (λ o lt is. own_filled z v a step note S I o (sym (owned_is step (v.hand a).state.sizes (own_index (v.hand a)) (v.hand a).topics note _
-    (is_there step (v.hand a) S.needs)) ∙ is))
+    (λ o lt is. own_filled z v a step note S I o (sym (ap (λ (t : Topics). t.owned)
+    (part_topics_is (v.hand a).state.sizes step (own_index (v.hand a)) (v.hand a).topics note _ (is_there step (v.hand a) S.needs))) ∙ is))
     (λ i apart o lt is. still_filled z v a step note S o (others_elsewhere z v a step S I i o lt apart is)
     (other_roles z v a step S I i o lt apart is) (I.filled i o lt is))

@@ -1,6 +1,6 @@
 -- The steps of the machine's parts keep what each frame of the host is.
 use Rattle.std.proofs.Common.{◌≡◌, ◌+◌, ◌*◌, ◌/◌, ◌%◌, ◌<◌, ℕ, refl, sym, subst, ap, ◌∙◌, arith, w64}
-use Rattle.std.specs.Prelude.{Bool, true, false, ◌==◌, ◌||◌, if◌then◌else◌, Option, Some, None, is_some}
+use Rattle.std.specs.Prelude.{Bool, true, false, ◌==◌, ◌||◌, if◌then◌else◌, Option, Some, None}
 use Rattle.std.proofs.lemmas.Nat.Bits.{bit_at-trailing_zeros}
 use Rattle.core_views.specs.declared.sizes.Sizes.{Sizes}
 use Rattle.core_views.specs.declared.topics.OwnedFrame.{OwnedFrame}
@@ -15,18 +15,18 @@ use Rattle.part_steps.specs.declared.part_step.PartStep.TheVariants as part
 use Rattle.part_steps.specs.FrameHoldings.{revises}
 use Rattle.part_steps.specs.FrameTopics.{frame_after, frame_owned, word_copied, word_stored}
 use Rattle.part_steps.specs.PageTopics.{is_won, tried_bit}
-use Rattle.part_steps.specs.PartTasks.{page_looked, part_task, word_looked}
+use Rattle.part_steps.specs.PartTasks.{page_looked, word_looked}
 use Rattle.mmu_core.specs.invariant.FramesPart.{FrameUse, FramesPart, is_frame_of}
 use Rattle.mmu_core.specs.invariant.TopicsInvariant.{TopicsInvariant}
-use Rattle.mmu_core.specs.machine.View.{View, answer_in, part_stepped, upd}
+use Rattle.mmu_core.specs.machine.View.{View, part_stepped, upd}
 use Rattle.mmu_core.proofs.held.LooksKept.{page_there}
 use Rattle.mmu_core.proofs.machine.Columns.{at_upd}
 use Rattle.mmu_core.proofs.machine.PartStepping.{IsPart}
-use Rattle.mmu_core.proofs.machine.SumsBelow.{column}
-use Rattle.mmu_core.proofs.pages.FramesTurn.{frame_claim_kept, frame_give_kept, frame_move_kept, moved_use, no_frame_turns}
-use Rattle.mmu_core.proofs.pages.PoolPages.{both, tells}
+use Rattle.mmu_core.proofs.machine.SumsBelow.{column_upd}
+use Rattle.mmu_core.proofs.pages.FramesTurn.{frame_claim_kept, frame_give_kept, frame_move_kept, frames_stay, moved_use}
+use Rattle.mmu_core.proofs.machine.ColumnsTell.{both, some_is, tells}
 use Rattle.mmu_core.proofs.pages.Standing.{upd_if}
-use Rattle.mmu_core.proofs.words.PartTopics.{behind_step, part_behind, part_hand}
+use Rattle.mmu_core.proofs.words.PartTopics.{behind_step, part_behind, stepped_hand}
 
 -- The host word that was looked up is the page's own.
 abbrev pub is_as_looked : Topics → View → Bool
@@ -43,15 +43,8 @@ use_after (part.Change new_) a t v use_of =
 use_after _ a t v use_of = use_of
 
 -- what the frames are, by these words and hands
-abbrev FramesAt : Sizes → (ℕ → FrameUse) → View → Type 0
+abbrev pub FramesAt : Sizes → (ℕ → FrameUse) → View → Type 0
 FramesAt z use_of w = FramesPart z (actors_of z) (w.words area.FrameMap) (w.words area.Host) (λ i. (w.hand i).topics.frames.owned) use_of
-
--- A hand that owns the frame that it owned leaves the part.
-same_frames : (z : Sizes) (v : View) (a : ℕ) (h : Held) → (I : TopicsInvariant z v) → h.topics.frames.owned ≡ (v.hand a).topics.frames.owned
-    → FramesPart z (actors_of z) (v.words area.FrameMap) (v.words area.Host) (λ i. (upd v.hand a h i).topics.frames.owned) I.use_of
-same_frames z v a h I is =
-    subst (λ (owned : ℕ → Option OwnedFrame). FramesPart z (actors_of z) (v.words area.FrameMap) (v.words area.Host) owned I.use_of)
-    (sym (column (λ (g : Held). g.topics.frames.owned) v.hand a h is)) I.frames
 
 -- A word that is copied or stored leaves which frame is owned.
 copied_frame : (owned : Option OwnedFrame) (v k : ℕ) → is_frame_of (word_copied owned v) k ≡ is_frame_of owned k
@@ -61,10 +54,6 @@ copied_frame (Some o) v k = refl
 stored_frame : (owned : Option OwnedFrame) (k : ℕ) → is_frame_of (word_stored owned) k ≡ is_frame_of owned k
 stored_frame None k = refl
 stored_frame (Some o) k = refl
-
-pub frame_some : (x : Option OwnedFrame) → is_some x ≡ true → (o : OwnedFrame) × (x ≡ Some o)
-frame_some None some = absurd (cc some)
-frame_some (Some o) some = (o, refl)
 
 -- ---- an exchange of a host word
 
@@ -109,94 +98,86 @@ same_word found looked new_ same = by (found == looked) (λ e. tells found looke
     by false is = refl
 
 -- The change of a host word, which moves its page where a frame is owned.
-change_kept : (z : Sizes) (v : View) (a new_ : ℕ) → IsPart z v a (part.Change new_) → (I : TopicsInvariant z v) → (h : Held) (x : Option OwnedFrame)
-    (won : Bool) → (v.hand a).topics.frames.owned ≡ x
-    → (won ≡ true → v.words area.Host (page_looked (v.hand a).topics.host) ≡ word_looked (v.hand a).topics.host)
-    → h.topics.frames.owned ≡ frame_after won (host_frame (word_looked (v.hand a).topics.host)) x
-    → FramesPart z (actors_of z) (v.words area.FrameMap)
-    (upd (v.words area.Host) (page_looked (v.hand a).topics.host) (if won then new_ else v.words area.Host (page_looked (v.hand a).topics.host)))
-    (λ i. (upd v.hand a h i).topics.frames.owned)
-    (moved_use won (page_looked (v.hand a).topics.host) a (host_frame (word_looked (v.hand a).topics.host)) x I.use_of)
-change_kept z v a new_ S I h x won owned found is = by x won owned found is
-  where
-    t : Topics
-    t = (v.hand a).topics
+module _ (z : Sizes) (v : View) (a new_ : ℕ) (S : IsPart z v a (part.Change new_)) (I : TopicsInvariant z v) where
+  abbrev t : Topics
+  t = (v.hand a).topics
 
-    host : ℕ → ℕ
-    host = v.words area.Host
+  abbrev host : ℕ → ℕ
+  host = v.words area.Host
 
-    page : ℕ
-    page = page_looked t.host
+  abbrev page : ℕ
+  page = page_looked t.host
 
-    looked : ℕ
-    looked = word_looked t.host
+  abbrev looked : ℕ
+  looked = word_looked t.host
 
-    -- what it may write
-    may : (y : Option OwnedFrame) → t.frames.owned ≡ y → revises (v.hand a).state.sizes.words y looked new_ ≡ true
-    may y owned = ap (λ o. revises (v.hand a).state.sizes.words o looked new_) (sym owned) ∙ S.needs.1
+  abbrev Changed : (ℕ → ℕ) → Option OwnedFrame → (ℕ → FrameUse) → Type 0
+  Changed words owned = FramesPart z (actors_of z) (v.words area.FrameMap) words (upd (λ i. (v.hand i).topics.frames.owned) a owned)
 
-    by : (y : Option OwnedFrame) (won : Bool) → t.frames.owned ≡ y → (won ≡ true → host page ≡ looked)
-        → h.topics.frames.owned ≡ frame_after won (host_frame looked) y
-        → FramesPart z (actors_of z) (v.words area.FrameMap) (upd host page (if won then new_ else host page))
-        (λ i. (upd v.hand a h i).topics.frames.owned) (moved_use won page a (host_frame looked) y I.use_of)
-    by None true owned found is =
-        no_frame_turns v.hand I.frames a h None S.there is (upd host page new_)
-        (names_same host page new_ (revised_frame (v.hand a).state.sizes.words looked new_ (may None owned) ∙ ap host_frame (sym (found refl))))
-        (λ k. sym (ap (λ o. is_frame_of o k) owned))
-    by None false owned found is =
-        no_frame_turns v.hand I.frames a h None S.there is (upd host page (host page)) (names_same host page (host page) refl)
-        (λ k. sym (ap (λ o. is_frame_of o k) owned))
-    by (Some o) false owned found is =
-        no_frame_turns v.hand I.frames a h (Some o) S.there is (upd host page (host page)) (names_same host page (host page) refl)
-        (λ k. sym (ap (λ o. is_frame_of o k) owned))
-    by (Some o) true owned found is =
-        subst (λ old. FramesPart z (actors_of z) (v.words area.FrameMap) (upd host page new_) (λ i. (upd v.hand a h i).topics.frames.owned)
-        (upd (upd I.use_of o.frame (FrameUse.Page page)) old (FrameUse.Owned a))) (ap host_frame (found refl))
-        (frame_move_kept v.hand I.frames a h S.there page new_ o (record { frame = host_frame looked; filled = 0; copied = None })
-        (page_there z v a I S.there S.needs.0.looked) (moved_frame (v.hand a).state.sizes.words looked new_ o (may (Some o) owned))
-        (ap host_frame (sym (found refl))) owned is)
+  -- what it may write
+  may : (x : Option OwnedFrame) → t.frames.owned ≡ x → revises (v.hand a).state.sizes.words x looked new_ ≡ true
+  may x owned = ap (λ o. revises (v.hand a).state.sizes.words o looked new_) (sym owned) ∙ S.needs.1
+
+  same_frame : (x : Option OwnedFrame) (w : ℕ) → host_frame w ≡ host_frame (host page) → t.frames.owned ≡ x → Changed (upd host page w) x I.use_of
+  same_frame x w same owned =
+      frames_stay I.frames a S.there _ (upd host page w) x (λ k. refl) (names_same host page w same) (λ k. sym (ap (λ o. is_frame_of o k) owned))
+
+  change_kept : (x : Option OwnedFrame) (won : Bool) → t.frames.owned ≡ x → (won ≡ true → host page ≡ looked)
+      → Changed (upd host page (if won then new_ else host page)) (frame_after won (host_frame looked) x)
+      (moved_use won page a (host_frame looked) x I.use_of)
+  change_kept None false owned found = same_frame None (host page) refl owned
+  change_kept (Some o) false owned found = same_frame (Some o) (host page) refl owned
+  change_kept None true owned found =
+      same_frame None new_ (revised_frame (v.hand a).state.sizes.words looked new_ (may None owned) ∙ ap host_frame (sym (found refl))) owned
+  change_kept (Some o) true owned found =
+      let p : OwnedFrame = record { frame = host_frame looked; filled = 0; copied = None } in
+      subst (λ old. Changed (upd host page new_) (Some p) (upd (upd I.use_of o.frame (FrameUse.Page page)) old (FrameUse.Owned a)))
+      (ap host_frame (found refl))
+      (frame_move_kept I.frames a S.there page new_ o p (page_there z v a I S.there S.needs.0.looked)
+      (moved_frame (v.hand a).state.sizes.words looked new_ o (may (Some o) owned)) (ap host_frame (sym (found refl))) owned)
 
 -- ---- each step
 
--- What the frames are behind each step, as it is written out.
+-- what the frames are after it, by the column of what hands own, of which one place is new
+abbrev FramesThen : Sizes → View → ℕ → PartStep → ℕ → (ℕ → FrameUse) → Type 0
+FramesThen z v a step note =
+    FramesPart z (actors_of z) ((part_behind a step note v).words area.FrameMap) ((part_behind a step note v).words area.Host)
+    (upd (λ i. (v.hand i).topics.frames.owned) a (stepped_hand a step note v).topics.frames.owned)
+
 frames_behind : (z : Sizes) (v : View) (a : ℕ) (step : PartStep) (note : ℕ) → IsPart z v a step → (I : TopicsInvariant z v)
-    → FramesAt z (use_after step a (v.hand a).topics v I.use_of) (part_behind a step note v)
+    → FramesThen z v a step note (use_after step a (v.hand a).topics v I.use_of)
 frames_behind z v a part.Frame note S I =
     let t : Topics = (v.hand a).topics in
     let low : tried_bit t.frames.claim < 64 = (bit_at-trailing_zeros w64 t.frames.claim.seen S.needs.1 (I.counters a S.there).frames.seen).0 in
-    frame_claim_kept v.hand I.frames a (part_hand part.Frame a note (v.hand a) _) S.there t.frames.claim.at (tried_bit t.frames.claim)
-    (is_won t.frames.claim (v.words area.FrameMap t.frames.claim.at)) low refl S.needs.0 refl
+    frame_claim_kept I.frames a S.there t.frames.claim.at (tried_bit t.frames.claim)
+    (is_won t.frames.claim (v.words area.FrameMap t.frames.claim.at)) low refl S.needs.0
 frames_behind z v a part.GiveFrame note S I =
     let t : Topics = (v.hand a).topics in
-    let o = frame_some t.frames.owned S.needs.owns in
+    let o = some_is t.frames.owned S.needs.owns in
     let frame : frame_owned t.frames.owned ≡ o.0.frame = ap frame_owned o.1 in
-    subst (λ f. FramesPart z (actors_of z) ((part_behind a part.GiveFrame note v).words area.FrameMap) (v.words area.Host)
-    (λ i. ((part_behind a part.GiveFrame note v).hand i).topics.frames.owned) (upd I.use_of f FrameUse.Free)) (sym frame)
-    (frame_give_kept v.hand I.frames a (part_hand part.GiveFrame a note (v.hand a) _) S.there (frame_owned t.frames.owned / 64)
-    (frame_owned t.frames.owned % 64) o.0 (omega arith) (omega (arith, frame)) o.1 refl)
+    subst (λ f. FramesThen z v a part.GiveFrame note (upd I.use_of f FrameUse.Free)) (sym frame)
+    (frame_give_kept I.frames a S.there (frame_owned t.frames.owned / 64) (frame_owned t.frames.owned % 64) o.0 (omega arith) (omega (arith, frame)) o.1)
 frames_behind z v a (part.Copy index) note S I =
-    no_frame_turns v.hand I.frames a (part_hand (part.Copy index) a note (v.hand a) _) _ S.there refl (v.words area.Host) (λ p. refl)
-    (copied_frame (v.hand a).topics.frames.owned _)
+    frames_stay I.frames a S.there _ _ _ (λ k. refl) (λ p. refl) (copied_frame (v.hand a).topics.frames.owned _)
 frames_behind z v a (part.Store index) note S I =
-    no_frame_turns v.hand I.frames a (part_hand (part.Store index) a note (v.hand a) _) _ S.there refl (v.words area.Host) (λ p. refl)
-    (stored_frame (v.hand a).topics.frames.owned)
+    frames_stay I.frames a S.there _ _ _ (λ k. refl) (λ p. refl) (stored_frame (v.hand a).topics.frames.owned)
 frames_behind z v a part.Bring note S I =
     let t : Topics = (v.hand a).topics in
-    no_frame_turns v.hand I.frames a (part_hand part.Bring a note (v.hand a) _) t.frames.owned S.there refl _
+    frames_stay I.frames a S.there _ _ _ (λ k. refl)
     (names_same (v.words area.Host) (page_looked t.host) _
     (same_word (v.words area.Host (page_looked t.host)) (word_looked t.host) (with_presence true (word_looked t.host))
-    (brought_frame (word_looked t.host) true)))
-    (λ k. refl)
+    (brought_frame (word_looked t.host) true))) (λ k. refl)
 frames_behind z v a (part.Change new_) note S I =
     let t : Topics = (v.hand a).topics in
-    change_kept z v a new_ S I (part_hand (part.Change new_) a note (v.hand a) _) t.frames.owned (is_as_looked t v) refl
-    (λ e. tells (v.words area.Host (page_looked t.host)) (word_looked t.host) e) refl
-frames_behind z v a step note S I =
-    same_frames z v a (part_hand step a note (v.hand a) (answer_in (part_task step a (v.hand a).topics note) v.words)) I refl
+    change_kept z v a new_ S I t.frames.owned (is_as_looked t v) refl (λ e. tells (v.words area.Host (page_looked t.host)) (word_looked t.host) e)
+frames_behind z v a step note S I = frames_stay I.frames a S.there _ _ _ (λ k. refl) (λ p. refl) (λ k. refl)
 
 -- Each step of a part keeps what the frames are.
 pub frames_kept : (z : Sizes) (v : View) (a : ℕ) (step : PartStep) (note : ℕ) → IsPart z v a step → (I : TopicsInvariant z v)
-    → FramesPart z (actors_of z) ((part_stepped a step note v).words area.FrameMap) ((part_stepped a step note v).words area.Host)
-    (λ i. ((part_stepped a step note v).hand i).topics.frames.owned) (use_after step a (v.hand a).topics v I.use_of)
+    → FramesAt z (use_after step a (v.hand a).topics v I.use_of) (part_stepped a step note v)
 frames_kept z v a step note S I =
-    behind_step (FramesAt z (use_after step a (v.hand a).topics v I.use_of)) z v a step note S (frames_behind z v a step note S I)
+    let w : View = part_behind a step note v in
+    behind_step (FramesAt z (use_after step a (v.hand a).topics v I.use_of)) z v a step note S
+    (subst (λ (owned : ℕ → Option OwnedFrame). FramesPart z (actors_of z) (w.words area.FrameMap) (w.words area.Host) owned
+    (use_after step a (v.hand a).topics v I.use_of))
+    (sym (column_upd (λ (g : Held). g.topics.frames.owned) v.hand a (stepped_hand a step note v))) (frames_behind z v a step note S I))

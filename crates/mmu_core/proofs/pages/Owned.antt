@@ -8,14 +8,11 @@ use Rattle.part_steps.specs.PartTasks.{is_absent, role_filled, words_filled}
 use Rattle.part_steps.specs.PartHoldings.{OwnsSet, OwnsTable}
 use Rattle.part_steps.specs.SetWords.{set_role}
 use Rattle.part_steps.specs.PageTopics.{filled_more}
+use Rattle.mmu_core.proofs.machine.ColumnsTell.{some_is}
 
 -- the page
 pub owned_some : (t : Topics) → is_some t.owned ≡ true → (o : OwnedPage) × (t.owned ≡ Some o)
-owned_some t some = by t.owned refl some
-  where
-    by : (x : Option OwnedPage) → t.owned ≡ x → is_some x ≡ true → (o : OwnedPage) × (t.owned ≡ Some o)
-    by None is some = absurd (cc some)
-    by (Some o) is some = (o, is)
+owned_some t some = some_is t.owned some
 
 -- Where some of its words are filled there is one.
 pub some_filled : (x : Option OwnedPage) (n : ℕ) → words_filled x ≡ n → 0 < n → is_some x ≡ true

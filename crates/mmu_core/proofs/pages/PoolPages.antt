@@ -1,35 +1,13 @@
 -- What a page of the pool is, it is alone: free, owned by one actor, a table, the published slot set, or leaving.
-use Rattle.std.proofs.Common.{◌≡◌, ◌≢◌, ◌<◌, ℕ, refl, sym, ap, ◌∙◌, arith}
-use Rattle.std.specs.Prelude.{Bool, true, false, ◌==◌, ◌&&◌, nat_le, nat_lt, Option, Some, None}
-use Rattle.std.proofs.lemmas.Bool.Decides.{nat_tests}
+use Rattle.std.proofs.Common.{◌≡◌, ◌≢◌, ◌<◌, ℕ, refl, sym, ap, ◌∙◌}
+use Rattle.std.specs.Prelude.{Bool, true, false, ◌==◌, Option, Some}
 use Rattle.core_views.specs.declared.topics.OwnedPage.{OwnedPage}
-use Rattle.mmu_core.specs.invariant.PoolPart.{UsePart, is_free, is_leaving, is_owned, is_use, leaves, owns}
+use Rattle.mmu_core.specs.invariant.PoolPart.{UsePart, is_free, is_leaving, is_owned, is_use}
 use Rattle.mmu_core.specs.invariant.TreePart.{Position, Use, stands}
 use Rattle.mmu_core.specs.invariant.TreePart.Use.{Free, OldSet, Outside, Owned, Root, SlotSet, Under}
+use Rattle.mmu_core.proofs.machine.ColumnsTell.{HeldAt, at_place, both, held_at, inside_tells, itself, tells}
 use Rattle.mmu_core.proofs.pages.Standing.{no_table}
-
--- A number is itself, and no other one.
-pub itself : (k : ℕ) → (k == k) ≡ true
-itself k = grind (arith, nat_tests)
-
-pub other : (k l : ℕ) → k ≢ l → (k == l) ≡ false
-other k l apart = grind (arith, nat_tests)
-
-pub tells : (k l : ℕ) → (k == l) ≡ true → k ≡ l
-tells k l is = grind (arith, nat_tests)
-
-pub among : (i n : ℕ) → i < n → nat_lt i n ≡ true
-among i n lt = grind (arith, nat_tests)
-
-pub among_tells : (i n : ℕ) → nat_lt i n ≡ true → i < n
-among_tells i n is = grind (arith, nat_tests)
-
-pub no_outside : (k pages : ℕ) → k < pages → nat_le pages k ≡ false
-no_outside k pages lt = grind (arith, nat_tests)
-
-pub both : (a b : Bool) → (a && b) ≡ true → (a ≡ true) × (b ≡ true)
-both true b is = (refl, is)
-both false b is = absurd (cc is)
+use Rattle.mmu_core.proofs.pages.Uses.{has_use, told_so}
 
 -- Uses that are found to be one are one.
 pub use_is : (u w : Use) → is_use u w ≡ true → w ≡ u
@@ -43,60 +21,32 @@ use_is (Under k i) (Under l j) is =
 use_is (OldSet i) (OldSet j) is = ap OldSet (sym (tells i j is))
 use_is _ _ is = absurd (cc is)
 
-pub owns_it : (n : ℕ) (owned : ℕ → Option OwnedPage) (i : ℕ) (o : OwnedPage) → i < n → owned i ≡ Some o → owns n owned i o.page ≡ true
-owns_it n owned i o lt is = ap (λ b. b && is_owned (owned i) o.page) (among i n lt) ∙ ap (λ x. is_owned x o.page) is ∙ itself o.page
-
-pub leaves_it : (n : ℕ) (leaving : ℕ → Option ℕ) (i k : ℕ) → i < n → leaving i ≡ Some k → leaves n leaving i k ≡ true
-leaves_it n leaving i k lt is = ap (λ b. b && is_leaving (leaving i) k) (among i n lt) ∙ ap (λ x. is_leaving x k) is ∙ itself k
-
--- Who owns a page, and for whom a page leaves.
-pub record HasOwner (n : ℕ) (owned : ℕ → Option OwnedPage) (i page : ℕ) : Type 0 where
-  pub there : i < n
-  pub owned_page : OwnedPage
-  pub is : owned i ≡ Some owned_page
-  pub of_page : owned_page.page ≡ page
-
-owned_tells : (x : Option OwnedPage) (page : ℕ) → is_owned x page ≡ true → (o : OwnedPage) × (x ≡ Some o) × (o.page ≡ page)
-owned_tells None page is = absurd (cc is)
-owned_tells (Some o) page is = (o, refl, tells o.page page is)
-
-leaving_tells : (x : Option ℕ) (page : ℕ) → is_leaving x page ≡ true → x ≡ Some page
-leaving_tells None page is = absurd (cc is)
-leaving_tells (Some k) page is = ap Some (tells k page is)
-
 module _ {n pages slots : ℕ} {map : ℕ → ℕ} {owned : ℕ → Option OwnedPage} {leaving : ℕ → Option ℕ} {up : ℕ → Use}
     (U : UsePart n pages slots map owned leaving up) where
   -- What a page is, by the words and hands.
   pub free_use : (k : ℕ) → is_free map k ≡ true → up k ≡ Free
-  free_use k free = use_is Free (up k) (sym (U.free k) ∙ free)
+  free_use k free = has_use use_is U.told Free k free
 
   pub owned_use : (i : ℕ) (o : OwnedPage) → i < n → owned i ≡ Some o → up o.page ≡ Owned i
-  owned_use i o lt is = use_is (Owned i) (up o.page) (sym (U.owner i o.page) ∙ owns_it n owned i o lt is)
+  owned_use i o lt is = has_use use_is U.told (Owned i) o.page (at_place is_owned n owned i o.page lt is ∙ itself o.page)
 
   pub left_use : (i k : ℕ) → i < n → leaving i ≡ Some k → up k ≡ OldSet i
-  left_use i k lt is = use_is (OldSet i) (up k) (sym (U.leaver i k) ∙ leaves_it n leaving i k lt is)
+  left_use i k lt is = has_use use_is U.told (OldSet i) k (at_place is_leaving n leaving i k lt is ∙ itself k)
 
   pub set_use : up slots ≡ SlotSet
-  set_use = use_is SlotSet (up slots) (sym (U.set slots) ∙ itself slots)
+  set_use = has_use use_is U.told SlotSet slots (itself slots)
 
   -- And back.
-  pub has_owner : (i page : ℕ) → up page ≡ Owned i → HasOwner n owned i page
-  has_owner i page is =
-      let e = both (nat_lt i n) (is_owned (owned i) page) (U.owner i page ∙ ap (is_use (Owned i)) is ∙ itself i) in
-      let o = owned_tells (owned i) page e.1 in
-      record { there = among_tells i n e.0; owned_page = o.0; is = o.1; of_page = o.2 }
+  pub has_owner : (i page : ℕ) → up page ≡ Owned i → HeldAt OwnedPage (λ o. o.page) n owned i page
+  has_owner i page is = held_at (λ (o : OwnedPage). o.page) n owned i page (told_so use_is U.told page (Owned i) is (Owned i) ∙ itself i)
 
   pub has_leaver : (i page : ℕ) → up page ≡ OldSet i → (i < n) × (leaving i ≡ Some page)
   has_leaver i page is =
-      let e = both (nat_lt i n) (is_leaving (leaving i) page) (U.leaver i page ∙ ap (is_use (OldSet i)) is ∙ itself i) in
-      (among_tells i n e.0, leaving_tells (leaving i) page e.1)
+      let H = held_at (λ (k : ℕ). k) n leaving i page (told_so use_is U.told page (OldSet i) is (OldSet i) ∙ itself i) in (H.there, H.is ∙ ap Some H.of_number)
 
   -- A page that is something else than outside is one of the pool.
   pub in_pool : (k : ℕ) (u : Use) → up k ≡ u → is_use Outside u ≡ false → k < pages
-  in_pool k u is inside = within k (U.outside k ∙ ap (is_use Outside) is ∙ inside)
-    where
-      within : (l : ℕ) → nat_le pages l ≡ false → l < pages
-      within l e = grind (arith, nat_tests)
+  in_pool k u is inside = inside_tells k pages (told_so use_is U.told k u is Outside ∙ inside)
 
   pub owned_there : (i : ℕ) (o : OwnedPage) → i < n → owned i ≡ Some o → o.page < pages
   owned_there i o lt is = in_pool o.page (Owned i) (owned_use i o lt is) refl
@@ -107,12 +57,9 @@ module _ {n pages slots : ℕ} {map : ℕ → ℕ} {owned : ℕ → Option Owned
   pub slots_there : slots < pages
   slots_there = in_pool slots SlotSet set_use refl
 
-  pub free_there : (k : ℕ) → is_free map k ≡ true → k < pages
-  free_there k free = in_pool k Free (free_use k free) refl
-
   -- A page that is something else isn't free.
   pub not_free : (k : ℕ) (u : Use) → up k ≡ u → is_use Free u ≡ false → is_free map k ≡ false
-  not_free k u is used = U.free k ∙ ap (is_use Free) is ∙ used
+  not_free k u is used = told_so use_is U.told k u is Free ∙ used
 
   -- An owned page isn't free, is no table and isn't the published slot set.
   pub owned_not_free : (i : ℕ) (o : OwnedPage) → i < n → owned i ≡ Some o → is_free map o.page ≡ false

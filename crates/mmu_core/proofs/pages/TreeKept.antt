@@ -3,7 +3,6 @@ use Rattle.std.proofs.Common.{◌≡◌, ◌⊎◌, inl, inr, ◌+◌, ◌*◌, 
 use Rattle.std.specs.Prelude.{Bool, true, false, ◌-◌, ◌==◌, if◌then◌else◌, Some}
 use Rattle.core_views.specs.declared.sizes.Sizes.{Sizes}
 use Rattle.core_views.specs.declared.topics.Topics.{Topics}
-use Rattle.core_views.specs.Sizes.{actors_of}
 use Rattle.spte_words.specs.declared.area.Area.TheVariants as area
 use Rattle.spte_words.specs.declared.spte_kind.SpteKind.TheVariants as entry_kind
 use Rattle.spte_words.specs.Areas.{pool_index}
@@ -17,7 +16,6 @@ use Rattle.part_steps.specs.declared.part_step.PartStep.TheVariants as part
 use Rattle.part_steps.specs.PartTasks.{entry_index, is_absent, leaf_written, link_written, page_owned, table_page, word_looked}
 use Rattle.part_steps.specs.PartHoldings.{MayEnter}
 use Rattle.mmu_core.specs.invariant.PoolPart.{IsFilled}
-use Rattle.mmu_core.specs.invariant.SlotSetPart.{IsLiveIn}
 use Rattle.mmu_core.specs.invariant.TopicsInvariant.{TopicsInvariant}
 use Rattle.mmu_core.specs.invariant.TreePart.{EntryPart, IsLeafAt, Position, TreePart, Use, at, is_table, stands}
 use Rattle.mmu_core.specs.invariant.TreePart.Use.{Under}
@@ -25,7 +23,8 @@ use Rattle.mmu_core.specs.machine.View.{View, part_stepped, upd}
 use Rattle.mmu_core.proofs.pages.Owned.{OwnsWhole, table_owned}
 use Rattle.mmu_core.proofs.machine.PartStepping.{IsPart}
 use Rattle.mmu_core.proofs.words.PartWords.{HasOtherRole, IsElsewhere, areas_stay, page_stays, role_stays, left_elsewhere}
-use Rattle.mmu_core.proofs.pages.PoolPages.{left_no_table, owned_there, owned_use, table_not_owned, tells}
+use Rattle.mmu_core.proofs.machine.ColumnsTell.{tells}
+use Rattle.mmu_core.proofs.pages.PoolPages.{left_no_table, owned_there, owned_use, table_not_owned}
 use Rattle.mmu_core.proofs.pages.Standing.{entry_now, position_below, spot_after, up_after, upd_if}
 use Rattle.mmu_core.proofs.machine.SumsBelow.{upd_id}
 use Rattle.mmu_core.proofs.pages.TreePlaces.{link_stands}

@@ -18,7 +18,7 @@ use Rattle.mmu_core.proofs.machine.Columns.{at_upd, same_or, upd_other, upd_same
 use Rattle.mmu_core.proofs.machine.PartStepping.{IsPart}
 use Rattle.mmu_core.proofs.words.PoolBits.{page_free}
 use Rattle.mmu_core.proofs.pages.Owned.{owned_some, set_owned, table_owned}
-use Rattle.mmu_core.proofs.pages.PoolKept.{leaving_some}
+use Rattle.mmu_core.proofs.machine.ColumnsTell.{some_is}
 use Rattle.mmu_core.proofs.pages.PoolPages.{free_use, left_use, owned_use, set_use}
 use Rattle.mmu_core.proofs.pages.Standing.{entry_now, position_below, spot_after, spot_of, up_after, upd_if}
 use Rattle.mmu_core.proofs.pages.TreeStored.{TablesStay, all_stay, still_stands}
@@ -61,7 +61,7 @@ same_tables z v a part.Give S I never =
     one_turned I.up (page_owned (v.hand a).topics.owned) Free
     (ap (λ x. is_table (I.up (page_owned x))) o.1 ∙ ap is_table (owned_use I.uses a o.0 S.there o.1)) refl
 same_tables z v a part.GiveOld S I never =
-    let k = leaving_some (v.hand a).topics S.needs.leaves in
+    let k = some_is (v.hand a).topics.leaving S.needs.leaves in
     one_turned I.up (page_left (v.hand a).topics.leaving) Free
     (ap (λ x. is_table (I.up (page_left x))) k.1 ∙ ap is_table (left_use I.uses a k.0 S.there k.1)) refl
 same_tables z v a part.Publish S I never =

@@ -1,7 +1,7 @@
 -- At the start what holds of the machine's parts holds.
 use Rattle.std.proofs.Common.{◌≡◌, inl, ◌<◌, ◌%◌, ℕ, List, refl, sym, subst, ap, ◌∙◌, arith}
 use Rattle.std.proofs.lemmas.Bool.Decides.{nat_tests}
-use Rattle.std.specs.Prelude.{Bool, true, false, ◌==◌, ◌&&◌, nat_lt, Option, Some, None}
+use Rattle.std.specs.Prelude.{Bool, true, false, ◌==◌, nat_le, nat_lt, Option, Some, None}
 use Rattle.core_views.specs.declared.sizes.Sizes.{Sizes}
 use Rattle.core_views.specs.declared.topics.OwnedPage.{OwnedPage}
 use Rattle.core_views.specs.declared.topics.Topics.{Topics}
@@ -15,25 +15,26 @@ use Rattle.spte_words.proofs.ReadsEntries.{kind_of_absent}
 use Rattle.mmu_core.specs.invariant.LockPart.{SawWriter}
 use Rattle.mmu_core.specs.machine.Enabled.{mmu}
 use Rattle.part_steps.specs.PartBounds.{CountersPart}
+use Rattle.mmu_core.specs.invariant.AreUsed.{AreUsed}
 use Rattle.mmu_core.specs.invariant.FramesPart.{FramesPart, frame_looked}
 use Rattle.mmu_core.specs.invariant.HeldPart.{HeldPart, PathPart}
 use Rattle.mmu_core.specs.invariant.InvalidationsPart.{CheckedPart, CountPart, LoadedPart}
 use Rattle.mmu_core.specs.invariant.LockPart.{LockPart, is_shared, readers, sharers, writers}
 use Rattle.mmu_core.specs.machine.Machine.{World, hand_in}
 use Rattle.part_steps.specs.PartSteps.{IsAtRest, counts}
-use Rattle.mmu_core.specs.invariant.PoolPart.{UsePart, is_free, is_leaving, is_owned}
+use Rattle.mmu_core.specs.invariant.PoolPart.{UsePart, is_free, is_leaving, is_owned, is_use, page_told}
 use Rattle.mmu_core.specs.invariant.SearchPart.{LookPart, SearchPart}
 use Rattle.mmu_core.specs.invariant.StatesPart.{stay_bits}
 use Rattle.mmu_core.specs.machine.Sums.{one_if, sum_below}
 use Rattle.mmu_core.specs.invariant.TopicsInvariant.{TopicsInvariant}
 use Rattle.part_steps.specs.StayTopics.{is_alone}
-use Rattle.mmu_core.specs.invariant.TreePart.{Position, TreePart, stands}
-use Rattle.mmu_core.specs.invariant.TreePart.Use.{OldSet, Owned}
+use Rattle.mmu_core.specs.invariant.TreePart.{Position, TreePart, Use, stands}
+use Rattle.mmu_core.specs.invariant.TreePart.Use.{Free, OldSet, Outside, Owned, Root, SlotSet, Under}
 use Rattle.mmu_core.specs.machine.View.{view, word_in}
 use Rattle.mmu_core.specs.machine.Worlds.{AreStartWords, IsStart, free_bits}
 use Rattle.mmu_core.proofs.start.StartWords.{bits_behind, bits_below, bits_inside, frame_word, hand_is, map_word, pool_word, word_at_start}
 use Rattle.mmu_core.proofs.machine.SumsBelow.{sum_none}
-use Rattle.mmu_core.proofs.pages.PoolPages.{among_tells}
+use Rattle.mmu_core.proofs.machine.ColumnsTell.{at_none, is_outside, no_outside, other}
 use Rattle.mmu_core.specs.invariant.InvalidatedPart.{PassedPart}
 use Rattle.mmu_core.specs.invariant.InvalidationsPart.{KnownRangePart}
 use Rattle.mmu_core.specs.invariant.HostWordsPart.{HostWordsPart, IsHostWord}
@@ -42,7 +43,7 @@ use Rattle.spte_words.proofs.ReadsHost.{host_has_frame}
 use Rattle.mmu_core.proofs.words.HostStays.{is_word_of}
 use Rattle.core_views.specs.declared.topics.HostLook.{HostLook}
 use Rattle.mmu_core.proofs.start.StartFrames.{start_frames, start_use}
-use Rattle.mmu_core.proofs.start.StartPages.{never, none_under, only_zero, root_only, start_free, start_outside, start_set, start_spot, start_up}
+use Rattle.mmu_core.proofs.start.StartPages.{each_page, none_under, only_zero, root_only, start_spot, start_up}
 
 -- what actors hold of the parts: nothing
 topics_are : (z : Sizes) (lines : List Line) (w : World Held) (i : ℕ) → IsStart z lines w → i < actors_of z → (hand_in mmu w i).topics ≡ first_topics
@@ -90,26 +91,37 @@ slots_start z lines w start = word_at_start z w area.Slots 0 1 start.words (λ l
 
 uses_start : (z : Sizes) (lines : List Line) (w : World Held) → IsStart z lines w → UsePart (actors_of z) z.pool (word_in z w area.Slots 0)
     (word_in z w area.PoolMap) (λ i. (hand_in mmu w i).topics.owned) (λ i. (hand_in mmu w i).topics.leaving) (start_up z.pool)
-uses_start z lines w start = record {
-  free = λ k.
-      start_free z.pool k (is_free (word_in z w area.PoolMap) k) (λ low. bits_below (word_in z w area.PoolMap) 2 z.pool bits k low)
-      (λ high lt. bits_inside (word_in z w area.PoolMap) 2 z.pool bits k high lt) (λ le. bits_behind (word_in z w area.PoolMap) 2 z.pool bits k le);
-  owner = λ i k. owner i k (nat_lt i (actors_of z)) refl ∙ sym (never (Owned i) refl refl refl refl z.pool k);
-  set = λ k. ap (λ s. s == k) (slots_start z lines w start) ∙ start_set z.pool k;
-  leaver = λ i k. leaver i k (nat_lt i (actors_of z)) refl ∙ sym (never (OldSet i) refl refl refl refl z.pool k);
-  outside = λ k. start_outside z.pool k (omega (arith, start.sizes.pool.0));
-}
+uses_start z lines w start = record { told = by }
   where
     bits : (i : ℕ) → word_in z w area.PoolMap i ≡ free_bits 2 z.pool i
     bits i = map_word z w i start.sizes start.words
 
-    owner : (i k : ℕ) (b : Bool) → nat_lt i (actors_of z) ≡ b → (b && is_owned (hand_in mmu w i).topics.owned k) ≡ false
-    owner i k false is = refl
-    owner i k true is = ap (λ (t : Topics). is_owned t.owned k) (topics_are z lines w i start (among_tells i (actors_of z) is))
-
-    leaver : (i k : ℕ) (b : Bool) → nat_lt i (actors_of z) ≡ b → (b && is_leaving (hand_in mmu w i).topics.leaving k) ≡ false
-    leaver i k false is = refl
-    leaver i k true is = ap (λ (t : Topics). is_leaving t.leaving k) (topics_are z lines w i start (among_tells i (actors_of z) is))
+    by : AreUsed Use is_use (page_told (actors_of z) z.pool (word_in z w area.Slots 0) (word_in z w area.PoolMap) (λ i. (hand_in mmu w i).topics.owned)
+        (λ i. (hand_in mmu w i).topics.leaving) (start_up z.pool)) (start_up z.pool)
+    by Free k =
+        let map = word_in z w area.PoolMap in
+        each_page z.pool k (λ u. is_free map k ≡ is_use Free u) (λ e. bits_below map 2 z.pool bits k (omega (arith, e)))
+        (λ e. bits_below map 2 z.pool bits k (omega (arith, e))) (λ low lt. bits_inside map 2 z.pool bits k low lt)
+        (λ low le. bits_behind map 2 z.pool bits k le)
+    by (Owned i) k =
+        at_none is_owned (actors_of z) (λ i. (hand_in mmu w i).topics.owned) i k
+        (λ lt. ap (λ (t : Topics). is_owned t.owned k) (topics_are z lines w i start lt))
+        ∙ each_page z.pool k (λ u. false ≡ is_use (Owned i) u) (λ e. refl) (λ e. refl) (λ low lt. refl) (λ low le. refl)
+    by SlotSet k =
+        ap (λ s. s == k) (slots_start z lines w start)
+        ∙ each_page z.pool k (λ u. (1 == k) ≡ is_use SlotSet u) (λ e. ap (λ l. 1 == l) e) (λ e. ap (λ l. 1 == l) e)
+        (λ low lt. other 1 k (λ e. omega (arith, e, low)))
+        (λ low le. other 1 k (λ e. omega (arith, e, low)))
+    by (OldSet i) k =
+        at_none is_leaving (actors_of z) (λ i. (hand_in mmu w i).topics.leaving) i k
+        (λ lt. ap (λ (t : Topics). is_leaving t.leaving k) (topics_are z lines w i start lt))
+        ∙ each_page z.pool k (λ u. false ≡ is_use (OldSet i) u) (λ e. refl) (λ e. refl) (λ low lt. refl) (λ low le. refl)
+    by Outside k =
+        let two = start.sizes.pool.0 in
+        each_page z.pool k (λ u. nat_le z.pool k ≡ is_use Outside u) (λ e. no_outside k z.pool (omega (arith, e, two)))
+        (λ e. no_outside k z.pool (omega (arith, e, two))) (λ low lt. no_outside k z.pool lt) (λ low le. is_outside k z.pool le)
+    by Root k = refl
+    by (Under page entry) k = refl
 
 absent_is : 0 ≡ absent_word
 unfolding absent_word

@@ -158,6 +158,10 @@ part_behind a step note v =
     let t : Task = part_task step a (v.hand a).topics note in
     record { words = words_after t v.words; hand = upd v.hand a (part_hand step a note (v.hand a) (answer_in t v.words)) }
 
+-- the hand of the actor at place a then
+abbrev pub stepped_hand : ℕ → PartStep → ℕ → View → Held
+stepped_hand a step note v = part_hand step a note (v.hand a) (answer_in (part_task step a (v.hand a).topics note) v.words)
+
 -- The step makes of the words and hands what is written out above.
 pub is_there : (step : PartStep) (h : Held) → PartNeeds step h → IsThere h.state.sizes h.topics step
 is_there (part.Map word) h N = N.1

@@ -1,5 +1,5 @@
 -- The pages whose bits in the pool's map are set, where one bit of one word is cleared or set.
-use Rattle.std.proofs.Common.{◌≡◌, ◌≢◌, ◌⊎◌, inl, inr, ◌+◌, ◌*◌, ◌/◌, ◌%◌, ◌^◌, ◌<◌, ℕ, sym, subst, ap, ◌∙◌, arith, bit_and, bit_or, w64}
+use Rattle.std.proofs.Common.{◌≡◌, ◌≢◌, ◌⊎◌, inl, inr, ◌+◌, ◌*◌, ◌/◌, ◌%◌, ◌^◌, ◌<◌, ℕ, refl, sym, subst, ap, ◌∙◌, arith, bit_and, bit_or, w64}
 use Rattle.std.specs.Prelude.{Bool, true, false, ◌==◌}
 use Rattle.std.specs.Int.{bit_not}
 use Rattle.std.proofs.lemmas.Nat.{one_shl}
@@ -7,7 +7,7 @@ use Rattle.std.proofs.lemmas.Nat.Bits.{bit_at_set_same, bit_at_set_other, bit_at
 use Rattle.spte_words.specs.Bits.{has_bit}
 use Rattle.mmu_core.specs.invariant.PoolPart.{is_free}
 use Rattle.mmu_core.specs.machine.View.{upd}
-use Rattle.mmu_core.proofs.machine.Columns.{same_or, upd_other, upd_same}
+use Rattle.mmu_core.proofs.machine.Columns.{at_upd, same_or, upd_other, upd_same}
 
 -- a word with the bit at place j cleared, and with it set
 pub clears_bit : (w j i : ℕ) → j < 64 → i < 64 → has_bit i (bit_and w (bit_not w64 (2 ^ j))) ≡ upd (λ k. has_bit k w) j false i
@@ -65,3 +65,12 @@ free_cleared map i j jl = free_stored map i j (bit_and (map i) (bit_not w64 (2 ^
 
 pub free_set : (map : ℕ → ℕ) (i j : ℕ) → j < 64 → (k : ℕ) → is_free (upd map i (bit_or (map i) (2 ^ j))) k ≡ upd (is_free map) (64 * i + j) true k
 free_set map i j jl = free_stored map i j (bit_or (map i) (2 ^ j)) true jl (λ k lt. sets_bit (map i) j k jl)
+
+-- A bit that is cleared and wasn't set leaves each page, and one that is set frees its page.
+pub free_unclaimed : (map : ℕ → ℕ) (i j : ℕ) → j < 64 → has_bit j (map i) ≡ false → (k : ℕ)
+    → is_free (upd map i (bit_and (map i) (bit_not w64 (2 ^ j)))) k ≡ is_free map k
+free_unclaimed map i j jl none k =
+    free_cleared map i j jl k ∙ at_upd (λ l b. b ≡ is_free map l) (is_free map) (64 * i + j) false (sym (page_free map i j jl ∙ none)) (λ l apart. refl) k
+
+pub free_given : (map : ℕ → ℕ) (i j p : ℕ) → j < 64 → 64 * i + j ≡ p → (k : ℕ) → is_free (upd map i (bit_or (map i) (2 ^ j))) k ≡ upd (is_free map) p true k
+free_given map i j p jl at k = free_set map i j jl k ∙ ap (λ q. upd (is_free map) q true k) at

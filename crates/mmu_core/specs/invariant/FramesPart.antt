@@ -1,6 +1,6 @@
 -- The frames of the host: what each of them is used for, and at which of them actors have looked in their sections; and what an actor has copied of a page that
 -- it moves (page_migration.rst).
-use Rattle.std.specs.Prelude.{◌≡◌, ◌+◌, ◌*◌, ◌<◌, ℕ, Bool, true, false, ◌==◌, ◌&&◌, nat_le, nat_lt, Option, Some, None}
+use Rattle.std.specs.Prelude.{◌≡◌, ◌+◌, ◌*◌, ◌<◌, ℕ, Bool, true, false, ◌==◌, nat_le, Option, Some, None}
 use Rattle.core_views.specs.declared.sizes.Sizes.{Sizes}
 use Rattle.core_views.specs.declared.topics.HostLook.{HostLook}
 use Rattle.core_views.specs.declared.topics.OwnedFrame.{OwnedFrame}
@@ -9,6 +9,7 @@ use Rattle.core_views.specs.declared.topics.Stay.TheVariants.{Section}
 use Rattle.core_views.specs.declared.topics.Topics.{Topics}
 use Rattle.spte_words.specs.HostWords.{host_frame}
 use Rattle.part_steps.specs.PartTasks.{word_looked}
+use Rattle.mmu_core.specs.invariant.AreUsed.{AreUsed, has_at, is_number}
 use Rattle.mmu_core.specs.invariant.HeldPart.{HeldStill}
 use Rattle.mmu_core.specs.invariant.PoolPart.{is_free}
 
@@ -26,26 +27,33 @@ is_frame_use (FrameUse.Page p) (FrameUse.Page q) = p == q
 is_frame_use (FrameUse.Owned i) (FrameUse.Owned j) = i == j
 is_frame_use _ _ = false
 
+-- The host word names the frame.
+abbrev pub is_in : ℕ → ℕ → Bool
+is_in word frame = host_frame word == frame
+
 -- The host page, of so many, names the frame.
 abbrev pub names : ℕ → (ℕ → ℕ) → ℕ → ℕ → Bool
-names pages host page frame = nat_lt page pages && (host_frame (host page) == frame)
+names pages host page frame = has_at is_in pages host page frame
+
+-- The frame is the one that is owned.
+abbrev pub is_frame_of : Option OwnedFrame → ℕ → Bool
+is_frame_of owned frame = is_number (λ (o : OwnedFrame). o.frame) owned frame
 
 -- The actor at place i, of n, owns the frame.
-abbrev pub is_frame_of : Option OwnedFrame → ℕ → Bool
-is_frame_of None frame = false
-is_frame_of (Some o) frame = o.frame == frame
-
 abbrev pub owns_frame : ℕ → (ℕ → Option OwnedFrame) → ℕ → ℕ → Bool
-owns_frame n owned i frame = nat_lt i n && is_frame_of (owned i) frame
+owns_frame n owned i frame = has_at is_frame_of n owned i frame
 
--- Of each number `use_of` says what the frame is. It is free exactly where its bit in the map of frames is set; a page's exactly where the page names it; an
--- actor's exactly where the actor owns it; and outside of the machine exactly from the end of its frames on. So each frame is exactly one of these, and no two
--- pages have one frame.
+-- What tells that a frame has a use. It is free where its bit in the map of frames is set; a page's where the page names it; an actor's where the actor owns
+-- it; and outside of the machine from the end of its frames on. So no two pages have one frame.
+abbrev pub frame_told : Sizes → ℕ → (ℕ → ℕ) → (ℕ → ℕ) → (ℕ → Option OwnedFrame) → FrameUse → ℕ → Bool
+frame_told z n map host owned FrameUse.Free frame = is_free map frame
+frame_told z n map host owned (FrameUse.Page page) frame = names z.pages host page frame
+frame_told z n map host owned (FrameUse.Owned i) frame = owns_frame n owned i frame
+frame_told z n map host owned FrameUse.Outside frame = nat_le z.frames frame
+
+-- What each frame is used for, as `use_of` says: each has exactly one use.
 pub record FramesPart (z : Sizes) (n : ℕ) (map host : ℕ → ℕ) (owned : ℕ → Option OwnedFrame) (use_of : ℕ → FrameUse) : Type 0 where
-  pub free : (frame : ℕ) → is_free map frame ≡ is_frame_use FrameUse.Free (use_of frame)
-  pub named : (page frame : ℕ) → names z.pages host page frame ≡ is_frame_use (FrameUse.Page page) (use_of frame)
-  pub owner : (i frame : ℕ) → owns_frame n owned i frame ≡ is_frame_use (FrameUse.Owned i) (use_of frame)
-  pub outside : (frame : ℕ) → nat_le z.frames frame ≡ is_frame_use FrameUse.Outside (use_of frame)
+  pub told : AreUsed FrameUse is_frame_use (frame_told z n map host owned) use_of
 
 -- the frame at which an actor has looked at a host page, in the section that it is in
 abbrev pub frame_looked : Option HostLook → Stay → Option ℕ

@@ -1,8 +1,9 @@
 -- Pool pages: what each of them is.
-use Rattle.std.specs.Prelude.{◌≡◌, ◌<◌, ◌≤◌, ◌/◌, ◌%◌, ℕ, Bool, true, false, ◌==◌, ◌&&◌, nat_le, nat_lt, Option, Some, None}
+use Rattle.std.specs.Prelude.{◌≡◌, ◌<◌, ◌≤◌, ◌/◌, ◌%◌, ℕ, Bool, true, false, ◌==◌, ◌&&◌, nat_le, Option, Some}
 use Rattle.core_views.specs.declared.topics.OwnedPage.{OwnedPage}
 use Rattle.spte_words.specs.Areas.{pool_index}
 use Rattle.spte_words.specs.Bits.{has_bit}
+use Rattle.mmu_core.specs.invariant.AreUsed.{AreUsed, has_at, is_number}
 use Rattle.mmu_core.specs.invariant.TreePart.{Use}
 use Rattle.mmu_core.specs.invariant.TreePart.Use.{Free, Root, SlotSet, Outside, Owned, Under, OldSet}
 
@@ -10,22 +11,21 @@ use Rattle.mmu_core.specs.invariant.TreePart.Use.{Free, Root, SlotSet, Outside, 
 abbrev pub is_free : (ℕ → ℕ) → ℕ → Bool
 is_free map k = has_bit (k % 64) (map (k / 64))
 
+-- The page is the one that is owned.
 abbrev pub is_owned : Option OwnedPage → ℕ → Bool
-is_owned None k = false
-is_owned (Some o) k = o.page == k
+is_owned owned k = is_number (λ (o : OwnedPage). o.page) owned k
 
 -- The actor at place i, of n, owns the page.
 abbrev pub owns : ℕ → (ℕ → Option OwnedPage) → ℕ → ℕ → Bool
-owns n owned i k = nat_lt i n && is_owned (owned i) k
+owns n owned i k = has_at is_owned n owned i k
 
 -- The page is the one that leaves.
 abbrev pub is_leaving : Option ℕ → ℕ → Bool
-is_leaving None k = false
-is_leaving (Some page) k = page == k
+is_leaving leaving k = is_number (λ (page : ℕ). page) leaving k
 
 -- The page leaves for the actor at place i, of n.
 abbrev pub leaves : ℕ → (ℕ → Option ℕ) → ℕ → ℕ → Bool
-leaves n leaving i k = nat_lt i n && is_leaving (leaving i) k
+leaves n leaving i k = has_at is_leaving n leaving i k
 
 -- Two uses are one.
 abbrev pub is_use : Use → Use → Bool
@@ -38,15 +38,20 @@ is_use (Under k i) (Under l j) = (k == l) && (i == j)
 is_use (OldSet i) (OldSet j) = i == j
 is_use _ _ = false
 
--- Of each number `up` says what the page is. A page is free exactly where its bit in the map is set; an actor's exactly where the actor owns it;
--- the slot set exactly where it is the published one; an old slot set of an actor exactly where it leaves for this actor; and outside of the
--- pool exactly from the pool's end on. All others are tables. So each page is exactly one of these.
+-- What tells that a page has a use. It is free where its bit in the map is set; an actor's where the actor owns it; the slot set where it is the published one;
+-- an old slot set of an actor where it leaves for this actor; and outside of the pool from the pool's end on. All others are tables: the tree tells which.
+abbrev pub page_told : ℕ → ℕ → ℕ → (ℕ → ℕ) → (ℕ → Option OwnedPage) → (ℕ → Option ℕ) → (ℕ → Use) → Use → ℕ → Bool
+page_told n pages slots map owned leaving up Free k = is_free map k
+page_told n pages slots map owned leaving up (Owned i) k = owns n owned i k
+page_told n pages slots map owned leaving up SlotSet k = slots == k
+page_told n pages slots map owned leaving up (OldSet i) k = leaves n leaving i k
+page_told n pages slots map owned leaving up Outside k = nat_le pages k
+page_told n pages slots map owned leaving up Root k = is_use Root (up k)
+page_told n pages slots map owned leaving up (Under page entry) k = is_use (Under page entry) (up k)
+
+-- What each page is used for, as `up` says: each has exactly one use.
 pub record UsePart (n pages slots : ℕ) (map : ℕ → ℕ) (owned : ℕ → Option OwnedPage) (leaving : ℕ → Option ℕ) (up : ℕ → Use) : Type 0 where
-  pub free : (k : ℕ) → is_free map k ≡ is_use Free (up k)
-  pub owner : (i k : ℕ) → owns n owned i k ≡ is_use (Owned i) (up k)
-  pub set : (k : ℕ) → (slots == k) ≡ is_use SlotSet (up k)
-  pub leaver : (i k : ℕ) → leaves n leaving i k ≡ is_use (OldSet i) (up k)
-  pub outside : (k : ℕ) → nat_le pages k ≡ is_use Outside (up k)
+  pub told : AreUsed Use is_use (page_told n pages slots map owned leaving up) up
 
 -- What an owner has filled: 512 words and the role at most; where it says that all are 0 they are; and the role is what it says.
 pub record IsFilled (role pool : ℕ → ℕ) (o : OwnedPage) : Type 0 where

@@ -1,7 +1,6 @@
 -- A line that moves its page while all other actors rest takes the lowest frame that no page names; and it is refused one only where each frame is a page's.
 use Rattle.std.proofs.Common.{◌≡◌, ◌≢◌, ◌⊎◌, inl, inr, ◌/◌, ◌%◌, ◌<◌, ℕ, List, [], ◌∷◌, ◌++◌, refl, sym, subst, ap, ◌∙◌, arith}
-use Rattle.std.specs.Prelude.{Bool, true, false, ◌==◌, nat_le, if◌then◌else◌, Option, Some, None, is_some}
-use Rattle.std.proofs.lemmas.Bool.Decides.{nat_tests}
+use Rattle.std.specs.Prelude.{Bool, true, false, ◌==◌, if◌then◌else◌, Option, Some, None, is_some}
 use Rattle.std.proofs.lemmas.Nat.Bits.{bit_at-zero}
 use Rattle.core_views.specs.declared.actor.Actor.{Actor}
 use Rattle.core_views.specs.declared.answer.Answer.TheVariants.{Refused}
@@ -43,7 +42,7 @@ use Rattle.mmu_core.specs.declared.claim.ClaimNext.{ClaimNext}
 use Rattle.mmu_core.specs.declared.claim.ClaimNext.TheVariants as claims
 use Rattle.mmu_core.specs.declared.outcome.Outcome.{Outcome}
 use Rattle.mmu_core.specs.declared.outcome.Outcome.TheVariants.{Ends}
-use Rattle.mmu_core.specs.invariant.FramesPart.{FrameUse, is_frame_use}
+use Rattle.mmu_core.specs.invariant.FramesPart.{FrameUse}
 use Rattle.mmu_core.specs.invariant.Laws.{IsSound}
 use Rattle.mmu_core.specs.invariant.PoolPart.{is_free}
 use Rattle.mmu_core.specs.lines.AccessSteps.{exiting}
@@ -61,9 +60,11 @@ use Rattle.mmu_core.specs.machine.View.{view, word_in}
 use Rattle.mmu_core.specs.machine.Worlds.{IsStart, history}
 use Rattle.mmu_core.proofs.lines.KnowsKept.{knows_at}
 use Rattle.mmu_core.proofs.machine.Columns.{same_or}
+use Rattle.mmu_core.proofs.machine.ColumnsTell.{outside_tells}
 use Rattle.mmu_core.proofs.machine.LineRuns.{history_one_more, legal_one_more, run_one_more, told_last}
 use Rattle.mmu_core.proofs.machine.Which.{events_of_line, has_line_is}
-use Rattle.mmu_core.proofs.pages.FrameUses.{has_frame_owner, has_page, owned_frame_there, owned_of_no_page}
+use Rattle.mmu_core.proofs.pages.FrameUses.{frame_use_is, has_frame_owner, has_page, owned_frame_there, owned_of_no_page}
+use Rattle.mmu_core.proofs.pages.Uses.{told_so}
 use Rattle.mmu_core.proofs.words.HostStays.{moved_frame}
 use Rattle.mmu_laws.specs.flat.FlatInvariant.{FlatInvariant, UnderIs}
 use Rattle.mmu_laws.proofs.alone.AloneRuns.{steps_alone}
@@ -86,18 +87,17 @@ module _ (z : Sizes) (w : World Held) (mapped : HostMap) (sound : IsSound z w)
       → ((i : ℕ) (o : OwnedFrame) → i < actors_of z → owned i ≡ Some o → o.frame ≢ frame) → is_taken z.pages mapped frame ≡ true
   of_page frame lt taken none = by (sound.topics.use_of frame) refl
     where
-      inside : nat_le z.frames frame ≡ true → ⊥
-      inside out = absurd (grind (arith, nat_tests))
-
       by : (u : FrameUse) → sound.topics.use_of frame ≡ u → is_taken z.pages mapped frame ≡ true
       by FrameUse.Free is =
-          let free : is_free map frame ≡ true = sound.topics.frames.free frame ∙ ap (is_frame_use FrameUse.Free) is in absurd (cc (free, taken))
-      by FrameUse.Outside is = absurd (inside (sound.topics.frames.outside frame ∙ ap (is_frame_use FrameUse.Outside) is))
+          let free : is_free map frame ≡ true = told_so frame_use_is sound.topics.frames.told frame FrameUse.Free is FrameUse.Free in absurd (cc (free, taken))
+      by FrameUse.Outside is =
+          let out = outside_tells frame z.frames (told_so frame_use_is sound.topics.frames.told frame FrameUse.Outside is FrameUse.Outside) in
+          absurd (omega (arith, out, lt))
       by (FrameUse.Page p) is =
           let P = has_page sound.topics.frames p frame is in
           taken_by z.pages mapped p frame P.0 (ap (λ (e : HostEntry). e.frame) (maps p P.0) ∙ P.1)
       by (FrameUse.Owned i) is =
-          let O = has_frame_owner sound.topics.frames i frame is in absurd (none i O.owned_frame O.there O.is O.of_frame)
+          let O = has_frame_owner sound.topics.frames i frame is in absurd (none i O.held O.there O.is O.of_number)
 
   -- Where all actors rest, and each word of the map is 0, each frame is a page's.
   no_frame_left : AllRest w → NoneFreeBefore map (words_of_bits z.frames) → lowest_free z mapped ≡ None

@@ -33,7 +33,7 @@ use Rattle.mmu_core.specs.lines.HostKnows.{HostKnows, is_move}
 use Rattle.mmu_core.specs.lines.HostSteps.{entry_of, host_part, word_put}
 use Rattle.mmu_core.specs.machine.View.{View, words_after}
 use Rattle.mmu_core.proofs.held.CopiedSteps.{CopiedAt}
-use Rattle.mmu_core.proofs.pages.FramesKept.{frame_some}
+use Rattle.mmu_core.proofs.machine.ColumnsTell.{some_is}
 use Rattle.mmu_core.proofs.lines.HostMakes.{change_finds}
 use Rattle.mmu_core.proofs.machine.PartStepping.{IsPart}
 use Rattle.mmu_core.proofs.machine.Stepping.{IsStep}
@@ -76,7 +76,7 @@ module _ (z : Sizes) (v : View) (a : ℕ) (line : Line) (page : ℕ) (change : H
   frame = frame_owned h.topics.frames.owned
 
   owns : HostKnows Change page change h → is_move change ≡ true → (o : OwnedFrame) × (h.topics.frames.owned ≡ Some o)
-  owns K moves = frame_some h.topics.frames.owned (K.2.owns ∙ moves)
+  owns K moves = some_is h.topics.frames.owned (K.2.owns ∙ moves)
 
   -- Where the page is moved, the frame is one of the machine's that no page names.
   frame_free : HostKnows Change page change h → a < actors_of z → TopicsInvariant z v → ReadyHere → is_move change ≡ true

@@ -15,7 +15,7 @@ use Rattle.mmu_core.specs.machine.Enabled.{mmu}
 use Rattle.mmu_laws.specs.pool.Enough.{EachTableIsWanted, EnoughPages, IsWantedTable, TablesAreForTheirRuns, some_line_wants}
 use Rattle.mmu_core.specs.invariant.Laws.{IsSound}
 use Rattle.mmu_core.specs.machine.Machine.{Legal, Step, World, run}
-use Rattle.mmu_core.specs.invariant.PoolPart.{UsePart, is_free, is_leaving, is_owned, is_use}
+use Rattle.mmu_core.specs.invariant.PoolPart.{UsePart, is_free, is_leaving, is_owned}
 use Rattle.mmu_core.specs.machine.Sums.{one_if, sum_below}
 use Rattle.mmu_core.specs.invariant.TreePart.{Position, TreePart, Use, at, stands}
 use Rattle.mmu_core.specs.invariant.TreePart.Use.{Free, OldSet, Outside, Owned, Root, SlotSet, Under}
@@ -29,7 +29,9 @@ use Rattle.mmu_core.proofs.start.Starts.{start_good}
 use Rattle.mmu_core.proofs.machine.SumsBelow.{sum_mono}
 use Rattle.mmu_core.proofs.machine.Worlds.{good_run}
 use Rattle.mmu_laws.proofs.pool.Leavers.{is_old, one_left, one_number}
-use Rattle.mmu_core.proofs.pages.PoolPages.{has_leaver, has_owner, itself, no_outside, tells}
+use Rattle.mmu_core.proofs.machine.ColumnsTell.{at_none, itself, no_outside, tells}
+use Rattle.mmu_core.proofs.pages.PoolPages.{has_owner, use_is}
+use Rattle.mmu_core.proofs.pages.Uses.{told_so}
 use Rattle.mmu_core.proofs.pages.Standing.{at_spot}
 use Rattle.mmu_core.proofs.pages.TreePlaces.{all_reached, one_place, root_stands, same_position}
 
@@ -151,7 +153,7 @@ module _ {n pages slots : ℕ} {map : ℕ → ℕ} {owned : ℕ → Option Owned
     (U : UsePart n pages slots map owned leaving up) (spot : ℕ → Position) (none : (i : ℕ) → i < n → owned i ≡ None) where
   is_one : (k : ℕ) → k < pages → (u : Use) → up k ≡ u
       → 1 ≤ one_if (is_free map k) + (one_if (is_some (stands up spot k)) + (one_if (slots == k) + one_if (is_old (up k))))
-  is_one k lt Free is = let free : one_if (is_free map k) ≡ 1 = ap one_if (U.free k) ∙ ap (λ u. one_if (is_use Free u)) is in omega (arith, free)
+  is_one k lt Free is = let free : one_if (is_free map k) ≡ 1 = ap one_if (told_so use_is U.told k Free is Free) in omega (arith, free)
   is_one k lt Root is =
       let table : one_if (is_some (stands up spot k)) ≡ 1 = ap (λ (x : Option Position). one_if (is_some x)) (at_spot up spot k Root is refl) in
       omega (arith, table)
@@ -159,10 +161,10 @@ module _ {n pages slots : ℕ} {map : ℕ → ℕ} {owned : ℕ → Option Owned
       let table : one_if (is_some (stands up spot k)) ≡ 1 =
       ap (λ (x : Option Position). one_if (is_some x)) (at_spot up spot k (Under page entry) is refl) in
       omega (arith, table)
-  is_one k lt SlotSet is = let set : one_if (slots == k) ≡ 1 = ap one_if (U.set k) ∙ ap (λ u. one_if (is_use SlotSet u)) is in omega (arith, set)
+  is_one k lt SlotSet is = let set : one_if (slots == k) ≡ 1 = ap one_if (told_so use_is U.told k SlotSet is SlotSet) in omega (arith, set)
   is_one k lt (OldSet i) is = let old : one_if (is_old (up k)) ≡ 1 = ap (λ u. one_if (is_old u)) is in omega (arith, old)
   is_one k lt (Owned i) is = let O = has_owner U i k is in let owns_none = none i O.there in let owns_one = O.is in absurd (cc (owns_none, owns_one))
-  is_one k lt Outside is = absurd (let inside = no_outside k pages lt in let outside = U.outside k ∙ ap (is_use Outside) is in cc (inside, outside))
+  is_one k lt Outside is = absurd (let inside = no_outside k pages lt in let outside = told_so use_is U.told k Outside is Outside in cc (inside, outside))
 
   free_or_not : pages ≤ sum_below pages (λ k. one_if (is_free map k)) + (sum_below pages (λ k. one_if (is_some (stands up spot k)))
       + (sum_below pages (λ k. one_if (slots == k)) + sum_below pages (λ k. one_if (is_old (up k)))))
@@ -176,9 +178,6 @@ module _ {n pages slots : ℕ} {map : ℕ → ℕ} {owned : ℕ → Option Owned
       omega (arith, each, a, b, c)
 
 -- A page that isn't free, owned, leaving or the slot set is a table.
-no_use : (k l : ℕ) → (k == l) ≡ true → l ≢ k → ⊥
-no_use k l is ne = ne (sym (tells k l is))
-
 module _ {n pages slots : ℕ} {map : ℕ → ℕ} {owned : ℕ → Option OwnedPage} {leaving : ℕ → Option ℕ} {up : ℕ → Use}
     (U : UsePart n pages slots map owned leaving up) (spot : ℕ → Position) (k : ℕ) where
   is_table_there : k < pages → is_free map k ≡ false → ((i : ℕ) → i < n → is_owned (owned i) k ≡ false)
@@ -188,15 +187,15 @@ module _ {n pages slots : ℕ} {map : ℕ → ℕ} {owned : ℕ → Option Owned
       by : (u : Use) → up k ≡ u → (p : Position) × (stands up spot k ≡ Some p)
       by Root is = (spot k, at_spot up spot k Root is refl)
       by (Under page entry) is = (spot k, at_spot up spot k (Under page entry) is refl)
-      by Free is = absurd (let free = U.free k ∙ ap (is_use Free) is in cc (free, taken))
-      by SlotSet is = absurd (no_use slots k (U.set k ∙ ap (is_use SlotSet) is) ne)
-      by Outside is = absurd (let inside = no_outside k pages lt in let outside = U.outside k ∙ ap (is_use Outside) is in cc (inside, outside))
+      by Free is = absurd (let free = told_so use_is U.told k Free is Free in cc (free, taken))
+      by SlotSet is = absurd (ne (sym (tells slots k (told_so use_is U.told k SlotSet is SlotSet))))
+      by Outside is = absurd (let inside = no_outside k pages lt in let outside = told_so use_is U.told k Outside is Outside in cc (inside, outside))
       by (Owned i) is =
-          absurd (let O = has_owner U i k is in let owns_it = ap (λ o. is_owned o k) O.is ∙ ap (λ p. p == k) O.of_page ∙ itself k in
-          let owns_none = none i O.there in cc (owns_it, owns_none))
+          absurd (let owns_it = told_so use_is U.told k (Owned i) is (Owned i) ∙ itself i in
+          let owns_none = at_none is_owned n owned i k (none i) in cc (owns_it, owns_none))
       by (OldSet i) is =
-          absurd (let L = has_leaver U i k is in let leaves_it = ap (λ o. is_leaving o k) L.1 ∙ itself k in let leaves_none = stays i L.0 in
-          cc (leaves_it, leaves_none))
+          absurd (let leaves_it = told_so use_is U.told k (OldSet i) is (OldSet i) ∙ itself i in
+          let leaves_none = at_none is_leaving n leaving i k (stays i) in cc (leaves_it, leaves_none))
 
 -- what is known of each table after a list of steps, in any account of the pages
 wanted_after : (h : Header) (lines : List Line) (w : World Held) (ss : List (Step Kind)) → IsStart (sizes_of h) lines w → Legal mmu w ss

@@ -31,6 +31,7 @@ use Rattle.mmu_core.specs.lines.ScanPlaces.{claim_at, ends_with_claim}
 use Rattle.mmu_core.specs.machine.Enabled.{Enabled}
 use Rattle.mmu_core.specs.machine.Steps.{has_line, place_at, task_at}
 use Rattle.mmu_core.specs.machine.Turns.{line_of, outcome_of}
+use Rattle.mmu_core.proofs.machine.ColumnsTell.{some_is}
 use Rattle.mmu_core.proofs.invariant.QuietKept.{touched}
 use Rattle.mmu_core.proofs.lines.ByStep.{step_needs}
 use Rattle.mmu_core.proofs.lines.ClaimMade.{ClaimMade, claim_made}
@@ -64,13 +65,9 @@ claims_there : (map : FreeMap) (p : Place) → ends_with_claim map p ≡ true �
 claims_there map (place.Access p) e = absurd (cc e)
 claims_there map p e = e
 
-some_begun : (o : Option Bool) → is_some o ≡ true → (b : Bool) × (o ≡ Some b)
-some_begun None some = absurd (cc some)
-some_begun (Some b) some = (b, refl)
-
 one_map : (p : Place) (map other : FreeMap) (begun : Bool) → claim_at map p ≡ Some begun → ends_with_claim other p ≡ true → other ≡ map
 one_map p map other begun at ends =
-    let there = some_begun (claim_at other p) (claims_there other p ends) in
+    let there = some_is (claim_at other p) (claims_there other p ends) in
     one_claim p other map there.0 begun there.1 at
 
 -- ---- a claim with which its line may end
