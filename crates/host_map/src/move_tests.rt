@@ -6,7 +6,7 @@ ghost use Rattle.core_views.specs.declared.trace.Op.TheVariants.{Write};
 ghost use Rattle.core_views.specs.Traces.{IsTrace};
 
 use crate::tests::{
-    access_line, change_to, expect_actor, go_to, header, host_line, is_next, run, slot_line,
+    access_line, change_to, expect_actor, go_to, header, host_line, is_next, run_all, slot_line,
 };
 use crate::{Changed, copy, frame_give, store};
 use core_views::{Actor, HostChange, Line, Lines, NoMemory, Op, OwnedFrame, Trace};
@@ -93,6 +93,29 @@ fn owned(frame: u64, filled: u64, copied: Option<u64>) -> Option<OwnedFrame> {
     })
 }
 
+// Gives the frame back that h0 owns: what it owned, whether it gave it, and what it owns then.
+fn given(
+    machine: &mut PlainMachine,
+) -> Result<(Option<OwnedFrame>, bool, Option<OwnedFrame>), Fail> {
+    expect_actor(machine, Actor::Host(0))?;
+    let mut seat = machine.as_actor(Actor::Host(0));
+    let had = seat.hand().topics().frames.owned;
+    let gave = give_next(&mut seat)?;
+    Ok((had, gave, seat.hand().topics().frames.owned))
+}
+
+// How many words the machine has at its end, and which of these differ, by index and value.
+fn first_other(machine: PlainMachine, all: &[(usize, u64)]) -> (usize, Option<usize>) {
+    let closing = machine.into_closing();
+    let words = closing.words.as_slice();
+    for (index, word) in all {
+        if words.get(*index).copied() != Some(*word) {
+            return (words.len(), Some(*index));
+        }
+    }
+    (words.len(), None)
+}
+
 // The words of page 66 are copied from frame 66 to frame 70, the page is moved there, and
 // frame 66 is free then.
 #[test]
@@ -100,36 +123,24 @@ fn moves_a_page(rt: HostRuntime) -> Result<(), Fail> {
     let alloc = rt.alloc();
     let trace = trace(alloc, access_line(3, 0, Op::Write(77)))?;
     let mut machine = PlainMachine::new(alloc, &trace)?;
-    for actor in [Actor::Manager, Actor::Vcpu(0)] {
-        expect_actor(&machine, actor)?;
-        let mut seat = machine.as_actor(actor);
-        run(&mut seat)?;
-        run(&mut seat)?;
-        run(&mut seat)?;
-        drop(seat);
+    run_all(&mut machine, Actor::Manager)?;
+    run_all(&mut machine, Actor::Vcpu(0))?;
+    for (word, value) in [(0, 0), (1, 77)] {
+        let read = (Some(value), owned(70, word, Some(value)));
+        assert_eq!(rt; copied(&mut machine, 2 * 66 + word)?, read);
+        let filled = (true, owned(70, word + 1, None));
+        assert_eq!(rt; stored(&mut machine, 2 * 70 + word)?, filled);
     }
-    let first = (Some(0), owned(70, 0, Some(0)));
-    assert_eq!(rt; copied(&mut machine, 2 * 66)?, first);
-    assert_eq!(rt; stored(&mut machine, 2 * 70)?, (true, owned(70, 1, None)));
-    let second = (Some(77), owned(70, 1, Some(77)));
-    assert_eq!(rt; copied(&mut machine, 2 * 66 + 1)?, second);
-    let all = (true, owned(70, 2, None));
-    assert_eq!(rt; stored(&mut machine, 2 * 70 + 1)?, all);
     assert_eq!(rt; change_to(&mut machine, MOVED)?, Some(Changed::Set));
-    expect_actor(&machine, Actor::Host(0))?;
-    let mut seat = machine.as_actor(Actor::Host(0));
-    assert_eq!(rt; seat.hand().topics().frames.owned, owned(66, 0, None));
-    assert!(rt; give_next(&mut seat)?);
-    assert_eq!(rt; seat.hand().topics().frames.owned, None);
-    drop(seat);
-    let closing = machine.into_closing();
-    let words = closing.words.as_slice();
-    assert_eq!(rt; words.len(), 4452);
+    assert_eq!(rt; given(&mut machine)?, (owned(66, 0, None), true, None));
     // frames 64 to 127 are word 14, and the contents begin at word 4,192
-    assert_eq!(rt; words[14], 0xffff_ffff_ffff_ff84);
-    assert_eq!(rt; words[18 + 66], MOVED);
-    assert_eq!(rt; words[4192 + 2 * 70], 0);
-    assert_eq!(rt; words[4192 + 2 * 70 + 1], 77);
-    assert_eq!(rt; words[4192 + 2 * 66 + 1], 77);
+    let all = [
+        (14, 0xffff_ffff_ffff_ff84),
+        (18 + 66, MOVED),
+        (4192 + 2 * 70, 0),
+        (4192 + 2 * 70 + 1, 77),
+        (4192 + 2 * 66 + 1, 77),
+    ];
+    assert_eq!(rt; first_other(machine, &all), (4452, None));
     Ok(())
 }

@@ -91,7 +91,7 @@ pub(crate) fn host_line(number: u32, change: HostChange) -> Line
 
 // Makes the steps of the seat's lines until none is left.
 pub(crate) fn run<S: Stepper>(seat: &mut S) -> Result<(), NoMemory> {
-    for _ in 0..600 {
+    for _ in 0..2000 {
         seat.reserve()?;
         let hand = seat.hand();
         if hand.next_line().is_none() {
@@ -235,6 +235,19 @@ fn absent_trace(alloc: Global) -> Result<Trace, NoMemory>
     ))
 }
 
+// Looks at this host page, if it may: the word that is there, and what the hand holds then.
+fn looked<S: Stepper>(
+    seat: &mut S,
+    page: u64,
+) -> Result<Option<(u64, Option<HostLook>)>, NoMemory> {
+    seat.reserve()?;
+    if !allows(seat.hand(), PartStep::Host(page), 0) {
+        return Ok(None);
+    }
+    let word = look(seat, page, 0);
+    Ok(Some((word, seat.hand().topics().host)))
+}
+
 // Each page is at the frame of its own number at first, present, writable and
 // small.
 #[test]
@@ -245,13 +258,41 @@ fn looks_at_a_page(rt: HostRuntime) -> Result<(), Fail> {
     let _sizes = machine.sizes();
     let mut seat = machine.as_actor(Actor::Vcpu(1));
     for (page, word) in [(0, 7), (66, 4096 * 66 + 7), (69, 4096 * 69 + 7)] {
-        seat.reserve()?;
-        assert!(rt; allows(seat.hand(), PartStep::Host(page), 0));
-        assert_eq!(rt; look(&mut seat, page, 0), word);
-        assert_eq!(rt; seat.hand().topics().host, Some(HostLook { page, word }));
+        let held = Some(HostLook { page, word });
+        assert_eq!(rt; looked(&mut seat, page)?, Some((word, held)));
     }
-    assert!(rt; !allows(seat.hand(), PartStep::Host(70), 0));
+    assert_eq!(rt; looked(&mut seat, 70)?, None);
     Ok(())
+}
+
+// Makes all steps of the actor's lines.
+pub(crate) fn run_all(machine: &mut PlainMachine, actor: Actor) -> Result<(), Fail> {
+    expect_actor(machine, actor)?;
+    let mut seat = machine.as_actor(actor);
+    run(&mut seat)?;
+    Ok(())
+}
+
+// What v0's touches of word 1 of frame 66 find: a write of 77, an add of -2, and two reads.
+fn touched(machine: &mut PlainMachine) -> Result<[Option<u64>; 4], Fail> {
+    expect_actor(machine, Actor::Vcpu(0))?;
+    let mut seat = machine.as_actor(Actor::Vcpu(0));
+    let wrote = touch_next(&mut seat, 66, 1, Op::Write(77))?;
+    let added = touch_next(&mut seat, 66, 1, Op::Add(u64::MAX - 1))?;
+    let read = touch_next(&mut seat, 66, 1, Op::Read)?;
+    let again = touch_next(&mut seat, 66, 1, Op::Read)?;
+    Ok([wrote, added, read, again])
+}
+
+// The first content word that isn't 0, but for word 1 of frame 66, which is to be 75.
+fn first_other(words: &[u64]) -> Option<usize> {
+    // the contents begin at word 4,192, with two words a frame
+    for (i, word) in words.iter().skip(4192).enumerate() {
+        if *word != if i == 2 * 66 + 1 { 75 } else { 0 } {
+            return Some(i);
+        }
+    }
+    None
 }
 
 // A write, an add and a read of one word, each the touch of a line, as its word of
@@ -266,31 +307,11 @@ fn touches_a_word(rt: HostRuntime) -> Result<(), Fail> {
     ];
     let trace = lines_trace(alloc, write, add, read)?;
     let mut machine = PlainMachine::new(alloc, &trace)?;
-    let _sizes = machine.sizes();
-    let mut manager = machine.as_actor(Actor::Manager);
-    run(&mut manager)?;
-    drop(manager);
-    let _sizes = machine.sizes();
-    let mut vcpu = machine.as_actor(Actor::Vcpu(0));
-    assert_eq!(rt; touch_next(&mut vcpu, 66, 1, Op::Write(77))?, Some(0));
-    assert_eq!(rt;
-        touch_next(&mut vcpu, 66, 1, Op::Add(u64::MAX - 1))?,
-        Some(77)
-    );
-    assert_eq!(rt; touch_next(&mut vcpu, 66, 1, Op::Read)?, Some(75));
-    assert_eq!(rt; touch_next(&mut vcpu, 66, 1, Op::Read)?, None);
-    drop(vcpu);
+    run_all(&mut machine, Actor::Manager)?;
+    assert_eq!(rt; touched(&mut machine)?, [Some(0), Some(77), Some(75), None]);
     let closing = machine.into_closing();
     let words = closing.words.as_slice();
-    assert_eq!(rt; words.len(), 4452);
-    // the contents begin at word 4,192, with two words a frame
-    for (i, word) in words.iter().skip(4192).enumerate() {
-        assert_eq!(rt;
-            *word,
-            if i == 2 * 66 + 1 { 75 } else { 0 },
-            "content word {i}"
-        );
-    }
+    assert_eq!(rt; (words.len(), first_other(words)), (4452, None));
     Ok(())
 }
 
@@ -331,6 +352,25 @@ pub(crate) fn change_to(machine: &mut PlainMachine, word: u64) -> Result<Option<
     Ok(change_next(&mut seat, word)?)
 }
 
+// Takes host page 66 away, and has h0 and both processors look at it again.
+fn take_away(machine: &mut PlainMachine) -> Result<Option<Changed>, Fail> {
+    run_all(machine, Actor::Manager)?;
+    lead(machine, Actor::Host(0), PartStep::Change(ABSENT))?;
+    let taken = change_to(machine, ABSENT)?;
+    lead(machine, Actor::Host(0), PartStep::Change(ABSENT))?;
+    lead(machine, Actor::Vcpu(1), PartStep::Bring)?;
+    lead(machine, Actor::Vcpu(0), PartStep::Bring)?;
+    Ok(taken)
+}
+
+// The words of the machine at its end: how many, and that of host page 66.
+fn host_word(machine: PlainMachine) -> (usize, Option<u64>) {
+    let closing = machine.into_closing();
+    let words = closing.words.as_slice();
+    // the host words begin at word 18
+    (words.len(), words.get(18 + 66).copied())
+}
+
 // A page is taken away, and looked at by h0 again and by both processors. The first one brings it
 // in: the second one's exchange is lost, and so is that of h0, which tries again with the word
 // that it found.
@@ -339,30 +379,22 @@ fn brings_a_page_in_once(rt: HostRuntime) -> Result<(), Fail> {
     let alloc = rt.alloc();
     let trace = absent_trace(alloc)?;
     let mut machine = PlainMachine::new(alloc, &trace)?;
-    expect_actor(&machine, Actor::Manager)?;
-    let mut manager = machine.as_actor(Actor::Manager);
-    run(&mut manager)?;
-    drop(manager);
-    lead(&mut machine, Actor::Host(0), PartStep::Change(ABSENT))?;
-    assert_eq!(rt; change_to(&mut machine, ABSENT)?, Some(Changed::Set));
-    lead(&mut machine, Actor::Host(0), PartStep::Change(ABSENT))?;
-    lead(&mut machine, Actor::Vcpu(1), PartStep::Bring)?;
-    lead(&mut machine, Actor::Vcpu(0), PartStep::Bring)?;
+    assert_eq!(rt; take_away(&mut machine)?, Some(Changed::Set));
     let look = Some(HostLook {
         page: 66,
         word: PRESENT,
     });
     let lost = Some(Changed::Lost(PRESENT));
-    assert_eq!(rt; bring(&mut machine, 0)?, (Some(Changed::Set), look));
-    assert_eq!(rt; bring(&mut machine, 0)?, (None, look));
-    assert_eq!(rt; bring(&mut machine, 1)?, (lost, look));
-    assert_eq!(rt; change_to(&mut machine, ABSENT)?, lost);
-    assert_eq!(rt; change_to(&mut machine, ABSENT)?, None);
-    assert_eq!(rt; change_to(&mut machine, PRESENT)?, Some(Changed::Set));
-    let closing = machine.into_closing();
-    let words = closing.words.as_slice();
-    assert_eq!(rt; words.len(), 4452);
-    // the host words begin at word 18
-    assert_eq!(rt; words[18 + 66], PRESENT);
+    for (vcpu, changed) in [(0, Some(Changed::Set)), (0, None), (1, lost)] {
+        assert_eq!(rt; bring(&mut machine, vcpu)?, (changed, look));
+    }
+    for (word, changed) in [
+        (ABSENT, lost),
+        (ABSENT, None),
+        (PRESENT, Some(Changed::Set)),
+    ] {
+        assert_eq!(rt; change_to(&mut machine, word)?, changed);
+    }
+    assert_eq!(rt; host_word(machine), (4452, Some(PRESENT)));
     Ok(())
 }

@@ -8,7 +8,7 @@ const HEAD: &str =
     "tdp 1 vcpus 2 workers 1 pages 96 frames 96 words 1 pool 64 cache 8 manual 0 hosts 0 32\n";
 
 // One case a line: what is answered (of a trace how many lines it has, how many
-// of them stand above `go`, and its items), and the lines behind the header,
+// of them stand above `go`, and its items), and the lines after the header,
 // in which `;` stands for LF.
 const TABLE: &str = "\
 0 -|;\n\

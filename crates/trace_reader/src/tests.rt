@@ -1,5 +1,5 @@
 use crate::{Read, Reason, read_trace};
-use core_views::{Actor, Command, HostChange, Line, Op, Slot};
+use core_views::{Actor, Command, Header, HostChange, Line, Op, Slot};
 use std::alloc::{AllocError, Global};
 use std::test::Fail;
 use tdp_io::MemSource;
@@ -324,8 +324,8 @@ fn answer(alloc: Global, bytes: Vec<u8>) -> Result<String, Fail> {
     }
 }
 
-// The header and a slot line, and this text behind them.
-fn behind(alloc: Global, text: &str) -> Result<Vec<u8>, AllocError> {
+// The header and a slot line, and this text after them.
+fn after_slot(alloc: Global, text: &str) -> Result<Vec<u8>, AllocError> {
     let mut bytes = input(alloc, b"&%")?;
     bytes.extend_from_slice(text.as_bytes())?;
     Ok(bytes)
@@ -357,24 +357,32 @@ fn answers_the_table(rt: HostRuntime) -> Result<(), Fail> {
     Ok(())
 }
 
-// A line of this many times this byte, behind the text.
-fn with_line(alloc: Global, text: &str, byte: u8, count: usize) -> Result<Vec<u8>, AllocError> {
+// The text, so many of this byte after it, and this end.
+fn filled(
+    alloc: Global,
+    text: &str,
+    byte: u8,
+    count: usize,
+    end: &str,
+) -> Result<Vec<u8>, AllocError> {
     let mut bytes = input(alloc, text.as_bytes())?;
     let line = vec![in alloc; byte; count]?;
     bytes.extend_from_slice(&line)?;
-    bytes.extend_from_slice(b"\n")?;
+    bytes.extend_from_slice(end.as_bytes())?;
     Ok(bytes)
 }
 
 #[test]
 fn refuses_long_inputs(rt: HostRuntime) -> Result<(), Fail> {
     let alloc = rt.alloc();
-    for (count, reason) in [(16_777_216, Reason::Cut), (16_777_217, Reason::Size)] {
-        let bytes = vec![in alloc; b'x'; count]?;
+    for (count, end, reason) in [
+        (16_777_216, "", Reason::Cut),
+        (16_777_217, "", Reason::Size),
+        (16_777_215, "\n", Reason::Long),
+        (16_777_216, "\n", Reason::Size),
+    ] {
+        let bytes = filled(alloc, "", b'x', count, end)?;
         assert!(rt; is_refused(alloc, bytes, 1, reason)?);
-    }
-    for (count, reason) in [(16_777_215, Reason::Long), (16_777_216, Reason::Size)] {
-        assert!(rt; is_refused(alloc, with_line(alloc, "", b'x', count)?, 1, reason)?);
     }
     Ok(())
 }
@@ -382,23 +390,21 @@ fn refuses_long_inputs(rt: HostRuntime) -> Result<(), Fail> {
 #[test]
 fn refuses_long_lines(rt: HostRuntime) -> Result<(), Fail> {
     let alloc = rt.alloc();
-    for (byte, count, reason) in [
-        (b'x', 65_536, Reason::Word),
-        (b'x', 65_537, Reason::Long),
-        (b'#', 65_537, Reason::Long),
-        (b'\t', 65_536, Reason::Byte),
-        (b'\t', 65_537, Reason::Long),
+    for (text, byte, count, end, line, reason) in [
+        ("&%", b'x', 65_536, "\n", 3, Reason::Word),
+        ("&%", b'x', 65_537, "\n", 3, Reason::Long),
+        ("&%", b'#', 65_537, "\n", 3, Reason::Long),
+        ("&%", b'\t', 65_536, "\n", 3, Reason::Byte),
+        ("&%", b'\t', 65_537, "\n", 3, Reason::Long),
+        ("", b'x', 65_536, "\n", 1, Reason::Header),
+        ("", b'x', 65_537, "\n", 1, Reason::Long),
+        ("&%", b'x', 65_537, "", 3, Reason::Cut),
     ] {
-        assert!(rt; is_refused(alloc, with_line(alloc, "&%", byte, count)?, 3, reason)?);
+        let bytes = filled(alloc, text, byte, count, end)?;
+        assert!(rt; is_refused(alloc, bytes, line, reason)?);
     }
-    for (count, reason) in [(65_536, Reason::Header), (65_537, Reason::Long)] {
-        assert!(rt; is_refused(alloc, with_line(alloc, "", b'x', count)?, 1, reason)?);
-    }
-    let longest = answer(alloc, with_line(alloc, "&%", b'#', 65_536)?)?;
-    assert_eq!(rt; longest.as_str(), "1 lines");
-    let mut cut = with_line(alloc, "&%", b'x', 65_537)?;
-    cut.pop();
-    assert!(rt; is_refused(alloc, cut, 3, Reason::Cut)?);
+    let longest = answer(alloc, filled(alloc, "&%", b'#', 65_536, "\n")?)?;
+    assert!(rt; longest.as_str() == "1 lines");
     Ok(())
 }
 
@@ -411,23 +417,38 @@ fn full(alloc: Global, line: &[u8]) -> Result<Vec<u8>, AllocError> {
     Ok(bytes)
 }
 
+// The header and lines up to line 1,000,000, all of them this one, and this text after them.
+fn over_full(alloc: Global, line: &[u8], text: &[u8]) -> Result<Vec<u8>, AllocError> {
+    let mut bytes = full(alloc, line)?;
+    bytes.extend_from_slice(text)?;
+    Ok(bytes)
+}
+
+// The header and comments up to line 1,000,000, and as much text after them that there are so many bytes.
+fn padded(alloc: Global, count: usize) -> Result<Vec<u8>, AllocError> {
+    let mut bytes = full(alloc, b"# a comment...\n")?;
+    let missing = vec![in alloc; b'x'; count.saturating_sub(bytes.len())]?;
+    bytes.extend_from_slice(&missing)?;
+    Ok(bytes)
+}
+
 #[test]
 fn refuses_many_lines(rt: HostRuntime) -> Result<(), Fail> {
     let alloc = rt.alloc();
     let most = answer(alloc, full(alloc, b"v1 read 8\n")?)?;
-    assert_eq!(rt; most.as_str(), "999999 lines");
+    assert!(rt; most.as_str() == "999999 lines");
     for text in ["v1 read 8\n", "\n", "cut"] {
-        let mut bytes = full(alloc, b"v1 read 8\n")?;
-        bytes.extend_from_slice(text.as_bytes())?;
+        let bytes = over_full(alloc, b"v1 read 8\n", text.as_bytes())?;
         assert!(rt; is_refused(alloc, bytes, 1_000_001, Reason::Lines)?);
     }
-    for (count, reason) in [
-        (16_777_216usize, Reason::Lines),
-        (16_777_217usize, Reason::Size),
-    ] {
-        let mut bytes = full(alloc, b"# a comment...\n")?;
-        let missing = vec![in alloc; b'x'; count.saturating_sub(bytes.len())]?;
-        bytes.extend_from_slice(&missing)?;
+    Ok(())
+}
+
+#[test]
+fn refuses_many_lines_before_many_bytes(rt: HostRuntime) -> Result<(), Fail> {
+    let alloc = rt.alloc();
+    for (count, reason) in [(16_777_216, Reason::Lines), (16_777_217, Reason::Size)] {
+        let bytes = padded(alloc, count)?;
         assert!(rt; is_refused(alloc, bytes, 1_000_001, reason)?);
     }
     Ok(())
@@ -444,6 +465,13 @@ fn many_slots(alloc: Global) -> Result<Vec<u8>, Fail> {
     Ok(bytes)
 }
 
+// What is answered where this text stands after them.
+fn many_answer(alloc: Global, text: &str) -> Result<String, Fail> {
+    let mut bytes = many_slots(alloc)?;
+    bytes.extend_from_slice(text.as_bytes())?;
+    answer(alloc, bytes)
+}
+
 #[test]
 fn compares_each_id_with_those_before(rt: HostRuntime) -> Result<(), Fail> {
     let alloc = rt.alloc();
@@ -454,9 +482,7 @@ fn compares_each_id_with_those_before(rt: HostRuntime) -> Result<(), Fail> {
         ("vm slot 50000 0 1 0\n", "50001 lines"),
         ("vm slot 0 0 1 0\nvm slot 100000 0 1 0\n", "50002 lines"),
     ] {
-        let mut bytes = many_slots(alloc)?;
-        bytes.extend_from_slice(text.as_bytes())?;
-        let given = answer(alloc, bytes)?;
+        let given = many_answer(alloc, text)?;
         assert!(rt; given.as_str() == wanted, "{text}");
     }
     Ok(())
@@ -471,67 +497,71 @@ fn host_line(number: u32, thread: u8, page: u64, change: HostChange) -> Line {
     }
 }
 
-#[test]
-fn reads_a_trace(rt: HostRuntime) -> Result<(), Fail> {
-    let alloc = rt.alloc();
-    let bytes = behind(
-        alloc,
-        "v1 read 0x12018\nv0 write 8 0xff\n\n# c\nv0 add 0 18446744073709551615\nh1 allow 0x2a\nh0 evict 7\nh1 move 9\n",
-    )?;
-    let mut source = MemSource::new(bytes, Vec::new(alloc));
-    let Read::Trace(trace) = read_trace(alloc, &mut source)? else {
-        return Ok(assert!(rt; false, "it is a trace"));
-    };
-    let header = &trace.header;
-    assert_eq!(rt; (header.version, header.vcpus, header.workers), (1, 2, 0));
-    assert_eq!(rt; (header.pages, header.frames, header.words), (96, 96, 4));
-    assert_eq!(rt; (header.pool, header.cache, header.manual), (64, 8, 2));
-    assert_eq!(rt; header.hosts.as_slice(), [0, 32].as_slice());
+// A line of a processor at this word.
+fn access_line(number: u32, vcpu: u8, gfn: u64, word: u8, op: Op) -> Line {
+    Line {
+        number,
+        actor: Actor::Vcpu(vcpu),
+        command: Command::Access { gfn, word, op },
+    }
+}
+
+// The line of `%`.
+fn slot_line() -> Line {
     let slot = Slot {
         base: 16,
         pages: 32,
         host: 64,
         read_only: false,
     };
+    Line {
+        number: 2,
+        actor: Actor::Manager,
+        command: Command::SetSlot { id: 0, slot },
+    }
+}
+
+// Whether the header is that of `&`.
+fn is_head(header: &Header) -> bool {
+    let vcpus = (header.version, header.vcpus, header.workers) == (1, 2, 0);
+    let words = (header.pages, header.frames, header.words) == (96, 96, 4);
+    let pool = (header.pool, header.cache, header.manual) == (64, 8, 2);
+    vcpus && words && pool && header.hosts.as_slice() == [0, 32].as_slice()
+}
+
+// Whether the input is read, and is the header of `&` and these lines.
+fn is_read(alloc: Global, bytes: Vec<u8>, lines: &[Line]) -> Result<bool, Fail> {
+    let mut source = MemSource::new(bytes, Vec::new(alloc));
+    match read_trace(alloc, &mut source)? {
+        Read::Trace(trace) => Ok(is_head(&trace.header) && trace.lines.as_slice() == lines),
+        _ => Ok(false),
+    }
+}
+
+#[test]
+fn reads_a_trace(rt: HostRuntime) -> Result<(), Fail> {
+    let alloc = rt.alloc();
+    let bytes = after_slot(
+        alloc,
+        "v1 read 0x12018\nv0 write 8 0xff\n\n# c\nv0 add 0 18446744073709551615\nh1 allow 0x2a\nh0 evict 7\nh1 move 9\n",
+    )?;
     let lines = [
-        Line {
-            number: 2,
-            actor: Actor::Manager,
-            command: Command::SetSlot { id: 0, slot },
-        },
-        Line {
-            number: 3,
-            actor: Actor::Vcpu(1),
-            command: Command::Access {
-                gfn: 18,
-                word: 3,
-                op: Op::Read,
-            },
-        },
-        Line {
-            number: 4,
-            actor: Actor::Vcpu(0),
-            command: Command::Access {
-                gfn: 0,
-                word: 1,
-                op: Op::Write(255),
-            },
-        },
-        Line {
-            number: 7,
-            actor: Actor::Vcpu(0),
-            command: Command::Access {
-                gfn: 0,
-                word: 0,
-                op: Op::Add(18_446_744_073_709_551_615),
-            },
-        },
+        slot_line(),
+        access_line(3, 1, 18, 3, Op::Read),
+        access_line(4, 0, 0, 1, Op::Write(255)),
+        access_line(7, 0, 0, 0, Op::Add(18_446_744_073_709_551_615)),
         host_line(8, 1, 42, HostChange::Allow),
         host_line(9, 0, 7, HostChange::Evict),
         host_line(10, 1, 9, HostChange::Move),
     ];
-    assert_eq!(rt; trace.lines.as_slice(), lines.as_slice());
-    let mut failing = MemSource::new(behind(alloc, "")?, vec![in alloc; 0]?);
+    assert!(rt; is_read(alloc, bytes, &lines)?);
+    Ok(())
+}
+
+#[test]
+fn tells_a_failed_read(rt: HostRuntime) -> Result<(), Fail> {
+    let alloc = rt.alloc();
+    let mut failing = MemSource::new(after_slot(alloc, "")?, vec![in alloc; 0]?);
     assert!(rt; matches!(read_trace(alloc, &mut failing)?, Read::ReadFault));
     Ok(())
 }
