@@ -28,7 +28,7 @@ use Rattle.mmu_core.specs.machine.View.{view}
 use Rattle.mmu_core.proofs.invariant.PartBounded.{part_rests_at}
 use Rattle.mmu_core.specs.machine.Turns.{line_of}
 use Rattle.mmu_laws.specs.turns.Removal.{StayMisses}
-use Rattle.mmu_laws.specs.turns.TurnLaws.{is_counted}
+use Rattle.mmu_laws.specs.turns.TurnLaws.{counts_as_delay}
 use Rattle.core_theorem.proofs.TakenAway.{misses_entry}
 use Rattle.mmu_laws.proofs.causes.Causes.{faults_begin_anew_by_cause}
 use Rattle.mmu_laws.proofs.causes.EachFault.{is_access}
@@ -136,7 +136,7 @@ module _ (z : Sizes) (lines : List Line) (w : World Held) (ss ts : List (Step Ki
   by has idle (inr (inl is)) = inl (beginning idle (new_beginning h.state.place is))
   by has idle (inr (inr M)) = inr (inr (misses_entry z u ts s good since.0 M))
 
-  pub is_caused : (hand_in mmu u s.actor).state.place ≡ place.Between → has_line h ≡ true → is_counted (run mmu u ts) s ≡ true → Caused
+  pub is_caused : (hand_in mmu u s.actor).state.place ≡ place.Between → has_line h ≡ true → counts_as_delay (run mmu u ts) s ≡ true → Caused
   is_caused idle has delays = by has idle (delays_since z u ts s good idle parts.1 has delays)
 
 pub waits_have_causes : WaitsHaveCauses

@@ -130,7 +130,7 @@ module _ (z : Sizes) (actor before most : ℕ) where
   abbrev Allows : World Held → Type 0
   Allows u = most_steps z (own_line actor before u).command ≡ most
 
-  -- It allows them behind each step, too.
+  -- It allows them after each step, too.
   allows_on : (u : World Held) (s : Step Kind) → actor < actors_of z → IsReached z u → May mmu u s → Allows u → Allows (effect mmu u s)
   allows_on u s there R may allows =
       ap (λ (xs : List Line). most_steps z (unwrap_or (slice_get xs before) no_line).command)

@@ -76,7 +76,7 @@ module _ (z : Sizes) (w : World Held) (ss : List (Step Kind)) (s : Step Kind) (G
   abbrev v : ℕ
   v = answered mmu u s.kind
 
-  -- what the line has seen behind its step
+  -- what the line has seen after its step
   abbrev SawNow : Place → Type 0
   SawNow p = PlaceSaw z w a p (ss ++ s ∷ [])
 

@@ -1,4 +1,4 @@
--- The world behind a run is sound, and no line is under way at its start.
+-- The world after a run is sound, and no line is under way at its start.
 use Rattle.std.proofs.Common.{◌≡◌, ◌<◌, List, [], ◌∷◌, ◌++◌, refl, subst, ap}
 use Rattle.core_views.specs.declared.kind.Kind.{Kind}
 use Rattle.core_views.specs.declared.place.Place.TheVariants.{Between}
@@ -21,7 +21,7 @@ sound z lines w ss R = good_run z w ss (start_good z lines w R.start) R.legal
 pub reached : (z : Sizes) (lines : List Line) (w : World Held) (ss : List (Step Kind)) → IsRun z lines w ss → Reachable (run mmu w ss)
 reached z lines w ss R = record { sizes = z; lines = lines; start = w; is_start = R.start; leads = record { steps = ss; legal = R.legal; ends = refl } }
 
--- A run of some steps and one more is a run of these steps, behind which the other may be made.
+-- A run of some steps and one more is a run of these steps, after which the other may be made.
 module _ (z : Sizes) (lines : List Line) (w : World Held) (ss : List (Step Kind)) (s : Step Kind) (R : IsRun z lines w (ss ++ s ∷ [])) where
   pub before : IsRun z lines w ss
   before = record { start = R.start; legal = (legal_parts w ss (s ∷ []) R.legal).0 }

@@ -7,7 +7,7 @@ use Rattle.spte_words.specs.declared.area.Area.TheVariants as area
 use Rattle.spte_words.specs.Areas.{pool_index}
 use Rattle.mmu_core.specs.invariant.AllOver.{AllOver, IsEntryOver}
 use Rattle.mmu_core.specs.machine.Machine.{World}
-use Rattle.mmu_core.specs.invariant.TreePart.{Position, Reaches, Use, is_table, stands}
+use Rattle.mmu_core.specs.invariant.TreePart.{Position, HangsBelow, Use, is_table, stands}
 use Rattle.mmu_core.specs.invariant.TreePart.Use.{Free, OldSet, Outside, Owned, Root, SlotSet, Under}
 use Rattle.mmu_core.specs.machine.View.{word_in}
 use Rattle.mmu_core.proofs.pages.AllOver.{reached_table}
@@ -57,7 +57,7 @@ module _ (z : Sizes) (w : World Held) (A B : PagesAreUsed z w) where
   pub over_in_both : (IsSo : ℕ → ℕ → ℕ → Type 0) (m : ℕ) (p : Position) → stands A.up A.spot m ≡ Some p → AllOver A.up A.spot pool m IsSo
       → AllOver B.up B.spot pool m IsSo
   over_in_both IsSo m p at_m all_so table entry gfn R O =
-      let reaches : Reaches A.up m table = subst (λ up. Reaches up m table) (sym same_uses) R in
+      let reaches : HangsBelow A.up m table = subst (λ up. HangsBelow up m table) (sym same_uses) R in
       let is : is_table (A.up table) ≡ true = reached_table A.up m table (spot_of A.up A.spot m p at_m).0 reaches in
       let spots : B.spot table ≡ A.spot table =
       (spot_of B.up B.spot table (A.spot table) (stands_so table (A.spot table) (at_spot A.up A.spot table (A.up table) refl is))).1 in

@@ -83,7 +83,7 @@ counted_in h = counted h.state.place h.state.steps
 abbrev pub open_in : Held → ℕ
 open_in h = one_if (is_under_way h.state.place)
 
--- The line goes on: no delay is counted. Or it is answered: nothing is counted behind it.
+-- The line goes on: no delay is counted. Or it is answered: nothing is counted after it.
 pub record CountsGoing (delay : Bool) (h g : Held) : Type 0 where
   pub line_is : line_of g ≡ line_of h
   pub answers : length g.answers ≡ length h.answers

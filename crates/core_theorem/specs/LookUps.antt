@@ -9,6 +9,7 @@ use Rattle.core_views.specs.declared.trace.Line.{Line}
 use Rattle.core_views.specs.Held.{Held}
 use Rattle.core_views.specs.Sizes.{actors_of}
 use Rattle.spte_words.specs.declared.area.Area.TheVariants as area
+use Rattle.mmu_core.specs.invariant.Grace.{topics_in}
 use Rattle.mmu_core.specs.invariant.HostWordsPart.{IsStill}
 use Rattle.mmu_core.specs.invariant.SearchPart.{HeldSlotsPart, IsInvalidating, IsOnPage}
 use Rattle.mmu_core.specs.invariant.SlotSetPart.{AreSlots, IsLiveIn}
@@ -16,10 +17,6 @@ use Rattle.mmu_core.specs.machine.Enabled.{mmu}
 use Rattle.mmu_core.specs.machine.Machine.{Step, World, hand_in, run}
 use Rattle.mmu_core.specs.machine.View.{word_in}
 use Rattle.core_theorem.specs.Runs.{IsRun}
-
--- what the actor holds of the machine's parts
-abbrev pub topics_in : World Held → ℕ → Topics
-topics_in w actor = (hand_in mmu w actor).topics
 
 -- The slot that an actor has found whole is one of the slot set that it holds, of which no two slots meet.
 pub record FoundIn (z : Sizes) (pool : ℕ → ℕ) (search : SlotSearch) : Type 0 where

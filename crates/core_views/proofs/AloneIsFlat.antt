@@ -16,11 +16,11 @@ use Rattle.core_views.specs.Actors.{is_same}
 use Rattle.core_views.specs.Host.{HostNotes, with_entry}
 use Rattle.core_views.specs.SlotSets.{flat_slots}
 use Rattle.core_views.specs.Flat.{Facts, Notes, LineUnderWay, Flat, Stage, Fresh, HasAccessed, HasLeft, HasChanged, HasChangedHost, no_notes}
-use Rattle.core_views.specs.Events.{after, after_all, facts_after, facts_after_all, line_after}
+use Rattle.core_views.specs.Events.{after, after_all, facts_after, facts_after_all, under_after}
 use Rattle.core_views.specs.Lawful.{IsLawful, IsAllowed}
 use Rattle.core_views.specs.FlatHistory.{by, answers, rest_of, one_by_one}
 use Rattle.core_views.specs.Text.{answers_of, lines_text, text}
-use Rattle.core_views.specs.Alone.{is_look, without_looks, IsWithin, AreWithin, FallAsFlat, FallsAsFlat, StandsAlone, StandsFirst}
+use Rattle.core_views.specs.Alone.{is_look, without_looks, IsInside, AreWithin, FallAsFlat, FallsAsFlat, StandsAlone, StandsFirst}
 use Rattle.core_views.proofs.AloneIsLawful.{AllIdle, IsAt, step, at_end}
 use Rattle.core_views.proofs.Looks.{facts_without_looks, answers_without_looks, facts_behind}
 use Rattle.core_views.proofs.FlatShows.{flat_shows}
@@ -59,13 +59,13 @@ falls_at : (z : Sizes) (line : Line) (stage : Stage) (notes : Notes) (f : Flat) 
 falls_at z line stage notes f kind is falls = subst (λ (u : LineUnderWay). FallsAsFlat z f.facts u.line.command kind) is.at.line_is falls
 
 next_at : (line : Line) (stage : Stage) (notes : Notes) (f : Flat) (kind : EventKind) → IsAlone line stage notes f
-    → IsAt line.actor (facts_after kind f.facts) (line_after kind f.facts (under_way line stage notes)) (after (by line kind) f)
+    → IsAt line.actor (facts_after kind f.facts) (under_after kind f.facts (under_way line stage notes)) (after (by line kind) f)
 next_at line stage notes f kind is = step line.actor kind f.facts (under_way line stage notes) f is.at
 
 -- an event that is shown, and the rest of the line
 shown_event : (z : Sizes) (line : Line) (rest es : List Event) (stage : Stage) (notes : Notes) (f : Flat) (kind : EventKind) → is_look kind ≡ false
     → IsNext z f.facts (under_way line stage notes) kind
-    → Ends z line rest (line_after kind f.facts (under_way line stage notes)).stage (after (by line kind) f) es → Ends z line rest stage f (by line kind ∷ es)
+    → Ends z line rest (under_after kind f.facts (under_way line stage notes)).stage (after (by line kind) f) es → Ends z line rest stage f (by line kind ∷ es)
 shown_event z line rest es stage notes f kind is_shown is ends = record {
   behind = ends.behind;
   reaches = ends.reaches;
@@ -86,7 +86,7 @@ noted_host f page host other entry before noted = by_page (page == other) (eqb-t
     by_page false same is = before is
 
 -- one event within the line: a clause for each kind
-one_event : (z : Sizes) (line : Line) (rest es : List Event) (kind : EventKind) → IsWithin kind → Leads z line rest es → Leads z line rest (by line kind ∷ es)
+one_event : (z : Sizes) (line : Line) (rest es : List Event) (kind : EventKind) → IsInside kind → Leads z line rest es → Leads z line rest (by line kind ∷ es)
 one_event z line rest es (Begun other) within leads stage notes f is lawful falls = absurd within
 one_event z line rest es LookedAtPause within leads stage notes f is lawful falls =
     let ends = leads stage (record notes { paused = Some f.facts.paused }) (after (by line LookedAtPause) f) (record {
@@ -191,7 +191,7 @@ one_event z line rest es (HostChanged page entry) within leads stage notes f is 
     (record { at = next_at line stage notes f kind is; exact = λ fresh. absurd (cc fresh) }) lawful.1 falls.1)
 one_event z line rest es (Answered number answer) within leads stage notes f is lawful falls = absurd within
 
--- the answer, behind which no line is under way
+-- the answer, after which no line is under way
 at_answer : (z : Sizes) (line : Line) (rest : List Event) (answer : Answer) → Leads z line rest (by line (Answered line.number answer) ∷ rest)
 at_answer z line rest answer stage notes f is lawful falls =
     let kind : EventKind = Answered line.number answer in
@@ -201,7 +201,7 @@ at_answer z line rest answer stage notes f is lawful falls =
       reaches = refl;
       shown = sym (ap (λ (xs : List Event). xs ++ without_looks rest) tells);
       facts_are = sym (ap (λ (xs : List Event). facts_after_all xs f.facts) tells);
-      idle = λ i. at_end (is_same line.actor i) (line_after kind f.facts (f.under line.actor)) (f.under i) refl (is.at.others i);
+      idle = λ i. at_end (is_same line.actor i) (under_after kind f.facts (f.under line.actor)) (f.under i) refl (is.at.others i);
       lawful = lawful.1;
       falls = falls.1;
     }
@@ -248,7 +248,7 @@ shows z (line ∷ lines) h f idle lawful stands falls =
     (line_shows z line lines first.within stands.0 first.answer f idle first.are_within
     (λ g idle_then lawful_then falls_then. shows z lines stands.0 g idle_then lawful_then stands.2 falls_then)) lawful falls
 
--- From this state on, the history is the flat one of these lines: in what it shows, answers and prints, in the facts behind it, and in that no line
+-- From this state on, the history is the flat one of these lines: in what it shows, answers and prints, in the facts after it, and in that no line
 -- is under way then.
 pub record GoesAsFlat (z : Sizes) (lines : List Line) (f : Flat) (h : List Event) : Type 0 where
   pub shown : without_looks h ≡ without_looks (one_by_one z lines f.facts)

@@ -26,7 +26,7 @@ use Rattle.core_views.specs.Host.{HostNotes, brought_in, is_denied, mapping, wit
 use Rattle.core_views.specs.HostChanges.{Changes, host_answer, is_own, lowest_free}
 use Rattle.core_views.specs.Names.{frame_at, frame_for}
 use Rattle.core_views.specs.Flat.{Facts, LineUnderWay, Flat, Idle, Fresh, no_notes}
-use Rattle.core_views.specs.Events.{after, after_all, facts_after, facts_after_all, line_after}
+use Rattle.core_views.specs.Events.{after, after_all, facts_after, facts_after_all, under_after}
 use Rattle.core_views.specs.Lawful.{HasWork, IsLawful, IsAllowed, MayChangeHost, SawAbsent, SawForbidden, SawNoPage, Tells, answer_at_once, slot_change}
 use Rattle.core_views.specs.FlatHistory.{by, answers, accessing, bringing, changing_host, moving, reaching, doing, doing_by, rest_of, looks, looks_behind}
 use Rattle.core_views.specs.FlatHistory.{alone, one_by_one, working}
@@ -56,11 +56,11 @@ unchanged false x y e idle = idle
 
 -- An event of the actor leads on to what it makes of the line.
 pub step : (actor : Actor) (kind : EventKind) (facts : Facts) (u : LineUnderWay) (f : Flat) → IsAt actor facts u f
-    → IsAt actor (facts_after kind facts) (line_after kind facts u) (after (record { actor = actor; kind = kind }) f)
+    → IsAt actor (facts_after kind facts) (under_after kind facts u) (after (record { actor = actor; kind = kind }) f)
 step actor kind facts u f at = record {
   facts_are = ap (facts_after kind) at.facts_are;
-  line_is = changed_here actor (line_after kind f.facts (f.under actor)) f.under ∙ rw (at.facts_are, at.line_is) refl;
-  others = λ i apart. unchanged (is_same actor i) (line_after kind f.facts (f.under actor)) (f.under i) apart (at.others i apart);
+  line_is = changed_here actor (under_after kind f.facts (f.under actor)) f.under ∙ rw (at.facts_are, at.line_is) refl;
+  others = λ i apart. unchanged (is_same actor i) (under_after kind f.facts (f.under actor)) (f.under i) apart (at.others i apart);
 }
 
 allowed : (z : Sizes) (actor : Actor) (kind : EventKind) (facts : Facts) (u : LineUnderWay) (f : Flat) → IsAt actor facts u f
@@ -71,7 +71,7 @@ pub at_end : (b : Bool) (x y : LineUnderWay) → x.stage ≡ Idle → (b ≡ fal
 at_end true x y here there = here
 at_end false x y here there = there refl
 
--- the answer of a line, where its own events tell it: the rest of the line is lawful, and no line is under way behind it
+-- the answer of a line, where its own events tell it: the rest of the line is lawful, and no line is under way after it
 record Closes (z : Sizes) (es : List Event) (f : Flat) : Type 0 where
   lawful : IsLawful z f es
   idle : AllIdle (after_all es f)
@@ -81,7 +81,7 @@ answered : (z : Sizes) (line : Line) (answer : Answer) (facts : Facts) (u : Line
     → Tells z facts.slots line.actor u.line.command u.stage answer → Closes z (answers line answer) f
 answered z line answer facts u f at is tells = record {
   lawful = (allowed z line.actor (Answered line.number answer) facts u f at (ap (λ (l : Line). l.number) (sym is), tells), tt);
-  idle = λ i. at_end (is_same line.actor i) (line_after (Answered line.number answer) f.facts (f.under line.actor)) (f.under i) refl (at.others i);
+  idle = λ i. at_end (is_same line.actor i) (under_after (Answered line.number answer) f.facts (f.under line.actor)) (f.under i) refl (at.others i);
   facts_are = refl;
 }
 
@@ -243,7 +243,7 @@ change_closes_host z line page Evict facts f own is at = changed_closes z line p
 change_closes_host z line page Protect facts f own is at = changed_closes z line page Protect facts _ f own is refl at
 change_closes_host z line page Allow facts f own is at = changed_closes z line page Allow facts _ f own is refl at
 
--- the whole of a host line behind its begin, by whether the page is the actor's own
+-- the whole of a host line after its begin, by whether the page is the actor's own
 host_closes : (z : Sizes) (line : Line) (page : ℕ) (change : HostChange) (facts : Facts) (f : Flat) (own : Bool) → is_own z line.actor page ≡ own
     → line.command ≡ ChangeHost page change → IsAt line.actor facts (record { line = line; stage = Fresh; notes = no_notes }) f
     → Closes z (cond own (by line (LookedAtHost page) ∷ []) []

@@ -8,16 +8,16 @@ use Rattle.core_views.specs.declared.event.EventKind.{EventKind}
 use Rattle.core_views.specs.declared.event.EventKind.TheVariants.{Begun, Answered}
 use Rattle.core_views.specs.declared.trace.Line.{Line}
 use Rattle.core_views.specs.Actors.{is_same}
-use Rattle.core_views.specs.Alone.{AreWithin, IsWithin, StandsAlone, StandsFirst}
+use Rattle.core_views.specs.Alone.{AreWithin, IsInside, StandsAlone, StandsFirst}
 use Rattle.core_views.specs.Text.{answers_of, or_answered}
 use Rattle.core_views.specs.Whole.{IsWhole, lines_begun, or_begun, lines_of}
 
 -- What stands within a line begins no line, and answers none.
-begins_none : (kind : EventKind) (lines : List Line) → IsWithin kind → or_begun kind lines ≡ lines
+begins_none : (kind : EventKind) (lines : List Line) → IsInside kind → or_begun kind lines ≡ lines
 begins_none (Begun line) lines within = absurd within
 begins_none _ lines within = refl
 
-answers_none : (actor : Actor) (kind : EventKind) (xs : List AnsweredLine) → IsWithin kind → or_answered actor kind xs ≡ xs
+answers_none : (actor : Actor) (kind : EventKind) (xs : List AnsweredLine) → IsInside kind → or_answered actor kind xs ≡ xs
 answers_none actor (Answered line answer) xs within = absurd within
 answers_none actor _ xs within = refl
 

@@ -1,5 +1,5 @@
 -- Where no line is starved, and each move takes the lowest frame, no choice is left open: so the choices fall as the flat history's do. And what is so of
--- the moves of two histories is so of one behind the other.
+-- the moves of two histories is so of one after the other.
 use Rattle.std.proofs.Common.{◌++◌, List, [], ◌∷◌}
 use Rattle.core_views.specs.declared.event.Event.{Event}
 use Rattle.core_views.specs.declared.sizes.Sizes.{Sizes}
@@ -11,7 +11,7 @@ pub all_fall : (z : Sizes) (f : Flat) (h : List Event) → NoneStarved h → Tak
 all_fall z f [] fed takes = tt
 all_fall z f (e ∷ es) fed takes = ((fed.0, takes.0), all_fall z (after e f) es fed.1 takes.1)
 
--- Each move takes the lowest frame, in the one history and in the one behind it.
+-- Each move takes the lowest frame, in the one history and in the one after it.
 pub lowest_append : (z : Sizes) (xs ys : List Event) (f : Flat) → TakeLowest z f xs → TakeLowest z (after_all xs f) ys → TakeLowest z f (xs ++ ys)
 lowest_append z [] ys f first then_ = then_
 lowest_append z (x ∷ xs) ys f first then_ = (first.0, lowest_append z xs ys (after x f) first.1 then_)

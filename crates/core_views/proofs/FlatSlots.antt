@@ -8,7 +8,7 @@ use Rattle.std.specs.declared.cmp.Ordering.TheVariants.{Less, Equal, Greater}
 use Rattle.core_views.specs.declared.trace.Slot.{Slot}
 use Rattle.core_views.specs.Slots.{Slots, contains, slot_of, slot_with_id, with_slot}
 use Rattle.core_views.specs.declared.slot_set.MemorySlot.{MemorySlot}
-use Rattle.core_views.specs.SlotSets.{MemorySlots, flat_slots, slot_at, slot_holding, with_slot_at}
+use Rattle.core_views.specs.SlotSets.{MemorySlots, flat_slots, slot_of_id, slot_holding, with_slot_at}
 use Rattle.core_views.specs.Places.{Places, slots_from}
 
 by_order : (o : Ordering) (a b c : MemorySlots) → flat_slots (match_ordering o a b c) ≡ match_ordering o (flat_slots a) (flat_slots b) (flat_slots c)
@@ -53,6 +53,6 @@ by_id true m rest = refl
 by_id false m rest = refl
 
 -- The slot with an ID, in flat memory.
-pub flat_at : (id : ℕ) (es : MemorySlots) → slot_with_id id (flat_slots es) ≡ option_map (λ (x : MemorySlot). x.slot) (slot_at id es)
+pub flat_at : (id : ℕ) (es : MemorySlots) → slot_with_id id (flat_slots es) ≡ option_map (λ (x : MemorySlot). x.slot) (slot_of_id id es)
 flat_at id [] = refl
-flat_at id ((k, m) ∷ es) = ap (λ (rest : Option Slot). cond (k == id) (Some m.slot) rest) (flat_at id es) ∙ by_id (k == id) m (slot_at id es)
+flat_at id ((k, m) ∷ es) = ap (λ (rest : Option Slot). cond (k == id) (Some m.slot) rest) (flat_at id es) ∙ by_id (k == id) m (slot_of_id id es)

@@ -22,7 +22,7 @@ first_within h is host = by (slice_get h.hosts host) refl
         subst (λ (x : ℕ). x < h.pages) (get_or_from_slice_get h.hosts host page 0 e) (is.hosts.below host 0 (slice_get_within h.hosts host page e)) in
         omega (arith, below)
 
--- The first page of a host thread isn't behind that of the next one.
+-- The first page of a host thread isn't after that of the next one.
 first_rising : (h : Header) → IsHeader h → (host : ℕ) → first_page_in h.hosts h.pages host ≤ first_page_in h.hosts h.pages (host + 1)
 first_rising h is host = by (slice_get h.hosts host) (slice_get h.hosts (host + 1)) refl refl
   where

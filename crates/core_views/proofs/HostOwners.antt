@@ -4,7 +4,7 @@ use Rattle.std.specs.Prelude.{true, nat_le, ◌&&◌, nat_lt}
 use Rattle.std.proofs.lemmas.Bool.{cases_lt}
 use Rattle.std.proofs.lemmas.Bool.Decides.{nat_tests}
 use Rattle.core_views.specs.declared.sizes.Sizes.{Sizes}
-use Rattle.core_views.specs.Sizes.{AreInOrder, AreSizes, first_page_in, owns}
+use Rattle.core_views.specs.Sizes.{AreInOrder, AreSizes, first_page_in, is_threads}
 
 -- The first pages rise with the threads.
 first_later : (z : Sizes) → AreInOrder z → (host more : ℕ) → first_page_in z.first_pages z.pages host ≤ first_page_in z.first_pages z.pages (host + more)
@@ -28,13 +28,13 @@ first_later z S host (suc more) =
 owned_within : (low high page : ℕ) → (nat_le low page && nat_lt page high) ≡ true → (low ≤ page) × (page < high)
 owned_within low high page is = (grind (arith, nat_tests), grind (arith, nat_tests))
 
-pub one_owner : (z : Sizes) → AreSizes z → (page a b : ℕ) → owns z a page ≡ true → owns z b page ≡ true → a ≡ b
+pub one_owner : (z : Sizes) → AreSizes z → (page a b : ℕ) → is_threads z a page ≡ true → is_threads z b page ≡ true → a ≡ b
 one_owner z S page a b one other = by (cases_lt a b) (cases_lt b a)
   where
-    low : (n : ℕ) → owns z n page ≡ true → (first_page_in z.first_pages z.pages n ≤ page) × (page < first_page_in z.first_pages z.pages (n + 1))
+    low : (n : ℕ) → is_threads z n page ≡ true → (first_page_in z.first_pages z.pages n ≤ page) × (page < first_page_in z.first_pages z.pages (n + 1))
     low n is = owned_within (first_page_in z.first_pages z.pages n) (first_page_in z.first_pages z.pages (n + 1)) page is
 
-    apart : (n m : ℕ) → n < m → owns z n page ≡ true → owns z m page ≡ true → ⊥
+    apart : (n m : ℕ) → n < m → is_threads z n page ≡ true → is_threads z m page ≡ true → ⊥
     apart n m lt one other =
         let A = low n one in
         let B = low m other in

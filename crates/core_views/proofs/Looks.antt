@@ -51,7 +51,7 @@ answers_without_looks (e ∷ es) =
     same_answers (is_look e.kind) e (without_looks es) (answers_of es) (λ is. (looks_are_silent e.kind is).answers e.actor (answers_of es))
     (answers_without_looks es)
 
--- The facts behind a history hang on facts alone.
+-- The facts after a history hang on facts alone.
 pub facts_behind : (es : List Event) (f : Flat) → (after_all es f).facts ≡ facts_after_all es f.facts
 facts_behind [] f = refl
 facts_behind (e ∷ es) f = facts_behind es (after e f)

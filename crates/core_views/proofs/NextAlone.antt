@@ -25,7 +25,7 @@ use Rattle.core_views.specs.SlotSets.{flat_slots}
 use Rattle.core_views.specs.Names.{frame_at, frame_for}
 use Rattle.core_views.specs.Past.{Past}
 use Rattle.core_views.specs.Flat.{Facts, Notes, LineUnderWay, Stage, Idle, Fresh, HasAccessed, HasLeft, HasChanged, HasChangedHost}
-use Rattle.core_views.specs.Events.{facts_after, line_after}
+use Rattle.core_views.specs.Events.{facts_after, under_after}
 use Rattle.core_views.specs.Lawful.{BringsIn, HasWork, IsAllowed, MayLeave, SawForbidden, Tells, slot_change}
 use Rattle.core_views.specs.FlatHistory.{by, answers, accessing, bringing, moving, reaching, doing, doing_by, rest_of}
 use Rattle.core_views.proofs.HostLines.{mapped}
@@ -38,7 +38,7 @@ pub record AreExact (f : Facts) (notes : Notes) : Type 0 where
 
 -- What is left of the line begins with this event.
 abbrev pub IsNext : Sizes → Facts → LineUnderWay → EventKind → Type 0
-IsNext z f u kind = rest_of z u.line u.stage f ≡ by u.line kind ∷ rest_of z u.line (line_after kind f u).stage (facts_after kind f)
+IsNext z f u kind = rest_of z u.line u.stage f ≡ by u.line kind ∷ rest_of z u.line (under_after kind f u).stage (facts_after kind f)
 
 -- An access: the word that it reaches, or its exit.
 

@@ -14,7 +14,7 @@ use Rattle.core_views.specs.declared.trace.Slot.{Slot}
 use Rattle.core_views.specs.Slots.{changes_fixed, contains, first_of, has_host_page, is_some_and, is_too_large, meets_guest_frames, meets_host_pages}
 use Rattle.core_views.specs.Slots.{resizes, share_guest_frames, share_host_pages, slot_with_id, Slots}
 use Rattle.core_views.specs.declared.slot_set.MemorySlot.{MemorySlot}
-use Rattle.core_views.specs.SlotSets.{IsSlotSet, MemorySlots, flat_slots, slot_at}
+use Rattle.core_views.specs.SlotSets.{IsSlotSet, MemorySlots, flat_slots, slot_of_id}
 use Rattle.core_views.specs.Places.{Places, found, slots_from}
 use Rattle.core_views.specs.Refusals.{moves_logged, set_refusal}
 use Rattle.core_views.proofs.Places.{rising}
@@ -29,12 +29,12 @@ by_test true x y rest e = inl (refl, same_Some x y e)
 by_test false x y rest e = inr e
 
 -- Where no entry passes a test, the slot with an ID doesn't.
-none_passes : (test : ℕ × Slot → Bool) (es : MemorySlots) (j : ℕ) (n : MemorySlot) → list_any test (flat_slots es) ≡ false → slot_at j es ≡ Some n
+none_passes : (test : ℕ × Slot → Bool) (es : MemorySlots) (j : ℕ) (n : MemorySlot) → list_any test (flat_slots es) ≡ false → slot_of_id j es ≡ Some n
     → test (j, n.slot) ≡ false
 none_passes test [] j n none at = cc
 none_passes test ((k, x) ∷ es) j n none at =
     let parts = or_parts (test (k, x.slot)) (list_any test (flat_slots es)) none in
-    elim (by_test (k == j) x n (slot_at j es) at) [
+    elim (by_test (k == j) x n (slot_of_id j es) at) [
       | inl p ↦ subst (λ (i : ℕ). test (i, n.slot) ≡ false) (eqb-true k j p.0) (subst (λ (y : MemorySlot). test (k, y.slot) ≡ false) p.1 parts.0)
       | inr q ↦ none_passes test es j n parts.1 q
     ]
@@ -46,26 +46,26 @@ other false s e h = h
 
 -- A place of an array of places is written.
 module _ (id : ℕ) (p : Option MemorySlot) (ps : Places) (lt : id < length ps) where
-  at_same : slot_at id (slots_from 0 (set ps id p)) ≡ p
+  at_same : slot_of_id id (slots_from 0 (set ps id p)) ≡ p
   at_same = found id (set ps id p) ∙ get_or-set_same ps id p None lt
 
-  at_other : (j : ℕ) → j ≢ id → slot_at j (slots_from 0 (set ps id p)) ≡ slot_at j (slots_from 0 ps)
+  at_other : (j : ℕ) → j ≢ id → slot_of_id j (slots_from 0 (set ps id p)) ≡ slot_of_id j (slots_from 0 ps)
   at_other j ne = found j (set ps id p) ∙ get_or-set_other ps id j p None ne ∙ sym (found j ps)
 
   -- A slot that is there afterwards is the written one, or was there.
-  either : (j : ℕ) (n : MemorySlot) → slot_at j (slots_from 0 (set ps id p)) ≡ Some n
-      → ((j ≡ id) × (p ≡ Some n)) ⊎ ((j ≢ id) × (slot_at j (slots_from 0 ps) ≡ Some n))
+  either : (j : ℕ) (n : MemorySlot) → slot_of_id j (slots_from 0 (set ps id p)) ≡ Some n
+      → ((j ≡ id) × (p ≡ Some n)) ⊎ ((j ≢ id) × (slot_of_id j (slots_from 0 ps) ≡ Some n))
   either j n at = elim (cases_eq j id) [
-    | inl same ↦ inl (same, sym at_same ∙ subst (λ (i : ℕ). slot_at i (slots_from 0 (set ps id p)) ≡ Some n) same at)
+    | inl same ↦ inl (same, sym at_same ∙ subst (λ (i : ℕ). slot_of_id i (slots_from 0 (set ps id p)) ≡ Some n) same at)
     | inr ne ↦ inr (ne, sym (at_other j ne) ∙ at)
   ]
 
 -- A slot that fits is written to a place, and is apart from all that have other IDs.
 module _ (id : ℕ) (m : MemorySlot) (ps : Places) (lt : id < length ps) (old : IsSlotSet (slots_from 0 ps))
-    (guest : (j : ℕ) (n : MemorySlot) → j ≢ id → slot_at j (slots_from 0 ps) ≡ Some n → share_guest_frames m.slot n.slot ≡ false)
-    (host : (j : ℕ) (n : MemorySlot) → j ≢ id → slot_at j (slots_from 0 ps) ≡ Some n → share_host_pages m.slot n.slot ≡ false) where
-  guest_apart : (i j : ℕ) (a b : MemorySlot) → i ≢ j → slot_at i (slots_from 0 (set ps id (Some m))) ≡ Some a
-      → slot_at j (slots_from 0 (set ps id (Some m))) ≡ Some b → share_guest_frames a.slot b.slot ≡ false
+    (guest : (j : ℕ) (n : MemorySlot) → j ≢ id → slot_of_id j (slots_from 0 ps) ≡ Some n → share_guest_frames m.slot n.slot ≡ false)
+    (host : (j : ℕ) (n : MemorySlot) → j ≢ id → slot_of_id j (slots_from 0 ps) ≡ Some n → share_host_pages m.slot n.slot ≡ false) where
+  guest_apart : (i j : ℕ) (a b : MemorySlot) → i ≢ j → slot_of_id i (slots_from 0 (set ps id (Some m))) ≡ Some a
+      → slot_of_id j (slots_from 0 (set ps id (Some m))) ≡ Some b → share_guest_frames a.slot b.slot ≡ false
   guest_apart i j a b ne ai bj = elim (either id (Some m) ps lt i a ai) [
     | inl p ↦ elim (either id (Some m) ps lt j b bj) [
       | inl q ↦ absurd (ne (p.0 ∙ sym q.0))
@@ -79,8 +79,8 @@ module _ (id : ℕ) (m : MemorySlot) (ps : Places) (lt : id < length ps) (old : 
     ]
   ]
 
-  host_apart : (i j : ℕ) (a b : MemorySlot) → i ≢ j → slot_at i (slots_from 0 (set ps id (Some m))) ≡ Some a
-      → slot_at j (slots_from 0 (set ps id (Some m))) ≡ Some b → share_host_pages a.slot b.slot ≡ false
+  host_apart : (i j : ℕ) (a b : MemorySlot) → i ≢ j → slot_of_id i (slots_from 0 (set ps id (Some m))) ≡ Some a
+      → slot_of_id j (slots_from 0 (set ps id (Some m))) ≡ Some b → share_host_pages a.slot b.slot ≡ false
   host_apart i j a b ne ai bj = elim (either id (Some m) ps lt i a ai) [
     | inl p ↦ elim (either id (Some m) ps lt j b bj) [
       | inl q ↦ absurd (ne (p.0 ∙ sym q.0))
@@ -149,7 +149,7 @@ conditions total id slot slots =
     ∷ (is_too_large total slot, TooLarge)
     ∷ (is_some_and (resizes slot) (slot_with_id id (flat_slots slots)), Resize)
     ∷ (is_some_and (changes_fixed slot) (slot_with_id id (flat_slots slots)), Fixed)
-    ∷ (is_some_and (moves_logged slot) (slot_at id slots), Logged)
+    ∷ (is_some_and (moves_logged slot) (slot_of_id id slots), Logged)
     ∷ (meets_guest_frames id slot (flat_slots slots), Overlap)
     ∷ (meets_host_pages id slot (flat_slots slots), HostOverlap)
     ∷ []
@@ -181,7 +181,7 @@ set_sound total id slot logged ps old some e =
     )
 
 -- A dirty log is set or taken away.
-pub log_sound : (id : ℕ) (m : MemorySlot) (on : Bool) (ps : Places) → AreSound ps → slot_at id (slots_from 0 ps) ≡ Some m
+pub log_sound : (id : ℕ) (m : MemorySlot) (on : Bool) (ps : Places) → AreSound ps → slot_of_id id (slots_from 0 ps) ≡ Some m
     → AreSound (set ps id (Some (record { slot = m.slot; logged = on })))
 log_sound id m on ps old at =
     let low : id ≤ 31 = old.1.ids id m at in
@@ -198,7 +198,7 @@ log_sound id m on ps old at =
 pub delete_sound : (id : ℕ) (ps : Places) → AreSound ps → id ≤ 31 → AreSound (set ps id None)
 delete_sound id ps old low =
     let lt : id < length ps = omega (arith, old.0) in
-    let was : (j : ℕ) (n : MemorySlot) → slot_at j (slots_from 0 (set ps id None)) ≡ Some n → slot_at j (slots_from 0 ps) ≡ Some n =
+    let was : (j : ℕ) (n : MemorySlot) → slot_of_id j (slots_from 0 (set ps id None)) ≡ Some n → slot_of_id j (slots_from 0 ps) ≡ Some n =
     λ j n at. elim (either id None ps lt j n at) [ inl p ↦ absurd (none-some n p.1) | inr q ↦ q.1 ] in (
       length-set ps id None ∙ old.0,
       record {

@@ -1,4 +1,4 @@
--- Histories of lines that stand alone: one line, such histories one behind the other, and the flat history.
+-- Histories of lines that stand alone: one line, such histories one after the other, and the flat history.
 use Rattle.std.proofs.Common.{◌≡◌, ℕ, List, [], ◌∷◌, ◌++◌, Bool, true, false, cond, refl, ap, ◌∙◌, append_assoc}
 use Rattle.std.specs.Prelude.{Option, Some, None}
 use Rattle.core_views.specs.declared.answer.Answer.{Answer}
@@ -25,11 +25,11 @@ use Rattle.core_views.specs.Events.{facts_after_all}
 use Rattle.core_views.specs.Lawful.{answer_at_once, slot_change}
 use Rattle.core_views.specs.FlatHistory.{by, answers, accessing, bringing, changing_host, moving, reaching, doing, doing_by, looks, looks_behind, alone}
 use Rattle.core_views.specs.FlatHistory.{one_by_one}
-use Rattle.core_views.specs.Alone.{AreWithin, IsWithin, StandsAlone, StandsFirst}
+use Rattle.core_views.specs.Alone.{AreWithin, IsInside, StandsAlone, StandsFirst}
 use Rattle.core_views.proofs.HostLines.{owned_answer}
 use Rattle.core_views.proofs.SlotChanges.{changes}
 
--- events of one line, and further ones behind them
+-- events of one line, and further ones after them
 pub within_append : (line : Line) (xs ys : List Event) → AreWithin line xs → AreWithin line ys → AreWithin line (xs ++ ys)
 within_append line [] ys front back = back
 within_append line (x ∷ xs) ys front back = (front.0, front.1, within_append line xs ys front.2 back)
@@ -48,7 +48,7 @@ more_behind line h rest more first = record {
       ∙ ap (λ (es : List Event). by line (Begun line) ∷ es) (append_assoc first.within (by line (Answered line.number first.answer) ∷ rest) more);
 }
 
--- A history of such lines, and behind it one of further lines.
+-- A history of such lines, and after it one of further lines.
 pub stands_append : (lines further : List Line) (h more : List Event) → StandsAlone h lines → StandsAlone more further
     → StandsAlone (h ++ more) (lines ++ further)
 stands_append [] further h more stands then_ = rw stands then_
@@ -115,7 +115,7 @@ change_closed z line command f change None is = record {
 change_closed z line command f change (Some answer) is = record { within = []; answer = answer; are_within = tt; events_are = refl }
 
 -- A line that changes a host page: it looks at it, and makes one event; or it is answered at once.
-looked_closed : (line : Line) (page : ℕ) (kind : EventKind) (answer : Answer) → IsWithin kind
+looked_closed : (line : Line) (page : ℕ) (kind : EventKind) (answer : Answer) → IsInside kind
     → Closed line (by line (LookedAtHost page) ∷ by line kind ∷ answers line answer)
 looked_closed line page kind answer within = record {
   within = by line (LookedAtHost page) ∷ by line kind ∷ [];

@@ -11,9 +11,9 @@ use Rattle.core_views.specs.declared.trace.Line.{Line}
 use Rattle.core_views.specs.Actors.{is_same}
 use Rattle.core_views.specs.Past.{Past, of_others, past_begun, written_frame}
 use Rattle.core_views.specs.Flat.{Facts, Flat, LineUnderWay, first_flat}
-use Rattle.core_views.specs.Events.{after, after_all, line_after, past_after}
+use Rattle.core_views.specs.Events.{after, after_all, under_after, past_after}
 use Rattle.core_views.specs.Lawful.{IsAllowed, IsLawful}
-use Rattle.core_views.specs.Alone.{IsWithin}
+use Rattle.core_views.specs.Alone.{IsInside}
 use Rattle.core_views.specs.Writes.{StaysWithin, HasBegunWrite, IsWriting}
 use Rattle.core_views.proofs.SameActor.{is_same_self, same_is}
 
@@ -102,7 +102,7 @@ stands_after a actor (SlotChanged id slot) f past gfn same is has = has
 stands_after a actor _ f past gfn same is has = has
 
 -- A write under way stays so, unless its actor begins a line or is answered.
-still_in : (a actor : Actor) (kind : EventKind) (f : Facts) (past : Past) (gfn : ℕ) → (a ≡ actor → IsWithin kind) → Contains past.writes (actor, gfn)
+still_in : (a actor : Actor) (kind : EventKind) (f : Facts) (past : Past) (gfn : ℕ) → (a ≡ actor → IsInside kind) → Contains past.writes (actor, gfn)
     → Contains (past_after a kind f past).writes (actor, gfn)
 still_in a actor (Begun line) f past gfn within has = by (is_same a actor) refl (written_frame line.command)
   where
@@ -189,7 +189,7 @@ pub record AreOfLines (f : Flat) : Type 0 where
 
 -- What a lawful event makes of its actor's line, and of whether this is a write under way.
 line_writes : (z : Sizes) (f : Facts) (past : Past) (actor : Actor) (u : LineUnderWay) (kind : EventKind) (gfn : ℕ) → IsAllowed z f past actor u kind
-    → StandsAfter kind true gfn (IsWriting u gfn) → IsWriting (line_after kind f u) gfn
+    → StandsAfter kind true gfn (IsWriting u gfn) → IsWriting (under_after kind f u) gfn
 line_writes z f past actor u (Begun line) gfn may stands = (λ e. absurd (cc e), stands)
 line_writes z f past actor u (Answered number answer) gfn may stands = absurd stands
 line_writes z f past actor u (Accessed g word op frame before) gfn may stands = (λ e. absurd (cc e), stands.1)
@@ -199,7 +199,7 @@ line_writes z f past actor u (HostChanged page entry) gfn may stands = (λ e. ab
 line_writes z f past actor u _ gfn may stands = stands
 
 line_wrote : (z : Sizes) (f : Facts) (past : Past) (actor : Actor) (u : LineUnderWay) (kind : EventKind) (gfn : ℕ) → IsAllowed z f past actor u kind
-    → IsWriting (line_after kind f u) gfn → StandsAfter kind true gfn (IsWriting u gfn)
+    → IsWriting (under_after kind f u) gfn → StandsAfter kind true gfn (IsWriting u gfn)
 line_wrote z f past actor u (Begun line) gfn may writes = writes.1
 line_wrote z f past actor u (Answered number answer) gfn may writes = writes.0 refl
 line_wrote z f past actor u (Accessed g word op frame before) gfn may writes = (λ idle. let fresh = may.0 in absurd (cc (fresh, idle)), writes.1)
@@ -231,7 +231,7 @@ are_after z e f may are = record {
     In actor gfn = Contains (past_after e.actor e.kind f.facts f.past).writes (actor, gfn)
 
     behind : LineUnderWay
-    behind = line_after e.kind f.facts (f.under e.actor)
+    behind = under_after e.kind f.facts (f.under e.actor)
 
     own_writing : (gfn : ℕ) → In e.actor gfn → IsWriting behind gfn
     own_writing gfn has =

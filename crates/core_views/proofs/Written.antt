@@ -7,28 +7,28 @@ use Rattle.core_views.specs.declared.event.Event.{Event}
 use Rattle.core_views.specs.declared.event.EventKind.{EventKind}
 use Rattle.core_views.specs.declared.event.EventKind.TheVariants.{Begun, SlotChanged, Answered}
 use Rattle.core_views.specs.declared.slot_set.MemorySlot.{MemorySlot}
-use Rattle.core_views.specs.SlotSets.{slot_at}
-use Rattle.core_views.specs.Past.{Frames, Past, counted_anew, is_being_written, is_frame_of, of_others, past_begun, with_frame, written_frame}
+use Rattle.core_views.specs.SlotSets.{slot_of_id}
+use Rattle.core_views.specs.Past.{FrameSet, Past, counted_anew, is_being_written, has_gfn, of_others, past_begun, with_guest_frame, written_frame}
 use Rattle.core_views.specs.Flat.{Facts, Flat}
 use Rattle.core_views.specs.Events.{after, after_all, past_after}
 use Rattle.core_views.specs.Writes.{IsOutside, KeepsSlot, SlotKept}
 use Rattle.core_views.proofs.Writes.{cons_cases, first_in, later_in, of_another}
 
 -- what an event makes of such frames
-abbrev pub begun_frames : Option ℕ → Frames → Frames
+abbrev pub begun_frames : Option ℕ → FrameSet → FrameSet
 begun_frames None frames = frames
-begun_frames (Some gfn) frames = with_frame gfn frames
+begun_frames (Some gfn) frames = with_guest_frame gfn frames
 
-abbrev pub moved : EventKind → Facts → List (Actor × ℕ) → Frames → Frames
+abbrev pub moved : EventKind → Facts → List (Actor × ℕ) → FrameSet → FrameSet
 moved (Begun line) f writes frames = begun_frames (written_frame line.command) frames
-moved (SlotChanged id slot) f writes frames = counted_anew (slot_at id f.slots) slot writes frames
+moved (SlotChanged id slot) f writes frames = counted_anew (slot_of_id id f.slots) slot writes frames
 moved _ f writes frames = frames
 
 pub recent_moves : (a : Actor) (kind : EventKind) (f : Facts) (past : Past)
-    → ◌≡◌ {A = Frames} (past_after a kind f past).recent (moved kind f past.writes past.recent)
+    → ◌≡◌ {A = FrameSet} (past_after a kind f past).recent (moved kind f past.writes past.recent)
 recent_moves a (Begun line) f past = by (written_frame line.command)
   where
-    by : (frame : Option ℕ) → ◌≡◌ {A = Frames} (past_begun a frame past).recent (begun_frames frame past.recent)
+    by : (frame : Option ℕ) → ◌≡◌ {A = FrameSet} (past_begun a frame past).recent (begun_frames frame past.recent)
     by None = refl
     by (Some gfn) = refl
 recent_moves a (SlotChanged id slot) f past = refl
@@ -36,10 +36,10 @@ recent_moves a (Answered number answer) f past = refl
 recent_moves a _ f past = refl
 
 pub causes_move : (a : Actor) (kind : EventKind) (f : Facts) (past : Past)
-    → ◌≡◌ {A = Frames} (past_after a kind f past).causes (moved kind f past.writes past.causes)
+    → ◌≡◌ {A = FrameSet} (past_after a kind f past).causes (moved kind f past.writes past.causes)
 causes_move a (Begun line) f past = by (written_frame line.command)
   where
-    by : (frame : Option ℕ) → ◌≡◌ {A = Frames} (past_begun a frame past).causes (begun_frames frame past.causes)
+    by : (frame : Option ℕ) → ◌≡◌ {A = FrameSet} (past_begun a frame past).causes (begun_frames frame past.causes)
     by None = refl
     by (Some gfn) = refl
 causes_move a (SlotChanged id slot) f past = refl
@@ -85,28 +85,28 @@ is_written (write ∷ writes) actor gfn has = by (cons_cases write writes (actor
 -- ---- one event
 
 -- The frame stays, where its slot does.
-begun_keep : (frame : Option ℕ) (frames : Frames) (gfn : ℕ) → frames gfn ≡ true → begun_frames frame frames gfn ≡ true
+begun_keep : (frame : Option ℕ) (frames : FrameSet) (gfn : ℕ) → frames gfn ≡ true → begun_frames frame frames gfn ≡ true
 begun_keep None frames gfn is = is
 begun_keep (Some first) frames gfn is = or_second (first == gfn) (frames gfn) is
 
-out_is : (slot : Option MemorySlot) (gfn : ℕ) → IsOutside gfn slot → is_frame_of slot gfn ≡ false
+out_is : (slot : Option MemorySlot) (gfn : ℕ) → IsOutside gfn slot → has_gfn slot gfn ≡ false
 out_is None gfn out = refl
 out_is (Some slot) gfn out = out
 
-is_out : (slot : Option MemorySlot) (gfn : ℕ) → is_frame_of slot gfn ≡ false → IsOutside gfn slot
+is_out : (slot : Option MemorySlot) (gfn : ℕ) → has_gfn slot gfn ≡ false → IsOutside gfn slot
 is_out None gfn is = tt
 is_out (Some slot) gfn is = is
 
-moved_keeps : (kind : EventKind) (f : Facts) (writes : List (Actor × ℕ)) (frames : Frames) (gfn : ℕ) → KeepsSlot gfn f kind → frames gfn ≡ true
+moved_keeps : (kind : EventKind) (f : Facts) (writes : List (Actor × ℕ)) (frames : FrameSet) (gfn : ℕ) → KeepsSlot gfn f kind → frames gfn ≡ true
     → moved kind f writes frames gfn ≡ true
 moved_keeps (Begun line) f writes frames gfn keeps is = begun_keep (written_frame line.command) frames gfn is
 moved_keeps (SlotChanged id slot) f writes frames gfn keeps is =
-    let none = or_from (is_frame_of (slot_at id f.slots) gfn) (is_frame_of slot gfn) (out_is (slot_at id f.slots) gfn keeps.0) (out_is slot gfn keeps.1) in
+    let none = or_from (has_gfn (slot_of_id id f.slots) gfn) (has_gfn slot gfn) (out_is (slot_of_id id f.slots) gfn keeps.0) (out_is slot gfn keeps.1) in
     ap (λ b. if b then is_being_written writes gfn else frames gfn) none ∙ is
 moved_keeps _ f writes frames gfn keeps is = is
 
 -- It was there, or a write of it is under way.
-begun_was : (a : Actor) (frame : Option ℕ) (past : Past) (frames : Frames) (gfn : ℕ) → begun_frames frame frames gfn ≡ true
+begun_was : (a : Actor) (frame : Option ℕ) (past : Past) (frames : FrameSet) (gfn : ℕ) → begun_frames frame frames gfn ≡ true
     → WritesNow (past_begun a frame past).writes gfn ⊎ (frames gfn ≡ true)
 begun_was a None past frames gfn is = inr is
 begun_was a (Some first) past frames gfn is = by (or_either (first == gfn) (frames gfn) is)
@@ -116,7 +116,7 @@ begun_was a (Some first) past frames gfn is = by (or_either (first == gfn) (fram
         inl (record { actor = a; has = subst (λ n. Contains (past_begun a (Some first) past).writes (a, n)) (eqb-true first gfn same) (first_in (a, first) _) })
     by (inr there) = inr there
 
-moved_was : (a : Actor) (kind : EventKind) (f : Facts) (past : Past) (frames : Frames) (gfn : ℕ) → moved kind f past.writes frames gfn ≡ true
+moved_was : (a : Actor) (kind : EventKind) (f : Facts) (past : Past) (frames : FrameSet) (gfn : ℕ) → moved kind f past.writes frames gfn ≡ true
     → WritesNow (past_after a kind f past).writes gfn ⊎ ((frames gfn ≡ true) × KeepsSlot gfn f kind)
 moved_was a (Begun line) f past frames gfn is = by (begun_was a (written_frame line.command) past frames gfn is)
   where
@@ -124,34 +124,34 @@ moved_was a (Begun line) f past frames gfn is = by (begun_was a (written_frame l
         → WritesNow (past_begun a (written_frame line.command) past).writes gfn ⊎ ((frames gfn ≡ true) × Unit {0})
     by (inl now_) = inl now_
     by (inr there) = inr (there, tt)
-moved_was a (SlotChanged id slot) f past frames gfn is = by (is_frame_of (slot_at id f.slots) gfn || is_frame_of slot gfn) refl is
+moved_was a (SlotChanged id slot) f past frames gfn is = by (has_gfn (slot_of_id id f.slots) gfn || has_gfn slot gfn) refl is
   where
-    by : (b : Bool) → (is_frame_of (slot_at id f.slots) gfn || is_frame_of slot gfn) ≡ b → (if b then is_being_written past.writes gfn else frames gfn) ≡ true
-        → WritesNow past.writes gfn ⊎ ((frames gfn ≡ true) × (IsOutside gfn (slot_at id f.slots) × IsOutside gfn slot))
+    by : (b : Bool) → (has_gfn (slot_of_id id f.slots) gfn || has_gfn slot gfn) ≡ b → (if b then is_being_written past.writes gfn else frames gfn) ≡ true
+        → WritesNow past.writes gfn ⊎ ((frames gfn ≡ true) × (IsOutside gfn (slot_of_id id f.slots) × IsOutside gfn slot))
     by true holds is = inl (some_writes past.writes gfn is)
     by false apart is =
-        let both = or_parts (is_frame_of (slot_at id f.slots) gfn) (is_frame_of slot gfn) apart in
-        inr (is, (is_out (slot_at id f.slots) gfn both.0, is_out slot gfn both.1))
+        let both = or_parts (has_gfn (slot_of_id id f.slots) gfn) (has_gfn slot gfn) apart in
+        inr (is, (is_out (slot_of_id id f.slots) gfn both.0, is_out slot gfn both.1))
 moved_was a (Answered number answer) f past frames gfn is = inr (is, tt)
 moved_was a _ f past frames gfn is = inr (is, tt)
 
 -- Each frame that is being written is there.
-abbrev pub AllWritten : List (Actor × ℕ) → Frames → ℕ → Type 0
+abbrev pub AllWritten : List (Actor × ℕ) → FrameSet → ℕ → Type 0
 AllWritten writes frames gfn = (actor : Actor) → Contains writes (actor, gfn) → frames gfn ≡ true
 
-begun_written : (a : Actor) (frame : Option ℕ) (past : Past) (frames : Frames) (gfn : ℕ) → AllWritten past.writes frames gfn
+begun_written : (a : Actor) (frame : Option ℕ) (past : Past) (frames : FrameSet) (gfn : ℕ) → AllWritten past.writes frames gfn
     → AllWritten (past_begun a frame past).writes (begun_frames frame frames) gfn
 begun_written a None past frames gfn all actor has = all actor (of_another a actor past.writes gfn has).0
 begun_written a (Some first) past frames gfn all actor has = by (cons_cases (a, first) _ (actor, gfn) has)
   where
-    by : ◌≡◌ {A = Actor × ℕ} (a, first) (actor, gfn) ⊎ Contains (of_others a past.writes) (actor, gfn) → with_frame first frames gfn ≡ true
+    by : ◌≡◌ {A = Actor × ℕ} (a, first) (actor, gfn) ⊎ Contains (of_others a past.writes) (actor, gfn) → with_guest_frame first frames gfn ≡ true
     by (inl e) = or_first (first == gfn) (frames gfn) (eq-eqb first gfn (ap (λ (w : Actor × ℕ). w.1) e))
     by (inr later) = or_second (first == gfn) (frames gfn) (all actor (of_another a actor past.writes gfn later).0)
 
-moved_written : (a : Actor) (kind : EventKind) (f : Facts) (past : Past) (frames : Frames) (gfn : ℕ) → AllWritten past.writes frames gfn
+moved_written : (a : Actor) (kind : EventKind) (f : Facts) (past : Past) (frames : FrameSet) (gfn : ℕ) → AllWritten past.writes frames gfn
     → AllWritten (past_after a kind f past).writes (moved kind f past.writes frames) gfn
 moved_written a (Begun line) f past frames gfn all actor has = begun_written a (written_frame line.command) past frames gfn all actor has
-moved_written a (SlotChanged id slot) f past frames gfn all actor has = by (is_frame_of (slot_at id f.slots) gfn || is_frame_of slot gfn)
+moved_written a (SlotChanged id slot) f past frames gfn all actor has = by (has_gfn (slot_of_id id f.slots) gfn || has_gfn slot gfn)
   where
     by : (b : Bool) → (if b then is_being_written past.writes gfn else frames gfn) ≡ true
     by true = is_written past.writes actor gfn has
@@ -161,9 +161,9 @@ moved_written a _ f past frames gfn all actor has = all actor has
 
 -- ---- a list of events, from any state
 
-module _ (pick : Past → Frames)
+module _ (pick : Past → FrameSet)
     (moves : (a : Actor) (kind : EventKind) (f : Facts) (past : Past)
-    → ◌≡◌ {A = Frames} (pick (past_after a kind f past)) (moved kind f past.writes (pick past)))
+    → ◌≡◌ {A = FrameSet} (pick (past_after a kind f past)) (moved kind f past.writes (pick past)))
     (gfn : ℕ) where
   -- At some moment among these events the frame was being written, and its slot is kept since.
   pub record WasSince (es : List Event) (f : Flat) : Type 0 where
@@ -197,13 +197,13 @@ module _ (pick : Past → Frames)
       by (inr stood) =
           here stood.1
           (moved_was e.actor e.kind f.facts f.past (pick f.past) gfn
-          (ap (λ (frames : Frames). frames gfn) (sym (moves e.actor e.kind f.facts f.past)) ∙ stood.0))
+          (ap (λ (frames : FrameSet). frames gfn) (sym (moves e.actor e.kind f.facts f.past)) ∙ stood.0))
 
   stays : (es : List Event) (f : Flat) → SlotKept gfn f.facts es → pick f.past gfn ≡ true → pick (after_all es f).past gfn ≡ true
   stays [] f kept is = is
   stays (e ∷ es) f kept is =
       stays es (after e f) kept.1
-      (ap (λ (frames : Frames). frames gfn) (moves e.actor e.kind f.facts f.past) ∙ moved_keeps e.kind f.facts f.past.writes (pick f.past) gfn kept.0 is)
+      (ap (λ (frames : FrameSet). frames gfn) (moves e.actor e.kind f.facts f.past) ∙ moved_keeps e.kind f.facts f.past.writes (pick f.past) gfn kept.0 is)
 
   was_from : (before since : List Event) (f : Flat) (actor : Actor) → AllWritten f.past.writes (pick f.past) gfn
       → Contains (after_all before f).past.writes (actor, gfn) → SlotKept gfn (after_all before f).facts since
@@ -211,7 +211,7 @@ module _ (pick : Past → Frames)
   was_from [] since f actor all has kept = stays since f kept (all actor has)
   was_from (e ∷ es) since f actor all has kept =
       was_from es since (after e f) actor
-      (λ x now_. ap (λ (frames : Frames). frames gfn) (moves e.actor e.kind f.facts f.past)
+      (λ x now_. ap (λ (frames : FrameSet). frames gfn) (moves e.actor e.kind f.facts f.past)
       ∙ moved_written e.actor e.kind f.facts f.past (pick f.past) gfn all x now_) has kept
 
   pub was_stands : (es : List Event) (f : Flat) → AllWritten f.past.writes (pick f.past) gfn → WasSince es f → pick (after_all es f).past gfn ≡ true

@@ -30,15 +30,15 @@ without_looks [] = []
 without_looks (e ∷ es) = if is_look e.kind then without_looks es else e ∷ without_looks es
 
 -- The event stands within a line: it neither begins nor answers one.
-abbrev pub IsWithin : EventKind → Type 0
-IsWithin (Begun line) = ⊥
-IsWithin (Answered line answer) = ⊥
-IsWithin _ = Unit {0}
+abbrev pub IsInside : EventKind → Type 0
+IsInside (Begun line) = ⊥
+IsInside (Answered line answer) = ⊥
+IsInside _ = Unit {0}
 
 -- Each of the events is of the line's actor, and stands within a line.
 abbrev pub AreWithin : Line → List Event → Type 0
 AreWithin line [] = Unit {0}
-AreWithin line (e ∷ es) = (e.actor ≡ line.actor) × IsWithin e.kind × AreWithin line es
+AreWithin line (e ∷ es) = (e.actor ≡ line.actor) × IsInside e.kind × AreWithin line es
 
 -- The history starts with the whole of this line: its begin, events of its own, its answer; the rest comes after.
 pub record StandsFirst (line : Line) (history rest : List Event) : Type 0 where

@@ -9,15 +9,15 @@ use Rattle.core_views.specs.declared.actor.Actor.{Actor}
 use Rattle.core_views.specs.Actors.{changed_at}
 use Rattle.core_views.specs.Host.{brought_in, mapping, with_entry}
 use Rattle.core_views.specs.Slots.{page_behind}
-use Rattle.core_views.specs.SlotSets.{changed_slots, flat_slots, slot_at}
-use Rattle.core_views.specs.Memory.{Memory, with_word, stored}
+use Rattle.core_views.specs.SlotSets.{changed_slots, flat_slots, slot_of_id}
+use Rattle.core_views.specs.Memory.{Memory, with_word, word_after_op}
 use Rattle.core_views.specs.Past.{Past, counted_anew, of_others, past_begun, written_frame}
 use Rattle.core_views.specs.Flat.{Facts, LineUnderWay, Flat, no_notes, Idle, Fresh, HasAccessed, HasLeft, HasChanged, HasChangedHost}
 
 -- the memory after an access to a word of this host page
 abbrev pub touched : Option ℕ → ℕ → Op → Memory → Memory
 touched None word op memory = memory
-touched (Some page) word op memory = with_word page word (stored op (memory page word)) memory
+touched (Some page) word op memory = with_word page word (word_after_op op (memory page word)) memory
 
 -- the facts after the event: only an access changes memory, only a slot change the slots, only a host change and an access the host, and nothing the pause
 abbrev pub facts_after : EventKind → Facts → Facts
@@ -33,29 +33,29 @@ past_after actor (Begun line) f past = past_begun actor (written_frame line.comm
 past_after actor (Answered line answer) f past = record past { writes = of_others actor past.writes }
 past_after actor (SlotChanged id slot) f past =
     record past {
-      recent = counted_anew (slot_at id f.slots) slot past.writes past.recent;
-      causes = counted_anew (slot_at id f.slots) slot past.writes past.causes;
+      recent = counted_anew (slot_of_id id f.slots) slot past.writes past.recent;
+      causes = counted_anew (slot_of_id id f.slots) slot past.writes past.causes;
     }
 past_after actor _ f past = past
 
 -- the line under way after an event of its actor
-abbrev pub line_after : EventKind → Facts → LineUnderWay → LineUnderWay
-line_after (Begun line) f u = record { line = line; stage = Fresh; notes = no_notes }
-line_after LookedAtPause f u = record u { notes = record u.notes { paused = Some f.paused } }
-line_after LookedAtSlots f u = record u { notes = record u.notes { slots = Some (flat_slots f.slots) } }
-line_after (LookedAtHost page) f u = record u { notes = record u.notes { host = with_entry page (f.host page) u.notes.host } }
-line_after (BroughtIn page) f u = u
-line_after (Accessed gfn word op frame before) f u = record u { stage = HasAccessed frame before }
-line_after (Exited answer) f u = record u { stage = HasLeft answer }
-line_after (SlotChanged id slot) f u = record u { stage = HasChanged }
-line_after (HostChanged page entry) f u = record u { stage = HasChangedHost entry }
-line_after (Answered line answer) f u = record u { stage = Idle }
+abbrev pub under_after : EventKind → Facts → LineUnderWay → LineUnderWay
+under_after (Begun line) f u = record { line = line; stage = Fresh; notes = no_notes }
+under_after LookedAtPause f u = record u { notes = record u.notes { paused = Some f.paused } }
+under_after LookedAtSlots f u = record u { notes = record u.notes { slots = Some (flat_slots f.slots) } }
+under_after (LookedAtHost page) f u = record u { notes = record u.notes { host = with_entry page (f.host page) u.notes.host } }
+under_after (BroughtIn page) f u = u
+under_after (Accessed gfn word op frame before) f u = record u { stage = HasAccessed frame before }
+under_after (Exited answer) f u = record u { stage = HasLeft answer }
+under_after (SlotChanged id slot) f u = record u { stage = HasChanged }
+under_after (HostChanged page entry) f u = record u { stage = HasChangedHost entry }
+under_after (Answered line answer) f u = record u { stage = Idle }
 
 abbrev pub after : Event → Flat → Flat
 after e f = record {
   facts = facts_after e.kind f.facts;
   past = past_after e.actor e.kind f.facts f.past;
-  under = changed_at e.actor (line_after e.kind f.facts (f.under e.actor)) f.under;
+  under = changed_at e.actor (under_after e.kind f.facts (f.under e.actor)) f.under;
 }
 
 -- the state, and the facts, after a whole history

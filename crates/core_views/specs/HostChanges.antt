@@ -15,7 +15,7 @@ use Rattle.core_views.specs.declared.trace.Command.TheVariants.{ChangeHost}
 use Rattle.core_views.specs.declared.trace.HostChange.{HostChange}
 use Rattle.core_views.specs.declared.trace.HostChange.TheVariants.{Move, Evict, Protect, Allow}
 use Rattle.core_views.specs.Host.{HostMap}
-use Rattle.core_views.specs.Sizes.{owns}
+use Rattle.core_views.specs.Sizes.{is_threads}
 use Rattle.core_views.specs.Slots.{first_of}
 
 -- The command is one that changes a host page.
@@ -30,7 +30,7 @@ moves_page _ = false
 
 -- The host page is one of the actor's own.
 abbrev pub is_own : Sizes → Actor → ℕ → Bool
-is_own z (Host host) page = owns z host page
+is_own z (Host host) page = is_threads z host page
 is_own z _ page = false
 
 -- why the actor may not change the host page, whatever the host maps it to

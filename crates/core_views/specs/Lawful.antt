@@ -23,14 +23,14 @@ use Rattle.core_views.specs.SlotCommands.{change_refusal}
 pub use Rattle.core_views.specs.SlotCommands.{slot_change}
 use Rattle.core_views.specs.Host.{is_denied}
 use Rattle.core_views.specs.HostChanges.{Agree, Changes, host_answer, host_refusal}
-use Rattle.core_views.specs.Names.{names}
+use Rattle.core_views.specs.Names.{named_frame}
 use Rattle.core_views.specs.Past.{Past}
 use Rattle.core_views.specs.Flat.{Facts, Notes, LineUnderWay, Flat, Stage, Idle, Fresh, HasAccessed, HasLeft, HasChanged, HasChangedHost}
 use Rattle.core_views.specs.Events.{after}
 
 -- The access reaches the frame that slots and host name now, at a word that holds `before`.
 pub record Reaches (f : Facts) (gfn word : ℕ) (op : Op) (frame before : ℕ) : Type 0 where
-  pub named : names (flat_slots f.slots) f.host gfn op ≡ Some frame
+  pub named : named_frame (flat_slots f.slots) f.host gfn op ≡ Some frame
   pub page : ℕ
   pub behind : page_behind (flat_slots f.slots) gfn op ≡ Some page
   pub value_is : f.memory page word ≡ before

@@ -65,7 +65,7 @@ manager_line number id slot = record { number = number; actor = Manager; command
 abbrev pub access_line : ℕ → ℕ → ℕ → ℕ → Op → Line
 access_line number vcpu gfn word op = record { number = number; actor = Vcpu vcpu; command = Access gfn word op }
 
--- slots that are refused, a read-only slot and one behind it, and accesses on both sides of the ends of both, to both words of a page
+-- slots that are refused, a read-only slot and one after it, and accesses on both sides of the ends of both, to both words of a page
 abbrev pub example : List Line
 example =
     manager_line 2 0 (example_slot (2 ^ 36 - 2) 64 false)

@@ -15,7 +15,7 @@ abbrev pub with_word : ℕ → ℕ → ℕ → Memory → Memory
 with_word page word x memory p w = if (page == p) && (word == w) then x else memory p w
 
 -- what the word holds after the operation, where it held `before`
-abbrev pub stored : Op → ℕ → ℕ
-stored Read before = before
-stored (Write x) before = x
-stored (Add x) before = (before + x) % 2 ^ 64
+abbrev pub word_after_op : Op → ℕ → ℕ
+word_after_op Read before = before
+word_after_op (Write x) before = x
+word_after_op (Add x) before = (before + x) % 2 ^ 64

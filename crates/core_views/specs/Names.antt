@@ -14,5 +14,5 @@ frame_at host op None = None
 frame_at host op (Some page) = frame_for op (host page)
 
 -- the frame that an operation on the guest frame reaches
-abbrev pub names : Slots → HostMap → ℕ → Op → Option ℕ
-names slots host gfn op = frame_at host op (page_behind slots gfn op)
+abbrev pub named_frame : Slots → HostMap → ℕ → Op → Option ℕ
+named_frame slots host gfn op = frame_at host op (page_behind slots gfn op)

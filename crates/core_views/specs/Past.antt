@@ -9,14 +9,14 @@ use Rattle.core_views.specs.Actors.{is_same}
 use Rattle.core_views.specs.Slots.{contains, is_write}
 
 -- a set of guest frames
-abbrev pub Frames : Type 0
-Frames = ℕ → Bool
+abbrev pub FrameSet : Type 0
+FrameSet = ℕ → Bool
 
 -- A write that is under way may still reach its frame, or have done so. No log is read yet, and so `recent` and `causes` are the same frames.
 pub record Past : Type 0 where
   pub writes : List (Actor × ℕ)  -- the lines under way that write: the actor of each, and its guest frame
-  pub recent : Frames  -- Such a line was under way at some moment since a log was last read, and since the frame's slot was last changed.
-  pub causes : Frames  -- One was since the log was last read that gave the frame, and since the frame's slot was last changed.
+  pub recent : FrameSet  -- Such a line was under way at some moment since a log was last read, and since the frame's slot was last changed.
+  pub causes : FrameSet  -- One was since the log was last read that gave the frame, and since the frame's slot was last changed.
 
 -- At the start no line is under way.
 abbrev pub first_past : Past
@@ -36,24 +36,24 @@ abbrev pub of_others : Actor → List (Actor × ℕ) → List (Actor × ℕ)
 of_others actor writes = filter (λ write. not (is_same actor write.0)) writes
 
 -- these frames, and one more
-abbrev pub with_frame : ℕ → Frames → Frames
-with_frame gfn frames = λ other. gfn == other || frames other
+abbrev pub with_guest_frame : ℕ → FrameSet → FrameSet
+with_guest_frame gfn frames = λ other. gfn == other || frames other
 
 -- A line begins that writes this frame, or none. Its actor's last line is over.
 abbrev pub past_begun : Actor → Option ℕ → Past → Past
 past_begun actor None past = record past { writes = of_others actor past.writes }
 past_begun actor (Some gfn) past = record {
   writes = (actor, gfn) ∷ of_others actor past.writes;
-  recent = with_frame gfn past.recent;
-  causes = with_frame gfn past.causes;
+  recent = with_guest_frame gfn past.recent;
+  causes = with_guest_frame gfn past.causes;
 }
 
 -- The slot, if there is one, has the guest frame.
-abbrev pub is_frame_of : Option MemorySlot → ℕ → Bool
-is_frame_of None gfn = false
-is_frame_of (Some slot) gfn = contains gfn slot.slot
+abbrev pub has_gfn : Option MemorySlot → ℕ → Bool
+has_gfn None gfn = false
+has_gfn (Some slot) gfn = contains gfn slot.slot
 
 -- these frames, where the slot at an ID is changed: each frame of the one that was there, and of the one that is there now, counts anew, from now on, with
 -- the writes that are under way now
-abbrev pub counted_anew : Option MemorySlot → Option MemorySlot → List (Actor × ℕ) → Frames → Frames
-counted_anew was slot writes frames = λ gfn. if is_frame_of was gfn || is_frame_of slot gfn then is_being_written writes gfn else frames gfn
+abbrev pub counted_anew : Option MemorySlot → Option MemorySlot → List (Actor × ℕ) → FrameSet → FrameSet
+counted_anew was slot writes frames = λ gfn. if has_gfn was gfn || has_gfn slot gfn then is_being_written writes gfn else frames gfn

@@ -7,7 +7,7 @@ use Rattle.core_views.specs.declared.sizes.Sizes.{Sizes}
 use Rattle.core_views.specs.declared.trace.Command.{Command}
 use Rattle.core_views.specs.declared.trace.Command.TheVariants.{Access}
 use Rattle.core_views.specs.declared.trace.Op.{Op}
-use Rattle.core_views.specs.Memory.{stored}
+use Rattle.core_views.specs.Memory.{word_after_op}
 use Rattle.core_views.specs.Slots.{is_write}
 use Rattle.core_views.specs.Past.{written_frame}
 use Rattle.core_views.specs.Flat.{first_flat}
@@ -36,7 +36,7 @@ ReachedFramesAreKept =
 
 -- Any other access leaves in the word what was there.
 abbrev pub OnlyWritesChange : Type 0
-OnlyWritesChange = (op : Op) (before : ℕ) → is_write op ≡ false → stored op before ≡ before
+OnlyWritesChange = (op : Op) (before : ℕ) → is_write op ≡ false → word_after_op op before ≡ before
 
 -- The command is an access that writes the frame.
 pub record WritesFrame (command : Command) (gfn : ℕ) : Type 0 where

@@ -5,7 +5,7 @@ use Rattle.core_views.specs.declared.answer.Refusal.TheVariants.{BadId, TooLarge
 use Rattle.core_views.specs.declared.trace.Slot.{Slot}
 use Rattle.core_views.specs.declared.slot_set.MemorySlot.{MemorySlot}
 use Rattle.core_views.specs.Slots.{changes_fixed, first_of, is_some_and, is_too_large, meets_guest_frames, meets_host_pages, resizes, slot_with_id}
-use Rattle.core_views.specs.SlotSets.{MemorySlots, flat_slots, slot_at, with_slot_at}
+use Rattle.core_views.specs.SlotSets.{MemorySlots, flat_slots, slot_of_id, with_slot_at}
 
 -- The slot that was there has a dirty log, and another first guest frame.
 abbrev pub moves_logged : Slot → MemorySlot → Bool
@@ -22,31 +22,31 @@ set_refusal total id slot slots = first_of (
     ∷ (is_too_large total slot, TooLarge)
     ∷ (is_some_and (resizes slot) (slot_with_id id (flat_slots slots)), Resize)
     ∷ (is_some_and (changes_fixed slot) (slot_with_id id (flat_slots slots)), Fixed)
-    ∷ (is_some_and (moves_logged slot) (slot_at id slots), Logged)
+    ∷ (is_some_and (moves_logged slot) (slot_of_id id slots), Logged)
     ∷ (meets_guest_frames id slot (flat_slots slots), Overlap)
     ∷ (meets_host_pages id slot (flat_slots slots), HostOverlap)
     ∷ [])
 
 -- The slot with the ID, if there is one, has a dirty log.
 abbrev pub is_logged : ℕ → MemorySlots → Bool
-is_logged id slots = is_some_and (λ slot. slot.logged) (slot_at id slots)
+is_logged id slots = is_some_and (λ slot. slot.logged) (slot_of_id id slots)
 
 -- why the deletion of the slot with the ID is refused
 abbrev pub delete_refusal : ℕ → MemorySlots → Option Refusal
 delete_refusal id slots = first_of (
     (nat_lt 31 id, BadId)
-    ∷ (is_none (slot_at id slots), Missing)
+    ∷ (is_none (slot_of_id id slots), Missing)
     ∷ (is_logged id slots, Logged)
     ∷ [])
 
 -- why the slot with the ID gets no dirty log, or, where this is false, why it loses none
 abbrev pub log_refusal : Bool → ℕ → MemorySlots → Option Refusal
 log_refusal true id slots = first_of (
-    (is_none (slot_at id slots), Missing)
+    (is_none (slot_of_id id slots), Missing)
     ∷ (is_logged id slots, Logged)
     ∷ [])
 log_refusal false id slots = first_of (
-    (is_none (slot_at id slots), Missing)
+    (is_none (slot_of_id id slots), Missing)
     ∷ (not (is_logged id slots), NoLog)
     ∷ [])
 
@@ -61,4 +61,4 @@ with_log_of on id (Some was) slots = with_slot_at id (record { slot = was.slot; 
 
 -- the slots, with the dirty log of the one with the ID on or off
 abbrev pub after_log : Bool → ℕ → MemorySlots → MemorySlots
-after_log on id slots = with_log_of on id (slot_at id slots) slots
+after_log on id slots = with_log_of on id (slot_of_id id slots) slots

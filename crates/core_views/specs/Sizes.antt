@@ -35,8 +35,8 @@ abbrev pub no_sizes : Sizes
 no_sizes = record { pages = 0; frames = 0; words = 0; pool = 0; cache = 0; vcpus = 0; hosts = 0; workers = 0; mode = Automatic; first_pages = [] }
 
 -- The host page is one of this host thread's own: from the thread's first page up to the next thread's.
-abbrev pub owns : Sizes → ℕ → ℕ → Bool
-owns z host page = nat_le (first_page_in z.first_pages z.pages host) page && nat_lt page (first_page_in z.first_pages z.pages (host + 1))
+abbrev pub is_threads : Sizes → ℕ → ℕ → Bool
+is_threads z host page = nat_le (first_page_in z.first_pages z.pages host) page && nat_lt page (first_page_in z.first_pages z.pages (host + 1))
 
 -- how many actors there are: virtual processors, host threads, the manager, workers
 abbrev pub actors_of : Sizes → ℕ

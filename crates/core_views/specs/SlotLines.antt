@@ -10,7 +10,7 @@ use Rattle.core_views.specs.FlatHistory.{one_by_one}
 use Rattle.core_views.specs.Laws.{access_line, example_sizes, manager_line}
 use Rattle.core_views.specs.Refusals.{after_set}
 use Rattle.core_views.specs.SlotCommands.{slots_after}
-use Rattle.core_views.specs.SlotSets.{MemorySlots, slot_at}
+use Rattle.core_views.specs.SlotSets.{MemorySlots, slot_of_id}
 use Rattle.core_views.specs.Text.{text}
 
 -- Flat memory sets the slot that the manager's record sets.
@@ -26,12 +26,12 @@ has_log (Some slot) = slot.logged
 abbrev pub SetsAtItsId : Type 0
 SetsAtItsId =
     (id : ℕ) (slot : Slot) (slots : MemorySlots)
-    → slot_at id (slots_after (SetSlot id slot) slots) ≡ Some (record { slot = slot; logged = has_log (slot_at id slots) })
+    → slot_of_id id (slots_after (SetSlot id slot) slots) ≡ Some (record { slot = slot; logged = has_log (slot_of_id id slots) })
 
 -- At each other ID stands what stood there.
 abbrev pub KeepsOtherIds : Type 0
 KeepsOtherIds =
-    (id other : ℕ) (slot : Slot) (slots : MemorySlots) → other ≢ id → slot_at other (slots_after (SetSlot id slot) slots) ≡ slot_at other slots
+    (id other : ℕ) (slot : Slot) (slots : MemorySlots) → other ≢ id → slot_of_id other (slots_after (SetSlot id slot) slots) ≡ slot_of_id other slots
 
 -- a slot of so many pages that may be written
 abbrev pub open_slot : ℕ → ℕ → ℕ → Slot
@@ -39,8 +39,8 @@ open_slot base pages host = record { base = base; pages = pages; host = host; re
 
 -- On a machine of 128 host pages: a slot that reaches one page past guest frame 2 ^ 36 - 1, and one that ends with it, and accesses to this frame; a slot that
 -- reaches one page past host page 127, and one that ends with it, in guest frames 5 to 68, and accesses to the last of them and to the one after it.
-abbrev pub fitting : List Line
-fitting =
+abbrev pub fitting_lines : List Line
+fitting_lines =
     manager_line 2 0 (open_slot (2 ^ 36 - 3) 4 0)
     ∷ manager_line 3 1 (open_slot (2 ^ 36 - 3) 3 0)
     ∷ access_line 4 0 (2 ^ 36 - 1) 1 (Write 5)
@@ -59,4 +59,4 @@ fitting_bytes =
     ++ codes "6 vm refused too-large\n7 vm done\n8 v0 frame 127 value 0\n9 v1 frame 127 value 7\n10 v0 mmio\n"
 
 abbrev pub FittingPrints : Type 0
-FittingPrints = text (one_by_one example_sizes fitting first_facts) ≡ fitting_bytes
+FittingPrints = text (one_by_one example_sizes fitting_lines first_facts) ≡ fitting_bytes

@@ -12,8 +12,8 @@ abbrev pub MemorySlots : Type 0
 MemorySlots = List (ℕ × MemorySlot)
 
 -- the slot with the ID, or none
-abbrev pub slot_at : ℕ → MemorySlots → Option MemorySlot
-slot_at id slots = lookup (λ i. i == id) slots
+abbrev pub slot_of_id : ℕ → MemorySlots → Option MemorySlot
+slot_of_id id slots = lookup (λ i. i == id) slots
 
 -- the slots, with this one at the ID
 abbrev pub with_slot_at : ℕ → MemorySlot → MemorySlots → MemorySlots
@@ -39,8 +39,8 @@ changed_slots id None slots = without_slot_at id slots
 -- IDs rise and are at most 31; each slot has a page at least and lies below 2 ^ 36; no two have a guest frame or a host page in common.
 pub record IsSlotSet (slots : MemorySlots) : Type 0 where
   pub rising : IsStrictlyIncreasing (keys_of slots)
-  pub ids : (id : ℕ) (m : MemorySlot) → slot_at id slots ≡ Some m → id ≤ 31
-  pub some : (id : ℕ) (m : MemorySlot) → slot_at id slots ≡ Some m → 1 ≤ m.slot.pages
-  pub below : (id : ℕ) (m : MemorySlot) → slot_at id slots ≡ Some m → m.slot.base + m.slot.pages ≤ 2 ^ 36
-  pub guest_apart : (i j : ℕ) (m n : MemorySlot) → i ≢ j → slot_at i slots ≡ Some m → slot_at j slots ≡ Some n → share_guest_frames m.slot n.slot ≡ false
-  pub host_apart : (i j : ℕ) (m n : MemorySlot) → i ≢ j → slot_at i slots ≡ Some m → slot_at j slots ≡ Some n → share_host_pages m.slot n.slot ≡ false
+  pub ids : (id : ℕ) (m : MemorySlot) → slot_of_id id slots ≡ Some m → id ≤ 31
+  pub some : (id : ℕ) (m : MemorySlot) → slot_of_id id slots ≡ Some m → 1 ≤ m.slot.pages
+  pub below : (id : ℕ) (m : MemorySlot) → slot_of_id id slots ≡ Some m → m.slot.base + m.slot.pages ≤ 2 ^ 36
+  pub guest_apart : (i j : ℕ) (m n : MemorySlot) → i ≢ j → slot_of_id i slots ≡ Some m → slot_of_id j slots ≡ Some n → share_guest_frames m.slot n.slot ≡ false
+  pub host_apart : (i j : ℕ) (m n : MemorySlot) → i ≢ j → slot_of_id i slots ≡ Some m → slot_of_id j slots ≡ Some n → share_host_pages m.slot n.slot ≡ false

@@ -9,17 +9,17 @@ use Rattle.core_views.specs.declared.sizes.Sizes.{Sizes}
 use Rattle.core_views.specs.declared.slot_set.MemorySlot.{MemorySlot}
 use Rattle.core_views.specs.declared.trace.Line.{Line}
 use Rattle.core_views.specs.Slots.{contains}
-use Rattle.core_views.specs.SlotSets.{slot_at}
+use Rattle.core_views.specs.SlotSets.{slot_of_id}
 use Rattle.core_views.specs.Past.{written_frame}
 use Rattle.core_views.specs.Flat.{Facts, LineUnderWay, Idle, first_flat}
 use Rattle.core_views.specs.Events.{after_all, facts_after}
 use Rattle.core_views.specs.Lawful.{IsLawful}
-use Rattle.core_views.specs.Alone.{IsWithin}
+use Rattle.core_views.specs.Alone.{IsInside}
 
 -- None of the events begins a line of the actor, or answers one.
 abbrev pub StaysWithin : Actor → List Event → Type 0
 StaysWithin actor [] = Unit {0}
-StaysWithin actor (e ∷ es) = (e.actor ≡ actor → IsWithin e.kind) × StaysWithin actor es
+StaysWithin actor (e ∷ es) = (e.actor ≡ actor → IsInside e.kind) × StaysWithin actor es
 
 -- In this history the actor has begun a line that writes the frame, and since then it has neither answered it nor begun another one.
 pub record HasBegunWrite (history : List Event) (actor : Actor) (gfn : ℕ) : Type 0 where
@@ -53,7 +53,7 @@ IsOutside gfn (Some slot) = contains gfn slot.slot ≡ false
 
 -- The event, with these facts before it, changes no slot that contains the frame before or after it.
 abbrev pub KeepsSlot : ℕ → Facts → EventKind → Type 0
-KeepsSlot gfn f (SlotChanged id slot) = IsOutside gfn (slot_at id f.slots) × IsOutside gfn slot
+KeepsSlot gfn f (SlotChanged id slot) = IsOutside gfn (slot_of_id id f.slots) × IsOutside gfn slot
 KeepsSlot _ _ _ = Unit {0}
 
 -- None of the events does, where the facts before them are these.

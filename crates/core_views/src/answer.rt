@@ -85,7 +85,7 @@ pub struct AnsweredLine {
 /// Answered lines, in the order of their answers.
 pub type Answered = Sequence<AnsweredLine>;
 
-/// The answer as it is printed behind a line's number and its actor.
+/// The answer as it is printed after a line's number and its actor.
 impl fmt::Display for Answer {
     ghost output = { λ answer. Some (answer_text answer) };
 

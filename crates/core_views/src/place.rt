@@ -207,7 +207,7 @@ pub enum CheckStage {
     Count,
     /// The first guest frame of their range, where some are open.
     Start,
-    /// The guest frame behind it.
+    /// The guest frame after it.
     End,
     /// The sequence number, where none is open over the guest frame.
     Seq,

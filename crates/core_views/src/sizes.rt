@@ -1,5 +1,5 @@
 ghost use Rattle.std.specs.Prelude.{◌≡◌, ◌<◌};
-ghost use Rattle.core_views.specs.Sizes.{AreFewActors, actor_at, actors_of, first_page_in, index_of, mode_of, owns, sizes_of};
+ghost use Rattle.core_views.specs.Sizes.{AreFewActors, actor_at, actors_of, first_page_in, index_of, mode_of, is_threads, sizes_of};
 
 use crate::{Actor, Header};
 
@@ -87,7 +87,7 @@ impl Sizes {
 
     /// Whether the page is one of this host thread's own.
     pub fn owns(&self, host: u8, page: u64) -> bool
-        ensures { result ≡ owns self.now host page }
+        ensures { result ≡ is_threads self.now host page }
     {
         let first_of = |host: usize| self.first_pages.get(host).copied().unwrap_or(self.pages);
         first_of(host as usize) <= page && page < first_of(host as usize + 1)

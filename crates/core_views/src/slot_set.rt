@@ -3,7 +3,7 @@ ghost use Rattle.std.specs.Option.{option_map};
 ghost use Rattle.std.specs.Result.{result_err};
 ghost use Rattle.core_views.specs.Slots.{changes_fixed, contains, is_some_and, meets_guest_frames, meets_host_pages, resizes};
 ghost use Rattle.core_views.specs.Slots.{share_guest_frames, share_host_pages, slot_of, slot_with_id, with_slot};
-ghost use Rattle.core_views.specs.SlotSets.{IsSlotSet, flat_slots, slot_at, slot_holding, without_slot_at};
+ghost use Rattle.core_views.specs.SlotSets.{IsSlotSet, flat_slots, slot_of_id, slot_holding, without_slot_at};
 ghost use Rattle.core_views.specs.Refusals.{after_log, after_set, delete_refusal, is_logged, log_refusal, moves_logged, set_refusal, slot_from};
 ghost use Rattle.core_views.specs.declared.slot_set.MemorySlot.{MemorySlot};
 
@@ -104,7 +104,7 @@ impl SlotSet {
     /// The slot with this ID, which may be any number. Every set is sound: no
     /// two of its slots meet, and each lies below 2^36.
     pub fn get(&self, id: u64) -> Option<MemorySlot>
-        ensures is { result ≡ slot_at id self.now }
+        ensures is { result ≡ slot_of_id id self.now }
         ensures flat { option_map (λ m. m.slot) result ≡ slot_with_id id (flat_slots self.now) }
         ensures sound { IsSlotSet self.now }
     {
@@ -114,7 +114,7 @@ impl SlotSet {
     /// The slot that contains the guest frame, with its ID.
     pub fn slot_of(&self, gfn: u64) -> Option<(u64, MemorySlot)>
         ensures is { result ≡ slot_holding gfn self.now }
-        ensures only { (id : ℕ) (m : MemorySlot) → slot_at id self.now ≡ Some m → contains gfn m.slot ≡ true → result ≡ Some (id, m) }
+        ensures only { (id : ℕ) (m : MemorySlot) → slot_of_id id self.now ≡ Some m → contains gfn m.slot ≡ true → result ≡ Some (id, m) }
         ensures flat { option_map (λ found. found.1.slot) result ≡ slot_of (flat_slots self.now) gfn }
     {
         for (id, place) in self.places.iter().enumerate() {

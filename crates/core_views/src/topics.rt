@@ -33,7 +33,7 @@ pub enum Hold {
 pub struct SlotSearch {
     /// The pool page of the slot set, where one is held.
     pub set: Option<u64>,
-    /// The slot whose word is next; 32 behind the last one.
+    /// The slot whose word is next; 32 after the last one.
     pub id: u64,
     /// The word that is next.
     pub next: SlotField,
@@ -62,7 +62,7 @@ pub enum Checked {
     Count,
     /// And the first guest frame of their range.
     Start,
-    /// And the guest frame behind it.
+    /// And the guest frame after it.
     Range,
     /// And, after the count where it was 0, or after the range, the sequence
     /// number.
@@ -94,7 +94,7 @@ pub struct Invalidations {
     pub count: u64,
     /// The first guest frame of their range.
     pub start: u64,
-    /// The guest frame behind their range.
+    /// The guest frame after their range.
     pub end: u64,
     /// The sequence number under the lock.
     pub seq: u64,

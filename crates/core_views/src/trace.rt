@@ -1,5 +1,5 @@
 ghost use Rattle.std.specs.Prelude.{◌≡◌, [], None};
-ghost use Rattle.core_views.specs.Memory.{stored};
+ghost use Rattle.core_views.specs.Memory.{word_after_op};
 ghost use Rattle.core_views.specs.Slots.{contains, has_host_page, is_write};
 
 use crate::{Actor, Sequence};
@@ -34,7 +34,7 @@ impl Op {
 
     /// What the word holds after it, where it held `before`.
     pub fn stored(self, before: u64) -> u64
-        ensures { result ≡ stored self before }
+        ensures { result ≡ word_after_op self before }
     {
         match self {
             Op::Read => before,

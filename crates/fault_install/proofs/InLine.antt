@@ -24,7 +24,7 @@ use Rattle.mmu_core.proofs.lines.KnowsStay.{reached_knows}
 use Rattle.mmu_core.proofs.start.Starts.{reached_rests}
 use Rattle.step_seats.proofs.LineParts.{place_may_make}
 use Rattle.fault_install.specs.declared.fault.FaultJob.{FaultJob}
-use Rattle.fault_install.specs.Faults.{IsAt, StandsInLine}
+use Rattle.fault_install.specs.Faults.{IsAtFaultPlace, StandsInLine}
 
 module _ (p : FaultPlace) (job : FaultJob) (h : Held) (R : Rests h) (S : StandsInLine job h) (stands : place_at h.state.place h ≡ place.Access (Fault p)) where
   may_make : MayMake (fault_part p job.gfn h.topics) (access_note (Fault p)) h
@@ -41,7 +41,7 @@ module _ (p : FaultPlace) (job : FaultJob) (h : Held) (R : Rests h) (S : StandsI
       (subst (λ (c : Command). KnowsPart (place.Access (Fault p)) c h) S.command (subst (λ (q : Place). KnowsPart q (line_of h).command h) stands K))
 
 pub is_at : (p : FaultPlace) (job : FaultJob) (h : Held) → ∥ HandReached h ∥₁ → StandsInLine job h → place_at h.state.place h ≡ place.Access (Fault p)
-    → IsAt p job (access_note (Fault p)) h
+    → IsAtFaultPlace p job (access_note (Fault p)) h
 is_at p job h reached S stands =
     let R : Rests h = reached_rests h reached S.left in
     record { may = may_make p job h R S stands; gfn = gfn_small p job h R S stands; knows = knows p job h R S stands (reached_knows h reached S.left) }

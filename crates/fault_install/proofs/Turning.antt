@@ -21,7 +21,7 @@ use Rattle.core_views.specs.Held.{Held}
 use Rattle.mmu_core.specs.alone.LineAlone.{hand_left}
 use Rattle.mmu_core.specs.lines.AccessSteps.{access_note, behind_fault}
 use Rattle.mmu_core.specs.lines.Forms.{steps_left, outcome_at}
-use Rattle.mmu_core.specs.lines.FaultKnows.{EndKnows, FaultKnows, KnowsNext}
+use Rattle.mmu_core.specs.lines.FaultKnows.{FaultEndKnows, FaultKnows, KnowsNext}
 use Rattle.mmu_core.specs.lines.FaultLaws.{CanAnswer}
 use Rattle.mmu_core.specs.lines.FaultLeft.{fault_left, next_left}
 use Rattle.mmu_core.specs.lines.FaultSteps.{fault_next, fault_part}
@@ -50,7 +50,7 @@ use Rattle.step_seats.specs.declared.turn.Turn.TheVariants.{More, Wait, Retry, D
 use Rattle.step_seats.proofs.Found.{answers}
 use Rattle.fault_install.specs.declared.fault.FaultJob.{FaultJob}
 use Rattle.fault_install.specs.declared.fault.Faulted.{Faulted}
-use Rattle.fault_install.specs.Faults.{AnswersBy, EndsBy, IsAt, MakesStep, StandsInLine, TurnsAt, TurnsFault, WaitsBy, end_turn}
+use Rattle.fault_install.specs.Faults.{FaultAnswersBy, EndsBy, IsAtFaultPlace, MakesFaultStep, StandsInLine, TurnsAt, TurnsFault, WaitsBy, end_turn}
 
 -- What the step of a part found is what it can answer.
 can_prop : (step : PartStep) (v : ℕ) → IsProp (CanAnswer step v)
@@ -73,7 +73,7 @@ can_answer step note v before after needs made = of_world before.tells.world mad
 
 -- A fault ends with the last step of its section alone, where it knows why.
 ends_by : (p : FaultPlace) (z : Sizes) (gfn v : ℕ) (write : Bool) (t : Topics) → FaultKnows p z gfn write t
-    → EndsBy (fault_next p z gfn write t v) (λ e. EndKnows e z gfn write t)
+    → EndsBy (fault_next p z gfn write t v) (λ e. FaultEndKnows e z gfn write t)
 ends_by (End e) z gfn v write t known = known.2
 ends_by _ z gfn v write t known = tt
 
@@ -85,7 +85,7 @@ waits_not (Wait seen) b way is never = absurd (cc is)
 waits_not (Retry cause) b way is never = absurd (cc is)
 waits_not (Done answer) b way is never = absurd (cc is)
 
-goes_nearer : (n : FaultNext) (turn : Turn Faulted) (g : Held) (z : Sizes) (u : Topics) (m : ℕ) → turn ≡ More → AnswersBy turn n
+goes_nearer : (n : FaultNext) (turn : Turn Faulted) (g : Held) (z : Sizes) (u : Topics) (m : ℕ) → turn ≡ More → FaultAnswersBy turn n
     → g.state.place ≡ place_after (behind_fault n)
     → g.state.sizes ≡ z → g.topics ≡ u → next_left n z u < m → hand_left g < m + 9
 goes_nearer (Goes p) turn g z u m is by_ stands sizes topics less =
@@ -105,7 +105,7 @@ goes_nearer (Ends e) turn g z u m is by_ stands sizes topics less = absurd (neve
 -- The fault of the hand's line, at its place, whose step was made.
 module _ (p : FaultPlace) (job : FaultJob) (turn : Turn Faulted) (before after : Seat) (rests : PartRests before.hand) (S : StandsInLine job before.hand)
     (at : place_at before.hand.state.place before.hand ≡ place.Access (Fault p))
-    (I : IsAt p job (access_note (Fault p)) before.hand) (M : MakesStep p job turn (access_note (Fault p)) before after) where
+    (I : IsAtFaultPlace p job (access_note (Fault p)) before.hand) (M : MakesFaultStep p job turn (access_note (Fault p)) before after) where
   abbrev goes_to : FaultNext
   goes_to = fault_next p before.hand.state.sizes job.gfn job.write before.hand.topics M.found
 
@@ -142,8 +142,8 @@ module _ (p : FaultPlace) (job : FaultJob) (turn : Turn Faulted) (before after :
       (goes_nearer goes_to turn after.hand before.hand.state.sizes _ _ is M.turned stands same M.made.topics falls)
 
 pub turns_fault : (p : FaultPlace) (job : FaultJob) (turn : Turn Faulted) (before after : Seat) → PartRests before.hand → StandsInLine job before.hand
-    → place_at before.hand.state.place before.hand ≡ place.Access (Fault p) → IsAt p job (access_note (Fault p)) before.hand
-    → MakesStep p job turn (access_note (Fault p)) before after → TurnsFault job turn before after
+    → place_at before.hand.state.place before.hand ≡ place.Access (Fault p) → IsAtFaultPlace p job (access_note (Fault p)) before.hand
+    → MakesFaultStep p job turn (access_note (Fault p)) before after → TurnsFault job turn before after
 turns_fault p job turn before after rests S at I M q stands =
     let same : place.Access (Fault p) ≡ place.Access (Fault q) = sym at ∙ stands in
     subst (λ (x : FaultPlace). TurnsAt x job turn before after) (cc same) (turns_at p job turn before after rests S at I M)

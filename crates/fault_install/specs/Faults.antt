@@ -14,7 +14,7 @@ use Rattle.core_views.specs.declared.trace.Op.{Op}
 use Rattle.core_views.specs.Held.{Held}
 use Rattle.core_views.specs.Slots.{is_write}
 use Rattle.mmu_core.specs.lines.AccessSteps.{access_note, behind_fault}
-use Rattle.mmu_core.specs.lines.FaultKnows.{EndKnows, FaultKnows, KnowsNext}
+use Rattle.mmu_core.specs.lines.FaultKnows.{FaultEndKnows, FaultKnows, KnowsNext}
 use Rattle.mmu_core.specs.lines.FaultSteps.{fault_next, fault_part}
 use Rattle.mmu_core.specs.lines.PartWaits.{part_seen, part_waits}
 use Rattle.mmu_core.specs.machine.MayMake.{MayMake}
@@ -51,11 +51,11 @@ end_turn end_of.Starved = Done Starved
 end_turn (end_of.Retry cause) = Retry cause
 
 -- The turn answers by what is next after its step: it goes on, or has to be made again, or the fault is over.
-abbrev pub AnswersBy : Turn Faulted → FaultNext → Type 0
-AnswersBy More (Goes p) = Unit {0}
-AnswersBy (Wait seen) (Goes p) = Unit {0}
-AnswersBy _ (Goes p) = ⊥
-AnswersBy turn (Ends e) = turn ≡ end_turn e
+abbrev pub FaultAnswersBy : Turn Faulted → FaultNext → Type 0
+FaultAnswersBy More (Goes p) = Unit {0}
+FaultAnswersBy (Wait seen) (Goes p) = Unit {0}
+FaultAnswersBy _ (Goes p) = ⊥
+FaultAnswersBy turn (Ends e) = turn ≡ end_turn e
 
 -- The turn waits exactly where its step is one that waits for another actor, and then it has seen what is in its way.
 abbrev pub WaitsBy : Turn Faulted → Bool → Seen → Type 0
@@ -97,16 +97,16 @@ pub record StandsInLine (job : FaultJob) (h : Held) : Type 0 where
   pub writes : is_write op ≡ job.write
 
 -- The actor may make the step of this place of the fault, and knows what the place asks.
-pub record IsAt (p : FaultPlace) (job : FaultJob) (note : ℕ) (h : Held) : Type 0 where
+pub record IsAtFaultPlace (p : FaultPlace) (job : FaultJob) (note : ℕ) (h : Held) : Type 0 where
   pub may : MayMake (fault_part p job.gfn h.topics) note h
   pub gfn : job.gfn < 2 ^ 36
   pub knows : FaultKnows p h.state.sizes job.gfn job.write h.topics
 
 -- The step of this place was made, of which this was found, and the turn answers by what is next in the order of steps.
-pub record MakesStep (p : FaultPlace) (job : FaultJob) (turn : Turn Faulted) (note : ℕ) (before after : Seat) : Type 0 where
+pub record MakesFaultStep (p : FaultPlace) (job : FaultJob) (turn : Turn Faulted) (note : ℕ) (before after : Seat) : Type 0 where
   pub found : ℕ
   pub made : MadePart (fault_part p job.gfn before.hand.topics) note found before after
-  pub turned : AnswersBy turn (fault_next p before.hand.state.sizes job.gfn job.write before.hand.topics found)
+  pub turned : FaultAnswersBy turn (fault_next p before.hand.state.sizes job.gfn job.write before.hand.topics found)
   pub waits_by : WaitsBy turn (part_waits (fault_part p job.gfn before.hand.topics) before.hand.topics found)
       (part_seen (fault_part p job.gfn before.hand.topics) before.hand found)
 
@@ -117,10 +117,10 @@ next_of p job h v = fault_next p h.state.sizes job.gfn job.write h.topics v
 -- One turn of the fault at this place: the hand stands where the order of steps leads from there, and knows what its next place asks; where
 -- the fault is over, its answer has its cause in what was loaded, and the actor holds nothing.
 pub record TurnsAt (p : FaultPlace) (job : FaultJob) (turn : Turn Faulted) (before after : Seat) : Type 0 where
-  pub step : MakesStep p job turn (access_note (Fault p)) before after
+  pub step : MakesFaultStep p job turn (access_note (Fault p)) before after
   pub stands : after.hand.state.place ≡ place_after (behind_fault (next_of p job before.hand step.found))
   pub knows : KnowsNext (next_of p job before.hand step.found) before.hand.state.sizes job.gfn job.write after.hand.topics
-  pub ends_by : EndsBy (next_of p job before.hand step.found) (λ e. EndKnows e before.hand.state.sizes job.gfn job.write before.hand.topics)
+  pub ends_by : EndsBy (next_of p job before.hand step.found) (λ e. FaultEndKnows e before.hand.state.sizes job.gfn job.write before.hand.topics)
 
 -- One turn of the fault, at the place where the hand's line stands.
 abbrev pub TurnsFault : FaultJob → Turn Faulted → Seat → Seat → Type 0

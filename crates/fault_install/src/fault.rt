@@ -2,7 +2,7 @@ ghost use Rattle.std.specs.Prelude.{◌≡◌, ◌<◌};
 ghost use Rattle.core_views.specs.declared.place.AccessPlace.TheVariants.{Fault};
 ghost use Rattle.core_views.specs.declared.place.FaultPlace.TheVariants as at;
 ghost use Rattle.core_views.specs.declared.place.Place.TheVariants as Place;
-ghost use Rattle.fault_install.specs.Faults.{ComesAfterCheck, IsAt, LeadsOn, MakesStep, StandsInLine, TurnsFault};
+ghost use Rattle.fault_install.specs.Faults.{ComesAfterCheck, IsAtFaultPlace, LeadsOn, MakesFaultStep, StandsInLine, TurnsFault};
 ghost use Rattle.mmu_core.specs.alone.LineAlone.{hand_left};
 ghost use Rattle.mmu_core.specs.lines.AccessSteps.{access_note};
 ghost use Rattle.mmu_core.specs.lines.FaultSteps.{fault_part};
@@ -69,12 +69,12 @@ impl FaultJob {
         requires reached { ∥ HandReached hand.now.core ∥₁ }
         requires stands { StandsInLine self.now hand.now.core }
         requires place { place_at hand.now.core.state.place hand.now.core ≡ Place.Access (Fault place) }
-        ensures { IsAt place self.now (access_note (Fault place)) hand.now.core }
+        ensures { IsAtFaultPlace place self.now (access_note (Fault place)) hand.now.core }
     {}
 
     // Makes the step of a place that always leads on to another one.
     fn go_on<S: Stepper>(&self, s: &mut S, place: FaultPlace, note: u64)
-        requires is_at { IsAt place self.now note (S.seat s.old).hand }
+        requires is_at { IsAtFaultPlace place self.now note (S.seat s.old).hand }
         requires leads_on { LeadsOn place }
         requires reserved { 0 < (S.seat s.old).room }
         ensures makes { MakesPart (fault_part place self.now.gfn (S.seat s.old).hand.topics) note (S.seat s.old) (S.seat s.new) }
@@ -108,7 +108,7 @@ impl FaultJob {
 
     // Makes the step of such a place that comes after the check of the look-up.
     fn go_down<S: Stepper>(&self, s: &mut S, place: FaultPlace, note: u64)
-        requires is_at { IsAt place self.now note (S.seat s.old).hand }
+        requires is_at { IsAtFaultPlace place self.now note (S.seat s.old).hand }
         requires leads_on { LeadsOn place }
         requires checked { ComesAfterCheck place }
         requires reserved { 0 < (S.seat s.old).room }
@@ -146,9 +146,9 @@ impl FaultJob {
 
     // Tries to share the lock, and waits once a try that found a writer is taken back.
     fn share<S: Stepper>(&self, s: &mut S, note: u64) -> Turn<Faulted>
-        requires is_at { IsAt at.Share self.now note (S.seat s.old).hand }
+        requires is_at { IsAtFaultPlace at.Share self.now note (S.seat s.old).hand }
         requires reserved { 0 < (S.seat s.old).room }
-        ensures makes { MakesStep at.Share self.now result note (S.seat s.old) (S.seat s.new) }
+        ensures makes { MakesFaultStep at.Share self.now result note (S.seat s.old) (S.seat s.new) }
         ensures room { KeepsRoom (S.seat s.old) (S.seat s.new) }
         ensures same { ((S.seat s.new).actor ≡ (S.seat s.old).actor) × (S.frame s.new ≡ S.frame s.old) }
     {
@@ -159,9 +159,9 @@ impl FaultJob {
 
     // Claims a page for a table, and waits where the page that it tried was taken.
     fn claim<S: Stepper>(&self, s: &mut S, begun: bool, note: u64) -> Turn<Faulted>
-        requires is_at { IsAt (at.Claim begun) self.now note (S.seat s.old).hand }
+        requires is_at { IsAtFaultPlace (at.Claim begun) self.now note (S.seat s.old).hand }
         requires reserved { 0 < (S.seat s.old).room }
-        ensures makes { MakesStep (at.Claim begun) self.now result note (S.seat s.old) (S.seat s.new) }
+        ensures makes { MakesFaultStep (at.Claim begun) self.now result note (S.seat s.old) (S.seat s.new) }
         ensures room { KeepsRoom (S.seat s.old) (S.seat s.new) }
         ensures same { ((S.seat s.new).actor ≡ (S.seat s.old).actor) × (S.frame s.new ≡ S.frame s.old) }
     {
@@ -174,9 +174,9 @@ impl FaultJob {
 
     // Ends the section, and the fault with it.
     fn end<S: Stepper>(&self, s: &mut S, ended: FaultEnd, note: u64) -> Turn<Faulted>
-        requires is_at { IsAt (at.End ended) self.now note (S.seat s.old).hand }
+        requires is_at { IsAtFaultPlace (at.End ended) self.now note (S.seat s.old).hand }
         requires reserved { 0 < (S.seat s.old).room }
-        ensures makes { MakesStep (at.End ended) self.now result note (S.seat s.old) (S.seat s.new) }
+        ensures makes { MakesFaultStep (at.End ended) self.now result note (S.seat s.old) (S.seat s.new) }
         ensures room { KeepsRoom (S.seat s.old) (S.seat s.new) }
         ensures same { ((S.seat s.new).actor ≡ (S.seat s.old).actor) × (S.frame s.new ≡ S.frame s.old) }
     {
@@ -187,9 +187,9 @@ impl FaultJob {
     // Makes the step of this place by the call of its part, and answers by what the
     // part answers.
     fn step<S: Stepper>(&self, s: &mut S, place: FaultPlace, note: u64) -> Turn<Faulted>
-        requires is_at { IsAt place self.now note (S.seat s.old).hand }
+        requires is_at { IsAtFaultPlace place self.now note (S.seat s.old).hand }
         requires reserved { 0 < (S.seat s.old).room }
-        ensures makes { MakesStep place self.now result note (S.seat s.old) (S.seat s.new) }
+        ensures makes { MakesFaultStep place self.now result note (S.seat s.old) (S.seat s.new) }
         ensures room { KeepsRoom (S.seat s.old) (S.seat s.new) }
         ensures same { ((S.seat s.new).actor ≡ (S.seat s.old).actor) × (S.frame s.new ≡ S.frame s.old) }
     {

@@ -6,7 +6,7 @@ use Rattle.std.specs.Prelude.{Some, None, []}
 use Rattle.core_views.specs.declared.sizes.Sizes.{Sizes}
 use Rattle.core_views.specs.Host.{HostMap, own_frames}
 use Rattle.core_views.specs.HostChanges.{is_taken, lowest_free}
-use Rattle.flat_model.specs.Frames.{Frames, is_free}
+use Rattle.flat_model.specs.Frames.{Frames, is_spare}
 use Rattle.flat_model.specs.HostPages.{AreFree}
 use Rattle.core_views.proofs.LowestFrames.{is_not, lowest_is, none_left, taken_by, taker}
 use Rattle.core_views.proofs.Ranges.{alike, by_test}
@@ -30,7 +30,7 @@ joined false true c e later = refl
 joined false false c e later = later refl
 
 -- What isn't free is taken.
-taken_where : (pages : ℕ) (host : HostMap) (frames : Frames) (frame : ℕ) → AreFree pages host frames → is_free frames frame ≡ false
+taken_where : (pages : ℕ) (host : HostMap) (frames : Frames) (frame : ℕ) → AreFree pages host frames → is_spare frames frame ≡ false
     → is_taken pages host frame ≡ true
 taken_where pages host frames frame is unlike = by (is_taken pages host frame) (sym (is.free frame) ∙ unlike)
   where
@@ -39,7 +39,7 @@ taken_where pages host frames frame is unlike = by (is_taken pages host frame) (
     by false e = absurd (cc e)
 
 pub frames_alike : (pages : ℕ) (host then_ : HostMap) (frames after : Frames) → ((page : ℕ) → page < pages → (then_ page).frame ≡ (host page).frame)
-    → ((frame : ℕ) → is_free after frame ≡ is_free frames frame) → AreFree pages host frames → AreFree pages then_ after
+    → ((frame : ℕ) → is_spare after frame ≡ is_spare frames frame) → AreFree pages host frames → AreFree pages then_ after
 frames_alike pages host then_ frames after same free is = record {
   free = λ frame. free frame ∙ is.free frame
       ∙ ap not (sym (alike 0 pages (λ p. (then_ p).frame == frame) (λ p. (host p).frame == frame) (λ p lt. ap (λ x. x == frame) (same p (omega (arith, lt))))));
@@ -62,27 +62,27 @@ first_free pages = record {
     below frame false e unlike = let lt : frame < pages = grind (arith, nat_tests, e) in let yes = taken_by pages own_frames frame frame lt refl in cc
 
 -- The lowest free number is the lowest free frame, if it is a frame.
-pub lowest_frame : (z : Sizes) (host : HostMap) (frames : Frames) (x : ℕ) → AreFree z.pages host frames → is_free frames x ≡ true
-    → ((frame : ℕ) → frame < x → is_free frames frame ≡ false) → x < z.frames → lowest_free z host ≡ Some x
+pub lowest_frame : (z : Sizes) (host : HostMap) (frames : Frames) (x : ℕ) → AreFree z.pages host frames → is_spare frames x ≡ true
+    → ((frame : ℕ) → frame < x → is_spare frames frame ≡ false) → x < z.frames → lowest_free z host ≡ Some x
 lowest_frame z host frames x is free lowest lt =
     lowest_is z host x lt (is_not (is_taken z.pages host x) (sym (is.free x) ∙ free)) (λ y below. taken_where z.pages host frames y is (lowest y below))
 
-pub none_free : (z : Sizes) (host : HostMap) (frames : Frames) (x : ℕ) → AreFree z.pages host frames → ((frame : ℕ) → frame < x → is_free frames frame ≡ false)
+pub none_free : (z : Sizes) (host : HostMap) (frames : Frames) (x : ℕ) → AreFree z.pages host frames → ((frame : ℕ) → frame < x → is_spare frames frame ≡ false)
     → z.frames ≤ x → lowest_free z host ≡ None
 none_free z host frames x is lowest le = none_left z host (λ y lt. taken_where z.pages host frames y is (lowest y (omega (arith, lt))))
 
 -- No page's frame is free.
 pub own_not_free : (pages : ℕ) (host : HostMap) (frames : Frames) (page : ℕ) → AreFree pages host frames → page < pages
-    → is_free frames (host page).frame ≡ false
+    → is_spare frames (host page).frame ≡ false
 own_not_free pages host frames page is lt = is.free (host page).frame ∙ ap not (taken_by pages host page (host page).frame lt refl)
 
 -- A page is moved to a free frame, which is taken then, and its own one is given up.
 pub record Moves (pages : ℕ) (host then_ : HostMap) (frames after : Frames) (page x : ℕ) : Type 0 where
   pub is : AreFree pages host frames
   pub below : page < pages
-  pub free : is_free frames x ≡ true
+  pub free : is_spare frames x ≡ true
   pub new : (other : ℕ) → (then_ other).frame ≡ cond (page == other) x (host other).frame
-  pub gives : (frame : ℕ) → is_free after frame ≡ (not (frame == x) && ((frame == (host page).frame) || is_free frames frame))
+  pub gives : (frame : ℕ) → is_spare after frame ≡ (not (frame == x) && ((frame == (host page).frame) || is_spare frames frame))
 
 module _ (pages : ℕ) (host then_ : HostMap) (frames after : Frames) (page x : ℕ) (m : Moves pages host then_ frames after page x) where
   at_page : (then_ page).frame ≡ x
@@ -92,23 +92,24 @@ module _ (pages : ℕ) (host then_ : HostMap) (frames after : Frames) (page x : 
   at_other q unlike = m.new q ∙ ap (λ (b : Bool). cond b x (host q).frame) unlike
 
   -- A frame that is free then is named by none.
-  freed : (frame : ℕ) → is_free after frame ≡ true → is_taken pages then_ frame ≡ false
+  freed : (frame : ℕ) → is_spare after frame ≡ true → is_taken pages then_ frame ≡ false
   freed frame e = is_false (is_taken pages then_ frame) (λ taken. let q = taker pages then_ frame taken in
-      by q.0 q.1 q.2 (split (frame == x) (frame == (host page).frame) (is_free frames frame) (sym (m.gives frame) ∙ e)))
+      by q.0 q.1 q.2 (split (frame == x) (frame == (host page).frame) (is_spare frames frame) (sym (m.gives frame) ∙ e)))
     where
-      by : (q : ℕ) → q < pages → (then_ q).frame ≡ frame → ((frame == x) ≡ false) × (((frame == (host page).frame) ≡ true) ⊎ (is_free frames frame ≡ true)) → ⊥
+      by : (q : ℕ) → q < pages → (then_ q).frame ≡ frame → ((frame == x) ≡ false) × (((frame == (host page).frame) ≡ true) ⊎ (is_spare frames frame ≡ true)) → ⊥
       by q lt names how = elim (eqb_tells page q) [
         | inl same ↦ let e : frame ≡ x = sym names ∙ ap (λ (p : ℕ). (then_ p).frame) (sym same.1) ∙ at_page in let is = eq-eqb frame x e in
             absurd (cc (is, how.0))
         | inr unlike ↦ let old : (host q).frame ≡ frame = sym (at_other q unlike.0) ∙ names in elim how.1 [
           | inl own ↦ unlike.1 (m.is.apart page q m.below lt (sym (eqb-true frame (host page).frame own) ∙ sym old))
-          | inr free ↦ let not_free = own_not_free pages host frames q m.is lt in let as_free = ap (is_free frames) old in absurd (cc (not_free, as_free, free))
+          | inr free ↦
+              let not_free = own_not_free pages host frames q m.is lt in let as_free = ap (is_spare frames) old in absurd (cc (not_free, as_free, free))
         ]
       ]
 
   -- A frame that none names then is free.
-  unnamed : (frame : ℕ) → is_taken pages then_ frame ≡ false → is_free after frame ≡ true
-  unnamed frame unlike = m.gives frame ∙ joined (frame == x) (frame == (host page).frame) (is_free frames frame) other_than
+  unnamed : (frame : ℕ) → is_taken pages then_ frame ≡ false → is_spare after frame ≡ true
+  unnamed frame unlike = m.gives frame ∙ joined (frame == x) (frame == (host page).frame) (is_spare frames frame) other_than
       (λ own. m.is.free frame ∙ ap not (is_false (is_taken pages host frame) (untaken own)))
     where
       other_than : (frame == x) ≡ false
@@ -123,7 +124,7 @@ module _ (pages : ℕ) (host then_ : HostMap) (frames after : Frames) (page x : 
 
   -- No other page names the frame that was free.
   not_moved_there : (q : ℕ) → q < pages → x ≡ (host q).frame → ⊥
-  not_moved_there q lt e = let not_free = own_not_free pages host frames q m.is lt in let as_free = ap (is_free frames) e in let free = m.free in cc
+  not_moved_there q lt e = let not_free = own_not_free pages host frames q m.is lt in let as_free = ap (is_spare frames) e in let free = m.free in cc
 
   still_apart : (p q : ℕ) → p < pages → q < pages → (then_ p).frame ≡ (then_ q).frame → p ≡ q
   still_apart p q lt below e = elim (eqb_tells page p) [
@@ -139,7 +140,7 @@ module _ (pages : ℕ) (host then_ : HostMap) (frames after : Frames) (page x : 
 
   pub moved : AreFree pages then_ after
   moved = record {
-    free = λ frame. same_tests (is_free after frame) (not (is_taken pages then_ frame)) (λ e. ap not (freed frame e))
+    free = λ frame. same_tests (is_spare after frame) (not (is_taken pages then_ frame)) (λ e. ap not (freed frame e))
         (λ e. unnamed frame (is_not (is_taken pages then_ frame) e));
     apart = still_apart;
   }

@@ -16,8 +16,8 @@ use Rattle.core_views.specs.declared.trace.Command.TheVariants.{ChangeHost}
 use Rattle.core_views.specs.declared.trace.HostChange.{HostChange}
 use Rattle.core_views.specs.declared.trace.HostChange.TheVariants.{Move}
 use Rattle.core_views.specs.HostChanges.{host_answer}
-use Rattle.flat_model.specs.Frames.{Frames, is_free}
-use Rattle.flat_model.specs.HostPages.{AreFree, Changed, Changes, ChangesTo, Maps, entry_after, host_of}
+use Rattle.flat_model.specs.Frames.{Frames, is_spare}
+use Rattle.flat_model.specs.HostPages.{AreFree, Changed, ChangesEntries, ChangesTo, Maps, entry_after, host_of}
 use Rattle.flat_model.proofs.HostFrames.{frames_alike, lowest_frame, moved, none_free, own_not_free}
 
 value_at : (b : Bool) (entry own : HostEntry) (o : Option HostEntry) → unwrap_or (cond b (Some entry) o) own ≡ cond b entry (unwrap_or o own)
@@ -48,7 +48,7 @@ unless true c e = sym (e refl)
 unless false c e = refl
 
 -- A frame that some page has named lies below the first that none has.
-below_unused : (frames : Frames) (frame : ℕ) → is_free frames frame ≡ false → frame < frames.unused
+below_unused : (frames : Frames) (frame : ℕ) → is_spare frames frame ≡ false → frame < frames.unused
 below_unused frames frame is = by (list_any (is_at (nat_cmp frame)) frames.given_up) is
   where
     by : (b : Bool) → (b || nat_le frames.unused frame) ≡ false → frame < frames.unused
@@ -66,37 +66,37 @@ pub record IsAt (pages page : ℕ) (was : HostEntry) (before : Changed) (frames 
   pub is : AreFree pages (host_of before) frames
 
 module _ (pages page : ℕ) (was : HostEntry) (before : Changed) (frames : Frames) (at : IsAt pages page was before frames) where
-  own_not_free_here : is_free frames was.frame ≡ false
-  own_not_free_here = ap (λ (e : HostEntry). is_free frames e.frame) at.was_is ∙ own_not_free pages (host_of before) frames page at.is at.below
+  own_not_free_here : is_spare frames was.frame ≡ false
+  own_not_free_here = ap (λ (e : HostEntry). is_spare frames e.frame) at.was_is ∙ own_not_free pages (host_of before) frames page at.is at.below
 
   -- Its frame lies below the first that no page has named.
   pub below_first : was.frame < frames.unused
   below_first = below_unused frames was.frame own_not_free_here
 
-  module _ (given taken : Frames) (gives : (frame : ℕ) → is_free given frame ≡ ((frame == was.frame) || is_free frames frame)) where
+  module _ (given taken : Frames) (gives : (frame : ℕ) → is_spare given frame ≡ ((frame == was.frame) || is_spare frames frame)) where
     -- Its frame is given up and taken again.
-    pub undone : (after : Changed) → after ≡ before → ((frame : ℕ) → is_free taken frame ≡ (not (frame == was.frame) && is_free given frame))
+    pub undone : (after : Changed) → after ≡ before → ((frame : ℕ) → is_spare taken frame ≡ (not (frame == was.frame) && is_spare given frame))
         → AreFree pages (host_of after) taken
     undone after same takes = subst (λ (c : Changed). AreFree pages (host_of c) taken) (sym same)
         (frames_alike pages (host_of before) (host_of before) frames taken (λ p lt. refl)
         (λ frame. takes frame ∙ ap (λ (b : Bool). not (frame == was.frame) && b) (gives frame)
-        ∙ unless (frame == was.frame) (is_free frames frame) (λ own. ap (is_free frames) (eqb-true frame was.frame own) ∙ own_not_free_here)) at.is)
+        ∙ unless (frame == was.frame) (is_spare frames frame) (λ own. ap (is_spare frames) (eqb-true frame was.frame own) ∙ own_not_free_here)) at.is)
 
     -- Its frame is given up, and the page has a free one.
-    pub given_up : (x : ℕ) (after : Changed) → is_free frames x ≡ true → Maps page (record was { frame = x }) before after
-        → ((frame : ℕ) → is_free taken frame ≡ (not (frame == x) && is_free given frame)) → AreFree pages (host_of after) taken
+    pub given_up : (x : ℕ) (after : Changed) → is_spare frames x ≡ true → Maps page (record was { frame = x }) before after
+        → ((frame : ℕ) → is_spare taken frame ≡ (not (frame == x) && is_spare given frame)) → AreFree pages (host_of after) taken
     given_up x after free maps takes = moved pages (host_of before) (host_of after) frames taken page x (record {
       is = at.is;
       below = at.below;
       free = free;
       new = λ other. ap (λ (e : HostEntry). e.frame) (maps other) ∙ frame_at (page == other) (record was { frame = x }) (host_of before other);
       gives = λ frame. takes frame ∙ ap (λ (b : Bool). not (frame == x) && b) (gives frame)
-          ∙ ap (λ (e : HostEntry). not (frame == x) && ((frame == e.frame) || is_free frames frame)) at.was_is;
+          ∙ ap (λ (e : HostEntry). not (frame == x) && ((frame == e.frame) || is_spare frames frame)) at.was_is;
     })
 
 -- A move finds no frame.
 pub no_frame : (z : Sizes) (page x : ℕ) (changed : Changed) (frames : Frames) → AreFree z.pages (host_of changed) frames
-    → ((frame : ℕ) → frame < x → is_free frames frame ≡ false) → z.frames ≤ x → Changes z page Move changed changed (Refused NoFrame)
+    → ((frame : ℕ) → frame < x → is_spare frames frame ≡ false) → z.frames ≤ x → ChangesEntries z page Move changed changed (Refused NoFrame)
 no_frame z page x changed frames is lowest le =
     subst (λ (o : Option ℕ). ChangesTo page Move changed changed (Refused NoFrame) (option_map (λ frame. record (host_of changed page) { frame = frame }) o))
     (sym (none_free z (host_of changed) frames x is lowest le)) (refl, refl)
@@ -104,8 +104,8 @@ no_frame z page x changed frames is lowest le =
 -- A move takes the lowest free frame.
 pub to_lowest : (z : Sizes) (page x : ℕ) (was : HostEntry) (before after : Changed) (frames : Frames) → was ≡ host_of before page
     → AreFree z.pages (host_of before) frames
-    → is_free frames x ≡ true → ((frame : ℕ) → frame < x → is_free frames frame ≡ false) → x < z.frames → Maps page (record was { frame = x }) before after
-    → Changes z page Move before after (Moved x)
+    → is_spare frames x ≡ true → ((frame : ℕ) → frame < x → is_spare frames frame ≡ false) → x < z.frames → Maps page (record was { frame = x }) before after
+    → ChangesEntries z page Move before after (Moved x)
 to_lowest z page x was before after frames was_is is free lowest lt maps =
     subst (λ (o : Option ℕ). ChangesTo page Move before after (Moved x) (option_map (λ frame. record (host_of before page) { frame = frame }) o))
     (sym (lowest_frame z (host_of before) frames x is free lowest lt))
@@ -114,5 +114,5 @@ to_lowest z page x was before after frames was_is is free lowest lt maps =
 -- A change that leaves the page its frame is done.
 pub keeping : (z : Sizes) (page : ℕ) (change : HostChange) (entry : HostEntry) (before after : Changed)
     → entry_after z (host_of before) page change ≡ Some entry
-    → host_answer (ChangeHost page change) entry ≡ Done → Maps page entry before after → Changes z page change before after Done
+    → host_answer (ChangeHost page change) entry ≡ Done → Maps page entry before after → ChangesEntries z page change before after Done
 keeping z page change entry before after becomes done maps = subst (ChangesTo page change before after Done) (sym becomes) (sym done, maps)

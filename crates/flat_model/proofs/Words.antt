@@ -1,4 +1,4 @@
--- What is stored at one word changes that word alone.
+-- What is word_after_op at one word changes that word alone.
 use Rattle.std.proofs.Common.{◌≡◌, ◌&&◌, ◌==◌, ℕ, List, Bool, true, false, cond, arith, refl, sym, ap, ap₂, ◌∙◌, subst}
 use Rattle.std.proofs.lemmas.Bool.Decides.{nat_tests}
 use Rattle.std.specs.Prelude.{Option, Some, unwrap_or}
@@ -8,7 +8,7 @@ use Rattle.core_views.specs.declared.trace.Op.{Op}
 use Rattle.core_views.specs.declared.trace.Op.TheVariants.{Read, Write, Add}
 use Rattle.core_views.specs.declared.host.HostEntry.{HostEntry}
 use Rattle.core_views.specs.Host.{brought_in, is_denied}
-use Rattle.core_views.specs.Memory.{Memory, with_word, stored}
+use Rattle.core_views.specs.Memory.{Memory, with_word, word_after_op}
 use Rattle.core_views.specs.Slots.{is_write, page_behind}
 use Rattle.core_views.specs.SlotSets.{flat_slots}
 use Rattle.flat_model.specs.Kept.{Kept, is_place, memory_of}
@@ -32,22 +32,22 @@ same_place false memory page word p w is = refl
 both : (page word p w : ℕ) → ((page == p) && (word == w)) ≡ true → (page ≡ p) × (word ≡ w)
 both page word p w e = (grind (arith, nat_tests, e), grind (arith, nat_tests, e))
 
--- A word that is stored again as it is changes nothing.
+-- A word that is word_after_op again as it is changes nothing.
 kept : (memory : Memory) (page word p w : ℕ) → memory p w ≡ with_word page word (memory page word) memory p w
 kept memory page word p w = same_place ((page == p) && (word == w)) memory page word p w (both page word p w)
 
 -- An operation that doesn't write stores the word again as it is.
 pub unwritten : (op : Op) (memory : Memory) (page word : ℕ) → is_write op ≡ false → (p w : ℕ)
-    → memory p w ≡ with_word page word (stored op (memory page word)) memory p w
+    → memory p w ≡ with_word page word (word_after_op op (memory page word)) memory p w
 unwritten Read memory page word e p w = kept memory page word p w
 unwritten (Write x) memory page word e p w = absurd (cc e)
 unwritten (Add x) memory page word e p w = absurd (cc e)
 
--- What an access to a page gives that the host allows, from what it read and what stands there behind it.
+-- What an access to a page gives that the host allows, from what it read and what stands there after it.
 pub reached : (gfn word : ℕ) (op : Op) (before after : Kept) (page value : ℕ) (entry : HostEntry)
     → Some page ≡ page_behind (flat_slots before.slots) gfn op → entry ≡ host_of before.changed page → is_denied op entry ≡ false
     → value ≡ memory_of before.words page word → after.slots ≡ before.slots → Maps page (brought_in (host_of before.changed page)) before.changed after.changed
-    → ((p w : ℕ) → memory_of after.words p w ≡ with_word page word (stored op (memory_of before.words page word)) (memory_of before.words) p w)
+    → ((p w : ℕ) → memory_of after.words p w ≡ with_word page word (word_after_op op (memory_of before.words page word)) (memory_of before.words) p w)
     → Accesses gfn word op before after (Reached entry.frame value)
 reached gfn word op before after page value entry behind entry_is allows is same maps words =
     subst (AccessesPage word op before after (Reached entry.frame value)) behind

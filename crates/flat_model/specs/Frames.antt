@@ -10,5 +10,5 @@ pub record Frames : Type 0 where
   pub unused : ℕ
 
 -- The frame was given up, or no page has named it yet.
-abbrev pub is_free : Frames → ℕ → Bool
-is_free frames frame = list_any (is_at (nat_cmp frame)) frames.given_up || nat_le frames.unused frame
+abbrev pub is_spare : Frames → ℕ → Bool
+is_spare frames frame = list_any (is_at (nat_cmp frame)) frames.given_up || nat_le frames.unused frame

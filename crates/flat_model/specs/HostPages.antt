@@ -12,7 +12,7 @@ use Rattle.core_views.specs.declared.trace.HostChange.{HostChange}
 use Rattle.core_views.specs.declared.trace.HostChange.TheVariants.{Move, Evict, Protect, Allow}
 use Rattle.core_views.specs.Host.{HostMap, mapping, own_frames}
 use Rattle.core_views.specs.HostChanges.{host_answer, is_taken, lowest_free}
-use Rattle.flat_model.specs.Frames.{Frames, is_free}
+use Rattle.flat_model.specs.Frames.{Frames, is_spare}
 
 -- the entries of the pages that a line has changed
 abbrev pub Changed : Type 0
@@ -29,7 +29,7 @@ host_of changed page = unwrap_or (lookup (λ other. page == other) changed) (own
 
 -- Those frames are free that none of the machine's pages names, and no two of its pages name one.
 pub record AreFree (pages : ℕ) (host : HostMap) (frames : Frames) : Type 0 where
-  pub free : (frame : ℕ) → is_free frames frame ≡ not (is_taken pages host frame)
+  pub free : (frame : ℕ) → is_spare frames frame ≡ not (is_taken pages host frame)
   pub apart : (page other : ℕ) → page < pages → other < pages → (host page).frame ≡ (host other).frame → page ≡ other
 
 -- The page has this entry then, and each other page the one that it had.
@@ -49,5 +49,5 @@ ChangesTo page change before after answer None = (answer ≡ Refused NoFrame) ×
 ChangesTo page change before after answer (Some entry) = (answer ≡ host_answer (ChangeHost page change) entry) × Maps page entry before after
 
 -- On a machine of these sizes the change of the page leads from these entries to those, and is answered so.
-abbrev pub Changes : Sizes → ℕ → HostChange → Changed → Changed → Answer → Type 0
-Changes z page change before after answer = ChangesTo page change before after answer (entry_after z (host_of before) page change)
+abbrev pub ChangesEntries : Sizes → ℕ → HostChange → Changed → Changed → Answer → Type 0
+ChangesEntries z page change before after answer = ChangesTo page change before after answer (entry_after z (host_of before) page change)

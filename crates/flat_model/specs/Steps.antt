@@ -10,12 +10,12 @@ use Rattle.core_views.specs.declared.trace.HostChange.{HostChange}
 use Rattle.core_views.specs.declared.trace.Op.{Op}
 use Rattle.core_views.specs.declared.trace.Slot.{Slot}
 use Rattle.core_views.specs.Host.{brought_in, is_denied}
-use Rattle.core_views.specs.Memory.{stored, with_word}
+use Rattle.core_views.specs.Memory.{word_after_op, with_word}
 use Rattle.core_views.specs.Slots.{Slots, page_behind}
 use Rattle.core_views.specs.SlotSets.{flat_slots}
 use Rattle.core_views.specs.Refusals.{after_set}
 use Rattle.flat_model.specs.Kept.{Kept, memory_of}
-use Rattle.flat_model.specs.HostPages.{Changes, Maps, host_of}
+use Rattle.flat_model.specs.HostPages.{ChangesEntries, Maps, host_of}
 
 -- The slot's host pages are among so many.
 pub record IsSlotOf (pages : ℕ) (slot : Slot) : Type 0 where
@@ -37,7 +37,7 @@ AccessesEntry page word op before after answer entry true = (answer ≡ HostFaul
 AccessesEntry page word op before after answer entry false =
     (answer ≡ Reached entry.frame (memory_of before.words page word)) × (after.slots ≡ before.slots)
     × Maps page (brought_in entry) before.changed after.changed
-    × ((p w : ℕ) → memory_of after.words p w ≡ with_word page word (stored op (memory_of before.words page word)) (memory_of before.words) p w)
+    × ((p w : ℕ) → memory_of after.words p w ≡ with_word page word (word_after_op op (memory_of before.words page word)) (memory_of before.words) p w)
 
 -- An access without its page is an MMIO exit and changes nothing.
 abbrev pub AccessesPage : ℕ → Op → Kept → Kept → Answer → Option ℕ → Type 0
@@ -52,4 +52,4 @@ Accesses gfn word op before after answer = AccessesPage word op before after ans
 abbrev pub ChangesHost : ℕ → HostChange → Kept → Kept → Answer → Bool → Type 0
 ChangesHost page change before after answer false = (answer ≡ Refused OutOfRange) × (after ≡ before)
 ChangesHost page change before after answer true =
-    Changes before.sizes page change before.changed after.changed answer × (after.slots ≡ before.slots) × (after.words ≡ before.words)
+    ChangesEntries before.sizes page change before.changed after.changed answer × (after.slots ≡ before.slots) × (after.words ≡ before.words)

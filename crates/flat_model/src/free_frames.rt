@@ -1,5 +1,5 @@
 ghost use Rattle.std.specs.Prelude.{◌≡◌, ◌<◌, ◌≤◌, ◌==◌, ◌&&◌, ◌||◌, ℕ, not, [], true, false, OnOk, OnErr};
-ghost use Rattle.flat_model.specs.Frames.{is_free};
+ghost use Rattle.flat_model.specs.Frames.{is_spare};
 
 use core_views::NoMemory;
 use std::alloc::Global;
@@ -40,8 +40,8 @@ impl FreeFrames {
 
     /// The lowest free one.
     pub fn lowest(&self) -> u64
-        ensures free { is_free self.now result ≡ true }
-        ensures lowest { (frame : ℕ) → frame < result → is_free self.now frame ≡ false }
+        ensures free { is_spare self.now result ≡ true }
+        ensures lowest { (frame : ℕ) → frame < result → is_spare self.now frame ≡ false }
         ensures bound { result ≤ self.now.unused }
     {
         match self.given_up.first() {
@@ -54,7 +54,7 @@ impl FreeFrames {
     /// nothing has changed.
     pub fn give(&mut self, frame: u64) -> Result<(), NoMemory>
         requires { frame < self.old.unused }
-        ensures free { OnOk result ((other : ℕ) → is_free self.new other ≡ ((other == frame) || is_free self.old other)) }
+        ensures free { OnOk result ((other : ℕ) → is_spare self.new other ≡ ((other == frame) || is_spare self.old other)) }
         ensures unused { self.new.unused ≡ self.old.unused }
         ensures kept { OnErr result (self.new ≡ self.old) }
     {
@@ -64,10 +64,10 @@ impl FreeFrames {
 
     /// Takes this one, which is free.
     pub fn take(&mut self, frame: u64)
-        requires free { is_free self.old frame ≡ true }
+        requires free { is_spare self.old frame ≡ true }
         requires bound { frame ≤ self.old.unused }
         requires room { frame < u64.MAX }
-        ensures { (other : ℕ) → is_free self.new other ≡ (not (other == frame) && is_free self.old other) }
+        ensures { (other : ℕ) → is_spare self.new other ≡ (not (other == frame) && is_spare self.old other) }
     {
         if !self.given_up.remove(&frame) {
             self.unused += 1;

@@ -1,7 +1,7 @@
 ghost use Rattle.std.specs.Prelude.{◌≡◌, [], IfOk, OnErr};
 ghost use Rattle.core_views.specs.Host.{brought_in};
 ghost use Rattle.core_views.specs.declared.trace.HostChange.TheVariants.{Move};
-ghost use Rattle.flat_model.specs.HostPages.{Changes, Maps, host_of};
+ghost use Rattle.flat_model.specs.HostPages.{ChangesEntries, Maps, host_of};
 
 use crate::free_frames::FreeFrames;
 use core_views::{Answer, HostChange, HostEntry, NoMemory, Refusal, Sizes};
@@ -62,7 +62,7 @@ impl HostPages {
     /// Changes the entry of the page, and gives the answer of the line that asked
     /// for it. Where memory is refused, nothing has changed.
     pub fn change(&mut self, page: u64, change: HostChange) -> Result<Answer, NoMemory>
-        ensures changes { IfOk result (Changes self.old.sizes page change self.old.changed self.new.changed) }
+        ensures changes { IfOk result (ChangesEntries self.old.sizes page change self.old.changed self.new.changed) }
         ensures kept { OnErr result (self.new ≡ self.old) }
         ensures sizes { self.new.sizes ≡ self.old.sizes }
     {
@@ -89,7 +89,7 @@ impl HostPages {
     // Moves the page, which has this entry, to the lowest free frame.
     fn move_page(&mut self, page: u64, was: HostEntry) -> Result<Answer, NoMemory>
         requires { was ≡ host_of self.old.changed page }
-        ensures changes { IfOk result (Changes self.old.sizes page Move self.old.changed self.new.changed) }
+        ensures changes { IfOk result (ChangesEntries self.old.sizes page Move self.old.changed self.new.changed) }
         ensures kept { OnErr result (self.new ≡ self.old) }
         ensures sizes { self.new.sizes ≡ self.old.sizes }
     {

@@ -1,4 +1,4 @@
--- What a look finds, and what the state word tells behind the begin and the end of a section.
+-- What a look finds, and what the state word tells after the begin and the end of a section.
 use Rattle.std.proofs.Common.{◌≡◌, ◌≢◌, inl, inr, refl, ◌<◌, ◌≤◌, ◌+◌, ◌-◌, ℕ, Option, Some, None, sym, subst, ap, ◌∙◌, arith}
 use Rattle.std.specs.Prelude.{Bool, true, false, ◌==◌, IfSome, not, if◌then◌else◌}
 use Rattle.std.proofs.lemmas.Bool.Decides.{nat_tests}
@@ -23,13 +23,13 @@ use Rattle.part_steps.specs.ControlBits.{in_section}
 use Rattle.mmu_core.specs.machine.View.{word_in}
 use Rattle.mmu_core.proofs.machine.HandAfter.{next_same}
 use Rattle.mmu_core.proofs.held.StateTells.{own_place, state_tells}
-use Rattle.step_seats.specs.Moves.{Tells}
+use Rattle.step_seats.specs.Moves.{ToldBy}
 use Rattle.step_seats.specs.Where.{HasHand}
 use Rattle.step_seats.specs.declared.turn.Turn.{Turn}
 use Rattle.step_seats.specs.declared.turn.Turn.TheVariants.{Done}
 use Rattle.step_seats.proofs.AloneTold.{watch_free}
 use Rattle.grace_period.specs.Sections.{IsTold, IsUntold}
-use Rattle.grace_period.specs.Watches.{is_done, looked_at}
+use Rattle.grace_period.specs.Watches.{is_done, watched_next}
 
 -- the own state word of a hand of a told world
 own_tells : (w : World Held) (actor : ℕ) (h : Held) → HasHand actor h w → in_section (word_in h.state.sizes w State actor) ≡ not (is_outside h.topics.stay)
@@ -49,7 +49,7 @@ told_out (Some w) actor h has stay = own_tells w actor h has ∙ ap (λ (s : Sta
 
 -- Where the others hold nothing, the actor that is looked at is found outside.
 pub look_free : (told tells : Option (World Held)) (actor index note found : ℕ) (h : Held) → IfSome told (HasHand actor h)
-    → Tells told actor (part_kind h (part.Watch index) note) found tells → PartNeeds (part.Watch index) h
+    → ToldBy told actor (part_kind h (part.Watch index) note) found tells → PartNeeds (part.Watch index) h
     → IfSome told (λ w. OthersRest actor w → in_section found ≡ false)
 look_free None tells actor index note found h has moves needs = tt
 look_free (Some w) tells actor index note found h has moves needs =
@@ -80,14 +80,14 @@ never_own own_ seen e = by (seen == own_) (λ e. grind (arith, nat_tests)) (λ e
     by false is not_ e = not_ refl e
 
 -- The first look of a watch may be made: there are always two actors.
-pub first_needs : (h : Held) → PartRests h → PartNeeds (part.Watch (looked_at (record { has_looked = false }) h)) h
+pub first_needs : (h : Held) → PartRests h → PartNeeds (part.Watch (watched_next (record { has_looked = false }) h)) h
 first_needs h R = (by (0 == own_index h), never_own (own_index h) 0, inl refl)
   where
     by : (b : Bool) → (if b then 0 + 1 else 0) < actors_of h.state.sizes
     by true = omega (arith, R.sizes.some)
     by false = omega (arith, R.sizes.some)
 
--- the hand behind a step is of the same actor and machine
+-- the hand after a step is of the same actor and machine
 same_place : (h g : Held) (k : Kind) (found : ℕ) → g ≡ next h k found → (own_index g ≡ own_index h) × (actors_of g.state.sizes ≡ actors_of h.state.sizes)
 same_place h g k found is =
     let same = next_same h k found in
@@ -97,7 +97,7 @@ same_place h g k found is =
 
 -- Behind a look that isn't the last, the next one may be made.
 needs_behind : (h g : Held) (k : Kind) (seen found : ℕ) → g ≡ next h k found → g.topics.watched ≡ seen
-    → next_watched (own_index h) seen < actors_of h.state.sizes → PartNeeds (part.Watch (looked_at (record { has_looked = true }) g)) g
+    → next_watched (own_index h) seen < actors_of h.state.sizes → PartNeeds (part.Watch (watched_next (record { has_looked = true }) g)) g
 needs_behind h g k seen found is watched lt =
     let same = same_place h g k found is in
     let at : next_watched (own_index g) g.topics.watched ≡ next_watched (own_index h) seen =
@@ -105,11 +105,11 @@ needs_behind h g k seen found is watched lt =
     (omega (arith, at, same.1, lt), never_own (own_index g) g.topics.watched, inr refl)
 
 pub more_needs : (h g : Held) (k : Kind) (index found : ℕ) → g ≡ next h k found → g.topics.watched ≡ index + 1
-    → next_watched (own_index h) (index + 1) < actors_of h.state.sizes → PartNeeds (part.Watch (looked_at (record { has_looked = true }) g)) g
+    → next_watched (own_index h) (index + 1) < actors_of h.state.sizes → PartNeeds (part.Watch (watched_next (record { has_looked = true }) g)) g
 more_needs h g k index found is watched lt = needs_behind h g k (index + 1) found is watched lt
 
 pub wait_needs : (h g : Held) (k : Kind) (index found : ℕ) → g ≡ next h k found → g.topics.watched ≡ index → PartNeeds (part.Watch index) h
-    → PartNeeds (part.Watch (looked_at (record { has_looked = true }) g)) g
+    → PartNeeds (part.Watch (watched_next (record { has_looked = true }) g)) g
 wait_needs h g k index found is watched needs =
     needs_behind h g k index found is watched (rw same_index needs.0)
   where

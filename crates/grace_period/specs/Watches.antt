@@ -20,15 +20,15 @@ use Rattle.mmu_core.specs.alone.OthersRest.{OthersRest}
 pub record Watching : Type 0 where
   pub has_looked : Bool
 
--- the actor at whom the next turn looks: at first the first one, and then the next behind those that were watched, but never its own
-abbrev pub looked_at : Watching → Held → ℕ
-looked_at watch h = next_watched (own_index h) (if watch.has_looked then h.topics.watched else 0)
+-- the actor at whom the next turn looks: at first the first one, and then the next after those that were watched, but never its own
+abbrev pub watched_next : Watching → Held → ℕ
+watched_next watch h = next_watched (own_index h) (if watch.has_looked then h.topics.watched else 0)
 
 -- how many actors there are from that one on
 abbrev pub actors_left : Watching → Held → ℕ
-actors_left watch h = actors_of h.state.sizes - looked_at watch h
+actors_left watch h = actors_of h.state.sizes - watched_next watch h
 
--- the actor that a watch comes to behind the one at a place
+-- the actor that a watch comes to after the one at a place
 abbrev pub next_behind : Held → ℕ → ℕ
 next_behind h index = next_watched (own_index h) (index + 1)
 
@@ -40,7 +40,7 @@ is_done (Retry cause) = false
 is_done (Done answer) = true
 
 -- A turn that looked at the actor at this place, and what the watch has come to. Where the state word has bit 1 set, the turn waits for
--- this word, and the watch stands at this actor still. Else it is behind this actor, and is done exactly where no other actor is left.
+-- this word, and the watch stands at this actor still. Else it is after this actor, and is done exactly where no other actor is left.
 -- No other topic has changed.
 abbrev pub Watched : Turn (Unit {0}) → ℕ → Held → Topics → Type 0
 Watched (Wait seen) index h after =
@@ -65,4 +65,4 @@ pub record IsFoundBy (turn : Turn (Unit {0})) (index note : ℕ) (before after :
 -- Where the look was made while all other actors rest, it doesn't wait.
 abbrev pub GoesOnWhereOthersRest : Turn (Unit {0}) → Watching → ℕ → Seat → Seat → Type 0
 GoesOnWhereOthersRest turn watch note before after =
-    WherePartMade (part.Watch (looked_at watch before.hand)) note before after (λ w v. OthersRest before.actor w → waits turn ≡ false)
+    WherePartMade (part.Watch (watched_next watch before.hand)) note before after (λ w v. OthersRest before.actor w → waits turn ≡ false)

@@ -1,5 +1,5 @@
 ghost use Rattle.std.specs.Prelude.{◌≡◌, ◌<◌, true, false};
-ghost use Rattle.grace_period.specs.Watches.{GoesOnWhereOthersRest, IsFoundBy, Watched, actors_left, is_done, looked_at};
+ghost use Rattle.grace_period.specs.Watches.{GoesOnWhereOthersRest, IsFoundBy, Watched, actors_left, is_done, watched_next};
 ghost use Rattle.mmu_core.specs.machine.MayMake.{MayMake};
 ghost use Rattle.part_steps.specs.PartBounds.{PartRests};
 ghost use Rattle.part_steps.specs.PartSteps.{PartNeeds};
@@ -52,7 +52,7 @@ impl Watch {
     // The place of the actor that the next turn looks at.
     pub(crate) fn next_look(&self, hand: &Hand) -> u64
         requires { PartRests hand.now.core }
-        ensures { result ≡ looked_at self.now hand.now.core }
+        ensures { result ≡ watched_next self.now hand.now.core }
     {
         let state = hand.progress();
         let own = state.sizes.index_of(state.actor);
@@ -69,12 +69,12 @@ impl Watch {
     /// the watch goes on to the next actor, and is done after the last one. There
     /// must be an actor left to look at; of the first turn there always is.
     pub fn turn<S: Stepper>(&mut self, s: &mut S, note: u64) -> Turn<()>
-        requires may { MayMake (part.Watch (looked_at self.old (S.seat s.old).hand)) note (S.seat s.old).hand }
+        requires may { MayMake (part.Watch (watched_next self.old (S.seat s.old).hand)) note (S.seat s.old).hand }
         requires reserved { 0 < (S.seat s.old).room }
-        ensures step { TurnsPart (waits result) (part.Watch (looked_at self.old (S.seat s.old).hand)) note (S.seat s.old) (S.seat s.new) }
-        ensures found { IsFoundBy result (looked_at self.old (S.seat s.old).hand) note (S.seat s.old) (S.seat s.new) }
-        ensures watched { Watched result (looked_at self.old (S.seat s.old).hand) (S.seat s.old).hand (S.seat s.new).hand.topics }
-        ensures goes_on { is_done result ≡ false → PartNeeds (part.Watch (looked_at self.new (S.seat s.new).hand)) (S.seat s.new).hand }
+        ensures step { TurnsPart (waits result) (part.Watch (watched_next self.old (S.seat s.old).hand)) note (S.seat s.old) (S.seat s.new) }
+        ensures found { IsFoundBy result (watched_next self.old (S.seat s.old).hand) note (S.seat s.old) (S.seat s.new) }
+        ensures watched { Watched result (watched_next self.old (S.seat s.old).hand) (S.seat s.old).hand (S.seat s.new).hand.topics }
+        ensures goes_on { is_done result ≡ false → PartNeeds (part.Watch (watched_next self.new (S.seat s.new).hand)) (S.seat s.new).hand }
         ensures looked { self.new.has_looked ≡ true }
         ensures nearer { result ≡ More → actors_left self.new (S.seat s.new).hand < actors_left self.old (S.seat s.old).hand }
         ensures alone { GoesOnWhereOthersRest result self.old note (S.seat s.old) (S.seat s.new) }

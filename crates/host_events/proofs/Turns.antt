@@ -23,8 +23,8 @@ use Rattle.mmu_core.specs.lines.Rests.{Rests}
 use Rattle.mmu_core.specs.machine.MayMake.{MayMake}
 use Rattle.mmu_core.specs.machine.Steps.{place_at, standing}
 use Rattle.mmu_core.specs.machine.Turns.{line_of, outcome_of}
-use Rattle.host_events.specs.HostLines.{ChangesPage, IsAt, MakesStep, StandsThere, MakesChange}
-use Rattle.step_seats.specs.LineTurns.{Gives, TurnsLine, line_seen, line_turn, turn_of, turn_told}
+use Rattle.host_events.specs.HostLines.{ChangesPage, IsAtHostPlace, MakesHostStep, StandsThere, MakesChange}
+use Rattle.step_seats.specs.LineTurns.{WaitsElse, TurnsLine, line_seen, line_turn, turn_of, turn_told}
 use Rattle.step_seats.specs.PartTurns.{ToldWay}
 use Rattle.step_seats.specs.Seats.{Seat}
 use Rattle.step_seats.specs.declared.turn.Turn.{Turn}
@@ -37,7 +37,7 @@ use Rattle.step_seats.proofs.LineTurns.{made_line, turns_told}
 pub record StandsInLine (p : HostPlace) (page : ℕ) (change : HostChange) (note : ℕ) (h : Held) : Type 0 where
   pub command : (line_of h).command ≡ ChangeHost page change
   pub stands : place_at h.state.place h ≡ place.Host p
-  pub is_at : IsAt p page change note h
+  pub is_at : IsAtHostPlace p page change note h
 
 -- the command that makes this change of this page
 changes_page : (page : ℕ) (change : HostChange) (c : Command) → ChangesPage page c → MakesChange change c → c ≡ ChangeHost page change
@@ -45,7 +45,7 @@ changes_page page change (ChangeHost of_page how) is made = ap (λ n. ChangeHost
 changes_page page change (Access gfn word op) is made = absurd is
 changes_page page change (SetSlot id slot) is made = absurd is
 
--- A place behind the first one is where the hand says that its line stands.
+-- A place after the first one is where the hand says that its line stands.
 stands_there : (q : Place) (p : HostPlace) (page : ℕ) (change : HostChange) (h : Held) → h.state.place ≡ q
     → standing q h.state.sizes h.slots (ChangeHost page change) ≡ place.Host p → StandsThere p h
 stands_there q (Look moves) page change h is stands = tt
@@ -79,7 +79,7 @@ stands_in_line p page change note h left rests changes makes stands knows is =
 
 -- The step of its place was made.
 module _ (way : Option Seen) (p : HostPlace) (page : ℕ) (change : HostChange) (note : ℕ) (before after : Seat) (L : StandsInLine p page change note before.hand)
-    (M : MakesStep way p page change note before after) where
+    (M : MakesHostStep way p page change note before after) where
   abbrev step : PartStep
   step = host_part p page change before.hand
 
@@ -94,14 +94,14 @@ module _ (way : Option Seen) (p : HostPlace) (page : ℕ) (change : HostChange) 
   outcome_is = goes_back (λ q c. outcome_at q c before.hand M.found ≡ host_outcome p page before.hand M.found) refl
 
   turns : (turn : Turn Answer)
-      → Gives turn (part_waits step before.hand.topics M.found) (part_seen step before.hand M.found) (turn_of (host_outcome p page before.hand M.found))
+      → WaitsElse turn (part_waits step before.hand.topics M.found) (part_seen step before.hand M.found) (turn_of (host_outcome p page before.hand M.found))
       → TurnsLine turn before after
   unfolding made_line
   turns turn gives = record {
     makes = made_line step note M.found before after L.is_at.may M.made;
     gives =
         goes_back
-        (λ q c. Gives turn (line_waits q c before.hand M.found) (line_seen q c before.hand M.found) (line_turn q c before.hand M.found)) gives;
+        (λ q c. WaitsElse turn (line_waits q c before.hand M.found) (line_seen q c before.hand M.found) (line_turn q c before.hand M.found)) gives;
   }
 
   told_way : (x : Option Seen) → way ≡ x → ToldWay x (part_waits step before.hand.topics M.found) (part_seen step before.hand M.found)

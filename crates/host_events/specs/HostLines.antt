@@ -30,12 +30,12 @@ StandsThere (Look moves) h = Unit {0}
 StandsThere p h = h.state.place ≡ place.Host p
 
 -- The line of this page is at this place, whose step its actor may make, and knows what the place asks.
-pub record IsAt (p : HostPlace) (page : ℕ) (change : HostChange) (note : ℕ) (h : Held) : Type 0 where
+pub record IsAtHostPlace (p : HostPlace) (page : ℕ) (change : HostChange) (note : ℕ) (h : Held) : Type 0 where
   pub left : length h.answers < length h.lines
   pub may : MayMake (host_part p page change h) note h
   pub knows : HostKnows p page change h
   pub stands : StandsThere p h
 
 -- The step of the place was made, and what is in its way is told.
-abbrev pub MakesStep : Option Seen → HostPlace → ℕ → HostChange → ℕ → Seat → Seat → Type 0
-MakesStep way p page change note before after = MadeTelling way (host_part p page change before.hand) note before after
+abbrev pub MakesHostStep : Option Seen → HostPlace → ℕ → HostChange → ℕ → Seat → Seat → Type 0
+MakesHostStep way p page change note before after = MadeTelling way (host_part p page change before.hand) note before after

@@ -1,6 +1,6 @@
 ghost use Rattle.std.specs.Prelude.{◌≡◌, ◌<◌, length, true};
 ghost use Rattle.core_views.specs.HostChanges.{changes_host};
-ghost use Rattle.host_events.specs.HostLines.{ChangesPage, IsAt, MakesChange, MakesStep};
+ghost use Rattle.host_events.specs.HostLines.{ChangesPage, IsAtHostPlace, MakesChange, MakesHostStep};
 ghost use Rattle.mmu_core.specs.machine.Turns.{IsSameHand, line_of};
 ghost use Rattle.step_seats.specs.LineTurns.{Says, TurnsLine, turn_told};
 ghost use Rattle.step_seats.specs.Moves.{KeepsRoom};
@@ -52,9 +52,9 @@ fn step<S: Stepper>(
     change: HostChange,
     note: u64,
 ) -> Option<Seen>
-    requires is_at { IsAt place page change note (S.seat s.old).hand }
+    requires is_at { IsAtHostPlace place page change note (S.seat s.old).hand }
     requires reserved { 0 < (S.seat s.old).room }
-    ensures makes { MakesStep result place page change note (S.seat s.old) (S.seat s.new) }
+    ensures makes { MakesHostStep result place page change note (S.seat s.old) (S.seat s.new) }
     ensures room { KeepsRoom (S.seat s.old) (S.seat s.new) }
     ensures same { ((S.seat s.new).actor ≡ (S.seat s.old).actor) × (S.frame s.new ≡ S.frame s.old) }
 {

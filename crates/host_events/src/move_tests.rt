@@ -172,7 +172,7 @@ fn refuses_a_move(rt: HostRuntime) -> Result<(), Fail> {
 }
 
 // What was written before is in the words of the new frame after the line. The contents begin
-// behind the 64 host words, the 8 roles and the 8 pages of the pool.
+// after the 64 host words, the 8 roles and the 8 pages of the pool.
 #[test]
 fn copies_the_words(rt: HostRuntime) -> Result<(), Fail> {
     let alloc = rt.alloc();

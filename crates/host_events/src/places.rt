@@ -1,7 +1,7 @@
 //! The step of each place outside of the invalidation's begin and end, by the call of its part.
 ghost use Rattle.std.specs.Prelude.{◌≡◌, ◌<◌};
 ghost use Rattle.core_views.specs.declared.place.HostPlace.TheVariants as at;
-ghost use Rattle.host_events.specs.HostLines.{IsAt, MakesStep};
+ghost use Rattle.host_events.specs.HostLines.{IsAtHostPlace, MakesHostStep};
 ghost use Rattle.step_seats.specs.Moves.{KeepsRoom};
 
 use core_views::{HostChange, Seen};
@@ -21,9 +21,9 @@ pub(crate) fn look_up<S: Stepper>(
     change: HostChange,
     note: u64,
 ) -> Option<Seen>
-    requires is_at { IsAt (at.Look moves) page change note (S.seat s.old).hand }
+    requires is_at { IsAtHostPlace (at.Look moves) page change note (S.seat s.old).hand }
     requires reserved { 0 < (S.seat s.old).room }
-    ensures makes { MakesStep result (at.Look moves) page change note (S.seat s.old) (S.seat s.new) }
+    ensures makes { MakesHostStep result (at.Look moves) page change note (S.seat s.old) (S.seat s.new) }
     ensures room { KeepsRoom (S.seat s.old) (S.seat s.new) }
     ensures same { ((S.seat s.new).actor ≡ (S.seat s.old).actor) × (S.frame s.new ≡ S.frame s.old) }
 {
@@ -43,9 +43,9 @@ pub(crate) fn claim<S: Stepper>(
     change: HostChange,
     note: u64,
 ) -> Option<Seen>
-    requires is_at { IsAt (at.Claim begun) page change note (S.seat s.old).hand }
+    requires is_at { IsAtHostPlace (at.Claim begun) page change note (S.seat s.old).hand }
     requires reserved { 0 < (S.seat s.old).room }
-    ensures makes { MakesStep result (at.Claim begun) page change note (S.seat s.old) (S.seat s.new) }
+    ensures makes { MakesHostStep result (at.Claim begun) page change note (S.seat s.old) (S.seat s.new) }
     ensures room { KeepsRoom (S.seat s.old) (S.seat s.new) }
     ensures same { ((S.seat s.new).actor ≡ (S.seat s.old).actor) × (S.frame s.new ≡ S.frame s.old) }
 {
@@ -63,9 +63,9 @@ pub(crate) fn copy_word<S: Stepper>(
     change: HostChange,
     note: u64,
 ) -> Option<Seen>
-    requires is_at { IsAt at.Copy page change note (S.seat s.old).hand }
+    requires is_at { IsAtHostPlace at.Copy page change note (S.seat s.old).hand }
     requires reserved { 0 < (S.seat s.old).room }
-    ensures makes { MakesStep result at.Copy page change note (S.seat s.old) (S.seat s.new) }
+    ensures makes { MakesHostStep result at.Copy page change note (S.seat s.old) (S.seat s.new) }
     ensures room { KeepsRoom (S.seat s.old) (S.seat s.new) }
     ensures same { ((S.seat s.new).actor ≡ (S.seat s.old).actor) × (S.frame s.new ≡ S.frame s.old) }
 {
@@ -82,9 +82,9 @@ pub(crate) fn store_word<S: Stepper>(
     change: HostChange,
     note: u64,
 ) -> Option<Seen>
-    requires is_at { IsAt at.Store page change note (S.seat s.old).hand }
+    requires is_at { IsAtHostPlace at.Store page change note (S.seat s.old).hand }
     requires reserved { 0 < (S.seat s.old).room }
-    ensures makes { MakesStep result at.Store page change note (S.seat s.old) (S.seat s.new) }
+    ensures makes { MakesHostStep result at.Store page change note (S.seat s.old) (S.seat s.new) }
     ensures room { KeepsRoom (S.seat s.old) (S.seat s.new) }
     ensures same { ((S.seat s.new).actor ≡ (S.seat s.old).actor) × (S.frame s.new ≡ S.frame s.old) }
 {
@@ -97,9 +97,9 @@ pub(crate) fn store_word<S: Stepper>(
 // Exchanges the page's host word; where another actor has changed it before, the next turn
 // tries again. It never waits.
 pub(crate) fn exchange<S: Stepper>(s: &mut S, page: u64, how: HostChange, note: u64) -> Option<Seen>
-    requires is_at { IsAt at.Change page how note (S.seat s.old).hand }
+    requires is_at { IsAtHostPlace at.Change page how note (S.seat s.old).hand }
     requires reserved { 0 < (S.seat s.old).room }
-    ensures makes { MakesStep result at.Change page how note (S.seat s.old) (S.seat s.new) }
+    ensures makes { MakesHostStep result at.Change page how note (S.seat s.old) (S.seat s.new) }
     ensures room { KeepsRoom (S.seat s.old) (S.seat s.new) }
     ensures same { ((S.seat s.new).actor ≡ (S.seat s.old).actor) × (S.frame s.new ≡ S.frame s.old) }
 {
@@ -111,9 +111,9 @@ pub(crate) fn exchange<S: Stepper>(s: &mut S, page: u64, how: HostChange, note: 
 
 // Looks at the next actor.
 pub(crate) fn watch<S: Stepper>(s: &mut S, page: u64, change: HostChange, note: u64) -> Option<Seen>
-    requires is_at { IsAt at.Watch page change note (S.seat s.old).hand }
+    requires is_at { IsAtHostPlace at.Watch page change note (S.seat s.old).hand }
     requires reserved { 0 < (S.seat s.old).room }
-    ensures makes { MakesStep result at.Watch page change note (S.seat s.old) (S.seat s.new) }
+    ensures makes { MakesHostStep result at.Watch page change note (S.seat s.old) (S.seat s.new) }
     ensures room { KeepsRoom (S.seat s.old) (S.seat s.new) }
     ensures same { ((S.seat s.new).actor ≡ (S.seat s.old).actor) × (S.frame s.new ≡ S.frame s.old) }
 {
@@ -123,9 +123,9 @@ pub(crate) fn watch<S: Stepper>(s: &mut S, page: u64, change: HostChange, note: 
 
 // Gives the old frame back. It never waits.
 pub(crate) fn free<S: Stepper>(s: &mut S, page: u64, change: HostChange, note: u64) -> Option<Seen>
-    requires is_at { IsAt at.Free page change note (S.seat s.old).hand }
+    requires is_at { IsAtHostPlace at.Free page change note (S.seat s.old).hand }
     requires reserved { 0 < (S.seat s.old).room }
-    ensures makes { MakesStep result at.Free page change note (S.seat s.old) (S.seat s.new) }
+    ensures makes { MakesHostStep result at.Free page change note (S.seat s.old) (S.seat s.new) }
     ensures room { KeepsRoom (S.seat s.old) (S.seat s.new) }
     ensures same { ((S.seat s.new).actor ≡ (S.seat s.old).actor) × (S.frame s.new ≡ S.frame s.old) }
 {

@@ -24,12 +24,12 @@ use Rattle.step_seats.proofs.ToldWords.{StepsTo, told_both}
 use Rattle.step_seats.proofs.Where.{ToldBoth}
 use Rattle.host_map.specs.declared.host.Changed.{Changed}
 use Rattle.host_map.specs.declared.host.Changed.TheVariants.{Set, Lost}
-use Rattle.host_map.specs.Touching.{IsExchange, WasAnother, change_found, frame_held, held_after, holding_changed, holding_word, host_in, word_exchanged}
-use Rattle.host_map.specs.Touching.{word_held}
+use Rattle.host_map.specs.Touching.{IsExchange, WasAnother, change_found, frame_held, after_exchange, holding_changed, holding_word, host_in, word_exchanged}
+use Rattle.host_map.specs.Touching.{word_after_exchange}
 
 -- what the exchange leaves of a word, by its answer
 leaves_so : (was new_ : ℕ) (answer : Changed) → WasAnother was answer
-    → (if change_found was answer == was then new_ else change_found was answer) ≡ word_held new_ answer
+    → (if change_found was answer == was then new_ else change_found was answer) ≡ word_after_exchange new_ answer
 leaves_so was new_ Set other = let same : (was == was) ≡ true = grind (arith, nat_tests) in ap (λ (b : Bool). if b then new_ else was) same
 leaves_so was new_ (Lost seen) other = let apart : (seen == was) ≡ false = grind (arith, nat_tests) in ap (λ (b : Bool). if b then new_ else seen) apart
 
@@ -56,7 +56,7 @@ changes_so new_ found answer t is other =
       frames = record t.frames { owned = frame_after (change_found was answer == was) (host_frame was) t.frames.owned };
     }) (leaves_so was new_ answer other)
     ∙ ap (λ o. record t {
-      host = Some (record { page = page_looked t.host; word = word_held new_ answer });
+      host = Some (record { page = page_looked t.host; word = word_after_exchange new_ answer });
       watched = 0;
       frames = record t.frames { owned = o };
     }) (frame_so was (host_frame was) answer t.frames.owned other)
@@ -65,7 +65,7 @@ changes_so new_ found answer t is other =
     was = word_looked t.host
 
 pub holding : (step : PartStep) (found : ℕ) (answer : Changed) (t : Topics) → IsExchange step → found ≡ change_found (word_looked t.host) answer
-    → WasAnother (word_looked t.host) answer → part_topics step t found ≡ held_after step answer t
+    → WasAnother (word_looked t.host) answer → part_topics step t found ≡ after_exchange step answer t
 holding part.Bring found answer t exchange is other = brings_so (with_presence true (word_looked t.host)) found answer t is other
 holding (part.Change new_) found answer t exchange is other = changes_so new_ found answer t is other
 holding _ found answer t exchange is other = absurd exchange
@@ -90,10 +90,10 @@ pub changed_word : (step : PartStep) (note found : ℕ) (answer : Changed) (befo
     → WasAnother (word_looked before.hand.topics.host) answer
     → ToldBoth before.tells.world after.tells.world
     (λ w v. (host_in before.hand.state.sizes (page_looked before.hand.topics.host) w ≡ change_found (word_looked before.hand.topics.host) answer)
-    × (host_in before.hand.state.sizes (page_looked before.hand.topics.host) v ≡ word_held (word_exchanged step before.hand.topics) answer))
+    × (host_in before.hand.state.sizes (page_looked before.hand.topics.host) v ≡ word_after_exchange (word_exchanged step before.hand.topics) answer))
 changed_word step note found answer before after exchange needs made is other =
     told_both before.tells.world after.tells.world before.actor note found step before.hand
-    (λ w v. (host_in z page w ≡ change_found was answer) × (host_in z page v ≡ word_held new_ answer)) needs made.has made.world each
+    (λ w v. (host_in z page w ≡ change_found was answer) × (host_in z page v ≡ word_after_exchange new_ answer)) needs made.has made.world each
   where
     was : ℕ
     was = word_looked before.hand.topics.host
@@ -108,7 +108,7 @@ changed_word step note found answer before after exchange needs made is other =
     z = before.hand.state.sizes
 
     each : (w u : World Held) → StepsTo z (part_task step (own_index before.hand) before.hand.topics note) found w u
-        → (host_in z page w ≡ change_found was answer) × (host_in z page u ≡ word_held new_ answer)
+        → (host_in z page w ≡ change_found was answer) × (host_in z page u ≡ word_after_exchange new_ answer)
     each w u S =
         let here : host_in z page w ≡ change_found was answer =
         sym (S.finds ∙ answers_word step (own_index before.hand) note before.hand.topics (word_in z w) exchange) ∙ is in

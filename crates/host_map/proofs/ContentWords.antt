@@ -1,4 +1,4 @@
--- The host word and the content word of a told world, before and behind a step on them.
+-- The host word and the content word of a told world, before and after a step on them.
 use Rattle.std.proofs.Common.{◌≡◌, ◌<◌, ℕ, List, Option, Some, None, length, refl, sym, subst, ap, ◌∙◌, arith}
 use Rattle.std.specs.Prelude.{true, IfSome, nat_lt, unwrap_or, slice_index, slice_set}
 use Rattle.std.proofs.lemmas.Bool.Decides.{nat_tests}
@@ -9,7 +9,7 @@ use Rattle.core_views.specs.declared.trace.Op.{Op}
 use Rattle.core_views.specs.declared.trace.Op.TheVariants.{Read, Write, Add}
 use Rattle.core_views.specs.Held.{Held}
 use Rattle.core_views.specs.Kinds.{after}
-use Rattle.core_views.specs.Memory.{stored}
+use Rattle.core_views.specs.Memory.{word_after_op}
 use Rattle.spte_words.specs.declared.area.Area.TheVariants as area
 use Rattle.spte_words.specs.Areas.{content_index, size_of}
 use Rattle.spte_words.proofs.Indices.{content_within}
@@ -17,12 +17,12 @@ use Rattle.mmu_core.specs.machine.Enabled.{mmu}
 use Rattle.mmu_core.specs.machine.Machine.{World, answered, effect}
 use Rattle.part_steps.specs.Tasks.{kind_of_task, loads, map_of}
 use Rattle.mmu_core.proofs.machine.Views.{answered_is}
-use Rattle.step_seats.specs.Moves.{Tells, step_by}
+use Rattle.step_seats.specs.Moves.{ToldBy, step_by}
 use Rattle.host_map.specs.Touching.{Touched, content_in, content_place, host_in, touch_kind}
 
 -- What a load of a host word finds is that word.
 pub host_found : (z : Sizes) (page note : ℕ) (told tells : Option (World Held)) (actor found : ℕ) → page < z.pages
-    → Tells told actor (kind_of_task z (loads kind.Host area.Host page note)) found tells → IfSome told (λ w. found ≡ host_in z page w)
+    → ToldBy told actor (kind_of_task z (loads kind.Host area.Host page note)) found tells → IfSome told (λ w. found ≡ host_in z page w)
 host_found z page note None tells actor found there moves = tt
 host_found z page note (Some w) tells actor found there moves = sym moves.1 ∙ answered_is z w (loads kind.Host area.Host page note) there
 
@@ -42,12 +42,12 @@ module _ (z : Sizes) (frame word : ℕ) (frame_in : frame < z.frames) (word_belo
       (record { kind = kind.Add; area = area.Content; index = content_index (map_of z) frame word; expected = 0; written = x; may_end = note }) within
 
   pub content_found : (op : Op) (note : ℕ) (told tells : Option (World Held)) (actor found : ℕ)
-      → Tells told actor (touch_kind z frame word op note) found tells → IfSome told (λ w. found ≡ content_in z frame word w)
+      → ToldBy told actor (touch_kind z frame word op note) found tells → IfSome told (λ w. found ≡ content_in z frame word w)
   content_found op note None tells actor found moves = tt
   content_found op note (Some w) tells actor found moves = sym moves.1 ∙ answer_is op note w
 
   -- what the operation stores
-  after_is : (op : Op) (note n : ℕ) → after (touch_kind z frame word op note) n ≡ stored op n
+  after_is : (op : Op) (note n : ℕ) → after (touch_kind z frame word op note) n ≡ word_after_op op n
   unfolding after
   after_is Read note n = refl
   after_is (Write x) note n = refl
@@ -62,25 +62,25 @@ module _ (z : Sizes) (frame word : ℕ) (frame_in : frame < z.frames) (word_belo
   content_at : (w : World Held) → content_in z frame word w ≡ slice_index w.words (content_place z frame word)
   content_at w = let e : nat_lt (content_index (map_of z) frame word) (size_of (map_of z) area.Content) ≡ true = grind (arith, nat_tests, within) in rw e refl
 
-  -- the words behind the operation
+  -- the words after the operation
   words_behind : (op : Op) (note actor : ℕ) (w : World Held) → (effect mmu w (step_by actor (touch_kind z frame word op note))).words
-      ≡ slice_set w.words (content_place z frame word) (stored op (slice_index w.words (content_place z frame word)))
+      ≡ slice_set w.words (content_place z frame word) (word_after_op op (slice_index w.words (content_place z frame word)))
   unfolding effect
   words_behind Read note actor w = ap (slice_set w.words (content_place z frame word)) (after_is Read note _)
   words_behind (Write x) note actor w = ap (slice_set w.words (content_place z frame word)) (after_is (Write x) note _)
   words_behind (Add x) note actor w = ap (slice_set w.words (content_place z frame word)) (after_is (Add x) note _)
 
   touched : (op : Op) (w v : World Held) → content_place z frame word < length w.words → v.words
-      ≡ slice_set w.words (content_place z frame word) (stored op (slice_index w.words (content_place z frame word))) → Touched z frame word op w v
+      ≡ slice_set w.words (content_place z frame word) (word_after_op op (slice_index w.words (content_place z frame word))) → Touched z frame word op w v
   touched op w v inside is = record {
     stores =
         content_at v ∙ ap (λ (ws : List ℕ). slice_index ws (content_place z frame word)) is
-        ∙ get_or-set_same w.words (content_place z frame word) _ 0 inside ∙ ap (stored op) (sym (content_at w));
+        ∙ get_or-set_same w.words (content_place z frame word) _ 0 inside ∙ ap (word_after_op op) (sym (content_at w));
     others = λ i ne. ap (λ (ws : List ℕ). slice_index ws i) is ∙ get_or-set_other w.words (content_place z frame word) i _ 0 ne;
   }
 
   pub content_behind : (op : Op) (note : ℕ) (told tells : Option (World Held)) (actor found : ℕ)
-      → Tells told actor (touch_kind z frame word op note) found tells → IfSome told (λ w. IfSome tells (λ v. Touched z frame word op w v))
+      → ToldBy told actor (touch_kind z frame word op note) found tells → IfSome told (λ w. IfSome tells (λ v. Touched z frame word op w v))
   content_behind op note None tells actor found moves = tt
   content_behind op note (Some w) None actor found moves = tt
   content_behind op note (Some w) (Some v) actor found moves =
@@ -88,7 +88,7 @@ module _ (z : Sizes) (frame word : ℕ) (frame_in : frame < z.frames) (word_belo
       (ap (λ (o : Option (World Held)). (unwrap_or o v).words) moves.2 ∙ words_behind op note actor w)
 
   -- A load changes no word.
-  pub words_stay : (note : ℕ) (told tells : Option (World Held)) (actor found : ℕ) → Tells told actor (touch_kind z frame word Read note) found tells
+  pub words_stay : (note : ℕ) (told tells : Option (World Held)) (actor found : ℕ) → ToldBy told actor (touch_kind z frame word Read note) found tells
       → IfSome told (λ w. IfSome tells (λ v. v.words ≡ w.words))
   words_stay note None tells actor found moves = tt
   words_stay note (Some w) None actor found moves = tt

@@ -23,7 +23,7 @@ use Rattle.step_seats.specs.Seats.{Seat}
 use Rattle.step_seats.specs.PartTurns.{MadePart}
 use Rattle.step_seats.proofs.ToldWords.{StepsTo, told_before, told_both}
 use Rattle.step_seats.proofs.Where.{ToldBoth}
-use Rattle.host_map.specs.Moving.{FreesFrame, StoresCopy, frame_looked}
+use Rattle.host_map.specs.Moving.{FreesFrame, StoresCopy, frame_of_look}
 use Rattle.host_map.specs.Touching.{content_in}
 
 -- A content word, by its index.
@@ -35,11 +35,11 @@ content_at z frame word index w is = ap (word_in z w area.Content) is
 pub copies_word : (index note found : ℕ) (before after : Seat) → PartNeeds (part.Copy index) before.hand
     → MadePart (part.Copy index) note found before after
     → IfSome before.tells.world
-    (λ w. found ≡ content_in before.hand.state.sizes (frame_looked before.hand.topics) (words_moved before.hand.topics.frames.owned) w)
+    (λ w. found ≡ content_in before.hand.state.sizes (frame_of_look before.hand.topics) (words_moved before.hand.topics.frames.owned) w)
 copies_word index note found before after N M =
     told_before before.tells.world after.tells.world before.actor note found (part.Copy index) before.hand
-    (λ w. found ≡ content_in z (frame_looked t) (words_moved t.frames.owned) w) N M.has M.world
-    (λ w finds. finds ∙ content_at z (frame_looked t) (words_moved t.frames.owned) index w N.is)
+    (λ w. found ≡ content_in z (frame_of_look t) (words_moved t.frames.owned) w) N M.has M.world
+    (λ w finds. finds ∙ content_at z (frame_of_look t) (words_moved t.frames.owned) index w N.is)
   where
     z : Sizes
     z = before.hand.state.sizes

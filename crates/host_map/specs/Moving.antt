@@ -18,8 +18,8 @@ use Rattle.step_seats.specs.Seats.{Seat}
 use Rattle.host_map.specs.Touching.{content_in}
 
 -- the frame of the page that was looked up
-abbrev pub frame_looked : Topics → ℕ
-frame_looked t = host_frame (word_looked t.host)
+abbrev pub frame_of_look : Topics → ℕ
+frame_of_look t = host_frame (word_looked t.host)
 
 -- what is held after a copy that found this word: it is to be stored next. Nothing else has changed.
 abbrev pub holding_copy : ℕ → Topics → Topics
@@ -33,11 +33,11 @@ holding_stored t = record t { frames = record t.frames { owned = word_stored t.f
 abbrev pub holding_no_frame : Topics → Topics
 holding_no_frame t = record t { frames = frame_given t.frames }
 
--- Where the copy was made, its answer is the word of the page that is next: the one behind those that are filled.
-abbrev pub WasNextWord : ℕ → ℕ → ℕ → Seat → Seat → Type 0
-WasNextWord index note answer before after =
+-- Where the copy was made, its answer is the word of the page that is next: the one after those that are filled.
+abbrev pub CopiedNextWord : ℕ → ℕ → ℕ → Seat → Seat → Type 0
+CopiedNextWord index note answer before after =
     WherePartMade (Copy index) note before after
-    (λ w v. answer ≡ content_in before.hand.state.sizes (frame_looked before.hand.topics) (words_moved before.hand.topics.frames.owned) w)
+    (λ w v. answer ≡ content_in before.hand.state.sizes (frame_of_look before.hand.topics) (words_moved before.hand.topics.frames.owned) w)
 
 -- The next word of the frame that is owned holds what was copied for it, and every other word of the machine what it held before.
 pub record StoresCopy (z : Sizes) (t : Topics) (index : ℕ) (w v : World Held) : Type 0 where

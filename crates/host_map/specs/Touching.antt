@@ -7,7 +7,7 @@ use Rattle.core_views.specs.declared.sizes.Sizes.{Sizes}
 use Rattle.core_views.specs.declared.trace.Op.{Op}
 use Rattle.core_views.specs.declared.trace.Op.TheVariants.{Read}
 use Rattle.core_views.specs.Held.{Held}
-use Rattle.core_views.specs.Memory.{stored}
+use Rattle.core_views.specs.Memory.{word_after_op}
 use Rattle.spte_words.specs.declared.area.Area.TheVariants as area
 use Rattle.spte_words.specs.Areas.{content_index, place}
 use Rattle.spte_words.specs.HostWords.{host_frame, with_presence}
@@ -45,7 +45,7 @@ touch_kind z frame word op note = kind_of_task z (record (touch_of op (content_i
 
 -- After the operation the word holds what it stores there, and each other word of the machine what it held.
 pub record Touched (z : Sizes) (frame word : ℕ) (op : Op) (w v : World Held) : Type 0 where
-  pub stores : content_in z frame word v ≡ stored op (content_in z frame word w)
+  pub stores : content_in z frame word v ≡ word_after_op op (content_in z frame word w)
   pub others : (i : ℕ) → i ≢ content_place z frame word → slice_index v.words i ≡ slice_index w.words i
 
 -- The seat's actor made the operation on this word of a frame. The answer is what the word held where it was made; there the operation
@@ -83,13 +83,13 @@ change_found was Set = was
 change_found was (Lost seen) = seen
 
 -- the host word that is held after it, for the same page
-abbrev pub word_held : ℕ → Changed → ℕ
-word_held new_ Set = new_
-word_held new_ (Lost seen) = seen
+abbrev pub word_after_exchange : ℕ → Changed → ℕ
+word_after_exchange new_ Set = new_
+word_after_exchange new_ (Lost seen) = seen
 
 -- what is held after a page was to be brought in: nothing else has changed
 abbrev pub holding_word : ℕ → Changed → Topics → Topics
-holding_word new_ answer t = record t { host = Some (record { page = page_looked t.host; word = word_held new_ answer }) }
+holding_word new_ answer t = record t { host = Some (record { page = page_looked t.host; word = word_after_exchange new_ answer }) }
 
 -- The frame that is owned after a change: where this was won, the page's old one stands in its place, if one was owned.
 abbrev pub frame_held : Changed → ℕ → Option OwnedFrame → Option OwnedFrame
@@ -99,15 +99,15 @@ frame_held (Lost seen) old_ owned = owned
 -- what is held after a change: the word and this frame, and nobody was watched since; nothing else has changed
 abbrev pub holding_changed : ℕ → Changed → Topics → Topics
 holding_changed new_ answer t = record t {
-  host = Some (record { page = page_looked t.host; word = word_held new_ answer });
+  host = Some (record { page = page_looked t.host; word = word_after_exchange new_ answer });
   watched = 0;
   frames = record t.frames { owned = frame_held answer (host_frame (word_looked t.host)) t.frames.owned };
 }
 
-abbrev pub held_after : PartStep → Changed → Topics → Topics
-held_after part.Bring answer t = holding_word (with_presence true (word_looked t.host)) answer t
-held_after (part.Change new_) answer t = holding_changed new_ answer t
-held_after _ answer t = t
+abbrev pub after_exchange : PartStep → Changed → Topics → Topics
+after_exchange part.Bring answer t = holding_word (with_presence true (word_looked t.host)) answer t
+after_exchange (part.Change new_) answer t = holding_changed new_ answer t
+after_exchange _ answer t = t
 
 -- Another word than the one that was looked up was found.
 abbrev pub WasAnother : ℕ → Changed → Type 0
@@ -115,7 +115,7 @@ WasAnother was Set = Unit {0}
 WasAnother was (Lost seen) = seen ≢ was
 
 -- The exchange was made, and answers by what it found.
-pub record Changes (step : PartStep) (note : ℕ) (answer : Changed) (before after : Seat) : Type 0 where
+pub record MakesExchange (step : PartStep) (note : ℕ) (answer : Changed) (before after : Seat) : Type 0 where
   pub made : MadePart step note (change_found (word_looked before.hand.topics.host) answer) before after
   pub differs : WasAnother (word_looked before.hand.topics.host) answer
 
@@ -124,4 +124,4 @@ abbrev pub LeavesHostWord : Changed → PartStep → ℕ → Seat → Seat → T
 LeavesHostWord answer step note before after =
     WherePartMade step note before after
     (λ w v. (host_in before.hand.state.sizes (page_looked before.hand.topics.host) w ≡ change_found (word_looked before.hand.topics.host) answer)
-    × (host_in before.hand.state.sizes (page_looked before.hand.topics.host) v ≡ word_held (word_exchanged step before.hand.topics) answer))
+    × (host_in before.hand.state.sizes (page_looked before.hand.topics.host) v ≡ word_after_exchange (word_exchanged step before.hand.topics) answer))

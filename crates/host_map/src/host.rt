@@ -1,5 +1,5 @@
 ghost use Rattle.std.specs.Prelude.{◌≡◌, ◌<◌, Some, true};
-ghost use Rattle.host_map.specs.Touching.{Changes, IsExchange, LeavesHostWord, WasHostWord, holding_changed, holding_word, held_after};
+ghost use Rattle.host_map.specs.Touching.{MakesExchange, IsExchange, LeavesHostWord, WasHostWord, holding_changed, holding_word, after_exchange};
 ghost use Rattle.mmu_core.specs.machine.MayMake.{MayMake};
 ghost use Rattle.part_steps.specs.declared.part_step.PartStep.TheVariants.{Bring, Change, Host};
 ghost use Rattle.part_steps.specs.PartTasks.{word_looked};
@@ -40,8 +40,8 @@ fn exchange<S: Stepper>(s: &mut S, step: PartStep, note: u64) -> Changed
     requires exchange { IsExchange step }
     requires may { MayMake step note (S.seat s.old).hand }
     requires reserved { 0 < (S.seat s.old).room }
-    ensures step { Changes step note result (S.seat s.old) (S.seat s.new) }
-    ensures host { (S.seat s.new).hand.topics ≡ held_after step result (S.seat s.old).hand.topics }
+    ensures step { MakesExchange step note result (S.seat s.old) (S.seat s.new) }
+    ensures host { (S.seat s.new).hand.topics ≡ after_exchange step result (S.seat s.old).hand.topics }
     ensures told { LeavesHostWord result step note (S.seat s.old) (S.seat s.new) }
     ensures room { KeepsRoom (S.seat s.old) (S.seat s.new) }
     ensures same { ((S.seat s.new).actor ≡ (S.seat s.old).actor) × (S.frame s.new ≡ S.frame s.old) }
@@ -63,7 +63,7 @@ fn exchange<S: Stepper>(s: &mut S, step: PartStep, note: u64) -> Changed
 pub fn bring_in<S: Stepper>(s: &mut S, note: u64) -> Changed
     requires may { MayMake Bring note (S.seat s.old).hand }
     requires reserved { 0 < (S.seat s.old).room }
-    ensures step { Changes Bring note result (S.seat s.old) (S.seat s.new) }
+    ensures step { MakesExchange Bring note result (S.seat s.old) (S.seat s.new) }
     ensures host { (S.seat s.new).hand.topics
         ≡ holding_word (with_presence true (word_looked (S.seat s.old).hand.topics.host)) result (S.seat s.old).hand.topics }
     ensures told { LeavesHostWord result Bring note (S.seat s.old) (S.seat s.new) }
@@ -81,7 +81,7 @@ pub fn bring_in<S: Stepper>(s: &mut S, note: u64) -> Changed
 pub fn change<S: Stepper>(s: &mut S, word: u64, note: u64) -> Changed
     requires may { MayMake (Change word) note (S.seat s.old).hand }
     requires reserved { 0 < (S.seat s.old).room }
-    ensures step { Changes (Change word) note result (S.seat s.old) (S.seat s.new) }
+    ensures step { MakesExchange (Change word) note result (S.seat s.old) (S.seat s.new) }
     ensures host { (S.seat s.new).hand.topics ≡ holding_changed word result (S.seat s.old).hand.topics }
     ensures told { LeavesHostWord result (Change word) note (S.seat s.old) (S.seat s.new) }
     ensures room { KeepsRoom (S.seat s.old) (S.seat s.new) }

@@ -2,7 +2,7 @@ ghost use Rattle.std.specs.Prelude.{◌≡◌, ◌<◌};
 ghost use Rattle.host_map.specs.Moving.{
   FreesWhereMade,
   StoresWhereMade,
-  WasNextWord,
+  CopiedNextWord,
   holding_copy,
   holding_no_frame,
   holding_stored,
@@ -24,7 +24,7 @@ pub fn copy<S: Stepper>(s: &mut S, index: u64, note: u64) -> u64
     requires reserved { 0 < (S.seat s.old).room }
     ensures step { MadePart (Copy index) note result (S.seat s.old) (S.seat s.new) }
     ensures held { (S.seat s.new).hand.topics ≡ holding_copy result (S.seat s.old).hand.topics }
-    ensures told { WasNextWord index note result (S.seat s.old) (S.seat s.new) }
+    ensures told { CopiedNextWord index note result (S.seat s.old) (S.seat s.new) }
     ensures room { KeepsRoom (S.seat s.old) (S.seat s.new) }
     ensures same { ((S.seat s.new).actor ≡ (S.seat s.old).actor) × (S.frame s.new ≡ S.frame s.old) }
 {

@@ -18,7 +18,7 @@ use Rattle.part_steps.specs.ControlTopics.{seq_checked}
 use Rattle.mmu_core.specs.machine.View.{word_in}
 use Rattle.step_seats.specs.Seats.{Seat}
 use Rattle.step_seats.specs.PartTurns.{MadePart}
-use Rattle.invalidate_seq.specs.Checks.{LoadsOnly, area_of, loaded, step_of}
+use Rattle.invalidate_seq.specs.Checks.{LoadsOnly, area_of, loaded, load_of}
 use Rattle.step_seats.proofs.AloneTold.{if_some}
 use Rattle.step_seats.proofs.Found.{Answers, found_told}
 
@@ -38,7 +38,7 @@ pub seq_loaded : (before after : Topics) (v : ℕ) → has_lock before.hold ≡ 
     }
 seq_loaded before after v lock made = made ∙ ap (λ (b : Bool). sequenced b before v) (locked before.hold lock)
 
-pub loads_only : (stage : CheckStage) (before after : Topics) (v : ℕ) → has_lock before.hold ≡ true → after ≡ part_topics (step_of stage) before v
+pub loads_only : (stage : CheckStage) (before after : Topics) (v : ℕ) → has_lock before.hold ≡ true → after ≡ part_topics (load_of stage) before v
     → LoadsOnly stage before after
 loads_only Count before after v lock made =
     made ∙ ap (λ (n : Invalidations). record before { invalidations = record before.invalidations { count = n.count; checked = n.checked } })
@@ -54,20 +54,20 @@ loads_only Seq before after v lock made =
     is ∙ ap (λ (n : Invalidations). record before { invalidations = record before.invalidations { seq = n.seq; checked = n.checked } })
     (sym (ap (λ (t : Topics). t.invalidations) is))
 
-loaded_is : (stage : CheckStage) (before after : Topics) (v : ℕ) → has_lock before.hold ≡ true → after ≡ part_topics (step_of stage) before v
+loaded_is : (stage : CheckStage) (before after : Topics) (v : ℕ) → has_lock before.hold ≡ true → after ≡ part_topics (load_of stage) before v
     → loaded stage after.invalidations ≡ v
 loaded_is Count before after v lock made = ap (λ (t : Topics). t.invalidations.count) made
 loaded_is Start before after v lock made = ap (λ (t : Topics). t.invalidations.start) made
 loaded_is End before after v lock made = ap (λ (t : Topics). t.invalidations.end) made
 loaded_is Seq before after v lock made = ap (λ (t : Topics). t.invalidations.seq) (seq_loaded before after v lock made)
 
-needs_nothing : (stage : CheckStage) (h : Held) → PartNeeds (step_of stage) h
+needs_nothing : (stage : CheckStage) (h : Held) → PartNeeds (load_of stage) h
 needs_nothing Count h = tt
 needs_nothing Start h = tt
 needs_nothing End h = tt
 needs_nothing Seq h = tt
 
-stage_word : (stage : CheckStage) (note found : ℕ) (h : Held) (w : World Held) → Answers (step_of stage) note found h w
+stage_word : (stage : CheckStage) (note found : ℕ) (h : Held) (w : World Held) → Answers (load_of stage) note found h w
     → found ≡ word_in h.state.sizes w (area_of stage) 0
 stage_word Count note found h w is = is
 stage_word Start note found h w is = is
@@ -75,13 +75,13 @@ stage_word End note found h w is = is
 stage_word Seq note found h w is = is
 
 pub word_told : (stage : CheckStage) (note found : ℕ) (before after : Seat) → has_lock before.hand.topics.hold ≡ true
-    → MadePart (step_of stage) note found before after
+    → MadePart (load_of stage) note found before after
     → IfSome before.tells.world (λ w. loaded stage after.hand.topics.invalidations ≡ word_in before.hand.state.sizes w (area_of stage) 0)
 word_told stage note found before after lock made =
-    if_some before.tells.world (Answers (step_of stage) note found before.hand)
+    if_some before.tells.world (Answers (load_of stage) note found before.hand)
     (λ w. loaded stage after.hand.topics.invalidations ≡ word_in before.hand.state.sizes w (area_of stage) 0)
     (λ w is. loaded_is stage before.hand.topics after.hand.topics found lock made.topics ∙ stage_word stage note found before.hand w is)
-    (found_told (step_of stage) note found before after made (needs_nothing stage before.hand))
+    (found_told (load_of stage) note found before after made (needs_nothing stage before.hand))
 
 -- The sequence number is the snapshot where the lock isn't held.
 snapshot_taken : (before after : Topics) (v : ℕ) → before.hold ≡ Loose → after ≡ part_topics part.Seq before v → after ≡ sequenced true before v

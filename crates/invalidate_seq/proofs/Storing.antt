@@ -28,7 +28,7 @@ use Rattle.step_seats.specs.Where.{AnsweredThere, IsMadeIn, OfWorld}
 use Rattle.step_seats.proofs.ToldWords.{StepsTo, found_in, told_both}
 use Rattle.invalidate_seq.specs.Checks.{area_of, loaded}
 use Rattle.invalidate_seq.specs.Invalidating.{Opens, Shuts, open_at, open_word, shut_at, shut_word}
-use Rattle.invalidate_seq.specs.Stored.{counted, ended, raised, started}
+use Rattle.invalidate_seq.specs.Stored.{count_stored, ended, raised, started}
 use Rattle.invalidate_seq.specs.declared.open.OpenStage.{OpenStage}
 use Rattle.invalidate_seq.specs.declared.open.OpenStage.TheVariants as opens
 use Rattle.invalidate_seq.specs.declared.shut.ShutStage.{ShutStage}
@@ -89,8 +89,8 @@ opened_behind opens.SetStart gfn before after v alone is made = made ∙ ap (λ 
 opened_behind opens.SetEnd gfn before after v alone is made = made ∙ ap (λ n. ended n before) is
 opened_behind opens.SetCount gfn before after v alone is made =
     made
-    ∙ ap (λ n. counted n (nat_lt before.invalidations.count n) before) is
-    ∙ ap (λ (b : Bool). counted (before.invalidations.count + 1) b before) (rises before.invalidations.count)
+    ∙ ap (λ n. count_stored n (nat_lt before.invalidations.count n) before) is
+    ∙ ap (λ (b : Bool). count_stored (before.invalidations.count + 1) b before) (rises before.invalidations.count)
 
 pub shut_behind : (stage : ShutStage) (before after : Topics) (v : ℕ) → before.hold ≡ Exclusive → Wrote (shut_at stage before.invalidations) v
     → after ≡ part_topics (shut_at stage before.invalidations) before v → Shuts stage before after
@@ -99,8 +99,8 @@ shut_behind shuts.SetSeq before after v alone is made = made ∙ ap (λ n. raise
 shut_behind shuts.Count before after v alone is made = loads_only word_of.Count before after v (has_the_lock _ alone) made
 shut_behind shuts.SetCount before after v alone is made =
     made
-    ∙ ap (λ n. counted n (nat_lt before.invalidations.count n) before) is
-    ∙ ap (λ (b : Bool). counted (before.invalidations.count - 1) b before) (falls before.invalidations.count)
+    ∙ ap (λ n. count_stored n (nat_lt before.invalidations.count n) before) is
+    ∙ ap (λ (b : Bool). count_stored (before.invalidations.count - 1) b before) (falls before.invalidations.count)
 
 -- What is kept of a stage's word is what stands there after its step.
 module _ (z : Sizes) (own note v : ℕ) (before after : Topics) (w u : World Held) where

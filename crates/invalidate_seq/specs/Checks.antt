@@ -33,11 +33,11 @@ TakesSnapshot (Wait seen) before after = ⊥
 TakesSnapshot (Retry cause) before after = ⊥
 
 -- the step that loads a stage's word, where that word stands, and where it is kept
-abbrev pub step_of : CheckStage → PartStep
-step_of Count = part.Count
-step_of Start = part.RangeStart
-step_of End = part.RangeEnd
-step_of Seq = part.Seq
+abbrev pub load_of : CheckStage → PartStep
+load_of Count = part.Count
+load_of Start = part.RangeStart
+load_of End = part.RangeEnd
+load_of Seq = part.Seq
 
 abbrev pub area_of : CheckStage → Area
 area_of Count = area.Count
@@ -84,22 +84,22 @@ StandsBehind Seq gfn kept = (kept.checked ≡ checked.All) × ((kept.count ≡ 0
 -- What a turn says by the stage whose word it loaded, and the stage that it leaves the check at: the range comes next exactly where some
 -- invalidation is open, and the sequence number where none is, or after a range that doesn't contain the guest frame. A check ends with
 -- Open after the range alone, and with Fresh or Moved after the sequence number alone: with Fresh where the look-up is fresh.
-abbrev pub AnswersBy : CheckStage → Turn Checked → CheckStage → ℕ → Invalidations → Type 0
-AnswersBy Count More next gfn kept = next ≡ (if kept.count == 0 then Seq else Start)
-AnswersBy Start More next gfn kept = next ≡ End
-AnswersBy End More next gfn kept = (next ≡ Seq) × (IsOpenOver gfn kept → ⊥)
-AnswersBy End (Done (Open count start end)) next gfn kept = (next ≡ End) × IsOpenOver gfn kept × (count ≡ kept.count) × (start ≡ kept.start) × (end ≡ kept.end)
-AnswersBy Seq (Done Fresh) next gfn kept = (next ≡ Seq) × IsFresh gfn kept
-AnswersBy Seq (Done (Moved snapshot seq)) next gfn kept =
+abbrev pub ChecksBy : CheckStage → Turn Checked → CheckStage → ℕ → Invalidations → Type 0
+ChecksBy Count More next gfn kept = next ≡ (if kept.count == 0 then Seq else Start)
+ChecksBy Start More next gfn kept = next ≡ End
+ChecksBy End More next gfn kept = (next ≡ Seq) × (IsOpenOver gfn kept → ⊥)
+ChecksBy End (Done (Open count start end)) next gfn kept = (next ≡ End) × IsOpenOver gfn kept × (count ≡ kept.count) × (start ≡ kept.start) × (end ≡ kept.end)
+ChecksBy Seq (Done Fresh) next gfn kept = (next ≡ Seq) × IsFresh gfn kept
+ChecksBy Seq (Done (Moved snapshot seq)) next gfn kept =
     (next ≡ Seq) × (IsOpenOver gfn kept → ⊥) × (kept.snapshot ≡ Some snapshot) × (kept.seq ≡ seq) × (seq ≢ snapshot)
-AnswersBy stage answer next gfn kept = ⊥
+ChecksBy stage answer next gfn kept = ⊥
 
 -- the most turns that are left from a stage on
-abbrev pub turns_left : CheckStage → ℕ
-turns_left Count = 4
-turns_left Start = 3
-turns_left End = 2
-turns_left Seq = 1
+abbrev pub check_turns : CheckStage → ℕ
+check_turns Count = 4
+check_turns Start = 3
+check_turns End = 2
+check_turns Seq = 1
 
 -- The snapshot that is kept was the sequence number where it was loaded.
 abbrev pub WasSequence : ℕ → Seat → Seat → Type 0
@@ -109,5 +109,5 @@ WasSequence note before after =
 -- What is kept of the stage was its word where it was loaded.
 abbrev pub WasStageWord : CheckStage → ℕ → Seat → Seat → Type 0
 WasStageWord stage note before after =
-    WherePartMade (step_of stage) note before after
+    WherePartMade (load_of stage) note before after
     (λ w v. loaded stage after.hand.topics.invalidations ≡ word_in before.hand.state.sizes w (area_of stage) 0)

@@ -15,7 +15,7 @@ use Rattle.step_seats.specs.Seats.{Seat}
 use Rattle.step_seats.specs.declared.turn.Turn.{Turn}
 use Rattle.step_seats.specs.declared.turn.Turn.TheVariants.{More, Done}
 use Rattle.invalidate_seq.specs.Checks.{LoadsOnly, area_of, loaded}
-use Rattle.invalidate_seq.specs.Stored.{counted, ended, raised, started}
+use Rattle.invalidate_seq.specs.Stored.{count_stored, ended, raised, started}
 use Rattle.invalidate_seq.specs.declared.open.Open.{Open}
 use Rattle.invalidate_seq.specs.declared.open.OpenStage.{OpenStage}
 use Rattle.invalidate_seq.specs.declared.open.OpenStage.TheVariants as opens
@@ -54,7 +54,7 @@ Opens opens.RangeStart gfn before after = LoadsOnly word_of.Start before after
 Opens opens.RangeEnd gfn before after = LoadsOnly word_of.End before after
 Opens opens.SetStart gfn before after = after ≡ started (start_with gfn before.invalidations) before
 Opens opens.SetEnd gfn before after = after ≡ ended (end_with gfn before.invalidations) before
-Opens opens.SetCount gfn before after = after ≡ counted (before.invalidations.count + 1) true before
+Opens opens.SetCount gfn before after = after ≡ count_stored (before.invalidations.count + 1) true before
 
 -- The stage that comes after it, where this number of open ones is known: the range is loaded where some are, and else it is stored at once.
 abbrev pub open_after : OpenStage → ℕ → OpenStage
@@ -101,7 +101,7 @@ abbrev pub Shuts : ShutStage → Topics → Topics → Type 0
 Shuts shuts.Seq before after = LoadsOnly word_of.Seq before after
 Shuts shuts.SetSeq before after = after ≡ raised (before.invalidations.seq + 1) before
 Shuts shuts.Count before after = LoadsOnly word_of.Count before after
-Shuts shuts.SetCount before after = after ≡ counted (before.invalidations.count - 1) false before
+Shuts shuts.SetCount before after = after ≡ count_stored (before.invalidations.count - 1) false before
 
 abbrev pub shut_after : ShutStage → ShutStage
 shut_after shuts.Seq = shuts.SetSeq

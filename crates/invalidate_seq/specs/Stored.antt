@@ -14,8 +14,8 @@ abbrev pub ended : ℕ → Topics → Topics
 ended n t = record t { invalidations = record t.invalidations { end = n; checked = end_known t.invalidations.checked } }
 
 -- the count of open ones: the actor's own is among them, or isn't, and no number was raised for it yet
-abbrev pub counted : ℕ → Bool → Topics → Topics
-counted n opened t = record t { invalidations = record t.invalidations { count = n; checked = checked.Nothing; opened = opened; raised = false } }
+abbrev pub count_stored : ℕ → Bool → Topics → Topics
+count_stored n opened t = record t { invalidations = record t.invalidations { count = n; checked = checked.Nothing; opened = opened; raised = false } }
 
 -- the sequence number
 abbrev pub raised : ℕ → Topics → Topics

@@ -5,7 +5,7 @@ ghost use Rattle.mmu_core.specs.machine.View.{word_in};
 ghost use Rattle.step_seats.specs.Moves.{KeepsRoom};
 ghost use Rattle.step_seats.specs.PartTurns.{MakesPart, WherePartMade};
 ghost use Rattle.step_seats.specs.declared.turn.Turn.TheVariants.{More};
-ghost use Rattle.invalidate_seq.specs.Checks.{AnswersBy, LoadsOnly, Stands, StandsBehind, WasStageWord, step_of, turns_left};
+ghost use Rattle.invalidate_seq.specs.Checks.{ChecksBy, LoadsOnly, Stands, StandsBehind, WasStageWord, load_of, check_turns};
 
 use core_views::{CheckStage, Invalidations};
 use part_steps::PartStep;
@@ -26,7 +26,7 @@ pub enum Checked {
 
 // The step that loads a stage's word.
 fn step(stage: CheckStage) -> PartStep
-    ensures { result ≡ step_of stage }
+    ensures { result ≡ load_of stage }
 {
     match stage {
         CheckStage::Count => PartStep::Count,
@@ -57,14 +57,14 @@ impl Check {
         }
     }
 
-    // Goes on behind the word of its stage, which is kept now.
+    // Goes on after the word of its stage, which is kept now.
     pub(crate) fn go_on(&mut self, kept: &Invalidations) -> Turn<Checked>
         requires taken { is_some kept.now.snapshot ≡ true }
         requires stands { StandsBehind self.old.stage self.old.gfn kept.now }
-        ensures answers { AnswersBy self.old.stage result self.new.stage self.old.gfn kept.now }
+        ensures answers { ChecksBy self.old.stage result self.new.stage self.old.gfn kept.now }
         ensures stands { result ≡ More → Stands self.new.stage self.new.gfn kept.now }
         ensures gfn { self.new.gfn ≡ self.old.gfn }
-        ensures nearer { result ≡ More → turns_left self.new.stage < turns_left self.old.stage }
+        ensures nearer { result ≡ More → check_turns self.new.stage < check_turns self.old.stage }
     {
         let Invalidations {
             snapshot: Some(snapshot),
@@ -94,18 +94,18 @@ impl Check {
     /// how many invalidations are open, their range where some are, and the
     /// sequence number where none is open over the guest frame. It never waits.
     pub fn turn<S: Stepper>(&mut self, s: &mut S, note: u64) -> Turn<Checked>
-        requires may { MayMake (step_of self.old.stage) note (S.seat s.old).hand }
+        requires may { MayMake (load_of self.old.stage) note (S.seat s.old).hand }
         requires reserved { 0 < (S.seat s.old).room }
         requires locked { has_lock (S.seat s.old).hand.topics.hold ≡ true }
         requires taken { is_some (S.seat s.old).hand.topics.invalidations.snapshot ≡ true }
         requires stands { Stands self.old.stage self.old.gfn (S.seat s.old).hand.topics.invalidations }
-        ensures step { MakesPart (step_of self.old.stage) note (S.seat s.old) (S.seat s.new) }
+        ensures step { MakesPart (load_of self.old.stage) note (S.seat s.old) (S.seat s.new) }
         ensures loads { LoadsOnly self.old.stage (S.seat s.old).hand.topics (S.seat s.new).hand.topics }
         ensures word { WasStageWord self.old.stage note (S.seat s.old) (S.seat s.new) }
-        ensures answers { AnswersBy self.old.stage result self.new.stage self.old.gfn (S.seat s.new).hand.topics.invalidations }
+        ensures answers { ChecksBy self.old.stage result self.new.stage self.old.gfn (S.seat s.new).hand.topics.invalidations }
         ensures stands { result ≡ More → Stands self.new.stage self.new.gfn (S.seat s.new).hand.topics.invalidations }
         ensures gfn { self.new.gfn ≡ self.old.gfn }
-        ensures nearer { result ≡ More → turns_left self.new.stage < turns_left self.old.stage }
+        ensures nearer { result ≡ More → check_turns self.new.stage < check_turns self.old.stage }
         ensures room { KeepsRoom (S.seat s.old) (S.seat s.new) }
         ensures same { ((S.seat s.new).actor ≡ (S.seat s.old).actor) × (S.frame s.new ≡ S.frame s.old) }
     {

@@ -74,7 +74,7 @@ fn finds_nothing_at_the_start(rt: HostRuntime) -> Result<(), Fail> {
     Ok(())
 }
 
-// The frame behind the range isn't in it.
+// The frame after the range isn't in it.
 #[test]
 fn answers_by_the_numbers_kept(rt: HostRuntime) {
     let kept = Invalidations {

@@ -60,7 +60,7 @@ pool_stays w a note h has N =
     subst (λ (x : Held). word_in x.state.sizes (effect mmu w (step_by a (part_kind x part.Slot note))) area.Pool ≡ word_in x.state.sizes w area.Pool) has.is
     (∥∥₁_elim has.reached (hlevel props) (λ r. stays_in w a note r has.there needs))
 
--- the search behind a word of a slot set that is held
+-- the search after a word of a slot set that is held
 behind_word : (before after : Topics) (v : ℕ) → is_some before.search.set ≡ true → after ≡ part_topics part.Slot before v
     → after.search ≡ searched before.search v
 behind_word before after v held made = ap (λ (t : Topics). t.search) made ∙ ap (λ (b : Bool). if b then searched before.search v else before.search) held

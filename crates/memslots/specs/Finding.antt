@@ -67,8 +67,8 @@ pub record IsSearchFor (test : Slot → Bool) (pool : ℕ → ℕ) (so_far : Slo
   pub before : NoneBefore test pool (set_held so_far.set) so_far.id
 
 -- the first slot of a list that has what is sought
-abbrev pub first_slot : (Slot → Bool) → Slots → Option Slot
-first_slot test slots = find test (values_of slots)
+abbrev pub first_that : (Slot → Bool) → Slots → Option Slot
+first_that test slots = find test (values_of slots)
 
 -- The slot is live in the slot set, under its ID, with its words and its dirty log, and is the first that has what is sought.
 pub record IsFirst (test : Slot → Bool) (pool : ℕ → ℕ) (set : ℕ) (found : FoundSlot) : Type 0 where
@@ -77,19 +77,19 @@ pub record IsFirst (test : Slot → Bool) (pool : ℕ → ℕ) (set : ℕ) (foun
   pub slot : slot_at pool set found.id ≡ found.slot
   pub logged : flags_logged (pool (slot_index set found.id Flags)) ≡ found.logged
   pub before : NoneBefore test pool set found.id
-  pub first : first_slot test (slots_below pool set 32) ≡ Some found.slot
+  pub first : first_that test (slots_below pool set 32) ≡ Some found.slot
 
 -- What a turn says of the words of the pool: the search agrees with them, or its answer is the first slot there that has what is sought.
 abbrev pub FindsIn : (Slot → Bool) → (ℕ → ℕ) → SlotSearch → Turn (Option FoundSlot) → Type 0
 FindsIn test pool so_far More = IsSearchFor test pool so_far
 FindsIn test pool so_far (Done (Some found)) = IsFirst test pool (set_held so_far.set) found
-FindsIn test pool so_far (Done None) = first_slot test (slots_below pool (set_held so_far.set) 32) ≡ None
+FindsIn test pool so_far (Done None) = first_that test (slots_below pool (set_held so_far.set) 32) ≡ None
 FindsIn test pool so_far (Wait seen) = ⊥
 FindsIn test pool so_far (Retry cause) = ⊥
 
 -- the most turns that are left: the words of the slot under search and of each one after it, and the load of the slot set
-abbrev pub turns_left : Find → SlotSearch → ℕ
-turns_left job so_far = if job.begun then 4 * (31 - so_far.id) + look_left so_far.next else 129
+abbrev pub find_turns : Find → SlotSearch → ℕ
+find_turns job so_far = if job.begun then 4 * (31 - so_far.id) + look_left so_far.next else 129
 
 -- what a turn says of the words of the pool before its step and after it: it keeps a search that agrees with them, or answers by them
 abbrev pub SearchesIn : Find → Held → Held → Turn (Option FoundSlot) → World Held → World Held → Type 0

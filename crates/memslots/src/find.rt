@@ -12,7 +12,7 @@ ghost use Rattle.memslots.specs.Finding.{
   SearchesWhereMade,
   find_step,
   is_sought,
-  turns_left,
+  find_turns,
 };
 
 use core_views::{Slot, SlotField, SlotSearch};
@@ -113,7 +113,7 @@ impl Find {
         ensures published { BeginsInPublished self.old note (S.seat s.old) (S.seat s.new) }
         ensures now { SearchesWhereMade self.old note (S.seat s.old) (S.seat s.new) result }
         ensures goes_on { self.new ≡ record { sought = self.old.sought; begun = true } }
-        ensures nearer { result ≡ More → turns_left self.new (S.seat s.new).hand.topics.search < turns_left self.old (S.seat s.old).hand.topics.search }
+        ensures nearer { result ≡ More → find_turns self.new (S.seat s.new).hand.topics.search < find_turns self.old (S.seat s.old).hand.topics.search }
         ensures room { KeepsRoom (S.seat s.old) (S.seat s.new) }
         ensures same { ((S.seat s.new).actor ≡ (S.seat s.old).actor) × (S.frame s.new ≡ S.frame s.old) }
     {

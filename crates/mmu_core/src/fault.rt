@@ -229,7 +229,7 @@ fn exchange_next(hand: &Hand, gfn: u64, found: u64, won: FaultPlace, link: bool)
     }
 }
 
-// The place behind a step of the look-up or of the lock.
+// The place after a step of the look-up or of the lock.
 fn looked_next(place: FaultPlace, gfn: u64, write: bool, topics: &Topics, found: u64) -> FaultPlace
     requires begun { place ≡ Find true → topics.now.search.id ≤ 31 }
     ensures find { (begun : Bool) → place ≡ Find begun

@@ -16,7 +16,7 @@ use Rattle.part_steps.specs.declared.part_step.PartStep.{PartStep}
 use Rattle.step_seats.specs.PartTurns.{MadePart}
 use Rattle.step_seats.specs.Seats.{Seat}
 use Rattle.step_seats.proofs.AloneTold.{share_free}
-use Rattle.mmu_lock.specs.Locking.{alone, holding}
+use Rattle.mmu_lock.specs.Locking.{held_alone, holding}
 use Rattle.mmu_core.specs.lines.ShareSteps.{share_left, share_part}
 
 -- Who isn't owing wants to share, and holds nothing of the lock.
@@ -43,7 +43,7 @@ abbrev pub tried : Bool → Topics → Topics
 tried got t = record t { hold = if got then Exclusive else t.hold; invalidations = unchecked t.invalidations; flush = flush_kept got t }
 
 -- A writer's try, won or lost.
-pub excludes_behind : (before after : Topics) (found : ℕ) → after ≡ tried (found == 0) before → found ≡ 0 → after ≡ alone before
+pub excludes_behind : (before after : Topics) (found : ℕ) → after ≡ tried (found == 0) before → found ≡ 0 → after ≡ held_alone before
 excludes_behind before after found is free = is ∙ ap (λ n. tried (n == 0) before) free
 
 pub keeps_behind : (before after : Topics) (found : ℕ) → after ≡ tried (found == 0) before → found ≢ 0 → after ≡ holding before.hold before

@@ -33,13 +33,13 @@ unlock_step _ = Unshare
 abbrev pub holding : Hold → Topics → Topics
 holding hold t = record t { hold = hold; invalidations = unchecked t.invalidations }
 
--- what is held where the actor has the lock alone from now on: no virtual processor was asked for a flush, but for an open invalidation of its own
-abbrev pub alone : Topics → Topics
-alone t = record (holding Exclusive t) { flush = flush_kept true t }
+-- what is held where the actor has the lock held_alone from now on: no virtual processor was asked for a flush, but for an open invalidation of its own
+abbrev pub held_alone : Topics → Topics
+held_alone t = record (holding Exclusive t) { flush = flush_kept true t }
 
 -- A reader's try: it goes on where a writer was found, which is then remembered; it is over where the actor shares the lock, or where it
 -- has taken itself out again, with the word that it had found, which has a writer in it. Nothing else that the actor holds has changed,
--- but for what it held of tables and slot sets under the lock alone.
+-- but for what it held of tables and slot sets under the lock held_alone.
 abbrev pub TriedShared : Turn Lock → Topics → Topics → Type 0
 TriedShared More before after = (word : ℕ) × (has_writer word ≡ true) × (before.hold ≡ Loose) × (after ≡ holding (Owing word) before)
 TriedShared (Done lock.Got) before after = (before.hold ≡ Loose) × (after ≡ holding Shared before)
@@ -52,9 +52,9 @@ abbrev pub lock_found : Lock → ℕ
 lock_found lock.Got = 0
 lock_found (lock.Held word) = word
 
--- A writer's try: the actor has the lock alone, or the word that was found isn't 0 and it holds the lock as before.
+-- A writer's try: the actor has the lock held_alone, or the word that was found isn't 0 and it holds the lock as before.
 abbrev pub TriedExclusive : Lock → Topics → Topics → Type 0
-TriedExclusive lock.Got before after = after ≡ alone before
+TriedExclusive lock.Got before after = after ≡ held_alone before
 TriedExclusive (lock.Held word) before after = (word ≢ 0) × (after ≡ holding before.hold before)
 
 -- what is in the way of a writer's try, in this word of the machine
@@ -62,11 +62,11 @@ abbrev pub lock_way : ℕ → Lock → Option Seen
 lock_way word lock.Got = None
 lock_way word (lock.Held value) = Some (record { word = word; value = value })
 
--- The lock is given back: the actor doesn't hold it any more, nor what it held of tables and slot sets under the lock alone.
+-- The lock is given back: the actor doesn't hold it any more, nor what it held of tables and slot sets under the lock held_alone.
 abbrev pub GaveBack : Topics → Topics → Type 0
 GaveBack before after = after ≡ let_go before
 
--- A reader's try that got the lock: where it was made, no actor has the lock alone then.
+-- A reader's try that got the lock: where it was made, no actor has the lock held_alone then.
 abbrev pub SharesBesideNoWriter : Turn Lock → ℕ → Seat → Seat → Type 0
 SharesBesideNoWriter turn note before after =
     turn ≡ Done lock.Got → WherePartMade (share_part before.hand.topics.hold) note before after (λ w v. NoneHasLockAlone v)

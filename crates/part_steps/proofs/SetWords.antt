@@ -8,36 +8,36 @@ use Rattle.std.proofs.lemmas.Bool.Decides.{nat_tests}
 use Rattle.core_views.specs.declared.slot_set.MemorySlot.{MemorySlot}
 use Rattle.core_views.specs.declared.trace.Slot.{Slot}
 use Rattle.core_views.specs.Refusals.{after_set, is_logged}
-use Rattle.core_views.specs.SlotSets.{MemorySlots, slot_at, with_slot_at}
+use Rattle.core_views.specs.SlotSets.{MemorySlots, slot_of_id, with_slot_at}
 use Rattle.spte_words.specs.Flags.{flags_word}
 use Rattle.part_steps.specs.SetWords.{set_word, word_of_slot}
 
 -- A set with one more slot has this one at its ID, and else what it had.
-pub put_at : (i id : ℕ) (m : MemorySlot) (slots : MemorySlots) → slot_at i (with_slot_at id m slots) ≡ (if id == i then Some m else slot_at i slots)
+pub put_at : (i id : ℕ) (m : MemorySlot) (slots : MemorySlots) → slot_of_id i (with_slot_at id m slots) ≡ (if id == i then Some m else slot_of_id i slots)
 put_at i id m [] = refl
 put_at i id m ((k, n) ∷ es) = by (nat_cmp id k) refl (put_at i id m es)
   where
-    equal : (b : Bool) → (if b then Some m else slot_at i es) ≡ (if b then Some m else if b then Some n else slot_at i es)
+    equal : (b : Bool) → (if b then Some m else slot_of_id i es) ≡ (if b then Some m else if b then Some n else slot_of_id i es)
     equal true = refl
     equal false = refl
 
-    greater : (here it : Bool) → (here ≡ true → it ≡ false) → slot_at i (with_slot_at id m es) ≡ (if it then Some m else slot_at i es)
-        → (if here then Some n else slot_at i (with_slot_at id m es)) ≡ (if it then Some m else if here then Some n else slot_at i es)
+    greater : (here it : Bool) → (here ≡ true → it ≡ false) → slot_of_id i (with_slot_at id m es) ≡ (if it then Some m else slot_of_id i es)
+        → (if here then Some n else slot_of_id i (with_slot_at id m es)) ≡ (if it then Some m else if here then Some n else slot_of_id i es)
     greater true true apart rest = let no = apart refl in absurd (cc no)
     greater true false apart rest = refl
     greater false it apart rest = rest
 
-    by : (o : Ordering) → nat_cmp id k ≡ o → slot_at i (with_slot_at id m es) ≡ (if id == i then Some m else slot_at i es)
-        → slot_at i (match_ordering o ((id, m) ∷ (k, n) ∷ es) ((k, m) ∷ es) ((k, n) ∷ with_slot_at id m es))
-        ≡ (if id == i then Some m else if k == i then Some n else slot_at i es)
+    by : (o : Ordering) → nat_cmp id k ≡ o → slot_of_id i (with_slot_at id m es) ≡ (if id == i then Some m else slot_of_id i es)
+        → slot_of_id i (match_ordering o ((id, m) ∷ (k, n) ∷ es) ((k, m) ∷ es) ((k, n) ∷ with_slot_at id m es))
+        ≡ (if id == i then Some m else if k == i then Some n else slot_of_id i es)
     by Less e rest = refl
     by Equal e rest =
         let same : id ≡ k = grind (arith, nat_tests) in
-        equal (k == i) ∙ ap (λ j. if j == i then Some m else if k == i then Some n else slot_at i es) (sym same)
+        equal (k == i) ∙ ap (λ j. if j == i then Some m else if k == i then Some n else slot_of_id i es) (sym same)
     by Greater e rest = greater (k == i) (id == i) (λ here. grind (arith, nat_tests)) rest
 
 pub set_at : (i id : ℕ) (slot : Slot) (slots : MemorySlots)
-    → slot_at i (after_set id slot slots) ≡ (if id == i then Some (record { slot = slot; logged = is_logged id slots }) else slot_at i slots)
+    → slot_of_id i (after_set id slot slots) ≡ (if id == i then Some (record { slot = slot; logged = is_logged id slots }) else slot_of_id i slots)
 set_at i id slot slots = put_at i id (record { slot = slot; logged = is_logged id slots }) slots
 
 -- The word of a slot has 64 bits, where the slot's numbers have.
@@ -67,15 +67,15 @@ word_small (Some m) i small = by (i == 0) (i == 1) (i == 2)
     by false false false = flags_small m.slot.read_only m.logged
 
 pub set_word_small : (id : ℕ) (slot : Slot) (slots : MemorySlots) (j : ℕ) → IsSmall slot
-    → ((i : ℕ) (m : MemorySlot) → slot_at i slots ≡ Some m → IsSmall m.slot) → set_word (after_set id slot slots) j < 2 ^ 64
+    → ((i : ℕ) (m : MemorySlot) → slot_of_id i slots ≡ Some m → IsSmall m.slot) → set_word (after_set id slot slots) j < 2 ^ 64
 set_word_small id slot slots j new_ old_ =
-    word_small (slot_at at (after_set id slot slots)) (j % 4)
+    word_small (slot_of_id at (after_set id slot slots)) (j % 4)
     (λ m e. each (id == at) m (sym (put_at at id (record { slot = slot; logged = is_logged id slots }) slots) ∙ e))
   where
     at : ℕ
     at = j / 4
 
-    each : (here : Bool) (m : MemorySlot) → (if here then Some (record { slot = slot; logged = is_logged id slots }) else slot_at at slots) ≡ Some m
+    each : (here : Bool) (m : MemorySlot) → (if here then Some (record { slot = slot; logged = is_logged id slots }) else slot_of_id at slots) ≡ Some m
         → IsSmall m.slot
     each true m e = subst (λ (s : MemorySlot). IsSmall s.slot) (some_slot e) new_
       where

@@ -12,7 +12,7 @@ use Rattle.spte_words.specs.Bits.{has_bit}
 use Rattle.spte_words.specs.Flags.{flags_live, flags_logged, flags_read_only}
 use Rattle.part_steps.specs.StayTopics.{kept_search}
 
--- A search goes on to the slot's next word, and behind the last one, or where the slot isn't live, to the flags of the next slot.
+-- A search goes on to the slot's next word, and after the last one, or where the slot isn't live, to the flags of the next slot.
 abbrev pub searched_at : SlotField → SlotSearch → ℕ → SlotSearch
 searched_at field.Flags search v = record search {
   id = if flags_live v then search.id else search.id + 1;

@@ -2,7 +2,7 @@
 use Rattle.std.specs.Prelude.{◌≡◌, ◌/◌, ◌%◌, ◌<◌, ℕ, true, ◌==◌, if◌then◌else◌, Option, Some, None}
 use Rattle.core_views.specs.declared.slot_set.MemorySlot.{MemorySlot}
 use Rattle.core_views.specs.declared.topics.OwnedPage.{OwnedPage}
-use Rattle.core_views.specs.SlotSets.{MemorySlots, slot_at}
+use Rattle.core_views.specs.SlotSets.{MemorySlots, slot_of_id}
 use Rattle.spte_words.specs.Areas.{pool_index}
 use Rattle.spte_words.specs.Flags.{flags_word}
 
@@ -17,7 +17,7 @@ word_of_slot (Some m) i =
 
 -- word j of the page of a set with these slots
 abbrev pub set_word : MemorySlots → ℕ → ℕ
-set_word slots j = word_of_slot (slot_at (j / 4) slots) (j % 4)
+set_word slots j = word_of_slot (slot_of_id (j / 4) slots) (j % 4)
 
 -- the role of a slot set's page
 abbrev pub set_role : ℕ

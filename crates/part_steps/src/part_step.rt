@@ -70,7 +70,7 @@ pub enum PartStep {
     Count,
     /// Loads the first guest frame of their range.
     RangeStart,
-    /// Loads the guest frame behind it.
+    /// Loads the guest frame after it.
     RangeEnd,
     /// Loads the root.
     Root,

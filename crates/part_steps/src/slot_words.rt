@@ -3,7 +3,7 @@ ghost use Rattle.part_steps.specs.SlotWords.{field_number, leaf_of, may_write, p
 ghost use Rattle.part_steps.specs.SetWords.{set_word, word_of_slot};
 ghost use Rattle.core_views.specs.Refusals.{after_set};
 ghost use Rattle.core_views.specs.SlotCommands.{slots_after};
-ghost use Rattle.core_views.specs.SlotSets.{slot_at};
+ghost use Rattle.core_views.specs.SlotSets.{slot_of_id};
 ghost use Rattle.core_views.specs.Traces.{IsSlotInRange};
 ghost use Rattle.spte_words.specs.HostWords.{host_frame};
 ghost use Rattle.spte_words.specs.Areas.{IsWordMap, size_of};
@@ -56,7 +56,7 @@ fn word_of_slot(slot: &Option<MemorySlot>, i: u64) -> u64
 // The slot with the ID `here`, after one was set.
 #[tactic(auto, using(crate::proofs::SetWords::set_at))]
 fn slot_after_set(slots: &SlotSet, id: u64, slot: &Slot, here: u64) -> Option<MemorySlot>
-    ensures { result ≡ slot_at here (after_set id slot.now slots.now) }
+    ensures { result ≡ slot_of_id here (after_set id slot.now slots.now) }
 {
     let was = slots.get(here);
     if here != id {
@@ -71,7 +71,7 @@ fn slot_after_set(slots: &SlotSet, id: u64, slot: &Slot, here: u64) -> Option<Me
 
 // The slot with the ID `here`, after the line has changed its slot.
 fn slot_after(slots: &SlotSet, command: &Command, here: u64) -> Option<MemorySlot>
-    ensures { result ≡ slot_at here (slots_after command.now slots.now) }
+    ensures { result ≡ slot_of_id here (slots_after command.now slots.now) }
 {
     match command {
         Command::SetSlot { id, slot } => slot_after_set(slots, *id, slot, here),

@@ -54,11 +54,11 @@ opens_at opens.SetEnd = begins.SetEnd
 opens_at opens.SetCount = begins.SetCount
 
 -- The step of the place never waits for another actor.
-abbrev pub GoesOn : BeginPlace → Type 0
-GoesOn begins.Exclude = ⊥
-GoesOn begins.Await = ⊥
-GoesOn begins.Release = ⊥
-GoesOn _ = Unit {0}
+abbrev pub NeverWaits : BeginPlace → Type 0
+NeverWaits begins.Exclude = ⊥
+NeverWaits begins.Await = ⊥
+NeverWaits begins.Release = ⊥
+NeverWaits _ = Unit {0}
 
 -- The turn answers by what is next in the order of steps: it goes on or is to be made again, or the invalidation has begun.
 abbrev pub AnswersBegin : Turn (Unit {0}) → BeginNext → Type 0

@@ -2,7 +2,7 @@ ghost use Rattle.std.specs.Prelude.{◌≡◌, ◌<◌, ◌≤◌, ◌+◌, ◌^
 ghost use Rattle.core_views.specs.declared.place.BeginPlace.TheVariants as at;
 ghost use Rattle.mmu_core.specs.lines.InvalidateSteps.{begin_part};
 ghost use Rattle.part_steps.specs.PartBounds.{PartRests};
-ghost use Rattle.range_notifier.specs.Notifying.{BeginsNext, GoesOn, IsInBegin, TurnsBegin, begin_at, opens_at};
+ghost use Rattle.range_notifier.specs.Notifying.{BeginsNext, NeverWaits, IsInBegin, TurnsBegin, begin_at, opens_at};
 ghost use Rattle.step_seats.specs.Moves.{KeepsRoom};
 ghost use Rattle.step_seats.specs.PartTurns.{MadeTelling, MakesPart};
 
@@ -112,7 +112,7 @@ impl BeginJob {
     // Makes the step of a place that never waits for another actor.
     fn go_on<S: Stepper>(&self, s: &mut S, place: BeginPlace, note: u64)
         requires is_in { IsInBegin place self.now.page note (S.seat s.old).hand }
-        requires goes_on { GoesOn place }
+        requires goes_on { NeverWaits place }
         requires reserved { 0 < (S.seat s.old).room }
         ensures makes { MakesPart (begin_part place self.now.page (S.seat s.old).hand.topics) note (S.seat s.old) (S.seat s.new) }
         ensures room { KeepsRoom (S.seat s.old) (S.seat s.new) }

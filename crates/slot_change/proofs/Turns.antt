@@ -19,11 +19,11 @@ use Rattle.mmu_core.specs.lines.Rests.{Rests}
 use Rattle.mmu_core.specs.machine.MayMake.{MayMake}
 use Rattle.mmu_core.specs.machine.Turns.{line_of, outcome_of}
 use Rattle.part_steps.specs.declared.part_step.PartStep.{PartStep}
-use Rattle.slot_change.specs.Places.{IsAt, MakesStep, ToldWay}
+use Rattle.slot_change.specs.Places.{IsAtSlotPlace, MakesSlotStep, ToldWay}
 use Rattle.step_seats.specs.Seats.{Seat}
 use Rattle.step_seats.specs.declared.turn.Turn.{Turn}
 use Rattle.step_seats.specs.declared.turn.Turn.TheVariants.{More, Wait, Done}
-use Rattle.step_seats.specs.LineTurns.{Gives, TurnsLine, line_seen, line_turn, turn_of, turn_told}
+use Rattle.step_seats.specs.LineTurns.{WaitsElse, TurnsLine, line_seen, line_turn, turn_of, turn_told}
 use Rattle.step_seats.proofs.Answering.{turn_is_done, turn_is_more}
 use Rattle.step_seats.proofs.LineParts.{place_may_make}
 use Rattle.step_seats.proofs.LineTurns.{made_line, turns_told}
@@ -31,7 +31,7 @@ use Rattle.step_seats.proofs.LineTurns.{made_line, turns_told}
 -- The hand's next line stands at this place.
 pub record StandsInLine (p : SlotChangePlace) (note : ℕ) (h : Held) : Type 0 where
   pub stands : place_at h.state.place h ≡ place.SlotChange p
-  pub is_at : IsAt p note h
+  pub is_at : IsAtSlotPlace p note h
 
 pub stands_in_line : (p : SlotChangePlace) (note : ℕ) (h : Held) → length h.answers < length h.lines → Rests h
     → place_at h.state.place h ≡ place.SlotChange p → KnowsPart (place_at h.state.place h) (line_of h).command h → note ≡ slot_change_note p h
@@ -49,18 +49,18 @@ stands_in_line p note h left rests stands knows is =
 
 -- The step of its place was made.
 module _ (way : Option Seen) (p : SlotChangePlace) (note : ℕ) (before after : Seat) (L : StandsInLine p note before.hand)
-    (M : MakesStep way p note before after) where
+    (M : MakesSlotStep way p note before after) where
   outcome_is : outcome_of before.hand M.found ≡ slot_change_outcome p before.hand M.found
   outcome_is = ap (λ (q : Place). outcome_at q (line_of before.hand).command before.hand M.found) L.stands
 
   turns : (turn : Turn Answer)
-      → Gives turn (part_waits (slot_change_part p before.hand (line_of before.hand).command) before.hand.topics M.found)
+      → WaitsElse turn (part_waits (slot_change_part p before.hand (line_of before.hand).command) before.hand.topics M.found)
       (part_seen (slot_change_part p before.hand (line_of before.hand).command) before.hand M.found) (turn_of (slot_change_outcome p before.hand M.found))
       → TurnsLine turn before after
   unfolding made_line
   turns turn gives = record {
     makes = made_line (slot_change_part p before.hand (line_of before.hand).command) note M.found before after L.is_at.may M.made;
-    gives = subst (λ (q : Place). Gives turn (line_waits q (line_of before.hand).command before.hand M.found)
+    gives = subst (λ (q : Place). WaitsElse turn (line_waits q (line_of before.hand).command before.hand M.found)
         (line_seen q (line_of before.hand).command before.hand M.found) (line_turn q (line_of before.hand).command before.hand M.found)) (sym L.stands) gives;
   }
 

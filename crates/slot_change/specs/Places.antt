@@ -16,13 +16,13 @@ use Rattle.step_seats.specs.PartTurns.{MadePart}
 pub use Rattle.step_seats.specs.PartTurns.{ToldWay}
 
 -- The line is at this place, whose step its actor may make, and knows what the place asks.
-pub record IsAt (p : SlotChangePlace) (note : ℕ) (h : Held) : Type 0 where
+pub record IsAtSlotPlace (p : SlotChangePlace) (note : ℕ) (h : Held) : Type 0 where
   pub left : length h.answers < length h.lines
   pub may : MayMake (slot_change_part p h (line_of h).command) note h
   pub knows : SlotChangeKnows p h
 
 -- The step of the place was made, of which this was found (a fill, or a role: what it stored), and what is in its way is told.
-pub record MakesStep (way : Option Seen) (p : SlotChangePlace) (note : ℕ) (before after : Seat) : Type 0 where
+pub record MakesSlotStep (way : Option Seen) (p : SlotChangePlace) (note : ℕ) (before after : Seat) : Type 0 where
   pub found : ℕ
   pub made : MadePart (slot_change_part p before.hand (line_of before.hand).command) note found before after
   pub told_way : ToldWay way (part_waits (slot_change_part p before.hand (line_of before.hand).command) before.hand.topics found)

@@ -1,7 +1,7 @@
 ghost use Rattle.std.specs.Prelude.{◌≡◌, ◌<◌, length, true};
 ghost use Rattle.core_views.specs.SlotCommands.{changes_slot};
 ghost use Rattle.mmu_core.specs.machine.Turns.{IsSameHand, line_of};
-ghost use Rattle.slot_change.specs.Places.{IsAt, MakesStep};
+ghost use Rattle.slot_change.specs.Places.{IsAtSlotPlace, MakesSlotStep};
 ghost use Rattle.step_seats.specs.LineTurns.{Says, TurnsLine, turn_told};
 ghost use Rattle.step_seats.specs.Moves.{KeepsRoom};
 
@@ -55,9 +55,9 @@ impl SlotJob {
 
 // Makes the step of this place, and says what is in its way.
 fn step<S: Stepper>(s: &mut S, place: SlotChangePlace, note: u64) -> Option<Seen>
-    requires is_at { IsAt place note (S.seat s.old).hand }
+    requires is_at { IsAtSlotPlace place note (S.seat s.old).hand }
     requires reserved { 0 < (S.seat s.old).room }
-    ensures makes { MakesStep result place note (S.seat s.old) (S.seat s.new) }
+    ensures makes { MakesSlotStep result place note (S.seat s.old) (S.seat s.new) }
     ensures room { KeepsRoom (S.seat s.old) (S.seat s.new) }
     ensures same { ((S.seat s.new).actor ≡ (S.seat s.old).actor) × (S.frame s.new ≡ S.frame s.old) }
 {

@@ -4,7 +4,7 @@ ghost use Rattle.core_views.specs.Sizes.{AreSizes};
 ghost use Rattle.core_views.specs.declared.place.SlotChangePlace.TheVariants as at;
 ghost use Rattle.mmu_core.specs.lines.PartWaits.{part_seen};
 ghost use Rattle.part_steps.specs.declared.part_step.PartStep.TheVariants.{Release};
-ghost use Rattle.slot_change.specs.Places.{IsAt, IsPlain, MakesStep};
+ghost use Rattle.slot_change.specs.Places.{IsAtSlotPlace, IsPlain, MakesSlotStep};
 ghost use Rattle.step_seats.specs.Moves.{KeepsRoom};
 
 use core_views::{Hand, Seen, SlotChangePlace};
@@ -18,9 +18,9 @@ use table_pool::{Claim, Fill};
 
 // Claims a page for the new slot set.
 pub(crate) fn claim<S: Stepper>(s: &mut S, begun: bool, note: u64) -> Option<Seen>
-    requires is_at { IsAt (at.Claim begun) note (S.seat s.old).hand }
+    requires is_at { IsAtSlotPlace (at.Claim begun) note (S.seat s.old).hand }
     requires reserved { 0 < (S.seat s.old).room }
-    ensures makes { MakesStep result (at.Claim begun) note (S.seat s.old) (S.seat s.new) }
+    ensures makes { MakesSlotStep result (at.Claim begun) note (S.seat s.old) (S.seat s.new) }
     ensures room { KeepsRoom (S.seat s.old) (S.seat s.new) }
     ensures same { ((S.seat s.new).actor ≡ (S.seat s.old).actor) × (S.frame s.new ≡ S.frame s.old) }
 {
@@ -33,9 +33,9 @@ pub(crate) fn claim<S: Stepper>(s: &mut S, begun: bool, note: u64) -> Option<See
 
 // Fills the next word of the new slot set's page. It never waits.
 pub(crate) fn fill<S: Stepper>(s: &mut S, note: u64) -> Option<Seen>
-    requires is_at { IsAt at.Fill note (S.seat s.old).hand }
+    requires is_at { IsAtSlotPlace at.Fill note (S.seat s.old).hand }
     requires reserved { 0 < (S.seat s.old).room }
-    ensures makes { MakesStep result at.Fill note (S.seat s.old) (S.seat s.new) }
+    ensures makes { MakesSlotStep result at.Fill note (S.seat s.old) (S.seat s.new) }
     ensures room { KeepsRoom (S.seat s.old) (S.seat s.new) }
     ensures same { ((S.seat s.new).actor ≡ (S.seat s.old).actor) × (S.frame s.new ≡ S.frame s.old) }
 {
@@ -49,9 +49,9 @@ pub(crate) fn fill<S: Stepper>(s: &mut S, note: u64) -> Option<Seen>
 
 // Stores the role of the new slot set's page. It never waits.
 pub(crate) fn role<S: Stepper>(s: &mut S, note: u64) -> Option<Seen>
-    requires is_at { IsAt at.Role note (S.seat s.old).hand }
+    requires is_at { IsAtSlotPlace at.Role note (S.seat s.old).hand }
     requires reserved { 0 < (S.seat s.old).room }
-    ensures makes { MakesStep result at.Role note (S.seat s.old) (S.seat s.new) }
+    ensures makes { MakesSlotStep result at.Role note (S.seat s.old) (S.seat s.new) }
     ensures room { KeepsRoom (S.seat s.old) (S.seat s.new) }
     ensures same { ((S.seat s.new).actor ≡ (S.seat s.old).actor) × (S.frame s.new ≡ S.frame s.old) }
 {
@@ -62,9 +62,9 @@ pub(crate) fn role<S: Stepper>(s: &mut S, note: u64) -> Option<Seen>
 
 // Tries to hold the lock alone.
 pub(crate) fn exclude<S: Stepper>(s: &mut S, note: u64) -> Option<Seen>
-    requires is_at { IsAt at.Exclude note (S.seat s.old).hand }
+    requires is_at { IsAtSlotPlace at.Exclude note (S.seat s.old).hand }
     requires reserved { 0 < (S.seat s.old).room }
-    ensures makes { MakesStep result at.Exclude note (S.seat s.old) (S.seat s.new) }
+    ensures makes { MakesSlotStep result at.Exclude note (S.seat s.old) (S.seat s.new) }
     ensures room { KeepsRoom (S.seat s.old) (S.seat s.new) }
     ensures same { ((S.seat s.new).actor ≡ (S.seat s.old).actor) × (S.frame s.new ≡ S.frame s.old) }
 {
@@ -75,9 +75,9 @@ pub(crate) fn exclude<S: Stepper>(s: &mut S, note: u64) -> Option<Seen>
 
 // Gives the lock back, since invalidations are open: their number is in its way.
 pub(crate) fn close<S: Stepper>(s: &mut S, note: u64) -> Option<Seen>
-    requires is_at { IsAt at.Close note (S.seat s.old).hand }
+    requires is_at { IsAtSlotPlace at.Close note (S.seat s.old).hand }
     requires reserved { 0 < (S.seat s.old).room }
-    ensures makes { MakesStep result at.Close note (S.seat s.old) (S.seat s.new) }
+    ensures makes { MakesSlotStep result at.Close note (S.seat s.old) (S.seat s.new) }
     ensures room { KeepsRoom (S.seat s.old) (S.seat s.new) }
     ensures same { ((S.seat s.new).actor ≡ (S.seat s.old).actor) × (S.frame s.new ≡ S.frame s.old) }
 {
@@ -89,9 +89,9 @@ pub(crate) fn close<S: Stepper>(s: &mut S, note: u64) -> Option<Seen>
 
 // Gives the lock back.
 pub(crate) fn release<S: Stepper>(s: &mut S, note: u64) -> Option<Seen>
-    requires is_at { IsAt at.Release note (S.seat s.old).hand }
+    requires is_at { IsAtSlotPlace at.Release note (S.seat s.old).hand }
     requires reserved { 0 < (S.seat s.old).room }
-    ensures makes { MakesStep result at.Release note (S.seat s.old) (S.seat s.new) }
+    ensures makes { MakesSlotStep result at.Release note (S.seat s.old) (S.seat s.new) }
     ensures room { KeepsRoom (S.seat s.old) (S.seat s.new) }
     ensures same { ((S.seat s.new).actor ≡ (S.seat s.old).actor) × (S.frame s.new ≡ S.frame s.old) }
 {
@@ -101,9 +101,9 @@ pub(crate) fn release<S: Stepper>(s: &mut S, note: u64) -> Option<Seen>
 
 // Looks at the next actor.
 pub(crate) fn watch<S: Stepper>(s: &mut S, note: u64) -> Option<Seen>
-    requires is_at { IsAt at.Watch note (S.seat s.old).hand }
+    requires is_at { IsAtSlotPlace at.Watch note (S.seat s.old).hand }
     requires reserved { 0 < (S.seat s.old).room }
-    ensures makes { MakesStep result at.Watch note (S.seat s.old) (S.seat s.new) }
+    ensures makes { MakesSlotStep result at.Watch note (S.seat s.old) (S.seat s.new) }
     ensures room { KeepsRoom (S.seat s.old) (S.seat s.new) }
     ensures same { ((S.seat s.new).actor ≡ (S.seat s.old).actor) × (S.frame s.new ≡ S.frame s.old) }
 {
@@ -119,10 +119,10 @@ pub(crate) fn make<S: Stepper>(
     step: PartStep,
     note: u64,
 ) -> Option<Seen>
-    requires is_at { IsAt place note (S.seat s.old).hand }
+    requires is_at { IsAtSlotPlace place note (S.seat s.old).hand }
     requires plain { IsPlain place step }
     requires reserved { 0 < (S.seat s.old).room }
-    ensures makes { MakesStep result place note (S.seat s.old) (S.seat s.new) }
+    ensures makes { MakesSlotStep result place note (S.seat s.old) (S.seat s.new) }
     ensures room { KeepsRoom (S.seat s.old) (S.seat s.new) }
     ensures same { ((S.seat s.new).actor ≡ (S.seat s.old).actor) × (S.frame s.new ≡ S.frame s.old) }
 {

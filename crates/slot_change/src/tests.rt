@@ -160,7 +160,7 @@ fn sets_a_slot_or_refuses_it(rt: HostRuntime) -> Result<(), Fail> {
     Ok(())
 }
 
-// While the processor shares the lock, the line stands before it; and behind the
+// While the processor shares the lock, the line stands before it; and after the
 // publication it stands until the processor's section is over.
 #[test]
 fn waits_for_a_reader_and_for_a_section(rt: HostRuntime) -> Result<(), Fail> {

@@ -62,7 +62,7 @@ size_of m Role = m.pool
 size_of m Pool = 512 * m.pool
 size_of m Content = m.words * m.frames
 
--- word i of an area stands behind all words of the areas before it
+-- word i of an area stands after all words of the areas before it
 unfoldable pub place : WordMap → Area → ℕ → ℕ
 place m area i = sum_by (size_of m) (take (number_of area) areas) + i
 

@@ -14,7 +14,7 @@ pub enum Area {
     Count,
     /// The first gfn of the open invalidations' range.
     RangeStart,
-    /// The gfn behind the last of that range.
+    /// The gfn after the last of that range.
     RangeEnd,
     /// The MMU lock.
     Lock,

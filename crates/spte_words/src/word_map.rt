@@ -69,7 +69,7 @@ impl WordMap {
         (self.content() + self.words * self.frames) as u32
     }
 
-    // Where the areas behind State begin.
+    // Where the areas after State begin.
 
     fn pool_map(&self) -> u64
         requires { IsWordMap self.now }
@@ -202,7 +202,7 @@ impl WordMap {
         self.word_of(Area::RangeStart, i)
     }
 
-    /// Where the gfn behind the last of that range is.
+    /// Where the gfn after the last of that range is.
     pub fn word_of_range_end(&self, i: u64) -> u32
         requires map { IsWordMap self.now }
         requires within { i < size_of self.now Area.RangeEnd }

@@ -11,7 +11,7 @@ use Rattle.part_steps.specs.PartTasks.{part_kind}
 use Rattle.part_steps.specs.PartSteps.{PartNeeds}
 use Rattle.part_steps.specs.ControlBits.{in_section}
 use Rattle.mmu_core.proofs.invariant.AloneLaws.{exclude_alone, exclusive_is_sole, share_alone, shared_has_no_writer, watch_alone}
-use Rattle.step_seats.specs.Moves.{Tells}
+use Rattle.step_seats.specs.Moves.{ToldBy}
 use Rattle.step_seats.specs.Where.{HasHand}
 
 -- what holds where a world is told, from what held there before
@@ -26,7 +26,7 @@ if_both (Some w) P Q R f p q = f w p q
 
 -- The lock is found free.
 pub share_free : (told tells : Option (World Held)) (actor note found : ℕ) (h : Held) → IfSome told (HasHand actor h)
-    → Tells told actor (part_kind h part.Share note) found tells → h.topics.hold ≡ Loose → IfSome told (λ w. OthersRest actor w → found ≡ 0)
+    → ToldBy told actor (part_kind h part.Share note) found tells → h.topics.hold ≡ Loose → IfSome told (λ w. OthersRest actor w → found ≡ 0)
 share_free None tells actor note found h has moves loose = tt
 share_free (Some w) tells actor note found h has moves loose = λ others.
     sym moves.1
@@ -34,7 +34,7 @@ share_free (Some w) tells actor note found h has moves loose = λ others.
     (share_alone w actor note has.reached has.there others (ap (λ (x : Held). x.topics.hold) has.is ∙ loose))
 
 pub exclude_free : (told tells : Option (World Held)) (actor note found : ℕ) (h : Held) → IfSome told (HasHand actor h)
-    → Tells told actor (part_kind h part.Exclude note) found tells → h.topics.hold ≡ Loose → IfSome told (λ w. OthersRest actor w → found ≡ 0)
+    → ToldBy told actor (part_kind h part.Exclude note) found tells → h.topics.hold ≡ Loose → IfSome told (λ w. OthersRest actor w → found ≡ 0)
 exclude_free None tells actor note found h has moves loose = tt
 exclude_free (Some w) tells actor note found h has moves loose = λ others.
     sym moves.1
@@ -43,7 +43,7 @@ exclude_free (Some w) tells actor note found h has moves loose = λ others.
 
 -- The actor that is looked at is found outside.
 pub watch_free : (told tells : Option (World Held)) (actor index note found : ℕ) (h : Held) → IfSome told (HasHand actor h)
-    → Tells told actor (part_kind h (part.Watch index) note) found tells → index ≢ actor → PartNeeds (part.Watch index) h
+    → ToldBy told actor (part_kind h (part.Watch index) note) found tells → index ≢ actor → PartNeeds (part.Watch index) h
     → IfSome told (λ w. OthersRest actor w → in_section found ≡ false)
 watch_free None tells actor index note found h has moves ne needs = tt
 watch_free (Some w) tells actor index note found h has moves ne needs = λ others.

@@ -14,7 +14,7 @@ use Rattle.mmu_core.specs.machine.View.{answer_in, word_in}
 use Rattle.mmu_core.specs.machine.Worlds.{Reachable}
 use Rattle.mmu_core.proofs.invariant.AloneLaws.{part_found}
 use Rattle.mmu_core.proofs.start.Starts.{reached_good}
-use Rattle.step_seats.specs.Moves.{Tells}
+use Rattle.step_seats.specs.Moves.{ToldBy}
 use Rattle.step_seats.specs.PartTurns.{MadePart}
 use Rattle.step_seats.specs.Seats.{Seat}
 use Rattle.step_seats.specs.Where.{HasHand}
@@ -41,7 +41,7 @@ answers w a note found step h has N is =
     sym is ∙ subst (λ (x : Held). Answers step note (answered mmu w (part_kind x step note)) x w) has.is of_its
 
 answers_told : (before : Option (World Held)) (a note found : ℕ) (step : PartStep) (h : Held) (after : Option (World Held))
-    → IfSome before (HasHand a h) → Tells before a (part_kind h step note) found after → PartNeeds step h → IfSome before (Answers step note found h)
+    → IfSome before (HasHand a h) → ToldBy before a (part_kind h step note) found after → PartNeeds step h → IfSome before (Answers step note found h)
 answers_told None a note found step h after has tells N = tt
 answers_told (Some w) a note found step h after has tells N = answers w a note found step h has N tells.1
 

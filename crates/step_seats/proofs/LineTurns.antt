@@ -42,7 +42,8 @@ use Rattle.mmu_core.proofs.machine.HandAfter.{next_comes, next_same}
 use Rattle.mmu_core.proofs.machine.Which.{has_line_is, next_of_line}
 use Rattle.step_seats.specs.PartTurns.{MadePart}
 use Rattle.step_seats.specs.Seats.{Seat}
-use Rattle.step_seats.specs.LineTurns.{Gives, MakesLine, Says, TurnsLine, answer_given, fault_turn, line_seen, line_turn, no_answer, turn_of, turn_told, untold}
+use Rattle.step_seats.specs.LineTurns.{MakesLine, Says, TurnsLine, WaitsElse, answer_given, fault_turn, line_seen, line_turn, no_answer, turn_of}
+use Rattle.step_seats.specs.LineTurns.{turn_told, untold}
 use Rattle.mmu_core.proofs.lines.Forms.{ends_free}
 
 -- A part's step is the line's.
@@ -105,7 +106,7 @@ line_rests h k left (inl next) = next.rests
 line_rests h k left (inr step) = let has : has_line h ≡ true = has_line_is h left in let none = step.none_left in absurd (cc (has, none))
 
 -- What is said of the line follows from its turn.
-pub says_line : (turn : Turn Answer) (waits : Bool) (way : Seen) (t : Turn Answer) (o : Outcome) (line : Line) (h g : Held) → Gives turn waits way t
+pub says_line : (turn : Turn Answer) (waits : Bool) (way : Seen) (t : Turn Answer) (o : Outcome) (line : Line) (h g : Held) → WaitsElse turn waits way t
     → EndsSo t waits o ⊎ GoesSo t o → Comes o line h g → Says turn line h g
 says_line (Wait seen) waits way t o line h g gives (inl E) comes = let free = E.free in let waited = gives.0 in absurd (cc (waited, free))
 says_line (Wait seen) waits way t o line h g gives (inr G) comes = subst (λ (x : Outcome). Comes x line h g) G.is comes

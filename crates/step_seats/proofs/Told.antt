@@ -5,14 +5,14 @@ use Rattle.core_views.specs.Held.{Held}
 use Rattle.mmu_core.specs.machine.Enabled.{mmu}
 use Rattle.mmu_core.specs.machine.Machine.{World}
 use Rattle.mmu_core.proofs.machine.Extend.{goes_on, stays, then}
-use Rattle.step_seats.specs.Moves.{Tells, step_by}
+use Rattle.step_seats.specs.Moves.{ToldBy, step_by}
 use Rattle.step_seats.specs.Told.{WorldLeadsOn}
 
 pub told_stays : (t : Option (World Held)) → WorldLeadsOn t t
 told_stays None = tt
 told_stays (Some w) = stays mmu w
 
-pub told_goes_on : (t u : Option (World Held)) (actor : ℕ) (kind : Kind) (answer : ℕ) → Tells t actor kind answer u → WorldLeadsOn t u
+pub told_goes_on : (t u : Option (World Held)) (actor : ℕ) (kind : Kind) (answer : ℕ) → ToldBy t actor kind answer u → WorldLeadsOn t u
 told_goes_on None u actor kind answer tells = tt
 told_goes_on (Some w) u actor kind answer tells = subst (WorldLeadsOn (Some w)) (sym tells.2) (goes_on mmu w w (step_by actor kind) (stays mmu w) tells.0)
 

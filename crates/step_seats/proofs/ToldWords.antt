@@ -20,7 +20,7 @@ use Rattle.mmu_core.proofs.words.PartIndex.{index_same}
 use Rattle.mmu_core.proofs.invariant.PartRested.{part_within, rests_in}
 use Rattle.mmu_core.proofs.start.Starts.{reached_good}
 use Rattle.mmu_core.proofs.machine.Views.{view_behind}
-use Rattle.step_seats.specs.Moves.{Tells, step_by}
+use Rattle.step_seats.specs.Moves.{ToldBy, step_by}
 use Rattle.step_seats.specs.Where.{HasHand}
 use Rattle.step_seats.proofs.Found.{answers}
 use Rattle.step_seats.proofs.Where.{ToldBoth}
@@ -60,14 +60,14 @@ module _ (w : World Held) (a note : ℕ) (step : PartStep) where
       ≡ words_after (task_for x) (word_in x.state.sizes w) b i) H.is
       (∥∥₁_elim H.reached (hlevel props) (λ r. words_of r H.there (subst (PartNeeds step) (sym H.is) N) b i))
 
--- What a told world has of a step that was made: what it found, and the words behind it.
+-- What a told world has of a step that was made: what it found, and the words after it.
 pub record StepsTo (z : Sizes) (t : Task) (found : ℕ) (w u : World Held) : Type 0 where
   pub finds : found ≡ answer_in t (word_in z w)
   pub leaves : (b : Area) (i : ℕ) → word_in z u b i ≡ words_after t (word_in z w) b i
 
--- A fact of the step is a fact of what is told before it and behind it.
+-- A fact of the step is a fact of what is told before it and after it.
 pub told_both : (told tells : Option (World Held)) (a note found : ℕ) (step : PartStep) (h : Held) (P : World Held → World Held → Type 0)
-    → PartNeeds step h → IfSome told (HasHand a h) → Tells told a (part_kind h step note) found tells
+    → PartNeeds step h → IfSome told (HasHand a h) → ToldBy told a (part_kind h step note) found tells
     → ((w u : World Held) → StepsTo h.state.sizes (part_task step (own_index h) h.topics note) found w u → P w u) → ToldBoth told tells P
 told_both None tells a note found step h P N has made each = tt
 told_both (Some w) tells a note found step h P N has made each =
@@ -78,7 +78,7 @@ told_both (Some w) tells a note found step h P N has made each =
 
 -- A fact of what was found is a fact of the world that was told before.
 pub told_before : (told tells : Option (World Held)) (a note found : ℕ) (step : PartStep) (h : Held) (P : World Held → Type 0) → PartNeeds step h
-    → IfSome told (HasHand a h) → Tells told a (part_kind h step note) found tells
+    → IfSome told (HasHand a h) → ToldBy told a (part_kind h step note) found tells
     → ((w : World Held) → found ≡ answer_in (part_task step (own_index h) h.topics note) (word_in h.state.sizes w) → P w) → IfSome told P
 told_before None tells a note found step h P N has made each = tt
 told_before (Some w) tells a note found step h P N has made each = each w (sym made.1 ∙ found_in w a note step h has N)

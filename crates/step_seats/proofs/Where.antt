@@ -11,7 +11,7 @@ use Rattle.mmu_core.specs.machine.Machine.{World, answered, effect}
 use Rattle.mmu_core.specs.machine.Steps.{next}
 use Rattle.mmu_core.proofs.machine.Extend.{goes_on, hands_of_effect}
 use Rattle.mmu_core.proofs.machine.LineRuns.{own_hand}
-use Rattle.step_seats.specs.Moves.{Tells, step_by}
+use Rattle.step_seats.specs.Moves.{ToldBy, step_by}
 use Rattle.step_seats.specs.PartTurns.{MadePart}
 use Rattle.step_seats.specs.Seats.{Seat}
 use Rattle.step_seats.specs.Where.{AnsweredThere, HasHand, IsMadeIn, OfMade, OfWorld, WhereMade}
@@ -61,11 +61,11 @@ ToldBoth before after P = IfSome before (λ w. IfSome after (λ t. P w t))
 
 -- Where the worlds are told, what holds where the step was made holds of them.
 pub where_told : (k : Kind) (found : ℕ) (before after : Seat) (P : World Held → World Held → Type 0)
-    → Tells before.tells.world before.actor k found after.tells.world
+    → ToldBy before.tells.world before.actor k found after.tells.world
     → WhereMade k before after P → ToldBoth before.tells.world after.tells.world P
 where_told k found before after P moves holds = both before.tells.world after.tells.world moves holds
   where
-    both : (x y : Option (World Held)) → Tells x before.actor k found y
+    both : (x y : Option (World Held)) → ToldBy x before.actor k found y
         → OfMade x k before.actor before.hand after.hand (λ w. P w (after_step k before.actor w)) → ToldBoth x y P
     both None y m p = tt
     both (Some w) y m p = subst (λ o. IfSome o (P w)) (sym m.2) p.1
@@ -77,11 +77,11 @@ where_told_before k before after P holds = there before.tells.world holds
     there None p = tt
     there (Some w) p = p.1
 
-pub where_told_after : (k : Kind) (found : ℕ) (before after : Seat) (P : World Held → Type 0) → Tells before.tells.world before.actor k found after.tells.world
+pub where_told_after : (k : Kind) (found : ℕ) (before after : Seat) (P : World Held → Type 0) → ToldBy before.tells.world before.actor k found after.tells.world
     → WhereMade k before after (λ w t. P t) → IfSome after.tells.world P
 where_told_after k found before after P moves holds = there before.tells.world after.tells.world moves holds
   where
-    there : (x y : Option (World Held)) → Tells x before.actor k found y
+    there : (x y : Option (World Held)) → ToldBy x before.actor k found y
         → OfMade x k before.actor before.hand after.hand (λ w. P (after_step k before.actor w)) → IfSome y P
     there None y m p = subst (λ o. IfSome o P) (sym m) tt
     there (Some w) y m p = subst (λ o. IfSome o P) (sym m.2) p.1

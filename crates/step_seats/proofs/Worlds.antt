@@ -51,7 +51,7 @@ abbrev pub machine_of : Sizes → List ℕ → List Handful → Machine
 machine_of z words hands = record { sizes = z; words = words; hands = hands }
 
 -- What one step of the machine did: it might be made, it answered v, and the words and hands with n in its word and h in its place
--- are the world behind it.
+-- are the world after it.
 pub record Stepped (m : Machine) (words : List ℕ) (hands : List Handful) (i : ℕ) (k : Kind) (n v : ℕ) (h : Handful) : Type 0 where
   pub may : May mmu (world_in m) (step_by i k)
   pub answers : answered mmu (world_in m) k ≡ v

@@ -28,7 +28,7 @@ use Rattle.mmu_core.specs.lines.PartWaits.{part_seen}
 use Rattle.part_steps.specs.declared.part_step.PartStep.{PartStep}
 use Rattle.mmu_core.specs.machine.Steps.{next, place_at}
 use Rattle.mmu_core.specs.machine.Turns.{GoesOn, IsAnswered, line_of}
-use Rattle.step_seats.specs.Moves.{Adds, Tells}
+use Rattle.step_seats.specs.Moves.{Adds, ToldBy}
 use Rattle.step_seats.specs.Seats.{Seat}
 use Rattle.step_seats.specs.Where.{AnsweredThere}
 use Rattle.step_seats.specs.declared.turn.Turn.{Turn}
@@ -85,9 +85,9 @@ abbrev pub line_seen : Place → Command → Held → ℕ → Seen
 line_seen p command h v = seen_by (part_at p command h) h v
 
 -- The turn waits exactly where its step waits for another actor, and says what it has seen; where it doesn't wait it answers so.
-abbrev pub Gives : Turn Answer → Bool → Seen → Turn Answer → Type 0
-Gives (Wait seen) waits way t = (waits ≡ true) × (seen ≡ way)
-Gives turn waits way t = (waits ≡ false) × (turn ≡ t)
+abbrev pub WaitsElse : Turn Answer → Bool → Seen → Turn Answer → Type 0
+WaitsElse (Wait seen) waits way t = (waits ≡ true) × (seen ≡ way)
+WaitsElse turn waits way t = (waits ≡ false) × (turn ≡ t)
 
 -- One step that the hand allows takes the actor's hand, and what its seat tells, to the next, and it answered this where it was made.
 pub record MakesLine (before after : Seat) : Type 0 where
@@ -95,14 +95,14 @@ pub record MakesLine (before after : Seat) : Type 0 where
   pub found : ℕ
   pub enabled : Enabled before.hand kind
   pub hand : after.hand ≡ next before.hand kind found
-  pub world : Tells before.tells.world before.actor kind found after.tells.world
+  pub world : ToldBy before.tells.world before.actor kind found after.tells.world
   pub steps : Adds before.tells.steps before.actor kind after.tells.steps
   pub answers : AnsweredThere kind found before after
 
 -- The turn of a hand's next line answers so of a step that found v.
 abbrev pub AnswersBy : Turn Answer → Held → ℕ → Type 0
 AnswersBy turn h v =
-    Gives turn (line_waits (place_at h.state.place h) (line_of h).command h v)
+    WaitsElse turn (line_waits (place_at h.state.place h) (line_of h).command h v)
     (line_seen (place_at h.state.place h) (line_of h).command h v)
     (line_turn (place_at h.state.place h) (line_of h).command h v)
 

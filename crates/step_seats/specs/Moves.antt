@@ -13,10 +13,10 @@ step_by actor kind = record { actor = actor; kind = kind }
 
 -- Where the world was told, the actor may make this step there, which answers so, and the world after it is told. Where none was told,
 -- none is told after the step.
-abbrev pub Tells : Option (World Held) → ℕ → Kind → ℕ → Option (World Held) → Type 0
-Tells (Some w) actor kind answer after =
+abbrev pub ToldBy : Option (World Held) → ℕ → Kind → ℕ → Option (World Held) → Type 0
+ToldBy (Some w) actor kind answer after =
     May mmu w (step_by actor kind) × (answered mmu w kind ≡ answer) × (after ≡ Some (effect mmu w (step_by actor kind)))
-Tells None actor kind answer after = after ≡ None
+ToldBy None actor kind answer after = after ≡ None
 
 -- Where the steps so far were told, they are told with this one. Where none were told, none are told after the step.
 abbrev pub Adds : Option (List (Step Kind)) → ℕ → Kind → Option (List (Step Kind)) → Type 0

@@ -8,7 +8,7 @@ use Rattle.part_steps.specs.PartTopics.{part_topics}
 use Rattle.mmu_core.specs.machine.Machine.{World}
 use Rattle.mmu_core.specs.lines.PartWaits.{part_seen, part_waits}
 use Rattle.mmu_core.specs.machine.Steps.{next}
-use Rattle.step_seats.specs.Moves.{Adds, Tells}
+use Rattle.step_seats.specs.Moves.{Adds, ToldBy}
 use Rattle.step_seats.specs.Seats.{Seat}
 use Rattle.step_seats.specs.Where.{AnsweredThere, HasHand, WhereMade}
 use Rattle.step_seats.specs.declared.turn.Turn.{Turn}
@@ -24,7 +24,7 @@ pub record MadePart (step : PartStep) (note found : ℕ) (before after : Seat) :
   pub hand : after.hand ≡ next before.hand (part_kind before.hand step note) found
   pub topics : after.hand.topics ≡ part_topics step before.hand.topics found
   pub has : IfSome before.tells.world (HasHand before.actor before.hand)
-  pub world : Tells before.tells.world before.actor (part_kind before.hand step note) found after.tells.world
+  pub world : ToldBy before.tells.world before.actor (part_kind before.hand step note) found after.tells.world
   pub steps : Adds before.tells.steps before.actor (part_kind before.hand step note) after.tells.steps
   pub answers : AnsweredThere (part_kind before.hand step note) found before after
 

@@ -14,7 +14,7 @@ use Rattle.part_steps.specs.PartTopics.{part_topics}
 use Rattle.part_steps.specs.Tasks.{map_of}
 use Rattle.mmu_core.specs.invariant.Scans.{OwnsNone}
 use Rattle.mmu_core.specs.lines.ClaimSteps.{claim_over, load_part, map_area, map_words, try_part}
-use Rattle.table_pool.specs.Claims.{FindsNone, LooksOn, LosesOne, SawFree, SawNone, TakesOne, claim_of, next_word, sees_free, turns_left}
+use Rattle.table_pool.specs.Claims.{FindsNone, LooksOn, LosesOne, SawFree, SawNone, TakesOne, claim_of, next_word, sees_free, claim_turns}
 use Rattle.table_pool.specs.Maps.{got_in, with_claim, with_got}
 use Rattle.table_pool.specs.declared.claim.Claim.{Claim}
 use Rattle.table_pool.proofs.Claiming.{low_bit, lost_if, sees, won_if}
@@ -130,11 +130,11 @@ module _ (job : Claim) (word found : ℕ) (h : Held) (after : Topics) (loads : s
   fewer true true none_ some_ = absurd (cc (none_ refl))
   fewer false false none_ some_ = absurd (cc (some_ refl))
 
-  pub comes_nearer : turns_left z going_on after < turns_left z job t
+  pub comes_nearer : claim_turns z going_on after < claim_turns z job t
   comes_nearer =
-      let before : turns_left z job t ≡ map_words job.map z - word + 1 =
+      let before : claim_turns z job t ≡ map_words job.map z - word + 1 =
       ap (λ (b : Bool). if b then 1 else map_words job.map z - next_word job (claim_of job t) + 1) loads
       ∙ ap (λ n. map_words job.map z - n + 1) (sym next) in
       let left = fewer (found == 0) (nat_lt 0 found) (λ e. grind (arith, nat_tests)) (λ e. grind (arith, nat_tests)) in
-      subst (λ n. turns_left z going_on after < n) (sym before)
+      subst (λ n. claim_turns z going_on after < n) (sym before)
       (subst (λ (c : MapClaim). (if nat_lt 0 c.seen then 1 else map_words job.map z - c.at + 1) < map_words job.map z - word + 1) (sym claim) left)

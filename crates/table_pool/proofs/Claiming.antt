@@ -1,4 +1,4 @@
--- What a claim's step says of the worlds that are told before it and behind it.
+-- What a claim's step says of the worlds that are told before it and after it.
 use Rattle.std.proofs.Common.{◌≡◌, ◌≢◌, inl, inr, ◌+◌, ◌*◌, ◌/◌, ◌%◌, ◌^◌, ◌<◌, ◌≤◌, ℕ, Option, Some, None, refl, sym, subst, ap, ◌∙◌, arith, bit_and, w64}
 use Rattle.std.specs.Prelude.{Bool, true, false, ◌==◌, ◌&&◌, nat_lt, IfSome, if◌then◌else◌}
 use Rattle.std.specs.Int.{bit_not}

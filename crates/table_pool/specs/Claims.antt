@@ -46,7 +46,7 @@ claim_step job t = claim_part job.map job.begun (claim_of job t)
 abbrev pub SawFree : ℕ → MapClaim → Type 0
 SawFree word claim = (claim.at ≡ word) × (0 < claim.seen)
 
--- It saw none in this word, and goes on to the one behind it.
+-- It saw none in this word, and goes on to the one after it.
 abbrev pub SawNone : ℕ → MapClaim → Type 0
 SawNone word claim = (claim.at ≡ word + 1) × (claim.seen ≡ 0)
 
@@ -84,7 +84,7 @@ pub record LosesOne (z : Sizes) (job : Claim) (seen : Seen) (before after : Topi
   pub owns_none : OwnsNone job.map after
   pub behind : after ≡ with_claim job.map (record { at = (claim_of job before).at; seen = seen.value }) before
 
--- The last word of the map was loaded, and nothing free was seen in it: the claim has come behind all words. Nothing else that the
+-- The last word of the map was loaded, and nothing free was seen in it: the claim has come after all words. Nothing else that the
 -- actor holds has changed.
 pub record FindsNone (z : Sizes) (job : Claim) (before after : Topics) : Type 0 where
   pub loads : sees_free job (claim_of job before) ≡ false
@@ -105,8 +105,8 @@ abbrev pub SawStands : FreeMap → Sizes → MapClaim → World Held → Type 0
 SawStands map z claim w = 0 < claim.seen → word_in z w (map_area map) claim.at ≡ claim.seen
 
 -- at most so many turns until a claim is over, where none of them waits
-abbrev pub turns_left : Sizes → Claim → Topics → ℕ
-turns_left z job t = claim_left job.map job.begun z (claim_of job t)
+abbrev pub claim_turns : Sizes → Claim → Topics → ℕ
+claim_turns z job t = claim_left job.map job.begun z (claim_of job t)
 
 -- It holds where the next step of the claim was made.
 abbrev pub WhereClaimed : Claim → ℕ → Seat → Seat → (World Held → World Held → Type 0) → Type 0
@@ -136,4 +136,4 @@ GoesOnWhereSawStands turn job note before after =
 
 -- Fewer turns are left than before.
 abbrev pub IsNearer : Claim → Claim → Seat → Seat → Type 0
-IsNearer job next before after = turns_left before.hand.state.sizes next after.hand.topics < turns_left before.hand.state.sizes job before.hand.topics
+IsNearer job next before after = claim_turns before.hand.state.sizes next after.hand.topics < claim_turns before.hand.state.sizes job before.hand.topics

@@ -1,5 +1,5 @@
 //! Claims of frames by lines of two host threads, each of which moves a page, at a plain
-//! machine with 70 pages: word 1 of the map of frames has a bit for each frame behind them.
+//! machine with 70 pages: word 1 of the map of frames has a bit for each frame after them.
 ghost use Rattle.std.specs.Prelude.{◌≡◌, ◌<◌, ◌≤◌, [], ◌∷◌, IfOk, OnOk, length};
 ghost use Rattle.core_views.specs.Sizes.{index_of};
 ghost use Rattle.core_views.specs.Traces.{IsTrace};

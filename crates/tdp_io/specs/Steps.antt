@@ -11,7 +11,7 @@ use Rattle.tdp_io.specs.Ends.{TakesSome}
 abbrev pub StillTakesSome : Option (List ℕ) → Option (List ℕ) → List ℕ → ℕ → Type 0
 StillTakesSome before after old room = (start : Option (List ℕ)) → Consumes start before old → TakesSome start after (length old + room)
 
--- One read into a room of so many bytes, whose bytes were put behind the old ones: if the old ones were all that was
+-- One read into a room of so many bytes, whose bytes were put after the old ones: if the old ones were all that was
 -- taken from some start on, so are the new ones. A read that failed took nothing, and where memory was refused at most
 -- the room is gone.
 abbrev pub Gains : Option (List ℕ) → Option (List ℕ) → ℕ → List ℕ → List ℕ → Result Pulled NoMemory → Type 0

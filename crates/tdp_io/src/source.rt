@@ -61,7 +61,7 @@ fn zeros(alloc: Global, count: usize) -> Result<Vec<u8>, NoMemory>
     Ok(vec![in alloc; 0; count]?)
 }
 
-// Reads once, and puts what came behind the bytes that are there.
+// Reads once, and puts what came after the bytes that are there.
 fn pull<S: Source>(src: &mut S, chunk: &mut [u8], bytes: &mut Vec<u8>) -> Result<Pulled, NoMemory>
     requires { 0 < length chunk.old }
     ensures bytes { Gains (S.left src.old) (S.left src.new) (length chunk.old) bytes.old.items bytes.new.items result }

@@ -75,8 +75,8 @@ abbrev pub word_next : Walk → TableWalk → (Area → ℕ → ℕ) → ℕ
 word_next walk at words = if walk.rooted then words area.Pool (pool_index (table_page at) (entry_index walk.gfn at.level)) else words area.Root 0
 
 -- the most turns that are left
-abbrev pub turns_left : Walk → TableWalk → ℕ
-turns_left walk at = if walk.rooted then at.level else 5
+abbrev pub walk_turns : Walk → TableWalk → ℕ
+walk_turns walk at = if walk.rooted then at.level else 5
 
 -- What was loaded last is the word that the walk came to next, of the words of this world.
 abbrev pub FoundNext : Walk → Held → Held → World Held → Type 0

@@ -4,7 +4,7 @@ ghost use Rattle.part_steps.specs.StayTopics.{may_walk};
 ghost use Rattle.step_seats.specs.Moves.{KeepsRoom};
 ghost use Rattle.step_seats.specs.PartTurns.{MakesPart};
 ghost use Rattle.step_seats.specs.declared.turn.Turn.TheVariants.{More};
-ghost use Rattle.tdp_walk.specs.Walks.{FindsRoot, Looks, WasNextWord, turns_left, walk_step};
+ghost use Rattle.tdp_walk.specs.Walks.{FindsRoot, Looks, WasNextWord, walk_turns, walk_step};
 
 use mmu_core::part_rests;
 use part_steps::PartStep;
@@ -55,7 +55,7 @@ impl Walk {
         ensures entry { self.old.rooted ≡ true → Looks result self.old.gfn (S.seat s.old).hand.topics (S.seat s.new).hand.topics }
         ensures word { WasNextWord self.old note (S.seat s.old) (S.seat s.new) }
         ensures goes_on { self.new ≡ record { gfn = self.old.gfn; rooted = true } }
-        ensures nearer { result ≡ More → turns_left self.new (S.seat s.new).hand.topics.walk < turns_left self.old (S.seat s.old).hand.topics.walk }
+        ensures nearer { result ≡ More → walk_turns self.new (S.seat s.new).hand.topics.walk < walk_turns self.old (S.seat s.old).hand.topics.walk }
         ensures room { KeepsRoom (S.seat s.old) (S.seat s.new) }
         ensures same { ((S.seat s.new).actor ≡ (S.seat s.old).actor) × (S.frame s.new ≡ S.frame s.old) }
     {

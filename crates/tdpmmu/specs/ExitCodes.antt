@@ -4,9 +4,9 @@ use Rattle.tdpmmu.specs.declared.status.Status.{Status}
 use Rattle.tdpmmu.specs.declared.status.Status.TheVariants.{Done, Usage, Refused, ReadFault, WriteFault, Unfinished, NoMemory}
 
 -- Writing failed.
-abbrev pub is_write_fault : Status → Bool
-is_write_fault WriteFault = true
-is_write_fault _ = false
+abbrev pub status_is_write_fault : Status → Bool
+status_is_write_fault WriteFault = true
+status_is_write_fault _ = false
 
 abbrev pub exit_code : Status → ℕ
 exit_code Done = 0

@@ -18,18 +18,18 @@ use Rattle.weave_engine.specs.declared.ran.How.TheVariants as how
 use Rattle.weave_engine.specs.declared.ran.Ran.{Ran}
 
 -- The writing of a text stopped: a prefix of it was written, and the status says why.
-abbrev pub StopsAt : List ℕ → Option (List ℕ) → Option (List ℕ) → Status → Type 0
-StopsAt whole before after WriteFault = AppendsPrefix before after whole
-StopsAt whole before after NoMemory = AppendsPrefix before after whole
-StopsAt whole before after _ = ⊥
+abbrev pub StopsWriting : List ℕ → Option (List ℕ) → Option (List ℕ) → Status → Type 0
+StopsWriting whole before after WriteFault = AppendsPrefix before after whole
+StopsWriting whole before after NoMemory = AppendsPrefix before after whole
+StopsWriting whole before after _ = ⊥
 
 abbrev pub WritesUsage : Option (List ℕ) → Option (List ℕ) → Status → Type 0
 WritesUsage before after Usage = Appends before after usage_text
-WritesUsage before after status = StopsAt usage_text before after status
+WritesUsage before after status = StopsWriting usage_text before after status
 
 abbrev pub WritesRefusal : ℕ → Reason → Option (List ℕ) → Option (List ℕ) → Status → Type 0
 WritesRefusal line reason before after (Refused l r) = (l ≡ line) × (r ≡ reason) × Appends before after (refusal_text line reason)
-WritesRefusal line reason before after status = StopsAt (refusal_text line reason) before after status
+WritesRefusal line reason before after status = StopsWriting (refusal_text line reason) before after status
 
 -- The whole output of a command on a trace was written, or its output as far as it came but for little.
 abbrev pub WritesOutput : Command → Trace → Option (List ℕ) → Option (List ℕ) → Status → Type 0

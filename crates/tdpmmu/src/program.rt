@@ -3,7 +3,7 @@ ghost use Rattle.core_views.specs.Need.{need as need_of};
 ghost use Rattle.core_views.specs.Traces.{IsTrace};
 ghost use Rattle.tdpmmu.specs.Output.{check_text, refusal_text};
 ghost use Rattle.tdp_io.specs.Ends.{Wrote, WroteFaults, is_failed};
-ghost use Rattle.tdpmmu.specs.ExitCodes.{is_write_fault};
+ghost use Rattle.tdpmmu.specs.ExitCodes.{status_is_write_fault};
 ghost use Rattle.tdpmmu.specs.Run.{command_named as named, command_of, Prints, ReadCause, RunsTo, WriteCause};
 ghost use Rattle.tdpmmu.specs.Steps.{WritesOutput, WritesRefusal, WritesUsage, status_by, status_ended};
 
@@ -82,7 +82,7 @@ fn usage<K: Sink>(out: &mut K) -> Status
     requires unfailed { K.failed out.old ≡ false }
     ensures written { WritesUsage (K.written out.old) (K.written out.new) result }
     ensures write { WriteCause (K.faults out.old) (K.faults out.new) result }
-    ensures failed { K.failed out.new ≡ is_write_fault result }
+    ensures failed { K.failed out.new ≡ status_is_write_fault result }
 {
     match write_all(out, USAGE.as_bytes()) {
         Ok(()) => Status::Usage,
@@ -96,7 +96,7 @@ fn refuse<K: Sink>(alloc: Global, line: u32, reason: Reason, out: &mut K) -> Sta
     requires unfailed { K.failed out.old ≡ false }
     ensures written { WritesRefusal line reason (K.written out.old) (K.written out.new) result }
     ensures write { WriteCause (K.faults out.old) (K.faults out.new) result }
-    ensures failed { K.failed out.new ≡ is_write_fault result }
+    ensures failed { K.failed out.new ≡ status_is_write_fault result }
 {
     let Ok(text) = refusal(alloc, line, reason) else {
         return Status::NoMemory;
@@ -147,7 +147,7 @@ fn run_trace<K: Sink>(alloc: Global, command: Command, trace: &Trace, out: &mut 
     requires unfailed { K.failed out.old ≡ false }
     ensures written { WritesOutput command trace.now (K.written out.old) (K.written out.new) result }
     ensures write { WriteCause (K.faults out.old) (K.faults out.new) result }
-    ensures failed { K.failed out.new ≡ is_write_fault result }
+    ensures failed { K.failed out.new ≡ status_is_write_fault result }
 {
     match command {
         Command::Check => ended(check(alloc, trace, out)),
@@ -175,7 +175,7 @@ fn run_command<S: Source, K: Sink>(
         (λ input. Prints (command_of (map string_bytes words.now)) (take 16777217 input) (K.written out.old) (K.written out.new) result) }
     ensures read { ReadCause (S.faults src.old) (S.faults src.new) result }
     ensures write { WriteCause (K.faults out.old) (K.faults out.new) result }
-    ensures failed { K.failed out.new ≡ is_write_fault result }
+    ensures failed { K.failed out.new ≡ status_is_write_fault result }
 {
     let Some(command) = asked(words) else {
         return usage(out);
@@ -219,7 +219,7 @@ pub fn run<R: Threads + Wait + Sync, S: Source, K: Sink, G: Gate + Sync>(
         (λ input. Prints (command_of (map string_bytes words.now)) (take 16777217 input) (K.written out.old) (K.written out.new) result) }
     ensures read { ReadCause (S.faults src.old) (S.faults src.new) result }
     ensures write { WriteCause (K.faults out.old) (K.faults out.new) result }
-    ensures failed { K.failed out.new ≡ is_write_fault result }
+    ensures failed { K.failed out.new ≡ status_is_write_fault result }
 {
     run_command(alloc, words, src, out)
 }

@@ -24,10 +24,10 @@ const WRITTEN: &str = "6 v0 frame 1 value 1\n7 v1 frame 1 value 2\n";
 // The read, then the write.
 const READ: &str = "7 v1 frame 1 value 1\n6 v0 frame 1 value 1\n";
 
-// The read comes first, and is answered behind the write.
+// The read comes first, and is answered after the write.
 const LATE: &str = "6 v0 frame 1 value 1\n7 v1 frame 1 value 1\n";
 
-// The write comes first, and is answered behind the read.
+// The write comes first, and is answered after the read.
 const SEEN: &str = "7 v1 frame 1 value 2\n6 v0 frame 1 value 1\n";
 
 // Schedules of the two warm lines, and in which way they come out.
@@ -71,7 +71,7 @@ const WARM_SCHEDULES: [(&str, &str); 34] = [
     ("> v0 begin\n", WRITTEN),
 ];
 
-// Whole traces behind the header with another pool, and what is printed.
+// Whole traces after the header with another pool, and what is printed.
 const TRACES: [(u64, &str, &str); 33] = [
     (
         64,
@@ -241,7 +241,7 @@ const TRACES: [(u64, &str, &str); 33] = [
 ];
 
 // The kinds of step that an item may name; `end` has a meaning of its own. The reader
-// stands behind its enter or its control when the writer writes, or has read and
+// stands after its enter or its control when the writer writes, or has read and
 // maybe left before.
 const KINDS: [(&str, &str); 40] = [
     ("enter", SEEN),
@@ -313,7 +313,7 @@ pub(crate) fn follows<R: Threads + Wait + Sync + Abort>(
     prints(rt, alloc, &header, lines, text)
 }
 
-// The trace of these lines behind this header prints this text.
+// The trace of these lines after this header prints this text.
 pub(crate) fn prints<R: Threads + Wait + Sync + Abort>(
     rt: &R,
     alloc: Global,

@@ -29,7 +29,7 @@ fn words(alloc: Global, words: &[&str]) -> Result<Vec<String>, Fail> {
     Ok(all)
 }
 
-/// Runs the program on a header and the lines behind it. The reads and the
+/// Runs the program on a header and the lines after it. The reads and the
 /// writes with these numbers fail.
 pub fn run_on<R: Threads + Wait + Sync>(
     rt: &R,

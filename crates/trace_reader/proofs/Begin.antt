@@ -8,14 +8,14 @@ use Rattle.std.specs.declared.option.Option.TheVariants.{Some, None}
 use Rattle.core_views.specs.declared.trace.Header.{Header}
 use Rattle.core_views.specs.declared.trace.Trace.{Trace}
 use Rattle.trace_reader.specs.declared.reason.Reason.{Reason}
-use Rattle.trace_reader.specs.Lines.{Told, lines_of, none_seen, parts_of}
+use Rattle.trace_reader.specs.Lines.{LineSaid, lines_of, none_seen, parts_of}
 use Rattle.trace_reader.specs.Reading.{under, with_header, head_of, reading, reading_of}
-use Rattle.trace_reader.specs.Steps.{Fails, Tells}
+use Rattle.trace_reader.specs.Steps.{Fails, NamesLine}
 use Rattle.trace_reader.specs.declared.refusal.ReadError.{ReadError}
 use Rattle.trace_reader.specs.declared.refusal.ReadError.TheVariants as errors
 use Rattle.trace_reader.proofs.Loop.{part}
 
--- The first line, and the lines behind it.
+-- The first line, and the lines after it.
 pub begun : (size : ℕ) (bytes text after : List ℕ) (whole : Bool) → parts_of bytes ≡ text ∷ cond whole (parts_of after) []
     → (whole ≡ false → after ≡ []) → size ≡ length text + cond whole 1 0
     → reading bytes ≡ under (head_of (record { number = 1; end = size; ended_by_lf = whole; bytes = text })) (λ h. lines_of h 2 size none_seen (parts_of after))
@@ -28,19 +28,19 @@ begun size bytes text after false e last is =
     let all : size ≡ length text = omega arith in
     rw (e, z, all) refl
 
-pub bad_head : (e : ReadError) (total : Result Trace (ℕ × Reason)) (head : Result Header Reason) (rest : Header → Result (List Told) (ℕ × Reason))
-    → total ≡ under head rest → Fails 1 e head → Tells {X = Trace} (λ t. t) (Err e) total
+pub bad_head : (e : ReadError) (total : Result Trace (ℕ × Reason)) (head : Result Header Reason) (rest : Header → Result (List LineSaid) (ℕ × Reason))
+    → total ≡ under head rest → Fails 1 e head → NamesLine {X = Trace} (λ t. t) (Err e) total
 bad_head errors.NoMemory total head rest u fails = tt
 bad_head (errors.Refused line r) total head rest u fails = rw (u, fails.1, fails.0) refl
 
 pub bad_line :
-    (e : ReadError) (total : Result Trace (ℕ × Reason)) (head : Result Header Reason) (h : Header) (rest : Header → Result (List Told) (ℕ × Reason))
-    → total ≡ under head rest → head ≡ Ok h → Tells {X = Trace} (λ t. t) (Err e) (with_header h (rest h)) → Tells {X = Trace} (λ t. t) (Err e) total
+    (e : ReadError) (total : Result Trace (ℕ × Reason)) (head : Result Header Reason) (h : Header) (rest : Header → Result (List LineSaid) (ℕ × Reason))
+    → total ≡ under head rest → head ≡ Ok h → NamesLine {X = Trace} (λ t. t) (Err e) (with_header h (rest h)) → NamesLine {X = Trace} (λ t. t) (Err e) total
 bad_line errors.NoMemory total head h rest u is fails = tt
 bad_line (errors.Refused line r) total head h rest u is fails = rw (u, is) fails
 
 pub all_read : (t : Trace) (total : Result Trace (ℕ × Reason)) (head : Result Header Reason) (h : Header)
-    (rest : Header → Result (List Told) (ℕ × Reason)) → total ≡ under head rest → head ≡ Ok h → with_header h (rest h) ≡ Ok t → total ≡ Ok t
+    (rest : Header → Result (List LineSaid) (ℕ × Reason)) → total ≡ under head rest → head ≡ Ok h → with_header h (rest h) ≡ Ok t → total ≡ Ok t
 all_read t total head h rest u is more = rw (u, is) more
 
 -- What was read is what is looked at of the input.

@@ -8,7 +8,7 @@ use Rattle.std.specs.declared.option.Option.TheVariants.{Some, None}
 use Rattle.trace_reader.specs.declared.reason.Reason.{Reason}
 use Rattle.trace_reader.specs.declared.reason.Reason.TheVariants as reason
 use Rattle.trace_reader.specs.Forms.{is_empty}
-use Rattle.trace_reader.specs.Lines.{Raw, is_plain, first_of, fault_of}
+use Rattle.trace_reader.specs.Lines.{Raw, is_plain, first_failing, fault_of}
 use Rattle.trace_reader.specs.InputGrammar.{ArePlain, PassesAll, FailsFirst}
 use Rattle.trace_reader.proofs.Results.{both}
 
@@ -54,7 +54,7 @@ Judged line (Some r) = FailsFirst line r
 
 by_checks : (line : Raw) (a b c d e : Bool) → nat_le line.end 16777216 ≡ a → nat_le line.number 1000000 ≡ b
     → (line.ended_by_lf || is_empty line.bytes) ≡ c → nat_le (length line.bytes) 65536 ≡ d → list_all is_plain line.bytes ≡ e
-    → Judged line (first_of ((a, reason.Size) ∷ (b, reason.Lines) ∷ (c, reason.Cut) ∷ (d, reason.Long) ∷ (e, reason.Byte) ∷ []))
+    → Judged line (first_failing ((a, reason.Size) ∷ (b, reason.Lines) ∷ (c, reason.Cut) ∷ (d, reason.Long) ∷ (e, reason.Byte) ∷ []))
 by_checks line false b c d e is0 is1 is2 is3 is4 = λ p. let t = at_most line.end 16777216 p in cc
 by_checks line true false c d e is0 is1 is2 is3 is4 = (most _ _ is0, λ p. let t = at_most line.number 1000000 p in cc)
 by_checks line true true false d e is0 is1 is2 is3 is4 = (most _ _ is0, most _ _ is1, λ p. let t = ended line.ended_by_lf line.bytes p in cc)

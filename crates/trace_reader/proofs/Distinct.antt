@@ -15,9 +15,9 @@ use Rattle.trace_reader.specs.declared.saying.Saying.TheVariants.{Does, Go, Sche
 use Rattle.trace_reader.specs.Operands.{◌>>=◌}
 use Rattle.trace_reader.specs.Forms.{has_id, is_empty, sets_at, slot_id}
 use Rattle.trace_reader.specs.Sayings.{Seen, said}
-use Rattle.trace_reader.specs.Gathered.{lines_in}
+use Rattle.trace_reader.specs.Gathered.{actor_lines}
 use Rattle.trace_reader.specs.LineGrammar.{SaysLine}
-use Rattle.trace_reader.specs.Lines.{Raw, Told, after_checks, content, fault_of, is_skipped, line_of, lines_of, onto, none_seen, raw, seen_with, with_line}
+use Rattle.trace_reader.specs.Lines.{Raw, LineSaid, after_checks, content, fault_of, is_skipped, line_of, lines_of, onto, none_seen, raw, seen_with, with_line}
 use Rattle.trace_reader.specs.Reading.{with_header}
 use Rattle.trace_reader.proofs.Bytes.{only_said}
 use Rattle.trace_reader.proofs.Commands.{IsNewId, new_id, or_id, slot_id_first}
@@ -73,8 +73,8 @@ pub record AreApart (seen : ℕ → Bool) (ids : List ℕ) : Type 0 where
   pub distinct : AreDistinct ids
   pub unseen : (id : ℕ) → seen id ≡ true → HasNone id ids
 
-abbrev AreNew : Seen → Result (List Told) (ℕ × Reason) → Type 0
-AreNew seen (Ok told) = AreApart seen.ids (slot_ids (lines_in told))
+abbrev AreNew : Seen → Result (List LineSaid) (ℕ × Reason) → Type 0
+AreNew seen (Ok told) = AreApart seen.ids (slot_ids (actor_lines told))
 AreNew seen (Err e) = Unit {0}
 
 or_first : (a b : Bool) → a ≡ true → (a || b) ≡ true
@@ -100,19 +100,19 @@ in_front : (seen : ℕ → Bool) (command : Command) (ids : List ℕ) → IsNew 
     → AreApart seen (or_slot_id command ids)
 in_front seen command ids new rest = rw (slot_id_first command ids) (id_in_front seen (slot_id command) ids new rest)
 
-in_front_of : (seen : Seen) (n : ℕ) (s : Saying) (told : List Told) → IsNewLine seen s → AreApart (seen_with seen s).ids (slot_ids (lines_in told))
-    → AreApart seen.ids (slot_ids (lines_in ((n, s) ∷ told)))
-in_front_of seen n (Does actor command) told new rest = in_front seen.ids command (slot_ids (lines_in told)) new rest
+in_front_of : (seen : Seen) (n : ℕ) (s : Saying) (told : List LineSaid) → IsNewLine seen s → AreApart (seen_with seen s).ids (slot_ids (actor_lines told))
+    → AreApart seen.ids (slot_ids (actor_lines ((n, s) ∷ told)))
+in_front_of seen n (Does actor command) told new rest = in_front seen.ids command (slot_ids (actor_lines told)) new rest
 in_front_of seen n Go told new rest = rest
 in_front_of seen n (Schedules item) told new rest = rest
 
-onto_new : (n : ℕ) (seen : Seen) (read : Result (Option Saying) Reason) (rest : Seen → Result (List Told) (ℕ × Reason)) → IsFirst seen read
+onto_new : (n : ℕ) (seen : Seen) (read : Result (Option Saying) Reason) (rest : Seen → Result (List LineSaid) (ℕ × Reason)) → IsFirst seen read
     → ((now : Seen) → AreNew now (rest now)) → AreNew seen (onto n seen read rest)
 onto_new n seen (Err r) rest first all = tt
 onto_new n seen (Ok None) rest first all = all seen
 onto_new n seen (Ok (Some s)) rest first all = by (rest (seen_with seen s)) (all (seen_with seen s))
   where
-    by : (x : Result (List Told) (ℕ × Reason)) → AreNew (seen_with seen s) x → AreNew seen (with_line n (Some s) x)
+    by : (x : Result (List LineSaid) (ℕ × Reason)) → AreNew (seen_with seen s) x → AreNew seen (with_line n (Some s) x)
     by (Err e) more = tt
     by (Ok told) more = in_front_of seen n s told first more
 
@@ -136,7 +136,7 @@ abbrev HasApart : Result Trace (ℕ × Reason) → Type 0
 HasApart (Ok t) = AreDistinct (slot_ids t.lines)
 HasApart (Err e) = Unit {0}
 
-under_header : (h : Header) (x : Result (List Told) (ℕ × Reason)) → AreNew none_seen x → HasApart (with_header h x)
+under_header : (h : Header) (x : Result (List LineSaid) (ℕ × Reason)) → AreNew none_seen x → HasApart (with_header h x)
 under_header h (Ok told) new = new.distinct
 under_header h (Err e) new = tt
 

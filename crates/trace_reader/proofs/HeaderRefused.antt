@@ -7,7 +7,7 @@ use Rattle.std.specs.declared.option.Option.TheVariants.{Some, None}
 use Rattle.core_views.specs.declared.trace.Header.{Header}
 use Rattle.trace_reader.specs.declared.reason.Reason.{Reason}
 use Rattle.trace_reader.specs.declared.reason.Reason.TheVariants as reason
-use Rattle.trace_reader.specs.Numbers.{number_of}
+use Rattle.trace_reader.specs.Numbers.{spelled_number}
 use Rattle.trace_reader.specs.Operands.{◌>>=◌}
 use Rattle.trace_reader.specs.Headers.{within, ranged, field, behind_version, are_sizes, sizes_of, rising, host_list, hosts_of, header_of}
 use Rattle.trace_reader.specs.HeaderGrammar.{IsHeaderSaid}
@@ -32,7 +32,7 @@ within_header low high (Some n) = chosen (nat_le low n && nat_le n high) (Ok n) 
 
 ranged_header : (low high : ℕ) (w : List ℕ) → IsHeaderError (ranged low high w)
 unfolding ranged
-ranged_header low high w = within_header low high (number_of w)
+ranged_header low high w = within_header low high (spelled_number w)
 
 field_header : (name : List ℕ) (low high : ℕ) (words : List (List ℕ)) → IsHeaderError (field name low high words)
 unfolding field

@@ -16,7 +16,7 @@ use Rattle.core_views.specs.declared.trace.Header.{Header}
 use Rattle.trace_reader.specs.declared.reason.Reason.{Reason}
 use Rattle.trace_reader.specs.declared.reason.Reason.TheVariants as reason
 use Rattle.trace_reader.specs.declared.header.Sizes.{Sizes}
-use Rattle.trace_reader.specs.Numbers.{number_of}
+use Rattle.trace_reader.specs.Numbers.{spelled_number}
 use Rattle.trace_reader.specs.Operands.{◌>>=◌}
 use Rattle.trace_reader.specs.Headers.{within, ranged, field, behind_version, are_sizes, sizes_of, rising, host_list, hosts_of, header_of}
 use Rattle.trace_reader.specs.Grammar.{Spells}
@@ -130,7 +130,7 @@ within_found low high (Some m) n e = elim (branch (nat_le low m && nat_le m high
 
 ranged_found : (low high : ℕ) (w : List ℕ) (n : ℕ) → ranged low high w ≡ Ok n → Spells w n
 unfolding ranged
-ranged_found low high w n e = spelling w n (within_found low high (number_of w) n e)
+ranged_found low high w n e = spelling w n (within_found low high (spelled_number w) n e)
 
 abbrev IsField : List ℕ → List (List ℕ) → ℕ × List (List ℕ) → Type 0
 IsField name words x = (w : List ℕ) × (words ≡ name ∷ w ∷ x.1) × Spells w x.0

@@ -12,7 +12,7 @@ use Rattle.core_views.specs.declared.trace.Trace.{Trace}
 use Rattle.trace_reader.specs.declared.reason.Reason.{Reason}
 use Rattle.trace_reader.specs.Sayings.{Seen}
 use Rattle.trace_reader.specs.Gathered.{Gathers}
-use Rattle.trace_reader.specs.Lines.{Told, parts_of, raw, lines_of, none_seen}
+use Rattle.trace_reader.specs.Lines.{LineSaid, parts_of, raw, lines_of, none_seen}
 use Rattle.trace_reader.specs.Reading.{head_of, trace_of, with_header, under, reading_of, reading}
 use Rattle.trace_reader.specs.Grammar.{spaced}
 use Rattle.trace_reader.specs.HeaderGrammar.{labelled}
@@ -63,7 +63,7 @@ abbrev AreTexts : List (List ℕ) → Type 0
 AreTexts [] = Unit {0}
 AreTexts (x ∷ xs) = IsText x × AreTexts xs
 
-lines_texts : (h : Header) (n : ℕ) (seen : Seen) (texts : List (List ℕ)) (told : List Told) → SayLines h n seen texts told → AreTexts texts
+lines_texts : (h : Header) (n : ℕ) (seen : Seen) (texts : List (List ℕ)) (told : List LineSaid) → SayLines h n seen texts told → AreTexts texts
 lines_texts h n seen [] told say = tt
 lines_texts h n seen (x ∷ xs) told (is, inl (s, say)) = (is, lines_texts h (n + 1) seen xs told say)
 lines_texts h n seen (x ∷ xs) told (is, inr (never, (s, more, e, says, say))) = (is, lines_texts h (n + 1) _ xs more say)
@@ -122,10 +122,10 @@ alone : (input text : List ℕ) (z : Result Header Reason) → NoLf text → inp
 alone input text (Ok h) are e (all, s) = elim (all.2) [ inl t ↦ cc | inr t ↦ absurd (empty_head text h t s) ]
 alone input text (Err r) are e fails = first_fails input text false (length text) r (are, e) (omega arith) fails
 
-gathered : (h : Header) (out told : List Told) → out ≡ told → Gathers (trace_of h out) told
+gathered : (h : Header) (out told : List LineSaid) → out ≡ told → Gathers (trace_of h out) told
 gathered h out told e = rw e (record { lines = refl; go = refl; items = refl })
 
-behind : (input text : List ℕ) (parts : List (List ℕ)) (h : Header) (x : Result (List Told) (ℕ × Reason)) → parts_of input ≡ text ∷ parts
+behind : (input text : List ℕ) (parts : List (List ℕ)) (h : Header) (x : Result (List LineSaid) (ℕ × Reason)) → parts_of input ≡ text ∷ parts
     → PassesAll (record { number = 1; end = length text + 1; ended_by_lf = true; bytes = text }) → SaysHeader text h
     → IsCut h 2 (length text + 1) none_seen parts x → InputJudged input (with_header h x)
 behind input text parts h (Ok out) e all s k =
@@ -199,17 +199,17 @@ same_rest : (h : Header) (n m a b : ℕ) (seen now : Seen) (parts : List (List �
     → lines_of h n a seen parts ≡ lines_of h m b now parts
 same_rest h n m a b seen now parts e e1 e2 = rw (e, e1, e2) refl
 
--- what the texts say is read, and then what stands behind them
-abbrev IsThen : List (List ℕ) → Trace → List Told → List ℕ → List (List ℕ) → Type 0
+-- what the texts say is read, and then what stands after them
+abbrev IsThen : List (List ℕ) → Trace → List LineSaid → List ℕ → List (List ℕ) → Type 0
 IsThen before t told p ps =
     reading_of (before ++ p ∷ ps)
     ≡ with_header t.header (with_prefix told (lines_of t.header (length before + 1) (length (with_ends before)) (seen_in t) (p ∷ ps)))
 
-seen_same : (t : Trace) (told : List Told) → Gathers t told → seen_behind none_seen told ≡ seen_in t
+seen_same : (t : Trace) (told : List LineSaid) → Gathers t told → seen_behind none_seen told ≡ seen_in t
 seen_same t told all = rw (all.lines, all.go) refl
 
 trace_then : (before : List (List ℕ)) (t : Trace) (p : List ℕ) (ps : List (List ℕ)) → SayTrace before t
-    → (told : List Told) × Gathers t told × IsThen before t told p ps
+    → (told : List LineSaid) × Gathers t told × IsThen before t told p ps
 trace_then [] t p ps say = absurd say
 trace_then (x ∷ xs) t p ps (size, count, is, s, (told, say, gathers)) =
     let far : length (with_ends (x ∷ xs)) ≡ length x + 1 + length (with_ends xs) = long x xs in
@@ -225,7 +225,7 @@ trace_then (x ∷ xs) t p ps (size, count, is, s, (told, say, gathers)) =
           (ap (with_header t.header) lines),
     )
 
-the_same : (t : Trace) (told : List Told) → Gathers t told → trace_of t.header told ≡ t
+the_same : (t : Trace) (told : List LineSaid) → Gathers t told → trace_of t.header told ≡ t
 the_same t told all = rw (← all.lines, ← all.go, ← all.items) refl
 
 no_more : (h : Header) (n at : ℕ) (seen : Seen) → lines_of h n at seen ([] ∷ []) ≡ Ok []

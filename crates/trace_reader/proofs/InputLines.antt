@@ -1,4 +1,4 @@
--- What the texts of the lines behind the header say is read, and only that.
+-- What the texts of the lines after the header say is read, and only that.
 use Rattle.std.proofs.Common.{◌≡◌, ◌≤◌, ◌+◌, ◌++◌, ◌||◌, inl, inr, ℕ, List, [], ◌∷◌, Bool, true, false, cond, Result, Ok, Err, length, refl, ap, ◌∙◌, arith}
 use Rattle.std.proofs.lemmas.Bool.Decides.{nat_tests}
 use Rattle.std.proofs.lemmas.List.{length-append}
@@ -11,9 +11,9 @@ use Rattle.trace_reader.specs.declared.saying.Saying.{Saying}
 use Rattle.trace_reader.specs.declared.saying.Saying.TheVariants.{Does, Go, Schedules}
 use Rattle.trace_reader.specs.Operands.{◌>>=◌}
 use Rattle.trace_reader.specs.Sayings.{Seen, is_there, said}
-use Rattle.trace_reader.specs.Lines.{Raw, Told, fault_of, after_checks, is_skipped, content, line_of, with_line, onto, raw, lines_of, seen_with}
+use Rattle.trace_reader.specs.Lines.{Raw, LineSaid, fault_of, after_checks, is_skipped, content, line_of, with_line, onto, raw, lines_of, seen_with}
 use Rattle.trace_reader.specs.Forms.{sets_at}
-use Rattle.trace_reader.specs.Gathered.{go_in, lines_in, one_more}
+use Rattle.trace_reader.specs.Gathered.{go_in, actor_lines, one_more_if}
 use Rattle.trace_reader.specs.LineGrammar.{SaysLine}
 use Rattle.trace_reader.specs.InputGrammar.{with_ends, IsText, IsSkipped, SayLines, PassesAll, LineFails, set_by}
 use Rattle.trace_reader.proofs.Prefix.{with_prefix}
@@ -75,8 +75,8 @@ line_fails h seen line r header (inl f) = rw (faulty line r f) refl
 line_fails h seen line r header (inr (all, never, why)) = rw (faultless line all, not_skipped line.bytes never, the_reason h seen line.bytes r header why) refl
 
 -- what was seen, with what these lines say
-abbrev pub seen_behind : Seen → List Told → Seen
-seen_behind seen told = record { ids = λ id. seen.ids id || set_by (lines_in told) id; go = seen.go || is_there (go_in told) }
+abbrev pub seen_behind : Seen → List LineSaid → Seen
+seen_behind seen told = record { ids = λ id. seen.ids id || set_by (actor_lines told) id; go = seen.go || is_there (go_in told) }
 
 -- LF ends the first of them.
 abbrev pub more_of : List (List ℕ) → Bool
@@ -84,16 +84,16 @@ more_of [] = false
 more_of (x ∷ xs) = true
 
 -- Behind what was told nothing stands, or a line that fails.
-abbrev pub Ends : Header → ℕ → ℕ → Seen → List ℕ → List (List ℕ) → List Told → Result (List Told) (ℕ × Reason) → Type 0
+abbrev pub Ends : Header → ℕ → ℕ → Seen → List ℕ → List (List ℕ) → List LineSaid → Result (List LineSaid) (ℕ × Reason) → Type 0
 Ends h n at seen text rest told (Ok out) = (out ≡ told) × (text ≡ []) × (rest ≡ [])
 Ends h n at seen text rest told (Err e) = (e.0 ≡ n) × (rest ≡ [] → text ≡ [] → ⊥) × LineFails h seen (raw n at (more_of rest) text) e.1
 
--- The parts are cut into the texts of lines that say something, and what stands behind them.
-pub record IsCut (h : Header) (n at : ℕ) (seen : Seen) (parts : List (List ℕ)) (x : Result (List Told) (ℕ × Reason)) : Type 0 where
+-- The parts are cut into the texts of lines that say something, and what stands after them.
+pub record IsCut (h : Header) (n at : ℕ) (seen : Seen) (parts : List (List ℕ)) (x : Result (List LineSaid) (ℕ × Reason)) : Type 0 where
   pub texts : List (List ℕ)
   pub text : List ℕ
   pub rest : List (List ℕ)
-  pub told : List Told
+  pub told : List LineSaid
   pub cut : parts ≡ texts ++ text ∷ rest
   pub say : SayLines h n seen texts told
   pub size : at + length (with_ends texts) ≤ 16777216
@@ -113,7 +113,7 @@ or_none : (a : Bool) → a ≡ (a || false)
 or_none true = refl
 or_none false = refl
 
-more_there : (a : Bool) (o : Option ℕ) → (a || is_there o) ≡ (a || is_there (one_more o))
+more_there : (a : Bool) (o : Option ℕ) → (a || is_there o) ≡ (a || is_there (one_more_if o))
 more_there a None = refl
 more_there a (Some n) = refl
 
@@ -121,26 +121,26 @@ go_there : (a : Bool) → true ≡ (a || true)
 go_there true = refl
 go_there false = refl
 
-seen_then : (seen : Seen) (n : ℕ) (s : Saying) (told : List Told) → seen_behind (seen_with seen s) told ≡ seen_behind seen ((n, s) ∷ told)
+seen_then : (seen : Seen) (n : ℕ) (s : Saying) (told : List LineSaid) → seen_behind (seen_with seen s) told ≡ seen_behind seen ((n, s) ∷ told)
 seen_then seen n (Does a c) told =
     same_seen (seen_behind (seen_with seen (Does a c)) told) (seen_behind seen ((n, Does a c) ∷ told))
-    (λ id. or_right (seen.ids id) (sets_at id c) (set_by (lines_in told) id)) (more_there seen.go (go_in told))
+    (λ id. or_right (seen.ids id) (sets_at id c) (set_by (actor_lines told) id)) (more_there seen.go (go_in told))
 seen_then seen n Go told = same_seen (seen_behind (seen_with seen Go) told) (seen_behind seen ((n, Go) ∷ told)) (λ id. refl) (go_there seen.go)
 seen_then seen n (Schedules item) told = refl
 
 pub seen_alone : (seen : Seen) → seen ≡ seen_behind seen []
 seen_alone seen = same_seen seen (seen_behind seen []) (λ id. or_none (seen.ids id)) (or_none seen.go)
 
-moved : (h : Header) (n n1 at at1 : ℕ) (seen seen1 : Seen) (text : List ℕ) (rest : List (List ℕ)) (told : List Told) (x : Result (List Told) (ℕ
+moved : (h : Header) (n n1 at at1 : ℕ) (seen seen1 : Seen) (text : List ℕ) (rest : List (List ℕ)) (told : List LineSaid) (x : Result (List LineSaid) (ℕ
     × Reason)) → n ≡ n1 → at ≡ at1 → seen ≡ seen1 → Ends h n at seen text rest told x → Ends h n1 at1 seen1 text rest told x
 moved h n n1 at at1 seen seen1 text rest told x e e1 e2 ends = rw (← e, ← e1, ← e2) ends
 
-front_ends : (h : Header) (n at : ℕ) (seen : Seen) (text : List ℕ) (rest : List (List ℕ)) (m : ℕ) (s : Saying) (told : List Told)
-    (x : Result (List Told) (ℕ × Reason)) → Ends h n at seen text rest told x → Ends h n at seen text rest ((m, s) ∷ told) (with_line m (Some s) x)
-front_ends h n at seen text rest m s told (Ok out) (e, a, b) = (ap (λ (v : List Told). (m, s) ∷ v) e, a, b)
+front_ends : (h : Header) (n at : ℕ) (seen : Seen) (text : List ℕ) (rest : List (List ℕ)) (m : ℕ) (s : Saying) (told : List LineSaid)
+    (x : Result (List LineSaid) (ℕ × Reason)) → Ends h n at seen text rest told x → Ends h n at seen text rest ((m, s) ∷ told) (with_line m (Some s) x)
+front_ends h n at seen text rest m s told (Ok out) (e, a, b) = (ap (λ (v : List LineSaid). (m, s) ∷ v) e, a, b)
 front_ends h n at seen text rest m s told (Err e) ends = ends
 
-skip_front : (h : Header) (n at : ℕ) (seen : Seen) (text : List ℕ) (parts : List (List ℕ)) (x : Result (List Told) (ℕ × Reason)) → IsText text
+skip_front : (h : Header) (n at : ℕ) (seen : Seen) (text : List ℕ) (parts : List (List ℕ)) (x : Result (List LineSaid) (ℕ × Reason)) → IsText text
     → IsSkipped text → IsCut h (n + 1) (at + (length text + 1)) seen parts x → IsCut h n at seen (text ∷ parts) x
 skip_front h n at seen text parts x is s k =
     let far : at + (length text + 1) + length (with_ends k.texts) ≡ at + length (with_ends (text ∷ k.texts)) = omega (arith, long text k.texts) in
@@ -157,7 +157,7 @@ skip_front h n at seen text parts x is s k =
       ends = moved h _ _ _ _ _ _ k.text k.rest k.told x next far refl k.ends;
     }
 
-line_front : (h : Header) (n at : ℕ) (seen : Seen) (text : List ℕ) (parts : List (List ℕ)) (s : Saying) (x : Result (List Told) (ℕ × Reason))
+line_front : (h : Header) (n at : ℕ) (seen : Seen) (text : List ℕ) (parts : List (List ℕ)) (s : Saying) (x : Result (List LineSaid) (ℕ × Reason))
     → IsText text → (IsSkipped text → ⊥) → SaysLine h seen text s → IsCut h (n + 1) (at + (length text + 1)) (seen_with seen s) parts x
     → IsCut h n at seen (text ∷ parts) (with_line n (Some s) x)
 line_front h n at seen text parts s x is never says k =
@@ -200,7 +200,7 @@ last_cut h n at seen c cs (Ok None) small few (all, s) = absurd (elim (all.2) [ 
 last_cut h n at seen c cs (Ok (Some l)) small few (all, never, s) = absurd (elim (all.2) [ inl e ↦ cc | inr e ↦ cc ])
 last_cut h n at seen c cs (Err r) small few fails = fails_here h n at seen (c ∷ cs) [] r small few (λ none empty. cc) fails
 
--- What the lines behind a first one are read as.
+-- What the lines after a first one are read as.
 abbrev IsRest : Header → ℕ → ℕ → List (List ℕ) → Type 0
 IsRest h n at parts = (now : Seen) → at ≤ 16777216 → n ≤ 1000001 → IsCut h n at now parts (lines_of h n at now parts)
 
@@ -213,7 +213,7 @@ next_cut h n at seen text y more (Ok (Some l)) small few (all, never, s) rest =
     line_front h n at seen text (y ∷ more) l _ (all.3, all.4) never s (rest (seen_with seen l) all.0 (omega (arith, all.1)))
 next_cut h n at seen text y more (Err r) small few fails rest = fails_here h n at seen text (y ∷ more) r small few (λ none empty. cc) fails
 
--- What is read of the lines behind the header is what they say.
+-- What is read of the lines after the header is what they say.
 pub cuts : (h : Header) (n at : ℕ) (seen : Seen) (p : List ℕ) (ps : List (List ℕ)) → IsHeader h → at ≤ 16777216 → n ≤ 1000001
     → IsCut h n at seen (p ∷ ps) (lines_of h n at seen (p ∷ ps))
 unfolding lines_of
@@ -225,7 +225,7 @@ cuts h n at seen p (y ∷ more) header small few =
     next_cut h n at seen p y more (line_of h seen (raw n at true p)) small few (line_judged h seen (raw n at true p) header)
     (λ now little less. cuts h (n + 1) (at + (length p + 1)) now y more header little less)
 
--- What the lines behind the header say is read.
+-- What the lines after the header say is read.
 unroll : (h : Header) (n at : ℕ) (seen : Seen) (x y : List ℕ) (zs ys : List (List ℕ)) → zs ≡ y ∷ ys
     → lines_of h n at seen (x ∷ zs) ≡ onto n seen (line_of h seen (raw n at true x)) (λ now. lines_of h (n + 1) (at + (length x + 1)) now zs)
 unfolding lines_of
@@ -239,16 +239,16 @@ same_lines : (h : Header) (n n1 at at1 : ℕ) (seen seen1 : Seen) (parts : List 
     → lines_of h n at seen parts ≡ lines_of h n1 at1 seen1 parts
 same_lines h n n1 at at1 seen seen1 parts e e1 e2 = rw (e, e1, e2) refl
 
-no_prefix : (x : Result (List Told) (ℕ × Reason)) → x ≡ with_prefix [] x
+no_prefix : (x : Result (List LineSaid) (ℕ × Reason)) → x ≡ with_prefix [] x
 no_prefix (Ok ls) = refl
 no_prefix (Err e) = refl
 
-onto_prefix : (n : ℕ) (s : Saying) (told : List Told) (x : Result (List Told) (ℕ × Reason))
+onto_prefix : (n : ℕ) (s : Saying) (told : List LineSaid) (x : Result (List LineSaid) (ℕ × Reason))
     → with_line n (Some s) (with_prefix told x) ≡ with_prefix ((n, s) ∷ told) x
 onto_prefix n s told (Ok rest) = refl
 onto_prefix n s told (Err e) = refl
 
-pub said_lines : (h : Header) (n at : ℕ) (seen : Seen) (texts : List (List ℕ)) (told : List Told) (p : List ℕ) (ps : List (List ℕ)) → IsHeader h
+pub said_lines : (h : Header) (n at : ℕ) (seen : Seen) (texts : List (List ℕ)) (told : List LineSaid) (p : List ℕ) (ps : List (List ℕ)) → IsHeader h
     → SayLines h n seen texts told → at + length (with_ends texts) ≤ 16777216 → n + length texts ≤ 1000001
     → lines_of h n at seen (texts ++ p ∷ ps) ≡ with_prefix told (lines_of h (n + length texts) (at + length (with_ends texts)) (seen_behind seen told) (p ∷ ps))
 said_lines h n at seen [] told p ps header say small few =

@@ -20,7 +20,7 @@ use Rattle.core_views.specs.declared.trace.Until.{Until}
 use Rattle.core_views.specs.declared.trace.Until.TheVariants.{Turns, Answered, Made}
 use Rattle.trace_reader.specs.declared.reason.Reason.{Reason}
 use Rattle.trace_reader.specs.declared.reason.Reason.TheVariants as reason
-use Rattle.trace_reader.specs.Numbers.{is_digit, number_of}
+use Rattle.trace_reader.specs.Numbers.{is_digit, spelled_number}
 use Rattle.trace_reader.specs.Items.{actor_said, begins, item_by, item_said, kind_names, kind_number, made, number_among, turns, until_said}
 use Rattle.trace_reader.specs.Grammar.{IsActor, IsDeclared, Spells}
 use Rattle.trace_reader.specs.LineGrammar.{IsKindNamed, IsUntilForm, SaysUntil}
@@ -133,12 +133,12 @@ UntilJudged w (Err _) = ⊥
 turns_range : (n : ℕ) → (nat_le 1 n && nat_le n 10000000) ≡ true → (1 ≤ n) × (n ≤ 10000000)
 turns_range n e = (grind (arith, nat_tests, e), grind (arith, nat_tests, e))
 
-turns_in : (w : List ℕ) (n : ℕ) (b : Bool) → begins is_digit w ≡ true → number_of w ≡ Some n → (nat_le 1 n && nat_le n 10000000) ≡ b
+turns_in : (w : List ℕ) (n : ℕ) (b : Bool) → begins is_digit w ≡ true → spelled_number w ≡ Some n → (nat_le 1 n && nat_le n 10000000) ≡ b
     → UntilJudged w (cond b (Ok (Turns n)) (Err reason.Number))
 turns_in w n true digit e range = (spelling w n e, turns_range n range, inl digit)
 turns_in w n false digit e range = inl digit
 
-turns_judged : (w : List ℕ) (o : Option ℕ) → begins is_digit w ≡ true → number_of w ≡ o → UntilJudged w (turns o)
+turns_judged : (w : List ℕ) (o : Option ℕ) → begins is_digit w ≡ true → spelled_number w ≡ o → UntilJudged w (turns o)
 turns_judged w None digit e = inl digit
 turns_judged w (Some n) digit e = turns_in w n (nat_le 1 n && nat_le n 10000000) digit e refl
 
@@ -156,8 +156,8 @@ made_judged w (Some code) digit last e =
     ((never, named), kind_range w code e, inr (inr (code, named)))
 
 by_test : (w : List ℕ) (b c : Bool) → begins is_digit w ≡ b → bytes_eq w (codes "end") ≡ c
-    → UntilJudged w (cond b (turns (number_of w)) (cond c (Ok Answered) (made (kind_number w))))
-by_test w true c digit last = turns_judged w (number_of w) digit refl
+    → UntilJudged w (cond b (turns (spelled_number w)) (cond c (Ok Answered) (made (kind_number w))))
+by_test w true c digit last = turns_judged w (spelled_number w) digit refl
 by_test w false true digit last = let is = word_is w (codes "end") last in (is, tt, inr (inl is))
 by_test w false false digit last = made_judged w (kind_number w) digit last refl
 

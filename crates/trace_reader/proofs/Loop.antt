@@ -22,11 +22,11 @@ use Rattle.trace_reader.specs.declared.refusal.ReadError.TheVariants as errors
 use Rattle.trace_reader.specs.declared.saying.Saying.{Saying}
 use Rattle.trace_reader.specs.declared.saying.Saying.TheVariants.{Does, Go, Schedules}
 use Rattle.trace_reader.specs.Forms.{is_empty}
-use Rattle.trace_reader.specs.Gathered.{go_in, items_in, lines_in, one_more}
-use Rattle.trace_reader.specs.Lines.{Told, onto, with_line, none_seen, seen_after, lines_of, line_of, parts_of}
+use Rattle.trace_reader.specs.Gathered.{go_in, items_in, actor_lines, one_more_if}
+use Rattle.trace_reader.specs.Lines.{LineSaid, onto, with_line, none_seen, seen_after, lines_of, line_of, parts_of}
 use Rattle.trace_reader.specs.Reading.{with_header}
 use Rattle.trace_reader.specs.Sayings.{IsSayingOf, Seen, is_there, seen_of}
-use Rattle.trace_reader.specs.Steps.{Fails, IsBodyOf, IsPut, Tells, trace_with, with_found, with_go, with_item}
+use Rattle.trace_reader.specs.Steps.{Fails, IsBodyOf, IsPut, NamesLine, trace_with, with_found, with_go, with_item}
 use Rattle.trace_reader.proofs.Distinct.{IsFirst}
 
 cons_of : (c : Bool) (b : ℕ) (parts : List (List ℕ)) → (x : List ℕ) × (xs : List (List ℕ)) × (cond c ([] ∷ parts) (onto_first b parts) ≡ x ∷ xs)
@@ -70,7 +70,7 @@ nothing_left h n at seen (b ∷ bs) lt = absurd (omega arith)
 pub not_empty : (c : ℕ) (cs : List ℕ) → is_empty (c ∷ cs) ≡ false
 not_empty c cs = grind (arith, nat_tests)
 
--- The first line, and the lines behind it.
+-- The first line, and the lines after it.
 pub unrolled : (h : Header) (n at size : ℕ) (seen : Seen) (rest text after : List ℕ) (ended : Bool) → 0 < length rest
     → parts_of rest ≡ text ∷ cond ended (parts_of after) [] → (ended ≡ false → after ≡ []) → length rest ≡ length text + cond ended 1 0 + length after
     → size ≡ length text + cond ended 1 0
@@ -115,7 +115,7 @@ with_front t (Err e) = Err e
 abbrev put_to : Trace → ℕ → Option Saying → Trace
 put_to t n found = record { header = t.header; lines = with_found t.lines n found; go = with_go (length t.lines) t.go found; items = with_item t.items found }
 
-go_line : (go more : Option ℕ) (count next : ℕ) → next ≡ count + 1 → go_behind go count (one_more more) ≡ go_behind go next more
+go_line : (go more : Option ℕ) (count next : ℕ) → next ≡ count + 1 → go_behind go count (one_more_if more) ≡ go_behind go next more
 go_line (Some n) more count next e = refl
 go_line None None count next e = refl
 go_line None (Some n) count next e = ap (λ (v : ℕ). Some v) (omega arith)
@@ -132,7 +132,7 @@ one_longer lines l = length-append lines (l ∷ [])
 first_go : (count : ℕ) (go more : Option ℕ) → go ≡ None → go_behind go count (Some 0) ≡ go_behind (Some count) count more
 first_go count go more none = rw none (ap (λ (v : ℕ). Some v) (omega arith))
 
-read_on : (h : Header) (t : Trace) (n : ℕ) (found : Option Saying) (rest : Result (List Told) (ℕ × Reason)) → (found ≡ Some Go → t.go ≡ None)
+read_on : (h : Header) (t : Trace) (n : ℕ) (found : Option Saying) (rest : Result (List LineSaid) (ℕ × Reason)) → (found ≡ Some Go → t.go ≡ None)
     → with_front t (with_header h (with_line n found rest)) ≡ with_front (put_to t n found) (with_header h rest)
 read_on h t n None (Ok told) first = refl
 read_on h t n None (Err e) first = refl
@@ -141,15 +141,15 @@ read_on h t n (Some (Does a c)) (Ok told) first =
     ap (λ (v : Trace). Ok v) (same_trace t.header _ _ _ _ _ _ (simp append_assoc refl)
     (go_line t.go (go_in told) (length t.lines) _ (one_longer t.lines (record { number = n; actor = a; command = c }))) refl)
 read_on h t n (Some Go) (Ok told) first =
-    ap (λ (v : Trace). Ok v) (same_trace t.header (t.lines ++ lines_in told) (t.lines ++ lines_in told) _ _ (t.items ++ items_in told)
+    ap (λ (v : Trace). Ok v) (same_trace t.header (t.lines ++ actor_lines told) (t.lines ++ actor_lines told) _ _ (t.items ++ items_in told)
     (t.items ++ items_in told) refl (first_go (length t.lines) t.go (go_in told) (first refl)) refl)
 read_on h t n (Some (Schedules item)) (Ok told) first =
-    ap (λ (v : Trace). Ok v) (same_trace t.header (t.lines ++ lines_in told) (t.lines ++ lines_in told) (go_behind t.go (length t.lines) (go_in told))
+    ap (λ (v : Trace). Ok v) (same_trace t.header (t.lines ++ actor_lines told) (t.lines ++ actor_lines told) (go_behind t.go (length t.lines) (go_in told))
     (go_behind t.go (length t.lines) (go_in told)) _ _ refl refl (simp append_assoc refl))
 
--- What the lines behind line n are read with.
+-- What the lines after line n are read with.
 abbrev Rest : Type 0
-Rest = Seen → Result (List Told) (ℕ × Reason)
+Rest = Seen → Result (List LineSaid) (ℕ × Reason)
 
 put_trace : (h : Header) (old new : Body) (n : ℕ) (found : Option Saying) → IsPut old new n found → trace_with h new ≡ put_to (trace_with h old) n found
 put_trace h old new n found put = same_trace h _ _ _ _ _ _ put.lines put.go put.items
@@ -175,7 +175,7 @@ go_first before read found first is go =
     not_there before.go (subst (IsFirst (seen_of before)) e first)
 
 pub goes_on : (h : Header) (old new : Body) (n : ℕ) (read : Result (Option Saying) Reason) (found : Option Saying)
-    (here : Result (List Told) (ℕ × Reason)) (rest : Rest) (total : Result Trace (ℕ × Reason)) → here ≡ onto n (seen_of old.before) read rest
+    (here : Result (List LineSaid) (ℕ × Reason)) (rest : Rest) (total : Result Trace (ℕ × Reason)) → here ≡ onto n (seen_of old.before) read rest
     → IsFirst (seen_of old.before) read → read ≡ Ok found → IsPut old new n found → with_front (trace_with h old) (with_header h here) ≡ total
     → with_front (trace_with h new) (with_header h (rest (seen_of new.before))) ≡ total
 goes_on h old new n read found here rest total u first is put so_far =
@@ -235,9 +235,9 @@ no_lines : (go : Option ℕ) → go_behind None 0 go ≡ go
 no_lines None = refl
 no_lines (Some n) = ap (λ (v : ℕ). Some v) (omega arith)
 
-nothing_before : (h : Header) (x : Result (List Told) (ℕ × Reason)) → with_front (made_of h [] None []) (with_header h x) ≡ with_header h x
+nothing_before : (h : Header) (x : Result (List LineSaid) (ℕ × Reason)) → with_front (made_of h [] None []) (with_header h x) ≡ with_header h x
 nothing_before h (Ok told) =
-    ap (λ (v : Trace). Ok v) (same_trace h (lines_in told) (lines_in told) _ _ (items_in told) (items_in told) refl (no_lines (go_in told)) refl)
+    ap (λ (v : Trace). Ok v) (same_trace h (actor_lines told) (actor_lines told) _ _ (items_in told) (items_in told) refl (no_lines (go_in told)) refl)
 nothing_before h (Err e) = refl
 
 pub starts : (h : Header) (body : Body) (n at : ℕ) (parts : List (List ℕ)) → body.lines.items ≡ [] → body.items.items ≡ [] → body.before.go ≡ None
@@ -251,9 +251,9 @@ starts h body n at parts lines items go ids =
 pub none_read : (h : Header) (body : Body) → body.lines.items ≡ [] → body.items.items ≡ [] → body.before.go ≡ None → IsBodyOf h body
 none_read h body lines items go = record { lines = rw lines (All-nil (IsLineOf h)); items = rw items (All-nil (IsItemOf h)); go = rw go tt }
 
-pub stops : (h : Header) (body : Body) (n : ℕ) (read : Result (Option Saying) Reason) (e : ReadError) (here : Result (List Told) (ℕ × Reason))
+pub stops : (h : Header) (body : Body) (n : ℕ) (read : Result (Option Saying) Reason) (e : ReadError) (here : Result (List LineSaid) (ℕ × Reason))
     (rest : Rest) (total : Result Trace (ℕ × Reason)) → here ≡ onto n (seen_of body.before) read rest → Fails n e read
-    → with_front (trace_with h body) (with_header h here) ≡ total → Tells (trace_with h) (Err e) total
+    → with_front (trace_with h body) (with_header h here) ≡ total → NamesLine (trace_with h) (Err e) total
 stops h body n read errors.NoMemory here rest total u fails so_far = tt
 stops h body n read (errors.Refused line r) here rest total u fails so_far =
     let one : with_front (trace_with h body) (with_header h here) ≡ Err (line, r) = rw (u, fails.1, fails.0) refl in

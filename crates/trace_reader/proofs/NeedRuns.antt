@@ -1,4 +1,4 @@
--- The pass over rising runs: each run adds the tables that it covers from the next one on.
+-- The pass over rising runs: each run adds the tables that it run_covers from the next one on.
 use Rattle.std.proofs.Common.{◌≡◌, ◌≤◌, ◌<◌, ◌+◌, ◌-◌, ◌*◌, ◌/◌, ℕ, List, [], ◌∷◌, Bool, true, false, cond, ◌&&◌, ◌||◌, nat_le, nat_lt, max, arith}
 use Rattle.std.proofs.Common.{refl, length, suc, subst, drop, get_or, ◌∙◌, ap}
 use Rattle.std.proofs.lemmas.Bool.Decides.{nat_tests}
@@ -10,10 +10,10 @@ use Rattle.std.proofs.lemmas.List.{drop_more, drop_all}
 use Rattle.std.proofs.lemmas.List.Sorted.{IsNonDecreasingBy-drop}
 use Rattle.core_views.specs.Need.{count_below}
 use Rattle.trace_reader.specs.declared.pool.Run.{Run}
-use Rattle.trace_reader.specs.Runs.{covers, any_covers, IsRun, AreRising, EndBy}
+use Rattle.trace_reader.specs.Runs.{run_covers, any_covers, IsFrameRun, AreRising, EndBy}
 use Rattle.trace_reader.proofs.NeedCounts.{count-same, count-sum, count-none, count-range}
 
--- Some run covers that table, which is `next` or behind it.
+-- Some run run_covers that table, which is `next` or behind it.
 abbrev pub any_later : ℕ → List Run → ℕ → ℕ → Bool
 any_later span runs next index = nat_le next index && any_covers span runs index
 
@@ -21,7 +21,7 @@ any_later span runs next index = nat_le next index && any_covers span runs index
 abbrev pub first : ℕ → Run → ℕ
 first span run = run.base / span
 
--- The table behind that of its last frame.
+-- The table after that of its last frame.
 abbrev pub past : ℕ → Run → ℕ
 past span run = (run.end - 1) / span + 1
 
@@ -31,8 +31,8 @@ tests_alike : (base end span i first last : ℕ) → (first < i + 1 → base < (
     → (nat_lt base ((i + 1) * span) && nat_lt (i * span) end) ≡ (nat_le first i && nat_lt i (last + 1))
 tests_alike base end span i first last a b c d lt = grind (arith, nat_tests)
 
--- a run covers the tables from that of its first frame to that of its last
-covers-range : (span i : ℕ) (run : Run) → 0 < span → run.base < run.end → covers span i run ≡ (nat_le (first span run) i && nat_lt i (past span run))
+-- a run run_covers the tables from that of its first frame to that of its last
+covers-range : (span i : ℕ) (run : Run) → 0 < span → run.base < run.end → run_covers span i run ≡ (nat_le (first span run) i && nat_lt i (past span run))
 covers-range span i run pos lt =
     let f = div-lt_iff_lt-mul {k = span} {x = run.base} {y = i + 1} pos in
     let l = le-div_iff_mul-le {k = span} {x = i} {y = run.end - 1} pos in
@@ -50,7 +50,7 @@ later_first : (base b i span : ℕ) (c d : Bool) → base ≤ b → (d ≡ true 
 later_first base b i span c true le rest e = rest refl
 later_first base b i span c false le rest e = grind (arith, nat_tests)
 
--- no later run covers a table in front of that of the first frame
+-- no later run run_covers a table in front of that of the first frame
 none_before : (span i base : ℕ) (rest : List Run) → All (λ r. base ≤ r.base) rest → any_covers span rest i ≡ true → base < (i + 1) * span
 none_before span i base [] all e = absurd (cc)
 none_before span i base (r ∷ rs) all e =
@@ -89,7 +89,7 @@ bits i next span run rest pos lt up =
     ap (λ m. cond (nat_le next i && (m || any_covers span rest i)) 1 0) (covers-range span i run pos lt)
     ∙ split_bits i next (first span run) (past span run) (any_covers span rest i) (order run.base run.end span pos lt) (none_sooner span i run rest pos up)
 
--- A run and those behind it: what it covers from `next` on, and what they cover behind that.
+-- A run and those behind it: what it run_covers from `next` on, and what they cover behind that.
 one_run : (n span next : ℕ) (run : Run) (rest : List Run) → 0 < span → run.base < run.end → run.end ≤ n * span → All (λ r. run.base ≤ r.base) rest
     → count_below n (any_later span (run ∷ rest) next)
     ≡ (past span run - max next (first span run)) + count_below n (any_later span rest (max next (past span run)))
@@ -105,27 +105,27 @@ no_lower : (run : Run) (rest : List Run) → AreRising (run ∷ rest) → All (�
 no_lower run rest up j d lt = up 0 (suc j) d (omega arith) (omega arith)
 
 -- the same of a list that begins so
-front : (n span next : ℕ) (run : Run) (rest left : List Run) → 0 < span → left ≡ run ∷ rest → All IsRun left → AreRising left → EndBy (n * span) left
+front : (n span next : ℕ) (run : Run) (rest left : List Run) → 0 < span → left ≡ run ∷ rest → All IsFrameRun left → AreRising left → EndBy (n * span) left
     → count_below n (any_later span left next)
     ≡ (past span run - max next (first span run)) + count_below n (any_later span rest (max next (past span run)))
 front n span next run rest left pos e runs up ends =
-    let R : List Run → Type 0 = λ l. All IsRun l in
+    let R : List Run → Type 0 = λ l. All IsFrameRun l in
     let U : List Run → Type 0 = λ l. AreRising l in
     let E : List Run → Type 0 = λ l. EndBy (n * span) l in
-    let is : IsRun run = All-head IsRun run rest (subst R e runs) in
+    let is : IsFrameRun run = All-head IsFrameRun run rest (subst R e runs) in
     ap (λ l. count_below n (any_later span l next)) e
     ∙ one_run n span next run rest pos is.0 (All-head (λ (r : Run). r.end ≤ n * span) run rest (subst E e ends)) (no_lower run rest (subst U e up))
 
 -- the same of the runs from k on
-step : (n span next k : ℕ) (d : Run) (runs : List Run) → 0 < span → k < length runs → All IsRun runs → AreRising runs → EndBy (n * span) runs
+step : (n span next k : ℕ) (d : Run) (runs : List Run) → 0 < span → k < length runs → All IsFrameRun runs → AreRising runs → EndBy (n * span) runs
     → count_below n (any_later span (drop k runs) next) ≡ (past span (get_or runs k d) - max next (first span (get_or runs k d)))
     + count_below n (any_later span (drop (k + 1) runs) (max next (past span (get_or runs k d))))
 step n span next k d runs pos lt all up ends =
-    front n span next (get_or runs k d) (drop (k + 1) runs) (drop k runs) pos (drop_more runs k d lt) (All-drop IsRun k runs all)
+    front n span next (get_or runs k d) (drop (k + 1) runs) (drop k runs) pos (drop_more runs k d lt) (All-drop IsFrameRun k runs all)
     (IsNonDecreasingBy-drop (λ (r : Run). r.base) k runs up) (All-drop (λ (r : Run). r.end ≤ n * span) k runs ends)
 
--- The step of the pass, where run k covers a new table.
-pub taken : (n span k : ℕ) (d : Run) (runs : List Run) (count next from count' next' all : ℕ) → 0 < span → k < length runs → All IsRun runs
+-- The step of the pass, where run k run_covers a new table.
+pub taken : (n span k : ℕ) (d : Run) (runs : List Run) (count next from count' next' all : ℕ) → 0 < span → k < length runs → All IsFrameRun runs
     → AreRising runs → EndBy (n * span) runs → from ≡ max next (first span (get_or runs k d)) → from < past span (get_or runs k d)
     → count' ≡ count + (past span (get_or runs k d) - from) → next' ≡ past span (get_or runs k d)
     → count + count_below n (any_later span (drop k runs) next) ≡ all → count' + count_below n (any_later span (drop (k + 1) runs) next') ≡ all
@@ -136,13 +136,13 @@ taken n span k d runs count next from count' next' all pos lt is up ends f new c
     ∙ ap (λ x. (past span (get_or runs k d) - max next (first span (get_or runs k d))) + count_below n (any_later span (drop (k + 1) runs) x)) m in
     omega (arith, s)
 
--- The step of the pass, where it covers none.
-pub passed : (n span k : ℕ) (d : Run) (runs : List Run) (count next from count' next' all : ℕ) → 0 < span → k < length runs → All IsRun runs
+-- The step of the pass, where it run_covers none.
+pub passed : (n span k : ℕ) (d : Run) (runs : List Run) (count next from count' next' all : ℕ) → 0 < span → k < length runs → All IsFrameRun runs
     → AreRising runs → EndBy (n * span) runs → from ≡ max next (first span (get_or runs k d)) → past span (get_or runs k d) ≤ from → count' ≡ count
     → next' ≡ next
     → count + count_below n (any_later span (drop k runs) next) ≡ all → count' + count_below n (any_later span (drop (k + 1) runs) next') ≡ all
 passed n span k d runs count next from count' next' all pos lt is up ends f old c e so_far =
-    let r : IsRun (get_or runs k d) = All-get_or IsRun runs k d lt is in
+    let r : IsFrameRun (get_or runs k d) = All-get_or IsFrameRun runs k d lt is in
     let o = order (get_or runs k d).base (get_or runs k d).end span pos r.0 in
     let m : max next (past span (get_or runs k d)) ≡ next' = omega arith in
     let s =

@@ -7,7 +7,7 @@ use Rattle.std.specs.declared.option.Option.{Option}
 use Rattle.std.specs.declared.option.Option.TheVariants.{Some, None}
 use Rattle.core_views.specs.Traces.{IsHeader}
 use Rattle.core_views.specs.declared.trace.Header.{Header}
-use Rattle.trace_reader.specs.Numbers.{number_of}
+use Rattle.trace_reader.specs.Numbers.{spelled_number}
 use Rattle.trace_reader.specs.Operands.{number, or_number, is_address, access_at, address, host_thread, vcpu, ◌>>=◌}
 use Rattle.trace_reader.specs.Grammar.{Spells}
 use Rattle.trace_reader.proofs.Results.{branch}
@@ -73,7 +73,7 @@ some_number (Some m) n e = cc
 
 pub number_found : (w : List ℕ) (n : ℕ) → number w ≡ Ok n → Spells w n
 unfolding number
-number_found w n e = spelling w n (some_number (number_of w) n e)
+number_found w n e = spelling w n (some_number (spelled_number w) n e)
 
 split_address : (words a gfn word : ℕ) → is_address words a ≡ true → a / 4096 ≡ gfn → a % 4096 / 8 ≡ word
     → (a ≡ 4096 * gfn + 8 * word) × (gfn < 2 ^ 36) × (word < words)
@@ -94,7 +94,7 @@ access_found words (Some a) x e = elim (branch (is_address words a) (Ok (a / 409
 
 pub address_found : (h : Header) (w : List ℕ) (x : ℕ × ℕ) → address h w ≡ Ok x → Spells w (4096 * x.0 + 8 * x.1) × (x.0 < 2 ^ 36) × (x.1 < h.words)
 unfolding address
-address_found h w x e = let f = access_found h.words (number_of w) x e in (spelling w (4096 * x.0 + 8 * x.1) f.0, f.1, f.2)
+address_found h w x e = let f = access_found h.words (spelled_number w) x e in (spelling w (4096 * x.0 + 8 * x.1) f.0, f.1, f.2)
 
 -- An error of it is `number`.
 abbrev pub IsNumber : {A : Type 0} → Result A Reason → Type 0
@@ -115,7 +115,7 @@ option_number (Some n) = tt
 
 pub number_number : (w : List ℕ) → IsNumber (number w)
 unfolding number
-number_number w = option_number (number_of w)
+number_number w = option_number (spelled_number w)
 
 access_number : (words : ℕ) (o : Option ℕ) → IsNumber (access_at words o)
 access_number words None = refl
@@ -123,4 +123,4 @@ access_number words (Some a) = fits (is_address words a) _
 
 pub address_number : (h : Header) (w : List ℕ) → IsNumber (address h w)
 unfolding address
-address_number h w = access_number h.words (number_of w)
+address_number h w = access_number h.words (spelled_number w)

@@ -13,7 +13,7 @@ use Rattle.core_views.specs.Traces.{IsHeader, AreHostsOf}
 use Rattle.core_views.specs.declared.trace.Header.{Header}
 use Rattle.trace_reader.specs.declared.reason.Reason.{Reason}
 use Rattle.trace_reader.specs.declared.header.Sizes.{Sizes}
-use Rattle.trace_reader.specs.Numbers.{number_of}
+use Rattle.trace_reader.specs.Numbers.{spelled_number}
 use Rattle.trace_reader.specs.Forms.{words_of}
 use Rattle.trace_reader.specs.Lines.{Raw, fault_of, after_checks}
 use Rattle.trace_reader.specs.Headers.{within, ranged, field, behind_version, are_sizes, sizes_of, rising, host_list, hosts_of, header_of}
@@ -32,7 +32,7 @@ within_range low high (Some m) n e = elim (branch (nat_le low m && nat_le m high
 
 ranged_range : (low high : ℕ) (w : List ℕ) (n : ℕ) → ranged low high w ≡ Ok n → (low ≤ n) × (n ≤ high)
 unfolding ranged
-ranged_range low high w n e = within_range low high (number_of w) n e
+ranged_range low high w n e = within_range low high (spelled_number w) n e
 
 field_range : (name : List ℕ) (low high : ℕ) (ws : List (List ℕ)) (x : ℕ × List (List ℕ)) → field name low high ws ≡ Ok x → (low ≤ x.0) × (x.0 ≤ high)
 unfolding field
@@ -171,7 +171,7 @@ same_number high (Some m) n first is is1 = elim (branch (nat_le 0 m && nat_le m 
 
 one_number : (high : ℕ) (w : List ℕ) (n first : ℕ) → ranged 0 0 w ≡ Ok n → ranged 0 high w ≡ Ok first → first ≡ 0
 unfolding ranged
-one_number high w n first is is1 = same_number high (number_of w) n first is is1
+one_number high w n first is is1 = same_number high (spelled_number w) n first is is1
 
 first_found : (high : ℕ) (w : List ℕ) (ws : List (List ℕ)) (ns : List ℕ) (n : ℕ) → ranged 0 0 w ≡ Ok n → rising 0 high (w ∷ ws) ≡ Ok ns
     → slice_get ns 0 ≡ Some 0

@@ -11,8 +11,8 @@ use Rattle.trace_reader.specs.declared.reason.Reason.{Reason}
 use Rattle.trace_reader.specs.declared.saying.Saying.{Saying}
 use Rattle.trace_reader.specs.declared.saying.Saying.TheVariants.{Does, Go, Schedules}
 use Rattle.trace_reader.specs.Forms.{is_empty}
-use Rattle.trace_reader.specs.Gathered.{lines_in}
-use Rattle.trace_reader.specs.Lines.{Raw, Told, after_checks, content, fault_of, line_of, lines_of, none_seen, onto, raw, with_line}
+use Rattle.trace_reader.specs.Gathered.{actor_lines}
+use Rattle.trace_reader.specs.Lines.{Raw, LineSaid, after_checks, content, fault_of, line_of, lines_of, none_seen, onto, raw, with_line}
 use Rattle.trace_reader.specs.Reading.{with_header}
 use Rattle.trace_reader.specs.Sayings.{Seen}
 use Rattle.trace_reader.proofs.Checks.{Judged, judged}
@@ -27,30 +27,30 @@ record RisesFrom (n : ℕ) (ns : List ℕ) : Type 0 where
   first : 0 < length ns → n ≤ get_or ns 0 0
   rising : IsStrictlyIncreasing ns
 
-abbrev AreRising : ℕ → Result (List Told) (ℕ × Reason) → Type 0
-AreRising n (Ok told) = RisesFrom n (numbers (lines_in told))
+abbrev AreRising : ℕ → Result (List LineSaid) (ℕ × Reason) → Type 0
+AreRising n (Ok told) = RisesFrom n (numbers (actor_lines told))
 AreRising n (Err e) = Unit {0}
 
 none : (n : ℕ) → RisesFrom n []
 none n = record { first = λ lt. absurd (omega arith); rising = λ k lt. absurd (omega arith) }
 
 -- Behind a line n, its number or none stands in front of those that follow.
-in_front : (n : ℕ) (s : Saying) (told : List Told) → RisesFrom (n + 1) (numbers (lines_in told)) → RisesFrom n (numbers (lines_in ((n, s) ∷ told)))
-in_front n (Does actor command) told rest = record { first = λ lt. omega arith; rising = more_rises n (numbers (lines_in told)) rest.first rest.rising }
+in_front : (n : ℕ) (s : Saying) (told : List LineSaid) → RisesFrom (n + 1) (numbers (actor_lines told)) → RisesFrom n (numbers (actor_lines ((n, s) ∷ told)))
+in_front n (Does actor command) told rest = record { first = λ lt. omega arith; rising = more_rises n (numbers (actor_lines told)) rest.first rest.rising }
 in_front n Go told rest = record { first = λ lt. let up = rest.first lt in omega (arith, up); rising = rest.rising }
 in_front n (Schedules item) told rest = record { first = λ lt. let up = rest.first lt in omega (arith, up); rising = rest.rising }
 
-weaker : (n : ℕ) (x : Result (List Told) (ℕ × Reason)) → AreRising (n + 1) x → AreRising n x
+weaker : (n : ℕ) (x : Result (List LineSaid) (ℕ × Reason)) → AreRising (n + 1) x → AreRising n x
 weaker n (Ok told) rest = record { first = λ lt. let up = rest.first lt in omega (arith, up); rising = rest.rising }
 weaker n (Err e) rest = tt
 
-onto_rises : (n : ℕ) (seen : Seen) (read : Result (Option Saying) Reason) (rest : Seen → Result (List Told) (ℕ × Reason))
+onto_rises : (n : ℕ) (seen : Seen) (read : Result (Option Saying) Reason) (rest : Seen → Result (List LineSaid) (ℕ × Reason))
     → ((now : Seen) → AreRising (n + 1) (rest now)) → AreRising n (onto n seen read rest)
 onto_rises n seen (Err r) rest all = tt
 onto_rises n seen (Ok None) rest all = weaker n (rest seen) (all seen)
 onto_rises n seen (Ok (Some s)) rest all = by (rest _) (all _)
   where
-    by : (x : Result (List Told) (ℕ × Reason)) → AreRising (n + 1) x → AreRising n (with_line n (Some s) x)
+    by : (x : Result (List LineSaid) (ℕ × Reason)) → AreRising (n + 1) x → AreRising n (with_line n (Some s) x)
     by (Err e) more = tt
     by (Ok told) more = in_front n s told more
 
@@ -70,7 +70,7 @@ abbrev HasRising : Result Trace (ℕ × Reason) → Type 0
 HasRising (Ok t) = IsStrictlyIncreasing (numbers t.lines)
 HasRising (Err e) = Unit {0}
 
-under_header : (h : Header) (n : ℕ) (x : Result (List Told) (ℕ × Reason)) → AreRising n x → HasRising (with_header h x)
+under_header : (h : Header) (n : ℕ) (x : Result (List LineSaid) (ℕ × Reason)) → AreRising n x → HasRising (with_header h x)
 under_header h n (Ok told) rising = rising.rising
 under_header h n (Err e) rising = tt
 
@@ -79,8 +79,8 @@ pub read_rising : (h : Header) (n at : ℕ) (parts : List (List ℕ)) (t : Trace
 read_rising h n at parts t is = subst HasRising is (under_header h n (lines_of h n at none_seen parts) (lines_rise h n at none_seen parts))
 
 -- So many lines, at most, have numbers from n on: the last number that a line may have is 1,000,000.
-abbrev AreFew : ℕ → Result (List Told) (ℕ × Reason) → Type 0
-AreFew n (Ok told) = length (lines_in told) ≤ 1000001 - n
+abbrev AreFew : ℕ → Result (List LineSaid) (ℕ × Reason) → Type 0
+AreFew n (Ok told) = length (actor_lines told) ≤ 1000001 - n
 AreFew n (Err e) = Unit {0}
 
 -- A line that says something has one of those numbers.
@@ -103,23 +103,23 @@ line_numbered h seen line = by (fault_of line) (judged line)
     by None passes = numbered line.number (content h seen line.bytes) passes.1
 
 -- Line n is one line more, or none.
-one_more_line : (n : ℕ) (s : Saying) (told : List Told) → n ≤ 1000000 → length (lines_in told) ≤ 1000001 - (n + 1)
-    → length (lines_in ((n, s) ∷ told)) ≤ 1000001 - n
+one_more_line : (n : ℕ) (s : Saying) (told : List LineSaid) → n ≤ 1000000 → length (actor_lines told) ≤ 1000001 - (n + 1)
+    → length (actor_lines ((n, s) ∷ told)) ≤ 1000001 - n
 one_more_line n (Does actor command) told le rest = omega arith
 one_more_line n Go told le rest = omega arith
 one_more_line n (Schedules item) told le rest = omega arith
 
-still_few : (n : ℕ) (x : Result (List Told) (ℕ × Reason)) → AreFew (n + 1) x → AreFew n x
+still_few : (n : ℕ) (x : Result (List LineSaid) (ℕ × Reason)) → AreFew (n + 1) x → AreFew n x
 still_few n (Ok told) rest = omega arith
 still_few n (Err e) rest = tt
 
-onto_few : (n : ℕ) (seen : Seen) (read : Result (Option Saying) Reason) (rest : Seen → Result (List Told) (ℕ × Reason)) → IsNumbered n read
+onto_few : (n : ℕ) (seen : Seen) (read : Result (Option Saying) Reason) (rest : Seen → Result (List LineSaid) (ℕ × Reason)) → IsNumbered n read
     → ((now : Seen) → AreFew (n + 1) (rest now)) → AreFew n (onto n seen read rest)
 onto_few n seen (Err r) rest le all = tt
 onto_few n seen (Ok None) rest le all = still_few n (rest seen) (all seen)
 onto_few n seen (Ok (Some s)) rest le all = by (rest _) (all _)
   where
-    by : (x : Result (List Told) (ℕ × Reason)) → AreFew (n + 1) x → AreFew n (with_line n (Some s) x)
+    by : (x : Result (List LineSaid) (ℕ × Reason)) → AreFew (n + 1) x → AreFew n (with_line n (Some s) x)
     by (Err e) more = tt
     by (Ok told) more = one_more_line n s told le more
 
@@ -139,7 +139,7 @@ abbrev HasFew : Result Trace (ℕ × Reason) → Type 0
 HasFew (Ok t) = length t.lines ≤ 1000000
 HasFew (Err e) = Unit {0}
 
-few_under_header : (h : Header) (n : ℕ) (x : Result (List Told) (ℕ × Reason)) → 1 ≤ n → AreFew n x → HasFew (with_header h x)
+few_under_header : (h : Header) (n : ℕ) (x : Result (List LineSaid) (ℕ × Reason)) → 1 ≤ n → AreFew n x → HasFew (with_header h x)
 few_under_header h n (Ok told) le few = omega arith
 few_under_header h n (Err e) le few = tt
 

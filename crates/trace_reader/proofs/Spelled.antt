@@ -9,7 +9,8 @@ use Rattle.std.specs.Int.{IsInRange}
 use Rattle.std.specs.List.{list_all}
 use Rattle.std.specs.declared.option.Option.{Option}
 use Rattle.std.specs.declared.option.Option.TheVariants.{Some, None}
-use Rattle.trace_reader.specs.Numbers.{is_digit, is_hex_digit, digit, value, value_after, fitting, has_no_needless_zero, decimal_number, hex_number, number_of}
+use Rattle.trace_reader.specs.Numbers.{is_digit, is_hex_digit, digit, value, value_after, if_small, has_no_needless_zero, decimal_number, hex_number}
+use Rattle.trace_reader.specs.Numbers.{spelled_number}
 use Rattle.trace_reader.specs.Grammar.{Spells}
 use Rattle.trace_reader.proofs.Results.{branch}
 
@@ -49,7 +50,7 @@ taken : (b : Bool) (x : Option ℕ) (n : ℕ) → cond b x None ≡ Some n → (
 taken true x n e = (refl, e)
 taken false x n e = cc
 
-fitted : (v n : ℕ) → fitting v ≡ Some n → (v ≡ n) × (v < 2 ^ 64)
+fitted : (v n : ℕ) → if_small v ≡ Some n → (v ≡ n) × (v < 2 ^ 64)
 fitted v n e = let t = taken (nat_lt v (2 ^ 64)) (Some v) n e in (cc, grind (arith, nat_tests, t.0))
 
 canonical : (ds : List ℕ) → has_no_needless_zero ds ≡ true → (0 < length ds) × (get_or ds 0 0 ≡ 48 → length ds ≡ 1)
@@ -62,7 +63,7 @@ canonical ds e =
 pub decimal_found : (ds : List ℕ) (n : ℕ) → decimal_number ds ≡ Some n → (n < 2 ^ 64) × (ds ≡ decimal n)
 unfolding value
 decimal_found ds n e =
-    let t = taken (has_no_needless_zero ds && list_all is_digit ds) (fitting (value_after 10 0 ds)) n e in
+    let t = taken (has_no_needless_zero ds && list_all is_digit ds) (if_small (value_after 10 0 ds)) n e in
     let b = both (has_no_needless_zero ds) (list_all is_digit ds) t.0 in
     let f = fitted (value_after 10 0 ds) n t.1 in
     let k = canonical ds b.0 in
@@ -90,11 +91,11 @@ skip true q x y z differs e = cc
 skip false q x y z differs e = e
 
 -- A word that is read in decimal does not begin with `0x`.
-plain_word : (w : List ℕ) (n : ℕ) → decimal_number w ≡ Some n → number_of w ≡ Some n
+plain_word : (w : List ℕ) (n : ℕ) → decimal_number w ≡ Some n → spelled_number w ≡ Some n
 plain_word [] n e = cc
 plain_word (a ∷ []) n e = e
 plain_word (a ∷ b ∷ ds) n e =
-    let t = taken (has_no_needless_zero (a ∷ b ∷ ds) && list_all is_digit (a ∷ b ∷ ds)) (fitting (value 10 (a ∷ b ∷ ds))) n e in
+    let t = taken (has_no_needless_zero (a ∷ b ∷ ds) && list_all is_digit (a ∷ b ∷ ds)) (if_small (value 10 (a ∷ b ∷ ds))) n e in
     let c = canonical (a ∷ b ∷ ds) (both (has_no_needless_zero (a ∷ b ∷ ds)) (list_all is_digit (a ∷ b ∷ ds)) t.0).0 in
     let other : (a ≡ 48) → ⊥ = λ is. (let two : length (a ∷ b ∷ ds) ≡ 1 = c.1 is in absurd (omega arith)) in
     skip (a == 48) (b == 120) (hex_number ds) (decimal_number (a ∷ b ∷ ds)) (Some n) (grind (arith, nat_tests, other)) e
@@ -109,18 +110,18 @@ hex_read ds n lt low high all v =
 hex_found : (ds : List ℕ) (n : ℕ) → hex_number ds ≡ Some n
     → (n < 2 ^ 64) × (1 ≤ length ds) × (length ds ≤ 16) × (list_all is_hex_digit ds ≡ true) × (value 16 ds ≡ n)
 hex_found ds n e =
-    let t = taken (nat_lt 0 (length ds) && nat_lt (length ds) 17 && list_all is_hex_digit ds) (fitting (value 16 ds)) n e in
+    let t = taken (nat_lt 0 (length ds) && nat_lt (length ds) 17 && list_all is_hex_digit ds) (if_small (value 16 ds)) n e in
     let b = both (nat_lt 0 (length ds) && nat_lt (length ds) 17) (list_all is_hex_digit ds) t.0 in
     let l = both (nat_lt 0 (length ds)) (nat_lt (length ds) 17) b.0 in
     let f = fitted (value 16 ds) n t.1 in
     (subst (λ (m : ℕ). m < 2 ^ 64) f.0 f.1, grind (arith, nat_tests, l.0), grind (arith, nat_tests, l.1), b.1, f.0)
 
 -- A word that spells a number is read, and a word that is read spells its number.
-pub spelled : (w : List ℕ) (n : ℕ) → Spells w n → number_of w ≡ Some n
+pub spelled : (w : List ℕ) (n : ℕ) → Spells w n → spelled_number w ≡ Some n
 spelled w n (lt, inl e) = rw e (plain_word (decimal n) n (decimal_only n lt))
 spelled w n (lt, inr (ds, e, low, high, all, v)) = rw e (hex_read ds n lt low high all v)
 
-pub spelling : (w : List ℕ) (n : ℕ) → number_of w ≡ Some n → Spells w n
+pub spelling : (w : List ℕ) (n : ℕ) → spelled_number w ≡ Some n → Spells w n
 spelling [] n e = cc
 spelling (a ∷ []) n e = let d = decimal_found (a ∷ []) n e in (d.0, inl d.1)
 spelling (a ∷ b ∷ ds) n e = elim (branch (a == 48 && b == 120) (hex_number ds) (decimal_number (a ∷ b ∷ ds)) (Some n) e) [

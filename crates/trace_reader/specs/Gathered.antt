@@ -7,7 +7,7 @@ use Rattle.core_views.specs.declared.trace.Line.{Line}
 use Rattle.core_views.specs.declared.trace.Trace.{Trace}
 use Rattle.trace_reader.specs.declared.saying.Saying.{Saying}
 use Rattle.trace_reader.specs.declared.saying.Saying.TheVariants.{Does, Go, Schedules}
-use Rattle.trace_reader.specs.Lines.{Told}
+use Rattle.trace_reader.specs.Lines.{LineSaid}
 
 -- before these lines that of line n, if it is an actor's
 abbrev pub or_line : ℕ → Saying → List Line → List Line
@@ -16,23 +16,23 @@ or_line n Go lines = lines
 or_line n (Schedules item) lines = lines
 
 -- the lines of actors, in file order
-abbrev pub lines_in : List Told → List Line
-lines_in [] = []
-lines_in (t ∷ told) = or_line t.0 t.1 (lines_in told)
+abbrev pub actor_lines : List LineSaid → List Line
+actor_lines [] = []
+actor_lines (t ∷ told) = or_line t.0 t.1 (actor_lines told)
 
 -- one more than this, if it is there
-abbrev pub one_more : Option ℕ → Option ℕ
-one_more None = None
-one_more (Some n) = Some (n + 1)
+abbrev pub one_more_if : Option ℕ → Option ℕ
+one_more_if None = None
+one_more_if (Some n) = Some (n + 1)
 
 -- how many lines stand above `go`, where so many of those behind this line do
 abbrev pub or_go : Saying → Option ℕ → Option ℕ
-or_go (Does actor command) above = one_more above
+or_go (Does actor command) above = one_more_if above
 or_go Go above = Some 0
 or_go (Schedules item) above = above
 
 -- how many lines of actors stand above `go`, if it is there
-abbrev pub go_in : List Told → Option ℕ
+abbrev pub go_in : List LineSaid → Option ℕ
 go_in [] = None
 go_in (t ∷ told) = or_go t.1 (go_in told)
 
@@ -43,12 +43,12 @@ or_item Go items = items
 or_item (Schedules item) items = item ∷ items
 
 -- the items of the schedule, in file order
-abbrev pub items_in : List Told → List Item
+abbrev pub items_in : List LineSaid → List Item
 items_in [] = []
 items_in (t ∷ told) = or_item t.1 (items_in told)
 
 -- The trace has what its lines say.
-pub record Gathers (t : Trace) (told : List Told) : Type 0 where
-  pub lines : t.lines ≡ lines_in told
+pub record Gathers (t : Trace) (told : List LineSaid) : Type 0 where
+  pub lines : t.lines ≡ actor_lines told
   pub go : t.go ≡ go_in told
   pub items : t.items ≡ items_in told

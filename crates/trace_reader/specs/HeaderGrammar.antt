@@ -7,7 +7,7 @@ use Rattle.trace_reader.specs.declared.reason.Reason.TheVariants as reason
 use Rattle.trace_reader.specs.Headers.{header_of}
 use Rattle.trace_reader.specs.Grammar.{Spells}
 
--- The words behind a header's labels.
+-- The words after a header's labels.
 pub record HeaderWords : Type 0 where
   pub vcpus : List ℕ
   pub workers : List ℕ

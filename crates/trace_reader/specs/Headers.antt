@@ -7,7 +7,7 @@ use Rattle.core_views.specs.declared.trace.Header.{Header}
 use Rattle.trace_reader.specs.declared.reason.Reason.{Reason}
 use Rattle.trace_reader.specs.declared.reason.Reason.TheVariants as reason
 use Rattle.trace_reader.specs.declared.header.Sizes.{Sizes}
-use Rattle.trace_reader.specs.Numbers.{number_of}
+use Rattle.trace_reader.specs.Numbers.{spelled_number}
 use Rattle.trace_reader.specs.Operands.{◌>>=◌}
 
 -- the function of the value, or the refusal
@@ -22,9 +22,9 @@ within low high (Some n) = if nat_le low n && nat_le n high then Ok n else Err r
 
 -- the number from low to high that the word spells
 unfoldable pub ranged : ℕ → ℕ → List ℕ → Result ℕ Reason
-ranged low high w = within low high (number_of w)
+ranged low high w = within low high (spelled_number w)
 
--- a label, its number from low to high, and the words behind them
+-- a label, its number from low to high, and the words after them
 unfoldable pub field : List ℕ → ℕ → ℕ → List (List ℕ) → Result (ℕ × List (List ℕ)) Reason
 field name low high (label ∷ w ∷ rest) = if bytes_eq label name then (ranged low high w >>= λ n. Ok (n, rest)) else Err reason.Header
 field name low high _ = Err reason.Header
@@ -38,7 +38,7 @@ behind_version _ = Err reason.Header
 unfoldable pub are_sizes : ℕ → ℕ → Bool
 are_sizes frames words = (words == 1 || words == 2 || words == 4 || words == 8) && nat_le (frames * words) 8388608
 
--- the sizes, and the words behind them
+-- the sizes, and the words after them
 unfoldable pub sizes_of : List (List ℕ) → Result (Sizes × List (List ℕ)) Reason
 sizes_of words = do
   rest ← behind_version words

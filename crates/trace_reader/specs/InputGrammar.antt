@@ -8,7 +8,7 @@ use Rattle.trace_reader.specs.declared.reason.Reason.{Reason}
 use Rattle.trace_reader.specs.declared.reason.Reason.TheVariants as reason
 use Rattle.trace_reader.specs.declared.saying.Saying.{Saying}
 use Rattle.trace_reader.specs.Sayings.{Seen, is_there}
-use Rattle.trace_reader.specs.Lines.{Raw, Told, none_seen, seen_with}
+use Rattle.trace_reader.specs.Lines.{Raw, LineSaid, none_seen, seen_with}
 use Rattle.trace_reader.specs.Forms.{sets_at}
 use Rattle.trace_reader.specs.Gathered.{Gathers}
 use Rattle.trace_reader.specs.Reading.{reading}
@@ -17,7 +17,7 @@ use Rattle.trace_reader.specs.Grammar.{spaced}
 use Rattle.trace_reader.specs.LineGrammar.{SaysLine}
 use Rattle.trace_reader.specs.HeaderGrammar.{IsHeaderSaid}
 
--- the bytes of lines with these texts: LF stands behind each
+-- the bytes of lines with these texts: LF stands after each
 abbrev pub with_ends : List (List ℕ) → List ℕ
 with_ends [] = []
 with_ends (text ∷ texts) = text ++ 10 ∷ with_ends texts
@@ -40,18 +40,18 @@ SaysHeader text h = (words : List (List ℕ)) × (text ≡ spaced words) × IsHe
 
 -- The texts of the lines from line n on say this: a skipped one says nothing, and each other one says something.
 -- `seen`: what the lines before them say.
-abbrev pub SayLines : Header → ℕ → Seen → List (List ℕ) → List Told → Type 0
+abbrev pub SayLines : Header → ℕ → Seen → List (List ℕ) → List LineSaid → Type 0
 SayLines h n seen [] told = told ≡ []
 SayLines h n seen (text ∷ texts) told =
     IsText text × ((IsSkipped text × SayLines h (n + 1) seen texts told) ⊎ ((IsSkipped text → ⊥)
-    × ((s : Saying) × (more : List Told) × (told ≡ (n, s) ∷ more) × SaysLine h seen text s × SayLines h (n + 1) (seen_with seen s) texts more)))
+    × ((s : Saying) × (more : List LineSaid) × (told ≡ (n, s) ∷ more) × SaysLine h seen text s × SayLines h (n + 1) (seen_with seen s) texts more)))
 
 -- The texts of an input's lines say the trace: the first its header, the others its lines, `go` and its items.
 abbrev pub SayTrace : List (List ℕ) → Trace → Type 0
 SayTrace [] t = ⊥
 SayTrace (first ∷ texts) t =
     (length (with_ends (first ∷ texts)) ≤ 16777216) × (length (first ∷ texts) ≤ 1000000) × IsText first × SaysHeader first t.header
-    × ((told : List Told) × SayLines t.header 2 none_seen texts told × Gathers t told)
+    × ((told : List LineSaid) × SayLines t.header 2 none_seen texts told × Gathers t told)
 
 -- The bytes of an input say the trace.
 abbrev pub SaysTrace : List ℕ → Trace → Type 0
@@ -88,7 +88,7 @@ HeaderFails line r = FailsFirst line r ⊎ (PassesAll line × (r ≡ reason.Head
 abbrev pub LineFails : Header → Seen → Raw → Reason → Type 0
 LineFails h seen line r = FailsFirst line r ⊎ (PassesAll line × (IsSkipped line.bytes → ⊥) × SaysNothingFor h seen line.bytes r)
 
--- the line with this text that stands behind lines with these texts
+-- the line with this text that stands after lines with these texts
 abbrev pub line_behind : List (List ℕ) → List ℕ → Bool → Raw
 line_behind before text ended = record {
   number = length before + 1;
@@ -101,11 +101,11 @@ line_behind before text ended = record {
 abbrev pub set_by : List Line → ℕ → Bool
 set_by lines id = list_any (λ l. sets_at id l.command) lines
 
--- what the lines of a trace say that a line behind them is judged by
+-- what the lines of a trace say that a line after them is judged by
 abbrev pub seen_in : Trace → Seen
 seen_in t = record { ids = set_by t.lines; go = is_there t.go }
 
--- Behind lines with these texts a line with this text stands in the input: LF ends it, or nothing stands behind it.
+-- After lines with these texts a line with this text stands in the input: LF ends it, or nothing stands after it.
 abbrev pub HasLine : List ℕ → List (List ℕ) → List ℕ → Bool → Type 0
 HasLine input before text true = All (λ b. b ≡ 10 → ⊥) text × ((behind : List ℕ) × (input ≡ with_ends before ++ (text ++ 10 ∷ behind)))
 HasLine input before text false = All (λ b. b ≡ 10 → ⊥) text × (input ≡ with_ends before ++ text)

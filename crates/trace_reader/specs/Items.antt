@@ -11,7 +11,7 @@ use Rattle.core_views.specs.declared.trace.Until.{Until}
 use Rattle.core_views.specs.declared.trace.Until.TheVariants.{Turns, Answered, Made}
 use Rattle.trace_reader.specs.declared.reason.Reason.{Reason}
 use Rattle.trace_reader.specs.declared.reason.Reason.TheVariants as reason
-use Rattle.trace_reader.specs.Numbers.{is_digit, number_of}
+use Rattle.trace_reader.specs.Numbers.{is_digit, spelled_number}
 use Rattle.trace_reader.specs.Operands.{◌>>=◌, indexed}
 
 -- the names of the kinds of step, in the order of their numbers, from 1
@@ -53,7 +53,7 @@ made (Some code) = Ok (Made code)
 -- until when the turns go on, by the last word: a number of turns, `end`, or the name of a kind of step
 unfoldable pub until_said : List ℕ → Result Until Reason
 until_said w =
-    if begins is_digit w then turns (number_of w) else
+    if begins is_digit w then turns (spelled_number w) else
     if bytes_eq w (codes "end") then Ok Answered else
     made (kind_number w)
 

@@ -1,4 +1,4 @@
--- What a line behind the header says, with no order of checks; and that the reader takes just this.
+-- What a line after the header says, with no order of checks; and that the reader takes just this.
 use Rattle.std.specs.Prelude.{◌≡◌, ◌+◌, ◌⊎◌, ◌++◌, ℕ, List, [], ◌∷◌, codes, true, false, length, Ok}
 use Rattle.core_views.specs.Text.{actor_name}
 use Rattle.core_views.specs.Traces.{IsHeader}

@@ -1,4 +1,4 @@
--- What the lines behind the header say, one after the other.
+-- What the lines after the header say, one after the other.
 use Rattle.std.specs.Prelude.{◌+◌, ℕ, List, [], ◌∷◌, Bool, true, false, ◌&&◌, ◌||◌, length, nat_le, ◌==◌, if◌then◌else◌, Result, Ok, Err}
 use Rattle.std.specs.List.{slice_split, list_all}
 use Rattle.std.specs.declared.option.Option.{Option}
@@ -28,9 +28,9 @@ abbrev pub is_plain : ℕ → Bool
 is_plain b = nat_le 32 b && nat_le b 126
 
 -- the reason of the first check that fails
-abbrev pub first_of : List (Bool × Reason) → Option Reason
-first_of [] = None
-first_of ((holds, r) ∷ checks) = if holds then first_of checks else Some r
+abbrev pub first_failing : List (Bool × Reason) → Option Reason
+first_failing [] = None
+first_failing ((holds, r) ∷ checks) = if holds then first_failing checks else Some r
 
 -- the checks before a line's words are looked at, in their order
 abbrev pub checks : Raw → List (Bool × Reason)
@@ -44,7 +44,7 @@ checks raw =
 
 -- the first of these checks that a line fails
 unfoldable pub fault_of : Raw → Option Reason
-fault_of raw = first_of (checks raw)
+fault_of raw = first_failing (checks raw)
 
 -- what was read, unless a check failed before
 abbrev pub after_checks : {A : Type 0} → Option Reason → Result A Reason → Result A Reason
@@ -60,7 +60,7 @@ is_skipped (b ∷ bs) = b == 35
 unfoldable pub content : Header → Seen → List ℕ → Result (Option Saying) Reason
 content h seen bytes = if is_skipped bytes then Ok None else (said h seen bytes >>= λ s. Ok (Some s))
 
--- what a line behind the header says
+-- what a line after the header says
 unfoldable pub line_of : Header → Seen → Raw → Result (Option Saying) Reason
 line_of h seen raw = after_checks (fault_of raw) (content h seen raw.bytes)
 
@@ -80,17 +80,17 @@ seen_after seen None = seen
 seen_after seen (Some s) = seen_with seen s
 
 -- a line's number, and what it says
-abbrev pub Told : Type 0
-Told = ℕ × Saying
+abbrev pub LineSaid : Type 0
+LineSaid = ℕ × Saying
 
 -- what line n says in front of what those that follow say, or a refusal of those
-abbrev pub with_line : ℕ → Option Saying → Result (List Told) (ℕ × Reason) → Result (List Told) (ℕ × Reason)
+abbrev pub with_line : ℕ → Option Saying → Result (List LineSaid) (ℕ × Reason) → Result (List LineSaid) (ℕ × Reason)
 with_line n None rest = rest
 with_line n (Some s) (Ok told) = Ok ((n, s) ∷ told)
 with_line n (Some s) (Err e) = Err e
 
--- what line n gives and what the lines behind it say, or the first refusal: its line and the reason
-abbrev pub onto : ℕ → Seen → Result (Option Saying) Reason → (Seen → Result (List Told) (ℕ × Reason)) → Result (List Told) (ℕ × Reason)
+-- what line n gives and what the lines after it say, or the first refusal: its line and the reason
+abbrev pub onto : ℕ → Seen → Result (Option Saying) Reason → (Seen → Result (List LineSaid) (ℕ × Reason)) → Result (List LineSaid) (ℕ × Reason)
 onto n seen (Err r) rest = Err (n, r)
 onto n seen (Ok found) rest = with_line n found (rest (seen_after seen found))
 
@@ -99,7 +99,7 @@ abbrev pub raw : ℕ → ℕ → Bool → List ℕ → Raw
 raw n at ended bytes = record { number = n; end = at + (length bytes + (if ended then 1 else 0)); ended_by_lf = ended; bytes = bytes }
 
 -- what these parts say, of which the first has number n and stands behind `at` bytes; `seen`: what the lines before them say
-unfoldable pub lines_of : Header → ℕ → ℕ → Seen → List (List ℕ) → Result (List Told) (ℕ × Reason)
+unfoldable pub lines_of : Header → ℕ → ℕ → Seen → List (List ℕ) → Result (List LineSaid) (ℕ × Reason)
 lines_of h n at seen [] = Ok []
 lines_of h n at seen (last ∷ []) = if is_empty last then Ok [] else onto n seen (line_of h seen (raw n at false last)) (λ now. Ok [])
 lines_of h n at seen (x ∷ y ∷ more) = onto n seen (line_of h seen (raw n at true x)) (λ now. lines_of h (n + 1) (at + (length x + 1)) now (y ∷ more))

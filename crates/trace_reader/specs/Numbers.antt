@@ -16,7 +16,7 @@ is_hex_digit c = is_digit c || (nat_le 97 c && nat_le c 102)
 abbrev pub digit : ℕ → ℕ
 digit c = if nat_le c 57 then c - 48 else c - 87
 
--- the value of the digits behind those that give n
+-- the value of the digits after those that give n
 abbrev pub value_after : ℕ → ℕ → List ℕ → ℕ
 value_after radix n [] = n
 value_after radix n (c ∷ cs) = value_after radix (n * radix + digit c) cs
@@ -26,8 +26,8 @@ unfoldable pub value : ℕ → List ℕ → ℕ
 value radix ds = value_after radix 0 ds
 
 -- a number below 2 ^ 64
-abbrev pub fitting : ℕ → Option ℕ
-fitting n = if nat_lt n (2 ^ 64) then Some n else None
+abbrev pub if_small : ℕ → Option ℕ
+if_small n = if nat_lt n (2 ^ 64) then Some n else None
 
 -- It does not begin with `0`, unless it is `0`.
 abbrev pub has_no_needless_zero : List ℕ → Bool
@@ -35,14 +35,14 @@ has_no_needless_zero ds = nat_lt 0 (length ds) && (nat_lt (length ds) 2 || not (
 
 -- the number that a word spells in decimal
 abbrev pub decimal_number : List ℕ → Option ℕ
-decimal_number ds = if has_no_needless_zero ds && list_all is_digit ds then fitting (value 10 ds) else None
+decimal_number ds = if has_no_needless_zero ds && list_all is_digit ds then if_small (value 10 ds) else None
 
 -- the number that 1 to 16 hexadecimal digits spell
 abbrev pub hex_number : List ℕ → Option ℕ
-hex_number ds = if nat_lt 0 (length ds) && nat_lt (length ds) 17 && list_all is_hex_digit ds then fitting (value 16 ds) else None
+hex_number ds = if nat_lt 0 (length ds) && nat_lt (length ds) 17 && list_all is_hex_digit ds then if_small (value 16 ds) else None
 
 -- the number that a word spells: in decimal, or in hexadecimal behind `0x`
-abbrev pub number_of : List ℕ → Option ℕ
-number_of [] = None
-number_of (a ∷ []) = decimal_number (a ∷ [])
-number_of (a ∷ b ∷ ds) = if a == 48 && b == 120 then hex_number ds else decimal_number (a ∷ b ∷ ds)
+abbrev pub spelled_number : List ℕ → Option ℕ
+spelled_number [] = None
+spelled_number (a ∷ []) = decimal_number (a ∷ [])
+spelled_number (a ∷ b ∷ ds) = if a == 48 && b == 120 then hex_number ds else decimal_number (a ∷ b ∷ ds)

@@ -5,7 +5,7 @@ use Rattle.std.specs.declared.option.Option.TheVariants.{Some, None}
 use Rattle.core_views.specs.declared.trace.Header.{Header}
 use Rattle.trace_reader.specs.declared.reason.Reason.{Reason}
 use Rattle.trace_reader.specs.declared.reason.Reason.TheVariants as reason
-use Rattle.trace_reader.specs.Numbers.{number_of, decimal_number}
+use Rattle.trace_reader.specs.Numbers.{spelled_number, decimal_number}
 
 infixl 10 ◌>>=◌
 -- the first refusal, or what the second step gives
@@ -20,7 +20,7 @@ or_number (Some x) = Ok x
 
 -- the number that the word spells
 unfoldable pub number : List ℕ → Result ℕ Reason
-number w = or_number (number_of w)
+number w = or_number (spelled_number w)
 
 -- the address of a content word, where each page has this many
 abbrev pub is_address : ℕ → ℕ → Bool
@@ -33,7 +33,7 @@ access_at words (Some a) = if is_address words a then Ok (a / 4096, a % 4096 / 8
 
 -- the guest frame and the content word of the address that the word spells
 unfoldable pub address : Header → List ℕ → Result (ℕ × ℕ) Reason
-address h w = access_at h.words (number_of w)
+address h w = access_at h.words (spelled_number w)
 
 -- an index that an actor's name may have, below the count of those that are declared
 abbrev pub declared : ℕ → ℕ → Option ℕ → Result ℕ Reason

@@ -13,24 +13,24 @@ use Rattle.trace_reader.specs.declared.outcome.Read.{Read}
 use Rattle.trace_reader.specs.declared.outcome.Read.TheVariants as outcome
 use Rattle.trace_reader.specs.Headers.{header_of}
 use Rattle.trace_reader.specs.Forms.{words_of}
-use Rattle.trace_reader.specs.Lines.{Raw, Told, parts_of, fault_of, after_checks, lines_of, none_seen}
-use Rattle.trace_reader.specs.Gathered.{lines_in, go_in, items_in}
+use Rattle.trace_reader.specs.Lines.{Raw, LineSaid, parts_of, fault_of, after_checks, lines_of, none_seen}
+use Rattle.trace_reader.specs.Gathered.{actor_lines, go_in, items_in}
 
 -- what line 1 says
 unfoldable pub head_of : Raw → Result Header Reason
 head_of line = after_checks (fault_of line) (header_of (words_of line.bytes))
 
--- the trace of this header and what the lines behind it say
-abbrev pub trace_of : Header → List Told → Trace
-trace_of h told = record { header = h; lines = lines_in told; go = go_in told; items = items_in told }
+-- the trace of this header and what the lines after it say
+abbrev pub trace_of : Header → List LineSaid → Trace
+trace_of h told = record { header = h; lines = actor_lines told; go = go_in told; items = items_in told }
 
 -- the same, or the first refusal of these lines
-abbrev pub with_header : Header → Result (List Told) (ℕ × Reason) → Result Trace (ℕ × Reason)
+abbrev pub with_header : Header → Result (List LineSaid) (ℕ × Reason) → Result Trace (ℕ × Reason)
 with_header h (Ok told) = Ok (trace_of h told)
 with_header h (Err e) = Err e
 
--- the header and what stands behind it, or the refusal of line 1
-abbrev pub under : Result Header Reason → (Header → Result (List Told) (ℕ × Reason)) → Result Trace (ℕ × Reason)
+-- the header and what stands after it, or the refusal of line 1
+abbrev pub under : Result Header Reason → (Header → Result (List LineSaid) (ℕ × Reason)) → Result Trace (ℕ × Reason)
 under (Err r) rest = Err (1, r)
 under (Ok h) rest = with_header h (rest h)
 
@@ -70,7 +70,7 @@ Outcome before after ended (Ok (outcome.Refused line r)) = (input : List ℕ) ×
 Outcome before after ended (Ok outcome.ReadFault) = (taken : List ℕ) × Consumes before after taken × (length taken ≤ 16777216)
 Outcome before after ended (Err e) = (taken : List ℕ) × Consumes before after taken × (length taken ≤ 16777217)
 
--- What reading a source of these bytes answers. Bytes behind the first 16777217 are not looked at.
+-- What reading a source of these bytes answers. Bytes after the first 16777217 are not looked at.
 abbrev pub Answers : List ℕ → Result Read NoMemory → Type 0
 Answers input (Ok (outcome.Trace t)) = reading (take 16777217 input) ≡ Ok t
 Answers input (Ok (outcome.Refused line r)) = reading (take 16777217 input) ≡ Err (line, r)

@@ -1,4 +1,4 @@
--- What a line behind the header says, by its words.
+-- What a line after the header says, by its words.
 use Rattle.std.specs.Prelude.{ℕ, List, [], ◌∷◌, Bool, true, false, if◌then◌else◌, codes, Result, Ok, Err}
 use Rattle.std.specs.BTreeSet.{contains}
 use Rattle.std.specs.List.{list_any}

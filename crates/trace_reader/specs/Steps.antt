@@ -24,22 +24,22 @@ Fails n errors.NoMemory read = Unit {0}
 Fails n (errors.Refused line r) read = (line ≡ n) × (read ≡ Err r)
 
 -- What a function returned for line n, seen by view, is what reading gives, unless memory ran out.
-abbrev pub Gives : {X Y : Type 0} → ℕ → (X → Y) → Result X ReadError → Result Y Reason → Type 0
-Gives n view (Ok x) read = read ≡ Ok (view x)
-Gives n view (Err e) read = Fails n e read
+abbrev pub ReadsTo : {X Y : Type 0} → ℕ → (X → Y) → Result X ReadError → Result Y Reason → Type 0
+ReadsTo n view (Ok x) read = read ≡ Ok (view x)
+ReadsTo n view (Err e) read = Fails n e read
 
 -- The same, where the refusal names its line.
-abbrev pub Tells : {X Y : Type 0} → (X → Y) → Result X ReadError → Result Y (ℕ × Reason) → Type 0
-Tells view (Ok x) read = read ≡ Ok (view x)
-Tells view (Err errors.NoMemory) read = Unit {0}
-Tells view (Err (errors.Refused line r)) read = read ≡ Err (line, r)
+abbrev pub NamesLine : {X Y : Type 0} → (X → Y) → Result X ReadError → Result Y (ℕ × Reason) → Type 0
+NamesLine view (Ok x) read = read ≡ Ok (view x)
+NamesLine view (Err errors.NoMemory) read = Unit {0}
+NamesLine view (Err (errors.Refused line r)) read = read ≡ Err (line, r)
 
--- the lines, with that of line n behind them, if it is an actor's
+-- the lines, with that of line n after them, if it is an actor's
 abbrev pub with_found : List Line → ℕ → Option Saying → List Line
 with_found lines n (Some (Does actor command)) = lines ++ record { number = n; actor = actor; command = command } ∷ []
 with_found lines n _ = lines
 
--- the items, with the one that was found behind them
+-- the items, with the one that was found after them
 abbrev pub with_item : List Item → Option Saying → List Item
 with_item items (Some (Schedules item)) = items ++ item ∷ []
 with_item items _ = items
@@ -49,7 +49,7 @@ abbrev pub with_go : ℕ → Option ℕ → Option Saying → Option ℕ
 with_go count go (Some Go) = Some count
 with_go count go _ = go
 
--- What line n says was put behind what those before it say.
+-- What line n says was put after what those before it say.
 pub record IsPut (before after : Body) (n : ℕ) (found : Option Saying) : Type 0 where
   pub lines : after.lines.items ≡ with_found before.lines.items n found
   pub items : after.items.items ≡ with_item before.items.items found
@@ -57,11 +57,11 @@ pub record IsPut (before after : Body) (n : ℕ) (found : Option Saying) : Type 
   pub ids : (id : ℕ) → contains nat_cmp after.before.ids id ≡ (seen_after (seen_of before.before) found).ids id
 
 -- The same, unless memory ran out.
-abbrev pub Puts : Body → Body → ℕ → Option Saying → Result (Unit {0}) ReadError → Type 0
-Puts before after n found (Ok u) = IsPut before after n found
-Puts before after n found (Err e) = e ≡ errors.NoMemory
+abbrev pub PutsSaying : Body → Body → ℕ → Option Saying → Result (Unit {0}) ReadError → Type 0
+PutsSaying before after n found (Ok u) = IsPut before after n found
+PutsSaying before after n found (Err e) = e ≡ errors.NoMemory
 
--- the trace of this header and what was read behind it
+-- the trace of this header and what was read after it
 abbrev pub trace_with : Header → Body → Trace
 trace_with h b = record { header = h; lines = b.lines.items; go = b.before.go; items = b.items.items }
 

@@ -1,7 +1,7 @@
 ghost use Rattle.std.specs.Prelude.{◌≡◌, ◌<◌, ◌^◌, ℕ, [], None, false, length};
 ghost use Rattle.std.specs.BTreeSet.{contains};
 ghost use Rattle.std.specs.Ordering.{nat_cmp};
-ghost use Rattle.trace_reader.specs.Steps.{Puts, trace_with};
+ghost use Rattle.trace_reader.specs.Steps.{PutsSaying, trace_with};
 
 use crate::form::slot_id;
 use crate::refusal::ReadError;
@@ -19,7 +19,7 @@ pub struct Before {
     pub go: Option<u32>,
 }
 
-/// What was read behind the header.
+/// What was read after the header.
 #[derive(Drop)]
 pub struct Body {
     pub lines: Vec<Line>,
@@ -49,7 +49,7 @@ impl Body {
     /// Puts what line `number` says behind what those before it say.
     pub fn put(&mut self, number: u32, found: Option<Saying>) -> Result<(), ReadError>
         requires { length self.now.lines.items < 2 ^ 32 }
-        ensures { Puts self.old self.new number found result }
+        ensures { PutsSaying self.old self.new number found result }
     {
         match found {
             None => {}

@@ -3,7 +3,7 @@ ghost use Rattle.trace_reader.specs.LineGrammar.{ReadsWhatIsSaid, ReadsNothingEl
 ghost use Rattle.trace_reader.specs.InputGrammar.{ReadsTheTrace, ReadsNoOtherTrace, RefusesWhereItFails, RefusesNowhereElse};
 ghost use Rattle.trace_reader.specs.HeaderGrammar.{ReadsTheHeader, ReadsNoOtherHeader, RefusesOtherFirstLines};
 
-/// The laws of the lines behind the header: the reader takes the bytes that say
+/// The laws of the lines after the header: the reader takes the bytes that say
 /// an actor's command, `go` or an item of the schedule, gives just these, and
 /// refuses the rest: as `word` exactly where they are of no form or a second
 /// `go`, else as `actor` exactly where the header doesn't declare the form's

@@ -1,6 +1,6 @@
 ghost use Rattle.std.specs.Prelude.{◌≡◌, ◌≤◌, ◌<◌, ◌^◌, IfOk, map};
 ghost use Rattle.trace_reader.specs.Headers.{ranged, field, behind_version, mapped, are_sizes, sizes_of, rising, host_list, hosts_of, header_of};
-ghost use Rattle.trace_reader.specs.Steps.{Gives};
+ghost use Rattle.trace_reader.specs.Steps.{ReadsTo};
 
 use crate::Reason;
 use crate::form::is;
@@ -74,7 +74,7 @@ fn are_sizes_of(frames: u64, words: u64) -> bool
     }
 }
 
-/// The sizes, and the words behind them.
+/// The sizes, and the words after them.
 #[tactic(auto, unfolding(crate::specs::Headers::sizes_of))]
 fn read_sizes<'a, 'b>(words: &'a [&'b [u8]]) -> Result<(Sizes, &'a [&'b [u8]]), Reason>
     ensures value { mapped (λ x. (x.0, map (λ w. w.now) x.1.now)) result ≡ sizes_of (map (λ w. w.now) words.now) }
@@ -110,7 +110,7 @@ fn read_sizes<'a, 'b>(words: &'a [&'b [u8]]) -> Result<(Sizes, &'a [&'b [u8]]), 
 /// Strictly rising numbers up to `high`, one a word.
 fn rising_of(alloc: Global, high: u64, words: &[&[u8]]) -> Result<Vec<u64>, ReadError>
     requires { high < 2 ^ 60 }
-    ensures { Gives 1 (λ v. v.items) result (rising 0 high (map (λ w. w.now) words.now)) }
+    ensures { ReadsTo 1 (λ v. v.items) result (rising 0 high (map (λ w. w.now) words.now)) }
 {
     let mut hosts = Vec::new(alloc);
     let mut low = 0;
@@ -132,7 +132,7 @@ fn rising_of(alloc: Global, high: u64, words: &[&[u8]]) -> Result<Vec<u64>, Read
 fn host_list_of(alloc: Global, pages: u64, words: &[&[u8]]) -> Result<Vec<u64>, ReadError>
     requires some { 1 ≤ pages }
     requires few { pages < 2 ^ 60 }
-    ensures { Gives 1 (λ v. v.items) result (host_list pages (map (λ w. w.now) words.now)) }
+    ensures { ReadsTo 1 (λ v. v.items) result (host_list pages (map (λ w. w.now) words.now)) }
 {
     let refused = ReadError::Refused {
         line: 1,
@@ -151,7 +151,7 @@ fn host_list_of(alloc: Global, pages: u64, words: &[&[u8]]) -> Result<Vec<u64>, 
 fn hosts(alloc: Global, pages: u64, words: &[&[u8]]) -> Result<Vec<u64>, ReadError>
     requires some { 1 ≤ pages }
     requires few { pages < 2 ^ 60 }
-    ensures { Gives 1 (λ v. v.items) result (hosts_of pages (map (λ w. w.now) words.now)) }
+    ensures { ReadsTo 1 (λ v. v.items) result (hosts_of pages (map (λ w. w.now) words.now)) }
 {
     match words {
         [label, rest @ ..] if is(label, "hosts") => host_list_of(alloc, pages, rest),
@@ -165,7 +165,7 @@ fn hosts(alloc: Global, pages: u64, words: &[&[u8]]) -> Result<Vec<u64>, ReadErr
 /// The header that the words spell.
 #[tactic(auto, unfolding(crate::specs::Headers::header_of))]
 pub fn header(alloc: Global, words: &[&[u8]]) -> Result<Header, ReadError>
-    ensures value { Gives 1 (λ h. h) result (header_of (map (λ w. w.now) words.now)) }
+    ensures value { ReadsTo 1 (λ h. h) result (header_of (map (λ w. w.now) words.now)) }
     ensures small { IfOk result (λ h. h.words ≤ 8) }
 {
     let (sizes, rest) = match read_sizes(words) {

@@ -3,7 +3,7 @@ ghost use Rattle.std.specs.List.{list_all};
 ghost use Rattle.trace_reader.specs.Forms.{words_of};
 ghost use Rattle.trace_reader.specs.Sayings.{IsSayingOf, seen_of, said as said_of};
 ghost use Rattle.trace_reader.specs.Lines.{is_plain, is_skipped as is_skipped_line, fault_of, content, line_of};
-ghost use Rattle.trace_reader.specs.Steps.{Gives};
+ghost use Rattle.trace_reader.specs.Steps.{ReadsTo};
 
 use crate::Reason;
 use crate::before::Before;
@@ -79,7 +79,7 @@ fn said(
     bytes: &[u8],
 ) -> Result<Saying, ReadError>
     requires { header.now.words ≤ 8 }
-    ensures read { Gives number (λ s. s) result (said_of header.now (seen_of before.now) bytes.now) }
+    ensures read { ReadsTo number (λ s. s) result (said_of header.now (seen_of before.now) bytes.now) }
     ensures allowed { IfOk result (λ s. IsSayingOf header.now s) }
 {
     let words = words(alloc, bytes)?;
@@ -101,7 +101,7 @@ fn content_of(
     bytes: &[u8],
 ) -> Result<Option<Saying>, ReadError>
     requires { header.now.words ≤ 8 }
-    ensures read { Gives number (λ x. x) result (content header.now (seen_of before.now) bytes.now) }
+    ensures read { ReadsTo number (λ x. x) result (content header.now (seen_of before.now) bytes.now) }
     ensures allowed { IfOk result (λ found. IfSome found (λ s. IsSayingOf header.now s)) }
 {
     if is_skipped(bytes) {
@@ -113,7 +113,7 @@ fn content_of(
     }
 }
 
-/// What a line behind the header says, if it is not skipped.
+/// What a line after the header says, if it is not skipped.
 #[tactic(auto, unfolding(crate::specs::Lines::line_of))]
 pub fn line(
     alloc: Global,
@@ -126,7 +126,7 @@ pub fn line(
 ) -> Result<Option<Saying>, ReadError>
     requires { header.now.words ≤ 8 }
     ensures small { OnOk result (end ≤ 16777216) }
-    ensures read { Gives number (λ x. x) result
+    ensures read { ReadsTo number (λ x. x) result
         (line_of header.now (seen_of before.now) (record { number = number; end = end; ended_by_lf = ended; bytes = bytes.now })) }
     ensures allowed { IfOk result (λ found. IfSome found (λ s. IsSayingOf header.now s)) }
 {

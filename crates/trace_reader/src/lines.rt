@@ -2,7 +2,7 @@ ghost use Rattle.std.specs.Prelude.{◌≡◌, ◌≤◌, ◌<◌, ◌+◌, ◌=
 ghost use Rattle.std.specs.List.{position};
 ghost use Rattle.trace_reader.specs.Lines.{parts_of, lines_of, none_seen};
 ghost use Rattle.trace_reader.specs.Reading.{with_header};
-ghost use Rattle.trace_reader.specs.Steps.{Tells, IsBodyOf, trace_with};
+ghost use Rattle.trace_reader.specs.Steps.{NamesLine, IsBodyOf, trace_with};
 
 use crate::before::Body;
 use crate::line::line;
@@ -24,7 +24,7 @@ pub fn taken(text: &[u8], ended: bool) -> usize
     if ended { text.len() + 1 } else { text.len() }
 }
 
-/// The bytes of the first line, whether LF ends it, and the bytes behind it.
+/// The bytes of the first line, whether LF ends it, and the bytes after it.
 pub fn first_line(bytes: &[u8]) -> (&[u8], bool, &[u8])
     ensures parts { parts_of bytes.now ≡ result.0.now ∷ (if result.1 then parts_of result.2.now else []) }
     ensures ended { result.1 ≡ false → result.2.now ≡ [] }
@@ -50,7 +50,7 @@ pub fn lines(
     requires begun { at ≤ 16777216 }
     requires number { number ≤ at + 2 }
     ensures small { OnOk result (at + length bytes.now ≤ 16777216) }
-    ensures read { Tells (trace_with header.now) result (with_header header.now (lines_of header.now number at none_seen (parts_of bytes.now))) }
+    ensures read { NamesLine (trace_with header.now) result (with_header header.now (lines_of header.now number at none_seen (parts_of bytes.now))) }
     ensures allowed { IfOk result (λ body. IsBodyOf header.now body) }
 {
     let mut body = Body::new(alloc);

@@ -1,6 +1,6 @@
 ghost use Rattle.std.specs.Prelude.{◌≡◌, ◌≤◌, ℕ, true};
 ghost use Rattle.std.specs.List.{list_all};
-ghost use Rattle.trace_reader.specs.Numbers.{is_digit, is_hex_digit, digit, value, fitting, decimal_number, hex_number, number_of};
+ghost use Rattle.trace_reader.specs.Numbers.{is_digit, is_hex_digit, digit, value, if_small, decimal_number, hex_number, spelled_number};
 
 fn is_hex_digit_byte(byte: u8) -> bool
     ensures { result ≡ is_hex_digit byte }
@@ -35,7 +35,7 @@ fn digit_of(byte: u8) -> u8
 fn value_of(radix: u64, digits: &[u8]) -> Option<u64>
     requires radix { 1 ≤ radix }
     requires digits { list_all is_hex_digit digits.now ≡ true }
-    ensures { result ≡ fitting (value radix digits.now) }
+    ensures { result ≡ if_small (value radix digits.now) }
 {
     let mut total: u64 = 0;
     let mut rest = digits;
@@ -76,7 +76,7 @@ fn hexadecimal(digits: &[u8]) -> Option<u64>
 
 /// The number that a word spells.
 pub fn number(word: &[u8]) -> Option<u64>
-    ensures { result ≡ number_of word.now }
+    ensures { result ≡ spelled_number word.now }
 {
     match word {
         [b'0', b'x', digits @ ..] => hexadecimal(digits),

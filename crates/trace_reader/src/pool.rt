@@ -1,7 +1,7 @@
 ghost use Rattle.std.specs.Prelude.{◌≡◌, ◌*◌, ◌<◌, ℕ, All, IfOk};
 ghost use Rattle.std.specs.List.{list_any};
 ghost use Rattle.core_views.specs.Need.{count_below, is_counted, wants, need as need_of};
-ghost use Rattle.trace_reader.specs.Runs.{IsRun, AreRising, EndBy, any_covers};
+ghost use Rattle.trace_reader.specs.Runs.{IsFrameRun, AreRising, EndBy, any_covers};
 
 use core_views::{Command, Line, NoMemory, Slot, Trace};
 use std::alloc::Global;
@@ -27,7 +27,7 @@ fn counts(pages: u64, slot: &Slot) -> bool
 
 /// The runs of the slots that count, in the order of their first frames.
 fn runs_of(alloc: Global, pages: u64, lines: &[Line]) -> Result<Vec<Run>, NoMemory>
-    ensures runs { IfOk result (λ v. All IsRun v.items) }
+    ensures runs { IfOk result (λ v. All IsFrameRun v.items) }
     ensures rising { IfOk result (λ v. AreRising v.items) }
     ensures same { IfOk result (λ v. (span index : ℕ) → any_covers span v.items index ≡ list_any (λ line. wants pages span index line.command) lines.now) }
 {
@@ -46,10 +46,10 @@ fn runs_of(alloc: Global, pages: u64, lines: &[Line]) -> Result<Vec<Run>, NoMemo
 }
 
 /// How many tables of `span` frames the runs need. It is one pass: `next` is
-/// behind the last table that it has counted.
+/// after the last table that it has counted.
 fn tables(runs: &[Run], span: u64) -> u64
     requires span { 0 < span }
-    requires runs { All IsRun runs.now }
+    requires runs { All IsFrameRun runs.now }
     requires rising { AreRising runs.now }
     ensures { (n : ℕ) → EndBy (n * span) runs.now → result ≡ count_below n (any_covers span runs.now) }
 {

@@ -1,6 +1,6 @@
 ghost use Rattle.std.specs.Prelude.{◌≡◌, ◌≤◌, length, IfOk, OnOk, IfSome};
 ghost use Rattle.core_views.specs.Traces.{IsTrace};
-ghost use Rattle.trace_reader.specs.Steps.{Gives, Tells};
+ghost use Rattle.trace_reader.specs.Steps.{ReadsTo, NamesLine};
 ghost use Rattle.trace_reader.specs.Reading.{head_of, reading, Outcome, Answers, ReadingFaults};
 
 use crate::Read;
@@ -14,7 +14,7 @@ use tdp_io::{Input, Source, read_all};
 
 #[tactic(auto, unfolding(crate::specs::Reading::head_of))]
 fn head(alloc: Global, end: usize, ended: bool, text: &[u8]) -> Result<Header, ReadError>
-    ensures read { Gives 1 (λ h. h) result (head_of (record { number = 1; end = end; ended_by_lf = ended; bytes = text.now })) }
+    ensures read { ReadsTo 1 (λ h. h) result (head_of (record { number = 1; end = end; ended_by_lf = ended; bytes = text.now })) }
     ensures small { IfOk result (λ h. h.words ≤ 8) }
     ensures begun { OnOk result (end ≤ 16777216) }
 {
@@ -28,7 +28,7 @@ fn head(alloc: Global, end: usize, ended: bool, text: &[u8]) -> Result<Header, R
 fn parse(alloc: Global, bytes: &[u8]) -> Result<Trace, ReadError>
     requires { length bytes.now ≤ 16777217 }
     ensures small { OnOk result (length bytes.now ≤ 16777216) }
-    ensures read { Tells (λ t. t) result (reading bytes.now) }
+    ensures read { NamesLine (λ t. t) result (reading bytes.now) }
     ensures in_range { IfOk result (λ t. IsTrace t) }
 {
     let (text, ended, after) = first_line(bytes);

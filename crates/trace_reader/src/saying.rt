@@ -9,7 +9,7 @@ use crate::form::{form_said, is};
 use crate::item::item_of;
 use core_views::{Actor, Command, Header, Item};
 
-/// What a line behind the header says.
+/// What a line after the header says.
 #[derive(Clone, Debug, PartialEq, Eq, Drop)]
 pub enum Saying {
     /// That the actor makes this command.

@@ -15,7 +15,7 @@ use Rattle.core_views.specs.declared.answer.Refusal.TheVariants.{BadId, TooLarge
 use Rattle.core_views.specs.declared.answer.Refusal.TheVariants.{NoFrame}
 use Rattle.trace_text.specs.Laws.{IsPrintable, AreNumbers, LinesTell}
 
--- The first items of equal lists, and what is behind them.
+-- The first items of equal lists, and what is after them.
 heads : (c d : ℕ) (r s : List ℕ) → c ∷ r ≡ d ∷ s → c ≡ d
 heads c d r s e = ap (λ l. get_or l 0 0) e
 
@@ -41,7 +41,7 @@ parts (x ∷ xs) (y ∷ ys) r s c d xd yd cs ds e =
     let more = parts xs ys r s c d xd.1 yd.1 cs ds (tails x y (xs ++ c ∷ r) (ys ++ d ∷ s) e) in
     (rw (same, more.0) refl, more.1)
 
--- A number and the byte behind it.
+-- A number and the byte after it.
 number : (m n c d : ℕ) (r s : List ℕ) → m < 2 ^ 64 → n < 2 ^ 64 → 10 ≤ digit_value c → 10 ≤ digit_value d → decimal m ++ c ∷ r ≡ decimal n ++ d ∷ s
     → (m ≡ n) × (r ≡ s)
 number m n c d r s mb nb cs ds e =
@@ -63,7 +63,7 @@ no_number n c d r s nb cs ds e =
 small : (n : ℕ) → n < 2 ^ 8 → n < 2 ^ 64
 small n b = omega (arith, b)
 
--- An actor and the space behind it.
+-- An actor and the space after it.
 actor : (a b : Actor) (r s : List ℕ) → IsPrintable a → IsPrintable b → actor_name a ++ 32 ∷ r ≡ actor_name b ++ 32 ∷ s → (a ≡ b) × (r ≡ s)
 actor (Vcpu m) (Vcpu n) r s mb nb e = let p = number m n 32 32 r s (small m mb) (small n nb) space space (ap (drop 1) e) in (ap Vcpu p.0, p.1)
 actor (Host m) (Host n) r s mb nb e = let p = number m n 32 32 r s (small m mb) (small n nb) space space (ap (drop 1) e) in (ap Host p.0, p.1)
@@ -89,7 +89,7 @@ reached f v = decimal f ++ 32 ∷ (codes "value " ++ (decimal v ++ 10 ∷ []))
 reached_is : (f v : ℕ) → drop 6 (answer_text (Reached f v) ++ 10 ∷ []) ≡ reached f v
 reached_is f v = append_assoc (decimal f) (codes " value " ++ decimal v) (10 ∷ [])
 
--- A page's new frame and the LF behind it are no frame and value.
+-- A page's new frame and the LF after it are no frame and value.
 moved_apart : (f g w : ℕ) → f < 2 ^ 64 → g < 2 ^ 64 → decimal f ++ 10 ∷ [] ≡ reached g w → ⊥
 moved_apart f g w fb gb e =
     let behind : List ℕ = codes "value " ++ (decimal w ++ 10 ∷ []) in

@@ -15,11 +15,11 @@ use Rattle.core_views.specs.declared.place.FaultPlace.{FaultPlace}
 use Rattle.core_views.specs.Slots.{is_write}
 use Rattle.fault_install.specs.declared.fault.FaultJob.{FaultJob}
 use Rattle.fault_install.specs.declared.fault.Faulted.{Faulted}
-use Rattle.fault_install.specs.Faults.{AnswersBy, EndsBy, TurnsAt, TurnsFault, end_turn}
+use Rattle.fault_install.specs.Faults.{FaultAnswersBy, EndsBy, TurnsAt, TurnsFault, end_turn}
 use Rattle.mmu_core.specs.lines.Cached.{frame_used}
 use Rattle.mmu_core.specs.declared.outcome.Outcome.{Outcome}
 use Rattle.mmu_core.specs.declared.outcome.Outcome.TheVariants as outcome
-use Rattle.mmu_core.specs.lines.FaultKnows.{EndKnows}
+use Rattle.mmu_core.specs.lines.FaultKnows.{FaultEndKnows}
 use Rattle.mmu_core.specs.lines.FaultSteps.{fault_next}
 use Rattle.mmu_core.specs.alone.LineAlone.{line_waits}
 use Rattle.step_seats.specs.Seats.{Seat}
@@ -59,9 +59,9 @@ use Rattle.mmu_core.specs.machine.Turns.{line_of, outcome_of}
 use Rattle.mmu_core.proofs.lines.KnowsKept.{access_vcpu}
 use Rattle.mmu_core.proofs.machine.Which.{enabled_is}
 use Rattle.vcpu_run.specs.declared.access.AccessJob.{AccessJob}
-use Rattle.step_seats.specs.LineTurns.{Gives, MakesLine, TurnsLine, line_seen, line_turn, turn_of}
+use Rattle.step_seats.specs.LineTurns.{WaitsElse, MakesLine, TurnsLine, line_seen, line_turn, turn_of}
 use Rattle.step_seats.proofs.LineParts.{place_may_make, place_rests, place_task}
-use Rattle.vcpu_run.specs.Accesses.{HasItsCause, IsStay, StandsAt, WalksAt, answer_of, walk_place}
+use Rattle.vcpu_run.specs.Accesses.{HasItsCause, IsStay, IsAtAccessPlace, WalksAt, turn_answer, walk_place}
 
 word_of : (z : Sizes) (actor : Actor) (gfn word : ℕ) (op : Op) → IsCommandFor z actor (Access gfn word op) → word < z.words
 word_of z (Vcpu n) gfn word op may = may.2
@@ -69,7 +69,7 @@ word_of z (Host n) gfn word op may = absurd may
 word_of z Manager gfn word op may = absurd may
 word_of z (Worker n) gfn word op may = absurd may
 
-module _ (p : AccessPlace) (job : AccessJob) (h : Held) (S : StandsAt p job h) where
+module _ (p : AccessPlace) (job : AccessJob) (h : Held) (S : IsAtAccessPlace p job h) where
   -- what the step of its place needs
   rests_on : RestsOn (access_part p job.gfn h.topics) job.gfn (is_write job.op) h
   rests_on = place_rests (place.Access p) (Access job.gfn job.word job.op) h S.left S.rests S.stands S.command
@@ -96,10 +96,10 @@ touch_same Read i = refl
 touch_same (Write x) i = refl
 touch_same (Add x) i = refl
 
-pub touch_level : (job : AccessJob) (h : Held) → StandsAt Touch job h → IsAtLeafLevel h.state.used
+pub touch_level : (job : AccessJob) (h : Held) → IsAtAccessPlace Touch job h → IsAtLeafLevel h.state.used
 touch_level job h S = (rests_on Touch job h S).level
 
-pub touches : (job : AccessJob) (h : Held) → StandsAt Touch job h → (touch_of job.op 0).written < 2 ^ 64
+pub touches : (job : AccessJob) (h : Held) → IsAtAccessPlace Touch job h → (touch_of job.op 0).written < 2 ^ 64
     → (frame_used job.gfn h.state < h.state.sizes.frames) × (job.word < h.state.sizes.words)
     × Enabled h (touch_kind h.state.sizes (frame_used job.gfn h.state) job.word job.op 0)
 touches job h S small =
@@ -132,7 +132,7 @@ touches job h S small =
 
 -- Where the access of the hand stands.
 pub stands : (p : AccessPlace) (job : AccessJob) (h : Held) → length h.answers < length h.lines → Rests h → place_at h.state.place h ≡ place.Access p
-    → (line_of h).command ≡ Access job.gfn job.word job.op → KnowsPart (place_at h.state.place h) (line_of h).command h → StandsAt p job h
+    → (line_of h).command ≡ Access job.gfn job.word job.op → KnowsPart (place_at h.state.place h) (line_of h).command h → IsAtAccessPlace p job h
 stands p job h left rests at command knows = record {
   left = left;
   rests = rests;
@@ -169,7 +169,8 @@ stay_turn Touch gfn word op h v stay = refl
 stay_turn (Leave how) gfn word op h v stay = refl
 stay_turn (Fault p) gfn word op h v stay = absurd stay
 
-pub gives_plain : (turn t : Turn Answer) (waits : Bool) (way : Seen) → waits ≡ false → turn ≡ t → ((seen : Seen) → turn ≢ Wait seen) → Gives turn waits way t
+pub gives_plain : (turn t : Turn Answer) (waits : Bool) (way : Seen) → waits ≡ false → turn ≡ t → ((seen : Seen) → turn ≢ Wait seen)
+    → WaitsElse turn waits way t
 gives_plain More t waits way none is no_ = (none, is)
 gives_plain (Wait seen) t waits way none is no_ = absurd (no_ seen refl)
 gives_plain (Retry cause) t waits way none is no_ = (none, is)
@@ -179,7 +180,7 @@ pub never_waits : (o : Outcome) (turn : Turn Answer) → turn ≡ turn_of o → 
 never_waits (outcome.Goes p) turn is seen e = absurd (cc (is, e))
 never_waits (outcome.Ends answer) turn is seen e = absurd (cc (is, e))
 
-pub turns_stay : (p : AccessPlace) (job : AccessJob) (turn : Turn Answer) (before after : Seat) → StandsAt p job before.hand → IsStay p
+pub turns_stay : (p : AccessPlace) (job : AccessJob) (turn : Turn Answer) (before after : Seat) → IsAtAccessPlace p job before.hand → IsStay p
     → (M : MakesLine before after)
     → turn ≡ turn_of (outcome_of before.hand M.found) → TurnsLine turn before after
 turns_stay p job turn before after S stay M is = record {
@@ -208,7 +209,7 @@ turns_stay p job turn before after S stay M is = record {
         ∙ sym (ap (λ (x : Place). line_turn x own h v) S.stands) ∙ sym (ap (λ (c : Command). line_turn q c h v) S.command)
 
 -- A load of its walk.
-walk_at : (again rooted : Bool) (job : AccessJob) (h : Held) → StandsAt (walk_place again rooted) job h
+walk_at : (again rooted : Bool) (job : AccessJob) (h : Held) → IsAtAccessPlace (walk_place again rooted) job h
     → MayMake (walk_step (record { gfn = job.gfn; rooted = rooted })) 0 h
 walk_at again true job h S = may_make (Walk again) job h S (part.Walk job.gfn) refl
 walk_at again false job h S = may_make (Root again) job h S part.Root refl
@@ -225,24 +226,24 @@ walk_held true job h W root = absurd (cc root)
 walk_held false job h W root = ap (λ (s : Stay). may_walk s h.topics.hold) W.stands.knows.guest
 
 -- An exit, or a begin anew, has its cause: what its fault's turn says of it.
-over_cause : (e : FaultEnd) (job : AccessJob) (h : Held) → EndKnows e h.state.sizes job.gfn (is_write job.op) h.topics
-    → HasItsCause (answer_of (end_turn e)) job h
+over_cause : (e : FaultEnd) (job : AccessJob) (h : Held) → FaultEndKnows e h.state.sizes job.gfn (is_write job.op) h.topics
+    → HasItsCause (turn_answer (end_turn e)) job h
 over_cause end_of.Installed job h K = tt
 over_cause end_of.Mmio job h K = K
 over_cause end_of.HostFault job h K = K
 over_cause end_of.Starved job h K = K
 over_cause (end_of.Retry cause) job h K = K
 
-next_cause : (turn : Turn Faulted) (next : FaultNext) (job : AccessJob) (h : Held) → AnswersBy turn next
-    → EndsBy next (λ e. EndKnows e h.state.sizes job.gfn (is_write job.op) h.topics) → HasItsCause (answer_of turn) job h
+next_cause : (turn : Turn Faulted) (next : FaultNext) (job : AccessJob) (h : Held) → FaultAnswersBy turn next
+    → EndsBy next (λ e. FaultEndKnows e h.state.sizes job.gfn (is_write job.op) h.topics) → HasItsCause (turn_answer turn) job h
 next_cause More (Goes p) job h is K = tt
 next_cause (Wait seen) (Goes p) job h is K = tt
 next_cause (Done answer) (Goes p) job h is K = absurd is
 next_cause (Retry cause) (Goes p) job h is K = absurd is
-next_cause turn (Ends e) job h is K = subst (λ (t : Turn Faulted). HasItsCause (answer_of t) job h) (sym is) (over_cause e job h K)
+next_cause turn (Ends e) job h is K = subst (λ (t : Turn Faulted). HasItsCause (turn_answer t) job h) (sym is) (over_cause e job h K)
 
-pub fault_cause : (p : FaultPlace) (job : AccessJob) (fault : FaultJob) (turn : Turn Faulted) (before after : Seat) → StandsAt (Fault p) job before.hand
-    → fault ≡ fault_of job → TurnsFault fault turn before after → HasItsCause (answer_of turn) job before.hand
+pub fault_cause : (p : FaultPlace) (job : AccessJob) (fault : FaultJob) (turn : Turn Faulted) (before after : Seat) → IsAtAccessPlace (Fault p) job before.hand
+    → fault ≡ fault_of job → TurnsFault fault turn before after → HasItsCause (turn_answer turn) job before.hand
 fault_cause p job fault turn before after S is T =
     let turns : TurnsAt p (fault_of job) turn before after = subst (λ (j : FaultJob). TurnsAt p j turn before after) is (T p S.stands) in
     next_cause turn (fault_next p before.hand.state.sizes job.gfn (is_write job.op) before.hand.topics turns.step.found) job before.hand turns.step.turned
@@ -256,7 +257,7 @@ stay_outcome (Leave leaving.Faults) gfn word op h v turn job stay is = subst (λ
 stay_outcome (Fault p) gfn word op h v turn job stay is = absurd stay
 stay_outcome _ gfn word op h v turn job stay is = subst (λ (t : Turn Answer). HasItsCause t job h) (sym is) tt
 
-pub stay_cause : (p : AccessPlace) (job : AccessJob) (turn : Turn Answer) (h : Held) (v : ℕ) → StandsAt p job h → IsStay p
+pub stay_cause : (p : AccessPlace) (job : AccessJob) (turn : Turn Answer) (h : Held) (v : ℕ) → IsAtAccessPlace p job h → IsStay p
     → turn ≡ turn_of (outcome_of h v) → HasItsCause turn job h
 stay_cause p job turn h v S stay is =
     stay_outcome p job.gfn job.word job.op h v turn job stay (is ∙ ap (λ (c : Command). turn_of (outcome_at (place_at h.state.place h) c h v)) S.command

@@ -11,7 +11,7 @@ use Rattle.core_views.specs.declared.place.FaultPlace.{FaultPlace}
 use Rattle.core_views.specs.Slots.{is_write}
 use Rattle.fault_install.specs.declared.fault.FaultJob.{FaultJob}
 use Rattle.fault_install.specs.declared.fault.Faulted.{Faulted}
-use Rattle.fault_install.specs.Faults.{AnswersBy, TurnsAt, TurnsFault, WaitsBy, end_turn}
+use Rattle.fault_install.specs.Faults.{FaultAnswersBy, TurnsAt, TurnsFault, WaitsBy, end_turn}
 use Rattle.mmu_core.specs.lines.FaultSteps.{fault_next, fault_part}
 use Rattle.mmu_core.specs.lines.PartWaits.{part_seen, part_waits}
 use Rattle.mmu_core.specs.alone.LineAlone.{line_waits}
@@ -26,9 +26,9 @@ use Rattle.part_steps.specs.declared.part_step.PartStep.{PartStep}
 use Rattle.mmu_core.specs.lines.AccessSteps.{access_note}
 use Rattle.mmu_core.specs.machine.Steps.{place_at}
 use Rattle.vcpu_run.specs.declared.access.AccessJob.{AccessJob}
-use Rattle.step_seats.specs.LineTurns.{Gives, TurnsLine, fault_turn, line_seen, line_turn}
+use Rattle.step_seats.specs.LineTurns.{WaitsElse, TurnsLine, fault_turn, line_seen, line_turn}
 use Rattle.step_seats.proofs.LineTurns.{made_line}
-use Rattle.vcpu_run.specs.Accesses.{StandsAt, answer_of}
+use Rattle.vcpu_run.specs.Accesses.{IsAtAccessPlace, turn_answer}
 use Rattle.vcpu_run.proofs.Accessing.{fault_of, may_make}
 
 not_true : (b : Bool) → b ≢ true → b ≡ false
@@ -36,26 +36,26 @@ not_true true ne = absurd (ne refl)
 not_true false ne = refl
 
 -- What a fault's turn answers of its step, for the access.
-over_gives : (e : FaultEnd) (waits : Bool) (way : Seen) → WaitsBy (end_turn e) waits way → Gives (answer_of (end_turn e)) waits way (fault_turn (Ends e))
+over_gives : (e : FaultEnd) (waits : Bool) (way : Seen) → WaitsBy (end_turn e) waits way → WaitsElse (turn_answer (end_turn e)) waits way (fault_turn (Ends e))
 over_gives end_of.Installed waits way by_ = (not_true waits by_, refl)
 over_gives end_of.Mmio waits way by_ = (not_true waits by_, refl)
 over_gives end_of.HostFault waits way by_ = (not_true waits by_, refl)
 over_gives end_of.Starved waits way by_ = (not_true waits by_, refl)
 over_gives (end_of.Retry cause) waits way by_ = (not_true waits by_, refl)
 
-gives_fault : (turn : Turn Faulted) (next : FaultNext) (waits : Bool) (way : Seen) → AnswersBy turn next → WaitsBy turn waits way
-    → Gives (answer_of turn) waits way (fault_turn next)
+gives_fault : (turn : Turn Faulted) (next : FaultNext) (waits : Bool) (way : Seen) → FaultAnswersBy turn next → WaitsBy turn waits way
+    → WaitsElse (turn_answer turn) waits way (fault_turn next)
 gives_fault More (Goes p) waits way is by_ = (not_true waits by_, refl)
 gives_fault (Wait seen) (Goes p) waits way is by_ = by_
 gives_fault (Done answer) (Goes p) waits way is by_ = absurd is
 gives_fault (Retry cause) (Goes p) waits way is by_ = absurd is
 gives_fault turn (Ends e) waits way is by_ =
-    subst (λ (t : Turn Faulted). Gives (answer_of t) waits way (fault_turn (Ends e))) (sym is)
+    subst (λ (t : Turn Faulted). WaitsElse (turn_answer t) waits way (fault_turn (Ends e))) (sym is)
     (over_gives e waits way (subst (λ (t : Turn Faulted). WaitsBy t waits way) is by_))
 
 -- The turn of a fault is the line's.
-pub turns_fault : (p : FaultPlace) (job : AccessJob) (fault : FaultJob) (turn : Turn Faulted) (before after : Seat) → StandsAt (Fault p) job before.hand
-    → fault ≡ fault_of job → TurnsFault fault turn before after → TurnsLine (answer_of turn) before after
+pub turns_fault : (p : FaultPlace) (job : AccessJob) (fault : FaultJob) (turn : Turn Faulted) (before after : Seat) → IsAtAccessPlace (Fault p) job before.hand
+    → fault ≡ fault_of job → TurnsFault fault turn before after → TurnsLine (turn_answer turn) before after
 unfolding made_line
 turns_fault p job fault turn before after S is T =
     let h : Held = before.hand in
@@ -63,9 +63,9 @@ turns_fault p job fault turn before after S is T =
     let step : PartStep = fault_part p job.gfn h.topics in
     record {
       makes = made_line step (access_note (Fault p)) M.found before after (may_make (Fault p) job h S step refl) M.made;
-      gives = subst (λ (c : Command). Gives (answer_of turn) (line_waits (place_at h.state.place h) c h M.found)
+      gives = subst (λ (c : Command). WaitsElse (turn_answer turn) (line_waits (place_at h.state.place h) c h M.found)
           (line_seen (place_at h.state.place h) c h M.found) (line_turn (place_at h.state.place h) c h M.found)) (sym S.command)
-          (subst (λ (q : Place). Gives (answer_of turn) (line_waits q (Access job.gfn job.word job.op) h M.found)
+          (subst (λ (q : Place). WaitsElse (turn_answer turn) (line_waits q (Access job.gfn job.word job.op) h M.found)
           (line_seen q (Access job.gfn job.word job.op) h M.found) (line_turn q (Access job.gfn job.word job.op) h M.found)) (sym S.stands)
           (gives_fault turn (fault_next p h.state.sizes job.gfn (is_write job.op) h.topics M.found) (part_waits step h.topics M.found)
           (part_seen step h M.found) M.turned M.waits_by));

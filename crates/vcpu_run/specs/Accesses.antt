@@ -12,7 +12,7 @@ use Rattle.core_views.specs.Held.{Held}
 use Rattle.core_views.specs.Slots.{is_write}
 use Rattle.fault_install.specs.declared.fault.Faulted.{Faulted}
 use Rattle.fault_install.specs.declared.fault.Faulted.TheVariants as faulted
-use Rattle.mmu_core.specs.lines.FaultKnows.{EndKnows}
+use Rattle.mmu_core.specs.lines.FaultKnows.{FaultEndKnows}
 use Rattle.mmu_core.specs.lines.Forms.{KnowsPart}
 use Rattle.mmu_core.specs.lines.Rests.{Rests}
 use Rattle.mmu_core.specs.machine.Steps.{place_at}
@@ -22,7 +22,7 @@ use Rattle.step_seats.specs.declared.turn.Turn.TheVariants.{More, Wait, Retry, D
 use Rattle.vcpu_run.specs.declared.access.AccessJob.{AccessJob}
 
 -- The hand's next line is this access, which stands at this place and knows what it asks.
-pub record StandsAt (p : AccessPlace) (job : AccessJob) (h : Held) : Type 0 where
+pub record IsAtAccessPlace (p : AccessPlace) (job : AccessJob) (h : Held) : Type 0 where
   pub left : length h.answers < length h.lines
   pub rests : Rests h
   pub stands : place_at h.state.place h ≡ place.Access p
@@ -41,27 +41,27 @@ walk_place again rooted = if rooted then Walk again else Root again
 -- The access stands at such a load.
 pub record WalksAt (rooted : Bool) (job : AccessJob) (h : Held) : Type 0 where
   pub again : Bool
-  pub stands : StandsAt (walk_place again rooted) job h
+  pub stands : IsAtAccessPlace (walk_place again rooted) job h
 
 -- The access stands in its fault.
 pub record IsInFault (job : AccessJob) (h : Held) : Type 0 where
   pub at : FaultPlace
-  pub stands : StandsAt (Fault at) job h
+  pub stands : IsAtAccessPlace (Fault at) job h
 
 -- what the turn of an access answers, by the answer of its fault's turn
-abbrev pub answer_of : Turn Faulted → Turn Answer
-answer_of More = More
-answer_of (Wait seen) = Wait seen
-answer_of (Retry cause) = Retry cause
-answer_of (Done faulted.Installed) = More
-answer_of (Done faulted.Mmio) = Done Mmio
-answer_of (Done faulted.HostFault) = Done HostFault
-answer_of (Done faulted.Starved) = Done Starved
+abbrev pub turn_answer : Turn Faulted → Turn Answer
+turn_answer More = More
+turn_answer (Wait seen) = Wait seen
+turn_answer (Retry cause) = Retry cause
+turn_answer (Done faulted.Installed) = More
+turn_answer (Done faulted.Mmio) = Done Mmio
+turn_answer (Done faulted.HostFault) = Done HostFault
+turn_answer (Done faulted.Starved) = Done Starved
 
 -- What an exit, or a begin anew, of the access rests on: the words that its fault has loaded, of which the hand has kept what matters.
 abbrev pub HasItsCause : Turn Answer → AccessJob → Held → Type 0
-HasItsCause (Done Mmio) job h = EndKnows end_of.Mmio h.state.sizes job.gfn (is_write job.op) h.topics
-HasItsCause (Done HostFault) job h = EndKnows end_of.HostFault h.state.sizes job.gfn (is_write job.op) h.topics
-HasItsCause (Done Starved) job h = EndKnows end_of.Starved h.state.sizes job.gfn (is_write job.op) h.topics
-HasItsCause (Retry cause) job h = EndKnows (end_of.Retry cause) h.state.sizes job.gfn (is_write job.op) h.topics
+HasItsCause (Done Mmio) job h = FaultEndKnows end_of.Mmio h.state.sizes job.gfn (is_write job.op) h.topics
+HasItsCause (Done HostFault) job h = FaultEndKnows end_of.HostFault h.state.sizes job.gfn (is_write job.op) h.topics
+HasItsCause (Done Starved) job h = FaultEndKnows end_of.Starved h.state.sizes job.gfn (is_write job.op) h.topics
+HasItsCause (Retry cause) job h = FaultEndKnows (end_of.Retry cause) h.state.sizes job.gfn (is_write job.op) h.topics
 HasItsCause _ job h = Unit {0}

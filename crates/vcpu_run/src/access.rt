@@ -10,7 +10,7 @@ ghost use Rattle.mmu_core.specs.machine.Steps.{place_at};
 ghost use Rattle.mmu_core.specs.machine.Turns.{IsSameHand, line_of};
 ghost use Rattle.step_seats.specs.Moves.{KeepsRoom};
 ghost use Rattle.step_seats.specs.LineTurns.{MakesLine, Says, TurnsLine, turn_told, untold};
-ghost use Rattle.vcpu_run.specs.Accesses.{HasItsCause, IsInFault, IsStay, StandsAt, WalksAt, answer_of};
+ghost use Rattle.vcpu_run.specs.Accesses.{HasItsCause, IsInFault, IsStay, IsAtAccessPlace, WalksAt, turn_answer};
 
 use core_views::{AccessPlace, Hand, Op, Place};
 use fault_install::{FaultJob, Faulted};
@@ -60,7 +60,7 @@ impl AccessJob {
     // The frame of the leaf that the access uses. Its operation may be made
     // there, since the operation's number has 64 bits.
     fn frame(&self, hand: &Hand) -> u64
-        requires stands { StandsAt at.Touch self.now hand.now.core }
+        requires stands { IsAtAccessPlace at.Touch self.now hand.now.core }
         ensures there { result < hand.now.core.state.sizes.frames }
         ensures word { self.now.word < hand.now.core.state.sizes.words }
         ensures enabled { Enabled hand.now.core (touch_kind hand.now.core.state.sizes result self.now.word self.now.op 0) }
@@ -71,7 +71,7 @@ impl AccessJob {
 
     // Makes the step of a stay in the guest.
     fn stay<S: Stepper>(&self, s: &mut S, place: AccessPlace)
-        requires stands { StandsAt place self.now (S.seat s.old).hand }
+        requires stands { IsAtAccessPlace place self.now (S.seat s.old).hand }
         requires stay { IsStay place }
         requires reserved { 0 < (S.seat s.old).room }
         ensures makes { MakesLine (S.seat s.old) (S.seat s.new) }
@@ -162,7 +162,7 @@ impl AccessJob {
 
 // What a turn of the access says, by the answer of its fault's turn.
 fn said_of(turn: Turn<Faulted>) -> Turn<()>
-    ensures { result ≡ untold (answer_of turn) }
+    ensures { result ≡ untold (turn_answer turn) }
 {
     match turn {
         Turn::More | Turn::Done(Faulted::Installed) => Turn::More,

@@ -264,7 +264,7 @@ fn writes_and_reads_again(rt: HostRuntime) -> Result<(), Fail> {
     Ok(())
 }
 
-// Outside of the slot the fault ends behind the four words of slot 0 and the flags
+// Outside of the slot the fault ends after the four words of slot 0 and the flags
 // of the 31 others; and with four pool pages behind two tables.
 #[test]
 fn leaves_without_a_page(rt: HostRuntime) -> Result<(), Fail> {

@@ -17,7 +17,7 @@ use Rattle.step_seats.specs.Seats.{Seat}
 use Rattle.step_seats.proofs.ToldWords.{StepsTo, told_both}
 use Rattle.step_seats.proofs.Where.{ToldBoth}
 use Rattle.vcpu_tlb.specs.declared.flush.Awaited.TheVariants.{Flushed, Waits}
-use Rattle.vcpu_tlb.specs.Flushing.{IsAsked, awaited_by, state_at}
+use Rattle.vcpu_tlb.specs.Flushing.{IsAsked, awaited_by, state_word_of}
 
 -- Setting bit 2 asks for a flush, and keeps bits 0 and 1.
 sets_request : (n : ℕ) → IsAsked n (bit_or n 4)
@@ -29,20 +29,20 @@ sets_request n = record {
 
 pub asked_word : (index note found : ℕ) (before after : Seat) → PartNeeds (part.Ask index) before.hand → MadePart (part.Ask index) note found before after
     → ToldBoth before.tells.world after.tells.world
-    (λ w v. IsAsked (state_at before.hand.state.sizes index w) (state_at before.hand.state.sizes index v))
+    (λ w v. IsAsked (state_word_of before.hand.state.sizes index w) (state_word_of before.hand.state.sizes index v))
 asked_word index note found before after needs made =
     told_both before.tells.world after.tells.world before.actor note found (part.Ask index) before.hand
-    (λ w v. IsAsked (state_at before.hand.state.sizes index w) (state_at before.hand.state.sizes index v)) needs made.has made.world each
+    (λ w v. IsAsked (state_word_of before.hand.state.sizes index w) (state_word_of before.hand.state.sizes index v)) needs made.has made.world each
   where
     z : Sizes
     z = before.hand.state.sizes
 
     each : (w u : World Held) → StepsTo z (part_task (part.Ask index) (own_index before.hand) before.hand.topics note) found w u
-        → IsAsked (state_at z index w) (state_at z index u)
+        → IsAsked (state_word_of z index w) (state_word_of z index u)
     each w u S =
-        let is : state_at z index u ≡ bit_or (state_at z index w) 4 =
-        S.leaves area.State index ∙ upd_same (word_in z w area.State) index (bit_or (state_at z index w) 4) in
-        rw is (sets_request (state_at z index w))
+        let is : state_word_of z index u ≡ bit_or (state_word_of z index w) 4 =
+        S.leaves area.State index ∙ upd_same (word_in z w area.State) index (bit_or (state_word_of z index w) 4) in
+        rw is (sets_request (state_word_of z index w))
 
 -- the answer by what was found
 pub has_yet : (v : ℕ) → has_to_flush v ≡ true → awaited_by v ≡ Waits v

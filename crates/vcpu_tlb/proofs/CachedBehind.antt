@@ -57,7 +57,7 @@ but_for_a_flush h step note v may ne = of_either may.enabled
     of_either (inl is) = with_line is (has_line h)
     of_either (inr p) = ap (λ b. (next_by b h k v).cached) p.none_left
 
--- what is cached behind an entry into the guest
+-- what is cached after an entry into the guest
 pub entered_cached : (h g : Held) (note v : ℕ) → MayMake part.Enter note h → g ≡ next h (part_kind h part.Enter note) v
     → g.cached ≡ cached_behind (answer_to v) h.cached
 unfolding flushed
@@ -68,7 +68,7 @@ entered_cached h g note v may is =
     by true = refl
     by false = refl
 
--- what is cached behind a load of the pause, and behind the way out of the guest
+-- what is cached after a load of the pause, and after the way out of the guest
 pub paused_cached : (h g : Held) (note v : ℕ) → MayMake part.Pause note h → g ≡ next h (part_kind h part.Pause note) v → g.cached ≡ h.cached
 unfolding flushed
 paused_cached h g note v may is = ap (λ (x : Held). x.cached) is ∙ but_for_a_flush h part.Pause note v may (λ e. absurd (omega (arith, e)))

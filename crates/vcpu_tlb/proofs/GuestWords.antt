@@ -1,4 +1,4 @@
--- The own state word and the pause word of a told world, before and behind a step of a part.
+-- The own state word and the pause word of a told world, before and after a step of a part.
 use Rattle.std.proofs.Common.{◌≡◌, ◌<◌, ◌%◌, ◌*◌, ◌/◌, ◌^◌, ℕ, Option, Some, None, refl, sym, subst, ap, ◌∙◌, arith, length}
 use Rattle.std.specs.Prelude.{◌==◌, Bool, true, false, IfSome, unwrap_or, if◌then◌else◌}
 use Rattle.std.specs.Int.Bits.{bit_and}
@@ -29,7 +29,7 @@ use Rattle.mmu_core.proofs.machine.Columns.{upd_same}
 use Rattle.mmu_core.proofs.start.Starts.{reached_good}
 use Rattle.mmu_core.proofs.machine.Views.{view_behind}
 use Rattle.mmu_core.proofs.machine.Worlds.{good_step}
-use Rattle.step_seats.specs.Moves.{Tells, step_by}
+use Rattle.step_seats.specs.Moves.{ToldBy, step_by}
 use Rattle.step_seats.specs.Where.{HasHand}
 use Rattle.vcpu_tlb.specs.declared.guest.Entered.TheVariants.{In, Flushed}
 use Rattle.mmu_core.specs.lines.Cached.{asks_flush}
@@ -62,9 +62,9 @@ stored_in z w a note step k x h G there is on =
     ∙ ap (λ y. kind_of_task y t) same in
     ap (λ c. word_in z (effect mmu w (step_by a c)) area.State a) kind_is ∙ ap (λ (v : View). v.words area.State a) (view_behind z w a t lt G.words there)
 
--- What a step makes of its actor's state word, in worlds that are told before and behind it: f of the word before.
+-- What a step makes of its actor's state word, in worlds that are told before and after it: f of the word before.
 pub state_behind : (step : PartStep) (k : StepKind) (x : ℕ) (f : ℕ → ℕ) (told tells : Option (World Held)) (actor note found : ℕ) (h g : Held)
-    → IfSome told (HasHand actor h) → Tells told actor (part_kind h step note) found tells → IfSome tells (HasHand actor g)
+    → IfSome told (HasHand actor h) → ToldBy told actor (part_kind h step note) found tells → IfSome tells (HasHand actor g)
     → WorksOnState step k x note
     → ((words : Area → ℕ → ℕ) (i : ℕ) → words_after (works k area.State i x note) words area.State ≡ upd (words area.State) i (f (words area.State i)))
     → IfSome told (λ w. IfSome tells (λ v. state_in g v ≡ f (state_in h w)))
@@ -110,7 +110,7 @@ keeps_flush s lt =
     ap (λ n. n % 2 == 1) d
 
 pub flush_kept : (told tells : Option (World Held)) (actor note found : ℕ) (h g : Held) → IfSome told (HasHand actor h)
-    → Tells told actor (part_kind h part.Leave note) found tells → IfSome tells (HasHand actor g)
+    → ToldBy told actor (part_kind h part.Leave note) found tells → IfSome tells (HasHand actor g)
     → IfSome told (λ w. IfSome tells (λ v. asks_flush (state_in g v) ≡ asks_flush (state_in h w)))
 flush_kept None tells actor note found h g has moves behind = tt
 flush_kept (Some w) None actor note found h g has moves behind = tt
@@ -120,7 +120,7 @@ flush_kept (Some w) (Some v) actor note found h g has moves behind =
     ∙ keeps_flush (state_in h w) (tells_stay w actor h has).0
 
 pub entered_word : (told tells : Option (World Held)) (actor note found : ℕ) (h g : Held) → IfSome told (HasHand actor h)
-    → Tells told actor (part_kind h part.Enter note) found tells → IfSome tells (HasHand actor g)
+    → ToldBy told actor (part_kind h part.Enter note) found tells → IfSome tells (HasHand actor g)
     → IfSome told (λ w. IfSome tells (λ v. state_in g v ≡ 3))
 entered_word told tells actor note found h g has moves behind =
     state_behind part.Enter kind.Enter 3 (λ n. 3) told tells actor note found h g has moves behind (λ own t. refl) (λ words i. refl)

@@ -17,8 +17,8 @@ use Rattle.vcpu_tlb.specs.declared.flush.Awaited.{Awaited}
 use Rattle.vcpu_tlb.specs.declared.flush.Awaited.TheVariants.{Flushed, Waits}
 
 -- the state word of the virtual processor at a place
-abbrev pub state_at : Sizes → ℕ → World Held → ℕ
-state_at z index w = word_in z w area.State index
+abbrev pub state_word_of : Sizes → ℕ → World Held → ℕ
+state_word_of z index w = word_in z w area.State index
 
 -- what is held once the virtual processors up to this place are asked: nothing else has changed
 abbrev pub asked_up_to : ℕ → Topics → Topics
@@ -34,7 +34,7 @@ pub record IsAsked (before after : ℕ) : Type 0 where
 abbrev pub AsksFlush : ℕ → ℕ → Seat → Seat → Type 0
 AsksFlush index note before after =
     WherePartMade (part.Ask index) note before after
-    (λ w v. IsAsked (state_at before.hand.state.sizes index w) (state_at before.hand.state.sizes index v))
+    (λ w v. IsAsked (state_word_of before.hand.state.sizes index w) (state_word_of before.hand.state.sizes index v))
 
 -- what a look at a state word comes to that held this
 abbrev pub awaited_by : ℕ → Awaited
@@ -58,7 +58,7 @@ awaited_up_to count t = record t { flush = record t.flush { awaited = count } }
 -- Where the look was made, the answer is by the state word there.
 abbrev pub AnswersAwait : Awaited → ℕ → ℕ → Seat → Seat → Type 0
 AnswersAwait answer index note before after =
-    WherePartMade (part.Await index) note before after (λ w v. answer ≡ awaited_by (state_at before.hand.state.sizes index w))
+    WherePartMade (part.Await index) note before after (λ w v. answer ≡ awaited_by (state_word_of before.hand.state.sizes index w))
 
 -- what is in the way of who awaits a flush, in this word of the machine
 abbrev pub await_way : ℕ → Awaited → Option Seen

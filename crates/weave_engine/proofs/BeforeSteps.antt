@@ -18,10 +18,10 @@ use Rattle.mmu_core.specs.machine.Machine.{Legal, Step, World, hand_in, run}
 use Rattle.mmu_core.specs.machine.Steps.{has_line}
 use Rattle.mmu_core.specs.machine.Worlds.{IsStart}
 use Rattle.mmu_laws.proofs.flat.EveryAnswer.{start_follows}
-use Rattle.weave_engine.specs.Turning.{IsWithin, RunsItemsSoFar}
+use Rattle.weave_engine.specs.Turning.{ItemFits, RunsItemsSoFar}
 use Rattle.weave_engine.specs.Weaves.{RunsSomeRounds}
 
-none_within : (until : Until) → IsWithin until []
+none_within : (until : Until) → ItemFits until []
 none_within (Turns count) = omega arith
 none_within _ = tt
 

@@ -46,7 +46,7 @@ other_line actor lines i d lt apart =
     ap (lines_of actor) (one_more_line lines i d lt) ∙ lines_of_append actor (take i lines) (line ∷ [])
     ∙ ap (λ xs. lines_of actor (take i lines) ++ xs) (own_more actor line false apart) ∙ append-nil (lines_of actor (take i lines))
 
--- The next of an actor's lines, behind those among the first i, is line i, where it is the actor's.
+-- The next of an actor's lines, after those among the first i, is line i, where it is the actor's.
 pub next_is : (actor : Actor) (lines : List Line) (i : ℕ) (d : Line) → i < length lines → actor ≡ (get_or lines i d).actor
     → slice_get (lines_of actor lines) (length (lines_of actor (take i lines))) ≡ Some (get_or lines i d)
 next_is actor lines i d lt is =

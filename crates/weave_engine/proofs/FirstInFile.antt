@@ -133,7 +133,7 @@ module _ (z : Sizes) (lines : List Line) (start : World Held) (ss : List (Step K
       (All-get_or (Contains (numbers_answered told)) (map (λ (l : Line). l.number) taken) p 0 (omega (arith, n, there))
       (subst (λ (ns : List ℕ). All (Contains (numbers_answered told)) ns) (own_numbers i i_in) each))
 
-  -- The actor's next line is the one behind them.
+  -- The actor's next line is the one after them.
   next_own : (i : ℕ) (d : Line) → i < actors_of z → done i < length (own i) → next_line (hand i) ≡ get_or (own i) (done i) d
   next_own i d i_in lt = ap (λ (ls : List Line). unwrap_or (slice_get ls (done i)) no_line) (own_lines i i_in)
       ∙ ap (λ (o : Option Line). unwrap_or o no_line) (slice_get-get_or (own i) (done i) d lt)

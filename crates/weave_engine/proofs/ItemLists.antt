@@ -1,4 +1,4 @@
--- The turns of items, one item behind another.
+-- The turns of items, one item after another.
 use Rattle.std.proofs.Common.{◌≡◌, inl, inr, ◌<◌, ◌+◌, ℕ, suc, List, [], ◌∷◌, ◌++◌, Ok, Err, append_assoc, length, take, drop, get_or, refl, sym, ap}
 use Rattle.std.proofs.Common.{subst, ◌∙◌, add-one}
 use Rattle.std.proofs.Math.Seq.{drop-cons, take-suc}

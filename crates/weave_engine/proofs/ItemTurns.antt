@@ -12,7 +12,7 @@ use Rattle.mmu_core.specs.machine.Machine.{Step, World, hand_in, run}
 use Rattle.mmu_core.specs.machine.Steps.{has_line}
 use Rattle.mmu_core.proofs.machine.Which.{is_next}
 use Rattle.tdp_io.specs.declared.sink.Stop.{Stop}
-use Rattle.weave_engine.specs.Turned.{Comes, MakesTurn, PutsRun, PutsTurn, next_code_in}
+use Rattle.weave_engine.specs.Turned.{ComesTo, MakesTurn, PutsRun, PutsTurn, next_code_in}
 use Rattle.weave_engine.specs.Turning.{HasNoLineLeft, IsOpenEnded, RunsBy, RunsBySoFar, ends_item, names_kind, stops}
 use Rattle.weave_engine.specs.Writes.{Buffers}
 use Rattle.weave_engine.specs.declared.turning.Turned.{Turned}
@@ -48,7 +48,7 @@ made_one turned actor w t here after waits more (inr e) puts =
 pub nothing_more : (P : World Held → List (Step Kind) → Type 0) (w t u : World Held) (before here after : Option (List ℕ)) (waited waits more : List
     ℕ) → SoFar P w t before here waited waits → u ≡ t → Buffers here after waits more (Ok tt) [] → SoFar P w u before after waited more
 nothing_more P w t u before here after waited waits more F same put =
-    so_far_then P P w t u before here after waited waits more [] [] F (subst (λ (x : World Held). Comes t [] x []) (sym same) (comes_none t)) put
+    so_far_then P P w t u before here after waited waits more [] [] F (subst (λ (x : World Held). ComesTo t [] x []) (sym same) (comes_none t)) put
     (subst (P w) (sym (append-nil F.steps)) F.holds)
 
 no_line_there : (P : World Held → List (Step Kind) → Type 0) (actor : ℕ) (w t : World Held) (before here : Option (List ℕ)) (waited waits : List ℕ)

@@ -1,4 +1,4 @@
--- A replay, line by line: the list of steps goes on, the hands come behind the lines, and all actors rest between them.
+-- A replay, line by line: the list of steps goes on, the hands come after the lines, and all actors rest between them.
 use Rattle.std.proofs.Common.{◌≡◌, ◌≢◌, ◌⊎◌, inl, inr, ◌<◌, ◌≤◌, ◌+◌, ℕ, suc, List, [], ◌∷◌, ◌++◌, length, length-append, take, get_or, refl, sym, ap}
 use Rattle.std.proofs.Common.{subst, ◌∙◌, append_assoc, arith}
 use Rattle.std.proofs.lemmas.List.{append-nil, get_or-set_other, take_all}
@@ -100,7 +100,7 @@ runs_more z start w t done more line answer are r ran = record {
       omega (arith, count, before, one, all, last);
 }
 
--- What it tells is printed behind what was printed before.
+-- What it tells is printed after what was printed before.
 prints_more : (z : Sizes) (start w t : World Held) (done : List Line) (line : Line) (answer : Answer) (r : RunsLines z start done w) (ran : RanOn z line answer
     (index_of z line.actor) w t) → text (history start (r.steps ++ ran.steps)) ≡ text (history start r.steps) ++ line_text line.number line.actor answer
 prints_more z start w t done line answer r ran =
@@ -168,7 +168,7 @@ hands_more z lines i w t answer lt may ran behind b below = by (same_or b a)
     by (inl e) = own e
     by (inr ne) = other ne
 
--- All actors rest at the start, and behind each line.
+-- All actors rest at the start, and after each line.
 pub rest_at_start : (z : Sizes) (lines : List Line) (w : World Held) → IsStart z lines w → AllRest w
 rest_at_start z lines w start =
     λ i lt. subst (λ (h : Held). HoldsNothing h.topics) (sym (hand_is z lines w i start (subst (λ n. i < n) (start_good z lines w start).hands lt)))
@@ -179,7 +179,7 @@ rest_at_start z lines w start =
       owns_no_frame = refl;
     })
 
--- Between lines: the first lines of a trace have run, and print this; the hands are behind them, and all actors rest.
+-- Between lines: the first lines of a trace have run, and print this; the hands are after them, and all actors rest.
 pub record IsBetween (z : Sizes) (lines : List Line) (i : ℕ) (start w : World Held) (printed : List ℕ) : Type 0 where
   pub ran : RunsLines z start (take i lines) w
   pub prints : printed ≡ text (history start ran.steps)

@@ -52,7 +52,7 @@ use Rattle.weave_engine.proofs.Fed.{fed_append}
 use Rattle.weave_engine.proofs.LinesRun.{between_at_start, ran_first}
 use Rattle.weave_engine.proofs.Writes.{WroteMost, ends_most, none_put, so_far_most}
 
--- Lines that run alone, behind steps from a trace's start, aren't starved where the pool has as many pages as the trace needs.
+-- Lines that run alone, after steps from a trace's start, aren't starved where the pool has as many pages as the trace needs.
 module _ (trace : Trace) (start : World Held) (is_start : IsStart (sizes_of trace.header) trace.lines start)
     (enough : need trace.header trace.lines ≤ trace.header.pool) where
   abbrev z : Sizes
@@ -140,7 +140,7 @@ writes_none trace before good =
       ),
     )
 
--- It stopped behind some of the lines.
+-- It stopped after some of the lines.
 stopped_replay : (trace : Trace) (count : ℕ) (start end_ : World Held) (stop : Stop) → IsStart (sizes_of trace.header) trace.lines start
     → (r : RunsLines (sizes_of trace.header) start (take count trace.lines) end_) → MayStop stop start r.steps
     → ReplaysUntil stop trace end_ (text (history start r.steps))

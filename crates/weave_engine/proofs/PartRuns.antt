@@ -41,11 +41,11 @@ use Rattle.mmu_core.proofs.machine.LineRuns.{history_one_more, legal_one_more, o
 use Rattle.mmu_laws.proofs.causes.StarvedScan.{starved_lines_scan}
 use Rattle.mmu_core.proofs.machine.Which.{has_line_is}
 use Rattle.step_seats.specs.Seats.{Seat, Told}
-use Rattle.step_seats.specs.Moves.{Adds, Tells, step_by}
+use Rattle.step_seats.specs.Moves.{Adds, ToldBy, step_by}
 use Rattle.step_seats.specs.declared.turn.Turn.{Turn}
 use Rattle.weave_engine.specs.Replays.{EachStepsAlone, RunsAlone, TakeLowestFrom}
 use Rattle.weave_engine.specs.Turning.{is_ended}
-use Rattle.weave_engine.specs.Turns.{IsAlone}
+use Rattle.weave_engine.specs.Turns.{LineIsAlone}
 use Rattle.step_seats.specs.LineTurns.{MakesLine, TurnsLine}
 use Rattle.weave_engine.proofs.Fed.{fed_append, step_fed}
 use Rattle.weave_engine.proofs.Stopping.{answers_last}
@@ -81,7 +81,7 @@ next_is p h line idle first = rw (idle, first) refl
 none_told : (p : Place) (line : Line) → p ≡ place.Between → SoFar p line []
 none_told p line idle = rw idle refl
 
-all_left : (line : Line) (seat : Seat) → line_of seat.hand ≡ line → IsAlone seat → 0 + hand_left seat.hand ≤ most_steps seat.hand.state.sizes line.command
+all_left : (line : Line) (seat : Seat) → line_of seat.hand ≡ line → LineIsAlone seat → 0 + hand_left seat.hand ≤ most_steps seat.hand.state.sizes line.command
 all_left line seat is L =
     let A = L.alone in
     let z : Sizes = seat.hand.state.sizes in
@@ -96,7 +96,7 @@ adds_none (Some ss) = ap (λ (xs : List (Step Kind)). Some xs) (sym (append-nil 
 
 -- The seat may have taken room meanwhile.
 pub part_starts : (line : Line) (start here : Seat) → here.hand ≡ start.hand → here.tells ≡ start.tells → start.hand.state.place ≡ place.Between
-    → slice_get start.hand.lines (length start.hand.answers) ≡ Some line → IsAlone start → PartRun line start.actor start here
+    → slice_get start.hand.lines (length start.hand.answers) ≡ Some line → LineIsAlone start → PartRun line start.actor start here
 part_starts line start here hand tells idle first L = record {
   before = L.world;
   is = L.is;
@@ -177,7 +177,7 @@ module _ (turn : Turn Answer) (line : Line) (start from to : Seat) (left : lengt
   o = outcome_of a S.found
 
   moved : May mmu here step × (answered mmu here S.kind ≡ S.found) × (to.tells.world ≡ Some behind)
-  moved = subst (λ (m : Option (World Held)). Tells m actor S.kind S.found to.tells.world) part.ends S.world
+  moved = subst (λ (m : Option (World Held)). ToldBy m actor S.kind S.found to.tells.world) part.ends S.world
 
   further : run mmu part.before steps ≡ behind
   further = run_one_more part.before part.steps step

@@ -19,7 +19,7 @@ use Rattle.weave_engine.proofs.Coming.{SoFar, puts_all, puts_stopped, puts_stopp
 use Rattle.weave_engine.proofs.ItemTurns.{MadeTurn, nothing_more}
 use Rattle.weave_engine.proofs.TurnLists.{rounds_more}
 
--- Turns were made in rounds, so many; behind the last one so many actors had no line left, and the actor at this place is next.
+-- Turns were made in rounds, so many; after the last one so many actors had no line left, and the actor at this place is next.
 pub record InRounds (z : Sizes) (index passed made : ℕ) (w : World Held) (ss : List (Step Kind)) : Type 0 where
   pub first : ℕ
   pub rounds : RunsRounds z 0 first w ss
@@ -73,7 +73,7 @@ next_place count first passed index next within lt at step = by (nat_lt (first +
         let there = place_round count first (passed + 1) (omega (arith, here)) in
         omega (arith, there, one, i, here)
 
--- behind a turn the next round place is the one behind it
+-- after a turn the next round place is the one after it
 fresh_place : (count index next : ℕ) → index < count → IsNextPlace count index next → next ≡ place_behind count (suc index) 0
 fresh_place count index next lt (inl (last, zero_)) = let there = place_round count (suc index) 0 (omega (arith, last)) in omega (arith, there, zero_, last)
 fresh_place count index next lt (inr (more, one)) = let there = place_of count (suc index) 0 (omega (arith, more)) in omega (arith, there, one)

@@ -10,10 +10,10 @@ use Rattle.mmu_core.specs.machine.Worlds.{IsStart}
 use Rattle.mmu_laws.proofs.causes.StarvedScan.{legal_parts, starved_lines_scan}
 use Rattle.mmu_core.proofs.start.Starts.{start_good}
 use Rattle.mmu_core.proofs.machine.Worlds.{good_run}
-use Rattle.weave_engine.specs.Weaves.{StarvedLinesScan}
+use Rattle.weave_engine.specs.Weaves.{StarvedLinesScanIn}
 
 pub starved_scan : (z : Sizes) (lines : List Line) (start : World Held) (steps : List (Step Kind)) → IsStart z lines start → Legal mmu start steps
-    → StarvedLinesScan z start steps
+    → StarvedLinesScanIn z start steps
 starved_scan z lines start steps is_start legal map earlier own later s are idle starved =
     let front = legal_parts start earlier (own ++ s ∷ later) (subst (Legal mmu start) are legal) in
     let line =

@@ -1,4 +1,4 @@
--- Where a run may stop: behind more steps, behind a turn that answers its line, and anywhere for want of memory.
+-- Where a run may stop: after more steps, after a turn that answers its line, and anywhere for want of memory.
 use Rattle.std.proofs.Common.{◌≡◌, List, [], ◌∷◌, ◌++◌, append_assoc, refl, sym, ap, subst, ◌∙◌}
 use Rattle.core_views.specs.declared.kind.Kind.{Kind}
 use Rattle.core_views.specs.Held.{Held}

@@ -31,7 +31,7 @@ use Rattle.mmu_laws.proofs.flat.ToldOf.{answered_with, answers_told}
 use Rattle.mmu_core.proofs.machine.Which.{events_of_line}
 use Rattle.step_seats.specs.declared.turn.Turn.{Turn}
 use Rattle.step_seats.specs.declared.turn.Turn.TheVariants.{More, Wait, Retry, Done}
-use Rattle.step_seats.specs.LineTurns.{Gives, line_seen, line_turn, turn_of}
+use Rattle.step_seats.specs.LineTurns.{WaitsElse, line_seen, line_turn, turn_of}
 use Rattle.weave_engine.specs.Turned.{is_stop, turn_text}
 use Rattle.weave_engine.specs.Turning.{begins_anew, hand_stops, is_ended}
 use Rattle.mmu_core.proofs.lines.Forms.{ends_free}
@@ -52,26 +52,26 @@ module _ (number : ℕ) (actor : Actor) where
   tells_outcome (Goes p) = record { stops_ = refl; prints = refl }
   tells_outcome (Ends answer) = record { stops_ = refl; prints = refl }
 
-  by_outcome : (turn : Turn Answer) (way : Seen) (o : Outcome) → Gives turn false way (turn_of o) → TellsTurn number actor turn (is_ended o) o
+  by_outcome : (turn : Turn Answer) (way : Seen) (o : Outcome) → WaitsElse turn false way (turn_of o) → TellsTurn number actor turn (is_ended o) o
   by_outcome (Wait seen) way o gives = let e : false ≡ true = gives.0 in absurd (cc e)
   by_outcome More way o gives = subst (λ (t : Turn Answer). TellsTurn number actor t (is_ended o) o) (sym gives.1) (tells_outcome o)
   by_outcome (Retry cause) way o gives = subst (λ (t : Turn Answer). TellsTurn number actor t (is_ended o) o) (sym gives.1) (tells_outcome o)
   by_outcome (Done answer) way o gives = subst (λ (t : Turn Answer). TellsTurn number actor t (is_ended o) o) (sym gives.1) (tells_outcome o)
 
   -- where it waits, the line stays where it is
-  waiting : (turn : Turn Answer) (way : Seen) (t : Turn Answer) (p : Place) → Gives turn true way t → TellsTurn number actor turn true (Goes p)
+  waiting : (turn : Turn Answer) (way : Seen) (t : Turn Answer) (p : Place) → WaitsElse turn true way t → TellsTurn number actor turn true (Goes p)
   waiting (Wait seen) way t p gives = record { stops_ = refl; prints = refl }
   waiting More way t p gives = let e : true ≡ false = gives.0 in absurd (cc e)
   waiting (Retry cause) way t p gives = let e : true ≡ false = gives.0 in absurd (cc e)
   waiting (Done answer) way t p gives = let e : true ≡ false = gives.0 in absurd (cc e)
 
   -- a step of a fault that isn't its last
-  goes_or_waits : (turn : Turn Answer) (waits : Bool) (way : Seen) (p : Place) → Gives turn waits way More
+  goes_or_waits : (turn : Turn Answer) (waits : Bool) (way : Seen) (p : Place) → WaitsElse turn waits way More
       → TellsTurn number actor turn (waits || (false || false)) (Goes p)
   goes_or_waits turn true way p gives = waiting turn way More p gives
   goes_or_waits turn false way p gives = by_outcome turn way (Goes p) gives
 
-  retries : (turn : Turn Answer) (way : Seen) (cause : _) (p : Place) → Gives turn false way (Retry cause) → TellsTurn number actor turn true (Goes p)
+  retries : (turn : Turn Answer) (way : Seen) (cause : _) (p : Place) → WaitsElse turn false way (Retry cause) → TellsTurn number actor turn true (Goes p)
   retries (Wait seen) way cause p gives = let e : false ≡ true = gives.0 in absurd (cc e)
   retries More way cause p gives = subst (λ (t : Turn Answer). TellsTurn number actor t true (Goes p)) (sym gives.1) (record { stops_ = refl; prints = refl })
   retries (Retry c) way cause p gives = record { stops_ = refl; prints = refl }
@@ -79,7 +79,7 @@ module _ (number : ℕ) (actor : Actor) where
       subst (λ (t : Turn Answer). TellsTurn number actor t true (Goes p)) (sym gives.1) (record { stops_ = refl; prints = refl })
 
   fault_ends : (e : FaultEnd) (turn : Turn Answer) (gfn word : ℕ) (op : Op) (h : Held) (v : ℕ)
-      → Gives turn (line_waits (place.Access (access.Fault (fault.End e))) (Access gfn word op) h v)
+      → WaitsElse turn (line_waits (place.Access (access.Fault (fault.End e))) (Access gfn word op) h v)
       (line_seen (place.Access (access.Fault (fault.End e))) (Access gfn word op) h v)
       (line_turn (place.Access (access.Fault (fault.End e))) (Access gfn word op) h v)
       → TellsTurn number actor turn (false || (begins_anew (place.Access (access.Fault (fault.End e))) || is_ended (fault_over e))) (fault_over e)
@@ -91,7 +91,7 @@ module _ (number : ℕ) (actor : Actor) where
 
   abbrev Tells : Turn Answer → Place → Command → Held → ℕ → Type 0
   Tells turn p command h v =
-      Gives turn (line_waits p command h v) (line_seen p command h v) (line_turn p command h v)
+      WaitsElse turn (line_waits p command h v) (line_seen p command h v) (line_turn p command h v)
       → TellsTurn number actor turn (line_waits p command h v || (begins_anew p || is_ended (outcome_at p command h v))) (outcome_at p command h v)
 
   fault_tells : (p : FaultPlace) (turn : Turn Answer) (gfn word : ℕ) (op : Op) (h : Held) (v : ℕ)
@@ -110,7 +110,7 @@ module _ (number : ℕ) (actor : Actor) where
 
   -- a step of a line that begins nothing anew: where it waits, the line goes on
   plain_tells : (turn : Turn Answer) (waits : Bool) (way : Seen) (o : Outcome) → ((answer : Answer) → o ≡ Ends answer → waits ≡ false)
-      → Gives turn waits way (turn_of o) → TellsTurn number actor turn (waits || (false || is_ended o)) o
+      → WaitsElse turn waits way (turn_of o) → TellsTurn number actor turn (waits || (false || is_ended o)) o
   plain_tells turn false way o free gives = by_outcome turn way o gives
   plain_tells turn true way (Goes p) free gives = waiting turn way (turn_of (Goes p)) p gives
   plain_tells turn true way (Ends answer) free gives = let e = free answer refl in absurd (cc e)
@@ -141,7 +141,7 @@ pub record TurnIs (h : Held) (v : ℕ) (turn : Turn Answer) : Type 0 where
   pub prints : turn_text (line_of h).number h.state.actor turn ≡ text (events_of h v)
 
 pub turn_is : (h : Held) (v : ℕ) (turn : Turn Answer) → has_line h ≡ true → RestsAt (place_at h.state.place h) (line_of h).command h
-    → Gives turn (line_waits (place_at h.state.place h) (line_of h).command h v) (line_seen (place_at h.state.place h) (line_of h).command h v)
+    → WaitsElse turn (line_waits (place_at h.state.place h) (line_of h).command h v) (line_seen (place_at h.state.place h) (line_of h).command h v)
     (line_turn (place_at h.state.place h) (line_of h).command h v)
     → TurnIs h v turn
 turn_is h v turn left rests gives =

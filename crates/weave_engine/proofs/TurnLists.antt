@@ -9,7 +9,8 @@ use Rattle.core_views.specs.Held.{Held}
 use Rattle.mmu_core.specs.machine.Enabled.{mmu}
 use Rattle.mmu_core.specs.machine.Machine.{Step, World, effect, run}
 use Rattle.weave_engine.specs.Rounds.{IsNextInRound, RunsRounds}
-use Rattle.weave_engine.specs.Turning.{AreTurns, HasNoLineLeft, IsOpenEnded, IsOver, IsTurn, IsWithin, LastEnds, NoneEndsBefore, RunsBy, RunsBySoFar, ends_item}
+use Rattle.weave_engine.specs.Turning.{AreTurns, HasNoLineLeft, IsOpenEnded, IsTurn, ItemFits, ItemOver, LastEnds, NoneEndsBefore, RunsBy}
+use Rattle.weave_engine.specs.Turning.{RunsBySoFar, ends_item}
 
 pub turns_more : (actor : ℕ) (w : World Held) (ss : List (Step Kind)) (s : Step Kind) → AreTurns actor w ss → IsTurn actor (run mmu w ss) s
     → AreTurns actor w (ss ++ s ∷ [])
@@ -90,7 +91,7 @@ pub one_more_goes_on : (until : Until) (actor : ℕ) (w : World Held) (ss : List
     → IsTurn actor (run mmu w ss) s → ends_item until (run mmu w ss) s ≡ false → TurnsGoOn until actor w (ss ++ s ∷ [])
 one_more_goes_on until actor w ss s M turn goes = record { turns = turns_more actor w ss s M.turns turn; none = none_more until w ss s M.none goes }
 
-open_within : (until : Until) (ss : List (Step Kind)) → IsOpenEnded until → IsWithin until ss
+open_within : (until : Until) (ss : List (Step Kind)) → IsOpenEnded until → ItemFits until ss
 open_within (Turns count) ss open_ = absurd open_
 open_within _ ss open_ = tt
 
@@ -107,6 +108,6 @@ last_so_far until actor w ss s open_ M turn = record {
 }
 
 pub over_open : (until : Until) (actor : ℕ) (w : World Held) (ss : List (Step Kind)) → IsOpenEnded until
-    → LastEnds until w ss ⊎ HasNoLineLeft actor (run mmu w ss) → IsOver until actor w ss
+    → LastEnds until w ss ⊎ HasNoLineLeft actor (run mmu w ss) → ItemOver until actor w ss
 over_open (Turns count) actor w ss open_ over = absurd open_
 over_open _ actor w ss open_ over = over

@@ -31,7 +31,7 @@ use Rattle.mmu_core.proofs.start.Starts.{reached_good}
 use Rattle.mmu_core.proofs.machine.LineRuns.{own_hand}
 use Rattle.mmu_core.proofs.machine.Which.{is_next}
 use Rattle.step_seats.specs.Seats.{Seat}
-use Rattle.step_seats.specs.Moves.{Tells, step_by}
+use Rattle.step_seats.specs.Moves.{ToldBy, step_by}
 use Rattle.step_seats.specs.Where.{HasHand}
 use Rattle.step_seats.specs.declared.turn.Turn.{Turn}
 use Rattle.step_seats.specs.declared.turn.Turn.TheVariants.{Done, Retry, Wait}
@@ -40,7 +40,7 @@ use Rattle.step_seats.specs.LineTurns.{AnswersBy, Says, TurnsLine, line_turn, tu
 use Rattle.step_seats.proofs.LineTurns.{EndsSo, GoesSo, line_case, turns_say}
 use Rattle.weave_engine.specs.Given.{IsLastAnswer, given_in, told_in}
 use Rattle.weave_engine.specs.Pieces.{most_waiting}
-use Rattle.weave_engine.specs.Turned.{Comes, IsTurnOf, MakesTurn, PutsTurn, TurnedOn, TurnedTold, is_stop, next_code_in, open_line, turn_text}
+use Rattle.weave_engine.specs.Turned.{ComesTo, IsTurnOf, MakesTurn, PutsTurn, TurnedOn, TurnedTold, is_stop, next_code_in, open_line, turn_text}
 use Rattle.weave_engine.specs.Writes.{Buffers}
 use Rattle.weave_engine.specs.declared.turning.Turned.TheVariants.{Stopped}
 use Rattle.weave_engine.specs.Turning.{AnswersLine, is_ended}
@@ -101,8 +101,8 @@ made_turn before after w line whose turn is hand open_ own made =
     let L = open_is h line open_ in
     let M = made.makes in
     let s : Step Kind = step_by actor M.kind in
-    let moves : Tells (Some w) actor M.kind M.found after.tells.world =
-    subst (λ (o : Option (World Held)). Tells o actor M.kind M.found after.tells.world) is M.world in
+    let moves : ToldBy (Some w) actor M.kind M.found after.tells.world =
+    subst (λ (o : Option (World Held)). ToldBy o actor M.kind M.found after.tells.world) is M.world in
     let rests = (is_next h M.kind M.enabled L.0).rests in
     let T = turn_is h M.found turn L.0 rests.at made.gives in
     let found : answered mmu w s.kind ≡ M.found = moves.1 in
@@ -212,7 +212,7 @@ stops_done made actor w t answer before after waited waits stop done T last few 
         → (M : MakesTurn actor w t stopped bytes) → AnswersLine w M.step → PutsTurn actor w t before after waited waits (Err stop)
     at bytes same stopped stops_ M A = inr (
       line_text made.number made.actor answer,
-      record { step = M.step; turn = M.turn; stops_ = M.stops_ ∙ stops_; comes = subst (λ (x : List ℕ). Comes w (M.step ∷ []) t x) same M.comes },
+      record { step = M.step; turn = M.turn; stops_ = M.stops_ ∙ stops_; comes = subst (λ (x : List ℕ). ComesTo w (M.step ∷ []) t x) same M.comes },
       A,
       few_last before after waited (line_text made.number made.actor answer) few (inr (inl (made.number, made.actor, answer, refl))) prefix,
     )

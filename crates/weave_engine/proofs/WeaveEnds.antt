@@ -9,7 +9,7 @@ use Rattle.mmu_core.specs.machine.Machine.{World}
 use Rattle.tdp_io.specs.Ends.{WroteFaults, is_failed}
 use Rattle.tdp_io.specs.declared.sink.Stop.{Stop}
 use Rattle.tdp_io.specs.declared.sink.Stop.TheVariants.{Failed, NoMemory}
-use Rattle.weave_engine.specs.Woven.{RoseBy, WritesBy, WritesUntil, WritesWoven, how_ended, is_write_fault}
+use Rattle.weave_engine.specs.Woven.{RoseBy, WritesBy, WritesUntil, WritesWoven, how_ended, ended_by_write_fault}
 use Rattle.weave_engine.specs.declared.ran.OpenLine.{OpenLine}
 use Rattle.weave_engine.specs.declared.ran.How.{How}
 use Rattle.weave_engine.specs.declared.ran.How.TheVariants.{Done, Unfinished, WriteFault}
@@ -36,10 +36,10 @@ rose_by before now (Ok (Some line)) how is faults = let e : Unfinished line.acto
 rose_by before now (Err Failed) how is faults = let e : WriteFault ≡ how = cc is in subst (RoseBy before now) e faults
 rose_by before now (Err NoMemory) how is faults = absurd (cc is)
 
-pub failed_by : (came : Result (Option OpenLine) Stop) (how : How) → how_ended came ≡ Some how → is_failed came ≡ is_write_fault how
-failed_by (Ok None) how is = let e : Done ≡ how = cc is in ap is_write_fault e
-failed_by (Ok (Some line)) how is = let e : Unfinished line.actor line.number ≡ how = cc is in ap is_write_fault e
-failed_by (Err Failed) how is = let e : WriteFault ≡ how = cc is in ap is_write_fault e
+pub failed_by : (came : Result (Option OpenLine) Stop) (how : How) → how_ended came ≡ Some how → is_failed came ≡ ended_by_write_fault how
+failed_by (Ok None) how is = let e : Done ≡ how = cc is in ap ended_by_write_fault e
+failed_by (Ok (Some line)) how is = let e : Unfinished line.actor line.number ≡ how = cc is in ap ended_by_write_fault e
+failed_by (Err Failed) how is = let e : WriteFault ≡ how = cc is in ap ended_by_write_fault e
 failed_by (Err NoMemory) how is = absurd (cc is)
 
 pub unfailed_refused : (came : Result (Option OpenLine) Stop) → how_ended came ≡ None → is_failed came ≡ false

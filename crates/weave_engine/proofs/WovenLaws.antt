@@ -31,7 +31,7 @@ use Rattle.tdp_io.specs.declared.sink.Stop.{Stop}
 use Rattle.tdp_io.specs.declared.sink.Stop.TheVariants.{NoMemory as Full}
 use Rattle.weave_engine.specs.Pieces.{WritesMost}
 use Rattle.weave_engine.specs.Replays.{RunsLines}
-use Rattle.weave_engine.specs.Turned.{Comes, PutsRun}
+use Rattle.weave_engine.specs.Turned.{ComesTo, PutsRun}
 use Rattle.weave_engine.specs.Rounds.{AllAnswered}
 use Rattle.weave_engine.specs.Turning.{HasNoLineLeft, MayStop, RunsItems, RunsItemsSoFar}
 use Rattle.weave_engine.specs.Weaves.{FollowsBoth, FollowsSoFar, RunsAllRounds, RunsSomeRounds, Weaves, WeavesAll, WeavesPart}
@@ -55,7 +55,7 @@ module _ (trace : Trace) (limit : ℕ) (start : World Held) (is_start : IsStart 
   z = sizes_of trace.header
 
   -- Steps that follow the trace so far weave it so far.
-  weaves_so_far : (ss : List (Step Kind)) (t : World Held) (bytes : List ℕ) → Comes start ss t bytes → FollowsSoFar trace limit start ss
+  weaves_so_far : (ss : List (Step Kind)) (t : World Held) (bytes : List ℕ) → ComesTo start ss t bytes → FollowsSoFar trace limit start ss
       → WeavesSoFar trace limit bytes t
   weaves_so_far ss t bytes C F = record {
     start = start;
@@ -72,7 +72,7 @@ module _ (trace : Trace) (limit : ℕ) (start : World Held) (is_start : IsStart 
   }
 
   -- One list of steps weaves the trace so far, and may stop here for this.
-  stops_weaving : (stop : Stop) (ss : List (Step Kind)) (t : World Held) (bytes : List ℕ) → Comes start ss t bytes → FollowsSoFar trace limit start ss
+  stops_weaving : (stop : Stop) (ss : List (Step Kind)) (t : World Held) (bytes : List ℕ) → ComesTo start ss t bytes → FollowsSoFar trace limit start ss
       → MayStop stop start ss → WeavesUntil stop trace limit t bytes
   unfolding weaves_so_far
   stops_weaving stop ss t bytes C F may = inl (weaves_so_far ss t bytes C F, may)
@@ -123,7 +123,7 @@ module _ (trace : Trace) (limit : ℕ) (start : World Held) (is_start : IsStart 
     few_above = omega arith
 
     -- the steps of these lines, and more
-    from_start : (t : World Held) (ss : List (Step Kind)) (bytes : List ℕ) → Comes w ss t bytes → Comes start (L.0.steps ++ ss) t (printed ++ bytes)
+    from_start : (t : World Held) (ss : List (Step Kind)) (bytes : List ℕ) → ComesTo w ss t bytes → ComesTo start (L.0.steps ++ ss) t (printed ++ bytes)
     from_start t ss bytes C = comes_then start w t L.0.steps ss printed bytes (record { legal = L.0.legal; ends = L.0.ends; prints = refl }) C
 
     may_stop : (stop : Stop) (ss : List (Step Kind)) → MayStop stop w ss → MayStop stop start (L.0.steps ++ ss)
@@ -159,8 +159,8 @@ module _ (trace : Trace) (limit : ℕ) (start : World Held) (is_start : IsStart 
       items_put : IsPut before there waits_there (printed ++ I.1)
       items_put = goes_on before here there waits waits_there I.1 [] printed lines_put I.4
 
-      comes_both : (t : World Held) (ss : List (Step Kind)) (bytes : List ℕ) → Comes u ss t bytes
-          → Comes start (L.0.steps ++ (I.0 ++ ss)) t (printed ++ (I.1 ++ bytes))
+      comes_both : (t : World Held) (ss : List (Step Kind)) (bytes : List ℕ) → ComesTo u ss t bytes
+          → ComesTo start (L.0.steps ++ (I.0 ++ ss)) t (printed ++ (I.1 ++ bytes))
       comes_both t ss bytes C = from_start t (I.0 ++ ss) (I.1 ++ bytes) (comes_then w u t I.0 ss I.1 bytes I.3 C)
 
       -- Turns in rounds follow all lines above `go` and all items.
@@ -205,7 +205,7 @@ module _ (trace : Trace) (limit : ℕ) (start : World Held) (is_start : IsStart 
         all_put : IsPut before at waits_at all_text
         all_put = goes_on before there at waits_there waits_at R.1 printed I.1 items_put R.4
 
-        all_come : Comes start all_steps t all_text
+        all_come : ComesTo start all_steps t all_text
         all_come = comes_both t R.0 R.1 R.3
 
         woven : Weaves trace limit all_text t
@@ -264,7 +264,7 @@ module _ (trace : Trace) (limit : ℕ) (start : World Held) (is_start : IsStart 
               ),
             )
 
-        -- The writing stopped behind all turns.
+        -- The writing stopped after all turns.
         pub stops_open : IsStrictlyIncreasing (map (λ (l : Line). l.number) trace.lines) → (stop : Stop) (open_ : Option Line) (after : Option (List ℕ))
             → FirstOpen z t open_ → AppendsPrefix at after (waits_at ++ open_text open_) → WritesUntil stop trace limit t before after
         stops_open up stop None after none wrote = (

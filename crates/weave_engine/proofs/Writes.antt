@@ -1,4 +1,4 @@
--- Text that is put piece by piece, behind what was written before.
+-- Text that is put piece by piece, after what was written before.
 use Rattle.std.proofs.Common.{◌≡◌, ◌≤◌, ◌+◌, ◌⊎◌, inl, ℕ, List, [], ◌++◌, Result, Ok, Err, length, take, refl, sym, ap, ◌∙◌, subst, append_assoc}
 use Rattle.std.proofs.Common.{arith, length-append}
 use Rattle.std.proofs.lemmas.List.{append-nil}
@@ -18,7 +18,7 @@ IsPut start here waits whole = (w : List ℕ) × Appends start here w × (w ++ w
 pub none_put : (start : Option (List ℕ)) (waits : List ℕ) → length waits ≤ most_waiting → IsPut start start waits (waits ++ [])
 none_put start waits few = ([], Appends-nil start, sym (append-nil waits), few)
 
--- One piece more is put, behind what waited at first and what was put since.
+-- One piece more is put, after what waited at first and what was put since.
 pub goes_on : (start here after : Option (List ℕ)) (waited waits piece first put : List ℕ) → IsPut start here waited (first ++ put)
     → Buffers here after waited waits (Ok tt) piece → IsPut start after waits (first ++ (put ++ piece))
 goes_on start here after waited waits piece first put (w, p, e, few) (v, q, f, more) = (

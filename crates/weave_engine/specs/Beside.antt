@@ -15,7 +15,7 @@ use Rattle.core_theorem.specs.Turns.{begins_line, bounds_of, delays_line, how_ma
 abbrev pub is_numbered : ℕ → World Held → Step Kind → Bool
 is_numbered number w s = (line_of (hand_in mmu w s.actor)).number == number
 
--- how many of these steps, made one behind the other from this world on, are delays of the line with this number
+-- how many of these steps, made one after the other from this world on, are delays of the line with this number
 abbrev pub delays_of : ℕ → World Held → List (Step Kind) → ℕ
 delays_of number w ss = how_many (λ u s. is_numbered number u s && delays_line u s) w ss
 

@@ -102,7 +102,7 @@ pub record Replays (trace : Trace) (lines : List Line) (bytes : List ℕ) (closi
   pub prints : bytes ≡ text (history start runs.steps)
   pub flat : need trace.header trace.lines ≤ trace.header.pool → RunsAsFlat (sizes_of trace.header) lines bytes (history start runs.steps)
 
--- A replay of the trace came to this world, where it printed this, and stopped for this: behind some of the lines, or at the end, when all had run.
+-- A replay of the trace came to this world, where it printed this, and stopped for this: after some of the lines, or at the end, when all had run.
 abbrev pub ReplaysUntil : Stop → Trace → World Held → List ℕ → Type 0
 ReplaysUntil stop trace closing bytes =
     ((count : ℕ) × (R : Replays trace (take count trace.lines) bytes closing) × MayStop stop R.start R.runs.steps) ⊎ Replays trace trace.lines bytes closing

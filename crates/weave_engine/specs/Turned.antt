@@ -34,7 +34,7 @@ abbrev pub next_code_in : Held → ℕ
 next_code_in h = (kind_of_task h.state.sizes (task_of h)).code
 
 -- Steps that may be made one after another lead from one world to the other, and what they tell has this text.
-pub record Comes (before : World Held) (ss : List (Step Kind)) (after : World Held) (bytes : List ℕ) : Type 0 where
+pub record ComesTo (before : World Held) (ss : List (Step Kind)) (after : World Held) (bytes : List ℕ) : Type 0 where
   pub legal : Legal mmu before ss
   pub ends : run mmu before ss ≡ after
   pub prints : bytes ≡ text (history before ss)
@@ -56,7 +56,7 @@ pub record MakesTurn (actor : ℕ) (before after : World Held) (stop : Bool) (by
   pub step : Step Kind
   pub turn : IsTurn actor before step
   pub stops_ : stops before step ≡ stop
-  pub comes : Comes before (step ∷ []) after bytes
+  pub comes : ComesTo before (step ∷ []) after bytes
 
 -- The turn was one of the line that the actor's hand had under way, or else of its next one, which has this number and is this actor's. That
 -- line's next step was made, and the turn answers by it: the line goes on, or the hand has its answer.
@@ -71,11 +71,11 @@ abbrev pub TurnedOn : Option TurnMade → ℕ → World Held → World Held → 
 TurnedOn None actor before after = HasNoLineLeft actor before × (after ≡ before)
 TurnedOn (Some made) actor before after = IsTurnOf made.number made.actor (told_in made.turn actor before after) actor before after
 
--- the same of the worlds that a seat tells, before the turn and behind it
+-- the same of the worlds that a seat tells, before the turn and after it
 abbrev pub TurnedTold : Option TurnMade → ℕ → Option (World Held) → Option (World Held) → Type 0
 TurnedTold made actor told tells = IfSome told (λ w. (t : World Held) × (tells ≡ Some t) × TurnedOn made actor w t)
 
--- The actor's turn was made, and what it prints was put behind what waited to be written. Where that stopped, either memory was refused
+-- The actor's turn was made, and what it prints was put after what waited to be written. Where that stopped, either memory was refused
 -- and no step was made; or the turn answered its line. What waited, and what the turn prints, was written but for little.
 abbrev pub PutsTurn : ℕ → World Held → World Held → Option (List ℕ) → Option (List ℕ) → List ℕ → List ℕ → Result Turned Stop → Type 0
 PutsTurn actor before after written writes waited waits (Ok NoLine) =
@@ -88,14 +88,14 @@ PutsTurn actor before after written writes waited waits (Err stop) =
     ((stop ≡ Full) × (after ≡ before) × WritesMost written writes waited)
     ⊎ ((bytes : List ℕ) × (M : MakesTurn actor before after true bytes) × AnswersLine before M.step × WritesMost written writes (waited ++ bytes))
 
--- Steps of which this holds lead from one world to the other, and what they print was put behind what waited to be written; or, where that
--- stopped, steps of which that holds were made, behind which it may stop for this, and what waited and what they print
+-- Steps of which this holds lead from one world to the other, and what they print was put after what waited to be written; or, where that
+-- stopped, steps of which that holds were made, after which it may stop for this, and what waited and what they print
 -- was written but for little.
 abbrev pub PutsRun :
     (World Held → List (Step Kind) → Type 0) → (World Held → List (Step Kind) → Type 0) → World Held → World Held → Option (List ℕ) → Option (List ℕ)
     → List ℕ → List ℕ → Result (Unit {0}) Stop → Type 0
 PutsRun whole part before after written writes waited waits (Ok u) =
-    (ss : List (Step Kind)) × (bytes : List ℕ) × whole before ss × Comes before ss after bytes × Buffers written writes waited waits (Ok u) bytes
+    (ss : List (Step Kind)) × (bytes : List ℕ) × whole before ss × ComesTo before ss after bytes × Buffers written writes waited waits (Ok u) bytes
 PutsRun whole part before after written writes waited waits (Err stop) =
-    (ss : List (Step Kind)) × (bytes : List ℕ) × part before ss × Comes before ss after bytes × MayStop stop before ss
+    (ss : List (Step Kind)) × (bytes : List ℕ) × part before ss × ComesTo before ss after bytes × MayStop stop before ss
     × WritesMost written writes (waited ++ bytes)

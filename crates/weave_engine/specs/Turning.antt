@@ -48,7 +48,7 @@ pub record EndsWithAnswer (w : World Held) (ss : List (Step Kind)) : Type 0 wher
   pub are : ss ≡ before ++ last ∷ []
   pub answers : AnswersLine (run mmu w before) last
 
--- Why a run stops behind these steps: a write fails only where one is tried, behind an answer; memory may be refused anywhere.
+-- Why a run stops after these steps: a write fails only where one is tried, after an answer; memory may be refused anywhere.
 abbrev pub MayStop : Stop → World Held → List (Step Kind) → Type 0
 MayStop Failed w ss = EndsWithAnswer w ss
 MayStop NoMemory w ss = Unit {0}
@@ -90,25 +90,25 @@ LastEnds until w (s ∷ []) = ends_item until w s ≡ true
 LastEnds until w (s ∷ t ∷ ss) = LastEnds until (effect mmu w s) (t ∷ ss)
 
 -- As many turns were made as the item says, or one that ends it; or the actor has no line left.
-abbrev pub IsOver : Until → ℕ → World Held → List (Step Kind) → Type 0
-IsOver (Turns count) actor w ss = (length ss ≡ count) ⊎ HasNoLineLeft actor (run mmu w ss)
-IsOver until actor w ss = LastEnds until w ss ⊎ HasNoLineLeft actor (run mmu w ss)
+abbrev pub ItemOver : Until → ℕ → World Held → List (Step Kind) → Type 0
+ItemOver (Turns count) actor w ss = (length ss ≡ count) ⊎ HasNoLineLeft actor (run mmu w ss)
+ItemOver until actor w ss = LastEnds until w ss ⊎ HasNoLineLeft actor (run mmu w ss)
 
 -- The item doesn't allow more turns than these.
-abbrev pub IsWithin : Until → List (Step Kind) → Type 0
-IsWithin (Turns count) ss = length ss ≤ count
-IsWithin _ ss = Unit {0}
+abbrev pub ItemFits : Until → List (Step Kind) → Type 0
+ItemFits (Turns count) ss = length ss ≤ count
+ItemFits _ ss = Unit {0}
 
 -- These are turns of an actor that go on until so, as far as they have come.
 pub record RunsBySoFar (until : Until) (actor : ℕ) (w : World Held) (ss : List (Step Kind)) : Type 0 where
   pub turns : AreTurns actor w ss
   pub none_ends : NoneEndsBefore until w ss
-  pub within : IsWithin until ss
+  pub within : ItemFits until ss
 
 -- These are all of them.
 pub record RunsBy (until : Until) (actor : ℕ) (w : World Held) (ss : List (Step Kind)) : Type 0 where
   pub so_far : RunsBySoFar until actor w ss
-  pub over : IsOver until actor w ss
+  pub over : ItemOver until actor w ss
 
 -- an item's turns, and those of one that may have more to come
 abbrev pub RunsItem : Sizes → Item → World Held → List (Step Kind) → Type 0

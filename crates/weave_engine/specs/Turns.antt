@@ -22,7 +22,7 @@ IsJobOf (SlotChange job) line before = (job.index ≡ before) × (changes_slot l
 IsJobOf (Host job) line before = (job.index ≡ before) × (changes_host line.command ≡ true)
 
 -- The seat tells a world, whose hand its actor has, and in it the actor's line is alone.
-pub record IsAlone (seat : Seat) : Type 0 where
+pub record LineIsAlone (seat : Seat) : Type 0 where
   pub world : World Held
   pub is : seat.tells.world ≡ Some world
   pub has : hand_in mmu world seat.actor ≡ seat.hand

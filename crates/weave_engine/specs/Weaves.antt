@@ -72,8 +72,8 @@ pub record FollowsBoth (trace : Trace) (limit : ℕ) (start : World Held) (steps
 
 -- From any moment on at which no line of an actor is under way, so from the one at which its line begins: the step that answers the line
 -- starved, or refuses it a frame, ends a scan of the whole map by the line's actor since that moment, which found nothing free in any of its words.
-abbrev pub StarvedLinesScan : Sizes → World Held → List (Step Kind) → Type 0
-StarvedLinesScan z start steps =
+abbrev pub StarvedLinesScanIn : Sizes → World Held → List (Step Kind) → Type 0
+StarvedLinesScanIn z start steps =
     (map : FreeMap) (earlier own later : List (Step Kind)) (s : Step Kind) → steps ≡ earlier ++ (own ++ s ∷ later)
     → (hand_in mmu (run mmu start earlier) s.actor).state.place ≡ Between
     → outcome_of (hand_of (run mmu start earlier) own s) (answer_of (run mmu start earlier) own s) ≡ Ends (answer_without map)
@@ -91,7 +91,7 @@ pub record WeavesSoFar (trace : Trace) (limit : ℕ) (bytes : List ℕ) (closing
   pub follows : FollowsSoFar trace limit start steps
   pub lawful : IsLawful (sizes_of trace.header) first_flat (history start steps)
   pub whole : IsWholeSoFar (history start steps) trace.lines (begun_in (sizes_of trace.header) closing) (answered_in (sizes_of trace.header) closing)
-  pub starved : StarvedLinesScan (sizes_of trace.header) start steps
+  pub starved : StarvedLinesScanIn (sizes_of trace.header) start steps
   pub prints : bytes ≡ text (history start steps)
 
 -- It follows all of the trace but perhaps for rounds.

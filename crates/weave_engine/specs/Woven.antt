@@ -23,7 +23,7 @@ abbrev pub IsWholeText : Trace → ℕ → World Held → List ℕ → Type 0
 IsWholeText trace limit closing text =
     WeavesAll trace limit text closing ⊎ ((bytes : List ℕ) × (line : Line) × WeavesPart trace limit bytes closing line × (text ≡ bytes ++ unfinished_text line))
 
--- A weave came to this world, where it printed this text, and stopped for this: behind some of its steps, or at the end, when it was over.
+-- A weave came to this world, where it printed this text, and stopped for this: after some of its steps, or at the end, when it was over.
 abbrev pub WeavesUntil : Stop → Trace → ℕ → World Held → List ℕ → Type 0
 WeavesUntil stop trace limit closing text = ((W : WeavesSoFar trace limit text closing) × MayStop stop W.start W.steps) ⊎ IsWholeText trace limit closing text
 
@@ -71,13 +71,13 @@ WritesWeave trace limit before after (Ok ran) = WritesBy trace limit (world_of r
 WritesWeave trace limit before after (Err e) = (closing : World Held) × WritesUntil Full trace limit closing before after
 
 -- The run ended because a write failed.
-abbrev pub is_write_fault : How → Bool
-is_write_fault WriteFault = true
-is_write_fault Done = false
-is_write_fault (Unfinished actor line) = false
+abbrev pub ended_by_write_fault : How → Bool
+ended_by_write_fault WriteFault = true
+ended_by_write_fault Done = false
+ended_by_write_fault (Unfinished actor line) = false
 
 abbrev pub ran_failed : Result Ran NoMemory → Bool
-ran_failed (Ok ran) = is_write_fault ran.how
+ran_failed (Ok ran) = ended_by_write_fault ran.how
 ran_failed (Err e) = false
 
 -- The count of failed writes rose where the run ended with a fault of writing, and stayed at any other end.

@@ -44,7 +44,7 @@ abbrev pub WritesReplay : Trace → Option (List ℕ) → Option (List ℕ) → 
 WritesReplay trace before after (Ok ran) = ReplaysBy trace (world_of ran.closing.words ran.closing.hands) before after ran.how
 WritesReplay trace before after (Err e) = (closing : World Held) × WritesLines trace closing before after (Err Full)
 
--- The first lines ran one after another, each alone, from this world to that one, and what they are answered was put behind what waited to
+-- The first lines ran one after another, each alone, from this world to that one, and what they are answered was put after what waited to
 -- be written; or fewer of them ran so, and these bytes were written but for little.
 abbrev pub RunsAndPuts : Sizes → World Held → List Line → ℕ → World Held → Option (List ℕ) → Option (List ℕ) → List ℕ → List ℕ → Result (Unit {0}) Stop → Type 0
 RunsAndPuts z start lines count end_ before after waited waits (Ok u) =

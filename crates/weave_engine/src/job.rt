@@ -3,7 +3,7 @@ ghost use Rattle.core_views.specs.declared.place.Place.TheVariants.{Between};
 ghost use Rattle.mmu_core.specs.machine.Worlds.{HandReached};
 ghost use Rattle.mmu_core.specs.machine.Turns.{IsAnswered, IsSameHand, line_of};
 ghost use Rattle.step_seats.specs.Moves.{KeepsRoom};
-ghost use Rattle.weave_engine.specs.Turns.{IsAlone, IsJobOf, RanAlone};
+ghost use Rattle.weave_engine.specs.Turns.{LineIsAlone, IsJobOf, RanAlone};
 ghost use Rattle.step_seats.specs.LineTurns.{Says, TurnsLine, answer_given, turn_told};
 
 use core_views::{Command, Hand, Line, NoMemory, Place};
@@ -104,7 +104,7 @@ pub fn run_line<S: Stepper>(s: &mut S, line: &Line) -> Result<(), NoMemory>
     requires idle { (S.seat s.old).hand.state.place ≡ Between }
     requires next { slice_get (S.seat s.old).hand.lines (length (S.seat s.old).hand.answers) ≡ Some line.now }
     requires own { line.now.actor ≡ (S.seat s.old).hand.state.actor }
-    requires alone { IsAlone (S.seat s.old) }
+    requires alone { LineIsAlone (S.seat s.old) }
     ensures answered { IfOk result
         (λ done. IsAnswered line.now (answer_given (S.seat s.old).hand (S.seat s.new).hand) (S.seat s.old).hand (S.seat s.new).hand) }
     ensures alone { IfOk result (λ done. RanAlone line.now (answer_given (S.seat s.old).hand (S.seat s.new).hand) (S.seat s.old) (S.seat s.new)) }

@@ -14,7 +14,7 @@ use core_views::Line;
 use step_seats::PlainMachine;
 use tdp_io::{Sink, Stop};
 
-// The place behind this one, of so many, round the order.
+// The place after this one, of so many, round the order.
 fn next_place(index: usize, count: usize) -> usize
     requires { index < count }
     ensures { IsNextPlace count index result }

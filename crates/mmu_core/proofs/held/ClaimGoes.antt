@@ -35,7 +35,7 @@ use Rattle.mmu_core.proofs.words.PartTopics.{part_topics_is}
 
 -- ---- what one step makes of a claim
 
--- the claim over the map behind a step of a part
+-- the claim over the map after a step of a part
 abbrev claim_behind : FreeMap → PartStep → MapClaim → ℕ → MapClaim
 claim_behind Pages (part.Map word) c v = record { at = word + (if v == 0 then 1 else 0); seen = v }
 claim_behind Pages part.Claim c v = tried c v
@@ -58,7 +58,7 @@ claim_is Frames part.Frame t v = refl
 claim_is Frames part.GiveFrame t v = refl
 claim_is Frames _ t v = refl
 
--- the claim behind a load of word 0, whoever makes it
+-- the claim after a load of word 0, whoever makes it
 pub loaded_first : (z : Sizes) (map : FreeMap) (k : Kind) (t : Topics) (v : ℕ) → k.code ≡ code_of kind.Control
     → k.word ≡ place (map_of z) (map_area map) 0 → 0 < map_words map z
     → claim_over map (topics_after z k t v) ≡ record { at = if v == 0 then 1 else 0; seen = v }
@@ -95,7 +95,7 @@ at_behind map w s there =
     ap (λ (x : Held). (claim_over map x.topics).at) (own_hand w s there)
     ∙ ap (λ (t : Topics). (claim_over map t).at) (next_topics (hand_in mmu w s.actor) s.kind (answered mmu w s.kind))
 
--- A claim has come as far as before, or is over, or is behind a word that the step found 0.
+-- A claim has come as far as before, or is over, or is after a word that the step found 0.
 abbrev pub GoesTo : Sizes → FreeMap → ℕ → World Held → Step Kind → ℕ → ℕ → Type 0
 GoesTo z map actor w s at behind = (behind ≡ at) ⊎ ((behind ≡ 0) ⊎ ((behind ≡ at + 1) × FindsNoneFree z map actor at w s))
 

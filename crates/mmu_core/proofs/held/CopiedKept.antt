@@ -36,7 +36,7 @@ use Rattle.part_steps.specs.TopicSteps.{topics_after}
 use Rattle.mmu_core.specs.invariant.CachedPart.{IsLeafFor}
 use Rattle.mmu_core.specs.invariant.FramesPart.{CopiedPart, IsCopied}
 use Rattle.mmu_core.specs.invariant.Invariant.{Invariant, KnowsPart}
-use Rattle.mmu_core.specs.invariant.InvalidatedPart.{Gives, IsIn, may_use}
+use Rattle.mmu_core.specs.invariant.InvalidatedPart.{SlotGives, IsIn, may_use}
 use Rattle.mmu_core.specs.invariant.TopicsInvariant.{TopicsInvariant}
 use Rattle.mmu_core.specs.lines.AccessKnows.{AccessKnows}
 use Rattle.mmu_core.specs.lines.AccessSteps.{task_by, touch_of}
@@ -70,7 +70,7 @@ record TouchedPage (z : Sizes) (v : View) (a gfn : ℕ) : Type 0 where
   page : ℕ
   there : page < z.pages
   frame : frame_used gfn (v.hand a).state ≡ host_frame (v.words area.Host page)
-  gives : Gives (v.words area.Pool) (v.words area.Slots 0) page gfn
+  gives : SlotGives (v.words area.Pool) (v.words area.Slots 0) page gfn
 
 in_machine : (z : Sizes) (gfn : ℕ) (slot : SlotOf) → slot.host + slot.pages ≤ z.pages → contains gfn slot ≡ true → page_of slot gfn < z.pages
 in_machine z gfn slot fits holds = let inside = bounds slot.base (slot.base + slot.pages) holds in omega (arith, fits, inside.0, inside.1)
@@ -113,7 +113,7 @@ module _ (z : Sizes) (v : View) (a gfn : ℕ) (write : Bool) (I : Invariant z v)
       let own_ = used_leaf (λ (t : Translation). IsIn (v.hand i).topics.invalidations.own t.gfn → ⊥) gfn write (v.hand a).cached.items used clean K.1
       found.0 in
       own_.1 (subst (IsIn (v.hand i).topics.invalidations.own) own_.0
-      ((P.scopes i lt opened).covers gfn (subst (λ p. Gives (v.words area.Pool) (v.words area.Slots 0) p gfn) (e ∙ sym M.invalid) touched_page.gives)))
+      ((P.scopes i lt opened).covers gfn (subst (λ p. SlotGives (v.words area.Pool) (v.words area.Slots 0) p gfn) (e ∙ sym M.invalid) touched_page.gives)))
 
   -- So what is copied stays, where a word of the touched frame is stored.
   touch_copied : (word x : ℕ) → word < z.words → CopiedAt z v
@@ -139,7 +139,7 @@ module _ (z : Sizes) (v : View) (a gfn : ℕ) (write : Bool) (I : Invariant z v)
 
 -- ---- each step
 
--- The words behind a task of a line, and the hands with what its actor holds then.
+-- The words after a task of a line, and the hands with what its actor holds then.
 abbrev CopiedBehind : Sizes → View → ℕ → Task → Type 0
 CopiedBehind z v a task = CopiedAt z (record {
   words = words_after task v.words;

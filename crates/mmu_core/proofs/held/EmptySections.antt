@@ -53,7 +53,7 @@ own_comes w s may out = by (step_kind h s.kind may.enabled)
     by (inr Q) = inl (ap (λ (x : Held). x.topics.stay) (hand_here w s may.there) ∙ ap (λ (t : Topics). t.stay) (next_topics h s.kind v)
         ∙ ap (λ (t : Topics). t.stay) (Q.topics v) ∙ out)
 
--- An actor that was outside is so behind a step, or this step is its own, and it holds nothing inside.
+-- An actor that was outside is so after a step, or this step is its own, and it holds nothing inside.
 abbrev Comes : World Held → Step Kind → ℕ → Type 0
 Comes w s i = (topics_in w i).stay ≡ Outside → ((topics_in (effect mmu w s) i).stay ≡ Outside) ⊎ ((s.actor ≡ i) × IsEmptyInside (topics_in (effect mmu w s) i))
 

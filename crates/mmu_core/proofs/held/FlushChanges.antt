@@ -1,4 +1,4 @@
--- What is said of the flush of one virtual processor for one invalidation holds behind each change of either.
+-- What is said of the flush of one virtual processor for one invalidation holds after each change of either.
 use Rattle.std.proofs.Common.{◌≡◌, ◌⊎◌, inl, inr, ◌+◌, ◌*◌, ◌/◌, ◌%◌, ◌^◌, ◌<◌, ℕ, List, [], refl, sym, ap, ◌∙◌, arith, w64}
 use Rattle.std.specs.Int.Bits.{bit_and, bit_or}
 use Rattle.std.specs.Prelude.{Bool, true, false, ◌==◌, ◌&&◌, ◌≢◌, not, if◌then◌else◌}

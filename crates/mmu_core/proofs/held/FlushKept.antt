@@ -57,7 +57,7 @@ pub use Rattle.mmu_core.proofs.held.FlushSteps.{FlushAt}
 
 -- ---- Behind a task.
 
--- the flushes' part behind a task, where the hand of the actor at place a is this one, but for what it holds and has cached
+-- the flushes' part after a task, where the hand of the actor at place a is this one, but for what it holds and has cached
 abbrev FlushesBehind : Sizes → View → ℕ → Held → Task → Topics → Buffer Translation → Type 0
 FlushesBehind z v a g task topics cached =
     FlushPart (actors_of z) z.vcpus (words_after task v.words area.State) (upd v.hand a (record g { topics = topics; cached = cached }))
@@ -69,7 +69,7 @@ FlushesAfter z v a g c task =
     let x : ℕ = answer_in task v.words in
     FlushesBehind z v a g task (topics_after (v.hand a).state.sizes k (v.hand a).topics x) (flushed k c x)
 
--- Behind a touch, and behind each step.
+-- After a touch, and after each step.
 touched_flushed : (z : Sizes) (v : View) (a : ℕ) (c : Buffer Translation) (g : Held) (op : Op) (index : ℕ) → KeepsClean z v a c → FlushAt z v
     → FlushesAfter z v a g c (touch_of op index)
 unfolding topics_after flushed

@@ -75,7 +75,7 @@ asked_there states index k e =
 
 -- ---- Behind a step of a part.
 
--- The step's actor has this cached, before a flush; and its hand is this one behind the step, but for what it holds and has cached.
+-- The step's actor has this cached, before a flush; and its hand is this one after the step, but for what it holds and has cached.
 module _ (z : Sizes) (v : View) (a note : ℕ) (c : Buffer Translation) (g : Held) where
   abbrev h : Held
   h = v.hand a
@@ -152,7 +152,7 @@ module _ (z : Sizes) (v : View) (a note : ℕ) (c : Buffer Translation) (g : Hel
   Shows (part.Await index) k state stay = k ≡ index → (state ≡ found (part.Await index)) × (state % 4 ≡ stay_bits stay)
   Shows _ k state stay = Unit {0}
 
-  -- So it does behind the step.
+  -- So it does after the step.
   shows : (step : PartStep) → TopicsInvariant z v → (k : ℕ) → k < actors_of z → Shows step k (states step k) (upd v.hand a (behind step) k).topics.stay
   shows (part.Ask index) I k lt = asked_there before index k
   shows (part.Await index) I k lt = λ e. (ap before e, (states_frame (actors_of z) before v.hand a (behind (part.Await index)) refl I.states_part k lt).1)

@@ -70,7 +70,7 @@ after_few : (words frame : ℕ) (won : Bool) (owned : Option OwnedFrame) → Few
 after_few words frame true owned few = left_few words frame owned
 after_few words frame false owned few = few
 
--- ---- Both, behind each step of frames.
+-- ---- Both, after each step of frames.
 
 module _ (z : Sizes) (f : Frames) (F : FrameCountersPart z f) where
   few : FewMoved z.words f.owned

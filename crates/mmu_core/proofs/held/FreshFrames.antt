@@ -16,7 +16,7 @@ use Rattle.part_steps.specs.PartHoldings.{IsFresh, MayEnter}
 use Rattle.part_steps.specs.PartTasks.{word_looked}
 use Rattle.part_steps.specs.SlotWords.{leaf_of, page_of}
 use Rattle.part_steps.specs.StayTopics.{has_lock}
-use Rattle.mmu_core.specs.invariant.InvalidatedPart.{Gives, IsIn}
+use Rattle.mmu_core.specs.invariant.InvalidatedPart.{SlotGives, IsIn}
 use Rattle.mmu_core.specs.invariant.InvalidationsPart.{knows_seq}
 use Rattle.mmu_core.specs.invariant.SearchPart.{IsInvalidating, IsOnPage}
 use Rattle.mmu_core.specs.invariant.SlotSetPart.{IsLiveIn}
@@ -100,10 +100,10 @@ looked_word z v a gfn there I M =
     none : (j : ℕ) → j < actors_of z → IsInvalidating (IsOnPage (page_of slot gfn)) (v.hand j).topics → ⊥
     none j lt U =
         let B = behind_it slot gfn M.looked_up.found.holds in
-        let given : Gives (v.words area.Pool) (v.words area.Slots 0) (page_of slot gfn) gfn =
+        let given : SlotGives (v.words area.Pool) (v.words area.Slots 0) (page_of slot gfn) gfn =
         record { id = t.search.id - 1; slot = slot; live = found_live z v a gfn there I M; has = B.0; is = B.1 } in
         fresh_in_none z v a j gfn I there lt lock M.fresh U.opened
-        ((I.scopes j lt U.opened).covers gfn (subst (λ p. Gives (v.words area.Pool) (v.words area.Slots 0) p gfn) (sym U.of_it) given))
+        ((I.scopes j lt U.opened).covers gfn (subst (λ p. SlotGives (v.words area.Pool) (v.words area.Slots 0) p gfn) (sym U.of_it) given))
 
 -- A leaf agrees still where its page's host word stays.
 pub leaf_same : (pool host : ℕ → ℕ) (set page word gfn leaf : ℕ) → (L : IsLeafFor pool host set gfn leaf)

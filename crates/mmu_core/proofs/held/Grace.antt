@@ -1,4 +1,4 @@
--- Whom a watch has behind it was seen outside, and who comes from outside holds nothing that was loaded before.
+-- Whom a watch has after it was seen outside, and who comes from outside holds nothing that was loaded before.
 use Rattle.std.proofs.Common.{◌≡◌, ◌≢◌, ◌⊎◌, inl, inr, ◌+◌, ◌<◌, ◌≤◌, ℕ, List, [], ◌∷◌, length, refl, sym, subst, ap, ◌∙◌, arith}
 use Rattle.std.specs.Prelude.{Bool, true, false, ◌==◌, not, if◌then◌else◌}
 use Rattle.std.proofs.lemmas.Bool.Decides.{nat_tests}
@@ -38,7 +38,7 @@ use Rattle.mmu_core.proofs.start.Starts.{hand_is, start_good}
 use Rattle.mmu_core.proofs.held.StateTells.{word_tells}
 use Rattle.mmu_core.proofs.machine.Worlds.{good_step}
 
--- the hands behind a step
+-- the hands after a step
 pub hand_here : (w : World Held) (s : Step Kind) → s.actor < length w.hands
     → hand_in mmu (effect mmu w s) s.actor ≡ next (hand_in mmu w s.actor) s.kind (answered mmu w s.kind)
 unfolding effect

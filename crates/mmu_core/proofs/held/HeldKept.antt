@@ -44,7 +44,7 @@ use Rattle.mmu_core.proofs.held.LeadsDown.{LeadsDown, entry_leads_down, link_lea
 abbrev pub HeldAt : Sizes → (ℕ → Option Position) → View → Type 0
 HeldAt z stands v = (i : ℕ) → i < actors_of z → HeldPart stands (v.hand i).topics
 
--- ---- What is held behind each step, over plain topics.
+-- ---- What is held after each step, over plain topics.
 
 never_or : (b : Bool) → (b || true) ≡ false → ⊥
 never_or true e = cc
@@ -165,7 +165,7 @@ gone_held stands t s j v (Some page) stay hold search walk to leads H = record {
 
 -- ---- Each step.
 
--- where the tables stand behind the step
+-- where the tables stand after the step
 abbrev stands_after : (z : Sizes) (v : View) → ℕ → PartStep → TopicsInvariant z v → ℕ → Option Position
 stands_after z v a step I = stands (up_after step a (v.hand a).topics v I.up) (spot_after step (v.hand a).topics v I.spot)
 

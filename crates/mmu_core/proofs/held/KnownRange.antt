@@ -39,7 +39,7 @@ range_not_end : (c : Checked) → range_checked c ≡ checked.All → ⊥
 range_not_end checked.Start e = cc e
 range_not_end _ e = cc e
 
--- A load of the sequence number does behind the range, or behind a count of 0.
+-- A load of the sequence number does after the range, or after a count of 0.
 seq_at_end : (locked : Bool) (count : ℕ) (c : Checked) → seq_checked locked count c ≡ checked.All → 0 < count → c ≡ checked.Range
 seq_at_end locked count checked.Count e some = absurd (by (count == 0) refl e)
   where

@@ -65,7 +65,7 @@ moved z hand a h x y sizes lt is next = record {
       (λ i. shared_counts (hand i).topics.hold);
 }
 
--- the lock behind each step on it, over plain numbers and columns
+-- the lock after each step on it, over plain numbers and columns
 share_free : (n w : ℕ) (hold next : ℕ → Hold) → LockPart n w hold → Moved n hold next Loose Shared → w < 2 ^ 63 → LockPart n ((w + 1) % 2 ^ 64) next
 share_free n w hold next I m lt = record { word = omega arith; one = omega arith; alone = omega arith }
 

@@ -48,7 +48,7 @@ left_words_stay z v a (part.Zap gfn) note S I i k lt is =
     page_stays z v a (part.Zap gfn) note S k (left_no_walk z v a i k S.there lt I S.needs.saw.over.there is)
 left_words_stay z v a _ note S I i k lt is = λ j low. refl
 
--- what is leaving behind a step was leaving before it, or is the page that was published
+-- what is leaving after a step was leaving before it, or is the page that was published
 pub was_leaving : (step : PartStep) (t : Topics) (v k : ℕ) → is_publish step ≡ false → left_behind step t v ≡ Some k → t.leaving ≡ Some k
 was_leaving part.Publish t v k never is = absurd (cc never)
 was_leaving part.Give t v k never is = by t.owned is
@@ -63,7 +63,7 @@ was_leaving part.GiveOld t v k never is = by t.owned is
     by (Some o) e = e
 was_leaving _ t v k never is = is
 
--- what an actor has leave behind a step that publishes nothing it had leave before
+-- what an actor has leave after a step that publishes nothing it had leave before
 left_before : (z : Sizes) (v : View) (a : ℕ) (step : PartStep) (note i k : ℕ) → is_publish step ≡ false
     → ((part_stepped a step note v).hand i).topics.leaving ≡ Some k → (v.hand i).topics.leaving ≡ Some k
 left_before z v a step note i k never is = by (same_or i a)

@@ -1,4 +1,4 @@
--- What other hands own, and that no page leaves, behind each step of a part and of an access.
+-- What other hands own, and that no page leaves, after each step of a part and of an access.
 use Rattle.std.proofs.Common.{◌≡◌, ◌≢◌, ◌<◌, ℕ, refl, ap, ◌∙◌}
 use Rattle.std.specs.Prelude.{false, Option, Some, None}
 use Rattle.core_views.specs.declared.place.AccessPlace.{AccessPlace}
@@ -31,7 +31,7 @@ pub owned_stays : (z : Sizes) (v : View) (a : ℕ) (step : PartStep) (note : ℕ
     → OwnedStays (v.words area.Pool) ((part_stepped a step note v).words area.Pool) (v.hand i)
 owned_stays z v a step note S P i lt ne = λ o is j low. page_stays z v a step note S o.page (others_elsewhere z v a step S P i o lt ne is) j low
 
--- Where no page leaves, none does behind a step that publishes none.
+-- Where no page leaves, none does after a step that publishes none.
 pub leaves_none : (step : PartStep) (z : Sizes) (own : ℕ) (t : Topics) (note v : ℕ) → is_publish step ≡ false → t.leaving ≡ None
     → (topics_after z (kind_of_task z (part_task step own t note)) t v).leaving ≡ None
 leaves_none step z own t note v never none = left_is step z own t note v ∙ by (left_behind step t v) refl

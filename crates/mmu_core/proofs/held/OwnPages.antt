@@ -8,7 +8,7 @@ use Rattle.core_views.specs.declared.sizes.Sizes.{Sizes}
 use Rattle.core_views.specs.declared.topics.HostLook.{HostLook}
 use Rattle.core_views.specs.Held.{Held}
 use Rattle.core_views.specs.HostChanges.{is_own}
-use Rattle.core_views.specs.Sizes.{AreSizes, actors_of, index_of, owns}
+use Rattle.core_views.specs.Sizes.{AreSizes, actors_of, index_of, is_threads}
 use Rattle.core_views.proofs.HostOwners.{one_owner}
 use Rattle.spte_words.specs.declared.area.Area.TheVariants as area
 use Rattle.part_steps.specs.declared.part_step.PartStep.TheVariants as part
@@ -27,7 +27,7 @@ own_page z a page (Host n) own_ at = subst (λ i. owns_page z i page ≡ true) a
     thread m own_ =
         let past : nat_le z.vcpus (z.vcpus + m) ≡ true = grind (arith, nat_tests) in
         let same : z.vcpus + m - z.vcpus ≡ m = omega arith in
-        ap (λ (b : Bool). b && owns z (z.vcpus + m - z.vcpus) page) past ∙ (ap (λ k. owns z k page) same ∙ own_)
+        ap (λ (b : Bool). b && is_threads z (z.vcpus + m - z.vcpus) page) past ∙ (ap (λ k. is_threads z k page) same ∙ own_)
 own_page z a page _ own_ at = absurd (cc own_)
 
 -- Who changes a page is its owner.
@@ -40,8 +40,8 @@ changes_own z v a new_ S =
 -- The owner of a page is at one place.
 pub one_place_owns : (z : Sizes) → AreSizes z → (i j page : ℕ) → owns_page z i page ≡ true → owns_page z j page ≡ true → i ≡ j
 one_place_owns z sizes i j page one other =
-    let A = both (nat_le z.vcpus i) (owns z (i - z.vcpus) page) one in
-    let B = both (nat_le z.vcpus j) (owns z (j - z.vcpus) page) other in
+    let A = both (nat_le z.vcpus i) (is_threads z (i - z.vcpus) page) one in
+    let B = both (nat_le z.vcpus j) (is_threads z (j - z.vcpus) page) other in
     let low : z.vcpus ≤ i = let e = A.0 in grind (arith, nat_tests) in
     let low_too : z.vcpus ≤ j = let e = B.0 in grind (arith, nat_tests) in
     let same = one_owner z sizes page (i - z.vcpus) (j - z.vcpus) A.1 B.1 in

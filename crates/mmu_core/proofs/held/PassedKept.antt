@@ -103,7 +103,7 @@ searched_passed f pool set page s at own low P unfound passed = by f at
             each (inl less) = absurd (before id slot L less has)
             each (inr same) = (refl, sym L.is ∙ (ap (slot_at pool set) (omega (arith, same)) ∙ W.is))
 
--- ---- behind each step
+-- ---- after each step
 
 abbrev PassedIn : Sizes → (ℕ → ℕ) → View → Type 0
 PassedIn z pool v = (i : ℕ) → i < actors_of z → PassedPart pool (v.hand i).topics

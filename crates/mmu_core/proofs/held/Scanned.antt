@@ -158,7 +158,7 @@ module _ (z : Sizes) (map : FreeMap) (actor : ℕ) where
       seen word lt (inl e) = inr (subst (λ j. FindsNoneFree z map actor j (run mmu w ss) s) (sym e) next_.1)
       seen word lt (inr ne) = let b = next_.0 in inl (omega (arith, lt, ne, b))
 
-  -- Once begun, the scan is there behind each step, or a later one.
+  -- Once begun, the scan is there after each step, or a later one.
   pub scan_kept : (w : World Held) (ss : List (Step Kind)) (s : Step Kind) → IsSound z (run mmu w ss) → May mmu (run mmu w ss) s
       → EndsWithScan z map actor (at_in map actor (run mmu w ss)) w ss
       → EndsWithScan z map actor (at_in map actor (effect mmu (run mmu w ss) s)) w (ss ++ s ∷ [])

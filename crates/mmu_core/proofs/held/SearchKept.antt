@@ -62,7 +62,7 @@ search_stays before after s stays P = record {
   before_flags = P.before_flags;
 }
 
--- ---- The search behind each step.
+-- ---- The search after each step.
 
 -- A search without a slot set has loaded nothing of one.
 pub let_go_search : (pool : ℕ → ℕ) (keeps : Bool) (s : SlotSearch) → SearchPart pool s → SearchPart pool (kept_search keeps s)
@@ -85,7 +85,7 @@ at_set_search pool holds s v = record {
   before_flags = λ whole. absurd (cc whole);
 }
 
--- The search behind a load of its next word.
+-- The search after a load of its next word.
 pub searched_part : (f : SlotField) (pool : ℕ → ℕ) (set : ℕ) (s : SlotSearch) → s.next ≡ f → s.set ≡ Some set → s.id ≤ 31 → SearchPart pool s
     → SearchPart pool (searched_at f s (pool (slot_index set s.id f)))
 searched_part field.Flags pool set s at own low P = by (flags_live (pool (slot_index set s.id field.Flags))) refl

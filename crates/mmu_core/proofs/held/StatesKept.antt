@@ -28,7 +28,7 @@ StatesAt z v = StatesPart (actors_of z) (v.words area.State) (λ i. (v.hand i).t
 abbrev Tells : ℕ → Stay → Type 0
 Tells w stay = (w < 8) × (w % 4 ≡ stay_bits stay)
 
--- the state word behind each step on it
+-- the state word after each step on it
 left_word : (w : ℕ) → Tells w Guest → Tells (bit_and w (all_but 3)) Outside
 left_word w is =
     let e : bit_and w (all_but 3) ≡ w / 2 ^ 2 * 2 ^ 2 = and_high_mask 64 2 (omega arith) w (omega (arith, is.0)) in

@@ -88,7 +88,7 @@ topics_part_kept z v a step note S I = record {
   counters = counters_kept z v a step note S I;
 }
 
--- The words behind a task of a line, and the hands with what its actor holds then.
+-- The words after a task of a line, and the hands with what its actor holds then.
 abbrev topics_behind : View → ℕ → Task → View
 topics_behind v a task = record {
   words = words_after task v.words;

@@ -58,7 +58,7 @@ use Rattle.mmu_core.proofs.words.PartTopics.{is_there, part_topics_is}
 
 -- ---- Behind a task.
 
--- what may be used behind a task, where the hand of the actor at place a is this one, but for what it holds and has cached
+-- what may be used after a task, where the hand of the actor at place a is this one, but for what it holds and has cached
 abbrev UsableBehind : Sizes → View → ℕ → Held → Task → Topics → Buffer Translation → Type 0
 UsableBehind z v a g task topics cached =
     UsableAt z (record { words = words_after task v.words; hand = upd v.hand a (record g { topics = topics; cached = cached }) })
@@ -70,7 +70,7 @@ UsableAfter z v a g c task =
     let x : ℕ = answer_in task v.words in
     UsableBehind z v a g task (topics_after (v.hand a).state.sizes k (v.hand a).topics x) (flushed k c x)
 
--- Behind a touch, and behind each step.
+-- After a touch, and after each step.
 touched_usable : (z : Sizes) (v : View) (a : ℕ) (c : Buffer Translation) (g : Held) (op : Op) (index : ℕ) → Caches z v a c → UsableAt z v
     → UsableAfter z v a g c (touch_of op index)
 unfolding topics_after flushed

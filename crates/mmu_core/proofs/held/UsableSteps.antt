@@ -25,7 +25,7 @@ use Rattle.part_steps.specs.PartTopics.{part_topics}
 use Rattle.part_steps.specs.SlotWords.{page_of}
 use Rattle.part_steps.specs.Tasks.{kind_of_task}
 use Rattle.mmu_core.specs.invariant.CachedPart.{AgreePart, IsLeafFor}
-use Rattle.mmu_core.specs.invariant.InvalidatedPart.{Gives, IsClean, IsIn, IsOfPage, UsablePart, may_use}
+use Rattle.mmu_core.specs.invariant.InvalidatedPart.{SlotGives, IsClean, IsIn, IsOfPage, UsablePart, may_use}
 use Rattle.mmu_core.specs.invariant.TopicsInvariant.{TopicsInvariant}
 use Rattle.mmu_core.specs.lines.Cached.{asks_flush, flushed, flushed_by}
 use Rattle.mmu_core.specs.machine.View.{View, answer_in, part_stepped, upd, words_after}
@@ -56,8 +56,8 @@ leaf_elsewhere pool host set page x own_ gfn leaf scope same out L = leaf_same p
     apart : page_of L.slot gfn ≢ page
     apart e =
         let B = behind_it L.slot gfn L.holds in
-        let given : Gives pool set (page_of L.slot gfn) gfn = record { id = L.id; slot = L.slot; live = L.live; has = B.0; is = B.1 } in
-        out (scope.covers gfn (subst (λ p. Gives pool set p gfn) (e ∙ sym same) given))
+        let given : SlotGives pool set (page_of L.slot gfn) gfn = record { id = L.id; slot = L.slot; live = L.live; has = B.0; is = B.1 } in
+        out (scope.covers gfn (subst (λ p. SlotGives pool set p gfn) (e ∙ sym same) given))
 
 -- So what is cached agrees still, where nothing of it is of the invalidation's frames.
 agree_elsewhere : (pool host : ℕ → ℕ) (set page x : ℕ) (own_ : Invalidated) (cached : List Translation) → IsOfPage pool set own_
@@ -65,7 +65,7 @@ agree_elsewhere : (pool host : ℕ → ℕ) (set page x : ℕ) (own_ : Invalidat
 agree_elsewhere pool host set page x own_ cached scope same clean agrees k d lt =
     leaf_elsewhere pool host set page x own_ _ _ scope same (clean k d lt) (agrees k d lt)
 
--- What was live is live, and the same, in the slot set that is published behind the step.
+-- What was live is live, and the same, in the slot set that is published after the step.
 live_behind : (z : Sizes) (v : View) (a : ℕ) (step : PartStep) (note : ℕ) → IsPart z v a step → TopicsInvariant z v
     → StayLive (v.words area.Pool) (v.words area.Slots 0) ((part_stepped a step note v).words area.Pool)
     (slots_behind step (v.hand a).topics (v.words area.Slots 0))
@@ -78,7 +78,7 @@ abbrev CleanFor : PartStep → Invalidated → List Translation → Type 0
 CleanFor (part.Change new_) own_ cached = IsClean own_ cached
 CleanFor _ own_ cached = Unit {0}
 
--- Then what agrees agrees behind the step.
+-- Then what agrees agrees after the step.
 agrees_behind : (z : Sizes) (v : View) (a : ℕ) (step : PartStep) (note : ℕ) (cached : List Translation) → IsPart z v a step → TopicsInvariant z v
     → CleanFor step (v.hand a).topics.invalidations.own cached → Agrees v.words cached → Agrees (part_stepped a step note v).words cached
 agrees_behind z v a part.Bring note cached S I clean agrees = λ k d lt.
@@ -140,7 +140,7 @@ flushed_none k c x none = by (kind_named k.code)
 
 -- ---- Behind a step of a part.
 
--- The step's actor has this cached, before a flush; and its hand is this one behind the step, but for what it holds and has cached.
+-- The step's actor has this cached, before a flush; and its hand is this one after the step, but for what it holds and has cached.
 module _ (z : Sizes) (v : View) (a note : ℕ) (c : Buffer Translation) (g : Held) where
   abbrev h : Held
   h = v.hand a
@@ -198,7 +198,7 @@ module _ (z : Sizes) (v : View) (a note : ℕ) (c : Buffer Translation) (g : Hel
   other_used (part.Ask index) stay k ne may = used_of stay index k may
   other_used _ stay k ne may = may
 
-  -- What is so of all that the actor itself has cached, where it may use it, is so behind the step.
+  -- What is so of all that the actor itself has cached, where it may use it, is so after the step.
   module _ (P : Translation → Type 0) (all : may_use (before a) h.topics.stay ≡ true → All P c.items) where
     gone : (w : ℕ) (stay : Stay) → asks_flush w ≡ asks_flush (before a) → may_use w stay ≡ not (asks_flush w)
         → may_use (upd before a w a) stay ≡ true → All P c.items

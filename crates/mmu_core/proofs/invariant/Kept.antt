@@ -48,7 +48,7 @@ needs_at z v a line (Access gfn word op) (place.Host p) S I P = absurd S.holds
 needs_at z v a line (SetSlot id slot) (place.Host p) S I P = absurd S.holds
 needs_at z v a line command (place.SlotChange p) S I P = ((step_knows z v a line command (place.SlotChange p) S I).0, change_needs z v a line p command S I P)
 
--- What its actor knows behind its step.
+-- What its actor knows after its step.
 own_known : (p : Place) (line : Line) (command : Command) (z : Sizes) (h : Held) (words : Area → ℕ → ℕ) → IsUnderWay p
     → IsCommandFor z h.state.actor command → PartRests h → KnowsPart p command h → LeavesPart p h.topics → NeedsAt p command h
     → KnowsAfter line command p h (answer_in (task_at p command h) words)

@@ -8,7 +8,7 @@ use Rattle.part_steps.specs.declared.part_step.PartStep.TheVariants as part
 use Rattle.part_steps.specs.PartSteps.{IsAtRest}
 use Rattle.part_steps.specs.PartTopics.{part_topics}
 use Rattle.part_steps.specs.StayTopics.{is_outside, is_section, kept_search, kept_walk, let_go}
-use Rattle.mmu_core.specs.lines.InvalidateKnows.{IsAlone, IsAloneWith, IsSweeping}
+use Rattle.mmu_core.specs.lines.InvalidateKnows.{HasLockAlone, IsAloneWith, IsSweeping}
 
 -- Who was at rest and tries to have the lock alone has it where nobody held it, and else is at rest still.
 pub alone_taken : (opened : Bool) (t : Topics) (v : ℕ) → IsAtRest t → t.invalidations.opened ≡ opened → (v == 0) ≡ true
@@ -29,7 +29,7 @@ alone_tried t v K held =
     }
 
 -- Who gives the lock back is at rest.
-pub alone_let_go : (t : Topics) → IsAlone t → IsAtRest (let_go t)
+pub alone_let_go : (t : Topics) → HasLockAlone t → IsAtRest (let_go t)
 alone_let_go t A = record {
   outside = A.outside;
   loose = refl;

@@ -22,7 +22,7 @@ pub record OwnsFresh (owned : Option OwnedFrame) : Type 0 where
   pub owns : is_some owned ≡ true
   pub uncopied : is_uncopied owned ≡ true
 
--- A line at rest is at rest after it, owns none, and has come to a word of the map, or behind the last one; or it owns a page to be filled, or a frame, with
+-- A line at rest is at rest after it, owns none, and has come to a word of the map, or after the last one; or it owns a page to be filled, or a frame, with
 -- which it is at rest still.
 abbrev pub RestsAfterClaim : FreeMap → ClaimNext → Sizes → Topics → Type 0
 RestsAfterClaim map claims.Goes z u = IsAtRest u × OwnsNone map u × ((claim_over map u).at < map_words map z)

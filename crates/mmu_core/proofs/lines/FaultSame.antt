@@ -15,7 +15,7 @@ use Rattle.core_views.specs.Slots.{contains}
 use Rattle.spte_words.specs.Areas.{words_of_bits}
 use Rattle.spte_words.specs.Entries.{kind_of}
 use Rattle.spte_words.specs.HostWords.{host_present}
-use Rattle.mmu_core.specs.lines.FaultKnows.{EndKnows, Entering, FoundNoPage, IsInTheWay, LookedFor, SawAbsentEntry, Sharing, WithoutLock}
+use Rattle.mmu_core.specs.lines.FaultKnows.{FaultEndKnows, Entering, FoundNoPage, IsInTheWay, LookedFor, SawAbsentEntry, Sharing, WithoutLock}
 use Rattle.mmu_core.specs.lines.FaultSteps.{allows_access, host_word_at}
 use Rattle.part_steps.specs.PartHoldings.{FoundSlot, IsFresh, LookedUp, SawEntry}
 use Rattle.part_steps.specs.PartTasks.{word_looked}
@@ -91,7 +91,7 @@ same_page gfn write t u search (inl n) = inl (n.0, same_found gfn t u search n.1
 same_page gfn write t u search (inr e) = inr (ap (λ (s : SlotSearch). s.id) search ∙ e)
 
 pub ends_same : (e : FaultEnd) (z : Sizes) (gfn : ℕ) (write : Bool) (t u : Topics) → u.walk ≡ t.walk → u.search ≡ t.search → u.host ≡ t.host
-    → u.claim.at ≡ t.claim.at → unchecked u.invalidations ≡ unchecked t.invalidations → EndKnows e z gfn write t → EndKnows e z gfn write u
+    → u.claim.at ≡ t.claim.at → unchecked u.invalidations ≡ unchecked t.invalidations → FaultEndKnows e z gfn write t → FaultEndKnows e z gfn write u
 ends_same Installed z gfn write t u walk search host claim n K = record {
   saw = subst (SawEntry gfn) (sym walk) K.saw;
   lowest = ap (λ (w : TableWalk). w.level) walk ∙ K.lowest;

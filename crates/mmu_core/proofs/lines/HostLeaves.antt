@@ -34,7 +34,7 @@ use Rattle.mmu_core.specs.lines.Forms.{LeavesPart}
 use Rattle.mmu_core.specs.lines.HostKnows.{HostKnows}
 use Rattle.mmu_core.specs.lines.HostSteps.{after_begin, after_end, after_frame_claim, host_outcome, host_part, moves, word_put}
 use Rattle.mmu_core.specs.lines.InvalidateKnows.{BeginKnows}
-use Rattle.mmu_core.specs.lines.InvalidateSteps.{begin_next, begin_part, end_next, end_part, is_counted}
+use Rattle.mmu_core.specs.lines.InvalidateSteps.{begin_next, begin_part, end_next, end_part, is_among_open}
 use Rattle.mmu_core.specs.lines.WatchSteps.{watch_next}
 use Rattle.mmu_core.specs.machine.Outcomes.{place_after}
 use Rattle.mmu_core.proofs.lines.ClaimMade.{claim_leaves, claim_made, claim_opens}
@@ -56,7 +56,7 @@ end_keeps ends.Seq t v = refl
 end_keeps _ t v = refl
 
 -- Up to its count it isn't open.
-uncounted : (p : BeginPlace) (z : Sizes) (page : ℕ) (t : Topics) → is_counted p ≡ false → BeginKnows p z page t → t.invalidations.opened ≡ false
+uncounted : (p : BeginPlace) (z : Sizes) (page : ℕ) (t : Topics) → is_among_open p ≡ false → BeginKnows p z page t → t.invalidations.opened ≡ false
 uncounted begins.Exclude z page t is K = K.1
 uncounted (begins.Find begun) z page t is K = K.0.with_lock.is
 uncounted begins.Count z page t is K = K.sweeping.with_lock.is

@@ -1,4 +1,4 @@
--- What an actor knows where its line stands, behind each step of an access, and behind a step of a part.
+-- What an actor knows where its line stands, after each step of an access, and after a step of a part.
 use Rattle.std.proofs.Common.{◌≡◌, ◌^◌, ◌<◌, ◌≤◌, ℕ, length, refl, sym, subst, ap, ◌∙◌}
 use Rattle.std.specs.Prelude.{Bool, true, false, if◌then◌else◌, Option, Some, None}
 use Rattle.circular_buffer.specs.Buffer.{Buffer}
@@ -68,7 +68,7 @@ use Rattle.mmu_core.proofs.machine.Which.{has_line_is}
 use Rattle.mmu_core.proofs.machine.HandWith.{hand_with}
 use Rattle.core_views.specs.SlotSets.{MemorySlots}
 
--- what is held behind the step of a part, or behind the touch
+-- what is held after the step of a part, or after the touch
 abbrev pub behind_part : Option PartStep → Topics → ℕ → Topics
 behind_part None t v = t
 behind_part (Some step) t v = part_topics step t v
@@ -77,7 +77,7 @@ abbrev pub CanAnswerBy : Option PartStep → ℕ → Type 0
 CanAnswerBy None v = Unit {0}
 CanAnswerBy (Some step) v = CanAnswer step v
 
--- what it knows behind a step: at rest, where the line is answered
+-- what it knows after a step: at rest, where the line is answered
 abbrev pub KnowsBehind : Outcome → Command → Held → Type 0
 KnowsBehind (Goes p) command h = KnowsPart p command h
 KnowsBehind (Ends answer) command h = IsAtRest h.topics
@@ -137,7 +137,7 @@ fault_over_known (next_of.Ends end_of.HostFault) gfn word op g K = K
 fault_over_known (next_of.Ends end_of.Starved) gfn word op g K = K
 fault_over_known (next_of.Ends (end_of.Retry cause)) gfn word op g K = K
 
--- behind each step of an access
+-- after each step of an access
 pub access_known : (p : AccessPlace) (line : Line) (h : Held) (gfn word : ℕ) (op : Op) (cached : Buffer Translation) (v : ℕ)
     → CachesBehind p h gfn op v cached → gfn < 2 ^ 36 → PartRests h → AccessKnows p gfn (is_write op) h → CanAnswerBy (access_part p gfn h.topics) v
     → KnowsBehind (access_outcome p h gfn op v) (Access gfn word op)
@@ -181,7 +181,7 @@ pub task_answers : (s : Option PartStep) (h : Held) (note : ℕ) (touch : Task) 
 task_answers None h note touch words = tt
 task_answers (Some step) h note touch words = parts_answer step (own_index h) h.topics note words
 
--- behind each step of a line, of the actor itself
+-- after each step of a line, of the actor itself
 abbrev pub KnowsAfter : Line → Command → Place → Held → ℕ → Type 0
 KnowsAfter line command p h v = KnowsBehind (outcome_at p command h v) command (hand_after line command p h v)
 

@@ -32,7 +32,7 @@ use Rattle.spte_words.specs.declared.spte_kind.SpteKind.{SpteKind}
 use Rattle.spte_words.specs.declared.spte_kind.SpteKind.TheVariants as entry_kind
 use Rattle.spte_words.specs.Entries.{kind_of}
 use Rattle.spte_words.specs.HostWords.{host_allows_write}
-use Rattle.mmu_core.specs.lines.FaultKnows.{CheckKnows, EndKnows, Entering, FaultKnows, FoundNoPage, HasCause, HostForbids, IsInTheWay}
+use Rattle.mmu_core.specs.lines.FaultKnows.{CheckKnows, FaultEndKnows, Entering, FaultKnows, FoundNoPage, HasCause, HostForbids, IsInTheWay}
 use Rattle.mmu_core.specs.lines.FaultKnows.{IsHostWordMoved, LookedFor, Sharing, IsRetry}
 use Rattle.mmu_core.specs.lines.FaultSteps.{host_word_at}
 use Rattle.mmu_core.specs.lines.AccessKnows.{AccessKnows}
@@ -190,7 +190,7 @@ cause_stays (Entry word read seen) z gfn t x = by (moved_or_not word read seen z
     by (inr never) = inl (way_stays word read seen z gfn t.walk (∥∥₁_map x (⊎_elim (λ way. way) (λ moves. absurd (never moves)))))
 cause_stays _ z gfn t x = prop_stays (hlevel props) x
 
-end_stays : (e : FaultEnd) (z : Sizes) (gfn : ℕ) (write : Bool) (t : Topics) → ∥ EndKnows e z gfn write t ∥₁ → EndKnows e z gfn write t
+end_stays : (e : FaultEnd) (z : Sizes) (gfn : ℕ) (write : Bool) (t : Topics) → ∥ FaultEndKnows e z gfn write t ∥₁ → FaultEndKnows e z gfn write t
 end_stays Mmio z gfn write t x = no_page_stays gfn write t x
 end_stays HostFault z gfn write t x = forbids_stays gfn write t x
 end_stays (Retry cause) z gfn write t x = cause_stays cause z gfn t x

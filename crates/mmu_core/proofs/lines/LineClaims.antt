@@ -112,7 +112,7 @@ pub record Claims (p : Place) (c : Command) (h : Held) (v : ℕ) : Type 0 where
       HasNote (ends_with_claim map p) (loads_last_word map begun h.state.sizes claim) (claim_next map begun h.state.sizes claim v) (note_at p c h)
       (outcome_at p c h v)
 
--- The claim over this map has come behind its last word after the step.
+-- The claim over this map has come after its last word after the step.
 abbrev pub ComesToEnd : FreeMap → Option PartStep → Held → ℕ → Type 0
 ComesToEnd map s h v = map_words map h.state.sizes ≤ (claim_over map (behind_part s h.topics v)).at
 

@@ -1,4 +1,4 @@
--- A hand's lines are its own behind each of its steps.
+-- A hand's lines are its own after each of its steps.
 use Rattle.std.proofs.Common.{◌≡◌, ◌<◌, ℕ, zero, suc, List, [], ◌∷◌, ◌++◌, length, take, refl, sym, subst, ap, ◌∙◌, arith, length-append, ◌≤◌, get_or}
 use Rattle.std.specs.Prelude.{All, map, slice_get, unwrap_or}
 use Rattle.std.specs.BTreeMap.{insert_entry}
@@ -124,7 +124,7 @@ answers_more (Goes p) line answers = omega arith
 answers_more (Ends answer) line answers =
     let n = answers_length answers (record { number = line.number; actor = line.actor; answer = answer }) in omega (arith, n)
 
--- the hand behind a step that went so
+-- the hand after a step that went so
 abbrev pub behind : Held → Line → State → Outcome → Topics → Buffer Translation → MemorySlots → Held
 behind h line s o t c slots = record {
   state = record s { line = line; place = place_after o };

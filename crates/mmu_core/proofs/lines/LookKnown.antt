@@ -24,7 +24,7 @@ use Rattle.core_views.specs.Slots.{contains}
 use Rattle.spte_words.specs.HostWords.{host_allows_write, host_frame, host_level, host_present, with_presence}
 use Rattle.spte_words.proofs.ReadsHost.{host_is_present, host_is_writable}
 use Rattle.part_steps.specs.declared.part_step.PartStep.{PartStep}
-use Rattle.mmu_core.specs.lines.FaultKnows.{CheckKnows, EndKnows, FaultKnows, InSection, LookedFor, Sharing, WithoutLock, is_trying}
+use Rattle.mmu_core.specs.lines.FaultKnows.{CheckKnows, FaultEndKnows, FaultKnows, InSection, LookedFor, Sharing, WithoutLock, is_trying}
 use Rattle.mmu_core.specs.lines.FaultSteps.{check_next, check_part, find_next, host_word_at, snapshot_taken, after_share}
 use Rattle.mmu_core.specs.declared.share.ShareNext.{ShareNext}
 use Rattle.part_steps.specs.PartHoldings.{FoundSlot, HoldsSet, LookedUp}
@@ -231,7 +231,7 @@ check_known stage.Seq z gfn write t v S none K =
     (seq_by (v == snapshot_taken t.invalidations.snapshot) z gfn write t v refl S none K)
 
 -- the lock given back, and the section's end
-pub unshare_known : (e : FaultEnd) (z : Sizes) (gfn : ℕ) (write : Bool) (t : Topics) → InSection t → EndKnows e z gfn write t
+pub unshare_known : (e : FaultEnd) (z : Sizes) (gfn : ℕ) (write : Bool) (t : Topics) → InSection t → FaultEndKnows e z gfn write t
     → FaultKnows (End e) z gfn write (let_go t)
 unshare_known e z gfn write t I K =
     (record { section = I.section; owns_none = I.owns_none }, refl, ends_same e z gfn write t _ (kept_table t I.section) (kept t I.section) refl refl refl K)

@@ -17,16 +17,16 @@ use Rattle.part_steps.specs.PageTopics.{searched, searched_at}
 use Rattle.part_steps.specs.PartHoldings.{HoldsSet}
 use Rattle.part_steps.specs.StayTopics.{has_lock, is_alone, is_outside, is_section, may_search, may_walk}
 use Rattle.mmu_core.specs.lines.FaultSteps.{is_last_word}
-use Rattle.mmu_core.specs.lines.InvalidateKnows.{BeginKnows, IsAlone, IsSweeping}
+use Rattle.mmu_core.specs.lines.InvalidateKnows.{BeginKnows, HasLockAlone, IsSweeping}
 use Rattle.mmu_core.specs.lines.InvalidateSteps.{has_found, search_next}
 use Rattle.mmu_core.proofs.lines.EitherPlace.{either_place, one_place}
 use Rattle.part_steps.specs.InvalidationRange.{has_searched}
 use Rattle.mmu_core.proofs.lines.AloneKnown.{same_sweep}
 
-pub may_search_alone : (t : Topics) → IsAlone t → may_search t.stay t.hold ≡ true
+pub may_search_alone : (t : Topics) → HasLockAlone t → may_search t.stay t.hold ≡ true
 may_search_alone t A = ap (λ (s : Stay). is_section s || is_alone t.hold) A.outside ∙ ap (λ (k : Hold). is_alone k) A.alone
 
-pub may_walk_alone : (t : Topics) → IsAlone t → may_walk t.stay t.hold ≡ true
+pub may_walk_alone : (t : Topics) → HasLockAlone t → may_walk t.stay t.hold ≡ true
 may_walk_alone t A = ap (λ (s : Stay). not (is_outside s) || has_lock t.hold) A.outside ∙ ap (λ (k : Hold). has_lock k) A.alone
 
 -- the search

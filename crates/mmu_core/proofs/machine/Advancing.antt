@@ -1,4 +1,4 @@
--- What a hand must have for a step, and what its fields are behind it.
+-- What a hand must have for a step, and what its fields are after it.
 use Rattle.std.proofs.Math.Nat.{div-le_self}
 use Rattle.std.proofs.Common.{◌≤◌, ◌≡◌, ◌<◌, ◌^◌, ◌⊎◌, inl, inr, ℕ, length, refl, sym, subst, ap, ◌∙◌, arith, ◌+◌}
 use Rattle.std.specs.Prelude.{Bool, true, false, Some, None}

@@ -38,7 +38,7 @@ use Rattle.mmu_core.proofs.machine.PartStepping.{IsPart}
 use Rattle.mmu_core.proofs.machine.Stepping.{IsStep}
 use Rattle.mmu_core.proofs.machine.SumsBelow.{column, one_small, sum_upd}
 
--- ---- The number behind each step.
+-- ---- The number after each step.
 
 part_rises : (z : Sizes) (v : View) (a : ℕ) (step : PartStep) (note : ℕ) → IsPart z v a step → TopicsInvariant z v
     → (part_stepped a step note v).words area.Seq 0 ≤ v.words area.Seq 0 + rises step

@@ -1,4 +1,4 @@
--- The hand behind a step of a line.
+-- The hand after a step of a line.
 use Rattle.std.proofs.Common.{ℕ}
 use Rattle.circular_buffer.specs.Buffer.{Buffer}
 use Rattle.core_views.specs.declared.cache.Translation.{Translation}
@@ -11,7 +11,7 @@ use Rattle.mmu_core.specs.lines.Forms.{outcome_at, records_at}
 use Rattle.mmu_core.specs.machine.Steps.{state_at}
 use Rattle.mmu_core.specs.machine.Outcomes.{answers_after, place_after}
 
--- the hand behind a step of this line, that holds these topics and has this cached
+-- the hand after a step of this line, that holds these topics and has this cached
 abbrev pub hand_with : Line → Command → Place → Held → Topics → Buffer Translation → ℕ → Held
 hand_with line command p h t cached v = record {
   state = record (state_at p command h v) { line = line; place = place_after (outcome_at p command h v) };

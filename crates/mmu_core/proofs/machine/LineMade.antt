@@ -53,7 +53,7 @@ placed s q line used steps delays f answers = record {
 abbrev pub with_cached : Held → Buffer Translation → MemorySlots → Held
 with_cached h c slots = record { state = h.state; topics = h.topics; cached = c; slots = slots; lines = h.lines; answers = h.answers }
 
--- what was counted behind a step that is a delay, or none
+-- what was counted after a step that is a delay, or none
 abbrev steps_behind : Held → Bool → ℕ
 steps_behind h delay = steps_counted delay (counted h.state.place h.state.steps)
 

@@ -33,7 +33,7 @@ pub own_hand : (w : World Held) (s : Step Kind) → s.actor < length w.hands
 unfolding effect
 own_hand w s there = get_or-set_same w.hands s.actor (next (hand_in mmu w s.actor) s.kind (answered mmu w s.kind)) nobody there
 
--- what two lists of steps tell, one behind the other
+-- what two lists of steps tell, one after the other
 pub history_append : (w : World Held) (ss ts : List (Step Kind)) → history w (ss ++ ts) ≡ history w ss ++ history (run mmu w ss) ts
 history_append w [] ts = refl
 history_append w (s ∷ ss) ts =

@@ -93,7 +93,7 @@ is_step z v a I there left =
           (standing_holds z (v.words area.Pool) (v.words area.Slots 0) h.state.place h refl (I.loads a there));
     }
 
--- Where the step's place isn't behind a publication, the hand's isn't either.
+-- Where the step's place isn't after a publication, the hand's isn't either.
 before_published : (q : Place) (z : Sizes) (slots : MemorySlots) (command : Command) (p : Place) → standing q z slots command ≡ p
     → may_leave p ≡ false → may_leave q ≡ false
 before_published place.Between z slots command p is not_yet = refl

@@ -1,4 +1,4 @@
--- The view of the words and hands behind a step is the step of the view.
+-- The view of the words and hands after a step is the step of the view.
 use Rattle.std.proofs.Common.{◌≡◌, ◌≢◌, ◌⊎◌, inl, inr, ◌<◌, ℕ, List, length, get_or, set, refl, sym, subst, ap, ◌∙◌, arith, eqb}
 use Rattle.std.specs.Prelude.{Bool, true, false, nat_lt, if◌then◌else◌, slice_index, slice_set}
 use Rattle.std.proofs.lemmas.Bool.Decides.{nat_tests, eqb_tells}
@@ -22,7 +22,7 @@ use Rattle.part_steps.specs.Tasks.{kind_of_task, map_of}
 use Rattle.mmu_core.specs.machine.View.{answer_in, put, stores, upd, view, word_in, words_after}
 use Rattle.mmu_core.proofs.machine.Columns.{same_or, upd_other, upd_same}
 
--- the word of an area in a list of words; 0 behind the area's end
+-- the word of an area in a list of words; 0 after the area's end
 abbrev read : WordMap → List ℕ → Area → ℕ → ℕ
 read m words area i = if nat_lt i (size_of m area) then slice_index words (place m area i) else 0
 
@@ -82,7 +82,7 @@ operation_is : (k : StepKind) → operation_of_code (code_of k) ≡ operation_of
 operation_is kind.Enter = refl
 operation_is _ = refl
 
--- what stands in a word behind a task's step, and what the step answers
+-- what stands in a word after a task's step, and what the step answers
 after_is : (z : Sizes) (t : Task) (n : ℕ) → after (kind_of_task z t) n ≡ word_after (operation_of t.kind) t.expected t.written n
 unfolding after
 after_is z t n = ap (λ (o : Operation). word_after o t.expected t.written n) (operation_is t.kind)
@@ -91,7 +91,7 @@ answer_is : (z : Sizes) (t : Task) (n : ℕ) → answer (kind_of_task z t) n ≡
 unfolding answer
 answer_is z t n = ap (λ (o : Operation). word_answered o t.written n) (operation_is t.kind)
 
--- the words behind an operation on the word of a place
+-- the words after an operation on the word of a place
 words_behind : (m : WordMap) (words : List ℕ) (o : Operation) (area other : Area) (i j expected written : ℕ) → i < size_of m area → length words ≡ total m
     → read m (slice_set words (place m area i) (word_after o expected written (slice_index words (place m area i)))) other j
     ≡ (if stores o then put (read m words) area i (word_after o expected written (read m words area i)) else read m words) other j
@@ -126,7 +126,7 @@ hands_behind hands a i h lt = case (same_or i a)
 pub answered_is : (z : Sizes) (w : World Held) (t : Task) → t.index < size_of (map_of z) t.area → answered mmu w (kind_of_task z t) ≡ answer_in t (word_in z w)
 answered_is z w t lt = answer_is z t _ ∙ ap (word_answered (operation_of t.kind) t.written) (sym (read_inside (map_of z) w.words t.area t.index lt))
 
--- The view behind a step of the task: one word and one hand.
+-- The view after a step of the task: one word and one hand.
 pub view_behind : (z : Sizes) (w : World Held) (a : ℕ) (t : Task) → t.index < size_of (map_of z) t.area → length w.words ≡ total (map_of z) → a < length w.hands
     → view z (effect mmu w (record { actor = a; kind = kind_of_task z t }))
     ≡ record { words = words_after t (word_in z w); hand = upd (hand_in mmu w) a (mmu.next (hand_in mmu w a) (kind_of_task z t) (answer_in t (word_in z w))) }

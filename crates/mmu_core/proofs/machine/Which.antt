@@ -25,7 +25,7 @@ pub enabled_is : (h : Held) (k : Kind) → IsNext h k → Enabled h k
 unfolding Enabled
 enabled_is h k e = inl e
 
--- the hand behind a step, by whether a line is left
+-- the hand after a step, by whether a line is left
 pub next_of_line : (h : Held) (k : Kind) (v : ℕ) → has_line h ≡ true → next h k v ≡ held_after (line_at h.state.place h) (place_at h.state.place h) h k v
 unfolding next
 next_of_line h k v has = ap (λ b. next_by b h k v) has

@@ -72,7 +72,7 @@ words_small words a x lt small all i = by (same_or i a)
     by (inl e) = rw (e, get_or-set_same words a x 0 lt) small
     by (inr ne) = rw (get_or-set_other words a i x 0 ne) (all i)
 
--- the view behind a step, as the step of a line at its place
+-- the view after a step, as the step of a line at its place
 stepped_is : (z : Sizes) (w : World Held) (a : ℕ) (h : Held) → hand_in mmu w a ≡ h → h.state.sizes ≡ z → has_line h ≡ true
     → ◌≡◌ {A = View} (record {
       words = words_after (task_of (hand_in mmu w a)) (word_in z w);

@@ -1,4 +1,4 @@
--- What is said of all entries below a table stays so behind each step of a part, if it says nothing of what is no leaf, and holds of the leaf that is put.
+-- What is said of all entries below a table stays so after each step of a part, if it says nothing of what is no leaf, and holds of the leaf that is put.
 use Rattle.std.proofs.Common.{◌≡◌, ◌≢◌, ◌⊎◌, inl, inr, ◌-◌, ◌/◌, ◌^◌, ◌<◌, ◌≤◌, ℕ, zero, suc, refl, sym, subst, ap, ◌∙◌, arith}
 use Rattle.std.specs.Prelude.{Bool, true, false, ◌==◌, if◌then◌else◌}
 use Rattle.core_views.specs.declared.sizes.Sizes.{Sizes}
@@ -15,7 +15,7 @@ use Rattle.part_steps.specs.PartHoldings.{IsOver}
 use Rattle.mmu_core.specs.invariant.AllOver.{AllOver, IsEntryOver}
 use Rattle.mmu_core.specs.invariant.PoolPart.{IsFilled}
 use Rattle.mmu_core.specs.invariant.TopicsInvariant.{TopicsInvariant}
-use Rattle.mmu_core.specs.invariant.TreePart.{Below, Position, Reaches, TreePart, Use, at, is_table, through}
+use Rattle.mmu_core.specs.invariant.TreePart.{Below, Position, HangsBelow, TreePart, Use, at, is_table, through}
 use Rattle.mmu_core.specs.invariant.TreePart.Use.{Free, OldSet, Outside, Owned, Root, SlotSet, Under}
 use Rattle.mmu_core.specs.machine.View.{View, part_stepped, upd}
 use Rattle.mmu_core.proofs.machine.Columns.{same_or, upd_other, upd_same}
@@ -41,7 +41,7 @@ pub over_weaker : (up : ℕ → Use) (spot : ℕ → Position) (pool : ℕ → �
 over_weaker up spot pool m IsSo IsThen weaker A table entry gfn R O = weaker (spot table).level gfn (pool (pool_index table entry)) (A table entry gfn R O)
 
 -- What the chain from a table goes through are tables.
-pub reached_table : (up : ℕ → Use) (m l : ℕ) → is_table (up m) ≡ true → Reaches up m l → is_table (up l) ≡ true
+pub reached_table : (up : ℕ → Use) (m l : ℕ) → is_table (up m) ≡ true → HangsBelow up m l → is_table (up l) ≡ true
 reached_table up m l table R = by R.0 R.1
   where
     by_use : (u : Use) (P : ℕ → Type 0) → through u P → is_table u ≡ true
@@ -71,11 +71,11 @@ hangs_by : (up : ℕ → Use) (m l k j links : ℕ) → up l ≡ Under k j → B
 hangs_by up m l k j links is chain = subst (λ u. through u (Below up m links)) (sym is) chain
 
 -- Who reaches what is reached reaches it.
-pub reaches_on : (up : ℕ → Use) (root m l : ℕ) → Reaches up root m → Reaches up m l → Reaches up root l
+pub reaches_on : (up : ℕ → Use) (root m l : ℕ) → HangsBelow up root m → HangsBelow up m l → HangsBelow up root l
 reaches_on up root m l R Q = on Q.0 l Q.1
   where
-    on : (links l : ℕ) → Below up m links l → Reaches up root l
-    on zero l e = subst (Reaches up root) (sym e) R
+    on : (links l : ℕ) → Below up m links l → HangsBelow up root l
+    on zero l e = subst (HangsBelow up root) (sym e) R
     on (suc links) l hangs =
         let T = through_of (up l) (Below up m links) hangs in
         let above = on links T.0 T.3 in
@@ -250,7 +250,7 @@ module _ (z : Sizes) (v : View) (a : ℕ) (I : TopicsInvariant z v) (m : ℕ) (I
           let no = ap (λ k. is_table (I.up k)) e ∙ no_table_yet in
           cc (yes, no)
 
--- What is said of all entries below a table, of a claim that is light, is so behind each step, if the new leaf is.
+-- What is said of all entries below a table, of a claim that is light, is so after each step, if the new leaf is.
 pub over_step : (z : Sizes) (v : View) (a : ℕ) (step : PartStep) (note : ℕ) → IsPart z v a step
     → (I : TopicsInvariant z v) (m : ℕ) (IsSo : ℕ → ℕ → ℕ → Type 0) → is_table (I.up m) ≡ true → IsLight IsSo → OfNewLeaf step (v.hand a).topics IsSo
     → AllOver I.up I.spot (v.words area.Pool) m IsSo → AllOver (up_after step a (v.hand a).topics v I.up) (spot_after step (v.hand a).topics v I.spot)

@@ -102,7 +102,7 @@ still_filled z v a step note S o apart other F = record {
   role_is = λ whole. role_stays z v a step note S o.page other ∙ F.role_is whole;
 }
 
--- What the actor has filled behind its step.
+-- What the actor has filled after its step.
 own_filled : (z : Sizes) (v : View) (a : ℕ) (step : PartStep) (note : ℕ) → IsPart z v a step → TopicsInvariant z v
     → (o : OwnedPage) → (part_topics step (v.hand a).topics (answer_in (part_task step (own_index (v.hand a)) (v.hand a).topics note) v.words)).owned
     ≡ Some o → IsFilled ((part_stepped a step note v).words area.Role) ((part_stepped a step note v).words area.Pool) o

@@ -29,7 +29,7 @@ use Rattle.mmu_core.proofs.pages.Standing.{spot_after, spot_of, up_after}
 use Rattle.mmu_core.proofs.held.FreshFrames.{found_live, behind_it, leaf_brought, leaf_same, looked_word}
 use Rattle.mmu_core.proofs.pages.TreePlaces.{all_reached}
 use Rattle.part_steps.specs.InvalidationRange.{page_looked}
-use Rattle.mmu_core.specs.invariant.InvalidatedPart.{Gives}
+use Rattle.mmu_core.specs.invariant.InvalidatedPart.{SlotGives}
 use Rattle.mmu_core.proofs.machine.Columns.{same_or}
 
 -- It says nothing of what is no leaf.
@@ -39,7 +39,7 @@ leaves_light pool host set = record {
   link = λ level gfn page upper small leaf. let links = kind_of_table level page upper small in absurd (cc (links, leaf));
 }
 
--- What was live is live, and the same, in the slot set that is published behind the step.
+-- What was live is live, and the same, in the slot set that is published after the step.
 live_behind : (z : Sizes) (v : View) (a : ℕ) (step : PartStep) (note : ℕ) → IsPart z v a step → TopicsInvariant z v
     → StayLive (v.words area.Pool) (v.words area.Slots 0) ((part_stepped a step note v).words area.Pool)
     (slots_behind step (v.hand a).topics (v.words area.Slots 0))
@@ -122,11 +122,11 @@ changed_leaves z v a new_ note S I table entry gfn R O leaf =
         → IsLeafFor (v.words area.Pool) ((part_stepped a (part.Change new_) note v).words area.Host) (v.words area.Slots 0) gfn word
     by L (inl e) =
         let B = behind_it L.slot gfn L.holds in
-        let given : Gives (v.words area.Pool) (v.words area.Slots 0) (page_of L.slot gfn) gfn =
+        let given : SlotGives (v.words area.Pool) (v.words area.Slots 0) (page_of L.slot gfn) gfn =
         record { id = L.id; slot = L.slot; live = L.live; has = B.0; is = B.1 } in
         absurd (I.zapped a S.there S.needs.0.opened asked table entry gfn R O
         ((I.scopes a S.there S.needs.0.opened).covers gfn
-        (subst (λ p. Gives (v.words area.Pool) (v.words area.Slots 0) p gfn) (e ∙ sym S.needs.0.invalid) given)) leaf)
+        (subst (λ p. SlotGives (v.words area.Pool) (v.words area.Slots 0) p gfn) (e ∙ sym S.needs.0.invalid) given)) leaf)
     by L (inr ne) = leaf_same (v.words area.Pool) (v.words area.Host) (v.words area.Slots 0) page _ gfn word L (λ e. absurd (ne e))
 
 -- Of a page that is brought in there is none either: it wasn't present.

@@ -16,7 +16,7 @@ use Rattle.part_steps.specs.WalkTopics.{linked_page, still_owned, unless_linked}
 use Rattle.part_steps.specs.PageTopics.{still_leaving}
 use Rattle.part_steps.specs.TopicSteps.{topics_after}
 
--- what leaves behind a step that answered v
+-- what leaves after a step that answered v
 abbrev pub left_behind : PartStep → Topics → ℕ → Option ℕ
 left_behind part.Publish t v = Some v
 left_behind part.Give t v = still_leaving t.owned t.leaving

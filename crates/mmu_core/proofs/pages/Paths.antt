@@ -90,7 +90,7 @@ swap_goes : (won : Bool) (walk : TableWalk) (index new_ v : ℕ) → index < 512
 swap_goes true walk index new_ v low = down_goes (linked_page (kind_of walk.level new_)) walk index new_ low
 swap_goes false walk index new_ v low = down_goes None walk index v low
 
--- So it is behind each step of a part.
+-- So it is after each step of a part.
 pub part_goes : (step : PartStep) (t : Topics) (v : ℕ) → GoesOn t.walk (part_topics step t v).walk
 part_goes part.Enter t v = kept_goes false t.walk
 part_goes part.Leave t v = kept_goes false t.walk
@@ -105,7 +105,7 @@ part_goes (part.Leaf gfn) t v = swap_goes (v == t.walk.entry) t.walk _ (leaf_wri
 part_goes (part.Zap gfn) t v = down_goes None t.walk _ 0 (omega arith)
 part_goes _ t v = stays t.walk
 
--- ---- The tables of a walk stand behind each step.
+-- ---- The tables of a walk stand after each step.
 
 -- The table that the walk has come to stands so as those that it has gone through.
 pub whole_path : (stands : ℕ → Option Position) (t : Topics) → HeldPart stands t → PathPart stands t.walk → (level : ℕ) → 1 ≤ t.walk.level

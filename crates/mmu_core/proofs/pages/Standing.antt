@@ -1,4 +1,4 @@
--- What the pages of the pool are, and where the tables stand, behind a step of a part.
+-- What the pages of the pool are, and where the tables stand, after a step of a part.
 use Rattle.std.proofs.Common.{◌≡◌, ℕ, refl, ap, ◌∙◌}
 use Rattle.std.specs.Prelude.{Bool, true, false, ◌+◌, ◌-◌, ◌*◌, ◌==◌, if◌then◌else◌, Some, None}
 use Rattle.core_views.specs.declared.topics.Topics.{Topics}
@@ -24,7 +24,7 @@ position_below gfn t = at (t.walk.level - 1) (t.walk.prefix * 512 + entry_index 
 abbrev pub entry_now : ℕ → Topics → View → ℕ
 entry_now gfn t v = v.words area.Pool (pool_index (table_page t.walk) (entry_index gfn t.walk.level))
 
--- what the pages are behind a step of the actor at place a: who wins a claim owns the page; a page that is given back is free; a slot set that
+-- what the pages are after a step of the actor at place a: who wins a claim owns the page; a page that is given back is free; a slot set that
 -- is published takes the place of the one before it, which leaves; and a link that was stored puts the page that was owned under its entry
 abbrev pub up_after : PartStep → ℕ → Topics → View → (ℕ → Use) → ℕ → Use
 up_after part.Claim a t v up = upd_if (is_won t.claim (v.words area.PoolMap t.claim.at)) up (64 * t.claim.at + tried_bit t.claim) (Owned a)
@@ -35,7 +35,7 @@ up_after (part.Link gfn) a t v up =
     upd_if (entry_now gfn t v == t.walk.entry) up (page_owned t.owned) (Under (table_page t.walk) (entry_index gfn t.walk.level))
 up_after _ a t v up = up
 
--- where the tables stand behind it: the page that was linked stands below the walk's table
+-- where the tables stand after it: the page that was linked stands below the walk's table
 abbrev pub spot_after : PartStep → Topics → View → (ℕ → Position) → ℕ → Position
 spot_after (part.Link gfn) t v spot = upd_if (entry_now gfn t v == t.walk.entry) spot (page_owned t.owned) (position_below gfn t)
 spot_after _ t v spot = spot

@@ -92,7 +92,7 @@ module _ (z : Sizes) (v : View) (a gfn note : ℕ) (I : TopicsInvariant z v) whe
   abbrev here : ℕ
   here = pool_index (table_page t.walk) index
 
-  -- the words of the pool behind an exchange for the new entry
+  -- the words of the pool after an exchange for the new entry
   abbrev exchanged : Bool → ℕ → ℕ → ℕ
   exchanged won new_ = upd (v.words area.Pool) here (if won then new_ else entry_now gfn t v)
 

@@ -4,7 +4,7 @@ use Rattle.std.specs.Prelude.{true, ◌-◌, Some}
 use Rattle.spte_words.specs.Areas.{pool_index}
 use Rattle.spte_words.specs.Entries.{table_word}
 use Rattle.spte_words.proofs.ReadsEntries.{same_table, table_not_absent}
-use Rattle.mmu_core.specs.invariant.TreePart.{EntryPart, IsUnder, LinksTo, Position, TreePart, Below, Reaches, Use, at, is_table, stands, through}
+use Rattle.mmu_core.specs.invariant.TreePart.{EntryPart, IsUnder, LinksTo, Position, TreePart, Below, HangsBelow, Use, at, is_table, stands, through}
 use Rattle.mmu_core.specs.invariant.TreePart.Use.{Free, OldSet, Outside, Owned, Root, SlotSet, Under}
 use Rattle.mmu_core.proofs.pages.Standing.{at_spot, one_position, spot_of}
 
@@ -43,7 +43,7 @@ module _ {pages root : ℕ} {role pool : ℕ → ℕ} {up : ℕ → Use} {spot :
       by (OldSet i) e chain = absurd chain
 
   -- A table that the root reaches is the root, or linked.
-  pub linked : (k : ℕ) (p : Position) → Reaches up root k → stands up spot k ≡ Some p → (k ≡ root) ⊎ ((links : ℕ) × IsLinked pool up spot root links k p)
+  pub linked : (k : ℕ) (p : Position) → HangsBelow up root k → stands up spot k ≡ Some p → (k ≡ root) ⊎ ((links : ℕ) × IsLinked pool up spot root links k p)
   linked k p R at_k = by R.0 R.1
     where
       by : (links : ℕ) → Below up root links k → (k ≡ root) ⊎ ((links : ℕ) × IsLinked pool up spot root links k p)
@@ -78,7 +78,7 @@ module _ {pages root : ℕ} {role pool : ℕ → ℕ} {up : ℕ → Use} {spot :
       let parents : L.parent ≡ M.parent = one_chain links more L.parent M.parent (at (p.level + 1) (p.prefix / 512)) L.chain M.chain L.above M.above in
       same_table k l (sym L.link ∙ ap (λ m. pool (pool_index m (p.prefix % 512))) parents ∙ M.link)
 
-  pub one_place : (k l : ℕ) (p : Position) → Reaches up root k → Reaches up root l → stands up spot k ≡ Some p → stands up spot l ≡ Some p → k ≡ l
+  pub one_place : (k l : ℕ) (p : Position) → HangsBelow up root k → HangsBelow up root l → stands up spot k ≡ Some p → stands up spot l ≡ Some p → k ≡ l
   one_place k l p R Q = one_chain R.0 Q.0 k l p R.1 Q.1
 
   -- The root reaches each table.
@@ -95,14 +95,14 @@ module _ {pages root : ℕ} {role pool : ℕ → ℕ} {up : ℕ → Use} {spot :
       by (Owned i) e table = absurd (cc table)
       by (OldSet i) e table = absurd (cc table)
 
-  reached_within : (n k : ℕ) (p : Position) → 4 ≤ p.level + n → stands up spot k ≡ Some p → Reaches up root k
+  reached_within : (n k : ℕ) (p : Position) → 4 ≤ p.level + n → stands up spot k ≡ Some p → HangsBelow up root k
   reached_within zero k p near at_k = table_or k p at_k (λ e. (0, T.only k e)) (λ m j e V. absurd (let lower = V.lower in omega (arith, near, lower)))
   reached_within (suc n) k p near at_k =
       table_or k p at_k (λ e. (0, T.only k e)) (λ m j e V.
-      let R : Reaches up root m = reached_within n m (at (p.level + 1) (p.prefix / 512)) (omega (arith, near)) V.above in
+      let R : HangsBelow up root m = reached_within n m (at (p.level + 1) (p.prefix / 512)) (omega (arith, near)) V.above in
       (suc R.0, subst (λ u. through u (Below up root R.0)) (sym e) R.1))
 
-  pub all_reached : (k : ℕ) (p : Position) → stands up spot k ≡ Some p → Reaches up root k
+  pub all_reached : (k : ℕ) (p : Position) → stands up spot k ≡ Some p → HangsBelow up root k
   all_reached k p = reached_within 4 k p (omega arith)
 
 -- What stands at a place in one account of the words stands there in any other one.

@@ -1,4 +1,4 @@
--- The tables behind a step that leaves each of their words, or stores one entry, or links one more table.
+-- The tables after a step that leaves each of their words, or stores one entry, or links one more table.
 use Rattle.std.proofs.Common.{◌≡◌, ◌≢◌, ◌⊎◌, inl, inr, ◌+◌, ◌*◌, ◌/◌, ◌<◌, ◌≤◌, ℕ, refl, sym, subst, ap, ◌∙◌, arith}
 use Rattle.std.specs.Prelude.{true, false, ◌-◌, if◌then◌else◌, Some, None}
 use Rattle.spte_words.specs.Areas.{pool_index}
@@ -169,7 +169,7 @@ entry_stored {pages} {root} {role} {pool} {up} {spot} T k p j w at_k low S =
 module _ {pages root : ℕ} {role pool : ℕ → ℕ} {up : ℕ → Use} {spot : ℕ → Position} (T : TreePart pages root role pool up spot)
     (k level prefix j page : ℕ) (at_k : stands up spot k ≡ Some (at level prefix)) (upper : 2 ≤ level) (low : j < 512)
     (was : pool (pool_index k j) ≡ absent_word) (none : is_table (up page) ≡ false) where
-  -- the words, what the pages are and where the tables stand, behind the link
+  -- the words, what the pages are and where the tables stand, after the link
   abbrev linked_words : ℕ → ℕ
   linked_words = upd pool (pool_index k j) (table_word page)
 

@@ -1,4 +1,4 @@
--- What was a table stays the same table behind each step of a part.
+-- What was a table stays the same table after each step of a part.
 use Rattle.std.proofs.Common.{◌≡◌, ◌≢◌, ◌⊎◌, inl, inr, ◌+◌, ◌*◌, ℕ, refl, sym, ap, ◌∙◌, ◌-◌}
 use Rattle.std.specs.Prelude.{Bool, true, false, ◌==◌, if◌then◌else◌, Option, Some, None}
 use Rattle.std.proofs.lemmas.Nat.Bits.{bit_at-trailing_zeros}
@@ -72,7 +72,7 @@ same_tables z v a part.Publish S I never =
 same_tables z v a (part.Link gfn) S I never = absurd (cc never)
 same_tables z v a _ S I never = λ k. inl refl
 
--- Where tables are the same, what stands before stands behind, and the other way round.
+-- Where tables are the same, what stands before stands after, and the other way round.
 pub stay_same : (up more : ℕ → Use) (spot : ℕ → Position) → SameTables up more → TablesStay up more spot spot
 stay_same up more spot same = record { use_ = λ k table. by k table (same k); place_ = λ k table. refl }
   where

@@ -24,7 +24,7 @@ use Rattle.part_steps.specs.StayTopics.{has_lock, no_flush}
 use Rattle.mmu_core.specs.invariant.AllOver.{AllOver, IsEntryOver}
 use Rattle.mmu_core.specs.invariant.InvalidatedPart.{IsIn, IsNoLeafIn, ZappedPart}
 use Rattle.mmu_core.specs.invariant.TopicsInvariant.{TopicsInvariant}
-use Rattle.mmu_core.specs.invariant.TreePart.{EntryPart, Position, Reaches, TreePart, Use, at, is_table, stands}
+use Rattle.mmu_core.specs.invariant.TreePart.{EntryPart, Position, HangsBelow, TreePart, Use, at, is_table, stands}
 use Rattle.mmu_core.specs.machine.View.{View, answer_in, part_stepped}
 use Rattle.mmu_core.proofs.machine.Columns.{at_upd, same_or}
 use Rattle.mmu_core.proofs.machine.PartStepping.{IsPart}
@@ -135,7 +135,7 @@ module _ {pages root : ℕ} {role pool : ℕ → ℕ} {up : ℕ → Use} {spot :
       subst (LeadsAt pool up spot gfn) (omega arith) (leads_up n gfn (level + 1) (omega (arith, most)) (leads_above gfn level (omega (arith, most)) L))
 
   -- A leaf over the guest frame is below a table of each level over it, whose entry leads to it.
-  leaf_leads : (l j gfn level : ℕ) → Reaches up root l → IsEntryOver (spot l) j gfn → kind_of (spot l).level (pool (pool_index l j)) ≡ entry_kind.Leaf
+  leaf_leads : (l j gfn level : ℕ) → HangsBelow up root l → IsEntryOver (spot l) j gfn → kind_of (spot l).level (pool (pool_index l j)) ≡ entry_kind.Leaf
       → 1 ≤ level → level ≤ 4 → LeadsAt pool up spot gfn level
   leaf_leads l j gfn level R O leaf from most =
       let at_l : stands up spot l ≡ Some (spot l) = at_spot up spot l (up l) refl (reached_table up root l (ap is_table T.top) R) in
@@ -209,7 +209,7 @@ asked_before : (won : Bool) (f : Flush) → 1 ≤ (if won then no_flush else f).
 asked_before true f asked = absurd (omega (arith, asked))
 asked_before false f asked = asked
 
--- So it is before the step of what is open behind it, and of a new leaf.
+-- So it is before the step of what is open after it, and of a new leaf.
 abbrev OwnZapped : (z : Sizes) (v : View) → ℕ → PartStep → TopicsInvariant z v → Topics → Type 0
 OwnZapped z v a step I t =
     t.invalidations.opened ≡ true → 1 ≤ t.flush.asked → ZappedIn z v I t.invalidations.own × OfNewLeaf step (v.hand a).topics (IsNoLeafIn t.invalidations.own)

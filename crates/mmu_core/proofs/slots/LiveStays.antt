@@ -84,7 +84,7 @@ part_live_stays z v a step note S I =
 abbrev pub MakesParts : Sizes → View → ℕ → AccessPlace → ℕ → Type 0
 MakesParts z v a p gfn = (step : PartStep) → access_part p gfn (v.hand a).topics ≡ Some step → IsPart z v a step
 
--- What is so of the words behind the step of a part, and behind a touch, is so behind each step of an access.
+-- What is so of the words after the step of a part, and after a touch, is so after each step of an access.
 pub behind_access : (P : (Area → ℕ → ℕ) → Type 0) (v : View) (a : ℕ) (line : Line) (p : AccessPlace) (gfn word : ℕ) (op : Op)
     → ((step : PartStep) (note : ℕ) → access_part p gfn (v.hand a).topics ≡ Some step → P (part_stepped a step note v).words)
     → ((index : ℕ) → P (words_after (touch_of op index) v.words))

@@ -8,7 +8,7 @@ use Rattle.core_views.specs.declared.slot_set.MemorySlot.{MemorySlot}
 use Rattle.core_views.specs.declared.topics.Topics.{Topics}
 use Rattle.core_views.specs.declared.trace.Slot.{Slot}
 use Rattle.core_views.specs.Refusals.{after_set, is_logged}
-use Rattle.core_views.specs.SlotSets.{MemorySlots, slot_at as recorded_at, with_slot_at}
+use Rattle.core_views.specs.SlotSets.{MemorySlots, slot_of_id as recorded_at, with_slot_at}
 use Rattle.spte_words.specs.Areas.{pool_index}
 use Rattle.spte_words.specs.Flags.{flags_live, flags_logged, flags_read_only}
 use Rattle.spte_words.proofs.ReadsFlags.{flags_are_live, flags_are_logged, flags_are_read_only}

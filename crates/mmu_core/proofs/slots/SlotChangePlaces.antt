@@ -19,7 +19,7 @@ use Rattle.core_views.specs.declared.trace.Command.TheVariants.{Access, ChangeHo
 use Rattle.core_views.specs.Held.{Held}
 use Rattle.core_views.specs.Sizes.{actors_of}
 use Rattle.core_views.specs.SlotCommands.{change_refusal, changes_slot, slot_change}
-use Rattle.core_views.specs.SlotSets.{MemorySlots, flat_slots, slot_at}
+use Rattle.core_views.specs.SlotSets.{MemorySlots, flat_slots, slot_of_id}
 use Rattle.spte_words.specs.Areas.{words_of_bits}
 use Rattle.part_steps.specs.PartSteps.{IsAtRest}
 use Rattle.mmu_core.specs.declared.outcome.Outcome.TheVariants.{Ends}
@@ -137,7 +137,7 @@ never_for_frames z (SetSlot id slot) slots = none_for_frames (
     ∷ (is_too_large z.pages slot, TooLarge)
     ∷ (is_some_and (resizes slot) (slot_with_id id (flat_slots slots)), Resize)
     ∷ (is_some_and (changes_fixed slot) (slot_with_id id (flat_slots slots)), Fixed)
-    ∷ (is_some_and (moves_logged slot) (slot_at id slots), Logged)
+    ∷ (is_some_and (moves_logged slot) (slot_of_id id slots), Logged)
     ∷ (meets_guest_frames id slot (flat_slots slots), Overlap)
     ∷ (meets_host_pages id slot (flat_slots slots), HostOverlap)
     ∷ []) (refl, (refl, (refl, (refl, (refl, (refl, (refl, tt)))))))

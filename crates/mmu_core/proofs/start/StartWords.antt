@@ -22,7 +22,7 @@ use Rattle.part_steps.specs.Tasks.{map_of}
 use Rattle.mmu_core.specs.machine.View.{word_in}
 use Rattle.mmu_core.specs.machine.Worlds.{AreStartWords, IsStart, free_bits, least, start_hands, start_word}
 
--- each word at the start, behind its area's end too where its start word is 0
+-- each word at the start, after its area's end too where its start word is 0
 pub word_at_start : (z : Sizes) (w : World Held) (a : Area) (i x : ℕ) → AreStartWords z w.words → (i < size_of (map_of z) a → start_word z a i ≡ x)
     → (nat_lt i (size_of (map_of z) a) ≡ false → 0 ≡ x) → word_in z w a i ≡ x
 word_at_start z w a i x start inside outside = by (nat_lt i (size_of (map_of z) a)) (λ e. grind (arith, nat_tests)) (λ e. outside e)
@@ -90,7 +90,7 @@ least_over a b j low under = by (nat_le a b)
 no_bits : (a b : ℕ) → a ≡ b → 0 ≡ 2 ^ least 64 a - 2 ^ least 64 b
 no_bits a b e = let same : 2 ^ least 64 a ≡ 2 ^ least 64 b = ap (λ n. 2 ^ least 64 n) e in omega (arith, same)
 
--- The words of a map of bits, behind its end too, in which exactly the bits from one on are set, up to another one.
+-- The words of a map of bits, after its end too, in which exactly the bits from one on are set, up to another one.
 module _ (map : ℕ → ℕ) (first count : ℕ) (bits : (i : ℕ) → map i ≡ free_bits first count i) where
   pub bits_inside : (k : ℕ) → first ≤ k → k < count → is_free map k ≡ true
   bits_inside k low lt =

@@ -1,4 +1,4 @@
--- What an actor holds behind a load of a control word, or of a word of a map, and behind a fill.
+-- What an actor holds after a load of a control word, or of a word of a map, and after a fill.
 use Rattle.std.proofs.Common.{◌≡◌, ◌+◌, ◌-◌, ◌<◌, ◌≤◌, ℕ, refl, ap, ◌∙◌, arith}
 use Rattle.std.specs.Prelude.{Bool, true, false, ◌==◌, ◌&&◌, nat_le, nat_lt, not, if◌then◌else◌, Some, None}
 use Rattle.std.proofs.lemmas.Bool.Decides.{nat_tests}
@@ -52,7 +52,7 @@ at_other : (begins ends word : ℕ) (claim : MapClaim) (v : ℕ) → (nat_le beg
     → at_word (nat_le begins word && nat_lt word ends) begins word claim v ≡ claim
 at_other begins ends word claim v outside = ap (λ (b : Bool). at_word b begins word claim v) outside
 
--- the claims of a page and of a frame behind a load
+-- the claims of a page and of a frame after a load
 abbrev page_claim : Sizes → ℕ → Topics → ℕ → MapClaim
 page_claim z word t v = at_word (is_pool_map z word) (map_begins z) word t.claim v
 
@@ -96,7 +96,7 @@ told_so root slots seq count start end_ pause claim of_frame t v = record t {
   pause = if pause then v else t.pause;
 }
 
--- a claim behind a load of a word of its map
+-- a claim after a load of a word of its map
 at_map : (begins ends size i : ℕ) (claim : MapClaim) (v : ℕ) → ends ≡ begins + size → i < size
     → at_word (nat_le begins (begins + i) && nat_lt (begins + i) ends) begins (begins + i) claim v ≡ record { at = i + (if v == 0 then 1 else 0); seen = v }
 at_map begins ends size i claim v is lt =

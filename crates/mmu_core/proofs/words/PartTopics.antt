@@ -1,4 +1,4 @@
--- What an actor holds behind each step of a part: the topics of the step, written out.
+-- What an actor holds after each step of a part: the topics of the step, written out.
 use Rattle.std.proofs.Common.{◌≡◌, ◌+◌, ◌-◌, ◌<◌, ◌≤◌, ℕ, refl, sym, subst, ap, ◌∙◌, arith}
 use Rattle.std.specs.Prelude.{Bool, true, ◌==◌, if◌then◌else◌, Some, None}
 use Rattle.std.proofs.lemmas.Bool.Decides.{nat_tests}
@@ -47,7 +47,7 @@ state_place : (z : Sizes) (i : ℕ) → place (map_of z) area.State i - number_o
 unfolding place
 state_place z i = omega arith
 
--- a word of a pool page stands at its own place in the page, and a host word behind the first one
+-- a word of a pool page stands at its own place in the page, and a host word after the first one
 in_its_page : (z : Sizes) (page j : ℕ) → j < 512 → index_in_page z (place (map_of z) area.Pool (pool_index page j)) ≡ j
 unfolding place pool_index
 in_its_page z page j low = omega (arith, low)
@@ -141,7 +141,7 @@ part_topics_is z (part.FrameMap word) own t note v there = frame_map_topics z ow
 part_topics_is z (part.Store index) own t note v there = stored_topics z index t v
 part_topics_is z _ own t note v there = refl
 
--- the hand behind the step, by the actor at this place
+-- the hand after the step, by the actor at this place
 abbrev pub part_hand : PartStep → ℕ → ℕ → Held → ℕ → Held
 part_hand step own note h v = record {
   state = h.state;
@@ -198,7 +198,7 @@ part_stepped_is z v a step note S =
     }) (part_topics_is (v.hand a).state.sizes step a (v.hand a).topics note (answer_in (part_task step a (v.hand a).topics note) v.words)
     (is_there step (v.hand a) S.needs))
 
--- what holds behind the step as it is written out holds behind it
+-- what holds after the step as it is written out holds after it
 pub behind_step : (P : View → Type 0) (z : Sizes) (v : View) (a : ℕ) (step : PartStep) (note : ℕ) → IsPart z v a step → P (part_behind a step note v)
     → P (part_stepped a step note v)
 behind_step P z v a step note S = subst P (sym (part_stepped_is z v a step note S))

@@ -123,7 +123,7 @@ words_stay _ own t note words b A = refl
 pub areas_stay : (v : View) (a : ℕ) (step : PartStep) (note : ℕ) (b : Area) → stays b ≡ true → (part_stepped a step note v).words b ≡ v.words b
 areas_stay v a step note b is = words_stay step (own_index (v.hand a)) (v.hand a).topics note v.words b (apart b is)
 
--- the page of the published slot set behind a step
+-- the page of the published slot set after a step
 abbrev pub slots_behind : PartStep → Topics → ℕ → ℕ
 slots_behind part.Publish t slots = page_owned t.owned
 slots_behind _ t slots = slots

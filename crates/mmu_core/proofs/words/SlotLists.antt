@@ -35,7 +35,7 @@ flat_below pool set (suc n) =
     last true = refl
     last false = refl
 
--- a slot that holds the guest frame, behind slots that don't
+-- a slot that holds the guest frame, after slots that don't
 slot_behind : (gfn : ℕ) (xs ys : Slots) → slot_of xs gfn ≡ None → slot_of (xs ++ ys) gfn ≡ slot_of ys gfn
 slot_behind gfn [] ys none = refl
 slot_behind gfn (x ∷ xs) ys none = by (contains gfn x.1) refl (slot_behind gfn xs ys)

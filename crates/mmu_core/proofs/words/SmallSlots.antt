@@ -10,7 +10,7 @@ use Rattle.core_views.specs.declared.trace.Command.{Command}
 use Rattle.core_views.specs.declared.trace.Command.TheVariants.{SetSlot}
 use Rattle.core_views.specs.declared.trace.Line.{Line}
 use Rattle.core_views.specs.declared.trace.Slot.{Slot}
-use Rattle.core_views.specs.SlotSets.{MemorySlots, slot_at}
+use Rattle.core_views.specs.SlotSets.{MemorySlots, slot_of_id}
 use Rattle.core_views.specs.Traces.{IsCommandFor}
 use Rattle.mmu_core.specs.invariant.Invariant.{IsSetBy}
 use Rattle.part_steps.proofs.SetWords.{IsSmall}
@@ -39,13 +39,13 @@ set_is_small z (line ∷ lines) id slot allowed has =
 
 -- So does each slot of a record that lines set.
 pub record_small : (z : Sizes) (lines : List Line) (slots : MemorySlots) → All (λ line. IsCommandFor z line.actor line.command) lines
-    → All (IsSetBy lines) slots → (i : ℕ) (m : MemorySlot) → slot_at i slots ≡ Some m → IsSmall m.slot
+    → All (IsSetBy lines) slots → (i : ℕ) (m : MemorySlot) → slot_of_id i slots ≡ Some m → IsSmall m.slot
 record_small z lines [] allowed set i m is = absurd (cc is)
 record_small z lines ((k, n) ∷ es) allowed set i m is = by (k == i) is (record_small z lines es allowed (All-tail (IsSetBy lines) (k, n) es set) i m)
   where
     same : {x y : MemorySlot} → Some x ≡ Some y → x ≡ y
     same e = cc e
 
-    by : (b : Bool) → (if b then Some n else slot_at i es) ≡ Some m → (slot_at i es ≡ Some m → IsSmall m.slot) → IsSmall m.slot
+    by : (b : Bool) → (if b then Some n else slot_of_id i es) ≡ Some m → (slot_of_id i es ≡ Some m → IsSmall m.slot) → IsSmall m.slot
     by true e rest = subst (λ (x : MemorySlot). IsSmall x.slot) (same e) (set_is_small z lines k n.slot allowed (All-head (IsSetBy lines) (k, n) es set))
     by false e rest = rest e

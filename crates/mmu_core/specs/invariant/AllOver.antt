@@ -8,7 +8,7 @@ use Rattle.spte_words.specs.Entries.{can_write, frame_in, host_writable, kind_of
 use Rattle.spte_words.specs.HostWords.{host_allows_write, host_frame}
 use Rattle.mmu_core.specs.invariant.CachedPart.{IsLeafFor}
 use Rattle.mmu_core.specs.invariant.SlotSetPart.{IsLiveIn}
-use Rattle.mmu_core.specs.invariant.TreePart.{Position, Reaches, Use}
+use Rattle.mmu_core.specs.invariant.TreePart.{Position, HangsBelow, Use}
 use Rattle.part_steps.specs.SlotWords.{may_write, page_of}
 
 -- The entry of the table that stands here is over the guest frame.
@@ -18,7 +18,7 @@ IsEntryOver p entry gfn = (entry < 512) × (gfn / level_span p.level ≡ p.prefi
 -- Each entry of table m, and of each table to which links lead from it, is so: of its level, of each guest frame that it is over, and of its word.
 abbrev pub AllOver : (ℕ → Use) → (ℕ → Position) → (ℕ → ℕ) → ℕ → (ℕ → ℕ → ℕ → Type 0) → Type 0
 AllOver up spot pool m IsSo =
-    (table entry gfn : ℕ) → Reaches up m table → IsEntryOver (spot table) entry gfn → IsSo (spot table).level gfn (pool (pool_index table entry))
+    (table entry gfn : ℕ) → HangsBelow up m table → IsEntryOver (spot table) entry gfn → IsSo (spot table).level gfn (pool (pool_index table entry))
 
 -- A leaf is the one that slots and host give the guest frame.
 abbrev pub LeafIsFor : (ℕ → ℕ) → (ℕ → ℕ) → ℕ → ℕ → ℕ → ℕ → Type 0

@@ -4,7 +4,7 @@ use Rattle.std.specs.Prelude.{◌≡◌, ◌⊎◌, ◌<◌, ℕ, Bool, true, fa
 use Rattle.core_views.specs.declared.sizes.Sizes.{Sizes}
 use Rattle.core_views.specs.declared.topics.HostLook.{HostLook}
 use Rattle.core_views.specs.declared.topics.Topics.{Topics}
-use Rattle.core_views.specs.Sizes.{owns}
+use Rattle.core_views.specs.Sizes.{is_threads}
 use Rattle.spte_words.specs.HostWords.{host_allows_write, host_frame, host_present, host_word, with_presence}
 
 -- The word maps a page, small, to one of so many frames; the page may be absent, and the word may forbid writes.
@@ -21,7 +21,7 @@ HostWordsPart z host = (p : ℕ) → p < z.pages → IsHostWord z.frames (host p
 
 -- The actor at a place is the host thread whose page it is.
 abbrev pub owns_page : Sizes → ℕ → ℕ → Bool
-owns_page z i page = nat_le z.vcpus i && owns z (i - z.vcpus) page
+owns_page z i page = nat_le z.vcpus i && is_threads z (i - z.vcpus) page
 
 -- What its owner has looked up of a page is the page's word still: nobody else changes it, but by bringing the page in.
 abbrev pub OwnLooksPart : Sizes → ℕ → (ℕ → ℕ) → (ℕ → Topics) → Type 0

@@ -37,7 +37,7 @@ PassedPart pool t =
     → has_host_page (page_looked t.host) slot ≡ true → (t.search.whole ≡ true) × (slot ≡ t.search.slot)
 
 -- A slot in this set gives the host page this guest frame.
-pub record Gives (pool : ℕ → ℕ) (set page gfn : ℕ) : Type 0 where
+pub record SlotGives (pool : ℕ → ℕ) (set page gfn : ℕ) : Type 0 where
   pub id : ℕ
   pub slot : SlotOf
   pub live : IsLiveIn pool set id slot
@@ -46,8 +46,8 @@ pub record Gives (pool : ℕ → ℕ) (set page gfn : ℕ) : Type 0 where
 
 -- The invalidation is of the guest frames that the slots give to its page, and of no others.
 pub record IsOfPage (pool : ℕ → ℕ) (set : ℕ) (own_ : Invalidated) : Type 0 where
-  pub covers : (gfn : ℕ) → Gives pool set own_.page gfn → IsIn own_ gfn
-  pub only : (gfn : ℕ) → IsIn own_ gfn → Gives pool set own_.page gfn
+  pub covers : (gfn : ℕ) → SlotGives pool set own_.page gfn → IsIn own_ gfn
+  pub only : (gfn : ℕ) → IsIn own_ gfn → SlotGives pool set own_.page gfn
 
 -- So is each open one, of the published slots.
 abbrev pub ScopePart : ℕ → (ℕ → ℕ) → ℕ → (ℕ → Topics) → Type 0

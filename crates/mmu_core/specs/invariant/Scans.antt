@@ -54,7 +54,7 @@ pub record EndsWithScan (z : Sizes) (map : FreeMap) (actor at : ℕ) (w : World 
   pub each : (word : ℕ) → word < at → SawNoneFree z map actor word (run mmu w earlier) (first ∷ later)
 
 -- In every list of steps from every start: a claim that has come to a word of the map has seen each word before it with nothing free.
--- One that is over with none free has come behind the last word, and so has seen each.
+-- One that is over with none free has come after the last word, and so has seen each.
 abbrev pub ClaimsSeeEachWord : Type 0
 ClaimsSeeEachWord =
     (z : Sizes) (lines : List Line) (w : World Held) (ss : List (Step Kind)) → IsStart z lines w → Legal mmu w ss → (map : FreeMap) (actor : ℕ)

@@ -29,7 +29,7 @@ HasLoaded Pages pool set so_far = HasFlags pool set so_far × (so_far.slot.base 
 HasLoaded Host pool set so_far =
     HasFlags pool set so_far × (so_far.slot.base ≡ (slot_at pool set so_far.id).base) × (so_far.slot.pages ≡ (slot_at pool set so_far.id).pages)
 
--- A word of a slot behind its flags is next only of one of the IDs.
+-- A word of a slot after its flags is next only of one of the IDs.
 abbrev pub IsOnList : SlotField → ℕ → Type 0
 IsOnList Flags id = Unit {0}
 IsOnList _ id = id ≤ 31

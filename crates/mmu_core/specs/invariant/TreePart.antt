@@ -40,8 +40,8 @@ abbrev pub Below : (ℕ → Use) → ℕ → ℕ → ℕ → Type 0
 Below up m zero l = l ≡ m
 Below up m (suc links) l = through (up l) (Below up m links)
 
-abbrev pub Reaches : (ℕ → Use) → ℕ → ℕ → Type 0
-Reaches up m l = (links : ℕ) × Below up m links l
+abbrev pub HangsBelow : (ℕ → Use) → ℕ → ℕ → Type 0
+HangsBelow up m l = (links : ℕ) × Below up m links l
 
 -- Entry j of the table that is page k and stands here links to a table, which is under this entry.
 pub record LinksTo (up : ℕ → Use) (k : ℕ) (p : Position) (j w : ℕ) : Type 0 where

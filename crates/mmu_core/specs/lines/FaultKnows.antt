@@ -82,7 +82,7 @@ pub record HostForbids (gfn : ℕ) (write : Bool) (t : Topics) : Type 0 where
   pub looked_up : LookedUp gfn t
   pub forbids : host_allows_write looked_up.word ≡ false
 
--- The slot that was found is read-only, or the search has come behind the last slot.
+-- The slot that was found is read-only, or the search has come after the last slot.
 abbrev pub FoundNoPage : ℕ → Bool → Topics → Type 0
 FoundNoPage gfn write t = ((write ≡ true) × FoundSlot gfn t × (t.search.slot.read_only ≡ true)) ⊎ (t.search.id ≡ 32)
 
@@ -109,12 +109,12 @@ HasCause (Moved old_ now_) z gfn t = (t.invalidations.snapshot ≡ Some old_) ×
 HasCause (Entry word read seen) z gfn t = IsInTheWay word read seen z gfn t.walk ⊎ IsHostWordMoved word read seen z gfn t
 
 -- what the end of a fault rests on
-abbrev pub EndKnows : FaultEnd → Sizes → ℕ → Bool → Topics → Type 0
-EndKnows Installed z gfn write t = HasEntry gfn write t
-EndKnows Mmio z gfn write t = FoundNoPage gfn write t
-EndKnows HostFault z gfn write t = HostForbids gfn write t
-EndKnows Starved z gfn write t = words_of_bits z.pool ≤ t.claim.at
-EndKnows (Retry cause) z gfn write t = HasCause cause z gfn t
+abbrev pub FaultEndKnows : FaultEnd → Sizes → ℕ → Bool → Topics → Type 0
+FaultEndKnows Installed z gfn write t = HasEntry gfn write t
+FaultEndKnows Mmio z gfn write t = FoundNoPage gfn write t
+FaultEndKnows HostFault z gfn write t = HostForbids gfn write t
+FaultEndKnows Starved z gfn write t = words_of_bits z.pool ≤ t.claim.at
+FaultEndKnows (Retry cause) z gfn write t = HasCause cause z gfn t
 
 -- A page is given back only where the fault is to begin anew.
 abbrev pub IsRetry : FaultEnd → Type 0
@@ -136,9 +136,9 @@ FaultKnows Fill z gfn write t = Entering gfn write t × SawAbsentEntry gfn t × 
 FaultKnows Role z gfn write t = Entering gfn write t × SawAbsentEntry gfn t × HasRoleToSet t × (is_absent t.owned ≡ true)
 FaultKnows Link z gfn write t = Entering gfn write t × SawAbsentEntry gfn t × OwnsTable (t.walk.level - 1) t
 FaultKnows Leaf z gfn write t = Entering gfn write t × (t.owned ≡ None) × SawEntry gfn t.walk × (t.walk.level ≡ 1)
-FaultKnows (Give e) z gfn write t = (t.stay ≡ Section) × (t.hold ≡ Shared) × OwnsPage t × EndKnows e z gfn write t × IsRetry e
-FaultKnows (Unshare e) z gfn write t = InSection t × (t.hold ≡ Shared) × EndKnows e z gfn write t
-FaultKnows (End e) z gfn write t = InSection t × (t.hold ≡ Loose) × EndKnows e z gfn write t
+FaultKnows (Give e) z gfn write t = (t.stay ≡ Section) × (t.hold ≡ Shared) × OwnsPage t × FaultEndKnows e z gfn write t × IsRetry e
+FaultKnows (Unshare e) z gfn write t = InSection t × (t.hold ≡ Shared) × FaultEndKnows e z gfn write t
+FaultKnows (End e) z gfn write t = InSection t × (t.hold ≡ Loose) × FaultEndKnows e z gfn write t
 
 -- what it knows after a step: where it is over it holds nothing
 abbrev pub KnowsNext : FaultNext → Sizes → ℕ → Bool → Topics → Type 0

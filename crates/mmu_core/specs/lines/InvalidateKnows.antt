@@ -20,14 +20,14 @@ use Rattle.part_steps.specs.PartSteps.{IsAtRest}
 use Rattle.part_steps.specs.StayTopics.{no_flush}
 
 -- It has the lock alone, outside of every section, and owns no page.
-pub record IsAlone (t : Topics) : Type 0 where
+pub record HasLockAlone (t : Topics) : Type 0 where
   pub outside : t.stay ≡ Outside
   pub alone : t.hold ≡ Exclusive
   pub owns_none : t.owned ≡ None
 
 -- It is alone, and its own invalidation is open, or isn't.
 pub record IsAloneWith (opened : Bool) (t : Topics) : Type 0 where
-  pub alone : IsAlone t
+  pub alone : HasLockAlone t
   pub is : t.invalidations.opened ≡ opened
 
 -- The entry of the page's guest frame in the table that the walk has come to was loaded, and is a leaf.

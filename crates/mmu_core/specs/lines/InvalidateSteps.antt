@@ -81,13 +81,13 @@ sweeps begins.Zap = true
 sweeps _ = false
 
 -- It is counted among the open ones from this place on.
-abbrev pub is_counted : BeginPlace → Bool
-is_counted (begins.Walk rooted) = true
-is_counted begins.Zap = true
-is_counted begins.Ask = true
-is_counted begins.Await = true
-is_counted begins.Release = true
-is_counted _ = false
+abbrev pub is_among_open : BeginPlace → Bool
+is_among_open (begins.Walk rooted) = true
+is_among_open begins.Zap = true
+is_among_open begins.Ask = true
+is_among_open begins.Await = true
+is_among_open begins.Release = true
+is_among_open _ = false
 
 -- the most steps that it has left, where no other actor is in the way
 abbrev pub begin_left : BeginPlace → Sizes → Topics → ℕ

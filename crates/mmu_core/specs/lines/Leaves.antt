@@ -6,7 +6,7 @@ use Rattle.core_views.specs.declared.place.Place.{Place}
 use Rattle.core_views.specs.declared.place.Place.TheVariants as place
 use Rattle.core_views.specs.declared.place.SlotChangePlace.TheVariants as change
 use Rattle.core_views.specs.declared.topics.Topics.{Topics}
-use Rattle.mmu_core.specs.lines.InvalidateSteps.{is_counted}
+use Rattle.mmu_core.specs.lines.InvalidateSteps.{is_among_open}
 
 -- A page leaves its use only after a publication, up to the end of the line.
 abbrev pub may_leave : Place → Bool
@@ -18,7 +18,7 @@ may_leave _ = false
 
 -- An invalidation of its own is open only from the store of one more to that of one less.
 abbrev pub may_open : Place → Bool
-may_open (place.Host (host.Begin p)) = is_counted p
+may_open (place.Host (host.Begin p)) = is_among_open p
 may_open (place.Host host.Copy) = true
 may_open (place.Host host.Store) = true
 may_open (place.Host host.Change) = true

@@ -49,9 +49,9 @@ BegunNext (next_of.Goes p) = HasBegun p
 BegunNext (next_of.Ends e) = IsStarvedEnd e
 
 -- The claim has loaded a word of the map.
-abbrev pub HasLoaded : Option Bool → Type 0
-HasLoaded (Some begun) = begun ≡ true
-HasLoaded None = ⊥
+abbrev pub HasLoadedMap : Option Bool → Type 0
+HasLoadedMap (Some begun) = begun ≡ true
+HasLoadedMap None = ⊥
 
 -- So it is of the map of the pool's pages, and never of the map of frames.
 abbrev pub OfPages : Type 0 → FreeMap → Type 0
@@ -61,4 +61,4 @@ OfPages A Frames = ⊥
 -- The line has loaded the first word of the map, and goes on with its claim; or its fault is to be starved.
 abbrev pub HasScan : Place → FreeMap → Type 0
 HasScan (place.Access (access.Fault p)) map = OfPages (HasBegun p) map
-HasScan p map = HasLoaded (claim_at map p)
+HasScan p map = HasLoadedMap (claim_at map p)

@@ -26,7 +26,7 @@ pub record View : Type 0 where
   pub words : Area → ℕ → ℕ
   pub hand : ℕ → Held
 
--- the word of an area; 0 behind its end
+-- the word of an area; 0 after its end
 abbrev pub word_in : Sizes → World Held → Area → ℕ → ℕ
 word_in z w area i = if nat_lt i (size_of (map_of z) area) then slice_index w.words (place (map_of z) area i) else 0
 

@@ -1,4 +1,4 @@
--- What a fault has seen at each of its places it has seen behind its own step.
+-- What a fault has seen at each of its places it has seen after its own step.
 use Rattle.std.proofs.Common.{◌≡◌, ◌≢◌, inl, inr, ◌<◌, ◌≤◌, ℕ, List, [], ◌∷◌, ◌++◌, refl, sym, subst, ap, ◌∙◌, arith, ◌+◌}
 use Rattle.std.specs.Prelude.{Bool, true, false, ◌==◌, ◌&&◌, nat_le, nat_lt, not, if◌then◌else◌, slice_index, Some}
 use Rattle.std.proofs.lemmas.Bool.{eqb-false}

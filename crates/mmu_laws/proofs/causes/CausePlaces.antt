@@ -1,4 +1,4 @@
--- What a fault has seen at each of its places, and that it has seen it behind its own step.
+-- What a fault has seen at each of its places, and that it has seen it after its own step.
 use Rattle.std.proofs.Common.{◌≡◌, ◌≢◌, ℕ, List, [], ◌∷◌, ◌++◌, Option}
 use Rattle.core_views.specs.declared.kind.Kind.{Kind}
 use Rattle.core_views.specs.declared.place.Cause.{Cause}

@@ -15,7 +15,7 @@ use Rattle.mmu_core.proofs.machine.Columns.{same_or}
 use Rattle.mmu_core.proofs.machine.LineRuns.{run_one_more}
 use Rattle.mmu_core.proofs.machine.Worlds.{good_step}
 
--- the word of a step behind it, and each other word
+-- the word of a step after it, and each other word
 pub word_left : (u : World Held) (s : Step Kind) → s.kind.word < length u.words
     → slice_index (effect mmu u s).words s.kind.word ≡ after s.kind (found mmu u s.kind)
 unfolding effect
@@ -25,7 +25,7 @@ pub word_stays : (u : World Held) (s : Step Kind) (word : ℕ) → word ≢ s.ki
 unfolding effect
 word_stays u s word apart = get_or-set_other u.words s.kind.word word (after s.kind (slice_index u.words s.kind.word)) 0 apart
 
--- Steps behind some, and one step more.
+-- Steps after some, and one step more.
 behind : (ss earlier later : List (Step Kind)) (first s : Step Kind) → ss ≡ earlier ++ first ∷ later → ss ++ s ∷ [] ≡ earlier ++ first ∷ (later ++ s ∷ [])
 behind ss earlier later first s are = ap (λ (l : List (Step Kind)). l ++ s ∷ []) are ∙ append_assoc earlier (first ∷ later) (s ∷ [])
 
@@ -91,7 +91,7 @@ module _ (IsSo : Step Kind → Type 0) (actor word number : ℕ) (w : World Held
     since = more_so IsSo F.later s F.since so;
   }
 
-  -- What an actor knows of a word it knows behind each step but an own one that changes the word.
+  -- What an actor knows of a word it knows after each step but an own one that changes the word.
   pub knows_longer : (ss : List (Step Kind)) (s : Step Kind) → May mmu (run mmu w ss) s → IsSo s
       → (s.actor ≡ actor → s.kind.word ≡ word → after s.kind (found mmu (run mmu w ss) s.kind) ≡ found mmu (run mmu w ss) s.kind)
       → Knows ss (run mmu w ss) → Knows (ss ++ s ∷ []) (effect mmu (run mmu w ss) s)

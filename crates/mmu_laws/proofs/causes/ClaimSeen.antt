@@ -112,7 +112,7 @@ module _ (z : Sizes) (w : World Held) (ss : List (Step Kind)) (s : Step Kind) (G
   seen_small Pages = (own_rests z u s G may).counters.seen
   seen_small Frames = (own_rests z u s G may).counters.frames.seen
 
-  -- what a claim has seen behind its own step
+  -- what a claim has seen after its own step
   pub tried_saw : (map : FreeMap) (won : Bool) → is_won (claim map) v ≡ won → Made (try_part map) → 0 < (if won then 0 else v)
       → SawNow map (if won then 0 else (claim map).at) (if won then 0 else v)
   tried_saw map true is M some = absurd (omega (arith, some))

@@ -1,4 +1,4 @@
--- What a fault has seen at its place, whoever made which steps: what is so of its first place, behind its own step, and behind those of others.
+-- What a fault has seen at its place, whoever made which steps: what is so of its first place, after its own step, and after those of others.
 use Rattle.std.proofs.Common.{◌≡◌, ◌≢◌, ℕ, List, [], ◌∷◌, ◌++◌, refl, sym, subst}
 use Rattle.std.specs.Prelude.{Bool, true, Option, Some, None}
 use Rattle.core_views.specs.declared.cache.Translation.{Translation}
@@ -39,16 +39,16 @@ use Rattle.part_steps.specs.TopicSteps.{topics_after}
 use Rattle.mmu_laws.proofs.causes.EachLine.{IsStepAt, LineSights, LinesSee, each_line, step_there}
 use Rattle.mmu_laws.proofs.causes.MadeSteps.{Makes, made_topics, own_sizes}
 
--- What faults have seen: of the actor, the place of its fault, the guest frame, what the actor holds, the steps so far and the world behind them.
+-- What faults have seen: of the actor, the place of its fault, the guest frame, what the actor holds, the steps so far and the world after them.
 abbrev pub Sights : Type 1
 Sights = ℕ → FaultPlace → ℕ → Topics → List (Step Kind) → World Held → Type 0
 
--- and behind a step of the fault
+-- and after a step of the fault
 abbrev pub NextIs : Sights → ℕ → FaultNext → ℕ → Topics → List (Step Kind) → World Held → Type 0
 NextIs Saw actor (next_of.Goes p) gfn t ss u = Saw actor p gfn t ss u
 NextIs Saw actor (next_of.Ends e) gfn t ss u = Unit {0}
 
--- A fault that begins has seen it; behind each own step it has seen it; and no other actor's step takes it away.
+-- A fault that begins has seen it; after each own step it has seen it; and no other actor's step takes it away.
 pub record AreSeen (z : Sizes) (w : World Held) (Saw : Sights) : Type 0 where
   pub begins : (actor gfn : ℕ) (t : Topics) (ss : List (Step Kind)) (u : World Held) → Saw actor Begin gfn t ss u
   pub own : (ss : List (Step Kind)) (s : Step Kind) → IsSound z (run mmu w ss) → May mmu (run mmu w ss) s → (p : FaultPlace) (gfn : ℕ) (write : Bool)
@@ -87,7 +87,7 @@ module _ (z : Sizes) (w : World Held) (Saw : Sights) (A : AreSeen z w Saw) (ss :
   abbrev behind : Topics
   behind = topics_after h.state.sizes s.kind h.topics v
 
-  -- what the line has seen behind its step
+  -- what the line has seen after its step
   abbrev SawNow : Place → Command → Topics → Type 0
   SawNow p command t = LineSaw Saw s.actor p command t (ss ++ s ∷ []) (effect mmu u s)
 
@@ -164,7 +164,7 @@ module _ (z : Sizes) (w : World Held) (Saw : Sights) where
   lines_see : AreSeen z w Saw → LinesSee z w (LineSaw Saw)
   lines_see A = record { between = between_saw; first = first_saw; own = λ ss s G may p c K S. line_saw z w Saw A ss s G may p c K S; others = others_saw A }
 
--- From every sound world in which no line of the actor is under way: wherever its fault stands behind some steps, it has seen it.
+-- From every sound world in which no line of the actor is under way: wherever its fault stands after some steps, it has seen it.
 pub each_fault : (z : Sizes) (w : World Held) (Saw : Sights) → AreSeen z w Saw
     → (ss : List (Step Kind)) (actor gfn word : ℕ) (op : Op) (p : FaultPlace) → IsSound z w → Legal mmu w ss
     → (hand_in mmu w actor).state.place ≡ place.Between → (hand_in mmu (run mmu w ss) actor).state.place ≡ place.Access (access.Fault p)

@@ -1,4 +1,4 @@
--- What lines have seen at their places, whoever made which steps: what is so where a line begins, behind its own step, and behind those of others.
+-- What lines have seen at their places, whoever made which steps: what is so where a line begins, after its own step, and after those of others.
 use Rattle.std.proofs.Common.{◌≡◌, ◌≢◌, ◌⊎◌, inl, inr, ◌<◌, ℕ, List, [], ◌∷◌, ◌++◌, refl, sym, subst, ◌∙◌}
 use Rattle.std.specs.Prelude.{Bool, true, false}
 use Rattle.core_views.specs.declared.kind.Kind.{Kind}
@@ -28,7 +28,7 @@ use Rattle.mmu_core.proofs.machine.LineRuns.{own_hand}
 use Rattle.mmu_core.proofs.held.ClaimGoes.{others_hand}
 use Rattle.mmu_core.proofs.machine.Which.{has_line_is, is_next, next_of_line, next_of_part}
 
--- What lines have seen: of the actor, the place and the command of its line, what the actor holds, the steps so far and the world behind them.
+-- What lines have seen: of the actor, the place and the command of its line, what the actor holds, the steps so far and the world after them.
 abbrev pub LineSights : Type 1
 LineSights = ℕ → Place → Command → Topics → List (Step Kind) → World Held → Type 0
 
@@ -38,7 +38,7 @@ pub record IsStepAt (h : Held) (s : Step Kind) (p : Place) (c : Command) : Type 
   pub knows : KnowsPart p c h
   pub rests : RestsAt p c h
 
--- Between lines and where a line begins nothing is to be seen; behind its own step a line has seen it; and no other actor's step takes it away.
+-- Between lines and where a line begins nothing is to be seen; after its own step a line has seen it; and no other actor's step takes it away.
 pub record LinesSee (z : Sizes) (w : World Held) (Saw : LineSights) : Type 0 where
   pub between : (actor : ℕ) (c : Command) (t : Topics) (ss : List (Step Kind)) (u : World Held) → Saw actor place.Between c t ss u
   pub first : (actor : ℕ) (y : Sizes) (slots : MemorySlots) (c : Command) (t : Topics) (ss : List (Step Kind)) (u : World Held)
@@ -67,7 +67,7 @@ module _ (z : Sizes) (w : World Held) (Saw : LineSights) (L : LinesSee z w Saw) 
   abbrev v : ℕ
   v = answered mmu u s.kind
 
-  -- what the line has seen behind its step
+  -- what the line has seen after its step
   abbrev SawNow : Place → Command → Topics → Type 0
   SawNow p c t = Saw s.actor p c t (ss ++ s ∷ []) (effect mmu u s)
 
@@ -112,7 +112,7 @@ module _ (z : Sizes) (w : World Held) (Saw : LineSights) (L : LinesSee z w Saw) 
           (L.others actor (hand_in mmu u actor).state.place (hand_in mmu u actor).state.line.command (hand_in mmu u actor).topics ss s may
           (λ e. apart (sym e)) S)
 
--- From every sound world in which no line of the actor is under way: wherever its line stands behind some steps, it has seen it.
+-- From every sound world in which no line of the actor is under way: wherever its line stands after some steps, it has seen it.
 pub each_line : (z : Sizes) (w : World Held) (Saw : LineSights) → LinesSee z w Saw → (ss : List (Step Kind)) (actor : ℕ) → IsSound z w
     → Legal mmu w ss → (hand_in mmu w actor).state.place ≡ place.Between
     → HandSaw Saw actor ss (run mmu w ss)

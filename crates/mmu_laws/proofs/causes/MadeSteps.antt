@@ -27,7 +27,7 @@ pub record Makes (h : Held) (s : Step Kind) (step : PartStep) : Type 0 where
   pub is : s.kind ≡ part_kind h step note
   pub needs : PartNeeds step h
 
--- what is held behind it
+-- what is held after it
 pub made_topics : (h : Held) (s : Step Kind) (v : ℕ) (step : PartStep) → Makes h s step
     → topics_after h.state.sizes s.kind h.topics v ≡ part_topics step h.topics v
 made_topics h s v step M =

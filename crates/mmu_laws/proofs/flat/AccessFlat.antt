@@ -20,7 +20,7 @@ use Rattle.core_views.specs.Events.{touched}
 use Rattle.core_views.specs.Flat.{Facts, LineUnderWay, Stage}
 use Rattle.core_views.specs.Past.{Past}
 use Rattle.core_views.specs.Lawful.{Tells}
-use Rattle.core_views.specs.Memory.{stored}
+use Rattle.core_views.specs.Memory.{word_after_op}
 use Rattle.core_views.specs.Names.{frame_at, frame_for}
 use Rattle.core_views.specs.Slots.{is_write, page_behind}
 use Rattle.core_views.specs.SlotSets.{flat_slots}
@@ -148,7 +148,7 @@ touch_goes : (z : Sizes) (v : View) (a : ℕ) (line : Line) (gfn word : ℕ) (op
     → IsStep z v a line (Access gfn word op) (place.Access Touch) → Ready z v line (Access gfn word op) (place.Access Touch) (v.hand a).topics facts u
     → AreDistinct z (v.words area.Host) → (T : Touches z (v.words area.Host) (v.hand a).state gfn word op facts)
     → after area.Slots ≡ v.words area.Slots → after area.Pool ≡ v.words area.Pool → after area.Host ≡ v.words area.Host → after area.Pause ≡ v.words area.Pause
-    → after area.Content (content_index (map_of (v.hand a).state.sizes) (frame_used gfn (v.hand a).state) word) ≡ stored op
+    → after area.Content (content_index (map_of (v.hand a).state.sizes) (frame_used gfn (v.hand a).state) word) ≡ word_after_op op
     (v.words area.Content (content_index (map_of (v.hand a).state.sizes) (frame_used gfn (v.hand a).state) word))
     → ((i : ℕ) → i ≢ content_index (map_of (v.hand a).state.sizes) (frame_used gfn (v.hand a).state) word → after area.Content i ≡ v.words area.Content i)
     → let x : ℕ = v.words area.Content (content_index (map_of (v.hand a).state.sizes) (frame_used gfn (v.hand a).state) word) in
@@ -218,7 +218,7 @@ module _ (z : Sizes) (v : View) (a : ℕ) (line : Line) (gfn word : ℕ) (facts 
       (upd_same (v.words area.Content) (touched_index gfn (v.hand a).state word) x)
       (λ i apart. upd_other (v.words area.Content) (touched_index gfn (v.hand a).state word) i x apart)
   touch_owes (Add x) S I P U part_ K R =
-      let sum : ℕ = stored (Add x) (v.words area.Content (touched_index gfn (v.hand a).state word)) in
+      let sum : ℕ = word_after_op (Add x) (v.words area.Content (touched_index gfn (v.hand a).state word)) in
       touch_goes z v a line gfn word (Add x) facts past u (put v.words area.Content (touched_index gfn (v.hand a).state word) sum)
       (held_behind (Add x) Touch) S R (frames_apart P.frames) (touches z v a line gfn word (Add x) facts u S I P U K R) refl refl refl refl
       (upd_same (v.words area.Content) (touched_index gfn (v.hand a).state word) sum)

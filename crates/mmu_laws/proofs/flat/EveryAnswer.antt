@@ -1,4 +1,4 @@
--- What the hands hold behind a list of steps is what its history tells; where all is answered it answers the trace.
+-- What the hands hold after a list of steps is what its history tells; where all is answered it answers the trace.
 use Rattle.std.proofs.Common.{◌≡◌, ◌⊎◌, inl, inr, ◌+◌, ◌-◌, ◌<◌, ◌≤◌, ℕ, List, [], ◌∷◌, ◌++◌, length, take, refl, sym, subst, ap, ◌∙◌, arith}
 use Rattle.std.specs.Prelude.{All, Bool, true, false, ◌==◌, map, nat_lt, if◌then◌else◌}
 use Rattle.std.proofs.lemmas.Bool.Decides.{nat_tests}
@@ -47,7 +47,7 @@ step_events z w s T =
     let h : Held = hand_in mmu w s.actor in
     ap (events_of h) T.answers ∙ sym (told_is_events z (view z w) s.actor (line_at h.state.place h) (place_at h.state.place h) T.is_step)
 
--- a hand behind a step of a part has answered and begun the same
+-- a hand after a step of a part has answered and begun the same
 part_follows : (h : Held) (k : Kind) (x : ℕ) → Follows h (idle_after h k x) []
 part_follows h k x = record {
   actor = refl;
@@ -139,7 +139,7 @@ run_silent z w (s ∷ ss) actor G legal absent =
           ∙ ap (λ (xs : List Line). xs ++ begun_by actor (history (effect mmu w s) ss)) here.begun ∙ rest.begun;
     }
 
--- behind a start
+-- after a start
 pub start_follows : (z : Sizes) (lines : List Line) (w : World Held) (ss : List (Step Kind)) (i : ℕ) → IsStart z lines w → Legal mmu w ss → i < actors_of z
     → Follows (first_held z (actor_at z i) (lines_of (actor_at z i) lines)) (hand_in mmu (run mmu w ss) i) (history w ss)
 start_follows z lines w ss i start legal i_in =

@@ -82,7 +82,7 @@ part_keeps_flat z v f a step note S free none I P F = record {
     idle : a < actors_of z → h.state.place ≡ place.Between
     idle lt = none_under h.state.place h (I.lines a lt).under none
 
--- What the steps tell is lawful from there, and behind them the world stands for the state that the history leaves.
+-- What the steps tell is lawful from there, and after them the world stands for the state that the history leaves.
 abbrev StaysFlat : Sizes → World Held → Flat → List (Step Kind) → Type 0
 StaysFlat z w f ss = IsLawful z f (history w ss) × FlatInvariant z (view z (run mmu w ss)) (after_all (history w ss) f)
 
@@ -90,7 +90,7 @@ pub after_append : (xs ys : List Event) (f : Flat) → ◌≡◌ {A = Flat} (aft
 after_append [] ys f = refl
 after_append (x ∷ xs) ys f = after_append xs ys (after x f)
 
--- It stays so with what one step tells, and with what the steps behind it tell.
+-- It stays so with what one step tells, and with what the steps after it tell.
 stays_flat : (z : Sizes) (u : World Held) (f : Flat) (es hs : List Event) → IsLawful z f es
     → IsLawful z (after_all es f) hs × FlatInvariant z (view z u) (after_all hs (after_all es f))
     → IsLawful z f (es ++ hs) × FlatInvariant z (view z u) (after_all (es ++ hs) f)

@@ -63,7 +63,7 @@ module _ (z : Sizes) (v : View) (a : ℕ) (line : Line) (gfn word : ℕ) (op : O
   abbrev held : Topics
   held = (v.hand a).topics
 
-  -- what the step of a fault's place makes of the words, what it answers, and what is held behind it
+  -- what the step of a fault's place makes of the words, what it answers, and what is held after it
   abbrev words_behind : FaultPlace → Area → ℕ → ℕ
   words_behind p = words_after (access_task (Fault p) (v.hand a) gfn word op) v.words
 
@@ -73,7 +73,7 @@ module _ (z : Sizes) (v : View) (a : ℕ) (line : Line) (gfn word : ℕ) (op : O
   abbrev held_behind : FaultPlace → Topics
   held_behind p = topics_after (v.hand a).state.sizes (kind_of_task (v.hand a).state.sizes (access_task (Fault p) (v.hand a) gfn word op)) held (answered p)
 
-  -- A step that tells nothing, behind which the line has noted what its next place asks.
+  -- A step that tells nothing, after which the line has noted what its next place asks.
   quiet : (p next : FaultPlace) → is_bring (Fault p) ≡ false → IsPart z v a (fault_part p gfn held) → Invariant z v → TopicsInvariant z v
       → Ready z v line (Access gfn word op) (place.Access (Fault p)) held facts u
       → NotedAt (words_behind p area.Pool) next gfn op (held_behind p) u.notes

@@ -148,7 +148,7 @@ whole_noted z k pool gfn x op s t notes P loaded low is search held N = case (co
         goes_on pool k gfn (s.id + 1) op t notes held next
         (passing pool notes k s.id gfn N (λ r l. ap (contains gfn) (sym l.is) ∙ sym same_frames ∙ holds))
 
--- What the line has noted behind a word of a slot.
+-- What the line has noted after a word of a slot.
 word_noted : (z : Sizes) (k : ℕ) (pool : ℕ → ℕ) (gfn x : ℕ) (op : Op) (f : SlotField) (s : SlotSearch) (t : Topics) (notes : Notes)
     → AreSlots z pool k → s.set ≡ Some k → HasLoaded f pool k s → s.id ≤ 31
     → x ≡ pool (slot_index k s.id f) → t.search ≡ searched_at f s x → NotedTo pool notes k s.id gfn

@@ -1,4 +1,4 @@
--- Each step tells lawful events, and the words and hands are flat guest memory behind it.
+-- Each step tells lawful events, and the words and hands are flat guest memory after it.
 use Rattle.std.proofs.Common.{◌≡◌, ◌≢◌, ◌+◌, ◌<◌, ℕ, List, [], ◌∷◌, ◌++◌, refl, sym, subst, ap, ◌∙◌}
 use Rattle.std.specs.Prelude.{◌==◌, not, Bool, true, false}
 use Rattle.std.proofs.lemmas.Bool.Decides.{Decides-eqb}
@@ -17,7 +17,7 @@ use Rattle.core_views.specs.declared.trace.Command.TheVariants.{Access}
 use Rattle.core_views.specs.declared.trace.Line.{Line}
 use Rattle.core_views.specs.declared.trace.Op.{Op}
 use Rattle.core_views.specs.Actors.{changed_at, is_same}
-use Rattle.core_views.specs.Events.{after, after_all, line_after}
+use Rattle.core_views.specs.Events.{after, after_all, under_after}
 use Rattle.core_views.specs.Flat.{Flat, LineUnderWay, Idle}
 use Rattle.core_views.specs.Held.{Held, State}
 use Rattle.core_views.specs.Lawful.{IsLawful}
@@ -57,7 +57,7 @@ told_kinds v a line command p =
 abbrev pub told_events : View → ℕ → Line → Command → Place → List Event
 told_events v a line command p = told (v.hand a).state.actor (beginning (v.hand a).state.place line ++ told_kinds v a line command p)
 
--- the events are lawful, and the words and hands after the step are flat memory behind them
+-- the events are lawful, and the words and hands after the step are flat memory after them
 abbrev Meets : Sizes → View → Flat → ℕ → Line → Command → Place → List Event → Type 0
 Meets z v f a line command p es = IsLawful z f es × FlatInvariant z (stepped a line command p v) (after_all es f)
 
@@ -172,10 +172,10 @@ ready_first z v f a line command p S F no_pause e = record {
     h = v.hand a
 
     now_ : LineUnderWay
-    now_ = changed_at h.state.actor (line_after (Begun line) f.facts (f.under h.state.actor)) f.under h.state.actor
+    now_ = changed_at h.state.actor (under_after (Begun line) f.facts (f.under h.state.actor)) f.under h.state.actor
 
-    begun : now_ ≡ line_after (Begun line) f.facts (f.under h.state.actor)
-    begun = changed_here h.state.actor (line_after (Begun line) f.facts (f.under h.state.actor)) f.under
+    begun : now_ ≡ under_after (Begun line) f.facts (f.under h.state.actor)
+    begun = changed_here h.state.actor (under_after (Begun line) f.facts (f.under h.state.actor)) f.under
 
     command_is : (next_line h).command ≡ command
     command_is = ap (λ (l : Line). l.command) (sym S.next) ∙ S.command_is

@@ -1,4 +1,4 @@
--- What the lines under way have noted stays behind the step of another actor: the slot set that a search holds keeps its words.
+-- What the lines under way have noted stays after the step of another actor: the slot set that a search holds keeps its words.
 use Rattle.std.proofs.Common.{◌≡◌, ◌≢◌, ◌<◌, ℕ, refl, sym, subst, ap, ◌∙◌, arith}
 use Rattle.std.specs.Prelude.{All, true, false, Option, Some, None}
 use Rattle.core_views.specs.declared.place.AccessPlace.{AccessPlace}

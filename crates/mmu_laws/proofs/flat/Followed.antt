@@ -106,7 +106,7 @@ numbers_behind (Ends answer) line lines answers lt is numbers =
     ∙ ap (map (λ (l : Line). l.number)) (ap (λ (l : Line). take (length answers) lines ++ l ∷ []) is ∙ sym (take_next lines (length answers) lt)
     ∙ ap (λ n. take n lines) (sym (count_push answers x)))
 
--- each hand behind a step of an actor
+-- each hand after a step of an actor
 module _ (z : Sizes) (v : View) (a : ℕ) (line : Line) (p : Place) where
   abbrev found : ℕ
   found = answer_in (task_at p line.command (v.hand a)) v.words

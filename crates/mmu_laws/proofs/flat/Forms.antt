@@ -27,7 +27,7 @@ use Rattle.core_views.specs.declared.trace.Command.{Command}
 use Rattle.core_views.specs.declared.trace.Command.TheVariants.{Access}
 use Rattle.core_views.specs.declared.trace.Line.{Line}
 use Rattle.core_views.specs.declared.trace.Op.{Op}
-use Rattle.core_views.specs.Alone.{IsWithin}
+use Rattle.core_views.specs.Alone.{IsInside}
 use Rattle.core_views.specs.Flat.{Flat, Fresh, LineUnderWay}
 use Rattle.core_views.specs.Held.{Held}
 use Rattle.core_views.specs.SlotCommands.{change_refusal, slot_change}
@@ -55,7 +55,7 @@ use Rattle.mmu_core.proofs.held.UsableSteps.{UsableAt}
 -- Each of the events stands within a line.
 abbrev pub AllWithin : List EventKind → Type 0
 AllWithin [] = Unit {0}
-AllWithin (k ∷ ks) = IsWithin k × AllWithin ks
+AllWithin (k ∷ ks) = IsInside k × AllWithin ks
 
 exit_within : (o : Outcome) → AllWithin (exiting o)
 exit_within (Goes p) = tt

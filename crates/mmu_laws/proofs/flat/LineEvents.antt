@@ -1,4 +1,4 @@
--- What the steps of one line tell, one behind the other: its begin, events of its own, its answer.
+-- What the steps of one line tell, one after the other: its begin, events of its own, its answer.
 use Rattle.std.proofs.Common.{◌≡◌, ℕ, List, [], ◌∷◌, ◌++◌, map, refl, sym, ap, ◌∙◌, subst, append_assoc}
 use Rattle.std.specs.Prelude.{true}
 use Rattle.std.proofs.lemmas.List.{append-nil, map-append}
@@ -11,7 +11,7 @@ use Rattle.core_views.specs.declared.event.EventKind.TheVariants.{Begun, Answere
 use Rattle.core_views.specs.declared.place.Place.{Place}
 use Rattle.core_views.specs.declared.place.Place.TheVariants as place
 use Rattle.core_views.specs.declared.trace.Line.{Line}
-use Rattle.core_views.specs.Alone.{AreWithin, IsWithin, StandsAlone}
+use Rattle.core_views.specs.Alone.{AreWithin, IsInside, StandsAlone}
 use Rattle.core_views.specs.FlatHistory.{answers, by}
 use Rattle.core_views.specs.Held.{Held}
 use Rattle.core_views.specs.Text.{answers_of, or_answered}
@@ -43,7 +43,7 @@ abbrev pub SoFar : Place → Line → List Event → Type 0
 SoFar place.Between line h = h ≡ []
 SoFar _ line h = IsOpen line h
 
--- further events of its own behind it
+-- further events of its own after it
 opens : (line : Line) (h : List Event) (kinds : List EventKind) → AllWithin kinds → IsOpen line h → IsOpen line (h ++ told_by line kinds)
 opens line h kinds all is = record {
   within = is.within ++ told_by line kinds;
@@ -65,7 +65,7 @@ tells_more _ line h kinds all so_far = opens line h kinds all so_far
 
 -- The line tells nothing besides its begin, its own events and its answer.
 
-kind_answers : (actor : Actor) (kind : EventKind) (rest : List AnsweredLine) → IsWithin kind → or_answered actor kind rest ≡ rest
+kind_answers : (actor : Actor) (kind : EventKind) (rest : List AnsweredLine) → IsInside kind → or_answered actor kind rest ≡ rest
 kind_answers actor (Answered number answer) rest within = absurd within
 kind_answers actor _ rest within = refl
 

@@ -11,7 +11,7 @@ use Rattle.core_views.specs.declared.place.Place.{Place}
 use Rattle.core_views.specs.declared.place.Place.TheVariants as place
 use Rattle.core_views.specs.declared.trace.Line.{Line}
 use Rattle.core_views.specs.Actors.{is_same}
-use Rattle.core_views.specs.Alone.{IsWithin}
+use Rattle.core_views.specs.Alone.{IsInside}
 use Rattle.core_views.specs.Text.{answers_of, or_answered}
 use Rattle.core_views.specs.Whole.{lines_begun, lines_of, or_begun}
 use Rattle.core_views.proofs.SameActor.{is_same_self}
@@ -46,11 +46,11 @@ begun_by_append actor xs ys =
     ap (lines_of actor) (begun_more xs ys) ∙ filter-append (λ (line : Line). is_same actor line.actor) (lines_begun xs) (lines_begun ys)
 
 -- An event that stands within a line neither begins nor answers one.
-answers_none : (actor : Actor) (kind : EventKind) (rest : List AnsweredLine) → IsWithin kind → or_answered actor kind rest ≡ rest
+answers_none : (actor : Actor) (kind : EventKind) (rest : List AnsweredLine) → IsInside kind → or_answered actor kind rest ≡ rest
 answers_none actor (Answered line answer) rest within = absurd within
 answers_none actor _ rest within = refl
 
-begins_none : (kind : EventKind) (rest : List Line) → IsWithin kind → or_begun kind rest ≡ rest
+begins_none : (kind : EventKind) (rest : List Line) → IsInside kind → or_begun kind rest ≡ rest
 begins_none (Begun line) rest within = absurd within
 begins_none _ rest within = refl
 

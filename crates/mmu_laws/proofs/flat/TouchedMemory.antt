@@ -5,7 +5,7 @@ use Rattle.std.proofs.lemmas.Bool.Decides.{nat_tests}
 use Rattle.core_views.specs.declared.sizes.Sizes.{Sizes}
 use Rattle.core_views.specs.declared.trace.Op.{Op}
 use Rattle.core_views.specs.Events.{touched}
-use Rattle.core_views.specs.Memory.{Memory, stored, with_word}
+use Rattle.core_views.specs.Memory.{Memory, word_after_op, with_word}
 use Rattle.spte_words.specs.Areas.{content_index}
 use Rattle.spte_words.specs.HostWords.{host_frame}
 use Rattle.part_steps.specs.Tasks.{map_of}
@@ -26,7 +26,7 @@ AreDistinct z host = (p q : ℕ) → p < z.pages → q < z.pages → host_frame 
 pub memory_behind : (z : Sizes) (page word : ℕ) (op : Op) (memory : Memory) (host content after : ℕ → ℕ) → AreDistinct z host → page < z.pages
     → word < z.words
     → ((p j : ℕ) → p < z.pages → j < z.words → memory p j ≡ content (content_index (map_of z) (host_frame (host p)) j))
-    → after (content_index (map_of z) (host_frame (host page)) word) ≡ stored op (content (content_index (map_of z) (host_frame (host page)) word))
+    → after (content_index (map_of z) (host_frame (host page)) word) ≡ word_after_op op (content (content_index (map_of z) (host_frame (host page)) word))
     → ((i : ℕ) → i ≢ content_index (map_of z) (host_frame (host page)) word → after i ≡ content i)
     → (p j : ℕ) → p < z.pages → j < z.words → touched (Some page) word op memory p j ≡ after (content_index (map_of z) (host_frame (host p)) j)
 memory_behind z page word op memory host content after distinct page_in word_in is here there p j p_in j_in = case (same_or p page) (same_or j word)
@@ -36,13 +36,13 @@ memory_behind z page word op memory host content after distinct page_in word_in 
 
     other : (p ≡ page → j ≡ word → ⊥) → touched (Some page) word op memory p j ≡ after (at p j)
     other apart =
-        with_word_other page word (stored op (memory page word)) memory p j apart ∙ is p j p_in j_in
+        with_word_other page word (word_after_op op (memory page word)) memory p j apart ∙ is p j p_in j_in
         ∙ sym (there (at p j) (λ e. let same = same_content (map_of z) (host_frame (host p)) (host_frame (host page)) j word j_in word_in e in
         apart (distinct p page p_in page_in same.0) same.1))
 
     case : (p ≡ page) ⊎ (p ≢ page) → (j ≡ word) ⊎ (j ≢ word) → touched (Some page) word op memory p j ≡ after (at p j)
     case (inl e) (inl f) =
-        with_word_here page word (stored op (memory page word)) memory p j e f ∙ ap (stored op) (is page word page_in word_in) ∙ sym here
+        with_word_here page word (word_after_op op (memory page word)) memory p j e f ∙ ap (word_after_op op) (is page word page_in word_in) ∙ sym here
         ∙ rw (e, f) refl
     case (inr e) f = other (λ same _. e same)
     case (inl e) (inr f) = other (λ _ same. f same)

@@ -19,7 +19,7 @@ use Rattle.mmu_core.specs.invariant.Laws.{IsSound}
 use Rattle.mmu_core.specs.machine.Machine.{World}
 use Rattle.part_steps.specs.PartTasks.{entry_index, table_page}
 use Rattle.part_steps.specs.WalkTopics.{gone_down, linked_page}
-use Rattle.mmu_core.specs.invariant.TreePart.{EntryPart, Position, Reaches, TreePart, Use, at, stands}
+use Rattle.mmu_core.specs.invariant.TreePart.{EntryPart, Position, HangsBelow, TreePart, Use, at, stands}
 use Rattle.mmu_core.specs.machine.View.{word_in}
 use Rattle.mmu_core.proofs.pages.Standing.{one_position}
 use Rattle.mmu_core.proofs.pages.TreePlaces.{IsLinked, all_reached, link_stands, linked, root_stands}
@@ -97,8 +97,8 @@ module _ {pages root : ℕ} {role pool : ℕ → ℕ} {up : ℕ → Use} {spot :
       (kind_of_table (suc (suc level)) page (omega arith) (let lt = (T.there page _ at_page).0 in omega (arith, lt, few)))
 
   -- The table is the root, or linked.
-  leads_from : (level page : ℕ) → Reaches up root page → stands up spot page ≡ Some (at (suc level) (gfn / level_span (suc level) / 512))
-      → ((k : ℕ) → suc level < 4 → Reaches up root k → stands up spot k ≡ Some (at (suc (suc level)) (gfn / level_span (suc (suc level)) / 512))
+  leads_from : (level page : ℕ) → HangsBelow up root page → stands up spot page ≡ Some (at (suc level) (gfn / level_span (suc level) / 512))
+      → ((k : ℕ) → suc level < 4 → HangsBelow up root k → stands up spot k ≡ Some (at (suc (suc level)) (gfn / level_span (suc (suc level)) / 512))
       → LeadSame pool root (suc (suc level)) k gfn entry) → LeadSame pool root (suc level) page gfn entry
   leads_from level page R at_page over = by (linked T page _ R at_page)
     where
@@ -110,13 +110,13 @@ module _ {pages root : ℕ} {role pool : ℕ → ℕ} {up : ℕ → Use} {spot :
           one_down level L.parent page (parent_links level page found.0 at_page L)
           (over L.parent L.lower (found.0, L.chain) (parent_over level page found.0 L))
 
-  leads_by : (above level page : ℕ) → level + above ≡ 3 → Reaches up root page
+  leads_by : (above level page : ℕ) → level + above ≡ 3 → HangsBelow up root page
       → stands up spot page ≡ Some (at (suc level) (gfn / level_span (suc level) / 512)) → LeadSame pool root (suc level) page gfn entry
   leads_by zero level page levels R at_page = leads_from level page R at_page (λ k lower reached at_k. absurd (omega (arith, levels, lower)))
   leads_by (suc n) level page levels R at_page =
       leads_from level page R at_page (λ k lower reached at_k. leads_by n (suc level) k (omega (arith, levels)) reached at_k)
 
-  pub leads_same : (level page : ℕ) → Reaches up root page → stands up spot page ≡ Some (at level (gfn / level_span level / 512))
+  pub leads_same : (level page : ℕ) → HangsBelow up root page → stands up spot page ≡ Some (at level (gfn / level_span level / 512))
       → LeadSame pool root level page gfn entry
   leads_same zero page R at_page = absurd (let low = (T.there page _ at_page).1 in omega (arith, low))
   leads_same (suc level) page R at_page = leads_by (3 - level) level page (let most = (T.there page _ at_page).2 in omega (arith, most)) R at_page

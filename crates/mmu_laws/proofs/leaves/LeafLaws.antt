@@ -33,7 +33,7 @@ use Rattle.part_steps.specs.PartTasks.{entry_index, table_page}
 use Rattle.part_steps.specs.PartHoldings.{IsOver}
 use Rattle.part_steps.specs.SlotWords.{may_write, page_of, slot_at, slots_below}
 use Rattle.part_steps.specs.WalkTopics.{linked_page}
-use Rattle.mmu_core.specs.invariant.TreePart.{Position, Reaches, TreePart, Use, at, stands}
+use Rattle.mmu_core.specs.invariant.TreePart.{Position, HangsBelow, TreePart, Use, at, stands}
 use Rattle.mmu_core.specs.machine.View.{view, word_in}
 use Rattle.mmu_core.specs.invariant.AllOver.{AllOver, LeafSays, LeavesSay}
 use Rattle.mmu_core.proofs.pages.AllOver.{reaches_on}
@@ -130,7 +130,7 @@ leaf_says z set role pool host level gfn leaf sizes hosts P lowest L = record {
     names = ap frame_in L.is ∙ leaf_frame 1 (host_frame word) (may_write slot word) (host_allows_write word) (may_write slot word) small
 
 -- All leaves in the tables below the root do, and so do those below any table that the root reaches.
-pub leaves_say : (z : Sizes) (w : World Held) (sound : IsSound z w) (k : ℕ) → Reaches sound.topics.up (word_in z w area.Root 0) k
+pub leaves_say : (z : Sizes) (w : World Held) (sound : IsSound z w) (k : ℕ) → HangsBelow sound.topics.up (word_in z w area.Root 0) k
     → AllOver sound.topics.up sound.topics.spot (word_in z w area.Pool) k (LeavesSay (word_in z w area.Pool) (word_in z w area.Host) (word_in z w area.Slots 0))
 leaves_say z w sound k R table entry gfn Q O leaf =
     let I = sound.holds in

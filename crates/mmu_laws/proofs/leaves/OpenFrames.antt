@@ -11,7 +11,7 @@ use Rattle.spte_words.specs.Areas.{pool_index}
 use Rattle.spte_words.specs.Entries.{kind_of, level_span}
 use Rattle.part_steps.specs.PartTasks.{entry_index}
 use Rattle.mmu_core.specs.alone.FaultAlone.{LeadsTo}
-use Rattle.mmu_core.specs.invariant.InvalidatedPart.{Gives, IsClean, IsIn, IsNoLeafIn, IsOfPage, may_use}
+use Rattle.mmu_core.specs.invariant.InvalidatedPart.{SlotGives, IsClean, IsIn, IsNoLeafIn, IsOfPage, may_use}
 use Rattle.mmu_core.specs.invariant.Laws.{IsSound}
 use Rattle.mmu_core.specs.invariant.SlotSetPart.{SlotSetPart}
 use Rattle.mmu_core.specs.invariant.TreePart.{Position, at}
@@ -32,7 +32,7 @@ pub open_frames_are_of_the_page : (z : Sizes) (w : World Held) (actor : ℕ) →
 open_frames_are_of_the_page z w actor sound lt opened = sound.topics.scopes actor lt opened
 
 -- A guest frame that a published slot gives to a host page lies below 2 ^ 36.
-given_small : (z : Sizes) (set page gfn : ℕ) (role pool : ℕ → ℕ) → SlotSetPart z set role pool → Gives pool set page gfn → gfn < 2 ^ 36
+given_small : (z : Sizes) (set page gfn : ℕ) (role pool : ℕ → ℕ) → SlotSetPart z set role pool → SlotGives pool set page gfn → gfn < 2 ^ 36
 given_small z set page gfn role pool P G =
     let fits = subst (λ slot. slot.base + slot.pages ≤ 2 ^ 36) G.live.is (P.slots.fits G.id G.live.low G.live.live).frames in
     let has = G.has in

@@ -55,7 +55,7 @@ use Rattle.mmu_core.specs.machine.View.{view}
 use Rattle.mmu_core.proofs.lines.KnowsKept.{knows_at}
 use Rattle.mmu_core.proofs.machine.Which.{is_next}
 use Rattle.part_steps.specs.Tasks.{kind_of_task}
-use Rattle.mmu_laws.specs.steps.EventLaws.{IsAt, MayTell}
+use Rattle.mmu_laws.specs.steps.EventLaws.{IsOfKindOn, MayTell}
 
 module _ (z : Sizes) (v : ℕ) where
   -- What a step with these numbers may tell, all of it.
@@ -119,7 +119,7 @@ module _ (h : Held) (v : ℕ) where
   access_told (Fault (fault.End e)) gfn word op K = exits_so z v _ (fault_over e)
   access_told _ gfn word op K = none z v _
 
-  changes_so : (k : Kind) (c : Option (ℕ × Option MemorySlot)) → IsAt z kind.Publish area.Slots 0 k → AllMay z v k (changed c)
+  changes_so : (k : Kind) (c : Option (ℕ × Option MemorySlot)) → IsOfKindOn z kind.Publish area.Slots 0 k → AllMay z v k (changed c)
   changes_so k None at = none z v k
   changes_so k (Some (id, slot)) at = one z v k (SlotChanged id slot) at
 

@@ -141,7 +141,7 @@ protect_prints =
       two_digits 65 (lit≤ tt) (lit< tt),
     )
 
--- That these actors in turn tell this, and what the second processor has counted then; and what a word holds behind them.
+-- That these actors in turn tell this, and what the second processor has counted then; and what a word holds after them.
 counts : (order : List ℕ) (events : List Event) (delays : ℕ) → have_lines run_sizes (start_view run_sizes protect_lines) order ≡ true
     → tale (start_view run_sizes protect_lines) order ≡ events → ((turned_all (start_view run_sizes protect_lines) order).hand 1).state.delays ≡ delays
     → RunDelays run_sizes protect_lines order events 1 delays

@@ -23,10 +23,10 @@ use Rattle.spte_words.specs.Entries.{absent_word, can_write, frame_in, frozen_wo
 use Rattle.spte_words.specs.Flags.{flags_live, flags_logged, flags_read_only, flags_word}
 use Rattle.spte_words.specs.HostWords.{host_allows_write, host_frame, host_present, host_word}
 use Rattle.mmu_laws.specs.steps.ExampleRaces.{ExampleRaces, first_line, race_events, race_lines, race_order, second_line}
-use Rattle.mmu_laws.specs.steps.ExampleRuns.{ExamplePrints, ExampleRuns, add_line, forbidden_line, other_slot_line, outside_line, read_line}
+use Rattle.mmu_laws.specs.steps.ExampleRuns.{ExamplePrints, ExampleRuns, add_line, forbidden_line, other_slot_line, outsider_line, reader_line}
 use Rattle.mmu_laws.specs.steps.ExampleRuns.{run_events, run_lines, run_order, sum_line, write_line}
 use Rattle.mmu_laws.specs.steps.ExampleStarves.{ExampleStarves, small_events, small_lines, small_order, small_sizes, starved_line, starved_set_line}
-use Rattle.mmu_laws.specs.steps.ExampleSteps.{RunDelays, RunTells, run_sizes, set_line, set_read_only_line, turns, RunLeaves}
+use Rattle.mmu_laws.specs.steps.ExampleSteps.{RunDelays, RunTells, run_sizes, set_line, set_read_only_line, turns_of, RunLeaves}
 use Rattle.mmu_laws.specs.steps.ExampleWaits.{ExampleWaits, beside_line, wait_events, wait_lines, wait_order}
 use Rattle.mmu_core.specs.lines.Cached.{flushed}
 use Rattle.mmu_core.specs.machine.Enabled.{mmu}
@@ -62,7 +62,7 @@ run_delays z lines order events actor delays sizes allowed distinct few has told
     is : ◌≡◌ {A = View} (view z T.start) (start_view z lines)
     is = start_view_is z lines T.start T.is_start
 
-    leads : ◌≡◌ {A = View} (view z (run mmu T.start (turns z T.start order))) (turned_all (start_view z lines) order)
+    leads : ◌≡◌ {A = View} (view z (run mmu T.start (turns_of z T.start order))) (turned_all (start_view z lines) order)
     leads = turns_lead z T.start order (start_good z lines T.start T.is_start) (subst (λ (v : View). HaveLines z v order) (sym is)
         (have_lines_by z (start_view z lines) order has)) ∙ ap (λ (v : View). turned_all v order) is
 
@@ -85,7 +85,7 @@ run_leaves z lines order a index value sizes allowed distinct few has holds =
     have : HaveLines z (view z s.0) order
     have = subst (λ (v : View). HaveLines z v order) (sym is) (have_lines_by z (start_view z lines) order has)
 
-    leads : ◌≡◌ {A = View} (view z (run mmu s.0 (turns z s.0 order))) (turned_all (start_view z lines) order)
+    leads : ◌≡◌ {A = View} (view z (run mmu s.0 (turns_of z s.0 order))) (turned_all (start_view z lines) order)
     leads = turns_lead z s.0 order good have ∙ ap (λ (v : View). turned_all v order) is
 
 -- ---- a pool that is large enough
@@ -144,13 +144,13 @@ may_set_read_only = record { some = omega arith; pages = omega arith; base = ome
 run_allowed : All (May run_sizes) run_lines
 run_allowed =
     All-cons (May run_sizes) set_line
-    (set_read_only_line ∷ outside_line ∷ write_line ∷ read_line ∷ add_line ∷ sum_line ∷ other_slot_line ∷ forbidden_line ∷ []) may_set
-    (All-cons (May run_sizes) set_read_only_line (outside_line ∷ write_line ∷ read_line ∷ add_line ∷ sum_line ∷ other_slot_line ∷ forbidden_line ∷ [])
+    (set_read_only_line ∷ outsider_line ∷ write_line ∷ reader_line ∷ add_line ∷ sum_line ∷ other_slot_line ∷ forbidden_line ∷ []) may_set
+    (All-cons (May run_sizes) set_read_only_line (outsider_line ∷ write_line ∷ reader_line ∷ add_line ∷ sum_line ∷ other_slot_line ∷ forbidden_line ∷ [])
     may_set_read_only
-    (All-cons (May run_sizes) outside_line (write_line ∷ read_line ∷ add_line ∷ sum_line ∷ other_slot_line ∷ forbidden_line ∷ [])
+    (All-cons (May run_sizes) outsider_line (write_line ∷ reader_line ∷ add_line ∷ sum_line ∷ other_slot_line ∷ forbidden_line ∷ [])
     (omega arith, omega arith, omega arith)
-    (All-cons (May run_sizes) write_line (read_line ∷ add_line ∷ sum_line ∷ other_slot_line ∷ forbidden_line ∷ []) (omega arith, omega arith, omega arith)
-    (All-cons (May run_sizes) read_line (add_line ∷ sum_line ∷ other_slot_line ∷ forbidden_line ∷ []) (omega arith, omega arith, omega arith)
+    (All-cons (May run_sizes) write_line (reader_line ∷ add_line ∷ sum_line ∷ other_slot_line ∷ forbidden_line ∷ []) (omega arith, omega arith, omega arith)
+    (All-cons (May run_sizes) reader_line (add_line ∷ sum_line ∷ other_slot_line ∷ forbidden_line ∷ []) (omega arith, omega arith, omega arith)
     (All-cons (May run_sizes) add_line (sum_line ∷ other_slot_line ∷ forbidden_line ∷ []) (omega arith, omega arith, omega arith)
     (All-cons (May run_sizes) sum_line (other_slot_line ∷ forbidden_line ∷ []) (omega arith, omega arith, omega arith)
     (All-cons (May run_sizes) other_slot_line (forbidden_line ∷ []) (omega arith, omega arith, omega arith)

@@ -1,4 +1,4 @@
--- The turns of some actors, over words and hands as columns: what they tell, and that they can be made.
+-- The turns_of of some actors, over words and hands as columns: what they tell, and that they can be made.
 use Rattle.std.proofs.Common.{◌≡◌, ◌^◌, ◌<◌, ℕ, List, [], ◌∷◌, ◌++◌, length, refl, sym, subst, ap, ◌∙◌, arith}
 use Rattle.std.specs.Prelude.{Bool, true, false, ◌&&◌, nat_lt}
 use Rattle.std.proofs.lemmas.Bool.Decides.{nat_tests}
@@ -11,7 +11,7 @@ use Rattle.core_views.specs.Held.{Held}
 use Rattle.core_views.specs.Sizes.{actors_of}
 use Rattle.mmu_core.specs.machine.Enabled.{mmu}
 use Rattle.mmu_core.specs.machine.NextSteps.{HasLineThatFits, WritesOneWord, next_step}
-use Rattle.mmu_laws.specs.steps.ExampleSteps.{turns}
+use Rattle.mmu_laws.specs.steps.ExampleSteps.{turns_of}
 use Rattle.mmu_core.specs.invariant.Laws.{IsSound}
 use Rattle.mmu_core.specs.machine.Machine.{Legal, World, answered, effect, hand_in, run}
 use Rattle.mmu_core.specs.machine.Steps.{events_of, line_at, next_line, place_at}
@@ -22,7 +22,7 @@ use Rattle.mmu_laws.proofs.flat.FlatKept.{told_events, told_is_events}
 use Rattle.mmu_core.proofs.machine.Worlds.{good_step, takes_line}
 use Rattle.mmu_core.proofs.machine.Which.{has_line_is, is_next}
 
--- the words and hands behind the actor's next step, and what it tells
+-- the words and hands after the actor's next step, and what it tells
 abbrev pub turned : View → ℕ → View
 turned v a =
     stepped a (line_at (v.hand a).state.place (v.hand a)) (line_at (v.hand a).state.place (v.hand a)).command
@@ -85,7 +85,7 @@ have_lines_by z v (a ∷ actors) e =
 
 -- Their steps can be made, and tell that.
 pub turns_are : (z : Sizes) (w : World Held) (actors : List ℕ) → IsSound z w → HaveLines z (view z w) actors
-    → Legal mmu w (turns z w actors) × (history w (turns z w actors) ≡ tale (view z w) actors)
+    → Legal mmu w (turns_of z w actors) × (history w (turns_of z w actors) ≡ tale (view z w) actors)
 turns_are z w [] G have = (tt, refl)
 turns_are z w (a ∷ actors) G have =
     let h : Held = hand_in mmu w a in
@@ -97,17 +97,17 @@ turns_are z w (a ∷ actors) G have =
     let here : events_of h (answered mmu w (next_step z w a).kind) ≡ tells (view z w) a =
     ap (events_of h) T.answers ∙ sym (told_is_events z (view z w) a (line_at h.state.place h) (place_at h.state.place h) T.is_step) in (
       (may, rest.0),
-      ap (λ (es : List Event). es ++ history (effect mmu w (next_step z w a)) (turns z (effect mmu w (next_step z w a)) actors)) here
+      ap (λ (es : List Event). es ++ history (effect mmu w (next_step z w a)) (turns_of z (effect mmu w (next_step z w a)) actors)) here
           ∙ ap (λ (es : List Event). tells (view z w) a ++ es) (rest.1 ∙ ap (λ (v : View). tale v actors) T.leads),
     )
 
--- the words and hands behind them
+-- the words and hands after them
 abbrev pub turned_all : View → List ℕ → View
 turned_all v [] = v
 turned_all v (a ∷ actors) = turned_all (turned v a) actors
 
 pub turns_lead : (z : Sizes) (w : World Held) (actors : List ℕ) → IsSound z w → HaveLines z (view z w) actors
-    → ◌≡◌ {A = View} (view z (run mmu w (turns z w actors))) (turned_all (view z w) actors)
+    → ◌≡◌ {A = View} (view z (run mmu w (turns_of z w actors))) (turned_all (view z w) actors)
 turns_lead z w [] G have = refl
 turns_lead z w (a ∷ actors) G have =
     let may = may_step z w a G have.0 have.1 in

@@ -24,7 +24,7 @@ use Rattle.spte_words.specs.Areas.{pool_index}
 use Rattle.spte_words.specs.Entries.{level_span}
 use Rattle.mmu_core.specs.machine.Enabled.{mmu}
 use Rattle.mmu_core.specs.alone.FaultAlone.{EntryStands, LeadsTo, LeadsToLeaf}
-use Rattle.mmu_core.specs.lines.FaultKnows.{EndKnows, FaultKnows, HasEntry}
+use Rattle.mmu_core.specs.lines.FaultKnows.{FaultEndKnows, FaultKnows, HasEntry}
 use Rattle.mmu_core.specs.lines.Forms.{KnowsPart}
 use Rattle.mmu_core.specs.invariant.Laws.{IsSound}
 use Rattle.mmu_core.specs.machine.Machine.{May, Step, World, effect, hand_in}
@@ -54,7 +54,7 @@ over_stands z w a gfn G there over =
     let walk : TableWalk = (hand_in mmu w a).topics.walk in
     (G.topics.held a there).table over.there ∙ ap (λ n. Some (at walk.level n)) (sym over.run)
 
-has_entry : (e : FaultEnd) (y : Sizes) (gfn : ℕ) (write : Bool) (t : Topics) → has_installed e ≡ true → EndKnows e y gfn write t → HasEntry gfn write t
+has_entry : (e : FaultEnd) (y : Sizes) (gfn : ℕ) (write : Bool) (t : Topics) → has_installed e ≡ true → FaultEndKnows e y gfn write t → HasEntry gfn write t
 has_entry end_of.Installed y gfn write t is K = K
 has_entry _ y gfn write t is K = absurd (cc is)
 

@@ -257,7 +257,7 @@ pub links_by : (z : Sizes) (v : View) (a : ℕ) (task : Task) → StepIn z v a t
 links_by z v a _ (Makes step note S) J I = part_links_stay z v a step note S J I
 links_by z v a _ (Touches op index) J I = touch_links_stay (stands I.up I.spot) v.words op index
 
--- Where links lead from the root to a leaf, they do so behind the step, or it zaps an entry of the guest frame.
+-- Where links lead from the root to a leaf, they do so after the step, or it zaps an entry of the guest frame.
 pub leads_or_zaps : (z : Sizes) (w : World Held) (G : IsSound z w) (task : Task) (after : Area → ℕ → ℕ) (gfn : ℕ) (write : Bool)
     → LinksStay task (stands G.topics.up G.topics.spot) (word_in z w) after → LeadsFromRoot z w gfn write
     → LeadsToLeaf (after area.Pool) 4 (after area.Root 0) gfn write ⊎ ZapsEntry task (stands G.topics.up G.topics.spot) (word_in z w area.Pool) gfn

@@ -41,7 +41,7 @@ use Rattle.mmu_laws.proofs.turns.TurnsNearer.{hand_behind, nearer_here, same_siz
 use Rattle.mmu_core.proofs.machine.Which.{has_line_is, is_next}
 use Rattle.mmu_core.proofs.machine.Worlds.{Takes, TakesPart, good_run, good_step, takes, takes_line}
 
--- ---- the hand behind a step
+-- ---- the hand after a step
 
 one_more_few : (n : ℕ) → one_more n ≤ n + 1
 one_more_few n = by (nat_lt n (2 ^ 64 - 1))

@@ -108,7 +108,7 @@ where_it_stands _ y slots c h v is = is
 pub has_left : (h : Held) → has_line h ≡ true → length h.answers < length h.lines
 has_left h has = grind (arith, nat_tests)
 
--- The hand behind a step stands there, with these topics.
+-- The hand after a step stands there, with these topics.
 pub nearer_hand : (g : Held) (o : Outcome) (p : Place) (y : Sizes) (n : ℕ) → o ≡ Goes p → GoesUnderWay o → g.state.place ≡ place_after o → g.state.sizes ≡ y
     → Nearer o y g.topics n → hand_left g < n
 nearer_hand g o p y n is under stands sizes N =

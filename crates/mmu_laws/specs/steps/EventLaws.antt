@@ -24,19 +24,19 @@ use Rattle.mmu_core.specs.machine.Machine.{May, Step, World, answered, hand_in}
 use Rattle.mmu_core.specs.machine.Steps.{events_of}
 
 -- The step is of this kind, on this word of this area.
-pub record IsAt (z : Sizes) (of_kind : StepKind) (a : Area) (index : ℕ) (k : Kind) : Type 0 where
+pub record IsOfKindOn (z : Sizes) (of_kind : StepKind) (a : Area) (index : ℕ) (k : Kind) : Type 0 where
   pub kind_is : kind_named k.code ≡ of_kind
   pub on : k.word ≡ place (map_of z) a index
 
 -- It exchanges the host word of this page: it finds the word that it expects, and leaves this entry.
 pub record ChangesHostWord (z : Sizes) (page : ℕ) (entry : HostEntry) (k : Kind) (v : ℕ) : Type 0 where
-  pub at : IsAt z kind.Change area.Host page k
+  pub at : IsOfKindOn z kind.Change area.Host page k
   pub won : v ≡ k.old
   pub leaves : entry ≡ entry_of k.new
 
 -- It brings this host page in: it finds the word that it expects, of a page that isn't present, and leaves the same but that the page is.
 pub record BringsPageIn (z : Sizes) (page : ℕ) (k : Kind) (v : ℕ) : Type 0 where
-  pub at : IsAt z kind.Bring area.Host page k
+  pub at : IsOfKindOn z kind.Bring area.Host page k
   pub won : v ≡ k.old
   pub absent : (entry_of k.old).present ≡ false
   pub leaves : entry_of k.new ≡ record (entry_of k.old) { present = true }
@@ -49,17 +49,17 @@ kind_for (Add x) = kind.Add
 
 -- It touches this word of this frame, and finds this value there.
 pub record TouchesWord (z : Sizes) (op : Op) (frame word before : ℕ) (k : Kind) (v : ℕ) : Type 0 where
-  pub at : IsAt z (kind_for op) area.Content (content_index (map_of z) frame word) k
+  pub at : IsOfKindOn z (kind_for op) area.Content (content_index (map_of z) frame word) k
   pub finds : v ≡ before
 
 -- A step with these numbers, which found v, may tell this.
 abbrev pub MayTell : Sizes → Kind → ℕ → EventKind → Type 0
-MayTell z k v LookedAtPause = IsAt z kind.Control area.Pause 0 k
-MayTell z k v LookedAtSlots = IsAt z kind.Control area.Slots 0 k
-MayTell z k v (LookedAtHost page) = IsAt z kind.Host area.Host page k
+MayTell z k v LookedAtPause = IsOfKindOn z kind.Control area.Pause 0 k
+MayTell z k v LookedAtSlots = IsOfKindOn z kind.Control area.Slots 0 k
+MayTell z k v (LookedAtHost page) = IsOfKindOn z kind.Host area.Host page k
 MayTell z k v (BroughtIn page) = BringsPageIn z page k v
 MayTell z k v (HostChanged page entry) = ChangesHostWord z page entry k v
-MayTell z k v (SlotChanged id slot) = IsAt z kind.Publish area.Slots 0 k
+MayTell z k v (SlotChanged id slot) = IsOfKindOn z kind.Publish area.Slots 0 k
 MayTell z k v (Accessed gfn word op frame before) = TouchesWord z op frame word before k v
 MayTell z k v _ = Unit {0}
 

@@ -48,12 +48,12 @@ order_to_watch = replicate 524 3 ++ replicate 1581 0 ++ replicate 16 1 ++ replic
 
 -- The fault begins anew, since the sequence number is another one; the host thread gives the page's old frame back; and the access finds the page at its new
 -- one.
-abbrev pub order_to_read : List ℕ
-order_to_read = order_to_watch ++ replicate 5 1 ++ replicate 3 2 ++ replicate 36 1
+abbrev pub order_after_move : List ℕ
+order_after_move = order_to_watch ++ replicate 5 1 ++ replicate 3 2 ++ replicate 36 1
 
 -- Now the host thread moves page 65, which has a leaf, to the frame that it has given back, and makes these steps.
 abbrev pub order_to_move : ℕ → List ℕ
-order_to_move steps = order_to_read ++ replicate steps 2
+order_to_move steps = order_after_move ++ replicate steps 2
 
 abbrev pub move_order : List ℕ
 move_order = order_to_move 40 ++ replicate 36 0

@@ -12,15 +12,15 @@ use Rattle.core_views.specs.Text.{text}
 use Rattle.mmu_laws.specs.steps.ExampleSteps.{RunTells, run_sizes, set_line, set_read_only_line, unlogged}
 
 -- One processor accesses a guest frame that no slot has, and another one writes to a frame of the first slot.
-abbrev pub outside_line : Line
-outside_line = access_line 4 0 9 0 (Write 7)
+abbrev pub outsider_line : Line
+outsider_line = access_line 4 0 9 0 (Write 7)
 
 abbrev pub write_line : Line
 write_line = access_line 5 1 6 0 (Write 7)
 
 -- The first one reads what was written, and adds to it, and the other one reads the sum.
-abbrev pub read_line : Line
-read_line = access_line 6 0 6 0 Read
+abbrev pub reader_line : Line
+reader_line = access_line 6 0 6 0 Read
 
 abbrev pub add_line : Line
 add_line = access_line 7 0 6 0 (Add 2)
@@ -36,7 +36,7 @@ abbrev pub forbidden_line : Line
 forbidden_line = access_line 10 0 17 0 (Write 7)
 
 abbrev pub run_lines : List Line
-run_lines = set_line ∷ set_read_only_line ∷ outside_line ∷ write_line ∷ read_line ∷ add_line ∷ sum_line ∷ other_slot_line ∷ forbidden_line ∷ []
+run_lines = set_line ∷ set_read_only_line ∷ outsider_line ∷ write_line ∷ reader_line ∷ add_line ∷ sum_line ∷ other_slot_line ∷ forbidden_line ∷ []
 
 -- A slot line loads the word of the pool's map and claims a page, fills its 512 words and its role, takes the lock, finds no invalidation
 -- open, publishes the page, gives the lock back, looks at each of the three other actors, and takes the role from the old page and gives
@@ -59,11 +59,11 @@ run_events =
     ∷ by set_read_only_line (Begun set_read_only_line)
     ∷ by set_read_only_line (SlotChanged 1 (unlogged (example_slot 16 0 true)))
     ∷ by set_read_only_line (Answered 3 Done)
-    ∷ by outside_line (Begun outside_line)
-    ∷ by outside_line LookedAtPause
-    ∷ by outside_line LookedAtSlots
-    ∷ by outside_line (Exited Mmio)
-    ∷ by outside_line (Answered 4 Mmio)
+    ∷ by outsider_line (Begun outsider_line)
+    ∷ by outsider_line LookedAtPause
+    ∷ by outsider_line LookedAtSlots
+    ∷ by outsider_line (Exited Mmio)
+    ∷ by outsider_line (Answered 4 Mmio)
     ∷ by write_line (Begun write_line)
     ∷ by write_line LookedAtPause
     ∷ by write_line LookedAtSlots
@@ -71,10 +71,10 @@ run_events =
     ∷ by write_line LookedAtPause
     ∷ by write_line (Accessed 6 0 (Write 7) 65 0)
     ∷ by write_line (Answered 5 (Reached 65 0))
-    ∷ by read_line (Begun read_line)
-    ∷ by read_line LookedAtPause
-    ∷ by read_line (Accessed 6 0 Read 65 7)
-    ∷ by read_line (Answered 6 (Reached 65 7))
+    ∷ by reader_line (Begun reader_line)
+    ∷ by reader_line LookedAtPause
+    ∷ by reader_line (Accessed 6 0 Read 65 7)
+    ∷ by reader_line (Answered 6 (Reached 65 7))
     ∷ by add_line (Begun add_line)
     ∷ by add_line LookedAtPause
     ∷ by add_line (Accessed 6 0 (Add 2) 65 7)

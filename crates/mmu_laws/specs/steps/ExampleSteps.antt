@@ -17,28 +17,28 @@ use Rattle.mmu_core.specs.machine.Worlds.{IsStart, history}
 use Rattle.mmu_core.specs.machine.NextSteps.{next_step}
 
 -- the next steps of these actors, one after another
-abbrev pub turns : Sizes → World Held → List ℕ → List (Step Kind)
-turns z w [] = []
-turns z w (actor ∷ actors) = next_step z w actor ∷ turns z (effect mmu w (next_step z w actor)) actors
+abbrev pub turns_of : Sizes → World Held → List ℕ → List (Step Kind)
+turns_of z w [] = []
+turns_of z w (actor ∷ actors) = next_step z w actor ∷ turns_of z (effect mmu w (next_step z w actor)) actors
 
 -- From a start with these lines the next steps of actors in this order can be made, and they tell this.
 pub record RunTells (z : Sizes) (lines : List Line) (order : List ℕ) (events : List Event) : Type 0 where
   pub start : World Held
   pub is_start : IsStart z lines start
-  pub legal : Legal mmu start (turns z start order)
-  pub tells : history start (turns z start order) ≡ events
+  pub legal : Legal mmu start (turns_of z start order)
+  pub tells : history start (turns_of z start order) ≡ events
 
 -- Such a run tells this, and after it the actor at this place has counted so many delays of its last line.
 pub record RunDelays (z : Sizes) (lines : List Line) (order : List ℕ) (events : List Event) (actor delays : ℕ) : Type 0 where
   pub tells : RunTells z lines order events
-  pub counts : (hand_in mmu (run mmu tells.start (turns z tells.start order)) actor).state.delays ≡ delays
+  pub counts : (hand_in mmu (run mmu tells.start (turns_of z tells.start order)) actor).state.delays ≡ delays
 
 -- From a start with these lines the next steps of actors in this order can be made, and after them this word holds this number.
 pub record RunLeaves (z : Sizes) (lines : List Line) (order : List ℕ) (a : Area) (index value : ℕ) : Type 0 where
   pub start : World Held
   pub is_start : IsStart z lines start
-  pub legal : Legal mmu start (turns z start order)
-  pub holds : word_in z (run mmu start (turns z start order)) a index ≡ value
+  pub legal : Legal mmu start (turns_of z start order)
+  pub holds : word_in z (run mmu start (turns_of z start order)) a index ≡ value
 
 -- A machine whose pool has as many pages as the lines below need: four, and one for a table of each level below the root.
 abbrev pub run_sizes : Sizes

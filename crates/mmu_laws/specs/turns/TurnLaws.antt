@@ -23,8 +23,8 @@ abbrev pub stands_at : World Held → Step Kind → Place
 stands_at w s = place_at (hand_in mmu w s.actor).state.place (hand_in mmu w s.actor)
 
 -- The step is counted as a delay.
-abbrev pub is_counted : World Held → Step Kind → Bool
-is_counted w s = delays_at (stands_at w s) (line_of (hand_in mmu w s.actor)).command (hand_in mmu w s.actor) (answered mmu w s.kind)
+abbrev pub counts_as_delay : World Held → Step Kind → Bool
+counts_as_delay w s = delays_at (stands_at w s) (line_of (hand_in mmu w s.actor)).command (hand_in mmu w s.actor) (answered mmu w s.kind)
 
 -- Each step of a line that neither waits nor begins anew leaves it fewer steps, whatever the other actors have done and have under way, or is one of a stay
 -- that misses.
@@ -67,14 +67,14 @@ CountsOn true before after =
 abbrev pub StepsAreCounted : Type 0
 StepsAreCounted =
     (w : World Held) (s : Step Kind) → Reachable w → May mmu w s → has_line (hand_in mmu w s.actor) ≡ true
-    → CountsOn (is_counted w s) (hand_in mmu w s.actor) (hand_in mmu (effect mmu w s) s.actor)
+    → CountsOn (counts_as_delay w s) (hand_in mmu w s.actor) (hand_in mmu (effect mmu w s) s.actor)
 
 -- A step that is counted as a delay waits, or begins its fault anew, at the place where its line stands, or is one of a stay that misses. So the step with
 -- which a line begins is none.
 abbrev pub DelaysWaitBeginAnewOrMiss : Type 0
 DelaysWaitBeginAnewOrMiss =
     (z : Sizes) (lines : List Line) (start : World Held) (ss : List (Step Kind)) (s : Step Kind) → IsStart z lines start → Legal mmu start (ss ++ s ∷ [])
-    → has_line (hand_in mmu (run mmu start ss) s.actor) ≡ true → is_counted (run mmu start ss) s ≡ true
+    → has_line (hand_in mmu (run mmu start ss) s.actor) ≡ true → counts_as_delay (run mmu start ss) s ≡ true
     → (line_waits (hand_in mmu (run mmu start ss) s.actor).state.place (line_of (hand_in mmu (run mmu start ss) s.actor)).command
     (hand_in mmu (run mmu start ss) s.actor) (answered mmu (run mmu start ss) s.kind) ≡ true)
     ⊎ (begins_anew (hand_in mmu (run mmu start ss) s.actor).state.place ≡ true) ⊎ StayMisses z start ss s

@@ -9,7 +9,7 @@ use Rattle.core_views.specs.declared.sizes.Sizes.{Sizes}
 use Rattle.core_views.specs.declared.trace.Command.TheVariants.{Access}
 use Rattle.core_views.specs.declared.trace.Op.TheVariants.{Read, Write, Add}
 use Rattle.core_views.specs.Slots.{is_write}
-use Rattle.core_views.specs.Past.{Frames, Past, written_frame}
+use Rattle.core_views.specs.Past.{FrameSet, Past, written_frame}
 use Rattle.core_views.specs.Flat.{Facts, Flat, first_flat}
 use Rattle.core_views.specs.Events.{after, after_all, past_after}
 use Rattle.core_views.specs.Lawful.{IsLawful}
@@ -36,9 +36,9 @@ under_way z history lawful gfn W =
     (λ idle. absurd (cc (fresh, idle)), ap written_frame may.1 ∙ frame_is)
 
 -- Such frames of the past, of which there is none at the start.
-module _ (pick : Past → Frames)
+module _ (pick : Past → FrameSet)
     (moves : (a : Actor) (kind : EventKind) (f : Facts) (past : Past)
-    → ◌≡◌ {A = Frames} (pick (past_after a kind f past)) (moved kind f past.writes (pick past)))
+    → ◌≡◌ {A = FrameSet} (pick (past_after a kind f past)) (moved kind f past.writes (pick past)))
     (z : Sizes) (history : List Event) (lawful : IsLawful z first_flat history) (gfn : ℕ) (W : WasReached history gfn) where
   is_kept : pick (after_all history first_flat).past gfn ≡ true
   is_kept = was_stands pick moves gfn history first_flat (λ actor has. none_at_first actor gfn has)

@@ -14,8 +14,8 @@ use Rattle.core_views.specs.Laws.{example_sizes}
 use Rattle.core_views.specs.declared.slot_set.MemorySlot.{MemorySlot}
 use Rattle.core_views.specs.Refusals.{is_logged}
 use Rattle.core_views.specs.Slots.{is_some_and}
-use Rattle.core_views.specs.SlotLines.{fitting, fitting_bytes, has_log}
-use Rattle.core_views.specs.SlotSets.{slot_at}
+use Rattle.core_views.specs.SlotLines.{fitting_lines, fitting_bytes, has_log}
+use Rattle.core_views.specs.SlotSets.{slot_of_id}
 use Rattle.core_views.specs.Text.{answers_of, line_text, lines_text}
 use Rattle.core_views.proofs.SlotLines.{set_elsewhere, set_here}
 use Rattle.core_views.proofs.laws.slot_lines_set_slots.Goals as goal
@@ -26,7 +26,7 @@ returns-clause-record c id slot slots = refl
 pub returns-clause-set : goal.returns-clause-set
 returns-clause-set c id slot slots =
     set_here id (record { slot = slot; logged = is_logged id slots }) slots
-    ∙ ap (λ (on : Bool). Some (record { slot = slot; logged = on })) (by (slot_at id slots))
+    ∙ ap (λ (on : Bool). Some (record { slot = slot; logged = on })) (by (slot_of_id id slots))
   where
     by : (was : Option MemorySlot) → is_some_and (λ (x : MemorySlot). x.logged) was ≡ has_log was
     by None = refl
@@ -58,7 +58,7 @@ fitting_answers =
     ∷ answered 10 (Vcpu 0) Mmio
     ∷ []
 
-answers_are : answers_of (one_by_one example_sizes fitting first_facts) ≡ fitting_answers
+answers_are : answers_of (one_by_one example_sizes fitting_lines first_facts) ≡ fitting_answers
 answers_are = refl
 
 answers_print : lines_text fitting_answers ≡ fitting_bytes

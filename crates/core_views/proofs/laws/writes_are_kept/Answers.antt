@@ -5,7 +5,7 @@ use Rattle.core_views.specs.declared.event.Event.{Event}
 use Rattle.core_views.specs.declared.event.EventKind.{EventKind}
 use Rattle.core_views.specs.Flat.{Facts, first_flat}
 use Rattle.core_views.specs.Events.{after_all, past_after}
-use Rattle.core_views.specs.Past.{Frames, Past}
+use Rattle.core_views.specs.Past.{FrameSet, Past}
 use Rattle.core_views.specs.Writes.{StaysWithin, HasBegunWrite, SlotKept, WasWritten}
 use Rattle.core_views.proofs.Written.{WasSince, causes_move, moved, recent_moves, was_or_stood, was_stands}
 use Rattle.core_views.proofs.Writes.{all_of_lines, begun_is_in, begun_or_stood, first_of_lines, none_at_first}
@@ -25,9 +25,9 @@ returns-clause-under c z history lawful actor gfn =
     let are = all_of_lines z history first_flat lawful first_of_lines in (are.is_writing actor gfn, are.is_in actor gfn)
 
 -- Such frames of the past, of which there is none at the start.
-module _ (pick : Past → Frames)
+module _ (pick : Past → FrameSet)
     (moves : (a : Actor) (kind : EventKind) (f : Facts) (past : Past)
-    → ◌≡◌ {A = Frames} (pick (past_after a kind f past)) (moved kind f past.writes (pick past)))
+    → ◌≡◌ {A = FrameSet} (pick (past_after a kind f past)) (moved kind f past.writes (pick past)))
     (none : (gfn : ℕ) → pick first_flat.past gfn ≡ false) (history : List Event) (gfn : ℕ) where
   written : WasSince pick moves gfn history first_flat ⊎ ((pick first_flat.past gfn ≡ true) × SlotKept gfn first_flat.facts history) → WasWritten history gfn
   written (inl W) = record {

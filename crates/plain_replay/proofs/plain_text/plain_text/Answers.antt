@@ -11,7 +11,7 @@ use Rattle.core_views.proofs.Texts.{text_append}
 use Rattle.flat_model.specs.Kept.{GivesLine, facts_of}
 use Rattle.plain_replay.proofs.plain_text.plain_text.Goals as goal
 
--- A line's answer is printed, and the lines behind it are yet to be run.
+-- A line's answer is printed, and the lines after it are yet to be run.
 goes_on : (z : Sizes) (line : Line) (rest : List Line) (f g : Facts) (answer : Answer) (before after printed total : List ℕ)
     → GivesLine z line f g answer → printed ≡ line_text line.number line.actor answer
     → after ≡ before ++ printed → before ++ text (one_by_one z (line ∷ rest) f) ≡ total → after ++ text (one_by_one z rest g) ≡ total

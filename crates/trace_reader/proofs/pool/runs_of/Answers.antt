@@ -3,7 +3,7 @@ use Rattle.std.specs.List.{list_any}
 use Rattle.std.proofs.lemmas.List.{take_all}
 use Rattle.std.proofs.lemmas.List.Sorted.{IsNonDecreasingBy-from_sort_by_key, list_any-IsPermutation}
 use Rattle.core_views.specs.Need.{wants}
-use Rattle.trace_reader.specs.Runs.{covers}
+use Rattle.trace_reader.specs.Runs.{run_covers}
 use Rattle.trace_reader.proofs.pool.runs_of.Goals as goal
 
 pub returns-clause-rising : goal.returns-clause-rising
@@ -11,6 +11,6 @@ returns-clause-rising c = IsNonDecreasingBy-from_sort_by_key (λ run. run.base) 
 
 pub returns-clause-same : goal.returns-clause-same
 returns-clause-same c = λ span index.
-    sym (list_any-IsPermutation (covers span index) _ _ c.sort_unstable_by_key.ensures.permutation)
+    sym (list_any-IsPermutation (run_covers span index) _ _ c.sort_unstable_by_key.ensures.permutation)
     ∙ c.loop-line.invariant.same span index
     ∙ ap (list_any (λ line. wants c.args.pages span index line.command)) (take_all c.loop-line.line-index c.args.lines.now c.loop-line-test.false)

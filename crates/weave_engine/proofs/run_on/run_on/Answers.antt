@@ -10,7 +10,7 @@ use Rattle.mmu_core.specs.machine.Machine.{hand_in}
 use Rattle.step_seats.specs.Frames.{Frame, other_rooms, room_of}
 use Rattle.step_seats.specs.Machines.{Machine, seat_in, world_in}
 use Rattle.step_seats.proofs.Worlds.{core_at}
-use Rattle.weave_engine.specs.Turns.{IsAlone}
+use Rattle.weave_engine.specs.Turns.{LineIsAlone}
 use Rattle.weave_engine.proofs.LinesRun.{ran_on}
 use Rattle.weave_engine.proofs.run_on.run_on.Goals as goal
 
@@ -28,7 +28,7 @@ returns-clause-ran c =
     search (rules, ran)
 
 -- What a line that runs alone is given, as its seat asks it.
-alone_at : (m : Machine) (i : ℕ) → LineAlone m.sizes (world_in m) i → IsAlone (seat_in m i)
+alone_at : (m : Machine) (i : ℕ) → LineAlone m.sizes (world_in m) i → LineIsAlone (seat_in m i)
 alone_at m i A = record {
   world = world_in m;
   is = refl;

@@ -1,6 +1,6 @@
 use Rattle.std.proofs.Common.{◌≡◌, ◌<◌, ◌≤◌, length, get_or, arith, refl, sym, ap, ◌∙◌}
 use Rattle.std.specs.Prelude.{Option, Some, None}
-use Rattle.core_views.specs.SlotSets.{flat_slots, slot_at, with_slot_at}
+use Rattle.core_views.specs.SlotSets.{flat_slots, slot_of_id, with_slot_at}
 use Rattle.core_views.specs.Places.{found, slots_from}
 use Rattle.core_views.specs.declared.slot_set.MemorySlot.{MemorySlot}
 use Rattle.core_views.specs.Refusals.{with_log_of}
@@ -11,7 +11,8 @@ use Rattle.core_views.proofs.slot_set.SlotSet.with_log.Goals as goal
 
 pub invariant_of-self : goal.invariant_of-self
 invariant_of-self c =
-    let at : slot_at c.args.id (slots_from 0 c.self.inside.places) ≡ Some c.in-Some.slot = ap (slot_at c.args.id) c.self.view_is ∙ sym c.in-Some.ensures.is in
+    let at : slot_of_id c.args.id (slots_from 0 c.self.inside.places) ≡ Some c.in-Some.slot =
+    ap (slot_of_id c.args.id) c.self.view_is ∙ sym c.in-Some.ensures.is in
     log_sound c.args.id c.in-Some.slot c.args.on c.self.inside.places c.self.invariant at
 
 pub returns-clause-set : goal.returns-clause-set
@@ -25,5 +26,5 @@ returns-clause-set c =
 pub returns-clause-flat : goal.returns-clause-flat
 returns-clause-flat c =
     let at : get_or c.self.inside.places c.args.id None ≡ Some c.in-Some.slot =
-    sym (found c.args.id c.self.inside.places) ∙ ap (slot_at c.args.id) c.self.view_is ∙ sym c.in-Some.ensures.is in
+    sym (found c.args.id c.self.inside.places) ∙ ap (slot_of_id c.args.id) c.self.view_is ∙ sym c.in-Some.ensures.is in
     flat_same c.args.id 0 c.in-Some.slot (record { slot = c.in-Some.slot.slot; logged = c.args.on }) c.self.inside.places at refl ∙ ap flat_slots c.self.view_is

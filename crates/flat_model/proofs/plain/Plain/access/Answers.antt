@@ -1,6 +1,6 @@
 use Rattle.std.proofs.Common.{◌≡◌, ◌∙◌, ◌&&◌, not, ℕ, Some, false, ap, ap₂, subst, sym, refl, rules}
 use Rattle.core_views.specs.Host.{is_denied}
-use Rattle.core_views.specs.Memory.{stored, with_word}
+use Rattle.core_views.specs.Memory.{word_after_op, with_word}
 use Rattle.core_views.specs.Slots.{page_behind}
 use Rattle.core_views.specs.SlotSets.{flat_slots}
 use Rattle.flat_model.specs.Kept.{Kept, memory_of}
@@ -31,7 +31,7 @@ returns-clause-reached c =
     ] in
     rw (← c.self.view_is) (elim c.if-is_write-2.branch [
       | then-is_write-2+in_ok-insert w ↦
-          let new : w.stored.result ≡ stored op (memory_of before.words page word) = w.stored.ensures ∙ ap (stored op) value_is in
+          let new : w.stored.result ≡ word_after_op op (memory_of before.words page word) = w.stored.ensures ∙ ap (word_after_op op) value_is in
           let words = subst (λ (x : ℕ). (p q : ℕ) → memory_of w.insert.new.self.entries p q ≡ with_word page word x (memory_of before.words) p q) new
           (written page word w.stored.result before.words w.insert.new.self.entries w.in_ok-insert.ensures.updates.0) in
           rw w.self-inside-is (reached c.args.gfn word op before _ page value entry behind c.entry_of-entry.ensures allows value_is refl

@@ -9,7 +9,7 @@ use Rattle.part_steps.specs.PartTasks.{own_index, part_kind}
 use Rattle.part_steps.specs.PartHoldings.{next_watched}
 use Rattle.part_steps.specs.PartSteps.{PartNeeds}
 use Rattle.part_steps.specs.ControlBits.{in_section}
-use Rattle.grace_period.specs.Watches.{looked_at}
+use Rattle.grace_period.specs.Watches.{watched_next}
 use Rattle.grace_period.proofs.Looks.{fewer_left, look_free, more_needs, not_done, wait_needs}
 use Rattle.step_seats.proofs.Where.{where_made}
 use Rattle.step_seats.specs.PartTurns.{MadePart, waits}
@@ -20,8 +20,8 @@ pub returns-then-in_section-clause-alone : goal.returns-then-in_section-clause-a
 returns-then-in_section-clause-alone g c =
     let s = c.args.s.now in
     let h = (g.S.Stepper.seat s).hand in
-    let at : c.next_look-index.result ≡ looked_at c.args.self.now h =
-    c.next_look-index.ensures ∙ ap (λ (x : Held). looked_at c.args.self.now x) c.hand-hand.ensures.hand in
+    let at : c.next_look-index.result ≡ watched_next c.args.self.now h =
+    c.next_look-index.ensures ∙ ap (λ (x : Held). watched_next c.args.self.now x) c.hand-hand.ensures.hand in
     let looks = subst (λ i. MadePart (part.Watch i) c.args.note c.make_part-value.result (g.S.Stepper.seat s) (g.S.Stepper.seat c.make_part-value.new.s))
     at c.make_part-value.ensures.made in
     where_made looks (λ w made has others. sym c.if-in_section.true ∙ c.in_section.ensures
@@ -33,8 +33,8 @@ returns-clause-nearer g c = λ more.
     let h = (g.S.Stepper.seat s).hand in
     let g_ = (g.S.Stepper.seat c.make_part-value.new.s).hand in
     let made = c.make_part-value.ensures.made in
-    let at : c.next_look-index.result ≡ looked_at c.args.self.now h =
-    c.next_look-index.ensures ∙ ap (λ (x : Held). looked_at c.args.self.now x) c.hand-hand.ensures.hand in
+    let at : c.next_look-index.result ≡ watched_next c.args.self.now h =
+    c.next_look-index.ensures ∙ ap (λ (x : Held). watched_next c.args.self.now x) c.hand-hand.ensures.hand in
     let found : in_section c.make_part-value.result ≡ false = sym c.in_section.ensures ∙ c.if-in_section.false in
     let watched = ap (λ (t : Topics). t.watched) made.topics ∙ ap (λ b. c.next_look-index.result + (if b then 0 else 1)) found in
     subst (λ (i : ℕ). actors_of g_.state.sizes - next_watched (own_index g_) g_.topics.watched < actors_of h.state.sizes - i) at
@@ -47,8 +47,8 @@ returns-then-in_section-clause-goes_on g c = λ again.
     let h = (g.S.Stepper.seat s).hand in
     let g_ = (g.S.Stepper.seat c.make_part-value.new.s).hand in
     let made = c.make_part-value.ensures.made in
-    let at : c.next_look-index.result ≡ looked_at c.args.self.now h =
-    c.next_look-index.ensures ∙ ap (λ (x : Held). looked_at c.args.self.now x) c.hand-hand.ensures.hand in
+    let at : c.next_look-index.result ≡ watched_next c.args.self.now h =
+    c.next_look-index.ensures ∙ ap (λ (x : Held). watched_next c.args.self.now x) c.hand-hand.ensures.hand in
     let found : in_section c.make_part-value.result ≡ true = sym c.in_section.ensures ∙ c.if-in_section.true in
     let watched = ap (λ (t : Topics). t.watched) made.topics ∙ ap (λ b. c.next_look-index.result + (if b then 0 else 1)) found in
     wait_needs h g_ (part_kind h (part.Watch c.next_look-index.result) c.args.note) c.next_look-index.result c.make_part-value.result made.hand
@@ -81,8 +81,8 @@ pub returns-clause-alone : goal.returns-clause-alone
 returns-clause-alone g c =
     let s = c.args.s.now in
     let h = (g.S.Stepper.seat s).hand in
-    let at : c.next_look-index.result ≡ looked_at c.args.self.now h =
-    c.next_look-index.ensures ∙ ap (λ (x : Held). looked_at c.args.self.now x) c.hand-hand.ensures.hand in
+    let at : c.next_look-index.result ≡ watched_next c.args.self.now h =
+    c.next_look-index.ensures ∙ ap (λ (x : Held). watched_next c.args.self.now x) c.hand-hand.ensures.hand in
     let looks = subst (λ i. MadePart (part.Watch i) c.args.note c.make_part-value.result (g.S.Stepper.seat s) (g.S.Stepper.seat c.make_part-value.new.s))
     at c.make_part-value.ensures.made in
     let goes_on : waits c.if-next_watched-actors.result ≡ false =

@@ -39,8 +39,15 @@ returns-then-claim-gt0-clause-turned g c =
       | in-None w ↦
           let got : got_in job.map after.hand.topics ≡ None =
           rw (sym c.hand-then-claim-gt0.ensures.hand, sym c.topics-then-claim-gt0.ensures, sym c.got_in.ensures) w.in-None.is in
-          let at = rw (c.area.ensures, c.map_of.ensures.is, c.claim_of-claim.ensures, c.topics.ensures, c.hand-3.ensures.hand, c.progress.ensures,
-          c.hand-2.ensures.hand) at c.word_of-word.ensures in
+          let at = rw (
+            c.area.ensures,
+            c.map_of.ensures.is,
+            c.claim_of-claim.ensures,
+            c.topics.ensures,
+            c.hand-3.ensures.hand,
+            c.progress.ensures,
+            c.hand-2.ensures.hand,
+          ) at c.word_of-word.ensures in
           subst (λ r. ClaimTurn s.hand.state.sizes job r s.hand.topics after.hand.topics) (sym w.result-is)
           (loses_one job s.hand.topics after.hand.topics c.make_part-value.result c.if-self.true some made.topics s.hand.state.sizes c.word_of-word.result
           (try_owns_none job.map s.hand needs) at got)
