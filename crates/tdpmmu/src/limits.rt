@@ -41,7 +41,7 @@ const ABSENT: [(&str, u64); 5] = [
     ("write", 1581),
 ];
 
-// How a weave of the lines behind the header ends within so many turns in rounds,
+// How a weave of the lines after the header ends within so many turns in rounds,
 // and what it prints.
 fn weave_lines(alloc: Global, lines: &str, limit: u64) -> Result<Option<(How, MemSink)>, Fail> {
     let mut input = Vec::new(alloc);
@@ -67,7 +67,7 @@ fn ends(alloc: Global, lines: &str, limit: u64, how: How, text: &str) -> Result<
 }
 
 #[test]
-fn leaves_the_steps_behind_each_kind(rt: HostRuntime) -> Result<(), Fail> {
+fn leaves_the_steps_after_each_kind(rt: HostRuntime) -> Result<(), Fail> {
     let open = How::Unfinished {
         actor: Actor::Vcpu(0),
         line: 4,
