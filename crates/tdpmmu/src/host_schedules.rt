@@ -1,8 +1,7 @@
 //! Schedules with lines that change host pages: each was worked out by hand from the order of
 //! steps.
 use crate::schedules::follows;
-use crate::status::Status;
-use crate::tests::run_on;
+use crate::tests::prints;
 use std::test::Fail;
 
 // Lines that allow writes to a page, or forbid them.
@@ -367,7 +366,7 @@ const TWO_THREADS: [(&str, &str); 14] = [
 #[test]
 fn follows_changed_permissions(rt: HostRuntime) -> Result<(), Fail> {
     for (pool, lines, text) in PERMISSIONS {
-        follows(&rt, rt.alloc(), pool, lines, text)?;
+        assert!(rt; follows(&rt, rt.alloc(), pool, lines, text)?, "on {lines}");
     }
     Ok(())
 }
@@ -375,7 +374,7 @@ fn follows_changed_permissions(rt: HostRuntime) -> Result<(), Fail> {
 #[test]
 fn follows_pages_taken_away(rt: HostRuntime) -> Result<(), Fail> {
     for (pool, lines, text) in PRESENCE {
-        follows(&rt, rt.alloc(), pool, lines, text)?;
+        assert!(rt; follows(&rt, rt.alloc(), pool, lines, text)?, "on {lines}");
     }
     Ok(())
 }
@@ -385,17 +384,10 @@ fn follows_two_host_threads(rt: HostRuntime) -> Result<(), Fail> {
     const HEADER: &str =
         "tdp 1 vcpus 2 workers 1 pages 1024 frames 1040 words 1 pool 64 cache 64 manual 0 hosts 0 8\n";
     for (lines, text) in TWO_THREADS {
-        let (status, out) = run_on(
-            &rt,
-            rt.alloc(),
-            &["tdpmmu", "weave"],
-            HEADER,
-            lines,
-            &[],
-            &[],
-        )?;
-        assert_eq!(rt; status, Status::Done, "on {lines}");
-        assert_eq!(rt; out.bytes(), text.as_bytes(), "on {lines}");
+        assert!(rt;
+            prints(&rt, rt.alloc(), "weave", HEADER, lines, text)?,
+            "on {lines}"
+        );
     }
     Ok(())
 }

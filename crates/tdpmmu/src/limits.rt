@@ -67,7 +67,7 @@ fn ends(alloc: Global, lines: &str, limit: u64, how: How, text: &str) -> Result<
 }
 
 #[test]
-fn leaves_the_steps_behind_each_kind(rt: HostRuntime) -> Result<(), Fail> {
+fn leaves_the_steps_after_each_kind(rt: HostRuntime) -> Result<(), Fail> {
     let open = How::Unfinished {
         actor: Actor::Vcpu(0),
         line: 4,

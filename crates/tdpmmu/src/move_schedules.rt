@@ -1,10 +1,8 @@
 //! Schedules with lines that move host pages to other frames: each was worked out by hand from
 //! the order of steps.
-use crate::schedules::{follows, prints};
-use crate::status::Status;
-use crate::tests::run_on;
+use crate::schedules::follows;
+use crate::tests::prints;
 use std::alloc::Global;
-use std::process::Abort;
 use std::sync::Wait;
 use std::test::Fail;
 use std::thread::Threads;
@@ -405,20 +403,20 @@ const TWO_THREADS: [(u64, &str, &str); 12] = [
     ),
 ];
 
-// The trace, in a machine of these frames and words whose host threads own the pages from these on, prints this text.
-fn moves<R: Threads + Wait + Sync + Abort>(
+// Whether the trace, in a machine of these frames and words whose host threads own the pages from these on, prints this text.
+fn moves<R: Threads + Wait + Sync>(
     rt: &R,
     alloc: Global,
     sizes: (u64, u64),
     hosts: &str,
     lines: &str,
     text: &str,
-) -> Result<(), Fail> {
+) -> Result<bool, Fail> {
     let (frames, words) = sizes;
     let header = format!(in alloc;
         "tdp 1 vcpus 2 workers 1 pages 1024 frames {frames} words {words} pool 64 cache 64 manual 0 hosts {hosts}\n"
     )?;
-    prints(rt, alloc, &header, lines, text)
+    prints(rt, alloc, "weave", &header, lines, text)
 }
 
 // Its lines all stand above a `go`. `replay`, which has no schedule, prints the same.
@@ -427,13 +425,17 @@ fn follows_moves_alone(rt: HostRuntime) -> Result<(), Fail> {
     for (frames, lines, text) in ALONE {
         let alloc = rt.alloc();
         let above = format!(in alloc; "{lines}go\n")?;
-        moves(&rt, alloc, (frames, 1), "0", &above, text)?;
+        assert!(rt;
+            moves(&rt, alloc, (frames, 1), "0", &above, text)?,
+            "on {lines}"
+        );
         let header = format!(in alloc;
             "tdp 1 vcpus 2 workers 1 pages 1024 frames {frames} words 1 pool 64 cache 64 manual 0 hosts 0\n"
         )?;
-        let (status, out) = run_on(&rt, alloc, &["tdpmmu", "replay"], &header, lines, &[], &[])?;
-        assert_eq!(rt; status, Status::Done, "on {lines}");
-        assert_eq!(rt; out.bytes(), text.as_bytes(), "on {lines}");
+        assert!(rt;
+            prints(&rt, alloc, "replay", &header, lines, text)?,
+            "on {lines}"
+        );
     }
     Ok(())
 }
@@ -441,7 +443,10 @@ fn follows_moves_alone(rt: HostRuntime) -> Result<(), Fail> {
 #[test]
 fn follows_moved_words(rt: HostRuntime) -> Result<(), Fail> {
     for (words, lines, text) in WORDS {
-        moves(&rt, rt.alloc(), (1040, words), "0", lines, text)?;
+        assert!(rt;
+            moves(&rt, rt.alloc(), (1040, words), "0", lines, text)?,
+            "on {lines}"
+        );
     }
     Ok(())
 }
@@ -449,7 +454,7 @@ fn follows_moved_words(rt: HostRuntime) -> Result<(), Fail> {
 #[test]
 fn follows_moves_beside_accesses(rt: HostRuntime) -> Result<(), Fail> {
     for (lines, text) in BESIDE_ACCESSES {
-        follows(&rt, rt.alloc(), 64, lines, text)?;
+        assert!(rt; follows(&rt, rt.alloc(), 64, lines, text)?, "on {lines}");
     }
     Ok(())
 }
@@ -457,7 +462,7 @@ fn follows_moves_beside_accesses(rt: HostRuntime) -> Result<(), Fail> {
 #[test]
 fn follows_moves_of_absent_or_forbidden_pages(rt: HostRuntime) -> Result<(), Fail> {
     for (lines, text) in ABSENT_OR_FORBIDDEN {
-        follows(&rt, rt.alloc(), 64, lines, text)?;
+        assert!(rt; follows(&rt, rt.alloc(), 64, lines, text)?, "on {lines}");
     }
     Ok(())
 }
@@ -465,7 +470,7 @@ fn follows_moves_of_absent_or_forbidden_pages(rt: HostRuntime) -> Result<(), Fai
 #[test]
 fn follows_moves_beside_slots(rt: HostRuntime) -> Result<(), Fail> {
     for (lines, text) in BESIDE_SLOTS {
-        follows(&rt, rt.alloc(), 64, lines, text)?;
+        assert!(rt; follows(&rt, rt.alloc(), 64, lines, text)?, "on {lines}");
     }
     Ok(())
 }
@@ -473,7 +478,10 @@ fn follows_moves_beside_slots(rt: HostRuntime) -> Result<(), Fail> {
 #[test]
 fn follows_moves_of_two_threads(rt: HostRuntime) -> Result<(), Fail> {
     for (frames, lines, text) in TWO_THREADS {
-        moves(&rt, rt.alloc(), (frames, 1), "0 8", lines, text)?;
+        assert!(rt;
+            moves(&rt, rt.alloc(), (frames, 1), "0 8", lines, text)?,
+            "on {lines}"
+        );
     }
     Ok(())
 }

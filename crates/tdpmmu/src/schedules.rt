@@ -1,9 +1,8 @@
 //! Schedules over small traces, each with what `weave` prints, worked out by hand
 //! from the order of steps.
 use crate::status::Status;
-use crate::tests::run_on;
+use crate::tests::{prints, run_on};
 use std::alloc::Global;
-use std::process::Abort;
 use std::sync::Wait;
 use std::test::Fail;
 use std::thread::Threads;
@@ -292,45 +291,32 @@ fn follows_warm_schedules(rt: HostRuntime) -> Result<(), Fail> {
         let alloc = rt.alloc();
         let lines = format!(in alloc; "{WARM}{items}")?;
         let printed = format!(in alloc; "{ABOVE}{text}")?;
-        let (status, out) = run_on(&rt, alloc, &["tdpmmu", "weave"], H, &lines, &[], &[])?;
-        assert_eq!(rt; status, Status::Done, "on {items}");
-        assert_eq!(rt; out.bytes(), printed.as_bytes(), "on {items}");
+        assert!(rt;
+            prints(&rt, alloc, "weave", H, &lines, &printed)?,
+            "on {items}"
+        );
     }
     Ok(())
 }
 
-// The trace, in a machine with so many pool pages, prints this text.
-pub(crate) fn follows<R: Threads + Wait + Sync + Abort>(
+// Whether the trace, in a machine with so many pool pages, prints this text.
+pub(crate) fn follows<R: Threads + Wait + Sync>(
     rt: &R,
     alloc: Global,
     pool: u64,
     lines: &str,
     text: &str,
-) -> Result<(), Fail> {
+) -> Result<bool, Fail> {
     let header = format!(in alloc;
         "tdp 1 vcpus 2 workers 1 pages 1024 frames 1040 words 1 pool {pool} cache 64 manual 0 hosts 0\n"
     )?;
-    prints(rt, alloc, &header, lines, text)
-}
-
-// The trace of these lines after this header prints this text.
-pub(crate) fn prints<R: Threads + Wait + Sync + Abort>(
-    rt: &R,
-    alloc: Global,
-    header: &str,
-    lines: &str,
-    text: &str,
-) -> Result<(), Fail> {
-    let (status, out) = run_on(rt, alloc, &["tdpmmu", "weave"], header, lines, &[], &[])?;
-    assert_eq!(rt; status, Status::Done, "on {lines}");
-    assert_eq!(rt; out.bytes(), text.as_bytes(), "on {lines}");
-    Ok(())
+    prints(rt, alloc, "weave", &header, lines, text)
 }
 
 #[test]
 fn follows_whole_traces(rt: HostRuntime) -> Result<(), Fail> {
     for (pool, lines, text) in TRACES {
-        follows(&rt, rt.alloc(), pool, lines, text)?;
+        assert!(rt; follows(&rt, rt.alloc(), pool, lines, text)?, "on {lines}");
     }
     Ok(())
 }
@@ -341,9 +327,10 @@ fn stops_at_each_kind(rt: HostRuntime) -> Result<(), Fail> {
         let alloc = rt.alloc();
         let lines = format!(in alloc; "{WARM}> v1 {kind}\n> v0 write\n> v1 end\n")?;
         let printed = format!(in alloc; "{ABOVE}{text}")?;
-        let (status, out) = run_on(&rt, alloc, &["tdpmmu", "weave"], H, &lines, &[], &[])?;
-        assert_eq!(rt; status, Status::Done, "on {kind}");
-        assert_eq!(rt; out.bytes(), printed.as_bytes(), "on {kind}");
+        assert!(rt;
+            prints(&rt, alloc, "weave", H, &lines, &printed)?,
+            "on {kind}"
+        );
     }
     Ok(())
 }

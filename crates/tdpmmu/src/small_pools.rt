@@ -1,9 +1,11 @@
 //! Pools with fewer pages than the trace needs. An access that needs a table,
 //! and finds no free page for it, is starved; the tables that it linked before
 //! stay, and so may take the last pages from others.
-use crate::status::Status;
-use crate::tests::run_on;
+use crate::tests::prints;
+use std::alloc::Global;
+use std::sync::Wait;
 use std::test::Fail;
+use std::thread::Threads;
 
 // One slot of 16 pages.
 const SMALL: &str = "vm slot 0 0 16 0\n";
@@ -20,7 +22,7 @@ const THIRD_LEVEL: &str = "vm slot 0 0 1024 0\nvm slot 1 134217728 1 1024\n";
 // A read-only slot with one table of level 1, and another slot with the next one.
 const READ_ONLY: &str = "vm slot 0 0 512 0 ro\nvm slot 1 512 512 512\n";
 
-// The pool's pages, the slots, the lines behind them, what `replay` prints and
+// The pool's pages, the slots, the lines after them, what `replay` prints and
 // what `check` does. Of the pool's pages two are the root and the slot set, and
 // the others are there for tables.
 const CASES: [(u64, &str, &str, &str, &str); 15] = [
@@ -150,31 +152,40 @@ const CASES: [(u64, &str, &str, &str, &str); 15] = [
     ),
 ];
 
+// Whether a machine with so many pool pages prints this text, with one cached translation and with
+// 64, and `check` this need.
+fn starves<R: Threads + Wait + Sync>(
+    rt: &R,
+    alloc: Global,
+    pool: u64,
+    lines: &str,
+    text: &str,
+    needs: &str,
+) -> Result<bool, Fail> {
+    for (cache, command, printed) in [
+        (1, "replay", text),
+        (64, "replay", text),
+        (64, "check", needs),
+    ] {
+        let header = format!(in alloc;
+            "tdp 1 vcpus 2 workers 0 pages 2048 frames 2048 words 1 pool {pool} cache {cache} manual 0 hosts 0\n"
+        )?;
+        if !prints(rt, alloc, command, &header, lines, printed)? {
+            return Ok(false);
+        }
+    }
+    Ok(true)
+}
+
 #[test]
 fn starves_where_no_page_is_free(rt: HostRuntime) -> Result<(), Fail> {
     for (pool, slots, accesses, text, needs) in CASES {
         let alloc = rt.alloc();
         let lines = format!(in alloc; "{slots}{accesses}")?;
-        for (cache, command, printed) in [
-            (1, "replay", text),
-            (64, "replay", text),
-            (64, "check", needs),
-        ] {
-            let header = format!(in alloc;
-                "tdp 1 vcpus 2 workers 0 pages 2048 frames 2048 words 1 pool {pool} cache {cache} manual 0 hosts 0\n"
-            )?;
-            let (status, out) = run_on(
-                &rt,
-                alloc,
-                &["tdpmmu", command],
-                &header,
-                &lines,
-                &[],
-                &[],
-            )?;
-            assert_eq!(rt; status, Status::Done, "on {lines}");
-            assert_eq!(rt; out.bytes(), printed.as_bytes(), "on {lines}");
-        }
+        assert!(rt;
+            starves(&rt, alloc, pool, &lines, text, needs)?,
+            "on {lines}"
+        );
     }
     Ok(())
 }
@@ -201,8 +212,6 @@ fn takes_the_pages_of_every_word_of_the_map(rt: HostRuntime) -> Result<(), Fail>
     text.push_str(
         "65 v0 starved\n66 v1 starved\n67 v1 frame 31232 value 61\n68 v1 frame 512 value 1\n",
     )?;
-    let (status, out) = run_on(&rt, alloc, &["tdpmmu", "replay"], header, &lines, &[], &[])?;
-    assert_eq!(rt; status, Status::Done);
-    assert_eq!(rt; out.bytes(), text.as_bytes());
+    assert!(rt; prints(&rt, alloc, "replay", header, &lines, &text)?);
     Ok(())
 }

@@ -50,6 +50,20 @@ pub fn run_on<R: Threads + Wait + Sync>(
     Ok((status, out))
 }
 
+/// Whether the program, called with this command, prints this text on a header and the
+/// lines after it, and ends well.
+pub fn prints<R: Threads + Wait + Sync>(
+    rt: &R,
+    alloc: Global,
+    command: &str,
+    header: &str,
+    lines: &str,
+    text: &str,
+) -> Result<bool, Fail> {
+    let (status, out) = run_on(rt, alloc, &["tdpmmu", command], header, lines, &[], &[])?;
+    Ok(status == Status::Done && out.bytes() == text.as_bytes())
+}
+
 // The content words of a page, the pool's pages, the lines, and what `replay` prints.
 const ANSWERS: [(u8, u64, &str, &str); 12] = [
     (1, 64, "", ""),
@@ -124,17 +138,10 @@ fn prints_each_answer(rt: HostRuntime) -> Result<(), Fail> {
             let header = format!(in alloc;
                 "tdp 1 vcpus 2 workers 1 pages 1024 frames 1040 words {words} pool {pool} cache {cache} manual 0 hosts 0\n"
             )?;
-            let (status, out) = run_on(
-                &rt,
-                alloc,
-                &["tdpmmu", "replay"],
-                &header,
-                lines,
-                &[],
-                &[],
-            )?;
-            assert_eq!(rt; status, Status::Done, "on {lines}");
-            assert_eq!(rt; out.bytes(), text.as_bytes(), "on {lines}");
+            assert!(rt;
+                prints(&rt, alloc, "replay", &header, lines, text)?,
+                "on {lines}"
+            );
         }
     }
     Ok(())
@@ -153,17 +160,10 @@ fn checks_a_trace(rt: HostRuntime) -> Result<(), Fail> {
         (GENERATED, "vm slot 0 0 4096 0\n", "ok 1 need 14\n"),
         (H, "vm slot 0 0 16 0\nv0 read 0x0\n", "ok 2 need 7\n"),
     ] {
-        let (status, out) = run_on(
-            &rt,
-            rt.alloc(),
-            &["tdpmmu", "check"],
-            header,
-            lines,
-            &[],
-            &[],
-        )?;
-        assert_eq!(rt; status, Status::Done, "on {lines}");
-        assert_eq!(rt; out.bytes(), text.as_bytes(), "on {lines}");
+        assert!(rt;
+            prints(&rt, rt.alloc(), "check", header, lines, text)?,
+            "on {lines}"
+        );
     }
     Ok(())
 }
