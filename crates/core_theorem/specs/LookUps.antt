@@ -4,7 +4,6 @@ use Rattle.core_views.specs.declared.kind.Kind.{Kind}
 use Rattle.core_views.specs.declared.sizes.Sizes.{Sizes}
 use Rattle.core_views.specs.declared.topics.HostLook.{HostLook}
 use Rattle.core_views.specs.declared.topics.SlotSearch.{SlotSearch}
-use Rattle.core_views.specs.declared.topics.Topics.{Topics}
 use Rattle.core_views.specs.declared.trace.Line.{Line}
 use Rattle.core_views.specs.Held.{Held}
 use Rattle.core_views.specs.Sizes.{actors_of}
@@ -14,7 +13,7 @@ use Rattle.mmu_core.specs.invariant.HostWordsPart.{IsStill}
 use Rattle.mmu_core.specs.invariant.SearchPart.{HeldSlotsPart, IsInvalidating, IsOnPage}
 use Rattle.mmu_core.specs.invariant.SlotSetPart.{AreSlots, IsLiveIn}
 use Rattle.mmu_core.specs.machine.Enabled.{mmu}
-use Rattle.mmu_core.specs.machine.Machine.{Step, World, hand_in, run}
+use Rattle.mmu_core.specs.machine.Machine.{Step, World, run}
 use Rattle.mmu_core.specs.machine.View.{word_in}
 use Rattle.core_theorem.specs.Runs.{IsRun}
 

@@ -1,5 +1,5 @@
 -- What a step of a claim says of the words where it was made: what was tried was free, and what was seen stands in the map.
-use Rattle.std.proofs.Common.{◌≡◌, ◌≢◌, ◌+◌, ◌*◌, ◌^◌, ◌<◌, ℕ, Some, None, refl, sym, subst, ap, ◌∙◌, arith, bit_and, w64}
+use Rattle.std.proofs.Common.{◌≡◌, ◌≢◌, ◌+◌, ◌^◌, ◌<◌, ℕ, Some, None, refl, sym, subst, ap, ◌∙◌, arith, bit_and, w64}
 use Rattle.std.specs.Prelude.{Bool, true, false, ◌==◌, IfSome, if◌then◌else◌}
 use Rattle.std.specs.Int.{bit_not}
 use Rattle.std.proofs.lemmas.Bool.Decides.{nat_tests}

@@ -1,10 +1,8 @@
 -- What the two steps of a claim need, answer and leave, in either map.
-use Rattle.std.proofs.Common.{◌≡◌, ◌+◌, ◌*◌, ◌^◌, ◌<◌, ℕ, Option, Some, None, refl, sym, ap, ◌∙◌, bit_and, w64}
+use Rattle.std.proofs.Common.{◌≡◌, ◌+◌, ◌*◌, ◌^◌, ◌<◌, ℕ, Option, Some, None, refl, bit_and, w64}
 use Rattle.std.specs.Prelude.{Bool, true, false, ◌==◌, if◌then◌else◌, not}
 use Rattle.std.specs.Int.{bit_not}
 use Rattle.core_views.specs.declared.topics.MapClaim.{MapClaim}
-use Rattle.core_views.specs.declared.topics.OwnedFrame.{OwnedFrame}
-use Rattle.core_views.specs.declared.topics.OwnedPage.{OwnedPage}
 use Rattle.core_views.specs.declared.topics.Topics.{Topics}
 use Rattle.core_views.specs.Held.{Held}
 use Rattle.spte_words.specs.declared.area.Area.{Area}

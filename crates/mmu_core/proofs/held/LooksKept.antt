@@ -9,14 +9,14 @@ use Rattle.core_views.specs.Sizes.{actors_of}
 use Rattle.spte_words.specs.declared.area.Area.TheVariants as area
 use Rattle.part_steps.specs.declared.part_step.PartStep.{PartStep}
 use Rattle.part_steps.specs.declared.part_step.PartStep.TheVariants as part
-use Rattle.part_steps.specs.PartTasks.{page_looked, part_task, word_looked}
-use Rattle.part_steps.specs.PartTopics.{exchanged_host, part_topics, sequenced}
+use Rattle.part_steps.specs.PartTasks.{page_looked, word_looked}
+use Rattle.part_steps.specs.PartTopics.{exchanged_host, sequenced}
 use Rattle.part_steps.specs.StayTopics.{has_lock, is_loose}
 use Rattle.mmu_core.specs.invariant.HostWordsPart.{IsHostWord, IsStill}
 use Rattle.mmu_core.specs.invariant.InvalidationsPart.{knows_seq}
 use Rattle.mmu_core.specs.invariant.SearchPart.{IsInvalidating, IsOnPage, LookPart}
 use Rattle.mmu_core.specs.invariant.TopicsInvariant.{TopicsInvariant}
-use Rattle.mmu_core.specs.machine.View.{View, answer_in, part_stepped}
+use Rattle.mmu_core.specs.machine.View.{View, part_stepped}
 use Rattle.mmu_core.proofs.held.Invalidating.{NoneInvalidating, invalidating_after, none_is_raised, raises_number, topics_now}
 use Rattle.mmu_core.proofs.machine.Columns.{at_upd, same_or, upd_other, upd_same}
 use Rattle.mmu_core.proofs.machine.PartStepping.{IsPart}

@@ -10,7 +10,7 @@ use Rattle.spte_words.specs.declared.area.Area.TheVariants as area
 use Rattle.part_steps.specs.declared.part_step.PartStep.{PartStep}
 use Rattle.part_steps.specs.declared.part_step.PartStep.TheVariants as part
 use Rattle.mmu_core.specs.invariant.HeldPart.{HoldsOld, OldSetsPart}
-use Rattle.part_steps.specs.PartTasks.{own_index, page_owned, part_task, table_page}
+use Rattle.part_steps.specs.PartTasks.{own_index, part_task, table_page}
 use Rattle.mmu_core.specs.invariant.SlotSetPart.{AreSlots}
 use Rattle.mmu_core.specs.invariant.TopicsInvariant.{TopicsInvariant}
 use Rattle.part_steps.specs.PageTopics.{still_leaving}
