@@ -94,7 +94,8 @@ hit Host test pool s last low loaded none holds =
       first = first_of test pool (set_held s.set) s.id 32 (omega arith) loaded.0.0 (ap test whole ∙ holds) none ∙ ap Some whole;
     }
 
-pub search_hits : (test : Slot → Bool) (pool : ℕ → ℕ) (s : SlotSearch) → IsSearchFor test pool s → s.id ≤ 31 → Hits test s (searched s (next_word pool s.next s))
+pub search_hits : (test : Slot → Bool) (pool : ℕ → ℕ) (s : SlotSearch) → IsSearchFor test pool s → s.id ≤ 31
+    → Hits test s (searched s (next_word pool s.next s))
     → IsFirst test pool (set_held s.set)
     (record { id = s.id; slot = (searched s (next_word pool s.next s)).slot; logged = (searched s (next_word pool s.next s)).logged })
 search_hits test pool s I low hits = hit s.next test pool s hits.0 low I.loaded I.before hits.1
@@ -124,7 +125,8 @@ pub finds_by : (test : Slot → Bool) (pool : ℕ → ℕ) (s after : SlotSearch
     → v ≡ next_word pool s.next s → after ≡ searched s v → Searches test result s after → FindsIn test pool after result
 finds_by test pool s after v result I low is made found =
     let e : after ≡ searched s (next_word pool s.next s) = made ∙ ap (searched s) is in
-    subst (λ (x : SlotSearch). FindsIn test pool x result) (sym e) (finds test pool s result I low (subst (λ (x : SlotSearch). Searches test result s x) e found))
+    subst (λ (x : SlotSearch). FindsIn test pool x result) (sym e)
+    (finds test pool s result I low (subst (λ (x : SlotSearch). Searches test result s x) e found))
 
 -- After the last word of a slot each of them was loaded.
 pub whole_behind : (before after : SlotSearch) (v : ℕ) → after ≡ searched before v → before.next ≡ Host → after.whole ≡ true

@@ -108,7 +108,8 @@ impl Find {
         requires held { self.old.begun ≡ false → may_search (S.seat s.old).hand.topics.stay (S.seat s.old).hand.topics.hold ≡ true }
         ensures step { MakesPart (find_step self.old) note (S.seat s.old) (S.seat s.new) }
         ensures begins { self.old.begun ≡ false → Begins result (S.seat s.old).hand.topics.search (S.seat s.new).hand.topics.search }
-        ensures searches { self.old.begun ≡ true → Searches (is_sought self.old.sought) result (S.seat s.old).hand.topics.search (S.seat s.new).hand.topics.search }
+        ensures searches { self.old.begun ≡ true
+            → Searches (is_sought self.old.sought) result (S.seat s.old).hand.topics.search (S.seat s.new).hand.topics.search }
         ensures others { (S.seat s.new).hand.topics ≡ record (S.seat s.old).hand.topics { search = (S.seat s.new).hand.topics.search } }
         ensures published { BeginsInPublished self.old note (S.seat s.old) (S.seat s.new) }
         ensures now { SearchesWhereMade self.old note (S.seat s.old) (S.seat s.new) result }

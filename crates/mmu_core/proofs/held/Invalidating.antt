@@ -1,5 +1,5 @@
--- Which invalidations are open that haven't raised the sequence number: each step that doesn't raise it leaves them, and none that was taken before is the number
--- after it is raised.
+-- Which invalidations are open that haven't raised the sequence number: each step that doesn't raise it leaves them. And no number that was taken before it was
+-- raised is the one after that.
 use Rattle.std.proofs.Common.{◌≡◌, ◌≢◌, ◌<◌, ◌≤◌, ℕ, ap, arith}
 use Rattle.std.specs.Prelude.{Bool, true, false, Some}
 use Rattle.core_views.specs.declared.sizes.Sizes.{Sizes}

@@ -6,7 +6,8 @@ use Rattle.core_views.specs.Held.{Held}
 use Rattle.core_views.specs.Sizes.{actors_of}
 use Rattle.mmu_core.specs.invariant.TopicsInvariant.{CountersPart, FilledPart, FramesPart, HeldPart, LockPart, LookPart, OwnLooksPart, SawWriter, SearchPart}
 use Rattle.mmu_core.specs.invariant.TopicsInvariant.{StatesPart, TopicsInvariantOf, SetsPart, OldSetsPart, PathPart, UsePart, stands, CountPart}
-use Rattle.mmu_core.specs.invariant.TopicsInvariant.{CheckedPart, HeldSlotsPart, KnownRangePart, LoadedPart, LookedFramesPart, PassedPart, RangePart, ScopePart, ZappedPart}
+use Rattle.mmu_core.specs.invariant.TopicsInvariant.{CheckedPart, HeldSlotsPart, KnownRangePart, LoadedPart, LookedFramesPart, PassedPart, RangePart}
+use Rattle.mmu_core.specs.invariant.TopicsInvariant.{ScopePart, ZappedPart}
 
 pub same_topics : (z : Sizes) (lock root slots seq count start end_ : ℕ) (states map frame_map host role pool : ℕ → ℕ) (hand other : ℕ → Held)
     → ◌≡◌ {A = ℕ → Topics} (λ i. (other i).topics) (λ i. (hand i).topics)

@@ -177,7 +177,8 @@ pub change_replaces : (z : Sizes) (v : View) (a : ℕ) (line : Line) (p : SlotCh
     → Replaces z (slot_change_part p (v.hand a) command) (v.words area.Pool) (v.words area.Slots 0) (v.hand a).topics
 change_replaces z v a line Publish command S I = record { old = I.set_part.slots; stay = (change_published z v a line command S I).stay }
 change_replaces z v a line p command S I =
-    replaces_none z (slot_change_part p (v.hand a) command) (v.words area.Pool) (v.words area.Slots 0) (v.hand a).topics (change_untold p (v.hand a) command refl)
+    replaces_none z (slot_change_part p (v.hand a) command) (v.words area.Pool) (v.words area.Slots 0) (v.hand a).topics
+    (change_untold p (v.hand a) command refl)
 
 -- ---- what it knows after its step, and what its step needs
 
