@@ -12,7 +12,7 @@ use Rattle.mmu_core.specs.machine.Machine.{May, World, effect, hand_in, run}
 use Rattle.mmu_core.specs.invariant.PoolPart.{is_free}
 use Rattle.mmu_core.specs.machine.View.{word_in}
 use Rattle.mmu_core.specs.invariant.TopicsInvariant.{HoldsOld}
-use Rattle.mmu_core.proofs.pages.PoolPages.{left_no_table, left_not_free, left_not_owned, left_not_slots, not_free, one_leaver, one_owner}
+use Rattle.mmu_core.proofs.pages.PoolPages.{retired_no_table, retired_not_free, retired_not_owned, retired_not_slots, not_free, one_retires, one_owner}
 use Rattle.mmu_core.proofs.pages.PoolPages.{owned_not_free, owned_not_slots, set_use, table_not_free, table_not_owned}
 use Rattle.mmu_core.proofs.held.ClaimGoes.{others_hand}
 use Rattle.mmu_core.proofs.held.InSection.{all_passed}
@@ -41,21 +41,21 @@ module _ (z : Sizes) (u : World Held) (G : IsSound z u) where
   abbrev owned : ℕ → Option OwnedPage
   owned i = (hand_in mmu u i).topics.owned
 
-  abbrev leaving : ℕ → Option ℕ
-  leaving i = (hand_in mmu u i).topics.leaving
+  abbrev retired : ℕ → Option ℕ
+  retired i = (hand_in mmu u i).topics.retired
 
-  -- The page is the published slot set, or an older one that is leaving, which the actor may hold still.
+  -- The page is the published slot set, or an older one that is retired, which the actor may hold still.
   abbrev IsSet : ℕ → ℕ → Type 0
-  IsSet actor page = (page ≡ slots) ⊎ HoldsOld (λ t. t.leaving) (actors_of z) (λ i. (hand_in mmu u i).topics) actor page
+  IsSet actor page = (page ≡ slots) ⊎ HoldsOld (λ t. t.retired) (actors_of z) (λ i. (hand_in mmu u i).topics) actor page
 
   -- The published slot set isn't free.
   set_not_free : is_free map slots ≡ false
   set_not_free = not_free G.topics.uses slots SlotSet (set_use G.topics.uses) refl
 
-  -- Nor is an older one that is leaving.
+  -- Nor is an older one that is retired.
   set_held : {actor : ℕ} (page : ℕ) → IsSet actor page → is_free map page ≡ false
   set_held page (inl e) = subst (λ k. is_free map k ≡ false) (sym e) set_not_free
-  set_held page (inr H) = left_not_free G.topics.uses H.by page H.there H.leaves
+  set_held page (inr H) = retired_not_free G.topics.uses H.by page H.there H.leaves
 
   none_free : (actor : ℕ) → actor < actors_of z → OfEachHeld (λ page. is_free map page ≡ false) (hand_in mmu u actor).topics
   none_free actor there = record {
@@ -76,37 +76,37 @@ module _ (z : Sizes) (u : World Held) (G : IsSound z u) where
     where
       not_set : {i : ℕ} (k : ℕ) → IsSet i k → O.owned.page ≢ k
       not_set k (inl e) same = owned_not_slots G.topics.uses actor O.owned there O.is (same ∙ e)
-      not_set k (inr H) same = left_not_owned G.topics.uses H.by k H.there H.leaves actor O.owned there O.is same
+      not_set k (inr H) same = retired_not_owned G.topics.uses H.by k H.there H.leaves actor O.owned there O.is same
 
-  -- An old slot set that is leaving for an actor which has watched all others since, no other actor holds.
-  none_holds_old : (actor page : ℕ) → actor < actors_of z → MayGiveOld (hand_in mmu u actor) → leaving actor ≡ Some page → NoOtherHolds z actor page u
+  -- An old slot set that is retired by an actor which has watched all others since, no other actor holds.
+  none_holds_old : (actor page : ℕ) → actor < actors_of z → MayGiveOld (hand_in mmu u actor) → retired actor ≡ Some page → NoOtherHolds z actor page u
   none_holds_old actor page there M left other among apart = record {
     tables =
-        λ level H e. left_no_table G.topics.uses G.topics.spot actor page _ there left
+        λ level H e. retired_no_table G.topics.uses G.topics.spot actor page _ there left
         (ap (stands G.topics.up G.topics.spot) (sym e) ∙ stands_at z u G other level among H);
     set = λ k is e. not_set k (G.topics.sets other k among is) e;
-    owned = λ o is e. left_not_owned G.topics.uses actor page there left other o among is e;
+    owned = λ o is e. retired_not_owned G.topics.uses actor page there left other o among is e;
   }
     where
       own : own_index (hand_in mmu u actor) ≡ actor
       own = ap (λ (y : Sizes). index_of y (hand_in mmu u actor).state.actor) (G.holds.lines actor there).sizes ∙ (G.holds.lines actor there).index
 
       not_set : (k : ℕ) → IsSet other k → k ≢ page
-      not_set k (inl e) same = left_not_slots G.topics.uses actor page there left (sym same ∙ e)
+      not_set k (inl e) same = retired_not_slots G.topics.uses actor page there left (sym same ∙ e)
       not_set k (inr H) same =
-          let by_is : H.by ≡ actor = one_leaver G.topics.uses H.by actor page H.there there (H.leaves ∙ ap Some same) left in
+          let by_is : H.by ≡ actor = one_retires G.topics.uses H.by actor page H.there there (H.leaves ∙ ap Some same) left in
           all_passed z (hand_in mmu u actor) actor other (G.holds.lines actor there).sizes own M.watched among apart
           (subst (λ i. (hand_in mmu u i).topics.watched ≤ other) by_is H.unwatched)
 
   -- Whom the watch has passed doesn't hold it.
-  watched_hold_none : (watcher other page : ℕ) → watcher < actors_of z → other < actors_of z → leaving watcher ≡ Some page
+  watched_hold_none : (watcher other page : ℕ) → watcher < actors_of z → other < actors_of z → retired watcher ≡ Some page
       → other < (hand_in mmu u watcher).topics.watched → (hand_in mmu u other).topics.search.set ≢ Some page
   watched_hold_none watcher other page there among left passed is = by (G.topics.sets other page among is)
     where
       by : IsSet other page → ⊥
-      by (inl e) = left_not_slots G.topics.uses watcher page there left e
+      by (inl e) = retired_not_slots G.topics.uses watcher page there left e
       by (inr H) =
-          let by_is : H.by ≡ watcher = one_leaver G.topics.uses H.by watcher page H.there there H.leaves left in
+          let by_is : H.by ≡ watcher = one_retires G.topics.uses H.by watcher page H.there there H.leaves left in
           let not_yet : (hand_in mmu u watcher).topics.watched ≤ other = subst (λ i. (hand_in mmu u i).topics.watched ≤ other) by_is H.unwatched in
           omega (arith, not_yet, passed)
 
@@ -135,7 +135,7 @@ pages_are_reused_alone z lines w ss s R page = (
     there : s.actor < actors_of z
     there = last_actor z lines w ss s R
 
-    given : s.kind.code ≡ code_of kind.Give → Owns page (hand_in mmu u s.actor) ⊎ ((hand_in mmu u s.actor).topics.leaving ≡ Some page)
+    given : s.kind.code ≡ code_of kind.Give → Owns page (hand_in mmu u s.actor) ⊎ ((hand_in mmu u s.actor).topics.retired ≡ Some page)
         → NoOtherHolds z s.actor page u
     given gives (inl O) = no_other z u G s.actor page there O
     given gives (inr left) = none_holds_old z u G s.actor page there (gives_old z u G s page there may gives left).1 left

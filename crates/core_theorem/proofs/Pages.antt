@@ -12,7 +12,7 @@ use Rattle.mmu_core.specs.invariant.TreePart.{EntryPart, Position, Use, stands}
 use Rattle.mmu_core.specs.invariant.TreePart.Use.{Free, OldSet, Outside, Owned, Root, SlotSet, Under}
 use Rattle.mmu_core.specs.machine.View.{word_in}
 use Rattle.mmu_core.proofs.machine.ColumnsTell.{is_outside, outside_tells, tells}
-use Rattle.mmu_core.proofs.pages.PoolPages.{free_use, has_leaver, has_owner, left_use, owned_use, set_use, use_is}
+use Rattle.mmu_core.proofs.pages.PoolPages.{free_use, some_retires, has_owner, retired_use, owned_use, set_use, use_is}
 use Rattle.mmu_core.proofs.pages.Standing.{at_spot}
 use Rattle.mmu_core.proofs.pages.Uses.{has_use, told_so}
 use Rattle.mmu_core.proofs.pages.TreePlaces.{all_reached, one_place}
@@ -48,7 +48,7 @@ module _ (z : Sizes) (u : World Held) (G : IsSound z u) (page : ℕ) where
   used (Owned actor) is = let O = has_owner G.topics.uses actor page is in (O.there, record { owned = O.held; is = O.is; of_page = O.of_number })
   used (Under parent entry) is = links_page parent entry is
   used SlotSet is = tells (word_in z u area.Slots 0) page (told_so use_is G.topics.uses.told page SlotSet is SlotSet)
-  used (OldSet actor) is = has_leaver G.topics.uses actor page is
+  used (OldSet actor) is = some_retires G.topics.uses actor page is
   used Outside is = outside_tells page z.pool (told_so use_is G.topics.uses.told page Outside is Outside)
 
   only_so : (use_ : Use) → IsUsedFor z u up spot page use_ → up page ≡ use_
@@ -57,7 +57,7 @@ module _ (z : Sizes) (u : World Held) (G : IsSound z u) (page : ℕ) where
   only_so (Owned actor) U = ap up (sym U.1.of_page) ∙ owned_use G.topics.uses actor U.1.owned U.0 U.1.is
   only_so (Under parent entry) L = under_it parent entry L
   only_so SlotSet is = ap up (sym is) ∙ set_use G.topics.uses
-  only_so (OldSet actor) U = left_use G.topics.uses actor page U.0 U.1
+  only_so (OldSet actor) U = retired_use G.topics.uses actor page U.0 U.1
   only_so Outside le = has_use use_is G.topics.uses.told Outside page (is_outside page z.pool le)
 
 pub each_used : (z : Sizes) (u : World Held) (G : IsSound z u) (page : ℕ) → IsUsedFor z u G.topics.up G.topics.spot page (G.topics.up page)

@@ -23,7 +23,7 @@ use Rattle.spte_words.specs.declared.area.Area.TheVariants as area
 use Rattle.part_steps.specs.declared.part_step.PartStep.{PartStep}
 use Rattle.part_steps.specs.declared.part_step.PartStep.TheVariants as part
 use Rattle.part_steps.specs.declared.task.Task.{Task}
-use Rattle.part_steps.specs.PartTasks.{own_index, page_left, part_task, words_filled}
+use Rattle.part_steps.specs.PartTasks.{own_index, page_retired, part_task, words_filled}
 use Rattle.part_steps.specs.PartHoldings.{MayGiveOld}
 use Rattle.part_steps.specs.Tasks.{kind_of_task}
 use Rattle.part_steps.specs.TopicSteps.{topics_after}
@@ -33,7 +33,7 @@ use Rattle.mmu_core.specs.declared.claim.FreeMap.TheVariants.{Pages}
 use Rattle.mmu_core.specs.lines.AccessSteps.{touch_of}
 use Rattle.mmu_core.specs.machine.Enabled.{mmu}
 use Rattle.mmu_core.specs.lines.ClaimSteps.{claim_next}
-use Rattle.mmu_core.specs.invariant.Invariant.{Invariant, KnowsPart, UnderWay, LeavesPart}
+use Rattle.mmu_core.specs.invariant.Invariant.{Invariant, KnowsPart, UnderWay, RetiresPart}
 use Rattle.mmu_core.specs.invariant.Laws.{IsSound}
 use Rattle.mmu_core.specs.machine.Machine.{May, Step, World, effect, hand_in, run}
 use Rattle.mmu_core.specs.machine.Outcomes.{place_after}
@@ -45,10 +45,10 @@ use Rattle.mmu_core.specs.invariant.TopicsInvariant.{TopicsInvariant}
 use Rattle.mmu_core.specs.machine.View.{View, answer_in, part_stepped, stepped, upd, view, word_in, words_after, hand_after}
 use Rattle.mmu_laws.proofs.causes.Changes.{of_each_list}
 use Rattle.mmu_core.proofs.machine.Columns.{same_or, upd_other, upd_same}
-use Rattle.mmu_core.proofs.pages.OwnedBehind.{left_is}
+use Rattle.mmu_core.proofs.pages.OwnedBehind.{retired_is}
 use Rattle.mmu_core.proofs.machine.PartStepping.{IsPart}
-use Rattle.mmu_core.proofs.words.PartWords.{HasOtherRole, left_elsewhere, role_stays}
-use Rattle.mmu_core.proofs.pages.PoolPages.{left_not_owned, one_leaver}
+use Rattle.mmu_core.proofs.words.PartWords.{HasOtherRole, retired_elsewhere, role_stays}
+use Rattle.mmu_core.proofs.pages.PoolPages.{retired_not_owned, one_retires}
 use Rattle.mmu_core.proofs.lines.EitherPlace.{each_watch, either_place}
 use Rattle.mmu_core.proofs.start.Starts.{hand_is, start_good}
 use Rattle.mmu_core.proofs.lines.StepIn.{StepIn, Makes, Touches, step_in}
@@ -61,9 +61,9 @@ use Rattle.core_theorem.proofs.Runs.{before, last_actor, may_last, sound}
 
 -- ---- where a page is given back
 
--- A page is given back while one is leaving: this one, at the last place of a slot line, after the watch.
+-- A page is given back while one is retired: this one, at the last place of a slot line, after the watch.
 pub gives_old : (z : Sizes) (u : World Held) (G : IsSound z u) (s : Step Kind) (page : ℕ) → s.actor < actors_of z → May mmu u s
-    → s.kind.code ≡ code_of kind.Give → (hand_in mmu u s.actor).topics.leaving ≡ Some page
+    → s.kind.code ≡ code_of kind.Give → (hand_in mmu u s.actor).topics.retired ≡ Some page
     → ((hand_in mmu u s.actor).state.place ≡ place.SlotChange Give) × MayGiveOld (hand_in mmu u s.actor)
 gives_old z u G s page there may gives left =
     by h.state.place h.state.line.command refl refl (G.holds.knows s.actor there) (G.holds.leaves s.actor there) (G.holds.lines s.actor there).under
@@ -71,7 +71,7 @@ gives_old z u G s page there may gives left =
     h : Held
     h = hand_in mmu u s.actor
 
-    old : (p : SlotChangePlace) (command : Command) → SlotChangeKnows p h → LeavesPart (place.SlotChange p) h.topics
+    old : (p : SlotChangePlace) (command : Command) → SlotChangeKnows p h → RetiresPart (place.SlotChange p) h.topics
         → code_of (slot_change_task p h command).kind ≡ code_of kind.Give → (place.SlotChange p ≡ place.SlotChange Give) × MayGiveOld h
     old Give command K L e = (refl, K.1)
     old Release command K L e = absurd (omega (arith, e))
@@ -79,7 +79,7 @@ gives_old z u G s page there may gives left =
     old Clear command K L e = absurd (omega (arith, e))
     old _ command K L e = let none = L.leaves refl in absurd (cc (none, left))
 
-    by : (p : Place) (c : Command) → h.state.place ≡ p → h.state.line.command ≡ c → KnowsPart p c h → LeavesPart p h.topics → UnderWay p h
+    by : (p : Place) (c : Command) → h.state.place ≡ p → h.state.line.command ≡ c → KnowsPart p c h → RetiresPart p h.topics → UnderWay p h
         → (h.state.place ≡ place.SlotChange Give) × MayGiveOld h
     by (place.SlotChange p) command at is K L U =
         let N = is_next h s.kind may.enabled (has_line_is h U.1) in
@@ -91,9 +91,9 @@ gives_old z u G s page there may gives left =
 
 -- ---- its role
 
--- Where the line is about to give the page back that is leaving, the page's role is 0.
+-- Where the line is about to give the page back that is retired, the page's role is 0.
 abbrev SlotChangeCleared : (ℕ → ℕ) → SlotChangePlace → Topics → Type 0
-SlotChangeCleared role Give t = role (page_left t.leaving) ≡ 0
+SlotChangeCleared role Give t = role (page_retired t.retired) ≡ 0
 SlotChangeCleared role _ t = Unit {0}
 
 abbrev PlaceCleared : (ℕ → ℕ) → Place → Topics → Type 0
@@ -137,8 +137,8 @@ module _ (words : Area → ℕ → ℕ) (h : Held) (command : Command) (x : ℕ)
 
   change_cleared : (p : SlotChangePlace) → PlaceCleared (role_behind p) (place_after (slot_change_outcome p h x)) (topics_behind p)
   change_cleared Clear =
-      ap (λ l. role_behind Clear (page_left l)) (left_is part.Clear h.state.sizes (own_index h) h.topics (slot_change_note Clear h) x)
-      ∙ upd_same (words area.Role) (page_left h.topics.leaving) 0
+      ap (λ l. role_behind Clear (page_retired l)) (retired_is part.Clear h.state.sizes (own_index h) h.topics (slot_change_note Clear h) x)
+      ∙ upd_same (words area.Role) (page_retired h.topics.retired) 0
   change_cleared p = no_give (role_behind p) x (topics_behind p) p h refl
 
 -- A line that changes no slot stands at no place of a slot line.
@@ -177,25 +177,26 @@ touched _ index words k = refl
 
 module _ (z : Sizes) (v : View) (a i : ℕ) (I : Invariant z v) (P : TopicsInvariant z v) (lt : i < actors_of z) (ne : i ≢ a) where
   abbrev Leaves : ℕ → Type 0
-  Leaves k = (v.hand i).topics.leaving ≡ Some k
+  Leaves k = (v.hand i).topics.retired ≡ Some k
 
   -- The step stores in another role.
   elsewhere : (k : ℕ) → Leaves k → (step : PartStep) → IsPart z v a step → HasOtherRole step (v.hand a).topics k
-  elsewhere k left (part.Role value) S = λ o is. left_not_owned P.uses i k lt left a o S.there is
-  elsewhere k left part.Clear S = left_elsewhere (v.hand a).topics S.needs.leaves k (λ l is e. ne (one_leaver P.uses i a k lt S.there left (is ∙ ap Some e)))
+  elsewhere k left (part.Role value) S = λ o is. retired_not_owned P.uses i k lt left a o S.there is
+  elsewhere k left part.Clear S =
+      retired_elsewhere (v.hand a).topics S.needs.leaves k (λ l is e. ne (one_retires P.uses i a k lt S.there left (is ∙ ap Some e)))
   elsewhere k left _ S = tt
 
   role_after : (k : ℕ) → Leaves k → (task : Task) → StepIn z v a task → words_after task v.words area.Role k ≡ v.words area.Role k
   role_after k left _ (Makes step note S) = role_stays z v a step note S k (elsewhere k left step S)
   role_after k left _ (Touches op index) = touched op index v.words k
 
-  some_left : (x : Option ℕ) → is_some x ≡ true → x ≡ Some (page_left x)
+  some_left : (x : Option ℕ) → is_some x ≡ true → x ≡ Some (page_retired x)
   some_left None some = absurd (cc some)
   some_left (Some k) some = refl
 
-  still_cleared : (role after : ℕ → ℕ) (p : Place) (c : Command) (h : Held) → KnowsPart p c h → ((k : ℕ) → h.topics.leaving ≡ Some k → after k ≡ role k)
+  still_cleared : (role after : ℕ → ℕ) (p : Place) (c : Command) (h : Held) → KnowsPart p c h → ((k : ℕ) → h.topics.retired ≡ Some k → after k ≡ role k)
       → PlaceCleared role p h.topics → PlaceCleared after p h.topics
-  still_cleared role after (place.SlotChange Give) command h K same C = same (page_left h.topics.leaving) (some_left h.topics.leaving K.1.1.leaves) ∙ C
+  still_cleared role after (place.SlotChange Give) command h K same C = same (page_retired h.topics.retired) (some_left h.topics.retired K.1.1.leaves) ∙ C
   still_cleared role after (place.SlotChange _) c h K same C = tt
   still_cleared role after _ c h K same C = tt
 
@@ -267,7 +268,7 @@ each_cleared z lines w ss R i lt =
 
 pub returned_sets_are_cleared : ReturnedSetsAreCleared
 returned_sets_are_cleared z lines w ss s R page gives left =
-    ap (λ l. word_in z u area.Role (page_left l)) (sym left)
+    ap (λ l. word_in z u area.Role (page_retired l)) (sym left)
     ∙ subst (λ p. PlaceCleared (word_in z u area.Role) p h.topics) at (each_cleared z lines w ss earlier s.actor there)
   where
     u : World Held

@@ -17,14 +17,14 @@ use Rattle.mmu_core.proofs.pages.TreePlaces.{all_reached, root_stands}
 use Rattle.mmu_core.proofs.pages.Paths.{whole_path}
 use Rattle.core_theorem.specs.Leaves.{HeldLeavesAgree}
 use Rattle.core_theorem.specs.Pages.{PagesAreUsed}
-use Rattle.core_theorem.specs.Walks.{HoldsAt, PagesAreHeld, WalksHoldTables, run_at, table_at, walk_of}
+use Rattle.core_theorem.specs.Walks.{HoldsAt, PagesAreHeld, WalksHoldTables, span_at, table_at, walk_of}
 use Rattle.core_theorem.proofs.Pages.{pages_are_used}
 use Rattle.core_theorem.proofs.Runs.{sound}
 use Rattle.core_theorem.proofs.SamePages.{over_in_both, same_places}
 
 -- The tables that a walk holds stand at their levels.
 pub stands_at : (z : Sizes) (u : World Held) (G : IsSound z u) (actor level : ℕ) → actor < actors_of z → HoldsAt level (walk_of u actor)
-    → stands G.topics.up G.topics.spot (table_at level (walk_of u actor)) ≡ Some (at level (run_at level (walk_of u actor)))
+    → stands G.topics.up G.topics.spot (table_at level (walk_of u actor)) ≡ Some (at level (span_at level (walk_of u actor)))
 stands_at z u G actor level there H =
     whole_path (stands G.topics.up G.topics.spot) (hand_in mmu u actor).topics (G.topics.held actor there) (G.topics.paths actor there) level
     H.some H.down H.up

@@ -38,7 +38,7 @@ NoneHoldsFreePages =
     (z : Sizes) (lines : List Line) (w : World Held) (ss : List (Step Kind)) → IsRun z lines w ss → (actor : ℕ) → actor < actors_of z
     → OfEachHeld (λ page. is_free (word_in z (run mmu w ss) area.PoolMap) page ≡ false) (hand_in mmu (run mmu w ss) actor).topics
 
--- The slot set that an actor holds is the published one; or it is an old one, which the actor holds in a section, and which is leaving for
+-- The slot set that an actor holds is the published one; or it is an old one, which the actor holds in a section, and which is retired by
 -- another actor, whose watch hasn't passed this one since.
 abbrev pub HeldSetsAreKnown : Type 0
 HeldSetsAreKnown =
@@ -50,7 +50,7 @@ abbrev pub WatchedHoldNoOldSet : Type 0
 WatchedHoldNoOldSet =
     (z : Sizes) (lines : List Line) (w : World Held) (ss : List (Step Kind)) → IsRun z lines w ss → (watcher other page : ℕ) → watcher < actors_of z
     → other < actors_of z
-    → (hand_in mmu (run mmu w ss) watcher).topics.leaving ≡ Some page → other < (hand_in mmu (run mmu w ss) watcher).topics.watched
+    → (hand_in mmu (run mmu w ss) watcher).topics.retired ≡ Some page → other < (hand_in mmu (run mmu w ss) watcher).topics.watched
     → (hand_in mmu (run mmu w ss) other).topics.search.set ≢ Some page
 
 -- The step, made in this world, is a claim that wins this page.
@@ -58,10 +58,10 @@ pub record Wins (page : ℕ) (w : World Held) (s : Step Kind) : Type 0 where
   pub claims : s.kind.code ≡ code_of kind.Claim
   pub owns : Owns page (hand_in mmu (effect mmu w s) s.actor)
 
--- It gives this page back to the pool: one that its actor owns, or the old slot set that is leaving for it.
+-- It gives this page back to the pool: one that its actor owns, or the old slot set that is retired by it.
 pub record GivesBack (page : ℕ) (w : World Held) (s : Step Kind) : Type 0 where
   pub gives : s.kind.code ≡ code_of kind.Give
-  pub had : Owns page (hand_in mmu w s.actor) ⊎ ((hand_in mmu w s.actor).topics.leaving ≡ Some page)
+  pub had : Owns page (hand_in mmu w s.actor) ⊎ ((hand_in mmu w s.actor).topics.retired ≡ Some page)
 
 -- No other actor holds this page.
 abbrev pub NoOtherHolds : Sizes → ℕ → ℕ → World Held → Type 0
@@ -78,10 +78,10 @@ PagesAreReusedAlone =
 abbrev pub ReturnedSetsAreCleared : Type 0
 ReturnedSetsAreCleared =
     (z : Sizes) (lines : List Line) (w : World Held) (ss : List (Step Kind)) (s : Step Kind) → IsRun z lines w (ss ++ s ∷ []) → (page : ℕ)
-    → GivesBack page (run mmu w ss) s → (hand_in mmu (run mmu w ss) s.actor).topics.leaving ≡ Some page → word_in z (run mmu w ss) area.Role page ≡ 0
+    → GivesBack page (run mmu w ss) s → (hand_in mmu (run mmu w ss) s.actor).topics.retired ≡ Some page → word_in z (run mmu w ss) area.Role page ≡ 0
 
 -- Where a step answers a line, also its actor's last one, the actor holds nothing after it: it is out of the guest and of every section,
--- has no lock, no page, no frame and no slot set, no page leaves for it, and no invalidation of its own is open.
+-- has no lock, no page, no frame and no slot set, no page is retired by it, and no invalidation of its own is open.
 abbrev pub AnsweredLinesRest : Type 0
 AnsweredLinesRest =
     (z : Sizes) (lines : List Line) (w : World Held) (ss : List (Step Kind)) (s : Step Kind) (answer : Answer) → IsRun z lines w (ss ++ s ∷ [])

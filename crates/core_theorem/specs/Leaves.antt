@@ -20,7 +20,7 @@ use Rattle.mmu_laws.specs.leaves.LeafLaws.{CachedAgrees, LeafAgrees}
 use Rattle.mmu_core.specs.machine.Machine.{Step, World, hand_in, run}
 use Rattle.mmu_core.specs.machine.View.{word_in}
 use Rattle.core_theorem.specs.Runs.{IsRun}
-use Rattle.core_theorem.specs.Walks.{HoldsAt, run_at, table_at, walk_of}
+use Rattle.core_theorem.specs.Walks.{HoldsAt, span_at, table_at, walk_of}
 
 -- In this world the leaf is of the page that the slots give the guest frame, at the frame that the host gives the page.
 abbrev pub Agrees : Sizes → World Held → ℕ → ℕ → Type 0
@@ -33,11 +33,11 @@ LinkedLeavesAgree =
     → LeadsTo (word_in z (run mmu w ss) area.Pool) 4 (word_in z (run mmu w ss) area.Root 0) gfn entry → kind_of 1 entry ≡ entry_kind.Leaf
     → Agrees z (run mmu w ss) gfn entry
 
--- So does each leaf to which links lead from a table that a walk holds, for a guest frame of this table's run.
+-- So does each leaf to which links lead from a table that a walk holds, for a guest frame of this table's span.
 abbrev pub HeldLeavesAgree : Type 0
 HeldLeavesAgree =
     (z : Sizes) (lines : List Line) (w : World Held) (ss : List (Step Kind)) → IsRun z lines w ss → (actor level gfn entry : ℕ) → actor < actors_of z
-    → HoldsAt level (walk_of (run mmu w ss) actor) → gfn < 2 ^ 36 → gfn / level_span level / 512 ≡ run_at level (walk_of (run mmu w ss) actor)
+    → HoldsAt level (walk_of (run mmu w ss) actor) → gfn < 2 ^ 36 → gfn / level_span level / 512 ≡ span_at level (walk_of (run mmu w ss) actor)
     → LeadsTo (word_in z (run mmu w ss) area.Pool) level (table_at level (walk_of (run mmu w ss) actor)) gfn entry → kind_of 1 entry ≡ entry_kind.Leaf
     → Agrees z (run mmu w ss) gfn entry
 

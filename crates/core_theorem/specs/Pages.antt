@@ -33,18 +33,18 @@ pub record LinksPage (z : Sizes) (w : World Held) (up : ℕ → Use) (spot : ℕ
   pub link : word_in z w area.Pool (pool_index parent entry) ≡ table_word page
 
 -- The page is used so in this world, where tables stand at these spots: it is free, the root, owned by the actor at a place, linked by an entry
--- of another table, the published slot set, an old slot set that leaves for the actor at a place, or outside of the pool.
+-- of another table, the published slot set, an old slot set that an actor has retired, or outside of the pool.
 abbrev pub IsUsedFor : Sizes → World Held → (ℕ → Use) → (ℕ → Position) → ℕ → Use → Type 0
 IsUsedFor z w up spot page Free = is_free (word_in z w area.PoolMap) page ≡ true
 IsUsedFor z w up spot page Root = word_in z w area.Root 0 ≡ page
 IsUsedFor z w up spot page (Owned actor) = (actor < actors_of z) × Owns page (hand_in mmu w actor)
 IsUsedFor z w up spot page (Under parent entry) = LinksPage z w up spot parent entry page
 IsUsedFor z w up spot page SlotSet = word_in z w area.Slots 0 ≡ page
-IsUsedFor z w up spot page (OldSet actor) = (actor < actors_of z) × ((hand_in mmu w actor).topics.leaving ≡ Some page)
+IsUsedFor z w up spot page (OldSet actor) = (actor < actors_of z) × ((hand_in mmu w actor).topics.retired ≡ Some page)
 IsUsedFor z w up spot page Outside = z.pool ≤ page
 
 -- Each page has one use and no other one: so a table has one link alone, and no page outside of the pool has any use within it. The tables are
--- the root and what is linked below it, each at a level and run of guest frames of its own; and each leaf in them is the one that slots and host
+-- the root and what is linked below it, each at a level and span of guest frames of its own; and each leaf in them is the one that slots and host
 -- give each guest frame that it is over.
 pub record PagesAreUsed (z : Sizes) (w : World Held) : Type 0 where
   pub up : ℕ → Use

@@ -12,7 +12,7 @@ use Rattle.mmu_core.specs.machine.View.{word_in}
 use Rattle.mmu_core.specs.machine.Enabled.{mmu}
 use Rattle.mmu_core.specs.machine.Machine.{Step, World, hand_in, run}
 use Rattle.mmu_core.specs.invariant.TreePart.{at, stands}
-pub use Rattle.mmu_core.specs.invariant.HeldPart.{run_at, table_at}
+pub use Rattle.mmu_core.specs.invariant.HeldPart.{span_at, table_at}
 use Rattle.core_theorem.specs.Pages.{PagesAreUsed}
 use Rattle.core_theorem.specs.Runs.{IsRun}
 
@@ -27,12 +27,12 @@ pub record HoldsAt (level : ℕ) (walk : TableWalk) : Type 0 where
   pub down : walk.level ≤ level
   pub up : level ≤ 4
 
--- In this account of the pages each table that a walk holds stands at its level, for the run that the walk is in. So it is the root, or linked below
+-- In this account of the pages each table that a walk holds stands at its level, for the span that the walk is in. So it is the root, or linked below
 -- it. And each leaf in a table below the root, and in one to which a walk can still come from a table that it holds, says of each guest frame that it
 -- is over what slots and host say.
 pub record PagesAreHeld (z : Sizes) (w : World Held) (pages : PagesAreUsed z w) : Type 0 where
   pub walks : (actor level : ℕ) → actor < actors_of z → HoldsAt level (walk_of w actor)
-      → stands pages.up pages.spot (table_at level (walk_of w actor)) ≡ Some (at level (run_at level (walk_of w actor)))
+      → stands pages.up pages.spot (table_at level (walk_of w actor)) ≡ Some (at level (span_at level (walk_of w actor)))
   pub linked : AllOver pages.up pages.spot (word_in z w area.Pool) (word_in z w area.Root 0)
       (LeavesSay (word_in z w area.Pool) (word_in z w area.Host) (word_in z w area.Slots 0))
   pub reached : (actor level : ℕ) → actor < actors_of z → HoldsAt level (walk_of w actor)

@@ -19,10 +19,10 @@ ghost use Rattle.core_theorem.specs.Walks.{WalksHoldTables};
 
 /// Every run of the machine. `pages`: each page is exactly one of free, the root, owned
 /// by one actor, linked by one entry of a table, the published slot set, an old slot set
-/// that is leaving for one actor, and none of the pool; and the tables, the root and what
-/// is linked below it, are each at a level and run of guest frames of its own. `walks`:
+/// that is retired by one actor, and none of the pool; and the tables, the root and what
+/// is linked below it, are each at a level and span of guest frames of its own. `walks`:
 /// in each such account of the pages, each table that a walk has gone through, and the
-/// one that it has come to, is at its level and for the run of guest frames that the walk
+/// one that it has come to, is at its level and for the span of guest frames that the walk
 /// is in, and each leaf below it, as each one below the root, says of every guest frame
 /// that it is over what slots and host say. `leaves`, `held`, `translations`, `used`:
 /// each leaf that is linked below the root, or below a table that a walk holds, each one
@@ -43,7 +43,7 @@ ghost use Rattle.core_theorem.specs.Walks.{WalksHoldTables};
 /// brought in. `lock`: the lock's word counts its readers and has the
 /// bit of its one writer, beside whom none has it as a reader. `grace`: what an actor holds of tables and slot sets isn't free. `sets`,
 /// `watched`: a slot set that an actor holds is the published one, or an old one, held in
-/// a section and leaving for another actor, whose watch hasn't passed this one since; so
+/// a section and retired by another actor, whose watch hasn't passed this one since; so
 /// whom a watch has passed holds no slot set that the watcher has taken out of use.
 /// `reuse`: a page that is taken from the pool or given back to it nobody else holds.
 /// `cleared`: where an old slot set is given back to the pool, its role word is 0.

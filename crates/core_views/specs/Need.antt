@@ -26,7 +26,7 @@ unfoldable pub count_below : ℕ → (ℕ → Bool) → ℕ
 count_below zero test = 0
 count_below (suc n) test = count_below n test + (if test n then 1 else 0)
 
--- how many runs of `span` guest frames, of those below 2 ^ 36, some slot line wants
+-- how many spans of this many guest frames, of those below 2 ^ 36, some slot line wants
 abbrev pub tables_of : ℕ → List Line → ℕ → ℕ
 tables_of pages lines span = count_below (2 ^ 36 / span) (λ index. list_any (λ line. wants pages span index line.command) lines)
 

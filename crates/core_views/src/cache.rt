@@ -9,7 +9,7 @@ use std::marker::Model;
 /// A cached translation: the guest frame that a walk was for, and the leaf that
 /// it met, at its level, 1 to 3. Its fields are of one width, so that a copy of it
 /// is a copy of three words.
-#[derive(Clone, Copy, Debug, PartialEq, Eq, Drop)]
+#[derive(Clone, Copy, Drop)]
 pub struct Translation {
     pub gfn: u64,
     pub level: u64,
@@ -18,7 +18,7 @@ pub struct Translation {
 
 /// What one virtual processor has cached (its TLB): at most a fixed number of
 /// translations, the newest first.
-#[derive(Debug, Drop)]
+#[derive(Drop)]
 pub struct Cache {
     translations: HeapCircularBuffer<Translation>,
 }
@@ -43,7 +43,7 @@ impl Cache {
         Ok(Cache { translations })
     }
 
-    /// The translations in two runs: the newer ones, and then the older ones, each from
+    /// The translations in two parts: the newer ones, and then the older ones, each from
     /// the newest on.
     pub fn as_slices(&self) -> (&[Translation], &[Translation])
         ensures { result.0.now ++ result.1.now ≡ self.now.items }

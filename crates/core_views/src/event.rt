@@ -1,14 +1,14 @@
 use crate::{Actor, Answer, HostEntry, Line, MemorySlot, Op};
 
 /// One event of a history: what an actor did to, or saw of, flat guest memory.
-#[derive(Debug, Drop)]
+#[derive(Drop)]
 pub struct Event {
     pub actor: Actor,
     pub kind: EventKind,
 }
 
 /// What happened in an event.
-#[derive(Debug, Drop)]
+#[derive(Drop)]
 pub enum EventKind {
     /// The actor began this line.
     Begun(Line),

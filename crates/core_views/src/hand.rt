@@ -21,7 +21,7 @@ pub struct Seen {
 
 /// How far an actor has come with its line, and what this line loaded and counted. Each
 /// field is a topic of its own, which few kinds of step write.
-#[derive(Clone, Copy, Debug, PartialEq, Eq, Drop)]
+#[derive(Clone, Copy, Drop)]
 pub struct Progress {
     /// The sizes of the machine.
     pub sizes: Sizes,
@@ -71,7 +71,7 @@ impl Progress {
 /// What one actor holds: where its line stands and what this line loaded; what
 /// it holds of each part of the machine; the manager's own record of the slots; its
 /// lines of the trace, and the answers that it has given them, with room for more.
-#[derive(Debug, Drop)]
+#[derive(Drop)]
 pub struct Hand {
     progress: Progress,
     topics: Topics,
@@ -301,7 +301,7 @@ impl Hand {
 pub type Hands = Sequence<Hand>;
 
 /// The last words and hands of a run.
-#[derive(Debug, Drop)]
+#[derive(Drop)]
 pub struct Closing {
     pub words: Sequence<u64>,
     pub hands: Hands,

@@ -1,5 +1,5 @@
 /// What the host maps one of its pages to (mmu.rst, "Translation").
-#[derive(Clone, Copy, Debug, PartialEq, Eq, Drop)]
+#[derive(Clone, Copy, Drop)]
 pub struct HostEntry {
     /// The frame that holds the page's content, whether the page is present or not.
     pub frame: u64,

@@ -2,7 +2,7 @@ ghost use Rattle.std.specs.Prelude.{◌≡◌};
 ghost use Rattle.core_views.specs.Kinds.{after, answer, code_of, kind_named, operation_of, operation_of_code};
 
 /// The kinds of step that an actor makes, each one atomic operation on one word.
-#[derive(Clone, Copy, Debug, PartialEq, Eq, Drop)]
+#[derive(Clone, Copy, PartialEq, Eq, Drop)]
 pub enum StepKind {
     /// Enters the guest: swaps the own state word for inside and section.
     Enter,
@@ -69,7 +69,7 @@ pub enum StepKind {
 }
 
 /// The atomic operations on a word.
-#[derive(Clone, Copy, Debug, PartialEq, Eq, Drop)]
+#[derive(Clone, Copy, Drop)]
 pub enum Operation {
     Load,
     Store,
@@ -156,7 +156,7 @@ impl StepKind {
 /// One step of an actor: the number of its kind, the word, what the word is to
 /// hold before it (where that matters) and what is written, and a note: 1 where
 /// the line may end with this step, else 0.
-#[derive(Clone, Copy, Debug, PartialEq, Eq, Drop)]
+#[derive(Clone, Copy, PartialEq, Eq, Drop)]
 pub struct Kind {
     pub code: u8,
     pub word: u32,

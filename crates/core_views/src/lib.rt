@@ -45,6 +45,3 @@ pub use topics::{
 pub use trace::{
     Command, Header, HostChange, Item, Items, Line, Lines, Op, Slot, Trace, Until, Words,
 };
-
-#[cfg(test)]
-mod slot_set_tests;

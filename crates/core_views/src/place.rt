@@ -1,5 +1,5 @@
 /// Where an actor's line stands in the order of its steps: which step is next.
-#[derive(Clone, Copy, Debug, PartialEq, Eq, Drop)]
+#[derive(Clone, Copy, PartialEq, Eq, Drop)]
 pub enum Place {
     /// No line is under way.
     Between,
@@ -9,7 +9,7 @@ pub enum Place {
 }
 
 /// A word of a slot in its slot set.
-#[derive(Clone, Copy, Debug, PartialEq, Eq, Drop)]
+#[derive(Clone, Copy, PartialEq, Eq, Drop)]
 pub enum SlotField {
     Base,
     Pages,
@@ -18,7 +18,7 @@ pub enum SlotField {
 }
 
 /// What becomes of an access after its stay in the guest.
-#[derive(Clone, Copy, Debug, PartialEq, Eq, Drop)]
+#[derive(Clone, Copy, PartialEq, Eq, Drop)]
 pub enum Leaving {
     /// It reached its word, and is answered so.
     Reached { frame: u64, value: u64 },
@@ -28,7 +28,7 @@ pub enum Leaving {
 
 /// The steps of a guest access, in their order: stays in the guest, and between
 /// them faults. `again` says that a fault of this line has installed an entry.
-#[derive(Clone, Copy, Debug, PartialEq, Eq, Drop)]
+#[derive(Clone, Copy, PartialEq, Eq, Drop)]
 pub enum AccessPlace {
     /// Enters the guest.
     Enter { again: bool },
@@ -49,7 +49,7 @@ pub enum AccessPlace {
 /// The steps of a line that changes a slot, in their order: a page of its own is
 /// filled with the new slot set, published by one exchange under the lock, and the
 /// old page given back after a grace period (kvm_main.c, `kvm_swap_active_memslots`).
-#[derive(Clone, Copy, Debug, PartialEq, Eq, Drop)]
+#[derive(Clone, Copy, PartialEq, Eq, Drop)]
 pub enum SlotChangePlace {
     /// It is refused, which is known before its first step.
     Refuse(crate::Refusal),
@@ -81,7 +81,7 @@ pub enum SlotChangePlace {
 /// kvm_main.c, `kvm_mmu_invalidate_begin`; tdp_mmu.c, `kvm_tdp_mmu_unmap_gfn_range`): under the
 /// lock alone it is counted among the open ones, the leaves of its range are zapped, and
 /// what virtual processors have cached is flushed.
-#[derive(Clone, Copy, Debug, PartialEq, Eq, Drop)]
+#[derive(Clone, Copy, PartialEq, Eq, Drop)]
 pub enum BeginPlace {
     /// Tries to take the lock alone.
     Exclude,
@@ -115,7 +115,7 @@ pub enum BeginPlace {
 /// The steps that end an invalidation, in their order (kvm_main.c,
 /// `kvm_mmu_invalidate_end`): under the lock alone the sequence number is raised, and then
 /// one less is open.
-#[derive(Clone, Copy, Debug, PartialEq, Eq, Drop)]
+#[derive(Clone, Copy, PartialEq, Eq, Drop)]
 pub enum EndPlace {
     /// Tries to take the lock alone.
     Exclude,
@@ -136,7 +136,7 @@ pub enum EndPlace {
 /// to the page. A line that moves the page claims a frame before, into which it copies the
 /// page's words within the invalidation, and gives the old frame back after a grace period
 /// (page_migration.rst).
-#[derive(Clone, Copy, Debug, PartialEq, Eq, Drop)]
+#[derive(Clone, Copy, PartialEq, Eq, Drop)]
 pub enum HostPlace {
     /// Loads the host word of the page; where the page isn't the actor's own, the line is
     /// refused with this step.
@@ -186,7 +186,7 @@ pub enum Cause {
 }
 
 /// What a fault ends with.
-#[derive(Clone, Copy, Debug, PartialEq, Eq, Drop)]
+#[derive(Clone, Copy, PartialEq, Eq, Drop)]
 pub enum FaultEnd {
     /// An entry that allows the access stands.
     Installed,
@@ -214,7 +214,7 @@ pub enum CheckStage {
 }
 
 /// The steps of a fault, in their order (tdp_mmu.c, `kvm_tdp_mmu_map`).
-#[derive(Clone, Copy, Debug, PartialEq, Eq, Drop)]
+#[derive(Clone, Copy, PartialEq, Eq, Drop)]
 pub enum FaultPlace {
     /// Begins a section.
     Begin,
@@ -253,7 +253,7 @@ pub enum FaultPlace {
 }
 
 /// Where a fault stands after a step.
-#[derive(Clone, Copy, Debug, PartialEq, Eq, Drop)]
+#[derive(Clone, Copy, Drop)]
 pub enum FaultNext {
     /// It goes on with the step of this place.
     Goes(FaultPlace),

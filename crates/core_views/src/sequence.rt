@@ -4,7 +4,7 @@ use std::marker::Model;
 
 /// A `Vec` that contracts see as a list. It is made from one, and gives it
 /// back, without taking memory.
-#[derive(Debug, Drop)]
+#[derive(Drop)]
 pub struct Sequence<T> {
     items: Vec<T>,
 }

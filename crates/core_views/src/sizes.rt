@@ -4,7 +4,7 @@ ghost use Rattle.core_views.specs.Sizes.{AreFewActors, actor_at, actors_of, firs
 use crate::{Actor, Header};
 
 /// How dirty logs are taken (api.rst, `KVM_CAP_MANUAL_DIRTY_LOG_PROTECT2`).
-#[derive(Clone, Copy, Debug, PartialEq, Eq, Drop)]
+#[derive(Clone, Copy, Drop)]
 pub enum LogMode {
     /// A get takes the bits out and protects their pages.
     Automatic,
@@ -15,7 +15,7 @@ pub enum LogMode {
 }
 
 /// The sizes of a machine, from a trace's header.
-#[derive(Clone, Copy, Debug, PartialEq, Eq, Drop)]
+#[derive(Clone, Copy, Drop)]
 pub struct Sizes {
     /// Host pages.
     pub pages: u64,

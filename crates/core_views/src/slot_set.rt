@@ -27,7 +27,7 @@ pub struct MemorySlot {
 /// A set of memory slots (KVM's api.rst, `KVM_SET_USER_MEMORY_REGION`), each
 /// with its ID, 0 to 31. No two of them have a guest frame in common, or a host
 /// page.
-#[derive(Clone, Copy, Debug, PartialEq, Eq, Drop)]
+#[derive(Clone, Copy, PartialEq, Eq, Drop)]
 pub struct SlotSet {
     places: [Option<MemorySlot>; 32],
 }

@@ -2,7 +2,7 @@ use crate::{Slot, SlotField};
 
 /// Where an actor is, as its own state word tells the others (KVM's
 /// vcpu-requests.rst, "VCPU Mode").
-#[derive(Clone, Copy, Debug, PartialEq, Eq, Drop)]
+#[derive(Clone, Copy, PartialEq, Eq, Drop)]
 pub enum Stay {
     /// In no section, and not in the guest.
     Outside,
@@ -13,7 +13,7 @@ pub enum Stay {
 }
 
 /// How an actor holds the MMU lock (KVM's locking.rst, `mmu_lock`).
-#[derive(Clone, Copy, Debug, PartialEq, Eq, Drop)]
+#[derive(Clone, Copy, PartialEq, Eq, Drop)]
 pub enum Hold {
     /// Not at all.
     Loose,
@@ -29,7 +29,7 @@ pub enum Hold {
 /// What an actor loaded of a slot set, slot after slot, in this section or under
 /// the lock: of each slot the flags first, and where it is live its base, pages
 /// and host page.
-#[derive(Clone, Copy, Debug, PartialEq, Eq, Drop)]
+#[derive(Clone, Copy, Drop)]
 pub struct SlotSearch {
     /// The pool page of the slot set, where one is held.
     pub set: Option<u64>,
@@ -54,7 +54,7 @@ pub struct HostLook {
 
 /// Which words of the invalidations were loaded under the lock, in the order of
 /// the check.
-#[derive(Clone, Copy, Debug, PartialEq, Eq, Drop)]
+#[derive(Clone, Copy, PartialEq, Eq, Drop)]
 pub enum Checked {
     /// None, or not in this order.
     Nothing,
@@ -73,7 +73,7 @@ pub enum Checked {
 
 /// What an invalidation is of: a host page, and the guest frames that the slots give to it,
 /// from the first up to, but without, the one after the last. None where `end` is `start`.
-#[derive(Clone, Copy, Debug, PartialEq, Eq, Drop)]
+#[derive(Clone, Copy, PartialEq, Eq, Drop)]
 pub struct Invalidated {
     /// The host page that is to change.
     pub page: u64,
@@ -86,7 +86,7 @@ pub struct Invalidated {
 /// What an actor loaded or stored of the invalidations: their sequence number before it
 /// looked up and since, how many are open, and the range of guest frames of these; and
 /// what its own one is of, if it has one open itself.
-#[derive(Clone, Copy, Debug, PartialEq, Eq, Drop)]
+#[derive(Clone, Copy, Drop)]
 pub struct Invalidations {
     /// The sequence number before the look-up of this section, where it was taken.
     pub snapshot: Option<u64>,
@@ -111,7 +111,7 @@ pub struct Invalidations {
 /// A flush of what all virtual processors have cached (vcpu-requests.rst,
 /// `KVM_REQ_TLB_FLUSH`): in the order of their places each is asked for it, and then each
 /// awaited.
-#[derive(Clone, Copy, Debug, PartialEq, Eq, Drop)]
+#[derive(Clone, Copy, PartialEq, Eq, Drop)]
 pub struct Flush {
     /// How many were asked since the actor took the lock alone with no invalidation of its own
     /// open.
@@ -122,12 +122,12 @@ pub struct Flush {
 
 /// A walk from the root down to an entry: the tables that it has come through
 /// in this section or stay, or under the lock.
-#[derive(Clone, Copy, Debug, PartialEq, Eq, Drop)]
+#[derive(Clone, Copy, Drop)]
 pub struct TableWalk {
     /// The level of the table that it has come to, 4 at the root; 0 where none
     /// is held.
     pub level: u8,
-    /// The run of guest frames that this table is for: its number among the runs
+    /// The span of guest frames that this table is for: its number among the spans
     /// of 512 entries of the level, 0 at the root.
     pub prefix: u64,
     /// The pool pages of its tables of levels 4, 3, 2 and 1, down to its level.
@@ -144,7 +144,7 @@ pub struct TableWalk {
 
 /// A claim of what is free in a map of bits: of a page in the pool's map, or of a frame in the
 /// map of frames.
-#[derive(Clone, Copy, Debug, PartialEq, Eq, Drop)]
+#[derive(Clone, Copy, Drop)]
 pub struct MapClaim {
     /// The word of the map that the claim has come to: each before it was seen 0.
     pub at: u64,
@@ -154,7 +154,7 @@ pub struct MapClaim {
 }
 
 /// A pool page that an actor owns alone: claimed, and not linked or given back.
-#[derive(Clone, Copy, Debug, PartialEq, Eq, Drop)]
+#[derive(Clone, Copy, Drop)]
 pub struct OwnedPage {
     pub page: u64,
     /// How many of its words are filled, 512 and then its role: 0 to 513.
@@ -177,7 +177,7 @@ pub struct OwnedFrame {
 }
 
 /// What an actor holds of the frames of the host.
-#[derive(Clone, Copy, Debug, PartialEq, Eq, Drop)]
+#[derive(Clone, Copy, Drop)]
 pub struct Frames {
     /// Its claim of a free frame in their map.
     pub claim: MapClaim,
@@ -187,7 +187,7 @@ pub struct Frames {
 
 /// What an actor holds of each part of the machine. Each field is a topic of its
 /// own, which few kinds of step write.
-#[derive(Clone, Copy, Debug, PartialEq, Eq, Drop)]
+#[derive(Clone, Copy, Drop)]
 pub struct Topics {
     pub stay: Stay,
     pub hold: Hold,
@@ -197,7 +197,7 @@ pub struct Topics {
     pub claim: MapClaim,
     pub owned: Option<OwnedPage>,
     /// The page of the old slot set, from its replacement until it is given back.
-    pub leaving: Option<u64>,
+    pub retired: Option<u64>,
     /// The place of the actor whose state word is looked at next; each before it
     /// was seen outside.
     pub watched: u64,
@@ -262,7 +262,7 @@ impl Topics {
             },
             claim: MapClaim { at: 0, seen: 0 },
             owned: None,
-            leaving: None,
+            retired: None,
             watched: 0,
             host: None,
             pause: 0,

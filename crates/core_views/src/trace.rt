@@ -111,7 +111,7 @@ pub struct Line {
 }
 
 /// The first line of a trace: the sizes of the machine.
-#[derive(Debug, Drop)]
+#[derive(Drop)]
 pub struct Header {
     /// The trace's version, 1.
     pub version: u8,
@@ -160,7 +160,7 @@ pub type Items = Sequence<Item>;
 
 /// A trace: its header, its lines in file order, and in which order their actors
 /// take their turns.
-#[derive(Debug, Drop)]
+#[derive(Drop)]
 pub struct Trace {
     pub header: Header,
     pub lines: Lines,

@@ -43,7 +43,7 @@ pub enum Faulted {
 
 /// The fault of one access, a step a turn. The place where it stands is kept in the
 /// hand whose line the access is.
-#[derive(Clone, Copy, Debug, PartialEq, Eq, Drop)]
+#[derive(Clone, Copy, Drop)]
 pub struct FaultJob {
     /// The guest frame, below 2^36.
     pub gfn: u64,

@@ -8,6 +8,3 @@ mod answers;
 mod fault;
 
 pub use fault::{FaultJob, Faulted};
-
-#[cfg(test)]
-mod tests;

@@ -7,8 +7,3 @@ mod host_pages;
 mod plain;
 
 pub use plain::Plain;
-
-#[cfg(test)]
-mod host_tests;
-#[cfg(test)]
-mod tests;

@@ -11,6 +11,3 @@ mod watch;
 pub use laws::who_was_seen_outside_holds_nothing_older;
 pub use section::{begin, end};
 pub use watch::Watch;
-
-#[cfg(test)]
-mod tests;

@@ -18,7 +18,7 @@ use step_seats::{Stepper, Turn, make_part};
 /// words: each is looked at until it is seen in no section and not in the guest
 /// (KVM's `synchronize_rcu` and `synchronize_srcu`). Behind it nobody holds, in a
 /// section or in the guest, what was loaded before the watch.
-#[derive(Clone, Copy, Debug, PartialEq, Eq, Drop)]
+#[derive(Clone, Copy, PartialEq, Eq, Drop)]
 pub struct Watch {
     has_looked: bool,
 }
@@ -50,7 +50,7 @@ impl Watch {
     }
 
     // The place of the actor that the next turn looks at.
-    pub(crate) fn next_look(&self, hand: &Hand) -> u64
+    fn next_look(&self, hand: &Hand) -> u64
         requires { PartRests hand.now.core }
         ensures { result ≡ watched_next self.now hand.now.core }
     {

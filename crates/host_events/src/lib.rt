@@ -9,8 +9,3 @@ mod job;
 mod places;
 
 pub use job::HostJob;
-
-#[cfg(test)]
-mod move_tests;
-#[cfg(test)]
-mod tests;

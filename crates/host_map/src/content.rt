@@ -11,7 +11,7 @@ use part_steps::map_of;
 use step_seats::Stepper;
 
 /// The operation on a word of a frame, as the words of the machine see it.
-pub(crate) fn touch_kind(sizes: &Sizes, frame: u64, word: u8, op: Op, note: u64) -> Kind
+fn touch_kind(sizes: &Sizes, frame: u64, word: u8, op: Op, note: u64) -> Kind
     requires sizes { AreSizes sizes.now }
     requires frame { frame < sizes.now.frames }
     requires word { word < sizes.now.words }

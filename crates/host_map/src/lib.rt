@@ -11,8 +11,3 @@ mod moves;
 pub use content::{load, touch};
 pub use host::{Changed, bring_in, change, look};
 pub use moves::{copy, frame_give, store};
-
-#[cfg(test)]
-mod move_tests;
-#[cfg(test)]
-mod tests;

@@ -57,8 +57,9 @@ impl Check {
         }
     }
 
-    // Goes on after the word of its stage, which is kept now.
-    pub(crate) fn go_on(&mut self, kept: &Invalidations) -> Turn<Checked>
+    /// Goes on after the word of its stage, which is kept now: what a turn makes of it
+    /// after its step.
+    pub fn go_on(&mut self, kept: &Invalidations) -> Turn<Checked>
         requires taken { is_some kept.now.snapshot ≡ true }
         requires stands { StandsBehind self.old.stage self.old.gfn kept.now }
         ensures answers { ChecksBy self.old.stage result self.new.stage self.old.gfn kept.now }

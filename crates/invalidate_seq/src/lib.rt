@@ -12,6 +12,3 @@ pub use check::{Check, Checked};
 pub use open::{Open, OpenStage};
 pub use shut::{Shut, ShutStage};
 pub use snapshot::Snapshot;
-
-#[cfg(test)]
-mod tests;

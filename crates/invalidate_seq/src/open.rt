@@ -23,7 +23,7 @@ use part_steps::{PartStep, end_with, start_with};
 use step_seats::{Stepper, Turn, make_part};
 
 /// Which word the begin of an invalidation loads or stores next, under the lock alone.
-#[derive(Clone, Copy, Debug, PartialEq, Eq, Drop)]
+#[derive(Clone, Copy, Drop)]
 pub enum OpenStage {
     /// Loads how many are open.
     Count,
@@ -41,7 +41,7 @@ pub enum OpenStage {
 
 /// The begin of an invalidation, a step a turn (kvm_main.c, `kvm_mmu_invalidate_begin`):
 /// from its end on no fault puts an entry for a guest frame of the range.
-#[derive(Clone, Copy, Debug, PartialEq, Eq, Drop)]
+#[derive(Clone, Copy, Drop)]
 pub struct Open {
     /// The guest frame over which it is, below 2^36; `None` where no slot gives one to
     /// the host page that is to change.

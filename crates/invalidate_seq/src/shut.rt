@@ -12,7 +12,7 @@ use part_steps::PartStep;
 use step_seats::{Stepper, Turn, make_part};
 
 /// Which word the end of an invalidation loads or stores next, under the lock alone.
-#[derive(Clone, Copy, Debug, PartialEq, Eq, Drop)]
+#[derive(Clone, Copy, Drop)]
 pub enum ShutStage {
     /// Loads the sequence number.
     Seq,
@@ -27,7 +27,7 @@ pub enum ShutStage {
 /// The end of an invalidation, a step a turn (kvm_main.c, `kvm_mmu_invalidate_end`): the
 /// sequence number is raised before the count falls, so that a look-up from before the end
 /// is found too old, or still under an open invalidation.
-#[derive(Clone, Copy, Debug, PartialEq, Eq, Drop)]
+#[derive(Clone, Copy, Drop)]
 pub struct Shut {
     /// How far the end has come.
     pub stage: ShutStage,

@@ -10,7 +10,7 @@ use part_steps::PartStep;
 use step_seats::{Stepper, Turn, make_part};
 
 /// Takes the sequence number before a look-up, without the lock.
-#[derive(Clone, Copy, Debug, PartialEq, Eq, Drop)]
+#[derive(Clone, Copy, Drop)]
 pub struct Snapshot;
 
 impl Snapshot {

@@ -60,7 +60,7 @@ pub struct FoundSlot {
 /// `KVM_SET_USER_MEMORY_REGION`; kvm_main.c, `kvm_for_each_memslot_in_hva_range`).
 /// No two slots have a guest frame or a host page in common, so there is one such
 /// slot at most.
-#[derive(Clone, Copy, Debug, PartialEq, Eq, Drop)]
+#[derive(Clone, Copy, Drop)]
 pub struct Find {
     /// What is searched for.
     pub sought: Sought,

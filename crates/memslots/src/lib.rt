@@ -6,6 +6,3 @@ mod find;
 
 pub use core_views::{MemorySlot, SlotSet};
 pub use find::{Find, FoundSlot, Sought};
-
-#[cfg(test)]
-mod find_tests;

@@ -41,7 +41,7 @@ pub mod HostPlaces
 pub mod HostMoves
 pub mod HostNeeds
 pub mod HostKnown
-pub mod HostLeaves
+pub mod HostRetires
 pub mod HostKept
 pub mod HostClaims
 pub mod HostMakes

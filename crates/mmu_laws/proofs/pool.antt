@@ -1,5 +1,5 @@
 pub mod Enough
-pub mod Leavers
+pub mod RetiredPages
 pub mod Pigeonhole
 pub mod TablesWanted
-pub mod WantedRuns
+pub mod WantedSpans

@@ -1,5 +1,5 @@
 ghost use Rattle.mmu_laws.specs.causes.Causes.{FaultsBeginAnewByCause};
-ghost use Rattle.mmu_laws.specs.pool.Enough.{EachTableIsWanted, EnoughPages, TablesAreForTheirRuns};
+ghost use Rattle.mmu_laws.specs.pool.Enough.{EachTableIsWanted, EnoughPages, TablesAreForTheirSpans};
 ghost use Rattle.mmu_laws.specs.alone.LowestFrames.{MovesAloneTakeLowest};
 ghost use Rattle.mmu_laws.specs.steps.CanStep.{EachMayStep, EveryMachineStarts};
 ghost use Rattle.mmu_laws.specs.steps.ExampleHost.{ExampleHost};
@@ -169,15 +169,15 @@ pub fn a_fault_goes_on()
 {}
 
 /// A pool of `need` pages is enough, in every list of steps: each table below
-/// the root is for a run of guest frames that a slot line of the trace wants
+/// the root is for a span of guest frames that a slot line of the trace wants
 /// (one that sets a slot of at least one page, and no more than the machine has,
-/// below guest frame 2^36), and this run is the one that it stands at; and where
+/// below guest frame 2^36), and this span is the one that it stands at; and where
 /// the pool has as many pages as `need` says, and no actor owns one, some page of
 /// it is free, so that who claims one then is not starved (tdp_mmu.c,
 /// `kvm_tdp_mmu_map`; mmu.rst, "Translation").
 pub fn the_pool_is_enough()
     ensures wanted { EachTableIsWanted }
-    ensures own_runs { TablesAreForTheirRuns }
+    ensures own_spans { TablesAreForTheirSpans }
     ensures enough { EnoughPages }
 {}
 

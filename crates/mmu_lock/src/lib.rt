@@ -6,8 +6,3 @@
 mod lock;
 
 pub use lock::{Lock, try_exclusive, try_shared, unlock};
-
-#[cfg(test)]
-mod tests;
-#[cfg(test)]
-mod untold;

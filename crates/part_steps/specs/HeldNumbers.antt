@@ -1,4 +1,4 @@
--- What is held, as numbers: of the page that is owned, of the one that leaves, of the slot set, and of the host word.
+-- What is held, as numbers: of the page that is owned, of the one that is retired, of the slot set, and of the host word.
 use Rattle.std.specs.Prelude.{ℕ, Bool, false, Option, Some, None}
 use Rattle.core_views.specs.declared.topics.HostLook.{HostLook}
 use Rattle.core_views.specs.declared.topics.OwnedPage.{OwnedPage}
@@ -22,10 +22,10 @@ abbrev pub role_filled : Option OwnedPage → ℕ
 role_filled None = 0
 role_filled (Some o) = o.role
 
--- the page that is leaving
-abbrev pub page_left : Option ℕ → ℕ
-page_left None = 0
-page_left (Some page) = page
+-- the page that is retired
+abbrev pub page_retired : Option ℕ → ℕ
+page_retired None = 0
+page_retired (Some page) = page
 
 -- the pool page of the slot set that is held
 abbrev pub set_held : Option ℕ → ℕ

@@ -1,4 +1,4 @@
--- What an actor holds of pool pages: its claim, the page that it owns, and the slot set that leaves; and of the search of a slot set.
+-- What an actor holds of pool pages: its claim, the page that it owns, and the slot set that is retired; and of the search of a slot set.
 use Rattle.std.specs.Prelude.{◌+◌, ◌*◌, ℕ, Bool, true, false, ◌==◌, ◌&&◌, ◌||◌, nat_le, if◌then◌else◌, Option, Some, None}
 use Rattle.std.specs.Int.{trailing_zeros}
 use mir.Syntax.{w64}
@@ -57,15 +57,15 @@ filled_more (Some o) v = Some (record {
   role = if o.filled == 512 then v else o.role;
 })
 
--- What is given back is the page that is owned, and where there is none the one that is leaving.
-abbrev pub still_leaving : Option OwnedPage → Option ℕ → Option ℕ
-still_leaving None leaving = None
-still_leaving (Some o) leaving = leaving
+-- What is given back is the page that is owned, and where there is none the one that is retired.
+abbrev pub still_retired : Option OwnedPage → Option ℕ → Option ℕ
+still_retired None retired = None
+still_retired (Some o) retired = retired
 
 -- A page was given back: a claim has yet to see again which pages are free in its word of the map.
 abbrev pub given_back : Topics → Topics
-given_back t = record t { owned = None; leaving = still_leaving t.owned t.leaving; claim = unseen t.claim }
+given_back t = record t { owned = None; retired = still_retired t.owned t.retired; claim = unseen t.claim }
 
--- A slot set was published in place of the one in page v, which is leaving now: nobody was watched yet, and it is held no more.
+-- A slot set was published in place of the one in page v, which is retired now: nobody was watched yet, and it is held no more.
 abbrev pub published : Topics → ℕ → Topics
-published t v = record t { search = kept_search false t.search; owned = None; leaving = Some v; watched = 0 }
+published t v = record t { search = kept_search false t.search; owned = None; retired = Some v; watched = 0 }

@@ -35,7 +35,7 @@ pub record CountersPart (z : Sizes) (t : Topics) : Type 0 where
   pub claim : t.claim.at ≤ words_of_bits z.pool
   pub seen : t.claim.seen < 2 ^ 64
   pub watched : t.watched ≤ actors_of z
-  pub run : 1 ≤ t.walk.level → t.walk.prefix < 2 ^ 36
+  pub span : 1 ≤ t.walk.level → t.walk.prefix < 2 ^ 36
   pub counted : t.invalidations.count ≤ actors_of z
   pub seq : t.invalidations.seq < 2 ^ 40
   pub asked : t.flush.asked ≤ z.vcpus
@@ -51,7 +51,7 @@ pub record PartRests (h : Held) : Type 0 where
   pub table : 1 ≤ h.topics.walk.level → table_page h.topics.walk < h.state.sizes.pool
   pub set : (k : ℕ) → h.topics.search.set ≡ Some k → k < h.state.sizes.pool
   pub page : (o : OwnedPage) → h.topics.owned ≡ Some o → o.page < h.state.sizes.pool
-  pub left : (k : ℕ) → h.topics.leaving ≡ Some k → k < h.state.sizes.pool
+  pub left : (k : ℕ) → h.topics.retired ≡ Some k → k < h.state.sizes.pool
   pub frame : (o : OwnedFrame) → h.topics.frames.owned ≡ Some o → o.frame < h.state.sizes.frames
   pub filled : (o : OwnedPage) → h.topics.owned ≡ Some o → o.filled ≤ 513
   pub counters : CountersPart h.state.sizes h.topics

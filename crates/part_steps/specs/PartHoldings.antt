@@ -13,7 +13,7 @@ use Rattle.spte_words.specs.Entries.{level_span}
 use Rattle.spte_words.specs.HostWords.{host_present}
 use Rattle.part_steps.specs.SetWords.{set_role}
 use Rattle.part_steps.specs.SlotWords.{page_of}
-use Rattle.part_steps.specs.PartTasks.{entry_index, words_filled, is_absent, role_filled, own_index, page_left, word_looked}
+use Rattle.part_steps.specs.PartTasks.{entry_index, words_filled, is_absent, role_filled, own_index, page_retired, word_looked}
 
 -- the actor whose state word comes next, where those before this place were looked at: each but the own
 abbrev pub next_watched : ℕ → ℕ → ℕ
@@ -37,7 +37,7 @@ HoldsSet t = is_some t.search.set ≡ true
 pub record IsOver (gfn : ℕ) (walk : TableWalk) : Type 0 where
   pub small : gfn < 2 ^ 36
   pub there : 1 ≤ walk.level
-  pub run : gfn / level_span walk.level / 512 ≡ walk.prefix
+  pub span : gfn / level_span walk.level / 512 ≡ walk.prefix
 
 -- The guest frame's entry in the walk's table was loaded.
 pub record SawEntry (gfn : ℕ) (walk : TableWalk) : Type 0 where
@@ -89,17 +89,17 @@ pub record OwnsSet (t : Topics) : Type 0 where
   pub role : role_filled t.owned ≡ set_role
 
 -- A slot set may be published: it is owned and filled whole, the actor has the lock alone, under which it has seen that no invalidation is
--- open, and no page is leaving yet.
+-- open, and no page is retired yet.
 pub record MayPublish (t : Topics) : Type 0 where
   pub owns : OwnsSet t
   pub alone : t.hold ≡ Exclusive
   pub looked : t.invalidations.checked ≡ checked.Count
   pub none_open : t.invalidations.count ≡ 0
-  pub none_leaves : t.leaving ≡ None
+  pub none_retired : t.retired ≡ None
 
--- A page is leaving, one of the pool, and each other actor was watched since; the actor owns no page.
+-- A page is retired, one of the pool, and each other actor was watched since; the actor owns no page.
 pub record MayGiveOld (h : Held) : Type 0 where
-  pub leaves : is_some h.topics.leaving ≡ true
-  pub in_pool : page_left h.topics.leaving < h.state.sizes.pool
+  pub leaves : is_some h.topics.retired ≡ true
+  pub in_pool : page_retired h.topics.retired < h.state.sizes.pool
   pub owns_none : h.topics.owned ≡ None
   pub watched : actors_of h.state.sizes ≤ next_watched (own_index h) h.topics.watched

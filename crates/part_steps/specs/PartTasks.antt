@@ -17,7 +17,7 @@ use Rattle.spte_words.specs.HostWords.{with_presence}
 use Rattle.part_steps.specs.declared.task.Task.{Task}
 use Rattle.part_steps.specs.declared.part_step.PartStep.{PartStep}
 use Rattle.part_steps.specs.declared.part_step.PartStep.TheVariants as part
-pub use Rattle.part_steps.specs.HeldNumbers.{is_absent, page_left, page_owned, role_filled, set_held, word_looked, words_filled}
+pub use Rattle.part_steps.specs.HeldNumbers.{is_absent, page_retired, page_owned, role_filled, set_held, word_looked, words_filled}
 pub use Rattle.part_steps.specs.InvalidationRange.{page_looked}
 use Rattle.part_steps.specs.SlotWords.{leaf_of, slot_index}
 use Rattle.part_steps.specs.Tasks.{kind_of_task, loads, map_of}
@@ -97,8 +97,8 @@ part_task (part.Leaf gfn) own t note = entry_task gfn (leaf_written t) t.walk no
 part_task (part.Host page) own t note = loads kind.Host area.Host page note
 part_task (part.Watch index) own t note = loads kind.Watch area.State index note
 part_task part.Publish own t note = works kind.Publish area.Slots 0 (page_owned t.owned) note
-part_task part.Clear own t note = works kind.Fill area.Role (page_left t.leaving) 0 note
-part_task part.GiveOld own t note = works kind.Give area.PoolMap (page_left t.leaving / 64) (2 ^ (page_left t.leaving % 64)) note
+part_task part.Clear own t note = works kind.Fill area.Role (page_retired t.retired) 0 note
+part_task part.GiveOld own t note = works kind.Give area.PoolMap (page_retired t.retired / 64) (2 ^ (page_retired t.retired % 64)) note
 part_task (part.SetStart gfn) own t note = works kind.Set area.RangeStart 0 gfn note
 part_task (part.SetEnd gfn) own t note = works kind.Set area.RangeEnd 0 gfn note
 part_task (part.SetCount count) own t note = works kind.Set area.Count 0 count note

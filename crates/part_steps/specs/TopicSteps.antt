@@ -92,7 +92,7 @@ topics_by kind.Swap z k t v = record t {
 unfoldable pub topics_after : Sizes → Kind → Topics → ℕ → Topics
 topics_after z k t v = topics_by (kind_named k.code) z k t v
 
--- What is counted has room for one more: the words of an owned page and of an owned frame, the slots of a set, the words of a map, the runs of a table.
+-- What is counted has room for one more: the words of an owned page and of an owned frame, the slots of a set, the words of a map, the spans of a table.
 abbrev pub HasRoom : StepKind → Topics → Type 0
 HasRoom kind.Fill t = ((o : OwnedPage) → t.owned ≡ Some o → o.filled < 513) × (words_moved t.frames.owned < 2 ^ 32)
 HasRoom kind.Slot t = is_some t.search.set ≡ true → t.search.id ≤ 31

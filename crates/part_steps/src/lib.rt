@@ -18,7 +18,7 @@ pub use invalidations::{
 };
 pub use needs::{has_needs, needs_line, next_watched};
 pub use part_step::{
-    PartStep, entry_index, page_owned, part_kind, part_task, run_of, table_page, word_looked,
+    PartStep, entry_index, page_owned, part_kind, part_task, span_of, table_page, word_looked,
     words_filled,
 };
 pub use slot_words::{SLOT_SET_ROLE, page_of, set_word};

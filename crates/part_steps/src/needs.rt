@@ -20,7 +20,7 @@ use crate::frames::{may_copy, may_give_frame, may_store, revises};
 use crate::invalidations::{
     has_found, may_ask, may_change, may_count, may_raise, may_set_end, may_set_start, page_looked,
 };
-use crate::part_step::{PartStep, entry_index, run_of, word_looked, words_filled};
+use crate::part_step::{PartStep, entry_index, span_of, word_looked, words_filled};
 use crate::slot_words::SLOT_SET_ROLE;
 use crate::task::map_of;
 use core_views::{
@@ -42,7 +42,7 @@ fn is_over(gfn: u64, walk: &TableWalk) -> bool
     requires { walk.now.level ≤ 4 }
     ensures { result ≡ true → IsOver gfn walk.now }
 {
-    gfn < 1 << 36 && walk.level >= 1 && run_of(gfn, walk.level) / 512 == walk.prefix
+    gfn < 1 << 36 && walk.level >= 1 && span_of(gfn, walk.level) / 512 == walk.prefix
 }
 
 // Whether the guest frame's entry was loaded.
@@ -133,7 +133,7 @@ fn may_publish(topics: &Topics) -> bool
         && topics.hold == Hold::Exclusive
         && topics.invalidations.checked == Checked::Count
         && topics.invalidations.count == 0
-        && topics.leaving.is_none()
+        && topics.retired.is_none()
 }
 
 // Whether each other actor was watched.
@@ -152,7 +152,7 @@ fn may_give_old(hand: &Hand) -> bool
     ensures { result ≡ true → MayGiveOld hand.now.core }
 {
     let topics = hand.topics();
-    match topics.leaving {
+    match topics.retired {
         Some(page) => {
             page < hand.progress().sizes.pool && topics.owned.is_none() && has_watched(hand)
         }

@@ -6,7 +6,7 @@ ghost use Rattle.core_views.specs.declared.topics.OwnedPage.{OwnedPage};
 ghost use Rattle.spte_words.specs.declared.area.Area.TheVariants as Area;
 ghost use Rattle.spte_words.specs.Areas.{IsWordMap, pool_index, size_of};
 ghost use Rattle.part_steps.specs.PartBounds.{PartRests};
-ghost use Rattle.part_steps.specs.PartTasks.{all_but, entry_index, entry_task, leaf_written, own_index, page_left, page_looked, page_owned};
+ghost use Rattle.part_steps.specs.PartTasks.{all_but, entry_index, entry_task, leaf_written, own_index, page_retired, page_looked, page_owned};
 ghost use Rattle.part_steps.specs.PartTasks.{exchanges_host, part_kind, part_task, set_held, table_page, word_looked, words_filled, works};
 ghost use Rattle.part_steps.specs.PartSteps.{PartNeeds};
 ghost use Rattle.part_steps.specs.SlotWords.{slot_index};
@@ -30,7 +30,7 @@ use spte_words::{Area, HostWord, Spte, WordMap};
 
 /// One step of a part of the machine, with the number that its caller gives.
 /// Which word it is on follows from this, and from what the hand holds.
-#[derive(Clone, Copy, Debug, PartialEq, Eq, Drop)]
+#[derive(Clone, Copy, Drop)]
 pub enum PartStep {
     /// Enters the guest.
     Enter,
@@ -221,16 +221,16 @@ fn publish(owned: Option<OwnedPage>, note: u64) -> Task
     work(StepKind::Publish, Area::Slots, 0, page, note)
 }
 
-// Takes the role from the page that is leaving, or gives it back.
-fn drop_old(step: PartStep, map: &WordMap, leaving: Option<u64>, note: u64) -> Task
-    requires page { (k : ℕ) → leaving ≡ Some k → k < map.now.pool }
-    requires leaving { is_some leaving ≡ true }
-    ensures clear { step ≡ Clear → result ≡ works StepKind.Fill Area.Role (page_left leaving) 0 note }
-    ensures give { step ≢ Clear → result ≡ works StepKind.Give Area.PoolMap (page_left leaving / 64) (2 ^ (page_left leaving % 64)) note }
+// Takes the role from the page that is retired, or gives it back.
+fn drop_old(step: PartStep, map: &WordMap, retired: Option<u64>, note: u64) -> Task
+    requires page { (k : ℕ) → retired ≡ Some k → k < map.now.pool }
+    requires retired { is_some retired ≡ true }
+    ensures clear { step ≡ Clear → result ≡ works StepKind.Fill Area.Role (page_retired retired) 0 note }
+    ensures give { step ≢ Clear → result ≡ works StepKind.Give Area.PoolMap (page_retired retired / 64) (2 ^ (page_retired retired % 64)) note }
     ensures within { result.index < size_of map.now result.area }
 {
-    let Some(page) = leaving else { unreachable!() };
-    if step == PartStep::Clear {
+    let Some(page) = retired else { unreachable!() };
+    if let PartStep::Clear = step {
         return work(StepKind::Fill, Area::Role, page, 0, note);
     }
     let bit = 1 << (page % 64);
@@ -257,8 +257,8 @@ fn slot(map: &WordMap, search: &SlotSearch, note: u64) -> Task
     )
 }
 
-/// The run of entries of the level that the guest frame is in.
-pub fn run_of(gfn: u64, level: u8) -> u64
+/// The span of entries of the level that the guest frame is in.
+pub fn span_of(gfn: u64, level: u8) -> u64
     requires from { 1 ≤ level }
     requires to { level ≤ 4 }
     ensures { result ≡ gfn / level_span level }
@@ -273,7 +273,7 @@ pub fn entry_index(gfn: u64, level: u8) -> u64
     ensures is { result ≡ entry_index gfn level }
     ensures below { result < 512 }
 {
-    run_of(gfn, level) % 512
+    span_of(gfn, level) % 512
 }
 
 // Loads the guest frame's entry in the table that the walk has come to.
@@ -470,7 +470,7 @@ pub fn part_task(hand: &Hand, step: PartStep, note: u64) -> Task
         PartStep::Host(page) => Task::load(StepKind::Host, Area::Host, page, note),
         PartStep::Watch(index) => Task::load(StepKind::Watch, Area::State, index, note),
         PartStep::Publish => publish(topics.owned, note),
-        PartStep::Clear | PartStep::GiveOld => drop_old(step, map, topics.leaving, note),
+        PartStep::Clear | PartStep::GiveOld => drop_old(step, map, topics.retired, note),
         PartStep::SetStart(gfn) => work(StepKind::Set, Area::RangeStart, 0, gfn, note),
         PartStep::SetEnd(gfn) => work(StepKind::Set, Area::RangeEnd, 0, gfn, note),
         PartStep::SetCount(count) => work(StepKind::Set, Area::Count, 0, count, note),

@@ -253,7 +253,7 @@ fn publish(topics: &mut Topics, page: u64)
     topics.search.set = None;
     topics.search.whole = false;
     topics.owned = None;
-    topics.leaving = Some(page);
+    topics.retired = Some(page);
     topics.watched = 0;
 }
 
@@ -536,7 +536,7 @@ pub fn step_topics(sizes: &Sizes, kind: Kind, topics: &mut Topics, found: u64)
         StepKind::Fill => fill(&mut topics.owned, found),
         StepKind::Give => {
             if topics.owned.is_none() {
-                topics.leaving = None;
+                topics.retired = None;
             }
             topics.owned = None;
             topics.claim.seen = 0;

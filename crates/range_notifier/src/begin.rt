@@ -18,7 +18,7 @@ use vcpu_tlb::{ask_flush, await_flush};
 
 /// The begin of an invalidation, a step a turn. Where it stands is kept in the hand whose
 /// line it is of.
-#[derive(Clone, Copy, Debug, PartialEq, Eq, Drop)]
+#[derive(Clone, Copy, Drop)]
 pub struct BeginJob {
     /// The host page that is to change.
     pub page: u64,

@@ -11,7 +11,7 @@ use step_seats::{Stepper, Turn};
 
 /// The end of an invalidation, a step a turn. Where it stands is kept in the hand whose
 /// line it is of.
-#[derive(Clone, Copy, Debug, PartialEq, Eq, Drop)]
+#[derive(Clone, Copy, Drop)]
 pub struct EndJob;
 
 // Where in the end the hand's line stands.

@@ -14,7 +14,7 @@ use step_seats::{Stepper, Turn};
 
 /// The change of a slot, a step a turn. Where it stands is kept in the manager's
 /// hand, which drives the job.
-#[derive(Clone, Copy, Debug, PartialEq, Eq, Drop)]
+#[derive(Clone, Copy, Drop)]
 pub struct SlotJob {
     /// The place of the line among the lines of its actor, from 0. The line itself is
     /// the hand's.

@@ -8,6 +8,3 @@ mod job;
 mod places;
 
 pub use job::SlotJob;
-
-#[cfg(test)]
-mod tests;

@@ -182,7 +182,7 @@ leaf_without_write level frame w hw mw = rw (leaf_can_write level frame w hw mw)
     by true = omega (arith, leaf_sum level frame true hw mw, leaf_sum level frame false hw mw)
     by false = omega (arith, leaf_sum level frame false hw mw)
 
--- a page of a large leaf's run, one level down
+-- a page of a large leaf's span, one level down
 pub child_of_leaf : (level frame i : ℕ) (w hw mw : Bool) → frame < 2 ^ 40
     → child_word level (leaf_word level frame w hw mw) i ≡ leaf_word (level - 1) (frame + i * level_span (level - 1)) w hw mw
 unfolding child_word

@@ -1,4 +1,4 @@
--- The runs of the levels: their numbers, and how far a child lies from its leaf's first frame.
+-- The spans of the levels: their numbers, and how far a child lies from its leaf's first frame.
 use Rattle.std.proofs.Common.{◌≡◌, ◌+◌, ◌*◌, ◌-◌, ◌^◌, ◌<◌, ◌≤◌, ◌%◌, ℕ, refl, arith}
 use Rattle.std.proofs.lemmas.Nat.{mod_below, pow-add}
 use Rattle.spte_words.specs.Entries.{mapped_frame, frame_in, level_span}
@@ -25,20 +25,20 @@ pub ruleset spans = (span_1, span_2, span_3, span_4)
 one_more : (k : ℕ) → 512 ^ (k + 1) ≡ 512 * 512 ^ k
 one_more k = omega (arith, pow-add 512 k 1)
 
--- A run is 512 of the level below.
+-- A span is 512 of the level below.
 pub span_above : (level : ℕ) → 1 ≤ level → level_span (level + 1) ≡ 512 * level_span level
 unfolding level_span
 span_above level from = let up : level + 1 - 1 ≡ level - 1 + 1 = omega arith in rw up (one_more (level - 1))
 
--- A child's place lies in the run of level 3.
+-- A child's place lies in the span of level 3.
 pub child_within : (level i : ℕ) → 2 ≤ level → level ≤ 3 → i < 512 → i * level_span (level - 1) < 2 ^ 18
 child_within level i from to small = grind (arith, spans)
 
--- Each run has a page.
+-- Each span has a page.
 pub span_positive : (level : ℕ) → 1 ≤ level → level ≤ 4 → 0 < level_span level
 span_positive level from to = grind (arith, spans)
 
--- A place in a run is below the greatest run's end.
+-- A place in a span is below the greatest span's end.
 pub offset_small : (level gfn : ℕ) → 1 ≤ level → level ≤ 4 → gfn % level_span level < 134217728
 offset_small level gfn from to =
     let least : 0 < level_span level = span_positive level from to in
@@ -50,5 +50,5 @@ pub mapped_frame_1 : (leaf gfn : ℕ) → mapped_frame 1 leaf gfn ≡ frame_in l
 unfolding mapped_frame level_span
 mapped_frame_1 leaf gfn = let least : gfn % 1 < 1 = mod_below gfn 1 (omega arith) in omega (arith, least)
 
--- What the frame of a guest frame in the run of a leaf is told by.
-pub ruleset in_run = (span_positive, offset_small)
+-- What the frame of a guest frame in the span of a leaf is told by.
+pub ruleset in_span = (span_positive, offset_small)

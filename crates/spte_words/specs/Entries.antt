@@ -20,7 +20,7 @@ frozen_word = 0x5a0
 unfoldable pub table_word : ℕ → ℕ
 table_word page = 2 ^ 0 + 2 ^ 1 + 2 ^ 2 + 2 ^ 11 + 2 ^ 12 * page
 
--- a leaf of the level and the first frame of its run: read, write where W, execute, large above level 1, present, and the two software bits
+-- a leaf of the level and the first frame of its span: read, write where W, execute, large above level 1, present, and the two software bits
 unfoldable pub leaf_word : ℕ → ℕ → Bool → Bool → Bool → ℕ
 leaf_word level frame w hw mw = 2 ^ 0 + bit_if 1 w + 2 ^ 2 + bit_if 7 (nat_lt 1 level) + 2 ^ 11 + 2 ^ 12 * frame + bit_if 57 hw + bit_if 58 mw
 
@@ -28,7 +28,7 @@ leaf_word level frame w hw mw = 2 ^ 0 + bit_if 1 w + 2 ^ 2 + bit_if 7 (nat_lt 1 
 unfoldable pub frame_in : ℕ → ℕ
 frame_in word = word / 2 ^ 12 % 2 ^ 40
 
--- the frame of a guest frame that is in the run of a leaf at this level: the leaf's own is that of the run's first
+-- the frame of a guest frame that is in the span of a leaf at this level: the leaf's own is that of the span's first
 unfoldable pub mapped_frame : ℕ → ℕ → ℕ → ℕ
 mapped_frame level leaf gfn = frame_in leaf + gfn % level_span level
 
@@ -60,6 +60,6 @@ with_write word = word + bit_if 1 (not (can_write word))
 unfoldable pub without_write : ℕ → ℕ
 without_write word = word - bit_if 1 (can_write word)
 
--- the leaf of page i of a large leaf's run, one level down
+-- the leaf of page i of a large leaf's span, one level down
 unfoldable pub child_word : ℕ → ℕ → ℕ → ℕ
 child_word level word i = leaf_word (level - 1) (frame_in word + i * level_span (level - 1)) (can_write word) (host_writable word) (mmu_writable word)

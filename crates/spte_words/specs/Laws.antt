@@ -52,16 +52,16 @@ WriteIsOneBit =
     → (with_write (leaf_word level frame w hw mw) ≡ leaf_word level frame true hw mw)
     × (without_write (leaf_word level frame w hw mw) ≡ leaf_word level frame false hw mw)
 
--- Child i of a leaf is the leaf one level down, i runs of that level further, with the same permissions.
+-- Child i of a leaf is the leaf one level down, i spans of that level further, with the same permissions.
 abbrev pub ChildrenAreLeaves : Type 0
 ChildrenAreLeaves =
     (level frame i : ℕ) (w hw mw : Bool)
     → frame < 2 ^ 40
     → child_word level (leaf_word level frame w hw mw) i ≡ leaf_word (level - 1) (frame + i * level_span (level - 1)) w hw mw
 
--- A level's run is 512 runs of the level below, and a run of level 1 is one page.
-abbrev pub RunsNest : Type 0
-RunsNest = (level_span 1 ≡ 1) × ((level : ℕ) → 1 ≤ level → level_span (level + 1) ≡ 512 * level_span level)
+-- A level's span is 512 spans of the level below, and a span of level 1 is one page.
+abbrev pub SpansNest : Type 0
+SpansNest = (level_span 1 ≡ 1) × ((level : ℕ) → 1 ≤ level → level_span (level + 1) ≡ 512 * level_span level)
 
 -- three entries as numbers: leaves of level 1 and frame 1, all permissions set and then without write, and a link to pool page 3
 abbrev pub ExampleEntries : Type 0

@@ -1,7 +1,7 @@
 ghost use Rattle.std.specs.Prelude.{◌≡◌};
 ghost use Rattle.spte_words.specs.Areas.{number_of};
 
-/// A run of words of one use. The areas follow one another in this order.
+/// A stretch of words of one use. The areas follow one another in this order.
 #[derive(Clone, Copy, Debug, PartialEq, Eq, Drop)]
 pub enum Area {
     /// The pool page of the root table.

@@ -1,9 +1,9 @@
-ghost use Rattle.spte_words.specs.Laws.{LeavesTell, LinksTell, OthersTell, KindsDiffer, WriteIsOneBit, ChildrenAreLeaves, RunsNest, ExampleEntries};
+ghost use Rattle.spte_words.specs.Laws.{LeavesTell, LinksTell, OthersTell, KindsDiffer, WriteIsOneBit, ChildrenAreLeaves, SpansNest, ExampleEntries};
 ghost use Rattle.spte_words.specs.Laws.{HostWordsTell, FirstHostWords, FlagsTell, AreasFollow, PlacesDiffer, PlacesFill, PlacesFit};
 ghost use Rattle.spte_words.specs.Laws.{ContentIndicesDiffer, PoolIndicesDiffer, ExamplePlaces};
 
 /// Law: each reader of an entry gives back what the entry was made of, entries
-/// of different kinds are different words, and write, children and runs are
+/// of different kinds are different words, and write, children and spans are
 /// what they should be. The last clause is three entries as numbers.
 pub fn entries_tell_what_they_are()
     ensures leaves { LeavesTell }
@@ -12,7 +12,7 @@ pub fn entries_tell_what_they_are()
     ensures differ { KindsDiffer }
     ensures write { WriteIsOneBit }
     ensures children { ChildrenAreLeaves }
-    ensures runs { RunsNest }
+    ensures spans { SpansNest }
     ensures examples { ExampleEntries }
 {}
 

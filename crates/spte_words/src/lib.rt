@@ -9,8 +9,6 @@ mod laws;
 mod slot_flags;
 mod spte;
 mod spte_kind;
-#[cfg(test)]
-mod tests;
 mod word_map;
 
 pub use area::Area;

@@ -65,7 +65,7 @@ impl Spte {
         }
     }
 
-    /// A leaf of level 1 to 3: `frame` is the first of its run, `w` allows
+    /// A leaf of level 1 to 3: `frame` is the first of its span, `w` allows
     /// guest writes, `hw` and `mw` say that the host and the MMU would.
     #[tactic(auto, unfolding(crate::specs::Entries::leaf_word))]
     pub fn leaf(level: u8, frame: u64, w: bool, hw: bool, mw: bool) -> Spte
@@ -109,7 +109,7 @@ impl Spte {
         SpteKind::Table((self.frame() % (1 << 32)) as u32)
     }
 
-    /// The first frame of a leaf's run (of a link, its pool page).
+    /// The first frame of a leaf's span (of a link, its pool page).
     #[tactic(auto, unfolding(crate::specs::Entries::frame_in))]
     pub fn frame(self) -> u64
         ensures { result ≡ frame_in self }
@@ -117,9 +117,9 @@ impl Spte {
         self.word / FRAME % (1 << 40)
     }
 
-    /// The frame of this guest frame, which is in the run of the leaf, of level 1 to 3:
-    /// the leaf's own frame is that of the first guest frame of its run.
-    #[tactic(auto, unfolding(crate::specs::Entries::mapped_frame, crate::specs::Entries::frame_in), using(crate::proofs::Spans::in_run))]
+    /// The frame of this guest frame, which is in the span of the leaf, of level 1 to 3:
+    /// the leaf's own frame is that of the first guest frame of its span.
+    #[tactic(auto, unfolding(crate::specs::Entries::mapped_frame, crate::specs::Entries::frame_in), using(crate::proofs::Spans::in_span))]
     pub fn mapped_frame(self, level: u8, gfn: u64) -> u64
         requires level_from { 1 ≤ level }
         requires level_to { level ≤ 4 }

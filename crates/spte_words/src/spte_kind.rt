@@ -5,7 +5,7 @@ pub enum SpteKind {
     Absent,
     /// Its table is being removed: no step may change the entry.
     Frozen,
-    /// A run of frames.
+    /// A span of frames.
     Leaf,
     /// A link to the table of the level below, in this pool page.
     Table(u32),

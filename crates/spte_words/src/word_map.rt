@@ -4,7 +4,7 @@ ghost use Rattle.spte_words.specs.Areas.{IsWordMap, size_of, place, total, conte
 use crate::Area;
 
 /// The sizes of a machine, from which the place of each word follows.
-#[derive(Clone, Copy, Debug, PartialEq, Eq, Drop)]
+#[derive(Clone, Copy, Drop)]
 pub struct WordMap {
     /// Host pages, at most 1,048,576.
     pub pages: u64,

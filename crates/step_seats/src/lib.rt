@@ -14,6 +14,3 @@ pub use seat::{ActorSeat, MachineFrame};
 pub use start::{start_hands, start_words};
 pub use stepper::Stepper;
 pub use turn::Turn;
-
-#[cfg(test)]
-mod tests;

@@ -16,7 +16,7 @@ use Rattle.part_steps.specs.PartTasks.{part_kind}
 use Rattle.mmu_core.specs.declared.claim.FreeMap.{FreeMap}
 use Rattle.mmu_core.specs.declared.claim.FreeMap.TheVariants.{Pages, Frames}
 use Rattle.mmu_core.specs.invariant.FramesPart.{FrameUse, FramesPart, is_frame_of}
-use Rattle.mmu_core.specs.invariant.PoolPart.{UsePart, is_leaving, is_owned, is_use, page_told}
+use Rattle.mmu_core.specs.invariant.PoolPart.{UsePart, is_retired, is_owned, is_use, page_told}
 use Rattle.mmu_core.specs.lines.ClaimSteps.{try_part}
 use Rattle.mmu_core.proofs.pages.FrameUses.{frame_use_is, owned_frame_not_free, owned_frame_there, owned_frame_use, owned_of_no_page}
 use Rattle.mmu_core.specs.invariant.TreePart.{Use, at, stands}
@@ -52,15 +52,15 @@ sole_page w a o r there mine = subst (λ (y : Sizes). IsPageAlone y a o.page w) 
     owned : ℕ → Option OwnedPage
     owned i = (hand_in mmu w i).topics.owned
 
-    leaving : ℕ → Option ℕ
-    leaving i = (hand_in mmu w i).topics.leaving
+    retired : ℕ → Option ℕ
+    retired i = (hand_in mmu w i).topics.retired
 
-    P : UsePart (actors_of z) z.pool (word_in z w area.Slots 0) (word_in z w area.PoolMap) owned leaving G.topics.up
+    P : UsePart (actors_of z) z.pool (word_in z w area.Slots 0) (word_in z w area.PoolMap) owned retired G.topics.up
     P = G.topics.uses
 
     -- What is told of the page: that this actor owns it.
     told : (u : Use)
-        → page_told (actors_of z) z.pool (word_in z w area.Slots 0) (word_in z w area.PoolMap) owned leaving G.topics.up u o.page ≡ is_use u (Owned a)
+        → page_told (actors_of z) z.pool (word_in z w area.Slots 0) (word_in z w area.PoolMap) owned retired G.topics.up u o.page ≡ is_use u (Owned a)
     told = told_so use_is P.told o.page (Owned a) (owned_use P a o lt mine)
 
     alone : IsPageAlone z a o.page w
@@ -72,7 +72,7 @@ sole_page w a o r there mine = subst (λ (y : Sizes). IsPageAlone y a o.page w) 
       not_free = owned_not_free P a o lt mine;
       not_root = λ e. owned_no_table P G.topics.spot a o (at 4 0) lt mine (sym (ap (stands G.topics.up G.topics.spot) e) ∙ root_stands G.topics.tree);
       not_slots = λ e. owned_not_slots P a o lt mine (sym e);
-      not_leaving = λ i i_in. sym (at_place is_leaving (actors_of z) leaving i o.page (subst (λ n. i < n) G.hands i_in) refl) ∙ told (OldSet i);
+      not_retired = λ i i_in. sym (at_place is_retired (actors_of z) retired i o.page (subst (λ n. i < n) G.hands i_in) refl) ∙ told (OldSet i);
     }
 
 -- So is a frame.

@@ -8,12 +8,12 @@ use Rattle.mmu_core.specs.machine.Enabled.{mmu}
 use Rattle.mmu_core.specs.machine.Machine.{World, hand_in}
 use Rattle.mmu_core.specs.machine.View.{word_in}
 use Rattle.mmu_core.specs.invariant.FramesPart.{is_frame_of}
-use Rattle.mmu_core.specs.invariant.PoolPart.{is_free, is_leaving, is_owned}
+use Rattle.mmu_core.specs.invariant.PoolPart.{is_free, is_retired, is_owned}
 use Rattle.mmu_core.specs.declared.claim.FreeMap.{FreeMap}
 use Rattle.mmu_core.specs.declared.claim.FreeMap.TheVariants.{Pages, Frames}
 
 -- The page is the claimer's alone: it is a page of the pool, no other actor owns it, its bit in the map is clear, and it is neither the
--- root nor the published slot set, nor an old slot set that is leaving.
+-- root nor the published slot set, nor an old slot set that is retired.
 pub record IsPageAlone (z : Sizes) (actor page : ℕ) (w : World Held) : Type 0 where
   pub there : page < z.pool
   pub owned : is_owned (hand_in mmu w actor).topics.owned page ≡ true
@@ -21,7 +21,7 @@ pub record IsPageAlone (z : Sizes) (actor page : ℕ) (w : World Held) : Type 0 
   pub not_free : is_free (word_in z w area.PoolMap) page ≡ false
   pub not_root : word_in z w area.Root 0 ≢ page
   pub not_slots : word_in z w area.Slots 0 ≢ page
-  pub not_leaving : (i : ℕ) → i < length w.hands → is_leaving (hand_in mmu w i).topics.leaving page ≡ false
+  pub not_retired : (i : ℕ) → i < length w.hands → is_retired (hand_in mmu w i).topics.retired page ≡ false
 
 -- The frame is the claimer's alone: it is a frame of the machine, no other actor owns it, its bit in the map is clear, and no host page is in it.
 pub record IsFrameAlone (z : Sizes) (actor frame : ℕ) (w : World Held) : Type 0 where

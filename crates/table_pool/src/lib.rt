@@ -12,8 +12,3 @@ mod page;
 pub use claim::{Claim, Claimed};
 pub use laws::a_scan_saw_each_word_empty;
 pub use page::{Fill, Give};
-
-#[cfg(test)]
-mod frame_tests;
-#[cfg(test)]
-mod tests;

@@ -15,7 +15,7 @@ use step_seats::{Stepper, Turn, make_part};
 const WORDS: u64 = 512;
 
 // The step that fills a page of which so many words are filled.
-pub(crate) fn fill_step(filled: u64, value: u64) -> PartStep
+fn fill_step(filled: u64, value: u64) -> PartStep
     ensures { result ≡ fill_step filled value }
 {
     if filled == WORDS {
@@ -43,7 +43,7 @@ fn fill_next<S: Stepper>(s: &mut S, value: u64, note: u64)
 
 /// A fill of an owned page, a word a turn: its 512 words in their order, and
 /// then its role.
-#[derive(Clone, Copy, Debug, PartialEq, Eq, Drop)]
+#[derive(Clone, Copy, Drop)]
 pub struct Fill {
     /// The page, below the pool's size.
     pub page: u64,
@@ -83,7 +83,7 @@ impl Fill {
 }
 
 /// A give of an owned page that was never linked.
-#[derive(Clone, Copy, Debug, PartialEq, Eq, Drop)]
+#[derive(Clone, Copy, Drop)]
 pub struct Give {
     /// The page, below the pool's size.
     pub page: u64,

@@ -8,8 +8,6 @@ mod memory;
 mod sink;
 mod source;
 mod standard;
-#[cfg(test)]
-mod tests;
 
 pub use gate::{Gate, NoGate};
 pub use memory::{MemSink, MemSource};

@@ -46,24 +46,24 @@ above level v page is from = by (level == 1) (λ e. grind (arith, nat_tests)) (�
     by true one more = absurd (lowest v page (subst (λ l. kind_of l v ≡ entry_kind.Table page) (one refl) is))
     by false one more = more refl
 
--- The guest frame's run one level down: its number among the runs of this level, and its place in that one.
-run_below : (level gfn prefix : ℕ) → 2 ≤ level → level ≤ 4 → gfn / level_span level / 512 ≡ prefix
+-- The guest frame's span one level down: its number among the spans of this level, and its place in that one.
+span_below : (level gfn prefix : ℕ) → 2 ≤ level → level ≤ 4 → gfn / level_span level / 512 ≡ prefix
     → gfn / level_span (level - 1) / 512 ≡ prefix * 512 + gfn / level_span level % 512
-run_below zero gfn prefix from to is = absurd (omega arith)
-run_below (suc zero) gfn prefix from to is = absurd (omega arith)
-run_below (suc (suc zero)) gfn prefix from to is =
-    let run : gfn / 512 / 512 ≡ prefix = sym (ap (λ n. gfn / n / 512) span_2) ∙ is in
-    let below : gfn / 1 / 512 ≡ prefix * 512 + gfn / 512 % 512 = omega (arith, run) in
+span_below zero gfn prefix from to is = absurd (omega arith)
+span_below (suc zero) gfn prefix from to is = absurd (omega arith)
+span_below (suc (suc zero)) gfn prefix from to is =
+    let span : gfn / 512 / 512 ≡ prefix = sym (ap (λ n. gfn / n / 512) span_2) ∙ is in
+    let below : gfn / 1 / 512 ≡ prefix * 512 + gfn / 512 % 512 = omega (arith, span) in
     ap (λ n. gfn / n / 512) span_1 ∙ below ∙ ap (λ n. prefix * 512 + gfn / n % 512) (sym span_2)
-run_below (suc (suc (suc zero))) gfn prefix from to is =
-    let run : gfn / 262144 / 512 ≡ prefix = sym (ap (λ n. gfn / n / 512) span_3) ∙ is in
-    let below : gfn / 512 / 512 ≡ prefix * 512 + gfn / 262144 % 512 = omega (arith, run) in
+span_below (suc (suc (suc zero))) gfn prefix from to is =
+    let span : gfn / 262144 / 512 ≡ prefix = sym (ap (λ n. gfn / n / 512) span_3) ∙ is in
+    let below : gfn / 512 / 512 ≡ prefix * 512 + gfn / 262144 % 512 = omega (arith, span) in
     ap (λ n. gfn / n / 512) span_2 ∙ below ∙ ap (λ n. prefix * 512 + gfn / n % 512) (sym span_3)
-run_below (suc (suc (suc (suc zero)))) gfn prefix from to is =
-    let run : gfn / 134217728 / 512 ≡ prefix = sym (ap (λ n. gfn / n / 512) span_4) ∙ is in
-    let below : gfn / 262144 / 512 ≡ prefix * 512 + gfn / 134217728 % 512 = omega (arith, run) in
+span_below (suc (suc (suc (suc zero)))) gfn prefix from to is =
+    let span : gfn / 134217728 / 512 ≡ prefix = sym (ap (λ n. gfn / n / 512) span_4) ∙ is in
+    let below : gfn / 262144 / 512 ≡ prefix * 512 + gfn / 134217728 % 512 = omega (arith, span) in
     ap (λ n. gfn / n / 512) span_3 ∙ below ∙ ap (λ n. prefix * 512 + gfn / n % 512) (sym span_4)
-run_below (suc (suc (suc (suc (suc level))))) gfn prefix from to is = absurd (omega arith)
+span_below (suc (suc (suc (suc (suc level))))) gfn prefix from to is = absurd (omega arith)
 
 -- The root is over every guest frame below 2 ^ 36.
 pub stands_at_root : (before after : Topics) (gfn v : ℕ) → gfn < 2 ^ 36 → may_walk before.stay before.hold ≡ true
@@ -81,7 +81,7 @@ stands_at_root before after gfn v small may made = record {
     walk = ap (λ (t : Topics). t.walk) same
 
     over : IsOver gfn (at_root true before.walk v)
-    over = record { small = small; there = omega arith; run = ap (λ n. gfn / n / 512) span_4 ∙ omega (arith, small) }
+    over = record { small = small; there = omega arith; span = ap (λ n. gfn / n / 512) span_4 ∙ omega (arith, small) }
 
 pub goes_down : (before after : Topics) (gfn v page : ℕ) → IsOver gfn before.walk → before.walk.level ≤ 4
     → kind_of before.walk.level v ≡ entry_kind.Table page → after ≡ part_topics (part.Walk gfn) before v → GoesDown gfn before after
@@ -98,7 +98,7 @@ goes_down before after gfn v page over to is made =
       there = ap table_page walk ∙ page_below before.walk.level before.walk.root before.walk.third before.walk.second before.walk.first page two to;
       over =
           subst (IsOver gfn) (sym walk)
-          (record { small = over.small; there = omega (arith, two); run = run_below before.walk.level gfn before.walk.prefix two to over.run });
+          (record { small = over.small; there = omega (arith, two); span = span_below before.walk.level gfn before.walk.prefix two to over.span });
       others = made ∙ ap (λ (x : TableWalk). record before { walk = x }) (sym (ap (λ (t : Topics). t.walk) made));
     }
 
@@ -111,7 +111,7 @@ stops_at kind before after gfn v level none over here is made = (
   record {
     is = ap (kind_of level) entry ∙ is;
     here = here;
-    saw = subst (SawEntry gfn) (sym walk) (record { over = record { small = over.small; there = over.there; run = over.run }; loaded = refl });
+    saw = subst (SawEntry gfn) (sym walk) (record { over = record { small = over.small; there = over.there; span = over.span }; loaded = refl });
     others =
         made ∙ ap (λ (x : TableWalk). record before { walk = x }) (sym (ap (λ (t : Topics). t.walk) made) ∙ walk)
         ∙ ap (λ (x : TableWalk). record before { walk = record before.walk { index = x.index; entry = x.entry } }) (sym walk);

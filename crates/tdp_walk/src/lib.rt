@@ -7,6 +7,3 @@ mod walk;
 
 pub use sweep::zap;
 pub use walk::{Walk, Walked};
-
-#[cfg(test)]
-mod tests;

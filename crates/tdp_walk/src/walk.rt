@@ -15,7 +15,7 @@ use step_seats::{Stepper, Turn, make_part};
 /// 4 at the root, 1 at the lowest.
 #[derive(Clone, Copy, Debug, PartialEq, Eq, Drop)]
 pub enum Walked {
-    /// A run of frames, by this word.
+    /// A span of frames, by this word.
     Leaf { word: u64, level: u8 },
     /// Nothing is mapped there.
     Absent { level: u8 },
@@ -25,7 +25,7 @@ pub enum Walked {
 
 /// A walk to the entry of one guest frame, over four levels of tables, a step a
 /// turn (mmu.rst, "Page fault").
-#[derive(Clone, Copy, Debug, PartialEq, Eq, Drop)]
+#[derive(Clone, Copy, Drop)]
 pub struct Walk {
     /// The guest frame, below 2^36.
     pub gfn: u64,
@@ -43,7 +43,7 @@ impl Walk {
 
     /// Loads the root, or the frame's entry in the table that the walk has come
     /// to: a link leads one level down, and every other entry ends the walk. Each
-    /// table that it comes to is for a run of frames that this one is in. It
+    /// table that it comes to is for a span of frames that this one is in. It
     /// never waits.
     pub fn turn<S: Stepper>(&mut self, s: &mut S, note: u64) -> Turn<Walked>
         requires may { MayMake (walk_step self.old) note (S.seat s.old).hand }

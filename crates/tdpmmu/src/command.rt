@@ -1,5 +1,5 @@
 /// What the program is asked to do with a trace.
-#[derive(Clone, Copy, Debug, PartialEq, Eq, Drop)]
+#[derive(Clone, Copy, Drop)]
 pub enum Command {
     /// Say how many lines belong to an actor, and how many pool pages the
     /// trace needs.

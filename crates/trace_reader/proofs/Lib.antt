@@ -20,7 +20,7 @@ pub mod Rising
 pub mod Loop
 pub mod Begin
 pub mod NeedCounts
-pub mod NeedRuns
+pub mod NeedRanges
 pub mod NeedTables
 pub mod HeaderSaid
 pub mod HeaderRefused

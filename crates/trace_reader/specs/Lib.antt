@@ -9,7 +9,7 @@ pub mod Steps
 pub mod Lines
 pub mod Gathered
 pub mod Reading
-pub mod Runs
+pub mod Ranges
 pub mod Grammar
 pub mod LineGrammar
 pub mod GrammarRefusals

@@ -7,8 +7,6 @@ mod form;
 mod grammar;
 mod header;
 mod item;
-#[cfg(test)]
-mod item_tests;
 mod line;
 mod lines;
 mod number;
@@ -18,8 +16,6 @@ mod reading;
 mod reason;
 mod refusal;
 mod saying;
-#[cfg(test)]
-mod tests;
 
 pub use grammar::{grammar_is_exact, header_grammar_is_exact, input_grammar_is_exact};
 pub use outcome::Read;

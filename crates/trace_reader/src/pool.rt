@@ -1,17 +1,14 @@
 ghost use Rattle.std.specs.Prelude.{◌≡◌, ◌*◌, ◌<◌, ℕ, All, IfOk};
 ghost use Rattle.std.specs.List.{list_any};
 ghost use Rattle.core_views.specs.Need.{count_below, is_counted, wants, need as need_of};
-ghost use Rattle.trace_reader.specs.Runs.{IsFrameRun, AreRising, EndBy, any_covers};
+ghost use Rattle.trace_reader.specs.Ranges.{IsFrameRange, AreRising, EndBy, any_covers};
 
 use core_views::{Command, Line, NoMemory, Slot, Trace};
 use std::alloc::Global;
 
-#[cfg(test)]
-mod tests;
-
 /// Guest frames from `base` up to `end`, which it leaves out.
 #[derive(Clone, Copy, Drop)]
-struct Run {
+struct FrameRange {
     base: u64,
     end: u64,
 }
@@ -25,39 +22,39 @@ fn counts(pages: u64, slot: &Slot) -> bool
     1 <= size && size <= pages && size <= frames && slot.base <= frames - size
 }
 
-/// The runs of the slots that count, in the order of their first frames.
-fn runs_of(alloc: Global, pages: u64, lines: &[Line]) -> Result<Vec<Run>, NoMemory>
-    ensures runs { IfOk result (λ v. All IsFrameRun v.items) }
+/// The ranges of the slots that count, in the order of their first frames.
+fn ranges_of(alloc: Global, pages: u64, lines: &[Line]) -> Result<Vec<FrameRange>, NoMemory>
+    ensures ranges { IfOk result (λ v. All IsFrameRange v.items) }
     ensures rising { IfOk result (λ v. AreRising v.items) }
     ensures same { IfOk result (λ v. (span index : ℕ) → any_covers span v.items index ≡ list_any (λ line. wants pages span index line.command) lines.now) }
 {
-    let mut runs = Vec::new(alloc);
+    let mut ranges = Vec::new(alloc);
     for line in lines {
         if let Command::SetSlot { id: _, slot } = line.command {
             if counts(pages, &slot) {
                 let base = slot.base;
                 let end = base + slot.pages;
-                runs.push(Run { base, end })?;
+                ranges.push(FrameRange { base, end })?;
             }
         }
     }
-    runs.sort_unstable_by_key(|run| run.base);
-    Ok(runs)
+    ranges.sort_unstable_by_key(|range| range.base);
+    Ok(ranges)
 }
 
-/// How many tables of `span` frames the runs need. It is one pass: `next` is
+/// How many tables of `span` frames the ranges need. It is one pass: `next` is
 /// after the last table that it has counted.
-fn tables(runs: &[Run], span: u64) -> u64
+fn tables(ranges: &[FrameRange], span: u64) -> u64
     requires span { 0 < span }
-    requires runs { All IsFrameRun runs.now }
-    requires rising { AreRising runs.now }
-    ensures { (n : ℕ) → EndBy (n * span) runs.now → result ≡ count_below n (any_covers span runs.now) }
+    requires ranges { All IsFrameRange ranges.now }
+    requires rising { AreRising ranges.now }
+    ensures { (n : ℕ) → EndBy (n * span) ranges.now → result ≡ count_below n (any_covers span ranges.now) }
 {
     let mut count = 0;
     let mut next = 0;
-    for run in runs {
-        let first = next.max(run.base / span);
-        let end = (run.end - 1) / span + 1;
+    for range in ranges {
+        let first = next.max(range.base / span);
+        let end = (range.end - 1) / span + 1;
         if first < end {
             count += end - first;
             next = end;
@@ -72,9 +69,9 @@ fn tables(runs: &[Run], span: u64) -> u64
 pub fn need(alloc: Global, trace: &Trace) -> Result<u64, NoMemory>
     ensures { IfOk result (λ n. n ≡ need_of trace.now.header trace.now.lines) }
 {
-    let runs = runs_of(alloc, trace.header.pages, trace.lines.as_slice())?;
-    let upper = tables(&runs, 1 << 27);
-    let middle = tables(&runs, 1 << 18);
-    let lower = tables(&runs, 1 << 9);
+    let ranges = ranges_of(alloc, trace.header.pages, trace.lines.as_slice())?;
+    let upper = tables(&ranges, 1 << 27);
+    let middle = tables(&ranges, 1 << 18);
+    let lower = tables(&ranges, 1 << 9);
     Ok(4 + upper + middle + lower)
 }

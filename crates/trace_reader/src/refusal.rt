@@ -5,7 +5,7 @@ use crate::Reason;
 use std::alloc::{AllocError, AllocFailed};
 
 /// Why no trace was read.
-#[derive(Clone, Copy, Debug, PartialEq, Eq, Drop)]
+#[derive(Clone, Copy, Drop)]
 pub enum ReadError {
     /// Memory was refused.
     NoMemory,

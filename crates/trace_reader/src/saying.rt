@@ -10,7 +10,7 @@ use crate::item::item_of;
 use core_views::{Actor, Command, Header, Item};
 
 /// What a line after the header says.
-#[derive(Clone, Debug, PartialEq, Eq, Drop)]
+#[derive(Clone, Drop)]
 pub enum Saying {
     /// That the actor makes this command.
     Does { actor: Actor, command: Command },

@@ -8,9 +8,6 @@ ghost use Rattle.trace_text.specs.Laws.{LinesTell};
 use core_views::{Actor, Answer, Answered, NoMemory};
 use std::alloc::Global;
 
-#[cfg(test)]
-mod tests;
-
 /// Puts one answered line after a text, as it is printed, with its LF.
 #[tactic(auto, unfolding(core_views::specs::Text::line_text))]
 pub fn push_line(

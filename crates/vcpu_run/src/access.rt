@@ -22,7 +22,7 @@ use vcpu_tlb::{enter, leave, paused};
 
 /// The access of one line, a step a turn. Where it stands is kept in the hand of
 /// its virtual processor, which drives the job.
-#[derive(Clone, Copy, Debug, PartialEq, Eq, Drop)]
+#[derive(Clone, Copy, Drop)]
 pub struct AccessJob {
     /// The place of the line among the lines of its actor, from 0.
     pub index: usize,

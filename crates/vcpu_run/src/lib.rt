@@ -6,6 +6,3 @@
 mod access;
 
 pub use access::AccessJob;
-
-#[cfg(test)]
-mod tests;

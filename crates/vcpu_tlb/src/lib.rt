@@ -7,6 +7,3 @@ mod guest;
 
 pub use flush::{Awaited, ask_flush, await_flush};
 pub use guest::{Entered, enter, leave, paused};
-
-#[cfg(test)]
-mod tests;

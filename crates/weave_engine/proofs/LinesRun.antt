@@ -174,7 +174,7 @@ rest_at_start z lines w start =
     λ i lt. subst (λ (h : Held). HoldsNothing h.topics) (sym (hand_is z lines w i start (subst (λ n. i < n) (start_good z lines w start).hands lt)))
     (record {
       rests = record { outside = refl; loose = refl; owns_none = refl; no_table = refl; no_set = refl };
-      leaves_none = refl;
+      retires_none = refl;
       opens_none = refl;
       owns_no_frame = refl;
     })

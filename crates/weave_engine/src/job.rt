@@ -13,7 +13,7 @@ use step_seats::{Stepper, Turn};
 use vcpu_run::AccessJob;
 
 /// The work on one line of an actor, a step a turn.
-#[derive(Clone, Copy, Debug, PartialEq, Eq, Drop)]
+#[derive(Clone, Copy, Drop)]
 pub enum LineJob {
     Access(AccessJob),
     SlotChange(SlotJob),

@@ -7,7 +7,7 @@ use core_views::{Actor, Closing, Line, NoMemory};
 use tdp_io::Stop;
 
 /// How a run of the engine ended.
-#[derive(Clone, Copy, Debug, PartialEq, Eq, Drop)]
+#[derive(Clone, Copy, Drop)]
 pub enum How {
     /// Each line is answered, and all answers were written.
     Done,
@@ -19,14 +19,14 @@ pub enum How {
 }
 
 /// A run of the engine: how it ended, and the last words and hands.
-#[derive(Debug, Drop)]
+#[derive(Drop)]
 pub struct Ran {
     pub how: How,
     pub closing: Closing,
 }
 
 /// A line that has no answer: its actor, and its number in the file.
-#[derive(Clone, Copy, Debug, PartialEq, Eq, Drop)]
+#[derive(Clone, Copy, Drop)]
 pub struct OpenLine {
     pub actor: Actor,
     pub number: u32,

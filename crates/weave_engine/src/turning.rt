@@ -21,7 +21,7 @@ use tdp_io::{Sink, Stop};
 
 /// A turn that an actor has made: of which line, and how it ended. Where the line is
 /// answered, the actor's hand has the answer.
-#[derive(Clone, Copy, Debug, PartialEq, Eq, Drop)]
+#[derive(Clone, Copy, Drop)]
 pub struct TurnMade {
     pub number: u32,
     pub actor: Actor,
@@ -29,7 +29,7 @@ pub struct TurnMade {
 }
 
 /// What became of an actor's turn.
-#[derive(Clone, Copy, Debug, PartialEq, Eq, Drop)]
+#[derive(Clone, Copy, Drop)]
 pub enum Turned {
     /// The actor has no line left, so it made no step.
     NoLine,

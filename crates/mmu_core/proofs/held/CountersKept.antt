@@ -1,4 +1,4 @@
--- Each step of a part keeps the counters of what actors hold within what they count, and so the run of a walk's table.
+-- Each step of a part keeps the counters of what actors hold within what they count, and so the span of a walk's table.
 use Rattle.std.proofs.Common.{◌≡◌, ◌+◌, ◌*◌, ◌/◌, ◌%◌, ◌^◌, ◌<◌, ◌≤◌, ℕ, refl, sym, subst, ap, arith}
 use Rattle.std.specs.Prelude.{Bool, true, false, ◌==◌, ◌&&◌, not, if◌then◌else◌, Option, Some, None, is_some}
 use Rattle.core_views.specs.declared.place.SlotField.{SlotField}
@@ -60,9 +60,9 @@ pub all_count : (z : Sizes) (v : View) (a : ℕ) (h : Held) → TopicsInvariant 
     → CountersPart z (upd v.hand a h i).topics
 all_count z v a h I here = at_upd (λ i (k : Held). i < actors_of z → CountersPart z k.topics) v.hand a h (λ lt. here) (λ i ne. I.counters i)
 
--- The run of a walk's table is one of those of its level.
-abbrev pub RunFits : TableWalk → Type 0
-RunFits walk = 1 ≤ walk.level → walk.prefix < 2 ^ 36
+-- The span of a walk's table is one of those of its level.
+abbrev pub SpanFits : TableWalk → Type 0
+SpanFits walk = 1 ≤ walk.level → walk.prefix < 2 ^ 36
 
 -- the numbers that were loaded of the invalidations, or stored: as before; and within what they count
 abbrev SameNumbers : Invalidations → Invalidations → Type 0
@@ -73,13 +73,13 @@ Numbers z n = (n.count ≤ actors_of z) × (n.seq < 2 ^ 40) × ((n.start < 2 ^ 6
 
 -- a hand that keeps its counters but the walk's
 walked_counts : (z : Sizes) (t s : Topics) → s.search.id ≡ t.search.id → s.claim ≡ t.claim → s.watched ≡ t.watched → SameNumbers s.invalidations t.invalidations
-    → s.flush ≡ t.flush → s.frames ≡ t.frames → RunFits s.walk → CountersPart z t → CountersPart z s
-walked_counts z t s id claim watched numbers flush frames run C = record {
+    → s.flush ≡ t.flush → s.frames ≡ t.frames → SpanFits s.walk → CountersPart z t → CountersPart z s
+walked_counts z t s id claim watched numbers flush frames span C = record {
   slots = omega (arith, id, C.slots);
   claim = subst (λ (c : MapClaim). c.at ≤ words_of_bits z.pool) (sym claim) C.claim;
   seen = subst (λ (c : MapClaim). c.seen < 2 ^ 64) (sym claim) C.seen;
   watched = omega (arith, watched, C.watched);
-  run = run;
+  span = span;
   counted = omega (arith, numbers.0, C.counted);
   seq = omega (arith, numbers.1, C.seq);
   range = (omega (arith, numbers.2, C.range.0), omega (arith, numbers.3, C.range.1));
@@ -90,7 +90,7 @@ walked_counts z t s id claim watched numbers flush frames run C = record {
 -- a hand that keeps its counters
 same_counts : (z : Sizes) (t s : Topics) → s.search.id ≡ t.search.id → s.claim ≡ t.claim → s.watched ≡ t.watched → SameNumbers s.invalidations t.invalidations
     → s.flush ≡ t.flush → s.frames ≡ t.frames → s.walk ≡ t.walk → CountersPart z t → CountersPart z s
-same_counts z t s id claim watched numbers flush frames walk C = walked_counts z t s id claim watched numbers flush frames (subst RunFits (sym walk) C.run) C
+same_counts z t s id claim watched numbers flush frames walk C = walked_counts z t s id claim watched numbers flush frames (subst SpanFits (sym walk) C.span) C
 
 -- a hand that keeps its counters but those of the invalidations and of the flush
 numbered_counts : (z : Sizes) (t s : Topics) → s.search.id ≡ t.search.id → s.claim ≡ t.claim → s.watched ≡ t.watched → s.walk ≡ t.walk
@@ -100,7 +100,7 @@ numbered_counts z t s id claim watched walk frames numbers asked C = record {
   claim = subst (λ (c : MapClaim). c.at ≤ words_of_bits z.pool) (sym claim) C.claim;
   seen = subst (λ (c : MapClaim). c.seen < 2 ^ 64) (sym claim) C.seen;
   watched = omega (arith, watched, C.watched);
-  run = subst RunFits (sym walk) C.run;
+  span = subst SpanFits (sym walk) C.span;
   counted = numbers.0;
   seq = numbers.1;
   asked = asked;
@@ -116,7 +116,7 @@ other_counts z t s slots claim seen watched walk same flush frames C = record {
   claim = claim;
   seen = seen;
   watched = watched;
-  run = subst RunFits (sym walk) C.run;
+  span = subst SpanFits (sym walk) C.span;
   counted = subst (λ (n : Invalidations). n.count ≤ actors_of z) (sym same) C.counted;
   seq = subst (λ (n : Invalidations). n.seq < 2 ^ 40) (sym same) C.seq;
   asked = subst (λ (f : Flush). f.asked ≤ z.vcpus) (sym flush) C.asked;
@@ -156,26 +156,26 @@ pub snapshot_id : (b : Bool) (s : SlotSearch) → (if b then kept_search false s
 snapshot_id true s = refl
 snapshot_id false s = refl
 
--- A walk that is let go has no run.
-let_go_run : (stay : Stay) (t : Topics) → RunFits t.walk → RunFits (let_go (record t { stay = stay })).walk
-let_go_run Outside t run = λ from. absurd (omega (arith, from))
-let_go_run _ t run = run
+-- A walk that is let go has no span.
+let_go_span : (stay : Stay) (t : Topics) → SpanFits t.walk → SpanFits (let_go (record t { stay = stay })).walk
+let_go_span Outside t span = λ from. absurd (omega (arith, from))
+let_go_span _ t span = span
 
-root_run : (b : Bool) (walk : TableWalk) (v : ℕ) → RunFits (at_root b walk v)
-root_run true walk v = λ from. omega arith
-root_run false walk v = λ from. absurd (omega (arith, from))
+root_span : (b : Bool) (walk : TableWalk) (v : ℕ) → SpanFits (at_root b walk v)
+root_span true walk v = λ from. omega arith
+root_span false walk v = λ from. absurd (omega (arith, from))
 
--- The guest frame's entry leads to a run that it is in itself, one level down.
-run_below : (gfn span prefix : ℕ) → gfn < 2 ^ 36 → gfn / span / 512 ≡ prefix → prefix * 512 + gfn / span % 512 < 2 ^ 36
-run_below gfn span prefix small is = let le : gfn / span ≤ gfn = grind arith in omega (arith, small, is, le)
+-- The guest frame's entry leads to a span that it is in itself, one level down.
+span_below : (gfn span prefix : ℕ) → gfn < 2 ^ 36 → gfn / span / 512 ≡ prefix → prefix * 512 + gfn / span % 512 < 2 ^ 36
+span_below gfn span prefix small is = let le : gfn / span ≤ gfn = grind arith in omega (arith, small, is, le)
 
-gone_run : (gfn v : ℕ) (walk : TableWalk) (o : Option ℕ) → IsOver gfn walk → RunFits (gone_down o walk (entry_index gfn walk.level) v)
-gone_run gfn v walk None over = λ from. omega (arith, run_below gfn (level_span walk.level) walk.prefix over.small over.run)
-gone_run gfn v walk (Some page) over = λ from. run_below gfn (level_span walk.level) walk.prefix over.small over.run
+gone_span : (gfn v : ℕ) (walk : TableWalk) (o : Option ℕ) → IsOver gfn walk → SpanFits (gone_down o walk (entry_index gfn walk.level) v)
+gone_span gfn v walk None over = λ from. omega (arith, span_below gfn (level_span walk.level) walk.prefix over.small over.span)
+gone_span gfn v walk (Some page) over = λ from. span_below gfn (level_span walk.level) walk.prefix over.small over.span
 
-exchanged_run : (gfn v new_ : ℕ) (walk : TableWalk) (won : Bool) → IsOver gfn walk → RunFits (swapped won walk (entry_index gfn walk.level) new_ v)
-exchanged_run gfn v new_ walk true over = gone_run gfn new_ walk (linked_page (kind_of walk.level new_)) over
-exchanged_run gfn v new_ walk false over = gone_run gfn v walk None over
+exchanged_span : (gfn v new_ : ℕ) (walk : TableWalk) (won : Bool) → IsOver gfn walk → SpanFits (swapped won walk (entry_index gfn walk.level) new_ v)
+exchanged_span gfn v new_ walk true over = gone_span gfn new_ walk (linked_page (kind_of walk.level new_)) over
+exchanged_span gfn v new_ walk false over = gone_span gfn v walk None over
 
 -- who goes in or out of the guest or a section has come to no table
 begun_counts : (z : Sizes) (stay : Stay) (t : Topics) → CountersPart z t → CountersPart z (begun stay t)
@@ -212,10 +212,10 @@ counters_behind z v a note part.Begin = λ S I. all_count z v a _ I (begun_count
 counters_behind z v a note part.End = λ S I. all_count z v a _ I (begun_counts z Outside (v.hand a).topics (I.counters a S.there))
 counters_behind z v a note part.Unshare = λ S I.
     all_count z v a _ I (walked_counts z (v.hand a).topics _ refl refl refl (refl, refl, refl, refl) refl refl
-    (let_go_run (v.hand a).topics.stay (v.hand a).topics (I.counters a S.there).run) (I.counters a S.there))
+    (let_go_span (v.hand a).topics.stay (v.hand a).topics (I.counters a S.there).span) (I.counters a S.there))
 counters_behind z v a note part.Release = λ S I.
     all_count z v a _ I (walked_counts z (v.hand a).topics _ refl refl refl (refl, refl, refl, refl) refl refl
-    (let_go_run (v.hand a).topics.stay (v.hand a).topics (I.counters a S.there).run) (I.counters a S.there))
+    (let_go_span (v.hand a).topics.stay (v.hand a).topics (I.counters a S.there).span) (I.counters a S.there))
 counters_behind z v a note part.Seq = λ S I.
     let t : Topics = (v.hand a).topics in
     let C = I.counters a S.there in
@@ -255,7 +255,7 @@ counters_behind z v a note (part.Await index) = λ S I.
     let C = I.counters a S.there in all_count z v a _ I (numbered_counts z (v.hand a).topics _ refl refl refl refl refl (C.counted, C.seq, C.range) C.asked C)
 counters_behind z v a note (part.Zap gfn) = λ S I.
     all_count z v a _ I (walked_counts z (v.hand a).topics _ refl refl refl (refl, refl, refl, refl) refl refl
-    (gone_run gfn 0 (v.hand a).topics.walk None S.needs.saw.over) (I.counters a S.there))
+    (gone_span gfn 0 (v.hand a).topics.walk None S.needs.saw.over) (I.counters a S.there))
 counters_behind z v a note part.Publish = λ S I.
     let C = I.counters a S.there in
     all_count z v a _ I (other_counts z (v.hand a).topics _ C.slots C.claim C.seen (omega arith) refl refl refl C.frames C)
@@ -277,18 +277,18 @@ counters_behind z v a note part.GiveFrame = λ S I. framed_counts z v a _ _ I S.
     (given_frames z (v.hand a).topics.frames (I.counters a S.there).frames)
 counters_behind z v a note part.Root = λ S I.
     all_count z v a _ I (walked_counts z (v.hand a).topics _ refl refl refl (refl, refl, refl, refl) refl refl
-    (root_run (may_walk (v.hand a).topics.stay (v.hand a).topics.hold) (v.hand a).topics.walk (v.words area.Root 0)) (I.counters a S.there))
+    (root_span (may_walk (v.hand a).topics.stay (v.hand a).topics.hold) (v.hand a).topics.walk (v.words area.Root 0)) (I.counters a S.there))
 counters_behind z v a note (part.Walk gfn) = λ S I.
     let walk : TableWalk = (v.hand a).topics.walk in
     let found : ℕ = v.words area.Pool (pool_index (table_page walk) (entry_index gfn walk.level)) in
     all_count z v a _ I (walked_counts z (v.hand a).topics _ refl refl refl (refl, refl, refl, refl) refl refl
-    (gone_run gfn found walk (linked_page (kind_of walk.level found)) S.needs) (I.counters a S.there))
+    (gone_span gfn found walk (linked_page (kind_of walk.level found)) S.needs) (I.counters a S.there))
 counters_behind z v a note (part.Link gfn) = λ S I.
     all_count z v a _ I (walked_counts z (v.hand a).topics _ refl refl refl (refl, refl, refl, refl) refl refl
-    (exchanged_run gfn _ (link_written (v.hand a).topics) (v.hand a).topics.walk _ S.needs.0.saw.over) (I.counters a S.there))
+    (exchanged_span gfn _ (link_written (v.hand a).topics) (v.hand a).topics.walk _ S.needs.0.saw.over) (I.counters a S.there))
 counters_behind z v a note (part.Leaf gfn) = λ S I.
     all_count z v a _ I (walked_counts z (v.hand a).topics _ refl refl refl (refl, refl, refl, refl) refl refl
-    (exchanged_run gfn _ (leaf_written (v.hand a).topics) (v.hand a).topics.walk _ S.needs.0.saw.over) (I.counters a S.there))
+    (exchanged_span gfn _ (leaf_written (v.hand a).topics) (v.hand a).topics.walk _ S.needs.0.saw.over) (I.counters a S.there))
 counters_behind z v a note _ = λ S I.
     all_count z v a _ I (same_counts z (v.hand a).topics _ refl refl refl (refl, refl, refl, refl) refl refl refl (I.counters a S.there))
 

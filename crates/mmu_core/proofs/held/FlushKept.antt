@@ -57,7 +57,7 @@ pub use Rattle.mmu_core.proofs.held.FlushSteps.{FlushAt}
 
 -- ---- Behind a task.
 
--- the flushes' part after a task, where the hand of the actor at place a is this one, but for what it holds and has cached
+-- the flushes' part after a task, where the hand of actor a is this one, but for what it holds and has cached
 abbrev FlushesBehind : Sizes → View → ℕ → Held → Task → Topics → Buffer Translation → Type 0
 FlushesBehind z v a g task topics cached =
     FlushPart (actors_of z) z.vcpus (words_after task v.words area.State) (upd v.hand a (record g { topics = topics; cached = cached }))
@@ -119,11 +119,11 @@ module _ (z : Sizes) (v : View) (a : ℕ) (I : TopicsInvariant z v) where
   entry_clean gfn there over i lt opened asked =
       let at_walk = (I.held a there).table over.there in
       let here : I.spot (table_page walk) ≡ at walk.level walk.prefix = (spot_of I.up I.spot (table_page walk) (at walk.level walk.prefix) at_walk).1 in
-      let run = over.run in
+      let span = over.span in
       subst (λ (p : Position). IsNoLeafIn (v.hand i).topics.invalidations.own p.level gfn (entry gfn)) here
       (I.zapped i lt opened (omega (arith, asked)) (table_page walk) (entry_index gfn walk.level) gfn
       (all_reached I.tree (table_page walk) (at walk.level walk.prefix) at_walk)
-      (omega arith, subst (λ (p : Position). gfn / level_span p.level ≡ p.prefix * 512 + entry_index gfn walk.level) (sym here) (omega (arith, run))))
+      (omega arith, subst (λ (p : Position). gfn / level_span p.level ≡ p.prefix * 512 + entry_index gfn walk.level) (sym here) (omega (arith, span))))
 
   -- So where a walk finds a leaf, and caches it, this is of none of these frames.
   pub walk_keeps : (gfn : ℕ) (allowed : Bool) → IsPart z v a (part.Walk gfn)

@@ -40,13 +40,13 @@ abbrev pub FlushFor : Topics → ℕ → ℕ → Stay → List Translation → T
 FlushFor t v state stay cached =
     t.invalidations.opened ≡ true → IsFlushed t.invalidations.own t.flush.asked t.flush.awaited v state stay cached
 
--- Where the actor at place a was asked for the flush of an open invalidation, and has cached nothing of its frames, it has nothing of them cached then.
+-- Where actor a was asked for the flush of an open invalidation, and has cached nothing of its frames, it has nothing of them cached then.
 abbrev pub KeepsClean : Sizes → View → ℕ → Buffer Translation → Type 0
 KeepsClean z v a c =
     (i : ℕ) → i < actors_of z → (v.hand i).topics.invalidations.opened ≡ true → a < (v.hand i).topics.flush.asked
     → IsClean (v.hand i).topics.invalidations.own (v.hand a).cached.items → IsClean (v.hand i).topics.invalidations.own c.items
 
--- It is said of each, where the actor at place a has this hand now and the state words are these, if it is said of this actor and of each other virtual
+-- It is said of each, where actor a has this hand now and the state words are these, if it is said of this actor and of each other virtual
 -- processor, for each invalidation as it was; and then for this actor's own one as it is.
 each_flushed : (z : Sizes) (v : View) (a : ℕ) (states : ℕ → ℕ) (g : Held)
     → ((i : ℕ) → i < actors_of z → a < z.vcpus → FlushFor (v.hand i).topics a (states a) g.topics.stay g.cached.items)

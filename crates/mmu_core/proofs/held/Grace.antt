@@ -73,7 +73,7 @@ outside_is : (stay : Stay) → not (is_outside stay) ≡ false → stay ≡ Outs
 outside_is Outside e = refl
 outside_is _ e = absurd (cc e)
 
--- What one step makes of a watch: it is the look that saw the actor at place i outside, or this actor was watched before, and no watch begins.
+-- What one step makes of a watch: it is the look that saw actor i outside, or this actor was watched before, and no watch begins.
 abbrev OneLook : Sizes → World Held → Step Kind → ℕ → ℕ → Type 0
 OneLook z w s a i = i ≢ a → i < (topics_in (effect mmu w s) a).watched
     → (IsLook z a i s × ((topics_in w i).stay ≡ Outside)) ⊎ ((i < (topics_in w a).watched) × (IsLook z a (next_watched a 0) s → ⊥))

@@ -9,6 +9,7 @@ use Rattle.core_views.specs.Sizes.{actors_of}
 use Rattle.spte_words.specs.declared.area.Area.TheVariants as area
 use Rattle.part_steps.specs.declared.part_step.PartStep.{PartStep}
 use Rattle.part_steps.specs.declared.part_step.PartStep.TheVariants as part
+use Rattle.part_steps.specs.PartTasks.{page_owned}
 use Rattle.part_steps.specs.PartTopics.{sequenced}
 use Rattle.part_steps.specs.StayTopics.{is_loose, is_section, may_search}
 use Rattle.mmu_core.specs.invariant.SearchPart.{HeldSlotsPart, IsOnFrame}
@@ -20,7 +21,7 @@ use Rattle.mmu_core.proofs.held.Invalidating.{NoneInvalidating, invalidating_aft
 use Rattle.mmu_core.proofs.held.OldSets.{held_words_stay}
 use Rattle.mmu_core.proofs.held.SetsKept.{begun_set, let_go_set}
 use Rattle.mmu_core.proofs.machine.Columns.{at_upd}
-use Rattle.mmu_core.proofs.machine.PartStepping.{IsPart}
+use Rattle.mmu_core.proofs.machine.PartStepping.{IsFlushedOut, IsPart}
 use Rattle.mmu_core.proofs.slots.LiveStays.{SetStays, live_in_stays, published_stays, words_live}
 use Rattle.mmu_core.proofs.words.PartTopics.{behind_step, part_behind}
 use Rattle.mmu_core.proofs.words.PartWords.{slots_are, slots_behind}
@@ -85,13 +86,19 @@ same_slots z v a note step other seq same S I i set gfn id slot lt held taken no
 -- Another slot set is published: what the one before it says of a frame that nobody is invalidating, it says too.
 published_slots : (z : Sizes) (v : View) (a note : ℕ) → SlotsAfter z v a note part.Publish
 published_slots z v a note S I i set gfn id slot lt held taken none live has =
-    S.replaces.stay id slot
+    stays (S.replaces.stay id slot
     (at_upd (λ j (k : Held). j < actors_of z → k.topics.search.set ≡ Some set → k.topics.invalidations.snapshot ≡ Some (v.words area.Seq 0)
     → IsLiveIn (v.words area.Pool) (v.words area.Slots 0) id slot) v.hand a _ (λ there held taken. absurd (cc held))
-    (λ j ne there held taken. I.held_slots j set gfn id slot there held taken before live has) i lt held taken)
+    (λ j ne there held taken. I.held_slots j set gfn id slot there held taken before live has) i lt held taken))
   where
     before : NoneInvalidating z v (IsOnFrame gfn)
     before j low U = none j low (invalidating_after z v a note (IsOnFrame gfn) part.Publish S refl j U)
+
+    -- the frame of a slot that is flushed out is one that the publisher is invalidating
+    stays : IsLiveIn (v.words area.Pool) (page_owned (v.hand a).topics.owned) id slot ⊎ IsFlushedOut z.vcpus slot (v.hand a).topics
+        → IsLiveIn (v.words area.Pool) (page_owned (v.hand a).topics.owned) id slot
+    stays (inl same) = same
+    stays (inr F) = absurd (before a S.there (record { opened = F.opened; unraised = F.unraised; of_it = F.within gfn has }))
 
 raised_slots : (z : Sizes) (v : View) (a note seq : ℕ) → SlotsAfter z v a note (part.SetSeq seq)
 raised_slots z v a note seq S I i set gfn id slot lt held taken none live has = absurd (none_is_raised z v a note seq S I i seq lt taken refl)

@@ -16,7 +16,7 @@ use Rattle.part_steps.specs.declared.part_step.PartStep.{PartStep}
 use Rattle.part_steps.specs.declared.part_step.PartStep.TheVariants as part
 use Rattle.part_steps.specs.FrameTopics.{is_uncopied}
 use Rattle.part_steps.specs.InvalidationHoldings.{MayChange}
-use Rattle.mmu_core.specs.invariant.Invariant.{Invariant, KnowsPart, LeavesPart, UnderWay}
+use Rattle.mmu_core.specs.invariant.Invariant.{Invariant, KnowsPart, RetiresPart, UnderWay}
 use Rattle.mmu_core.specs.invariant.TopicsInvariant.{TopicsInvariant}
 use Rattle.mmu_core.specs.lines.Forms.{part_at}
 use Rattle.mmu_core.specs.lines.HostKnows.{HasFlushed, HostKnows, LooksAt}
@@ -58,7 +58,8 @@ host_copies (host.End p) page change h K opened = inl K.2.uncopied
 host_copies host.Watch page change h K opened = let closed = K.2.closed in absurd (cc (closed, opened))
 host_copies host.Free page change h K opened = let closed = K.2.closed in absurd (cc (closed, opened))
 
-pub copies_at : (p : Place) (command : Command) (h : Held) → KnowsPart p command h → LeavesPart p h.topics → h.topics.invalidations.opened ≡ true → CopiesAt p h
+pub copies_at : (p : Place) (command : Command) (h : Held) → KnowsPart p command h → RetiresPart p h.topics → h.topics.invalidations.opened ≡ true
+    → CopiesAt p h
 copies_at (place.Host p) (ChangeHost page change) h K L opened = host_copies p page change h K opened
 copies_at (place.Host p) _ h K L opened = absurd K
 copies_at _ command h K L opened = inl (ap is_uncopied (L.frames refl))

@@ -8,7 +8,7 @@ use Rattle.mmu_core.specs.invariant.HeldPart.{HeldStill, HoldsOld}
 use Rattle.mmu_core.specs.machine.View.{upd}
 use Rattle.mmu_core.proofs.machine.Columns.{at_upd, same_or, upd_other, upd_same}
 
--- The actor at place a, of n, gets this hand. `holds` says what each actor holds, and `retires` what each has taken out of use.
+-- Actor a, of n, gets this hand. `holds` says what each actor holds, and `retires` what each has taken out of use.
 module _ (holds retires : Topics → Option ℕ) (n : ℕ) (hand : ℕ → Held) (a : ℕ) (h : Held) where
   abbrev before : ℕ → Topics
   before i = (hand i).topics
@@ -16,7 +16,7 @@ module _ (holds retires : Topics → Option ℕ) (n : ℕ) (hand : ℕ → Held)
   abbrev after : ℕ → Topics
   after i = (upd hand a h i).topics
 
-  -- An actor with these topics has taken k out of use, and hasn't watched the one at place i since.
+  -- An actor with these topics has taken k out of use, and hasn't watched actor i since.
   abbrev Retires : ℕ → ℕ → Topics → Type 0
   Retires i k t = (retires t ≡ Some k) × (t.watched ≤ i)
 
@@ -32,7 +32,7 @@ module _ (holds retires : Topics → Option ℕ) (n : ℕ) (hand : ℕ → Held)
   abbrev pub UseStays : (ℕ → Type 0) → (ℕ → Type 0) → Type 0
   UseStays Current Now = (i k : ℕ) → i ≢ a → i < n → holds (before i) ≡ Some k → Current k → Now k ⊎ HoldsOld retires n after i k
 
-  -- What the actor had taken out of use before is in use; or it has it out of use still, and hasn't watched the one at place i, which is in a section, since.
+  -- What the actor had taken out of use before is in use; or it has it out of use still, and hasn't watched actor i, which is in a section, since.
   abbrev pub OldStays : (ℕ → Type 0) → Type 0
   OldStays Now =
       (i k : ℕ) → i ≢ a → i < n → (before i).stay ≡ Section → retires (before a) ≡ Some k → (before a).watched ≤ i → Now k ⊎ Retires i k h.topics

@@ -74,7 +74,7 @@ module _ (z : Sizes) (v : View) (a : ℕ) (I : TopicsInvariant z v) (there : a <
   searched_published : (set : ℕ) → t.stay ≡ Outside → t.search.set ≡ Some set → set ≡ v.words area.Slots 0
   searched_published set out held = by (I.sets a set there held)
     where
-      by : (set ≡ v.words area.Slots 0) ⊎ HoldsOld (λ t. t.leaving) (actors_of z) (λ j. (v.hand j).topics) a set → set ≡ v.words area.Slots 0
+      by : (set ≡ v.words area.Slots 0) ⊎ HoldsOld (λ t. t.retired) (actors_of z) (λ j. (v.hand j).topics) a set → set ≡ v.words area.Slots 0
       by (inl e) = e
       by (inr H) = absurd (let inside = H.section in cc (out, inside))
 

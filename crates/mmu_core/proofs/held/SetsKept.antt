@@ -1,4 +1,4 @@
--- Each step of a part keeps what is said of the slot sets that are held: the published one, and older ones that are leaving.
+-- Each step of a part keeps what is said of the slot sets that are held: the published one, and older ones that are retired.
 use Rattle.std.proofs.Common.{◌≡◌, inl, inr, ℕ, refl, sym, subst, ap, ◌∙◌, arith}
 use Rattle.std.specs.Prelude.{Bool, true, false, if◌then◌else◌, Option, Some, None, is_some}
 use Rattle.core_views.specs.declared.sizes.Sizes.{Sizes}
@@ -14,7 +14,7 @@ use Rattle.mmu_core.specs.invariant.HeldPart.{SetsPart}
 use Rattle.part_steps.specs.PartTasks.{page_owned}
 use Rattle.mmu_core.specs.invariant.TopicsInvariant.{TopicsInvariant}
 use Rattle.part_steps.specs.StayTopics.{may_search, is_loose, is_section, kept_search}
-use Rattle.part_steps.specs.PageTopics.{still_leaving}
+use Rattle.part_steps.specs.PageTopics.{still_retired}
 use Rattle.part_steps.specs.ControlTopics.{at_set}
 use Rattle.mmu_core.specs.machine.View.{View, part_stepped, upd}
 use Rattle.mmu_core.proofs.machine.PartStepping.{IsPart}
@@ -42,9 +42,9 @@ pub begun_set : (b : Bool) (s : SlotSearch) (slots k : ℕ) → (at_set b s slot
 begun_set true s slots k e = cc
 begun_set false s slots k e = absurd (cc e)
 
-still_left : (owned : Option OwnedPage) (leaving : Option ℕ) → is_some owned ≡ true → still_leaving owned leaving ≡ leaving
-still_left None leaving some = absurd (cc some)
-still_left (Some o) leaving some = refl
+still_left : (owned : Option OwnedPage) (retired : Option ℕ) → is_some owned ≡ true → still_retired owned retired ≡ retired
+still_left None retired some = absurd (cc some)
+still_left (Some o) retired some = refl
 
 abbrev SetsBehind : Sizes → View → ℕ → ℕ → PartStep → Type 0
 SetsBehind z v a note step =
@@ -54,15 +54,15 @@ abbrev set_held : Topics → Option ℕ
 set_held t = t.search.set
 
 abbrev set_left : Topics → Option ℕ
-set_left t = t.leaving
+set_left t = t.retired
 
 -- The step publishes nothing.
 module _ (z : Sizes) (v : View) (a : ℕ) (h : Held) (I : TopicsInvariant z v) where
   abbrev IsPublished : ℕ → Type 0
   IsPublished k = k ≡ v.words area.Slots 0
 
-  -- And it moves nothing that leaves or is watched.
-  sets_same : OwnStays set_held set_left (actors_of z) v.hand a h IsPublished → h.topics.leaving ≡ (v.hand a).topics.leaving
+  -- And it moves nothing that is retired or watched.
+  sets_same : OwnStays set_held set_left (actors_of z) v.hand a h IsPublished → h.topics.retired ≡ (v.hand a).topics.retired
       → h.topics.watched ≡ (v.hand a).topics.watched → SetsPart (actors_of z) (v.words area.Slots 0) (λ i. (upd v.hand a h i).topics)
   sets_same own leaves watched = held_quiet set_held set_left (actors_of z) v.hand a h IsPublished own leaves watched I.sets
 
@@ -71,14 +71,14 @@ module _ (z : Sizes) (v : View) (a : ℕ) (h : Held) (I : TopicsInvariant z v) w
       → OldStays set_held set_left (actors_of z) v.hand a h IsPublished → SetsPart (actors_of z) (v.words area.Slots 0) (λ i. (upd v.hand a h i).topics)
   sets_stay same stays old = held_same set_held set_left (actors_of z) v.hand a h IsPublished (λ k e. inr (sym same ∙ e, stays)) old I.sets
 
--- Another slot set is published: what others hold of the one before it leaves for the actor.
+-- Another slot set is published: what others hold of the one before it is retired by the actor.
 publish_sets : (z : Sizes) (v : View) (a note : ℕ) → SetsBehind z v a note part.Publish
 publish_sets z v a note S I =
     held_still set_held set_left (actors_of z) v.hand a _ (λ k. k ≡ v.words area.Slots 0) (λ k. k ≡ page_owned (v.hand a).topics.owned)
     (λ k e. absurd (cc e)) (λ k e. absurd (cc e))
     (λ i k ne lt held published. inr (retired_now set_held set_left (actors_of z) v.hand a _ i k S.there ne
     (holder_in_section z v a i k S.there lt ne I S.needs.alone held) (ap Some (sym published), omega arith)))
-    (λ i k ne lt section left unwatched. absurd (let none = S.needs.none_leaves in cc (none, left))) I.sets
+    (λ i k ne lt section left unwatched. absurd (let none = S.needs.none_retired in cc (none, left))) I.sets
 
 sets_behind : (z : Sizes) (v : View) (a note : ℕ) (step : PartStep) → SetsBehind z v a note step
 sets_behind z v a note part.Enter = λ S I. sets_same z v a _ I (λ k e. absurd (cc e)) refl refl
@@ -96,7 +96,7 @@ sets_behind z v a note part.Slots =
     (λ k e. inl (begun_set (may_search (v.hand a).topics.stay (v.hand a).topics.hold) (v.hand a).topics.search (v.words area.Slots 0) k e)) refl refl
 sets_behind z v a note part.Slot =
     λ S I. sets_same z v a _ I (λ k e. inr (sym (set_kept (is_some (v.hand a).topics.search.set) (v.hand a).topics.search _) ∙ e, refl)) refl refl
-sets_behind z v a note part.Give = λ S I. sets_same z v a _ I (λ k e. inr (e, refl)) (still_left (v.hand a).topics.owned (v.hand a).topics.leaving S.needs) refl
+sets_behind z v a note part.Give = λ S I. sets_same z v a _ I (λ k e. inr (e, refl)) (still_left (v.hand a).topics.owned (v.hand a).topics.retired S.needs) refl
 sets_behind z v a note part.GiveOld =
     λ S I. sets_stay z v a _ I refl refl
     (λ i k ne lt section left unwatched. absurd (all_passed z (v.hand a) a i S.sizes S.own_place S.needs.watched lt ne unwatched))

@@ -58,7 +58,7 @@ use Rattle.mmu_core.proofs.words.PartTopics.{is_there, part_topics_is}
 
 -- ---- Behind a task.
 
--- what may be used after a task, where the hand of the actor at place a is this one, but for what it holds and has cached
+-- what may be used after a task, where the hand of actor a is this one, but for what it holds and has cached
 abbrev UsableBehind : Sizes → View → ℕ → Held → Task → Topics → Buffer Translation → Type 0
 UsableBehind z v a g task topics cached =
     UsableAt z (record { words = words_after task v.words; hand = upd v.hand a (record g { topics = topics; cached = cached }) })

@@ -1,6 +1,6 @@
 -- Each step of a part keeps it that what a virtual processor may use of what it has cached agrees with slots and host.
 use Rattle.std.proofs.Common.{◌≡◌, ◌⊎◌, inl, inr, ◌<◌, ◌≤◌, ℕ, List, [], refl, sym, subst, ap, ◌∙◌, arith}
-use Rattle.std.specs.Prelude.{All, Bool, true, false, ◌≢◌, not, if◌then◌else◌}
+use Rattle.std.specs.Prelude.{All, Bool, true, false, ◌≢◌, get_or, not, if◌then◌else◌}
 use Rattle.std.proofs.lemmas.List.Elements.{All-nil}
 use Rattle.circular_buffer.specs.Buffer.{Buffer, buffer}
 use Rattle.core_views.specs.declared.cache.Translation.{Translation}
@@ -9,23 +9,26 @@ use Rattle.core_views.specs.declared.kind.StepKind.{StepKind}
 use Rattle.core_views.specs.declared.kind.StepKind.TheVariants as kind
 use Rattle.core_views.specs.declared.sizes.Sizes.{Sizes}
 use Rattle.core_views.specs.declared.topics.Invalidated.{Invalidated}
+use Rattle.core_views.specs.declared.trace.Slot.{Slot as SlotOf}
 use Rattle.core_views.specs.declared.topics.Stay.{Stay}
 use Rattle.core_views.specs.declared.topics.Stay.TheVariants.{Outside, Section}
 use Rattle.core_views.specs.declared.topics.Topics.{Topics}
 use Rattle.core_views.specs.Held.{Held}
 use Rattle.core_views.specs.Kinds.{kind_named}
 use Rattle.core_views.specs.Sizes.{actors_of}
+use Rattle.core_views.specs.Slots.{contains}
 use Rattle.spte_words.specs.declared.area.Area.{Area}
 use Rattle.spte_words.specs.declared.area.Area.TheVariants as area
 use Rattle.part_steps.specs.declared.part_step.PartStep.{PartStep}
 use Rattle.part_steps.specs.declared.part_step.PartStep.TheVariants as part
 use Rattle.part_steps.specs.declared.task.Task.{Task}
-use Rattle.part_steps.specs.PartTasks.{page_looked, part_task, word_looked}
+use Rattle.part_steps.specs.PartTasks.{page_looked, page_owned, part_task, word_looked}
 use Rattle.part_steps.specs.PartTopics.{part_topics}
 use Rattle.part_steps.specs.SlotWords.{page_of}
 use Rattle.part_steps.specs.Tasks.{kind_of_task}
 use Rattle.mmu_core.specs.invariant.CachedPart.{AgreePart, IsLeafFor}
 use Rattle.mmu_core.specs.invariant.InvalidatedPart.{SlotGives, IsClean, IsIn, IsOfPage, UsablePart, may_use}
+use Rattle.mmu_core.specs.invariant.SlotSetPart.{IsLiveIn}
 use Rattle.mmu_core.specs.invariant.TopicsInvariant.{TopicsInvariant}
 use Rattle.mmu_core.specs.lines.Cached.{asks_flush, flushed, flushed_by}
 use Rattle.mmu_core.specs.machine.View.{View, answer_in, part_stepped, upd, words_after}
@@ -33,10 +36,9 @@ use Rattle.mmu_core.proofs.held.FlushChanges.{begun_asks, cached_more, ended_ask
 use Rattle.mmu_core.proofs.held.FlushSteps.{FlushAt, FlushFor, KeepsClean, asked_there}
 use Rattle.mmu_core.proofs.held.FreshFrames.{behind_it, leaf_brought, leaf_same}
 use Rattle.mmu_core.proofs.machine.Columns.{at_upd, same_or, upd_other, upd_same}
-use Rattle.mmu_core.proofs.machine.PartStepping.{IsPart}
-use Rattle.mmu_core.proofs.slots.LiveStay.{StayLive, translations_stay}
+use Rattle.mmu_core.proofs.machine.PartStepping.{IsFlushedOut, IsPart}
+use Rattle.mmu_core.proofs.slots.LiveStay.{translations_stay}
 use Rattle.mmu_core.proofs.slots.LiveStays.{live_in_stays, part_live_stays}
-use Rattle.mmu_core.proofs.words.PartWords.{slots_are, slots_behind}
 
 -- what may be used of what is cached, in a view
 abbrev pub UsableAt : Sizes → View → Type 0
@@ -65,36 +67,54 @@ agree_elsewhere : (pool host : ℕ → ℕ) (set page x : ℕ) (own_ : Invalidat
 agree_elsewhere pool host set page x own_ cached scope same clean agrees k d lt =
     leaf_elsewhere pool host set page x own_ _ _ scope same (clean k d lt) (agrees k d lt)
 
--- What was live is live, and the same, in the slot set that is published after the step.
-live_behind : (z : Sizes) (v : View) (a : ℕ) (step : PartStep) (note : ℕ) → IsPart z v a step → TopicsInvariant z v
-    → StayLive (v.words area.Pool) (v.words area.Slots 0) ((part_stepped a step note v).words area.Pool)
-    (slots_behind step (v.hand a).topics (v.words area.Slots 0))
-live_behind z v a part.Publish note S I = S.replaces.stay
-live_behind z v a step note S I = λ id slot live.
-    live_in_stays (v.words area.Slots 0) (v.words area.Pool) ((part_stepped a step note v).words area.Pool) id slot (part_live_stays z v a step note S I) live
+-- Another slot set is published: a slot that goes has none of what is cached.
+agree_published : (pool host : ℕ → ℕ) (vcpus set page : ℕ) (t : Topics) (cached : List Translation)
+    → ((id : ℕ) (slot : SlotOf) → IsLiveIn pool set id slot → IsLiveIn pool page id slot ⊎ IsFlushedOut vcpus slot t)
+    → (t.invalidations.opened ≡ true → vcpus ≤ t.flush.asked → vcpus ≤ t.flush.awaited → IsClean t.invalidations.own cached)
+    → AgreePart pool host set cached → AgreePart pool host page cached
+agree_published pool host vcpus set page t cached stay clean agrees k d lt =
+    let L = agrees k d lt in record {
+      id = L.id;
+      slot = L.slot;
+      live = by L.slot (stay L.id L.slot L.live) L.holds;
+      holds = L.holds;
+      is = L.is;
+      present = L.present;
+    }
+  where
+    by : {id : ℕ} (slot : SlotOf) → IsLiveIn pool page id slot ⊎ IsFlushedOut vcpus slot t → contains (get_or cached k d).gfn slot ≡ true
+        → IsLiveIn pool page id slot
+    by slot (inl same) holds = same
+    by slot (inr F) holds = absurd (clean F.opened F.asked F.awaited k d lt (F.within _ holds))
 
--- Where the step changes a host word, nothing cached is of the frames of this invalidation.
-abbrev CleanFor : PartStep → Invalidated → List Translation → Type 0
-CleanFor (part.Change new_) own_ cached = IsClean own_ cached
-CleanFor _ own_ cached = Unit {0}
+-- Where the step changes a host word, nothing cached is of the frames of this invalidation; nor where it publishes a slot set, if the invalidation is flushed.
+abbrev CleanFor : PartStep → ℕ → Topics → List Translation → Type 0
+CleanFor (part.Change new_) vcpus t cached = IsClean t.invalidations.own cached
+CleanFor part.Publish vcpus t cached =
+    t.invalidations.opened ≡ true → vcpus ≤ t.flush.asked → vcpus ≤ t.flush.awaited → IsClean t.invalidations.own cached
+CleanFor _ vcpus t cached = Unit {0}
 
 -- Then what agrees agrees after the step.
 agrees_behind : (z : Sizes) (v : View) (a : ℕ) (step : PartStep) (note : ℕ) (cached : List Translation) → IsPart z v a step → TopicsInvariant z v
-    → CleanFor step (v.hand a).topics.invalidations.own cached → Agrees v.words cached → Agrees (part_stepped a step note v).words cached
+    → CleanFor step z.vcpus (v.hand a).topics cached → Agrees v.words cached → Agrees (part_stepped a step note v).words cached
 agrees_behind z v a part.Bring note cached S I clean agrees = λ k d lt.
     leaf_brought (v.words area.Pool) (v.words area.Host) (v.words area.Slots 0) (page_looked (v.hand a).topics.host) (word_looked (v.hand a).topics.host) _ _
     S.needs.absent (agrees k d lt)
 agrees_behind z v a (part.Change new_) note cached S I clean agrees =
     agree_elsewhere (v.words area.Pool) (v.words area.Host) (v.words area.Slots 0) (page_looked (v.hand a).topics.host) _ (v.hand a).topics.invalidations.own
     cached (I.scopes a S.there S.needs.0.opened) S.needs.0.invalid clean agrees
+agrees_behind z v a part.Publish note cached S I clean agrees =
+    agree_published (v.words area.Pool) (v.words area.Host) z.vcpus (v.words area.Slots 0) (page_owned (v.hand a).topics.owned) (v.hand a).topics cached
+    S.replaces.stay clean agrees
 agrees_behind z v a step note cached S I clean agrees =
-    subst (λ s. AgreePart ((part_stepped a step note v).words area.Pool) (v.words area.Host) s cached) (sym (slots_are v a step note))
-    (translations_stay (v.words area.Pool) (v.words area.Slots 0) ((part_stepped a step note v).words area.Pool)
-    (slots_behind step (v.hand a).topics (v.words area.Slots 0)) (live_behind z v a step note S I) (v.words area.Host) cached agrees)
+    translations_stay (v.words area.Pool) (v.words area.Slots 0) ((part_stepped a step note v).words area.Pool) (v.words area.Slots 0)
+    (λ id slot live.
+    live_in_stays (v.words area.Slots 0) (v.words area.Pool) ((part_stepped a step note v).words area.Pool) id slot (part_live_stays z v a step note S I) live)
+    (v.words area.Host) cached agrees
 
 -- ---- Who has something cached.
 
--- It is said of each, where the actor at place a has this hand now and the words are these, if it is said of this actor and of each other virtual
+-- It is said of each, where actor a has this hand now and the words are these, if it is said of this actor and of each other virtual
 -- processor.
 each_usable : (z : Sizes) (v : View) (a : ℕ) (words : Area → ℕ → ℕ) (g : Held)
     → (a < z.vcpus → may_use (words area.State a) g.topics.stay ≡ true → Agrees words g.cached.items)
@@ -114,7 +134,7 @@ none_usable z v none = record {
   others = λ i lt high. none i lt;
 }
 
--- What the actor at place a has cached before a flush: of the frames of an open invalidation, of which it was asked for a flush, there is nothing if there was
+-- What actor a has cached before a flush: of the frames of an open invalidation, of which it was asked for a flush, there is nothing if there was
 -- nothing; it agrees where what is cached may be used; and there is none of it, where the actor is no virtual processor.
 pub record Caches (z : Sizes) (v : View) (a : ℕ) (c : Buffer Translation) : Type 0 where
   pub keeps : KeepsClean z v a c
@@ -168,14 +188,15 @@ module _ (z : Sizes) (v : View) (a note : ℕ) (c : Buffer Translation) (g : Hel
 
   -- Nothing of the frames of the actor's invalidation is cached, where its page's host word changes.
   clean_for : {cached : List Translation} (step : PartStep) (k : ℕ) (stay : Stay) → IsPart z v a step → k < z.vcpus
-      → FlushFor h.topics k (before k) stay cached → may_use (before k) stay ≡ true → CleanFor step h.topics.invalidations.own cached
+      → FlushFor h.topics k (before k) stay cached → may_use (before k) stay ≡ true → CleanFor step z.vcpus h.topics cached
   clean_for (part.Change new_) k stay S low F may =
       let sizes : h.state.sizes.vcpus ≡ z.vcpus = ap (λ (y : Sizes). y.vcpus) S.sizes in
       (F S.needs.0.opened).awaits (omega (arith, low, sizes, S.needs.0.asked)) (omega (arith, low, sizes, S.needs.0.awaited)) may
+  clean_for part.Publish k stay S low F may = λ opened asked awaited. (F opened).awaits (omega (arith, low, asked)) (omega (arith, low, awaited)) may
   clean_for _ k stay S low F may = tt
 
   agrees_after : (step : PartStep) (kept : List Translation) → IsPart z v a step → TopicsInvariant z v
-      → CleanFor step h.topics.invalidations.own kept → Agrees v.words kept → Agrees (words step) kept
+      → CleanFor step z.vcpus h.topics kept → Agrees v.words kept → Agrees (words step) kept
   agrees_after step kept S I clean agrees =
       subst (λ i. Agrees (words_after (part_task step i h.topics note) v.words) kept) S.own_place (agrees_behind z v a step note kept S I clean agrees)
 

@@ -16,7 +16,7 @@ use Rattle.core_views.specs.declared.trace.Line.{Line}
 use Rattle.core_views.specs.declared.place.SlotChangePlace.{SlotChangePlace}
 use Rattle.mmu_core.specs.lines.Forms.{outcome_at}
 use Rattle.mmu_core.specs.lines.SlotChangeSteps.{slot_change_part}
-use Rattle.mmu_core.specs.invariant.Invariant.{Invariant, KnowsPart, LeavesPart, OwnLines}
+use Rattle.mmu_core.specs.invariant.Invariant.{Invariant, KnowsPart, RetiresPart, OwnLines}
 use Rattle.mmu_core.specs.invariant.TopicsInvariant.{TopicsInvariant}
 use Rattle.mmu_core.specs.machine.View.{View, stepped, hand_after, answer_in}
 use Rattle.mmu_core.proofs.lines.AccessKept.{access_kept}
@@ -50,7 +50,7 @@ needs_at z v a line command (place.SlotChange p) S I P = ((step_knows z v a line
 
 -- What its actor knows after its step.
 own_known : (p : Place) (line : Line) (command : Command) (z : Sizes) (h : Held) (words : Area → ℕ → ℕ) → IsUnderWay p
-    → IsCommandFor z h.state.actor command → PartRests h → KnowsPart p command h → LeavesPart p h.topics → NeedsAt p command h
+    → IsCommandFor z h.state.actor command → PartRests h → KnowsPart p command h → RetiresPart p h.topics → NeedsAt p command h
     → KnowsAfter line command p h (answer_in (task_at p command h) words)
 own_known place.Between line command z h words begun may R K left N = absurd begun
 own_known (place.Access p) line (Access gfn word op) z h words begun may R K left N =
@@ -114,11 +114,11 @@ step_kept z v a line (ChangeHost page change) (place.Host p) small S I P =
     (knows_behind z v a line (ChangeHost page change) (place.Host p) S I P)
 step_kept z v a line _ _ small S I P = absurd S.holds
 
--- The hand for which a page leaves is the manager's.
-pub leaver_is_manager : (z : Sizes) (i k : ℕ) (h : Held) → OwnLines z i h → KnowsPart h.state.place h.state.line.command h → LeavesPart h.state.place h.topics
-    → h.topics.leaving ≡ Some k → h.state.actor ≡ Manager
-leaver_is_manager z i k h O K L leaves = by h.state.place h.state.line.command refl refl K L
+-- The hand that has retired a page is the manager's.
+pub manager_retires : (z : Sizes) (i k : ℕ) (h : Held) → OwnLines z i h → KnowsPart h.state.place h.state.line.command h → RetiresPart h.state.place h.topics
+    → h.topics.retired ≡ Some k → h.state.actor ≡ Manager
+manager_retires z i k h O K L leaves = by h.state.place h.state.line.command refl refl K L
   where
-    by : (p : Place) (c : Command) → h.state.place ≡ p → h.state.line.command ≡ c → KnowsPart p c h → LeavesPart p h.topics → h.state.actor ≡ Manager
+    by : (p : Place) (c : Command) → h.state.place ≡ p → h.state.line.command ≡ c → KnowsPart p c h → RetiresPart p h.topics → h.state.actor ≡ Manager
     by (place.SlotChange p) command at is K L = change_hand z i h p command O at is K.0
     by _ c at is K L = let none = L.leaves refl in absurd (cc (none, leaves))

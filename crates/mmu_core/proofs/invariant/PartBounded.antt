@@ -72,7 +72,7 @@ part_rests_at z v i I P there = record {
     set_there : (k : ℕ) → h.topics.search.set ≡ Some k → k < z.pool
     set_there k is = by (P.sets i k there is)
       where
-        by : (k ≡ v.words area.Slots 0) ⊎ HoldsOld (λ t. t.leaving) (actors_of z) (λ j. (v.hand j).topics) i k → k < z.pool
+        by : (k ≡ v.words area.Slots 0) ⊎ HoldsOld (λ t. t.retired) (actors_of z) (λ j. (v.hand j).topics) i k → k < z.pool
         by (inl e) = subst (λ n. n < z.pool) (sym e) (slots_there P.uses)
         by (inr O) = left_there P.uses O.by k O.there O.leaves
 

@@ -25,7 +25,7 @@ use Rattle.part_steps.specs.PartTasks.{own_index, part_task}
 use Rattle.part_steps.specs.PartSteps.{has_line, needs_line}
 use Rattle.mmu_core.proofs.slots.LiveStay.{StayLive, set_stays}
 use Rattle.mmu_core.proofs.slots.LiveStays.{SetStays, published_stays}
-use Rattle.mmu_core.proofs.held.OthersStay.{leaves_none, owned_stays}
+use Rattle.mmu_core.proofs.held.OthersStay.{retires_none, owned_stays}
 use Rattle.mmu_core.proofs.machine.PartStepping.{IsPart, idle_never, is_publish, idle_untold}
 use Rattle.mmu_core.proofs.words.PartWords.{role_stays, slots_are, slots_other_role, slots_same}
 use Rattle.mmu_core.proofs.slots.SlotsStay.{AllKnow, hand_moved, is_live_stays, is_live_was, record_stays}
@@ -75,7 +75,7 @@ part_keeps_lines z v a step note S free none I P knows =
     (own_lines z a h after.topics after.cached (flushed_room (kind_of_task h.state.sizes t) h.cached x) (I.lines a S.there))
     (idle_holds z (words area.Pool) set h.state.place h.state.line.command h after none (I.lines a S.there).under)
     (record {
-      leaves = λ may. leaves_none step h.state.sizes (own_index h) h.topics note x never ((I.leaves a S.there).leaves may);
+      leaves = λ may. retires_none step h.state.sizes (own_index h) h.topics note x never ((I.leaves a S.there).leaves may);
       opens = λ may. opens_none step h note x S.needs (idle_untold step free) ((I.leaves a S.there).opens may);
       frames = λ may. frame_stays step h note x S.needs (idle_untold step free) ∙ (I.leaves a S.there).frames may;
     }) cached (λ is. recorded h.slots (I.recorded a S.there is)) knows I)

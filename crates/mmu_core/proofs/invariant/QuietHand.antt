@@ -16,10 +16,10 @@ use Rattle.part_steps.specs.declared.part_step.PartStep.{PartStep}
 use Rattle.part_steps.specs.Tasks.{kind_of_task}
 use Rattle.part_steps.specs.TopicSteps.{topics_after}
 use Rattle.mmu_core.specs.declared.outcome.Outcome.{Outcome}
-use Rattle.mmu_core.specs.invariant.Invariant.{CachedPart, Holds, Invariant, LeavesPart, lines_done}
+use Rattle.mmu_core.specs.invariant.Invariant.{CachedPart, Holds, Invariant, RetiresPart, lines_done}
 use Rattle.mmu_core.specs.invariant.TopicsInvariant.{TopicsInvariant}
 use Rattle.mmu_core.specs.lines.Cached.{flushed}
-use Rattle.mmu_core.specs.lines.Forms.{RestsAt, caches_at, may_leave, outcome_at, part_at, records_at}
+use Rattle.mmu_core.specs.lines.Forms.{RestsAt, caches_at, may_retire, outcome_at, part_at, records_at}
 use Rattle.mmu_core.specs.lines.PartAt.{task_at}
 use Rattle.mmu_core.specs.machine.Outcomes.{answers_after, place_after}
 use Rattle.mmu_core.specs.machine.View.{View, answer_in, stepped, words_after}
@@ -50,16 +50,16 @@ still_cached z k c x each = flushed_kept (λ (t : Translation). (t.level ≡ 1) 
 abbrev pub done_by : Place → Command → Held → Line → ℕ → ℕ
 done_by p command h line x =
     let o : Outcome = outcome_at p command h x in
-    length (answers_after o line h.answers) + (if may_leave (place_after o) then 1 else 0)
+    length (answers_after o line h.answers) + (if may_retire (place_after o) then 1 else 0)
 
 -- Where a page may leave, it may after the step, or the line is answered.
 abbrev pub CountsMore : Place → Command → Held → Line → ℕ → Type 0
-CountsMore p command h line x = may_leave p ≡ true → length h.answers + 1 ≤ done_by p command h line x
+CountsMore p command h line x = may_retire p ≡ true → length h.answers + 1 ≤ done_by p command h line x
 
 -- So no fewer have than before.
 pub lines_more : (z : Sizes) (v : View) (a : ℕ) (line : Line) (command : Command) (p : Place) (x : ℕ) → IsStep z v a line command p
     → CountsMore p command (v.hand a) line x → lines_done (v.hand a) ≤ done_by p command (v.hand a) line x
-lines_more z v a line command p x S counts = by (may_leave p) refl
+lines_more z v a line command p x S counts = by (may_retire p) refl
   where
     h : Held
     h = v.hand a
@@ -68,8 +68,8 @@ lines_more z v a line command p x S counts = by (may_leave p) refl
     one_at_most true = omega arith
     one_at_most false = omega arith
 
-    by : (b : Bool) → may_leave p ≡ b → lines_done h ≤ done_by p command h line x
-    by true may = omega (arith, one_at_most (may_leave h.state.place), counts may)
+    by : (b : Bool) → may_retire p ≡ b → lines_done h ≤ done_by p command h line x
+    by true may = omega (arith, one_at_most (may_retire h.state.place), counts may)
     by false may = omega (arith, none_done z v a line command p S may, answers_more (outcome_at p command h x) line h.answers)
 
 -- ---- the step
@@ -80,7 +80,7 @@ pub record OfHand (z : Sizes) (v : View) (a : ℕ) (line : Line) (command : Comm
   pub same : records_at p command (v.hand a).slots ≡ (v.hand a).slots
   pub caches : caches_at p command (v.hand a) x ≡ (v.hand a).cached
   pub counts : CountsMore p command (v.hand a) line x
-  pub leaves : LeavesPart (place_after (outcome_at p command (v.hand a) x)) (behind_part (part_at p command (v.hand a)) (v.hand a).topics x)
+  pub leaves : RetiresPart (place_after (outcome_at p command (v.hand a) x)) (behind_part (part_at p command (v.hand a)) (v.hand a).topics x)
   pub holds : (cached : Buffer Translation)
       → Holds z (words_after (task_at p command (v.hand a)) v.words area.Pool) (v.words area.Slots 0)
       (place_after (outcome_at p command (v.hand a) x)) command
@@ -95,7 +95,7 @@ quiet_hand z v a line command p S I P makes R Q knows =
       same = Q.same;
       more = lines_more z v a line command p x S Q.counts;
       room = ap (λ (c : Buffer Translation). c.capacity) Q.caches;
-      leaves = subst (LeavesPart (place_after o)) (sym held) Q.leaves;
+      leaves = subst (RetiresPart (place_after o)) (sym held) Q.leaves;
       holds =
           subst (λ (t : Topics). Holds z (words area.Pool) set (place_after o) command (hand_with line command p h t cached x))
           (sym held) (Q.holds cached);

@@ -21,7 +21,7 @@ use Rattle.part_steps.specs.declared.task.Task.{Task}
 use Rattle.part_steps.specs.Tasks.{kind_of_task, map_of}
 use Rattle.mmu_core.specs.lines.Cached.{frame_used}
 use Rattle.mmu_core.specs.declared.outcome.Outcome.{Outcome}
-use Rattle.mmu_core.specs.invariant.Invariant.{CachedPart, Holds, Invariant, InvariantOf, IsSetBy, LeavesPart, OwnLines, RecordPart, lines_done}
+use Rattle.mmu_core.specs.invariant.Invariant.{CachedPart, Holds, Invariant, InvariantOf, IsSetBy, RetiresPart, OwnLines, RecordPart, lines_done}
 use Rattle.mmu_core.specs.invariant.TopicsInvariant.{TopicsInvariant}
 use Rattle.mmu_core.specs.lines.AccessSteps.{task_by, touch_of}
 use Rattle.mmu_core.specs.lines.Forms.{note_at, part_at, caches_at, outcome_at, records_at}
@@ -104,7 +104,7 @@ pub record OfStep (z : Sizes) (v : View) (a : ℕ) (command : Command) (p : Plac
   pub same : records_at p command (v.hand a).slots ≡ (v.hand a).slots
   pub more : lines_done (v.hand a) ≤ lines_done after
   pub room : (caches_at p command (v.hand a) x).capacity ≡ (v.hand a).cached.capacity
-  pub leaves : LeavesPart after.state.place after.topics
+  pub leaves : RetiresPart after.state.place after.topics
   pub holds : Holds z pool (v.words area.Slots 0) after.state.place command after
   pub cached : CachedPart z after.cached.items
 

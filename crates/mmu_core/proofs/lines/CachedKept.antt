@@ -64,9 +64,9 @@ pub leaf_found : (z : Sizes) (v : View) (a gfn : ℕ) → a < actors_of z → In
     (v.words area.Pool (pool_index (table_page (v.hand a).topics.walk) (entry_index gfn (v.hand a).topics.walk.level)))
 leaf_found z v a gfn lt I P over leaf =
     let walk : TableWalk = (v.hand a).topics.walk in
-    let run = over.run in
+    let span = over.span in
     leaf_for z v P (table_page walk) walk.level walk.prefix (entry_index gfn walk.level) gfn ((P.held a lt).table over.there) (omega arith)
-    (omega (arith, run)) leaf
+    (omega (arith, span)) leaf
 
 -- What a stay caches is a leaf.
 pub found_is_leaf : (k : SpteKind) (allowed : Bool) → is_found k allowed ≡ true → k ≡ entry_kind.Leaf

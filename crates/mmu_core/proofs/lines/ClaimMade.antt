@@ -196,11 +196,11 @@ claim_changes z Pages begun t v _ _ _ _ = refl
 claim_changes z Frames begun t v _ _ _ (Won tries b some is) = refl
 claim_changes z Frames begun t v _ _ _ _ = refl
 
--- Which page leaves stays.
+-- Which page is retired stays.
 pub claim_leaves : (z : Sizes) (map : FreeMap) (begun : Bool) (t : Topics) (v : ℕ) (step : PartStep) (next : ClaimNext) (u : Topics)
-    → ClaimMade z map begun t v step next u → u.leaving ≡ t.leaving
-claim_leaves z Pages begun t v _ _ _ M = ap (λ (x : Topics). x.leaving) (claim_changes z Pages begun t v _ _ _ M)
-claim_leaves z Frames begun t v _ _ _ M = ap (λ (x : Topics). x.leaving) (claim_changes z Frames begun t v _ _ _ M)
+    → ClaimMade z map begun t v step next u → u.retired ≡ t.retired
+claim_leaves z Pages begun t v _ _ _ M = ap (λ (x : Topics). x.retired) (claim_changes z Pages begun t v _ _ _ M)
+claim_leaves z Frames begun t v _ _ _ M = ap (λ (x : Topics). x.retired) (claim_changes z Frames begun t v _ _ _ M)
 
 -- The walk stays.
 pub claim_walk : (z : Sizes) (map : FreeMap) (begun : Bool) (t : Topics) (v : ℕ) (step : PartStep) (next : ClaimNext) (u : Topics)

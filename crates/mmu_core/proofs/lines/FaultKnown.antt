@@ -49,8 +49,8 @@ use Rattle.mmu_core.proofs.lines.FaultSame.{ends_same, same_entering, same_none}
 use Rattle.mmu_core.proofs.lines.LookKnown.{snapshot_known, slots_known, slot_known, bring_known, host_known, share_known, check_known, unshare_known}
 
 -- the walk: a link leads down to the table that has the guest frame's entry of the level below
-down_run : (gfn level : ℕ) → 2 ≤ level → level ≤ 4 → gfn / level_span (level - 1) / 512 ≡ gfn / level_span level / 512 * 512 + gfn / level_span level % 512
-down_run gfn level from to = by (level == 2) (level == 3) refl refl
+span_down : (gfn level : ℕ) → 2 ≤ level → level ≤ 4 → gfn / level_span (level - 1) / 512 ≡ gfn / level_span level / 512 * 512 + gfn / level_span level % 512
+span_down gfn level from to = by (level == 2) (level == 3) refl refl
   where
     by : (two three : Bool) → (level == 2) ≡ two → (level == 3) ≡ three
         → gfn / level_span (level - 1) / 512 ≡ gfn / level_span level / 512 * 512 + gfn / level_span level % 512
@@ -80,11 +80,11 @@ pub gone_over : (gfn page v : ℕ) (walk : TableWalk) → 2 ≤ walk.level → w
 gone_over gfn page v walk from to O = record {
   small = O.small;
   there = omega arith;
-  run = down_run gfn walk.level from to ∙ ap (λ n. n * 512 + gfn / level_span walk.level % 512) O.run;
+  span = span_down gfn walk.level from to ∙ ap (λ n. n * 512 + gfn / level_span walk.level % 512) O.span;
 }
 
 pub root_over : (gfn v : ℕ) (walk : TableWalk) → gfn < 2 ^ 36 → IsOver gfn (at_root true walk v)
-root_over gfn v walk small = record { small = small; there = omega arith; run = rw span_4 (omega arith) }
+root_over gfn v walk small = record { small = small; there = omega arith; span = rw span_4 (omega arith) }
 
 root_known : (b : Bool) (z : Sizes) (gfn : ℕ) (write : Bool) (t : Topics) (v : ℕ) → b ≡ true → gfn < 2 ^ 36 → Entering gfn write t → t.owned ≡ None
     → FaultKnows (Walk true) z gfn write (record t { walk = at_root b t.walk v })
@@ -93,7 +93,7 @@ root_known false z gfn write t v is small E none = absurd (cc is)
 
 -- the guest frame's entry was loaded
 saw_it : (gfn v : ℕ) (walk : TableWalk) → IsOver gfn walk → SawEntry gfn (gone_down None walk (entry_index gfn walk.level) v)
-saw_it gfn v walk O = record { over = record { small = O.small; there = O.there; run = O.run }; loaded = refl }
+saw_it gfn v walk O = record { over = record { small = O.small; there = O.there; span = O.span }; loaded = refl }
 
 leaf_seen : (lowest allows : Bool) (z : Sizes) (gfn : ℕ) (write : Bool) (t : Topics) (v : ℕ) → (t.walk.level == 1) ≡ lowest
     → allows_access write v ≡ allows → kind_of t.walk.level v ≡ entry_kind.Leaf

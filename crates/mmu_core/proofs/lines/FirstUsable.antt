@@ -1,4 +1,4 @@
--- A look-up goes through what is cached from the newest on: through the newer run first, and then through the older one.
+-- A look-up goes through what is cached from the newest on: through the newer part first, and then through the older one.
 use Rattle.std.proofs.Common.{◌≡◌, ℕ, List, ◌++◌, sym, ap, ◌∙◌}
 use Rattle.std.proofs.lemmas.List.Folds.{find-append}
 use Rattle.std.specs.Prelude.{Bool, Option, Some, None}
@@ -6,7 +6,7 @@ use Rattle.std.specs.Option.{option_or}
 use Rattle.core_views.specs.declared.cache.Translation.{Translation}
 use Rattle.mmu_core.specs.lines.Cached.{first_usable, is_usable}
 
--- Over both runs it finds what it finds in the newer one, and else what it finds in the older one.
+-- Over both parts it finds what it finds in the newer one, and else what it finds in the older one.
 over_both : (gfn : ℕ) (write : Bool) (newer older : List Translation) (found : Option Translation) → first_usable gfn write newer ≡ found
     → first_usable gfn write (newer ++ older) ≡ option_or found (first_usable gfn write older)
 over_both gfn write newer older found is =

@@ -23,7 +23,7 @@ use Rattle.part_steps.specs.declared.part_step.PartStep.{PartStep}
 use Rattle.part_steps.specs.declared.part_step.PartStep.TheVariants as part
 use Rattle.part_steps.specs.PartBounds.{PartRests}
 use Rattle.part_steps.specs.PartTasks.{own_index, part_task}
-use Rattle.mmu_core.specs.invariant.Invariant.{Invariant, KnowsPart, LeavesPart, Holds}
+use Rattle.mmu_core.specs.invariant.Invariant.{Invariant, KnowsPart, RetiresPart, Holds}
 use Rattle.mmu_core.specs.invariant.TopicsInvariant.{TopicsInvariant}
 use Rattle.mmu_core.specs.lines.HostSteps.{host_note, host_outcome, host_part, moves}
 use Rattle.mmu_core.specs.machine.View.{View, answer_in, stepped}
@@ -34,7 +34,7 @@ use Rattle.mmu_core.proofs.lines.FaultKnown.{parts_answer}
 use Rattle.mmu_core.specs.lines.ClaimSteps.{Frames, claim_next}
 use Rattle.mmu_core.proofs.lines.ClaimMade.{claim_is}
 use Rattle.mmu_core.proofs.lines.HostKnown.{host_known}
-use Rattle.mmu_core.proofs.lines.HostLeaves.{host_leaves}
+use Rattle.mmu_core.proofs.lines.HostRetires.{host_leaves}
 use Rattle.mmu_core.proofs.lines.HostNeeds.{host_needs}
 use Rattle.mmu_core.proofs.lines.KnowsKept.{KnowsAfter, step_knows, step_leaves}
 use Rattle.mmu_core.proofs.lines.StepTopics.{knows_by}
@@ -107,7 +107,7 @@ host_kept z v a line p page change S I P makes knows =
     }) knows
 
 pub own_host : (p : HostPlace) (line : Line) (h : Held) (page : ℕ) (change : HostChange) (words : Area → ℕ → ℕ) → PartRests h
-    → KnowsPart (place.Host p) (ChangeHost page change) h → LeavesPart (place.Host p) h.topics
+    → KnowsPart (place.Host p) (ChangeHost page change) h → RetiresPart (place.Host p) h.topics
     → KnowsAfter line (ChangeHost page change) (place.Host p) h
     (answer_in (part_task (host_part p page change h) (own_index h) h.topics (host_note p page h)) words)
 own_host p line h page change words R K left =

@@ -214,7 +214,7 @@ begin_known (begins.Walk true) z page t v sizes looked flags frames most K A =
 begin_known begins.Zap z page t v sizes looked flags frames most K A =
     unasked_yet z page t _ sizes refl refl refl refl refl K.0
     (swept_at page t (part_topics (part.Zap (gfn_behind page t.search.slot)) t v) K.0 K.1 refl
-    (record { over = record { small = K.2.saw.over.small; there = K.2.saw.over.there; run = K.2.saw.over.run }; loaded = refl })
+    (record { over = record { small = K.2.saw.over.small; there = K.2.saw.over.there; span = K.2.saw.over.span }; loaded = refl })
     (ap leads_on (zero_absent t.walk.level)))
 begin_known begins.Ask z page t v sizes looked flags frames most K A =
     let some = sizes.some in

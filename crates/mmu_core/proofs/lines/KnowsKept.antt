@@ -41,9 +41,9 @@ use Rattle.mmu_core.specs.lines.Cached.{first_usable, flushed, with_leaf}
 use Rattle.mmu_core.specs.lines.FaultKnows.{KnowsNext}
 use Rattle.mmu_core.specs.lines.FaultLaws.{CanAnswer}
 use Rattle.mmu_core.specs.lines.FaultSteps.{allows_access, fault_next}
-use Rattle.mmu_core.specs.invariant.Invariant.{Invariant, KnowsPart, UnderWay, LeavesPart}
+use Rattle.mmu_core.specs.invariant.Invariant.{Invariant, KnowsPart, UnderWay, RetiresPart}
 use Rattle.mmu_core.specs.lines.AccessKnows.{AccessKnows, InGuest}
-use Rattle.mmu_core.specs.lines.Forms.{LeavesPart, RestsAt, caches_at, first_place, outcome_at}
+use Rattle.mmu_core.specs.lines.Forms.{RetiresPart, RestsAt, caches_at, first_place, outcome_at}
 use Rattle.part_steps.specs.PartBounds.{PartRests}
 use Rattle.part_steps.specs.PartTasks.{entry_index, own_index}
 use Rattle.part_steps.specs.PartHoldings.{IsOver}
@@ -204,7 +204,7 @@ NeedsAt p command h = RestsAt p command h
 
 -- what a hand knows where its line stands, also where this is about to begin
 standing_known : (q : Place) (z : Sizes) (h : Held) (y : Sizes) (actor : Actor) → length h.answers < length h.lines → IsCommandFor y actor (line_at q h).command
-    → KnowsPart q h.state.line.command h → LeavesPart q h.topics → KnowsPart (standing q z h.slots (line_at q h).command) (line_at q h).command h
+    → KnowsPart q h.state.line.command h → RetiresPart q h.topics → KnowsPart (standing q z h.slots (line_at q h).command) (line_at q h).command h
 standing_known place.Between z h y actor left may K L =
     first_known z (line_at place.Between h).command h y actor may (K (has_line_is h left)) (L.frames refl)
 standing_known _ z h y actor left may K L = K
@@ -223,19 +223,19 @@ step_knows z v a line command p S I =
     (subst (λ c. KnowsPart (place_at (v.hand a).state.place (v.hand a)) c (v.hand a)) (ap (λ (l : Line). l.command) (sym S.line_is) ∙ S.command_is)
     (knows_at z v a I S.there S.left))
 
--- Where a line begins no page leaves, no invalidation is open, and no frame is owned.
-first_leaves : (z : Sizes) (command : Command) (slots : MemorySlots) (t : Topics) → t.leaving ≡ None → t.invalidations.opened ≡ false
-    → t.frames.owned ≡ None → LeavesPart (first_place z slots command) t
+-- Where a line begins no page is retired, no invalidation is open, and no frame is owned.
+first_leaves : (z : Sizes) (command : Command) (slots : MemorySlots) (t : Topics) → t.retired ≡ None → t.invalidations.opened ≡ false
+    → t.frames.owned ≡ None → RetiresPart (first_place z slots command) t
 first_leaves z command slots t none closed loose = record { leaves = λ may. none; opens = λ may. closed; frames = λ may. loose }
 
-standing_leaves : (q : Place) (z : Sizes) (slots : MemorySlots) (command : Command) (t : Topics) → LeavesPart q t → LeavesPart (standing q z slots command) t
+standing_leaves : (q : Place) (z : Sizes) (slots : MemorySlots) (command : Command) (t : Topics) → RetiresPart q t → RetiresPart (standing q z slots command) t
 standing_leaves place.Between z slots command t L = first_leaves z command slots t (L.leaves refl) (L.opens refl) (L.frames refl)
 standing_leaves _ z slots command t L = L
 
 pub step_leaves : (z : Sizes) (v : View) (a : ℕ) (line : Line) (command : Command) (p : Place) → IsStep z v a line command p → Invariant z v
-    → LeavesPart p (v.hand a).topics
+    → RetiresPart p (v.hand a).topics
 step_leaves z v a line command p S I =
-    subst (λ q. LeavesPart q (v.hand a).topics) S.place_is
+    subst (λ q. RetiresPart q (v.hand a).topics) S.place_is
     (standing_leaves (v.hand a).state.place (v.hand a).state.sizes (v.hand a).slots (line_at (v.hand a).state.place (v.hand a)).command
     (v.hand a).topics (I.leaves a S.there))
 

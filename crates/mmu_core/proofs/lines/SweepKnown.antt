@@ -98,16 +98,16 @@ sweep_known (entry_kind.Table below) z page v t sizes is most W found O = (
 sweep_known entry_kind.Leaf z page v t sizes is most W found O = (
   same_sweeps page t _ refl refl refl refl refl refl W,
   found,
-  record { saw = record { over = record { small = O.small; there = O.there; run = O.run }; loaded = refl }; leaf = is },
+  record { saw = record { over = record { small = O.small; there = O.there; span = O.span }; loaded = refl }; leaf = is },
 )
 sweep_known entry_kind.Absent z page v t sizes is most W found O =
     unasked_yet z page t _ sizes refl refl refl refl refl W
     (swept_at page t (record t { walk = gone_down None t.walk (entry_index (gfn_behind page t.search.slot) t.walk.level) v }) W found refl
-    (record { over = record { small = O.small; there = O.there; run = O.run }; loaded = refl }) (ap leads_on is))
+    (record { over = record { small = O.small; there = O.there; span = O.span }; loaded = refl }) (ap leads_on is))
 sweep_known entry_kind.Frozen z page v t sizes is most W found O =
     unasked_yet z page t _ sizes refl refl refl refl refl W
     (swept_at page t (record t { walk = gone_down None t.walk (entry_index (gfn_behind page t.search.slot) t.walk.level) v }) W found refl
-    (record { over = record { small = O.small; there = O.there; run = O.run }; loaded = refl }) (ap leads_on is))
+    (record { over = record { small = O.small; there = O.there; span = O.span }; loaded = refl }) (ap leads_on is))
 
 pub root_known : (b : Bool) (z : Sizes) (page : ℕ) (t : Topics) (v : ℕ) → AreSizes z → b ≡ true
     → (has_found page t.search ≡ true → gfn_behind page t.search.slot < 2 ^ 36) → Sweeps page t

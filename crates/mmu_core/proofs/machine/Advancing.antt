@@ -47,9 +47,9 @@ unfolding Enabled
 enabled_sizes h k (inl e) = e.rests.part.sizes
 enabled_sizes h k (inr e) = e.sizes
 
--- the run of a guest frame is a small number
-pub run_small : (gfn : ℕ) (walk : TableWalk) → IsOver gfn walk → walk.prefix < 2 ^ 36
-run_small gfn walk O = let le = div-le_self gfn (level_span walk.level) in omega (arith, O.small, O.run, le)
+-- the span of a guest frame is a small number
+pub span_small : (gfn : ℕ) (walk : TableWalk) → IsOver gfn walk → walk.prefix < 2 ^ 36
+span_small gfn walk O = let le = div-le_self gfn (level_span walk.level) in omega (arith, O.small, O.span, le)
 
 -- the kind that a kind's number names
 pub named_is : (k : StepKind) → kind_named (code_of k) ≡ k
@@ -80,9 +80,9 @@ part_room (part.Role value) h note z few N small = (
 )
 part_room part.Slot h note z few N small = λ some. N.1
 part_room part.Claim h note z few N small = (N.1, omega (arith, N.2, z.pool.1))
-part_room (part.Walk gfn) h note z few N small = λ from. run_small gfn h.topics.walk N
-part_room (part.Link gfn) h note z few N small = λ from. run_small gfn h.topics.walk N.0.saw.over
-part_room (part.Leaf gfn) h note z few N small = λ from. run_small gfn h.topics.walk N.0.saw.over
+part_room (part.Walk gfn) h note z few N small = λ from. span_small gfn h.topics.walk N
+part_room (part.Link gfn) h note z few N small = λ from. span_small gfn h.topics.walk N.0.saw.over
+part_room (part.Leaf gfn) h note z few N small = λ from. span_small gfn h.topics.walk N.0.saw.over
 part_room part.Clear h note z few N small = (no_page_room h.topics N.owns_none, few_moved h.state.sizes h.topics.frames z few)
 part_room (part.SetStart gfn) h note z few N small = small refl
 part_room (part.SetEnd gfn) h note z few N small = small refl

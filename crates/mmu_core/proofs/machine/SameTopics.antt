@@ -20,14 +20,14 @@ same_topics z lock root slots seq count start end_ states map frame_map host rol
   lock_part = subst (λ (t : ℕ → Topics). LockPart (actors_of z) lock (λ i. (t i).hold)) (sym same) I.lock_part;
   saw_writer = subst (λ (t : ℕ → Topics). (i : ℕ) → i < actors_of z → SawWriter (t i).hold) (sym same) I.saw_writer;
   states_part = subst (λ (t : ℕ → Topics). StatesPart (actors_of z) states (λ i. (t i).stay)) (sym same) I.states_part;
-  uses = subst (λ (t : ℕ → Topics). UsePart (actors_of z) z.pool slots map (λ i. (t i).owned) (λ i. (t i).leaving) I.up) (sym same) I.uses;
+  uses = subst (λ (t : ℕ → Topics). UsePart (actors_of z) z.pool slots map (λ i. (t i).owned) (λ i. (t i).retired) I.up) (sym same) I.uses;
   tree = I.tree;
   leaves = I.leaves;
   filled = subst (λ (t : ℕ → Topics). FilledPart (actors_of z) role pool (λ i. (t i).owned)) (sym same) I.filled;
   held = subst (λ (t : ℕ → Topics). (i : ℕ) → i < actors_of z → HeldPart (stands I.up I.spot) (t i)) (sym same) I.held;
   paths = subst (λ (t : ℕ → Topics). (i : ℕ) → i < actors_of z → PathPart (stands I.up I.spot) (t i).walk) (sym same) I.paths;
   sets = subst (λ (t : ℕ → Topics). SetsPart (actors_of z) slots t) (sym same) I.sets;
-  old_sets = subst (λ (t : ℕ → Topics). OldSetsPart z (actors_of z) pool (λ i. (t i).leaving)) (sym same) I.old_sets;
+  old_sets = subst (λ (t : ℕ → Topics). OldSetsPart z (actors_of z) pool (λ i. (t i).retired)) (sym same) I.old_sets;
   held_slots = subst (λ (t : ℕ → Topics). HeldSlotsPart (actors_of z) seq pool slots t) (sym same) I.held_slots;
   searches = subst (λ (t : ℕ → Topics). (i : ℕ) → i < actors_of z → SearchPart pool (t i).search) (sym same) I.searches;
   hosts = I.hosts;

@@ -15,7 +15,7 @@ use Rattle.core_views.specs.Traces.{IsCommandFor}
 use Rattle.spte_words.specs.declared.area.Area.TheVariants as area
 use Rattle.mmu_core.specs.invariant.Invariant.{Holds, Invariant, OwnLines, UnderWay}
 use Rattle.mmu_core.specs.lines.Rests.{IsUnderWay}
-use Rattle.mmu_core.specs.lines.Forms.{first_place, may_leave}
+use Rattle.mmu_core.specs.lines.Forms.{first_place, may_retire}
 use Rattle.mmu_core.specs.machine.Steps.{line_at, next_line, place_at, standing}
 use Rattle.mmu_core.specs.machine.View.{View}
 use Rattle.mmu_core.specs.invariant.LinesPart.{lines_done}
@@ -95,11 +95,11 @@ is_step z v a I there left =
 
 -- Where the step's place isn't after a publication, the hand's isn't either.
 before_published : (q : Place) (z : Sizes) (slots : MemorySlots) (command : Command) (p : Place) → standing q z slots command ≡ p
-    → may_leave p ≡ false → may_leave q ≡ false
+    → may_retire p ≡ false → may_retire q ≡ false
 before_published place.Between z slots command p is not_yet = refl
-before_published _ z slots command p is not_yet = ap may_leave is ∙ not_yet
+before_published _ z slots command p is not_yet = ap may_retire is ∙ not_yet
 
-pub none_done : (z : Sizes) (v : View) (a : ℕ) (line : Line) (command : Command) (p : Place) → IsStep z v a line command p → may_leave p ≡ false
+pub none_done : (z : Sizes) (v : View) (a : ℕ) (line : Line) (command : Command) (p : Place) → IsStep z v a line command p → may_retire p ≡ false
     → lines_done (v.hand a) ≡ length (v.hand a).answers
 none_done z v a line command p S not_yet =
     let h : Held = v.hand a in

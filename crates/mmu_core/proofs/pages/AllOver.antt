@@ -167,7 +167,7 @@ over_grown {up = up} {spot = spot} T pool m IsSo table light true page use_ p no
 
 -- ---- Behind each step.
 
--- What the leaf that a step puts owes: it is so of each guest frame of its run.
+-- What the leaf that a step puts owes: it is so of each guest frame of its span.
 abbrev pub OfNewLeaf : PartStep → Topics → (ℕ → ℕ → ℕ → Type 0) → Type 0
 OfNewLeaf (part.Leaf gfn) t IsSo = (other : ℕ) → other / level_span t.walk.level ≡ gfn / level_span t.walk.level → IsSo t.walk.level other (leaf_written t)
 OfNewLeaf _ t IsSo = Unit {0}
@@ -206,7 +206,7 @@ module _ (z : Sizes) (v : View) (a : ℕ) (I : TopicsInvariant z v) (m : ℕ) (I
 
       own : (other : ℕ) → IsEntryOver (at t.walk.level t.walk.prefix) (entry_index gfn t.walk.level) other
           → other / level_span t.walk.level ≡ gfn / level_span t.walk.level
-      own other O = let is = O.1 in let run = over.run in omega (arith, is, run)
+      own other O = let is = O.1 in let span = over.span in omega (arith, is, span)
 
   -- A leaf is zapped.
   zap_over : (gfn note : ℕ) → AllOver I.up I.spot ((part_stepped a (part.Zap gfn) note v).words area.Pool) m IsSo

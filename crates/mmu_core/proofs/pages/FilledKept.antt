@@ -23,8 +23,8 @@ use Rattle.mmu_core.proofs.pages.Owned.{OwnsWhole, table_owned}
 use Rattle.mmu_core.proofs.pages.OwnedBehind.{leaf_stored, link_stored}
 use Rattle.mmu_core.proofs.machine.PartStepping.{IsPart}
 use Rattle.mmu_core.proofs.words.PartTopics.{is_there, part_topics_is}
-use Rattle.mmu_core.proofs.words.PartWords.{HasOtherRole, IsElsewhere, fill_leaves, page_stays, role_stays, walks_unowned, left_elsewhere}
-use Rattle.mmu_core.proofs.pages.PoolPages.{left_not_owned, one_owner, owned_there}
+use Rattle.mmu_core.proofs.words.PartWords.{HasOtherRole, IsElsewhere, fill_leaves, page_stays, role_stays, walks_unowned, retired_elsewhere}
+use Rattle.mmu_core.proofs.pages.PoolPages.{retired_not_owned, one_owner, owned_there}
 use Rattle.mmu_core.proofs.pages.Standing.{entry_now}
 
 -- Of a page that was claimed nothing is filled.
@@ -159,8 +159,8 @@ others_elsewhere z v a _ S I i o lt apart is = tt
 other_roles : (z : Sizes) (v : View) (a : ℕ) (step : PartStep) → IsPart z v a step → TopicsInvariant z v → (i : ℕ) (o : OwnedPage) → i < actors_of z
     → i ≢ a → (v.hand i).topics.owned ≡ Some o → HasOtherRole step (v.hand a).topics o.page
 other_roles z v a (part.Role value) S I i o lt apart is = λ p mine same. apart (one_owner I.uses i a o p lt S.there is mine same)
-other_roles z v a part.Clear S I i o lt apart is = left_elsewhere (v.hand a).topics S.needs.leaves o.page
-    (λ k left e. left_not_owned I.uses a k S.there left i o lt is (sym e))
+other_roles z v a part.Clear S I i o lt apart is = retired_elsewhere (v.hand a).topics S.needs.leaves o.page
+    (λ k left e. retired_not_owned I.uses a k S.there left i o lt is (sym e))
 other_roles z v a _ S I i o lt apart is = tt
 
 -- Each step of a part keeps what the owners have filled.

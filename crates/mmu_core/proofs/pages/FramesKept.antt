@@ -32,7 +32,7 @@ use Rattle.mmu_core.proofs.words.PartTopics.{behind_step, part_behind, stepped_h
 abbrev pub is_as_looked : Topics → View → Bool
 is_as_looked t v = v.words area.Host (page_looked t.host) == word_looked t.host
 
--- what the frames are after a step of the actor at place a: who wins a claim owns the frame; a frame that is given back is free; and a page that is moved
+-- what the frames are after a step of actor a: who wins a claim owns the frame; a frame that is given back is free; and a page that is moved
 -- has the frame that was owned, and its old one is owned in place of this
 abbrev pub use_after : PartStep → ℕ → Topics → View → (ℕ → FrameUse) → ℕ → FrameUse
 use_after part.Frame a t v use_of =

@@ -12,17 +12,18 @@ use Rattle.spte_words.proofs.ReadsEntries.{kind_of_absent, kind_of_table}
 use Rattle.spte_words.proofs.Spans.{span_1}
 use Rattle.part_steps.specs.declared.part_step.PartStep.{PartStep}
 use Rattle.part_steps.specs.declared.part_step.PartStep.TheVariants as part
-use Rattle.part_steps.specs.PartTasks.{leaf_written, word_looked}
+use Rattle.part_steps.specs.PartTasks.{leaf_written, page_owned, word_looked}
 use Rattle.part_steps.specs.SlotWords.{leaf_of, page_of}
-use Rattle.mmu_core.specs.invariant.AllOver.{AllOver, LeafIsFor}
+use Rattle.mmu_core.specs.invariant.AllOver.{AllOver, IsEntryOver, LeafIsFor}
 use Rattle.mmu_core.specs.invariant.CachedPart.{IsLeafFor}
+use Rattle.mmu_core.specs.invariant.SlotSetPart.{IsLiveIn}
 use Rattle.mmu_core.specs.invariant.TopicsInvariant.{TopicsInvariant}
-use Rattle.mmu_core.specs.invariant.TreePart.{Position, Use, at, is_table, stands}
+use Rattle.mmu_core.specs.invariant.TreePart.{HangsBelow, Position, Use, at, is_table, stands}
 use Rattle.mmu_core.specs.machine.View.{View, part_stepped}
 use Rattle.mmu_core.proofs.pages.AllOver.{IsLight, OfNewLeaf, over_step, over_weaker}
 use Rattle.mmu_core.proofs.slots.LiveStay.{StayLive, leaf_stays}
 use Rattle.mmu_core.proofs.slots.LiveStays.{live_in_stays, part_live_stays}
-use Rattle.mmu_core.proofs.machine.PartStepping.{IsPart, changes_word}
+use Rattle.mmu_core.proofs.machine.PartStepping.{IsFlushedOut, IsPart, changes_word, is_publish}
 use Rattle.mmu_core.proofs.words.HostStays.{host_stays}
 use Rattle.mmu_core.proofs.words.PartWords.{areas_stay, slots_are, slots_behind}
 use Rattle.mmu_core.proofs.pages.Standing.{spot_after, spot_of, up_after}
@@ -39,12 +40,12 @@ leaves_light pool host set = record {
   link = λ level gfn page upper small leaf. let links = kind_of_table level page upper small in absurd (cc (links, leaf));
 }
 
--- What was live is live, and the same, in the slot set that is published after the step.
-live_behind : (z : Sizes) (v : View) (a : ℕ) (step : PartStep) (note : ℕ) → IsPart z v a step → TopicsInvariant z v
+-- What was live is live, and the same, in the slot set that is published after a step that publishes none.
+stays_live : (z : Sizes) (v : View) (a : ℕ) (step : PartStep) (note : ℕ) → is_publish step ≡ false → IsPart z v a step → TopicsInvariant z v
     → StayLive (v.words area.Pool) (v.words area.Slots 0) ((part_stepped a step note v).words area.Pool)
     (slots_behind step (v.hand a).topics (v.words area.Slots 0))
-live_behind z v a part.Publish note S I = S.replaces.stay
-live_behind z v a step note S I =
+stays_live z v a part.Publish note never S I = absurd (cc never)
+stays_live z v a step note never S I =
     λ id slot live. live_in_stays (v.words area.Slots 0) (v.words area.Pool) ((part_stepped a step note v).words area.Pool) id slot
     (part_live_stays z v a step note S I) live
 
@@ -75,12 +76,13 @@ new_leaf z v a (part.Leaf gfn) S I =
     }
 new_leaf z v a _ S I = tt
 
--- After a step that changes no host word.
+-- After a step that publishes no slot set and changes no host word.
 quiet_leaves : (z : Sizes) (v : View) (a : ℕ) (step : PartStep) (note : ℕ) → IsPart z v a step → (I : TopicsInvariant z v) → changes_word step ≡ false
+    → is_publish step ≡ false
     → AllOver (up_after step a (v.hand a).topics v I.up) (spot_after step (v.hand a).topics v I.spot) ((part_stepped a step note v).words area.Pool)
     ((part_stepped a step note v).words area.Root 0)
     (LeafIsFor ((part_stepped a step note v).words area.Pool) ((part_stepped a step note v).words area.Host) ((part_stepped a step note v).words area.Slots 0))
-quiet_leaves z v a step note S I other =
+quiet_leaves z v a step note S I other never =
     let w : View = part_stepped a step note v in
     let up : ℕ → Use = up_after step a (v.hand a).topics v I.up in
     let spot : ℕ → Position = spot_after step (v.hand a).topics v I.spot in
@@ -95,9 +97,34 @@ quiet_leaves z v a step note S I other =
     (subst (λ s. AllOver up spot (w.words area.Pool) (v.words area.Root 0) (LeafIsFor (w.words area.Pool) host s)) (sym (slots_are v a step note))
     (over_weaker up spot (w.words area.Pool) (v.words area.Root 0) (LeafIsFor before host set) (LeafIsFor (w.words area.Pool) host behind)
     (λ level gfn word so leaf. let is = so leaf in
-    (is.0, leaf_stays before set (w.words area.Pool) behind (live_behind z v a step note S I) host gfn word is.1))
+    (is.0, leaf_stays before set (w.words area.Pool) behind (stays_live z v a step note never S I) host gfn word is.1))
     (over_step z v a step note S I (v.words area.Root 0) (LeafIsFor before host set) (ap is_table I.tree.top) (leaves_light before host set)
     (new_leaf z v a step S I) I.leaves))))
+
+-- Of a slot that goes with a publication there is no leaf: its guest frames were zapped.
+published_leaves : (z : Sizes) (v : View) (a note : ℕ) → IsPart z v a part.Publish → (I : TopicsInvariant z v)
+    → AllOver (up_after part.Publish a (v.hand a).topics v I.up) (spot_after part.Publish (v.hand a).topics v I.spot)
+    ((part_stepped a part.Publish note v).words area.Pool) (v.words area.Root 0)
+    (LeafIsFor (v.words area.Pool) (v.words area.Host) (page_owned (v.hand a).topics.owned))
+published_leaves z v a note S I =
+    over_step z v a part.Publish note S I (v.words area.Root 0) (LeafIsFor (v.words area.Pool) (v.words area.Host) page) (ap is_table I.tree.top)
+    (leaves_light (v.words area.Pool) (v.words area.Host) page) tt
+    (λ table entry gfn R O leaf.
+    let is = I.leaves table entry gfn R O leaf in
+    (is.0, stays table entry gfn R O leaf is.1 (S.replaces.stay is.1.id is.1.slot is.1.live)))
+  where
+    page : ℕ
+    page = page_owned (v.hand a).topics.owned
+
+    stays : (table entry gfn : ℕ) → HangsBelow I.up (v.words area.Root 0) table → IsEntryOver (I.spot table) entry gfn
+        → kind_of (I.spot table).level (v.words area.Pool (pool_index table entry)) ≡ entry_kind.Leaf
+        → (L : IsLeafFor (v.words area.Pool) (v.words area.Host) (v.words area.Slots 0) gfn (v.words area.Pool (pool_index table entry)))
+        → IsLiveIn (v.words area.Pool) page L.id L.slot ⊎ IsFlushedOut z.vcpus L.slot (v.hand a).topics
+        → IsLeafFor (v.words area.Pool) (v.words area.Host) page gfn (v.words area.Pool (pool_index table entry))
+    stays table entry gfn R O leaf L (inl same) = record { id = L.id; slot = L.slot; live = same; holds = L.holds; is = L.is; present = L.present }
+    stays table entry gfn R O leaf L (inr F) =
+        let some = S.is_sizes.some in
+        absurd (I.zapped a S.there F.opened (omega (arith, some, F.asked)) table entry gfn R O (F.within gfn L.holds) leaf)
 
 -- Of a page that is changed there is no leaf: its guest frame was zapped.
 changed_leaves : (z : Sizes) (v : View) (a new_ note : ℕ) → IsPart z v a (part.Change new_) → (I : TopicsInvariant z v)
@@ -148,7 +175,8 @@ pub leaves_kept : (z : Sizes) (v : View) (a : ℕ) (step : PartStep) (note : ℕ
     (LeafIsFor ((part_stepped a step note v).words area.Pool) ((part_stepped a step note v).words area.Host) ((part_stepped a step note v).words area.Slots 0))
 leaves_kept z v a part.Bring note S I = brought_leaves z v a note S I
 leaves_kept z v a (part.Change new_) note S I = changed_leaves z v a new_ note S I
-leaves_kept z v a step note S I = quiet_leaves z v a step note S I refl
+leaves_kept z v a part.Publish note S I = published_leaves z v a note S I
+leaves_kept z v a step note S I = quiet_leaves z v a step note S I refl refl
 
 -- A leaf in a table that stands here is the one for each guest frame that its entry is over.
 pub leaf_for : (z : Sizes) (v : View) (I : TopicsInvariant z v) (k level prefix entry gfn : ℕ) → stands I.up I.spot k ≡ Some (at level prefix)

@@ -13,21 +13,21 @@ use Rattle.part_steps.specs.declared.part_step.PartStep.TheVariants as part
 use Rattle.part_steps.specs.PartTasks.{leaf_written, link_written, page_owned, part_task}
 use Rattle.part_steps.specs.Tasks.{kind_of_task}
 use Rattle.part_steps.specs.WalkTopics.{linked_page, still_owned, unless_linked}
-use Rattle.part_steps.specs.PageTopics.{still_leaving}
+use Rattle.part_steps.specs.PageTopics.{still_retired}
 use Rattle.part_steps.specs.TopicSteps.{topics_after}
 
 -- what leaves after a step that answered v
-abbrev pub left_behind : PartStep → Topics → ℕ → Option ℕ
-left_behind part.Publish t v = Some v
-left_behind part.Give t v = still_leaving t.owned t.leaving
-left_behind part.GiveOld t v = still_leaving t.owned t.leaving
-left_behind _ t v = t.leaving
+abbrev pub retired_behind : PartStep → Topics → ℕ → Option ℕ
+retired_behind part.Publish t v = Some v
+retired_behind part.Give t v = still_retired t.owned t.retired
+retired_behind part.GiveOld t v = still_retired t.owned t.retired
+retired_behind _ t v = t.retired
 
-pub left_is : (step : PartStep) (z : Sizes) (own : ℕ) (t : Topics) (note v : ℕ)
-    → (topics_after z (kind_of_task z (part_task step own t note)) t v).leaving ≡ left_behind step t v
+pub retired_is : (step : PartStep) (z : Sizes) (own : ℕ) (t : Topics) (note v : ℕ)
+    → (topics_after z (kind_of_task z (part_task step own t note)) t v).retired ≡ retired_behind step t v
 unfolding topics_after
-left_is part.Publish z own t note v = refl
-left_is _ z own t note v = refl
+retired_is part.Publish z own t note v = refl
+retired_is _ z own t note v = refl
 
 -- An entry of the lowest level is no link: who stores a leaf owns what it owned.
 no_link : (w : ℕ) → linked_page (kind_of 1 w) ≡ None

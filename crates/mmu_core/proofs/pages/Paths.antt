@@ -14,7 +14,7 @@ use Rattle.part_steps.specs.WalkTopics.{gone_down, linked_page, swapped}
 use Rattle.core_views.specs.declared.sizes.Sizes.{Sizes}
 use Rattle.core_views.specs.Held.{Held}
 use Rattle.core_views.specs.Sizes.{actors_of}
-use Rattle.mmu_core.specs.invariant.HeldPart.{HeldPart, PathPart, run_at, table_at}
+use Rattle.mmu_core.specs.invariant.HeldPart.{HeldPart, PathPart, span_at, table_at}
 use Rattle.mmu_core.specs.invariant.TopicsInvariant.{TopicsInvariant}
 use Rattle.mmu_core.specs.invariant.TreePart.{Position, at, stands}
 use Rattle.mmu_core.specs.machine.View.{View, answer_in, part_stepped}
@@ -27,28 +27,28 @@ use Rattle.mmu_core.proofs.words.PartTopics.{behind_step, part_behind}
 use Rattle.mmu_core.proofs.pages.Standing.{spot_after, up_after}
 use Rattle.mmu_core.proofs.pages.UsesStay.{stays_standing}
 
--- Above the table that a walk has come to, it has gone through the tables that it had gone through or come to before, for the same runs.
+-- Above the table that a walk has come to, it has gone through the tables that it had gone through or come to before, for the same spans.
 pub record GoesOnAt (before after : TableWalk) (level : ℕ) : Type 0 where
   pub from : 1 ≤ before.level
   pub down : before.level ≤ level
   pub table : table_at level after ≡ table_at level before
-  pub run : run_at level after ≡ run_at level before
+  pub span : span_at level after ≡ span_at level before
 
 abbrev pub GoesOn : TableWalk → TableWalk → Type 0
 GoesOn before after = (level : ℕ) → 1 ≤ after.level → after.level < level → level ≤ 4 → GoesOnAt before after level
 
 pub stays : (walk : TableWalk) → GoesOn walk walk
-stays walk level from above most = record { from = from; down = omega (arith, above); table = refl; run = refl }
+stays walk level from above most = record { from = from; down = omega (arith, above); table = refl; span = refl }
 
 kept_goes : (b : Bool) (walk : TableWalk) → GoesOn walk (record walk { level = if b then walk.level else 0 })
-kept_goes true walk level from above most = record { from = from; down = omega (arith, above); table = refl; run = refl }
+kept_goes true walk level from above most = record { from = from; down = omega (arith, above); table = refl; span = refl }
 kept_goes false walk level from above most = absurd (omega (arith, from))
 
 rooted_goes : (b : Bool) (walk : TableWalk) (v : ℕ) → GoesOn walk (record walk { level = if b then 4 else 0; prefix = 0; root = v; index = 512 })
 rooted_goes true walk v level from above most = absurd (omega (arith, above, most))
 rooted_goes false walk v level from above most = absurd (omega (arith, from))
 
--- A run of one level lower lies in the same runs above.
+-- A span of one level lower lies in the same spans above.
 same_run : (n prefix index : ℕ) → n ≤ 3 → index < 512 → (prefix * 512 + index) / 512 ^ (n + 1) ≡ prefix / 512 ^ n
 same_run zero prefix index few low = omega (arith, low)
 same_run (suc zero) prefix index few low = omega (arith, low)
@@ -57,11 +57,12 @@ same_run (suc (suc (suc zero))) prefix index few low = omega (arith, low)
 same_run (suc (suc (suc (suc n)))) prefix index few low = absurd (omega (arith, few))
 
 down_goes : (to : Option ℕ) (walk : TableWalk) (index v : ℕ) → index < 512 → GoesOn walk (gone_down to walk index v)
-down_goes None walk index v low level from above most = record { from = from; down = omega (arith, above); table = refl; run = refl }
-down_goes (Some page) walk index v low level from above most = record { from = omega (arith, from); down = omega (arith, from, above); table = same; run = run }
+down_goes None walk index v low level from above most = record { from = from; down = omega (arith, above); table = refl; span = refl }
+down_goes (Some page) walk index v low level from above most =
+    record { from = omega (arith, from); down = omega (arith, from, above); table = same; span = span }
   where
-    run : run_at level (gone_down (Some page) walk index v) ≡ run_at level walk
-    run =
+    span : span_at level (gone_down (Some page) walk index v) ≡ span_at level walk
+    span =
         let lower : level - (walk.level - 1) ≡ (level - walk.level) + 1 = omega (arith, from, above) in
         ap (λ n. (walk.prefix * 512 + index) / 512 ^ n) lower ∙ same_run (level - walk.level) walk.prefix index (omega (arith, from, most)) low
 
@@ -109,24 +110,24 @@ part_goes _ t v = stays t.walk
 
 -- The table that the walk has come to stands so as those that it has gone through.
 pub whole_path : (stands : ℕ → Option Position) (t : Topics) → HeldPart stands t → PathPart stands t.walk → (level : ℕ) → 1 ≤ t.walk.level
-    → t.walk.level ≤ level → level ≤ 4 → stands (table_at level t.walk) ≡ Some (at level (run_at level t.walk))
+    → t.walk.level ≤ level → level ≤ 4 → stands (table_at level t.walk) ≡ Some (at level (span_at level t.walk))
 whole_path stands t H P level from down most = by (cases_lt t.walk.level level)
   where
-    by : (t.walk.level < level) ⊎ (level ≤ t.walk.level) → stands (table_at level t.walk) ≡ Some (at level (run_at level t.walk))
+    by : (t.walk.level < level) ⊎ (level ≤ t.walk.level) → stands (table_at level t.walk) ≡ Some (at level (span_at level t.walk))
     by (inl above) = P level from above most
     by (inr not_above) =
         let here : t.walk.level ≡ level = omega (arith, down, not_above) in
         let none : t.walk.level - t.walk.level ≡ 0 = omega arith in
-        let own : t.walk.prefix ≡ run_at t.walk.level t.walk = sym (ap (λ n. t.walk.prefix / 512 ^ n) none ∙ omega arith) in
-        subst (λ l. stands (table_at l t.walk) ≡ Some (at l (run_at l t.walk))) here (H.table from ∙ ap (λ r. Some (at t.walk.level r)) own)
+        let own : t.walk.prefix ≡ span_at t.walk.level t.walk = sym (ap (λ n. t.walk.prefix / 512 ^ n) none ∙ omega arith) in
+        subst (λ l. stands (table_at l t.walk) ≡ Some (at l (span_at l t.walk))) here (H.table from ∙ ap (λ r. Some (at t.walk.level r)) own)
 
 -- A walk that went on is at tables where those stand that it had come to.
 path_on : (before after : ℕ → Option Position) (t s : Topics) → ((k : ℕ) (p : Position) → before k ≡ Some p → after k ≡ Some p) → GoesOn t.walk s.walk
     → HeldPart before t → PathPart before t.walk → PathPart after s.walk
 path_on before after t s stay goes H P level from above most =
     let on = goes level from above most in
-    stay (table_at level s.walk) (at level (run_at level s.walk))
-    (ap before on.table ∙ whole_path before t H P level on.from on.down most ∙ ap (λ r. Some (at level r)) (sym on.run))
+    stay (table_at level s.walk) (at level (span_at level s.walk))
+    (ap before on.table ∙ whole_path before t H P level on.from on.down most ∙ ap (λ r. Some (at level r)) (sym on.span))
 
 -- what is said of the paths of all walks, of a view
 abbrev PathsAt : Sizes → (ℕ → Option Position) → View → Type 0
@@ -146,4 +147,4 @@ paths_kept z v a step note S I = behind_step (PathsAt z after) z v a step note S
         (part_topics step (v.hand a).topics (answer_in (part_task step a (v.hand a).topics note) v.words)) (stays_standing z v a step S I)
         (part_goes step (v.hand a).topics _) (I.held a lt) (I.paths a lt))
         (λ i apart lt level from above most. stays_standing z v a step S I (table_at level (v.hand i).topics.walk)
-        (at level (run_at level (v.hand i).topics.walk)) (I.paths i lt level from above most))
+        (at level (span_at level (v.hand i).topics.walk)) (I.paths i lt level from above most))

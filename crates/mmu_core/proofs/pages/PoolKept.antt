@@ -10,9 +10,9 @@ use Rattle.core_views.specs.Sizes.{actors_of}
 use Rattle.spte_words.specs.declared.area.Area.TheVariants as area
 use Rattle.part_steps.specs.declared.part_step.PartStep.{PartStep}
 use Rattle.part_steps.specs.declared.part_step.PartStep.TheVariants as part
-use Rattle.part_steps.specs.PartTasks.{page_owned, page_left, table_page, entry_index}
+use Rattle.part_steps.specs.PartTasks.{page_owned, page_retired, table_page, entry_index}
 use Rattle.mmu_core.specs.invariant.PoolPart.{UsePart, is_owned}
-use Rattle.part_steps.specs.PageTopics.{filled_more, is_won, tried_bit, still_leaving}
+use Rattle.part_steps.specs.PageTopics.{filled_more, is_won, tried_bit, still_retired}
 use Rattle.mmu_core.specs.invariant.TopicsInvariant.{TopicsInvariant}
 use Rattle.mmu_core.specs.invariant.TreePart.{Use}
 use Rattle.mmu_core.specs.invariant.TreePart.Use.{Free, OldSet, SlotSet, Under}
@@ -30,7 +30,7 @@ use Rattle.part_steps.specs.SetWords.{set_role}
 
 -- what the pool pages are, by these words and hands
 abbrev pub UsesAt : Sizes → (ℕ → Use) → View → Type 0
-UsesAt z up w = UsePart (actors_of z) z.pool (w.words area.Slots 0) (w.words area.PoolMap) (λ i. (w.hand i).topics.owned) (λ i. (w.hand i).topics.leaving) up
+UsesAt z up w = UsePart (actors_of z) z.pool (w.words area.Slots 0) (w.words area.PoolMap) (λ i. (w.hand i).topics.owned) (λ i. (w.hand i).topics.retired) up
 
 -- The page of which one word more is filled is the one that was owned.
 filled_owned : (owned : Option OwnedPage) (v k : ℕ) → is_owned (filled_more owned v) k ≡ is_owned owned k
@@ -38,23 +38,23 @@ filled_owned None v k = refl
 filled_owned (Some o) v k = refl
 
 -- By other columns of what hands own, and have leave.
-by_columns : (z : Sizes) (w : View) (up : ℕ → Use) {owned : ℕ → Option OwnedPage} {leaving : ℕ → Option ℕ}
-    → ◌≡◌ {A = ℕ → Option OwnedPage} (λ i. (w.hand i).topics.owned) owned → ◌≡◌ {A = ℕ → Option ℕ} (λ i. (w.hand i).topics.leaving) leaving
-    → UsePart (actors_of z) z.pool (w.words area.Slots 0) (w.words area.PoolMap) owned leaving up → UsesAt z up w
-by_columns z w up {owned} {leaving} mine left U =
-    subst (λ (own : ℕ → Option OwnedPage). UsePart (actors_of z) z.pool (w.words area.Slots 0) (w.words area.PoolMap) own (λ i. (w.hand i).topics.leaving) up)
+by_columns : (z : Sizes) (w : View) (up : ℕ → Use) {owned : ℕ → Option OwnedPage} {retired : ℕ → Option ℕ}
+    → ◌≡◌ {A = ℕ → Option OwnedPage} (λ i. (w.hand i).topics.owned) owned → ◌≡◌ {A = ℕ → Option ℕ} (λ i. (w.hand i).topics.retired) retired
+    → UsePart (actors_of z) z.pool (w.words area.Slots 0) (w.words area.PoolMap) owned retired up → UsesAt z up w
+by_columns z w up {owned} {retired} mine left U =
+    subst (λ (own : ℕ → Option OwnedPage). UsePart (actors_of z) z.pool (w.words area.Slots 0) (w.words area.PoolMap) own (λ i. (w.hand i).topics.retired) up)
     (sym mine)
     (subst (λ (leave : ℕ → Option ℕ). UsePart (actors_of z) z.pool (w.words area.Slots 0) (w.words area.PoolMap) owned leave up) (sym left) U)
 
--- The step leaves what leaves for its actor.
+-- The step leaves what its actor has retired.
 own_alone : (z : Sizes) (v : View) (a : ℕ) (step : PartStep) (note : ℕ) (up : ℕ → Use)
-    → (stepped_hand a step note v).topics.leaving ≡ (v.hand a).topics.leaving
+    → (stepped_hand a step note v).topics.retired ≡ (v.hand a).topics.retired
     → UsePart (actors_of z) z.pool ((part_behind a step note v).words area.Slots 0) ((part_behind a step note v).words area.PoolMap)
-    (upd (λ i. (v.hand i).topics.owned) a (stepped_hand a step note v).topics.owned) (λ i. (v.hand i).topics.leaving) up
+    (upd (λ i. (v.hand i).topics.owned) a (stepped_hand a step note v).topics.owned) (λ i. (v.hand i).topics.retired) up
     → UsesAt z up (part_behind a step note v)
 own_alone z v a step note up stays =
     by_columns z (part_behind a step note v) up (column_upd (λ (g : Held). g.topics.owned) v.hand a (stepped_hand a step note v))
-    (column (λ (g : Held). g.topics.leaving) v.hand a (stepped_hand a step note v) stays)
+    (column (λ (g : Held). g.topics.retired) v.hand a (stepped_hand a step note v) stays)
 
 -- What the pages are after each step, as it is written out.
 uses_after : (z : Sizes) (v : View) (a : ℕ) (step : PartStep) (note : ℕ) → IsPart z v a step → (I : TopicsInvariant z v)
@@ -69,27 +69,27 @@ uses_after z v a part.Give note S I =
     let o = owned_some t S.needs in
     let page : page_owned t.owned ≡ o.0.page = ap page_owned o.1 in
     subst (λ p. UsesAt z (upd I.up p Free) (part_behind a part.Give note v)) (sym page)
-    (own_alone z v a part.Give note (upd I.up o.0.page Free) (ap (λ x. still_leaving x t.leaving) o.1)
+    (own_alone z v a part.Give note (upd I.up o.0.page Free) (ap (λ x. still_retired x t.retired) o.1)
     (give_kept I.uses a S.there (page_owned t.owned / 64) (page_owned t.owned % 64) o.0 (omega arith) (omega (arith, page)) o.1))
 uses_after z v a part.GiveOld note S I =
     let t : Topics = (v.hand a).topics in
-    let k = some_is t.leaving S.needs.leaves in
-    let page : page_left t.leaving ≡ k.0 = ap page_left k.1 in
+    let k = some_is t.retired S.needs.leaves in
+    let page : page_retired t.retired ≡ k.0 = ap page_retired k.1 in
     let h : Held = stepped_hand a part.GiveOld note v in
     subst (λ p. UsesAt z (upd I.up p Free) (part_behind a part.GiveOld note v)) (sym page)
     (by_columns z (part_behind a part.GiveOld note v) (upd I.up k.0 Free) (column (λ (g : Held). g.topics.owned) v.hand a h (sym S.needs.owns_none))
-    (column_upd (λ (g : Held). g.topics.leaving) v.hand a h
-    ∙ ap (λ x. upd (λ i. (v.hand i).topics.leaving) a (still_leaving x t.leaving)) S.needs.owns_none)
-    (give_old_kept I.uses a S.there (page_left t.leaving / 64) (page_left t.leaving % 64) k.0 (omega arith) (omega (arith, page)) k.1))
+    (column_upd (λ (g : Held). g.topics.retired) v.hand a h
+    ∙ ap (λ x. upd (λ i. (v.hand i).topics.retired) a (still_retired x t.retired)) S.needs.owns_none)
+    (give_old_kept I.uses a S.there (page_retired t.retired / 64) (page_retired t.retired % 64) k.0 (omega arith) (omega (arith, page)) k.1))
 uses_after z v a part.Publish note S I =
     let t : Topics = (v.hand a).topics in
     let owns : OwnsWhole set_role t = set_owned t S.needs.owns in
     let h : Held = stepped_hand a part.Publish note v in
     by_columns z (part_behind a part.Publish note v) _ (column_upd (λ (g : Held). g.topics.owned) v.hand a h)
-    (column_upd (λ (g : Held). g.topics.leaving) v.hand a h)
+    (column_upd (λ (g : Held). g.topics.retired) v.hand a h)
     (subst (λ p. UsePart (actors_of z) z.pool p (v.words area.PoolMap) (upd (λ i. (v.hand i).topics.owned) a None)
-    (upd (λ i. (v.hand i).topics.leaving) a (Some (v.words area.Slots 0))) (upd (upd I.up (v.words area.Slots 0) (OldSet a)) p SlotSet))
-    (sym (ap page_owned owns.is)) (publish_kept I.uses a S.there owns.owned owns.is S.needs.none_leaves))
+    (upd (λ i. (v.hand i).topics.retired) a (Some (v.words area.Slots 0))) (upd (upd I.up (v.words area.Slots 0) (OldSet a)) p SlotSet))
+    (sym (ap page_owned owns.is)) (publish_kept I.uses a S.there owns.owned owns.is S.needs.none_retired))
 uses_after z v a (part.Link gfn) note S I =
     let t : Topics = (v.hand a).topics in
     let owns : OwnsWhole (t.walk.level - 1) t = table_owned (t.walk.level - 1) t S.needs.3 in
@@ -99,7 +99,7 @@ uses_after z v a (part.Link gfn) note S I =
     subst (λ k. UsesAt z (upd_if won I.up k under) (part_behind a (part.Link gfn) note v)) (sym (ap page_owned owns.is))
     (own_alone z v a (part.Link gfn) note (upd_if won I.up owns.owned.page under) refl
     (subst (λ (o : Option OwnedPage). UsePart (actors_of z) z.pool (v.words area.Slots 0) (v.words area.PoolMap) (upd (λ i. (v.hand i).topics.owned) a o)
-    (λ i. (v.hand i).topics.leaving) (upd_if won I.up owns.owned.page under)) (sym (link_stored t owns.owned won S.needs.1 owns.is small))
+    (λ i. (v.hand i).topics.retired) (upd_if won I.up owns.owned.page under)) (sym (link_stored t owns.owned won S.needs.1 owns.is small))
     (link_kept I.uses a S.there owns.owned won (table_page t.walk) (entry_index gfn t.walk.level) owns.is)))
 uses_after z v a (part.Leaf gfn) note S I =
     own_alone z v a (part.Leaf gfn) note I.up refl

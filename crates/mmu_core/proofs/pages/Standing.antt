@@ -6,7 +6,7 @@ use Rattle.spte_words.specs.declared.area.Area.TheVariants as area
 use Rattle.spte_words.specs.Areas.{pool_index}
 use Rattle.part_steps.specs.declared.part_step.PartStep.{PartStep}
 use Rattle.part_steps.specs.declared.part_step.PartStep.TheVariants as part
-use Rattle.part_steps.specs.PartTasks.{entry_index, page_left, page_owned, table_page}
+use Rattle.part_steps.specs.PartTasks.{entry_index, page_retired, page_owned, table_page}
 use Rattle.part_steps.specs.PageTopics.{is_won, tried_bit}
 use Rattle.mmu_core.specs.invariant.TreePart.{Position, Use, at, is_table, stands}
 use Rattle.mmu_core.specs.invariant.TreePart.Use.{Free, OldSet, Owned, SlotSet, Under}
@@ -24,12 +24,12 @@ position_below gfn t = at (t.walk.level - 1) (t.walk.prefix * 512 + entry_index 
 abbrev pub entry_now : ℕ → Topics → View → ℕ
 entry_now gfn t v = v.words area.Pool (pool_index (table_page t.walk) (entry_index gfn t.walk.level))
 
--- what the pages are after a step of the actor at place a: who wins a claim owns the page; a page that is given back is free; a slot set that
--- is published takes the place of the one before it, which leaves; and a link that was stored puts the page that was owned under its entry
+-- what the pages are after a step of actor a: who wins a claim owns the page; a page that is given back is free; a slot set that
+-- is published takes the place of the one before it, which is retired; and a link that was stored puts the page that was owned under its entry
 abbrev pub up_after : PartStep → ℕ → Topics → View → (ℕ → Use) → ℕ → Use
 up_after part.Claim a t v up = upd_if (is_won t.claim (v.words area.PoolMap t.claim.at)) up (64 * t.claim.at + tried_bit t.claim) (Owned a)
 up_after part.Give a t v up = upd up (page_owned t.owned) Free
-up_after part.GiveOld a t v up = upd up (page_left t.leaving) Free
+up_after part.GiveOld a t v up = upd up (page_retired t.retired) Free
 up_after part.Publish a t v up = upd (upd up (v.words area.Slots 0) (OldSet a)) (page_owned t.owned) SlotSet
 up_after (part.Link gfn) a t v up =
     upd_if (entry_now gfn t v == t.walk.entry) up (page_owned t.owned) (Under (table_page t.walk) (entry_index gfn t.walk.level))

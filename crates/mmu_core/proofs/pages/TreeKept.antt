@@ -22,9 +22,9 @@ use Rattle.mmu_core.specs.invariant.TreePart.Use.{Under}
 use Rattle.mmu_core.specs.machine.View.{View, part_stepped, upd}
 use Rattle.mmu_core.proofs.pages.Owned.{OwnsWhole, table_owned}
 use Rattle.mmu_core.proofs.machine.PartStepping.{IsPart}
-use Rattle.mmu_core.proofs.words.PartWords.{HasOtherRole, IsElsewhere, areas_stay, page_stays, role_stays, left_elsewhere}
+use Rattle.mmu_core.proofs.words.PartWords.{HasOtherRole, IsElsewhere, areas_stay, page_stays, role_stays, retired_elsewhere}
 use Rattle.mmu_core.proofs.machine.ColumnsTell.{tells}
-use Rattle.mmu_core.proofs.pages.PoolPages.{left_no_table, owned_there, owned_use, table_not_owned}
+use Rattle.mmu_core.proofs.pages.PoolPages.{retired_no_table, owned_there, owned_use, table_not_owned}
 use Rattle.mmu_core.proofs.pages.Standing.{entry_now, position_below, spot_after, up_after, upd_if}
 use Rattle.mmu_core.proofs.machine.SumsBelow.{upd_id}
 use Rattle.mmu_core.proofs.pages.TreePlaces.{link_stands}
@@ -36,11 +36,11 @@ unfolding absent_word
 absent_is = refl
 
 -- At the lowest level the entry is the guest frame's own.
-pub run_lowest : (gfn level prefix : ℕ) → level ≡ 1 → gfn / level_span level / 512 ≡ prefix → prefix * 512 + gfn / level_span level % 512 ≡ gfn
-run_lowest gfn level prefix lowest run =
-    let span : level_span level ≡ 1 = ap level_span lowest ∙ span_1 in
-    let own : gfn / level_span level ≡ gfn = ap (λ n. gfn / n) span ∙ omega arith in
-    omega (arith, own, run)
+pub span_lowest : (gfn level prefix : ℕ) → level ≡ 1 → gfn / level_span level / 512 ≡ prefix → prefix * 512 + gfn / level_span level % 512 ≡ gfn
+span_lowest gfn level prefix lowest over =
+    let one : level_span level ≡ 1 = ap level_span lowest ∙ span_1 in
+    let own : gfn / level_span level ≡ gfn = ap (λ n. gfn / n) one ∙ omega arith in
+    omega (arith, own, over)
 
 -- What a fault puts into a table of the lowest level is a leaf.
 pub leaf_is : (t : Topics) → t.walk.level ≡ 1 → kind_of t.walk.level (leaf_written t) ≡ entry_kind.Leaf
@@ -185,8 +185,8 @@ tree_behind z v a (part.Role value) note S I =
 tree_behind z v a part.Clear note S I =
     stay z v a part.Clear note S I refl (λ k p is. (
       tt,
-      left_elsewhere (v.hand a).topics S.needs.leaves k
-          (λ l left e. left_no_table I.uses I.spot a l p S.there left (ap (stands I.up I.spot) e ∙ is)),
+      retired_elsewhere (v.hand a).topics S.needs.leaves k
+          (λ l left e. retired_no_table I.uses I.spot a l p S.there left (ap (stands I.up I.spot) e ∙ is)),
     ))
 tree_behind z v a (part.Zap gfn) note S I = zapped z v a gfn note I S
 tree_behind z v a step note S I = stay z v a step note S I refl (λ k p is. (tt, tt))

@@ -11,7 +11,7 @@ use Rattle.mmu_core.proofs.pages.Standing.{at_spot, one_position, spot_of}
 pub same_position : (p q : Position) → p.level ≡ q.level → p.prefix ≡ q.prefix → p ≡ q
 same_position p q level prefix = λ t. record { level = level t; prefix = prefix t }
 
--- A table that hangs by one link more than this below the root: the entry of its run in the table one level above, which it is under.
+-- A table that hangs by one link more than this below the root: the entry of its span in the table one level above, which it is under.
 pub record IsLinked (pool : ℕ → ℕ) (up : ℕ → Use) (spot : ℕ → Position) (root links k : ℕ) (p : Position) : Type 0 where
   pub lower : p.level < 4
   pub parent : ℕ
@@ -50,7 +50,7 @@ module _ {pages root : ℕ} {role pool : ℕ → ℕ} {up : ℕ → Use} {spot :
       by zero e = inl e
       by (suc links) hangs = inr (links, linked_by links k p hangs at_k)
 
-  -- What an entry links to stands one level below, at the run of the entry.
+  -- What an entry links to stands one level below, at the span of the entry.
   pub link_stands : (k : ℕ) (p : Position) (j w : ℕ) → stands up spot k ≡ Some p → (L : LinksTo up k p j w)
       → stands up spot L.page ≡ Some (at (p.level - 1) (p.prefix * 512 + j))
   link_stands k p j w at_k L =

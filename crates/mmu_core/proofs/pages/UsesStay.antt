@@ -8,7 +8,7 @@ use Rattle.spte_words.specs.declared.area.Area.TheVariants as area
 use Rattle.std.proofs.Common.{w64, ◌<◌}
 use Rattle.part_steps.specs.declared.part_step.PartStep.{PartStep}
 use Rattle.part_steps.specs.declared.part_step.PartStep.TheVariants as part
-use Rattle.part_steps.specs.PartTasks.{entry_index, page_left, page_owned, table_page}
+use Rattle.part_steps.specs.PartTasks.{entry_index, page_retired, page_owned, table_page}
 use Rattle.part_steps.specs.PageTopics.{is_won, tried_bit}
 use Rattle.mmu_core.specs.invariant.TopicsInvariant.{TopicsInvariant}
 use Rattle.mmu_core.specs.invariant.TreePart.{Position, Use, is_table, stands}
@@ -19,7 +19,7 @@ use Rattle.mmu_core.proofs.machine.PartStepping.{IsPart}
 use Rattle.mmu_core.proofs.words.PoolBits.{page_free}
 use Rattle.mmu_core.proofs.pages.Owned.{owned_some, set_owned, table_owned}
 use Rattle.mmu_core.proofs.machine.ColumnsTell.{some_is}
-use Rattle.mmu_core.proofs.pages.PoolPages.{free_use, left_use, owned_use, set_use}
+use Rattle.mmu_core.proofs.pages.PoolPages.{free_use, retired_use, owned_use, set_use}
 use Rattle.mmu_core.proofs.pages.Standing.{entry_now, position_below, spot_after, spot_of, up_after, upd_if}
 use Rattle.mmu_core.proofs.pages.TreeStored.{TablesStay, all_stay, still_stands}
 
@@ -61,9 +61,9 @@ same_tables z v a part.Give S I never =
     one_turned I.up (page_owned (v.hand a).topics.owned) Free
     (ap (λ x. is_table (I.up (page_owned x))) o.1 ∙ ap is_table (owned_use I.uses a o.0 S.there o.1)) refl
 same_tables z v a part.GiveOld S I never =
-    let k = some_is (v.hand a).topics.leaving S.needs.leaves in
-    one_turned I.up (page_left (v.hand a).topics.leaving) Free
-    (ap (λ x. is_table (I.up (page_left x))) k.1 ∙ ap is_table (left_use I.uses a k.0 S.there k.1)) refl
+    let k = some_is (v.hand a).topics.retired S.needs.leaves in
+    one_turned I.up (page_retired (v.hand a).topics.retired) Free
+    (ap (λ x. is_table (I.up (page_retired x))) k.1 ∙ ap is_table (retired_use I.uses a k.0 S.there k.1)) refl
 same_tables z v a part.Publish S I never =
     let O = set_owned (v.hand a).topics S.needs.owns in
     two_turned I.up (upd I.up (v.words area.Slots 0) (OldSet a)) (page_owned (v.hand a).topics.owned) SlotSet

@@ -61,9 +61,9 @@ new_leaf z v a i _ S I lt is_open = tt
 
 -- ---- Where a seen entry leads nowhere, no links lead to a leaf over its frame.
 
--- the run of a guest frame, one level up
-run_above : (gfn level : ℕ) → 1 ≤ level → gfn / level_span level / 512 ≡ gfn / level_span (level + 1)
-run_above gfn level from = div-div-eq-div-mul gfn (level_span level) 512 ∙ ap (λ n. gfn / n) (let up = span_above level from in omega (arith, up))
+-- the span of a guest frame, one level up
+pub span_up : (gfn level : ℕ) → 1 ≤ level → gfn / level_span level / 512 ≡ gfn / level_span (level + 1)
+span_up gfn level from = div-div-eq-div-mul gfn (level_span level) 512 ∙ ap (λ n. gfn / n) (let up = span_above level from in omega (arith, up))
 
 -- where a table of the level stands that is over the guest frame
 abbrev over_frame : ℕ → ℕ → Position
@@ -110,8 +110,8 @@ module _ {pages root : ℕ} {role pool : ℕ → ℕ} {up : ℕ → Use} {spot :
       there : (L.table < pages) × (1 ≤ level) × (level ≤ 4)
       there = T.there L.table (over_frame level gfn) L.here
 
-      run : gfn / level_span level / 512 ≡ gfn / level_span (level + 1)
-      run = run_above gfn level there.1
+      span : gfn / level_span level / 512 ≡ gfn / level_span (level + 1)
+      span = span_up gfn level there.1
 
       by : (L.table ≡ root) ⊎ ((links : ℕ) × IsLinked pool up spot root links L.table (over_frame level gfn)) → LeadsAt pool up spot gfn (level + 1)
       by (inl e) =
@@ -123,8 +123,8 @@ module _ {pages root : ℕ} {role pool : ℕ → ℕ} {up : ℕ → Use} {spot :
           let from = there.1 in
           record {
             table = K.parent;
-            here = K.above ∙ ap (λ r. Some (at (level + 1) (r / 512))) run;
-            leads = sym (ap (λ r. leads_on (kind_of (level + 1) (pool (pool_index K.parent (r % 512))))) run)
+            here = K.above ∙ ap (λ r. Some (at (level + 1) (r / 512))) span;
+            leads = sym (ap (λ r. leads_on (kind_of (level + 1) (pool (pool_index K.parent (r % 512))))) span)
                 ∙ ap (λ w. leads_on (kind_of (level + 1) w)) K.link
                 ∙ ap leads_on (kind_of_table (level + 1) L.table (omega (arith, from)) (omega (arith, small, few)));
           }
@@ -184,7 +184,7 @@ swept_zapped z v a index S I none l j gfn R O is_in leaf =
     frame = let one = W.one in let from = is_in.0 in let to = is_in.1 in omega (arith, one, from, to)
 
     here : stands I.up I.spot (table_page t.walk) ≡ Some (over_frame t.walk.level t.invalidations.own.start)
-    here = (I.held a S.there).table W.saw.over.there ∙ ap (λ r. Some (at t.walk.level r)) (sym W.saw.over.run)
+    here = (I.held a S.there).table W.saw.over.there ∙ ap (λ r. Some (at t.walk.level r)) (sym W.saw.over.span)
 
     still : v.words area.Pool (pool_index (table_page t.walk) t.walk.index) ≡ t.walk.entry
     still = I.loaded a S.there S.needs.alone S.needs.outside W.saw.over.there (let index = W.saw.loaded in omega (arith, index))

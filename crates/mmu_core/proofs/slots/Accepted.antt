@@ -12,7 +12,7 @@ use Rattle.std.specs.Prelude.{Bool, true, false, not, nat_le, nat_lt, if◌then�
 use Rattle.std.specs.List.{Contains, IsDistinct, list_any}
 use Rattle.std.specs.Map.{keys_of}
 use Rattle.core_views.specs.declared.place.Place.{Place}
-use Rattle.mmu_core.specs.lines.Forms.{may_leave}
+use Rattle.mmu_core.specs.lines.Forms.{may_retire}
 use Rattle.core_views.specs.declared.sizes.Sizes.{Sizes}
 use Rattle.core_views.specs.declared.trace.Command.{Command}
 use Rattle.core_views.specs.declared.trace.Command.TheVariants.{Access, ChangeHost, SetSlot}
@@ -174,7 +174,7 @@ not_live_yet z pool set i h id slot O left is R low done = case (live_at pool se
 
 -- A line whose set isn't published yet, and that the record accepts, may set its slot.
 pub may_be_set : (z : Sizes) (v : View) (a : ℕ) (line : Line) (id : ℕ) (slot : Slot) (p : Place) → IsStep z v a line (SetSlot id slot) p
-    → may_leave p ≡ false → Invariant z v → RecordPart (v.words area.Pool) (v.words area.Slots 0) (v.hand a).slots
+    → may_retire p ≡ false → Invariant z v → RecordPart (v.words area.Pool) (v.words area.Slots 0) (v.hand a).slots
     → set_refusal z.pages id slot (v.hand a).slots ≡ None
     → MayBeSet z (v.words area.Pool) (v.words area.Slots 0) id slot
 may_be_set z v a line id slot p S not_yet I R accepts =

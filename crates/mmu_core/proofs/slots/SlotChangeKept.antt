@@ -2,7 +2,7 @@
 use Rattle.part_steps.specs.declared.part_step.PartStep.TheVariants as part
 use Rattle.mmu_core.proofs.words.PartTopics.{part_topics_is, is_there}
 use Rattle.core_views.specs.declared.topics.Topics.{Topics}
-use Rattle.std.proofs.Common.{◌≡◌, ◌≤◌, ◌+◌, ℕ, length, refl, sym, subst, ap, ◌∙◌, arith}
+use Rattle.std.proofs.Common.{◌≡◌, ◌≤◌, ◌+◌, ℕ, length, refl, sym, subst, ap, ◌∙◌, arith, inl}
 use Rattle.std.specs.Map.{keys_of}
 use Rattle.std.specs.Prelude.{true, false, if◌then◌else◌, None}
 use Rattle.core_views.specs.declared.actor.Actor.TheVariants.{Manager}
@@ -35,8 +35,8 @@ use Rattle.part_steps.specs.PartBounds.{PartRests}
 use Rattle.mmu_core.proofs.invariant.PartBounded.{part_rests_at}
 use Rattle.part_steps.specs.PartSteps.{PartNeeds}
 use Rattle.mmu_core.proofs.lines.FaultKnown.{parts_answer}
-use Rattle.mmu_core.specs.invariant.Invariant.{Holds, Invariant, KnowsPart, LeavesPart, OwnLines, lines_done}
-use Rattle.mmu_core.specs.lines.Forms.{may_leave}
+use Rattle.mmu_core.specs.invariant.Invariant.{Holds, Invariant, KnowsPart, RetiresPart, OwnLines, lines_done}
+use Rattle.mmu_core.specs.lines.Forms.{may_retire}
 use Rattle.mmu_core.proofs.invariant.QuietHand.{CountsMore, lines_more, one_step, quiet_hand, still_cached}
 use Rattle.mmu_core.proofs.invariant.QuietKept.{MakesAt}
 use Rattle.mmu_core.proofs.lines.EitherPlace.{each_watch}
@@ -58,7 +58,7 @@ change_hand z i h p command O is said changes =
 counts_more : (p : SlotChangePlace) (command : Command) (h : Held) (line : Line) (v : ℕ) → CountsMore (place.SlotChange p) command h line v
 counts_more Release command h line v may = omega arith
 counts_more Watch command h line v may =
-    each_watch (λ q. length h.answers + 1 ≤ length h.answers + (if may_leave (place.SlotChange q) then 1 else 0)) (watch_next h v) Watch Clear
+    each_watch (λ q. length h.answers + 1 ≤ length h.answers + (if may_retire (place.SlotChange q) then 1 else 0)) (watch_next h v) Watch Clear
     (omega arith) (omega arith)
 counts_more Clear command h line v may = omega arith
 counts_more Give command h line v may =
@@ -175,7 +175,8 @@ slot_change_kept z v a line p command S I P makes knows = quiet_change z v a lin
 pub change_replaces : (z : Sizes) (v : View) (a : ℕ) (line : Line) (p : SlotChangePlace) (command : Command)
     → IsStep z v a line command (place.SlotChange p) → Invariant z v
     → Replaces z (slot_change_part p (v.hand a) command) (v.words area.Pool) (v.words area.Slots 0) (v.hand a).topics
-change_replaces z v a line Publish command S I = record { old = I.set_part.slots; stay = (change_published z v a line command S I).stay }
+change_replaces z v a line Publish command S I =
+    record { old = I.set_part.slots; stay = λ id slot live. inl ((change_published z v a line command S I).stay id slot live) }
 change_replaces z v a line p command S I =
     replaces_none z (slot_change_part p (v.hand a) command) (v.words area.Pool) (v.words area.Slots 0) (v.hand a).topics
     (change_untold p (v.hand a) command refl)
@@ -183,7 +184,7 @@ change_replaces z v a line p command S I =
 -- ---- what it knows after its step, and what its step needs
 
 pub own_slot_change : (p : SlotChangePlace) (line : Line) (h : Held) (command : Command) (words : Area → ℕ → ℕ) → PartRests h
-    → KnowsPart (place.SlotChange p) command h → LeavesPart (place.SlotChange p) h.topics → PartNeeds (slot_change_part p h command) h
+    → KnowsPart (place.SlotChange p) command h → RetiresPart (place.SlotChange p) h.topics → PartNeeds (slot_change_part p h command) h
     → KnowsAfter line command (place.SlotChange p) h (answer_in (slot_change_task p h command) words)
 own_slot_change p line h command words R K left N =
     let v : ℕ = answer_in (slot_change_task p h command) words in

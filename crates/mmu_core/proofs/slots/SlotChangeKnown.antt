@@ -22,18 +22,18 @@ use Rattle.spte_words.specs.declared.area.Area.TheVariants as area
 use Rattle.part_steps.specs.declared.part_step.PartStep.{PartStep}
 use Rattle.part_steps.specs.declared.part_step.PartStep.TheVariants as part
 use Rattle.part_steps.specs.ControlTopics.{count_checked}
-use Rattle.part_steps.specs.PageTopics.{filled_more, still_leaving}
+use Rattle.part_steps.specs.PageTopics.{filled_more, still_retired}
 use Rattle.part_steps.specs.PartBounds.{PartRests}
 use Rattle.part_steps.specs.PartHoldings.{OwnsSet}
 use Rattle.part_steps.specs.PartSteps.{PartNeeds}
-use Rattle.part_steps.specs.PartTasks.{own_index, page_left, words_filled}
+use Rattle.part_steps.specs.PartTasks.{own_index, page_retired, words_filled}
 use Rattle.part_steps.specs.PartTopics.{part_topics}
 use Rattle.part_steps.specs.SetWords.{set_word}
 use Rattle.mmu_core.specs.declared.claim.ClaimNext.{ClaimNext}
 use Rattle.mmu_core.specs.declared.claim.ClaimNext.TheVariants as claims
 use Rattle.mmu_core.specs.declared.watch.WatchNext.{WatchNext}
 use Rattle.mmu_core.specs.lines.FaultLaws.{CanAnswer}
-use Rattle.mmu_core.specs.lines.Forms.{Holds, KnowsPart, LeavesPart, may_leave}
+use Rattle.mmu_core.specs.lines.Forms.{Holds, KnowsPart, RetiresPart, may_retire}
 use Rattle.mmu_core.specs.lines.SlotChangeKnows.{FillsSet, SlotChangeHolds, SlotChangeKnows}
 use Rattle.mmu_core.specs.lines.SlotChangeSteps.{after_set_claim, after_watch, looked_at, slot_change_outcome, slot_change_part, slot_change_task, watch_next}
 use Rattle.mmu_core.specs.machine.Outcomes.{place_after}
@@ -83,11 +83,11 @@ module _ (line : Line) (h : Held) (command : Command) (cached : Buffer Translati
   claim_known p claims.Got u C = (changes, C)
   claim_known p claims.Empty u C = C.0
 
-  -- A page that leaves is one of the pool.
-  left_below : PartRests h → is_some h.topics.leaving ≡ true → page_left h.topics.leaving < h.state.sizes.pool
-  left_below R leaves = by h.topics.leaving refl leaves
+  -- A page that is retired is one of the pool.
+  retired_below : PartRests h → is_some h.topics.retired ≡ true → page_retired h.topics.retired < h.state.sizes.pool
+  retired_below R leaves = by h.topics.retired refl leaves
     where
-      by : (o : Option ℕ) → h.topics.leaving ≡ o → is_some o ≡ true → page_left o < h.state.sizes.pool
+      by : (o : Option ℕ) → h.topics.retired ≡ o → is_some o ≡ true → page_retired o < h.state.sizes.pool
       by None is some = absurd (cc some)
       by (Some k) is some = R.left k is
 
@@ -97,9 +97,9 @@ module _ (line : Line) (h : Held) (command : Command) (cached : Buffer Translati
       (changes, (K.0, K.1, watch_comes (own_index h) (actors_of h.state.sizes) h.topics v _ _ (watch.Again is) K.2))
   watch_known _ _ (watch.Next is lt) R K = (changes, (K.0, K.1, lt))
   watch_known _ _ (watch.Last is le) R K =
-      (changes, (K.0, record { leaves = K.1.leaves; in_pool = left_below R K.1.leaves; owns_none = K.1.owns_none; watched = le }))
+      (changes, (K.0, record { leaves = K.1.leaves; in_pool = retired_below R K.1.leaves; owns_none = K.1.owns_none; watched = le }))
 
-  pub slot_change_known : (p : SlotChangePlace) → PartRests h → SlotChangeKnows p h → LeavesPart (place.SlotChange p) h.topics
+  pub slot_change_known : (p : SlotChangePlace) → PartRests h → SlotChangeKnows p h → RetiresPart (place.SlotChange p) h.topics
       → CanAnswer (slot_change_part p h command) v
       → KnowsBehind (slot_change_outcome p h v) command (behind p (part_topics (slot_change_part p h command) h.topics v))
   slot_change_known (Refuse refusal) R K left A = rests_by_seq h.topics v K.0
@@ -121,7 +121,7 @@ module _ (line : Line) (h : Held) (command : Command) (cached : Buffer Translati
       one_place (λ q. Knows q (behind Count (part_topics part.Count h.topics v))) (v == 0) Publish Close
       (λ e. (
         changes,
-        (K.0, record { owns = owns; alone = alone; looked = ap count_checked alone; none_open = eqb-true v 0 e; none_leaves = left.leaves refl }),
+        (K.0, record { owns = owns; alone = alone; looked = ap count_checked alone; none_open = eqb-true v 0 e; none_retired = left.leaves refl }),
       ))
       (λ e. (changes, (K.0, owns, sees_open h.topics v K.0 (left.opens refl) e)))
   slot_change_known Close R K left A = (changes, (lock_let_go Exclusive h.topics K.0, same_set h.topics _ refl K.1))
@@ -170,19 +170,19 @@ module _ (line : Line) (h : Held) (command : Command) (cached : Buffer Translati
       (watch_next h v) Watch Clear tt tt
   change_holds z words set _ K e = tt
 
-  -- ---- which page leaves: after a step up to the publication none, and after the last one none any more
+  -- ---- which page is retired: after a step up to the publication none, and after the last one none any more
 
-  page_leaves : (p : SlotChangePlace) → SlotChangeKnows p h → (may_leave (place.SlotChange p) ≡ false → h.topics.leaving ≡ None)
-      → may_leave (place_after (slot_change_outcome p h v)) ≡ false → (part_topics (slot_change_part p h command) h.topics v).leaving ≡ None
-  page_leaves (Claim begun) K left =
+  page_retires : (p : SlotChangePlace) → SlotChangeKnows p h → (may_retire (place.SlotChange p) ≡ false → h.topics.retired ≡ None)
+      → may_retire (place_after (slot_change_outcome p h v)) ≡ false → (part_topics (slot_change_part p h command) h.topics v).retired ≡ None
+  page_retires (Claim begun) K left =
       λ may. claim_leaves h.state.sizes Pages begun h.topics v _ _ _ (claim_made h.state.sizes Pages begun h.topics v) ∙ left refl
-  page_leaves Publish K left = λ may. absurd (cc may)
-  page_leaves Release K left = left
-  page_leaves Watch K left =
-      each_watch (λ q. may_leave (place.SlotChange q) ≡ false → h.topics.leaving ≡ None) (watch_next h v) Watch Clear left left
-  page_leaves Clear K left = left
-  page_leaves Give K left = λ may. ap (λ x. still_leaving x h.topics.leaving) K.1.owns_none
-  page_leaves _ K left = λ may. left refl
+  page_retires Publish K left = λ may. absurd (cc may)
+  page_retires Release K left = left
+  page_retires Watch K left =
+      each_watch (λ q. may_retire (place.SlotChange q) ≡ false → h.topics.retired ≡ None) (watch_next h v) Watch Clear left left
+  page_retires Clear K left = left
+  page_retires Give K left = λ may. ap (λ x. still_retired x h.topics.retired) K.1.owns_none
+  page_retires _ K left = λ may. left refl
 
   -- No invalidation of its own is opened.
   change_closed : (p : SlotChangePlace) → (part_topics (slot_change_part p h command) h.topics v).invalidations.opened ≡ h.topics.invalidations.opened
@@ -195,10 +195,10 @@ module _ (line : Line) (h : Held) (command : Command) (cached : Buffer Translati
   change_frames (Claim begun) = claim_is (λ s. (part_topics s h.topics v).frames ≡ h.topics.frames) Pages begun h.topics.claim refl (λ word. refl)
   change_frames _ = refl
 
-  pub change_leaves : (p : SlotChangePlace) → SlotChangeKnows p h → LeavesPart (place.SlotChange p) h.topics
-      → LeavesPart (place_after (slot_change_outcome p h v)) (part_topics (slot_change_part p h command) h.topics v)
+  pub change_leaves : (p : SlotChangePlace) → SlotChangeKnows p h → RetiresPart (place.SlotChange p) h.topics
+      → RetiresPart (place_after (slot_change_outcome p h v)) (part_topics (slot_change_part p h command) h.topics v)
   change_leaves p K left = record {
-    leaves = page_leaves p K left.leaves;
+    leaves = page_retires p K left.leaves;
     opens = λ may. change_closed p ∙ left.opens refl;
     frames = λ may. ap (λ (x : HeldFrames). x.owned) (change_frames p) ∙ left.frames refl;
   }

@@ -9,7 +9,7 @@ use Rattle.core_views.specs.Held.{Held}
 use Rattle.core_views.specs.Sizes.{actors_of}
 use Rattle.core_views.specs.SlotSets.{MemorySlots}
 use Rattle.spte_words.specs.Flags.{flags_live, flags_logged, flags_read_only}
-use Rattle.mmu_core.specs.invariant.Invariant.{CachedPart, Holds, InvariantOf, KnowsPart, LeavesPart, OwnLines, RecordPart, SlotSetPart}
+use Rattle.mmu_core.specs.invariant.Invariant.{CachedPart, Holds, InvariantOf, KnowsPart, RetiresPart, OwnLines, RecordPart, SlotSetPart}
 use Rattle.part_steps.specs.SlotWords.{field_number, live_at, memory_slot_at, memory_slots_below, slot_at, slot_index, slots_below}
 use Rattle.mmu_core.specs.machine.View.{upd}
 use Rattle.mmu_core.proofs.machine.Columns.{at_upd}
@@ -64,7 +64,7 @@ pub hand_moved : (z : Sizes) (set other : ℕ) (role behind before after : ℕ �
     → SlotSetPart z other behind after
     → ((i : ℕ) → i < actors_of z → i ≢ a → OwnedStays before after (hand i))
     → ((i : ℕ) → i < actors_of z → i ≢ a → (hand i).state.actor ≡ Manager → RecordPart after other (hand i).slots)
-    → OwnLines z a h → Holds z after other h.state.place h.state.line.command h → LeavesPart h.state.place h.topics
+    → OwnLines z a h → Holds z after other h.state.place h.state.line.command h → RetiresPart h.state.place h.topics
     → CachedPart z h.cached.items → (h.state.actor ≡ Manager → RecordPart after other h.slots) → AllKnow z (upd hand a h)
     → InvariantOf z set role before hand → InvariantOf z other behind after (upd hand a h)
 hand_moved z set other role behind before after hand a h stay part owned others own holds leaves cached recorded knows I = record {
@@ -74,7 +74,7 @@ hand_moved z set other role behind before after hand a h stay part owned others 
   loads = at_upd (λ i (x : Held). i < actors_of z → Holds z after other x.state.place x.state.line.command x) hand a h (λ lt. holds)
       (λ i ne lt. loads_stay z before set after other (hand i) stay (owned i lt ne) (hand i).state.place (hand i).state.line.command (I.loads i lt));
   knows = knows;
-  leaves = at_upd (λ i (x : Held). i < actors_of z → LeavesPart x.state.place x.topics) hand a h (λ lt. leaves) (λ i ne. I.leaves i);
+  leaves = at_upd (λ i (x : Held). i < actors_of z → RetiresPart x.state.place x.topics) hand a h (λ lt. leaves) (λ i ne. I.leaves i);
   cached = at_upd (λ i (x : Held). i < actors_of z → CachedPart z x.cached.items) hand a h (λ lt. cached) (λ i ne. I.cached i);
   recorded = at_upd (λ i (x : Held). i < actors_of z → x.state.actor ≡ Manager → RecordPart after other x.slots) hand a h (λ lt. recorded)
       (λ i ne lt is. others i lt ne is);

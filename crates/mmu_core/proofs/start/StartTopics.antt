@@ -22,7 +22,7 @@ use Rattle.mmu_core.specs.invariant.InvalidationsPart.{CheckedPart, CountPart, L
 use Rattle.mmu_core.specs.invariant.LockPart.{LockPart, is_shared, readers, sharers, writers}
 use Rattle.mmu_core.specs.machine.Machine.{World, hand_in}
 use Rattle.part_steps.specs.PartSteps.{IsAtRest, counts}
-use Rattle.mmu_core.specs.invariant.PoolPart.{UsePart, is_free, is_leaving, is_owned, is_use, page_told}
+use Rattle.mmu_core.specs.invariant.PoolPart.{UsePart, is_free, is_retired, is_owned, is_use, page_told}
 use Rattle.mmu_core.specs.invariant.SearchPart.{LookPart, SearchPart}
 use Rattle.mmu_core.specs.invariant.StatesPart.{stay_bits}
 use Rattle.mmu_core.specs.machine.Sums.{one_if, sum_below}
@@ -60,9 +60,9 @@ owns_none : (z : Sizes) (lines : List Line) (w : World Held) (i : ℕ) (o : Owne
 owns_none z lines w i o start lt is =
     let e : (hand_in mmu w i).topics.owned ≡ None = ap (λ (t : Topics). t.owned) (topics_are z lines w i start lt) in absurd (cc (e, is))
 
-leaves_none : (z : Sizes) (lines : List Line) (w : World Held) (i k : ℕ) → IsStart z lines w → i < actors_of z → (hand_in mmu w i).topics.leaving ≡ Some k → ⊥
-leaves_none z lines w i k start lt is =
-    let e : (hand_in mmu w i).topics.leaving ≡ None = ap (λ (t : Topics). t.leaving) (topics_are z lines w i start lt) in absurd (cc (e, is))
+retires_none : (z : Sizes) (lines : List Line) (w : World Held) (i k : ℕ) → IsStart z lines w → i < actors_of z → (hand_in mmu w i).topics.retired ≡ Some k → ⊥
+retires_none z lines w i k start lt is =
+    let e : (hand_in mmu w i).topics.retired ≡ None = ap (λ (t : Topics). t.retired) (topics_are z lines w i start lt) in absurd (cc (e, is))
 
 holds_none : (z : Sizes) (lines : List Line) (w : World Held) (i k : ℕ) → IsStart z lines w → i < actors_of z → (hand_in mmu w i).topics.search.set ≡ Some k → ⊥
 holds_none z lines w i k start lt is =
@@ -90,14 +90,14 @@ slots_start : (z : Sizes) (lines : List Line) (w : World Held) → IsStart z lin
 slots_start z lines w start = word_at_start z w area.Slots 0 1 start.words (λ l. refl) (λ e. absurd (cc e))
 
 uses_start : (z : Sizes) (lines : List Line) (w : World Held) → IsStart z lines w → UsePart (actors_of z) z.pool (word_in z w area.Slots 0)
-    (word_in z w area.PoolMap) (λ i. (hand_in mmu w i).topics.owned) (λ i. (hand_in mmu w i).topics.leaving) (start_up z.pool)
+    (word_in z w area.PoolMap) (λ i. (hand_in mmu w i).topics.owned) (λ i. (hand_in mmu w i).topics.retired) (start_up z.pool)
 uses_start z lines w start = record { told = by }
   where
     bits : (i : ℕ) → word_in z w area.PoolMap i ≡ free_bits 2 z.pool i
     bits i = map_word z w i start.sizes start.words
 
     by : AreUsed Use is_use (page_told (actors_of z) z.pool (word_in z w area.Slots 0) (word_in z w area.PoolMap) (λ i. (hand_in mmu w i).topics.owned)
-        (λ i. (hand_in mmu w i).topics.leaving) (start_up z.pool)) (start_up z.pool)
+        (λ i. (hand_in mmu w i).topics.retired) (start_up z.pool)) (start_up z.pool)
     by Free k =
         let map = word_in z w area.PoolMap in
         each_page z.pool k (λ u. is_free map k ≡ is_use Free u) (λ e. bits_below map 2 z.pool bits k (omega (arith, e)))
@@ -113,8 +113,8 @@ uses_start z lines w start = record { told = by }
         (λ low lt. other 1 k (λ e. omega (arith, e, low)))
         (λ low le. other 1 k (λ e. omega (arith, e, low)))
     by (OldSet i) k =
-        at_none is_leaving (actors_of z) (λ i. (hand_in mmu w i).topics.leaving) i k
-        (λ lt. ap (λ (t : Topics). is_leaving t.leaving k) (topics_are z lines w i start lt))
+        at_none is_retired (actors_of z) (λ i. (hand_in mmu w i).topics.retired) i k
+        (λ lt. ap (λ (t : Topics). is_retired t.retired k) (topics_are z lines w i start lt))
         ∙ each_page z.pool k (λ u. false ≡ is_use (OldSet i) u) (λ e. refl) (λ e. refl) (λ low lt. refl) (λ low le. refl)
     by Outside k =
         let two = start.sizes.pool.0 in
@@ -196,7 +196,7 @@ counters_first z = record {
   claim = omega arith;
   seen = omega arith;
   watched = omega arith;
-  run = λ from. absurd (omega (arith, from));
+  span = λ from. absurd (omega (arith, from));
   counted = omega arith;
   seq = omega arith;
   asked = omega arith;
@@ -251,7 +251,7 @@ start_topics z lines w start = record {
   paths = λ i lt. subst (λ (t : Topics). PathPart (stands (start_up z.pool) start_spot) t.walk) (sym (topics_are z lines w i start lt))
       (λ level from above most. absurd (omega (arith, from)));
   sets = λ i k lt is. absurd (holds_none z lines w i k start lt is);
-  old_sets = λ i k lt is. absurd (leaves_none z lines w i k start lt is);
+  old_sets = λ i k lt is. absurd (retires_none z lines w i k start lt is);
   held_slots = λ i set gfn id slot lt is. absurd (holds_none z lines w i set start lt is);
   searches = λ i lt. subst (λ (t : Topics). SearchPart (word_in z w area.Pool) t.search) (sym (topics_are z lines w i start lt))
       (search_first (word_in z w area.Pool));

@@ -27,7 +27,7 @@ use Rattle.spte_words.specs.Flags.{flags_live}
 use Rattle.spte_words.specs.Areas.{StandsSomewhere}
 use Rattle.spte_words.proofs.Places.{word_stands}
 use Rattle.spte_words.proofs.ReadsHost.{host_fits}
-use Rattle.mmu_core.specs.invariant.Invariant.{CachedPart, Holds, IsSetBy, KnowsPart, OwnLines, RecordPart, LeavesPart}
+use Rattle.mmu_core.specs.invariant.Invariant.{CachedPart, Holds, IsSetBy, KnowsPart, OwnLines, RecordPart, RetiresPart}
 use Rattle.mmu_core.specs.machine.Enabled.{mmu}
 use Rattle.mmu_core.specs.machine.Machine.{World, hand_in}
 use Rattle.mmu_core.specs.lines.Rests.{Rests}
@@ -268,7 +268,7 @@ start_good z lines w start = record {
         λ i lt. subst (λ (h : Held). Holds z (word_in z w area.Pool) (word_in z w area.Slots 0) h.state.place h.state.line.command h)
         (sym (hand_is z lines w i start lt)) tt;
     knows = λ i lt. subst (λ (h : Held). KnowsPart h.state.place h.state.line.command h) (sym (hand_is z lines w i start lt)) (λ has. rest_first);
-    leaves = λ i lt. subst (λ (h : Held). LeavesPart h.state.place h.topics) (sym (hand_is z lines w i start lt))
+    leaves = λ i lt. subst (λ (h : Held). RetiresPart h.state.place h.topics) (sym (hand_is z lines w i start lt))
         (record { leaves = λ may. refl; opens = λ may. refl; frames = λ may. refl });
     cached = λ i lt. subst (λ (h : Held). CachedPart z h.cached.items) (sym (hand_is z lines w i start lt))
         (All-nil (λ (t : Translation). (t.level ≡ 1) × (frame_in t.leaf < z.frames)));

@@ -19,7 +19,7 @@ use Rattle.part_steps.specs.declared.part_step.PartStep.{PartStep}
 use Rattle.part_steps.specs.declared.part_step.PartStep.TheVariants as part
 use Rattle.part_steps.specs.PartBounds.{PartRests}
 use Rattle.part_steps.specs.PartTasks.{IsWithin, all_but, leaf_written, link_written, own_index, page_owned, part_kind, part_task, set_held}
-use Rattle.part_steps.specs.PartTasks.{table_page, word_looked, words_filled, page_left, page_looked}
+use Rattle.part_steps.specs.PartTasks.{table_page, word_looked, words_filled, page_retired, page_looked}
 use Rattle.core_views.specs.declared.topics.OwnedFrame.{OwnedFrame}
 use Rattle.part_steps.specs.FrameHoldings.{revises}
 use Rattle.part_steps.specs.FrameTopics.{frame_owned}
@@ -58,13 +58,13 @@ slot_within h note some low R = by h.topics.search.set refl some
         let n = is_number h.topics.search.next in
         rw (ap set_held is) (pool_within (map_of h.state.sizes) k (4 * h.topics.search.id + field_number h.topics.search.next) (R.set k is) (omega arith))
 
--- the page that is leaving is one of the pool
-left_there : (h : Held) → MayGiveOld h → PartRests h → page_left h.topics.leaving < h.state.sizes.pool
-left_there h M R = by h.topics.leaving refl M.leaves
+-- the page that is retired is one of the pool
+left_there : (h : Held) → MayGiveOld h → PartRests h → page_retired h.topics.retired < h.state.sizes.pool
+left_there h M R = by h.topics.retired refl M.leaves
   where
-    by : (x : Option ℕ) → h.topics.leaving ≡ x → is_some x ≡ true → page_left h.topics.leaving < h.state.sizes.pool
+    by : (x : Option ℕ) → h.topics.retired ≡ x → is_some x ≡ true → page_retired h.topics.retired < h.state.sizes.pool
     by None is some = absurd (cc some)
-    by (Some k) is some = rw (ap page_left is) (R.left k is)
+    by (Some k) is some = rw (ap page_retired is) (R.left k is)
 
 -- A virtual processor is one of the actors.
 vcpu_within : (index : ℕ) (z : Sizes) → index < z.vcpus → index < actors_of z
@@ -192,7 +192,7 @@ part_small part.Give h note N R = power_small (page_owned h.topics.owned % 64) (
 part_small (part.Link gfn) h note N R = link_small h N.3 R
 part_small (part.Leaf gfn) h note N R = leaf_small h N.0.looked_up R
 part_small part.Publish h note N R = publish_small h N R
-part_small part.GiveOld h note N R = power_small (page_left h.topics.leaving % 64) (omega arith)
+part_small part.GiveOld h note N R = power_small (page_retired h.topics.retired % 64) (omega arith)
 part_small (part.SetStart gfn) h note N R = N.1
 part_small (part.SetEnd gfn) h note N R = N.1
 part_small (part.SetCount count) h note N R = count_small h count N R

@@ -14,7 +14,7 @@ use Rattle.mmu_core.specs.lines.Cached.{flushed}
 use Rattle.part_steps.specs.declared.part_step.PartStep.{PartStep}
 use Rattle.part_steps.specs.declared.part_step.PartStep.TheVariants as part
 use Rattle.part_steps.specs.PartTasks.{entry_index, entry_task, leaf_written, link_written, part_task, table_page, word_looked, page_looked}
-use Rattle.part_steps.specs.PartTasks.{page_left, page_owned, words_filled}
+use Rattle.part_steps.specs.PartTasks.{page_retired, page_owned, words_filled}
 use Rattle.part_steps.specs.PartSteps.{PartNeeds}
 use Rattle.part_steps.specs.PartTopics.{changed_host, exchanged, part_topics, exchanged_host}
 use Rattle.mmu_core.specs.machine.Steps.{idle_after}
@@ -36,7 +36,7 @@ IsThere z t (part.Map word) = word < words_of_bits z.pool
 IsThere z t (part.FrameMap word) = word < words_of_bits z.frames
 IsThere z t (part.Fill value) = (page_owned t.owned < z.pool) × (words_filled t.owned < 512)
 IsThere z t (part.Role value) = page_owned t.owned < z.pool
-IsThere z t part.Clear = page_left t.leaving < z.pool
+IsThere z t part.Clear = page_retired t.retired < z.pool
 IsThere z t (part.Walk gfn) = 1 ≤ t.walk.level
 IsThere z t (part.Link gfn) = 1 ≤ t.walk.level
 IsThere z t (part.Leaf gfn) = 1 ≤ t.walk.level
@@ -136,7 +136,7 @@ part_topics_is z (part.Fill value) own t note v there =
     filled_topics z area.Pool (pool_index (page_owned t.owned) (words_filled t.owned)) t v (omega arith)
     (pool_within (map_of z) (page_owned t.owned) (words_filled t.owned) there.0 there.1)
 part_topics_is z (part.Role value) own t note v there = filled_topics z area.Role (page_owned t.owned) t v (omega arith) there
-part_topics_is z part.Clear own t note v there = filled_topics z area.Role (page_left t.leaving) t v (omega arith) there
+part_topics_is z part.Clear own t note v there = filled_topics z area.Role (page_retired t.retired) t v (omega arith) there
 part_topics_is z (part.FrameMap word) own t note v there = frame_map_topics z own word t note v there
 part_topics_is z (part.Store index) own t note v there = stored_topics z index t v
 part_topics_is z _ own t note v there = refl
@@ -152,13 +152,13 @@ part_hand step own note h v = record {
   answers = h.answers;
 }
 
--- what the step of the actor at place a makes of the words and hands
+-- what the step of actor a makes of the words and hands
 abbrev pub part_behind : ℕ → PartStep → ℕ → View → View
 part_behind a step note v =
     let t : Task = part_task step a (v.hand a).topics note in
     record { words = words_after t v.words; hand = upd v.hand a (part_hand step a note (v.hand a) (answer_in t v.words)) }
 
--- the hand of the actor at place a then
+-- the hand of actor a then
 abbrev pub stepped_hand : ℕ → PartStep → ℕ → View → Held
 stepped_hand a step note v = part_hand step a note (v.hand a) (answer_in (part_task step a (v.hand a).topics note) v.words)
 

@@ -13,13 +13,13 @@ use Rattle.spte_words.proofs.Indices.{same_pool_word}
 use Rattle.part_steps.specs.declared.part_step.PartStep.{PartStep}
 use Rattle.part_steps.specs.declared.part_step.PartStep.TheVariants as part
 use Rattle.part_steps.specs.PartTasks.{entry_index, entry_task, leaf_written, link_written, own_index, page_owned, part_task, table_page}
-use Rattle.part_steps.specs.PartTasks.{words_filled, page_left}
+use Rattle.part_steps.specs.PartTasks.{words_filled, page_retired}
 use Rattle.mmu_core.specs.invariant.TopicsInvariant.{TopicsInvariant}
 use Rattle.mmu_core.specs.machine.View.{View, part_stepped, put, upd, words_after}
 use Rattle.mmu_core.proofs.machine.Columns.{upd_other}
 use Rattle.mmu_core.proofs.pages.Owned.{owned_some, some_filled}
 use Rattle.mmu_core.proofs.machine.PartStepping.{IsPart, is_publish}
-use Rattle.mmu_core.proofs.pages.PoolPages.{owned_not_slots, table_not_owned, table_not_slots, left_not_slots}
+use Rattle.mmu_core.proofs.pages.PoolPages.{owned_not_slots, table_not_owned, table_not_slots, retired_not_slots}
 
 -- No step of a part stores in the area.
 abbrev pub stays : Area → Bool
@@ -155,7 +155,7 @@ IsElsewhere _ t k = Unit {0}
 -- Nor in its role: it isn't the page whose role is stored, or taken.
 abbrev pub HasOtherRole : PartStep → Topics → ℕ → Type 0
 HasOtherRole (part.Role value) t k = (o : OwnedPage) → t.owned ≡ Some o → o.page ≢ k
-HasOtherRole part.Clear t k = page_left t.leaving ≢ k
+HasOtherRole part.Clear t k = page_retired t.retired ≢ k
 HasOtherRole _ t k = Unit {0}
 
 -- the page that is owned is another one
@@ -194,7 +194,7 @@ pub role_stays : (z : Sizes) (v : View) (a : ℕ) (step : PartStep) (note : ℕ)
 role_stays z v a (part.Role value) note S k differs =
     let t : Topics = (v.hand a).topics in
     upd_other (v.words area.Role) (page_owned t.owned) k value (λ e. owned_elsewhere t (some_filled t.owned 512 S.needs.0 (omega arith)) k differs (sym e))
-role_stays z v a part.Clear note S k differs = upd_other (v.words area.Role) (page_left (v.hand a).topics.leaving) k 0 (λ e. differs (sym e))
+role_stays z v a part.Clear note S k differs = upd_other (v.words area.Role) (page_retired (v.hand a).topics.retired) k 0 (λ e. differs (sym e))
 role_stays z v a _ note S k differs = refl
 
 -- The table that an entry is exchanged in is no page of the published slot set, and nobody owns it.
@@ -209,13 +209,13 @@ pub walks_unowned : (z : Sizes) (v : View) (a : ℕ) → a < actors_of z → Top
 walks_unowned z v a lt I from =
     table_not_owned I.uses I.spot (table_page (v.hand a).topics.walk) _ ((I.held a lt).table from)
 
--- the page that is leaving is another one
-pub left_elsewhere : (t : Topics) → is_some t.leaving ≡ true → (k : ℕ) → ((l : ℕ) → t.leaving ≡ Some l → l ≢ k) → page_left t.leaving ≢ k
-left_elsewhere t some k each = by t.leaving refl some
+-- the page that is retired is another one
+pub retired_elsewhere : (t : Topics) → is_some t.retired ≡ true → (k : ℕ) → ((l : ℕ) → t.retired ≡ Some l → l ≢ k) → page_retired t.retired ≢ k
+retired_elsewhere t some k each = by t.retired refl some
   where
-    by : (x : Option ℕ) → t.leaving ≡ x → is_some x ≡ true → page_left t.leaving ≢ k
+    by : (x : Option ℕ) → t.retired ≡ x → is_some x ≡ true → page_retired t.retired ≢ k
     by None is some e = absurd (cc some)
-    by (Some l) is some e = each l is (sym (ap page_left is) ∙ e)
+    by (Some l) is some e = each l is (sym (ap page_retired is) ∙ e)
 
 -- A step leaves the page of the published slot set.
 pub slots_elsewhere : (z : Sizes) (v : View) (a : ℕ) (step : PartStep) → IsPart z v a step → TopicsInvariant z v
@@ -230,8 +230,8 @@ slots_elsewhere z v a _ S I = tt
 pub slots_other_role : (z : Sizes) (v : View) (a : ℕ) (step : PartStep) → IsPart z v a step → TopicsInvariant z v
     → HasOtherRole step (v.hand a).topics (v.words area.Slots 0)
 slots_other_role z v a (part.Role value) S I = λ o is. owned_not_slots I.uses a o S.there is
-slots_other_role z v a part.Clear S I = left_elsewhere (v.hand a).topics S.needs.leaves (v.words area.Slots 0)
-    (λ k is. left_not_slots I.uses a k S.there is)
+slots_other_role z v a part.Clear S I = retired_elsewhere (v.hand a).topics S.needs.leaves (v.words area.Slots 0)
+    (λ k is. retired_not_slots I.uses a k S.there is)
 slots_other_role z v a _ S I = tt
 
 pub fill_elsewhere : (z : Sizes) (v : View) (a : ℕ) (step : PartStep) (note : ℕ) → IsPart z v a step → TopicsInvariant z v → (j : ℕ) → j < 512

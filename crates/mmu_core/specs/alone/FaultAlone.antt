@@ -99,7 +99,7 @@ abbrev pub AloneNext : FaultNext → ℕ → ℕ → (ℕ → ℕ) → (ℕ → 
 AloneNext (Goes p) root set pool host gfn write t = FaultAlone p root set pool host gfn write t
 AloneNext (Ends e) root set pool host gfn write t = EndAlone e root set pool host gfn write
 
--- A fault of the actor at place a stands at this place of its order, while all other actors rest; what its actor has seen stands, and it
+-- A fault of actor a stands at this place of its order, while all other actors rest; what its actor has seen stands, and it
 -- has no invalidation open.
 pub record FaultRunsAlone (z : Sizes) (w : World Held) (a : ℕ) (p : FaultPlace) (gfn : ℕ) (write : Bool) : Type 0 where
   pub sound : IsSound z w

@@ -34,7 +34,7 @@ use Rattle.mmu_core.specs.machine.Worlds.{IsStart}
 abbrev pub hand_left : Held → ℕ
 hand_left h = steps_left (place_at h.state.place h) h.state.sizes h.topics
 
--- The actor at place a has a line left, all other actors rest, and the line knows what its place asks.
+-- Actor a has a line left, all other actors rest, and the line knows what its place asks.
 pub record LineAlone (z : Sizes) (w : World Held) (a : ℕ) : Type 0 where
   pub sound : IsSound z w
   pub others : OthersRest a w

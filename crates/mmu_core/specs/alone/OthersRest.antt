@@ -7,10 +7,10 @@ use Rattle.part_steps.specs.PartSteps.{IsAtRest}
 use Rattle.part_steps.specs.StayTopics.{has_lock, is_alone}
 use Rattle.core_views.specs.declared.topics.Topics.{Topics}
 
--- The actor holds nothing, no page leaves for it, no invalidation of its own is open, and it owns no frame.
+-- The actor holds nothing, no page is retired by it, no invalidation of its own is open, and it owns no frame.
 pub record HoldsNothing (t : Topics) : Type 0 where
   pub rests : IsAtRest t
-  pub leaves_none : t.leaving ≡ None
+  pub retires_none : t.retired ≡ None
   pub opens_none : t.invalidations.opened ≡ false
   pub owns_no_frame : t.frames.owned ≡ None
 

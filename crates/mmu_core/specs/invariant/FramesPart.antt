@@ -39,7 +39,7 @@ names pages host page frame = has_at is_in pages host page frame
 abbrev pub is_frame_of : Option OwnedFrame → ℕ → Bool
 is_frame_of owned frame = is_number (λ (o : OwnedFrame). o.frame) owned frame
 
--- The actor at place i, of n, owns the frame.
+-- Actor i, of n, owns the frame.
 abbrev pub owns_frame : ℕ → (ℕ → Option OwnedFrame) → ℕ → ℕ → Bool
 owns_frame n owned i frame = has_at is_frame_of n owned i frame
 

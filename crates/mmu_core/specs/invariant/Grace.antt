@@ -22,7 +22,7 @@ use Rattle.mmu_core.specs.machine.Worlds.{IsStart, Reachable}
 abbrev pub topics_in : World Held → ℕ → Topics
 topics_in w actor = (hand_in mmu w actor).topics
 
--- The step is this actor's look at the state word of the actor at place i.
+-- The step is this actor's look at the state word of actor i.
 pub record IsLook (z : Sizes) (actor i : ℕ) (s : Step Kind) : Type 0 where
   pub by : s.actor ≡ actor
   pub watch : s.kind.code ≡ code_of kind.Watch
@@ -33,7 +33,7 @@ abbrev pub BeginNoWatch : Sizes → ℕ → List (Step Kind) → Type 0
 BeginNoWatch z actor [] = Unit {0}
 BeginNoWatch z actor (s ∷ ss) = (IsLook z actor (next_watched actor 0) s → ⊥) × BeginNoWatch z actor ss
 
--- One of these steps, made from this world on, is the actor's look at the actor at place i, which was outside at that moment; and after
+-- One of these steps, made from this world on, is the actor's look at actor i, which was outside at that moment; and after
 -- this look the actor began no other watch.
 pub record SawOutside (z : Sizes) (w : World Held) (actor i : ℕ) (ss : List (Step Kind)) : Type 0 where
   pub before : List (Step Kind)

@@ -9,7 +9,7 @@ use Rattle.mmu_core.specs.invariant.SlotSetPart.{AreSlots}
 use Rattle.part_steps.specs.StayTopics.{may_search, may_walk}
 use Rattle.mmu_core.specs.invariant.TreePart.{Position, at}
 
--- The table that a walk has come to is one, at the walk's level and run; and neither a table nor a slot set is held outside of the
+-- The table that a walk has come to is one, at the walk's level and span; and neither a table nor a slot set is held outside of the
 -- guest, of a section and of the lock.
 pub record HeldPart (stands : ℕ → Option Position) (t : Topics) : Type 0 where
   pub table : 1 ≤ t.walk.level → stands (table_page t.walk) ≡ Some (at t.walk.level t.walk.prefix)
@@ -20,15 +20,15 @@ pub record HeldPart (stands : ℕ → Option Position) (t : Topics) : Type 0 whe
 abbrev pub table_at : ℕ → TableWalk → ℕ
 table_at level walk = table_page (record walk { level = level })
 
--- the run of guest frames of that level in which the walk is
-abbrev pub run_at : ℕ → TableWalk → ℕ
-run_at level walk = walk.prefix / 512 ^ (level - walk.level)
+-- the span of guest frames of that level in which the walk is
+abbrev pub span_at : ℕ → TableWalk → ℕ
+span_at level walk = walk.prefix / 512 ^ (level - walk.level)
 
--- Each table that a walk has gone through stands at its level, for the run of this level in which the walk is.
+-- Each table that a walk has gone through stands at its level, for the span of this level in which the walk is.
 abbrev pub PathPart : (ℕ → Option Position) → TableWalk → Type 0
-PathPart stands walk = (level : ℕ) → 1 ≤ walk.level → walk.level < level → level ≤ 4 → stands (table_at level walk) ≡ Some (at level (run_at level walk))
+PathPart stands walk = (level : ℕ) → 1 ≤ walk.level → walk.level < level → level ≤ 4 → stands (table_at level walk) ≡ Some (at level (span_at level walk))
 
--- The actor at place i is in a section. Another one has taken k out of use (`retires` says what each actor has), and hasn't watched this one since.
+-- Actor i is in a section. Another one has taken k out of use (`retires` says what each actor has), and hasn't watched this one since.
 pub record HoldsOld (retires : Topics → Option ℕ) (n : ℕ) (topics : ℕ → Topics) (i k : ℕ) : Type 0 where
   pub section : (topics i).stay ≡ Section
   pub by : ℕ
@@ -41,10 +41,10 @@ pub record HoldsOld (retires : Topics → Option ℕ) (n : ℕ) (topics : ℕ �
 abbrev pub HeldStill : (Topics → Option ℕ) → (Topics → Option ℕ) → ℕ → (ℕ → Type 0) → (ℕ → Topics) → Type 0
 HeldStill holds retires n IsInUse topics = (i k : ℕ) → i < n → holds (topics i) ≡ Some k → IsInUse k ⊎ HoldsOld retires n topics i k
 
--- The slot set that an actor holds is the published one, or an older one that is leaving, for an actor that hasn't watched it since.
+-- The slot set that an actor holds is the published one, or an older one that an actor has retired which hasn't watched it since.
 abbrev pub SetsPart : ℕ → ℕ → (ℕ → Topics) → Type 0
-SetsPart n slots topics = HeldStill (λ t. t.search.set) (λ t. t.leaving) n (λ k. k ≡ slots) topics
+SetsPart n slots topics = HeldStill (λ t. t.search.set) (λ t. t.retired) n (λ k. k ≡ slots) topics
 
--- A page that is leaving has the slots of a slot set still: nobody stores in it.
+-- A page that is retired has the slots of a slot set still: nobody stores in it.
 abbrev pub OldSetsPart : Sizes → ℕ → (ℕ → ℕ) → (ℕ → Option ℕ) → Type 0
-OldSetsPart z n pool leaving = (i k : ℕ) → i < n → leaving i ≡ Some k → AreSlots z pool k
+OldSetsPart z n pool retired = (i k : ℕ) → i < n → retired i ≡ Some k → AreSlots z pool k

@@ -8,7 +8,7 @@ use Rattle.spte_words.specs.declared.area.Area.TheVariants as area
 use Rattle.mmu_core.specs.machine.View.{View}
 pub use Rattle.mmu_core.specs.invariant.SlotSetPart.{SlotSetPart, IsLiveIn}
 pub use Rattle.mmu_core.specs.invariant.CachedPart.{CachedPart, IsLeafFor}
-pub use Rattle.mmu_core.specs.lines.Forms.{KnowsPart, LeavesPart, Holds}
+pub use Rattle.mmu_core.specs.lines.Forms.{KnowsPart, RetiresPart, Holds}
 pub use Rattle.mmu_core.specs.invariant.LinesPart.{IsSetBy, UnderWay, OwnLines, lines_done}
 pub use Rattle.mmu_core.specs.invariant.RecordPart.{RecordPart}
 
@@ -19,7 +19,7 @@ pub record InvariantOf (z : Sizes) (set : ℕ) (role pool : ℕ → ℕ) (hand :
   pub lines : (i : ℕ) → i < actors_of z → OwnLines z i (hand i)
   pub loads : (i : ℕ) → i < actors_of z → Holds z pool set (hand i).state.place (hand i).state.line.command (hand i)
   pub knows : (i : ℕ) → i < actors_of z → KnowsPart (hand i).state.place (hand i).state.line.command (hand i)
-  pub leaves : (i : ℕ) → i < actors_of z → LeavesPart (hand i).state.place (hand i).topics
+  pub leaves : (i : ℕ) → i < actors_of z → RetiresPart (hand i).state.place (hand i).topics
   pub cached : (i : ℕ) → i < actors_of z → CachedPart z (hand i).cached.items
   pub recorded : (i : ℕ) → i < actors_of z → (hand i).state.actor ≡ Manager → RecordPart pool set (hand i).slots
 

@@ -11,7 +11,7 @@ use Rattle.core_views.specs.declared.trace.Line.{Line}
 use Rattle.core_views.specs.Held.{Held}
 use Rattle.core_views.specs.Sizes.{index_of}
 use Rattle.core_views.specs.Traces.{IsCommandFor, slot_ids}
-use Rattle.mmu_core.specs.lines.Forms.{may_leave}
+use Rattle.mmu_core.specs.lines.Forms.{may_retire}
 use Rattle.mmu_core.specs.machine.Steps.{next_line}
 
 -- A line is under way: it is the hand's next line, which has no answer yet.
@@ -25,7 +25,7 @@ IsSetBy lines entry = Contains (map (λ line. line.command) lines) (SetSlot entr
 
 -- how many of the hand's lines have done what they do: those that are answered, and after its publication the one under way
 abbrev pub lines_done : Held → ℕ
-lines_done h = length h.answers + (if may_leave h.state.place then 1 else 0)
+lines_done h = length h.answers + (if may_retire h.state.place then 1 else 0)
 
 -- Lines: whose the hand is, with room in its cache as the sizes say, and that its lines are its actor's; no two of them set a slot at one ID, and
 -- each slot of its record was set, as it is, by one of them, which has done so.

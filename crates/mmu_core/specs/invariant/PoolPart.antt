@@ -15,17 +15,17 @@ is_free map k = has_bit (k % 64) (map (k / 64))
 abbrev pub is_owned : Option OwnedPage → ℕ → Bool
 is_owned owned k = is_number (λ (o : OwnedPage). o.page) owned k
 
--- The actor at place i, of n, owns the page.
+-- Actor i, of n, owns the page.
 abbrev pub owns : ℕ → (ℕ → Option OwnedPage) → ℕ → ℕ → Bool
 owns n owned i k = has_at is_owned n owned i k
 
--- The page is the one that leaves.
-abbrev pub is_leaving : Option ℕ → ℕ → Bool
-is_leaving leaving k = is_number (λ (page : ℕ). page) leaving k
+-- The page is the one that is retired.
+abbrev pub is_retired : Option ℕ → ℕ → Bool
+is_retired retired k = is_number (λ (page : ℕ). page) retired k
 
--- The page leaves for the actor at place i, of n.
+-- Actor i, of n, has retired the page.
 abbrev pub leaves : ℕ → (ℕ → Option ℕ) → ℕ → ℕ → Bool
-leaves n leaving i k = has_at is_leaving n leaving i k
+leaves n retired i k = has_at is_retired n retired i k
 
 -- Two uses are one.
 abbrev pub is_use : Use → Use → Bool
@@ -39,19 +39,19 @@ is_use (OldSet i) (OldSet j) = i == j
 is_use _ _ = false
 
 -- What tells that a page has a use. It is free where its bit in the map is set; an actor's where the actor owns it; the slot set where it is the published one;
--- an old slot set of an actor where it leaves for this actor; and outside of the pool from the pool's end on. All others are tables: the tree tells which.
+-- an old slot set of an actor where this actor has retired it; and outside of the pool from the pool's end on. All others are tables: the tree tells which.
 abbrev pub page_told : ℕ → ℕ → ℕ → (ℕ → ℕ) → (ℕ → Option OwnedPage) → (ℕ → Option ℕ) → (ℕ → Use) → Use → ℕ → Bool
-page_told n pages slots map owned leaving up Free k = is_free map k
-page_told n pages slots map owned leaving up (Owned i) k = owns n owned i k
-page_told n pages slots map owned leaving up SlotSet k = slots == k
-page_told n pages slots map owned leaving up (OldSet i) k = leaves n leaving i k
-page_told n pages slots map owned leaving up Outside k = nat_le pages k
-page_told n pages slots map owned leaving up Root k = is_use Root (up k)
-page_told n pages slots map owned leaving up (Under page entry) k = is_use (Under page entry) (up k)
+page_told n pages slots map owned retired up Free k = is_free map k
+page_told n pages slots map owned retired up (Owned i) k = owns n owned i k
+page_told n pages slots map owned retired up SlotSet k = slots == k
+page_told n pages slots map owned retired up (OldSet i) k = leaves n retired i k
+page_told n pages slots map owned retired up Outside k = nat_le pages k
+page_told n pages slots map owned retired up Root k = is_use Root (up k)
+page_told n pages slots map owned retired up (Under page entry) k = is_use (Under page entry) (up k)
 
 -- What each page is used for, as `up` says: each has exactly one use.
-pub record UsePart (n pages slots : ℕ) (map : ℕ → ℕ) (owned : ℕ → Option OwnedPage) (leaving : ℕ → Option ℕ) (up : ℕ → Use) : Type 0 where
-  pub told : AreUsed Use is_use (page_told n pages slots map owned leaving up) up
+pub record UsePart (n pages slots : ℕ) (map : ℕ → ℕ) (owned : ℕ → Option OwnedPage) (retired : ℕ → Option ℕ) (up : ℕ → Use) : Type 0 where
+  pub told : AreUsed Use is_use (page_told n pages slots map owned retired up) up
 
 -- What an owner has filled: 512 words and the role at most; where it says that all are 0 they are; and the role is what it says.
 pub record IsFilled (role pool : ℕ → ℕ) (o : OwnedPage) : Type 0 where

@@ -13,7 +13,7 @@ pub use Rattle.mmu_core.specs.invariant.HeldPart.{HeldPart, HoldsOld, OldSetsPar
 pub use Rattle.mmu_core.specs.invariant.InvalidationsPart.{CheckedPart, CountPart, KnownRangePart, LoadedPart}
 pub use Rattle.mmu_core.specs.invariant.InvalidatedPart.{PassedPart, RangePart, ScopePart, ZappedPart}
 pub use Rattle.mmu_core.specs.invariant.LockPart.{LockPart, SawWriter}
-pub use Rattle.mmu_core.specs.invariant.PoolPart.{FilledPart, IsFilled, UsePart, is_leaving}
+pub use Rattle.mmu_core.specs.invariant.PoolPart.{FilledPart, IsFilled, UsePart, is_retired}
 pub use Rattle.mmu_core.specs.invariant.SearchPart.{HeldSlotsPart, IsInvalidating, LookPart, SearchPart}
 pub use Rattle.mmu_core.specs.invariant.StatesPart.{StatesPart}
 pub use Rattle.mmu_core.specs.invariant.TreePart.{Position, TreePart, Use, stands}
@@ -27,14 +27,14 @@ pub record TopicsInvariantOf (z : Sizes) (lock root slots seq count start end_ :
   pub lock_part : LockPart (actors_of z) lock (λ i. (hand i).topics.hold)
   pub saw_writer : (i : ℕ) → i < actors_of z → SawWriter (hand i).topics.hold
   pub states_part : StatesPart (actors_of z) states (λ i. (hand i).topics.stay)
-  pub uses : UsePart (actors_of z) z.pool slots map (λ i. (hand i).topics.owned) (λ i. (hand i).topics.leaving) up
+  pub uses : UsePart (actors_of z) z.pool slots map (λ i. (hand i).topics.owned) (λ i. (hand i).topics.retired) up
   pub tree : TreePart z.pool root role pool up spot
   pub leaves : AllOver up spot pool root (LeafIsFor pool host slots)
   pub filled : FilledPart (actors_of z) role pool (λ i. (hand i).topics.owned)
   pub held : (i : ℕ) → i < actors_of z → HeldPart (stands up spot) (hand i).topics
   pub paths : (i : ℕ) → i < actors_of z → PathPart (stands up spot) (hand i).topics.walk
   pub sets : SetsPart (actors_of z) slots (λ i. (hand i).topics)
-  pub old_sets : OldSetsPart z (actors_of z) pool (λ i. (hand i).topics.leaving)
+  pub old_sets : OldSetsPart z (actors_of z) pool (λ i. (hand i).topics.retired)
   pub held_slots : HeldSlotsPart (actors_of z) seq pool slots (λ i. (hand i).topics)
   pub searches : (i : ℕ) → i < actors_of z → SearchPart pool (hand i).topics.search
   pub hosts : HostWordsPart z host

@@ -4,7 +4,7 @@ use Rattle.spte_words.specs.Areas.{pool_index}
 use Rattle.spte_words.specs.declared.spte_kind.SpteKind.TheVariants.{Leaf}
 use Rattle.spte_words.specs.Entries.{absent_word, kind_of, table_word}
 
--- where a table stands: its level, and which of the runs of guest frames that tables of this level are for is its own
+-- where a table stands: its level, and which of the spans of guest frames that tables of this level are for is its own
 pub record Position : Type 0 where
   pub level : ℕ
   pub prefix : ℕ
@@ -13,7 +13,7 @@ abbrev pub at : ℕ → ℕ → Position
 at level prefix = record { level = level; prefix = prefix }
 
 -- what a page of the pool is: free; the root; owned by the actor at a place; a table to which an entry of another table's page links; the
--- published slot set; an old slot set, which leaves for an actor; or none, since its number is outside of the pool
+-- published slot set; an old slot set, which an actor has retired; or none, since its number is outside of the pool
 pub data Use : Type 0 where
   Free Root SlotSet Outside : Use
   Owned : (actor : ℕ) → Use
@@ -59,7 +59,7 @@ pub record IsLeafAt (p : Position) (w : ℕ) : Type 0 where
 abbrev pub EntryPart : (ℕ → Use) → ℕ → Position → ℕ → ℕ → Type 0
 EntryPart up k p j w = (w ≡ absent_word) ⊎ LinksTo up k p j w ⊎ IsLeafAt p w
 
--- The table that is page c and stands here is linked by entry j of page k, a table one level above, over its run.
+-- The table that is page c and stands here is linked by entry j of page k, a table one level above, over its span.
 pub record IsUnder (pool : ℕ → ℕ) (up : ℕ → Use) (spot : ℕ → Position) (c : ℕ) (p : Position) (k j : ℕ) : Type 0 where
   pub lower : p.level < 4
   pub above : stands up spot k ≡ Some (at (p.level + 1) (p.prefix / 512))

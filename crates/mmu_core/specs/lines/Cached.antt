@@ -10,7 +10,7 @@ use Rattle.core_views.specs.Kinds.{kind_named}
 use Rattle.spte_words.specs.Bits.{has_bit}
 use Rattle.spte_words.specs.Entries.{can_write, mapped_frame, level_span}
 
--- The leaf's run holds the guest frame, as it holds the one that the walk was for.
+-- The leaf's span holds the guest frame, as it holds the one that the walk was for.
 abbrev pub covers : ℕ → Translation → Bool
 covers gfn t = gfn / level_span t.level == t.gfn / level_span t.level
 

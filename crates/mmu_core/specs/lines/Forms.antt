@@ -1,5 +1,5 @@
 -- What each form of line says at its places: a clause a form in each table. The tables are filled in by the form's own files.
-pub use Rattle.mmu_core.specs.lines.Leaves.{LeavesPart, may_leave, may_open, may_own_frame}
+pub use Rattle.mmu_core.specs.lines.Retires.{RetiresPart, may_retire, may_open, may_own_frame}
 use Rattle.mmu_core.specs.lines.HostKnows.{HostKnows, HostRests}
 use Rattle.mmu_core.specs.lines.HostSteps.{host_left, host_note, host_outcome, host_part, host_tells}
 use Rattle.core_views.specs.declared.place.HostPlace.TheVariants as host

@@ -20,9 +20,9 @@ pub use Rattle.mmu_core.specs.lines.LockKnows.{HoldsLock}
 use Rattle.mmu_core.specs.lines.PartWaits.{saw_open}
 use Rattle.mmu_core.specs.lines.SlotChangeSteps.{looked_at}
 
--- The page of the old slot set is leaving, and no page is owned.
-pub record HasPublished (leaving : Option ℕ) (owned : Option OwnedPage) : Type 0 where
-  pub leaves : is_some leaving ≡ true
+-- The page of the old slot set is retired, and no page is owned.
+pub record HasPublished (retired : Option ℕ) (owned : Option OwnedPage) : Type 0 where
+  pub leaves : is_some retired ≡ true
   pub owns_none : owned ≡ None
 
 -- A line is refused for want of a frame. No line that changes a slot is.
@@ -41,8 +41,8 @@ SlotChangeKnows Count h = HoldsLock Exclusive h.topics × OwnsSet h.topics
 SlotChangeKnows Close h = HoldsLock Exclusive h.topics × OwnsSet h.topics × (saw_open h.topics.invalidations ≡ true)
 SlotChangeKnows Publish h = HoldsLock Exclusive h.topics × MayPublish h.topics
 SlotChangeKnows Release h =
-    HoldsLock Exclusive h.topics × HasPublished h.topics.leaving h.topics.owned × (h.topics.watched ≡ 0) × (h.topics.invalidations.count ≡ 0)
-SlotChangeKnows Watch h = HoldsLock Loose h.topics × HasPublished h.topics.leaving h.topics.owned × (looked_at h < actors_of h.state.sizes)
+    HoldsLock Exclusive h.topics × HasPublished h.topics.retired h.topics.owned × (h.topics.watched ≡ 0) × (h.topics.invalidations.count ≡ 0)
+SlotChangeKnows Watch h = HoldsLock Loose h.topics × HasPublished h.topics.retired h.topics.owned × (looked_at h < actors_of h.state.sizes)
 SlotChangeKnows Clear h = HoldsLock Loose h.topics × MayGiveOld h
 SlotChangeKnows Give h = HoldsLock Loose h.topics × MayGiveOld h
 

@@ -16,7 +16,7 @@ use Rattle.spte_words.specs.declared.area.Area.{Area}
 use Rattle.mmu_core.specs.declared.outcome.Outcome.{Outcome}
 use Rattle.mmu_core.specs.declared.outcome.Outcome.TheVariants.{Goes, Ends}
 use Rattle.mmu_core.specs.alone.AloneKnows.{AloneKnows}
-use Rattle.mmu_core.specs.lines.Forms.{LeavesPart, may_leave, may_open, may_own_frame, steps_left, outcome_at, KnowsPart}
+use Rattle.mmu_core.specs.lines.Forms.{RetiresPart, may_retire, may_open, may_own_frame, steps_left, outcome_at, KnowsPart}
 use Rattle.mmu_core.specs.lines.Bounds.{most_steps}
 use Rattle.mmu_core.specs.machine.Enabled.{mmu}
 use Rattle.mmu_core.specs.invariant.Laws.{IsSound}
@@ -134,14 +134,14 @@ comes_nearer (Ends answer) z w after a line g words sizes B H G rests = (
     placed : (hand_in mmu after a).state.place ≡ place.Between
     placed = ap (λ (x : Held). x.state.place) B.hand ∙ H.stands
 
-    -- So no page leaves, no invalidation is open, and no frame is owned.
-    left : LeavesPart (hand_in mmu after a).state.place (hand_in mmu after a).topics
+    -- So no page is retired, no invalidation is open, and no frame is owned.
+    left : RetiresPart (hand_in mmu after a).state.place (hand_in mmu after a).topics
     left = B.sound.holds.leaves a B.there
 
     own : HoldsNothing (hand_in mmu after a).topics
     own = record {
       rests = subst (λ (x : Held). IsAtRest x.topics) (sym B.hand) rests;
-      leaves_none = left.leaves (ap may_leave placed);
+      retires_none = left.leaves (ap may_retire placed);
       opens_none = left.opens (ap may_open placed);
       owns_no_frame = left.frames (ap may_own_frame placed);
     }

@@ -21,7 +21,7 @@ use Rattle.part_steps.specs.declared.part_step.PartStep.{PartStep}
 use Rattle.mmu_core.specs.lines.AccessSteps.{task_by, touch_of}
 use Rattle.mmu_core.specs.alone.AloneKnows.{AloneKnows, FormAlone}
 use Rattle.mmu_core.specs.machine.Enabled.{mmu}
-use Rattle.mmu_core.specs.lines.Forms.{KnowsPart, LeavesPart, steps_left, note_at, part_at, RestsAt, outcome_at}
+use Rattle.mmu_core.specs.lines.Forms.{KnowsPart, RetiresPart, steps_left, note_at, part_at, RestsAt, outcome_at}
 use Rattle.mmu_core.specs.invariant.Laws.{IsSound}
 use Rattle.mmu_core.specs.machine.Machine.{World, hand_in}
 use Rattle.mmu_core.specs.alone.OthersRest.{OthersRest}
@@ -183,7 +183,7 @@ module _ (z : Sizes) (w : World Held) (a : ℕ) (sound : IsSound z w) (others : 
 
   -- ---- each line
 
-  form_after : (p : Place) (command : Command) → IsCommandFor z h.state.actor command → PartRests h → LeavesPart p h.topics → RestsAt p command h
+  form_after : (p : Place) (command : Command) → IsCommandFor z h.state.actor command → PartRests h → RetiresPart p h.topics → RestsAt p command h
       → KnowsPart p command h → AloneKnows p command words h.topics
       → KnowsAfter z w a p command
   form_after (place.Access p) (Access gfn word op) may rests left R K L =
@@ -197,7 +197,7 @@ module _ (z : Sizes) (w : World Held) (a : ℕ) (sound : IsSound z w) (others : 
   form_after (place.Host p) _ may rests left R K L = absurd R
   form_after place.Between command may rests left R K L = tt
 
-  pub alone_step : (p : Place) (command : Command) → IsUnderWay p → IsCommandFor z h.state.actor command → PartRests h → LeavesPart p h.topics
+  pub alone_step : (p : Place) (command : Command) → IsUnderWay p → IsCommandFor z h.state.actor command → PartRests h → RetiresPart p h.topics
       → RestsAt p command h → KnowsPart p command h
       → AloneKnows p command words h.topics → GoesOnAlone p command h words (topics_at p command h words)
   alone_step p command begun may rests left R K L =

@@ -107,7 +107,7 @@ module _ (z : Sizes) (w : World Held) (a gfn note : ℕ) (write : Bool) (p : Fau
 
   -- where the walk's table stands
   stands_over : IsOver gfn t.walk → stands R.sound.topics.up R.sound.topics.spot page ≡ Some (at t.walk.level (gfn / level_span t.walk.level / 512))
-  stands_over over = (R.sound.topics.held a R.there).table over.there ∙ ap (λ n. Some (at t.walk.level n)) (sym over.run)
+  stands_over over = (R.sound.topics.held a R.there).table over.there ∙ ap (λ n. Some (at t.walk.level n)) (sym over.span)
 
   lowest_over : IsOver gfn t.walk → t.walk.level ≡ 1 → stands R.sound.topics.up R.sound.topics.spot page ≡ Some (at 1 (gfn / level_span 1 / 512))
   lowest_over over one = stands_over over ∙ ap (λ l. Some (at l (gfn / level_span l / 512))) one

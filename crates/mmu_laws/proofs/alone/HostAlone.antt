@@ -25,9 +25,9 @@ held_published : (z : Sizes) (w : World Held) (a k : ℕ) → a < actors_of z �
     → k ≡ word_in z w area.Slots 0
 held_published z w a k there G others held = by (G.topics.sets a k there held)
   where
-    by : (k ≡ word_in z w area.Slots 0) ⊎ HoldsOld (λ t. t.leaving) (actors_of z) (λ i. (hand_in mmu w i).topics) a k → k ≡ word_in z w area.Slots 0
+    by : (k ≡ word_in z w area.Slots 0) ⊎ HoldsOld (λ t. t.retired) (actors_of z) (λ i. (hand_in mmu w i).topics) a k → k ≡ word_in z w area.Slots 0
     by (inl e) = e
-    by (inr H) = absurd (let none = (others H.by (subst (λ n. H.by < n) (sym G.hands) H.there) H.other).leaves_none in let some = H.leaves in cc (none, some))
+    by (inr H) = absurd (let none = (others H.by (subst (λ n. H.by < n) (sym G.hands) H.there) H.other).retires_none in let some = H.leaves in cc (none, some))
 
 is_not : (b : Bool) → not b ≡ true → b ≡ false
 is_not true e = absurd (cc e)

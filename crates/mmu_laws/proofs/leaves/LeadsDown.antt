@@ -1,5 +1,4 @@
 -- Links lead from the root to an entry exactly where they do so from a table that stands over the guest frame; and what they come to next.
-use Rattle.std.proofs.Math.Nat.{div-div-eq-div-mul}
 use Rattle.std.proofs.Common.{◌≡◌, ◌⊎◌, inl, inr, ◌+◌, ◌-◌, ◌*◌, ◌/◌, ◌%◌, ◌^◌, ◌<◌, ◌≤◌, ℕ, zero, suc, refl, sym, subst, ap, ◌∙◌, arith}
 use Rattle.std.specs.Prelude.{Bool, true, false, ◌==◌, Some, None}
 use Rattle.std.proofs.lemmas.Bool.Decides.{nat_tests}
@@ -13,7 +12,6 @@ use Rattle.spte_words.specs.declared.spte_kind.SpteKind.{SpteKind}
 use Rattle.spte_words.specs.Areas.{pool_index}
 use Rattle.spte_words.specs.Entries.{kind_of, level_span}
 use Rattle.spte_words.proofs.ReadsEntries.{kind_of_absent, kind_of_table}
-use Rattle.spte_words.proofs.Spans.{span_above}
 use Rattle.mmu_core.specs.alone.FaultAlone.{LeadSame, LeadsTo, LeadsToLeaf}
 use Rattle.mmu_core.specs.invariant.Laws.{IsSound}
 use Rattle.mmu_core.specs.machine.Machine.{World}
@@ -23,17 +21,14 @@ use Rattle.mmu_core.specs.invariant.TreePart.{EntryPart, Position, HangsBelow, T
 use Rattle.mmu_core.specs.machine.View.{word_in}
 use Rattle.mmu_core.proofs.pages.Standing.{one_position}
 use Rattle.mmu_core.proofs.pages.TreePlaces.{IsLinked, all_reached, link_stands, linked, root_stands}
+use Rattle.mmu_core.proofs.pages.ZappedKept.{span_up}
 
 pub same_page : {k l : ℕ} → Some k ≡ Some l → k ≡ l
 same_page e = cc e
 
--- the run of a guest frame, one level up
-pub run_above : (gfn level : ℕ) → 1 ≤ level → gfn / level_span level / 512 ≡ gfn / level_span (level + 1)
-run_above gfn level from = div-div-eq-div-mul gfn (level_span level) 512 ∙ ap (λ n. gfn / n) (let up = span_above level from in omega (arith, up))
-
 module _ {pages root : ℕ} {role pool : ℕ → ℕ} {up : ℕ → Use} {spot : ℕ → Position} (T : TreePart pages root role pool up spot)
     (few : pages ≤ 2 ^ 32) (gfn entry : ℕ) where
-  -- Behind a link of a table stands a table, one level below, at the run of this entry.
+  -- Behind a link of a table stands a table, one level below, at the span of this entry.
   pub below_stands : (level prefix page below : ℕ) → stands up spot page ≡ Some (at (suc (suc level)) prefix)
       → linked_page (kind_of (suc (suc level)) (pool (pool_index page (entry_index gfn (suc (suc level)))))) ≡ Some below
       → stands up spot below ≡ Some (at (suc level) (prefix * 512 + entry_index gfn (suc (suc level))))
@@ -80,18 +75,18 @@ module _ {pages root : ℕ} {role pool : ℕ → ℕ} {up : ℕ → Use} {spot :
       → stands up spot L.parent ≡ Some (at (suc (suc level)) (gfn / level_span (suc (suc level)) / 512))
   parent_over level page links L =
       let one : suc level + 1 ≡ suc (suc level) = omega arith in
-      let run : gfn / level_span (suc level) / 512 ≡ gfn / level_span (suc (suc level)) =
-      run_above gfn (suc level) (omega arith) ∙ ap (λ n. gfn / level_span n) one in
-      L.above ∙ ap (λ n. Some (at n (gfn / level_span (suc level) / 512 / 512))) one ∙ ap (λ n. Some (at (suc (suc level)) (n / 512))) run
+      let span : gfn / level_span (suc level) / 512 ≡ gfn / level_span (suc (suc level)) =
+      span_up gfn (suc level) (omega arith) ∙ ap (λ n. gfn / level_span n) one in
+      L.above ∙ ap (λ n. Some (at n (gfn / level_span (suc level) / 512 / 512))) one ∙ ap (λ n. Some (at (suc (suc level)) (n / 512))) span
 
   parent_links : (level page links : ℕ) → stands up spot page ≡ Some (at (suc level) (gfn / level_span (suc level) / 512))
       → (L : IsLinked pool up spot root links page (at (suc level) (gfn / level_span (suc level) / 512)))
       → linked_page (kind_of (suc (suc level)) (pool (pool_index L.parent (entry_index gfn (suc (suc level)))))) ≡ Some page
   parent_links level page links at_page L =
       let one : suc level + 1 ≡ suc (suc level) = omega arith in
-      let run : gfn / level_span (suc (suc level)) ≡ gfn / level_span (suc level) / 512 =
-      sym (run_above gfn (suc level) (omega arith) ∙ ap (λ n. gfn / level_span n) one) in
-      ap (λ n. linked_page (kind_of (suc (suc level)) (pool (pool_index L.parent (n % 512))))) run
+      let span : gfn / level_span (suc (suc level)) ≡ gfn / level_span (suc level) / 512 =
+      sym (span_up gfn (suc level) (omega arith) ∙ ap (λ n. gfn / level_span n) one) in
+      ap (λ n. linked_page (kind_of (suc (suc level)) (pool (pool_index L.parent (n % 512))))) span
       ∙ ap (λ w. linked_page (kind_of (suc (suc level)) w)) L.link
       ∙ ap (λ (k : SpteKind). linked_page k)
       (kind_of_table (suc (suc level)) page (omega arith) (let lt = (T.there page _ at_page).0 in omega (arith, lt, few)))

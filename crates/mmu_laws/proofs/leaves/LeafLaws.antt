@@ -39,7 +39,8 @@ use Rattle.mmu_core.specs.invariant.AllOver.{AllOver, LeafSays, LeavesSay}
 use Rattle.mmu_core.proofs.pages.AllOver.{reaches_on}
 use Rattle.mmu_core.proofs.pages.LeavesOver.{leaf_for}
 use Rattle.mmu_core.proofs.pages.TreePlaces.{root_stands}
-use Rattle.mmu_laws.proofs.leaves.LeadsDown.{below_stands, leads_down, run_above}
+use Rattle.mmu_core.proofs.pages.ZappedKept.{span_up}
+use Rattle.mmu_laws.proofs.leaves.LeadsDown.{below_stands, leads_down}
 use Rattle.mmu_laws.proofs.flat.PageFound.{frame_small, page_in_machine}
 use Rattle.mmu_core.proofs.words.SlotLists.{only_one_holds}
 use Rattle.mmu_core.proofs.lines.UsedTranslations.{uses_allows}
@@ -148,12 +149,12 @@ module _ {pages root : ℕ} {role pool : ℕ → ℕ} {up : ℕ → Use} {spot :
       → linked_page (kind_of (suc (suc level)) (pool (pool_index page (entry_index gfn (suc (suc level)))))) ≡ Some below
       → stands up spot below ≡ Some (at (suc level) (gfn / level_span (suc level) / 512))
   one_below level page below at_page link =
-      below_stands T few gfn entry level (gfn / level_span (suc (suc level)) / 512) page below at_page link ∙ ap (λ n. Some (at (suc level) n)) run
+      below_stands T few gfn entry level (gfn / level_span (suc (suc level)) / 512) page below at_page link ∙ ap (λ n. Some (at (suc level) n)) span
     where
-      run : gfn / level_span (suc (suc level)) / 512 * 512 + entry_index gfn (suc (suc level)) ≡ gfn / level_span (suc level) / 512
-      run =
+      span : gfn / level_span (suc (suc level)) / 512 * 512 + entry_index gfn (suc (suc level)) ≡ gfn / level_span (suc level) / 512
+      span =
           let next : gfn / level_span (suc level) / 512 ≡ gfn / level_span (suc (suc level)) =
-          run_above gfn (suc level) (omega arith) ∙ ap (λ n. gfn / level_span n) (omega arith) in
+          span_up gfn (suc level) (omega arith) ∙ ap (λ n. gfn / level_span n) (omega arith) in
           omega (arith, next)
 
   -- So the entry to which they lead is one of a table of the lowest level over the guest frame.
@@ -194,7 +195,7 @@ pub held_leaves_agree : (z : Sizes) (w : World Held) (actor gfn entry : ℕ) →
 held_leaves_agree z w actor gfn entry sound lt over leads leaf =
     let walk : TableWalk = (hand_in mmu w actor).topics.walk in
     let at_page : stands sound.topics.up sound.topics.spot (table_page walk) ≡ Some (at walk.level (gfn / level_span walk.level / 512)) =
-    (sound.topics.held actor lt).table over.there ∙ ap (λ n. Some (at walk.level n)) (sym over.run) in
+    (sound.topics.held actor lt).table over.there ∙ ap (λ n. Some (at walk.level n)) (sym over.span) in
     leaves_agree z w gfn entry sound over.small ((leads_down z w gfn (table_page walk) walk.level entry sound at_page).above leads) leaf
 
 -- ---- what is cached and used

@@ -1,4 +1,4 @@
--- The pool that a trace needs at most is enough: the tables of a level stand at different runs of guest frames that are wanted.
+-- The pool that a trace needs at most is enough: the tables of a level stand at different spans of guest frames that are wanted.
 use Rattle.std.proofs.Common.{◌≡◌, ◌≢◌, ◌⊎◌, inl, inr, ◌+◌, ◌/◌, ◌^◌, ◌<◌, ◌≤◌, ◌==◌, ℕ, List, refl, sym, subst, ap, ◌∙◌, arith}
 use Rattle.std.proofs.lemmas.Bool.Decides.{nat_tests, Decides-eqb}
 use Rattle.std.specs.Prelude.{Bool, true, false, Option, Some, None, is_some}
@@ -12,37 +12,37 @@ use Rattle.core_views.specs.Need.{count_below, need}
 use Rattle.core_views.specs.Sizes.{sizes_of}
 use Rattle.spte_words.specs.declared.area.Area.TheVariants as area
 use Rattle.mmu_core.specs.machine.Enabled.{mmu}
-use Rattle.mmu_laws.specs.pool.Enough.{EachTableIsWanted, EnoughPages, IsWantedTable, TablesAreForTheirRuns, some_line_wants}
+use Rattle.mmu_laws.specs.pool.Enough.{EachTableIsWanted, EnoughPages, IsWantedTable, TablesAreForTheirSpans, some_line_wants}
 use Rattle.mmu_core.specs.invariant.Laws.{IsSound}
 use Rattle.mmu_core.specs.machine.Machine.{Legal, Step, World, run}
-use Rattle.mmu_core.specs.invariant.PoolPart.{UsePart, is_free, is_leaving, is_owned}
+use Rattle.mmu_core.specs.invariant.PoolPart.{UsePart, is_free, is_retired, is_owned}
 use Rattle.mmu_core.specs.machine.Sums.{one_if, sum_below}
 use Rattle.mmu_core.specs.invariant.TreePart.{Position, TreePart, Use, at, stands}
 use Rattle.mmu_core.specs.invariant.TreePart.Use.{Free, OldSet, Outside, Owned, Root, SlotSet, Under}
 use Rattle.mmu_core.specs.machine.View.{word_in}
 use Rattle.mmu_core.specs.machine.Worlds.{IsStart}
 use Rattle.mmu_laws.proofs.pool.TablesWanted.{AreWanted, tables_are_wanted}
-use Rattle.mmu_laws.proofs.pool.WantedRuns.{IsWantedRun}
+use Rattle.mmu_laws.proofs.pool.WantedSpans.{IsWantedSpan}
 use Rattle.mmu_core.proofs.machine.Columns.{same_or}
 use Rattle.mmu_laws.proofs.pool.Pigeonhole.{count_le, pigeonhole, sum_each, sum_plus, sum_some}
 use Rattle.mmu_core.proofs.start.Starts.{start_good}
 use Rattle.mmu_core.proofs.machine.SumsBelow.{sum_mono}
 use Rattle.mmu_core.proofs.machine.Worlds.{good_run}
-use Rattle.mmu_laws.proofs.pool.Leavers.{is_old, one_left, one_number}
+use Rattle.mmu_laws.proofs.pool.RetiredPages.{is_old, one_left, one_number}
 use Rattle.mmu_core.proofs.machine.ColumnsTell.{at_none, itself, no_outside, tells}
 use Rattle.mmu_core.proofs.pages.PoolPages.{has_owner, use_is}
 use Rattle.mmu_core.proofs.pages.Uses.{told_so}
 use Rattle.mmu_core.proofs.pages.Standing.{at_spot}
 use Rattle.mmu_core.proofs.pages.TreePlaces.{all_reached, one_place, root_stands, same_position}
 
--- A table of this level stands there; and at which run of guest frames.
+-- A table of this level stands there; and at which span of guest frames.
 abbrev stands_at : ℕ → Option Position → Bool
 stands_at level None = false
 stands_at level (Some p) = p.level == level
 
-abbrev run_of : Option Position → ℕ
-run_of None = 0
-run_of (Some p) = p.prefix
+abbrev span_of : Option Position → ℕ
+span_of None = 0
+span_of (Some p) = p.prefix
 
 abbrev level_of : Option Position → ℕ
 level_of None = 0
@@ -63,36 +63,36 @@ one_level (Some p) low = let there = low p refl in of_four p.level there.0 there
 
 module _ (h : Header) (lines : List Line) {root : ℕ} {role pool : ℕ → ℕ} {up : ℕ → Use} {spot : ℕ → Position}
     (T : TreePart h.pool root role pool up spot) (A : AreWanted h lines root (stands up spot)) where
-  -- No two tables of a level stand at one run.
+  -- No two tables of a level stand at one span.
   one_run : (level k l : ℕ) → stands_at level (stands up spot k) ≡ true → stands_at level (stands up spot l) ≡ true
-      → run_of (stands up spot k) ≡ run_of (stands up spot l) → k ≡ l
+      → span_of (stands up spot k) ≡ span_of (stands up spot l) → k ≡ l
   one_run level k l is be same =
       let x = stands_where level (stands up spot k) is in
       let y = stands_where level (stands up spot l) be in
-      let run_same : x.0.prefix ≡ y.0.prefix = sym (ap run_of x.1) ∙ same ∙ ap run_of y.1 in
+      let run_same : x.0.prefix ≡ y.0.prefix = sym (ap span_of x.1) ∙ same ∙ ap span_of y.1 in
       one_place T k l x.0 (all_reached T k x.0 x.1) (all_reached T l y.0 y.1) x.1 (y.1 ∙ ap Some (same_position y.0 x.0 (y.2 ∙ sym x.2) (sym run_same)))
 
   -- the tables of a level below the root's
   few_of_level : (level : ℕ) → level ≤ 3
       → sum_below h.pool (λ k. one_if (stands_at level (stands up spot k))) ≤ count_below (2 ^ 36 / 512 ^ level) (some_line_wants h lines level)
   few_of_level level below =
-      pigeonhole h.pool (2 ^ 36 / 512 ^ level) (λ k. stands_at level (stands up spot k)) (λ k. run_of (stands up spot k))
+      pigeonhole h.pool (2 ^ 36 / 512 ^ level) (λ k. stands_at level (stands up spot k)) (λ k. span_of (stands up spot k))
       (some_line_wants h lines level) (λ k lt is. at k is) (one_run level)
     where
       at : (k : ℕ) → stands_at level (stands up spot k) ≡ true
-          → (run_of (stands up spot k) < 2 ^ 36 / 512 ^ level) × (some_line_wants h lines level (run_of (stands up spot k)) ≡ true)
+          → (span_of (stands up spot k) < 2 ^ 36 / 512 ^ level) × (some_line_wants h lines level (span_of (stands up spot k)) ≡ true)
       at k is = by (A k x.0 x.1)
         where
           x : (p : Position) × (stands up spot k ≡ Some p) × (p.level ≡ level)
           x = stands_where level (stands up spot k) is
 
-          by : (k ≡ root) ⊎ IsWantedRun h lines x.0
-              → (run_of (stands up spot k) < 2 ^ 36 / 512 ^ level) × (some_line_wants h lines level (run_of (stands up spot k)) ≡ true)
+          by : (k ≡ root) ⊎ IsWantedSpan h lines x.0
+              → (span_of (stands up spot k) < 2 ^ 36 / 512 ^ level) × (some_line_wants h lines level (span_of (stands up spot k)) ≡ true)
           by (inl e) =
               let top : 4 ≡ level = ap level_of (sym (root_stands T) ∙ sym (ap (stands up spot) e) ∙ x.1) ∙ x.2 in
               absurd (omega (arith, top, below))
           by (inr R) =
-              let run_is : x.0.prefix ≡ run_of (stands up spot k) = sym (ap run_of x.1) in (
+              let run_is : x.0.prefix ≡ span_of (stands up spot k) = sym (ap span_of x.1) in (
                 subst (λ i. i < 2 ^ 36 / 512 ^ level) run_is (subst (λ n. x.0.prefix < 2 ^ 36 / 512 ^ n) x.2 R.below),
                 subst (λ i. some_line_wants h lines level i ≡ true) run_is (subst (λ n. some_line_wants h lines n x.0.prefix ≡ true) x.2 R.wanted),
               )
@@ -101,21 +101,21 @@ module _ (h : Header) (lines : List Line) {root : ℕ} {role pool : ℕ → ℕ}
   few_roots : sum_below h.pool (λ k. one_if (stands_at 4 (stands up spot k))) ≤ 1
   few_roots = omega (
     arith,
-    pigeonhole h.pool 1 (λ k. stands_at 4 (stands up spot k)) (λ k. run_of (stands up spot k)) (λ index. true) (λ k lt is. (at k is, refl))
+    pigeonhole h.pool 1 (λ k. stands_at 4 (stands up spot k)) (λ k. span_of (stands up spot k)) (λ index. true) (λ k lt is. (at k is, refl))
         (one_run 4),
     count_le 1 (λ index. true),
   )
     where
-      at : (k : ℕ) → stands_at 4 (stands up spot k) ≡ true → run_of (stands up spot k) < 1
+      at : (k : ℕ) → stands_at 4 (stands up spot k) ≡ true → span_of (stands up spot k) < 1
       at k is = by (A k x.0 x.1)
         where
           x : (p : Position) × (stands up spot k ≡ Some p) × (p.level ≡ 4)
           x = stands_where 4 (stands up spot k) is
 
-          by : (k ≡ root) ⊎ IsWantedRun h lines x.0 → run_of (stands up spot k) < 1
-          by (inl e) = let first : run_of (stands up spot k) ≡ 0 = ap run_of (ap (stands up spot) e ∙ root_stands T) in omega (arith, first)
+          by : (k ≡ root) ⊎ IsWantedSpan h lines x.0 → span_of (stands up spot k) < 1
+          by (inl e) = let first : span_of (stands up spot k) ≡ 0 = ap span_of (ap (stands up spot) e ∙ root_stands T) in omega (arith, first)
           by (inr R) =
-              let run_is : x.0.prefix ≡ run_of (stands up spot k) = sym (ap run_of x.1) in
+              let run_is : x.0.prefix ≡ span_of (stands up spot k) = sym (ap span_of x.1) in
               subst (λ i. i < 1) run_is (subst (λ n. x.0.prefix < 2 ^ 36 / 512 ^ n) x.2 R.below)
 
   -- the tables altogether, by level
@@ -137,7 +137,7 @@ module _ (h : Header) (lines : List Line) {root : ℕ} {role pool : ℕ → ℕ}
       let c = sum_plus h.pool (λ k. one_if (stands_at 2 (stands up spot k))) (λ k. one_if (stands_at 1 (stands up spot k))) in
       omega (arith, each, a, b, c)
 
--- Four pages more than there are tables below the root: enough for the root, the slot set, one that leaves, and a free page.
+-- Four pages more than there are tables below the root: enough for the root, the slot set, one that is retired, and a free page.
 room : (pool need_ upper middle lower free tables sets left roots third second first : ℕ) → 4 + upper + middle + lower ≡ need_ → need_ ≤ pool
     → pool ≤ free + (tables + (sets + left)) → sets ≤ 1 → left ≤ 1
     → tables ≤ roots + (third + (second + first)) → roots ≤ 1 → third ≤ upper → second ≤ middle → first ≤ lower → 1 ≤ free
@@ -149,8 +149,8 @@ unfolding need
 need_is h lines = refl
 
 -- Where no actor owns a page, each page is free, a table, the published slot set, or leaves.
-module _ {n pages slots : ℕ} {map : ℕ → ℕ} {owned : ℕ → Option OwnedPage} {leaving : ℕ → Option ℕ} {up : ℕ → Use}
-    (U : UsePart n pages slots map owned leaving up) (spot : ℕ → Position) (none : (i : ℕ) → i < n → owned i ≡ None) where
+module _ {n pages slots : ℕ} {map : ℕ → ℕ} {owned : ℕ → Option OwnedPage} {retired : ℕ → Option ℕ} {up : ℕ → Use}
+    (U : UsePart n pages slots map owned retired up) (spot : ℕ → Position) (none : (i : ℕ) → i < n → owned i ≡ None) where
   is_one : (k : ℕ) → k < pages → (u : Use) → up k ≡ u
       → 1 ≤ one_if (is_free map k) + (one_if (is_some (stands up spot k)) + (one_if (slots == k) + one_if (is_old (up k))))
   is_one k lt Free is = let free : one_if (is_free map k) ≡ 1 = ap one_if (told_so use_is U.told k Free is Free) in omega (arith, free)
@@ -177,11 +177,11 @@ module _ {n pages slots : ℕ} {map : ℕ → ℕ} {owned : ℕ → Option Owned
       let c = sum_plus pages (λ k. one_if (slots == k)) (λ k. one_if (is_old (up k))) in
       omega (arith, each, a, b, c)
 
--- A page that isn't free, owned, leaving or the slot set is a table.
-module _ {n pages slots : ℕ} {map : ℕ → ℕ} {owned : ℕ → Option OwnedPage} {leaving : ℕ → Option ℕ} {up : ℕ → Use}
-    (U : UsePart n pages slots map owned leaving up) (spot : ℕ → Position) (k : ℕ) where
+-- A page that isn't free, owned, retired or the slot set is a table.
+module _ {n pages slots : ℕ} {map : ℕ → ℕ} {owned : ℕ → Option OwnedPage} {retired : ℕ → Option ℕ} {up : ℕ → Use}
+    (U : UsePart n pages slots map owned retired up) (spot : ℕ → Position) (k : ℕ) where
   is_table_there : k < pages → is_free map k ≡ false → ((i : ℕ) → i < n → is_owned (owned i) k ≡ false)
-      → ((i : ℕ) → i < n → is_leaving (leaving i) k ≡ false) → k ≢ slots → (p : Position) × (stands up spot k ≡ Some p)
+      → ((i : ℕ) → i < n → is_retired (retired i) k ≡ false) → k ≢ slots → (p : Position) × (stands up spot k ≡ Some p)
   is_table_there lt taken none stays ne = by (up k) refl
     where
       by : (u : Use) → up k ≡ u → (p : Position) × (stands up spot k ≡ Some p)
@@ -195,7 +195,7 @@ module _ {n pages slots : ℕ} {map : ℕ → ℕ} {owned : ℕ → Option Owned
           let owns_none = at_none is_owned n owned i k (none i) in cc (owns_it, owns_none))
       by (OldSet i) is =
           absurd (let leaves_it = told_so use_is U.told k (OldSet i) is (OldSet i) ∙ itself i in
-          let leaves_none = at_none is_leaving n leaving i k (stays i) in cc (leaves_it, leaves_none))
+          let retires_none = at_none is_retired n retired i k (stays i) in cc (leaves_it, retires_none))
 
 -- what is known of each table after a list of steps, in any account of the pages
 wanted_after : (h : Header) (lines : List Line) (w : World Held) (ss : List (Step Kind)) → IsStart (sizes_of h) lines w → Legal mmu w ss
@@ -208,11 +208,11 @@ below_root : (root k level prefix : ℕ) (stands : ℕ → Option Position) → 
     → k ≡ root → ⊥
 below_root root k level prefix stands top is low e = let same : 4 ≡ level = ap level_of (sym top ∙ sym (ap stands e) ∙ is) in omega (arith, same, low)
 
-pub tables_are_for_their_runs : TablesAreForTheirRuns
-tables_are_for_their_runs h lines w ss start legal G k level prefix is low =
+pub tables_are_for_their_spans : TablesAreForTheirSpans
+tables_are_for_their_spans h lines w ss start legal G k level prefix is low =
     (by (wanted_after h lines w ss start legal G k (at level prefix) is), G.topics.tree.roles k (at level prefix) is)
   where
-    by : (k ≡ word_in (sizes_of h) (run mmu w ss) area.Root 0) ⊎ IsWantedRun h lines (at level prefix) → some_line_wants h lines level prefix ≡ true
+    by : (k ≡ word_in (sizes_of h) (run mmu w ss) area.Root 0) ⊎ IsWantedSpan h lines (at level prefix) → some_line_wants h lines level prefix ≡ true
     by (inl e) =
         absurd (below_root (word_in (sizes_of h) (run mmu w ss) area.Root 0) k level prefix (stands G.topics.up G.topics.spot)
         (root_stands G.topics.tree) is low e)
@@ -234,10 +234,10 @@ enough_pages h lines w ss start legal most none =
     let found = sum_some h.pool (λ k. is_free (word_in z u area.PoolMap) k) some in
     record { page = found.0; there = found.1; free = found.2 }
 
--- A table for a run that is wanted is the root, or stands below it, where its role says.
+-- A table for a span that is wanted is the root, or stands below it, where its role says.
 wanted_below : (h : Header) (lines : List Line) {root : ℕ} {role pool : ℕ → ℕ} {up : ℕ → Use} {spot : ℕ → Position}
     (T : TreePart h.pool root role pool up spot) (k : ℕ) (p : Position) → stands up spot k ≡ Some p
-    → IsWantedRun h lines p → (p.level ≡ 4) ⊎ (p.level ≢ 4) → (k ≡ root) ⊎ IsWantedTable h lines (role k)
+    → IsWantedSpan h lines p → (p.level ≡ 4) ⊎ (p.level ≢ 4) → (k ≡ root) ⊎ IsWantedTable h lines (role k)
 wanted_below h lines T k p is R (inl e) =
     let first : p.prefix < 1 = subst (λ n. p.prefix < 2 ^ 36 / 512 ^ n) e R.below in
     inl (one_place T k _ p (all_reached T k p is) (all_reached T _ _ (root_stands T)) is
@@ -262,6 +262,6 @@ each_table_is_wanted h lines w ss k start legal there taken none stays ne = by (
     table : (p : Position) × (stands G.topics.up G.topics.spot k ≡ Some p)
     table = is_table_there G.topics.uses G.topics.spot k there taken none stays ne
 
-    by : (k ≡ word_in z u area.Root 0) ⊎ IsWantedRun h lines table.0 → (k ≡ word_in z u area.Root 0) ⊎ IsWantedTable h lines (word_in z u area.Role k)
+    by : (k ≡ word_in z u area.Root 0) ⊎ IsWantedSpan h lines table.0 → (k ≡ word_in z u area.Root 0) ⊎ IsWantedTable h lines (word_in z u area.Role k)
     by (inl e) = inl e
     by (inr R) = wanted_below h lines G.topics.tree k table.0 table.1 R (same_or table.0.level 4)

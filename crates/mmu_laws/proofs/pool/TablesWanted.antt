@@ -1,4 +1,4 @@
--- After every list of steps each table is the root, or for a run that some slot line of the trace wants. So it was as the table was linked, since
+-- After every list of steps each table is the root, or for a span that some slot line of the trace wants. So it was as the table was linked, since
 -- the fault's slot was live then; and a table stays where it is.
 use Rattle.std.proofs.Math.Nat.{div-div-eq-div-mul}
 use Rattle.std.proofs.Common.{◌≡◌, ◌⊎◌, inl, inr, ◌+◌, ◌-◌, ◌*◌, ◌/◌, ◌%◌, ◌≤◌, ℕ, List, [], ◌∷◌, refl, sym, subst, ap, ◌∙◌, arith}
@@ -44,11 +44,11 @@ use Rattle.mmu_core.proofs.start.Starts.{hand_is, start_good}
 use Rattle.mmu_core.proofs.start.StartWords.{pool_word}
 use Rattle.mmu_core.proofs.words.PartWords.{areas_stay}
 use Rattle.mmu_laws.proofs.flat.EveryAnswer.{step_follows}
-use Rattle.mmu_laws.proofs.pool.WantedRuns.{HasOwnLines, IsForSlot, IsWantedRun, manager_place, wanted_by_line}
+use Rattle.mmu_laws.proofs.pool.WantedSpans.{HasOwnLines, IsForSlot, IsWantedSpan, manager_place, wanted_by_line}
 
--- What is known of each table: it is the root, or for a run that is wanted.
+-- What is known of each table: it is the root, or for a span that is wanted.
 abbrev pub AreWanted : Header → List Line → ℕ → (ℕ → Option Position) → Type 0
-AreWanted h lines root stands = (k : ℕ) (p : Position) → stands k ≡ Some p → (k ≡ root) ⊎ IsWantedRun h lines p
+AreWanted h lines root stands = (k : ℕ) (p : Position) → stands k ≡ Some p → (k ≡ root) ⊎ IsWantedSpan h lines p
 
 -- So it is of these words, in each account of what the pages are.
 abbrev pub TablesAreWanted : Header → List Line → (Area → ℕ → ℕ) → Type 0
@@ -58,15 +58,15 @@ TablesAreWanted h lines words =
 
 -- ---- what a step links
 
--- The run of the guest frame's entry, one level below the table that it is in.
-run_below : (gfn level prefix : ℕ) → 2 ≤ level → gfn / level_span level / 512 ≡ prefix
+-- The span of the guest frame's entry, one level below the table that it is in.
+span_below : (gfn level prefix : ℕ) → 2 ≤ level → gfn / level_span level / 512 ≡ prefix
     → gfn / level_span (level - 1) / 512 ≡ prefix * 512 + gfn / level_span level % 512
-run_below gfn level prefix upper run =
+span_below gfn level prefix upper over =
     let up : level - 1 + 1 ≡ level = omega (arith, upper) in
     let span : level_span level ≡ 512 * level_span (level - 1) = ap level_span (sym up) ∙ span_above (level - 1) (omega (arith, upper)) in
     let whole : gfn / level_span (level - 1) / 512 ≡ gfn / level_span level =
     div-div-eq-div-mul gfn (level_span (level - 1)) 512 ∙ ap (λ n. gfn / n) (omega (arith, span)) in
-    omega (arith, whole, run)
+    omega (arith, whole, over)
 
 -- A table is linked for the guest frame of a fault, whose slot is live.
 linked_for : (z : Sizes) (v : View) (a : ℕ) (step : PartStep) (p : Position) → IsPart z v a step → TopicsInvariant z v → IsLinkedAt step (v.hand a).topics p
@@ -80,23 +80,23 @@ linked_for z v a (part.Link gfn) p S I is =
       slot = t.search.slot;
       live = found_live z v a gfn S.there I may;
       holds = may.looked_up.found.holds;
-      run = run_below gfn t.walk.level t.walk.prefix S.needs.1 may.saw.over.run;
+      span = span_below gfn t.walk.level t.walk.prefix S.needs.1 may.saw.over.span;
     })
 linked_for z v a _ p S I is = absurd is
 
 -- ---- from world to world
 
 module _ (h : Header) (lines : List Line) (v : View) (a : ℕ) (I : TopicsInvariant (sizes_of h) v)
-    (line_wants : (p : Position) → 1 ≤ p.level → p.level ≤ 4 → IsForSlot (v.words area.Pool) (v.words area.Slots 0) p → IsWantedRun h lines p)
+    (line_wants : (p : Position) → 1 ≤ p.level → p.level ≤ 4 → IsForSlot (v.words area.Pool) (v.words area.Slots 0) p → IsWantedSpan h lines p)
     (A : TablesAreWanted h lines v.words) where
   part_wanted : (step : PartStep) (note : ℕ) → IsPart (sizes_of h) v a step → TablesAreWanted h lines (part_stepped a step note v).words
   part_wanted step note S up spot T k p is =
       by (stood_or_linked (sizes_of h) v a step S I k p (stands_in_both T (tree_kept (sizes_of h) v a step note S I) k p is))
     where
       by : (stands I.up I.spot k ≡ Some p) ⊎ IsLinkedAt step (v.hand a).topics p
-          → (k ≡ (part_stepped a step note v).words area.Root 0) ⊎ IsWantedRun h lines p
+          → (k ≡ (part_stepped a step note v).words area.Root 0) ⊎ IsWantedSpan h lines p
       by (inl stood) =
-          subst (λ (root : ℕ → ℕ). (k ≡ root 0) ⊎ IsWantedRun h lines p) (sym (areas_stay v a step note area.Root refl)) (A I.up I.spot I.tree k p stood)
+          subst (λ (root : ℕ → ℕ). (k ≡ root 0) ⊎ IsWantedSpan h lines p) (sym (areas_stay v a step note area.Root refl)) (A I.up I.spot I.tree k p stood)
       by (inr linked) =
           let there = T.there k p is in
           inr (line_wants p there.1 there.2 (linked_for (sizes_of h) v a step p S I linked))
@@ -124,7 +124,7 @@ step_wanted h lines w s G may P =
     g : Held
     g = hand_in mmu w s.actor
 
-    line_wants : (p : Position) → 1 ≤ p.level → p.level ≤ 4 → IsForSlot (word_in z w area.Pool) (word_in z w area.Slots 0) p → IsWantedRun h lines p
+    line_wants : (p : Position) → 1 ≤ p.level → p.level ≤ 4 → IsForSlot (word_in z w area.Pool) (word_in z w area.Slots 0) p → IsWantedSpan h lines p
     line_wants p some most W = wanted_by_line h lines w p G P.own some most W
 
     by : Takes z w s g ⊎ TakesPart z w s g → TablesAreWanted h lines (word_in z (effect mmu w s))
@@ -137,11 +137,11 @@ step_wanted h lines w s G may P =
         subst (λ (v : View). TablesAreWanted h lines v.words) (sym T.leads)
         (part_wanted h lines (view z w) s.actor G.topics line_wants P.tables T.step T.note T.is_part)
 
-run_wanted : (h : Header) (lines : List Line) (w : World Held) (ss : List (Step Kind)) → IsSound (sizes_of h) w → Legal mmu w ss → IsKept h lines w
+span_wanted : (h : Header) (lines : List Line) (w : World Held) (ss : List (Step Kind)) → IsSound (sizes_of h) w → Legal mmu w ss → IsKept h lines w
     → IsKept h lines (run mmu w ss)
-run_wanted h lines w [] G legal P = P
-run_wanted h lines w (s ∷ ss) G legal P =
-    run_wanted h lines (effect mmu w s) ss (good_step (sizes_of h) w s G legal.0) legal.1 (step_wanted h lines w s G legal.0 P)
+span_wanted h lines w [] G legal P = P
+span_wanted h lines w (s ∷ ss) G legal P =
+    span_wanted h lines (effect mmu w s) ss (good_step (sizes_of h) w s G legal.0) legal.1 (step_wanted h lines w s G legal.0 P)
 
 -- ---- at a start
 
@@ -166,8 +166,8 @@ start_wanted h lines w start =
           (λ m j below V. absurd (table_not_absent k (sym V.link ∙ pool_word z w (pool_index m j) start.words ∙ absent_is)));
     }
 
--- Each table of a run is the root, or for a run of guest frames that is wanted, in each account of the pages.
+-- Each table of a run is the root, or for a span of guest frames that is wanted, in each account of the pages.
 pub tables_are_wanted : (h : Header) (lines : List Line) (w : World Held) (ss : List (Step Kind)) → IsStart (sizes_of h) lines w → Legal mmu w ss
     → TablesAreWanted h lines (word_in (sizes_of h) (run mmu w ss))
 tables_are_wanted h lines w ss start legal =
-    (run_wanted h lines w ss (start_good (sizes_of h) lines w start) legal (start_wanted h lines w start)).tables
+    (span_wanted h lines w ss (start_good (sizes_of h) lines w start) legal (start_wanted h lines w start)).tables

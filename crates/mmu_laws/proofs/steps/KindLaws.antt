@@ -118,7 +118,7 @@ module _ (z : Sizes) (w : World Held) (s : Step Kind) (G : IsSound z w) (may : M
       at_page = (G.topics.held s.actor there).table M.needs.saw.over.there
 
       stood : stands G.topics.up G.topics.spot page ≡ Some (at t.walk.level (gfn / level_span t.walk.level / 512))
-      stood = at_page ∙ ap (λ p. Some (at t.walk.level p)) (sym M.needs.saw.over.run)
+      stood = at_page ∙ ap (λ p. Some (at t.walk.level p)) (sym M.needs.saw.over.span)
 
       here : pool (pool_index page (entry_index gfn t.walk.level)) ≡ t.walk.entry
       here =

@@ -13,7 +13,7 @@ use Rattle.part_steps.specs.PartSteps.{IsAtRest}
 use Rattle.mmu_core.specs.declared.outcome.Outcome.{Outcome}
 use Rattle.mmu_core.specs.declared.outcome.Outcome.TheVariants.{Ends}
 use Rattle.mmu_core.specs.machine.Enabled.{mmu}
-use Rattle.mmu_core.specs.lines.Forms.{may_leave, may_open, may_own_frame, outcome_at}
+use Rattle.mmu_core.specs.lines.Forms.{may_retire, may_open, may_own_frame, outcome_at}
 use Rattle.mmu_core.specs.invariant.Laws.{IsSound}
 use Rattle.mmu_core.specs.machine.Machine.{May, Step, World, answered, effect, hand_in}
 use Rattle.mmu_core.specs.alone.OthersRest.{HoldsNothing}
@@ -52,7 +52,7 @@ module _ (z : Sizes) (w : World Held) (s : Step Kind) (G : IsSound z w) (may : M
   hand_is : hand_in mmu (effect mmu w s) s.actor ≡ behind
   hand_is = ap (λ (v : View). v.hand s.actor) taken.leads ∙ upd_same (hand_in mmu w) s.actor behind
 
-  -- the topics rest, and no page leaves where no line is under way
+  -- the topics rest, and no page is retired where no line is under way
   rests_where : (o : Outcome) (answer : Answer) → outcome_at stood line.command h x ≡ o → o ≡ Ends answer → KnowsBehind o line.command behind
       → HoldsNothing (hand_in mmu (effect mmu w s) s.actor).topics
   rests_where o answer is ends knows =
@@ -60,7 +60,7 @@ module _ (z : Sizes) (w : World Held) (s : Step Kind) (G : IsSound z w) (may : M
       let L = (good_step z w s G may).holds.leaves s.actor there in
       record {
         rests = subst (λ (g : Held). IsAtRest g.topics) (sym hand_is) (subst (λ (p : Outcome). KnowsBehind p line.command behind) ends knows);
-        leaves_none = L.leaves (ap may_leave (ap (λ (g : Held). g.state.place) hand_is ∙ stands));
+        retires_none = L.leaves (ap may_retire (ap (λ (g : Held). g.state.place) hand_is ∙ stands));
         opens_none = L.opens (ap may_open (ap (λ (g : Held). g.state.place) hand_is ∙ stands));
         owns_no_frame = L.frames (ap may_own_frame (ap (λ (g : Held). g.state.place) hand_is ∙ stands));
       }

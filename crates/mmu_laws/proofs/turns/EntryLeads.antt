@@ -52,7 +52,7 @@ over_stands : (z : Sizes) (w : World Held) (a gfn : ℕ) (G : IsSound z w) → a
     (at (hand_in mmu w a).topics.walk.level (gfn / level_span (hand_in mmu w a).topics.walk.level / 512))
 over_stands z w a gfn G there over =
     let walk : TableWalk = (hand_in mmu w a).topics.walk in
-    (G.topics.held a there).table over.there ∙ ap (λ n. Some (at walk.level n)) (sym over.run)
+    (G.topics.held a there).table over.there ∙ ap (λ n. Some (at walk.level n)) (sym over.span)
 
 has_entry : (e : FaultEnd) (y : Sizes) (gfn : ℕ) (write : Bool) (t : Topics) → has_installed e ≡ true → FaultEndKnows e y gfn write t → HasEntry gfn write t
 has_entry end_of.Installed y gfn write t is K = K

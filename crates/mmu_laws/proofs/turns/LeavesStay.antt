@@ -188,7 +188,7 @@ module _ (z : Sizes) (v : View) (a gfn : ℕ) (J : Invariant z v) (I : TopicsInv
       by (inr (inl L)) = absurd (let upper : 2 ≤ t.walk.level = L.upper in let lowest : t.walk.level ≡ 1 = S.needs.1 in omega (arith, upper, lowest))
       by (inr (inr L)) =
           inl (same_leaf S (pool here) (leaf_for z v I (table_page t.walk) t.walk.level t.walk.prefix index gfn
-          ((I.held a S.there).table S.needs.0.saw.over.there) (omega arith) (let run = S.needs.0.saw.over.run in omega (arith, run)) L.leaf).1)
+          ((I.held a S.there).table S.needs.0.saw.over.there) (omega arith) (let span = S.needs.0.saw.over.span in omega (arith, span)) L.leaf).1)
 
   -- The entry that is zapped was loaded under the lock that the actor has alone: it is a leaf of the level that the walk has come to.
   zapped : (S : IsPart z v a (part.Zap gfn)) (own_ note k : ℕ) (p : Position) (j : ℕ) → j < 512 → stands I.up I.spot k ≡ Some p → pool_index k j ≡ here

@@ -11,7 +11,7 @@ use Rattle.spte_words.specs.declared.area.Area.TheVariants as area
 use Rattle.mmu_core.specs.machine.Enabled.{mmu}
 use Rattle.mmu_core.specs.invariant.Laws.{IsSound}
 use Rattle.mmu_core.specs.machine.Machine.{Legal, Step, World, hand_in, run}
-use Rattle.mmu_core.specs.invariant.PoolPart.{is_free, is_leaving, is_owned}
+use Rattle.mmu_core.specs.invariant.PoolPart.{is_free, is_retired, is_owned}
 use Rattle.mmu_core.specs.invariant.TreePart.{at, stands}
 use Rattle.mmu_core.specs.machine.View.{word_in}
 use Rattle.mmu_core.specs.machine.Worlds.{IsStart}
@@ -22,31 +22,31 @@ pub record HasFreePage (pages : ℕ) (map : ℕ → ℕ) : Type 0 where
   pub there : page < pages
   pub free : is_free map page ≡ true
 
--- Some slot line of the trace, that counts, has a guest frame in the run of guest frames with this index, of those that tables of the level are for.
+-- Some slot line of the trace, that counts, has a guest frame in the span of guest frames with this index, of those that tables of the level are for.
 abbrev pub some_line_wants : Header → List Line → ℕ → ℕ → Bool
 some_line_wants h lines level index = list_any (λ line. wants h.pages (512 ^ level) index line.command) lines
 
--- A page with this role is a table below the root, for a run of guest frames that is wanted.
+-- A page with this role is a table below the root, for a span of guest frames that is wanted.
 pub record IsWantedTable (h : Header) (lines : List Line) (role : ℕ) : Type 0 where
   pub below_root : (1 ≤ role) × (role ≤ 3)
   pub index : ℕ
   pub wanted : some_line_wants h lines role index ≡ true
 
 -- Behind every list of steps a pool page that isn't free, that no actor owns or has leave, and that isn't the published slot set is the root, or a
--- table for a run of guest frames that a slot line of the trace wants.
+-- table for a span of guest frames that a slot line of the trace wants.
 abbrev pub EachTableIsWanted : Type 0
 EachTableIsWanted =
     (h : Header) (lines : List Line) (w : World Held) (ss : List (Step Kind)) (k : ℕ) → IsStart (sizes_of h) lines w → Legal mmu w ss → k < h.pool
     → is_free (word_in (sizes_of h) (run mmu w ss) area.PoolMap) k ≡ false
     → ((i : ℕ) → i < actors_of (sizes_of h) → is_owned (hand_in mmu (run mmu w ss) i).topics.owned k ≡ false)
-    → ((i : ℕ) → i < actors_of (sizes_of h) → is_leaving (hand_in mmu (run mmu w ss) i).topics.leaving k ≡ false)
+    → ((i : ℕ) → i < actors_of (sizes_of h) → is_retired (hand_in mmu (run mmu w ss) i).topics.retired k ≡ false)
     → k ≢ word_in (sizes_of h) (run mmu w ss) area.Slots 0
     → (k ≡ word_in (sizes_of h) (run mmu w ss) area.Root 0) ⊎ IsWantedTable h lines (word_in (sizes_of h) (run mmu w ss) area.Role k)
 
--- And wherever a table of a level below the root's stands, it is for its own run of guest frames: a slot line wants this very run, and the
+-- And wherever a table of a level below the root's stands, it is for its own span of guest frames: a slot line wants this very span, and the
 -- page's role is the level.
-abbrev pub TablesAreForTheirRuns : Type 0
-TablesAreForTheirRuns =
+abbrev pub TablesAreForTheirSpans : Type 0
+TablesAreForTheirSpans =
     (h : Header) (lines : List Line) (w : World Held) (ss : List (Step Kind)) → IsStart (sizes_of h) lines w → Legal mmu w ss
     → (sound : IsSound (sizes_of h) (run mmu w ss)) (k level prefix : ℕ) → stands sound.topics.up sound.topics.spot k ≡ Some (at level prefix) → level < 4
     → (some_line_wants h lines level prefix ≡ true) × (word_in (sizes_of h) (run mmu w ss) area.Role k ≡ level)

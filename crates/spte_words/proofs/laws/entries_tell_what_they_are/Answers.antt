@@ -39,8 +39,8 @@ returns-clause-write c level frame w hw mw = (leaf_with_write level frame w hw m
 pub returns-clause-children : goal.returns-clause-children
 returns-clause-children c = child_of_leaf
 
-pub returns-clause-runs : goal.returns-clause-runs
-returns-clause-runs c = (span_1, span_above)
+pub returns-clause-spans : goal.returns-clause-spans
+returns-clause-spans c = (span_1, span_above)
 
 pub returns-clause-examples : goal.returns-clause-examples
 unfolding leaf_word table_word

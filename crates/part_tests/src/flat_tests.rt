@@ -1,0 +1,254 @@
+//! Lines that `Plain` answers, worked out by hand.
+ghost use Rattle.flat_model.specs.Kept.{IsInRange};
+
+use core_views::HostChange::{Allow, Evict, Move, Protect};
+use core_views::Op::{Add, Read, Write};
+use core_views::Refusal::{BadId, Fixed, HostOverlap, NoFrame, OutOfRange, Overlap, TooLarge};
+use core_views::{
+    Actor, Answer, Command, Header, HostChange, Line, Lines, NoMemory, Op, Refusal, Slot, Trace,
+    Words,
+};
+use flat_model::Plain;
+use std::alloc::Global;
+use std::test::Fail;
+
+// A line of the manager that sets a slot of 16 pages, by its ID, first guest frame, first host
+// page and whether it is read only; of a virtual processor at a word of a guest frame; and of a
+// host thread.
+#[derive(Clone, Copy, Drop)]
+enum Row {
+    Slot(u64, u64, u64, bool),
+    Access(u64, u8, Op),
+    Host(u8, u64, HostChange),
+}
+
+// Guest memory of 1024 pages of two words and so many frames; the host threads own the pages
+// from these on.
+fn memory(alloc: Global, frames: u64, hosts: &[u64]) -> Result<Plain, NoMemory> {
+    let header = Header {
+        version: 1,
+        vcpus: 1,
+        workers: 0,
+        pages: 1024,
+        frames,
+        words: 2,
+        pool: 64,
+        cache: 64,
+        manual: 0,
+        hosts: Words::from_vec(hosts.to_vec(alloc)?),
+    };
+    let trace = Trace::unscheduled(alloc, header, Lines::from_vec(Vec::new(alloc)));
+    Plain::new(alloc, &trace)
+}
+
+fn run(alloc: Global, plain: &mut Plain, actor: Actor, command: Command) -> Result<Answer, NoMemory>
+    requires { IsInRange command }
+{
+    let line = Line {
+        number: 3,
+        actor,
+        command,
+    };
+    plain.line(alloc, &line)
+}
+
+// The slot's line, if its numbers are in the ranges of a line.
+fn set_slot(alloc: Global, plain: &mut Plain, id: u64, slot: Slot) -> Result<Answer, Fail> {
+    if slot.pages == 0 || slot.pages >= 1 << 36 {
+        return Err(Fail::new("the slot has no page, or too many"));
+    }
+    if slot.base >= 1 << 36 || slot.host >= 1 << 36 || slot.host % 64 != 0 {
+        return Err(Fail::new("the slot is out of range"));
+    }
+    let command = Command::SetSlot { id, slot };
+    Ok(run(alloc, plain, Actor::Manager, command)?)
+}
+
+// What the row is answered.
+fn answer_to(alloc: Global, plain: &mut Plain, row: Row) -> Result<Answer, Fail> {
+    match row {
+        Row::Slot(id, base, host, read_only) => {
+            let slot = Slot {
+                base,
+                pages: 16,
+                host,
+                read_only,
+            };
+            set_slot(alloc, plain, id, slot)
+        }
+        Row::Access(gfn, word, op) => {
+            let command = Command::Access { gfn, word, op };
+            Ok(run(alloc, plain, Actor::Vcpu(0), command)?)
+        }
+        Row::Host(host, page, change) => {
+            let command = Command::ChangeHost { page, change };
+            Ok(run(alloc, plain, Actor::Host(host), command)?)
+        }
+    }
+}
+
+// The first of these rows, run one after another in memory of its own, that is answered
+// otherwise than it stands here.
+fn first_other(
+    alloc: Global,
+    frames: u64,
+    hosts: &[u64],
+    rows: &[(Row, Answer)],
+) -> Result<Option<usize>, Fail> {
+    let mut plain = memory(alloc, frames, hosts)?;
+    for (i, (row, answer)) in rows.iter().enumerate() {
+        if answer_to(alloc, &mut plain, *row)? != *answer {
+            return Ok(Some(i));
+        }
+    }
+    Ok(None)
+}
+
+// Guest frames 0 to 15 are host pages 0 to 15.
+const SLOT: Row = Row::Slot(0, 0, 0, false);
+
+fn reached(frame: u64, value: u64) -> Answer {
+    Answer::Reached { frame, value }
+}
+
+fn refused(refusal: Refusal) -> Answer {
+    Answer::Refused(refusal)
+}
+
+#[test]
+fn sets_slots_or_refuses_them(rt: HostRuntime) -> Result<(), Fail> {
+    let rows = [
+        (Row::Slot(32, 0, 0, false), refused(BadId)),
+        (Row::Slot(0, (1 << 36) - 15, 0, false), refused(TooLarge)),
+        (Row::Slot(0, 0, 1024, false), refused(TooLarge)),
+        (SLOT, Answer::Done),
+        (Row::Slot(1, 15, 64, false), refused(Overlap)),
+        (Row::Slot(1, 16, 0, false), refused(HostOverlap)),
+        (Row::Slot(0, 16, 64, false), refused(Fixed)),
+        (Row::Slot(31, 32, 64, true), Answer::Done),
+    ];
+    assert_eq!(rt; first_other(rt.alloc(), 1040, &[0], &rows)?, None);
+    Ok(())
+}
+
+// Guest frames 32 to 47 are host pages 64 to 79, which the guest may not write to.
+#[test]
+fn accesses_words(rt: HostRuntime) -> Result<(), Fail> {
+    let rows = [
+        (SLOT, Answer::Done),
+        (Row::Slot(31, 32, 64, true), Answer::Done),
+        (Row::Access(1, 0, Write(7)), reached(1, 0)),
+        (Row::Access(15, 1, Write(3)), reached(15, 0)),
+        (Row::Access(1, 0, Read), reached(1, 7)),
+        (Row::Access(15, 1, Read), reached(15, 3)),
+        (Row::Access(15, 0, Read), reached(15, 0)),
+        (Row::Access(1, 0, Add(u64::MAX)), reached(1, 7)),
+        (Row::Access(1, 0, Read), reached(1, 6)),
+        (Row::Access(16, 0, Read), Answer::Mmio),
+        (Row::Access(33, 0, Write(1)), Answer::Mmio),
+        (Row::Access(33, 0, Read), reached(65, 0)),
+    ];
+    assert_eq!(rt; first_other(rt.alloc(), 1040, &[0], &rows)?, None);
+    Ok(())
+}
+
+// The content goes with a page that is moved, to the lowest free frame.
+#[test]
+fn moves_a_page(rt: HostRuntime) -> Result<(), Fail> {
+    let rows = [
+        (SLOT, Answer::Done),
+        (Row::Access(2, 0, Write(7)), reached(2, 0)),
+        (Row::Host(0, 2, Move), Answer::Moved(1024)),
+        (Row::Access(2, 0, Read), reached(1024, 7)),
+        // Frame 2 was given up.
+        (Row::Host(0, 9, Move), Answer::Moved(2)),
+        (Row::Access(9, 0, Read), reached(2, 0)),
+        (Row::Host(0, 1023, Move), Answer::Moved(9)),
+        (Row::Host(0, 2, Move), Answer::Moved(1023)),
+        (Row::Access(2, 0, Add(1)), reached(1023, 7)),
+        (Row::Access(2, 0, Read), reached(1023, 8)),
+    ];
+    assert_eq!(rt; first_other(rt.alloc(), 1040, &[0], &rows)?, None);
+    Ok(())
+}
+
+// A page that isn't present still names its frame, and an access brings it in.
+#[test]
+fn evicts_a_page(rt: HostRuntime) -> Result<(), Fail> {
+    let rows = [
+        (SLOT, Answer::Done),
+        (Row::Access(5, 0, Write(3)), reached(5, 0)),
+        (Row::Host(0, 5, Evict), Answer::Done),
+        (Row::Access(5, 0, Read), reached(5, 3)),
+        (Row::Host(0, 3, Move), Answer::Moved(1024)),
+        (Row::Host(0, 3, Move), Answer::Moved(3)),
+        (Row::Host(0, 3, Evict), Answer::Done),
+        (Row::Host(0, 4, Move), Answer::Moved(1024)),
+        (Row::Host(0, 3, Move), Answer::Moved(4)),
+        (Row::Access(3, 0, Read), reached(4, 0)),
+    ];
+    assert_eq!(rt; first_other(rt.alloc(), 1040, &[0], &rows)?, None);
+    Ok(())
+}
+
+// A write to a page that is protected leaves the guest, and brings nothing in.
+#[test]
+fn protects_a_page(rt: HostRuntime) -> Result<(), Fail> {
+    let rows = [
+        (SLOT, Answer::Done),
+        (Row::Host(0, 4, Protect), Answer::Done),
+        (Row::Access(4, 0, Write(1)), Answer::HostFault),
+        (Row::Host(0, 4, Allow), Answer::Done),
+        (Row::Access(4, 0, Write(1)), reached(4, 0)),
+        (Row::Host(0, 6, Protect), Answer::Done),
+        (Row::Host(0, 6, Evict), Answer::Done),
+        (Row::Host(0, 6, Move), Answer::Moved(1024)),
+        (Row::Access(6, 0, Add(1)), Answer::HostFault),
+        (Row::Access(6, 0, Read), reached(1024, 0)),
+        (Row::Access(6, 0, Add(1)), Answer::HostFault),
+        (Row::Access(16, 0, Write(1)), Answer::Mmio),
+    ];
+    assert_eq!(rt; first_other(rt.alloc(), 1040, &[0], &rows)?, None);
+    Ok(())
+}
+
+// Where each frame is named no page moves, and one free frame is enough.
+#[test]
+fn moves_within_few_frames(rt: HostRuntime) -> Result<(), Fail> {
+    let none_free = [
+        (SLOT, Answer::Done),
+        (Row::Host(0, 0, Move), refused(NoFrame)),
+        (Row::Host(0, 0, Evict), Answer::Done),
+        (Row::Host(0, 0, Move), refused(NoFrame)),
+        (Row::Access(0, 0, Read), reached(0, 0)),
+    ];
+    assert_eq!(rt; first_other(rt.alloc(), 1024, &[0], &none_free)?, None);
+    let one_free = [
+        (SLOT, Answer::Done),
+        (Row::Host(0, 7, Move), Answer::Moved(1024)),
+        (Row::Host(0, 8, Move), Answer::Moved(7)),
+        (Row::Host(0, 7, Move), Answer::Moved(8)),
+        (Row::Host(0, 9, Move), Answer::Moved(1024)),
+        (Row::Host(0, 9, Move), Answer::Moved(9)),
+    ];
+    assert_eq!(rt; first_other(rt.alloc(), 1025, &[0], &one_free)?, None);
+    Ok(())
+}
+
+// A host thread changes its own pages alone: here h0 owns pages 0 to 511, and h1
+// pages 512 to 1023.
+#[test]
+fn keeps_to_its_own_pages(rt: HostRuntime) -> Result<(), Fail> {
+    let rows = [
+        (SLOT, Answer::Done),
+        (Row::Host(0, 512, Move), refused(OutOfRange)),
+        (Row::Host(1, 511, Evict), refused(OutOfRange)),
+        (Row::Host(1, 1024, Protect), refused(OutOfRange)),
+        (Row::Host(1, u64::MAX, Allow), refused(OutOfRange)),
+        (Row::Host(2, 0, Move), refused(OutOfRange)),
+        (Row::Host(0, 511, Move), Answer::Moved(1024)),
+        (Row::Host(1, 512, Move), Answer::Moved(511)),
+    ];
+    assert_eq!(rt; first_other(rt.alloc(), 1040, &[0, 512], &rows)?, None);
+    Ok(())
+}

@@ -1,0 +1,98 @@
+//! Steps of an actor's lines, and steps of parts by an actor that has none left.
+ghost use Rattle.std.specs.Prelude.{◌≡◌, true};
+ghost use Rattle.mmu_core.specs.machine.MayMake.{MayMake};
+ghost use Rattle.mmu_core.specs.machine.Worlds.{HandReached};
+
+use crate::expect_actor;
+use core_views::{Actor, Answer, Hand, NoMemory};
+use mmu_core::{allows, next_kind, part_rests, rests};
+use part_steps::{PartStep, has_needs, part_kind};
+use std::test::Fail;
+use step_seats::{PlainMachine, Stepper, Turn, make_part};
+
+/// Makes so many steps of the seat's lines, or those that are left: how many it made.
+pub fn make_steps<S: Stepper>(seat: &mut S, most: u64) -> Result<u64, NoMemory> {
+    for made in 0..most {
+        seat.reserve()?;
+        let hand = seat.hand();
+        if hand.next_line().is_none() {
+            return Ok(made);
+        }
+        rests(hand);
+        let kind = next_kind(hand);
+        let _ = seat.act(kind);
+    }
+    Ok(most)
+}
+
+/// The same of an actor of the machine.
+pub fn run_lines(machine: &mut PlainMachine, actor: Actor, most: u64) -> Result<u64, Fail> {
+    expect_actor(machine, actor)?;
+    let mut seat = machine.as_actor(actor);
+    Ok(make_steps(&mut seat, most)?)
+}
+
+/// Whether the next step of the hand's line is this step of a part, with this note.
+pub fn is_next(hand: &Hand, step: PartStep, note: u64) -> bool
+    requires reached { ∥ HandReached hand.now.core ∥₁ }
+    ensures { result ≡ true → MayMake step note hand.now.core }
+{
+    if hand.next_line().is_none() {
+        return false;
+    }
+    rests(hand);
+    part_rests(hand);
+    if !has_needs(hand, step) {
+        return false;
+    }
+    next_kind(hand) == part_kind(hand, step, note)
+}
+
+/// Makes the steps of the seat's lines until the next one is this step of a part, with this
+/// note.
+pub fn go_to<S: Stepper>(seat: &mut S, step: PartStep, note: u64) -> Result<(), NoMemory> {
+    for _ in 0..80 {
+        seat.reserve()?;
+        let hand = seat.hand();
+        if hand.next_line().is_none() || is_next(hand, step, note) {
+            break;
+        }
+        rests(hand);
+        let kind = next_kind(hand);
+        let _ = seat.act(kind);
+    }
+    Ok(())
+}
+
+/// Makes a step of a part by an actor that has no line left.
+pub fn take_step(machine: &mut PlainMachine, actor: Actor, step: PartStep) -> Result<(), Fail> {
+    expect_actor(machine, actor)?;
+    let mut seat = machine.as_actor(actor);
+    seat.reserve()?;
+    if !allows(seat.hand(), step, 0) {
+        return Err(Fail::new("the actor may not make the step"));
+    }
+    let _ = make_part(&mut seat, step, 0);
+    Ok(())
+}
+
+/// What a turn of the hand's line told: where the line is answered, what the hand has.
+pub fn told(said: Turn<()>, hand: &Hand) -> Result<Turn<Answer>, Fail> {
+    Ok(match said {
+        Turn::More => Turn::More,
+        Turn::Wait(seen) => Turn::Wait(seen),
+        Turn::Retry(cause) => Turn::Retry(cause),
+        Turn::Done(()) => {
+            let Some(last) = hand.answers().last() else {
+                return Err(Fail::new("the hand has no answer"));
+            };
+            Turn::Done(last.answer.clone()?)
+        }
+    })
+}
+
+/// The word at this place among all words of the machine, once all steps are made.
+pub fn last_word(machine: PlainMachine, place: usize) -> Option<u64> {
+    let closing = machine.into_closing();
+    closing.words.as_slice().get(place).copied()
+}
