@@ -1,5 +1,5 @@
 -- What an actor holds of the frames of the host: its claim of one, the one that it owns, and the words of a page that it has copied into this.
-use Rattle.std.specs.Prelude.{◌+◌, ◌*◌, ℕ, Bool, true, false, ◌==◌, ◌&&◌, if◌then◌else◌, not, Option, Some, None, is_some}
+use Rattle.std.specs.Prelude.{◌+◌, ◌*◌, ℕ, Bool, true, ◌==◌, ◌&&◌, if◌then◌else◌, not, Option, Some, None, is_some}
 use Rattle.core_views.specs.declared.topics.Frames.{Frames}
 use Rattle.core_views.specs.declared.topics.MapClaim.{MapClaim}
 use Rattle.core_views.specs.declared.topics.OwnedFrame.{OwnedFrame}
