@@ -58,10 +58,25 @@ fn weave_lines(alloc: Global, lines: &str, limit: u64) -> Result<Option<(How, Me
     }
 }
 
+// Whether a weave ended as is wanted.
+fn is_so(ended: How, wanted: How) -> bool {
+    match (ended, wanted) {
+        (How::Done, How::Done) | (How::WriteFault, How::WriteFault) => true,
+        (
+            How::Unfinished { actor, line },
+            How::Unfinished {
+                actor: other,
+                line: first,
+            },
+        ) => actor == other && line == first,
+        _ => false,
+    }
+}
+
 // Whether the lines end so within so many turns, and print this.
 fn ends(alloc: Global, lines: &str, limit: u64, how: How, text: &str) -> Result<bool, Fail> {
     match weave_lines(alloc, lines, limit)? {
-        Some((ended, out)) => Ok(ended == how && out.bytes() == text.as_bytes()),
+        Some((ended, out)) => Ok(is_so(ended, how) && out.bytes() == text.as_bytes()),
         None => Ok(false),
     }
 }
