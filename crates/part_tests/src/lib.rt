@@ -1,7 +1,7 @@
 //! What the tests of the crates below the engine share: a machine at the start of the trace
-//! that a text has, and the steps of its actors' lines. The tests stand here and not in the
-//! crates that they are of, since a crate with tests is proved once without them and once
-//! with them.
+//! that a text has, and the steps of its actors' lines; and the tests of the small parts. The
+//! tests stand here, in `map_tests` and in `job_tests`, and not in the crates that they are
+//! of, since a crate with tests is proved once without them and once with them.
 #![tactic(auto)]
 
 mod lines;
@@ -13,39 +13,15 @@ pub use machines::{
 };
 
 #[cfg(test)]
-mod access_tests;
-#[cfg(test)]
-mod fault_tests;
-#[cfg(test)]
 mod find_tests;
-#[cfg(test)]
-mod flat_tests;
-#[cfg(test)]
-mod frame_claim_tests;
 #[cfg(test)]
 mod grace_tests;
 #[cfg(test)]
-mod host_line_tests;
-#[cfg(test)]
-mod host_move_tests;
-#[cfg(test)]
-mod host_tests;
-#[cfg(test)]
 mod lock_tests;
-#[cfg(test)]
-mod move_line_tests;
-#[cfg(test)]
-mod pool_tests;
 #[cfg(test)]
 mod seat_tests;
 #[cfg(test)]
 mod seq_tests;
-#[cfg(test)]
-mod slot_line_tests;
-#[cfg(test)]
-mod slot_set_tests;
-#[cfg(test)]
-mod spte_tests;
 #[cfg(test)]
 mod tlb_tests;
 #[cfg(test)]

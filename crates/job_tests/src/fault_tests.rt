@@ -4,11 +4,11 @@
 ghost use Rattle.std.specs.Prelude.{IfSome};
 ghost use Rattle.fault_install.specs.Faults.{StandsInLine};
 
-use crate::{
-    HEAD, HEAD_OF_POOL_8, expect_actor, first_other, machine_with_slot, make_steps, run_lines,
-};
 use core_views::{AccessPlace, Actor, Cause, Command, FaultPlace, Hand, Place};
 use fault_install::{FaultJob, Faulted};
+use part_tests::{
+    HEAD, HEAD_OF_POOL_8, expect_actor, first_other, machine_with_slot, make_steps, run_lines,
+};
 use std::alloc::Global;
 use std::test::Fail;
 use step_seats::{PlainMachine, Stepper, Turn};

@@ -7,10 +7,10 @@ ghost use Rattle.part_steps.specs.PartTasks.{page_owned};
 ghost use Rattle.table_pool.specs.Claims.{claim_step};
 ghost use Rattle.table_pool.specs.Pages.{fill_step};
 
-use crate::{HEAD, expect_actor, machine_of};
 use core_views::{Actor, Seen};
 use mmu_core::{FreeMap, allows, part_rests};
 use part_steps::{PartStep, map_of, words_filled};
+use part_tests::{HEAD, expect_actor, machine_of};
 use spte_words::Area;
 use std::test::Fail;
 use step_seats::{PlainMachine, Stepper, Turn};
@@ -177,7 +177,9 @@ struct Closed {
     map: u64,
     role: u64,
     // The first three words of page 2, and whether all of its words are 0.
-    first: [u64; 3],
+    first: u64,
+    second: u64,
+    third: u64,
     is_empty: bool,
 }
 
@@ -190,7 +192,9 @@ fn close(machine: PlainMachine) -> Result<Closed, Fail> {
     Ok(Closed {
         map: words[MAP],
         role: words[ROLE],
-        first: [words[PAGE], words[PAGE + 1], words[PAGE + 2]],
+        first: words[PAGE],
+        second: words[PAGE + 1],
+        third: words[PAGE + 2],
         is_empty: words[PAGE..PAGE + 512].iter().all(|word| *word == 0),
     })
 }
@@ -263,6 +267,7 @@ fn gives_a_page_back(rt: HostRuntime) -> Result<(), Fail> {
         (claimed, given, claimed_anew),
         (got, [Turn::More, Turn::More, Turn::Done(())], got)
     );
-    assert_eq!(rt; (closed.map, closed.first), (8, [5, 6, 0]));
+    let filled = (closed.first, closed.second, closed.third);
+    assert_eq!(rt; (closed.map, filled), (8, (5, 6, 0)));
     Ok(())
 }

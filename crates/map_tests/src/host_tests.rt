@@ -3,13 +3,13 @@ ghost use Rattle.std.specs.Prelude.{◌≡◌, ◌<◌};
 ghost use Rattle.core_views.specs.Sizes.{AreSizes};
 ghost use Rattle.host_map.specs.Touching.{touch_kind};
 
-use crate::{
-    HEAD_OF_POOL_8, expect_actor, first_other, go_to, is_next, machine_of, machine_with_slot,
-};
 use core_views::{Actor, HostLook, Kind, NoMemory, Op, Sizes, StepKind};
 use host_map::{Changed, bring_in, change, load, look, touch};
 use mmu_core::{allows, next_kind, part_rests, rests};
 use part_steps::{PartStep, map_of};
+use part_tests::{
+    HEAD_OF_POOL_8, expect_actor, first_other, go_to, is_next, machine_of, machine_with_slot,
+};
 use std::test::Fail;
 use step_seats::{PlainMachine, Stepper};
 

@@ -2,9 +2,9 @@
 //! state words are 8 to 10, and the lock is word 6. The slot is guest frames 0 to 15,
 //! at host pages 0 to 15.
 
-use crate::{expect_actor, machine_of, take_step, told};
 use core_views::{Actor, Answer, Command, Refusal, Seen};
 use part_steps::PartStep;
+use part_tests::{expect_actor, machine_of, take_step, told};
 use slot_change::SlotJob;
 use std::alloc::Global;
 use std::test::Fail;

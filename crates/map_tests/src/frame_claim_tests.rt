@@ -5,10 +5,10 @@ ghost use Rattle.mmu_core.specs.declared.claim.FreeMap.TheVariants.{Frames};
 ghost use Rattle.mmu_core.specs.lines.ClaimSteps.{claim_part};
 ghost use Rattle.mmu_core.specs.machine.MayMake.{MayMake};
 
-use crate::{expect_actor, is_next, last_word, machine_of, run_lines};
 use core_views::{Actor, Answer, MapClaim, Refusal, Seen};
 use mmu_core::FreeMap;
 use part_steps::PartStep;
+use part_tests::{expect_actor, is_next, last_word, machine_of, run_lines};
 use std::test::Fail;
 use step_seats::{PlainMachine, Stepper, Turn};
 use table_pool::{Claim, Claimed};

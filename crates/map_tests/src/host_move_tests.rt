@@ -1,12 +1,12 @@
 //! A host page that is moved to another frame, at a machine.
 
 use crate::host_tests::change_to;
-use crate::{
-    HEAD_OF_POOL_8, expect_actor, first_other, go_to, is_next, machine_with_slot, run_lines,
-};
 use core_views::{Actor, NoMemory, OwnedFrame};
 use host_map::{Changed, copy, frame_give, store};
 use part_steps::PartStep;
+use part_tests::{
+    HEAD_OF_POOL_8, expect_actor, first_other, go_to, is_next, machine_with_slot, run_lines,
+};
 use std::test::Fail;
 use step_seats::{PlainMachine, Stepper};
 

@@ -3,8 +3,8 @@
 //! word 16. The first host thread owns host pages 0 to 31.
 
 use crate::host_line_tests::{ASKED, ENDED, change_page, changed};
-use crate::{first_other, machine_with_slot, run_lines};
 use core_views::{Actor, Answer, Refusal};
+use part_tests::{first_other, machine_with_slot, run_lines};
 use std::test::Fail;
 use step_seats::Turn;
 

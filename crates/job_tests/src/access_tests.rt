@@ -1,9 +1,11 @@
 //! Accesses of two processors, beside a manager that sets slot 0: guest frames 0 to
 //! 5 are host pages 64 to 69, at frames 64 to 69.
 
-use crate::{HEAD, HEAD_OF_POOL_8, expect_actor, first_other, machine_with_slot, take_step, told};
 use core_views::{Actor, Answer, Cause, Command, Seen};
 use part_steps::{PartStep, WRITER};
+use part_tests::{
+    HEAD, HEAD_OF_POOL_8, expect_actor, first_other, machine_with_slot, take_step, told,
+};
 use std::test::Fail;
 use step_seats::{PlainMachine, Stepper, Turn};
 use vcpu_run::AccessJob;

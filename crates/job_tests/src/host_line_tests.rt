@@ -2,10 +2,10 @@
 //! state words are 8 to 11, and the lock is word 6. No slot is live. The first host thread
 //! owns host pages 0 to 31.
 
-use crate::{expect_actor, first_other, machine_of, take_step, told};
 use core_views::{Actor, Answer, Command, Refusal, Seen};
 use host_events::HostJob;
 use part_steps::PartStep;
+use part_tests::{expect_actor, first_other, machine_of, take_step, told};
 use std::alloc::Global;
 use std::test::Fail;
 use step_seats::{PlainMachine, Stepper, Turn};

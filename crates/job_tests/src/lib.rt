@@ -1,0 +1,14 @@
+//! The tests of the jobs of lines: faults, accesses, slot lines and lines of host threads, at
+//! machines that a trace's text describes.
+#![tactic(auto)]
+
+#[cfg(test)]
+mod access_tests;
+#[cfg(test)]
+mod fault_tests;
+#[cfg(test)]
+mod host_line_tests;
+#[cfg(test)]
+mod move_line_tests;
+#[cfg(test)]
+mod slot_line_tests;
