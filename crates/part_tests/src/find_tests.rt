@@ -27,19 +27,19 @@ fn turn<S: Stepper>(
     })
 }
 
-// A search by the first processor, in its section: how many turns said that there is more,
-// and what the last one said.
-fn search(
-    machine: &mut PlainMachine,
-    sought: Sought,
-) -> Result<(u64, Option<Turn<Option<FoundSlot>>>), Fail> {
+// What a search comes to: how many turns said that there is more, what the last one said, and
+// the page of the slot set that is searched.
+type Searched = (u64, Option<Turn<Option<FoundSlot>>>, Option<u64>);
+
+// A search by the first processor, in its section.
+fn search(machine: &mut PlainMachine, sought: Sought) -> Result<Searched, Fail> {
     expect_actor(machine, Actor::Vcpu(0))?;
     let mut seat = machine.as_actor(Actor::Vcpu(0));
     let mut find = Find::new(sought);
     for more in 0..200 {
         let said = turn(&mut find, &mut seat)?;
         if said != Some(Turn::More) {
-            return Ok((more, said));
+            return Ok((more, said, seat.hand().topics().search.set));
         }
     }
     Err(Fail::new("the search goes on"))
@@ -51,7 +51,7 @@ fn finds_none_at_the_start(rt: HostRuntime) -> Result<(), Fail> {
     let mut machine = machine_of(rt.alloc(), HEAD, "")?;
     take_step(&mut machine, Actor::Vcpu(0), PartStep::Begin)?;
     let found = search(&mut machine, Sought::GuestFrame(5))?;
-    assert_eq!(rt; found, (32, Some(Turn::Done(None))));
+    assert_eq!(rt; found, (32, Some(Turn::Done(None)), Some(1)));
     Ok(())
 }
 
@@ -85,7 +85,7 @@ fn finds_the_slot_of_a_frame(rt: HostRuntime) -> Result<(), Fail> {
         (Sought::HostPage(67), 35, None),
     ] {
         let said = search(&mut machine, sought)?;
-        assert_eq!(rt; said, (more, Some(Turn::Done(want))), "{sought:?}");
+        assert_eq!(rt; said, (more, Some(Turn::Done(want)), Some(2)), "{sought:?}");
     }
     Ok(())
 }

@@ -74,7 +74,8 @@ fn an_access_without_a_slot(rt: HostRuntime) -> Result<(), Fail> {
     let mut wanted = vec![in alloc; 0, 0, 0, 0, 3, 0, 0, 1]?;
     wanted.extend_from_slice(&[0; 32])?;
     wanted.push(2)?;
-    assert_eq!(rt; (found, answers), (wanted, (1, true)));
+    let actors = machine.sizes().actors();
+    assert_eq!(rt; (actors, found, answers), (4, wanted, (1, true)));
     let all = [(1, 1), (8, 0), (12, 0xc), (14, 0xffff_ffff_ffff_ffc0)];
     let words = 12 + 1 + 3 + 2 + 70 + 4 + 2048 + 260;
     assert_eq!(rt; first_other(machine, &all), (words, None));
