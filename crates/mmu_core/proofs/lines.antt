@@ -22,6 +22,7 @@ pub mod ShareMade
 pub mod WatchMade
 pub mod PartsWait
 pub mod Raised
+pub mod SimplePlaces
 pub mod LineWaits
 pub mod FaultScans
 pub mod ClaimPlaces

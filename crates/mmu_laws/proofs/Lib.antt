@@ -1,3 +1,4 @@
+pub mod Forms
 pub mod flat
 pub mod alone
 pub mod turns

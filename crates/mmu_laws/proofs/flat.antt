@@ -10,7 +10,7 @@ pub mod FlatKept
 pub mod FlatSteps
 pub mod FlatStill
 pub mod Followed
-pub mod Forms
+pub mod Within
 pub mod LineEvents
 pub mod PageFound
 pub mod SlotChangeFlat

@@ -25,7 +25,7 @@ use Rattle.mmu_core.specs.machine.Outcomes.{answers_after, place_after}
 use Rattle.mmu_core.specs.machine.View.{View, answer_in, stepped, words_after}
 use Rattle.mmu_core.proofs.invariant.QuietKept.{MakesAt, NeverPublishes, SetsStay, quiet_kept, sets_stay}
 use Rattle.mmu_core.proofs.lines.CachedKept.{flushed_kept}
-use Rattle.mmu_core.proofs.lines.KnowsKept.{behind_part}
+use Rattle.mmu_core.proofs.machine.PartStepping.{behind_part}
 use Rattle.mmu_core.proofs.lines.LinesKept.{answers_more}
 use Rattle.mmu_core.proofs.lines.StepTopics.{topics_of_step}
 use Rattle.mmu_core.proofs.machine.HandWith.{hand_with}

@@ -8,7 +8,7 @@ use Rattle.core_views.specs.declared.trace.HostChange.{HostChange}
 use Rattle.core_views.specs.declared.trace.HostChange.TheVariants.{Move, Evict, Protect, Allow}
 use Rattle.std.proofs.Common.{◌≡◌, ◌⊎◌, inl, inr, ◌<◌, ◌≤◌, ℕ, refl, arith, ◌≢◌, Bool, ◌+◌}
 use Rattle.std.proofs.Props.{props}
-use Rattle.std.specs.Prelude.{Some, None, true, false}
+use Rattle.std.specs.Prelude.{List, Some, None, true, false}
 use Rattle.core_views.specs.declared.answer.Answer.{Answer}
 use Rattle.core_views.specs.declared.answer.Answer.TheVariants.{Starved}
 use Rattle.core_views.specs.declared.place.AccessPlace.{AccessPlace}
@@ -45,13 +45,19 @@ use Rattle.mmu_core.specs.lines.Bounds.{most_steps}
 use Rattle.mmu_core.specs.lines.Rests.{IsUnderWay}
 use Rattle.mmu_core.specs.lines.SlotChangeSteps.{slot_change_part}
 use Rattle.mmu_core.proofs.lines.AccessLeft.{access_few, some_access_left}
-use Rattle.mmu_core.proofs.machine.GoesOn.{GoesToNoAccess, GoesUnderWay, IsNoAccess}
+use Rattle.mmu_core.proofs.machine.GoesOn.{GoesToNoAccess, GoesUnderWay, IsNoAccess, IsSimple, simple_is_no_access}
 use Rattle.mmu_core.proofs.slots.LiveStay.{StayLive}
 use Rattle.mmu_core.proofs.slots.LiveStays.{OwnedStays}
 use Rattle.mmu_core.proofs.slots.SlotChangePlaces.{accepts_prop, begins_at_once, slot_change_begins, slot_change_begins_known, slot_change_few}
 use Rattle.mmu_core.proofs.slots.SlotChangePlaces.{slot_change_goes, slot_change_knows_prop, slot_change_stays, change_accepts, some_change_left}
-use Rattle.mmu_core.proofs.slots.SlotChangePlaces.{slot_change_fed, slot_change_free}
-use Rattle.mmu_core.proofs.lines.AccessEnds.{AreFed, access_fed, access_free}
+use Rattle.mmu_core.proofs.slots.SlotChangePlaces.{slot_change_free, slot_change_simple}
+use Rattle.mmu_core.proofs.slots.SlotChangeClaims.{begins_without_scan}
+use Rattle.mmu_core.proofs.lines.HostClaims.{host_begins_without}
+use Rattle.mmu_core.proofs.lines.SimplePlaces.{SimplePlace, Told, Nothing, Exit, Change, OfAccess, OfHost, between_simple}
+use Rattle.mmu_core.proofs.lines.AccessEnds.{AreFed, access_fed, access_free, exit_fed}
+use Rattle.mmu_core.specs.lines.ClaimSteps.{FreeMap, Pages, Frames}
+use Rattle.mmu_core.specs.lines.ScanPlaces.{HasScan}
+use Rattle.core_views.specs.declared.event.EventKind.{EventKind}
 
 -- ---- where a line goes on to
 
@@ -69,6 +75,13 @@ access_goes (Leave leaving.Faults) h gfn op v = tt
 access_goes (Fault p) h gfn op v = fault_goes (fault_next p h.state.sizes gfn (is_write op) h.topics v)
 access_goes _ h gfn op v = tt
 
+-- A place of a simple form: its one row of all that laws ask of it.
+pub simple_place : (p : Place) (command : Command) (h : Held) (v : ℕ) → IsSimple p → SimplePlace p command h v
+simple_place (place.Access p) command h v simple = absurd simple
+simple_place (place.Host p) command h v simple = absurd simple
+simple_place place.Between command h v simple = between_simple command h v
+simple_place (place.SlotChange p) command h v simple = slot_change_simple h command v p
+
 pub outcome_goes : (p : Place) (command : Command) (h : Held) (v : ℕ) → IsUnderWay p → GoesUnderWay (outcome_at p command h v)
 outcome_goes place.Between command h v begun = absurd begun
 outcome_goes (place.Access p) (Access gfn word op) h v begun = access_goes p h gfn op v
@@ -78,9 +91,9 @@ outcome_goes _ _ h v begun = tt
 
 pub outcome_apart : (p : Place) (command : Command) (h : Held) (v : ℕ) → IsNoAccess p → GoesToNoAccess (outcome_at p command h v)
 outcome_apart (place.Access p) command h v other = absurd other
-outcome_apart (place.SlotChange p) command h v other = (slot_change_goes p h v).1
 outcome_apart (place.Host p) (ChangeHost page change) h v other = (host_goes p page h v).1
-outcome_apart _ _ h v other = tt
+outcome_apart (place.Host p) _ h v other = tt
+outcome_apart p command h v other = simple_is_no_access (outcome_at p command h v) (simple_place p command h v tt).goes
 
 -- ---- what its step needs
 
@@ -177,6 +190,13 @@ first_alone z slots (Access gfn word op) words t = λ e. absurd (cc e)
 first_alone z slots (ChangeHost page change) words t = tt
 first_alone z slots _ words t = tt
 
+-- It begins with no scan.
+pub begins_without : (z : Sizes) (slots : MemorySlots) (command : Command) (map : FreeMap) → HasScan (first_place z slots command) map → ⊥
+begins_without z slots (Access gfn word op) Pages S = S
+begins_without z slots (Access gfn word op) Frames S = S
+begins_without z slots (ChangeHost page change) map S = host_begins_without (moves_page (ChangeHost page change)) map S
+begins_without z slots command map S = begins_without_scan (change_refusal z command slots) map S
+
 -- ---- what it knows
 
 -- At a place of another form than an access this is a proposition.
@@ -234,9 +254,21 @@ ends_free (place.SlotChange p) command h v answer R e = slot_change_free p h com
 ends_free (place.Host p) (ChangeHost page change) h v answer R e = host_free p page change h v answer R.1 e
 ends_free _ _ h v answer R e = absurd (cc e)
 
--- It tells an exit for want of a page only where it is answered so.
+-- What it tells is of one of a few shapes.
+pub place_tells : (p : Place) (command : Command) (h : Held) (v : ℕ) → Told h v p command (tells_at p command h v)
+place_tells (place.Access p) (Access gfn word op) h v = OfAccess p gfn word op
+place_tells (place.Access p) _ h v = Nothing
+place_tells (place.Host p) (ChangeHost page change) h v = OfHost p page change
+place_tells (place.Host p) _ h v = Nothing
+place_tells p command h v = (simple_place p command h v tt).tells
+
+-- So it tells an exit for want of a page only where it is answered so.
 pub tells_fed : (p : Place) (command : Command) (h : Held) (v : ℕ) → outcome_at p command h v ≢ Ends Starved → AreFed (tells_at p command h v)
-tells_fed (place.Access p) (Access gfn word op) h v other = access_fed p h gfn word op v other
-tells_fed (place.SlotChange p) command h v other = slot_change_fed p h command v other
-tells_fed (place.Host p) (ChangeHost page change) h v other = host_fed p page change h v
-tells_fed _ _ h v other = tt
+tells_fed p command h v = by p command (tells_at p command h v) (place_tells p command h v)
+  where
+    by : (q : Place) (c : Command) (kinds : List EventKind) → Told h v q c kinds → outcome_at q c h v ≢ Ends Starved → AreFed kinds
+    by _ _ _ Nothing other = tt
+    by q c _ (Exit not_) other = exit_fed (outcome_at q c h v) other
+    by _ _ _ (Change id slot at) other = (λ e. absurd (cc e), tt)
+    by _ _ _ (OfAccess q gfn word op) other = access_fed q h gfn word op v other
+    by _ _ _ (OfHost q page change) other = host_fed q page change h v

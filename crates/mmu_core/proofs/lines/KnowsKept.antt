@@ -58,6 +58,7 @@ use Rattle.part_steps.specs.ControlTopics.{at_root}
 use Rattle.part_steps.specs.TopicSteps.{topics_after}
 use Rattle.mmu_core.specs.machine.View.{View, answer_in, hand_after, part_stepped}
 use Rattle.mmu_core.proofs.machine.Columns.{at_upd}
+use Rattle.mmu_core.proofs.machine.PartStepping.{behind_part}
 use Rattle.mmu_core.proofs.lines.FaultKnown.{above_lowest, fault_known, gone_over, parts_answer, root_over}
 use Rattle.mmu_core.proofs.lines.FaultNeeds.{fault_needs}
 use Rattle.mmu_core.proofs.lines.Forms.{first_known}
@@ -67,11 +68,6 @@ use Rattle.mmu_core.proofs.machine.Stepping.{IsStep, is_step}
 use Rattle.mmu_core.proofs.machine.Which.{has_line_is}
 use Rattle.mmu_core.proofs.machine.HandWith.{hand_with}
 use Rattle.core_views.specs.SlotSets.{MemorySlots}
-
--- what is held after the step of a part, or after the touch
-abbrev pub behind_part : Option PartStep → Topics → ℕ → Topics
-behind_part None t v = t
-behind_part (Some step) t v = part_topics step t v
 
 abbrev pub CanAnswerBy : Option PartStep → ℕ → Type 0
 CanAnswerBy None v = Unit {0}

@@ -23,7 +23,7 @@ use Rattle.mmu_core.specs.machine.Outcomes.{place_after}
 use Rattle.mmu_core.proofs.lines.ClaimMade.{ClaimMade, claim_made}
 use Rattle.mmu_core.proofs.lines.ClaimMade as made
 use Rattle.mmu_core.proofs.lines.FaultScans.{KeepsScan, claim_keeps, claim_tries, maps, try_maps}
-use Rattle.mmu_core.proofs.lines.KnowsKept.{behind_part}
+use Rattle.mmu_core.proofs.machine.PartStepping.{behind_part}
 
 -- The step of the line keeps its scan of the map, or begins one.
 abbrev pub KeepsAt : FreeMap → Place → Option PartStep → Type 0
@@ -194,10 +194,6 @@ pub one_claim : (p : Place) (map other : FreeMap) (b c : Bool) → claim_at map 
 one_claim p Pages Pages b c at is = refl
 one_claim p Frames Frames b c at is = refl
 one_claim (place.Host q) Pages Frames b c at is = absurd (cc at)
-one_claim (place.Access q) Pages Frames b c at is = absurd (cc is)
-one_claim (place.SlotChange q) Pages Frames b c at is = absurd (cc is)
-one_claim place.Between Pages Frames b c at is = absurd (cc at)
+one_claim _ Pages Frames b c at is = absurd (cc is)
 one_claim (place.Host q) Frames Pages b c at is = absurd (cc is)
-one_claim (place.Access q) Frames Pages b c at is = absurd (cc at)
-one_claim (place.SlotChange q) Frames Pages b c at is = absurd (cc at)
-one_claim place.Between Frames Pages b c at is = absurd (cc at)
+one_claim _ Frames Pages b c at is = absurd (cc at)

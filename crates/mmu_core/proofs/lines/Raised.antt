@@ -10,8 +10,6 @@ use Rattle.core_views.specs.declared.place.EndPlace.TheVariants as ends
 use Rattle.core_views.specs.declared.place.HostPlace.TheVariants as host
 use Rattle.core_views.specs.declared.place.Place.{Place}
 use Rattle.core_views.specs.declared.place.Place.TheVariants as place
-use Rattle.core_views.specs.declared.place.SlotChangePlace.{SlotChangePlace}
-use Rattle.core_views.specs.declared.place.SlotChangePlace.TheVariants as change
 use Rattle.core_views.specs.declared.sizes.Sizes.{Sizes}
 use Rattle.core_views.specs.declared.topics.Checked.TheVariants as checked
 use Rattle.core_views.specs.declared.topics.Hold.TheVariants.{Exclusive}
@@ -32,7 +30,6 @@ use Rattle.mmu_core.specs.lines.AccessSteps.{access_part}
 use Rattle.mmu_core.specs.lines.Forms.{outcome_at, part_at}
 use Rattle.mmu_core.specs.lines.InvalidateSteps.{begin_part}
 use Rattle.mmu_core.specs.lines.Rests.{IsUnderWay}
-use Rattle.mmu_core.specs.lines.SlotChangeSteps.{slot_change_part}
 use Rattle.mmu_core.specs.machine.Outcomes.{answers_after, place_after}
 use Rattle.mmu_core.specs.machine.Steps.{standing}
 use Rattle.mmu_core.specs.machine.Sums.{one_if}
@@ -41,27 +38,15 @@ use Rattle.mmu_core.proofs.lines.AccessParts.{AreSmall}
 use Rattle.mmu_core.proofs.lines.ClaimMade.{claim_is}
 use Rattle.mmu_core.proofs.lines.EitherPlace.{each_watch, either_place}
 use Rattle.mmu_core.specs.declared.invalidate.EndNext.TheVariants as ends_next
-use Rattle.mmu_core.specs.lines.ClaimSteps.{Frames, Pages}
+use Rattle.mmu_core.specs.lines.ClaimSteps.{Frames}
 use Rattle.mmu_core.specs.lines.HostSteps.{after_end, moves}
 use Rattle.mmu_core.specs.lines.WatchSteps.{watch_next}
 use Rattle.part_steps.specs.PartTasks.{word_looked}
 use Rattle.spte_words.specs.HostWords.{host_frame}
 use Rattle.mmu_core.proofs.lines.LinesKept.{answers_length, answers_more}
-use Rattle.mmu_core.proofs.machine.PartStepping.{is_told}
+use Rattle.mmu_core.proofs.lines.Forms.{simple_place}
+use Rattle.mmu_core.proofs.machine.PartStepping.{is_told, raises, rises, untold_rises}
 use Rattle.mmu_core.proofs.slots.LiveStays.{access_untold}
-
--- how much the step raises the sequence number
-abbrev pub rises : PartStep → ℕ
-rises (part.SetSeq seq) = 1
-rises _ = 0
-
-abbrev pub raises : Option PartStep → ℕ
-raises None = 0
-raises (Some step) = rises step
-
-untold_rises : (step : PartStep) → is_told step ≡ false → rises step ≡ 0
-untold_rises (part.SetSeq seq) untold = absurd (cc untold)
-untold_rises _ untold = refl
 
 -- ---- Each form.
 
@@ -71,12 +56,6 @@ access_raises p gfn t = by (access_part p gfn t) (λ step is. access_untold p gf
     by : (o : Option PartStep) → ((step : PartStep) → o ≡ Some step → is_told step ≡ false) → raises o ≡ 0
     by None untold = refl
     by (Some step) untold = untold_rises step (untold step refl)
-
-change_rises : (p : SlotChangePlace) (h : Held) (command : Command) → rises (slot_change_part p h command) ≡ 0
-change_rises (change.Claim begun) h command =
-    untold_rises (slot_change_part (change.Claim begun) h command) (claim_is (λ s. is_told s ≡ false) Pages begun h.topics.claim refl (λ word. refl))
-change_rises (change.Refuse refusal) h command = refl
-change_rises _ h command = refl
 
 begin_rises : (p : BeginPlace) (page : ℕ) (t : Topics) → rises (begin_part p page t) ≡ 0
 begin_rises (begins.Find begun) page t = either_place (λ step. rises step ≡ 0) begun part.Slot part.Slots refl refl
@@ -95,7 +74,6 @@ pub raised_on : (p : Place) (command : Command) (h : Held) (v : ℕ) (line : Lin
 raised_on place.Between command h v line begun = absurd begun
 raised_on (place.Access p) (Access gfn word op) h v line begun = none_raised (outcome_at (place.Access p) (Access gfn word op) h v) line h.answers _
     (access_raises p gfn h.topics)
-raised_on (place.SlotChange p) command h v line begun = none_raised (outcome_at (place.SlotChange p) command h v) line h.answers _ (change_rises p h command)
 raised_on (place.Host (host.Look moving)) (ChangeHost page c) h v line begun =
     none_raised (outcome_at (place.Host (host.Look moving)) (ChangeHost page c) h v) line h.answers _
     (either_place (λ step. rises step ≡ 0) _ (part.Host page) part.Seq refl refl)
@@ -127,7 +105,9 @@ raised_on (place.Host host.Watch) (ChangeHost page c) h v line begun =
 raised_on (place.Host host.Free) (ChangeHost page c) h v line begun =
     let more = answers_length h.answers (record { number = line.number; actor = line.actor; answer = Moved (host_frame (word_looked h.topics.host)) }) in
     omega (arith, more)
-raised_on _ _ h v line begun = omega arith
+raised_on (place.Access p) _ h v line begun = omega arith
+raised_on (place.Host p) _ h v line begun = omega arith
+raised_on p command h v line begun = none_raised (outcome_at p command h v) line h.answers _ (simple_place p command h v tt).raises
 
 -- A line that begins has raised nothing yet.
 pub raised_before : (q : Place) (z : Sizes) (slots : MemorySlots) (command : Command) (p : Place) → standing q z slots command ≡ p

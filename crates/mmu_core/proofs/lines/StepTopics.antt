@@ -21,7 +21,8 @@ use Rattle.mmu_core.specs.lines.Forms.{RestsAt, caches_at, note_at, outcome_at, 
 use Rattle.mmu_core.specs.lines.PartAt.{task_at, touch_at}
 use Rattle.mmu_core.proofs.invariant.QuietKept.{touched}
 use Rattle.mmu_core.proofs.lines.ByStep.{step_needs}
-use Rattle.mmu_core.proofs.lines.KnowsKept.{KnowsAfter, KnowsBehind, behind_part, touch_topics}
+use Rattle.mmu_core.proofs.lines.KnowsKept.{KnowsAfter, KnowsBehind, touch_topics}
+use Rattle.mmu_core.proofs.machine.PartStepping.{behind_part}
 use Rattle.mmu_core.proofs.machine.HandWith.{hand_with}
 use Rattle.mmu_core.proofs.words.PartTopics.{is_there, part_topics_is}
 

@@ -32,7 +32,8 @@ use Rattle.mmu_core.proofs.invariant.Kept.{makes_at}
 use Rattle.mmu_core.proofs.invariant.QuietKept.{touched}
 use Rattle.mmu_core.proofs.lines.AccessParts.{AreSmall}
 use Rattle.mmu_core.proofs.lines.LinesKept.{answers_length}
-use Rattle.mmu_core.proofs.lines.Raised.{raised_before, raised_on, raises, rises}
+use Rattle.mmu_core.proofs.lines.Raised.{raised_before, raised_on}
+use Rattle.mmu_core.proofs.machine.PartStepping.{raises, rises}
 use Rattle.mmu_core.proofs.machine.Columns.{at_upd}
 use Rattle.mmu_core.proofs.machine.PartStepping.{IsPart}
 use Rattle.mmu_core.proofs.machine.Stepping.{IsStep}

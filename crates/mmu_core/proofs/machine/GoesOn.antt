@@ -1,4 +1,4 @@
--- Where a line goes on to: never to a moment between lines, and a line of another form to no place of an access.
+-- Where a line goes on to: never to a moment between lines, a line of another form to no place of an access, and one of a simple form to places of such.
 use Rattle.core_views.specs.declared.place.Place.{Place}
 use Rattle.core_views.specs.declared.place.Place.TheVariants as place
 use Rattle.mmu_core.specs.declared.outcome.Outcome.{Outcome}
@@ -17,3 +17,17 @@ IsNoAccess _ = Unit {0}
 abbrev pub GoesToNoAccess : Outcome → Type 0
 GoesToNoAccess (Goes p) = IsNoAccess p
 GoesToNoAccess (Ends answer) = Unit {0}
+
+-- It is a place of a simple form: one that is neither an access nor changes a host page. Between lines is such a place too.
+abbrev pub IsSimple : Place → Type 0
+IsSimple (place.Access p) = ⊥
+IsSimple (place.Host p) = ⊥
+IsSimple _ = Unit {0}
+
+abbrev pub GoesToSimple : Outcome → Type 0
+GoesToSimple (Goes p) = IsSimple p
+GoesToSimple (Ends answer) = Unit {0}
+
+pub simple_is_no_access : (o : Outcome) → GoesToSimple o → GoesToNoAccess o
+simple_is_no_access (Goes (place.Access p)) simple = absurd simple
+simple_is_no_access _ simple = tt

@@ -10,6 +10,8 @@ use Rattle.part_steps.specs.declared.part_step.PartStep.TheVariants as part
 use Rattle.part_steps.specs.declared.part_step.PartStep.{PartStep}
 use Rattle.part_steps.specs.PartTasks.{IsWithin, own_index, page_owned}
 use Rattle.part_steps.specs.PartSteps.{PartNeeds, needs_line}
+use Rattle.part_steps.specs.PartTopics.{part_topics}
+use Rattle.std.specs.Prelude.{Option, Some, None}
 use Rattle.mmu_core.specs.invariant.InvalidatedPart.{IsIn}
 use Rattle.mmu_core.specs.invariant.SlotSetPart.{AreSlots, IsLiveIn}
 use Rattle.mmu_core.specs.machine.View.{View}
@@ -111,6 +113,24 @@ idle_untold (part.Copy index) free = absurd (cc free)
 idle_untold (part.Store index) free = absurd (cc free)
 idle_untold part.GiveFrame free = absurd (cc free)
 idle_untold _ free = refl
+
+-- what is held after the step of a part, or after the touch
+abbrev pub behind_part : Option PartStep → Topics → ℕ → Topics
+behind_part None t v = t
+behind_part (Some step) t v = part_topics step t v
+
+-- how much a step raises the sequence number
+abbrev pub rises : PartStep → ℕ
+rises (part.SetSeq seq) = 1
+rises _ = 0
+
+abbrev pub raises : Option PartStep → ℕ
+raises None = 0
+raises (Some step) = rises step
+
+pub untold_rises : (step : PartStep) → is_told step ≡ false → rises step ≡ 0
+untold_rises (part.SetSeq seq) untold = absurd (cc untold)
+untold_rises _ untold = refl
 
 pub replaces_none : (z : Sizes) (step : PartStep) (pool : ℕ → ℕ) (slots : ℕ) (t : Topics) → is_told step ≡ false → Replaces z step pool slots t
 replaces_none z part.Publish pool slots t never = absurd (cc never)

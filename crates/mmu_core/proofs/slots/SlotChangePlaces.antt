@@ -3,9 +3,9 @@ use Rattle.std.proofs.Common.{◌≡◌, ◌<◌, ◌≤◌, ℕ, ◌∙◌, ◌
 use Rattle.std.proofs.Props.{props}
 use Rattle.std.specs.Prelude.{true, Option, Some, None, Bool, false, List, [], ◌∷◌, nat_lt}
 use Rattle.core_views.specs.declared.answer.Answer.{Answer}
-use Rattle.core_views.specs.declared.answer.Answer.TheVariants.{Starved}
+use Rattle.core_views.specs.declared.answer.Answer.TheVariants.{Refused, Starved}
 use Rattle.core_views.specs.declared.answer.Refusal.{Refusal}
-use Rattle.core_views.specs.declared.answer.Refusal.TheVariants.{BadId, TooLarge, Logged, Resize, Fixed, Overlap, HostOverlap}
+use Rattle.core_views.specs.declared.answer.Refusal.TheVariants.{BadId, TooLarge, Logged, NoFrame, Resize, Fixed, Overlap, HostOverlap}
 use Rattle.core_views.specs.Refusals.{moves_logged}
 use Rattle.core_views.specs.Slots.{changes_fixed, first_of, is_some_and, is_too_large, meets_guest_frames, meets_host_pages, resizes, slot_with_id}
 use Rattle.core_views.specs.declared.place.Place.TheVariants as place
@@ -29,11 +29,13 @@ use Rattle.mmu_core.specs.lines.Forms.{Holds}
 use Rattle.mmu_core.specs.lines.PartWaits.{part_waits}
 use Rattle.mmu_core.specs.lines.SlotChangeKnows.{FillsSet, SlotChangeHolds, RecordAccepts, SlotChangeKnows, is_of_frames}
 use Rattle.mmu_core.specs.lines.SlotChangeSteps.{slot_change_left, slot_change_first, slot_change_outcome, slot_change_part, slot_change_tells, changed}
-use Rattle.mmu_core.proofs.lines.AccessEnds.{AreFed, exit_fed}
 use Rattle.mmu_core.proofs.lines.ClaimMade.{claim_few, claim_free, claim_is, claim_made}
 use Rattle.mmu_core.proofs.lines.EitherPlace.{each_claim}
-use Rattle.mmu_core.proofs.machine.GoesOn.{GoesToNoAccess, GoesUnderWay}
-use Rattle.mmu_core.proofs.machine.PartStepping.{brings, is_publish, is_told, never_told, changes_word, quiet_told}
+use Rattle.mmu_core.proofs.machine.GoesOn.{GoesToSimple, GoesUnderWay}
+use Rattle.mmu_core.proofs.machine.PartStepping.{brings, is_publish, is_told, never_told, changes_word, quiet_told, rises}
+use Rattle.mmu_core.proofs.lines.SimplePlaces.{SimplePlace, Told, Nothing, Exit, Change}
+use Rattle.mmu_core.proofs.slots.SlotChangeClaims.{change_claims_or_not}
+use Rattle.mmu_core.specs.lines.AccessSteps.{exiting}
 use Rattle.mmu_core.proofs.slots.LiveStays.{OwnedStays}
 
 -- It publishes at one place alone.
@@ -58,9 +60,9 @@ change_quiet p h command other = quiet_told (slot_change_part p h command) (chan
 
 -- ---- where it goes on to
 
-pub slot_change_goes : (p : SlotChangePlace) (h : Held) (v : ℕ) → GoesUnderWay (slot_change_outcome p h v) × GoesToNoAccess (slot_change_outcome p h v)
+pub slot_change_goes : (p : SlotChangePlace) (h : Held) (v : ℕ) → GoesUnderWay (slot_change_outcome p h v) × GoesToSimple (slot_change_outcome p h v)
 slot_change_goes (Claim begun) h v =
-    each_claim (λ o. GoesUnderWay o × GoesToNoAccess o) (claim_next Pages begun h.state.sizes h.topics.claim v)
+    each_claim (λ o. GoesUnderWay o × GoesToSimple o) (claim_next Pages begun h.state.sizes h.topics.claim v)
     (place.SlotChange (Claim true)) (place.SlotChange Fill) Starved (tt, tt) (tt, tt) (tt, tt)
 slot_change_goes _ h v = (tt, tt)
 
@@ -169,13 +171,33 @@ slot_change_free (Refuse refusal) h command v answer e = refl
 slot_change_free Give h command v answer e = refl
 slot_change_free _ h command v answer e = absurd (cc e)
 
--- It tells an exit for want of a page only where it is answered so.
-changed_fed : (change : Option (ℕ × Option MemorySlot)) → AreFed (changed change)
-changed_fed None = tt
-changed_fed (Some (id, slot)) = (λ e. absurd (cc e), tt)
+-- ---- what it tells, and what else is so of each place of a simple form
 
-pub slot_change_fed : (p : SlotChangePlace) (h : Held) (command : Command) (v : ℕ) → slot_change_outcome p h v ≢ Ends Starved
-    → AreFed (slot_change_tells p h command v)
-slot_change_fed (Claim begun) h command v other = exit_fed (slot_change_outcome (Claim begun) h v) other
-slot_change_fed Publish h command v other = changed_fed (slot_change h.slots command)
-slot_change_fed _ h command v other = tt
+module _ (h : Held) (command : Command) (v : ℕ) where
+  -- the slot's change, if there is one
+  change_told : (change : Option (ℕ × Option MemorySlot)) → Told h v (place.SlotChange Publish) command (changed change)
+  change_told None = Nothing
+  change_told (Some (id, slot)) = Change id slot refl
+
+  -- Its claim is answered for want of a page alone.
+  claim_told : (begun : Bool) → Told h v (place.SlotChange (Claim begun)) command (exiting (slot_change_outcome (Claim begun) h v))
+  claim_told begun =
+      Exit (each_claim (λ o. o ≢ Ends (Refused NoFrame)) (claim_next Pages begun h.state.sizes h.topics.claim v) (place.SlotChange (Claim true))
+      (place.SlotChange Fill) Starved (λ e. cc e) (λ e. cc e) (λ e. cc e))
+
+  slot_change_told : (p : SlotChangePlace) → Told h v (place.SlotChange p) command (slot_change_tells p h command v)
+  slot_change_told (Claim begun) = claim_told begun
+  slot_change_told Publish = change_told (slot_change h.slots command)
+  slot_change_told _ = Nothing
+
+  change_rises : (p : SlotChangePlace) → rises (slot_change_part p h command) ≡ 0
+  change_rises (Claim begun) = claim_is (λ s. rises s ≡ 0) Pages begun h.topics.claim refl (λ word. refl)
+  change_rises _ = refl
+
+  pub slot_change_simple : (p : SlotChangePlace) → SimplePlace (place.SlotChange p) command h v
+  slot_change_simple p = record {
+    goes = (slot_change_goes p h v).1;
+    tells = slot_change_told p;
+    raises = change_rises p;
+    claims = λ R. change_claims_or_not command h v p;
+  }

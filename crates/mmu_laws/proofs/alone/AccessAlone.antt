@@ -48,7 +48,8 @@ use Rattle.mmu_core.specs.machine.Machine.{World, hand_in}
 use Rattle.mmu_core.specs.machine.Steps.{task_at}
 use Rattle.mmu_core.specs.machine.View.{answer_in, word_in, words_after}
 use Rattle.mmu_core.proofs.lines.FaultKnown.{above_lowest}
-use Rattle.mmu_core.proofs.lines.KnowsKept.{behind_part}
+use Rattle.mmu_core.proofs.machine.GoesOn.{GoesToSimple}
+use Rattle.mmu_core.proofs.machine.PartStepping.{behind_part}
 use Rattle.mmu_laws.proofs.alone.FaultAlone.{goes_through}
 use Rattle.mmu_laws.proofs.leaves.LeadsDown.{down_page, leaf_below}
 
@@ -56,6 +57,12 @@ use Rattle.mmu_laws.proofs.leaves.LeadsDown.{down_page, leaf_below}
 abbrev pub FormNext : Outcome → Command → (Area → ℕ → ℕ) → Topics → Type 0
 FormNext (Goes p) command words t = FormAlone p command words t
 FormNext (Ends answer) command words t = Unit {0}
+
+-- At a place of a simple form it knows nothing of its own.
+pub simple_form : (o : Outcome) (command : Command) (words : Area → ℕ → ℕ) (t : Topics) → GoesToSimple o → FormNext o command words t
+simple_form (Goes (place.Access p)) command words t simple = absurd simple
+simple_form (Goes (place.Host p)) command words t simple = absurd simple
+simple_form _ command words t simple = tt
 
 module _ (gfn word : ℕ) (op : Op) (words : Area → ℕ → ℕ) where
   abbrev Next : Outcome → Topics → Type 0

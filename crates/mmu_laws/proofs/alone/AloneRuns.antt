@@ -31,7 +31,7 @@ use Rattle.mmu_core.specs.machine.Turns.{line_of, outcome_of}
 use Rattle.mmu_core.specs.machine.View.{View, answer_in, hand_after, view, word_in, words_after}
 use Rattle.mmu_laws.proofs.alone.AloneStep.{alone_step}
 use Rattle.mmu_laws.proofs.alone.GoesAlone.{GoesAlone, GoesOnAlone, topics_at}
-use Rattle.mmu_core.proofs.lines.ClaimPlaces.{begins_without}
+use Rattle.mmu_core.proofs.lines.Forms.{begins_without}
 use Rattle.mmu_core.proofs.lines.LineClaims.{no_scan_between}
 use Rattle.mmu_core.specs.lines.PartWaits.{is_owing}
 use Rattle.part_steps.specs.StayTopics.{has_lock}

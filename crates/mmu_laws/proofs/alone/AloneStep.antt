@@ -47,17 +47,18 @@ use Rattle.mmu_core.proofs.invariant.QuietKept.{touched}
 use Rattle.mmu_core.proofs.lines.ByStep.{step_needs}
 use Rattle.mmu_core.proofs.lines.ClaimPlaces.{claims_or_not}
 use Rattle.mmu_core.proofs.lines.LineClaims.{Claims, ClaimsNot, KeepsAt, keeps_scan, starves, tries_with_scan}
-use Rattle.mmu_core.proofs.lines.Forms.{outcome_goes}
-use Rattle.mmu_core.proofs.lines.KnowsKept.{access_vcpu, behind_part}
+use Rattle.mmu_core.proofs.lines.Forms.{outcome_goes, simple_place}
+use Rattle.mmu_core.proofs.lines.KnowsKept.{access_vcpu}
+use Rattle.mmu_core.proofs.machine.PartStepping.{behind_part}
 use Rattle.mmu_core.proofs.lines.StepIn.{topics_of_step}
 use Rattle.mmu_core.proofs.machine.GoesOn.{GoesUnderWay}
 use Rattle.mmu_laws.specs.turns.Removal.{WalksInstalled}
 use Rattle.mmu_laws.proofs.alone.GoesAlone.{GoesAlone, GoesOnAlone, topics_at}
-use Rattle.mmu_laws.proofs.alone.HostLines.{change_form, host_form}
+use Rattle.mmu_laws.proofs.alone.HostLines.{host_form}
 use Rattle.mmu_laws.proofs.alone.PartAlone.{part_goes_alone, seen_on}
-use Rattle.mmu_laws.proofs.turns.StayNearer.{Nearer, place_nearer}
-use Rattle.mmu_laws.proofs.turns.TurnsNearer.{no_miss, none_of}
-use Rattle.mmu_laws.proofs.alone.AccessAlone.{FormNext, KnowsAfter, access_form}
+use Rattle.mmu_laws.proofs.turns.StayNearer.{Nearer}
+use Rattle.mmu_laws.proofs.turns.TurnsNearer.{no_miss, none_of, place_nearer}
+use Rattle.mmu_laws.proofs.alone.AccessAlone.{FormNext, KnowsAfter, access_form, simple_form}
 use Rattle.mmu_core.proofs.held.OwnPages.{own_words}
 
 -- ---- what an access knows and never does alone
@@ -189,13 +190,12 @@ module _ (z : Sizes) (w : World Held) (a : ℕ) (sound : IsSound z w) (others : 
   form_after (place.Access p) (Access gfn word op) may rests left R K L =
       access_form z w a sound others there p gfn word op (access_vcpu z h.state.actor gfn word op may).1 rests (left.opens refl) K L
   form_after (place.Access p) _ may rests left R K L = absurd R
-  form_after (place.SlotChange p) command may rests left R K L =
-      let v : ℕ = answer_in (task_at (place.SlotChange p) command h) words in
-      change_form p h v command (words_after (task_at (place.SlotChange p) command h) words)
-      (behind_part (part_at (place.SlotChange p) command h) h.topics v)
   form_after (place.Host p) (ChangeHost page change) may rests left R K L = host_form z w a sound there p page change K L
   form_after (place.Host p) _ may rests left R K L = absurd R
-  form_after place.Between command may rests left R K L = tt
+  form_after p command may rests left R K L =
+      let v : ℕ = answer_in (task_at p command h) words in
+      simple_form (outcome_at p command h v) command (words_after (task_at p command h) words) (behind_part (part_at p command h) h.topics v)
+      (simple_place p command h v tt).goes
 
   pub alone_step : (p : Place) (command : Command) → IsUnderWay p → IsCommandFor z h.state.actor command → PartRests h → RetiresPart p h.topics
       → RestsAt p command h → KnowsPart p command h

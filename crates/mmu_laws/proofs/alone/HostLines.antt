@@ -4,7 +4,7 @@ use Rattle.std.proofs.Common.{◌≡◌, ◌≢◌, ◌⊎◌, inl, inr, ◌+◌
 use Rattle.std.specs.Prelude.{Bool, true, false, ◌==◌, nat_lt, if◌then◌else◌, Option, Some, None}
 use Rattle.std.specs.Int.{bit_not}
 use Rattle.std.proofs.lemmas.Nat.Bits.{bit_at-trailing_zeros, bit_at-zero}
-use Rattle.core_views.specs.declared.answer.Answer.TheVariants.{Refused, Starved}
+use Rattle.core_views.specs.declared.answer.Answer.TheVariants.{Refused}
 use Rattle.core_views.specs.declared.answer.Refusal.TheVariants.{OutOfRange}
 use Rattle.core_views.specs.declared.place.BeginPlace.{BeginPlace}
 use Rattle.core_views.specs.declared.place.BeginPlace.TheVariants as begins
@@ -12,8 +12,6 @@ use Rattle.core_views.specs.declared.place.EndPlace.TheVariants as ends
 use Rattle.core_views.specs.declared.place.HostPlace.{HostPlace}
 use Rattle.core_views.specs.declared.place.HostPlace.TheVariants as host
 use Rattle.core_views.specs.declared.place.Place.TheVariants as place
-use Rattle.core_views.specs.declared.place.SlotChangePlace.{SlotChangePlace}
-use Rattle.core_views.specs.declared.place.SlotChangePlace.TheVariants as change_at
 use Rattle.core_views.specs.declared.sizes.Sizes.{Sizes}
 use Rattle.core_views.specs.declared.topics.MapClaim.{MapClaim}
 use Rattle.core_views.specs.declared.topics.OwnedFrame.{OwnedFrame}
@@ -37,7 +35,7 @@ use Rattle.part_steps.specs.PartTopics.{part_topics}
 use Rattle.mmu_core.specs.alone.AloneKnows.{AloneKnows, OwnsLowest}
 use Rattle.mmu_core.specs.alone.SeenStands.{ScanStands}
 use Rattle.mmu_core.specs.declared.claim.ClaimNext.{ClaimNext}
-use Rattle.mmu_core.specs.declared.claim.FreeMap.TheVariants.{Frames, Pages}
+use Rattle.mmu_core.specs.declared.claim.FreeMap.TheVariants.{Frames}
 use Rattle.mmu_core.specs.declared.invalidate.BeginNext.{BeginNext}
 use Rattle.mmu_core.specs.declared.invalidate.BeginNext.TheVariants as begins_next
 use Rattle.mmu_core.specs.declared.invalidate.EndNext.{EndNext}
@@ -46,18 +44,16 @@ use Rattle.mmu_core.specs.declared.outcome.Outcome.TheVariants.{Goes, Ends}
 use Rattle.mmu_core.specs.declared.watch.WatchNext.{WatchNext}
 use Rattle.mmu_core.specs.invariant.Laws.{IsSound}
 use Rattle.mmu_core.specs.invariant.PoolPart.{is_free}
-use Rattle.mmu_core.specs.lines.ClaimSteps.{claim_next}
 use Rattle.mmu_core.specs.lines.HostKnows.{HostKnows}
 use Rattle.mmu_core.specs.lines.HostSteps.{after_begin, after_end, after_frame_claim, after_frame_watch, host_note, host_part, moves}
 use Rattle.mmu_core.specs.lines.InvalidateSteps.{begin_next, begin_part, end_next}
-use Rattle.mmu_core.specs.lines.SlotChangeSteps.{slot_change_outcome}
 use Rattle.mmu_core.specs.lines.WatchSteps.{watch_next}
 use Rattle.mmu_core.specs.machine.Enabled.{mmu}
 use Rattle.mmu_core.specs.machine.Machine.{World, hand_in}
 use Rattle.mmu_core.specs.machine.View.{answer_in, upd, word_in, words_after}
 use Rattle.mmu_core.proofs.lines.ClaimMade.{ClaimMade, claim_made}
 use Rattle.mmu_core.proofs.lines.ClaimMade as made
-use Rattle.mmu_core.proofs.lines.EitherPlace.{each_claim, each_watch, either_place}
+use Rattle.mmu_core.proofs.lines.EitherPlace.{each_watch, either_place}
 use Rattle.mmu_core.proofs.machine.Columns.{same_or, upd_other}
 use Rattle.mmu_core.proofs.words.PoolBits.{free_cleared}
 use Rattle.mmu_laws.proofs.alone.AccessAlone.{FormNext, KnowsAfter}
@@ -171,14 +167,6 @@ module _ (command : Command) (words : Area → ℕ → ℕ) (t u : Topics) where
 
   watched_form : (next : WatchNext) → FormNext (Goes (place.Host (after_frame_watch next))) command words u
   watched_form next = each_watch (λ p. FormNext (Goes (place.Host p)) command words u) next host.Watch host.Free tt tt
-
--- A slot line knows nothing of its own.
-pub change_form : (p : SlotChangePlace) (h : Held) (v : ℕ) (command : Command) (words : Area → ℕ → ℕ) (u : Topics)
-    → FormNext (slot_change_outcome p h v) command words u
-change_form (change_at.Claim begun) h v command words u =
-    each_claim (λ o. FormNext o command words u) (claim_next Pages begun h.state.sizes h.topics.claim v) (place.SlotChange (change_at.Claim true))
-    (place.SlotChange change_at.Fill) Starved tt tt tt
-change_form _ h v command words u = tt
 
 -- ---- in a sound world
 

@@ -1,8 +1,8 @@
 -- Which events are no move of a page, nor a move that is refused a frame: all that lines tell but at the claim of a frame and at the exchange of a host word.
-use Rattle.std.proofs.Common.{◌≡◌, List, [], ◌∷◌, ◌++◌, ℕ, refl}
-use Rattle.std.specs.Prelude.{Bool, true, false, ◌==◌, Option, Some, None}
+use Rattle.std.proofs.Common.{◌≡◌, ◌≢◌, List, [], ◌∷◌, ◌++◌, ℕ, refl}
+use Rattle.std.specs.Prelude.{Bool, true, false, ◌==◌}
 use Rattle.core_views.specs.declared.actor.Actor.{Actor}
-use Rattle.core_views.specs.declared.answer.Answer.TheVariants.{Refused, Starved}
+use Rattle.core_views.specs.declared.answer.Answer.TheVariants.{Refused}
 use Rattle.core_views.specs.declared.answer.Refusal.TheVariants.{NoFrame}
 use Rattle.core_views.specs.declared.event.EventKind.{EventKind}
 use Rattle.core_views.specs.declared.event.EventKind.TheVariants.{BroughtIn, Exited, HostChanged, LookedAtHost, LookedAtSlots}
@@ -14,10 +14,7 @@ use Rattle.core_views.specs.declared.place.FaultPlace.TheVariants as fault
 use Rattle.core_views.specs.declared.place.HostPlace.TheVariants as host
 use Rattle.core_views.specs.declared.place.Place.{Place}
 use Rattle.core_views.specs.declared.place.Place.TheVariants as place
-use Rattle.core_views.specs.declared.place.SlotChangePlace.{SlotChangePlace}
-use Rattle.core_views.specs.declared.place.SlotChangePlace.TheVariants as change_at
 use Rattle.core_views.specs.declared.sizes.Sizes.{Sizes}
-use Rattle.core_views.specs.declared.slot_set.MemorySlot.{MemorySlot}
 use Rattle.core_views.specs.declared.trace.Command.{Command}
 use Rattle.core_views.specs.declared.trace.Command.TheVariants.{Access, ChangeHost}
 use Rattle.core_views.specs.declared.trace.Line.{Line}
@@ -27,19 +24,17 @@ use Rattle.core_views.specs.Events.{after}
 use Rattle.core_views.specs.Flat.{Facts, Flat}
 use Rattle.core_views.specs.Held.{Held}
 use Rattle.core_views.specs.HostChanges.{is_own}
-use Rattle.core_views.specs.SlotCommands.{slot_change}
 use Rattle.core_views.specs.SlotSets.{MemorySlots}
 use Rattle.part_steps.specs.PartTasks.{page_looked, word_looked}
 use Rattle.mmu_core.specs.declared.outcome.Outcome.{Outcome}
 use Rattle.mmu_core.specs.declared.outcome.Outcome.TheVariants.{Goes, Ends}
 use Rattle.mmu_core.specs.lines.AccessSteps.{access_tells, exiting, fault_over}
-use Rattle.mmu_core.specs.declared.claim.FreeMap.TheVariants.{Pages}
-use Rattle.mmu_core.specs.lines.ClaimSteps.{claim_next}
-use Rattle.mmu_core.specs.lines.Forms.{first_place, tells_at}
-use Rattle.mmu_core.specs.lines.SlotChangeSteps.{changed, slot_change_tells}
+use Rattle.mmu_core.specs.lines.Forms.{first_place, outcome_at, tells_at}
 use Rattle.mmu_core.specs.machine.Outcomes.{answering}
 use Rattle.mmu_core.specs.machine.Steps.{beginning}
-use Rattle.mmu_core.proofs.lines.EitherPlace.{each_claim, either_place}
+use Rattle.mmu_core.proofs.lines.EitherPlace.{either_place}
+use Rattle.mmu_core.proofs.lines.Forms.{place_tells}
+use Rattle.mmu_core.proofs.lines.SimplePlaces.{Told, Nothing, Exit, Change, OfAccess, OfHost}
 use Rattle.mmu_laws.proofs.flat.Told.{told}
 
 abbrev pub IsNoMove : EventKind → Type 0
@@ -113,23 +108,21 @@ access_no_move (access.Fault fault.Bring) h gfn word op v =
 access_no_move (access.Fault (fault.End e)) h gfn word op v = end_no_move e
 access_no_move _ h gfn word op v = tt
 
-changed_no_move : (change : Option (ℕ × Option MemorySlot)) → AreNoMoves (changed change)
-changed_no_move None = tt
-changed_no_move (Some (id, slot)) = (tt, tt)
-
-change_no_move : (p : SlotChangePlace) (h : Held) (command : Command) (v : ℕ) → AreNoMoves (slot_change_tells p h command v)
-change_no_move (change_at.Claim begun) h command v =
-    each_claim (λ o. AreNoMoves (exiting o)) (claim_next Pages begun h.state.sizes h.topics.claim v) (place.SlotChange (change_at.Claim true))
-    (place.SlotChange change_at.Fill) Starved tt tt (tt, tt)
-change_no_move change_at.Publish h command v = changed_no_move (slot_change h.slots command)
-change_no_move _ h command v = tt
+exit_no_move : (o : Outcome) → o ≢ Ends (Refused NoFrame) → AreNoMoves (exiting o)
+exit_no_move (Goes p) other = tt
+exit_no_move (Ends (Refused NoFrame)) other = absurd (other refl)
+exit_no_move (Ends answer) other = (tt, tt)
 
 pub tells_no_move : (p : Place) (command : Command) (h : Held) (v : ℕ) → moves_at p command ≡ false → AreNoMoves (tells_at p command h v)
-tells_no_move (place.Access p) (Access gfn word op) h v other = access_no_move p h gfn word op v
-tells_no_move (place.SlotChange p) command h v other = change_no_move p h command v
-tells_no_move (place.Host (host.Claim begun)) (ChangeHost page change) h v other = absurd (cc other)
-tells_no_move (place.Host host.Change) (ChangeHost page change) h v other = absurd (cc other)
-tells_no_move (place.Host (host.Look moving)) (ChangeHost page change) h v other =
-    either_place AreNoMoves (is_own h.state.sizes h.state.actor page) (LookedAtHost page ∷ []) [] (tt, tt) tt
-tells_no_move (place.Host p) (ChangeHost page change) h v other = tt
-tells_no_move _ _ h v other = tt
+tells_no_move p command h v = by p command (tells_at p command h v) (place_tells p command h v)
+  where
+    by : (q : Place) (c : Command) (kinds : List EventKind) → Told h v q c kinds → moves_at q c ≡ false → AreNoMoves kinds
+    by _ _ _ Nothing other = tt
+    by q c _ (Exit no_frame) other = exit_no_move (outcome_at q c h v) no_frame
+    by _ _ _ (Change id slot at) other = (tt, tt)
+    by _ _ _ (OfAccess q gfn word op) other = access_no_move q h gfn word op v
+    by _ _ _ (OfHost (host.Claim begun) page change) other = absurd (cc other)
+    by _ _ _ (OfHost host.Change page change) other = absurd (cc other)
+    by _ _ _ (OfHost (host.Look moving) page change) other =
+        either_place AreNoMoves (is_own h.state.sizes h.state.actor page) (LookedAtHost page ∷ []) [] (tt, tt) tt
+    by _ _ _ (OfHost q page change) other = tt

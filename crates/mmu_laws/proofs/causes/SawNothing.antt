@@ -39,7 +39,7 @@ use Rattle.mmu_core.proofs.lines.ByStep.{step_needs}
 use Rattle.mmu_core.proofs.lines.ClaimPlaces.{claims_or_not}
 use Rattle.mmu_core.proofs.lines.FaultScans.{frame_maps_not, maps, page_maps_not}
 use Rattle.mmu_core.proofs.lines.LineClaims.{Claims, ClaimsNot, LeadsFromClaim, maps_by, no_claim_between, one_claim}
-use Rattle.mmu_core.proofs.lines.KnowsKept.{behind_part}
+use Rattle.mmu_core.proofs.machine.PartStepping.{behind_part}
 use Rattle.mmu_core.proofs.lines.NotOpen.{closed_without, unseen_on}
 use Rattle.mmu_core.proofs.lines.StepIn.{topics_of_step}
 use Rattle.mmu_laws.specs.causes.Waits.{BetweenLinesSawNothing, SawNothing, StartsSawNothing}

@@ -33,7 +33,8 @@ use Rattle.mmu_core.specs.declared.claim.FreeMap.{FreeMap}
 use Rattle.mmu_core.specs.declared.claim.FreeMap.TheVariants.{Pages, Frames}
 use Rattle.mmu_core.specs.lines.ClaimSteps.{claim_over, load_part, map_area, map_words}
 use Rattle.mmu_core.specs.lines.ScanPlaces.{HasScan, answer_without}
-use Rattle.mmu_core.proofs.lines.ClaimPlaces.{begins_without, claims_or_not}
+use Rattle.mmu_core.proofs.lines.ClaimPlaces.{claims_or_not}
+use Rattle.mmu_core.proofs.lines.Forms.{begins_without}
 use Rattle.mmu_core.proofs.lines.LineClaims.{ComesToEnd, KeepsAt, keeps_scan, starves}
 use Rattle.mmu_core.proofs.lines.FaultScans.{KeepsScan}
 use Rattle.mmu_core.proofs.lines.FaultScans as scans

@@ -37,7 +37,7 @@ use Rattle.mmu_core.specs.invariant.TopicsInvariant.{TopicsInvariant}
 use Rattle.mmu_core.specs.machine.View.{View, answer_in, hand_after, stepped, words_after}
 use Rattle.mmu_core.proofs.machine.Columns.{at_upd}
 use Rattle.mmu_laws.proofs.flat.FlatSteps.{Ready, StepGoes, UnderAt}
-use Rattle.mmu_laws.proofs.flat.Forms.{first_at, step_goes}
+use Rattle.mmu_laws.proofs.Forms.{first_at, step_goes}
 use Rattle.mmu_core.proofs.machine.Which.{events_of_line, has_line_is}
 use Rattle.mmu_core.proofs.invariant.Kept.{MakesAt}
 use Rattle.mmu_core.proofs.machine.Stepping.{IsStep}

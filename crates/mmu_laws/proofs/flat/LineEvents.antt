@@ -20,7 +20,7 @@ use Rattle.core_views.proofs.Texts.{answers_append}
 use Rattle.mmu_core.specs.declared.outcome.Outcome.{Outcome}
 use Rattle.mmu_core.specs.declared.outcome.Outcome.TheVariants.{Goes, Ends}
 use Rattle.mmu_core.proofs.machine.Which.{events_of_line}
-pub use Rattle.mmu_laws.proofs.flat.Forms.{AllWithin, tells_within}
+pub use Rattle.mmu_laws.proofs.flat.Within.{AllWithin, tells_within}
 use Rattle.mmu_core.specs.machine.Steps.{beginning, event_kinds, events_of, has_line, line_at, place_at}
 use Rattle.mmu_core.specs.lines.Forms.{outcome_at, tells_at}
 use Rattle.mmu_core.specs.machine.Outcomes.{answering}

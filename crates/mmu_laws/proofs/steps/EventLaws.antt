@@ -1,10 +1,10 @@
 -- Each event that a step tells is of its word, and of what it finds and leaves there.
 use Rattle.std.proofs.Common.{◌≡◌, ◌<◌, eqb-true, ℕ, List, [], ◌∷◌, refl, sym, subst, ap, arith}
 use Rattle.std.proofs.lemmas.List.Elements.{All-append, All-cons, All-map, All-nil}
-use Rattle.std.specs.Prelude.{All, Bool, Option, None, Some, true, false, ◌==◌, if◌then◌else◌}
+use Rattle.std.specs.Prelude.{All, Bool, Option, Some, true, false, ◌==◌, if◌then◌else◌}
 use Rattle.core_views.specs.declared.event.Event.{Event}
 use Rattle.core_views.specs.declared.event.EventKind.{EventKind}
-use Rattle.core_views.specs.declared.event.EventKind.TheVariants.{Answered, Begun, BroughtIn, Exited, HostChanged, LookedAtHost, SlotChanged}
+use Rattle.core_views.specs.declared.event.EventKind.TheVariants.{Answered, Begun, BroughtIn, Exited, HostChanged, LookedAtHost}
 use Rattle.core_views.specs.declared.kind.Kind.{Kind}
 use Rattle.core_views.specs.declared.place.AccessPlace.{AccessPlace}
 use Rattle.core_views.specs.declared.place.AccessPlace.TheVariants.{Fault, Pause, Touch}
@@ -13,10 +13,7 @@ use Rattle.core_views.specs.declared.place.HostPlace.{HostPlace}
 use Rattle.core_views.specs.declared.place.HostPlace.TheVariants as host_at
 use Rattle.core_views.specs.declared.place.Place.{Place}
 use Rattle.core_views.specs.declared.place.Place.TheVariants as place
-use Rattle.core_views.specs.declared.place.SlotChangePlace.{SlotChangePlace}
-use Rattle.core_views.specs.declared.place.SlotChangePlace.TheVariants.{Claim, Publish}
 use Rattle.core_views.specs.declared.sizes.Sizes.{Sizes}
-use Rattle.core_views.specs.declared.slot_set.MemorySlot.{MemorySlot}
 use Rattle.core_views.specs.declared.trace.Command.{Command}
 use Rattle.core_views.specs.declared.trace.Command.TheVariants.{Access, ChangeHost}
 use Rattle.core_views.specs.declared.trace.HostChange.{HostChange}
@@ -33,12 +30,15 @@ use Rattle.mmu_core.specs.declared.outcome.Outcome.{Outcome}
 use Rattle.mmu_core.specs.declared.outcome.Outcome.TheVariants.{Ends, Goes}
 use Rattle.mmu_core.specs.invariant.Laws.{IsSound}
 use Rattle.part_steps.specs.PartTasks.{page_looked, word_looked}
-use Rattle.mmu_core.specs.lines.Forms.{KnowsPart, outcome_at, tells_at}
-use Rattle.mmu_core.specs.lines.SlotChangeSteps.{changed, slot_change_outcome}
+use Rattle.mmu_core.specs.lines.Forms.{KnowsPart, note_at, outcome_at, part_at, tells_at}
+use Rattle.mmu_core.specs.lines.PartAt.{touch_at}
+use Rattle.mmu_core.proofs.lines.Forms.{place_tells}
+use Rattle.mmu_core.proofs.lines.SimplePlaces.{Told, Nothing, Exit, Change, OfAccess, OfHost}
+use Rattle.part_steps.specs.declared.part_step.PartStep.{PartStep}
 use Rattle.mmu_core.specs.machine.Enabled.{mmu}
 use Rattle.mmu_core.specs.machine.Machine.{May, Step, World, answered, hand_in}
 use Rattle.mmu_core.specs.machine.Outcomes.{answering}
-use Rattle.mmu_core.specs.lines.AccessSteps.{exiting, fault_over}
+use Rattle.mmu_core.specs.lines.AccessSteps.{exiting, fault_over, task_by}
 use Rattle.mmu_core.specs.lines.HostKnows.{HostKnows}
 use Rattle.mmu_core.specs.lines.HostSteps.{entry_of, host_outcome, word_put}
 use Rattle.core_views.specs.declared.kind.StepKind.TheVariants as kind
@@ -47,7 +47,6 @@ use Rattle.spte_words.specs.declared.area.Area.TheVariants as area
 use Rattle.part_steps.specs.declared.part_step.PartStep.TheVariants as part
 use Rattle.part_steps.specs.Tasks.{map_of}
 use Rattle.part_steps.specs.PartTasks.{own_index, part_task, page_looked}
-use Rattle.core_views.specs.SlotCommands.{slot_change}
 use Rattle.core_views.specs.Sizes.{actors_of}
 use Rattle.mmu_core.specs.machine.Steps.{beginning, events_by, events_of, place_at, task_at, task_of}
 use Rattle.mmu_core.specs.machine.Turns.{line_of}
@@ -119,14 +118,12 @@ module _ (h : Held) (v : ℕ) where
   access_told (Fault (fault.End e)) gfn word op K = exits_so z v _ (fault_over e)
   access_told _ gfn word op K = none z v _
 
-  changes_so : (k : Kind) (c : Option (ℕ × Option MemorySlot)) → IsOfKindOn z kind.Publish area.Slots 0 k → AllMay z v k (changed c)
-  changes_so k None at = none z v k
-  changes_so k (Some (id, slot)) at = one z v k (SlotChanged id slot) at
-
-  slot_change_told : (p : SlotChangePlace) (command : Command) → AllTold (place.SlotChange p) command
-  slot_change_told (Claim begun) command = exits_so z v _ (slot_change_outcome (Claim begun) h v)
-  slot_change_told Publish command = changes_so _ (slot_change h.slots command) (record { kind_is = refl; on = refl })
-  slot_change_told _ command = none z v _
+  -- A step that publishes is of the set's word.
+  publishes : (p : Place) (command : Command) → part_at p command h ≡ Some part.Publish
+      → IsOfKindOn z kind.Publish area.Slots 0 (kind_of_task z (task_at p command h))
+  publishes p command at =
+      subst (λ (s : Option PartStep). IsOfKindOn z kind.Publish area.Slots 0 (kind_of_task z (task_by s h (note_at p command h) (touch_at command h))))
+      (sym at) (record { kind_is = refl; on = refl })
 
   look_told : (own : Bool) (page : ℕ) → is_own z h.state.actor page ≡ own
       → AllMay z v (kind_of_task z (part_task (if own then part.Host page else part.Seq) (own_index h) h.topics (if own then 0 else 1)))
@@ -151,11 +148,13 @@ module _ (h : Held) (v : ℕ) where
   host_told host_at.Change page change K = exchange_told (v == word_looked h.topics.host) page change refl K.0.at
   host_told _ page change K = none z v _
 
-  line_told : (p : Place) (command : Command) → KnowsPart p command h → AllTold p command
-  line_told (place.Access p) (Access gfn word op) K = access_told p gfn word op K
-  line_told (place.SlotChange p) command K = slot_change_told p command
-  line_told (place.Host p) (ChangeHost page change) K = host_told p page change K
-  line_told _ _ K = none z v _
+  line_told : (p : Place) (command : Command) (kinds : List EventKind) → Told h v p command kinds → KnowsPart p command h
+      → AllMay z v (kind_of_task z (task_at p command h)) kinds
+  line_told p command _ Nothing K = none z v _
+  line_told p command _ (Exit no_frame) K = exits_so z v _ (outcome_at p command h v)
+  line_told p command _ (Change id slot at) K = one z v _ _ (publishes p command at)
+  line_told _ _ _ (OfAccess p gfn word op) K = access_told p gfn word op K
+  line_told _ _ _ (OfHost p page change) K = host_told p page change K
 
   -- with its line's begin and its answer
   all_told : KnowsPart (place_at h.state.place h) (line_of h).command h
@@ -165,7 +164,7 @@ module _ (h : Held) (v : ℕ) where
       let k : Kind = kind_of_task z (task_of h) in
       All-map (λ (e : Event). MayTell z k v e.kind) (λ (event : EventKind). record { actor = h.state.actor; kind = event }) _
       (All-append (MayTell z k v) (beginning h.state.place (line_of h)) _ (begins_so z v k h.state.place (line_of h))
-      (All-append (MayTell z k v) (tells_at p (line_of h).command h v) _ (line_told p (line_of h).command K)
+      (All-append (MayTell z k v) (tells_at p (line_of h).command h v) _ (line_told p (line_of h).command _ (place_tells p (line_of h).command h v) K)
       (answers_so z v k (outcome_at p (line_of h).command h v) (line_of h))))
 
 pub events_are_of_their_steps : (z : Sizes) (w : World Held) (s : Step Kind) → IsSound z w → May mmu w s

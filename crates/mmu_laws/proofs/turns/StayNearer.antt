@@ -1,5 +1,5 @@
--- Each step of a line that is no delay leaves it fewer steps, by what its hand holds alone, whatever the step finds.
-use Rattle.std.proofs.Common.{◌≡◌, ◌+◌, ◌^◌, ◌<◌, ◌≤◌, ℕ, refl, sym, subst, ap, arith}
+-- Each step of an access that is no delay leaves it fewer steps, by what its hand holds alone, whatever the step finds.
+use Rattle.std.proofs.Common.{◌≡◌, ◌+◌, ◌^◌, ◌<◌, ◌≤◌, ℕ, refl, ap, arith}
 use Rattle.std.specs.Prelude.{Bool, true, false, ◌&&◌, ◌||◌, Option, Some, None}
 use Rattle.core_views.specs.declared.cache.Translation.{Translation}
 use Rattle.core_views.specs.declared.place.AccessPlace.{AccessPlace}
@@ -11,18 +11,14 @@ use Rattle.core_views.specs.declared.place.FaultNext.TheVariants as next_of
 use Rattle.core_views.specs.declared.place.FaultPlace.{FaultPlace}
 use Rattle.core_views.specs.declared.place.FaultPlace.TheVariants as fault
 use Rattle.core_views.specs.declared.place.Leaving.TheVariants as leaving
-use Rattle.core_views.specs.declared.place.Place.{Place}
 use Rattle.core_views.specs.declared.place.Place.TheVariants as place
 use Rattle.core_views.specs.declared.sizes.Sizes.{Sizes}
 use Rattle.core_views.specs.declared.topics.Stay.{Stay}
 use Rattle.core_views.specs.declared.topics.Topics.{Topics}
-use Rattle.core_views.specs.declared.trace.Command.{Command}
-use Rattle.core_views.specs.declared.trace.Command.TheVariants.{Access, ChangeHost}
+use Rattle.core_views.specs.declared.trace.Command.TheVariants.{Access}
 use Rattle.core_views.specs.declared.trace.Op.{Op}
 use Rattle.core_views.specs.Held.{Held}
 use Rattle.core_views.specs.Slots.{is_write}
-use Rattle.core_views.specs.Traces.{IsCommandFor}
-use Rattle.spte_words.specs.declared.area.Area.{Area}
 use Rattle.spte_words.specs.declared.spte_kind.SpteKind.{SpteKind}
 use Rattle.spte_words.specs.declared.spte_kind.SpteKind.TheVariants as entry_kind
 use Rattle.spte_words.specs.Entries.{kind_of}
@@ -30,11 +26,6 @@ use Rattle.mmu_core.specs.declared.outcome.Outcome.{Outcome}
 use Rattle.mmu_core.specs.declared.outcome.Outcome.TheVariants.{Goes}
 use Rattle.mmu_core.specs.lines.AccessSteps.{access_outcome, access_part, behind_fault, pause_next, stay_next}
 use Rattle.mmu_core.specs.lines.Bounds.{access_left, stay_left}
-use Rattle.mmu_core.specs.lines.Forms.{steps_left, KnowsPart, outcome_at, RestsAt, part_at}
-use Rattle.mmu_core.specs.lines.SlotChangeSteps.{slot_change_part}
-use Rattle.mmu_core.specs.lines.HostSteps.{host_part}
-use Rattle.mmu_core.proofs.held.OwnPages.{OwnWords}
-use Rattle.spte_words.specs.declared.area.Area.TheVariants as area
 use Rattle.mmu_core.specs.lines.Cached.{first_usable}
 use Rattle.mmu_core.specs.lines.Delays.{begins_anew, is_delay, leaves_to_fault, walks_again}
 use Rattle.mmu_core.specs.lines.FaultLeft.{fault_left, next_left}
@@ -44,24 +35,17 @@ use Rattle.mmu_core.specs.lines.PartWaits.{part_waits}
 use Rattle.part_steps.specs.PartBounds.{PartRests}
 use Rattle.part_steps.specs.PartTasks.{entry_index}
 use Rattle.part_steps.specs.PartTopics.{part_topics}
-use Rattle.mmu_core.specs.lines.Rests.{IsUnderWay}
-use Rattle.mmu_core.specs.machine.Steps.{delays_at, task_at}
-use Rattle.mmu_core.proofs.lines.StepIn.{topics_of_step}
 use Rattle.part_steps.specs.StayTopics.{may_walk}
 use Rattle.part_steps.specs.WalkTopics.{gone_down, linked_page}
 use Rattle.part_steps.specs.ControlTopics.{at_root}
-use Rattle.mmu_core.specs.machine.View.{answer_in}
-use Rattle.mmu_laws.proofs.alone.GoesAlone.{topics_at}
 use Rattle.mmu_core.proofs.lines.FaultFalls.{fault_falls}
 pub use Rattle.mmu_laws.proofs.turns.Nearer.{Nearer}
-use Rattle.mmu_laws.proofs.turns.HostNearer.{FindsStill, host_nearer, finds_at}
-use Rattle.mmu_laws.proofs.turns.SlotChangeNearer.{slot_change_nearer}
 use Rattle.mmu_core.proofs.lines.FaultKnown.{above_lowest}
 use Rattle.mmu_core.proofs.lines.AccessLeft.{two_left}
-use Rattle.mmu_core.proofs.lines.KnowsKept.{access_vcpu, behind_part}
+use Rattle.mmu_core.proofs.machine.PartStepping.{behind_part}
 
 -- what is no delay
-first_of_none : (a b : Bool) → (a || b) ≡ false → a ≡ false
+pub first_of_none : (a b : Bool) → (a || b) ≡ false → a ≡ false
 first_of_none true b is = absurd (cc is)
 first_of_none false b is = refl
 
@@ -127,7 +111,7 @@ fault_nearer (next_of.Ends (end_of.Retry cause)) y u left on less = absurd on
 -- ---- each place
 
 module _ (h : Held) (gfn word : ℕ) (op : Op) (v : ℕ) (small : gfn < 2 ^ 36) (R : PartRests h) where
-  access_nearer : (p : AccessPlace) → AccessKnows p gfn (is_write op) h
+  pub access_nearer : (p : AccessPlace) → AccessKnows p gfn (is_write op) h
       → is_delay (place.Access p) (Access gfn word op) h (access_outcome p h gfn op v) v ≡ false
       → Nearer (access_outcome p h gfn op v) h.state.sizes (behind_part (access_part p gfn h.topics) h.topics v) (access_left p h.state.sizes h.topics)
   access_nearer (Enter again) K on =
@@ -158,25 +142,3 @@ module _ (h : Held) (gfn word : ℕ) (op : Op) (v : ℕ) (small : gfn < 2 ^ 36) 
       (fault_left p h.state.sizes h.topics)
       (not_anew p h.state.sizes gfn (is_write op) h.topics v (first_of_none (begins_anew (place.Access (Fault p)))
       (walks_again (place.Access (Fault p)) && leaves_to_fault o) more)) (fault_falls p h gfn v (is_write op) small R K goes)
-
--- a clause for each form of line
-form_nearer : (p : Place) (c : Command) (z : Sizes) (h : Held) (v : ℕ) → IsUnderWay p → IsCommandFor z h.state.actor c → PartRests h → KnowsPart p c h
-    → FindsStill (part_at p c h) h.topics v → delays_at p c h v ≡ false
-    → Nearer (outcome_at p c h v) h.state.sizes (behind_part (part_at p c h) h.topics v) (steps_left p h.state.sizes h.topics)
-form_nearer place.Between c z h v begun may rests K finds on = absurd begun
-form_nearer (place.Access p) (Access gfn word op) z h v begun may rests K finds on =
-    let V = access_vcpu z h.state.actor gfn word op may in access_nearer h gfn word op v V.1 rests p K on
-form_nearer (place.SlotChange p) command z h v begun may rests K finds on =
-    slot_change_nearer p h command v rests K.1 (first_of_none (part_waits (slot_change_part p h command) h.topics v) false on)
-form_nearer (place.Host p) (ChangeHost page change) z h v begun may rests K finds on =
-    host_nearer p page change h v rests K finds (first_of_none (part_waits (host_part p page change h) h.topics v) false on)
-form_nearer _ _ z h v begun may rests K finds on = absurd K
-
--- So each step comes nearer that is no delay, where what its hand has looked up of its actor's own pages is their words, as in every sound world.
-pub place_nearer : (p : Place) (c : Command) (z : Sizes) (h : Held) (words : Area → ℕ → ℕ) → IsUnderWay p → IsCommandFor z h.state.actor c
-    → PartRests h → RestsAt p c h → KnowsPart p c h → OwnWords h (words area.Host) → delays_at p c h (answer_in (task_at p c h) words) ≡ false
-    → Nearer (outcome_at p c h (answer_in (task_at p c h) words)) h.state.sizes (topics_at p c h words) (steps_left p h.state.sizes h.topics)
-place_nearer p c z h words begun may rests R K looks on =
-    let v : ℕ = answer_in (task_at p c h) words in
-    subst (λ (t : Topics). Nearer (outcome_at p c h v) h.state.sizes t (steps_left p h.state.sizes h.topics)) (sym (topics_of_step p c h v R))
-    (form_nearer p c z h v begun may rests K (finds_at p c h words R looks) on)

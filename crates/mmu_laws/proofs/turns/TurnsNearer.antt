@@ -24,7 +24,7 @@ use Rattle.spte_words.specs.Entries.{kind_of}
 use Rattle.mmu_core.specs.declared.outcome.Outcome.{Outcome}
 use Rattle.mmu_core.specs.declared.outcome.Outcome.TheVariants.{Goes}
 use Rattle.mmu_core.specs.lines.AccessSteps.{stay_next}
-use Rattle.mmu_core.specs.lines.Forms.{steps_left, outcome_at}
+use Rattle.mmu_core.specs.lines.Forms.{KnowsPart, RestsAt, steps_left, outcome_at}
 use Rattle.mmu_core.specs.lines.Delays.{leaves_to_fault, walks_again}
 use Rattle.mmu_core.specs.alone.FaultAlone.{LeadsToLeaf}
 use Rattle.mmu_core.specs.machine.Enabled.{mmu}
@@ -46,10 +46,17 @@ use Rattle.mmu_core.proofs.lines.Forms.{first_goes, first_no_end, outcome_goes}
 use Rattle.mmu_core.proofs.machine.GoesOn.{GoesUnderWay}
 use Rattle.mmu_core.proofs.lines.KnowsKept.{knows_at}
 use Rattle.mmu_core.proofs.invariant.PartBounded.{part_rests_at}
-use Rattle.mmu_laws.proofs.turns.StayNearer.{Nearer, place_nearer}
+use Rattle.mmu_laws.proofs.turns.StayNearer.{Nearer}
+use Rattle.mmu_laws.proofs.Forms.{form_nearer}
+use Rattle.mmu_laws.proofs.turns.HostNearer.{finds_at}
+use Rattle.mmu_laws.proofs.alone.GoesAlone.{topics_at}
+use Rattle.mmu_core.proofs.lines.StepIn.{topics_of_step}
+use Rattle.mmu_core.specs.lines.Rests.{IsUnderWay}
+use Rattle.part_steps.specs.PartBounds.{PartRests}
+use Rattle.core_views.specs.declared.topics.Topics.{Topics}
 use Rattle.mmu_core.proofs.machine.Which.{is_next}
 use Rattle.mmu_core.proofs.machine.Worlds.{Takes, good_step, takes_line}
-use Rattle.mmu_core.proofs.held.OwnPages.{own_words}
+use Rattle.mmu_core.proofs.held.OwnPages.{OwnWords, own_words}
 
 -- ---- a stay after an installed entry finds it
 
@@ -102,6 +109,17 @@ pub where_it_stands : (q : Place) (y : Sizes) (slots : MemorySlots) (c : Command
 where_it_stands place.Between y slots c h v (inl waits) = absurd (first_goes y slots c h v waits)
 where_it_stands place.Between y slots c h v (inr anew) = absurd (first_no_end y slots c anew)
 where_it_stands _ y slots c h v is = is
+
+-- ---- nearer
+
+-- So each step comes nearer that is no delay, where what its hand has looked up of its actor's own pages is their words, as in every sound world.
+pub place_nearer : (p : Place) (c : Command) (z : Sizes) (h : Held) (words : Area → ℕ → ℕ) → IsUnderWay p → IsCommandFor z h.state.actor c
+    → PartRests h → RestsAt p c h → KnowsPart p c h → OwnWords h (words area.Host) → delays_at p c h (answer_in (task_at p c h) words) ≡ false
+    → Nearer (outcome_at p c h (answer_in (task_at p c h) words)) h.state.sizes (topics_at p c h words) (steps_left p h.state.sizes h.topics)
+place_nearer p c z h words begun may rests R K looks on =
+    let v : ℕ = answer_in (task_at p c h) words in
+    subst (λ (t : Topics). Nearer (outcome_at p c h v) h.state.sizes t (steps_left p h.state.sizes h.topics)) (sym (topics_of_step p c h v R))
+    (form_nearer p c z h v begun may rests K (finds_at p c h words R looks) on)
 
 -- ---- from world to world
 

@@ -1,0 +1,84 @@
+-- What is so of the lines of every form: the one place of the laws where it is told by the form. A form of line writes a clause in each of these.
+use Rattle.mmu_laws.proofs.flat.HostFlat.{host_goes_on}
+use Rattle.std.specs.Prelude.{false, Option, Some, None}
+use Rattle.mmu_core.specs.lines.HostSteps.{host_part}
+use Rattle.core_views.specs.declared.trace.Command.TheVariants.{ChangeHost, Access}
+use Rattle.std.proofs.Common.{◌≡◌, ℕ, refl}
+use Rattle.core_views.specs.declared.answer.Refusal.{Refusal}
+use Rattle.core_views.specs.declared.place.Place.{Place}
+use Rattle.core_views.specs.declared.place.Place.TheVariants as place
+use Rattle.core_views.specs.declared.sizes.Sizes.{Sizes}
+use Rattle.core_views.specs.declared.topics.Topics.{Topics}
+use Rattle.core_views.specs.declared.trace.Command.{Command}
+use Rattle.core_views.specs.declared.trace.Line.{Line}
+use Rattle.core_views.specs.Flat.{Flat, Fresh, LineUnderWay}
+use Rattle.core_views.specs.Held.{Held}
+use Rattle.core_views.specs.SlotCommands.{change_refusal}
+use Rattle.core_views.specs.SlotSets.{MemorySlots}
+use Rattle.mmu_core.specs.invariant.Invariant.{Invariant}
+use Rattle.mmu_core.specs.invariant.TopicsInvariant.{TopicsInvariant}
+use Rattle.mmu_core.specs.lines.AccessSteps.{access_part}
+use Rattle.mmu_core.specs.lines.Forms.{KnowsPart, first_place, steps_left, outcome_at, part_at}
+use Rattle.mmu_core.specs.lines.SlotChangeSteps.{slot_change_first, slot_change_part}
+use Rattle.mmu_core.specs.machine.View.{View}
+use Rattle.mmu_core.proofs.invariant.Kept.{MakesAt}
+use Rattle.mmu_core.proofs.machine.Stepping.{IsStep}
+use Rattle.mmu_laws.specs.flat.FlatInvariant.{SlotChangeUnder}
+use Rattle.mmu_laws.proofs.flat.AccessFlat.{access_goes}
+use Rattle.mmu_laws.proofs.flat.FlatSteps.{Ready, StepGoes, UnderAt}
+use Rattle.mmu_laws.proofs.flat.FlatStill.{part_or}
+use Rattle.mmu_laws.proofs.flat.SlotChangeFlat.{slot_change_goes}
+use Rattle.mmu_core.proofs.held.CopiedSteps.{CopiedAt}
+use Rattle.mmu_core.proofs.held.UsableSteps.{UsableAt}
+use Rattle.core_views.specs.Traces.{IsCommandFor}
+use Rattle.mmu_core.specs.lines.PartWaits.{part_waits}
+use Rattle.part_steps.specs.PartBounds.{PartRests}
+use Rattle.mmu_core.specs.lines.Rests.{IsUnderWay}
+use Rattle.mmu_core.specs.machine.Steps.{delays_at}
+use Rattle.mmu_laws.proofs.turns.Nearer.{Nearer}
+use Rattle.mmu_laws.proofs.turns.HostNearer.{FindsStill, host_nearer}
+use Rattle.mmu_laws.proofs.turns.SlotChangeNearer.{slot_change_nearer}
+use Rattle.mmu_core.proofs.lines.KnowsKept.{access_vcpu}
+use Rattle.mmu_core.proofs.machine.PartStepping.{behind_part}
+use Rattle.mmu_laws.proofs.turns.StayNearer.{access_nearer, first_of_none}
+
+-- ---- flat memory
+
+-- The step of each place, once its line has begun.
+pub step_goes : (z : Sizes) (v : View) (a : ℕ) (line : Line) (command : Command) (p : Place) (f : Flat) (u : LineUnderWay)
+    → IsStep z v a line command p → Invariant z v → TopicsInvariant z v → MakesAt z v a p command → KnowsPart p command (v.hand a) → UsableAt z v
+    → CopiedAt z v → Ready z v line command p (v.hand a).topics f.facts u → StepGoes z v a line command p f.facts f.past u
+step_goes z v a line command place.Between f u S I P part K U C R = absurd S.begun
+step_goes z v a line (Access gfn word op) (place.Access p) f u S I P part K U C R =
+    access_goes z v a line gfn word f.facts f.past u op p S I P U (part_or z v a (access_part p gfn (v.hand a).topics) part) K R
+step_goes z v a line command (place.SlotChange p) f u S I P part K U C R =
+    slot_change_goes z v a line command f.facts f.past u p K.0 S I P (part (slot_change_part p (v.hand a) command) refl) R
+step_goes z v a line (ChangeHost page change) (place.Host p) f u S I P part K U C R =
+    host_goes_on z v a line page change f.facts f.past u p K S I P C (part (host_part p page change (v.hand a)) refl) R
+step_goes z v a line _ _ f u S I P part K U C R = absurd S.holds
+
+-- A line that begins is under way, and has done nothing.
+pub first_at : (pool : ℕ → ℕ) (z : Sizes) (slots : MemorySlots) (line : Line) (command : Command) (t : Topics) (u : LineUnderWay) → u.stage ≡ Fresh
+    → u.line ≡ line → UnderAt pool (first_place z slots command) line command t u
+first_at pool z slots line (Access gfn word op) t u fresh is = (is, fresh)
+first_at pool z slots line (ChangeHost page change) t u fresh is = (is, fresh)
+first_at pool z slots line command t u fresh is = (is, first_set (change_refusal z command slots))
+  where
+    first_set : (r : Option Refusal) → SlotChangeUnder (slot_change_first r) u
+    first_set None = fresh
+    first_set (Some refusal) = fresh
+
+-- ---- how many steps are left
+
+-- Each step of a line that is no delay leaves it fewer steps, by what its hand holds alone, whatever the step finds.
+pub form_nearer : (p : Place) (c : Command) (z : Sizes) (h : Held) (v : ℕ) → IsUnderWay p → IsCommandFor z h.state.actor c → PartRests h → KnowsPart p c h
+    → FindsStill (part_at p c h) h.topics v → delays_at p c h v ≡ false
+    → Nearer (outcome_at p c h v) h.state.sizes (behind_part (part_at p c h) h.topics v) (steps_left p h.state.sizes h.topics)
+form_nearer place.Between c z h v begun may rests K finds on = absurd begun
+form_nearer (place.Access p) (Access gfn word op) z h v begun may rests K finds on =
+    let V = access_vcpu z h.state.actor gfn word op may in access_nearer h gfn word op v V.1 rests p K on
+form_nearer (place.SlotChange p) command z h v begun may rests K finds on =
+    slot_change_nearer p h command v rests K.1 (first_of_none (part_waits (slot_change_part p h command) h.topics v) false on)
+form_nearer (place.Host p) (ChangeHost page change) z h v begun may rests K finds on =
+    host_nearer p page change h v rests K finds (first_of_none (part_waits (host_part p page change h) h.topics v) false on)
+form_nearer _ _ z h v begun may rests K finds on = absurd K
