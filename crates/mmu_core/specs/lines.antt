@@ -15,7 +15,6 @@ pub mod SlotChangeKnows
 pub mod InvalidateKnows
 pub mod HostKnows
 pub mod AccessKnows
-pub mod Retires
 pub mod Forms
 pub mod FaultLaws
 pub mod SearchLeft

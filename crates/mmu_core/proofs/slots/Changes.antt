@@ -4,12 +4,10 @@ use Rattle.std.proofs.lemmas.Map.Views.{All-keys-insert_entry}
 use Rattle.std.specs.List.{Contains}
 use Rattle.std.specs.Map.{keys_of}
 use Rattle.std.specs.Ordering.{nat_cmp}
-use Rattle.std.specs.Prelude.{All, is_some, true}
+use Rattle.std.specs.Prelude.{All, None, false, is_some, true}
 use Rattle.core_views.specs.declared.actor.Actor.{Actor}
 use Rattle.core_views.specs.declared.actor.Actor.TheVariants.{Manager}
-use Rattle.core_views.specs.declared.place.Place.TheVariants as place
-use Rattle.core_views.specs.declared.place.SlotChangePlace.{SlotChangePlace}
-use Rattle.core_views.specs.declared.place.SlotChangePlace.TheVariants.{Publish}
+use Rattle.core_views.specs.declared.place.Place.{Place}
 use Rattle.core_views.specs.declared.sizes.Sizes.{Sizes}
 use Rattle.core_views.specs.declared.slot_set.MemorySlot.{MemorySlot}
 use Rattle.core_views.specs.declared.trace.Command.{Command}
@@ -18,20 +16,21 @@ use Rattle.core_views.specs.declared.trace.Line.{Line}
 use Rattle.core_views.specs.declared.trace.Slot.{Slot}
 use Rattle.core_views.specs.Held.{Held}
 use Rattle.core_views.specs.Refusals.{is_logged}
-use Rattle.core_views.specs.SlotCommands.{changes_slot, slot_change, slots_after}
+use Rattle.core_views.specs.SlotCommands.{change_refusal, changes_slot, slot_change, slots_after}
 use Rattle.core_views.specs.SlotSets.{MemorySlots, with_slot_at}
 use Rattle.core_views.specs.Traces.{IsCommandFor, slot_ids}
 use Rattle.spte_words.specs.declared.area.Area.TheVariants as area
 use Rattle.spte_words.specs.Areas.{pool_index}
 use Rattle.part_steps.proofs.SetWords.{set_word_small}
 use Rattle.part_steps.specs.PartTasks.{page_owned}
-use Rattle.part_steps.specs.SetWords.{set_role, set_word}
+use Rattle.part_steps.specs.SetWords.{IsFilledWith, set_role, set_word}
 use Rattle.part_steps.specs.SlotWords.{memory_slots_below}
 use Rattle.mmu_core.specs.invariant.Invariant.{Invariant, IsSetBy, RecordPart}
 use Rattle.mmu_core.specs.invariant.SlotSetPart.{SlotSetPart}
 use Rattle.mmu_core.specs.machine.Steps.{next_line}
 use Rattle.mmu_core.specs.machine.View.{View}
-use Rattle.mmu_core.proofs.lines.KnowsKept.{step_knows}
+use Rattle.mmu_core.specs.lines.Forms.{may_retire}
+use Rattle.part_steps.specs.PartHoldings.{OwnsSet}
 use Rattle.mmu_core.proofs.lines.LinesKept.{AreSetBy, line_sets, set_by_with, set_here}
 use Rattle.mmu_core.proofs.machine.Stepping.{IsStep}
 use Rattle.mmu_core.proofs.slots.Accepted.{MayBeSet, may_be_set}
@@ -63,11 +62,10 @@ change_small z lines actor (SetSlot id slot) slots is may allowed set j =
     set_word_small id slot slots j (in_range z actor id slot may) (record_small z lines slots allowed set)
 
 -- The manager's own record, where its hand makes a step of such a line.
-pub record_of : (z : Sizes) (v : View) (a : ℕ) (line : Line) (command : Command) (p : SlotChangePlace)
-    → IsStep z v a line command (place.SlotChange p) → Invariant z v
-    → RecordPart (v.words area.Pool) (v.words area.Slots 0) (v.hand a).slots
-record_of z v a line command p S I =
-    I.recorded a S.there (sym S.own ∙ change_is_managers z line.actor command (step_knows z v a line command (place.SlotChange p) S I).0 S.allowed)
+pub recorded_at : (z : Sizes) (v : View) (a : ℕ) (line : Line) (command : Command) (p : Place) → IsStep z v a line command p → changes_slot command ≡ true
+    → Invariant z v → RecordPart (v.words area.Pool) (v.words area.Slots 0) (v.hand a).slots
+recorded_at z v a line command p S changes I =
+    I.recorded a S.there (sym S.own ∙ change_is_managers z line.actor command changes S.allowed)
 
 -- A page with the record's slots after the line's change may be published in place of the set: what is live stays live, no two slots meet, and
 -- its slots are those.
@@ -75,13 +73,6 @@ pub record Publishes (z : Sizes) (pool : ℕ → ℕ) (set page : ℕ) (command 
   pub stay : StayLive pool set pool page
   pub set_part : (role : ℕ → ℕ) → role page ≡ set_role → SlotSetPart z set role pool → SlotSetPart z page role pool
   pub list : slots_after command slots ≡ memory_slots_below pool page 32
-
--- the words of the page that is to be published
-pub page_filled : (z : Sizes) (v : View) (a : ℕ) (line : Line) (command : Command) → IsStep z v a line command (place.SlotChange Publish) → Invariant z v
-    → (j : ℕ) → j < 512 → v.words area.Pool (pool_index (page_owned (v.hand a).topics.owned) j) ≡ set_word (slots_after command (v.hand a).slots) j
-page_filled z v a line command S I =
-    filled_page (v.words area.Pool) (slots_after command (v.hand a).slots) (v.hand a).topics
-    (step_knows z v a line command (place.SlotChange Publish) S I).1.1.owns S.holds.filled
 
 slot_published : (z : Sizes) (pool : ℕ → ℕ) (set page id : ℕ) (slot : Slot) (slots : MemorySlots) → RecordPart pool set slots → MayBeSet z pool set id slot
     → ((j : ℕ) → j < 512 → pool (pool_index page j) ≡ set_word (slots_after (SetSlot id slot) slots) j) → Publishes z pool set page (SetSlot id slot) slots
@@ -96,15 +87,18 @@ slot_published z pool set page id slot slots R may filled = record {
       ∙ sym (list_with pool set page id slot slots R may.low may.not_live filled);
 }
 
-pub change_published : (z : Sizes) (v : View) (a : ℕ) (line : Line) (command : Command) → IsStep z v a line command (place.SlotChange Publish) → Invariant z v
+-- So it is of the page that the line owns and has filled, where the record accepts the change and no page is retired yet.
+pub change_publishes : (z : Sizes) (v : View) (a : ℕ) (line : Line) (command : Command) (p : Place) → IsStep z v a line command p → may_retire p ≡ false
+    → changes_slot command ≡ true → Invariant z v → OwnsSet (v.hand a).topics → change_refusal z command (v.hand a).slots ≡ None
+    → IsFilledWith (v.words area.Pool) (slots_after command (v.hand a).slots) (v.hand a).topics.owned
     → Publishes z (v.words area.Pool) (v.words area.Slots 0) (page_owned (v.hand a).topics.owned) command (v.hand a).slots
-change_published z v a line (Access gfn word op) S I = absurd (cc (step_knows z v a line (Access gfn word op) (place.SlotChange Publish) S I).0)
-change_published z v a line (ChangeHost page change) S I =
-    absurd (cc (step_knows z v a line (ChangeHost page change) (place.SlotChange Publish) S I).0)
-change_published z v a line (SetSlot id slot) S I =
-    let R = record_of z v a line (SetSlot id slot) Publish S I in
+change_publishes z v a line (Access gfn word op) p S not_yet changes I owns accepted filled = absurd (cc changes)
+change_publishes z v a line (ChangeHost page change) p S not_yet changes I owns accepted filled = absurd (cc changes)
+change_publishes z v a line (SetSlot id slot) p S not_yet changes I owns accepted filled =
+    let R = recorded_at z v a line (SetSlot id slot) p S changes I in
     slot_published z (v.words area.Pool) (v.words area.Slots 0) (page_owned (v.hand a).topics.owned) id slot (v.hand a).slots R
-    (may_be_set z v a line id slot (place.SlotChange Publish) S refl I R S.holds.accepted) (page_filled z v a line (SetSlot id slot) S I)
+    (may_be_set z v a line id slot p S not_yet I R accepted)
+    (filled_page (v.words area.Pool) (slots_after (SetSlot id slot) (v.hand a).slots) (v.hand a).topics owns filled)
 
 -- The slots after the change were set by the lines up to this one.
 pub record AreRecorded (h : Held) (slots : MemorySlots) : Type 0 where

@@ -25,7 +25,7 @@ use Rattle.mmu_core.specs.machine.Steps.{state_at}
 use Rattle.part_steps.specs.Tasks.{kind_of_task}
 use Rattle.mmu_core.specs.invariant.TopicsInvariant.{TopicsInvariant}
 use Rattle.mmu_core.specs.machine.View.{View, answer_in, hand_after, stepped}
-use Rattle.mmu_core.proofs.slots.Changes.{AreRecorded, Publishes, change_is_managers, change_published, change_recorded, change_small}
+use Rattle.mmu_core.proofs.slots.Changes.{AreRecorded, Publishes, change_is_managers, change_publishes, change_recorded, change_small, recorded_at}
 use Rattle.mmu_core.proofs.machine.PartStepping.{Replaces, is_publish, replaces_none}
 use Rattle.mmu_core.proofs.pages.Owned.{OwnsWhole, set_owned}
 use Rattle.core_views.specs.declared.answer.Answer.TheVariants.{Done}
@@ -35,7 +35,7 @@ use Rattle.part_steps.specs.PartBounds.{PartRests}
 use Rattle.mmu_core.proofs.invariant.PartBounded.{part_rests_at}
 use Rattle.part_steps.specs.PartSteps.{PartNeeds}
 use Rattle.mmu_core.proofs.lines.FaultKnown.{parts_answer}
-use Rattle.mmu_core.specs.invariant.Invariant.{Holds, Invariant, KnowsPart, RetiresPart, OwnLines, lines_done}
+use Rattle.mmu_core.specs.invariant.Invariant.{Holds, Invariant, KnowsPart, RecordPart, RetiresPart, OwnLines, lines_done}
 use Rattle.mmu_core.specs.lines.Forms.{may_retire}
 use Rattle.mmu_core.proofs.invariant.QuietHand.{CountsMore, lines_more, one_step, quiet_hand, still_cached}
 use Rattle.mmu_core.proofs.invariant.QuietKept.{MakesAt}
@@ -89,6 +89,20 @@ quiet_change z v a line p command never S I P makes knows =
     }) knows
 
 -- ---- The publication: the set with the change is in use, and the record has it.
+
+-- the manager's own record, where its hand makes a step of the line
+pub record_of : (z : Sizes) (v : View) (a : ℕ) (line : Line) (command : Command) (p : SlotChangePlace)
+    → IsStep z v a line command (place.SlotChange p) → Invariant z v
+    → RecordPart (v.words area.Pool) (v.words area.Slots 0) (v.hand a).slots
+record_of z v a line command p S I =
+    recorded_at z v a line command (place.SlotChange p) S (step_knows z v a line command (place.SlotChange p) S I).0 I
+
+-- The page that it has filled may be published.
+pub change_published : (z : Sizes) (v : View) (a : ℕ) (line : Line) (command : Command) → IsStep z v a line command (place.SlotChange Publish) → Invariant z v
+    → Publishes z (v.words area.Pool) (v.words area.Slots 0) (page_owned (v.hand a).topics.owned) command (v.hand a).slots
+change_published z v a line command S I =
+    let K = step_knows z v a line command (place.SlotChange Publish) S I in
+    change_publishes z v a line command (place.SlotChange Publish) S refl K.0 I K.1.1.owns S.holds.accepted S.holds.filled
 
 published_kept : (z : Sizes) (v : View) (a : ℕ) (line : Line) (command : Command) → IsStep z v a line command (place.SlotChange Publish)
     → Invariant z v → TopicsInvariant z v → AllKnow z (stepped a line command (place.SlotChange Publish) v).hand

@@ -1,9 +1,8 @@
 -- What each form of line says at its places: a clause a form in each table. The tables are filled in by the form's own files.
-pub use Rattle.mmu_core.specs.lines.Retires.{RetiresPart, may_retire, may_open, may_own_frame}
-use Rattle.mmu_core.specs.lines.HostKnows.{HostKnows, HostRests}
+use Rattle.mmu_core.specs.lines.HostKnows.{HostKnows, HostRests, host_opens, host_owns_frame}
 use Rattle.mmu_core.specs.lines.HostSteps.{host_left, host_note, host_outcome, host_part, host_tells}
 use Rattle.core_views.specs.declared.place.HostPlace.TheVariants as host
-use Rattle.std.specs.Prelude.{◌≡◌, ℕ, List, [], Option, Some, true, false}
+use Rattle.std.specs.Prelude.{◌≡◌, ℕ, Bool, List, [], Option, Some, None, true, false}
 use Rattle.circular_buffer.specs.Buffer.{Buffer}
 use Rattle.core_views.specs.declared.cache.Translation.{Translation}
 use Rattle.core_views.specs.declared.event.EventKind.{EventKind}
@@ -29,7 +28,7 @@ use Rattle.mmu_core.specs.lines.AccessSteps.{access_caches, access_loads, access
 use Rattle.mmu_core.specs.lines.Bounds.{access_left}
 use Rattle.mmu_core.specs.lines.SlotChangeKnows.{RecordAccepts, SlotChangeHolds, SlotChangeKnows}
 use Rattle.mmu_core.specs.lines.SlotChangeSteps.{slot_change_first, slot_change_left, slot_change_note, slot_change_outcome, slot_change_part}
-use Rattle.mmu_core.specs.lines.SlotChangeSteps.{slot_change_records, slot_change_tells}
+use Rattle.mmu_core.specs.lines.SlotChangeSteps.{slot_change_records, slot_change_retires, slot_change_tells}
 
 -- ---- the order of its steps
 
@@ -121,3 +120,24 @@ Holds z pool set (place.SlotChange p) command h = SlotChangeHolds z pool p comma
 Holds z pool set (place.Host p) (ChangeHost page change) h = Unit {0}
 Holds z pool set place.Between command h = Unit {0}
 Holds z pool set _ _ h = ⊥
+
+-- ---- what it has there, beside what its line knows
+
+-- Its actor may have a page that is retired, an open invalidation, or a frame.
+abbrev pub may_retire : Place → Bool
+may_retire (place.SlotChange p) = slot_change_retires p
+may_retire _ = false
+
+abbrev pub may_open : Place → Bool
+may_open (place.Host p) = host_opens p
+may_open _ = false
+
+abbrev pub may_own_frame : Place → Bool
+may_own_frame (place.Host p) = host_owns_frame p
+may_own_frame _ = false
+
+-- It has them at no other place.
+pub record RetiresPart (p : Place) (t : Topics) : Type 0 where
+  pub leaves : may_retire p ≡ false → t.retired ≡ None
+  pub opens : may_open p ≡ false → t.invalidations.opened ≡ false
+  pub frames : may_own_frame p ≡ false → t.frames.owned ≡ None

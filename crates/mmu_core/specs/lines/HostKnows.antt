@@ -16,6 +16,7 @@ use Rattle.part_steps.specs.FrameTopics.{copy_held, is_uncopied, words_moved}
 use Rattle.part_steps.specs.PartSteps.{IsAtRest}
 use Rattle.part_steps.specs.PartTasks.{page_looked}
 use Rattle.mmu_core.specs.lines.InvalidateKnows.{BeginKnows, EndKnows, IsOpen}
+use Rattle.mmu_core.specs.lines.InvalidateSteps.{is_among_open}
 use Rattle.mmu_core.specs.lines.PartWaits.{saw_open}
 use Rattle.mmu_core.specs.lines.WatchSteps.{looked_at}
 
@@ -83,3 +84,19 @@ HostKnows Change page change h = LooksAt page h × HasFlushed page h × HasCopie
 HostKnows (End p) page change h = LooksAt page h × EndKnows p h.topics × OwnsToMove change h.topics.frames.owned × (h.topics.watched ≡ 0)
 HostKnows Watch page change h = LooksAt page h × IsAtRest h.topics × HasMoved change h × (looked_at h < actors_of h.state.sizes)
 HostKnows Free page change h = LooksAt page h × IsAtRest h.topics × HasMoved change h × MayGiveFrame h
+
+-- An invalidation of its own is open only from the store of one more to that of one less.
+abbrev pub host_opens : HostPlace → Bool
+host_opens (Begin p) = is_among_open p
+host_opens Copy = true
+host_opens Store = true
+host_opens Change = true
+host_opens (End ends.Release) = false
+host_opens (End p) = true
+host_opens _ = false
+
+-- A frame is owned only from its claim on, up to the end of the line.
+abbrev pub host_owns_frame : HostPlace → Bool
+host_owns_frame (Look moves) = false
+host_owns_frame (Claim begun) = false
+host_owns_frame p = true

@@ -1,7 +1,7 @@
 -- The order of steps of each line that changes a slot (api.rst, KVM_SET_USER_MEMORY_REGION; kvm_main.c, `kvm_swap_active_memslots`): a refused
 -- one makes one load of the sequence. Else a page is claimed and filled with the new slot set; under the lock alone, with no invalidation open, it
 -- is published in place of the old one; and after a watch of all other actors the old page is given back.
-use Rattle.std.specs.Prelude.{ℕ, true, false, List, [], ◌∷◌, Option, Some, None, ◌==◌, nat_lt, if◌then◌else◌, ◌+◌, ◌-◌}
+use Rattle.std.specs.Prelude.{ℕ, Bool, true, false, List, [], ◌∷◌, Option, Some, None, ◌==◌, nat_lt, if◌then◌else◌, ◌+◌, ◌-◌}
 use Rattle.core_views.specs.declared.answer.Answer.TheVariants.{Done, Refused, Starved}
 use Rattle.core_views.specs.declared.answer.Refusal.{Refusal}
 use Rattle.core_views.specs.declared.event.EventKind.{EventKind}
@@ -99,6 +99,14 @@ abbrev pub slot_change_tells : SlotChangePlace → Held → Command → ℕ → 
 slot_change_tells (Claim begun) h command v = exiting (slot_change_outcome (Claim begun) h v)
 slot_change_tells Publish h command v = changed (slot_change h.slots command)
 slot_change_tells _ h command v = []
+
+-- A page is retired only after the publication, up to the end of the line.
+abbrev pub slot_change_retires : SlotChangePlace → Bool
+slot_change_retires Release = true
+slot_change_retires Watch = true
+slot_change_retires Clear = true
+slot_change_retires Give = true
+slot_change_retires _ = false
 
 -- How many steps it has left: the words of the map, those of the new set's page and its role, the lock, the publication, each other actor, and the old
 -- page. What follows a step that waits, as the one that gives the lock back with an invalidation open, isn't counted there.

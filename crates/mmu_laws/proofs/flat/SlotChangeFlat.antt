@@ -28,7 +28,8 @@ use Rattle.mmu_core.specs.invariant.Invariant.{Invariant}
 use Rattle.part_steps.specs.PartTasks.{words_filled}
 use Rattle.mmu_core.specs.machine.Outcomes.{answering, place_after}
 use Rattle.mmu_core.specs.invariant.TopicsInvariant.{TopicsInvariant}
-use Rattle.mmu_core.proofs.slots.Changes.{change_published, is_change, record_of}
+use Rattle.mmu_core.proofs.slots.Changes.{is_change}
+use Rattle.mmu_core.proofs.slots.SlotChangeKept.{change_published, record_of}
 use Rattle.mmu_core.proofs.machine.PartStepping.{IsPart}
 use Rattle.mmu_core.proofs.slots.SlotChangePlaces.{is_publication, change_never, change_quiet}
 use Rattle.mmu_core.proofs.machine.Stepping.{IsStep}
