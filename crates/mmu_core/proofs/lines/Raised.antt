@@ -1,7 +1,6 @@
 -- A line that raises the sequence number does so once: what its places say of how many lines have raised it.
 use Rattle.std.proofs.Common.{◌≡◌, ◌+◌, ◌^◌, ◌<◌, ◌≤◌, ℕ, length, refl, ap, arith}
-use Rattle.std.specs.Prelude.{Bool, true, false, List, Option, Some, None}
-use Rattle.core_views.specs.declared.answer.AnsweredLine.{AnsweredLine}
+use Rattle.std.specs.Prelude.{Bool, true, false, Option, Some, None}
 use Rattle.core_views.specs.declared.answer.Answer.TheVariants.{Done, Moved}
 use Rattle.core_views.specs.declared.place.AccessPlace.{AccessPlace}
 use Rattle.core_views.specs.declared.place.BeginPlace.{BeginPlace}
@@ -23,7 +22,6 @@ use Rattle.core_views.specs.SlotSets.{MemorySlots}
 use Rattle.part_steps.specs.declared.part_step.PartStep.{PartStep}
 use Rattle.part_steps.specs.declared.part_step.PartStep.TheVariants as part
 use Rattle.part_steps.specs.StayTopics.{has_lock}
-use Rattle.mmu_core.specs.declared.outcome.Outcome.{Outcome}
 use Rattle.mmu_core.specs.invariant.InvalidationsPart.{has_raised, knows_seq}
 use Rattle.mmu_core.specs.invariant.TopicsInvariant.{TopicsInvariant}
 use Rattle.mmu_core.specs.lines.AccessSteps.{access_part}
@@ -43,8 +41,9 @@ use Rattle.mmu_core.specs.lines.HostSteps.{after_end, moves}
 use Rattle.mmu_core.specs.lines.WatchSteps.{watch_next}
 use Rattle.part_steps.specs.PartTasks.{word_looked}
 use Rattle.spte_words.specs.HostWords.{host_frame}
-use Rattle.mmu_core.proofs.lines.LinesKept.{answers_length, answers_more}
+use Rattle.mmu_core.proofs.lines.LinesKept.{answers_length}
 use Rattle.mmu_core.proofs.lines.Forms.{simple_place}
+use Rattle.mmu_core.proofs.lines.SimplePlaces.{none_raised}
 use Rattle.mmu_core.proofs.machine.PartStepping.{is_told, raises, rises, untold_rises}
 use Rattle.mmu_core.proofs.slots.LiveStays.{access_untold}
 
@@ -61,11 +60,6 @@ begin_rises : (p : BeginPlace) (page : ℕ) (t : Topics) → rises (begin_part p
 begin_rises (begins.Find begun) page t = either_place (λ step. rises step ≡ 0) begun part.Slot part.Slots refl refl
 begin_rises (begins.Walk rooted) page t = either_place (λ step. rises step ≡ 0) rooted (part.Walk _) part.Root refl refl
 begin_rises _ page t = refl
-
--- Behind a step that doesn't raise it, of a line that hasn't raised it, nothing is taken back.
-none_raised : (o : Outcome) (line : Line) (answers : List AnsweredLine) (n : ℕ) → n ≡ 0
-    → length answers + 0 + n ≤ length (answers_after o line answers) + one_if (has_raised (place_after o))
-none_raised o line answers n none = let more = answers_more o line answers in omega (arith, none, more)
 
 -- What a step adds to the lines that have raised the sequence number is no less than what it adds to the number.
 pub raised_on : (p : Place) (command : Command) (h : Held) (v : ℕ) (line : Line) → IsUnderWay p
@@ -107,7 +101,7 @@ raised_on (place.Host host.Free) (ChangeHost page c) h v line begun =
     omega (arith, more)
 raised_on (place.Access p) _ h v line begun = omega arith
 raised_on (place.Host p) _ h v line begun = omega arith
-raised_on p command h v line begun = none_raised (outcome_at p command h v) line h.answers _ (simple_place p command h v tt).raises
+raised_on p command h v line begun = (simple_place p command h v tt).raises line
 
 -- A line that begins has raised nothing yet.
 pub raised_before : (q : Place) (z : Sizes) (slots : MemorySlots) (command : Command) (p : Place) → standing q z slots command ≡ p

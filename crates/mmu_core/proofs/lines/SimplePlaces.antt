@@ -23,6 +23,14 @@ use Rattle.mmu_core.specs.lines.HostSteps.{host_tells}
 use Rattle.mmu_core.proofs.lines.LineClaims.{Claims, ClaimsNot, no_claim_between, no_scan_between, to_no_scan}
 use Rattle.mmu_core.proofs.machine.GoesOn.{GoesToSimple}
 use Rattle.mmu_core.proofs.machine.PartStepping.{raises}
+use Rattle.mmu_core.proofs.lines.LinesKept.{answers_more}
+use Rattle.mmu_core.specs.invariant.InvalidationsPart.{has_raised}
+use Rattle.mmu_core.specs.machine.Outcomes.{answers_after, place_after}
+use Rattle.mmu_core.specs.machine.Sums.{one_if}
+use Rattle.mmu_core.specs.declared.outcome.Outcome.{Outcome}
+use Rattle.core_views.specs.declared.answer.AnsweredLine.{AnsweredLine}
+use Rattle.core_views.specs.declared.trace.Line.{Line}
+use Rattle.std.proofs.Common.{◌+◌, ◌≤◌, length, arith}
 
 -- ---- what a step tells
 
@@ -35,13 +43,26 @@ pub data Told (h : Held) (v : ℕ) : Place → Command → List EventKind → Ty
   OfAccess : (p : AccessPlace) (gfn word : ℕ) (op : Op) → Told h v (place.Access p) (Access gfn word op) (access_tells p h gfn word op v)
   OfHost : (p : HostPlace) (page : ℕ) (change : HostChange) → Told h v (place.Host p) (ChangeHost page change) (host_tells p page change h v)
 
+-- ---- the sequence number
+
+-- What its step adds to the lines that have raised the number is no less than what it adds to the number.
+abbrev pub RaisesOn : Place → Command → Held → ℕ → Type 0
+RaisesOn p c h v =
+    (line : Line) → length h.answers + one_if (has_raised p) + raises (part_at p c h)
+    ≤ length (answers_after (outcome_at p c h v) line h.answers) + one_if (has_raised (place_after (outcome_at p c h v)))
+
+-- Behind a step that doesn't raise it, of a line that hasn't raised it, nothing is taken back.
+pub none_raised : (o : Outcome) (line : Line) (answers : List AnsweredLine) (n : ℕ) → n ≡ 0
+    → length answers + 0 + n ≤ length (answers_after o line answers) + one_if (has_raised (place_after o))
+none_raised o line answers n none = let more = answers_more o line answers in omega (arith, none, more)
+
 -- ---- a place of a simple form
 
--- A line that stands there goes on to such places. It raises no sequence number, and claims a page or a frame or doesn't.
+-- A line that stands there goes on to such places, tells what it tells, raises the sequence number once at most, and claims a page or a frame or doesn't.
 pub record SimplePlace (p : Place) (c : Command) (h : Held) (v : ℕ) : Type 0 where
   pub goes : GoesToSimple (outcome_at p c h v)
   pub tells : Told h v p c (tells_at p c h v)
-  pub raises : raises (part_at p c h) ≡ 0
+  pub raises : RaisesOn p c h v
   pub claims : RestsAt p c h → Claims p c h v ⊎ ClaimsNot p c h v
 
 -- So it is between lines.
@@ -49,6 +70,6 @@ pub between_simple : (c : Command) (h : Held) (v : ℕ) → SimplePlace place.Be
 between_simple c h v = record {
   goes = tt;
   tells = Nothing;
-  raises = refl;
+  raises = λ line. none_raised (outcome_at place.Between c h v) line h.answers 0 refl;
   claims = λ R. to_no_scan place.Between c h v no_claim_between (λ map. refl) refl (record { no_scan = no_scan_between; fed = λ map e. cc e });
 }

@@ -33,7 +33,7 @@ use Rattle.mmu_core.proofs.lines.ClaimMade.{claim_few, claim_free, claim_is, cla
 use Rattle.mmu_core.proofs.lines.EitherPlace.{each_claim}
 use Rattle.mmu_core.proofs.machine.GoesOn.{GoesToSimple, GoesUnderWay}
 use Rattle.mmu_core.proofs.machine.PartStepping.{brings, is_publish, is_told, never_told, changes_word, quiet_told, rises}
-use Rattle.mmu_core.proofs.lines.SimplePlaces.{SimplePlace, Told, Nothing, Exit, Change}
+use Rattle.mmu_core.proofs.lines.SimplePlaces.{SimplePlace, Told, Nothing, Exit, Change, none_raised}
 use Rattle.mmu_core.proofs.slots.SlotChangeClaims.{change_claims_or_not}
 use Rattle.mmu_core.specs.lines.AccessSteps.{exiting}
 use Rattle.mmu_core.proofs.slots.LiveStays.{OwnedStays}
@@ -198,6 +198,6 @@ module _ (h : Held) (command : Command) (v : ℕ) where
   slot_change_simple p = record {
     goes = (slot_change_goes p h v).1;
     tells = slot_change_told p;
-    raises = change_rises p;
+    raises = λ line. none_raised (slot_change_outcome p h v) line h.answers (rises (slot_change_part p h command)) (change_rises p);
     claims = λ R. change_claims_or_not command h v p;
   }
