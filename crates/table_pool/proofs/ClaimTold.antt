@@ -52,7 +52,7 @@ module _ (map : FreeMap) (note found : ℕ) (before after : Seat) (N : PartNeeds
   finds_it w is = is ∙ try_finds map (own_index before.hand) note before.hand.topics (word_in z w)
 
   -- What was claimed stood free in the world.
-  pub claimed_free : (one : ℕ) → got_in map after.hand.topics ≡ Some one → IfSome before.tells.world (IsFreeIn map z one)
+  claimed_free : (one : ℕ) → got_in map after.hand.topics ≡ Some one → IfSome before.tells.world (IsFreeIn map z one)
   claimed_free one is =
       let won = won_if claim found one (sym (try_gets map before.hand.topics found) ∙ ap (got_in map) (sym M.topics) ∙ is) in
       told_before before.tells.world after.tells.world before.actor note found (try_part map) before.hand (IsFreeIn map z one) N M.has M.world
@@ -60,7 +60,7 @@ module _ (map : FreeMap) (note found : ℕ) (before after : Seat) (N : PartNeeds
       ∙ ap (has_bit (tried_bit claim)) (sym (finds_it w finds)) ∙ won.0)
 
   -- Where what the claim saw stands in the world, the claim is won.
-  pub claim_alone : got_in map after.hand.topics ≡ None → IfSome before.tells.world (λ w. SawStands map z claim w → ⊥)
+  claim_alone : got_in map after.hand.topics ≡ None → IfSome before.tells.world (λ w. SawStands map z claim w → ⊥)
   claim_alone is =
       let lost : has_bit (tried_bit claim) found ≡ false =
       lost_if claim found (sym (try_gets map before.hand.topics found) ∙ ap (got_in map) (sym M.topics) ∙ is) in
@@ -69,7 +69,7 @@ module _ (map : FreeMap) (note found : ℕ) (before after : Seat) (N : PartNeeds
       let clear = ap (has_bit (tried_bit claim)) (sym seen) ∙ lost in cc (bit, clear))
 
   -- After a claim that was lost, what was seen stands in the world.
-  pub claim_stands : found < 2 ^ 64 → ToldBoth before.tells.world after.tells.world (λ w t. SawStands map z (claim_over map after.hand.topics) t)
+  claim_stands : found < 2 ^ 64 → ToldBoth before.tells.world after.tells.world (λ w t. SawStands map z (claim_over map after.hand.topics) t)
   claim_stands fits = told_both before.tells.world after.tells.world before.actor note found (try_part map) before.hand
       (λ w t. SawStands map z (claim_over map after.hand.topics) t) N M.has M.world each
     where
@@ -88,7 +88,7 @@ module _ (map : FreeMap) (note found : ℕ) (before after : Seat) (N : PartNeeds
               ∙ ap (λ n. bit_and n (bit_not w64 (2 ^ tried_bit claim))) (sym (finds_it w moved.finds)) ∙ still found (tried_bit claim) low fits lost
 
 -- A word that was loaded stands in the world.
-pub load_stands : (map : FreeMap) (word note found : ℕ) (before after : Seat) → PartNeeds (load_part map word) before.hand
+load_stands : (map : FreeMap) (word note found : ℕ) (before after : Seat) → PartNeeds (load_part map word) before.hand
     → MadePart (load_part map word) note found before after
     → ToldBoth before.tells.world after.tells.world (λ w t. SawStands map before.hand.state.sizes (claim_over map after.hand.topics) t)
 load_stands map word note found before after N M =
