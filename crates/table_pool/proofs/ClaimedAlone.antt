@@ -17,7 +17,7 @@ use Rattle.mmu_core.specs.declared.claim.FreeMap.{FreeMap}
 use Rattle.mmu_core.specs.declared.claim.FreeMap.TheVariants.{Pages, Frames}
 use Rattle.mmu_core.specs.invariant.FramesPart.{FrameUse, FramesPart, is_frame_of}
 use Rattle.mmu_core.specs.invariant.PoolPart.{UsePart, is_retired, is_owned, is_use, page_told}
-use Rattle.mmu_core.specs.lines.ClaimSteps.{try_part}
+use Rattle.part_steps.specs.declared.part_step.PartStep.{PartStep}
 use Rattle.mmu_core.proofs.pages.FrameUses.{frame_use_is, owned_frame_not_free, owned_frame_there, owned_frame_use, owned_of_no_page}
 use Rattle.mmu_core.specs.invariant.TreePart.{Use, at, stands}
 use Rattle.mmu_core.specs.invariant.TreePart.Use.{OldSet, Owned}
@@ -137,10 +137,10 @@ alone_in map (Some w) a h one has got =
     (λ r. sole_in map w a one r has.there (subst (λ (x : Held). got_in map x.topics ≡ Some one) (sym has.is) got)))
 
 -- What was claimed is the claimer's alone.
-pub claimed_alone : (map : FreeMap) (note found : ℕ) (before after : Seat) (a_behind one : ℕ) → MadePart (try_part map) note found before after
-    → IfSome after.tells.world (HasHand a_behind after.hand) → got_in map after.hand.topics ≡ Some one
-    → IfSome after.tells.world (IsClaimersAlone map before.hand.state.sizes a_behind one)
-claimed_alone map note found before after a_behind one M has got =
+pub claimed_alone : (map : FreeMap) (step : PartStep) (note found : ℕ) (before after : Seat) (actor one : ℕ) → MadePart step note found before after
+    → IfSome after.tells.world (HasHand actor after.hand) → got_in map after.hand.topics ≡ Some one
+    → IfSome after.tells.world (IsClaimersAlone map before.hand.state.sizes actor one)
+claimed_alone map step note found before after actor one M has got =
     let same : after.hand.state.sizes ≡ before.hand.state.sizes =
-    ap (λ (h : Held). h.state.sizes) M.hand ∙ next_keeps_sizes before.hand (part_kind before.hand (try_part map) note) found in
-    subst (λ (y : Sizes). IfSome after.tells.world (IsClaimersAlone map y a_behind one)) same (alone_in map after.tells.world a_behind after.hand one has got)
+    ap (λ (h : Held). h.state.sizes) M.hand ∙ next_keeps_sizes before.hand (part_kind before.hand step note) found in
+    subst (λ (y : Sizes). IfSome after.tells.world (IsClaimersAlone map y actor one)) same (alone_in map after.tells.world actor after.hand one has got)

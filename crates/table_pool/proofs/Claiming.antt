@@ -1,42 +1,34 @@
 -- What a claim's step says of the worlds that are told before it and after it.
-use Rattle.std.proofs.Common.{◌≡◌, ◌≢◌, inl, inr, ◌+◌, ◌*◌, ◌/◌, ◌%◌, ◌^◌, ◌<◌, ◌≤◌, ℕ, Option, Some, None, refl, sym, subst, ap, ◌∙◌, arith, bit_and, w64}
-use Rattle.std.specs.Prelude.{Bool, true, false, ◌==◌, ◌&&◌, nat_lt, IfSome, if◌then◌else◌}
+use Rattle.std.proofs.Common.{◌≡◌, inl, inr, ◌+◌, ◌*◌, ◌/◌, ◌%◌, ◌^◌, ◌<◌, ℕ, Option, Some, None, refl, sym, subst, ap, ◌∙◌, arith, bit_and, w64}
+use Rattle.std.specs.Prelude.{Bool, true, false, ◌==◌, ◌&&◌, nat_lt, if◌then◌else◌}
 use Rattle.std.specs.Int.{bit_not}
 use Rattle.std.proofs.lemmas.Bool.Decides.{nat_tests}
 use Rattle.std.proofs.lemmas.Nat.{and-not, and_comm}
 use Rattle.std.proofs.lemmas.Nat.Bits.{and_pow, bit_at-trailing_zeros}
 use Rattle.std.proofs.Math.Pow.{pow-lt}
-use Rattle.core_views.specs.declared.hand.Seen.{Seen}
 use Rattle.core_views.specs.declared.topics.MapClaim.{MapClaim}
 use Rattle.core_views.specs.declared.topics.Topics.{Topics}
 use Rattle.core_views.specs.Held.{Held}
-use Rattle.spte_words.specs.Areas.{words_of_bits}
+use Rattle.spte_words.specs.Areas.{size_of, words_of_bits}
 use Rattle.spte_words.specs.Bits.{has_bit}
 use Rattle.part_steps.specs.declared.part_step.PartStep.{PartStep}
 use Rattle.part_steps.specs.declared.part_step.PartStep.TheVariants as part
-use Rattle.mmu_core.specs.machine.Machine.{World}
 use Rattle.mmu_core.specs.machine.MayMake.{MayMake}
 use Rattle.part_steps.specs.PartBounds.{PartRests}
-use Rattle.part_steps.specs.PartTasks.{part_kind}
 use Rattle.part_steps.specs.PartSteps.{PartNeeds, needs_line}
-use Rattle.mmu_core.specs.declared.claim.FreeMap.TheVariants.{Pages}
+use Rattle.core_views.specs.declared.sizes.Sizes.{Sizes}
+use Rattle.part_steps.specs.Tasks.{map_of}
+use Rattle.mmu_core.specs.declared.claim.FreeMap.{FreeMap}
+use Rattle.mmu_core.specs.declared.claim.FreeMap.TheVariants.{Pages, Frames}
 use Rattle.mmu_core.specs.invariant.Scans.{OwnsNone}
-use Rattle.mmu_core.specs.lines.ClaimSteps.{claim_over, load_part, map_words, try_part}
+use Rattle.mmu_core.specs.lines.ClaimSteps.{claim_over, load_part, map_area, map_word, map_words, try_part}
 use Rattle.mmu_core.specs.machine.Steps.{has_line}
 use Rattle.part_steps.specs.PageTopics.{is_won, tried_bit}
 use Rattle.mmu_core.specs.machine.Worlds.{HandReached}
 use Rattle.mmu_core.proofs.invariant.PartRested.{may_make, reached_part_rests}
-use Rattle.step_seats.specs.Seats.{Seat}
-use Rattle.step_seats.specs.PartTurns.{MadePart, WherePartMade}
-use Rattle.step_seats.specs.Where.{HasHand}
 use Rattle.table_pool.specs.Claims.{claim_of, claim_step, next_word, sees_free}
 use Rattle.table_pool.specs.declared.claim.Claim.{Claim}
-use Rattle.table_pool.specs.declared.claim.Claimed.{Claimed}
-use Rattle.table_pool.specs.declared.claim.Claimed.TheVariants.{Got, Empty}
-use Rattle.step_seats.specs.declared.turn.Turn.{Turn}
-use Rattle.step_seats.specs.declared.turn.Turn.TheVariants.{More, Wait, Retry, Done}
-use Rattle.step_seats.proofs.Where.{after_step, telling, where_made}
-use Rattle.table_pool.proofs.EitherMap.{got_by}
+use Rattle.table_pool.proofs.EitherMap.{got_by, load_owns_none, load_within, try_owns_none, try_within}
 
 -- The bit that a claim tries is one of the word's, and stands in what it saw.
 pub low_bit : (claim : MapClaim) → 0 < claim.seen → claim.seen < 2 ^ 64 → tried_bit claim < 64
@@ -54,68 +46,52 @@ still n j low small clear =
     let shared : bit_and (2 ^ j) n ≡ 0 = and_comm (2 ^ j) n ∙ and_pow n j ∙ (ap (λ b. b * 2 ^ j) none ∙ omega arith) in
     and_comm n (bit_not w64 (2 ^ j)) ∙ omega (arith, parts, shared)
 
--- What the next step of a claim needs of the hand.
-pub sees : (job : Claim) (claim : MapClaim) → job.begun ≡ true → 0 < claim.seen → sees_free job claim ≡ true
-sees job claim begun some = let saw : nat_lt 0 claim.seen ≡ true = grind (arith, nat_tests, some) in rw (begun, saw) refl
+-- A claim's step is a try, or the load of its next word.
+module _ (job : Claim) (t : Topics) where
+  abbrev pub step_if : Bool → PartStep
+  step_if tries = if tries then try_part job.map else load_part job.map (next_word job (claim_of job t))
 
-pub claims : (job : Claim) (t : Topics) → job.begun ≡ true → 0 < (claim_of job t).seen → claim_step job t ≡ try_part job.map
-claims job t begun some =
-    ap (λ (b : Bool). if b then try_part job.map else load_part job.map (next_word job (claim_of job t))) (sees job (claim_of job t) begun some)
+  pub tries_it : sees_free job (claim_of job t) ≡ true → claim_step job t ≡ try_part job.map
+  tries_it tries = ap step_if tries
 
-pub claim_needs : (job : Claim) (note : ℕ) (h : Held) → job.begun ≡ true → 0 < (claim_of job h.topics).seen → MayMake (claim_step job h.topics) note h
-    → PartNeeds (try_part job.map) h
-claim_needs job note h begun some may = subst (λ s. PartNeeds s h) (claims job h.topics begun some) may.needs
+  pub loads_it : sees_free job (claim_of job t) ≡ false → claim_step job t ≡ load_part job.map (next_word job (claim_of job t))
+  loads_it loads = ap step_if loads
 
-pub loads : (job : Claim) (word : ℕ) (t : Topics) → sees_free job (claim_of job t) ≡ false → word ≡ next_word job (claim_of job t)
-    → claim_step job t ≡ load_part job.map word
-loads job word t none is =
-    ap (λ (b : Bool). if b then try_part job.map else load_part job.map (next_word job (claim_of job t))) none ∙ ap (load_part job.map) (sym is)
+-- It tries where it saw something free.
+pub saw_some : (job : Claim) (claim : MapClaim) → sees_free job claim ≡ true → 0 < claim.seen
+saw_some job claim tries = by job.begun tries
+  where
+    by : (begun : Bool) → begun && nat_lt 0 claim.seen ≡ true → 0 < claim.seen
+    by true saw = grind (arith, nat_tests, saw)
+    by false saw = absurd (cc saw)
 
-pub load_needs : (job : Claim) (word note : ℕ) (h : Held) → sees_free job (claim_of job h.topics) ≡ false → word ≡ next_word job (claim_of job h.topics)
-    → MayMake (claim_step job h.topics) note h → PartNeeds (load_part job.map word) h
-load_needs job word note h none is may = subst (λ s. PartNeeds s h) (loads job word h.topics none is) may.needs
+-- Either step needs a word of the map, and that nothing of the map is owned.
+pub claim_owns_none : (job : Claim) (h : Held) → PartNeeds (claim_step job h.topics) h → OwnsNone job.map h.topics
+claim_owns_none job h needs = by (sees_free job (claim_of job h.topics)) needs
+  where
+    by : (tries : Bool) → PartNeeds (step_if job h.topics tries) h → OwnsNone job.map h.topics
+    by true N = try_owns_none job.map h N
+    by false N = load_owns_none job.map (next_word job (claim_of job h.topics)) h N
 
--- What holds where the part's step was made holds where the claim's was: it is that one.
-pub where_claimed : (job : Claim) (step : PartStep) (note found : ℕ) (before after : Seat) (P : World Held → World Held → Type 0)
-    → claim_step job before.hand.topics ≡ step → MadePart step note found before after
-    → ((w : World Held) → MadePart step note found (telling w before) (telling (after_step (part_kind before.hand step note) before.actor w) after)
-    → HasHand before.actor after.hand (after_step (part_kind before.hand step note) before.actor w)
-    → P w (after_step (part_kind before.hand step note) before.actor w))
-    → WherePartMade (claim_step job before.hand.topics) note before after P
-where_claimed job step note found before after P is made each = subst (λ (s : PartStep). WherePartMade s note before after P) (sym is) (where_made made each)
+pub claim_inside : (job : Claim) (h : Held) → PartNeeds (claim_step job h.topics) h → next_word job (claim_of job h.topics) < map_words job.map h.state.sizes
+claim_inside job h needs = by job.begun (nat_lt 0 (claim_of job h.topics).seen) needs
+  where
+    by : (begun saw : Bool) → PartNeeds (if begun && saw then try_part job.map else load_part job.map (map_word begun (claim_of job h.topics))) h
+        → map_word begun (claim_of job h.topics) < map_words job.map h.state.sizes
+    by true true N = try_within job.map h N
+    by true false N = load_within job.map (claim_of job h.topics).at h N
+    by false saw N = load_within job.map 0 h N
 
--- The claim hasn't begun, or saw nothing free.
-pub unbegun : (job : Claim) (claim : MapClaim) → job.begun ≡ false → sees_free job claim ≡ false
-unbegun job claim begun = ap (λ b. b && nat_lt 0 claim.seen) begun
-
-pub saw_none : (job : Claim) (claim : MapClaim) → job.begun ≡ true → claim.seen ≤ 0 → sees_free job claim ≡ false
-saw_none job claim begun none = let saw : nat_lt 0 claim.seen ≡ false = grind (arith, nat_tests, none) in rw (begun, saw) refl
-
--- the word that is next
-pub word_unbegun : (job : Claim) (claim : MapClaim) (word : ℕ) → job.begun ≡ false → word ≡ 0 → word ≡ next_word job claim
-word_unbegun job claim word begun is = is ∙ ap (λ (b : Bool). if b then claim.at else 0) (sym begun)
-
-pub word_begun : (job : Claim) (claim : MapClaim) (word : ℕ) → job.begun ≡ true → word ≡ claim.at → word ≡ next_word job claim
-word_begun job claim word begun is = is ∙ ap (λ (b : Bool). if b then claim.at else 0) (sym begun)
-
--- what an answer says that it got
-abbrev pub got_of : Turn Claimed → ℕ
-got_of More = 0
-got_of (Wait seen) = 0
-got_of (Retry cause) = 0
-got_of (Done (Got one)) = one
-got_of (Done Empty) = 0
-
--- A turn that answers what it got doesn't wait; nor does one that cannot be lost.
-pub won_waits_not : (told : Option (World Held)) (P : World Held → Type 0) (result : Turn Claimed) (one : ℕ) → result ≡ Done (Got one)
-    → IfSome told (λ w. P w → (seen : Seen) → result ≢ Wait seen)
-won_waits_not None P result one is = tt
-won_waits_not (Some w) P result one is = λ p seen waits. cc (is, waits)
-
-pub never_waits : (told : Option (World Held)) (P : World Held → Type 0) (result : Turn Claimed) → IfSome told (λ w. P w → ⊥)
-    → IfSome told (λ w. P w → (seen : Seen) → result ≢ Wait seen)
-never_waits None P result none = tt
-never_waits (Some w) P result none = λ p seen waits. none p
+-- Where it tries, the word that it has come to is one of the map.
+pub tries_inside : (job : Claim) (claim : MapClaim) (z : Sizes) → sees_free job claim ≡ true → next_word job claim < map_words job.map z
+    → claim.at < size_of (map_of z) (map_area job.map)
+tries_inside job claim z tries inside = by job.map job.begun tries inside
+  where
+    by : (map : FreeMap) (begun : Bool) → begun && nat_lt 0 claim.seen ≡ true → map_word begun claim < map_words map z
+        → claim.at < size_of (map_of z) (map_area map)
+    by Pages true saw within = within
+    by Frames true saw within = within
+    by map false saw within = absurd (cc saw)
 
 -- Whether a try got something says whether it was won, and what it is.
 pub won_if : (claim : MapClaim) (found one : ℕ) → got_by claim found ≡ Some one → (is_won claim found ≡ true) × (one ≡ 64 * claim.at + tried_bit claim)

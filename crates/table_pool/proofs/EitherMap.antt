@@ -1,5 +1,5 @@
 -- What the two steps of a claim need, answer and leave, in either map.
-use Rattle.std.proofs.Common.{◌≡◌, ◌+◌, ◌*◌, ◌^◌, ◌<◌, ℕ, Option, Some, None, refl, bit_and, w64}
+use Rattle.std.proofs.Common.{◌≡◌, ◌+◌, ◌*◌, ◌^◌, ◌<◌, ℕ, Option, Some, None, refl, ap, bit_and, w64}
 use Rattle.std.specs.Prelude.{Bool, true, false, ◌==◌, if◌then◌else◌, not}
 use Rattle.std.specs.Int.{bit_not}
 use Rattle.core_views.specs.declared.topics.MapClaim.{MapClaim}
@@ -59,18 +59,18 @@ pub claim_held : (map : FreeMap) (claim : MapClaim) (t : Topics) → claim_over 
 claim_held Pages claim t = refl
 claim_held Frames claim t = refl
 
-pub owns_same : (map : FreeMap) (claim : MapClaim) (t : Topics) → OwnsNone map t → OwnsNone map (with_claim map claim t)
-owns_same Pages claim t none = none
-owns_same Frames claim t none = none
-
 pub try_claims : (map : FreeMap) (t : Topics) (v : ℕ) → claim_over map (part_topics (try_part map) t v) ≡ tried (claim_over map t) v
 try_claims Pages t v = refl
 try_claims Frames t v = refl
 
--- A try waits where it is lost.
+-- A try waits where it is lost, and a load never does.
 pub try_waits : (map : FreeMap) (t : Topics) (v : ℕ) → part_waits (try_part map) t v ≡ not (is_won (claim_over map t) v)
 try_waits Pages t v = refl
 try_waits Frames t v = refl
+
+pub load_goes : (map : FreeMap) (word : ℕ) (t : Topics) (v : ℕ) → part_waits (load_part map word) t v ≡ false
+load_goes Pages word t v = refl
+load_goes Frames word t v = refl
 
 -- the page or frame that a try gets, if it is won
 abbrev pub got_by : MapClaim → ℕ → Option ℕ
@@ -94,16 +94,19 @@ try_gets Frames t v = by (is_won t.frames.claim v)
     by true = refl
     by false = refl
 
--- A try that was won leaves what it got, and a try that was lost what it saw.
+-- A try that was won leaves what it got.
 pub won_holds : (map : FreeMap) (t : Topics) (v : ℕ) → is_won (claim_over map t) v ≡ true
     → part_topics (try_part map) t v ≡ with_got map (64 * (claim_over map t).at + tried_bit (claim_over map t)) t
 won_holds Pages t v won = rw won refl
 won_holds Frames t v won = rw won refl
 
-pub lost_holds : (map : FreeMap) (t : Topics) (v : ℕ) → OwnsNone map t → is_won (claim_over map t) v ≡ false
-    → part_topics (try_part map) t v ≡ with_claim map (record { at = (claim_over map t).at; seen = v }) t
-lost_holds Pages t v none lost = rw (lost, none) refl
-lost_holds Frames t v none lost = rw (lost, none) refl
+pub got_held : (map : FreeMap) (one : ℕ) (t : Topics) → got_in map (with_got map one t) ≡ Some one
+got_held Pages one t = refl
+got_held Frames one t = refl
+
+pub none_held : (map : FreeMap) (t : Topics) → OwnsNone map t → got_in map t ≡ None
+none_held Pages t none = ap page_got none
+none_held Frames t none = ap frame_got none
 
 -- ---- the words
 

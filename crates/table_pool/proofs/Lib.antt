@@ -1,7 +1,7 @@
 pub mod EitherMap
 pub mod Claiming
-pub mod ClaimTold
 pub mod ClaimTurns
+pub mod ClaimTold
 pub mod FirstSeen
 pub mod ClaimedAlone
 pub mod Paging

@@ -1,4 +1,6 @@
 ghost use Rattle.std.specs.Prelude.{◌≡◌, ◌<◌, ℕ, true, false};
+ghost use Rattle.core_views.specs.Sizes.{AreSizes};
+ghost use Rattle.part_steps.specs.PartTopics.{part_topics};
 ghost use Rattle.mmu_core.specs.declared.claim.FreeMap.TheVariants.{Pages};
 ghost use Rattle.mmu_core.specs.invariant.Scans.{OwnsNone};
 ghost use Rattle.mmu_core.specs.lines.ClaimSteps.{claim_over, map_words};
@@ -17,13 +19,16 @@ ghost use Rattle.table_pool.specs.Claims.{
   IsNearer,
   SawWhatStands,
   WasFree,
+  claim_of,
   claim_step,
+  next_word,
+  sees_free,
 };
 ghost use Rattle.table_pool.specs.declared.claim.Claimed.TheVariants.{Got};
 
-use core_views::{Hand, Seen, Topics};
+use core_views::{Hand, MapClaim, Seen, Sizes, Topics};
 use mmu_core::{FreeMap, part_rests};
-use part_steps::map_of;
+use part_steps::{PartStep, map_of};
 use step_seats::{Stepper, Turn, make_part};
 
 // The page, or the frame, that the actor owns.
@@ -79,6 +84,48 @@ impl Claim {
         ensures { MayMake (claim_step self.now hand.now.core.topics) note hand.now.core }
     {}
 
+    // It tries one of those that it saw free.
+    fn tries(self, claim: &MapClaim) -> bool
+        ensures { result ≡ sees_free self claim.now }
+    {
+        self.begun && claim.seen > 0
+    }
+
+    // Its next step.
+    fn step(self, topics: &Topics) -> PartStep
+        ensures { result ≡ claim_step self topics.now }
+    {
+        let claim = self.map.claim_of(topics);
+        if self.tries(&claim) {
+            return self.map.try_part();
+        }
+        let word = if self.begun { claim.at } else { 0 };
+        self.map.load_part(word)
+    }
+
+    // What the turn answers whose step found this, by what the actor held before the step
+    // and what it holds after it.
+    fn answer(self, sizes: &Sizes, before: &Topics, found: u64, after: &Topics) -> Turn<Claimed>
+        requires sizes { AreSizes sizes.now }
+        requires owns_none { OwnsNone self.map before.now }
+        requires inside { next_word self (claim_of self before.now) < map_words self.map sizes.now }
+        requires stepped { after.now ≡ part_topics (claim_step self before.now) before.now found }
+        ensures { ClaimTurn sizes.now self result before.now after.now }
+    {
+        let claim = self.map.claim_of(before);
+        if self.tries(&claim) {
+            let word = map_of(sizes).word_of(self.map.area(), claim.at);
+            match got_in(self.map, after) {
+                Some(one) => Turn::Done(Claimed::Got(one)),
+                None => Turn::Wait(Seen { word, value: found }),
+            }
+        } else if self.map.claim_of(after).at < self.map.words(sizes) {
+            Turn::More
+        } else {
+            Turn::Done(Claimed::Empty)
+        }
+    }
+
     /// Tries the lowest page or frame of those seen, or loads the next word of the map.
     /// `Wait` exactly where its step waits, since another actor took this page or frame
     /// meanwhile: what was seen then is what the claim goes on with.
@@ -99,22 +146,10 @@ impl Claim {
     {
         part_rests(s.hand());
         let sizes = s.hand().progress().sizes;
-        let claim = self.map.claim_of(s.hand().topics());
-        if self.begun && claim.seen > 0 {
-            let word = map_of(&sizes).word_of(self.map.area(), claim.at);
-            let value = make_part(s, self.map.try_part(), note);
-            return match got_in(self.map, s.hand().topics()) {
-                Some(one) => Turn::Done(Claimed::Got(one)),
-                None => Turn::Wait(Seen { word, value }),
-            };
-        }
-        let word = if self.begun { claim.at } else { 0 };
+        let before = *s.hand().topics();
+        let found = make_part(s, self.step(&before), note);
+        let turn = self.answer(&sizes, &before, found, s.hand().topics());
         self.begun = true;
-        let _ = make_part(s, self.map.load_part(word), note);
-        if self.map.claim_of(s.hand().topics()).at < self.map.words(&sizes) {
-            Turn::More
-        } else {
-            Turn::Done(Claimed::Empty)
-        }
+        turn
     }
 }
