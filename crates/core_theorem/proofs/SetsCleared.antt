@@ -1,5 +1,5 @@
 -- Where a slot line is about to give the old slot set's page back, the page's role is cleared.
-use Rattle.core_views.specs.SlotCommands.{changes_slot}
+use Rattle.core_views.specs.SlotCommands.{changes_slot, slot_moved}
 use Rattle.std.proofs.Common.{◌≡◌, ◌≢◌, ◌⊎◌, inl, inr, ◌<◌, ℕ, List, refl, sym, subst, ap, ◌∙◌, arith}
 use Rattle.std.specs.Prelude.{Bool, true, false, ◌+◌, ◌==◌, nat_lt, Option, Some, None, is_some}
 use Rattle.core_views.specs.declared.kind.Kind.{Kind}
@@ -8,7 +8,10 @@ use Rattle.core_views.specs.Kinds.{code_of}
 use Rattle.core_views.specs.declared.place.Place.{Place}
 use Rattle.core_views.specs.declared.place.Place.TheVariants as place
 use Rattle.core_views.specs.declared.place.SlotChangePlace.{SlotChangePlace}
-use Rattle.core_views.specs.declared.place.SlotChangePlace.TheVariants.{Claim, Fill, Role, Exclude, Count, Close, Publish, Watch, Clear, Give, Release}
+use Rattle.core_views.specs.declared.place.SlotChangePlace.TheVariants.{Claim, Fill, Role, Begin, Exclude, Count, Close, Publish, Release, End, Watch, Clear, Give}
+use Rattle.core_views.specs.declared.place.BeginPlace.TheVariants as begins
+use Rattle.core_views.specs.declared.place.EndPlace.{EndPlace}
+use Rattle.core_views.specs.declared.place.EndPlace.TheVariants as ends
 use Rattle.core_views.specs.declared.sizes.Sizes.{Sizes}
 use Rattle.core_views.specs.declared.topics.Topics.{Topics}
 use Rattle.core_views.specs.declared.trace.Command.{Command}
@@ -38,6 +41,13 @@ use Rattle.mmu_core.specs.invariant.Laws.{IsSound}
 use Rattle.mmu_core.specs.machine.Machine.{May, Step, World, effect, hand_in, run}
 use Rattle.mmu_core.specs.machine.Outcomes.{place_after}
 use Rattle.mmu_core.specs.lines.PartAt.{task_at}
+use Rattle.part_steps.specs.PartHoldings.{own_open}
+use Rattle.mmu_core.specs.declared.invalidate.BeginNext.{BeginNext}
+use Rattle.mmu_core.specs.declared.invalidate.BeginNext.TheVariants as begins_next
+use Rattle.mmu_core.specs.declared.invalidate.EndNext.{EndNext}
+use Rattle.mmu_core.specs.declared.invalidate.EndNext.TheVariants as ends_next
+use Rattle.mmu_core.specs.lines.InvalidateSteps.{begin_next, end_next, end_part}
+use Rattle.mmu_core.specs.lines.SlotChangeSteps.{after_set_begin, after_set_end, slot_target}
 use Rattle.mmu_core.specs.lines.SlotChangeSteps.{after_set_claim, watch_next, slot_change_note, slot_change_outcome, slot_change_task}
 use Rattle.mmu_core.specs.machine.Steps.{has_line, line_at, place_at, task_of}
 use Rattle.mmu_core.specs.lines.SlotChangeKnows.{SlotChangeKnows}
@@ -71,10 +81,19 @@ gives_old z u G s page there may gives left =
     h : Held
     h = hand_in mmu u s.actor
 
-    old : (p : SlotChangePlace) (command : Command) → SlotChangeKnows p h → RetiresPart (place.SlotChange p) h.topics
+    ends_none : (p : EndPlace) → code_of (part_task (end_part p h.topics) (own_index h) h.topics 0).kind ≡ code_of kind.Give → ⊥
+    ends_none ends.Exclude e = omega (arith, e)
+    ends_none ends.Seq e = omega (arith, e)
+    ends_none ends.SetSeq e = omega (arith, e)
+    ends_none ends.Count e = omega (arith, e)
+    ends_none ends.SetCount e = omega (arith, e)
+    ends_none ends.Release e = omega (arith, e)
+
+    old : (p : SlotChangePlace) (command : Command) → SlotChangeKnows p command h → RetiresPart (place.SlotChange p) h.topics
         → code_of (slot_change_task p h command).kind ≡ code_of kind.Give → (place.SlotChange p ≡ place.SlotChange Give) × MayGiveOld h
     old Give command K L e = (refl, K.1)
     old Release command K L e = absurd (omega (arith, e))
+    old (End p) command K L e = absurd (ends_none p e)
     old Watch command K L e = absurd (omega (arith, e))
     old Clear command K L e = absurd (omega (arith, e))
     old _ command K L e = let none = L.leaves refl in absurd (cc (none, left))
@@ -113,20 +132,32 @@ module _ (role : ℕ → ℕ) (x : ℕ) (t : Topics) where
   claim_cleared claims.Goes = tt
   claim_cleared _ = tt
 
+  begun_cleared : (next : BeginNext) → SlotChangeCleared role (after_set_begin next) t
+  begun_cleared (begins_next.Goes p) = tt
+  begun_cleared begins_next.Begun = tt
+
+  ended_cleared : (next : EndNext) → SlotChangeCleared role (after_set_end next) t
+  ended_cleared (ends_next.Goes p) = tt
+  ended_cleared ends_next.Ended = tt
+
   -- The step of this place clears the role.
   abbrev clears : SlotChangePlace → Bool
   clears Clear = true
   clears _ = false
 
   -- From no other place does a slot line come to give the page back.
-  no_give : (p : SlotChangePlace) (h : Held) → clears p ≡ false → PlaceCleared role (place_after (slot_change_outcome p h x)) t
-  no_give (Claim begun) h never = claim_cleared (claim_next Pages begun h.state.sizes h.topics.claim x)
-  no_give Fill h never = either_place (λ q. SlotChangeCleared role q t) (nat_lt (words_filled h.topics.owned + 1) 512) Fill Role tt tt
-  no_give Exclude h never = either_place (λ q. SlotChangeCleared role q t) (x == 0) Count Exclude tt tt
-  no_give Count h never = either_place (λ q. SlotChangeCleared role q t) (x == 0) Publish Close tt tt
-  no_give Watch h never = each_watch (λ q. SlotChangeCleared role q t) (watch_next h x) Watch Clear tt tt
-  no_give Clear h never = absurd (cc never)
-  no_give _ h never = tt
+  no_give : (p : SlotChangePlace) (command : Command) (h : Held) → clears p ≡ false → PlaceCleared role (place_after (slot_change_outcome p command h x)) t
+  no_give (Claim begun) command h never = claim_cleared (claim_next Pages begun h.state.sizes h.topics.claim x)
+  no_give Fill command h never = either_place (λ q. SlotChangeCleared role q t) (nat_lt (words_filled h.topics.owned + 1) 512) Fill Role tt tt
+  no_give Role command h never = either_place (λ q. SlotChangeCleared role q t) (is_some (slot_moved h.slots command)) (Begin begins.Exclude) Exclude tt tt
+  no_give (Begin p) command h never = begun_cleared (begin_next p h.state.sizes (slot_target h command) h.topics x)
+  no_give Release command h never = either_place (λ q. SlotChangeCleared role q t) h.topics.invalidations.opened (End ends.Exclude) Watch tt tt
+  no_give (End p) command h never = ended_cleared (end_next p x)
+  no_give Exclude command h never = either_place (λ q. SlotChangeCleared role q t) (x == 0) Count Exclude tt tt
+  no_give Count command h never = either_place (λ q. SlotChangeCleared role q t) (x == own_open h.topics.invalidations) Publish Close tt tt
+  no_give Watch command h never = each_watch (λ q. SlotChangeCleared role q t) (watch_next h x) Watch Clear tt tt
+  no_give Clear command h never = absurd (cc never)
+  no_give _ command h never = tt
 
 module _ (words : Area → ℕ → ℕ) (h : Held) (command : Command) (x : ℕ) where
   abbrev role_behind : SlotChangePlace → ℕ → ℕ
@@ -135,11 +166,11 @@ module _ (words : Area → ℕ → ℕ) (h : Held) (command : Command) (x : ℕ)
   abbrev topics_behind : SlotChangePlace → Topics
   topics_behind p = topics_after h.state.sizes (kind_of_task h.state.sizes (slot_change_task p h command)) h.topics x
 
-  change_cleared : (p : SlotChangePlace) → PlaceCleared (role_behind p) (place_after (slot_change_outcome p h x)) (topics_behind p)
+  change_cleared : (p : SlotChangePlace) → PlaceCleared (role_behind p) (place_after (slot_change_outcome p command h x)) (topics_behind p)
   change_cleared Clear =
       ap (λ l. role_behind Clear (page_retired l)) (retired_is part.Clear h.state.sizes (own_index h) h.topics (slot_change_note Clear h) x)
       ∙ upd_same (words area.Role) (page_retired h.topics.retired) 0
-  change_cleared p = no_give (role_behind p) x (topics_behind p) p h refl
+  change_cleared p = no_give (role_behind p) x (topics_behind p) p command h refl
 
 -- A line that changes no slot stands at no place of a slot line.
 other_cleared : (role : ℕ → ℕ) (q : Place) (c : Command) (h : Held) → changes_slot c ≡ false → KnowsPart q c h → PlaceCleared role q h.topics

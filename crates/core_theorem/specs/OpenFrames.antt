@@ -1,5 +1,5 @@
 -- The guest frames of open invalidations after a run.
-use Rattle.std.specs.Prelude.{◌≡◌, ◌<◌, ◌≤◌, ℕ, List, true}
+use Rattle.std.specs.Prelude.{◌≡◌, ◌^◌, ◌<◌, ◌≤◌, ℕ, List, Some, true}
 use Rattle.core_views.specs.declared.kind.Kind.{Kind}
 use Rattle.core_views.specs.declared.sizes.Sizes.{Sizes}
 use Rattle.core_views.specs.declared.trace.Line.{Line}
@@ -23,17 +23,17 @@ OpenFramesAreRecorded =
     → HasOpen (run mmu w ss) actor → IsIn (own_of (run mmu w ss) actor) gfn
     → (word_in z (run mmu w ss) area.RangeStart 0 ≤ gfn) × (gfn < word_in z (run mmu w ss) area.RangeEnd 0)
 
--- It is of the guest frames that the published slots give to its host page, and of no others.
+-- Where it is of a host page, it is of the guest frames that the published slots give to this page, and of no others.
 abbrev pub OpenFramesAreOfThePage : Type 0
 OpenFramesAreOfThePage =
-    (z : Sizes) (lines : List Line) (w : World Held) (ss : List (Step Kind)) → IsRun z lines w ss → (actor : ℕ) → actor < actors_of z
-    → HasOpen (run mmu w ss) actor
-    → IsOfPage (word_in z (run mmu w ss) area.Pool) (word_in z (run mmu w ss) area.Slots 0) (own_of (run mmu w ss) actor)
+    (z : Sizes) (lines : List Line) (w : World Held) (ss : List (Step Kind)) → IsRun z lines w ss → (actor page : ℕ) → actor < actors_of z
+    → HasOpen (run mmu w ss) actor → (own_of (run mmu w ss) actor).page ≡ Some page
+    → IsOfPage (word_in z (run mmu w ss) area.Pool) (word_in z (run mmu w ss) area.Slots 0) page (own_of (run mmu w ss) actor)
 
 -- Once its actor has asked for a first flush, no links lead such a guest frame from the root to a leaf.
 abbrev pub OpenFramesAreZapped : Type 0
 OpenFramesAreZapped =
-    (z : Sizes) (lines : List Line) (w : World Held) (ss : List (Step Kind)) → IsRun z lines w ss → (actor gfn entry : ℕ) → actor < actors_of z
+    (z : Sizes) (lines : List Line) (w : World Held) (ss : List (Step Kind)) → IsRun z lines w ss → (actor gfn entry : ℕ) → gfn < 2 ^ 36 → actor < actors_of z
     → HasOpen (run mmu w ss) actor → 1 ≤ (flush_of (run mmu w ss) actor).asked → IsIn (own_of (run mmu w ss) actor) gfn
     → LeadsTo (word_in z (run mmu w ss) area.Pool) 4 (word_in z (run mmu w ss) area.Root 0) gfn entry → kind_of 1 entry ≡ entry_kind.Leaf → ⊥
 

@@ -110,7 +110,7 @@ StepsAreFew =
 
 -- No line's command allows more than this. So in numbers of delays and of lines, of which there are no more than have no answer yet:
 abbrev pub most_of_all : Sizes → ℕ
-most_of_all z = 8192 + z.pool + z.frames
+most_of_all z = 8192 + z.pool + z.frames + 5 * z.pages
 
 abbrev pub AllStepsAreFew : Type 0
 AllStepsAreFew =

@@ -115,7 +115,7 @@ no_invalidations = record {
   seq = 0;
   checked = Nothing;
   opened = false;
-  own = record { page = 0; start = 0; end = 0 };
+  own = record { page = None; start = 0; end = 0 };
   raised = false;
 }
 

@@ -155,7 +155,8 @@ impl StepKind {
 
 /// One step of an actor: the number of its kind, the word, what the word is to
 /// hold before it (where that matters) and what is written, and a note: 1 where
-/// the line may end with this step, else 0.
+/// the line may end with this step, else 0. Of a store of an end of the range of
+/// open invalidations `old` is that end of the actor's own one.
 #[derive(Clone, Copy, PartialEq, Eq, Drop)]
 pub struct Kind {
     pub code: u8,

@@ -49,6 +49,8 @@ pub enum AccessPlace {
 /// The steps of a line that changes a slot, in their order: a page of its own is
 /// filled with the new slot set, published by one exchange under the lock, and the
 /// old page given back after a grace period (kvm_main.c, `kvm_swap_active_memslots`).
+/// Where the slot was there, it is published within an invalidation of the slot's guest
+/// frames (`kvm_invalidate_memslot`).
 #[derive(Clone, Copy, PartialEq, Eq, Drop)]
 pub enum SlotChangePlace {
     /// It is refused, which is known before its first step.
@@ -59,16 +61,20 @@ pub enum SlotChangePlace {
     Fill,
     /// Stores the role of its page, once all words are stored.
     Role,
+    /// A step that begins its invalidation.
+    Begin(BeginPlace),
     /// Tries to take the lock alone.
     Exclude,
     /// Loads how many invalidations are open.
     Count,
-    /// Gives the lock back, since some are open, and tries again.
+    /// Gives the lock back, since some of others are open, and tries again.
     Close,
     /// Swaps the published slot set for the new one.
     Publish,
     /// Gives the lock back.
     Release,
+    /// A step that ends its invalidation.
+    End(EndPlace),
     /// Looks at the next other actor, until it is seen in no section.
     Watch,
     /// Takes the role from the page of the old slot set.

@@ -1,7 +1,7 @@
 //! What a line changes in the slots: a clause for each command that changes one.
 ghost use Rattle.std.specs.Prelude.{◌≡◌, ◌≤◌, None};
 ghost use Rattle.core_views.specs.Refusals.{after_set, set_refusal};
-ghost use Rattle.core_views.specs.SlotCommands.{change_refusal, slots_after};
+ghost use Rattle.core_views.specs.SlotCommands.{change_refusal, slot_moved, slots_after};
 ghost use Rattle.core_views.specs.Traces.{IsCommandFor};
 
 use crate::{Command, Line, Refusal, Sizes, Slot, SlotSet};
@@ -26,6 +26,16 @@ impl SlotSet {
     {
         if let Command::SetSlot { id, slot } = &line.command {
             self.put(*id, slot, sizes.pages);
+        }
+    }
+
+    /// The slot that the line moves, as it is before; `None` where it moves none.
+    pub fn moved(&self, command: &Command) -> Option<Slot>
+        ensures { result ≡ slot_moved self.now command.now }
+    {
+        match command {
+            Command::SetSlot { id, .. } => Some(self.get(*id)?.slot),
+            Command::Access { .. } | Command::ChangeHost { .. } => None,
         }
     }
 

@@ -71,12 +71,13 @@ pub enum Checked {
     Seq,
 }
 
-/// What an invalidation is of: a host page, and the guest frames that the slots give to it,
-/// from the first up to, but without, the one after the last. None where `end` is `start`.
+/// What an invalidation is of: the guest frame that a slot gives to a host page, or those of
+/// a slot, from the first up to, but without, the one after the last. None where `end` is
+/// `start`.
 #[derive(Clone, Copy, PartialEq, Eq, Drop)]
 pub struct Invalidated {
-    /// The host page that is to change.
-    pub page: u64,
+    /// The host page that is to change; `None` where a slot is to be moved or deleted.
+    pub page: Option<u64>,
     /// The first guest frame.
     pub start: u64,
     /// The guest frame after the last one.
@@ -244,7 +245,7 @@ impl Topics {
                 checked: Checked::Nothing,
                 opened: false,
                 own: Invalidated {
-                    page: 0,
+                    page: None,
                     start: 0,
                     end: 0,
                 },

@@ -61,7 +61,7 @@ fn step<S: Stepper>(
     match place {
         HostPlace::Look { moves } => look_up(s, moves, page, change, note),
         HostPlace::Claim { begun } => claim(s, begun, page, change, note),
-        HostPlace::Begin(_) => BeginJob { page }.turn(s, note).in_way(),
+        HostPlace::Begin(_) => BeginJob::of_page(page).turn(s, note).in_way(),
         HostPlace::Copy => copy_word(s, page, change, note),
         HostPlace::Store => store_word(s, page, change, note),
         HostPlace::Change => exchange(s, page, change, note),

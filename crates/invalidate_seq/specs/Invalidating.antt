@@ -1,7 +1,7 @@
 -- The words of an invalidation's begin and end, each under the lock alone (kvm_main.c, kvm_mmu_invalidate_begin and kvm_mmu_invalidate_end; locking.rst,
 -- mmu_invalidate_seq and mmu_invalidate_in_progress): its begin widens the range of the open ones and counts one more, its end raises the sequence number
 -- and counts one less.
-use Rattle.std.specs.Prelude.{◌≡◌, ◌+◌, ◌-◌, ◌<◌, ◌≤◌, ℕ, ◌==◌, if◌then◌else◌, true, false, Option, IfSome}
+use Rattle.std.specs.Prelude.{◌≡◌, ◌+◌, ◌-◌, ◌<◌, ◌≤◌, ℕ, ◌==◌, if◌then◌else◌, true, false}
 use Rattle.core_views.specs.declared.place.CheckStage.{CheckStage}
 use Rattle.core_views.specs.declared.place.CheckStage.TheVariants as word_of
 use Rattle.core_views.specs.declared.topics.Invalidations.{Invalidations}
@@ -26,16 +26,16 @@ use Rattle.invalidate_seq.specs.declared.shut.ShutStage.TheVariants as shuts
 -- ---- its begin
 
 -- the step of each stage
-abbrev pub open_at : OpenStage → Option ℕ → Invalidations → PartStep
-open_at opens.Count gfn n = part.Count
-open_at opens.RangeStart gfn n = part.RangeStart
-open_at opens.RangeEnd gfn n = part.RangeEnd
-open_at opens.SetStart gfn n = part.SetStart (start_with gfn n)
-open_at opens.SetEnd gfn n = part.SetEnd (end_with gfn n)
-open_at opens.SetCount gfn n = part.SetCount (n.count + 1)
+abbrev pub open_at : OpenStage → ℕ → ℕ → Invalidations → PartStep
+open_at opens.Count first last n = part.Count
+open_at opens.RangeStart first last n = part.RangeStart
+open_at opens.RangeEnd first last n = part.RangeEnd
+open_at opens.SetStart first last n = part.SetStart first (start_with first last n)
+open_at opens.SetEnd first last n = part.SetEnd last (end_with first last n)
+open_at opens.SetCount first last n = part.SetCount (n.count + 1)
 
 abbrev pub open_step : Open → Topics → PartStep
-open_step job t = open_at job.stage job.gfn t.invalidations
+open_step job t = open_at job.stage job.first job.last t.invalidations
 
 -- which word it is on
 abbrev pub open_word : OpenStage → CheckStage
@@ -46,15 +46,16 @@ open_word opens.SetStart = word_of.Start
 open_word opens.SetEnd = word_of.End
 open_word opens.SetCount = word_of.Count
 
--- What is held after the stage's step: a load keeps its word, and a store what it stored. With the range's start the actor's own invalidation is of the
--- guest frame of the host page that was looked at; with the count, one more than was loaded, it is open, and the sequence number is yet to be raised for it.
-abbrev pub Opens : OpenStage → Option ℕ → Topics → Topics → Type 0
-Opens opens.Count gfn before after = LoadsOnly word_of.Count before after
-Opens opens.RangeStart gfn before after = LoadsOnly word_of.Start before after
-Opens opens.RangeEnd gfn before after = LoadsOnly word_of.End before after
-Opens opens.SetStart gfn before after = after ≡ started (start_with gfn before.invalidations) before
-Opens opens.SetEnd gfn before after = after ≡ ended (end_with gfn before.invalidations) before
-Opens opens.SetCount gfn before after = after ≡ count_stored (before.invalidations.count + 1) true before
+-- What is held after the stage's step: a load keeps its word, and a store what it stored. With the ends of the range the actor's own invalidation is of the
+-- guest frames from `first` up to `last`, and with its start of the host page that was looked at, if one was; with the count, one more than was loaded, it is
+-- open, and the sequence number is yet to be raised for it.
+abbrev pub Opens : OpenStage → ℕ → ℕ → Topics → Topics → Type 0
+Opens opens.Count first last before after = LoadsOnly word_of.Count before after
+Opens opens.RangeStart first last before after = LoadsOnly word_of.Start before after
+Opens opens.RangeEnd first last before after = LoadsOnly word_of.End before after
+Opens opens.SetStart first last before after = after ≡ started first (start_with first last before.invalidations) before
+Opens opens.SetEnd first last before after = after ≡ ended last (end_with first last before.invalidations) before
+Opens opens.SetCount first last before after = after ≡ count_stored (before.invalidations.count + 1) true before
 
 -- The stage that comes after it, where this number of open ones is known: the range is loaded where some are, and else it is stored at once.
 abbrev pub open_after : OpenStage → ℕ → OpenStage
@@ -126,7 +127,7 @@ abbrev pub KeepsWord : CheckStage → PartStep → ℕ → Seat → Seat → Typ
 KeepsWord stage step note before after =
     WherePartMade step note before after (λ w v. loaded stage after.hand.topics.invalidations ≡ word_in before.hand.state.sizes v (area_of stage) 0)
 
--- A range from start up to end has the guest frame, if there is one, and the range of the open invalidations, if some are.
-pub record IsWidened (gfn : Option ℕ) (n : Invalidations) (start end : ℕ) : Type 0 where
-  pub frame : IfSome gfn (λ g. (start ≤ g) × (g < end))
+-- A range from start up to end has the guest frames from `first` up to `last`, if there are any, and the range of the open invalidations, if some are.
+pub record IsWidened (first last : ℕ) (n : Invalidations) (start end : ℕ) : Type 0 where
+  pub frames : first < last → (start ≤ first) × (last ≤ end)
   pub open_ones : 0 < n.count → (start ≤ n.start) × (n.end ≤ end)

@@ -3,15 +3,23 @@ use Rattle.std.specs.Prelude.{ℕ, Bool, true, false}
 use Rattle.core_views.specs.declared.topics.Checked.TheVariants as checked
 use Rattle.core_views.specs.declared.topics.Topics.{Topics}
 use Rattle.part_steps.specs.ControlTopics.{end_known, start_known}
-use Rattle.part_steps.specs.InvalidationRange.{invalidated}
+use Rattle.part_steps.specs.InvalidationRange.{page_aimed}
 
--- the start of the range: the actor's own invalidation is of the guest frame of the host page that was looked at, from then on
-abbrev pub started : ℕ → Topics → Topics
-started n t = record t { invalidations = record t.invalidations { start = n; checked = start_known t.invalidations.checked; own = invalidated t } }
+-- the start of the range: from then on the actor's own invalidation is of the guest frames from this first one on, and of the host page that it is aimed at
+abbrev pub started : ℕ → ℕ → Topics → Topics
+started first n t = record t {
+  invalidations = record t.invalidations {
+    start = n;
+    checked = start_known t.invalidations.checked;
+    own = record { page = page_aimed t; start = first; end = t.invalidations.own.end };
+  };
+}
 
--- its end
-abbrev pub ended : ℕ → Topics → Topics
-ended n t = record t { invalidations = record t.invalidations { end = n; checked = end_known t.invalidations.checked } }
+-- its end: the own one's guest frames are those up to this last one
+abbrev pub ended : ℕ → ℕ → Topics → Topics
+ended last n t = record t {
+  invalidations = record t.invalidations { end = n; checked = end_known t.invalidations.checked; own = record t.invalidations.own { end = last } };
+}
 
 -- the count of open ones: the actor's own is among them, or isn't, and no number was raised for it yet
 abbrev pub count_stored : ℕ → Bool → Topics → Topics

@@ -1,4 +1,4 @@
-ghost use Rattle.std.specs.Prelude.{◌≡◌, ◌+◌, ◌<◌, ◌^◌, IfSome};
+ghost use Rattle.std.specs.Prelude.{◌≡◌, ◌+◌, ◌<◌, ◌^◌};
 ghost use Rattle.core_views.specs.declared.topics.Hold.TheVariants.{Exclusive};
 ghost use Rattle.mmu_core.specs.machine.MayMake.{MayMake};
 ghost use Rattle.part_steps.specs.InvalidationRange.{end_with, start_with};
@@ -43,47 +43,53 @@ pub enum OpenStage {
 /// from its end on no fault puts an entry for a guest frame of the range.
 #[derive(Clone, Copy, Drop)]
 pub struct Open {
-    /// The guest frame over which it is, below 2^36; `None` where no slot gives one to
-    /// the host page that is to change.
-    pub gfn: Option<u64>,
+    /// The first guest frame over which it is.
+    pub first: u64,
+    /// The guest frame after the last one; where it isn't above the first, it is over none.
+    pub last: u64,
     /// How far the begin has come.
     pub stage: OpenStage,
 }
 
-// The range of the open invalidations, widened to the guest frame.
-fn widened(gfn: Option<u64>, kept: &Invalidations) -> (u64, u64)
-    requires { IfSome gfn (λ g. g < 2 ^ 36) }
-    ensures start { result.0 ≡ start_with gfn kept.now }
-    ensures end { result.1 ≡ end_with gfn kept.now }
-    ensures widened { IsWidened gfn kept.now result.0 result.1 }
+// The range of the open invalidations, widened to these guest frames.
+fn widened(first: u64, last: u64, kept: &Invalidations) -> (u64, u64)
+    ensures start { result.0 ≡ start_with first last kept.now }
+    ensures end { result.1 ≡ end_with first last kept.now }
+    ensures widened { IsWidened first last kept.now result.0 result.1 }
 {
-    (start_with(gfn, kept), end_with(gfn, kept))
+    (start_with(first, last, kept), end_with(first, last, kept))
 }
 
 impl Open {
-    /// A begin that has made no step yet, over this guest frame or over none.
-    pub fn new(gfn: Option<u64>) -> Open
-        ensures { result ≡ record { gfn = gfn; stage = OpenStage.Count } }
+    /// A begin that has made no step yet, over the guest frames from `first` up to `last`.
+    pub fn new(first: u64, last: u64) -> Open
+        ensures { result ≡ record { first = first; last = last; stage = OpenStage.Count } }
     {
         Open {
-            gfn,
+            first,
+            last,
             stage: OpenStage::Count,
         }
     }
 
     // The step of the stage.
     pub(crate) fn step(&self, kept: &Invalidations) -> PartStep
-        requires gfn { IfSome self.now.gfn (λ g. g < 2 ^ 36) }
         requires few { kept.now.count < 2 ^ 32 }
-        ensures { result ≡ open_at self.now.stage self.now.gfn kept.now }
+        ensures { result ≡ open_at self.now.stage self.now.first self.now.last kept.now }
     {
-        let (start, end) = widened(self.gfn, kept);
+        let (start, end) = widened(self.first, self.last, kept);
         match self.stage {
             OpenStage::Count => PartStep::Count,
             OpenStage::RangeStart => PartStep::RangeStart,
             OpenStage::RangeEnd => PartStep::RangeEnd,
-            OpenStage::SetStart => PartStep::SetStart(start),
-            OpenStage::SetEnd => PartStep::SetEnd(end),
+            OpenStage::SetStart => PartStep::SetStart {
+                own: self.first,
+                gfn: start,
+            },
+            OpenStage::SetEnd => PartStep::SetEnd {
+                own: self.last,
+                gfn: end,
+            },
             OpenStage::SetCount => PartStep::SetCount(kept.count + 1),
         }
     }
@@ -91,7 +97,7 @@ impl Open {
     // Goes on after the step of its stage, where so many are open.
     pub(crate) fn go_on(&mut self, count: u64) -> Turn<()>
         ensures answers { result ≡ open_turn self.old.stage }
-        ensures goes_on { self.new ≡ record { gfn = self.old.gfn; stage = open_after self.old.stage count } }
+        ensures goes_on { self.new ≡ record { first = self.old.first; last = self.old.last; stage = open_after self.old.stage count } }
         ensures nearer { result ≡ More → opens_left self.new.stage < opens_left self.old.stage }
     {
         self.stage = match self.stage {
@@ -107,19 +113,18 @@ impl Open {
     }
 
     /// Loads or stores the next word: the count, the range where some are open, and then
-    /// the range with the guest frame in it and the count raised by one. `Done` once the
+    /// the range with the guest frames in it and the count raised by one. `Done` once the
     /// count is stored: the actor's own invalidation is open then. It never waits and takes
     /// no memory.
     pub fn turn<S: Stepper>(&mut self, s: &mut S, note: u64) -> Turn<()>
         requires may { MayMake (open_step self.old (S.seat s.old).hand.topics) note (S.seat s.old).hand }
         requires reserved { 0 < (S.seat s.old).room }
         requires alone { (S.seat s.old).hand.topics.hold ≡ Exclusive }
-        requires gfn { IfSome self.old.gfn (λ g. g < 2 ^ 36) }
         ensures step { MakesPart (open_step self.old (S.seat s.old).hand.topics) note (S.seat s.old) (S.seat s.new) }
-        ensures opens { Opens self.old.stage self.old.gfn (S.seat s.old).hand.topics (S.seat s.new).hand.topics }
+        ensures opens { Opens self.old.stage self.old.first self.old.last (S.seat s.old).hand.topics (S.seat s.new).hand.topics }
         ensures word { KeepsWord (open_word self.old.stage) (open_step self.old (S.seat s.old).hand.topics) note (S.seat s.old) (S.seat s.new) }
         ensures answers { result ≡ open_turn self.old.stage }
-        ensures goes_on { self.new ≡ record { gfn = self.old.gfn; stage = open_after self.old.stage (S.seat s.new).hand.topics.invalidations.count } }
+        ensures goes_on { self.new ≡ record { first = self.old.first; last = self.old.last; stage = open_after self.old.stage (S.seat s.new).hand.topics.invalidations.count } }
         ensures nearer { result ≡ More → opens_left self.new.stage < opens_left self.old.stage }
         ensures room { KeepsRoom (S.seat s.old) (S.seat s.new) }
         ensures same { ((S.seat s.new).actor ≡ (S.seat s.old).actor) × (S.frame s.new ≡ S.frame s.old) }

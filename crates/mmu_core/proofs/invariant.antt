@@ -6,4 +6,5 @@ pub mod PartKept
 pub mod PartRested
 pub mod QuietKept
 pub mod RestsKept
+pub mod TargetStays
 pub mod QuietHand

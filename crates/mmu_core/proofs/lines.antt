@@ -33,10 +33,16 @@ pub mod EitherPlace
 pub mod FillMade
 pub mod LockHeld
 pub mod StepTopics
+pub mod InvalidatePlaces
 pub mod InvalidateNeeds
 pub mod AloneKnown
 pub mod SearchKnown
 pub mod SweepKnown
+pub mod SweepFalls
+pub mod SweepSpans
+pub mod SweepWalks
+pub mod SweptSteps
+pub mod SweptBounds
 pub mod InvalidateKnown
 pub mod HostPlaces
 pub mod HostMoves

@@ -6,6 +6,9 @@ pub mod FramesKept
 pub mod FramesTurn
 pub mod LeavesOver
 pub mod LoadedKept
+pub mod NoneBelow
+pub mod SweptEntries
+pub mod SweptKept
 pub mod ZappedKept
 pub mod OwnedBehind
 pub mod PoolKept

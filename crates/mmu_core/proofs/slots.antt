@@ -4,8 +4,12 @@ pub mod LiveStay
 pub mod LiveStays
 pub mod SetFilled
 pub mod SetPublished
+pub mod MadeWay
 pub mod SlotChangeKept
 pub mod SlotChangeKnown
+pub mod SlotChangeMakes
+pub mod SlotChangeNeeds
+pub mod SlotChangeRetires
 pub mod SlotChangePlaces
 pub mod SlotsStay
 pub mod SlotChangeClaims

@@ -3,6 +3,7 @@ pub mod AccessSteps
 pub mod FaultLeft
 pub mod FaultSteps
 pub mod SlotChangeSteps
+pub mod SlotChangeLeft
 pub mod InvalidateSteps
 pub mod HostSteps
 pub mod PartAt

@@ -22,7 +22,7 @@ use crate::watch::{WatchNext, looked_at, watch_next};
 use core_views::{
     Answer, BeginPlace, Command, EndPlace, Hand, HostChange, HostPlace, Place, Refusal, Topics,
 };
-use part_steps::{PartStep, Task, frame_owned, part_task, word_looked, words_moved};
+use part_steps::{PartStep, Target, Task, frame_owned, part_task, word_looked, words_moved};
 use spte_words::HostWord;
 
 // The host word that the change puts in place of another one, where this frame is owned.
@@ -97,7 +97,7 @@ pub(crate) fn part(place: HostPlace, page: u64, change: HostChange, hand: &Hand)
         HostPlace::Look { .. } if hand.progress().owns(page) => PartStep::Host(page),
         HostPlace::Look { .. } => PartStep::Seq,
         HostPlace::Claim { begun } => claim_part(FreeMap::Frames, begun, &topics.frames.claim),
-        HostPlace::Begin(place) => begin_part(place, page, topics),
+        HostPlace::Begin(place) => begin_part(place, &Target::Page(page), topics),
         HostPlace::Copy => PartStep::Copy(word_to_copy(hand)),
         HostPlace::Store => PartStep::Store(word_to_store(hand)),
         HostPlace::Change => PartStep::Change(word_put(change, topics)),
@@ -210,7 +210,10 @@ pub(crate) fn outcome(
             return after_frame_claim(next);
         }
         HostPlace::Begin(place) => {
-            after_begin(moves(topics), begin_next(place, sizes, page, topics, found))
+            after_begin(
+                moves(topics),
+                begin_next(place, sizes, &Target::Page(page), topics, found),
+            )
         }
         HostPlace::Copy => HostPlace::Store,
         HostPlace::Store if words_moved(frames.owned) + 1 < sizes.words => HostPlace::Copy,

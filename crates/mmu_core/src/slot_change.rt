@@ -5,20 +5,24 @@ ghost use Rattle.core_views.specs.SlotCommands.{change_refusal, changes_slot};
 ghost use Rattle.core_views.specs.Traces.{IsCommandFor};
 ghost use Rattle.part_steps.specs.PartBounds.{PartRests};
 ghost use Rattle.part_steps.specs.PartSteps.{PartNeeds};
-ghost use Rattle.mmu_core.specs.lines.SlotChangeKnows.{RecordAccepts};
+ghost use Rattle.mmu_core.specs.lines.SlotChangeKnows.{RecordAccepts, SlotChangeRests};
 ghost use Rattle.mmu_core.specs.lines.Rests.{Rests};
-ghost use Rattle.mmu_core.specs.lines.SlotChangeSteps.{after_set_claim, after_watch, slot_change_first, slot_change_note, slot_change_outcome};
-ghost use Rattle.mmu_core.specs.lines.SlotChangeSteps.{slot_change_part, slot_change_records, slot_change_task};
+ghost use Rattle.mmu_core.specs.lines.SlotChangeSteps.{after_role, after_set_begin, after_set_claim, after_set_end, after_watch, slot_change_first};
+ghost use Rattle.mmu_core.specs.lines.SlotChangeSteps.{slot_change_note, slot_change_outcome, slot_change_part, slot_change_records, slot_change_task, slot_target};
 ghost use Rattle.mmu_core.specs.machine.Steps.{next_line, place_at};
 ghost use Rattle.part_steps.specs.Tasks.{map_of};
 ghost use Rattle.mmu_core.specs.machine.Turns.{line_of};
 ghost use Rattle.spte_words.specs.Areas.{size_of};
 
 use crate::claim::{ClaimNext, FreeMap, claim_next, claim_part, loads_last_word};
+use crate::invalidate::{BeginNext, EndNext, begin_next, begin_part, end_next, end_part};
 use crate::outcome::Outcome;
+use crate::waits::own_open;
 use crate::watch::{WatchNext, looked_at, watch_next};
-use core_views::{Answer, Command, Hand, Place, Sizes, SlotChangePlace, SlotSet};
-use part_steps::{PartStep, SLOT_SET_ROLE, Task, in_section, part_task, set_word, words_filled};
+use core_views::{
+    Answer, BeginPlace, Command, EndPlace, Hand, Place, Sizes, Slot, SlotChangePlace, SlotSet,
+};
+use part_steps::{PartStep, SLOT_SET_ROLE, Target, Task, part_task, set_word, words_filled};
 
 /// How many words of a slot set's page are filled.
 const WORDS: u64 = 512;
@@ -33,9 +37,25 @@ pub(crate) fn first(sizes: &Sizes, slots: &SlotSet, command: &Command) -> SlotCh
     }
 }
 
+// What the line invalidates: the slot that it moves.
+fn target(hand: &Hand, command: &Command) -> Target
+    ensures { result ≡ slot_target hand.now.core command.now }
+{
+    Target::Slot(
+        hand.slots().moved(command).unwrap_or(Slot {
+            base: 0,
+            pages: 0,
+            host: 0,
+            read_only: false,
+        }),
+    )
+}
+
 /// The step of this place.
 pub(crate) fn part(place: SlotChangePlace, hand: &Hand, command: &Command) -> PartStep
     requires part { PartRests hand.now.core }
+    requires needs { PartNeeds (slot_change_part place hand.now.core command.now) hand.now.core }
+    requires rests { SlotChangeRests place command.now hand.now.core }
     ensures { result ≡ slot_change_part place hand.now.core command.now }
 {
     let topics = hand.topics();
@@ -46,10 +66,12 @@ pub(crate) fn part(place: SlotChangePlace, hand: &Hand, command: &Command) -> Pa
             PartStep::Fill(set_word(hand.slots(), command, words_filled(topics.owned)))
         }
         SlotChangePlace::Role => PartStep::Role(SLOT_SET_ROLE),
+        SlotChangePlace::Begin(place) => begin_part(place, &target(hand, command), topics),
         SlotChangePlace::Exclude => PartStep::Exclude,
         SlotChangePlace::Count => PartStep::Count,
         SlotChangePlace::Close | SlotChangePlace::Release => PartStep::Release,
         SlotChangePlace::Publish => PartStep::Publish,
+        SlotChangePlace::End(place) => end_part(place, topics),
         SlotChangePlace::Watch => PartStep::Watch(looked_at(hand)),
         SlotChangePlace::Clear => PartStep::Clear,
         SlotChangePlace::Give => PartStep::GiveOld,
@@ -80,6 +102,7 @@ pub fn note(place: SlotChangePlace, hand: &Hand) -> u64
 pub(crate) fn task(place: SlotChangePlace, hand: &Hand, command: &Command) -> Task
     requires part { PartRests hand.now.core }
     requires needs { PartNeeds (slot_change_part place hand.now.core command.now) hand.now.core }
+    requires rests { SlotChangeRests place command.now hand.now.core }
     ensures task { result ≡ slot_change_task place hand.now.core command.now }
     ensures within { result.index < size_of (map_of hand.now.core.state.sizes) result.area }
 {
@@ -110,6 +133,36 @@ fn after_set_claim(next: ClaimNext) -> Outcome
     }
 }
 
+// After the new set is filled.
+fn after_role(moved: Option<Slot>) -> SlotChangePlace
+    ensures { result ≡ after_role moved }
+{
+    match moved {
+        Some(_) => SlotChangePlace::Begin(BeginPlace::Exclude),
+        None => SlotChangePlace::Exclude,
+    }
+}
+
+// After a step of the invalidation's begin.
+fn after_set_begin(next: BeginNext) -> SlotChangePlace
+    ensures { result ≡ after_set_begin next }
+{
+    match next {
+        BeginNext::Goes(place) => SlotChangePlace::Begin(place),
+        BeginNext::Begun => SlotChangePlace::Exclude,
+    }
+}
+
+// After a step of its end.
+fn after_set_end(next: EndNext) -> SlotChangePlace
+    ensures { result ≡ after_set_end next }
+{
+    match next {
+        EndNext::Goes(place) => SlotChangePlace::End(place),
+        EndNext::Ended => SlotChangePlace::Watch,
+    }
+}
+
 // After a look of its watch.
 fn after_watch(next: WatchNext) -> SlotChangePlace
     ensures { result ≡ after_watch next }
@@ -121,26 +174,38 @@ fn after_watch(next: WatchNext) -> SlotChangePlace
 }
 
 /// Where the line stands after the step of this place, which answered `found`.
-pub(crate) fn outcome(place: SlotChangePlace, hand: &Hand, found: u64) -> Outcome
-    requires rests { PartRests hand.now.core }
-    ensures { result ≡ slot_change_outcome place hand.now.core found }
+pub(crate) fn outcome(place: SlotChangePlace, command: &Command, hand: &Hand, found: u64) -> Outcome
+    requires part { PartRests hand.now.core }
+    requires needs { PartNeeds (slot_change_part place hand.now.core command.now) hand.now.core }
+    ensures { result ≡ slot_change_outcome place command.now hand.now.core found }
 {
     let topics = hand.topics();
+    let sizes = &hand.progress().sizes;
     Outcome::Goes(Place::SlotChange(match place {
         SlotChangePlace::Refuse(refusal) => return Outcome::Ends(Answer::Refused(refusal)),
         SlotChangePlace::Claim { begun } => {
-            let sizes = &hand.progress().sizes;
             return after_set_claim(claim_next(FreeMap::Pages, begun, sizes, &topics.claim, found));
         }
         SlotChangePlace::Fill if words_filled(topics.owned) + 1 < WORDS => SlotChangePlace::Fill,
         SlotChangePlace::Fill => SlotChangePlace::Role,
-        SlotChangePlace::Role | SlotChangePlace::Close => SlotChangePlace::Exclude,
+        SlotChangePlace::Role => after_role(hand.slots().moved(command)),
+        SlotChangePlace::Begin(place) => {
+            let target = target(hand, command);
+            after_set_begin(begin_next(place, sizes, &target, topics, found))
+        }
+        SlotChangePlace::Close => SlotChangePlace::Exclude,
         SlotChangePlace::Exclude if found == 0 => SlotChangePlace::Count,
         SlotChangePlace::Exclude => SlotChangePlace::Exclude,
-        SlotChangePlace::Count if found == 0 => SlotChangePlace::Publish,
+        SlotChangePlace::Count if found == own_open(&topics.invalidations) => {
+            SlotChangePlace::Publish
+        }
         SlotChangePlace::Count => SlotChangePlace::Close,
         SlotChangePlace::Publish => SlotChangePlace::Release,
+        SlotChangePlace::Release if topics.invalidations.opened => {
+            SlotChangePlace::End(EndPlace::Exclude)
+        }
         SlotChangePlace::Release => SlotChangePlace::Watch,
+        SlotChangePlace::End(place) => after_set_end(end_next(place, found)),
         SlotChangePlace::Watch => after_watch(watch_next(hand, found)),
         SlotChangePlace::Clear => SlotChangePlace::Give,
         SlotChangePlace::Give => return Outcome::Ends(Answer::Done),

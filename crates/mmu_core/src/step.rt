@@ -160,7 +160,9 @@ fn outcome(
         (Place::Access(place), Command::Access { gfn, op, .. }) => {
             access::outcome(place, hand, *gfn, *op, found)
         }
-        (Place::SlotChange(place), _) => { (slot_change::outcome(place, hand, found), None) }
+        (Place::SlotChange(place), command) => {
+            (slot_change::outcome(place, command, hand, found), None)
+        }
         (Place::Host(place), Command::ChangeHost { page, change }) => {
             (host::outcome(place, *page, *change, hand, found), None)
         }

@@ -1,7 +1,7 @@
 //! Which steps wait for another actor.
 ghost use Rattle.std.specs.Prelude.{◌≡◌, ◌<◌, Some};
 ghost use Rattle.mmu_core.specs.lines.Delays.{line_waits, waits_by};
-ghost use Rattle.mmu_core.specs.lines.PartWaits.{part_waits, saw_open};
+ghost use Rattle.mmu_core.specs.lines.PartWaits.{own_open, part_waits, saw_open};
 ghost use Rattle.mmu_core.specs.lines.Forms.{RestsAt};
 ghost use Rattle.part_steps.specs.declared.part_step.PartStep.TheVariants.{Claim, Frame};
 ghost use Rattle.part_steps.specs.PartBounds.{PartRests};
@@ -10,12 +10,18 @@ use crate::step::part_of;
 use core_views::{Checked, Command, Hand, Hold, Invalidations, Place, Topics};
 use part_steps::{PartStep, has_to_flush, in_section, is_won};
 
+// How many are open of the actor's own.
+pub(crate) fn own_open(invalidations: &Invalidations) -> u64
+    ensures { result ≡ own_open invalidations.now }
+{
+    if invalidations.opened { 1 } else { 0 }
+}
+
 // It saw that others are open.
 fn saw_open(invalidations: &Invalidations) -> bool
     ensures { result ≡ saw_open invalidations.now }
 {
-    let own = if invalidations.opened { 1 } else { 0 };
-    invalidations.checked == Checked::Count && own < invalidations.count
+    invalidations.checked == Checked::Count && own_open(invalidations) < invalidations.count
 }
 
 /// The step waits for another actor: it takes back the try for the lock that

@@ -14,8 +14,10 @@ use Rattle.core_views.specs.Held.{Held}
 use Rattle.core_views.specs.Kinds.{kind_named}
 use Rattle.spte_words.specs.HostWords.{host_frame}
 use Rattle.part_steps.specs.PartBounds.{PartRests}
-use Rattle.part_steps.specs.PartTasks.{word_looked}
+use Rattle.part_steps.specs.InvalidationHoldings.{MaySweep}
+use Rattle.part_steps.specs.PartTasks.{table_page, word_looked}
 use Rattle.part_steps.specs.PartHoldings.{LookedUp}
+use Rattle.part_steps.specs.SweepTopics.{gone_up, walk_on}
 use Rattle.part_steps.specs.WalkTopics.{is_in_table, still_owned, swapped, walked}
 use Rattle.part_steps.specs.TopicSteps.{index_in_page, topics_after, topics_by}
 
@@ -27,17 +29,17 @@ no_table_if walk below = grind (arith, nat_tests)
 
 -- An entry is loaded: the walk goes on where it has come to a table.
 pub entry_loaded : (z : Sizes) (k : Kind) (t : Topics) (found : ℕ) (walk : TableWalk) (i : ℕ) → kind_named k.code ≡ kind.Walk → 1 ≤ t.walk.level
-    → i ≡ index_in_page z k.word → walk ≡ walked t.walk i found → record t { walk = walk } ≡ topics_after z k t found
+    → i ≡ index_in_page z k.word → walk ≡ walked (walk_on t) i found → record t { walk = walk } ≡ topics_after z k t found
 unfolding topics_after
 entry_loaded z k t found walk i named from at is =
-    ap (λ (x : TableWalk). record t { walk = x }) (is ∙ ap (λ j. walked t.walk j found) at)
-    ∙ sym (ap (λ (b : Bool). record t { walk = if b then walked t.walk (index_in_page z k.word) found else t.walk }) (table_if t.walk from))
+    ap (λ (x : TableWalk). record t { walk = x }) (is ∙ ap (λ j. walked (walk_on t) j found) at)
+    ∙ sym (ap (λ (b : Bool). record t { walk = if b then walked (walk_on t) (index_in_page z k.word) found else t.walk }) (table_if t.walk from))
     ∙ sym (ap (λ (n : StepKind). topics_by n z k t found) named)
 
 pub entry_not_loaded : (z : Sizes) (k : Kind) (t : Topics) (found : ℕ) → kind_named k.code ≡ kind.Walk → t.walk.level < 1 → t ≡ topics_after z k t found
 unfolding topics_after
 entry_not_loaded z k t found named below =
-    sym (ap (λ (b : Bool). record t { walk = if b then walked t.walk (index_in_page z k.word) found else t.walk }) (no_table_if t.walk below))
+    sym (ap (λ (b : Bool). record t { walk = if b then walked (walk_on t) (index_in_page z k.word) found else t.walk }) (no_table_if t.walk below))
     ∙ sym (ap (λ (n : StepKind). topics_by n z k t found) named)
 
 -- An entry is exchanged.
@@ -64,12 +66,18 @@ entry_not_exchanged z k t found named below =
     }) (no_table_if t.walk below))
     ∙ sym (ap (λ (n : StepKind). topics_by n z k t found) named)
 
+-- The table from which a sweep goes on is a page of the pool.
+pub swept_page : (h : Held) (t : Topics) (walk : TableWalk) (gfn : ℕ) → t ≡ h.topics → walk ≡ gone_up t.walk → MaySweep gfn h.topics → PartRests h
+    → table_page walk < h.state.sizes.pool
+swept_page h t walk gfn same up may R =
+    subst (λ (x : TableWalk). table_page x < h.state.sizes.pool) (sym (up ∙ ap (λ (x : Topics). gone_up x.walk) same)) (R.above may.there)
+
 -- The host word that was looked up is of this page.
 pub looked_at : (host : Option HostLook) (look : HostLook) (page : ℕ) → host ≡ Some look → look.page ≡ page
     → (word : ℕ) × (host ≡ Some (record { page = page; word = word }))
 looked_at host look page is same = (look.word, is ∙ ap Some (λ t. record { page = same t; word = look.word }))
 
--- Its frame is one of the machine's.
+-- The frame of the host word that was looked up is one of the machine's.
 pub looked_frame : {gfn : ℕ} (h : Held) (t : Topics) → t ≡ h.topics → LookedUp gfn h.topics → PartRests h → host_frame (word_looked t.host) < 2 ^ 40
 looked_frame h t same U R =
     let looked = R.looked _ U.host in

@@ -1,5 +1,5 @@
 -- What words of the machine tell an actor: the lock's, a state word, the pool's map, the root, the published set, the invalidations'.
-use Rattle.std.specs.Prelude.{◌+◌, ◌-◌, ℕ, Bool, true, false, ◌==◌, ◌&&◌, ◌||◌, nat_lt, not, if◌then◌else◌, Some, None}
+use Rattle.std.specs.Prelude.{◌+◌, ◌-◌, ℕ, Bool, true, false, ◌==◌, ◌&&◌, ◌||◌, nat_lt, not, if◌then◌else◌, Option, Some, None}
 use Rattle.core_views.specs.declared.place.SlotField.TheVariants as field
 use Rattle.core_views.specs.declared.sizes.Sizes.{Sizes}
 use Rattle.core_views.specs.declared.topics.Checked.{Checked}
@@ -77,17 +77,25 @@ checked_stored word c =
     if is_word_of area.RangeEnd word then end_known c else
     c
 
--- A word of the invalidations was stored: with the range's start the actor's own one is of these frames, where it is their count, its own is open from
--- then on if it rose, and the sequence number is raised for its own. What was loaded of count and sequence number before either is stored is known no more.
-abbrev pub stored : ℕ → Invalidated → Invalidations → ℕ → Invalidations
-stored word own n v = record n {
+-- What an actor's own invalidation is of, after a store of an end of the range with this end of its own: from the start on of this host page, if it is of one.
+abbrev pub own_stored : ℕ → ℕ → Option ℕ → Invalidated → Invalidated
+own_stored word bound page own = record {
+  page = if is_word_of area.RangeStart word then page else own.page;
+  start = if is_word_of area.RangeStart word then bound else own.start;
+  end = if is_word_of area.RangeEnd word then bound else own.end;
+}
+
+-- A word of the invalidations was stored: where it is their count, the actor's own is open from then on if it rose, and the sequence number is raised for its
+-- own. What was loaded of count and sequence number before either is stored is known no more.
+abbrev pub stored : ℕ → ℕ → Option ℕ → Invalidations → ℕ → Invalidations
+stored word bound page n v = record n {
   count = if is_word_of area.Count word then v else n.count;
   start = if is_word_of area.RangeStart word then v else n.start;
   end = if is_word_of area.RangeEnd word then v else n.end;
   seq = if is_word_of area.Seq word then v else n.seq;
   checked = checked_stored word n.checked;
   opened = if is_word_of area.Count word then nat_lt n.count v else n.opened;
-  own = if is_word_of area.RangeStart word then own else n.own;
+  own = own_stored word bound page n.own;
   raised = if is_word_of area.Count word then false else if is_word_of area.Seq word then true else n.raised;
 }
 

@@ -1,6 +1,6 @@
 -- What a hand holds that a step of an invalidation needs, and the change of a host page within one (kvm_main.c, kvm_mmu_invalidate_begin and
 -- kvm_mmu_invalidate_end).
-use Rattle.std.specs.Prelude.{◌≡◌, ◌+◌, ◌-◌, ◌<◌, ◌≤◌, ℕ, Bool, true, false, ◌==◌, nat_lt, if◌then◌else◌, is_some}
+use Rattle.std.specs.Prelude.{◌≡◌, ◌+◌, ◌-◌, ◌<◌, ◌≤◌, ℕ, Bool, true, false, ◌==◌, nat_lt, if◌then◌else◌, is_some, Some}
 use Rattle.core_views.specs.declared.topics.Checked.{Checked}
 use Rattle.core_views.specs.declared.topics.Checked.TheVariants as checked
 use Rattle.core_views.specs.declared.topics.Hold.TheVariants.{Exclusive}
@@ -10,13 +10,15 @@ use Rattle.core_views.specs.declared.topics.TableWalk.{TableWalk}
 use Rattle.core_views.specs.declared.topics.Topics.{Topics}
 use Rattle.core_views.specs.Held.{Held}
 use Rattle.core_views.specs.HostChanges.{is_own}
-use Rattle.spte_words.specs.declared.spte_kind.SpteKind.{SpteKind}
-use Rattle.spte_words.specs.declared.spte_kind.SpteKind.TheVariants.{Absent, Frozen, Leaf, Table}
+use Rattle.spte_words.specs.declared.spte_kind.SpteKind.TheVariants.{Leaf}
 use Rattle.spte_words.specs.Entries.{kind_of}
-use Rattle.part_steps.specs.InvalidationRange.{has_searched, invalidated, is_within_range, page_looked, range_end, range_start}
+use Rattle.part_steps.specs.declared.invalidations.Target.{Target}
+use Rattle.part_steps.specs.InvalidationRange.{IsAimed, has_searched, invalidated_by, is_within_range, page_looked, page_of_target, range_end, range_start}
+use Rattle.part_steps.specs.InvalidationRange.{target_end, target_start}
 use Rattle.part_steps.specs.FrameTopics.{is_uncopied}
-use Rattle.part_steps.specs.PartHoldings.{HoldsSet, SawEntry}
+use Rattle.part_steps.specs.PartHoldings.{HoldsSet, IsOver, SawEntry}
 use Rattle.part_steps.specs.StayTopics.{no_flush}
+use Rattle.part_steps.specs.SweepTopics.{gone_up, is_clear, swept_to}
 
 -- ---- what was loaded of their words
 
@@ -40,35 +42,43 @@ has_widened _ count = false
 
 -- ---- the begin
 
--- An actor may open an invalidation of its own: it has the lock alone, outside of every section, has none open, and has searched the slots for the host page
--- that it looked at.
-pub record IsOpening (t : Topics) : Type 0 where
+-- An actor may open an invalidation of its own: it has the lock alone, outside of every section, has none open, and has searched the slots for what it is to
+-- invalidate.
+pub record IsOpening (target : Target) (t : Topics) : Type 0 where
   pub alone : t.hold ≡ Exclusive
   pub outside : t.stay ≡ Outside
   pub closed : t.invalidations.opened ≡ false
   pub holds_set : HoldsSet t
-  pub searched : has_searched (page_looked t.host) t.search ≡ true
+  pub aimed : IsAimed target t
+  pub searched : has_searched target t.search ≡ true
 
--- The start of the range may be stored: the range is the one of the open invalidations, with the frame of the host page.
-pub record MaySetStart (gfn : ℕ) (t : Topics) : Type 0 where
-  pub opening : IsOpening t
+-- The start of the range may be stored: the range is the one of the open invalidations, with the target's frames.
+pub record MaySetStart (first gfn : ℕ) (t : Topics) : Type 0 where
+  pub target : Target
+  pub opening : IsOpening target t
   pub counted : has_counted t.invalidations.checked t.invalidations.count ≡ true
-  pub is : gfn ≡ range_start (page_looked t.host) t
+  pub own_ : first ≡ target_start target t.search
+  pub is : gfn ≡ range_start target t
 
 -- And then its end.
-pub record MaySetEnd (gfn : ℕ) (t : Topics) : Type 0 where
-  pub opening : IsOpening t
+pub record MaySetEnd (last gfn : ℕ) (t : Topics) : Type 0 where
+  pub target : Target
+  pub opening : IsOpening target t
   pub widened : has_widened t.invalidations.checked t.invalidations.count ≡ true
-  pub own_ : t.invalidations.own ≡ invalidated t
-  pub is : gfn ≡ range_end (page_looked t.host) t
+  pub page : t.invalidations.own.page ≡ page_of_target target
+  pub start : t.invalidations.own.start ≡ target_start target t.search
+  pub own_ : last ≡ target_end target t.search
+  pub is : gfn ≡ range_end target t
 
--- One more may be counted with the actor's own: the range that is stored has its frame, no virtual processor was asked for a flush yet, and no word of a page
--- is copied.
+-- One more may be counted with the actor's own: the range that is stored has its frames, no table is held and no virtual processor was asked for a flush yet,
+-- and no word of a page is copied.
 pub record MayOpen (t : Topics) : Type 0 where
-  pub opening : IsOpening t
+  pub target : Target
+  pub opening : IsOpening target t
   pub known : t.invalidations.checked ≡ checked.Range
-  pub own_ : t.invalidations.own ≡ invalidated t
+  pub own_ : t.invalidations.own ≡ invalidated_by target t.search
   pub within : is_within_range t.invalidations.own t.invalidations ≡ true
+  pub no_table : t.walk.level ≡ 0
   pub unasked : t.flush ≡ no_flush
   pub uncopied : is_uncopied t.frames.owned ≡ true
 
@@ -82,21 +92,25 @@ pub record MayCount (count : ℕ) (t : Topics) : Type 0 where
   pub opens : t.invalidations.opened ≡ false → MayOpen t
   pub closes : t.invalidations.opened ≡ true → t.invalidations.raised ≡ true
 
--- The entry is a link or a leaf.
-abbrev pub leads_on : SpteKind → Bool
-leads_on (Table page) = true
-leads_on Leaf = true
-leads_on Absent = false
-leads_on Frozen = false
+-- The next entry of a sweep may be loaded, over the guest frame to which it has come: the lock is the actor's alone, its own invalidation is open, and what was
+-- loaded last leads nowhere, or nothing was loaded yet of the table.
+pub record MaySweep (gfn : ℕ) (t : Topics) : Type 0 where
+  pub alone : t.hold ≡ Exclusive
+  pub outside : t.stay ≡ Outside
+  pub opened : t.invalidations.opened ≡ true
+  pub there : 1 ≤ t.walk.level
+  pub clear : is_clear t.walk ≡ true
+  pub next : gfn ≡ swept_to t.invalidations.own.start t.walk
+  pub left : gfn < t.invalidations.own.end
+  pub over : IsOver gfn (gone_up t.walk)
 
--- The frame that an invalidation is of, if there is one, has an entry that was seen and leads nowhere.
-pub record SawNoLeaf (own : Invalidated) (walk : TableWalk) : Type 0 where
-  pub one : own.end ≡ own.start + 1
-  pub saw : SawEntry own.start walk
-  pub nowhere : leads_on (kind_of walk.level walk.entry) ≡ false
+-- A sweep has come to the end of the frames that an invalidation is of, if there are any.
+pub record HasSwept (own : Invalidated) (walk : TableWalk) : Type 0 where
+  pub there : 1 ≤ walk.level
+  pub all : own.end ≤ swept_to own.start walk
 
 abbrev pub IsSwept : Topics → Type 0
-IsSwept t = nat_lt t.invalidations.own.start t.invalidations.own.end ≡ true → SawNoLeaf t.invalidations.own t.walk
+IsSwept t = nat_lt t.invalidations.own.start t.invalidations.own.end ≡ true → HasSwept t.invalidations.own t.walk
 
 -- A leaf may be zapped that is of a frame of the actor's own open invalidation, where the lock is the actor's alone and the entry was seen.
 pub record MayZap (gfn : ℕ) (t : Topics) : Type 0 where
@@ -127,7 +141,7 @@ pub record MayChange (h : Held) : Type 0 where
   pub own_ : is_own h.state.sizes h.state.actor (page_looked h.topics.host) ≡ true
   pub opened : h.topics.invalidations.opened ≡ true
   pub unraised : h.topics.invalidations.raised ≡ false
-  pub invalid : h.topics.invalidations.own.page ≡ page_looked h.topics.host
+  pub invalid : h.topics.invalidations.own.page ≡ Some (page_looked h.topics.host)
   pub asked : h.state.sizes.vcpus ≤ h.topics.flush.asked
   pub awaited : h.state.sizes.vcpus ≤ h.topics.flush.awaited
 

@@ -3,6 +3,7 @@ pub mod SlotWords
 pub mod SetWords
 pub mod StayTopics
 pub mod WalkTopics
+pub mod SweepTopics
 pub mod PageTopics
 pub mod FrameTopics
 pub mod InvalidationRange

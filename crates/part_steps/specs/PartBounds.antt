@@ -16,6 +16,7 @@ use Rattle.spte_words.specs.HostWords.{host_frame}
 use Rattle.part_steps.specs.FrameTopics.{word_held, words_moved}
 use Rattle.part_steps.specs.PartTasks.{own_index, table_page}
 use Rattle.part_steps.specs.ControlBits.{has_writer}
+use Rattle.part_steps.specs.SweepTopics.{gone_up}
 
 -- Its leaf is one of a level that has leaves, 1 to 3.
 abbrev pub IsAtLeafLevel : Translation → Type 0
@@ -49,6 +50,7 @@ pub record PartRests (h : Held) : Type 0 where
   pub own_place : own_index h < actors_of h.state.sizes
   pub level : h.topics.walk.level ≤ 4
   pub table : 1 ≤ h.topics.walk.level → table_page h.topics.walk < h.state.sizes.pool
+  pub above : 1 ≤ h.topics.walk.level → table_page (gone_up h.topics.walk) < h.state.sizes.pool
   pub set : (k : ℕ) → h.topics.search.set ≡ Some k → k < h.state.sizes.pool
   pub page : (o : OwnedPage) → h.topics.owned ≡ Some o → o.page < h.state.sizes.pool
   pub left : (k : ℕ) → h.topics.retired ≡ Some k → k < h.state.sizes.pool

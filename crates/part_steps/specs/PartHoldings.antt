@@ -88,13 +88,18 @@ pub record OwnsSet (t : Topics) : Type 0 where
   pub whole : words_filled t.owned ≡ 513
   pub role : role_filled t.owned ≡ set_role
 
--- A slot set may be published: it is owned and filled whole, the actor has the lock alone, under which it has seen that no invalidation is
--- open, and no page is retired yet.
+-- how many invalidations are open of the actor's own
+abbrev pub own_open : Invalidations → ℕ
+own_open n = if n.opened then 1 else 0
+
+-- A slot set may be published: it is owned and filled whole, the actor has the lock alone, under which it has seen that no invalidation is open but its own,
+-- which is of no host page, and no page is retired yet.
 pub record MayPublish (t : Topics) : Type 0 where
   pub owns : OwnsSet t
   pub alone : t.hold ≡ Exclusive
   pub looked : t.invalidations.checked ≡ checked.Count
-  pub none_open : t.invalidations.count ≡ 0
+  pub none_open : t.invalidations.count ≡ own_open t.invalidations
+  pub of_no_page : t.invalidations.opened ≡ true → t.invalidations.own.page ≡ None
   pub none_retired : t.retired ≡ None
 
 -- A page is retired, one of the pool, and each other actor was watched since; the actor owns no page.

@@ -19,8 +19,9 @@ use Rattle.part_steps.specs.PartTasks.{own_index, page_owned, word_looked}
 use Rattle.part_steps.specs.FrameHoldings.{MayCopy, MayGiveFrame, MayStore, revises}
 use Rattle.part_steps.specs.PartHoldings.{next_watched, OwnsPage, HasToFill, HasRoleToSet, HoldsSet, IsOver, MayBring, OwnsTable, MayEnter}
 use Rattle.part_steps.specs.PartHoldings.{MayPublish, MayGiveOld}
-use Rattle.part_steps.specs.InvalidationHoldings.{MayAsk, MayChange, MayCount, MayEndInvalidation, MaySetEnd, MaySetStart, MayZap}
-use Rattle.part_steps.specs.InvalidationRange.{has_found, page_looked}
+use Rattle.part_steps.specs.InvalidationHoldings.{MayAsk, MayChange, MayCount, MayEndInvalidation, MaySetEnd, MaySetStart, MaySweep, MayZap}
+use Rattle.part_steps.specs.InvalidationRange.{has_found_looked}
+use Rattle.part_steps.specs.SweepTopics.{is_sweeping}
 use Rattle.part_steps.specs.StayTopics.{is_alone}
 
 abbrev pub IsVcpu : Actor → Type 0
@@ -46,8 +47,9 @@ needs_line (part.Leaf gfn) = true
 needs_line part.Publish = true
 needs_line part.Clear = true
 needs_line part.GiveOld = true
-needs_line (part.SetStart gfn) = true
-needs_line (part.SetEnd gfn) = true
+needs_line (part.Sweep gfn) = true
+needs_line (part.SetStart first gfn) = true
+needs_line (part.SetEnd last gfn) = true
 needs_line (part.SetCount count) = true
 needs_line (part.SetSeq seq) = true
 needs_line (part.Zap gfn) = true
@@ -77,16 +79,17 @@ PartNeeds (part.Map word) h = (h.topics.owned ≡ None) × (word < words_of_bits
 PartNeeds part.Claim h = (h.topics.owned ≡ None) × (0 < h.topics.claim.seen) × (h.topics.claim.at < words_of_bits h.state.sizes.pool)
 PartNeeds (part.Fill value) h = HasToFill h.topics × (value < 2 ^ 64) × (page_owned h.topics.owned < h.state.sizes.pool)
 PartNeeds (part.Role value) h = HasRoleToSet h.topics × (value < 2 ^ 64) × (page_owned h.topics.owned < h.state.sizes.pool)
-PartNeeds part.Give h = OwnsPage h.topics
+PartNeeds part.Give h = OwnsPage h.topics × (is_alone h.topics.hold ≡ false)
 PartNeeds part.Slots h = Unit {0}
 PartNeeds part.Slot h =
-    HoldsSet h.topics × (h.topics.search.id ≤ 31) × ((is_alone h.topics.hold && has_found (page_looked h.topics.host) h.topics.search) ≡ false)
+    HoldsSet h.topics × (h.topics.search.id ≤ 31) × ((is_alone h.topics.hold && has_found_looked h.topics) ≡ false)
 PartNeeds part.Seq h = Unit {0}
 PartNeeds part.Count h = Unit {0}
 PartNeeds part.RangeStart h = Unit {0}
 PartNeeds part.RangeEnd h = Unit {0}
 PartNeeds part.Root h = Unit {0}
-PartNeeds (part.Walk gfn) h = IsOver gfn h.topics.walk
+PartNeeds (part.Walk gfn) h = IsOver gfn h.topics.walk × (is_sweeping h.topics ≡ false)
+PartNeeds (part.Sweep gfn) h = MaySweep gfn h.topics
 PartNeeds (part.Link gfn) h =
     MayEnter gfn h.topics × (2 ≤ h.topics.walk.level) × (kind_of h.topics.walk.level h.topics.walk.entry ≡ entry_kind.Absent)
     × OwnsTable (h.topics.walk.level - 1) h.topics
@@ -98,8 +101,8 @@ PartNeeds (part.Watch index) h =
 PartNeeds part.Publish h = MayPublish h.topics
 PartNeeds part.Clear h = MayGiveOld h
 PartNeeds part.GiveOld h = MayGiveOld h
-PartNeeds (part.SetStart gfn) h = MaySetStart gfn h.topics × (gfn < 2 ^ 64)
-PartNeeds (part.SetEnd gfn) h = MaySetEnd gfn h.topics × (gfn < 2 ^ 64)
+PartNeeds (part.SetStart first gfn) h = MaySetStart first gfn h.topics × (first < 2 ^ 64) × (gfn < 2 ^ 64)
+PartNeeds (part.SetEnd last gfn) h = MaySetEnd last gfn h.topics × (last < 2 ^ 64) × (gfn < 2 ^ 64)
 PartNeeds (part.SetCount count) h = MayCount count h.topics
 PartNeeds (part.SetSeq seq) h = MayEndInvalidation h.topics × (seq ≡ h.topics.invalidations.seq + 1)
 PartNeeds (part.Zap gfn) h = MayZap gfn h.topics
@@ -119,5 +122,12 @@ pub record IsAtRest (t : Topics) : Type 0 where
   pub outside : t.stay ≡ Outside
   pub loose : t.hold ≡ Loose
   pub owns_none : t.owned ≡ None
+  pub no_table : t.walk.level ≡ 0
+  pub no_set : t.search.set ≡ None
+
+-- It holds nothing but, perhaps, a page.
+pub record IsFree (t : Topics) : Type 0 where
+  pub outside : t.stay ≡ Outside
+  pub loose : t.hold ≡ Loose
   pub no_table : t.walk.level ≡ 0
   pub no_set : t.search.set ≡ None

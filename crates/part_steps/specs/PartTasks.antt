@@ -24,6 +24,7 @@ use Rattle.part_steps.specs.Tasks.{kind_of_task, loads, map_of}
 use Rattle.part_steps.specs.FrameTopics.{frame_owned, word_held}
 use Rattle.part_steps.specs.PageTopics.{tried_bit}
 use Rattle.part_steps.specs.ControlBits.{guest_bits, request_bit, section_bit, writer}
+use Rattle.part_steps.specs.SweepTopics.{gone_up}
 
 -- the number that keeps all bits but these
 abbrev pub all_but : ℕ → ℕ
@@ -68,6 +69,10 @@ abbrev pub exchanges_host : StepKind → ℕ → Topics → ℕ → Task
 exchanges_host k new_ t note =
     record { kind = k; area = area.Host; index = page_looked t.host; expected = word_looked t.host; written = new_; may_end = note }
 
+-- a store of an end of the range of open invalidations, into which this end of the actor's own one went
+abbrev pub stores_bound : Area → ℕ → ℕ → ℕ → Task
+stores_bound a bound gfn note = record { kind = kind.Set; area = a; index = 0; expected = bound; written = gfn; may_end = note }
+
 -- what the step does for the actor at a place, that holds these topics
 abbrev pub part_task : PartStep → ℕ → Topics → ℕ → Task
 part_task part.Enter own t note = works kind.Enter area.State own guest_bits note
@@ -92,6 +97,8 @@ part_task part.RangeStart own t note = loads kind.Control area.RangeStart 0 note
 part_task part.RangeEnd own t note = loads kind.Control area.RangeEnd 0 note
 part_task part.Root own t note = loads kind.Control area.Root 0 note
 part_task (part.Walk gfn) own t note = loads kind.Walk area.Pool (pool_index (table_page t.walk) (entry_index gfn t.walk.level)) note
+part_task (part.Sweep gfn) own t note =
+    loads kind.Walk area.Pool (pool_index (table_page (gone_up t.walk)) (entry_index gfn (gone_up t.walk).level)) note
 part_task (part.Link gfn) own t note = entry_task gfn (link_written t) t.walk note
 part_task (part.Leaf gfn) own t note = entry_task gfn (leaf_written t) t.walk note
 part_task (part.Host page) own t note = loads kind.Host area.Host page note
@@ -99,8 +106,8 @@ part_task (part.Watch index) own t note = loads kind.Watch area.State index note
 part_task part.Publish own t note = works kind.Publish area.Slots 0 (page_owned t.owned) note
 part_task part.Clear own t note = works kind.Fill area.Role (page_retired t.retired) 0 note
 part_task part.GiveOld own t note = works kind.Give area.PoolMap (page_retired t.retired / 64) (2 ^ (page_retired t.retired % 64)) note
-part_task (part.SetStart gfn) own t note = works kind.Set area.RangeStart 0 gfn note
-part_task (part.SetEnd gfn) own t note = works kind.Set area.RangeEnd 0 gfn note
+part_task (part.SetStart first gfn) own t note = stores_bound area.RangeStart first gfn note
+part_task (part.SetEnd last gfn) own t note = stores_bound area.RangeEnd last gfn note
 part_task (part.SetCount count) own t note = works kind.Set area.Count 0 count note
 part_task (part.SetSeq seq) own t note = works kind.Set area.Seq 0 seq note
 part_task (part.Zap gfn) own t note = works kind.Zap area.Pool (pool_index (table_page t.walk) (entry_index gfn t.walk.level)) 0 note

@@ -8,9 +8,10 @@ use Rattle.part_steps.specs.declared.part_step.PartStep.{PartStep}
 use Rattle.part_steps.specs.declared.part_step.PartStep.TheVariants as part
 use Rattle.spte_words.specs.HostWords.{host_frame, with_presence}
 use Rattle.part_steps.specs.FrameTopics.{frame_after, frame_given, frame_tried, word_copied, word_stored}
-use Rattle.part_steps.specs.InvalidationRange.{invalidated}
+use Rattle.part_steps.specs.InvalidationRange.{page_aimed}
 use Rattle.part_steps.specs.PartTasks.{entry_index, leaf_written, link_written, page_looked, word_looked}
 use Rattle.part_steps.specs.StayTopics.{begun, flush_kept, has_lock, is_loose, kept_search, let_go, may_search, may_walk, unchecked}
+use Rattle.part_steps.specs.SweepTopics.{gone_up}
 use Rattle.part_steps.specs.WalkTopics.{gone_down, still_owned, swapped, walked}
 use Rattle.part_steps.specs.PageTopics.{claimed, filled_more, given_back, published, searched, tried}
 use Rattle.part_steps.specs.ControlTopics.{at_root, at_set, count_checked, end_known, range_checked}
@@ -70,6 +71,7 @@ part_topics part.RangeStart t v = record t { invalidations = record t.invalidati
 part_topics part.RangeEnd t v = record t { invalidations = record t.invalidations { end = v; checked = range_checked t.invalidations.checked } }
 part_topics part.Root t v = record t { walk = at_root (may_walk t.stay t.hold) t.walk v }
 part_topics (part.Walk gfn) t v = record t { walk = walked t.walk (entry_index gfn t.walk.level) v }
+part_topics (part.Sweep gfn) t v = record t { walk = walked (gone_up t.walk) (entry_index gfn (gone_up t.walk).level) v }
 part_topics (part.Link gfn) t v = exchanged (v == t.walk.entry) (entry_index gfn t.walk.level) (link_written t) t v
 part_topics (part.Leaf gfn) t v = exchanged (v == t.walk.entry) (entry_index gfn t.walk.level) (leaf_written t) t v
 part_topics (part.Host page) t v = record t { host = Some (record { page = page; word = v }) }
@@ -77,9 +79,22 @@ part_topics (part.Watch index) t v = record t { watched = index + (if in_section
 part_topics part.Publish t v = published t v
 part_topics part.Clear t v = record t { owned = filled_more t.owned v }
 part_topics part.GiveOld t v = given_back t
-part_topics (part.SetStart gfn) t v =
-    record t { invalidations = record t.invalidations { start = v; checked = start_known t.invalidations.checked; own = invalidated t } }
-part_topics (part.SetEnd gfn) t v = record t { invalidations = record t.invalidations { end = v; checked = end_known t.invalidations.checked } }
+part_topics (part.SetStart first gfn) t v =
+    record t {
+      invalidations = record t.invalidations {
+        start = v;
+        checked = start_known t.invalidations.checked;
+        own = record { page = page_aimed t; start = first; end = t.invalidations.own.end };
+      };
+    }
+part_topics (part.SetEnd last gfn) t v =
+    record t {
+      invalidations = record t.invalidations {
+        end = v;
+        checked = end_known t.invalidations.checked;
+        own = record t.invalidations.own { end = last };
+      };
+    }
 part_topics (part.SetCount count) t v =
     record t { invalidations = record t.invalidations { count = v; checked = checked.Nothing; opened = nat_lt t.invalidations.count v; raised = false } }
 part_topics (part.SetSeq seq) t v = record t { invalidations = record t.invalidations { seq = v; checked = checked.Nothing; raised = true } }

@@ -13,7 +13,8 @@ use Rattle.spte_words.specs.declared.area.Area.TheVariants as area
 use Rattle.spte_words.specs.Areas.{number_of, place}
 use Rattle.spte_words.specs.HostWords.{host_frame}
 use Rattle.part_steps.specs.Tasks.{map_of}
-use Rattle.part_steps.specs.InvalidationRange.{invalidated}
+use Rattle.part_steps.specs.InvalidationRange.{page_aimed}
+use Rattle.part_steps.specs.SweepTopics.{walk_on}
 use Rattle.part_steps.specs.StayTopics.{unchecked, begun, flush_kept, let_go}
 use Rattle.part_steps.specs.WalkTopics.{gone_down, is_in_table, walked, swapped, still_owned}
 use Rattle.part_steps.specs.PageTopics.{searched, claimed, tried, filled_more, given_back, published}
@@ -57,7 +58,7 @@ topics_by kind.Enter z k t v = begun Guest t
 topics_by kind.Leave z k t v = begun Outside t
 topics_by kind.Begin z k t v = begun Section t
 topics_by kind.End z k t v = begun Outside t
-topics_by kind.Walk z k t v = record t { walk = if is_in_table t.walk then walked t.walk (index_in_page z k.word) v else t.walk }
+topics_by kind.Walk z k t v = record t { walk = if is_in_table t.walk then walked (walk_on t) (index_in_page z k.word) v else t.walk }
 topics_by kind.Control z k t v = controlled z k.word t v
 topics_by kind.Slot z k t v = record t { search = if is_some t.search.set then searched t.search v else t.search }
 topics_by kind.Host z k t v = record t { host = Some (record { page = k.word - host_begins z; word = v }) }
@@ -69,7 +70,7 @@ topics_by kind.Release z k t v = let_go t
 topics_by kind.Claim z k t v = record t { owned = claimed t.claim v; claim = tried t.claim v }
 topics_by kind.Fill z k t v = word_filled (is_content z k.word) t v
 topics_by kind.Give z k t v = given_back t
-topics_by kind.Set z k t v = record t { invalidations = stored k.word (invalidated t) t.invalidations v }
+topics_by kind.Set z k t v = record t { invalidations = stored k.word k.old (page_aimed t) t.invalidations v }
 topics_by kind.Zap z k t v = record t { walk = if is_in_table t.walk then gone_down None t.walk (index_in_page z k.word) 0 else t.walk }
 topics_by kind.Ask z k t v = record t { flush = record t.flush { asked = (k.word - number_of area.State) + 1 } }
 topics_by kind.Await z k t v = record t { flush = record t.flush { awaited = (k.word - number_of area.State) + (if has_to_flush v then 0 else 1) } }
@@ -100,5 +101,4 @@ HasRoom kind.Claim t = (0 < t.claim.seen) × (t.claim.at < 2 ^ 32)
 HasRoom kind.Frame t = (0 < t.frames.claim.seen) × (t.frames.claim.at < 2 ^ 32)
 HasRoom kind.Walk t = 1 ≤ t.walk.level → t.walk.prefix < 2 ^ 36
 HasRoom kind.Swap t = 1 ≤ t.walk.level → t.walk.prefix < 2 ^ 36
-HasRoom kind.Set t = t.search.whole ≡ true → t.search.slot.base + t.search.slot.pages ≤ 2 ^ 36
 HasRoom _ t = Unit {0}

@@ -8,19 +8,19 @@ mod invalidations;
 mod needs;
 mod part_step;
 mod slot_words;
+mod sweep;
 mod task;
 mod topics;
 
 pub use control_words::{WRITER, has_to_flush, has_writer, in_section};
 pub use frames::{frame_owned, word_held, words_moved};
-pub use invalidations::{
-    end_with, frame_found, gfn_behind, has_found, invalidated, range_end, range_start, start_with,
-};
+pub use invalidations::{Target, end_with, gfn_behind, has_found, start_with};
 pub use needs::{has_needs, needs_line, next_watched};
 pub use part_step::{
     PartStep, entry_index, page_owned, part_kind, part_task, span_of, table_page, word_looked,
     words_filled,
 };
 pub use slot_words::{SLOT_SET_ROLE, page_of, set_word};
+pub use sweep::{has_entry, leads_nowhere, sweep_on, swept_to};
 pub use task::{Task, kind_of, map_of};
 pub use topics::{is_won, search, step_topics};

@@ -7,7 +7,7 @@ ghost use Rattle.spte_words.specs.declared.area.Area.TheVariants as Area;
 ghost use Rattle.spte_words.specs.Areas.{IsWordMap, pool_index, size_of};
 ghost use Rattle.part_steps.specs.PartBounds.{PartRests};
 ghost use Rattle.part_steps.specs.PartTasks.{all_but, entry_index, entry_task, leaf_written, own_index, page_retired, page_looked, page_owned};
-ghost use Rattle.part_steps.specs.PartTasks.{exchanges_host, part_kind, part_task, set_held, table_page, word_looked, words_filled, works};
+ghost use Rattle.part_steps.specs.PartTasks.{exchanges_host, part_kind, part_task, set_held, stores_bound, table_page, word_looked, words_filled, works};
 ghost use Rattle.part_steps.specs.PartSteps.{PartNeeds};
 ghost use Rattle.part_steps.specs.SlotWords.{slot_index};
 ghost use Rattle.spte_words.specs.Entries.{level_span, table_word};
@@ -21,6 +21,7 @@ ghost use Rattle.part_steps.specs.declared.part_step.PartStep.TheVariants.{Enter
 use crate::control_words::{GUEST_BITS, REQUEST_BIT, SECTION_BIT, WRITER};
 use crate::frames::{frame_owned, word_held};
 use crate::slot_words::{leaf_of, slot_word};
+use crate::sweep::go_up;
 use crate::task::{Task, kind_of, map_of};
 use crate::topics::tried_bit;
 use core_views::{
@@ -76,6 +77,8 @@ pub enum PartStep {
     Root,
     /// Loads the entry of this guest frame in the table that the walk has come to.
     Walk(u64),
+    /// Loads the next entry of a sweep, over this guest frame.
+    Sweep(u64),
     /// Links the page that it owns as a table, at the entry of this guest frame.
     Link(u64),
     /// Puts the leaf of this guest frame's page at its entry.
@@ -90,10 +93,11 @@ pub enum PartStep {
     Clear,
     /// Gives this page back.
     GiveOld,
-    /// Stores this guest frame as the first of the range of open invalidations.
-    SetStart(u64),
+    /// Stores this guest frame as the first of the range of open invalidations, with its own
+    /// in it.
+    SetStart { own: u64, gfn: u64 },
     /// Stores this guest frame as the one after their range.
-    SetEnd(u64),
+    SetEnd { own: u64, gfn: u64 },
     /// Stores this number of open invalidations: one more with its own, or one less.
     SetCount(u64),
     /// Stores this sequence number.
@@ -382,6 +386,20 @@ fn exchange_host(kind: StepKind, topics: &Topics, new: u64, note: u64) -> Task
     }
 }
 
+// Stores an end of the range of open invalidations, into which this end of the own one went.
+fn store_bound(area: Area, own: u64, gfn: u64, note: u64) -> Task
+    ensures { result ≡ stores_bound area own gfn note }
+{
+    Task {
+        kind: StepKind::Set,
+        area,
+        index: 0,
+        expected: own,
+        written: gfn,
+        may_end: note,
+    }
+}
+
 // Tries to take the lowest free page of those seen.
 fn claim(claim: &MapClaim, note: u64) -> Task
     requires { 0 < claim.now.seen }
@@ -465,14 +483,19 @@ pub fn part_task(hand: &Hand, step: PartStep, note: u64) -> Task
         PartStep::RangeEnd => Task::load(StepKind::Control, Area::RangeEnd, 0, note),
         PartStep::Root => Task::load(StepKind::Control, Area::Root, 0, note),
         PartStep::Walk(gfn) => walk(map, &topics.walk, gfn, note),
+        PartStep::Sweep(gfn) => {
+            let mut at = topics.walk;
+            go_up(&mut at);
+            walk(map, &at, gfn, note)
+        }
         PartStep::Link(gfn) => enter(map, &topics.walk, gfn, link(topics.owned), note),
         PartStep::Leaf(gfn) => enter(map, &topics.walk, gfn, leaf(topics), note),
         PartStep::Host(page) => Task::load(StepKind::Host, Area::Host, page, note),
         PartStep::Watch(index) => Task::load(StepKind::Watch, Area::State, index, note),
         PartStep::Publish => publish(topics.owned, note),
         PartStep::Clear | PartStep::GiveOld => drop_old(step, map, topics.retired, note),
-        PartStep::SetStart(gfn) => work(StepKind::Set, Area::RangeStart, 0, gfn, note),
-        PartStep::SetEnd(gfn) => work(StepKind::Set, Area::RangeEnd, 0, gfn, note),
+        PartStep::SetStart { own, gfn } => store_bound(Area::RangeStart, own, gfn, note),
+        PartStep::SetEnd { own, gfn } => store_bound(Area::RangeEnd, own, gfn, note),
         PartStep::SetCount(count) => work(StepKind::Set, Area::Count, 0, count, note),
         PartStep::SetSeq(seq) => work(StepKind::Set, Area::Seq, 0, seq, note),
         PartStep::Zap(gfn) => zap(map, &topics.walk, gfn, note),

@@ -13,15 +13,17 @@ ghost use Rattle.part_steps.specs.WalkTopics.{gone_down, is_in_table, still_owne
 ghost use Rattle.part_steps.specs.PageTopics.{claimed, filled_more, is_won, published, searched, tried, tried_bit};
 ghost use Rattle.part_steps.specs.ControlTopics.{at_word, checked_after, controlled, count_checked, end_known, noted, range_checked, seq_checked};
 ghost use Rattle.part_steps.specs.ControlTopics.{start_checked, start_known, stored, takes_snapshot};
+ghost use Rattle.part_steps.specs.SweepTopics.{walk_on};
 ghost use Rattle.part_steps.specs.TopicSteps.{HasRoom, host_begins, host_changed, index_in_page, topics_after};
 
 use crate::control_words::{has_lock, has_to_flush, has_writer, in_section, is_word_of};
 use crate::frames::{claim_frame, copy_word, give_frame, move_frame, store_word};
-use crate::invalidations::invalidated;
+use crate::invalidations::page_aimed;
+use crate::sweep::{go_up, is_sweeping};
 use crate::task::map_of;
 use core_views::{
-    Checked, Flush, Hold, HostLook, Invalidated, Invalidations, Kind, MapClaim, OwnedPage, Sizes,
-    SlotField, SlotSearch, Stay, StepKind, TableWalk, Topics,
+    Checked, Flush, Hold, HostLook, Invalidations, Kind, MapClaim, OwnedPage, Sizes, SlotField,
+    SlotSearch, Stay, StepKind, TableWalk, Topics,
 };
 use spte_words::{Area, HostWord, SlotFlags, Spte, SpteKind};
 
@@ -84,7 +86,7 @@ fn go_down(walk: &mut TableWalk, page: u64, index: u64, entry: u64)
 }
 
 // The entry at an index was loaded: the walk goes down where it is a link.
-fn walk(walk: &mut TableWalk, index: u64, found: u64)
+pub(crate) fn walk(walk: &mut TableWalk, index: u64, found: u64)
     requires room { walk.old.prefix < 2 ^ 36 }
     requires index { index < 512 }
     ensures { walk.new ≡ walked walk.old index found }
@@ -131,6 +133,18 @@ fn index_in_page(sizes: &Sizes, word: u32) -> u64
     word.saturating_sub(map_of(sizes).word_of(Area::Pool, 0)) as u64 % 512
 }
 
+// The walk from which the next entry is loaded.
+fn walk_on(topics: &Topics) -> TableWalk
+    ensures is { result ≡ walk_on topics.now }
+    ensures less { result.prefix ≤ topics.now.walk.prefix }
+{
+    let mut at = topics.walk;
+    if is_sweeping(topics) {
+        go_up(&mut at);
+    }
+    at
+}
+
 // An entry was loaded, where the walk has come to a table.
 fn load_entry(sizes: &Sizes, kind: Kind, topics: &mut Topics, found: u64)
     requires sizes { AreSizes sizes.now }
@@ -139,7 +153,9 @@ fn load_entry(sizes: &Sizes, kind: Kind, topics: &mut Topics, found: u64)
     ensures { topics.new ≡ topics_after sizes.now kind topics.old found }
 {
     if topics.walk.level >= 1 {
-        walk(&mut topics.walk, index_in_page(sizes, kind.word), found);
+        let mut at = walk_on(topics);
+        walk(&mut at, index_in_page(sizes, kind.word), found);
+        topics.walk = at;
     }
 }
 
@@ -354,9 +370,10 @@ fn end_known(checked: Checked) -> Checked
     }
 }
 
-// A word of the invalidations was stored, by an actor whose own one is of these frames.
-fn store(word: u32, own: Invalidated, invalidations: &mut Invalidations, written: u64)
-    ensures { invalidations.new ≡ stored word own invalidations.old written }
+// A word of the invalidations was stored, with this end of the own one, which is of this host
+// page, if it is of one.
+fn store(word: u32, own: u64, page: Option<u64>, invalidations: &mut Invalidations, written: u64)
+    ensures { invalidations.new ≡ stored word own page invalidations.old written }
 {
     if is_word_of(Area::Count, word) {
         invalidations.opened = invalidations.count < written;
@@ -366,10 +383,12 @@ fn store(word: u32, own: Invalidated, invalidations: &mut Invalidations, written
     } else if is_word_of(Area::RangeStart, word) {
         invalidations.start = written;
         invalidations.checked = start_known(invalidations.checked);
-        invalidations.own = own;
+        invalidations.own.page = page;
+        invalidations.own.start = own;
     } else if is_word_of(Area::RangeEnd, word) {
         invalidations.end = written;
         invalidations.checked = end_known(invalidations.checked);
+        invalidations.own.end = own;
     } else if is_word_of(Area::Seq, word) {
         invalidations.seq = written;
         invalidations.checked = Checked::Nothing;
@@ -543,8 +562,8 @@ pub fn step_topics(sizes: &Sizes, kind: Kind, topics: &mut Topics, found: u64)
         }
         StepKind::Publish => publish(topics, found),
         StepKind::Set => {
-            let own = invalidated(topics);
-            store(kind.word, own, &mut topics.invalidations, found);
+            let page = page_aimed(topics);
+            store(kind.word, kind.old, page, &mut topics.invalidations, found);
         }
         StepKind::Zap => zap_entry(sizes, kind.word, &mut topics.walk),
         StepKind::Ask => topics.flush.asked = state_index(kind.word) + 1,

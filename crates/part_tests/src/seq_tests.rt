@@ -88,7 +88,7 @@ fn answers_by_the_numbers_kept(rt: HostRuntime) {
         checked: core_views::Checked::Range,
         opened: false,
         own: Invalidated {
-            page: 0,
+            page: None,
             start: 0,
             end: 0,
         },

@@ -20,6 +20,8 @@ use Rattle.mmu_core.specs.declared.invalidate.EndNext.TheVariants as ends_next
 use Rattle.mmu_core.specs.lines.InvalidateKnows.{BeginKnows, EndKnows}
 use Rattle.mmu_core.specs.lines.InvalidateSteps.{begin_next, begin_part, end_next, end_part}
 use Rattle.mmu_core.specs.machine.MayMake.{MayMake}
+use Rattle.part_steps.specs.declared.invalidations.Target.{Target}
+use Rattle.part_steps.specs.InvalidationRange.{IsSmall}
 use Rattle.range_notifier.specs.declared.begin.BeginJob.{BeginJob}
 use Rattle.step_seats.specs.PartTurns.{MadeTelling, in_way}
 use Rattle.step_seats.specs.Seats.{Seat}
@@ -33,16 +35,17 @@ abbrev pub begin_at : Place → Option BeginPlace
 begin_at (place.Host (Begin p)) = Some p
 begin_at _ = None
 
--- The actor may make the step of this place of the begin, for the host page, and knows what the place asks.
-pub record IsInBegin (p : BeginPlace) (page note : ℕ) (h : Held) : Type 0 where
-  pub may : MayMake (begin_part p page h.topics) note h
-  pub knows : BeginKnows p h.state.sizes page h.topics
+-- The actor may make the step of this place of the begin, for the target, and knows what the place asks.
+pub record IsInBegin (p : BeginPlace) (target : Target) (note : ℕ) (h : Held) : Type 0 where
+  pub may : MayMake (begin_part p target h.topics) note h
+  pub knows : BeginKnows p h.state.sizes target h.topics
+  pub small : IsSmall target
 
 -- The hand's line stands in the begin, and its actor may make the next step.
 pub record BeginsNext (job : BeginJob) (note : ℕ) (h : Held) : Type 0 where
   pub at : BeginPlace
   pub stands : begin_at h.state.place ≡ Some at
-  pub is_in : IsInBegin at job.page note h
+  pub is_in : IsInBegin at job.target note h
 
 -- the place of the begin at which the count, the range and the count again are loaded and stored
 abbrev pub opens_at : OpenStage → BeginPlace
@@ -69,8 +72,8 @@ AnswersBegin _ next = ⊥
 
 -- One turn of the begin at this place: its step was made, and the turn waits exactly where the step does, and else answers by what is next.
 pub record BeginsAt (p : BeginPlace) (job : BeginJob) (turn : Turn (Unit {0})) (note : ℕ) (before after : Seat) : Type 0 where
-  pub step : MadeTelling (in_way turn) (begin_part p job.page before.hand.topics) note before after
-  pub answers : AnswersBegin turn (begin_next p before.hand.state.sizes job.page before.hand.topics step.found)
+  pub step : MadeTelling (in_way turn) (begin_part p job.target before.hand.topics) note before after
+  pub answers : AnswersBegin turn (begin_next p before.hand.state.sizes job.target before.hand.topics step.found)
 
 -- One turn, at the place where the hand's line stands.
 abbrev pub TurnsBegin : BeginJob → Turn (Unit {0}) → ℕ → Seat → Seat → Type 0

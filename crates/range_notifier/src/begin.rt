@@ -1,7 +1,9 @@
-ghost use Rattle.std.specs.Prelude.{◌≡◌, ◌<◌, ◌≤◌, ◌+◌, ◌^◌, IfSome, Some, None, true, false};
+ghost use Rattle.std.specs.Prelude.{◌≡◌, ◌<◌, ◌≤◌, ◌^◌, Some, None, true, false};
 ghost use Rattle.core_views.specs.declared.place.BeginPlace.TheVariants as at;
 ghost use Rattle.mmu_core.specs.lines.InvalidateSteps.{begin_part};
+ghost use Rattle.part_steps.specs.declared.invalidations.Target.TheVariants as aim;
 ghost use Rattle.part_steps.specs.PartBounds.{PartRests};
+ghost use Rattle.part_steps.specs.SweepTopics.{swept_to};
 ghost use Rattle.range_notifier.specs.Notifying.{BeginsNext, NeverWaits, IsInBegin, TurnsBegin, begin_at, opens_at};
 ghost use Rattle.step_seats.specs.Moves.{KeepsRoom};
 ghost use Rattle.step_seats.specs.PartTurns.{MadeTelling, MakesPart};
@@ -11,17 +13,17 @@ use core_views::{BeginPlace, Hand, HostPlace, Place, Seen};
 use invalidate_seq::{Open, OpenStage};
 use memslots::{Find, Sought};
 use mmu_core::part_rests;
-use part_steps::{frame_found, gfn_behind, map_of};
+use part_steps::{Target, map_of, swept_to};
 use step_seats::{Stepper, Turn};
-use tdp_walk::{Walk, zap};
+use tdp_walk::{Walk, sweep_entry, zap};
 use vcpu_tlb::{ask_flush, await_flush};
 
 /// The begin of an invalidation, a step a turn. Where it stands is kept in the hand whose
 /// line it is of.
 #[derive(Clone, Copy, Drop)]
 pub struct BeginJob {
-    /// The host page that is to change.
-    pub page: u64,
+    /// What is invalidated.
+    pub target: Target,
 }
 
 // Where in the begin the hand's line stands.
@@ -34,17 +36,41 @@ fn place_of(hand: &Hand) -> Option<BeginPlace>
     }
 }
 
+// The guest frame to which the sweep has come.
+fn swept_frame(hand: &Hand) -> u64
+    requires rests { PartRests hand.now.core }
+    requires there { 1 ≤ hand.now.core.topics.walk.level }
+    requires small { swept_to hand.now.core.topics.invalidations.own.start hand.now.core.topics.walk < 2 ^ 64 }
+    ensures { result ≡ swept_to hand.now.core.topics.invalidations.own.start hand.now.core.topics.walk }
+{
+    let topics = hand.topics();
+    swept_to(topics.invalidations.own.start, &topics.walk)
+}
+
 impl BeginJob {
-    // Searches the slot that has the host page. It never waits.
+    /// The begin of the invalidation of this host page.
+    pub fn of_page(page: u64) -> BeginJob
+        ensures { result ≡ record { target = aim.Page page } }
+    {
+        BeginJob {
+            target: Target::Page(page),
+        }
+    }
+
+    // Searches the slots for the target. It never waits.
     fn find<S: Stepper>(&self, s: &mut S, begun: bool, note: u64)
-        requires is_in { IsInBegin (at.Find begun) self.now.page note (S.seat s.old).hand }
+        requires is_in { IsInBegin (at.Find begun) self.now.target note (S.seat s.old).hand }
         requires reserved { 0 < (S.seat s.old).room }
-        ensures makes { MakesPart (begin_part (at.Find begun) self.now.page (S.seat s.old).hand.topics) note (S.seat s.old) (S.seat s.new) }
+        ensures makes { MakesPart (begin_part (at.Find begun) self.now.target (S.seat s.old).hand.topics) note (S.seat s.old) (S.seat s.new) }
         ensures room { KeepsRoom (S.seat s.old) (S.seat s.new) }
         ensures same { ((S.seat s.new).actor ≡ (S.seat s.old).actor) × (S.frame s.new ≡ S.frame s.old) }
     {
+        let page = match self.target {
+            Target::Page(page) => page,
+            Target::Slot(slot) => slot.host,
+        };
         let mut find = Find {
-            sought: Sought::HostPage(self.page),
+            sought: Sought::HostPage(page),
             begun,
         };
         let _ = find.turn(s, note);
@@ -52,53 +78,55 @@ impl BeginJob {
 
     // Loads or stores the next word of the open invalidations. It never waits.
     fn open<S: Stepper>(&self, s: &mut S, stage: OpenStage, note: u64)
-        requires is_in { IsInBegin (opens_at stage) self.now.page note (S.seat s.old).hand }
+        requires is_in { IsInBegin (opens_at stage) self.now.target note (S.seat s.old).hand }
         requires reserved { 0 < (S.seat s.old).room }
-        ensures makes { MakesPart (begin_part (opens_at stage) self.now.page (S.seat s.old).hand.topics) note (S.seat s.old) (S.seat s.new) }
+        ensures makes { MakesPart (begin_part (opens_at stage) self.now.target (S.seat s.old).hand.topics) note (S.seat s.old) (S.seat s.new) }
         ensures room { KeepsRoom (S.seat s.old) (S.seat s.new) }
         ensures same { ((S.seat s.new).actor ≡ (S.seat s.old).actor) × (S.frame s.new ≡ S.frame s.old) }
     {
         part_rests(s.hand());
-        let gfn = frame_found(self.page, &s.hand().topics().search);
-        let mut open = Open { gfn, stage };
+        let search = &s.hand().topics().search;
+        let (first, last) = (self.target.start(search), self.target.end(search));
+        let mut open = Open { first, last, stage };
         let _ = open.turn(s, note);
     }
 
-    // Goes down to the entry of the page's guest frame. It never waits.
+    // Begins the sweep at the root, or goes on with its next entry. It never waits.
     fn walk<S: Stepper>(&self, s: &mut S, rooted: bool, note: u64)
-        requires is_in { IsInBegin (at.Walk rooted) self.now.page note (S.seat s.old).hand }
+        requires is_in { IsInBegin (at.Walk rooted) self.now.target note (S.seat s.old).hand }
         requires reserved { 0 < (S.seat s.old).room }
-        ensures makes { MakesPart (begin_part (at.Walk rooted) self.now.page (S.seat s.old).hand.topics) note (S.seat s.old) (S.seat s.new) }
+        ensures makes { MakesPart (begin_part (at.Walk rooted) self.now.target (S.seat s.old).hand.topics) note (S.seat s.old) (S.seat s.new) }
         ensures room { KeepsRoom (S.seat s.old) (S.seat s.new) }
         ensures same { ((S.seat s.new).actor ≡ (S.seat s.old).actor) × (S.frame s.new ≡ S.frame s.old) }
     {
-        let gfn = if rooted {
-            gfn_behind(self.page, &s.hand().topics().search.slot)
+        if rooted {
+            part_rests(s.hand());
+            let gfn = swept_frame(s.hand());
+            let _ = sweep_entry(s, gfn, note);
         } else {
-            0
-        };
-        let mut walk = Walk { gfn, rooted };
-        let _ = walk.turn(s, note);
+            let _ = Walk::new(0).turn(s, note);
+        }
     }
 
-    // Zaps the frame's leaf. It never waits.
+    // Zaps the leaf that the sweep has come to. It never waits.
     fn zap<S: Stepper>(&self, s: &mut S, note: u64)
-        requires is_in { IsInBegin at.Zap self.now.page note (S.seat s.old).hand }
+        requires is_in { IsInBegin at.Zap self.now.target note (S.seat s.old).hand }
         requires reserved { 0 < (S.seat s.old).room }
-        ensures makes { MakesPart (begin_part at.Zap self.now.page (S.seat s.old).hand.topics) note (S.seat s.old) (S.seat s.new) }
+        ensures makes { MakesPart (begin_part at.Zap self.now.target (S.seat s.old).hand.topics) note (S.seat s.old) (S.seat s.new) }
         ensures room { KeepsRoom (S.seat s.old) (S.seat s.new) }
         ensures same { ((S.seat s.new).actor ≡ (S.seat s.old).actor) × (S.frame s.new ≡ S.frame s.old) }
     {
-        let gfn = gfn_behind(self.page, &s.hand().topics().search.slot);
+        part_rests(s.hand());
+        let gfn = swept_frame(s.hand());
         let _ = zap(s, gfn, note);
     }
 
     // Awaits the flush of the next virtual processor. Its state word is in the way where it
     // is in the guest, and has yet to flush.
     fn await_next<S: Stepper>(&self, s: &mut S, note: u64) -> Option<Seen>
-        requires is_in { IsInBegin at.Await self.now.page note (S.seat s.old).hand }
+        requires is_in { IsInBegin at.Await self.now.target note (S.seat s.old).hand }
         requires reserved { 0 < (S.seat s.old).room }
-        ensures makes { MadeTelling result (begin_part at.Await self.now.page (S.seat s.old).hand.topics) note (S.seat s.old) (S.seat s.new) }
+        ensures makes { MadeTelling result (begin_part at.Await self.now.target (S.seat s.old).hand.topics) note (S.seat s.old) (S.seat s.new) }
         ensures room { KeepsRoom (S.seat s.old) (S.seat s.new) }
         ensures same { ((S.seat s.new).actor ≡ (S.seat s.old).actor) × (S.frame s.new ≡ S.frame s.old) }
     {
@@ -111,10 +139,10 @@ impl BeginJob {
 
     // Makes the step of a place that never waits for another actor.
     fn go_on<S: Stepper>(&self, s: &mut S, place: BeginPlace, note: u64)
-        requires is_in { IsInBegin place self.now.page note (S.seat s.old).hand }
+        requires is_in { IsInBegin place self.now.target note (S.seat s.old).hand }
         requires goes_on { NeverWaits place }
         requires reserved { 0 < (S.seat s.old).room }
-        ensures makes { MakesPart (begin_part place self.now.page (S.seat s.old).hand.topics) note (S.seat s.old) (S.seat s.new) }
+        ensures makes { MakesPart (begin_part place self.now.target (S.seat s.old).hand.topics) note (S.seat s.old) (S.seat s.new) }
         ensures room { KeepsRoom (S.seat s.old) (S.seat s.new) }
         ensures same { ((S.seat s.new).actor ≡ (S.seat s.old).actor) × (S.frame s.new ≡ S.frame s.old) }
     {
@@ -135,9 +163,9 @@ impl BeginJob {
 
     // Makes the step of this place by the call of its part, and says what is in its way.
     fn step<S: Stepper>(&self, s: &mut S, place: BeginPlace, note: u64) -> Option<Seen>
-        requires is_in { IsInBegin place self.now.page note (S.seat s.old).hand }
+        requires is_in { IsInBegin place self.now.target note (S.seat s.old).hand }
         requires reserved { 0 < (S.seat s.old).room }
-        ensures makes { MadeTelling result (begin_part place self.now.page (S.seat s.old).hand.topics) note (S.seat s.old) (S.seat s.new) }
+        ensures makes { MadeTelling result (begin_part place self.now.target (S.seat s.old).hand.topics) note (S.seat s.old) (S.seat s.new) }
         ensures room { KeepsRoom (S.seat s.old) (S.seat s.new) }
         ensures same { ((S.seat s.new).actor ≡ (S.seat s.old).actor) × (S.frame s.new ≡ S.frame s.old) }
     {
@@ -153,10 +181,9 @@ impl BeginJob {
     }
 
     /// Makes the next step of the hand's line, which stands in the begin of an
-    /// invalidation: it takes the lock alone, searches the slot that has the host page,
-    /// widens the range of open invalidations to the page's guest frame and counts one more,
-    /// zaps the frame's leaf, asks each virtual processor for a flush and awaits it, and
-    /// gives the lock back. `Done` once the lock is given back. `Wait` where the lock's
+    /// invalidation: it takes the lock alone, searches the slots for the target, widens the
+    /// range of open invalidations to the target's guest frames and counts one more, zaps their
+    /// leaves, asks each virtual processor for a flush and awaits it, and gives the lock back. `Done` once the lock is given back. `Wait` where the lock's
     /// word isn't 0, or a virtual processor is in the guest and has yet to flush; never
     /// `Retry`. It takes no memory.
     pub fn turn<S: Stepper>(&self, s: &mut S, note: u64) -> Turn<()>

@@ -139,7 +139,7 @@ root_found walk note found before after not_yet made =
 
 -- the walk has come to a table with the guest frame's entry
 pub is_over : (walk : Walk) (h : Held) → walk.rooted ≡ true → PartNeeds (walk_step walk) h → IsOver walk.gfn h.topics.walk
-is_over walk h already needs = rw already at needs
+is_over walk h already needs = let both = rw already at needs in both.0
 
 pub entry_found : (walk : Walk) (note found : ℕ) (before after : Seat) → walk.rooted ≡ true → PartNeeds (walk_step walk) before.hand
     → MadePart (part.Walk walk.gfn) note found before after
@@ -151,4 +151,4 @@ entry_found walk note found before after already needs made =
     (sym already)
     (where_made made (λ w at has. rw (already)
     (ap (λ (t : Topics). t.walk.entry) made.topics ∙ loaded
-    ∙ found_told (part.Walk walk.gfn) note found (telling w before) _ at (is_over walk before.hand already needs))))
+    ∙ found_told (part.Walk walk.gfn) note found (telling w before) _ at (rw already at needs))))

@@ -1,9 +1,10 @@
 //! A walk over the second-stage page tables, from the root down to the entry of
-//! one guest frame (KVM's mmu.rst, "Page fault"; `tdp_iter.c`), and the zap of a leaf there.
+//! one guest frame (KVM's mmu.rst, "Page fault"; `tdp_iter.c`); and a sweep over those of a
+//! range, with the zap of a leaf there.
 #![tactic(auto)]
 
 mod sweep;
 mod walk;
 
-pub use sweep::zap;
+pub use sweep::{sweep_entry, zap};
 pub use walk::{Walk, Walked};

@@ -63,11 +63,12 @@ pub returns-clause-recorded : goal.returns-clause-recorded
 returns-clause-recorded c z lines w ss R actor gfn there opened is_in = open_frames_are_recorded z _ actor gfn (sound z lines w ss R) there opened is_in
 
 pub returns-clause-scopes : goal.returns-clause-scopes
-returns-clause-scopes c z lines w ss R actor there opened = open_frames_are_of_the_page z _ actor (sound z lines w ss R) there opened
+returns-clause-scopes c z lines w ss R actor page there opened of_page =
+    open_frames_are_of_the_page z _ actor page (sound z lines w ss R) there opened of_page
 
 pub returns-clause-zapped : goal.returns-clause-zapped
-returns-clause-zapped c z lines w ss R actor gfn entry there opened asked is_in leads leaf =
-    open_frames_are_zapped z _ actor gfn entry (sound z lines w ss R) there opened asked is_in leads leaf
+returns-clause-zapped c z lines w ss R actor gfn entry small there opened asked is_in leads leaf =
+    open_frames_are_zapped z _ actor gfn entry small (sound z lines w ss R) there opened asked is_in leads leaf
 
 pub returns-clause-flushed : goal.returns-clause-flushed
 returns-clause-flushed c z lines w ss R actor v there opened low awaited may =

@@ -113,7 +113,8 @@ module _ (z : Sizes) (v : View) (a gfn : ℕ) (write : Bool) (I : Invariant z v)
       let own_ = used_leaf (λ (t : Translation). IsIn (v.hand i).topics.invalidations.own t.gfn → ⊥) gfn write (v.hand a).cached.items used clean K.1
       found.0 in
       own_.1 (subst (IsIn (v.hand i).topics.invalidations.own) own_.0
-      ((P.scopes i lt opened).covers gfn (subst (λ p. SlotGives (v.words area.Pool) (v.words area.Slots 0) p gfn) (e ∙ sym M.invalid) touched_page.gives)))
+      ((P.scopes i _ lt opened M.invalid).covers gfn
+      (subst (λ p. SlotGives (v.words area.Pool) (v.words area.Slots 0) p gfn) e touched_page.gives)))
 
   -- So what is copied stays, where a word of the touched frame is stored.
   touch_copied : (word x : ℕ) → word < z.words → CopiedAt z v

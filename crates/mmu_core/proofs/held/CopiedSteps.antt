@@ -40,7 +40,7 @@ CopiedAt z v = CopiedPart z (actors_of z) (v.words area.Content) (λ i. (v.hand 
 pub record MovesPage (z : Sizes) (host : ℕ → ℕ) (t : Topics) : Type 0 where
   pub there : page_looked t.host < z.pages
   pub frame : host_frame (word_looked t.host) ≡ host_frame (host (page_looked t.host))
-  pub invalid : t.invalidations.own.page ≡ page_looked t.host
+  pub invalid : t.invalidations.own.page ≡ Some (page_looked t.host)
   pub asked : z.vcpus ≤ t.flush.asked
   pub awaited : z.vcpus ≤ t.flush.awaited
 

@@ -17,6 +17,7 @@ use Rattle.spte_words.specs.declared.area.Area.TheVariants as area
 use Rattle.spte_words.specs.Areas.{pool_index, words_of_bits}
 use Rattle.spte_words.specs.Entries.{kind_of, level_span}
 use Rattle.spte_words.specs.Flags.{flags_live}
+use Rattle.part_steps.specs.SweepTopics.{gone_up}
 use Rattle.part_steps.specs.declared.part_step.PartStep.{PartStep}
 use Rattle.part_steps.specs.declared.part_step.PartStep.TheVariants as part
 use Rattle.part_steps.specs.PartBounds.{CountersPart, FrameCountersPart}
@@ -27,7 +28,7 @@ use Rattle.part_steps.specs.PartTasks.{entry_index, leaf_written, link_written, 
 use Rattle.part_steps.specs.PartHoldings.{IsOver}
 use Rattle.mmu_core.specs.invariant.TopicsInvariant.{TopicsInvariant}
 use Rattle.part_steps.specs.StayTopics.{begun, is_loose, kept_search, let_go, may_walk}
-use Rattle.part_steps.specs.WalkTopics.{gone_down, linked_page, swapped}
+use Rattle.part_steps.specs.WalkTopics.{gone_down, linked_page, swapped, walked}
 use Rattle.part_steps.specs.PageTopics.{is_won, searched, searched_at}
 use Rattle.part_steps.specs.ControlTopics.{at_root}
 use Rattle.part_steps.specs.ControlBits.{in_section}
@@ -189,6 +190,13 @@ framed_counts z v a h f I there is F =
     all_count z v a h I (subst (CountersPart z) (sym is)
     (other_counts z (v.hand a).topics (record (v.hand a).topics { frames = f }) C.slots C.claim C.seen C.watched refl refl refl F C))
 
+loaded_counts : (z : Sizes) (v : View) (a gfn : ℕ) (walk : TableWalk) → TopicsInvariant z v → a < actors_of z → IsOver gfn walk → CountersPart z
+    (record (v.hand a).topics {
+      walk = walked walk (entry_index gfn walk.level) (v.words area.Pool (pool_index (table_page walk) (entry_index gfn walk.level)));
+    })
+loaded_counts z v a gfn walk I lt O =
+    walked_counts z (v.hand a).topics _ refl refl refl (refl, refl, refl, refl) refl refl (gone_span gfn _ walk _ O) (I.counters a lt)
+
 counters_behind : (z : Sizes) (v : View) (a note : ℕ) (step : PartStep) → CountersBehind z v a note step
 counters_behind z v a note (part.Map word) = map_counts z v a note word
 counters_behind z v a note part.Claim = claim_counts z v a note
@@ -230,12 +238,12 @@ counters_behind z v a note part.RangeStart = λ S I.
 counters_behind z v a note part.RangeEnd = λ S I.
     let C = I.counters a S.there in
     all_count z v a _ I (numbered_counts z (v.hand a).topics _ refl refl refl refl refl (C.counted, C.seq, (C.range.0, S.small area.RangeEnd 0)) C.asked C)
-counters_behind z v a note (part.SetStart gfn) = λ S I.
+counters_behind z v a note (part.SetStart first gfn) = λ S I.
     let C = I.counters a S.there in
-    all_count z v a _ I (numbered_counts z (v.hand a).topics _ refl refl refl refl refl (C.counted, C.seq, (S.needs.1, C.range.1)) C.asked C)
-counters_behind z v a note (part.SetEnd gfn) = λ S I.
+    all_count z v a _ I (numbered_counts z (v.hand a).topics _ refl refl refl refl refl (C.counted, C.seq, (S.needs.2, C.range.1)) C.asked C)
+counters_behind z v a note (part.SetEnd last gfn) = λ S I.
     let C = I.counters a S.there in
-    all_count z v a _ I (numbered_counts z (v.hand a).topics _ refl refl refl refl refl (C.counted, C.seq, (C.range.0, S.needs.1)) C.asked C)
+    all_count z v a _ I (numbered_counts z (v.hand a).topics _ refl refl refl refl refl (C.counted, C.seq, (C.range.0, S.needs.2)) C.asked C)
 counters_behind z v a note (part.SetCount count) = λ S I.
     let C = I.counters a S.there in
     all_count z v a _ I (numbered_counts z (v.hand a).topics _ refl refl refl refl refl
@@ -278,11 +286,8 @@ counters_behind z v a note part.GiveFrame = λ S I. framed_counts z v a _ _ I S.
 counters_behind z v a note part.Root = λ S I.
     all_count z v a _ I (walked_counts z (v.hand a).topics _ refl refl refl (refl, refl, refl, refl) refl refl
     (root_span (may_walk (v.hand a).topics.stay (v.hand a).topics.hold) (v.hand a).topics.walk (v.words area.Root 0)) (I.counters a S.there))
-counters_behind z v a note (part.Walk gfn) = λ S I.
-    let walk : TableWalk = (v.hand a).topics.walk in
-    let found : ℕ = v.words area.Pool (pool_index (table_page walk) (entry_index gfn walk.level)) in
-    all_count z v a _ I (walked_counts z (v.hand a).topics _ refl refl refl (refl, refl, refl, refl) refl refl
-    (gone_span gfn found walk (linked_page (kind_of walk.level found)) S.needs) (I.counters a S.there))
+counters_behind z v a note (part.Walk gfn) = λ S I. all_count z v a _ I (loaded_counts z v a gfn (v.hand a).topics.walk I S.there S.needs.0)
+counters_behind z v a note (part.Sweep gfn) = λ S I. all_count z v a _ I (loaded_counts z v a gfn (gone_up (v.hand a).topics.walk) I S.there S.needs.over)
 counters_behind z v a note (part.Link gfn) = λ S I.
     all_count z v a _ I (walked_counts z (v.hand a).topics _ refl refl refl (refl, refl, refl, refl) refl refl
     (exchanged_span gfn _ (link_written (v.hand a).topics) (v.hand a).topics.walk _ S.needs.0.saw.over) (I.counters a S.there))

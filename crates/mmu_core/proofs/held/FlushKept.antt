@@ -139,7 +139,7 @@ module _ (z : Sizes) (v : View) (a : ℕ) (I : TopicsInvariant z v) where
       by true is =
           let leaf : Translation = record { gfn = gfn; level = walk.level; leaf = entry gfn } in
           let found = found_is_leaf (kind_of walk.level (entry gfn)) allowed is in
-          let none : IsIn own_ gfn → ⊥ = λ among. entry_clean gfn S.there S.needs i lt opened asked among found in
+          let none : IsIn own_ gfn → ⊥ = λ among. entry_clean gfn S.there S.needs.0 i lt opened asked among found in
           All-take (λ (t : Translation). IsIn own_ t.gfn → ⊥) h.cached.capacity (leaf ∷ h.cached.items)
           (All-cons (λ (t : Translation). IsIn own_ t.gfn → ⊥) leaf h.cached.items none clean)
 

@@ -179,7 +179,8 @@ module _ (z : Sizes) (v : View) (a note : ℕ) (c : Buffer Translation) (g : Hel
     topics_flushed : (step : PartStep) (k : ℕ) → IsPart z v a step → Shows step k state stay → FlushFor h.topics k state stay kept
         → FlushFor (topics step) k state stay kept
     topics_flushed part.Exclude k S shown F = locked_flushed k F
-    topics_flushed (part.SetStart gfn) k S shown F = λ opened. let closed = S.needs.0.opening.closed in absurd (cc (closed, opened))
+    topics_flushed (part.SetStart first gfn) k S shown F = λ opened. let closed = S.needs.0.opening.closed in absurd (cc (closed, opened))
+    topics_flushed (part.SetEnd last gfn) k S shown F = λ opened. let closed = S.needs.0.opening.closed in absurd (cc (closed, opened))
     topics_flushed (part.SetCount count) k S shown F = counted_flushed count k S
     topics_flushed (part.Ask index) k S shown F = λ opened. asked_on index S.needs.next shown (F opened)
     topics_flushed (part.Await index) k S shown F = λ opened. awaited_on index (found (part.Await index)) S.needs.0 S.needs.1 shown (F opened)

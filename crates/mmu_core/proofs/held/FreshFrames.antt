@@ -1,5 +1,5 @@
 -- What was checked under the lock, of open invalidations: none is of the guest frame, so none is of its page. And which leaves a change of a host word leaves.
-use Rattle.std.proofs.Common.{◌≡◌, ◌≢◌, ◌⊎◌, inl, inr, ◌+◌, ◌-◌, ◌<◌, ◌≤◌, ℕ, refl, sym, subst, ap, ◌∙◌, arith}
+use Rattle.std.proofs.Common.{◌≡◌, ◌≢◌, ◌⊎◌, inl, inr, ◌+◌, ◌-◌, ◌<◌, ◌≤◌, ℕ, refl, sym, ap, ◌∙◌, arith}
 use Rattle.std.specs.Prelude.{Bool, true, false, nat_le, ◌&&◌, nat_lt, ◌==◌, if◌then◌else◌, Some}
 use Rattle.std.proofs.lemmas.Bool.Decides.{nat_tests}
 use Rattle.core_views.specs.declared.sizes.Sizes.{Sizes}
@@ -103,7 +103,7 @@ looked_word z v a gfn there I M =
         let given : SlotGives (v.words area.Pool) (v.words area.Slots 0) (page_of slot gfn) gfn =
         record { id = t.search.id - 1; slot = slot; live = found_live z v a gfn there I M; has = B.0; is = B.1 } in
         fresh_in_none z v a j gfn I there lt lock M.fresh U.opened
-        ((I.scopes j lt U.opened).covers gfn (subst (λ p. SlotGives (v.words area.Pool) (v.words area.Slots 0) p gfn) (sym U.of_it) given))
+        ((I.scopes j (page_of slot gfn) lt U.opened U.of_it).covers gfn given)
 
 -- A leaf agrees still where its page's host word stays.
 pub leaf_same : (pool host : ℕ → ℕ) (set page word gfn leaf : ℕ) → (L : IsLeafFor pool host set gfn leaf)

@@ -23,6 +23,7 @@ use Rattle.part_steps.specs.PartTasks.{entry_index, leaf_written, link_written, 
 use Rattle.part_steps.specs.PartTopics.{exchanged}
 use Rattle.mmu_core.specs.invariant.TopicsInvariant.{TopicsInvariant}
 use Rattle.part_steps.specs.StayTopics.{is_loose, begun, kept_search, let_go, may_search, may_walk, unchecked}
+use Rattle.part_steps.specs.SweepTopics.{gone_up}
 use Rattle.part_steps.specs.WalkTopics.{gone_down, linked_page}
 use Rattle.part_steps.specs.PageTopics.{searched, searched_at}
 use Rattle.part_steps.specs.ControlTopics.{at_root, at_set}
@@ -38,6 +39,7 @@ use Rattle.mmu_core.proofs.pages.Standing.{at_spot, entry_now, position_below, s
 use Rattle.mmu_core.proofs.pages.TreePlaces.{root_stands}
 use Rattle.mmu_core.proofs.pages.UsesStay.{StaysStanding, stays_standing}
 use Rattle.mmu_core.proofs.pages.Owned.{table_owned}
+use Rattle.mmu_core.proofs.pages.Paths.{up_stands}
 use Rattle.mmu_core.proofs.held.LeadsDown.{LeadsDown, entry_leads_down, link_leads_down, lowest_leads_down}
 
 -- what is said of what each hand holds, and of its counters, of a view
@@ -192,12 +194,26 @@ walk_level z v a lt I from = (I.tree.there _ _ ((I.held a lt).table from)).2
 walk_held : (z : Sizes) (v : View) (a note gfn : ℕ) → HeldBehind z v a note (part.Walk gfn)
 walk_held z v a note gfn S I =
     let t : Topics = (v.hand a).topics in
-    let from = S.needs.there in
+    let from = S.needs.0.there in
     let j : ℕ = entry_index gfn t.walk.level in
     let H = I.held a S.there in
     still_held z v a (part.Walk gfn) _ S I (gone_held (stands I.up I.spot) t _ j _ _ refl refl refl refl (walk_level z v a S.there I from)
     (entry_leads_down I.tree (table_page t.walk) (at t.walk.level t.walk.prefix) j _ (omega (arith, S.is_sizes.pool.1)) (H.table from)
     (I.tree.entries (table_page t.walk) _ (H.table from) j (omega arith))) H)
+
+-- The walk goes up to a table that it has gone through, and on from there.
+sweep_held : (z : Sizes) (v : View) (a note gfn : ℕ) → HeldBehind z v a note (part.Sweep gfn)
+sweep_held z v a note gfn S I =
+    let t : Topics = (v.hand a).topics in
+    let up : TableWalk = gone_up t.walk in
+    let j : ℕ = entry_index gfn up.level in
+    let H = I.held a S.there in
+    let at_up = up_stands (stands I.up I.spot) t H (I.paths a S.there) S.needs.there (walk_level z v a S.there I S.needs.there) in
+    let alone : may_walk t.stay t.hold ≡ may_walk t.stay Exclusive = ap (may_walk t.stay) S.needs.alone in
+    still_held z v a (part.Sweep gfn) _ S I (gone_held (stands I.up I.spot) (record t { walk = up }) _ j _ _ refl refl refl refl (I.tree.there _ _ at_up).2
+    (entry_leads_down I.tree (table_page up) (at up.level up.prefix) j _ (omega (arith, S.is_sizes.pool.1)) at_up
+    (I.tree.entries (table_page up) _ at_up j (omega arith)))
+    (record { table = λ from. at_up; no_table = λ f. absurd (never_or _ (sym alone ∙ f)); no_set = H.no_set }))
 
 -- an exchange, won or lost
 exchanged_held : (stands : ℕ → Option Position) (t : Topics) (won : Bool) (j new_ v : ℕ) → t.walk.level ≤ 4 → (won ≡ true → LeadsDown stands
@@ -268,6 +284,7 @@ held_behind z v a note part.Publish =
 held_behind z v a note part.Root =
     λ S I. still_held z v a part.Root _ S I (root_held (v.words area.Root 0) (stands I.up I.spot) (v.hand a).topics (root_stands I.tree) (I.held a S.there))
 held_behind z v a note (part.Walk gfn) = walk_held z v a note gfn
+held_behind z v a note (part.Sweep gfn) = sweep_held z v a note gfn
 held_behind z v a note (part.Link gfn) = link_held z v a note gfn
 held_behind z v a note (part.Leaf gfn) = leaf_held z v a note gfn
 held_behind z v a note (part.Zap gfn) = λ S I.

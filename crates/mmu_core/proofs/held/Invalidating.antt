@@ -38,7 +38,8 @@ module _ (z : Sizes) (v : View) (a note : ℕ) (IsOf : Invalidated → Type 0) w
   own_invalidating : (step : PartStep) → IsPart z v a step → raises_number step ≡ false → IsInvalidating IsOf (v.hand a).topics
       → IsInvalidating IsOf (topics_now v a note step)
   own_invalidating (part.SetSeq seq) S other U = absurd (cc other)
-  own_invalidating (part.SetStart gfn) S other U = absurd (let closed = S.needs.0.opening.closed in let opened = U.opened in cc (closed, opened))
+  own_invalidating (part.SetStart first gfn) S other U = absurd (let closed = S.needs.0.opening.closed in let opened = U.opened in cc (closed, opened))
+  own_invalidating (part.SetEnd last gfn) S other U = absurd (let closed = S.needs.0.opening.closed in let opened = U.opened in cc (closed, opened))
   own_invalidating (part.SetCount count) S other U =
       absurd (let raised = S.needs.closes U.opened in let unraised = U.unraised in cc (raised, unraised))
   own_invalidating _ S other U = record { opened = U.opened; unraised = U.unraised; of_it = U.of_it }

@@ -203,16 +203,16 @@ module _ (count start end_ seq : ℕ) (t : Topics) (C : CheckedPart count start 
     numbered = λ lock knows. ap (λ (b : Bool). if not b then seq else t.invalidations.seq) (not_loose t.hold lock);
   }
 
-  start_stored : (gfn : ℕ) → CheckedPart count gfn end_ seq (part_topics (part.SetStart gfn) t gfn)
-  start_stored gfn = let more = start_more t.invalidations.checked in record {
+  start_stored : (first gfn : ℕ) → CheckedPart count gfn end_ seq (part_topics (part.SetStart first gfn) t gfn)
+  start_stored first gfn = let more = start_more t.invalidations.checked in record {
     counted = λ lock knows. C.counted lock (more.0 knows);
     started = λ lock knows. refl;
     ended = λ lock knows. C.ended lock (more.1 knows);
     numbered = λ lock knows. C.numbered lock (more.2 knows);
   }
 
-  end_stored : (gfn : ℕ) → CheckedPart count start gfn seq (part_topics (part.SetEnd gfn) t gfn)
-  end_stored gfn = let more = end_more t.invalidations.checked in record {
+  end_stored : (last gfn : ℕ) → CheckedPart count start gfn seq (part_topics (part.SetEnd last gfn) t gfn)
+  end_stored last gfn = let more = end_more t.invalidations.checked in record {
     counted = λ lock knows. C.counted lock (more.0 knows);
     started = λ lock knows. C.started lock (more.1 knows);
     ended = λ lock knows. refl;
@@ -269,10 +269,10 @@ checks_behind z v a note part.Seq = λ S I. all_checked z v a _ I (seq_loaded _ 
 checks_behind z v a note part.Count = λ S I. all_checked z v a _ I (count_loaded _ _ _ _ (v.hand a).topics (I.checks a S.there))
 checks_behind z v a note part.RangeStart = λ S I. all_checked z v a _ I (start_loaded _ _ _ _ (v.hand a).topics (I.checks a S.there))
 checks_behind z v a note part.RangeEnd = λ S I. all_checked z v a _ I (end_loaded _ _ _ _ (v.hand a).topics (I.checks a S.there))
-checks_behind z v a note (part.SetStart gfn) = λ S I. stored_checked z v a _ gfn _ _ _ S.there I S.needs.0.opening.alone
-    (start_stored _ _ _ _ (v.hand a).topics (I.checks a S.there) gfn)
-checks_behind z v a note (part.SetEnd gfn) = λ S I. stored_checked z v a _ _ gfn _ _ S.there I S.needs.0.opening.alone
-    (end_stored _ _ _ _ (v.hand a).topics (I.checks a S.there) gfn)
+checks_behind z v a note (part.SetStart first gfn) = λ S I. stored_checked z v a _ gfn _ _ _ S.there I S.needs.0.opening.alone
+    (start_stored _ _ _ _ (v.hand a).topics (I.checks a S.there) first gfn)
+checks_behind z v a note (part.SetEnd last gfn) = λ S I. stored_checked z v a _ _ gfn _ _ S.there I S.needs.0.opening.alone
+    (end_stored _ _ _ _ (v.hand a).topics (I.checks a S.there) last gfn)
 checks_behind z v a note (part.SetCount count) = λ S I. stored_checked z v a count _ _ _ _ S.there I S.needs.alone (unknown _ _ _ _ _ refl)
 checks_behind z v a note (part.SetSeq seq) = λ S I. stored_checked z v a _ _ _ seq _ S.there I S.needs.0.alone (unknown _ _ _ _ _ refl)
 checks_behind z v a note _ = λ S I. all_checked z v a _ I (same_checked _ _ _ _ (v.hand a).topics (I.checks a S.there) _ refl refl)

@@ -108,9 +108,9 @@ known_behind z v a note part.Seq = λ S I K. all_known z v a _ K (seq_known _ _ 
 known_behind z v a note part.Count = λ S I K. all_known z v a _ K (λ lock at_end. absurd (count_not_end (has_lock (v.hand a).topics.hold) at_end))
 known_behind z v a note part.RangeStart = λ S I K. all_known z v a _ K (λ lock at_end. absurd (start_not_end (v.hand a).topics.invalidations.checked at_end))
 known_behind z v a note part.RangeEnd = λ S I K. all_known z v a _ K (λ lock at_end. absurd (range_not_end (v.hand a).topics.invalidations.checked at_end))
-known_behind z v a note (part.SetStart gfn) = λ S I K. stored_known z v a gfn _ _ S.there I S.needs.0.opening.alone
+known_behind z v a note (part.SetStart first gfn) = λ S I K. stored_known z v a gfn _ _ S.there I S.needs.0.opening.alone
     (λ lock at_end. absurd (start_no_end (v.hand a).topics.invalidations.checked (v.hand a).topics.invalidations.count S.needs.0.counted at_end))
-known_behind z v a note (part.SetEnd gfn) = λ S I K. stored_known z v a _ gfn _ S.there I S.needs.0.opening.alone
+known_behind z v a note (part.SetEnd last gfn) = λ S I K. stored_known z v a _ gfn _ S.there I S.needs.0.opening.alone
     (λ lock at_end. absurd (end_no_end (v.hand a).topics.invalidations.checked (v.hand a).topics.invalidations.count S.needs.0.widened at_end))
 known_behind z v a note (part.SetCount count) = λ S I K. all_known z v a _ K (λ lock at_end. absurd (cc at_end))
 known_behind z v a note (part.SetSeq seq) = λ S I K. all_known z v a _ K (λ lock at_end. absurd (cc at_end))

@@ -37,7 +37,7 @@ may_change page h L F = record {
   own_ = subst (λ p. is_own h.state.sizes h.state.actor p ≡ true) (sym L.at) L.own_;
   opened = F.opened.opened;
   unraised = F.opened.unraised;
-  invalid = F.invalid ∙ sym L.at;
+  invalid = F.invalid ∙ ap Some (sym L.at);
   asked = F.asked;
   awaited = F.awaited;
 }

@@ -1,11 +1,11 @@
--- Each step of a part keeps that the range of open invalidations has the guest frames of each, and that these are the ones that the published slots
--- give to its page.
-use Rattle.std.proofs.Common.{◌≡◌, ◌⊎◌, inl, inr, ◌+◌, ◌-◌, ◌<◌, ◌≤◌, ℕ, refl, ap, arith}
+-- Each step of a part keeps that the range of open invalidations has the guest frames of each.
+use Rattle.std.proofs.Common.{◌≡◌, ◌≢◌, ◌⊎◌, inl, inr, ◌+◌, ◌-◌, ◌<◌, ◌≤◌, ℕ, refl, ap, arith}
 use Rattle.std.specs.Prelude.{Bool, true, false, ◌==◌, ◌&&◌, ◌||◌, nat_le, nat_lt, not, if◌then◌else◌}
 use Rattle.std.proofs.lemmas.Bool.Decides.{nat_tests}
 use Rattle.core_views.specs.declared.sizes.Sizes.{Sizes}
 use Rattle.core_views.specs.declared.topics.Checked.{Checked}
 use Rattle.core_views.specs.declared.topics.Checked.TheVariants as checked
+use Rattle.core_views.specs.declared.topics.Invalidations.{Invalidations}
 use Rattle.core_views.specs.declared.topics.Topics.{Topics}
 use Rattle.core_views.specs.Held.{Held}
 use Rattle.core_views.specs.Sizes.{actors_of}
@@ -13,8 +13,8 @@ use Rattle.spte_words.specs.declared.area.Area.TheVariants as area
 use Rattle.part_steps.specs.declared.part_step.PartStep.{PartStep}
 use Rattle.part_steps.specs.declared.part_step.PartStep.TheVariants as part
 use Rattle.part_steps.specs.InvalidationHoldings.{IsOpening, MayOpen, has_counted, has_widened, knows_count}
-use Rattle.part_steps.specs.InvalidationRange.{gfn_behind, greater, has_found, lesser, page_looked}
-use Rattle.part_steps.specs.InvalidationRange.{range_end, range_start}
+use Rattle.part_steps.specs.declared.invalidations.Target.{Target}
+use Rattle.part_steps.specs.InvalidationRange.{end_with, range_end, range_start, start_with, target_end, target_start}
 use Rattle.part_steps.specs.StayTopics.{has_lock}
 use Rattle.mmu_core.specs.invariant.InvalidatedPart.{IsIn, RangePart}
 use Rattle.mmu_core.specs.invariant.InvalidationsPart.{CountPart, knows_end, knows_start}
@@ -23,7 +23,7 @@ use Rattle.mmu_core.specs.machine.Sums.{one_if}
 use Rattle.mmu_core.specs.machine.View.{View, part_stepped, upd}
 use Rattle.mmu_core.proofs.machine.Columns.{at_upd}
 use Rattle.mmu_core.proofs.machine.PartStepping.{IsPart}
-use Rattle.mmu_core.proofs.machine.SumsBelow.{sum_ge}
+use Rattle.mmu_core.proofs.machine.SumsBelow.{sum_ge, sum_two}
 use Rattle.mmu_core.proofs.words.PartTopics.{behind_step, part_behind}
 
 -- Where the count is 0 none is open.
@@ -32,6 +32,14 @@ none_opened n count opened i lt C none is =
     let one : one_if (opened i) ≡ 1 = ap one_if is in
     let more = sum_ge n (λ j. one_if (opened j)) i lt in
     omega (arith, C, none, one, more)
+
+-- Where the count is that of an actor's own, no other has one open.
+pub others_closed : (n count : ℕ) (opened : ℕ → Bool) (a i : ℕ) → a < n → i < n → i ≢ a → CountPart n count opened → count ≡ one_if (opened a)
+    → opened i ≡ true → ⊥
+others_closed n count opened a i there lt ne C own is =
+    let one : one_if (opened i) ≡ 1 = ap one_if is in
+    let both = sum_two n (λ j. one_if (opened j)) i a lt there ne in
+    omega (arith, C, own, one, both)
 
 -- ---- the range
 
@@ -51,35 +59,28 @@ moved_ranges n start end_ low high hand a h R wider own i gfn =
     (λ j ne lt is there. wider j gfn lt is (R j gfn lt is there)) i
 
 -- What the range is widened to starts no higher, and ends no lower, where some are open.
-start_lower : (found : Bool) (count old g : ℕ) (first : ℕ) → 0 < count → (if count == 0 then first else if found then lesser old g else old) ≤ old
-start_lower found count old g first some = by (count == 0) (λ e. let none : count ≡ 0 = grind (arith, nat_tests) in omega (arith, none, some))
+counts_some : (count : ℕ) → 0 < count → (count == 0) ≡ false
+counts_some count some = grind (arith, nat_tests)
+
+start_lower : (first last : ℕ) (n : Invalidations) → 0 < n.count → start_with first last n ≤ n.start
+start_lower first last n some = by (n.count == 0) (counts_some n.count some) (nat_lt first last) (nat_le n.start first) refl
   where
-    picks : (c : Bool) → nat_le old g ≡ c → (if c then old else g) ≤ old
-    picks true is = omega arith
-    picks false is = let lt : g < old = grind (arith, nat_tests) in omega (arith, lt)
+    by : (none : Bool) → none ≡ false → (any least : Bool) → nat_le n.start first ≡ least
+        → (if any then (if none then first else if least then n.start else first) else if none then 0 else n.start) ≤ n.start
+    by true never any least is = absurd (cc never)
+    by false never true true is = omega arith
+    by false never true false is = let lt : first < n.start = grind (arith, nat_tests) in omega (arith, lt)
+    by false never false least is = omega arith
 
-    either : (f : Bool) → (if f then lesser old g else old) ≤ old
-    either true = picks (nat_le old g) refl
-    either false = omega arith
-
-    by : (none : Bool) → (none ≡ true → ⊥) → (if none then first else if found then lesser old g else old) ≤ old
-    by true never = absurd (never refl)
-    by false never = either found
-
-end_higher : (found : Bool) (count old g : ℕ) (first : ℕ) → 0 < count → old ≤ (if count == 0 then first else if found then greater old g else old)
-end_higher found count old g first some = by (count == 0) (λ e. let none : count ≡ 0 = grind (arith, nat_tests) in omega (arith, none, some))
+end_higher : (first last : ℕ) (n : Invalidations) → 0 < n.count → n.end ≤ end_with first last n
+end_higher first last n some = by (n.count == 0) (counts_some n.count some) (nat_lt first last) (nat_le n.end last) refl
   where
-    picks : (c : Bool) → nat_le old g ≡ c → old ≤ (if c then g else old)
-    picks true is = grind (arith, nat_tests)
-    picks false is = omega arith
-
-    either : (f : Bool) → old ≤ (if f then greater old g else old)
-    either true = picks (nat_le old g) refl
-    either false = omega arith
-
-    by : (none : Bool) → (none ≡ true → ⊥) → old ≤ (if none then first else if found then greater old g else old)
-    by true never = absurd (never refl)
-    by false never = either found
+    by : (none : Bool) → none ≡ false → (any most : Bool) → nat_le n.end last ≡ most
+        → n.end ≤ (if any then (if none then last else if most then last else n.end) else if none then 0 else n.end)
+    by true never any most is = absurd (cc never)
+    by false never true true is = grind (arith, nat_tests)
+    by false never true false is = omega arith
+    by false never false most is = omega arith
 
 -- Where some are open the range was loaded before it is stored.
 range_known : (c : Checked) (count : ℕ) → 0 < count → has_counted c count ≡ true ⊎ has_widened c count ≡ true → c ≡ checked.Range
@@ -104,7 +105,8 @@ module _ (z : Sizes) (v : View) (a : ℕ) (I : TopicsInvariant z v) (there : a <
   t = (v.hand a).topics
 
   -- Where an invalidation is open the actor has counted some.
-  some_open : IsOpening t → has_counted t.invalidations.checked t.invalidations.count ≡ true ⊎ has_widened t.invalidations.checked t.invalidations.count ≡ true
+  some_open : {target : Target} → IsOpening target t
+      → has_counted t.invalidations.checked t.invalidations.count ≡ true ⊎ has_widened t.invalidations.checked t.invalidations.count ≡ true
       → (i : ℕ) → i < actors_of z → (v.hand i).topics.invalidations.opened ≡ true → 0 < t.invalidations.count
   some_open O known i lt is =
       let same : t.invalidations.count ≡ v.words area.Count 0 =
@@ -114,28 +116,22 @@ module _ (z : Sizes) (v : View) (a : ℕ) (I : TopicsInvariant z v) (there : a <
       let all = I.counts in
       omega (arith, same, one, more, all)
 
-  starts_for : (gfn : ℕ) → IsOpening t → has_counted t.invalidations.checked t.invalidations.count ≡ true → gfn ≡ range_start (page_looked t.host) t
+  starts_for : (target : Target) (gfn : ℕ) → IsOpening target t → has_counted t.invalidations.checked t.invalidations.count ≡ true → gfn ≡ range_start target t
       → (i : ℕ) → i < actors_of z → (v.hand i).topics.invalidations.opened ≡ true → gfn ≤ v.words area.RangeStart 0
-  starts_for gfn O known is i lt opened =
+  starts_for target gfn O known is i lt opened =
       let some = some_open O (inl known) i lt opened in
       let range = range_known t.invalidations.checked t.invalidations.count some (inl known) in
       let same = (I.checks a there).started (ap has_lock O.alone) (ap knows_start range) in
-      let low =
-      start_lower (has_found (page_looked t.host) t.search) t.invalidations.count t.invalidations.start
-      (gfn_behind (page_looked t.host) t.search.slot)
-      (if has_found (page_looked t.host) t.search then gfn_behind (page_looked t.host) t.search.slot else 0) some in
+      let low = start_lower (target_start target t.search) (target_end target t.search) t.invalidations some in
       omega (arith, is, same, low)
 
-  ends_for : (gfn : ℕ) → IsOpening t → has_widened t.invalidations.checked t.invalidations.count ≡ true → gfn ≡ range_end (page_looked t.host) t
+  ends_for : (target : Target) (gfn : ℕ) → IsOpening target t → has_widened t.invalidations.checked t.invalidations.count ≡ true → gfn ≡ range_end target t
       → (i : ℕ) → i < actors_of z → (v.hand i).topics.invalidations.opened ≡ true → v.words area.RangeEnd 0 ≤ gfn
-  ends_for gfn O known is i lt opened =
+  ends_for target gfn O known is i lt opened =
       let some = some_open O (inr known) i lt opened in
       let range = range_known t.invalidations.checked t.invalidations.count some (inr known) in
       let same = (I.checks a there).ended (ap has_lock O.alone) (ap knows_end range) in
-      let high =
-      end_higher (has_found (page_looked t.host) t.search) t.invalidations.count t.invalidations.end
-      (gfn_behind (page_looked t.host) t.search.slot + 1)
-      (if has_found (page_looked t.host) t.search then gfn_behind (page_looked t.host) t.search.slot + 1 else 0) some in
+      let high = end_higher (target_start target t.search) (target_end target t.search) t.invalidations some in
       omega (arith, is, same, high)
 
   -- The frames of who opens one are in the range that it has stored.
@@ -167,15 +163,15 @@ module _ (z : Sizes) (v : View) (a : ℕ) (I : TopicsInvariant z v) (there : a <
   opened_by true count is counted more = absurd (let less : nat_lt t.invalidations.count count ≡ false = grind (arith, nat_tests) in cc (more, less))
 
 ranges_behind : (z : Sizes) (v : View) (a note : ℕ) (step : PartStep) → RangesBehind z v a note step
-ranges_behind z v a note (part.SetStart gfn) S I =
+ranges_behind z v a note (part.SetStart first gfn) S I =
     let M = S.needs.0 in
     moved_ranges (actors_of z) (v.words area.RangeStart 0) (v.words area.RangeEnd 0) gfn (v.words area.RangeEnd 0) v.hand a _ I.ranges
-    (λ i g lt is R. let low = starts_for z v a I S.there gfn M.opening M.counted M.is i lt is in (omega (arith, low, R.0), R.1))
+    (λ i g lt is R. let low = starts_for z v a I S.there M.target gfn M.opening M.counted M.is i lt is in (omega (arith, low, R.0), R.1))
     (λ g lt is within. absurd (let closed = M.opening.closed in cc (is, closed)))
-ranges_behind z v a note (part.SetEnd gfn) S I =
+ranges_behind z v a note (part.SetEnd last gfn) S I =
     let M = S.needs.0 in
     moved_ranges (actors_of z) (v.words area.RangeStart 0) (v.words area.RangeEnd 0) (v.words area.RangeStart 0) gfn v.hand a _ I.ranges
-    (λ i g lt is R. let high = ends_for z v a I S.there gfn M.opening M.widened M.is i lt is in (R.0, omega (arith, high, R.1)))
+    (λ i g lt is R. let high = ends_for z v a I S.there M.target gfn M.opening M.widened M.is i lt is in (R.0, omega (arith, high, R.1)))
     (λ g lt is within. absurd (let closed = M.opening.closed in cc (is, closed)))
 ranges_behind z v a note (part.SetCount count) S I =
     moved_ranges (actors_of z) (v.words area.RangeStart 0) (v.words area.RangeEnd 0) (v.words area.RangeStart 0) (v.words area.RangeEnd 0) v.hand a _ I.ranges

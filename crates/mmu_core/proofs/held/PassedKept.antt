@@ -1,11 +1,13 @@
--- Each step of a part keeps that a search under the lock alone has passed no slot with the host page but the one that it has found.
+-- Each step of a part keeps that a search under the lock alone has passed no slot with the host page that the actor may change but the one that it has found.
 use Rattle.std.proofs.Common.{◌≡◌, ◌⊎◌, inl, inr, ◌+◌, ◌-◌, ◌<◌, ◌≤◌, ℕ, refl, sym, subst, ap, ◌∙◌, arith}
-use Rattle.std.specs.Prelude.{Bool, true, false, ◌&&◌, if◌then◌else◌, Some, is_some}
+use Rattle.std.specs.Prelude.{Bool, true, false, ◌&&◌, if◌then◌else◌, Option, Some, None, is_some}
 use Rattle.core_views.specs.declared.place.SlotField.{SlotField}
 use Rattle.core_views.specs.declared.place.SlotField.TheVariants as field
 use Rattle.core_views.specs.declared.sizes.Sizes.{Sizes}
 use Rattle.core_views.specs.declared.topics.Hold.{Hold}
 use Rattle.core_views.specs.declared.topics.Hold.TheVariants.{Shared, Owing, Exclusive}
+use Rattle.core_views.specs.declared.topics.HostLook.{HostLook}
+use Rattle.core_views.specs.declared.topics.OwnedPage.{OwnedPage}
 use Rattle.core_views.specs.declared.topics.SlotSearch.{SlotSearch}
 use Rattle.core_views.specs.declared.topics.Stay.{Stay}
 use Rattle.core_views.specs.declared.topics.Stay.TheVariants.{Outside}
@@ -19,8 +21,8 @@ use Rattle.spte_words.specs.Flags.{flags_live}
 use Rattle.part_steps.specs.declared.part_step.PartStep.{PartStep}
 use Rattle.part_steps.specs.declared.part_step.PartStep.TheVariants as part
 use Rattle.part_steps.specs.ControlBits.{has_writer}
-use Rattle.part_steps.specs.InvalidationRange.{has_found, page_looked}
-use Rattle.part_steps.specs.PageTopics.{searched, searched_at}
+use Rattle.part_steps.specs.InvalidationRange.{has_found, has_found_looked, page_aimed, page_looked, page_of_look}
+use Rattle.part_steps.specs.PageTopics.{claimed, filled_more, searched, searched_at}
 use Rattle.part_steps.specs.PartTasks.{set_held, part_task}
 use Rattle.part_steps.specs.PartTopics.{sequenced}
 use Rattle.part_steps.specs.SlotWords.{slot_at, slot_index}
@@ -114,11 +116,11 @@ shares_not true word e = cc e
 shares_not false word e = cc e
 
 slot_passed : (pool : ℕ → ℕ) (t : Topics) → is_some t.search.set ≡ true → t.search.id ≤ 31
-    → (is_alone t.hold && has_found (page_looked t.host) t.search) ≡ false → SearchPart pool t.search → PassedPart pool t
+    → (is_alone t.hold && has_found_looked t) ≡ false → SearchPart pool t.search → PassedPart pool t
     → PassedPart pool (record t {
       search = if is_some t.search.set then searched t.search (pool (slot_index (set_held t.search.set) t.search.id t.search.next)) else t.search;
     })
-slot_passed pool t some low unfound P passed alone out set held = by (is_some t.search.set) some held
+slot_passed pool t some low unfound P passed alone out looked set held = by (is_some t.search.set) some held
   where
     -- where a set is held, it is this one
     by : (b : Bool) → b ≡ true
@@ -129,42 +131,87 @@ slot_passed pool t some low unfound P passed alone out set held = by (is_some t.
     by true is e =
         let own : t.search.set ≡ Some set = sym (searched_set t.search.next t.search _) ∙ e in
         let none : has_found (page_looked t.host) t.search ≡ false =
-        ap (λ (k : Hold). is_alone k && has_found (page_looked t.host) t.search) (sym alone) ∙ unfound in
+        ap (λ (b : Bool). b && has_found (page_looked t.host) t.search) (sym looked) ∙ ap (λ (k : Hold). is_alone k && has_found_looked t) (sym alone)
+        ∙ unfound in
         subst (λ n. PassedBelow pool set (page_looked t.host) (searched t.search (pool (slot_index n t.search.id t.search.next)))) (sym (ap set_held own))
-        (searched_passed t.search.next pool set (page_looked t.host) t.search refl own low P none (passed alone out set own))
+        (searched_passed t.search.next pool set (page_looked t.host) t.search refl own low P none (passed alone out looked set own))
+
+-- What an actor may change after its step it might before, where it owned no page, ..
+aimed_before : (owned now_ : Option OwnedPage) (host : Option HostLook) → owned ≡ None
+    → is_some (if is_some now_ then None else page_of_look host) ≡ true → is_some (if is_some owned then None else page_of_look host) ≡ true
+aimed_before (Some o) now_ host none aimed = absurd (cc none)
+aimed_before None (Some n) host none aimed = absurd (cc aimed)
+aimed_before None None host none aimed = aimed
+
+-- .. where it filled more of the page that it owns, ..
+aimed_filled : (owned : Option OwnedPage) (host : Option HostLook) (value : ℕ)
+    → is_some (if is_some (filled_more owned value) then None else page_of_look host) ≡ true
+    → is_some (if is_some owned then None else page_of_look host) ≡ true
+aimed_filled (Some o) host value aimed = absurd (cc aimed)
+aimed_filled None host value aimed = aimed
+
+-- .. and where a host page was looked at.
+aimed_looked : (owned : Option OwnedPage) (host now_ : Option HostLook) → is_some host ≡ true
+    → is_some (if is_some owned then None else page_of_look now_) ≡ true → is_some (if is_some owned then None else page_of_look host) ≡ true
+aimed_looked (Some o) host now_ looked aimed = absurd (cc aimed)
+aimed_looked None None now_ looked aimed = absurd (cc looked)
+aimed_looked None (Some look) now_ looked aimed = refl
+
+-- what the step finds
+abbrev answer : View → ℕ → ℕ → PartStep → ℕ
+answer v a note step = answer_in (part_task step a (v.hand a).topics note) v.words
 
 own_passed : (z : Sizes) (v : View) (a note : ℕ) (step : PartStep) → IsPart z v a step → TopicsInvariant z v
-    → PassedPart (v.words area.Pool) (part_topics step (v.hand a).topics (answer_in (part_task step a (v.hand a).topics note) v.words))
-own_passed z v a note part.Enter S I = λ alone out set held. absurd (cc held)
-own_passed z v a note part.Leave S I = λ alone out set held. absurd (cc held)
-own_passed z v a note part.Begin S I = λ alone out set held. absurd (cc held)
-own_passed z v a note part.End S I = λ alone out set held. absurd (cc held)
-own_passed z v a note part.Publish S I = λ alone out set held. absurd (cc held)
+    → PassedPart (v.words area.Pool) (part_topics step (v.hand a).topics (answer v a note step))
+own_passed z v a note part.Enter S I = λ alone out looked set held. absurd (cc held)
+own_passed z v a note part.Leave S I = λ alone out looked set held. absurd (cc held)
+own_passed z v a note part.Begin S I = λ alone out looked set held. absurd (cc held)
+own_passed z v a note part.End S I = λ alone out looked set held. absurd (cc held)
+own_passed z v a note part.Publish S I = λ alone out looked set held. absurd (cc held)
 own_passed z v a note part.Unshare S I = λ alone. absurd (cc alone)
 own_passed z v a note part.Release S I = λ alone. absurd (cc alone)
 own_passed z v a note part.Share S I = λ alone. absurd (shares_not (has_writer (v.words area.Lock 0)) (v.words area.Lock 0) alone)
-own_passed z v a note part.Exclude S I = λ alone out set held.
+own_passed z v a note part.Exclude S I = λ alone out looked set held.
     let t : Topics = (v.hand a).topics in
     let none = (I.held a S.there).no_set (ap (λ (s : Stay). may_search s t.hold) out ∙ ap (may_search Outside) S.needs) in
     absurd (cc (held, none))
-own_passed z v a note part.Slots S I = λ alone out set held id slot L lt. absurd (omega (arith, lt))
+own_passed z v a note part.Slots S I = λ alone out looked set held id slot L lt. absurd (omega (arith, lt))
 own_passed z v a note part.Slot S I =
     slot_passed (v.words area.Pool) (v.hand a).topics S.needs.0 S.needs.1 S.needs.2 (I.searches a S.there) (I.passed a S.there)
 own_passed z v a note part.Seq S I = λ alone out.
     let t : Topics = (v.hand a).topics in
-    subst (λ (b : Bool). (set : ℕ) → (sequenced b t (v.words area.Seq 0)).search.set ≡ Some set
+    subst (λ (b : Bool). is_some (page_aimed (sequenced b t (v.words area.Seq 0))) ≡ true → (set : ℕ)
+    → (sequenced b t (v.words area.Seq 0)).search.set ≡ Some set
     → PassedBelow (v.words area.Pool) set (page_looked (sequenced b t (v.words area.Seq 0)).host) (sequenced b t (v.words area.Seq 0)).search)
     (sym (ap is_loose alone))
     (I.passed a S.there alone out)
-own_passed z v a note (part.Host page) S I = λ alone. absurd (let none = S.needs.1 in let is = ap is_alone alone in cc (none, is))
+own_passed z v a note (part.Host page) S I = λ alone. absurd (let none = S.needs.1 in cc (none, alone))
+own_passed z v a note part.Bring S I = λ alone out. absurd (let inside = S.needs.section in cc (inside, out))
+own_passed z v a note (part.Change new_) S I = λ alone out aimed.
+    let t : Topics = (v.hand a).topics in
+    I.passed a S.there alone out (aimed_looked t.owned t.host (Some (record { page = page_looked t.host; word = new_ })) S.needs.0.looked aimed)
+own_passed z v a note part.Claim S I = λ alone out aimed.
+    let t : Topics = (v.hand a).topics in
+    I.passed a S.there alone out (aimed_before t.owned (claimed t.claim (v.words area.PoolMap t.claim.at)) t.host S.needs.0 aimed)
+own_passed z v a note (part.Fill value) S I = λ alone out aimed.
+    I.passed a S.there alone out (aimed_filled (v.hand a).topics.owned (v.hand a).topics.host (answer v a note (part.Fill value)) aimed)
+own_passed z v a note (part.Role value) S I = λ alone out aimed.
+    I.passed a S.there alone out (aimed_filled (v.hand a).topics.owned (v.hand a).topics.host (answer v a note (part.Role value)) aimed)
+own_passed z v a note part.Clear S I = λ alone out aimed.
+    I.passed a S.there alone out (aimed_filled (v.hand a).topics.owned (v.hand a).topics.host (answer v a note part.Clear) aimed)
+own_passed z v a note part.GiveOld S I = λ alone out aimed.
+    let t : Topics = (v.hand a).topics in I.passed a S.there alone out (aimed_before t.owned None t.host S.needs.owns_none aimed)
+own_passed z v a note part.Give S I = λ alone. absurd (let other = S.needs.1 in cc (other, alone))
+own_passed z v a note (part.Link gfn) S I = λ alone. absurd (let shares = S.needs.0.shares in cc (shares, alone))
+own_passed z v a note (part.Leaf gfn) S I = λ alone. absurd (let shares = S.needs.0.shares in cc (shares, alone))
 own_passed z v a note _ S I = I.passed a S.there
 
 pub passed_kept : (z : Sizes) (v : View) (a : ℕ) (step : PartStep) (note : ℕ) → IsPart z v a step → TopicsInvariant z v
     → (i : ℕ) → i < actors_of z → PassedPart ((part_stepped a step note v).words area.Pool) ((part_stepped a step note v).hand i).topics
-passed_kept z v a step note S I i lt alone out set held id slot L =
+passed_kept z v a step note S I i lt alone out looked set held id slot L =
     let in_old : PassedIn z (v.words area.Pool) (part_stepped a step note v) =
     behind_step (PassedIn z (v.words area.Pool)) z v a step note S
     (at_upd (λ j (k : Held). j < actors_of z → PassedPart (v.words area.Pool) k.topics) v.hand a _ (λ there. own_passed z v a note step S I)
     (λ j ne. I.passed j)) in
-    in_old i lt alone out set held id slot
+    in_old i lt alone out looked set held id slot
     (is_live_was set (v.words area.Pool) ((part_stepped a step note v).words area.Pool) (held_words_stay z v a step note S I i set lt held) id slot L)

@@ -1,9 +1,11 @@
--- Each step of a part keeps that open invalidations are of the guest frames that the published slots give to their pages.
-use Rattle.std.proofs.Common.{◌≡◌, ◌⊎◌, inl, inr, ◌+◌, ◌-◌, ◌<◌, ℕ, refl, sym, subst, ap, ◌∙◌, arith}
+-- Each step of a part keeps that open invalidations of a host page are of the guest frames that the published slots give to it.
+use Rattle.std.proofs.Common.{◌≡◌, ◌≢◌, ◌⊎◌, inl, inr, ◌+◌, ◌-◌, ◌<◌, ℕ, refl, sym, subst, ap, ◌∙◌, arith}
 use Rattle.std.specs.Prelude.{Bool, true, false, ◌==◌, ◌&&◌, ◌||◌, if◌then◌else◌, Some, Option, is_some, None}
 use Rattle.std.proofs.lemmas.Bool.Decides.{nat_tests}
 use Rattle.core_views.specs.declared.sizes.Sizes.{Sizes}
+use Rattle.core_views.specs.declared.topics.HostLook.{HostLook}
 use Rattle.core_views.specs.declared.topics.Invalidated.{Invalidated}
+use Rattle.core_views.specs.declared.topics.OwnedPage.{OwnedPage}
 use Rattle.core_views.specs.declared.topics.Stay.TheVariants.{Outside}
 use Rattle.core_views.specs.declared.topics.Topics.{Topics}
 use Rattle.core_views.specs.declared.trace.Slot.{Slot as SlotOf}
@@ -13,14 +15,17 @@ use Rattle.core_views.specs.Slots.{has_host_page}
 use Rattle.spte_words.specs.declared.area.Area.TheVariants as area
 use Rattle.part_steps.specs.declared.part_step.PartStep.{PartStep}
 use Rattle.part_steps.specs.declared.part_step.PartStep.TheVariants as part
-use Rattle.part_steps.specs.InvalidationHoldings.{MayOpen, knows_count}
-use Rattle.part_steps.specs.InvalidationRange.{gfn_behind, has_found, page_looked}
+use Rattle.part_steps.specs.declared.invalidations.Target.{Target}
+use Rattle.part_steps.specs.declared.invalidations.Target.TheVariants as aim
+use Rattle.part_steps.specs.InvalidationHoldings.{IsOpening, MayOpen, knows_count}
+use Rattle.part_steps.specs.InvalidationRange.{gfn_behind, has_found, invalidated_by, page_looked, page_of_look}
 use Rattle.mmu_core.specs.invariant.HeldPart.{HoldsOld}
 use Rattle.mmu_core.specs.invariant.InvalidatedPart.{IsOfPage, ScopePart}
 use Rattle.mmu_core.specs.invariant.SlotSetPart.{IsLiveIn}
 use Rattle.mmu_core.specs.invariant.TopicsInvariant.{TopicsInvariant}
+use Rattle.mmu_core.specs.machine.Sums.{one_if}
 use Rattle.mmu_core.specs.machine.View.{View, part_stepped, answer_in}
-use Rattle.mmu_core.proofs.held.OpenFrames.{none_opened, opened_by}
+use Rattle.mmu_core.proofs.held.OpenFrames.{opened_by, others_closed}
 use Rattle.mmu_core.proofs.machine.Columns.{at_upd}
 use Rattle.mmu_core.proofs.machine.PartStepping.{AreApart, IsPart, is_publish}
 use Rattle.mmu_core.proofs.slots.LiveStay.{StayLive}
@@ -34,9 +39,9 @@ use Rattle.part_steps.specs.PartTasks.{part_task}
 use Rattle.mmu_core.proofs.lines.FaultSame.{both}
 
 -- Where the same slots are live, it is of the same frames.
-same_scope : (before after : ℕ → ℕ) (set other : ℕ) (own_ : Invalidated) → StayLive before set after other → StayLive after other before set
-    → IsOfPage before set own_ → IsOfPage after other own_
-same_scope before after set other own_ on back O = record {
+same_scope : (before after : ℕ → ℕ) (set other page : ℕ) (own_ : Invalidated) → StayLive before set after other → StayLive after other before set
+    → IsOfPage before set page own_ → IsOfPage after other page own_
+same_scope before after set other page own_ on back O = record {
   covers = λ gfn G. O.covers gfn (record { id = G.id; slot = G.slot; live = back G.id G.slot G.live; has = G.has; is = G.is });
   only = λ gfn within. let G = O.only gfn within in record { id = G.id; slot = G.slot; live = on G.id G.slot G.live; has = G.has; is = G.is };
 }
@@ -46,7 +51,7 @@ scope_found : (pool : ℕ → ℕ) (set page : ℕ) (found : Bool) (id : ℕ) (s
     → start ≡ (if found then gfn_behind page slot else 0) → end_ ≡ (if found then gfn_behind page slot + 1 else 0)
     → (found ≡ true → IsLiveIn pool set id slot × (has_host_page page slot ≡ true))
     → (found ≡ false → (i : ℕ) (other : SlotOf) → IsLiveIn pool set i other → has_host_page page other ≡ true → ⊥)
-    → IsOfPage pool set (record { page = page; start = start; end = end_ })
+    → IsOfPage pool set page (record { page = Some page; start = start; end = end_ })
 scope_found pool set page true id slot start end_ apart starts ends there none =
     let T = there refl in
     record {
@@ -66,6 +71,13 @@ scope_found pool set page false id slot start end_ apart starts ends there none 
   only = λ gfn within. absurd (let low = within.0 in let high = within.1 in omega (arith, low, high, starts, ends));
 }
 
+-- The host page that may be changed is the one that was looked at.
+looked_page : (owned : Option OwnedPage) (host : Option HostLook) (page : ℕ) → (if is_some owned then None else page_of_look host) ≡ Some page
+    → page_looked host ≡ page
+looked_page (Some o) host page is = absurd (cc is)
+looked_page None None page is = absurd (cc is)
+looked_page None (Some look) page is = cc is
+
 module _ (z : Sizes) (v : View) (a : ℕ) (I : TopicsInvariant z v) (there : a < actors_of z) where
   abbrev t : Topics
   t = (v.hand a).topics
@@ -78,24 +90,25 @@ module _ (z : Sizes) (v : View) (a : ℕ) (I : TopicsInvariant z v) (there : a <
       by (inl e) = e
       by (inr H) = absurd (let inside = H.section in cc (out, inside))
 
-  opens_scope : MayOpen t → AreApart (v.words area.Pool) (v.words area.Slots 0) → IsOfPage (v.words area.Pool) (v.words area.Slots 0) t.invalidations.own
-  opens_scope M apart =
-      subst (IsOfPage (v.words area.Pool) (v.words area.Slots 0)) (sym M.own_)
+  page_scope : (page : ℕ) → IsOpening (aim.Page page) t → t.invalidations.own ≡ invalidated_by (aim.Page page) t.search
+      → AreApart (v.words area.Pool) (v.words area.Slots 0) → IsOfPage (v.words area.Pool) (v.words area.Slots 0) page t.invalidations.own
+  page_scope page O own_ apart =
+      subst (IsOfPage (v.words area.Pool) (v.words area.Slots 0) page) (sym own_)
       (scope_found (v.words area.Pool) (v.words area.Slots 0) page (has_found page t.search) (t.search.id - 1) t.search.slot _ _ apart refl refl
       (λ e. let B = both t.search.whole (has_host_page page t.search.slot) e in (found B.0, B.1)) passed)
     where
-      page : ℕ
-      page = page_looked t.host
+      looked : page_looked t.host ≡ page
+      looked = looked_page t.owned t.host page O.aimed
 
       held : (set : ℕ) × (t.search.set ≡ Some set)
-      held = some_set t.search.set M.opening.holds_set
+      held = some_set t.search.set O.holds_set
         where
           some_set : (o : Option ℕ) → is_some o ≡ true → (set : ℕ) × (o ≡ Some set)
           some_set None some = absurd (cc some)
           some_set (Some set) some = (set, refl)
 
       published : held.0 ≡ v.words area.Slots 0
-      published = searched_published held.0 M.opening.outside held.1
+      published = searched_published held.0 O.outside held.1
 
       found : t.search.whole ≡ true → IsLiveIn (v.words area.Pool) (v.words area.Slots 0) (t.search.id - 1) t.search.slot
       found whole = subst (λ s. IsLiveIn (v.words area.Pool) s (t.search.id - 1) t.search.slot) published ((I.searches a there).whole held.0 held.1 whole).1
@@ -105,17 +118,32 @@ module _ (z : Sizes) (v : View) (a : ℕ) (I : TopicsInvariant z v) (there : a <
           → has_host_page page other ≡ true → ⊥
       passed none i other L has =
           let last : t.search.id ≡ 32 =
-          let over = M.opening.searched in let end_ = or_over (has_found page t.search) (t.search.id == 32) none over in grind (arith, nat_tests) in
+          let over = O.searched in let end_ = or_over (has_found page t.search) (t.search.id == 32) none over in grind (arith, nat_tests) in
           let low = L.low in
           let P =
-          I.passed a there M.opening.alone M.opening.outside held.0 held.1 i other
-          (subst (λ s. IsLiveIn (v.words area.Pool) s i other) (sym published) L) (omega (arith, low, last)) has in
+          I.passed a there O.alone O.outside (ap (λ (o : Option ℕ). is_some o) O.aimed) held.0 held.1 i other
+          (subst (λ s. IsLiveIn (v.words area.Pool) s i other) (sym published) L) (omega (arith, low, last))
+          (ap (λ p. has_host_page p other) looked ∙ has) in
           let yes : has_found page t.search ≡ true = ap (λ (b : Bool). b && has_host_page page t.search.slot) P.0 ∙ (ap (has_host_page page) (sym P.1) ∙ has) in
           cc (none, yes)
         where
           or_over : (x y : Bool) → x ≡ false → (x || y) ≡ true → y ≡ true
           or_over true y e over = absurd (cc e)
           or_over false y e over = over
+
+  opens_scope : MayOpen t → AreApart (v.words area.Pool) (v.words area.Slots 0) → (page : ℕ) → t.invalidations.own.page ≡ Some page
+      → IsOfPage (v.words area.Pool) (v.words area.Slots 0) page t.invalidations.own
+  opens_scope M apart page is = by M.target M.opening M.own_
+    where
+      by : (target : Target) → IsOpening target t → t.invalidations.own ≡ invalidated_by target t.search
+          → IsOfPage (v.words area.Pool) (v.words area.Slots 0) page t.invalidations.own
+      by (aim.Slot slot) O own_ = absurd (let none = ap (λ (n : Invalidated). n.page) own_ in cc (none, is))
+      by (aim.Page other) O own_ =
+          let same = sym (ap (λ (n : Invalidated). n.page) own_) ∙ is in
+          subst (λ p. IsOfPage (v.words area.Pool) (v.words area.Slots 0) p t.invalidations.own) (same_some same) (page_scope other O own_ apart)
+        where
+          same_some : {x y : ℕ} → Some x ≡ Some y → x ≡ y
+          same_some e = cc e
 
 -- of the words as they were
 abbrev ScopesIn : Sizes → (ℕ → ℕ) → ℕ → View → Type 0
@@ -124,36 +152,47 @@ ScopesIn z pool slots v = ScopePart (actors_of z) pool slots (λ i. (v.hand i).t
 scopes_behind : (z : Sizes) (v : View) (a note : ℕ) (step : PartStep) → IsPart z v a step → TopicsInvariant z v
     → ScopesIn z (v.words area.Pool) (v.words area.Slots 0) (part_behind a step note v)
 scopes_behind z v a note step S I =
-    at_upd (λ i (k : Held). i < actors_of z → k.topics.invalidations.opened ≡ true
-    → IsOfPage (v.words area.Pool) (v.words area.Slots 0) k.topics.invalidations.own) v.hand a _
-    (λ lt. own step S) (λ i ne lt is. I.scopes i lt is)
+    λ i page lt is of_page.
+    at_upd (λ i (k : Held). i < actors_of z → k.topics.invalidations.opened ≡ true → k.topics.invalidations.own.page ≡ Some page
+    → IsOfPage (v.words area.Pool) (v.words area.Slots 0) page k.topics.invalidations.own) v.hand a _
+    (λ lt. own page step S) (λ i ne lt is of_page. I.scopes i page lt is of_page) i lt is of_page
   where
-    own : (step : PartStep) → IsPart z v a step
+    own : (page : ℕ) (step : PartStep) → IsPart z v a step
         → (part_topics step (v.hand a).topics (answer_in (part_task step a (v.hand a).topics note) v.words)).invalidations.opened ≡ true
-        → IsOfPage (v.words area.Pool) (v.words area.Slots 0)
+        → (part_topics step (v.hand a).topics (answer_in (part_task step a (v.hand a).topics note) v.words)).invalidations.own.page ≡ Some page
+        → IsOfPage (v.words area.Pool) (v.words area.Slots 0) page
         (part_topics step (v.hand a).topics (answer_in (part_task step a (v.hand a).topics note) v.words)).invalidations.own
-    own (part.SetStart gfn) T is = absurd (let closed = T.needs.0.opening.closed in cc (is, closed))
-    own (part.SetCount count) T more =
+    own page (part.SetStart first gfn) T is = absurd (let closed = T.needs.0.opening.closed in cc (is, closed))
+    own page (part.SetEnd last gfn) T is = absurd (let closed = T.needs.0.opening.closed in cc (is, closed))
+    own page (part.SetCount count) T more =
         opens_scope z v a I T.there (T.needs.opens (opened_by z v a I T.there (v.hand a).topics.invalidations.opened count refl T.needs.is more)) T.replaces
-    own _ T is = I.scopes a T.there is
+        page
+    own page _ T is = I.scopes a page T.there is
 
--- A slot set is published where no invalidation is open.
+-- No actor has an invalidation of a host page open.
+abbrev NoneOfPage : Sizes → View → Type 0
+NoneOfPage z v =
+    (i page : ℕ) → i < actors_of z → (v.hand i).topics.invalidations.opened ≡ true → (v.hand i).topics.invalidations.own.page ≡ Some page → ⊥
+
+-- A slot set is published where no invalidation is open but the publisher's own, which is of no host page.
 none_published : (z : Sizes) (v : View) (a note : ℕ) (step : PartStep) → IsPart z v a step → TopicsInvariant z v → is_publish step ≡ true
-    → (i : ℕ) → i < actors_of z → ((part_behind a step note v).hand i).topics.invalidations.opened ≡ true → ⊥
-none_published z v a note part.Publish S I is =
-    at_upd (λ i (k : Held). i < actors_of z → k.topics.invalidations.opened ≡ true → ⊥) v.hand a _ (λ lt. never a lt) (λ i ne lt. never i lt)
+    → NoneOfPage z (part_behind a step note v)
+none_published z v a note part.Publish S I is = λ i page.
+    at_upd (λ i (k : Held). i < actors_of z → k.topics.invalidations.opened ≡ true → k.topics.invalidations.own.page ≡ Some page → ⊥) v.hand a _
+    (λ lt opened of_page. absurd (let none = S.needs.of_no_page opened in cc (none, of_page))) (λ i ne lt opened of_page. never i ne lt opened) i
   where
-    zero_count : v.words area.Count 0 ≡ 0
-    zero_count = sym ((I.checks a S.there).counted (ap has_lock S.needs.alone) (ap knows_count S.needs.looked)) ∙ S.needs.none_open
+    own_count : v.words area.Count 0 ≡ one_if (v.hand a).topics.invalidations.opened
+    own_count = sym ((I.checks a S.there).counted (ap has_lock S.needs.alone) (ap knows_count S.needs.looked)) ∙ S.needs.none_open
 
-    never : (i : ℕ) → i < actors_of z → (v.hand i).topics.invalidations.opened ≡ true → ⊥
-    never i lt = none_opened (actors_of z) (v.words area.Count 0) (λ j. (v.hand j).topics.invalidations.opened) i lt I.counts zero_count
+    never : (i : ℕ) → i ≢ a → i < actors_of z → (v.hand i).topics.invalidations.opened ≡ true → ⊥
+    never i ne lt =
+        others_closed (actors_of z) (v.words area.Count 0) (λ j. (v.hand j).topics.invalidations.opened) a i S.there lt ne I.counts own_count
 none_published z v a note _ S I is = absurd (cc is)
 
 pub scopes_kept : (z : Sizes) (v : View) (a : ℕ) (step : PartStep) (note : ℕ) → IsPart z v a step → TopicsInvariant z v
     → ScopePart (actors_of z) ((part_stepped a step note v).words area.Pool) ((part_stepped a step note v).words area.Slots 0)
     (λ i. ((part_stepped a step note v).hand i).topics)
-scopes_kept z v a step note S I i lt opened = by (is_publish step) refl
+scopes_kept z v a step note S I i page lt opened of_page = by (is_publish step) refl
   where
     after : ℕ → ℕ
     after = (part_stepped a step note v).words area.Pool
@@ -162,13 +201,12 @@ scopes_kept z v a step note S I i lt opened = by (is_publish step) refl
     stays = published_stays z v a step note S I
 
     by : (b : Bool) → is_publish step ≡ b
-        → IsOfPage after ((part_stepped a step note v).words area.Slots 0) ((part_stepped a step note v).hand i).topics.invalidations.own
+        → IsOfPage after ((part_stepped a step note v).words area.Slots 0) page ((part_stepped a step note v).hand i).topics.invalidations.own
     by true is =
-        absurd (behind_step (λ (w : View). (j : ℕ) → j < actors_of z → (w.hand j).topics.invalidations.opened ≡ true → ⊥) z v a step note S
-        (none_published z v a note step S I is) i lt opened)
+        absurd (behind_step (NoneOfPage z) z v a step note S (none_published z v a note step S I is) i page lt opened of_page)
     by false is =
-        subst (λ s. IsOfPage after s ((part_stepped a step note v).hand i).topics.invalidations.own)
+        subst (λ s. IsOfPage after s page ((part_stepped a step note v).hand i).topics.invalidations.own)
         (sym (slots_are v a step note ∙ slots_same step (v.hand a).topics (v.words area.Slots 0) is))
-        (same_scope (v.words area.Pool) after (v.words area.Slots 0) (v.words area.Slots 0) _
+        (same_scope (v.words area.Pool) after (v.words area.Slots 0) (v.words area.Slots 0) page _
         (is_live_stays (v.words area.Slots 0) (v.words area.Pool) after stays) (is_live_was (v.words area.Slots 0) (v.words area.Pool) after stays)
-        (behind_step (ScopesIn z (v.words area.Pool) (v.words area.Slots 0)) z v a step note S (scopes_behind z v a note step S I) i lt opened))
+        (behind_step (ScopesIn z (v.words area.Pool) (v.words area.Slots 0)) z v a step note S (scopes_behind z v a note step S I) i page lt opened of_page))

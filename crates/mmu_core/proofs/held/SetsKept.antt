@@ -96,7 +96,8 @@ sets_behind z v a note part.Slots =
     (λ k e. inl (begun_set (may_search (v.hand a).topics.stay (v.hand a).topics.hold) (v.hand a).topics.search (v.words area.Slots 0) k e)) refl refl
 sets_behind z v a note part.Slot =
     λ S I. sets_same z v a _ I (λ k e. inr (sym (set_kept (is_some (v.hand a).topics.search.set) (v.hand a).topics.search _) ∙ e, refl)) refl refl
-sets_behind z v a note part.Give = λ S I. sets_same z v a _ I (λ k e. inr (e, refl)) (still_left (v.hand a).topics.owned (v.hand a).topics.retired S.needs) refl
+sets_behind z v a note part.Give =
+    λ S I. sets_same z v a _ I (λ k e. inr (e, refl)) (still_left (v.hand a).topics.owned (v.hand a).topics.retired S.needs.0) refl
 sets_behind z v a note part.GiveOld =
     λ S I. sets_stay z v a _ I refl refl
     (λ i k ne lt section left unwatched. absurd (all_passed z (v.hand a) a i S.sizes S.own_place S.needs.watched lt ne unwatched))

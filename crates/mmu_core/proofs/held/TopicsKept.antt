@@ -47,6 +47,7 @@ use Rattle.mmu_core.proofs.held.OldSets.{old_sets_kept}
 use Rattle.mmu_core.proofs.held.SetsKept.{sets_kept}
 use Rattle.mmu_core.proofs.held.KnownRange.{known_range_kept}
 use Rattle.mmu_core.proofs.held.OpenFrames.{ranges_kept}
+use Rattle.mmu_core.proofs.pages.SweptKept.{swept_kept}
 use Rattle.mmu_core.proofs.pages.ZappedKept.{zapped_kept}
 use Rattle.mmu_core.proofs.held.PassedKept.{passed_kept}
 use Rattle.mmu_core.proofs.held.ScopesKept.{scopes_kept}
@@ -83,6 +84,7 @@ topics_part_kept z v a step note S I = record {
   ranges = ranges_kept z v a step note S I;
   passed = passed_kept z v a step note S I;
   scopes = scopes_kept z v a step note S I;
+  swept = swept_kept z v a step note S I;
   zapped = zapped_kept z v a step note S I;
   few_ended = few_kept z v a step note S I;
   counters = counters_kept z v a step note S I;

@@ -128,7 +128,7 @@ module _ (z : Sizes) (v : View) (a : ℕ) (I : Invariant z v) (P : TopicsInvaria
           → Agrees v.words (if b then with_leaf gfn walk.level (entry gfn) h.cached else h.cached).items
       by false is = each
       by true is =
-          let found = leaf_found z v a gfn there I P S.needs (found_is_leaf (kind_of walk.level (entry gfn)) allowed is) in
+          let found = leaf_found z v a gfn there I P S.needs.0 (found_is_leaf (kind_of walk.level (entry gfn)) allowed is) in
           with_leaf_all (λ (t : Translation). IsLeafFor (v.words area.Pool) (v.words area.Host) (v.words area.Slots 0) t.gfn t.leaf)
           gfn walk.level (entry gfn) h.cached found.1 each
 

@@ -51,21 +51,21 @@ Agrees words cached = AgreePart (words area.Pool) (words area.Host) (words area.
 -- ---- Slots and host change.
 
 -- An invalidation is of a page, and not of this guest frame: where the page's host word changes, the leaf of the guest frame is the same.
-leaf_elsewhere : (pool host : ℕ → ℕ) (set page x : ℕ) (own_ : Invalidated) (gfn leaf : ℕ) → IsOfPage pool set own_ → own_.page ≡ page
+leaf_elsewhere : (pool host : ℕ → ℕ) (set page x : ℕ) (own_ : Invalidated) (gfn leaf : ℕ) → IsOfPage pool set page own_
     → (IsIn own_ gfn → ⊥) → IsLeafFor pool host set gfn leaf → IsLeafFor pool (upd host page x) set gfn leaf
-leaf_elsewhere pool host set page x own_ gfn leaf scope same out L = leaf_same pool host set page x gfn leaf L (λ e. absurd (apart e))
+leaf_elsewhere pool host set page x own_ gfn leaf scope out L = leaf_same pool host set page x gfn leaf L (λ e. absurd (apart e))
   where
     apart : page_of L.slot gfn ≢ page
     apart e =
         let B = behind_it L.slot gfn L.holds in
         let given : SlotGives pool set (page_of L.slot gfn) gfn = record { id = L.id; slot = L.slot; live = L.live; has = B.0; is = B.1 } in
-        out (scope.covers gfn (subst (λ p. SlotGives pool set p gfn) (e ∙ sym same) given))
+        out (scope.covers gfn (subst (λ p. SlotGives pool set p gfn) e given))
 
 -- So what is cached agrees still, where nothing of it is of the invalidation's frames.
-agree_elsewhere : (pool host : ℕ → ℕ) (set page x : ℕ) (own_ : Invalidated) (cached : List Translation) → IsOfPage pool set own_
-    → own_.page ≡ page → IsClean own_ cached → AgreePart pool host set cached → AgreePart pool (upd host page x) set cached
-agree_elsewhere pool host set page x own_ cached scope same clean agrees k d lt =
-    leaf_elsewhere pool host set page x own_ _ _ scope same (clean k d lt) (agrees k d lt)
+agree_elsewhere : (pool host : ℕ → ℕ) (set page x : ℕ) (own_ : Invalidated) (cached : List Translation) → IsOfPage pool set page own_
+    → IsClean own_ cached → AgreePart pool host set cached → AgreePart pool (upd host page x) set cached
+agree_elsewhere pool host set page x own_ cached scope clean agrees k d lt =
+    leaf_elsewhere pool host set page x own_ _ _ scope (clean k d lt) (agrees k d lt)
 
 -- Another slot set is published: a slot that goes has none of what is cached.
 agree_published : (pool host : ℕ → ℕ) (vcpus set page : ℕ) (t : Topics) (cached : List Translation)
@@ -102,7 +102,7 @@ agrees_behind z v a part.Bring note cached S I clean agrees = λ k d lt.
     S.needs.absent (agrees k d lt)
 agrees_behind z v a (part.Change new_) note cached S I clean agrees =
     agree_elsewhere (v.words area.Pool) (v.words area.Host) (v.words area.Slots 0) (page_looked (v.hand a).topics.host) _ (v.hand a).topics.invalidations.own
-    cached (I.scopes a S.there S.needs.0.opened) S.needs.0.invalid clean agrees
+    cached (I.scopes a _ S.there S.needs.0.opened S.needs.0.invalid) clean agrees
 agrees_behind z v a part.Publish note cached S I clean agrees =
     agree_published (v.words area.Pool) (v.words area.Host) z.vcpus (v.words area.Slots 0) (page_owned (v.hand a).topics.owned) (v.hand a).topics cached
     S.replaces.stay clean agrees

@@ -18,6 +18,7 @@ use Rattle.mmu_core.specs.machine.Turns.{line_of}
 use Rattle.mmu_core.specs.machine.View.{View}
 use Rattle.mmu_core.proofs.invariant.PartBounded.{part_rests_at}
 use Rattle.mmu_core.proofs.lines.Forms.{place_few, some_left}
+use Rattle.mmu_core.proofs.lines.KnowsKept.{knows_at}
 use Rattle.mmu_core.proofs.machine.Stepping.{is_begun, is_step}
 
 stands_there : (q : Place) (h : Held) → IsUnderWay q → place_at q h ≡ q
@@ -36,5 +37,5 @@ pub hand_few : (z : Sizes) (v : View) (a : ℕ) → Invariant z v → TopicsInva
 hand_few z v a I P there left =
     let h : Held = v.hand a in
     let R : PartRests h = part_rests_at z v a I P there in
-    place_few (place_at h.state.place h) (line_of h).command z h.state.sizes (v.words area.Pool) (v.words area.Slots 0) h h.topics
-    (is_step z v a I there left).holds R.sizes R.level
+    place_few (place_at h.state.place h) (line_of h).command z (v.words area.Pool) (v.words area.Slots 0) h (is_step z v a I there left).holds
+    (knows_at z v a I there left) R.sizes R.level

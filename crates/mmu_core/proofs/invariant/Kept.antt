@@ -15,14 +15,16 @@ use Rattle.core_views.specs.declared.trace.Command.TheVariants.{Access, ChangeHo
 use Rattle.core_views.specs.declared.trace.Line.{Line}
 use Rattle.core_views.specs.declared.place.SlotChangePlace.{SlotChangePlace}
 use Rattle.mmu_core.specs.lines.Forms.{outcome_at}
-use Rattle.mmu_core.specs.lines.SlotChangeSteps.{slot_change_part}
+use Rattle.mmu_core.specs.lines.SlotChangeSteps.{slot_change_part, slot_change_task}
 use Rattle.mmu_core.specs.invariant.Invariant.{Invariant, KnowsPart, RetiresPart, OwnLines}
 use Rattle.mmu_core.specs.invariant.TopicsInvariant.{TopicsInvariant}
 use Rattle.mmu_core.specs.machine.View.{View, stepped, hand_after, answer_in}
 use Rattle.mmu_core.proofs.lines.AccessKept.{access_kept}
 use Rattle.mmu_core.proofs.lines.KnowsKept.{KnowsAfter, KnowsBehind, NeedsAt, access_vcpu, knows_after, own_access, step_knows, step_leaves}
 pub use Rattle.mmu_core.proofs.invariant.QuietKept.{MakesAt}
-use Rattle.mmu_core.proofs.slots.SlotChangeKept.{change_hand, change_needs, change_replaces, own_slot_change, slot_change_kept}
+use Rattle.mmu_core.proofs.slots.SlotChangeKept.{change_hand, slot_change_kept}
+use Rattle.mmu_core.proofs.slots.SlotChangeMakes.{change_needs, change_replaces, change_rests, change_said, own_slot_change}
+use Rattle.mmu_core.proofs.slots.SlotChangeKnown.{WordsSay}
 use Rattle.mmu_core.proofs.invariant.QuietHand.{one_step}
 use Rattle.mmu_core.proofs.machine.Stepping.{IsStep}
 use Rattle.mmu_core.proofs.lines.AccessParts.{AreSmall, makes_parts, may_make}
@@ -46,18 +48,32 @@ needs_at z v a line (ChangeHost page change) (place.Host p) S I P =
     host_needs p (v.hand a) page change (part_rests_at z v a I P S.there) (step_knows z v a line (ChangeHost page change) (place.Host p) S I)
 needs_at z v a line (Access gfn word op) (place.Host p) S I P = absurd S.holds
 needs_at z v a line (SetSlot id slot) (place.Host p) S I P = absurd S.holds
-needs_at z v a line command (place.SlotChange p) S I P = ((step_knows z v a line command (place.SlotChange p) S I).0, change_needs z v a line p command S I P)
+needs_at z v a line command (place.SlotChange p) S I P = (
+  (step_knows z v a line command (place.SlotChange p) S I).0,
+  change_needs z v a line p command S I P,
+  change_rests z v a line p command S I,
+)
+
+-- What the words say to a line that changes a slot, besides what it knows.
+abbrev SaidAt : Place → Command → Held → (Area → ℕ → ℕ) → Type 0
+SaidAt (place.SlotChange p) command h words = WordsSay p command h (answer_in (slot_change_task p h command) words)
+SaidAt _ command h words = Unit {0}
+
+said_at : (z : Sizes) (v : View) (a : ℕ) (line : Line) (command : Command) (p : Place) → IsStep z v a line command p → Invariant z v
+    → TopicsInvariant z v → SaidAt p command (v.hand a) v.words
+said_at z v a line command (place.SlotChange p) S I P = change_said z v a line p command S I P
+said_at z v a line command _ S I P = tt
 
 -- What its actor knows after its step.
 own_known : (p : Place) (line : Line) (command : Command) (z : Sizes) (h : Held) (words : Area → ℕ → ℕ) → IsUnderWay p
-    → IsCommandFor z h.state.actor command → PartRests h → KnowsPart p command h → RetiresPart p h.topics → NeedsAt p command h
+    → IsCommandFor z h.state.actor command → PartRests h → KnowsPart p command h → RetiresPart p h.topics → NeedsAt p command h → SaidAt p command h words
     → KnowsAfter line command p h (answer_in (task_at p command h) words)
-own_known place.Between line command z h words begun may R K left N = absurd begun
-own_known (place.Access p) line (Access gfn word op) z h words begun may R K left N =
+own_known place.Between line command z h words begun may R K left N W = absurd begun
+own_known (place.Access p) line (Access gfn word op) z h words begun may R K left N W =
     let V = access_vcpu z h.state.actor gfn word op may in own_access p line h gfn word op words V.0 V.1 R K
-own_known (place.SlotChange p) line command z h words begun may R K left N = own_slot_change p line h command words R K left N.1
-own_known (place.Host p) line (ChangeHost page change) z h words begun may R K left N = own_host p line h page change words R K left
-own_known _ line _ z h words begun may R K left N = absurd K
+own_known (place.SlotChange p) line command z h words begun may R K left N W = own_slot_change p line h command words R K left N.1 W
+own_known (place.Host p) line (ChangeHost page change) z h words begun may R K left N W = own_host p line h page change words R K left
+own_known _ line _ z h words begun may R K left N W = absurd K
 
 -- The step of a line leaves its actor with what its next place asks, or at rest where the line is answered.
 pub line_knows : (z : Sizes) (v : View) (a : ℕ) (line : Line) (command : Command) (p : Place) → IsStep z v a line command p → Invariant z v
@@ -66,7 +82,7 @@ pub line_knows : (z : Sizes) (v : View) (a : ℕ) (line : Line) (command : Comma
     (hand_after line command p (v.hand a) (answer_in (task_at p command (v.hand a)) v.words))
 line_knows z v a line command p S I P there =
     own_known p line command z (v.hand a) v.words S.begun (subst (λ x. IsCommandFor z x command) S.own S.allowed) (part_rests_at z v a I P there)
-    (step_knows z v a line command p S I) (step_leaves z v a line command p S I) (needs_at z v a line command p S I P)
+    (step_knows z v a line command p S I) (step_leaves z v a line command p S I) (needs_at z v a line command p S I P) (said_at z v a line command p S I P)
 
 -- Each step of a line leaves each actor with what its place asks.
 pub knows_behind : (z : Sizes) (v : View) (a : ℕ) (line : Line) (command : Command) (p : Place) → IsStep z v a line command p → Invariant z v
@@ -87,7 +103,7 @@ pub makes_slot_change : (z : Sizes) (v : View) (a : ℕ) (line : Line) (p : Slot
     → IsPart z v a (slot_change_part p (v.hand a) command)
 makes_slot_change z v a line p command small S I P =
     may_make z v a (slot_change_part p (v.hand a) command) small I P S.there (change_needs z v a line p command S I P)
-    (change_replaces z v a line p command S I)
+    (change_replaces z v a line p command small S I P)
 
 pub makes_at : (z : Sizes) (v : View) (a : ℕ) (line : Line) (command : Command) (p : Place) → AreSmall v → IsStep z v a line command p → Invariant z v
     → TopicsInvariant z v → MakesAt z v a p command

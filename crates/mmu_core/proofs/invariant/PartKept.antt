@@ -23,12 +23,12 @@ use Rattle.core_views.specs.SlotSets.{MemorySlots}
 use Rattle.mmu_core.specs.invariant.Invariant.{CachedPart, Holds, Invariant, InvariantOf, OwnLines, RecordPart, UnderWay}
 use Rattle.part_steps.specs.PartTasks.{own_index, part_task}
 use Rattle.part_steps.specs.PartSteps.{has_line, needs_line}
-use Rattle.mmu_core.proofs.slots.LiveStay.{StayLive, set_stays}
+use Rattle.mmu_core.proofs.slots.LiveStay.{set_stays}
 use Rattle.mmu_core.proofs.slots.LiveStays.{SetStays, published_stays}
 use Rattle.mmu_core.proofs.held.OthersStay.{retires_none, owned_stays}
 use Rattle.mmu_core.proofs.machine.PartStepping.{IsPart, idle_never, is_publish, idle_untold}
 use Rattle.mmu_core.proofs.words.PartWords.{role_stays, slots_are, slots_other_role, slots_same}
-use Rattle.mmu_core.proofs.slots.SlotsStay.{AllKnow, hand_moved, is_live_stays, is_live_was, record_stays}
+use Rattle.mmu_core.proofs.slots.SlotsStay.{AllKnow, hand_moved, is_live_was, record_stays}
 use Rattle.mmu_core.proofs.machine.Which.{has_line_is}
 use Rattle.mmu_core.proofs.lines.UsedTranslations.{flushed_room}
 use Rattle.spte_words.specs.Entries.{frame_in}
@@ -67,7 +67,7 @@ pub part_keeps_lines : (z : Sizes) (v : View) (a : ℕ) (step : PartStep) (note 
     ≡ false → Invariant z v → TopicsInvariant z v → AllKnow z (part_stepped a step note v).hand → Invariant z (part_stepped a step note v)
 part_keeps_lines z v a step note S free none I P knows =
     subst (λ n. InvariantOf z n (words area.Role) (words area.Pool) (upd v.hand a after)) (sym (slots_are v a step note ∙ slots_same step h.topics set never))
-    (hand_moved z set set (v.words area.Role) (words area.Role) (v.words area.Pool) (words area.Pool) v.hand a after live
+    (hand_moved z set set (v.words area.Role) (words area.Role) (v.words area.Pool) (words area.Pool) v.hand a after
     (set_stays z (v.words area.Role) (words area.Role) (v.words area.Pool) set (words area.Pool) set
     (is_live_was set (v.words area.Pool) (words area.Pool) stays)
     (role_stays z v a step note S set (slots_other_role z v a step S P) ∙ I.set_part.role_is) I.set_part)
@@ -103,9 +103,6 @@ part_keeps_lines z v a step note S free none I P knows =
 
     stays : SetStays set (v.words area.Pool) (words area.Pool)
     stays = published_stays z v a step note S P
-
-    live : StayLive (v.words area.Pool) set (words area.Pool) set
-    live = is_live_stays set (v.words area.Pool) (words area.Pool) stays
 
     recorded : (slots : MemorySlots) → RecordPart (v.words area.Pool) set slots → RecordPart (words area.Pool) set slots
     recorded slots R = record_stays set (v.words area.Pool) (words area.Pool) stays slots R

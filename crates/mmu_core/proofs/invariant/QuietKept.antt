@@ -34,10 +34,10 @@ use Rattle.mmu_core.proofs.lines.UsedTranslations.{flushed_room}
 use Rattle.mmu_core.proofs.machine.HandAfter.{IsSameState, loads_same}
 use Rattle.mmu_core.proofs.machine.PartStepping.{IsPart, is_publish}
 use Rattle.mmu_core.proofs.machine.Stepping.{IsStep}
-use Rattle.mmu_core.proofs.slots.LiveStay.{StayLive, set_stays}
+use Rattle.mmu_core.proofs.slots.LiveStay.{set_stays}
 use Rattle.mmu_core.proofs.slots.LiveStays.{MakesParts, OwnedStays, access_never, SetStays, published_stays, touch_leaves_pool}
 use Rattle.mmu_core.proofs.slots.LiveStays.{touch_leaves_role, touch_leaves_slots}
-use Rattle.mmu_core.proofs.slots.SlotsStay.{AllKnow, hand_moved, is_live_stays, is_live_was, record_stays}
+use Rattle.mmu_core.proofs.slots.SlotsStay.{AllKnow, hand_moved, is_live_was, record_stays}
 use Rattle.mmu_core.proofs.words.PartWords.{role_stays, slots_are, slots_other_role, slots_same}
 
 -- The step of a part that a line makes at a place is one that its actor may make.
@@ -121,7 +121,7 @@ pub quiet_kept : (z : Sizes) (v : View) (a : ℕ) (line : Line) (command : Comma
     → Invariant z (stepped a line command p v)
 quiet_kept z v a line command p S I W Q knows =
     subst (λ n. InvariantOf z n (words area.Role) (words area.Pool) (upd v.hand a after)) (sym W.slots)
-    (hand_moved z set set (v.words area.Role) (words area.Role) (v.words area.Pool) (words area.Pool) v.hand a after live
+    (hand_moved z set set (v.words area.Role) (words area.Role) (v.words area.Pool) (words area.Pool) v.hand a after
     (set_stays z (v.words area.Role) (words area.Role) (v.words area.Pool) set (words area.Pool) set
     (is_live_was set (v.words area.Pool) (words area.Pool) W.pool) (W.role ∙ I.set_part.role_is) I.set_part)
     W.owned (λ i lt ne is. recorded (v.hand i).slots (I.recorded i lt is)) own
@@ -148,9 +148,6 @@ quiet_kept z v a line command p S I W Q knows =
 
     loaded : IsSameState h.state (state_at p command h x)
     loaded = let same = loads_same p command h x in record { actor = same.actor; sizes = same.sizes }
-
-    live : StayLive (v.words area.Pool) set (words area.Pool) set
-    live = is_live_stays set (v.words area.Pool) (words area.Pool) W.pool
 
     recorded : (slots : MemorySlots) → RecordPart (v.words area.Pool) set slots → RecordPart (words area.Pool) set slots
     recorded slots R = record_stays set (v.words area.Pool) (words area.Pool) W.pool slots R

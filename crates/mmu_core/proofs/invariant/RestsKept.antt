@@ -51,7 +51,9 @@ use Rattle.part_steps.proofs.EntryTopics.{looked_at}
 use Rattle.mmu_core.proofs.lines.KnowsKept.{access_needs, access_vcpu, step_knows, NeedsAt}
 use Rattle.mmu_core.proofs.invariant.Kept.{needs_at}
 use Rattle.mmu_core.proofs.invariant.PartBounded.{part_rests_at}
+use Rattle.mmu_core.proofs.invariant.TargetStays.{count_stays, end_stays, start_stays}
 use Rattle.mmu_core.proofs.words.PartFits.{part_within_by}
+use Rattle.mmu_core.proofs.words.PartTopics.{no_sweep}
 use Rattle.mmu_core.proofs.machine.Stepping.{is_step}
 use Rattle.part_steps.specs.declared.task.Task.{Task}
 use Rattle.mmu_core.proofs.lines.Forms.{RestsOnPart, accepts_at, accepts_at_prop, other_rests}
@@ -76,7 +78,7 @@ access_rests Touch z h gfn word op cached same may R K =
     }
 access_rests (Enter again) z h gfn word op cached same may R K =
     let V = access_vcpu z h.state.actor gfn word op may in access_needs (Enter again) h gfn (is_write op) V.0 V.1 R K
-access_rests (Walk again) z h gfn word op cached same may R K = K.1
+access_rests (Walk again) z h gfn word op cached same may R K = (K.1, no_sweep h.topics K.0.guest refl)
 access_rests (Leave how) z h gfn word op cached same may R K = K.guest
 access_rests (Fault p) z h gfn word op cached same may R K =
     let V = access_vcpu z h.state.actor gfn word op may in access_needs (Fault p) h gfn (is_write op) V.0 V.1 R K
@@ -190,6 +192,11 @@ needs_stay (part.Watch index) h x = (
   ∥∥₁_elim x (hlevel props) (λ N. N.1),
   either_stays (same_or index (next_watched (own_index h) 0)) (λ y. prop_stays (hlevel props) y) (∥∥₁_map x (λ N. N.2)),
 )
+needs_stay (part.SetStart first gfn) h x =
+    (start_stays first gfn h.topics (∥∥₁_map x (λ N. N.0)), ∥∥₁_elim x (hlevel props) (λ N. N.1), ∥∥₁_elim x (hlevel props) (λ N. N.2))
+needs_stay (part.SetEnd last gfn) h x =
+    (end_stays last gfn h.topics (∥∥₁_map x (λ N. N.0)), ∥∥₁_elim x (hlevel props) (λ N. N.1), ∥∥₁_elim x (hlevel props) (λ N. N.2))
+needs_stay (part.SetCount count) h x = count_stays count h.topics x
 needs_stay _ h x = prop_stays (hlevel props) x
 
 on_stays : (s : Option PartStep) (gfn : ℕ) (write : Bool) (h : Held) → ∥ RestsOn s gfn write h ∥₁ → RestsOn s gfn write h

@@ -287,8 +287,8 @@ fault_known (End e) h gfn v write small R K A = record { outside = refl; loose =
 pub parts_answer : (step : PartStep) (own : ℕ) (t : Topics) (note : ℕ) (words : Area → ℕ → ℕ) → CanAnswer step (answer_in (part_task step own t note) words)
 parts_answer (part.Fill value) own t note words = refl
 parts_answer (part.Role value) own t note words = refl
-parts_answer (part.SetStart value) own t note words = refl
-parts_answer (part.SetEnd value) own t note words = refl
+parts_answer (part.SetStart first value) own t note words = refl
+parts_answer (part.SetEnd last value) own t note words = refl
 parts_answer (part.SetCount value) own t note words = refl
 parts_answer (part.SetSeq value) own t note words = refl
 parts_answer _ own t note words = tt

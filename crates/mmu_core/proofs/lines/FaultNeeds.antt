@@ -22,7 +22,8 @@ use Rattle.mmu_core.proofs.lines.ClaimMade.{claim_needs}
 use Rattle.mmu_core.proofs.lines.FaultSame.{over_it}
 use Rattle.mmu_core.proofs.lines.ShareMade.{share_needs}
 use Rattle.part_steps.specs.StayTopics.{is_alone}
-use Rattle.part_steps.specs.InvalidationRange.{has_found, page_looked}
+use Rattle.part_steps.specs.InvalidationRange.{has_found_looked}
+use Rattle.mmu_core.proofs.words.PartTopics.{no_sweep}
 
 page_within : (gfn : ℕ) (h : Held) → PartRests h → FoundSlot gfn h.topics → page_of h.topics.search.slot gfn < h.state.sizes.pages
 page_within gfn h R F =
@@ -61,20 +62,20 @@ pub fault_needs : (p : FaultPlace) (h : Held) (gfn : ℕ) (write : Bool) → gfn
 fault_needs Begin h gfn write small R K = K.outside
 fault_needs Snapshot h gfn write small R K = tt
 fault_needs (Find true) h gfn write small R K =
-    let S = K.1 refl in (S.0, S.1, ap (λ (k : Hold). is_alone k && has_found (page_looked h.topics.host) h.topics.search) K.0.loose)
+    let S = K.1 refl in (S.0, S.1, ap (λ (k : Hold). is_alone k && has_found_looked h.topics) K.0.loose)
 fault_needs (Find false) h gfn write small R K = tt
 fault_needs Host h gfn write small R K = (page_within gfn h R K.1, ap is_alone K.0.loose)
 fault_needs Bring h gfn write small R K =
     record { section = K.0.inside.section; looked = ap (λ (o : Option HostLook). is_some o) K.1.looked_up.host; absent = K.1.presence }
 fault_needs Share h gfn write small R K = share_needs h.topics.hold h refl K.1
 fault_needs (Check at) h gfn write small R K = check_needs at h
-fault_needs (Walk true) h gfn write small R K = K.2 refl
+fault_needs (Walk true) h gfn write small R K = (K.2 refl, no_sweep h.topics K.0.sharing.section refl)
 fault_needs (Walk false) h gfn write small R K = tt
 fault_needs (Claim begun) h gfn write small R K = claim_needs Pages begun h R.sizes K.1 K.3
 fault_needs Fill h gfn write small R K = (K.2, omega arith, owned_below h R K.2.0)
 fault_needs Role h gfn write small R K = (K.2, omega (arith, R.level), owned_below h R (full_owns h.topics.owned K.2))
 fault_needs Link h gfn write small R K = (may_enter gfn write h.topics K.0 K.1.saw, K.1.upper, K.1.absent, K.2)
-fault_needs (Give e) h gfn write small R K = K.2
+fault_needs (Give e) h gfn write small R K = (K.2, ap is_alone K.1)
 fault_needs Leaf h gfn write small R K = (may_enter gfn write h.topics K.0 K.2, K.3)
 fault_needs (Unshare e) h gfn write small R K = ap (λ (x : Hold). counts x) K.1
 fault_needs (End e) h gfn write small R K = K.0.section

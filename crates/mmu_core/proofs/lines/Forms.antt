@@ -6,7 +6,7 @@ use Rattle.mmu_core.proofs.lines.HostPlaces.{host_goes, host_few, some_host_left
 use Rattle.core_views.specs.declared.actor.Actor.{Actor}
 use Rattle.core_views.specs.declared.trace.HostChange.{HostChange}
 use Rattle.core_views.specs.declared.trace.HostChange.TheVariants.{Move, Evict, Protect, Allow}
-use Rattle.std.proofs.Common.{◌≡◌, ◌⊎◌, inl, inr, ◌<◌, ◌≤◌, ℕ, refl, arith, ◌≢◌, Bool, ◌+◌}
+use Rattle.std.proofs.Common.{◌≡◌, ◌⊎◌, inl, inr, ◌<◌, ◌≤◌, ℕ, refl, arith, ◌≢◌, Bool, ◌+◌, ◌*◌}
 use Rattle.std.proofs.Props.{props}
 use Rattle.std.specs.Prelude.{List, Some, None, true, false}
 use Rattle.core_views.specs.declared.answer.Answer.{Answer}
@@ -43,14 +43,14 @@ use Rattle.mmu_core.specs.lines.Delays.{line_waits, begins_anew}
 use Rattle.mmu_core.specs.lines.FaultSteps.{fault_next}
 use Rattle.mmu_core.specs.lines.Bounds.{most_steps}
 use Rattle.mmu_core.specs.lines.Rests.{IsUnderWay}
+use Rattle.mmu_core.specs.lines.SlotChangeKnows.{SlotChangeRests}
 use Rattle.mmu_core.specs.lines.SlotChangeSteps.{slot_change_part}
 use Rattle.mmu_core.proofs.lines.AccessLeft.{access_few, some_access_left}
 use Rattle.mmu_core.proofs.machine.GoesOn.{GoesToNoAccess, GoesUnderWay, IsNoAccess, IsSimple, simple_is_no_access}
-use Rattle.mmu_core.proofs.slots.LiveStay.{StayLive}
 use Rattle.mmu_core.proofs.slots.LiveStays.{OwnedStays}
 use Rattle.mmu_core.proofs.slots.SlotChangePlaces.{accepts_prop, begins_at_once, slot_change_begins, slot_change_begins_known, slot_change_few}
 use Rattle.mmu_core.proofs.slots.SlotChangePlaces.{slot_change_goes, slot_change_knows_prop, slot_change_stays, change_accepts, some_change_left}
-use Rattle.mmu_core.proofs.slots.SlotChangePlaces.{slot_change_free, slot_change_simple}
+use Rattle.mmu_core.proofs.slots.SlotChangePlaces.{slot_change_free, slot_change_rests_prop, slot_change_simple}
 use Rattle.mmu_core.proofs.slots.SlotChangeClaims.{begins_without_scan}
 use Rattle.mmu_core.proofs.lines.HostClaims.{host_begins_without}
 use Rattle.mmu_core.proofs.lines.SimplePlaces.{SimplePlace, Told, Nothing, Exit, Change, OfAccess, OfHost, between_simple}
@@ -85,7 +85,7 @@ simple_place (place.SlotChange p) command h v simple = slot_change_simple h comm
 pub outcome_goes : (p : Place) (command : Command) (h : Held) (v : ℕ) → IsUnderWay p → GoesUnderWay (outcome_at p command h v)
 outcome_goes place.Between command h v begun = absurd begun
 outcome_goes (place.Access p) (Access gfn word op) h v begun = access_goes p h gfn op v
-outcome_goes (place.SlotChange p) command h v begun = (slot_change_goes p h v).0
+outcome_goes (place.SlotChange p) command h v begun = (slot_change_goes p command h v).0
 outcome_goes (place.Host p) (ChangeHost page change) h v begun = (host_goes p page h v).0
 outcome_goes _ _ h v begun = tt
 
@@ -121,31 +121,31 @@ other_rests (place.SlotChange p) command h other = by (changes_slot command) ref
     by true is = inr (record {
       step = slot_change_part p h command;
       at = refl;
-      more = Unit {0};
-      more_prop = hlevel props;
-      needs = λ R. (R.1, tt);
-      rests = λ N M. (is, N);
+      more = SlotChangeRests p command h;
+      more_prop = slot_change_rests_prop p command h;
+      needs = λ R. (R.1, R.2);
+      rests = λ N M. (is, N, M);
     })
     by false is = inl (λ R. let changes = R.0 in cc (changes, is))
 
 -- ---- how many steps it has left
 
 -- No more than its command allows.
-pub place_few : (p : Place) (command : Command) (y z : Sizes) (pool : ℕ → ℕ) (set : ℕ) (h : Held) (t : Topics) → Holds y pool set p command h
-    → AreSizes z → t.walk.level ≤ 4 → steps_left p z t ≤ most_steps z command
-place_few place.Between command y z pool set h t holds S most = omega arith
-place_few (place.Access p) (Access gfn word op) y z pool set h t holds S most =
-    let few = access_few p z t most in let pool = S.pool.1 in omega (arith, few, pool)
-place_few (place.SlotChange p) (Access gfn word op) y z pool set h t holds S most =
-    let few = slot_change_few p z t in let actors = S.actors in let pages = S.pool.1 in omega (arith, few, actors, pages)
-place_few (place.SlotChange p) command y z pool set h t holds S most =
-    let few = slot_change_few p z t in let actors = S.actors in omega (arith, few, actors)
-place_few (place.Host p) (ChangeHost page change) y z pool set h t holds S most =
-    let few = host_few p z t most in let actors = S.actors in let words = S.words.1 in omega (arith, few, actors, words)
-place_few _ _ y z pool set h t holds S most = absurd holds
+pub place_few : (p : Place) (command : Command) (z : Sizes) (pool : ℕ → ℕ) (set : ℕ) (h : Held) → Holds z pool set p command h → KnowsPart p command h
+    → AreSizes h.state.sizes → h.topics.walk.level ≤ 4 → steps_left p h.state.sizes h.topics ≤ most_steps h.state.sizes command
+place_few place.Between command z pool set h holds K S most = omega arith
+place_few (place.Access p) (Access gfn word op) z pool set h holds K S most =
+    let few = access_few p h.state.sizes h.topics most in let pool = S.pool.1 in omega (arith, few, pool)
+place_few (place.SlotChange p) (Access gfn word op) z pool set h holds K S most = absurd (cc K.0)
+place_few (place.SlotChange p) (ChangeHost page change) z pool set h holds K S most = absurd (cc K.0)
+place_few (place.SlotChange p) command z pool set h holds K S most =
+    let few = slot_change_few p command h most K.1 in let actors = S.actors in omega (arith, few, actors)
+place_few (place.Host p) (ChangeHost page change) z pool set h holds K S most =
+    let few = host_few p h.state.sizes page change h most K in let actors = S.actors in let words = S.words.1 in omega (arith, few, actors, words)
+place_few _ _ z pool set h holds K S most = absurd holds
 
--- A slot line makes no more than an access.
-pub most_small : (z : Sizes) (command : Command) → most_steps z command ≤ 8192 + z.pool + z.frames
+-- No line makes more than an access and the sweep of all guest frames that a slot may have.
+pub most_small : (z : Sizes) (command : Command) → most_steps z command ≤ 8192 + z.pool + z.frames + 5 * z.pages
 most_small z (Access gfn word op) = omega arith
 most_small z _ = omega arith
 
@@ -223,9 +223,8 @@ first_holds z pool set (Access gfn word op) h = tt
 first_holds z pool set (ChangeHost page change) h = tt
 first_holds z pool set command h = slot_change_begins z pool set command h (change_refusal z command h.slots) refl
 
--- It stays, where live slots and the words of the line's own page do.
-module _ (z : Sizes) (before : ℕ → ℕ) (set : ℕ) (after : ℕ → ℕ) (other : ℕ) (h : Held) (stay : StayLive before set after other)
-    (own : OwnedStays before after h) where
+-- It stays, where the words of the line's own page do.
+module _ (z : Sizes) (before : ℕ → ℕ) (set : ℕ) (after : ℕ → ℕ) (other : ℕ) (h : Held) (own : OwnedStays before after h) where
   pub loads_stay : (p : Place) (command : Command) → Holds z before set p command h → Holds z after other p command h
   loads_stay place.Between command e = tt
   loads_stay (place.Access p) (Access gfn word op) e = tt

@@ -13,6 +13,7 @@ use Rattle.core_views.specs.declared.trace.HostChange.{HostChange}
 use Rattle.core_views.specs.Held.{Held}
 use Rattle.core_views.specs.HostChanges.{is_own}
 use Rattle.spte_words.specs.HostWords.{host_frame}
+use Rattle.part_steps.specs.declared.invalidations.Target.TheVariants as aim
 use Rattle.part_steps.specs.declared.part_step.PartStep.TheVariants as part
 use Rattle.part_steps.specs.FrameTopics.{words_moved}
 use Rattle.part_steps.specs.PartTasks.{word_looked}
@@ -46,7 +47,7 @@ host_maps_not map (Claim begun) page change h other = absurd (cc other)
 host_maps_not map (Look moves) page change h other =
     either_place (λ s. maps map s ≡ false) (is_own h.state.sizes h.state.actor page) (part.Host page) part.Seq refl refl
 host_maps_not map (Begin (begins.Find begun)) page change h other = either_place (λ s. maps map s ≡ false) begun part.Slot part.Slots refl refl
-host_maps_not map (Begin (begins.Walk rooted)) page change h other = either_place (λ s. maps map s ≡ false) rooted (part.Walk _) part.Root refl refl
+host_maps_not map (Begin (begins.Walk rooted)) page change h other = either_place (λ s. maps map s ≡ false) rooted (part.Sweep _) part.Root refl refl
 host_maps_not map (Begin _) page change h other = refl
 host_maps_not map (End ends.Exclude) page change h other = refl
 host_maps_not map (End _) page change h other = refl
@@ -88,7 +89,7 @@ scans_none (Look to_move) page h v other =
     (Ends (Refused OutOfRange))
     (either_place NoScan to_move (Claim false) (Begin begins.Exclude) (goes_on (Claim false) (λ S. cc S)) (goes_on (Begin begins.Exclude) (λ S. S)))
     (is_answered (Refused OutOfRange) (each_map (λ map. Ends (Refused OutOfRange) ≢ Ends (answer_without map)) (λ e. cc e) (λ e. cc e)))
-scans_none (Begin p) page h v other = by_begin (moves h.topics) (begin_next p h.state.sizes page h.topics v)
+scans_none (Begin p) page h v other = by_begin (moves h.topics) (begin_next p h.state.sizes (aim.Page page) h.topics v)
 scans_none Copy page h v other = goes_on Store (λ S. S)
 scans_none Store page h v other =
     either_place NoScan (nat_lt (words_moved h.topics.frames.owned + 1) h.state.sizes.words) Copy Change (goes_on Copy (λ S. S)) (goes_on Change (λ S. S))

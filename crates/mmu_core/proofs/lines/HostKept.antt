@@ -50,7 +50,7 @@ pub host_never : (p : HostPlace) (page : ℕ) (change : HostChange) (h : Held) �
 host_never (Claim begun) page change h = claim_is (λ s. is_publish s ≡ false) Frames begun h.topics.frames.claim refl (λ word. refl)
 host_never (Look moving) page change h = begin_never (is_own h.state.sizes h.state.actor page) (part.Host page) part.Seq refl refl
 host_never (Begin (begins.Find begun)) page change h = begin_never begun part.Slot part.Slots refl refl
-host_never (Begin (begins.Walk rooted)) page change h = begin_never rooted (part.Walk _) part.Root refl refl
+host_never (Begin (begins.Walk rooted)) page change h = begin_never rooted (part.Sweep _) part.Root refl refl
 host_never (Begin _) page change h = refl
 host_never (End ends.Exclude) page change h = refl
 host_never (End _) page change h = refl
@@ -67,7 +67,7 @@ host_quiet (Claim begun) page change h other =
 host_quiet (Look moving) page change h other =
     either_place (λ s. changes_word s ≡ false) (is_own h.state.sizes h.state.actor page) (part.Host page) part.Seq refl refl
 host_quiet (Begin (begins.Find begun)) page change h other = either_place (λ s. changes_word s ≡ false) begun part.Slot part.Slots refl refl
-host_quiet (Begin (begins.Walk rooted)) page change h other = either_place (λ s. changes_word s ≡ false) rooted (part.Walk _) part.Root refl refl
+host_quiet (Begin (begins.Walk rooted)) page change h other = either_place (λ s. changes_word s ≡ false) rooted (part.Sweep _) part.Root refl refl
 host_quiet (Begin _) page change h other = refl
 host_quiet Change page change h other = absurd (cc other)
 host_quiet (End ends.Exclude) page change h other = refl

@@ -21,9 +21,12 @@ use Rattle.core_views.specs.Held.{Held}
 use Rattle.core_views.specs.HostChanges.{is_own}
 use Rattle.core_views.specs.Sizes.{actors_of}
 use Rattle.spte_words.specs.HostWords.{host_frame}
+use Rattle.part_steps.specs.declared.invalidations.Target.{Target}
+use Rattle.part_steps.specs.declared.invalidations.Target.TheVariants as aim
 use Rattle.part_steps.specs.declared.part_step.PartStep.TheVariants as part
 use Rattle.part_steps.specs.FrameTopics.{frame_after, words_moved}
 use Rattle.part_steps.specs.PartBounds.{PartRests}
+use Rattle.part_steps.specs.PartSteps.{IsAtRest}
 use Rattle.part_steps.specs.PartTasks.{own_index, page_looked, word_looked}
 use Rattle.part_steps.specs.PartTopics.{part_topics}
 use Rattle.mmu_core.specs.declared.claim.ClaimNext.{ClaimNext}
@@ -45,38 +48,28 @@ use Rattle.mmu_core.specs.lines.InvalidateSteps.{begin_next, begin_part, end_nex
 use Rattle.mmu_core.proofs.lines.ClaimMade.{claim_host, claim_made, claim_opens}
 use Rattle.mmu_core.proofs.lines.ClaimRests.{RestsAfterClaim, claim_rests}
 use Rattle.mmu_core.proofs.lines.EitherPlace.{either_place, one_place}
-use Rattle.mmu_core.proofs.lines.HostMoves.{copied_next, copies_first, copies_none, open_still, owns_none, owns_old, rests_still, stored_last, stored_more}
+use Rattle.mmu_core.proofs.lines.HostMoves.{copied_next, copies_first, copies_none, free_rests, open_still, owns_none, owns_old}
+use Rattle.mmu_core.proofs.lines.HostMoves.{rests_free, rests_still, stored_last, stored_more}
+use Rattle.mmu_core.proofs.lines.HostNeeds.{looks_aimed}
 use Rattle.mmu_core.proofs.lines.InvalidateKnown.{BeginComes, EndComes, begin_known, ending_known}
+use Rattle.mmu_core.proofs.lines.InvalidatePlaces.{LeavesPages, begin_leaves_pages, end_leaves_pages}
 use Rattle.mmu_core.proofs.lines.KnowsKept.{KnowsBehind}
 use Rattle.mmu_core.proofs.lines.LockHeld.{rests_by_seq}
 use Rattle.mmu_core.proofs.lines.WatchMade.{WatchMade, watch_begins, watch_comes, watch_made}
 use Rattle.mmu_core.proofs.lines.WatchMade as made
 use Rattle.mmu_core.proofs.machine.HandWith.{hand_with}
 
--- What an invalidation's steps leave: what the line has looked up, and the frames.
-pub begin_leaves_host : (p : BeginPlace) (page : ℕ) (t : Topics) (v : ℕ) → (part_topics (begin_part p page t) t v).host ≡ t.host
-begin_leaves_host (begins.Find begun) page t v = either_place (λ s. (part_topics s t v).host ≡ t.host) begun part.Slot part.Slots refl refl
-begin_leaves_host (begins.Walk rooted) page t v = either_place (λ s. (part_topics s t v).host ≡ t.host) rooted (part.Walk _) part.Root refl refl
-begin_leaves_host _ page t v = refl
+-- What an invalidation's steps leave: what the line has looked up.
+pub begin_leaves_host : (p : BeginPlace) (target : Target) (t : Topics) (v : ℕ) → (part_topics (begin_part p target t) t v).host ≡ t.host
+begin_leaves_host (begins.Find begun) target t v = either_place (λ s. (part_topics s t v).host ≡ t.host) begun part.Slot part.Slots refl refl
+begin_leaves_host (begins.Walk rooted) target t v = either_place (λ s. (part_topics s t v).host ≡ t.host) rooted (part.Sweep _) part.Root refl refl
+begin_leaves_host _ target t v = refl
 
-pub begin_leaves_frames : (p : BeginPlace) (page : ℕ) (t : Topics) (v : ℕ) → (part_topics (begin_part p page t) t v).frames ≡ t.frames
-begin_leaves_frames (begins.Find begun) page t v = either_place (λ s. (part_topics s t v).frames ≡ t.frames) begun part.Slot part.Slots refl refl
-begin_leaves_frames (begins.Walk rooted) page t v = either_place (λ s. (part_topics s t v).frames ≡ t.frames) rooted (part.Walk _) part.Root refl refl
-begin_leaves_frames _ page t v = refl
-
--- Under the lock, or without a step on the sequence number, the look-up stays; and the watch.
-pub end_leaves_frames : (p : EndPlace) (t : Topics) (v : ℕ) → (part_topics (end_part p t) t v).frames ≡ t.frames
-end_leaves_frames ends.Exclude t v = refl
-end_leaves_frames _ t v = refl
-
+-- Under the lock, or without a step on the sequence number, it stays.
 pub end_leaves_host : (p : EndPlace) (t : Topics) (v : ℕ) → EndKnows p t → (part_topics (end_part p t) t v).host ≡ t.host
 end_leaves_host ends.Exclude t v K = refl
 end_leaves_host ends.Seq t v K = ap (λ (b : Bool). if b then None else t.host) (ap is_loose K.0.alone.alone)
 end_leaves_host _ t v K = refl
-
-pub end_leaves_watch : (p : EndPlace) (t : Topics) (v : ℕ) → (part_topics (end_part p t) t v).watched ≡ t.watched
-end_leaves_watch ends.Exclude t v = refl
-end_leaves_watch _ t v = refl
 
 module _ (line : Line) (h : Held) (page : ℕ) (change : HostChange) (cached : Buffer Translation) (v : ℕ) where
   -- the hand after the step of a place, with these topics
@@ -108,8 +101,9 @@ module _ (line : Line) (h : Held) (page : ℕ) (change : HostChange) (cached : B
       ))
       (λ e. (
         looks,
-        (rests_still h.topics u refl refl refl refl refl K.0, closed),
+        (rests_free u (rests_still h.topics u refl refl refl refl refl K.0), closed),
         owns_none change h.topics.frames.owned K.2 (sym K.1 ∙ e),
+        K.0.owns_none,
       ))
 
   claim_known : (begun : Bool) (next : ClaimNext) (u : Topics) → u.host ≡ h.topics.host → u.invalidations ≡ h.topics.invalidations
@@ -119,20 +113,23 @@ module _ (line : Line) (h : Held) (page : ℕ) (change : HostChange) (cached : B
       (C.0, looks_still (Claim begun) u same K.1, record { moves = K.2.moves; owns_none = C.1; within = λ b. C.2 })
   claim_known begun claims.Got u same opens C K closed = (
     looks_still (Claim begun) u same K.1,
-    (C.0, ap (λ n. n.opened) opens ∙ closed),
+    (rests_free u C.0, ap (λ n. n.opened) opens ∙ closed),
     record { owns = C.1.owns ∙ sym K.2.moves; uncopied = C.1.uncopied },
+    C.0.owns_none,
   )
   claim_known begun claims.Empty u same opens C K closed = C.0
 
   -- ---- the invalidation
 
-  begin_comes : (p : BeginPlace) (next : BeginNext) (u : Topics) → u.host ≡ h.topics.host → u.frames ≡ h.topics.frames → LooksAt page h
-      → 1 ≤ h.state.sizes.words → OwnsToMove change h.topics.frames.owned → BeginComes next h.state.sizes page u
+  begin_comes : (p : BeginPlace) (next : BeginNext) (u : Topics) → u.host ≡ h.topics.host → LeavesPages h.topics u → LooksAt page h
+      → 1 ≤ h.state.sizes.words → OwnsToMove change h.topics.frames.owned → h.topics.owned ≡ None → BeginComes next h.state.sizes (aim.Page page) u
       → Knows (after_begin (moves h.topics) next) (behind (Begin p) u)
-  begin_comes p (begins_next.Goes q) u same frames L some O C =
-      (looks_still (Begin p) u same L, C, subst (λ (f : HeldFrames). OwnsToMove change f.owned) (sym frames) O)
-  begin_comes p begins_next.Begun u same frames L some O C =
-      let flushed : HasFlushed page (behind (Begin p) u) = record { opened = C.0; invalid = C.1; asked = C.2; awaited = C.3 } in
+  begin_comes p (begins_next.Goes q) u same leaves L some O none C =
+      (looks_still (Begin p) u same L, C, subst (λ (f : HeldFrames). OwnsToMove change f.owned) (sym leaves.frames) O, leaves.owned ∙ none)
+  begin_comes p begins_next.Begun u same leaves L some O none C =
+      let frames = leaves.frames in
+      let flushed : HasFlushed page (behind (Begin p) u) =
+      record { owns_none = leaves.owned ∙ none; opened = C.0; invalid = C.1; asked = C.2; awaited = C.3 } in
       let looks = looks_still (Begin p) u same L in
       let owns : OwnsToMove change u.frames.owned = subst (λ (f : HeldFrames). OwnsToMove change f.owned) (sym frames) O in
       let same_owned = ap (λ (f : HeldFrames). is_some f.owned) frames in
@@ -140,26 +137,33 @@ module _ (line : Line) (h : Held) (page : ℕ) (change : HostChange) (cached : B
       (λ e. (looks, flushed, copies_first change h.state.sizes.words u.frames.owned some owns (same_owned ∙ e)))
       (λ e. (looks, flushed, copies_none change h.state.sizes.words u.frames.owned owns (same_owned ∙ e)))
 
-  end_comes : (p : EndPlace) (next : EndNext) (u : Topics) → PartRests h → u.host ≡ h.topics.host → u.frames ≡ h.topics.frames → u.watched ≡ h.topics.watched
+  end_comes : (p : EndPlace) (next : EndNext) (u : Topics) → PartRests h → u.host ≡ h.topics.host → LeavesPages h.topics u
       → HostKnows (End p) page change h → EndComes next u → KnowsBehind (after_end (moves h.topics) next) (ChangeHost page change) (behind (End p) u)
-  end_comes p (ends_next.Goes q) u R same frames watch K C =
-      (looks_still (End p) u same K.0, C, subst (λ (f : HeldFrames). OwnsToMove change f.owned) (sym frames) K.2, watch ∙ K.3)
-  end_comes p ends_next.Ended u R same frames watch K C =
+  end_comes p (ends_next.Goes q) u R same leaves K C = (
+    looks_still (End p) u same K.0,
+    C,
+    subst (λ (f : HeldFrames). OwnsToMove change f.owned) (sym leaves.frames) K.2,
+    leaves.watched ∙ K.3,
+    leaves.owned ∙ K.4,
+  )
+  end_comes p ends_next.Ended u R same leaves K C =
+      let rests : IsAtRest u = free_rests u (leaves.owned ∙ K.4) C.0 in
       one_place (λ o. KnowsBehind o (ChangeHost page change) (behind (End p) u)) (moves h.topics) (Goes (place.Host Watch)) (Ends Done)
       (λ e. (
         looks_still (End p) u same K.0,
-        C.0,
-        record { moves = sym K.2.owns ∙ e; owns = ap (λ (f : HeldFrames). is_some f.owned) frames ∙ e; closed = C.1 },
-        watch_begins (behind (End p) u) (watch ∙ K.3) R.sizes,
+        rests,
+        record { moves = sym K.2.owns ∙ e; owns = ap (λ (f : HeldFrames). is_some f.owned) leaves.frames ∙ e; closed = C.1 },
+        watch_begins (behind (End p) u) (leaves.watched ∙ K.3) R.sizes,
       ))
-      (λ e. C.0)
+      (λ e. rests)
 
   -- ---- the copy, and the exchange
 
   flushed_still : (p : HostPlace) (u : Topics) → u.stay ≡ h.topics.stay → u.hold ≡ h.topics.hold → u.owned ≡ h.topics.owned → u.walk ≡ h.topics.walk
       → u.search ≡ h.topics.search → u.invalidations ≡ h.topics.invalidations → u.flush ≡ h.topics.flush → HasFlushed page h → HasFlushed page (behind p u)
   flushed_still p u stay hold owned walk search own_ flush F = record {
-    opened = open_still h.topics u stay hold owned walk search own_ F.opened;
+    owns_none = owned ∙ F.owns_none;
+    opened = open_still h.topics u stay hold walk search own_ F.opened;
     invalid = ap (λ n. n.own.page) own_ ∙ F.invalid;
     asked = subst (λ f. h.state.sizes.vcpus ≤ f.asked) (sym flush) F.asked;
     awaited = subst (λ f. h.state.sizes.vcpus ≤ f.awaited) (sym flush) F.awaited;
@@ -173,9 +177,10 @@ module _ (line : Line) (h : Held) (page : ℕ) (change : HostChange) (cached : B
       }))
   change_known true K = (
     record { own_ = K.0.own_; looked = refl; at = K.0.at },
-    open_still h.topics _ refl refl refl refl refl refl K.1.opened,
+    open_still h.topics _ refl refl refl refl refl K.1.opened,
     owns_old change h.state.sizes.words h.topics.frames.owned (host_frame (word_looked h.topics.host)) K.2,
     refl,
+    K.1.owns_none,
   )
   change_known false K = (
     record { own_ = K.0.own_; looked = refl; at = K.0.at },
@@ -215,9 +220,9 @@ module _ (line : Line) (h : Held) (page : ℕ) (change : HostChange) (cached : B
       claim_known begun _ _ (claim_host h.state.sizes Frames begun h.topics v _ _ _ M) (claim_opens h.state.sizes Frames begun h.topics v _ _ _ M)
       (claim_rests h.state.sizes Frames begun h.topics v _ _ _ M K.0 K.2.owns_none K.2.within) K (closed refl)
   host_known (Begin p) R K closed A =
-      begin_comes p (begin_next p h.state.sizes page h.topics v) (part_topics (begin_part p page h.topics) h.topics v)
-      (begin_leaves_host p page h.topics v) (begin_leaves_frames p page h.topics v) K.0 R.sizes.words.0 K.2
-      (begin_known p h.state.sizes page h.topics v R.sizes K.0.at R.flags R.frames R.level K.1 A)
+      begin_comes p (begin_next p h.state.sizes (aim.Page page) h.topics v) (part_topics (begin_part p (aim.Page page) h.topics) h.topics v)
+      (begin_leaves_host p (aim.Page page) h.topics v) (begin_leaves_pages p (aim.Page page) h.topics v) K.0 R.sizes.words.0 K.2 K.3
+      (begin_known p h.state.sizes (aim.Page page) h.topics v R.sizes tt (looks_aimed page h K.0 K.3) R.frames R.level K.1 A)
   host_known Copy R K closed A =
       let C = copied_next change h.state.sizes.words h.topics.frames.owned v K.2 in
       (looks_still Copy _ refl K.0, flushed_still Copy _ refl refl refl refl refl refl refl K.1, C.0, C.1)
@@ -236,7 +241,7 @@ module _ (line : Line) (h : Held) (page : ℕ) (change : HostChange) (cached : B
       ))
   host_known Change R K closed A = change_known (v == word_looked h.topics.host) K
   host_known (End p) R K closed A =
-      end_comes p (end_next p v) (part_topics (end_part p h.topics) h.topics v) R (end_leaves_host p h.topics v K.1) (end_leaves_frames p h.topics v)
-      (end_leaves_watch p h.topics v) K (ending_known p h.topics v K.1 A)
+      end_comes p (end_next p v) (part_topics (end_part p h.topics) h.topics v) R (end_leaves_host p h.topics v K.1) (end_leaves_pages p h.topics v) K
+      (ending_known p h.topics v K.1 A)
   host_known Watch R K closed A = watch_known _ _ (watch_made h v) K
   host_known Free R K closed A = rests_still h.topics _ refl refl refl refl refl K.1

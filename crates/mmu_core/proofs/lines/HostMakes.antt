@@ -39,7 +39,7 @@ use Rattle.part_steps.specs.SlotWords.{slot_at}
 use Rattle.mmu_core.proofs.held.OwnPages.{changes_own}
 
 -- No two slots that are published share a host page.
-slots_apart : (z : Sizes) (set : ℕ) (role pool : ℕ → ℕ) → SlotSetPart z set role pool → AreApart pool set
+pub slots_apart : (z : Sizes) (set : ℕ) (role pool : ℕ → ℕ) → SlotSetPart z set role pool → AreApart pool set
 slots_apart z set role pool P page i j slot other live also has too =
     let same : i ≡ j =
     P.slots.host_apart page i j live.low also.low live.live also.live (ap (has_host_page page) live.is ∙ has) (ap (has_host_page page) also.is ∙ too) in
@@ -54,7 +54,7 @@ module _ (z : Sizes) (v : View) (a : ℕ) (page : ℕ) (change : HostChange) whe
   host_says (Claim begun) small I P there K = claim_is Says Frames begun (v.hand a).topics.frames.claim tt (λ word. tt)
   host_says (Look moving) small I P there K = either_place Says (is_own (v.hand a).state.sizes (v.hand a).state.actor page) (part.Host page) part.Seq tt tt
   host_says (Begin (begins.Find begun)) small I P there K = either_place Says begun part.Slot part.Slots tt tt
-  host_says (Begin (begins.Walk rooted)) small I P there K = either_place Says rooted (part.Walk _) part.Root tt tt
+  host_says (Begin (begins.Walk rooted)) small I P there K = either_place Says rooted (part.Sweep _) part.Root tt tt
   host_says (Begin begins.SetCount) small I P there K = slots_apart z (v.words area.Slots 0) (v.words area.Role) (v.words area.Pool) I.set_part
   host_says (Begin _) small I P there K = tt
   host_says (End ends.SetCount) small I P there K = slots_apart z (v.words area.Slots 0) (v.words area.Role) (v.words area.Pool) I.set_part

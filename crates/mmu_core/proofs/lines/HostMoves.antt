@@ -9,7 +9,7 @@ use Rattle.core_views.specs.declared.trace.HostChange.TheVariants.{Allow, Evict,
 use Rattle.spte_words.specs.HostWords.{with_frame, with_presence, with_writes}
 use Rattle.part_steps.specs.FrameHoldings.{revises}
 use Rattle.part_steps.specs.FrameTopics.{copy_held, frame_left, frame_owned, is_uncopied, word_copied, word_stored, words_moved}
-use Rattle.part_steps.specs.PartSteps.{IsAtRest}
+use Rattle.part_steps.specs.PartSteps.{IsAtRest, IsFree}
 use Rattle.mmu_core.specs.lines.HostKnows.{HasCopiedAll, IsCopying, OwnsToMove, is_move}
 use Rattle.mmu_core.specs.lines.HostSteps.{revised}
 use Rattle.mmu_core.specs.lines.InvalidateKnows.{IsOpen}
@@ -99,19 +99,25 @@ module _ (change : HostChange) (words : ℕ) where
 -- ---- what is open stays so
 
 -- Where these topics stay.
-pub open_still : (t u : Topics) → u.stay ≡ t.stay → u.hold ≡ t.hold → u.owned ≡ t.owned → u.walk ≡ t.walk → u.search ≡ t.search
+pub open_still : (t u : Topics) → u.stay ≡ t.stay → u.hold ≡ t.hold → u.walk ≡ t.walk → u.search ≡ t.search
     → u.invalidations ≡ t.invalidations → IsOpen t → IsOpen u
-open_still t u stay hold owned walk search own_ O = record {
+open_still t u stay hold walk search own_ O = record {
   rests = record {
     outside = stay ∙ O.rests.outside;
     loose = hold ∙ O.rests.loose;
-    owns_none = owned ∙ O.rests.owns_none;
     no_table = ap (λ w. w.level) walk ∙ O.rests.no_table;
     no_set = ap (λ s. s.set) search ∙ O.rests.no_set;
   };
   opened = ap (λ n. n.opened) own_ ∙ O.opened;
   unraised = ap (λ n. n.raised) own_ ∙ O.unraised;
 }
+
+-- Who is free, and owns no page, is at rest.
+pub free_rests : (t : Topics) → t.owned ≡ None → IsFree t → IsAtRest t
+free_rests t none F = record { outside = F.outside; loose = F.loose; owns_none = none; no_table = F.no_table; no_set = F.no_set }
+
+pub rests_free : (t : Topics) → IsAtRest t → IsFree t
+rests_free t R = record { outside = R.outside; loose = R.loose; no_table = R.no_table; no_set = R.no_set }
 
 pub rests_still : (t u : Topics) → u.stay ≡ t.stay → u.hold ≡ t.hold → u.owned ≡ t.owned → u.walk ≡ t.walk → u.search ≡ t.search → IsAtRest t → IsAtRest u
 rests_still t u stay hold owned walk search R = record {

@@ -21,7 +21,9 @@ use Rattle.core_views.specs.declared.topics.Topics.{Topics}
 use Rattle.core_views.specs.declared.trace.HostChange.{HostChange}
 use Rattle.core_views.specs.Held.{Held}
 use Rattle.core_views.specs.HostChanges.{is_own}
+use Rattle.part_steps.specs.declared.invalidations.Target.TheVariants as aim
 use Rattle.part_steps.specs.declared.part_step.PartStep.TheVariants as part
+use Rattle.part_steps.specs.SweepTopics.{has_entry, swept_to}
 use Rattle.spte_words.specs.HostWords.{host_present}
 use Rattle.mmu_core.specs.declared.outcome.Outcome.TheVariants.{Goes, Ends}
 use Rattle.mmu_core.specs.lines.FaultLeft.{find_left}
@@ -31,6 +33,7 @@ use Rattle.mmu_core.specs.lines.PartWaits.{part_waits}
 use Rattle.mmu_core.specs.lines.SearchLeft.{look_left}
 use Rattle.mmu_core.specs.lines.AccessSteps.{exiting}
 use Rattle.mmu_core.specs.lines.ClaimSteps.{Frames, claim_next, tries_one}
+use Rattle.mmu_core.specs.lines.InvalidateKnows.{BeginKnows}
 use Rattle.mmu_core.specs.lines.InvalidateSteps.{begin_left, end_left}
 use Rattle.spte_words.specs.Areas.{words_of_bits}
 use Rattle.core_views.specs.Sizes.{actors_of}
@@ -97,33 +100,47 @@ tries_few true begun words at = omega arith
 tries_few false true words at = omega arith
 tries_few false false words at = omega arith
 
-begin_few : (p : BeginPlace) (z : Sizes) (t : Topics) → t.walk.level ≤ 4 → begin_left p z t ≤ 2 * z.vcpus + 143
-begin_few (begins.Find begun) z t most = let few = find_few begun t.search in omega (arith, few)
-begin_few (begins.Walk true) z t most = omega (arith, most)
-begin_few (begins.Walk false) z t most = omega arith
-begin_few _ z t most = omega arith
+-- A sweep of one guest frame has no more left than an entry of each level and the zap of a leaf.
+sweep_few : (has : Bool) (start end_ come level : ℕ) → level ≤ 4 → end_ ≤ start + 1 → start ≤ come
+    → (if has then 5 * (end_ - come) else 5 * (end_ - come) + level - 4) ≤ 5
+sweep_few true start end_ come level most one from = omega (arith, one, from)
+sweep_few false start end_ come level most one from = omega (arith, most, one, from)
+
+begin_few : (p : BeginPlace) (y z : Sizes) (page : ℕ) (t : Topics) → t.walk.level ≤ 4 → BeginKnows p y (aim.Page page) t
+    → begin_left p z 1 t ≤ 2 * z.vcpus + 143
+begin_few (begins.Find begun) y z page t most K = let few = find_few begun t.search in omega (arith, few)
+begin_few (begins.Walk true) y z page t most K =
+    let own_ = t.invalidations.own in
+    let few =
+    sweep_few (has_entry t.walk) own_.start own_.end (swept_to own_.start t.walk) t.walk.level most K.0.of_own.few.0 (K.1 refl).0.from in
+    omega (arith, few)
+begin_few (begins.Walk false) y z page t most K = let one = K.0.of_own.few.0 in omega (arith, one)
+begin_few begins.Zap y z page t most K = let one = K.0.of_own.few.0 in let from = K.1.from in omega (arith, one, from)
+begin_few _ y z page t most K = omega arith
 
 end_few : (p : EndPlace) → end_left p ≤ 6
 end_few ends.Release = omega arith
 end_few _ = omega arith
 
--- Few beside those of the claim of a frame, of the search of a slot, of the walk, of two looks at each virtual processor, of the copy, and of a look at each
--- other actor.
-pub host_few : (p : HostPlace) (z : Sizes) (t : Topics) → t.walk.level ≤ 4
-    → host_left p z t ≤ 2 * z.vcpus + 154 + words_of_bits z.frames + 2 * z.words + actors_of z
-host_few (Look moving) z t most = let few = look_left_few moving z in omega (arith, few)
-host_few (Claim begun) z t most =
-    let few = tries_few (tries_one begun t.frames.claim) begun (words_of_bits z.frames) t.frames.claim.at in omega (arith, few)
-host_few (Begin p) z t most =
-    let few = begin_few p z t most in
-    let copies = copies_few (moves t) z in
-    let frees = frees_few (moves t) z in
+-- Few beside those of the claim of a frame, of the search of a slot, of the sweep of a guest frame, of two looks at each virtual processor, of the copy, and of
+-- a look at each other actor.
+pub host_few : (p : HostPlace) (z : Sizes) (page : ℕ) (change : HostChange) (h : Held) → h.topics.walk.level ≤ 4 → HostKnows p page change h
+    → host_left p z h.topics ≤ 2 * z.vcpus + 154 + words_of_bits z.frames + 2 * z.words + actors_of z
+host_few (Look moving) z page change h most K = let few = look_left_few moving z in omega (arith, few)
+host_few (Claim begun) z page change h most K =
+    let claim = h.topics.frames.claim in
+    let few = tries_few (tries_one begun claim) begun (words_of_bits z.frames) claim.at in omega (arith, few)
+host_few (Begin p) z page change h most K =
+    let few = begin_few p h.state.sizes z page h.topics most K.1 in
+    let copies = copies_few (moves h.topics) z in
+    let frees = frees_few (moves h.topics) z in
     omega (arith, few, copies, frees)
-host_few Copy z t most = omega arith
-host_few Store z t most = omega arith
-host_few Change z t most = let few = change_few (host_present (word_looked t.host)) in let frees = frees_few (moves t) z in omega (arith, few, frees)
-host_few (End p) z t most = let few = end_few p in let frees = frees_few (moves t) z in omega (arith, few, frees)
-host_few _ z t most = omega arith
+host_few Copy z page change h most K = omega arith
+host_few Store z page change h most K = omega arith
+host_few Change z page change h most K =
+    let few = change_few (host_present (word_looked h.topics.host)) in let frees = frees_few (moves h.topics) z in omega (arith, few, frees)
+host_few (End p) z page change h most K = let few = end_few p in let frees = frees_few (moves h.topics) z in omega (arith, few, frees)
+host_few _ z page change h most K = omega arith
 
 pub some_host_left : (p : HostPlace) (z : Sizes) (t : Topics) → 0 < host_left p z t
 some_host_left (Begin p) z t = omega arith

@@ -3,9 +3,7 @@ use Rattle.std.proofs.Common.{◌≡◌, ◌+◌, ℕ, Bool, true, false, refl, 
 use Rattle.std.specs.Prelude.{◌==◌, if◌then◌else◌, nat_lt, None, is_some}
 use Rattle.core_views.specs.declared.answer.Answer.TheVariants.{Refused}
 use Rattle.core_views.specs.declared.answer.Refusal.TheVariants.{OutOfRange}
-use Rattle.core_views.specs.declared.place.BeginPlace.{BeginPlace}
 use Rattle.core_views.specs.declared.place.BeginPlace.TheVariants as begins
-use Rattle.core_views.specs.declared.place.EndPlace.{EndPlace}
 use Rattle.core_views.specs.declared.place.EndPlace.TheVariants as ends
 use Rattle.core_views.specs.declared.place.HostPlace.{HostPlace}
 use Rattle.core_views.specs.declared.place.HostPlace.TheVariants.{Look, Claim, Begin, Copy, Store, Change, End, Watch, Free}
@@ -16,6 +14,8 @@ use Rattle.core_views.specs.declared.topics.Topics.{Topics}
 use Rattle.core_views.specs.declared.trace.HostChange.{HostChange}
 use Rattle.core_views.specs.Held.{Held}
 use Rattle.core_views.specs.HostChanges.{is_own}
+use Rattle.part_steps.specs.declared.invalidations.Target.{Target}
+use Rattle.part_steps.specs.declared.invalidations.Target.TheVariants as aim
 use Rattle.part_steps.specs.declared.part_step.PartStep.TheVariants as part
 use Rattle.part_steps.specs.FrameTopics.{words_moved}
 use Rattle.part_steps.specs.PartBounds.{PartRests}
@@ -33,39 +33,16 @@ use Rattle.mmu_core.specs.lines.FaultLaws.{CanAnswer}
 use Rattle.mmu_core.specs.lines.Forms.{RetiresPart}
 use Rattle.mmu_core.specs.lines.HostKnows.{HostKnows}
 use Rattle.mmu_core.specs.lines.HostSteps.{after_begin, after_end, after_frame_claim, host_outcome, host_part, moves, word_put}
-use Rattle.mmu_core.specs.lines.InvalidateKnows.{BeginKnows}
-use Rattle.mmu_core.specs.lines.InvalidateSteps.{begin_next, begin_part, end_next, end_part, is_among_open}
+use Rattle.mmu_core.specs.lines.InvalidateSteps.{begin_next, end_next}
 use Rattle.mmu_core.specs.lines.WatchSteps.{watch_next}
 use Rattle.mmu_core.specs.machine.Outcomes.{place_after}
 use Rattle.mmu_core.proofs.lines.ClaimMade.{claim_leaves, claim_made, claim_opens}
 use Rattle.mmu_core.proofs.lines.ClaimRests.{RestsAfterClaim, claim_rests}
 use Rattle.mmu_core.proofs.lines.EitherPlace.{each_watch, either_place}
-use Rattle.mmu_core.proofs.lines.HostKnown.{end_leaves_frames}
 use Rattle.mmu_core.proofs.lines.HostMoves.{none_owned}
+use Rattle.mmu_core.proofs.lines.HostNeeds.{looks_aimed}
+use Rattle.mmu_core.proofs.lines.InvalidatePlaces.{begin_leaves_pages, end_leaves_pages, not_yet_open}
 use Rattle.mmu_core.proofs.lines.InvalidateKnown.{BeginComes, EndComes, begin_known, ending_known}
-
--- What an invalidation's steps leave: the page that is retired, if there is one.
-begin_keeps : (p : BeginPlace) (page : ℕ) (t : Topics) (v : ℕ) → (part_topics (begin_part p page t) t v).retired ≡ t.retired
-begin_keeps (begins.Find begun) page t v = either_place (λ s. (part_topics s t v).retired ≡ t.retired) begun part.Slot part.Slots refl refl
-begin_keeps (begins.Walk rooted) page t v = either_place (λ s. (part_topics s t v).retired ≡ t.retired) rooted (part.Walk _) part.Root refl refl
-begin_keeps _ page t v = refl
-
-end_keeps : (p : EndPlace) (t : Topics) (v : ℕ) → (part_topics (end_part p t) t v).retired ≡ t.retired
-end_keeps ends.Exclude t v = refl
-end_keeps ends.Seq t v = refl
-end_keeps _ t v = refl
-
--- Up to its count it isn't open.
-uncounted : (p : BeginPlace) (z : Sizes) (page : ℕ) (t : Topics) → is_among_open p ≡ false → BeginKnows p z page t → t.invalidations.opened ≡ false
-uncounted begins.Exclude z page t is K = K.1
-uncounted (begins.Find begun) z page t is K = K.0.with_lock.is
-uncounted begins.Count z page t is K = K.sweeping.with_lock.is
-uncounted begins.RangeStart z page t is K = K.0.sweeping.with_lock.is
-uncounted begins.RangeEnd z page t is K = K.0.sweeping.with_lock.is
-uncounted begins.SetStart z page t is K = K.0.sweeping.with_lock.is
-uncounted begins.SetEnd z page t is K = K.0.sweeping.with_lock.is
-uncounted begins.SetCount z page t is K = K.0.sweeping.with_lock.is
-uncounted _ z page t is K = absurd (cc is)
 
 look_leaves : (moving own_ : Bool) (page : ℕ) (t : Topics) (v : ℕ) → t.retired ≡ None → t.invalidations.opened ≡ false → t.frames.owned ≡ None
     → RetiresPart (place_after (if own_ then Goes (place.Host (if moving then Claim false else Begin begins.Exclude)) else Ends (Refused OutOfRange)))
@@ -80,13 +57,13 @@ claim_left_host claims.Goes z u none closed C = record { leaves = λ may. none; 
 claim_left_host claims.Got z u none closed C = record { leaves = λ may. none; opens = λ may. closed; frames = λ may. absurd (cc may) }
 claim_left_host claims.Empty z u none closed C = record { leaves = λ may. none; opens = λ may. closed; frames = λ may. C.1 }
 
-begin_left_host : (moving : Bool) (next : BeginNext) (z : Sizes) (page : ℕ) (u : Topics) → u.retired ≡ None → BeginComes next z page u
+begin_left_host : (moving : Bool) (next : BeginNext) (z : Sizes) (target : Target) (u : Topics) → u.retired ≡ None → BeginComes next z target u
     → RetiresPart (place.Host (after_begin moving next)) u
-begin_left_host moving (begins_next.Goes p) z page u none C =
-    record { leaves = λ may. none; opens = λ may. uncounted p z page u may C; frames = λ may. absurd (cc may) }
-begin_left_host true begins_next.Begun z page u none C =
+begin_left_host moving (begins_next.Goes p) z target u none C =
+    record { leaves = λ may. none; opens = λ may. not_yet_open p z target u may C; frames = λ may. absurd (cc may) }
+begin_left_host true begins_next.Begun z target u none C =
     record { leaves = λ may. none; opens = λ may. absurd (cc may); frames = λ may. absurd (cc may) }
-begin_left_host false begins_next.Begun z page u none C =
+begin_left_host false begins_next.Begun z target u none C =
     record { leaves = λ may. none; opens = λ may. absurd (cc may); frames = λ may. absurd (cc may) }
 
 end_left_host : (moving : Bool) (next : EndNext) (u : Topics) → u.retired ≡ None → is_some u.frames.owned ≡ moving → EndComes next u
@@ -110,8 +87,9 @@ host_leaves (Claim begun) page change h v R K left A =
     (ap (λ n. n.opened) (claim_opens h.state.sizes Frames begun h.topics v _ _ _ M) ∙ left.opens refl)
     (claim_rests h.state.sizes Frames begun h.topics v _ _ _ M K.0 K.2.owns_none K.2.within)
 host_leaves (Begin p) page change h v R K left A =
-    begin_left_host (moves h.topics) (begin_next p h.state.sizes page h.topics v) h.state.sizes page _ (begin_keeps p page h.topics v ∙ left.leaves refl)
-    (begin_known p h.state.sizes page h.topics v R.sizes K.0.at R.flags R.frames R.level K.1 A)
+    begin_left_host (moves h.topics) (begin_next p h.state.sizes (aim.Page page) h.topics v) h.state.sizes (aim.Page page) _
+    ((begin_leaves_pages p (aim.Page page) h.topics v).retired ∙ left.leaves refl)
+    (begin_known p h.state.sizes (aim.Page page) h.topics v R.sizes tt (looks_aimed page h K.0 K.3) R.frames R.level K.1 A)
 host_leaves Copy page change h v R K left A =
     record { leaves = λ may. left.leaves refl; opens = λ may. absurd (cc may); frames = λ may. absurd (cc may) }
 host_leaves Store page change h v R K left A =
@@ -125,8 +103,8 @@ host_leaves Change page change h v R K left A =
     (record { leaves = λ may. left.leaves refl; opens = λ may. absurd (cc may); frames = λ may. absurd (cc may) })
     (record { leaves = λ may. left.leaves refl; opens = λ may. absurd (cc may); frames = λ may. absurd (cc may) })
 host_leaves (End p) page change h v R K left A =
-    end_left_host (moves h.topics) (end_next p v) _ (end_keeps p h.topics v ∙ left.leaves refl)
-    (ap (λ (f : HeldFrames). is_some f.owned) (end_leaves_frames p h.topics v)) (ending_known p h.topics v K.1 A)
+    end_left_host (moves h.topics) (end_next p v) _ ((end_leaves_pages p h.topics v).retired ∙ left.leaves refl)
+    (ap (λ (f : HeldFrames). is_some f.owned) (end_leaves_pages p h.topics v).frames) (ending_known p h.topics v K.1 A)
 host_leaves Watch page change h v R K left A =
     each_watch (λ q. RetiresPart (place.Host q) (part_topics (host_part Watch page change h) h.topics v)) (watch_next h v) Watch Free
     (record { leaves = λ may. left.leaves refl; opens = λ may. left.opens refl; frames = λ may. absurd (cc may) })

@@ -2,26 +2,30 @@
 use Rattle.core_views.specs.declared.topics.Checked.{Checked}
 use Rattle.std.proofs.lemmas.Bool.Decides.{nat_tests}
 use Rattle.std.proofs.Common.{◌≡◌, ◌+◌, ◌-◌, ◌^◌, ◌<◌, ◌≤◌, ℕ, Bool, true, false, refl, sym, ap, ◌∙◌, arith}
-use Rattle.std.specs.Prelude.{◌==◌, if◌then◌else◌, nat_le, ◌&&◌}
+use Rattle.std.specs.Prelude.{◌==◌, if◌then◌else◌, nat_le, nat_lt, ◌&&◌, Option, Some, None, is_some}
 use Rattle.core_views.specs.declared.place.BeginPlace.{BeginPlace}
 use Rattle.core_views.specs.declared.place.BeginPlace.TheVariants as begins
 use Rattle.core_views.specs.declared.place.EndPlace.{EndPlace}
 use Rattle.core_views.specs.declared.place.EndPlace.TheVariants as ends
 use Rattle.core_views.specs.declared.topics.Checked.TheVariants as checked
-use Rattle.core_views.specs.declared.topics.Invalidated.{Invalidated}
+use Rattle.core_views.specs.declared.topics.HostLook.{HostLook}
 use Rattle.core_views.specs.declared.topics.Topics.{Topics}
 use Rattle.core_views.specs.Held.{Held}
 use Rattle.core_views.specs.Slots.{has_host_page}
 use Rattle.part_steps.specs.PartBounds.{PartRests}
 use Rattle.part_steps.specs.FrameTopics.{is_uncopied}
+use Rattle.part_steps.specs.declared.invalidations.Target.{Target}
+use Rattle.part_steps.specs.declared.invalidations.Target.TheVariants as aim
 use Rattle.part_steps.specs.InvalidationHoldings.{MayCount, has_counted, knows_count, IsOpening}
+use Rattle.part_steps.specs.InvalidationRange.{HasSmallSlot, IsAimed, IsSmall, has_found_looked, has_searched, invalidated_by, is_within_range}
+use Rattle.part_steps.specs.InvalidationRange.{page_aimed, page_looked, page_of_look}
 use Rattle.part_steps.specs.PartSteps.{PartNeeds}
+use Rattle.part_steps.specs.StayTopics.{is_alone}
 use Rattle.mmu_core.specs.lines.InvalidateKnows.{BeginKnows, EndKnows, IsAloneWith, HasSearched}
-use Rattle.mmu_core.specs.lines.InvalidateSteps.{begin_part, end_part, gfn_behind, greater, has_found, lesser, range_end, range_start}
+use Rattle.mmu_core.specs.lines.InvalidateSteps.{begin_part, end_part, gfn_behind, greater, has_found, lesser, range_end, range_start, target_end, target_start}
 use Rattle.mmu_core.proofs.lines.EitherPlace.{either_place}
 use Rattle.mmu_core.proofs.lines.FaultSame.{both, over_it}
-use Rattle.part_steps.specs.InvalidationRange.{page_looked, invalidated_by, has_searched, is_within_range}
-use Rattle.part_steps.specs.StayTopics.{is_alone}
+use Rattle.mmu_core.proofs.lines.SearchKnown.{not_one}
 
 -- ---- what each step needs
 
@@ -43,30 +47,41 @@ lesser_small a b small = by (nat_le a b) refl
 greater_small : (a b : ℕ) → a < 2 ^ 64 → b < 2 ^ 64 → greater a b < 2 ^ 64
 greater_small a b one other = either_place (λ x. x < 2 ^ 64) (nat_le a b) b a other one
 
--- The range that is stored has numbers of 64 bits.
-start_small : (page : ℕ) (t : Topics) → t.invalidations.start < 2 ^ 64 → (t.search.whole ≡ true → t.search.slot.base + t.search.slot.pages ≤ 2 ^ 36)
-    → range_start page t < 2 ^ 64
-start_small page t small frames = by (t.invalidations.count == 0) (has_found page t.search) (found_low page t frames)
+-- The target's frames are below 2 ^ 36.
+pub target_small : (target : Target) (t : Topics) → IsSmall target → HasSmallSlot t.search
+    → (target_start target t.search ≤ 2 ^ 36) × (target_end target t.search ≤ 2 ^ 36)
+target_small (aim.Page page) t small frames = by (has_found page t.search) (found_low page t frames)
   where
-    by : (none found : Bool) → (found ≡ true → gfn_behind page t.search.slot < 2 ^ 36)
-        → (if none then (if found then gfn_behind page t.search.slot else 0) else if found
-        then lesser t.invalidations.start (gfn_behind page t.search.slot) else t.invalidations.start) < 2 ^ 64
-    by true true low = let l = low refl in omega (arith, l)
-    by true false low = omega arith
-    by false true low = let l = low refl in lesser_small t.invalidations.start (gfn_behind page t.search.slot) (omega (arith, l))
-    by false false low = small
+    by : (found : Bool) → (found ≡ true → gfn_behind page t.search.slot < 2 ^ 36)
+        → ((if found then gfn_behind page t.search.slot else 0) ≤ 2 ^ 36) × ((if found then gfn_behind page t.search.slot + 1 else 0) ≤ 2 ^ 36)
+    by true low = let l = low refl in (omega (arith, l), omega (arith, l))
+    by false low = (omega arith, omega arith)
+target_small (aim.Slot slot) t small frames = (omega (arith, small), small)
 
-end_small : (page : ℕ) (t : Topics) → t.invalidations.end < 2 ^ 64 → (t.search.whole ≡ true → t.search.slot.base + t.search.slot.pages ≤ 2 ^ 36)
-    → range_end page t < 2 ^ 64
-end_small page t small frames = by (t.invalidations.count == 0) (has_found page t.search) (found_low page t frames)
+-- The range that is stored has numbers of 64 bits.
+start_small : (target : Target) (t : Topics) → IsSmall target → t.invalidations.start < 2 ^ 64 → HasSmallSlot t.search → range_start target t < 2 ^ 64
+start_small target t small start frames =
+    by (nat_lt (target_start target t.search) (target_end target t.search)) (t.invalidations.count == 0) (target_small target t small frames).0
   where
-    by : (none found : Bool) → (found ≡ true → gfn_behind page t.search.slot < 2 ^ 36)
-        → (if none then (if found then gfn_behind page t.search.slot + 1 else 0) else if found
-        then greater t.invalidations.end (gfn_behind page t.search.slot + 1) else t.invalidations.end) < 2 ^ 64
-    by true true low = let l = low refl in omega (arith, l)
-    by true false low = omega arith
-    by false true low = let l = low refl in greater_small t.invalidations.end (gfn_behind page t.search.slot + 1) small (omega (arith, l))
-    by false false low = small
+    by : (some none : Bool) → target_start target t.search ≤ 2 ^ 36
+        → (if some then (if none then target_start target t.search else lesser t.invalidations.start (target_start target t.search)) else if none
+        then 0 else t.invalidations.start) < 2 ^ 64
+    by true true low = omega (arith, low)
+    by true false low = lesser_small t.invalidations.start (target_start target t.search) (omega (arith, low))
+    by false true low = omega arith
+    by false false low = start
+
+end_small : (target : Target) (t : Topics) → IsSmall target → t.invalidations.end < 2 ^ 64 → HasSmallSlot t.search → range_end target t < 2 ^ 64
+end_small target t small end_ frames =
+    by (nat_lt (target_start target t.search) (target_end target t.search)) (t.invalidations.count == 0) (target_small target t small frames).1
+  where
+    by : (some none : Bool) → target_end target t.search ≤ 2 ^ 36
+        → (if some then (if none then target_end target t.search else greater t.invalidations.end (target_end target t.search)) else if none
+        then 0 else t.invalidations.end) < 2 ^ 64
+    by true true low = omega (arith, low)
+    by true false low = greater_small t.invalidations.end (target_end target t.search) end_ (omega (arith, low))
+    by false true low = omega arith
+    by false false low = end_
 
 counted_known : (c : Checked) (count : ℕ) → has_counted c count ≡ true → knows_count c ≡ true
 counted_known checked.Count count C = refl
@@ -75,34 +90,37 @@ counted_known checked.Start count C = refl
 counted_known checked.All count C = refl
 counted_known _ count C = absurd (cc C)
 
--- Who has searched the slots for the page that it looked at may open an invalidation of it.
-opening : (page : ℕ) (t : Topics) → page_looked t.host ≡ page → HasSearched page t → IsOpening t
-opening page t same S = record {
-  alone = S.sweeping.with_lock.alone.alone;
-  outside = S.sweeping.with_lock.alone.outside;
-  closed = S.sweeping.with_lock.is;
+-- Who has searched the slots for its target may open an invalidation of it.
+opening : (target : Target) (t : Topics) → IsAimed target t → HasSearched target t → IsOpening target t
+opening target t aimed S = record {
+  alone = S.searches.sweeping.with_lock.alone.alone;
+  outside = S.searches.sweeping.with_lock.alone.outside;
+  closed = S.searches.sweeping.with_lock.is;
   holds_set = S.set;
-  searched = ap (λ p. has_searched p t.search) same ∙ S.searched;
+  aimed = aimed;
+  searched = S.searched;
 }
 
 -- What is stored as the count is as many as were open, and one, or without one.
-one_more : (page : ℕ) (t : Topics) → page_looked t.host ≡ page → HasSearched page t → t.invalidations.checked ≡ checked.Range
-    → t.invalidations.own ≡ invalidated_by page t.search
+one_more : (target : Target) (t : Topics) → IsAimed target t → HasSearched target t → t.invalidations.checked ≡ checked.Range
+    → t.invalidations.own ≡ invalidated_by target t.search
     → is_within_range t.invalidations.own t.invalidations ≡ true → is_uncopied t.frames.owned ≡ true → MayCount (t.invalidations.count + 1) t
-one_more page t same S known own_ within uncopied = record {
-  alone = S.sweeping.with_lock.alone.alone;
-  outside = S.sweeping.with_lock.alone.outside;
+one_more target t aimed S known own_ within uncopied = record {
+  alone = S.searches.sweeping.with_lock.alone.alone;
+  outside = S.searches.sweeping.with_lock.alone.outside;
   knows = ap knows_count known;
-  is = sym (ap (λ (b : Bool). if b then t.invalidations.count - 1 else t.invalidations.count + 1) S.sweeping.with_lock.is);
+  is = sym (ap (λ (b : Bool). if b then t.invalidations.count - 1 else t.invalidations.count + 1) S.searches.sweeping.with_lock.is);
   opens = λ closed. record {
-    opening = opening page t same S;
+    target = target;
+    opening = opening target t aimed S;
     known = known;
-    own_ = own_ ∙ ap (λ p. invalidated_by p t.search) (sym same);
+    own_ = own_;
     within = within;
-    unasked = S.sweeping.unasked;
+    no_table = S.searches.no_table;
+    unasked = S.searches.sweeping.unasked;
     uncopied = uncopied;
   };
-  closes = λ opened. absurd (let closed = S.sweeping.with_lock.is in cc (opened, closed));
+  closes = λ opened. absurd (let closed = S.searches.sweeping.with_lock.is in cc (opened, closed));
 }
 
 one_less : (t : Topics) → IsAloneWith true t → t.invalidations.checked ≡ checked.Count → t.invalidations.raised ≡ true → MayCount (t.invalidations.count - 1) t
@@ -115,51 +133,64 @@ one_less t A known raised = record {
   closes = λ opened. raised;
 }
 
-pub begin_needs : (p : BeginPlace) (h : Held) (page : ℕ) → PartRests h → page_looked h.topics.host ≡ page → is_uncopied h.topics.frames.owned ≡ true
-    → BeginKnows p h.state.sizes page h.topics → PartNeeds (begin_part p page h.topics) h
-begin_needs begins.Exclude h page R same none K = K.0.loose
-begin_needs (begins.Find true) h page R same none K =
-    let S = K.1 refl in (S.0, S.1, ap (λ p. is_alone h.topics.hold && has_found p h.topics.search) same ∙ none_found (is_alone h.topics.hold) S.2)
+-- Before its search is over, the slot of the host page that the actor may change isn't found.
+aims_at : (owns : Bool) (host : Option HostLook) (page : ℕ) → (if owns then None else page_of_look host) ≡ Some page → page_looked host ≡ page
+aims_at true host page is = absurd (cc is)
+aims_at false None page is = absurd (cc is)
+aims_at false (Some look) page is = inject is
   where
-    none_found : {found : Bool} (alone : Bool) → found ≡ false → (alone && found) ≡ false
-    none_found true is = is
-    none_found false is = refl
-begin_needs begins.SetStart h page R same none K = (
-  record { opening = opening page h.topics same K.0; counted = K.1; is = ap (λ p. range_start p h.topics) (sym same) },
-  start_small page h.topics R.counters.range.0 R.frames,
-)
-begin_needs begins.SetEnd h page R same none K = (
-  record {
-    opening = opening page h.topics same K.0;
-    widened = K.1;
-    own_ = K.2 ∙ ap (λ p. invalidated_by p h.topics.search) (sym same);
-    is = ap (λ p. range_end p h.topics) (sym same);
-  },
-  end_small page h.topics R.counters.range.1 R.frames,
-)
-begin_needs begins.SetCount h page R same none K = one_more page h.topics same K.0 K.1 K.2 K.3 none
-begin_needs (begins.Walk true) h page R same none K = (K.1 refl).1
-begin_needs begins.Zap h page R same none K =
-    let first : h.topics.invalidations.own.start ≡ gfn_behind page h.topics.search.slot =
-    ap (λ (o : Invalidated). o.start) K.0.found ∙ ap (λ (b : Bool). if b then gfn_behind page h.topics.search.slot else 0) K.1 in
-    let behind : h.topics.invalidations.own.end ≡ gfn_behind page h.topics.search.slot + 1 =
-    ap (λ (o : Invalidated). o.end) K.0.found ∙ ap (λ (b : Bool). if b then gfn_behind page h.topics.search.slot + 1 else 0) K.1 in
-    record {
-      alone = K.0.sweeping.with_lock.alone.alone;
-      outside = K.0.sweeping.with_lock.alone.outside;
-      opened = K.0.sweeping.with_lock.is;
-      from = omega (arith, first);
-      to = omega (arith, behind);
-      saw = K.2.saw;
-      leaf = K.2.leaf;
-    }
-begin_needs begins.Ask h page R same none K =
+    inject : Some look.page ≡ Some page → look.page ≡ page
+    inject e = cc e
+
+none_found : (target : Target) (t : Topics) → IsAimed target t → has_searched target t.search ≡ false → has_found_looked t ≡ false
+none_found (aim.Page page) t aimed is =
+    second_not (is_some (page_aimed t))
+    (ap (λ p. has_found p t.search) (aims_at (is_some t.owned) t.host page aimed) ∙ not_one (has_found page t.search) (t.search.id == 32) is)
+  where
+    second_not : (a : Bool) {b : Bool} → b ≡ false → (a && b) ≡ false
+    second_not true e = e
+    second_not false e = refl
+none_found (aim.Slot slot) t aimed is = ap (λ (o : Option ℕ). is_some o && has_found (page_looked t.host) t.search) aimed
+
+pub begin_needs : (p : BeginPlace) (h : Held) (target : Target) → PartRests h → IsSmall target → IsAimed target h.topics
+    → is_uncopied h.topics.frames.owned ≡ true → BeginKnows p h.state.sizes target h.topics → PartNeeds (begin_part p target h.topics) h
+begin_needs begins.Exclude h target R small aimed none K = K.0.loose
+begin_needs (begins.Find true) h target R small aimed none K =
+    let S = K.1 refl in (S.0, S.1, alone_not (is_alone h.topics.hold) (none_found target h.topics aimed S.2))
+  where
+    alone_not : {found : Bool} (alone : Bool) → found ≡ false → (alone && found) ≡ false
+    alone_not true is = is
+    alone_not false is = refl
+begin_needs begins.SetStart h target R small aimed none K =
+    let low = (target_small target h.topics small R.frames).0 in (
+      record { target = target; opening = opening target h.topics aimed K.0; counted = K.1; own_ = refl; is = refl },
+      omega (arith, low),
+      start_small target h.topics small R.counters.range.0 R.frames,
+    )
+begin_needs begins.SetEnd h target R small aimed none K =
+    let low = (target_small target h.topics small R.frames).1 in (
+      record {
+        target = target;
+        opening = opening target h.topics aimed K.0;
+        widened = K.1;
+        page = K.2;
+        start = K.3;
+        own_ = refl;
+        is = refl;
+      },
+      omega (arith, low),
+      end_small target h.topics small R.counters.range.1 R.frames,
+    )
+begin_needs begins.SetCount h target R small aimed none K = one_more target h.topics aimed K.0 K.1 K.2 K.3 none
+begin_needs (begins.Walk true) h target R small aimed none K = (K.1 refl).1
+begin_needs begins.Zap h target R small aimed none K = K.1
+begin_needs begins.Ask h target R small aimed none K =
     record { low = K.2; next = refl; alone = K.0.alone.alone; outside = K.0.alone.outside; opened = K.0.is; swept = K.4 }
-begin_needs begins.Await h page R same none K = (let asked = K.2 in let lt = K.3 in omega (arith, asked, lt), refl, K.0.alone.outside)
-begin_needs begins.Release h page R same none K = K.0.alone.alone
-begin_needs (begins.Find false) h page R same none K = tt
-begin_needs (begins.Walk false) h page R same none K = tt
-begin_needs _ h page R same none K = tt
+begin_needs begins.Await h target R small aimed none K = (let asked = K.2 in let lt = K.3 in omega (arith, asked, lt), refl, K.0.alone.outside)
+begin_needs begins.Release h target R small aimed none K = K.0.alone.alone
+begin_needs (begins.Find false) h target R small aimed none K = tt
+begin_needs (begins.Walk false) h target R small aimed none K = tt
+begin_needs _ h target R small aimed none K = tt
 
 pub end_needs : (p : EndPlace) (h : Held) → EndKnows p h.topics → PartNeeds (end_part p h.topics) h
 end_needs ends.Exclude h K = K.rests.loose

@@ -63,7 +63,7 @@ use Rattle.mmu_core.proofs.lines.FaultKnown.{above_lowest, fault_known, gone_ove
 use Rattle.mmu_core.proofs.lines.FaultNeeds.{fault_needs}
 use Rattle.mmu_core.proofs.lines.Forms.{first_known}
 use Rattle.mmu_core.proofs.lines.UsedTranslations.{CachesBehind, flushed_behind, newest_filled}
-use Rattle.mmu_core.proofs.words.PartTopics.{is_there, part_topics_is}
+use Rattle.mmu_core.proofs.words.PartTopics.{is_there, no_sweep, part_topics_is}
 use Rattle.mmu_core.proofs.machine.Stepping.{IsStep, is_step}
 use Rattle.mmu_core.proofs.machine.Which.{has_line_is}
 use Rattle.mmu_core.proofs.machine.HandWith.{hand_with}
@@ -95,7 +95,7 @@ NeedsOf (Some step) h = PartNeeds step h
 pub access_needs : (p : AccessPlace) (h : Held) (gfn : ℕ) (write : Bool) → IsVcpu h.state.actor → gfn < 2 ^ 36 → PartRests h
     → AccessKnows p gfn write h → NeedsOf (access_part p gfn h.topics) h
 access_needs (Enter again) h gfn write vcpu small R K = (vcpu, K.outside)
-access_needs (Walk again) h gfn write vcpu small R K = K.1
+access_needs (Walk again) h gfn write vcpu small R K = (K.1, no_sweep h.topics K.0.guest refl)
 access_needs Touch h gfn write vcpu small R K = K.0.guest
 access_needs (Leave how) h gfn write vcpu small R K = K.guest
 access_needs (Fault p) h gfn write vcpu small R K = fault_needs p h gfn write small R K

@@ -58,8 +58,8 @@ closed_on part.RangeStart t v other closed = start_not_open t.invalidations.chec
 closed_on part.RangeEnd t v other closed = range_not_open t.invalidations.checked (nat_lt (own_open t.invalidations) t.invalidations.count)
 closed_on part.Seq t v other closed =
     seq_not_open (has_lock t.hold) t.invalidations.count t.invalidations.checked (nat_lt (own_open t.invalidations) t.invalidations.count)
-closed_on (part.SetStart gfn) t v other closed = start_known_open t.invalidations.checked (nat_lt (own_open t.invalidations) t.invalidations.count) closed
-closed_on (part.SetEnd gfn) t v other closed = end_known_open t.invalidations.checked (nat_lt (own_open t.invalidations) t.invalidations.count) closed
+closed_on (part.SetStart first gfn) t v other closed = start_known_open t.invalidations.checked (nat_lt (own_open t.invalidations) t.invalidations.count) closed
+closed_on (part.SetEnd last gfn) t v other closed = end_known_open t.invalidations.checked (nat_lt (own_open t.invalidations) t.invalidations.count) closed
 closed_on (part.SetCount count) t v other closed = refl
 closed_on (part.SetSeq seq) t v other closed = refl
 closed_on part.Enter t v other closed = refl

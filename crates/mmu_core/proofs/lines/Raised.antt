@@ -19,6 +19,8 @@ use Rattle.core_views.specs.declared.trace.Line.{Line}
 use Rattle.core_views.specs.Held.{Held}
 use Rattle.core_views.specs.Sizes.{actors_of}
 use Rattle.core_views.specs.SlotSets.{MemorySlots}
+use Rattle.part_steps.specs.declared.invalidations.Target.{Target}
+use Rattle.part_steps.specs.declared.invalidations.Target.TheVariants as aim
 use Rattle.part_steps.specs.declared.part_step.PartStep.{PartStep}
 use Rattle.part_steps.specs.declared.part_step.PartStep.TheVariants as part
 use Rattle.part_steps.specs.StayTopics.{has_lock}
@@ -56,10 +58,10 @@ access_raises p gfn t = by (access_part p gfn t) (λ step is. access_untold p gf
     by None untold = refl
     by (Some step) untold = untold_rises step (untold step refl)
 
-begin_rises : (p : BeginPlace) (page : ℕ) (t : Topics) → rises (begin_part p page t) ≡ 0
-begin_rises (begins.Find begun) page t = either_place (λ step. rises step ≡ 0) begun part.Slot part.Slots refl refl
-begin_rises (begins.Walk rooted) page t = either_place (λ step. rises step ≡ 0) rooted (part.Walk _) part.Root refl refl
-begin_rises _ page t = refl
+begin_rises : (p : BeginPlace) (target : Target) (t : Topics) → rises (begin_part p target t) ≡ 0
+begin_rises (begins.Find begun) target t = either_place (λ step. rises step ≡ 0) begun part.Slot part.Slots refl refl
+begin_rises (begins.Walk rooted) target t = either_place (λ step. rises step ≡ 0) rooted (part.Sweep _) part.Root refl refl
+begin_rises _ target t = refl
 
 -- What a step adds to the lines that have raised the sequence number is no less than what it adds to the number.
 pub raised_on : (p : Place) (command : Command) (h : Held) (v : ℕ) (line : Line) → IsUnderWay p
@@ -75,7 +77,7 @@ raised_on (place.Host (host.Claim going)) (ChangeHost page c) h v line begun =
     none_raised (outcome_at (place.Host (host.Claim going)) (ChangeHost page c) h v) line h.answers _
     (claim_is (λ step. rises step ≡ 0) Frames going h.topics.frames.claim refl (λ word. refl))
 raised_on (place.Host (host.Begin p)) (ChangeHost page c) h v line begun = none_raised
-    (outcome_at (place.Host (host.Begin p)) (ChangeHost page c) h v) line h.answers _ (begin_rises p page h.topics)
+    (outcome_at (place.Host (host.Begin p)) (ChangeHost page c) h v) line h.answers _ (begin_rises p (aim.Page page) h.topics)
 raised_on (place.Host host.Copy) (ChangeHost page c) h v line begun =
     none_raised (outcome_at (place.Host host.Copy) (ChangeHost page c) h v) line h.answers _ refl
 raised_on (place.Host host.Store) (ChangeHost page c) h v line begun =

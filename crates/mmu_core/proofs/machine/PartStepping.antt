@@ -1,5 +1,5 @@
 -- A step of a part, with what the invariant says of its hand.
-use Rattle.std.proofs.Common.{◌≡◌, ◌⊎◌, ◌<◌, ◌≤◌, ◌^◌, ℕ, false, Bool, true, refl}
+use Rattle.std.proofs.Common.{◌≡◌, ◌⊎◌, ◌<◌, ◌^◌, ℕ, false, Bool, true, refl}
 use Rattle.core_views.specs.declared.sizes.Sizes.{Sizes}
 use Rattle.core_views.specs.Sizes.{AreSizes, actors_of}
 use Rattle.core_views.specs.declared.topics.Topics.{Topics}
@@ -12,10 +12,10 @@ use Rattle.part_steps.specs.PartTasks.{IsWithin, own_index, page_owned}
 use Rattle.part_steps.specs.PartSteps.{PartNeeds, needs_line}
 use Rattle.part_steps.specs.PartTopics.{part_topics}
 use Rattle.std.specs.Prelude.{Option, Some, None}
-use Rattle.mmu_core.specs.invariant.InvalidatedPart.{IsIn}
+pub use Rattle.mmu_core.specs.lines.InvalidateKnows.{IsFlushedOut}
 use Rattle.mmu_core.specs.invariant.SlotSetPart.{AreSlots, IsLiveIn}
 use Rattle.mmu_core.specs.machine.View.{View}
-use Rattle.core_views.specs.Slots.{contains, has_host_page}
+use Rattle.core_views.specs.Slots.{has_host_page}
 
 -- No two slots in this set have a host page in common.
 abbrev pub AreApart : (ℕ → ℕ) → ℕ → Type 0
@@ -23,21 +23,14 @@ AreApart pool set =
     (page i j : ℕ) (slot other : SlotOf) → IsLiveIn pool set i slot → IsLiveIn pool set j other → has_host_page page slot ≡ true
     → has_host_page page other ≡ true → slot ≡ other
 
--- The slot's guest frames are of the actor's own invalidation, which is open: the flush of it was asked of each virtual processor, and awaited.
-pub record IsFlushedOut (vcpus : ℕ) (slot : SlotOf) (t : Topics) : Type 0 where
-  pub opened : t.invalidations.opened ≡ true
-  pub unraised : t.invalidations.raised ≡ false
-  pub asked : vcpus ≤ t.flush.asked
-  pub awaited : vcpus ≤ t.flush.awaited
-  pub within : (gfn : ℕ) → contains gfn slot ≡ true → IsIn t.invalidations.own gfn
-
--- A slot set may be published in place of this one, which is a slot set: each slot of this one is live there, and the same, or its guest frames are flushed out.
+-- A slot set may be published in place of this one, which is a slot set: each slot of this one is live there, and the same, or its guest frames are flushed
+-- out.
 pub record MayReplace (z : Sizes) (pool : ℕ → ℕ) (slots page : ℕ) (t : Topics) : Type 0 where
   pub old : AreSlots z pool slots
   pub stay : (id : ℕ) (slot : SlotOf) → IsLiveIn pool slots id slot → IsLiveIn pool page id slot ⊎ IsFlushedOut z.vcpus slot t
 
--- What a line says of its own step: a slot set that is published has each slot of the one before it, or has flushed it out; where one more invalidation is counted, no two published
--- slots share a host page; and the sequence number stays far below 2 ^ 64.
+-- What a line says of its own step: a slot set that is published has each slot of the one before it, or has flushed it out; where one more invalidation is
+-- counted, no two published slots share a host page; and the sequence number stays far below 2 ^ 64.
 abbrev pub Replaces : Sizes → PartStep → (ℕ → ℕ) → ℕ → Topics → Type 0
 Replaces z part.Publish pool slots t = MayReplace z pool slots (page_owned t.owned) t
 Replaces z (part.SetCount count) pool slots t = AreApart pool slots

@@ -7,7 +7,7 @@ use Rattle.core_views.specs.Sizes.{actors_of}
 use Rattle.mmu_core.specs.invariant.TopicsInvariant.{CountersPart, FilledPart, FramesPart, HeldPart, LockPart, LookPart, OwnLooksPart, SawWriter, SearchPart}
 use Rattle.mmu_core.specs.invariant.TopicsInvariant.{StatesPart, TopicsInvariantOf, SetsPart, OldSetsPart, PathPart, UsePart, stands, CountPart}
 use Rattle.mmu_core.specs.invariant.TopicsInvariant.{CheckedPart, HeldSlotsPart, KnownRangePart, LoadedPart, LookedFramesPart, PassedPart, RangePart}
-use Rattle.mmu_core.specs.invariant.TopicsInvariant.{ScopePart, ZappedPart}
+use Rattle.mmu_core.specs.invariant.TopicsInvariant.{ScopePart, SweptPart, ZappedPart}
 
 pub same_topics : (z : Sizes) (lock root slots seq count start end_ : ℕ) (states map frame_map host role pool : ℕ → ℕ) (hand other : ℕ → Held)
     → ◌≡◌ {A = ℕ → Topics} (λ i. (other i).topics) (λ i. (hand i).topics)
@@ -42,6 +42,7 @@ same_topics z lock root slots seq count start end_ states map frame_map host rol
   ranges = subst (λ (t : ℕ → Topics). RangePart (actors_of z) start end_ t) (sym same) I.ranges;
   passed = subst (λ (t : ℕ → Topics). (i : ℕ) → i < actors_of z → PassedPart pool (t i)) (sym same) I.passed;
   scopes = subst (λ (t : ℕ → Topics). ScopePart (actors_of z) pool slots t) (sym same) I.scopes;
+  swept = subst (λ (t : ℕ → Topics). SweptPart (actors_of z) I.up I.spot pool root t) (sym same) I.swept;
   zapped = subst (λ (t : ℕ → Topics). ZappedPart (actors_of z) I.up I.spot pool root t) (sym same) I.zapped;
   few_ended = I.few_ended;
   counters = subst (λ (t : ℕ → Topics). (i : ℕ) → i < actors_of z → CountersPart z (t i)) (sym same) I.counters;

@@ -27,7 +27,7 @@ use Rattle.mmu_core.proofs.pages.Standing.{entry_now, position_below, spot_after
 use Rattle.mmu_core.proofs.machine.SumsBelow.{upd_id}
 use Rattle.mmu_core.proofs.pages.UsesStay.{SameTable, SameTables, is_link, same_tables}
 
-absent_is : 0 ≡ absent_word
+pub absent_is : 0 ≡ absent_word
 unfolding absent_word
 absent_is = refl
 

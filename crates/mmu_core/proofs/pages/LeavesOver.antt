@@ -152,8 +152,8 @@ changed_leaves z v a new_ note S I table entry gfn R O leaf =
         let given : SlotGives (v.words area.Pool) (v.words area.Slots 0) (page_of L.slot gfn) gfn =
         record { id = L.id; slot = L.slot; live = L.live; has = B.0; is = B.1 } in
         absurd (I.zapped a S.there S.needs.0.opened asked table entry gfn R O
-        ((I.scopes a S.there S.needs.0.opened).covers gfn
-        (subst (λ p. SlotGives (v.words area.Pool) (v.words area.Slots 0) p gfn) (e ∙ sym S.needs.0.invalid) given)) leaf)
+        ((I.scopes a page S.there S.needs.0.opened S.needs.0.invalid).covers gfn
+        (subst (λ p. SlotGives (v.words area.Pool) (v.words area.Slots 0) p gfn) e given)) leaf)
     by L (inr ne) = leaf_same (v.words area.Pool) (v.words area.Host) (v.words area.Slots 0) page _ gfn word L (λ e. absurd (ne e))
 
 -- Of a page that is brought in there is none either: it wasn't present.

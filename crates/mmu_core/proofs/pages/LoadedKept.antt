@@ -19,6 +19,7 @@ use Rattle.part_steps.specs.PartTasks.{entry_index, part_task, table_page}
 use Rattle.part_steps.specs.ControlBits.{has_writer}
 use Rattle.part_steps.specs.PartTopics.{part_topics}
 use Rattle.part_steps.specs.StayTopics.{has_lock, may_walk}
+use Rattle.part_steps.specs.SweepTopics.{gone_up}
 use Rattle.part_steps.specs.WalkTopics.{gone_down, linked_page}
 use Rattle.mmu_core.specs.invariant.InvalidationsPart.{LoadedPart}
 use Rattle.mmu_core.specs.invariant.TopicsInvariant.{TopicsInvariant}
@@ -65,6 +66,10 @@ own_loaded z v a note part.Exclude S I = λ alone out from low.
 own_loaded z v a note part.Root S I = λ alone out from low. absurd (omega (arith, low))
 own_loaded z v a note (part.Walk gfn) S I = λ alone out from low.
     let walk : TableWalk = (v.hand a).topics.walk in
+    let j : ℕ = entry_index gfn walk.level in
+    gone_loaded (v.words area.Pool) walk j (linked_page (kind_of walk.level (v.words area.Pool (pool_index (table_page walk) j)))) low
+own_loaded z v a note (part.Sweep gfn) S I = λ alone out from low.
+    let walk : TableWalk = gone_up (v.hand a).topics.walk in
     let j : ℕ = entry_index gfn walk.level in
     gone_loaded (v.words area.Pool) walk j (linked_page (kind_of walk.level (v.words area.Pool (pool_index (table_page walk) j)))) low
 own_loaded z v a note (part.Link gfn) S I = λ alone. absurd (let shared = S.needs.0.shares in cc (alone, shared))

@@ -1,15 +1,17 @@
 -- Each table that a walk has gone through is a table, down to the one that it has come to.
 use Rattle.std.proofs.Common.{◌≡◌, ◌+◌, ◌*◌, ◌/◌, ◌^◌, ◌<◌, ◌≤◌, ℕ, zero, suc, refl, ap, ◌∙◌, arith}
-use Rattle.std.specs.Prelude.{◌-◌, Bool, true, false, ◌==◌, not, if◌then◌else◌, Option, Some, None}
+use Rattle.std.specs.Prelude.{◌-◌, ◌%◌, Bool, true, false, ◌==◌, ◌&&◌, nat_lt, not, if◌then◌else◌, Option, Some, None}
 use Rattle.std.proofs.lemmas.Bool.Decides.{nat_tests}
 use Rattle.core_views.specs.declared.topics.TableWalk.{TableWalk}
 use Rattle.core_views.specs.declared.topics.Topics.{Topics}
 use Rattle.spte_words.specs.Entries.{kind_of}
 use Rattle.part_steps.specs.declared.part_step.PartStep.{PartStep}
 use Rattle.part_steps.specs.declared.part_step.PartStep.TheVariants as part
-use Rattle.part_steps.specs.PartTasks.{leaf_written, link_written}
+use Rattle.part_steps.specs.PartTasks.{leaf_written, link_written, table_page}
+use Rattle.part_steps.specs.PartSteps.{PartNeeds}
 use Rattle.part_steps.specs.PartTopics.{part_topics}
 use Rattle.part_steps.specs.StayTopics.{is_outside, may_walk}
+use Rattle.part_steps.specs.SweepTopics.{gone_up, gone_up_once}
 use Rattle.part_steps.specs.WalkTopics.{gone_down, linked_page, swapped}
 use Rattle.core_views.specs.declared.sizes.Sizes.{Sizes}
 use Rattle.core_views.specs.Held.{Held}
@@ -91,22 +93,104 @@ swap_goes : (won : Bool) (walk : TableWalk) (index new_ v : ℕ) → index < 512
 swap_goes true walk index new_ v low = down_goes (linked_page (kind_of walk.level new_)) walk index new_ low
 swap_goes false walk index new_ v low = down_goes None walk index v low
 
--- So it is after each step of a part.
-pub part_goes : (step : PartStep) (t : Topics) (v : ℕ) → GoesOn t.walk (part_topics step t v).walk
-part_goes part.Enter t v = kept_goes false t.walk
-part_goes part.Leave t v = kept_goes false t.walk
-part_goes part.Begin t v = kept_goes false t.walk
-part_goes part.End t v = kept_goes false t.walk
-part_goes part.Unshare t v = kept_goes (not (is_outside t.stay)) t.walk
-part_goes part.Release t v = kept_goes (not (is_outside t.stay)) t.walk
-part_goes part.Root t v = rooted_goes (may_walk t.stay t.hold) t.walk v
-part_goes (part.Walk gfn) t v = down_goes (linked_page (kind_of t.walk.level v)) t.walk _ v (omega arith)
-part_goes (part.Link gfn) t v = swap_goes (v == t.walk.entry) t.walk _ (link_written t) v (omega arith)
-part_goes (part.Leaf gfn) t v = swap_goes (v == t.walk.entry) t.walk _ (leaf_written t) v (omega arith)
-part_goes (part.Zap gfn) t v = down_goes None t.walk _ 0 (omega arith)
-part_goes _ t v = stays t.walk
+-- ---- A walk goes up to a table that it has gone through.
+
+on_up : {before between after : TableWalk} {level : ℕ} → GoesOnAt before between level → GoesOnAt between after level → GoesOnAt before after level
+on_up A B = record { from = A.from; down = A.down; table = B.table ∙ A.table; span = B.span ∙ A.span }
+
+-- The span of one level higher lies in the same spans above.
+up_run : (n prefix : ℕ) → n ≤ 3 → prefix / 512 / 512 ^ n ≡ prefix / 512 ^ (n + 1)
+up_run zero prefix few = omega arith
+up_run (suc zero) prefix few = omega arith
+up_run (suc (suc zero)) prefix few = omega arith
+up_run (suc (suc (suc zero))) prefix few = omega arith
+up_run (suc (suc (suc (suc n)))) prefix few = absurd (omega (arith, few))
+
+once_higher : (walk : TableWalk) → walk.level ≤ (gone_up_once walk).level
+once_higher walk = by ((walk.index == 511) && nat_lt walk.level 4)
+  where
+    by : (b : Bool) → walk.level ≤ (if b then walk.level + 1 else walk.level)
+    by true = omega arith
+    by false = omega arith
+
+once_level : (walk : TableWalk) → walk.level ≤ 4 → (gone_up_once walk).level ≤ 4
+once_level walk most = by (walk.index == 511) (nat_lt walk.level 4) refl
+  where
+    by : (last lower : Bool) → nat_lt walk.level 4 ≡ lower → (if last && lower then walk.level + 1 else walk.level) ≤ 4
+    by true true is = grind (arith, nat_tests)
+    by true false is = most
+    by false lower is = most
+
+once_goes : (walk : TableWalk) (level : ℕ) → 1 ≤ walk.level → (gone_up_once walk).level ≤ level → level ≤ 4 → GoesOnAt walk (gone_up_once walk) level
+once_goes walk level from down most = by ((walk.index == 511) && nat_lt walk.level 4) down
+  where
+    moved : Bool → TableWalk
+    moved b = record walk {
+      level = if b then walk.level + 1 else walk.level;
+      prefix = if b then walk.prefix / 512 else walk.prefix;
+      index = if b then walk.prefix % 512 else walk.index;
+    }
+
+    by : (b : Bool) → (moved b).level ≤ level → GoesOnAt walk (moved b) level
+    by false at_least = record { from = from; down = at_least; table = refl; span = refl }
+    by true at_least =
+        let lower : level - walk.level ≡ (level - (walk.level + 1)) + 1 = omega (arith, at_least) in
+        record {
+          from = from;
+          down = omega (arith, at_least);
+          table = refl;
+          span = up_run (level - (walk.level + 1)) walk.prefix (omega (arith, from, most)) ∙ ap (λ n. walk.prefix / 512 ^ n) (sym lower);
+        }
+
+pub up_level : (walk : TableWalk) → walk.level ≤ 4 → (gone_up walk).level ≤ 4
+up_level walk most = once_level (gone_up_once (gone_up_once walk)) (once_level (gone_up_once walk) (once_level walk most))
+
+pub up_goes : (walk : TableWalk) (level : ℕ) → 1 ≤ walk.level → (gone_up walk).level ≤ level → level ≤ 4 → GoesOnAt walk (gone_up walk) level
+up_goes walk level from down most =
+    let one = once_higher walk in
+    let two = once_higher (gone_up_once walk) in
+    let three = once_higher (gone_up_once (gone_up_once walk)) in
+    on_up (once_goes walk level from (omega (arith, two, three, down)) most)
+    (on_up (once_goes (gone_up_once walk) level (omega (arith, from, one)) (omega (arith, three, down)) most)
+    (once_goes (gone_up_once (gone_up_once walk)) level (omega (arith, from, one, two)) down most))
+
+-- And goes on from there.
+sweep_goes : (walk : TableWalk) (index v : ℕ) → 1 ≤ walk.level → index < 512
+    → GoesOn walk (gone_down (linked_page (kind_of (gone_up walk).level v)) (gone_up walk) index v)
+sweep_goes walk index v from low level there above most =
+    let on = down_goes (linked_page (kind_of (gone_up walk).level v)) (gone_up walk) index v low level there above most in
+    on_up (up_goes walk level from on.down most) on
+
+-- ---- After each step of a part.
+
+-- A sweep goes on from a table.
+abbrev pub IsInTable : PartStep → TableWalk → Type 0
+IsInTable (part.Sweep gfn) walk = 1 ≤ walk.level
+IsInTable _ walk = Unit {0}
+
+in_table : (step : PartStep) (h : Held) → PartNeeds step h → IsInTable step h.topics.walk
+in_table (part.Sweep gfn) h N = N.there
+in_table _ h N = tt
+
+pub part_goes : (step : PartStep) (t : Topics) (v : ℕ) → IsInTable step t.walk → GoesOn t.walk (part_topics step t v).walk
+part_goes part.Enter t v from = kept_goes false t.walk
+part_goes part.Leave t v from = kept_goes false t.walk
+part_goes part.Begin t v from = kept_goes false t.walk
+part_goes part.End t v from = kept_goes false t.walk
+part_goes part.Unshare t v from = kept_goes (not (is_outside t.stay)) t.walk
+part_goes part.Release t v from = kept_goes (not (is_outside t.stay)) t.walk
+part_goes part.Root t v from = rooted_goes (may_walk t.stay t.hold) t.walk v
+part_goes (part.Walk gfn) t v from = down_goes (linked_page (kind_of t.walk.level v)) t.walk _ v (omega arith)
+part_goes (part.Sweep gfn) t v from = sweep_goes t.walk _ v from (omega arith)
+part_goes (part.Link gfn) t v from = swap_goes (v == t.walk.entry) t.walk _ (link_written t) v (omega arith)
+part_goes (part.Leaf gfn) t v from = swap_goes (v == t.walk.entry) t.walk _ (leaf_written t) v (omega arith)
+part_goes (part.Zap gfn) t v from = down_goes None t.walk _ 0 (omega arith)
+part_goes _ t v from = stays t.walk
 
 -- ---- The tables of a walk stand after each step.
+
+own_span : (walk : TableWalk) → walk.prefix ≡ span_at walk.level walk
+own_span walk = let none : walk.level - walk.level ≡ 0 = omega arith in sym (ap (λ n. walk.prefix / 512 ^ n) none ∙ omega arith)
 
 -- The table that the walk has come to stands so as those that it has gone through.
 pub whole_path : (stands : ℕ → Option Position) (t : Topics) → HeldPart stands t → PathPart stands t.walk → (level : ℕ) → 1 ≤ t.walk.level
@@ -117,9 +201,17 @@ whole_path stands t H P level from down most = by (cases_lt t.walk.level level)
     by (inl above) = P level from above most
     by (inr not_above) =
         let here : t.walk.level ≡ level = omega (arith, down, not_above) in
-        let none : t.walk.level - t.walk.level ≡ 0 = omega arith in
-        let own : t.walk.prefix ≡ span_at t.walk.level t.walk = sym (ap (λ n. t.walk.prefix / 512 ^ n) none ∙ omega arith) in
-        subst (λ l. stands (table_at l t.walk) ≡ Some (at l (span_at l t.walk))) here (H.table from ∙ ap (λ r. Some (at t.walk.level r)) own)
+        subst (λ l. stands (table_at l t.walk) ≡ Some (at l (span_at l t.walk))) here
+        (H.table from ∙ ap (λ r. Some (at t.walk.level r)) (own_span t.walk))
+
+-- So does the one to which it goes up.
+pub up_stands : (stands : ℕ → Option Position) (t : Topics) → HeldPart stands t → PathPart stands t.walk → 1 ≤ t.walk.level → t.walk.level ≤ 4
+    → stands (table_page (gone_up t.walk)) ≡ Some (at (gone_up t.walk).level (gone_up t.walk).prefix)
+up_stands stands t H P from most =
+    let up : TableWalk = gone_up t.walk in
+    let on = up_goes t.walk up.level from (omega arith) (up_level t.walk most) in
+    ap stands on.table ∙ whole_path stands t H P up.level from on.down (up_level t.walk most)
+    ∙ ap (λ r. Some (at up.level r)) (sym (own_span up ∙ on.span))
 
 -- A walk that went on is at tables where those stand that it had come to.
 path_on : (before after : ℕ → Option Position) (t s : Topics) → ((k : ℕ) (p : Position) → before k ≡ Some p → after k ≡ Some p) → GoesOn t.walk s.walk
@@ -145,6 +237,6 @@ paths_kept z v a step note S I = behind_step (PathsAt z after) z v a step note S
         at_upd (λ i (h : Held). i < actors_of z → PathPart after h.topics.walk) v.hand a _
         (λ lt. path_on (stands I.up I.spot) after (v.hand a).topics
         (part_topics step (v.hand a).topics (answer_in (part_task step a (v.hand a).topics note) v.words)) (stays_standing z v a step S I)
-        (part_goes step (v.hand a).topics _) (I.held a lt) (I.paths a lt))
+        (part_goes step (v.hand a).topics _ (in_table step (v.hand a) S.needs)) (I.held a lt) (I.paths a lt))
         (λ i apart lt level from above most. stays_standing z v a step S I (table_at level (v.hand i).topics.walk)
         (at level (span_at level (v.hand i).topics.walk)) (I.paths i lt level from above most))

@@ -66,7 +66,7 @@ uses_after z v a part.Claim note S I =
     (claim_kept I.uses a S.there t.claim.at (tried_bit t.claim) (is_won t.claim (v.words area.PoolMap t.claim.at)) low refl S.needs.0)
 uses_after z v a part.Give note S I =
     let t : Topics = (v.hand a).topics in
-    let o = owned_some t S.needs in
+    let o = owned_some t S.needs.0 in
     let page : page_owned t.owned ≡ o.0.page = ap page_owned o.1 in
     subst (λ p. UsesAt z (upd I.up p Free) (part_behind a part.Give note v)) (sym page)
     (own_alone z v a part.Give note (upd I.up o.0.page Free) (ap (λ x. still_retired x t.retired) o.1)

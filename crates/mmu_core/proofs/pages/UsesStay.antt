@@ -57,7 +57,7 @@ same_tables z v a part.Claim S I never =
     claimed (is_won t.claim (v.words area.PoolMap t.claim.at)) I.up (64 * t.claim.at + tried_bit t.claim) a
     (λ won. ap is_table (free_use I.uses (64 * t.claim.at + tried_bit t.claim) (page_free (v.words area.PoolMap) t.claim.at (tried_bit t.claim) low ∙ won)))
 same_tables z v a part.Give S I never =
-    let o = owned_some (v.hand a).topics S.needs in
+    let o = owned_some (v.hand a).topics S.needs.0 in
     one_turned I.up (page_owned (v.hand a).topics.owned) Free
     (ap (λ x. is_table (I.up (page_owned x))) o.1 ∙ ap is_table (owned_use I.uses a o.0 S.there o.1)) refl
 same_tables z v a part.GiveOld S I never =

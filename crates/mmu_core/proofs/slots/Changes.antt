@@ -1,10 +1,11 @@
 -- What a line makes of the slots that it is to change: a clause for each command that changes one.
-use Rattle.std.proofs.Common.{◌≡◌, ◌<◌, ◌^◌, ◌+◌, ℕ, List, suc, length, take, refl, sym, subst, ap, ◌∙◌, arith}
+use Rattle.std.proofs.Common.{◌≡◌, ◌⊎◌, ◌<◌, ◌^◌, ◌+◌, ℕ, List, suc, length, take, refl, sym, subst, ap, ◌∙◌, arith}
 use Rattle.std.proofs.lemmas.Map.Views.{All-keys-insert_entry}
 use Rattle.std.specs.List.{Contains}
 use Rattle.std.specs.Map.{keys_of}
 use Rattle.std.specs.Ordering.{nat_cmp}
-use Rattle.std.specs.Prelude.{All, None, false, is_some, true}
+use Rattle.std.specs.Option.{option_map}
+use Rattle.std.specs.Prelude.{All, Option, Some, None, is_some, true}
 use Rattle.core_views.specs.declared.actor.Actor.{Actor}
 use Rattle.core_views.specs.declared.actor.Actor.TheVariants.{Manager}
 use Rattle.core_views.specs.declared.place.Place.{Place}
@@ -16,8 +17,8 @@ use Rattle.core_views.specs.declared.trace.Line.{Line}
 use Rattle.core_views.specs.declared.trace.Slot.{Slot}
 use Rattle.core_views.specs.Held.{Held}
 use Rattle.core_views.specs.Refusals.{is_logged}
-use Rattle.core_views.specs.SlotCommands.{change_refusal, changes_slot, slot_change, slots_after}
-use Rattle.core_views.specs.SlotSets.{MemorySlots, with_slot_at}
+use Rattle.core_views.specs.SlotCommands.{change_refusal, changes_slot, slot_change, slot_moved, slots_after}
+use Rattle.core_views.specs.SlotSets.{MemorySlots, slot_of_id, with_slot_at}
 use Rattle.core_views.specs.Traces.{IsCommandFor, slot_ids}
 use Rattle.spte_words.specs.declared.area.Area.TheVariants as area
 use Rattle.spte_words.specs.Areas.{pool_index}
@@ -26,16 +27,15 @@ use Rattle.part_steps.specs.PartTasks.{page_owned}
 use Rattle.part_steps.specs.SetWords.{IsFilledWith, set_role, set_word}
 use Rattle.part_steps.specs.SlotWords.{memory_slots_below}
 use Rattle.mmu_core.specs.invariant.Invariant.{Invariant, IsSetBy, RecordPart}
-use Rattle.mmu_core.specs.invariant.SlotSetPart.{SlotSetPart}
+use Rattle.mmu_core.specs.invariant.SlotSetPart.{AreSlots, Fits, IsLiveIn, SlotSetPart}
 use Rattle.mmu_core.specs.machine.Steps.{next_line}
 use Rattle.mmu_core.specs.machine.View.{View}
-use Rattle.mmu_core.specs.lines.Forms.{may_retire}
+use Rattle.mmu_core.specs.lines.SlotChangeKnows.{FitsMachine}
 use Rattle.part_steps.specs.PartHoldings.{OwnsSet}
 use Rattle.mmu_core.proofs.lines.LinesKept.{AreSetBy, line_sets, set_by_with, set_here}
 use Rattle.mmu_core.proofs.machine.Stepping.{IsStep}
 use Rattle.mmu_core.proofs.slots.Accepted.{MayBeSet, may_be_set}
-use Rattle.mmu_core.proofs.slots.LiveStay.{StayLive}
-use Rattle.mmu_core.proofs.slots.SetFilled.{filled_page, has_each, list_with, new_slot, others_live, others_same}
+use Rattle.mmu_core.proofs.slots.SetFilled.{filled_page, has_others, list_with, new_slot, others_live, others_same, recorded_live}
 use Rattle.mmu_core.proofs.slots.SetPublished.{set_with}
 use Rattle.mmu_core.proofs.words.SmallSlots.{in_range, record_small}
 
@@ -67,38 +67,58 @@ pub recorded_at : (z : Sizes) (v : View) (a : ℕ) (line : Line) (command : Comm
 recorded_at z v a line command p S changes I =
     I.recorded a S.there (sym S.own ∙ change_is_managers z line.actor command changes S.allowed)
 
--- A page with the record's slots after the line's change may be published in place of the set: what is live stays live, no two slots meet, and
--- its slots are those.
+-- A page with the record's slots after the line's change may be published in place of the set: what is live stays live, or is the slot that the line moves; no
+-- two slots meet; and its slots are those.
 pub record Publishes (z : Sizes) (pool : ℕ → ℕ) (set page : ℕ) (command : Command) (slots : MemorySlots) : Type 0 where
-  pub stay : StayLive pool set pool page
+  pub stay : (id : ℕ) (slot : Slot) → IsLiveIn pool set id slot → IsLiveIn pool page id slot ⊎ (slot_moved slots command ≡ Some slot)
   pub set_part : (role : ℕ → ℕ) → role page ≡ set_role → SlotSetPart z set role pool → SlotSetPart z page role pool
   pub list : slots_after command slots ≡ memory_slots_below pool page 32
 
 slot_published : (z : Sizes) (pool : ℕ → ℕ) (set page id : ℕ) (slot : Slot) (slots : MemorySlots) → RecordPart pool set slots → MayBeSet z pool set id slot
     → ((j : ℕ) → j < 512 → pool (pool_index page j) ≡ set_word (slots_after (SetSlot id slot) slots) j) → Publishes z pool set page (SetSlot id slot) slots
 slot_published z pool set page id slot slots R may filled = record {
-  stay = has_each pool set page id slot slots R may.low may.not_live filled;
+  stay = has_others pool set page id slot slots R may.low filled;
   set_part = λ role role_is part.
-      set_with z pool set page id slot may (new_slot pool set page id slot slots R may.low may.not_live filled)
-      (others_live pool set page id slot slots R may.low may.not_live filled)
-      (others_same pool set page id slot slots R may.low may.not_live filled) role role role_is part;
+      set_with z pool set page id slot may (new_slot pool set page id slot slots R may.low filled)
+      (others_live pool set page id slot slots R may.low filled)
+      (others_same pool set page id slot slots R may.low filled) role role role_is part;
   list =
       ap (with_slot_at id (record { slot = slot; logged = is_logged id slots })) R.same
-      ∙ sym (list_with pool set page id slot slots R may.low may.not_live filled);
+      ∙ sym (list_with pool set page id slot slots R may.low filled);
 }
 
--- So it is of the page that the line owns and has filled, where the record accepts the change and no page is retired yet.
-pub change_publishes : (z : Sizes) (v : View) (a : ℕ) (line : Line) (command : Command) (p : Place) → IsStep z v a line command p → may_retire p ≡ false
+-- So it is of the page that the line owns and has filled, where the record accepts the change.
+pub change_publishes : (z : Sizes) (v : View) (a : ℕ) (line : Line) (command : Command) (p : Place) → IsStep z v a line command p
     → changes_slot command ≡ true → Invariant z v → OwnsSet (v.hand a).topics → change_refusal z command (v.hand a).slots ≡ None
     → IsFilledWith (v.words area.Pool) (slots_after command (v.hand a).slots) (v.hand a).topics.owned
     → Publishes z (v.words area.Pool) (v.words area.Slots 0) (page_owned (v.hand a).topics.owned) command (v.hand a).slots
-change_publishes z v a line (Access gfn word op) p S not_yet changes I owns accepted filled = absurd (cc changes)
-change_publishes z v a line (ChangeHost page change) p S not_yet changes I owns accepted filled = absurd (cc changes)
-change_publishes z v a line (SetSlot id slot) p S not_yet changes I owns accepted filled =
+change_publishes z v a line (Access gfn word op) p S changes I owns accepted filled = absurd (cc changes)
+change_publishes z v a line (ChangeHost page change) p S changes I owns accepted filled = absurd (cc changes)
+change_publishes z v a line (SetSlot id slot) p S changes I owns accepted filled =
     let R = recorded_at z v a line (SetSlot id slot) p S changes I in
     slot_published z (v.words area.Pool) (v.words area.Slots 0) (page_owned (v.hand a).topics.owned) id slot (v.hand a).slots R
-    (may_be_set z v a line id slot p S not_yet I R accepted)
+    (may_be_set z (v.words area.Pool) (v.words area.Slots 0) id slot (v.hand a).slots R accepted)
     (filled_page (v.words area.Pool) (slots_after (SetSlot id slot) (v.hand a).slots) (v.hand a).topics owns filled)
+
+-- The slot that a line moves is live, and so it fits the machine.
+pub moved_fits : (z : Sizes) (pool : ℕ → ℕ) (set : ℕ) (slots : MemorySlots) (command : Command) (slot : Slot) → RecordPart pool set slots
+    → AreSlots z pool set → slot_moved slots command ≡ Some slot → FitsMachine z slot
+moved_fits z pool set slots (Access gfn word op) slot R A is = absurd (cc is)
+moved_fits z pool set slots (ChangeHost page change) slot R A is = absurd (cc is)
+moved_fits z pool set slots (SetSlot id new_) slot R A is = by (slot_of_id id slots) refl is
+  where
+    fits : {s : Slot} → IsLiveIn pool set id s → FitsMachine z s
+    fits {s} L =
+        let F = subst (Fits z) L.is (A.fits id L.low L.live) in
+        let pages = F.pages in
+        record { frames = F.frames; pages = omega (arith, pages) }
+
+    by : (m : Option MemorySlot) → slot_of_id id slots ≡ m → option_map (λ was. was.slot) m ≡ Some slot → FitsMachine z slot
+    by None at none = absurd (cc none)
+    by (Some was) at some = subst (FitsMachine z) (same some) (fits (recorded_live pool set id slots was R at))
+      where
+        same : {x y : Slot} → Some x ≡ Some y → x ≡ y
+        same e = cc e
 
 -- The slots after the change were set by the lines up to this one.
 pub record AreRecorded (h : Held) (slots : MemorySlots) : Type 0 where

@@ -1,7 +1,8 @@
--- The page of a slot set that is filled: which slots are live in it, and that it has those of the published one, and one more.
+-- The page of a slot set that is filled: which slots are live in it, and that it has those of the published one, with one put at its ID.
 use Rattle.std.proofs.Common.{◌≡◌, ◌≢◌, ◌⊎◌, inl, inr, ◌<◌, ◌≤◌, ◌+◌, ◌*◌, ◌/◌, ◌%◌, ℕ, zero, suc, [], ◌∷◌, ◌++◌, refl, sym, ap, ◌∙◌, arith}
 use Rattle.std.proofs.lemmas.Bool.Decides.{nat_tests}
-use Rattle.std.specs.Prelude.{Bool, true, false, ◌==◌, if◌then◌else◌, Option, Some, None}
+use Rattle.std.specs.Prelude.{Bool, true, false, ◌==◌, nat_le, if◌then◌else◌, Option, Some, None}
+use Rattle.std.specs.Option.{option_map}
 use Rattle.core_views.specs.declared.place.SlotField.{SlotField}
 use Rattle.core_views.specs.declared.place.SlotField.TheVariants as field
 use Rattle.core_views.specs.declared.slot_set.MemorySlot.{MemorySlot}
@@ -21,7 +22,7 @@ use Rattle.part_steps.specs.SlotWords.{field_number, live_at, memory_slot_at, me
 use Rattle.mmu_core.proofs.machine.Columns.{same_or}
 use Rattle.part_steps.proofs.SetWords.{set_at}
 use Rattle.mmu_core.proofs.words.SlotFields.{is_number, same_slot}
-use Rattle.mmu_core.proofs.words.SlotLists.{one_more_live}
+use Rattle.mmu_core.proofs.words.SlotLists.{one_put_live}
 
 -- ---- The record has a slot where the published set has it live.
 
@@ -66,8 +67,29 @@ listed_at pool set (suc n) id lt = case (same_or n id) (λ less. listed_at pool 
     case (inr apart) before = not_last n id (memory_slot_at pool set n) (memory_slots_below pool set n) (live_at pool set n) apart ∙ before (omega arith)
 
 -- the record's slot with an ID
-record_at : (pool : ℕ → ℕ) (set id : ℕ) (slots : MemorySlots) → RecordPart pool set slots → id ≤ 31 → recorded_at id slots ≡ live_slot pool set id
+pub record_at : (pool : ℕ → ℕ) (set id : ℕ) (slots : MemorySlots) → RecordPart pool set slots → id ≤ 31 → recorded_at id slots ≡ live_slot pool set id
 record_at pool set id slots R low = ap (recorded_at id) R.same ∙ listed_at pool set 32 id (omega arith)
+
+-- A slot of the record is live, and the same.
+pub recorded_live : (pool : ℕ → ℕ) (set id : ℕ) (slots : MemorySlots) (was : MemorySlot) → RecordPart pool set slots → recorded_at id slots ≡ Some was
+    → IsLiveIn pool set id was.slot
+recorded_live pool set id slots was R is = low (nat_le id 31) refl
+  where
+    same : {x y : MemorySlot} → Some x ≡ Some y → x ≡ y
+    same e = cc e
+
+    by : id ≤ 31 → (live : Bool) → live_at pool set id ≡ live → (if live then Some (memory_slot_at pool set id) else None) ≡ Some was
+        → IsLiveIn pool set id was.slot
+    by below true live e = record { low = below; live = live; is = ap (λ (m : MemorySlot). m.slot) (same e) }
+    by below false live e = absurd (cc e)
+
+    low : (b : Bool) → nat_le id 31 ≡ b → IsLiveIn pool set id was.slot
+    low true le =
+        let below : id ≤ 31 = grind (arith, nat_tests) in by below (live_at pool set id) refl (sym (record_at pool set id slots R below) ∙ is)
+    low false le =
+        let above : 32 ≤ id = grind (arith, nat_tests) in
+        let none : recorded_at id slots ≡ None = ap (recorded_at id) R.same ∙ none_from pool set 32 id above in
+        absurd (cc (none, is))
 
 -- ---- The page that is filled has the record's slots.
 
@@ -110,10 +132,9 @@ module _ (pool : ℕ → ℕ) (page : ℕ) (slots : MemorySlots) (filled : (j : 
       ∙ ap (λ logged. record { slot = m.slot; logged = logged })
       (ap flags_logged (field_is field.Flags ∙ ap (λ x. word_of_slot x 3) some) ∙ flags_are_logged true m.slot.read_only m.logged)
 
--- ---- The page with one slot more than the published set has.
+-- ---- The page with the slots of the published set, and with this one at its ID.
 
 module _ (pool : ℕ → ℕ) (set page id : ℕ) (slot : Slot) (slots : MemorySlots) (R : RecordPart pool set slots) (low : id ≤ 31)
-    (not_yet : live_at pool set id ≡ false)
     (filled : (j : ℕ) → j < 512 → pool (pool_index page j) ≡ set_word (after_set id slot slots) j) where
   abbrev new_one : MemorySlot
   new_one = record { slot = slot; logged = is_logged id slots }
@@ -168,17 +189,23 @@ module _ (pool : ℕ → ℕ) (set page id : ℕ) (slot : Slot) (slots : MemoryS
   pub others_same : (i : ℕ) → i ≤ 31 → i ≢ id → live_at pool set i ≡ true → slot_at pool page i ≡ slot_at pool set i
   others_same i below apart live = ap (λ (m : MemorySlot). m.slot) ((as_before i below apart).1 live)
 
-  -- Each slot of the published set is live in the page, and the same.
-  pub has_each : (i : ℕ) (s : Slot) → IsLiveIn pool set i s → IsLiveIn pool page i s
-  has_each i s L = record { low = L.low; live = others_live i L.low apart ∙ L.live; is = others_same i L.low apart L.live ∙ L.is }
+  -- Each slot of the published set is live in the page, and the same; or it is the record's slot with the ID.
+  pub has_others : (i : ℕ) (s : Slot) → IsLiveIn pool set i s → IsLiveIn pool page i s ⊎ (option_map (λ was. was.slot) (recorded_at id slots) ≡ Some s)
+  has_others i s L = by (same_or i id)
     where
-      apart : i ≢ id
-      apart e = let is : live_at pool set i ≡ live_at pool set id = ap (live_at pool set) e in let live = L.live in absurd (cc (is, not_yet, live))
+      by : (i ≡ id) ⊎ (i ≢ id) → IsLiveIn pool page i s ⊎ (option_map (λ was. was.slot) (recorded_at id slots) ≡ Some s)
+      by (inl e) = inr (
+          ap (λ k. option_map (λ (was : MemorySlot). was.slot) (recorded_at k slots)) (sym e)
+          ∙ ap (option_map (λ (was : MemorySlot). was.slot)) (record_at pool set i slots R L.low)
+          ∙ ap (λ (b : Bool). option_map (λ (was : MemorySlot). was.slot) (if b then Some (memory_slot_at pool set i) else None)) L.live
+          ∙ ap Some L.is)
+      by (inr apart) =
+          inl (record { low = L.low; live = others_live i L.low apart ∙ L.live; is = others_same i L.low apart L.live ∙ L.is })
 
   -- The list of its slots has the new one at its ID.
   pub list_with : memory_slots_below pool page 32 ≡ with_slot_at id new_one (memory_slots_below pool set 32)
   list_with =
-      one_more_live (live_at pool set) (live_at pool page) (memory_slot_at pool set) (memory_slot_at pool page) id 32 (omega (arith, low)) not_yet new_live
+      one_put_live (live_at pool set) (live_at pool page) (memory_slot_at pool set) (memory_slot_at pool page) id 32 (omega (arith, low)) new_live
       (λ i lt apart. others_live i (omega arith) apart) (λ i lt apart live. (as_before i (omega arith) apart).1 live)
       ∙ ap (λ m. with_slot_at id m (memory_slots_below pool set 32)) new_memory_slot
 

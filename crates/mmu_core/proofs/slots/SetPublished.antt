@@ -1,4 +1,4 @@
--- A page with one slot more than the published set has is a slot set, too, where that slot may be set.
+-- A page with the slots of the published set, and with one put at its ID, is a slot set, too, where that slot may be set.
 use Rattle.std.proofs.Common.{◌≡◌, ◌≢◌, ◌⊎◌, inl, inr, ◌≤◌, ℕ, sym, subst, ap, ◌∙◌}
 use Rattle.std.specs.Prelude.{Bool, true}
 use Rattle.core_views.specs.declared.sizes.Sizes.{Sizes}
@@ -34,7 +34,7 @@ module _ (z : Sizes) (pool : ℕ → ℕ) (set page id : ℕ) (slot : Slot) (may
 
   -- what has two live slots with different IDs, has the new one and one that was live, or two that were
   apart_still : (test : Slot → Bool) (i j : ℕ) → i ≤ 31 → j ≤ 31 → live_at pool page i ≡ true → live_at pool page j ≡ true
-      → ((k : ℕ) → k ≤ 31 → live_at pool set k ≡ true → test (slot_at pool set k) ≡ true → test slot ≡ true → ⊥)
+      → ((k : ℕ) → k ≤ 31 → k ≢ id → live_at pool set k ≡ true → test (slot_at pool set k) ≡ true → test slot ≡ true → ⊥)
       → (live_at pool set i ≡ true → live_at pool set j ≡ true → test (slot_at pool set i) ≡ true → test (slot_at pool set j) ≡ true → i ≡ j)
       → test (slot_at pool page i) ≡ true → test (slot_at pool page j) ≡ true → i ≡ j
   apart_still test i j low below live more new_ old holds too = by (same_or i id) (same_or j id)
@@ -42,8 +42,9 @@ module _ (z : Sizes) (pool : ℕ → ℕ) (set page id : ℕ) (slot : Slot) (may
       by : (i ≡ id) ⊎ (i ≢ id) → (j ≡ id) ⊎ (j ≢ id) → i ≡ j
       by (inl e) (inl f) = e ∙ sym f
       by (inl e) (inr ne) =
-          absurd (new_ j below (was_live j below ne more) (ap test (sym (was_same j below ne more)) ∙ too) (ap test (sym (new_same i e)) ∙ holds))
-      by (inr ne) (inl e) = absurd (new_ i low (was_live i low ne live) (ap test (sym (was_same i low ne live)) ∙ holds) (ap test (sym (new_same j e)) ∙ too))
+          absurd (new_ j below ne (was_live j below ne more) (ap test (sym (was_same j below ne more)) ∙ too) (ap test (sym (new_same i e)) ∙ holds))
+      by (inr ne) (inl e) =
+          absurd (new_ i low ne (was_live i low ne live) (ap test (sym (was_same i low ne live)) ∙ holds) (ap test (sym (new_same j e)) ∙ too))
       by (inr ne) (inr nf) =
           old (was_live i low ne live) (was_live j below nf more) (ap test (sym (was_same i low ne live)) ∙ holds)
           (ap test (sym (was_same j below nf more)) ∙ too)

@@ -1,22 +1,33 @@
 -- Which steps of a line that changes a slot claim: those of its claim, with the last of which it may be starved.
 use Rattle.std.proofs.Common.{◌≡◌, ◌≢◌, ◌⊎◌, inl, inr, ◌+◌, ℕ, refl, ap}
-use Rattle.std.specs.Prelude.{Bool, true, false, ◌==◌, nat_lt, Option, Some, None}
+use Rattle.std.specs.Prelude.{Bool, true, false, ◌==◌, nat_lt, Option, Some, None, is_some}
 use Rattle.core_views.specs.declared.answer.Answer.TheVariants.{Done, Refused}
 use Rattle.core_views.specs.declared.answer.Refusal.{Refusal}
 use Rattle.core_views.specs.declared.answer.Refusal.TheVariants.{NoFrame}
+use Rattle.core_views.specs.declared.place.BeginPlace.TheVariants as begins
+use Rattle.core_views.specs.declared.place.EndPlace.TheVariants as ends
 use Rattle.core_views.specs.declared.place.Place.TheVariants as place
 use Rattle.core_views.specs.declared.place.SlotChangePlace.{SlotChangePlace}
-use Rattle.core_views.specs.declared.place.SlotChangePlace.TheVariants.{Refuse, Claim, Fill, Role, Exclude, Count, Close, Publish, Release, Watch, Clear, Give}
+use Rattle.core_views.specs.declared.place.SlotChangePlace.TheVariants.{Refuse, Claim, Fill, Role, Begin, Exclude, Count, Close, Publish}
+use Rattle.core_views.specs.declared.place.SlotChangePlace.TheVariants.{Release, End, Watch, Clear, Give}
 use Rattle.core_views.specs.declared.trace.Command.{Command}
 use Rattle.core_views.specs.Held.{Held}
+use Rattle.core_views.specs.SlotCommands.{slot_moved}
+use Rattle.part_steps.specs.PartHoldings.{own_open}
 use Rattle.part_steps.specs.PartTasks.{words_filled}
 use Rattle.mmu_core.specs.declared.claim.ClaimNext.{ClaimNext}
+use Rattle.mmu_core.specs.declared.invalidate.BeginNext.{BeginNext}
+use Rattle.mmu_core.specs.declared.invalidate.BeginNext.TheVariants as begins_next
+use Rattle.mmu_core.specs.declared.invalidate.EndNext.{EndNext}
+use Rattle.mmu_core.specs.declared.invalidate.EndNext.TheVariants as ends_next
 use Rattle.mmu_core.specs.declared.outcome.Outcome.TheVariants.{Goes, Ends}
 use Rattle.mmu_core.specs.lines.ClaimSteps.{FreeMap, Pages, Frames, claim_next}
 use Rattle.mmu_core.specs.lines.ScanPlaces.{HasScan, answer_without, claim_at}
 use Rattle.mmu_core.specs.lines.SlotChangeKnows.{is_of_frames}
-use Rattle.mmu_core.specs.lines.SlotChangeSteps.{slot_change_first, slot_change_outcome, watch_next}
+use Rattle.mmu_core.specs.lines.InvalidateSteps.{begin_next, end_next}
+use Rattle.mmu_core.specs.lines.SlotChangeSteps.{after_set_begin, after_set_end, slot_change_first, slot_change_outcome, slot_target, watch_next}
 use Rattle.mmu_core.proofs.lines.EitherPlace.{each_map, each_watch, either_place}
+use Rattle.mmu_core.proofs.lines.InvalidatePlaces.{begin_plain, end_plain}
 use Rattle.mmu_core.proofs.lines.LineClaims.{Claims, ClaimsNot, HasNoScan, claim_leads, claim_notes, claim_scans, is_answered, no_scan_between, to_no_scan}
 
 abbrev is_claim : SlotChangePlace → Bool
@@ -52,16 +63,30 @@ module _ (command : Command) (h : Held) (v : ℕ) where
   OfPlace p = Claims (place.SlotChange p) command h v ⊎ ClaimsNot (place.SlotChange p) command h v
 
   -- Any other step leads to no scan.
-  no_scan : (p : SlotChangePlace) → is_claim p ≡ false → is_refusal p ≡ false → HasNoScan (slot_change_outcome p h v)
+  by_begin : (next : BeginNext) → NoScan (after_set_begin next)
+  by_begin (begins_next.Goes p) = goes_on (Begin p) (λ S. S)
+  by_begin begins_next.Begun = goes_on Exclude (λ S. S)
+
+  by_end : (next : EndNext) → NoScan (after_set_end next)
+  by_end (ends_next.Goes p) = goes_on (End p) (λ S. S)
+  by_end ends_next.Ended = goes_on Watch (λ S. S)
+
+  no_scan : (p : SlotChangePlace) → is_claim p ≡ false → is_refusal p ≡ false → HasNoScan (slot_change_outcome p command h v)
   no_scan (Claim begun) other not_ = absurd (cc other)
   no_scan (Refuse refusal) other not_ = absurd (cc not_)
   no_scan Fill other not_ = either_place NoScan (nat_lt (words_filled h.topics.owned + 1) 512) Fill Role (goes_on Fill (λ S. S)) (goes_on Role (λ S. S))
-  no_scan Role other not_ = goes_on Exclude (λ S. S)
+  no_scan Role other not_ =
+      either_place NoScan (is_some (slot_moved h.slots command)) (Begin begins.Exclude) Exclude (goes_on (Begin begins.Exclude) (λ S. S))
+      (goes_on Exclude (λ S. S))
+  no_scan (Begin p) other not_ = by_begin (begin_next p h.state.sizes (slot_target h command) h.topics v)
   no_scan Exclude other not_ = either_place NoScan (v == 0) Count Exclude (goes_on Count (λ S. S)) (goes_on Exclude (λ S. S))
-  no_scan Count other not_ = either_place NoScan (v == 0) Publish Close (goes_on Publish (λ S. S)) (goes_on Close (λ S. S))
+  no_scan Count other not_ =
+      either_place NoScan (v == own_open h.topics.invalidations) Publish Close (goes_on Publish (λ S. S)) (goes_on Close (λ S. S))
   no_scan Close other not_ = goes_on Exclude (λ S. S)
   no_scan Publish other not_ = goes_on Release (λ S. S)
-  no_scan Release other not_ = goes_on Watch (λ S. S)
+  no_scan Release other not_ =
+      either_place NoScan h.topics.invalidations.opened (End ends.Exclude) Watch (goes_on (End ends.Exclude) (λ S. S)) (goes_on Watch (λ S. S))
+  no_scan (End p) other not_ = by_end (end_next p v)
   no_scan Watch other not_ = each_watch NoScan (watch_next h v) Watch Clear (goes_on Watch (λ S. S)) (goes_on Clear (λ S. S))
   no_scan Clear other not_ = goes_on Give (λ S. S)
   no_scan Give other not_ = is_answered Done (each_map (λ map. Ends Done ≢ Ends (answer_without map)) (λ e. cc e) (λ e. cc e))
@@ -89,6 +114,11 @@ module _ (command : Command) (h : Held) (v : ℕ) where
     keeps = λ K map S. absurd (no_scan_between map S);
     starved = λ K map e. absurd (refused_not refusal map K.1.1 e);
   })
+  change_claims_or_not (Begin p) =
+      to_no_scan (place.SlotChange (Begin p)) command h v (no_claim (Begin p) refl) (begin_plain p (slot_target h command) h.topics).maps_not refl
+      (no_scan (Begin p) refl refl)
+  change_claims_or_not (End p) =
+      to_no_scan (place.SlotChange (End p)) command h v (no_claim (End p) refl) (end_plain p h.topics).maps_not refl (no_scan (End p) refl refl)
   change_claims_or_not p = to_no_scan (place.SlotChange p) command h v (no_claim p refl) (λ map. refl) refl (no_scan p refl refl)
 
 -- It begins with no scan.

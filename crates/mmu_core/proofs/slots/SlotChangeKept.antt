@@ -1,14 +1,22 @@
 -- The steps of a line that changes a slot keep the invariant.
+use Rattle.part_steps.specs.declared.invalidations.Target.{Target}
 use Rattle.part_steps.specs.declared.part_step.PartStep.TheVariants as part
+use Rattle.mmu_core.specs.declared.invalidate.EndNext.{EndNext}
+use Rattle.mmu_core.specs.declared.invalidate.EndNext.TheVariants as ends_next
+use Rattle.mmu_core.specs.lines.InvalidateSteps.{begin_part, end_next}
+use Rattle.mmu_core.proofs.words.PartWords.{IsElsewhere, page_stays, walks_unowned}
 use Rattle.mmu_core.proofs.words.PartTopics.{part_topics_is, is_there}
 use Rattle.core_views.specs.declared.topics.Topics.{Topics}
-use Rattle.std.proofs.Common.{◌≡◌, ◌≤◌, ◌+◌, ℕ, length, refl, sym, subst, ap, ◌∙◌, arith, inl}
+use Rattle.std.proofs.Common.{◌≡◌, ◌≤◌, ◌+◌, ℕ, length, refl, sym, subst, ap, ◌∙◌, arith}
 use Rattle.std.specs.Map.{keys_of}
 use Rattle.std.specs.Prelude.{true, false, if◌then◌else◌, None}
 use Rattle.core_views.specs.declared.actor.Actor.TheVariants.{Manager}
+use Rattle.core_views.specs.declared.place.BeginPlace.{BeginPlace}
+use Rattle.core_views.specs.declared.place.BeginPlace.TheVariants as begins
+use Rattle.core_views.specs.declared.place.EndPlace.TheVariants as ends
 use Rattle.core_views.specs.declared.place.Place.TheVariants as place
 use Rattle.core_views.specs.declared.place.SlotChangePlace.{SlotChangePlace}
-use Rattle.core_views.specs.declared.place.SlotChangePlace.TheVariants.{Publish, Release, Watch, Clear, Give}
+use Rattle.core_views.specs.declared.place.SlotChangePlace.TheVariants.{Begin, Publish, Release, End, Watch, Clear, Give}
 use Rattle.core_views.specs.declared.sizes.Sizes.{Sizes}
 use Rattle.core_views.specs.declared.trace.Command.{Command}
 use Rattle.core_views.specs.declared.trace.Line.{Line}
@@ -16,37 +24,35 @@ use Rattle.core_views.specs.Held.{Held}
 use Rattle.core_views.specs.SlotCommands.{changes_slot, slots_after}
 use Rattle.core_views.specs.SlotSets.{MemorySlots}
 use Rattle.core_views.specs.Traces.{IsCommandFor}
-use Rattle.spte_words.specs.declared.area.Area.{Area}
 use Rattle.spte_words.specs.declared.area.Area.TheVariants as area
-use Rattle.part_steps.specs.PartTasks.{own_index, page_owned, words_filled}
-use Rattle.mmu_core.specs.lines.SlotChangeSteps.{slot_change_note, slot_change_part, slot_change_records, slot_change_task, watch_next}
+use Rattle.part_steps.specs.PartTasks.{own_index, page_owned}
+use Rattle.mmu_core.specs.lines.SlotChangeSteps.{after_set_end, slot_change_note, slot_change_part}
+use Rattle.mmu_core.specs.lines.SlotChangeSteps.{slot_change_records, slot_change_task, slot_target, watch_next}
 use Rattle.part_steps.specs.SetWords.{set_role}
 use Rattle.mmu_core.specs.machine.Steps.{state_at}
 use Rattle.part_steps.specs.Tasks.{kind_of_task}
 use Rattle.mmu_core.specs.invariant.TopicsInvariant.{TopicsInvariant}
-use Rattle.mmu_core.specs.machine.View.{View, answer_in, hand_after, stepped}
-use Rattle.mmu_core.proofs.slots.Changes.{AreRecorded, Publishes, change_is_managers, change_publishes, change_recorded, change_small, recorded_at}
-use Rattle.mmu_core.proofs.machine.PartStepping.{Replaces, is_publish, replaces_none}
+use Rattle.mmu_core.specs.machine.View.{View, answer_in, hand_after, stepped, words_after}
+use Rattle.mmu_core.proofs.slots.Changes.{AreRecorded, Publishes, change_is_managers, change_publishes, change_recorded, recorded_at}
+use Rattle.mmu_core.proofs.machine.PartStepping.{IsPart, is_publish}
 use Rattle.mmu_core.proofs.pages.Owned.{OwnsWhole, set_owned}
 use Rattle.core_views.specs.declared.answer.Answer.TheVariants.{Done}
 use Rattle.mmu_core.specs.declared.outcome.Outcome.TheVariants.{Goes}
 use Rattle.mmu_core.proofs.lines.UsedTranslations.{flushed_room}
-use Rattle.part_steps.specs.PartBounds.{PartRests}
 use Rattle.mmu_core.proofs.invariant.PartBounded.{part_rests_at}
-use Rattle.part_steps.specs.PartSteps.{PartNeeds}
 use Rattle.mmu_core.proofs.lines.FaultKnown.{parts_answer}
-use Rattle.mmu_core.specs.invariant.Invariant.{Holds, Invariant, KnowsPart, RecordPart, RetiresPart, OwnLines, lines_done}
+use Rattle.mmu_core.specs.invariant.Invariant.{Holds, Invariant, KnowsPart, RecordPart, OwnLines, lines_done}
 use Rattle.mmu_core.specs.lines.Forms.{may_retire}
 use Rattle.mmu_core.proofs.invariant.QuietHand.{CountsMore, lines_more, one_step, quiet_hand, still_cached}
 use Rattle.mmu_core.proofs.invariant.QuietKept.{MakesAt}
-use Rattle.mmu_core.proofs.lines.EitherPlace.{each_watch}
-use Rattle.mmu_core.proofs.lines.KnowsKept.{KnowsAfter, step_knows, step_leaves}
+use Rattle.mmu_core.proofs.lines.EitherPlace.{each_watch, either_place}
+use Rattle.mmu_core.proofs.lines.KnowsKept.{step_knows, step_leaves}
 use Rattle.mmu_core.proofs.lines.LinesKept.{answered_kept, answers_length, lines_behind, one_manager}
-use Rattle.mmu_core.proofs.lines.StepTopics.{knows_by}
 use Rattle.mmu_core.proofs.machine.Stepping.{IsStep, line_allowed}
-use Rattle.mmu_core.proofs.slots.SlotChangeKnown.{change_holds, change_leaves, slot_change_known, slot_change_needs}
-use Rattle.mmu_core.proofs.slots.SlotChangePlaces.{is_publication, change_never, change_untold}
-use Rattle.mmu_core.proofs.slots.SlotsStay.{AllKnow, hand_moved}
+use Rattle.mmu_core.proofs.slots.SlotChangeNeeds.{slot_change_rests}
+use Rattle.mmu_core.proofs.slots.SlotChangePlaces.{is_publication, change_never}
+use Rattle.mmu_core.proofs.slots.SlotChangeRetires.{change_holds, change_leaves, is_begin}
+use Rattle.mmu_core.proofs.slots.SlotsStay.{AllKnow, OwnedStays, hand_moved}
 
 -- A hand that stands in a change of a slot is the manager's.
 pub change_hand : (z : Sizes) (i : ℕ) (h : Held) (p : SlotChangePlace) (command : Command) → OwnLines z i h → h.state.place ≡ place.SlotChange p
@@ -56,7 +62,14 @@ change_hand z i h p command O is said changes =
 
 -- Where a page may leave, it may after the next step, or the line is answered.
 counts_more : (p : SlotChangePlace) (command : Command) (h : Held) (line : Line) (v : ℕ) → CountsMore (place.SlotChange p) command h line v
-counts_more Release command h line v may = omega arith
+counts_more Release command h line v may =
+    either_place (λ q. length h.answers + 1 ≤ length h.answers + (if may_retire (place.SlotChange q) then 1 else 0)) h.topics.invalidations.opened
+    (End ends.Exclude) Watch (omega arith) (omega arith)
+counts_more (End p) command h line v may = by (end_next p v)
+  where
+    by : (next : EndNext) → length h.answers + 1 ≤ length h.answers + (if may_retire (place.SlotChange (after_set_end next)) then 1 else 0)
+    by (ends_next.Goes q) = omega arith
+    by ends_next.Ended = omega arith
 counts_more Watch command h line v may =
     each_watch (λ q. length h.answers + 1 ≤ length h.answers + (if may_retire (place.SlotChange q) then 1 else 0)) (watch_next h v) Watch Clear
     (omega arith) (omega arith)
@@ -71,6 +84,24 @@ records_same : (p : SlotChangePlace) (command : Command) (slots : MemorySlots) �
 records_same Publish command slots never = absurd (cc never)
 records_same _ command slots never = refl
 
+-- The words of the page that its actor owns stay with the steps that begin an invalidation: no table is such a page.
+own_stays : (z : Sizes) (v : View) (a : ℕ) (p : SlotChangePlace) (command : Command) → IsPart z v a (slot_change_part p (v.hand a) command)
+    → TopicsInvariant z v → is_begin p ≡ true
+    → OwnedStays (v.words area.Pool) (words_after (slot_change_task p (v.hand a) command) v.words area.Pool) (v.hand a)
+own_stays z v a (Begin p) command S P is o owns j low =
+    page_stays z v a (begin_part p target (v.hand a).topics) 0 S o.page (elsewhere p S) j low
+  where
+    target : Target
+    target = slot_target (v.hand a) command
+
+    elsewhere : (p : BeginPlace) → IsPart z v a (begin_part p target (v.hand a).topics)
+        → IsElsewhere (begin_part p target (v.hand a).topics) (v.hand a).topics o.page
+    elsewhere (begins.Find begun) S = either_place (λ step. IsElsewhere step (v.hand a).topics o.page) begun part.Slot part.Slots tt tt
+    elsewhere (begins.Walk rooted) S = either_place (λ step. IsElsewhere step (v.hand a).topics o.page) rooted (part.Sweep _) part.Root tt tt
+    elsewhere begins.Zap S = λ e. walks_unowned z v a S.there P S.needs.saw.over.there a o S.there owns (sym e)
+    elsewhere _ S = tt
+own_stays z v a _ command S P is o owns j low = absurd (cc is)
+
 quiet_change : (z : Sizes) (v : View) (a : ℕ) (line : Line) (p : SlotChangePlace) (command : Command) → is_publication p ≡ false
     → IsStep z v a line command (place.SlotChange p) → Invariant z v → TopicsInvariant z v → MakesAt z v a (place.SlotChange p) command
     → AllKnow z (stepped a line command (place.SlotChange p) v).hand → Invariant z (stepped a line command (place.SlotChange p) v)
@@ -79,13 +110,14 @@ quiet_change z v a line p command never S I P makes knows =
     let x : ℕ = answer_in (slot_change_task p h command) v.words in
     let K = step_knows z v a line command (place.SlotChange p) S I in
     let step = makes (slot_change_part p h command) refl in
-    quiet_hand z v a line command (place.SlotChange p) S I P makes (K.0, step.needs) (record {
+    let A = parts_answer (slot_change_part p h command) (own_index h) h.topics (slot_change_note p h) v.words in
+    quiet_hand z v a line command (place.SlotChange p) S I P makes (K.0, step.needs, slot_change_rests p command h K.1) (record {
       never = one_step (λ s. is_publish s ≡ false) (slot_change_part p h command) (change_never p h command never);
       same = records_same p command h.slots never;
       caches = refl;
       counts = counts_more p command h line x;
-      leaves = change_leaves line h command h.cached x K.0 p K.1 (step_leaves z v a line command (place.SlotChange p) S I);
-      holds = λ cached. change_holds line h command cached x K.0 z v.words (v.words area.Slots 0) p K.1 S.holds;
+      leaves = change_leaves h command x p (part_rests_at z v a I P S.there) K.1 (step_leaves z v a line command (place.SlotChange p) S I) A;
+      holds = λ cached. change_holds line h command cached x z v.words (v.words area.Slots 0) p K.1 (own_stays z v a p command step P) S.holds;
     }) knows
 
 -- ---- The publication: the set with the change is in use, and the record has it.
@@ -102,19 +134,19 @@ pub change_published : (z : Sizes) (v : View) (a : ℕ) (line : Line) (command :
     → Publishes z (v.words area.Pool) (v.words area.Slots 0) (page_owned (v.hand a).topics.owned) command (v.hand a).slots
 change_published z v a line command S I =
     let K = step_knows z v a line command (place.SlotChange Publish) S I in
-    change_publishes z v a line command (place.SlotChange Publish) S refl K.0 I K.1.1.owns S.holds.accepted S.holds.filled
+    change_publishes z v a line command (place.SlotChange Publish) S K.0 I K.1.1.owns S.holds.accepted S.holds.filled
 
 published_kept : (z : Sizes) (v : View) (a : ℕ) (line : Line) (command : Command) → IsStep z v a line command (place.SlotChange Publish)
     → Invariant z v → TopicsInvariant z v → AllKnow z (stepped a line command (place.SlotChange Publish) v).hand
     → Invariant z (stepped a line command (place.SlotChange Publish) v)
 published_kept z v a line command S I P knows =
-    hand_moved z set page (v.words area.Role) (v.words area.Role) pool pool v.hand a after new_set.stay
+    hand_moved z set page (v.words area.Role) (v.words area.Role) pool pool v.hand a after
     (new_set.set_part (v.words area.Role) role_is I.set_part)
     (λ i lt ne own is j low. refl) (λ i lt ne is. absurd (ne (one_manager z i a (v.hand i) h (I.lines i lt) O is manager))) own
     (subst (λ c. Holds z pool page (place.SlotChange Release) c after) (sym S.command_is) tt)
     (record {
       leaves = λ may. absurd (cc may);
-      opens = λ may. closed;
+      opens = λ may. absurd (cc may);
       frames = λ may. owns_no_frame;
     })
     (still_cached z (kind_of_task h.state.sizes (slot_change_task Publish h command)) h.cached set (I.cached a S.there))
@@ -140,11 +172,6 @@ published_kept z v a line command S I P knows =
 
     K : KnowsPart (place.SlotChange Publish) command h
     K = step_knows z v a line command (place.SlotChange Publish) S I
-
-    closed : after.topics.invalidations.opened ≡ false
-    closed =
-        ap (λ (t : Topics). t.invalidations.opened) (part_topics_is h.state.sizes part.Publish (own_index h) h.topics 0 set (is_there part.Publish h K.1.1))
-        ∙ (step_leaves z v a line command (place.SlotChange Publish) S I).opens refl
 
     owns_no_frame : after.topics.frames.owned ≡ None
     owns_no_frame =
@@ -184,34 +211,3 @@ pub slot_change_kept : (z : Sizes) (v : View) (a : ℕ) (line : Line) (p : SlotC
     → AllKnow z (stepped a line command (place.SlotChange p) v).hand → Invariant z (stepped a line command (place.SlotChange p) v)
 slot_change_kept z v a line Publish command S I P makes knows = published_kept z v a line command S I P knows
 slot_change_kept z v a line p command S I P makes knows = quiet_change z v a line p command refl S I P makes knows
-
--- A slot set that is published has each slot of the one before it.
-pub change_replaces : (z : Sizes) (v : View) (a : ℕ) (line : Line) (p : SlotChangePlace) (command : Command)
-    → IsStep z v a line command (place.SlotChange p) → Invariant z v
-    → Replaces z (slot_change_part p (v.hand a) command) (v.words area.Pool) (v.words area.Slots 0) (v.hand a).topics
-change_replaces z v a line Publish command S I =
-    record { old = I.set_part.slots; stay = λ id slot live. inl ((change_published z v a line command S I).stay id slot live) }
-change_replaces z v a line p command S I =
-    replaces_none z (slot_change_part p (v.hand a) command) (v.words area.Pool) (v.words area.Slots 0) (v.hand a).topics
-    (change_untold p (v.hand a) command refl)
-
--- ---- what it knows after its step, and what its step needs
-
-pub own_slot_change : (p : SlotChangePlace) (line : Line) (h : Held) (command : Command) (words : Area → ℕ → ℕ) → PartRests h
-    → KnowsPart (place.SlotChange p) command h → RetiresPart (place.SlotChange p) h.topics → PartNeeds (slot_change_part p h command) h
-    → KnowsAfter line command (place.SlotChange p) h (answer_in (slot_change_task p h command) words)
-own_slot_change p line h command words R K left N =
-    let v : ℕ = answer_in (slot_change_task p h command) words in
-    let A = parts_answer (slot_change_part p h command) (own_index h) h.topics (slot_change_note p h) words in
-    knows_by (place.SlotChange p) line command h v (K.0, N) (λ cached. slot_change_known line h command cached v K.0 p R K.1 left A)
-
--- Its step has what it needs.
-pub change_needs : (z : Sizes) (v : View) (a : ℕ) (line : Line) (p : SlotChangePlace) (command : Command)
-    → IsStep z v a line command (place.SlotChange p) → Invariant z v → TopicsInvariant z v
-    → PartNeeds (slot_change_part p (v.hand a) command) (v.hand a)
-change_needs z v a line p command S I P =
-    let h : Held = v.hand a in
-    let K = step_knows z v a line command (place.SlotChange p) S I in
-    slot_change_needs p h command
-    (change_small z h.lines line.actor command h.slots K.0 S.allowed (I.lines a S.there).allowed (I.lines a S.there).set (words_filled h.topics.owned))
-    (part_rests_at z v a I P S.there) K.1

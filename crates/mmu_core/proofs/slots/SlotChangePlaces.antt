@@ -1,39 +1,50 @@
 -- A line that changes a slot at its places: where it begins, goes on to and ends, what it has loaded, what the record accepts, and how many steps it has left.
-use Rattle.std.proofs.Common.{◌≡◌, ◌<◌, ◌≤◌, ℕ, ◌∙◌, ◌+◌, arith, ◌≢◌, refl}
+use Rattle.std.proofs.Common.{◌≡◌, ◌<◌, ◌≤◌, ℕ, ◌∙◌, ◌+◌, ◌*◌, ap, arith, length, ◌≢◌, refl}
 use Rattle.std.proofs.Props.{props}
 use Rattle.std.specs.Prelude.{true, Option, Some, None, Bool, false, List, [], ◌∷◌, nat_lt}
 use Rattle.core_views.specs.declared.answer.Answer.{Answer}
-use Rattle.core_views.specs.declared.answer.Answer.TheVariants.{Refused, Starved}
+use Rattle.core_views.specs.declared.answer.Answer.TheVariants.{Done, Refused, Starved}
 use Rattle.core_views.specs.declared.answer.Refusal.{Refusal}
 use Rattle.core_views.specs.declared.answer.Refusal.TheVariants.{BadId, TooLarge, Logged, NoFrame, Resize, Fixed, Overlap, HostOverlap}
 use Rattle.core_views.specs.Refusals.{moves_logged}
 use Rattle.core_views.specs.Slots.{changes_fixed, first_of, is_some_and, is_too_large, meets_guest_frames, meets_host_pages, resizes, slot_with_id}
+use Rattle.core_views.specs.declared.place.BeginPlace.TheVariants as begins
+use Rattle.core_views.specs.declared.place.EndPlace.TheVariants as ends
 use Rattle.core_views.specs.declared.place.Place.TheVariants as place
 use Rattle.core_views.specs.declared.place.SlotChangePlace.{SlotChangePlace}
-use Rattle.core_views.specs.declared.place.SlotChangePlace.TheVariants.{Refuse, Claim, Publish, Release, Watch, Clear, Give, Fill}
+use Rattle.core_views.specs.declared.place.SlotChangePlace.TheVariants.{Refuse, Claim, Fill, Begin, Publish, Release, End, Watch, Clear, Give}
 use Rattle.core_views.specs.declared.sizes.Sizes.{Sizes}
 use Rattle.core_views.specs.declared.slot_set.MemorySlot.{MemorySlot}
 use Rattle.core_views.specs.declared.topics.Topics.{Topics}
+use Rattle.core_views.specs.declared.trace.Slot.{Slot}
 use Rattle.core_views.specs.declared.trace.Command.{Command}
 use Rattle.core_views.specs.declared.trace.Command.TheVariants.{Access, ChangeHost, SetSlot}
 use Rattle.core_views.specs.Held.{Held}
 use Rattle.core_views.specs.Sizes.{actors_of}
-use Rattle.core_views.specs.SlotCommands.{change_refusal, changes_slot, slot_change}
+use Rattle.core_views.specs.SlotCommands.{change_refusal, changes_slot, slot_change, slot_moved}
 use Rattle.core_views.specs.SlotSets.{MemorySlots, flat_slots, slot_of_id}
 use Rattle.spte_words.specs.Areas.{words_of_bits}
+use Rattle.part_steps.specs.declared.invalidations.Target.TheVariants as aim
 use Rattle.part_steps.specs.PartSteps.{IsAtRest}
 use Rattle.mmu_core.specs.declared.outcome.Outcome.TheVariants.{Ends}
 use Rattle.mmu_core.specs.lines.ClaimSteps.{Pages, claim_next}
 use Rattle.mmu_core.specs.lines.Delays.{line_waits}
 use Rattle.mmu_core.specs.lines.Forms.{Holds}
 use Rattle.mmu_core.specs.lines.PartWaits.{part_waits}
-use Rattle.mmu_core.specs.lines.SlotChangeKnows.{FillsSet, SlotChangeHolds, RecordAccepts, SlotChangeKnows, is_of_frames}
-use Rattle.mmu_core.specs.lines.SlotChangeSteps.{slot_change_left, slot_change_first, slot_change_outcome, slot_change_part, slot_change_tells, changed}
+use Rattle.mmu_core.specs.lines.SlotChangeKnows.{FillsSet, SlotChangeHolds, RecordAccepts, SlotChangeKnows, SlotChangeRests, is_of_frames}
+use Rattle.mmu_core.specs.lines.SlotChangeLeft.{slot_change_left}
+use Rattle.mmu_core.specs.lines.SlotChangeSteps.{changed, slot_change_first, slot_change_outcome}
+use Rattle.mmu_core.specs.lines.SlotChangeSteps.{slot_change_part, slot_change_tells, slot_or_none, slot_target}
+use Rattle.mmu_core.specs.lines.WatchSteps.{watch_next}
+use Rattle.mmu_core.specs.invariant.InvalidationsPart.{has_raised}
+use Rattle.mmu_core.specs.machine.Sums.{one_if}
 use Rattle.mmu_core.proofs.lines.ClaimMade.{claim_few, claim_free, claim_is, claim_made}
-use Rattle.mmu_core.proofs.lines.EitherPlace.{each_claim}
+use Rattle.mmu_core.proofs.lines.EitherPlace.{each_claim, each_watch}
+use Rattle.mmu_core.proofs.lines.InvalidatePlaces.{begin_few, begin_plain, begin_rises, end_few, end_plain}
+use Rattle.mmu_core.proofs.lines.LinesKept.{answers_length}
 use Rattle.mmu_core.proofs.machine.GoesOn.{GoesToSimple, GoesUnderWay}
-use Rattle.mmu_core.proofs.machine.PartStepping.{brings, is_publish, is_told, never_told, changes_word, quiet_told, rises}
-use Rattle.mmu_core.proofs.lines.SimplePlaces.{SimplePlace, Told, Nothing, Exit, Change, none_raised}
+use Rattle.mmu_core.proofs.machine.PartStepping.{is_publish, changes_word, rises}
+use Rattle.mmu_core.proofs.lines.SimplePlaces.{SimplePlace, Told, RaisesOn, Nothing, Exit, Change, none_raised}
 use Rattle.mmu_core.proofs.slots.SlotChangeClaims.{change_claims_or_not}
 use Rattle.mmu_core.specs.lines.AccessSteps.{exiting}
 use Rattle.mmu_core.proofs.slots.LiveStays.{OwnedStays}
@@ -43,28 +54,30 @@ abbrev pub is_publication : SlotChangePlace → Bool
 is_publication Publish = true
 is_publication _ = false
 
-pub change_untold : (p : SlotChangePlace) (h : Held) (command : Command) → is_publication p ≡ false → is_told (slot_change_part p h command) ≡ false
-change_untold Publish h command other = absurd (cc other)
-change_untold (Claim begun) h command other = claim_is (λ s. is_told s ≡ false) Pages begun h.topics.claim refl (λ word. refl)
-change_untold _ h command other = refl
+-- At any other place it publishes nothing, and changes no host word.
+change_plain : (p : SlotChangePlace) (h : Held) (command : Command) → is_publication p ≡ false
+    → (is_publish (slot_change_part p h command) ≡ false) × (changes_word (slot_change_part p h command) ≡ false)
+change_plain Publish h command other = absurd (cc other)
+change_plain (Claim begun) h command other =
+    claim_is (λ s. (is_publish s ≡ false) × (changes_word s ≡ false)) Pages begun h.topics.claim (refl, refl) (λ word. (refl, refl))
+change_plain (Begin p) h command other = let P = begin_plain p (slot_target h command) h.topics in (P.never, P.quiet)
+change_plain (End p) h command other = let P = end_plain p h.topics in (P.never, P.quiet)
+change_plain _ h command other = (refl, refl)
 
 pub change_never : (p : SlotChangePlace) (h : Held) (command : Command) → is_publication p ≡ false → is_publish (slot_change_part p h command) ≡ false
-change_never p h command other = never_told (slot_change_part p h command) (change_untold p h command other)
+change_never p h command other = (change_plain p h command other).0
 
 pub change_quiet : (p : SlotChangePlace) (h : Held) (command : Command) → is_publication p ≡ false → changes_word (slot_change_part p h command) ≡ false
-change_quiet p h command other = quiet_told (slot_change_part p h command) (change_untold p h command other) (brings_none p)
-  where
-    brings_none : (p : SlotChangePlace) → brings (slot_change_part p h command) ≡ false
-    brings_none (Claim begun) = claim_is (λ s. brings s ≡ false) Pages begun h.topics.claim refl (λ word. refl)
-    brings_none _ = refl
+change_quiet p h command other = (change_plain p h command other).1
 
 -- ---- where it goes on to
 
-pub slot_change_goes : (p : SlotChangePlace) (h : Held) (v : ℕ) → GoesUnderWay (slot_change_outcome p h v) × GoesToSimple (slot_change_outcome p h v)
-slot_change_goes (Claim begun) h v =
+pub slot_change_goes : (p : SlotChangePlace) (command : Command) (h : Held) (v : ℕ)
+    → GoesUnderWay (slot_change_outcome p command h v) × GoesToSimple (slot_change_outcome p command h v)
+slot_change_goes (Claim begun) command h v =
     each_claim (λ o. GoesUnderWay o × GoesToSimple o) (claim_next Pages begun h.state.sizes h.topics.claim v)
     (place.SlotChange (Claim true)) (place.SlotChange Fill) Starved (tt, tt) (tt, tt) (tt, tt)
-slot_change_goes _ h v = (tt, tt)
+slot_change_goes _ command h v = (tt, tt)
 
 -- ---- what it has loaded
 
@@ -83,6 +96,7 @@ module _ (z : Sizes) (before after : ℕ → ℕ) (h : Held) (own : OwnedStays b
   slot_change_stays (Refuse refusal) command e = e
   slot_change_stays (Claim begun) command e = e
   slot_change_stays Release command e = e
+  slot_change_stays (End p) command e = e
   slot_change_stays Watch command e = e
   slot_change_stays Clear command e = e
   slot_change_stays Give command e = e
@@ -101,13 +115,25 @@ accepts_prop _ z command slots = hlevel props
 
 -- ---- how many steps it has left
 
--- Few beside those of a claim, of 64 pages a word, and other actors.
-pub slot_change_few : (p : SlotChangePlace) (z : Sizes) (t : Topics) → slot_change_left p z t ≤ 521 + actors_of z + words_of_bits z.pool
-slot_change_few (Claim begun) z t = let few = claim_few Pages begun z t.claim in omega (arith, few)
-slot_change_few _ z t = omega arith
+-- Few beside those of a claim, of 64 pages a word, of the invalidation of a slot, of five for each of its frames, and other actors.
+pub slot_change_few : (p : SlotChangePlace) (command : Command) (h : Held) → h.topics.walk.level ≤ 4 → SlotChangeKnows p command h
+    → slot_change_left p h.state.sizes h.topics
+    ≤ 665 + actors_of h.state.sizes + 2 * h.state.sizes.vcpus + 5 * h.state.sizes.pages + words_of_bits h.state.sizes.pool
+slot_change_few (Claim begun) command h most K = let few = claim_few Pages begun h.state.sizes h.topics.claim in omega (arith, few)
+slot_change_few (Begin p) command h most K =
+    let z : Sizes = h.state.sizes in
+    let own_ = h.topics.invalidations.own in
+    let slot : Slot = slot_or_none (slot_moved h.slots command) in
+    let pages = K.3.pages in
+    let few = begin_few p z z (aim.Slot slot) z.pages h.topics most (λ F. let first = F.0 in let last = F.1 in omega (arith, first, last, pages)) K.1 in
+    omega (arith, few)
+slot_change_few (End p) command h most K = let few = end_few p in omega (arith, few)
+slot_change_few _ command h most K = omega arith
 
 pub some_change_left : (p : SlotChangePlace) (z : Sizes) (t : Topics) → 0 < slot_change_left p z t
 some_change_left (Refuse refusal) z t = omega arith
+some_change_left (Begin p) z t = omega arith
+some_change_left (End p) z t = omega arith
 some_change_left _ z t = omega arith
 
 -- ---- where it begins
@@ -146,28 +172,41 @@ never_for_frames z (SetSlot id slot) slots = none_for_frames (
 
 -- It knows what its first place asks, where its actor is at rest.
 pub slot_change_begins_known : (z : Sizes) (command : Command) (h : Held) → IsAtRest h.topics
-    → SlotChangeKnows (slot_change_first (change_refusal z command h.slots)) h
+    → SlotChangeKnows (slot_change_first (change_refusal z command h.slots)) command h
 slot_change_begins_known z command h R = by (change_refusal z command h.slots) (never_for_frames z command h.slots)
   where
-    by : (r : Option Refusal) → for_frames r ≡ false → SlotChangeKnows (slot_change_first r) h
+    by : (r : Option Refusal) → for_frames r ≡ false → SlotChangeKnows (slot_change_first r) command h
     by None never = (R, λ e. absurd (cc e))
     by (Some refusal) never = (R, never)
 
 -- ---- what it knows is a proposition
 
-pub slot_change_knows_prop : (p : SlotChangePlace) (command : Command) (h : Held) → IsProp ((changes_slot command ≡ true) × SlotChangeKnows p h)
+pub slot_change_knows_prop : (p : SlotChangePlace) (command : Command) (h : Held) → IsProp ((changes_slot command ≡ true) × SlotChangeKnows p command h)
 slot_change_knows_prop (Refuse refusal) command h = hlevel props
+slot_change_knows_prop (Begin begins.Exclude) command h = hlevel props
+slot_change_knows_prop (Begin (begins.Find begun)) command h = hlevel props
+slot_change_knows_prop (Begin (begins.Walk rooted)) command h = hlevel props
+slot_change_knows_prop (Begin _) command h = hlevel props
+slot_change_knows_prop (End ends.Exclude) command h = hlevel props
+slot_change_knows_prop (End _) command h = hlevel props
 slot_change_knows_prop _ command h = hlevel props
+
+-- So is what its step asks besides its needs.
+pub slot_change_rests_prop : (p : SlotChangePlace) (command : Command) (h : Held) → IsProp (SlotChangeRests p command h)
+slot_change_rests_prop (Begin p) command h = hlevel props
+slot_change_rests_prop _ command h = hlevel props
 
 -- ---- how it ends
 
 -- The step that ends it doesn't wait.
-pub slot_change_free : (p : SlotChangePlace) (h : Held) (command : Command) (v : ℕ) (answer : Answer) → slot_change_outcome p h v ≡ Ends answer
+pub slot_change_free : (p : SlotChangePlace) (h : Held) (command : Command) (v : ℕ) (answer : Answer) → slot_change_outcome p command h v ≡ Ends answer
     → part_waits (slot_change_part p h command) h.topics v ≡ false
 slot_change_free (Claim begun) h command v answer e =
     claim_free h.state.sizes Pages begun h.topics v _ _ _ (claim_made h.state.sizes Pages begun h.topics v) (place.SlotChange (Claim true))
     (place.SlotChange Fill) Starved answer e
 slot_change_free (Refuse refusal) h command v answer e = refl
+slot_change_free (Begin p) h command v answer e = absurd (cc e)
+slot_change_free (End p) h command v answer e = absurd (cc e)
 slot_change_free Give h command v answer e = refl
 slot_change_free _ h command v answer e = absurd (cc e)
 
@@ -180,7 +219,7 @@ module _ (h : Held) (command : Command) (v : ℕ) where
   change_told (Some (id, slot)) = Change id slot refl
 
   -- Its claim is answered for want of a page alone.
-  claim_told : (begun : Bool) → Told h v (place.SlotChange (Claim begun)) command (exiting (slot_change_outcome (Claim begun) h v))
+  claim_told : (begun : Bool) → Told h v (place.SlotChange (Claim begun)) command (exiting (slot_change_outcome (Claim begun) command h v))
   claim_told begun =
       Exit (each_claim (λ o. o ≢ Ends (Refused NoFrame)) (claim_next Pages begun h.state.sizes h.topics.claim v) (place.SlotChange (Claim true))
       (place.SlotChange Fill) Starved (λ e. cc e) (λ e. cc e) (λ e. cc e))
@@ -190,14 +229,34 @@ module _ (h : Held) (command : Command) (v : ℕ) where
   slot_change_told Publish = change_told (slot_change h.slots command)
   slot_change_told _ = Nothing
 
-  change_rises : (p : SlotChangePlace) → rises (slot_change_part p h command) ≡ 0
-  change_rises (Claim begun) = claim_is (λ s. rises s ≡ 0) Pages begun h.topics.claim refl (λ word. refl)
-  change_rises _ = refl
+  -- It raises the sequence number with one step of the invalidation's end, and has raised it from then on.
+  abbrev RaisesFrom : SlotChangePlace → Type 0
+  RaisesFrom p = RaisesOn (place.SlotChange p) command h v
+
+  raises_none : (p : SlotChangePlace) → has_raised (place.SlotChange p) ≡ false → rises (slot_change_part p h command) ≡ 0 → RaisesFrom p
+  raises_none p not_yet none line =
+      let more = none_raised (slot_change_outcome p command h v) line h.answers (rises (slot_change_part p h command)) none in
+      let same = ap one_if not_yet in
+      omega (arith, more, same)
+
+  change_raises : (p : SlotChangePlace) → RaisesFrom p
+  change_raises (Claim begun) line =
+      raises_none (Claim begun) refl (claim_is (λ s. rises s ≡ 0) Pages begun h.topics.claim refl (λ word. refl)) line
+  change_raises (Begin p) line = raises_none (Begin p) refl (begin_rises p (slot_target h command) h.topics) line
+  change_raises (End ends.Exclude) line = omega arith
+  change_raises (End _) line = omega arith
+  change_raises Watch line =
+      each_watch (λ q. length h.answers + 1 + 0 ≤ length h.answers + one_if (has_raised (place.SlotChange q))) (watch_next h v) Watch Clear (omega arith)
+      (omega arith)
+  change_raises Clear line = omega arith
+  change_raises Give line =
+      let more = answers_length h.answers (record { number = line.number; actor = line.actor; answer = Done }) in omega (arith, more)
+  change_raises p line = raises_none p refl refl line
 
   pub slot_change_simple : (p : SlotChangePlace) → SimplePlace (place.SlotChange p) command h v
   slot_change_simple p = record {
-    goes = (slot_change_goes p h v).1;
+    goes = (slot_change_goes p command h v).1;
     tells = slot_change_told p;
-    raises = λ line. none_raised (slot_change_outcome p h v) line h.answers (rises (slot_change_part p h command)) (change_rises p);
+    raises = change_raises p;
     claims = λ R. change_claims_or_not command h v p;
   }

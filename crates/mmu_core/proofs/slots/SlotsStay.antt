@@ -59,20 +59,20 @@ module _ (set : ℕ) (before after : ℕ → ℕ) (stays : SetStays set before a
 abbrev pub AllKnow : Sizes → (ℕ → Held) → Type 0
 AllKnow z hand = (i : ℕ) → i < actors_of z → KnowsPart (hand i).state.place (hand i).state.line.command (hand i)
 
--- Live slots stay, the published set is one, and one hand is another one.
-pub hand_moved : (z : Sizes) (set other : ℕ) (role behind before after : ℕ → ℕ) (hand : ℕ → Held) (a : ℕ) (h : Held) → StayLive before set after other
+-- The published set is one, and one hand is another one.
+pub hand_moved : (z : Sizes) (set other : ℕ) (role behind before after : ℕ → ℕ) (hand : ℕ → Held) (a : ℕ) (h : Held)
     → SlotSetPart z other behind after
     → ((i : ℕ) → i < actors_of z → i ≢ a → OwnedStays before after (hand i))
     → ((i : ℕ) → i < actors_of z → i ≢ a → (hand i).state.actor ≡ Manager → RecordPart after other (hand i).slots)
     → OwnLines z a h → Holds z after other h.state.place h.state.line.command h → RetiresPart h.state.place h.topics
     → CachedPart z h.cached.items → (h.state.actor ≡ Manager → RecordPart after other h.slots) → AllKnow z (upd hand a h)
     → InvariantOf z set role before hand → InvariantOf z other behind after (upd hand a h)
-hand_moved z set other role behind before after hand a h stay part owned others own holds leaves cached recorded knows I = record {
+hand_moved z set other role behind before after hand a h part owned others own holds leaves cached recorded knows I = record {
   sizes = I.sizes;
   set_part = part;
   lines = at_upd (λ i x. i < actors_of z → OwnLines z i x) hand a h (λ lt. own) (λ i ne. I.lines i);
   loads = at_upd (λ i (x : Held). i < actors_of z → Holds z after other x.state.place x.state.line.command x) hand a h (λ lt. holds)
-      (λ i ne lt. loads_stay z before set after other (hand i) stay (owned i lt ne) (hand i).state.place (hand i).state.line.command (I.loads i lt));
+      (λ i ne lt. loads_stay z before set after other (hand i) (owned i lt ne) (hand i).state.place (hand i).state.line.command (I.loads i lt));
   knows = knows;
   leaves = at_upd (λ i (x : Held). i < actors_of z → RetiresPart x.state.place x.topics) hand a h (λ lt. leaves) (λ i ne. I.leaves i);
   cached = at_upd (λ i (x : Held). i < actors_of z → CachedPart z x.cached.items) hand a h (λ lt. cached) (λ i ne. I.cached i);

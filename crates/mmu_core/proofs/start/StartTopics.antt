@@ -270,7 +270,8 @@ start_topics z lines w start = record {
   loaded = λ i lt. subst (LoadedPart (word_in z w area.Pool)) (sym (topics_are z lines w i start lt)) (loaded_first (word_in z w area.Pool));
   ranges = λ i gfn lt is within. absurd (none_open_yet z lines w i start lt is);
   passed = λ i lt. subst (PassedPart (word_in z w area.Pool)) (sym (topics_are z lines w i start lt)) (λ alone. absurd (cc alone));
-  scopes = λ i lt is. absurd (none_open_yet z lines w i start lt is);
+  scopes = λ i page lt is. absurd (none_open_yet z lines w i start lt is);
+  swept = λ i lt alone out is. absurd (none_open_yet z lines w i start lt is);
   zapped = λ i lt is asked. absurd (none_open_yet z lines w i start lt is);
   few_ended = let none = seq_start z lines w start in omega (arith, none);
   counters = λ i lt. subst (CountersPart z) (sym (topics_are z lines w i start lt)) (counters_first z);

@@ -18,6 +18,7 @@ use Rattle.spte_words.proofs.ReadsEntries.{leaf_fits, table_fits}
 use Rattle.part_steps.specs.declared.part_step.PartStep.{PartStep}
 use Rattle.part_steps.specs.declared.part_step.PartStep.TheVariants as part
 use Rattle.part_steps.specs.PartBounds.{PartRests}
+use Rattle.part_steps.specs.SweepTopics.{gone_up}
 use Rattle.part_steps.specs.PartTasks.{IsWithin, all_but, leaf_written, link_written, own_index, page_owned, part_kind, part_task, set_held}
 use Rattle.part_steps.specs.PartTasks.{table_page, word_looked, words_filled, page_retired, page_looked}
 use Rattle.core_views.specs.declared.topics.OwnedFrame.{OwnedFrame}
@@ -96,9 +97,10 @@ part_within_by part.Claim h note N R = N.2
 part_within_by (part.Fill value) h note N R =
     pool_within (map_of h.state.sizes) (page_owned h.topics.owned) (words_filled h.topics.owned) (page_there h N.0.0 R) N.0.1
 part_within_by (part.Role value) h note N R = page_there h (some_filled h.topics.owned 512 N.0 (omega arith)) R
-part_within_by part.Give h note N R = give_within h note N R
+part_within_by part.Give h note N R = give_within h note N.0 R
 part_within_by part.Slot h note N R = slot_within h note N.0 N.1 R
-part_within_by (part.Walk gfn) h note N R = pool_within (map_of h.state.sizes) (table_page h.topics.walk) _ (R.table N.there) (omega arith)
+part_within_by (part.Walk gfn) h note N R = pool_within (map_of h.state.sizes) (table_page h.topics.walk) _ (R.table N.0.there) (omega arith)
+part_within_by (part.Sweep gfn) h note N R = pool_within (map_of h.state.sizes) (table_page (gone_up h.topics.walk)) _ (R.above N.there) (omega arith)
 part_within_by (part.Link gfn) h note N R = pool_within (map_of h.state.sizes) (table_page h.topics.walk) _ (R.table N.0.saw.over.there) (omega arith)
 part_within_by (part.Leaf gfn) h note N R = pool_within (map_of h.state.sizes) (table_page h.topics.walk) _ (R.table N.0.saw.over.there) (omega arith)
 part_within_by (part.Host page) h note N R = N.0
@@ -193,8 +195,8 @@ part_small (part.Link gfn) h note N R = link_small h N.3 R
 part_small (part.Leaf gfn) h note N R = leaf_small h N.0.looked_up R
 part_small part.Publish h note N R = publish_small h N R
 part_small part.GiveOld h note N R = power_small (page_retired h.topics.retired % 64) (omega arith)
-part_small (part.SetStart gfn) h note N R = N.1
-part_small (part.SetEnd gfn) h note N R = N.1
+part_small (part.SetStart first gfn) h note N R = N.2
+part_small (part.SetEnd last gfn) h note N R = N.2
 part_small (part.SetCount count) h note N R = count_small h count N R
 part_small (part.SetSeq seq) h note N R = let is = N.1 in let few = R.counters.seq in omega (arith, is, few)
 part_small part.Bring h note N R =

@@ -1,8 +1,13 @@
 -- What an actor holds after each step of a part: the topics of the step, written out.
 use Rattle.std.proofs.Common.{◌≡◌, ◌+◌, ◌-◌, ◌<◌, ◌≤◌, ℕ, refl, sym, subst, ap, ◌∙◌, arith}
-use Rattle.std.specs.Prelude.{Bool, true, ◌==◌, if◌then◌else◌, Some, None}
+use Rattle.std.specs.Prelude.{Bool, true, false, ◌==◌, ◌&&◌, if◌then◌else◌, Some, None}
 use Rattle.std.proofs.lemmas.Bool.Decides.{nat_tests}
 use Rattle.core_views.specs.declared.sizes.Sizes.{Sizes}
+use Rattle.core_views.specs.declared.kind.StepKind.TheVariants as kind
+use Rattle.core_views.specs.declared.topics.Hold.{Hold}
+use Rattle.core_views.specs.declared.topics.Hold.TheVariants.{Exclusive}
+use Rattle.core_views.specs.declared.topics.Stay.{Stay}
+use Rattle.core_views.specs.declared.topics.Stay.TheVariants.{Outside}
 use Rattle.core_views.specs.declared.topics.TableWalk.{TableWalk}
 use Rattle.core_views.specs.declared.topics.Topics.{Topics}
 use Rattle.core_views.specs.Held.{Held}
@@ -20,7 +25,9 @@ use Rattle.part_steps.specs.PartTopics.{changed_host, exchanged, part_topics, ex
 use Rattle.mmu_core.specs.machine.Steps.{idle_after}
 use Rattle.mmu_core.proofs.words.MapTopics.{filled_topics, frame_map_topics, lone_is, map_topics, stored_topics}
 pub use Rattle.mmu_core.proofs.words.MapTopics.{map_end, map_word_at}
-use Rattle.part_steps.specs.Tasks.{kind_of_task, map_of}
+use Rattle.part_steps.specs.Tasks.{kind_of_task, loads, map_of}
+use Rattle.part_steps.specs.StayTopics.{is_alone, is_outside}
+use Rattle.part_steps.specs.SweepTopics.{gone_up, is_sweeping, walk_on}
 use Rattle.part_steps.specs.WalkTopics.{is_in_table, still_owned, swapped, walked, gone_down}
 use Rattle.part_steps.specs.ControlBits.{in_section}
 use Rattle.part_steps.specs.ControlBits.{has_to_flush}
@@ -37,7 +44,8 @@ IsThere z t (part.FrameMap word) = word < words_of_bits z.frames
 IsThere z t (part.Fill value) = (page_owned t.owned < z.pool) × (words_filled t.owned < 512)
 IsThere z t (part.Role value) = page_owned t.owned < z.pool
 IsThere z t part.Clear = page_retired t.retired < z.pool
-IsThere z t (part.Walk gfn) = 1 ≤ t.walk.level
+IsThere z t (part.Walk gfn) = (1 ≤ t.walk.level) × (is_sweeping t ≡ false)
+IsThere z t (part.Sweep gfn) = (1 ≤ t.walk.level) × (is_sweeping t ≡ true)
 IsThere z t (part.Link gfn) = 1 ≤ t.walk.level
 IsThere z t (part.Leaf gfn) = 1 ≤ t.walk.level
 IsThere z t (part.Zap gfn) = 1 ≤ t.walk.level
@@ -60,15 +68,17 @@ in_table : (walk : TableWalk) → 1 ≤ walk.level → is_in_table walk ≡ true
 in_table walk from = grind (arith, nat_tests)
 
 -- a load or an exchange of an entry, where the walk has come to a table
-walk_topics : (z : Sizes) (own gfn : ℕ) (t : Topics) (note v : ℕ) → 1 ≤ t.walk.level
-    → topics_after z (kind_of_task z (part_task (part.Walk gfn) own t note)) t v ≡ part_topics (part.Walk gfn) t v
+walk_topics : (z : Sizes) (gfn : ℕ) (walk : TableWalk) (t : Topics) (note v : ℕ) → 1 ≤ t.walk.level → walk_on t ≡ walk
+    → topics_after z (kind_of_task z (loads kind.Walk area.Pool (pool_index (table_page walk) (entry_index gfn walk.level)) note)) t v
+    ≡ record t { walk = walked walk (entry_index gfn walk.level) v }
 unfolding topics_after
-walk_topics z own gfn t note v from =
+walk_topics z gfn walk t note v from on =
     ap (λ (b : Bool). record t {
-      walk = if b then walked t.walk (index_in_page z (place (map_of z) area.Pool (pool_index (table_page t.walk) (entry_index gfn t.walk.level)))) v
+      walk = if b then walked (walk_on t) (index_in_page z (place (map_of z) area.Pool (pool_index (table_page walk) (entry_index gfn walk.level)))) v
           else t.walk;
     }) (in_table t.walk from)
-    ∙ ap (λ i. record t { walk = walked t.walk i v }) (in_its_page z (table_page t.walk) (entry_index gfn t.walk.level) (omega arith))
+    ∙ ap (λ i. record t { walk = walked (walk_on t) i v }) (in_its_page z (table_page walk) (entry_index gfn walk.level) (omega arith))
+    ∙ ap (λ (w : TableWalk). record t { walk = walked w (entry_index gfn walk.level) v }) on
 
 swap_topics : (z : Sizes) (gfn new_ note : ℕ) (t : Topics) (v : ℕ) → 1 ≤ t.walk.level
     → topics_after z (kind_of_task z (entry_task gfn new_ t.walk note)) t v ≡ exchanged (v == t.walk.entry) (entry_index gfn t.walk.level) new_ t v
@@ -121,7 +131,10 @@ part_topics_is z part.Count own t note v there = lone_is z 3 t v (omega arith)
 part_topics_is z part.RangeStart own t note v there = lone_is z 4 t v (omega arith)
 part_topics_is z part.RangeEnd own t note v there = lone_is z 5 t v (omega arith)
 part_topics_is z part.Root own t note v there = lone_is z 0 t v (omega arith)
-part_topics_is z (part.Walk gfn) own t note v there = walk_topics z own gfn t note v there
+part_topics_is z (part.Walk gfn) own t note v there =
+    walk_topics z gfn t.walk t note v there.0 (ap (λ (b : Bool). if b then gone_up t.walk else t.walk) there.1)
+part_topics_is z (part.Sweep gfn) own t note v there =
+    walk_topics z gfn (gone_up t.walk) t note v there.0 (ap (λ (b : Bool). if b then gone_up t.walk else t.walk) there.1)
 part_topics_is z (part.Link gfn) own t note v there = swap_topics z gfn (link_written t) note t v there
 part_topics_is z (part.Leaf gfn) own t note v there = swap_topics z gfn (leaf_written t) note t v there
 part_topics_is z (part.Host page) own t note v there = ap (λ p. record t { host = Some (record { page = p; word = v }) }) (behind_host z page)
@@ -162,6 +175,18 @@ part_behind a step note v =
 abbrev pub stepped_hand : ℕ → PartStep → ℕ → View → Held
 stepped_hand a step note v = part_hand step a note (v.hand a) (answer_in (part_task step a (v.hand a).topics note) v.words)
 
+-- Who is in the guest or in a section sweeps nothing.
+pub no_sweep : {s : Stay} (t : Topics) → t.stay ≡ s → is_outside s ≡ false → is_sweeping t ≡ false
+no_sweep {s} t stay inside =
+    ap (λ (x : Stay). is_outside x && (is_alone t.hold && t.invalidations.opened)) stay
+    ∙ ap (λ (b : Bool). b && (is_alone t.hold && t.invalidations.opened)) inside
+
+-- Who has the lock alone, outside, with its own invalidation open sweeps.
+pub sweeps : (t : Topics) → t.stay ≡ Outside → t.hold ≡ Exclusive → t.invalidations.opened ≡ true → is_sweeping t ≡ true
+sweeps t outside alone opened =
+    ap (λ (s : Stay). is_outside s && (is_alone t.hold && t.invalidations.opened)) outside
+    ∙ ap (λ (k : Hold). is_alone k && t.invalidations.opened) alone ∙ opened
+
 -- The step makes of the words and hands what is written out above.
 pub is_there : (step : PartStep) (h : Held) → PartNeeds step h → IsThere h.state.sizes h.topics step
 is_there (part.Map word) h N = N.1
@@ -169,7 +194,8 @@ is_there (part.FrameMap word) h N = N.1
 is_there (part.Fill value) h N = (N.2, N.0.1)
 is_there (part.Role value) h N = N.2
 is_there part.Clear h N = N.in_pool
-is_there (part.Walk gfn) h N = N.there
+is_there (part.Walk gfn) h N = (N.0.there, N.1)
+is_there (part.Sweep gfn) h N = (N.there, sweeps h.topics N.outside N.alone N.opened)
 is_there (part.Link gfn) h N = N.0.saw.over.there
 is_there (part.Leaf gfn) h N = N.0.saw.over.there
 is_there (part.Zap gfn) h N = N.saw.over.there

@@ -1,10 +1,10 @@
 -- The list of the live slots of a set, and the host page that a list of slots gives a guest frame.
-use Rattle.std.proofs.Common.{◌≡◌, ◌≢◌, ◌<◌, ◌≤◌, ◌⊎◌, inl, inr, ℕ, zero, suc, List, [], ◌∷◌, ◌++◌, append-nil, refl, sym, ap, ◌∙◌, arith}
+use Rattle.std.proofs.Common.{◌≡◌, ◌≢◌, ◌<◌, ◌≤◌, ◌⊎◌, inl, inr, ℕ, zero, suc, List, [], ◌∷◌, ◌++◌, refl, sym, ap, ◌∙◌, arith}
 use Rattle.std.specs.Prelude.{All, Bool, true, false, ◌&&◌, if◌then◌else◌, Some, None}
 use Rattle.std.specs.BTreeMap.{insert_entry}
 use Rattle.std.specs.Ordering.{match_ordering, nat_cmp}
 use Rattle.std.specs.declared.cmp.Ordering.{Ordering}
-use Rattle.std.specs.declared.cmp.Ordering.TheVariants.{Less, Greater}
+use Rattle.std.specs.declared.cmp.Ordering.TheVariants.{Less, Equal, Greater}
 use Rattle.std.proofs.lemmas.Bool.Decides.{nat_tests}
 use Rattle.std.proofs.lemmas.List.{map-append}
 use Rattle.std.proofs.lemmas.List.Elements.{All-nil, All-cons, All-head, All-tail, All-append}
@@ -137,12 +137,20 @@ insert_then {A} id new_ (x ∷ xs) ys front = by (nat_cmp id x.0) (insert_then i
     by Greater rest = ap (λ (zs : List (ℕ × A)). x ∷ zs) rest
     by _ rest = refl
 
-insert_last : {A : Type 0} (id : ℕ) (new_ : A) (xs : List (ℕ × A)) → All (λ (e : ℕ × A). e.0 < id) xs → with_at id new_ xs ≡ xs ++ (id, new_) ∷ []
-insert_last id new_ [] below = refl
-insert_last {A} id new_ (x ∷ xs) below =
+cmp_equal : (k : ℕ) → nat_cmp k k ≡ Equal
+cmp_equal k = grind (arith, nat_tests)
+
+-- Something is put at the end, in place of what stands there with its ID, if anything does.
+insert_last : {A : Type 0} (id : ℕ) (new_ : A) (xs : List (ℕ × A)) (there : Bool) (old : A) → All (λ (e : ℕ × A). e.0 < id) xs
+    → with_at id new_ (xs ++ (if there then (id, old) ∷ [] else [])) ≡ xs ++ (id, new_) ∷ []
+insert_last {A} id new_ [] true old below =
+    ap (λ (o : Ordering). match_ordering o ((id, new_) ∷ (id, old) ∷ []) ((id, new_) ∷ []) ((id, old) ∷ (id, new_) ∷ [])) (cmp_equal id)
+insert_last id new_ [] false old below = refl
+insert_last {A} id new_ (x ∷ xs) there old below =
+    let rest : List (ℕ × A) = xs ++ (if there then (id, old) ∷ [] else []) in
     let greater : nat_cmp id x.0 ≡ Greater = cmp_greater id x.0 (All-head (λ (e : ℕ × A). e.0 < id) x xs below) in
-    ap (λ (o : Ordering). match_ordering o ((id, new_) ∷ x ∷ xs) ((x.0, new_) ∷ xs) (x ∷ with_at id new_ xs)) greater
-    ∙ ap (λ (zs : List (ℕ × A)). x ∷ zs) (insert_last id new_ xs (All-tail (λ (e : ℕ × A). e.0 < id) x xs below))
+    ap (λ (o : Ordering). match_ordering o ((id, new_) ∷ x ∷ rest) ((x.0, new_) ∷ rest) (x ∷ with_at id new_ rest)) greater
+    ∙ ap (λ (zs : List (ℕ × A)). x ∷ zs) (insert_last id new_ xs there old (All-tail (λ (e : ℕ × A). e.0 < id) x xs below))
 
 -- Each ID of the list is below its end.
 ids_below : {A : Type 0} (live : ℕ → Bool) (at : ℕ → A) (n m : ℕ) → n ≤ m → All (λ (e : ℕ × A). e.0 < m) (live_below live at n)
@@ -155,13 +163,13 @@ ids_below {A} live at (suc n) m le =
     last true = All-cons (λ (e : ℕ × A). e.0 < m) (n, at n) [] (omega arith) (All-nil (λ (e : ℕ × A). e.0 < m))
     last false = All-nil (λ (e : ℕ × A). e.0 < m)
 
--- One ID more is live in another set, and the others as they were: the list has it at its ID.
-pub one_more_live : {A : Type 0} (live other : ℕ → Bool) (at there : ℕ → A) (id n : ℕ) → id < n → live id ≡ false → other id ≡ true
+-- This ID is live in another set, and the others as they were: the list has it at its ID.
+pub one_put_live : {A : Type 0} (live other : ℕ → Bool) (at there : ℕ → A) (id n : ℕ) → id < n → other id ≡ true
     → ((i : ℕ) → i < n → i ≢ id → other i ≡ live i) → ((i : ℕ) → i < n → i ≢ id → live i ≡ true → there i ≡ at i)
     → live_below other there n ≡ insert_entry nat_cmp (live_below live at n) id (there id)
-one_more_live live other at there id zero lt not_yet lives same is = absurd (omega arith)
-one_more_live {A} live other at there id (suc n) lt not_yet lives same is =
-    case (same_or n id) (λ less. one_more_live live other at there id n less not_yet lives (λ i below. same i (omega arith)) (λ i below. is i (omega arith)))
+one_put_live live other at there id zero lt lives same is = absurd (omega arith)
+one_put_live {A} live other at there id (suc n) lt lives same is =
+    case (same_or n id) (λ less. one_put_live live other at there id n less lives (λ i below. same i (omega arith)) (λ i below. is i (omega arith)))
   where
     last : Bool → A → List (ℕ × A)
     last b x = if b then (n, x) ∷ [] else []
@@ -184,8 +192,8 @@ one_more_live {A} live other at there id (suc n) lt not_yet lives same is =
         ap (λ (xs : List (ℕ × A)). xs ++ last (other n) (there n)) (before_same e)
         ∙ ap (λ k. live_below live at n ++ (if other k then (k, there k) ∷ [] else [])) e
         ∙ ap (λ b. live_below live at n ++ (if b then (id, new_) ∷ [] else [])) lives
-        ∙ sym (insert_last id new_ (live_below live at n) (ids_below live at n id (omega arith)))
-        ∙ ap (with_at id new_) (sym (append-nil (live_below live at n)) ∙ sym (ap (λ b. live_below live at n ++ last b (at n)) (ap live e ∙ not_yet)))
+        ∙ sym (insert_last id new_ (live_below live at n) (live n) (at n) (ids_below live at n id (omega arith)))
+        ∙ ap (λ k. with_at id new_ (live_below live at n ++ (if live n then (k, at n) ∷ [] else []))) (sym e)
     case (inr apart) before =
         let less : id < n = omega arith in
         ap (λ (xs : List (ℕ × A)). xs ++ last (other n) (there n)) (before less)

@@ -1,6 +1,6 @@
 -- Open invalidations: which guest frames they are of, and that from the sweep on no leaf of these is left, and nothing cached of them once a flush was awaited
 -- (mmu_notifier.rst; tdp_mmu.c, kvm_tdp_mmu_unmap_gfn_range; vcpu-requests.rst).
-use Rattle.std.specs.Prelude.{◌≡◌, ◌<◌, ◌≤◌, ℕ, All, List, Bool, true, false, [], not, Some}
+use Rattle.std.specs.Prelude.{◌≡◌, ◌<◌, ◌≤◌, ℕ, All, List, Bool, true, false, [], not, Some, is_some}
 use Rattle.core_views.specs.declared.cache.Translation.{Translation}
 use Rattle.core_views.specs.declared.topics.Hold.TheVariants.{Exclusive}
 use Rattle.core_views.specs.declared.topics.Invalidated.{Invalidated}
@@ -12,7 +12,8 @@ use Rattle.core_views.specs.Held.{Held}
 use Rattle.core_views.specs.Slots.{has_host_page}
 use Rattle.spte_words.specs.declared.spte_kind.SpteKind.TheVariants.{Leaf}
 use Rattle.spte_words.specs.Entries.{kind_of}
-use Rattle.part_steps.specs.InvalidationRange.{gfn_behind, page_looked}
+use Rattle.part_steps.specs.InvalidationRange.{gfn_behind, page_aimed, page_looked}
+use Rattle.part_steps.specs.SweepTopics.{swept_to}
 use Rattle.mmu_core.specs.invariant.AllOver.{AllOver}
 use Rattle.mmu_core.specs.invariant.CachedPart.{AgreePart}
 use Rattle.mmu_core.specs.invariant.SlotSetPart.{IsLiveIn}
@@ -30,11 +31,11 @@ abbrev pub RangePart : ℕ → ℕ → ℕ → (ℕ → Topics) → Type 0
 RangePart n start end_ topics =
     (i gfn : ℕ) → i < n → (topics i).invalidations.opened ≡ true → IsIn (topics i).invalidations.own gfn → (start ≤ gfn) × (gfn < end_)
 
--- Under the lock alone, a search has passed no slot with the host page that was looked at, but the one that it has found.
+-- Under the lock alone, a search has passed no slot with the host page that the actor may change, if it may change one, but the one that it has found.
 abbrev pub PassedPart : (ℕ → ℕ) → Topics → Type 0
 PassedPart pool t =
-    t.hold ≡ Exclusive → t.stay ≡ Outside → (set : ℕ) → t.search.set ≡ Some set → (id : ℕ) (slot : SlotOf) → IsLiveIn pool set id slot → id < t.search.id
-    → has_host_page (page_looked t.host) slot ≡ true → (t.search.whole ≡ true) × (slot ≡ t.search.slot)
+    t.hold ≡ Exclusive → t.stay ≡ Outside → is_some (page_aimed t) ≡ true → (set : ℕ) → t.search.set ≡ Some set → (id : ℕ) (slot : SlotOf) → IsLiveIn pool set id slot
+    → id < t.search.id → has_host_page (page_looked t.host) slot ≡ true → (t.search.whole ≡ true) × (slot ≡ t.search.slot)
 
 -- A slot in this set gives the host page this guest frame.
 pub record SlotGives (pool : ℕ → ℕ) (set page gfn : ℕ) : Type 0 where
@@ -44,20 +45,33 @@ pub record SlotGives (pool : ℕ → ℕ) (set page gfn : ℕ) : Type 0 where
   pub has : has_host_page page slot ≡ true
   pub is : gfn ≡ gfn_behind page slot
 
--- The invalidation is of the guest frames that the slots give to its page, and of no others.
-pub record IsOfPage (pool : ℕ → ℕ) (set : ℕ) (own_ : Invalidated) : Type 0 where
-  pub covers : (gfn : ℕ) → SlotGives pool set own_.page gfn → IsIn own_ gfn
-  pub only : (gfn : ℕ) → IsIn own_ gfn → SlotGives pool set own_.page gfn
+-- The invalidation is of the guest frames that the slots give to this host page, and of no others.
+pub record IsOfPage (pool : ℕ → ℕ) (set page : ℕ) (own_ : Invalidated) : Type 0 where
+  pub covers : (gfn : ℕ) → SlotGives pool set page gfn → IsIn own_ gfn
+  pub only : (gfn : ℕ) → IsIn own_ gfn → SlotGives pool set page gfn
 
--- So is each open one, of the published slots.
+-- So is each open one of a host page, of the published slots.
 abbrev pub ScopePart : ℕ → (ℕ → ℕ) → ℕ → (ℕ → Topics) → Type 0
-ScopePart n pool slots topics = (i : ℕ) → i < n → (topics i).invalidations.opened ≡ true → IsOfPage pool slots (topics i).invalidations.own
+ScopePart n pool slots topics =
+    (i page : ℕ) → i < n → (topics i).invalidations.opened ≡ true → (topics i).invalidations.own.page ≡ Some page
+    → IsOfPage pool slots page (topics i).invalidations.own
 
 -- ---- what is left of their frames
 
 -- The entry is no leaf of its guest frames.
 abbrev pub IsNoLeafIn : Invalidated → ℕ → ℕ → ℕ → Type 0
 IsNoLeafIn own_ level gfn w = IsIn own_ gfn → kind_of level w ≡ Leaf → ⊥
+
+-- No links lead to a leaf of its frames below this one.
+abbrev pub IsNoLeafBelow : Invalidated → ℕ → ℕ → ℕ → ℕ → Type 0
+IsNoLeafBelow own_ to level gfn w = IsIn own_ gfn → gfn < to → kind_of level w ≡ Leaf → ⊥
+
+-- A sweep under the lock has left no leaf of them up to the guest frame to which it has come.
+abbrev pub SweptPart : ℕ → (ℕ → Use) → (ℕ → Position) → (ℕ → ℕ) → ℕ → (ℕ → Topics) → Type 0
+SweptPart n up spot pool root topics =
+    (i : ℕ) → i < n → (topics i).hold ≡ Exclusive → (topics i).stay ≡ Outside → (topics i).invalidations.opened ≡ true → 1 ≤ (topics i).walk.level
+    → AllOver up spot pool root
+    (IsNoLeafBelow (topics i).invalidations.own (swept_to (topics i).invalidations.own.start (topics i).walk))
 
 -- From the moment at which a first flush is asked for no links lead to a leaf of the frames of an open invalidation.
 abbrev pub ZappedPart : ℕ → (ℕ → Use) → (ℕ → Position) → (ℕ → ℕ) → ℕ → (ℕ → Topics) → Type 0

@@ -1,6 +1,8 @@
 -- Invalidations (kvm_main.c, mmu_invalidate_seq and mmu_invalidate_in_progress): how many are open, what an actor has loaded of them, and how many have ended.
 use Rattle.std.specs.Prelude.{◌≡◌, ◌≤◌, ◌<◌, ◌+◌, ℕ, Bool, true, false, if◌then◌else◌, length}
 use Rattle.core_views.specs.declared.place.EndPlace.TheVariants as ends
+use Rattle.core_views.specs.declared.place.EndPlace.{EndPlace}
+use Rattle.core_views.specs.declared.place.SlotChangePlace.TheVariants as change
 use Rattle.core_views.specs.declared.place.HostPlace.TheVariants as host
 use Rattle.core_views.specs.declared.place.Place.{Place}
 use Rattle.core_views.specs.declared.place.Place.TheVariants as place
@@ -55,11 +57,20 @@ abbrev pub LoadedPart : (ℕ → ℕ) → Topics → Type 0
 LoadedPart pool t =
     t.hold ≡ Exclusive → t.stay ≡ Outside → 1 ≤ t.walk.level → t.walk.index < 512 → pool (pool_index (table_page t.walk) t.walk.index) ≡ t.walk.entry
 
--- The line has raised the sequence number.
+-- The sequence number is raised from this place of an end on.
+abbrev pub is_raised_at : EndPlace → Bool
+is_raised_at ends.Count = true
+is_raised_at ends.SetCount = true
+is_raised_at ends.Release = true
+is_raised_at _ = false
+
+-- The line may have raised the sequence number.
 abbrev pub has_raised : Place → Bool
-has_raised (place.Host (host.End ends.Count)) = true
-has_raised (place.Host (host.End ends.SetCount)) = true
-has_raised (place.Host (host.End ends.Release)) = true
+has_raised (place.SlotChange (change.End p)) = is_raised_at p
+has_raised (place.SlotChange change.Watch) = true
+has_raised (place.SlotChange change.Clear) = true
+has_raised (place.SlotChange change.Give) = true
+has_raised (place.Host (host.End p)) = is_raised_at p
 has_raised (place.Host host.Watch) = true
 has_raised (place.Host host.Free) = true
 has_raised _ = false

@@ -51,7 +51,7 @@ pub record IsInvalidating (IsOf : Invalidated → Type 0) (t : Topics) : Type 0 
 
 -- An invalidation is on the host page; or on the guest frame.
 abbrev pub IsOnPage : ℕ → Invalidated → Type 0
-IsOnPage page own_ = own_.page ≡ page
+IsOnPage page own_ = own_.page ≡ Some page
 
 abbrev pub IsOnFrame : ℕ → Invalidated → Type 0
 IsOnFrame gfn own_ = IsIn own_ gfn

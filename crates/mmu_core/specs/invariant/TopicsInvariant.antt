@@ -11,7 +11,7 @@ pub use Rattle.mmu_core.specs.invariant.FramesPart.{CopiedPart, FrameUse, Frames
 pub use Rattle.mmu_core.specs.invariant.HostWordsPart.{HostWordsPart, IsHostWord, OwnLooksPart}
 pub use Rattle.mmu_core.specs.invariant.HeldPart.{HeldPart, HoldsOld, OldSetsPart, PathPart, SetsPart}
 pub use Rattle.mmu_core.specs.invariant.InvalidationsPart.{CheckedPart, CountPart, KnownRangePart, LoadedPart}
-pub use Rattle.mmu_core.specs.invariant.InvalidatedPart.{PassedPart, RangePart, ScopePart, ZappedPart}
+pub use Rattle.mmu_core.specs.invariant.InvalidatedPart.{PassedPart, RangePart, ScopePart, SweptPart, ZappedPart}
 pub use Rattle.mmu_core.specs.invariant.LockPart.{LockPart, SawWriter}
 pub use Rattle.mmu_core.specs.invariant.PoolPart.{FilledPart, IsFilled, UsePart, is_retired}
 pub use Rattle.mmu_core.specs.invariant.SearchPart.{HeldSlotsPart, IsInvalidating, LookPart, SearchPart}
@@ -49,6 +49,7 @@ pub record TopicsInvariantOf (z : Sizes) (lock root slots seq count start end_ :
   pub ranges : RangePart (actors_of z) start end_ (λ i. (hand i).topics)
   pub passed : (i : ℕ) → i < actors_of z → PassedPart pool (hand i).topics
   pub scopes : ScopePart (actors_of z) pool slots (λ i. (hand i).topics)
+  pub swept : SweptPart (actors_of z) up spot pool root (λ i. (hand i).topics)
   pub zapped : ZappedPart (actors_of z) up spot pool root (λ i. (hand i).topics)
   pub few_ended : seq < 2 ^ 40
   pub counters : (i : ℕ) → i < actors_of z → CountersPart z (hand i).topics

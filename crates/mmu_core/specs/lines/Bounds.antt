@@ -1,5 +1,5 @@
 -- How many steps a line makes at most.
-use Rattle.std.specs.Prelude.{◌+◌, ℕ, Bool, if◌then◌else◌}
+use Rattle.std.specs.Prelude.{◌+◌, ◌*◌, ℕ, Bool, if◌then◌else◌}
 use Rattle.core_views.specs.declared.place.AccessPlace.{AccessPlace}
 use Rattle.core_views.specs.declared.place.AccessPlace.TheVariants.{Enter, Pause, Root, Walk, Touch, Leave, Fault}
 use Rattle.core_views.specs.declared.place.FaultPlace.TheVariants as fault
@@ -28,8 +28,8 @@ access_left (Leave leaving.Faults) z t = 1 + (fault_left fault.Begin z t + 9)
 access_left (Fault p) z t = fault_left p z t + 9
 
 -- The most steps of a line with this command, alone. One that changes a slot or a host page makes as many whatever the pool and the frames, but for the words
--- of the map in which it may claim.
+-- of the map in which it may claim; and one that moves a slot sweeps for its guest frames.
 abbrev pub most_steps : Sizes → Command → ℕ
 most_steps z (Access gfn word op) = 8192 + z.pool + z.frames
 most_steps z (ChangeHost page change) = 1024 + words_of_bits z.frames
-most_steps z _ = 1024 + words_of_bits z.pool
+most_steps z _ = 1024 + 5 * z.pages + words_of_bits z.pool

@@ -23,8 +23,8 @@ use Rattle.mmu_core.specs.machine.View.{answer_in}
 abbrev pub CanAnswer : PartStep → ℕ → Type 0
 CanAnswer (part.Fill value) v = v ≡ value
 CanAnswer (part.Role value) v = v ≡ value
-CanAnswer (part.SetStart value) v = v ≡ value
-CanAnswer (part.SetEnd value) v = v ≡ value
+CanAnswer (part.SetStart first value) v = v ≡ value
+CanAnswer (part.SetEnd last value) v = v ≡ value
 CanAnswer (part.SetCount value) v = v ≡ value
 CanAnswer (part.SetSeq value) v = v ≡ value
 CanAnswer _ v = Unit {0}

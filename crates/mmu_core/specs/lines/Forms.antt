@@ -26,9 +26,10 @@ use Rattle.mmu_core.specs.declared.outcome.Outcome.TheVariants.{Goes}
 use Rattle.mmu_core.specs.lines.AccessKnows.{AccessKnows, RestsOn}
 use Rattle.mmu_core.specs.lines.AccessSteps.{access_caches, access_loads, access_note, access_outcome, access_part, access_tells}
 use Rattle.mmu_core.specs.lines.Bounds.{access_left}
-use Rattle.mmu_core.specs.lines.SlotChangeKnows.{RecordAccepts, SlotChangeHolds, SlotChangeKnows}
-use Rattle.mmu_core.specs.lines.SlotChangeSteps.{slot_change_first, slot_change_left, slot_change_note, slot_change_outcome, slot_change_part}
-use Rattle.mmu_core.specs.lines.SlotChangeSteps.{slot_change_records, slot_change_retires, slot_change_tells}
+use Rattle.mmu_core.specs.lines.SlotChangeKnows.{RecordAccepts, SlotChangeHolds, SlotChangeKnows, SlotChangeRests, slot_change_opens, slot_change_retires}
+use Rattle.mmu_core.specs.lines.SlotChangeLeft.{slot_change_left}
+use Rattle.mmu_core.specs.lines.SlotChangeSteps.{slot_change_first, slot_change_note, slot_change_outcome, slot_change_part}
+use Rattle.mmu_core.specs.lines.SlotChangeSteps.{slot_change_records, slot_change_tells}
 
 -- ---- the order of its steps
 
@@ -55,7 +56,7 @@ note_at _ _ h = 0
 -- where the line stands after it
 abbrev pub outcome_at : Place → Command → Held → ℕ → Outcome
 outcome_at (place.Access p) (Access gfn word op) h v = access_outcome p h gfn op v
-outcome_at (place.SlotChange p) command h v = slot_change_outcome p h v
+outcome_at (place.SlotChange p) command h v = slot_change_outcome p command h v
 outcome_at (place.Host p) (ChangeHost page change) h v = host_outcome p page h v
 outcome_at p _ h v = Goes p
 
@@ -95,7 +96,7 @@ tells_at _ _ h v = []
 -- what the step needs: a step of a part its needs, and the touch its own
 abbrev pub RestsAt : Place → Command → Held → Type 0
 RestsAt (place.Access p) (Access gfn word op) h = RestsOn (access_part p gfn h.topics) gfn (is_write op) h
-RestsAt (place.SlotChange p) command h = (changes_slot command ≡ true) × PartNeeds (slot_change_part p h command) h
+RestsAt (place.SlotChange p) command h = (changes_slot command ≡ true) × PartNeeds (slot_change_part p h command) h × SlotChangeRests p command h
 RestsAt (place.Host p) (ChangeHost page change) h = PartNeeds (host_part p page change h) h × HostRests p h
 RestsAt place.Between command h = Unit {0}
 RestsAt _ _ h = ⊥
@@ -109,7 +110,7 @@ AcceptsAt _ _ z slots = Unit {0}
 abbrev pub KnowsPart : Place → Command → Held → Type 0
 KnowsPart place.Between command h = has_line h ≡ true → IsAtRest h.topics
 KnowsPart (place.Access p) (Access gfn word op) h = AccessKnows p gfn (is_write op) h
-KnowsPart (place.SlotChange p) command h = (changes_slot command ≡ true) × SlotChangeKnows p h
+KnowsPart (place.SlotChange p) command h = (changes_slot command ≡ true) × SlotChangeKnows p command h
 KnowsPart (place.Host p) (ChangeHost page change) h = HostKnows p page change h
 KnowsPart _ _ h = ⊥
 
@@ -129,6 +130,7 @@ may_retire (place.SlotChange p) = slot_change_retires p
 may_retire _ = false
 
 abbrev pub may_open : Place → Bool
+may_open (place.SlotChange p) = slot_change_opens p
 may_open (place.Host p) = host_opens p
 may_open _ = false
 

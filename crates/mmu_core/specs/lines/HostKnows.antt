@@ -1,5 +1,5 @@
 -- What a line knows that changes a host page, at each of its places, from what its actor holds alone.
-use Rattle.std.specs.Prelude.{◌≡◌, ◌<◌, ◌≤◌, ℕ, Bool, true, false, Option, None, is_some}
+use Rattle.std.specs.Prelude.{◌≡◌, ◌<◌, ◌≤◌, ℕ, Bool, true, false, Option, Some, None, is_some}
 use Rattle.core_views.specs.declared.place.EndPlace.TheVariants as ends
 use Rattle.core_views.specs.declared.place.HostPlace.{HostPlace}
 use Rattle.core_views.specs.declared.place.HostPlace.TheVariants.{Look, Claim, Begin, Copy, Store, Change, End, Watch, Free}
@@ -11,6 +11,7 @@ use Rattle.core_views.specs.Held.{Held}
 use Rattle.core_views.specs.HostChanges.{is_own}
 use Rattle.core_views.specs.Sizes.{actors_of}
 use Rattle.spte_words.specs.Areas.{words_of_bits}
+use Rattle.part_steps.specs.declared.invalidations.Target.TheVariants as aim
 use Rattle.part_steps.specs.FrameHoldings.{MayGiveFrame}
 use Rattle.part_steps.specs.FrameTopics.{copy_held, is_uncopied, words_moved}
 use Rattle.part_steps.specs.PartSteps.{IsAtRest}
@@ -32,8 +33,9 @@ pub record LooksAt (page : ℕ) (h : Held) : Type 0 where
 
 -- Its invalidation of the page is open, and each virtual processor was asked for a flush, and awaited.
 pub record HasFlushed (page : ℕ) (h : Held) : Type 0 where
+  pub owns_none : h.topics.owned ≡ None
   pub opened : IsOpen h.topics
-  pub invalid : h.topics.invalidations.own.page ≡ page
+  pub invalid : h.topics.invalidations.own.page ≡ Some page
   pub asked : h.state.sizes.vcpus ≤ h.topics.flush.asked
   pub awaited : h.state.sizes.vcpus ≤ h.topics.flush.awaited
 
@@ -75,13 +77,15 @@ abbrev pub HostKnows : HostPlace → ℕ → HostChange → Held → Type 0
 HostKnows (Look moves) page change h = IsAtRest h.topics × (moves ≡ is_move change) × (h.topics.frames.owned ≡ None)
 HostKnows (Claim begun) page change h =
     IsAtRest h.topics × LooksAt page h × ClaimsFrame begun change h.topics.frames (words_of_bits h.state.sizes.frames)
-HostKnows (Begin p) page change h = LooksAt page h × BeginKnows p h.state.sizes page h.topics × OwnsToMove change h.topics.frames.owned
+HostKnows (Begin p) page change h =
+    LooksAt page h × BeginKnows p h.state.sizes (aim.Page page) h.topics × OwnsToMove change h.topics.frames.owned × (h.topics.owned ≡ None)
 HostKnows Copy page change h = LooksAt page h × HasFlushed page h × IsCopying change h.topics.frames.owned h.state.sizes.words
 HostKnows Store page change h =
     LooksAt page h × HasFlushed page h × IsCopying change h.topics.frames.owned h.state.sizes.words
     × (is_some (copy_held h.topics.frames.owned) ≡ true)
 HostKnows Change page change h = LooksAt page h × HasFlushed page h × HasCopiedAll change h.topics.frames.owned h.state.sizes.words
-HostKnows (End p) page change h = LooksAt page h × EndKnows p h.topics × OwnsToMove change h.topics.frames.owned × (h.topics.watched ≡ 0)
+HostKnows (End p) page change h =
+    LooksAt page h × EndKnows p h.topics × OwnsToMove change h.topics.frames.owned × (h.topics.watched ≡ 0) × (h.topics.owned ≡ None)
 HostKnows Watch page change h = LooksAt page h × IsAtRest h.topics × HasMoved change h × (looked_at h < actors_of h.state.sizes)
 HostKnows Free page change h = LooksAt page h × IsAtRest h.topics × HasMoved change h × MayGiveFrame h
 

@@ -26,6 +26,7 @@ use Rattle.mmu_core.specs.declared.invalidate.EndNext.{EndNext}
 use Rattle.mmu_core.specs.declared.invalidate.EndNext.TheVariants as ends_next
 use Rattle.mmu_core.specs.declared.outcome.Outcome.{Outcome}
 use Rattle.mmu_core.specs.declared.outcome.Outcome.TheVariants.{Goes, Ends}
+use Rattle.part_steps.specs.declared.invalidations.Target.TheVariants as aim
 use Rattle.part_steps.specs.declared.part_step.PartStep.{PartStep}
 use Rattle.part_steps.specs.declared.part_step.PartStep.TheVariants as part
 use Rattle.part_steps.specs.FrameTopics.{frame_owned, words_moved}
@@ -69,7 +70,7 @@ moves t = is_some t.frames.owned
 abbrev pub host_part : HostPlace → ℕ → HostChange → Held → PartStep
 host_part (Look moves) page change h = if is_own h.state.sizes h.state.actor page then part.Host page else part.Seq
 host_part (Claim begun) page change h = claim_part Frames begun h.topics.frames.claim
-host_part (Begin p) page change h = begin_part p page h.topics
+host_part (Begin p) page change h = begin_part p (aim.Page page) h.topics
 host_part Copy page change h = part.Copy (word_to_copy h)
 host_part Store page change h = part.Store (word_to_store h)
 host_part Change page change h = part.Change (word_put change h.topics)
@@ -107,7 +108,7 @@ abbrev pub host_outcome : HostPlace → ℕ → Held → ℕ → Outcome
 host_outcome (Look moves) page h v =
     if is_own h.state.sizes h.state.actor page then Goes (Host (if moves then Claim false else Begin begins.Exclude)) else Ends (Refused OutOfRange)
 host_outcome (Claim begun) page h v = after_frame_claim (claim_next Frames begun h.state.sizes h.topics.frames.claim v)
-host_outcome (Begin p) page h v = Goes (Host (after_begin (moves h.topics) (begin_next p h.state.sizes page h.topics v)))
+host_outcome (Begin p) page h v = Goes (Host (after_begin (moves h.topics) (begin_next p h.state.sizes (aim.Page page) h.topics v)))
 host_outcome Copy page h v = Goes (Host Store)
 host_outcome Store page h v = Goes (Host (if nat_lt (words_moved h.topics.frames.owned + 1) h.state.sizes.words then Copy else Change))
 host_outcome Change page h v = Goes (Host (if v == word_looked h.topics.host then End ends.Exclude else Change))
@@ -134,7 +135,7 @@ frees_left moves z = if moves then 1 + actors_of z else 0
 abbrev pub host_left : HostPlace → Sizes → Topics → ℕ
 host_left (Look moves) z t = 2 * z.vcpus + 152 + (if moves then words_of_bits z.frames + 1 + copies_left z None + frees_left true z else 0)
 host_left (Claim begun) z t = 2 * z.vcpus + 151 + copies_left z None + frees_left true z + claim_left Frames begun z t.frames.claim
-host_left (Begin p) z t = begin_left p z t + 8 + (if moves t then copies_left z None else 0) + frees_left (moves t) z
+host_left (Begin p) z t = begin_left p z 1 t + 8 + (if moves t then copies_left z None else 0) + frees_left (moves t) z
 host_left Copy z t = 8 + copies_left z t.frames.owned + frees_left true z
 host_left Store z t = 7 + copies_left z t.frames.owned + frees_left true z
 host_left Change z t = 7 + (if host_present (word_looked t.host) then 0 else 1) + frees_left (moves t) z

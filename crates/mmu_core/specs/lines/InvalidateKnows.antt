@@ -1,5 +1,5 @@
 -- What a line knows that begins or ends an invalidation, at each of its places, from what its actor holds alone.
-use Rattle.std.specs.Prelude.{◌≡◌, ◌<◌, ◌≤◌, ℕ, Bool, true, false, None, ◌||◌, nat_le, nat_lt, not}
+use Rattle.std.specs.Prelude.{◌≡◌, ◌<◌, ◌≤◌, ◌+◌, ◌%◌, ◌^◌, ℕ, Bool, true, false, ◌==◌, ◌||◌, nat_le, nat_lt, not}
 use Rattle.core_views.specs.declared.place.BeginPlace.{BeginPlace}
 use Rattle.core_views.specs.declared.place.BeginPlace.TheVariants as begins
 use Rattle.core_views.specs.declared.place.EndPlace.{EndPlace}
@@ -10,85 +10,110 @@ use Rattle.core_views.specs.declared.topics.Hold.TheVariants.{Exclusive}
 use Rattle.core_views.specs.declared.topics.Invalidated.{Invalidated}
 use Rattle.core_views.specs.declared.topics.Invalidations.{Invalidations}
 use Rattle.core_views.specs.declared.topics.Stay.TheVariants.{Outside}
+use Rattle.core_views.specs.declared.topics.TableWalk.{TableWalk}
+use Rattle.core_views.specs.declared.trace.Slot.{Slot}
+use Rattle.core_views.specs.Slots.{contains}
+use Rattle.mmu_core.specs.invariant.InvalidatedPart.{IsIn}
 use Rattle.core_views.specs.declared.topics.Topics.{Topics}
-use Rattle.spte_words.specs.declared.spte_kind.SpteKind.TheVariants as entry_kind
-use Rattle.spte_words.specs.Entries.{kind_of}
-use Rattle.part_steps.specs.InvalidationHoldings.{IsSwept, has_counted, has_widened}
-use Rattle.part_steps.specs.InvalidationRange.{gfn_behind, has_found, has_searched, invalidated_by, is_within_range}
-use Rattle.part_steps.specs.PartHoldings.{HoldsSet, IsOver, SawEntry}
-use Rattle.part_steps.specs.PartSteps.{IsAtRest}
+use Rattle.spte_words.specs.Entries.{level_span}
+use Rattle.part_steps.specs.declared.invalidations.Target.{Target}
+use Rattle.part_steps.specs.declared.invalidations.Target.TheVariants as aim
+use Rattle.part_steps.specs.InvalidationHoldings.{IsSwept, MaySweep, MayZap, has_counted, has_widened}
+use Rattle.part_steps.specs.InvalidationRange.{has_searched, invalidated_by, is_within_range, page_of_target, target_end, target_start}
+use Rattle.part_steps.specs.PartHoldings.{HoldsSet, IsOver}
+use Rattle.part_steps.specs.SweepTopics.{gone_up, swept_to}
+use Rattle.part_steps.specs.PartSteps.{IsFree}
 use Rattle.part_steps.specs.StayTopics.{no_flush}
 
--- It has the lock alone, outside of every section, and owns no page.
+-- It has the lock alone, outside of every section.
 pub record HasLockAlone (t : Topics) : Type 0 where
   pub outside : t.stay ≡ Outside
   pub alone : t.hold ≡ Exclusive
-  pub owns_none : t.owned ≡ None
 
 -- It is alone, and its own invalidation is open, or isn't.
 pub record IsAloneWith (opened : Bool) (t : Topics) : Type 0 where
   pub alone : HasLockAlone t
   pub is : t.invalidations.opened ≡ opened
 
--- The entry of the page's guest frame in the table that the walk has come to was loaded, and is a leaf.
-pub record SawLeaf (gfn : ℕ) (t : Topics) : Type 0 where
-  pub saw : SawEntry gfn t.walk
-  pub leaf : kind_of t.walk.level t.walk.entry ≡ entry_kind.Leaf
-
 -- And no virtual processor was asked for a flush since it took the lock.
 pub record IsSweeping (opened : Bool) (t : Topics) : Type 0 where
   pub with_lock : IsAloneWith opened t
   pub unasked : t.flush ≡ no_flush
 
--- It has searched the slots for the page, before it opens its own invalidation.
-pub record HasSearched (page : ℕ) (t : Topics) : Type 0 where
+-- The frames that an invalidation is of are the target's: those of the slot, or one at most, all below 2 ^ 36.
+abbrev pub FramesAre : Target → Invalidated → Type 0
+FramesAre (aim.Page page) own_ = (own_.end ≤ own_.start + 1) × (own_.end ≤ 2 ^ 36)
+FramesAre (aim.Slot slot) own_ = (own_.start ≡ slot.base) × (own_.end ≡ slot.base + slot.pages) × (own_.end ≤ 2 ^ 36)
+
+-- It searches the slots, before it opens its own invalidation, and holds no table.
+pub record Searches (t : Topics) : Type 0 where
   pub sweeping : IsSweeping false t
+  pub no_table : t.walk.level ≡ 0
+
+-- It has searched them for the target.
+pub record HasSearched (target : Target) (t : Topics) : Type 0 where
+  pub searches : Searches t
   pub set : HoldsSet t
-  pub searched : has_searched page t.search ≡ true
+  pub searched : has_searched target t.search ≡ true
 
--- The start of the range that it has stored is no higher than the page's frame, if a slot has it.
-abbrev pub starts_low : Invalidated → Invalidations → Bool
-starts_low own_ n = not (nat_lt own_.start own_.end) || nat_le n.start own_.start
+-- The start of the range that it has stored is no higher than the first of the frames from `first` up to `last`, if there are any.
+abbrev pub starts_low : ℕ → ℕ → Invalidations → Bool
+starts_low first last n = not (nat_lt first last) || nat_le n.start first
 
--- Its own invalidation is the page's, and it hasn't raised the sequence number for it yet, nor loaded a word of the invalidations since.
-pub record IsOfOwn (page : ℕ) (n : Invalidations) : Type 0 where
-  pub of_page : n.own.page ≡ page
+-- Its own invalidation is of the target's frames, which are few enough, and it hasn't raised the sequence number for it yet, nor loaded a word of the
+-- invalidations since.
+pub record IsOfOwn (target : Target) (n : Invalidations) : Type 0 where
+  pub of_page : n.own.page ≡ page_of_target target
+  pub few : FramesAre target n.own
   pub unraised : n.raised ≡ false
   pub unchecked : n.checked ≡ checked.Nothing
 
--- It sweeps the tables for the frame that the search has found.
-pub record Sweeps (page : ℕ) (t : Topics) : Type 0 where
+-- It sweeps the tables for these frames.
+pub record Sweeps (target : Target) (t : Topics) : Type 0 where
   pub sweeping : IsSweeping true t
-  pub of_own : IsOfOwn page t.invalidations
-  pub found : t.invalidations.own ≡ invalidated_by page t.search
+  pub of_own : IsOfOwn target t.invalidations
 
--- what it knows at each place of the begin
-abbrev pub BeginKnows : BeginPlace → Sizes → ℕ → Topics → Type 0
-BeginKnows begins.Exclude z page t = IsAtRest t × (t.invalidations.opened ≡ false)
-BeginKnows (begins.Find begun) z page t = IsSweeping false t × (begun ≡ true → HoldsSet t × (t.search.id ≤ 31) × (has_found page t.search ≡ false))
-BeginKnows begins.Count z page t = HasSearched page t
-BeginKnows begins.RangeStart z page t = HasSearched page t × (t.invalidations.checked ≡ checked.Count) × (0 < t.invalidations.count)
-BeginKnows begins.RangeEnd z page t = HasSearched page t × (t.invalidations.checked ≡ checked.Start) × (0 < t.invalidations.count)
-BeginKnows begins.SetStart z page t = HasSearched page t × (has_counted t.invalidations.checked t.invalidations.count ≡ true)
-BeginKnows begins.SetEnd z page t =
-    HasSearched page t × (has_widened t.invalidations.checked t.invalidations.count ≡ true) × (t.invalidations.own ≡ invalidated_by page t.search)
-    × (starts_low t.invalidations.own t.invalidations ≡ true)
-BeginKnows begins.SetCount z page t =
-    HasSearched page t × (t.invalidations.checked ≡ checked.Range) × (t.invalidations.own ≡ invalidated_by page t.search)
+-- The guest frame to which a sweep has come is the first of all, or the first of the entry that is next.
+abbrev pub begins_entry : Invalidated → TableWalk → Bool
+begins_entry own_ walk =
+    (swept_to own_.start walk == own_.start) || (swept_to own_.start walk % level_span (gone_up walk).level == 0)
+
+-- The sweep stands where the next entry is over the guest frame to which it has come, and has left out none.
+pub record SweepsOn (own_ : Invalidated) (walk : TableWalk) : Type 0 where
+  pub there : 1 ≤ walk.level
+  pub low : walk.level ≤ 4
+  pub from : own_.start ≤ swept_to own_.start walk
+  pub even : begins_entry own_ walk ≡ true
+  pub over : swept_to own_.start walk < own_.end → IsOver (swept_to own_.start walk) (gone_up walk)
+
+-- What it knows at each place of the begin.
+abbrev pub BeginKnows : BeginPlace → Sizes → Target → Topics → Type 0
+BeginKnows begins.Exclude z target t = IsFree t × (t.invalidations.opened ≡ false)
+BeginKnows (begins.Find begun) z target t = Searches t × (begun ≡ true → HoldsSet t × (t.search.id ≤ 31) × (has_searched target t.search ≡ false))
+BeginKnows begins.Count z target t = HasSearched target t
+BeginKnows begins.RangeStart z target t = HasSearched target t × (t.invalidations.checked ≡ checked.Count) × (0 < t.invalidations.count)
+BeginKnows begins.RangeEnd z target t = HasSearched target t × (t.invalidations.checked ≡ checked.Start) × (0 < t.invalidations.count)
+BeginKnows begins.SetStart z target t = HasSearched target t × (has_counted t.invalidations.checked t.invalidations.count ≡ true)
+BeginKnows begins.SetEnd z target t =
+    HasSearched target t × (has_widened t.invalidations.checked t.invalidations.count ≡ true) × (t.invalidations.own.page ≡ page_of_target target)
+    × (t.invalidations.own.start ≡ target_start target t.search)
+    × (starts_low (target_start target t.search) (target_end target t.search) t.invalidations ≡ true)
+BeginKnows begins.SetCount z target t =
+    HasSearched target t × (t.invalidations.checked ≡ checked.Range) × (t.invalidations.own ≡ invalidated_by target t.search)
     × (is_within_range t.invalidations.own t.invalidations ≡ true)
-BeginKnows (begins.Walk rooted) z page t =
-    Sweeps page t × (rooted ≡ true → (has_found page t.search ≡ true) × IsOver (gfn_behind page t.search.slot) t.walk)
-BeginKnows begins.Zap z page t = Sweeps page t × (has_found page t.search ≡ true) × SawLeaf (gfn_behind page t.search.slot) t
-BeginKnows begins.Ask z page t =
-    IsAloneWith true t × IsOfOwn page t.invalidations × (t.flush.asked < z.vcpus) × (t.flush.awaited ≡ 0) × (t.flush.asked ≡ 0 → IsSwept t)
-BeginKnows begins.Await z page t =
-    IsAloneWith true t × IsOfOwn page t.invalidations × (t.flush.asked ≡ z.vcpus) × (t.flush.awaited < z.vcpus)
-BeginKnows begins.Release z page t =
-    IsAloneWith true t × IsOfOwn page t.invalidations × (t.flush.asked ≡ z.vcpus) × (z.vcpus ≤ t.flush.awaited)
+BeginKnows (begins.Walk rooted) z target t =
+    Sweeps target t × (rooted ≡ true → SweepsOn t.invalidations.own t.walk × MaySweep (swept_to t.invalidations.own.start t.walk) t)
+BeginKnows begins.Zap z target t = Sweeps target t × MayZap (swept_to t.invalidations.own.start t.walk) t
+BeginKnows begins.Ask z target t =
+    IsAloneWith true t × IsOfOwn target t.invalidations × (t.flush.asked < z.vcpus) × (t.flush.awaited ≡ 0) × (t.flush.asked ≡ 0 → IsSwept t)
+BeginKnows begins.Await z target t =
+    IsAloneWith true t × IsOfOwn target t.invalidations × (t.flush.asked ≡ z.vcpus) × (t.flush.awaited < z.vcpus)
+BeginKnows begins.Release z target t =
+    IsAloneWith true t × IsOfOwn target t.invalidations × (t.flush.asked ≡ z.vcpus) × (z.vcpus ≤ t.flush.awaited)
 
--- Between begin and end: it is at rest, but for its open invalidation.
+-- Between begin and end: it holds nothing but its open invalidation and, perhaps, a page.
 pub record IsOpen (t : Topics) : Type 0 where
-  pub rests : IsAtRest t
+  pub rests : IsFree t
   pub opened : t.invalidations.opened ≡ true
   pub unraised : t.invalidations.raised ≡ false
 
@@ -100,3 +125,11 @@ EndKnows ends.SetSeq t = IsAloneWith true t × (t.invalidations.checked ≡ chec
 EndKnows ends.Count t = IsAloneWith true t × (t.invalidations.raised ≡ true)
 EndKnows ends.SetCount t = IsAloneWith true t × (t.invalidations.checked ≡ checked.Count) × (t.invalidations.raised ≡ true)
 EndKnows ends.Release t = IsAloneWith false t × (t.invalidations.checked ≡ checked.Nothing)
+
+-- The guest frames of this slot are of the actor's own invalidation, which is open: the flush of them was asked of each virtual processor, and awaited.
+pub record IsFlushedOut (vcpus : ℕ) (slot : Slot) (t : Topics) : Type 0 where
+  pub opened : t.invalidations.opened ≡ true
+  pub unraised : t.invalidations.raised ≡ false
+  pub asked : vcpus ≤ t.flush.asked
+  pub awaited : vcpus ≤ t.flush.awaited
+  pub within : (gfn : ℕ) → contains gfn slot ≡ true → IsIn t.invalidations.own gfn

@@ -1,5 +1,5 @@
 -- Which steps of the parts wait for another actor, by what their actor holds and what they answer; and what such a step has seen.
-use Rattle.std.specs.Prelude.{◌≡◌, ◌≢◌, ◌<◌, ℕ, Bool, true, false, ◌==◌, ◌&&◌, not, if◌then◌else◌, nat_lt}
+use Rattle.std.specs.Prelude.{◌≡◌, ◌≢◌, ◌<◌, ℕ, Bool, true, false, ◌==◌, ◌&&◌, not, nat_lt}
 use Rattle.core_views.specs.declared.hand.Seen.{Seen}
 use Rattle.core_views.specs.declared.topics.Checked.{Checked}
 use Rattle.core_views.specs.declared.topics.Checked.TheVariants.{Count}
@@ -11,6 +11,7 @@ use Rattle.core_views.specs.Held.{Held}
 use Rattle.spte_words.specs.declared.area.Area.TheVariants as area
 use Rattle.spte_words.specs.Areas.{place}
 use Rattle.spte_words.specs.Bits.{has_bit}
+pub use Rattle.part_steps.specs.PartHoldings.{own_open}
 use Rattle.part_steps.specs.declared.part_step.PartStep.{PartStep}
 use Rattle.part_steps.specs.declared.part_step.PartStep.TheVariants as part
 use Rattle.part_steps.specs.PageTopics.{is_won, tried_bit}
@@ -33,10 +34,6 @@ word_owed _ = 0
 abbrev pub was_counted : Checked → Bool
 was_counted Count = true
 was_counted _ = false
-
--- how many of its own are open
-abbrev pub own_open : Invalidations → ℕ
-own_open n = if n.opened then 1 else 0
 
 -- It saw that others are open.
 abbrev pub saw_open : Invalidations → Bool

@@ -1,24 +1,31 @@
 -- What a line that changes a slot knows at each of its places, from what its actor holds alone.
-use Rattle.std.specs.Prelude.{◌≡◌, ◌<◌, ℕ, Bool, Option, Some, true, false, None, is_some}
+use Rattle.std.specs.Prelude.{◌≡◌, ◌<◌, ◌≤◌, ◌+◌, ◌^◌, ℕ, Bool, Option, Some, true, false, None, is_some}
 use Rattle.core_views.specs.declared.answer.Refusal.{Refusal}
 use Rattle.core_views.specs.declared.answer.Refusal.TheVariants.{NoFrame}
+use Rattle.core_views.specs.declared.place.EndPlace.TheVariants as ends
 use Rattle.core_views.specs.declared.place.SlotChangePlace.{SlotChangePlace}
-use Rattle.core_views.specs.declared.place.SlotChangePlace.TheVariants.{Refuse, Claim, Fill, Role, Exclude, Count, Close, Publish, Release, Watch, Clear, Give}
+use Rattle.core_views.specs.declared.place.SlotChangePlace.TheVariants.{Refuse, Claim, Fill, Role, Begin, Exclude, Count, Close, Publish}
+use Rattle.core_views.specs.declared.place.SlotChangePlace.TheVariants.{Release, End, Watch, Clear, Give}
 use Rattle.core_views.specs.declared.topics.Hold.TheVariants.{Loose, Exclusive}
 use Rattle.core_views.specs.declared.topics.OwnedPage.{OwnedPage}
+use Rattle.core_views.specs.declared.topics.Topics.{Topics}
 use Rattle.core_views.specs.declared.sizes.Sizes.{Sizes}
 use Rattle.core_views.specs.declared.trace.Command.{Command}
+use Rattle.core_views.specs.declared.trace.Slot.{Slot}
 use Rattle.core_views.specs.Held.{Held}
-use Rattle.core_views.specs.SlotCommands.{change_refusal, slots_after}
+use Rattle.core_views.specs.SlotCommands.{change_refusal, slot_moved, slots_after}
 use Rattle.core_views.specs.SlotSets.{MemorySlots}
 use Rattle.core_views.specs.Sizes.{actors_of}
 use Rattle.spte_words.specs.Areas.{words_of_bits}
+use Rattle.part_steps.specs.InvalidationRange.{IsSmall}
 use Rattle.part_steps.specs.PartHoldings.{HasRoleToSet, HasToFill, MayGiveOld, MayPublish, OwnsSet}
 use Rattle.part_steps.specs.PartSteps.{IsAtRest}
 use Rattle.part_steps.specs.SetWords.{IsFilledWith}
 pub use Rattle.mmu_core.specs.lines.LockKnows.{HoldsLock}
 use Rattle.mmu_core.specs.lines.PartWaits.{saw_open}
-use Rattle.mmu_core.specs.lines.SlotChangeSteps.{looked_at}
+use Rattle.mmu_core.specs.lines.SlotChangeSteps.{looked_at, slot_or_none, slot_target}
+use Rattle.mmu_core.specs.lines.InvalidateKnows.{BeginKnows, EndKnows, IsFlushedOut}
+use Rattle.mmu_core.specs.lines.InvalidateSteps.{is_among_open}
 
 -- The page of the old slot set is retired, and no page is owned.
 pub record HasPublished (retired : Option ℕ) (owned : Option OwnedPage) : Type 0 where
@@ -30,21 +37,45 @@ abbrev pub is_of_frames : Refusal → Bool
 is_of_frames NoFrame = true
 is_of_frames _ = false
 
+-- A slot that is moved fits the machine: its guest frames lie below 2 ^ 36, and it has no more pages than the machine.
+pub record FitsMachine (z : Sizes) (slot : Slot) : Type 0 where
+  pub frames : slot.base + slot.pages ≤ 2 ^ 36
+  pub pages : slot.pages ≤ z.pages
+
+-- The slot that is moved, if one is, is flushed out where it was, by an invalidation of no host page; and else none is open.
+pub record HasMadeWay (z : Sizes) (moved : Option Slot) (t : Topics) : Type 0 where
+  pub opened : t.invalidations.opened ≡ is_some moved
+  pub of_no_page : t.invalidations.opened ≡ true → t.invalidations.own.page ≡ None
+  pub flushed : (slot : Slot) → moved ≡ Some slot → IsFlushedOut z.vcpus slot t
+
 -- what it knows at each place
-abbrev pub SlotChangeKnows : SlotChangePlace → Held → Type 0
-SlotChangeKnows (Refuse refusal) h = IsAtRest h.topics × (is_of_frames refusal ≡ false)
-SlotChangeKnows (Claim begun) h = IsAtRest h.topics × (begun ≡ true → h.topics.claim.at < words_of_bits h.state.sizes.pool)
-SlotChangeKnows Fill h = HoldsLock Loose h.topics × HasToFill h.topics
-SlotChangeKnows Role h = HoldsLock Loose h.topics × HasRoleToSet h.topics
-SlotChangeKnows Exclude h = HoldsLock Loose h.topics × OwnsSet h.topics
-SlotChangeKnows Count h = HoldsLock Exclusive h.topics × OwnsSet h.topics
-SlotChangeKnows Close h = HoldsLock Exclusive h.topics × OwnsSet h.topics × (saw_open h.topics.invalidations ≡ true)
-SlotChangeKnows Publish h = HoldsLock Exclusive h.topics × MayPublish h.topics
-SlotChangeKnows Release h =
-    HoldsLock Exclusive h.topics × HasPublished h.topics.retired h.topics.owned × (h.topics.watched ≡ 0) × (h.topics.invalidations.count ≡ 0)
-SlotChangeKnows Watch h = HoldsLock Loose h.topics × HasPublished h.topics.retired h.topics.owned × (looked_at h < actors_of h.state.sizes)
-SlotChangeKnows Clear h = HoldsLock Loose h.topics × MayGiveOld h
-SlotChangeKnows Give h = HoldsLock Loose h.topics × MayGiveOld h
+abbrev pub SlotChangeKnows : SlotChangePlace → Command → Held → Type 0
+SlotChangeKnows (Refuse refusal) command h = IsAtRest h.topics × (is_of_frames refusal ≡ false)
+SlotChangeKnows (Claim begun) command h = IsAtRest h.topics × (begun ≡ true → h.topics.claim.at < words_of_bits h.state.sizes.pool)
+SlotChangeKnows Fill command h = HoldsLock Loose h.topics × HasToFill h.topics
+SlotChangeKnows Role command h = HoldsLock Loose h.topics × HasRoleToSet h.topics
+SlotChangeKnows (Begin p) command h =
+    OwnsSet h.topics × BeginKnows p h.state.sizes (slot_target h command) h.topics × (is_some (slot_moved h.slots command) ≡ true)
+    × FitsMachine h.state.sizes (slot_or_none (slot_moved h.slots command))
+SlotChangeKnows Exclude command h = HoldsLock Loose h.topics × OwnsSet h.topics × HasMadeWay h.state.sizes (slot_moved h.slots command) h.topics
+SlotChangeKnows Count command h = HoldsLock Exclusive h.topics × OwnsSet h.topics × HasMadeWay h.state.sizes (slot_moved h.slots command) h.topics
+SlotChangeKnows Close command h =
+    HoldsLock Exclusive h.topics × OwnsSet h.topics × HasMadeWay h.state.sizes (slot_moved h.slots command) h.topics
+    × (saw_open h.topics.invalidations ≡ true)
+SlotChangeKnows Publish command h =
+    HoldsLock Exclusive h.topics × MayPublish h.topics × HasMadeWay h.state.sizes (slot_moved h.slots command) h.topics
+SlotChangeKnows Release command h =
+    HoldsLock Exclusive h.topics × HasPublished h.topics.retired h.topics.owned × (h.topics.watched ≡ 0) × (saw_open h.topics.invalidations ≡ false)
+    × (h.topics.invalidations.opened ≡ true → h.topics.invalidations.raised ≡ false)
+SlotChangeKnows (End p) command h = EndKnows p h.topics × HasPublished h.topics.retired h.topics.owned × (h.topics.watched ≡ 0)
+SlotChangeKnows Watch command h = HoldsLock Loose h.topics × HasPublished h.topics.retired h.topics.owned × (looked_at h < actors_of h.state.sizes)
+SlotChangeKnows Clear command h = HoldsLock Loose h.topics × MayGiveOld h
+SlotChangeKnows Give command h = HoldsLock Loose h.topics × MayGiveOld h
+
+-- What a step asks besides its needs: the slot that is invalidated lies below 2 ^ 36.
+abbrev pub SlotChangeRests : SlotChangePlace → Command → Held → Type 0
+SlotChangeRests (Begin p) command h = IsSmall (slot_target h command)
+SlotChangeRests _ command h = Unit {0}
 
 -- The manager's own record accepts the change whose set is published.
 abbrev pub RecordAccepts : SlotChangePlace → Sizes → Command → MemorySlots → Type 0
@@ -61,7 +92,31 @@ abbrev pub SlotChangeHolds : Sizes → (ℕ → ℕ) → SlotChangePlace → Com
 SlotChangeHolds z pool (Refuse refusal) command h = change_refusal z command h.slots ≡ Some refusal
 SlotChangeHolds z pool (Claim begun) command h = change_refusal z command h.slots ≡ None
 SlotChangeHolds z pool Release command h = Unit {0}
+SlotChangeHolds z pool (End p) command h = Unit {0}
 SlotChangeHolds z pool Watch command h = Unit {0}
 SlotChangeHolds z pool Clear command h = Unit {0}
 SlotChangeHolds z pool Give command h = Unit {0}
 SlotChangeHolds z pool _ command h = FillsSet z pool command h.slots h.topics.owned
+
+-- ---- what it has, beside what it knows
+
+-- A page is retired only after the publication, up to the end of the line.
+abbrev pub slot_change_retires : SlotChangePlace → Bool
+slot_change_retires Release = true
+slot_change_retires (End p) = true
+slot_change_retires Watch = true
+slot_change_retires Clear = true
+slot_change_retires Give = true
+slot_change_retires _ = false
+
+-- An invalidation of its own is open only from the store of one more to that of one less.
+abbrev pub slot_change_opens : SlotChangePlace → Bool
+slot_change_opens (Begin p) = is_among_open p
+slot_change_opens Exclude = true
+slot_change_opens Count = true
+slot_change_opens Close = true
+slot_change_opens Publish = true
+slot_change_opens Release = true
+slot_change_opens (End ends.Release) = false
+slot_change_opens (End p) = true
+slot_change_opens _ = false

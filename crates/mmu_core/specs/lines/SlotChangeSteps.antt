@@ -1,21 +1,23 @@
 -- The order of steps of each line that changes a slot (api.rst, KVM_SET_USER_MEMORY_REGION; kvm_main.c, `kvm_swap_active_memslots`): a refused
--- one makes one load of the sequence. Else a page is claimed and filled with the new slot set; under the lock alone, with no invalidation open, it
--- is published in place of the old one; and after a watch of all other actors the old page is given back.
-use Rattle.std.specs.Prelude.{ℕ, Bool, true, false, List, [], ◌∷◌, Option, Some, None, ◌==◌, nat_lt, if◌then◌else◌, ◌+◌, ◌-◌}
+-- one makes one load of the sequence. Else a page is claimed and filled with the new slot set; under the lock alone, with no invalidation of others open, it
+-- is published in place of the old one; and after a watch of all other actors the old page is given back. Where the slot was there, this stands within an
+-- invalidation of its guest frames, which begins before the publication and ends after it (kvm_invalidate_memslot).
+use Rattle.std.specs.Prelude.{ℕ, true, false, List, [], ◌∷◌, Option, Some, None, ◌==◌, nat_lt, if◌then◌else◌, is_some, ◌+◌}
 use Rattle.core_views.specs.declared.answer.Answer.TheVariants.{Done, Refused, Starved}
 use Rattle.core_views.specs.declared.answer.Refusal.{Refusal}
 use Rattle.core_views.specs.declared.event.EventKind.{EventKind}
 use Rattle.core_views.specs.declared.event.EventKind.TheVariants.{SlotChanged}
 use Rattle.core_views.specs.declared.place.SlotChangePlace.{SlotChangePlace}
-use Rattle.core_views.specs.declared.place.SlotChangePlace.TheVariants.{Refuse, Claim, Fill, Role, Exclude, Count, Close, Publish, Release, Watch, Clear, Give}
+use Rattle.core_views.specs.declared.place.SlotChangePlace.TheVariants.{Refuse, Claim, Fill, Role, Begin, Exclude, Count, Close, Publish}
+use Rattle.core_views.specs.declared.place.SlotChangePlace.TheVariants.{Release, End, Watch, Clear, Give}
+use Rattle.core_views.specs.declared.place.BeginPlace.TheVariants as begins
+use Rattle.core_views.specs.declared.place.EndPlace.TheVariants as ends
 use Rattle.core_views.specs.declared.place.Place.TheVariants.{SlotChange}
 use Rattle.core_views.specs.declared.trace.Command.{Command}
+use Rattle.core_views.specs.declared.trace.Slot.{Slot}
 use Rattle.core_views.specs.declared.slot_set.MemorySlot.{MemorySlot}
-use Rattle.core_views.specs.declared.sizes.Sizes.{Sizes}
-use Rattle.core_views.specs.declared.topics.Topics.{Topics}
 use Rattle.core_views.specs.Held.{Held}
-use Rattle.core_views.specs.Sizes.{actors_of}
-use Rattle.core_views.specs.SlotCommands.{slot_change, slots_after}
+use Rattle.core_views.specs.SlotCommands.{slot_change, slot_moved, slots_after}
 use Rattle.core_views.specs.SlotSets.{MemorySlots}
 use Rattle.mmu_core.specs.declared.outcome.Outcome.{Outcome}
 use Rattle.mmu_core.specs.declared.outcome.Outcome.TheVariants.{Goes, Ends}
@@ -23,9 +25,17 @@ use Rattle.part_steps.specs.declared.task.Task.{Task}
 use Rattle.part_steps.specs.declared.part_step.PartStep.{PartStep}
 use Rattle.part_steps.specs.declared.part_step.PartStep.TheVariants as part
 use Rattle.mmu_core.specs.lines.AccessSteps.{exiting}
+use Rattle.part_steps.specs.declared.invalidations.Target.{Target}
+use Rattle.part_steps.specs.declared.invalidations.Target.TheVariants as aim
+use Rattle.part_steps.specs.PartHoldings.{own_open}
 use Rattle.part_steps.specs.PartTasks.{own_index, part_task, words_filled}
+use Rattle.mmu_core.specs.declared.invalidate.BeginNext.{BeginNext}
+use Rattle.mmu_core.specs.declared.invalidate.BeginNext.TheVariants as begins_next
+use Rattle.mmu_core.specs.declared.invalidate.EndNext.{EndNext}
+use Rattle.mmu_core.specs.declared.invalidate.EndNext.TheVariants as ends_next
+use Rattle.mmu_core.specs.lines.InvalidateSteps.{begin_next, begin_part, end_next, end_part}
 use Rattle.part_steps.specs.SetWords.{set_role, set_word}
-use Rattle.mmu_core.specs.lines.ClaimSteps.{Pages, claim_left, claim_next, claim_outcome, claim_part, loads_last_word}
+use Rattle.mmu_core.specs.lines.ClaimSteps.{Pages, claim_next, claim_outcome, claim_part, loads_last_word}
 use Rattle.mmu_core.specs.declared.claim.ClaimNext.{ClaimNext}
 use Rattle.mmu_core.specs.declared.watch.WatchNext.{WatchNext}
 pub use Rattle.mmu_core.specs.lines.WatchSteps.{looked_at, watch_next}
@@ -36,17 +46,30 @@ abbrev pub slot_change_first : Option Refusal → SlotChangePlace
 slot_change_first (Some refusal) = Refuse refusal
 slot_change_first None = Claim false
 
+-- what a line that moves a slot invalidates: the slot, as it is; and none has no frames
+abbrev pub no_slot : Slot
+no_slot = record { base = 0; pages = 0; host = 0; read_only = false }
+
+abbrev pub slot_or_none : Option Slot → Slot
+slot_or_none None = no_slot
+slot_or_none (Some slot) = slot
+
+abbrev pub slot_target : Held → Command → Target
+slot_target h command = aim.Slot (slot_or_none (slot_moved h.slots command))
+
 -- the step of each place
 abbrev pub slot_change_part : SlotChangePlace → Held → Command → PartStep
 slot_change_part (Refuse refusal) h command = part.Seq
 slot_change_part (Claim begun) h command = claim_part Pages begun h.topics.claim
 slot_change_part Fill h command = part.Fill (set_word (slots_after command h.slots) (words_filled h.topics.owned))
 slot_change_part Role h command = part.Role set_role
+slot_change_part (Begin p) h command = begin_part p (slot_target h command) h.topics
 slot_change_part Exclude h command = part.Exclude
 slot_change_part Count h command = part.Count
 slot_change_part Close h command = part.Release
 slot_change_part Publish h command = part.Publish
 slot_change_part Release h command = part.Release
+slot_change_part (End p) h command = end_part p h.topics
 slot_change_part Watch h command = part.Watch (looked_at h)
 slot_change_part Clear h command = part.Clear
 slot_change_part Give h command = part.GiveOld
@@ -74,20 +97,35 @@ after_set_claim next = claim_outcome (SlotChange (Claim true)) (SlotChange Fill)
 abbrev pub after_watch : WatchNext → SlotChangePlace
 after_watch next = watch_place Watch Clear next
 
+-- After the new set is filled: a slot that is moved is invalidated first. After a step of the invalidation's begin, and of its end.
+abbrev pub after_role : Option Slot → SlotChangePlace
+after_role moved = if is_some moved then Begin begins.Exclude else Exclude
+
+abbrev pub after_set_begin : BeginNext → SlotChangePlace
+after_set_begin (begins_next.Goes p) = Begin p
+after_set_begin begins_next.Begun = Exclude
+
+abbrev pub after_set_end : EndNext → SlotChangePlace
+after_set_end (ends_next.Goes p) = End p
+after_set_end ends_next.Ended = Watch
+
 -- where the line stands after the step of its place, which found v
-abbrev pub slot_change_outcome : SlotChangePlace → Held → ℕ → Outcome
-slot_change_outcome (Refuse refusal) h v = Ends (Refused refusal)
-slot_change_outcome (Claim begun) h v = after_set_claim (claim_next Pages begun h.state.sizes h.topics.claim v)
-slot_change_outcome Fill h v = Goes (SlotChange (if nat_lt (words_filled h.topics.owned + 1) 512 then Fill else Role))
-slot_change_outcome Role h v = Goes (SlotChange Exclude)
-slot_change_outcome Exclude h v = Goes (SlotChange (if v == 0 then Count else Exclude))
-slot_change_outcome Count h v = Goes (SlotChange (if v == 0 then Publish else Close))
-slot_change_outcome Close h v = Goes (SlotChange Exclude)
-slot_change_outcome Publish h v = Goes (SlotChange Release)
-slot_change_outcome Release h v = Goes (SlotChange Watch)
-slot_change_outcome Watch h v = Goes (SlotChange (after_watch (watch_next h v)))
-slot_change_outcome Clear h v = Goes (SlotChange Give)
-slot_change_outcome Give h v = Ends Done
+abbrev pub slot_change_outcome : SlotChangePlace → Command → Held → ℕ → Outcome
+slot_change_outcome (Refuse refusal) command h v = Ends (Refused refusal)
+slot_change_outcome (Claim begun) command h v = after_set_claim (claim_next Pages begun h.state.sizes h.topics.claim v)
+slot_change_outcome Fill command h v = Goes (SlotChange (if nat_lt (words_filled h.topics.owned + 1) 512 then Fill else Role))
+slot_change_outcome Role command h v = Goes (SlotChange (after_role (slot_moved h.slots command)))
+slot_change_outcome (Begin p) command h v =
+    Goes (SlotChange (after_set_begin (begin_next p h.state.sizes (slot_target h command) h.topics v)))
+slot_change_outcome Exclude command h v = Goes (SlotChange (if v == 0 then Count else Exclude))
+slot_change_outcome Count command h v = Goes (SlotChange (if v == own_open h.topics.invalidations then Publish else Close))
+slot_change_outcome Close command h v = Goes (SlotChange Exclude)
+slot_change_outcome Publish command h v = Goes (SlotChange Release)
+slot_change_outcome Release command h v = Goes (SlotChange (if h.topics.invalidations.opened then End ends.Exclude else Watch))
+slot_change_outcome (End p) command h v = Goes (SlotChange (after_set_end (end_next p v)))
+slot_change_outcome Watch command h v = Goes (SlotChange (after_watch (watch_next h v)))
+slot_change_outcome Clear command h v = Goes (SlotChange Give)
+slot_change_outcome Give command h v = Ends Done
 
 -- the event of a change
 abbrev pub changed : Option (ℕ × Option MemorySlot) → List EventKind
@@ -96,30 +134,6 @@ changed (Some (id, slot)) = SlotChanged id slot ∷ []
 
 -- What a step tells besides that its line begins or is answered: the slot is changed where its set is published.
 abbrev pub slot_change_tells : SlotChangePlace → Held → Command → ℕ → List EventKind
-slot_change_tells (Claim begun) h command v = exiting (slot_change_outcome (Claim begun) h v)
+slot_change_tells (Claim begun) h command v = exiting (slot_change_outcome (Claim begun) command h v)
 slot_change_tells Publish h command v = changed (slot_change h.slots command)
 slot_change_tells _ h command v = []
-
--- A page is retired only after the publication, up to the end of the line.
-abbrev pub slot_change_retires : SlotChangePlace → Bool
-slot_change_retires Release = true
-slot_change_retires Watch = true
-slot_change_retires Clear = true
-slot_change_retires Give = true
-slot_change_retires _ = false
-
--- How many steps it has left: the words of the map, those of the new set's page and its role, the lock, the publication, each other actor, and the old
--- page. What follows a step that waits, as the one that gives the lock back with an invalidation open, isn't counted there.
-abbrev pub slot_change_left : SlotChangePlace → Sizes → Topics → ℕ
-slot_change_left (Refuse refusal) z t = 1
-slot_change_left (Claim begun) z t = 520 + actors_of z + claim_left Pages begun z t.claim
-slot_change_left Fill z t = 7 + actors_of z + (513 - words_filled t.owned)
-slot_change_left Role z t = 8 + actors_of z
-slot_change_left Close z t = 5 + actors_of z
-slot_change_left Exclude z t = 7 + actors_of z
-slot_change_left Count z t = 6 + actors_of z
-slot_change_left Publish z t = 5 + actors_of z
-slot_change_left Release z t = 4 + actors_of z
-slot_change_left Watch z t = 3 + (actors_of z - t.watched)
-slot_change_left Clear z t = 2
-slot_change_left Give z t = 1

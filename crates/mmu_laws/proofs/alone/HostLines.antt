@@ -26,6 +26,8 @@ use Rattle.spte_words.specs.declared.area.Area.{Area}
 use Rattle.spte_words.specs.declared.area.Area.TheVariants as area
 use Rattle.spte_words.specs.Bits.{has_bit}
 use Rattle.spte_words.specs.HostWords.{host_frame}
+use Rattle.part_steps.specs.declared.invalidations.Target.{Target}
+use Rattle.part_steps.specs.declared.invalidations.Target.TheVariants as aim
 use Rattle.part_steps.specs.declared.part_step.PartStep.{PartStep}
 use Rattle.part_steps.specs.declared.part_step.PartStep.TheVariants as part
 use Rattle.part_steps.specs.FrameTopics.{frame_after, frame_owned, word_copied, word_stored, words_moved}
@@ -108,10 +110,10 @@ is_of_frames (part.Store index) = true
 is_of_frames (part.Change new_) = true
 is_of_frames _ = false
 
-begin_leaves_frames : (p : BeginPlace) (page : ℕ) (t : Topics) → is_of_frames (begin_part p page t) ≡ false
-begin_leaves_frames (begins.Find begun) page t = either_place (λ s. is_of_frames s ≡ false) begun part.Slot part.Slots refl refl
-begin_leaves_frames (begins.Walk rooted) page t = either_place (λ s. is_of_frames s ≡ false) rooted (part.Walk _) part.Root refl refl
-begin_leaves_frames _ page t = refl
+begin_leaves_frames : (p : BeginPlace) (target : Target) (t : Topics) → is_of_frames (begin_part p target t) ≡ false
+begin_leaves_frames (begins.Find begun) target t = either_place (λ s. is_of_frames s ≡ false) begun part.Slot part.Slots refl refl
+begin_leaves_frames (begins.Walk rooted) target t = either_place (λ s. is_of_frames s ≡ false) rooted (part.Sweep _) part.Root refl refl
+begin_leaves_frames _ target t = refl
 
 module _ (command : Command) (words : Area → ℕ → ℕ) (a note : ℕ) (t : Topics) (v : ℕ) where
   abbrev after : PartStep → Area → ℕ → ℕ
@@ -199,9 +201,9 @@ module _ (z : Sizes) (w : World Held) (a : ℕ) (sound : IsSound z w) (there : a
   host_form (host.Begin p) page change K L =
       begun_form (ChangeHost page change) (left (host.Begin p) page change) h.topics
       (part_topics (step_of (host.Begin p) page change) h.topics (found (host.Begin p) page change)) (moves h.topics)
-      (begin_next p h.state.sizes page h.topics (found (host.Begin p) page change))
+      (begin_next p h.state.sizes (aim.Page page) h.topics (found (host.Begin p) page change))
       (still_lowest (ChangeHost page change) words (own_index h) (host_note (host.Begin p) page h) h.topics (found (host.Begin p) page change)
-      (begin_part p page h.topics) (begin_leaves_frames p page h.topics) L.form)
+      (begin_part p (aim.Page page) h.topics) (begin_leaves_frames p (aim.Page page) h.topics) L.form)
   host_form host.Copy page change K L =
       copied_lowest (words area.FrameMap) h.topics.frames.owned (found host.Copy page change) L.form
   host_form host.Store page change K L =

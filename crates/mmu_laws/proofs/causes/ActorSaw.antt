@@ -158,11 +158,11 @@ module _ (z : Sizes) (w : World Held) (ss : List (Step Kind)) (s : Step Kind) (G
       let none =
       seq_not_open (has_lock t.hold) t.invalidations.count t.invalidations.checked (nat_lt (own_open t.invalidations) t.invalidations.count) in
       absurd (cc (none, is))
-  counted_saw (part.SetStart gfn) M S is =
-      count_longer (part.SetStart gfn) M (λ e. cc e) (λ e. cc e) S
+  counted_saw (part.SetStart first gfn) M S is =
+      count_longer (part.SetStart first gfn) M (λ e. cc e) (λ e. cc e) S
       (start_counted t.invalidations.checked (nat_lt (own_open t.invalidations) t.invalidations.count) is)
-  counted_saw (part.SetEnd gfn) M S is =
-      count_longer (part.SetEnd gfn) M (λ e. cc e) (λ e. cc e) S
+  counted_saw (part.SetEnd last gfn) M S is =
+      count_longer (part.SetEnd last gfn) M (λ e. cc e) (λ e. cc e) S
       (end_counted t.invalidations.checked (nat_lt (own_open t.invalidations) t.invalidations.count) is)
   counted_saw (part.SetCount count) M S is = absurd (cc is)
   counted_saw (part.SetSeq seq) M S is = absurd (cc is)

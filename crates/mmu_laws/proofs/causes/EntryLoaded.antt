@@ -55,7 +55,7 @@ module _ (z : Sizes) (u : World Held) (s : Step Kind) (G : IsSound z u) (may : M
   pub kinds : (gfn : ℕ) (M : Made (part.Walk gfn))
       → (kind_of t.walk.level v ≡ entry_kind.Leaf → t.walk.level ≡ 1) × (kind_of t.walk.level v ≢ entry_kind.Frozen)
   kinds gfn M =
-      let from : 1 ≤ t.walk.level = M.needs.there in
+      let from : 1 ≤ t.walk.level = M.needs.0.there in
       let is : v ≡ word_in z u area.Pool (entry_at gfn) = ap (answered mmu u) M.is ∙ part_found z u a (part.Walk gfn) M.note G there M.needs in
       let most = G.holds.sizes.pool.1 in
       let at_page = (G.topics.held a there).table from in

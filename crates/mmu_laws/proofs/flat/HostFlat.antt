@@ -25,6 +25,7 @@ use Rattle.core_views.specs.Lawful.{HasWork, MayLeave, Tells}
 use Rattle.core_views.specs.Past.{Past}
 use Rattle.spte_words.specs.declared.area.Area.TheVariants as area
 use Rattle.spte_words.specs.HostWords.{host_frame}
+use Rattle.part_steps.specs.declared.invalidations.Target.TheVariants as aim
 use Rattle.part_steps.specs.declared.part_step.PartStep.{PartStep}
 use Rattle.part_steps.specs.declared.part_step.PartStep.TheVariants as part
 use Rattle.part_steps.specs.declared.task.Task.{Task}
@@ -209,9 +210,9 @@ module _ (z : Sizes) (v : View) (a : ℕ) (line : Line) (page : ℕ) (change : H
       claim_goes begun (claim_next Frames begun h.state.sizes h.topics.frames.claim x) K S I P M R
       (noted (Claim begun) M (claim_host h.state.sizes Frames begun h.topics x _ _ _ (claim_made h.state.sizes Frames begun h.topics x)) R.under.1)
   host_goes_on (Begin p) K S I P C M R =
-      let next : BeginNext = begin_next p h.state.sizes page h.topics (found (Begin p)) in
+      let next : BeginNext = begin_next p h.state.sizes (aim.Page page) h.topics (found (Begin p)) in
       host_tells_none z v a line page change facts past u (Begin p) (after_begin (moves h.topics) next) refl M P R
-      (R.under.0, begun_under (moves h.topics) next (after (Begin p)) (noted (Begin p) M (begin_leaves_host p page h.topics (found (Begin p))) R.under.1))
+      (R.under.0, begun_under (moves h.topics) next (after (Begin p)) (noted (Begin p) M (begin_leaves_host p (aim.Page page) h.topics (found (Begin p))) R.under.1))
   host_goes_on Copy K S I P C M R =
       host_tells_none z v a line page change facts past u Copy Store refl M P R (R.under.0, noted Copy M refl R.under.1)
   host_goes_on Store K S I P C M R =

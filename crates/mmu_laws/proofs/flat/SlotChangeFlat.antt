@@ -6,7 +6,10 @@ use Rattle.core_views.specs.declared.answer.Answer.TheVariants.{Refused, Starved
 use Rattle.core_views.specs.declared.answer.Refusal.{Refusal}
 use Rattle.core_views.specs.declared.place.Place.TheVariants as place
 use Rattle.core_views.specs.declared.place.SlotChangePlace.{SlotChangePlace}
-use Rattle.core_views.specs.declared.place.SlotChangePlace.TheVariants.{Refuse, Claim, Fill, Role, Exclude, Count, Close, Publish, Release, Watch, Clear, Give}
+use Rattle.core_views.specs.declared.place.SlotChangePlace.TheVariants.{Refuse, Claim, Fill, Role, Begin, Exclude, Count, Close, Publish}
+use Rattle.core_views.specs.declared.place.SlotChangePlace.TheVariants.{Release, End, Watch, Clear, Give}
+use Rattle.core_views.specs.declared.place.BeginPlace.TheVariants as begins
+use Rattle.core_views.specs.declared.place.EndPlace.TheVariants as ends
 use Rattle.core_views.specs.declared.sizes.Sizes.{Sizes}
 use Rattle.core_views.specs.declared.trace.Command.TheVariants.{Access, ChangeHost}
 use Rattle.core_views.specs.declared.trace.Line.{Line}
@@ -15,7 +18,7 @@ use Rattle.core_views.specs.Flat.{Facts, LineUnderWay, Notes}
 use Rattle.core_views.specs.Flat as stage
 use Rattle.core_views.specs.declared.slot_set.MemorySlot.{MemorySlot}
 use Rattle.core_views.specs.Lawful.{HasWork, MayLeave, Tells, answer_at_once, slot_change}
-use Rattle.core_views.specs.SlotCommands.{after_change, change_refusal, changes_slot, slot_change}
+use Rattle.core_views.specs.SlotCommands.{after_change, change_refusal, changes_slot, slot_change, slot_moved}
 use Rattle.core_views.specs.SlotSets.{MemorySlots}
 use Rattle.core_views.specs.Past.{Past}
 use Rattle.core_views.proofs.SlotChanges.{refused_by_slots}
@@ -34,7 +37,14 @@ use Rattle.mmu_core.proofs.machine.PartStepping.{IsPart}
 use Rattle.mmu_core.proofs.slots.SlotChangePlaces.{is_publication, change_never, change_quiet}
 use Rattle.mmu_core.proofs.machine.Stepping.{IsStep}
 use Rattle.part_steps.specs.declared.task.Task.{Task}
-use Rattle.mmu_core.specs.lines.SlotChangeSteps.{after_set_claim, changed, slot_change_note, slot_change_part, slot_change_task, watch_next}
+use Rattle.part_steps.specs.PartHoldings.{own_open}
+use Rattle.mmu_core.specs.declared.invalidate.BeginNext.{BeginNext}
+use Rattle.mmu_core.specs.declared.invalidate.BeginNext.TheVariants as begins_next
+use Rattle.mmu_core.specs.declared.invalidate.EndNext.{EndNext}
+use Rattle.mmu_core.specs.declared.invalidate.EndNext.TheVariants as ends_next
+use Rattle.mmu_core.specs.lines.InvalidateSteps.{begin_next, end_next}
+use Rattle.mmu_core.specs.lines.SlotChangeSteps.{after_set_begin, after_set_claim, after_set_end, changed, slot_change_note, slot_change_part, slot_change_task}
+use Rattle.mmu_core.specs.lines.SlotChangeSteps.{slot_target, watch_next}
 use Rattle.mmu_core.specs.machine.View.{View, answer_in}
 use Rattle.mmu_core.proofs.lines.EitherPlace.{each_watch, either_place}
 use Rattle.mmu_laws.specs.flat.FlatInvariant.{SlotChangeUnder}
@@ -122,6 +132,15 @@ module _ (z : Sizes) (v : View) (a : ℕ) (line : Line) (command : Command) (fac
       })
       R.under.0
 
+  -- A step of the invalidation's begin, or of its end, leaves what the line has done.
+  begun_under : (next : BeginNext) → Under Exclude → Under (after_set_begin next)
+  begun_under (begins_next.Goes p) U = U
+  begun_under begins_next.Begun U = U
+
+  ended_under : (next : EndNext) → Under Watch → Under (after_set_end next)
+  ended_under (ends_next.Goes p) U = U
+  ended_under ends_next.Ended U = U
+
   pub slot_change_goes : (p : SlotChangePlace) → changes_slot command ≡ true → IsStep z v a line command (place.SlotChange p) → Invariant z v
       → TopicsInvariant z v → MakesAt p → ReadyAt p → GoesAt p
   slot_change_goes (Refuse refusal) changes S I P M R =
@@ -133,10 +152,20 @@ module _ (z : Sizes) (v : View) (a : ℕ) (line : Line) (command : Command) (fac
       (ap changes_slot (ap (λ (l : Line). l.command) R.under.0 ∙ S.command_is) ∙ changes) (at_once (Claim begun) None changes S I R S.holds) M P R
   slot_change_goes Fill changes S I P M R =
       quiet Fill _ refl M P R (either_place Under (nat_lt (words_filled (v.hand a).topics.owned + 1) 512) Fill Role R.under R.under)
+  slot_change_goes Role changes S I P M R =
+      quiet Role _ refl M P R (either_place Under (is_some (slot_moved (v.hand a).slots command)) (Begin begins.Exclude) Exclude R.under R.under)
+  slot_change_goes (Begin p) changes S I P M R =
+      quiet (Begin p) _ refl M P R
+      (begun_under (begin_next p (v.hand a).state.sizes (slot_target (v.hand a) command) (v.hand a).topics (answer_in (task (Begin p)) v.words)) R.under)
+  slot_change_goes Release changes S I P M R =
+      quiet Release _ refl M P R (either_place Under (v.hand a).topics.invalidations.opened (End ends.Exclude) Watch R.under R.under)
+  slot_change_goes (End p) changes S I P M R =
+      quiet (End p) _ refl M P R (ended_under (end_next p (answer_in (task (End p)) v.words)) R.under)
   slot_change_goes Exclude changes S I P M R =
       quiet Exclude _ refl M P R (either_place Under (answer_in (task Exclude) v.words == 0) Count Exclude R.under R.under)
   slot_change_goes Count changes S I P M R =
-      quiet Count _ refl M P R (either_place Under (answer_in (task Count) v.words == 0) Publish Close R.under R.under)
+      quiet Count _ refl M P R
+      (either_place Under (answer_in (task Count) v.words == own_open (v.hand a).topics.invalidations) Publish Close R.under R.under)
   slot_change_goes Publish changes S I P M R = publish_goes changes S I R
   slot_change_goes Watch changes S I P M R =
       quiet Watch _ refl M P R (each_watch Under (watch_next (v.hand a) (answer_in (task Watch) v.words)) Watch Clear R.under R.under)

@@ -21,7 +21,7 @@ use Rattle.mmu_core.specs.invariant.TreePart.{EntryPart, Position, HangsBelow, T
 use Rattle.mmu_core.specs.machine.View.{word_in}
 use Rattle.mmu_core.proofs.pages.Standing.{one_position}
 use Rattle.mmu_core.proofs.pages.TreePlaces.{IsLinked, all_reached, link_stands, linked, root_stands}
-use Rattle.mmu_core.proofs.pages.ZappedKept.{span_up}
+use Rattle.mmu_core.proofs.pages.NoneBelow.{span_up}
 
 pub same_page : {k l : ℕ} → Some k ≡ Some l → k ≡ l
 same_page e = cc e

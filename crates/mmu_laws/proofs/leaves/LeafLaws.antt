@@ -39,7 +39,7 @@ use Rattle.mmu_core.specs.invariant.AllOver.{AllOver, LeafSays, LeavesSay}
 use Rattle.mmu_core.proofs.pages.AllOver.{reaches_on}
 use Rattle.mmu_core.proofs.pages.LeavesOver.{leaf_for}
 use Rattle.mmu_core.proofs.pages.TreePlaces.{root_stands}
-use Rattle.mmu_core.proofs.pages.ZappedKept.{span_up}
+use Rattle.mmu_core.proofs.pages.NoneBelow.{span_up}
 use Rattle.mmu_laws.proofs.leaves.LeadsDown.{below_stands, leads_down}
 use Rattle.mmu_laws.proofs.flat.PageFound.{frame_small, page_in_machine}
 use Rattle.mmu_core.proofs.words.SlotLists.{only_one_holds}

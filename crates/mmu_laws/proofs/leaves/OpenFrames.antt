@@ -1,7 +1,6 @@
 -- What an open invalidation makes sure of its guest frames, from the invariant.
 use Rattle.std.proofs.Common.{◌≡◌, ◌+◌, ◌*◌, ◌/◌, ◌^◌, ◌<◌, ◌≤◌, ℕ, sym, subst, ap, ◌∙◌, arith}
-use Rattle.std.specs.Prelude.{true}
-use Rattle.std.proofs.lemmas.Bool.Decides.{nat_tests}
+use Rattle.std.specs.Prelude.{Some, true}
 use Rattle.core_views.specs.declared.sizes.Sizes.{Sizes}
 use Rattle.core_views.specs.Held.{Held}
 use Rattle.core_views.specs.Sizes.{actors_of}
@@ -11,9 +10,8 @@ use Rattle.spte_words.specs.Areas.{pool_index}
 use Rattle.spte_words.specs.Entries.{kind_of, level_span}
 use Rattle.part_steps.specs.PartTasks.{entry_index}
 use Rattle.mmu_core.specs.alone.FaultAlone.{LeadsTo}
-use Rattle.mmu_core.specs.invariant.InvalidatedPart.{SlotGives, IsClean, IsIn, IsNoLeafIn, IsOfPage, may_use}
+use Rattle.mmu_core.specs.invariant.InvalidatedPart.{IsClean, IsIn, IsNoLeafIn, IsOfPage, may_use}
 use Rattle.mmu_core.specs.invariant.Laws.{IsSound}
-use Rattle.mmu_core.specs.invariant.SlotSetPart.{SlotSetPart}
 use Rattle.mmu_core.specs.invariant.TreePart.{Position, at}
 use Rattle.mmu_core.specs.machine.Enabled.{mmu}
 use Rattle.mmu_core.specs.machine.Machine.{World, hand_in}
@@ -27,25 +25,15 @@ pub open_frames_are_recorded : (z : Sizes) (w : World Held) (actor gfn : ℕ) �
     → (word_in z w area.RangeStart 0 ≤ gfn) × (gfn < word_in z w area.RangeEnd 0)
 open_frames_are_recorded z w actor gfn sound lt opened is_in = sound.topics.ranges actor gfn lt opened is_in
 
-pub open_frames_are_of_the_page : (z : Sizes) (w : World Held) (actor : ℕ) → IsSound z w → actor < actors_of z → HasOpen w actor
-    → IsOfPage (word_in z w area.Pool) (word_in z w area.Slots 0) (own_of w actor)
-open_frames_are_of_the_page z w actor sound lt opened = sound.topics.scopes actor lt opened
+pub open_frames_are_of_the_page : (z : Sizes) (w : World Held) (actor page : ℕ) → IsSound z w → actor < actors_of z → HasOpen w actor
+    → (own_of w actor).page ≡ Some page → IsOfPage (word_in z w area.Pool) (word_in z w area.Slots 0) page (own_of w actor)
+open_frames_are_of_the_page z w actor page sound lt opened of_page = sound.topics.scopes actor page lt opened of_page
 
--- A guest frame that a published slot gives to a host page lies below 2 ^ 36.
-given_small : (z : Sizes) (set page gfn : ℕ) (role pool : ℕ → ℕ) → SlotSetPart z set role pool → SlotGives pool set page gfn → gfn < 2 ^ 36
-given_small z set page gfn role pool P G =
-    let fits = subst (λ slot. slot.base + slot.pages ≤ 2 ^ 36) G.live.is (P.slots.fits G.id G.live.low G.live.live).frames in
-    let has = G.has in
-    let is = G.is in
-    grind (arith, nat_tests)
-
-pub open_frames_are_zapped : (z : Sizes) (w : World Held) (actor gfn entry : ℕ) → IsSound z w → actor < actors_of z → HasOpen w actor
+pub open_frames_are_zapped : (z : Sizes) (w : World Held) (actor gfn entry : ℕ) → gfn < 2 ^ 36 → IsSound z w → actor < actors_of z → HasOpen w actor
     → 1 ≤ (flush_of w actor).asked → IsIn (own_of w actor) gfn → LeadsTo (word_in z w area.Pool) 4 (word_in z w area.Root 0) gfn entry
     → kind_of 1 entry ≡ entry_kind.Leaf → ⊥
-open_frames_are_zapped z w actor gfn entry sound lt opened asked is_in leads leaf =
+open_frames_are_zapped z w actor gfn entry small sound lt opened asked is_in leads leaf =
     let I = sound.topics in
-    let small = given_small z (word_in z w area.Slots 0) (own_of w actor).page gfn (word_in z w area.Role) (word_in z w area.Pool) sound.holds.set_part
-    ((I.scopes actor lt opened).only gfn is_in) in
     let low = from_root I.tree (let most = sound.holds.sizes.pool.1 in omega (arith, most)) gfn entry small leads in
     let here : I.spot low.0 ≡ at 1 (gfn / level_span 1 / 512) = (spot_of I.up I.spot low.0 _ low.1).1 in
     subst (λ (p : Position). IsNoLeafIn (own_of w actor) p.level gfn (word_in z w area.Pool (pool_index low.0 (entry_index gfn 1)))) here

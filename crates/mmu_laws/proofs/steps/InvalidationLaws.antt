@@ -91,8 +91,8 @@ named_set k is = ap (λ (x : StepKind). kind_named (code_of x)) is
 
 -- A step of a part that needs no line sets nothing.
 never_sets : (step : PartStep) (own_ : ℕ) (t : Topics) (note : ℕ) → needs_line step ≡ false → (part_task step own_ t note).kind ≡ kind.Set → ⊥
-never_sets (part.SetStart gfn) own_ t note free is = cc free
-never_sets (part.SetEnd gfn) own_ t note free is = cc free
+never_sets (part.SetStart first gfn) own_ t note free is = cc free
+never_sets (part.SetEnd last gfn) own_ t note free is = cc free
 never_sets (part.SetCount count) own_ t note free is = cc free
 never_sets (part.SetSeq seq) own_ t note free is = cc free
 never_sets _ own_ t note free is = cc is

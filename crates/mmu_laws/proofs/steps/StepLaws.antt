@@ -49,8 +49,8 @@ pub tells_part : (step : PartStep) (own : ℕ) (t : Topics) (note : ℕ) → Tel
 tells_part (part.Fill value) own t note = record { on = inl refl; note_is = refl }
 tells_part (part.Role value) own t note = record { on = inr (inl refl); note_is = refl }
 tells_part (part.Store index) own t note = record { on = inr (inr refl); note_is = refl }
-tells_part (part.SetStart gfn) own t note = record { on = tt; note_is = refl }
-tells_part (part.SetEnd gfn) own t note = record { on = tt; note_is = refl }
+tells_part (part.SetStart first gfn) own t note = record { on = tt; note_is = refl }
+tells_part (part.SetEnd last gfn) own t note = record { on = tt; note_is = refl }
 tells_part (part.SetCount count) own t note = record { on = tt; note_is = refl }
 tells_part (part.SetSeq seq) own t note = record { on = tt; note_is = refl }
 tells_part part.Pause own t note = record { on = tt; note_is = refl }

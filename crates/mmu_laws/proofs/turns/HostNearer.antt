@@ -1,5 +1,6 @@
 -- Each step of a line that changes a host page, and doesn't wait, leaves it fewer steps, beside other actors too: since the page is its actor's own, its
 -- exchange of the host word is won, but where an access has brought the page in, which it saw absent; the next one is won then.
+use Rattle.part_steps.specs.declared.invalidations.Target.TheVariants as aim
 use Rattle.part_steps.specs.declared.part_step.PartStep.TheVariants as part
 use Rattle.spte_words.specs.declared.area.Area.TheVariants as area
 use Rattle.core_views.specs.declared.place.BeginPlace.TheVariants as begins
@@ -57,7 +58,7 @@ use Rattle.mmu_core.specs.lines.ClaimSteps.{claim_left, claim_next}
 use Rattle.mmu_core.specs.lines.HostSteps.{word_put, host_part, after_end, host_outcome, after_begin, host_left, copies_left, frees_left, moves}
 use Rattle.mmu_core.specs.lines.WatchSteps.{looked_at, watch_next}
 use Rattle.mmu_core.proofs.lines.ClaimMade.{claim_falls, claim_made, word_there}
-use Rattle.mmu_core.proofs.lines.HostKnown.{begin_leaves_frames, end_leaves_frames}
+use Rattle.mmu_core.proofs.lines.InvalidatePlaces.{begin_leaves_pages, end_leaves_pages}
 use Rattle.mmu_core.proofs.lines.WatchMade.{watch_falls, watch_made}
 use Rattle.mmu_laws.proofs.turns.BeginNearer.{begin_falls, begin_left_after}
 use Rattle.mmu_laws.proofs.turns.Nearer.{Nearer, claim_nearer, watch_nearer}
@@ -93,7 +94,7 @@ pub finds_at : (p : Place) (c : Command) (h : Held) (words : Area → ℕ → �
 finds_at p c h words R looks = finds_by (part_at p c h) (note_at p c h) (touch_at c h) h words (λ step is. step_needs p c h step R is) looks
 
 -- the most steps that are left of the end of its invalidation
-abbrev end_left_after : EndNext → ℕ
+abbrev pub end_left_after : EndNext → ℕ
 end_left_after (ends_next.Goes p) = end_left p
 end_left_after ends_next.Ended = 0
 
@@ -135,7 +136,7 @@ change_nearer false z t v new_ is (inr brought) =
 
 -- A line that moves a page has the copy left, and to give the old frame back; it has no more than that.
 begin_most : (b : Bool) (z : Sizes)
-    → 2 * z.vcpus + 143 + 8 + (if b then copies_left z None else 0) + frees_left b z ≤ 2 * z.vcpus + 151 + copies_left z None + frees_left true z
+    → 2 * z.vcpus + 138 + 5 * 1 + 8 + (if b then copies_left z None else 0) + frees_left b z ≤ 2 * z.vcpus + 151 + copies_left z None + frees_left true z
 begin_most true z = omega arith
 begin_most false z = omega arith
 
@@ -173,14 +174,14 @@ store_nearer false z t owns left =
 
 -- ---- the invalidation
 
-begin_nearer : (moving : Bool) (next : BeginNext) (z : Sizes) (u : Topics) (n : ℕ) → moves u ≡ moving → begin_left_after next z u < n
+begin_nearer : (moving : Bool) (next : BeginNext) (z : Sizes) (u : Topics) (n : ℕ) → moves u ≡ moving → begin_left_after next z 1 u < n
     → Nearer (Goes (place.Host (after_begin moving next))) z u (n + 8 + (if moving then copies_left z None else 0) + frees_left moving z)
 begin_nearer true (begins_next.Goes p) z u n is less = rw is (omega (arith, less))
 begin_nearer false (begins_next.Goes p) z u n is less = rw is (omega (arith, less))
 begin_nearer true begins_next.Begun z u n is less = omega (arith, less)
 begin_nearer false begins_next.Begun z u n is less = let few = few_tries (host_present (word_looked u.host)) in rw is (omega (arith, less, few))
 
-end_less : (p : EndPlace) (t : Topics) (v : ℕ) → part_waits (end_part p t) t v ≡ false → end_left_after (end_next p v) < end_left p
+pub end_less : (p : EndPlace) (t : Topics) (v : ℕ) → part_waits (end_part p t) t v ≡ false → end_left_after (end_next p v) < end_left p
 end_less ends.Exclude t v goes =
     one_place (λ q. end_left q < 6) (v == 0) ends.Seq ends.Exclude (λ e. omega arith) (λ e. absurd (cc (goes, ap not e)))
 end_less ends.Seq t v goes = omega arith
@@ -211,16 +212,16 @@ host_nearer (Claim begun) page change h v R K finds goes =
     claim_nearer Frames (claim_next Frames begun z h.topics.frames.claim v) (place.Host (Claim true)) (place.Host (Begin begins.Exclude)) (Refused NoFrame) z u
     (2 * z.vcpus + 151 + copies_left z None + frees_left true z) (claim_left Frames begun z h.topics.frames.claim) less refl (begin_most (moves u) z)
 host_nearer (Begin p) page change h v R K finds goes =
-    let same = ap (λ (f : HeldFrames). is_some f.owned) (begin_leaves_frames p page h.topics v) in
-    begin_nearer (moves h.topics) (begin_next p h.state.sizes page h.topics v) h.state.sizes _ (begin_left p h.state.sizes h.topics) same
-    (begin_falls p h.state.sizes page h.topics v K.1 goes)
+    let same = ap (λ (f : HeldFrames). is_some f.owned) (begin_leaves_pages p (aim.Page page) h.topics v).frames in
+    begin_nearer (moves h.topics) (begin_next p h.state.sizes (aim.Page page) h.topics v) h.state.sizes _ (begin_left p h.state.sizes 1 h.topics) same
+    (begin_falls p h.state.sizes 1 (aim.Page page) h.topics v (omega arith) R.level K.1 goes)
 host_nearer Copy page change h v R K finds goes = let moved = copied_moved h.topics.frames.owned v in omega (arith, moved)
 host_nearer Store page change h v R K finds goes =
     store_nearer (nat_lt (words_moved h.topics.frames.owned + 1) h.state.sizes.words) h.state.sizes h.topics K.2.owns K.2.left
 host_nearer Change page change h v R K finds goes =
     change_nearer (v == word_looked h.topics.host) h.state.sizes h.topics v (word_put change h.topics) refl finds
 host_nearer (End p) page change h v R K finds goes =
-    let same = ap (λ (f : HeldFrames). is_some f.owned) (end_leaves_frames p h.topics v) in
+    let same = ap (λ (f : HeldFrames). is_some f.owned) (end_leaves_pages p h.topics v).frames in
     end_nearer (moves h.topics) (end_next p v) h.state.sizes _ (end_left p) same (end_less p h.topics v goes)
 host_nearer Watch page change h v R K finds goes =
     let less = watch_falls (own_index h) (actors_of h.state.sizes) h.topics v _ _ (watch_made h v) goes K.3 in

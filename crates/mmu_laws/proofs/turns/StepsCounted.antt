@@ -15,7 +15,7 @@ use Rattle.spte_words.specs.declared.area.Area.TheVariants as area
 use Rattle.mmu_core.specs.declared.outcome.Outcome.{Outcome}
 use Rattle.mmu_core.specs.declared.outcome.Outcome.TheVariants.{Goes, Ends}
 use Rattle.mmu_core.specs.lines.Bounds.{most_steps}
-use Rattle.mmu_core.specs.lines.Forms.{steps_left, outcome_at}
+use Rattle.mmu_core.specs.lines.Forms.{KnowsPart, steps_left, outcome_at}
 use Rattle.mmu_core.specs.lines.Delays.{counted, delays_counted, one_more, steps_counted}
 use Rattle.mmu_core.specs.machine.Enabled.{mmu}
 use Rattle.mmu_core.specs.invariant.Invariant.{Holds, UnderWay}
@@ -86,7 +86,7 @@ fits_by g q y command n stands sizes is steps fits =
 goes_one_more : (n : ℕ) (y : Sizes) (command : Command) → AreSizes y → n < most_steps y command → one_more n ≡ n + 1
 goes_one_more n y command S few =
     let most = most_small y command in
-    let small : nat_lt n (2 ^ 64 - 1) ≡ true = let low : n < 2 ^ 64 - 1 = omega (arith, few, most, S.pool.1, S.frames.1) in grind (arith, nat_tests) in
+    let small : nat_lt n (2 ^ 64 - 1) ≡ true = let low : n < 2 ^ 64 - 1 = omega (arith, few, most, S.pool.1, S.frames.1, S.pages.1) in grind (arith, nat_tests) in
     ap (λ b. if b then n + 1 else n) small
 
 counts_by : (delay : Bool) (h g : Held) (left : ℕ) → AreSizes h.state.sizes
@@ -145,10 +145,11 @@ module _ (z : Sizes) (w : World Held) (s : Step Kind) (G : IsSound z w) (may : M
         let u : View = view z (effect mmu w s) in
         let here : u.hand a ≡ after = hand_behind z w s G may T.has in
         let level : after.topics.walk.level ≤ 4 = subst (λ (g : Held). g.topics.walk.level ≤ 4) here (part_rests_at z u a next.holds next.topics there).level in
-        place_few (place_after (outcome_at stood line.command h x)) line.command z h.state.sizes (u.words area.Pool)
-        (u.words area.Slots 0) after after.topics
-        (subst (λ (g : Held). Holds z (u.words area.Pool) (u.words area.Slots 0) g.state.place g.state.line.command g) here
-        (next.holds.loads a there)) R.sizes level
+        let sizes : after.state.sizes ≡ h.state.sizes = same_sizes z w s G may T.has in
+        subst (λ (y : Sizes). steps_left (place_after (outcome_at stood line.command h x)) y after.topics ≤ most_steps y line.command) sizes
+        (place_few (place_after (outcome_at stood line.command h x)) line.command z (u.words area.Pool) (u.words area.Slots 0) after
+        (subst (λ (g : Held). Holds z (u.words area.Pool) (u.words area.Slots 0) g.state.place g.state.line.command g) here (next.holds.loads a there))
+        (subst (λ (g : Held). KnowsPart g.state.place g.state.line.command g) here (next.holds.knows a there)) (subst AreSizes (sym sizes) R.sizes) level)
 
     own_fits : CountFits after
     own_fits =

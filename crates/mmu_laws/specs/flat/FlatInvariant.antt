@@ -12,7 +12,7 @@ use Rattle.core_views.specs.declared.place.Leaving.TheVariants as leaving
 use Rattle.core_views.specs.declared.place.Place.{Place}
 use Rattle.core_views.specs.declared.place.Place.TheVariants as place
 use Rattle.core_views.specs.declared.place.SlotChangePlace.{SlotChangePlace}
-use Rattle.core_views.specs.declared.place.SlotChangePlace.TheVariants.{Release, Watch, Clear, Give}
+use Rattle.core_views.specs.declared.place.SlotChangePlace.TheVariants.{Release, End, Watch, Clear, Give}
 use Rattle.core_views.specs.declared.sizes.Sizes.{Sizes}
 use Rattle.core_views.specs.declared.topics.HostLook.{HostLook}
 use Rattle.core_views.specs.declared.topics.SlotSearch.{SlotSearch}
@@ -103,6 +103,7 @@ AccessUnder pool _ gfn op t u = Runs u
 -- A slot line has done nothing yet, up to its publication; after it, it has changed its slot.
 abbrev pub SlotChangeUnder : SlotChangePlace → LineUnderWay → Type 0
 SlotChangeUnder Release u = u.stage ≡ HasChanged
+SlotChangeUnder (End p) u = u.stage ≡ HasChanged
 SlotChangeUnder Watch u = u.stage ≡ HasChanged
 SlotChangeUnder Clear u = u.stage ≡ HasChanged
 SlotChangeUnder Give u = u.stage ≡ HasChanged

@@ -80,7 +80,7 @@ pub record ChangesOwnPage (z : Sizes) (w : World Held) (s : Step Kind) : Type 0 
   pub own_ : is_own z (hand_in mmu w s.actor).state.actor page ≡ true
   pub opened : (held_by w s).invalidations.opened ≡ true
   pub unraised : (held_by w s).invalidations.raised ≡ false
-  pub invalid : (held_by w s).invalidations.own.page ≡ page
+  pub invalid : (held_by w s).invalidations.own.page ≡ Some page
   pub asked : z.vcpus ≤ (held_by w s).flush.asked
   pub awaited : z.vcpus ≤ (held_by w s).flush.awaited
 

@@ -1,5 +1,5 @@
 use Rattle.step_seats.proofs.Where.{telling, where_made}
-use Rattle.tdp_walk.proofs.Zapping.{zapped_word}
+use Rattle.tdp_walk.proofs.Sweeping.{zapped_word}
 use Rattle.tdp_walk.proofs.sweep.zap.Goals as goal
 
 pub returns-clause-told : goal.returns-clause-told

@@ -1,4 +1,4 @@
--- The entry that a zap leaves absent.
+-- The entry that a sweep loads, and that a zap leaves absent.
 use Rattle.std.proofs.Common.{ℕ, sym, ◌∙◌}
 use Rattle.core_views.specs.Held.{Held}
 use Rattle.spte_words.specs.declared.area.Area.TheVariants as area
@@ -12,7 +12,7 @@ use Rattle.step_seats.specs.PartTurns.{MadePart}
 use Rattle.step_seats.specs.Seats.{Seat}
 use Rattle.step_seats.proofs.ToldWords.{StepsTo, told_both}
 use Rattle.step_seats.proofs.Where.{ToldBoth}
-use Rattle.tdp_walk.specs.Zaps.{ZapsEntry, entry_at}
+use Rattle.tdp_walk.specs.Sweeps.{LoadsEntry, ZapsEntry, entry_at}
 
 pub zapped_word : (gfn note found : ℕ) (before after : Seat) → PartNeeds (part.Zap gfn) before.hand → MadePart (part.Zap gfn) note found before after
     → ToldBoth before.tells.world after.tells.world (ZapsEntry gfn found before.hand)
@@ -30,3 +30,9 @@ zapped_word gfn note found before after needs made =
           absent = S.leaves area.Pool at ∙ upd_same words at 0;
           others = λ i apart. S.leaves area.Pool i ∙ upd_other words at i 0 apart;
         }
+
+pub swept_word : (gfn note found : ℕ) (before after : Seat) → PartNeeds (part.Sweep gfn) before.hand → MadePart (part.Sweep gfn) note found before after
+    → ToldBoth before.tells.world after.tells.world (λ w u. LoadsEntry gfn found before.hand w)
+swept_word gfn note found before after needs made =
+    told_both before.tells.world after.tells.world before.actor note found (part.Sweep gfn) before.hand (λ w u. LoadsEntry gfn found before.hand w) needs
+    made.has made.world (λ w u S. sym S.finds)

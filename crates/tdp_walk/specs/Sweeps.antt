@@ -1,4 +1,5 @@
--- A zap of the leaf that a walk has come to (tdp_mmu.c, kvm_tdp_mmu_unmap_gfn_range and tdp_mmu_zap_leafs).
+-- A sweep over the tables for the guest frames of an invalidation, and the zap of a leaf that it has come to (tdp_iter.c; tdp_mmu.c,
+-- kvm_tdp_mmu_unmap_gfn_range and tdp_mmu_zap_leafs).
 use Rattle.std.specs.Prelude.{◌≡◌, ◌≢◌, ℕ}
 use Rattle.core_views.specs.declared.topics.Topics.{Topics}
 use Rattle.core_views.specs.Held.{Held}
@@ -6,10 +7,30 @@ use Rattle.spte_words.specs.declared.area.Area.TheVariants as area
 use Rattle.spte_words.specs.Areas.{pool_index}
 use Rattle.part_steps.specs.declared.part_step.PartStep.TheVariants as part
 use Rattle.part_steps.specs.PartTasks.{entry_index, table_page}
+use Rattle.part_steps.specs.SweepTopics.{gone_up}
+use Rattle.part_steps.specs.WalkTopics.{walked}
 use Rattle.mmu_core.specs.machine.Machine.{World}
 use Rattle.mmu_core.specs.machine.View.{word_in}
 use Rattle.step_seats.specs.PartTurns.{WherePartMade}
 use Rattle.step_seats.specs.Seats.{Seat}
+
+-- ---- the next entry
+
+-- The walk has gone up to a table with an entry left, and down again where the entry over the guest frame is a link. Nothing else that the actor holds has
+-- changed.
+abbrev pub swept : ℕ → ℕ → Topics → Topics
+swept gfn found t = record t { walk = walked (gone_up t.walk) (entry_index gfn (gone_up t.walk).level) found }
+
+-- The entry was this word.
+abbrev pub LoadsEntry : ℕ → ℕ → Held → World Held → Type 0
+LoadsEntry gfn found h w =
+    word_in h.state.sizes w area.Pool (pool_index (table_page (gone_up h.topics.walk)) (entry_index gfn (gone_up h.topics.walk).level)) ≡ found
+
+-- It was so where the step was made.
+abbrev pub SweepsWhereMade : ℕ → ℕ → ℕ → Seat → Seat → Type 0
+SweepsWhereMade gfn found note before after = WherePartMade (part.Sweep gfn) note before after (λ w v. LoadsEntry gfn found before.hand w)
+
+-- ---- the zap
 
 -- The walk stays in its table, and has seen the entry absent. Nothing else that the actor holds has changed.
 abbrev pub zapped : ℕ → Topics → Topics

@@ -1,0 +1,267 @@
+-- How far a sweep has come behind its next entry, and behind the zap of a leaf.
+use Rattle.std.proofs.lemmas.Bool.Decides.{nat_tests}
+use Rattle.std.proofs.Common.{◌≡◌, ◌⊎◌, inl, inr, ◌+◌, ◌-◌, ◌*◌, ◌%◌, ◌^◌, ◌<◌, ◌≤◌, ℕ, Bool, true, false, refl, ap, ◌∙◌, arith, subst, sym}
+use Rattle.std.specs.Prelude.{◌==◌, ◌&&◌, ◌||◌, not, nat_le, if◌then◌else◌, Some, None}
+use Rattle.core_views.specs.declared.topics.Invalidated.{Invalidated}
+use Rattle.core_views.specs.declared.topics.TableWalk.{TableWalk}
+use Rattle.spte_words.specs.declared.spte_kind.SpteKind.{SpteKind}
+use Rattle.spte_words.specs.declared.spte_kind.SpteKind.TheVariants as entry_kind
+use Rattle.spte_words.specs.Entries.{absent_word, kind_of, level_span}
+use Rattle.spte_words.proofs.ReadsEntries.{kind_of_absent}
+use Rattle.spte_words.proofs.Spans.{span_above}
+use Rattle.part_steps.specs.PartHoldings.{IsOver, SawEntry}
+use Rattle.part_steps.specs.PartTasks.{entry_index}
+use Rattle.part_steps.specs.SweepTopics.{entry_end, entry_start, gone_up, has_entry, leads_nowhere, leads_on, swept_to}
+use Rattle.part_steps.specs.WalkTopics.{gone_down, linked_page}
+use Rattle.mmu_core.specs.lines.InvalidateKnows.{SweepsOn, begins_entry}
+use Rattle.mmu_core.specs.lines.InvalidateSteps.{swept_on, zapped_at}
+use Rattle.mmu_core.proofs.lines.FaultKnown.{above_lowest, gone_over}
+use Rattle.mmu_core.proofs.lines.SweepSpans.{begins_below, table_begins}
+use Rattle.mmu_core.proofs.lines.SweepWalks.{EntryOver, GoesOnAt, UpFrom, goes_on, not_second, saw_entry, stays_without, up_levels}
+
+-- ---- what is so behind a step
+
+-- It has come to a table, over the guest frame to which it had come.
+pub record ComesDown (own_ : Invalidated) (c : ℕ) (u w : TableWalk) : Type 0 where
+  pub on : SweepsOn own_ w
+  pub still : swept_to own_.start w ≡ c
+  pub below : w.level + 1 ≡ u.level
+  pub none : has_entry w ≡ false
+  pub over : IsOver c w
+
+-- It has come to a leaf there, which is to be zapped.
+pub record FindsLeaf (own_ : Invalidated) (c : ℕ) (u w : TableWalk) : Type 0 where
+  pub still : swept_to own_.start w ≡ c
+  pub level : w.level ≡ u.level
+  pub saw : SawEntry c w
+  pub leaf : kind_of w.level w.entry ≡ entry_kind.Leaf
+  pub leads : (has_entry w && not (leads_nowhere w)) ≡ true
+
+-- It has come to the end of an entry that leads nowhere.
+pub record GoesPast (own_ : Invalidated) (c : ℕ) (u w : TableWalk) : Type 0 where
+  pub on : SweepsOn own_ w
+  pub past : swept_to own_.start w ≡ entry_end w
+  pub more : c < swept_to own_.start w
+  pub small : swept_to own_.start w ≤ 2 ^ 36
+  pub level : w.level ≡ u.level
+  pub saw : SawEntry c w
+  pub nowhere : leads_nowhere w ≡ true
+
+pub data SweptStep (own_ : Invalidated) (c : ℕ) (u : TableWalk) (v : ℕ) (w : TableWalk) : Type 0 where
+  Down : (page : ℕ) → kind_of u.level v ≡ entry_kind.Table page → ComesDown own_ c u w → SweptStep own_ c u v w
+  Found : kind_of u.level v ≡ entry_kind.Leaf → FindsLeaf own_ c u w → SweptStep own_ c u v w
+  Past : leads_on (kind_of u.level v) ≡ false → GoesPast own_ c u w → SweptStep own_ c u v w
+
+-- The guest frame after the entry is the one to which it has come.
+past_entry : (own_ : Invalidated) (c : ℕ) (u w : TableWalk) → own_.end ≤ 2 ^ 36 → w.level ≤ 4 → w.level ≡ u.level → own_.start ≤ c → SawEntry c w
+    → leads_nowhere w ≡ true → GoesPast own_ c u w
+past_entry own_ c u w most to level from S nowhere = record {
+  on = record {
+    there = S.over.there;
+    low = to;
+    from = subst (λ n. own_.start ≤ n) (sym past) (let lt = E.to in omega (arith, from, lt));
+    even = either_is (swept_to own_.start w == own_.start) (is_zero _ (ap (λ n. n % level_span (gone_up w).level) past ∙ G.even));
+    over = λ left. subst (λ n. IsOver n (gone_up w)) (sym past)
+        (G.over (subst (λ n. n < 2 ^ 36) past (omega (arith, left, most))));
+  };
+  past = past;
+  more = subst (λ n. c < n) (sym past) E.to;
+  small = subst (λ n. n ≤ 2 ^ 36) (sym past) E.small;
+  level = level;
+  saw = S;
+  nowhere = nowhere;
+}
+  where
+    E : EntryOver c w
+    E = saw_entry c w to S
+
+    G : GoesOnAt (entry_end w) (gone_up w)
+    G = goes_on w S.over.there to E.has
+
+    past : swept_to own_.start w ≡ entry_end w
+    past =
+        let start : ℕ = if nat_le own_.start (entry_start w) then entry_start w else own_.start in
+        ap (λ (b : Bool). if b && leads_nowhere w then entry_end w else start) E.has ∙ ap (λ (b : Bool). if b then entry_end w else start) nowhere
+
+    either_is : (a : Bool) {b : Bool} → b ≡ true → (a || b) ≡ true
+    either_is true is = refl
+    either_is false is = is
+
+    is_zero : (n : ℕ) → n ≡ 0 → (n == 0) ≡ true
+    is_zero n is = grind (arith, nat_tests)
+
+-- Where it has come to the first guest frame of all, or of an entry, what begins there begins no lower.
+pub begins_at : (from c e : ℕ) → e ≤ c → from ≤ c → (c ≡ from) ⊎ (e ≡ c) → (if nat_le from e then e else from) ≡ c
+begins_at from c e below low at = by (nat_le from e) refl at
+  where
+    by : (b : Bool) → nat_le from e ≡ b → (c ≡ from) ⊎ (e ≡ c) → (if b then e else from) ≡ c
+    by true le (inl same) = let le : from ≤ e = grind (arith, nat_tests) in omega (arith, le, same, below)
+    by true le (inr same) = same
+    by false gt (inl same) = sym same
+    by false gt (inr same) = let gt : e < from = grind (arith, nat_tests) in absurd (omega (arith, gt, same, low))
+
+-- A table begins where the entry begins that links to it.
+span_of : (level : ℕ) → 2 ≤ level → level_span level ≡ 512 * level_span (level - 1)
+span_of level high =
+    let up : level - 1 + 1 ≡ level = omega (arith, high) in ap level_span (sym up) ∙ span_above (level - 1) (omega (arith, high))
+
+pub starts_same : (page c : ℕ) (u : TableWalk) (v : ℕ) → 2 ≤ u.level → u.level ≤ 4 → SawEntry c (gone_down None u (entry_index c u.level) v)
+    → entry_start (gone_down (Some page) u (entry_index c u.level) v) ≡ entry_start (gone_down None u (entry_index c u.level) v)
+starts_same page c u v high low saw =
+    let i : ℕ = entry_index c u.level in
+    let has = (saw_entry c (gone_down None u i v) low saw).has in
+    table_begins (u.level - 1) (omega (arith, high)) (omega (arith, low)) c u.prefix i
+    ∙ sym (ap (λ s. (u.prefix * 512 + i) * s) (span_of u.level high))
+    ∙ sym (ap (λ (b : Bool). (u.prefix * 512 + (if b then i else 0)) * level_span u.level) has)
+
+nat_same : (m n : ℕ) → (m == n) ≡ true → m ≡ n
+nat_same m n e = grind (arith, nat_tests)
+
+-- The next entry begins at the guest frame to which it has come, or below the first of all.
+next_begins : (own_ : Invalidated) (w : TableWalk) → begins_entry own_ w ≡ true
+    → (swept_to own_.start w ≡ own_.start) ⊎ (swept_to own_.start w % level_span (gone_up w).level ≡ 0)
+next_begins own_ w is = by (swept_to own_.start w == own_.start) refl is
+  where
+    by : (a : Bool) → (swept_to own_.start w == own_.start) ≡ a → (a || (swept_to own_.start w % level_span (gone_up w).level == 0)) ≡ true
+        → (swept_to own_.start w ≡ own_.start) ⊎ (swept_to own_.start w % level_span (gone_up w).level ≡ 0)
+    by true same any = inl (nat_same _ _ same)
+    by false other any = inr (nat_same _ _ any)
+
+-- Each step of the sweep, behind which the next entry is v.
+module _ (own_ : Invalidated) (w : TableWalk) (v : ℕ) (most : own_.end ≤ 2 ^ 36) (S : SweepsOn own_ w) (left : swept_to own_.start w < own_.end) where
+  abbrev c : ℕ
+  c = swept_to own_.start w
+
+  abbrev u : TableWalk
+  u = gone_up w
+
+  abbrev i : ℕ
+  i = entry_index c u.level
+
+  O : IsOver c u
+  O = S.over left
+
+  U : UpFrom w.level w.prefix u
+  U = up_levels w S.there S.low
+
+  -- the entry, where it is no link
+  abbrev stood : TableWalk
+  stood = gone_down None u i v
+
+  saw : SawEntry c stood
+  saw = record { over = record { small = O.small; there = O.there; span = O.span }; loaded = refl }
+
+  E : EntryOver c stood
+  E = saw_entry c stood U.low saw
+
+  -- It begins where the sweep has come to, or below the first guest frame of all.
+  begins : (c ≡ own_.start) ⊎ (entry_start stood ≡ c)
+  begins = by (next_begins own_ w S.even)
+    where
+      by : (c ≡ own_.start) ⊎ (c % level_span u.level ≡ 0) → (c ≡ own_.start) ⊎ (entry_start stood ≡ c)
+      by (inl same) = inl same
+      by (inr even) = inr (E.even even)
+
+  kept : (if nat_le own_.start (entry_start stood) then entry_start stood else own_.start) ≡ c
+  kept = begins_at own_.start c (entry_start stood) E.from S.from begins
+
+  finds_leaf : kind_of u.level v ≡ entry_kind.Leaf → FindsLeaf own_ c u stood
+  finds_leaf is = record {
+    still = ap (λ (b : Bool). if b then entry_end stood else kept_from) (not_second (has_entry stood) (ap (λ k. not (leads_on k)) is)) ∙ kept;
+    level = refl;
+    saw = saw;
+    leaf = is;
+    leads = ap (λ (b : Bool). b && not (leads_nowhere stood)) E.has ∙ ap (λ k. not (not (leads_on k))) is;
+  }
+    where
+      kept_from : ℕ
+      kept_from = if nat_le own_.start (entry_start stood) then entry_start stood else own_.start
+
+  goes_past : leads_on (kind_of u.level v) ≡ false → GoesPast own_ c u stood
+  goes_past is = past_entry own_ c u stood most U.low refl S.from saw (ap not is)
+
+  comes_down : (page : ℕ) → kind_of u.level v ≡ entry_kind.Table page → ComesDown own_ c u (gone_down (Some page) u i v)
+  comes_down page is = record {
+    on = record {
+      there = down.there;
+      low = omega (arith, low);
+      from = subst (λ n. own_.start ≤ n) (sym still) S.from;
+      even = even;
+      over = λ less. subst (IsOver (swept_to own_.start below)) (sym stays) (subst (λ n. IsOver n below) (sym still) down);
+    };
+    still = still;
+    below = omega (arith, high);
+    none = refl;
+    over = down;
+  }
+    where
+      below : TableWalk
+      below = gone_down (Some page) u i v
+
+      high : 2 ≤ u.level
+      high = above_lowest u.level v page U.there is
+
+      low : u.level ≤ 4
+      low = U.low
+
+      down : IsOver c below
+      down = gone_over c page v u high low O
+
+      stays : gone_up below ≡ below
+      stays = stays_without below refl
+
+      still : swept_to own_.start below ≡ c
+      still = ap (λ e. if nat_le own_.start e then e else own_.start) (starts_same page c u v high low saw) ∙ kept
+
+      even : begins_entry own_ below ≡ true
+      even = by (next_begins own_ w S.even)
+        where
+          same : (m n : ℕ) → m ≡ n → (m == n) ≡ true
+          same m n e = grind (arith, nat_tests)
+
+          first : (a b : Bool) → a ≡ true → (a || b) ≡ true
+          first true b e = refl
+          first false b e = absurd (cc e)
+
+          second : (a b : Bool) → b ≡ true → (a || b) ≡ true
+          second true b e = refl
+          second false b e = e
+
+          by : (c ≡ own_.start) ⊎ (c % level_span u.level ≡ 0) → begins_entry own_ below ≡ true
+          by (inl at) = first _ _ (same (swept_to own_.start below) own_.start (still ∙ at))
+          by (inr at) = second _ _ (same _ 0 (
+              ap (λ (x : TableWalk). swept_to own_.start below % level_span x.level) stays
+              ∙ ap (λ n. n % level_span (u.level - 1)) still
+              ∙ begins_below (u.level - 1) (omega (arith, high)) (omega (arith, low)) c (sym (ap (λ s. c % s) (span_of u.level high)) ∙ at)
+              ))
+
+  -- It comes down to a table, finds a leaf, or goes past an entry that leads nowhere.
+  pub swept_step : SweptStep own_ c u v (swept_on c w v)
+  swept_step = by (kind_of u.level v) refl
+    where
+      on : (k : SpteKind) → kind_of u.level v ≡ k → SweptStep own_ c u v (gone_down (linked_page k) u i v) → SweptStep own_ c u v (swept_on c w v)
+      on k is = subst (λ (x : SpteKind). SweptStep own_ c u v (gone_down (linked_page x) u i v)) (sym is)
+
+      by : (k : SpteKind) → kind_of u.level v ≡ k → SweptStep own_ c u v (swept_on c w v)
+      by (entry_kind.Table page) is = on (entry_kind.Table page) is (Down page is (comes_down page is))
+      by entry_kind.Leaf is = on entry_kind.Leaf is (Found is (finds_leaf is))
+      by entry_kind.Absent is = on entry_kind.Absent is (Past (ap leads_on is) (goes_past (ap leads_on is)))
+      by entry_kind.Frozen is = on entry_kind.Frozen is (Past (ap leads_on is) (goes_past (ap leads_on is)))
+
+-- ---- the zap
+
+-- What stands where a leaf was zapped is absent.
+absent_is : 0 ≡ absent_word
+unfolding absent_word
+absent_is = refl
+
+pub zero_absent : (level : ℕ) → kind_of level 0 ≡ entry_kind.Absent
+zero_absent level = ap (kind_of level) absent_is ∙ kind_of_absent level
+
+-- After it the sweep has come to the end of the entry.
+pub swept_zap : (own_ : Invalidated) (c : ℕ) (w : TableWalk) → own_.end ≤ 2 ^ 36 → w.level ≤ 4 → own_.start ≤ c → SawEntry c w
+    → GoesPast own_ c w (zapped_at c w)
+swept_zap own_ c w most to from S =
+    past_entry own_ c w (zapped_at c w) most to refl from
+    (record { over = record { small = S.over.small; there = S.over.there; span = S.over.span }; loaded = refl })
+    (ap (λ k. not (leads_on k)) (zero_absent w.level))
