@@ -8,6 +8,7 @@ use Rattle.core_views.specs.declared.place.EndPlace.TheVariants as ends
 use Rattle.core_views.specs.declared.place.HostPlace.TheVariants.{Begin, End}
 use Rattle.core_views.specs.declared.place.Place.{Place}
 use Rattle.core_views.specs.declared.place.Place.TheVariants as place
+use Rattle.core_views.specs.declared.place.SlotChangePlace.TheVariants as change
 use Rattle.core_views.specs.Held.{Held}
 use Rattle.invalidate_seq.specs.declared.open.OpenStage.{OpenStage}
 use Rattle.invalidate_seq.specs.declared.open.OpenStage.TheVariants as opens
@@ -33,6 +34,7 @@ use Rattle.step_seats.specs.declared.turn.Turn.TheVariants.{More, Wait, Done}
 -- where in the begin of an invalidation a line at this place stands, if it does
 abbrev pub begin_at : Place → Option BeginPlace
 begin_at (place.Host (Begin p)) = Some p
+begin_at (place.SlotChange (change.Begin p)) = Some p
 begin_at _ = None
 
 -- The actor may make the step of this place of the begin, for the target, and knows what the place asks.
@@ -83,6 +85,7 @@ TurnsBegin job turn note before after = (p : BeginPlace) → begin_at before.han
 
 abbrev pub end_at : Place → Option EndPlace
 end_at (place.Host (End p)) = Some p
+end_at (place.SlotChange (change.End p)) = Some p
 end_at _ = None
 
 pub record IsInEnd (p : EndPlace) (note : ℕ) (h : Held) : Type 0 where

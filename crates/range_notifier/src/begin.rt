@@ -9,7 +9,7 @@ ghost use Rattle.step_seats.specs.Moves.{KeepsRoom};
 ghost use Rattle.step_seats.specs.PartTurns.{MadeTelling, MakesPart};
 
 use crate::lock::{exclude, release};
-use core_views::{BeginPlace, Hand, HostPlace, Place, Seen};
+use core_views::{BeginPlace, Hand, HostPlace, Place, Seen, Slot, SlotChangePlace};
 use invalidate_seq::{Open, OpenStage};
 use memslots::{Find, Sought};
 use mmu_core::part_rests;
@@ -32,6 +32,7 @@ fn place_of(hand: &Hand) -> Option<BeginPlace>
 {
     match hand.progress().place {
         Place::Host(HostPlace::Begin(place)) => Some(place),
+        Place::SlotChange(SlotChangePlace::Begin(place)) => Some(place),
         _ => None,
     }
 }
@@ -54,6 +55,15 @@ impl BeginJob {
     {
         BeginJob {
             target: Target::Page(page),
+        }
+    }
+
+    /// The begin of the invalidation of this slot's guest frames.
+    pub fn of_slot(slot: Slot) -> BeginJob
+        ensures { result ≡ record { target = aim.Slot slot } }
+    {
+        BeginJob {
+            target: Target::Slot(slot),
         }
     }
 
@@ -183,9 +193,9 @@ impl BeginJob {
     /// Makes the next step of the hand's line, which stands in the begin of an
     /// invalidation: it takes the lock alone, searches the slots for the target, widens the
     /// range of open invalidations to the target's guest frames and counts one more, zaps their
-    /// leaves, asks each virtual processor for a flush and awaits it, and gives the lock back. `Done` once the lock is given back. `Wait` where the lock's
-    /// word isn't 0, or a virtual processor is in the guest and has yet to flush; never
-    /// `Retry`. It takes no memory.
+    /// leaves, asks each virtual processor for a flush and awaits it, and gives the lock back.
+    /// `Done` once the lock is given back. `Wait` where the lock's word isn't 0, or a virtual
+    /// processor is in the guest and has yet to flush; never `Retry`. It takes no memory.
     pub fn turn<S: Stepper>(&self, s: &mut S, note: u64) -> Turn<()>
         requires next { BeginsNext self.now note (S.seat s.old).hand }
         requires reserved { 0 < (S.seat s.old).room }

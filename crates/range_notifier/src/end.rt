@@ -5,7 +5,7 @@ ghost use Rattle.step_seats.specs.Moves.{KeepsRoom};
 ghost use Rattle.step_seats.specs.PartTurns.{MadeTelling, MakesPart};
 
 use crate::lock::{exclude, release};
-use core_views::{EndPlace, Hand, HostPlace, Place, Seen};
+use core_views::{EndPlace, Hand, HostPlace, Place, Seen, SlotChangePlace};
 use invalidate_seq::{Shut, ShutStage};
 use step_seats::{Stepper, Turn};
 
@@ -20,6 +20,7 @@ fn place_of(hand: &Hand) -> Option<EndPlace>
 {
     match hand.progress().place {
         Place::Host(HostPlace::End(place)) => Some(place),
+        Place::SlotChange(SlotChangePlace::End(place)) => Some(place),
         _ => None,
     }
 }

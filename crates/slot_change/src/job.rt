@@ -24,8 +24,9 @@ pub struct SlotJob {
 impl SlotJob {
     /// Makes the next step of the line, and says whether it is answered: `Done` after
     /// its last step, where the hand has the answer. `Wait` where a page was claimed by
-    /// another actor meanwhile, the lock's word isn't 0, an invalidation is open, or another
-    /// actor that the watch looks at is in a section or in the guest; never `Retry`.
+    /// another actor meanwhile, the lock's word isn't 0, an invalidation of others is open, a
+    /// virtual processor is in the guest and has yet to flush, or another actor that the watch
+    /// looks at is in a section or in the guest; never `Retry`.
     pub fn turn<S: Stepper>(&mut self, s: &mut S) -> Turn<()>
         requires left { length (S.seat s.old).hand.answers < length (S.seat s.old).hand.lines }
         requires next { self.old.index ≡ length (S.seat s.old).hand.answers }
@@ -69,9 +70,11 @@ fn step<S: Stepper>(s: &mut S, place: SlotChangePlace, note: u64) -> Option<Seen
         SlotChangePlace::Claim { begun } => places::claim(s, begun, note),
         SlotChangePlace::Fill => places::fill(s, note),
         SlotChangePlace::Role => places::role(s, note),
+        SlotChangePlace::Begin(begin) => places::begin(s, begin, note),
         SlotChangePlace::Exclude => places::exclude(s, note),
         SlotChangePlace::Close => places::close(s, note),
         SlotChangePlace::Release => places::release(s, note),
+        SlotChangePlace::End(end) => places::end(s, end, note),
         SlotChangePlace::Watch => places::watch(s, note),
         SlotChangePlace::Count => places::make(s, place, PartStep::Count, note),
         SlotChangePlace::Publish => places::make(s, place, PartStep::Publish, note),

@@ -1,17 +1,21 @@
 //! The step of each place, by the call of its part.
-ghost use Rattle.std.specs.Prelude.{◌≡◌, ◌<◌};
+ghost use Rattle.std.specs.Prelude.{◌≡◌, ◌<◌, length, true, is_some};
 ghost use Rattle.core_views.specs.Sizes.{AreSizes};
+ghost use Rattle.core_views.specs.SlotCommands.{slot_moved};
 ghost use Rattle.core_views.specs.declared.place.SlotChangePlace.TheVariants as at;
 ghost use Rattle.mmu_core.specs.lines.PartWaits.{part_seen};
+ghost use Rattle.mmu_core.specs.lines.SlotChangeSteps.{slot_or_none};
+ghost use Rattle.mmu_core.specs.machine.Turns.{line_of};
 ghost use Rattle.part_steps.specs.declared.part_step.PartStep.TheVariants.{Release};
 ghost use Rattle.slot_change.specs.Places.{IsAtSlotPlace, IsPlain, MakesSlotStep};
 ghost use Rattle.step_seats.specs.Moves.{KeepsRoom};
 
-use core_views::{Hand, Seen, SlotChangePlace};
+use core_views::{BeginPlace, EndPlace, Hand, Seen, Slot, SlotChangePlace};
 use grace_period::Watch;
 use mmu_core::{FreeMap, part_rests};
 use mmu_lock::{try_exclusive, unlock};
 use part_steps::{PartStep, SLOT_SET_ROLE, map_of, page_owned, set_word, words_filled};
+use range_notifier::{BeginJob, EndJob};
 use spte_words::Area;
 use step_seats::{Stepper, make_part};
 use table_pool::{Claim, Fill};
@@ -60,6 +64,30 @@ pub(crate) fn role<S: Stepper>(s: &mut S, note: u64) -> Option<Seen>
     None
 }
 
+// The slot that the line moves, as it is before.
+fn slot_moved(hand: &Hand) -> Slot
+    requires left { length hand.now.core.answers < length hand.now.core.lines }
+    requires moves { is_some (slot_moved hand.now.core.slots (line_of hand.now.core).command) ≡ true }
+    ensures { result ≡ slot_or_none (slot_moved hand.now.core.slots (line_of hand.now.core).command) }
+{
+    match hand.slots().moved(&hand.line().command) {
+        Some(slot) => slot,
+        None => unreachable!(),
+    }
+}
+
+// Makes the next step of the invalidation's begin.
+pub(crate) fn begin<S: Stepper>(s: &mut S, place: BeginPlace, note: u64) -> Option<Seen>
+    requires is_at { IsAtSlotPlace (at.Begin place) note (S.seat s.old).hand }
+    requires reserved { 0 < (S.seat s.old).room }
+    ensures makes { MakesSlotStep result (at.Begin place) note (S.seat s.old) (S.seat s.new) }
+    ensures room { KeepsRoom (S.seat s.old) (S.seat s.new) }
+    ensures same { ((S.seat s.new).actor ≡ (S.seat s.old).actor) × (S.frame s.new ≡ S.frame s.old) }
+{
+    let slot = slot_moved(s.hand());
+    BeginJob::of_slot(slot).turn(s, note).in_way()
+}
+
 // Tries to hold the lock alone.
 pub(crate) fn exclude<S: Stepper>(s: &mut S, note: u64) -> Option<Seen>
     requires is_at { IsAtSlotPlace at.Exclude note (S.seat s.old).hand }
@@ -97,6 +125,17 @@ pub(crate) fn release<S: Stepper>(s: &mut S, note: u64) -> Option<Seen>
 {
     unlock(s, note);
     None
+}
+
+// Makes the next step of the invalidation's end.
+pub(crate) fn end<S: Stepper>(s: &mut S, place: EndPlace, note: u64) -> Option<Seen>
+    requires is_at { IsAtSlotPlace (at.End place) note (S.seat s.old).hand }
+    requires reserved { 0 < (S.seat s.old).room }
+    ensures makes { MakesSlotStep result (at.End place) note (S.seat s.old) (S.seat s.new) }
+    ensures room { KeepsRoom (S.seat s.old) (S.seat s.new) }
+    ensures same { ((S.seat s.new).actor ≡ (S.seat s.old).actor) × (S.frame s.new ≡ S.frame s.old) }
+{
+    EndJob.turn(s, note).in_way()
 }
 
 // Looks at the next actor.

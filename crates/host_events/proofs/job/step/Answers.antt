@@ -6,7 +6,7 @@ pub returns-in-Begin-clause-makes : goal.returns-in-Begin-clause-makes
 returns-in-Begin-clause-makes g c =
     let is_at = rw c.in-Begin.is at c.requires.is_at in
     let turned = c.turn.ensures.turned c.in-Begin.field-0 (ap begin_at is_at.stands) in
-    rw (c.in_way.ensures, c.in-Begin.is) turned.step
+    rw (c.in_way.ensures, c.in-Begin.is) (rw c.of_page.ensures at turned.step)
 
 pub returns-in-End-clause-makes : goal.returns-in-End-clause-makes
 returns-in-End-clause-makes g c =
