@@ -1,12 +1,14 @@
 //! Steps of an actor's lines, and steps of parts by an actor that has none left.
-ghost use Rattle.std.specs.Prelude.{◌≡◌, true};
+ghost use Rattle.std.specs.Prelude.{◌≡◌, ◌<◌, length, true};
+ghost use Rattle.mmu_core.specs.lines.Rests.{Rests};
+ghost use Rattle.part_steps.specs.PartSteps.{PartNeeds};
 ghost use Rattle.mmu_core.specs.machine.MayMake.{MayMake};
 ghost use Rattle.mmu_core.specs.machine.Worlds.{HandReached};
 
 use crate::expect_actor;
 use core_views::{Actor, Answer, Hand, NoMemory};
-use mmu_core::{allows, next_kind, part_rests, rests};
-use part_steps::{PartStep, has_needs, part_kind};
+use mmu_core::{allows, next_kind, next_step, part_rests, rests};
+use part_steps::{PartStep, part_kind};
 use std::test::Fail;
 use step_seats::{PlainMachine, Stepper, Turn, make_part};
 
@@ -32,6 +34,33 @@ pub fn run_lines(machine: &mut PlainMachine, actor: Actor, most: u64) -> Result<
     Ok(make_steps(&mut seat, most)?)
 }
 
+// Whether both are the same step, of those of lines alone that tests make by calls of parts.
+fn is_same(one: PartStep, other: PartStep) -> bool
+    ensures { result ≡ true → one ≡ other }
+{
+    match (one, other) {
+        (PartStep::Bring, PartStep::Bring) | (PartStep::Frame, PartStep::Frame) => true,
+        (PartStep::GiveFrame, PartStep::GiveFrame) => true,
+        (PartStep::Change(new), PartStep::Change(word)) => new == word,
+        (PartStep::FrameMap(at), PartStep::FrameMap(word)) => at == word,
+        (PartStep::Copy(at), PartStep::Copy(index)) => at == index,
+        (PartStep::Store(at), PartStep::Store(index)) => at == index,
+        _ => false,
+    }
+}
+
+// Whether the next step of the hand's line is this one, of whatever note.
+fn makes_next(hand: &Hand, step: PartStep) -> bool
+    requires left { length hand.now.core.answers < length hand.now.core.lines }
+    requires rests { Rests hand.now.core }
+    ensures { result ≡ true → PartNeeds step hand.now.core }
+{
+    match next_step(hand) {
+        Some(next) => is_same(next, step),
+        None => false,
+    }
+}
+
 /// Whether the next step of the hand's line is this step of a part, with this note.
 pub fn is_next(hand: &Hand, step: PartStep, note: u64) -> bool
     requires reached { ∥ HandReached hand.now.core ∥₁ }
@@ -42,7 +71,7 @@ pub fn is_next(hand: &Hand, step: PartStep, note: u64) -> bool
     }
     rests(hand);
     part_rests(hand);
-    if !has_needs(hand, step) {
+    if !makes_next(hand, step) {
         return false;
     }
     next_kind(hand) == part_kind(hand, step, note)
