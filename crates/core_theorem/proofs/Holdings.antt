@@ -20,7 +20,7 @@ use Rattle.mmu_core.proofs.machine.Worlds.{good_step}
 use Rattle.core_theorem.specs.Holdings.{HeldSetsAreKnown, NoneHoldsFreePages, NoOtherHolds, WatchedHoldNoOldSet, OfEachHeld, PagesAreReusedAlone}
 use Rattle.core_theorem.specs.Pages.{Owns}
 use Rattle.core_theorem.specs.Runs.{IsRun}
-use Rattle.core_theorem.proofs.SetsCleared.{gives_old}
+use Rattle.core_theorem.proofs.SetsGiven.{gives_old}
 use Rattle.core_theorem.proofs.Runs.{before, last_actor, may_last, sound}
 use Rattle.core_theorem.proofs.WalksKept.{stands_at}
 use Rattle.core_theorem.specs.Walks.{table_at, walk_of}

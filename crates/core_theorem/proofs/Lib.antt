@@ -4,6 +4,7 @@ pub mod Frames
 pub mod SamePages
 pub mod LookUps
 pub mod Holdings
+pub mod SetsGiven
 pub mod SetsCleared
 pub mod Runs
 pub mod TakenAway

@@ -1,16 +1,14 @@
 -- Where a slot line is about to give the old slot set's page back, the page's role is cleared.
-use Rattle.core_views.specs.SlotCommands.{changes_slot, slot_moved}
-use Rattle.std.proofs.Common.{◌≡◌, ◌≢◌, ◌⊎◌, inl, inr, ◌<◌, ℕ, List, refl, sym, subst, ap, ◌∙◌, arith}
+use Rattle.core_views.specs.SlotCommands.{changes_slot, slot_invalidated}
+use Rattle.std.proofs.Common.{◌≡◌, ◌≢◌, ◌⊎◌, inl, inr, ◌<◌, ℕ, List, refl, sym, subst, ap, ◌∙◌}
 use Rattle.std.specs.Prelude.{Bool, true, false, ◌+◌, ◌==◌, nat_lt, Option, Some, None, is_some}
 use Rattle.core_views.specs.declared.kind.Kind.{Kind}
-use Rattle.core_views.specs.declared.kind.StepKind.TheVariants as kind
-use Rattle.core_views.specs.Kinds.{code_of}
 use Rattle.core_views.specs.declared.place.Place.{Place}
 use Rattle.core_views.specs.declared.place.Place.TheVariants as place
 use Rattle.core_views.specs.declared.place.SlotChangePlace.{SlotChangePlace}
-use Rattle.core_views.specs.declared.place.SlotChangePlace.TheVariants.{Claim, Fill, Role, Begin, Exclude, Count, Close, Publish, Release, End, Watch, Clear, Give}
+use Rattle.core_views.specs.declared.place.SlotChangePlace.TheVariants.{Claim, Fill, Role, Begin, Exclude, Count, Close, Publish}
+use Rattle.core_views.specs.declared.place.SlotChangePlace.TheVariants.{Release, End, Watch, Clear, Give}
 use Rattle.core_views.specs.declared.place.BeginPlace.TheVariants as begins
-use Rattle.core_views.specs.declared.place.EndPlace.{EndPlace}
 use Rattle.core_views.specs.declared.place.EndPlace.TheVariants as ends
 use Rattle.core_views.specs.declared.sizes.Sizes.{Sizes}
 use Rattle.core_views.specs.declared.topics.Topics.{Topics}
@@ -27,7 +25,6 @@ use Rattle.part_steps.specs.declared.part_step.PartStep.{PartStep}
 use Rattle.part_steps.specs.declared.part_step.PartStep.TheVariants as part
 use Rattle.part_steps.specs.declared.task.Task.{Task}
 use Rattle.part_steps.specs.PartTasks.{own_index, page_retired, part_task, words_filled}
-use Rattle.part_steps.specs.PartHoldings.{MayGiveOld}
 use Rattle.part_steps.specs.Tasks.{kind_of_task}
 use Rattle.part_steps.specs.TopicSteps.{topics_after}
 use Rattle.mmu_core.specs.declared.claim.ClaimNext.{ClaimNext}
@@ -36,7 +33,7 @@ use Rattle.mmu_core.specs.declared.claim.FreeMap.TheVariants.{Pages}
 use Rattle.mmu_core.specs.lines.AccessSteps.{touch_of}
 use Rattle.mmu_core.specs.machine.Enabled.{mmu}
 use Rattle.mmu_core.specs.lines.ClaimSteps.{claim_next}
-use Rattle.mmu_core.specs.invariant.Invariant.{Invariant, KnowsPart, UnderWay, RetiresPart}
+use Rattle.mmu_core.specs.invariant.Invariant.{Invariant, KnowsPart, UnderWay}
 use Rattle.mmu_core.specs.invariant.Laws.{IsSound}
 use Rattle.mmu_core.specs.machine.Machine.{May, Step, World, effect, hand_in, run}
 use Rattle.mmu_core.specs.machine.Outcomes.{place_after}
@@ -46,11 +43,10 @@ use Rattle.mmu_core.specs.declared.invalidate.BeginNext.{BeginNext}
 use Rattle.mmu_core.specs.declared.invalidate.BeginNext.TheVariants as begins_next
 use Rattle.mmu_core.specs.declared.invalidate.EndNext.{EndNext}
 use Rattle.mmu_core.specs.declared.invalidate.EndNext.TheVariants as ends_next
-use Rattle.mmu_core.specs.lines.InvalidateSteps.{begin_next, end_next, end_part}
+use Rattle.mmu_core.specs.lines.InvalidateSteps.{begin_next, end_next}
 use Rattle.mmu_core.specs.lines.SlotChangeSteps.{after_set_begin, after_set_end, slot_target}
 use Rattle.mmu_core.specs.lines.SlotChangeSteps.{after_set_claim, watch_next, slot_change_note, slot_change_outcome, slot_change_task}
-use Rattle.mmu_core.specs.machine.Steps.{has_line, line_at, place_at, task_of}
-use Rattle.mmu_core.specs.lines.SlotChangeKnows.{SlotChangeKnows}
+use Rattle.mmu_core.specs.machine.Steps.{has_line, line_at, place_at}
 use Rattle.mmu_core.specs.invariant.TopicsInvariant.{TopicsInvariant}
 use Rattle.mmu_core.specs.machine.View.{View, answer_in, part_stepped, stepped, upd, view, word_in, words_after, hand_after}
 use Rattle.mmu_laws.proofs.causes.Changes.{of_each_list}
@@ -63,50 +59,12 @@ use Rattle.mmu_core.proofs.lines.EitherPlace.{each_watch, either_place}
 use Rattle.mmu_core.proofs.start.Starts.{hand_is, start_good}
 use Rattle.mmu_core.proofs.lines.StepIn.{StepIn, Makes, Touches, step_in}
 use Rattle.mmu_core.proofs.machine.Stepping.{IsStep}
-use Rattle.mmu_core.proofs.machine.Which.{has_line_is, is_next}
+use Rattle.mmu_core.proofs.machine.Which.{has_line_is}
 use Rattle.mmu_core.proofs.machine.Worlds.{Takes, TakesPart, good_step, takes, are_small}
 use Rattle.core_theorem.specs.Holdings.{ReturnedSetsAreCleared}
 use Rattle.core_theorem.specs.Runs.{IsRun}
 use Rattle.core_theorem.proofs.Runs.{before, last_actor, may_last, sound}
-
--- ---- where a page is given back
-
--- A page is given back while one is retired: this one, at the last place of a slot line, after the watch.
-pub gives_old : (z : Sizes) (u : World Held) (G : IsSound z u) (s : Step Kind) (page : ℕ) → s.actor < actors_of z → May mmu u s
-    → s.kind.code ≡ code_of kind.Give → (hand_in mmu u s.actor).topics.retired ≡ Some page
-    → ((hand_in mmu u s.actor).state.place ≡ place.SlotChange Give) × MayGiveOld (hand_in mmu u s.actor)
-gives_old z u G s page there may gives left =
-    by h.state.place h.state.line.command refl refl (G.holds.knows s.actor there) (G.holds.leaves s.actor there) (G.holds.lines s.actor there).under
-  where
-    h : Held
-    h = hand_in mmu u s.actor
-
-    ends_none : (p : EndPlace) → code_of (part_task (end_part p h.topics) (own_index h) h.topics 0).kind ≡ code_of kind.Give → ⊥
-    ends_none ends.Exclude e = omega (arith, e)
-    ends_none ends.Seq e = omega (arith, e)
-    ends_none ends.SetSeq e = omega (arith, e)
-    ends_none ends.Count e = omega (arith, e)
-    ends_none ends.SetCount e = omega (arith, e)
-    ends_none ends.Release e = omega (arith, e)
-
-    old : (p : SlotChangePlace) (command : Command) → SlotChangeKnows p command h → RetiresPart (place.SlotChange p) h.topics
-        → code_of (slot_change_task p h command).kind ≡ code_of kind.Give → (place.SlotChange p ≡ place.SlotChange Give) × MayGiveOld h
-    old Give command K L e = (refl, K.1)
-    old Release command K L e = absurd (omega (arith, e))
-    old (End p) command K L e = absurd (ends_none p e)
-    old Watch command K L e = absurd (omega (arith, e))
-    old Clear command K L e = absurd (omega (arith, e))
-    old _ command K L e = let none = L.leaves refl in absurd (cc (none, left))
-
-    by : (p : Place) (c : Command) → h.state.place ≡ p → h.state.line.command ≡ c → KnowsPart p c h → RetiresPart p h.topics → UnderWay p h
-        → (h.state.place ≡ place.SlotChange Give) × MayGiveOld h
-    by (place.SlotChange p) command at is K L U =
-        let N = is_next h s.kind may.enabled (has_line_is h U.1) in
-        let task : task_of h ≡ slot_change_task p h command =
-        ap (λ q. task_at (place_at q h) (line_at q h).command h) at ∙ ap (λ c. task_at (place.SlotChange p) c h) is in
-        let there_now = old p command K.1 L (ap (λ (t : Task). code_of t.kind) (sym task) ∙ (sym (ap (λ (k : Kind). k.code) N.is) ∙ gives)) in
-        (at ∙ there_now.0, there_now.1)
-    by _ c at is K L U = let none = L.leaves refl in absurd (cc (none, left))
+use Rattle.core_theorem.proofs.SetsGiven.{gives_old}
 
 -- ---- its role
 
@@ -149,7 +107,8 @@ module _ (role : ℕ → ℕ) (x : ℕ) (t : Topics) where
   no_give : (p : SlotChangePlace) (command : Command) (h : Held) → clears p ≡ false → PlaceCleared role (place_after (slot_change_outcome p command h x)) t
   no_give (Claim begun) command h never = claim_cleared (claim_next Pages begun h.state.sizes h.topics.claim x)
   no_give Fill command h never = either_place (λ q. SlotChangeCleared role q t) (nat_lt (words_filled h.topics.owned + 1) 512) Fill Role tt tt
-  no_give Role command h never = either_place (λ q. SlotChangeCleared role q t) (is_some (slot_moved h.slots command)) (Begin begins.Exclude) Exclude tt tt
+  no_give Role command h never =
+      either_place (λ q. SlotChangeCleared role q t) (is_some (slot_invalidated h.slots command)) (Begin begins.Exclude) Exclude tt tt
   no_give (Begin p) command h never = begun_cleared (begin_next p h.state.sizes (slot_target h command) h.topics x)
   no_give Release command h never = either_place (λ q. SlotChangeCleared role q t) h.topics.invalidations.opened (End ends.Exclude) Watch tt tt
   no_give (End p) command h never = ended_cleared (end_next p x)

@@ -16,12 +16,12 @@ use Rattle.mmu_core.specs.machine.View.{word_in}
 use Rattle.mmu_laws.specs.leaves.OpenFrames.{HasOpen, flush_of, own_of}
 use Rattle.core_theorem.specs.Runs.{IsRun}
 
--- Each guest frame that an open invalidation is of lies in the range.
+-- Each guest frame that an open invalidation is of lies in the range, and below 2 ^ 36.
 abbrev pub OpenFramesAreRecorded : Type 0
 OpenFramesAreRecorded =
     (z : Sizes) (lines : List Line) (w : World Held) (ss : List (Step Kind)) → IsRun z lines w ss → (actor gfn : ℕ) → actor < actors_of z
     → HasOpen (run mmu w ss) actor → IsIn (own_of (run mmu w ss) actor) gfn
-    → (word_in z (run mmu w ss) area.RangeStart 0 ≤ gfn) × (gfn < word_in z (run mmu w ss) area.RangeEnd 0)
+    → (word_in z (run mmu w ss) area.RangeStart 0 ≤ gfn) × (gfn < word_in z (run mmu w ss) area.RangeEnd 0) × (gfn < 2 ^ 36)
 
 -- Where it is of a host page, it is of the guest frames that the published slots give to this page, and of no others.
 abbrev pub OpenFramesAreOfThePage : Type 0
@@ -33,7 +33,7 @@ OpenFramesAreOfThePage =
 -- Once its actor has asked for a first flush, no links lead such a guest frame from the root to a leaf.
 abbrev pub OpenFramesAreZapped : Type 0
 OpenFramesAreZapped =
-    (z : Sizes) (lines : List Line) (w : World Held) (ss : List (Step Kind)) → IsRun z lines w ss → (actor gfn entry : ℕ) → gfn < 2 ^ 36 → actor < actors_of z
+    (z : Sizes) (lines : List Line) (w : World Held) (ss : List (Step Kind)) → IsRun z lines w ss → (actor gfn entry : ℕ) → actor < actors_of z
     → HasOpen (run mmu w ss) actor → 1 ≤ (flush_of (run mmu w ss) actor).asked → IsIn (own_of (run mmu w ss) actor) gfn
     → LeadsTo (word_in z (run mmu w ss) area.Pool) 4 (word_in z (run mmu w ss) area.Root 0) gfn entry → kind_of 1 entry ≡ entry_kind.Leaf → ⊥
 

@@ -1,8 +1,8 @@
 -- The slots that stand in an array of places: what a write to a place does to them, and that their IDs rise.
 use Rattle.std.proofs.Common.{◌≡◌, ◌+◌, ◌<◌, ◌==◌, ℕ, zero, suc, [], ◌∷◌, length, set, arith, refl, sym, ap, ◌∙◌}
-use Rattle.std.proofs.lemmas.Bool.{cond-true, cond-false, eq-eqb, ne_eqb}
+use Rattle.std.proofs.lemmas.Bool.{eq-eqb, ne_eqb}
 use Rattle.std.proofs.lemmas.Bool.Decides.{nat_tests}
-use Rattle.std.specs.Prelude.{Some, None}
+use Rattle.std.specs.Prelude.{Bool, true, false, not, Some, None, if◌then◌else◌}
 use Rattle.std.specs.List.{AllByRecursion}
 use Rattle.std.specs.List.Sorted.{IsStrictlySortedBy}
 use Rattle.std.specs.Map.{keys_of}
@@ -50,22 +50,32 @@ inserted (suc i) j k m (Some n ∷ ps) e lt =
 pub put : (id : ℕ) (m : MemorySlot) (ps : Places) → id < length ps → slots_from 0 (set ps id (Some m)) ≡ with_slot_at id m (slots_from 0 ps)
 put id m ps lt = sym (inserted id id 0 m ps (omega arith) lt)
 
+-- A slot stays in the list that has another ID, and else leaves it.
+stays_in : (b : Bool) (e : ℕ × MemorySlot) (es : MemorySlots) → b ≡ false → (if not b then e ∷ es else es) ≡ e ∷ es
+stays_in true e es is = absurd (cc is)
+stays_in false e es is = refl
+
+leaves : (b : Bool) (e : ℕ × MemorySlot) (es : MemorySlots) → b ≡ true → (if not b then e ∷ es else es) ≡ es
+leaves true e es is = refl
+leaves false e es is = absurd (cc is)
+
 -- No slot with an ID below the first is there to be taken away.
 remove_none : (j k : ℕ) (ps : Places) → j < k → without_slot_at j (slots_from k ps) ≡ slots_from k ps
 remove_none j k [] lt = refl
 remove_none j k (None ∷ ps) lt = remove_none j (k + 1) ps (omega arith)
 remove_none j k (Some n ∷ ps) lt =
-    cond-false (k == j) (slots_from (k + 1) ps) ((k, n) ∷ without_slot_at j (slots_from (k + 1) ps)) (ne_eqb k j (λ e. omega arith))
+    stays_in (k == j) (k, n) (without_slot_at j (slots_from (k + 1) ps)) (ne_eqb k j (λ e. omega arith))
     ∙ ap (λ (rest : MemorySlots). (k, n) ∷ rest) (remove_none j (k + 1) ps (omega arith))
 
 -- The slot with an ID leaves its place.
 removed : (i j k : ℕ) (ps : Places) → j ≡ k + i → without_slot_at j (slots_from k ps) ≡ slots_from k (set ps i None)
 removed i j k [] e = refl
 removed zero j k (None ∷ ps) e = remove_none j (k + 1) ps (omega arith)
-removed zero j k (Some n ∷ ps) e = cond-true (k == j) (slots_from (k + 1) ps) ((k, n) ∷ without_slot_at j (slots_from (k + 1) ps)) (eq-eqb k j (omega arith))
+removed zero j k (Some n ∷ ps) e =
+    leaves (k == j) (k, n) (without_slot_at j (slots_from (k + 1) ps)) (eq-eqb k j (omega arith)) ∙ remove_none j (k + 1) ps (omega arith)
 removed (suc i) j k (None ∷ ps) e = removed i j (k + 1) ps (omega arith)
 removed (suc i) j k (Some n ∷ ps) e =
-    cond-false (k == j) (slots_from (k + 1) ps) ((k, n) ∷ without_slot_at j (slots_from (k + 1) ps)) (ne_eqb k j (λ d. omega arith))
+    stays_in (k == j) (k, n) (without_slot_at j (slots_from (k + 1) ps)) (ne_eqb k j (λ d. omega arith))
     ∙ ap (λ (rest : MemorySlots). (k, n) ∷ rest) (removed i j (k + 1) ps (omega arith))
 
 -- A place that is emptied takes away the slot with its ID.

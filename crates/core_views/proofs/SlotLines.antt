@@ -1,13 +1,14 @@
--- The slot at each ID, where a slot was set at one of them.
+-- The slot at each ID, where a slot was set at one of them, or taken away.
 use Rattle.std.proofs.Common.{◌≡◌, ◌≢◌, ◌<◌, ◌==◌, ℕ, [], ◌∷◌, arith, refl, sym, ap, ◌∙◌}
 use Rattle.std.proofs.lemmas.Bool.{cond-true, cond-false, eq-eqb, ne_eqb}
-use Rattle.std.specs.Prelude.{Option, Some, None, cond}
+use Rattle.std.specs.Prelude.{Bool, true, false, not, Option, Some, None, cond, if◌then◌else◌}
+use Rattle.std.proofs.lemmas.Bool.Decides.{nat_tests}
 use Rattle.std.specs.Cmp.{ranks}
 use Rattle.std.specs.Ordering.{MatchOrdering, match_ordering, nat_cmp}
 use Rattle.std.specs.declared.cmp.Ordering.{Ordering}
 use Rattle.std.specs.declared.cmp.Ordering.TheVariants.{Less, Equal, Greater}
 use Rattle.core_views.specs.declared.slot_set.MemorySlot.{MemorySlot}
-use Rattle.core_views.specs.SlotSets.{MemorySlots, slot_of_id, with_slot_at}
+use Rattle.core_views.specs.SlotSets.{MemorySlots, slot_of_id, with_slot_at, without_slot_at}
 
 -- This slot stands at its ID.
 pub set_here : (id : ℕ) (m : MemorySlot) (es : MemorySlots) → slot_of_id id (with_slot_at id m es) ≡ Some m
@@ -32,3 +33,25 @@ set_elsewhere id other m ((k, n) ∷ es) apart = by (nat_cmp id k) (ranks id k) 
         let not_here = ne_eqb k other (λ e. apart (sym e ∙ sym is)) in
         cond-false (k == other) (Some m) (slot_of_id other es) not_here ∙ sym (cond-false (k == other) (Some n) (slot_of_id other es) not_here)
     by Greater is rest = ap (λ (found : Option MemorySlot). cond (k == other) (Some n) found) rest
+
+-- Where the slot at an ID is taken away, none stands there, and at each other ID what stood there.
+pub taken_at : (i id : ℕ) (es : MemorySlots) → slot_of_id i (without_slot_at id es) ≡ (if id == i then None else slot_of_id i es)
+taken_at i id [] = by (id == i)
+  where
+    by : (b : Bool) → ◌≡◌ {A = Option MemorySlot} None (if b then None else None)
+    by true = refl
+    by false = refl
+taken_at i id ((k, n) ∷ es) = by (k == id) (id == i) (λ e. grind (arith, nat_tests)) (λ e f. grind (arith, nat_tests)) (taken_at i id es)
+  where
+    -- what stands at the ID, behind a slot that is there, or isn't
+    behind : Bool → Option MemorySlot → Option MemorySlot
+    behind here rest = if here then Some n else rest
+
+    by : (gone it : Bool) → (gone ≡ true → (k == i) ≡ it) → (gone ≡ false → it ≡ true → (k == i) ≡ false)
+        → slot_of_id i (without_slot_at id es) ≡ (if it then None else slot_of_id i es)
+        → slot_of_id i (if not gone then (k, n) ∷ without_slot_at id es else without_slot_at id es)
+        ≡ (if it then None else if k == i then Some n else slot_of_id i es)
+    by true true same apart rest = rest
+    by true false same apart rest = rest ∙ ap (λ b. behind b (slot_of_id i es)) (sym (same refl))
+    by false true same apart rest = ap (λ b. behind b (slot_of_id i (without_slot_at id es))) (apart refl refl) ∙ rest
+    by false false same apart rest = ap (behind (k == i)) rest

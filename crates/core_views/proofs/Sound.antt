@@ -2,21 +2,22 @@
 use Rattle.std.proofs.Common.{◌≡◌, ◌≢◌, ◌+◌, ◌<◌, ◌≤◌, ◌^◌, ◌==◌, ◌&&◌, ◌||◌, ◌⊎◌, inl, inr, ℕ, Bool, true, false, not, cond, List, [], ◌∷◌, length}
 use Rattle.std.proofs.Common.{set, arith, refl, sym, subst, ◌∙◌}
 use Rattle.std.proofs.lemmas.Bool.{cases_eq, eqb-true, ltb-false, ne_eqb, or_parts, or_from}
+use Rattle.std.proofs.lemmas.Bool.Decides.{nat_tests}
 use Rattle.std.proofs.lemmas.List.{get_or-set_same, get_or-set_other, length-set}
 use Rattle.std.proofs.lemmas.Map.Keys.{IsStrictlyIncreasing-from_sorted}
 use Rattle.std.proofs.lemmas.Option.{none-some, same_Some}
-use Rattle.std.specs.Prelude.{Option, Some, None, if◌then◌else◌, nat_lt}
+use Rattle.std.specs.Prelude.{Option, Some, None, if◌then◌else◌, is_none, nat_lt}
 use Rattle.std.specs.List.{AllByRecursion, list_any}
 use Rattle.std.specs.Map.{keys_of}
 use Rattle.core_views.specs.declared.answer.Refusal.{Refusal}
-use Rattle.core_views.specs.declared.answer.Refusal.TheVariants.{BadId, TooLarge, Logged, Resize, Fixed, Overlap, HostOverlap}
+use Rattle.core_views.specs.declared.answer.Refusal.TheVariants.{BadId, TooLarge, Missing, Logged, Resize, Fixed, Overlap, HostOverlap}
 use Rattle.core_views.specs.declared.trace.Slot.{Slot}
 use Rattle.core_views.specs.Slots.{changes_fixed, contains, first_of, has_host_page, is_some_and, is_too_large, meets_guest_frames, meets_host_pages}
 use Rattle.core_views.specs.Slots.{resizes, share_guest_frames, share_host_pages, slot_with_id, Slots}
 use Rattle.core_views.specs.declared.slot_set.MemorySlot.{MemorySlot}
 use Rattle.core_views.specs.SlotSets.{IsSlotSet, MemorySlots, flat_slots, slot_of_id}
 use Rattle.core_views.specs.Places.{Places, found, slots_from}
-use Rattle.core_views.specs.Refusals.{moves_logged, set_refusal}
+use Rattle.core_views.specs.Refusals.{delete_refusal, is_logged, moves_logged, set_refusal}
 use Rattle.core_views.proofs.Places.{rising}
 
 -- Neither of two holds, in the other order.
@@ -210,3 +211,12 @@ delete_sound id ps old low =
         host_apart = λ i j a b ne ai bj. old.1.host_apart i j a b ne (was i a ai) (was j b bj);
       },
     )
+
+-- A deletion that nothing refuses is of an ID that a set may have.
+pub deletion_low : (id : ℕ) (slots : MemorySlots) → delete_refusal id slots ≡ None → id ≤ 31
+deletion_low id slots accepted = by (nat_lt 31 id) refl accepted
+  where
+    by : (above : Bool) → nat_lt 31 id ≡ above
+        → (if above then Some BadId else first_of ((is_none (slot_of_id id slots), Missing) ∷ (is_logged id slots, Logged) ∷ [])) ≡ None → id ≤ 31
+    by true is accepted = absurd (cc accepted)
+    by false is accepted = grind (arith, nat_tests)

@@ -4,14 +4,13 @@ use Rattle.std.specs.Option.{option_map}
 use Rattle.core_views.specs.declared.actor.Actor.{Actor}
 use Rattle.core_views.specs.declared.answer.Answer.{Answer}
 use Rattle.core_views.specs.declared.answer.Answer.TheVariants.{Reached, Mmio, HostFault, Starved, Done, Refused}
-use Rattle.core_views.specs.declared.answer.Refusal.{Refusal}
 use Rattle.core_views.specs.declared.answer.Refusal.TheVariants.{NoFrame}
 use Rattle.core_views.specs.declared.event.Event.{Event}
 use Rattle.core_views.specs.declared.event.EventKind.{EventKind}
 use Rattle.core_views.specs.declared.event.EventKind.TheVariants.{Begun, LookedAtPause, LookedAtSlots, LookedAtHost, BroughtIn, Accessed, Exited, SlotChanged}
 use Rattle.core_views.specs.declared.event.EventKind.TheVariants.{HostChanged, Answered}
 use Rattle.core_views.specs.declared.trace.Command.{Command}
-use Rattle.core_views.specs.declared.trace.Command.TheVariants.{Access, ChangeHost, SetSlot}
+use Rattle.core_views.specs.declared.trace.Command.TheVariants.{Access, ChangeHost, DeleteSlot, SetSlot}
 use Rattle.core_views.specs.declared.trace.HostChange.{HostChange}
 use Rattle.core_views.specs.declared.trace.HostChange.TheVariants.{Move}
 use Rattle.core_views.specs.declared.host.HostEntry.{HostEntry}
@@ -19,7 +18,7 @@ use Rattle.core_views.specs.declared.sizes.Sizes.{Sizes}
 use Rattle.core_views.specs.declared.trace.Op.{Op}
 use Rattle.core_views.specs.Slots.{Slots, page_behind}
 use Rattle.core_views.specs.SlotSets.{MemorySlots, flat_slots}
-use Rattle.core_views.specs.SlotCommands.{change_refusal}
+use Rattle.core_views.specs.SlotCommands.{change_at_once, refused_or_done}
 pub use Rattle.core_views.specs.SlotCommands.{slot_change}
 use Rattle.core_views.specs.Host.{is_denied}
 use Rattle.core_views.specs.HostChanges.{Agree, Changes, host_answer, host_refusal}
@@ -80,14 +79,11 @@ abbrev pub BringsIn : Facts → Command → Notes → ℕ → Type 0
 BringsIn f (Access gfn word op) notes page = SawAbsent f notes gfn op page
 BringsIn _ _ _ _ = ⊥
 
--- why the actor's line is refused on a machine with these slots, whatever it looks at
-abbrev pub line_refusal : Sizes → MemorySlots → Actor → Command → Option Refusal
-line_refusal z slots actor (ChangeHost page change) = host_refusal z actor page
-line_refusal z slots actor command = change_refusal z command slots
-
--- what the actor's line is answered that has nothing to do on a machine with these slots: its refusal
+-- What the actor's line is answered that has nothing to do on a machine with these slots, whatever it looks at: that it is refused, or, where the slots
+-- stay as they are, done.
 abbrev pub answer_at_once : Sizes → MemorySlots → Actor → Command → Option Answer
-answer_at_once z slots actor command = option_map (λ refusal. Refused refusal) (line_refusal z slots actor command)
+answer_at_once z slots actor (ChangeHost page change) = option_map (λ refusal. Refused refusal) (host_refusal z actor page)
+answer_at_once z slots actor command = option_map refused_or_done (change_at_once z command slots)
 
 -- The actor's line has something to do.
 abbrev pub HasWork : Sizes → Facts → Actor → Command → Type 0
@@ -111,6 +107,7 @@ MayLeave z f actor (Access gfn word op) notes Mmio = SawNoPage notes gfn op
 MayLeave z f actor (Access gfn word op) notes HostFault = SawForbidden notes gfn op
 MayLeave z f actor (Access gfn word op) notes Starved = HasWork z f actor (Access gfn word op) × SawPage notes gfn op
 MayLeave z f actor (SetSlot id slot) notes Starved = HasWork z f actor (SetSlot id slot)
+MayLeave z f actor (DeleteSlot id) notes Starved = HasWork z f actor (DeleteSlot id)
 MayLeave z f actor (ChangeHost page Move) notes (Refused NoFrame) = HasWork z f actor (ChangeHost page Move)
 MayLeave _ _ _ _ _ _ = ⊥
 

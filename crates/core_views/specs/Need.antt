@@ -2,7 +2,7 @@
 use Rattle.std.specs.Prelude.{◌+◌, ◌*◌, ◌/◌, ◌^◌, ℕ, zero, suc, List, Bool, false, ◌&&◌, nat_le, nat_lt, if◌then◌else◌}
 use Rattle.std.specs.List.{list_any}
 use Rattle.core_views.specs.declared.trace.Command.{Command}
-use Rattle.core_views.specs.declared.trace.Command.TheVariants.{Access, ChangeHost, SetSlot}
+use Rattle.core_views.specs.declared.trace.Command.TheVariants.{SetSlot}
 use Rattle.core_views.specs.declared.trace.Header.{Header}
 use Rattle.core_views.specs.declared.trace.Line.{Line}
 use Rattle.core_views.specs.declared.trace.Slot.{Slot}
@@ -17,9 +17,8 @@ meets span index slot = nat_lt slot.base ((index + 1) * span) && nat_lt (index *
 
 -- The line sets a slot that counts, some guest frame of which is among those.
 abbrev pub wants : ℕ → ℕ → ℕ → Command → Bool
-wants pages span index (Access gfn word op) = false
-wants pages span index (ChangeHost page change) = false
 wants pages span index (SetSlot id slot) = is_counted pages slot && meets span index slot
+wants pages span index _ = false
 
 -- how many of the numbers below n pass the test
 unfoldable pub count_below : ℕ → (ℕ → Bool) → ℕ

@@ -1,7 +1,9 @@
--- What a slot line makes of the slots of flat memory; and slots that just fit, or are one page too large.
+-- What a slot line makes of the slots of flat memory; slots that just fit, or are one page too large; and slots that are set again, moved and deleted.
 use Rattle.std.specs.Prelude.{◌≡◌, ◌≢◌, ◌-◌, ◌^◌, ℕ, List, [], ◌∷◌, ◌++◌, Bool, false, Option, Some, None, codes}
 use Rattle.core_views.specs.declared.slot_set.MemorySlot.{MemorySlot}
-use Rattle.core_views.specs.declared.trace.Command.TheVariants.{SetSlot}
+use Rattle.core_views.specs.declared.actor.Actor.TheVariants.{Manager}
+use Rattle.core_views.specs.declared.trace.Command.{Command}
+use Rattle.core_views.specs.declared.trace.Command.TheVariants.{DeleteSlot, SetSlot}
 use Rattle.core_views.specs.declared.trace.Line.{Line}
 use Rattle.core_views.specs.declared.trace.Op.TheVariants.{Read, Write}
 use Rattle.core_views.specs.declared.trace.Slot.{Slot}
@@ -28,10 +30,16 @@ SetsAtItsId =
     (id : ℕ) (slot : Slot) (slots : MemorySlots)
     → slot_of_id id (slots_after (SetSlot id slot) slots) ≡ Some (record { slot = slot; logged = has_log (slot_of_id id slots) })
 
+-- After a deletion none stands there.
+abbrev pub DeletesAtItsId : Type 0
+DeletesAtItsId = (id : ℕ) (slots : MemorySlots) → slot_of_id id (slots_after (DeleteSlot id) slots) ≡ None
+
 -- At each other ID stands what stood there.
+abbrev pub KeepsAllBut : ℕ → Command → Type 0
+KeepsAllBut id command = (other : ℕ) (slots : MemorySlots) → other ≢ id → slot_of_id other (slots_after command slots) ≡ slot_of_id other slots
+
 abbrev pub KeepsOtherIds : Type 0
-KeepsOtherIds =
-    (id other : ℕ) (slot : Slot) (slots : MemorySlots) → other ≢ id → slot_of_id other (slots_after (SetSlot id slot) slots) ≡ slot_of_id other slots
+KeepsOtherIds = (id : ℕ) (slot : Slot) → KeepsAllBut id (SetSlot id slot) × KeepsAllBut id (DeleteSlot id)
 
 -- a slot of so many pages that may be written
 abbrev pub open_slot : ℕ → ℕ → ℕ → Slot
@@ -60,3 +68,35 @@ fitting_bytes =
 
 abbrev pub FittingPrints : Type 0
 FittingPrints = text (one_by_one example_sizes fitting_lines first_facts) ≡ fitting_bytes
+
+abbrev pub deletion_line : ℕ → ℕ → Line
+deletion_line number id = record { number = number; actor = Manager; command = DeleteSlot id }
+
+-- On the same machine: a slot that is set with another number of pages, with other host pages, and as it is; deletions of slots that aren't there; a write
+-- before a move to guest frames of which two are the slot's already, and reads where it was and where it is; its deletion; and another slot at its ID.
+abbrev pub whole_lines : List Line
+whole_lines =
+    manager_line 2 1 (open_slot 5 3 64)
+    ∷ manager_line 3 1 (open_slot 5 4 64)
+    ∷ manager_line 4 1 (open_slot 5 3 0)
+    ∷ manager_line 5 1 (open_slot 5 3 64)
+    ∷ deletion_line 6 2
+    ∷ deletion_line 7 32
+    ∷ access_line 8 0 7 0 (Write 7)
+    ∷ manager_line 9 1 (open_slot 6 3 64)
+    ∷ access_line 10 0 5 0 Read
+    ∷ access_line 11 0 8 0 Read
+    ∷ deletion_line 12 1
+    ∷ access_line 13 0 8 0 Read
+    ∷ manager_line 14 1 (open_slot 5 4 0)
+    ∷ access_line 15 0 8 0 Read
+    ∷ []
+
+abbrev pub whole_bytes : List ℕ
+whole_bytes =
+    codes "2 vm done\n3 vm refused resize\n4 vm refused fixed\n5 vm done\n6 vm refused missing\n7 vm refused bad-id\n"
+    ++ codes "8 v0 frame 66 value 0\n9 vm done\n10 v0 mmio\n11 v0 frame 66 value 7\n"
+    ++ codes "12 vm done\n13 v0 mmio\n14 vm done\n15 v0 frame 3 value 0\n"
+
+abbrev pub WholePrints : Type 0
+WholePrints = text (one_by_one example_sizes whole_lines first_facts) ≡ whole_bytes

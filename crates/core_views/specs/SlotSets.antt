@@ -1,8 +1,9 @@
 -- Sets of memory slots (api.rst, KVM_SET_USER_MEMORY_REGION): each slot at its ID, with or without a dirty log.
-use Rattle.std.specs.Prelude.{◌≡◌, ◌≢◌, ◌+◌, ◌^◌, ◌≤◌, ◌==◌, ℕ, false, List, map, Option, Some, None, find}
+use Rattle.std.specs.Prelude.{◌≡◌, ◌≢◌, ◌+◌, ◌^◌, ◌≤◌, ◌==◌, ℕ, false, not, List, map, Option, Some, None, find}
 use Rattle.std.specs.Ordering.{nat_cmp}
 use Rattle.std.specs.BTreeMap.{insert_entry}
-use Rattle.std.specs.Map.{keys_of, lookup, remove_entry}
+use Rattle.std.specs.List.{filter}
+use Rattle.std.specs.Map.{keys_of, lookup}
 use Rattle.std.specs.List.Sorted.{IsStrictlyIncreasing}
 use Rattle.core_views.specs.Slots.{Slots, contains, share_guest_frames, share_host_pages}
 use Rattle.core_views.specs.declared.slot_set.MemorySlot.{MemorySlot}
@@ -21,7 +22,7 @@ with_slot_at id slot slots = insert_entry nat_cmp slots id slot
 
 -- the slots, without the one at the ID
 abbrev pub without_slot_at : ℕ → MemorySlots → MemorySlots
-without_slot_at id slots = remove_entry (λ i. i == id) slots
+without_slot_at id slots = filter (λ entry. not (entry.0 == id)) slots
 
 -- the slot that contains the guest frame, with its ID, or none
 abbrev pub slot_holding : ℕ → MemorySlots → Option (ℕ × MemorySlot)

@@ -1,11 +1,10 @@
 -- What a trace may hold: the ranges of its header and of its lines.
-use Rattle.std.specs.Prelude.{◌≡◌, ◌*◌, ◌%◌, ◌^◌, ◌<◌, ◌≤◌, ◌==◌, ◌⊎◌, ℕ, List, [], ◌∷◌, All, Some, IfSome, length, map, slice_get}
-use Rattle.std.specs.List.{IsDistinct}
+use Rattle.std.specs.Prelude.{◌≡◌, ◌*◌, ◌%◌, ◌^◌, ◌<◌, ◌≤◌, ◌⊎◌, ℕ, List, All, Some, IfSome, length, map, slice_get}
 use Rattle.std.specs.List.Sorted.{IsStrictlyIncreasing}
 use Rattle.core_views.specs.declared.actor.Actor.{Actor}
 use Rattle.core_views.specs.declared.actor.Actor.TheVariants.{Vcpu, Host, Manager, Worker}
 use Rattle.core_views.specs.declared.trace.Command.{Command}
-use Rattle.core_views.specs.declared.trace.Command.TheVariants.{Access, ChangeHost, SetSlot}
+use Rattle.core_views.specs.declared.trace.Command.TheVariants.{Access, ChangeHost, DeleteSlot, SetSlot}
 use Rattle.core_views.specs.declared.trace.Header.{Header}
 use Rattle.core_views.specs.declared.trace.Item.{Item}
 use Rattle.core_views.specs.declared.trace.Line.{Line}
@@ -28,6 +27,7 @@ pub record IsSlotInRange (slot : Slot) : Type 0 where
 abbrev pub IsCommandFor : Sizes → Actor → Command → Type 0
 IsCommandFor z (Vcpu n) (Access gfn word op) = (n < z.vcpus) × (gfn < 2 ^ 36) × (word < z.words)
 IsCommandFor z Manager (SetSlot id slot) = IsSlotInRange slot
+IsCommandFor z Manager (DeleteSlot id) = Unit {0}
 IsCommandFor z (Host n) (ChangeHost page change) = n < z.hosts
 IsCommandFor z _ _ = ⊥
 
@@ -41,17 +41,6 @@ IsLineOf h line = IsCommandOf h line.actor line.command
 -- Each line is one that the header allows.
 abbrev pub AreLinesOf : Header → List Line → Type 0
 AreLinesOf h lines = All (IsLineOf h) lines
-
--- before these IDs the one that the command sets a slot at, if it sets one
-abbrev pub or_slot_id : Command → List ℕ → List ℕ
-or_slot_id (Access gfn word op) ids = ids
-or_slot_id (ChangeHost page change) ids = ids
-or_slot_id (SetSlot id slot) ids = id ∷ ids
-
--- the IDs that the lines set slots at, in their order
-abbrev pub slot_ids : List Line → List ℕ
-slot_ids [] = []
-slot_ids (line ∷ lines) = or_slot_id line.command (slot_ids lines)
 
 -- One to four host threads own all pages: the first from page 0 on, and each from a page behind the one before.
 pub record AreHostsOf (pages : ℕ) (hosts : List ℕ) : Type 0 where
@@ -92,13 +81,11 @@ pub record IsItemOf (h : Header) (item : Item) : Type 0 where
   pub actor : HasActor (sizes_of h) item.actor
   pub until : IsUntilInRange item.until
 
--- All numbers of the trace are in their ranges, its lines stand in the order of their numbers, which differ, and are 1,000,000 at most; no two of them set a
--- slot at one ID.
+-- All numbers of the trace are in their ranges, and its lines stand in the order of their numbers, which differ, and are 1,000,000 at most.
 pub record IsTrace (t : Trace) : Type 0 where
   pub header : IsHeader t.header
   pub lines : AreLinesOf t.header t.lines
   pub rising : IsStrictlyIncreasing (map (λ line. line.number) t.lines)
-  pub distinct : IsDistinct (λ i j. i == j) (slot_ids t.lines)
   pub few : length t.lines ≤ 1000000
   pub go : IfSome t.go (λ above. above ≤ length t.lines)
   pub items : All (IsItemOf t.header) t.items

@@ -1,10 +1,10 @@
 -- Histories that flat guest memory doesn't allow. Each begins with the whole of one slot line, which is as it must be.
-use Rattle.std.specs.Prelude.{List, [], ◌∷◌, ◌++◌, false, map}
+use Rattle.std.specs.Prelude.{List, [], ◌∷◌, ◌++◌, false, map, Some}
 use Rattle.core_views.specs.declared.answer.Answer.{Answer}
-use Rattle.core_views.specs.declared.answer.Answer.TheVariants.{Mmio, Reached, Starved}
+use Rattle.core_views.specs.declared.answer.Answer.TheVariants.{Done, Mmio, Reached, Starved}
 use Rattle.core_views.specs.declared.event.Event.{Event}
 use Rattle.core_views.specs.declared.event.EventKind.{EventKind}
-use Rattle.core_views.specs.declared.event.EventKind.TheVariants.{Begun, LookedAtPause, LookedAtSlots, LookedAtHost, Accessed, Exited}
+use Rattle.core_views.specs.declared.event.EventKind.TheVariants.{Begun, LookedAtPause, LookedAtSlots, LookedAtHost, Accessed, Exited, SlotChanged}
 use Rattle.core_views.specs.declared.trace.Line.{Line}
 use Rattle.core_views.specs.declared.trace.Op.TheVariants.{Read}
 use Rattle.core_views.specs.Flat.{first_facts, first_flat}
@@ -30,6 +30,13 @@ overlap_line = manager_line 3 2 (example_slot 7 0 false)
 
 abbrev pub OverlapCannotStarve : Type 0
 OverlapCannotStarve = IsUnlawful overlap_line (Exited Starved ∷ []) Starved
+
+-- The slot is set again as it is. It isn't changed.
+abbrev pub same_line : Line
+same_line = manager_line 3 1 (example_slot 5 64 false)
+
+abbrev pub UnchangedChangesNone : Type 0
+UnchangedChangesNone = IsUnlawful same_line (SlotChanged 1 (Some (record { slot = example_slot 5 64 false; logged = false })) ∷ []) Done
 
 -- A read of guest frame 6, which is host page 65, at frame 65.
 abbrev pub inside_line : Line

@@ -1,4 +1,5 @@
 ghost use Rattle.std.specs.Prelude.{◌≡◌, Some};
+ghost use Rattle.core_views.specs.SlotCommands.{refused_or_done};
 ghost use Rattle.core_views.specs.Text.{answer_text, refusal_name};
 
 use crate::{Actor, Sequence};
@@ -51,6 +52,19 @@ pub enum Refusal {
     OutOfRange,
     /// Each frame is named by some page, so none is free for a move.
     NoFrame,
+}
+
+impl Answer {
+    /// The answer of a line that has nothing to do: it is refused, or, with no refusal,
+    /// done.
+    pub fn at_once(refusal: Option<Refusal>) -> Self
+        ensures { result ≡ refused_or_done refusal }
+    {
+        match refusal {
+            Some(refusal) => Answer::Refused(refusal),
+            None => Answer::Done,
+        }
+    }
 }
 
 impl Refusal {

@@ -1,7 +1,7 @@
 ghost use Rattle.std.specs.Prelude.{◌≤◌, IfOk, None, ◌≡◌, ◌-◌, ◌<◌, OnErr, OnOk, length, slice_get};
 ghost use Rattle.std.specs.Option.{option_copied};
 ghost use Rattle.core_views.specs.HostChanges.{is_own};
-ghost use Rattle.core_views.specs.SlotCommands.{change_refusal, slots_after};
+ghost use Rattle.core_views.specs.SlotCommands.{change_at_once, slots_after};
 ghost use Rattle.core_views.specs.Traces.{IsCommandFor};
 ghost use Rattle.core_views.specs.Held.{answered, first_held, first_progress, has_line, line_at, next_line, progress_of, state_of};
 
@@ -261,11 +261,11 @@ impl Hand {
     }
 
     /// Makes the change of the line that the next step is of in the manager's own record,
-    /// where it isn't refused.
+    /// where the line has something to do.
     pub fn change_slots(&mut self)
         requires left { length self.old.core.answers < length self.old.core.lines }
         requires allowed { IsCommandFor self.old.core.state.sizes (next_line self.old.core).actor (next_line self.old.core).command }
-        requires accepted { change_refusal self.old.core.state.sizes (next_line self.old.core).command self.old.core.slots ≡ None }
+        requires work { change_at_once self.old.core.state.sizes (next_line self.old.core).command self.old.core.slots ≡ None }
         ensures core { self.new.core ≡ record self.old.core { slots = slots_after (next_line self.old.core).command self.old.core.slots } }
         ensures room { self.new.room ≡ self.old.room }
     {

@@ -1,11 +1,12 @@
 ghost use Rattle.core_views.specs.Laws.{FlatIsLawful, FlatIsWhole, FlatStandsAlone, FlatPrints, AloneIsFlat, AloneAnswersAsFlat, AloneIsWhole};
 ghost use Rattle.core_views.specs.ReachedWrites.{OnlyWritesChange, OnlyWritesCount, ReachedFramesAreKept};
-ghost use Rattle.core_views.specs.SlotLines.{FittingPrints, KeepsOtherIds, SetsAsRecord, SetsAtItsId};
+ghost use Rattle.core_views.specs.SlotLines.{DeletesAtItsId, FittingPrints, KeepsOtherIds, SetsAsRecord, SetsAtItsId, WholePrints};
 ghost use Rattle.core_views.specs.HostExamples.{FullPrints, HostPrints, PresentIsNotBroughtIn, AbsentIsNotReached, DeniedIsNotBroughtIn};
 ghost use Rattle.core_views.specs.HostExamples.{NamedIsNotTaken, OthersAreNotChanged, UnseenIsNotChanged};
 ghost use Rattle.core_views.specs.Writes.{WritesAreBegun, WritesAreUnderWay, WrittenFramesAreKept};
 ghost use Rattle.core_views.specs.Unlawful.{AccessLooksAtPause, AccessReachesItsFrame, ExitLooksAtPause};
-ghost use Rattle.core_views.specs.Unlawful.{OutsideCannotStarve, OutsideReachesNone, OverlapCannotStarve, StarvedLooksAtHost, StarvedLooksAtPause};
+ghost use Rattle.core_views.specs.Unlawful.{OutsideCannotStarve, OutsideReachesNone, OverlapCannotStarve};
+ghost use Rattle.core_views.specs.Unlawful.{StarvedLooksAtHost, StarvedLooksAtPause, UnchangedChangesNone};
 
 /// Laws about the definitions alone: the flat history of every list of lines
 /// is lawful, answers each line once, in its actor's order, and is made of
@@ -33,7 +34,8 @@ pub fn alone_is_flat()
 
 /// A law about closed histories that are not lawful: a slot line that is to be
 /// refused can't be given up for want of a pool page, nor can an access outside
-/// every slot, nor one that hasn't looked at its page of the host. An access that
+/// every slot, nor one that hasn't looked at its page of the host. A slot line that sets a
+/// slot as it is changes none. An access that
 /// reaches a frame, leaves the guest or is given up has looked at the pause, and it
 /// reaches the frame that slots and host name, or none. Only a page that isn't present is
 /// brought in, and only where the host allows the access, which reaches no page before that.
@@ -41,6 +43,7 @@ pub fn alone_is_flat()
 /// that no page names.
 pub fn unlawful_histories_are_refused()
     ensures starved { OverlapCannotStarve }
+    ensures unchanged { UnchangedChangesNone }
     ensures no_page { OutsideCannotStarve }
     ensures unpaused { StarvedLooksAtPause }
     ensures no_host { StarvedLooksAtHost }
@@ -82,12 +85,15 @@ pub fn reached_writes_are_kept()
 
 /// A law about what a slot line makes of flat memory's slots: what the manager's record
 /// makes of them (`record`); the slot stands at its ID, with a dirty log where the one that
-/// was there had one (`set`), and at each other ID what stood there (`others`). The last
-/// clause is one closed trace of slots that just fit, and of slots one page larger, with
-/// the bytes that it prints.
+/// was there had one (`set`), or after a deletion none (`deleted`), and at each other ID
+/// what stood there (`others`). The last two clauses are closed traces, with the bytes that
+/// they print: of slots that just fit, and of slots one page larger (`fits`); of a slot that
+/// is set again, moved and deleted (`whole`).
 pub fn slot_lines_set_slots()
     ensures record { SetsAsRecord }
     ensures set { SetsAtItsId }
+    ensures deleted { DeletesAtItsId }
     ensures others { KeepsOtherIds }
     ensures fits { FittingPrints }
+    ensures whole { WholePrints }
 {}

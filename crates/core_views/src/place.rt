@@ -49,12 +49,13 @@ pub enum AccessPlace {
 /// The steps of a line that changes a slot, in their order: a page of its own is
 /// filled with the new slot set, published by one exchange under the lock, and the
 /// old page given back after a grace period (kvm_main.c, `kvm_swap_active_memslots`).
-/// Where the slot was there, it is published within an invalidation of the slot's guest
-/// frames (`kvm_invalidate_memslot`).
+/// Where a slot is moved or deleted, this stands within an invalidation of the slot's
+/// guest frames (`kvm_invalidate_memslot`).
 #[derive(Clone, Copy, PartialEq, Eq, Drop)]
 pub enum SlotChangePlace {
-    /// It is refused, which is known before its first step.
-    Refuse(crate::Refusal),
+    /// It has nothing to do, which is known before its first step: it is refused,
+    /// or, with no refusal, leaves the slots as they are.
+    AtOnce(Option<crate::Refusal>),
     /// Loads a word of the pool's map, or tries a page that it saw there.
     Claim { begun: bool },
     /// Stores the next word of the new slot set.

@@ -1,40 +1,63 @@
 //! What a line changes in the slots: a clause for each command that changes one.
 ghost use Rattle.std.specs.Prelude.{◌≡◌, ◌≤◌, None};
-ghost use Rattle.core_views.specs.Refusals.{after_set, set_refusal};
-ghost use Rattle.core_views.specs.SlotCommands.{change_refusal, slot_moved, slots_after};
+ghost use Rattle.core_views.specs.Refusals.{after_set, delete_refusal, set_refusal};
+ghost use Rattle.core_views.specs.SlotCommands.{HasPages, change_at_once, slot_invalidated, slots_after};
+ghost use Rattle.core_views.specs.SlotSets.{without_slot_at};
 ghost use Rattle.core_views.specs.Traces.{IsCommandFor};
 
 use crate::{Command, Line, Refusal, Sizes, Slot, SlotSet};
 
 impl SlotSet {
-    /// Why the line's change is refused on a machine of these sizes; `None` where it
-    /// would be made, or the line changes no slot.
-    pub fn refusal(&self, command: &Command, sizes: &Sizes) -> Option<Refusal>
-        ensures { result ≡ change_refusal sizes.now command.now self.now }
+    /// Why the line has nothing to do on a machine of these sizes: it is refused, or, with
+    /// no refusal, sets a slot as it is. `None` where it has something to do, or changes
+    /// no slot.
+    pub fn at_once(&self, command: &Command, sizes: &Sizes) -> Option<Option<Refusal>>
+        ensures { result ≡ change_at_once sizes.now command.now self.now }
     {
         match command {
-            Command::SetSlot { id, slot } => self.check_set(*id, slot, sizes.pages).err(),
+            Command::SetSlot { id, slot } => match self.check_set(*id, slot, sizes.pages) {
+                Err(refusal) => Some(Some(refusal)),
+                Ok(()) if self.stays(*id, slot) => Some(None),
+                Ok(()) => None,
+            },
+            Command::DeleteSlot { id } => match self.check_delete(*id) {
+                Err(refusal) => Some(Some(refusal)),
+                Ok(()) => None,
+            },
             Command::Access { .. } | Command::ChangeHost { .. } => None,
         }
     }
 
-    /// Makes the change of a line that isn't refused.
+    /// Makes the change of a trace's line that has something to do.
+    #[tactic(auto, using(crate::proofs::SlotChanges::has_pages))]
     pub fn change(&mut self, line: &Line, sizes: &Sizes)
         requires allowed { IsCommandFor sizes.now line.now.actor line.now.command }
-        requires accepted { change_refusal sizes.now line.now.command self.old ≡ None }
+        requires work { change_at_once sizes.now line.now.command self.old ≡ None }
         ensures { self.new ≡ slots_after line.now.command self.old }
     {
-        if let Command::SetSlot { id, slot } = &line.command {
-            self.put(*id, slot, sizes.pages);
+        self.make_change(&line.command, sizes);
+    }
+
+    /// Makes the change that a command asks for which has something to do; a slot that it
+    /// sets has a page at least.
+    pub fn make_change(&mut self, command: &Command, sizes: &Sizes)
+        requires pages { HasPages command.now }
+        requires work { change_at_once sizes.now command.now self.old ≡ None }
+        ensures { self.new ≡ slots_after command.now self.old }
+    {
+        match command {
+            Command::SetSlot { id, slot } => self.put(*id, slot, sizes.pages),
+            Command::DeleteSlot { id } => self.take_out(*id),
+            Command::Access { .. } | Command::ChangeHost { .. } => {}
         }
     }
 
-    /// The slot that the line moves, as it is before; `None` where it moves none.
-    pub fn moved(&self, command: &Command) -> Option<Slot>
-        ensures { result ≡ slot_moved self.now command.now }
+    /// The slot that the line moves or deletes, as it is before; `None` where there is none.
+    pub fn invalidated(&self, command: &Command) -> Option<Slot>
+        ensures { result ≡ slot_invalidated self.now command.now }
     {
         match command {
-            Command::SetSlot { id, .. } => Some(self.get(*id)?.slot),
+            Command::SetSlot { id, .. } | Command::DeleteSlot { id } => Some(self.get(*id)?.slot),
             Command::Access { .. } | Command::ChangeHost { .. } => None,
         }
     }
@@ -47,6 +70,17 @@ impl SlotSet {
     {
         let set = self.set(id, slot.base, slot.pages, slot.host, slot.read_only, total);
         match set {
+            Ok(()) => {}
+            Err(_) => unreachable!(),
+        }
+    }
+
+    // Deletes a slot whose deletion isn't refused.
+    fn take_out(&mut self, id: u64)
+        requires accepted { delete_refusal id self.old ≡ None }
+        ensures { self.new ≡ without_slot_at id self.old }
+    {
+        match self.delete(id) {
             Ok(()) => {}
             Err(_) => unreachable!(),
         }

@@ -5,6 +5,7 @@ ghost use Rattle.core_views.specs.Slots.{changes_fixed, contains, is_some_and, m
 ghost use Rattle.core_views.specs.Slots.{share_guest_frames, share_host_pages, slot_of, slot_with_id, with_slot};
 ghost use Rattle.core_views.specs.SlotSets.{IsSlotSet, flat_slots, slot_of_id, slot_holding, without_slot_at};
 ghost use Rattle.core_views.specs.Refusals.{after_log, after_set, delete_refusal, is_logged, log_refusal, moves_logged, set_refusal, slot_from};
+ghost use Rattle.core_views.specs.SlotCommands.{stays};
 ghost use Rattle.core_views.specs.declared.slot_set.MemorySlot.{MemorySlot};
 
 use crate::{Refusal, Slot};
@@ -174,15 +175,7 @@ impl SlotSet {
         ensures refused { OnErr result (self.new ≡ self.old) }
         ensures deleted { OnOk result (self.new ≡ without_slot_at id self.old) }
     {
-        if id >= SLOTS {
-            return Err(Refusal::BadId);
-        }
-        let Some(slot) = self.get(id) else {
-            return Err(Refusal::Missing);
-        };
-        if slot.logged {
-            return Err(Refusal::Logged);
-        }
+        self.check_delete(id)?;
         self.places[id as usize] = None;
         Ok(())
     }
@@ -239,6 +232,29 @@ impl SlotSet {
             return Err(Refusal::HostOverlap);
         }
         Ok(())
+    }
+
+    /// What `delete` would refuse, and nothing where it would delete the slot.
+    pub fn check_delete(&self, id: u64) -> Result<(), Refusal>
+        ensures { result_err result ≡ delete_refusal id self.now }
+    {
+        if id >= SLOTS {
+            return Err(Refusal::BadId);
+        }
+        let Some(slot) = self.get(id) else {
+            return Err(Refusal::Missing);
+        };
+        if slot.logged {
+            return Err(Refusal::Logged);
+        }
+        Ok(())
+    }
+
+    /// Whether a slot with this ID is there, with the same first guest frame.
+    pub fn stays(&self, id: u64, slot: &Slot) -> bool
+        ensures { result ≡ is_some_and (stays slot.now) (slot_with_id id (flat_slots self.now)) }
+    {
+        self.get(id).is_some_and(|was| was.slot.base == slot.base)
     }
 
     // Whether the slot with this ID, if there is one, has a dirty log.

@@ -97,6 +97,8 @@ pub enum Command {
     Access { gfn: u64, word: u8, op: Op },
     /// Sets the memory slot with this ID, which may be any number.
     SetSlot { id: u64, slot: Slot },
+    /// Deletes the memory slot with this ID, which may be any number.
+    DeleteSlot { id: u64 },
     /// Changes what the host maps this page to, which may be any number.
     ChangeHost { page: u64, change: HostChange },
 }

@@ -4,4 +4,5 @@ pub mod HostChangeLines
 pub mod HostFrames
 pub mod HostLines
 pub mod SlotLines
+pub mod SlotPages
 pub mod Words

@@ -3,7 +3,7 @@ use Rattle.std.specs.Prelude.{◌≡◌, ℕ, List, [], ◌∷◌, Bool, false, 
 use Rattle.std.specs.Map.{lookup}
 use Rattle.core_views.specs.declared.answer.Answer.{Answer}
 use Rattle.core_views.specs.declared.trace.Command.{Command}
-use Rattle.core_views.specs.declared.trace.Command.TheVariants.{Access, ChangeHost, SetSlot}
+use Rattle.core_views.specs.declared.trace.Command.TheVariants.{SetSlot}
 use Rattle.core_views.specs.declared.trace.Line.{Line}
 use Rattle.core_views.specs.Traces.{IsSlotInRange}
 use Rattle.core_views.specs.declared.sizes.Sizes.{Sizes}
@@ -36,9 +36,8 @@ facts_of kept = record { slots = kept.slots; host = host_of kept.changed; memory
 
 -- The command's numbers are in the ranges of a line of a trace, as far as it matters here.
 abbrev pub IsInRange : Command → Type 0
-IsInRange (Access gfn word op) = Unit {0}
 IsInRange (SetSlot id slot) = IsSlotInRange slot
-IsInRange (ChangeHost page change) = Unit {0}
+IsInRange _ = Unit {0}
 
 -- The line, alone on a machine of these sizes, leads from these facts to those, and is answered so.
 pub record GivesLine (z : Sizes) (line : Line) (before after : Facts) (answer : Answer) : Type 0 where

@@ -6,6 +6,7 @@ use Rattle.core_views.specs.declared.answer.Answer.TheVariants.{Reached, Mmio, H
 use Rattle.core_views.specs.declared.answer.Refusal.{Refusal}
 use Rattle.core_views.specs.declared.answer.Refusal.TheVariants.{OutOfRange}
 use Rattle.core_views.specs.declared.host.HostEntry.{HostEntry}
+use Rattle.core_views.specs.declared.trace.Command.{Command}
 use Rattle.core_views.specs.declared.trace.HostChange.{HostChange}
 use Rattle.core_views.specs.declared.trace.Op.{Op}
 use Rattle.core_views.specs.declared.trace.Slot.{Slot}
@@ -13,7 +14,7 @@ use Rattle.core_views.specs.Host.{brought_in, is_denied}
 use Rattle.core_views.specs.Memory.{word_after_op, with_word}
 use Rattle.core_views.specs.Slots.{Slots, page_behind}
 use Rattle.core_views.specs.SlotSets.{flat_slots}
-use Rattle.core_views.specs.Refusals.{after_set}
+use Rattle.core_views.specs.SlotCommands.{refused_or_done, slots_after}
 use Rattle.flat_model.specs.Kept.{Kept, memory_of}
 use Rattle.flat_model.specs.HostPages.{ChangesEntries, Maps, host_of}
 
@@ -25,10 +26,10 @@ pub record IsSlotOf (pages : ℕ) (slot : Slot) : Type 0 where
 abbrev pub AreSlotsOf : ℕ → Slots → Type 0
 AreSlotsOf pages slots = All (IsSlotOf pages) (values_of slots)
 
--- A slot that is refused changes nothing, and one that isn't stands at its ID.
-abbrev pub SetsSlot : ℕ → Slot → Kept → Kept → Answer → Option Refusal → Type 0
-SetsSlot id slot before after answer (Some refusal) = (answer ≡ Refused refusal) × (after ≡ before)
-SetsSlot id slot before after answer None = (answer ≡ Done) × (after ≡ record before { slots = after_set id slot before.slots })
+-- A line that has nothing to do is answered so, and changes nothing; any other makes its change of the slots.
+abbrev pub ChangesSlots : Command → Kept → Kept → Answer → Option (Option Refusal) → Type 0
+ChangesSlots command before after answer (Some refusal) = (answer ≡ refused_or_done refusal) × (after ≡ before)
+ChangesSlots command before after answer None = (answer ≡ Done) × (after ≡ record before { slots = slots_after command before.slots })
 
 -- An access of a page that the host forbids leaves the guest and changes nothing; any other gives that word and brings the page in, and a write changes that
 -- word alone.

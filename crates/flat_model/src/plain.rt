@@ -2,16 +2,15 @@ ghost use Rattle.std.specs.Prelude.{◌≡◌, IfOk, OnErr};
 ghost use Rattle.core_views.specs.Sizes.{sizes_of};
 ghost use Rattle.core_views.specs.Flat.{first_facts};
 ghost use Rattle.core_views.specs.HostChanges.{is_own};
-ghost use Rattle.core_views.specs.Refusals.{set_refusal};
+ghost use Rattle.core_views.specs.SlotCommands.{change_at_once};
 ghost use Rattle.core_views.specs.Slots.{page_behind};
 ghost use Rattle.core_views.specs.SlotSets.{flat_slots};
-ghost use Rattle.core_views.specs.Traces.{IsSlotInRange};
 ghost use Rattle.flat_model.specs.Kept.{GivesLine, IsInRange, facts_of};
-ghost use Rattle.flat_model.specs.Steps.{Accesses, ChangesHost, SetsSlot};
+ghost use Rattle.flat_model.specs.Steps.{Accesses, ChangesHost, ChangesSlots};
 
 use crate::host_pages::HostPages;
 use core_views::{
-    Actor, Answer, Command, HostChange, Line, NoMemory, Op, Refusal, Sizes, Slot, SlotSet, Trace,
+    Actor, Answer, Command, HostChange, Line, NoMemory, Op, Refusal, Sizes, SlotSet, Trace,
 };
 use std::alloc::Global;
 use std::collections::HashMap;
@@ -63,26 +62,21 @@ impl Plain {
     {
         match line.command {
             Command::Access { gfn, word, op } => self.access(gfn, word, op),
-            Command::SetSlot { id, slot } => Ok(self.set_slot(id, slot)),
+            Command::SetSlot { .. } | Command::DeleteSlot { .. } => Ok(self.change_slots(line)),
             Command::ChangeHost { page, change } => self.change_host(line.actor, page, change),
         }
     }
 
-    fn set_slot(&mut self, id: u64, slot: Slot) -> Answer
-        requires { IsSlotInRange slot }
-        ensures sets { SetsSlot id slot self.old self.new result (set_refusal self.old.sizes.pages id slot self.old.slots) }
+    // Changes the slots, if the line has something to do.
+    fn change_slots(&mut self, line: &Line) -> Answer
+        requires { IsInRange line.now.command }
+        ensures changes { ChangesSlots line.now.command self.old self.new result (change_at_once self.old.sizes line.now.command self.old.slots) }
         ensures sizes { self.new.sizes ≡ self.old.sizes }
     {
-        let Slot {
-            base,
-            pages,
-            host,
-            read_only,
-        } = slot;
-        let total = self.host.sizes().pages;
-        if let Err(refusal) = self.slots.set(id, base, pages, host, read_only, total) {
-            return Answer::Refused(refusal);
+        if let Some(refusal) = self.slots.at_once(&line.command, self.host.sizes()) {
+            return Answer::at_once(refusal);
         }
+        self.slots.make_change(&line.command, self.host.sizes());
         Answer::Done
     }
 

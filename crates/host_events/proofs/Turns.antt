@@ -43,7 +43,7 @@ pub record StandsInLine (p : HostPlace) (page : ℕ) (change : HostChange) (note
 changes_page : (page : ℕ) (change : HostChange) (c : Command) → ChangesPage page c → MakesChange change c → c ≡ ChangeHost page change
 changes_page page change (ChangeHost of_page how) is made = ap (λ n. ChangeHost n how) is ∙ ap (ChangeHost page) made
 changes_page page change (Access gfn word op) is made = absurd is
-changes_page page change (SetSlot id slot) is made = absurd is
+changes_page page change _ is made = absurd is
 
 -- A place after the first one is where the hand says that its line stands.
 stands_there : (q : Place) (p : HostPlace) (page : ℕ) (change : HostChange) (h : Held) → h.state.place ≡ q

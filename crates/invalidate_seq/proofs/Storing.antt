@@ -57,14 +57,15 @@ answered_so step note found x before after needs so there = by before.tells.worl
 -- A store answers what it wrote.
 abbrev pub Wrote : PartStep → ℕ → Type 0
 Wrote (part.SetStart first x) found = found ≡ x
-Wrote (part.SetEnd last x) found = found ≡ x
+Wrote (part.SetEnd end_ x) found = found ≡ x
 Wrote (part.SetCount x) found = found ≡ x
 Wrote (part.SetSeq x) found = found ≡ x
 Wrote _ found = Unit {0}
 
 pub wrote : (step : PartStep) (note found : ℕ) (before after : Seat) → PartNeeds step before.hand → MadePart step note found before after → Wrote step found
 wrote (part.SetStart first x) note found before after needs made = answered_so (part.SetStart first x) note found x before after needs (λ words. refl) made.answers
-wrote (part.SetEnd last x) note found before after needs made = answered_so (part.SetEnd last x) note found x before after needs (λ words. refl) made.answers
+wrote (part.SetEnd end_ x) note found before after needs made =
+    answered_so (part.SetEnd end_ x) note found x before after needs (λ words. refl) made.answers
 wrote (part.SetCount x) note found before after needs made = answered_so (part.SetCount x) note found x before after needs (λ words. refl) made.answers
 wrote (part.SetSeq x) note found before after needs made = answered_so (part.SetSeq x) note found x before after needs (λ words. refl) made.answers
 wrote _ note found before after needs made = tt
@@ -79,15 +80,15 @@ falls n = grind (arith, nat_tests)
 has_the_lock : (h : Hold) → h ≡ Exclusive → has_lock h ≡ true
 has_the_lock h alone = ap has_lock alone
 
-pub opened_behind : (stage : OpenStage) (first last : ℕ) (before after : Topics) (v : ℕ) → before.hold ≡ Exclusive
-    → Wrote (open_at stage first last before.invalidations) v
-    → after ≡ part_topics (open_at stage first last before.invalidations) before v → Opens stage first last before after
-opened_behind opens.Count first last before after v alone is made = loads_only word_of.Count before after v (has_the_lock _ alone) made
-opened_behind opens.RangeStart first last before after v alone is made = loads_only word_of.Start before after v (has_the_lock _ alone) made
-opened_behind opens.RangeEnd first last before after v alone is made = loads_only word_of.End before after v (has_the_lock _ alone) made
-opened_behind opens.SetStart first last before after v alone is made = made ∙ ap (λ n. started first n before) is
-opened_behind opens.SetEnd first last before after v alone is made = made ∙ ap (λ n. ended last n before) is
-opened_behind opens.SetCount first last before after v alone is made =
+pub opened_behind : (stage : OpenStage) (first end_ : ℕ) (before after : Topics) (v : ℕ) → before.hold ≡ Exclusive
+    → Wrote (open_at stage first end_ before.invalidations) v
+    → after ≡ part_topics (open_at stage first end_ before.invalidations) before v → Opens stage first end_ before after
+opened_behind opens.Count first end_ before after v alone is made = loads_only word_of.Count before after v (has_the_lock _ alone) made
+opened_behind opens.RangeStart first end_ before after v alone is made = loads_only word_of.Start before after v (has_the_lock _ alone) made
+opened_behind opens.RangeEnd first end_ before after v alone is made = loads_only word_of.End before after v (has_the_lock _ alone) made
+opened_behind opens.SetStart first end_ before after v alone is made = made ∙ ap (λ n. started first n before) is
+opened_behind opens.SetEnd first end_ before after v alone is made = made ∙ ap (λ n. ended end_ n before) is
+opened_behind opens.SetCount first end_ before after v alone is made =
     made
     ∙ ap (λ n. count_stored n (nat_lt before.invalidations.count n) before) is
     ∙ ap (λ (b : Bool). count_stored (before.invalidations.count + 1) b before) (rises before.invalidations.count)
@@ -104,15 +105,15 @@ shut_behind shuts.SetCount before after v alone is made =
 
 -- What is kept of a stage's word is what stands there after its step.
 module _ (z : Sizes) (own note v : ℕ) (before after : Topics) (w u : World Held) where
-  open_kept : (stage : OpenStage) (first last : ℕ) → after ≡ part_topics (open_at stage first last before.invalidations) before v
-      → StepsTo z (part_task (open_at stage first last before.invalidations) own before note) v w u
+  open_kept : (stage : OpenStage) (first end_ : ℕ) → after ≡ part_topics (open_at stage first end_ before.invalidations) before v
+      → StepsTo z (part_task (open_at stage first end_ before.invalidations) own before note) v w u
       → loaded (open_word stage) after.invalidations ≡ word_in z u (area_of (open_word stage)) 0
-  open_kept opens.Count first last made S = ap (λ (t : Topics). t.invalidations.count) made ∙ S.finds ∙ sym (S.leaves area.Count 0)
-  open_kept opens.RangeStart first last made S = ap (λ (t : Topics). t.invalidations.start) made ∙ S.finds ∙ sym (S.leaves area.RangeStart 0)
-  open_kept opens.RangeEnd first last made S = ap (λ (t : Topics). t.invalidations.end) made ∙ S.finds ∙ sym (S.leaves area.RangeEnd 0)
-  open_kept opens.SetStart first last made S = ap (λ (t : Topics). t.invalidations.start) made ∙ S.finds ∙ sym (S.leaves area.RangeStart 0)
-  open_kept opens.SetEnd first last made S = ap (λ (t : Topics). t.invalidations.end) made ∙ S.finds ∙ sym (S.leaves area.RangeEnd 0)
-  open_kept opens.SetCount first last made S = ap (λ (t : Topics). t.invalidations.count) made ∙ S.finds ∙ sym (S.leaves area.Count 0)
+  open_kept opens.Count first end_ made S = ap (λ (t : Topics). t.invalidations.count) made ∙ S.finds ∙ sym (S.leaves area.Count 0)
+  open_kept opens.RangeStart first end_ made S = ap (λ (t : Topics). t.invalidations.start) made ∙ S.finds ∙ sym (S.leaves area.RangeStart 0)
+  open_kept opens.RangeEnd first end_ made S = ap (λ (t : Topics). t.invalidations.end) made ∙ S.finds ∙ sym (S.leaves area.RangeEnd 0)
+  open_kept opens.SetStart first end_ made S = ap (λ (t : Topics). t.invalidations.start) made ∙ S.finds ∙ sym (S.leaves area.RangeStart 0)
+  open_kept opens.SetEnd first end_ made S = ap (λ (t : Topics). t.invalidations.end) made ∙ S.finds ∙ sym (S.leaves area.RangeEnd 0)
+  open_kept opens.SetCount first end_ made S = ap (λ (t : Topics). t.invalidations.count) made ∙ S.finds ∙ sym (S.leaves area.Count 0)
 
   shut_kept : (stage : ShutStage) → before.hold ≡ Exclusive → after ≡ part_topics (shut_at stage before.invalidations) before v
       → StepsTo z (part_task (shut_at stage before.invalidations) own before note) v w u
@@ -124,15 +125,16 @@ module _ (z : Sizes) (own note v : ℕ) (before after : Topics) (w u : World Hel
   shut_kept shuts.SetCount alone made S = ap (λ (t : Topics). t.invalidations.count) made ∙ S.finds ∙ sym (S.leaves area.Count 0)
 
 module _ (note found : ℕ) (before after : Seat) (w u : World Held) where
-  pub open_keeps : (stage : OpenStage) (first last : ℕ) → PartNeeds (open_at stage first last before.hand.topics.invalidations) before.hand
+  pub open_keeps : (stage : OpenStage) (first end_ : ℕ) → PartNeeds (open_at stage first end_ before.hand.topics.invalidations) before.hand
       → before.tells.world ≡ Some w → after.tells.world ≡ Some u
-      → MadePart (open_at stage first last before.hand.topics.invalidations) note found before after
+      → MadePart (open_at stage first end_ before.hand.topics.invalidations) note found before after
       → loaded (open_word stage) after.hand.topics.invalidations ≡ word_in before.hand.state.sizes u (area_of (open_word stage)) 0
-  open_keeps stage first last needs is was made =
-      rw (is, was) at (told_both before.tells.world after.tells.world before.actor note found (open_at stage first last before.hand.topics.invalidations) before.hand
+  open_keeps stage first end_ needs is was made =
+      rw (is, was) at (told_both before.tells.world after.tells.world before.actor note found
+      (open_at stage first end_ before.hand.topics.invalidations) before.hand
       (λ x y. loaded (open_word stage) after.hand.topics.invalidations ≡ word_in before.hand.state.sizes y (area_of (open_word stage)) 0)
       needs made.has made.world
-      (λ x y S. open_kept before.hand.state.sizes (own_index before.hand) note found before.hand.topics after.hand.topics x y stage first last made.topics S))
+      (λ x y S. open_kept before.hand.state.sizes (own_index before.hand) note found before.hand.topics after.hand.topics x y stage first end_ made.topics S))
 
   pub shut_keeps : (stage : ShutStage) → before.hand.topics.hold ≡ Exclusive → PartNeeds (shut_at stage before.hand.topics.invalidations) before.hand
       → before.tells.world ≡ Some w → after.tells.world ≡ Some u

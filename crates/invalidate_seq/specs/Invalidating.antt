@@ -27,15 +27,15 @@ use Rattle.invalidate_seq.specs.declared.shut.ShutStage.TheVariants as shuts
 
 -- the step of each stage
 abbrev pub open_at : OpenStage → ℕ → ℕ → Invalidations → PartStep
-open_at opens.Count first last n = part.Count
-open_at opens.RangeStart first last n = part.RangeStart
-open_at opens.RangeEnd first last n = part.RangeEnd
-open_at opens.SetStart first last n = part.SetStart first (start_with first last n)
-open_at opens.SetEnd first last n = part.SetEnd last (end_with first last n)
-open_at opens.SetCount first last n = part.SetCount (n.count + 1)
+open_at opens.Count first end_ n = part.Count
+open_at opens.RangeStart first end_ n = part.RangeStart
+open_at opens.RangeEnd first end_ n = part.RangeEnd
+open_at opens.SetStart first end_ n = part.SetStart first (start_with first end_ n)
+open_at opens.SetEnd first end_ n = part.SetEnd end_ (end_with first end_ n)
+open_at opens.SetCount first end_ n = part.SetCount (n.count + 1)
 
 abbrev pub open_step : Open → Topics → PartStep
-open_step job t = open_at job.stage job.first job.last t.invalidations
+open_step job t = open_at job.stage job.first job.end t.invalidations
 
 -- which word it is on
 abbrev pub open_word : OpenStage → CheckStage
@@ -47,15 +47,15 @@ open_word opens.SetEnd = word_of.End
 open_word opens.SetCount = word_of.Count
 
 -- What is held after the stage's step: a load keeps its word, and a store what it stored. With the ends of the range the actor's own invalidation is of the
--- guest frames from `first` up to `last`, and with its start of the host page that was looked at, if one was; with the count, one more than was loaded, it is
+-- guest frames from `first` up to `end`, and with its start of the host page that was looked at, if one was; with the count, one more than was loaded, it is
 -- open, and the sequence number is yet to be raised for it.
 abbrev pub Opens : OpenStage → ℕ → ℕ → Topics → Topics → Type 0
-Opens opens.Count first last before after = LoadsOnly word_of.Count before after
-Opens opens.RangeStart first last before after = LoadsOnly word_of.Start before after
-Opens opens.RangeEnd first last before after = LoadsOnly word_of.End before after
-Opens opens.SetStart first last before after = after ≡ started first (start_with first last before.invalidations) before
-Opens opens.SetEnd first last before after = after ≡ ended last (end_with first last before.invalidations) before
-Opens opens.SetCount first last before after = after ≡ count_stored (before.invalidations.count + 1) true before
+Opens opens.Count first end_ before after = LoadsOnly word_of.Count before after
+Opens opens.RangeStart first end_ before after = LoadsOnly word_of.Start before after
+Opens opens.RangeEnd first end_ before after = LoadsOnly word_of.End before after
+Opens opens.SetStart first end_ before after = after ≡ started first (start_with first end_ before.invalidations) before
+Opens opens.SetEnd first end_ before after = after ≡ ended end_ (end_with first end_ before.invalidations) before
+Opens opens.SetCount first end_ before after = after ≡ count_stored (before.invalidations.count + 1) true before
 
 -- The stage that comes after it, where this number of open ones is known: the range is loaded where some are, and else it is stored at once.
 abbrev pub open_after : OpenStage → ℕ → OpenStage
@@ -127,7 +127,7 @@ abbrev pub KeepsWord : CheckStage → PartStep → ℕ → Seat → Seat → Typ
 KeepsWord stage step note before after =
     WherePartMade step note before after (λ w v. loaded stage after.hand.topics.invalidations ≡ word_in before.hand.state.sizes v (area_of stage) 0)
 
--- A range from start up to end has the guest frames from `first` up to `last`, if there are any, and the range of the open invalidations, if some are.
-pub record IsWidened (first last : ℕ) (n : Invalidations) (start end : ℕ) : Type 0 where
-  pub frames : first < last → (start ≤ first) × (last ≤ end)
+-- A range from start up to end has the guest frames from `first` up to `end`, if there are any, and the range of the open invalidations, if some are.
+pub record IsWidened (first end_ : ℕ) (n : Invalidations) (start end : ℕ) : Type 0 where
+  pub frames : first < end_ → (start ≤ first) × (end_ ≤ end)
   pub open_ones : 0 < n.count → (start ≤ n.start) × (n.end ≤ end)

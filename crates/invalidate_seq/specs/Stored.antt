@@ -17,8 +17,8 @@ started first n t = record t {
 
 -- its end: the own one's guest frames are those up to this last one
 abbrev pub ended : ℕ → ℕ → Topics → Topics
-ended last n t = record t {
-  invalidations = record t.invalidations { end = n; checked = end_known t.invalidations.checked; own = record t.invalidations.own { end = last } };
+ended end_ n t = record t {
+  invalidations = record t.invalidations { end = n; checked = end_known t.invalidations.checked; own = record t.invalidations.own { end = end_ } };
 }
 
 -- the count of open ones: the actor's own is among them, or isn't, and no number was raised for it yet

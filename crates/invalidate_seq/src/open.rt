@@ -46,28 +46,28 @@ pub struct Open {
     /// The first guest frame over which it is.
     pub first: u64,
     /// The guest frame after the last one; where it isn't above the first, it is over none.
-    pub last: u64,
+    pub end: u64,
     /// How far the begin has come.
     pub stage: OpenStage,
 }
 
 // The range of the open invalidations, widened to these guest frames.
-fn widened(first: u64, last: u64, kept: &Invalidations) -> (u64, u64)
-    ensures start { result.0 ≡ start_with first last kept.now }
-    ensures end { result.1 ≡ end_with first last kept.now }
-    ensures widened { IsWidened first last kept.now result.0 result.1 }
+fn widened(first: u64, end: u64, kept: &Invalidations) -> (u64, u64)
+    ensures start { result.0 ≡ start_with first end kept.now }
+    ensures end { result.1 ≡ end_with first end kept.now }
+    ensures widened { IsWidened first end kept.now result.0 result.1 }
 {
-    (start_with(first, last, kept), end_with(first, last, kept))
+    (start_with(first, end, kept), end_with(first, end, kept))
 }
 
 impl Open {
-    /// A begin that has made no step yet, over the guest frames from `first` up to `last`.
-    pub fn new(first: u64, last: u64) -> Open
-        ensures { result ≡ record { first = first; last = last; stage = OpenStage.Count } }
+    /// A begin that has made no step yet, over the guest frames from `first` up to `end`.
+    pub fn new(first: u64, end: u64) -> Open
+        ensures { result ≡ record { first = first; end = end; stage = OpenStage.Count } }
     {
         Open {
             first,
-            last,
+            end,
             stage: OpenStage::Count,
         }
     }
@@ -75,9 +75,9 @@ impl Open {
     // The step of the stage.
     pub(crate) fn step(&self, kept: &Invalidations) -> PartStep
         requires few { kept.now.count < 2 ^ 32 }
-        ensures { result ≡ open_at self.now.stage self.now.first self.now.last kept.now }
+        ensures { result ≡ open_at self.now.stage self.now.first self.now.end kept.now }
     {
-        let (start, end) = widened(self.first, self.last, kept);
+        let (start, end) = widened(self.first, self.end, kept);
         match self.stage {
             OpenStage::Count => PartStep::Count,
             OpenStage::RangeStart => PartStep::RangeStart,
@@ -87,7 +87,7 @@ impl Open {
                 gfn: start,
             },
             OpenStage::SetEnd => PartStep::SetEnd {
-                own: self.last,
+                own: self.end,
                 gfn: end,
             },
             OpenStage::SetCount => PartStep::SetCount(kept.count + 1),
@@ -97,7 +97,7 @@ impl Open {
     // Goes on after the step of its stage, where so many are open.
     pub(crate) fn go_on(&mut self, count: u64) -> Turn<()>
         ensures answers { result ≡ open_turn self.old.stage }
-        ensures goes_on { self.new ≡ record { first = self.old.first; last = self.old.last; stage = open_after self.old.stage count } }
+        ensures goes_on { self.new ≡ record self.old { stage = open_after self.old.stage count } }
         ensures nearer { result ≡ More → opens_left self.new.stage < opens_left self.old.stage }
     {
         self.stage = match self.stage {
@@ -121,10 +121,10 @@ impl Open {
         requires reserved { 0 < (S.seat s.old).room }
         requires alone { (S.seat s.old).hand.topics.hold ≡ Exclusive }
         ensures step { MakesPart (open_step self.old (S.seat s.old).hand.topics) note (S.seat s.old) (S.seat s.new) }
-        ensures opens { Opens self.old.stage self.old.first self.old.last (S.seat s.old).hand.topics (S.seat s.new).hand.topics }
+        ensures opens { Opens self.old.stage self.old.first self.old.end (S.seat s.old).hand.topics (S.seat s.new).hand.topics }
         ensures word { KeepsWord (open_word self.old.stage) (open_step self.old (S.seat s.old).hand.topics) note (S.seat s.old) (S.seat s.new) }
         ensures answers { result ≡ open_turn self.old.stage }
-        ensures goes_on { self.new ≡ record { first = self.old.first; last = self.old.last; stage = open_after self.old.stage (S.seat s.new).hand.topics.invalidations.count } }
+        ensures goes_on { self.new ≡ record self.old { stage = open_after self.old.stage (S.seat s.new).hand.topics.invalidations.count } }
         ensures nearer { result ≡ More → opens_left self.new.stage < opens_left self.old.stage }
         ensures room { KeepsRoom (S.seat s.old) (S.seat s.new) }
         ensures same { ((S.seat s.new).actor ≡ (S.seat s.old).actor) × (S.frame s.new ≡ S.frame s.old) }

@@ -4,7 +4,7 @@
 
 use core_views::{Actor, Answer, Command, Refusal, Seen};
 use part_steps::PartStep;
-use part_tests::{expect_actor, machine_of, take_step, told};
+use part_tests::{expect_actor, first_other, machine_of, run_lines, take_step, told};
 use slot_change::SlotJob;
 use std::alloc::Global;
 use std::test::Fail;
@@ -22,16 +22,35 @@ const FILLED: u64 = 2 + 513;
 
 const SET: u64 = FILLED + 4 + 2 + 2;
 
-// Makes a turn of the next line of the seat, where it sets a slot.
+// Steps of the begin of an invalidation of the slot, where no table is linked: the lock alone, the
+// slot set and its 35 words, the count, the range and the count that are stored, the root and its
+// entry, the flush that is asked for and seen, and the lock given back.
+const BEGUN: u64 = 1 + 1 + 35 + 1 + 3 + 2 + 2 + 1;
+
+// Those of its end: the lock alone, the sequence number and the count, each loaded and stored, and
+// the lock given back.
+const ENDED: u64 = 6;
+
+// As many host pages as two slots have, and more.
+const WIDE: &str =
+    "tdp 1 vcpus 1 workers 0 pages 128 frames 128 words 1 pool 4 cache 1 manual 0 hosts 0\n";
+
+// Steps of a host line of a page of the slot, up to its change, where no table is linked: the host
+// word, the lock alone, the slot set and four of its words, the count, the range and the count that
+// are stored, the root and its entry, the flush, the lock given back, and the change.
+const CHANGED: u64 = 1 + 1 + 1 + 4 + 1 + 3 + 2 + 2 + 1 + 1;
+
+// Makes a turn of the next line of the seat, where it changes a slot.
 fn turn<S: Stepper>(s: &mut S) -> Result<Turn<Answer>, Fail> {
     s.reserve()?;
     let hand = s.hand();
     if !hand.has_line() {
         return Err(Fail::new("no line is left"));
     }
-    let Command::SetSlot { .. } = &hand.line().command else {
-        return Err(Fail::new("it sets no slot"));
-    };
+    match &hand.line().command {
+        Command::SetSlot { .. } | Command::DeleteSlot { .. } => {}
+        _ => return Err(Fail::new("it changes no slot")),
+    }
     let mut job = SlotJob {
         index: hand.answers().len(),
     };
@@ -109,6 +128,80 @@ fn waits_for_a_reader_and_for_a_section(rt: HostRuntime) -> Result<(), Fail> {
             (1, Turn::Wait(reader)),
             (4 + 1, Turn::Wait(section)),
             (2 + 2, Turn::Done(Answer::Done)),
+        ]
+    );
+    Ok(())
+}
+
+// The slot is set, moves and is deleted: each set goes into the page that the one before it has left.
+// Two invalidations have ended then, and none is open.
+#[test]
+fn moves_a_slot_and_deletes_it(rt: HostRuntime) -> Result<(), Fail> {
+    let lines = "vm slot 0 0 16 0\nvm slot 0 32 16 0\nvm slot 0 0 0 0\n";
+    let mut machine = machine_of(rt.alloc(), HEAD, lines)?;
+    for turns in [SET, SET + BEGUN + ENDED, SET + BEGUN + ENDED] {
+        assert_eq!(rt; set_slot(&mut machine)?, (turns, Turn::Done(Answer::Done)));
+    }
+    let (_, other) = first_other(machine, &[(1, 2), (2, 2), (3, 0), (4, 32), (5, 48)]);
+    assert_eq!(rt; other, None);
+    Ok(())
+}
+
+// An unchanged slot, another size, other host pages, and a slot that isn't there: one step each, and
+// no invalidation.
+#[test]
+fn answers_at_once(rt: HostRuntime) -> Result<(), Fail> {
+    let lines =
+        "vm slot 0 0 16 0\nvm slot 0 0 16 0\nvm slot 0 0 17 0\nvm slot 0 0 16 0 ro\nvm slot 1 0 0 0\n";
+    let mut machine = machine_of(rt.alloc(), HEAD, lines)?;
+    for (turns, answer) in [
+        (SET, Answer::Done),
+        (1, Answer::Done),
+        (1, Answer::Refused(Refusal::Resize)),
+        (1, Answer::Refused(Refusal::Fixed)),
+        (1, Answer::Refused(Refusal::Missing)),
+    ] {
+        assert_eq!(rt; set_slot(&mut machine)?, (turns, Turn::Done(answer)));
+    }
+    let (_, other) = first_other(machine, &[(1, 2), (2, 0), (3, 0)]);
+    assert_eq!(rt; other, None);
+    Ok(())
+}
+
+// A slot is set, the host thread is held after its change of one of its pages, and then makes the six
+// steps that are left, while the manager's next line has waited twice.
+fn beside_a_change(alloc: Global, line: &str) -> Result<[(u64, Turn<Answer>); 3], Fail> {
+    let lines = format!(in alloc; "{SETTING}{line}h0 protect 2\n")?;
+    let mut machine = machine_of(alloc, WIDE, &lines)?;
+    let _ = set_slot(&mut machine)?;
+    let _ = run_lines(&mut machine, Actor::Host(0), CHANGED)?;
+    let first = set_slot(&mut machine)?;
+    let second = set_slot(&mut machine)?;
+    let _ = run_lines(&mut machine, Actor::Host(0), ENDED)?;
+    let last = set_slot(&mut machine)?;
+    Ok([first, second, last])
+}
+
+// Each wait takes the lock, loads the count, and gives the lock back: a new slot finds one
+// invalidation open; a deletion has loaded the range, too, and finds two, its own among them.
+#[test]
+fn waits_for_an_open_invalidation(rt: HostRuntime) -> Result<(), Fail> {
+    let one = Seen { word: 3, value: 1 };
+    let two = Seen { word: 3, value: 2 };
+    assert_eq!(rt;
+        beside_a_change(rt.alloc(), "vm slot 1 100 16 64\n")?,
+        [
+            (FILLED + 3, Turn::Wait(one)),
+            (3, Turn::Wait(one)),
+            (4 + 2 + 2, Turn::Done(Answer::Done)),
+        ]
+    );
+    assert_eq!(rt;
+        beside_a_change(rt.alloc(), "vm slot 0 0 0 0\n")?,
+        [
+            (FILLED + BEGUN + 2 + 3, Turn::Wait(two)),
+            (3, Turn::Wait(two)),
+            (4 + ENDED + 2 + 2, Turn::Done(Answer::Done)),
         ]
     );
     Ok(())

@@ -3,6 +3,7 @@ pub mod EmptySections
 pub mod CopiedKept
 pub mod CopiedSteps
 pub mod CountersKept
+pub mod WalkSpans
 pub mod FrameCounters
 pub mod FlushChanges
 pub mod FlushKept

@@ -5,6 +5,7 @@ pub mod FaultSteps
 pub mod SlotChangeSteps
 pub mod SlotChangeLeft
 pub mod InvalidateSteps
+pub mod InvalidateLeft
 pub mod HostSteps
 pub mod PartAt
 pub mod PartWaits

@@ -1,9 +1,10 @@
 //! The steps that begin an invalidation and those that end it, which several kinds of line
 //! make in the same order.
 ghost use Rattle.std.specs.Prelude.{◌≡◌, ◌≤◌, ◌<◌, ◌^◌, true};
-ghost use Rattle.mmu_core.specs.lines.InvalidateSteps.{IsWalkSmall, begin_next, begin_part, end_next, end_part, search_next, sweep_next, sweeps, swept_on, zapped_at};
+ghost use Rattle.mmu_core.specs.lines.InvalidateSteps.{IsWalkSmall, begin_next, begin_part, end_next, end_part, search_next};
+ghost use Rattle.mmu_core.specs.lines.InvalidateSteps.{sweep_next, sweeps, swept_on, zapped_at};
 ghost use Rattle.core_views.specs.declared.place.BeginPlace.TheVariants.{Find, Walk, Zap};
-ghost use Rattle.part_steps.specs.InvalidationHoldings.{MaySweep, MayZap};
+ghost use Rattle.part_steps.specs.SweepHoldings.{MaySweep, MayZap};
 ghost use Rattle.part_steps.specs.InvalidationRange.{HasSmallSlot, IsSmall};
 ghost use Rattle.part_steps.specs.SweepTopics.{swept_to};
 

@@ -1,14 +1,15 @@
 //! The steps of a line that changes a slot.
 ghost use Rattle.std.specs.Prelude.{◌≡◌, ◌<◌, length, true};
 ghost use Rattle.core_views.specs.declared.place.Place.TheVariants as place;
-ghost use Rattle.core_views.specs.SlotCommands.{change_refusal, changes_slot};
+ghost use Rattle.core_views.specs.SlotCommands.{change_at_once, changes_slot};
 ghost use Rattle.core_views.specs.Traces.{IsCommandFor};
 ghost use Rattle.part_steps.specs.PartBounds.{PartRests};
 ghost use Rattle.part_steps.specs.PartSteps.{PartNeeds};
 ghost use Rattle.mmu_core.specs.lines.SlotChangeKnows.{RecordAccepts, SlotChangeRests};
 ghost use Rattle.mmu_core.specs.lines.Rests.{Rests};
 ghost use Rattle.mmu_core.specs.lines.SlotChangeSteps.{after_role, after_set_begin, after_set_claim, after_set_end, after_watch, slot_change_first};
-ghost use Rattle.mmu_core.specs.lines.SlotChangeSteps.{slot_change_note, slot_change_outcome, slot_change_part, slot_change_records, slot_change_task, slot_target};
+ghost use Rattle.mmu_core.specs.lines.SlotChangeSteps.{slot_change_note, slot_change_outcome, slot_change_part};
+ghost use Rattle.mmu_core.specs.lines.SlotChangeSteps.{slot_change_records, slot_change_task, slot_target};
 ghost use Rattle.mmu_core.specs.machine.Steps.{next_line, place_at};
 ghost use Rattle.part_steps.specs.Tasks.{map_of};
 ghost use Rattle.mmu_core.specs.machine.Turns.{line_of};
@@ -29,20 +30,20 @@ const WORDS: u64 = 512;
 
 /// Where the line begins, by the manager's own record of the slots.
 pub(crate) fn first(sizes: &Sizes, slots: &SlotSet, command: &Command) -> SlotChangePlace
-    ensures { result ≡ slot_change_first (change_refusal sizes.now command.now slots.now) }
+    ensures { result ≡ slot_change_first (change_at_once sizes.now command.now slots.now) }
 {
-    match slots.refusal(command, sizes) {
-        Some(refusal) => SlotChangePlace::Refuse(refusal),
+    match slots.at_once(command, sizes) {
+        Some(refusal) => SlotChangePlace::AtOnce(refusal),
         None => SlotChangePlace::Claim { begun: false },
     }
 }
 
-// What the line invalidates: the slot that it moves.
+// What the line invalidates: the slot that it moves or deletes.
 fn target(hand: &Hand, command: &Command) -> Target
     ensures { result ≡ slot_target hand.now.core command.now }
 {
     Target::Slot(
-        hand.slots().moved(command).unwrap_or(Slot {
+        hand.slots().invalidated(command).unwrap_or(Slot {
             base: 0,
             pages: 0,
             host: 0,
@@ -60,7 +61,7 @@ pub(crate) fn part(place: SlotChangePlace, hand: &Hand, command: &Command) -> Pa
 {
     let topics = hand.topics();
     match place {
-        SlotChangePlace::Refuse(_) => PartStep::Seq,
+        SlotChangePlace::AtOnce(_) => PartStep::Seq,
         SlotChangePlace::Claim { begun } => claim_part(FreeMap::Pages, begun, &topics.claim),
         SlotChangePlace::Fill => {
             PartStep::Fill(set_word(hand.slots(), command, words_filled(topics.owned)))
@@ -84,7 +85,7 @@ pub fn note(place: SlotChangePlace, hand: &Hand) -> u64
     ensures { result ≡ slot_change_note place hand.now.core }
 {
     match place {
-        SlotChangePlace::Refuse(_) | SlotChangePlace::Give => 1,
+        SlotChangePlace::AtOnce(_) | SlotChangePlace::Give => 1,
         SlotChangePlace::Claim { begun } => {
             let last = loads_last_word(
                 FreeMap::Pages,
@@ -134,10 +135,10 @@ fn after_set_claim(next: ClaimNext) -> Outcome
 }
 
 // After the new set is filled.
-fn after_role(moved: Option<Slot>) -> SlotChangePlace
-    ensures { result ≡ after_role moved }
+fn after_role(invalidated: Option<Slot>) -> SlotChangePlace
+    ensures { result ≡ after_role invalidated }
 {
-    match moved {
+    match invalidated {
         Some(_) => SlotChangePlace::Begin(BeginPlace::Exclude),
         None => SlotChangePlace::Exclude,
     }
@@ -182,13 +183,13 @@ pub(crate) fn outcome(place: SlotChangePlace, command: &Command, hand: &Hand, fo
     let topics = hand.topics();
     let sizes = &hand.progress().sizes;
     Outcome::Goes(Place::SlotChange(match place {
-        SlotChangePlace::Refuse(refusal) => return Outcome::Ends(Answer::Refused(refusal)),
+        SlotChangePlace::AtOnce(refusal) => return Outcome::Ends(Answer::at_once(refusal)),
         SlotChangePlace::Claim { begun } => {
             return after_set_claim(claim_next(FreeMap::Pages, begun, sizes, &topics.claim, found));
         }
         SlotChangePlace::Fill if words_filled(topics.owned) + 1 < WORDS => SlotChangePlace::Fill,
         SlotChangePlace::Fill => SlotChangePlace::Role,
-        SlotChangePlace::Role => after_role(hand.slots().moved(command)),
+        SlotChangePlace::Role => after_role(hand.slots().invalidated(command)),
         SlotChangePlace::Begin(place) => {
             let target = target(hand, command);
             after_set_begin(begin_next(place, sizes, &target, topics, found))

@@ -13,7 +13,7 @@ use Rattle.core_views.specs.declared.trace.Command.{Command}
 use Rattle.core_views.specs.declared.trace.Line.{Line}
 use Rattle.core_views.specs.Flat.{Flat, Fresh, LineUnderWay}
 use Rattle.core_views.specs.Held.{Held}
-use Rattle.core_views.specs.SlotCommands.{change_refusal}
+use Rattle.core_views.specs.SlotCommands.{change_at_once}
 use Rattle.core_views.specs.SlotSets.{MemorySlots}
 use Rattle.mmu_core.specs.invariant.Invariant.{Invariant}
 use Rattle.mmu_core.specs.invariant.TopicsInvariant.{TopicsInvariant}
@@ -62,9 +62,9 @@ pub first_at : (pool : ℕ → ℕ) (z : Sizes) (slots : MemorySlots) (line : Li
     → u.line ≡ line → UnderAt pool (first_place z slots command) line command t u
 first_at pool z slots line (Access gfn word op) t u fresh is = (is, fresh)
 first_at pool z slots line (ChangeHost page change) t u fresh is = (is, fresh)
-first_at pool z slots line command t u fresh is = (is, first_set (change_refusal z command slots))
+first_at pool z slots line command t u fresh is = (is, first_set (change_at_once z command slots))
   where
-    first_set : (r : Option Refusal) → SlotChangeUnder (slot_change_first r) u
+    first_set : (r : Option (Option Refusal)) → SlotChangeUnder (slot_change_first r) u
     first_set None = fresh
     first_set (Some refusal) = fresh
 

@@ -7,9 +7,11 @@ pub mod KindLaws
 pub mod AllowedWords
 pub mod EventLaws
 pub mod InvalidationLaws
+pub mod PublicationLaws
 pub mod ViewRuns
 pub mod ExampleHostRun
 pub mod ExampleProtectRun
 pub mod ExampleEvictRun
 pub mod ExampleMoveRun
 pub mod ExampleOverlapRun
+pub mod ExampleSlotsRun

@@ -1,6 +1,7 @@
 pub mod StepLaws
 pub mod EventLaws
 pub mod InvalidationLaws
+pub mod PublicationLaws
 pub mod CanStep
 pub mod ExampleSteps
 pub mod ExampleRuns
@@ -12,3 +13,4 @@ pub mod ExampleProtect
 pub mod ExampleEvict
 pub mod ExampleMove
 pub mod ExampleOverlap
+pub mod ExampleSlots

@@ -4,6 +4,7 @@ ghost use Rattle.mmu_laws.specs.alone.LowestFrames.{MovesAloneTakeLowest};
 ghost use Rattle.mmu_laws.specs.steps.CanStep.{EachMayStep, EveryMachineStarts};
 ghost use Rattle.mmu_laws.specs.steps.ExampleHost.{ExampleHost};
 ghost use Rattle.mmu_laws.specs.steps.ExampleEvict.{ExampleEvict};
+ghost use Rattle.mmu_laws.specs.steps.ExampleSlots.{ExampleSlots};
 ghost use Rattle.mmu_laws.specs.steps.ExampleMove.{ExampleMove};
 ghost use Rattle.mmu_laws.specs.steps.ExampleOverlap.{ExampleOverlap};
 ghost use Rattle.mmu_laws.specs.steps.ExampleProtect.{ExampleProtect};
@@ -23,6 +24,7 @@ ghost use Rattle.mmu_core.specs.invariant.Scans.{StarvedLinesScan};
 ghost use Rattle.mmu_laws.specs.steps.EventLaws.{EventsAreOfTheirSteps};
 ghost use Rattle.mmu_laws.specs.steps.InvalidationLaws.{BringsAreOfAbsentPages, ChangesAreInvalidated, InvalidationsAreCounted};
 ghost use Rattle.mmu_laws.specs.steps.InvalidationLaws.{SequenceIsRaised, ZapsAreOfOpenInvalidations};
+ghost use Rattle.mmu_laws.specs.steps.PublicationLaws.{OthersLeaveSlots, PublicationsAreInvalidated};
 ghost use Rattle.mmu_laws.specs.steps.StepLaws.{EnteringFlushes, NotesTellEnds, OthersCacheOneAtMost, RevisedWordsTell, StepsAreOnTheirAreas};
 ghost use Rattle.mmu_laws.specs.turns.Breaking.{BreakingChangesEntries};
 ghost use Rattle.mmu_laws.specs.turns.Removal.{InstalledEntriesServe, LeavesStay};
@@ -92,7 +94,10 @@ pub fn each_delay_has_its_cause()
 /// open their range has the guest frame between theirs, too: a fault of it begins anew, as it
 /// does while the second one alone is open, and where this one ends after the fault's snapshot;
 /// the next fault goes through. A slot line gives the lock back while both are open, and while
-/// one is, and sets its slot once none is.
+/// one is, and sets its slot once none is. Where a slot is moved beside a fault that has looked
+/// at its page, the fault begins anew, and finds the page that the moved slot gives; a deletion
+/// waits for the processor that is in the guest with the slot's leaf cached, and the next access
+/// finds no slot; and a slot that is set as it is takes one step.
 pub fn the_steps_can_be_made()
     ensures starts { EveryMachineStarts }
     ensures goes_on { EachMayStep }
@@ -106,6 +111,7 @@ pub fn the_steps_can_be_made()
     ensures evict { ExampleEvict }
     ensures moves { ExampleMove }
     ensures overlap { ExampleOverlap }
+    ensures slots { ExampleSlots }
 {}
 
 /// What a step's numbers tell of it: each step that a hand allows is on a word of the
@@ -126,6 +132,11 @@ pub fn the_steps_can_be_made()
 /// invalidation. One that changes a host word, whatever it leaves there, is of a page of its
 /// actor's own, while this actor's invalidation of the page is open and flushed. And one that
 /// brings a page in is in a section, of the page that its actor looked at and saw absent.
+/// A step that publishes a slot set is of an actor that has the lock alone, with no
+/// invalidation open but its own: each slot that was published stays so, unless exactly its
+/// guest frames are invalidated by this actor, and flushed; and the new set differs from the
+/// one before it at one ID at most (kvm_main.c, `kvm_invalidate_memslot`,
+/// `kvm_swap_active_memslots`). Each other step leaves the published slots.
 pub fn steps_tell_what_they_are()
     ensures areas { StepsAreOnTheirAreas }
     ensures notes { NotesTellEnds }
@@ -138,6 +149,8 @@ pub fn steps_tell_what_they_are()
     ensures zaps { ZapsAreOfOpenInvalidations }
     ensures changes { ChangesAreInvalidated }
     ensures brings { BringsAreOfAbsentPages }
+    ensures published { PublicationsAreInvalidated }
+    ensures kept_slots { OthersLeaveSlots }
 {}
 
 /// What each hand has answered after a list of steps is what the history tells
@@ -157,7 +170,7 @@ pub fn every_answer_is_told()
 /// which it has at most 8,192 and one for each pool page; and one that waits, as each
 /// step of a part that does, whoever makes it, has seen another actor: a writer in
 /// the lock's word, or that the lock isn't free; that the page which it tried is free no
-/// more; invalidations open; another actor in a section; or a virtual processor that has yet
+/// more; invalidations of others open; another actor in a section; or a virtual processor that has yet
 /// to flush (tdp_mmu.c, `kvm_tdp_mmu_map`; locking.rst).
 pub fn a_fault_goes_on()
     ensures needs { FaultMeetsNeeds }

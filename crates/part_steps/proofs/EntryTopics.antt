@@ -14,7 +14,7 @@ use Rattle.core_views.specs.Held.{Held}
 use Rattle.core_views.specs.Kinds.{kind_named}
 use Rattle.spte_words.specs.HostWords.{host_frame}
 use Rattle.part_steps.specs.PartBounds.{PartRests}
-use Rattle.part_steps.specs.InvalidationHoldings.{MaySweep}
+use Rattle.part_steps.specs.SweepHoldings.{MaySweep}
 use Rattle.part_steps.specs.PartTasks.{table_page, word_looked}
 use Rattle.part_steps.specs.PartHoldings.{LookedUp}
 use Rattle.part_steps.specs.SweepTopics.{gone_up, walk_on}

@@ -7,8 +7,9 @@ use Rattle.std.specs.declared.cmp.Ordering.TheVariants.{Less, Equal, Greater}
 use Rattle.std.proofs.lemmas.Bool.Decides.{nat_tests}
 use Rattle.core_views.specs.declared.slot_set.MemorySlot.{MemorySlot}
 use Rattle.core_views.specs.declared.trace.Slot.{Slot}
+use Rattle.core_views.proofs.SlotLines.{taken_at}
 use Rattle.core_views.specs.Refusals.{after_set, is_logged}
-use Rattle.core_views.specs.SlotSets.{MemorySlots, slot_of_id, with_slot_at}
+use Rattle.core_views.specs.SlotSets.{MemorySlots, slot_of_id, with_slot_at, without_slot_at}
 use Rattle.spte_words.specs.Flags.{flags_word}
 use Rattle.part_steps.specs.SetWords.{set_word, word_of_slot}
 
@@ -82,3 +83,13 @@ set_word_small id slot slots j new_ old_ =
         some_slot : {x y : MemorySlot} → Some x ≡ Some y → x ≡ y
         some_slot e = cc e
     each false m e = old_ at m e
+
+-- So has the word of a set without one of the slots.
+pub set_word_fewer : (id : ℕ) (slots : MemorySlots) (j : ℕ) → ((i : ℕ) (m : MemorySlot) → slot_of_id i slots ≡ Some m → IsSmall m.slot)
+    → set_word (without_slot_at id slots) j < 2 ^ 64
+set_word_fewer id slots j old_ =
+    word_small (slot_of_id (j / 4) (without_slot_at id slots)) (j % 4) (λ m e. each (id == j / 4) m (sym (taken_at (j / 4) id slots) ∙ e))
+  where
+    each : (here : Bool) (m : MemorySlot) → (if here then None else slot_of_id (j / 4) slots) ≡ Some m → IsSmall m.slot
+    each true m e = absurd (cc e)
+    each false m e = old_ (j / 4) m e

@@ -1,24 +1,20 @@
 -- What a hand holds that a step of an invalidation needs, and the change of a host page within one (kvm_main.c, kvm_mmu_invalidate_begin and
 -- kvm_mmu_invalidate_end).
-use Rattle.std.specs.Prelude.{◌≡◌, ◌+◌, ◌-◌, ◌<◌, ◌≤◌, ℕ, Bool, true, false, ◌==◌, nat_lt, if◌then◌else◌, is_some, Some}
+use Rattle.std.specs.Prelude.{◌≡◌, ◌+◌, ◌-◌, ◌<◌, ◌≤◌, ◌^◌, ℕ, Bool, true, false, ◌==◌, nat_lt, if◌then◌else◌, is_some, Some}
 use Rattle.core_views.specs.declared.topics.Checked.{Checked}
 use Rattle.core_views.specs.declared.topics.Checked.TheVariants as checked
 use Rattle.core_views.specs.declared.topics.Hold.TheVariants.{Exclusive}
-use Rattle.core_views.specs.declared.topics.Invalidated.{Invalidated}
 use Rattle.core_views.specs.declared.topics.Stay.TheVariants.{Outside}
-use Rattle.core_views.specs.declared.topics.TableWalk.{TableWalk}
 use Rattle.core_views.specs.declared.topics.Topics.{Topics}
 use Rattle.core_views.specs.Held.{Held}
 use Rattle.core_views.specs.HostChanges.{is_own}
-use Rattle.spte_words.specs.declared.spte_kind.SpteKind.TheVariants.{Leaf}
-use Rattle.spte_words.specs.Entries.{kind_of}
 use Rattle.part_steps.specs.declared.invalidations.Target.{Target}
 use Rattle.part_steps.specs.InvalidationRange.{IsAimed, has_searched, invalidated_by, is_within_range, page_looked, page_of_target, range_end, range_start}
 use Rattle.part_steps.specs.InvalidationRange.{target_end, target_start}
 use Rattle.part_steps.specs.FrameTopics.{is_uncopied}
-use Rattle.part_steps.specs.PartHoldings.{HoldsSet, IsOver, SawEntry}
+use Rattle.part_steps.specs.PartHoldings.{HoldsSet}
 use Rattle.part_steps.specs.StayTopics.{no_flush}
-use Rattle.part_steps.specs.SweepTopics.{gone_up, is_clear, swept_to}
+use Rattle.part_steps.specs.SweepHoldings.{IsSwept}
 
 -- ---- what was loaded of their words
 
@@ -61,22 +57,23 @@ pub record MaySetStart (first gfn : ℕ) (t : Topics) : Type 0 where
   pub is : gfn ≡ range_start target t
 
 -- And then its end.
-pub record MaySetEnd (last gfn : ℕ) (t : Topics) : Type 0 where
+pub record MaySetEnd (end_ gfn : ℕ) (t : Topics) : Type 0 where
   pub target : Target
   pub opening : IsOpening target t
   pub widened : has_widened t.invalidations.checked t.invalidations.count ≡ true
   pub page : t.invalidations.own.page ≡ page_of_target target
   pub start : t.invalidations.own.start ≡ target_start target t.search
-  pub own_ : last ≡ target_end target t.search
+  pub own_ : end_ ≡ target_end target t.search
   pub is : gfn ≡ range_end target t
 
--- One more may be counted with the actor's own: the range that is stored has its frames, no table is held and no virtual processor was asked for a flush yet,
--- and no word of a page is copied.
+-- One more may be counted with the actor's own: its frames lie below 2 ^ 36, the range that is stored has them, no table is held and no virtual processor was
+-- asked for a flush yet, and no word of a page is copied.
 pub record MayOpen (t : Topics) : Type 0 where
   pub target : Target
   pub opening : IsOpening target t
   pub known : t.invalidations.checked ≡ checked.Range
   pub own_ : t.invalidations.own ≡ invalidated_by target t.search
+  pub low : t.invalidations.own.end ≤ 2 ^ 36
   pub within : is_within_range t.invalidations.own t.invalidations ≡ true
   pub no_table : t.walk.level ≡ 0
   pub unasked : t.flush ≡ no_flush
@@ -92,38 +89,8 @@ pub record MayCount (count : ℕ) (t : Topics) : Type 0 where
   pub opens : t.invalidations.opened ≡ false → MayOpen t
   pub closes : t.invalidations.opened ≡ true → t.invalidations.raised ≡ true
 
--- The next entry of a sweep may be loaded, over the guest frame to which it has come: the lock is the actor's alone, its own invalidation is open, and what was
--- loaded last leads nowhere, or nothing was loaded yet of the table.
-pub record MaySweep (gfn : ℕ) (t : Topics) : Type 0 where
-  pub alone : t.hold ≡ Exclusive
-  pub outside : t.stay ≡ Outside
-  pub opened : t.invalidations.opened ≡ true
-  pub there : 1 ≤ t.walk.level
-  pub clear : is_clear t.walk ≡ true
-  pub next : gfn ≡ swept_to t.invalidations.own.start t.walk
-  pub left : gfn < t.invalidations.own.end
-  pub over : IsOver gfn (gone_up t.walk)
-
--- A sweep has come to the end of the frames that an invalidation is of, if there are any.
-pub record HasSwept (own : Invalidated) (walk : TableWalk) : Type 0 where
-  pub there : 1 ≤ walk.level
-  pub all : own.end ≤ swept_to own.start walk
-
-abbrev pub IsSwept : Topics → Type 0
-IsSwept t = nat_lt t.invalidations.own.start t.invalidations.own.end ≡ true → HasSwept t.invalidations.own t.walk
-
--- A leaf may be zapped that is of a frame of the actor's own open invalidation, where the lock is the actor's alone and the entry was seen.
-pub record MayZap (gfn : ℕ) (t : Topics) : Type 0 where
-  pub alone : t.hold ≡ Exclusive
-  pub outside : t.stay ≡ Outside
-  pub opened : t.invalidations.opened ≡ true
-  pub from : t.invalidations.own.start ≤ gfn
-  pub to : gfn < t.invalidations.own.end
-  pub saw : SawEntry gfn t.walk
-  pub leaf : kind_of t.walk.level t.walk.entry ≡ Leaf
-
 -- The next virtual processor may be asked for a flush: under the lock that the actor has alone, with its own invalidation open; the first one once no leaf of
--- the frame is left.
+-- its frames is left.
 pub record MayAsk (index : ℕ) (h : Held) : Type 0 where
   pub low : index < h.state.sizes.vcpus
   pub next : index ≡ h.topics.flush.asked

@@ -81,17 +81,17 @@ lesser a b = if nat_le a b then a else b
 abbrev pub greater : ℕ → ℕ → ℕ
 greater a b = if nat_le a b then b else a
 
--- The range of the open invalidations, with one more over the guest frames from `first` up to `last`: from its first frame up to the frame after it. Where there
--- are none of these it stays as it is, and is empty where none is open.
+-- The range of the open invalidations, with one more over the guest frames from `first` up to, and not with, `end_`. Where there are none of these it stays as
+-- it is, and is empty where none is open.
 abbrev pub start_with : ℕ → ℕ → Invalidations → ℕ
-start_with first last n =
-    if nat_lt first last then (if n.count == 0 then first else lesser n.start first) else
+start_with first end_ n =
+    if nat_lt first end_ then (if n.count == 0 then first else lesser n.start first) else
     if n.count == 0 then 0 else
     n.start
 
 abbrev pub end_with : ℕ → ℕ → Invalidations → ℕ
-end_with first last n =
-    if nat_lt first last then (if n.count == 0 then last else greater n.end last) else
+end_with first end_ n =
+    if nat_lt first end_ then (if n.count == 0 then end_ else greater n.end end_) else
     if n.count == 0 then 0 else
     n.end
 

@@ -13,6 +13,7 @@ pub mod TopicSteps
 pub mod HeldNumbers
 pub mod PartTasks
 pub mod PartHoldings
+pub mod SweepHoldings
 pub mod InvalidationHoldings
 pub mod FrameHoldings
 pub mod PartSteps

@@ -19,7 +19,8 @@ use Rattle.part_steps.specs.PartTasks.{own_index, page_owned, word_looked}
 use Rattle.part_steps.specs.FrameHoldings.{MayCopy, MayGiveFrame, MayStore, revises}
 use Rattle.part_steps.specs.PartHoldings.{next_watched, OwnsPage, HasToFill, HasRoleToSet, HoldsSet, IsOver, MayBring, OwnsTable, MayEnter}
 use Rattle.part_steps.specs.PartHoldings.{MayPublish, MayGiveOld}
-use Rattle.part_steps.specs.InvalidationHoldings.{MayAsk, MayChange, MayCount, MayEndInvalidation, MaySetEnd, MaySetStart, MaySweep, MayZap}
+use Rattle.part_steps.specs.InvalidationHoldings.{MayAsk, MayChange, MayCount, MayEndInvalidation, MaySetEnd, MaySetStart}
+use Rattle.part_steps.specs.SweepHoldings.{MaySweep, MayZap}
 use Rattle.part_steps.specs.InvalidationRange.{has_found_looked}
 use Rattle.part_steps.specs.SweepTopics.{is_sweeping}
 use Rattle.part_steps.specs.StayTopics.{is_alone}

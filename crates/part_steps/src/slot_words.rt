@@ -3,7 +3,7 @@ ghost use Rattle.part_steps.specs.SlotWords.{field_number, leaf_of, may_write, p
 ghost use Rattle.part_steps.specs.SetWords.{set_word, word_of_slot};
 ghost use Rattle.core_views.specs.Refusals.{after_set};
 ghost use Rattle.core_views.specs.SlotCommands.{slots_after};
-ghost use Rattle.core_views.specs.SlotSets.{slot_of_id};
+ghost use Rattle.core_views.specs.SlotSets.{slot_of_id, without_slot_at};
 ghost use Rattle.core_views.specs.Traces.{IsSlotInRange};
 ghost use Rattle.spte_words.specs.HostWords.{host_frame};
 ghost use Rattle.spte_words.specs.Areas.{IsWordMap, size_of};
@@ -69,12 +69,21 @@ fn slot_after_set(slots: &SlotSet, id: u64, slot: &Slot, here: u64) -> Option<Me
     })
 }
 
+// The slot with the ID `here`, after one was deleted.
+#[tactic(auto, using(core_views::proofs::SlotLines::taken_at))]
+fn slot_after_deletion(slots: &SlotSet, id: u64, here: u64) -> Option<MemorySlot>
+    ensures { result ≡ slot_of_id here (without_slot_at id slots.now) }
+{
+    if here == id { None } else { slots.get(here) }
+}
+
 // The slot with the ID `here`, after the line has changed its slot.
 fn slot_after(slots: &SlotSet, command: &Command, here: u64) -> Option<MemorySlot>
     ensures { result ≡ slot_of_id here (slots_after command.now slots.now) }
 {
     match command {
         Command::SetSlot { id, slot } => slot_after_set(slots, *id, slot, here),
+        Command::DeleteSlot { id } => slot_after_deletion(slots, *id, here),
         Command::Access { .. } | Command::ChangeHost { .. } => slots.get(here),
     }
 }

@@ -96,8 +96,8 @@ impl BeginJob {
     {
         part_rests(s.hand());
         let search = &s.hand().topics().search;
-        let (first, last) = (self.target.start(search), self.target.end(search));
-        let mut open = Open { first, last, stage };
+        let (first, end) = (self.target.start(search), self.target.end(search));
+        let mut open = Open { first, end, stage };
         let _ = open.turn(s, note);
     }
 

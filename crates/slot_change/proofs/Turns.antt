@@ -11,9 +11,9 @@ use Rattle.core_views.specs.declared.place.Place.TheVariants as place
 use Rattle.core_views.specs.declared.place.SlotChangePlace.{SlotChangePlace}
 use Rattle.core_views.specs.declared.place.SlotChangePlace.TheVariants.{Begin, End}
 use Rattle.core_views.specs.declared.trace.Command.{Command}
-use Rattle.core_views.specs.declared.trace.Command.TheVariants.{Access, ChangeHost, SetSlot}
+use Rattle.core_views.specs.declared.trace.Command.TheVariants.{Access, ChangeHost, DeleteSlot, SetSlot}
 use Rattle.core_views.specs.Held.{Held}
-use Rattle.core_views.specs.SlotCommands.{change_refusal}
+use Rattle.core_views.specs.SlotCommands.{change_at_once}
 use Rattle.part_steps.specs.PartTasks.{part_kind}
 use Rattle.mmu_core.specs.alone.LineAlone.{line_waits}
 use Rattle.mmu_core.specs.lines.SlotChangeSteps.{slot_change_first, slot_change_outcome, slot_change_note, slot_change_part}
@@ -40,7 +40,7 @@ pub record StandsInLine (p : SlotChangePlace) (note : ℕ) (h : Held) : Type 0 w
   pub is_at : IsAtSlotPlace p note h
 
 -- No line begins within its invalidation.
-first_is_there : (refusal : Option Refusal) (p : SlotChangePlace) (h : Held) → place.SlotChange (slot_change_first refusal) ≡ place.SlotChange p
+first_is_there : (answer : Option (Option Refusal)) (p : SlotChangePlace) (h : Held) → place.SlotChange (slot_change_first answer) ≡ place.SlotChange p
     → StandsThere p h
 first_is_there None (Begin b) h is = absurd (cc is)
 first_is_there None (End e) h is = absurd (cc is)
@@ -54,7 +54,8 @@ stands_there : (q : Place) (p : SlotChangePlace) (c : Command) (h : Held) → h.
     → StandsThere p h
 stands_there place.Between p (Access gfn word op) h is stands = absurd (cc stands)
 stands_there place.Between p (ChangeHost page change) h is stands = absurd (cc stands)
-stands_there place.Between p (SetSlot id slot) h is stands = first_is_there (change_refusal h.state.sizes (SetSlot id slot) h.slots) p h stands
+stands_there place.Between p (SetSlot id slot) h is stands = first_is_there (change_at_once h.state.sizes (SetSlot id slot) h.slots) p h stands
+stands_there place.Between p (DeleteSlot id) h is stands = first_is_there (change_at_once h.state.sizes (DeleteSlot id) h.slots) p h stands
 stands_there (place.Access a) p c h is stands = absurd (cc stands)
 stands_there (place.Host a) p c h is stands = absurd (cc stands)
 stands_there (place.SlotChange a) (Begin b) c h is stands = is ∙ stands

@@ -63,7 +63,7 @@ fn step<S: Stepper>(s: &mut S, place: SlotChangePlace, note: u64) -> Option<Seen
     ensures same { ((S.seat s.new).actor ≡ (S.seat s.old).actor) × (S.frame s.new ≡ S.frame s.old) }
 {
     match place {
-        SlotChangePlace::Refuse(_) => {
+        SlotChangePlace::AtOnce(_) => {
             let _ = Snapshot::new().turn(s, note);
             None
         }

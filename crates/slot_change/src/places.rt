@@ -1,7 +1,7 @@
 //! The step of each place, by the call of its part.
 ghost use Rattle.std.specs.Prelude.{◌≡◌, ◌<◌, length, true, is_some};
 ghost use Rattle.core_views.specs.Sizes.{AreSizes};
-ghost use Rattle.core_views.specs.SlotCommands.{slot_moved};
+ghost use Rattle.core_views.specs.SlotCommands.{slot_invalidated};
 ghost use Rattle.core_views.specs.declared.place.SlotChangePlace.TheVariants as at;
 ghost use Rattle.mmu_core.specs.lines.PartWaits.{part_seen};
 ghost use Rattle.mmu_core.specs.lines.SlotChangeSteps.{slot_or_none};
@@ -65,12 +65,12 @@ pub(crate) fn role<S: Stepper>(s: &mut S, note: u64) -> Option<Seen>
 }
 
 // The slot that the line moves, as it is before.
-fn slot_moved(hand: &Hand) -> Slot
+fn slot_invalidated(hand: &Hand) -> Slot
     requires left { length hand.now.core.answers < length hand.now.core.lines }
-    requires moves { is_some (slot_moved hand.now.core.slots (line_of hand.now.core).command) ≡ true }
-    ensures { result ≡ slot_or_none (slot_moved hand.now.core.slots (line_of hand.now.core).command) }
+    requires moves { is_some (slot_invalidated hand.now.core.slots (line_of hand.now.core).command) ≡ true }
+    ensures { result ≡ slot_or_none (slot_invalidated hand.now.core.slots (line_of hand.now.core).command) }
 {
-    match hand.slots().moved(&hand.line().command) {
+    match hand.slots().invalidated(&hand.line().command) {
         Some(slot) => slot,
         None => unreachable!(),
     }
@@ -84,7 +84,7 @@ pub(crate) fn begin<S: Stepper>(s: &mut S, place: BeginPlace, note: u64) -> Opti
     ensures room { KeepsRoom (S.seat s.old) (S.seat s.new) }
     ensures same { ((S.seat s.new).actor ≡ (S.seat s.old).actor) × (S.frame s.new ≡ S.frame s.old) }
 {
-    let slot = slot_moved(s.hand());
+    let slot = slot_invalidated(s.hand());
     BeginJob::of_slot(slot).turn(s, note).in_way()
 }
 

@@ -1,8 +1,6 @@
 -- The words of the start, made one after another; and the machine that they are with the hands of the start.
 use Rattle.std.proofs.Common.{refl, zero, suc, slice_index_or, All, ◌≡◌, ◌<◌, ◌≤◌, ◌+◌, ◌++◌, ◌⊎◌, inl, inr, ℕ, List, [], ◌∷◌, length, length-append}
 use Rattle.std.proofs.Common.{slice_index, ◌∙◌, ap, sym, subst, arith}
-use Rattle.std.specs.Prelude.{◌==◌}
-use Rattle.std.specs.List.{IsDistinct}
 use Rattle.std.proofs.Math.ListN.{get_or-append, length-map}
 use Rattle.std.proofs.Math.Seq.{get_or-append_seam}
 use Rattle.std.proofs.lemmas.Bool.{cases_lt}
@@ -96,13 +94,6 @@ pub hand_at_start : (z : Sizes) (lines : List Line) (words : List ℕ) (hands : 
 hand_at_start z lines words hands i start there =
     core_at words hands i ∙ (ap (λ (x : List Held). slice_index_or x i nobody) start.hands ∙ hand_among z lines (actors_of z) i nobody there)
 
--- Of one ID at most none is there twice.
-pub one_is_distinct : (ids : List ℕ) → length ids ≤ 1 → IsDistinct (λ i j. i == j) ids
-unfolding IsDistinct
-one_is_distinct [] few = tt
-one_is_distinct (i ∷ []) few = (tt, tt)
-one_is_distinct (i ∷ j ∷ ids) few = absurd (omega (arith, few))
-
 -- At the start no line is under way.
 none_under_way : (z : Sizes) (lines : List Line) (words : List ℕ) (hands : List Handful) → IsStart z lines (world_of words hands) → EachHasRoom hands
 none_under_way z lines words hands start = λ i there.
@@ -118,7 +109,6 @@ pub start_of : (t : Trace) (z : Sizes) (words : List ℕ) (hands : List Handful)
 start_of t z words hands trace sizes made dealt = record {
   sizes = subst AreSizes (sym sizes) (header_sizes t.header trace.header);
   allowed = subst (λ x. All (λ line. IsCommandFor x line.actor line.command) t.lines) (sym sizes) trace.lines;
-  distinct = trace.distinct;
   few = trace.few;
   words = made;
   hands = dealt;

@@ -50,6 +50,10 @@ mod plain_tests;
 #[cfg(test)]
 mod schedules;
 #[cfg(test)]
+mod slot_schedules;
+#[cfg(test)]
+mod slot_traces;
+#[cfg(test)]
 mod small_pools;
 #[cfg(test)]
 mod tests;

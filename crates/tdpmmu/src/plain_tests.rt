@@ -1,10 +1,11 @@
-//! The machine beside flat guest memory: on each trace of three tables both answer
+//! The machine beside flat guest memory: on each trace of four tables both answer
 //! the same, with the pool that the trace needs and with a larger one, and with
 //! one cached translation and with 64.
 ghost use Rattle.core_views.specs.Traces.{AreLinesOf};
 
 use crate::host_traces::{HOST_COUNT, HOST_TRACES};
 use crate::move_traces::{MOVE_COUNT, MOVE_TRACES};
+use crate::slot_traces::{SLOT_COUNT, SLOT_TRACES};
 use crate::status::Status;
 use crate::tests::run_on;
 use crate::traces::{COUNT, TRACES};
@@ -116,6 +117,14 @@ fn answers_host_threads_as_flat_memory(rt: HostRuntime) -> Result<(), Fail> {
 #[test]
 fn answers_moves_as_flat_memory(rt: HostRuntime) -> Result<(), Fail> {
     let (found, rest) = first_differing(&rt, rt.alloc(), MOVE_TRACES, MOVE_COUNT)?;
+    assert!(rt; found.is_none(), "on {found:?}");
+    assert_eq!(rt; rest, "");
+    Ok(())
+}
+
+#[test]
+fn answers_slot_lines_as_flat_memory(rt: HostRuntime) -> Result<(), Fail> {
+    let (found, rest) = first_differing(&rt, rt.alloc(), SLOT_TRACES, SLOT_COUNT)?;
     assert!(rt; found.is_none(), "on {found:?}");
     assert_eq!(rt; rest, "");
     Ok(())

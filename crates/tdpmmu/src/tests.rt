@@ -130,6 +130,110 @@ const ANSWERS: [(u8, u64, &str, &str); 12] = [
     ),
 ];
 
+// Slot lines, and what `replay` prints.
+const SLOT_LINES: [(&str, &str); 16] = [
+    (
+        "vm slot 0 0 16 0\nvm slot 0 0 17 0\nvm slot 0 0 16 64\nvm slot 1 8 16 64\nvm slot 1 100 16 0\nvm slot 1 100 2000 0\n\
+        vm slot 40 100 16 64\nvm slot 1 0 0 0\n",
+        "2 vm done\n3 vm refused resize\n4 vm refused fixed\n5 vm refused overlap\n6 vm refused host-overlap\n7 vm refused too-large\n\
+        8 vm refused bad-id\n9 vm refused missing\n",
+    ),
+    (
+        "vm slot 0 0 16 0\nv0 write 0x1000 7\nvm slot 0 32 16 0\nv0 read 0x1000\nv0 read 0x21000\nvm slot 0 0 0 0\nv0 read 0x21000\n",
+        "2 vm done\n3 v0 frame 1 value 0\n4 vm done\n5 v0 mmio\n6 v0 frame 1 value 7\n7 vm done\n8 v0 mmio\n",
+    ),
+    // An ID that comes again, in whatever spelling, is the same slot: it may have another place, and no other host pages.
+    (
+        "vm slot 3 0 16 0\nvm slot 4 16 16 64\nvm slot 0x3 32 16 128\nvm slot 0x3 32 16 0\nv0 read 0x20000\nv1 read 0x0\n",
+        "2 vm done\n3 vm done\n4 vm refused fixed\n5 vm done\n6 v0 frame 0 value 0\n7 v1 mmio\n",
+    ),
+    (
+        "vm slot 40 0 16 0\nv0 read 0x0\nvm slot 40 0 16 0\n",
+        "2 vm refused bad-id\n3 v0 mmio\n4 vm refused bad-id\n",
+    ),
+    // Deletions of no slot, and of no ID.
+    (
+        "vm slot 0 0 0 0\nvm slot 31 0 0 0\nvm slot 32 0 0 0\nvm slot 18446744073709551615 0 0 0\nvm slot 0 0 16 0\nvm slot 1 0 0 0\nvm slot 0 0 0 0\n\
+        vm slot 0 0 0 0\n",
+        "2 vm refused missing\n3 vm refused missing\n4 vm refused bad-id\n5 vm refused bad-id\n6 vm done\n7 vm refused missing\n8 vm done\n\
+        9 vm refused missing\n",
+    ),
+    // A deleted ID, with other pages, host pages and rights.
+    (
+        "vm slot 0 0 16 0\nv0 write 0x0 7\nvm slot 0 0 0 0\nvm slot 0 100 32 64 ro\nv0 read 0x64000\nv0 write 0x64000 1\nv0 read 0x83000\nv0 read 0x0\n",
+        "2 vm done\n3 v0 frame 0 value 0\n4 vm done\n5 vm done\n6 v0 frame 64 value 0\n7 v0 mmio\n8 v0 frame 95 value 0\n9 v0 mmio\n",
+    ),
+    // No pages in another spelling.
+    (
+        "vm slot 0 0 16 0\nvm slot 0x0 0x0 0x0 0x0\nv0 read 0x0\n",
+        "2 vm done\n3 vm done\n4 v0 mmio\n",
+    ),
+    // A deletion looks at its ID alone.
+    (
+        "vm slot 0 0 16 0\nvm slot 0 0 0 0 ro\nvm slot 0 0 16 0 ro\nvm slot 0 0 0 0\nvm slot 0 0 16 0\nvm slot 0 68719476735 0 68719476672\nv0 read 0x0\n",
+        "2 vm done\n3 vm done\n4 vm done\n5 vm done\n6 vm done\n7 vm done\n8 v0 mmio\n",
+    ),
+    // Another size is refused before other host pages, these before an overlap, and that before an overlap of host pages.
+    (
+        "vm slot 0 0 16 0\nvm slot 1 100 16 64\nvm slot 1 100 17 0\nvm slot 1 8 17 64\nvm slot 1 8 16 128\nvm slot 1 8 16 64 ro\nvm slot 1 8 16 64\n\
+        vm slot 2 8 16 0\nvm slot 2 200 16 0\nv0 read 0x64000\n",
+        "2 vm done\n3 vm done\n4 vm refused resize\n5 vm refused resize\n6 vm refused fixed\n7 vm refused fixed\n8 vm refused overlap\n\
+        9 vm refused overlap\n10 vm refused host-overlap\n11 v0 frame 64 value 0\n",
+    ),
+    // What is too large is refused before that, and a wrong ID before all.
+    (
+        "vm slot 0 0 16 0\nvm slot 0 0 2000 64\nvm slot 0 68719476721 16 0\nvm slot 0 0 16 1024\nvm slot 32 0 2000 64\nvm slot 0 68719476720 16 0\n\
+        v0 read 0xfffffffff000\n",
+        "2 vm done\n3 vm refused too-large\n4 vm refused too-large\n5 vm refused too-large\n6 vm refused bad-id\n7 vm done\n8 v0 frame 15 value 0\n",
+    ),
+    // An unchanged slot doesn't overlap itself.
+    (
+        "vm slot 0 0 16 0\nv0 write 0x1000 7\nvm slot 0 0 16 0\nvm slot 0x0 0x0 0x10 0x0\nv0 add 0x1000 1\nv1 read 0x1000\n",
+        "2 vm done\n3 v0 frame 1 value 0\n4 vm done\n5 vm done\n6 v0 frame 1 value 7\n7 v1 frame 1 value 8\n",
+    ),
+    // A slot that moves may overlap its own old place, and not another slot, up to its last guest frame.
+    (
+        "vm slot 0 0 16 0\nvm slot 1 32 16 64\nvm slot 0 17 16 0\nvm slot 0 16 16 0\nvm slot 1 31 16 64\nvm slot 1 33 16 64\nvm slot 0 17 16 0\n\
+        v0 read 0x20000\nv0 read 0x21000\n",
+        "2 vm done\n3 vm done\n4 vm refused overlap\n5 vm done\n6 vm refused overlap\n7 vm done\n8 vm done\n9 v0 frame 15 value 0\n10 v0 frame 64 value 0\n",
+    ),
+    // What a deleted slot had is free for another one: its guest frames and its host pages.
+    (
+        "vm slot 0 0 16 0\nv0 write 0x1000 7\nvm slot 1 8 16 64\nvm slot 1 100 16 0\nvm slot 0 0 0 0\nvm slot 1 8 16 64\nvm slot 2 100 16 0\n\
+        v1 read 0x65000\nv1 read 0x8000\n",
+        "2 vm done\n3 v0 frame 1 value 0\n4 vm refused overlap\n5 vm refused host-overlap\n6 vm done\n7 vm done\n8 vm done\n9 v1 frame 1 value 7\n\
+        10 v1 frame 64 value 0\n",
+    ),
+    // A refused line is no slot: a deletion of its ID finds none.
+    (
+        "vm slot 0 0 2000 0\nvm slot 0 0 0 0\nvm slot 0 0 16 0\nvm slot 0 0 17 0\nvm slot 0 0 0 0\nvm slot 0 0 17 0\nv0 read 0x10000\n",
+        "2 vm refused too-large\n3 vm refused missing\n4 vm done\n5 vm refused resize\n6 vm done\n7 vm done\n8 v0 frame 16 value 0\n",
+    ),
+    // The slot of the whole machine moves by one guest frame.
+    (
+        "vm slot 0 0 1024 0\nv0 write 0x0 1\nv0 write 0x3ff000 2\nvm slot 0 1 1024 0\nv1 read 0x0\nv1 read 0x1000\nv1 read 0x400000\nv1 read 0x3ff000\n",
+        "2 vm done\n3 v0 frame 0 value 0\n4 v0 frame 1023 value 0\n5 vm done\n6 v1 mmio\n7 v1 frame 0 value 1\n8 v1 frame 1023 value 2\n\
+        9 v1 frame 1022 value 0\n",
+    ),
+    // A page that was taken away from the host is brought in at the new place; a write that the host forbids is forbidden there.
+    (
+        "vm slot 0 0 16 0\nv0 write 0x1000 7\nh0 evict 1\nvm slot 0 32 16 0\nv0 read 0x21000\nh0 protect 1\nvm slot 0 64 16 0\nv0 write 0x41000 8\n\
+        v1 read 0x41000\n",
+        "2 vm done\n3 v0 frame 1 value 0\n4 h0 done\n5 vm done\n6 v0 frame 1 value 7\n7 h0 done\n8 vm done\n9 v0 hostfault\n10 v1 frame 1 value 7\n",
+    ),
+];
+
+#[test]
+fn answers_slot_lines(rt: HostRuntime) -> Result<(), Fail> {
+    for (lines, text) in SLOT_LINES {
+        assert!(rt;
+            prints(&rt, rt.alloc(), "replay", H, lines, text)?,
+            "on {lines}"
+        );
+    }
+    Ok(())
+}
+
 #[test]
 fn prints_each_answer(rt: HostRuntime) -> Result<(), Fail> {
     for (words, pool, lines, text) in ANSWERS {
@@ -159,6 +263,23 @@ fn checks_a_trace(rt: HostRuntime) -> Result<(), Fail> {
         ),
         (GENERATED, "vm slot 0 0 4096 0\n", "ok 1 need 14\n"),
         (H, "vm slot 0 0 16 0\nv0 read 0x0\n", "ok 2 need 7\n"),
+        // A table counts for each place that a slot line names, also after the slot has left it.
+        (
+            H,
+            "vm slot 0 0 16 0\nvm slot 0 512 16 0\nvm slot 0 0 0 0\n",
+            "ok 3 need 8\n",
+        ),
+        (
+            H,
+            "vm slot 0 0 16 0\nvm slot 0 134217728 16 0\nvm slot 0 0 16 0\n",
+            "ok 3 need 10\n",
+        ),
+        // A deletion's numbers don't count, nor does a slot that is too large; a line that will be refused does.
+        (
+            H,
+            "vm slot 0 0 16 0\nvm slot 0 512 0 0\nvm slot 1 1024 1025 0\nvm slot 0 2048 17 0\n",
+            "ok 4 need 8\n",
+        ),
     ] {
         assert!(rt;
             prints(&rt, rt.alloc(), "check", header, lines, text)?,
@@ -169,7 +290,7 @@ fn checks_a_trace(rt: HostRuntime) -> Result<(), Fail> {
 }
 
 // The header, the lines, the first refused line and why, and what `replay` prints.
-const REFUSED: [(&str, &str, u32, Reason, &str); 7] = [
+const REFUSED: [(&str, &str, u32, Reason, &str); 8] = [
     ("", "", 1, Reason::Header, "refused 1 header\n"),
     (
         H,
@@ -199,16 +320,24 @@ const REFUSED: [(&str, &str, u32, Reason, &str); 7] = [
         Reason::Word,
         "refused 3 word\n",
     ),
+    // The reader looks at all numbers of a deletion.
     (
         H,
-        "vm slot 3 0 16 0\nvm slot 4 16 16 64\nvm slot 0x3 32 16 128\n",
-        4,
+        "vm slot 0 0 16 0\nvm slot 0 0 0 32\n",
+        3,
         Reason::Number,
-        "refused 4 number\n",
+        "refused 3 number\n",
     ),
     (
         H,
-        "vm slot 40 0 16 0\nv0 read 0x0\nvm slot 40 0 16 0\n",
+        "vm slot 0 0 16 0\nvm slot 0 68719476736 0 0\n",
+        3,
+        Reason::Number,
+        "refused 3 number\n",
+    ),
+    (
+        H,
+        "vm slot 0 0 16 0\nvm slot 0 0 0x00 0\nvm slot 0 0 00 0\n",
         4,
         Reason::Number,
         "refused 4 number\n",

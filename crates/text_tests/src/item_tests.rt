@@ -21,8 +21,9 @@ const TABLE: &str = "\
 2 2 v0. vm#17|v0 read 0;> v0 end;v1 read 0;go;> vm exclude;\n\
 2 1 v1*3 w0#13 h1. h0#11|v0 read 0;> v1 3;> w0 swap;go;> h1 end;v1 read 0;> h0 host;\n\
 1 0|go;vm slot 0 0 1 0;\n\
-3 number|vm slot 0 0 1 0;vm slot 0 0 1 0;go;\n\
-4 number|vm slot 0 0 1 0;go;vm slot 0 0 1 0;\n\
+2 2|vm slot 0 0 1 0;vm slot 0 0 1 0;go;\n\
+2 1|vm slot 0 0 1 0;go;vm slot 0 0 1 0;\n\
+3 2|vm slot 0 0 1 0;vm slot 0 64 1 0;go;vm slot 0 0 0 0;\n\
 3 word|go;go;\n\
 5 word|go;v0 read 0;# c;go;\n\
 4 word|v0 read 0;go;go go;\n\
@@ -141,7 +142,7 @@ fn answers_the_table(rt: HostRuntime) -> Result<(), Fail> {
             cases = cases.saturating_add(1);
         }
     }
-    assert_eq!(rt; cases, 68);
+    assert_eq!(rt; cases, 69);
     Ok(())
 }
 

@@ -20,7 +20,16 @@ fn header(alloc: Global, pages: u64) -> Result<Header, Fail> {
     })
 }
 
-// What a trace needs on a machine of `pages` pages, whose slots have these bases and sizes.
+fn slot_line(command: Command) -> Line {
+    Line {
+        number: 4,
+        actor: Actor::Manager,
+        command,
+    }
+}
+
+// What a trace needs on a machine of `pages` pages, where a slot is set with each of these bases and sizes, and
+// deleted after it: that takes nothing away.
 fn needs(alloc: Global, pages: u64, slots: &[(u64, u64)]) -> Result<u64, Fail> {
     let mut lines = vec![in alloc;
         Line {
@@ -48,11 +57,8 @@ fn needs(alloc: Global, pages: u64, slots: &[(u64, u64)]) -> Result<u64, Fail> {
             host: 0,
             read_only: false,
         };
-        lines.push(Line {
-            number: 4,
-            actor: Actor::Manager,
-            command: Command::SetSlot { id: 0, slot },
-        })?;
+        lines.push(slot_line(Command::SetSlot { id: 0, slot }))?;
+        lines.push(slot_line(Command::DeleteSlot { id: 0 }))?;
     }
     let trace = Trace::unscheduled(alloc, header(alloc, pages)?, Lines::from_vec(lines));
     Ok(need(alloc, &trace)?)

@@ -154,14 +154,14 @@ const TABLE: &str = "\
 2 word|&v9 look z z z z ro;\n\
 3 word|&%vm slot 0;\n\
 3 word|&%vm slot 0 0 1 0 rw;\n\
-3 number|&%vm slot 0 0 1 0;\n\
-3 number|&%vm slot 0x0 0 1 0 ro;\n\
+2 lines|&%vm slot 0 0 1 0;\n\
+2 lines|&%vm slot 0x0 0 1 0 ro;\n\
 3 number|&%vm slot x x x x;\n\
 3 number|&%vm slot 1 x 1 0;\n\
-5 number|&%# c;;vm slot 0 200 1 0;\n\
-4 number|&vm slot 0x1f 0 1 0 ro;v0 read 0;vm slot 31 9 1 0;\n\
-3 number|&vm slot 18446744073709551615 0 1 0;vm slot 0xffffffffffffffff 0 1 0;\n\
-5 number|&vm slot 3 0 1 0;vm slot 1 0 1 0;vm slot 2 0 1 0;vm slot 3 0 1 0;\n\
+2 lines|&%# c;;vm slot 0 200 1 0;\n\
+3 lines|&vm slot 0x1f 0 1 0 ro;v0 read 0;vm slot 31 9 1 0;\n\
+2 lines|&vm slot 18446744073709551615 0 1 0;vm slot 0xffffffffffffffff 0 1 0;\n\
+4 lines|&vm slot 3 0 1 0;vm slot 1 0 1 0;vm slot 2 0 1 0;vm slot 3 0 1 0;\n\
 2 lines|&%vm slot 1 0 1 0;\n\
 2 lines|&%vm slot 0x10 0x10 32 64 ro;\n\
 4 lines|&vm slot 2 0 1 0 ro;%vm slot 0x20 0 1 0;vm slot 20 0 1 0;\n\
@@ -225,8 +225,22 @@ const TABLE: &str = "\
 2 number|&vm slot 18446744073709551616 0 1 0;\n\
 2 number|&vm slot 0 68719476736 1 0;\n\
 2 number|&vm slot 0 00 1 0;\n\
-2 number|&vm slot 0 0 0 0;\n\
-2 number|&vm slot 0 0 0 0 ro;\n\
+1 lines|&vm slot 0 0 0 0;\n\
+1 lines|&vm slot 0 0 0 0 ro;\n\
+1 lines|&vm slot 0x0 0x0 0x0 0x0;\n\
+1 lines|&vm slot 18446744073709551615 68719476735 0 68719476672 ro;\n\
+4 lines|&%vm slot 0 0 0 0;vm slot 0 0 0 0;vm slot 0 0 0 64 ro;\n\
+2 number|&vm slot 0 0 00 0;\n\
+2 number|&vm slot 0 0 0x 0;\n\
+2 number|&vm slot z 0 0 0;\n\
+2 number|&vm slot 18446744073709551616 0 0 0;\n\
+2 number|&vm slot 0 68719476736 0 0;\n\
+2 number|&vm slot 0 0 0 68719476736;\n\
+2 number|&vm slot 0 0 0 63;\n\
+2 number|&vm slot 0 0 0 32 ro;\n\
+3 number|&%vm slot 0 0 0 1;\n\
+2 word|&vm slot 0 0 0 0 rw;\n\
+2 word|&vm slot 0 0 0;\n\
 2 number|&vm slot 0 0 68719476736 0;\n\
 2 number|&vm slot 0 0 1 68719476736;\n\
 2 number|&vm slot 0 0 1 1;\n\
@@ -355,7 +369,7 @@ fn answers_the_table(rt: HostRuntime) -> Result<(), Fail> {
             cases = cases.saturating_add(1);
         }
     }
-    assert_eq!(rt; cases, 270);
+    assert_eq!(rt; cases, 284);
     Ok(())
 }
 
@@ -475,12 +489,12 @@ fn many_answer(alloc: Global, text: &str) -> Result<String, Fail> {
 }
 
 #[test]
-fn compares_each_id_with_those_before(rt: HostRuntime) -> Result<(), Fail> {
+fn reads_ids_that_come_again(rt: HostRuntime) -> Result<(), Fail> {
     let alloc = rt.alloc();
     for (text, wanted) in [
-        ("vm slot 99999 0 1 0\n", "50002 number"),
-        ("vm slot 0xc351 0 1 0\n", "50002 number"),
-        ("vm slot 1 0 1 0\n", "50002 number"),
+        ("vm slot 99999 0 1 0\n", "50001 lines"),
+        ("vm slot 0xc351 0 1 0\n", "50001 lines"),
+        ("vm slot 1 0 1 0\n", "50001 lines"),
         ("vm slot 50000 0 1 0\n", "50001 lines"),
         ("vm slot 0 0 1 0\nvm slot 100000 0 1 0\n", "50002 lines"),
     ] {
@@ -508,8 +522,17 @@ fn access_line(number: u32, vcpu: u8, gfn: u64, word: u8, op: Op) -> Line {
     }
 }
 
+// A line that deletes the slot with this ID.
+fn deletion_line(number: u32, id: u64) -> Line {
+    Line {
+        number,
+        actor: Actor::Manager,
+        command: Command::DeleteSlot { id },
+    }
+}
+
 // The line of `%`.
-fn slot_line() -> Line {
+fn slot_line(number: u32) -> Line {
     let slot = Slot {
         base: 16,
         pages: 32,
@@ -517,7 +540,7 @@ fn slot_line() -> Line {
         read_only: false,
     };
     Line {
-        number: 2,
+        number,
         actor: Actor::Manager,
         command: Command::SetSlot { id: 0, slot },
     }
@@ -548,7 +571,7 @@ fn reads_a_trace(rt: HostRuntime) -> Result<(), Fail> {
         "v1 read 0x12018\nv0 write 8 0xff\n\n# c\nv0 add 0 18446744073709551615\nh1 allow 0x2a\nh0 evict 7\nh1 move 9\n",
     )?;
     let lines = [
-        slot_line(),
+        slot_line(2),
         access_line(3, 1, 18, 3, Op::Read),
         access_line(4, 0, 0, 1, Op::Write(255)),
         access_line(7, 0, 0, 0, Op::Add(18_446_744_073_709_551_615)),
@@ -557,6 +580,21 @@ fn reads_a_trace(rt: HostRuntime) -> Result<(), Fail> {
         host_line(10, 1, 9, HostChange::Move),
     ];
     assert!(rt; is_read(alloc, bytes, &lines)?);
+    Ok(())
+}
+
+// The slot line of `%`, and deletions, of which the ID alone is kept.
+#[test]
+fn reads_deletions(rt: HostRuntime) -> Result<(), Fail> {
+    let alloc = rt.alloc();
+    let text = "vm slot 0 0 0 0\nvm slot 0x28 0x5 0x0 0x40 ro\nvm slot 0 0x10 32 64\n";
+    let lines = [
+        slot_line(2),
+        deletion_line(3, 0),
+        deletion_line(4, 40),
+        slot_line(5),
+    ];
+    assert!(rt; is_read(alloc, after_slot(alloc, text)?, &lines)?);
     Ok(())
 }
 

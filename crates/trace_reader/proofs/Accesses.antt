@@ -1,5 +1,5 @@
 -- The lines `vN read A`, `vN write A X` and `vN add A X`: what each says is read, and only that, and why it is refused.
-use Rattle.std.proofs.Common.{◌≡◌, ◌≤◌, ◌<◌, ◌+◌, ◌*◌, ◌^◌, inl, inr, ℕ, List, [], ◌∷◌, Bool, Ok, refl, subst, arith}
+use Rattle.std.proofs.Common.{◌≡◌, ◌≤◌, ◌<◌, ◌+◌, ◌*◌, ◌^◌, inl, inr, ℕ, List, [], ◌∷◌, Ok, refl, subst, arith}
 use Rattle.std.specs.Prelude.{codes}
 use Rattle.std.specs.Fmt.{decimal}
 use Rattle.core_views.specs.Text.{actor_name}
@@ -75,84 +75,84 @@ add_why h who (x ∷ []) only = none h (who ∷ codes "add" ∷ x ∷ []) (λ a 
 add_why h who (x ∷ y ∷ v ∷ more) only = none h (who ∷ codes "add" ∷ x ∷ y ∷ v ∷ more) (λ a form. let (is, (vcpu, (z, u, e))) = only a form in cc)
 
 -- What is read is said.
-access_found : (h : Header) (seen : ℕ → Bool) (who x : List ℕ) (words : List (List ℕ)) (p : Actor × Command) (f : ℕ → ℕ × ℕ → Said)
+access_found : (h : Header) (who x : List ℕ) (words : List (List ℕ)) (p : Actor × Command) (f : ℕ → ℕ × ℕ → Said)
     → (vcpu h who >>= λ n. address h x >>= λ a. f n a) ≡ Ok p
     → ((i gfn word : ℕ) → who ≡ 118 ∷ decimal i → i < h.vcpus → Spells x (4096 * gfn + 8 * word) → gfn < 2 ^ 36 → word < h.words
-    → f i (gfn, word) ≡ Ok p → IsPairSaid h seen words p) → IsPairSaid h seen words p
-access_found h seen who x words p f e found =
+    → f i (gfn, word) ≡ Ok p → IsPairSaid h words p) → IsPairSaid h words p
+access_found h who x words p f e found =
     then_ok (vcpu h who) _ p e (λ i is_i e1.
     then_ok (address h x) _ p e1 (λ a is_a e2.
     let v = vcpu_found h who i is_i in
     let at = address_found h x a is_a in
     found i a.0 a.1 v.0 v.1 at.0 at.1 at.2 e2))
 
-read_found : (h : Header) (seen : ℕ → Bool) (who : List ℕ) (rest : List (List ℕ)) (p : Actor × Command) → read_form h who rest ≡ Ok p
-    → IsPairSaid h seen (who ∷ codes "read" ∷ rest) p
+read_found : (h : Header) (who : List ℕ) (rest : List (List ℕ)) (p : Actor × Command) → read_form h who rest ≡ Ok p
+    → IsPairSaid h (who ∷ codes "read" ∷ rest) p
 unfolding read_form
-read_found h seen who (x ∷ []) p e = access_found h seen who x (who ∷ codes "read" ∷ x ∷ []) p _ e (λ i gfn word name known s low small e1.
+read_found h who (x ∷ []) p e = access_found h who x (who ∷ codes "read" ∷ x ∷ []) p _ e (λ i gfn word name known s low small e1.
     let same : (Vcpu i, Access gfn word Read) ≡ p = cc in
-    subst (IsPairSaid h seen (who ∷ codes "read" ∷ x ∷ [])) same ((known, low, small), (x, rw name refl, s)))
-read_found h seen who [] p e = absurd (let no : ⊥ = cc in no)
-read_found h seen who (x ∷ y ∷ more) p e = absurd (let no : ⊥ = cc in no)
+    subst (IsPairSaid h (who ∷ codes "read" ∷ x ∷ [])) same ((known, low, small), (x, rw name refl, s)))
+read_found h who [] p e = absurd (let no : ⊥ = cc in no)
+read_found h who (x ∷ y ∷ more) p e = absurd (let no : ⊥ = cc in no)
 
-write_found : (h : Header) (seen : ℕ → Bool) (who : List ℕ) (rest : List (List ℕ)) (p : Actor × Command) → write_form h who rest ≡ Ok p
-    → IsPairSaid h seen (who ∷ codes "write" ∷ rest) p
+write_found : (h : Header) (who : List ℕ) (rest : List (List ℕ)) (p : Actor × Command) → write_form h who rest ≡ Ok p
+    → IsPairSaid h (who ∷ codes "write" ∷ rest) p
 unfolding write_form
-write_found h seen who (x ∷ y ∷ []) p e = access_found h seen who x (who ∷ codes "write" ∷ x ∷ y ∷ []) p _ e (λ i gfn word name known s low small e1.
+write_found h who (x ∷ y ∷ []) p e = access_found h who x (who ∷ codes "write" ∷ x ∷ y ∷ []) p _ e (λ i gfn word name known s low small e1.
     then_ok (number y) _ p e1 (λ k is_k e2.
     let same : (Vcpu i, Access gfn word (Write k)) ≡ p = cc in
-    subst (IsPairSaid h seen (who ∷ codes "write" ∷ x ∷ y ∷ [])) same ((known, low, small), (x, y, rw name refl, s, number_found y k is_k))))
-write_found h seen who [] p e = absurd (let no : ⊥ = cc in no)
-write_found h seen who (x ∷ []) p e = absurd (let no : ⊥ = cc in no)
-write_found h seen who (x ∷ y ∷ v ∷ more) p e = absurd (let no : ⊥ = cc in no)
+    subst (IsPairSaid h (who ∷ codes "write" ∷ x ∷ y ∷ [])) same ((known, low, small), (x, y, rw name refl, s, number_found y k is_k))))
+write_found h who [] p e = absurd (let no : ⊥ = cc in no)
+write_found h who (x ∷ []) p e = absurd (let no : ⊥ = cc in no)
+write_found h who (x ∷ y ∷ v ∷ more) p e = absurd (let no : ⊥ = cc in no)
 
-add_found : (h : Header) (seen : ℕ → Bool) (who : List ℕ) (rest : List (List ℕ)) (p : Actor × Command) → add_form h who rest ≡ Ok p
-    → IsPairSaid h seen (who ∷ codes "add" ∷ rest) p
+add_found : (h : Header) (who : List ℕ) (rest : List (List ℕ)) (p : Actor × Command) → add_form h who rest ≡ Ok p
+    → IsPairSaid h (who ∷ codes "add" ∷ rest) p
 unfolding add_form
-add_found h seen who (x ∷ y ∷ []) p e = access_found h seen who x (who ∷ codes "add" ∷ x ∷ y ∷ []) p _ e (λ i gfn word name known s low small e1.
+add_found h who (x ∷ y ∷ []) p e = access_found h who x (who ∷ codes "add" ∷ x ∷ y ∷ []) p _ e (λ i gfn word name known s low small e1.
     then_ok (number y) _ p e1 (λ k is_k e2.
     let same : (Vcpu i, Access gfn word (Add k)) ≡ p = cc in
-    subst (IsPairSaid h seen (who ∷ codes "add" ∷ x ∷ y ∷ [])) same ((known, low, small), (x, y, rw name refl, s, number_found y k is_k))))
-add_found h seen who [] p e = absurd (let no : ⊥ = cc in no)
-add_found h seen who (x ∷ []) p e = absurd (let no : ⊥ = cc in no)
-add_found h seen who (x ∷ y ∷ v ∷ more) p e = absurd (let no : ⊥ = cc in no)
+    subst (IsPairSaid h (who ∷ codes "add" ∷ x ∷ y ∷ [])) same ((known, low, small), (x, y, rw name refl, s, number_found y k is_k))))
+add_found h who [] p e = absurd (let no : ⊥ = cc in no)
+add_found h who (x ∷ []) p e = absurd (let no : ⊥ = cc in no)
+add_found h who (x ∷ y ∷ v ∷ more) p e = absurd (let no : ⊥ = cc in no)
 
-pub read_judged : (h : Header) (seen : ℕ → Bool) (who : List ℕ) (rest : List (List ℕ)) → Only who (codes "read") rest IsOne
-    → Judged h seen (who ∷ codes "read" ∷ rest) (read_form h who rest)
-read_judged h seen who rest only = judged h seen (who ∷ codes "read" ∷ rest) (read_form h who rest) (read_found h seen who rest) (read_why h who rest only)
+pub read_judged : (h : Header) (who : List ℕ) (rest : List (List ℕ)) → Only who (codes "read") rest IsOne
+    → Judged h (who ∷ codes "read" ∷ rest) (read_form h who rest)
+read_judged h who rest only = judged h (who ∷ codes "read" ∷ rest) (read_form h who rest) (read_found h who rest) (read_why h who rest only)
 
-pub write_judged : (h : Header) (seen : ℕ → Bool) (who : List ℕ) (rest : List (List ℕ)) → Only who (codes "write") rest AreTwo
-    → Judged h seen (who ∷ codes "write" ∷ rest) (write_form h who rest)
-write_judged h seen who rest only = judged h seen (who ∷ codes "write" ∷ rest) (write_form h who rest) (write_found h seen who rest) (write_why h who rest only)
+pub write_judged : (h : Header) (who : List ℕ) (rest : List (List ℕ)) → Only who (codes "write") rest AreTwo
+    → Judged h (who ∷ codes "write" ∷ rest) (write_form h who rest)
+write_judged h who rest only = judged h (who ∷ codes "write" ∷ rest) (write_form h who rest) (write_found h who rest) (write_why h who rest only)
 
-pub add_judged : (h : Header) (seen : ℕ → Bool) (who : List ℕ) (rest : List (List ℕ)) → Only who (codes "add") rest AreTwo
-    → Judged h seen (who ∷ codes "add" ∷ rest) (add_form h who rest)
-add_judged h seen who rest only = judged h seen (who ∷ codes "add" ∷ rest) (add_form h who rest) (add_found h seen who rest) (add_why h who rest only)
+pub add_judged : (h : Header) (who : List ℕ) (rest : List (List ℕ)) → Only who (codes "add") rest AreTwo
+    → Judged h (who ∷ codes "add" ∷ rest) (add_form h who rest)
+add_judged h who rest only = judged h (who ∷ codes "add" ∷ rest) (add_form h who rest) (add_found h who rest) (add_why h who rest only)
 
 -- What the words of an access say is read.
-pub access_reads : (h : Header) (seen : ℕ → Bool) (words : List (List ℕ)) (i gfn word : ℕ) (op : Op) → h.vcpus ≤ 16 → h.words ≤ 8
-    → IsCommandOf h (Vcpu i) (Access gfn word op) → AreCommandWords seen words (Vcpu i) (Access gfn word op)
-    → by_form h seen words ≡ Ok (Vcpu i, Access gfn word op)
+pub access_reads : (h : Header) (words : List (List ℕ)) (i gfn word : ℕ) (op : Op) → h.vcpus ≤ 16 → h.words ≤ 8
+    → IsCommandOf h (Vcpu i) (Access gfn word op) → AreCommandWords words (Vcpu i) (Access gfn word op)
+    → by_form h words ≡ Ok (Vcpu i, Access gfn word op)
 unfolding by_form by_command read_form write_form add_form
-access_reads h seen words i gfn word Read vcpus few (known, low, small) (x, e, s) =
+access_reads h words i gfn word Read vcpus few (known, low, small) (x, e, s) =
     rw (e, vcpu_named h i known vcpus, address_spelled h x gfn word s low small few) refl
-access_reads h seen words i gfn word (Write v) vcpus few (known, low, small) (x, y, e, s, t) =
+access_reads h words i gfn word (Write v) vcpus few (known, low, small) (x, y, e, s, t) =
     rw (e, vcpu_named h i known vcpus, address_spelled h x gfn word s low small few, number_spelled y v t) refl
-access_reads h seen words i gfn word (Add v) vcpus few (known, low, small) (x, y, e, s, t) =
+access_reads h words i gfn word (Add v) vcpus few (known, low, small) (x, y, e, s, t) =
     rw (e, vcpu_named h i known vcpus, address_spelled h x gfn word s low small few, number_spelled y v t) refl
 
 -- They are of its form, and words.
-pub access_form : (seen : ℕ → Bool) (words : List (List ℕ)) (i gfn word : ℕ) (op : Op) → AreCommandWords seen words (Vcpu i) (Access gfn word op)
+pub access_form : (words : List (List ℕ)) (i gfn word : ℕ) (op : Op) → AreCommandWords words (Vcpu i) (Access gfn word op)
     → IsAccessForm i words
-access_form seen words i gfn word Read (x, is, s) = inl (x, is)
-access_form seen words i gfn word (Write v) (x, y, is, s, t) = inr (inl (x, y, is))
-access_form seen words i gfn word (Add v) (x, y, is, s, t) = inr (inr (x, y, is))
+access_form words i gfn word Read (x, is, s) = inl (x, is)
+access_form words i gfn word (Write v) (x, y, is, s, t) = inr (inl (x, y, is))
+access_form words i gfn word (Add v) (x, y, is, s, t) = inr (inr (x, y, is))
 
-pub access_plain : (seen : ℕ → Bool) (words : List (List ℕ)) (i gfn word : ℕ) (op : Op) → i ≤ 15 → AreCommandWords seen words (Vcpu i) (Access gfn word op)
+pub access_plain : (words : List (List ℕ)) (i gfn word : ℕ) (op : Op) → i ≤ 15 → AreCommandWords words (Vcpu i) (Access gfn word op)
     → AreWords words
-access_plain seen words i gfn word Read le (x, is, s) =
+access_plain words i gfn word Read le (x, is, s) =
     rw is (actor_word (Vcpu i) le, (text_word (codes "read") (omega arith) refl, (spelled_word x _ s, tt)))
-access_plain seen words i gfn word (Write v) le (x, y, is, s, t) =
+access_plain words i gfn word (Write v) le (x, y, is, s, t) =
     rw is (actor_word (Vcpu i) le, (text_word (codes "write") (omega arith) refl, (spelled_word x _ s, (spelled_word y _ t, tt))))
-access_plain seen words i gfn word (Add v) le (x, y, is, s, t) =
+access_plain words i gfn word (Add v) le (x, y, is, s, t) =
     rw is (actor_word (Vcpu i) le, (text_word (codes "add") (omega arith) refl, (spelled_word x _ s, (spelled_word y _ t, tt))))

@@ -8,7 +8,7 @@ use Rattle.std.specs.declared.option.Option.TheVariants.{Some, None}
 use Rattle.core_views.specs.declared.trace.Header.{Header}
 use Rattle.core_views.specs.declared.trace.Trace.{Trace}
 use Rattle.trace_reader.specs.declared.reason.Reason.{Reason}
-use Rattle.trace_reader.specs.Lines.{LineSaid, lines_of, none_seen, parts_of}
+use Rattle.trace_reader.specs.Lines.{LineSaid, lines_of, parts_of}
 use Rattle.trace_reader.specs.Reading.{under, with_header, head_of, reading, reading_of}
 use Rattle.trace_reader.specs.Steps.{Fails, NamesLine}
 use Rattle.trace_reader.specs.declared.refusal.ReadError.{ReadError}
@@ -18,7 +18,7 @@ use Rattle.trace_reader.proofs.Loop.{part}
 -- The first line, and the lines after it.
 pub begun : (size : ℕ) (bytes text after : List ℕ) (whole : Bool) → parts_of bytes ≡ text ∷ cond whole (parts_of after) []
     → (whole ≡ false → after ≡ []) → size ≡ length text + cond whole 1 0
-    → reading bytes ≡ under (head_of (record { number = 1; end = size; ended_by_lf = whole; bytes = text })) (λ h. lines_of h 2 size none_seen (parts_of after))
+    → reading bytes ≡ under (head_of (record { number = 1; end = size; ended_by_lf = whole; bytes = text })) (λ h. lines_of h 2 size false (parts_of after))
 unfolding reading reading_of lines_of
 begun size bytes text after true e last is =
     let p = part after in

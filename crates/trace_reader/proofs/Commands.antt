@@ -3,19 +3,17 @@
 use Rattle.std.proofs.Common.{◌≡◌, inl, inr, ℕ, List, [], ◌∷◌, Bool, true, false, Ok, refl}
 use Rattle.std.specs.Prelude.{codes}
 use Rattle.std.specs.Str.{bytes_eq}
-use Rattle.std.specs.declared.option.Option.{Option}
-use Rattle.std.specs.declared.option.Option.TheVariants.{Some, None}
 use Rattle.core_views.specs.Text.{actor_name}
 use Rattle.core_views.specs.Sizes.{sizes_of}
-use Rattle.core_views.specs.Traces.{HasActor, IsCommandOf, IsHeader, or_slot_id}
+use Rattle.core_views.specs.Traces.{HasActor, IsCommandOf, IsHeader}
 use Rattle.core_views.specs.declared.actor.Actor.{Actor}
 use Rattle.core_views.specs.declared.actor.Actor.TheVariants.{Vcpu, Host, Manager}
 use Rattle.core_views.specs.declared.trace.Command.{Command}
-use Rattle.core_views.specs.declared.trace.Command.TheVariants.{Access, ChangeHost, SetSlot}
+use Rattle.core_views.specs.declared.trace.Command.TheVariants.{Access, ChangeHost, DeleteSlot, SetSlot}
 use Rattle.core_views.specs.declared.trace.HostChange.{HostChange}
 use Rattle.core_views.specs.declared.trace.HostChange.TheVariants.{Allow, Evict, Move, Protect}
 use Rattle.core_views.specs.declared.trace.Header.{Header}
-use Rattle.trace_reader.specs.Forms.{by_command, by_form, slot_id}
+use Rattle.trace_reader.specs.Forms.{by_command, by_form}
 use Rattle.trace_reader.specs.Grammar.{AreCommandWords, AreWords, IsActor, IsCommandForm, IsDeclared, TellsChange}
 use Rattle.trace_reader.proofs.Accesses.{IsVcpu, access_form, access_plain, access_reads, add_judged, read_judged, write_judged}
 use Rattle.trace_reader.proofs.HostLines.{IsHost, host_judged, host_line_form, host_plain, host_reads}
@@ -24,6 +22,7 @@ use Rattle.trace_reader.proofs.Judged.{AreTwo, IsOne, Judged, none, row}
 use Rattle.trace_reader.proofs.Operands.{small_words}
 use Rattle.trace_reader.proofs.Results.{other_word, parts_same}
 use Rattle.trace_reader.proofs.SlotLines.{AreSetting, IsManager, slot_judged, slot_line_form, slot_plain, slot_reads}
+use Rattle.trace_reader.proofs.SlotLines.{delete_line_form, delete_plain, delete_reads}
 
 -- The first of two, or the second.
 abbrev Either : Bool → Type 0 → Type 0 → Type 0
@@ -74,26 +73,26 @@ only who command rest a form =
     (name, row_same command other rest more a same after is)
 
 -- What words of an actor's line give is what they say, or why they say nothing.
-by_command_judged : (h : Header) (seen : ℕ → Bool) (who command : List ℕ) (rest : List (List ℕ))
-    → Judged h seen (who ∷ command ∷ rest) (by_command h seen who command rest)
+by_command_judged : (h : Header) (who command : List ℕ) (rest : List (List ℕ))
+    → Judged h (who ∷ command ∷ rest) (by_command h who command rest)
 unfolding by_command
-by_command_judged h seen who command rest =
-    row (Judged h seen (who ∷ command ∷ rest)) command (codes "read") _ _ _ refl
-    (λ is. rw is (read_judged h seen who rest (only who (codes "read") rest))) (λ read.
-    row (Judged h seen (who ∷ command ∷ rest)) command (codes "write") _ _ _ refl
-    (λ is. rw is (write_judged h seen who rest (only who (codes "write") rest))) (λ write.
-    row (Judged h seen (who ∷ command ∷ rest)) command (codes "add") _ _ _ refl
-    (λ is. rw is (add_judged h seen who rest (only who (codes "add") rest))) (λ add.
-    row (Judged h seen (who ∷ command ∷ rest)) command (codes "slot") _ _ _ refl
-    (λ is. rw is (slot_judged h seen who rest (only who (codes "slot") rest))) (λ slot.
-    row (Judged h seen (who ∷ command ∷ rest)) command (codes "move") _ _ _ refl
-    (λ is. rw is (host_judged h seen who (codes "move") Move rest (λ n page lt. lt) refl (only who (codes "move") rest))) (λ moves.
-    row (Judged h seen (who ∷ command ∷ rest)) command (codes "evict") _ _ _ refl
-    (λ is. rw is (host_judged h seen who (codes "evict") Evict rest (λ n page lt. lt) refl (only who (codes "evict") rest))) (λ evict.
-    row (Judged h seen (who ∷ command ∷ rest)) command (codes "protect") _ _ _ refl
-    (λ is. rw is (host_judged h seen who (codes "protect") Protect rest (λ n page lt. lt) refl (only who (codes "protect") rest))) (λ protect.
-    row (Judged h seen (who ∷ command ∷ rest)) command (codes "allow") _ _ _ refl
-    (λ is. rw is (host_judged h seen who (codes "allow") Allow rest (λ n page lt. lt) refl (only who (codes "allow") rest))) (λ allow.
+by_command_judged h who command rest =
+    row (Judged h (who ∷ command ∷ rest)) command (codes "read") _ _ _ refl
+    (λ is. rw is (read_judged h who rest (only who (codes "read") rest))) (λ read.
+    row (Judged h (who ∷ command ∷ rest)) command (codes "write") _ _ _ refl
+    (λ is. rw is (write_judged h who rest (only who (codes "write") rest))) (λ write.
+    row (Judged h (who ∷ command ∷ rest)) command (codes "add") _ _ _ refl
+    (λ is. rw is (add_judged h who rest (only who (codes "add") rest))) (λ add.
+    row (Judged h (who ∷ command ∷ rest)) command (codes "slot") _ _ _ refl
+    (λ is. rw is (slot_judged h who rest (only who (codes "slot") rest))) (λ slot.
+    row (Judged h (who ∷ command ∷ rest)) command (codes "move") _ _ _ refl
+    (λ is. rw is (host_judged h who (codes "move") Move rest (λ n page lt. lt) refl (only who (codes "move") rest))) (λ moves.
+    row (Judged h (who ∷ command ∷ rest)) command (codes "evict") _ _ _ refl
+    (λ is. rw is (host_judged h who (codes "evict") Evict rest (λ n page lt. lt) refl (only who (codes "evict") rest))) (λ evict.
+    row (Judged h (who ∷ command ∷ rest)) command (codes "protect") _ _ _ refl
+    (λ is. rw is (host_judged h who (codes "protect") Protect rest (λ n page lt. lt) refl (only who (codes "protect") rest))) (λ protect.
+    row (Judged h (who ∷ command ∷ rest)) command (codes "allow") _ _ _ refl
+    (λ is. rw is (host_judged h who (codes "allow") Allow rest (λ n page lt. lt) refl (only who (codes "allow") rest))) (λ allow.
     none h (who ∷ command ∷ rest) (λ a form.
     let no : ⊥ = rw (
       other_word command (codes "read") read,
@@ -106,60 +105,44 @@ by_command_judged h seen who command rest =
       other_word command (codes "allow") allow,
     ) at (only who command rest a form).1 in no)))))))))
 
-pub by_form_judged : (h : Header) (seen : ℕ → Bool) (words : List (List ℕ)) → Judged h seen words (by_form h seen words)
+pub by_form_judged : (h : Header) (words : List (List ℕ)) → Judged h words (by_form h words)
 unfolding by_form
-by_form_judged h seen [] = none h [] (λ a form. let (command, rest, e, is) = has_row [] a form in cc)
-by_form_judged h seen (w ∷ []) = none h (w ∷ []) (λ a form. let (command, rest, e, is) = has_row (w ∷ []) a form in cc)
-by_form_judged h seen (who ∷ command ∷ rest) = by_command_judged h seen who command rest
+by_form_judged h [] = none h [] (λ a form. let (command, rest, e, is) = has_row [] a form in cc)
+by_form_judged h (w ∷ []) = none h (w ∷ []) (λ a form. let (command, rest, e, is) = has_row (w ∷ []) a form in cc)
+by_form_judged h (who ∷ command ∷ rest) = by_command_judged h who command rest
 
 -- What the words of a form say is read.
-pub reads : (h : Header) (seen : ℕ → Bool) (words : List (List ℕ)) (a : Actor) (c : Command) → IsHeader h → IsCommandOf h a c
-    → AreCommandWords seen words a c → by_form h seen words ≡ Ok (a, c)
-reads h seen words (Vcpu i) (Access gfn word op) header range are = access_reads h seen words i gfn word op header.vcpus.1 (small_words h header) range are
-reads h seen words Manager (SetSlot id s) header range are = slot_reads h seen words id s range are
-reads h seen words (Host i) (ChangeHost page change) header range are = host_reads h seen words i page change header.hosts.count range are
-reads h seen words _ _ header range are = absurd are
+pub reads : (h : Header) (words : List (List ℕ)) (a : Actor) (c : Command) → IsHeader h → IsCommandOf h a c
+    → AreCommandWords words a c → by_form h words ≡ Ok (a, c)
+reads h words (Vcpu i) (Access gfn word op) header range are = access_reads h words i gfn word op header.vcpus.1 (small_words h header) range are
+reads h words Manager (SetSlot id s) header range are = slot_reads h words id s range are
+reads h words Manager (DeleteSlot id) header range are = delete_reads h words id are
+reads h words (Host i) (ChangeHost page change) header range are = host_reads h words i page change header.hosts.count range are
+reads h words _ _ header range are = absurd are
 
 -- Words that say a command are of a form of its actor.
-pub command_form : (ids : ℕ → Bool) (words : List (List ℕ)) (a : Actor) (c : Command) → AreCommandWords ids words a c → IsCommandForm words a
-command_form ids words (Vcpu i) (Access gfn word op) are = access_form ids words i gfn word op are
-command_form ids words Manager (SetSlot id s) are = slot_line_form ids words id s are
-command_form ids words (Host i) (ChangeHost page change) are = host_line_form ids words i page change are
-command_form ids words _ _ are = absurd are
+pub command_form : (words : List (List ℕ)) (a : Actor) (c : Command) → AreCommandWords words a c → IsCommandForm words a
+command_form words (Vcpu i) (Access gfn word op) are = access_form words i gfn word op are
+command_form words Manager (SetSlot id s) are = slot_line_form words id s are
+command_form words Manager (DeleteSlot id) are = delete_line_form words id are
+command_form words (Host i) (ChangeHost page change) are = host_line_form words i page change are
+command_form words _ _ are = absurd are
 
 -- They are words.
-pub command_words : (ids : ℕ → Bool) (words : List (List ℕ)) (a : Actor) (c : Command) → IsActor a → AreCommandWords ids words a c → AreWords words
-command_words ids words (Vcpu i) (Access gfn word op) le are = access_plain ids words i gfn word op le are
-command_words ids words Manager (SetSlot id s) le are = slot_plain ids words id s are
-command_words ids words (Host i) (ChangeHost page change) le are = host_plain ids words i page change le are
-command_words ids words _ _ le are = absurd are
+pub command_words : (words : List (List ℕ)) (a : Actor) (c : Command) → IsActor a → AreCommandWords words a c → AreWords words
+command_words words (Vcpu i) (Access gfn word op) le are = access_plain words i gfn word op le are
+command_words words Manager (SetSlot id s) le are = slot_plain words id s are
+command_words words Manager (DeleteSlot id) le are = delete_plain words id are
+command_words words (Host i) (ChangeHost page change) le are = host_plain words i page change le are
+command_words words _ _ le are = absurd are
 
 -- An actor that makes a command is declared.
 commands : (h : Header) (a : Actor) (c : Command) → IsCommandOf h a c → HasActor (sizes_of h) a
 commands h (Vcpu i) (Access gfn word op) range = range.0
 commands h Manager (SetSlot id s) range = tt
+commands h Manager (DeleteSlot id) range = tt
 commands h (Host i) (ChangeHost page change) range = range
 commands h _ _ range = absurd range
 
 pub commanding : (h : Header) (a : Actor) (c : Command) → IsHeader h → IsCommandOf h a c → IsActor a × IsDeclared h a
 commanding h a c header range = has_declared h a header (commands h a c range)
-
--- An ID that a slot was set at is none.
-abbrev pub IsNewId : (ℕ → Bool) → Option ℕ → Type 0
-IsNewId ids None = Unit {0}
-IsNewId ids (Some id) = ids id ≡ false
-
-pub new_id : (ids : ℕ → Bool) (words : List (List ℕ)) (a : Actor) (c : Command) → AreCommandWords ids words a c → IsNewId ids (slot_id c)
-new_id ids words Manager (SetSlot id s) are = are.4
-new_id ids words (Vcpu i) (Access gfn word op) are = tt
-new_id ids words (Host i) (ChangeHost page change) are = tt
-new_id ids words _ _ are = absurd are
-
--- this ID, if it is there, in front of these
-abbrev pub or_id : Option ℕ → List ℕ → List ℕ
-or_id None ids = ids
-or_id (Some id) ids = id ∷ ids
-
-pub slot_id_first : (c : Command) (ids : List ℕ) → or_slot_id c ids ≡ or_id (slot_id c) ids
-slot_id_first (SetSlot id s) ids = refl
-slot_id_first _ ids = refl

@@ -1,5 +1,5 @@
 -- The lines `hN WORD P`, with a word for each change: what each says is read, and only that, and why it is refused.
-use Rattle.std.proofs.Common.{◌≡◌, ◌≤◌, ◌<◌, ℕ, List, [], ◌∷◌, Bool, Ok, refl, subst, arith, length}
+use Rattle.std.proofs.Common.{◌≡◌, ◌≤◌, ◌<◌, ℕ, List, [], ◌∷◌, Ok, refl, subst, arith, length}
 use Rattle.std.specs.Prelude.{codes}
 use Rattle.std.specs.Fmt.{decimal}
 use Rattle.core_views.specs.Text.{actor_name}
@@ -53,22 +53,22 @@ host_why h who command change (x ∷ y ∷ more) tells only =
     none h (who ∷ command ∷ x ∷ y ∷ more) (λ a form. let (is, (host, (z, e))) = only a form in cc)
 
 -- What is read is said.
-host_form_found : (h : Header) (seen : ℕ → Bool) (who command : List ℕ) (change : HostChange) (rest : List (List ℕ)) (p : Actor × Command) → HostsMake h change
-    → TellsChange command change → host_form h change who rest ≡ Ok p → IsPairSaid h seen (who ∷ command ∷ rest) p
+host_form_found : (h : Header) (who command : List ℕ) (change : HostChange) (rest : List (List ℕ)) (p : Actor × Command) → HostsMake h change
+    → TellsChange command change → host_form h change who rest ≡ Ok p → IsPairSaid h (who ∷ command ∷ rest) p
 unfolding host_form
-host_form_found h seen who command change (x ∷ []) p make tells e =
+host_form_found h who command change (x ∷ []) p make tells e =
     then_ok (host_thread h who) _ p e (λ n is_n e1.
     then_ok (number x) _ p e1 (λ page is_page e2.
     let same : (Host n, ChangeHost page change) ≡ p = cc in
     let v = host_found h who n is_n in
-    subst (IsPairSaid h seen (who ∷ command ∷ x ∷ [])) same (make n page v.1, (command, x, tells, rw v.0 refl, number_found x page is_page))))
-host_form_found h seen who command change [] p make tells e = absurd (let no : ⊥ = cc in no)
-host_form_found h seen who command change (x ∷ y ∷ more) p make tells e = absurd (let no : ⊥ = cc in no)
+    subst (IsPairSaid h (who ∷ command ∷ x ∷ [])) same (make n page v.1, (command, x, tells, rw v.0 refl, number_found x page is_page))))
+host_form_found h who command change [] p make tells e = absurd (let no : ⊥ = cc in no)
+host_form_found h who command change (x ∷ y ∷ more) p make tells e = absurd (let no : ⊥ = cc in no)
 
-pub host_judged : (h : Header) (seen : ℕ → Bool) (who command : List ℕ) (change : HostChange) (rest : List (List ℕ)) → HostsMake h change
-    → TellsChange command change → Only who command rest → Judged h seen (who ∷ command ∷ rest) (host_form h change who rest)
-host_judged h seen who command change rest make tells only =
-    judged h seen (who ∷ command ∷ rest) (host_form h change who rest) (λ p. host_form_found h seen who command change rest p make tells)
+pub host_judged : (h : Header) (who command : List ℕ) (change : HostChange) (rest : List (List ℕ)) → HostsMake h change
+    → TellsChange command change → Only who command rest → Judged h (who ∷ command ∷ rest) (host_form h change who rest)
+host_judged h who command change rest make tells only =
+    judged h (who ∷ command ∷ rest) (host_form h change who rest) (λ p. host_form_found h who command change rest p make tells)
     (host_why h who command change rest tells only)
 
 -- What its words say is read.
@@ -78,25 +78,25 @@ unfolding host_form
 host_spelled h change x i page few known e = rw (host_named h i known few, e) refl
 
 -- The word is the one of the change's row.
-change_row : (h : Header) (seen : ℕ → Bool) (who command : List ℕ) (change : HostChange) (rest : List (List ℕ)) → TellsChange command change
-    → by_form h seen (who ∷ command ∷ rest) ≡ host_form h change who rest
+change_row : (h : Header) (who command : List ℕ) (change : HostChange) (rest : List (List ℕ)) → TellsChange command change
+    → by_form h (who ∷ command ∷ rest) ≡ host_form h change who rest
 unfolding by_form by_command
-change_row h seen who command Move rest tells = rw tells refl
-change_row h seen who command Evict rest tells = rw tells refl
-change_row h seen who command Protect rest tells = rw tells refl
-change_row h seen who command Allow rest tells = rw tells refl
+change_row h who command Move rest tells = rw tells refl
+change_row h who command Evict rest tells = rw tells refl
+change_row h who command Protect rest tells = rw tells refl
+change_row h who command Allow rest tells = rw tells refl
 
-pub host_reads : (h : Header) (seen : ℕ → Bool) (words : List (List ℕ)) (i page : ℕ) (change : HostChange) → length h.hosts ≤ 4
-    → IsCommandOf h (Host i) (ChangeHost page change) → AreCommandWords seen words (Host i) (ChangeHost page change)
-    → by_form h seen words ≡ Ok (Host i, ChangeHost page change)
-host_reads h seen words i page change few range (command, x, tells, e, s) =
-    rw (e, change_row h seen (104 ∷ decimal i) command change (x ∷ []) tells)
+pub host_reads : (h : Header) (words : List (List ℕ)) (i page : ℕ) (change : HostChange) → length h.hosts ≤ 4
+    → IsCommandOf h (Host i) (ChangeHost page change) → AreCommandWords words (Host i) (ChangeHost page change)
+    → by_form h words ≡ Ok (Host i, ChangeHost page change)
+host_reads h words i page change few range (command, x, tells, e, s) =
+    rw (e, change_row h (104 ∷ decimal i) command change (x ∷ []) tells)
     (host_spelled h change x i page few range (number_spelled x page s))
 
 -- They are of its form, and words.
-pub host_line_form : (seen : ℕ → Bool) (words : List (List ℕ)) (i page : ℕ) (change : HostChange)
-    → AreCommandWords seen words (Host i) (ChangeHost page change) → IsHostForm i words
-host_line_form seen words i page change (command, x, tells, e, s) = (command, x, change, tells, e)
+pub host_line_form : (words : List (List ℕ)) (i page : ℕ) (change : HostChange)
+    → AreCommandWords words (Host i) (ChangeHost page change) → IsHostForm i words
+host_line_form words i page change (command, x, tells, e, s) = (command, x, change, tells, e)
 
 change_word : (command : List ℕ) (change : HostChange) → TellsChange command change → IsWord command
 change_word command Move tells = rw tells (text_word (codes "move") (omega arith) refl)
@@ -104,7 +104,7 @@ change_word command Evict tells = rw tells (text_word (codes "evict") (omega ari
 change_word command Protect tells = rw tells (text_word (codes "protect") (omega arith) refl)
 change_word command Allow tells = rw tells (text_word (codes "allow") (omega arith) refl)
 
-pub host_plain : (seen : ℕ → Bool) (words : List (List ℕ)) (i page : ℕ) (change : HostChange) → i ≤ 3
-    → AreCommandWords seen words (Host i) (ChangeHost page change) → AreWords words
-host_plain seen words i page change le (command, x, tells, e, s) =
+pub host_plain : (words : List (List ℕ)) (i page : ℕ) (change : HostChange) → i ≤ 3
+    → AreCommandWords words (Host i) (ChangeHost page change) → AreWords words
+host_plain words i page change le (command, x, tells, e, s) =
     rw e (actor_word (Host i) le, (change_word command change tells, (spelled_word x _ s, tt)))

@@ -1,6 +1,7 @@
 -- What the bytes of an input say is read, and only that; and it is refused where it fails, and nowhere else.
 use Rattle.std.proofs.Common.{◌≡◌, ◌≤◌, ◌+◌, ◌++◌, ◌==◌, inl, inr, ℕ, List, [], ◌∷◌, Bool, true, false, cond, Result, Ok, Err, All, length, refl, sym}
 use Rattle.std.proofs.Common.{ap, subst, ◌∙◌, arith, append_assoc}
+use Rattle.std.specs.Prelude.{is_some}
 use Rattle.std.specs.List.{onto_first, join_with_byte}
 use Rattle.std.proofs.lemmas.Bool.Decides.{nat_tests}
 use Rattle.std.proofs.lemmas.List.{append-nil}
@@ -10,14 +11,13 @@ use Rattle.core_views.specs.Traces.{IsHeader}
 use Rattle.core_views.specs.declared.trace.Header.{Header}
 use Rattle.core_views.specs.declared.trace.Trace.{Trace}
 use Rattle.trace_reader.specs.declared.reason.Reason.{Reason}
-use Rattle.trace_reader.specs.Sayings.{Seen}
-use Rattle.trace_reader.specs.Gathered.{Gathers}
-use Rattle.trace_reader.specs.Lines.{LineSaid, parts_of, raw, lines_of, none_seen}
+use Rattle.trace_reader.specs.Gathered.{Gathers, go_in}
+use Rattle.trace_reader.specs.Lines.{LineSaid, parts_of, raw, lines_of}
 use Rattle.trace_reader.specs.Reading.{head_of, trace_of, with_header, under, reading_of, reading}
 use Rattle.trace_reader.specs.Grammar.{spaced}
 use Rattle.trace_reader.specs.HeaderGrammar.{labelled}
 use Rattle.trace_reader.specs.InputGrammar.{with_ends, ArePlain, IsText, SaysHeader, SayLines, SayTrace, SaysTrace, PassesAll, HeaderFails, LineFails}
-use Rattle.trace_reader.specs.InputGrammar.{line_behind, seen_in, HasLine, FailsAt}
+use Rattle.trace_reader.specs.InputGrammar.{line_behind, HasLine, FailsAt}
 use Rattle.trace_reader.proofs.Prefix.{with_prefix}
 use Rattle.trace_reader.proofs.Loop.{part, not_empty}
 use Rattle.trace_reader.proofs.InputLines.{line_fails, more_of, seen_behind, IsCut, cuts, consed, said_lines, long}
@@ -63,14 +63,14 @@ abbrev AreTexts : List (List ℕ) → Type 0
 AreTexts [] = Unit {0}
 AreTexts (x ∷ xs) = IsText x × AreTexts xs
 
-lines_texts : (h : Header) (n : ℕ) (seen : Seen) (texts : List (List ℕ)) (told : List LineSaid) → SayLines h n seen texts told → AreTexts texts
-lines_texts h n seen [] told say = tt
-lines_texts h n seen (x ∷ xs) told (is, inl (s, say)) = (is, lines_texts h (n + 1) seen xs told say)
-lines_texts h n seen (x ∷ xs) told (is, inr (never, (s, more, e, says, say))) = (is, lines_texts h (n + 1) _ xs more say)
+lines_texts : (h : Header) (n : ℕ) (go_seen : Bool) (texts : List (List ℕ)) (told : List LineSaid) → SayLines h n go_seen texts told → AreTexts texts
+lines_texts h n go_seen [] told say = tt
+lines_texts h n go_seen (x ∷ xs) told (is, inl (s, say)) = (is, lines_texts h (n + 1) go_seen xs told say)
+lines_texts h n go_seen (x ∷ xs) told (is, inr (never, (s, more, e, says, say))) = (is, lines_texts h (n + 1) _ xs more say)
 
 trace_texts : (texts : List (List ℕ)) (t : Trace) → SayTrace texts t → AreTexts texts
 trace_texts [] t say = absurd say
-trace_texts (first ∷ texts) t (size, count, is, head, (told, say, all)) = (is, lines_texts t.header 2 none_seen texts told say)
+trace_texts (first ∷ texts) t (size, count, is, head, (told, say, all)) = (is, lines_texts t.header 2 false texts told say)
 
 parts_behind : (texts : List (List ℕ)) (tail : List ℕ) → AreTexts texts → parts_of (with_ends texts ++ tail) ≡ texts ++ parts_of tail
 parts_behind [] tail are = refl
@@ -103,10 +103,10 @@ head_moved : (n m a b : ℕ) (is : Bool) (text : List ℕ) (r : Reason) → n �
     → HeaderFails (record { number = m; end = b; ended_by_lf = is; bytes = text }) r
 head_moved n m a b is text r e e1 fails = rw (← e, ← e1) fails
 
-line_moved : (h : Header) (seen : Seen) (n m a b : ℕ) (is : Bool) (text : List ℕ) (r : Reason) → n ≡ m → a ≡ b
-    → LineFails h seen (record { number = n; end = a; ended_by_lf = is; bytes = text }) r
-    → LineFails h seen (record { number = m; end = b; ended_by_lf = is; bytes = text }) r
-line_moved h seen n m a b is text r e e1 fails = rw (← e, ← e1) fails
+line_moved : (h : Header) (go_seen : Bool) (n m a b : ℕ) (is : Bool) (text : List ℕ) (r : Reason) → n ≡ m → a ≡ b
+    → LineFails h go_seen (record { number = n; end = a; ended_by_lf = is; bytes = text }) r
+    → LineFails h go_seen (record { number = m; end = b; ended_by_lf = is; bytes = text }) r
+line_moved h go_seen n m a b is text r e e1 fails = rw (← e, ← e1) fails
 
 first_fails : (input text : List ℕ) (is : Bool) (size : ℕ) (r : Reason) → HasLine input [] text is → size ≡ length text + cond is 1 0
     → HeaderFails (record { number = 1; end = size; ended_by_lf = is; bytes = text }) r → FailsAt input 1 r
@@ -127,7 +127,7 @@ gathered h out told e = rw e (record { lines = refl; go = refl; items = refl })
 
 behind : (input text : List ℕ) (parts : List (List ℕ)) (h : Header) (x : Result (List LineSaid) (ℕ × Reason)) → parts_of input ≡ text ∷ parts
     → PassesAll (record { number = 1; end = length text + 1; ended_by_lf = true; bytes = text }) → SaysHeader text h
-    → IsCut h 2 (length text + 1) none_seen parts x → InputJudged input (with_header h x)
+    → IsCut h 2 (length text + 1) false parts x → InputJudged input (with_header h x)
 behind input text parts h (Ok out) e all s k =
     let ends = k.ends in
     let join : input ≡ join_with_byte 10 (parts_of input) = sym (join_with_byte-slice_split 10 input) in
@@ -156,14 +156,14 @@ behind input text parts h (Err (m, r)) e all s k =
         more_of k.rest,
         has_line input (text ∷ k.texts) k.text k.rest cut clean,
         (λ last empty. some (none_more k.rest last) empty),
-        line_moved h (seen_in (trace_of h k.told)) _ _ _ _ (more_of k.rest) k.text r (omega arith) (omega (arith, far)) fails,
+        line_moved h (is_some (go_in k.told)) _ _ _ _ (more_of k.rest) k.text r (omega arith) (omega (arith, far)) fails,
       ),
     )
 
 headed : (input text y : List ℕ) (more : List (List ℕ)) (z : Result Header Reason) → parts_of input ≡ text ∷ y ∷ more
     → HeadJudged (record { number = 1; end = length text + 1; ended_by_lf = true; bytes = text }) z
-    → InputJudged input (under z (λ h. lines_of h 2 (length text + 1) none_seen (y ∷ more)))
-headed input text y more (Ok h) e (all, s) = behind input text (y ∷ more) h _ e all s (cuts h 2 (length text + 1) none_seen y more s.2.0 all.0 (omega arith))
+    → InputJudged input (under z (λ h. lines_of h 2 (length text + 1) false (y ∷ more)))
+headed input text y more (Ok h) e (all, s) = behind input text (y ∷ more) h _ e all s (cuts h 2 (length text + 1) false y more s.2.0 all.0 (omega arith))
 headed input text y more (Err r) e fails =
     let join : input ≡ join_with_byte 10 (parts_of input) = sym (join_with_byte-slice_split 10 input) in
     let cut : input ≡ join_with_byte 10 (text ∷ y ∷ more) = join ∙ ap (join_with_byte 10) e in
@@ -191,22 +191,22 @@ only_where input n r e = subst (InputJudged input) e (input_judged input)
 
 -- What an input says is read.
 first_line : (x y : List ℕ) (zs ys : List (List ℕ)) → zs ≡ y ∷ ys → reading_of (x ∷ zs)
-    ≡ under (head_of (record { number = 1; end = length x + 1; ended_by_lf = true; bytes = x })) (λ h. lines_of h 2 (length x + 1) none_seen zs)
+    ≡ under (head_of (record { number = 1; end = length x + 1; ended_by_lf = true; bytes = x })) (λ h. lines_of h 2 (length x + 1) false zs)
 unfolding reading_of
 first_line x y zs ys e = rw e refl
 
-same_rest : (h : Header) (n m a b : ℕ) (seen now : Seen) (parts : List (List ℕ)) → n ≡ m → a ≡ b → seen ≡ now
-    → lines_of h n a seen parts ≡ lines_of h m b now parts
-same_rest h n m a b seen now parts e e1 e2 = rw (e, e1, e2) refl
+same_rest : (h : Header) (n m a b : ℕ) (go_seen now : Bool) (parts : List (List ℕ)) → n ≡ m → a ≡ b → go_seen ≡ now
+    → lines_of h n a go_seen parts ≡ lines_of h m b now parts
+same_rest h n m a b go_seen now parts e e1 e2 = rw (e, e1, e2) refl
 
 -- what the texts say is read, and then what stands after them
 abbrev IsThen : List (List ℕ) → Trace → List LineSaid → List ℕ → List (List ℕ) → Type 0
 IsThen before t told p ps =
     reading_of (before ++ p ∷ ps)
-    ≡ with_header t.header (with_prefix told (lines_of t.header (length before + 1) (length (with_ends before)) (seen_in t) (p ∷ ps)))
+    ≡ with_header t.header (with_prefix told (lines_of t.header (length before + 1) (length (with_ends before)) (is_some t.go) (p ∷ ps)))
 
-seen_same : (t : Trace) (told : List LineSaid) → Gathers t told → seen_behind none_seen told ≡ seen_in t
-seen_same t told all = rw (all.lines, all.go) refl
+seen_same : (t : Trace) (told : List LineSaid) → Gathers t told → seen_behind false told ≡ is_some t.go
+seen_same t told all = rw all.go refl
 
 trace_then : (before : List (List ℕ)) (t : Trace) (p : List ℕ) (ps : List (List ℕ)) → SayTrace before t
     → (told : List LineSaid) × Gathers t told × IsThen before t told p ps
@@ -216,9 +216,9 @@ trace_then (x ∷ xs) t p ps (size, count, is, s, (told, say, gathers)) =
     let (y, ys, e) = consed xs p ps in
     let all : PassesAll (record { number = 1; end = length x + 1; ended_by_lf = true; bytes = x }) =
     (omega (arith, far, size), omega arith, inl refl, is.0, is.1) in
-    let lines = said_lines t.header 2 (length x + 1) none_seen xs told p ps s.2.0 say (omega (arith, far, size)) (omega (arith, count))
+    let lines = said_lines t.header 2 (length x + 1) false xs told p ps s.2.0 say (omega (arith, far, size)) (omega (arith, count))
     ∙ ap (with_prefix told) (same_rest t.header (2 + length xs) (length (x ∷ xs) + 1) (length x + 1 + length (with_ends xs))
-    (length (with_ends (x ∷ xs))) (seen_behind none_seen told) (seen_in t) (p ∷ ps) (omega arith) (omega (arith, far)) (seen_same t told gathers)) in (
+    (length (with_ends (x ∷ xs))) (seen_behind false told) (is_some t.go) (p ∷ ps) (omega arith) (omega (arith, far)) (seen_same t told gathers)) in (
       told,
       gathers,
       first_line x y (xs ++ p ∷ ps) ys e ∙ rw (head_said (record { number = 1; end = length x + 1; ended_by_lf = true; bytes = x }) t.header all s)
@@ -228,35 +228,35 @@ trace_then (x ∷ xs) t p ps (size, count, is, s, (told, say, gathers)) =
 the_same : (t : Trace) (told : List LineSaid) → Gathers t told → trace_of t.header told ≡ t
 the_same t told all = rw (← all.lines, ← all.go, ← all.items) refl
 
-no_more : (h : Header) (n at : ℕ) (seen : Seen) → lines_of h n at seen ([] ∷ []) ≡ Ok []
+no_more : (h : Header) (n at : ℕ) (go_seen : Bool) → lines_of h n at go_seen ([] ∷ []) ≡ Ok []
 unfolding lines_of
-no_more h n at seen = refl
+no_more h n at go_seen = refl
 
 pub the_trace : (input : List ℕ) (t : Trace) → SaysTrace input t → reading input ≡ Ok t
 unfolding reading
 the_trace input t (texts, e, say) =
     let whole : parts_of input ≡ texts ++ [] ∷ [] = ap parts_of (e ∙ sym (append-nil (with_ends texts))) ∙ parts_behind texts [] (trace_texts texts t say) in
     let (told, gathers, then) = trace_then texts t [] [] say in
-    ap reading_of whole ∙ then ∙ rw (no_more t.header (length texts + 1) (length (with_ends texts)) (seen_in t), append-nil told)
+    ap reading_of whole ∙ then ∙ rw (no_more t.header (length texts + 1) (length (with_ends texts)) (is_some t.go), append-nil told)
     (ap (λ (x : Trace). Ok x) (the_same t told gathers))
 
-fails_more : (h : Header) (n at : ℕ) (seen : Seen) (text y : List ℕ) (ys : List (List ℕ)) (r : Reason) → IsHeader h
-    → LineFails h seen (raw n at true text) r → lines_of h n at seen (text ∷ y ∷ ys) ≡ Err (n, r)
+fails_more : (h : Header) (n at : ℕ) (go_seen : Bool) (text y : List ℕ) (ys : List (List ℕ)) (r : Reason) → IsHeader h
+    → LineFails h go_seen (raw n at true text) r → lines_of h n at go_seen (text ∷ y ∷ ys) ≡ Err (n, r)
 unfolding lines_of
-fails_more h n at seen text y ys r header fails = rw (line_fails h seen (raw n at true text) r header fails) refl
+fails_more h n at go_seen text y ys r header fails = rw (line_fails h go_seen (raw n at true text) r header fails) refl
 
-fails_last : (h : Header) (n at : ℕ) (seen : Seen) (text : List ℕ) (r : Reason) → IsHeader h → (text ≡ [] → ⊥)
-    → LineFails h seen (raw n at false text) r → lines_of h n at seen (text ∷ []) ≡ Err (n, r)
+fails_last : (h : Header) (n at : ℕ) (go_seen : Bool) (text : List ℕ) (r : Reason) → IsHeader h → (text ≡ [] → ⊥)
+    → LineFails h go_seen (raw n at false text) r → lines_of h n at go_seen (text ∷ []) ≡ Err (n, r)
 unfolding lines_of
-fails_last h n at seen [] r header some fails = absurd (some refl)
-fails_last h n at seen (c ∷ cs) r header some fails = rw (not_empty c cs, line_fails h seen (raw n at false (c ∷ cs)) r header fails) refl
+fails_last h n at go_seen [] r header some fails = absurd (some refl)
+fails_last h n at go_seen (c ∷ cs) r header some fails = rw (not_empty c cs, line_fails h go_seen (raw n at false (c ∷ cs)) r header fails) refl
 
 header_in : (before : List (List ℕ)) (t : Trace) → SayTrace before t → IsHeader t.header
 header_in [] t say = absurd say
 header_in (x ∷ xs) t (size, count, is, s, say) = s.2.0
 
 later : (input : List ℕ) (before : List (List ℕ)) (t : Trace) (text : List ℕ) (ended : Bool) (r : Reason) → SayTrace before t
-    → HasLine input before text ended → (ended ≡ false → text ≡ [] → ⊥) → LineFails t.header (seen_in t) (line_behind before text ended) r
+    → HasLine input before text ended → (ended ≡ false → text ≡ [] → ⊥) → LineFails t.header (is_some t.go) (line_behind before text ended) r
     → reading input ≡ Err (length before + 1, r)
 unfolding reading
 later input before t text true r say (are, (rest, e)) some fails =
@@ -265,12 +265,12 @@ later input before t text true r say (are, (rest, e)) some fails =
     ap parts_of e ∙ parts_behind before (text ++ 10 ∷ rest) (trace_texts before t say)
     ∙ ap (λ (v : List (List ℕ)). before ++ v) (ended_part text rest are ∙ ap (λ (v : List (List ℕ)). text ∷ v) f) in
     ap reading_of whole ∙ (trace_then before t text (y ∷ ys) say).2
-    ∙ rw (fails_more t.header (length before + 1) (length (with_ends before)) (seen_in t) text y ys r (header_in before t say) fails) refl
+    ∙ rw (fails_more t.header (length before + 1) (length (with_ends before)) (is_some t.go) text y ys r (header_in before t say) fails) refl
 later input before t text false r say (are, e) some fails =
     let whole : parts_of input ≡ before ++ text ∷ [] =
     ap parts_of e ∙ parts_behind before text (trace_texts before t say) ∙ ap (λ (v : List (List ℕ)). before ++ v) (last_part text are) in
     ap reading_of whole ∙ (trace_then before t text [] say).2
-    ∙ rw (fails_last t.header (length before + 1) (length (with_ends before)) (seen_in t) text r (header_in before t say) (some refl) fails) refl
+    ∙ rw (fails_last t.header (length before + 1) (length (with_ends before)) (is_some t.go) text r (header_in before t say) (some refl) fails) refl
 
 fails_first : (input text : List ℕ) (ended : Bool) (r : Reason) → HasLine input [] text ended → HeaderFails (line_behind [] text ended) r
     → reading input ≡ Err (1, r)

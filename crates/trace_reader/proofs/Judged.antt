@@ -16,8 +16,8 @@ use Rattle.trace_reader.proofs.Operands.{IsNumber}
 use Rattle.trace_reader.proofs.Results.{differs, word_is}
 
 -- The words say this actor and command.
-abbrev pub IsPairSaid : Header → (ℕ → Bool) → List (List ℕ) → Actor × Command → Type 0
-IsPairSaid h seen words p = IsCommandOf h p.0 p.1 × AreCommandWords seen words p.0 p.1
+abbrev pub IsPairSaid : Header → List (List ℕ) → Actor × Command → Type 0
+IsPairSaid h words p = IsCommandOf h p.0 p.1 × AreCommandWords words p.0 p.1
 
 -- Why words say nothing.
 abbrev pub Why : Header → List (List ℕ) → Reason → Type 0
@@ -69,14 +69,14 @@ abbrev pub AreTwo : List (List ℕ) → Type 0
 AreTwo rest = (x y : List ℕ) × (rest ≡ x ∷ y ∷ [])
 
 -- What words say, or why they say nothing.
-abbrev pub Judged : Header → (ℕ → Bool) → List (List ℕ) → Said → Type 0
-Judged h seen words (Ok p) = IsPairSaid h seen words p
-Judged h seen words (Err r) = Why h words r
+abbrev pub Judged : Header → List (List ℕ) → Said → Type 0
+Judged h words (Ok p) = IsPairSaid h words p
+Judged h words (Err r) = Why h words r
 
-pub judged : (h : Header) (seen : ℕ → Bool) (words : List (List ℕ)) (x : Said) → ((p : Actor × Command) → x ≡ Ok p → IsPairSaid h seen words p)
-    → Tells h words x → Judged h seen words x
-judged h seen words (Ok p) found why = found p refl
-judged h seen words (Err r) found why = why
+pub judged : (h : Header) (words : List (List ℕ)) (x : Said) → ((p : Actor × Command) → x ≡ Ok p → IsPairSaid h words p)
+    → Tells h words x → Judged h words x
+judged h words (Ok p) found why = found p refl
+judged h words (Err r) found why = why
 
 -- A row of a table: what stands there where the word is its word, and else the rows after it.
 pub row : (P : Said → Type 0) (word name : List ℕ) (b : Bool) (x y : Said) → bytes_eq word name ≡ b → (word ≡ name → P x) → ((word ≡ name → ⊥) → P y)

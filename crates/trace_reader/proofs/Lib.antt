@@ -15,7 +15,6 @@ pub mod Words
 pub mod Bytes
 pub mod Reasons
 pub mod Ranges
-pub mod Distinct
 pub mod Rising
 pub mod Loop
 pub mod Begin

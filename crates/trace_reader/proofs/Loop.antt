@@ -1,6 +1,6 @@
 -- Reading lines one after the other, as a loop does.
 use Rattle.std.proofs.Common.{◌≡◌, ◌≤◌, ◌<◌, ◌+◌, ℕ, List, [], ◌∷◌, Result, Ok, Err, Bool, true, false, length, take, drop, cond, not, ◌++◌, refl}
-use Rattle.std.proofs.Common.{sym, ap, subst, ◌∙◌, append_assoc, arith, ◌==◌, nat_lt}
+use Rattle.std.proofs.Common.{sym, ap, ◌∙◌, append_assoc, arith, ◌==◌, nat_lt}
 use Rattle.std.proofs.lemmas.List.{append-nil, length-append}
 use Rattle.std.proofs.lemmas.List.Splits.{slice_split_first}
 use Rattle.std.proofs.lemmas.Bool.Decides.{nat_tests}
@@ -11,11 +11,10 @@ use Rattle.core_views.specs.declared.trace.Item.{Item}
 use Rattle.core_views.specs.declared.trace.Line.{Line}
 use Rattle.core_views.specs.declared.trace.Trace.{Trace}
 use Rattle.core_views.specs.Traces.{AreLinesOf, IsItemOf, IsLineOf}
-use Rattle.std.specs.Prelude.{All, IfSome}
+use Rattle.std.specs.Prelude.{All, IfSome, is_some}
 use Rattle.std.proofs.lemmas.List.Elements.{All-nil, All-push}
 use Rattle.std.specs.declared.option.Option.{Option}
-use Rattle.trace_reader.specs.declared.before.Before.{Before}
-use Rattle.trace_reader.specs.declared.before.Body.{Body}
+use Rattle.trace_reader.specs.declared.body.Body.{Body}
 use Rattle.trace_reader.specs.declared.reason.Reason.{Reason}
 use Rattle.trace_reader.specs.declared.refusal.ReadError.{ReadError}
 use Rattle.trace_reader.specs.declared.refusal.ReadError.TheVariants as errors
@@ -23,11 +22,11 @@ use Rattle.trace_reader.specs.declared.saying.Saying.{Saying}
 use Rattle.trace_reader.specs.declared.saying.Saying.TheVariants.{Does, Go, Schedules}
 use Rattle.trace_reader.specs.Forms.{is_empty}
 use Rattle.trace_reader.specs.Gathered.{go_in, items_in, actor_lines, one_more_if}
-use Rattle.trace_reader.specs.Lines.{LineSaid, onto, with_line, none_seen, seen_after, lines_of, line_of, parts_of}
+use Rattle.trace_reader.specs.Lines.{LineSaid, onto, with_line, seen_after, lines_of, line_of, parts_of}
 use Rattle.trace_reader.specs.Reading.{with_header}
-use Rattle.trace_reader.specs.Sayings.{IsSayingOf, Seen, is_there, seen_of}
+use Rattle.trace_reader.specs.Sayings.{IsSayingOf}
 use Rattle.trace_reader.specs.Steps.{Fails, IsBodyOf, IsPut, NamesLine, trace_with, with_found, with_go, with_item}
-use Rattle.trace_reader.proofs.Distinct.{IsFirst}
+use Rattle.trace_reader.proofs.Bytes.{IsFirst}
 
 cons_of : (c : Bool) (b : ℕ) (parts : List (List ℕ)) → (x : List ℕ) × (xs : List (List ℕ)) × (cond c ([] ∷ parts) (onto_first b parts) ≡ x ∷ xs)
 cons_of true b parts = ([], parts, refl)
@@ -62,27 +61,27 @@ an_end xs at e =
     let f = found (position_or_len (λ b. b == 10) xs) (length xs) at e in
     rw f.1 (slice_split_first (λ b. b == 10) xs 0 f.0)
 
-nothing_left : (h : Header) (n at : ℕ) (seen : Seen) (rest : List ℕ) → length rest < 1 → lines_of h n at seen (parts_of rest) ≡ Ok []
+nothing_left : (h : Header) (n at : ℕ) (go_seen : Bool) (rest : List ℕ) → length rest < 1 → lines_of h n at go_seen (parts_of rest) ≡ Ok []
 unfolding lines_of
-nothing_left h n at seen [] lt = refl
-nothing_left h n at seen (b ∷ bs) lt = absurd (omega arith)
+nothing_left h n at go_seen [] lt = refl
+nothing_left h n at go_seen (b ∷ bs) lt = absurd (omega arith)
 
 pub not_empty : (c : ℕ) (cs : List ℕ) → is_empty (c ∷ cs) ≡ false
 not_empty c cs = grind (arith, nat_tests)
 
 -- The first line, and the lines after it.
-pub unrolled : (h : Header) (n at size : ℕ) (seen : Seen) (rest text after : List ℕ) (ended : Bool) → 0 < length rest
+pub unrolled : (h : Header) (n at size : ℕ) (go_seen : Bool) (rest text after : List ℕ) (ended : Bool) → 0 < length rest
     → parts_of rest ≡ text ∷ cond ended (parts_of after) [] → (ended ≡ false → after ≡ []) → length rest ≡ length text + cond ended 1 0 + length after
     → size ≡ length text + cond ended 1 0
-    → lines_of h n at seen (parts_of rest) ≡ onto n seen (line_of h seen (record { number = n; end = at + size; ended_by_lf = ended; bytes = text }))
+    → lines_of h n at go_seen (parts_of rest) ≡ onto n go_seen (line_of h go_seen (record { number = n; end = at + size; ended_by_lf = ended; bytes = text }))
     (λ now. lines_of h (n + 1) (at + size) now (parts_of after))
 unfolding lines_of
-unrolled h n at size seen rest text after true lt e last len is =
+unrolled h n at size go_seen rest text after true lt e last len is =
     let p = part after in
     rw (e, p.2, is) refl
-unrolled h n at size seen rest [] after false lt e last len is =
+unrolled h n at size go_seen rest [] after false lt e last len is =
     let z : length after ≡ 0 = ap length (last refl) in absurd (omega arith)
-unrolled h n at size seen rest (c ∷ cs) after false lt e last len is =
+unrolled h n at size go_seen rest (c ∷ cs) after false lt e last len is =
     let z : after ≡ [] = last refl in
     let some : is_empty (c ∷ cs) ≡ false = not_empty c cs in
     rw (e, z, is, some) refl
@@ -92,10 +91,6 @@ pub moves : (size : ℕ) (rest text after : List ℕ) (ended : Bool) → 0 < len
     → length rest ≡ length text + cond ended 1 0 + length after → size ≡ length text + cond ended 1 0 → 0 < size
 moves size rest text after true lt last len is = omega arith
 moves size rest text after false lt last len is = let z : length after ≡ 0 = ap length (last refl) in omega arith
-
--- What was seen, by its parts.
-pub same_seen : (a b : Seen) → ((id : ℕ) → a.ids id ≡ b.ids id) → a.go ≡ b.go → a ≡ b
-same_seen a b ids go = λ i. record { ids = λ id. ids id i; go = go i }
 
 -- how many lines stand above `go`, where so many were read before what is still read
 abbrev go_behind : Option ℕ → ℕ → Option ℕ → Option ℕ
@@ -149,41 +144,34 @@ read_on h t n (Some (Schedules item)) (Ok told) first =
 
 -- What the lines after line n are read with.
 abbrev Rest : Type 0
-Rest = Seen → Result (List LineSaid) (ℕ × Reason)
+Rest = Bool → Result (List LineSaid) (ℕ × Reason)
 
 put_trace : (h : Header) (old new : Body) (n : ℕ) (found : Option Saying) → IsPut old new n found → trace_with h new ≡ put_to (trace_with h old) n found
 put_trace h old new n found put = same_trace h _ _ _ _ _ _ put.lines put.go put.items
 
-go_seen : (before : Before) (count : ℕ) (found : Option Saying) → is_there (with_go count before.go found) ≡ (seen_after (seen_of before) found).go
-go_seen before count None = refl
-go_seen before count (Some (Does a c)) = refl
-go_seen before count (Some Go) = refl
-go_seen before count (Some (Schedules item)) = refl
+go_after : (go : Option ℕ) (count : ℕ) (found : Option Saying) → is_some (with_go count go found) ≡ seen_after (is_some go) found
+go_after go count None = refl
+go_after go count (Some (Does a c)) = refl
+go_after go count (Some Go) = refl
+go_after go count (Some (Schedules item)) = refl
 
-put_seen : (old new : Body) (n : ℕ) (found : Option Saying) → IsPut old new n found → seen_of new.before ≡ seen_after (seen_of old.before) found
-put_seen old new n found put =
-    same_seen (seen_of new.before) (seen_after (seen_of old.before) found) put.ids (rw put.go (go_seen old.before (length old.lines.items) found))
+put_seen : (old new : Body) (n : ℕ) (found : Option Saying) → IsPut old new n found → is_some new.go ≡ seen_after (is_some old.go) found
+put_seen old new n found put = rw put.go (go_after old.go (length old.lines.items) found)
 
-not_there : (o : Option ℕ) → is_there o ≡ false → o ≡ None
+not_there : (o : Option ℕ) → is_some o ≡ false → o ≡ None
 not_there None e = refl
 not_there (Some n) e = cc
 
-go_first : (before : Before) (read : Result (Option Saying) Reason) (found : Option Saying) → IsFirst (seen_of before) read → read ≡ Ok found
-    → found ≡ Some Go → before.go ≡ None
-go_first before read found first is go =
-    let e : read ≡ Ok (Some Go) = rw (is, go) refl in
-    not_there before.go (subst (IsFirst (seen_of before)) e first)
-
 pub goes_on : (h : Header) (old new : Body) (n : ℕ) (read : Result (Option Saying) Reason) (found : Option Saying)
-    (here : Result (List LineSaid) (ℕ × Reason)) (rest : Rest) (total : Result Trace (ℕ × Reason)) → here ≡ onto n (seen_of old.before) read rest
-    → IsFirst (seen_of old.before) read → read ≡ Ok found → IsPut old new n found → with_front (trace_with h old) (with_header h here) ≡ total
-    → with_front (trace_with h new) (with_header h (rest (seen_of new.before))) ≡ total
+    (here : Result (List LineSaid) (ℕ × Reason)) (rest : Rest) (total : Result Trace (ℕ × Reason)) → here ≡ onto n (is_some old.go) read rest
+    → IsFirst (is_some old.go) read → read ≡ Ok found → IsPut old new n found → with_front (trace_with h old) (with_header h here) ≡ total
+    → with_front (trace_with h new) (with_header h (rest (is_some new.go))) ≡ total
 goes_on h old new n read found here rest total u first is put so_far =
     let now = put_seen old new n found put in
     let one : with_front (trace_with h old) (with_header h here)
-    ≡ with_front (put_to (trace_with h old) n found) (with_header h (rest (seen_after (seen_of old.before) found))) =
+    ≡ with_front (put_to (trace_with h old) n found) (with_header h (rest (seen_after (is_some old.go) found))) =
     rw (u, is)
-    (read_on h (trace_with h old) n found (rest (seen_after (seen_of old.before) found)) (λ go. go_first old.before read found first is go)) in
+    (read_on h (trace_with h old) n found (rest (seen_after (is_some old.go) found)) (λ go. not_there old.go (first (rw (is, go) refl)))) in
     rw (put_trace h old new n found put, now) (sym one ∙ so_far)
 
 -- What was read stays in its ranges.
@@ -218,7 +206,7 @@ pub all_read : (h : Header) (old new : Body) (n : ℕ) (found : Option Saying) �
 all_read h old new n found all here put = record {
   lines = rw put.lines (put_lines h old.lines.items n found all.lines here);
   items = rw put.items (put_items h old.items.items found all.items here);
-  go = rw (put.go, put.lines) (put_go old.lines.items n old.before.go found all.go);
+  go = rw (put.go, put.lines) (put_go old.lines.items n old.go found all.go);
 }
 
 few_lines : (lines : List Line) (n : ℕ) (found : Option Saying) → length (with_found lines n found) ≤ length lines + 1
@@ -240,19 +228,18 @@ nothing_before h (Ok told) =
     ap (λ (v : Trace). Ok v) (same_trace h (actor_lines told) (actor_lines told) _ _ (items_in told) (items_in told) refl (no_lines (go_in told)) refl)
 nothing_before h (Err e) = refl
 
-pub starts : (h : Header) (body : Body) (n at : ℕ) (parts : List (List ℕ)) → body.lines.items ≡ [] → body.items.items ≡ [] → body.before.go ≡ None
-    → ((id : ℕ) → (seen_of body.before).ids id ≡ false)
-    → with_front (trace_with h body) (with_header h (lines_of h n at (seen_of body.before) parts)) ≡ with_header h (lines_of h n at none_seen parts)
-starts h body n at parts lines items go ids =
-    let none : seen_of body.before ≡ none_seen = same_seen (seen_of body.before) none_seen ids (rw go refl) in
+pub starts : (h : Header) (body : Body) (n at : ℕ) (parts : List (List ℕ)) → body.lines.items ≡ [] → body.items.items ≡ [] → body.go ≡ None
+    → with_front (trace_with h body) (with_header h (lines_of h n at (is_some body.go) parts)) ≡ with_header h (lines_of h n at false parts)
+starts h body n at parts lines items go =
+    let none : is_some body.go ≡ false = rw go refl in
     let empty : trace_with h body ≡ made_of h [] None [] = same_trace h _ _ _ _ _ _ lines go items in
-    rw (none, empty) (nothing_before h (lines_of h n at none_seen parts))
+    rw (none, empty) (nothing_before h (lines_of h n at false parts))
 
-pub none_read : (h : Header) (body : Body) → body.lines.items ≡ [] → body.items.items ≡ [] → body.before.go ≡ None → IsBodyOf h body
+pub none_read : (h : Header) (body : Body) → body.lines.items ≡ [] → body.items.items ≡ [] → body.go ≡ None → IsBodyOf h body
 none_read h body lines items go = record { lines = rw lines (All-nil (IsLineOf h)); items = rw items (All-nil (IsItemOf h)); go = rw go tt }
 
 pub stops : (h : Header) (body : Body) (n : ℕ) (read : Result (Option Saying) Reason) (e : ReadError) (here : Result (List LineSaid) (ℕ × Reason))
-    (rest : Rest) (total : Result Trace (ℕ × Reason)) → here ≡ onto n (seen_of body.before) read rest → Fails n e read
+    (rest : Rest) (total : Result Trace (ℕ × Reason)) → here ≡ onto n (is_some body.go) read rest → Fails n e read
     → with_front (trace_with h body) (with_header h here) ≡ total → NamesLine (trace_with h) (Err e) total
 stops h body n read errors.NoMemory here rest total u fails so_far = tt
 stops h body n read (errors.Refused line r) here rest total u fails so_far =
@@ -263,10 +250,10 @@ go_alone : (go : Option ℕ) (count : ℕ) → go_behind go count None ≡ go
 go_alone None count = refl
 go_alone (Some n) count = refl
 
-pub is_done : (h : Header) (body : Body) (n at : ℕ) (seen : Seen) (rest : List ℕ) (total : Result Trace (ℕ × Reason)) → length rest < 1
-    → with_front (trace_with h body) (with_header h (lines_of h n at seen (parts_of rest))) ≡ total → total ≡ Ok (trace_with h body)
-is_done h body n at seen rest total lt so_far =
-    let whole = same_trace h _ _ _ _ _ _ (append-nil body.lines.items) (go_alone body.before.go (length body.lines.items)) (append-nil body.items.items) in
-    let one : with_front (trace_with h body) (with_header h (lines_of h n at seen (parts_of rest))) ≡ Ok (trace_with h body) =
-    rw (nothing_left h n at seen rest lt) (ap (λ (v : Trace). Ok v) whole) in
+pub is_done : (h : Header) (body : Body) (n at : ℕ) (go_seen : Bool) (rest : List ℕ) (total : Result Trace (ℕ × Reason)) → length rest < 1
+    → with_front (trace_with h body) (with_header h (lines_of h n at go_seen (parts_of rest))) ≡ total → total ≡ Ok (trace_with h body)
+is_done h body n at go_seen rest total lt so_far =
+    let whole = same_trace h _ _ _ _ _ _ (append-nil body.lines.items) (go_alone body.go (length body.lines.items)) (append-nil body.items.items) in
+    let one : with_front (trace_with h body) (with_header h (lines_of h n at go_seen (parts_of rest))) ≡ Ok (trace_with h body) =
+    rw (nothing_left h n at go_seen rest lt) (ap (λ (v : Trace). Ok v) whole) in
     sym so_far ∙ one

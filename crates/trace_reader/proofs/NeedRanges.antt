@@ -131,8 +131,8 @@ step n span next k d ranges pos lt all up ends =
 
 -- The step of the pass, where range k range_covers a new table.
 pub taken : (n span k : ℕ) (d : FrameRange) (ranges : List FrameRange) (count next from count' next' all : ℕ) → 0 < span → k < length ranges
-    → All IsFrameRange ranges → AreRising ranges → EndBy (n * span) ranges → from ≡ max next (first span (get_or ranges k d)) → from < past span (get_or ranges k d)
-    → count' ≡ count + (past span (get_or ranges k d) - from) → next' ≡ past span (get_or ranges k d)
+    → All IsFrameRange ranges → AreRising ranges → EndBy (n * span) ranges → from ≡ max next (first span (get_or ranges k d))
+    → from < past span (get_or ranges k d) → count' ≡ count + (past span (get_or ranges k d) - from) → next' ≡ past span (get_or ranges k d)
     → count + count_below n (any_later span (drop k ranges) next) ≡ all → count' + count_below n (any_later span (drop (k + 1) ranges) next') ≡ all
 taken n span k d ranges count next from count' next' all pos lt is up ends f new c e so_far =
     let m : max next (past span (get_or ranges k d)) ≡ next' = omega arith in
@@ -143,8 +143,8 @@ taken n span k d ranges count next from count' next' all pos lt is up ends f new
 
 -- The step of the pass, where it range_covers none.
 pub passed : (n span k : ℕ) (d : FrameRange) (ranges : List FrameRange) (count next from count' next' all : ℕ) → 0 < span → k < length ranges
-    → All IsFrameRange ranges → AreRising ranges → EndBy (n * span) ranges → from ≡ max next (first span (get_or ranges k d)) → past span (get_or ranges k d) ≤ from → count' ≡ count
-    → next' ≡ next
+    → All IsFrameRange ranges → AreRising ranges → EndBy (n * span) ranges → from ≡ max next (first span (get_or ranges k d))
+    → past span (get_or ranges k d) ≤ from → count' ≡ count → next' ≡ next
     → count + count_below n (any_later span (drop k ranges) next) ≡ all → count' + count_below n (any_later span (drop (k + 1) ranges) next') ≡ all
 passed n span k d ranges count next from count' next' all pos lt is up ends f old c e so_far =
     let r : IsFrameRange (get_or ranges k d) = All-get_or IsFrameRange ranges k d lt is in

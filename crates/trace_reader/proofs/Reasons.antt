@@ -13,7 +13,7 @@ use Rattle.trace_reader.specs.declared.reason.Reason.TheVariants as reason
 use Rattle.trace_reader.specs.declared.saying.Saying.{Saying}
 use Rattle.trace_reader.specs.declared.saying.Saying.TheVariants.{Does, Go, Schedules}
 use Rattle.trace_reader.specs.Forms.{is_empty, words_of}
-use Rattle.trace_reader.specs.Sayings.{Seen, by_first, by_words, said}
+use Rattle.trace_reader.specs.Sayings.{by_first, by_words, said}
 use Rattle.trace_reader.specs.GrammarRefusals.{SaysNothingFor, IsLineReason}
 use Rattle.trace_reader.specs.Grammar.{AreWords, IsActor, IsCommandForm, IsDeclared}
 use Rattle.trace_reader.specs.LineGrammar.{HasForm, IsFirstGo, IsItemForm, IsOfForm, SaysLine, item_words}
@@ -56,38 +56,38 @@ of_form bytes a (is, (words, e, are, form)) = let c = cut_words bytes words a e 
 go_words : (bytes : List ℕ) → bytes ≡ codes "go" → words_of bytes ≡ codes "go" ∷ []
 go_words bytes e = rw e refl
 
-no_form : (h : Header) (seen : Seen) (bytes : List ℕ) → list_any is_empty (words_of bytes) ≡ true → SaysNothingFor h seen bytes reason.Word
-no_form h seen bytes e = (
+no_form : (h : Header) (go_seen : Bool) (bytes : List ℕ) → list_any is_empty (words_of bytes) ≡ true → SaysNothingFor h go_seen bytes reason.Word
+no_form h go_seen bytes e = (
   (λ a form. let t = (of_form bytes a form).2 in cc),
   λ go. let t : list_any is_empty (words_of bytes) ≡ false = rw (go_words bytes go.1) refl in cc,
 )
 
-lifted : (h : Header) (seen : Seen) (bytes : List ℕ) (r : Reason) → IsHeader h → said h seen bytes ≡ Err r → AreWords (words_of bytes)
-    → WhyNot h seen (words_of bytes) r → SaysNothingFor h seen bytes r
-lifted h seen bytes reason.Word header e are never = (
+lifted : (h : Header) (go_seen : Bool) (bytes : List ℕ) (r : Reason) → IsHeader h → said h go_seen bytes ≡ Err r → AreWords (words_of bytes)
+    → WhyNot h go_seen (words_of bytes) r → SaysNothingFor h go_seen bytes r
+lifted h go_seen bytes reason.Word header e are never = (
   (λ a form. let f = of_form bytes a form in never.0 a f.0 f.1),
   λ go. never.1 go.0 (go_words bytes go.1),
 )
-lifted h seen bytes reason.Actor header e are (a, form, is, never) = (a, (is, (words_of bytes, sym (join_with_byte-slice_split 32 bytes), are, form)), never)
-lifted h seen bytes reason.Number header e are (a, form, is, known) =
-    (a, (is, (words_of bytes, sym (join_with_byte-slice_split 32 bytes), are, form)), known, λ s line. let t = says h seen bytes s header line in cc)
-lifted h seen bytes _ header e are never = absurd never
+lifted h go_seen bytes reason.Actor header e are (a, form, is, never) = (a, (is, (words_of bytes, sym (join_with_byte-slice_split 32 bytes), are, form)), never)
+lifted h go_seen bytes reason.Number header e are (a, form, is, known) =
+    (a, (is, (words_of bytes, sym (join_with_byte-slice_split 32 bytes), are, form)), known, λ s line. let t = says h go_seen bytes s header line in cc)
+lifted h go_seen bytes _ header e are never = absurd never
 
-told : (h : Header) (seen : Seen) (words : List (List ℕ)) (x : Result Saying Reason) (r : Reason) → x ≡ Err r → WordsJudged h seen words x
-    → WhyNot h seen words r
-told h seen words x r e is = subst (WordsJudged h seen words) e is
+told : (h : Header) (go_seen : Bool) (words : List (List ℕ)) (x : Result Saying Reason) (r : Reason) → x ≡ Err r → WordsJudged h go_seen words x
+    → WhyNot h go_seen words r
+told h go_seen words x r e is = subst (WordsJudged h go_seen words) e is
 
-by_test : (h : Header) (seen : Seen) (bytes : List ℕ) (b : Bool) (r : Reason) → IsHeader h → list_any is_empty (words_of bytes) ≡ b
-    → said h seen bytes ≡ Err r → cond b (Err reason.Word) (by_first h seen (words_of bytes)) ≡ Err r → SaysNothingFor h seen bytes r
-by_test h seen bytes true r header e line is = let same : reason.Word ≡ r = cc in subst (SaysNothingFor h seen bytes) same (no_form h seen bytes e)
-by_test h seen bytes false r header e line is =
-    lifted h seen bytes r header line (words_filled (words_of bytes) (words_plain bytes) e)
-    (told h seen (words_of bytes) (by_first h seen (words_of bytes)) r is (words_judged h seen (words_of bytes)))
+by_test : (h : Header) (go_seen : Bool) (bytes : List ℕ) (b : Bool) (r : Reason) → IsHeader h → list_any is_empty (words_of bytes) ≡ b
+    → said h go_seen bytes ≡ Err r → cond b (Err reason.Word) (by_first h go_seen (words_of bytes)) ≡ Err r → SaysNothingFor h go_seen bytes r
+by_test h go_seen bytes true r header e line is = let same : reason.Word ≡ r = cc in subst (SaysNothingFor h go_seen bytes) same (no_form h go_seen bytes e)
+by_test h go_seen bytes false r header e line is =
+    lifted h go_seen bytes r header line (words_filled (words_of bytes) (words_plain bytes) e)
+    (told h go_seen (words_of bytes) (by_first h go_seen (words_of bytes)) r is (words_judged h go_seen (words_of bytes)))
 
 -- A line is refused only for the reason for which it says nothing.
-pub no_other : (h : Header) (seen : Seen) (bytes : List ℕ) (r : Reason) → IsHeader h → said h seen bytes ≡ Err r → SaysNothingFor h seen bytes r
+pub no_other : (h : Header) (go_seen : Bool) (bytes : List ℕ) (r : Reason) → IsHeader h → said h go_seen bytes ≡ Err r → SaysNothingFor h go_seen bytes r
 unfolding said by_words
-no_other h seen bytes r header e = by_test h seen bytes (list_any is_empty (words_of bytes)) r header refl e e
+no_other h go_seen bytes r header e = by_test h go_seen bytes (list_any is_empty (words_of bytes)) r header refl e e
 
 -- A line is of a form of one actor alone.
 same_head : (a b : Actor) (more rest : List (List ℕ)) → actor_name a ∷ more ≡ actor_name b ∷ rest → actor_name a ≡ actor_name b
@@ -116,38 +116,38 @@ one_actor bytes a b f g =
     same_actor (words_of bytes) a b x.0 y.0 x.1 y.1
 
 -- A line says nothing for one reason alone, and then it says nothing.
-agree : (h : Header) (seen : Seen) (bytes : List ℕ) (r k : Reason) → SaysNothingFor h seen bytes r → SaysNothingFor h seen bytes k → r ≡ k
-agree h seen bytes reason.Word reason.Word p q = refl
-agree h seen bytes reason.Word reason.Actor p (b, form, never) = absurd (p.0 b form)
-agree h seen bytes reason.Word reason.Number p (b, form, known, never) = absurd (p.0 b form)
-agree h seen bytes reason.Word _ p q = absurd q
-agree h seen bytes reason.Actor reason.Word (a, form, never) q = absurd (q.0 a form)
-agree h seen bytes reason.Actor reason.Actor p q = refl
-agree h seen bytes reason.Actor reason.Number (a, form, never) (b, other, known, none) =
+agree : (h : Header) (go_seen : Bool) (bytes : List ℕ) (r k : Reason) → SaysNothingFor h go_seen bytes r → SaysNothingFor h go_seen bytes k → r ≡ k
+agree h go_seen bytes reason.Word reason.Word p q = refl
+agree h go_seen bytes reason.Word reason.Actor p (b, form, never) = absurd (p.0 b form)
+agree h go_seen bytes reason.Word reason.Number p (b, form, known, never) = absurd (p.0 b form)
+agree h go_seen bytes reason.Word _ p q = absurd q
+agree h go_seen bytes reason.Actor reason.Word (a, form, never) q = absurd (q.0 a form)
+agree h go_seen bytes reason.Actor reason.Actor p q = refl
+agree h go_seen bytes reason.Actor reason.Number (a, form, never) (b, other, known, none) =
     absurd (never (subst (IsDeclared h) (one_actor bytes b a other form) known))
-agree h seen bytes reason.Actor _ p q = absurd q
-agree h seen bytes reason.Number reason.Word (a, form, known, none) q = absurd (q.0 a form)
-agree h seen bytes reason.Number reason.Actor (a, form, known, none) (b, other, never) =
+agree h go_seen bytes reason.Actor _ p q = absurd q
+agree h go_seen bytes reason.Number reason.Word (a, form, known, none) q = absurd (q.0 a form)
+agree h go_seen bytes reason.Number reason.Actor (a, form, known, none) (b, other, never) =
     absurd (never (subst (IsDeclared h) (one_actor bytes a b form other) known))
-agree h seen bytes reason.Number reason.Number p q = refl
-agree h seen bytes reason.Number _ p q = absurd q
-agree h seen bytes _ k p q = absurd p
+agree h go_seen bytes reason.Number reason.Number p q = refl
+agree h go_seen bytes reason.Number _ p q = absurd q
+agree h go_seen bytes _ k p q = absurd p
 
 -- What a line says is `go`, or names an actor that is declared.
-abbrev IsKnown : Header → Seen → List ℕ → Saying → Type 0
-IsKnown h seen bytes Go = IsFirstGo seen bytes
-IsKnown h seen bytes (Does a c) = IsOfForm bytes a × IsDeclared h a
-IsKnown h seen bytes (Schedules item) = IsOfForm bytes item.actor × IsDeclared h item.actor
+abbrev IsKnown : Header → Bool → List ℕ → Saying → Type 0
+IsKnown h go_seen bytes Go = IsFirstGo go_seen bytes
+IsKnown h go_seen bytes (Does a c) = IsOfForm bytes a × IsDeclared h a
+IsKnown h go_seen bytes (Schedules item) = IsOfForm bytes item.actor × IsDeclared h item.actor
 
-line_form : (h : Header) (seen : Seen) (bytes : List ℕ) (s : Saying) → IsHeader h → SaysLine h seen bytes s → IsKnown h seen bytes s
-line_form h seen bytes (Does a c) header (range, (words, e, are)) =
+line_form : (h : Header) (go_seen : Bool) (bytes : List ℕ) (s : Saying) → IsHeader h → SaysLine h go_seen bytes s → IsKnown h go_seen bytes s
+line_form h go_seen bytes (Does a c) header (range, (words, e, are)) =
     let k = commanding h a c header range in
-    ((k.0, (words, e, say_words h seen words (Does a c) header range are, inl (command_form seen.ids words a c are))), k.1)
-line_form h seen bytes Go header (range, (words, e, (first, is))) = (first, rw (e, is) refl)
-line_form h seen bytes (Schedules item) header (range, (words, e, are)) =
+    ((k.0, (words, e, say_words h go_seen words (Does a c) header range are, inl (command_form words a c are))), k.1)
+line_form h go_seen bytes Go header (range, (words, e, (first, is))) = (first, rw (e, is) refl)
+line_form h go_seen bytes (Schedules item) header (range, (words, e, are)) =
     let k = has_declared h item.actor header range.actor in
     let (last, is, until) = are in
-    ((k.0, (words, e, say_words h seen words (Schedules item) header range are, inr (last, is, until_form last item.until until))), k.1)
+    ((k.0, (words, e, say_words h go_seen words (Schedules item) header range are, inr (last, is, until_form last item.until until))), k.1)
 
 go_no_form : (bytes : List ℕ) (a : Actor) → bytes ≡ codes "go" → IsOfForm bytes a → ⊥
 go_no_form bytes a e form = let f = of_form bytes a form in no_go_form a (rw (go_words bytes e) at f.0)
@@ -156,56 +156,58 @@ go_no_form bytes a e form = let f = of_form bytes a form in no_go_form a (rw (go
 silent_actor : (h : Header) (bytes : List ℕ) (a b : Actor) → IsOfForm bytes b → (IsDeclared h b → ⊥) → IsOfForm bytes a × IsDeclared h a → ⊥
 silent_actor h bytes a b form never f = never (subst (IsDeclared h) (one_actor bytes a b f.0 form) f.1)
 
-silent : (h : Header) (seen : Seen) (bytes : List ℕ) (r : Reason) (s : Saying) → IsHeader h → SaysNothingFor h seen bytes r → SaysLine h seen bytes s → ⊥
-silent h seen bytes reason.Word Go header never line = never.1 (line_form h seen bytes Go header line)
-silent h seen bytes reason.Word (Does a c) header never line = never.0 a (line_form h seen bytes (Does a c) header line).0
-silent h seen bytes reason.Word (Schedules item) header never line = never.0 item.actor (line_form h seen bytes (Schedules item) header line).0
-silent h seen bytes reason.Actor Go header (b, form, never) line = go_no_form bytes b (line_form h seen bytes Go header line).1 form
-silent h seen bytes reason.Actor (Does a c) header (b, form, never) line = silent_actor h bytes a b form never (line_form h seen bytes (Does a c) header line)
-silent h seen bytes reason.Actor (Schedules item) header (b, form, never) line =
-    silent_actor h bytes item.actor b form never (line_form h seen bytes (Schedules item) header line)
-silent h seen bytes reason.Number s header (b, form, known, none) line = none s line
-silent h seen bytes _ s header never line = never
+silent : (h : Header) (go_seen : Bool) (bytes : List ℕ) (r : Reason) (s : Saying) → IsHeader h → SaysNothingFor h go_seen bytes r
+    → SaysLine h go_seen bytes s → ⊥
+silent h go_seen bytes reason.Word Go header never line = never.1 (line_form h go_seen bytes Go header line)
+silent h go_seen bytes reason.Word (Does a c) header never line = never.0 a (line_form h go_seen bytes (Does a c) header line).0
+silent h go_seen bytes reason.Word (Schedules item) header never line = never.0 item.actor (line_form h go_seen bytes (Schedules item) header line).0
+silent h go_seen bytes reason.Actor Go header (b, form, never) line = go_no_form bytes b (line_form h go_seen bytes Go header line).1 form
+silent h go_seen bytes reason.Actor (Does a c) header (b, form, never) line =
+    silent_actor h bytes a b form never (line_form h go_seen bytes (Does a c) header line)
+silent h go_seen bytes reason.Actor (Schedules item) header (b, form, never) line =
+    silent_actor h bytes item.actor b form never (line_form h go_seen bytes (Schedules item) header line)
+silent h go_seen bytes reason.Number s header (b, form, known, none) line = none s line
+silent h go_seen bytes _ s header never line = never
 
 -- A line that says nothing for a reason is refused for this one.
-by_result : (h : Header) (seen : Seen) (bytes : List ℕ) (r : Reason) (x : Result Saying Reason) → IsHeader h → SaysNothingFor h seen bytes r
-    → said h seen bytes ≡ x → x ≡ Err r
-by_result h seen bytes r (Ok s) header never e = absurd (silent h seen bytes r s header never (only_said h seen bytes s e))
-by_result h seen bytes r (Err k) header never e = ap (λ (z : Reason). Err z) (agree h seen bytes k r (no_other h seen bytes k header e) never)
+by_result : (h : Header) (go_seen : Bool) (bytes : List ℕ) (r : Reason) (x : Result Saying Reason) → IsHeader h → SaysNothingFor h go_seen bytes r
+    → said h go_seen bytes ≡ x → x ≡ Err r
+by_result h go_seen bytes r (Ok s) header never e = absurd (silent h go_seen bytes r s header never (only_said h go_seen bytes s e))
+by_result h go_seen bytes r (Err k) header never e = ap (λ (z : Reason). Err z) (agree h go_seen bytes k r (no_other h go_seen bytes k header e) never)
 
-pub the_reason : (h : Header) (seen : Seen) (bytes : List ℕ) (r : Reason) → IsHeader h → SaysNothingFor h seen bytes r → said h seen bytes ≡ Err r
-the_reason h seen bytes r header never = by_result h seen bytes r (said h seen bytes) header never refl
+pub the_reason : (h : Header) (go_seen : Bool) (bytes : List ℕ) (r : Reason) → IsHeader h → SaysNothingFor h go_seen bytes r → said h go_seen bytes ≡ Err r
+the_reason h go_seen bytes r header never = by_result h go_seen bytes r (said h go_seen bytes) header never refl
 
 -- A line that says nothing is refused, for a reason of a line's words.
-line_reason : (h : Header) (seen : Seen) (words : List (List ℕ)) (r : Reason) → WhyNot h seen words r → IsLineReason r
-line_reason h seen words reason.Word is = inl refl
-line_reason h seen words reason.Actor is = inr (inl refl)
-line_reason h seen words reason.Number is = inr (inr refl)
-line_reason h seen words _ is = absurd is
+line_reason : (h : Header) (go_seen : Bool) (words : List (List ℕ)) (r : Reason) → WhyNot h go_seen words r → IsLineReason r
+line_reason h go_seen words reason.Word is = inl refl
+line_reason h go_seen words reason.Actor is = inr (inl refl)
+line_reason h go_seen words reason.Number is = inr (inr refl)
+line_reason h go_seen words _ is = absurd is
 
 -- An error of it is for a reason of a line's words.
 abbrev IsOfLine : Result Saying Reason → Type 0
 IsOfLine (Ok x) = Unit {0}
 IsOfLine (Err r) = IsLineReason r
 
-told_of : (h : Header) (seen : Seen) (words : List (List ℕ)) (x : Result Saying Reason) → WordsJudged h seen words x → IsOfLine x
-told_of h seen words (Ok s) is = tt
-told_of h seen words (Err r) is = line_reason h seen words r is
+told_of : (h : Header) (go_seen : Bool) (words : List (List ℕ)) (x : Result Saying Reason) → WordsJudged h go_seen words x → IsOfLine x
+told_of h go_seen words (Ok s) is = tt
+told_of h go_seen words (Err r) is = line_reason h go_seen words r is
 
 chosen : (b : Bool) (x y : Result Saying Reason) → IsOfLine x → IsOfLine y → IsOfLine (cond b x y)
 chosen true x y p q = p
 chosen false x y p q = q
 
-said_of : (h : Header) (seen : Seen) (bytes : List ℕ) → IsOfLine (said h seen bytes)
+said_of : (h : Header) (go_seen : Bool) (bytes : List ℕ) → IsOfLine (said h go_seen bytes)
 unfolding said by_words
-said_of h seen bytes =
+said_of h go_seen bytes =
     chosen (list_any is_empty (words_of bytes)) (Err reason.Word) _ (inl refl)
-    (told_of h seen (words_of bytes) (by_first h seen (words_of bytes)) (words_judged h seen (words_of bytes)))
+    (told_of h go_seen (words_of bytes) (by_first h go_seen (words_of bytes)) (words_judged h go_seen (words_of bytes)))
 
 refused : (x : Result Saying Reason) → IsOfLine x → ((s : Saying) → x ≡ Ok s → ⊥) → (k : Reason) × (x ≡ Err k) × IsLineReason k
 refused (Ok s) is none = absurd (none s refl)
 refused (Err k) is none = (k, refl, is)
 
-pub refuses : (h : Header) (seen : Seen) (bytes : List ℕ) → ((s : Saying) → SaysLine h seen bytes s → ⊥)
-    → (r : Reason) × (said h seen bytes ≡ Err r) × IsLineReason r
-refuses h seen bytes none = refused (said h seen bytes) (said_of h seen bytes) (λ s e. none s (only_said h seen bytes s e))
+pub refuses : (h : Header) (go_seen : Bool) (bytes : List ℕ) → ((s : Saying) → SaysLine h go_seen bytes s → ⊥)
+    → (r : Reason) × (said h go_seen bytes ≡ Err r) × IsLineReason r
+refuses h go_seen bytes none = refused (said h go_seen bytes) (said_of h go_seen bytes) (λ s e. none s (only_said h go_seen bytes s e))

@@ -12,9 +12,8 @@ use Rattle.trace_reader.specs.declared.saying.Saying.{Saying}
 use Rattle.trace_reader.specs.declared.saying.Saying.TheVariants.{Does, Go, Schedules}
 use Rattle.trace_reader.specs.Forms.{is_empty}
 use Rattle.trace_reader.specs.Gathered.{actor_lines}
-use Rattle.trace_reader.specs.Lines.{Raw, LineSaid, after_checks, content, fault_of, line_of, lines_of, none_seen, onto, raw, with_line}
+use Rattle.trace_reader.specs.Lines.{Raw, LineSaid, after_checks, content, fault_of, line_of, lines_of, onto, raw, with_line}
 use Rattle.trace_reader.specs.Reading.{with_header}
-use Rattle.trace_reader.specs.Sayings.{Seen}
 use Rattle.trace_reader.proofs.Checks.{Judged, judged}
 use Rattle.trace_reader.proofs.Ranges.{more_rises}
 
@@ -44,26 +43,26 @@ weaker : (n : ℕ) (x : Result (List LineSaid) (ℕ × Reason)) → AreRising (n
 weaker n (Ok told) rest = record { first = λ lt. let up = rest.first lt in omega (arith, up); rising = rest.rising }
 weaker n (Err e) rest = tt
 
-onto_rises : (n : ℕ) (seen : Seen) (read : Result (Option Saying) Reason) (rest : Seen → Result (List LineSaid) (ℕ × Reason))
-    → ((now : Seen) → AreRising (n + 1) (rest now)) → AreRising n (onto n seen read rest)
-onto_rises n seen (Err r) rest all = tt
-onto_rises n seen (Ok None) rest all = weaker n (rest seen) (all seen)
-onto_rises n seen (Ok (Some s)) rest all = by (rest _) (all _)
+onto_rises : (n : ℕ) (go_seen : Bool) (read : Result (Option Saying) Reason) (rest : Bool → Result (List LineSaid) (ℕ × Reason))
+    → ((now : Bool) → AreRising (n + 1) (rest now)) → AreRising n (onto n go_seen read rest)
+onto_rises n go_seen (Err r) rest all = tt
+onto_rises n go_seen (Ok None) rest all = weaker n (rest go_seen) (all go_seen)
+onto_rises n go_seen (Ok (Some s)) rest all = by (rest _) (all _)
   where
     by : (x : Result (List LineSaid) (ℕ × Reason)) → AreRising (n + 1) x → AreRising n (with_line n (Some s) x)
     by (Err e) more = tt
     by (Ok told) more = in_front n s told more
 
-lines_rise : (h : Header) (n at : ℕ) (seen : Seen) (parts : List (List ℕ)) → AreRising n (lines_of h n at seen parts)
+lines_rise : (h : Header) (n at : ℕ) (go_seen : Bool) (parts : List (List ℕ)) → AreRising n (lines_of h n at go_seen parts)
 unfolding lines_of
-lines_rise h n at seen [] = none n
-lines_rise h n at seen (last ∷ []) = by (is_empty last)
+lines_rise h n at go_seen [] = none n
+lines_rise h n at go_seen (last ∷ []) = by (is_empty last)
   where
-    by : (b : Bool) → AreRising n (if b then Ok [] else onto n seen (line_of h seen (raw n at false last)) (λ now. Ok []))
+    by : (b : Bool) → AreRising n (if b then Ok [] else onto n go_seen (line_of h go_seen (raw n at false last)) (λ now. Ok []))
     by true = none n
-    by false = onto_rises n seen (line_of h seen (raw n at false last)) (λ now. Ok []) (λ now. none (n + 1))
-lines_rise h n at seen (x ∷ y ∷ more) =
-    onto_rises n seen (line_of h seen (raw n at true x)) (λ now. lines_of h (n + 1) (at + (length x + 1)) now (y ∷ more))
+    by false = onto_rises n go_seen (line_of h go_seen (raw n at false last)) (λ now. Ok []) (λ now. none (n + 1))
+lines_rise h n at go_seen (x ∷ y ∷ more) =
+    onto_rises n go_seen (line_of h go_seen (raw n at true x)) (λ now. lines_of h (n + 1) (at + (length x + 1)) now (y ∷ more))
     (λ now. lines_rise h (n + 1) (at + (length x + 1)) now (y ∷ more))
 
 abbrev HasRising : Result Trace (ℕ × Reason) → Type 0
@@ -74,9 +73,9 @@ under_header : (h : Header) (n : ℕ) (x : Result (List LineSaid) (ℕ × Reason
 under_header h n (Ok told) rising = rising.rising
 under_header h n (Err e) rising = tt
 
-pub read_rising : (h : Header) (n at : ℕ) (parts : List (List ℕ)) (t : Trace) → with_header h (lines_of h n at none_seen parts) ≡ Ok t
+pub read_rising : (h : Header) (n at : ℕ) (parts : List (List ℕ)) (t : Trace) → with_header h (lines_of h n at false parts) ≡ Ok t
     → IsStrictlyIncreasing (numbers t.lines)
-read_rising h n at parts t is = subst HasRising is (under_header h n (lines_of h n at none_seen parts) (lines_rise h n at none_seen parts))
+read_rising h n at parts t is = subst HasRising is (under_header h n (lines_of h n at false parts) (lines_rise h n at false parts))
 
 -- So many lines, at most, have numbers from n on: the last number that a line may have is 1,000,000.
 abbrev AreFew : ℕ → Result (List LineSaid) (ℕ × Reason) → Type 0
@@ -94,13 +93,13 @@ numbered n (Ok (Some s)) le = le
 numbered n (Ok None) le = tt
 numbered n (Err r) le = tt
 
-line_numbered : (h : Header) (seen : Seen) (line : Raw) → IsNumbered line.number (line_of h seen line)
+line_numbered : (h : Header) (go_seen : Bool) (line : Raw) → IsNumbered line.number (line_of h go_seen line)
 unfolding line_of
-line_numbered h seen line = by (fault_of line) (judged line)
+line_numbered h go_seen line = by (fault_of line) (judged line)
   where
-    by : (fault : Option Reason) → Judged line fault → IsNumbered line.number (after_checks fault (content h seen line.bytes))
+    by : (fault : Option Reason) → Judged line fault → IsNumbered line.number (after_checks fault (content h go_seen line.bytes))
     by (Some r) fails = tt
-    by None passes = numbered line.number (content h seen line.bytes) passes.1
+    by None passes = numbered line.number (content h go_seen line.bytes) passes.1
 
 -- Line n is one line more, or none.
 one_more_line : (n : ℕ) (s : Saying) (told : List LineSaid) → n ≤ 1000000 → length (actor_lines told) ≤ 1000001 - (n + 1)
@@ -113,27 +112,27 @@ still_few : (n : ℕ) (x : Result (List LineSaid) (ℕ × Reason)) → AreFew (n
 still_few n (Ok told) rest = omega arith
 still_few n (Err e) rest = tt
 
-onto_few : (n : ℕ) (seen : Seen) (read : Result (Option Saying) Reason) (rest : Seen → Result (List LineSaid) (ℕ × Reason)) → IsNumbered n read
-    → ((now : Seen) → AreFew (n + 1) (rest now)) → AreFew n (onto n seen read rest)
-onto_few n seen (Err r) rest le all = tt
-onto_few n seen (Ok None) rest le all = still_few n (rest seen) (all seen)
-onto_few n seen (Ok (Some s)) rest le all = by (rest _) (all _)
+onto_few : (n : ℕ) (go_seen : Bool) (read : Result (Option Saying) Reason) (rest : Bool → Result (List LineSaid) (ℕ × Reason)) → IsNumbered n read
+    → ((now : Bool) → AreFew (n + 1) (rest now)) → AreFew n (onto n go_seen read rest)
+onto_few n go_seen (Err r) rest le all = tt
+onto_few n go_seen (Ok None) rest le all = still_few n (rest go_seen) (all go_seen)
+onto_few n go_seen (Ok (Some s)) rest le all = by (rest _) (all _)
   where
     by : (x : Result (List LineSaid) (ℕ × Reason)) → AreFew (n + 1) x → AreFew n (with_line n (Some s) x)
     by (Err e) more = tt
     by (Ok told) more = one_more_line n s told le more
 
-lines_few : (h : Header) (n at : ℕ) (seen : Seen) (parts : List (List ℕ)) → AreFew n (lines_of h n at seen parts)
+lines_few : (h : Header) (n at : ℕ) (go_seen : Bool) (parts : List (List ℕ)) → AreFew n (lines_of h n at go_seen parts)
 unfolding lines_of
-lines_few h n at seen [] = omega arith
-lines_few h n at seen (last ∷ []) = by (is_empty last)
+lines_few h n at go_seen [] = omega arith
+lines_few h n at go_seen (last ∷ []) = by (is_empty last)
   where
-    by : (b : Bool) → AreFew n (if b then Ok [] else onto n seen (line_of h seen (raw n at false last)) (λ now. Ok []))
+    by : (b : Bool) → AreFew n (if b then Ok [] else onto n go_seen (line_of h go_seen (raw n at false last)) (λ now. Ok []))
     by true = omega arith
-    by false = onto_few n seen (line_of h seen (raw n at false last)) (λ now. Ok []) (line_numbered h seen (raw n at false last)) (λ now. omega arith)
-lines_few h n at seen (x ∷ y ∷ more) =
-    onto_few n seen (line_of h seen (raw n at true x)) (λ now. lines_of h (n + 1) (at + (length x + 1)) now (y ∷ more))
-    (line_numbered h seen (raw n at true x)) (λ now. lines_few h (n + 1) (at + (length x + 1)) now (y ∷ more))
+    by false = onto_few n go_seen (line_of h go_seen (raw n at false last)) (λ now. Ok []) (line_numbered h go_seen (raw n at false last)) (λ now. omega arith)
+lines_few h n at go_seen (x ∷ y ∷ more) =
+    onto_few n go_seen (line_of h go_seen (raw n at true x)) (λ now. lines_of h (n + 1) (at + (length x + 1)) now (y ∷ more))
+    (line_numbered h go_seen (raw n at true x)) (λ now. lines_few h (n + 1) (at + (length x + 1)) now (y ∷ more))
 
 abbrev HasFew : Result Trace (ℕ × Reason) → Type 0
 HasFew (Ok t) = length t.lines ≤ 1000000
@@ -144,6 +143,6 @@ few_under_header h n (Ok told) le few = omega arith
 few_under_header h n (Err e) le few = tt
 
 -- The lines that are read from line n on, after the header, are 1,000,000 at most.
-pub read_few : (h : Header) (n at : ℕ) (parts : List (List ℕ)) (t : Trace) → 1 ≤ n → with_header h (lines_of h n at none_seen parts) ≡ Ok t
+pub read_few : (h : Header) (n at : ℕ) (parts : List (List ℕ)) (t : Trace) → 1 ≤ n → with_header h (lines_of h n at false parts) ≡ Ok t
     → length t.lines ≤ 1000000
-read_few h n at parts t le is = subst HasFew is (few_under_header h n (lines_of h n at none_seen parts) le (lines_few h n at none_seen parts))
+read_few h n at parts t le is = subst HasFew is (few_under_header h n (lines_of h n at false parts) le (lines_few h n at false parts))

@@ -16,7 +16,7 @@ use Rattle.trace_reader.specs.declared.saying.Saying.TheVariants.{Does, Go, Sche
 use Rattle.trace_reader.specs.Operands.{◌>>=◌}
 use Rattle.trace_reader.specs.Forms.{Said, by_form}
 use Rattle.trace_reader.specs.Items.{item_said}
-use Rattle.trace_reader.specs.Sayings.{IsSayingOf, Seen, by_first, command_said, go_said, schedule_said}
+use Rattle.trace_reader.specs.Sayings.{IsSayingOf, by_first, command_said, go_said, schedule_said}
 use Rattle.trace_reader.specs.Grammar.{AreCommandWords, IsActor, IsCommandForm, IsDeclared}
 use Rattle.trace_reader.specs.LineGrammar.{AreWordsOf, HasForm, IsUntilForm, item_words}
 use Rattle.trace_reader.proofs.Items.{ItemJudged, item_judged, item_read}
@@ -58,51 +58,51 @@ mark_no_command first rest a mark form =
     not_mark a (let f : first ≡ actor_name a = same_first first (actor_name a) rest more e in cc)
 
 -- What the words of a form say is read.
-by_the_command : (h : Header) (seen : Seen) (first : List ℕ) (rest : List (List ℕ)) → (first ≡ codes "go" → ⊥) → (first ≡ codes ">" → ⊥)
-    → by_first h seen (first ∷ rest) ≡ command_said h seen.ids (first ∷ rest)
+by_the_command : (h : Header) (go_seen : Bool) (first : List ℕ) (rest : List (List ℕ)) → (first ≡ codes "go" → ⊥) → (first ≡ codes ">" → ⊥)
+    → by_first h go_seen (first ∷ rest) ≡ command_said h (first ∷ rest)
 unfolding by_first
-by_the_command h seen first rest go mark = rw (other_word first (codes "go") go, other_word first (codes ">") mark) refl
+by_the_command h go_seen first rest go mark = rw (other_word first (codes "go") go, other_word first (codes ">") mark) refl
 
-command_read : (h : Header) (seen : Seen) (words : List (List ℕ)) (a : Actor) (c : Command) → IsHeader h → IsCommandOf h a c
-    → AreCommandWords seen.ids words a c → by_first h seen words ≡ Ok (Does a c)
+command_read : (h : Header) (go_seen : Bool) (words : List (List ℕ)) (a : Actor) (c : Command) → IsHeader h → IsCommandOf h a c
+    → AreCommandWords words a c → by_first h go_seen words ≡ Ok (Does a c)
 unfolding command_said
-command_read h seen words a c header range are =
-    let (rest, e) = command_first words a (command_form seen.ids words a c are) in
-    let said : by_form h seen.ids words ≡ Ok (a, c) = reads h seen.ids words a c header range are in
-    let first = by_the_command h seen (actor_name a) rest (not_go a) (not_mark a) in
+command_read h go_seen words a c header range are =
+    let (rest, e) = command_first words a (command_form words a c are) in
+    let said : by_form h words ≡ Ok (a, c) = reads h words a c header range are in
+    let first = by_the_command h go_seen (actor_name a) rest (not_go a) (not_mark a) in
     rw e (first ∙ rw (← e, said) refl)
 
-pub words_read : (h : Header) (seen : Seen) (words : List (List ℕ)) (s : Saying) → IsHeader h → IsSayingOf h s → AreWordsOf seen words s
-    → by_first h seen words ≡ Ok s
+pub words_read : (h : Header) (go_seen : Bool) (words : List (List ℕ)) (s : Saying) → IsHeader h → IsSayingOf h s → AreWordsOf go_seen words s
+    → by_first h go_seen words ≡ Ok s
 unfolding by_first schedule_said
-words_read h seen words (Does a c) header range are = command_read h seen words a c header range are
-words_read h seen words Go header range (first, e) = rw (e, first) refl
-words_read h seen words (Schedules item) header range (last, e, says) = rw (e, item_read h (actor_name item.actor) last item header range refl says) refl
+words_read h go_seen words (Does a c) header range are = command_read h go_seen words a c header range are
+words_read h go_seen words Go header range (first, e) = rw (e, first) refl
+words_read h go_seen words (Schedules item) header range (last, e, says) = rw (e, item_read h (actor_name item.actor) last item header range refl says) refl
 
 -- What the words say, or why they say nothing.
-abbrev pub WhyNot : Header → Seen → List (List ℕ) → Reason → Type 0
-WhyNot h seen words reason.Word = ((a : Actor) → HasForm words a → IsActor a → ⊥) × (seen.go ≡ false → words ≡ codes "go" ∷ [] → ⊥)
-WhyNot h seen words reason.Actor = (a : Actor) × HasForm words a × IsActor a × (IsDeclared h a → ⊥)
-WhyNot h seen words reason.Number = (a : Actor) × HasForm words a × IsActor a × IsDeclared h a
-WhyNot h seen words _ = ⊥
+abbrev pub WhyNot : Header → Bool → List (List ℕ) → Reason → Type 0
+WhyNot h go_seen words reason.Word = ((a : Actor) → HasForm words a → IsActor a → ⊥) × (go_seen ≡ false → words ≡ codes "go" ∷ [] → ⊥)
+WhyNot h go_seen words reason.Actor = (a : Actor) × HasForm words a × IsActor a × (IsDeclared h a → ⊥)
+WhyNot h go_seen words reason.Number = (a : Actor) × HasForm words a × IsActor a × IsDeclared h a
+WhyNot h go_seen words _ = ⊥
 
-abbrev pub WordsJudged : Header → Seen → List (List ℕ) → Result Saying Reason → Type 0
-WordsJudged h seen words (Ok s) = IsSayingOf h s × AreWordsOf seen words s
-WordsJudged h seen words (Err r) = WhyNot h seen words r
+abbrev pub WordsJudged : Header → Bool → List (List ℕ) → Result Saying Reason → Type 0
+WordsJudged h go_seen words (Ok s) = IsSayingOf h s × AreWordsOf go_seen words s
+WordsJudged h go_seen words (Err r) = WhyNot h go_seen words r
 
 one_word : (first : List ℕ) (rest : List (List ℕ)) → first ∷ rest ≡ codes "go" ∷ [] → (first ≡ codes "go") × (rest ≡ [])
 one_word first rest e = (cc, cc)
 
-go_judged : (h : Header) (seen : Seen) (first : List ℕ) (rest : List (List ℕ)) (was : Bool) → first ≡ codes "go" → seen.go ≡ was
-    → WordsJudged h seen (first ∷ rest) (go_said was rest)
-go_judged h seen first [] true go was = ((λ a form is. go_no_form first [] a go form), λ never e. cc)
-go_judged h seen first [] false go was = (tt, (was, rw go refl))
-go_judged h seen first (w ∷ ws) was go e = ((λ a form is. go_no_form first (w ∷ ws) a go form), λ never is. let n = (one_word first (w ∷ ws) is).1 in cc)
+go_judged : (h : Header) (go_seen : Bool) (first : List ℕ) (rest : List (List ℕ)) (was : Bool) → first ≡ codes "go" → go_seen ≡ was
+    → WordsJudged h go_seen (first ∷ rest) (go_said was rest)
+go_judged h go_seen first [] true go was = ((λ a form is. go_no_form first [] a go form), λ never e. cc)
+go_judged h go_seen first [] false go was = (tt, (was, rw go refl))
+go_judged h go_seen first (w ∷ ws) was go e = ((λ a form is. go_no_form first (w ∷ ws) a go form), λ never is. let n = (one_word first (w ∷ ws) is).1 in cc)
 
 -- The words behind `>`.
-not_item : (h : Header) (seen : Seen) (first : List ℕ) (rest : List (List ℕ)) → first ≡ codes ">"
-    → ((a : Actor) (last : List ℕ) → first ∷ rest ≡ item_words a last → ⊥) → WordsJudged h seen (first ∷ rest) (Err reason.Word)
-not_item h seen first rest mark never = (
+not_item : (h : Header) (go_seen : Bool) (first : List ℕ) (rest : List (List ℕ)) → first ≡ codes ">"
+    → ((a : Actor) (last : List ℕ) → first ∷ rest ≡ item_words a last → ⊥) → WordsJudged h go_seen (first ∷ rest) (Err reason.Word)
+not_item h go_seen first rest mark never = (
   (λ a form is. elim form [ inl f ↦ mark_no_command first rest a mark f | inr f ↦ never a f.0 f.1 ]),
   λ was is. let go = (one_word first rest is).0 in mark_not_go cc,
 )
@@ -110,59 +110,59 @@ not_item h seen first rest mark never = (
 item_parts : (first who last : List ℕ) (a : Actor) (other : List ℕ) → first ∷ who ∷ last ∷ [] ≡ item_words a other → (who ≡ actor_name a) × (other ≡ last)
 item_parts first who last a other e = (cc, cc)
 
-item_why : (h : Header) (seen : Seen) (first who last : List ℕ) (r : Result Item Reason) → first ≡ codes ">" → ItemJudged h who last r
-    → WordsJudged h seen (first ∷ who ∷ last ∷ []) (r >>= λ item. Ok (Schedules item))
-item_why h seen first who last (Ok item) mark (range, name, says) = (range, (last, rw (mark, name) refl, says))
-item_why h seen first who last (Err reason.Word) mark never = (
+item_why : (h : Header) (go_seen : Bool) (first who last : List ℕ) (r : Result Item Reason) → first ≡ codes ">" → ItemJudged h who last r
+    → WordsJudged h go_seen (first ∷ who ∷ last ∷ []) (r >>= λ item. Ok (Schedules item))
+item_why h go_seen first who last (Ok item) mark (range, name, says) = (range, (last, rw (mark, name) refl, says))
+item_why h go_seen first who last (Err reason.Word) mark never = (
   (λ a form is. elim form [
     | inl f ↦ mark_no_command first (who ∷ last ∷ []) a mark f
     | inr f ↦ let same = item_parts first who last a f.0 f.1 in never a is same.0 (subst IsUntilForm same.1 f.2)
   ]),
   λ was is. let go = (one_word first (who ∷ last ∷ []) is).0 in mark_not_go cc,
 )
-item_why h seen first who last (Err reason.Actor) mark (a, is, name, form, never) = (a, inr (last, rw (mark, name) refl, form), is, never)
-item_why h seen first who last (Err reason.Number) mark (a, is, name, form, known) = (a, inr (last, rw (mark, name) refl, form), is, known)
-item_why h seen first who last (Err _) mark never = absurd never
+item_why h go_seen first who last (Err reason.Actor) mark (a, is, name, form, never) = (a, inr (last, rw (mark, name) refl, form), is, never)
+item_why h go_seen first who last (Err reason.Number) mark (a, is, name, form, known) = (a, inr (last, rw (mark, name) refl, form), is, known)
+item_why h go_seen first who last (Err _) mark never = absurd never
 
-schedule_judged : (h : Header) (seen : Seen) (first : List ℕ) (rest : List (List ℕ)) → first ≡ codes ">"
-    → WordsJudged h seen (first ∷ rest) (schedule_said h rest)
+schedule_judged : (h : Header) (go_seen : Bool) (first : List ℕ) (rest : List (List ℕ)) → first ≡ codes ">"
+    → WordsJudged h go_seen (first ∷ rest) (schedule_said h rest)
 unfolding schedule_said
-schedule_judged h seen first [] mark = not_item h seen first [] mark (λ a last e. cc)
-schedule_judged h seen first (w ∷ []) mark = not_item h seen first (w ∷ []) mark (λ a last e. cc)
-schedule_judged h seen first (who ∷ last ∷ []) mark = item_why h seen first who last (item_said h who last) mark (item_judged h who last)
-schedule_judged h seen first (w ∷ x ∷ y ∷ more) mark = not_item h seen first (w ∷ x ∷ y ∷ more) mark (λ a last e. cc)
+schedule_judged h go_seen first [] mark = not_item h go_seen first [] mark (λ a last e. cc)
+schedule_judged h go_seen first (w ∷ []) mark = not_item h go_seen first (w ∷ []) mark (λ a last e. cc)
+schedule_judged h go_seen first (who ∷ last ∷ []) mark = item_why h go_seen first who last (item_said h who last) mark (item_judged h who last)
+schedule_judged h go_seen first (w ∷ x ∷ y ∷ more) mark = not_item h go_seen first (w ∷ x ∷ y ∷ more) mark (λ a last e. cc)
 
 -- An actor's words.
-lifted : (h : Header) (seen : Seen) (first : List ℕ) (rest : List (List ℕ)) (r : Reason) → (first ≡ codes "go" → ⊥) → (first ≡ codes ">" → ⊥)
-    → Why h (first ∷ rest) r → WhyNot h seen (first ∷ rest) r
-lifted h seen first rest reason.Word go mark never = (
+lifted : (h : Header) (go_seen : Bool) (first : List ℕ) (rest : List (List ℕ)) (r : Reason) → (first ≡ codes "go" → ⊥) → (first ≡ codes ">" → ⊥)
+    → Why h (first ∷ rest) r → WhyNot h go_seen (first ∷ rest) r
+lifted h go_seen first rest reason.Word go mark never = (
   (λ a form is. elim form [ inl f ↦ never a f is | inr f ↦ mark (same_first first (codes ">") rest _ f.1) ]),
   λ was is. go (one_word first rest is).0,
 )
-lifted h seen first rest reason.Actor go mark (a, form, is, never) = (a, inl form, is, never)
-lifted h seen first rest reason.Number go mark (a, form, is, known) = (a, inl form, is, known)
-lifted h seen first rest _ go mark never = absurd never
+lifted h go_seen first rest reason.Actor go mark (a, form, is, never) = (a, inl form, is, never)
+lifted h go_seen first rest reason.Number go mark (a, form, is, known) = (a, inl form, is, known)
+lifted h go_seen first rest _ go mark never = absurd never
 
-command_why : (h : Header) (seen : Seen) (first : List ℕ) (rest : List (List ℕ)) (x : Said) → (first ≡ codes "go" → ⊥) → (first ≡ codes ">" → ⊥)
-    → Judged h seen.ids (first ∷ rest) x → WordsJudged h seen (first ∷ rest) (x >>= λ p. Ok (Does p.0 p.1))
-command_why h seen first rest (Ok p) go mark is = is
-command_why h seen first rest (Err r) go mark is = lifted h seen first rest r go mark is
+command_why : (h : Header) (go_seen : Bool) (first : List ℕ) (rest : List (List ℕ)) (x : Said) → (first ≡ codes "go" → ⊥) → (first ≡ codes ">" → ⊥)
+    → Judged h (first ∷ rest) x → WordsJudged h go_seen (first ∷ rest) (x >>= λ p. Ok (Does p.0 p.1))
+command_why h go_seen first rest (Ok p) go mark is = is
+command_why h go_seen first rest (Err r) go mark is = lifted h go_seen first rest r go mark is
 
-command_judged : (h : Header) (seen : Seen) (first : List ℕ) (rest : List (List ℕ)) → (first ≡ codes "go" → ⊥) → (first ≡ codes ">" → ⊥)
-    → WordsJudged h seen (first ∷ rest) (command_said h seen.ids (first ∷ rest))
+command_judged : (h : Header) (go_seen : Bool) (first : List ℕ) (rest : List (List ℕ)) → (first ≡ codes "go" → ⊥) → (first ≡ codes ">" → ⊥)
+    → WordsJudged h go_seen (first ∷ rest) (command_said h (first ∷ rest))
 unfolding command_said
-command_judged h seen first rest go mark = command_why h seen first rest (by_form h seen.ids (first ∷ rest)) go mark (by_form_judged h seen.ids (first ∷ rest))
+command_judged h go_seen first rest go mark = command_why h go_seen first rest (by_form h (first ∷ rest)) go mark (by_form_judged h (first ∷ rest))
 
-by_word : (h : Header) (seen : Seen) (first : List ℕ) (rest : List (List ℕ)) (b c : Bool) → bytes_eq first (codes "go") ≡ b → bytes_eq first (codes ">") ≡ c
-    → WordsJudged h seen (first ∷ rest) (cond b (go_said seen.go rest) (cond c (schedule_said h rest) (command_said h seen.ids (first ∷ rest))))
-by_word h seen first rest true c go mark = go_judged h seen first rest seen.go (word_is first (codes "go") go) refl
-by_word h seen first rest false true go mark = schedule_judged h seen first rest (word_is first (codes ">") mark)
-by_word h seen first rest false false go mark = command_judged h seen first rest (differs first (codes "go") go) (differs first (codes ">") mark)
+by_word : (h : Header) (go_seen : Bool) (first : List ℕ) (rest : List (List ℕ)) (b c : Bool) → bytes_eq first (codes "go") ≡ b → bytes_eq first (codes ">") ≡ c
+    → WordsJudged h go_seen (first ∷ rest) (cond b (go_said go_seen rest) (cond c (schedule_said h rest) (command_said h (first ∷ rest))))
+by_word h go_seen first rest true c go mark = go_judged h go_seen first rest go_seen (word_is first (codes "go") go) refl
+by_word h go_seen first rest false true go mark = schedule_judged h go_seen first rest (word_is first (codes ">") mark)
+by_word h go_seen first rest false false go mark = command_judged h go_seen first rest (differs first (codes "go") go) (differs first (codes ">") mark)
 
-pub words_judged : (h : Header) (seen : Seen) (words : List (List ℕ)) → WordsJudged h seen words (by_first h seen words)
+pub words_judged : (h : Header) (go_seen : Bool) (words : List (List ℕ)) → WordsJudged h go_seen words (by_first h go_seen words)
 unfolding by_first
-words_judged h seen [] = (
+words_judged h go_seen [] = (
   (λ a form is. elim form [ inl f ↦ let (rest, e) = command_first [] a f in cc | inr f ↦ let e = f.1 in cc ]),
   λ was is. cc,
 )
-words_judged h seen (first ∷ rest) = by_word h seen first rest (bytes_eq first (codes "go")) (bytes_eq first (codes ">")) refl refl
+words_judged h go_seen (first ∷ rest) = by_word h go_seen first rest (bytes_eq first (codes "go")) (bytes_eq first (codes ">")) refl refl

@@ -1,14 +1,12 @@
 -- What the words of an actor's line say: a table by the command's word, one row and one function for each form.
-use Rattle.std.specs.Prelude.{◌%◌, ◌<◌, ◌^◌, ℕ, List, [], ◌∷◌, Bool, true, false, ◌&&◌, nat_lt, nat_le, ◌==◌, if◌then◌else◌, codes, length, Result, Ok, Err}
+use Rattle.std.specs.Prelude.{◌%◌, ◌<◌, ◌^◌, ℕ, List, [], ◌∷◌, Bool, true, false, ◌&&◌, nat_lt, ◌==◌, if◌then◌else◌, codes, length, Result, Ok, Err}
 use Rattle.std.specs.List.{slice_split}
 use Rattle.std.specs.Str.{bytes_eq}
-use Rattle.std.specs.declared.option.Option.{Option}
-use Rattle.std.specs.declared.option.Option.TheVariants.{Some, None}
 use Rattle.core_views.specs.Traces.{IsCommandOf}
 use Rattle.core_views.specs.declared.actor.Actor.{Actor}
 use Rattle.core_views.specs.declared.actor.Actor.TheVariants.{Vcpu, Host, Manager}
 use Rattle.core_views.specs.declared.trace.Command.{Command}
-use Rattle.core_views.specs.declared.trace.Command.TheVariants.{Access, SetSlot, ChangeHost}
+use Rattle.core_views.specs.declared.trace.Command.TheVariants.{Access, SetSlot, DeleteSlot, ChangeHost}
 use Rattle.core_views.specs.declared.trace.HostChange.{HostChange}
 use Rattle.core_views.specs.declared.trace.HostChange.TheVariants.{Allow, Evict, Move, Protect}
 use Rattle.core_views.specs.declared.trace.Op.TheVariants.{Read, Write, Add}
@@ -37,11 +35,11 @@ unfoldable pub add_form : Header → List ℕ → List (List ℕ) → Said
 add_form h who (x ∷ y ∷ []) = vcpu h who >>= λ n. address h x >>= λ a. number y >>= λ v. Ok (Vcpu n, Access a.0 a.1 (Add v))
 add_form h who _ = Err reason.Word
 
--- the ranges of a slot's numbers
+-- the ranges of a slot line's numbers
 abbrev pub is_slot : ℕ → ℕ → ℕ → Bool
-is_slot base pages host = nat_lt base (2 ^ 36) && nat_le 1 pages && nat_lt pages (2 ^ 36) && nat_lt host (2 ^ 36) && (host % 64 == 0)
+is_slot base pages host = nat_lt base (2 ^ 36) && nat_lt pages (2 ^ 36) && nat_lt host (2 ^ 36) && (host % 64 == 0)
 
--- the slot of `BASE PAGES HOST`
+-- the slot of `BASE PAGES HOST`, where PAGES may be 0
 unfoldable pub slot : List ℕ → List ℕ → List ℕ → Bool → Result Slot Reason
 slot base pages host read_only = do
   b ← number base
@@ -49,24 +47,23 @@ slot base pages host read_only = do
   k ← number host
   if is_slot b p k then Ok (record { base = b; pages = p; host = k; read_only = read_only }) else Err reason.Number
 
--- the number, or `number` where it was seen
-abbrev pub new_number : Bool → ℕ → Result ℕ Reason
-new_number seen n = if seen then Err reason.Number else Ok n
+-- what a line with these numbers asks for: with no pages the slot is deleted
+abbrev pub slot_command : ℕ → Slot → Command
+slot_command id slot = if slot.pages == 0 then DeleteSlot id else SetSlot id slot
 
--- `ID BASE PAGES HOST`, after `vm slot`: an ID that was seen can't be set again
-unfoldable pub setting : (ℕ → Bool) → List ℕ → List ℕ → List ℕ → List ℕ → Bool → Said
-setting seen id base pages host read_only =
-    number id >>= λ n. new_number (seen n) n >>= λ i. slot base pages host read_only >>= λ s. Ok (Manager, SetSlot i s)
+-- `ID BASE PAGES HOST`, after `vm slot`
+unfoldable pub setting : List ℕ → List ℕ → List ℕ → List ℕ → Bool → Said
+setting id base pages host read_only = number id >>= λ n. slot base pages host read_only >>= λ s. Ok (Manager, slot_command n s)
 
 -- `ID BASE PAGES HOST` and `ID BASE PAGES HOST ro`, after `vm slot`
-abbrev pub setting_form : (ℕ → Bool) → List (List ℕ) → Said
-setting_form seen (id ∷ base ∷ pages ∷ host ∷ []) = setting seen id base pages host false
-setting_form seen (id ∷ base ∷ pages ∷ host ∷ last ∷ []) = if bytes_eq last (codes "ro") then setting seen id base pages host true else Err reason.Word
-setting_form seen _ = Err reason.Word
+abbrev pub setting_form : List (List ℕ) → Said
+setting_form (id ∷ base ∷ pages ∷ host ∷ []) = setting id base pages host false
+setting_form (id ∷ base ∷ pages ∷ host ∷ last ∷ []) = if bytes_eq last (codes "ro") then setting id base pages host true else Err reason.Word
+setting_form _ = Err reason.Word
 
 -- `vm slot ID BASE PAGES HOST [ro]`
-unfoldable pub slot_form : (ℕ → Bool) → List ℕ → List (List ℕ) → Said
-slot_form seen who rest = if bytes_eq who (codes "vm") then setting_form seen rest else Err reason.Word
+unfoldable pub slot_form : List ℕ → List (List ℕ) → Said
+slot_form who rest = if bytes_eq who (codes "vm") then setting_form rest else Err reason.Word
 
 -- Each host thread may make this change by a line, of any page.
 abbrev pub HostsMake : Header → HostChange → Type 0
@@ -77,13 +74,13 @@ unfoldable pub host_form : Header → HostChange → List ℕ → List (List ℕ
 host_form h change who (x ∷ []) = host_thread h who >>= λ n. number x >>= λ page. Ok (Host n, ChangeHost page change)
 host_form h change who _ = Err reason.Word
 
--- what the words after a command's word say: one row for each form; `seen`: the IDs that slot lines before name
-unfoldable pub by_command : Header → (ℕ → Bool) → List ℕ → List ℕ → List (List ℕ) → Said
-by_command h seen who command rest =
+-- what the words after a command's word say: one row for each form
+unfoldable pub by_command : Header → List ℕ → List ℕ → List (List ℕ) → Said
+by_command h who command rest =
     if bytes_eq command (codes "read") then read_form h who rest else
     if bytes_eq command (codes "write") then write_form h who rest else
     if bytes_eq command (codes "add") then add_form h who rest else
-    if bytes_eq command (codes "slot") then slot_form seen who rest else
+    if bytes_eq command (codes "slot") then slot_form who rest else
     if bytes_eq command (codes "move") then host_form h Move who rest else
     if bytes_eq command (codes "evict") then host_form h Evict who rest else
     if bytes_eq command (codes "protect") then host_form h Protect who rest else
@@ -91,23 +88,9 @@ by_command h seen who command rest =
     Err reason.Word
 
 -- what the words of an actor's line say: its name, the command's word, and the words after it
-unfoldable pub by_form : Header → (ℕ → Bool) → List (List ℕ) → Said
-by_form h seen (who ∷ command ∷ rest) = by_command h seen who command rest
-by_form h seen _ = Err reason.Word
-
--- the ID that the command sets a slot at, if it does
-abbrev pub slot_id : Command → Option ℕ
-slot_id (SetSlot id slot) = Some id
-slot_id _ = None
-
--- There is an ID, and it is this one.
-abbrev pub has_id : Option ℕ → ℕ → Bool
-has_id None n = false
-has_id (Some m) n = m == n
-
--- The command sets a slot at this ID.
-abbrev pub sets_at : ℕ → Command → Bool
-sets_at id command = has_id (slot_id command) id
+unfoldable pub by_form : Header → List (List ℕ) → Said
+by_form h (who ∷ command ∷ rest) = by_command h who command rest
+by_form h _ = Err reason.Word
 
 -- It has no bytes.
 abbrev pub is_empty : List ℕ → Bool

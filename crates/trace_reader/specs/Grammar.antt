@@ -1,12 +1,12 @@
 -- What the words of an actor's line say, in the words of its form.
-use Rattle.std.specs.Prelude.{◌≡◌, ◌≤◌, ◌<◌, ◌+◌, ◌*◌, ◌^◌, ◌⊎◌, ◌++◌, ◌==◌, ℕ, List, [], ◌∷◌, codes, Bool, true, false, not, length, if◌then◌else◌}
+use Rattle.std.specs.Prelude.{◌≡◌, ◌≤◌, ◌<◌, ◌+◌, ◌*◌, ◌%◌, ◌^◌, ◌⊎◌, ◌++◌, ◌==◌, ℕ, List, [], ◌∷◌, codes, Bool, true, not, length, if◌then◌else◌}
 use Rattle.std.specs.List.{list_all, join_with_byte}
 use Rattle.std.specs.Fmt.{decimal}
 use Rattle.core_views.specs.Text.{actor_name}
 use Rattle.core_views.specs.declared.actor.Actor.{Actor}
 use Rattle.core_views.specs.declared.actor.Actor.TheVariants.{Vcpu, Host, Manager, Worker}
 use Rattle.core_views.specs.declared.trace.Command.{Command}
-use Rattle.core_views.specs.declared.trace.Command.TheVariants.{Access, SetSlot, ChangeHost}
+use Rattle.core_views.specs.declared.trace.Command.TheVariants.{Access, SetSlot, DeleteSlot, ChangeHost}
 use Rattle.core_views.specs.declared.trace.HostChange.{HostChange}
 use Rattle.core_views.specs.declared.trace.HostChange.TheVariants.{Allow, Evict, Move, Protect}
 use Rattle.core_views.specs.declared.trace.Op.TheVariants.{Read, Write, Add}
@@ -56,17 +56,24 @@ TellsChange w Allow = w ≡ codes "allow"
 abbrev pub host_words : ℕ → List ℕ → List ℕ → List (List ℕ)
 host_words i command p = actor_name (Host i) ∷ command ∷ p ∷ []
 
--- The words are of the command's form, and spell its numbers; an ID of a slot that was seen is none.
-abbrev pub AreCommandWords : (ℕ → Bool) → List (List ℕ) → Actor → Command → Type 0
-AreCommandWords ids words (Vcpu i) (Access gfn word Read) = (a : List ℕ) × (words ≡ read_words i a) × Spells a (4096 * gfn + 8 * word)
-AreCommandWords ids words (Vcpu i) (Access gfn word (Write v)) = (a x : List ℕ) × (words ≡ write_words i a x) × Spells a (4096 * gfn + 8 * word) × Spells x v
-AreCommandWords ids words (Vcpu i) (Access gfn word (Add v)) = (a x : List ℕ) × (words ≡ add_words i a x) × Spells a (4096 * gfn + 8 * word) × Spells x v
-AreCommandWords ids words Manager (SetSlot id slot) =
-    (i b p k : List ℕ) × (ids id ≡ false) × (words ≡ slot_words i b p k slot.read_only) × Spells i id × Spells b slot.base × Spells p slot.pages
-    × Spells k slot.host
-AreCommandWords ids words (Host i) (ChangeHost page change) =
+-- BASE and HOST are in the ranges that a slot's have.
+abbrev pub AreSlotPlaces : ℕ → ℕ → Type 0
+AreSlotPlaces base host = (base < 2 ^ 36) × (host < 2 ^ 36) × (host % 64 ≡ 0)
+
+-- The words are of the command's form, and spell its numbers. A deletion is a slot line with no pages: its command has the ID alone, so that its BASE
+-- and HOST are checked here, by the reader, and `ro` may stand in it.
+abbrev pub AreCommandWords : List (List ℕ) → Actor → Command → Type 0
+AreCommandWords words (Vcpu i) (Access gfn word Read) = (a : List ℕ) × (words ≡ read_words i a) × Spells a (4096 * gfn + 8 * word)
+AreCommandWords words (Vcpu i) (Access gfn word (Write v)) = (a x : List ℕ) × (words ≡ write_words i a x) × Spells a (4096 * gfn + 8 * word) × Spells x v
+AreCommandWords words (Vcpu i) (Access gfn word (Add v)) = (a x : List ℕ) × (words ≡ add_words i a x) × Spells a (4096 * gfn + 8 * word) × Spells x v
+AreCommandWords words Manager (SetSlot id slot) =
+    (i b p k : List ℕ) × (words ≡ slot_words i b p k slot.read_only) × Spells i id × Spells b slot.base × Spells p slot.pages × Spells k slot.host
+AreCommandWords words Manager (DeleteSlot id) =
+    (i b p k : List ℕ) × (base host : ℕ) × (read_only : Bool) × (words ≡ slot_words i b p k read_only) × Spells i id × Spells b base × Spells p 0
+    × Spells k host × AreSlotPlaces base host
+AreCommandWords words (Host i) (ChangeHost page change) =
     (command p : List ℕ) × TellsChange command change × (words ≡ host_words i command p) × Spells p page
-AreCommandWords ids words _ _ = ⊥
+AreCommandWords words _ _ = ⊥
 
 -- The word has bytes, and no space.
 pub record IsWord (w : List ℕ) : Type 0 where

@@ -1,15 +1,11 @@
 -- What an input says, over its bytes, or at which line and why it says nothing; and that the reader takes just this.
-use Rattle.std.specs.Prelude.{◌≡◌, ◌≤◌, ◌+◌, ◌⊎◌, ◌++◌, ℕ, List, [], ◌∷◌, codes, Bool, true, false, length, if◌then◌else◌, All, Ok, Err}
-use Rattle.std.specs.List.{list_any}
+use Rattle.std.specs.Prelude.{◌≡◌, ◌≤◌, ◌+◌, ◌⊎◌, ◌++◌, ℕ, List, [], ◌∷◌, codes, Bool, true, false, length, if◌then◌else◌, is_some, All, Ok, Err}
 use Rattle.core_views.specs.declared.trace.Header.{Header}
-use Rattle.core_views.specs.declared.trace.Line.{Line}
 use Rattle.core_views.specs.declared.trace.Trace.{Trace}
 use Rattle.trace_reader.specs.declared.reason.Reason.{Reason}
 use Rattle.trace_reader.specs.declared.reason.Reason.TheVariants as reason
 use Rattle.trace_reader.specs.declared.saying.Saying.{Saying}
-use Rattle.trace_reader.specs.Sayings.{Seen, is_there}
-use Rattle.trace_reader.specs.Lines.{Raw, LineSaid, none_seen, seen_with}
-use Rattle.trace_reader.specs.Forms.{sets_at}
+use Rattle.trace_reader.specs.Lines.{Raw, LineSaid, seen_with}
 use Rattle.trace_reader.specs.Gathered.{Gathers}
 use Rattle.trace_reader.specs.Reading.{reading}
 use Rattle.trace_reader.specs.GrammarRefusals.{SaysNothingFor}
@@ -39,19 +35,19 @@ abbrev pub SaysHeader : List ℕ → Header → Type 0
 SaysHeader text h = (words : List (List ℕ)) × (text ≡ spaced words) × IsHeaderSaid words h
 
 -- The texts of the lines from line n on say this: a skipped one says nothing, and each other one says something.
--- `seen`: what the lines before them say.
-abbrev pub SayLines : Header → ℕ → Seen → List (List ℕ) → List LineSaid → Type 0
-SayLines h n seen [] told = told ≡ []
-SayLines h n seen (text ∷ texts) told =
-    IsText text × ((IsSkipped text × SayLines h (n + 1) seen texts told) ⊎ ((IsSkipped text → ⊥)
-    × ((s : Saying) × (more : List LineSaid) × (told ≡ (n, s) ∷ more) × SaysLine h seen text s × SayLines h (n + 1) (seen_with seen s) texts more)))
+-- `go_seen`: whether `go` stands on a line before them.
+abbrev pub SayLines : Header → ℕ → Bool → List (List ℕ) → List LineSaid → Type 0
+SayLines h n go_seen [] told = told ≡ []
+SayLines h n go_seen (text ∷ texts) told =
+    IsText text × ((IsSkipped text × SayLines h (n + 1) go_seen texts told) ⊎ ((IsSkipped text → ⊥)
+    × ((s : Saying) × (more : List LineSaid) × (told ≡ (n, s) ∷ more) × SaysLine h go_seen text s × SayLines h (n + 1) (seen_with go_seen s) texts more)))
 
 -- The texts of an input's lines say the trace: the first its header, the others its lines, `go` and its items.
 abbrev pub SayTrace : List (List ℕ) → Trace → Type 0
 SayTrace [] t = ⊥
 SayTrace (first ∷ texts) t =
     (length (with_ends (first ∷ texts)) ≤ 16777216) × (length (first ∷ texts) ≤ 1000000) × IsText first × SaysHeader first t.header
-    × ((told : List LineSaid) × SayLines t.header 2 none_seen texts told × Gathers t told)
+    × ((told : List LineSaid) × SayLines t.header 2 false texts told × Gathers t told)
 
 -- The bytes of an input say the trace.
 abbrev pub SaysTrace : List ℕ → Trace → Type 0
@@ -84,9 +80,9 @@ FailsFirst line _ = ⊥
 abbrev pub HeaderFails : Raw → Reason → Type 0
 HeaderFails line r = FailsFirst line r ⊎ (PassesAll line × (r ≡ reason.Header) × ((h : Header) → SaysHeader line.bytes h → ⊥))
 
--- A line behind the header fails for this reason; `seen`: what the lines before it say.
-abbrev pub LineFails : Header → Seen → Raw → Reason → Type 0
-LineFails h seen line r = FailsFirst line r ⊎ (PassesAll line × (IsSkipped line.bytes → ⊥) × SaysNothingFor h seen line.bytes r)
+-- A line behind the header fails for this reason; `go_seen`: whether `go` stands on a line before.
+abbrev pub LineFails : Header → Bool → Raw → Reason → Type 0
+LineFails h go_seen line r = FailsFirst line r ⊎ (PassesAll line × (IsSkipped line.bytes → ⊥) × SaysNothingFor h go_seen line.bytes r)
 
 -- the line with this text that stands after lines with these texts
 abbrev pub line_behind : List (List ℕ) → List ℕ → Bool → Raw
@@ -96,14 +92,6 @@ line_behind before text ended = record {
   ended_by_lf = ended;
   bytes = text;
 }
-
--- the IDs that the lines set slots at
-abbrev pub set_by : List Line → ℕ → Bool
-set_by lines id = list_any (λ l. sets_at id l.command) lines
-
--- what the lines of a trace say that a line after them is judged by
-abbrev pub seen_in : Trace → Seen
-seen_in t = record { ids = set_by t.lines; go = is_there t.go }
 
 -- After lines with these texts a line with this text stands in the input: LF ends it, or nothing stands after it.
 abbrev pub HasLine : List ℕ → List (List ℕ) → List ℕ → Bool → Type 0
@@ -118,7 +106,7 @@ FirstLineFails input r = (text : List ℕ) × (ended : Bool) × HasLine input []
 abbrev pub LaterLineFails : List ℕ → ℕ → Reason → Type 0
 LaterLineFails input n r =
     (before : List (List ℕ)) × (t : Trace) × SayTrace before t × (n ≡ length before + 1) × ((text : List ℕ) × (ended : Bool)
-    × HasLine input before text ended × (ended ≡ false → text ≡ [] → ⊥) × LineFails t.header (seen_in t) (line_behind before text ended) r)
+    × HasLine input before text ended × (ended ≡ false → text ≡ [] → ⊥) × LineFails t.header (is_some t.go) (line_behind before text ended) r)
 
 -- Line n is the first of the input that fails, and fails for this reason.
 abbrev pub FailsAt : List ℕ → ℕ → Reason → Type 0

@@ -1,5 +1,5 @@
 -- What a line after the header says, with no order of checks; and that the reader takes just this.
-use Rattle.std.specs.Prelude.{◌≡◌, ◌+◌, ◌⊎◌, ◌++◌, ℕ, List, [], ◌∷◌, codes, true, false, length, Ok}
+use Rattle.std.specs.Prelude.{◌≡◌, ◌+◌, ◌⊎◌, ◌++◌, ℕ, List, [], ◌∷◌, codes, Bool, true, false, length, Ok}
 use Rattle.core_views.specs.Text.{actor_name}
 use Rattle.core_views.specs.Traces.{IsHeader}
 use Rattle.core_views.specs.declared.actor.Actor.{Actor}
@@ -10,7 +10,7 @@ use Rattle.trace_reader.specs.declared.saying.Saying.{Saying}
 use Rattle.trace_reader.specs.declared.saying.Saying.TheVariants.{Does, Go, Schedules}
 use Rattle.trace_reader.specs.Numbers.{is_digit}
 use Rattle.trace_reader.specs.Items.{begins, kind_names}
-use Rattle.trace_reader.specs.Sayings.{Seen, IsSayingOf, said}
+use Rattle.trace_reader.specs.Sayings.{IsSayingOf, said}
 use Rattle.trace_reader.specs.Grammar.{AreCommandWords, AreWords, IsActor, IsCommandForm, Spells, spaced}
 
 -- the words of `> ACTOR N`, `> ACTOR end` and `> ACTOR KIND`
@@ -27,24 +27,24 @@ SaysUntil w (Turns count) = Spells w count
 SaysUntil w Answered = w ≡ codes "end"
 SaysUntil w (Made code) = (w ≡ codes "end" → ⊥) × IsKindNamed w code
 
--- The words are those of this saying. A second `go` is none.
-abbrev pub AreWordsOf : Seen → List (List ℕ) → Saying → Type 0
-AreWordsOf seen words (Does actor command) = AreCommandWords seen.ids words actor command
-AreWordsOf seen words Go = (seen.go ≡ false) × (words ≡ codes "go" ∷ [])
-AreWordsOf seen words (Schedules item) = (last : List ℕ) × (words ≡ item_words item.actor last) × SaysUntil last item.until
+-- The words are those of this saying. A second `go` is none; `go_seen`: whether `go` stands on a line before.
+abbrev pub AreWordsOf : Bool → List (List ℕ) → Saying → Type 0
+AreWordsOf go_seen words (Does actor command) = AreCommandWords words actor command
+AreWordsOf go_seen words Go = (go_seen ≡ false) × (words ≡ codes "go" ∷ [])
+AreWordsOf go_seen words (Schedules item) = (last : List ℕ) × (words ≡ item_words item.actor last) × SaysUntil last item.until
 
 -- The bytes of a line say this: they are words of its form, its actor is declared, and its numbers are in their ranges.
--- `seen`: what the lines before it say.
-abbrev pub SaysLine : Header → Seen → List ℕ → Saying → Type 0
-SaysLine h seen bytes s = IsSayingOf h s × ((words : List (List ℕ)) × (bytes ≡ spaced words) × AreWordsOf seen words s)
+-- `go_seen`: whether `go` stands on a line before.
+abbrev pub SaysLine : Header → Bool → List ℕ → Saying → Type 0
+SaysLine h go_seen bytes s = IsSayingOf h s × ((words : List (List ℕ)) × (bytes ≡ spaced words) × AreWordsOf go_seen words s)
 
 -- What a line says is read.
 abbrev pub ReadsWhatIsSaid : Type 0
-ReadsWhatIsSaid = (h : Header) (seen : Seen) (bytes : List ℕ) (s : Saying) → IsHeader h → SaysLine h seen bytes s → said h seen bytes ≡ Ok s
+ReadsWhatIsSaid = (h : Header) (go_seen : Bool) (bytes : List ℕ) (s : Saying) → IsHeader h → SaysLine h go_seen bytes s → said h go_seen bytes ≡ Ok s
 
 -- Only what a line says is read.
 abbrev pub ReadsNothingElse : Type 0
-ReadsNothingElse = (h : Header) (seen : Seen) (bytes : List ℕ) (s : Saying) → said h seen bytes ≡ Ok s → SaysLine h seen bytes s
+ReadsNothingElse = (h : Header) (go_seen : Bool) (bytes : List ℕ) (s : Saying) → said h go_seen bytes ≡ Ok s → SaysLine h go_seen bytes s
 
 -- The last word of an item is of a form: it begins with a digit, is `end`, or names a kind of step.
 abbrev pub IsUntilForm : List ℕ → Type 0
@@ -63,5 +63,5 @@ abbrev pub IsOfForm : List ℕ → Actor → Type 0
 IsOfForm bytes actor = IsActor actor × ((words : List (List ℕ)) × (bytes ≡ spaced words) × AreWords words × HasForm words actor)
 
 -- The line is `go`, which wasn't there before.
-abbrev pub IsFirstGo : Seen → List ℕ → Type 0
-IsFirstGo seen bytes = (seen.go ≡ false) × (bytes ≡ codes "go")
+abbrev pub IsFirstGo : Bool → List ℕ → Type 0
+IsFirstGo go_seen bytes = (go_seen ≡ false) × (bytes ≡ codes "go")

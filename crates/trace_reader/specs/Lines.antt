@@ -9,8 +9,8 @@ use Rattle.trace_reader.specs.declared.reason.Reason.TheVariants as reason
 use Rattle.trace_reader.specs.declared.saying.Saying.{Saying}
 use Rattle.trace_reader.specs.declared.saying.Saying.TheVariants.{Does, Go, Schedules}
 use Rattle.trace_reader.specs.Operands.{◌>>=◌}
-use Rattle.trace_reader.specs.Forms.{is_empty, sets_at}
-use Rattle.trace_reader.specs.Sayings.{Seen, said}
+use Rattle.trace_reader.specs.Forms.{is_empty}
+use Rattle.trace_reader.specs.Sayings.{said}
 
 -- the parts of an input: LF ends each but the last
 abbrev pub parts_of : List ℕ → List (List ℕ)
@@ -56,28 +56,24 @@ abbrev pub is_skipped : List ℕ → Bool
 is_skipped [] = true
 is_skipped (b ∷ bs) = b == 35
 
--- what the bytes of a line say: nothing where it is skipped
-unfoldable pub content : Header → Seen → List ℕ → Result (Option Saying) Reason
-content h seen bytes = if is_skipped bytes then Ok None else (said h seen bytes >>= λ s. Ok (Some s))
+-- what the bytes of a line say: nothing where it is skipped; `go_seen`: whether `go` stands on a line before
+unfoldable pub content : Header → Bool → List ℕ → Result (Option Saying) Reason
+content h go_seen bytes = if is_skipped bytes then Ok None else (said h go_seen bytes >>= λ s. Ok (Some s))
 
 -- what a line after the header says
-unfoldable pub line_of : Header → Seen → Raw → Result (Option Saying) Reason
-line_of h seen raw = after_checks (fault_of raw) (content h seen raw.bytes)
+unfoldable pub line_of : Header → Bool → Raw → Result (Option Saying) Reason
+line_of h go_seen raw = after_checks (fault_of raw) (content h go_seen raw.bytes)
 
--- what was seen, with what a line says
-abbrev pub seen_with : Seen → Saying → Seen
-seen_with seen (Does actor command) = record { ids = λ id. seen.ids id || sets_at id command; go = seen.go }
-seen_with seen Go = record { ids = seen.ids; go = true }
-seen_with seen (Schedules item) = seen
+-- whether `go` was seen, where a line says this
+abbrev pub seen_with : Bool → Saying → Bool
+seen_with go_seen (Does actor command) = go_seen
+seen_with go_seen Go = true
+seen_with go_seen (Schedules item) = go_seen
 
--- before the first line
-abbrev pub none_seen : Seen
-none_seen = record { ids = λ id. false; go = false }
-
--- what was seen, with what a line says that may be skipped
-abbrev pub seen_after : Seen → Option Saying → Seen
-seen_after seen None = seen
-seen_after seen (Some s) = seen_with seen s
+-- the same, where a line may be skipped
+abbrev pub seen_after : Bool → Option Saying → Bool
+seen_after go_seen None = go_seen
+seen_after go_seen (Some s) = seen_with go_seen s
 
 -- a line's number, and what it says
 abbrev pub LineSaid : Type 0
@@ -90,16 +86,16 @@ with_line n (Some s) (Ok told) = Ok ((n, s) ∷ told)
 with_line n (Some s) (Err e) = Err e
 
 -- what line n gives and what the lines after it say, or the first refusal: its line and the reason
-abbrev pub onto : ℕ → Seen → Result (Option Saying) Reason → (Seen → Result (List LineSaid) (ℕ × Reason)) → Result (List LineSaid) (ℕ × Reason)
-onto n seen (Err r) rest = Err (n, r)
-onto n seen (Ok found) rest = with_line n found (rest (seen_after seen found))
+abbrev pub onto : ℕ → Bool → Result (Option Saying) Reason → (Bool → Result (List LineSaid) (ℕ × Reason)) → Result (List LineSaid) (ℕ × Reason)
+onto n go_seen (Err r) rest = Err (n, r)
+onto n go_seen (Ok found) rest = with_line n found (rest (seen_after go_seen found))
 
 -- line n with these bytes, behind `at` bytes of the input
 abbrev pub raw : ℕ → ℕ → Bool → List ℕ → Raw
 raw n at ended bytes = record { number = n; end = at + (length bytes + (if ended then 1 else 0)); ended_by_lf = ended; bytes = bytes }
 
--- what these parts say, of which the first has number n and stands behind `at` bytes; `seen`: what the lines before them say
-unfoldable pub lines_of : Header → ℕ → ℕ → Seen → List (List ℕ) → Result (List LineSaid) (ℕ × Reason)
-lines_of h n at seen [] = Ok []
-lines_of h n at seen (last ∷ []) = if is_empty last then Ok [] else onto n seen (line_of h seen (raw n at false last)) (λ now. Ok [])
-lines_of h n at seen (x ∷ y ∷ more) = onto n seen (line_of h seen (raw n at true x)) (λ now. lines_of h (n + 1) (at + (length x + 1)) now (y ∷ more))
+-- what these parts say, of which the first has number n and stands behind `at` bytes; `go_seen`: whether `go` stands on a line before them
+unfoldable pub lines_of : Header → ℕ → ℕ → Bool → List (List ℕ) → Result (List LineSaid) (ℕ × Reason)
+lines_of h n at go_seen [] = Ok []
+lines_of h n at go_seen (last ∷ []) = if is_empty last then Ok [] else onto n go_seen (line_of h go_seen (raw n at false last)) (λ now. Ok [])
+lines_of h n at go_seen (x ∷ y ∷ more) = onto n go_seen (line_of h go_seen (raw n at true x)) (λ now. lines_of h (n + 1) (at + (length x + 1)) now (y ∷ more))

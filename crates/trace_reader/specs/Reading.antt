@@ -13,7 +13,7 @@ use Rattle.trace_reader.specs.declared.outcome.Read.{Read}
 use Rattle.trace_reader.specs.declared.outcome.Read.TheVariants as outcome
 use Rattle.trace_reader.specs.Headers.{header_of}
 use Rattle.trace_reader.specs.Forms.{words_of}
-use Rattle.trace_reader.specs.Lines.{Raw, LineSaid, parts_of, fault_of, after_checks, lines_of, none_seen}
+use Rattle.trace_reader.specs.Lines.{Raw, LineSaid, parts_of, fault_of, after_checks, lines_of}
 use Rattle.trace_reader.specs.Gathered.{actor_lines, go_in, items_in}
 
 -- what line 1 says
@@ -39,7 +39,7 @@ unfoldable pub reading_of : List (List ℕ) → Result Trace (ℕ × Reason)
 reading_of [] = Err (1, reason.Header)
 reading_of (last ∷ []) = under (head_of (record { number = 1; end = length last; ended_by_lf = false; bytes = last })) (λ h. Ok [])
 reading_of (x ∷ y ∷ more) =
-    under (head_of (record { number = 1; end = length x + 1; ended_by_lf = true; bytes = x })) (λ h. lines_of h 2 (length x + 1) none_seen (y ∷ more))
+    under (head_of (record { number = 1; end = length x + 1; ended_by_lf = true; bytes = x })) (λ h. lines_of h 2 (length x + 1) false (y ∷ more))
 
 -- what an input says: its trace, or the first line that is refused, and the reason
 unfoldable pub reading : List ℕ → Result Trace (ℕ × Reason)

@@ -1,7 +1,5 @@
 -- What a function returns that reads a line or an input, where memory may run out.
 use Rattle.std.specs.Prelude.{◌≡◌, ◌≤◌, ◌++◌, ℕ, List, [], ◌∷◌, All, IfSome, length, Result, Ok, Err}
-use Rattle.std.specs.BTreeSet.{contains}
-use Rattle.std.specs.Ordering.{nat_cmp}
 use Rattle.std.specs.declared.option.Option.{Option}
 use Rattle.std.specs.declared.option.Option.TheVariants.{Some}
 use Rattle.core_views.specs.Traces.{AreLinesOf, IsItemOf}
@@ -9,14 +7,12 @@ use Rattle.core_views.specs.declared.trace.Header.{Header}
 use Rattle.core_views.specs.declared.trace.Item.{Item}
 use Rattle.core_views.specs.declared.trace.Line.{Line}
 use Rattle.core_views.specs.declared.trace.Trace.{Trace}
-use Rattle.trace_reader.specs.declared.before.Body.{Body}
+use Rattle.trace_reader.specs.declared.body.Body.{Body}
 use Rattle.trace_reader.specs.declared.reason.Reason.{Reason}
 use Rattle.trace_reader.specs.declared.refusal.ReadError.{ReadError}
 use Rattle.trace_reader.specs.declared.refusal.ReadError.TheVariants as errors
 use Rattle.trace_reader.specs.declared.saying.Saying.{Saying}
 use Rattle.trace_reader.specs.declared.saying.Saying.TheVariants.{Does, Go, Schedules}
-use Rattle.trace_reader.specs.Lines.{seen_after}
-use Rattle.trace_reader.specs.Sayings.{seen_of}
 
 -- Want of memory is free; another error is the one that reading gives.
 abbrev pub Fails : {Y : Type 0} → ℕ → ReadError → Result Y Reason → Type 0
@@ -53,8 +49,7 @@ with_go count go _ = go
 pub record IsPut (before after : Body) (n : ℕ) (found : Option Saying) : Type 0 where
   pub lines : after.lines.items ≡ with_found before.lines.items n found
   pub items : after.items.items ≡ with_item before.items.items found
-  pub go : after.before.go ≡ with_go (length before.lines.items) before.before.go found
-  pub ids : (id : ℕ) → contains nat_cmp after.before.ids id ≡ (seen_after (seen_of before.before) found).ids id
+  pub go : after.go ≡ with_go (length before.lines.items) before.go found
 
 -- The same, unless memory ran out.
 abbrev pub PutsSaying : Body → Body → ℕ → Option Saying → Result (Unit {0}) ReadError → Type 0
@@ -63,10 +58,10 @@ PutsSaying before after n found (Err e) = e ≡ errors.NoMemory
 
 -- the trace of this header and what was read after it
 abbrev pub trace_with : Header → Body → Trace
-trace_with h b = record { header = h; lines = b.lines.items; go = b.before.go; items = b.items.items }
+trace_with h b = record { header = h; lines = b.lines.items; go = b.go; items = b.items.items }
 
 -- What was read is in its ranges.
 pub record IsBodyOf (h : Header) (b : Body) : Type 0 where
   pub lines : AreLinesOf h b.lines.items
   pub items : All (IsItemOf h) b.items.items
-  pub go : IfSome b.before.go (λ above. above ≤ length b.lines.items)
+  pub go : IfSome b.go (λ above. above ≤ length b.lines.items)

@@ -1,16 +1,15 @@
 ghost use Rattle.std.specs.Prelude.{◌≡◌, ◌≤◌, ◌<◌, ◌^◌, length, map, IfOk};
-ghost use Rattle.std.specs.BTreeSet.{contains};
-ghost use Rattle.std.specs.Ordering.{nat_cmp};
 ghost use Rattle.std.specs.Str.{bytes_eq};
-ghost use Rattle.core_views.specs.Traces.{IsCommandOf, IsSlotInRange};
+ghost use Rattle.core_views.specs.Traces.{IsCommandOf};
+ghost use Rattle.core_views.specs.declared.actor.Actor.TheVariants.{Manager};
 ghost use Rattle.trace_reader.specs.Operands.{indexed, vcpu, host_thread, address, number as number_word};
-ghost use Rattle.trace_reader.specs.Forms.{new_number, slot, setting, read_form, write_form, add_form, slot_form, HostsMake, host_form, by_command};
-ghost use Rattle.trace_reader.specs.Forms.{by_form, slot_id as slot_id_of};
+ghost use Rattle.trace_reader.specs.Forms.{slot, slot_command, setting, read_form, write_form, add_form, slot_form, HostsMake, host_form, by_command};
+ghost use Rattle.trace_reader.specs.Forms.{by_form};
+ghost use Rattle.trace_reader.specs.Grammar.{AreSlotPlaces};
 
 use crate::Reason;
 use crate::number::{decimal, number};
 use core_views::{Actor, Command, Header, HostChange, Op, Slot};
-use std::collections::BTreeSet;
 
 /// Whether the word is this name.
 pub fn is(word: &[u8], name: &str) -> bool
@@ -131,12 +130,13 @@ fn add_said(header: &Header, who: &[u8], rest: &[&[u8]]) -> Result<(Actor, Comma
 #[tactic(auto, unfolding(crate::specs::Forms::slot))]
 fn slot_of(base: &[u8], pages: &[u8], host: &[u8], read_only: bool) -> Result<Slot, Reason>
     ensures value { result ≡ slot base.now pages.now host.now read_only }
-    ensures allowed { IfOk result (λ s. IsSlotInRange s) }
+    ensures pages { IfOk result (λ s. s.pages < 2 ^ 36) }
+    ensures places { IfOk result (λ s. AreSlotPlaces s.base s.host) }
 {
     let base = number_of(base)?;
     let pages = number_of(pages)?;
     let host = number_of(host)?;
-    if base >= 1 << 36 || pages < 1 || pages >= 1 << 36 {
+    if base >= 1 << 36 || pages >= 1 << 36 {
         return Err(Reason::Number);
     }
     if host >= 1 << 36 || host % 64 != 0 {
@@ -150,51 +150,49 @@ fn slot_of(base: &[u8], pages: &[u8], host: &[u8], read_only: bool) -> Result<Sl
     })
 }
 
-// The number, which none of those that were seen may be.
-fn new_number(seen: &BTreeSet<u64>, number: u64) -> Result<u64, Reason>
-    ensures { result ≡ new_number (contains nat_cmp seen.now number) number }
+// What a line with these numbers asks for: with no pages the slot is deleted.
+fn slot_command(header: &Header, id: u64, slot: &Slot) -> Command
+    requires pages { slot.now.pages < 2 ^ 36 }
+    requires places { AreSlotPlaces slot.now.base slot.now.host }
+    ensures value { result ≡ slot_command id slot.now }
+    ensures allowed { IsCommandOf header.now Manager result }
 {
-    if seen.contains(&number) {
-        return Err(Reason::Number);
+    if slot.pages == 0 {
+        Command::DeleteSlot { id }
+    } else {
+        Command::SetSlot { id, slot: *slot }
     }
-    Ok(number)
 }
 
 #[tactic(auto, unfolding(crate::specs::Forms::setting))]
 fn setting_said(
     header: &Header,
-    seen: &BTreeSet<u64>,
     id: &[u8],
     base: &[u8],
     pages: &[u8],
     host: &[u8],
     read_only: bool,
 ) -> Result<(Actor, Command), Reason>
-    ensures value { result ≡ setting (contains nat_cmp seen.now) id.now base.now pages.now host.now read_only }
+    ensures value { result ≡ setting id.now base.now pages.now host.now read_only }
     ensures allowed { IfOk result (λ x. IsCommandOf header.now x.0 x.1) }
 {
-    let id = new_number(seen, number_of(id)?)?;
+    let id = number_of(id)?;
     let slot = slot_of(base, pages, host, read_only)?;
-    Ok((Actor::Manager, Command::SetSlot { id, slot }))
+    Ok((Actor::Manager, slot_command(header, id, &slot)))
 }
 
 #[tactic(auto, unfolding(crate::specs::Forms::slot_form))]
-fn slot_said(
-    header: &Header,
-    seen: &BTreeSet<u64>,
-    who: &[u8],
-    rest: &[&[u8]],
-) -> Result<(Actor, Command), Reason>
-    ensures value { result ≡ slot_form (contains nat_cmp seen.now) who.now (map (λ w. w.now) rest.now) }
+fn slot_said(header: &Header, who: &[u8], rest: &[&[u8]]) -> Result<(Actor, Command), Reason>
+    ensures value { result ≡ slot_form who.now (map (λ w. w.now) rest.now) }
     ensures allowed { IfOk result (λ x. IsCommandOf header.now x.0 x.1) }
 {
     if !is(who, "vm") {
         return Err(Reason::Word);
     }
     match rest {
-        [id, base, pages, host] => setting_said(header, seen, id, base, pages, host, false),
+        [id, base, pages, host] => setting_said(header, id, base, pages, host, false),
         [id, base, pages, host, last] if is(last, "ro") => {
-            setting_said(header, seen, id, base, pages, host, true)
+            setting_said(header, id, base, pages, host, true)
         }
         _ => Err(Reason::Word),
     }
@@ -224,13 +222,12 @@ fn host_said(
 #[tactic(auto, unfolding(crate::specs::Forms::by_command))]
 fn command_said(
     header: &Header,
-    seen: &BTreeSet<u64>,
     who: &[u8],
     command: &[u8],
     rest: &[&[u8]],
 ) -> Result<(Actor, Command), Reason>
     requires { header.now.words ≤ 8 }
-    ensures value { result ≡ by_command header.now (contains nat_cmp seen.now) who.now command.now (map (λ w. w.now) rest.now) }
+    ensures value { result ≡ by_command header.now who.now command.now (map (λ w. w.now) rest.now) }
     ensures allowed { IfOk result (λ x. IsCommandOf header.now x.0 x.1) }
 {
     if is(command, "read") {
@@ -243,7 +240,7 @@ fn command_said(
         return add_said(header, who, rest);
     }
     if is(command, "slot") {
-        return slot_said(header, seen, who, rest);
+        return slot_said(header, who, rest);
     }
     if is(command, "move") {
         return host_said(header, HostChange::Move, who, rest);
@@ -262,27 +259,13 @@ fn command_said(
 
 /// What the words of an actor's line say: the actor and its command.
 #[tactic(auto, unfolding(crate::specs::Forms::by_form))]
-pub fn form_said(
-    header: &Header,
-    seen: &BTreeSet<u64>,
-    words: &[&[u8]],
-) -> Result<(Actor, Command), Reason>
+pub fn form_said(header: &Header, words: &[&[u8]]) -> Result<(Actor, Command), Reason>
     requires { header.now.words ≤ 8 }
-    ensures value { result ≡ by_form header.now (contains nat_cmp seen.now) (map (λ w. w.now) words.now) }
+    ensures value { result ≡ by_form header.now (map (λ w. w.now) words.now) }
     ensures allowed { IfOk result (λ x. IsCommandOf header.now x.0 x.1) }
 {
     match words {
-        [who, command, rest @ ..] => command_said(header, seen, who, command, rest),
+        [who, command, rest @ ..] => command_said(header, who, command, rest),
         _ => Err(Reason::Word),
-    }
-}
-
-/// The ID that the command sets a slot at, if it does.
-pub fn slot_id(command: &Command) -> Option<u64>
-    ensures { result ≡ slot_id_of command.now }
-{
-    match *command {
-        Command::SetSlot { id, .. } => Some(id),
-        _ => None,
     }
 }

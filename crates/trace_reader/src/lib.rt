@@ -2,7 +2,7 @@
 //! is refused and the reason.
 #![tactic(auto)]
 
-mod before;
+mod body;
 mod form;
 mod grammar;
 mod header;

@@ -1,12 +1,11 @@
 ghost use Rattle.std.specs.Prelude.{◌≡◌, ◌≤◌, ◌==◌, ℕ, map, IfOk, IfSome, OnOk, IfNone};
 ghost use Rattle.std.specs.List.{list_all};
 ghost use Rattle.trace_reader.specs.Forms.{words_of};
-ghost use Rattle.trace_reader.specs.Sayings.{IsSayingOf, seen_of, said as said_of};
+ghost use Rattle.trace_reader.specs.Sayings.{IsSayingOf, said as said_of};
 ghost use Rattle.trace_reader.specs.Lines.{is_plain, is_skipped as is_skipped_line, fault_of, content, line_of};
 ghost use Rattle.trace_reader.specs.Steps.{ReadsTo};
 
 use crate::Reason;
-use crate::before::Before;
 use crate::refusal::ReadError;
 use crate::saying::{Saying, words_said};
 use core_views::Header;
@@ -74,16 +73,16 @@ fn is_skipped(bytes: &[u8]) -> bool
 fn said(
     alloc: Global,
     header: &Header,
-    before: &Before,
+    go_seen: bool,
     number: u32,
     bytes: &[u8],
 ) -> Result<Saying, ReadError>
     requires { header.now.words ≤ 8 }
-    ensures read { ReadsTo number (λ s. s) result (said_of header.now (seen_of before.now) bytes.now) }
+    ensures read { ReadsTo number (λ s. s) result (said_of header.now go_seen bytes.now) }
     ensures allowed { IfOk result (λ s. IsSayingOf header.now s) }
 {
     let words = words(alloc, bytes)?;
-    match words_said(header, before, &words) {
+    match words_said(header, go_seen, &words) {
         Ok(says) => Ok(says),
         Err(reason) => Err(ReadError::Refused {
             line: number,
@@ -96,29 +95,30 @@ fn said(
 fn content_of(
     alloc: Global,
     header: &Header,
-    before: &Before,
+    go_seen: bool,
     number: u32,
     bytes: &[u8],
 ) -> Result<Option<Saying>, ReadError>
     requires { header.now.words ≤ 8 }
-    ensures read { ReadsTo number (λ x. x) result (content header.now (seen_of before.now) bytes.now) }
+    ensures read { ReadsTo number (λ x. x) result (content header.now go_seen bytes.now) }
     ensures allowed { IfOk result (λ found. IfSome found (λ s. IsSayingOf header.now s)) }
 {
     if is_skipped(bytes) {
         return Ok(None);
     }
-    match said(alloc, header, before, number, bytes) {
+    match said(alloc, header, go_seen, number, bytes) {
         Ok(says) => Ok(Some(says)),
         Err(error) => Err(error),
     }
 }
 
-/// What a line after the header says, if it is not skipped.
+/// What a line after the header says, if it is not skipped; `go_seen`: whether
+/// `go` stands on a line before.
 #[tactic(auto, unfolding(crate::specs::Lines::line_of))]
 pub fn line(
     alloc: Global,
     header: &Header,
-    before: &Before,
+    go_seen: bool,
     number: u32,
     end: usize,
     ended: bool,
@@ -127,7 +127,7 @@ pub fn line(
     requires { header.now.words ≤ 8 }
     ensures small { OnOk result (end ≤ 16777216) }
     ensures read { ReadsTo number (λ x. x) result
-        (line_of header.now (seen_of before.now) (record { number = number; end = end; ended_by_lf = ended; bytes = bytes.now })) }
+        (line_of header.now go_seen (record { number = number; end = end; ended_by_lf = ended; bytes = bytes.now })) }
     ensures allowed { IfOk result (λ found. IfSome found (λ s. IsSayingOf header.now s)) }
 {
     if let Some(reason) = fault(number, end, ended, bytes) {
@@ -136,5 +136,5 @@ pub fn line(
             reason,
         });
     }
-    content_of(alloc, header, before, number, bytes)
+    content_of(alloc, header, go_seen, number, bytes)
 }

@@ -1,10 +1,10 @@
 ghost use Rattle.std.specs.Prelude.{◌≡◌, ◌≤◌, ◌<◌, ◌+◌, ◌==◌, ◌^◌, [], ◌∷◌, length, false, if◌then◌else◌, OnOk, IfOk};
 ghost use Rattle.std.specs.List.{position};
-ghost use Rattle.trace_reader.specs.Lines.{parts_of, lines_of, none_seen};
+ghost use Rattle.trace_reader.specs.Lines.{parts_of, lines_of};
 ghost use Rattle.trace_reader.specs.Reading.{with_header};
 ghost use Rattle.trace_reader.specs.Steps.{NamesLine, IsBodyOf, trace_with};
 
-use crate::before::Body;
+use crate::body::Body;
 use crate::line::line;
 use crate::refusal::ReadError;
 use core_views::Header;
@@ -50,7 +50,7 @@ pub fn lines(
     requires begun { at ≤ 16777216 }
     requires number { number ≤ at + 2 }
     ensures small { OnOk result (at + length bytes.now ≤ 16777216) }
-    ensures read { NamesLine (trace_with header.now) result (with_header header.now (lines_of header.now number at none_seen (parts_of bytes.now))) }
+    ensures read { NamesLine (trace_with header.now) result (with_header header.now (lines_of header.now number at false (parts_of bytes.now))) }
     ensures allowed { IfOk result (λ body. IsBodyOf header.now body) }
 {
     let mut body = Body::new(alloc);
@@ -60,7 +60,7 @@ pub fn lines(
     while !rest.is_empty() {
         let (text, ended, after) = first_line(rest);
         at += taken(text, ended);
-        let found = line(alloc, header, &body.before, number, at, ended, text)?;
+        let found = line(alloc, header, body.go.is_some(), number, at, ended, text)?;
         body.put(number, found)?;
         number += 1;
         rest = after;

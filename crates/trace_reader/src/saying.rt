@@ -1,10 +1,9 @@
 ghost use Rattle.std.specs.Prelude.{◌≡◌, ◌≤◌, map, IfOk};
 ghost use Rattle.std.specs.List.{list_any};
 ghost use Rattle.trace_reader.specs.Forms.{is_empty};
-ghost use Rattle.trace_reader.specs.Sayings.{IsSayingOf, by_first, by_words, command_said, go_said, is_there, schedule_said, seen_of};
+ghost use Rattle.trace_reader.specs.Sayings.{IsSayingOf, by_first, by_words, command_said, go_said, schedule_said};
 
 use crate::Reason;
-use crate::before::Before;
 use crate::form::{form_said, is};
 use crate::item::item_of;
 use core_views::{Actor, Command, Header, Item};
@@ -20,10 +19,10 @@ pub enum Saying {
     Schedules(Item),
 }
 
-fn go_of(before: &Before, rest: &[&[u8]]) -> Result<Saying, Reason>
-    ensures { result ≡ go_said (is_there before.now.go) (map (λ w. w.now) rest.now) }
+fn go_of(go_seen: bool, rest: &[&[u8]]) -> Result<Saying, Reason>
+    ensures { result ≡ go_said go_seen (map (λ w. w.now) rest.now) }
 {
-    if rest.is_empty() && before.go.is_none() {
+    if rest.is_empty() && !go_seen {
         Ok(Saying::Go)
     } else {
         Err(Reason::Word)
@@ -45,31 +44,31 @@ fn schedule_of(header: &Header, rest: &[&[u8]]) -> Result<Saying, Reason>
 }
 
 #[tactic(auto, unfolding(crate::specs::Sayings::command_said))]
-fn command_of(header: &Header, before: &Before, words: &[&[u8]]) -> Result<Saying, Reason>
+fn command_of(header: &Header, words: &[&[u8]]) -> Result<Saying, Reason>
     requires { header.now.words ≤ 8 }
-    ensures value { result ≡ command_said header.now (seen_of before.now).ids (map (λ w. w.now) words.now) }
+    ensures value { result ≡ command_said header.now (map (λ w. w.now) words.now) }
     ensures allowed { IfOk result (λ s. IsSayingOf header.now s) }
 {
-    let (actor, command) = form_said(header, &before.ids, words)?;
+    let (actor, command) = form_said(header, words)?;
     Ok(Saying::Does { actor, command })
 }
 
 #[tactic(auto, unfolding(crate::specs::Sayings::by_first))]
-fn first_said(header: &Header, before: &Before, words: &[&[u8]]) -> Result<Saying, Reason>
+fn first_said(header: &Header, go_seen: bool, words: &[&[u8]]) -> Result<Saying, Reason>
     requires { header.now.words ≤ 8 }
-    ensures value { result ≡ by_first header.now (seen_of before.now) (map (λ w. w.now) words.now) }
+    ensures value { result ≡ by_first header.now go_seen (map (λ w. w.now) words.now) }
     ensures allowed { IfOk result (λ s. IsSayingOf header.now s) }
 {
     let [first, rest @ ..] = words else {
         return Err(Reason::Word);
     };
     if is(first, "go") {
-        return go_of(before, rest);
+        return go_of(go_seen, rest);
     }
     if is(first, ">") {
         return schedule_of(header, rest);
     }
-    command_of(header, before, words)
+    command_of(header, words)
 }
 
 fn has_empty(words: &[&[u8]]) -> bool
@@ -87,14 +86,14 @@ fn has_empty(words: &[&[u8]]) -> bool
 
 /// What a line says, by its words.
 #[tactic(auto, unfolding(crate::specs::Sayings::by_words))]
-pub fn words_said(header: &Header, before: &Before, words: &[&[u8]]) -> Result<Saying, Reason>
+pub fn words_said(header: &Header, go_seen: bool, words: &[&[u8]]) -> Result<Saying, Reason>
     requires { header.now.words ≤ 8 }
-    ensures value { result ≡ by_words header.now (seen_of before.now) (map (λ w. w.now) words.now) }
+    ensures value { result ≡ by_words header.now go_seen (map (λ w. w.now) words.now) }
     ensures allowed { IfOk result (λ s. IsSayingOf header.now s) }
 {
     if has_empty(words) {
         Err(Reason::Word)
     } else {
-        first_said(header, before, words)
+        first_said(header, go_seen, words)
     }
 }

@@ -125,7 +125,7 @@ replays trace lines start end_ printed is_start r prints =
 pub writes_none : (trace : Trace) (before : Option (List ℕ)) → IsTrace trace → (closing : World Held) × WritesLines trace closing before before (Err NoMemory)
 writes_none trace before good =
     let z : Sizes = sizes_of trace.header in
-    let made = a_start z trace.lines (header_sizes trace.header good.header) good.lines good.distinct good.few in
+    let made = a_start z trace.lines (header_sizes trace.header good.header) good.lines good.few in
     let none = ran_first z trace.lines 0 made.0 made.0 [] (between_at_start z trace.lines made.0 made.1) in (
       made.0,
       (

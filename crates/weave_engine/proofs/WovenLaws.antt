@@ -284,5 +284,5 @@ module _ (trace : Trace) (limit : ℕ) (start : World Held) (is_start : IsStart 
 pub no_machine : (trace : Trace) (limit : ℕ) (before : Option (List ℕ)) → IsTrace trace
     → (closing : World Held) × WritesUntil Full trace limit closing before before
 no_machine trace limit before good =
-    let made = a_start (sizes_of trace.header) trace.lines (header_sizes trace.header good.header) good.lines good.distinct good.few in
+    let made = a_start (sizes_of trace.header) trace.lines (header_sizes trace.header good.header) good.lines good.few in
     (made.0, ([], nothing_ran trace limit made.0 made.1, so_far_most before before [] [] (none_put before [] (omega arith))))

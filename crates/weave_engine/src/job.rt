@@ -36,7 +36,9 @@ impl LineJob {
                 op: *op,
             }),
             Command::ChangeHost { .. } => LineJob::Host(HostJob { index }),
-            Command::SetSlot { .. } => LineJob::SlotChange(SlotJob { index }),
+            Command::SetSlot { .. } | Command::DeleteSlot { .. } => {
+                LineJob::SlotChange(SlotJob { index })
+            }
         }
     }
 

@@ -3,7 +3,9 @@ ghost use Rattle.flat_model.specs.Kept.{IsInRange};
 
 use core_views::HostChange::{Allow, Evict, Move, Protect};
 use core_views::Op::{Add, Read, Write};
-use core_views::Refusal::{BadId, Fixed, HostOverlap, NoFrame, OutOfRange, Overlap, TooLarge};
+use core_views::Refusal::{
+    BadId, Fixed, HostOverlap, Missing, NoFrame, OutOfRange, Overlap, TooLarge,
+};
 use core_views::{
     Actor, Answer, Command, Header, HostChange, Line, Lines, NoMemory, Op, Refusal, Slot, Trace,
     Words,
@@ -13,11 +15,12 @@ use std::alloc::Global;
 use std::test::Fail;
 
 // A line of the manager that sets a slot of 16 pages, by its ID, first guest frame, first host
-// page and whether it is read only; of a virtual processor at a word of a guest frame; and of a
-// host thread.
+// page and whether it is read only, or that deletes one; of a virtual processor at a word of a guest
+// frame; and of a host thread.
 #[derive(Clone, Copy, Drop)]
 enum Row {
     Slot(u64, u64, u64, bool),
+    Delete(u64),
     Access(u64, u8, Op),
     Host(u8, u64, HostChange),
 }
@@ -75,6 +78,10 @@ fn answer_to(alloc: Global, plain: &mut Plain, row: Row) -> Result<Answer, Fail>
                 read_only,
             };
             set_slot(alloc, plain, id, slot)
+        }
+        Row::Delete(id) => {
+            let command = Command::DeleteSlot { id };
+            Ok(run(alloc, plain, Actor::Manager, command)?)
         }
         Row::Access(gfn, word, op) => {
             let command = Command::Access { gfn, word, op };
@@ -138,6 +145,33 @@ fn answers_line_by_line(rt: HostRuntime) -> Result<(), Fail> {
         (Row::Access(16, 0, Read), Answer::Mmio),
         (Row::Access(33, 0, Write(1)), Answer::Mmio),
         (Row::Access(33, 0, Read), reached(65, 0)),
+    ];
+    assert_eq!(rt; first_other(rt.alloc(), 1040, &[0], &rows)?, None);
+    Ok(())
+}
+
+// The slot moves, over a part of its old guest frames, and stays where it is set again; it is deleted,
+// and its host pages, with their content, are another slot's.
+#[test]
+fn moves_a_slot_and_deletes_it(rt: HostRuntime) -> Result<(), Fail> {
+    let rows = [
+        (Row::Delete(0), refused(Missing)),
+        (Row::Delete(32), refused(BadId)),
+        (SLOT, Answer::Done),
+        (Row::Access(9, 0, Write(7)), reached(9, 0)),
+        (Row::Slot(0, 8, 0, false), Answer::Done),
+        (Row::Slot(0, 8, 0, false), Answer::Done),
+        (Row::Access(9, 0, Read), reached(1, 0)),
+        (Row::Access(17, 0, Read), reached(9, 7)),
+        (Row::Access(7, 0, Read), Answer::Mmio),
+        (Row::Slot(1, 23, 64, false), refused(Overlap)),
+        (Row::Delete(0), Answer::Done),
+        (Row::Delete(0), refused(Missing)),
+        (Row::Access(17, 0, Read), Answer::Mmio),
+        (Row::Slot(1, 23, 64, false), Answer::Done),
+        (Row::Slot(0, 100, 0, true), Answer::Done),
+        (Row::Access(109, 0, Read), reached(9, 7)),
+        (Row::Access(109, 0, Add(1)), Answer::Mmio),
     ];
     assert_eq!(rt; first_other(rt.alloc(), 1040, &[0], &rows)?, None);
     Ok(())

@@ -67,8 +67,8 @@ returns-clause-scopes c z lines w ss R actor page there opened of_page =
     open_frames_are_of_the_page z _ actor page (sound z lines w ss R) there opened of_page
 
 pub returns-clause-zapped : goal.returns-clause-zapped
-returns-clause-zapped c z lines w ss R actor gfn entry small there opened asked is_in leads leaf =
-    open_frames_are_zapped z _ actor gfn entry small (sound z lines w ss R) there opened asked is_in leads leaf
+returns-clause-zapped c z lines w ss R actor gfn entry there opened asked is_in leads leaf =
+    open_frames_are_zapped z _ actor gfn entry (sound z lines w ss R) there opened asked is_in leads leaf
 
 pub returns-clause-flushed : goal.returns-clause-flushed
 returns-clause-flushed c z lines w ss R actor v there opened low awaited may =

@@ -1,6 +1,6 @@
 -- Each step of a part keeps the counters of what actors hold within what they count, and so the span of a walk's table.
-use Rattle.std.proofs.Common.{◌≡◌, ◌+◌, ◌*◌, ◌/◌, ◌%◌, ◌^◌, ◌<◌, ◌≤◌, ℕ, refl, sym, subst, ap, arith}
-use Rattle.std.specs.Prelude.{Bool, true, false, ◌==◌, ◌&&◌, not, if◌then◌else◌, Option, Some, None, is_some}
+use Rattle.std.proofs.Common.{◌≡◌, ◌+◌, ◌^◌, ◌<◌, ◌≤◌, ℕ, refl, sym, subst, ap, arith}
+use Rattle.std.specs.Prelude.{Bool, true, false, ◌==◌, ◌&&◌, not, if◌then◌else◌, None, is_some}
 use Rattle.core_views.specs.declared.place.SlotField.{SlotField}
 use Rattle.core_views.specs.declared.place.SlotField.TheVariants as field
 use Rattle.core_views.specs.declared.sizes.Sizes.{Sizes}
@@ -15,7 +15,6 @@ use Rattle.core_views.specs.Held.{Held}
 use Rattle.core_views.specs.Sizes.{actors_of}
 use Rattle.spte_words.specs.declared.area.Area.TheVariants as area
 use Rattle.spte_words.specs.Areas.{pool_index, words_of_bits}
-use Rattle.spte_words.specs.Entries.{kind_of, level_span}
 use Rattle.spte_words.specs.Flags.{flags_live}
 use Rattle.part_steps.specs.SweepTopics.{gone_up}
 use Rattle.part_steps.specs.declared.part_step.PartStep.{PartStep}
@@ -27,16 +26,16 @@ use Rattle.spte_words.specs.HostWords.{host_frame}
 use Rattle.part_steps.specs.PartTasks.{entry_index, leaf_written, link_written, table_page, word_looked}
 use Rattle.part_steps.specs.PartHoldings.{IsOver}
 use Rattle.mmu_core.specs.invariant.TopicsInvariant.{TopicsInvariant}
-use Rattle.part_steps.specs.StayTopics.{begun, is_loose, kept_search, let_go, may_walk}
-use Rattle.part_steps.specs.WalkTopics.{gone_down, linked_page, swapped, walked}
+use Rattle.part_steps.specs.StayTopics.{begun, is_loose, kept_search, may_walk}
+use Rattle.part_steps.specs.WalkTopics.{walked}
 use Rattle.part_steps.specs.PageTopics.{is_won, searched, searched_at}
-use Rattle.part_steps.specs.ControlTopics.{at_root}
 use Rattle.part_steps.specs.ControlBits.{in_section}
 use Rattle.mmu_core.specs.machine.View.{View, part_stepped, upd}
 use Rattle.core_views.specs.declared.topics.Flush.{Flush}
 use Rattle.mmu_core.proofs.held.FrameCounters.{changed_frames, copied_frames, given_frames, map_frames, stored_frames, tried_frames}
 use Rattle.mmu_core.proofs.held.FrameCounters.{flush_few, one_more, one_more_unless, seq_few, tried_at, tried_seen}
 use Rattle.mmu_core.proofs.held.InvalidationsKept.{count_few, counts_behind}
+use Rattle.mmu_core.proofs.held.WalkSpans.{SpanFits, exchanged_span, gone_span, let_go_span, root_span}
 use Rattle.mmu_core.proofs.machine.Columns.{at_upd}
 use Rattle.mmu_core.proofs.machine.PartStepping.{IsPart}
 use Rattle.mmu_core.proofs.words.PartTopics.{behind_step, part_behind}
@@ -60,10 +59,6 @@ slot_counts false s v le = omega (arith, le)
 pub all_count : (z : Sizes) (v : View) (a : ℕ) (h : Held) → TopicsInvariant z v → CountersPart z h.topics → (i : ℕ) → i < actors_of z
     → CountersPart z (upd v.hand a h i).topics
 all_count z v a h I here = at_upd (λ i (k : Held). i < actors_of z → CountersPart z k.topics) v.hand a h (λ lt. here) (λ i ne. I.counters i)
-
--- The span of a walk's table is one of those of its level.
-abbrev pub SpanFits : TableWalk → Type 0
-SpanFits walk = 1 ≤ walk.level → walk.prefix < 2 ^ 36
 
 -- the numbers that were loaded of the invalidations, or stored: as before; and within what they count
 abbrev SameNumbers : Invalidations → Invalidations → Type 0
@@ -156,27 +151,6 @@ watch_counts z v a note index S I =
 pub snapshot_id : (b : Bool) (s : SlotSearch) → (if b then kept_search false s else s).id ≡ s.id
 snapshot_id true s = refl
 snapshot_id false s = refl
-
--- A walk that is let go has no span.
-let_go_span : (stay : Stay) (t : Topics) → SpanFits t.walk → SpanFits (let_go (record t { stay = stay })).walk
-let_go_span Outside t span = λ from. absurd (omega (arith, from))
-let_go_span _ t span = span
-
-root_span : (b : Bool) (walk : TableWalk) (v : ℕ) → SpanFits (at_root b walk v)
-root_span true walk v = λ from. omega arith
-root_span false walk v = λ from. absurd (omega (arith, from))
-
--- The guest frame's entry leads to a span that it is in itself, one level down.
-span_below : (gfn span prefix : ℕ) → gfn < 2 ^ 36 → gfn / span / 512 ≡ prefix → prefix * 512 + gfn / span % 512 < 2 ^ 36
-span_below gfn span prefix small is = let le : gfn / span ≤ gfn = grind arith in omega (arith, small, is, le)
-
-gone_span : (gfn v : ℕ) (walk : TableWalk) (o : Option ℕ) → IsOver gfn walk → SpanFits (gone_down o walk (entry_index gfn walk.level) v)
-gone_span gfn v walk None over = λ from. omega (arith, span_below gfn (level_span walk.level) walk.prefix over.small over.span)
-gone_span gfn v walk (Some page) over = λ from. span_below gfn (level_span walk.level) walk.prefix over.small over.span
-
-exchanged_span : (gfn v new_ : ℕ) (walk : TableWalk) (won : Bool) → IsOver gfn walk → SpanFits (swapped won walk (entry_index gfn walk.level) new_ v)
-exchanged_span gfn v new_ walk true over = gone_span gfn new_ walk (linked_page (kind_of walk.level new_)) over
-exchanged_span gfn v new_ walk false over = gone_span gfn v walk None over
 
 -- who goes in or out of the guest or a section has come to no table
 begun_counts : (z : Sizes) (stay : Stay) (t : Topics) → CountersPart z t → CountersPart z (begun stay t)

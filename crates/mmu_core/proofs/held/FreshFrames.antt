@@ -1,5 +1,5 @@
 -- What was checked under the lock, of open invalidations: none is of the guest frame, so none is of its page. And which leaves a change of a host word leaves.
-use Rattle.std.proofs.Common.{◌≡◌, ◌≢◌, ◌⊎◌, inl, inr, ◌+◌, ◌-◌, ◌<◌, ◌≤◌, ℕ, refl, sym, ap, ◌∙◌, arith}
+use Rattle.std.proofs.Common.{◌≡◌, ◌≢◌, ◌⊎◌, inl, inr, ◌+◌, ◌-◌, ◌<◌, ◌≤◌, ◌^◌, ℕ, refl, sym, ap, ◌∙◌, arith}
 use Rattle.std.specs.Prelude.{Bool, true, false, nat_le, ◌&&◌, nat_lt, ◌==◌, if◌then◌else◌, Some}
 use Rattle.std.proofs.lemmas.Bool.Decides.{nat_tests}
 use Rattle.core_views.specs.declared.sizes.Sizes.{Sizes}
@@ -46,7 +46,7 @@ fresh_in_none z v a i gfn I there lt lock fresh is_open is_in = by fresh.none_ov
     known : (n.start ≡ v.words area.RangeStart 0) × (n.end ≡ v.words area.RangeEnd 0)
     known = I.known a there lock fresh.checked_all (omega (arith, some))
 
-    range : (v.words area.RangeStart 0 ≤ gfn) × (gfn < v.words area.RangeEnd 0)
+    range : (v.words area.RangeStart 0 ≤ gfn) × (gfn < v.words area.RangeEnd 0) × (gfn < 2 ^ 36)
     range = I.ranges i gfn lt is_open is_in
 
     by : (n.count ≡ 0) ⊎ (gfn < n.start) ⊎ (n.end ≤ gfn) → ⊥

@@ -21,7 +21,7 @@ use Rattle.mmu_core.proofs.held.Invalidating.{NoneInvalidating, invalidating_aft
 use Rattle.mmu_core.proofs.held.OldSets.{held_words_stay}
 use Rattle.mmu_core.proofs.held.SetsKept.{begun_set, let_go_set}
 use Rattle.mmu_core.proofs.machine.Columns.{at_upd}
-use Rattle.mmu_core.proofs.machine.PartStepping.{IsFlushedOut, IsPart}
+use Rattle.mmu_core.proofs.machine.PartStepping.{IsFlushedOut, IsPart, flushed_within}
 use Rattle.mmu_core.proofs.slots.LiveStays.{SetStays, live_in_stays, published_stays, words_live}
 use Rattle.mmu_core.proofs.words.PartTopics.{behind_step, part_behind}
 use Rattle.mmu_core.proofs.words.PartWords.{slots_are, slots_behind}
@@ -98,7 +98,9 @@ published_slots z v a note S I i set gfn id slot lt held taken none live has =
     stays : IsLiveIn (v.words area.Pool) (page_owned (v.hand a).topics.owned) id slot ⊎ IsFlushedOut z.vcpus slot (v.hand a).topics
         → IsLiveIn (v.words area.Pool) (page_owned (v.hand a).topics.owned) id slot
     stays (inl same) = same
-    stays (inr F) = absurd (before a S.there (record { opened = F.opened; unraised = F.unraised; of_it = F.within gfn has }))
+    stays (inr F) =
+        let of_it = flushed_within z.vcpus gfn slot (v.hand a).topics F has in
+        absurd (before a S.there (record { opened = F.opened; unraised = F.unraised; of_it = of_it }))
 
 raised_slots : (z : Sizes) (v : View) (a note seq : ℕ) → SlotsAfter z v a note (part.SetSeq seq)
 raised_slots z v a note seq S I i set gfn id slot lt held taken none live has = absurd (none_is_raised z v a note seq S I i seq lt taken refl)

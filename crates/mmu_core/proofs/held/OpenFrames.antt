@@ -1,5 +1,5 @@
--- Each step of a part keeps that the range of open invalidations has the guest frames of each.
-use Rattle.std.proofs.Common.{◌≡◌, ◌≢◌, ◌⊎◌, inl, inr, ◌+◌, ◌-◌, ◌<◌, ◌≤◌, ℕ, refl, ap, arith}
+-- Each step of a part keeps that the range of open invalidations has the guest frames of each, which lie below 2 ^ 36.
+use Rattle.std.proofs.Common.{◌≡◌, ◌≢◌, ◌⊎◌, inl, inr, ◌+◌, ◌-◌, ◌<◌, ◌≤◌, ◌^◌, ℕ, refl, ap, arith}
 use Rattle.std.specs.Prelude.{Bool, true, false, ◌==◌, ◌&&◌, ◌||◌, nat_le, nat_lt, not, if◌then◌else◌}
 use Rattle.std.proofs.lemmas.Bool.Decides.{nat_tests}
 use Rattle.core_views.specs.declared.sizes.Sizes.{Sizes}
@@ -51,11 +51,14 @@ RangesBehind z v a note step = IsPart z v a step → TopicsInvariant z v → Ran
 
 -- The hand of one actor is another one; the range may be another one, too, that has what it had.
 moved_ranges : (n start end_ low high : ℕ) (hand : ℕ → Held) (a : ℕ) (h : Held) → RangePart n start end_ (λ i. (hand i).topics)
-    → ((i gfn : ℕ) → i < n → (hand i).topics.invalidations.opened ≡ true → (start ≤ gfn) × (gfn < end_) → (low ≤ gfn) × (gfn < high))
-    → ((gfn : ℕ) → a < n → h.topics.invalidations.opened ≡ true → IsIn h.topics.invalidations.own gfn → (low ≤ gfn) × (gfn < high))
+    → ((i gfn : ℕ) → i < n → (hand i).topics.invalidations.opened ≡ true → (start ≤ gfn) × (gfn < end_) × (gfn < 2 ^ 36)
+    → (low ≤ gfn) × (gfn < high) × (gfn < 2 ^ 36))
+    → ((gfn : ℕ) → a < n → h.topics.invalidations.opened ≡ true → IsIn h.topics.invalidations.own gfn
+    → (low ≤ gfn) × (gfn < high) × (gfn < 2 ^ 36))
     → RangePart n low high (λ i. (upd hand a h i).topics)
 moved_ranges n start end_ low high hand a h R wider own i gfn =
-    at_upd (λ j (k : Held). j < n → k.topics.invalidations.opened ≡ true → IsIn k.topics.invalidations.own gfn → (low ≤ gfn) × (gfn < high)) hand a h (own gfn)
+    at_upd (λ j (k : Held). j < n → k.topics.invalidations.opened ≡ true → IsIn k.topics.invalidations.own gfn
+    → (low ≤ gfn) × (gfn < high) × (gfn < 2 ^ 36)) hand a h (own gfn)
     (λ j ne lt is there. wider j gfn lt is (R j gfn lt is there)) i
 
 -- What the range is widened to starts no higher, and ends no lower, where some are open.
@@ -135,7 +138,8 @@ module _ (z : Sizes) (v : View) (a : ℕ) (I : TopicsInvariant z v) (there : a <
       omega (arith, is, same, high)
 
   -- The frames of who opens one are in the range that it has stored.
-  opens_within : MayOpen t → (gfn : ℕ) → IsIn t.invalidations.own gfn → (v.words area.RangeStart 0 ≤ gfn) × (gfn < v.words area.RangeEnd 0)
+  opens_within : MayOpen t → (gfn : ℕ) → IsIn t.invalidations.own gfn
+      → (v.words area.RangeStart 0 ≤ gfn) × (gfn < v.words area.RangeEnd 0) × (gfn < 2 ^ 36)
   opens_within M gfn within =
       let start = (I.checks a there).started (ap has_lock M.opening.alone) (ap knows_start M.known) in
       let end_ = (I.checks a there).ended (ap has_lock M.opening.alone) (ap knows_end M.known) in
@@ -148,7 +152,8 @@ module _ (z : Sizes) (v : View) (a : ℕ) (I : TopicsInvariant z v) (there : a <
       (nat_le t.invalidations.own.end t.invalidations.end) lt W in
       let first : t.invalidations.start ≤ t.invalidations.own.start = let e = both.0 in grind (arith, nat_tests) in
       let last : t.invalidations.own.end ≤ t.invalidations.end = let e = both.1 in grind (arith, nat_tests) in
-      (omega (arith, first, low, start), omega (arith, last, high, end_))
+      let small = M.low in
+      (omega (arith, first, low, start), omega (arith, last, high, end_), omega (arith, high, small))
     where
       implied : (x y w : Bool) → x ≡ true → (not x || (y && w)) ≡ true → (y ≡ true) × (w ≡ true)
       implied true true w is all = (refl, all)
@@ -166,12 +171,12 @@ ranges_behind : (z : Sizes) (v : View) (a note : ℕ) (step : PartStep) → Rang
 ranges_behind z v a note (part.SetStart first gfn) S I =
     let M = S.needs.0 in
     moved_ranges (actors_of z) (v.words area.RangeStart 0) (v.words area.RangeEnd 0) gfn (v.words area.RangeEnd 0) v.hand a _ I.ranges
-    (λ i g lt is R. let low = starts_for z v a I S.there M.target gfn M.opening M.counted M.is i lt is in (omega (arith, low, R.0), R.1))
+    (λ i g lt is R. let low = starts_for z v a I S.there M.target gfn M.opening M.counted M.is i lt is in (omega (arith, low, R.0), R.1, R.2))
     (λ g lt is within. absurd (let closed = M.opening.closed in cc (is, closed)))
 ranges_behind z v a note (part.SetEnd last gfn) S I =
     let M = S.needs.0 in
     moved_ranges (actors_of z) (v.words area.RangeStart 0) (v.words area.RangeEnd 0) (v.words area.RangeStart 0) gfn v.hand a _ I.ranges
-    (λ i g lt is R. let high = ends_for z v a I S.there M.target gfn M.opening M.widened M.is i lt is in (R.0, omega (arith, high, R.1)))
+    (λ i g lt is R. let high = ends_for z v a I S.there M.target gfn M.opening M.widened M.is i lt is in (R.0, omega (arith, high, R.1), R.2))
     (λ g lt is within. absurd (let closed = M.opening.closed in cc (is, closed)))
 ranges_behind z v a note (part.SetCount count) S I =
     moved_ranges (actors_of z) (v.words area.RangeStart 0) (v.words area.RangeEnd 0) (v.words area.RangeStart 0) (v.words area.RangeEnd 0) v.hand a _ I.ranges

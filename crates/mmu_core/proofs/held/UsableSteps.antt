@@ -36,7 +36,7 @@ use Rattle.mmu_core.proofs.held.FlushChanges.{begun_asks, cached_more, ended_ask
 use Rattle.mmu_core.proofs.held.FlushSteps.{FlushAt, FlushFor, KeepsClean, asked_there}
 use Rattle.mmu_core.proofs.held.FreshFrames.{behind_it, leaf_brought, leaf_same}
 use Rattle.mmu_core.proofs.machine.Columns.{at_upd, same_or, upd_other, upd_same}
-use Rattle.mmu_core.proofs.machine.PartStepping.{IsFlushedOut, IsPart}
+use Rattle.mmu_core.proofs.machine.PartStepping.{IsFlushedOut, IsPart, flushed_within}
 use Rattle.mmu_core.proofs.slots.LiveStay.{translations_stay}
 use Rattle.mmu_core.proofs.slots.LiveStays.{live_in_stays, part_live_stays}
 
@@ -85,7 +85,7 @@ agree_published pool host vcpus set page t cached stay clean agrees k d lt =
     by : {id : ℕ} (slot : SlotOf) → IsLiveIn pool page id slot ⊎ IsFlushedOut vcpus slot t → contains (get_or cached k d).gfn slot ≡ true
         → IsLiveIn pool page id slot
     by slot (inl same) holds = same
-    by slot (inr F) holds = absurd (clean F.opened F.asked F.awaited k d lt (F.within _ holds))
+    by slot (inr F) holds = absurd (clean F.opened F.asked F.awaited k d lt (flushed_within vcpus _ slot t F holds))
 
 -- Where the step changes a host word, nothing cached is of the frames of this invalidation; nor where it publishes a slot set, if the invalidation is flushed.
 abbrev CleanFor : PartStep → ℕ → Topics → List Translation → Type 0

@@ -11,7 +11,7 @@ use Rattle.core_views.specs.declared.place.Place.{Place}
 use Rattle.core_views.specs.declared.place.Place.TheVariants as place
 use Rattle.core_views.specs.declared.sizes.Sizes.{Sizes}
 use Rattle.core_views.specs.declared.trace.Command.{Command}
-use Rattle.core_views.specs.declared.trace.Command.TheVariants.{Access, ChangeHost, SetSlot}
+use Rattle.core_views.specs.declared.trace.Command.TheVariants.{Access, ChangeHost}
 use Rattle.core_views.specs.declared.trace.Line.{Line}
 use Rattle.core_views.specs.declared.place.SlotChangePlace.{SlotChangePlace}
 use Rattle.mmu_core.specs.lines.Forms.{outcome_at}
@@ -46,8 +46,7 @@ needs_at z v a line command place.Between S I P = tt
 needs_at z v a line command (place.Access p) S I P = tt
 needs_at z v a line (ChangeHost page change) (place.Host p) S I P =
     host_needs p (v.hand a) page change (part_rests_at z v a I P S.there) (step_knows z v a line (ChangeHost page change) (place.Host p) S I)
-needs_at z v a line (Access gfn word op) (place.Host p) S I P = absurd S.holds
-needs_at z v a line (SetSlot id slot) (place.Host p) S I P = absurd S.holds
+needs_at z v a line _ (place.Host p) S I P = absurd S.holds
 needs_at z v a line command (place.SlotChange p) S I P = (
   (step_knows z v a line command (place.SlotChange p) S I).0,
   change_needs z v a line p command S I P,

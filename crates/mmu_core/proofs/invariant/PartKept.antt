@@ -45,10 +45,8 @@ own_lines z i h t c room O = record {
   index = O.index;
   allowed = O.allowed;
   own = O.own;
-  distinct = O.distinct;
   under = under h.state.place O.under;
   few = O.few;
-  answered = O.answered;
   set = O.set;
 }
   where

@@ -1,6 +1,6 @@
 -- A step of a part that publishes nothing, of a line that caches nothing, keeps the invariant: a form says of it what its hand holds after it.
-use Rattle.std.proofs.Common.{◌≡◌, ◌+◌, ◌≤◌, ℕ, length, refl, sym, subst, ap, arith, ◌<◌}
-use Rattle.std.specs.Prelude.{Bool, true, false, if◌then◌else◌, Some}
+use Rattle.std.proofs.Common.{◌≡◌, ℕ, sym, subst, ap, ◌<◌}
+use Rattle.std.specs.Prelude.{Some}
 use Rattle.circular_buffer.specs.Buffer.{Buffer}
 use Rattle.core_views.specs.declared.cache.Translation.{Translation}
 use Rattle.core_views.specs.declared.kind.Kind.{Kind}
@@ -16,20 +16,19 @@ use Rattle.part_steps.specs.declared.part_step.PartStep.{PartStep}
 use Rattle.part_steps.specs.Tasks.{kind_of_task}
 use Rattle.part_steps.specs.TopicSteps.{topics_after}
 use Rattle.mmu_core.specs.declared.outcome.Outcome.{Outcome}
-use Rattle.mmu_core.specs.invariant.Invariant.{CachedPart, Holds, Invariant, RetiresPart, lines_done}
+use Rattle.mmu_core.specs.invariant.Invariant.{CachedPart, Holds, Invariant, RetiresPart}
 use Rattle.mmu_core.specs.invariant.TopicsInvariant.{TopicsInvariant}
 use Rattle.mmu_core.specs.lines.Cached.{flushed}
-use Rattle.mmu_core.specs.lines.Forms.{RestsAt, caches_at, may_retire, outcome_at, part_at, records_at}
+use Rattle.mmu_core.specs.lines.Forms.{RestsAt, caches_at, outcome_at, part_at, records_at}
 use Rattle.mmu_core.specs.lines.PartAt.{task_at}
-use Rattle.mmu_core.specs.machine.Outcomes.{answers_after, place_after}
+use Rattle.mmu_core.specs.machine.Outcomes.{place_after}
 use Rattle.mmu_core.specs.machine.View.{View, answer_in, stepped, words_after}
 use Rattle.mmu_core.proofs.invariant.QuietKept.{MakesAt, NeverPublishes, SetsStay, quiet_kept, sets_stay}
 use Rattle.mmu_core.proofs.lines.CachedKept.{flushed_kept}
 use Rattle.mmu_core.proofs.machine.PartStepping.{behind_part}
-use Rattle.mmu_core.proofs.lines.LinesKept.{answers_more}
 use Rattle.mmu_core.proofs.lines.StepTopics.{topics_of_step}
 use Rattle.mmu_core.proofs.machine.HandWith.{hand_with}
-use Rattle.mmu_core.proofs.machine.Stepping.{IsStep, none_done}
+use Rattle.mmu_core.proofs.machine.Stepping.{IsStep}
 use Rattle.mmu_core.proofs.slots.SlotsStay.{AllKnow}
 use Rattle.spte_words.specs.Entries.{frame_in}
 
@@ -44,34 +43,6 @@ one_step P step so s is = subst P (same_step is) so
 pub still_cached : (z : Sizes) (k : Kind) (c : Buffer Translation) (x : ℕ) → CachedPart z c.items → CachedPart z (flushed k c x).items
 still_cached z k c x each = flushed_kept (λ (t : Translation). (t.level ≡ 1) × (frame_in t.leaf < z.frames)) k c x each
 
--- ---- how many of the hand's lines have done what they do
-
--- how many have after the step
-abbrev pub done_by : Place → Command → Held → Line → ℕ → ℕ
-done_by p command h line x =
-    let o : Outcome = outcome_at p command h x in
-    length (answers_after o line h.answers) + (if may_retire (place_after o) then 1 else 0)
-
--- Where a page may leave, it may after the step, or the line is answered.
-abbrev pub CountsMore : Place → Command → Held → Line → ℕ → Type 0
-CountsMore p command h line x = may_retire p ≡ true → length h.answers + 1 ≤ done_by p command h line x
-
--- So no fewer have than before.
-pub lines_more : (z : Sizes) (v : View) (a : ℕ) (line : Line) (command : Command) (p : Place) (x : ℕ) → IsStep z v a line command p
-    → CountsMore p command (v.hand a) line x → lines_done (v.hand a) ≤ done_by p command (v.hand a) line x
-lines_more z v a line command p x S counts = by (may_retire p) refl
-  where
-    h : Held
-    h = v.hand a
-
-    one_at_most : (b : Bool) → length h.answers + (if b then 1 else 0) ≤ length h.answers + 1
-    one_at_most true = omega arith
-    one_at_most false = omega arith
-
-    by : (b : Bool) → may_retire p ≡ b → lines_done h ≤ done_by p command h line x
-    by true may = omega (arith, one_at_most (may_retire h.state.place), counts may)
-    by false may = omega (arith, none_done z v a line command p S may, answers_more (outcome_at p command h x) line h.answers)
-
 -- ---- the step
 
 -- What a form says of a step that answered x, of the hand that holds after it what the step of the part says.
@@ -79,7 +50,6 @@ pub record OfHand (z : Sizes) (v : View) (a : ℕ) (line : Line) (command : Comm
   pub never : NeverPublishes v a p command
   pub same : records_at p command (v.hand a).slots ≡ (v.hand a).slots
   pub caches : caches_at p command (v.hand a) x ≡ (v.hand a).cached
-  pub counts : CountsMore p command (v.hand a) line x
   pub leaves : RetiresPart (place_after (outcome_at p command (v.hand a) x)) (behind_part (part_at p command (v.hand a)) (v.hand a).topics x)
   pub holds : (cached : Buffer Translation)
       → Holds z (words_after (task_at p command (v.hand a)) v.words area.Pool) (v.words area.Slots 0)
@@ -93,7 +63,6 @@ pub quiet_hand : (z : Sizes) (v : View) (a : ℕ) (line : Line) (command : Comma
 quiet_hand z v a line command p S I P makes R Q knows =
     quiet_kept z v a line command p S I W (record {
       same = Q.same;
-      more = lines_more z v a line command p x S Q.counts;
       room = ap (λ (c : Buffer Translation). c.capacity) Q.caches;
       leaves = subst (RetiresPart (place_after o)) (sym held) Q.leaves;
       holds =

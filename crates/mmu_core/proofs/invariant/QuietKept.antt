@@ -1,6 +1,5 @@
 -- A step of a line that publishes no slot set keeps the invariant, whatever the line's form.
-use Rattle.std.proofs.Common.{◌≡◌, ◌≢◌, ◌<◌, ◌≤◌, ℕ, refl, sym, subst, ap, ◌∙◌}
-use Rattle.std.specs.Map.{keys_of}
+use Rattle.std.proofs.Common.{◌≡◌, ◌≢◌, ◌<◌, ℕ, refl, sym, subst, ap, ◌∙◌}
 use Rattle.std.specs.Prelude.{All, Option, Some, None, false}
 use Rattle.core_views.specs.declared.place.AccessPlace.{AccessPlace}
 use Rattle.core_views.specs.declared.place.Place.{Place}
@@ -21,7 +20,7 @@ use Rattle.part_steps.specs.declared.task.Task.{Task}
 use Rattle.part_steps.specs.Tasks.{kind_of_task, map_of}
 use Rattle.mmu_core.specs.lines.Cached.{frame_used}
 use Rattle.mmu_core.specs.declared.outcome.Outcome.{Outcome}
-use Rattle.mmu_core.specs.invariant.Invariant.{CachedPart, Holds, Invariant, InvariantOf, IsSetBy, RetiresPart, OwnLines, RecordPart, lines_done}
+use Rattle.mmu_core.specs.invariant.Invariant.{CachedPart, Holds, Invariant, InvariantOf, IsSetBy, RetiresPart, OwnLines, RecordPart}
 use Rattle.mmu_core.specs.invariant.TopicsInvariant.{TopicsInvariant}
 use Rattle.mmu_core.specs.lines.AccessSteps.{task_by, touch_of}
 use Rattle.mmu_core.specs.lines.Forms.{note_at, part_at, caches_at, outcome_at, records_at}
@@ -29,7 +28,7 @@ use Rattle.mmu_core.specs.lines.PartAt.{task_at, touch_at}
 use Rattle.mmu_core.specs.machine.Steps.{state_at}
 use Rattle.mmu_core.specs.machine.View.{View, answer_in, hand_after, stepped, upd, words_after}
 use Rattle.mmu_core.proofs.held.OthersStay.{owned_stays}
-use Rattle.mmu_core.proofs.lines.LinesKept.{AreSetBy, answered_kept, lines_behind}
+use Rattle.mmu_core.proofs.lines.LinesKept.{lines_behind}
 use Rattle.mmu_core.proofs.lines.UsedTranslations.{flushed_room}
 use Rattle.mmu_core.proofs.machine.HandAfter.{IsSameState, loads_same}
 use Rattle.mmu_core.proofs.machine.PartStepping.{IsPart, is_publish}
@@ -102,7 +101,6 @@ access_sets_stay z v a p gfn word op makes P = sets_stay z v a (place.Access p) 
 
 pub record OfStep (z : Sizes) (v : View) (a : ℕ) (command : Command) (p : Place) (x : ℕ) (pool : ℕ → ℕ) (after : Held) : Type 0 where
   pub same : records_at p command (v.hand a).slots ≡ (v.hand a).slots
-  pub more : lines_done (v.hand a) ≤ lines_done after
   pub room : (caches_at p command (v.hand a) x).capacity ≡ (v.hand a).cached.capacity
   pub leaves : RetiresPart after.state.place after.topics
   pub holds : Holds z pool (v.words area.Slots 0) after.state.place command after
@@ -157,6 +155,4 @@ quiet_kept z v a line command p S I W Q knows =
         let O = I.lines a S.there in
         lines_behind z a h line (state_at p command h x) o after.topics after.cached after.slots O S.next S.left (loaded.sizes ∙ O.sizes) loaded.actor
         (flushed_room (kind_of_task h.state.sizes (task_at p command h)) (caches_at p command h x) x ∙ Q.room)
-        (subst (λ (s : MemorySlots). AreSetBy h.lines (lines_done after) (keys_of s)) (sym Q.same)
-        (answered_kept (lines_done h) (lines_done after) h.lines (keys_of h.slots) Q.more O.answered))
         (subst (λ (s : MemorySlots). All (IsSetBy h.lines) s) (sym Q.same) O.set)

@@ -1,5 +1,5 @@
 -- What a store for an invalidation needs holds where there merely is a target for which it does: such a target follows from the numbers that are stored.
-use Rattle.std.proofs.Common.{◌≡◌, ◌+◌, ◌-◌, ◌≤◌, ℕ, zero, suc, refl, sym, subst, ap, ◌∙◌, arith}
+use Rattle.std.proofs.Common.{◌≡◌, ◌+◌, ◌-◌, ◌≤◌, ◌^◌, ℕ, zero, suc, refl, sym, subst, ap, ◌∙◌, arith}
 use Rattle.std.specs.Prelude.{Bool, true, false, ◌==◌, ◌&&◌, ◌||◌, nat_le, nat_lt, if◌then◌else◌, Option, Some, None}
 use Rattle.std.proofs.Math.Logic.{∥∥₁_elim, ∥∥₁_map}
 use Rattle.std.proofs.Props.{props}
@@ -137,7 +137,8 @@ end_stays last gfn t x =
 abbrev OpenOf : Target → Topics → Type 0
 OpenOf target t =
     IsOpening target t × (t.invalidations.checked ≡ checked.Range) × (t.invalidations.own ≡ invalidated_by target t.search)
-    × (is_within_range t.invalidations.own t.invalidations ≡ true) × (t.walk.level ≡ 0) × (t.flush ≡ no_flush) × (is_uncopied t.frames.owned ≡ true)
+    × (t.invalidations.own.end ≤ 2 ^ 36) × (is_within_range t.invalidations.own t.invalidations ≡ true) × (t.walk.level ≡ 0) × (t.flush ≡ no_flush)
+    × (is_uncopied t.frames.owned ≡ true)
 
 open_prop : (target : Target) (t : Topics) → IsProp (OpenOf target t)
 open_prop target t = hlevel props
@@ -146,7 +147,7 @@ open_of : (t : Topics) → MayOpen t
     → OpenOf (target_of (page_aimed t) t.invalidations.own.start (t.invalidations.own.end - t.invalidations.own.start) t.search.slot) t
 open_of t M =
     subst (λ (n : Invalidated). OpenOf (target_of (page_aimed t) n.start (n.end - n.start) t.search.slot) t) (sym M.own_)
-    (S.opening, M.known, M.own_ ∙ same, M.within, M.no_table, M.unasked, M.uncopied)
+    (S.opening, M.known, M.own_ ∙ same, M.low, M.within, M.no_table, M.unasked, M.uncopied)
   where
     other : Target
     other = target_of (page_aimed t) (target_start M.target t.search) (target_end M.target t.search - target_start M.target t.search) t.search.slot
@@ -161,7 +162,17 @@ open_stays : (t : Topics) → ∥ MayOpen t ∥₁ → MayOpen t
 open_stays t x =
     let target : Target = target_of (page_aimed t) t.invalidations.own.start (t.invalidations.own.end - t.invalidations.own.start) t.search.slot in
     let all : OpenOf target t = ∥∥₁_elim x (open_prop target t) (open_of t) in
-    record { target = target; opening = all.0; known = all.1; own_ = all.2; within = all.3; no_table = all.4; unasked = all.5; uncopied = all.6 }
+    record {
+      target = target;
+      opening = all.0;
+      known = all.1;
+      own_ = all.2;
+      low = all.3;
+      within = all.4;
+      no_table = all.5;
+      unasked = all.6;
+      uncopied = all.7;
+    }
 
 pub count_stays : (count : ℕ) (t : Topics) → ∥ MayCount count t ∥₁ → MayCount count t
 count_stays count t x = record {

@@ -1,6 +1,6 @@
 -- The steps of an access keep the invariant.
 use Rattle.mmu_core.proofs.lines.OpenedStays.{access_opens_none, access_owns_none}
-use Rattle.std.proofs.Common.{ℕ, refl, arith}
+use Rattle.std.proofs.Common.{ℕ, refl}
 use Rattle.core_views.specs.declared.place.AccessPlace.{AccessPlace}
 use Rattle.core_views.specs.declared.place.AccessPlace.TheVariants.{Leave, Fault}
 use Rattle.core_views.specs.declared.place.FaultEnd.TheVariants as end_of
@@ -22,8 +22,7 @@ use Rattle.mmu_core.specs.machine.Outcomes.{place_after}
 use Rattle.mmu_core.specs.invariant.TopicsInvariant.{TopicsInvariant}
 use Rattle.mmu_core.specs.machine.View.{View, answer_in, hand_after, stepped}
 use Rattle.mmu_core.proofs.lines.CachedKept.{cached_kept}
-use Rattle.mmu_core.proofs.lines.LinesKept.{answers_more}
-use Rattle.mmu_core.proofs.machine.Stepping.{IsStep, none_done}
+use Rattle.mmu_core.proofs.machine.Stepping.{IsStep}
 use Rattle.mmu_core.specs.invariant.Invariant.{Holds, Invariant}
 use Rattle.mmu_core.proofs.slots.LiveStays.{MakesParts}
 use Rattle.mmu_core.proofs.invariant.QuietKept.{access_sets_stay, quiet_kept}
@@ -57,7 +56,6 @@ pub access_kept : (z : Sizes) (v : View) (a : ℕ) (line : Line) (p : AccessPlac
 access_kept z v a line p gfn word op S I P K makes knows =
     quiet_kept z v a line (Access gfn word op) (place.Access p) S I (access_sets_stay z v a p gfn word op makes P) (record {
       same = refl;
-      more = omega (arith, none_done z v a line (Access gfn word op) (place.Access p) S refl, answers_more (access_outcome p h gfn op x) line h.answers);
       room = caches_room p h gfn op x;
       leaves =
           let L = step_leaves z v a line (Access gfn word op) (place.Access p) S I in

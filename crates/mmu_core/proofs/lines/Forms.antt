@@ -23,11 +23,11 @@ use Rattle.core_views.specs.declared.place.Place.TheVariants as place
 use Rattle.core_views.specs.declared.sizes.Sizes.{Sizes}
 use Rattle.core_views.specs.declared.topics.Topics.{Topics}
 use Rattle.core_views.specs.declared.trace.Command.{Command}
-use Rattle.core_views.specs.declared.trace.Command.TheVariants.{Access, ChangeHost, SetSlot}
+use Rattle.core_views.specs.declared.trace.Command.TheVariants.{Access, ChangeHost}
 use Rattle.core_views.specs.declared.trace.Op.{Op}
 use Rattle.core_views.specs.Held.{Held}
 use Rattle.core_views.specs.HostChanges.{moves_page}
-use Rattle.core_views.specs.SlotCommands.{change_refusal, changes_slot}
+use Rattle.core_views.specs.SlotCommands.{change_at_once, changes_slot}
 use Rattle.core_views.specs.Sizes.{AreSizes}
 use Rattle.core_views.specs.SlotSets.{MemorySlots}
 use Rattle.core_views.specs.Slots.{is_write}
@@ -113,8 +113,7 @@ other_rests place.Between command h other =
     inr (record { step = part.Seq; at = refl; more = Unit {0}; more_prop = hlevel props; needs = λ R. (tt, tt); rests = λ N M. tt })
 other_rests (place.Host p) (ChangeHost page change) h other =
     inr (record { step = host_part p page change h; at = refl; more = HostRests p h; more_prop = host_rests_prop p h; needs = λ R. R; rests = λ N M. (N, M) })
-other_rests (place.Host p) (Access gfn word op) h other = inl (λ R. absurd R)
-other_rests (place.Host p) (SetSlot id slot) h other = inl (λ R. absurd R)
+other_rests (place.Host p) _ h other = inl (λ R. absurd R)
 other_rests (place.SlotChange p) command h other = by (changes_slot command) refl
   where
     by : (b : Bool) → changes_slot command ≡ b → (RestsAt (place.SlotChange p) command h → ⊥) ⊎ RestsOnPart (place.SlotChange p) command h
@@ -162,7 +161,7 @@ some_left (place.Host p) z t under = some_host_left p z t
 pub first_goes : (z : Sizes) (slots : MemorySlots) (command : Command) (h : Held) (v : ℕ) → line_waits (first_place z slots command) command h v ≡ true → ⊥
 first_goes z slots (Access gfn word op) h v is = cc is
 first_goes z slots (ChangeHost page change) h v is = let goes = look_goes (moves_page (ChangeHost page change)) page change h v in cc (is, goes)
-first_goes z slots command h v is = begins_at_once (change_refusal z command slots) command h v is
+first_goes z slots command h v is = begins_at_once (change_at_once z command slots) command h v is
 
 pub first_no_end : (z : Sizes) (slots : MemorySlots) (command : Command) → begins_anew (first_place z slots command) ≡ true → ⊥
 first_no_end z slots (Access gfn word op) is = cc is
@@ -195,7 +194,7 @@ pub begins_without : (z : Sizes) (slots : MemorySlots) (command : Command) (map 
 begins_without z slots (Access gfn word op) Pages S = S
 begins_without z slots (Access gfn word op) Frames S = S
 begins_without z slots (ChangeHost page change) map S = host_begins_without (moves_page (ChangeHost page change)) map S
-begins_without z slots command map S = begins_without_scan (change_refusal z command slots) map S
+begins_without z slots command map S = begins_without_scan (change_at_once z command slots) map S
 
 -- ---- what it knows
 
@@ -204,8 +203,6 @@ pub knows_prop : (p : Place) (command : Command) (h : Held) → IsNoAccess p →
 knows_prop (place.Access p) command h other = absurd other
 knows_prop (place.SlotChange p) command h other = slot_change_knows_prop p command h
 knows_prop (place.Host p) (ChangeHost page change) h other = host_knows_prop p page change h
-knows_prop (place.Host p) (Access gfn word op) h other = hlevel props
-knows_prop (place.Host p) (SetSlot id slot) h other = hlevel props
 knows_prop _ _ h other = hlevel props
 
 -- No access stands at the place of another form.
@@ -221,7 +218,7 @@ other_knows (place.Host p) gfn word op h other begun K = absurd K
 pub first_holds : (z : Sizes) (pool : ℕ → ℕ) (set : ℕ) (command : Command) (h : Held) → Holds z pool set (first_place z h.slots command) command h
 first_holds z pool set (Access gfn word op) h = tt
 first_holds z pool set (ChangeHost page change) h = tt
-first_holds z pool set command h = slot_change_begins z pool set command h (change_refusal z command h.slots) refl
+first_holds z pool set command h = slot_change_begins z pool set command h (change_at_once z command h.slots) refl
 
 -- It stays, where the words of the line's own page do.
 module _ (z : Sizes) (before : ℕ → ℕ) (set : ℕ) (after : ℕ → ℕ) (other : ℕ) (h : Held) (own : OwnedStays before after h) where

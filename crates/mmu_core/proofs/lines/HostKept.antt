@@ -101,7 +101,6 @@ host_kept z v a line p page change S I P makes knows =
       never = one_step (λ s. is_publish s ≡ false) (host_part p page change h) (host_never p page change h);
       same = refl;
       caches = refl;
-      counts = λ may. absurd (cc may);
       leaves = host_leaves p page change h x R K (step_leaves z v a line (ChangeHost page change) (place.Host p) S I) A;
       holds = λ cached. host_holds p page change h _ x z _ (v.words area.Slots 0);
     }) knows

@@ -34,7 +34,7 @@ use Rattle.mmu_core.specs.lines.SearchLeft.{look_left}
 use Rattle.mmu_core.specs.lines.AccessSteps.{exiting}
 use Rattle.mmu_core.specs.lines.ClaimSteps.{Frames, claim_next, tries_one}
 use Rattle.mmu_core.specs.lines.InvalidateKnows.{BeginKnows}
-use Rattle.mmu_core.specs.lines.InvalidateSteps.{begin_left, end_left}
+use Rattle.mmu_core.specs.lines.InvalidateLeft.{begin_left, end_left}
 use Rattle.spte_words.specs.Areas.{words_of_bits}
 use Rattle.core_views.specs.Sizes.{actors_of}
 use Rattle.core_views.specs.declared.place.BeginPlace.{BeginPlace}

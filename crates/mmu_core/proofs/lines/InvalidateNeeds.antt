@@ -1,7 +1,7 @@
 -- Each step that begins or ends an invalidation has what it needs.
 use Rattle.core_views.specs.declared.topics.Checked.{Checked}
 use Rattle.std.proofs.lemmas.Bool.Decides.{nat_tests}
-use Rattle.std.proofs.Common.{◌≡◌, ◌+◌, ◌-◌, ◌^◌, ◌<◌, ◌≤◌, ℕ, Bool, true, false, refl, sym, ap, ◌∙◌, arith}
+use Rattle.std.proofs.Common.{◌≡◌, ◌+◌, ◌-◌, ◌^◌, ◌<◌, ◌≤◌, ℕ, Bool, true, false, refl, sym, subst, ap, ◌∙◌, arith}
 use Rattle.std.specs.Prelude.{◌==◌, if◌then◌else◌, nat_le, nat_lt, ◌&&◌, Option, Some, None, is_some}
 use Rattle.core_views.specs.declared.place.BeginPlace.{BeginPlace}
 use Rattle.core_views.specs.declared.place.BeginPlace.TheVariants as begins
@@ -9,6 +9,7 @@ use Rattle.core_views.specs.declared.place.EndPlace.{EndPlace}
 use Rattle.core_views.specs.declared.place.EndPlace.TheVariants as ends
 use Rattle.core_views.specs.declared.topics.Checked.TheVariants as checked
 use Rattle.core_views.specs.declared.topics.HostLook.{HostLook}
+use Rattle.core_views.specs.declared.topics.Invalidated.{Invalidated}
 use Rattle.core_views.specs.declared.topics.Topics.{Topics}
 use Rattle.core_views.specs.Held.{Held}
 use Rattle.core_views.specs.Slots.{has_host_page}
@@ -102,10 +103,11 @@ opening target t aimed S = record {
 }
 
 -- What is stored as the count is as many as were open, and one, or without one.
-one_more : (target : Target) (t : Topics) → IsAimed target t → HasSearched target t → t.invalidations.checked ≡ checked.Range
+one_more : (target : Target) (t : Topics) → IsAimed target t → IsSmall target → HasSmallSlot t.search → HasSearched target t
+    → t.invalidations.checked ≡ checked.Range
     → t.invalidations.own ≡ invalidated_by target t.search
     → is_within_range t.invalidations.own t.invalidations ≡ true → is_uncopied t.frames.owned ≡ true → MayCount (t.invalidations.count + 1) t
-one_more target t aimed S known own_ within uncopied = record {
+one_more target t aimed small frames S known own_ within uncopied = record {
   alone = S.searches.sweeping.with_lock.alone.alone;
   outside = S.searches.sweeping.with_lock.alone.outside;
   knows = ap knows_count known;
@@ -115,6 +117,8 @@ one_more target t aimed S known own_ within uncopied = record {
     opening = opening target t aimed S;
     known = known;
     own_ = own_;
+    low =
+        subst (λ (n : Invalidated). n.end ≤ 2 ^ 36) (sym own_) (target_small target t small frames).1;
     within = within;
     no_table = S.searches.no_table;
     unasked = S.searches.sweeping.unasked;
@@ -181,7 +185,7 @@ begin_needs begins.SetEnd h target R small aimed none K =
       omega (arith, low),
       end_small target h.topics small R.counters.range.1 R.frames,
     )
-begin_needs begins.SetCount h target R small aimed none K = one_more target h.topics aimed K.0 K.1 K.2 K.3 none
+begin_needs begins.SetCount h target R small aimed none K = one_more target h.topics aimed small R.frames K.0 K.1 K.2 K.3 none
 begin_needs (begins.Walk true) h target R small aimed none K = (K.1 refl).1
 begin_needs begins.Zap h target R small aimed none K = K.1
 begin_needs begins.Ask h target R small aimed none K =

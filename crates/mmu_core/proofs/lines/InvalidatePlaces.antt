@@ -14,7 +14,8 @@ use Rattle.part_steps.specs.PartTopics.{part_topics}
 use Rattle.part_steps.specs.SweepTopics.{has_entry, swept_to}
 use Rattle.mmu_core.specs.lines.ClaimSteps.{FreeMap}
 use Rattle.mmu_core.specs.lines.InvalidateKnows.{BeginKnows, FramesAre}
-use Rattle.mmu_core.specs.lines.InvalidateSteps.{begin_left, begin_part, end_left, end_part, is_among_open}
+use Rattle.mmu_core.specs.lines.InvalidateLeft.{begin_left, end_left}
+use Rattle.mmu_core.specs.lines.InvalidateSteps.{begin_part, end_part, is_among_open}
 use Rattle.mmu_core.proofs.lines.EitherPlace.{either_place}
 use Rattle.mmu_core.proofs.lines.FaultScans.{maps}
 use Rattle.mmu_core.proofs.lines.HostPlaces.{find_few}

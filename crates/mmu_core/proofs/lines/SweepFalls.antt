@@ -9,10 +9,11 @@ use Rattle.core_views.specs.declared.topics.TableWalk.{TableWalk}
 use Rattle.core_views.specs.declared.topics.Topics.{Topics}
 use Rattle.part_steps.specs.declared.invalidations.Target.{Target}
 use Rattle.part_steps.specs.ControlTopics.{at_root}
-use Rattle.part_steps.specs.InvalidationHoldings.{MayZap}
+use Rattle.part_steps.specs.SweepHoldings.{MayZap}
 use Rattle.part_steps.specs.SweepTopics.{gone_up, has_entry, leads_nowhere, swept_to}
 use Rattle.mmu_core.specs.lines.InvalidateKnows.{Sweeps, SweepsOn}
-use Rattle.mmu_core.specs.lines.InvalidateSteps.{begin_left, sweep_left, sweep_next, swept_on, zapped_at}
+use Rattle.mmu_core.specs.lines.InvalidateLeft.{begin_left, sweep_left}
+use Rattle.mmu_core.specs.lines.InvalidateSteps.{sweep_next, swept_on, zapped_at}
 use Rattle.mmu_core.proofs.lines.EitherPlace.{one_place}
 use Rattle.mmu_core.proofs.lines.SweepKnown.{frames_low, root_first}
 use Rattle.mmu_core.proofs.lines.SweepWalks.{saw_entry, stays_without, up_levels}

@@ -16,7 +16,7 @@ use Rattle.spte_words.proofs.Spans.{span_4}
 use Rattle.part_steps.specs.declared.invalidations.Target.{Target}
 use Rattle.part_steps.specs.declared.invalidations.Target.TheVariants as aim
 use Rattle.part_steps.specs.ControlTopics.{at_root}
-use Rattle.part_steps.specs.InvalidationHoldings.{IsSwept, MaySweep, MayZap}
+use Rattle.part_steps.specs.SweepHoldings.{IsSwept, MaySweep, MayZap}
 use Rattle.part_steps.specs.PartHoldings.{IsOver, SawEntry}
 use Rattle.part_steps.specs.SweepTopics.{gone_up, has_entry, is_clear, leads_nowhere, swept_to}
 use Rattle.mmu_core.specs.lines.InvalidateKnows.{BeginKnows, FramesAre, IsOfOwn, Sweeps, SweepsOn}

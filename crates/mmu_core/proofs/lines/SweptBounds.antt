@@ -6,7 +6,7 @@ use Rattle.core_views.specs.declared.topics.Topics.{Topics}
 use Rattle.spte_words.specs.declared.spte_kind.SpteKind.{SpteKind}
 use Rattle.spte_words.specs.declared.spte_kind.SpteKind.TheVariants as entry_kind
 use Rattle.spte_words.specs.Entries.{kind_of}
-use Rattle.part_steps.specs.InvalidationHoldings.{MaySweep, MayZap}
+use Rattle.part_steps.specs.SweepHoldings.{MaySweep, MayZap}
 use Rattle.part_steps.specs.PartHoldings.{IsOver, SawEntry}
 use Rattle.part_steps.specs.PartTasks.{entry_index}
 use Rattle.part_steps.specs.SweepTopics.{entry_end, entry_start, gone_up, has_entry, leads_nowhere, swept_to}

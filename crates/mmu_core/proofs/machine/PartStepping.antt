@@ -1,5 +1,5 @@
 -- A step of a part, with what the invariant says of its hand.
-use Rattle.std.proofs.Common.{◌≡◌, ◌⊎◌, ◌<◌, ◌^◌, ℕ, false, Bool, true, refl}
+use Rattle.std.proofs.Common.{◌≡◌, ◌≢◌, ◌⊎◌, ◌<◌, ◌+◌, ◌^◌, ℕ, false, Bool, true, refl, arith}
 use Rattle.core_views.specs.declared.sizes.Sizes.{Sizes}
 use Rattle.core_views.specs.Sizes.{AreSizes, actors_of}
 use Rattle.core_views.specs.declared.topics.Topics.{Topics}
@@ -14,8 +14,10 @@ use Rattle.part_steps.specs.PartTopics.{part_topics}
 use Rattle.std.specs.Prelude.{Option, Some, None}
 pub use Rattle.mmu_core.specs.lines.InvalidateKnows.{IsFlushedOut}
 use Rattle.mmu_core.specs.invariant.SlotSetPart.{AreSlots, IsLiveIn}
+use Rattle.mmu_core.specs.invariant.InvalidatedPart.{IsIn}
 use Rattle.mmu_core.specs.machine.View.{View}
-use Rattle.core_views.specs.Slots.{has_host_page}
+use Rattle.mmu_core.proofs.lines.FaultSame.{over_it}
+use Rattle.core_views.specs.Slots.{contains, has_host_page}
 
 -- No two slots in this set have a host page in common.
 abbrev pub AreApart : (ℕ → ℕ) → ℕ → Type 0
@@ -23,11 +25,26 @@ AreApart pool set =
     (page i j : ℕ) (slot other : SlotOf) → IsLiveIn pool set i slot → IsLiveIn pool set j other → has_host_page page slot ≡ true
     → has_host_page page other ≡ true → slot ≡ other
 
+-- But for this ID the same slots are live in one set as in the other.
+abbrev pub AreAlikeBut : (ℕ → ℕ) → ℕ → ℕ → ℕ → Type 0
+AreAlikeBut pool set page id =
+    (i : ℕ) (slot : SlotOf) → i ≢ id → (IsLiveIn pool set i slot → IsLiveIn pool page i slot) × (IsLiveIn pool page i slot → IsLiveIn pool set i slot)
+
 -- A slot set may be published in place of this one, which is a slot set: each slot of this one is live there, and the same, or its guest frames are flushed
--- out.
+-- out; and they differ at one ID at most.
 pub record MayReplace (z : Sizes) (pool : ℕ → ℕ) (slots page : ℕ) (t : Topics) : Type 0 where
   pub old : AreSlots z pool slots
   pub stay : (id : ℕ) (slot : SlotOf) → IsLiveIn pool slots id slot → IsLiveIn pool page id slot ⊎ IsFlushedOut z.vcpus slot t
+  pub changed : ℕ
+  pub others : AreAlikeBut pool slots page changed
+
+-- The guest frames of a slot that is flushed out are of the actor's own invalidation.
+pub flushed_within : (vcpus gfn : ℕ) (slot : SlotOf) (t : Topics) → IsFlushedOut vcpus slot t → contains gfn slot ≡ true → IsIn t.invalidations.own gfn
+flushed_within vcpus gfn slot t F holds =
+    let O = over_it slot.base gfn (slot.base + slot.pages) holds in
+    let first = F.start in
+    let last = F.end_ in
+    (omega (arith, O.0, first), omega (arith, O.1, last))
 
 -- What a line says of its own step: a slot set that is published has each slot of the one before it, or has flushed it out; where one more invalidation is
 -- counted, no two published slots share a host page; and the sequence number stays far below 2 ^ 64.

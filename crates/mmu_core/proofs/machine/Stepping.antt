@@ -1,6 +1,6 @@
 -- A step of an actor, with what the invariant says of its hand.
-use Rattle.std.proofs.Common.{◌≡◌, ◌<◌, ℕ, zero, suc, List, [], ◌∷◌, length, refl, sym, subst, arith, ◌+◌, ◌∙◌, ap}
-use Rattle.std.specs.Prelude.{All, slice_get, unwrap_or, false, if◌then◌else◌}
+use Rattle.std.proofs.Common.{◌≡◌, ◌<◌, ℕ, zero, suc, List, [], ◌∷◌, length, refl, sym, subst, arith}
+use Rattle.std.specs.Prelude.{All, slice_get, unwrap_or}
 use Rattle.core_views.specs.declared.place.Place.{Place}
 use Rattle.core_views.specs.declared.place.Place.TheVariants as place
 use Rattle.core_views.specs.declared.sizes.Sizes.{Sizes}
@@ -15,10 +15,9 @@ use Rattle.core_views.specs.Traces.{IsCommandFor}
 use Rattle.spte_words.specs.declared.area.Area.TheVariants as area
 use Rattle.mmu_core.specs.invariant.Invariant.{Holds, Invariant, OwnLines, UnderWay}
 use Rattle.mmu_core.specs.lines.Rests.{IsUnderWay}
-use Rattle.mmu_core.specs.lines.Forms.{first_place, may_retire}
+use Rattle.mmu_core.specs.lines.Forms.{first_place}
 use Rattle.mmu_core.specs.machine.Steps.{line_at, next_line, place_at, standing}
 use Rattle.mmu_core.specs.machine.View.{View}
-use Rattle.mmu_core.specs.invariant.LinesPart.{lines_done}
 use Rattle.mmu_core.proofs.lines.Forms.{first_holds}
 
 -- The actor makes the step of this place for this line, whose command it is.
@@ -92,16 +91,3 @@ is_step z v a I there left =
           (line_at h.state.place h).command h) (sym O.sizes)
           (standing_holds z (v.words area.Pool) (v.words area.Slots 0) h.state.place h refl (I.loads a there));
     }
-
--- Where the step's place isn't after a publication, the hand's isn't either.
-before_published : (q : Place) (z : Sizes) (slots : MemorySlots) (command : Command) (p : Place) → standing q z slots command ≡ p
-    → may_retire p ≡ false → may_retire q ≡ false
-before_published place.Between z slots command p is not_yet = refl
-before_published _ z slots command p is not_yet = ap may_retire is ∙ not_yet
-
-pub none_done : (z : Sizes) (v : View) (a : ℕ) (line : Line) (command : Command) (p : Place) → IsStep z v a line command p → may_retire p ≡ false
-    → lines_done (v.hand a) ≡ length (v.hand a).answers
-none_done z v a line command p S not_yet =
-    let h : Held = v.hand a in
-    ap (λ b. length h.answers + (if b then 1 else 0))
-    (before_published h.state.place h.state.sizes h.slots (line_at h.state.place h).command p S.place_is not_yet) ∙ omega arith

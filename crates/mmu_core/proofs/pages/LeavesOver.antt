@@ -23,7 +23,7 @@ use Rattle.mmu_core.specs.machine.View.{View, part_stepped}
 use Rattle.mmu_core.proofs.pages.AllOver.{IsLight, OfNewLeaf, over_step, over_weaker}
 use Rattle.mmu_core.proofs.slots.LiveStay.{StayLive, leaf_stays}
 use Rattle.mmu_core.proofs.slots.LiveStays.{live_in_stays, part_live_stays}
-use Rattle.mmu_core.proofs.machine.PartStepping.{IsFlushedOut, IsPart, changes_word, is_publish}
+use Rattle.mmu_core.proofs.machine.PartStepping.{IsFlushedOut, IsPart, changes_word, flushed_within, is_publish}
 use Rattle.mmu_core.proofs.words.HostStays.{host_stays}
 use Rattle.mmu_core.proofs.words.PartWords.{areas_stay, slots_are, slots_behind}
 use Rattle.mmu_core.proofs.pages.Standing.{spot_after, spot_of, up_after}
@@ -124,7 +124,8 @@ published_leaves z v a note S I =
     stays table entry gfn R O leaf L (inl same) = record { id = L.id; slot = L.slot; live = same; holds = L.holds; is = L.is; present = L.present }
     stays table entry gfn R O leaf L (inr F) =
         let some = S.is_sizes.some in
-        absurd (I.zapped a S.there F.opened (omega (arith, some, F.asked)) table entry gfn R O (F.within gfn L.holds) leaf)
+        let of_it = flushed_within z.vcpus gfn L.slot (v.hand a).topics F L.holds in
+        absurd (I.zapped a S.there F.opened (omega (arith, some, F.asked)) table entry gfn R O of_it leaf)
 
 -- Of a page that is changed there is no leaf: its guest frame was zapped.
 changed_leaves : (z : Sizes) (v : View) (a new_ note : ℕ) → IsPart z v a (part.Change new_) → (I : TopicsInvariant z v)

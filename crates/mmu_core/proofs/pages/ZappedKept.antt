@@ -14,7 +14,8 @@ use Rattle.spte_words.proofs.ReadsEntries.{kind_of_absent, kind_of_table}
 use Rattle.spte_words.proofs.Spans.{span_1}
 use Rattle.part_steps.specs.declared.part_step.PartStep.{PartStep}
 use Rattle.part_steps.specs.declared.part_step.PartStep.TheVariants as part
-use Rattle.part_steps.specs.InvalidationHoldings.{HasSwept, MayCount}
+use Rattle.part_steps.specs.InvalidationHoldings.{MayCount}
+use Rattle.part_steps.specs.SweepHoldings.{HasSwept}
 use Rattle.part_steps.specs.PartTasks.{part_task}
 use Rattle.part_steps.specs.PartTopics.{part_topics}
 use Rattle.part_steps.specs.StayTopics.{has_lock, no_flush}

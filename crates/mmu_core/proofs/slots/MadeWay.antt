@@ -1,5 +1,5 @@
 -- A slot line that has made way for its publication: what it knows of its invalidation, which stays up to the publication, and what follows from it.
-use Rattle.std.proofs.Common.{◌≡◌, ◌+◌, ◌≤◌, ℕ, Bool, true, false, refl, sym, subst, ap, ◌∙◌, arith}
+use Rattle.std.proofs.Common.{◌≡◌, ◌≤◌, ℕ, Bool, true, false, refl, sym, subst, ap, ◌∙◌, arith}
 use Rattle.std.specs.Prelude.{◌==◌, ◌&&◌, not, nat_lt, if◌then◌else◌, Option, Some, None, is_some}
 use Rattle.std.proofs.lemmas.Bool.Decides.{nat_tests}
 use Rattle.core_views.specs.declared.sizes.Sizes.{Sizes}
@@ -10,7 +10,6 @@ use Rattle.core_views.specs.declared.topics.Invalidated.{Invalidated}
 use Rattle.core_views.specs.declared.topics.Invalidations.{Invalidations}
 use Rattle.core_views.specs.declared.topics.Topics.{Topics}
 use Rattle.core_views.specs.declared.trace.Slot.{Slot}
-use Rattle.core_views.specs.Slots.{contains}
 use Rattle.part_steps.specs.declared.invalidations.Target.TheVariants as aim
 use Rattle.part_steps.specs.declared.part_step.PartStep.TheVariants as part
 use Rattle.part_steps.specs.ControlTopics.{count_checked}
@@ -19,13 +18,11 @@ use Rattle.part_steps.specs.PartHoldings.{OwnsSet, own_open}
 use Rattle.part_steps.specs.PartSteps.{IsFree}
 use Rattle.part_steps.specs.PartTopics.{part_topics}
 use Rattle.part_steps.specs.StayTopics.{no_flush}
-use Rattle.mmu_core.specs.invariant.InvalidatedPart.{IsIn}
 use Rattle.mmu_core.specs.lines.InvalidateKnows.{FramesAre, IsFlushedOut, IsOpen}
 use Rattle.mmu_core.specs.lines.LockKnows.{HoldsLock}
 use Rattle.mmu_core.specs.lines.PartWaits.{saw_open, was_counted}
 use Rattle.mmu_core.specs.lines.SlotChangeKnows.{FitsMachine, HasMadeWay}
 use Rattle.mmu_core.specs.lines.SlotChangeSteps.{slot_or_none}
-use Rattle.mmu_core.proofs.lines.FaultSame.{over_it}
 use Rattle.mmu_core.proofs.pages.Owned.{some_filled}
 
 -- ---- the slot that is moved
@@ -56,14 +53,6 @@ way_free z moved t none closed = record {
   flushed = λ slot is. let some = ap is_some is in absurd (cc (some, none));
 }
 
--- A slot's guest frames are those of the invalidation of it.
-frames_within : (slot : Slot) (own_ : Invalidated) (gfn : ℕ) → FramesAre (aim.Slot slot) own_ → contains gfn slot ≡ true → IsIn own_ gfn
-frames_within slot own_ gfn F holds =
-    let O = over_it slot.base gfn (slot.base + slot.pages) holds in
-    let first = F.0 in
-    let last = F.1 in
-    (omega (arith, O.0, first), omega (arith, O.1, last))
-
 -- Its invalidation has begun.
 pub way_begun : (z : Sizes) (moved : Option Slot) (t : Topics) → is_some moved ≡ true → IsOpen t → t.invalidations.own.page ≡ None
     → FramesAre (aim.Slot (slot_or_none moved)) t.invalidations.own
@@ -75,9 +64,10 @@ way_begun z (Some was) t some O none F asked awaited = record {
   flushed = λ slot is. subst (λ s. IsFlushedOut z.vcpus s t) (same is) (record {
     opened = O.opened;
     unraised = O.unraised;
+    start = F.0;
+    end_ = F.1;
     asked = asked;
     awaited = awaited;
-    within = λ gfn holds. frames_within was t.invalidations.own gfn F holds;
   });
 }
   where
@@ -97,9 +87,10 @@ way_still z moved t u open_ raised own_ flush W = record {
       record {
         opened = open_ ∙ F.opened;
         unraised = raised ∙ F.unraised;
+        start = ap (λ (o : Invalidated). o.start) own_ ∙ F.start;
+        end_ = ap (λ (o : Invalidated). o.end) own_ ∙ F.end_;
         asked = subst (λ (f : Flush). z.vcpus ≤ f.asked) (sym same) F.asked;
         awaited = subst (λ (f : Flush). z.vcpus ≤ f.awaited) (sym same) F.awaited;
-        within = λ gfn holds. subst (λ own_. IsIn own_ gfn) (sym own_) (F.within gfn holds);
       };
 }
 

@@ -1,4 +1,4 @@
--- The page of a slot set that is filled: which slots are live in it, and that it has those of the published one, with one put at its ID.
+-- The page of a slot set that is filled: which slots are live in it, and that it has those of the published one, with one put at its ID or taken away.
 use Rattle.std.proofs.Common.{◌≡◌, ◌≢◌, ◌⊎◌, inl, inr, ◌<◌, ◌≤◌, ◌+◌, ◌*◌, ◌/◌, ◌%◌, ℕ, zero, suc, [], ◌∷◌, ◌++◌, refl, sym, ap, ◌∙◌, arith}
 use Rattle.std.proofs.lemmas.Bool.Decides.{nat_tests}
 use Rattle.std.specs.Prelude.{Bool, true, false, ◌==◌, nat_le, if◌then◌else◌, Option, Some, None}
@@ -8,8 +8,9 @@ use Rattle.core_views.specs.declared.place.SlotField.TheVariants as field
 use Rattle.core_views.specs.declared.slot_set.MemorySlot.{MemorySlot}
 use Rattle.core_views.specs.declared.topics.Topics.{Topics}
 use Rattle.core_views.specs.declared.trace.Slot.{Slot}
+use Rattle.core_views.proofs.SlotLines.{taken_at}
 use Rattle.core_views.specs.Refusals.{after_set, is_logged}
-use Rattle.core_views.specs.SlotSets.{MemorySlots, slot_of_id as recorded_at, with_slot_at}
+use Rattle.core_views.specs.SlotSets.{MemorySlots, slot_of_id as recorded_at, with_slot_at, without_slot_at}
 use Rattle.spte_words.specs.Areas.{pool_index}
 use Rattle.spte_words.specs.Flags.{flags_live, flags_logged, flags_read_only}
 use Rattle.spte_words.proofs.ReadsFlags.{flags_are_live, flags_are_logged, flags_are_read_only}
@@ -20,9 +21,10 @@ use Rattle.mmu_core.proofs.pages.Owned.{set_owned}
 use Rattle.part_steps.specs.SetWords.{IsFilledWith, set_word, word_of_slot}
 use Rattle.part_steps.specs.SlotWords.{field_number, live_at, memory_slot_at, memory_slots_below, slot_at, slot_index}
 use Rattle.mmu_core.proofs.machine.Columns.{same_or}
+use Rattle.mmu_core.proofs.machine.PartStepping.{AreAlikeBut}
 use Rattle.part_steps.proofs.SetWords.{set_at}
 use Rattle.mmu_core.proofs.words.SlotFields.{is_number, same_slot}
-use Rattle.mmu_core.proofs.words.SlotLists.{one_put_live}
+use Rattle.mmu_core.proofs.words.SlotLists.{one_gone_live, one_put_live}
 
 -- ---- The record has a slot where the published set has it live.
 
@@ -132,7 +134,63 @@ module _ (pool : ℕ → ℕ) (page : ℕ) (slots : MemorySlots) (filled : (j : 
       ∙ ap (λ logged. record { slot = m.slot; logged = logged })
       (ap flags_logged (field_is field.Flags ∙ ap (λ x. word_of_slot x 3) some) ∙ flags_are_logged true m.slot.read_only m.logged)
 
--- ---- The page with the slots of the published set, and with this one at its ID.
+-- ---- The page has the slots of the published set, but for the one with this ID.
+
+module _ (pool : ℕ → ℕ) (set page id : ℕ) (slots next : MemorySlots) (R : RecordPart pool set slots)
+    (filled : (j : ℕ) → j < 512 → pool (pool_index page j) ≡ set_word next j) (at_other : (i : ℕ) → i ≢ id → recorded_at i next ≡ recorded_at i slots) where
+  -- another one is live where it was, and the same
+  pub as_before : (i : ℕ) → i ≤ 31 → i ≢ id
+      → (live_at pool page i ≡ live_at pool set i) × (live_at pool set i ≡ true → memory_slot_at pool page i ≡ memory_slot_at pool set i)
+  as_before i below apart = by (recorded_at i slots) refl (live_at pool set i) refl (record_at pool set i slots R below)
+    where
+      same : {x y : MemorySlot} → Some x ≡ Some y → x ≡ y
+      same e = cc e
+
+      by : (m : Option MemorySlot) → recorded_at i slots ≡ m → (live : Bool) → live_at pool set i ≡ live → recorded_at i slots ≡ live_slot pool set i
+          → (live_at pool page i ≡ live_at pool set i) × (live_at pool set i ≡ true → memory_slot_at pool page i ≡ memory_slot_at pool set i)
+      by None none true live is = let bad : None ≡ Some (memory_slot_at pool set i) = rw (none, live) at is in absurd (cc bad)
+      by None none false live is = (none_live pool page next filled i below (at_other i apart ∙ none) ∙ sym live, λ on. absurd (cc (on, live)))
+      by (Some m) some true live is =
+          let one : Some m ≡ Some (memory_slot_at pool set i) = rw (some, live) at is in (
+            some_live pool page next filled i below m (at_other i apart ∙ some) ∙ sym live,
+            λ on. some_memory_slot pool page next filled i below m (at_other i apart ∙ some) ∙ same one,
+          )
+      by (Some m) some false live is = let bad : Some m ≡ None = rw (some, live) at is in absurd (cc bad)
+
+  pub others_live : (i : ℕ) → i ≤ 31 → i ≢ id → live_at pool page i ≡ live_at pool set i
+  others_live i below apart = (as_before i below apart).0
+
+  pub others_same : (i : ℕ) → i ≤ 31 → i ≢ id → live_at pool set i ≡ true → slot_at pool page i ≡ slot_at pool set i
+  others_same i below apart live = ap (λ (m : MemorySlot). m.slot) ((as_before i below apart).1 live)
+
+  pub alike_but : AreAlikeBut pool set page id
+  alike_but i slot apart = (
+    λ L. record { low = L.low; live = others_live i L.low apart ∙ L.live; is = others_same i L.low apart L.live ∙ L.is },
+    λ L.
+        let was = sym (others_live i L.low apart) ∙ L.live in
+        record { low = L.low; live = was; is = sym (others_same i L.low apart was) ∙ L.is },
+  )
+
+  -- Each slot of the published set is live in the page, and the same; or it is the record's slot with the ID.
+  pub has_others : (i : ℕ) (s : Slot) → IsLiveIn pool set i s → IsLiveIn pool page i s ⊎ (option_map (λ was. was.slot) (recorded_at id slots) ≡ Some s)
+  has_others i s L = by (same_or i id)
+    where
+      by : (i ≡ id) ⊎ (i ≢ id) → IsLiveIn pool page i s ⊎ (option_map (λ was. was.slot) (recorded_at id slots) ≡ Some s)
+      by (inl e) = inr (
+          ap (λ k. option_map (λ (was : MemorySlot). was.slot) (recorded_at k slots)) (sym e)
+          ∙ ap (option_map (λ (was : MemorySlot). was.slot)) (record_at pool set i slots R L.low)
+          ∙ ap (λ (b : Bool). option_map (λ (was : MemorySlot). was.slot) (if b then Some (memory_slot_at pool set i) else None)) L.live
+          ∙ ap Some L.is)
+      by (inr apart) = inl ((alike_but i s apart).0 L)
+
+-- ---- This slot is put at its ID.
+
+pub set_other : (id : ℕ) (slot : Slot) (slots : MemorySlots) (i : ℕ) → i ≢ id → recorded_at i (after_set id slot slots) ≡ recorded_at i slots
+set_other id slot slots i apart = set_at i id slot slots ∙ by (id == i) (grind (arith, nat_tests))
+  where
+    by : (b : Bool) → b ≡ false → (if b then Some (record { slot = slot; logged = is_logged id slots }) else recorded_at i slots) ≡ recorded_at i slots
+    by true e = absurd (cc e)
+    by false e = refl
 
 module _ (pool : ℕ → ℕ) (set page id : ℕ) (slot : Slot) (slots : MemorySlots) (R : RecordPart pool set slots) (low : id ≤ 31)
     (filled : (j : ℕ) → j < 512 → pool (pool_index page j) ≡ set_word (after_set id slot slots) j) where
@@ -146,13 +204,6 @@ module _ (pool : ℕ → ℕ) (set page id : ℕ) (slot : Slot) (slots : MemoryS
       by true e = refl
       by false e = absurd (cc e)
 
-  at_other : (i : ℕ) → i ≢ id → recorded_at i (after_set id slot slots) ≡ recorded_at i slots
-  at_other i apart = set_at i id slot slots ∙ by (id == i) (grind (arith, nat_tests))
-    where
-      by : (b : Bool) → b ≡ false → (if b then Some new_one else recorded_at i slots) ≡ recorded_at i slots
-      by true e = absurd (cc e)
-      by false e = refl
-
   -- the new slot is live
   pub new_live : live_at pool page id ≡ true
   new_live = some_live pool page (after_set id slot slots) filled id low new_one at_id
@@ -163,51 +214,45 @@ module _ (pool : ℕ → ℕ) (set page id : ℕ) (slot : Slot) (slots : MemoryS
   new_memory_slot : memory_slot_at pool page id ≡ new_one
   new_memory_slot = some_memory_slot pool page (after_set id slot slots) filled id low new_one at_id
 
-  -- another one is live where it was, and the same
-  as_before : (i : ℕ) → i ≤ 31 → i ≢ id
-      → (live_at pool page i ≡ live_at pool set i) × (live_at pool set i ≡ true → memory_slot_at pool page i ≡ memory_slot_at pool set i)
-  as_before i below apart = by (recorded_at i slots) refl (live_at pool set i) refl (record_at pool set i slots R below)
-    where
-      same : {x y : MemorySlot} → Some x ≡ Some y → x ≡ y
-      same e = cc e
-
-      by : (m : Option MemorySlot) → recorded_at i slots ≡ m → (live : Bool) → live_at pool set i ≡ live → recorded_at i slots ≡ live_slot pool set i
-          → (live_at pool page i ≡ live_at pool set i) × (live_at pool set i ≡ true → memory_slot_at pool page i ≡ memory_slot_at pool set i)
-      by None none true live is = let bad : None ≡ Some (memory_slot_at pool set i) = rw (none, live) at is in absurd (cc bad)
-      by None none false live is =
-          (none_live pool page (after_set id slot slots) filled i below (at_other i apart ∙ none) ∙ sym live, λ on. absurd (cc (on, live)))
-      by (Some m) some true live is =
-          let one : Some m ≡ Some (memory_slot_at pool set i) = rw (some, live) at is in (
-            some_live pool page (after_set id slot slots) filled i below m (at_other i apart ∙ some) ∙ sym live,
-            λ on. some_memory_slot pool page (after_set id slot slots) filled i below m (at_other i apart ∙ some) ∙ same one,
-          )
-      by (Some m) some false live is = let bad : Some m ≡ None = rw (some, live) at is in absurd (cc bad)
-
-  pub others_live : (i : ℕ) → i ≤ 31 → i ≢ id → live_at pool page i ≡ live_at pool set i
-  others_live i below apart = (as_before i below apart).0
-
-  pub others_same : (i : ℕ) → i ≤ 31 → i ≢ id → live_at pool set i ≡ true → slot_at pool page i ≡ slot_at pool set i
-  others_same i below apart live = ap (λ (m : MemorySlot). m.slot) ((as_before i below apart).1 live)
-
-  -- Each slot of the published set is live in the page, and the same; or it is the record's slot with the ID.
-  pub has_others : (i : ℕ) (s : Slot) → IsLiveIn pool set i s → IsLiveIn pool page i s ⊎ (option_map (λ was. was.slot) (recorded_at id slots) ≡ Some s)
-  has_others i s L = by (same_or i id)
-    where
-      by : (i ≡ id) ⊎ (i ≢ id) → IsLiveIn pool page i s ⊎ (option_map (λ was. was.slot) (recorded_at id slots) ≡ Some s)
-      by (inl e) = inr (
-          ap (λ k. option_map (λ (was : MemorySlot). was.slot) (recorded_at k slots)) (sym e)
-          ∙ ap (option_map (λ (was : MemorySlot). was.slot)) (record_at pool set i slots R L.low)
-          ∙ ap (λ (b : Bool). option_map (λ (was : MemorySlot). was.slot) (if b then Some (memory_slot_at pool set i) else None)) L.live
-          ∙ ap Some L.is)
-      by (inr apart) =
-          inl (record { low = L.low; live = others_live i L.low apart ∙ L.live; is = others_same i L.low apart L.live ∙ L.is })
-
   -- The list of its slots has the new one at its ID.
   pub list_with : memory_slots_below pool page 32 ≡ with_slot_at id new_one (memory_slots_below pool set 32)
   list_with =
       one_put_live (live_at pool set) (live_at pool page) (memory_slot_at pool set) (memory_slot_at pool page) id 32 (omega (arith, low)) new_live
-      (λ i lt apart. others_live i (omega arith) apart) (λ i lt apart live. (as_before i (omega arith) apart).1 live)
+      (λ i lt apart. (B i (omega arith) apart).0) (λ i lt apart live. (B i (omega arith) apart).1 live)
       ∙ ap (λ m. with_slot_at id m (memory_slots_below pool set 32)) new_memory_slot
+    where
+      B : (i : ℕ) → i ≤ 31 → i ≢ id
+          → (live_at pool page i ≡ live_at pool set i) × (live_at pool set i ≡ true → memory_slot_at pool page i ≡ memory_slot_at pool set i)
+      B = as_before pool set page id slots (after_set id slot slots) R filled (set_other id slot slots)
+
+-- ---- The slot with this ID is taken away.
+
+pub taken_other : (id : ℕ) (slots : MemorySlots) (i : ℕ) → i ≢ id → recorded_at i (without_slot_at id slots) ≡ recorded_at i slots
+taken_other id slots i apart = taken_at i id slots ∙ by (id == i) (grind (arith, nat_tests))
+  where
+    by : (b : Bool) → b ≡ false → (if b then None else recorded_at i slots) ≡ recorded_at i slots
+    by true e = absurd (cc e)
+    by false e = refl
+
+module _ (pool : ℕ → ℕ) (set page id : ℕ) (slots : MemorySlots) (R : RecordPart pool set slots) (low : id ≤ 31)
+    (filled : (j : ℕ) → j < 512 → pool (pool_index page j) ≡ set_word (without_slot_at id slots) j) where
+  -- no slot with the ID is live
+  pub none_at_id : live_at pool page id ≡ false
+  none_at_id = none_live pool page (without_slot_at id slots) filled id low (taken_at id id slots ∙ by (id == id) (grind (arith, nat_tests)))
+    where
+      by : (b : Bool) → b ≡ true → (if b then None else recorded_at id slots) ≡ None
+      by true e = refl
+      by false e = absurd (cc e)
+
+  -- The list of its slots is without the one with the ID.
+  pub list_without : memory_slots_below pool page 32 ≡ without_slot_at id (memory_slots_below pool set 32)
+  list_without =
+      one_gone_live (live_at pool set) (live_at pool page) (memory_slot_at pool set) (memory_slot_at pool page) id 32 none_at_id
+      (λ i lt apart. (B i (omega arith) apart).0) (λ i lt apart live. (B i (omega arith) apart).1 live)
+    where
+      B : (i : ℕ) → i ≤ 31 → i ≢ id
+          → (live_at pool page i ≡ live_at pool set i) × (live_at pool set i ≡ true → memory_slot_at pool page i ≡ memory_slot_at pool set i)
+      B = as_before pool set page id slots (without_slot_at id slots) R filled (taken_other id slots)
 
 -- ---- A line that is to publish its page.
 

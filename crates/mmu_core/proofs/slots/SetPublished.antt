@@ -1,6 +1,6 @@
--- A page with the slots of the published set, and with one put at its ID, is a slot set, too, where that slot may be set.
+-- A page with the slots of the published set, and with one put at its ID, is a slot set, too, where that slot may be set; and so is one without a slot.
 use Rattle.std.proofs.Common.{◌≡◌, ◌≢◌, ◌⊎◌, inl, inr, ◌≤◌, ℕ, sym, subst, ap, ◌∙◌}
-use Rattle.std.specs.Prelude.{Bool, true}
+use Rattle.std.specs.Prelude.{Bool, true, false}
 use Rattle.core_views.specs.declared.sizes.Sizes.{Sizes}
 use Rattle.core_views.specs.declared.trace.Slot.{Slot}
 use Rattle.core_views.specs.Slots.{contains, has_host_page}
@@ -60,5 +60,32 @@ module _ (z : Sizes) (pool : ℕ → ℕ) (set page id : ℕ) (slot : Slot) (may
       host_apart =
           λ page i j low below live more has too. apart_still (has_host_page page) i j low below live more (may.host_apart page)
           (part.slots.host_apart page i j low below) has too;
+    };
+  }
+
+-- The slot with the ID is taken away.
+module _ (z : Sizes) (pool : ℕ → ℕ) (set page id : ℕ) (gone : live_at pool page id ≡ false)
+    (others_live : (i : ℕ) → i ≤ 31 → i ≢ id → live_at pool page i ≡ live_at pool set i)
+    (others_same : (i : ℕ) → i ≤ 31 → i ≢ id → live_at pool set i ≡ true → slot_at pool page i ≡ slot_at pool set i) where
+  is_other : (j : ℕ) → live_at pool page j ≡ true → j ≢ id
+  is_other j live e = let none = ap (live_at pool page) e ∙ gone in absurd (cc (live, none))
+
+  had_live : (j : ℕ) → j ≤ 31 → live_at pool page j ≡ true → live_at pool set j ≡ true
+  had_live j below live = sym (others_live j below (is_other j live)) ∙ live
+
+  had_same : (j : ℕ) → j ≤ 31 → live_at pool page j ≡ true → slot_at pool page j ≡ slot_at pool set j
+  had_same j below live = others_same j below (is_other j live) (had_live j below live)
+
+  pub set_without : (role behind : ℕ → ℕ) → behind page ≡ set_role → SlotSetPart z set role pool → SlotSetPart z page behind pool
+  set_without role behind role_is part = record {
+    role_is = role_is;
+    slots = record {
+      fits = λ j below live. subst (Fits z) (sym (had_same j below live)) (part.slots.fits j below (had_live j below live));
+      guest_apart = λ gfn i j low below live more holds too.
+          part.slots.guest_apart gfn i j low below (had_live i low live) (had_live j below more)
+          (ap (contains gfn) (sym (had_same i low live)) ∙ holds) (ap (contains gfn) (sym (had_same j below more)) ∙ too);
+      host_apart = λ page i j low below live more has too.
+          part.slots.host_apart page i j low below (had_live i low live) (had_live j below more)
+          (ap (has_host_page page) (sym (had_same i low live)) ∙ has) (ap (has_host_page page) (sym (had_same j below more)) ∙ too);
     };
   }

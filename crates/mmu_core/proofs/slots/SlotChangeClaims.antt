@@ -1,18 +1,19 @@
 -- Which steps of a line that changes a slot claim: those of its claim, with the last of which it may be starved.
 use Rattle.std.proofs.Common.{◌≡◌, ◌≢◌, ◌⊎◌, inl, inr, ◌+◌, ℕ, refl, ap}
 use Rattle.std.specs.Prelude.{Bool, true, false, ◌==◌, nat_lt, Option, Some, None, is_some}
-use Rattle.core_views.specs.declared.answer.Answer.TheVariants.{Done, Refused}
+use Rattle.core_views.specs.declared.answer.Answer.TheVariants.{Done}
 use Rattle.core_views.specs.declared.answer.Refusal.{Refusal}
 use Rattle.core_views.specs.declared.answer.Refusal.TheVariants.{NoFrame}
 use Rattle.core_views.specs.declared.place.BeginPlace.TheVariants as begins
 use Rattle.core_views.specs.declared.place.EndPlace.TheVariants as ends
 use Rattle.core_views.specs.declared.place.Place.TheVariants as place
 use Rattle.core_views.specs.declared.place.SlotChangePlace.{SlotChangePlace}
-use Rattle.core_views.specs.declared.place.SlotChangePlace.TheVariants.{Refuse, Claim, Fill, Role, Begin, Exclude, Count, Close, Publish}
+use Rattle.core_views.specs.declared.place.SlotChangePlace.TheVariants.{AtOnce, Claim, Fill, Role, Begin, Exclude, Count, Close, Publish}
 use Rattle.core_views.specs.declared.place.SlotChangePlace.TheVariants.{Release, End, Watch, Clear, Give}
 use Rattle.core_views.specs.declared.trace.Command.{Command}
 use Rattle.core_views.specs.Held.{Held}
-use Rattle.core_views.specs.SlotCommands.{slot_moved}
+use Rattle.core_views.specs.SlotCommands.{refused_or_done, slot_invalidated}
+use Rattle.core_views.specs.Slots.{is_some_and}
 use Rattle.part_steps.specs.PartHoldings.{own_open}
 use Rattle.part_steps.specs.PartTasks.{words_filled}
 use Rattle.mmu_core.specs.declared.claim.ClaimNext.{ClaimNext}
@@ -39,14 +40,17 @@ no_claim (Claim begun) other Pages = absurd (cc other)
 no_claim _ other Pages = refl
 no_claim p other Frames = refl
 
-abbrev is_refusal : SlotChangePlace → Bool
-is_refusal (Refuse refusal) = true
-is_refusal _ = false
+abbrev is_at_once : SlotChangePlace → Bool
+is_at_once (AtOnce refusal) = true
+is_at_once _ = false
 
--- A line that is refused for another reason isn't refused for want of a frame.
-refused_not : (refusal : Refusal) (map : FreeMap) → is_of_frames refusal ≡ false → Ends (Refused refusal) ≡ Ends (answer_without map) → ⊥
-refused_not refusal Pages other e = cc e
-refused_not refusal Frames other e = let is : refusal ≡ NoFrame = cc e in let same = ap is_of_frames is in cc (other, same)
+-- A line that is refused for another reason, or done, isn't refused for want of a frame.
+refused_not : (refusal : Option Refusal) (map : FreeMap) → is_some_and is_of_frames refusal ≡ false
+    → Ends (refused_or_done refusal) ≡ Ends (answer_without map) → ⊥
+refused_not None Pages other e = cc e
+refused_not None Frames other e = cc e
+refused_not (Some refusal) Pages other e = cc e
+refused_not (Some refusal) Frames other e = let is : refusal ≡ NoFrame = cc e in let same = ap is_of_frames is in cc (other, same)
 
 abbrev NoScan : SlotChangePlace → Type 0
 NoScan p = HasNoScan (Goes (place.SlotChange p))
@@ -71,12 +75,12 @@ module _ (command : Command) (h : Held) (v : ℕ) where
   by_end (ends_next.Goes p) = goes_on (End p) (λ S. S)
   by_end ends_next.Ended = goes_on Watch (λ S. S)
 
-  no_scan : (p : SlotChangePlace) → is_claim p ≡ false → is_refusal p ≡ false → HasNoScan (slot_change_outcome p command h v)
+  no_scan : (p : SlotChangePlace) → is_claim p ≡ false → is_at_once p ≡ false → HasNoScan (slot_change_outcome p command h v)
   no_scan (Claim begun) other not_ = absurd (cc other)
-  no_scan (Refuse refusal) other not_ = absurd (cc not_)
+  no_scan (AtOnce refusal) other not_ = absurd (cc not_)
   no_scan Fill other not_ = either_place NoScan (nat_lt (words_filled h.topics.owned + 1) 512) Fill Role (goes_on Fill (λ S. S)) (goes_on Role (λ S. S))
   no_scan Role other not_ =
-      either_place NoScan (is_some (slot_moved h.slots command)) (Begin begins.Exclude) Exclude (goes_on (Begin begins.Exclude) (λ S. S))
+      either_place NoScan (is_some (slot_invalidated h.slots command)) (Begin begins.Exclude) Exclude (goes_on (Begin begins.Exclude) (λ S. S))
       (goes_on Exclude (λ S. S))
   no_scan (Begin p) other not_ = by_begin (begin_next p h.state.sizes (slot_target h command) h.topics v)
   no_scan Exclude other not_ = either_place NoScan (v == 0) Count Exclude (goes_on Count (λ S. S)) (goes_on Exclude (λ S. S))
@@ -107,8 +111,8 @@ module _ (command : Command) (h : Held) (v : ℕ) where
         leads = claim_leads Pages on got next refl none;
         note = (refl, claim_notes on got (answer_without Pages) next);
       })
-  change_claims_or_not (Refuse refusal) = inr (record {
-    at = no_claim (Refuse refusal) refl;
+  change_claims_or_not (AtOnce refusal) = inr (record {
+    at = no_claim (AtOnce refusal) refl;
     step = λ map. refl;
     note = refl;
     keeps = λ K map S. absurd (no_scan_between map S);
@@ -122,7 +126,7 @@ module _ (command : Command) (h : Held) (v : ℕ) where
   change_claims_or_not p = to_no_scan (place.SlotChange p) command h v (no_claim p refl) (λ map. refl) refl (no_scan p refl refl)
 
 -- It begins with no scan.
-pub begins_without_scan : (refused : Option Refusal) (map : FreeMap) → HasScan (place.SlotChange (slot_change_first refused)) map → ⊥
+pub begins_without_scan : (refused : Option (Option Refusal)) (map : FreeMap) → HasScan (place.SlotChange (slot_change_first refused)) map → ⊥
 begins_without_scan (Some refusal) Pages S = S
 begins_without_scan (Some refusal) Frames S = S
 begins_without_scan None Pages S = absurd (cc S)

@@ -1,22 +1,18 @@
 -- The steps of a line that changes a slot keep the invariant.
 use Rattle.part_steps.specs.declared.invalidations.Target.{Target}
 use Rattle.part_steps.specs.declared.part_step.PartStep.TheVariants as part
-use Rattle.mmu_core.specs.declared.invalidate.EndNext.{EndNext}
-use Rattle.mmu_core.specs.declared.invalidate.EndNext.TheVariants as ends_next
-use Rattle.mmu_core.specs.lines.InvalidateSteps.{begin_part, end_next}
+use Rattle.mmu_core.specs.lines.InvalidateSteps.{begin_part}
 use Rattle.mmu_core.proofs.words.PartWords.{IsElsewhere, page_stays, walks_unowned}
 use Rattle.mmu_core.proofs.words.PartTopics.{part_topics_is, is_there}
 use Rattle.core_views.specs.declared.topics.Topics.{Topics}
-use Rattle.std.proofs.Common.{◌≡◌, ◌≤◌, ◌+◌, ℕ, length, refl, sym, subst, ap, ◌∙◌, arith}
-use Rattle.std.specs.Map.{keys_of}
-use Rattle.std.specs.Prelude.{true, false, if◌then◌else◌, None}
+use Rattle.std.proofs.Common.{◌≡◌, ℕ, refl, sym, subst, ap, ◌∙◌}
+use Rattle.std.specs.Prelude.{All, true, false, None}
 use Rattle.core_views.specs.declared.actor.Actor.TheVariants.{Manager}
 use Rattle.core_views.specs.declared.place.BeginPlace.{BeginPlace}
 use Rattle.core_views.specs.declared.place.BeginPlace.TheVariants as begins
-use Rattle.core_views.specs.declared.place.EndPlace.TheVariants as ends
 use Rattle.core_views.specs.declared.place.Place.TheVariants as place
 use Rattle.core_views.specs.declared.place.SlotChangePlace.{SlotChangePlace}
-use Rattle.core_views.specs.declared.place.SlotChangePlace.TheVariants.{Begin, Publish, Release, End, Watch, Clear, Give}
+use Rattle.core_views.specs.declared.place.SlotChangePlace.TheVariants.{Begin, Publish, Release}
 use Rattle.core_views.specs.declared.sizes.Sizes.{Sizes}
 use Rattle.core_views.specs.declared.trace.Command.{Command}
 use Rattle.core_views.specs.declared.trace.Line.{Line}
@@ -26,28 +22,26 @@ use Rattle.core_views.specs.SlotSets.{MemorySlots}
 use Rattle.core_views.specs.Traces.{IsCommandFor}
 use Rattle.spte_words.specs.declared.area.Area.TheVariants as area
 use Rattle.part_steps.specs.PartTasks.{own_index, page_owned}
-use Rattle.mmu_core.specs.lines.SlotChangeSteps.{after_set_end, slot_change_note, slot_change_part}
-use Rattle.mmu_core.specs.lines.SlotChangeSteps.{slot_change_records, slot_change_task, slot_target, watch_next}
+use Rattle.mmu_core.specs.lines.SlotChangeSteps.{slot_change_note, slot_change_part}
+use Rattle.mmu_core.specs.lines.SlotChangeSteps.{slot_change_records, slot_change_task, slot_target}
 use Rattle.part_steps.specs.SetWords.{set_role}
 use Rattle.mmu_core.specs.machine.Steps.{state_at}
 use Rattle.part_steps.specs.Tasks.{kind_of_task}
 use Rattle.mmu_core.specs.invariant.TopicsInvariant.{TopicsInvariant}
 use Rattle.mmu_core.specs.machine.View.{View, answer_in, hand_after, stepped, words_after}
-use Rattle.mmu_core.proofs.slots.Changes.{AreRecorded, Publishes, change_is_managers, change_publishes, change_recorded, recorded_at}
+use Rattle.mmu_core.proofs.slots.Changes.{Publishes, change_is_managers, change_publishes, change_recorded, recorded_at}
 use Rattle.mmu_core.proofs.machine.PartStepping.{IsPart, is_publish}
 use Rattle.mmu_core.proofs.pages.Owned.{OwnsWhole, set_owned}
-use Rattle.core_views.specs.declared.answer.Answer.TheVariants.{Done}
 use Rattle.mmu_core.specs.declared.outcome.Outcome.TheVariants.{Goes}
 use Rattle.mmu_core.proofs.lines.UsedTranslations.{flushed_room}
 use Rattle.mmu_core.proofs.invariant.PartBounded.{part_rests_at}
 use Rattle.mmu_core.proofs.lines.FaultKnown.{parts_answer}
-use Rattle.mmu_core.specs.invariant.Invariant.{Holds, Invariant, KnowsPart, RecordPart, OwnLines, lines_done}
-use Rattle.mmu_core.specs.lines.Forms.{may_retire}
-use Rattle.mmu_core.proofs.invariant.QuietHand.{CountsMore, lines_more, one_step, quiet_hand, still_cached}
+use Rattle.mmu_core.specs.invariant.Invariant.{Holds, Invariant, KnowsPart, RecordPart, OwnLines, IsSetBy}
+use Rattle.mmu_core.proofs.invariant.QuietHand.{one_step, quiet_hand, still_cached}
 use Rattle.mmu_core.proofs.invariant.QuietKept.{MakesAt}
-use Rattle.mmu_core.proofs.lines.EitherPlace.{each_watch, either_place}
+use Rattle.mmu_core.proofs.lines.EitherPlace.{either_place}
 use Rattle.mmu_core.proofs.lines.KnowsKept.{step_knows, step_leaves}
-use Rattle.mmu_core.proofs.lines.LinesKept.{answered_kept, answers_length, lines_behind, one_manager}
+use Rattle.mmu_core.proofs.lines.LinesKept.{lines_behind, one_manager}
 use Rattle.mmu_core.proofs.machine.Stepping.{IsStep, line_allowed}
 use Rattle.mmu_core.proofs.slots.SlotChangeNeeds.{slot_change_rests}
 use Rattle.mmu_core.proofs.slots.SlotChangePlaces.{is_publication, change_never}
@@ -59,24 +53,6 @@ pub change_hand : (z : Sizes) (i : ℕ) (h : Held) (p : SlotChangePlace) (comman
     → h.state.line.command ≡ command → changes_slot command ≡ true → h.state.actor ≡ Manager
 change_hand z i h p command O is said changes =
     change_is_managers z h.state.actor command changes (subst (IsCommandFor z h.state.actor) said (line_allowed z i h (place.SlotChange p) O is tt))
-
--- Where a page may leave, it may after the next step, or the line is answered.
-counts_more : (p : SlotChangePlace) (command : Command) (h : Held) (line : Line) (v : ℕ) → CountsMore (place.SlotChange p) command h line v
-counts_more Release command h line v may =
-    either_place (λ q. length h.answers + 1 ≤ length h.answers + (if may_retire (place.SlotChange q) then 1 else 0)) h.topics.invalidations.opened
-    (End ends.Exclude) Watch (omega arith) (omega arith)
-counts_more (End p) command h line v may = by (end_next p v)
-  where
-    by : (next : EndNext) → length h.answers + 1 ≤ length h.answers + (if may_retire (place.SlotChange (after_set_end next)) then 1 else 0)
-    by (ends_next.Goes q) = omega arith
-    by ends_next.Ended = omega arith
-counts_more Watch command h line v may =
-    each_watch (λ q. length h.answers + 1 ≤ length h.answers + (if may_retire (place.SlotChange q) then 1 else 0)) (watch_next h v) Watch Clear
-    (omega arith) (omega arith)
-counts_more Clear command h line v may = omega arith
-counts_more Give command h line v may =
-    let n = answers_length h.answers (record { number = line.number; actor = line.actor; answer = Done }) in omega (arith, n)
-counts_more _ command h line v may = absurd (cc may)
 
 -- ---- The steps that publish nothing.
 
@@ -115,7 +91,6 @@ quiet_change z v a line p command never S I P makes knows =
       never = one_step (λ s. is_publish s ≡ false) (slot_change_part p h command) (change_never p h command never);
       same = records_same p command h.slots never;
       caches = refl;
-      counts = counts_more p command h line x;
       leaves = change_leaves h command x p (part_rests_at z v a I P S.there) K.1 (step_leaves z v a line command (place.SlotChange p) S I) A;
       holds = λ cached. change_holds line h command cached x z v.words (v.words area.Slots 0) p K.1 (own_stays z v a p command step P) S.holds;
     }) knows
@@ -134,7 +109,7 @@ pub change_published : (z : Sizes) (v : View) (a : ℕ) (line : Line) (command :
     → Publishes z (v.words area.Pool) (v.words area.Slots 0) (page_owned (v.hand a).topics.owned) command (v.hand a).slots
 change_published z v a line command S I =
     let K = step_knows z v a line command (place.SlotChange Publish) S I in
-    change_publishes z v a line command (place.SlotChange Publish) S K.0 I K.1.1.owns S.holds.accepted S.holds.filled
+    change_publishes z v a line command (place.SlotChange Publish) S K.0 I K.1.1.owns S.holds.works S.holds.filled
 
 published_kept : (z : Sizes) (v : View) (a : ℕ) (line : Line) (command : Command) → IsStep z v a line command (place.SlotChange Publish)
     → Invariant z v → TopicsInvariant z v → AllKnow z (stepped a line command (place.SlotChange Publish) v).hand
@@ -190,20 +165,14 @@ published_kept z v a line command S I P knows =
     role_is : v.words area.Role page ≡ set_role
     role_is = ap (v.words area.Role) (ap page_owned owns.is) ∙ (P.filled a owns.owned S.there owns.is).role_is owns.whole ∙ owns.role
 
-    more : lines_done h ≤ length h.answers + 1
-    more = lines_more z v a line command (place.SlotChange Publish) set S (counts_more Publish command h line set)
-
-    recorded : AreRecorded h (slots_after command h.slots)
-    recorded = change_recorded h command S.left (ap (λ (l : Line). l.command) (sym S.next) ∙ S.command_is) (record {
-      answered = answered_kept (lines_done h) (length h.answers + 1) h.lines (keys_of h.slots) more O.answered;
-      set = O.set;
-    })
+    recorded : All (IsSetBy h.lines) (slots_after command h.slots)
+    recorded = change_recorded h command S.left (ap (λ (l : Line). l.command) (sym S.next) ∙ S.command_is) O.set
 
     own : OwnLines z a after
     own =
         lines_behind z a h line (state_at (place.SlotChange Publish) command h set) (Goes (place.SlotChange Release)) after.topics after.cached
         (slots_after command h.slots) O S.next S.left O.sizes refl
-        (flushed_room (kind_of_task h.state.sizes (slot_change_task Publish h command)) h.cached set) recorded.answered recorded.set
+        (flushed_room (kind_of_task h.state.sizes (slot_change_task Publish h command)) h.cached set) recorded
 
 -- The invariant after each of its steps, where each actor knows after it what its place asks.
 pub slot_change_kept : (z : Sizes) (v : View) (a : ℕ) (line : Line) (p : SlotChangePlace) (command : Command)

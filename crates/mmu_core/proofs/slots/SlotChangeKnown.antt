@@ -10,7 +10,7 @@ use Rattle.core_views.specs.declared.place.EndPlace.{EndPlace}
 use Rattle.core_views.specs.declared.place.EndPlace.TheVariants as ends
 use Rattle.core_views.specs.declared.place.Place.TheVariants as place
 use Rattle.core_views.specs.declared.place.SlotChangePlace.{SlotChangePlace}
-use Rattle.core_views.specs.declared.place.SlotChangePlace.TheVariants.{Refuse, Claim, Fill, Role, Begin, Exclude, Count, Close, Publish}
+use Rattle.core_views.specs.declared.place.SlotChangePlace.TheVariants.{AtOnce, Claim, Fill, Role, Begin, Exclude, Count, Close, Publish}
 use Rattle.core_views.specs.declared.place.SlotChangePlace.TheVariants.{Release, End, Watch, Clear, Give}
 use Rattle.core_views.specs.declared.topics.Hold.TheVariants.{Loose, Exclusive}
 use Rattle.core_views.specs.declared.topics.Topics.{Topics}
@@ -19,7 +19,7 @@ use Rattle.core_views.specs.declared.trace.Line.{Line}
 use Rattle.core_views.specs.declared.trace.Slot.{Slot}
 use Rattle.core_views.specs.Held.{Held}
 use Rattle.core_views.specs.Sizes.{actors_of}
-use Rattle.core_views.specs.SlotCommands.{changes_slot, slot_moved}
+use Rattle.core_views.specs.SlotCommands.{changes_slot, slot_invalidated}
 use Rattle.part_steps.specs.declared.invalidations.Target.{Target}
 use Rattle.part_steps.specs.declared.part_step.PartStep.TheVariants as part
 use Rattle.part_steps.specs.ControlTopics.{count_checked}
@@ -60,7 +60,7 @@ use Rattle.mmu_core.proofs.slots.MadeWay.{way_tried, way_unraised}
 
 -- What the words say besides what the line knows: a slot that it moves fits the machine, and its own invalidation is among those that are counted.
 pub record WordsSay (p : SlotChangePlace) (command : Command) (h : Held) (v : ℕ) : Type 0 where
-  pub fits : (slot : Slot) → slot_moved h.slots command ≡ Some slot → FitsMachine h.state.sizes slot
+  pub fits : (slot : Slot) → slot_invalidated h.slots command ≡ Some slot → FitsMachine h.state.sizes slot
   pub counted : p ≡ Count → own_open h.topics.invalidations ≤ v
 
 -- ---- What is known after each step: what the next place asks, or rest where the line is answered.
@@ -97,7 +97,7 @@ module _ (line : Line) (h : Held) (command : Command) (cached : Buffer Translati
 
   -- the slot that is moved, if there is one
   abbrev moved : Option Slot
-  moved = slot_moved h.slots command
+  moved = slot_invalidated h.slots command
 
   -- after its page is filled whole
   role_known : SlotChangeKnows Role command h → RetiresPart (place.SlotChange Role) h.topics → WordsSay Role command h v → CanAnswer (part.Role set_role) v
@@ -130,7 +130,7 @@ module _ (line : Line) (h : Held) (command : Command) (cached : Buffer Translati
   pub slot_change_known : (p : SlotChangePlace) → PartRests h → SlotChangeKnows p command h → RetiresPart (place.SlotChange p) h.topics
       → WordsSay p command h v → CanAnswer (slot_change_part p h command) v
       → KnowsBehind (slot_change_outcome p command h v) command (behind p (part_topics (slot_change_part p h command) h.topics v))
-  slot_change_known (Refuse refusal) R K left W A = rests_by_seq h.topics v K.0
+  slot_change_known (AtOnce refusal) R K left W A = rests_by_seq h.topics v K.0
   slot_change_known (Claim begun) R K left W A =
       claim_known (Claim begun) _ _
       (claim_rests h.state.sizes Pages begun h.topics v _ _ _ (claim_made h.state.sizes Pages begun h.topics v) K.0 K.0.owns_none K.1)

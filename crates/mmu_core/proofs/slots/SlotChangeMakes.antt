@@ -28,14 +28,14 @@ use Rattle.core_views.specs.declared.trace.Command.{Command}
 use Rattle.core_views.specs.declared.trace.Line.{Line}
 use Rattle.core_views.specs.declared.trace.Slot.{Slot}
 use Rattle.core_views.specs.Held.{Held}
-use Rattle.core_views.specs.SlotCommands.{slot_moved}
+use Rattle.core_views.specs.SlotCommands.{slot_invalidated}
 use Rattle.spte_words.specs.declared.area.Area.{Area}
 use Rattle.spte_words.specs.declared.area.Area.TheVariants as area
 use Rattle.part_steps.specs.PartTasks.{own_index, page_owned, words_filled}
 use Rattle.mmu_core.specs.lines.SlotChangeSteps.{slot_change_note, slot_change_part, slot_change_task, slot_target}
 use Rattle.mmu_core.specs.invariant.TopicsInvariant.{TopicsInvariant}
 use Rattle.mmu_core.specs.machine.View.{View, answer_in}
-use Rattle.mmu_core.proofs.slots.Changes.{Publishes, change_small, moved_fits}
+use Rattle.mmu_core.proofs.slots.Changes.{Publishes, change_small, invalidated_fits}
 use Rattle.mmu_core.proofs.machine.PartStepping.{AreApart, Replaces}
 use Rattle.part_steps.specs.PartBounds.{PartRests}
 use Rattle.mmu_core.proofs.invariant.PartBounded.{part_rests_at}
@@ -53,7 +53,12 @@ use Rattle.mmu_core.proofs.slots.SlotChangeKept.{change_published, record_of}
 -- A slot set that is published has each slot of the one before it, or that is moved, and flushed out.
 change_replaced : (z : Sizes) (v : View) (a : ℕ) (line : Line) (command : Command) → IsStep z v a line command (place.SlotChange Publish) → Invariant z v
     → Replaces z part.Publish (v.words area.Pool) (v.words area.Slots 0) (v.hand a).topics
-change_replaced z v a line command S I = record { old = I.set_part.slots; stay = λ id slot live. by slot (new_set.stay id slot live) }
+change_replaced z v a line command S I = record {
+  old = I.set_part.slots;
+  stay = λ id slot live. by slot (new_set.stay id slot live);
+  changed = new_set.changed;
+  others = new_set.others;
+}
   where
     h : Held
     h = v.hand a
@@ -61,12 +66,12 @@ change_replaced z v a line command S I = record { old = I.set_part.slots; stay =
     new_set : Publishes z (v.words area.Pool) (v.words area.Slots 0) (page_owned h.topics.owned) command h.slots
     new_set = change_published z v a line command S I
 
-    flushed : (slot : Slot) → slot_moved h.slots command ≡ Some slot → IsFlushedOut z.vcpus slot h.topics
+    flushed : (slot : Slot) → slot_invalidated h.slots command ≡ Some slot → IsFlushedOut z.vcpus slot h.topics
     flushed slot is =
         subst (λ (y : Sizes). IsFlushedOut y.vcpus slot h.topics) (I.lines a S.there).sizes
         ((step_knows z v a line command (place.SlotChange Publish) S I).1.2.flushed slot is)
 
-    by : {A : Type 0} (slot : Slot) → A ⊎ (slot_moved h.slots command ≡ Some slot) → A ⊎ IsFlushedOut z.vcpus slot h.topics
+    by : {A : Type 0} (slot : Slot) → A ⊎ (slot_invalidated h.slots command ≡ Some slot) → A ⊎ IsFlushedOut z.vcpus slot h.topics
     by slot (inl stays) = inl stays
     by slot (inr moves) = inr (flushed slot moves)
 
@@ -112,7 +117,7 @@ pub change_said : (z : Sizes) (v : View) (a : ℕ) (line : Line) (p : SlotChange
 change_said z v a line p command S I P = record {
   fits = λ slot is.
       subst (λ (y : Sizes). FitsMachine y slot) (sym (I.lines a S.there).sizes)
-      (moved_fits z (v.words area.Pool) (v.words area.Slots 0) (v.hand a).slots command slot (record_of z v a line command p S I) I.set_part.slots is);
+      (invalidated_fits z (v.words area.Pool) (v.words area.Slots 0) (v.hand a).slots command slot (record_of z v a line command p S I) I.set_part.slots is);
   counted = λ is.
       subst (λ q. own_open (v.hand a).topics.invalidations ≤ answer_in (slot_change_task q (v.hand a) command) v.words) (sym is)
       (own_counted z v a P S.there);

@@ -2,11 +2,11 @@
 use Rattle.std.proofs.Common.{inr, ◌<◌, ◌^◌, refl, ap, arith}
 use Rattle.core_views.specs.declared.place.Place.TheVariants as place
 use Rattle.core_views.specs.declared.place.SlotChangePlace.{SlotChangePlace}
-use Rattle.core_views.specs.declared.place.SlotChangePlace.TheVariants.{Refuse, Claim, Fill, Role, Begin, Count, Publish}
+use Rattle.core_views.specs.declared.place.SlotChangePlace.TheVariants.{AtOnce, Claim, Fill, Role, Begin, Count, Publish}
 use Rattle.core_views.specs.declared.place.SlotChangePlace.TheVariants.{End, Watch, Clear, Give}
 use Rattle.core_views.specs.declared.trace.Command.{Command}
 use Rattle.core_views.specs.Held.{Held}
-use Rattle.core_views.specs.SlotCommands.{slot_moved, slots_after}
+use Rattle.core_views.specs.SlotCommands.{slot_invalidated, slots_after}
 use Rattle.part_steps.specs.FrameTopics.{is_uncopied}
 use Rattle.part_steps.specs.PartBounds.{PartRests}
 use Rattle.part_steps.specs.PartSteps.{PartNeeds}
@@ -25,12 +25,12 @@ use Rattle.mmu_core.proofs.slots.MadeWay.{owns_aimed}
 pub slot_change_needs : (p : SlotChangePlace) (h : Held) (command : Command)
     → set_word (slots_after command h.slots) (words_filled h.topics.owned) < 2 ^ 64 → PartRests h → SlotChangeKnows p command h
     → RetiresPart (place.SlotChange p) h.topics → PartNeeds (slot_change_part p h command) h
-slot_change_needs (Refuse refusal) h command small R K left = tt
+slot_change_needs (AtOnce refusal) h command small R K left = tt
 slot_change_needs (Claim begun) h command small R K left = claim_needs Pages begun h R.sizes K.0.owns_none K.1
 slot_change_needs Fill h command small R K left = (K.1, small, owned_below h R K.1.0)
 slot_change_needs Role h command small R K left = (K.1, omega arith, owned_below h R (full_owns h.topics.owned K.1))
 slot_change_needs (Begin p) h command small R K left =
-    begin_needs p h (slot_target h command) R K.3.frames (owns_aimed (slot_or_none (slot_moved h.slots command)) h.topics K.0)
+    begin_needs p h (slot_target h command) R K.3.frames (owns_aimed (slot_or_none (slot_invalidated h.slots command)) h.topics K.0)
     (ap is_uncopied (left.frames refl)) K.1
 slot_change_needs Count h command small R K left = tt
 slot_change_needs Publish h command small R K left = K.1

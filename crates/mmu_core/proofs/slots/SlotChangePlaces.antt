@@ -1,27 +1,27 @@
 -- A line that changes a slot at its places: where it begins, goes on to and ends, what it has loaded, what the record accepts, and how many steps it has left.
 use Rattle.std.proofs.Common.{◌≡◌, ◌<◌, ◌≤◌, ℕ, ◌∙◌, ◌+◌, ◌*◌, ap, arith, length, ◌≢◌, refl}
 use Rattle.std.proofs.Props.{props}
-use Rattle.std.specs.Prelude.{true, Option, Some, None, Bool, false, List, [], ◌∷◌, nat_lt}
+use Rattle.std.specs.Prelude.{true, Option, Some, None, Bool, false, List, [], ◌∷◌, is_none, nat_lt}
 use Rattle.core_views.specs.declared.answer.Answer.{Answer}
 use Rattle.core_views.specs.declared.answer.Answer.TheVariants.{Done, Refused, Starved}
 use Rattle.core_views.specs.declared.answer.Refusal.{Refusal}
-use Rattle.core_views.specs.declared.answer.Refusal.TheVariants.{BadId, TooLarge, Logged, NoFrame, Resize, Fixed, Overlap, HostOverlap}
-use Rattle.core_views.specs.Refusals.{moves_logged}
+use Rattle.core_views.specs.declared.answer.Refusal.TheVariants.{BadId, TooLarge, Missing, Logged, NoFrame, Resize, Fixed, Overlap, HostOverlap}
+use Rattle.core_views.specs.Refusals.{is_logged, moves_logged}
 use Rattle.core_views.specs.Slots.{changes_fixed, first_of, is_some_and, is_too_large, meets_guest_frames, meets_host_pages, resizes, slot_with_id}
 use Rattle.core_views.specs.declared.place.BeginPlace.TheVariants as begins
 use Rattle.core_views.specs.declared.place.EndPlace.TheVariants as ends
 use Rattle.core_views.specs.declared.place.Place.TheVariants as place
 use Rattle.core_views.specs.declared.place.SlotChangePlace.{SlotChangePlace}
-use Rattle.core_views.specs.declared.place.SlotChangePlace.TheVariants.{Refuse, Claim, Fill, Begin, Publish, Release, End, Watch, Clear, Give}
+use Rattle.core_views.specs.declared.place.SlotChangePlace.TheVariants.{AtOnce, Claim, Fill, Begin, Publish, Release, End, Watch, Clear, Give}
 use Rattle.core_views.specs.declared.sizes.Sizes.{Sizes}
 use Rattle.core_views.specs.declared.slot_set.MemorySlot.{MemorySlot}
 use Rattle.core_views.specs.declared.topics.Topics.{Topics}
 use Rattle.core_views.specs.declared.trace.Slot.{Slot}
 use Rattle.core_views.specs.declared.trace.Command.{Command}
-use Rattle.core_views.specs.declared.trace.Command.TheVariants.{Access, ChangeHost, SetSlot}
+use Rattle.core_views.specs.declared.trace.Command.TheVariants.{Access, ChangeHost, DeleteSlot, SetSlot}
 use Rattle.core_views.specs.Held.{Held}
 use Rattle.core_views.specs.Sizes.{actors_of}
-use Rattle.core_views.specs.SlotCommands.{change_refusal, changes_slot, slot_change, slot_moved}
+use Rattle.core_views.specs.SlotCommands.{at_once, change_at_once, changes_slot, is_unchanged, slot_change, slot_invalidated}
 use Rattle.core_views.specs.SlotSets.{MemorySlots, flat_slots, slot_of_id}
 use Rattle.spte_words.specs.Areas.{words_of_bits}
 use Rattle.part_steps.specs.declared.invalidations.Target.TheVariants as aim
@@ -82,18 +82,18 @@ slot_change_goes _ command h v = (tt, tt)
 -- ---- what it has loaded
 
 -- Where it begins it has loaded nothing.
-pub slot_change_begins : (z : Sizes) (pool : ℕ → ℕ) (set : ℕ) (command : Command) (h : Held) (r : Option Refusal) → change_refusal z command h.slots ≡ r
-    → Holds z pool set (place.SlotChange (slot_change_first r)) command h
+pub slot_change_begins : (z : Sizes) (pool : ℕ → ℕ) (set : ℕ) (command : Command) (h : Held) (r : Option (Option Refusal))
+    → change_at_once z command h.slots ≡ r → Holds z pool set (place.SlotChange (slot_change_first r)) command h
 slot_change_begins z pool set command h None is = is
 slot_change_begins z pool set command h (Some refusal) is = is
 
 -- What it has stored stays where the words of its own page do.
 module _ (z : Sizes) (before after : ℕ → ℕ) (h : Held) (own : OwnedStays before after h) where
   fills_stay : (command : Command) → FillsSet z before command h.slots h.topics.owned → FillsSet z after command h.slots h.topics.owned
-  fills_stay command F = record { accepted = F.accepted; filled = λ o is j lt word. own o is j word ∙ F.filled o is j lt word }
+  fills_stay command F = record { works = F.works; filled = λ o is j lt word. own o is j word ∙ F.filled o is j lt word }
 
   pub slot_change_stays : (p : SlotChangePlace) (command : Command) → SlotChangeHolds z before p command h → SlotChangeHolds z after p command h
-  slot_change_stays (Refuse refusal) command e = e
+  slot_change_stays (AtOnce refusal) command e = e
   slot_change_stays (Claim begun) command e = e
   slot_change_stays Release command e = e
   slot_change_stays (End p) command e = e
@@ -106,7 +106,7 @@ module _ (z : Sizes) (before after : ℕ → ℕ) (h : Held) (own : OwnedStays b
 
 pub change_accepts : (p : SlotChangePlace) (command : Command) (z : Sizes) (pool : ℕ → ℕ) (h : Held) → SlotChangeHolds z pool p command h
     → RecordAccepts p z command h.slots
-change_accepts Publish command z pool h e = e.accepted
+change_accepts Publish command z pool h e = e.works
 change_accepts _ command z pool h e = tt
 
 pub accepts_prop : (p : SlotChangePlace) (z : Sizes) (command : Command) (slots : MemorySlots) → IsProp (RecordAccepts p z command slots)
@@ -123,7 +123,7 @@ slot_change_few (Claim begun) command h most K = let few = claim_few Pages begun
 slot_change_few (Begin p) command h most K =
     let z : Sizes = h.state.sizes in
     let own_ = h.topics.invalidations.own in
-    let slot : Slot = slot_or_none (slot_moved h.slots command) in
+    let slot : Slot = slot_or_none (slot_invalidated h.slots command) in
     let pages = K.3.pages in
     let few = begin_few p z z (aim.Slot slot) z.pages h.topics most (λ F. let first = F.0 in let last = F.1 in omega (arith, first, last, pages)) K.1 in
     omega (arith, few)
@@ -131,7 +131,7 @@ slot_change_few (End p) command h most K = let few = end_few p in omega (arith, 
 slot_change_few _ command h most K = omega arith
 
 pub some_change_left : (p : SlotChangePlace) (z : Sizes) (t : Topics) → 0 < slot_change_left p z t
-some_change_left (Refuse refusal) z t = omega arith
+some_change_left (AtOnce refusal) z t = omega arith
 some_change_left (Begin p) z t = omega arith
 some_change_left (End p) z t = omega arith
 some_change_left _ z t = omega arith
@@ -139,25 +139,27 @@ some_change_left _ z t = omega arith
 -- ---- where it begins
 
 -- Its first step doesn't wait.
-pub begins_at_once : (r : Option Refusal) (command : Command) (h : Held) (v : ℕ) → line_waits (place.SlotChange (slot_change_first r)) command h v ≡ true → ⊥
+pub begins_at_once : (r : Option (Option Refusal)) (command : Command) (h : Held) (v : ℕ)
+    → line_waits (place.SlotChange (slot_change_first r)) command h v ≡ true → ⊥
 begins_at_once (Some refusal) command h v is = cc is
 begins_at_once None command h v is = cc is
 
--- No row of conditions refuses it for want of a frame.
-abbrev for_frames : Option Refusal → Bool
+-- It isn't answered at once for want of a frame.
+abbrev for_frames : Option (Option Refusal) → Bool
 for_frames None = false
-for_frames (Some refusal) = is_of_frames refusal
+for_frames (Some refusal) = is_some_and is_of_frames refusal
 
 abbrev AreOfSlots : List (Bool × Refusal) → Type 0
 AreOfSlots [] = Unit {0}
 AreOfSlots ((holds, refusal) ∷ rows) = (is_of_frames refusal ≡ false) × AreOfSlots rows
 
-none_for_frames : (rows : List (Bool × Refusal)) → AreOfSlots rows → for_frames (first_of rows) ≡ false
-none_for_frames [] S = refl
-none_for_frames ((true, refusal) ∷ rows) S = S.0
-none_for_frames ((false, refusal) ∷ rows) S = none_for_frames rows S.1
+none_for_frames : (rows : List (Bool × Refusal)) (same : Bool) → AreOfSlots rows → for_frames (at_once (first_of rows) same) ≡ false
+none_for_frames [] true S = refl
+none_for_frames [] false S = refl
+none_for_frames ((true, refusal) ∷ rows) same S = S.0
+none_for_frames ((false, refusal) ∷ rows) same S = none_for_frames rows same S.1
 
-never_for_frames : (z : Sizes) (command : Command) (slots : MemorySlots) → for_frames (change_refusal z command slots) ≡ false
+never_for_frames : (z : Sizes) (command : Command) (slots : MemorySlots) → for_frames (change_at_once z command slots) ≡ false
 never_for_frames z (Access gfn word op) slots = refl
 never_for_frames z (ChangeHost page change) slots = refl
 never_for_frames z (SetSlot id slot) slots = none_for_frames (
@@ -168,21 +170,26 @@ never_for_frames z (SetSlot id slot) slots = none_for_frames (
     ∷ (is_some_and (moves_logged slot) (slot_of_id id slots), Logged)
     ∷ (meets_guest_frames id slot (flat_slots slots), Overlap)
     ∷ (meets_host_pages id slot (flat_slots slots), HostOverlap)
-    ∷ []) (refl, (refl, (refl, (refl, (refl, (refl, (refl, tt)))))))
+    ∷ []) (is_unchanged (SetSlot id slot) slots) (refl, (refl, (refl, (refl, (refl, (refl, (refl, tt)))))))
+never_for_frames z (DeleteSlot id) slots = none_for_frames (
+    (nat_lt 31 id, BadId)
+    ∷ (is_none (slot_of_id id slots), Missing)
+    ∷ (is_logged id slots, Logged)
+    ∷ []) false (refl, (refl, (refl, tt)))
 
 -- It knows what its first place asks, where its actor is at rest.
 pub slot_change_begins_known : (z : Sizes) (command : Command) (h : Held) → IsAtRest h.topics
-    → SlotChangeKnows (slot_change_first (change_refusal z command h.slots)) command h
-slot_change_begins_known z command h R = by (change_refusal z command h.slots) (never_for_frames z command h.slots)
+    → SlotChangeKnows (slot_change_first (change_at_once z command h.slots)) command h
+slot_change_begins_known z command h R = by (change_at_once z command h.slots) (never_for_frames z command h.slots)
   where
-    by : (r : Option Refusal) → for_frames r ≡ false → SlotChangeKnows (slot_change_first r) command h
+    by : (r : Option (Option Refusal)) → for_frames r ≡ false → SlotChangeKnows (slot_change_first r) command h
     by None never = (R, λ e. absurd (cc e))
     by (Some refusal) never = (R, never)
 
 -- ---- what it knows is a proposition
 
 pub slot_change_knows_prop : (p : SlotChangePlace) (command : Command) (h : Held) → IsProp ((changes_slot command ≡ true) × SlotChangeKnows p command h)
-slot_change_knows_prop (Refuse refusal) command h = hlevel props
+slot_change_knows_prop (AtOnce refusal) command h = hlevel props
 slot_change_knows_prop (Begin begins.Exclude) command h = hlevel props
 slot_change_knows_prop (Begin (begins.Find begun)) command h = hlevel props
 slot_change_knows_prop (Begin (begins.Walk rooted)) command h = hlevel props
@@ -204,7 +211,7 @@ pub slot_change_free : (p : SlotChangePlace) (h : Held) (command : Command) (v :
 slot_change_free (Claim begun) h command v answer e =
     claim_free h.state.sizes Pages begun h.topics v _ _ _ (claim_made h.state.sizes Pages begun h.topics v) (place.SlotChange (Claim true))
     (place.SlotChange Fill) Starved answer e
-slot_change_free (Refuse refusal) h command v answer e = refl
+slot_change_free (AtOnce refusal) h command v answer e = refl
 slot_change_free (Begin p) h command v answer e = absurd (cc e)
 slot_change_free (End p) h command v answer e = absurd (cc e)
 slot_change_free Give h command v answer e = refl

@@ -17,7 +17,7 @@ use Rattle.core_views.specs.declared.topics.Topics.{Topics}
 use Rattle.core_views.specs.declared.trace.Command.{Command}
 use Rattle.core_views.specs.declared.trace.Line.{Line}
 use Rattle.core_views.specs.Held.{Held}
-use Rattle.core_views.specs.SlotCommands.{change_refusal, slot_moved, slots_after}
+use Rattle.core_views.specs.SlotCommands.{change_at_once, slot_invalidated, slots_after}
 use Rattle.spte_words.specs.declared.area.Area.{Area}
 use Rattle.spte_words.specs.declared.area.Area.TheVariants as area
 use Rattle.part_steps.specs.declared.invalidations.Target.{Target}
@@ -66,10 +66,10 @@ module _ (line : Line) (h : Held) (command : Command) (cached : Buffer Translati
   -- ---- what it has filled of the page
 
   claim_holds : (z : Sizes) (pool : ℕ → ℕ) (set : ℕ) (begun : Bool) (step : PartStep) (next : ClaimNext) (u : Topics)
-      → ClaimMade h.state.sizes Pages begun h.topics v step next u → change_refusal z command h.slots ≡ None
+      → ClaimMade h.state.sizes Pages begun h.topics v step next u → change_at_once z command h.slots ≡ None
       → Holds z pool set (place_after (after_set_claim next)) command (behind (Claim begun) u)
   claim_holds z pool set begun _ _ _ (made.Won tries b some is) e =
-      record { accepted = e; filled = none_filled pool (set_word (slots_after command h.slots)) (page_won h.topics.claim) refl }
+      record { works = e; filled = none_filled pool (set_word (slots_after command h.slots)) (page_won h.topics.claim) refl }
   claim_holds z pool set begun _ _ _ (made.SawNone not_ le) e = tt
   claim_holds z pool set begun _ _ _ _ e = e
 
@@ -89,20 +89,20 @@ module _ (line : Line) (h : Held) (command : Command) (cached : Buffer Translati
   change_holds z words set Fill K stays e =
       let pool : ℕ → ℕ = words_after (slot_change_task Fill h command) words area.Pool in
       let filled = one_more (words area.Pool) (set_word (slots_after command h.slots)) h.topics.owned v K.1.1 e.filled in
-      let F : FillsSet z pool command h.slots (filled_more h.topics.owned v) = record { accepted = e.accepted; filled = filled } in
+      let F : FillsSet z pool command h.slots (filled_more h.topics.owned v) = record { works = e.works; filled = filled } in
       either_place (λ q. SlotChangeHolds z pool q command (behind Fill (record h.topics { owned = filled_more h.topics.owned v })))
       (nat_lt (words_filled h.topics.owned + 1) 512) Fill Role F F
   change_holds z words set Role K stays e =
       let filled = all_filled (words area.Pool) (set_word (slots_after command h.slots)) h.topics.owned v K.1 e.filled in
-      let F : FillsSet z (words area.Pool) command h.slots (filled_more h.topics.owned v) = record { accepted = e.accepted; filled = filled } in
+      let F : FillsSet z (words area.Pool) command h.slots (filled_more h.topics.owned v) = record { works = e.works; filled = filled } in
       either_place (λ q. SlotChangeHolds z (words area.Pool) q command (behind Role (record h.topics { owned = filled_more h.topics.owned v })))
-      (is_some (slot_moved h.slots command)) (Begin begins.Exclude) Exclude F F
+      (is_some (slot_invalidated h.slots command)) (Begin begins.Exclude) Exclude F F
   change_holds z words set (Begin p) K stays e =
       let target : Target = slot_target h command in
       let pool : ℕ → ℕ = words_after (slot_change_task (Begin p) h command) words area.Pool in
       let same = (begin_leaves_pages p target h.topics v).owned in
       begin_holds z pool p (begin_next p h.state.sizes target h.topics v) (part_topics (slot_change_part (Begin p) h command) h.topics v) (record {
-        accepted = e.accepted;
+        works = e.works;
         filled =
             subst (IsFilledWith pool (slots_after command h.slots)) (sym same) (λ o is j lt word. stays refl o is j word ∙ e.filled o is j lt word);
       })
@@ -173,8 +173,8 @@ module _ (h : Held) (command : Command) (v : ℕ) where
   change_opens (Begin p) R K left A =
       let target : Target = slot_target h command in
       begin_opens (begin_next p h.state.sizes target h.topics v) (after (Begin p))
-      (begin_known p h.state.sizes target h.topics v R.sizes K.3.frames (owns_aimed (slot_or_none (slot_moved h.slots command)) h.topics K.0) R.frames R.level
-      K.1 A)
+      (begin_known p h.state.sizes target h.topics v R.sizes K.3.frames
+      (owns_aimed (slot_or_none (slot_invalidated h.slots command)) h.topics K.0) R.frames R.level K.1 A)
   change_opens Exclude R K left A = either_place (λ q. Opens q (after Exclude)) (v == 0) Count Exclude (λ may. absurd (cc may)) (λ may. absurd (cc may))
   change_opens Count R K left A =
       either_place (λ q. Opens q (after Count)) (v == own_open h.topics.invalidations) Publish Close (λ may. absurd (cc may)) (λ may. absurd (cc may))

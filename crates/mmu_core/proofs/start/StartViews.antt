@@ -1,7 +1,6 @@
 -- The words and hands of a start, as columns; and that there is a start.
 use Rattle.std.proofs.Common.{◌≡◌, ◌⊎◌, inl, inr, ◌<◌, ◌≤◌, ℕ, zero, suc, List, [], ◌∷◌, ◌++◌, length, refl, ap, ◌∙◌, arith, length-append}
-use Rattle.std.specs.List.{IsDistinct}
-use Rattle.std.specs.Prelude.{◌==◌, All, Bool, true, false, nat_lt, if◌then◌else◌, slice_index, slice_index_or}
+use Rattle.std.specs.Prelude.{All, Bool, true, false, nat_lt, if◌then◌else◌, slice_index, slice_index_or}
 use Rattle.std.proofs.lemmas.Bool.{cases_lt}
 use Rattle.std.proofs.lemmas.List.{get_or_append_left, get_or_push}
 use Rattle.std.proofs.lemmas.Bool.Decides.{nat_tests}
@@ -9,7 +8,7 @@ use Rattle.core_views.specs.declared.sizes.Sizes.{Sizes}
 use Rattle.core_views.specs.declared.trace.Line.{Line}
 use Rattle.core_views.specs.Held.{Held}
 use Rattle.core_views.specs.Sizes.{AreSizes, actors_of}
-use Rattle.core_views.specs.Traces.{IsCommandFor, slot_ids}
+use Rattle.core_views.specs.Traces.{IsCommandFor}
 use Rattle.spte_words.specs.declared.area.Area.{Area}
 use Rattle.spte_words.specs.Areas.{StandsSomewhere, place, size_of, total}
 use Rattle.spte_words.proofs.Places.{place_below, places_apart, word_stands}
@@ -79,8 +78,8 @@ start_words z = record {
 }
 
 pub a_start : (z : Sizes) (lines : List Line) → AreSizes z → All (λ line. IsCommandFor z line.actor line.command) lines
-    → IsDistinct (λ i j. i == j) (slot_ids lines) → length lines ≤ 1000000 → (w : World Held) × IsStart z lines w
-a_start z lines sizes allowed distinct few = (
+    → length lines ≤ 1000000 → (w : World Held) × IsStart z lines w
+a_start z lines sizes allowed few = (
   record { words = first_of (word_of z) (total (map_of z)); hands = start_hands z lines (actors_of z) },
-  record { sizes = sizes; allowed = allowed; distinct = distinct; few = few; words = start_words z; hands = refl },
+  record { sizes = sizes; allowed = allowed; few = few; words = start_words z; hands = refl },
 )

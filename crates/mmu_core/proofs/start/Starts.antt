@@ -1,11 +1,10 @@
 -- The invariant holds of every start, and so of every world that is reached.
-use Rattle.std.proofs.Common.{◌≡◌, ◌≢◌, ◌<◌, ◌≤◌, ◌+◌, ◌-◌, ◌*◌, ◌^◌, ℕ, zero, suc, List, [], ◌∷◌, length, take, get_or, refl, sym, subst, ap, ◌∙◌, arith}
+use Rattle.std.proofs.Common.{◌≡◌, ◌≢◌, ◌<◌, ◌≤◌, ◌+◌, ◌-◌, ◌*◌, ◌^◌, ℕ, zero, suc, List, [], ◌∷◌, length, get_or, refl, sym, subst, ap, ◌∙◌, arith}
 use Rattle.std.proofs.Math.Logic.{∥∥₁_map}
 use Rattle.std.proofs.Math.Pow.{pow_mono}
 use Rattle.std.proofs.lemmas.Bool.Decides.{nat_tests, Decides-eqb}
 use Rattle.std.proofs.lemmas.Nat.{pow_pos}
 use Rattle.std.proofs.lemmas.List.Elements.{All-nil}
-use Rattle.std.specs.List.{AllByRecursion, Contains, IsDistinct}
 use Rattle.part_steps.specs.SlotWords.{live_at, memory_slot_at}
 use Rattle.mmu_core.proofs.words.SlotLists.{none_below}
 use Rattle.std.specs.Prelude.{All, Bool, true, false, ◌==◌, nat_lt, if◌then◌else◌, slice_index}
@@ -17,7 +16,7 @@ use Rattle.core_views.specs.declared.trace.Line.{Line}
 use Rattle.core_views.specs.Actors.{is_same}
 use Rattle.core_views.specs.Held.{Held, first_held}
 use Rattle.core_views.specs.Sizes.{AreSizes, actor_at, actors_of, index_of}
-use Rattle.core_views.specs.Traces.{IsCommandFor, or_slot_id, slot_ids}
+use Rattle.core_views.specs.Traces.{IsCommandFor}
 use Rattle.core_views.specs.Whole.{lines_of}
 use Rattle.spte_words.specs.declared.area.Area.{Area}
 use Rattle.spte_words.specs.declared.area.Area.TheVariants as area
@@ -38,7 +37,6 @@ use Rattle.mmu_core.specs.machine.Worlds.{AreStartWords, HandReached, IsStart, R
 pub use Rattle.mmu_core.proofs.start.StartWords.{hand_is, word_at_start}
 use Rattle.mmu_core.proofs.start.StartWords.{hands_count, least_low, pool_word}
 use Rattle.mmu_core.proofs.start.StartTopics.{rest_first, seq_start, start_topics}
-use Rattle.mmu_core.proofs.lines.LinesKept.{AddsId, NoId, OneId, adds_id}
 use Rattle.mmu_core.proofs.invariant.RestsKept.{hand_rests, rests_stay}
 use Rattle.mmu_core.specs.invariant.Laws.{IsSound}
 use Rattle.mmu_core.proofs.held.UsableSteps.{none_usable}
@@ -124,50 +122,6 @@ chosen_own actor (line ∷ lines) = by (chosen_own actor lines) (is_same actor l
     by rest true is = (is refl, rest)
     by rest false is = rest
 
--- the IDs that an actor's lines set are among those of all, in their order
-all_behind : (P : ℕ → Type 0) (with_id : List ℕ → List ℕ) (ids : List ℕ) → AddsId with_id → AllByRecursion P (with_id ids) → AllByRecursion P ids
-all_behind P _ ids NoId e = e
-all_behind P _ ids (OneId id) e = e.1
-
-all_with : (P : ℕ → Type 0) (with_id : List ℕ → List ℕ) (ids own : List ℕ) → AddsId with_id → (AllByRecursion P ids → AllByRecursion P own)
-    → AllByRecursion P (with_id ids) → AllByRecursion P (with_id own)
-all_with P _ ids own NoId rest e = rest e
-all_with P _ ids own (OneId id) rest e = (e.0, rest e.1)
-
-chosen_ids : (P : ℕ → Type 0) (actor : Actor) (lines : List Line) → AllByRecursion P (slot_ids lines) → AllByRecursion P (slot_ids (lines_of actor lines))
-chosen_ids P actor [] e = tt
-chosen_ids P actor (line ∷ lines) e = by (is_same actor line.actor) (chosen_ids P actor lines)
-  where
-    by : (b : Bool) → (AllByRecursion P (slot_ids lines) → AllByRecursion P (slot_ids (lines_of actor lines)))
-        → AllByRecursion P (slot_ids (if b then line ∷ lines_of actor lines else lines_of actor lines))
-    by true rest = all_with P (or_slot_id line.command) (slot_ids lines) (slot_ids (lines_of actor lines)) (adds_id line.command) rest e
-    by false rest = rest (all_behind P (or_slot_id line.command) (slot_ids lines) (adds_id line.command) e)
-
--- No two of an actor's lines set a slot at one ID, where no two of all do.
-abbrev Differ : List ℕ → Type 0
-Differ ids = IsDistinct (λ i j. i == j) ids
-
-differ_behind : (with_id : List ℕ → List ℕ) (ids : List ℕ) → AddsId with_id → Differ (with_id ids) → Differ ids
-unfolding IsDistinct
-differ_behind _ ids NoId e = e
-differ_behind _ ids (OneId id) e = e.1
-
-differ_with : (with_id : List ℕ → List ℕ) (ids own : List ℕ) → AddsId with_id → ((P : ℕ → Type 0) → AllByRecursion P ids → AllByRecursion P own)
-    → (Differ ids → Differ own) → Differ (with_id ids) → Differ (with_id own)
-unfolding IsDistinct
-differ_with _ ids own NoId each rest e = rest e
-differ_with _ ids own (OneId id) each rest e = (each (λ j. (id == j) ≡ false) e.0, rest e.1)
-
-chosen_distinct : (actor : Actor) (lines : List Line) → Differ (slot_ids lines) → Differ (slot_ids (lines_of actor lines))
-chosen_distinct actor [] e = e
-chosen_distinct actor (line ∷ lines) e = by (is_same actor line.actor) (chosen_distinct actor lines)
-  where
-    by : (b : Bool) → (Differ (slot_ids lines) → Differ (slot_ids (lines_of actor lines)))
-        → Differ (slot_ids (if b then line ∷ lines_of actor lines else lines_of actor lines))
-    by true rest =
-        differ_with (or_slot_id line.command) (slot_ids lines) (slot_ids (lines_of actor lines)) (adds_id line.command) (λ P. chosen_ids P actor lines) rest e
-    by false rest = rest (differ_behind (or_slot_id line.command) (slot_ids lines) (adds_id line.command) e)
-
 -- An actor has no more lines than there are.
 chosen_few : (actor : Actor) (lines : List Line) → length (lines_of actor lines) ≤ length lines
 chosen_few actor [] = omega arith
@@ -189,10 +143,8 @@ first_lines z lines w i start lt =
       cache = refl;
       allowed = all_of P (lines_of actor lines) (chosen_each P actor lines (each_of P lines start.allowed));
       own = all_of (λ line. line.actor ≡ actor) (lines_of actor lines) (chosen_own actor lines);
-      distinct = chosen_distinct actor lines start.distinct;
       under = tt;
       few = omega (arith, chosen_few actor lines, start.few);
-      answered = All-nil (Contains (slot_ids (take 0 (lines_of actor lines))));
       set = All-nil (IsSetBy (lines_of actor lines));
     }
 

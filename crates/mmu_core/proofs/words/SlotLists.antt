@@ -1,12 +1,14 @@
 -- The list of the live slots of a set, and the host page that a list of slots gives a guest frame.
 use Rattle.std.proofs.Common.{◌≡◌, ◌≢◌, ◌<◌, ◌≤◌, ◌⊎◌, inl, inr, ℕ, zero, suc, List, [], ◌∷◌, ◌++◌, refl, sym, ap, ◌∙◌, arith}
-use Rattle.std.specs.Prelude.{All, Bool, true, false, ◌&&◌, if◌then◌else◌, Some, None}
+use Rattle.std.specs.List.{filter}
+use Rattle.std.specs.Prelude.{All, Bool, true, false, not, ◌==◌, ◌&&◌, if◌then◌else◌, Some, None}
 use Rattle.std.specs.BTreeMap.{insert_entry}
 use Rattle.std.specs.Ordering.{match_ordering, nat_cmp}
 use Rattle.std.specs.declared.cmp.Ordering.{Ordering}
 use Rattle.std.specs.declared.cmp.Ordering.TheVariants.{Less, Equal, Greater}
 use Rattle.std.proofs.lemmas.Bool.Decides.{nat_tests}
 use Rattle.std.proofs.lemmas.List.{map-append}
+use Rattle.std.proofs.lemmas.List.Elements.{filter-append}
 use Rattle.std.proofs.lemmas.List.Elements.{All-nil, All-cons, All-head, All-tail, All-append}
 use Rattle.core_views.specs.declared.trace.Op.{Op}
 use Rattle.core_views.specs.declared.trace.Slot.{Slot}
@@ -200,6 +202,37 @@ one_put_live {A} live other at there id (suc n) lt lives same is =
         ∙ ap (λ (xs : List (ℕ × A)). with_at id new_ (live_below live at n) ++ xs) (same_last (other n) (live n) n (there n) (at n)
         (same n (omega arith) apart) (λ on. is n (omega arith) apart (sym (same n (omega arith) apart) ∙ on)))
         ∙ sym (insert_then id new_ (live_below live at n) (last (live n) (at n)) (behind less (live n) (at n)))
+
+-- This ID is live no more, and the others are as they were: the list is without it.
+pub one_gone_live : {A : Type 0} (live other : ℕ → Bool) (at there : ℕ → A) (id n : ℕ) → other id ≡ false
+    → ((i : ℕ) → i < n → i ≢ id → other i ≡ live i) → ((i : ℕ) → i < n → i ≢ id → live i ≡ true → there i ≡ at i)
+    → live_below other there n ≡ filter (λ e. not (e.0 == id)) (live_below live at n)
+one_gone_live live other at there id zero gone same is = refl
+one_gone_live {A} live other at there id (suc n) gone same is =
+    ap (λ (xs : List (ℕ × A)). xs ++ last (other n) (there n))
+    (one_gone_live live other at there id n gone (λ i below. same i (omega arith)) (λ i below. is i (omega arith)))
+    ∙ ap (λ (xs : List (ℕ × A)). filter (λ e. not (e.0 == id)) (live_below live at n) ++ xs) (by (same_or n id))
+    ∙ sym (filter-append (λ e. not (e.0 == id)) (live_below live at n) (last (live n) (at n)))
+  where
+    last : Bool → A → List (ℕ × A)
+    last b x = if b then (n, x) ∷ [] else []
+
+    -- the last one leaves the list, or stays in it
+    leaves : (b : Bool) (x : A) → (n == id) ≡ true → filter (λ e. not (e.0 == id)) (last b x) ≡ []
+    leaves true x here = rw here refl
+    leaves false x here = refl
+
+    stays : (b : Bool) (x : A) → (n == id) ≡ false → filter (λ e. not (e.0 == id)) (last b x) ≡ last b x
+    stays true x here = rw here refl
+    stays false x here = refl
+
+    by : (n ≡ id) ⊎ (n ≢ id) → last (other n) (there n) ≡ filter (λ e. not (e.0 == id)) (last (live n) (at n))
+    by (inl e) =
+        ap (λ b. last b (there n)) (ap other e ∙ gone) ∙ sym (leaves (live n) (at n) (grind (arith, nat_tests)))
+    by (inr apart) =
+        same_last (other n) (live n) n (there n) (at n)
+        (same n (omega arith) apart) (λ on. is n (omega arith) apart (sym (same n (omega arith) apart) ∙ on))
+        ∙ sym (stays (live n) (at n) (grind (arith, nat_tests)))
 
 -- Slots none of which holds the guest frame, or only read-only ones for a write, give it no page.
 pub no_page_behind : (slots : Slots) (gfn : ℕ) (op : Op) → All (λ e. contains gfn e.1 ≡ true → (is_write op && e.1.read_only) ≡ true) slots

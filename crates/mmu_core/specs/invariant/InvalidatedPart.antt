@@ -1,6 +1,6 @@
 -- Open invalidations: which guest frames they are of, and that from the sweep on no leaf of these is left, and nothing cached of them once a flush was awaited
 -- (mmu_notifier.rst; tdp_mmu.c, kvm_tdp_mmu_unmap_gfn_range; vcpu-requests.rst).
-use Rattle.std.specs.Prelude.{◌≡◌, ◌<◌, ◌≤◌, ℕ, All, List, Bool, true, false, [], not, Some, is_some}
+use Rattle.std.specs.Prelude.{◌≡◌, ◌<◌, ◌≤◌, ◌^◌, ℕ, All, List, Bool, true, false, [], not, Some, is_some}
 use Rattle.core_views.specs.declared.cache.Translation.{Translation}
 use Rattle.core_views.specs.declared.topics.Hold.TheVariants.{Exclusive}
 use Rattle.core_views.specs.declared.topics.Invalidated.{Invalidated}
@@ -26,16 +26,17 @@ IsIn own_ gfn = (own_.start ≤ gfn) × (gfn < own_.end)
 
 -- ---- which frames they are of
 
--- The range of open invalidations has the guest frames of each.
+-- The range of open invalidations has the guest frames of each, which lie below 2 ^ 36.
 abbrev pub RangePart : ℕ → ℕ → ℕ → (ℕ → Topics) → Type 0
 RangePart n start end_ topics =
-    (i gfn : ℕ) → i < n → (topics i).invalidations.opened ≡ true → IsIn (topics i).invalidations.own gfn → (start ≤ gfn) × (gfn < end_)
+    (i gfn : ℕ) → i < n → (topics i).invalidations.opened ≡ true → IsIn (topics i).invalidations.own gfn
+    → (start ≤ gfn) × (gfn < end_) × (gfn < 2 ^ 36)
 
 -- Under the lock alone, a search has passed no slot with the host page that the actor may change, if it may change one, but the one that it has found.
 abbrev pub PassedPart : (ℕ → ℕ) → Topics → Type 0
 PassedPart pool t =
-    t.hold ≡ Exclusive → t.stay ≡ Outside → is_some (page_aimed t) ≡ true → (set : ℕ) → t.search.set ≡ Some set → (id : ℕ) (slot : SlotOf) → IsLiveIn pool set id slot
-    → id < t.search.id → has_host_page (page_looked t.host) slot ≡ true → (t.search.whole ≡ true) × (slot ≡ t.search.slot)
+    t.hold ≡ Exclusive → t.stay ≡ Outside → is_some (page_aimed t) ≡ true → (set : ℕ) → t.search.set ≡ Some set → (id : ℕ) (slot : SlotOf)
+    → IsLiveIn pool set id slot → id < t.search.id → has_host_page (page_looked t.host) slot ≡ true → (t.search.whole ≡ true) × (slot ≡ t.search.slot)
 
 -- A slot in this set gives the host page this guest frame.
 pub record SlotGives (pool : ℕ → ℕ) (set page gfn : ℕ) : Type 0 where

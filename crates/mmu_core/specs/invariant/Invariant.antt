@@ -9,7 +9,7 @@ use Rattle.mmu_core.specs.machine.View.{View}
 pub use Rattle.mmu_core.specs.invariant.SlotSetPart.{SlotSetPart, IsLiveIn}
 pub use Rattle.mmu_core.specs.invariant.CachedPart.{CachedPart, IsLeafFor}
 pub use Rattle.mmu_core.specs.lines.Forms.{KnowsPart, RetiresPart, Holds}
-pub use Rattle.mmu_core.specs.invariant.LinesPart.{IsSetBy, UnderWay, OwnLines, lines_done}
+pub use Rattle.mmu_core.specs.invariant.LinesPart.{IsSetBy, UnderWay, OwnLines}
 pub use Rattle.mmu_core.specs.invariant.RecordPart.{RecordPart}
 
 -- All parts, of the columns of words and the column of hands; the published slot set stands in this page.

@@ -15,7 +15,7 @@ use Rattle.core_views.specs.declared.trace.Command.{Command}
 use Rattle.core_views.specs.declared.trace.Command.TheVariants.{Access, ChangeHost}
 use Rattle.core_views.specs.Held.{Held, State}
 use Rattle.core_views.specs.HostChanges.{moves_page}
-use Rattle.core_views.specs.SlotCommands.{change_refusal, changes_slot}
+use Rattle.core_views.specs.SlotCommands.{change_at_once, changes_slot}
 use Rattle.core_views.specs.Slots.{is_write}
 use Rattle.core_views.specs.SlotSets.{MemorySlots}
 use Rattle.part_steps.specs.declared.part_step.PartStep.{PartStep}
@@ -37,7 +37,7 @@ use Rattle.mmu_core.specs.lines.SlotChangeSteps.{slot_change_records, slot_chang
 abbrev pub first_place : Sizes → MemorySlots → Command → Place
 first_place z slots (Access gfn word op) = place.Access (Enter false)
 first_place z slots (ChangeHost page change) = place.Host (host.Look (moves_page (ChangeHost page change)))
-first_place z slots command = place.SlotChange (slot_change_first (change_refusal z command slots))
+first_place z slots command = place.SlotChange (slot_change_first (change_at_once z command slots))
 
 -- the step of a part at each place; none where the guest touches
 abbrev pub part_at : Place → Command → Held → Option PartStep

@@ -38,7 +38,8 @@ use Rattle.mmu_core.specs.declared.watch.WatchNext.{WatchNext}
 use Rattle.mmu_core.specs.lines.AccessSteps.{exiting}
 use Rattle.mmu_core.specs.lines.ClaimSteps.{Frames, claim_left, claim_next, claim_outcome, claim_part, loads_last_word}
 use Rattle.mmu_core.specs.lines.WatchSteps.{looked_at, watch_next, watch_place}
-use Rattle.mmu_core.specs.lines.InvalidateSteps.{begin_left, begin_next, begin_part, end_left, end_next, end_part}
+use Rattle.mmu_core.specs.lines.InvalidateLeft.{begin_left, end_left}
+use Rattle.mmu_core.specs.lines.InvalidateSteps.{begin_next, begin_part, end_next, end_part}
 
 -- the entry that a host word is
 abbrev pub entry_of : ℕ → HostEntry

@@ -12,13 +12,12 @@ use Rattle.core_views.specs.declared.topics.Invalidations.{Invalidations}
 use Rattle.core_views.specs.declared.topics.Stay.TheVariants.{Outside}
 use Rattle.core_views.specs.declared.topics.TableWalk.{TableWalk}
 use Rattle.core_views.specs.declared.trace.Slot.{Slot}
-use Rattle.core_views.specs.Slots.{contains}
-use Rattle.mmu_core.specs.invariant.InvalidatedPart.{IsIn}
 use Rattle.core_views.specs.declared.topics.Topics.{Topics}
 use Rattle.spte_words.specs.Entries.{level_span}
 use Rattle.part_steps.specs.declared.invalidations.Target.{Target}
 use Rattle.part_steps.specs.declared.invalidations.Target.TheVariants as aim
-use Rattle.part_steps.specs.InvalidationHoldings.{IsSwept, MaySweep, MayZap, has_counted, has_widened}
+use Rattle.part_steps.specs.InvalidationHoldings.{has_counted, has_widened}
+use Rattle.part_steps.specs.SweepHoldings.{IsSwept, MaySweep, MayZap}
 use Rattle.part_steps.specs.InvalidationRange.{has_searched, invalidated_by, is_within_range, page_of_target, target_end, target_start}
 use Rattle.part_steps.specs.PartHoldings.{HoldsSet, IsOver}
 use Rattle.part_steps.specs.SweepTopics.{gone_up, swept_to}
@@ -126,10 +125,12 @@ EndKnows ends.Count t = IsAloneWith true t × (t.invalidations.raised ≡ true)
 EndKnows ends.SetCount t = IsAloneWith true t × (t.invalidations.checked ≡ checked.Count) × (t.invalidations.raised ≡ true)
 EndKnows ends.Release t = IsAloneWith false t × (t.invalidations.checked ≡ checked.Nothing)
 
--- The guest frames of this slot are of the actor's own invalidation, which is open: the flush of them was asked of each virtual processor, and awaited.
+-- The guest frames of this slot are exactly those of the actor's own open invalidation, for which the sequence number isn't raised yet; each virtual processor
+-- was asked for a flush, and awaited.
 pub record IsFlushedOut (vcpus : ℕ) (slot : Slot) (t : Topics) : Type 0 where
   pub opened : t.invalidations.opened ≡ true
   pub unraised : t.invalidations.raised ≡ false
+  pub start : t.invalidations.own.start ≡ slot.base
+  pub end_ : t.invalidations.own.end ≡ slot.base + slot.pages
   pub asked : vcpus ≤ t.flush.asked
   pub awaited : vcpus ≤ t.flush.awaited
-  pub within : (gfn : ℕ) → contains gfn slot ≡ true → IsIn t.invalidations.own gfn

@@ -4,7 +4,7 @@
 -- under the lock alone again, the sequence number is raised, and one less is open.
 pub use Rattle.part_steps.specs.declared.invalidations.Target.{Target}
 pub use Rattle.part_steps.specs.InvalidationRange.{gfn_behind, greater, has_found, has_searched, lesser, range_end, range_start, target_end, target_start}
-use Rattle.std.specs.Prelude.{◌≤◌, ◌<◌, ◌+◌, ◌-◌, ◌*◌, ◌^◌, ℕ, Bool, true, false, ◌==◌, ◌&&◌, ◌||◌, not, nat_le, nat_lt, if◌then◌else◌, None}
+use Rattle.std.specs.Prelude.{◌≤◌, ◌<◌, ◌+◌, ◌-◌, ◌^◌, ℕ, Bool, true, false, ◌==◌, ◌&&◌, ◌||◌, not, nat_le, nat_lt, if◌then◌else◌, None}
 use Rattle.core_views.specs.declared.place.BeginPlace.{BeginPlace}
 use Rattle.core_views.specs.declared.place.BeginPlace.TheVariants as begins
 use Rattle.core_views.specs.declared.place.EndPlace.{EndPlace}
@@ -25,7 +25,6 @@ use Rattle.mmu_core.specs.declared.invalidate.BeginNext.{BeginNext}
 use Rattle.mmu_core.specs.declared.invalidate.BeginNext.TheVariants as begins_next
 use Rattle.mmu_core.specs.declared.invalidate.EndNext.{EndNext}
 use Rattle.mmu_core.specs.declared.invalidate.EndNext.TheVariants as ends_next
-use Rattle.mmu_core.specs.lines.FaultLeft.{find_left}
 
 -- ---- its begin
 
@@ -104,28 +103,6 @@ is_among_open begins.Await = true
 is_among_open begins.Release = true
 is_among_open _ = false
 
--- The most steps that a sweep has left: five for each guest frame, an entry of each level and the zap of a leaf, less those that led down to its table.
-abbrev pub sweep_left : Invalidated → TableWalk → ℕ
-sweep_left own_ walk =
-    if has_entry walk then 5 * (own_.end - swept_to own_.start walk) else 5 * (own_.end - swept_to own_.start walk) + walk.level - 4
-
--- the most steps that the begin of an invalidation of so many guest frames has left, where no other actor is in the way
-abbrev pub begin_left : BeginPlace → Sizes → ℕ → Topics → ℕ
-begin_left begins.Exclude z frames t = 2 * z.vcpus + 138 + 5 * frames
-begin_left (begins.Find begun) z frames t = 2 * z.vcpus + 8 + 5 * frames + find_left begun t.search
-begin_left begins.Count z frames t = 2 * z.vcpus + 8 + 5 * frames
-begin_left begins.RangeStart z frames t = 2 * z.vcpus + 7 + 5 * frames
-begin_left begins.RangeEnd z frames t = 2 * z.vcpus + 6 + 5 * frames
-begin_left begins.SetStart z frames t = 2 * z.vcpus + 5 + 5 * frames
-begin_left begins.SetEnd z frames t = 2 * z.vcpus + 4 + 5 * frames
-begin_left begins.SetCount z frames t = 2 * z.vcpus + 3 + 5 * frames
-begin_left (begins.Walk true) z frames t = 2 * z.vcpus + 1 + sweep_left t.invalidations.own t.walk
-begin_left (begins.Walk false) z frames t = 2 * z.vcpus + 2 + 5 * (t.invalidations.own.end - t.invalidations.own.start)
-begin_left begins.Zap z frames t = 2 * z.vcpus + 1 + (5 * (t.invalidations.own.end - swept_to t.invalidations.own.start t.walk) - 4)
-begin_left begins.Ask z frames t = z.vcpus + 1 + (z.vcpus - t.flush.asked)
-begin_left begins.Await z frames t = 1 + (z.vcpus - t.flush.awaited)
-begin_left begins.Release z frames t = 1
-
 -- ---- its end
 
 abbrev pub end_part : EndPlace → Topics → PartStep
@@ -143,11 +120,3 @@ end_next ends.SetSeq v = ends_next.Goes ends.Count
 end_next ends.Count v = ends_next.Goes ends.SetCount
 end_next ends.SetCount v = ends_next.Goes ends.Release
 end_next ends.Release v = ends_next.Ended
-
-abbrev pub end_left : EndPlace → ℕ
-end_left ends.Exclude = 6
-end_left ends.Seq = 5
-end_left ends.SetSeq = 4
-end_left ends.Count = 3
-end_left ends.SetCount = 2
-end_left ends.Release = 1

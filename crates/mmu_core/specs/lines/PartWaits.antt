@@ -60,7 +60,7 @@ part_seen step h v = record { word = (part_kind h step 0).word; value = v }
 
 -- What a step that waits has seen of another actor: taking itself out of the lock's readers, the lock's word with a writer; a claim, the map's word
 -- without the bit of the page or frame that it tried, which was free; having the lock alone, the lock's word, which isn't 0; giving it back, how many
--- invalidations are open, above 0; a watch, the state word of another actor in a section; and a flush, that of a virtual processor in the guest, of
+-- invalidations are open, more than its own; a watch, the state word of another actor in a section; and a flush, that of a virtual processor in the guest, of
 -- which it is asked.
 abbrev pub SawAnother : PartStep → Held → Seen → Type 0
 SawAnother part.Unshare h seen = (seen.word ≡ place (map_of h.state.sizes) area.Lock 0) × (has_writer seen.value ≡ true)
@@ -73,7 +73,7 @@ SawAnother part.Frame h seen =
     × (0 < h.topics.frames.claim.seen)
     × (has_bit (tried_bit h.topics.frames.claim) seen.value ≡ false)
 SawAnother part.Exclude h seen = (seen.word ≡ place (map_of h.state.sizes) area.Lock 0) × (seen.value ≢ 0)
-SawAnother part.Release h seen = (seen.word ≡ place (map_of h.state.sizes) area.Count 0) × (0 < seen.value)
+SawAnother part.Release h seen = (seen.word ≡ place (map_of h.state.sizes) area.Count 0) × (own_open h.topics.invalidations < seen.value)
 SawAnother (part.Await index) h seen = (seen.word ≡ place (map_of h.state.sizes) area.State index) × (has_to_flush seen.value ≡ true)
 SawAnother (part.Watch index) h seen =
     (seen.word ≡ place (map_of h.state.sizes) area.State index)

@@ -4,7 +4,7 @@ use Rattle.core_views.specs.declared.answer.Refusal.{Refusal}
 use Rattle.core_views.specs.declared.answer.Refusal.TheVariants.{NoFrame}
 use Rattle.core_views.specs.declared.place.EndPlace.TheVariants as ends
 use Rattle.core_views.specs.declared.place.SlotChangePlace.{SlotChangePlace}
-use Rattle.core_views.specs.declared.place.SlotChangePlace.TheVariants.{Refuse, Claim, Fill, Role, Begin, Exclude, Count, Close, Publish}
+use Rattle.core_views.specs.declared.place.SlotChangePlace.TheVariants.{AtOnce, Claim, Fill, Role, Begin, Exclude, Count, Close, Publish}
 use Rattle.core_views.specs.declared.place.SlotChangePlace.TheVariants.{Release, End, Watch, Clear, Give}
 use Rattle.core_views.specs.declared.topics.Hold.TheVariants.{Loose, Exclusive}
 use Rattle.core_views.specs.declared.topics.OwnedPage.{OwnedPage}
@@ -13,7 +13,8 @@ use Rattle.core_views.specs.declared.sizes.Sizes.{Sizes}
 use Rattle.core_views.specs.declared.trace.Command.{Command}
 use Rattle.core_views.specs.declared.trace.Slot.{Slot}
 use Rattle.core_views.specs.Held.{Held}
-use Rattle.core_views.specs.SlotCommands.{change_refusal, slot_moved, slots_after}
+use Rattle.core_views.specs.SlotCommands.{change_at_once, slot_invalidated, slots_after}
+use Rattle.core_views.specs.Slots.{is_some_and}
 use Rattle.core_views.specs.SlotSets.{MemorySlots}
 use Rattle.core_views.specs.Sizes.{actors_of}
 use Rattle.spte_words.specs.Areas.{words_of_bits}
@@ -37,33 +38,34 @@ abbrev pub is_of_frames : Refusal → Bool
 is_of_frames NoFrame = true
 is_of_frames _ = false
 
--- A slot that is moved fits the machine: its guest frames lie below 2 ^ 36, and it has no more pages than the machine.
+-- A slot that is moved or deleted fits the machine: its guest frames lie below 2 ^ 36, and it has no more pages than the machine.
 pub record FitsMachine (z : Sizes) (slot : Slot) : Type 0 where
   pub frames : slot.base + slot.pages ≤ 2 ^ 36
   pub pages : slot.pages ≤ z.pages
 
--- The slot that is moved, if one is, is flushed out where it was, by an invalidation of no host page; and else none is open.
-pub record HasMadeWay (z : Sizes) (moved : Option Slot) (t : Topics) : Type 0 where
-  pub opened : t.invalidations.opened ≡ is_some moved
+-- The slot that is moved or deleted, if one is, is flushed out where it was, by an open invalidation of exactly its guest frames, and of no host page; and else
+-- no invalidation of the actor's own is open.
+pub record HasMadeWay (z : Sizes) (invalidated : Option Slot) (t : Topics) : Type 0 where
+  pub opened : t.invalidations.opened ≡ is_some invalidated
   pub of_no_page : t.invalidations.opened ≡ true → t.invalidations.own.page ≡ None
-  pub flushed : (slot : Slot) → moved ≡ Some slot → IsFlushedOut z.vcpus slot t
+  pub flushed : (slot : Slot) → invalidated ≡ Some slot → IsFlushedOut z.vcpus slot t
 
 -- what it knows at each place
 abbrev pub SlotChangeKnows : SlotChangePlace → Command → Held → Type 0
-SlotChangeKnows (Refuse refusal) command h = IsAtRest h.topics × (is_of_frames refusal ≡ false)
+SlotChangeKnows (AtOnce refusal) command h = IsAtRest h.topics × (is_some_and is_of_frames refusal ≡ false)
 SlotChangeKnows (Claim begun) command h = IsAtRest h.topics × (begun ≡ true → h.topics.claim.at < words_of_bits h.state.sizes.pool)
 SlotChangeKnows Fill command h = HoldsLock Loose h.topics × HasToFill h.topics
 SlotChangeKnows Role command h = HoldsLock Loose h.topics × HasRoleToSet h.topics
 SlotChangeKnows (Begin p) command h =
-    OwnsSet h.topics × BeginKnows p h.state.sizes (slot_target h command) h.topics × (is_some (slot_moved h.slots command) ≡ true)
-    × FitsMachine h.state.sizes (slot_or_none (slot_moved h.slots command))
-SlotChangeKnows Exclude command h = HoldsLock Loose h.topics × OwnsSet h.topics × HasMadeWay h.state.sizes (slot_moved h.slots command) h.topics
-SlotChangeKnows Count command h = HoldsLock Exclusive h.topics × OwnsSet h.topics × HasMadeWay h.state.sizes (slot_moved h.slots command) h.topics
+    OwnsSet h.topics × BeginKnows p h.state.sizes (slot_target h command) h.topics × (is_some (slot_invalidated h.slots command) ≡ true)
+    × FitsMachine h.state.sizes (slot_or_none (slot_invalidated h.slots command))
+SlotChangeKnows Exclude command h = HoldsLock Loose h.topics × OwnsSet h.topics × HasMadeWay h.state.sizes (slot_invalidated h.slots command) h.topics
+SlotChangeKnows Count command h = HoldsLock Exclusive h.topics × OwnsSet h.topics × HasMadeWay h.state.sizes (slot_invalidated h.slots command) h.topics
 SlotChangeKnows Close command h =
-    HoldsLock Exclusive h.topics × OwnsSet h.topics × HasMadeWay h.state.sizes (slot_moved h.slots command) h.topics
+    HoldsLock Exclusive h.topics × OwnsSet h.topics × HasMadeWay h.state.sizes (slot_invalidated h.slots command) h.topics
     × (saw_open h.topics.invalidations ≡ true)
 SlotChangeKnows Publish command h =
-    HoldsLock Exclusive h.topics × MayPublish h.topics × HasMadeWay h.state.sizes (slot_moved h.slots command) h.topics
+    HoldsLock Exclusive h.topics × MayPublish h.topics × HasMadeWay h.state.sizes (slot_invalidated h.slots command) h.topics
 SlotChangeKnows Release command h =
     HoldsLock Exclusive h.topics × HasPublished h.topics.retired h.topics.owned × (h.topics.watched ≡ 0) × (saw_open h.topics.invalidations ≡ false)
     × (h.topics.invalidations.opened ≡ true → h.topics.invalidations.raised ≡ false)
@@ -77,20 +79,20 @@ abbrev pub SlotChangeRests : SlotChangePlace → Command → Held → Type 0
 SlotChangeRests (Begin p) command h = IsSmall (slot_target h command)
 SlotChangeRests _ command h = Unit {0}
 
--- The manager's own record accepts the change whose set is published.
+-- The line whose set is published has something to do, by the manager's own record.
 abbrev pub RecordAccepts : SlotChangePlace → Sizes → Command → MemorySlots → Type 0
-RecordAccepts Publish z command slots = change_refusal z command slots ≡ None
+RecordAccepts Publish z command slots = change_at_once z command slots ≡ None
 RecordAccepts _ z command slots = Unit {0}
 
--- The manager's record accepts the change, and what is filled of the page that is owned is the set of the record's slots after it.
+-- The line has something to do, by the manager's record, and what is filled of the page that is owned is the set of the record's slots after it.
 pub record FillsSet (z : Sizes) (pool : ℕ → ℕ) (command : Command) (slots : MemorySlots) (owned : Option OwnedPage) : Type 0 where
-  pub accepted : change_refusal z command slots ≡ None
+  pub works : change_at_once z command slots ≡ None
   pub filled : IsFilledWith pool (slots_after command slots) owned
 
--- Up to the publication a slot line is one that the record accepts, and fills the set after its change.
+-- Up to the publication a slot line has something to do, and fills the set after its change.
 abbrev pub SlotChangeHolds : Sizes → (ℕ → ℕ) → SlotChangePlace → Command → Held → Type 0
-SlotChangeHolds z pool (Refuse refusal) command h = change_refusal z command h.slots ≡ Some refusal
-SlotChangeHolds z pool (Claim begun) command h = change_refusal z command h.slots ≡ None
+SlotChangeHolds z pool (AtOnce refusal) command h = change_at_once z command h.slots ≡ Some refusal
+SlotChangeHolds z pool (Claim begun) command h = change_at_once z command h.slots ≡ None
 SlotChangeHolds z pool Release command h = Unit {0}
 SlotChangeHolds z pool (End p) command h = Unit {0}
 SlotChangeHolds z pool Watch command h = Unit {0}

@@ -1,14 +1,14 @@
--- The order of steps of each line that changes a slot (api.rst, KVM_SET_USER_MEMORY_REGION; kvm_main.c, `kvm_swap_active_memslots`): a refused
--- one makes one load of the sequence. Else a page is claimed and filled with the new slot set; under the lock alone, with no invalidation of others open, it
--- is published in place of the old one; and after a watch of all other actors the old page is given back. Where the slot was there, this stands within an
--- invalidation of its guest frames, which begins before the publication and ends after it (kvm_invalidate_memslot).
+-- The order of steps of each line that changes a slot (api.rst, KVM_SET_USER_MEMORY_REGION; kvm_main.c, `kvm_swap_active_memslots`): one that is refused, or
+-- sets a slot as it is, makes one load of the sequence. Else a page is claimed and filled with the new slot set; under the lock alone, with no invalidation of
+-- others open, it is published in place of the old one; and after a watch of all other actors the old page is given back. Where the slot was there, this stands
+-- within an invalidation of its guest frames, which begins before the publication and ends after it (kvm_invalidate_memslot).
 use Rattle.std.specs.Prelude.{ℕ, true, false, List, [], ◌∷◌, Option, Some, None, ◌==◌, nat_lt, if◌then◌else◌, is_some, ◌+◌}
-use Rattle.core_views.specs.declared.answer.Answer.TheVariants.{Done, Refused, Starved}
+use Rattle.core_views.specs.declared.answer.Answer.TheVariants.{Done, Starved}
 use Rattle.core_views.specs.declared.answer.Refusal.{Refusal}
 use Rattle.core_views.specs.declared.event.EventKind.{EventKind}
 use Rattle.core_views.specs.declared.event.EventKind.TheVariants.{SlotChanged}
 use Rattle.core_views.specs.declared.place.SlotChangePlace.{SlotChangePlace}
-use Rattle.core_views.specs.declared.place.SlotChangePlace.TheVariants.{Refuse, Claim, Fill, Role, Begin, Exclude, Count, Close, Publish}
+use Rattle.core_views.specs.declared.place.SlotChangePlace.TheVariants.{AtOnce, Claim, Fill, Role, Begin, Exclude, Count, Close, Publish}
 use Rattle.core_views.specs.declared.place.SlotChangePlace.TheVariants.{Release, End, Watch, Clear, Give}
 use Rattle.core_views.specs.declared.place.BeginPlace.TheVariants as begins
 use Rattle.core_views.specs.declared.place.EndPlace.TheVariants as ends
@@ -16,8 +16,8 @@ use Rattle.core_views.specs.declared.place.Place.TheVariants.{SlotChange}
 use Rattle.core_views.specs.declared.trace.Command.{Command}
 use Rattle.core_views.specs.declared.trace.Slot.{Slot}
 use Rattle.core_views.specs.declared.slot_set.MemorySlot.{MemorySlot}
-use Rattle.core_views.specs.Held.{Held}
-use Rattle.core_views.specs.SlotCommands.{slot_change, slot_moved, slots_after}
+use Rattle.core_views.specs.Held.{Held, no_slot}
+use Rattle.core_views.specs.SlotCommands.{refused_or_done, slot_change, slot_invalidated, slots_after}
 use Rattle.core_views.specs.SlotSets.{MemorySlots}
 use Rattle.mmu_core.specs.declared.outcome.Outcome.{Outcome}
 use Rattle.mmu_core.specs.declared.outcome.Outcome.TheVariants.{Goes, Ends}
@@ -42,24 +42,21 @@ pub use Rattle.mmu_core.specs.lines.WatchSteps.{looked_at, watch_next}
 use Rattle.mmu_core.specs.lines.WatchSteps.{watch_place}
 
 -- where the line begins
-abbrev pub slot_change_first : Option Refusal → SlotChangePlace
-slot_change_first (Some refusal) = Refuse refusal
+abbrev pub slot_change_first : Option (Option Refusal) → SlotChangePlace
+slot_change_first (Some refusal) = AtOnce refusal
 slot_change_first None = Claim false
 
--- what a line that moves a slot invalidates: the slot, as it is; and none has no frames
-abbrev pub no_slot : Slot
-no_slot = record { base = 0; pages = 0; host = 0; read_only = false }
-
+-- what a line that moves or deletes a slot invalidates: the slot, as it is before; and none has no frames
 abbrev pub slot_or_none : Option Slot → Slot
 slot_or_none None = no_slot
 slot_or_none (Some slot) = slot
 
 abbrev pub slot_target : Held → Command → Target
-slot_target h command = aim.Slot (slot_or_none (slot_moved h.slots command))
+slot_target h command = aim.Slot (slot_or_none (slot_invalidated h.slots command))
 
 -- the step of each place
 abbrev pub slot_change_part : SlotChangePlace → Held → Command → PartStep
-slot_change_part (Refuse refusal) h command = part.Seq
+slot_change_part (AtOnce refusal) h command = part.Seq
 slot_change_part (Claim begun) h command = claim_part Pages begun h.topics.claim
 slot_change_part Fill h command = part.Fill (set_word (slots_after command h.slots) (words_filled h.topics.owned))
 slot_change_part Role h command = part.Role set_role
@@ -76,7 +73,7 @@ slot_change_part Give h command = part.GiveOld
 
 -- 1 where the line may end with the step
 abbrev pub slot_change_note : SlotChangePlace → Held → ℕ
-slot_change_note (Refuse refusal) h = 1
+slot_change_note (AtOnce refusal) h = 1
 slot_change_note (Claim begun) h = if loads_last_word Pages begun h.state.sizes h.topics.claim then 1 else 0
 slot_change_note Give h = 1
 slot_change_note _ h = 0
@@ -97,9 +94,9 @@ after_set_claim next = claim_outcome (SlotChange (Claim true)) (SlotChange Fill)
 abbrev pub after_watch : WatchNext → SlotChangePlace
 after_watch next = watch_place Watch Clear next
 
--- After the new set is filled: a slot that is moved is invalidated first. After a step of the invalidation's begin, and of its end.
+-- After the new set is filled: a slot that is moved or deleted is invalidated first. After a step of the invalidation's begin, and of its end.
 abbrev pub after_role : Option Slot → SlotChangePlace
-after_role moved = if is_some moved then Begin begins.Exclude else Exclude
+after_role invalidated = if is_some invalidated then Begin begins.Exclude else Exclude
 
 abbrev pub after_set_begin : BeginNext → SlotChangePlace
 after_set_begin (begins_next.Goes p) = Begin p
@@ -111,10 +108,10 @@ after_set_end ends_next.Ended = Watch
 
 -- where the line stands after the step of its place, which found v
 abbrev pub slot_change_outcome : SlotChangePlace → Command → Held → ℕ → Outcome
-slot_change_outcome (Refuse refusal) command h v = Ends (Refused refusal)
+slot_change_outcome (AtOnce refusal) command h v = Ends (refused_or_done refusal)
 slot_change_outcome (Claim begun) command h v = after_set_claim (claim_next Pages begun h.state.sizes h.topics.claim v)
 slot_change_outcome Fill command h v = Goes (SlotChange (if nat_lt (words_filled h.topics.owned + 1) 512 then Fill else Role))
-slot_change_outcome Role command h v = Goes (SlotChange (after_role (slot_moved h.slots command)))
+slot_change_outcome Role command h v = Goes (SlotChange (after_role (slot_invalidated h.slots command)))
 slot_change_outcome (Begin p) command h v =
     Goes (SlotChange (after_set_begin (begin_next p h.state.sizes (slot_target h command) h.topics v)))
 slot_change_outcome Exclude command h v = Goes (SlotChange (if v == 0 then Count else Exclude))

@@ -1,13 +1,12 @@
 -- The worlds of the machine: its start, and what a list of steps leads to and tells.
 use Rattle.std.specs.Prelude.{◌≡◌, ◌-◌, ◌*◌, ◌^◌, ◌<◌, ℕ, zero, suc, List, [], ◌∷◌, ◌++◌, All, length, true, nat_le, ◌==◌, if◌then◌else◌, slice_index, ◌≤◌}
-use Rattle.std.specs.List.{IsDistinct}
 use Rattle.core_views.specs.declared.event.Event.{Event}
 use Rattle.core_views.specs.declared.kind.Kind.{Kind}
 use Rattle.core_views.specs.declared.sizes.Sizes.{Sizes}
 use Rattle.core_views.specs.declared.trace.Line.{Line}
 use Rattle.core_views.specs.Held.{Held, first_held}
 use Rattle.core_views.specs.Sizes.{AreSizes, actor_at, actors_of}
-use Rattle.core_views.specs.Traces.{IsCommandFor, slot_ids}
+use Rattle.core_views.specs.Traces.{IsCommandFor}
 use Rattle.core_views.specs.Whole.{lines_of}
 use Rattle.spte_words.specs.declared.area.Area.{Area}
 use Rattle.spte_words.specs.declared.area.Area.TheVariants.{Slots, PoolMap, FrameMap, Host, Role}
@@ -51,7 +50,6 @@ start_hands z lines (suc n) = start_hands z lines n ++ first_held z (actor_at z 
 pub record IsStart (z : Sizes) (lines : List Line) (w : World Held) : Type 0 where
   pub sizes : AreSizes z
   pub allowed : All (λ line. IsCommandFor z line.actor line.command) lines
-  pub distinct : IsDistinct (λ i j. i == j) (slot_ids lines)
   pub few : length lines ≤ 1000000
   pub words : AreStartWords z w.words
   pub hands : w.hands ≡ start_hands z lines (actors_of z)

@@ -55,7 +55,7 @@ use Rattle.mmu_laws.proofs.turns.TurnsNearer.{hand_behind}
 use Rattle.mmu_core.proofs.machine.Which.{is_next, next_of_part}
 use Rattle.mmu_core.proofs.machine.Worlds.{Takes, takes_line}
 
--- But at its claim the line has seen nothing free; and without the lock the actor has seen no invalidation open.
+-- But at its claim the line has seen nothing free; and without the lock the actor has seen no invalidation of others open.
 pub record SawNothingAt (p : Place) (t : Topics) : Type 0 where
   pub claims : (map : FreeMap) → claim_at map p ≡ None → (claim_over map t).seen ≡ 0
   pub closed : has_lock t.hold ≡ false → saw_open t.invalidations ≡ false

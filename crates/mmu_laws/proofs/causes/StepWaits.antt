@@ -1,6 +1,6 @@
 -- Each step of a part that waits has its cause, whoever makes it.
 use Rattle.mmu_laws.proofs.causes.WaitsSee.{more}
-use Rattle.std.proofs.Common.{◌≡◌, ◌<◌, ℕ, List, [], ◌∷◌, refl, sym, subst, ap}
+use Rattle.std.proofs.Common.{◌≡◌, ℕ, List, [], ◌∷◌, refl, sym, subst, ap}
 use Rattle.std.specs.Prelude.{true}
 use Rattle.core_views.specs.declared.kind.Kind.{Kind}
 use Rattle.core_views.specs.declared.sizes.Sizes.{Sizes}
@@ -15,7 +15,7 @@ use Rattle.mmu_core.specs.machine.Enabled.{mmu}
 use Rattle.mmu_core.specs.invariant.Laws.{IsSound}
 use Rattle.mmu_core.specs.machine.Machine.{May, Step, World, answered, hand_in, run}
 use Rattle.mmu_core.specs.lines.PartWaits.{is_owing, part_waits, word_owed, saw_open}
-use Rattle.mmu_laws.specs.causes.Waits.{FoundCount, FoundWriter, StepWaitIsCaused, StepWaitsAreByCause}
+use Rattle.mmu_laws.specs.causes.Waits.{HasOthersOpen, FoundCount, FoundWriter, StepWaitIsCaused, StepWaitsAreByCause}
 use Rattle.mmu_laws.proofs.causes.ActorSaw.{ActorSaw, actor_saw}
 use Rattle.mmu_laws.proofs.causes.ClaimSeen.{is_taken}
 use Rattle.mmu_laws.proofs.causes.FindsOthers.{lock_taken, other_inside, to_flush}
@@ -41,7 +41,7 @@ module _ (z : Sizes) (w : World Held) (ss : List (Step Kind)) (s : Step Kind) (G
   owes _ is owing S = absurd (cc owing)
 
   saw_some : h.topics.hold ≡ Exclusive → saw_open h.topics.invalidations ≡ true → Saw h.topics
-      → FoundCount z s.actor Exclusive h.topics.invalidations.count w ss × (0 < h.topics.invalidations.count)
+      → FoundCount z s.actor Exclusive h.topics.invalidations.count w ss × HasOthersOpen h.topics.invalidations
   saw_some alone open_ S =
       (subst (λ hold. FoundCount z s.actor hold h.topics.invalidations.count w ss) alone (S.counted open_), more h.topics.invalidations open_)
 

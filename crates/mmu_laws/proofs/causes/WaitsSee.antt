@@ -21,11 +21,11 @@ owes _ h holds is saw = absurd (cc is)
 some : (n : ℕ) → not (n == 0) ≡ true → n ≢ 0
 some n is = grind (arith, nat_tests)
 
--- It saw invalidations open.
-pub more : (n : Invalidations) → saw_open n ≡ true → 0 < n.count
+-- It saw invalidations of others open.
+pub more : (n : Invalidations) → saw_open n ≡ true → own_open n < n.count
 more n is = above (own_open n) n.count (both (was_counted n.checked) (nat_lt (own_open n) n.count) is).1
   where
-    above : (own n : ℕ) → nat_lt own n ≡ true → 0 < n
+    above : (own n : ℕ) → nat_lt own n ≡ true → own < n
     above own n is = grind (arith, nat_tests)
 
 pub waits_see_another : WaitsSeeAnother

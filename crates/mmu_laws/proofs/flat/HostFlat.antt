@@ -211,8 +211,11 @@ module _ (z : Sizes) (v : View) (a : ℕ) (line : Line) (page : ℕ) (change : H
       (noted (Claim begun) M (claim_host h.state.sizes Frames begun h.topics x _ _ _ (claim_made h.state.sizes Frames begun h.topics x)) R.under.1)
   host_goes_on (Begin p) K S I P C M R =
       let next : BeginNext = begin_next p h.state.sizes (aim.Page page) h.topics (found (Begin p)) in
-      host_tells_none z v a line page change facts past u (Begin p) (after_begin (moves h.topics) next) refl M P R
-      (R.under.0, begun_under (moves h.topics) next (after (Begin p)) (noted (Begin p) M (begin_leaves_host p (aim.Page page) h.topics (found (Begin p))) R.under.1))
+      host_tells_none z v a line page change facts past u (Begin p) (after_begin (moves h.topics) next) refl M P R (
+        R.under.0,
+        begun_under (moves h.topics) next (after (Begin p))
+            (noted (Begin p) M (begin_leaves_host p (aim.Page page) h.topics (found (Begin p))) R.under.1),
+      )
   host_goes_on Copy K S I P C M R =
       host_tells_none z v a line page change facts past u Copy Store refl M P R (R.under.0, noted Copy M refl R.under.1)
   host_goes_on Store K S I P C M R =

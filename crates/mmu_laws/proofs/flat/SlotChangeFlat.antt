@@ -2,11 +2,11 @@
 use Rattle.std.proofs.Common.{◌≡◌, ◌+◌, ℕ, [], ◌++◌, refl, sym, subst, ap, ◌∙◌}
 use Rattle.std.specs.Option.{option_map}
 use Rattle.std.specs.Prelude.{Bool, true, false, ◌==◌, nat_lt, Option, Some, None, is_some}
-use Rattle.core_views.specs.declared.answer.Answer.TheVariants.{Refused, Starved, Done}
+use Rattle.core_views.specs.declared.answer.Answer.TheVariants.{Starved, Done}
 use Rattle.core_views.specs.declared.answer.Refusal.{Refusal}
 use Rattle.core_views.specs.declared.place.Place.TheVariants as place
 use Rattle.core_views.specs.declared.place.SlotChangePlace.{SlotChangePlace}
-use Rattle.core_views.specs.declared.place.SlotChangePlace.TheVariants.{Refuse, Claim, Fill, Role, Begin, Exclude, Count, Close, Publish}
+use Rattle.core_views.specs.declared.place.SlotChangePlace.TheVariants.{AtOnce, Claim, Fill, Role, Begin, Exclude, Count, Close, Publish}
 use Rattle.core_views.specs.declared.place.SlotChangePlace.TheVariants.{Release, End, Watch, Clear, Give}
 use Rattle.core_views.specs.declared.place.BeginPlace.TheVariants as begins
 use Rattle.core_views.specs.declared.place.EndPlace.TheVariants as ends
@@ -18,10 +18,10 @@ use Rattle.core_views.specs.Flat.{Facts, LineUnderWay, Notes}
 use Rattle.core_views.specs.Flat as stage
 use Rattle.core_views.specs.declared.slot_set.MemorySlot.{MemorySlot}
 use Rattle.core_views.specs.Lawful.{HasWork, MayLeave, Tells, answer_at_once, slot_change}
-use Rattle.core_views.specs.SlotCommands.{after_change, change_refusal, changes_slot, slot_change, slot_moved}
+use Rattle.core_views.specs.SlotCommands.{after_change, change_at_once, changes_slot, refused_or_done, slot_change, slot_invalidated}
 use Rattle.core_views.specs.SlotSets.{MemorySlots}
 use Rattle.core_views.specs.Past.{Past}
-use Rattle.core_views.proofs.SlotChanges.{refused_by_slots}
+use Rattle.core_views.proofs.SlotChanges.{answered_by_slots}
 use Rattle.mmu_core.specs.declared.claim.ClaimNext.{ClaimNext}
 use Rattle.mmu_core.specs.declared.claim.ClaimNext.TheVariants as claims
 use Rattle.mmu_core.specs.lines.AccessSteps.{exiting}
@@ -66,18 +66,18 @@ module _ (z : Sizes) (v : View) (a : ℕ) (line : Line) (command : Command) (fac
   abbrev Under : SlotChangePlace → Type 0
   Under p = (u.line ≡ line) × SlotChangeUnder p u
 
-  -- Flat memory has the slots of the manager's record, and so refuses as it does.
+  -- Flat memory has the slots of the manager's record, and so answers at once as it does.
   same_record : (p : SlotChangePlace) → IsStep z v a line command (place.SlotChange p) → Invariant z v → ReadyAt p → facts.slots ≡ (v.hand a).slots
   same_record p S I R = R.refines.slots ∙ sym (record_of z v a line command p S I).same
 
-  at_once : (p : SlotChangePlace) (refusal : Option Refusal) → changes_slot command ≡ true
-      → IsStep z v a line command (place.SlotChange p) → Invariant z v → ReadyAt p → change_refusal z command (v.hand a).slots ≡ refusal
-      → answer_at_once z facts.slots (v.hand a).state.actor u.line.command ≡ option_map (λ r. Refused r) refusal
-  at_once p refusal changes S I R is =
+  at_once : (p : SlotChangePlace) (answer : Option (Option Refusal)) → changes_slot command ≡ true
+      → IsStep z v a line command (place.SlotChange p) → Invariant z v → ReadyAt p → change_at_once z command (v.hand a).slots ≡ answer
+      → answer_at_once z facts.slots (v.hand a).state.actor u.line.command ≡ option_map refused_or_done answer
+  at_once p answer changes S I R is =
       ap (answer_at_once z facts.slots (v.hand a).state.actor) (ap (λ (l : Line). l.command) R.under.0 ∙ S.command_is)
       ∙ ap (λ (slots : MemorySlots). answer_at_once z slots (v.hand a).state.actor command) (same_record p S I R)
-      ∙ ap (option_map (λ r. Refused r)) (refused_by_slots z (v.hand a).slots (v.hand a).state.actor command changes)
-      ∙ ap (option_map (λ r. Refused r)) is
+      ∙ answered_by_slots z (v.hand a).slots (v.hand a).state.actor command changes
+      ∙ ap (option_map refused_or_done) is
 
   -- After a step that publishes nothing the words stand for the same facts.
   still : (p : SlotChangePlace) → is_publication p ≡ false → MakesAt p → TopicsInvariant z v → ReadyAt p → RefinesBy z v (task p) facts
@@ -123,7 +123,7 @@ module _ (z : Sizes) (v : View) (a : ℕ) (line : Line) (command : Command) (fac
       let same = same_record Publish S I R in
       change_told (slot_change (v.hand a).slots command) (is_change command (v.hand a).slots changes)
       (ap (slot_change facts.slots) (ap (λ (l : Line). l.command) R.under.0 ∙ S.command_is) ∙ ap (λ (slots : MemorySlots). slot_change slots command) same)
-      R.under.1 (at_once Publish None changes S I R S.holds.accepted)
+      R.under.1 (at_once Publish None changes S I R S.holds.works)
       (record {
         slots = ap (after_change (slot_change (v.hand a).slots command)) same ∙ (change_published z v a line command S I).list;
         host = R.refines.host;
@@ -143,17 +143,17 @@ module _ (z : Sizes) (v : View) (a : ℕ) (line : Line) (command : Command) (fac
 
   pub slot_change_goes : (p : SlotChangePlace) → changes_slot command ≡ true → IsStep z v a line command (place.SlotChange p) → Invariant z v
       → TopicsInvariant z v → MakesAt p → ReadyAt p → GoesAt p
-  slot_change_goes (Refuse refusal) changes S I P M R =
-      answers_by z v a line command (task (Refuse refusal)) facts past u (still (Refuse refusal) refl M P R) (Refused refusal) R.under.0
-      (subst (λ s. Tells z facts.slots (v.hand a).state.actor u.line.command s (Refused refusal)) (sym R.under.1)
-      (at_once (Refuse refusal) (Some refusal) changes S I R S.holds))
+  slot_change_goes (AtOnce refusal) changes S I P M R =
+      answers_by z v a line command (task (AtOnce refusal)) facts past u (still (AtOnce refusal) refl M P R) (refused_or_done refusal) R.under.0
+      (subst (λ s. Tells z facts.slots (v.hand a).state.actor u.line.command s (refused_or_done refusal)) (sym R.under.1)
+      (at_once (AtOnce refusal) (Some refusal) changes S I R S.holds))
   slot_change_goes (Claim begun) changes S I P M R =
       claim_goes begun (claim_next Pages begun (v.hand a).state.sizes (v.hand a).topics.claim (answer_in (task (Claim begun)) v.words))
       (ap changes_slot (ap (λ (l : Line). l.command) R.under.0 ∙ S.command_is) ∙ changes) (at_once (Claim begun) None changes S I R S.holds) M P R
   slot_change_goes Fill changes S I P M R =
       quiet Fill _ refl M P R (either_place Under (nat_lt (words_filled (v.hand a).topics.owned + 1) 512) Fill Role R.under R.under)
   slot_change_goes Role changes S I P M R =
-      quiet Role _ refl M P R (either_place Under (is_some (slot_moved (v.hand a).slots command)) (Begin begins.Exclude) Exclude R.under R.under)
+      quiet Role _ refl M P R (either_place Under (is_some (slot_invalidated (v.hand a).slots command)) (Begin begins.Exclude) Exclude R.under R.under)
   slot_change_goes (Begin p) changes S I P M R =
       quiet (Begin p) _ refl M P R
       (begun_under (begin_next p (v.hand a).state.sizes (slot_target (v.hand a) command) (v.hand a).topics (answer_in (task (Begin p)) v.words)) R.under)

@@ -22,18 +22,19 @@ use Rattle.mmu_laws.specs.leaves.OpenFrames.{HasOpen, flush_of, own_of}
 use Rattle.mmu_laws.proofs.leaves.LeafLaws.{from_root}
 
 pub open_frames_are_recorded : (z : Sizes) (w : World Held) (actor gfn : ℕ) → IsSound z w → actor < actors_of z → HasOpen w actor → IsIn (own_of w actor) gfn
-    → (word_in z w area.RangeStart 0 ≤ gfn) × (gfn < word_in z w area.RangeEnd 0)
+    → (word_in z w area.RangeStart 0 ≤ gfn) × (gfn < word_in z w area.RangeEnd 0) × (gfn < 2 ^ 36)
 open_frames_are_recorded z w actor gfn sound lt opened is_in = sound.topics.ranges actor gfn lt opened is_in
 
 pub open_frames_are_of_the_page : (z : Sizes) (w : World Held) (actor page : ℕ) → IsSound z w → actor < actors_of z → HasOpen w actor
     → (own_of w actor).page ≡ Some page → IsOfPage (word_in z w area.Pool) (word_in z w area.Slots 0) page (own_of w actor)
 open_frames_are_of_the_page z w actor page sound lt opened of_page = sound.topics.scopes actor page lt opened of_page
 
-pub open_frames_are_zapped : (z : Sizes) (w : World Held) (actor gfn entry : ℕ) → gfn < 2 ^ 36 → IsSound z w → actor < actors_of z → HasOpen w actor
+pub open_frames_are_zapped : (z : Sizes) (w : World Held) (actor gfn entry : ℕ) → IsSound z w → actor < actors_of z → HasOpen w actor
     → 1 ≤ (flush_of w actor).asked → IsIn (own_of w actor) gfn → LeadsTo (word_in z w area.Pool) 4 (word_in z w area.Root 0) gfn entry
     → kind_of 1 entry ≡ entry_kind.Leaf → ⊥
-open_frames_are_zapped z w actor gfn entry small sound lt opened asked is_in leads leaf =
+open_frames_are_zapped z w actor gfn entry sound lt opened asked is_in leads leaf =
     let I = sound.topics in
+    let small = (I.ranges actor gfn lt opened is_in).2 in
     let low = from_root I.tree (let most = sound.holds.sizes.pool.1 in omega (arith, most)) gfn entry small leads in
     let here : I.spot low.0 ≡ at 1 (gfn / level_span 1 / 512) = (spot_of I.up I.spot low.0 _ low.1).1 in
     subst (λ (p : Position). IsNoLeafIn (own_of w actor) p.level gfn (word_in z w area.Pool (pool_index low.0 (entry_index gfn 1)))) here

@@ -1,12 +1,10 @@
 -- The run in which a page is taken away and brought in again, by computation.
-use Rattle.core_views.specs.Traces.{slot_ids}
 use Rattle.part_steps.specs.TopicSteps.{topics_after}
 use Rattle.part_steps.specs.Tasks.{map_of}
 use Rattle.std.proofs.lemmas.Fmt.{decimal_digit}
-use Rattle.std.specs.List.{IsDistinct}
 use Rattle.std.proofs.lemmas.List.Elements.{All-cons, All-nil}
 use Rattle.mmu_core.specs.lines.Cached.{flushed}
-use Rattle.std.proofs.Common.{ℕ, List, ◌≡◌, ◌==◌, ◌++◌, [], ◌∷◌, refl, arith, lit<, lit≤}
+use Rattle.std.proofs.Common.{ℕ, List, ◌≡◌, ◌++◌, [], ◌∷◌, refl, arith, lit<, lit≤}
 use Rattle.std.specs.Prelude.{All, true, false, codes}
 use Rattle.spte_words.specs.Areas.{content_index, place, pool_index}
 use Rattle.spte_words.specs.Entries.{absent_word, can_write, frame_in, frozen_word, is_leaf_at, kind_of, leaf_word, level_span, mapped_frame, table_word}
@@ -152,10 +150,6 @@ evict_allowed =
     (All-cons (May run_sizes) forbid_line (read_between ∷ []) (omega arith)
     (All-cons (May run_sizes) read_between [] (omega arith, omega arith, omega arith) (All-nil (May run_sizes)))))))))
 
-evict_distinct : IsDistinct (λ i j. i == j) (slot_ids evict_lines)
-unfolding IsDistinct
-evict_distinct = (tt, tt)
-
 evict_prints : text evict_events
     ≡ codes "2 vm done\n3 v0 frame 65 value 0\n4 h0 done\n6 v1 frame 65 value 7\n5 v0 frame 65 value 7\n"
     ++ codes "7 h0 done\n8 h0 done\n9 v1 frame 65 value 9\n"
@@ -179,11 +173,11 @@ evict_prints =
 counts : (order : List ℕ) (events : List Event) (actor delays : ℕ) → have_lines run_sizes (start_view run_sizes evict_lines) order ≡ true
     → tale (start_view run_sizes evict_lines) order ≡ events → ((turned_all (start_view run_sizes evict_lines) order).hand actor).state.delays ≡ delays
     → RunDelays run_sizes evict_lines order events actor delays
-counts order events actor delays = run_delays run_sizes evict_lines order events actor delays run_in_range evict_allowed evict_distinct (omega arith)
+counts order events actor delays = run_delays run_sizes evict_lines order events actor delays run_in_range evict_allowed (omega arith)
 
 leaves : (order : List ℕ) (a : Area) (index value : ℕ) → have_lines run_sizes (start_view run_sizes evict_lines) order ≡ true
     → (turned_all (start_view run_sizes evict_lines) order).words a index ≡ value → RunLeaves run_sizes evict_lines order a index value
-leaves order a index value = run_leaves run_sizes evict_lines order a index value run_in_range evict_allowed evict_distinct (omega arith)
+leaves order a index value = run_leaves run_sizes evict_lines order a index value run_in_range evict_allowed (omega arith)
 
 pub example_evict : ExampleEvict
 example_evict = (

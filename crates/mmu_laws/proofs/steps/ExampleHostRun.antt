@@ -1,11 +1,9 @@
 -- The run of a host thread beside two processors, by computation.
-use Rattle.core_views.specs.Traces.{slot_ids}
 use Rattle.part_steps.specs.TopicSteps.{topics_after}
 use Rattle.std.proofs.lemmas.Fmt.{decimal_digit}
-use Rattle.std.specs.List.{IsDistinct}
 use Rattle.std.proofs.lemmas.List.Elements.{All-cons, All-nil}
 use Rattle.mmu_core.specs.lines.Cached.{flushed}
-use Rattle.std.proofs.Common.{◌≡◌, ◌==◌, [], ◌∷◌, refl, arith, lit<, lit≤}
+use Rattle.std.proofs.Common.{◌≡◌, [], ◌∷◌, refl, arith, lit<, lit≤}
 use Rattle.std.specs.Prelude.{All, true, codes}
 use Rattle.spte_words.specs.Areas.{content_index, place, pool_index}
 use Rattle.spte_words.specs.Entries.{absent_word, can_write, frame_in, frozen_word, is_leaf_at, kind_of, leaf_word, level_span, mapped_frame, table_word}
@@ -100,10 +98,6 @@ host_allowed =
     (All-cons (May run_sizes) allow_line (read_again ∷ []) (omega arith)
     (All-cons (May run_sizes) read_again [] (omega arith, omega arith, omega arith) (All-nil (May run_sizes))))))
 
-host_distinct : IsDistinct (λ i j. i == j) (slot_ids host_lines)
-unfolding IsDistinct
-host_distinct = (tt, tt)
-
 host_prints : text host_events ≡ codes "2 vm done\n3 v0 frame 65 value 0\n4 v0 frame 65 value 7\n5 h0 done\n6 v1 frame 65 value 7\n"
 unfolding line_text
 host_prints = simp (
@@ -120,15 +114,15 @@ host_prints = simp (
 
 pub example_host : ExampleHost
 example_host = (
-  run_delays run_sizes host_lines host_order host_events 2 1 run_in_range host_allowed host_distinct (omega arith) host_have host_tale host_counts,
-  run_leaves run_sizes host_lines (order_to_zap 16) area.Pool (pool_index 4 6) (leaf_word 1 65 true true true) run_in_range host_allowed host_distinct
+  run_delays run_sizes host_lines host_order host_events 2 1 run_in_range host_allowed (omega arith) host_have host_tale host_counts,
+  run_leaves run_sizes host_lines (order_to_zap 16) area.Pool (pool_index 4 6) (leaf_word 1 65 true true true) run_in_range host_allowed
       (omega arith) have_16 host_zap_16,
-  run_leaves run_sizes host_lines (order_to_zap 17) area.Pool (pool_index 4 6) 0 run_in_range host_allowed host_distinct (omega arith) have_17 host_zap_17,
-  run_leaves run_sizes host_lines (order_to_zap 17) area.Count 0 1 run_in_range host_allowed host_distinct (omega arith) have_17 host_opens,
-  run_leaves run_sizes host_lines (order_to_zap 17) area.RangeStart 0 6 run_in_range host_allowed host_distinct (omega arith) have_17 host_starts,
-  run_leaves run_sizes host_lines (order_to_zap 17) area.RangeEnd 0 7 run_in_range host_allowed host_distinct (omega arith) have_17 host_stops,
-  run_leaves run_sizes host_lines (order_to_zap 18) area.State 0 7 run_in_range host_allowed host_distinct (omega arith) have_18 host_asks,
-  run_leaves run_sizes host_lines host_order area.Seq 0 1 run_in_range host_allowed host_distinct (omega arith) host_have host_raises,
-  run_leaves run_sizes host_lines host_order area.Count 0 0 run_in_range host_allowed host_distinct (omega arith) host_have host_closes,
+  run_leaves run_sizes host_lines (order_to_zap 17) area.Pool (pool_index 4 6) 0 run_in_range host_allowed (omega arith) have_17 host_zap_17,
+  run_leaves run_sizes host_lines (order_to_zap 17) area.Count 0 1 run_in_range host_allowed (omega arith) have_17 host_opens,
+  run_leaves run_sizes host_lines (order_to_zap 17) area.RangeStart 0 6 run_in_range host_allowed (omega arith) have_17 host_starts,
+  run_leaves run_sizes host_lines (order_to_zap 17) area.RangeEnd 0 7 run_in_range host_allowed (omega arith) have_17 host_stops,
+  run_leaves run_sizes host_lines (order_to_zap 18) area.State 0 7 run_in_range host_allowed (omega arith) have_18 host_asks,
+  run_leaves run_sizes host_lines host_order area.Seq 0 1 run_in_range host_allowed (omega arith) host_have host_raises,
+  run_leaves run_sizes host_lines host_order area.Count 0 0 run_in_range host_allowed (omega arith) host_have host_closes,
   host_prints,
 )

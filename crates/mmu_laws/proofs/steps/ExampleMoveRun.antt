@@ -1,12 +1,10 @@
 -- The run in which pages are moved, by computation.
-use Rattle.core_views.specs.Traces.{slot_ids}
 use Rattle.part_steps.specs.TopicSteps.{topics_after}
 use Rattle.part_steps.specs.Tasks.{map_of}
 use Rattle.std.proofs.lemmas.Fmt.{decimal_digit}
-use Rattle.std.specs.List.{IsDistinct}
 use Rattle.std.proofs.lemmas.List.Elements.{All-cons, All-nil}
 use Rattle.mmu_core.specs.lines.Cached.{flushed}
-use Rattle.std.proofs.Common.{ℕ, List, ◌≡◌, ◌==◌, [], ◌∷◌, refl, arith, lit<, lit≤}
+use Rattle.std.proofs.Common.{ℕ, List, ◌≡◌, [], ◌∷◌, refl, arith, lit<, lit≤}
 use Rattle.std.specs.Prelude.{All, true, codes, replicate}
 use Rattle.core_views.specs.Sizes.{AreSizes}
 use Rattle.mmu_core.specs.machine.View.{View}
@@ -142,16 +140,8 @@ move_allowed =
     (All-cons (May move_sizes) move_six (read_six ∷ []) (omega arith)
     (All-cons (May move_sizes) read_six [] (omega arith, omega arith, omega arith) (All-nil (May move_sizes)))))))
 
-move_distinct : IsDistinct (λ i j. i == j) (slot_ids move_lines)
-unfolding IsDistinct
-move_distinct = (tt, tt)
-
 none_allowed : All (May run_sizes) (move_none ∷ [])
 none_allowed = All-cons (May run_sizes) move_none [] (omega arith) (All-nil (May run_sizes))
-
-none_distinct : IsDistinct (λ i j. i == j) (slot_ids (move_none ∷ []))
-unfolding IsDistinct
-none_distinct = tt
 
 move_prints : text move_events
     ≡ codes "2 vm done\n3 v0 frame 65 value 0\n5 h0 frame 128\n4 v1 frame 128 value 0\n6 h0 frame 66\n7 v0 frame 66 value 7\n"
@@ -178,11 +168,11 @@ none_prints = simp (decimal_digit 0 (lit< tt), decimal_digit 2 (lit< tt))
 -- That these actors in turn tell this, and what one of them has counted then; and what a word holds after them.
 counts : (order : List ℕ) (events : List Event) (actor delays : ℕ) → have_lines move_sizes begun order ≡ true → tale begun order ≡ events
     → ((turned_all begun order).hand actor).state.delays ≡ delays → RunDelays move_sizes move_lines order events actor delays
-counts order events actor delays = run_delays move_sizes move_lines order events actor delays move_in_range move_allowed move_distinct (omega arith)
+counts order events actor delays = run_delays move_sizes move_lines order events actor delays move_in_range move_allowed (omega arith)
 
 leaves : (order : List ℕ) (a : Area) (index value : ℕ) → have_lines move_sizes begun order ≡ true → (turned_all begun order).words a index ≡ value
     → RunLeaves move_sizes move_lines order a index value
-leaves order a index value = run_leaves move_sizes move_lines order a index value move_in_range move_allowed move_distinct (omega arith)
+leaves order a index value = run_leaves move_sizes move_lines order a index value move_in_range move_allowed (omega arith)
 
 pub example_move : ExampleMove
 example_move = (
@@ -199,6 +189,6 @@ example_move = (
   leaves move_order area.Count 0 0 move_have none_open,
   leaves move_order area.FrameMap 1 2 move_have old_free,
   move_prints,
-  run_tells run_sizes (move_none ∷ []) (replicate 3 2) none_events run_in_range none_allowed none_distinct (omega arith) none_have none_tale,
+  run_tells run_sizes (move_none ∷ []) (replicate 3 2) none_events run_in_range none_allowed (omega arith) none_have none_tale,
   none_prints,
 )

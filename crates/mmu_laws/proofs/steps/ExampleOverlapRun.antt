@@ -1,15 +1,13 @@
 -- The run in which the invalidations of two host threads are open at a time, by computation.
-use Rattle.core_views.specs.Traces.{slot_ids}
 use Rattle.core_views.specs.Sizes.{AreSizes, first_page_in}
 use Rattle.part_steps.specs.TopicSteps.{topics_after}
 use Rattle.std.proofs.lemmas.Fmt.{decimal_digit}
 use Rattle.std.proofs.lemmas.Option.{slice_get_past}
-use Rattle.std.specs.List.{IsDistinct}
 use Rattle.std.proofs.lemmas.List.Elements.{All-cons, All-nil}
 use Rattle.core_views.proofs.HeaderSizes.{four}
 use Rattle.mmu_core.specs.lines.Cached.{flushed}
 use Rattle.mmu_core.specs.machine.View.{View}
-use Rattle.std.proofs.Common.{ℕ, zero, suc, List, ◌≤◌, ◌+◌, ◌≡◌, ◌==◌, [], ◌∷◌, refl, ap, arith, lit<, lit≤}
+use Rattle.std.proofs.Common.{ℕ, zero, suc, List, ◌≤◌, ◌+◌, ◌≡◌, [], ◌∷◌, refl, ap, arith, lit<, lit≤}
 use Rattle.std.specs.Prelude.{All, Option, true, codes, unwrap_or}
 use Rattle.spte_words.specs.Areas.{content_index, place, pool_index}
 use Rattle.spte_words.specs.Entries.{absent_word, can_write, frame_in, frozen_word, is_leaf_at, kind_of, leaf_word, level_span, mapped_frame, table_word}
@@ -141,10 +139,6 @@ overlap_allowed =
     (All-cons (May overlap_sizes) evict_above (read_inside ∷ []) (omega arith)
     (All-cons (May overlap_sizes) read_inside [] (omega arith, omega arith, omega arith) (All-nil (May overlap_sizes))))))
 
-overlap_distinct : IsDistinct (λ i j. i == j) (slot_ids overlap_lines)
-unfolding IsDistinct
-overlap_distinct = ((refl, tt), (tt, tt))
-
 overlap_prints : text overlap_events ≡ codes "2 vm done\n4 h0 done\n5 h1 done\n6 v0 frame 65 value 0\n3 vm done\n"
 unfolding line_text
 overlap_prints =
@@ -163,11 +157,11 @@ overlap_prints =
 counts : (order : List ℕ) (events : List Event) (actor delays : ℕ) → have_lines overlap_sizes begun order ≡ true → tale begun order ≡ events
     → delays_after order actor ≡ delays → RunDelays overlap_sizes overlap_lines order events actor delays
 counts order events actor delays =
-    run_delays overlap_sizes overlap_lines order events actor delays overlap_in_range overlap_allowed overlap_distinct (omega arith)
+    run_delays overlap_sizes overlap_lines order events actor delays overlap_in_range overlap_allowed (omega arith)
 
 leaves : (order : List ℕ) (a : Area) (index value : ℕ) → have_lines overlap_sizes begun order ≡ true → word_after order a index ≡ value
     → RunLeaves overlap_sizes overlap_lines order a index value
-leaves order a index value = run_leaves overlap_sizes overlap_lines order a index value overlap_in_range overlap_allowed overlap_distinct (omega arith)
+leaves order a index value = run_leaves overlap_sizes overlap_lines order a index value overlap_in_range overlap_allowed (omega arith)
 
 pub example_overlap : ExampleOverlap
 example_overlap =

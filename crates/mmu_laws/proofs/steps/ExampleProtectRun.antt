@@ -1,11 +1,9 @@
 -- The run in which a host thread forbids writes to a page and allows them again, by computation.
-use Rattle.core_views.specs.Traces.{slot_ids}
 use Rattle.part_steps.specs.TopicSteps.{topics_after}
 use Rattle.std.proofs.lemmas.Fmt.{decimal_digit}
-use Rattle.std.specs.List.{IsDistinct}
 use Rattle.std.proofs.lemmas.List.Elements.{All-cons, All-nil}
 use Rattle.mmu_core.specs.lines.Cached.{flushed}
-use Rattle.std.proofs.Common.{ℕ, List, ◌≡◌, ◌==◌, [], ◌∷◌, refl, arith, lit<, lit≤}
+use Rattle.std.proofs.Common.{ℕ, List, ◌≡◌, [], ◌∷◌, refl, arith, lit<, lit≤}
 use Rattle.std.specs.Prelude.{All, true, false, codes}
 use Rattle.spte_words.specs.Areas.{content_index, place, pool_index}
 use Rattle.spte_words.specs.Entries.{absent_word, can_write, frame_in, frozen_word, is_leaf_at, kind_of, leaf_word, level_span, mapped_frame, table_word}
@@ -122,10 +120,6 @@ protect_allowed =
     (All-cons (May run_sizes) allow_again (write_again ∷ []) (omega arith)
     (All-cons (May run_sizes) write_again [] (omega arith, omega arith, omega arith) (All-nil (May run_sizes)))))))
 
-protect_distinct : IsDistinct (λ i j. i == j) (slot_ids protect_lines)
-unfolding IsDistinct
-protect_distinct = (tt, tt)
-
 protect_prints : text protect_events ≡ codes "2 vm done\n3 v0 frame 65 value 0\n5 h0 done\n4 v1 hostfault\n6 h0 done\n7 v1 frame 65 value 7\n"
 unfolding line_text
 protect_prints =
@@ -145,11 +139,11 @@ protect_prints =
 counts : (order : List ℕ) (events : List Event) (delays : ℕ) → have_lines run_sizes (start_view run_sizes protect_lines) order ≡ true
     → tale (start_view run_sizes protect_lines) order ≡ events → ((turned_all (start_view run_sizes protect_lines) order).hand 1).state.delays ≡ delays
     → RunDelays run_sizes protect_lines order events 1 delays
-counts order events delays = run_delays run_sizes protect_lines order events 1 delays run_in_range protect_allowed protect_distinct (omega arith)
+counts order events delays = run_delays run_sizes protect_lines order events 1 delays run_in_range protect_allowed (omega arith)
 
 leaves : (order : List ℕ) (a : Area) (index value : ℕ) → have_lines run_sizes (start_view run_sizes protect_lines) order ≡ true
     → (turned_all (start_view run_sizes protect_lines) order).words a index ≡ value → RunLeaves run_sizes protect_lines order a index value
-leaves order a index value = run_leaves run_sizes protect_lines order a index value run_in_range protect_allowed protect_distinct (omega arith)
+leaves order a index value = run_leaves run_sizes protect_lines order a index value run_in_range protect_allowed (omega arith)
 
 pub example_protect : ExampleProtect
 example_protect = (

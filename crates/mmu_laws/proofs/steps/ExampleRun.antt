@@ -9,12 +9,11 @@ use Rattle.std.proofs.Common.{ℕ, zero, suc, List, ◌≤◌, ◌+◌, lit≤, 
 use Rattle.std.proofs.lemmas.Option.{slice_get_past}
 use Rattle.std.proofs.lemmas.Fmt.{decimal_digit}
 use Rattle.mmu_laws.proofs.steps.Decimals.{two_digits}
-use Rattle.std.specs.List.{IsDistinct}
-use Rattle.std.specs.Prelude.{◌==◌, All, Option, codes, true, unwrap_or}
+use Rattle.std.specs.Prelude.{All, Option, codes, true, unwrap_or}
 use Rattle.std.proofs.lemmas.List.Elements.{All-cons, All-nil}
 use Rattle.core_views.specs.declared.trace.Line.{Line}
 use Rattle.core_views.specs.Sizes.{AreSizes, first_page_in}
-use Rattle.core_views.specs.Traces.{IsCommandFor, slot_ids}
+use Rattle.core_views.specs.Traces.{IsCommandFor}
 use Rattle.core_views.specs.declared.event.Event.{Event}
 use Rattle.core_views.specs.declared.sizes.Sizes.{Sizes}
 use Rattle.core_views.specs.Text.{line_text, text}
@@ -39,10 +38,10 @@ use Rattle.mmu_laws.proofs.steps.ViewRuns.{HaveLines, have_lines, have_lines_by,
 
 -- What a run over words and hands as columns tells, a run of worlds tells.
 pub run_tells : (z : Sizes) (lines : List Line) (order : List ℕ) (events : List Event) → AreSizes z
-    → All (λ line. IsCommandFor z line.actor line.command) lines → IsDistinct (λ i j. i == j) (slot_ids lines) → length lines ≤ 1000000
+    → All (λ line. IsCommandFor z line.actor line.command) lines → length lines ≤ 1000000
     → have_lines z (start_view z lines) order ≡ true → tale (start_view z lines) order ≡ events → RunTells z lines order events
-run_tells z lines order events sizes allowed distinct few has told =
-    let s = a_start z lines sizes allowed distinct few in
+run_tells z lines order events sizes allowed few has told =
+    let s = a_start z lines sizes allowed few in
     let is : ◌≡◌ {A = View} (view z s.0) (start_view z lines) = start_view_is z lines s.0 s.1 in
     let have = subst (λ (v : View). HaveLines z v order) (sym is) (have_lines_by z (start_view z lines) order has) in
     let runs = turns_are z s.0 order (start_good z lines s.0 s.1) have in
@@ -50,14 +49,14 @@ run_tells z lines order events sizes allowed distinct few has told =
 
 -- What an actor counts in such a run, it counts in a run of worlds.
 pub run_delays : (z : Sizes) (lines : List Line) (order : List ℕ) (events : List Event) (actor delays : ℕ) → AreSizes z
-    → All (λ line. IsCommandFor z line.actor line.command) lines → IsDistinct (λ i j. i == j) (slot_ids lines) → length lines ≤ 1000000
+    → All (λ line. IsCommandFor z line.actor line.command) lines → length lines ≤ 1000000
     → have_lines z (start_view z lines) order ≡ true → tale (start_view z lines) order ≡ events
     → ((turned_all (start_view z lines) order).hand actor).state.delays ≡ delays → RunDelays z lines order events actor delays
-run_delays z lines order events actor delays sizes allowed distinct few has told counts =
+run_delays z lines order events actor delays sizes allowed few has told counts =
     record { tells = T; counts = ap (λ (v : View). (v.hand actor).state.delays) leads ∙ counts }
   where
     T : RunTells z lines order events
-    T = run_tells z lines order events sizes allowed distinct few has told
+    T = run_tells z lines order events sizes allowed few has told
 
     is : ◌≡◌ {A = View} (view z T.start) (start_view z lines)
     is = start_view_is z lines T.start T.is_start
@@ -68,13 +67,13 @@ run_delays z lines order events actor delays sizes allowed distinct few has told
 
 -- What a word holds after such a run, it holds in a run of worlds.
 pub run_leaves : (z : Sizes) (lines : List Line) (order : List ℕ) (a : Area) (index value : ℕ) → AreSizes z
-    → All (λ line. IsCommandFor z line.actor line.command) lines → IsDistinct (λ i j. i == j) (slot_ids lines) → length lines ≤ 1000000
+    → All (λ line. IsCommandFor z line.actor line.command) lines → length lines ≤ 1000000
     → have_lines z (start_view z lines) order ≡ true → (turned_all (start_view z lines) order).words a index ≡ value → RunLeaves z lines order a index value
-run_leaves z lines order a index value sizes allowed distinct few has holds =
+run_leaves z lines order a index value sizes allowed few has holds =
     record { start = s.0; is_start = s.1; legal = (turns_are z s.0 order good have).0; holds = ap (λ (v : View). v.words a index) leads ∙ holds }
   where
     s : (w : World Held) × IsStart z lines w
-    s = a_start z lines sizes allowed distinct few
+    s = a_start z lines sizes allowed few
 
     good : IsSound z s.0
     good = start_good z lines s.0 s.1
@@ -156,12 +155,8 @@ run_allowed =
     (All-cons (May run_sizes) other_slot_line (forbidden_line ∷ []) (omega arith, omega arith, omega arith)
     (All-cons (May run_sizes) forbidden_line [] (omega arith, omega arith, omega arith) (All-nil (May run_sizes))))))))))
 
-run_distinct : IsDistinct (λ i j. i == j) (slot_ids run_lines)
-unfolding IsDistinct
-run_distinct = ((refl, tt), (tt, tt))
-
 pub example_runs : ExampleRuns
-example_runs = run_tells run_sizes run_lines run_order run_events run_in_range run_allowed run_distinct (omega arith) run_has_lines run_tale
+example_runs = run_tells run_sizes run_lines run_order run_events run_in_range run_allowed (omega arith) run_has_lines run_tale
 
 -- what it prints
 pub example_prints : ExamplePrints
@@ -214,17 +209,13 @@ small_allowed =
     (All-cons (May small_sizes) starved_line (starved_set_line ∷ []) (omega arith, omega arith, omega arith)
     (All-cons (May small_sizes) starved_set_line [] may_set_read_only (All-nil (May small_sizes))))
 
-small_distinct : IsDistinct (λ i j. i == j) (slot_ids small_lines)
-unfolding IsDistinct
-small_distinct = ((refl, tt), (tt, tt))
-
 small_prints : text small_events ≡ codes "2 vm done\n3 v0 starved\n4 vm starved\n"
 unfolding line_text
 small_prints = simp (decimal_digit 0 (lit< tt), decimal_digit 2 (lit< tt), decimal_digit 3 (lit< tt), decimal_digit 4 (lit< tt))
 
 pub example_starves : ExampleStarves
 example_starves = (
-  run_tells small_sizes small_lines small_order small_events small_in_range small_allowed small_distinct (omega arith) small_has_lines small_tale,
+  run_tells small_sizes small_lines small_order small_events small_in_range small_allowed (omega arith) small_has_lines small_tale,
   small_prints,
 )
 
@@ -246,10 +237,6 @@ race_allowed =
     (All-cons (May run_sizes) first_line (second_line ∷ []) (omega arith, omega arith, omega arith)
     (All-cons (May run_sizes) second_line [] (omega arith, omega arith, omega arith) (All-nil (May run_sizes))))
 
-race_distinct : IsDistinct (λ i j. i == j) (slot_ids race_lines)
-unfolding IsDistinct
-race_distinct = (tt, tt)
-
 race_prints : text race_events ≡ codes "2 vm done\n3 v0 frame 65 value 0\n4 v1 frame 65 value 7\n"
 unfolding line_text
 race_prints = simp (
@@ -264,7 +251,7 @@ race_prints = simp (
 
 pub example_races : ExampleRaces
 example_races = (
-  run_tells run_sizes race_lines race_order race_events run_in_range race_allowed race_distinct (omega arith) race_has_lines race_tale,
+  run_tells run_sizes race_lines race_order race_events run_in_range race_allowed (omega arith) race_has_lines race_tale,
   race_prints,
 )
 
@@ -291,10 +278,6 @@ wait_allowed =
     (All-cons (May run_sizes) set_read_only_line (beside_line ∷ []) may_set_read_only
     (All-cons (May run_sizes) beside_line [] (omega arith, omega arith, omega arith) (All-nil (May run_sizes))))
 
-wait_distinct : IsDistinct (λ i j. i == j) (slot_ids wait_lines)
-unfolding IsDistinct
-wait_distinct = ((refl, tt), (tt, tt))
-
 pub example_waits : ExampleWaits
-example_waits = run_delays run_sizes wait_lines wait_order wait_events 3 3 run_in_range wait_allowed wait_distinct (omega arith) wait_has_lines
+example_waits = run_delays run_sizes wait_lines wait_order wait_events 3 3 run_in_range wait_allowed (omega arith) wait_has_lines
     wait_tale wait_counts

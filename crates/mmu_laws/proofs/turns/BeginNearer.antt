@@ -24,7 +24,8 @@ use Rattle.mmu_core.specs.declared.invalidate.BeginNext.{BeginNext}
 use Rattle.mmu_core.specs.declared.invalidate.BeginNext.TheVariants as begins_next
 use Rattle.mmu_core.specs.lines.FaultLeft.{find_left}
 use Rattle.mmu_core.specs.lines.InvalidateKnows.{BeginKnows}
-use Rattle.mmu_core.specs.lines.InvalidateSteps.{begin_left, begin_next, begin_part, search_next}
+use Rattle.mmu_core.specs.lines.InvalidateLeft.{begin_left}
+use Rattle.mmu_core.specs.lines.InvalidateSteps.{begin_next, begin_part, search_next}
 use Rattle.mmu_core.specs.lines.PartWaits.{part_waits}
 use Rattle.mmu_core.specs.lines.SearchLeft.{look_left}
 use Rattle.mmu_core.proofs.lines.EitherPlace.{either_place, one_place}

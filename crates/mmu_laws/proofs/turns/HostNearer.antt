@@ -25,7 +25,8 @@ use Rattle.spte_words.specs.HostWords.{host_allows_write, host_frame, host_level
 use Rattle.spte_words.proofs.ReadsHost.{host_is_present}
 use Rattle.mmu_core.specs.lines.HostKnows.{HostKnows}
 use Rattle.mmu_core.specs.lines.PartWaits.{part_waits}
-use Rattle.mmu_core.specs.lines.InvalidateSteps.{begin_left, end_part, begin_next, end_left, end_next}
+use Rattle.mmu_core.specs.lines.InvalidateLeft.{begin_left, end_left}
+use Rattle.mmu_core.specs.lines.InvalidateSteps.{end_part, begin_next, end_next}
 use Rattle.mmu_core.specs.lines.Forms.{RestsAt}
 use Rattle.part_steps.specs.PartSteps.{PartNeeds}
 use Rattle.part_steps.specs.PartBounds.{PartRests}

@@ -4,7 +4,7 @@ use Rattle.std.specs.Prelude.{true, false, ◌==◌, nat_lt, not, is_some}
 use Rattle.core_views.specs.declared.answer.Answer.TheVariants.{Starved}
 use Rattle.core_views.specs.declared.place.Place.TheVariants as place
 use Rattle.core_views.specs.declared.place.SlotChangePlace.{SlotChangePlace}
-use Rattle.core_views.specs.declared.place.SlotChangePlace.TheVariants.{Refuse, Claim, Fill, Role, Begin, Exclude, Count, Close, Publish, Release}
+use Rattle.core_views.specs.declared.place.SlotChangePlace.TheVariants.{AtOnce, Claim, Fill, Role, Begin, Exclude, Count, Close, Publish, Release}
 use Rattle.core_views.specs.declared.place.SlotChangePlace.TheVariants.{End, Watch, Give, Clear}
 use Rattle.core_views.specs.declared.place.BeginPlace.TheVariants as begins
 use Rattle.core_views.specs.declared.place.EndPlace.TheVariants as ends
@@ -13,12 +13,13 @@ use Rattle.core_views.specs.declared.topics.Topics.{Topics}
 use Rattle.core_views.specs.declared.trace.Command.{Command}
 use Rattle.core_views.specs.Held.{Held}
 use Rattle.core_views.specs.Sizes.{actors_of}
-use Rattle.core_views.specs.SlotCommands.{slot_moved}
+use Rattle.core_views.specs.SlotCommands.{slot_invalidated}
 use Rattle.mmu_core.specs.declared.invalidate.BeginNext.{BeginNext}
 use Rattle.mmu_core.specs.declared.invalidate.BeginNext.TheVariants as begins_next
 use Rattle.mmu_core.specs.declared.invalidate.EndNext.{EndNext}
 use Rattle.mmu_core.specs.declared.invalidate.EndNext.TheVariants as ends_next
-use Rattle.mmu_core.specs.lines.InvalidateSteps.{begin_left, begin_next, begin_part, end_next, end_part}
+use Rattle.mmu_core.specs.lines.InvalidateLeft.{begin_left}
+use Rattle.mmu_core.specs.lines.InvalidateSteps.{begin_next, begin_part, end_next, end_part}
 use Rattle.part_steps.specs.PartHoldings.{own_open}
 use Rattle.part_steps.specs.SetWords.{set_role}
 use Rattle.mmu_laws.proofs.turns.BeginNearer.{begin_falls, begin_left_after}
@@ -57,15 +58,16 @@ ended_nearer ends_next.Ended z u n less = omega (arith, less)
 
 pub slot_change_nearer : (p : SlotChangePlace) (h : Held) (command : Command) (v : ℕ) → PartRests h → SlotChangeKnows p command h
     → part_waits (slot_change_part p h command) h.topics v ≡ false
-    → Nearer (slot_change_outcome p command h v) h.state.sizes (part_topics (slot_change_part p h command) h.topics v) (slot_change_left p h.state.sizes h.topics)
-slot_change_nearer (Refuse refusal) h command v R K goes = tt
+    → Nearer (slot_change_outcome p command h v) h.state.sizes (part_topics (slot_change_part p h command) h.topics v)
+    (slot_change_left p h.state.sizes h.topics)
+slot_change_nearer (AtOnce refusal) h command v R K goes = tt
 slot_change_nearer (Claim begun) h command v R K goes =
     let low = word_there Pages begun h.state.sizes h.topics.claim R.sizes K.1 in
     let less = claim_falls h.state.sizes Pages begun h.topics v _ _ _ (claim_made h.state.sizes Pages begun h.topics v) goes low in
     let left = claim_left Pages begun h.state.sizes h.topics.claim in
     claim_nearer Pages (claim_next Pages begun h.state.sizes h.topics.claim v) (place.SlotChange (Claim true)) (place.SlotChange Fill) Starved h.state.sizes
-    (part_topics (claim_part Pages begun h.topics.claim) h.topics v) (526 + actors_of h.state.sizes + begin_left begins.Exclude h.state.sizes h.state.sizes.pages h.topics) left
-    less refl (omega arith)
+    (part_topics (claim_part Pages begun h.topics.claim) h.topics v)
+    (526 + actors_of h.state.sizes + begin_left begins.Exclude h.state.sizes h.state.sizes.pages h.topics) left less refl (omega arith)
 slot_change_nearer Fill h command v R K goes =
     let room = K.1.1 in
     let more = more_filled h.topics.owned v K.1.0 in
@@ -73,7 +75,7 @@ slot_change_nearer Fill h command v R K goes =
     (nat_lt (words_filled h.topics.owned + 1) 512) Fill Role (λ e. omega (arith, room, more)) (λ e. omega (arith, room))
 slot_change_nearer Role h command v R K goes =
     either_place (λ q. At q h.state.sizes (part_topics (part.Role set_role) h.topics v) (slot_change_left Role h.state.sizes h.topics))
-    (is_some (slot_moved h.slots command)) (Begin begins.Exclude) Exclude (omega arith) (omega arith)
+    (is_some (slot_invalidated h.slots command)) (Begin begins.Exclude) Exclude (omega arith) (omega arith)
 slot_change_nearer (Begin p) h command v R K goes =
     let target = slot_target h command in
     begun_nearer (begin_next p h.state.sizes target h.topics v) h.state.sizes (part_topics (begin_part p target h.topics) h.topics v) _

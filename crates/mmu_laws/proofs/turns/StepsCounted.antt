@@ -86,7 +86,8 @@ fits_by g q y command n stands sizes is steps fits =
 goes_one_more : (n : ℕ) (y : Sizes) (command : Command) → AreSizes y → n < most_steps y command → one_more n ≡ n + 1
 goes_one_more n y command S few =
     let most = most_small y command in
-    let small : nat_lt n (2 ^ 64 - 1) ≡ true = let low : n < 2 ^ 64 - 1 = omega (arith, few, most, S.pool.1, S.frames.1, S.pages.1) in grind (arith, nat_tests) in
+    let low : n < 2 ^ 64 - 1 = omega (arith, few, most, S.pool.1, S.frames.1, S.pages.1) in
+    let small : nat_lt n (2 ^ 64 - 1) ≡ true = grind (arith, nat_tests) in
     ap (λ b. if b then n + 1 else n) small
 
 counts_by : (delay : Bool) (h g : Held) (left : ℕ) → AreSizes h.state.sizes

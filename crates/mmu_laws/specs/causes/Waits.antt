@@ -8,6 +8,7 @@ use Rattle.core_views.specs.declared.place.Place.TheVariants.{Between}
 use Rattle.core_views.specs.declared.sizes.Sizes.{Sizes}
 use Rattle.core_views.specs.declared.topics.Hold.{Hold}
 use Rattle.core_views.specs.declared.topics.Hold.TheVariants.{Exclusive}
+use Rattle.core_views.specs.declared.topics.Invalidations.{Invalidations}
 use Rattle.core_views.specs.declared.topics.MapClaim.{MapClaim}
 use Rattle.core_views.specs.declared.topics.Topics.{Topics}
 use Rattle.core_views.specs.declared.trace.Line.{Line}
@@ -19,6 +20,7 @@ use Rattle.spte_words.specs.Areas.{place}
 use Rattle.spte_words.specs.Bits.{has_bit}
 use Rattle.part_steps.specs.declared.part_step.PartStep.{PartStep}
 use Rattle.part_steps.specs.declared.part_step.PartStep.TheVariants as part
+use Rattle.part_steps.specs.PartHoldings.{own_open}
 use Rattle.part_steps.specs.PartTasks.{part_kind}
 use Rattle.part_steps.specs.PartSteps.{PartNeeds}
 use Rattle.part_steps.specs.Tasks.{map_of}
@@ -84,9 +86,13 @@ IsTaken z map actor claim v w ss =
     × (has_bit (tried_bit claim) claim.seen ≡ true)
     × (has_bit (tried_bit claim) v ≡ false)
 
+-- More invalidations are open than the actor's own, as it has counted them.
+abbrev pub HasOthersOpen : Invalidations → Type 0
+HasOthersOpen n = own_open n < n.count
+
 -- Why a step of a part waits, that is made after these steps: its actor found a writer with the try for the lock that it takes back; the page or frame
--- that it tries was taken; it finds the lock taken; it gives the lock back, under which its actor found invalidations open; it finds another actor in the
--- guest or in a section; or it finds a virtual processor that has yet to flush.
+-- that it tries was taken; it finds the lock taken; it gives the lock back, under which its actor found invalidations of others open; it finds another actor in
+-- the guest or in a section; or it finds a virtual processor that has yet to flush.
 abbrev pub StepWaitIsCaused : PartStep → Sizes → World Held → List (Step Kind) → Step Kind → Type 0
 StepWaitIsCaused part.Unshare z w ss s = FoundWriter z s.actor (word_owed (hand_in mmu (run mmu w ss) s.actor).topics.hold) w ss
 StepWaitIsCaused part.Claim z w ss s =
@@ -96,12 +102,12 @@ StepWaitIsCaused part.Frame z w ss s =
 StepWaitIsCaused part.Exclude z w ss s = FindsLockTaken z (run mmu w ss) s
 StepWaitIsCaused part.Release z w ss s =
     FoundCount z s.actor Exclusive (hand_in mmu (run mmu w ss) s.actor).topics.invalidations.count w ss
-    × (0 < (hand_in mmu (run mmu w ss) s.actor).topics.invalidations.count)
+    × HasOthersOpen (hand_in mmu (run mmu w ss) s.actor).topics.invalidations
 StepWaitIsCaused (part.Watch index) z w ss s = FindsOtherInside z (run mmu w ss) s
 StepWaitIsCaused (part.Await index) z w ss s = FindsToFlush z (run mmu w ss) s
 StepWaitIsCaused _ z w ss s = ⊥
 
--- The actor has seen nothing that a step waits for: it owes the lock no reader, it saw no invalidation open under the lock, and its claims have seen
+-- The actor has seen nothing that a step waits for: it owes the lock no reader, it saw no invalidation of others open under the lock, and its claims have seen
 -- nothing free.
 pub record SawNothing (t : Topics) : Type 0 where
   pub owes : is_owing t.hold ≡ false

@@ -1,6 +1,6 @@
--- What an open invalidation makes sure of its guest frames: they are in the range and are those of its host page, from a first flush on no leaf of them
--- is left, and whom it has awaited may use nothing cached of them (kvm_main.c, kvm_mmu_invalidate_range_add; tdp_mmu.c, kvm_tdp_mmu_unmap_gfn_range;
--- mmu_notifier.rst; vcpu-requests.rst, KVM_REQ_TLB_FLUSH).
+-- What an open invalidation makes sure of its guest frames: they are in the range and, where it is of a host page, are those of the page; from a first flush
+-- on no leaf of them is left, and whom it has awaited may use nothing cached of them (kvm_main.c, kvm_mmu_invalidate_range_add; tdp_mmu.c,
+-- kvm_tdp_mmu_unmap_gfn_range; mmu_notifier.rst; vcpu-requests.rst, KVM_REQ_TLB_FLUSH).
 use Rattle.std.specs.Prelude.{◌≡◌, ◌^◌, ◌<◌, ◌≤◌, ℕ, Some, true}
 use Rattle.core_views.specs.declared.sizes.Sizes.{Sizes}
 use Rattle.core_views.specs.declared.topics.Flush.{Flush}
@@ -28,11 +28,11 @@ flush_of w actor = (hand_in mmu w actor).topics.flush
 abbrev pub HasOpen : World Held → ℕ → Type 0
 HasOpen w actor = (hand_in mmu w actor).topics.invalidations.opened ≡ true
 
--- In every sound world: each guest frame that an open invalidation is of lies in the range.
+-- In every sound world: each guest frame that an open invalidation is of lies in the range, and below 2 ^ 36.
 abbrev pub OpenFramesAreRecorded : Type 0
 OpenFramesAreRecorded =
     (z : Sizes) (w : World Held) (actor gfn : ℕ) → IsSound z w → actor < actors_of z → HasOpen w actor → IsIn (own_of w actor) gfn
-    → (word_in z w area.RangeStart 0 ≤ gfn) × (gfn < word_in z w area.RangeEnd 0)
+    → (word_in z w area.RangeStart 0 ≤ gfn) × (gfn < word_in z w area.RangeEnd 0) × (gfn < 2 ^ 36)
 
 -- Where it is of a host page, it is of the guest frames that the published slots give to this page, and of no others.
 abbrev pub OpenFramesAreOfThePage : Type 0
@@ -43,7 +43,7 @@ OpenFramesAreOfThePage =
 -- Once its actor has asked for a first flush, no links lead such a guest frame from the root to a leaf.
 abbrev pub OpenFramesAreZapped : Type 0
 OpenFramesAreZapped =
-    (z : Sizes) (w : World Held) (actor gfn entry : ℕ) → gfn < 2 ^ 36 → IsSound z w → actor < actors_of z → HasOpen w actor → 1 ≤ (flush_of w actor).asked
+    (z : Sizes) (w : World Held) (actor gfn entry : ℕ) → IsSound z w → actor < actors_of z → HasOpen w actor → 1 ≤ (flush_of w actor).asked
     → IsIn (own_of w actor) gfn → LeadsTo (word_in z w area.Pool) 4 (word_in z w area.Root 0) gfn entry → kind_of 1 entry ≡ entry_kind.Leaf → ⊥
 
 -- A virtual processor that its actor has awaited has nothing cached of such a guest frame, where it may use what it has cached.

@@ -1,12 +1,11 @@
 -- That the machine goes on: every machine has a start, and each actor with a line left can make a step.
-use Rattle.std.specs.Prelude.{◌<◌, ◌==◌, ℕ, List, All, length, ◌≤◌}
-use Rattle.std.specs.List.{IsDistinct}
+use Rattle.std.specs.Prelude.{◌<◌, ℕ, List, All, length, ◌≤◌}
 use Rattle.core_views.specs.declared.kind.Kind.{Kind}
 use Rattle.core_views.specs.declared.sizes.Sizes.{Sizes}
 use Rattle.core_views.specs.declared.trace.Line.{Line}
 use Rattle.core_views.specs.Held.{Held}
 use Rattle.core_views.specs.Sizes.{AreSizes, actors_of}
-use Rattle.core_views.specs.Traces.{IsCommandFor, slot_ids}
+use Rattle.core_views.specs.Traces.{IsCommandFor}
 use Rattle.mmu_core.specs.machine.Enabled.{mmu}
 use Rattle.mmu_core.specs.machine.Machine.{Legal, May, Step, World, hand_in, run}
 use Rattle.mmu_core.specs.machine.Worlds.{IsStart}
@@ -16,7 +15,7 @@ use Rattle.mmu_core.specs.machine.NextSteps.{HasLineThatFits, next_step}
 abbrev pub EveryMachineStarts : Type 0
 EveryMachineStarts =
     (z : Sizes) (lines : List Line) → AreSizes z → All (λ line. IsCommandFor z line.actor line.command) lines
-    → IsDistinct (λ i j. i == j) (slot_ids lines) → length lines ≤ 1000000 → (w : World Held) × IsStart z lines w
+    → length lines ≤ 1000000 → (w : World Held) × IsStart z lines w
 
 -- Behind every list of steps each actor that has a line without an answer may make its next step: none has to wait for another.
 abbrev pub EachMayStep : Type 0

@@ -18,6 +18,9 @@ use Rattle.core_views.proofs.laws.unlawful_histories_are_refused.Goals as goal
 pub returns-clause-starved : goal.returns-clause-starved
 returns-clause-starved c lawful = absurd (cc lawful.1.1.1.1.0.1)
 
+pub returns-clause-unchanged : goal.returns-clause-unchanged
+returns-clause-unchanged c lawful = absurd (cc lawful.1.1.1.1.0.1)
+
 no_page : (slots noted : Slots) (gfn page : ℕ) (op : Op) → page_behind slots gfn op ≡ None → Some slots ≡ Some noted → page_behind noted gfn op ≡ Some page → ⊥
 no_page slots noted gfn page op none is behind =
     let same : slots ≡ noted = same_Some slots noted is in

@@ -1,4 +1,5 @@
 use Rattle.mmu_laws.proofs.steps.InvalidationLaws.{invalidations_are_counted, sequence_is_raised}
+use Rattle.mmu_laws.proofs.steps.PublicationLaws.{others_leave_slots, publications_are_invalidated}
 use Rattle.mmu_laws.proofs.steps.EventLaws.{events_are_of_their_steps}
 use Rattle.mmu_laws.proofs.steps.AllowedWords.{words_tell}
 use Rattle.mmu_laws.proofs.steps.Notes.{notes_tell_ends}
@@ -38,3 +39,9 @@ returns-clause-changes c = changes_are_invalidated
 
 pub returns-clause-brings : goal.returns-clause-brings
 returns-clause-brings c = brings_are_of_absent_pages
+
+pub returns-clause-published : goal.returns-clause-published
+returns-clause-published c = publications_are_invalidated
+
+pub returns-clause-kept_slots : goal.returns-clause-kept_slots
+returns-clause-kept_slots c = others_leave_slots

@@ -1,6 +1,7 @@
 use Rattle.mmu_laws.proofs.steps.ExampleHostRun.{example_host}
 use Rattle.mmu_laws.proofs.steps.ExampleProtectRun.{example_protect}
 use Rattle.mmu_laws.proofs.steps.ExampleEvictRun.{example_evict}
+use Rattle.mmu_laws.proofs.steps.ExampleSlotsRun.{example_slots}
 use Rattle.mmu_laws.proofs.steps.ExampleMoveRun.{example_move}
 use Rattle.mmu_laws.proofs.steps.ExampleOverlapRun.{example_overlap}
 use Rattle.mmu_core.specs.machine.Enabled.{mmu}
@@ -48,3 +49,6 @@ returns-clause-moves c = example_move
 
 pub returns-clause-overlap : goal.returns-clause-overlap
 returns-clause-overlap c = example_overlap
+
+pub returns-clause-slots : goal.returns-clause-slots
+returns-clause-slots c = example_slots

@@ -10,7 +10,7 @@ use Rattle.slot_change.proofs.places.begin.Goals as goal
 pub returns-clause-makes : goal.returns-clause-makes
 returns-clause-makes g c =
     let turned = c.turn.ensures.turned c.args.place (ap begin_at c.requires.is_at.stands) in
-    let moved = rw c.hand.ensures.hand at c.slot_moved-slot.ensures in
+    let moved = rw c.hand.ensures.hand at c.slot_invalidated-slot.ensures in
     let target = ap (λ (job : BeginJob). job.target) c.of_slot.ensures ∙ ap aim.Slot moved in
     subst
     (λ (t : Target). MadeTelling c.in_way.result (begin_part c.args.place t (g.S.Stepper.seat c.args.s.now).hand.topics) c.args.note

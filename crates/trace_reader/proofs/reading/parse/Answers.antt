@@ -1,7 +1,6 @@
 use Rattle.std.proofs.Common.{arith}
 use Rattle.std.proofs.lemmas.Result.{err_from_is_err_and}
 use Rattle.trace_reader.proofs.Begin.{begun, bad_head, bad_line, all_read}
-use Rattle.trace_reader.proofs.Distinct.{read_distinct}
 use Rattle.trace_reader.proofs.Ranges.{head_in_range}
 use Rattle.trace_reader.proofs.Rising.{read_few, read_rising}
 use Rattle.trace_reader.proofs.reading.parse.Goals as goal
@@ -37,7 +36,6 @@ returns-clause-in_range c =
       header = head_in_range _ h c.in_ok-header.ensures.read;
       lines = b.lines;
       rising = read_rising h 2 c.taken-size.result _ _ said;
-      distinct = read_distinct h 2 c.taken-size.result _ _ said;
       few = read_few h 2 c.taken-size.result _ _ (omega arith) said;
       go = b.go;
       items = b.items;

@@ -1,30 +1,18 @@
-ghost use Rattle.std.specs.Prelude.{◌≡◌, ◌<◌, ◌^◌, ℕ, [], None, false, length};
-ghost use Rattle.std.specs.BTreeSet.{contains};
-ghost use Rattle.std.specs.Ordering.{nat_cmp};
+ghost use Rattle.std.specs.Prelude.{◌≡◌, ◌<◌, ◌^◌, [], None, length};
 ghost use Rattle.trace_reader.specs.Steps.{PutsSaying, trace_with};
 
-use crate::form::slot_id;
 use crate::refusal::ReadError;
 use crate::saying::Saying;
 use core_views::{Header, Item, Items, Line, Lines, Trace};
 use std::alloc::Global;
-use std::collections::BTreeSet;
-
-/// What the lines before a line say that it is judged by.
-#[derive(Drop)]
-pub struct Before {
-    /// The IDs that slot lines name.
-    pub ids: BTreeSet<u64>,
-    /// How many lines of actors stand above `go`, if it was there.
-    pub go: Option<u32>,
-}
 
 /// What was read after the header.
 #[derive(Drop)]
 pub struct Body {
     pub lines: Vec<Line>,
     pub items: Vec<Item>,
-    pub before: Before,
+    /// How many lines of actors stand above `go`, if it was there.
+    pub go: Option<u32>,
 }
 
 impl Body {
@@ -32,17 +20,12 @@ impl Body {
     pub fn new(alloc: Global) -> Self
         ensures lines { result.lines.items ≡ [] }
         ensures items { result.items.items ≡ [] }
-        ensures go { result.before.go ≡ None }
-        ensures ids { (id : ℕ) → contains nat_cmp result.before.ids id ≡ false }
+        ensures go { result.go ≡ None }
     {
-        let before = Before {
-            ids: BTreeSet::new(alloc),
-            go: None,
-        };
         Body {
             lines: Vec::new(alloc),
             items: Vec::new(alloc),
-            before,
+            go: None,
         }
     }
 
@@ -54,9 +37,6 @@ impl Body {
         match found {
             None => {}
             Some(Saying::Does { actor, command }) => {
-                if let Some(id) = slot_id(&command) {
-                    self.before.ids.insert(id)?;
-                }
                 let line = Line {
                     number,
                     actor,
@@ -64,7 +44,7 @@ impl Body {
                 };
                 self.lines.push(line)?;
             }
-            Some(Saying::Go) => self.before.go = Some(self.lines.len() as u32),
+            Some(Saying::Go) => self.go = Some(self.lines.len() as u32),
             Some(Saying::Schedules(item)) => self.items.push(item)?,
         }
         Ok(())
@@ -77,7 +57,7 @@ impl Body {
         Trace {
             header,
             lines: Lines::from_vec(self.lines),
-            go: self.before.go,
+            go: self.go,
             items: Items::from_vec(self.items),
         }
     }

@@ -1,0 +1,173 @@
+-- The run in which a slot is moved and deleted, by computation.
+use Rattle.part_steps.specs.TopicSteps.{topics_after}
+use Rattle.std.proofs.lemmas.Fmt.{decimal_digit}
+use Rattle.std.proofs.lemmas.List.Elements.{All-cons, All-nil}
+use Rattle.mmu_core.specs.lines.Cached.{flushed}
+use Rattle.std.proofs.Common.{ℕ, List, ◌≡◌, ◌++◌, [], ◌∷◌, refl, arith, lit<, lit≤}
+use Rattle.std.specs.Prelude.{All, true, codes}
+use Rattle.spte_words.specs.Areas.{content_index, place, pool_index}
+use Rattle.spte_words.specs.Entries.{absent_word, can_write, frame_in, frozen_word, is_leaf_at, kind_of, leaf_word, level_span, mapped_frame, table_word}
+use Rattle.spte_words.specs.Flags.{flags_live, flags_logged, flags_read_only, flags_word}
+use Rattle.spte_words.specs.HostWords.{host_allows_write, host_frame, host_level, host_present, host_word}
+use lib.Count.{count_trailing_zeros}
+use Rattle.core_views.specs.Text.{line_text, text}
+use Rattle.core_views.specs.declared.event.Event.{Event}
+use Rattle.mmu_laws.specs.steps.ExampleHost.{write_first}
+use Rattle.mmu_laws.specs.steps.ExampleSlots.{ExampleSlots, delete_line, events_to_read, move_line, order_to_cache, order_to_move, order_to_read, order_to_wait}
+use Rattle.mmu_laws.specs.steps.ExampleSlots.{read_beside, read_gone, read_inside, same_line, slots_events, slots_lines, slots_order}
+use Rattle.spte_words.specs.declared.area.Area.{Area}
+use Rattle.spte_words.specs.declared.area.Area.TheVariants as area
+use Rattle.mmu_laws.specs.steps.ExampleSteps.{RunDelays, RunLeaves, run_sizes, set_line}
+use Rattle.mmu_laws.proofs.steps.ExampleRun.{May, may_set, run_delays, run_in_range, run_leaves}
+use Rattle.mmu_laws.proofs.steps.Decimals.{two_digits}
+use Rattle.mmu_laws.proofs.steps.ViewRuns.{have_lines, tale, turned_all}
+use Rattle.mmu_core.specs.machine.View.{View}
+use Rattle.mmu_core.proofs.start.StartViews.{start_view}
+
+-- the start, and what hands have counted and words hold after these actors in turn
+abbrev begun : View
+begun = start_view run_sizes slots_lines
+
+abbrev delays_after : List ℕ → ℕ → ℕ
+delays_after order actor = ((turned_all begun order).hand actor).state.delays
+
+abbrev word_after : List ℕ → Area → ℕ → ℕ
+word_after order a index = (turned_all begun order).words a index
+
+-- before the move zaps the leaf
+before_zap :
+    (have_lines run_sizes begun (order_to_move 562) ≡ true)
+    × (word_after (order_to_move 562) area.Pool (pool_index 4 6) ≡ leaf_word 1 65 true true true)
+unfolding flushed topics_after place kind_of level_span table_word frozen_word content_index pool_index absent_word frame_in mapped_frame leaf_word flags_live
+    flags_read_only flags_word host_allows_write host_frame host_present host_level host_word can_write is_leaf_at flags_logged count_trailing_zeros
+before_zap = (refl, refl)
+
+-- after it
+zapped :
+    (have_lines run_sizes begun (order_to_move 563) ≡ true)
+    × (word_after (order_to_move 563) area.Pool (pool_index 4 6) ≡ 0)
+    × (word_after (order_to_move 563) area.RangeStart 0 ≡ 5)
+    × (word_after (order_to_move 563) area.RangeEnd 0 ≡ 8)
+unfolding flushed topics_after place kind_of level_span table_word frozen_word content_index pool_index absent_word frame_in mapped_frame leaf_word flags_live
+    flags_read_only flags_word host_allows_write host_frame host_present host_level host_word can_write is_leaf_at flags_logged count_trailing_zeros
+zapped = (refl, refl, refl, refl)
+
+-- before the move publishes its set
+before_publication :
+    (have_lines run_sizes begun (order_to_move 571) ≡ true)
+    × (word_after (order_to_move 571) area.Slots 0 ≡ 2)
+unfolding flushed topics_after place kind_of level_span table_word frozen_word content_index pool_index absent_word frame_in mapped_frame leaf_word flags_live
+    flags_read_only flags_word host_allows_write host_frame host_present host_level host_word can_write is_leaf_at flags_logged count_trailing_zeros
+before_publication = (refl, refl)
+
+-- after it
+published :
+    (have_lines run_sizes begun (order_to_move 572) ≡ true)
+    × (word_after (order_to_move 572) area.Slots 0 ≡ 5)
+    × (word_after (order_to_move 572) area.Count 0 ≡ 1)
+    × (word_after (order_to_move 572) area.Seq 0 ≡ 0)
+unfolding flushed topics_after place kind_of level_span table_word frozen_word content_index pool_index absent_word frame_in mapped_frame leaf_word flags_live
+    flags_read_only flags_word host_allows_write host_frame host_present host_level host_word can_write is_leaf_at flags_logged count_trailing_zeros
+published = (refl, refl, refl, refl)
+
+-- after the read beside the move
+read :
+    (have_lines run_sizes begun order_to_read ≡ true)
+    × (tale begun order_to_read ≡ events_to_read)
+    × (delays_after order_to_read 1 ≡ 1)
+unfolding flushed topics_after place kind_of level_span table_word frozen_word content_index pool_index absent_word frame_in mapped_frame leaf_word flags_live
+    flags_read_only flags_word host_allows_write host_frame host_present host_level host_word can_write is_leaf_at flags_logged count_trailing_zeros
+read = (refl, refl, refl)
+
+-- where the next read has cached its leaf
+cached :
+    (have_lines run_sizes begun order_to_cache ≡ true)
+    × (word_after order_to_cache area.Seq 0 ≡ 1)
+unfolding flushed topics_after place kind_of level_span table_word frozen_word content_index pool_index absent_word frame_in mapped_frame leaf_word flags_live
+    flags_read_only flags_word host_allows_write host_frame host_present host_level host_word can_write is_leaf_at flags_logged count_trailing_zeros
+cached = (refl, refl)
+
+-- where the deletion waits for it
+waits :
+    (have_lines run_sizes begun order_to_wait ≡ true)
+    × (word_after order_to_wait area.Pool (pool_index 4 7) ≡ 0)
+    × (word_after order_to_wait area.Slots 0 ≡ 5)
+unfolding flushed topics_after place kind_of level_span table_word frozen_word content_index pool_index absent_word frame_in mapped_frame leaf_word flags_live
+    flags_read_only flags_word host_allows_write host_frame host_present host_level host_word can_write is_leaf_at flags_logged count_trailing_zeros
+waits = (refl, refl, refl)
+
+-- the whole run
+whole :
+    (have_lines run_sizes begun slots_order ≡ true)
+    × (tale begun slots_order ≡ slots_events)
+    × (delays_after slots_order 3 ≡ 1)
+    × (word_after slots_order area.Slots 0 ≡ 2)
+    × (word_after slots_order area.Seq 0 ≡ 2)
+    × (word_after slots_order area.Count 0 ≡ 0)
+unfolding flushed topics_after place kind_of level_span table_word frozen_word content_index pool_index absent_word frame_in mapped_frame leaf_word flags_live
+    flags_read_only flags_word host_allows_write host_frame host_present host_level host_word can_write is_leaf_at flags_logged count_trailing_zeros
+whole = (refl, refl, refl, refl, refl, refl)
+
+slots_allowed : All (May run_sizes) slots_lines
+slots_allowed =
+    All-cons (May run_sizes) set_line (write_first ∷ move_line ∷ read_beside ∷ same_line ∷ delete_line ∷ read_inside ∷ read_gone ∷ []) may_set
+    (All-cons (May run_sizes) write_first (move_line ∷ read_beside ∷ same_line ∷ delete_line ∷ read_inside ∷ read_gone ∷ [])
+    (omega arith, omega arith, omega arith)
+    (All-cons (May run_sizes) move_line (read_beside ∷ same_line ∷ delete_line ∷ read_inside ∷ read_gone ∷ []) may_move
+    (All-cons (May run_sizes) read_beside (same_line ∷ delete_line ∷ read_inside ∷ read_gone ∷ []) (omega arith, omega arith, omega arith)
+    (All-cons (May run_sizes) same_line (delete_line ∷ read_inside ∷ read_gone ∷ []) may_move
+    (All-cons (May run_sizes) delete_line (read_inside ∷ read_gone ∷ []) tt
+    (All-cons (May run_sizes) read_inside (read_gone ∷ []) (omega arith, omega arith, omega arith)
+    (All-cons (May run_sizes) read_gone [] (omega arith, omega arith, omega arith) (All-nil (May run_sizes)))))))))
+  where
+    may_move : May run_sizes move_line
+    may_move = record { some = omega arith; pages = omega arith; base = omega arith; host = omega arith; aligned = refl }
+
+slots_print : text slots_events
+    ≡ codes "2 vm done\n3 v0 frame 65 value 0\n5 v1 frame 65 value 7\n4 vm done\n6 vm done\n"
+    ++ codes "8 v0 frame 65 value 7\n7 vm done\n9 v1 mmio\n"
+unfolding line_text
+slots_print =
+    simp (
+      decimal_digit 0 (lit< tt),
+      decimal_digit 1 (lit< tt),
+      decimal_digit 2 (lit< tt),
+      decimal_digit 3 (lit< tt),
+      decimal_digit 4 (lit< tt),
+      decimal_digit 5 (lit< tt),
+      decimal_digit 6 (lit< tt),
+      decimal_digit 7 (lit< tt),
+      decimal_digit 8 (lit< tt),
+      decimal_digit 9 (lit< tt),
+      two_digits 65 (lit≤ tt) (lit< tt),
+    )
+
+-- That these actors in turn tell this, and what one of them has counted then; and what a word holds after them.
+counts : (order : List ℕ) (events : List Event) (actor delays : ℕ) → have_lines run_sizes begun order ≡ true → tale begun order ≡ events
+    → delays_after order actor ≡ delays → RunDelays run_sizes slots_lines order events actor delays
+counts order events actor delays = run_delays run_sizes slots_lines order events actor delays run_in_range slots_allowed (omega arith)
+
+leaves : (order : List ℕ) (a : Area) (index value : ℕ) → have_lines run_sizes begun order ≡ true → word_after order a index ≡ value
+    → RunLeaves run_sizes slots_lines order a index value
+leaves order a index value = run_leaves run_sizes slots_lines order a index value run_in_range slots_allowed (omega arith)
+
+pub example_slots : ExampleSlots
+example_slots = (
+  counts order_to_read events_to_read 1 1 read.0 read.1 read.2,
+  counts slots_order slots_events 3 1 whole.0 whole.1 whole.2,
+  leaves (order_to_move 562) area.Pool (pool_index 4 6) (leaf_word 1 65 true true true) before_zap.0 before_zap.1,
+  leaves (order_to_move 563) area.Pool (pool_index 4 6) 0 zapped.0 zapped.1,
+  leaves (order_to_move 563) area.RangeStart 0 5 zapped.0 zapped.2,
+  leaves (order_to_move 563) area.RangeEnd 0 8 zapped.0 zapped.3,
+  leaves (order_to_move 571) area.Slots 0 2 before_publication.0 before_publication.1,
+  leaves (order_to_move 572) area.Slots 0 5 published.0 published.1,
+  leaves (order_to_move 572) area.Count 0 1 published.0 published.2,
+  leaves (order_to_move 572) area.Seq 0 0 published.0 published.3,
+  leaves order_to_cache area.Seq 0 1 cached.0 cached.1,
+  leaves order_to_wait area.Pool (pool_index 4 7) 0 waits.0 waits.1,
+  leaves order_to_wait area.Slots 0 5 waits.0 waits.2,
+  leaves slots_order area.Slots 0 2 whole.0 whole.3,
+  leaves slots_order area.Seq 0 2 whole.0 whole.4,
+  leaves slots_order area.Count 0 0 whole.0 whole.5,
+  slots_print,
+)

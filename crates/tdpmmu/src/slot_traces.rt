@@ -1,0 +1,1861 @@
+//! Small traces of slots that are set, moved, deleted and set again, beside accesses and host
+//! lines, for the tests, as text: each begins with a header's sizes and ends with a line of two dashes.
+
+/// How many traces the table has.
+pub const SLOT_COUNT: usize = 64;
+
+/// The table.
+pub const SLOT_TRACES: &str = "vcpus 4 workers 0 pages 3 frames 4 words 1 hosts 0 1 2
+vm slot 1 34359738368 0x3 0x0
+vm slot 1 34359738368 3 0
+vm slot 0x1 34359738368 3 0x0
+vm slot 1 34359738367 0x3 0
+v3 write 140737488363520 2
+h0 protect 0
+vm slot 0x1 34359738368 3 0
+v3 write 140737488363520 1
+vm slot 1 34359738368 3 0
+v2 write 140737488363520 1
+vm slot 1 34359738367 3 0
+v0 write 140737488359424 255
+v2 read 140737488351232
+v1 read 140737488359424
+v2 write 0x800000001000 9223372036854775808
+v2 write 140737488359424 0xff
+v1 write 140737488359424 0x2744d2ea5d
+v2 write 140737488359424 1
+v1 write 0x800000001000 18446744073709551615
+v3 read 140737488363520
+v1 read 0x800000000000
+v1 write 0x800000001000 0xffffffffffffffff
+h1 move 1
+--
+vcpus 2 workers 0 pages 64 frames 65 words 1 hosts 0 37 56
+vm slot 0xc 100 1 0
+vm slot 12 0x64 1 0
+vm slot 12 0x65 0x1 64
+v1 write 4096 18446744073709551615
+vm slot 0xc 100 1 0
+vm slot 0 0 0x40 0 ro
+vm slot 0xc 100 1 0
+vm slot 12 100 1 0
+vm slot 2 134217726 4 0
+vm slot 12 100 1 0
+v1 write 409600 0x7
+v0 write 0x64000 255
+v0 read 409600
+v0 read 409600
+vm slot 5 1 0x4 0
+v1 add 409600 2
+v0 write 409600 255
+v1 read 409600
+v0 write 409600 0x8000000000000000
+vm slot 12 0x64 1 0
+vm slot 31 1 2 0
+v1 read 0x64000
+vm slot 32 0x1f4 1 0
+v1 write 409600 9223372036854775808
+v1 write 409600 1
+vm slot 12 68719476735 0 0
+vm slot 28 2 2 0
+v0 read 0x64000
+vm slot 0x1c 0x3 2 64
+vm slot 12 100 1 0
+--
+vcpus 3 workers 0 pages 5 frames 13 words 1 hosts 0 1 3
+vm slot 0 517 5 0x0 ro
+vm slot 0 517 5 0x0 ro
+vm slot 0x0 34359738368 0x5 0 ro
+vm slot 0 0 0 64
+vm slot 2 0x8000003 5 0
+v1 read 549755826176
+vm slot 2 68719476716 5 0
+v0 write 0x800000004000 7
+vm slot 0 0x3fffe 5 0
+v0 read 2117632
+v0 write 0xfffffffec000 0x7
+vm slot 0 34359738368 5 0 ro
+v0 read 0xfffffffec000
+v2 write 140737488371712 2
+v2 read 281474976645120
+v1 read 281474976645120
+v2 read 281474976645120
+vm slot 2 0xfffffffec 5 0
+v0 read 0xfffffffef000
+vm slot 0 261890 0x5 0
+v0 write 281474976645120 16936421516231684187
+v1 add 281474976645120 1
+v0 read 281474976645120
+vm slot 2 134217731 0x5 0
+v1 read 549755834368
+vm slot 0x2 0xfffffffec 5 0
+vm slot 28 501 5 0
+--
+vcpus 2 workers 1 pages 3 frames 3 words 1 hosts 0
+vm slot 28 5 2 0
+v1 write 20480 18446744073709551615
+vm slot 0x1c 5 0 64
+vm slot 28 511 0x3 0
+vm slot 28 500 3 0
+v1 read 2052096
+v1 read 20480
+v0 add 2056192 2
+vm slot 0x1c 511 0x3 0
+vm slot 28 134217727 3 0
+vm slot 3 511 0x3 0
+v1 read 2093056
+v1 read 549755809792
+v0 read 549755809792
+vm slot 1 262144 0x3 0
+vm slot 28 68719476735 0 0
+vm slot 3 500 2 0x0
+vm slot 3 68719476735 0 0x40
+vm slot 0 134217728 3 0 ro
+vm slot 5 0x800000000 3 0 ro
+vm slot 0 134217727 0x3 0 ro
+vm slot 0 134217727 4 0 ro
+v1 read 549755817984
+v1 add 549755817984 1
+vm slot 5 508 0x3 0
+--
+vcpus 2 workers 0 pages 1 frames 2 words 1 hosts 0
+vm slot 2 0x1fc 1 0x0
+v1 add 2080768 136703017796
+v0 add 2080768 664209949930
+vm slot 2 509 1 0x0
+vm slot 0x2 0x1fd 0x1 0
+vm slot 2 510 1 0x40
+vm slot 2 0 0 68719476672
+vm slot 31 0x3ff01 1 0x0 ro
+vm slot 31 0x0 0 64
+vm slot 12 1020 1 0x0
+v0 add 4177920 7
+v0 add 0x3fc000 18446744073709551615
+h0 allow 0
+vm slot 31 261889 1 0 ro
+v1 write 0x1fd000 0x1
+vm slot 31 500 1 0
+v1 write 4177920 0xff
+v0 write 2080768 9223372036854775808
+vm slot 12 0x3fb 0x1 0x0
+vm slot 12 0x0 0 0
+vm slot 12 34359738368 1 0 ro
+vm slot 31 5 0 68719476672
+v0 write 140737488355328 7
+v1 read 140737488355328
+v0 write 0x3ff01000 16864083137233839477
+vm slot 0 68719476735 0 64 ro
+vm slot 3 512 1 0
+vm slot 0x0 2 1 0
+--
+vcpus 4 workers 1 pages 1 frames 1 words 8 hosts 0
+vm slot 0 34359738369 1 0
+v3 add 140737488359464 7
+vm slot 5 262143 1 0x0
+v0 write 140737488359472 292283145129
+v0 read 140737488359456
+h0 evict 0x0
+v0 read 140737488359424
+v3 read 140737488359464
+vm slot 0 34359738369 1 0
+v2 write 140737488359480 18446744073709551615
+vm slot 0 0xfffffffff 0 68719476672
+vm slot 3 262143 1 0
+vm slot 28 68719476672 1 0
+h0 move 0
+h0 evict 0x0
+h0 protect 0x0
+v3 read 1073737784
+h0 move 0
+vm slot 3 262143 0 0
+vm slot 1 261890 0x1 0x0 ro
+v2 write 1072701448 7
+v0 read 0x3ff02020
+v2 read 1072701480
+v1 write 1072701488 2
+v1 write 0x3ff02008 442118604090
+h0 move 0x0
+v0 read 1072701448
+vm slot 1 261890 0x1 0 ro
+--
+vcpus 1 workers 1 pages 200 frames 201 words 1 hosts 0 83
+vm slot 12 513 1 0
+v0 add 2101248 2
+vm slot 12 514 1 64
+v0 write 2101248 2
+vm slot 12 513 0x1 0 ro
+v0 write 0x201000 0xff
+h0 evict 0
+v0 add 0x201000 1
+v0 write 2101248 0x1
+v0 read 2101248
+vm slot 0xc 68719476735 0 0
+vm slot 12 262143 16 128
+vm slot 12 513 0x1 0
+vm slot 12 0x3ffff 0x11 128
+v0 read 2101248
+h1 move 112
+v0 add 2101248 0x1
+vm slot 12 68719476735 0x0 0x40
+vm slot 2 134217727 33 128
+v0 read 549755809792
+vm slot 0xc 513 1 0
+vm slot 0x0 1 8 0x0 ro
+v0 add 549755908096 0x1
+vm slot 0x2 508 0x21 0x80
+vm slot 12 513 0x2 0
+v0 write 549755809792 13593534012662431034
+v0 write 2101248 18446744073709551615
+v0 read 549755940864
+v0 read 0x201000
+v0 read 2101248
+--
+vcpus 2 workers 2 pages 129 frames 130 words 1 hosts 0 125
+vm slot 0x28 1 1 0x80 ro
+vm slot 0x1c 261891 2 0x40
+vm slot 28 0x0 0 0
+vm slot 0x1 0x210 17 0
+vm slot 1 529 0x11 0x40
+vm slot 31 0x800000002 2 64
+vm slot 1 536 0x11 0
+v1 add 1072705536 92482031941
+v1 write 140737488367616 7
+vm slot 0x1f 34359738370 0x2 0x40
+vm slot 1 0 0x0 64
+v1 write 140737488367616 3010536060346976242
+vm slot 31 34359738370 2 64
+v0 read 0x800000003000
+v1 write 140737488367616 16994403246013439086
+vm slot 0 509 2 64
+h0 move 65
+v1 read 140737488367616
+v0 read 140737488367616
+v0 read 2195456
+h0 move 65
+v1 read 140737488367616
+vm slot 1 0x218 0x11 0x0
+--
+vcpus 2 workers 0 pages 65 frames 65 words 1 hosts 0 13 48
+vm slot 1 262143 16 0
+v0 read 0x40007000
+v1 add 1073770496 255
+v1 write 1073799168 1
+v1 write 1073799168 2
+v0 read 1073754112
+v0 write 1073770496 0xc7c8c034a9
+vm slot 0x1 262143 16 0
+vm slot 1 262143 16 0
+vm slot 12 68719476672 4 0 ro
+v1 write 1073799168 255
+vm slot 1 0 0 0
+vm slot 0x1c 0x8000007 8 0x0
+v0 read 549755858944
+h1 allow 0x15
+v1 write 1073799168 15079458390095538168
+vm slot 7 68719476735 0 0x40
+v0 write 549755858944 0x9389ff854
+h1 protect 15
+v1 write 0x800000b000 255
+v1 write 549755842560 127847955205
+v0 write 549755867136 0xffffffffffffffff
+h0 move 0
+vm slot 28 261889 8 0
+v0 read 0x800000b000
+--
+vcpus 3 workers 2 pages 128 frames 130 words 1 hosts 0
+vm slot 12 262145 2 64
+vm slot 12 262146 2 64
+h0 evict 65
+v0 write 1073750016 0x7
+vm slot 0x2 68719476688 16 0 ro
+v2 read 1073745920
+vm slot 12 262146 0x2 64
+vm slot 12 0x40002 0x2 64 ro
+v0 write 1073754112 1
+v1 write 1073754112 0x4a06127ab6
+vm slot 0x2 0xfffffffd1 0x10 0x0 ro
+vm slot 2 0xfffffffd0 16 0 ro
+vm slot 0xc 262145 2 64
+v2 write 1073750016 18446744073709551615
+v0 write 1073750016 1021506972301
+v2 write 1073745920 1
+vm slot 0x2 0xfffffffd1 16 0 ro
+v0 read 0xfffffffd0000
+vm slot 12 0x40002 2 64
+v1 write 281474976518144 18446744073709551615
+vm slot 12 0x7fffffe 2 64
+vm slot 0xc 134217726 2 64
+v2 write 549755809792 917629000637
+vm slot 28 3 16 0
+vm slot 99 5 0 0x0
+v1 add 549755809792 0x8000000000000000
+vm slot 28 0x4 0x11 0
+v0 add 281474976534528 255
+v1 write 549755809792 255
+vm slot 12 262144 4 0x40
+--
+vcpus 4 workers 2 pages 3 frames 4 words 1 hosts 0
+vm slot 12 68719476716 1 0
+h0 allow 0
+v1 write 281474976628736 2
+v0 read 281474976628736
+vm slot 0xc 0xfffffffeb 0x1 0
+h0 move 0x2
+v3 write 281474976628736 1
+vm slot 12 68719476715 1 0x0
+vm slot 12 68719476716 1 0
+v1 read 281474976628736
+v1 write 281474976628736 0x6df7aecb24ec4547
+v1 write 281474976628736 255
+v3 read 281474976628736
+vm slot 28 1 0x3 0
+vm slot 12 68719476715 1 0x0
+v2 write 281474976624640 14304009484363733461
+vm slot 0x3 134217726 3 0
+v0 add 281474976624640 0x7
+vm slot 0x1 500 3 0x0
+v0 write 281474976624640 0x2
+v3 read 281474976628736
+vm slot 0xc 261889 3 0x0
+v0 read 281474976624640
+vm slot 12 68719476716 1 0x0
+v2 read 281474976628736
+v0 read 0xfffffffec000
+vm slot 12 68719476716 0x1 0
+vm slot 0x0 512 0x3 0
+v1 add 281474976628736 2
+--
+vcpus 3 workers 0 pages 3 frames 4 words 1 hosts 0
+vm slot 0x1f 3 0x3 0
+v0 write 549755805696 0x1
+vm slot 0x1f 4 3 0
+vm slot 99 5 0x0 0
+v0 write 24576 2
+v1 write 20480 1
+v1 write 24576 9223372036854775808
+v2 add 0x7fffffe000 1
+vm slot 31 68719476735 0 68719476672
+vm slot 0 261889 3 0
+v2 write 1072705536 18446744073709551615
+vm slot 0 261888 3 0
+vm slot 0 0x3ff01 0x3 0x0
+v1 write 1072697344 2
+h0 evict 0x0
+vm slot 0x0 0x0 0 0
+vm slot 31 262144 3 0
+vm slot 31 261889 3 0x0
+vm slot 1 262141 3 0 ro
+v0 read 1072697344
+v0 read 1072705536
+v2 write 1072705536 463242430543
+vm slot 0x3 0x1fc 1 0
+v1 write 0x3ff03000 2
+v0 read 1072697344
+v0 read 1072705536
+vm slot 31 0x0 0 68719476672 ro
+vm slot 0x3 0x3ff01 3 0
+vm slot 3 261890 3 0x0
+vm slot 31 4 3 0
+--
+vcpus 3 workers 2 pages 66 frames 66 words 8 hosts 0 64
+vm slot 3 509 0x1 64
+v0 read 2084920
+vm slot 0x2 509 8 0x0
+vm slot 3 0x7ffffff 0x1 64
+v1 write 549755809832 0x8000000000000000
+vm slot 0x3 509 1 0x40
+v1 write 2084912 705835092864
+vm slot 3 134217727 1 64
+v1 read 549755809800
+v0 read 549755809824
+vm slot 3 509 1 64
+vm slot 0x1f 0 40 0
+v0 read 0x7ffffff030
+vm slot 3 509 1 64
+vm slot 3 134217727 0x1 64
+vm slot 0x1f 0x0 0x28 0
+vm slot 28 134217728 17 0
+v1 read 549755809800
+h0 evict 31
+v0 write 549755809816 7
+vm slot 3 134217728 1 0x80
+v2 write 2084872 13951643771134279838
+vm slot 3 134217727 1 64
+v2 write 81968 2
+v2 write 16384 7
+vm slot 0x1 134217727 2 0
+v0 write 0x7ffffff030 9223372036854775808
+v2 read 0x7ffffff028
+h0 allow 0x4
+v1 read 549755809832
+--
+vcpus 3 workers 2 pages 70 frames 71 words 1 hosts 0
+vm slot 1 134217727 4 64
+vm slot 1 134217727 4 64
+v0 write 2093056 255
+v0 write 549755822080 0xff
+v2 read 549755822080
+v1 add 549755809792 7
+vm slot 3 0x64 16 0 ro
+v0 add 442368 9223372036854775808
+v1 write 549755809792 7875772817020451418
+vm slot 0x1 134217728 4 64
+vm slot 1 134217728 4 64
+v1 write 471040 0x7
+vm slot 12 0x1 17 0
+vm slot 3 0x64 16 0 ro
+v1 write 409600 7
+v0 add 549755822080 18446744073709551615
+h0 evict 67
+vm slot 2 0x1 16 0
+h0 evict 67
+v1 add 409600 1
+v2 read 549755822080
+vm slot 28 261890 17 0x0
+vm slot 0x2 0x3fc 4 0
+v0 write 0x64000 873427479555
+vm slot 3 99 0x10 0 ro
+v2 write 0x6b000 1
+--
+vcpus 2 workers 2 pages 129 frames 129 words 1 hosts 0 125
+vm slot 2 1020 4 64
+vm slot 2 1020 4 64
+v0 write 4190208 0xffffffffffffffff
+vm slot 2 0 0 0
+vm slot 3 556 45 0x40
+vm slot 0x3 0x0 0x0 0x0
+vm slot 0x1f 0x3 1 64
+v1 add 12288 8884750599724248447
+v0 add 12288 1
+vm slot 0x1f 0 0x0 0x0
+vm slot 3 261897 8 0
+vm slot 3 261898 8 0
+v0 add 0x3ff0a000 9223372036854775808
+vm slot 0x3 68719476735 0 64
+vm slot 5 1 4 64
+h0 evict 64
+v0 read 4096
+h0 move 0x43
+v1 read 12288
+vm slot 5 0 0 0x0
+vm slot 0x20 68719476716 1 64
+vm slot 31 262142 0x8 0
+v0 write 4190208 18446744073709551615
+v0 add 0x3fffe000 7
+vm slot 0x1f 0x3fffe 9 0
+vm slot 31 262141 0x8 0
+vm slot 31 0x3fffc 0x8 0x0
+v0 add 0x258000 18446744073709551615
+vm slot 3 261897 8 0
+--
+vcpus 2 workers 2 pages 3 frames 11 words 1 hosts 0 2
+vm slot 2 511 0x3 0x0
+vm slot 2 0xfffffffff 0 0 ro
+vm slot 5 68719476672 2 0
+vm slot 5 68719476671 2 0
+vm slot 5 0xfffffffbe 2 0
+v0 read 281474976444416
+v1 read 0xfffffffbf000
+v0 read 281474976444416
+h0 allow 0x1
+v0 read 2093056
+h0 evict 0x1
+v0 read 0xfffffffc0000
+vm slot 0x5 68719476671 0x2 0x40
+v1 write 281474976444416 2
+v0 read 281474976444416
+v1 read 0xfffffffbf000
+vm slot 5 68719476670 0x2 0
+vm slot 5 68719476669 0x2 0
+v0 write 281474976440320 3776563139058118532
+vm slot 5 0x1fc 2 0x0
+v0 read 0xfffffffbf000
+vm slot 5 262141 2 0
+v1 read 1073733632
+vm slot 5 0x3fffd 2 0
+v1 add 0x3fffd000 11946871658080881503
+vm slot 5 68719476671 2 0
+vm slot 5 68719476669 0x2 0
+vm slot 5 1020 2 0
+--
+vcpus 1 workers 2 pages 129 frames 130 words 1 hosts 0 45 93
+vm slot 5 134217729 2 0x40
+vm slot 5 134217729 2 64 ro
+vm slot 0x2 134217726 2 0x40
+vm slot 5 134217729 2 64
+vm slot 5 134217731 0x2 64
+v0 read 549755822080
+v0 write 0x8000001000 0xffffffffffffffff
+h1 allow 54
+vm slot 28 0x7fffffe 0x81 0 ro
+v0 write 549755830272 0xffffffffffffffff
+h1 move 0x41
+v0 add 549755822080 9223372036854775808
+vm slot 5 134217731 2 64
+v0 add 0x8000003000 0x2
+v0 write 549755830272 9223372036854775808
+vm slot 2 501 129 0
+h1 move 65
+v0 read 549755826176
+vm slot 0x5 0 0 0xfffffffc0
+vm slot 12 3 0x1 0
+vm slot 12 3 1 0
+v0 write 0x3000 0x8000000000000000
+v0 write 0x3000 2
+vm slot 12 3 2 0
+v0 add 0x8000003000 954498277353
+vm slot 0 1022 2 64
+v0 add 12288 1
+v0 write 549755830272 255
+--
+vcpus 3 workers 0 pages 64 frames 64 words 1 hosts 0
+vm slot 0x1c 0x3fc 8 0
+vm slot 28 1020 8 0
+v0 read 0x400000
+v2 write 4206592 18446744073709551615
+v1 read 4177920
+v2 write 4194304 7
+vm slot 28 1020 0x8 0
+v1 write 4194304 18446744073709551615
+v0 add 4186112 0xffffffffffffffff
+v0 read 4177920
+v1 write 4194304 2
+v2 add 0x400000 1
+vm slot 28 0 0 64
+vm slot 0 134217735 8 0
+v0 read 4206592
+v2 add 0x400000 16081899955869489712
+h0 move 4
+v0 read 0x8000008000
+vm slot 0 134217734 8 0x0
+v2 write 549755854848 2
+v2 write 549755838464 1
+v1 write 549755867136 0x1
+vm slot 0 68719476735 0 0
+vm slot 5 508 8 0
+vm slot 5 516 8 0
+vm slot 2 34359738369 0x2 0
+vm slot 0x2 101 8 0
+vm slot 5 0 0 0x40
+vm slot 2 68719476672 0x1 0
+--
+vcpus 2 workers 0 pages 70 frames 78 words 1 hosts 0 5 30
+vm slot 18446744073709551615 68719476672 33 0x0
+vm slot 12 500 0x1 0x40
+v0 write 2048000 0x7
+vm slot 0xc 0x1f5 1 64
+v0 read 2048000
+v0 write 0x1f5000 14904652331339535616
+v0 write 2052096 0xff
+v0 write 2048000 255
+v0 write 2052096 7
+vm slot 32 134217736 9 0
+vm slot 0xc 0x1f4 1 64
+v1 read 2048000
+v0 add 2048000 0x7
+v1 write 2048000 7
+v0 read 2048000
+vm slot 0x1c 261889 70 0
+v1 write 2048000 9223372036854775808
+vm slot 12 0x7ffffff 1 64
+v1 read 2048000
+h2 protect 0x40
+vm slot 0xc 134217727 0x1 0x40
+v1 read 2048000
+v0 read 0x1f4000
+v1 write 2048000 9223372036854775808
+vm slot 12 34359738368 16 0x0 ro
+--
+vcpus 2 workers 1 pages 129 frames 129 words 1 hosts 0
+vm slot 2 262142 81 0x0
+v0 write 4096 7
+v1 write 0x40026000 0x1
+vm slot 2 262142 81 0x0
+v0 read 0x1000
+h0 move 0x4
+v0 write 1074061312 1
+vm slot 2 262102 81 0
+v0 write 0x3fffe000 2
+vm slot 2 0x3ff01 129 0
+v1 write 4096 0xffffffffffffffff
+v1 read 0x3fffe000
+v0 write 0x4004e000 18446744073709551615
+v1 read 1073586176
+vm slot 2 262183 81 0
+vm slot 2 262183 81 0
+v1 add 1074065408 18446744073709551615
+v0 write 1073901568 18446744073709551615
+v1 write 1073917952 2
+v1 read 1074208768
+v1 read 1073917952
+v1 read 1074229248
+v0 read 0x40077000
+v0 write 1073901568 309752247059
+v0 read 0x1000
+vm slot 2 262142 81 0
+vm slot 31 1 8 64 ro
+vm slot 2 262142 81 0
+vm slot 0x20 0 0x0 0x40 ro
+--
+vcpus 2 workers 2 pages 1 frames 3 words 1 hosts 0
+vm slot 0 34359738368 1 0
+vm slot 0 34359738369 1 0
+vm slot 0 0x800000000 0x1 0x0
+v1 write 140737488355328 9223372036854775808
+vm slot 0 34359738367 1 0
+vm slot 0 34359738367 1 0 ro
+vm slot 0x0 34359738367 0 0x40
+vm slot 28 500 1 0
+vm slot 28 500 1 0
+v1 write 0x800000000000 9223372036854775808
+vm slot 0x1c 501 1 0
+vm slot 99 0xfffffffff 0 0x0
+v0 add 2052096 1
+vm slot 0x1c 501 0 0 ro
+vm slot 28 508 1 0x0
+vm slot 28 0x1fc 1 0
+vm slot 28 508 1 0x0
+v1 read 140737488355328
+h0 protect 0
+vm slot 0x1c 509 1 0
+vm slot 28 0 0 68719476672
+vm slot 0xc 501 0x1 0 ro
+vm slot 12 0x1fd 0x1 0
+v1 read 2052096
+v0 read 2052096
+v0 read 0x1f5000
+h0 evict 0
+vm slot 2 262144 0x1 0
+--
+vcpus 1 workers 1 pages 128 frames 128 words 2 hosts 0
+vm slot 1 500 33 64
+v0 add 0x1f8008 18446744073709551615
+v0 write 2064392 0xa20649f3b56e2222
+v0 write 2113544 2
+vm slot 1 0x1f4 33 64
+vm slot 31 0x3ff02 4 0 ro
+vm slot 0x1f 261890 5 0 ro
+v0 write 2105352 1
+v0 write 1072709632 0xdaa8ebc3
+h0 evict 68
+v0 write 2113544 0xe60492d823a17874
+vm slot 0x2 261889 2 64 ro
+vm slot 0x5 100 0x1 0
+vm slot 31 262141 4 0x0 ro
+v0 read 2113536
+v0 add 2064392 2
+h0 evict 111
+h0 evict 17
+v0 add 1073737728 11651735106212960134
+v0 write 0x40000008 1
+vm slot 1 501 33 64
+vm slot 0x1f 0x3fffd 4 0x0
+v0 read 1073729536
+v0 write 0x3ff04000 7
+v0 read 1073741832
+vm slot 0x3 261889 8 0
+--
+vcpus 1 workers 0 pages 129 frames 130 words 1 hosts 0 20
+vm slot 0xc 0x3ff01 1 64
+v0 write 1072697344 0xba9f523d38be8b0b
+vm slot 0x1f 0 0 64
+v0 add 1072697344 0x7
+vm slot 12 261888 0x1 0x40
+v0 write 0x3ff00000 0x7
+v0 write 1072693248 255
+vm slot 12 261888 0x1 64
+h1 move 64
+vm slot 12 261888 1 0x40
+vm slot 12 0 0x0 0
+vm slot 0 2 17 0x0
+v0 read 24576
+v0 read 8192
+vm slot 1 262141 17 0
+v0 write 1072697344 0x8000000000000000
+vm slot 0x0 261888 17 0
+v0 add 1072693248 1
+v0 write 1072693248 9223372036854775808
+v0 read 1072693248
+v0 read 0x3ff00000
+vm slot 0 0 0 0xfffffffc0 ro
+vm slot 12 512 2 0
+v0 read 0x201000
+v0 read 2101248
+v0 read 2101248
+v0 write 0x201000 18446744073709551615
+v0 add 0x3ff00000 0x9772523a0b
+--
+vcpus 3 workers 1 pages 70 frames 71 words 1 hosts 0 39
+vm slot 0x3 512 2 64
+v1 write 2101248 2
+h1 evict 0x40
+v2 read 0x201000
+v2 read 2097152
+vm slot 3 0x200 2 64
+vm slot 3 0x201 2 64
+v1 add 2105344 0x8000000000000000
+vm slot 3 68719476735 0 0xfffffffc0
+vm slot 3 0x3 33 0
+v0 write 77824 0xffffffffffffffff
+v0 write 12288 18446744073709551615
+vm slot 3 3 0x21 0x0
+vm slot 3 0x3 0x21 0 ro
+v1 read 139264
+v2 read 0x201000
+v1 add 77824 0x1
+vm slot 0x3 513 2 0x40
+vm slot 3 3 0x21 0x0
+vm slot 3 512 0x2 0x40
+vm slot 12 511 0x21 0 ro
+v0 add 2101248 1
+h0 allow 16
+vm slot 3 2 0x21 0
+h0 move 32
+v1 write 0x12000 2
+vm slot 0x7 0x5 0 0
+v1 read 73728
+--
+vcpus 2 workers 0 pages 64 frames 64 words 1 hosts 0 1
+vm slot 28 512 16 0x0
+vm slot 0x1c 1 0x10 0
+vm slot 28 0 0x0 0
+vm slot 5 68719476673 1 0x0
+vm slot 5 508 64 0 ro
+v1 write 281474976452608 272219281908794923
+vm slot 5 68719476674 1 0
+v1 add 281474976456704 0x7
+vm slot 5 68719476675 1 0
+v1 read 281474976460800
+v0 read 4096
+vm slot 5 68719476674 1 0
+h0 evict 0
+vm slot 0x3 262144 8 0 ro
+vm slot 5 68719476674 1 0
+v1 write 0xfffffffc2000 9223372036854775808
+v1 write 0xfffffffc2000 18446744073709551615
+h1 evict 14
+vm slot 5 68719476674 0 0
+vm slot 2 134217728 0x39 0 ro
+v1 write 0x8000038000 7
+v1 read 549755813888
+vm slot 2 134217728 0 0x40
+vm slot 28 0 40 0
+vm slot 28 0 0x0 0
+vm slot 5 134217726 2 0
+h0 protect 0
+h0 evict 0x1
+--
+vcpus 1 workers 1 pages 1 frames 2 words 1 hosts 0
+vm slot 0x1 0x3ff01 1 0
+v0 read 1072697344
+h0 allow 0
+v0 read 1072697344
+vm slot 0x1 261889 1 0x0
+vm slot 1 68719476735 0 64
+vm slot 31 134217728 1 0x0
+vm slot 31 0x8000000 1 0
+v0 add 549755813888 7
+v0 write 549755813888 7
+vm slot 31 0x8000000 2 0
+vm slot 31 134217728 1 0
+vm slot 31 0xfffffffec 1 0x0
+v0 read 281474976628736
+vm slot 0x1f 68719476715 0x1 0x0
+vm slot 0x1f 68719476715 0 0
+vm slot 28 0x1 0x1 0
+v0 read 4096
+v0 read 0x3ff01000
+v0 read 0x1000
+h0 allow 0
+v0 write 4096 255
+vm slot 28 68719476735 0 64
+vm slot 31 134217728 0x1 0
+v0 read 0x1000
+vm slot 0x1f 100 0x1 0x0
+vm slot 31 0x64 1 0
+v0 write 409600 0x2
+--
+vcpus 3 workers 1 pages 600 frames 601 words 1 hosts 0
+vm slot 0 262143 16 0x180
+v2 add 1073754112 9223372036854775808
+v1 write 0x3ffff000 0xff
+vm slot 3 134217730 4 0x200
+v1 write 0x40003000 9223372036854775808
+h0 protect 384
+v2 write 549755834368 255
+v0 write 1073737728 0x7
+v0 write 1073754112 9223372036854775808
+v2 write 1073754112 2
+v0 write 1073737728 9223372036854775808
+vm slot 3 0 0 68719476672
+v0 add 1073737728 2
+v1 read 1073737728
+v1 write 1073799168 7
+v2 add 1073799168 0xffffffffffffffff
+vm slot 0 262143 16 384 ro
+v1 read 0x40009000
+v0 write 1073770496 446287622110
+vm slot 0x1c 2 16 192
+vm slot 28 68719476716 0x10 192
+vm slot 0 262143 0x10 384
+vm slot 28 2 16 192
+vm slot 0x7 0 0 0x0
+vm slot 0 68719476735 0x0 68719476672
+v2 add 1073754112 9223372036854775808
+vm slot 0x1c 0x2 17 192
+v0 read 0x8000002000
+--
+vcpus 1 workers 2 pages 70 frames 71 words 1 hosts 0
+vm slot 28 262141 8 0
+h0 move 4
+vm slot 28 262142 8 0
+vm slot 28 0x64 8 0
+v0 add 0x68000 2
+v0 write 1073729536 1001990386105
+v0 read 438272
+v0 write 0x6b000 9223372036854775808
+v0 write 425984 7
+vm slot 28 261889 8 0
+v0 write 1072697344 9223372036854775808
+v0 read 0x3ff05000
+v0 add 1072726016 18446744073709551615
+v0 write 1072726016 0x2
+v0 write 438272 18446744073709551615
+v0 write 1073762304 0x8000000000000000
+v0 write 425984 18446744073709551615
+v0 read 1072697344
+v0 write 1072713728 255
+vm slot 0x1c 0x3fffd 8 0x0
+vm slot 28 262142 0x8 0x0
+v0 add 1073762304 9223372036854775808
+v0 add 0x40003000 0xffffffffffffffff
+--
+vcpus 1 workers 2 pages 1 frames 3 words 1 hosts 0
+vm slot 12 0x3ff01 1 0
+vm slot 12 0x0 0 0
+vm slot 5 134217727 1 0
+vm slot 0x5 134217727 1 0x0
+vm slot 31 0x3 1 0
+vm slot 5 134217727 1 0x0
+vm slot 31 100 1 0
+v0 write 1072697344 2
+vm slot 5 134217727 0x1 0
+vm slot 5 0 0 68719476672
+vm slot 0x0 0x1ff 1 0
+v0 read 2093056
+vm slot 0x3 261889 1 0
+vm slot 0xc 0x1fc 1 0x0
+v0 read 2093056
+vm slot 0 511 1 0
+vm slot 0 0x1fe 1 0
+v0 add 2088960 10830915912801241645
+v0 add 2088960 18446744073709551615
+vm slot 0x0 510 1 0x0
+vm slot 0 68719476717 1 0
+v0 read 0xfffffffed000
+v0 write 0xfffffffed000 0x1
+vm slot 0x0 68719476718 1 0x0
+v0 write 281474976632832 0x2
+vm slot 0 511 1 0x0
+v0 read 281474976632832
+h0 evict 0
+vm slot 0 511 0x1 0 ro
+--
+vcpus 4 workers 1 pages 3 frames 3 words 1 hosts 0
+vm slot 0x1f 500 3 0
+vm slot 0x1f 500 3 0
+v2 read 2080768
+vm slot 3 0x0 0x1 0 ro
+v3 add 0x1f6000 1
+v2 write 2056192 18446744073709551615
+vm slot 31 0x1f5 3 0
+vm slot 31 0x1f4 3 0
+v2 read 0x1f6000
+vm slot 31 0x1f3 3 0
+v2 add 2056192 0x1
+v2 add 2052096 1
+v3 add 2052096 0x8000000000000000
+v0 write 0x1f5000 18446744073709551615
+v3 write 0x1f4000 0x4c5d9e6d8f
+vm slot 31 0x1f3 3 0 ro
+vm slot 0x1f 502 3 0
+vm slot 2 262141 1 0x0
+vm slot 31 0x1 1 0
+vm slot 31 0x800000000 3 0
+vm slot 31 34359738368 4 0
+v2 write 0x800000001000 255
+v2 read 140737488359424
+vm slot 31 34359738368 3 0x0
+vm slot 0x0 134217726 3 0x0
+--
+vcpus 1 workers 2 pages 3 frames 11 words 2 hosts 0 1 2
+vm slot 12 512 3 0
+v0 write 2097160 0xb44110a091
+v0 add 2101256 10810965475509923698
+v0 read 2101256
+vm slot 12 512 3 0
+v0 write 2105352 18446744073709551615
+v0 write 0x200000 0xffffffffffffffff
+v0 write 2097152 255
+vm slot 1 1023 3 0
+v0 write 2105344 0xff
+vm slot 12 515 3 0
+vm slot 12 516 3 0x0
+v0 write 2113544 2
+h1 evict 1
+v0 write 2121736 7
+v0 write 2113544 7
+vm slot 12 516 0 0
+vm slot 40 1 1 0
+vm slot 31 512 3 0
+vm slot 0x1f 500 3 0
+vm slot 32 68719476735 0x0 0
+v0 write 2048008 0xffffffffffffffff
+v0 write 0x200008 7
+vm slot 31 501 3 0x0
+vm slot 0x1f 0x1f5 3 0x0
+v0 write 2113544 2
+v0 add 2056200 18446744073709551615
+v0 write 2101256 9223372036854775808
+--
+vcpus 1 workers 0 pages 17 frames 18 words 1 hosts 0 4 14
+vm slot 2 512 4 0
+v0 write 2109440 255
+vm slot 2 510 4 0
+v0 write 2109440 760797030971
+v0 write 2101248 289843374581
+v0 read 2088960
+v0 read 2088960
+v0 read 0x200000
+v0 add 0x1fe000 9223372036854775808
+v0 write 0x200000 0x8000000000000000
+v0 add 0x1fe000 1
+v0 write 2101248 9223372036854775808
+v0 read 0x1fe000
+v0 write 0x200000 0xff
+v0 read 2097152
+vm slot 3 134217727 1 0
+v0 write 2088960 696784746991
+vm slot 0 512 0x3 0
+vm slot 0x3 134217726 9 0
+vm slot 2 510 4 0
+v0 write 2109440 159381814002
+vm slot 2 0 0x0 0
+vm slot 0x1 0x3fffd 17 0
+v0 read 2101248
+h2 allow 16
+vm slot 0x2 510 4 0
+v0 write 0x203000 0xff
+v0 add 0x4000b000 1
+vm slot 0x1 0x3fffd 17 0
+--
+vcpus 3 workers 1 pages 128 frames 130 words 1 hosts 0 54 81
+vm slot 31 3 2 0
+vm slot 0x1f 5 2 0
+v1 read 24576
+v0 write 24576 1
+vm slot 31 0x0 0x0 64
+vm slot 31 134217727 1 0
+v1 read 12288
+vm slot 3 34359738368 8 64
+vm slot 3 68719476735 0 0
+v1 write 0x7ffffff000 0x5a5d320bd0cf6033
+v2 read 549755809792
+v1 write 140737488384000 1
+vm slot 31 134217727 2 0
+v2 write 549755809792 2
+v0 add 0x7ffffff000 0xff
+vm slot 28 134217727 8 64
+vm slot 31 34359738368 1 0
+v0 write 140737488355328 600340677472
+vm slot 0x2 1020 0x11 64
+v0 read 4194304
+vm slot 31 0x800000000 1 0x0
+vm slot 31 134217727 0x1 0
+v2 read 4177920
+h1 protect 61
+vm slot 0x2 0 0 0
+v1 write 549755809792 255
+vm slot 0x1f 68719476735 0x0 0
+vm slot 0xc 100 1 64
+v1 read 0x3000
+v0 write 409600 9223372036854775808
+--
+vcpus 1 workers 1 pages 129 frames 131 words 1 hosts 0
+vm slot 5 0xd 33 0
+v0 read 0x1d000
+v0 write 184320 1
+vm slot 5 0x1d 0x21 0
+h0 protect 0
+v0 write 184320 9223372036854775808
+vm slot 5 29 33 0
+v0 read 184320
+v0 add 118784 0x1
+vm slot 32 68719476735 0 68719476672
+vm slot 0x5 0x1d 0 0
+vm slot 28 0x1fd 17 0x0
+vm slot 28 501 0x11 0
+vm slot 28 68719476735 0 0x0
+vm slot 2 0x1fd 0x11 0x0
+v0 write 0x20d000 0xff
+vm slot 0x2 509 0x11 0
+vm slot 0x0 34359738368 17 0
+vm slot 2 508 17 0
+v0 write 2146304 1
+v0 add 2113536 0x1
+v0 read 118784
+v0 read 0x204000
+v0 read 2113536
+vm slot 0 134217727 5 0
+v0 read 2150400
+--
+vcpus 3 workers 1 pages 17 frames 18 words 1 hosts 0
+vm slot 0x1 134217727 8 0
+vm slot 1 134217723 8 0
+v1 write 0x8000002000 2
+v0 write 549755817984 7
+v0 write 549755817984 272694421627
+v0 write 549755838464 0x1
+vm slot 1 134217723 0 0
+vm slot 28 68719476717 0x1 0
+v0 add 549755822080 9223372036854775808
+v0 write 281474976632832 9223372036854775808
+v2 read 549755809792
+vm slot 12 68719476716 0x11 0
+vm slot 1 134217727 0x8 0x0
+v1 add 281474976632832 1
+v1 write 281474976632832 1
+v0 add 281474976632832 255
+v0 write 281474976632832 674000383965
+v1 read 281474976632832
+vm slot 28 0 0x0 68719476672
+vm slot 28 512 8 0
+vm slot 28 68719476717 1 0
+v0 read 2097152
+vm slot 0x1c 516 8 0
+v1 write 2129920 980351672643
+vm slot 28 512 8 0
+vm slot 28 0x200 8 0x0
+vm slot 2 261890 17 0
+v0 write 0x200000 2
+--
+vcpus 4 workers 1 pages 5 frames 13 words 1 hosts 0 2
+vm slot 1 0x3fc 5 0
+vm slot 0x1 1020 0x6 0x0
+vm slot 1 134217727 5 0x0
+vm slot 0x2 0x8000004 5 0
+h1 evict 4
+v2 write 0x8000003000 2
+v2 write 549755826176 3774198397624592776
+v3 write 549755817984 2
+v3 read 549755826176
+vm slot 1 34359738368 5 0
+vm slot 1 34359738368 0x0 0x0
+vm slot 2 512 0x1 0
+h0 allow 0x0
+vm slot 2 0x64 1 0
+vm slot 2 100 1 0
+vm slot 0x2 100 0x2 0x0
+v0 read 0x64000
+vm slot 2 0x200 0x1 0
+vm slot 0x2 511 1 0
+v1 add 2093056 0xffffffffffffffff
+vm slot 2 68719476735 0 64
+vm slot 31 261894 5 0 ro
+v0 read 0x1ff000
+vm slot 31 262141 5 0 ro
+v1 read 1073737728
+v3 write 1073737728 9223372036854775808
+--
+vcpus 4 workers 1 pages 17 frames 25 words 1 hosts 0
+vm slot 3 1 2 0x0
+vm slot 0x3 1 2 0
+h0 evict 0
+v1 read 8192
+v2 add 0x2000 1
+v2 read 8192
+vm slot 28 0x11 0x10 0
+vm slot 3 1 2 0x0 ro
+v3 write 8192 0x2
+v1 read 4096
+vm slot 3 1 2 0x0
+vm slot 3 68719476672 17 0
+v1 read 8192
+vm slot 3 1 0 0
+vm slot 0x5 134217728 1 0x0 ro
+vm slot 5 134217728 1 0
+vm slot 0x5 1 0x1 0
+vm slot 5 134217727 1 0 ro
+v2 write 549755809792 2
+v1 write 549755809792 0xffffffffffffffff
+v1 write 549755809792 18446744073709551615
+vm slot 0x5 0x7ffffff 0x1 0x0 ro
+v0 read 8192
+v0 read 4096
+vm slot 5 134217728 1 0 ro
+v1 add 549755813888 0xecf4c87012
+v3 write 549755813888 7
+vm slot 5 134217728 0x0 68719476672
+vm slot 1 101 17 0x0
+vm slot 3 1 2 0
+--
+vcpus 1 workers 1 pages 3 frames 5 words 1 hosts 0 2
+vm slot 1 134217727 3 0 ro
+v0 write 549755809792 9223372036854775808
+vm slot 1 0 0 64 ro
+vm slot 5 0x3ff01 0x3 0
+vm slot 5 261889 3 0 ro
+v0 write 1072697344 18446744073709551615
+vm slot 5 0 3 0
+vm slot 5 3 3 0
+v0 read 20480
+v0 read 1072697344
+v0 read 12288
+v0 read 0x5000
+vm slot 0x0 134217726 0x3 0
+vm slot 0x5 6 0x3 0
+v0 write 1072697344 7
+v0 write 0x6000 2
+vm slot 0x5 6 4 0
+v0 read 32768
+v0 read 0x8000
+vm slot 1 134217727 3 0 ro
+v0 add 0x8000 255
+v0 read 24576
+v0 add 24576 2
+v0 write 32768 255
+vm slot 1 134217727 3 0 ro
+--
+vcpus 1 workers 1 pages 192 frames 193 words 1 hosts 0
+vm slot 0x0 134217728 2 64
+vm slot 31 261889 4 0x0
+v0 write 0x3ffff000 255
+h0 move 3
+vm slot 0x0 0x0 0 64
+v0 write 1072697344 9223372036854775808
+vm slot 0x0 134217729 2 128
+v0 read 1072697344
+vm slot 0x0 508 2 128
+v0 add 2084864 0xa23b5cc621
+v0 read 0x3ff03000
+v0 add 1072709632 255
+v0 read 1072705536
+v0 read 2084864
+v0 read 0x1fd000
+v0 write 1072709632 2
+vm slot 31 261887 4 0
+vm slot 0 508 0x2 128
+vm slot 31 261891 4 0
+vm slot 0 508 2 128 ro
+v0 write 1072697344 0xff
+v0 write 2084864 9223372036854775808
+v0 read 0x1fd000
+--
+vcpus 3 workers 1 pages 66 frames 66 words 1 hosts 0 2 24
+vm slot 12 101 17 0
+v0 write 0x65000 9223372036854775808
+v2 read 446464
+v0 write 446464 0x1
+vm slot 12 0x65 0x11 0x0
+vm slot 12 118 0x11 0
+vm slot 0xc 101 17 0x0
+vm slot 12 102 17 0
+vm slot 12 118 17 0
+vm slot 12 118 17 0x0
+v0 read 413696
+v0 write 0x82000 18446744073709551615
+v2 add 548864 7
+v0 write 548864 0x2
+v1 read 0x75000
+h1 evict 16
+v1 read 548864
+v1 read 483328
+v1 read 532480
+vm slot 12 0xfffffffff 0 68719476672
+vm slot 2 2 2 0x0
+h2 move 0x23
+--
+vcpus 4 workers 1 pages 65 frames 66 words 4 hosts 0 1
+vm slot 1 0x1ff 0x4 0
+v0 write 0x201008 5434806281908985847
+v0 write 2093064 0xbd91791b06d2d22
+h1 allow 2
+v1 write 2093072 18446744073709551615
+v3 add 2101256 1
+v3 write 0x202000 9223372036854775808
+vm slot 0x1 68719476716 0x21 0
+vm slot 1 511 4 0
+v0 write 0x202010 0x71acccb1d826535b
+vm slot 0x1 511 4 0
+v0 add 2105344 7
+vm slot 0x1 0x0 0 64
+vm slot 5 261889 0x8 0
+vm slot 7 68719476735 0 0x0 ro
+vm slot 5 261889 8 0
+h1 allow 0x12
+vm slot 12 502 2 0 ro
+v3 write 1072713728 0x3c35447d94
+v0 read 2105368
+vm slot 5 0x3ff01 8 0
+vm slot 5 261889 9 0
+h0 evict 0
+v2 write 1072697352 84199443761
+vm slot 5 0x3ff05 8 0x0
+v3 write 0x3ff07000 18446744073709551615
+v3 add 2105344 2
+vm slot 0x5 0x3ff01 8 0
+v2 read 1072705544
+v3 write 0x3ff01010 1
+--
+vcpus 2 workers 2 pages 64 frames 65 words 1 hosts 0 2 26
+vm slot 28 0x200 1 0
+vm slot 28 512 0x2 0
+v1 write 2097152 18446744073709551615
+v1 write 0x200000 7
+vm slot 0 100 16 0
+v0 read 2097152
+v0 read 0x200000
+vm slot 0x1 262141 16 0
+vm slot 28 513 1 0
+v1 write 2101248 255
+v1 read 2101248
+v0 write 2101248 2
+v1 write 0x200000 9223372036854775808
+v1 write 2101248 9223372036854775808
+v0 add 2101248 2
+v0 read 0x201000
+v1 write 2097152 2
+vm slot 0x1c 0x201 0x1 0
+v0 add 2101248 18446744073709551615
+vm slot 0x1c 68719476672 1 0x0
+v1 read 281474976448512
+v1 write 281474976448512 0xffffffffffffffff
+vm slot 28 68719476671 1 0
+vm slot 28 0xfffffffc0 0x1 0x0
+v0 add 281474976448512 4835357324129781273
+--
+vcpus 3 workers 1 pages 5 frames 6 words 1 hosts 0
+vm slot 28 3 1 0
+v2 read 12288
+vm slot 32 68719476735 0 0x40
+v2 read 0x3000
+v2 read 12288
+h0 evict 0
+vm slot 28 4 1 64
+v1 write 12288 0x1
+v1 read 12288
+v2 read 12288
+v2 read 12288
+vm slot 32 34359738369 5 0
+v0 add 0x3000 18446744073709551615
+vm slot 0x28 0x1fd 0x5 0
+vm slot 28 0 0 68719476672
+vm slot 1 500 1 0
+vm slot 1 0x1f4 1 0
+vm slot 1 501 1 64
+vm slot 1 0x1f4 1 0
+vm slot 28 3 1 0
+v2 add 12288 0x8000000000000000
+vm slot 0x1 0x1f5 1 0
+vm slot 1 500 0x1 0
+v1 read 0x1f4000
+vm slot 1 500 1 0
+v1 write 2048000 0x7
+vm slot 0x1 501 1 0x0
+v1 write 2048000 1
+vm slot 31 0xfffffffc0 2 0 ro
+vm slot 28 3 0x1 0
+--
+vcpus 4 workers 2 pages 65 frames 66 words 2 hosts 0 19 25
+vm slot 0 0x3ff02 8 0
+v1 write 1072717824 11970082058803920115
+vm slot 0x0 261890 8 0 ro
+vm slot 0x0 0x3ff0a 8 0
+h0 evict 0x7
+v0 write 1072717824 18446744073709551615
+v1 add 1072734216 796158453849
+v2 read 1072762880
+v1 write 1072734216 2
+h0 evict 4
+vm slot 0 261899 8 0
+vm slot 0 261890 0x8 0
+vm slot 3 561 0x35 0
+v2 add 1072717824 255
+v0 add 0x3ff02008 2
+vm slot 0 3 0x8 0 ro
+vm slot 0 0x3ff0b 0x8 0x0
+v0 write 1072766984 0x14418cee80db2deb
+v3 write 1072717824 255
+vm slot 0 261898 8 0
+v2 read 1072750600
+v1 write 1072762888 0xffffffffffffffff
+v1 write 0x3ff0a000 18446744073709551615
+v1 write 1072730112 0x7
+v1 read 0x3ff0e000
+vm slot 0x63 0 0 68719476672
+v0 write 1072750592 7
+v3 write 1072762888 0xff
+v3 write 1072762888 7
+--
+vcpus 1 workers 2 pages 200 frames 208 words 1 hosts 0 198
+vm slot 28 0xfffffffc0 0x10 128
+vm slot 28 68719476672 16 128 ro
+vm slot 28 0xfffffffc0 16 128
+v0 write 281474976481280 7678936767757488138
+v0 write 281474976509952 255
+vm slot 0x7 0x5 0 0x0
+v0 read 0xfffffffcf000
+vm slot 28 68719476673 0x10 128
+v0 write 0xfffffffc1000 0xffffffffffffffff
+vm slot 28 0xfffffffc1 16 128 ro
+v0 write 281474976452608 15850268349803721616
+vm slot 28 0xfffffffc0 16 128
+v0 add 281474976509952 1
+v0 read 0xfffffffc8000
+v0 write 0xfffffffcf000 2
+v0 write 0xfffffffcd000 0x79de906f20c76fd9
+v0 read 281474976448512
+vm slot 28 0 0 0x40
+vm slot 5 261905 16 0x0
+v0 read 281474976509952
+h0 move 8
+v0 add 0x3ff15000 9223372036854775808
+vm slot 0x5 261905 0 0
+vm slot 31 34359738368 0x1 64
+vm slot 5 261905 16 0
+vm slot 31 34359738367 1 64
+vm slot 5 261905 17 0
+h0 protect 64
+v0 read 0xfffffffc0000
+vm slot 5 0x3ff11 16 0 ro
+--
+vcpus 2 workers 0 pages 1 frames 3 words 1 hosts 0
+vm slot 31 262141 1 0
+vm slot 0x1f 68719476735 0 0
+vm slot 2 0x3fc 1 0
+v0 add 0x3fc000 7
+vm slot 0x2 0 0 64
+vm slot 12 134217726 1 0
+vm slot 2 1020 1 0
+v1 write 0x7fffffe000 11753135666662605969
+v0 write 549755805696 9223372036854775808
+h0 protect 0
+v0 add 549755805696 18446744073709551615
+vm slot 3 3 0x1 0
+v0 add 549755805696 7
+vm slot 0x2 1020 1 0
+v1 write 549755805696 18446744073709551615
+v0 add 0x7fffffe000 7
+v0 add 0x3fc000 18446744073709551615
+vm slot 0xc 0 0x0 64
+vm slot 2 2 1 0x0
+v1 write 0x2000 1
+vm slot 0x1f 68719476673 1 0
+vm slot 0x2 2 0 64
+vm slot 5 262142 0x1 0x0
+v0 read 0x3fc000
+vm slot 31 134217727 0x1 0
+v0 read 0x3fffe000
+v0 read 0x3fffd000
+vm slot 5 262142 0x1 0 ro
+--
+vcpus 2 workers 1 pages 5 frames 6 words 1 hosts 0
+vm slot 18446744073709551615 262148 5 0
+vm slot 2 509 0x2 0
+v0 add 1073729536 0x8000000000000000
+vm slot 1 261889 1 0x0
+vm slot 2 68719476672 2 0
+v0 write 1073729536 2
+vm slot 0x2 68719476673 0x2 0x40
+vm slot 2 0xfffffffff 0x0 0
+vm slot 2 1 5 0
+v0 write 0x1000 801043375897
+vm slot 31 100 2 0
+v0 add 0x3000 0x7
+vm slot 2 68719476672 2 0
+v1 write 20480 255
+v1 write 4096 1
+h0 protect 2
+v1 write 20480 255
+vm slot 0x2 1 5 0x0 ro
+vm slot 2 0x1ff 5 0
+v0 add 2109440 9223372036854775808
+vm slot 0 0x3ffff 5 0
+h0 protect 0
+vm slot 2 512 5 0
+v1 write 2113536 1073828041576
+v0 read 2097152
+h0 evict 0x4
+vm slot 2 68719476672 0x2 0
+--
+vcpus 2 workers 1 pages 70 frames 71 words 1 hosts 0
+vm slot 0x0 68719476672 70 0
+vm slot 0 512 0x11 0
+vm slot 0 0 0 64
+vm slot 12 0x3 17 0
+v0 write 12288 7
+v1 write 12288 1
+vm slot 2 261889 0x1 0
+vm slot 0xc 2 17 0x0
+vm slot 0xc 0 0 64 ro
+vm slot 3 0x40000 2 0x0
+vm slot 3 0 0 0x0
+vm slot 40 261889 70 0
+vm slot 12 261889 0x4 0
+v0 add 0x3ff04000 9223372036854775808
+vm slot 12 0x800000000 4 0
+v1 write 73728 18446744073709551615
+vm slot 2 261889 36 0
+vm slot 0xc 34359738367 4 0
+h0 move 3
+vm slot 0x0 512 17 0
+vm slot 3 0x40000 0x2 0
+vm slot 12 34359738368 4 0
+v0 write 1072709632 255
+vm slot 12 0x800000002 4 0x0
+v1 write 0x800000002000 13814844537220013454
+v0 write 140737488363520 0x1
+--
+vcpus 3 workers 0 pages 200 frames 201 words 1 hosts 0 109
+vm slot 2 0x3ff02 8 64 ro
+v1 read 1072717824
+v1 write 1072717824 2
+vm slot 0x2 261890 8 64 ro
+v1 write 1072717824 18446744073709551615
+h0 move 71
+v2 add 1072717824 0xffffffffffffffff
+v1 write 0x3ff06000 0x7
+vm slot 3 0x8000000 0x1 0x0
+v1 read 549755813888
+v1 read 549755813888
+h0 move 0x44
+v2 read 0x8000000000
+vm slot 2 261898 0x8 64 ro
+h0 evict 68
+vm slot 2 261890 8 64 ro
+v0 write 0x8000000000 0xffffffffffffffff
+vm slot 3 134217727 1 0
+v0 read 549755809792
+v0 write 549755809792 9223372036854775808
+vm slot 31 0 0x0 0
+v2 read 1072730112
+v1 read 0x8000000000
+vm slot 2 0x3ff01 8 64 ro
+v2 add 549755809792 3642106697720730571
+vm slot 0x3 134217727 0x1 0x0
+--
+vcpus 3 workers 1 pages 128 frames 129 words 1 hosts 0
+vm slot 0 0x1ff 2 64
+vm slot 0 0x200 2 128
+h0 evict 0x5d
+v0 write 2093056 410884896061722749
+h0 evict 53
+v1 add 2097152 9223372036854775808
+vm slot 0x0 511 0x0 64
+vm slot 31 0x3ffff 4 0
+h0 protect 0
+v2 read 0x200000
+vm slot 31 262147 4 0
+v0 add 1073766400 1
+vm slot 31 262147 4 0
+vm slot 31 0x3ffff 4 0
+vm slot 31 262147 4 0x0
+vm slot 31 262147 4 0 ro
+v2 write 1073766400 7
+vm slot 31 262147 4 0
+vm slot 3 34359738369 33 64 ro
+vm slot 3 34359738353 0x21 0x40 ro
+v2 write 140737488310272 1907997464574514281
+v0 read 140737488293888
+v2 read 140737488293888
+v2 write 1073754112 9223372036854775808
+v1 write 1073737728 14308245296575502520
+vm slot 0x1f 262147 4 0
+h0 move 80
+h0 allow 96
+--
+vcpus 3 workers 0 pages 129 frames 130 words 1 hosts 0 53 76
+vm slot 28 510 2 64
+v1 add 0x3ffff000 255
+vm slot 0x1c 510 2 64
+v2 read 0x1ff000
+v0 write 2093056 709955434435
+v1 read 2088960
+vm slot 0x1c 510 2 64
+vm slot 28 509 2 64
+v1 add 2088960 0xff
+v1 read 2088960
+vm slot 28 510 2 64
+v2 write 2093056 6675298760544685800
+v1 read 1073737728
+v0 read 1073737728
+vm slot 28 509 0x2 64
+v2 write 2088960 18446744073709551615
+v0 add 2088960 17880462241609168069
+vm slot 28 509 0 0
+vm slot 0x3 0x3fc 2 0
+vm slot 3 1019 2 0x0
+vm slot 0x3 1020 2 0
+v2 add 0x3fd000 9223372036854775808
+vm slot 3 1019 0x2 0
+v1 add 0x3fc000 8855577715915919093
+vm slot 3 0x3fc 2 0
+v1 read 4177920
+vm slot 0x3 0x3fd 2 0
+vm slot 5 68719476716 0x21 0
+vm slot 31 19 16 0
+vm slot 3 1022 0x2 0
+--
+vcpus 2 workers 2 pages 16 frames 24 words 1 hosts 0 5 9
+vm slot 28 134217726 8 0x0
+vm slot 0x2 34359738368 1 0
+vm slot 0x1c 134217726 8 0
+h0 move 0x4
+v1 add 0x0 255
+h1 move 7
+vm slot 0x1c 0 0 0
+vm slot 5 0x65 16 0
+v1 read 0x6a000
+v0 read 549755834368
+h0 evict 0x8
+vm slot 28 0x3fffd 0x10 0
+v0 write 0x6d000 693186709462
+v0 read 475136
+vm slot 5 101 16 0
+v0 write 446464 16695119827544175887
+vm slot 0x5 101 16 0
+v1 add 450560 18446744073709551615
+v0 write 446464 802865626407
+vm slot 0x1c 134217726 8 0
+v0 read 0
+v0 write 446464 255
+vm slot 5 93 16 0
+vm slot 5 93 16 0
+--
+vcpus 3 workers 0 pages 3 frames 5 words 1 hosts 0 1 2
+vm slot 31 512 1 0
+v1 read 2097152
+h0 evict 0x0
+vm slot 0x0 1 3 0
+vm slot 0x1f 512 1 0x0 ro
+vm slot 31 0x0 0 64
+vm slot 12 0x1 0x1 0
+vm slot 12 1 0x1 0
+vm slot 0xc 1 1 0x0
+v2 read 4096
+vm slot 12 1 0x1 0
+vm slot 12 1 0x1 0
+v1 read 4096
+v1 read 4096
+v1 write 4096 255
+v2 write 2097152 255
+v2 add 4096 9223372036854775808
+vm slot 12 508 1 0
+vm slot 12 508 0x1 0x0
+v0 write 2080768 255
+v0 write 2080768 255
+v0 write 2080768 7
+v1 write 2080768 9223372036854775808
+v1 write 4096 0x8df82c27e9d74ed3
+vm slot 12 0 0 0x40
+vm slot 0x5 1 3 0
+v0 write 12288 0x2
+v2 read 12288
+vm slot 5 0 0x3 0x0
+--
+vcpus 1 workers 0 pages 3 frames 11 words 1 hosts 0
+vm slot 18446744073709551615 4 0x3 0
+vm slot 0x1f 511 3 0
+v0 write 0x201000 149954574122785867
+vm slot 31 512 0x3 0
+v0 read 2105344
+vm slot 31 513 3 0
+vm slot 31 514 3 0x40
+vm slot 5 515 0x3 0
+vm slot 0x1f 513 0 64
+vm slot 0 501 0x1 0x0
+vm slot 31 0x200 3 0x0
+vm slot 0 0x200 0x1 0
+vm slot 0 512 1 0x0 ro
+vm slot 0x0 512 1 0
+h0 evict 0
+v0 write 0x1ff000 2
+vm slot 31 5 0 64
+vm slot 31 511 3 0x0
+vm slot 0x0 0xfffffffff 0 0
+vm slot 2 4 0x3 0
+vm slot 2 5 3 0
+v0 read 2097152
+v0 add 0x7000 9223372036854775808
+vm slot 2 6 0x3 0
+vm slot 2 68719476735 0 64
+vm slot 1 1 3 0
+v0 add 12288 0x2
+h0 protect 2
+--
+vcpus 1 workers 1 pages 129 frames 130 words 1 hosts 0
+vm slot 0x3 0x64 33 0 ro
+vm slot 0x1c 0x3ff02 16 0 ro
+vm slot 0x20 5 0 0
+vm slot 0x3 0x0 0 64
+vm slot 31 34359738369 17 0
+vm slot 31 0 0 0x40
+vm slot 0x3 512 108 0
+vm slot 3 100 33 0 ro
+vm slot 31 68719476716 31 0x0
+v0 write 2318336 18446744073709551615
+v0 write 0x84000 9223372036854775808
+vm slot 12 101 16 0 ro
+v0 write 2318336 0xacde2478613fb7c5
+vm slot 0x1 0x41d 33 0x0
+v0 write 0x236000 568127118207
+v0 read 2097152
+vm slot 3 0x200 0x6d 0
+v0 write 0x204000 0xff
+v0 write 140737488424960 0x2
+v0 write 2535424 2
+v0 write 0x21e000 1
+v0 write 2113536 854954088980
+vm slot 3 0 0 64
+vm slot 2 116 0x10 0x40
+vm slot 0x2 116 16 64
+--
+vcpus 4 workers 2 pages 65 frames 66 words 1 hosts 0 39
+vm slot 12 134217791 65 0x0
+v3 read 549756071936
+vm slot 12 0x800003f 0x41 0x0
+vm slot 12 134217791 65 0
+v2 add 549756071936 0x1
+vm slot 12 508 0x41 0x0
+vm slot 12 0x1fc 65 0
+vm slot 12 0x1fc 66 0
+vm slot 12 0x0 0x41 0
+v3 read 0x20000
+v3 write 0 13445268066244484081
+v2 write 237568 141909942611
+vm slot 0xc 0 0 68719476672
+vm slot 0 68719476672 4 0
+v2 read 281474976448512
+h0 evict 0x2
+vm slot 0x0 500 4 0
+vm slot 0x0 502 4 0x0
+v2 write 0x1f9000 18446744073709551615
+vm slot 0x0 502 0x0 64
+vm slot 31 261889 0x10 0 ro
+v0 add 1072713728 0x41b4db39f3
+h0 move 0x4
+vm slot 31 0 0 0x0 ro
+vm slot 5 262160 0x11 0
+vm slot 7 0x0 0 64
+vm slot 5 262159 17 0
+v3 write 1073803264 255
+v1 add 1072713728 30225038681
+--
+vcpus 4 workers 0 pages 128 frames 129 words 1 hosts 0
+vm slot 12 512 0x11 64
+v2 read 549755805696
+v1 read 2129920
+vm slot 0 501 2 0x40
+vm slot 12 529 17 64
+v3 write 0x221000 9223372036854775808
+v3 write 2129920 2
+v3 write 2166784 2
+vm slot 31 262141 2 0x0
+vm slot 31 0 0 0x0 ro
+v0 add 2183168 1
+vm slot 0xc 537 17 0x40
+v3 read 2265088
+vm slot 12 0x21a 0x11 64
+v0 write 0x21e000 18446744073709551615
+v0 read 0x229000
+vm slot 32 68719476735 0 0
+vm slot 0 261889 0x4 0
+vm slot 0 261893 0x4 0x0
+v3 write 1072726016 9963616447532865127
+vm slot 12 0x200 17 64
+vm slot 0 0x3ff05 4 0
+v0 write 0x200000 1
+vm slot 0x0 68719476735 0 0
+vm slot 12 0x3ff05 17 64
+vm slot 0xc 0x3ff05 17 64 ro
+--
+vcpus 4 workers 1 pages 1 frames 2 words 8 hosts 0
+vm slot 1 101 1 0
+v1 add 413720 7
+v2 read 413720
+vm slot 1 0 0x0 68719476672 ro
+vm slot 12 512 1 0
+v1 read 2097168
+v3 add 0x200000 18446744073709551615
+vm slot 12 512 1 0
+vm slot 0x0 134217728 0x1 0
+v2 write 2097208 0xffffffffffffffff
+vm slot 12 512 1 0 ro
+v0 add 2097192 0x8000000000000000
+vm slot 12 512 0 0
+vm slot 1 262142 1 0x0 ro
+v0 add 1073733680 412474938650
+vm slot 12 68719476672 1 0
+v1 write 1073733664 0xff
+v3 read 0x3fffe038
+v2 add 1073733664 7
+vm slot 0x1f 513 1 0
+v1 write 1073733680 2
+v3 read 1073733632
+v2 read 1073733640
+v1 read 1073733648
+--
+vcpus 2 workers 2 pages 64 frames 66 words 1 hosts 0 61
+vm slot 0x1c 68719476672 17 0 ro
+vm slot 28 0 0 0
+vm slot 0x5 262144 0x2 0
+v0 read 1073741824
+v0 read 281474976514048
+vm slot 1 261893 4 0
+vm slot 5 261889 33 0x0
+v1 read 1073745920
+vm slot 5 262144 2 0
+v0 write 1073741824 18446744073709551615
+vm slot 5 0x0 0 68719476672
+vm slot 3 513 0x2 0
+vm slot 5 134217726 16 0x0
+v1 write 2105344 18446744073709551615
+vm slot 0x5 262144 2 0
+v1 write 281474976514048 0x9e0211b7a8
+vm slot 0x1 511 2 0
+v0 read 0x202000
+v0 write 2105344 900611274884
+h0 evict 1
+v1 write 2105344 0xff
+v0 add 2105344 1
+vm slot 3 0 0 68719476672
+--
+vcpus 1 workers 2 pages 200 frames 208 words 2 hosts 0 75
+vm slot 28 102 2 0x40
+v0 write 0x67000 18446744073709551615
+h0 allow 0x41
+vm slot 28 102 3 64
+vm slot 0x1c 102 2 64 ro
+vm slot 1 0x1ff 1 128
+vm slot 0x1c 68719476673 33 128
+vm slot 1 510 1 128
+vm slot 1 510 1 128 ro
+v0 write 421888 0x1
+vm slot 0x1c 0x67 2 64
+v0 write 2088960 7
+v0 read 2088968
+h1 move 0x69
+vm slot 28 0 0 0x0
+v0 write 421896 18446744073709551615
+v0 write 417800 774080375805
+v0 write 0x1fe000 255
+h0 allow 128
+vm slot 1 510 1 128
+v0 write 2088960 0x1
+v0 add 421896 319663182495
+--
+vcpus 3 workers 0 pages 192 frames 193 words 2 hosts 0 190
+vm slot 2 262142 1 0
+v1 add 1073733632 775244253174
+vm slot 2 262142 16 0x80 ro
+vm slot 2 0x3fffe 1 0
+v2 write 0x3fffe008 0x8000000000000000
+vm slot 2 262142 1 0
+vm slot 2 262142 0x1 0
+v1 read 1073733632
+v0 read 0x3fffe008
+v2 read 0x3fffe008
+v2 read 1073733640
+v1 add 1073733632 20365075172545372
+v1 add 1073733632 137542245166
+vm slot 2 262142 0 68719476672
+vm slot 28 262144 0xc0 0 ro
+v2 write 0x400ae000 255
+v2 read 1073733632
+vm slot 28 262144 0 0 ro
+vm slot 0x0 0x64 1 0
+vm slot 0 508 0x1 0x0
+h0 protect 0
+v2 write 2080768 255
+v0 write 2080768 0x1
+vm slot 0x0 509 0x1 0
+vm slot 0x0 100 1 0
+vm slot 2 3 192 0
+--
+vcpus 1 workers 2 pages 1 frames 2 words 2 hosts 0
+vm slot 0x1f 4 1 0x0
+vm slot 0x1f 0 0 0
+vm slot 32 2 1 0x0
+vm slot 1 68719476672 1 0
+v0 write 281474976448512 1749013306426980759
+v0 read 281474976448512
+vm slot 1 0xfffffffc0 0 0
+vm slot 31 0x65 1 0x0
+v0 write 413704 7
+v0 read 413696
+v0 write 413696 7
+h0 move 0
+vm slot 1 68719476672 1 0x0
+v0 write 413696 18446744073709551615
+vm slot 31 102 0x1 64
+v0 read 413704
+v0 write 281474976448520 18446744073709551615
+vm slot 31 0x65 0 0
+vm slot 12 68719476717 1 0 ro
+v0 write 281474976632832 1
+--
+vcpus 1 workers 1 pages 200 frames 201 words 1 hosts 0
+vm slot 31 0x800000f 0x11 0
+vm slot 0x0 500 0x2 192
+vm slot 31 134217742 0x11 0
+vm slot 0 499 2 192
+v0 read 0x1f3000
+v0 read 2043904
+vm slot 0x1f 134217759 17 0
+v0 write 549755936768 5426463426647984195
+v0 add 0x1f4000 0x2
+v0 add 2043904 2
+vm slot 0x1f 134217759 0x0 0 ro
+vm slot 0 0x1f3 0x2 0xc0
+v0 write 2048000 2
+vm slot 0 0x1f3 2 192 ro
+v0 write 2048000 0x6daa3bb4a9a9a088
+v0 add 2048000 834669297892555762
+v0 read 2048000
+vm slot 5 500 2 64
+vm slot 0 500 2 0xc0
+vm slot 5 0x8000002 4 64
+vm slot 3 0x3 33 0x0
+v0 read 2048000
+v0 read 549755871232
+v0 read 0x1f3000
+v0 add 2048000 0x77cd883ec44f2af
+--
+vcpus 3 workers 0 pages 200 frames 208 words 1 hosts 0 43
+vm slot 31 0x3fc 2 0xc0
+vm slot 0x1f 1022 0x2 0xc0
+vm slot 28 0x800000010 16 128
+v0 read 4186112
+v1 write 140737488453632 0x663a889bb9f37162
+vm slot 0x1f 0x3fe 0x2 192
+v2 add 4182016 9223372036854775808
+v0 read 4177920
+v0 read 140737488453632
+v1 write 0x800000014000 0x1
+v2 write 140737488482304 1
+v1 write 4190208 18446744073709551615
+v2 write 0x3fe000 2
+h0 move 56
+v2 read 140737488437248
+vm slot 28 0xfffffffff 0x0 64
+v0 write 4186112 4981947201899546059
+vm slot 31 1024 2 192
+v1 read 0x3fe000
+v2 add 140737488420864 1
+v1 add 4198400 2510303881455059786
+h1 allow 136
+v2 read 0x400000
+v0 write 0x401000 2
+v2 add 4198400 9223372036854775808
+--
+";
