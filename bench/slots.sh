@@ -58,7 +58,7 @@ lines_of() {
 # The steps of such a trace: its pool has its free pages below 64, its guest frames are below 2^18, no line is
 # refused or starved, and slots are writable. A slot line claims a page, fills its 512 words and its role, takes the lock,
 # loads the count, publishes the page, gives the lock back, looks at each other actor, clears the old page's role
-# and gives it back. Where the slot is there an invalidation begins before that and ends behind the publication: it takes
+# and gives it back. Where the slot is there an invalidation begins before that and ends after the publication: it takes
 # the lock, loads the slot set and its words (of a slot of one page up to that slot), and the count, stores the range and the
 # count, loads the root, each entry of the range's guest frames, in each table that is there, and zaps each leaf, asks for
 # each flush and awaits it, and gives the lock back; the end takes the lock, loads and stores sequence number and count, and
