@@ -1,0 +1,2 @@
+pub mod SlotRules
+pub mod Starving

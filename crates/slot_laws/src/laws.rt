@@ -1,0 +1,22 @@
+ghost use Rattle.slot_laws.specs.SlotRules.{DeletionsAreOfSlots, DoneAtOnceChangesNone, SetSlotsKeepShapes, WorkChangesOne};
+ghost use Rattle.slot_laws.specs.Starving.{MissingCannotStarve, UnchangedCannotStarve};
+
+/// A law about which slot line changes what, over all sets of slots. Where a slot that is set
+/// isn't refused and another one has its ID, both have as many pages, the same host pages and
+/// the same flag, and where that one has a dirty log the same guest frames (`shapes`). A
+/// deletion that isn't refused is of a slot that is there and has none (`deletions`). A line that
+/// is told done before its first step would change no slot (`none`), and any other one that
+/// isn't refused changes some (`some`) (api.rst, KVM_SET_USER_MEMORY_REGION).
+pub fn slot_lines_keep_shapes()
+    ensures shapes { SetSlotsKeepShapes }
+    ensures deletions { DeletionsAreOfSlots }
+    ensures none { DoneAtOnceChangesNone }
+    ensures some { WorkChangesOne }
+{}
+
+/// A law about two closed histories that aren't lawful: a line that sets a slot as it is, and a
+/// deletion of a slot that isn't there, can't be given up for want of a pool page.
+pub fn idle_slot_lines_cannot_starve()
+    ensures unchanged { UnchangedCannotStarve }
+    ensures missing { MissingCannotStarve }
+{}
