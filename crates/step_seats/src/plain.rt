@@ -1,5 +1,5 @@
 //! All words and hands under one owner.
-ghost use Rattle.std.specs.Prelude.{◌≡◌, ◌<◌, ◌≤◌, IfOk, OnErr, OnOk, length, slice_set};
+ghost use Rattle.std.specs.Prelude.{◌≡◌, ◌<◌, ◌≤◌, IfOk, OnErr, OnOk, length, slice_index, slice_set};
 ghost use Rattle.core_views.specs.Sizes.{AreSizes, actors_of, index_of, sizes_of};
 ghost use Rattle.core_views.specs.Traces.{IsTrace};
 ghost use Rattle.mmu_core.specs.machine.Enabled.{Enabled, mmu};
@@ -76,6 +76,13 @@ impl PlainMachine {
         let hand = &mut self.hands[index];
         advance(hand, kind, answer);
         answer
+    }
+
+    /// The value of a word, and 0 where there is no such word.
+    pub fn word(&self, word: u32) -> u64
+        ensures { result ≡ slice_index self.now.words word }
+    {
+        self.words.get(word as usize).copied().unwrap_or(0)
     }
 
     /// The hand of the actor at this place.

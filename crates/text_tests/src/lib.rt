@@ -1,6 +1,6 @@
-//! The tests of what reads and writes text: `tdp_io`, `trace_reader` and `trace_text`. They
-//! stand here and not in these crates, since a crate with tests is proved once without them
-//! and once with them.
+//! The tests of what reads and writes text: `tdp_io`, `trace_reader`, `trace_text` and
+//! `step_text`. They stand here and not in these crates, since a crate with tests is proved
+//! once without them and once with them.
 #![tactic(auto)]
 
 #[cfg(test)]
@@ -13,3 +13,5 @@ mod item_tests;
 mod need_tests;
 #[cfg(test)]
 mod reading_tests;
+#[cfg(test)]
+mod step_tests;

@@ -1,5 +1,5 @@
 -- What the words of a schedule item say: whose turns are next, and until when.
-use Rattle.std.specs.Prelude.{◌+◌, ℕ, List, [], ◌∷◌, Bool, false, ◌&&◌, nat_le, ◌==◌, if◌then◌else◌, codes, length, Result, Ok, Err}
+use Rattle.std.specs.Prelude.{◌+◌, ℕ, List, [], ◌∷◌, Bool, false, ◌&&◌, nat_le, ◌==◌, if◌then◌else◌, codes, length, slice_index_or, Result, Ok, Err}
 use Rattle.std.specs.Str.{bytes_eq}
 use Rattle.std.specs.declared.option.Option.{Option}
 use Rattle.std.specs.declared.option.Option.TheVariants.{Some, None}
@@ -34,6 +34,10 @@ number_among n (name ∷ names) w = if bytes_eq w name then Some n else number_a
 -- the number of the kind of step that the word names
 unfoldable pub kind_number : List ℕ → Option ℕ
 kind_number w = number_among 1 kind_names w
+
+-- the name of the kind with a number, from 1; number 0 and the numbers above 41 have no letters
+unfoldable pub kind_name : ℕ → List ℕ
+kind_name code = slice_index_or ([] ∷ kind_names) code []
 
 -- It has a first byte, which passes the test.
 abbrev pub begins : (ℕ → Bool) → List ℕ → Bool

@@ -2,7 +2,7 @@ ghost use Rattle.std.specs.Prelude.{◌≡◌, ◌≤◌, ◌<◌, ◌==◌, IfO
 ghost use Rattle.core_views.specs.Sizes.{sizes_of};
 ghost use Rattle.core_views.specs.Traces.{HasActor, IsItemOf, IsUntilInRange};
 ghost use Rattle.trace_reader.specs.Numbers.{is_digit};
-ghost use Rattle.trace_reader.specs.Items.{actor_said, begins, item_said, kind_number, until_said};
+ghost use Rattle.trace_reader.specs.Items.{actor_said, begins, item_said, kind_name, kind_number, until_said};
 
 use crate::Reason;
 use crate::form::{index_of, is};
@@ -34,6 +34,19 @@ fn kind_of(word: &[u8]) -> Option<u8>
         rest = after;
     }
     None
+}
+
+/// The name of the kind of step with this number, 1 to 41. A number of no kind gives
+/// the empty text.
+pub fn kind_name(code: u8) -> &'static str
+    ensures { result.now ≡ kind_name code }
+{
+    let kinds: [&'static str; 41] = KINDS;
+    let names = kinds.as_slice();
+    if code == 0 || code > 41 {
+        return "";
+    }
+    names[code as usize - 1]
 }
 
 fn begins_with(letter: u8, word: &[u8]) -> bool

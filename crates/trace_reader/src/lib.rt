@@ -18,6 +18,7 @@ mod refusal;
 mod saying;
 
 pub use grammar::{grammar_is_exact, header_grammar_is_exact, input_grammar_is_exact};
+pub use item::kind_name;
 pub use outcome::Read;
 pub use pool::need;
 pub use reading::read_trace;

@@ -18,16 +18,20 @@ use Rattle.mmu_core.specs.machine.Machine.{Legal, Step, World, hand_in, run}
 use Rattle.mmu_core.specs.machine.Steps.{has_line}
 use Rattle.mmu_core.specs.machine.Worlds.{IsStart}
 use Rattle.mmu_laws.proofs.flat.EveryAnswer.{start_follows}
-use Rattle.weave_engine.specs.Turning.{ItemFits, RunsItemsSoFar}
+use Rattle.weave_engine.specs.Turning.{ItemFits, RunsBySoFar, RunsItemsSoFar}
 use Rattle.weave_engine.specs.Weaves.{RunsSomeRounds}
 
 none_within : (until : Until) → ItemFits until []
 none_within (Turns count) = omega arith
 none_within _ = tt
 
-pub none_so_far : (z : Sizes) (items : List Item) (w : World Held) → RunsItemsSoFar z items w []
-none_so_far z [] w = refl
-none_so_far z (item ∷ items) w = inl (record { turns = tt; none_ends = tt; within = none_within item.until })
+-- An item of which no turn was made yet.
+pub no_turns : (until : Until) (actor : ℕ) (w : World Held) → RunsBySoFar until actor w []
+no_turns until actor w = record { turns = tt; none_ends = tt; within = none_within until }
+
+pub none_so_far : (z : Sizes) (items : List Item) (w : World Held) → RunsItemsSoFar z items w [] []
+none_so_far z [] w = (refl, refl)
+none_so_far z (item ∷ items) w = inl (refl, refl)
 
 pub no_rounds : (z : Sizes) (limit : ℕ) (w : World Held) → RunsSomeRounds z limit w []
 no_rounds z limit w = record { next = 0; rounds = refl; few = omega arith }

@@ -45,6 +45,7 @@ use Rattle.core_theorem.proofs.Turns.{IsReached, open_in, reached_behind, steps_
 use Rattle.weave_engine.specs.Beside.{AreForDelays, delays_of}
 use Rattle.weave_engine.specs.Replays.{RunsLines}
 use Rattle.weave_engine.specs.Rounds.{RunsRounds}
+use Rattle.weave_engine.specs.Marks.{Mark}
 use Rattle.weave_engine.specs.Turning.{AreTurns, RunsItems}
 use Rattle.weave_engine.specs.Weaves.{FollowsBoth, FollowsSoFar, lines_below}
 use Rattle.weave_engine.proofs.DelaysBelow.{AreBelow, delays_below, sum_bound}
@@ -73,11 +74,12 @@ own_of_lines actor w (s ∷ ss) turns =
     one_more_of_line w s ss (subst (λ i. is_of_line w (record { actor = i; kind = s.kind }) ≡ true) (sym turns.0.own) turns.0.left)
     (own_of_lines actor (effect mmu w s) ss turns.1)
 
-pub items_of_lines : (z : Sizes) (items : List Item) (w : World Held) (ss : List (Step Kind)) → RunsItems z items w ss → AreOfLines w ss
-items_of_lines z [] w ss none = subst (AreOfLines w) (sym none) refl
-items_of_lines z (item ∷ items) w ss (own, rest, are, first, more) =
+pub items_of_lines : (z : Sizes) (items : List Item) (w : World Held) (ss : List (Step Kind)) (marks : List Mark) → RunsItems z items w ss marks
+    → AreOfLines w ss
+items_of_lines z [] w ss marks none = subst (AreOfLines w) (sym none.0) refl
+items_of_lines z (item ∷ items) w ss marks (own, rest, early, later, are, marked, first, more) =
     subst (AreOfLines w) (sym are)
-    (both_of_lines w own rest (own_of_lines (index_of z item.actor) w own first.so_far.turns) (items_of_lines z items (run mmu w own) rest more))
+    (both_of_lines w own rest (own_of_lines (index_of z item.actor) w own first.0.so_far.turns) (items_of_lines z items (run mmu w own) rest later more))
 
 pub rounds_of_lines : (z : Sizes) (first next : ℕ) (w : World Held) (ss : List (Step Kind)) → RunsRounds z first next w ss → AreOfLines w ss
 rounds_of_lines z first next w [] rounds = refl
@@ -278,5 +280,5 @@ turns_delayed trace limit start steps is_start legal S F used_up =
 
     own : AreOfLines S.behind all
     own =
-        both_of_lines S.behind S.scheduled S.rounds (items_of_lines z trace.items S.behind S.scheduled F.all_items)
+        both_of_lines S.behind S.scheduled S.rounds (items_of_lines z trace.items S.behind S.scheduled S.item_marks F.all_items.0)
         (rounds_of_lines z 0 S.in_rounds.next (run mmu S.behind S.scheduled) S.rounds S.in_rounds.rounds)

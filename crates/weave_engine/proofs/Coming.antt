@@ -1,7 +1,7 @@
--- Steps that were made, with what they print put after what waited: one turn more, or more steps.
-use Rattle.std.proofs.Common.{◌≡◌, ◌≤◌, ℕ, List, [], ◌∷◌, ◌++◌, Ok, Err, append_assoc, length, refl, sym, ap, subst, ◌∙◌}
-use Rattle.std.specs.Prelude.{Bool, true}
-use Rattle.std.specs.declared.option.Option.{Option}
+-- Steps that were made, and whose marks were printed: one turn more, or more steps.
+use Rattle.std.proofs.Common.{◌≡◌, ℕ, List, [], ◌∷◌, ◌++◌, Ok, Err, refl, sym, ap, subst, ◌∙◌}
+use Rattle.std.proofs.lemmas.List.{append-nil}
+use Rattle.std.specs.Prelude.{Bool}
 use Rattle.core_views.specs.declared.kind.Kind.{Kind}
 use Rattle.core_views.specs.Held.{Held}
 use Rattle.core_views.specs.Text.{text}
@@ -12,13 +12,10 @@ use Rattle.mmu_core.specs.machine.Worlds.{history}
 use Rattle.mmu_core.proofs.machine.Extend.{legal-append, run-append}
 use Rattle.mmu_core.proofs.machine.LineRuns.{history_append}
 use Rattle.tdp_io.specs.declared.sink.Stop.{Stop}
-use Rattle.tdp_io.specs.declared.sink.Stop.TheVariants.{NoMemory as Full}
-use Rattle.weave_engine.specs.Pieces.{WritesMost, most_waiting}
-use Rattle.weave_engine.specs.Turned.{ComesTo, MakesTurn, PutsRun}
-use Rattle.weave_engine.specs.Turning.{AnswersLine, IsTurn, MayStop, stops as stops_with}
-use Rattle.weave_engine.specs.Writes.{Buffers}
-use Rattle.weave_engine.proofs.Stopping.{answers_last, stops_at_answer, stops_behind, stops_full}
-use Rattle.weave_engine.proofs.Writes.{IsPut, goes_on, none_put, stops, stops_here}
+use Rattle.weave_engine.specs.Marks.{Mark, Made, turns_from}
+use Rattle.weave_engine.specs.Turned.{ComesTo, MakesTurn, PrintsRun}
+use Rattle.weave_engine.specs.Turning.{AreMarkedFrom, IsTurn, stops as stops_with}
+use Rattle.weave_engine.proofs.Marks.{marks_append}
 
 pub comes_none : (w : World Held) → ComesTo w [] w []
 comes_none w = record { legal = tt; ends = refl; prints = refl }
@@ -35,68 +32,103 @@ comes_then w t u ss ts xs ys C D =
           ∙ sym (ap text (history_append w ss ts) ∙ text_append (history w ss) (history (run mmu w ss) ts));
     }
 
--- Steps of which this holds lead from one world to the other, and what they print was put after what waited.
-pub record SoFar (P : World Held → List (Step Kind) → Type 0) (w t : World Held) (before here : Option (List ℕ)) (waited waits : List ℕ) : Type 0 where
+-- What is known of any printer.
+pub record Printing {V : Type 0} (prints : V → List Mark → V → Type 0) (stops : V → List Mark → Stop → V → Type 0) : Type 0 where
+  pub both : (p q r : V) (marks more : List Mark) → prints p marks q → prints q more r → prints p (marks ++ more) r
+  pub stopped : (p q r : V) (marks more : List Mark) (stop : Stop) → prints p marks q → stops q more stop r → stops p (marks ++ more) stop r
+
+-- Steps of which this holds lead from one world to the other, and their marks were printed.
+pub record SoFar {V : Type 0} (prints : V → List Mark → V → Type 0) (P : World Held → List (Step Kind) → List Mark → Type 0) (w t : World Held)
+    (p q : V) : Type 0 where
   pub steps : List (Step Kind)
   pub bytes : List ℕ
-  pub holds : P w steps
+  pub marks : List Mark
+  pub holds : P w steps marks
   pub comes : ComesTo w steps t bytes
-  pub put : IsPut before here waits (waited ++ bytes)
+  pub put : prints p marks q
 
-pub so_far_none : (P : World Held → List (Step Kind) → Type 0) (w : World Held) (before : Option (List ℕ)) (waited : List ℕ)
-    → length waited ≤ most_waiting → P w [] → SoFar P w w before before waited waited
-so_far_none P w before waited few holds = record { steps = []; bytes = []; holds = holds; comes = comes_none w; put = none_put before waited few }
+-- No step was made yet.
+pub so_far_none : {V : Type 0} (prints : V → List Mark → V → Type 0) (P : World Held → List (Step Kind) → List Mark → Type 0) (w : World Held) (p q : V)
+    (marks : List Mark) → P w [] marks → prints p marks q → SoFar prints P w w p q
+so_far_none prints P w p q marks holds put = record { steps = []; bytes = []; marks = marks; holds = holds; comes = comes_none w; put = put }
 
--- Steps more, of which the same or another thing holds with those before.
-pub so_far_then : (P Q : World Held → List (Step Kind) → Type 0) (w t u : World Held) (before here after : Option (List ℕ))
-    (waited waits more : List ℕ) (ts : List (Step Kind)) (bytes : List ℕ) (F : SoFar P w t before here waited waits)
-    → ComesTo t ts u bytes → Buffers here after waits more (Ok tt) bytes → Q w (F.steps ++ ts) → SoFar Q w u before after waited more
-so_far_then P Q w t u before here after waited waits more ts bytes F comes put holds = record {
-  steps = F.steps ++ ts;
-  bytes = F.bytes ++ bytes;
-  holds = holds;
-  comes = comes_then w t u F.steps ts F.bytes bytes F.comes comes;
-  put = goes_on before here after waits more bytes waited F.bytes F.put put;
-}
+module _ {V : Type 0} (prints : V → List Mark → V → Type 0) (stops : V → List Mark → Stop → V → Type 0) (L : Printing prints stops) where
+  module _ (P : World Held → List (Step Kind) → List Mark → Type 0) (w t u : World Held) (p q r : V) (F : SoFar prints P w t p q) where
+    -- Steps more, of which the same or another thing holds with those before.
+    pub so_far_then : (Q : World Held → List (Step Kind) → List Mark → Type 0) (ts : List (Step Kind)) (bytes : List ℕ) (marks : List Mark)
+        → ComesTo t ts u bytes → prints q marks r → Q w (F.steps ++ ts) (F.marks ++ marks) → SoFar prints Q w u p r
+    so_far_then Q ts bytes marks comes put holds = record {
+      steps = F.steps ++ ts;
+      bytes = F.bytes ++ bytes;
+      marks = F.marks ++ marks;
+      holds = holds;
+      comes = comes_then w t u F.steps ts F.bytes bytes F.comes comes;
+      put = L.both p q r F.marks marks F.put put;
+    }
 
--- One turn more: what it is in the world that the steps before led to.
-pub turn_there : (P : World Held → List (Step Kind) → Type 0) (w t u : World Held) (before here : Option (List ℕ)) (waited waits : List ℕ) (actor : ℕ)
-    (stop : Bool) (bytes : List ℕ) (F : SoFar P w t before here waited waits) (M : MakesTurn actor t u stop bytes)
-    → IsTurn actor (run mmu w F.steps) M.step × (stops_with (run mmu w F.steps) M.step ≡ stop)
-turn_there P w t u before here waited waits actor stop bytes F M =
-    subst (λ (x : World Held). IsTurn actor x M.step × (stops_with x M.step ≡ stop)) (sym F.comes.ends) (M.turn, M.stops_)
+    -- Nothing more was done.
+    pub nothing_more : u ≡ t → prints q [] r → SoFar prints P w u p r
+    nothing_more same put = record {
+      steps = F.steps;
+      bytes = F.bytes;
+      marks = F.marks;
+      holds = F.holds;
+      comes = subst (λ (x : World Held). ComesTo w F.steps x F.bytes) (sym same) F.comes;
+      put = subst (λ (ms : List Mark). prints p ms r) (append-nil F.marks) (L.both p q r F.marks [] F.put put);
+    }
 
--- All of it was put.
-pub puts_all : (P Q R : World Held → List (Step Kind) → Type 0) (w t : World Held) (before here : Option (List ℕ)) (waited waits : List ℕ)
-    (F : SoFar P w t before here waited waits) → Q w F.steps → PutsRun Q R w t before here waited waits (Ok tt)
-puts_all P Q R w t before here waited waits F holds = (F.steps, F.bytes, holds, F.comes, F.put)
+    -- It stopped with no step more.
+    pub run_stopped : (Q R : World Held → List (Step Kind) → List Mark → Type 0) (stop : Stop) → u ≡ t → stops q [] stop r → R w F.steps F.marks
+        → PrintsRun prints stops Q R w u p r (Err stop)
+    run_stopped Q R stop same most holds = (
+      F.steps,
+      F.bytes,
+      F.marks,
+      holds,
+      subst (λ (x : World Held). ComesTo w F.steps x F.bytes) (sym same) F.comes,
+      subst (λ (ms : List Mark). stops p ms stop r) (append-nil F.marks) (L.stopped p q r F.marks [] stop F.put most),
+    )
 
--- It stopped with no step more.
-pub puts_stopped : (P Q R : World Held → List (Step Kind) → Type 0) (w t u : World Held) (before here after : Option (List ℕ)) (waited waits
-    more : List ℕ) (stop : Stop) (F : SoFar P w t before here waited waits) → stop ≡ Full → u ≡ t → WritesMost here after waits → R w F.steps
-    → PutsRun Q R w u before after waited more (Err stop)
-puts_stopped P Q R w t u before here after waited waits more stop F full same most holds =
-    subst (λ (x : World Held). PutsRun Q R w x before after waited more (Err stop)) (sym same)
-    (F.steps, F.bytes, holds, F.comes, stops_full stop w F.steps full, stops_here before here after waits (waited ++ F.bytes) F.put most)
+    -- It stopped after steps more.
+    pub run_stopped_after : (Q R : World Held → List (Step Kind) → List Mark → Type 0) (stop : Stop) (ts : List (Step Kind)) (bytes : List ℕ)
+        (marks : List Mark) → ComesTo t ts u bytes → stops q marks stop r → R w (F.steps ++ ts) (F.marks ++ marks)
+        → PrintsRun prints stops Q R w u p r (Err stop)
+    run_stopped_after Q R stop ts bytes marks comes most holds = (
+      F.steps ++ ts,
+      F.bytes ++ bytes,
+      F.marks ++ marks,
+      holds,
+      comes_then w t u F.steps ts F.bytes bytes F.comes comes,
+      L.stopped p q r F.marks marks stop F.put most,
+    )
 
--- It stopped after steps more.
-pub puts_stopped_behind : (P Q R : World Held → List (Step Kind) → Type 0) (w t u : World Held) (before here after : Option (List ℕ)) (waited waits
-    more : List ℕ) (stop : Stop) (ts : List (Step Kind)) (bytes : List ℕ) (F : SoFar P w t before here waited waits) → ComesTo t ts u bytes
-    → MayStop stop t ts → WritesMost here after (waits ++ bytes) → R w (F.steps ++ ts) → PutsRun Q R w u before after waited more (Err stop)
-puts_stopped_behind P Q R w t u before here after waited waits more stop ts bytes F comes may prefix holds = (
-  F.steps ++ ts,
-  F.bytes ++ bytes,
-  holds,
-  comes_then w t u F.steps ts F.bytes bytes F.comes comes,
-  stops_behind stop w F.steps ts (subst (λ (x : World Held). MayStop stop x ts) (sym F.comes.ends) may),
-  subst (WritesMost before after) (append_assoc waited F.bytes bytes) (stops before here after waits bytes (waited ++ F.bytes) F.put prefix),
-)
+  -- All of it was printed.
+  pub run_ends : (P Q R : World Held → List (Step Kind) → List Mark → Type 0) (w t : World Held) (p q : V) (F : SoFar prints P w t p q)
+      → Q w F.steps F.marks → PrintsRun prints stops Q R w t p q (Ok tt)
+  run_ends P Q R w t p q F holds = (F.steps, F.bytes, F.marks, holds, F.comes, F.put)
 
--- It stopped after one turn more, which answers its line.
-pub puts_stopped_at : (P Q R : World Held → List (Step Kind) → Type 0) (w t u : World Held) (before here after : Option (List ℕ))
-    (waited waits more : List ℕ) (stop : Stop) (actor : ℕ) (bytes : List ℕ) (F : SoFar P w t before here waited waits)
-    (M : MakesTurn actor t u true bytes)
-    → AnswersLine t M.step → WritesMost here after (waits ++ bytes) → R w (F.steps ++ M.step ∷ []) → PutsRun Q R w u before after waited more (Err stop)
-puts_stopped_at P Q R w t u before here after waited waits more stop actor bytes F M answers prefix holds =
-    puts_stopped_behind P Q R w t u before here after waited waits more stop (M.step ∷ []) bytes F M.comes
-    (stops_at_answer stop t (M.step ∷ []) (answers_last t [] M.step answers)) prefix holds
+  -- One turn more, after some first marks and turns.
+  module _ (front : List Mark) (P : World Held → List (Step Kind) → Type 0) (w t u : World Held) (p q r : V)
+      (F : SoFar prints (AreMarkedFrom front P) w t p q) where
+    -- what the turn is in the world that the steps before led to
+    pub turn_there : (actor : ℕ) (stop : Bool) (bytes : List ℕ) (M : MakesTurn actor t u stop bytes)
+        → IsTurn actor (run mmu w F.steps) M.step × (stops_with (run mmu w F.steps) M.step ≡ stop)
+    turn_there actor stop bytes M =
+        subst (λ (x : World Held). IsTurn actor x M.step × (stops_with x M.step ≡ stop)) (sym F.comes.ends) (M.turn, M.stops_)
+
+    marks_then : (s : Step Kind) → F.marks ++ Made t s ∷ [] ≡ front ++ turns_from w (F.steps ++ s ∷ [])
+    marks_then s = marks_append front F.marks (Made t s ∷ []) w t F.steps (s ∷ []) F.holds.1 F.comes.ends refl
+
+    pub one_turn_more : (Q : World Held → List (Step Kind) → Type 0) (actor : ℕ) (stop : Bool) (bytes : List ℕ) (M : MakesTurn actor t u stop bytes)
+        → prints q (Made t M.step ∷ []) r → Q w (F.steps ++ M.step ∷ []) → SoFar prints (AreMarkedFrom front Q) w u p r
+    one_turn_more Q actor stop bytes M put holds =
+        so_far_then (AreMarkedFrom front P) w t u p q r F (AreMarkedFrom front Q) (M.step ∷ []) bytes (Made t M.step ∷ []) M.comes put
+        (holds, marks_then M.step)
+
+    -- It stopped at it.
+    pub run_stopped_at : (Q R : World Held → List (Step Kind) → Type 0) (stop : Stop) (actor : ℕ) (line_stops : Bool) (bytes : List ℕ)
+        (M : MakesTurn actor t u line_stops bytes) → stops q (Made t M.step ∷ []) stop r → R w (F.steps ++ M.step ∷ [])
+        → PrintsRun prints stops (AreMarkedFrom front Q) (AreMarkedFrom front R) w u p r (Err stop)
+    run_stopped_at Q R stop actor line_stops bytes M most holds =
+        run_stopped_after (AreMarkedFrom front P) w t u p q r F (AreMarkedFrom front Q) (AreMarkedFrom front R) stop (M.step ∷ []) bytes
+        (Made t M.step ∷ []) M.comes most (holds, marks_then M.step)

@@ -1,5 +1,5 @@
-pub mod Writes
 pub mod Stopping
+pub mod Marks
 pub mod Fed
 pub mod PartRuns
 pub mod PartEnds
@@ -9,6 +9,9 @@ pub mod ReadyLines
 pub mod LinesPut
 pub mod TurnEnds
 pub mod Turns
+pub mod TurnSeats
+pub mod TurnsAlone
+pub mod TurnsPut
 pub mod TurnLists
 pub mod Coming
 pub mod ItemTurns
@@ -24,3 +27,5 @@ pub mod WeaveEnds
 pub mod Nearer
 pub mod Outputs
 pub mod StarvedScans
+pub mod AnswerTexts
+pub mod AnswersWritten

@@ -190,16 +190,21 @@ pub between_at_start : (z : Sizes) (lines : List Line) (w : World Held) → IsSt
 unfolding runs_none
 between_at_start z lines w start = record { ran = runs_none z w; prints = refl; behind = behind_none z lines w start; rest = rest_at_start z lines w start }
 
+-- No step was made for them.
+pub none_ran : (z : Sizes) (lines : List Line) (w : World Held) (start : IsStart z lines w) → (between_at_start z lines w start).ran.steps ≡ []
+unfolding between_at_start runs_none
+none_ran z lines w start = refl
+
 pub sound_between : (z : Sizes) (lines : List Line) (i : ℕ) (start w : World Held) (printed : List ℕ) → IsStart z lines start
     → IsBetween z lines i start w printed → IsSound z w
 sound_between z lines i start w printed is_start B = subst (IsSound z) B.ran.ends (good_run z start B.ran.steps (start_good z lines start is_start) B.ran.legal)
 
--- One line more, which the last step answers.
+-- One line more, which the last step answers: its steps come after those before.
 pub between_more : (z : Sizes) (lines : List Line) (i : ℕ) (start w t : World Held) (printed : List ℕ) (answer : Answer) → i < length lines
     → IsCommandFor z (get_or lines i no_line).actor (get_or lines i no_line).command
-    → RanOn z (get_or lines i no_line) answer (index_of z (get_or lines i no_line).actor) w t → IsBetween z lines i start w printed
+    → (ran : RanOn z (get_or lines i no_line) answer (index_of z (get_or lines i no_line).actor) w t) → (B : IsBetween z lines i start w printed)
     → (more : IsBetween z lines (i + 1) start t (printed ++ line_text (get_or lines i no_line).number (get_or lines i no_line).actor answer))
-    × EndsWithAnswer start more.ran.steps
+    × EndsWithAnswer start more.ran.steps × (more.ran.steps ≡ B.ran.steps ++ ran.steps)
 unfolding runs_more
 between_more z lines i start w t printed answer lt may ran B =
     let line : Line = get_or lines i no_line in (
@@ -211,6 +216,7 @@ between_more z lines i start w t printed answer lt may ran B =
         rest = subst (λ (x : World Held). AllRest x) ran.ends ran.alone.rest;
       },
       answer_behind start B.ran.steps ran.steps (subst (λ (x : World Held). EndsWithAnswer x ran.steps) (sym B.ran.ends) ran.alone.last),
+      refl,
     )
 
 -- so many lines as were looked at, with what they print

@@ -1,5 +1,5 @@
--- What the replay of a trace prints, from the lines that ran: lawful, whole, and flat where the pool is large enough.
-use Rattle.std.proofs.Common.{◌≡◌, ◌≢◌, ◌<◌, ◌≤◌, arith, inl, ℕ, List, [], ◌∷◌, ◌++◌, Result, Ok, Err, length, take, refl, sym, ap, subst, ◌∙◌, append_assoc}
+-- How the replay of a trace is printed, from the lines that ran: lawful, whole, and flat where the pool is large enough.
+use Rattle.std.proofs.Common.{◌≡◌, ◌≢◌, ◌<◌, ◌≤◌, inl, inr, ℕ, List, [], ◌∷◌, ◌++◌, Result, Ok, Err, length, take, refl, sym, ap, subst, ◌∙◌, append_assoc}
 use Rattle.std.proofs.Math.Seq.{take-length}
 use Rattle.std.specs.declared.option.Option.{Option}
 use Rattle.std.specs.Prelude.{Some, None}
@@ -38,19 +38,18 @@ use Rattle.mmu_core.proofs.machine.LineRuns.{history_append}
 use Rattle.mmu_core.proofs.start.Starts.{start_good}
 use Rattle.mmu_core.proofs.start.StartViews.{a_start}
 use Rattle.mmu_core.proofs.machine.Worlds.{good_run}
-use Rattle.tdp_io.specs.Ends.{Wrote}
 use Rattle.tdp_io.specs.declared.sink.Stop.{Stop}
 use Rattle.tdp_io.specs.declared.sink.Stop.TheVariants.{Failed, NoMemory}
-use Rattle.weave_engine.specs.Replays.{EachRunsAlone, Replays, ReplaysUntil, RunsAlone, RunsAsFlat, RunsLines}
-use Rattle.weave_engine.specs.Turning.{MayStop}
-use Rattle.weave_engine.specs.Writes.{Buffers, ReplaysBy, RunsAndPuts, WritesLines}
+use Rattle.weave_engine.specs.Marks.{Mark, Over, turns_from}
+use Rattle.weave_engine.specs.Printed.{PrintsLines, PrintsReplayed, ReplayPrinted}
+use Rattle.weave_engine.specs.Replays.{EachRunsAlone, Replays, RunsAlone, RunsAsFlat, RunsLines}
 use Rattle.weave_engine.specs.Woven.{how_ended}
 use Rattle.weave_engine.specs.declared.ran.OpenLine.{OpenLine}
 use Rattle.weave_engine.specs.declared.ran.How.{How}
 use Rattle.weave_engine.specs.declared.ran.How.TheVariants.{Done, WriteFault}
 use Rattle.weave_engine.proofs.Fed.{fed_append}
-use Rattle.weave_engine.proofs.LinesRun.{between_at_start, ran_first}
-use Rattle.weave_engine.proofs.Writes.{WroteMost, ends_most, none_put, so_far_most}
+use Rattle.weave_engine.proofs.Coming.{Printing}
+use Rattle.weave_engine.proofs.LinesRun.{between_at_start, none_ran}
 
 -- Lines that run alone, after steps from a trace's start, aren't starved where the pool has as many pages as the trace needs.
 module _ (trace : Trace) (start : World Held) (is_start : IsStart (sizes_of trace.header) trace.lines start)
@@ -121,86 +120,77 @@ replays trace lines start end_ printed is_start r prints =
         (each_lowest (sizes_of trace.header) trace.lines start is_start [] lines r.steps tt tt r.each)) in
         record { none_starved = fed; same = G.shown; prints = prints ∙ G.prints }
 
--- The machine of a trace wasn't made: nothing ran, and nothing was written.
-pub writes_none : (trace : Trace) (before : Option (List ℕ)) → IsTrace trace → (closing : World Held) × WritesLines trace closing before before (Err NoMemory)
-writes_none trace before good =
-    let z : Sizes = sizes_of trace.header in
-    let made = a_start z trace.lines (header_sizes trace.header good.header) good.lines good.few in
-    let none = ran_first z trace.lines 0 made.0 made.0 [] (between_at_start z trace.lines made.0 made.1) in (
-      made.0,
-      (
-        [],
-        inl (
-          0,
-          replays trace (take 0 trace.lines) made.0 made.0 [] made.1 none.0 none.1,
-          tt,
-        ),
-        so_far_most before before [] []
-            (none_put before [] (omega arith)),
-      ),
-    )
+module _ {V : Type 0} (prints : V → List Mark → V → Type 0) (stops : V → List Mark → Stop → V → Type 0) (L : Printing prints stops) (trace : Trace) where
+  -- The machine of a trace wasn't made: nothing ran, and nothing was printed.
+  pub no_replay : (p q : V) → IsTrace trace → stops p [] NoMemory q
+      → (closing : World Held) × PrintsReplayed prints stops trace closing p q (Err NoMemory)
+  unfolding replays
+  no_replay p q good none =
+      let z : Sizes = sizes_of trace.header in
+      let made = a_start z trace.lines (header_sizes trace.header good.header) good.lines good.few in
+      let B = between_at_start z trace.lines made.0 made.1 in
+      let stopped = subst (λ (ss : List (Step Kind)). stops p (turns_from made.0 ss) NoMemory q) (sym (none_ran z trace.lines made.0 made.1)) none in
+      (made.0, inl (0, [], replays trace (take 0 trace.lines) made.0 made.0 [] made.1 B.ran B.prints, stopped))
 
--- It stopped after some of the lines.
-stopped_replay : (trace : Trace) (count : ℕ) (start end_ : World Held) (stop : Stop) → IsStart (sizes_of trace.header) trace.lines start
-    → (r : RunsLines (sizes_of trace.header) start (take count trace.lines) end_) → MayStop stop start r.steps
-    → ReplaysUntil stop trace end_ (text (history start r.steps))
-unfolding replays
-stopped_replay trace count start end_ stop is_start r may = inl (
-  count,
-  replays trace (take count trace.lines) start end_ (text (history start r.steps)) is_start r refl,
-  may,
-)
+  module _ (z : Sizes) (lines : List Line) (start end_ : World Held) (p q : V) (sizes : z ≡ sizes_of trace.header) (are : lines ≡ trace.lines)
+      (is_start : IsStart (sizes_of trace.header) trace.lines start) where
+    of_trace : (count : ℕ) (r : Result (Unit {0}) Stop) → PrintsLines prints stops z start lines count end_ p q r
+        → PrintsLines prints stops (sizes_of trace.header) start trace.lines count end_ p q r
+    of_trace count r puts =
+        subst (λ (ls : List Line). PrintsLines prints stops (sizes_of trace.header) start ls count end_ p q r) are
+        (subst (λ (y : Sizes). PrintsLines prints stops y start lines count end_ p q r) sizes puts)
 
--- The writing stopped at a line.
-pub writes_first : (trace : Trace) (z : Sizes) (lines : List Line) (count : ℕ) (start end_ : World Held) (before after : Option (List ℕ))
-    (waited waits : List ℕ) (stop : Stop) → z ≡ sizes_of trace.header → lines ≡ trace.lines → waited ≡ []
-    → IsStart (sizes_of trace.header) trace.lines start → RunsAndPuts z start lines count end_ before after waited waits (Err stop)
-    → WritesLines trace end_ before after (Err stop)
-writes_first trace z lines count start end_ before after waited waits stop sizes are none is_start puts =
-    let of_trace : RunsAndPuts (sizes_of trace.header) start trace.lines count end_ before after [] waits (Err stop) =
-    subst (λ (w : List ℕ). RunsAndPuts (sizes_of trace.header) start trace.lines count end_ before after w waits (Err stop)) none
-    (subst (λ (ls : List Line). RunsAndPuts (sizes_of trace.header) start ls count end_ before after waited waits (Err stop)) are
-    (subst (λ (y : Sizes). RunsAndPuts y start lines count end_ before after waited waits (Err stop)) sizes puts)) in
-    first of_trace
-  where
-    first : RunsAndPuts (sizes_of trace.header) start trace.lines count end_ before after [] waits (Err stop) → WritesLines trace end_ before after (Err stop)
-    first (ran, few, r, may, prefix) = (text (history start r.steps), stopped_replay trace ran start end_ stop is_start r may, prefix)
+    -- It stopped at a line.
+    pub replay_stopped : (count : ℕ) (stop : Stop) → PrintsLines prints stops z start lines count end_ p q (Err stop)
+        → PrintsReplayed prints stops trace end_ p q (Err stop)
+    unfolding replays
+    replay_stopped count stop puts = first (of_trace count (Err stop) puts)
+      where
+        first : PrintsLines prints stops (sizes_of trace.header) start trace.lines count end_ p q (Err stop)
+            → PrintsReplayed prints stops trace end_ p q (Err stop)
+        first (ran, few, r, most) =
+            inl (ran, text (history start r.steps), replays trace (take ran trace.lines) start end_ (text (history start r.steps)) is_start r refl, most)
 
--- All lines ran, and what waits is written, or a prefix of it.
-pub writes_all : (trace : Trace) (z : Sizes) (lines : List Line) (count : ℕ) (start end_ : World Held) (before here after : Option (List ℕ))
-    (waited waits piece : List ℕ) (r : Result (Unit {0}) Stop) → z ≡ sizes_of trace.header → lines ≡ trace.lines → count ≡ length lines → waited ≡ []
-    → IsStart (sizes_of trace.header) trace.lines start → RunsAndPuts z start lines count end_ before here waited waits (Ok tt) → piece ≡ waits
-    → Wrote here after r piece → (bytes : List ℕ) × Replays trace trace.lines bytes end_ × WroteMost before after r bytes
-writes_all trace z lines count start end_ before here after waited waits piece r sizes are whole none is_start puts same wrote =
-    let of_trace : RunsAndPuts (sizes_of trace.header) start trace.lines count end_ before here [] waits (Ok tt) =
-    subst (λ (w : List ℕ). RunsAndPuts (sizes_of trace.header) start trace.lines count end_ before here w waits (Ok tt)) none
-    (subst (λ (ls : List Line). RunsAndPuts (sizes_of trace.header) start ls count end_ before here waited waits (Ok tt)) are
-    (subst (λ (y : Sizes). RunsAndPuts y start lines count end_ before here waited waits (Ok tt)) sizes puts)) in
-    all (subst Put (ap (λ (n : ℕ). take n trace.lines) (whole ∙ ap (λ (ls : List Line). length ls) are) ∙ take-length trace.lines) of_trace)
-  where
-    -- these lines ran, and what they print was put
-    Put : List Line → Type 0
-    Put ls = (ran : RunsLines (sizes_of trace.header) start ls end_) × Buffers before here [] waits (Ok tt) (text (history start ran.steps))
+    -- all lines, from the first ones that are all
+    all_lines : (count : ℕ) → count ≡ length lines → PrintsLines prints stops z start lines count end_ p q (Ok tt)
+        → (r : RunsLines (sizes_of trace.header) start trace.lines end_) × prints p (turns_from start r.steps) q
+    all_lines count whole puts =
+        subst (λ (ls : List Line). (r : RunsLines (sizes_of trace.header) start ls end_) × prints p (turns_from start r.steps) q)
+        (ap (λ (n : ℕ). take n trace.lines) (whole ∙ ap (λ (ls : List Line). length ls) are) ∙ take-length trace.lines) (of_trace count (Ok tt) puts)
 
-    all : Put trace.lines → (bytes : List ℕ) × Replays trace trace.lines bytes end_ × WroteMost before after r bytes
-    all (ran, put) = (
-      text (history start ran.steps),
-      replays trace trace.lines start end_ (text (history start ran.steps)) is_start ran refl,
-      ends_most before here after waits (text (history start ran.steps)) r put (subst (Wrote here after r) same wrote),
-    )
+    -- All lines ran, and the end is printed, or that stopped.
+    pub replay_over : (count : ℕ) (v : V) → count ≡ length lines → PrintsLines prints stops z start lines count end_ p q (Ok tt)
+        → prints q (Over None ∷ []) v → PrintsReplayed prints stops trace end_ p v (Ok None)
+    unfolding replays
+    replay_over count v whole puts put =
+        let A = all_lines count whole puts in (
+          text (history start A.0.steps),
+          replays trace trace.lines start end_ (text (history start A.0.steps)) is_start A.0 refl,
+          L.both p q v (turns_from start A.0.steps) (Over None ∷ []) A.1 put,
+        )
 
--- How a replay ended says what it wrote.
-module _ (trace : Trace) (closing : World Held) (before after : Option (List ℕ)) where
-  pub replays_by : (came : Result (Option OpenLine) Stop) (how : How) → how_ended came ≡ Some how → WritesLines trace closing before after came
-      → ReplaysBy trace closing before after how
-  replays_by (Ok None) how is writes = let e : Done ≡ how = cc is in subst (ReplaysBy trace closing before after) e writes
-  replays_by (Ok (Some line)) how is writes = absurd writes
-  replays_by (Err Failed) how is writes = let e : WriteFault ≡ how = cc is in subst (ReplaysBy trace closing before after) e writes
-  replays_by (Err NoMemory) how is writes = absurd (cc is)
+    pub replay_stopped_over : (count : ℕ) (v : V) (stop : Stop) → count ≡ length lines → PrintsLines prints stops z start lines count end_ p q (Ok tt)
+        → stops q (Over None ∷ []) stop v → PrintsReplayed prints stops trace end_ p v (Err stop)
+    unfolding replays
+    replay_stopped_over count v stop whole puts most =
+        let A = all_lines count whole puts in inr (
+          text (history start A.0.steps),
+          replays trace trace.lines start end_ (text (history start A.0.steps)) is_start A.0 refl,
+          L.stopped p q v (turns_from start A.0.steps) (Over None ∷ []) stop A.1 most,
+        )
 
-  pub replay_refused : (came : Result (Option OpenLine) Stop) → how_ended came ≡ None → WritesLines trace closing before after came
-      → WritesLines trace closing before after (Err NoMemory)
-  replay_refused (Ok None) is writes = absurd (cc is)
-  replay_refused (Ok (Some line)) is writes = absurd writes
-  replay_refused (Err Failed) is writes = absurd (cc is)
-  replay_refused (Err NoMemory) is writes = writes
+  -- How a replay ended says how it was printed.
+  module _ (closing : World Held) (p q : V) where
+    pub replay_refused : (came : Result (Option OpenLine) Stop) → how_ended came ≡ None → PrintsReplayed prints stops trace closing p q came
+        → PrintsReplayed prints stops trace closing p q (Err NoMemory)
+    replay_refused (Ok None) is puts = absurd (cc is)
+    replay_refused (Ok (Some line)) is puts = absurd puts
+    replay_refused (Err Failed) is puts = absurd (cc is)
+    replay_refused (Err NoMemory) is puts = puts
+
+    pub replays_by : (came : Result (Option OpenLine) Stop) (how : How) → how_ended came ≡ Some how → PrintsReplayed prints stops trace closing p q came
+        → ReplayPrinted prints stops trace closing p q how
+    replays_by (Ok None) how is puts = let e : Done ≡ how = cc is in subst (ReplayPrinted prints stops trace closing p q) e puts
+    replays_by (Ok (Some line)) how is puts = absurd puts
+    replays_by (Err Failed) how is puts = let e : WriteFault ≡ how = cc is in subst (ReplayPrinted prints stops trace closing p q) e puts
+    replays_by (Err NoMemory) how is puts = absurd (cc is)

@@ -96,29 +96,33 @@ adds_none (Some ss) = ap (λ (xs : List (Step Kind)). Some xs) (sym (append-nil 
 
 -- The seat may have taken room meanwhile.
 pub part_starts : (line : Line) (start here : Seat) → here.hand ≡ start.hand → here.tells ≡ start.tells → start.hand.state.place ≡ place.Between
-    → slice_get start.hand.lines (length start.hand.answers) ≡ Some line → LineIsAlone start → PartRun line start.actor start here
-part_starts line start here hand tells idle first L = record {
-  before = L.world;
-  is = L.is;
-  sound = L.alone.sound;
-  idle = ap (λ (g : Held). g.state.place) L.has ∙ idle;
-  line_is = rw hand (next_is start.hand.state.place start.hand line idle first);
-  same = rw hand (record { actor = refl; sizes = refl; lines = refl });
-  answers = ap (λ (h : Held). h.answers) hand;
-  steps = [];
-  own = All-nil (λ s. s.actor ≡ start.actor);
-  legal = tt;
-  ends = ap (λ (t : Told). t.world) tells ∙ L.is;
-  has = L.has ∙ sym hand;
-  so_far = rw hand (none_told start.hand.state.place line idle);
-  fed = tt;
-  lowest = λ lines w ss is legal ends takes. subst (λ (l : List (Step Kind)). TakeLowest start.hand.state.sizes first_flat (history w l))
-      (sym (append-nil ss)) takes;
-  nearer = tt;
-  alone = L.alone;
-  few = rw hand (all_left line start (next_is start.hand.state.place start.hand line idle first) L);
-  added = rw tells (adds_none start.tells.steps);
-}
+    → slice_get start.hand.lines (length start.hand.answers) ≡ Some line → LineIsAlone start
+    → (part : PartRun line start.actor start here) × (part.steps ≡ [])
+part_starts line start here hand tells idle first L = (
+  record {
+    before = L.world;
+    is = L.is;
+    sound = L.alone.sound;
+    idle = ap (λ (g : Held). g.state.place) L.has ∙ idle;
+    line_is = rw hand (next_is start.hand.state.place start.hand line idle first);
+    same = rw hand (record { actor = refl; sizes = refl; lines = refl });
+    answers = ap (λ (h : Held). h.answers) hand;
+    steps = [];
+    own = All-nil (λ s. s.actor ≡ start.actor);
+    legal = tt;
+    ends = ap (λ (t : Told). t.world) tells ∙ L.is;
+    has = L.has ∙ sym hand;
+    so_far = rw hand (none_told start.hand.state.place line idle);
+    fed = tt;
+    lowest = λ lines w ss is legal ends takes. subst (λ (l : List (Step Kind)). TakeLowest start.hand.state.sizes first_flat (history w l))
+        (sym (append-nil ss)) takes;
+    nearer = tt;
+    alone = L.alone;
+    few = rw hand (all_left line start (next_is start.hand.state.place start.hand line idle first) L);
+    added = rw tells (adds_none start.tells.steps);
+  },
+  refl,
+)
 
 -- One step more.
 
@@ -235,7 +239,8 @@ module _ (turn : Turn Answer) (line : Line) (start from to : Seat) (left : lengt
       (subst (λ (h : Held). outcome_of h S.found ≡ Ends (answer_without map)) (sym part.has) is))
 
   -- A turn that says More leaves the line under way, alone and nearer to its end.
-  pub goes_by : (q : Place) → o ≡ Goes q → GoesOn (line_of a) a b → IsSameHand a b → PartRun line actor start to × (hand_left b < hand_left a)
+  pub goes_by : (q : Place) → o ≡ Goes q → GoesOn (line_of a) a b → IsSameHand a b
+      → (on : PartRun line actor start to) × (hand_left b < hand_left a) × (on.steps ≡ steps)
   goes_by q is says same =
       let near : ToldAlone (Goes q) z actor a b behind = subst (λ (p : Outcome). ToldAlone p z actor a b behind) is comes in
       let opened : IsOpen line (history part.before steps) = subst (λ (p : Outcome). events.Tells p line (history part.before steps)) is tells_line in (
@@ -261,6 +266,7 @@ module _ (turn : Turn Answer) (line : Line) (start from to : Seat) (left : lengt
           added = adds_on start.tells.steps from.tells.steps to.tells.steps actor part.steps S.kind part.added S.steps;
         },
         near.1,
+        refl,
       )
 
   -- One that is done has its answer, and all actors rest.

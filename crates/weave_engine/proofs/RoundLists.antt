@@ -2,7 +2,6 @@
 use Rattle.std.proofs.Common.{◌≡◌, ◌⊎◌, inl, inr, ◌<◌, ◌≤◌, ◌+◌, ◌-◌, ℕ, suc, List, [], ◌∷◌, Ok, Err, length, length-append, refl, sym, ap, subst, ◌∙◌, arith}
 use Rattle.std.proofs.lemmas.Bool.Decides.{nat_tests}
 use Rattle.std.specs.Prelude.{Bool, true, false, nat_lt, if◌then◌else◌}
-use Rattle.std.specs.declared.option.Option.{Option}
 use Rattle.core_views.specs.declared.kind.Kind.{Kind}
 use Rattle.core_views.specs.declared.sizes.Sizes.{Sizes}
 use Rattle.core_views.specs.Held.{Held}
@@ -10,13 +9,13 @@ use Rattle.core_views.specs.Sizes.{actors_of}
 use Rattle.mmu_core.specs.machine.Enabled.{mmu}
 use Rattle.mmu_core.specs.machine.Machine.{Step, World, run}
 use Rattle.tdp_io.specs.declared.sink.Stop.{Stop}
-use Rattle.weave_engine.specs.Turned.{MakesTurn, PutsRun, PutsTurn}
+use Rattle.weave_engine.specs.Marks.{Mark, Rounds}
+use Rattle.weave_engine.specs.Turned.{MakesTurn, PrintsRun, PrintsTurn}
 use Rattle.weave_engine.specs.Rounds.{AllAnswered, IsNextInRound, IsNextPlace, RunsRounds, place_behind}
-use Rattle.weave_engine.specs.Turning.{HasLineLeft, HasNoLineLeft}
+use Rattle.weave_engine.specs.Turning.{AreMarkedAfter, HasLineLeft, HasNoLineLeft}
 use Rattle.weave_engine.specs.Weaves.{RunsAllRounds, RunsSomeRounds}
-use Rattle.weave_engine.specs.Writes.{Buffers}
-use Rattle.weave_engine.proofs.Coming.{SoFar, puts_all, puts_stopped, puts_stopped_at, so_far_then, turn_there}
-use Rattle.weave_engine.proofs.ItemTurns.{MadeTurn, nothing_more}
+use Rattle.weave_engine.proofs.Coming.{Printing, SoFar, nothing_more, one_turn_more, run_ends, run_stopped, run_stopped_at, turn_there}
+use Rattle.weave_engine.proofs.ItemTurns.{MadeTurn}
 use Rattle.weave_engine.proofs.TurnLists.{rounds_more}
 
 -- Turns were made in rounds, so many; after the last one so many actors had no line left, and the actor at this place is next.
@@ -88,101 +87,112 @@ none_made z w = record {
   count = refl;
 }
 
-module _ (z : Sizes) (index passed made next : ℕ) (w t u : World Held) (before here after : Option (List ℕ)) (waited waits more : List ℕ)
-    (F : SoFar (InRounds z index passed made) w t before here waited waits) (some : passed < actors_of z) where
+-- the turns in rounds after the mark that says that they begin
+abbrev pub RoundsSoFar : {V : Type 0} → (V → List Mark → V → Type 0) → Sizes → ℕ → ℕ → ℕ → World Held → World Held → V → V → Type 0
+RoundsSoFar prints z index passed made = SoFar prints (AreMarkedAfter Rounds (InRounds z index passed made))
+
+module _ {V : Type 0} (prints : V → List Mark → V → Type 0) (stops : V → List Mark → Stop → V → Type 0) (L : Printing prints stops) (z : Sizes)
+    (index passed made next : ℕ) (w t u : World Held) (p q r : V) (F : RoundsSoFar prints z index passed made w t p q) (some : passed < actors_of z) where
   pub index_within : index < actors_of z
-  index_within = subst (λ (n : ℕ). n < actors_of z) (sym (F.holds.at some)) (place_within (actors_of z) F.holds.first passed F.holds.first_within some)
+  index_within = subst (λ (n : ℕ). n < actors_of z) (sym (F.holds.0.at some)) (place_within (actors_of z) F.holds.0.first passed F.holds.0.first_within some)
 
   -- One actor more has no line left.
-  pub passes : IsNextPlace (actors_of z) index next → HasNoLineLeft index t → u ≡ t → Buffers here after waits more (Ok tt) []
-      → SoFar (InRounds z next (passed + 1) made) w u before after waited more
+  pub passes : IsNextPlace (actors_of z) index next → HasNoLineLeft index t → u ≡ t → prints q [] r → RoundsSoFar prints z next (passed + 1) made w u p r
   passes step none same put =
-      let G : SoFar (InRounds z index passed made) w u before after waited more =
-      nothing_more (InRounds z index passed made) w t u before here after waited waits more F same put in
+      let G : RoundsSoFar prints z index passed made w u p r =
+      nothing_more prints stops L (AreMarkedAfter Rounds (InRounds z index passed made)) w t u p q r F same put in
+      let H = G.holds.0 in
       record {
         steps = G.steps;
         bytes = G.bytes;
-        holds = record {
-          first = G.holds.first;
-          rounds = G.holds.rounds;
-          first_within = G.holds.first_within;
-          at = λ lt. next_place (actors_of z) G.holds.first passed index next G.holds.first_within lt (G.holds.at some) step;
-          none_left = λ i lt. none_there G i lt;
-          count = G.holds.count;
-        };
+        marks = G.marks;
+        holds = (
+          record {
+            first = H.first;
+            rounds = H.rounds;
+            first_within = H.first_within;
+            at = λ lt. next_place (actors_of z) H.first passed index next H.first_within lt (H.at some) step;
+            none_left = λ i lt. none_there G i lt;
+            count = H.count;
+          },
+          G.holds.1,
+        );
         comes = G.comes;
         put = G.put;
       }
     where
-      none_there : (G : SoFar (InRounds z index passed made) w u before after waited more) (i : ℕ) → i < passed + 1
-          → HasNoLineLeft (place_behind (actors_of z) G.holds.first i) (run mmu w G.steps)
+      none_there : (G : RoundsSoFar prints z index passed made w u p r) (i : ℕ) → i < passed + 1
+          → HasNoLineLeft (place_behind (actors_of z) G.holds.0.first i) (run mmu w G.steps)
       none_there G i lt = by (nat_lt i passed) refl
         where
-          by : (b : Bool) → nat_lt i passed ≡ b → HasNoLineLeft (place_behind (actors_of z) G.holds.first i) (run mmu w G.steps)
-          by true e = G.holds.none_left i (grind (arith, nat_tests))
+          by : (b : Bool) → nat_lt i passed ≡ b → HasNoLineLeft (place_behind (actors_of z) G.holds.0.first i) (run mmu w G.steps)
+          by true e = G.holds.0.none_left i (grind (arith, nat_tests))
           by false e =
               let is : passed ≡ i = grind (arith, nat_tests) in
-              subst (λ (n : ℕ). HasNoLineLeft (place_behind (actors_of z) G.holds.first n) (run mmu w G.steps)) is
-              (subst (λ (n : ℕ). HasNoLineLeft n (run mmu w G.steps)) (G.holds.at some)
+              subst (λ (n : ℕ). HasNoLineLeft (place_behind (actors_of z) G.holds.0.first n) (run mmu w G.steps)) is
+              (subst (λ (n : ℕ). HasNoLineLeft n (run mmu w G.steps)) (G.holds.0.at some)
               (subst (λ (x : World Held). HasNoLineLeft index x) (sym (G.comes.ends ∙ same)) none))
 
   -- its turn, in the round
-  in_round : (stop : Bool) (bytes : List ℕ) (M : MakesTurn index t u stop bytes) → IsNextInRound z F.holds.first (run mmu w F.steps) M.step
+  in_round : (stop : Bool) (bytes : List ℕ) (M : MakesTurn index t u stop bytes) → IsNextInRound z F.holds.0.first (run mmu w F.steps) M.step
   in_round stop bytes M =
-      let there = (turn_there (InRounds z index passed made) w t u before here waited waits index stop bytes F M).0 in
+      let there = (turn_there prints stops L (Rounds ∷ []) (InRounds z index passed made) w t u p q r F index stop bytes M).0 in
       record {
         far = passed;
         within = some;
-        is = there.own ∙ F.holds.at some;
+        is = there.own ∙ F.holds.0.at some;
         left = subst (λ (a : ℕ). HasLineLeft a (run mmu w F.steps)) (sym there.own) there.left;
-        passed = F.holds.none_left;
+        passed = F.holds.0.none_left;
       }
 
   -- One turn more.
-  pub turns : IsNextPlace (actors_of z) index next → MadeTurn index t u here after waits more
-      → SoFar (InRounds z next 0 (made + 1)) w u before after waited more
+  pub turns : IsNextPlace (actors_of z) index next → MadeTurn prints stops L index t u q r → RoundsSoFar prints z next 0 (made + 1) w u p r
   turns step M =
-      so_far_then (InRounds z index passed made) (InRounds z next 0 (made + 1)) w t u before here after waited waits more (M.makes.step ∷ []) M.bytes
-      F M.makes.comes M.put
+      one_turn_more prints stops L (Rounds ∷ []) (InRounds z index passed made) w t u p q r F (InRounds z next 0 (made + 1)) index M.stop M.bytes M.makes
+      M.put
       (record {
         first = suc M.makes.step.actor;
-        rounds = rounds_more z 0 F.holds.first w F.steps M.makes.step F.holds.rounds (in_round M.stop M.bytes M.makes);
+        rounds = rounds_more z 0 F.holds.0.first w F.steps M.makes.step F.holds.0.rounds (in_round M.stop M.bytes M.makes);
         first_within = let own = M.makes.turn.own in let lt = index_within in omega (arith, own, lt);
         at =
             λ lt. subst (λ (a : ℕ). next ≡ place_behind (actors_of z) (suc a) 0) (sym M.makes.turn.own)
             (fresh_place (actors_of z) index next index_within step);
         none_left = λ i lt. absurd (omega (arith, lt));
-        count = length-append F.steps (M.makes.step ∷ []) ∙ ap (λ (n : ℕ). n + 1) F.holds.count;
+        count = length-append F.steps (M.makes.step ∷ []) ∙ ap (λ (n : ℕ). n + 1) F.holds.0.count;
       })
 
-  pub rounds_stop : (limit : ℕ) (stop : Stop) → made < limit → PutsTurn index t u here after waits more (Err stop)
-      → PutsRun (RunsAllRounds z limit) (RunsSomeRounds z limit) w u before after waited more (Err stop)
-  rounds_stop limit stop lt (inl (full, same, prefix)) =
-      puts_stopped (InRounds z index passed made) (RunsAllRounds z limit) (RunsSomeRounds z limit) w t u before here after waited waits more stop F
-      full same prefix
-      (record { next = F.holds.first; rounds = F.holds.rounds; few = let c = F.holds.count in omega (arith, c, lt) })
-  rounds_stop limit stop lt (inr (bytes, M, answers, prefix)) =
-      puts_stopped_at (InRounds z index passed made) (RunsAllRounds z limit) (RunsSomeRounds z limit) w t u before here after waited waits more stop
-      index bytes F M answers prefix
+  pub rounds_stop : (limit : ℕ) (stop : Stop) → made < limit → PrintsTurn prints stops index t u q r (Err stop)
+      → PrintsRun prints stops (AreMarkedAfter Rounds (RunsAllRounds z limit)) (AreMarkedAfter Rounds (RunsSomeRounds z limit)) w u p r (Err stop)
+  rounds_stop limit stop lt (inl (same, most)) =
+      run_stopped prints stops L (AreMarkedAfter Rounds (InRounds z index passed made)) w t u p q r F (AreMarkedAfter Rounds (RunsAllRounds z limit))
+      (AreMarkedAfter Rounds (RunsSomeRounds z limit)) stop same most
+      (record { next = F.holds.0.first; rounds = F.holds.0.rounds; few = let c = F.holds.0.count in omega (arith, c, lt) }, F.holds.1)
+  rounds_stop limit stop lt (inr (bytes, line_stops, M, most)) =
+      run_stopped_at prints stops L (Rounds ∷ []) (InRounds z index passed made) w t u p q r F (RunsAllRounds z limit) (RunsSomeRounds z limit) stop index
+      line_stops bytes M most
       (record {
         next = suc M.step.actor;
-        rounds = rounds_more z 0 F.holds.first w F.steps M.step F.holds.rounds (in_round true bytes M);
-        few = let c = F.holds.count in let n = length-append F.steps (M.step ∷ []) in omega (arith, c, n, lt);
+        rounds = rounds_more z 0 F.holds.0.first w F.steps M.step F.holds.0.rounds (in_round line_stops bytes M);
+        few = let c = F.holds.0.count in let n = length-append F.steps (M.step ∷ []) in omega (arith, c, n, lt);
       })
 
 -- The rounds are over: all turns are made, or each actor was passed.
-pub rounds_over : (z : Sizes) (limit index passed made : ℕ) (w t : World Held) (before here : Option (List ℕ)) (waited waits : List ℕ)
-    → SoFar (InRounds z index passed made) w t before here waited waits → made ≤ limit → (passed < actors_of z → made < limit → ⊥)
-    → PutsRun (RunsAllRounds z limit) (RunsSomeRounds z limit) w t before here waited waits (Ok tt)
-rounds_over z limit index passed made w t before here waited waits F few over =
-    puts_all (InRounds z index passed made) (RunsAllRounds z limit) (RunsSomeRounds z limit) w t before here waited waits F
-    (record {
-      some = record { next = H.first; rounds = H.rounds; few = let c = H.count in omega (arith, c, few) };
-      over = by (nat_lt made limit) (nat_lt passed (actors_of z)) refl refl;
-    })
+pub rounds_over : {V : Type 0} (prints : V → List Mark → V → Type 0) (stops : V → List Mark → Stop → V → Type 0) → Printing prints stops → (z : Sizes)
+    (limit index passed made : ℕ) (w t : World Held) (p q : V) → RoundsSoFar prints z index passed made w t p q → made ≤ limit
+    → (passed < actors_of z → made < limit → ⊥)
+    → PrintsRun prints stops (AreMarkedAfter Rounds (RunsAllRounds z limit)) (AreMarkedAfter Rounds (RunsSomeRounds z limit)) w t p q (Ok tt)
+rounds_over prints stops L z limit index passed made w t p q F few over =
+    run_ends prints stops L (AreMarkedAfter Rounds (InRounds z index passed made)) (AreMarkedAfter Rounds (RunsAllRounds z limit))
+    (AreMarkedAfter Rounds (RunsSomeRounds z limit)) w t p q F (
+      record {
+        some = record { next = H.first; rounds = H.rounds; few = let c = H.count in omega (arith, c, few) };
+        over = by (nat_lt made limit) (nat_lt passed (actors_of z)) refl refl;
+      },
+      F.holds.1,
+    )
   where
     H : InRounds z index passed made w F.steps
-    H = F.holds
+    H = F.holds.0
 
     -- which of those passed an actor is
     which : (i : ℕ) → i < actors_of z → actors_of z ≤ passed → HasNoLineLeft i (run mmu w F.steps)

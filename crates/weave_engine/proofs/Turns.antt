@@ -1,8 +1,7 @@
 -- A turn on the machine is one step of the actor's line.
-use Rattle.std.proofs.Common.{◌≡◌, ◌<◌, ◌≤◌, ◌⊎◌, ◌++◌, ◌-◌, inl, inr, ℕ, List, [], ◌∷◌, Ok, Err, get_or, length, refl, sym, ap, subst, ◌∙◌, arith}
+use Rattle.std.proofs.Common.{◌≡◌, ◌<◌, ◌⊎◌, ◌++◌, ◌-◌, inl, inr, ℕ, List, [], ◌∷◌, get_or, length, refl, sym, ap, subst, ◌∙◌, arith}
 use Rattle.std.proofs.Math.Logic.{∥∥₁_elim}
 use Rattle.std.proofs.Props.{props}
-use Rattle.std.proofs.KnownBytes.{Appends-nil}
 use Rattle.std.proofs.lemmas.Bool.Decides.{nat_tests}
 use Rattle.std.proofs.lemmas.List.{append-nil, get_or_push, length_push}
 use Rattle.std.proofs.lemmas.List.Elements.{All-get_or}
@@ -34,19 +33,14 @@ use Rattle.step_seats.specs.Seats.{Seat}
 use Rattle.step_seats.specs.Moves.{ToldBy, step_by}
 use Rattle.step_seats.specs.Where.{HasHand}
 use Rattle.step_seats.specs.declared.turn.Turn.{Turn}
-use Rattle.step_seats.specs.declared.turn.Turn.TheVariants.{Done, Retry, Wait}
-use Rattle.tdp_io.specs.declared.sink.Stop.{Stop}
+use Rattle.step_seats.specs.declared.turn.Turn.TheVariants.{Done, More, Retry, Wait}
 use Rattle.step_seats.specs.LineTurns.{AnswersBy, Says, TurnsLine, line_turn, turn_told}
 use Rattle.step_seats.proofs.LineTurns.{EndsSo, GoesSo, line_case, turns_say}
 use Rattle.weave_engine.specs.Given.{IsLastAnswer, given_in, told_in}
-use Rattle.weave_engine.specs.Pieces.{most_waiting}
-use Rattle.weave_engine.specs.Turned.{ComesTo, IsTurnOf, MakesTurn, PutsTurn, TurnedOn, TurnedTold, is_stop, next_code_in, open_line, turn_text}
-use Rattle.weave_engine.specs.Writes.{Buffers}
-use Rattle.weave_engine.specs.declared.turning.Turned.TheVariants.{Stopped}
+use Rattle.weave_engine.specs.Turned.{ComesTo, IsTurnOf, MakesTurn, TurnedOn, TurnedTold, is_stop, next_code_in, open_line, turn_text}
 use Rattle.weave_engine.specs.Turning.{AnswersLine, is_ended}
 use Rattle.weave_engine.specs.declared.turning.TurnMade.{TurnMade}
 use Rattle.weave_engine.proofs.TurnEnds.{turn_is}
-use Rattle.weave_engine.proofs.Writes.{few_last}
 
 -- which line is open
 pub open_is : (h : Held) (line : Line) → open_line h ≡ Some line → (has_line h ≡ true) × (line ≡ line_of h)
@@ -163,7 +157,7 @@ done_says : (made : TurnMade) (actor : ℕ) (w t : World Held) → made.turn ≡
 done_says made actor w t done T =
     subst (λ (x : Turn (Unit {0})). Says (told_in x actor w t) (line_of (hand_in mmu w actor)) (hand_in mmu w actor) (hand_in mmu t actor)) done T.says
 
-done_so : (made : TurnMade) (actor : ℕ) (w t : World Held) (answer : Answer) → made.turn ≡ Done tt → TurnedOn (Some made) actor w t
+pub done_so : (made : TurnMade) (actor : ℕ) (w t : World Held) (answer : Answer) → made.turn ≡ Done tt → TurnedOn (Some made) actor w t
     → IsLastAnswer answer (hand_in mmu t actor) → told_in made.turn actor w t ≡ Done answer
 done_so made actor w t answer done T last =
     ap (λ (x : Turn (Unit {0})). told_in x actor w t) done
@@ -187,52 +181,38 @@ pub done_has : (made : TurnMade) (actor : ℕ) (w t : World Held) → made.turn 
 done_has made actor w t done T =
     some_answer (line_of (hand_in mmu w actor)) (given_in actor w t) (hand_in mmu w actor) (hand_in mmu t actor) (done_says made actor w t done T)
 
--- What such a turn puts.
-pub puts_done : (made : TurnMade) (actor : ℕ) (w t : World Held) (answer : Answer) (before after : Option (List ℕ)) (waited waits : List ℕ)
-    → made.turn ≡ Done tt → TurnedOn (Some made) actor w t → IsLastAnswer answer (hand_in mmu t actor)
-    → Buffers before after waited waits (Ok tt) (line_text made.number made.actor answer) → PutsTurn actor w t before after waited waits (Ok Stopped)
-puts_done made actor w t answer before after waited waits done T last puts = (
-  line_text made.number made.actor answer,
-  subst (λ (x : Turn Answer). MakesTurn actor w t (is_stop x) (turn_text made.number made.actor x)) (done_so made actor w t answer done T last) T.makes,
-  puts,
-)
+-- A turn with which the line goes on, waits or begins anew prints nothing.
+pub more_made : (made : TurnMade) (actor : ℕ) (w t : World Held) → made.turn ≡ More → TurnedOn (Some made) actor w t → MakesTurn actor w t false []
+more_made made actor w t is T =
+    subst (λ (x : Turn (Unit {0})). MakesTurn actor w t (is_stop (told_in x actor w t)) (turn_text made.number made.actor (told_in x actor w t))) is
+    T.makes
 
--- And where the writing stops.
-pub stops_done : (made : TurnMade) (actor : ℕ) (w t : World Held) (answer : Answer) (before after : Option (List ℕ)) (waited waits : List ℕ) (stop : Stop)
-    → made.turn ≡ Done tt → TurnedOn (Some made) actor w t → IsLastAnswer answer (hand_in mmu t actor)
-    → length waited ≤ most_waiting → Buffers before after waited waits (Err stop) (line_text made.number made.actor answer)
-    → PutsTurn actor w t before after waited waits (Err stop)
-stops_done made actor w t answer before after waited waits stop done T last few prefix =
+pub waiting_made : (made : TurnMade) (actor : ℕ) (w t : World Held)
+    → ((seen : Seen) × (made.turn ≡ Wait seen)) ⊎ ((cause : Cause) × (made.turn ≡ Retry cause)) → TurnedOn (Some made) actor w t
+    → MakesTurn actor w t true []
+waiting_made made actor w t (inl (seen, is)) T =
+    subst (λ (x : Turn (Unit {0})). MakesTurn actor w t (is_stop (told_in x actor w t)) (turn_text made.number made.actor (told_in x actor w t))) is
+    T.makes
+waiting_made made actor w t (inr (cause, is)) T =
+    subst (λ (x : Turn (Unit {0})). MakesTurn actor w t (is_stop (told_in x actor w t)) (turn_text made.number made.actor (told_in x actor w t))) is
+    T.makes
+
+-- One that answers its line prints this.
+pub done_made : (made : TurnMade) (actor : ℕ) (w t : World Held) (answer : Answer) → made.turn ≡ Done tt → TurnedOn (Some made) actor w t
+    → IsLastAnswer answer (hand_in mmu t actor) → (M : MakesTurn actor w t true (line_text made.number made.actor answer)) × AnswersLine w M.step
+done_made made actor w t answer done T last =
     let turn : Turn Answer = told_in made.turn actor w t in
     let is : turn ≡ Done answer = done_so made actor w t answer done T last in
     at (turn_text made.number made.actor turn) (ap (λ (x : Turn Answer). turn_text made.number made.actor x) is) (is_stop turn) (ap is_stop is) T.makes
     (answers_line made.number made.actor turn actor w t answer is T)
   where
     at : (bytes : List ℕ) → bytes ≡ line_text made.number made.actor answer → (stopped : Bool) → stopped ≡ true
-        → (M : MakesTurn actor w t stopped bytes) → AnswersLine w M.step → PutsTurn actor w t before after waited waits (Err stop)
-    at bytes same stopped stops_ M A = inr (
-      line_text made.number made.actor answer,
+        → (M : MakesTurn actor w t stopped bytes) → AnswersLine w M.step
+        → (M : MakesTurn actor w t true (line_text made.number made.actor answer)) × AnswersLine w M.step
+    at bytes same stopped stops_ M A = (
       record { step = M.step; turn = M.turn; stops_ = M.stops_ ∙ stops_; comes = subst (λ (x : List ℕ). ComesTo w (M.step ∷ []) t x) same M.comes },
       A,
-      few_last before after waited (line_text made.number made.actor answer) few (inr (inl (made.number, made.actor, answer, refl))) prefix,
     )
-
--- A turn that waits, or begins anew, puts nothing.
-pub puts_waiting : (made : TurnMade) (actor : ℕ) (w t : World Held) (written : Option (List ℕ)) (waited : List ℕ) → length waited ≤ most_waiting
-    → ((seen : Seen) × (made.turn ≡ Wait seen)) ⊎ ((cause : Cause) × (made.turn ≡ Retry cause)) → TurnedOn (Some made) actor w t
-    → PutsTurn actor w t written written waited waited (Ok Stopped)
-puts_waiting made actor w t written waited few (inl (seen, is)) T = (
-  [],
-  subst (λ (x : Turn (Unit {0})). MakesTurn actor w t (is_stop (told_in x actor w t)) (turn_text made.number made.actor (told_in x actor w t))) is
-      T.makes,
-  ([], Appends-nil written, sym (append-nil waited), few),
-)
-puts_waiting made actor w t written waited few (inr (cause, is)) T = (
-  [],
-  subst (λ (x : Turn (Unit {0})). MakesTurn actor w t (is_stop (told_in x actor w t)) (turn_text made.number made.actor (told_in x actor w t))) is
-      T.makes,
-  ([], Appends-nil written, sym (append-nil waited), few),
-)
 
 -- The turn of a seat, in the world that it tells.
 pub turned_told : (before after : Seat) (line : Line) (whose : Actor) (turn : Turn (Unit {0})) → IfSome before.tells.world (HasHand before.actor before.hand)

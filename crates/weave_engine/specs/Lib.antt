@@ -1,3 +1,4 @@
+pub mod Marks
 pub mod Given
 pub mod Replays
 pub mod Turns
@@ -10,3 +11,6 @@ pub mod FirstOpen
 pub mod Weaves
 pub mod Pieces
 pub mod Woven
+pub mod Printed
+pub mod AnswerTexts
+pub mod PrinterLaws

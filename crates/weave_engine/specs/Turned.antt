@@ -1,10 +1,12 @@
--- What became of an actor's turn on the machine, and what was put with it.
-use Rattle.std.specs.Prelude.{◌≡◌, ◌⊎◌, ℕ, List, [], ◌∷◌, ◌++◌, Bool, true, false, if◌then◌else◌, Option, Some, None, IfSome, Result, Ok, Err}
+-- What became of an actor's turn on the machine, and how it was printed.
+use Rattle.std.specs.Prelude.{◌≡◌, ◌⊎◌, ℕ, List, [], ◌∷◌, Bool, true, false, if◌then◌else◌, Option, Some, None, IfSome, Result, Ok, Err}
 use Rattle.core_views.specs.declared.actor.Actor.{Actor}
 use Rattle.core_views.specs.declared.answer.Answer.{Answer}
 use Rattle.core_views.specs.declared.kind.Kind.{Kind}
+use Rattle.core_views.specs.declared.sizes.Sizes.{Sizes}
 use Rattle.core_views.specs.declared.trace.Line.{Line}
 use Rattle.core_views.specs.Held.{Held}
+use Rattle.core_views.specs.Sizes.{index_of}
 use Rattle.core_views.specs.Text.{line_text, text}
 use Rattle.mmu_core.specs.machine.Enabled.{mmu}
 use Rattle.mmu_core.specs.machine.Machine.{Legal, Step, World, answered, hand_in, run}
@@ -15,12 +17,11 @@ use Rattle.mmu_core.specs.machine.Worlds.{history}
 use Rattle.step_seats.specs.declared.turn.Turn.{Turn}
 use Rattle.step_seats.specs.declared.turn.Turn.TheVariants.{More, Wait, Retry, Done}
 use Rattle.tdp_io.specs.declared.sink.Stop.{Stop}
-use Rattle.tdp_io.specs.declared.sink.Stop.TheVariants.{NoMemory as Full}
 use Rattle.step_seats.specs.LineTurns.{AnswersBy, Says}
 use Rattle.weave_engine.specs.Given.{told_in}
-use Rattle.weave_engine.specs.Pieces.{WritesMost}
-use Rattle.weave_engine.specs.Turning.{AnswersLine, HasNoLineLeft, IsTurn, MayStop, stops}
-use Rattle.weave_engine.specs.Writes.{Buffers}
+use Rattle.weave_engine.specs.Marks.{Mark, Made, turns_from}
+use Rattle.weave_engine.specs.Replays.{RanOn}
+use Rattle.weave_engine.specs.Turning.{HasNoLineLeft, IsTurn, stops as line_stops_with}
 use Rattle.weave_engine.specs.declared.turning.TurnMade.{TurnMade}
 use Rattle.weave_engine.specs.declared.turning.Turned.{Turned}
 use Rattle.weave_engine.specs.declared.turning.Turned.TheVariants.{NoLine, Went, Stopped}
@@ -55,7 +56,7 @@ turn_text number actor _ = []
 pub record MakesTurn (actor : ℕ) (before after : World Held) (stop : Bool) (bytes : List ℕ) : Type 0 where
   pub step : Step Kind
   pub turn : IsTurn actor before step
-  pub stops_ : stops before step ≡ stop
+  pub stops_ : line_stops_with before step ≡ stop
   pub comes : ComesTo before (step ∷ []) after bytes
 
 -- The turn was one of the line that the actor's hand had under way, or else of its next one, which has this number and is this actor's. That
@@ -75,27 +76,34 @@ TurnedOn (Some made) actor before after = IsTurnOf made.number made.actor (told_
 abbrev pub TurnedTold : Option TurnMade → ℕ → Option (World Held) → Option (World Held) → Type 0
 TurnedTold made actor told tells = IfSome told (λ w. (t : World Held) × (tells ≡ Some t) × TurnedOn made actor w t)
 
--- The actor's turn was made, and what it prints was put after what waited to be written. Where that stopped, either memory was refused
--- and no step was made; or the turn answered its line. What waited, and what the turn prints, was written but for little.
-abbrev pub PutsTurn : ℕ → World Held → World Held → Option (List ℕ) → Option (List ℕ) → List ℕ → List ℕ → Result Turned Stop → Type 0
-PutsTurn actor before after written writes waited waits (Ok NoLine) =
-    HasNoLineLeft actor before × (after ≡ before) × Buffers written writes waited waits (Ok tt) []
-PutsTurn actor before after written writes waited waits (Ok Went) =
-    (bytes : List ℕ) × MakesTurn actor before after false bytes × Buffers written writes waited waits (Ok tt) bytes
-PutsTurn actor before after written writes waited waits (Ok Stopped) =
-    (bytes : List ℕ) × MakesTurn actor before after true bytes × Buffers written writes waited waits (Ok tt) bytes
-PutsTurn actor before after written writes waited waits (Err stop) =
-    ((stop ≡ Full) × (after ≡ before) × WritesMost written writes waited)
-    ⊎ ((bytes : List ℕ) × (M : MakesTurn actor before after true bytes) × AnswersLine before M.step × WritesMost written writes (waited ++ bytes))
+-- The actor's turn was made and printed. Where that stopped, no step was made, or the turn was.
+abbrev pub PrintsTurn :
+    {V : Type 0} → (V → List Mark → V → Type 0) → (V → List Mark → Stop → V → Type 0) → ℕ → World Held → World Held → V → V → Result Turned Stop → Type 0
+PrintsTurn prints stops actor before after p q (Ok NoLine) = HasNoLineLeft actor before × (after ≡ before) × prints p [] q
+PrintsTurn prints stops actor before after p q (Ok Went) =
+    (bytes : List ℕ) × (M : MakesTurn actor before after false bytes) × prints p (Made before M.step ∷ []) q
+PrintsTurn prints stops actor before after p q (Ok Stopped) =
+    (bytes : List ℕ) × (M : MakesTurn actor before after true bytes) × prints p (Made before M.step ∷ []) q
+PrintsTurn prints stops actor before after p q (Err stop) =
+    ((after ≡ before) × stops p [] stop q)
+    ⊎ ((bytes : List ℕ) × (line_stops : Bool) × (M : MakesTurn actor before after line_stops bytes) × stops p (Made before M.step ∷ []) stop q)
 
--- Steps of which this holds lead from one world to the other, and what they print was put after what waited to be written; or, where that
--- stopped, steps of which that holds were made, after which it may stop for this, and what waited and what they print
--- was written but for little.
-abbrev pub PutsRun :
-    (World Held → List (Step Kind) → Type 0) → (World Held → List (Step Kind) → Type 0) → World Held → World Held → Option (List ℕ) → Option (List ℕ)
-    → List ℕ → List ℕ → Result (Unit {0}) Stop → Type 0
-PutsRun whole part before after written writes waited waits (Ok u) =
-    (ss : List (Step Kind)) × (bytes : List ℕ) × whole before ss × ComesTo before ss after bytes × Buffers written writes waited waits (Ok u) bytes
-PutsRun whole part before after written writes waited waits (Err stop) =
-    (ss : List (Step Kind)) × (bytes : List ℕ) × part before ss × ComesTo before ss after bytes × MayStop stop before ss
-    × WritesMost written writes (waited ++ bytes)
+-- The line ran alone to its answer, and its turns were printed. Where that stopped, no step was made, or the line ran.
+abbrev pub PrintsLine :
+    {V : Type 0} → (V → List Mark → V → Type 0) → (V → List Mark → Stop → V → Type 0) → Sizes → Line → World Held → World Held → V → V
+    → Result (Unit {0}) Stop → Type 0
+PrintsLine prints stops z line before after p q (Ok u) =
+    (answer : Answer) × (R : RanOn z line answer (index_of z line.actor) before after) × prints p (turns_from before R.steps) q
+PrintsLine prints stops z line before after p q (Err stop) =
+    ((after ≡ before) × stops p [] stop q)
+    ⊎ ((answer : Answer) × (R : RanOn z line answer (index_of z line.actor) before after) × stops p (turns_from before R.steps) stop q)
+
+-- Steps of which this holds lead from one world to the other, and their marks were printed; or, where that stopped, steps of which that holds
+-- were made, and their marks were being printed.
+abbrev pub PrintsRun :
+    {V : Type 0} → (V → List Mark → V → Type 0) → (V → List Mark → Stop → V → Type 0) → (World Held → List (Step Kind) → List Mark → Type 0)
+    → (World Held → List (Step Kind) → List Mark → Type 0) → World Held → World Held → V → V → Result (Unit {0}) Stop → Type 0
+PrintsRun prints stops whole part before after p q (Ok u) =
+    (ss : List (Step Kind)) × (bytes : List ℕ) × (marks : List Mark) × whole before ss marks × ComesTo before ss after bytes × prints p marks q
+PrintsRun prints stops whole part before after p q (Err stop) =
+    (ss : List (Step Kind)) × (bytes : List ℕ) × (marks : List Mark) × part before ss marks × ComesTo before ss after bytes × stops p marks stop q

@@ -17,6 +17,7 @@ use Rattle.mmu_core.specs.machine.Steps.{has_line, place_at}
 use Rattle.mmu_core.specs.machine.Turns.{line_of, outcome_of}
 use Rattle.tdp_io.specs.declared.sink.Stop.{Stop}
 use Rattle.tdp_io.specs.declared.sink.Stop.TheVariants.{Failed, NoMemory}
+use Rattle.weave_engine.specs.Marks.{Mark, Begins, turns_from}
 
 -- The actor has a line that has no answer.
 abbrev pub HasLineLeft : ℕ → World Held → Type 0
@@ -117,15 +118,28 @@ RunsItem z item w ss = RunsBy item.until (index_of z item.actor) w ss
 abbrev pub RunsItemSoFar : Sizes → Item → World Held → List (Step Kind) → Type 0
 RunsItemSoFar z item w ss = RunsBySoFar item.until (index_of z item.actor) w ss
 
--- The items of a schedule have their turns one after another.
-abbrev pub RunsItems : Sizes → List Item → World Held → List (Step Kind) → Type 0
-RunsItems z [] w ss = ss ≡ []
-RunsItems z (item ∷ items) w ss =
-    (own : List (Step Kind)) × (rest : List (Step Kind)) × (ss ≡ own ++ rest) × RunsItem z item w own × RunsItems z items (run mmu w own) rest
+-- This holds of the steps, and the marks are these first ones and then the turns.
+abbrev pub AreMarkedFrom : List Mark → (World Held → List (Step Kind) → Type 0) → World Held → List (Step Kind) → List Mark → Type 0
+AreMarkedFrom front P w ss marks = P w ss × (marks ≡ front ++ turns_from w ss)
+
+-- the turns alone, or the turns after one mark
+abbrev pub AreMarked : (World Held → List (Step Kind) → Type 0) → World Held → List (Step Kind) → List Mark → Type 0
+AreMarked P = AreMarkedFrom [] P
+
+abbrev pub AreMarkedAfter : Mark → (World Held → List (Step Kind) → Type 0) → World Held → List (Step Kind) → List Mark → Type 0
+AreMarkedAfter mark P = AreMarkedFrom (mark ∷ []) P
+
+-- The items of a schedule have their turns one after another, those of each after the mark that says that they begin.
+abbrev pub RunsItems : Sizes → List Item → World Held → List (Step Kind) → List Mark → Type 0
+RunsItems z [] w ss marks = (ss ≡ []) × (marks ≡ [])
+RunsItems z (item ∷ items) w ss marks =
+    (own : List (Step Kind)) × (rest : List (Step Kind)) × (first : List Mark) × (later : List Mark) × (ss ≡ own ++ rest) × (marks ≡ first ++ later)
+    × AreMarkedAfter (Begins item) (RunsItem z item) w own first × RunsItems z items (run mmu w own) rest later
 
 -- So they have had, up to some turn of one of them.
-abbrev pub RunsItemsSoFar : Sizes → List Item → World Held → List (Step Kind) → Type 0
-RunsItemsSoFar z [] w ss = ss ≡ []
-RunsItemsSoFar z (item ∷ items) w ss =
-    RunsItemSoFar z item w ss ⊎ ((own : List (Step Kind)) × (rest : List (Step Kind)) × (ss ≡ own ++ rest) × RunsItem z item w own
-    × RunsItemsSoFar z items (run mmu w own) rest)
+abbrev pub RunsItemsSoFar : Sizes → List Item → World Held → List (Step Kind) → List Mark → Type 0
+RunsItemsSoFar z [] w ss marks = (ss ≡ []) × (marks ≡ [])
+RunsItemsSoFar z (item ∷ items) w ss marks =
+    ((ss ≡ []) × (marks ≡ [])) ⊎ (AreMarkedAfter (Begins item) (RunsItemSoFar z item) w ss marks
+    ⊎ ((own : List (Step Kind)) × (rest : List (Step Kind)) × (first : List Mark) × (later : List Mark) × (ss ≡ own ++ rest) × (marks ≡ first ++ later)
+    × AreMarkedAfter (Begins item) (RunsItem z item) w own first × RunsItemsSoFar z items (run mmu w own) rest later))

@@ -5,6 +5,7 @@ use Rattle.std.specs.Fmt.{decimal}
 use Rattle.core_views.specs.declared.kind.Kind.{Kind}
 use Rattle.core_views.specs.declared.place.Place.TheVariants.{Between}
 use Rattle.core_views.specs.declared.sizes.Sizes.{Sizes}
+use Rattle.core_views.specs.declared.trace.Item.{Item}
 use Rattle.core_views.specs.declared.trace.Line.{Line}
 use Rattle.core_views.specs.declared.trace.Trace.{Trace}
 use Rattle.core_views.specs.Flat.{first_flat}
@@ -25,6 +26,7 @@ use Rattle.mmu_core.specs.machine.Turns.{outcome_of}
 use Rattle.mmu_core.specs.machine.Worlds.{IsStart, history}
 use Rattle.core_theorem.specs.Delays.{answer_of, hand_of}
 use Rattle.weave_engine.specs.Beside.{AreForDelays}
+use Rattle.weave_engine.specs.Marks.{Mark, Rounds, turns_from}
 use Rattle.weave_engine.specs.Replays.{RunsLines}
 use Rattle.weave_engine.specs.Rounds.{AllAnswered, RunsRounds}
 use Rattle.weave_engine.specs.Turning.{RunsItems, RunsItemsSoFar}
@@ -49,8 +51,14 @@ pub record RunsAllRounds (z : Sizes) (limit : ℕ) (w : World Held) (ss : List (
   pub some : RunsSomeRounds z limit w ss
   pub over : (length ss ≡ limit) ⊎ AllAnswered z (run mmu w ss)
 
+-- The items had all their turns, and the marks of rounds begin with the one that says so.
+abbrev pub AreInRounds : Sizes → List Item → World Held → List (Step Kind) → List Mark → List (Step Kind) → List Mark → Type 0
+AreInRounds z items w scheduled item_marks rounds round_marks =
+    RunsItems z items w scheduled item_marks × (round_marks ≡ Rounds ∷ turns_from (run mmu w scheduled) rounds)
+
 -- The steps follow the trace as far as they come: first some lines above `go`, each alone, in file order; once all of these are answered
--- the turns of the schedule's items; and once these are over turns in rounds, from the first actor on, at most `limit`.
+-- the turns of the schedule's items; and once these are over turns in rounds, from the first actor on, at most `limit`. The marks are these
+-- turns in this order, and between them where each item and the rounds begin.
 pub record FollowsSoFar (trace : Trace) (limit : ℕ) (start : World Held) (steps : List (Step Kind)) : Type 0 where
   pub above : ℕ
   pub few_above : above ≤ lines_above trace.go
@@ -59,16 +67,21 @@ pub record FollowsSoFar (trace : Trace) (limit : ℕ) (start : World Held) (step
   pub scheduled : List (Step Kind)
   pub rounds : List (Step Kind)
   pub are : steps ≡ alone.steps ++ (scheduled ++ rounds)
-  pub items : RunsItemsSoFar (sizes_of trace.header) trace.items behind scheduled
-  pub after_go : (scheduled ++ rounds ≡ []) ⊎ (above ≡ lines_above trace.go)
+  pub item_marks : List Mark
+  pub items : RunsItemsSoFar (sizes_of trace.header) trace.items behind scheduled item_marks
+  pub after_go : ((scheduled ++ rounds ≡ []) × (item_marks ≡ [])) ⊎ (above ≡ lines_above trace.go)
   pub in_rounds : RunsSomeRounds (sizes_of trace.header) limit (run mmu behind scheduled) rounds
-  pub after_items : (rounds ≡ []) ⊎ RunsItems (sizes_of trace.header) trace.items behind scheduled
+  pub round_marks : List Mark
+  pub after_items : ((rounds ≡ []) × (round_marks ≡ [])) ⊎ AreInRounds (sizes_of trace.header) trace.items behind scheduled item_marks rounds round_marks
+  pub marks : List Mark
+  pub marks_are : marks ≡ turns_from start alone.steps ++ (item_marks ++ round_marks)
 
 -- All lines above `go` and all items of the schedule had their turns.
 pub record FollowsBoth (trace : Trace) (limit : ℕ) (start : World Held) (steps : List (Step Kind))
     (so_far : FollowsSoFar trace limit start steps) : Type 0 where
   pub all_above : so_far.above ≡ lines_above trace.go
-  pub all_items : RunsItems (sizes_of trace.header) trace.items so_far.behind so_far.scheduled
+  pub all_items :
+      AreInRounds (sizes_of trace.header) trace.items so_far.behind so_far.scheduled so_far.item_marks so_far.rounds so_far.round_marks
 
 -- From any moment on at which no line of an actor is under way, so from the one at which its line begins: the step that answers the line
 -- starved, or refuses it a frame, ends a scan of the whole map by the line's actor since that moment, which found nothing free in any of its words.

@@ -1,21 +1,16 @@
 -- What the engine's own functions promise each other of what is written.
-use Rattle.std.specs.Prelude.{◌≡◌, ◌≤◌, ℕ, List, ◌++◌, Option, Some, None, Result, Ok, Err, length, take}
+use Rattle.std.specs.Prelude.{◌≡◌, ◌≤◌, ℕ, List, ◌++◌, Option, Some, None, Result, Ok, Err, length}
 use Rattle.std.specs.Io.KnownBytes.{Appends}
 use Rattle.core_views.specs.declared.no_memory.NoMemory.{NoMemory}
-use Rattle.core_views.specs.declared.sizes.Sizes.{Sizes}
-use Rattle.core_views.specs.declared.trace.Line.{Line}
 use Rattle.core_views.specs.declared.trace.Trace.{Trace}
 use Rattle.core_views.specs.Held.{Held}
-use Rattle.core_views.specs.Text.{text}
 use Rattle.mmu_core.specs.machine.Machine.{World}
-use Rattle.mmu_core.specs.machine.Worlds.{history}
 use Rattle.step_seats.specs.Moves.{world_of}
 use Rattle.tdp_io.specs.Ends.{AppendsPrefix}
 use Rattle.tdp_io.specs.declared.sink.Stop.{Stop}
 use Rattle.tdp_io.specs.declared.sink.Stop.TheVariants.{Failed, NoMemory as Full}
 use Rattle.weave_engine.specs.Pieces.{WritesMost, most_waiting}
-use Rattle.weave_engine.specs.Replays.{Replays, ReplaysUntil, RunsLines}
-use Rattle.weave_engine.specs.Turning.{MayStop}
+use Rattle.weave_engine.specs.Replays.{Replays, ReplaysUntil}
 use Rattle.weave_engine.specs.declared.ran.How.{How}
 use Rattle.weave_engine.specs.declared.ran.How.TheVariants.{Done, WriteFault, Unfinished}
 use Rattle.weave_engine.specs.declared.ran.OpenLine.{OpenLine}
@@ -43,12 +38,3 @@ ReplaysBy trace closing before after (Unfinished actor line) = ⊥
 abbrev pub WritesReplay : Trace → Option (List ℕ) → Option (List ℕ) → Result Ran NoMemory → Type 0
 WritesReplay trace before after (Ok ran) = ReplaysBy trace (world_of ran.closing.words ran.closing.hands) before after ran.how
 WritesReplay trace before after (Err e) = (closing : World Held) × WritesLines trace closing before after (Err Full)
-
--- The first lines ran one after another, each alone, from this world to that one, and what they are answered was put after what waited to
--- be written; or fewer of them ran so, and these bytes were written but for little.
-abbrev pub RunsAndPuts : Sizes → World Held → List Line → ℕ → World Held → Option (List ℕ) → Option (List ℕ) → List ℕ → List ℕ → Result (Unit {0}) Stop → Type 0
-RunsAndPuts z start lines count end_ before after waited waits (Ok u) =
-    (r : RunsLines z start (take count lines) end_) × Buffers before after waited waits (Ok u) (text (history start r.steps))
-RunsAndPuts z start lines count end_ before after waited waits (Err stop) =
-    (ran : ℕ) × (ran ≤ count) × (r : RunsLines z start (take ran lines) end_) × MayStop stop start r.steps
-    × WritesMost before after (waited ++ text (history start r.steps))

@@ -4,7 +4,10 @@
 //! (KVM's locking.rst and tdp_mmu.c for what a step is).
 #![tactic(auto)]
 
+mod answer_printer;
+mod by_turns;
 mod job;
+mod printer;
 mod ran;
 mod replaying;
 mod rounds;
@@ -14,6 +17,12 @@ mod turning;
 mod weaving;
 mod writing;
 
+pub use answer_printer::push_open;
+pub use by_turns::run_by_turns;
+pub use printer::{Printer, TurnPrinter};
 pub use ran::{How, Ran};
-pub use replaying::replay;
-pub use weaving::weave;
+pub use replaying::{replay, replay_with};
+pub use run_on::last_answer;
+pub use turning::{TurnMade, Turned, turn_on};
+pub use weaving::{weave, weave_with};
+pub use writing::write_piece;

@@ -1,18 +1,19 @@
 //! Turns in rounds, once the schedule is over, and the line that they come to.
-ghost use Rattle.std.specs.Prelude.{◌≡◌, ◌<◌, ◌≤◌, false, length, string_bytes};
+ghost use Rattle.std.specs.Prelude.{◌≡◌, ◌<◌, length};
 ghost use Rattle.std.specs.Option.{option_copied};
 ghost use Rattle.step_seats.specs.Machines.{world_in};
-ghost use Rattle.tdp_io.specs.Ends.{WroteFaults, is_failed};
-ghost use Rattle.weave_engine.specs.Pieces.{most_waiting};
-ghost use Rattle.weave_engine.specs.Turned.{PutsRun};
+ghost use Rattle.weave_engine.specs.Turned.{PrintsRun};
+ghost use Rattle.weave_engine.specs.Marks.{Rounds};
+ghost use Rattle.weave_engine.specs.Turning.{AreMarkedAfter};
 ghost use Rattle.weave_engine.specs.Rounds.{IsNextPlace};
 ghost use Rattle.weave_engine.specs.FirstOpen.{FirstOpen, earlier_of};
 ghost use Rattle.weave_engine.specs.Weaves.{RunsAllRounds, RunsSomeRounds};
 
-use crate::turning::{Turned, turn_and_put};
+use crate::printer::Printer;
+use crate::turning::Turned;
 use core_views::Line;
 use step_seats::PlainMachine;
-use tdp_io::{Sink, Stop};
+use tdp_io::Stop;
 
 // The place after this one, of so many, round the order.
 fn next_place(index: usize, count: usize) -> usize
@@ -24,20 +25,17 @@ fn next_place(index: usize, count: usize) -> usize
 
 /// Turns of all actors in their order, one each, round and round, those without a
 /// line left out, until no line is left or `limit` turns were made.
-pub fn run_rounds<K: Sink>(
+pub fn run_rounds<P: Printer>(
     machine: &mut PlainMachine,
     limit: u64,
-    out: &mut K,
-    waiting: &mut String,
+    printer: &mut P,
 ) -> Result<(), Stop>
-    requires unfailed { K.failed out.old ≡ false }
-    requires waiting { length (string_bytes waiting.old) ≤ most_waiting }
-    ensures puts { PutsRun (RunsAllRounds machine.old.sizes limit) (RunsSomeRounds machine.old.sizes limit) (world_in machine.old) (world_in machine.new)
-        (K.written out.old) (K.written out.new) (string_bytes waiting.old) (string_bytes waiting.new) result }
-    ensures faults { WroteFaults (K.faults out.old) (K.faults out.new) result }
-    ensures failed { K.failed out.new ≡ is_failed result }
+    requires ready { P.ready printer.old }
+    ensures prints { PrintsRun P.prints P.stops (AreMarkedAfter Rounds (RunsAllRounds machine.old.sizes limit))
+        (AreMarkedAfter Rounds (RunsSomeRounds machine.old.sizes limit)) (world_in machine.old) (world_in machine.new) printer.old printer.new result }
     ensures same { (machine.new.sizes ≡ machine.old.sizes) × (length machine.new.hands ≡ length machine.old.hands) }
 {
+    printer.rounds()?;
     let count = machine.sizes().actors() as usize;
     let mut index = 0;
     let mut passed = 0;
@@ -45,7 +43,7 @@ pub fn run_rounds<K: Sink>(
     while passed < count && made < limit {
         let actor = index;
         index = next_place(index, count);
-        match turn_and_put(machine, actor, out, waiting)? {
+        match printer.turn(machine, actor)? {
             Turned::NoLine => passed += 1,
             Turned::Went | Turned::Stopped => {
                 passed = 0;

@@ -1,23 +1,18 @@
 //! One turn of an actor of the machine: the next step of its line.
-ghost use Rattle.std.specs.Prelude.{◌≡◌, ◌<◌, ◌≤◌, IfOk, OnErr, false, length, string_bytes, true};
+ghost use Rattle.std.specs.Prelude.{◌≡◌, ◌<◌, IfOk, OnErr, length, true};
 ghost use Rattle.core_views.specs.declared.place.Place.TheVariants.{Between};
 ghost use Rattle.mmu_core.specs.machine.Enabled.{mmu};
 ghost use Rattle.mmu_core.specs.machine.Machine.{hand_in};
 ghost use Rattle.mmu_core.specs.machine.Steps.{has_line};
 ghost use Rattle.mmu_core.specs.machine.Turns.{IsSameHand, line_of};
 ghost use Rattle.step_seats.specs.Machines.{seat_in, world_in};
-ghost use Rattle.tdp_io.specs.Ends.{WroteFaults, is_failed};
 ghost use Rattle.step_seats.specs.LineTurns.{Says, TurnsLine, turn_told};
-ghost use Rattle.weave_engine.specs.Pieces.{most_waiting};
-ghost use Rattle.weave_engine.specs.Turned.{PutsTurn, TurnedOn, TurnedTold, next_code_in};
+ghost use Rattle.weave_engine.specs.Turned.{TurnedOn, TurnedTold, next_code_in};
 
 use crate::job::next_job;
-use crate::run_on::last_answer;
-use crate::writing::put_answer;
 use core_views::{Actor, NoMemory};
 use mmu_core::{next_kind, rests};
 use step_seats::{ActorSeat, PlainMachine, Stepper, Turn};
-use tdp_io::{Sink, Stop};
 
 /// A turn that an actor has made: of which line, and how it ended. Where the line is
 /// answered, the actor's hand has the answer.
@@ -88,40 +83,6 @@ pub fn turn_on(machine: &mut PlainMachine, index: usize) -> Result<Option<TurnMa
 {
     let mut seat = ActorSeat { machine, index };
     next_turn(&mut seat)
-}
-
-/// Makes the next turn of the actor at this place, where it has a line left, and
-/// puts what the line is answered.
-pub fn turn_and_put<K: Sink>(
-    machine: &mut PlainMachine,
-    index: usize,
-    out: &mut K,
-    waiting: &mut String,
-) -> Result<Turned, Stop>
-    requires there { index < length machine.old.hands }
-    requires unfailed { K.failed out.old ≡ false }
-    requires waiting { length (string_bytes waiting.old) ≤ most_waiting }
-    ensures puts { PutsTurn index (world_in machine.old) (world_in machine.new)
-        (K.written out.old) (K.written out.new) (string_bytes waiting.old) (string_bytes waiting.new) result }
-    ensures faults { WroteFaults (K.faults out.old) (K.faults out.new) result }
-    ensures failed { K.failed out.new ≡ is_failed result }
-    ensures same { (machine.new.sizes ≡ machine.old.sizes) × (length machine.new.hands ≡ length machine.old.hands) }
-{
-    let Ok(made) = turn_on(machine, index) else {
-        return Err(Stop::NoMemory);
-    };
-    let Some(made) = made else {
-        return Ok(Turned::NoLine);
-    };
-    match made.turn {
-        Turn::More => Ok(Turned::Went),
-        Turn::Wait(_) | Turn::Retry(_) => Ok(Turned::Stopped),
-        Turn::Done(()) => {
-            let answer = last_answer(machine, index);
-            put_answer(made.number, made.actor, answer, out, waiting)?;
-            Ok(Turned::Stopped)
-        }
-    }
 }
 
 /// The number of the kind of step that the actor at this place makes next, where

@@ -11,8 +11,8 @@ use trace_text::push_line;
 /// The output is written in pieces of this many bytes or a little more.
 const PIECE: usize = 8192;
 
-// Writes all that waits, where it is long enough: so at most a piece waits.
-fn write_piece<K: Sink>(out: &mut K, pending: &mut String) -> Result<(), Stop>
+/// Writes all that waits, where it is 8,192 bytes or more: so at most a piece waits.
+pub fn write_piece<K: Sink>(out: &mut K, pending: &mut String) -> Result<(), Stop>
     requires unfailed { K.failed out.old ≡ false }
     ensures bytes { Buffers (K.written out.old) (K.written out.new) (string_bytes pending.old) (string_bytes pending.new) result [] }
     ensures faults { WroteFaults (K.faults out.old) (K.faults out.new) result }
@@ -23,20 +23,6 @@ fn write_piece<K: Sink>(out: &mut K, pending: &mut String) -> Result<(), Stop>
         pending.clear();
     }
     Ok(())
-}
-
-/// Puts a text after what waits to be written, and writes all of it where it
-/// is long enough.
-pub fn put<K: Sink>(out: &mut K, pending: &mut String, text: &str) -> Result<(), Stop>
-    requires unfailed { K.failed out.old ≡ false }
-    ensures bytes { Buffers (K.written out.old) (K.written out.new) (string_bytes pending.old) (string_bytes pending.new) result text.now }
-    ensures faults { WroteFaults (K.faults out.old) (K.faults out.new) result }
-    ensures failed { K.failed out.new ≡ is_failed result }
-{
-    if pending.push_str(text).is_err() {
-        return Err(Stop::NoMemory);
-    }
-    write_piece(out, pending)
 }
 
 /// Puts what a line is answered.

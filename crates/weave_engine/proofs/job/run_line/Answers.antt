@@ -19,8 +19,8 @@ loop-init g c =
     let below = slice_get_within (g.S.Stepper.seat c.args.s.now).hand.lines (length (g.S.Stepper.seat c.args.s.now).hand.answers) c.args.line.now
     c.requires.next in
     record {
-      part = part_starts c.args.line.now (g.S.Stepper.seat c.args.s.now) _ e.hand e.told
-          c.requires.idle c.requires.next c.requires.alone;
+      part = (part_starts c.args.line.now (g.S.Stepper.seat c.args.s.now) _ e.hand e.told
+          c.requires.idle c.requires.next c.requires.alone).0;
       reserved = e.reserved;
       job =
           let next = ap (λ (p : Place). line_at p (g.S.Stepper.seat c.args.s.now).hand) c.requires.idle

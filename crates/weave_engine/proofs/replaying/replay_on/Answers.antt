@@ -1,32 +1,36 @@
-use Rattle.std.proofs.Common.{Err, Ok, inr, length, refl, string_bytes}
+use Rattle.std.proofs.Common.{length, refl}
 use Rattle.std.proofs.lemmas.Result.{err_from_is_err_and}
 use Rattle.step_seats.specs.Machines.{world_in}
-use Rattle.weave_engine.proofs.Outputs.{writes_all, writes_first}
+use Rattle.weave_engine.specs.Marks.{turns_from}
+use Rattle.weave_engine.proofs.Coming.{Printing}
+use Rattle.weave_engine.proofs.Outputs.{replay_over, replay_stopped, replay_stopped_over}
 use Rattle.weave_engine.proofs.replaying.replay_on.Goals as goal
 
-pub returns-in_err-run_lines-clause-writes : goal.returns-in_err-run_lines-clause-writes
-returns-in_err-run_lines-clause-writes g c =
+pub returns-in_err-run_lines : goal.returns-in_err-run_lines
+returns-in_err-run_lines g c =
     let p = err_from_is_err_and c.from_residual.result c.from_residual.ensures.1 in
-    rw (p.1, p.2) (writes_first c.args.trace.now c.args.machine.now.sizes c.as_slice-lines.result.now (length c.as_slice-lines.result.now)
-    (world_in c.args.machine.now) (world_in c.run_lines.new.machine) (g.K.Sink.written c.args.out.now) (g.K.Sink.written c.run_lines.new.out)
-    (string_bytes c.new-waiting.result) (string_bytes c.run_lines.new.waiting)
-    c.in_err-run_lines.field-0.0 c.requires.sizes c.as_slice-lines.ensures c.new-waiting.ensures.bytes c.requires.start c.in_err-run_lines.ensures.puts)
+    let L : Printing g.P.TurnPrinter.prints g.P.TurnPrinter.stops = record { both = g.met.P.TurnPrinter.then; stopped = g.met.P.TurnPrinter.stopped } in
+    rw (p.1, p.2) (replay_stopped g.P.TurnPrinter.prints g.P.TurnPrinter.stops L c.args.trace.now c.args.machine.now.sizes c.as_slice-lines.result.now
+    (world_in c.args.machine.now) (world_in c.run_lines.new.machine) c.args.printer.now c.run_lines.new.printer c.requires.sizes c.as_slice-lines.ensures
+    c.requires.start (length c.as_slice-lines.result.now) c.in_err-run_lines.field-0.0 c.in_err-run_lines.ensures.prints)
 
-pub returns-in_err-write_all-clause-writes : goal.returns-in_err-write_all-clause-writes
-returns-in_err-write_all-clause-writes g c =
-    let p = err_from_is_err_and c.from_residual-in_err-write_all.result c.from_residual-in_err-write_all.ensures.1 in
-    let all =
-    writes_all c.args.trace.now c.args.machine.now.sizes c.as_slice-lines.result.now (length c.as_slice-lines.result.now)
-    (world_in c.args.machine.now) (world_in c.run_lines.new.machine) (g.K.Sink.written c.args.out.now) (g.K.Sink.written c.run_lines.new.out)
-    (g.K.Sink.written c.write_all.new.out) (string_bytes c.new-waiting.result)
-    (string_bytes c.run_lines.new.waiting) c.as_bytes.result.now (Err c.in_err-write_all.field-0.0) c.requires.sizes c.as_slice-lines.ensures refl
-    c.new-waiting.ensures.bytes c.requires.start c.in_ok-run_lines.ensures.puts c.as_bytes.ensures.value c.in_err-write_all.ensures.bytes in
-    rw (p.1, p.2) (all.0, inr all.1, all.2)
+pub returns-in_err-over : goal.returns-in_err-over
+returns-in_err-over g c =
+    let p = err_from_is_err_and c.from_residual-in_err-over.result c.from_residual-in_err-over.ensures.1 in
+    let L : Printing g.P.TurnPrinter.prints g.P.TurnPrinter.stops = record { both = g.met.P.TurnPrinter.then; stopped = g.met.P.TurnPrinter.stopped } in
+    rw (p.1, p.2) (replay_stopped_over g.P.TurnPrinter.prints g.P.TurnPrinter.stops L c.args.trace.now c.args.machine.now.sizes c.as_slice-lines.result.now
+    (world_in c.args.machine.now) (world_in c.run_lines.new.machine) c.args.printer.now c.run_lines.new.printer c.requires.sizes c.as_slice-lines.ensures
+    c.requires.start (length c.as_slice-lines.result.now) c.over.new.self c.in_err-over.field-0.0 refl c.in_ok-run_lines.ensures.prints
+    c.in_err-over.ensures)
 
-pub returns-clause-writes : goal.returns-clause-writes
-returns-clause-writes g c =
-    writes_all c.args.trace.now c.args.machine.now.sizes c.as_slice-lines.result.now (length c.as_slice-lines.result.now)
-    (world_in c.args.machine.now) (world_in c.run_lines.new.machine) (g.K.Sink.written c.args.out.now) (g.K.Sink.written c.run_lines.new.out)
-    (g.K.Sink.written c.write_all.new.out) (string_bytes c.new-waiting.result)
-    (string_bytes c.run_lines.new.waiting) c.as_bytes.result.now (Ok (tt {0})) c.requires.sizes c.as_slice-lines.ensures refl
-    c.new-waiting.ensures.bytes c.requires.start c.in_ok-run_lines.ensures.puts c.as_bytes.ensures.value c.in_ok-write_all.ensures.bytes
+pub returns : goal.returns
+returns g c =
+    let L : Printing g.P.TurnPrinter.prints g.P.TurnPrinter.stops = record { both = g.met.P.TurnPrinter.then; stopped = g.met.P.TurnPrinter.stopped } in
+    replay_over g.P.TurnPrinter.prints g.P.TurnPrinter.stops L c.args.trace.now c.args.machine.now.sizes c.as_slice-lines.result.now
+    (world_in c.args.machine.now) (world_in c.run_lines.new.machine) c.args.printer.now c.run_lines.new.printer c.requires.sizes c.as_slice-lines.ensures
+    c.requires.start (length c.as_slice-lines.result.now) c.over.new.self refl c.in_ok-run_lines.ensures.prints c.in_ok-over.ensures
+
+pub over-requires : goal.over-requires
+over-requires g c =
+    let A = c.in_ok-run_lines.ensures.prints in
+    record { ready = g.met.P.TurnPrinter.goes_on c.args.printer.now c.run_lines.new.printer (turns_from (world_in c.args.machine.now) A.0.steps) A.1 }

@@ -1,36 +1,49 @@
-use Rattle.std.proofs.Common.{◌∙◌, ◌≡◌, ◌<◌, arith, refl, string_bytes}
+use Rattle.std.proofs.Common.{◌∙◌, ◌≡◌, ◌<◌, [], ◌∷◌, arith, refl}
 use Rattle.std.proofs.lemmas.Result.{err_from_is_err_and}
 use Rattle.core_views.specs.Sizes.{actors_of}
 use Rattle.step_seats.specs.Machines.{world_in}
+use Rattle.weave_engine.specs.Marks.{Rounds}
 use Rattle.weave_engine.specs.Rounds.{IsNextPlace}
-use Rattle.weave_engine.proofs.Coming.{so_far_none}
+use Rattle.weave_engine.specs.Turning.{AreMarkedAfter}
+use Rattle.weave_engine.proofs.BeforeSteps.{no_rounds}
+use Rattle.weave_engine.proofs.Coming.{Printing, comes_none, so_far_none}
 use Rattle.weave_engine.proofs.ItemTurns.{made_one}
 use Rattle.weave_engine.proofs.RoundLists.{InRounds, none_made, passes, rounds_over, rounds_stop, turns}
 use Rattle.weave_engine.proofs.rounds.run_rounds.Goals as goal
 
+pub returns-in_err-rounds-clause-prints : goal.returns-in_err-rounds-clause-prints
+returns-in_err-rounds-clause-prints g c =
+    let p = err_from_is_err_and c.from_residual.result c.from_residual.ensures.1 in
+    rw (p.1, p.2) (
+      [],
+      [],
+      Rounds ∷ [],
+      (no_rounds c.args.machine.now.sizes c.args.limit (world_in c.args.machine.now), refl),
+      comes_none (world_in c.args.machine.now),
+      c.in_err-rounds.ensures,
+    )
+
 pub loop-passed-init : goal.loop-passed-init
 loop-passed-init g c = record {
   so_far =
-      so_far_none (InRounds c.args.machine.now.sizes 0 0 0) (world_in c.args.machine.now) (g.K.Sink.written c.args.out.now)
-      (string_bytes c.args.waiting.now) c.requires.waiting (none_made c.args.machine.now.sizes (world_in c.args.machine.now));
+      so_far_none g.P.TurnPrinter.prints (AreMarkedAfter Rounds (InRounds c.args.machine.now.sizes 0 0 0)) (world_in c.args.machine.now) c.args.printer.now
+      c.rounds.new.self (Rounds ∷ []) (none_made c.args.machine.now.sizes (world_in c.args.machine.now), refl) c.in_ok-rounds.ensures;
   within = omega arith;
   few = omega arith;
   sizes = refl;
   hands = refl;
-  faults = refl;
-  failed = c.requires.unfailed;
 }
 
-pub returns-in_err-turn_and_put-clause-puts : goal.returns-in_err-turn_and_put-clause-puts
-returns-in_err-turn_and_put-clause-puts g c =
+pub returns-in_err-turn-clause-prints : goal.returns-in_err-turn-clause-prints
+returns-in_err-turn-clause-prints g c =
     let i = c.loop-passed.invariant in
     let some : c.loop-passed.passed < actors_of c.args.machine.now.sizes = rw (c.actors-count.ensures, c.sizes.ensures.is) at c.loop-passed-test.true in
-    let p = err_from_is_err_and c.from_residual.result c.from_residual.ensures.1 in
-    rw (p.1, p.2) (rounds_stop c.args.machine.now.sizes c.loop-passed.index c.loop-passed.passed c.loop-passed.made c.next_place-index.result
-    (world_in c.args.machine.now) (world_in c.loop-passed.machine) (world_in c.turn_and_put.new.machine) (g.K.Sink.written c.args.out.now)
-    (g.K.Sink.written c.loop-passed.out) (g.K.Sink.written c.turn_and_put.new.out)
-    (string_bytes c.args.waiting.now) (string_bytes c.loop-passed.waiting) (string_bytes c.turn_and_put.new.waiting) i.so_far some c.args.limit
-    c.in_err-turn_and_put.field-0.0 c.if-made-limit.true c.in_err-turn_and_put.ensures.puts)
+    let p = err_from_is_err_and c.from_residual-in_err-turn.result c.from_residual-in_err-turn.ensures.1 in
+    let L : Printing g.P.TurnPrinter.prints g.P.TurnPrinter.stops = record { both = g.met.P.TurnPrinter.then; stopped = g.met.P.TurnPrinter.stopped } in
+    rw (p.1, p.2) (rounds_stop g.P.TurnPrinter.prints g.P.TurnPrinter.stops L c.args.machine.now.sizes c.loop-passed.index c.loop-passed.passed
+    c.loop-passed.made c.next_place-index.result (world_in c.args.machine.now) (world_in c.loop-passed.machine) (world_in c.turn.new.machine)
+    c.args.printer.now c.loop-passed.printer c.turn.new.self i.so_far some c.args.limit c.in_err-turn.field-0.0 c.if-made-limit.true
+    c.in_err-turn.ensures.turned)
 
 pub loop-passed-preserved-in-NoLine : goal.loop-passed-preserved-in-NoLine
 loop-passed-preserved-in-NoLine g c =
@@ -38,20 +51,17 @@ loop-passed-preserved-in-NoLine g c =
     let some : c.loop-passed.passed < actors_of c.args.machine.now.sizes = rw (c.actors-count.ensures, c.sizes.ensures.is) at c.loop-passed-test.true in
     let step : IsNextPlace (actors_of c.args.machine.now.sizes) c.loop-passed.index c.next_place-index.result =
     rw (c.actors-count.ensures, c.sizes.ensures.is) at c.next_place-index.ensures in
-    let puts = rw c.in-NoLine.is at c.in_ok-turn_and_put.ensures.puts in
+    let turned = rw c.in-NoLine.is at c.in_ok-turn.ensures.turned in
+    let L : Printing g.P.TurnPrinter.prints g.P.TurnPrinter.stops = record { both = g.met.P.TurnPrinter.then; stopped = g.met.P.TurnPrinter.stopped } in
     record {
       so_far =
-          passes c.args.machine.now.sizes c.loop-passed.index c.loop-passed.passed c.loop-passed.made c.next_place-index.result
-          (world_in c.args.machine.now) (world_in c.loop-passed.machine) (world_in c.turn_and_put.new.machine) (g.K.Sink.written c.args.out.now)
-          (g.K.Sink.written c.loop-passed.out) (g.K.Sink.written c.turn_and_put.new.out)
-          (string_bytes c.args.waiting.now) (string_bytes c.loop-passed.waiting) (string_bytes c.turn_and_put.new.waiting) i.so_far some step puts.0
-          puts.1 puts.2;
+          passes g.P.TurnPrinter.prints g.P.TurnPrinter.stops L c.args.machine.now.sizes c.loop-passed.index c.loop-passed.passed c.loop-passed.made
+          c.next_place-index.result (world_in c.args.machine.now) (world_in c.loop-passed.machine) (world_in c.turn.new.machine) c.args.printer.now
+          c.loop-passed.printer c.turn.new.self i.so_far some step turned.0 turned.1 turned.2;
       within = omega (arith, c.loop-passed-test.true);
       few = i.few;
-      sizes = c.turn_and_put.ensures.same.0 ∙ i.sizes;
-      hands = c.turn_and_put.ensures.same.1 ∙ i.hands;
-      faults = c.in_ok-turn_and_put.ensures.faults ∙ i.faults;
-      failed = c.in_ok-turn_and_put.ensures.failed;
+      sizes = c.turn.ensures.same.0 ∙ i.sizes;
+      hands = c.turn.ensures.same.1 ∙ i.hands;
     }
 
 pub loop-passed-preserved : goal.loop-passed-preserved
@@ -60,32 +70,29 @@ loop-passed-preserved g c =
     let some : c.loop-passed.passed < actors_of c.args.machine.now.sizes = rw (c.actors-count.ensures, c.sizes.ensures.is) at c.loop-passed-test.true in
     let step : IsNextPlace (actors_of c.args.machine.now.sizes) c.loop-passed.index c.next_place-index.result =
     rw (c.actors-count.ensures, c.sizes.ensures.is) at c.next_place-index.ensures in
+    let L : Printing g.P.TurnPrinter.prints g.P.TurnPrinter.stops = record { both = g.met.P.TurnPrinter.then; stopped = g.met.P.TurnPrinter.stopped } in
     record {
       so_far =
-          turns c.args.machine.now.sizes c.loop-passed.index c.loop-passed.passed c.loop-passed.made c.next_place-index.result
-          (world_in c.args.machine.now) (world_in c.loop-passed.machine) (world_in c.turn_and_put.new.machine) (g.K.Sink.written c.args.out.now)
-          (g.K.Sink.written c.loop-passed.out) (g.K.Sink.written c.turn_and_put.new.out)
-          (string_bytes c.args.waiting.now) (string_bytes c.loop-passed.waiting) (string_bytes c.turn_and_put.new.waiting) i.so_far some step
-          (made_one c.in_ok-turn_and_put.field-0 c.loop-passed.index (world_in c.loop-passed.machine) (world_in c.turn_and_put.new.machine)
-          (g.K.Sink.written c.loop-passed.out) (g.K.Sink.written c.turn_and_put.new.out) (string_bytes c.loop-passed.waiting)
-          (string_bytes c.turn_and_put.new.waiting) c.in-Went.is
-          c.in_ok-turn_and_put.ensures.puts);
+          turns g.P.TurnPrinter.prints g.P.TurnPrinter.stops L c.args.machine.now.sizes c.loop-passed.index c.loop-passed.passed c.loop-passed.made
+          c.next_place-index.result (world_in c.args.machine.now) (world_in c.loop-passed.machine) (world_in c.turn.new.machine) c.args.printer.now
+          c.loop-passed.printer c.turn.new.self i.so_far some step
+          (made_one g.P.TurnPrinter.prints g.P.TurnPrinter.stops L c.in_ok-turn.field-0 c.loop-passed.index (world_in c.loop-passed.machine)
+          (world_in c.turn.new.machine) c.loop-passed.printer c.turn.new.self c.in-Went.is c.in_ok-turn.ensures.turned);
       within = omega arith;
       few = omega (arith, c.if-made-limit.true);
-      sizes = c.turn_and_put.ensures.same.0 ∙ i.sizes;
-      hands = c.turn_and_put.ensures.same.1 ∙ i.hands;
-      faults = c.in_ok-turn_and_put.ensures.faults ∙ i.faults;
-      failed = c.in_ok-turn_and_put.ensures.failed;
+      sizes = c.turn.ensures.same.0 ∙ i.sizes;
+      hands = c.turn.ensures.same.1 ∙ i.hands;
     }
 
-pub returns-after-loop-passed-clause-puts : goal.returns-after-loop-passed-clause-puts
-returns-after-loop-passed-clause-puts g c =
+pub returns-after-loop-passed-clause-prints : goal.returns-after-loop-passed-clause-prints
+returns-after-loop-passed-clause-prints g c =
     let i = c.loop-passed.invariant in
     let count : c.actors-count.result ≡ actors_of c.args.machine.now.sizes = rw c.sizes.ensures.is at c.actors-count.ensures in
-    rounds_over c.args.machine.now.sizes c.args.limit c.loop-passed.index c.loop-passed.passed c.loop-passed.made (world_in c.args.machine.now)
-    (world_in c.loop-passed.machine) (g.K.Sink.written c.args.out.now) (g.K.Sink.written c.loop-passed.out) (string_bytes c.args.waiting.now)
-    (string_bytes c.loop-passed.waiting)
-    i.so_far i.few (λ some more. omega (arith, some, count, c.loop-passed-test.false))
+    let L : Printing g.P.TurnPrinter.prints g.P.TurnPrinter.stops = record { both = g.met.P.TurnPrinter.then; stopped = g.met.P.TurnPrinter.stopped } in
+    rounds_over g.P.TurnPrinter.prints g.P.TurnPrinter.stops L c.args.machine.now.sizes c.args.limit c.loop-passed.index c.loop-passed.passed
+    c.loop-passed.made (world_in c.args.machine.now) (world_in c.loop-passed.machine) c.args.printer.now c.loop-passed.printer i.so_far i.few
+    (λ some more. omega (arith, some, count, c.loop-passed-test.false))
 
-pub turn_and_put-requires-clause-waiting : goal.turn_and_put-requires-clause-waiting
-turn_and_put-requires-clause-waiting g c = c.loop-passed.invariant.so_far.put.3
+pub turn-requires-clause-ready : goal.turn-requires-clause-ready
+turn-requires-clause-ready g c =
+    let F = c.loop-passed.invariant.so_far in g.met.P.TurnPrinter.goes_on c.args.printer.now c.loop-passed.printer F.marks F.put

@@ -1,34 +1,44 @@
-use Rattle.std.proofs.Common.{◌∙◌, string_bytes}
+use Rattle.std.proofs.Common.{◌∙◌, [], refl}
 use Rattle.std.proofs.lemmas.Result.{err_from_is_err_and}
 use Rattle.step_seats.specs.Machines.{world_in}
+use Rattle.weave_engine.specs.Turning.{RunsItems}
+use Rattle.weave_engine.proofs.Coming.{Printing, so_far_none}
 use Rattle.weave_engine.proofs.ItemLists.{item_more, item_stops}
 use Rattle.weave_engine.proofs.schedule.run_items.Goals as goal
 
-pub returns-in_err-run_item-clause-puts : goal.returns-in_err-run_item-clause-puts
-returns-in_err-run_item-clause-puts g c =
+pub loop-item-init : goal.loop-item-init
+loop-item-init g c = record {
+  so_far =
+      so_far_none g.P.TurnPrinter.prints (RunsItems c.args.machine.now.sizes []) (world_in c.args.machine.now) c.args.printer.now c.args.printer.now []
+      (refl, refl) (g.met.P.TurnPrinter.nothing c.args.printer.now c.requires.ready);
+  sizes = refl;
+  hands = refl;
+}
+
+pub returns-in_err-run_item-clause-prints : goal.returns-in_err-run_item-clause-prints
+returns-in_err-run_item-clause-prints g c =
     let i = c.loop-item.invariant in
     let p = err_from_is_err_and c.from_residual.result c.from_residual.ensures.1 in
-    let puts = rw i.sizes at c.in_err-run_item.ensures.puts in
-    rw (p.1, p.2) (item_stops c.args.machine.now.sizes c.args.items.now c.loop-item.item-index c.loop-item-test.true (world_in c.args.machine.now)
-    (world_in c.loop-item.machine) (world_in c.run_item.new.machine) (g.K.Sink.written c.args.out.now) (g.K.Sink.written c.loop-item.out)
-    (g.K.Sink.written c.run_item.new.out)
-    (string_bytes c.args.waiting.now) (string_bytes c.loop-item.waiting) (string_bytes c.run_item.new.waiting) i.so_far c.in_err-run_item.field-0.0 puts)
+    let printed = rw i.sizes at c.in_err-run_item.ensures.prints in
+    let L : Printing g.P.TurnPrinter.prints g.P.TurnPrinter.stops = record { both = g.met.P.TurnPrinter.then; stopped = g.met.P.TurnPrinter.stopped } in
+    rw (p.1, p.2) (item_stops g.P.TurnPrinter.prints g.P.TurnPrinter.stops L c.args.machine.now.sizes c.args.items.now c.loop-item.item-index
+    c.loop-item-test.true (world_in c.args.machine.now) (world_in c.loop-item.machine) (world_in c.run_item.new.machine) c.args.printer.now
+    c.loop-item.printer c.run_item.new.printer i.so_far c.in_err-run_item.field-0.0 printed)
 
 pub loop-item-preserved : goal.loop-item-preserved
 loop-item-preserved g c =
     let i = c.loop-item.invariant in
-    let puts = rw i.sizes at c.in_ok-run_item.ensures.puts in
+    let printed = rw i.sizes at c.in_ok-run_item.ensures.prints in
+    let L : Printing g.P.TurnPrinter.prints g.P.TurnPrinter.stops = record { both = g.met.P.TurnPrinter.then; stopped = g.met.P.TurnPrinter.stopped } in
     record {
       so_far =
-          item_more c.args.machine.now.sizes c.args.items.now c.loop-item.item-index c.loop-item-test.true (world_in c.args.machine.now)
-          (world_in c.loop-item.machine) (world_in c.run_item.new.machine) (g.K.Sink.written c.args.out.now) (g.K.Sink.written c.loop-item.out)
-          (g.K.Sink.written c.run_item.new.out)
-          (string_bytes c.args.waiting.now) (string_bytes c.loop-item.waiting) (string_bytes c.run_item.new.waiting) i.so_far puts;
+          item_more g.P.TurnPrinter.prints g.P.TurnPrinter.stops L c.args.machine.now.sizes c.args.items.now c.loop-item.item-index c.loop-item-test.true
+          (world_in c.args.machine.now) (world_in c.loop-item.machine) (world_in c.run_item.new.machine) c.args.printer.now c.loop-item.printer
+          c.run_item.new.printer i.so_far printed;
       sizes = c.run_item.ensures.same.0 ∙ i.sizes;
       hands = c.run_item.ensures.same.1 ∙ i.hands;
-      faults = c.in_ok-run_item.ensures.faults ∙ i.faults;
-      failed = c.in_ok-run_item.ensures.failed;
     }
 
-pub run_item-requires-clause-waiting : goal.run_item-requires-clause-waiting
-run_item-requires-clause-waiting g c = c.loop-item.invariant.so_far.put.3
+pub run_item-requires-clause-ready : goal.run_item-requires-clause-ready
+run_item-requires-clause-ready g c =
+    let F = c.loop-item.invariant.so_far in g.met.P.TurnPrinter.goes_on c.args.printer.now c.loop-item.printer F.marks F.put

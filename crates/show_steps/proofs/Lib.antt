@@ -1,0 +1,6 @@
+pub mod Places
+pub mod Rows
+pub mod Fills
+pub mod TurnsTold
+pub mod Runs
+pub mod StepsWritten

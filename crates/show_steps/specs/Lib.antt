@@ -1,0 +1,8 @@
+pub mod Rows
+pub mod Lines
+pub mod Puts
+pub mod PutLaws
+pub mod Tells
+pub mod Output
+pub mod Statuses
+pub mod Run

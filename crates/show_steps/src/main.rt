@@ -1,0 +1,47 @@
+//! `show_steps`: each step of a run, one line for each turn. All that matters is in `run`.
+#![tactic(auto)]
+
+mod command;
+mod lines;
+mod program;
+mod row;
+mod status;
+mod step_printer;
+
+use core_views::NoMemory;
+use program::run;
+use status::Status;
+use std::process::ExitCode;
+use std::{env, io};
+use tdp_io::{StdSink, StdSource};
+
+// The words that the program was called with. Where one of them is no text,
+// they are no command: then there are none.
+fn arguments(rt: &HostRuntime) -> Result<Vec<String>, NoMemory> {
+    match env::args(rt) {
+        Ok(words) => Ok(words.collect(rt.alloc())?),
+        Err(error) if error.kind() == io::ErrorKind::OutOfMemory => Err(NoMemory),
+        Err(_) => Ok(Vec::new(rt.alloc())),
+    }
+}
+
+fn main(rt: HostRuntime) -> ExitCode {
+    let status = match arguments(&rt) {
+        Ok(words) => {
+            let mut src = StdSource::new(rt.reader());
+            let mut out = StdSink::new(io::writer(&rt));
+            run(rt.alloc(), &words, &mut src, &mut out)
+        }
+        Err(NoMemory) => Status::NoMemory,
+    };
+    ExitCode::from(status.code())
+}
+
+#[cfg(test)]
+mod fill_tests;
+#[cfg(test)]
+mod race_steps;
+#[cfg(test)]
+mod short_steps;
+#[cfg(test)]
+mod tests;

@@ -1,0 +1,4 @@
+pub mod Numbers
+pub mod ActorNames
+pub mod WordNames
+pub mod KindNames

@@ -1,0 +1,5 @@
+pub mod Names
+pub mod Values
+pub mod Endings
+pub mod Rows
+pub mod Laws
