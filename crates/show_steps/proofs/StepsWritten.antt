@@ -50,17 +50,16 @@ whole_written p q z f ms open_ put =
     ∙ ap (λ (x : List Mark). p.waits ++ coming_text p.sizes p.fills p.next x) (append-nil all) ∙ coming p z f all in
     subst (Appends p.given q.given) is put.appends
 
--- Where it stopped a prefix was.
-pub part_written : (p q : Printed) (z : Sizes) → IsFresh p z → (ms : List Mark) (stop : Stop) → StopsSteps p ms stop q
-    → AppendsPrefix p.given q.given (steps_text z ms)
-part_written p q z f ms stop S =
-    subst (AppendsPrefix p.given q.given)
-    (ap (λ (x : List Mark). p.waits ++ coming_text p.sizes p.fills p.next x) (append-nil ms) ∙ coming p z f ms) (S.written [])
+-- Where it stopped a prefix was, whatever marks would have followed.
+pub part_written : (p q : Printed) (z : Sizes) → IsFresh p z → (ms : List Mark) (stop : Stop) → StopsSteps p ms stop q → (more : List Mark)
+    → AppendsPrefix p.given q.given (steps_text z (ms ++ more))
+part_written p q z f ms stop S more = subst (AppendsPrefix p.given q.given) (coming p z f (ms ++ more)) (S.written more)
 
 module _ {V : Type 0} (prints : V → List Mark → V → Type 0) (stops : V → List Mark → Stop → V → Type 0) (given : V → Option (List ℕ)) (trace : Trace) (p q : V)
     (puts : (ms : List Mark) (open_ : Option Line) → prints p (ms ++ Over open_ ∷ []) q
     → Appends (given p) (given q) (steps_text (sizes_of trace.header) (ms ++ Over open_ ∷ [])))
-    (ends : (ms : List Mark) (stop : Stop) → stops p ms stop q → AppendsPrefix (given p) (given q) (steps_text (sizes_of trace.header) ms)) where
+    (ends : (ms : List Mark) (stop : Stop) → stops p ms stop q → (more : List Mark)
+    → AppendsPrefix (given p) (given q) (steps_text (sizes_of trace.header) (ms ++ more))) where
   module _ (limit : ℕ) where
     weave_until : (closing : World Held) (stop : Stop) → PrintsUntil prints stops stop trace limit closing p q
         → WritesSome (IsRunSoFar Weave trace limit) trace (given p) (given q)

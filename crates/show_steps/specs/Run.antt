@@ -55,9 +55,10 @@ IsRunSoFar Replay trace limit marks =
 abbrev pub WritesWhole : (List Mark → Type 0) → Trace → Option (List ℕ) → Option (List ℕ) → Type 0
 WritesWhole Are trace before after = (marks : List Mark) × Are marks × Appends before after (steps_text (sizes_of trace.header) marks)
 
--- A prefix of it was written.
+-- A prefix of it was written, whatever marks would have followed.
 abbrev pub WritesSome : (List Mark → Type 0) → Trace → Option (List ℕ) → Option (List ℕ) → Type 0
-WritesSome Are trace before after = (marks : List Mark) × Are marks × AppendsPrefix before after (steps_text (sizes_of trace.header) marks)
+WritesSome Are trace before after = (marks : List Mark) × Are marks
+    × ((more : List Mark) → AppendsPrefix before after (steps_text (sizes_of trace.header) (marks ++ more)))
 
 -- what was written of a run of a trace, by its status
 abbrev pub WritesSteps : Command → Trace → ℕ → Option (List ℕ) → Option (List ℕ) → Status → Type 0
