@@ -15,12 +15,12 @@ use Rattle.spte_words.specs.declared.area.Area.TheVariants as area
 use Rattle.step_text.specs.declared.row.Row.{Row}
 use Rattle.show_steps.specs.Lines.{Entry, Turns, Text, PutsEntry, after_fills, fills_text, goes_on, is_next_word, joined, lines_text, page_words, with_more}
 
-both : (a b : Bool) → (a && b) ≡ true → (a ≡ true) × (b ≡ true)
+pub both : (a b : Bool) → (a && b) ≡ true → (a ≡ true) × (b ≡ true)
 both true true e = (refl, refl)
 both true false e = absurd (cc e)
 both false b e = absurd (cc e)
 
-equal : (a b : ℕ) → (a == b) ≡ true → a ≡ b
+pub equal : (a b : ℕ) → (a == b) ≡ true → a ≡ b
 equal a b e = grind (arith, nat_tests)
 
 -- An actor that is the same as another is the same as each that the other is.

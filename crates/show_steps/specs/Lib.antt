@@ -1,5 +1,6 @@
 pub mod Rows
 pub mod Lines
+pub mod Laws
 pub mod Puts
 pub mod PutLaws
 pub mod Tells
