@@ -1,7 +1,7 @@
 //! Schedules with lines that change host pages: each was worked out by hand from the order of
 //! steps.
-use crate::schedules::follows;
-use crate::tests::prints;
+use crate::schedules::first_other_of_pools;
+use crate::tests::first_misprinted;
 use std::test::Fail;
 
 // Lines that allow writes to a page, or forbid them.
@@ -365,17 +365,15 @@ const TWO_THREADS: [(&str, &str); 14] = [
 
 #[test]
 fn follows_changed_permissions(rt: HostRuntime) -> Result<(), Fail> {
-    for (pool, lines, text) in PERMISSIONS {
-        assert!(rt; follows(&rt, rt.alloc(), pool, lines, text)?, "on {lines}");
-    }
+    let found = first_other_of_pools(&rt, rt.alloc(), &PERMISSIONS)?;
+    assert_eq!(rt; found, None);
     Ok(())
 }
 
 #[test]
 fn follows_pages_taken_away(rt: HostRuntime) -> Result<(), Fail> {
-    for (pool, lines, text) in PRESENCE {
-        assert!(rt; follows(&rt, rt.alloc(), pool, lines, text)?, "on {lines}");
-    }
+    let found = first_other_of_pools(&rt, rt.alloc(), &PRESENCE)?;
+    assert_eq!(rt; found, None);
     Ok(())
 }
 
@@ -383,11 +381,7 @@ fn follows_pages_taken_away(rt: HostRuntime) -> Result<(), Fail> {
 fn follows_two_host_threads(rt: HostRuntime) -> Result<(), Fail> {
     const HEADER: &str =
         "tdp 1 vcpus 2 workers 1 pages 1024 frames 1040 words 1 pool 64 cache 64 manual 0 hosts 0 8\n";
-    for (lines, text) in TWO_THREADS {
-        assert!(rt;
-            prints(&rt, rt.alloc(), "weave", HEADER, lines, text)?,
-            "on {lines}"
-        );
-    }
+    let found = first_misprinted(&rt, rt.alloc(), "weave", HEADER, &TWO_THREADS)?;
+    assert_eq!(rt; found, None);
     Ok(())
 }

@@ -81,42 +81,84 @@ fn ends(alloc: Global, lines: &str, limit: u64, how: How, text: &str) -> Result<
     }
 }
 
-#[test]
-fn leaves_the_steps_after_each_kind(rt: HostRuntime) -> Result<(), Fail> {
+// The lines before `go`, how many lines they are, how many steps a cold access makes below them, and what
+// they print.
+#[derive(Drop)]
+struct Above<'t> {
+    lines: &'t str,
+    count: u32,
+    steps: u64,
+    text: &'t str,
+}
+
+// The first kind of the table of which a cold access, once it has made it with this turn, doesn't need just as
+// many steps as are left.
+fn first_other<'t>(
+    alloc: Global,
+    above: &Above<'_>,
+    table: &[(&'t str, u64)],
+) -> Result<Option<&'t str>, Fail> {
+    let line = above.count.saturating_add(3);
     let open = How::Unfinished {
         actor: Actor::Vcpu(0),
-        line: 4,
+        line,
     };
-    for (kind, turn) in FIRST {
-        let alloc = rt.alloc();
-        let lines = format!(in alloc; "vm slot 0 0 16 0\ngo\nv0 write 0x1000 5\n> v0 {kind}\n")?;
-        let left = COLD - turn;
-        let all = "2 vm done\n4 v0 frame 1 value 0\n";
-        let part = "2 vm done\nunfinished 4 v0\n";
-        assert!(rt; ends(alloc, &lines, left, How::Done, all)?, "on {kind}");
-        assert!(rt; ends(alloc, &lines, left - 1, open, part)?, "on {kind}");
+    let text = above.text;
+    let all = format!(in alloc; "{text}{line} v0 frame 1 value 0\n")?;
+    let part = format!(in alloc; "{text}unfinished {line} v0\n")?;
+    for (kind, turn) in table {
+        let before = above.lines;
+        let lines = format!(in alloc; "{before}go\nv0 write 0x1000 5\n> v0 {kind}\n")?;
+        let left = above.steps.saturating_sub(*turn);
+        if !ends(alloc, &lines, left, How::Done, &all)?
+            || !ends(alloc, &lines, left.saturating_sub(1), open, &part)?
+        {
+            return Ok(Some(kind));
+        }
     }
+    Ok(None)
+}
+
+#[test]
+fn leaves_the_steps_after_each_kind(rt: HostRuntime) -> Result<(), Fail> {
+    let above = Above {
+        lines: "vm slot 0 0 16 0\n",
+        count: 1,
+        steps: COLD,
+        text: "2 vm done\n",
+    };
+    assert_eq!(rt; first_other(rt.alloc(), &above, &FIRST)?, None);
     Ok(())
 }
 
 #[test]
 fn brings_a_page_in_with_one_step_more(rt: HostRuntime) -> Result<(), Fail> {
-    let open = How::Unfinished {
-        actor: Actor::Vcpu(0),
-        line: 5,
+    let above = Above {
+        lines: "vm slot 0 0 16 0\nh0 evict 1\n",
+        count: 2,
+        steps: COLD + 1,
+        text: "2 vm done\n3 h0 done\n",
     };
-    for (kind, turn) in ABSENT {
-        let alloc = rt.alloc();
-        let lines = format!(in alloc;
-            "vm slot 0 0 16 0\nh0 evict 1\ngo\nv0 write 0x1000 5\n> v0 {kind}\n"
-        )?;
-        let left = COLD + 1 - turn;
-        let all = "2 vm done\n3 h0 done\n5 v0 frame 1 value 0\n";
-        let part = "2 vm done\n3 h0 done\nunfinished 5 v0\n";
-        assert!(rt; ends(alloc, &lines, left, How::Done, all)?, "on {kind}");
-        assert!(rt; ends(alloc, &lines, left - 1, open, part)?, "on {kind}");
-    }
+    assert_eq!(rt; first_other(rt.alloc(), &above, &ABSENT)?, None);
     Ok(())
+}
+
+// The lines of the first trace of the table that doesn't end so where no turns are made in rounds.
+fn first_other_end<'t>(
+    alloc: Global,
+    table: &[(&'t str, How, &str)],
+) -> Result<Option<&'t str>, Fail> {
+    for (lines, how, text) in table {
+        if !ends(alloc, lines, 0, *how, text)? {
+            return Ok(Some(lines));
+        }
+    }
+    Ok(None)
+}
+
+// How a run ends in which this line of an actor is the first open one.
+fn open(actor: Actor, line: u32) -> How {
+    How::Unfinished { actor, line }
 }
 
 // A host line makes six steps after its exchange: the end of its invalidation. Where a
@@ -124,54 +166,56 @@ fn brings_a_page_in_with_one_step_more(rt: HostRuntime) -> Result<(), Fail> {
 // the six.
 #[test]
 fn exchanges_once_more_where_it_loses(rt: HostRuntime) -> Result<(), Fail> {
-    let open = How::Unfinished {
-        actor: Actor::Host(0),
-        line: 5,
-    };
-    let ended = How::Unfinished {
-        actor: Actor::Vcpu(0),
-        line: 6,
-    };
-    let (early, late) = ("> h0 host\n> v0 bring\n", "> v0 host\n> h0 host\n");
-    for (items, turns, how, text) in [
-        (early, 6, open, "unfinished 5 h0\n"),
-        (early, 7, ended, "5 h0 done\nunfinished 6 v0\n"),
-        (late, 5, open, "unfinished 5 h0\n"),
-        (late, 6, ended, "5 h0 done\nunfinished 6 v0\n"),
-    ] {
-        let alloc = rt.alloc();
-        let lines = format!(in alloc;
-            "vm slot 0 0 16 0\nh0 evict 2\ngo\nh0 evict 2\nv0 read 0x2000\n{items}> h0 change\n> h0 {turns}\n"
-        )?;
-        let printed = format!(in alloc; "2 vm done\n3 h0 done\n{text}")?;
-        assert!(rt; ends(alloc, &lines, 0, how, &printed)?, "on {items}{turns}");
-    }
+    let table = [
+        (
+            "vm slot 0 0 16 0\nh0 evict 2\ngo\nh0 evict 2\nv0 read 0x2000\n> h0 host\n> v0 bring\n> h0 change\n> h0 6\n",
+            open(Actor::Host(0), 5),
+            "2 vm done\n3 h0 done\nunfinished 5 h0\n",
+        ),
+        (
+            "vm slot 0 0 16 0\nh0 evict 2\ngo\nh0 evict 2\nv0 read 0x2000\n> h0 host\n> v0 bring\n> h0 change\n> h0 7\n",
+            open(Actor::Vcpu(0), 6),
+            "2 vm done\n3 h0 done\n5 h0 done\nunfinished 6 v0\n",
+        ),
+        (
+            "vm slot 0 0 16 0\nh0 evict 2\ngo\nh0 evict 2\nv0 read 0x2000\n> v0 host\n> h0 host\n> h0 change\n> h0 5\n",
+            open(Actor::Host(0), 5),
+            "2 vm done\n3 h0 done\nunfinished 5 h0\n",
+        ),
+        (
+            "vm slot 0 0 16 0\nh0 evict 2\ngo\nh0 evict 2\nv0 read 0x2000\n> v0 host\n> h0 host\n> h0 change\n> h0 6\n",
+            open(Actor::Vcpu(0), 6),
+            "2 vm done\n3 h0 done\n5 h0 done\nunfinished 6 v0\n",
+        ),
+    ];
+    assert_eq!(rt; first_other_end(rt.alloc(), &table)?, None);
     Ok(())
 }
 
 #[test]
 fn names_the_first_open_line(rt: HostRuntime) -> Result<(), Fail> {
-    let alloc = rt.alloc();
-    let of = |actor: u8, line: u32| How::Unfinished {
-        actor: Actor::Vcpu(actor),
-        line,
-    };
-    let none = "vm slot 0 0 16 0\ngo\nv0 read 0x0\n";
-    assert!(rt; ends(alloc, none, 0, of(0, 4), "2 vm done\nunfinished 4 v0\n")?);
-    let two = "vm slot 0 0 16 0\ngo\nv1 read 0x1000\nv0 read 0x0\n";
-    assert!(rt; ends(alloc, two, 0, of(1, 4), "2 vm done\nunfinished 4 v1\n")?);
-    let first = "vm slot 0 0 16 0\ngo\nv1 read 0x1000\nv0 read 0x0\n> v1 end\n";
-    let text = "2 vm done\n4 v1 frame 1 value 0\nunfinished 5 v0\n";
-    assert!(rt; ends(alloc, first, 0, of(0, 5), text)?);
-    let all = "vm slot 0 0 16 0\nv0 read 0x0\ngo\n";
-    assert!(rt;
-        ends(
-            alloc,
-            all,
-            0,
+    let table = [
+        (
+            "vm slot 0 0 16 0\ngo\nv0 read 0x0\n",
+            open(Actor::Vcpu(0), 4),
+            "2 vm done\nunfinished 4 v0\n",
+        ),
+        (
+            "vm slot 0 0 16 0\ngo\nv1 read 0x1000\nv0 read 0x0\n",
+            open(Actor::Vcpu(1), 4),
+            "2 vm done\nunfinished 4 v1\n",
+        ),
+        (
+            "vm slot 0 0 16 0\ngo\nv1 read 0x1000\nv0 read 0x0\n> v1 end\n",
+            open(Actor::Vcpu(0), 5),
+            "2 vm done\n4 v1 frame 1 value 0\nunfinished 5 v0\n",
+        ),
+        (
+            "vm slot 0 0 16 0\nv0 read 0x0\ngo\n",
             How::Done,
-            "2 vm done\n3 v0 frame 0 value 0\n"
-        )?
-    );
+            "2 vm done\n3 v0 frame 0 value 0\n",
+        ),
+    ];
+    assert_eq!(rt; first_other_end(rt.alloc(), &table)?, None);
     Ok(())
 }

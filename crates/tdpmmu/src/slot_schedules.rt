@@ -1,7 +1,7 @@
 //! Schedules with lines that move slots, delete them, or set them again: each was worked out by
 //! hand from the order of steps.
-use crate::schedules::follows;
-use crate::tests::prints;
+use crate::schedules::{H, first_other_of_pools};
+use crate::tests::{first_misprinted, prints};
 use std::alloc::Global;
 use std::sync::Wait;
 use std::test::Fail;
@@ -719,79 +719,75 @@ const COUNTED: [(&str, &str); 16] = [
     ),
 ];
 
-// Whether both `replay` and `weave` print this text where all lines run alone.
-fn runs_alone<R: Threads + Wait + Sync>(
+// Where all lines run alone, `replay` prints the same: the lines stand above a `go` for `weave`.
+fn first_other_alone<'t, R: Threads + Wait + Sync>(
     rt: &R,
     alloc: Global,
-    lines: &str,
-    text: &str,
-) -> Result<bool, Fail> {
-    let above = format!(in alloc; "{lines}go\n")?;
-    let header =
-        "tdp 1 vcpus 2 workers 1 pages 1024 frames 1040 words 1 pool 64 cache 64 manual 0 hosts 0\n";
-    Ok(follows(rt, alloc, 64, &above, text)? && prints(rt, alloc, "replay", header, lines, text)?)
+    table: &[(&'t str, &str)],
+) -> Result<Option<&'t str>, Fail> {
+    for (lines, text) in table {
+        let above = format!(in alloc; "{lines}go\n")?;
+        if !(prints(rt, alloc, "weave", H, &above, text)?
+            && prints(rt, alloc, "replay", H, lines, text)?)
+        {
+            return Ok(Some(lines));
+        }
+    }
+    Ok(None)
 }
 
 #[test]
 fn follows_slots_alone(rt: HostRuntime) -> Result<(), Fail> {
-    for (lines, text) in ALONE {
-        assert!(rt; runs_alone(&rt, rt.alloc(), lines, text)?, "on {lines}");
-    }
+    let found = first_other_alone(&rt, rt.alloc(), &ALONE)?;
+    assert_eq!(rt; found, None);
     Ok(())
 }
 
 #[test]
 fn follows_deletions(rt: HostRuntime) -> Result<(), Fail> {
-    for (lines, text) in DELETED {
-        assert!(rt; follows(&rt, rt.alloc(), 64, lines, text)?, "on {lines}");
-    }
+    let found = first_misprinted(&rt, rt.alloc(), "weave", H, &DELETED)?;
+    assert_eq!(rt; found, None);
     Ok(())
 }
 
 #[test]
 fn follows_moved_slots(rt: HostRuntime) -> Result<(), Fail> {
-    for (lines, text) in MOVED {
-        assert!(rt; follows(&rt, rt.alloc(), 64, lines, text)?, "on {lines}");
-    }
+    let found = first_misprinted(&rt, rt.alloc(), "weave", H, &MOVED)?;
+    assert_eq!(rt; found, None);
     Ok(())
 }
 
 #[test]
 fn follows_two_slot_lines(rt: HostRuntime) -> Result<(), Fail> {
-    for (lines, text) in ANEW {
-        assert!(rt; follows(&rt, rt.alloc(), 64, lines, text)?, "on {lines}");
-    }
+    let found = first_misprinted(&rt, rt.alloc(), "weave", H, &ANEW)?;
+    assert_eq!(rt; found, None);
     Ok(())
 }
 
 #[test]
 fn follows_slots_that_stay(rt: HostRuntime) -> Result<(), Fail> {
-    for (lines, text) in AT_ONCE {
-        assert!(rt; follows(&rt, rt.alloc(), 64, lines, text)?, "on {lines}");
-    }
+    let found = first_misprinted(&rt, rt.alloc(), "weave", H, &AT_ONCE)?;
+    assert_eq!(rt; found, None);
     Ok(())
 }
 
 #[test]
 fn follows_slots_beside_host_lines(rt: HostRuntime) -> Result<(), Fail> {
-    for (lines, text) in BESIDE_HOST_LINES {
-        assert!(rt; follows(&rt, rt.alloc(), 64, lines, text)?, "on {lines}");
-    }
+    let found = first_misprinted(&rt, rt.alloc(), "weave", H, &BESIDE_HOST_LINES)?;
+    assert_eq!(rt; found, None);
     Ok(())
 }
 
 #[test]
 fn makes_so_many_steps(rt: HostRuntime) -> Result<(), Fail> {
-    for (lines, text) in COUNTED {
-        assert!(rt; follows(&rt, rt.alloc(), 64, lines, text)?, "on {lines}");
-    }
+    let found = first_misprinted(&rt, rt.alloc(), "weave", H, &COUNTED)?;
+    assert_eq!(rt; found, None);
     Ok(())
 }
 
 #[test]
 fn follows_slots_in_small_pools(rt: HostRuntime) -> Result<(), Fail> {
-    for (pool, lines, text) in SMALL_POOLS {
-        assert!(rt; follows(&rt, rt.alloc(), pool, lines, text)?, "on {lines}");
-    }
+    let found = first_other_of_pools(&rt, rt.alloc(), &SMALL_POOLS)?;
+    assert_eq!(rt; found, None);
     Ok(())
 }

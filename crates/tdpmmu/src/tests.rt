@@ -64,6 +64,23 @@ pub fn prints<R: Threads + Wait + Sync>(
     Ok(status == Status::Done && out.bytes() == text.as_bytes())
 }
 
+/// The lines of the first trace of the table of which the program, called with this command on this header,
+/// prints another text, or doesn't end well.
+pub fn first_misprinted<'t, R: Threads + Wait + Sync>(
+    rt: &R,
+    alloc: Global,
+    command: &str,
+    header: &str,
+    table: &[(&'t str, &str)],
+) -> Result<Option<&'t str>, Fail> {
+    for (lines, text) in table {
+        if !prints(rt, alloc, command, header, lines, text)? {
+            return Ok(Some(lines));
+        }
+    }
+    Ok(None)
+}
+
 // The content words of a page, the pool's pages, the lines, and what `replay` prints.
 const ANSWERS: [(u8, u64, &str, &str); 12] = [
     (1, 64, "", ""),
@@ -225,67 +242,66 @@ const SLOT_LINES: [(&str, &str); 16] = [
 
 #[test]
 fn answers_slot_lines(rt: HostRuntime) -> Result<(), Fail> {
-    for (lines, text) in SLOT_LINES {
-        assert!(rt;
-            prints(&rt, rt.alloc(), "replay", H, lines, text)?,
-            "on {lines}"
-        );
-    }
+    let found = first_misprinted(&rt, rt.alloc(), "replay", H, &SLOT_LINES)?;
+    assert_eq!(rt; found, None);
     Ok(())
+}
+
+// The lines of the first of these traces of which `replay` prints another text, with caches of so many translations.
+fn first_other<'t, R: Threads + Wait + Sync>(
+    rt: &R,
+    alloc: Global,
+    cache: u64,
+    table: &[(u8, u64, &'t str, &str)],
+) -> Result<Option<&'t str>, Fail> {
+    for (words, pool, lines, text) in table {
+        let header = format!(in alloc;
+            "tdp 1 vcpus 2 workers 1 pages 1024 frames 1040 words {words} pool {pool} cache {cache} manual 0 hosts 0\n"
+        )?;
+        if !prints(rt, alloc, "replay", &header, lines, text)? {
+            return Ok(Some(lines));
+        }
+    }
+    Ok(None)
 }
 
 #[test]
 fn prints_each_answer(rt: HostRuntime) -> Result<(), Fail> {
-    for (words, pool, lines, text) in ANSWERS {
-        for cache in [64, 1] {
-            let alloc = rt.alloc();
-            let header = format!(in alloc;
-                "tdp 1 vcpus 2 workers 1 pages 1024 frames 1040 words {words} pool {pool} cache {cache} manual 0 hosts 0\n"
-            )?;
-            assert!(rt;
-                prints(&rt, alloc, "replay", &header, lines, text)?,
-                "on {lines}"
-            );
-        }
-    }
+    let large = first_other(&rt, rt.alloc(), 64, &ANSWERS)?;
+    let small = first_other(&rt, rt.alloc(), 1, &ANSWERS)?;
+    assert_eq!(rt; (large, small), (None, None));
     Ok(())
 }
 
+// Traces below the first header, and what `check` prints.
+const CHECKED: [(&str, &str); 6] = [
+    (ONE_WRITE, "ok 3 need 7\n"),
+    ("# comment\n\n", "ok 0 need 4\n"),
+    ("vm slot 0 0 16 0\nv0 read 0x0\n", "ok 2 need 7\n"),
+    // A table counts for each place that a slot line names, also after the slot has left it.
+    (
+        "vm slot 0 0 16 0\nvm slot 0 512 16 0\nvm slot 0 0 0 0\n",
+        "ok 3 need 8\n",
+    ),
+    (
+        "vm slot 0 0 16 0\nvm slot 0 134217728 16 0\nvm slot 0 0 16 0\n",
+        "ok 3 need 10\n",
+    ),
+    // A deletion's numbers don't count, nor does a slot that is too large; a line that will be refused does.
+    (
+        "vm slot 0 0 16 0\nvm slot 0 512 0 0\nvm slot 1 1024 1025 0\nvm slot 0 2048 17 0\n",
+        "ok 4 need 8\n",
+    ),
+];
+
 #[test]
 fn checks_a_trace(rt: HostRuntime) -> Result<(), Fail> {
-    for (header, lines, text) in [
-        (H, ONE_WRITE, "ok 3 need 7\n"),
-        (H, "# comment\n\n", "ok 0 need 4\n"),
-        (
-            LARGE,
-            "vm slot 0 0 262144 0\nv0 read 0x0\n",
-            "ok 2 need 518\n",
-        ),
-        (GENERATED, "vm slot 0 0 4096 0\n", "ok 1 need 14\n"),
-        (H, "vm slot 0 0 16 0\nv0 read 0x0\n", "ok 2 need 7\n"),
-        // A table counts for each place that a slot line names, also after the slot has left it.
-        (
-            H,
-            "vm slot 0 0 16 0\nvm slot 0 512 16 0\nvm slot 0 0 0 0\n",
-            "ok 3 need 8\n",
-        ),
-        (
-            H,
-            "vm slot 0 0 16 0\nvm slot 0 134217728 16 0\nvm slot 0 0 16 0\n",
-            "ok 3 need 10\n",
-        ),
-        // A deletion's numbers don't count, nor does a slot that is too large; a line that will be refused does.
-        (
-            H,
-            "vm slot 0 0 16 0\nvm slot 0 512 0 0\nvm slot 1 1024 1025 0\nvm slot 0 2048 17 0\n",
-            "ok 4 need 8\n",
-        ),
-    ] {
-        assert!(rt;
-            prints(&rt, rt.alloc(), "check", header, lines, text)?,
-            "on {lines}"
-        );
-    }
+    let large = [("vm slot 0 0 262144 0\nv0 read 0x0\n", "ok 2 need 518\n")];
+    let generated = [("vm slot 0 0 4096 0\n", "ok 1 need 14\n")];
+    let small = first_misprinted(&rt, rt.alloc(), "check", H, &CHECKED)?;
+    let large = first_misprinted(&rt, rt.alloc(), "check", LARGE, &large)?;
+    let generated = first_misprinted(&rt, rt.alloc(), "check", GENERATED, &generated)?;
+    assert_eq!(rt; (small, large, generated), (None, None, None));
     Ok(())
 }
 
@@ -344,27 +360,50 @@ const REFUSED: [(&str, &str, u32, Reason, &str); 8] = [
     ),
 ];
 
+// The lines of the first input of the table that `replay` doesn't refuse so.
+fn first_unrefused<'t, R: Threads + Wait + Sync>(
+    rt: &R,
+    alloc: Global,
+    table: &[(&str, &'t str, u32, Reason, &str)],
+) -> Result<Option<&'t str>, Fail> {
+    for (header, lines, line, reason, text) in table {
+        let refused = Status::Refused {
+            line: *line,
+            reason: *reason,
+        };
+        let (status, out) = run_on(rt, alloc, &["tdpmmu", "replay"], header, lines, &[], &[])?;
+        if status != refused || out.bytes() != text.as_bytes() {
+            return Ok(Some(lines));
+        }
+    }
+    Ok(None)
+}
+
 #[test]
 fn refuses_each_reason(rt: HostRuntime) -> Result<(), Fail> {
-    for (header, lines, line, reason, text) in REFUSED {
-        let (status, out) = run_on(
-            &rt,
-            rt.alloc(),
-            &["tdpmmu", "replay"],
-            header,
-            lines,
-            &[],
-            &[],
-        )?;
-        assert_eq!(rt; status, Status::Refused { line, reason }, "on {lines}");
-        assert_eq!(rt; out.bytes(), text.as_bytes(), "on {lines}");
-    }
+    let found = first_unrefused(&rt, rt.alloc(), &REFUSED)?;
+    assert_eq!(rt; found, None);
     Ok(())
+}
+
+// The first of these calls that isn't answered by the usage line alone, by its place.
+fn first_unanswered<R: Threads + Wait + Sync>(
+    rt: &R,
+    alloc: Global,
+    calls: &[&[&str]],
+) -> Result<Option<usize>, Fail> {
+    for (at, command) in calls.iter().enumerate() {
+        let (status, out) = run_on(rt, alloc, command, H, ONE_WRITE, &[], &[])?;
+        if (status, status.code()) != (Status::Usage, 2) || out.bytes() != USAGE.as_bytes() {
+            return Ok(Some(at));
+        }
+    }
+    Ok(None)
 }
 
 #[test]
 fn tells_its_usage(rt: HostRuntime) -> Result<(), Fail> {
-    for command in [
+    let calls = [
         ["tdpmmu", "fly"].as_slice(),
         &[],
         &["tdpmmu"],
@@ -372,23 +411,20 @@ fn tells_its_usage(rt: HostRuntime) -> Result<(), Fail> {
         &["tdpmmu", "replay", "replay"],
         &["tdpmmu", "live"],
         &["tdpmmu", "gen", "1"],
-    ] {
-        let (status, out) = run_on(&rt, rt.alloc(), command, H, ONE_WRITE, &[], &[])?;
-        assert_eq!(rt; status, Status::Usage);
-        assert_eq!(rt; status.code(), 2);
-        assert_eq!(rt; out.bytes(), USAGE.as_bytes());
-    }
+    ];
+    assert_eq!(rt; first_unanswered(&rt, rt.alloc(), &calls)?, None);
     Ok(())
 }
 
 #[test]
 fn says_which_end_failed(rt: HostRuntime) -> Result<(), Fail> {
+    let alloc = rt.alloc();
     let replay = ["tdpmmu", "replay"];
-    let (status, out) = run_on(&rt, rt.alloc(), &replay, H, ONE_WRITE, &[0], &[])?;
-    assert_eq!(rt; status, Status::ReadFault);
-    assert_eq!(rt; out.bytes().len(), 0);
-    let (status, out) = run_on(&rt, rt.alloc(), &replay, H, ONE_WRITE, &[], &[0])?;
-    assert_eq!(rt; status, Status::WriteFault);
-    assert_eq!(rt; out.bytes().len(), 0);
+    let (read, first) = run_on(&rt, alloc, &replay, H, ONE_WRITE, &[0], &[])?;
+    let (write, second) = run_on(&rt, alloc, &replay, H, ONE_WRITE, &[], &[0])?;
+    assert_eq!(rt;
+        (read, first.bytes().len(), write, second.bytes().len()),
+        (Status::ReadFault, 0, Status::WriteFault, 0)
+    );
     Ok(())
 }
