@@ -8,23 +8,25 @@ use Rattle.core_views.specs.declared.answer.Answer.{Answer}
 use Rattle.core_views.specs.declared.event.Event.{Event}
 use Rattle.core_views.specs.declared.event.EventKind.{EventKind}
 use Rattle.core_views.specs.declared.event.EventKind.TheVariants.{Begun, LookedAtPause, LookedAtSlots, LookedAtHost, BroughtIn, Accessed, Exited, SlotChanged}
-use Rattle.core_views.specs.declared.event.EventKind.TheVariants.{HostChanged, Answered}
+use Rattle.core_views.specs.declared.event.EventKind.TheVariants.{HostChanged, Armed, Taken, Harvested, Shown, Answered}
 use Rattle.core_views.specs.declared.trace.Line.{Line}
 use Rattle.core_views.specs.declared.sizes.Sizes.{Sizes}
 use Rattle.core_views.specs.declared.host.HostEntry.{HostEntry}
 use Rattle.core_views.specs.Actors.{is_same}
 use Rattle.core_views.specs.Host.{HostNotes, with_entry}
 use Rattle.core_views.specs.SlotSets.{flat_slots}
-use Rattle.core_views.specs.Flat.{Facts, Notes, LineUnderWay, Flat, Stage, Fresh, HasAccessed, HasLeft, HasChanged, HasChangedHost, no_notes}
+use Rattle.core_views.specs.Flat.{Facts, Notes, LineUnderWay, Flat, Stage, Fresh, HasAccessed, HasLeft, HasChanged, HasArmed, HasTaken, HasRead}
+use Rattle.core_views.specs.Flat.{HasChangedHost, no_notes}
 use Rattle.core_views.specs.Events.{after, after_all, facts_after, facts_after_all, under_after}
 use Rattle.core_views.specs.Lawful.{IsLawful, IsAllowed}
 use Rattle.core_views.specs.FlatHistory.{by, answers, rest_of, one_by_one}
 use Rattle.core_views.specs.Text.{answers_of, lines_text, text}
 use Rattle.core_views.specs.Alone.{is_look, without_looks, IsInside, AreWithin, FallAsFlat, FallsAsFlat, StandsAlone, StandsFirst}
-use Rattle.core_views.proofs.AloneIsLawful.{AllIdle, IsAt, step, at_end}
+use Rattle.core_views.proofs.AloneSteps.{AllIdle, IsAt, step, at_end}
 use Rattle.core_views.proofs.Looks.{facts_without_looks, answers_without_looks, facts_behind}
 use Rattle.core_views.proofs.FlatShows.{flat_shows}
-use Rattle.core_views.proofs.NextAlone.{AreExact, IsNext, access_is_next, bringing_is_next, exit_is_next, host_change_is_next, slot_change_is_next, told}
+use Rattle.core_views.proofs.NextAlone.{AreExact, IsNext, access_is_next, arming_is_next, bringing_is_next, exit_is_next, harvest_is_next, told}
+use Rattle.core_views.proofs.NextAlone.{host_change_is_next, showing_is_next, slot_change_is_next, taking_is_next}
 use Rattle.core_views.proofs.HostLines.{still_writable}
 
 abbrev under_way : Line → Stage → Notes → LineUnderWay
@@ -162,21 +164,15 @@ one_event z line rest es (Accessed gfn word op frame before) within leads stage 
     let kind : EventKind = Accessed gfn word op frame before in
     shown_event z line rest es stage notes f kind refl
     (access_is_next z f.facts f.past (under_way line stage notes) gfn word op frame before (allowed z line stage notes f kind is lawful.0))
-    (leads (HasAccessed frame before) notes (after (by line kind) f) (record {
-      at = next_at line stage notes f kind is;
-      exact =
-          λ fresh. absurd (cc fresh);
-    }) lawful.1 falls.1)
+    (leads (HasAccessed frame before) notes (after (by line kind) f)
+    (record { at = next_at line stage notes f kind is; exact = λ fresh. absurd (cc fresh) }) lawful.1 falls.1)
 one_event z line rest es (Exited answer) within leads stage notes f is lawful falls =
     let kind : EventKind = Exited answer in
     shown_event z line rest es stage notes f kind refl
     (exit_is_next z f.facts f.past (under_way line stage notes) answer is.exact (falls_at z line stage notes f kind is falls.0)
     (allowed z line stage notes f kind is lawful.0))
-    (leads (HasLeft answer) notes (after (by line kind) f) (record {
-      at = next_at line stage notes f kind is;
-      exact =
-          λ fresh. absurd (cc fresh);
-    }) lawful.1 falls.1)
+    (leads (HasLeft answer) notes (after (by line kind) f)
+    (record { at = next_at line stage notes f kind is; exact = λ fresh. absurd (cc fresh) }) lawful.1 falls.1)
 one_event z line rest es (SlotChanged id slot) within leads stage notes f is lawful falls =
     let kind : EventKind = SlotChanged id slot in
     shown_event z line rest es stage notes f kind refl
@@ -188,6 +184,31 @@ one_event z line rest es (HostChanged page entry) within leads stage notes f is 
     (host_change_is_next z f.facts f.past (under_way line stage notes) page entry (falls_at z line stage notes f kind is falls.0)
     (allowed z line stage notes f kind is lawful.0))
     (leads (HasChangedHost entry) notes (after (by line kind) f)
+    (record { at = next_at line stage notes f kind is; exact = λ fresh. absurd (cc fresh) }) lawful.1 falls.1)
+one_event z line rest es (Armed id all) within leads stage notes f is lawful falls =
+    let kind : EventKind = Armed id all in
+    shown_event z line rest es stage notes f kind refl
+    (arming_is_next z f.facts f.past (under_way line stage notes) id all (allowed z line stage notes f kind is lawful.0))
+    (leads HasArmed notes (after (by line kind) f) (record { at = next_at line stage notes f kind is; exact = λ fresh. absurd (cc fresh) }) lawful.1 falls.1)
+one_event z line rest es (Taken id) within leads stage notes f is lawful falls =
+    let kind : EventKind = Taken id in
+    shown_event z line rest es stage notes f kind refl
+    (taking_is_next z f.facts f.past (under_way line stage notes) id (allowed z line stage notes f kind is lawful.0))
+    (leads (HasTaken id) notes (after (by line kind) f)
+    (record { at = next_at line stage notes f kind is; exact = λ fresh. absurd (cc fresh) }) lawful.1 falls.1)
+one_event z line rest es (Harvested id frames) within leads stage notes f is lawful falls =
+    let kind : EventKind = Harvested id frames in
+    shown_event z line rest es stage notes f kind refl
+    (harvest_is_next z f.facts f.past (under_way line stage notes) id frames (falls_at z line stage notes f kind is falls.0)
+    (allowed z line stage notes f kind is lawful.0))
+    (leads (HasRead frames) notes (after (by line kind) f)
+    (record { at = next_at line stage notes f kind is; exact = λ fresh. absurd (cc fresh) }) lawful.1 falls.1)
+one_event z line rest es (Shown id frames) within leads stage notes f is lawful falls =
+    let kind : EventKind = Shown id frames in
+    shown_event z line rest es stage notes f kind refl
+    (showing_is_next z f.facts f.past (under_way line stage notes) id frames (falls_at z line stage notes f kind is falls.0)
+    (allowed z line stage notes f kind is lawful.0))
+    (leads (HasRead frames) notes (after (by line kind) f)
     (record { at = next_at line stage notes f kind is; exact = λ fresh. absurd (cc fresh) }) lawful.1 falls.1)
 one_event z line rest es (Answered number answer) within leads stage notes f is lawful falls = absurd within
 

@@ -2,7 +2,6 @@
 use Rattle.std.proofs.Common.{◌≡◌, ℕ, List, [], ◌∷◌, ◌++◌, Bool, true, false, cond, refl, sym, ap, ◌∙◌, subst}
 use Rattle.std.proofs.lemmas.Bool.{eq-eqb}
 use Rattle.std.specs.Prelude.{Option, Some, None}
-use Rattle.core_views.specs.declared.actor.Actor.{Actor}
 use Rattle.core_views.specs.declared.answer.Answer.{Answer}
 use Rattle.core_views.specs.declared.answer.Answer.TheVariants.{Reached, Mmio, HostFault, Done, Refused}
 use Rattle.core_views.specs.declared.answer.Refusal.TheVariants.{NoFrame, OutOfRange}
@@ -10,84 +9,35 @@ use Rattle.core_views.specs.declared.host.HostEntry.{HostEntry}
 use Rattle.core_views.specs.declared.event.Event.{Event}
 use Rattle.core_views.specs.declared.event.EventKind.{EventKind}
 use Rattle.core_views.specs.declared.event.EventKind.TheVariants.{Begun, LookedAtPause, LookedAtSlots, LookedAtHost, BroughtIn, Accessed, Exited, SlotChanged}
-use Rattle.core_views.specs.declared.event.EventKind.TheVariants.{HostChanged, Answered}
+use Rattle.core_views.specs.declared.event.EventKind.TheVariants.{HostChanged, Armed}
 use Rattle.core_views.specs.declared.trace.Command.{Command}
-use Rattle.core_views.specs.declared.trace.Command.TheVariants.{Access, ChangeHost}
+use Rattle.core_views.specs.declared.trace.Command.TheVariants.{Access, ChangeHost, ClearLog, GetLog, SetLog}
 use Rattle.core_views.specs.declared.trace.HostChange.{HostChange}
 use Rattle.core_views.specs.declared.trace.HostChange.TheVariants.{Move, Evict, Protect, Allow}
 use Rattle.core_views.specs.declared.sizes.Sizes.{Sizes}
 use Rattle.core_views.specs.declared.trace.Line.{Line}
 use Rattle.core_views.specs.declared.trace.Op.{Op}
 use Rattle.core_views.specs.declared.slot_set.MemorySlot.{MemorySlot}
-use Rattle.core_views.specs.Actors.{is_same}
 use Rattle.core_views.specs.Slots.{page_behind}
 use Rattle.core_views.specs.SlotSets.{flat_slots}
 use Rattle.core_views.specs.Host.{HostNotes, brought_in, is_denied, mapping, with_entry}
 use Rattle.core_views.specs.HostChanges.{Changes, host_answer, is_own, lowest_free}
 use Rattle.core_views.specs.Names.{frame_at, frame_for}
-use Rattle.core_views.specs.Flat.{Facts, LineUnderWay, Flat, Idle, Fresh, no_notes}
-use Rattle.core_views.specs.Events.{after, after_all, facts_after, facts_after_all, under_after}
-use Rattle.core_views.specs.Lawful.{HasWork, IsLawful, IsAllowed, MayChangeHost, SawAbsent, SawForbidden, SawNoPage, Tells, answer_at_once, slot_change}
+use Rattle.core_views.specs.Flat.{Facts, LineUnderWay, Flat, Fresh, HasChanged, no_notes}
+use Rattle.core_views.specs.Events.{after, after_all, facts_after, facts_after_all}
+use Rattle.core_views.specs.Lawful.{HasWork, IsLawful, MayChangeHost, SawAbsent, SawForbidden, SawNoPage, answer_at_once, slot_change}
+use Rattle.core_views.specs.LogCommands.{is_all_set}
+use Rattle.core_views.specs.SlotCommands.{arms}
 use Rattle.core_views.specs.FlatHistory.{by, answers, accessing, bringing, changing_host, moving, reaching, doing, doing_by, rest_of, looks, looks_behind}
-use Rattle.core_views.specs.FlatHistory.{alone, one_by_one, working}
+use Rattle.core_views.specs.FlatHistory.{alone, arming, one_by_one, working}
 use Rattle.core_views.proofs.Looks.{facts_behind, still_paused}
 use Rattle.core_views.proofs.HostLines.{owned_answer, mapped}
 use Rattle.core_views.proofs.LowestFrames.{free_is}
 use Rattle.core_views.proofs.SlotChanges.{changes}
-use Rattle.core_views.proofs.SameActor.{changed_here}
-
--- No line of another actor is under way.
-abbrev pub OthersIdle : Actor → Flat → Type 0
-OthersIdle actor f = (i : Actor) → is_same actor i ≡ false → (f.under i).stage ≡ Idle
-
--- No line is under way.
-abbrev pub AllIdle : Flat → Type 0
-AllIdle f = (i : Actor) → (f.under i).stage ≡ Idle
-
--- the facts, the actor and its line under way, and that no other line is
-pub record IsAt (actor : Actor) (facts : Facts) (u : LineUnderWay) (f : Flat) : Type 0 where
-  pub facts_are : f.facts ≡ facts
-  pub line_is : f.under actor ≡ u
-  pub others : OthersIdle actor f
-
-unchanged : (b : Bool) (x y : LineUnderWay) → b ≡ false → y.stage ≡ Idle → (cond b x y).stage ≡ Idle
-unchanged true x y e idle = cc
-unchanged false x y e idle = idle
-
--- An event of the actor leads on to what it makes of the line.
-pub step : (actor : Actor) (kind : EventKind) (facts : Facts) (u : LineUnderWay) (f : Flat) → IsAt actor facts u f
-    → IsAt actor (facts_after kind facts) (under_after kind facts u) (after (record { actor = actor; kind = kind }) f)
-step actor kind facts u f at = record {
-  facts_are = ap (facts_after kind) at.facts_are;
-  line_is = changed_here actor (under_after kind f.facts (f.under actor)) f.under ∙ rw (at.facts_are, at.line_is) refl;
-  others = λ i apart. unchanged (is_same actor i) (under_after kind f.facts (f.under actor)) (f.under i) apart (at.others i apart);
-}
-
-allowed : (z : Sizes) (actor : Actor) (kind : EventKind) (facts : Facts) (u : LineUnderWay) (f : Flat) → IsAt actor facts u f
-    → IsAllowed z facts f.past actor u kind → IsAllowed z f.facts f.past actor (f.under actor) kind
-allowed z actor kind facts u f at may = rw (at.facts_are, at.line_is) may
-
-pub at_end : (b : Bool) (x y : LineUnderWay) → x.stage ≡ Idle → (b ≡ false → y.stage ≡ Idle) → (cond b x y).stage ≡ Idle
-at_end true x y here there = here
-at_end false x y here there = there refl
-
--- the answer of a line, where its own events tell it: the rest of the line is lawful, and no line is under way after it
-record Closes (z : Sizes) (es : List Event) (f : Flat) : Type 0 where
-  lawful : IsLawful z f es
-  idle : AllIdle (after_all es f)
-  facts_are : (after_all es f).facts ≡ facts_after_all es f.facts
-
-answered : (z : Sizes) (line : Line) (answer : Answer) (facts : Facts) (u : LineUnderWay) (f : Flat) → IsAt line.actor facts u f → u.line ≡ line
-    → Tells z facts.slots line.actor u.line.command u.stage answer → Closes z (answers line answer) f
-answered z line answer facts u f at is tells = record {
-  lawful = (allowed z line.actor (Answered line.number answer) facts u f at (ap (λ (l : Line). l.number) (sym is), tells), tt);
-  idle = λ i. at_end (is_same line.actor i) (under_after (Answered line.number answer) f.facts (f.under line.actor)) (f.under i) refl (at.others i);
-  facts_are = refl;
-}
-
-more : (z : Sizes) (e : Event) (es : List Event) (f : Flat) → IsAllowed z f.facts f.past e.actor (f.under e.actor) e.kind → Closes z es (after e f)
-    → Closes z (e ∷ es) f
-more z e es f may rest = record { lawful = (may, rest.lawful); idle = rest.idle; facts_are = rest.facts_are }
+use Rattle.core_views.proofs.Caused.{AreCaused, all_caused, caused_after}
+use Rattle.core_views.proofs.Writes.{AreOfLines, all_of_lines}
+use Rattle.core_views.proofs.AloneSteps.{AllIdle, Closes, IsAt, allowed, answered, more, step}
+use Rattle.core_views.proofs.AloneReads.{read_or_answer}
 
 -- An access looks at the pause, at the slots, and at the host page that they give it. It runs where nothing is paused.
 
@@ -178,6 +128,18 @@ access_closes z line gfn word op facts (Some page) f behind is runs at =
     (allowed z line.actor (LookedAtHost page) facts _ f at refl)
     (reaching_closes z line gfn word op facts page (is_denied op (facts.host page)) _ behind refl is runs (step line.actor (LookedAtHost page) facts _ f at))
 
+-- A line that has changed its slot arms it, if it is to, and is done.
+arms_closes : (z : Sizes) (line : Line) (command : Command) (facts : Facts) (f : Flat) → line.command ≡ command
+    → IsAt line.actor facts (record { line = line; stage = HasChanged; notes = no_notes }) f → Closes z (arming z line command) f
+arms_closes z line (SetLog id true) facts f is at =
+    let event : EventKind = Armed id (is_all_set z.mode) in
+    more z (by line event) (answers line Done) f
+    (allowed z line.actor event facts _ f at (refl, is, refl))
+    (answered z line Done (facts_after event facts) _ _ (step line.actor event facts _ f at) refl refl)
+arms_closes z line (SetLog id false) facts f is at = answered z line Done facts _ f at refl (refl, ap arms is)
+arms_closes z line (Access gfn word op) facts f is at = answered z line Done facts _ f at refl (refl, ap arms is)
+arms_closes z line _ facts f is at = answered z line Done facts _ f at refl (refl, ap arms is)
+
 change_closes : (z : Sizes) (line : Line) (command : Command) (facts : Facts) (f : Flat) (change : ℕ × Option MemorySlot)
     → slot_change facts.slots command ≡ Some change
     → HasWork z facts line.actor command → line.command ≡ command → IsAt line.actor facts (record { line = line; stage = Fresh; notes = no_notes }) f
@@ -185,9 +147,9 @@ change_closes : (z : Sizes) (line : Line) (command : Command) (facts : Facts) (f
 change_closes z line command facts f change changed works is at =
     let event : EventKind = SlotChanged change.0 change.1 in
     subst (λ (es : List Event). Closes z es f) (sym (changes z line command facts change changed))
-    (more z (by line event) (answers line Done) f
+    (more z (by line event) (arming z line command) f
     (allowed z line.actor event facts _ f at (refl, rw is works, rw is changed))
-    (answered z line Done (facts_after event facts) _ _ (step line.actor event facts _ f at) refl refl))
+    (arms_closes z line command (facts_after event facts) _ is (step line.actor event facts _ f at)))
 
 -- A line that has nothing to do is answered at once.
 change_or_answer : (z : Sizes) (line : Line) (command : Command) (facts : Facts) (f : Flat) (change : ℕ × Option MemorySlot)
@@ -255,33 +217,50 @@ host_closes z line page change facts f true own is at =
 host_closes z line page change facts f false own is at = answered z line (Refused OutOfRange) facts _ f at refl (rw (is, own) refl)
 
 doing_closes : (z : Sizes) (line : Line) (command : Command) (facts : Facts) (f : Flat) → line.command ≡ command → facts.paused ≡ false
+    → ((gfn : ℕ) → facts.pending gfn ≡ true → f.past.causes gfn ≡ true)
     → IsAt line.actor facts (record { line = line; stage = Fresh; notes = no_notes }) f → Closes z (looks z line command facts ++ doing z line command facts) f
-doing_closes z line (Access gfn word op) facts f is runs at =
+doing_closes z line (Access gfn word op) facts f is runs caused at =
     let page : Option ℕ = page_behind (flat_slots facts.slots) gfn op in
     more z (by line LookedAtPause) (by line LookedAtSlots ∷ (looks_behind line page ++ accessing line gfn word op facts page)) f
     (allowed z line.actor LookedAtPause facts _ f at refl)
     (more z (by line LookedAtSlots) (looks_behind line page ++ accessing line gfn word op facts page) _
     (allowed z line.actor LookedAtSlots facts _ _ (step line.actor LookedAtPause facts _ f at) refl)
     (access_closes z line gfn word op facts page _ refl is runs (step line.actor LookedAtSlots facts _ _ (step line.actor LookedAtPause facts _ f at))))
-doing_closes z line (ChangeHost page change) facts f is runs at = host_closes z line page change facts f (is_own z line.actor page) refl is at
-doing_closes z line command facts f is runs at = change_or_answer z line command facts f _ refl is at
+doing_closes z line (ChangeHost page change) facts f is runs caused at = host_closes z line page change facts f (is_own z line.actor page) refl is at
+doing_closes z line (GetLog id) facts f is runs caused at = read_or_answer z line (GetLog id) id facts f is refl refl caused at
+doing_closes z line (ClearLog id first count words) facts f is runs caused at =
+    read_or_answer z line (ClearLog id first count words) id facts f is refl refl caused at
+doing_closes z line command facts f is runs caused at = change_or_answer z line command facts f _ refl is at
 
-alone_closes : (z : Sizes) (line : Line) (f : Flat) → AllIdle f → f.facts.paused ≡ false → Closes z (alone z line f.facts) f
-alone_closes z line f idle runs =
+-- What the state keeps of writes is kept along the way.
+pub record IsKept (f : Flat) : Type 0 where
+  pub lines : AreOfLines f
+  pub caused : AreCaused f.facts f.past
+
+alone_closes : (z : Sizes) (line : Line) (f : Flat) → AllIdle f → f.facts.paused ≡ false → IsKept f → Closes z (alone z line f.facts) f
+alone_closes z line f idle runs kept =
     let start : IsAt line.actor f.facts (f.under line.actor) f = record { facts_are = refl; line_is = refl; others = λ i apart. idle i } in
+    let caused = caused_after line.actor (Begun line) f.facts f.past tt kept.caused in
     more z (by line (Begun line)) (looks z line line.command f.facts ++ rest_of z line Fresh f.facts) f (idle line.actor, refl)
-    (doing_closes z line line.command f.facts (after (by line (Begun line)) f) refl runs (step line.actor (Begun line) f.facts (f.under line.actor) f start))
+    (doing_closes z line line.command f.facts (after (by line (Begun line)) f) refl runs caused.pending
+    (step line.actor (Begun line) f.facts (f.under line.actor) f start))
 
 pub lawful_append : (z : Sizes) (xs ys : List Event) (f : Flat) → IsLawful z f xs → IsLawful z (after_all xs f) ys → IsLawful z f (xs ++ ys)
 lawful_append z [] ys f front back = back
 lawful_append z (x ∷ xs) ys f front back = (front.0, lawful_append z xs ys (after x f) front.1 back)
 
-pub one_by_one_lawful : (z : Sizes) (lines : List Line) (f : Flat) → AllIdle f → f.facts.paused ≡ false → IsLawful z f (one_by_one z lines f.facts)
-one_by_one_lawful z [] f idle runs = tt
-one_by_one_lawful z (line ∷ lines) f idle runs =
-    let closes = alone_closes z line f idle runs in
+pub one_by_one_lawful : (z : Sizes) (lines : List Line) (f : Flat) → AllIdle f → f.facts.paused ≡ false → IsKept f
+    → IsLawful z f (one_by_one z lines f.facts)
+one_by_one_lawful z [] f idle runs kept = tt
+one_by_one_lawful z (line ∷ lines) f idle runs kept =
+    let closes = alone_closes z line f idle runs kept in
     let then_ : Flat = after_all (alone z line f.facts) f in
     let still : then_.facts.paused ≡ false =
     ap (λ (g : Facts). g.paused) (facts_behind (alone z line f.facts) f) ∙ still_paused (alone z line f.facts) f.facts ∙ runs in
+    let kept_then : IsKept then_ =
+    record {
+      lines = all_of_lines z (alone z line f.facts) f closes.lawful kept.lines;
+      caused = all_caused z (alone z line f.facts) f closes.lawful kept.lines kept.caused;
+    } in
     lawful_append z (alone z line f.facts) (one_by_one z lines (facts_after_all (alone z line f.facts) f.facts)) f closes.lawful
-    (subst (λ (g : Facts). IsLawful z then_ (one_by_one z lines g)) closes.facts_are (one_by_one_lawful z lines then_ closes.idle still))
+    (subst (λ (g : Facts). IsLawful z then_ (one_by_one z lines g)) closes.facts_are (one_by_one_lawful z lines then_ closes.idle still kept_then))

@@ -2,10 +2,10 @@
 use Rattle.std.proofs.Common.{◌≡◌, ℕ, List, [], ◌∷◌, ◌++◌, Bool, true, false, cond, refl, ap, ◌∙◌}
 use Rattle.std.specs.Prelude.{Option, Some, None}
 use Rattle.core_views.specs.declared.event.Event.{Event}
-use Rattle.core_views.specs.declared.event.EventKind.TheVariants.{Begun, LookedAtHost}
+use Rattle.core_views.specs.declared.event.EventKind.TheVariants.{Begun, LookedAtHost, SlotChanged, Taken}
 use Rattle.core_views.specs.declared.answer.Answer.{Answer}
 use Rattle.core_views.specs.declared.trace.Command.{Command}
-use Rattle.core_views.specs.declared.trace.Command.TheVariants.{Access, ChangeHost}
+use Rattle.core_views.specs.declared.trace.Command.TheVariants.{Access, ChangeHost, ClearLog, GetLog, SetLog}
 use Rattle.core_views.specs.declared.trace.HostChange.{HostChange}
 use Rattle.core_views.specs.declared.trace.HostChange.TheVariants.{Move, Evict, Protect, Allow}
 use Rattle.core_views.specs.declared.trace.Line.{Line}
@@ -20,7 +20,8 @@ use Rattle.core_views.specs.Flat.{Facts, Fresh}
 use Rattle.core_views.specs.Events.{facts_after_all}
 use Rattle.core_views.specs.Lawful.{answer_at_once, slot_change}
 use Rattle.core_views.specs.FlatHistory.{by, accessing, bringing, changing_host, moving, reaching, doing, doing_by, rest_of, looks, looks_behind, alone}
-use Rattle.core_views.specs.FlatHistory.{one_by_one}
+use Rattle.core_views.specs.FlatHistory.{answers, arming, harvest, one_by_one, reading, working}
+use Rattle.core_views.specs.LogCommands.{takes_out}
 use Rattle.core_views.specs.Alone.{without_looks}
 use Rattle.core_views.proofs.HostLines.{owned_answer}
 use Rattle.core_views.proofs.SlotChanges.{changes}
@@ -42,11 +43,34 @@ accessing_shows : (line : Line) (gfn word : ℕ) (op : Op) (f : Facts) (page : O
 accessing_shows line gfn word op f None = refl
 accessing_shows line gfn word op f (Some page) = reaching_shows line gfn word op f page (is_denied op (f.host page))
 
+arming_shows : (z : Sizes) (line : Line) (command : Command) → without_looks (arming z line command) ≡ arming z line command
+arming_shows z line (SetLog id true) = refl
+arming_shows z line (SetLog id false) = refl
+arming_shows z line (Access gfn word op) = refl
+arming_shows z line _ = refl
+
 change_shows : (z : Sizes) (line : Line) (command : Command) (f : Facts) (change : ℕ × Option MemorySlot) (answer : Option Answer)
     → slot_change f.slots command ≡ Some change
     → without_looks (doing_by z line command f answer) ≡ doing_by z line command f answer
-change_shows z line command f change None is = rw (changes z line command f change is) refl
+change_shows z line command f change None is =
+    rw (changes z line command f change is)
+    (ap (λ (es : List Event). by line (SlotChanged change.0 change.1) ∷ es) (arming_shows z line command))
 change_shows z line command f change (Some answer) is = refl
+
+reading_shows : (z : Sizes) (line : Line) (command : Command) (id : ℕ) (f : Facts)
+    → without_looks (reading z line command id f) ≡ reading z line command id f
+reading_shows z line command id f = either (takes_out z.mode command) _ _
+  where
+    either : (takes : Bool) (frames : List ℕ) (answer : Answer)
+        → without_looks (by line (harvest takes id frames) ∷ answers line answer) ≡ by line (harvest takes id frames) ∷ answers line answer
+    either true frames answer = refl
+    either false frames answer = refl
+
+read_shows : (z : Sizes) (line : Line) (command : Command) (id : ℕ) (f : Facts) (answer : Option Answer)
+    → working z line command f ≡ by line (Taken id) ∷ reading z line command id f
+    → without_looks (doing_by z line command f answer) ≡ doing_by z line command f answer
+read_shows z line command id f None does = rw does (ap (λ (es : List Event). by line (Taken id) ∷ es) (reading_shows z line command id f))
+read_shows z line command id f (Some answer) does = refl
 
 moving_shows : (line : Line) (page : ℕ) (f : Facts) (free : Option ℕ) → without_looks (moving line page f free) ≡ moving line page f free
 moving_shows line page f None = refl
@@ -70,6 +94,9 @@ doing_shows : (z : Sizes) (line : Line) (command : Command) (f : Facts)
     → without_looks (looks z line command f ++ doing z line command f) ≡ doing z line command f
 doing_shows z line (Access gfn word op) f = accessing_shows line gfn word op f (page_behind (flat_slots f.slots) gfn op)
 doing_shows z line (ChangeHost page change) f = owned_shows z line page change f (is_own z line.actor page)
+doing_shows z line (GetLog id) f = read_shows z line (GetLog id) id f (answer_at_once z f.slots line.actor (GetLog id)) refl
+doing_shows z line (ClearLog id first count words) f =
+    read_shows z line (ClearLog id first count words) id f (answer_at_once z f.slots line.actor (ClearLog id first count words)) refl
 doing_shows z line command f = change_shows z line command f _ (answer_at_once z f.slots line.actor command) refl
 
 alone_shows : (z : Sizes) (line : Line) (f : Facts) → without_looks (alone z line f) ≡ by line (Begun line) ∷ rest_of z line Fresh f

@@ -1,5 +1,7 @@
 pub mod SameActor
 pub mod SlotChanges
+pub mod AloneSteps
+pub mod AloneReads
 pub mod AloneIsLawful
 pub mod Texts
 pub mod AloneIsWhole
@@ -16,8 +18,13 @@ pub mod Holding
 pub mod FlatSlots
 pub mod Writes
 pub mod Written
+pub mod WrittenSince
+pub mod DueFrames
 pub mod SlotLines
 pub mod HostLines
 pub mod Ranges
 pub mod LowestFrames
 pub mod FallsAsFlat
+pub mod AskedFrames
+pub mod Caused
+pub mod HarvestsAlone

@@ -3,14 +3,14 @@
 use Rattle.std.proofs.Common.{◌≡◌, ℕ, List, ◌∷◌, ◌++◌, ◌&&◌, ◌||◌, Bool, true, false, cond, not, refl, sym, ap, ◌∙◌, subst}
 use Rattle.std.specs.Prelude.{Option, Some, None}
 use Rattle.core_views.specs.declared.answer.Answer.{Answer}
-use Rattle.core_views.specs.declared.answer.Answer.TheVariants.{Reached, Mmio, HostFault, Starved, Done, Moved, Refused}
+use Rattle.core_views.specs.declared.answer.Answer.TheVariants.{Reached, Mmio, HostFault, Starved, Done, Moved, Bits, Refused}
 use Rattle.core_views.specs.declared.answer.Refusal.TheVariants.{NoFrame}
 use Rattle.core_views.specs.declared.host.HostEntry.{HostEntry}
 use Rattle.core_views.specs.declared.event.Event.{Event}
 use Rattle.core_views.specs.declared.event.EventKind.{EventKind}
-use Rattle.core_views.specs.declared.event.EventKind.TheVariants.{Accessed, BroughtIn, Exited, HostChanged, SlotChanged}
+use Rattle.core_views.specs.declared.event.EventKind.TheVariants.{Accessed, BroughtIn, Exited, HostChanged, SlotChanged, Armed, Taken, Harvested, Shown}
 use Rattle.core_views.specs.declared.trace.Command.{Command}
-use Rattle.core_views.specs.declared.trace.Command.TheVariants.{Access, ChangeHost}
+use Rattle.core_views.specs.declared.trace.Command.TheVariants.{Access, ChangeHost, ClearLog, DeleteSlot, GetLog, SetLog, SetSlot}
 use Rattle.core_views.specs.declared.trace.HostChange.{HostChange}
 use Rattle.core_views.specs.declared.trace.HostChange.TheVariants.{Move, Evict, Protect, Allow}
 use Rattle.core_views.specs.declared.trace.Line.{Line}
@@ -21,13 +21,16 @@ use Rattle.core_views.specs.HostChanges.{Changes, host_answer}
 use Rattle.core_views.specs.Alone.{FallsAsFlat}
 use Rattle.core_views.specs.declared.slot_set.MemorySlot.{MemorySlot}
 use Rattle.core_views.specs.Slots.{Slots, is_write, page_behind}
-use Rattle.core_views.specs.SlotSets.{flat_slots}
+use Rattle.core_views.specs.SlotSets.{flat_slots, slot_of_id}
+use Rattle.core_views.specs.SlotCommands.{arms}
+use Rattle.core_views.specs.LogCommands.{asked_frames, bits_for, log_read}
 use Rattle.core_views.specs.Names.{frame_at, frame_for}
 use Rattle.core_views.specs.Past.{Past}
-use Rattle.core_views.specs.Flat.{Facts, Notes, LineUnderWay, Stage, Idle, Fresh, HasAccessed, HasLeft, HasChanged, HasChangedHost}
+use Rattle.core_views.specs.Flat.{Facts, Notes, LineUnderWay, Stage, Idle, Fresh, HasAccessed, HasLeft, HasChanged, HasArmed, HasTaken, HasRead}
+use Rattle.core_views.specs.Flat.{HasChangedHost}
 use Rattle.core_views.specs.Events.{facts_after, under_after}
-use Rattle.core_views.specs.Lawful.{BringsIn, HasWork, IsAllowed, MayLeave, SawForbidden, Tells, slot_change}
-use Rattle.core_views.specs.FlatHistory.{by, answers, accessing, bringing, moving, reaching, doing, doing_by, rest_of}
+use Rattle.core_views.specs.Lawful.{BringsIn, HasWork, IsAllowed, MayLeave, MayRead, SawForbidden, Tells, slot_at, slot_change, slot_read}
+use Rattle.core_views.specs.FlatHistory.{by, answers, accessing, arming, bringing, harvest, moving, reaching, reading, doing, doing_by, rest_of}
 use Rattle.core_views.proofs.HostLines.{mapped}
 use Rattle.core_views.proofs.SlotChanges.{changes}
 
@@ -119,12 +122,54 @@ exit_is_next z f past u answer exact fed may = rw (may.0) (left z u.line u.line.
 
 changed : (z : Sizes) (line : Line) (command : Command) (f : Facts) (id : ℕ) (slot : Option MemorySlot) → HasWork z f line.actor command
     → slot_change f.slots command ≡ Some (id, slot)
-    → doing z line command f ≡ by line (SlotChanged id slot) ∷ answers line Done
+    → doing z line command f ≡ by line (SlotChanged id slot) ∷ arming z line command
 changed z line command f id slot works is = ap (doing_by z line command f) works ∙ changes z line command f (id, slot) is
 
 pub slot_change_is_next : (z : Sizes) (f : Facts) (past : Past) (u : LineUnderWay) (id : ℕ) (slot : Option MemorySlot)
     → IsAllowed z f past u.line.actor u (SlotChanged id slot) → IsNext z f u (SlotChanged id slot)
 slot_change_is_next z f past u id slot may = rw (may.0) (changed z u.line u.line.command f id slot may.1 may.2)
+
+-- A line that gives a slot a dirty log arms it.
+pub arming_is_next : (z : Sizes) (f : Facts) (past : Past) (u : LineUnderWay) (id : ℕ) (all : Bool)
+    → IsAllowed z f past u.line.actor u (Armed id all) → IsNext z f u (Armed id all)
+arming_is_next z f past u id all may = rw (may.0, may.1, may.2) refl
+
+-- A line that reads a log: its begin, and what it reads.
+taken : (z : Sizes) (line : Line) (command : Command) (f : Facts) (id : ℕ) → HasWork z f line.actor command → log_read command ≡ Some id
+    → doing z line command f ≡ by line (Taken id) ∷ reading z line command id f
+taken z line (GetLog i) f id works is =
+    ap (doing_by z line (GetLog i) f) works ∙ ap (λ (n : ℕ). by line (Taken n) ∷ reading z line (GetLog i) n f) (some_is i id is)
+taken z line (ClearLog i first count words) f id works is =
+    ap (doing_by z line (ClearLog i first count words) f) works
+    ∙ ap (λ (n : ℕ). by line (Taken n) ∷ reading z line (ClearLog i first count words) n f) (some_is i id is)
+taken z line (Access gfn word op) f id works is = absurd (cc is)
+taken z line (ChangeHost page change) f id works is = absurd (cc is)
+taken z line (SetSlot i slot) f id works is = absurd (cc is)
+taken z line (DeleteSlot i) f id works is = absurd (cc is)
+taken z line (SetLog i on) f id works is = absurd (cc is)
+
+pub taking_is_next : (z : Sizes) (f : Facts) (past : Past) (u : LineUnderWay) (id : ℕ) → IsAllowed z f past u.line.actor u (Taken id)
+    → IsNext z f u (Taken id)
+taking_is_next z f past u id may = rw (may.0) (taken z u.line u.line.command f id may.1 may.2)
+
+read : (z : Sizes) (f : Facts) (past : Past) (line : Line) (stage : Stage) (id : ℕ) (frames : List ℕ) (takes : Bool)
+    → MayRead z f past line.command stage id frames takes → frames ≡ asked_frames f.pending line.command (slot_of_id id f.slots)
+    → rest_of z line stage f ≡ by line (harvest takes id frames) ∷ answers line (Bits (bits_for line.command (slot_read f.slots line.command) frames))
+read z f past line stage id frames takes may is =
+    ap (λ (s : Stage). rest_of z line s f) may.begun
+    ∙ (ap (λ (b : Bool). harvested b (asked_frames f.pending line.command (slot_read f.slots line.command))) may.takes
+    ∙ ap (harvested takes) (ap (λ (i : Option ℕ). asked_frames f.pending line.command (slot_at f.slots i)) may.reads ∙ sym is))
+  where
+    harvested : Bool → List ℕ → List Event
+    harvested b xs = by line (harvest b id xs) ∷ answers line (Bits (bits_for line.command (slot_read f.slots line.command) xs))
+
+pub harvest_is_next : (z : Sizes) (f : Facts) (past : Past) (u : LineUnderWay) (id : ℕ) (frames : List ℕ)
+    → FallsAsFlat z f u.line.command (Harvested id frames) → IsAllowed z f past u.line.actor u (Harvested id frames) → IsNext z f u (Harvested id frames)
+harvest_is_next z f past u id frames falls may = read z f past u.line u.stage id frames true may falls.2
+
+pub showing_is_next : (z : Sizes) (f : Facts) (past : Past) (u : LineUnderWay) (id : ℕ) (frames : List ℕ)
+    → FallsAsFlat z f u.line.command (Shown id frames) → IsAllowed z f past u.line.actor u (Shown id frames) → IsNext z f u (Shown id frames)
+showing_is_next z f past u id frames falls may = read z f past u.line u.stage id frames false may falls.2
 
 -- A line that changes a host page: its change.
 
@@ -154,6 +199,13 @@ host_change_is_next z f past u page entry falls may =
 
 -- The answer: what the line's stage tells, or what it is answered at once.
 
+-- a line that gives no slot a dirty log
+unarmed : (z : Sizes) (line : Line) (command : Command) → arms command ≡ false → arming z line command ≡ answers line Done
+unarmed z line (SetLog id true) is = absurd (cc is)
+unarmed z line (SetLog id false) is = refl
+unarmed z line (Access gfn word op) is = refl
+unarmed z line _ is = refl
+
 -- a clause for each stage
 pub told : (z : Sizes) (line : Line) (stage : Stage) (f : Facts) (answer : Answer) → Tells z f.slots line.actor line.command stage answer
     → rest_of z line stage f ≡ answers line answer
@@ -161,5 +213,8 @@ told z line Idle f answer tells = absurd tells
 told z line Fresh f answer tells = ap (doing_by z line line.command f) tells
 told z line (HasAccessed frame value) f answer tells = ap (answers line) (sym tells)
 told z line (HasLeft how) f answer tells = ap (answers line) (sym tells)
-told z line HasChanged f answer tells = ap (answers line) (sym tells)
+told z line HasChanged f answer tells = unarmed z line line.command tells.1 ∙ ap (answers line) (sym tells.0)
+told z line HasArmed f answer tells = ap (answers line) (sym tells)
+told z line (HasTaken id) f answer tells = absurd tells
+told z line (HasRead frames) f answer tells = ap (answers line) (sym tells)
 told z line (HasChangedHost entry) f answer tells = ap (answers line) (sym tells)

@@ -8,7 +8,10 @@ use Rattle.std.specs.Ordering.{MatchOrdering, match_ordering, nat_cmp}
 use Rattle.std.specs.declared.cmp.Ordering.{Ordering}
 use Rattle.std.specs.declared.cmp.Ordering.TheVariants.{Less, Equal, Greater}
 use Rattle.core_views.specs.declared.slot_set.MemorySlot.{MemorySlot}
-use Rattle.core_views.specs.SlotSets.{MemorySlots, slot_of_id, with_slot_at, without_slot_at}
+use Rattle.core_views.specs.declared.trace.Command.TheVariants.{SetLog}
+use Rattle.core_views.specs.SlotCommands.{slots_after}
+use Rattle.core_views.specs.SlotSets.{MemorySlots, changed_slots, slot_of_id, with_slot_at, without_slot_at}
+use Rattle.std.specs.Option.{option_map}
 
 -- This slot stands at its ID.
 pub set_here : (id : ℕ) (m : MemorySlot) (es : MemorySlots) → slot_of_id id (with_slot_at id m es) ≡ Some m
@@ -55,3 +58,23 @@ taken_at i id ((k, n) ∷ es) = by (k == id) (id == i) (λ e. grind (arith, nat_
     by true false same apart rest = rest ∙ ap (λ b. behind b (slot_of_id i es)) (sym (same refl))
     by false true same apart rest = ap (λ b. behind b (slot_of_id i (without_slot_at id es))) (apart refl refl) ∙ rest
     by false false same apart rest = ap (behind (k == i)) rest
+
+-- Where the dirty log of a slot changes, the slot stands at its ID as it was but for this, and at each other ID what stood there.
+
+abbrev pub logged_so : Bool → Option MemorySlot → Option MemorySlot
+logged_so on was = option_map (λ m. record { slot = m.slot; logged = on }) was
+
+pub log_here : (id : ℕ) (on : Bool) (slots : MemorySlots) → slot_of_id id (slots_after (SetLog id on) slots) ≡ logged_so on (slot_of_id id slots)
+log_here id on slots = by (slot_of_id id slots)
+  where
+    by : (was : Option MemorySlot) → slot_of_id id (changed_slots id (logged_so on was) slots) ≡ logged_so on was
+    by None = taken_at id id slots ∙ cond-true (id == id) None (slot_of_id id slots) (eq-eqb id id refl)
+    by (Some was) = set_here id (record { slot = was.slot; logged = on }) slots
+
+pub log_elsewhere : (id other : ℕ) (on : Bool) (slots : MemorySlots) → other ≢ id
+    → slot_of_id other (slots_after (SetLog id on) slots) ≡ slot_of_id other slots
+log_elsewhere id other on slots apart = by (slot_of_id id slots)
+  where
+    by : (was : Option MemorySlot) → slot_of_id other (changed_slots id (logged_so on was) slots) ≡ slot_of_id other slots
+    by None = taken_at other id slots ∙ cond-false (id == other) None (slot_of_id other slots) (ne_eqb id other (λ e. apart (sym e)))
+    by (Some was) = set_elsewhere id other (record { slot = was.slot; logged = on }) slots apart

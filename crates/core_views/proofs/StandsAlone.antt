@@ -2,14 +2,14 @@
 use Rattle.std.proofs.Common.{◌≡◌, ℕ, List, [], ◌∷◌, ◌++◌, Bool, true, false, cond, refl, ap, ◌∙◌, append_assoc}
 use Rattle.std.specs.Prelude.{Option, Some, None}
 use Rattle.core_views.specs.declared.answer.Answer.{Answer}
-use Rattle.core_views.specs.declared.answer.Answer.TheVariants.{Reached, Mmio, HostFault, Done, Moved, Refused}
+use Rattle.core_views.specs.declared.answer.Answer.TheVariants.{Reached, Mmio, HostFault, Done, Moved, Bits, Refused}
 use Rattle.core_views.specs.declared.answer.Refusal.TheVariants.{NoFrame, OutOfRange}
 use Rattle.core_views.specs.declared.event.Event.{Event}
 use Rattle.core_views.specs.declared.event.EventKind.{EventKind}
 use Rattle.core_views.specs.declared.event.EventKind.TheVariants.{Begun, LookedAtPause, LookedAtSlots, LookedAtHost, BroughtIn, Accessed, Exited, SlotChanged}
-use Rattle.core_views.specs.declared.event.EventKind.TheVariants.{HostChanged, Answered}
+use Rattle.core_views.specs.declared.event.EventKind.TheVariants.{HostChanged, Armed, Taken, Harvested, Shown, Answered}
 use Rattle.core_views.specs.declared.trace.Command.{Command}
-use Rattle.core_views.specs.declared.trace.Command.TheVariants.{Access, ChangeHost}
+use Rattle.core_views.specs.declared.trace.Command.TheVariants.{Access, ChangeHost, ClearLog, GetLog, SetLog}
 use Rattle.core_views.specs.declared.trace.HostChange.{HostChange}
 use Rattle.core_views.specs.declared.trace.HostChange.TheVariants.{Move, Evict, Protect, Allow}
 use Rattle.core_views.specs.declared.trace.Line.{Line}
@@ -22,9 +22,10 @@ use Rattle.core_views.specs.Slots.{page_behind}
 use Rattle.core_views.specs.SlotSets.{flat_slots}
 use Rattle.core_views.specs.Flat.{Facts}
 use Rattle.core_views.specs.Events.{facts_after_all}
-use Rattle.core_views.specs.Lawful.{answer_at_once, slot_change}
+use Rattle.core_views.specs.Lawful.{answer_at_once, slot_change, slot_read}
+use Rattle.core_views.specs.LogCommands.{asked_frames, bits_for, is_all_set, takes_out}
 use Rattle.core_views.specs.FlatHistory.{by, answers, accessing, bringing, changing_host, moving, reaching, doing, doing_by, looks, looks_behind, alone}
-use Rattle.core_views.specs.FlatHistory.{one_by_one}
+use Rattle.core_views.specs.FlatHistory.{arming, one_by_one, reading, working}
 use Rattle.core_views.specs.Alone.{AreWithin, IsInside, StandsAlone, StandsFirst}
 use Rattle.core_views.proofs.HostLines.{owned_answer}
 use Rattle.core_views.proofs.SlotChanges.{changes}
@@ -106,13 +107,43 @@ accessing_closed line gfn word op f (Some page) = reaching_closed line gfn word 
 change_closed : (z : Sizes) (line : Line) (command : Command) (f : Facts) (change : ℕ × Option MemorySlot) (at_once : Option Answer)
     → slot_change f.slots command ≡ Some change
     → Closed line (doing_by z line command f at_once)
-change_closed z line command f change None is = record {
-  within = by line (SlotChanged change.0 change.1) ∷ [];
-  answer = Done;
-  are_within = (refl, tt, tt);
-  events_are = changes z line command f change is;
-}
+change_closed z line command f change None is = by_arming command (changes z line command f change is)
+  where
+    by_arming : (c : Command) → doing_by z line command f None ≡ by line (SlotChanged change.0 change.1) ∷ arming z line c
+        → Closed line (doing_by z line command f None)
+    by_arming (SetLog id true) events = record {
+      within = by line (SlotChanged change.0 change.1) ∷ by line (Armed id (is_all_set z.mode)) ∷ [];
+      answer = Done;
+      are_within = (refl, tt, (refl, tt, tt));
+      events_are = events;
+    }
+    by_arming (SetLog id false) events =
+        record { within = by line (SlotChanged change.0 change.1) ∷ []; answer = Done; are_within = (refl, tt, tt); events_are = events }
+    by_arming (Access gfn word op) events =
+        record { within = by line (SlotChanged change.0 change.1) ∷ []; answer = Done; are_within = (refl, tt, tt); events_are = events }
+    by_arming _ events =
+        record { within = by line (SlotChanged change.0 change.1) ∷ []; answer = Done; are_within = (refl, tt, tt); events_are = events }
 change_closed z line command f change (Some answer) is = record { within = []; answer = answer; are_within = tt; events_are = refl }
+
+-- A line that reads a log: it begins to, and reads; or it is answered at once.
+read_closed : (z : Sizes) (line : Line) (command : Command) (id : ℕ) (f : Facts) (at_once : Option Answer)
+    → working z line command f ≡ by line (Taken id) ∷ reading z line command id f → Closed line (doing_by z line command f at_once)
+read_closed z line command id f (Some answer) does = record { within = []; answer = answer; are_within = tt; events_are = refl }
+read_closed z line command id f None does = by_takes (takes_out z.mode command) refl
+  where
+    by_takes : (takes : Bool) → takes_out z.mode command ≡ takes → Closed line (working z line command f)
+    by_takes true is = record {
+      within = by line (Taken id) ∷ by line (Harvested id (asked_frames f.pending command (slot_read f.slots command))) ∷ [];
+      answer = Bits (bits_for command (slot_read f.slots command) (asked_frames f.pending command (slot_read f.slots command)));
+      are_within = (refl, tt, (refl, tt, tt));
+      events_are = does ∙ rw is refl;
+    }
+    by_takes false is = record {
+      within = by line (Taken id) ∷ by line (Shown id (asked_frames f.pending command (slot_read f.slots command))) ∷ [];
+      answer = Bits (bits_for command (slot_read f.slots command) (asked_frames f.pending command (slot_read f.slots command)));
+      are_within = (refl, tt, (refl, tt, tt));
+      events_are = does ∙ rw is refl;
+    }
 
 -- A line that changes a host page: it looks at it, and makes one event; or it is answered at once.
 looked_closed : (line : Line) (page : ℕ) (kind : EventKind) (answer : Answer) → IsInside kind
@@ -143,6 +174,9 @@ owned_closed z line page change f false = record { within = []; answer = Refused
 doing_closed : (z : Sizes) (line : Line) (command : Command) (f : Facts) → Closed line (looks z line command f ++ doing z line command f)
 doing_closed z line (Access gfn word op) f = accessing_closed line gfn word op f (page_behind (flat_slots f.slots) gfn op)
 doing_closed z line (ChangeHost page change) f = owned_closed z line page change f (is_own z line.actor page)
+doing_closed z line (GetLog id) f = read_closed z line (GetLog id) id f (answer_at_once z f.slots line.actor (GetLog id)) refl
+doing_closed z line (ClearLog id first count words) f =
+    read_closed z line (ClearLog id first count words) id f (answer_at_once z f.slots line.actor (ClearLog id first count words)) refl
 doing_closed z line command f = change_closed z line command f _ (answer_at_once z f.slots line.actor command) refl
 
 alone_first : (z : Sizes) (line : Line) (f : Facts) (rest : List Event) → StandsFirst line (alone z line f ++ rest) rest

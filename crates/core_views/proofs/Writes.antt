@@ -5,7 +5,7 @@ use Rattle.std.proofs.lemmas.List.Elements.{All-contains, All-contains_itself, A
 use Rattle.core_views.specs.declared.actor.Actor.{Actor}
 use Rattle.core_views.specs.declared.event.Event.{Event}
 use Rattle.core_views.specs.declared.event.EventKind.{EventKind}
-use Rattle.core_views.specs.declared.event.EventKind.TheVariants.{Begun, Accessed, Exited, SlotChanged, HostChanged, Answered}
+use Rattle.core_views.specs.declared.event.EventKind.TheVariants.{Begun, Accessed, Exited, SlotChanged, HostChanged, Armed, Taken, Harvested, Shown, Answered}
 use Rattle.core_views.specs.declared.sizes.Sizes.{Sizes}
 use Rattle.core_views.specs.declared.trace.Line.{Line}
 use Rattle.core_views.specs.Actors.{is_same}
@@ -196,6 +196,10 @@ line_writes z f past actor u (Accessed g word op frame before) gfn may stands = 
 line_writes z f past actor u (Exited answer) gfn may stands = (λ e. absurd (cc e), stands.1)
 line_writes z f past actor u (SlotChanged id slot) gfn may stands = (λ e. absurd (cc e), stands.1)
 line_writes z f past actor u (HostChanged page entry) gfn may stands = (λ e. absurd (cc e), stands.1)
+line_writes z f past actor u (Armed id all) gfn may stands = (λ e. absurd (cc e), stands.1)
+line_writes z f past actor u (Taken id) gfn may stands = (λ e. absurd (cc e), stands.1)
+line_writes z f past actor u (Harvested id frames) gfn may stands = (λ e. absurd (cc e), stands.1)
+line_writes z f past actor u (Shown id frames) gfn may stands = (λ e. absurd (cc e), stands.1)
 line_writes z f past actor u _ gfn may stands = stands
 
 line_wrote : (z : Sizes) (f : Facts) (past : Past) (actor : Actor) (u : LineUnderWay) (kind : EventKind) (gfn : ℕ) → IsAllowed z f past actor u kind
@@ -206,6 +210,10 @@ line_wrote z f past actor u (Accessed g word op frame before) gfn may writes = (
 line_wrote z f past actor u (Exited answer) gfn may writes = (λ idle. let fresh = may.0 in absurd (cc (fresh, idle)), writes.1)
 line_wrote z f past actor u (SlotChanged id slot) gfn may writes = (λ idle. let fresh = may.0 in absurd (cc (fresh, idle)), writes.1)
 line_wrote z f past actor u (HostChanged page entry) gfn may writes = (λ idle. let fresh = may.0 in absurd (cc (fresh, idle)), writes.1)
+line_wrote z f past actor u (Armed id all) gfn may writes = (λ idle. let changed = may.0 in absurd (cc (changed, idle)), writes.1)
+line_wrote z f past actor u (Taken id) gfn may writes = (λ idle. let fresh = may.0 in absurd (cc (fresh, idle)), writes.1)
+line_wrote z f past actor u (Harvested id frames) gfn may writes = (λ idle. let taken = may.begun in absurd (cc (taken, idle)), writes.1)
+line_wrote z f past actor u (Shown id frames) gfn may writes = (λ idle. let taken = may.begun in absurd (cc (taken, idle)), writes.1)
 line_wrote z f past actor u _ gfn may writes = writes
 
 -- An event of the actor itself: what stands after it is in the list.
@@ -221,7 +229,7 @@ stands_both (Begun line) gfn first second leads stands = stands
 stands_both (Answered number answer) gfn first second leads stands = stands
 stands_both _ gfn first second leads stands = leads stands
 
-are_after : (z : Sizes) (e : Event) (f : Flat) → IsAllowed z f.facts f.past e.actor (f.under e.actor) e.kind → AreOfLines f → AreOfLines (after e f)
+pub are_after : (z : Sizes) (e : Event) (f : Flat) → IsAllowed z f.facts f.past e.actor (f.under e.actor) e.kind → AreOfLines f → AreOfLines (after e f)
 are_after z e f may are = record {
   is_writing = λ actor gfn has. writing_by actor gfn (is_same e.actor actor) refl has;
   is_in = λ actor gfn writes. in_by actor gfn (is_same e.actor actor) refl writes;

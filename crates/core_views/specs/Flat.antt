@@ -1,5 +1,5 @@
 -- The state of flat guest memory: facts, what is kept of what happened before, and for each actor the line that it has under way.
-use Rattle.std.specs.Prelude.{ℕ, [], Bool, false, Option, None}
+use Rattle.std.specs.Prelude.{ℕ, List, [], Bool, false, Option, None}
 use Rattle.core_views.specs.declared.actor.Actor.{Actor}
 use Rattle.core_views.specs.declared.actor.Actor.TheVariants.{Vcpu}
 use Rattle.core_views.specs.declared.answer.Answer.{Answer}
@@ -11,7 +11,7 @@ use Rattle.core_views.specs.Slots.{Slots}
 use Rattle.core_views.specs.SlotSets.{MemorySlots}
 use Rattle.core_views.specs.Host.{HostMap, HostNotes, own_frames}
 use Rattle.core_views.specs.Memory.{Memory, all_zero}
-use Rattle.core_views.specs.Past.{Past, first_past}
+use Rattle.core_views.specs.Past.{FrameSet, Past, first_past}
 
 -- what is true of guest memory now, one field a topic
 pub record Facts : Type 0 where
@@ -19,6 +19,8 @@ pub record Facts : Type 0 where
   pub host : HostMap
   pub memory : Memory
   pub paused : Bool  -- Virtual processors are to make no access.
+  pub armed : ℕ → Bool  -- Writes to the slot with the ID are logged.
+  pub pending : FrameSet  -- The frame is dirty: it was written while its slot was armed, and wasn't taken out of the log since.
 
 -- how far the line under way has come, by its own events
 pub data Stage : Type 0 where
@@ -27,6 +29,9 @@ pub data Stage : Type 0 where
   HasAccessed : (frame value : ℕ) → Stage  -- its access was made
   HasLeft : (answer : Answer) → Stage  -- it was given up: its access left the guest, or no pool page or frame was free
   HasChanged : Stage  -- its change of a slot took effect
+  HasArmed : Stage  -- so it did, and the slot's writes are logged since
+  HasTaken : (id : ℕ) → Stage  -- it has begun to read the log of this slot
+  HasRead : (frames : List ℕ) → Stage  -- it has read it, with these guest frames in it
   HasChangedHost : (entry : HostEntry) → Stage  -- its change of a host page took effect: this is the page's entry since
 
 -- what the line looked at, as it last did: the pause, the slots, and the entry of each host page
@@ -46,9 +51,9 @@ pub record Flat : Type 0 where
   pub past : Past
   pub under : Actor → LineUnderWay
 
--- At the start there is no slot, each host page is present and writable at its own frame, all content is zero, and nothing is paused.
+-- At the start there is no slot, each host page is present and writable at its own frame, all content is zero, nothing is paused, and no log is kept.
 abbrev pub first_facts : Facts
-first_facts = record { slots = []; host = own_frames; memory = all_zero; paused = false }
+first_facts = record { slots = []; host = own_frames; memory = all_zero; paused = false; armed = λ id. false; pending = λ gfn. false }
 
 abbrev pub no_notes : Notes
 no_notes = record { paused = None; slots = None; host = λ page. None }

@@ -1,14 +1,14 @@
 -- The flat history of a trace: each line runs alone, in file order.
 use Rattle.std.specs.Prelude.{ℕ, List, [], ◌∷◌, ◌++◌, Bool, true, false, Option, Some, None, if◌then◌else◌}
 use Rattle.core_views.specs.declared.answer.Answer.{Answer}
-use Rattle.core_views.specs.declared.answer.Answer.TheVariants.{Reached, Mmio, HostFault, Done, Moved, Refused}
+use Rattle.core_views.specs.declared.answer.Answer.TheVariants.{Reached, Mmio, HostFault, Done, Moved, Bits, Refused}
 use Rattle.core_views.specs.declared.answer.Refusal.TheVariants.{NoFrame}
 use Rattle.core_views.specs.declared.event.Event.{Event}
 use Rattle.core_views.specs.declared.event.EventKind.{EventKind}
 use Rattle.core_views.specs.declared.event.EventKind.TheVariants.{Begun, LookedAtPause, LookedAtSlots, LookedAtHost, BroughtIn, Accessed, Exited, SlotChanged}
-use Rattle.core_views.specs.declared.event.EventKind.TheVariants.{HostChanged, Answered}
+use Rattle.core_views.specs.declared.event.EventKind.TheVariants.{HostChanged, Armed, Taken, Harvested, Shown, Answered}
 use Rattle.core_views.specs.declared.trace.Command.{Command}
-use Rattle.core_views.specs.declared.trace.Command.TheVariants.{Access, ChangeHost}
+use Rattle.core_views.specs.declared.trace.Command.TheVariants.{Access, ChangeHost, ClearLog, GetLog, SetLog}
 use Rattle.core_views.specs.declared.trace.HostChange.{HostChange}
 use Rattle.core_views.specs.declared.trace.HostChange.TheVariants.{Move, Evict, Protect, Allow}
 use Rattle.core_views.specs.declared.sizes.Sizes.{Sizes}
@@ -21,9 +21,10 @@ use Rattle.core_views.specs.Host.{is_denied}
 use Rattle.core_views.specs.HostChanges.{host_answer, is_own, lowest_free}
 use Rattle.core_views.specs.Slots.{page_behind}
 use Rattle.core_views.specs.SlotSets.{flat_slots}
-use Rattle.core_views.specs.Flat.{Facts, Stage, Idle, Fresh, HasAccessed, HasLeft, HasChanged, HasChangedHost, first_facts}
+use Rattle.core_views.specs.Flat.{Facts, Stage, Idle, Fresh, HasAccessed, HasLeft, HasChanged, HasArmed, HasTaken, HasRead, HasChangedHost, first_facts}
+use Rattle.core_views.specs.LogCommands.{asked_frames, bits_for, is_all_set, takes_out}
 use Rattle.core_views.specs.Events.{facts_after_all}
-use Rattle.core_views.specs.Lawful.{answer_at_once, slot_change}
+use Rattle.core_views.specs.Lawful.{answer_at_once, slot_change, slot_read}
 
 abbrev pub by : Line → EventKind → Event
 by line kind = record { actor = line.actor; kind = kind }
@@ -48,10 +49,25 @@ abbrev pub accessing : Line → ℕ → ℕ → Op → Facts → Option ℕ → 
 accessing line gfn word op f None = by line (Exited Mmio) ∷ answers line Mmio
 accessing line gfn word op f (Some page) = reaching line gfn word op f page (is_denied op (f.host page))
 
--- A line that changes the slot at an ID makes this change, and is done.
-abbrev pub changing : Line → Option (ℕ × Option MemorySlot) → List Event
-changing line None = []
-changing line (Some change) = by line (SlotChanged change.0 change.1) ∷ answers line Done
+-- A line that has changed a slot is done, and one that has given the slot a dirty log arms it before.
+abbrev pub arming : Sizes → Line → Command → List Event
+arming z line (SetLog id true) = by line (Armed id (is_all_set z.mode)) ∷ answers line Done
+arming z line _ = answers line Done
+
+-- A line that changes the slot at an ID makes this change, and goes on so.
+abbrev pub changing : Line → Option (ℕ × Option MemorySlot) → List Event → List Event
+changing line None rest = []
+changing line (Some change) rest = by line (SlotChanged change.0 change.1) ∷ rest
+
+-- A line that reads a log reads all dirty frames for which it asks, and takes them out of the log, or doesn't.
+abbrev pub harvest : Bool → ℕ → List ℕ → EventKind
+harvest true id frames = Harvested id frames
+harvest false id frames = Shown id frames
+
+abbrev pub reading : Sizes → Line → Command → ℕ → Facts → List Event
+reading z line command id f =
+    let frames : List ℕ = asked_frames f.pending command (slot_read f.slots command) in
+    by line (harvest (takes_out z.mode command) id frames) ∷ answers line (Bits (bits_for command (slot_read f.slots command) frames))
 
 -- A move gives the page the lowest frame that no page names, and is refused where there is none.
 abbrev pub moving : Line → ℕ → Facts → Option ℕ → List Event
@@ -69,7 +85,9 @@ changing_host z line page Allow f = by line (HostChanged page (record (f.host pa
 abbrev pub working : Sizes → Line → Command → Facts → List Event
 working z line (Access gfn word op) f = accessing line gfn word op f (page_behind (flat_slots f.slots) gfn op)
 working z line (ChangeHost page change) f = changing_host z line page change f
-working z line command f = changing line (slot_change f.slots command)
+working z line (GetLog id) f = by line (Taken id) ∷ reading z line (GetLog id) id f
+working z line (ClearLog id first count words) f = by line (Taken id) ∷ reading z line (ClearLog id first count words) id f
+working z line command f = changing line (slot_change f.slots command) (arming z line command)
 
 -- A line that has nothing to do is answered at once, and changes nothing.
 abbrev pub doing_by : Sizes → Line → Command → Facts → Option Answer → List Event
@@ -85,7 +103,10 @@ rest_of z line Idle f = []
 rest_of z line Fresh f = doing z line line.command f
 rest_of z line (HasAccessed frame value) f = answers line (Reached frame value)
 rest_of z line (HasLeft answer) f = answers line answer
-rest_of z line HasChanged f = answers line Done
+rest_of z line HasChanged f = arming z line line.command
+rest_of z line HasArmed f = answers line Done
+rest_of z line (HasTaken id) f = reading z line line.command id f
+rest_of z line (HasRead frames) f = answers line (Bits (bits_for line.command (slot_read f.slots line.command) frames))
 rest_of z line (HasChangedHost entry) f = answers line (host_answer line.command entry)
 
 -- what a line looks at before it does anything: an access at the pause, at the slots, and at the host page that they give it; a host line at its page,

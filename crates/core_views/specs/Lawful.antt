@@ -3,28 +3,31 @@ use Rattle.std.specs.Prelude.{◌≡◌, ℕ, List, [], ◌∷◌, Option, Some,
 use Rattle.std.specs.Option.{option_map}
 use Rattle.core_views.specs.declared.actor.Actor.{Actor}
 use Rattle.core_views.specs.declared.answer.Answer.{Answer}
-use Rattle.core_views.specs.declared.answer.Answer.TheVariants.{Reached, Mmio, HostFault, Starved, Done, Refused}
+use Rattle.core_views.specs.declared.answer.Answer.TheVariants.{Reached, Mmio, HostFault, Starved, Done, Bits, Refused}
 use Rattle.core_views.specs.declared.answer.Refusal.TheVariants.{NoFrame}
 use Rattle.core_views.specs.declared.event.Event.{Event}
 use Rattle.core_views.specs.declared.event.EventKind.{EventKind}
 use Rattle.core_views.specs.declared.event.EventKind.TheVariants.{Begun, LookedAtPause, LookedAtSlots, LookedAtHost, BroughtIn, Accessed, Exited, SlotChanged}
-use Rattle.core_views.specs.declared.event.EventKind.TheVariants.{HostChanged, Answered}
+use Rattle.core_views.specs.declared.event.EventKind.TheVariants.{HostChanged, Armed, Taken, Harvested, Shown, Answered}
 use Rattle.core_views.specs.declared.trace.Command.{Command}
-use Rattle.core_views.specs.declared.trace.Command.TheVariants.{Access, ChangeHost, DeleteSlot, SetSlot}
+use Rattle.core_views.specs.declared.trace.Command.TheVariants.{Access, ChangeHost, ClearLog, DeleteSlot, GetLog, SetLog, SetSlot}
 use Rattle.core_views.specs.declared.trace.HostChange.{HostChange}
 use Rattle.core_views.specs.declared.trace.HostChange.TheVariants.{Move}
 use Rattle.core_views.specs.declared.host.HostEntry.{HostEntry}
 use Rattle.core_views.specs.declared.sizes.Sizes.{Sizes}
 use Rattle.core_views.specs.declared.trace.Op.{Op}
-use Rattle.core_views.specs.Slots.{Slots, page_behind}
+use Rattle.core_views.specs.Slots.{page_behind}
 use Rattle.core_views.specs.SlotSets.{MemorySlots, flat_slots}
-use Rattle.core_views.specs.SlotCommands.{change_at_once, refused_or_done}
+use Rattle.core_views.specs.SlotCommands.{arms, change_at_once, refused_or_done}
+use Rattle.core_views.specs.LogCommands.{bits_for, is_all_set, log_read, read_refusal}
+pub use Rattle.core_views.specs.Harvests.{MayRead, slot_at, slot_read}
+pub use Rattle.core_views.specs.Seen.{SawAbsent, SawForbidden, SawNoPage, SawPage}
 pub use Rattle.core_views.specs.SlotCommands.{slot_change}
-use Rattle.core_views.specs.Host.{is_denied}
 use Rattle.core_views.specs.HostChanges.{Agree, Changes, host_answer, host_refusal}
 use Rattle.core_views.specs.Names.{named_frame}
 use Rattle.core_views.specs.Past.{Past}
-use Rattle.core_views.specs.Flat.{Facts, Notes, LineUnderWay, Flat, Stage, Idle, Fresh, HasAccessed, HasLeft, HasChanged, HasChangedHost}
+use Rattle.core_views.specs.Flat.{Facts, Notes, LineUnderWay, Flat, Stage, Idle, Fresh, HasAccessed, HasLeft, HasChanged, HasArmed, HasTaken, HasRead}
+use Rattle.core_views.specs.Flat.{HasChangedHost}
 use Rattle.core_views.specs.Events.{after}
 
 -- The access reaches the frame that slots and host name now, at a word that holds `before`.
@@ -33,46 +36,6 @@ pub record Reaches (f : Facts) (gfn word : ℕ) (op : Op) (frame before : ℕ) :
   pub page : ℕ
   pub behind : page_behind (flat_slots f.slots) gfn op ≡ Some page
   pub value_is : f.memory page word ≡ before
-
--- The line saw no pause, and the slots that it looked at give the guest frame no page for the operation (api.rst, KVM_EXIT_MMIO).
-pub record SawNoPage (notes : Notes) (gfn : ℕ) (op : Op) : Type 0 where
-  pub runs : notes.paused ≡ Some false
-  pub slots : Slots
-  pub noted : notes.slots ≡ Some slots
-  pub none : page_behind slots gfn op ≡ None
-
--- It saw no pause, they give it a page, and the host's entry of this page, as the line looked at it, forbids the operation (api.rst, KVM_EXIT_MEMORY_FAULT).
-pub record SawForbidden (notes : Notes) (gfn : ℕ) (op : Op) : Type 0 where
-  pub runs : notes.paused ≡ Some false
-  pub slots : Slots
-  pub noted : notes.slots ≡ Some slots
-  pub page : ℕ
-  pub behind : page_behind slots gfn op ≡ Some page
-  pub entry : HostEntry
-  pub looked : notes.host page ≡ Some entry
-  pub forbids : is_denied op entry ≡ true
-
--- It saw no pause, they give it a page, and the host's entry of this page, as the line looked at it, allows the operation.
-pub record SawPage (notes : Notes) (gfn : ℕ) (op : Op) : Type 0 where
-  pub runs : notes.paused ≡ Some false
-  pub slots : Slots
-  pub noted : notes.slots ≡ Some slots
-  pub page : ℕ
-  pub behind : page_behind slots gfn op ≡ Some page
-  pub entry : HostEntry
-  pub looked : notes.host page ≡ Some entry
-  pub allows : is_denied op entry ≡ false
-
--- It saw no pause, the slots that it looked at give this page, and the page is now as the line looked at it: it isn't present, and the host allows
--- the operation.
-pub record SawAbsent (f : Facts) (notes : Notes) (gfn : ℕ) (op : Op) (page : ℕ) : Type 0 where
-  pub runs : notes.paused ≡ Some false
-  pub slots : Slots
-  pub noted : notes.slots ≡ Some slots
-  pub behind : page_behind slots gfn op ≡ Some page
-  pub looked : notes.host page ≡ Some (f.host page)
-  pub absent : (f.host page).present ≡ false
-  pub allows : is_denied op (f.host page) ≡ false
 
 -- The line under way may bring this host page in.
 abbrev pub BringsIn : Facts → Command → Notes → ℕ → Type 0
@@ -83,6 +46,8 @@ BringsIn _ _ _ _ = ⊥
 -- stay as they are, done.
 abbrev pub answer_at_once : Sizes → MemorySlots → Actor → Command → Option Answer
 answer_at_once z slots actor (ChangeHost page change) = option_map (λ refusal. Refused refusal) (host_refusal z actor page)
+answer_at_once z slots actor (GetLog id) = option_map (λ refusal. Refused refusal) (read_refusal (GetLog id) slots)
+answer_at_once z slots actor (ClearLog id first count words) = option_map (λ refusal. Refused refusal) (read_refusal (ClearLog id first count words) slots)
 answer_at_once z slots actor command = option_map refused_or_done (change_at_once z command slots)
 
 -- The actor's line has something to do.
@@ -108,6 +73,7 @@ MayLeave z f actor (Access gfn word op) notes HostFault = SawForbidden notes gfn
 MayLeave z f actor (Access gfn word op) notes Starved = HasWork z f actor (Access gfn word op) × SawPage notes gfn op
 MayLeave z f actor (SetSlot id slot) notes Starved = HasWork z f actor (SetSlot id slot)
 MayLeave z f actor (DeleteSlot id) notes Starved = HasWork z f actor (DeleteSlot id)
+MayLeave z f actor (SetLog id on) notes Starved = HasWork z f actor (SetLog id on)
 MayLeave z f actor (ChangeHost page Move) notes (Refused NoFrame) = HasWork z f actor (ChangeHost page Move)
 MayLeave _ _ _ _ _ _ = ⊥
 
@@ -115,12 +81,15 @@ MayLeave _ _ _ _ _ _ = ⊥
 abbrev pub Tells : Sizes → MemorySlots → Actor → Command → Stage → Answer → Type 0
 Tells z slots actor command (HasAccessed frame value) answer = answer ≡ Reached frame value
 Tells z slots actor command (HasLeft how) answer = answer ≡ how
-Tells z slots actor command HasChanged answer = answer ≡ Done
+Tells z slots actor command HasChanged answer = (answer ≡ Done) × (arms command ≡ false)
+Tells z slots actor command HasArmed answer = answer ≡ Done
+Tells z slots actor command (HasTaken id) answer = ⊥
+Tells z slots actor command (HasRead frames) answer = answer ≡ Bits (bits_for command (slot_read slots command) frames)
 Tells z slots actor command (HasChangedHost entry) answer = answer ≡ host_answer command entry
 Tells z slots actor command Idle answer = ⊥
 Tells z slots actor command Fresh answer = answer_at_once z slots actor command ≡ Some answer
 
--- The actor, with this line under way, may do this next. What is kept of the past forbids none of these.
+-- The actor, with this line under way, may do this next. Of the past a reading of a log depends alone.
 abbrev pub IsAllowed : Sizes → Facts → Past → Actor → LineUnderWay → EventKind → Type 0
 IsAllowed z f past actor u (Begun line) = (u.stage ≡ Idle) × (line.actor ≡ actor)
 IsAllowed z f past actor u LookedAtPause = u.stage ≡ Fresh
@@ -132,6 +101,10 @@ IsAllowed z f past actor u (Accessed gfn word op frame before) =
 IsAllowed z f past actor u (Exited answer) = (u.stage ≡ Fresh) × MayLeave z f actor u.line.command u.notes answer
 IsAllowed z f past actor u (SlotChanged id slot) =
     (u.stage ≡ Fresh) × HasWork z f actor u.line.command × (slot_change f.slots u.line.command ≡ Some (id, slot))
+IsAllowed z f past actor u (Armed id all) = (u.stage ≡ HasChanged) × (u.line.command ≡ SetLog id true) × (all ≡ is_all_set z.mode)
+IsAllowed z f past actor u (Taken id) = (u.stage ≡ Fresh) × HasWork z f actor u.line.command × (log_read u.line.command ≡ Some id)
+IsAllowed z f past actor u (Harvested id frames) = MayRead z f past u.line.command u.stage id frames true
+IsAllowed z f past actor u (Shown id frames) = MayRead z f past u.line.command u.stage id frames false
 IsAllowed z f past actor u (HostChanged page entry) = (u.stage ≡ Fresh) × MayChangeHost z f actor u.line.command u.notes page entry
 IsAllowed z f past actor u (Answered line answer) = (line ≡ u.line.number) × Tells z f.slots actor u.line.command u.stage answer
 

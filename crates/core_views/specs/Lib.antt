@@ -11,7 +11,10 @@ pub mod HostChanges
 pub mod Memory
 pub mod Names
 pub mod Past
+pub mod LogCommands
 pub mod Flat
+pub mod Seen
+pub mod Harvests
 pub mod Events
 pub mod Lawful
 pub mod Text

@@ -12,15 +12,18 @@ use Rattle.core_views.specs.Slots.{contains, is_write}
 abbrev pub FrameSet : Type 0
 FrameSet = ℕ → Bool
 
--- A write that is under way may still reach its frame, or have done so. No log is read yet, and so `recent` and `causes` are the same frames.
+-- A write that is under way may still reach its frame, or have done so.
 pub record Past : Type 0 where
   pub writes : List (Actor × ℕ)  -- the lines under way that write: the actor of each, and its guest frame
-  pub recent : FrameSet  -- Such a line was under way at some moment since a log was last read, and since the frame's slot was last changed.
-  pub causes : FrameSet  -- One was since the log was last read that gave the frame, and since the frame's slot was last changed.
+  pub due : FrameSet  -- The frame was dirty as a log last began to be read, and no such line was under way then.
+  pub recent : FrameSet  -- Such a line was under way at some moment since a log last began to be read, and since the frame's slot was last changed.
+  -- One was since that reading began that took the frame out of its log last, and since the frame's slot was last changed; or each page of the slot was
+  -- dirty as its log began, and the frame wasn't taken out since.
+  pub causes : FrameSet
 
 -- At the start no line is under way.
 abbrev pub first_past : Past
-first_past = record { writes = []; recent = λ gfn. false; causes = λ gfn. false }
+first_past = record { writes = []; due = λ gfn. false; recent = λ gfn. false; causes = λ gfn. false }
 
 -- the guest frame that a line with this command writes, or none
 abbrev pub written_frame : Command → Option ℕ
@@ -44,6 +47,7 @@ abbrev pub past_begun : Actor → Option ℕ → Past → Past
 past_begun actor None past = record past { writes = of_others actor past.writes }
 past_begun actor (Some gfn) past = record {
   writes = (actor, gfn) ∷ of_others actor past.writes;
+  due = past.due;
   recent = with_guest_frame gfn past.recent;
   causes = with_guest_frame gfn past.causes;
 }

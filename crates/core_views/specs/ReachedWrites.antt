@@ -13,10 +13,10 @@ use Rattle.core_views.specs.Past.{written_frame}
 use Rattle.core_views.specs.Flat.{first_flat}
 use Rattle.core_views.specs.Events.{after_all, facts_after}
 use Rattle.core_views.specs.Lawful.{IsLawful}
-use Rattle.core_views.specs.Writes.{SlotKept}
+use Rattle.core_views.specs.Writes.{NoneIsTaken, NoneReadsOut, SlotKept}
 
--- In this history an access that writes has reached the guest frame, and the frame's slot was not changed since. No log is read yet.
-pub record WasReached (history : List Event) (gfn : ℕ) : Type 0 where
+-- In this history an access that writes has reached the guest frame, the frame's slot was not changed since, and the events since are such.
+pub record WasReached (Since : List Event → Type 0) (history : List Event) (gfn : ℕ) : Type 0 where
   pub before : List Event
   pub actor : Actor
   pub word : ℕ
@@ -27,12 +27,15 @@ pub record WasReached (history : List Event) (gfn : ℕ) : Type 0 where
   pub history_is : history ≡ before ++ (record { actor = actor; kind = Accessed gfn word op frame value } ∷ since)
   pub writes : is_write op ≡ true
   pub kept : SlotKept gfn (facts_after (Accessed gfn word op frame value) (after_all before first_flat).facts) since
+  pub are_such : Since since
 
--- After every lawful history such a frame is among those that were written lately, and has a cause to stand in a log.
+-- After every lawful history such a frame is among those that were written lately, if no log began to be read since; and it has a cause to stand in a log, if
+-- no reading that began since took it out.
 abbrev pub ReachedFramesAreKept : Type 0
 ReachedFramesAreKept =
-    (z : Sizes) (history : List Event) → IsLawful z first_flat history → (gfn : ℕ) → WasReached history gfn
-    → ((after_all history first_flat).past.recent gfn ≡ true) × ((after_all history first_flat).past.causes gfn ≡ true)
+    (z : Sizes) (history : List Event) → IsLawful z first_flat history → (gfn : ℕ)
+    → (WasReached NoneIsTaken history gfn → (after_all history first_flat).past.recent gfn ≡ true)
+    × (WasReached (NoneReadsOut gfn) history gfn → (after_all history first_flat).past.causes gfn ≡ true)
 
 -- Any other access leaves in the word what was there.
 abbrev pub OnlyWritesChange : Type 0

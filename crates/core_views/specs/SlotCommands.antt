@@ -1,4 +1,5 @@
--- What a line changes in the slots, and why it may not (api.rst, KVM_SET_USER_MEMORY_REGION): a clause for each command that changes a slot.
+-- What a line changes in the slots, and why it may not (api.rst, KVM_SET_USER_MEMORY_REGION, KVM_MEM_LOG_DIRTY_PAGES): a clause for each command that changes
+-- a slot.
 use Rattle.std.specs.Prelude.{◌≤◌, ℕ, Bool, true, false, ◌==◌, Option, Some, None, if◌then◌else◌}
 use Rattle.std.specs.Option.{option_map}
 use Rattle.core_views.specs.declared.answer.Answer.{Answer}
@@ -8,8 +9,8 @@ use Rattle.core_views.specs.declared.slot_set.MemorySlot.{MemorySlot}
 use Rattle.core_views.specs.declared.sizes.Sizes.{Sizes}
 use Rattle.core_views.specs.declared.trace.Command.{Command}
 use Rattle.core_views.specs.declared.trace.Slot.{Slot}
-use Rattle.core_views.specs.declared.trace.Command.TheVariants.{Access, ChangeHost, DeleteSlot, SetSlot}
-use Rattle.core_views.specs.Refusals.{delete_refusal, is_logged, set_refusal}
+use Rattle.core_views.specs.declared.trace.Command.TheVariants.{Access, ChangeHost, ClearLog, DeleteSlot, GetLog, SetLog, SetSlot}
+use Rattle.core_views.specs.Refusals.{delete_refusal, is_logged, log_refusal, set_refusal}
 use Rattle.core_views.specs.Slots.{is_some_and, slot_with_id}
 use Rattle.core_views.specs.SlotSets.{MemorySlots, changed_slots, flat_slots, slot_of_id}
 
@@ -22,15 +23,20 @@ HasPages _ = Unit {0}
 abbrev pub changes_slot : Command → Bool
 changes_slot (Access gfn word op) = false
 changes_slot (ChangeHost page change) = false
+changes_slot (GetLog id) = false
+changes_slot (ClearLog id first count words) = false
 changes_slot _ = true
 
 -- The ID of which a line changes the slot, and the slot after the change, or none where the line deletes it. A slot that is set has a dirty log where the
--- one that was there had one.
+-- one that was there had one; a line that gives or takes away a dirty log leaves the slot else as it is.
 abbrev pub slot_change : MemorySlots → Command → Option (ℕ × Option MemorySlot)
 slot_change slots (Access gfn word op) = None
 slot_change slots (ChangeHost page change) = None
 slot_change slots (SetSlot id slot) = Some (id, Some (record { slot = slot; logged = is_logged id slots }))
 slot_change slots (DeleteSlot id) = Some (id, None)
+slot_change slots (SetLog id on) = Some (id, option_map (λ was. record { slot = was.slot; logged = on }) (slot_of_id id slots))
+slot_change slots (GetLog id) = None
+slot_change slots (ClearLog id first count words) = None
 
 -- the slots after such a change
 abbrev pub after_change : Option (ℕ × Option MemorySlot) → MemorySlots → MemorySlots
@@ -48,7 +54,13 @@ slot_before slots (Some (id, slot)) = option_map (λ was. was.slot) (slot_of_id 
 
 -- The slot that the line moves or deletes, as it is before. Its guest frames are invalidated.
 abbrev pub slot_invalidated : MemorySlots → Command → Option Slot
+slot_invalidated slots (SetLog id on) = None
 slot_invalidated slots command = slot_before slots (slot_change slots command)
+
+-- The line gives the slot with the ID a dirty log: from its end on writes to the slot are logged.
+abbrev pub arms : Command → Bool
+arms (SetLog id on) = on
+arms _ = false
 
 -- why the line is refused, on a machine of these sizes with these slots
 abbrev pub change_refusal : Sizes → Command → MemorySlots → Option Refusal
@@ -56,6 +68,9 @@ change_refusal z (Access gfn word op) slots = None
 change_refusal z (ChangeHost page change) slots = None
 change_refusal z (SetSlot id slot) slots = set_refusal z.pages id slot slots
 change_refusal z (DeleteSlot id) slots = delete_refusal id slots
+change_refusal z (SetLog id on) slots = log_refusal on id slots
+change_refusal z (GetLog id) slots = None
+change_refusal z (ClearLog id first count words) slots = None
 
 -- The slot that was there has the same first guest frame. Its number of pages, its host pages and its flag can't be others, else this one is refused.
 abbrev pub stays : Slot → Slot → Bool
@@ -74,6 +89,8 @@ at_once None same = if same then Some None else None
 abbrev pub change_at_once : Sizes → Command → MemorySlots → Option (Option Refusal)
 change_at_once z (Access gfn word op) slots = None
 change_at_once z (ChangeHost page change) slots = None
+change_at_once z (GetLog id) slots = None
+change_at_once z (ClearLog id first count words) slots = None
 change_at_once z command slots = at_once (change_refusal z command slots) (is_unchanged command slots)
 
 -- what such a line is answered

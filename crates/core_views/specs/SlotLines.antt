@@ -1,9 +1,10 @@
 -- What a slot line makes of the slots of flat memory; slots that just fit, or are one page too large; and slots that are set again, moved and deleted.
 use Rattle.std.specs.Prelude.{◌≡◌, ◌≢◌, ◌-◌, ◌^◌, ℕ, List, [], ◌∷◌, ◌++◌, Bool, false, Option, Some, None, codes}
+use Rattle.std.specs.Option.{option_map}
 use Rattle.core_views.specs.declared.slot_set.MemorySlot.{MemorySlot}
 use Rattle.core_views.specs.declared.actor.Actor.TheVariants.{Manager}
 use Rattle.core_views.specs.declared.trace.Command.{Command}
-use Rattle.core_views.specs.declared.trace.Command.TheVariants.{DeleteSlot, SetSlot}
+use Rattle.core_views.specs.declared.trace.Command.TheVariants.{DeleteSlot, SetLog, SetSlot}
 use Rattle.core_views.specs.declared.trace.Line.{Line}
 use Rattle.core_views.specs.declared.trace.Op.TheVariants.{Read, Write}
 use Rattle.core_views.specs.declared.trace.Slot.{Slot}
@@ -34,12 +35,19 @@ SetsAtItsId =
 abbrev pub DeletesAtItsId : Type 0
 DeletesAtItsId = (id : ℕ) (slots : MemorySlots) → slot_of_id id (slots_after (DeleteSlot id) slots) ≡ None
 
+-- A line that gives a slot a dirty log, or takes its log away, leaves it else as it was; where there is none it leaves none.
+abbrev pub LogsAtItsId : Type 0
+LogsAtItsId =
+    (id : ℕ) (on : Bool) (slots : MemorySlots)
+    → slot_of_id id (slots_after (SetLog id on) slots) ≡ option_map (λ was. record { slot = was.slot; logged = on }) (slot_of_id id slots)
+
 -- At each other ID stands what stood there.
 abbrev pub KeepsAllBut : ℕ → Command → Type 0
 KeepsAllBut id command = (other : ℕ) (slots : MemorySlots) → other ≢ id → slot_of_id other (slots_after command slots) ≡ slot_of_id other slots
 
 abbrev pub KeepsOtherIds : Type 0
-KeepsOtherIds = (id : ℕ) (slot : Slot) → KeepsAllBut id (SetSlot id slot) × KeepsAllBut id (DeleteSlot id)
+KeepsOtherIds =
+    (id : ℕ) (slot : Slot) (on : Bool) → KeepsAllBut id (SetSlot id slot) × KeepsAllBut id (DeleteSlot id) × KeepsAllBut id (SetLog id on)
 
 -- a slot of so many pages that may be written
 abbrev pub open_slot : ℕ → ℕ → ℕ → Slot

@@ -1,14 +1,14 @@
 -- What is printed: the answered lines of a history, in its order.
-use Rattle.std.specs.Prelude.{ℕ, List, [], ◌∷◌, ◌++◌, codes}
-use Rattle.std.specs.Fmt.{decimal}
+use Rattle.std.specs.Prelude.{ℕ, List, [], ◌∷◌, ◌++◌, false, codes}
+use Rattle.std.specs.Fmt.{decimal, digits}
 use Rattle.core_views.specs.declared.actor.Actor.{Actor}
 use Rattle.core_views.specs.declared.actor.Actor.TheVariants.{Vcpu, Host, Manager, Worker}
 use Rattle.core_views.specs.declared.answer.Answer.{Answer}
 use Rattle.core_views.specs.declared.answer.AnsweredLine.{AnsweredLine}
-use Rattle.core_views.specs.declared.answer.Answer.TheVariants.{Reached, Mmio, HostFault, Starved, Done, Moved, Refused}
+use Rattle.core_views.specs.declared.answer.Answer.TheVariants.{Reached, Mmio, HostFault, Starved, Done, Moved, Bits, Refused}
 use Rattle.core_views.specs.declared.answer.Refusal.{Refusal}
 use Rattle.core_views.specs.declared.answer.Refusal.TheVariants.{BadId, TooLarge, Missing, Logged, NoLog, Resize, Fixed, Overlap, HostOverlap, OutOfRange}
-use Rattle.core_views.specs.declared.answer.Refusal.TheVariants.{NoFrame}
+use Rattle.core_views.specs.declared.answer.Refusal.TheVariants.{NoFrame, BadRange}
 use Rattle.core_views.specs.declared.event.Event.{Event}
 use Rattle.core_views.specs.declared.event.EventKind.{EventKind}
 use Rattle.core_views.specs.declared.event.EventKind.TheVariants.{Answered}
@@ -31,6 +31,12 @@ refusal_name Overlap = codes "overlap"
 refusal_name HostOverlap = codes "host-overlap"
 refusal_name OutOfRange = codes "out-of-range"
 refusal_name NoFrame = codes "no-frame"
+refusal_name BadRange = codes "bad-range"
+
+-- words of a dirty log, each after a space, in hexadecimal digits
+abbrev pub bits_text : List ℕ → List ℕ
+bits_text [] = []
+bits_text (word ∷ words) = codes " 0x" ++ (digits 16 false word ++ bits_text words)
 
 abbrev pub answer_text : Answer → List ℕ
 answer_text (Reached frame value) = codes "frame " ++ (decimal frame ++ (codes " value " ++ decimal value))
@@ -39,6 +45,7 @@ answer_text HostFault = codes "hostfault"
 answer_text Starved = codes "starved"
 answer_text Done = codes "done"
 answer_text (Moved frame) = codes "frame " ++ decimal frame
+answer_text (Bits words) = codes "bits" ++ bits_text words
 answer_text (Refused refusal) = codes "refused " ++ refusal_name refusal
 
 -- a line's number, its actor, its answer, and LF

@@ -1,8 +1,9 @@
 ghost use Rattle.std.specs.Prelude.{◌≡◌, Some};
 ghost use Rattle.core_views.specs.SlotCommands.{refused_or_done};
-ghost use Rattle.core_views.specs.Text.{answer_text, refusal_name};
+ghost use Rattle.std.specs.Fmt.{WritesOnOk};
+ghost use Rattle.core_views.specs.Text.{answer_text, bits_text, refusal_name};
 
-use crate::{Actor, Sequence};
+use crate::{Actor, Sequence, Words};
 use std::fmt;
 
 /// What a line of the trace is answered.
@@ -21,6 +22,9 @@ pub enum Answer {
     Done,
     /// The host page was moved to this frame.
     Moved(u64),
+    /// A dirty log, as far as it was asked for: a bit for each page, bit 0 of the first word
+    /// first.
+    Bits(Words),
     /// The line is refused, and nothing has changed.
     Refused(Refusal),
 }
@@ -52,6 +56,8 @@ pub enum Refusal {
     OutOfRange,
     /// Each frame is named by some page, so none is free for a move.
     NoFrame,
+    /// The pages to be cleared aren't whole words of the slot's log.
+    BadRange,
 }
 
 impl Answer {
@@ -84,6 +90,7 @@ impl Refusal {
             Refusal::HostOverlap => "host-overlap",
             Refusal::OutOfRange => "out-of-range",
             Refusal::NoFrame => "no-frame",
+            Refusal::BadRange => "bad-range",
         }
     }
 }
@@ -111,10 +118,24 @@ impl fmt::Display for Answer {
             Answer::Starved => write!(f, "starved"),
             Answer::Done => write!(f, "done"),
             Answer::Moved(frame) => write!(f, "frame {frame}"),
+            Answer::Bits(words) => {
+                write!(f, "bits")?;
+                write_bits(f, words.as_slice())
+            }
             Answer::Refused(refusal) => {
                 let name = refusal.name();
                 write!(f, "refused {name}")
             }
         }
     }
+}
+
+// Writes words of a dirty log, each after a space.
+fn write_bits<W: fmt::Write>(f: &mut fmt::Formatter<W>, words: &[u64]) -> fmt::Result
+    ensures { WritesOnOk W.write_str_gives f.old result (bits_text words.now) f.new }
+{
+    'words: for word in words {
+        write!(f, " 0x{word:x}")?;
+    }
+    Ok(())
 }

@@ -1,4 +1,4 @@
-use crate::{Actor, Answer, HostEntry, Line, MemorySlot, Op};
+use crate::{Actor, Answer, HostEntry, Line, MemorySlot, Op, Words};
 
 /// One event of a history: what an actor did to, or saw of, flat guest memory.
 #[derive(Drop)]
@@ -47,6 +47,27 @@ pub enum EventKind {
     HostChanged {
         page: u64,
         entry: HostEntry,
+    },
+    /// From now on the guest's writes to the slot with the ID are logged; up to here none of
+    /// its pages is dirty, or, where `all` says so, each is.
+    Armed {
+        id: u64,
+        all: bool,
+    },
+    /// The dirty log of the slot with the ID begins to be read.
+    Taken {
+        id: u64,
+    },
+    /// It was read, with these guest frames in it, in rising order, and they are dirty no
+    /// longer.
+    Harvested {
+        id: u64,
+        frames: Words,
+    },
+    /// It was read, with these guest frames in it, in rising order, and is as it was.
+    Shown {
+        id: u64,
+        frames: Words,
     },
     /// The line with this number is answered.
     Answered {

@@ -1,9 +1,9 @@
 ghost use Rattle.core_views.specs.Laws.{FlatIsLawful, FlatIsWhole, FlatStandsAlone, FlatPrints, AloneIsFlat, AloneAnswersAsFlat, AloneIsWhole};
 ghost use Rattle.core_views.specs.ReachedWrites.{OnlyWritesChange, OnlyWritesCount, ReachedFramesAreKept};
-ghost use Rattle.core_views.specs.SlotLines.{DeletesAtItsId, FittingPrints, KeepsOtherIds, SetsAsRecord, SetsAtItsId, WholePrints};
+ghost use Rattle.core_views.specs.SlotLines.{DeletesAtItsId, FittingPrints, KeepsOtherIds, LogsAtItsId, SetsAsRecord, SetsAtItsId, WholePrints};
 ghost use Rattle.core_views.specs.HostExamples.{FullPrints, HostPrints, PresentIsNotBroughtIn, AbsentIsNotReached, DeniedIsNotBroughtIn};
 ghost use Rattle.core_views.specs.HostExamples.{NamedIsNotTaken, OthersAreNotChanged, UnseenIsNotChanged};
-ghost use Rattle.core_views.specs.Writes.{WritesAreBegun, WritesAreUnderWay, WrittenFramesAreKept};
+ghost use Rattle.core_views.specs.Writes.{DueFramesAreKept, WritesAreBegun, WritesAreUnderWay, WrittenFramesAreKept};
 ghost use Rattle.core_views.specs.Unlawful.{AccessLooksAtPause, AccessReachesItsFrame, ExitLooksAtPause};
 ghost use Rattle.core_views.specs.Unlawful.{OutsideCannotStarve, OutsideReachesNone, OverlapCannotStarve};
 ghost use Rattle.core_views.specs.Unlawful.{StarvedLooksAtHost, StarvedLooksAtPause, UnchangedChangesNone};
@@ -65,17 +65,23 @@ pub fn unlawful_histories_are_refused()
 /// is the actor's line under way (`under`). The frames that were written lately, and those
 /// that have a cause to stand in a log, are just those of the lines that were under way
 /// at some moment since the frame's slot was last changed (`written`): a change counts that
-/// has the frame in the slot before it or after it.
+/// has the frame in the slot before it or after it. Written lately is one since a log last
+/// began to be read; a cause one since that reading began which took the frame out of its
+/// log last, or that each page was dirty as the log began. The frames that a reading must
+/// not leave out are those that were dirty as it began, with no such line under way then
+/// (`due`).
 pub fn writes_are_kept()
     ensures begun { WritesAreBegun }
     ensures under { WritesAreUnderWay }
     ensures written { WrittenFramesAreKept }
+    ensures due { DueFramesAreKept }
 {}
 
 /// A law about the accesses that reach memory, whatever their lines were taken to write.
 /// After every lawful history each frame that a write or an add has reached, and whose
-/// slot was not changed since, is among those that were written lately, and among those
-/// that have a cause to stand in a log (`reached`). Any other access leaves its word as it
+/// slot was not changed since, is among those that were written lately, if no log began to
+/// be read since, and among those that have a cause to stand in a log, if no reading that
+/// began since took it out (`reached`). Any other access leaves its word as it
 /// was (`others`), and no other line is taken to write a frame (`only`).
 pub fn reached_writes_are_kept()
     ensures reached { ReachedFramesAreKept }
@@ -85,14 +91,15 @@ pub fn reached_writes_are_kept()
 
 /// A law about what a slot line makes of flat memory's slots: what the manager's record
 /// makes of them (`record`); the slot stands at its ID, with a dirty log where the one that
-/// was there had one (`set`), or after a deletion none (`deleted`), and at each other ID
-/// what stood there (`others`). The last two clauses are closed traces, with the bytes that
+/// was there had one (`set`), or after a deletion none (`deleted`), or as it was, with a
+/// dirty log or without (`logged`), and at each other ID what stood there (`others`). The last two clauses are closed traces, with the bytes that
 /// they print: of slots that just fit, and of slots one page larger (`fits`); of a slot that
 /// is set again, moved and deleted (`whole`).
 pub fn slot_lines_set_slots()
     ensures record { SetsAsRecord }
     ensures set { SetsAtItsId }
     ensures deleted { DeletesAtItsId }
+    ensures logged { LogsAtItsId }
     ensures others { KeepsOtherIds }
     ensures fits { FittingPrints }
     ensures whole { WholePrints }

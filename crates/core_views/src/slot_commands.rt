@@ -1,6 +1,7 @@
 //! What a line changes in the slots: a clause for each command that changes one.
 ghost use Rattle.std.specs.Prelude.{◌≡◌, ◌≤◌, None};
-ghost use Rattle.core_views.specs.Refusals.{after_set, delete_refusal, set_refusal};
+ghost use Rattle.core_views.specs.Refusals.{after_set, delete_refusal, log_refusal, set_refusal};
+ghost use Rattle.core_views.specs.declared.trace.Command.TheVariants.{SetLog};
 ghost use Rattle.core_views.specs.SlotCommands.{HasPages, change_at_once, slot_invalidated, slots_after};
 ghost use Rattle.core_views.specs.SlotSets.{without_slot_at};
 ghost use Rattle.core_views.specs.Traces.{IsCommandFor};
@@ -24,7 +25,9 @@ impl SlotSet {
                 Err(refusal) => Some(Some(refusal)),
                 Ok(()) => None,
             },
+            Command::SetLog { id, on } => self.check_log(*id, *on).err().map(Some),
             Command::Access { .. } | Command::ChangeHost { .. } => None,
+            Command::GetLog { .. } | Command::ClearLog { .. } => None,
         }
     }
 
@@ -48,7 +51,9 @@ impl SlotSet {
         match command {
             Command::SetSlot { id, slot } => self.put(*id, slot, sizes.pages),
             Command::DeleteSlot { id } => self.take_out(*id),
+            Command::SetLog { id, on } => self.put_log(*id, *on),
             Command::Access { .. } | Command::ChangeHost { .. } => {}
+            Command::GetLog { .. } | Command::ClearLog { .. } => {}
         }
     }
 
@@ -58,7 +63,8 @@ impl SlotSet {
     {
         match command {
             Command::SetSlot { id, .. } | Command::DeleteSlot { id } => Some(self.get(*id)?.slot),
-            Command::Access { .. } | Command::ChangeHost { .. } => None,
+            Command::Access { .. } | Command::ChangeHost { .. } | Command::SetLog { .. } => None,
+            Command::GetLog { .. } | Command::ClearLog { .. } => None,
         }
     }
 
@@ -70,6 +76,18 @@ impl SlotSet {
     {
         let set = self.set(id, slot.base, slot.pages, slot.host, slot.read_only, total);
         match set {
+            Ok(()) => {}
+            Err(_) => unreachable!(),
+        }
+    }
+
+    // Changes a dirty log whose change isn't refused.
+    #[tactic(auto, using(crate::proofs::SlotChanges::log_changes))]
+    fn put_log(&mut self, id: u64, on: bool)
+        requires accepted { log_refusal on id self.old ≡ None }
+        ensures { self.new ≡ slots_after (SetLog id on) self.old }
+    {
+        match self.with_log(id, on) {
             Ok(()) => {}
             Err(_) => unreachable!(),
         }

@@ -250,6 +250,19 @@ impl SlotSet {
         Ok(())
     }
 
+    /// What `with_log` would refuse, and nothing where it would change the slot's log.
+    pub fn check_log(&self, id: u64, on: bool) -> Result<(), Refusal>
+        ensures { result_err result ≡ log_refusal on id self.now }
+    {
+        let Some(slot) = self.get(id) else {
+            return Err(Refusal::Missing);
+        };
+        if slot.logged == on {
+            return Err(if on { Refusal::Logged } else { Refusal::NoLog });
+        }
+        Ok(())
+    }
+
     /// Whether a slot with this ID is there, with the same first guest frame.
     pub fn stays(&self, id: u64, slot: &Slot) -> bool
         ensures { result ≡ is_some_and (stays slot.now) (slot_with_id id (flat_slots self.now)) }

@@ -94,13 +94,45 @@ pub enum HostChange {
 pub enum Command {
     /// A guest access to content word `word` of guest frame `gfn`: one aligned
     /// 8-byte read, write or add at byte address `4096 * gfn + 8 * word`.
-    Access { gfn: u64, word: u8, op: Op },
+    Access {
+        gfn: u64,
+        word: u8,
+        op: Op,
+    },
     /// Sets the memory slot with this ID, which may be any number.
-    SetSlot { id: u64, slot: Slot },
+    SetSlot {
+        id: u64,
+        slot: Slot,
+    },
     /// Deletes the memory slot with this ID, which may be any number.
-    DeleteSlot { id: u64 },
+    DeleteSlot {
+        id: u64,
+    },
     /// Changes what the host maps this page to, which may be any number.
-    ChangeHost { page: u64, change: HostChange },
+    ChangeHost {
+        page: u64,
+        change: HostChange,
+    },
+    /// Gives the memory slot with this ID a dirty log, or takes its log away. The ID may be
+    /// any number, here and below.
+    SetLog {
+        id: u64,
+        on: bool,
+    },
+    /// Reads the dirty log of the memory slot with this ID (KVM's api.rst,
+    /// `KVM_GET_DIRTY_LOG`).
+    GetLog {
+        id: u64,
+    },
+    /// Clears the dirty log of the memory slot with this ID for those of `count` of its
+    /// pages, from its page `first` on, whose bits are set (`KVM_CLEAR_DIRTY_LOG`). Bit 0
+    /// of the first word is of page `first`; bits from `count` on count for nothing.
+    ClearLog {
+        id: u64,
+        first: u64,
+        count: u64,
+        words: Words,
+    },
 }
 
 /// A line of the trace: its number in the file (the header is line 1), its

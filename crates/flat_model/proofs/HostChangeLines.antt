@@ -20,19 +20,14 @@ use Rattle.core_views.specs.Flat.{Facts}
 use Rattle.core_views.specs.FlatHistory.{alone, answers, by, changing_host, doing, doing_by, looks, moving}
 use Rattle.core_views.specs.Host.{HostMap, mapping}
 use Rattle.core_views.specs.HostChanges.{host_answer, is_own, lowest_free}
-use Rattle.core_views.specs.SlotSets.{MemorySlots}
 use Rattle.core_views.specs.Text.{answers_of}
 use Rattle.core_views.proofs.HostLines.{owned_answer}
-use Rattle.flat_model.specs.HostPages.{ChangesTo, entry_after, host_of}
+use Rattle.core_views.specs.Refusals.{is_logged}
+use Rattle.flat_model.specs.Dirty.{is_dirty}
+use Rattle.flat_model.specs.HostPages.{Changed, ChangesTo, entry_after, host_of}
 use Rattle.flat_model.specs.Kept.{GivesLine, Kept, facts_of, memory_of}
 use Rattle.flat_model.specs.Steps.{ChangesHost}
-
-pointwise : {g h : HostMap} → ((p : ℕ) → g p ≡ h p) → g ≡ h
-pointwise same = λ i p. same p i
-
--- the facts, with these slots, host and words
-abbrev facts_with : MemorySlots → HostMap → List ((ℕ × ℕ) × ℕ) → Facts
-facts_with slots host words = record { slots = slots; host = host; memory = memory_of words; paused = false }
+use Rattle.flat_model.proofs.SameFacts.{same_facts}
 
 -- what the line does once it has looked, by the entry that it gives the page
 abbrev events_of : Line → ℕ → HostChange → Option HostEntry → List Event
@@ -60,20 +55,24 @@ abbrev answered : Line → Answer → List AnsweredLine
 answered line answer = record { number = line.number; actor = line.actor; answer = answer } ∷ []
 
 module _ (line : Line) (page : ℕ) (change : HostChange) (before after : Kept) (answer : Answer) where
+  -- All else stays.
+  with_host : (host : HostMap) → ((other : ℕ) → host_of after.changed other ≡ host other) → after.slots ≡ before.slots → after.words ≡ before.words
+      → after.dirty ≡ before.dirty → facts_of after ≡ (let facts : Facts = record (facts_of before) { host = host } in facts)
+  with_host host maps slots words dirty =
+      same_facts _ _ _ _ _ _ _ _ _ _ slots maps (λ p w. ap (λ (ws : List ((ℕ × ℕ) × ℕ)). memory_of ws p w) words) (λ id. ap (is_logged id) slots)
+      (λ gfn. ap (λ (frames : List ℕ). is_dirty frames gfn) dirty)
+
   by_change : (o : Option HostEntry) → ChangesTo page change before.changed after.changed answer o → after.slots ≡ before.slots → after.words ≡ before.words
+      → after.dirty ≡ before.dirty
       → alone before.sizes line (facts_of before) ≡ by line (Begun line) ∷ by line (LookedAtHost page) ∷ events_of line page change o
       → GivesLine before.sizes line (facts_of before) (facts_of after) answer
-  by_change None done slots words whole = record {
-    leads = same (ap host_of done.1) ∙ sym (ap (λ (es : List Event). facts_after_all es (facts_of before)) whole);
+  by_change None done slots words dirty whole = record {
+    leads = with_host (host_of before.changed) (λ p. ap (λ (c : Changed). host_of c p) done.1) slots words dirty
+        ∙ sym (ap (λ (es : List Event). facts_after_all es (facts_of before)) whole);
     tells = ap answers_of whole ∙ ap (answered line) (sym done.0);
   }
-    where
-      same : host_of after.changed ≡ host_of before.changed → facts_of after ≡ facts_of before
-      same host = ap (λ s. facts_with s (host_of after.changed) after.words) slots ∙ ap (λ h. facts_with before.slots h after.words) host
-          ∙ ap (facts_with before.slots (host_of before.changed)) words
-  by_change (Some entry) done slots words whole = record {
-    leads = ap (λ s. facts_with s (host_of after.changed) after.words) slots ∙ ap (λ h. facts_with before.slots h after.words) (pointwise done.1)
-        ∙ ap (facts_with before.slots (mapping page entry (host_of before.changed))) words
+  by_change (Some entry) done slots words dirty whole = record {
+    leads = with_host (mapping page entry (host_of before.changed)) done.1 slots words dirty
         ∙ sym (ap (λ (es : List Event). facts_after_all es (facts_of before)) whole);
     tells = ap answers_of whole ∙ ap (answered line) (sym done.0);
   }
@@ -85,7 +84,7 @@ module _ (line : Line) (page : ℕ) (change : HostChange) (before after : Kept) 
     leads = ap facts_of done.1 ∙ sym (ap (λ (es : List Event). facts_after_all es (facts_of before)) whole);
     tells = ap answers_of whole ∙ ap (answered line) (sym done.0);
   }
-  by_owner true whole done = by_change (entry_after before.sizes (host_of before.changed) page change) done.0 done.1 done.2
+  by_owner true whole done = by_change (entry_after before.sizes (host_of before.changed) page change) done.0 done.1 done.2 done.3
       (whole ∙ ap (λ (es : List Event). by line (Begun line) ∷ by line (LookedAtHost page) ∷ es) (by_entry before.sizes line page change (facts_of before)))
 
   pub host_line : line.command ≡ ChangeHost page change → ChangesHost page change before after answer (is_own before.sizes line.actor page)

@@ -11,7 +11,7 @@ use Rattle.flat_model.specs.HostPages.{AreFree}
 use Rattle.core_views.proofs.LowestFrames.{is_not, lowest_is, none_left, taken_by, taker}
 use Rattle.core_views.proofs.Ranges.{alike, by_test}
 
-same_tests : (a b : Bool) → (a ≡ true → b ≡ true) → (b ≡ true → a ≡ true) → a ≡ b
+pub same_tests : (a b : Bool) → (a ≡ true → b ≡ true) → (b ≡ true → a ≡ true) → a ≡ b
 same_tests true b there back = sym (there refl)
 same_tests false true there back = absurd (let e = back refl in cc)
 same_tests false false there back = refl

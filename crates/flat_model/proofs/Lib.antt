@@ -1,8 +1,15 @@
+pub mod AccessLines
+pub mod DirtySets
 pub mod Finds
 pub mod Frames
 pub mod HostChangeLines
 pub mod HostFrames
 pub mod HostLines
+pub mod LogLines
+pub mod LogWords
+pub mod MadeChanges
+pub mod SameFacts
 pub mod SlotLines
+pub mod SlotLogs
 pub mod SlotPages
 pub mod Words

@@ -7,21 +7,24 @@ use Rattle.core_views.specs.declared.trace.Command.TheVariants.{SetSlot}
 use Rattle.core_views.specs.declared.trace.Line.{Line}
 use Rattle.core_views.specs.Traces.{IsSlotInRange}
 use Rattle.core_views.specs.declared.sizes.Sizes.{Sizes}
+use Rattle.core_views.specs.Refusals.{is_logged}
 use Rattle.core_views.specs.SlotSets.{MemorySlots}
 use Rattle.core_views.specs.Memory.{Memory}
 use Rattle.core_views.specs.Flat.{Facts}
 use Rattle.core_views.specs.Events.{facts_after_all}
 use Rattle.core_views.specs.FlatHistory.{alone}
 use Rattle.core_views.specs.Text.{answers_of}
+use Rattle.flat_model.specs.Dirty.{is_dirty}
 use Rattle.flat_model.specs.HostPages.{Changed, host_of}
 
--- the machine's sizes, the slots by rising ID, the entries of the host pages that a line has changed, and the words that were written, each at its host
--- page and word
+-- the machine's sizes, the slots by rising ID, the entries of the host pages that a line has changed, the words that were written, each at its host page
+-- and word, and the dirty guest frames by rising number
 pub record Kept : Type 0 where
   pub sizes : Sizes
   pub slots : MemorySlots
   pub changed : Changed
   pub words : List ((ℕ × ℕ) × ℕ)
+  pub dirty : List ℕ
 
 abbrev pub is_place : ℕ × ℕ → ℕ × ℕ → Bool
 is_place x y = (x.0 == y.0) && (x.1 == y.1)
@@ -30,9 +33,16 @@ is_place x y = (x.0 == y.0) && (x.1 == y.1)
 abbrev pub memory_of : List ((ℕ × ℕ) × ℕ) → Memory
 memory_of words page word = unwrap_or (lookup (is_place (page, word)) words) 0
 
--- the flat facts that this stands for; nothing is paused
+-- the flat facts that this stands for: between lines nothing is paused, and the writes of just those slots are logged that have a dirty log
 abbrev pub facts_of : Kept → Facts
-facts_of kept = record { slots = kept.slots; host = host_of kept.changed; memory = memory_of kept.words; paused = false }
+facts_of kept = record {
+  slots = kept.slots;
+  host = host_of kept.changed;
+  memory = memory_of kept.words;
+  paused = false;
+  armed = λ id. is_logged id kept.slots;
+  pending = is_dirty kept.dirty;
+}
 
 -- The command's numbers are in the ranges of a line of a trace, as far as it matters here.
 abbrev pub IsInRange : Command → Type 0

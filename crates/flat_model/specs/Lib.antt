@@ -1,4 +1,6 @@
+pub mod Dirty
 pub mod Frames
 pub mod HostPages
 pub mod Kept
+pub mod LogSteps
 pub mod Steps

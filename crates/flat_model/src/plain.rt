@@ -1,14 +1,20 @@
-ghost use Rattle.std.specs.Prelude.{◌≡◌, IfOk, OnErr};
+ghost use Rattle.std.specs.Prelude.{◌≡◌, ◌==◌, ◌&&◌, ◌||◌, ℕ, IfOk, OnErr, OnOk, Some};
 ghost use Rattle.core_views.specs.Sizes.{sizes_of};
 ghost use Rattle.core_views.specs.Flat.{first_facts};
 ghost use Rattle.core_views.specs.HostChanges.{is_own};
 ghost use Rattle.core_views.specs.SlotCommands.{change_at_once};
 ghost use Rattle.core_views.specs.Slots.{page_behind};
 ghost use Rattle.core_views.specs.SlotSets.{flat_slots};
-ghost use Rattle.flat_model.specs.Kept.{GivesLine, IsInRange, facts_of};
-ghost use Rattle.flat_model.specs.Steps.{Accesses, ChangesHost, ChangesSlots};
+ghost use Rattle.core_views.specs.LogCommands.{log_read, read_refusal};
+ghost use Rattle.core_views.specs.Memory.{with_word};
+ghost use Rattle.flat_model.specs.Dirty.{is_dirty, is_frame_logged};
+ghost use Rattle.flat_model.specs.Kept.{GivesLine, IsInRange, facts_of, memory_of};
+ghost use Rattle.flat_model.specs.LogSteps.{ReadsLog};
+ghost use Rattle.flat_model.specs.Steps.{Accesses, ChangesHost, ChangesSlots, HasStored, IsChangeOf};
 
+use crate::dirty_frames::DirtyFrames;
 use crate::host_pages::HostPages;
+use crate::log_commands::{sets_all, slot_to_read, takes_out};
 use core_views::{
     Actor, Answer, Command, HostChange, Line, NoMemory, Op, Refusal, Sizes, SlotSet, Trace,
 };
@@ -17,13 +23,14 @@ use std::collections::HashMap;
 use std::marker::Model;
 
 /// Flat guest memory, as it is after some lines of a trace: its slots, what the
-/// host maps its pages to, and the content words that were written, by host page
-/// and word.
+/// host maps its pages to, the content words that were written, by host page and
+/// word, and the dirty guest frames.
 #[derive(Drop)]
 pub struct Plain {
     slots: SlotSet,
     host: HostPages,
     memory: HashMap<(u64, u8), u64>,
+    dirty: DirtyFrames,
 }
 
 impl Model for Plain {
@@ -34,7 +41,7 @@ impl Model for Plain {
 
     ghost Value = { Kept };
 
-    ghost view = { λ p. record { sizes = p.host.sizes; slots = p.slots; changed = p.host.changed; words = p.memory.entries } };
+    ghost view = { λ p. record { sizes = p.host.sizes; slots = p.slots; changed = p.host.changed; words = p.memory.entries; dirty = p.dirty } };
 
     ghost invariant = { λ p. (p.host.sizes.pages < 2 ^ 64) × AreSlotsOf p.host.sizes.pages (flat_slots p.slots) };
 }
@@ -49,12 +56,13 @@ impl Plain {
             slots: SlotSet::empty(),
             host: HostPages::at_start(alloc, Sizes::of(&trace.header)),
             memory: HashMap::new(alloc),
+            dirty: DirtyFrames::none(alloc),
         })
     }
 
     /// Runs one line alone, and says what it is answered. Where memory is
     /// refused, nothing has changed.
-    pub fn line(&mut self, _alloc: Global, line: &Line) -> Result<Answer, NoMemory>
+    pub fn line(&mut self, alloc: Global, line: &Line) -> Result<Answer, NoMemory>
         requires { IsInRange line.now.command }
         ensures gives { IfOk result (GivesLine self.old.sizes line.now (facts_of self.old) (facts_of self.new)) }
         ensures kept { OnErr result (self.new ≡ self.old) }
@@ -62,22 +70,53 @@ impl Plain {
     {
         match line.command {
             Command::Access { gfn, word, op } => self.access(gfn, word, op),
-            Command::SetSlot { .. } | Command::DeleteSlot { .. } => Ok(self.change_slots(line)),
+            Command::SetSlot { id, .. } | Command::DeleteSlot { id } => self.change_slots(line, id),
+            Command::SetLog { id, .. } => self.change_slots(line, id),
             Command::ChangeHost { page, change } => self.change_host(line.actor, page, change),
+            Command::GetLog { id } | Command::ClearLog { id, .. } => {
+                self.read_log(alloc, &line.command, id)
+            }
         }
     }
 
-    // Changes the slots, if the line has something to do.
-    fn change_slots(&mut self, line: &Line) -> Answer
-        requires { IsInRange line.now.command }
-        ensures changes { ChangesSlots line.now.command self.old self.new result (change_at_once self.old.sizes line.now.command self.old.slots) }
+    // Changes the slot with this ID, or its dirty log, if the line has something to do.
+    fn change_slots(&mut self, line: &Line, id: u64) -> Result<Answer, NoMemory>
+        requires range { IsInRange line.now.command }
+        requires slot { IsChangeOf line.now.command id }
+        ensures changes { IfOk result (λ answer.
+            ChangesSlots line.now.command self.old self.new answer (change_at_once self.old.sizes line.now.command self.old.slots)) }
+        ensures kept { OnErr result (self.new ≡ self.old) }
         ensures sizes { self.new.sizes ≡ self.old.sizes }
     {
-        if let Some(refusal) = self.slots.at_once(&line.command, self.host.sizes()) {
-            return Answer::at_once(refusal);
+        let sizes = self.host.sizes();
+        if let Some(refusal) = self.slots.at_once(&line.command, sizes) {
+            return Ok(Answer::at_once(refusal));
         }
-        self.slots.make_change(&line.command, self.host.sizes());
-        Answer::Done
+        let mut slots = self.slots;
+        slots.make_change(&line.command, sizes);
+        let all = sets_all(sizes.mode, &line.command);
+        self.dirty
+            .change_slot(all, &self.slots.get(id), &slots.get(id))?;
+        self.slots = slots;
+        Ok(Answer::Done)
+    }
+
+    // Reads the dirty log of the slot with this ID, if the line may.
+    fn read_log(&mut self, alloc: Global, command: &Command, id: u64) -> Result<Answer, NoMemory>
+        requires { log_read command.now ≡ Some id }
+        ensures reads { IfOk result (λ answer. ReadsLog command.now self.old self.new answer (read_refusal command.now self.old.slots)) }
+        ensures kept { OnErr result (self.new ≡ self.old) }
+        ensures sizes { self.new.sizes ≡ self.old.sizes }
+    {
+        let slot = match slot_to_read(&self.slots, command, id) {
+            Ok(slot) => slot,
+            Err(refusal) => return Ok(Answer::Refused(refusal)),
+        };
+        let words = self.dirty.words(alloc, command, &slot)?;
+        if takes_out(self.host.sizes().mode, command) {
+            self.dirty.take_out(command, &slot);
+        }
+        Ok(Answer::Bits(words))
     }
 
     fn access(&mut self, gfn: u64, word: u8, op: Op) -> Result<Answer, NoMemory>
@@ -92,15 +131,60 @@ impl Plain {
         if op.is_write() && !entry.writable {
             return Ok(Answer::HostFault);
         }
-        let value = self.memory.get(&(page, word)).copied().unwrap_or(0);
-        if op.is_write() {
-            self.memory.insert((page, word), op.stored(value))?;
-        }
+        let value = self.touch(gfn, page, word, op)?;
         self.host.bring_in(page);
         Ok(Answer::Reached {
             frame: entry.frame,
             value,
         })
+    }
+
+    // Does the operation to the word of the host page that is behind the guest frame, and
+    // gives what the word held before. Where memory is refused, nothing has changed.
+    fn touch(&mut self, gfn: u64, page: u64, word: u8, op: Op) -> Result<u64, NoMemory>
+        ensures value { IfOk result (λ value. value ≡ memory_of self.old.words page word) }
+        ensures stored { OnOk result (HasStored gfn page word op self.old self.new) }
+        ensures kept { OnErr result (self.new ≡ self.old) }
+        ensures sizes { self.new.sizes ≡ self.old.sizes }
+    {
+        let value = self.memory.get(&(page, word)).copied().unwrap_or(0);
+        if !op.is_write() {
+            return Ok(value);
+        }
+        self.write(gfn, page, word, op.stored(value))?;
+        Ok(value)
+    }
+
+    // Writes the word of the host page that is behind the guest frame, which is dirty then, if
+    // its writes are logged. Where memory is refused, nothing has changed.
+    fn write(&mut self, gfn: u64, page: u64, word: u8, value: u64) -> Result<(), NoMemory>
+        ensures words { OnOk result ((p w : ℕ) → memory_of self.new.words p w ≡ with_word page word value (memory_of self.old.words) p w) }
+        ensures dirty { OnOk result ((other : ℕ) →
+            is_dirty self.new.dirty other ≡ ((is_frame_logged self.old.slots gfn && (gfn == other)) || is_dirty self.old.dirty other)) }
+        ensures rest { OnOk result ((self.new.sizes ≡ self.old.sizes) × (self.new.slots ≡ self.old.slots) × (self.new.changed ≡ self.old.changed)) }
+        ensures kept { OnErr result (self.new ≡ self.old) }
+    {
+        let logged = self.is_logged(gfn);
+        let newly_dirty = self.dirty.add(gfn, logged)?;
+        match self.memory.insert((page, word), value) {
+            Ok(_) => Ok(()),
+            Err(refused) => {
+                if newly_dirty {
+                    self.dirty.remove(gfn);
+                }
+                Err(refused.into())
+            }
+        }
+    }
+
+    // Whether writes to the guest frame are logged.
+    fn is_logged(&self, gfn: u64) -> bool
+        ensures { result ≡ is_frame_logged self.now.slots gfn }
+    {
+        let Some((id, _)) = self.slots.slot_of(gfn) else {
+            return false;
+        };
+        self.slots.get(id).is_some_and(|slot| slot.logged)
     }
 
     // Changes the host page, if it is one of the actor's own.

@@ -63,7 +63,8 @@ Wrote (part.SetSeq x) found = found ≡ x
 Wrote _ found = Unit {0}
 
 pub wrote : (step : PartStep) (note found : ℕ) (before after : Seat) → PartNeeds step before.hand → MadePart step note found before after → Wrote step found
-wrote (part.SetStart first x) note found before after needs made = answered_so (part.SetStart first x) note found x before after needs (λ words. refl) made.answers
+wrote (part.SetStart first x) note found before after needs made =
+    answered_so (part.SetStart first x) note found x before after needs (λ words. refl) made.answers
 wrote (part.SetEnd end_ x) note found before after needs made =
     answered_so (part.SetEnd end_ x) note found x before after needs (λ words. refl) made.answers
 wrote (part.SetCount x) note found before after needs made = answered_so (part.SetCount x) note found x before after needs (λ words. refl) made.answers

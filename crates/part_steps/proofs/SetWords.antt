@@ -5,11 +5,15 @@ use Rattle.std.specs.Ordering.{match_ordering, nat_cmp}
 use Rattle.std.specs.declared.cmp.Ordering.{Ordering}
 use Rattle.std.specs.declared.cmp.Ordering.TheVariants.{Less, Equal, Greater}
 use Rattle.std.proofs.lemmas.Bool.Decides.{nat_tests}
+use Rattle.std.proofs.lemmas.Option.{same_Some}
 use Rattle.core_views.specs.declared.slot_set.MemorySlot.{MemorySlot}
 use Rattle.core_views.specs.declared.trace.Slot.{Slot}
 use Rattle.core_views.proofs.SlotLines.{taken_at}
 use Rattle.core_views.specs.Refusals.{after_set, is_logged}
-use Rattle.core_views.specs.SlotSets.{MemorySlots, slot_of_id, with_slot_at, without_slot_at}
+use Rattle.core_views.specs.declared.trace.Command.TheVariants.{SetLog}
+use Rattle.core_views.specs.SlotCommands.{slots_after}
+use Rattle.core_views.specs.SlotSets.{MemorySlots, changed_slots, slot_of_id, with_slot_at, without_slot_at}
+use Rattle.std.specs.Option.{option_map}
 use Rattle.spte_words.specs.Flags.{flags_word}
 use Rattle.part_steps.specs.SetWords.{set_word, word_of_slot}
 
@@ -93,3 +97,25 @@ set_word_fewer id slots j old_ =
     each : (here : Bool) (m : MemorySlot) → (if here then None else slot_of_id (j / 4) slots) ≡ Some m → IsSmall m.slot
     each true m e = absurd (cc e)
     each false m e = old_ (j / 4) m e
+
+-- A set in which the slot with an ID was given a dirty log, or lost it, has that slot so, and else what it had.
+pub log_at : (i id : ℕ) (on : Bool) (slots : MemorySlots) → slot_of_id i (slots_after (SetLog id on) slots)
+    ≡ (if id == i then option_map (λ was. record { slot = was.slot; logged = on }) (slot_of_id id slots) else slot_of_id i slots)
+log_at i id on slots = by (slot_of_id id slots)
+  where
+    by : (was : Option MemorySlot) → slot_of_id i (changed_slots id (option_map (λ was. record { slot = was.slot; logged = on }) was) slots)
+        ≡ (if id == i then option_map (λ was. record { slot = was.slot; logged = on }) was else slot_of_id i slots)
+    by None = taken_at i id slots
+    by (Some was) = put_at i id (record { slot = was.slot; logged = on }) slots
+
+pub set_word_logged : (id : ℕ) (on : Bool) (slots : MemorySlots) (j : ℕ)
+    → ((i : ℕ) (m : MemorySlot) → slot_of_id i slots ≡ Some m → IsSmall m.slot) → set_word (slots_after (SetLog id on) slots) j < 2 ^ 64
+set_word_logged id on slots j old_ =
+    word_small (slot_of_id (j / 4) (slots_after (SetLog id on) slots)) (j % 4)
+    (λ m e. each (id == j / 4) (slot_of_id id slots) refl m (sym (log_at (j / 4) id on slots) ∙ e))
+  where
+    each : (here : Bool) (was : Option MemorySlot) → slot_of_id id slots ≡ was → (m : MemorySlot)
+        → (if here then option_map (λ was. record { slot = was.slot; logged = on }) was else slot_of_id (j / 4) slots) ≡ Some m → IsSmall m.slot
+    each true None at m e = absurd (cc e)
+    each true (Some was) at m e = subst (λ (x : MemorySlot). IsSmall x.slot) (same_Some _ m e) (old_ id was at)
+    each false was at m e = old_ (j / 4) m e

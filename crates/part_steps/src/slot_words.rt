@@ -3,6 +3,7 @@ ghost use Rattle.part_steps.specs.SlotWords.{field_number, leaf_of, may_write, p
 ghost use Rattle.part_steps.specs.SetWords.{set_word, word_of_slot};
 ghost use Rattle.core_views.specs.Refusals.{after_set};
 ghost use Rattle.core_views.specs.SlotCommands.{slots_after};
+ghost use Rattle.core_views.specs.declared.trace.Command.TheVariants.{SetLog};
 ghost use Rattle.core_views.specs.SlotSets.{slot_of_id, without_slot_at};
 ghost use Rattle.core_views.specs.Traces.{IsSlotInRange};
 ghost use Rattle.spte_words.specs.HostWords.{host_frame};
@@ -77,6 +78,19 @@ fn slot_after_deletion(slots: &SlotSet, id: u64, here: u64) -> Option<MemorySlot
     if here == id { None } else { slots.get(here) }
 }
 
+// The slot with the ID `here`, after one was given a dirty log, or lost it.
+#[tactic(auto, using(crate::proofs::SetWords::log_at))]
+fn slot_after_log(slots: &SlotSet, id: u64, on: bool, here: u64) -> Option<MemorySlot>
+    ensures { result ≡ slot_of_id here (slots_after (SetLog id on) slots.now) }
+{
+    let was = slots.get(here)?;
+    let logged = if here == id { on } else { was.logged };
+    Some(MemorySlot {
+        slot: was.slot,
+        logged,
+    })
+}
+
 // The slot with the ID `here`, after the line has changed its slot.
 fn slot_after(slots: &SlotSet, command: &Command, here: u64) -> Option<MemorySlot>
     ensures { result ≡ slot_of_id here (slots_after command.now slots.now) }
@@ -84,7 +98,9 @@ fn slot_after(slots: &SlotSet, command: &Command, here: u64) -> Option<MemorySlo
     match command {
         Command::SetSlot { id, slot } => slot_after_set(slots, *id, slot, here),
         Command::DeleteSlot { id } => slot_after_deletion(slots, *id, here),
+        Command::SetLog { id, on } => slot_after_log(slots, *id, *on, here),
         Command::Access { .. } | Command::ChangeHost { .. } => slots.get(here),
+        Command::GetLog { .. } | Command::ClearLog { .. } => slots.get(here),
     }
 }
 

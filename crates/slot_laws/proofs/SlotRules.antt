@@ -5,17 +5,18 @@ use Rattle.std.specs.Bool.{beq}
 use Rattle.std.specs.Prelude.{◌==◌, ◌&&◌, Option, Some, None, if◌then◌else◌, is_none, nat_lt}
 use Rattle.std.specs.Option.{option_map}
 use Rattle.core_views.specs.declared.answer.Refusal.{Refusal}
-use Rattle.core_views.specs.declared.answer.Refusal.TheVariants.{BadId, TooLarge, Missing, Logged, Resize, Fixed, Overlap, HostOverlap}
+use Rattle.core_views.specs.declared.answer.Refusal.TheVariants.{BadId, TooLarge, Missing, Logged, NoLog, Resize, Fixed, Overlap, HostOverlap}
 use Rattle.core_views.specs.declared.slot_set.MemorySlot.{MemorySlot}
-use Rattle.core_views.specs.declared.trace.Command.TheVariants.{Access, ChangeHost, DeleteSlot, SetSlot}
+use Rattle.core_views.specs.declared.trace.Command.TheVariants.{Access, ChangeHost, ClearLog, DeleteSlot, GetLog, SetLog, SetSlot}
 use Rattle.core_views.specs.declared.trace.Slot.{Slot}
-use Rattle.core_views.specs.Refusals.{is_logged, moves_logged, set_refusal}
-use Rattle.core_views.specs.SlotCommands.{at_once, is_unchanged, stays}
+use Rattle.core_views.specs.Refusals.{is_logged, log_refusal, moves_logged, set_refusal}
+use Rattle.core_views.specs.SlotCommands.{at_once, is_unchanged, slots_after, stays}
 use Rattle.slot_laws.specs.SlotRules.{DeletionsAreOfSlots, DoneAtOnceChangesNone, SetSlotsKeepShapes, WorkChangesOne}
 use Rattle.core_views.specs.Slots.{changes_fixed, first_of, is_some_and, is_too_large, meets_guest_frames, meets_host_pages, resizes, slot_with_id}
 use Rattle.core_views.specs.SlotSets.{MemorySlots, flat_slots, slot_of_id, with_slot_at}
 use Rattle.core_views.proofs.FlatSlots.{flat_at}
-use Rattle.core_views.proofs.SlotLines.{set_elsewhere, set_here, taken_at}
+use Rattle.core_views.proofs.SlotChanges.{logged_there}
+use Rattle.core_views.proofs.SlotLines.{log_here, logged_so, set_elsewhere, set_here, taken_at}
 use Rattle.core_views.proofs.Sound.{deletion_low}
 
 -- No row holds.
@@ -150,6 +151,19 @@ done_changes_none z (SetSlot id slot) slots told i = by (cases_eq i id)
         ∙ set_as_it_is z.pages id slot slots D.0 (is_there id slot slots D.1))
     by (inr apart) = set_elsewhere id i (record { slot = slot; logged = is_logged id slots }) slots apart
 done_changes_none z (DeleteSlot id) slots told i = absurd (let D = done _ false told in cc D.1)
+done_changes_none z (SetLog id on) slots told i = absurd (let D = done _ false told in cc D.1)
+done_changes_none z (GetLog id) slots told i = absurd (cc told)
+done_changes_none z (ClearLog id first count words) slots told i = absurd (cc told)
+
+-- A slot whose dirty log is to begin has none, and one whose log is to end has one.
+log_moves : (on : Bool) (id : ℕ) (slots : MemorySlots) (was : MemorySlot) → log_refusal on id slots ≡ None → slot_of_id id slots ≡ Some was
+    → was.logged ≡ on → ⊥
+log_moves true id slots was accepted at same =
+    let refused : log_refusal true id slots ≡ Some Logged = rw (at, same) refl in
+    cc (refused, accepted)
+log_moves false id slots was accepted at same =
+    let refused : log_refusal false id slots ≡ Some NoLog = rw (at, same) refl in
+    cc (refused, accepted)
 
 pub work_changes_one : WorkChangesOne
 work_changes_one z (Access gfn word op) slots is told = absurd (cc is)
@@ -176,3 +190,13 @@ work_changes_one z (DeleteSlot id) slots is told =
     gone_at : (here : Bool) → here ≡ true → (if here then None else slot_of_id id slots) ≡ None
     gone_at true e = refl
     gone_at false e = absurd (cc e)
+work_changes_one z (SetLog id on) slots is told =
+    let W = works _ false told in
+    let was = logged_there id on slots W.0 in
+    let after_it : slot_of_id id (slots_after (SetLog id on) slots) ≡ Some (record { slot = was.slot.slot; logged = on }) =
+    log_here id on slots ∙ ap (logged_so on) was.is in (
+      id,
+      λ e. log_moves on id slots was.slot W.0 was.is (sym (ap (λ (m : MemorySlot). m.logged) (same_some (sym after_it ∙ e ∙ was.is)))),
+    )
+work_changes_one z (GetLog id) slots is told = absurd (cc is)
+work_changes_one z (ClearLog id first count words) slots is told = absurd (cc is)

@@ -1,18 +1,19 @@
 -- A printed line tells its parts: each number ends at the first byte that is no digit.
-use Rattle.std.specs.Prelude.{◌==◌, if◌then◌else◌}
+use Rattle.std.specs.Prelude.{◌==◌, if◌then◌else◌, All, false}
 use Rattle.std.proofs.Common.{◌≡◌, ◌≤◌, ◌<◌, ◌^◌, ℕ, List, [], ◌∷◌, ◌++◌, codes, length, drop, get_or, arith, refl, sym, ap, ◌∙◌, append_assoc}
-use Rattle.std.proofs.lemmas.Fmt.{decimal_is_IsNumeral, decimal_injective}
+use Rattle.std.proofs.lemmas.Fmt.{decimal_is_IsNumeral, decimal_injective, digits_is_IsNumeral}
+use Rattle.std.proofs.lemmas.List.Elements.{All-head, All-tail}
 use Rattle.std.specs.Char.{digit_value}
-use Rattle.std.specs.Fmt.{decimal}
-use Rattle.std.specs.Str.Parse.{AllDigits}
-use Rattle.core_views.specs.Text.{actor_name, answer_text, line_text}
+use Rattle.std.specs.Fmt.{decimal, digits}
+use Rattle.std.specs.Str.Parse.{AllDigits, digits_value}
+use Rattle.core_views.specs.Text.{actor_name, answer_text, bits_text, line_text}
 use Rattle.core_views.specs.declared.actor.Actor.{Actor}
 use Rattle.core_views.specs.declared.actor.Actor.TheVariants.{Vcpu, Host, Manager, Worker}
 use Rattle.core_views.specs.declared.answer.Answer.{Answer}
-use Rattle.core_views.specs.declared.answer.Answer.TheVariants.{Reached, Mmio, HostFault, Starved, Done, Moved, Refused}
+use Rattle.core_views.specs.declared.answer.Answer.TheVariants.{Reached, Mmio, HostFault, Starved, Done, Moved, Bits, Refused}
 use Rattle.core_views.specs.declared.answer.Refusal.{Refusal}
 use Rattle.core_views.specs.declared.answer.Refusal.TheVariants.{BadId, TooLarge, Missing, Logged, NoLog, Resize, Fixed, Overlap, HostOverlap, OutOfRange}
-use Rattle.core_views.specs.declared.answer.Refusal.TheVariants.{NoFrame}
+use Rattle.core_views.specs.declared.answer.Refusal.TheVariants.{NoFrame, BadRange}
 use Rattle.trace_text.specs.Laws.{IsPrintable, AreNumbers, LinesTell}
 
 -- The first items of equal lists, and what is after them.
@@ -26,26 +27,26 @@ tails c d r s e = ap (drop 1) e
 differ : (c d : ℕ) → (c ≡ d → ⊥) → c ≡ d → ⊥
 differ c d n e = n e
 
--- Digits up to a byte that is none, and what comes from there on.
-parts : (xs ys r s : List ℕ) (c d : ℕ) → AllDigits 10 xs → AllDigits 10 ys → 10 ≤ digit_value c → 10 ≤ digit_value d → xs ++ c ∷ r ≡ ys ++ d ∷ s
-    → (xs ≡ ys) × (c ∷ r ≡ d ∷ s)
-parts [] [] r s c d xd yd cs ds e = (refl, e)
-parts [] (y ∷ ys) r s c d xd yd cs ds e =
+-- Digits of a base up to a byte that is none, and what comes from there on.
+parts : (base : ℕ) (xs ys r s : List ℕ) (c d : ℕ) → AllDigits base xs → AllDigits base ys → base ≤ digit_value c → base ≤ digit_value d
+    → xs ++ c ∷ r ≡ ys ++ d ∷ s → (xs ≡ ys) × (c ∷ r ≡ d ∷ s)
+parts base [] [] r s c d xd yd cs ds e = (refl, e)
+parts base [] (y ∷ ys) r s c d xd yd cs ds e =
     let same : digit_value c ≡ digit_value y = ap digit_value (heads c y r (ys ++ d ∷ s) e) in
     absurd (omega (arith, same, cs, yd.0))
-parts (x ∷ xs) [] r s c d xd yd cs ds e =
+parts base (x ∷ xs) [] r s c d xd yd cs ds e =
     let same : digit_value x ≡ digit_value d = ap digit_value (heads x d (xs ++ c ∷ r) s e) in
     absurd (omega (arith, same, ds, xd.0))
-parts (x ∷ xs) (y ∷ ys) r s c d xd yd cs ds e =
+parts base (x ∷ xs) (y ∷ ys) r s c d xd yd cs ds e =
     let same : x ≡ y = heads x y (xs ++ c ∷ r) (ys ++ d ∷ s) e in
-    let more = parts xs ys r s c d xd.1 yd.1 cs ds (tails x y (xs ++ c ∷ r) (ys ++ d ∷ s) e) in
+    let more = parts base xs ys r s c d xd.1 yd.1 cs ds (tails x y (xs ++ c ∷ r) (ys ++ d ∷ s) e) in
     (rw (same, more.0) refl, more.1)
 
 -- A number and the byte after it.
 number : (m n c d : ℕ) (r s : List ℕ) → m < 2 ^ 64 → n < 2 ^ 64 → 10 ≤ digit_value c → 10 ≤ digit_value d → decimal m ++ c ∷ r ≡ decimal n ++ d ∷ s
     → (m ≡ n) × (r ≡ s)
 number m n c d r s mb nb cs ds e =
-    let p = parts (decimal m) (decimal n) r s c d (decimal_is_IsNumeral m mb).0.1 (decimal_is_IsNumeral n nb).0.1 cs ds e in
+    let p = parts 10 (decimal m) (decimal n) r s c d (decimal_is_IsNumeral m mb).0.1 (decimal_is_IsNumeral n nb).0.1 cs ds e in
     (decimal_injective m n mb nb p.0, tails c d r s p.1)
 
 -- A space is no digit.
@@ -55,7 +56,7 @@ space = omega arith
 -- A number does not begin with a byte that is no digit.
 no_number : (n c d : ℕ) (r s : List ℕ) → n < 2 ^ 64 → 10 ≤ digit_value c → 10 ≤ digit_value d → decimal n ++ c ∷ r ≡ d ∷ s → ⊥
 no_number n c d r s nb cs ds e =
-    let p = parts (decimal n) [] r s c d (decimal_is_IsNumeral n nb).0.1 tt cs ds e in
+    let p = parts 10 (decimal n) [] r s c d (decimal_is_IsNumeral n nb).0.1 tt cs ds e in
     let some : length (decimal n) ≡ 0 = ap length p.0 in
     omega (arith, some, (decimal_is_IsNumeral n nb).0.0)
 
@@ -93,13 +94,13 @@ reached_is f v = append_assoc (decimal f) (codes " value " ++ decimal v) (10 ∷
 moved_apart : (f g w : ℕ) → f < 2 ^ 64 → g < 2 ^ 64 → decimal f ++ 10 ∷ [] ≡ reached g w → ⊥
 moved_apart f g w fb gb e =
     let behind : List ℕ = codes "value " ++ (decimal w ++ 10 ∷ []) in
-    let p = parts (decimal f) (decimal g) [] behind 10 32 (decimal_is_IsNumeral f fb).0.1 (decimal_is_IsNumeral g gb).0.1 (omega arith) space e in
+    let p = parts 10 (decimal f) (decimal g) [] behind 10 32 (decimal_is_IsNumeral f fb).0.1 (decimal_is_IsNumeral g gb).0.1 (omega arith) space e in
     differ 10 32 (omega arith) (heads 10 32 [] behind p.1)
 
 -- The refusal whose name has these letters: the first one tells it, or the second or the fourth does.
 by_letter : List ℕ → Refusal
 by_letter l =
-    if get_or l 8 0 == 98 then BadId else
+    if get_or l 8 0 == 98 then (if get_or l 12 0 == 114 then BadRange else BadId) else
     if get_or l 8 0 == 116 then TooLarge else
     if get_or l 8 0 == 109 then Missing else
     if get_or l 8 0 == 108 then Logged else
@@ -122,6 +123,69 @@ letter_tells Overlap = refl
 letter_tells HostOverlap = refl
 letter_tells OutOfRange = refl
 letter_tells NoFrame = refl
+letter_tells BadRange = refl
+
+-- Words of a dirty log in hexadecimal digits, each after a space, and the LF after them.
+abbrev words_text : List ℕ → List ℕ
+words_text words = bits_text words ++ 10 ∷ []
+
+-- the byte after a word, and what comes from there on
+abbrev byte_after : List ℕ → ℕ
+byte_after [] = 10
+byte_after (word ∷ words) = 32
+
+abbrev after_it : List ℕ → List ℕ
+after_it [] = []
+after_it (word ∷ words) = codes "0x" ++ (digits 16 false word ++ words_text words)
+
+from_byte : (words : List ℕ) → words_text words ≡ byte_after words ∷ after_it words
+from_byte [] = refl
+from_byte (word ∷ words) = ap (λ (l : List ℕ). codes " 0x" ++ l) (append_assoc (digits 16 false word) (bits_text words) (10 ∷ []))
+
+no_hexadecimal : (words : List ℕ) → 16 ≤ digit_value (byte_after words)
+no_hexadecimal [] = omega arith
+no_hexadecimal (word ∷ words) = omega arith
+
+-- They tell the words.
+words_tell : (xs ys : List ℕ) → All (λ word. word < 2 ^ 64) xs → All (λ word. word < 2 ^ 64) ys → words_text xs ≡ words_text ys → xs ≡ ys
+words_tell [] [] xb yb e = refl
+words_tell [] (y ∷ ys) xb yb e = absurd (differ 10 32 (omega arith) (ap (λ (l : List ℕ). get_or l 0 0) e))
+words_tell (x ∷ xs) [] xb yb e = absurd (differ 32 10 (omega arith) (ap (λ (l : List ℕ). get_or l 0 0) e))
+words_tell (x ∷ xs) (y ∷ ys) xb yb e =
+    let x_is = digits_is_IsNumeral 16 false (omega arith) (omega arith) x (omega (arith, All-head (λ word. word < 2 ^ 64) x xs xb)) in
+    let y_is = digits_is_IsNumeral 16 false (omega arith) (omega arith) y (omega (arith, All-head (λ word. word < 2 ^ 64) y ys yb)) in
+    let whole : digits 16 false x ++ (byte_after xs ∷ after_it xs) ≡ digits 16 false y ++ (byte_after ys ∷ after_it ys) =
+    ap (λ (l : List ℕ). digits 16 false x ++ l) (sym (from_byte xs))
+    ∙ ap (drop 3) (sym (from_byte (x ∷ xs)) ∙ e ∙ from_byte (y ∷ ys))
+    ∙ ap (λ (l : List ℕ). digits 16 false y ++ l) (from_byte ys) in
+    let p = parts 16 (digits 16 false x) (digits 16 false y) (after_it xs) (after_it ys) (byte_after xs) (byte_after ys) x_is.0.1 y_is.0.1
+    (no_hexadecimal xs) (no_hexadecimal ys) whole in
+    let first : x ≡ y = sym x_is.1 ∙ ap (digits_value 16) p.0 ∙ y_is.1 in
+    let rest : xs ≡ ys =
+    words_tell xs ys (All-tail (λ word. word < 2 ^ 64) x xs xb) (All-tail (λ word. word < 2 ^ 64) y ys yb)
+    (from_byte xs ∙ p.1 ∙ sym (from_byte ys)) in
+    rw (first, rest) refl
+
+-- the first byte of an answer
+abbrev first_byte : Answer → ℕ
+first_byte (Reached frame value) = 102
+first_byte Mmio = 109
+first_byte HostFault = 104
+first_byte Starved = 115
+first_byte Done = 100
+first_byte (Moved frame) = 102
+first_byte (Bits words) = 98
+first_byte (Refused refusal) = 114
+
+first_is : (x : Answer) → get_or (answer_text x ++ 10 ∷ []) 0 0 ≡ first_byte x
+first_is (Reached frame value) = refl
+first_is Mmio = refl
+first_is HostFault = refl
+first_is Starved = refl
+first_is Done = refl
+first_is (Moved frame) = refl
+first_is (Bits words) = refl
+first_is (Refused refusal) = refl
 
 -- An answer and its LF.
 answer : (x y : Answer) → AreNumbers x → AreNumbers y → answer_text x ++ 10 ∷ [] ≡ answer_text y ++ 10 ∷ [] → x ≡ y
@@ -138,46 +202,8 @@ answer (Moved f) (Moved g) xb yb e = ap Moved (number f g 10 10 [] [] xb yb (ome
 answer (Moved f) (Reached g w) xb yb e = absurd (moved_apart f g w xb yb.0 (ap (drop 6) e ∙ reached_is g w))
 answer (Reached f v) (Moved g) xb yb e = absurd (moved_apart g f v yb xb.0 (sym (ap (drop 6) e) ∙ reached_is f v))
 answer (Refused r) (Refused s) xb yb e = ap Refused (sym (letter_tells r) ∙ ap by_letter e ∙ letter_tells s)
-answer (Reached f v) Mmio xb yb e = absurd (differ 102 109 (omega arith) (ap (λ (l : List ℕ). get_or l 0 0) e))
-answer (Reached f v) HostFault xb yb e = absurd (differ 102 104 (omega arith) (ap (λ (l : List ℕ). get_or l 0 0) e))
-answer (Reached f v) Starved xb yb e = absurd (differ 102 115 (omega arith) (ap (λ (l : List ℕ). get_or l 0 0) e))
-answer (Reached f v) Done xb yb e = absurd (differ 102 100 (omega arith) (ap (λ (l : List ℕ). get_or l 0 0) e))
-answer (Reached f v) (Refused r) xb yb e = absurd (differ 102 114 (omega arith) (ap (λ (l : List ℕ). get_or l 0 0) e))
-answer Mmio (Reached f v) xb yb e = absurd (differ 109 102 (omega arith) (ap (λ (l : List ℕ). get_or l 0 0) e))
-answer Mmio HostFault xb yb e = absurd (differ 109 104 (omega arith) (ap (λ (l : List ℕ). get_or l 0 0) e))
-answer Mmio Starved xb yb e = absurd (differ 109 115 (omega arith) (ap (λ (l : List ℕ). get_or l 0 0) e))
-answer Mmio Done xb yb e = absurd (differ 109 100 (omega arith) (ap (λ (l : List ℕ). get_or l 0 0) e))
-answer Mmio (Refused r) xb yb e = absurd (differ 109 114 (omega arith) (ap (λ (l : List ℕ). get_or l 0 0) e))
-answer HostFault (Reached f v) xb yb e = absurd (differ 104 102 (omega arith) (ap (λ (l : List ℕ). get_or l 0 0) e))
-answer HostFault Mmio xb yb e = absurd (differ 104 109 (omega arith) (ap (λ (l : List ℕ). get_or l 0 0) e))
-answer HostFault Starved xb yb e = absurd (differ 104 115 (omega arith) (ap (λ (l : List ℕ). get_or l 0 0) e))
-answer HostFault Done xb yb e = absurd (differ 104 100 (omega arith) (ap (λ (l : List ℕ). get_or l 0 0) e))
-answer HostFault (Refused r) xb yb e = absurd (differ 104 114 (omega arith) (ap (λ (l : List ℕ). get_or l 0 0) e))
-answer Starved (Reached f v) xb yb e = absurd (differ 115 102 (omega arith) (ap (λ (l : List ℕ). get_or l 0 0) e))
-answer Starved Mmio xb yb e = absurd (differ 115 109 (omega arith) (ap (λ (l : List ℕ). get_or l 0 0) e))
-answer Starved HostFault xb yb e = absurd (differ 115 104 (omega arith) (ap (λ (l : List ℕ). get_or l 0 0) e))
-answer Starved Done xb yb e = absurd (differ 115 100 (omega arith) (ap (λ (l : List ℕ). get_or l 0 0) e))
-answer Starved (Refused r) xb yb e = absurd (differ 115 114 (omega arith) (ap (λ (l : List ℕ). get_or l 0 0) e))
-answer Done (Reached f v) xb yb e = absurd (differ 100 102 (omega arith) (ap (λ (l : List ℕ). get_or l 0 0) e))
-answer Done Mmio xb yb e = absurd (differ 100 109 (omega arith) (ap (λ (l : List ℕ). get_or l 0 0) e))
-answer Done HostFault xb yb e = absurd (differ 100 104 (omega arith) (ap (λ (l : List ℕ). get_or l 0 0) e))
-answer Done Starved xb yb e = absurd (differ 100 115 (omega arith) (ap (λ (l : List ℕ). get_or l 0 0) e))
-answer Done (Refused r) xb yb e = absurd (differ 100 114 (omega arith) (ap (λ (l : List ℕ). get_or l 0 0) e))
-answer (Refused r) (Reached f v) xb yb e = absurd (differ 114 102 (omega arith) (ap (λ (l : List ℕ). get_or l 0 0) e))
-answer (Refused r) Mmio xb yb e = absurd (differ 114 109 (omega arith) (ap (λ (l : List ℕ). get_or l 0 0) e))
-answer (Refused r) HostFault xb yb e = absurd (differ 114 104 (omega arith) (ap (λ (l : List ℕ). get_or l 0 0) e))
-answer (Refused r) Starved xb yb e = absurd (differ 114 115 (omega arith) (ap (λ (l : List ℕ). get_or l 0 0) e))
-answer (Refused r) Done xb yb e = absurd (differ 114 100 (omega arith) (ap (λ (l : List ℕ). get_or l 0 0) e))
-answer (Moved f) Mmio xb yb e = absurd (differ 102 109 (omega arith) (ap (λ (l : List ℕ). get_or l 0 0) e))
-answer Mmio (Moved f) xb yb e = absurd (differ 109 102 (omega arith) (ap (λ (l : List ℕ). get_or l 0 0) e))
-answer (Moved f) HostFault xb yb e = absurd (differ 102 104 (omega arith) (ap (λ (l : List ℕ). get_or l 0 0) e))
-answer HostFault (Moved f) xb yb e = absurd (differ 104 102 (omega arith) (ap (λ (l : List ℕ). get_or l 0 0) e))
-answer (Moved f) Starved xb yb e = absurd (differ 102 115 (omega arith) (ap (λ (l : List ℕ). get_or l 0 0) e))
-answer Starved (Moved f) xb yb e = absurd (differ 115 102 (omega arith) (ap (λ (l : List ℕ). get_or l 0 0) e))
-answer (Moved f) Done xb yb e = absurd (differ 102 100 (omega arith) (ap (λ (l : List ℕ). get_or l 0 0) e))
-answer Done (Moved f) xb yb e = absurd (differ 100 102 (omega arith) (ap (λ (l : List ℕ). get_or l 0 0) e))
-answer (Moved f) (Refused r) xb yb e = absurd (differ 102 114 (omega arith) (ap (λ (l : List ℕ). get_or l 0 0) e))
-answer (Refused r) (Moved f) xb yb e = absurd (differ 114 102 (omega arith) (ap (λ (l : List ℕ). get_or l 0 0) e))
+answer (Bits xs) (Bits ys) xb yb e = ap Bits (words_tell xs ys xb yb (ap (drop 4) e))
+answer x y xb yb e = absurd (differ (first_byte x) (first_byte y) (omega arith) (sym (first_is x) ∙ ap (λ (l : List ℕ). get_or l 0 0) e ∙ first_is y))
 
 pub tells : LinesTell
 unfolding line_text

@@ -1,10 +1,10 @@
 -- What holds of the printed lines alone.
-use Rattle.std.specs.Prelude.{◌≡◌, ◌<◌, ◌^◌, ℕ}
+use Rattle.std.specs.Prelude.{◌≡◌, ◌<◌, ◌^◌, ℕ, All}
 use Rattle.core_views.specs.Text.{line_text}
 use Rattle.core_views.specs.declared.actor.Actor.{Actor}
 use Rattle.core_views.specs.declared.actor.Actor.TheVariants.{Vcpu, Host, Manager, Worker}
 use Rattle.core_views.specs.declared.answer.Answer.{Answer}
-use Rattle.core_views.specs.declared.answer.Answer.TheVariants.{Reached, Mmio, HostFault, Starved, Done, Moved, Refused}
+use Rattle.core_views.specs.declared.answer.Answer.TheVariants.{Reached, Mmio, HostFault, Starved, Done, Moved, Bits, Refused}
 
 -- The actor's index is a number of 8 bits.
 abbrev pub IsPrintable : Actor → Type 0
@@ -21,6 +21,7 @@ AreNumbers HostFault = Unit {0}
 AreNumbers Starved = Unit {0}
 AreNumbers Done = Unit {0}
 AreNumbers (Moved frame) = frame < 2 ^ 64
+AreNumbers (Bits words) = All (λ word. word < 2 ^ 64) words
 AreNumbers (Refused refusal) = Unit {0}
 
 -- Lines that are printed alike have the same number, the same actor and the same answer.

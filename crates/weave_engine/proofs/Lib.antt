@@ -1,6 +1,7 @@
 pub mod Stopping
 pub mod Marks
 pub mod Fed
+pub mod NoneReads
 pub mod PartRuns
 pub mod PartEnds
 pub mod FileOrder

@@ -2,7 +2,8 @@
 use Rattle.std.proofs.Common.{◌≡◌, ◌≢◌, ◌<◌, ◌≤◌, inl, inr, ℕ, List, [], ◌∷◌, ◌++◌, Result, Ok, Err, length, take, refl, sym, ap, subst, ◌∙◌, append_assoc}
 use Rattle.std.proofs.Math.Seq.{take-length}
 use Rattle.std.specs.declared.option.Option.{Option}
-use Rattle.std.specs.Prelude.{Some, None}
+use Rattle.std.specs.Prelude.{All, Some, None}
+use Rattle.std.proofs.lemmas.List.Elements.{All-take}
 use Rattle.core_views.specs.declared.answer.Answer.{Answer}
 use Rattle.core_views.specs.declared.answer.Answer.TheVariants.{Starved}
 use Rattle.core_views.specs.declared.event.Event.{Event}
@@ -12,6 +13,8 @@ use Rattle.core_views.specs.declared.trace.Line.{Line}
 use Rattle.core_views.specs.declared.trace.Trace.{Trace}
 use Rattle.core_views.specs.Alone.{NoneStarved, TakeLowest}
 use Rattle.core_views.proofs.FallsAsFlat.{all_fall}
+use Rattle.core_views.specs.Traces.{IsCommandFor}
+use Rattle.weave_engine.proofs.NoneReads.{lines_read_none}
 use Rattle.std.proofs.lemmas.List.{append-nil}
 use Rattle.core_views.specs.Flat.{first_flat}
 use Rattle.core_views.specs.Held.{Held}
@@ -96,10 +99,16 @@ each_lowest z all start is_start done (line ∷ lines) ss legal takes (own, rest
     (each_lowest z all start is_start (done ++ own) lines rest (legal-append mmu start done own legal ran.runs.legal)
     (ran.lowest all start done is_start legal refl takes) (subst (λ (x : World Held). EachRunsAlone z x lines rest) (sym both) each))
 
+allowed_lines : (trace : Trace) (start : World Held) → IsStart (sizes_of trace.header) trace.lines start → (count : ℕ)
+    → All (λ line. IsCommandFor (sizes_of trace.header) line.actor line.command) (take count trace.lines)
+allowed_lines trace start is_start count =
+    All-take (λ (line : Line). IsCommandFor (sizes_of trace.header) line.actor line.command) count trace.lines is_start.allowed
+
 -- Lines that ran alone from a trace's start are a replay of them.
 pub replays : (trace : Trace) (lines : List Line) (start end_ : World Held) (printed : List ℕ) → IsStart (sizes_of trace.header) trace.lines start
+    → All (λ line. IsCommandFor (sizes_of trace.header) line.actor line.command) lines
     → (r : RunsLines (sizes_of trace.header) start lines end_) → printed ≡ text (history start r.steps) → Replays trace lines printed end_
-replays trace lines start end_ printed is_start r prints =
+replays trace lines start end_ printed is_start allowed r prints =
     let z : Sizes = sizes_of trace.header in
     let lawful = every_history z trace.lines start r.steps is_start r.legal in
     record {
@@ -117,7 +126,8 @@ replays trace lines start end_ printed is_start r prints =
     as_flat lawful fed =
         let G = goes_as_flat (sizes_of trace.header) lines (history start r.steps) first_flat (λ i. refl) lawful r.alone
         (all_fall (sizes_of trace.header) first_flat (history start r.steps) fed
-        (each_lowest (sizes_of trace.header) trace.lines start is_start [] lines r.steps tt tt r.each)) in
+        (each_lowest (sizes_of trace.header) trace.lines start is_start [] lines r.steps tt tt r.each)
+        (lines_read_none (sizes_of trace.header) lines (history start r.steps) first_flat lawful r.alone allowed (λ i. refl))) in
         record { none_starved = fed; same = G.shown; prints = prints ∙ G.prints }
 
 module _ {V : Type 0} (prints : V → List Mark → V → Type 0) (stops : V → List Mark → Stop → V → Type 0) (L : Printing prints stops) (trace : Trace) where
@@ -130,7 +140,7 @@ module _ {V : Type 0} (prints : V → List Mark → V → Type 0) (stops : V →
       let made = a_start z trace.lines (header_sizes trace.header good.header) good.lines good.few in
       let B = between_at_start z trace.lines made.0 made.1 in
       let stopped = subst (λ (ss : List (Step Kind)). stops p (turns_from made.0 ss) NoMemory q) (sym (none_ran z trace.lines made.0 made.1)) none in
-      (made.0, inl (0, [], replays trace (take 0 trace.lines) made.0 made.0 [] made.1 B.ran B.prints, stopped))
+      (made.0, inl (0, [], replays trace (take 0 trace.lines) made.0 made.0 [] made.1 (allowed_lines trace made.0 made.1 0) B.ran B.prints, stopped))
 
   module _ (z : Sizes) (lines : List Line) (start end_ : World Held) (p q : V) (sizes : z ≡ sizes_of trace.header) (are : lines ≡ trace.lines)
       (is_start : IsStart (sizes_of trace.header) trace.lines start) where
@@ -149,7 +159,12 @@ module _ {V : Type 0} (prints : V → List Mark → V → Type 0) (stops : V →
         first : PrintsLines prints stops (sizes_of trace.header) start trace.lines count end_ p q (Err stop)
             → PrintsReplayed prints stops trace end_ p q (Err stop)
         first (ran, few, r, most) =
-            inl (ran, text (history start r.steps), replays trace (take ran trace.lines) start end_ (text (history start r.steps)) is_start r refl, most)
+            inl (
+              ran,
+              text (history start r.steps),
+              replays trace (take ran trace.lines) start end_ (text (history start r.steps)) is_start (allowed_lines trace start is_start ran) r refl,
+              most,
+            )
 
     -- all lines, from the first ones that are all
     all_lines : (count : ℕ) → count ≡ length lines → PrintsLines prints stops z start lines count end_ p q (Ok tt)
@@ -165,7 +180,7 @@ module _ {V : Type 0} (prints : V → List Mark → V → Type 0) (stops : V →
     replay_over count v whole puts put =
         let A = all_lines count whole puts in (
           text (history start A.0.steps),
-          replays trace trace.lines start end_ (text (history start A.0.steps)) is_start A.0 refl,
+          replays trace trace.lines start end_ (text (history start A.0.steps)) is_start is_start.allowed A.0 refl,
           L.both p q v (turns_from start A.0.steps) (Over None ∷ []) A.1 put,
         )
 
@@ -175,7 +190,7 @@ module _ {V : Type 0} (prints : V → List Mark → V → Type 0) (stops : V →
     replay_stopped_over count v stop whole puts most =
         let A = all_lines count whole puts in inr (
           text (history start A.0.steps),
-          replays trace trace.lines start end_ (text (history start A.0.steps)) is_start A.0 refl,
+          replays trace trace.lines start end_ (text (history start A.0.steps)) is_start is_start.allowed A.0 refl,
           L.stopped p q v (turns_from start A.0.steps) (Over None ∷ []) stop A.1 most,
         )
 

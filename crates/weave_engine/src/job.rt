@@ -8,6 +8,7 @@ ghost use Rattle.step_seats.specs.LineTurns.{Says, TurnsLine, answer_given, turn
 
 use core_views::{Command, Hand, Line, NoMemory, Place};
 use host_events::HostJob;
+use mmu_core::knows;
 use slot_change::SlotJob;
 use step_seats::{Stepper, Turn};
 use vcpu_run::AccessJob;
@@ -36,8 +37,12 @@ impl LineJob {
                 op: *op,
             }),
             Command::ChangeHost { .. } => LineJob::Host(HostJob { index }),
-            Command::SetSlot { .. } | Command::DeleteSlot { .. } => {
+            Command::SetSlot { .. } | Command::DeleteSlot { .. } | Command::SetLog { .. } => {
                 LineJob::SlotChange(SlotJob { index })
+            }
+            Command::GetLog { .. } | Command::ClearLog { .. } => {
+                knows(hand);
+                unreachable!()
             }
         }
     }

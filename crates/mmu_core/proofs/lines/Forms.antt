@@ -4,11 +4,12 @@ use Rattle.core_views.specs.Traces.{IsCommandFor}
 use Rattle.mmu_core.specs.lines.HostSteps.{host_part}
 use Rattle.mmu_core.proofs.lines.HostPlaces.{host_goes, host_few, some_host_left, look_goes, host_knows_prop, host_free, host_fed, host_rests_prop}
 use Rattle.core_views.specs.declared.actor.Actor.{Actor}
+use Rattle.core_views.specs.declared.actor.Actor.TheVariants.{Host, Manager, Vcpu, Worker}
 use Rattle.core_views.specs.declared.trace.HostChange.{HostChange}
 use Rattle.core_views.specs.declared.trace.HostChange.TheVariants.{Move, Evict, Protect, Allow}
 use Rattle.std.proofs.Common.{◌≡◌, ◌⊎◌, inl, inr, ◌<◌, ◌≤◌, ℕ, refl, arith, ◌≢◌, Bool, ◌+◌, ◌*◌}
 use Rattle.std.proofs.Props.{props}
-use Rattle.std.specs.Prelude.{List, Some, None, true, false}
+use Rattle.std.specs.Prelude.{List, Some, None, is_some, true, false}
 use Rattle.core_views.specs.declared.answer.Answer.{Answer}
 use Rattle.core_views.specs.declared.answer.Answer.TheVariants.{Starved}
 use Rattle.core_views.specs.declared.place.AccessPlace.{AccessPlace}
@@ -23,7 +24,8 @@ use Rattle.core_views.specs.declared.place.Place.TheVariants as place
 use Rattle.core_views.specs.declared.sizes.Sizes.{Sizes}
 use Rattle.core_views.specs.declared.topics.Topics.{Topics}
 use Rattle.core_views.specs.declared.trace.Command.{Command}
-use Rattle.core_views.specs.declared.trace.Command.TheVariants.{Access, ChangeHost}
+use Rattle.core_views.specs.declared.trace.Command.TheVariants.{Access, ChangeHost, ClearLog, DeleteSlot, GetLog, SetLog, SetSlot}
+use Rattle.core_views.specs.LogCommands.{log_read}
 use Rattle.core_views.specs.declared.trace.Op.{Op}
 use Rattle.core_views.specs.Held.{Held}
 use Rattle.core_views.specs.HostChanges.{moves_page}
@@ -175,12 +177,28 @@ says_move page Evict = refl
 says_move page Protect = refl
 says_move page Allow = refl
 
+-- No line of a trace reads a log yet.
+reads_none : (z : Sizes) (actor : Actor) (command : Command) → is_some (log_read command) ≡ true → IsCommandFor z actor command → ⊥
+reads_none z actor (Access gfn word op) is may = cc is
+reads_none z actor (ChangeHost page change) is may = cc is
+reads_none z actor (SetSlot id slot) is may = cc is
+reads_none z actor (DeleteSlot id) is may = cc is
+reads_none z actor (SetLog id on) is may = cc is
+reads_none z (Vcpu n) _ is may = may
+reads_none z (Host n) _ is may = may
+reads_none z Manager _ is may = may
+reads_none z (Worker n) _ is may = may
+
 -- Its actor, which was at rest and owned no frame, knows what its first place asks.
 pub first_known : (z : Sizes) (command : Command) (h : Held) (y : Sizes) (actor : Actor) → IsCommandFor y actor command → IsAtRest h.topics
     → h.topics.frames.owned ≡ None → KnowsPart (first_place z h.slots command) command h
 first_known z (Access gfn word op) h y actor may R none = R
 first_known z (ChangeHost page change) h y actor may R none = (R, says_move page change, none)
-first_known z command h y actor may R none = (refl, slot_change_begins_known z command h R)
+first_known z (GetLog id) h y actor may R none = absurd (reads_none y actor (GetLog id) refl may)
+first_known z (ClearLog id first count words) h y actor may R none = absurd (reads_none y actor (ClearLog id first count words) refl may)
+first_known z (SetSlot id slot) h y actor may R none = (refl, slot_change_begins_known z (SetSlot id slot) h R)
+first_known z (DeleteSlot id) h y actor may R none = (refl, slot_change_begins_known z (DeleteSlot id) h R)
+first_known z (SetLog id on) h y actor may R none = (refl, slot_change_begins_known z (SetLog id on) h R)
 
 -- Alone, it knows what its first place asks of the words.
 pub first_alone : (z : Sizes) (slots : MemorySlots) (command : Command) (words : Area → ℕ → ℕ) (t : Topics)

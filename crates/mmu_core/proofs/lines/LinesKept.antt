@@ -1,11 +1,13 @@
 -- A hand's lines are its own after each of its steps.
 use Rattle.std.proofs.Common.{◌≡◌, ◌<◌, ℕ, zero, suc, List, [], ◌∷◌, ◌++◌, length, refl, sym, subst, ap, ◌∙◌, arith, length-append, ◌≤◌}
-use Rattle.std.specs.Prelude.{All, Bool, true, false, not, map, slice_get, unwrap_or, ◌==◌, if◌then◌else◌}
+use Rattle.std.specs.Prelude.{All, Bool, true, false, not, map, slice_get, unwrap_or, ◌==◌, if◌then◌else◌, Some}
 use Rattle.std.specs.BTreeMap.{insert_entry}
 use Rattle.std.specs.Ordering.{match_ordering, nat_cmp}
 use Rattle.std.specs.declared.cmp.Ordering.{Ordering}
 use Rattle.std.specs.declared.cmp.Ordering.TheVariants.{Less, Equal, Greater}
+use Rattle.std.proofs.lemmas.Bool.{eqb-true}
 use Rattle.std.proofs.lemmas.Bool.Decides.{nat_tests}
+use Rattle.std.proofs.lemmas.Option.{same_Some}
 use Rattle.std.specs.List.{Contains}
 use Rattle.circular_buffer.specs.Buffer.{Buffer}
 use Rattle.std.proofs.lemmas.List.Elements.{All-cons, All-head, All-tail}
@@ -23,7 +25,7 @@ use Rattle.core_views.specs.Sizes.{index_of}
 use Rattle.core_views.specs.declared.trace.Command.TheVariants.{SetSlot}
 use Rattle.core_views.specs.declared.trace.Slot.{Slot}
 use Rattle.core_views.specs.Flat.{no_line}
-use Rattle.core_views.specs.SlotSets.{MemorySlots, without_slot_at}
+use Rattle.core_views.specs.SlotSets.{MemorySlots, slot_of_id, without_slot_at}
 use Rattle.mmu_core.specs.declared.outcome.Outcome.{Outcome}
 use Rattle.mmu_core.specs.declared.outcome.Outcome.TheVariants.{Goes, Ends}
 use Rattle.mmu_core.specs.invariant.Invariant.{IsSetBy, OwnLines, UnderWay}
@@ -39,6 +41,20 @@ pub line_sets : (n : ℕ) (lines : List Line) (id : ℕ) (slot : Slot) → n < l
 line_sets n [] id slot lt is = absurd (omega arith)
 line_sets zero (line ∷ lines) id slot lt is = (0, omega arith, is)
 line_sets (suc n) (line ∷ lines) id slot lt is = let rest = line_sets n lines id slot (omega arith) is in (suc rest.0, omega (arith, rest.1), rest.2)
+
+-- So the slot with an ID was.
+pub set_by_at : (lines : List Line) (id : ℕ) (slot : MemorySlot) (slots : MemorySlots) → slot_of_id id slots ≡ Some slot → All (IsSetBy lines) slots
+    → IsSetBy lines (id, slot)
+set_by_at lines id slot [] is all = absurd (cc is)
+set_by_at lines id slot (e ∷ es) is all =
+    by (e.0 == id) (eqb-true e.0 id) is (λ at. set_by_at lines id slot es at (All-tail (IsSetBy lines) e es all))
+  where
+    by : (here : Bool) → (here ≡ true → e.0 ≡ id) → (if here then Some e.1 else slot_of_id id es) ≡ Some slot
+        → (slot_of_id id es ≡ Some slot → IsSetBy lines (id, slot)) → IsSetBy lines (id, slot)
+    by true same is later =
+        let own = same_Some e.1 slot is in
+        subst (λ i. IsSetBy lines (i, slot)) (same refl) (subst (λ m. IsSetBy lines (e.0, m)) own (All-head (IsSetBy lines) e es all))
+    by false same is later = later is
 
 -- Each slot of the list without one of them was set by a line.
 pub set_by_without : (lines : List Line) (id : ℕ) (slots : MemorySlots) → All (IsSetBy lines) slots → All (IsSetBy lines) (without_slot_at id slots)

@@ -1,5 +1,5 @@
 -- What a line makes of the slots that it is to change: a clause for each command that changes one.
-use Rattle.std.proofs.Common.{◌≡◌, ◌⊎◌, ◌<◌, ◌≤◌, ◌^◌, ℕ, List, length, refl, sym, subst, ap, ◌∙◌, arith}
+use Rattle.std.proofs.Common.{◌≡◌, ◌≢◌, ◌⊎◌, inl, inr, ◌<◌, ◌≤◌, ◌^◌, ℕ, Bool, List, length, refl, sym, subst, ap, ◌∙◌, arith}
 use Rattle.std.specs.Option.{option_map}
 use Rattle.std.specs.Prelude.{All, Option, Some, None, is_some, true}
 use Rattle.core_views.specs.declared.actor.Actor.{Actor}
@@ -8,34 +8,38 @@ use Rattle.core_views.specs.declared.place.Place.{Place}
 use Rattle.core_views.specs.declared.sizes.Sizes.{Sizes}
 use Rattle.core_views.specs.declared.slot_set.MemorySlot.{MemorySlot}
 use Rattle.core_views.specs.declared.trace.Command.{Command}
-use Rattle.core_views.specs.declared.trace.Command.TheVariants.{Access, ChangeHost, DeleteSlot, SetSlot}
+use Rattle.core_views.specs.declared.trace.Command.TheVariants.{Access, ChangeHost, ClearLog, DeleteSlot, GetLog, SetLog, SetSlot}
 use Rattle.core_views.specs.declared.trace.Line.{Line}
 use Rattle.core_views.specs.declared.trace.Slot.{Slot}
 use Rattle.core_views.specs.Held.{Held}
 use Rattle.core_views.proofs.SlotChanges.{none_refused}
 use Rattle.core_views.proofs.Sound.{deletion_low}
 use Rattle.core_views.specs.Refusals.{after_set, is_logged}
-use Rattle.core_views.specs.SlotCommands.{change_at_once, changes_slot, slot_change, slot_invalidated, slots_after}
+use Rattle.core_views.specs.SlotCommands.{after_change, change_at_once, changes_slot, slot_change, slot_invalidated, slots_after}
+use Rattle.core_views.specs.Slots.{contains, has_host_page}
+use Rattle.core_views.proofs.SlotLines.{log_here, logged_so, set_here}
+use Rattle.core_views.proofs.SlotChanges.{logged_there}
 use Rattle.core_views.specs.SlotSets.{MemorySlots, slot_of_id, with_slot_at, without_slot_at}
 use Rattle.core_views.specs.Traces.{IsCommandFor}
 use Rattle.spte_words.specs.declared.area.Area.TheVariants as area
 use Rattle.spte_words.specs.Areas.{pool_index}
-use Rattle.part_steps.proofs.SetWords.{set_word_fewer, set_word_small}
+use Rattle.part_steps.proofs.SetWords.{set_word_fewer, set_word_logged, set_word_small}
 use Rattle.part_steps.specs.PartTasks.{page_owned}
 use Rattle.part_steps.specs.SetWords.{IsFilledWith, set_role, set_word}
-use Rattle.part_steps.specs.SlotWords.{memory_slots_below}
+use Rattle.part_steps.specs.SlotWords.{memory_slots_below, slot_at}
 use Rattle.mmu_core.specs.invariant.Invariant.{Invariant, IsSetBy, RecordPart}
 use Rattle.mmu_core.specs.invariant.SlotSetPart.{AreSlots, Fits, IsLiveIn, SlotSetPart}
 use Rattle.mmu_core.specs.machine.Steps.{next_line}
 use Rattle.mmu_core.specs.machine.View.{View}
 use Rattle.mmu_core.specs.lines.SlotChangeKnows.{FitsMachine}
 use Rattle.part_steps.specs.PartHoldings.{OwnsSet}
-use Rattle.mmu_core.proofs.lines.LinesKept.{line_sets, set_by_with, set_by_without}
+use Rattle.mmu_core.proofs.lines.LinesKept.{line_sets, set_by_at, set_by_with, set_by_without}
+use Rattle.mmu_core.proofs.machine.Columns.{same_or}
 use Rattle.mmu_core.proofs.machine.PartStepping.{AreAlikeBut}
 use Rattle.mmu_core.proofs.machine.Stepping.{IsStep}
 use Rattle.mmu_core.proofs.slots.Accepted.{MayBeSet, may_be_set}
-use Rattle.mmu_core.proofs.slots.SetFilled.{alike_but, filled_page, has_others, list_with, list_without, new_slot, none_at_id, others_live, others_same}
-use Rattle.mmu_core.proofs.slots.SetFilled.{recorded_live, set_other, taken_other}
+use Rattle.mmu_core.proofs.slots.SetFilled.{alike_but, filled_page, has_others, list_with, list_without, log_other, new_live, new_slot, none_at_id}
+use Rattle.mmu_core.proofs.slots.SetFilled.{others_live, others_same, recorded_live, set_other, taken_other}
 use Rattle.mmu_core.proofs.slots.SetPublished.{set_with, set_without}
 use Rattle.mmu_core.proofs.words.SmallSlots.{in_range, record_small}
 
@@ -52,6 +56,9 @@ is_change (Access gfn word op) slots is = is
 is_change (ChangeHost page change) slots is = is
 is_change (SetSlot id slot) slots is = refl
 is_change (DeleteSlot id) slots is = refl
+is_change (SetLog id on) slots is = refl
+is_change (GetLog id) slots is = is
+is_change (ClearLog id first count words) slots is = is
 
 -- The words of the set that it fills are below 2 ^ 64.
 pub change_small : (z : Sizes) (lines : List Line) (actor : Actor) (command : Command) (slots : MemorySlots) → changes_slot command ≡ true
@@ -62,6 +69,9 @@ change_small z lines actor (ChangeHost page change) slots is may allowed set j =
 change_small z lines actor (SetSlot id slot) slots is may allowed set j =
     set_word_small id slot slots j (in_range z actor id slot may) (record_small z lines slots allowed set)
 change_small z lines actor (DeleteSlot id) slots is may allowed set j = set_word_fewer id slots j (record_small z lines slots allowed set)
+change_small z lines actor (SetLog id on) slots is may allowed set j = set_word_logged id on slots j (record_small z lines slots allowed set)
+change_small z lines actor (GetLog id) slots is may allowed set j = absurd (cc is)
+change_small z lines actor (ClearLog id first count words) slots is may allowed set j = absurd (cc is)
 
 -- The manager's own record, where its hand makes a step of such a line.
 pub recorded_at : (z : Sizes) (v : View) (a : ℕ) (line : Line) (command : Command) (p : Place) → IsStep z v a line command p → changes_slot command ≡ true
@@ -78,20 +88,75 @@ pub record Publishes (z : Sizes) (pool : ℕ → ℕ) (set page : ℕ) (command 
   pub set_part : (role : ℕ → ℕ) → role page ≡ set_role → SlotSetPart z set role pool → SlotSetPart z page role pool
   pub list : slots_after command slots ≡ memory_slots_below pool page 32
 
+-- So it is where a slot is put at an ID that fits there.
+slot_put : (z : Sizes) (pool : ℕ → ℕ) (set page id : ℕ) (m : MemorySlot) (command : Command) (slots : MemorySlots) → RecordPart pool set slots → id ≤ 31
+    → ((j : ℕ) → j < 512 → pool (pool_index page j) ≡ set_word (slots_after command slots) j) → slot_of_id id (slots_after command slots) ≡ Some m
+    → ((i : ℕ) → i ≢ id → slot_of_id i (slots_after command slots) ≡ slot_of_id i slots) → slots_after command slots ≡ with_slot_at id m slots
+    → ((role : ℕ → ℕ) → SlotSetPart z set role pool → MayBeSet z pool set id m.slot)
+    → ((i : ℕ) (slot : Slot) → IsLiveIn pool set i slot → IsLiveIn pool page i slot ⊎ (slot_invalidated slots command ≡ Some slot))
+    → Publishes z pool set page command slots
+slot_put z pool set page id m command slots R low filled at_id at_other is may stay = record {
+  stay = stay;
+  changed = id;
+  others = alike_but pool set page id slots (slots_after command slots) R filled at_other;
+  set_part = λ role role_is part.
+      set_with z pool set page id m.slot (may role part) (new_slot pool set page id m slots (slots_after command slots) R low filled at_id at_other)
+      (others_live pool set page id slots (slots_after command slots) R filled at_other)
+      (others_same pool set page id slots (slots_after command slots) R filled at_other) role role role_is part;
+  list =
+      is ∙ ap (with_slot_at id m) R.same ∙ sym (list_with pool set page id m slots (slots_after command slots) R low filled at_id at_other);
+}
+
 slot_published : (z : Sizes) (pool : ℕ → ℕ) (set page id : ℕ) (slot : Slot) (slots : MemorySlots) → RecordPart pool set slots → MayBeSet z pool set id slot
     → ((j : ℕ) → j < 512 → pool (pool_index page j) ≡ set_word (slots_after (SetSlot id slot) slots) j) → Publishes z pool set page (SetSlot id slot) slots
-slot_published z pool set page id slot slots R may filled = record {
-  stay = has_others pool set page id slots (after_set id slot slots) R filled (set_other id slot slots);
-  changed = id;
-  others = alike_but pool set page id slots (after_set id slot slots) R filled (set_other id slot slots);
-  set_part = λ role role_is part.
-      set_with z pool set page id slot may (new_slot pool set page id slot slots R may.low filled)
-      (others_live pool set page id slots (after_set id slot slots) R filled (set_other id slot slots))
-      (others_same pool set page id slots (after_set id slot slots) R filled (set_other id slot slots)) role role role_is part;
-  list =
-      ap (with_slot_at id (record { slot = slot; logged = is_logged id slots })) R.same
-      ∙ sym (list_with pool set page id slot slots R may.low filled);
+slot_published z pool set page id slot slots R may filled =
+    slot_put z pool set page id (record { slot = slot; logged = is_logged id slots }) (SetSlot id slot) slots R may.low filled
+    (set_here id (record { slot = slot; logged = is_logged id slots }) slots) (set_other id slot slots) refl (λ role part. may)
+    (has_others pool set page id slots (after_set id slot slots) R filled (set_other id slot slots))
+
+-- A slot of the set fits there again.
+may_stay : (z : Sizes) (pool : ℕ → ℕ) (set id : ℕ) (slot : Slot) (role : ℕ → ℕ) → IsLiveIn pool set id slot → SlotSetPart z set role pool
+    → MayBeSet z pool set id slot
+may_stay z pool set id slot role L part = record {
+  low = L.low;
+  fits = subst (Fits z) L.is (part.slots.fits id L.low L.live);
+  guest_apart = λ gfn j low apart live holds too.
+      apart (part.slots.guest_apart gfn j id low L.low live L.live holds (ap (contains gfn) L.is ∙ too));
+  host_apart = λ page j low apart live has too.
+      apart (part.slots.host_apart page j id low L.low live L.live has (ap (has_host_page page) L.is ∙ too));
 }
+
+-- So it is where a slot is given a dirty log, or loses it: each slot stays.
+slot_logged : (z : Sizes) (pool : ℕ → ℕ) (set page id : ℕ) (on : Bool) (was : MemorySlot) (slots : MemorySlots) → RecordPart pool set slots
+    → slot_of_id id slots ≡ Some was
+    → ((j : ℕ) → j < 512 → pool (pool_index page j) ≡ set_word (slots_after (SetLog id on) slots) j) → Publishes z pool set page (SetLog id on) slots
+slot_logged z pool set page id on was slots R is filled =
+    slot_put z pool set page id m (SetLog id on) slots R L.low filled at_id (log_other id on slots)
+    (ap (λ x. after_change (Some (id, logged_so on x)) slots) is)
+    (λ role part. may_stay z pool set id was.slot role L part) stay
+  where
+    m : MemorySlot
+    m = record { slot = was.slot; logged = on }
+
+    L : IsLiveIn pool set id was.slot
+    L = recorded_live pool set id slots was R is
+
+    at_id : slot_of_id id (slots_after (SetLog id on) slots) ≡ Some m
+    at_id = log_here id on slots ∙ ap (logged_so on) is
+
+    stay : (i : ℕ) (slot : Slot) → IsLiveIn pool set i slot → IsLiveIn pool page i slot ⊎ (slot_invalidated slots (SetLog id on) ≡ Some slot)
+    stay i slot S = inl (by (same_or i id))
+      where
+        by : (i ≡ id) ⊎ (i ≢ id) → IsLiveIn pool page i slot
+        by (inl e) =
+            let here = ap (slot_at pool set) e in
+            subst (λ k. IsLiveIn pool page k slot) (sym e) (record {
+              low = L.low;
+              live = new_live pool set page id m slots (slots_after (SetLog id on) slots) R L.low filled at_id (log_other id on slots);
+              is = new_slot pool set page id m slots (slots_after (SetLog id on) slots) R L.low filled at_id (log_other id on slots)
+                  ∙ sym L.is ∙ sym here ∙ S.is;
+            })
+        by (inr apart) = (alike_but pool set page id slots (slots_after (SetLog id on) slots) R filled (log_other id on slots) i slot apart).0 S
 
 slot_deleted : (z : Sizes) (pool : ℕ → ℕ) (set page id : ℕ) (slots : MemorySlots) → RecordPart pool set slots → id ≤ 31
     → ((j : ℕ) → j < 512 → pool (pool_index page j) ≡ set_word (slots_after (DeleteSlot id) slots) j) → Publishes z pool set page (DeleteSlot id) slots
@@ -123,6 +188,13 @@ change_publishes z v a line (DeleteSlot id) p S changes I owns works filled =
     slot_deleted z (v.words area.Pool) (v.words area.Slots 0) (page_owned (v.hand a).topics.owned) id (v.hand a).slots R
     (deletion_low id (v.hand a).slots (none_refused z (DeleteSlot id) (v.hand a).slots works))
     (filled_page (v.words area.Pool) (slots_after (DeleteSlot id) (v.hand a).slots) (v.hand a).topics owns filled)
+change_publishes z v a line (SetLog id on) p S changes I owns works filled =
+    let R = recorded_at z v a line (SetLog id on) p S changes I in
+    let was = logged_there id on (v.hand a).slots (none_refused z (SetLog id on) (v.hand a).slots works) in
+    slot_logged z (v.words area.Pool) (v.words area.Slots 0) (page_owned (v.hand a).topics.owned) id on was.slot (v.hand a).slots R was.is
+    (filled_page (v.words area.Pool) (slots_after (SetLog id on) (v.hand a).slots) (v.hand a).topics owns filled)
+change_publishes z v a line (GetLog id) p S changes I owns works filled = absurd (cc changes)
+change_publishes z v a line (ClearLog id first count words) p S changes I owns works filled = absurd (cc changes)
 
 -- The slot that a line moves or deletes is live, and so it fits the machine.
 pub invalidated_fits : (z : Sizes) (pool : ℕ → ℕ) (set : ℕ) (slots : MemorySlots) (command : Command) (slot : Slot) → RecordPart pool set slots
@@ -147,6 +219,9 @@ invalidated_fits z pool set slots command slot R A is = by command is
     by (ChangeHost page change) is = absurd (cc is)
     by (SetSlot id new_) is = at_id id (slot_of_id id slots) refl is
     by (DeleteSlot id) is = at_id id (slot_of_id id slots) refl is
+    by (SetLog id on) is = absurd (cc is)
+    by (GetLog id) is = absurd (cc is)
+    by (ClearLog id first count words) is = absurd (cc is)
 
 -- The slots after the change were set by the hand's lines.
 pub change_recorded : (h : Held) (command : Command) → length h.answers < length h.lines → (next_line h).command ≡ command → All (IsSetBy h.lines) h.slots
@@ -156,3 +231,12 @@ change_recorded h (ChangeHost page change) left is set = set
 change_recorded h (SetSlot id slot) left is set =
     set_by_with h.lines id (record { slot = slot; logged = is_logged id h.slots }) h.slots (line_sets (length h.answers) h.lines id slot left is) set
 change_recorded h (DeleteSlot id) left is set = set_by_without h.lines id h.slots set
+change_recorded h (SetLog id on) left is set = by (slot_of_id id h.slots) refl
+  where
+    by : (was : Option MemorySlot) → slot_of_id id h.slots ≡ was
+        → All (IsSetBy h.lines) (after_change (Some (id, logged_so on was)) h.slots)
+    by None at = set_by_without h.lines id h.slots set
+    by (Some was) at =
+        set_by_with h.lines id (record { slot = was.slot; logged = on }) h.slots (set_by_at h.lines id was h.slots at set) set
+change_recorded h (GetLog id) left is set = set
+change_recorded h (ClearLog id first count words) left is set = set

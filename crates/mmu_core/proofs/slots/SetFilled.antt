@@ -9,7 +9,10 @@ use Rattle.core_views.specs.declared.slot_set.MemorySlot.{MemorySlot}
 use Rattle.core_views.specs.declared.topics.Topics.{Topics}
 use Rattle.core_views.specs.declared.trace.Slot.{Slot}
 use Rattle.core_views.proofs.SlotLines.{taken_at}
+use Rattle.core_views.specs.declared.trace.Command.TheVariants.{SetLog}
 use Rattle.core_views.specs.Refusals.{after_set, is_logged}
+use Rattle.core_views.specs.SlotCommands.{slots_after}
+use Rattle.core_views.proofs.SlotLines.{log_elsewhere}
 use Rattle.core_views.specs.SlotSets.{MemorySlots, slot_of_id as recorded_at, with_slot_at, without_slot_at}
 use Rattle.spte_words.specs.Areas.{pool_index}
 use Rattle.spte_words.specs.Flags.{flags_live, flags_logged, flags_read_only}
@@ -192,38 +195,32 @@ set_other id slot slots i apart = set_at i id slot slots ∙ by (id == i) (grind
     by true e = absurd (cc e)
     by false e = refl
 
-module _ (pool : ℕ → ℕ) (set page id : ℕ) (slot : Slot) (slots : MemorySlots) (R : RecordPart pool set slots) (low : id ≤ 31)
-    (filled : (j : ℕ) → j < 512 → pool (pool_index page j) ≡ set_word (after_set id slot slots) j) where
-  abbrev new_one : MemorySlot
-  new_one = record { slot = slot; logged = is_logged id slots }
+pub log_other : (id : ℕ) (on : Bool) (slots : MemorySlots) (i : ℕ) → i ≢ id → recorded_at i (slots_after (SetLog id on) slots) ≡ recorded_at i slots
+log_other id on slots i apart = log_elsewhere id i on slots apart
 
-  at_id : recorded_at id (after_set id slot slots) ≡ Some new_one
-  at_id = set_at id id slot slots ∙ by (id == id) (grind (arith, nat_tests))
-    where
-      by : (b : Bool) → b ≡ true → (if b then Some new_one else recorded_at id slots) ≡ Some new_one
-      by true e = refl
-      by false e = absurd (cc e)
-
-  -- the new slot is live
+module _ (pool : ℕ → ℕ) (set page id : ℕ) (m : MemorySlot) (slots next : MemorySlots) (R : RecordPart pool set slots) (low : id ≤ 31)
+    (filled : (j : ℕ) → j < 512 → pool (pool_index page j) ≡ set_word next j) (at_id : recorded_at id next ≡ Some m)
+    (at_other : (i : ℕ) → i ≢ id → recorded_at i next ≡ recorded_at i slots) where
+  -- this slot is live
   pub new_live : live_at pool page id ≡ true
-  new_live = some_live pool page (after_set id slot slots) filled id low new_one at_id
+  new_live = some_live pool page next filled id low m at_id
 
-  pub new_slot : slot_at pool page id ≡ slot
-  new_slot = some_slot pool page (after_set id slot slots) filled id low new_one at_id
+  pub new_slot : slot_at pool page id ≡ m.slot
+  new_slot = some_slot pool page next filled id low m at_id
 
-  new_memory_slot : memory_slot_at pool page id ≡ new_one
-  new_memory_slot = some_memory_slot pool page (after_set id slot slots) filled id low new_one at_id
+  new_memory_slot : memory_slot_at pool page id ≡ m
+  new_memory_slot = some_memory_slot pool page next filled id low m at_id
 
-  -- The list of its slots has the new one at its ID.
-  pub list_with : memory_slots_below pool page 32 ≡ with_slot_at id new_one (memory_slots_below pool set 32)
+  -- The list of the page's slots has it at its ID.
+  pub list_with : memory_slots_below pool page 32 ≡ with_slot_at id m (memory_slots_below pool set 32)
   list_with =
       one_put_live (live_at pool set) (live_at pool page) (memory_slot_at pool set) (memory_slot_at pool page) id 32 (omega (arith, low)) new_live
       (λ i lt apart. (B i (omega arith) apart).0) (λ i lt apart live. (B i (omega arith) apart).1 live)
-      ∙ ap (λ m. with_slot_at id m (memory_slots_below pool set 32)) new_memory_slot
+      ∙ ap (λ x. with_slot_at id x (memory_slots_below pool set 32)) new_memory_slot
     where
       B : (i : ℕ) → i ≤ 31 → i ≢ id
           → (live_at pool page i ≡ live_at pool set i) × (live_at pool set i ≡ true → memory_slot_at pool page i ≡ memory_slot_at pool set i)
-      B = as_before pool set page id slots (after_set id slot slots) R filled (set_other id slot slots)
+      B = as_before pool set page id slots next R filled at_other
 
 -- ---- The slot with this ID is taken away.
 

@@ -1,11 +1,11 @@
 -- A line that changes a slot at its places: where it begins, goes on to and ends, what it has loaded, what the record accepts, and how many steps it has left.
 use Rattle.std.proofs.Common.{◌≡◌, ◌<◌, ◌≤◌, ℕ, ◌∙◌, ◌+◌, ◌*◌, ap, arith, length, ◌≢◌, refl}
 use Rattle.std.proofs.Props.{props}
-use Rattle.std.specs.Prelude.{true, Option, Some, None, Bool, false, List, [], ◌∷◌, is_none, nat_lt}
+use Rattle.std.specs.Prelude.{true, Option, Some, None, Bool, false, List, [], ◌∷◌, is_none, nat_lt, not}
 use Rattle.core_views.specs.declared.answer.Answer.{Answer}
 use Rattle.core_views.specs.declared.answer.Answer.TheVariants.{Done, Refused, Starved}
 use Rattle.core_views.specs.declared.answer.Refusal.{Refusal}
-use Rattle.core_views.specs.declared.answer.Refusal.TheVariants.{BadId, TooLarge, Missing, Logged, NoFrame, Resize, Fixed, Overlap, HostOverlap}
+use Rattle.core_views.specs.declared.answer.Refusal.TheVariants.{BadId, TooLarge, Missing, Logged, NoLog, NoFrame, Resize, Fixed, Overlap, HostOverlap}
 use Rattle.core_views.specs.Refusals.{is_logged, moves_logged}
 use Rattle.core_views.specs.Slots.{changes_fixed, first_of, is_some_and, is_too_large, meets_guest_frames, meets_host_pages, resizes, slot_with_id}
 use Rattle.core_views.specs.declared.place.BeginPlace.TheVariants as begins
@@ -18,7 +18,7 @@ use Rattle.core_views.specs.declared.slot_set.MemorySlot.{MemorySlot}
 use Rattle.core_views.specs.declared.topics.Topics.{Topics}
 use Rattle.core_views.specs.declared.trace.Slot.{Slot}
 use Rattle.core_views.specs.declared.trace.Command.{Command}
-use Rattle.core_views.specs.declared.trace.Command.TheVariants.{Access, ChangeHost, DeleteSlot, SetSlot}
+use Rattle.core_views.specs.declared.trace.Command.TheVariants.{Access, ChangeHost, ClearLog, DeleteSlot, GetLog, SetLog, SetSlot}
 use Rattle.core_views.specs.Held.{Held}
 use Rattle.core_views.specs.Sizes.{actors_of}
 use Rattle.core_views.specs.SlotCommands.{at_once, change_at_once, changes_slot, is_unchanged, slot_change, slot_invalidated}
@@ -176,6 +176,12 @@ never_for_frames z (DeleteSlot id) slots = none_for_frames (
     ∷ (is_none (slot_of_id id slots), Missing)
     ∷ (is_logged id slots, Logged)
     ∷ []) false (refl, (refl, (refl, tt)))
+never_for_frames z (SetLog id true) slots =
+    none_for_frames ((is_none (slot_of_id id slots), Missing) ∷ (is_logged id slots, Logged) ∷ []) false (refl, (refl, tt))
+never_for_frames z (SetLog id false) slots =
+    none_for_frames ((is_none (slot_of_id id slots), Missing) ∷ (not (is_logged id slots), NoLog) ∷ []) false (refl, (refl, tt))
+never_for_frames z (GetLog id) slots = refl
+never_for_frames z (ClearLog id first count words) slots = refl
 
 -- It knows what its first place asks, where its actor is at rest.
 pub slot_change_begins_known : (z : Sizes) (command : Command) (h : Held) → IsAtRest h.topics

@@ -11,14 +11,17 @@ use Rattle.core_views.specs.declared.place.SlotChangePlace.TheVariants.{Release,
 use Rattle.core_views.specs.declared.place.BeginPlace.TheVariants as begins
 use Rattle.core_views.specs.declared.place.EndPlace.TheVariants as ends
 use Rattle.core_views.specs.declared.sizes.Sizes.{Sizes}
-use Rattle.core_views.specs.declared.trace.Command.TheVariants.{Access, ChangeHost}
+use Rattle.core_views.specs.declared.actor.Actor.{Actor}
+use Rattle.core_views.specs.declared.actor.Actor.TheVariants.{Host, Manager, Vcpu, Worker}
+use Rattle.core_views.specs.declared.trace.Command.TheVariants.{Access, ChangeHost, ClearLog, DeleteSlot, GetLog, SetLog, SetSlot}
+use Rattle.core_views.specs.Traces.{IsCommandFor}
 use Rattle.core_views.specs.declared.trace.Line.{Line}
 use Rattle.core_views.specs.declared.trace.Command.{Command}
 use Rattle.core_views.specs.Flat.{Facts, LineUnderWay, Notes}
 use Rattle.core_views.specs.Flat as stage
 use Rattle.core_views.specs.declared.slot_set.MemorySlot.{MemorySlot}
 use Rattle.core_views.specs.Lawful.{HasWork, MayLeave, Tells, answer_at_once, slot_change}
-use Rattle.core_views.specs.SlotCommands.{after_change, change_at_once, changes_slot, refused_or_done, slot_change, slot_invalidated}
+use Rattle.core_views.specs.SlotCommands.{after_change, arms, change_at_once, changes_slot, refused_or_done, slot_change, slot_invalidated}
 use Rattle.core_views.specs.SlotSets.{MemorySlots}
 use Rattle.core_views.specs.Past.{Past}
 use Rattle.core_views.proofs.SlotChanges.{answered_by_slots}
@@ -90,12 +93,25 @@ module _ (z : Sizes) (v : View) (a : ℕ) (line : Line) (command : Command) (fac
       → GoesBy z v a line command (task p) (place.SlotChange next) [] facts past u
   quiet p next never S P R under = goes_by z v a line command (task p) facts past u (still p never S P R) (place.SlotChange next) under
 
+  -- No line of a trace gives a slot a dirty log yet.
+  arms_none : (y : Sizes) (actor : Actor) (c : Command) → IsCommandFor y actor c → arms c ≡ false
+  arms_none y (Vcpu n) (SetLog id on) may = absurd may
+  arms_none y (Host n) (SetLog id on) may = absurd may
+  arms_none y Manager (SetLog id on) may = absurd may
+  arms_none y (Worker n) (SetLog id on) may = absurd may
+  arms_none y actor (Access gfn word op) may = refl
+  arms_none y actor _ may = refl
+
   -- A line that has something to do may be given up where no page is free.
   gives_up : (c : Command) (notes : Notes) → changes_slot c ≡ true → HasWork z facts (v.hand a).state.actor c
       → MayLeave z facts (v.hand a).state.actor c notes Starved
   gives_up (Access gfn word op) notes is works = absurd (cc is)
   gives_up (ChangeHost page change) notes is works = absurd (cc is)
-  gives_up _ notes is works = works
+  gives_up (GetLog id) notes is works = absurd (cc is)
+  gives_up (ClearLog id first count words) notes is works = absurd (cc is)
+  gives_up (SetSlot id slot) notes is works = works
+  gives_up (DeleteSlot id) notes is works = works
+  gives_up (SetLog id on) notes is works = works
 
   -- A claim goes on, or there is no page free.
   claim_goes : (begun : Bool) (next : ClaimNext) → changes_slot u.line.command ≡ true → HasWork z facts (v.hand a).state.actor u.line.command
@@ -116,7 +132,11 @@ module _ (z : Sizes) (v : View) (a : ℕ) (line : Line) (command : Command) (fac
       → RefinesBy z v (task Publish) (record facts { slots = after_change change facts.slots }) → u.line ≡ line
       → GoesBy z v a line command (task Publish) (place.SlotChange Release) (changed change ++ []) facts past u
   change_told None some is fresh works refines own = absurd (cc some)
-  change_told (Some (id, slot)) some is fresh works refines own = record { allowed = ((fresh, works, is), tt); refines = refines; under = (own, refl) }
+  change_told (Some (id, slot)) some is fresh works refines own = record {
+    allowed = ((fresh, works, is), tt);
+    refines = record { slots = refines.slots; host = refines.host; memory = refines.memory; paused = refines.paused };
+    under = (own, refl);
+  }
 
   publish_goes : changes_slot command ≡ true → IsStep z v a line command (place.SlotChange Publish) → Invariant z v → ReadyAt Publish → GoesAt Publish
   publish_goes changes S I R =
@@ -171,5 +191,6 @@ module _ (z : Sizes) (v : View) (a : ℕ) (line : Line) (command : Command) (fac
       quiet Watch _ refl M P R (each_watch Under (watch_next (v.hand a) (answer_in (task Watch) v.words)) Watch Clear R.under R.under)
   slot_change_goes Give changes S I P M R =
       answers_by z v a line command (task Give) facts past u (still Give refl M P R) Done R.under.0
-      (subst (λ s. Tells z facts.slots (v.hand a).state.actor u.line.command s Done) (sym R.under.1) refl)
+      (subst (λ s. Tells z facts.slots (v.hand a).state.actor u.line.command s Done) (sym R.under.1)
+      (refl, ap arms (ap (λ (l : Line). l.command) R.under.0 ∙ S.command_is) ∙ arms_none z line.actor command S.allowed))
   slot_change_goes p changes S I P M R = quiet p _ refl M P R R.under

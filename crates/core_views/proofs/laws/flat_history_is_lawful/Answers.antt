@@ -4,12 +4,14 @@ use Rattle.core_views.specs.Flat.{first_facts, first_flat}
 use Rattle.core_views.specs.FlatHistory.{one_by_one}
 use Rattle.core_views.specs.Text.{line_text}
 use Rattle.core_views.proofs.AloneIsLawful.{one_by_one_lawful}
+use Rattle.core_views.proofs.Caused.{first_caused}
+use Rattle.core_views.proofs.Writes.{first_of_lines}
 use Rattle.core_views.proofs.AloneIsWhole.{stands_whole}
 use Rattle.core_views.proofs.StandsAlone.{one_by_one_stands}
 use Rattle.core_views.proofs.laws.flat_history_is_lawful.Goals as goal
 
 pub returns-clause-lawful : goal.returns-clause-lawful
-returns-clause-lawful c h lines = one_by_one_lawful h lines first_flat (λ i. refl) refl
+returns-clause-lawful c h lines = one_by_one_lawful h lines first_flat (λ i. refl) refl (record { lines = first_of_lines; caused = first_caused })
 
 pub returns-clause-whole : goal.returns-clause-whole
 returns-clause-whole c h lines = stands_whole lines (one_by_one h lines first_facts) (one_by_one_stands h lines first_facts)

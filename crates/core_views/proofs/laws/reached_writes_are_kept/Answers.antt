@@ -3,18 +3,19 @@ use Rattle.std.proofs.lemmas.Option.{same_Some}
 use Rattle.std.specs.Prelude.{Contains, Some, None, false, if◌then◌else◌}
 use Rattle.core_views.specs.declared.actor.Actor.{Actor}
 use Rattle.core_views.specs.declared.event.Event.{Event}
-use Rattle.core_views.specs.declared.event.EventKind.{EventKind}
 use Rattle.core_views.specs.declared.event.EventKind.TheVariants.{Accessed}
 use Rattle.core_views.specs.declared.sizes.Sizes.{Sizes}
 use Rattle.core_views.specs.declared.trace.Command.TheVariants.{Access}
+use Rattle.core_views.specs.declared.trace.Op.{Op}
 use Rattle.core_views.specs.declared.trace.Op.TheVariants.{Read, Write, Add}
 use Rattle.core_views.specs.Slots.{is_write}
-use Rattle.core_views.specs.Past.{FrameSet, Past, written_frame}
-use Rattle.core_views.specs.Flat.{Facts, Flat, first_flat}
-use Rattle.core_views.specs.Events.{after, after_all, past_after}
+use Rattle.core_views.specs.Past.{written_frame}
+use Rattle.core_views.specs.Flat.{Flat, first_flat}
+use Rattle.core_views.specs.Events.{after, after_all}
 use Rattle.core_views.specs.Lawful.{IsLawful}
+use Rattle.core_views.specs.Writes.{NoneIsTaken, NoneReadsOut}
 use Rattle.core_views.specs.ReachedWrites.{WasReached, WritesFrame}
-use Rattle.core_views.proofs.Written.{causes_move, moved, recent_moves, was_stands}
+use Rattle.core_views.proofs.WrittenSince.{WasSince, cause_stands, recent_stands}
 use Rattle.core_views.proofs.Writes.{all_of_lines, first_of_lines, none_at_first}
 use Rattle.core_views.proofs.laws.reached_writes_are_kept.Goals as goal
 
@@ -24,9 +25,9 @@ lawful_parts z [] ys f lawful = (tt, lawful)
 lawful_parts z (x ∷ xs) ys f lawful = let rest = lawful_parts z xs ys (after x f) lawful.1 in ((lawful.0, rest.0), rest.1)
 
 -- Right before a write reaches its frame, it is among those under way.
-under_way : (z : Sizes) (history : List Event) → IsLawful z first_flat history → (gfn : ℕ) → (W : WasReached history gfn)
-    → Contains (after_all W.before first_flat).past.writes (W.actor, gfn)
-under_way z history lawful gfn W =
+under_way : (Since : List Event → Type 0) (z : Sizes) (history : List Event) → IsLawful z first_flat history → (gfn : ℕ)
+    → (W : WasReached Since history gfn) → Contains (after_all W.before first_flat).past.writes (W.actor, gfn)
+under_way Since z history lawful gfn W =
     let access : Event = record { actor = W.actor; kind = Accessed gfn W.word W.op W.frame W.value } in
     let parts = lawful_parts z W.before (access ∷ W.since) first_flat (subst (IsLawful z first_flat) W.history_is lawful) in
     let may = parts.1.0 in
@@ -35,25 +36,28 @@ under_way z history lawful gfn W =
     (all_of_lines z W.before first_flat parts.0 first_of_lines).is_in W.actor gfn
     (λ idle. absurd (cc (fresh, idle)), ap written_frame may.1 ∙ frame_is)
 
--- Such frames of the past, of which there is none at the start.
-module _ (pick : Past → FrameSet)
-    (moves : (a : Actor) (kind : EventKind) (f : Facts) (past : Past)
-    → ◌≡◌ {A = FrameSet} (pick (past_after a kind f past)) (moved kind f past.writes (pick past)))
-    (z : Sizes) (history : List Event) (lawful : IsLawful z first_flat history) (gfn : ℕ) (W : WasReached history gfn) where
-  is_kept : pick (after_all history first_flat).past gfn ≡ true
-  is_kept = was_stands pick moves gfn history first_flat (λ actor has. none_at_first actor gfn has)
-      (record {
-        before = W.before;
-        since = record { actor = W.actor; kind = Accessed gfn W.word W.op W.frame W.value } ∷ W.since;
-        are = W.history_is;
-        actor = W.actor;
-        writes = under_way z history lawful gfn W;
-        kept = (tt, W.kept);
-      })
+-- So the frame was being written right before the access. By `goes` the events since stay such with the access before them.
+was_since : (Since : List Event → Type 0)
+    → ((actor : Actor) (gfn word : ℕ) (op : Op) (frame value : ℕ) (es : List Event) → Since es
+    → Since (record { actor = actor; kind = Accessed gfn word op frame value } ∷ es))
+    → (z : Sizes) (history : List Event) → IsLawful z first_flat history → (gfn : ℕ) → WasReached Since history gfn → WasSince Since gfn history first_flat
+was_since Since goes z history lawful gfn W = record {
+  before = W.before;
+  since = record { actor = W.actor; kind = Accessed gfn W.word W.op W.frame W.value } ∷ W.since;
+  are = W.history_is;
+  actor = W.actor;
+  writes = under_way Since z history lawful gfn W;
+  kept = (tt, W.kept);
+  are_such = goes W.actor gfn W.word W.op W.frame W.value W.since W.are_such;
+}
 
 pub returns-clause-reached : goal.returns-clause-reached
-returns-clause-reached c z history lawful gfn W =
-    (is_kept (λ past. past.recent) recent_moves z history lawful gfn W, is_kept (λ past. past.causes) causes_move z history lawful gfn W)
+returns-clause-reached c z history lawful gfn = (
+  λ W. recent_stands gfn history first_flat (λ actor has. none_at_first actor gfn has)
+      (was_since NoneIsTaken (λ actor g word op frame value es none. (tt, none)) z history lawful gfn W),
+  λ W. cause_stands gfn history first_flat (λ actor has. none_at_first actor gfn has)
+      (was_since (NoneReadsOut gfn) (λ actor g word op frame value es left. left) z history lawful gfn W),
+)
 
 pub returns-clause-others : goal.returns-clause-others
 returns-clause-others c Read before is = refl

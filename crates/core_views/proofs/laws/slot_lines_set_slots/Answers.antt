@@ -18,7 +18,7 @@ use Rattle.core_views.specs.Slots.{is_some_and}
 use Rattle.core_views.specs.SlotLines.{fitting_lines, fitting_bytes, has_log, whole_lines, whole_bytes}
 use Rattle.core_views.specs.SlotSets.{slot_of_id}
 use Rattle.core_views.specs.Text.{answers_of, line_text, lines_text}
-use Rattle.core_views.proofs.SlotLines.{set_elsewhere, set_here, taken_at}
+use Rattle.core_views.proofs.SlotLines.{log_elsewhere, log_here, set_elsewhere, set_here, taken_at}
 use Rattle.core_views.proofs.laws.slot_lines_set_slots.Goals as goal
 
 pub returns-clause-record : goal.returns-clause-record
@@ -36,10 +36,14 @@ returns-clause-set c id slot slots =
 pub returns-clause-deleted : goal.returns-clause-deleted
 returns-clause-deleted c id slots = taken_at id id slots ∙ cond-true (id == id) None (slot_of_id id slots) (eq-eqb id id refl)
 
+pub returns-clause-logged : goal.returns-clause-logged
+returns-clause-logged c id on slots = log_here id on slots
+
 pub returns-clause-others : goal.returns-clause-others
-returns-clause-others c id slot = (
+returns-clause-others c id slot on = (
   λ other slots apart. set_elsewhere id other (record { slot = slot; logged = is_logged id slots }) slots apart,
   λ other slots apart. taken_at other id slots ∙ cond-false (id == other) None (slot_of_id other slots) (ne_eqb id other (λ e. apart (sym e))),
+  λ other slots apart. log_elsewhere id other on slots apart,
 )
 
 -- the numbers that the trace prints, in digits

@@ -1,13 +1,14 @@
-use Rattle.std.proofs.Common.{◌≡◌, ◌⊎◌, inl, inr, ℕ, List, refl}
-use Rattle.std.specs.Prelude.{◌↔◌, Contains, false, true}
+use Rattle.std.proofs.Common.{◌≡◌, ◌⊎◌, inl, inr, ℕ, List, Bool, true, false, refl}
+use Rattle.std.specs.Prelude.{Contains}
 use Rattle.core_views.specs.declared.actor.Actor.{Actor}
 use Rattle.core_views.specs.declared.event.Event.{Event}
-use Rattle.core_views.specs.declared.event.EventKind.{EventKind}
-use Rattle.core_views.specs.Flat.{Facts, first_flat}
-use Rattle.core_views.specs.Events.{after_all, past_after}
-use Rattle.core_views.specs.Past.{FrameSet, Past}
-use Rattle.core_views.specs.Writes.{StaysWithin, HasBegunWrite, SlotKept, WasWritten}
-use Rattle.core_views.proofs.Written.{WasSince, causes_move, moved, recent_moves, was_or_stood, was_stands}
+use Rattle.core_views.specs.Flat.{first_flat}
+use Rattle.core_views.specs.Events.{after_all}
+use Rattle.core_views.specs.Past.{is_being_written}
+use Rattle.core_views.specs.Writes.{HasBegunWrite, NoneIsTaken, NoneReadsOut, StaysWithin, WasArmed, WasDue, WasWritten}
+use Rattle.core_views.proofs.DueFrames.{DueSince, due_since, due_stands}
+use Rattle.core_views.proofs.Written.{is_written, some_writes}
+use Rattle.core_views.proofs.WrittenSince.{ArmedSince, WasSince, armed_stands, cause_stands, only_cause, only_recent, recent_stands}
 use Rattle.core_views.proofs.Writes.{all_of_lines, begun_is_in, begun_or_stood, first_of_lines, none_at_first}
 use Rattle.core_views.proofs.laws.writes_are_kept.Goals as goal
 
@@ -16,44 +17,126 @@ only_begun : (history : List Event) (actor : Actor) (gfn : ℕ)
 only_begun history actor gfn (inl begun) = begun
 only_begun history actor gfn (inr stood) = none_at_first actor gfn stood.0
 
+has_begun : (history : List Event) (actor : Actor) (gfn : ℕ) → Contains (after_all history first_flat).past.writes (actor, gfn)
+    → HasBegunWrite history actor gfn
+has_begun history actor gfn has = only_begun history actor gfn (begun_or_stood actor gfn history first_flat has)
+
 pub returns-clause-begun : goal.returns-clause-begun
-returns-clause-begun c history actor gfn =
-    (λ has. only_begun history actor gfn (begun_or_stood actor gfn history first_flat has), begun_is_in history actor gfn first_flat)
+returns-clause-begun c history actor gfn = (has_begun history actor gfn, begun_is_in history actor gfn first_flat)
 
 pub returns-clause-under : goal.returns-clause-under
 returns-clause-under c z history lawful actor gfn =
     let are = all_of_lines z history first_flat lawful first_of_lines in (are.is_writing actor gfn, are.is_in actor gfn)
 
--- Such frames of the past, of which there is none at the start.
-module _ (pick : Past → FrameSet)
-    (moves : (a : Actor) (kind : EventKind) (f : Facts) (past : Past)
-    → ◌≡◌ {A = FrameSet} (pick (past_after a kind f past)) (moved kind f past.writes (pick past)))
-    (none : (gfn : ℕ) → pick first_flat.past gfn ≡ false) (history : List Event) (gfn : ℕ) where
-  written : WasSince pick moves gfn history first_flat ⊎ ((pick first_flat.past gfn ≡ true) × SlotKept gfn first_flat.facts history) → WasWritten history gfn
-  written (inl W) = record {
-    before = W.before;
-    since = W.since;
-    history_is = W.are;
-    actor = W.actor;
-    begun = only_begun W.before W.actor gfn (begun_or_stood W.actor gfn W.before first_flat W.writes);
-    kept = W.kept;
-  }
-  written (inr stood) = let there = stood.0 in let not_there = none gfn in absurd (cc (there, not_there))
+-- ---- the frames that were written, in words of the history
 
-  are_written : (pick (after_all history first_flat).past gfn ≡ true) ↔ WasWritten history gfn
-  are_written = (
-    λ is. written (was_or_stood pick moves gfn history first_flat is),
-    λ W. was_stands pick moves gfn history first_flat (λ actor has. none_at_first actor gfn has)
-        (record {
-          before = W.before;
-          since = W.since;
-          are = W.history_is;
-          actor = W.actor;
-          writes = begun_is_in W.before W.actor gfn first_flat W.begun;
-          kept = W.kept;
-        }),
-  )
+written : (Since : List Event → Type 0) (history : List Event) (gfn : ℕ) → WasSince Since gfn history first_flat → WasWritten Since history gfn
+written Since history gfn W = record {
+  before = W.before;
+  since = W.since;
+  history_is = W.are;
+  actor = W.actor;
+  begun = has_begun W.before W.actor gfn W.writes;
+  kept = W.kept;
+  are_such = W.are_such;
+}
+
+was_written : (Since : List Event → Type 0) (history : List Event) (gfn : ℕ) → WasWritten Since history gfn → WasSince Since gfn history first_flat
+was_written Since history gfn W = record {
+  before = W.before;
+  since = W.since;
+  are = W.history_is;
+  actor = W.actor;
+  writes = begun_is_in W.before W.actor gfn first_flat W.begun;
+  kept = W.kept;
+  are_such = W.are_such;
+}
+
+caused : (history : List Event) (gfn : ℕ) → WasSince (NoneReadsOut gfn) gfn history first_flat ⊎ ArmedSince gfn history first_flat
+    → WasWritten (NoneReadsOut gfn) history gfn ⊎ WasArmed history gfn
+caused history gfn (inl W) = inl (written (NoneReadsOut gfn) history gfn W)
+caused history gfn (inr A) =
+    inr (record {
+      before = A.before;
+      actor = A.actor;
+      id = A.id;
+      since = A.since;
+      history_is = A.are;
+      there = A.there;
+      kept = A.kept;
+      left = A.left;
+    })
+
+has_cause : (history : List Event) (gfn : ℕ) → WasWritten (NoneReadsOut gfn) history gfn ⊎ WasArmed history gfn
+    → (after_all history first_flat).past.causes gfn ≡ true
+has_cause history gfn (inl W) =
+    cause_stands gfn history first_flat (λ actor has. none_at_first actor gfn has) (was_written (NoneReadsOut gfn) history gfn W)
+has_cause history gfn (inr A) =
+    armed_stands gfn history first_flat
+    (record {
+      before = A.before;
+      actor = A.actor;
+      id = A.id;
+      since = A.since;
+      are = A.history_is;
+      there = A.there;
+      kept = A.kept;
+      left = A.left;
+    })
 
 pub returns-clause-written : goal.returns-clause-written
-returns-clause-written c history gfn =
-    (are_written (λ past. past.recent) recent_moves (λ g. refl) history gfn, are_written (λ past. past.causes) causes_move (λ g. refl) history gfn)
+returns-clause-written c history gfn = (
+  (
+    λ is. written NoneIsTaken history gfn (only_recent gfn history first_flat (λ e. absurd (cc e)) is),
+    λ W. recent_stands gfn history first_flat (λ actor has. none_at_first actor gfn has) (was_written NoneIsTaken history gfn W),
+  ),
+  (
+    λ is. caused history gfn (only_cause gfn history first_flat (λ e. absurd (cc e)) (λ e. absurd (cc e)) is),
+    has_cause history gfn,
+  ),
+)
+
+-- ---- the frames that a reading must not leave out
+
+due : (history : List Event) (gfn : ℕ) → DueSince gfn history first_flat ⊎ ((first_flat.past.due gfn ≡ true) × NoneIsTaken history) → WasDue history gfn
+due history gfn (inl D) = record {
+  before = D.before;
+  actor = D.actor;
+  id = D.id;
+  since = D.since;
+  history_is = D.are;
+  dirty = D.dirty;
+  unwritten = λ other begun.
+      let writes = is_written (after_all D.before first_flat).past.writes other gfn (begun_is_in D.before other gfn first_flat begun) in
+      let none = D.unwritten in
+      absurd (cc (writes, none));
+  last = D.last;
+}
+due history gfn (inr stood) = let there = stood.0 in absurd (cc there)
+
+unwritten : (before : List Event) (gfn : ℕ) → ((other : Actor) → HasBegunWrite before other gfn → ⊥)
+    → is_being_written (after_all before first_flat).past.writes gfn ≡ false
+unwritten before gfn none = by (is_being_written writes gfn) refl
+  where
+    writes : List (Actor × ℕ)
+    writes = (after_all before first_flat).past.writes
+
+    by : (b : Bool) → is_being_written writes gfn ≡ b → is_being_written writes gfn ≡ false
+    by false is = is
+    by true is = let W = some_writes writes gfn is in absurd (none W.actor (has_begun before W.actor gfn W.has))
+
+pub returns-clause-due : goal.returns-clause-due
+returns-clause-due c history gfn = (
+  λ is. due history gfn (due_since gfn history first_flat is),
+  λ D. due_stands gfn history first_flat
+      (record {
+        before = D.before;
+        actor = D.actor;
+        id = D.id;
+        since = D.since;
+        are = D.history_is;
+        dirty = D.dirty;
+        unwritten = unwritten D.before gfn D.unwritten;
+        last = D.last;
+      }),
+)

@@ -1,9 +1,9 @@
-use Rattle.std.proofs.Common.{◌≡◌, ◌+◌, ◌++◌, ◌∷◌, ℕ, List, drop, get_or, string_bytes, sym, ap, subst, ◌∙◌, append_assoc, rules}
+use Rattle.std.proofs.Common.{◌≡◌, ◌+◌, ◌++◌, ◌∷◌, ℕ, List, drop, string_bytes, sym, ap, subst, ◌∙◌, append_assoc, rules}
 use Rattle.std.proofs.lemmas.List.{append-nil, drop_more}
 use Rattle.core_views.specs.declared.answer.Answer.{Answer}
 use Rattle.core_views.specs.declared.sizes.Sizes.{Sizes}
 use Rattle.core_views.specs.declared.trace.Line.{Line}
-use Rattle.core_views.specs.Flat.{Facts, no_line}
+use Rattle.core_views.specs.Flat.{Facts}
 use Rattle.core_views.specs.Events.{facts_after_all}
 use Rattle.core_views.specs.FlatHistory.{alone, flat_history, one_by_one}
 use Rattle.core_views.specs.Text.{line_text, lines_text, text}
@@ -31,13 +31,15 @@ loop-line-preserved c =
     let i : ℕ = c.loop-line.line-index in
     let facts : Facts = facts_of c.loop-line.plain in
     let before : List ℕ = string_bytes c.loop-line.text in
-    let front : drop i lines ≡ get_or lines i no_line ∷ drop (i + 1) lines = drop_more lines i no_line c.loop-line-test.true in
+    let line : Line = c.line-item.result in
+    let front : drop i lines ≡ line ∷ drop (i + 1) lines =
+    drop_more lines i line c.loop-line-test.true ∙ ap (λ (first : Line). first ∷ drop (i + 1) lines) (sym c.line-item.is) in
     let so_far = ap (λ (ls : List Line). before ++ text (one_by_one z ls facts)) (sym front) ∙ c.loop-line.invariant.so_far in
     record {
       so_far =
           subst (λ (sizes : Sizes). string_bytes c.push_str.new.self ++ text (one_by_one sizes (drop (i + 1) lines) (facts_of c.line.new.self))
           ≡ text (flat_history c.args.trace.now)) (sym c.in_ok-answer.ensures.sizes)
-          (goes_on z (get_or lines i no_line) (drop (i + 1) lines) facts (facts_of c.line.new.self) c.in_ok-answer.answer before _
+          (goes_on z line (drop (i + 1) lines) facts (facts_of c.line.new.self) c.in_ok-answer.answer before _
           (string_bytes c.in_ok-answer_line.field-0) _ c.in_ok-answer.ensures.gives c.in_ok-answer_line.ensures (search rules) so_far);
       same = search rules;
       sizes = search rules;

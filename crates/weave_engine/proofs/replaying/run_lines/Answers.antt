@@ -1,6 +1,8 @@
-use Rattle.std.proofs.Common.{◌∙◌, List, [], arith, refl, subst, sym}
+use Rattle.std.proofs.Common.{◌≡◌, ◌<◌, ◌∙◌, ℕ, List, [], arith, get_or, length, refl, subst, sym}
+use Rattle.std.proofs.lemmas.List.{get_or_read_under}
 use Rattle.std.proofs.lemmas.Result.{err_from_is_err_and}
 use Rattle.core_views.specs.declared.kind.Kind.{Kind}
+use Rattle.core_views.specs.declared.trace.Line.{Line}
 use Rattle.core_views.specs.Flat.{no_line}
 use Rattle.mmu_core.specs.machine.Machine.{Step}
 use Rattle.step_seats.specs.Machines.{world_in}
@@ -26,60 +28,69 @@ loop-index-init g c = record {
   count = refl;
 }
 
+-- the line of the loop
+read : (lines : List Line) (i : ℕ) (line : Line) → line ≡ get_or lines i line → i < length lines → line ≡ get_or lines i no_line
+read lines i line is lt = get_or_read_under lines i (length lines) line no_line is lt refl
+
 pub line-requires-clause-there : goal.line-requires-clause-there
 line-requires-clause-there g c =
     let i = c.loop-index.invariant in
     let B = i.so_far.between in
-    (ready_on c.args.machine.now.sizes c.args.lines.now c.loop-index.index c.loop-index.machine i.sizes
+    rw (read c.args.lines.now c.loop-index.index c.index-lines-index.result c.index-lines-index.is (omega (arith, c.loop-index-test.true, c.requires.count)))
+    ((ready_on c.args.machine.now.sizes c.args.lines.now c.loop-index.index c.loop-index.machine i.sizes
     (i.count ∙ hands_at_start c.args.machine.now.sizes c.args.lines.now c.args.machine.now c.requires.start)
     (omega (arith, c.loop-index-test.true, c.requires.count))
     (c.requires.start.allowed c.loop-index.index no_line (omega (arith, c.loop-index-test.true, c.requires.count))) B.behind
     (sound_between c.args.machine.now.sizes c.args.lines.now c.loop-index.index (world_in c.args.machine.now) (world_in c.loop-index.machine)
-    i.so_far.printed c.requires.start B) B.rest).there
+    i.so_far.printed c.requires.start B) B.rest).there)
 
 pub line-requires-clause-idle : goal.line-requires-clause-idle
 line-requires-clause-idle g c =
     let i = c.loop-index.invariant in
     let B = i.so_far.between in
-    (ready_on c.args.machine.now.sizes c.args.lines.now c.loop-index.index c.loop-index.machine i.sizes
+    rw (read c.args.lines.now c.loop-index.index c.index-lines-index.result c.index-lines-index.is (omega (arith, c.loop-index-test.true, c.requires.count)))
+    ((ready_on c.args.machine.now.sizes c.args.lines.now c.loop-index.index c.loop-index.machine i.sizes
     (i.count ∙ hands_at_start c.args.machine.now.sizes c.args.lines.now c.args.machine.now c.requires.start)
     (omega (arith, c.loop-index-test.true, c.requires.count))
     (c.requires.start.allowed c.loop-index.index no_line (omega (arith, c.loop-index-test.true, c.requires.count))) B.behind
     (sound_between c.args.machine.now.sizes c.args.lines.now c.loop-index.index (world_in c.args.machine.now) (world_in c.loop-index.machine)
-    i.so_far.printed c.requires.start B) B.rest).idle
+    i.so_far.printed c.requires.start B) B.rest).idle)
 
 pub line-requires-clause-next : goal.line-requires-clause-next
 line-requires-clause-next g c =
     let i = c.loop-index.invariant in
     let B = i.so_far.between in
-    (ready_on c.args.machine.now.sizes c.args.lines.now c.loop-index.index c.loop-index.machine i.sizes
+    rw (read c.args.lines.now c.loop-index.index c.index-lines-index.result c.index-lines-index.is (omega (arith, c.loop-index-test.true, c.requires.count)))
+    ((ready_on c.args.machine.now.sizes c.args.lines.now c.loop-index.index c.loop-index.machine i.sizes
     (i.count ∙ hands_at_start c.args.machine.now.sizes c.args.lines.now c.args.machine.now c.requires.start)
     (omega (arith, c.loop-index-test.true, c.requires.count))
     (c.requires.start.allowed c.loop-index.index no_line (omega (arith, c.loop-index-test.true, c.requires.count))) B.behind
     (sound_between c.args.machine.now.sizes c.args.lines.now c.loop-index.index (world_in c.args.machine.now) (world_in c.loop-index.machine)
-    i.so_far.printed c.requires.start B) B.rest).next
+    i.so_far.printed c.requires.start B) B.rest).next)
 
 pub line-requires-clause-own : goal.line-requires-clause-own
 line-requires-clause-own g c =
     let i = c.loop-index.invariant in
     let B = i.so_far.between in
-    (ready_on c.args.machine.now.sizes c.args.lines.now c.loop-index.index c.loop-index.machine i.sizes
+    rw (read c.args.lines.now c.loop-index.index c.index-lines-index.result c.index-lines-index.is (omega (arith, c.loop-index-test.true, c.requires.count)))
+    ((ready_on c.args.machine.now.sizes c.args.lines.now c.loop-index.index c.loop-index.machine i.sizes
     (i.count ∙ hands_at_start c.args.machine.now.sizes c.args.lines.now c.args.machine.now c.requires.start)
     (omega (arith, c.loop-index-test.true, c.requires.count))
     (c.requires.start.allowed c.loop-index.index no_line (omega (arith, c.loop-index-test.true, c.requires.count))) B.behind
     (sound_between c.args.machine.now.sizes c.args.lines.now c.loop-index.index (world_in c.args.machine.now) (world_in c.loop-index.machine)
-    i.so_far.printed c.requires.start B) B.rest).own
+    i.so_far.printed c.requires.start B) B.rest).own)
 
 pub line-requires-clause-alone : goal.line-requires-clause-alone
 line-requires-clause-alone g c =
     let i = c.loop-index.invariant in
     let B = i.so_far.between in
-    (ready_on c.args.machine.now.sizes c.args.lines.now c.loop-index.index c.loop-index.machine i.sizes
+    rw (read c.args.lines.now c.loop-index.index c.index-lines-index.result c.index-lines-index.is (omega (arith, c.loop-index-test.true, c.requires.count)))
+    ((ready_on c.args.machine.now.sizes c.args.lines.now c.loop-index.index c.loop-index.machine i.sizes
     (i.count ∙ hands_at_start c.args.machine.now.sizes c.args.lines.now c.args.machine.now c.requires.start)
     (omega (arith, c.loop-index-test.true, c.requires.count))
     (c.requires.start.allowed c.loop-index.index no_line (omega (arith, c.loop-index-test.true, c.requires.count))) B.behind
     (sound_between c.args.machine.now.sizes c.args.lines.now c.loop-index.index (world_in c.args.machine.now) (world_in c.loop-index.machine)
-    i.so_far.printed c.requires.start B) B.rest).alone
+    i.so_far.printed c.requires.start B) B.rest).alone)
 
 pub line-requires-clause-ready : goal.line-requires-clause-ready
 line-requires-clause-ready g c =
@@ -91,7 +102,9 @@ returns-in_err-line-clause-prints g c =
     let i = c.loop-index.invariant in
     let p = err_from_is_err_and c.from_residual.result c.from_residual.ensures.1 in
     let L : Printing g.P.TurnPrinter.prints g.P.TurnPrinter.stops = record { both = g.met.P.TurnPrinter.then; stopped = g.met.P.TurnPrinter.stopped } in
-    let ran = rw i.sizes at c.in_err-line.ensures.ran in
+    let line =
+    read c.args.lines.now c.loop-index.index c.index-lines-index.result c.index-lines-index.is (omega (arith, c.loop-index-test.true, c.requires.count)) in
+    let ran = rw (i.sizes, line) at c.in_err-line.ensures.ran in
     rw (p.1, p.2) (lines_stop g.P.TurnPrinter.prints g.P.TurnPrinter.stops L c.args.machine.now.sizes c.args.lines.now c.loop-index.index
     (world_in c.args.machine.now) (world_in c.loop-index.machine) (world_in c.line.new.machine) c.args.printer.now c.loop-index.printer
     c.line.new.self i.so_far (omega (arith, c.loop-index-test.true, c.requires.count))
@@ -102,7 +115,9 @@ pub loop-index-preserved : goal.loop-index-preserved
 loop-index-preserved g c =
     let i = c.loop-index.invariant in
     let L : Printing g.P.TurnPrinter.prints g.P.TurnPrinter.stops = record { both = g.met.P.TurnPrinter.then; stopped = g.met.P.TurnPrinter.stopped } in
-    let ran = rw i.sizes at c.in_ok-line.ensures.ran in
+    let line =
+    read c.args.lines.now c.loop-index.index c.index-lines-index.result c.index-lines-index.is (omega (arith, c.loop-index-test.true, c.requires.count)) in
+    let ran = rw (i.sizes, line) at c.in_ok-line.ensures.ran in
     record {
       so_far =
           one_line_put g.P.TurnPrinter.prints g.P.TurnPrinter.stops L c.args.machine.now.sizes c.args.lines.now c.loop-index.index

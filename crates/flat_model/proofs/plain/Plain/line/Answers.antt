@@ -1,11 +1,16 @@
-use Rattle.std.proofs.Common.{inl, inr, refl, ap}
+use Rattle.std.proofs.Common.{◌≡◌, true, refl, rules}
 use Rattle.std.proofs.lemmas.Result.{IfOk-weaker}
+use Rattle.std.specs.Prelude.{is_some}
 use Rattle.core_views.specs.HostChanges.{is_own}
-use Rattle.core_views.specs.SlotCommands.{changes_slot}
+use Rattle.core_views.specs.LogCommands.{log_read, read_refusal}
+use Rattle.core_views.specs.SlotCommands.{change_at_once, changes_slot}
 use Rattle.flat_model.specs.Kept.{GivesLine, facts_of}
-use Rattle.flat_model.specs.Steps.{ChangesHost}
+use Rattle.flat_model.specs.LogSteps.{ReadsLog}
+use Rattle.flat_model.specs.Steps.{Accesses, ChangesHost, ChangesSlots}
 use Rattle.flat_model.proofs.HostChangeLines.{host_line}
+use Rattle.flat_model.proofs.LogLines.{some_log_line}
 use Rattle.flat_model.proofs.SlotLines.{slot_line}
+use Rattle.flat_model.proofs.AccessLines.{access_line}
 use Rattle.flat_model.proofs.plain.Plain.line.Goals as goal
 
 pub returns-in-ChangeHost-clause-gives : goal.returns-in-ChangeHost-clause-gives
@@ -21,5 +26,42 @@ returns-in-ChangeHost-clause-gives c =
 
 pub returns-in-SetSlot-clause-gives : goal.returns-in-SetSlot-clause-gives
 returns-in-SetSlot-clause-gives c =
-    slot_line c.args.line.now c.args.self.now c.change_slots.new.self c.change_slots.result c.args.line.now.command refl
-    (elim c.in-SetSlot.is [ inl set ↦ ap changes_slot set.2 | inr deletes ↦ ap changes_slot deletes.1 ]) c.change_slots.ensures.changes
+    let line = c.args.line.now in
+    let before = c.args.self.now in
+    let after = c.change_slots-in-SetSlot.new.self in
+    let changing : changes_slot line.command ≡ true = search rules in
+    IfOk-weaker c.change_slots-in-SetSlot.result
+    (λ answer. ChangesSlots line.command before after answer (change_at_once before.sizes line.command before.slots))
+    (GivesLine before.sizes line (facts_of before) (facts_of after))
+    (λ answer changes. slot_line line before after answer line.command refl changing changes) c.change_slots-in-SetSlot.ensures.changes
+
+pub returns-in-SetLog-clause-gives : goal.returns-in-SetLog-clause-gives
+returns-in-SetLog-clause-gives c =
+    let line = c.args.line.now in
+    let before = c.args.self.now in
+    let after = c.change_slots.new.self in
+    let changing : changes_slot line.command ≡ true = search rules in
+    IfOk-weaker c.change_slots.result (λ answer. ChangesSlots line.command before after answer (change_at_once before.sizes line.command before.slots))
+    (GivesLine before.sizes line (facts_of before) (facts_of after))
+    (λ answer changes. slot_line line before after answer line.command refl changing changes) c.change_slots.ensures.changes
+
+pub returns-in-GetLog-clause-gives : goal.returns-in-GetLog-clause-gives
+returns-in-GetLog-clause-gives c =
+    let line = c.args.line.now in
+    let before = c.args.self.now in
+    let after = c.read_log.new.self in
+    let reading : is_some (log_read line.command) ≡ true = search rules in
+    IfOk-weaker c.read_log.result (λ answer. ReadsLog line.command before after answer (read_refusal line.command before.slots))
+    (GivesLine before.sizes line (facts_of before) (facts_of after))
+    (λ answer reads. some_log_line line before after answer reading reads) c.read_log.ensures.reads
+
+pub returns-in-Access-clause-gives : goal.returns-in-Access-clause-gives
+returns-in-Access-clause-gives c =
+    let line = c.args.line.now in
+    let gfn = c.in-Access.gfn in
+    let word = c.in-Access.word in
+    let op = c.in-Access.op in
+    let before = c.args.self.now in
+    let after = c.access.new.self in
+    IfOk-weaker c.access.result (Accesses gfn word op before after) (GivesLine before.sizes line (facts_of before) (facts_of after))
+    (λ answer reaches. access_line line gfn word op before after answer c.in-Access.is reaches) c.access.ensures.reached
