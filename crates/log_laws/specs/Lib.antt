@@ -1,0 +1,4 @@
+pub mod HarvestLaws
+pub mod LogWords
+pub mod LogTraces
+pub mod UnlawfulReadings

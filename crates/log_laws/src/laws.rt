@@ -1,0 +1,78 @@
+ghost use Rattle.log_laws.specs.HarvestLaws.{CleanIsNotDirty, HarvestedTakesItsFrames, PendingIsArmed};
+ghost use Rattle.log_laws.specs.HarvestLaws.{ReadingsAreCaused, ReadingsAreComplete, ShownTakesNothing, WrittenStaysDirty};
+ghost use Rattle.log_laws.specs.LogTraces.{AllSetPrints, EndsPrint, GetPrints, ManualPrints};
+ghost use Rattle.log_laws.specs.LogTraces.{RangesPrint, ReadPrints, RefusalsPrint, WordsPrint};
+ghost use Rattle.log_laws.specs.LogWords.{ClearWordsTellFrames, GetWordsTellFrames};
+ghost use Rattle.log_laws.specs.UnlawfulReadings.{AutomaticGetTakesAll, LogBeginsAllSet, LogBeginsArmed};
+ghost use Rattle.log_laws.specs.UnlawfulReadings.{LogBeginsClean, ManualGetTakesNone, NextGetReadsIt, RaceIsLawful};
+ghost use Rattle.log_laws.specs.UnlawfulReadings.{TakenIsNotReadAgain, UnwrittenIsNotRead, WrittenIsNotLeftOut};
+
+use core_views::writes_are_kept;
+
+/// A law about the readings of dirty logs, over all histories. In a lawful history a reading holds
+/// each frame for which its line asks that was dirty as the line began to read, with no line under
+/// way then that writes the frame (`complete`). It holds no other frame than one that was written,
+/// by a line that was under way since the reading began that took the frame out last, or one of a
+/// log that began with each page dirty; and only frames of the slot for which the line asks
+/// (`caused`). In any history a frame that is written while the writes of its slot are logged is
+/// dirty (`dirty`), until an event makes it clean (`clean`). In a lawful one each dirty frame is in
+/// a slot whose writes are logged (`armed`). A reading that takes no frame out changes no fact
+/// (`shown`), and one that does makes just its frames clean (`taken`) (api.rst, KVM_GET_DIRTY_LOG,
+/// KVM_CLEAR_DIRTY_LOG).
+pub fn readings_tell_what_was_written()
+    ensures complete { ReadingsAreComplete }
+    ensures caused { ReadingsAreCaused }
+    ensures dirty { WrittenStaysDirty }
+    ensures clean { CleanIsNotDirty }
+    ensures armed { PendingIsArmed }
+    ensures shown { ShownTakesNothing }
+    ensures taken { HarvestedTakesItsFrames }
+{
+    writes_are_kept();
+}
+
+/// A law about the words of 64 bits that a line answers which reads a log. A get's have a bit for
+/// each page of the slot (`get`), and a clear's one for each of its pages (`clear`). Each is set
+/// exactly where the page's guest frame is among those that were read; no bit past them is set, and
+/// there are no more words than these bits need.
+pub fn log_words_tell_frames()
+    ensures get { GetWordsTellFrames }
+    ensures clear { ClearWordsTellFrames }
+{}
+
+/// Closed traces of lines that run alone, with the bytes that they print: of a get that reads two
+/// frames, and one that reads none then (`get`); of an access that only reads (`read`); of two
+/// words (`words`); of clears of pages that aren't whole words (`ranges`), and of the slot's last
+/// page and of no page (`ends`); of a manual log (`manual`), and of one that begins with each page
+/// dirty (`all_set`); and of lines that are refused (`refusals`).
+pub fn log_lines_print()
+    ensures get { GetPrints }
+    ensures read { ReadPrints }
+    ensures words { WordsPrint }
+    ensures ranges { RangesPrint }
+    ensures ends { EndsPrint }
+    ensures manual { ManualPrints }
+    ensures all_set { AllSetPrints }
+    ensures refusals { RefusalsPrint }
+{}
+
+/// A law about closed histories, mostly ones that are not lawful. A get doesn't leave out a frame
+/// whose write was answered before it (`left_out`), nor read one that nobody wrote (`unwritten`),
+/// or that nobody wrote since the last get took it out (`again`). A get of a manual log takes no
+/// frame out of it (`manual`), and one of an automatic log leaves none there (`automatic`). A log
+/// doesn't begin before writes are logged (`armed`), nor with no page dirty where each is to be
+/// (`all_set`), nor with each one where none is to be (`clean`). Where two processors write one
+/// frame, a get may leave it out after one of them is answered, while the other's line is under way
+/// (`race`); then the next get after that line's answer must read it (`next`).
+pub fn unlawful_readings_are_refused()
+    ensures left_out { WrittenIsNotLeftOut }
+    ensures unwritten { UnwrittenIsNotRead }
+    ensures again { TakenIsNotReadAgain }
+    ensures manual { ManualGetTakesNone }
+    ensures automatic { AutomaticGetTakesAll }
+    ensures armed { LogBeginsArmed }
+    ensures all_set { LogBeginsAllSet }
+    ensures clean { LogBeginsClean }
+    ensures race { RaceIsLawful }
+    ensures next { NextGetReadsIt }
+{}
