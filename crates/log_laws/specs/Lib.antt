@@ -2,3 +2,4 @@ pub mod HarvestLaws
 pub mod LogWords
 pub mod LogTraces
 pub mod UnlawfulReadings
+pub mod ClearTraces

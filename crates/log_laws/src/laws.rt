@@ -1,5 +1,6 @@
 ghost use Rattle.log_laws.specs.HarvestLaws.{CleanIsNotDirty, HarvestedTakesItsFrames, PendingIsArmed};
 ghost use Rattle.log_laws.specs.HarvestLaws.{ReadingsAreCaused, ReadingsAreComplete, ShownTakesNothing, WrittenStaysDirty};
+ghost use Rattle.log_laws.specs.ClearTraces.{EachPagePrints, FirstRefusalPrints, ModesTell, OtherSlotPrints, SecondWordPrints, WholeWordsPrint};
 ghost use Rattle.log_laws.specs.LogTraces.{AllSetPrints, EndsPrint, GetPrints, ManualPrints};
 ghost use Rattle.log_laws.specs.LogTraces.{RangesPrint, ReadPrints, RefusalsPrint, WordsPrint};
 ghost use Rattle.log_laws.specs.LogWords.{ClearWordsTellFrames, GetWordsTellFrames};
@@ -54,6 +55,20 @@ pub fn log_lines_print()
     ensures manual { ManualPrints }
     ensures all_set { AllSetPrints }
     ensures refusals { RefusalsPrint }
+{}
+
+/// More closed traces: of a clear that names a page of its second word alone (`words`); of
+/// pages that are whole words, and ones that aren't (`whole`); of a clear that is refused for
+/// more than one reason (`first`); and of a slot that isn't the first, with the frame that was
+/// written in it (`other`), and with all its pages, where its log begins so (`each`). And which
+/// number of a header is which mode (`modes`).
+pub fn more_log_lines_print()
+    ensures words { SecondWordPrints }
+    ensures whole { WholeWordsPrint }
+    ensures first { FirstRefusalPrints }
+    ensures other { OtherSlotPrints }
+    ensures each { EachPagePrints }
+    ensures modes { ModesTell }
 {}
 
 /// A law about closed histories, mostly ones that are not lawful. A get doesn't leave out a frame

@@ -6,6 +6,6 @@
 mod laws;
 
 pub use laws::{
-    log_lines_print, log_words_tell_frames, readings_tell_what_was_written,
+    log_lines_print, log_words_tell_frames, more_log_lines_print, readings_tell_what_was_written,
     unlawful_readings_are_refused,
 };
