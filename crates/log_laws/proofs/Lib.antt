@@ -3,3 +3,4 @@ pub mod SlotsApart
 pub mod Pending
 pub mod PendingArmed
 pub mod Readings
+pub mod Rules

@@ -1,5 +1,5 @@
--- More closed traces of dirty logs, and the bytes that they print, by the rules of docs/TRACE.md: clears over two words, which of a clear's refusals comes first,
--- and logs of a slot that isn't the first.
+-- More closed traces of dirty logs, and the bytes that they print, by the rules of docs/TRACE.md: clears over two words, which of a clear's refusals comes
+-- first, and logs of a slot that isn't the first.
 use Rattle.std.specs.Prelude.{◌≡◌, [], ◌∷◌, true, false, codes}
 use Rattle.core_views.specs.declared.sizes.LogMode.TheVariants.{Automatic, Manual, ManualAllSet}
 use Rattle.core_views.specs.declared.trace.Command.TheVariants.{ClearLog, GetLog, SetLog}

@@ -3,3 +3,4 @@ pub mod LogWords
 pub mod LogTraces
 pub mod UnlawfulReadings
 pub mod ClearTraces
+pub mod LogRules

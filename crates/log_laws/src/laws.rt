@@ -3,6 +3,7 @@ ghost use Rattle.log_laws.specs.HarvestLaws.{ReadingsAreCaused, ReadingsAreCompl
 ghost use Rattle.log_laws.specs.ClearTraces.{EachPagePrints, FirstRefusalPrints, ModesTell, OtherSlotPrints, SecondWordPrints, WholeWordsPrint};
 ghost use Rattle.log_laws.specs.LogTraces.{AllSetPrints, EndsPrint, GetPrints, ManualPrints};
 ghost use Rattle.log_laws.specs.LogTraces.{RangesPrint, ReadPrints, RefusalsPrint, WordsPrint};
+ghost use Rattle.log_laws.specs.LogRules.{ArmingArms, BadRangesAreTold, SuchMayBeRead};
 ghost use Rattle.log_laws.specs.LogWords.{ClearWordsTellFrames, GetWordsTellFrames};
 ghost use Rattle.log_laws.specs.UnlawfulReadings.{AutomaticGetTakesAll, LogBeginsAllSet, LogBeginsArmed};
 ghost use Rattle.log_laws.specs.UnlawfulReadings.{LogBeginsClean, ManualGetTakesNone, NextGetReadsIt, RaceIsLawful};
@@ -19,7 +20,9 @@ use core_views::writes_are_kept;
 /// dirty (`dirty`), until an event makes it clean (`clean`). In a lawful one each dirty frame is in
 /// a slot whose writes are logged (`armed`). A reading that takes no frame out changes no fact
 /// (`shown`), and one that does makes just its frames clean (`taken`) (api.rst, KVM_GET_DIRTY_LOG,
-/// KVM_CLEAR_DIRTY_LOG).
+/// KVM_CLEAR_DIRTY_LOG). Nothing more is asked of a reading: any frames that rise, for which the
+/// line asks, that have a cause, and of which none is left out that must not be, may be read
+/// (`such`). And an event that arms a log does so for its slot alone (`arms`).
 pub fn readings_tell_what_was_written()
     ensures complete { ReadingsAreComplete }
     ensures caused { ReadingsAreCaused }
@@ -28,6 +31,8 @@ pub fn readings_tell_what_was_written()
     ensures armed { PendingIsArmed }
     ensures shown { ShownTakesNothing }
     ensures taken { HarvestedTakesItsFrames }
+    ensures such { SuchMayBeRead }
+    ensures arms { ArmingArms }
 {
     writes_are_kept();
 }
@@ -36,9 +41,12 @@ pub fn readings_tell_what_was_written()
 /// each page of the slot (`get`), and a clear's one for each of its pages (`clear`). Each is set
 /// exactly where the page's guest frame is among those that were read; no bit past them is set, and
 /// there are no more words than these bits need.
+/// The pages of a clear are a bad range just where they aren't whole words of the log of a slot
+/// with so many pages (`ranges`).
 pub fn log_words_tell_frames()
     ensures get { GetWordsTellFrames }
     ensures clear { ClearWordsTellFrames }
+    ensures ranges { BadRangesAreTold }
 {}
 
 /// Closed traces of lines that run alone, with the bytes that they print: of a get that reads two

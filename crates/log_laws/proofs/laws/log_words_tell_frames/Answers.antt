@@ -2,6 +2,7 @@ use Rattle.std.proofs.Common.{◌≡◌, ◌+◌, ℕ, Bool, subst, arith}
 use Rattle.core_views.specs.LogCommands.{is_among, words_of}
 use Rattle.log_laws.specs.LogWords.{TellBits}
 use Rattle.log_laws.proofs.LogWords.{words_tell}
+use Rattle.log_laws.proofs.Rules.{ranges}
 use Rattle.log_laws.proofs.laws.log_words_tell_frames.Goals as goal
 
 none_before : (n : ℕ) → 0 + n ≡ n
@@ -16,3 +17,6 @@ returns-clause-get c id slot frames =
 
 pub returns-clause-clear : goal.returns-clause-clear
 returns-clause-clear c id first count asked slot frames = words_tell count (λ bit. is_among (slot.slot.base + (first + bit)) frames)
+
+pub returns-clause-ranges : goal.returns-clause-ranges
+returns-clause-ranges c = ranges

@@ -8,6 +8,7 @@ use Rattle.log_laws.specs.HarvestLaws.{IsMadeClean, MakesClean, made_by}
 use Rattle.log_laws.proofs.Pending.{Cleaned, dirty_until, makes_clean, write_marks}
 use Rattle.log_laws.proofs.PendingArmed.{all_armed, armed_found, first_armed}
 use Rattle.log_laws.proofs.Readings.{caused, complete}
+use Rattle.log_laws.proofs.Rules.{arming, such_may}
 use Rattle.log_laws.proofs.laws.readings_tell_what_was_written.Goals as goal
 
 pub returns-clause-dirty : goal.returns-clause-dirty
@@ -52,3 +53,9 @@ returns-clause-complete c = complete c.writes_are_kept.ensures.due
 
 pub returns-clause-caused : goal.returns-clause-caused
 returns-clause-caused c = caused c.writes_are_kept.ensures.written
+
+pub returns-clause-such : goal.returns-clause-such
+returns-clause-such c = such_may c.writes_are_kept.ensures.due c.writes_are_kept.ensures.written
+
+pub returns-clause-arms : goal.returns-clause-arms
+returns-clause-arms c = arming
