@@ -1,15 +1,11 @@
 //! Lines that `Plain` answers, worked out by hand.
 ghost use Rattle.flat_model.specs.Kept.{IsInRange};
 
+use crate::expected::expect;
 use core_views::HostChange::{Allow, Evict, Move, Protect};
 use core_views::Op::{Add, Read, Write};
-use core_views::Refusal::{
-    BadId, BadRange, Fixed, HostOverlap, Logged, Missing, NoFrame, NoLog, OutOfRange, Overlap,
-    TooLarge,
-};
 use core_views::{
-    Actor, Answer, Command, Header, HostChange, Line, Lines, NoMemory, Op, Refusal, Slot, Trace,
-    Words,
+    Actor, Answer, Command, Header, HostChange, Line, Lines, NoMemory, Op, Slot, Trace, Words,
 };
 use flat_model::Plain;
 use std::alloc::Global;
@@ -127,13 +123,13 @@ fn answer_to(alloc: Global, plain: &mut Plain, row: Row) -> Result<Answer, Fail>
     }
 }
 
-// The first of these rows, run one after another in memory of its own, that is answered
+// The first of these rows, run one after another in memory of its own, whose answer is printed
 // otherwise than it stands here.
 fn first_other(
     alloc: Global,
     frames: u64,
     hosts: &[u64],
-    rows: &[(Row, Answer)],
+    rows: &[(Row, &str)],
 ) -> Result<Option<usize>, Fail> {
     let mut plain = memory(alloc, frames, hosts, 0)?;
     first_other_in(alloc, &mut plain, rows)
@@ -143,10 +139,11 @@ fn first_other(
 fn first_other_in(
     alloc: Global,
     plain: &mut Plain,
-    rows: &[(Row, Answer)],
+    rows: &[(Row, &str)],
 ) -> Result<Option<usize>, Fail> {
     for (i, (row, answer)) in rows.iter().enumerate() {
-        if answer_to(alloc, plain, *row)? != *answer {
+        let given = answer_to(alloc, plain, *row)?;
+        if format!(in alloc; "{given}")?.as_str() != *answer {
             return Ok(Some(i));
         }
     }
@@ -156,25 +153,9 @@ fn first_other_in(
 // Guest frames 0 to 15 are host pages 0 to 15.
 const SLOT: Row = Row::Slot(0, 0, 0, false);
 
-fn reached(frame: u64, value: u64) -> Answer {
-    Answer::Reached { frame, value }
-}
-
-fn refused(refusal: Refusal) -> Answer {
-    Answer::Refused(refusal)
-}
-
-fn bits(alloc: Global, words: &[u64]) -> Result<Answer, NoMemory> {
-    Ok(Answer::Bits(Words::from_vec(words.to_vec(alloc)?)))
-}
-
 // The first of these rows that is answered otherwise, in memory whose dirty logs are taken in the
 // mode with this number.
-fn first_other_log(
-    alloc: Global,
-    manual: u8,
-    rows: &[(Row, Answer)],
-) -> Result<Option<usize>, Fail> {
+fn first_other_log(alloc: Global, manual: u8, rows: &[(Row, &str)]) -> Result<Option<usize>, Fail> {
     let mut plain = memory(alloc, 1040, &[0], manual)?;
     first_other_in(alloc, &mut plain, rows)
 }
@@ -184,26 +165,26 @@ fn first_other_log(
 #[test]
 fn answers_line_by_line(rt: HostRuntime) -> Result<(), Fail> {
     let rows = [
-        (Row::Slot(32, 0, 0, false), refused(BadId)),
-        (Row::Slot(0, (1 << 36) - 15, 0, false), refused(TooLarge)),
-        (Row::Slot(0, 0, 1024, false), refused(TooLarge)),
-        (SLOT, Answer::Done),
-        (Row::Slot(1, 15, 64, false), refused(Overlap)),
-        (Row::Slot(1, 16, 0, false), refused(HostOverlap)),
-        (Row::Slot(0, 16, 64, false), refused(Fixed)),
-        (Row::Slot(31, 32, 64, true), Answer::Done),
-        (Row::Access(1, 0, Write(7)), reached(1, 0)),
-        (Row::Access(15, 1, Write(3)), reached(15, 0)),
-        (Row::Access(1, 0, Read), reached(1, 7)),
-        (Row::Access(15, 1, Read), reached(15, 3)),
-        (Row::Access(15, 0, Read), reached(15, 0)),
-        (Row::Access(1, 0, Add(u64::MAX)), reached(1, 7)),
-        (Row::Access(1, 0, Read), reached(1, 6)),
-        (Row::Access(16, 0, Read), Answer::Mmio),
-        (Row::Access(33, 0, Write(1)), Answer::Mmio),
-        (Row::Access(33, 0, Read), reached(65, 0)),
+        (Row::Slot(32, 0, 0, false), "refused bad-id"),
+        (Row::Slot(0, (1 << 36) - 15, 0, false), "refused too-large"),
+        (Row::Slot(0, 0, 1024, false), "refused too-large"),
+        (SLOT, "done"),
+        (Row::Slot(1, 15, 64, false), "refused overlap"),
+        (Row::Slot(1, 16, 0, false), "refused host-overlap"),
+        (Row::Slot(0, 16, 64, false), "refused fixed"),
+        (Row::Slot(31, 32, 64, true), "done"),
+        (Row::Access(1, 0, Write(7)), "frame 1 value 0"),
+        (Row::Access(15, 1, Write(3)), "frame 15 value 0"),
+        (Row::Access(1, 0, Read), "frame 1 value 7"),
+        (Row::Access(15, 1, Read), "frame 15 value 3"),
+        (Row::Access(15, 0, Read), "frame 15 value 0"),
+        (Row::Access(1, 0, Add(u64::MAX)), "frame 1 value 7"),
+        (Row::Access(1, 0, Read), "frame 1 value 6"),
+        (Row::Access(16, 0, Read), "mmio"),
+        (Row::Access(33, 0, Write(1)), "mmio"),
+        (Row::Access(33, 0, Read), "frame 65 value 0"),
     ];
-    assert_eq!(rt; first_other(rt.alloc(), 1040, &[0], &rows)?, None);
+    expect(&rt, (first_other(rt.alloc(), 1040, &[0], &rows)?, true));
     Ok(())
 }
 
@@ -212,25 +193,25 @@ fn answers_line_by_line(rt: HostRuntime) -> Result<(), Fail> {
 #[test]
 fn moves_a_slot_and_deletes_it(rt: HostRuntime) -> Result<(), Fail> {
     let rows = [
-        (Row::Delete(0), refused(Missing)),
-        (Row::Delete(32), refused(BadId)),
-        (SLOT, Answer::Done),
-        (Row::Access(9, 0, Write(7)), reached(9, 0)),
-        (Row::Slot(0, 8, 0, false), Answer::Done),
-        (Row::Slot(0, 8, 0, false), Answer::Done),
-        (Row::Access(9, 0, Read), reached(1, 0)),
-        (Row::Access(17, 0, Read), reached(9, 7)),
-        (Row::Access(7, 0, Read), Answer::Mmio),
-        (Row::Slot(1, 23, 64, false), refused(Overlap)),
-        (Row::Delete(0), Answer::Done),
-        (Row::Delete(0), refused(Missing)),
-        (Row::Access(17, 0, Read), Answer::Mmio),
-        (Row::Slot(1, 23, 64, false), Answer::Done),
-        (Row::Slot(0, 100, 0, true), Answer::Done),
-        (Row::Access(109, 0, Read), reached(9, 7)),
-        (Row::Access(109, 0, Add(1)), Answer::Mmio),
+        (Row::Delete(0), "refused missing"),
+        (Row::Delete(32), "refused bad-id"),
+        (SLOT, "done"),
+        (Row::Access(9, 0, Write(7)), "frame 9 value 0"),
+        (Row::Slot(0, 8, 0, false), "done"),
+        (Row::Slot(0, 8, 0, false), "done"),
+        (Row::Access(9, 0, Read), "frame 1 value 0"),
+        (Row::Access(17, 0, Read), "frame 9 value 7"),
+        (Row::Access(7, 0, Read), "mmio"),
+        (Row::Slot(1, 23, 64, false), "refused overlap"),
+        (Row::Delete(0), "done"),
+        (Row::Delete(0), "refused missing"),
+        (Row::Access(17, 0, Read), "mmio"),
+        (Row::Slot(1, 23, 64, false), "done"),
+        (Row::Slot(0, 100, 0, true), "done"),
+        (Row::Access(109, 0, Read), "frame 9 value 7"),
+        (Row::Access(109, 0, Add(1)), "mmio"),
     ];
-    assert_eq!(rt; first_other(rt.alloc(), 1040, &[0], &rows)?, None);
+    expect(&rt, (first_other(rt.alloc(), 1040, &[0], &rows)?, true));
     Ok(())
 }
 
@@ -238,19 +219,19 @@ fn moves_a_slot_and_deletes_it(rt: HostRuntime) -> Result<(), Fail> {
 #[test]
 fn moves_a_page(rt: HostRuntime) -> Result<(), Fail> {
     let rows = [
-        (SLOT, Answer::Done),
-        (Row::Access(2, 0, Write(7)), reached(2, 0)),
-        (Row::Host(0, 2, Move), Answer::Moved(1024)),
-        (Row::Access(2, 0, Read), reached(1024, 7)),
+        (SLOT, "done"),
+        (Row::Access(2, 0, Write(7)), "frame 2 value 0"),
+        (Row::Host(0, 2, Move), "frame 1024"),
+        (Row::Access(2, 0, Read), "frame 1024 value 7"),
         // Frame 2 was given up.
-        (Row::Host(0, 9, Move), Answer::Moved(2)),
-        (Row::Access(9, 0, Read), reached(2, 0)),
-        (Row::Host(0, 1023, Move), Answer::Moved(9)),
-        (Row::Host(0, 2, Move), Answer::Moved(1023)),
-        (Row::Access(2, 0, Add(1)), reached(1023, 7)),
-        (Row::Access(2, 0, Read), reached(1023, 8)),
+        (Row::Host(0, 9, Move), "frame 2"),
+        (Row::Access(9, 0, Read), "frame 2 value 0"),
+        (Row::Host(0, 1023, Move), "frame 9"),
+        (Row::Host(0, 2, Move), "frame 1023"),
+        (Row::Access(2, 0, Add(1)), "frame 1023 value 7"),
+        (Row::Access(2, 0, Read), "frame 1023 value 8"),
     ];
-    assert_eq!(rt; first_other(rt.alloc(), 1040, &[0], &rows)?, None);
+    expect(&rt, (first_other(rt.alloc(), 1040, &[0], &rows)?, true));
     Ok(())
 }
 
@@ -258,18 +239,18 @@ fn moves_a_page(rt: HostRuntime) -> Result<(), Fail> {
 #[test]
 fn evicts_a_page(rt: HostRuntime) -> Result<(), Fail> {
     let rows = [
-        (SLOT, Answer::Done),
-        (Row::Access(5, 0, Write(3)), reached(5, 0)),
-        (Row::Host(0, 5, Evict), Answer::Done),
-        (Row::Access(5, 0, Read), reached(5, 3)),
-        (Row::Host(0, 3, Move), Answer::Moved(1024)),
-        (Row::Host(0, 3, Move), Answer::Moved(3)),
-        (Row::Host(0, 3, Evict), Answer::Done),
-        (Row::Host(0, 4, Move), Answer::Moved(1024)),
-        (Row::Host(0, 3, Move), Answer::Moved(4)),
-        (Row::Access(3, 0, Read), reached(4, 0)),
+        (SLOT, "done"),
+        (Row::Access(5, 0, Write(3)), "frame 5 value 0"),
+        (Row::Host(0, 5, Evict), "done"),
+        (Row::Access(5, 0, Read), "frame 5 value 3"),
+        (Row::Host(0, 3, Move), "frame 1024"),
+        (Row::Host(0, 3, Move), "frame 3"),
+        (Row::Host(0, 3, Evict), "done"),
+        (Row::Host(0, 4, Move), "frame 1024"),
+        (Row::Host(0, 3, Move), "frame 4"),
+        (Row::Access(3, 0, Read), "frame 4 value 0"),
     ];
-    assert_eq!(rt; first_other(rt.alloc(), 1040, &[0], &rows)?, None);
+    expect(&rt, (first_other(rt.alloc(), 1040, &[0], &rows)?, true));
     Ok(())
 }
 
@@ -277,20 +258,20 @@ fn evicts_a_page(rt: HostRuntime) -> Result<(), Fail> {
 #[test]
 fn protects_a_page(rt: HostRuntime) -> Result<(), Fail> {
     let rows = [
-        (SLOT, Answer::Done),
-        (Row::Host(0, 4, Protect), Answer::Done),
-        (Row::Access(4, 0, Write(1)), Answer::HostFault),
-        (Row::Host(0, 4, Allow), Answer::Done),
-        (Row::Access(4, 0, Write(1)), reached(4, 0)),
-        (Row::Host(0, 6, Protect), Answer::Done),
-        (Row::Host(0, 6, Evict), Answer::Done),
-        (Row::Host(0, 6, Move), Answer::Moved(1024)),
-        (Row::Access(6, 0, Add(1)), Answer::HostFault),
-        (Row::Access(6, 0, Read), reached(1024, 0)),
-        (Row::Access(6, 0, Add(1)), Answer::HostFault),
-        (Row::Access(16, 0, Write(1)), Answer::Mmio),
+        (SLOT, "done"),
+        (Row::Host(0, 4, Protect), "done"),
+        (Row::Access(4, 0, Write(1)), "hostfault"),
+        (Row::Host(0, 4, Allow), "done"),
+        (Row::Access(4, 0, Write(1)), "frame 4 value 0"),
+        (Row::Host(0, 6, Protect), "done"),
+        (Row::Host(0, 6, Evict), "done"),
+        (Row::Host(0, 6, Move), "frame 1024"),
+        (Row::Access(6, 0, Add(1)), "hostfault"),
+        (Row::Access(6, 0, Read), "frame 1024 value 0"),
+        (Row::Access(6, 0, Add(1)), "hostfault"),
+        (Row::Access(16, 0, Write(1)), "mmio"),
     ];
-    assert_eq!(rt; first_other(rt.alloc(), 1040, &[0], &rows)?, None);
+    expect(&rt, (first_other(rt.alloc(), 1040, &[0], &rows)?, true));
     Ok(())
 }
 
@@ -298,22 +279,25 @@ fn protects_a_page(rt: HostRuntime) -> Result<(), Fail> {
 #[test]
 fn moves_within_few_frames(rt: HostRuntime) -> Result<(), Fail> {
     let none_free = [
-        (SLOT, Answer::Done),
-        (Row::Host(0, 0, Move), refused(NoFrame)),
-        (Row::Host(0, 0, Evict), Answer::Done),
-        (Row::Host(0, 0, Move), refused(NoFrame)),
-        (Row::Access(0, 0, Read), reached(0, 0)),
+        (SLOT, "done"),
+        (Row::Host(0, 0, Move), "refused no-frame"),
+        (Row::Host(0, 0, Evict), "done"),
+        (Row::Host(0, 0, Move), "refused no-frame"),
+        (Row::Access(0, 0, Read), "frame 0 value 0"),
     ];
-    assert_eq!(rt; first_other(rt.alloc(), 1024, &[0], &none_free)?, None);
+    expect(
+        &rt,
+        (first_other(rt.alloc(), 1024, &[0], &none_free)?, true),
+    );
     let one_free = [
-        (SLOT, Answer::Done),
-        (Row::Host(0, 7, Move), Answer::Moved(1024)),
-        (Row::Host(0, 8, Move), Answer::Moved(7)),
-        (Row::Host(0, 7, Move), Answer::Moved(8)),
-        (Row::Host(0, 9, Move), Answer::Moved(1024)),
-        (Row::Host(0, 9, Move), Answer::Moved(9)),
+        (SLOT, "done"),
+        (Row::Host(0, 7, Move), "frame 1024"),
+        (Row::Host(0, 8, Move), "frame 7"),
+        (Row::Host(0, 7, Move), "frame 8"),
+        (Row::Host(0, 9, Move), "frame 1024"),
+        (Row::Host(0, 9, Move), "frame 9"),
     ];
-    assert_eq!(rt; first_other(rt.alloc(), 1025, &[0], &one_free)?, None);
+    expect(&rt, (first_other(rt.alloc(), 1025, &[0], &one_free)?, true));
     Ok(())
 }
 
@@ -322,16 +306,19 @@ fn moves_within_few_frames(rt: HostRuntime) -> Result<(), Fail> {
 #[test]
 fn keeps_to_its_own_pages(rt: HostRuntime) -> Result<(), Fail> {
     let rows = [
-        (SLOT, Answer::Done),
-        (Row::Host(0, 512, Move), refused(OutOfRange)),
-        (Row::Host(1, 511, Evict), refused(OutOfRange)),
-        (Row::Host(1, 1024, Protect), refused(OutOfRange)),
-        (Row::Host(1, u64::MAX, Allow), refused(OutOfRange)),
-        (Row::Host(2, 0, Move), refused(OutOfRange)),
-        (Row::Host(0, 511, Move), Answer::Moved(1024)),
-        (Row::Host(1, 512, Move), Answer::Moved(511)),
+        (SLOT, "done"),
+        (Row::Host(0, 512, Move), "refused out-of-range"),
+        (Row::Host(1, 511, Evict), "refused out-of-range"),
+        (Row::Host(1, 1024, Protect), "refused out-of-range"),
+        (Row::Host(1, u64::MAX, Allow), "refused out-of-range"),
+        (Row::Host(2, 0, Move), "refused out-of-range"),
+        (Row::Host(0, 511, Move), "frame 1024"),
+        (Row::Host(1, 512, Move), "frame 511"),
     ];
-    assert_eq!(rt; first_other(rt.alloc(), 1040, &[0, 512], &rows)?, None);
+    expect(
+        &rt,
+        (first_other(rt.alloc(), 1040, &[0, 512], &rows)?, true),
+    );
     Ok(())
 }
 
@@ -339,73 +326,74 @@ fn keeps_to_its_own_pages(rt: HostRuntime) -> Result<(), Fail> {
 // reads. A log that is taken away is forgotten.
 #[test]
 fn reads_an_automatic_log(rt: HostRuntime) -> Result<(), Fail> {
-    let alloc = rt.alloc();
     let rows = [
-        (SLOT, Answer::Done),
-        (Row::Slot(1, 32, 64, true), Answer::Done),
-        (Row::Access(3, 0, Write(1)), reached(3, 0)),
-        (Row::Log(0, true), Answer::Done),
-        (Row::Access(1, 0, Write(7)), reached(1, 0)),
-        (Row::Access(9, 1, Add(1)), reached(9, 0)),
-        (Row::Access(9, 0, Write(2)), reached(9, 0)),
-        (Row::Access(4, 0, Read), reached(4, 0)),
-        (Row::Get(0), bits(alloc, &[0x202])?),
-        (Row::Get(0), bits(alloc, &[0])?),
-        (Row::Access(15, 0, Write(1)), reached(15, 0)),
-        (Row::Access(0, 0, Write(1)), reached(0, 0)),
-        (Row::Clear(0, 0, 16, [0x8000, 0]), bits(alloc, &[0x8000])?),
-        (Row::Get(0), bits(alloc, &[0x1])?),
+        (SLOT, "done"),
+        (Row::Slot(1, 32, 64, true), "done"),
+        (Row::Access(3, 0, Write(1)), "frame 3 value 0"),
+        (Row::Log(0, true), "done"),
+        (Row::Access(1, 0, Write(7)), "frame 1 value 0"),
+        (Row::Access(9, 1, Add(1)), "frame 9 value 0"),
+        (Row::Access(9, 0, Write(2)), "frame 9 value 0"),
+        (Row::Access(4, 0, Read), "frame 4 value 0"),
+        (Row::Get(0), "bits 0x202"),
+        (Row::Get(0), "bits 0x0"),
+        (Row::Access(15, 0, Write(1)), "frame 15 value 0"),
+        (Row::Access(0, 0, Write(1)), "frame 0 value 0"),
+        (Row::Clear(0, 0, 16, [0x8000, 0]), "bits 0x8000"),
+        (Row::Get(0), "bits 0x1"),
         // A protected page is not written, and one of a read-only slot isn't either.
-        (Row::Host(0, 2, Protect), Answer::Done),
-        (Row::Access(2, 0, Write(1)), Answer::HostFault),
-        (Row::Log(1, true), Answer::Done),
-        (Row::Access(32, 0, Write(1)), Answer::Mmio),
-        (Row::Get(1), bits(alloc, &[0])?),
-        (Row::Access(5, 0, Write(1)), reached(5, 0)),
-        (Row::Log(0, false), Answer::Done),
-        (Row::Log(0, true), Answer::Done),
-        (Row::Get(0), bits(alloc, &[0])?),
+        (Row::Host(0, 2, Protect), "done"),
+        (Row::Access(2, 0, Write(1)), "hostfault"),
+        (Row::Log(1, true), "done"),
+        (Row::Access(32, 0, Write(1)), "mmio"),
+        (Row::Get(1), "bits 0x0"),
+        (Row::Access(5, 0, Write(1)), "frame 5 value 0"),
+        (Row::Log(0, false), "done"),
+        (Row::Log(0, true), "done"),
+        (Row::Get(0), "bits 0x0"),
     ];
-    assert_eq!(rt; first_other_log(alloc, 0, &rows)?, None);
+    expect(&rt, (first_other_log(rt.alloc(), 0, &rows)?, true));
     Ok(())
 }
 
 // A slot with a log is not moved or deleted, and keeps its log where it is set again.
 #[test]
 fn refuses_logs(rt: HostRuntime) -> Result<(), Fail> {
-    let alloc = rt.alloc();
     let rows = [
-        (Row::Log(0, true), refused(Missing)),
-        (Row::Log(32, false), refused(Missing)),
-        (Row::Get(0), refused(Missing)),
-        (Row::Clear(0, 1, 1, [0, 0]), refused(Missing)),
-        (SLOT, Answer::Done),
-        (Row::Log(0, false), refused(NoLog)),
-        (Row::Get(0), refused(NoLog)),
-        (Row::Clear(0, 1, 1, [0, 0]), refused(NoLog)),
-        (Row::Log(0, true), Answer::Done),
-        (Row::Log(0, true), refused(Logged)),
-        (Row::Access(6, 0, Write(1)), reached(6, 0)),
-        (Row::Delete(0), refused(Logged)),
-        (Row::Slot(0, 16, 0, false), refused(Logged)),
-        (SLOT, Answer::Done),
+        (Row::Log(0, true), "refused missing"),
+        (Row::Log(32, false), "refused missing"),
+        (Row::Get(0), "refused missing"),
+        (Row::Clear(0, 1, 1, [0, 0]), "refused missing"),
+        (SLOT, "done"),
+        (Row::Log(0, false), "refused no-log"),
+        (Row::Get(0), "refused no-log"),
+        (Row::Clear(0, 1, 1, [0, 0]), "refused no-log"),
+        (Row::Log(0, true), "done"),
+        (Row::Log(0, true), "refused logged"),
+        (Row::Access(6, 0, Write(1)), "frame 6 value 0"),
+        (Row::Delete(0), "refused logged"),
+        (Row::Slot(0, 16, 0, false), "refused logged"),
+        (SLOT, "done"),
         // The pages begin within a word, end within one before the slot's end, or reach past it.
-        (Row::Clear(0, 1, 15, [0, 0]), refused(BadRange)),
-        (Row::Clear(0, 0, 15, [0, 0]), refused(BadRange)),
-        (Row::Clear(0, 0, 64, [0, 0]), refused(BadRange)),
-        (Row::Clear(0, 64, 0, [0, 0]), refused(BadRange)),
-        (Row::Clear(0, 0, u64::MAX, [0, 0]), refused(BadRange)),
-        (Row::Clear(0, u64::MAX - 63, 64, [0, 0]), refused(BadRange)),
-        (Row::Clear(0, 0, 0, [0x40, 0]), bits(alloc, &[])?),
-        (Row::Get(0), bits(alloc, &[0x40])?),
-        (Row::Log(0, false), Answer::Done),
-        (Row::Slot(0, 16, 0, false), Answer::Done),
-        (Row::Log(0, true), Answer::Done),
-        (Row::Get(0), bits(alloc, &[0])?),
-        (Row::Log(0, false), Answer::Done),
-        (Row::Delete(0), Answer::Done),
+        (Row::Clear(0, 1, 15, [0, 0]), "refused bad-range"),
+        (Row::Clear(0, 0, 15, [0, 0]), "refused bad-range"),
+        (Row::Clear(0, 0, 64, [0, 0]), "refused bad-range"),
+        (Row::Clear(0, 64, 0, [0, 0]), "refused bad-range"),
+        (Row::Clear(0, 0, u64::MAX, [0, 0]), "refused bad-range"),
+        (
+            Row::Clear(0, u64::MAX - 63, 64, [0, 0]),
+            "refused bad-range",
+        ),
+        (Row::Clear(0, 0, 0, [0x40, 0]), "bits"),
+        (Row::Get(0), "bits 0x40"),
+        (Row::Log(0, false), "done"),
+        (Row::Slot(0, 16, 0, false), "done"),
+        (Row::Log(0, true), "done"),
+        (Row::Get(0), "bits 0x0"),
+        (Row::Log(0, false), "done"),
+        (Row::Delete(0), "done"),
     ];
-    assert_eq!(rt; first_other_log(alloc, 0, &rows)?, None);
+    expect(&rt, (first_other_log(rt.alloc(), 0, &rows)?, true));
     Ok(())
 }
 
@@ -413,90 +401,83 @@ fn refuses_logs(rt: HostRuntime) -> Result<(), Fail> {
 // count are ignored.
 #[test]
 fn reads_a_manual_log(rt: HostRuntime) -> Result<(), Fail> {
-    let alloc = rt.alloc();
     let rows = [
-        (SLOT, Answer::Done),
-        (Row::Log(0, true), Answer::Done),
-        (Row::Get(0), bits(alloc, &[0])?),
-        (Row::Access(1, 0, Write(7)), reached(1, 0)),
-        (Row::Access(9, 0, Write(7)), reached(9, 0)),
-        (Row::Get(0), bits(alloc, &[0x202])?),
-        (Row::Get(0), bits(alloc, &[0x202])?),
-        (
-            Row::Clear(0, 0, 16, [0xf_0002, u64::MAX]),
-            bits(alloc, &[0x2])?,
-        ),
-        (Row::Get(0), bits(alloc, &[0x200])?),
-        (Row::Access(1, 0, Add(1)), reached(1, 7)),
-        (Row::Get(0), bits(alloc, &[0x202])?),
-        (Row::Clear(0, 0, 16, [0xffff, 0]), bits(alloc, &[0x202])?),
-        (Row::Get(0), bits(alloc, &[0])?),
+        (SLOT, "done"),
+        (Row::Log(0, true), "done"),
+        (Row::Get(0), "bits 0x0"),
+        (Row::Access(1, 0, Write(7)), "frame 1 value 0"),
+        (Row::Access(9, 0, Write(7)), "frame 9 value 0"),
+        (Row::Get(0), "bits 0x202"),
+        (Row::Get(0), "bits 0x202"),
+        (Row::Clear(0, 0, 16, [0xf_0002, u64::MAX]), "bits 0x2"),
+        (Row::Get(0), "bits 0x200"),
+        (Row::Access(1, 0, Add(1)), "frame 1 value 7"),
+        (Row::Get(0), "bits 0x202"),
+        (Row::Clear(0, 0, 16, [0xffff, 0]), "bits 0x202"),
+        (Row::Get(0), "bits 0x0"),
     ];
-    assert_eq!(rt; first_other_log(alloc, 1, &rows)?, None);
+    expect(&rt, (first_other_log(rt.alloc(), 1, &rows)?, true));
     Ok(())
 }
 
 // Each page of a new log is dirty, and those of another slot's aren't.
 #[test]
 fn begins_a_log_all_set(rt: HostRuntime) -> Result<(), Fail> {
-    let alloc = rt.alloc();
     let rows = [
-        (SLOT, Answer::Done),
-        (Row::Slot(1, 16, 64, false), Answer::Done),
-        (Row::Log(0, true), Answer::Done),
-        (Row::Get(0), bits(alloc, &[0xffff])?),
-        (Row::Clear(0, 0, 16, [0xff, 0]), bits(alloc, &[0xff])?),
-        (Row::Get(0), bits(alloc, &[0xff00])?),
-        (Row::Access(3, 0, Write(1)), reached(3, 0)),
-        (Row::Get(0), bits(alloc, &[0xff08])?),
-        (Row::Get(1), refused(NoLog)),
-        (Row::Log(1, true), Answer::Done),
-        (Row::Clear(1, 0, 16, [0x1, 0]), bits(alloc, &[0x1])?),
-        (Row::Get(1), bits(alloc, &[0xfffe])?),
-        (Row::Log(0, false), Answer::Done),
-        (Row::Get(1), bits(alloc, &[0xfffe])?),
-        (Row::Log(0, true), Answer::Done),
-        (Row::Get(0), bits(alloc, &[0xffff])?),
+        (SLOT, "done"),
+        (Row::Slot(1, 16, 64, false), "done"),
+        (Row::Log(0, true), "done"),
+        (Row::Get(0), "bits 0xffff"),
+        (Row::Clear(0, 0, 16, [0xff, 0]), "bits 0xff"),
+        (Row::Get(0), "bits 0xff00"),
+        (Row::Access(3, 0, Write(1)), "frame 3 value 0"),
+        (Row::Get(0), "bits 0xff08"),
+        (Row::Get(1), "refused no-log"),
+        (Row::Log(1, true), "done"),
+        (Row::Clear(1, 0, 16, [0x1, 0]), "bits 0x1"),
+        (Row::Get(1), "bits 0xfffe"),
+        (Row::Log(0, false), "done"),
+        (Row::Get(1), "bits 0xfffe"),
+        (Row::Log(0, true), "done"),
+        (Row::Get(0), "bits 0xffff"),
     ];
-    assert_eq!(rt; first_other_log(alloc, 2, &rows)?, None);
+    expect(&rt, (first_other_log(rt.alloc(), 2, &rows)?, true));
     Ok(())
 }
 
 // Bit 0 of the second word is of page 64, and its last one of page 99.
 #[test]
 fn reads_a_log_of_two_words(rt: HostRuntime) -> Result<(), Fail> {
-    let alloc = rt.alloc();
-    let high = 0x8000_0000_0000_0000;
     let automatic = [
-        (Row::Large(3, 1000, 100), Answer::Done),
-        (Row::Log(3, true), Answer::Done),
-        (Row::Access(1063, 0, Write(1)), reached(0x3f, 0)),
-        (Row::Access(1064, 0, Write(1)), reached(0x40, 0)),
-        (Row::Get(3), bits(alloc, &[high, 0x1])?),
-        (Row::Get(3), bits(alloc, &[0, 0])?),
+        (Row::Large(3, 1000, 100), "done"),
+        (Row::Log(3, true), "done"),
+        (Row::Access(1063, 0, Write(1)), "frame 63 value 0"),
+        (Row::Access(1064, 0, Write(1)), "frame 64 value 0"),
+        (Row::Get(3), "bits 0x8000000000000000 0x1"),
+        (Row::Get(3), "bits 0x0 0x0"),
     ];
-    assert_eq!(rt; first_other_log(alloc, 0, &automatic)?, None);
+    expect(&rt, (first_other_log(rt.alloc(), 0, &automatic)?, true));
     let all_set = [
-        (Row::Large(3, 1000, 100), Answer::Done),
-        (Row::Log(3, true), Answer::Done),
-        (Row::Get(3), bits(alloc, &[u64::MAX, 0xf_ffff_ffff])?),
+        (Row::Large(3, 1000, 100), "done"),
+        (Row::Log(3, true), "done"),
+        (Row::Get(3), "bits 0xffffffffffffffff 0xfffffffff"),
         (
             Row::Clear(3, 64, 36, [0x8_0000_0001, 0]),
-            bits(alloc, &[0x8_0000_0001])?,
+            "bits 0x800000001",
         ),
-        (Row::Get(3), bits(alloc, &[u64::MAX, 0x7_ffff_fffe])?),
+        (Row::Get(3), "bits 0xffffffffffffffff 0x7fffffffe"),
         (
             Row::Clear(3, 0, 64, [u64::MAX - 1, u64::MAX]),
-            bits(alloc, &[u64::MAX - 1])?,
+            "bits 0xfffffffffffffffe",
         ),
-        (Row::Get(3), bits(alloc, &[0x1, 0x7_ffff_fffe])?),
-        (Row::Access(1099, 0, Write(1)), reached(99, 0)),
+        (Row::Get(3), "bits 0x1 0x7fffffffe"),
+        (Row::Access(1099, 0, Write(1)), "frame 99 value 0"),
         (
             Row::Clear(3, 0, 100, [0x3, 0x8_0000_0003]),
-            bits(alloc, &[0x1, 0x8_0000_0002])?,
+            "bits 0x1 0x800000002",
         ),
-        (Row::Get(3), bits(alloc, &[0, 0x7_ffff_fffc])?),
+        (Row::Get(3), "bits 0x0 0x7fffffffc"),
     ];
-    assert_eq!(rt; first_other_log(alloc, 2, &all_set)?, None);
+    expect(&rt, (first_other_log(rt.alloc(), 2, &all_set)?, true));
     Ok(())
 }

@@ -2,6 +2,8 @@
 #![tactic(auto)]
 
 #[cfg(test)]
+mod expected;
+#[cfg(test)]
 mod flat_tests;
 #[cfg(test)]
 mod slot_set_tests;

@@ -1,6 +1,7 @@
 //! Sets of memory slots: what is set, moved, deleted, logged and refused, and the slot of a
 //! guest frame.
 
+use crate::expected::expect;
 use core_views::{MemorySlot, Refusal, Slot, SlotSet};
 use std::test::Fail;
 
@@ -75,25 +76,25 @@ fn first_elsewhere(set: &SlotSet, all: &[(u64, Option<(u64, MemorySlot)>)]) -> O
     None
 }
 
-#[test]
-fn is_empty_at_first(rt: HostRuntime) -> Result<(), Fail> {
+fn empty_set() -> (Option<usize>, bool) {
     let mut set = SlotSet::empty();
-    assert_eq!(rt;
-        (set.get(0), set.get(31), set.slot_of(0)),
-        (None, None, None)
-    );
+    let has_none = set.get(0).is_none() && set.get(31).is_none() && set.slot_of(0).is_none();
     let calls = [
         (Call::Delete(0), Err(Refusal::Missing)),
         (Call::Log(0, false), Err(Refusal::Missing)),
     ];
-    assert_eq!(rt; first_other(&mut set, 1024, &calls), None);
-    Ok(())
+    (first_other(&mut set, 1024, &calls), has_none)
 }
 
 #[test]
-fn refuses_a_slot(rt: HostRuntime) -> Result<(), Fail> {
+fn is_empty_at_first(rt: HostRuntime) -> Result<(), Fail> {
+    expect(&rt, empty_set());
+    Ok(())
+}
+
+fn refused_slots() -> (Option<usize>, bool) {
     let mut set = first_slot();
-    assert_eq!(rt; set.get(0), Some(writable(0, 16, 0, false)));
+    let has_first = set.get(0) == Some(writable(0, 16, 0, false));
     let calls = [
         (Call::Set(0, 0, 17, 0, false), Err(Refusal::Resize)),
         (Call::Set(0, 0, 16, 64, false), Err(Refusal::Fixed)),
@@ -104,13 +105,17 @@ fn refuses_a_slot(rt: HostRuntime) -> Result<(), Fail> {
         (Call::Set(40, 100, 16, 64, false), Err(Refusal::BadId)),
         (Call::Delete(1), Err(Refusal::Missing)),
     ];
-    assert_eq!(rt; first_other(&mut set, 1024, &calls), None);
-    assert!(rt; set == first_slot());
-    Ok(())
+    let first = first_other(&mut set, 1024, &calls);
+    (first, has_first && set == first_slot())
 }
 
 #[test]
-fn answers_the_first_refusal(rt: HostRuntime) -> Result<(), Fail> {
+fn refuses_a_slot(rt: HostRuntime) -> Result<(), Fail> {
+    expect(&rt, refused_slots());
+    Ok(())
+}
+
+fn first_refusals() -> Option<usize> {
     let mut set = first_slot();
     let calls = [
         (Call::Set(1, 100, 16, 64, false), Ok(())),
@@ -123,12 +128,16 @@ fn answers_the_first_refusal(rt: HostRuntime) -> Result<(), Fail> {
         (Call::Set(0, 100, 16, 0, false), Err(Refusal::Logged)),
         (Call::Set(2, 8, 16, 8, false), Err(Refusal::Overlap)),
     ];
-    assert_eq!(rt; first_other(&mut set, 1024, &calls), None);
-    Ok(())
+    first_other(&mut set, 1024, &calls)
 }
 
 #[test]
-fn keeps_the_dirty_log(rt: HostRuntime) -> Result<(), Fail> {
+fn answers_the_first_refusal(rt: HostRuntime) -> Result<(), Fail> {
+    expect(&rt, (first_refusals(), true));
+    Ok(())
+}
+
+fn logged_slot() -> (Option<usize>, bool) {
     let mut set = first_slot();
     let begun = [
         (Call::Log(0, false), Err(Refusal::NoLog)),
@@ -136,37 +145,45 @@ fn keeps_the_dirty_log(rt: HostRuntime) -> Result<(), Fail> {
         (Call::Log(0, true), Err(Refusal::Logged)),
         (Call::Set(0, 0, 16, 0, false), Ok(())),
     ];
-    assert_eq!(rt; first_other(&mut set, 1024, &begun), None);
-    assert_eq!(rt; set.get(0), Some(writable(0, 16, 0, true)));
-    assert_eq!(rt; set.delete(0), Err(Refusal::Logged));
-    assert_eq!(rt; set.get(0), Some(writable(0, 16, 0, true)));
-    assert_eq!(rt; set.with_log(0, false), Ok(()));
-    assert!(rt; set == first_slot());
+    let first = first_other(&mut set, 1024, &begun);
+    let is_logged = set.get(0) == Some(writable(0, 16, 0, true));
+    let is_refused = set.delete(0) == Err(Refusal::Logged);
+    let is_kept = set.get(0) == Some(writable(0, 16, 0, true));
+    let is_ended = set.with_log(0, false) == Ok(()) && set == first_slot();
+    (first, is_logged && is_refused && is_kept && is_ended)
+}
+
+#[test]
+fn keeps_the_dirty_log(rt: HostRuntime) -> Result<(), Fail> {
+    expect(&rt, logged_slot());
     Ok(())
+}
+
+// A slot moves, is deleted, and another one is set on its pages.
+fn moved_and_deleted() -> bool {
+    let mut set = first_slot();
+    let moves = set.set(0, 8, 16, 0, false, 1024) == Ok(());
+    let moved = [(7, None), (8, Some((0, writable(8, 16, 0, false))))];
+    let is_moved = first_elsewhere(&set, &moved).is_none();
+    let is_deleted = set.delete(0) == Ok(()) && set.slot_of(8).is_none();
+    let is_empty = set == SlotSet::empty();
+    let is_set = set.set(1, 8, 16, 8, true, 1024) == Ok(()) && set.get(0).is_none();
+    moves && is_moved && is_deleted && is_empty && is_set
 }
 
 #[test]
 fn moves_and_deletes(rt: HostRuntime) -> Result<(), Fail> {
-    let mut set = first_slot();
-    assert_eq!(rt; set.set(0, 8, 16, 0, false, 1024), Ok(()));
-    let moved = [(7, None), (8, Some((0, writable(8, 16, 0, false))))];
-    assert_eq!(rt; first_elsewhere(&set, &moved), None);
-    assert_eq!(rt; set.delete(0), Ok(()));
-    assert_eq!(rt; set.slot_of(8), None);
-    assert!(rt; set == SlotSet::empty());
-    assert_eq!(rt; set.set(1, 8, 16, 8, true, 1024), Ok(()));
-    assert_eq!(rt; set.get(0), None);
+    expect(&rt, (None, moved_and_deleted()));
     Ok(())
 }
 
-#[test]
-fn finds_the_slot_of_a_guest_frame(rt: HostRuntime) -> Result<(), Fail> {
+fn found_slots() -> (Option<usize>, bool) {
     let mut set = first_slot();
     let calls = [
         (Call::Set(7, 16, 16, 64, false), Ok(())),
         (Call::Set(2, 32, 16, 16, false), Ok(())),
     ];
-    assert_eq!(rt; first_other(&mut set, 1024, &calls), None);
+    let first = first_other(&mut set, 1024, &calls);
     let all = [
         (0, Some((0, writable(0, 16, 0, false)))),
         (15, Some((0, writable(0, 16, 0, false)))),
@@ -175,43 +192,41 @@ fn finds_the_slot_of_a_guest_frame(rt: HostRuntime) -> Result<(), Fail> {
         (32, Some((2, writable(32, 16, 16, false)))),
         (48, None),
     ];
-    assert_eq!(rt; first_elsewhere(&set, &all), None);
-    Ok(())
+    (first, first_elsewhere(&set, &all).is_none())
 }
 
 #[test]
-fn sets_the_last_slot(rt: HostRuntime) -> Result<(), Fail> {
+fn finds_the_slot_of_a_guest_frame(rt: HostRuntime) -> Result<(), Fail> {
+    expect(&rt, found_slots());
+    Ok(())
+}
+
+fn last_slot() -> (Option<usize>, bool) {
     let mut set = first_slot();
+    let last = FRAMES - 1;
     let calls = [
         (
             Call::Set(31, FRAMES, 1, 1023, false),
             Err(Refusal::TooLarge),
         ),
-        (
-            Call::Set(31, FRAMES - 1, 2, 64, false),
-            Err(Refusal::TooLarge),
-        ),
-        (
-            Call::Set(31, FRAMES - 1, 1, 1024, false),
-            Err(Refusal::TooLarge),
-        ),
-        (Call::Set(31, FRAMES - 1, 1, 1023, false), Ok(())),
-    ];
-    assert_eq!(rt; first_other(&mut set, 1024, &calls), None);
-    assert_eq!(rt;
-        set.slot_of(FRAMES - 1),
-        Some((31, writable(FRAMES - 1, 1, 1023, false)))
-    );
-    let others = [
+        (Call::Set(31, last, 2, 64, false), Err(Refusal::TooLarge)),
+        (Call::Set(31, last, 1, 1024, false), Err(Refusal::TooLarge)),
+        (Call::Set(31, last, 1, 1023, false), Ok(())),
         (Call::Set(32, 100, 1, 64, false), Err(Refusal::BadId)),
         (Call::Delete(32), Err(Refusal::BadId)),
     ];
-    assert_eq!(rt; first_other(&mut set, 1024, &others), None);
-    Ok(())
+    let first = first_other(&mut set, 1024, &calls);
+    let slot = Some((31, writable(last, 1, 1023, false)));
+    (first, set.slot_of(last) == slot)
 }
 
 #[test]
-fn takes_numbers_of_every_size(rt: HostRuntime) -> Result<(), Fail> {
+fn sets_the_last_slot(rt: HostRuntime) -> Result<(), Fail> {
+    expect(&rt, last_slot());
+    Ok(())
+}
+
+fn large_numbers() -> (Option<usize>, bool) {
     const MAX: u64 = u64::MAX;
     let mut set = first_slot();
     let calls = [
@@ -226,14 +241,29 @@ fn takes_numbers_of_every_size(rt: HostRuntime) -> Result<(), Fail> {
         (Call::Delete(MAX), Err(Refusal::BadId)),
         (Call::Log(MAX, true), Err(Refusal::Missing)),
     ];
-    assert_eq!(rt; first_other(&mut set, MAX, &calls), None);
-    assert_eq!(rt; (set.get(MAX), set.slot_of(MAX)), (None, None));
+    let first = first_other(&mut set, MAX, &calls);
+    (first, set.get(MAX).is_none() && set.slot_of(MAX).is_none())
+}
+
+#[test]
+fn takes_numbers_of_every_size(rt: HostRuntime) -> Result<(), Fail> {
+    expect(&rt, large_numbers());
     Ok(())
+}
+
+// The first of these refusals with another name.
+fn first_misnamed(names: &[(Refusal, &str)]) -> Option<usize> {
+    for (i, (refusal, name)) in names.iter().enumerate() {
+        if refusal.name() != *name {
+            return Some(i);
+        }
+    }
+    None
 }
 
 #[test]
 fn names_each_refusal(rt: HostRuntime) -> Result<(), Fail> {
-    for (refusal, name) in [
+    let names = [
         (Refusal::Missing, "missing"),
         (Refusal::Logged, "logged"),
         (Refusal::NoLog, "no-log"),
@@ -241,8 +271,7 @@ fn names_each_refusal(rt: HostRuntime) -> Result<(), Fail> {
         (Refusal::Fixed, "fixed"),
         (Refusal::Overlap, "overlap"),
         (Refusal::HostOverlap, "host-overlap"),
-    ] {
-        assert_eq!(rt; refusal.name(), name);
-    }
+    ];
+    expect(&rt, (first_misnamed(&names), true));
     Ok(())
 }

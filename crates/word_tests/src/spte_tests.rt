@@ -1,31 +1,60 @@
 //! Entries, host words, flags and the map of words, by their numbers.
 
+use crate::expected::expect;
 use spte_words::{Area, HostWord, SlotFlags, Spte, SpteKind, WordMap};
 use std::test::Fail;
 
+// The first pair of numbers that aren't the same.
+fn first_other(pairs: &[(u64, u64)]) -> Option<usize> {
+    for (i, (found, wanted)) in pairs.iter().enumerate() {
+        if found != wanted {
+            return Some(i);
+        }
+    }
+    None
+}
+
+fn entry_words() -> (Option<usize>, bool) {
+    let leaf = Spte::leaf(1, 1, true, true, true);
+    let words = [
+        (leaf.word(), 0x600000000001807),
+        (leaf.without_write().word(), 0x600000000001805),
+        (Spte::table(3).word(), 0x3807),
+        (Spte::absent().word(), 0),
+        (Spte::frozen().word(), 0x5a0),
+    ];
+    (
+        first_other(&words),
+        leaf.without_write().with_write() == leaf,
+    )
+}
+
 #[test]
 fn entries_are_these_words(rt: HostRuntime) -> Result<(), Fail> {
-    let leaf = Spte::leaf(1, 1, true, true, true);
-    assert_eq!(rt; leaf.word(), 0x600000000001807);
-    assert_eq!(rt; leaf.without_write().word(), 0x600000000001805);
-    assert_eq!(rt; leaf.without_write().with_write(), leaf);
-    assert_eq!(rt; Spte::table(3).word(), 0x3807);
-    assert_eq!(rt; Spte::absent().word(), 0);
-    assert_eq!(rt; Spte::frozen().word(), 0x5a0);
+    expect(&rt, entry_words());
     Ok(())
+}
+
+fn kinds_by_level() -> bool {
+    let is_table = Spte::from_word(0x3807).kind(4) == SpteKind::Table(3);
+    let is_leaf = Spte::from_word(0x3807).kind(1) == SpteKind::Leaf;
+    let is_frozen = Spte::from_word(0x5a0).kind(2) == SpteKind::Frozen;
+    let is_absent = Spte::from_word(0).kind(2) == SpteKind::Absent;
+    is_table && is_leaf && is_frozen && is_absent
+}
+
+fn large_leaf() -> (Option<usize>, bool) {
+    let large = Spte::from_word(0x600000000200887);
+    let numbers = [(large.frame(), 512), (Spte::level_span(3), 262_144)];
+    let is_leaf = large.kind(2) == SpteKind::Leaf;
+    let is_writable = large.is_writable() && large.is_host_writable() && large.is_mmu_writable();
+    (first_other(&numbers), is_leaf && is_writable)
 }
 
 #[test]
 fn entries_are_read_by_level(rt: HostRuntime) -> Result<(), Fail> {
-    assert_eq!(rt; Spte::from_word(0x3807).kind(4), SpteKind::Table(3));
-    assert_eq!(rt; Spte::from_word(0x3807).kind(1), SpteKind::Leaf);
-    assert_eq!(rt; Spte::from_word(0x5a0).kind(2), SpteKind::Frozen);
-    assert_eq!(rt; Spte::from_word(0).kind(2), SpteKind::Absent);
-    let large = Spte::from_word(0x600000000200887);
-    assert_eq!(rt; large.kind(2), SpteKind::Leaf);
-    assert_eq!(rt; large.frame(), 512);
-    assert!(rt; large.is_writable() && large.is_host_writable() && large.is_mmu_writable());
-    assert_eq!(rt; Spte::level_span(3), 262_144);
+    let (first, is_large) = large_leaf();
+    expect(&rt, (first, is_large && kinds_by_level()));
     Ok(())
 }
 
@@ -42,34 +71,57 @@ fn children_of_a_large_leaf(rt: HostRuntime) -> Result<(), Fail> {
     Ok(())
 }
 
+fn host_words() -> (Option<usize>, bool) {
+    let host = HostWord::new(5, true, true, 1);
+    let huge = HostWord::from_word(0x20000d);
+    let numbers = [
+        (host.word(), 4096 * 5 + 7),
+        (u64::from(huge.level()), 3),
+        (huge.frame(), 512),
+    ];
+    let is_read_only = huge.is_present() && !huge.is_writable();
+    (
+        first_other(&numbers),
+        is_read_only && HostWord::from_word(20487) == host,
+    )
+}
+
+fn slot_flags() -> (Option<usize>, bool) {
+    let flags = SlotFlags::new(true, false, true);
+    let is_so = flags.is_live() && !flags.is_read_only() && flags.is_logged();
+    (
+        first_other(&[(flags.word(), 5)]),
+        is_so && SlotFlags::from_word(5) == flags,
+    )
+}
+
 #[test]
 fn host_words_and_flags(rt: HostRuntime) -> Result<(), Fail> {
-    let host = HostWord::new(5, true, true, 1);
-    assert_eq!(rt; host.word(), 4096 * 5 + 7);
-    let huge = HostWord::from_word(0x20000d);
-    assert!(rt; huge.is_present() && !huge.is_writable());
-    assert_eq!(rt; huge.level(), 3);
-    assert_eq!(rt; huge.frame(), 512);
-    let flags = SlotFlags::new(true, false, true);
-    assert_eq!(rt; flags.word(), 5);
-    assert!(rt; flags.is_live() && !flags.is_read_only() && flags.is_logged());
-    assert_eq!(rt; SlotFlags::from_word(5), flags);
-    assert_eq!(rt; HostWord::from_word(20487), host);
+    expect(&rt, host_words());
+    expect(&rt, slot_flags());
     Ok(())
+}
+
+#[tactic(auto, unfolding(spte_words::specs::Areas::total))]
+fn map_places() -> (Option<usize>, bool) {
+    let map = WordMap::new(1024, 1040, 1, 64, 5);
+    let places = [
+        (u64::from(map.word_of_root(0)), 0),
+        (u64::from(map.word_of_lock(0)), 6),
+        (u64::from(map.word_of_state(4)), 12),
+        (u64::from(map.word_of_host(0)), 47),
+        (u64::from(map.word_of_content(0)), 33903),
+        (u64::from(map.total()), 34943),
+        (u64::from(map.pool_index(2, 3)), 1027),
+        (u64::from(map.content_index(7, 0)), 7),
+    ];
+    let is_state = map.area_of(12) == (Area::State, 4);
+    let is_pool = map.area_of(33902) == (Area::Pool, 32767);
+    (first_other(&places), is_state && is_pool)
 }
 
 #[test]
 fn places_of_a_map(rt: HostRuntime) -> Result<(), Fail> {
-    let map = WordMap::new(1024, 1040, 1, 64, 5);
-    assert_eq!(rt; map.word_of_root(0), 0);
-    assert_eq!(rt; map.word_of_lock(0), 6);
-    assert_eq!(rt; map.word_of_state(4), 12);
-    assert_eq!(rt; map.word_of_host(0), 47);
-    assert_eq!(rt; map.word_of_content(0), 33903);
-    assert_eq!(rt; map.total(), 34943);
-    assert_eq!(rt; map.area_of(12), (Area::State, 4));
-    assert_eq!(rt; map.area_of(33902), (Area::Pool, 32767));
-    assert_eq!(rt; map.pool_index(2, 3), 1027);
-    assert_eq!(rt; map.content_index(7, 0), 7);
+    expect(&rt, map_places());
     Ok(())
 }
