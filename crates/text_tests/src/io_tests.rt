@@ -1,6 +1,8 @@
 //! Sources and sinks, in memory and of std, whole and failing.
 
+use crate::expected::expect;
 use core_views::Actor;
+use std::alloc::Global;
 use std::io;
 use std::test::Fail;
 use tdp_io::{
@@ -29,64 +31,83 @@ impl io::Write for Broken {
 }
 
 // 65,536 sevens and three nines: the first read gives the sevens, the second fails.
+fn reads_nines_after_a_fault(alloc: Global) -> Result<bool, Fail> {
+    let mut bytes = vec![in alloc; 7; 65_536]?;
+    bytes.extend_from_slice(&[9, 9, 9])?;
+    let mut source = MemSource::new(bytes, vec![in alloc; 1]?);
+    let is_fault = matches!(read_all(alloc, &mut source)?, Input::Fault);
+    match read_all(alloc, &mut source)? {
+        Input::Bytes(rest) => Ok(is_fault && rest.as_slice() == [9, 9, 9].as_slice()),
+        Input::Fault => Ok(false),
+    }
+}
+
 #[test]
 fn reads_on_after_a_fault(rt: HostRuntime) -> Result<(), Fail> {
-    let mut bytes = vec![in rt.alloc(); 7; 65_536]?;
-    bytes.extend_from_slice(&[9, 9, 9])?;
-    let mut source = MemSource::new(bytes, vec![in rt.alloc(); 1]?);
-    assert!(rt; matches!(read_all(rt.alloc(), &mut source)?, Input::Fault));
-    match read_all(rt.alloc(), &mut source)? {
-        Input::Bytes(rest) => assert_eq!(rt; rest.as_slice(), [9, 9, 9].as_slice()),
-        Input::Fault => assert!(rt; false, "the third read does not fail"),
-    }
+    expect(&rt, reads_nines_after_a_fault(rt.alloc())?);
     Ok(())
+}
+
+fn reads_each_chunk(alloc: Global) -> Result<bool, Fail> {
+    let bytes = vec![in alloc; 7; 200_000]?;
+    let mut source = MemSource::new(bytes, Vec::new(alloc));
+    match read_all(alloc, &mut source)? {
+        Input::Bytes(read) => Ok(read.len() == 200_000),
+        Input::Fault => Ok(false),
+    }
 }
 
 #[test]
 fn reads_many_chunks(rt: HostRuntime) -> Result<(), Fail> {
-    let bytes = vec![in rt.alloc(); 7; 200_000]?;
-    let mut source = MemSource::new(bytes, Vec::new(rt.alloc()));
-    match read_all(rt.alloc(), &mut source)? {
-        Input::Bytes(read) => assert_eq!(rt; read.len(), 200_000),
-        Input::Fault => assert!(rt; false, "no read fails"),
-    }
+    expect(&rt, reads_each_chunk(rt.alloc())?);
     Ok(())
+}
+
+fn writes_one_of_two(alloc: Global) -> Result<bool, Fail> {
+    let mut sink = MemSink::new(alloc, vec![in alloc; 1]?);
+    if write_all(&mut sink, b"one ").is_err() {
+        return Ok(false);
+    }
+    let is_failed = write_all(&mut sink, b"two ") == Err(Stop::Failed);
+    Ok(is_failed && sink.bytes() == b"one ".as_slice())
 }
 
 #[test]
 fn stops_at_a_fault(rt: HostRuntime) -> Result<(), Fail> {
-    let mut sink = MemSink::new(rt.alloc(), vec![in rt.alloc(); 1]?);
-    assert_eq!(rt; write_all(&mut sink, b"one "), Ok(()));
-    assert_eq!(rt; write_all(&mut sink, b"two "), Err(Stop::Failed));
-    assert_eq!(rt; sink.bytes(), b"one ".as_slice());
+    expect(&rt, writes_one_of_two(rt.alloc())?);
     Ok(())
+}
+
+fn reads_abc() -> bool {
+    let mut source = StdSource::new(b"abc".as_slice());
+    let mut buf = [0; 2];
+    let has_two = source.read(&mut buf) == Pulled::Got(2) && buf == [97, 98];
+    let has_one = source.read(&mut buf) == Pulled::Got(1) && buf[0] == 99;
+    has_two && has_one && source.read(&mut buf) == Pulled::End
 }
 
 #[test]
 fn reads_from_std(rt: HostRuntime) {
-    let mut source = StdSource::new(b"abc".as_slice());
     let mut buf = [0; 2];
-    assert_eq!(rt; source.read(&mut buf), Pulled::Got(2));
-    assert_eq!(rt; buf, [97, 98]);
-    assert_eq!(rt; source.read(&mut buf), Pulled::Got(1));
-    assert_eq!(rt; buf[0], 99);
-    assert_eq!(rt; source.read(&mut buf), Pulled::End);
-    assert_eq!(rt; StdSource::new(Broken).read(&mut buf), Pulled::Failed);
+    let is_failed = StdSource::new(Broken).read(&mut buf) == Pulled::Failed;
+    expect(&rt, is_failed && reads_abc());
+}
+
+// A writer that has room for four bytes, and takes nothing then.
+fn writes_four() -> bool {
+    let mut room = [0; 4];
+    let mut sink = StdSink::new(room.as_mut_slice());
+    if sink.write(b"abc") != Output::Took(3) || sink.write(b"def") != Output::Took(1) {
+        return false;
+    }
+    let is_failed = sink.write(b"ef") == Output::Failed;
+    is_failed && room == [97, 98, 99, 100]
 }
 
 #[test]
 fn writes_to_std(rt: HostRuntime) {
-    let mut room = [0; 4];
-    let mut sink = StdSink::new(room.as_mut_slice());
-    assert_eq!(rt; sink.write(b"abc"), Output::Took(3));
-    assert_eq!(rt; sink.write(b"def"), Output::Took(1));
-    assert_eq!(rt;
-        sink.write(b"ef"),
-        Output::Failed,
-        "a writer that takes nothing"
-    );
-    assert_eq!(rt; StdSink::new(Broken).write(b"abc"), Output::Failed);
-    assert_eq!(rt; room, [97, 98, 99, 100]);
+    let is_failed = StdSink::new(Broken).write(b"abc") == Output::Failed;
+    expect(&rt, is_failed && writes_four());
 }
 
 #[test]

@@ -1,5 +1,6 @@
 //! What is read of `go` and of schedule items.
 
+use crate::expected::expect_all;
 use core_views::{Item, Trace, Until};
 use std::alloc::Global;
 use std::test::Fail;
@@ -84,12 +85,50 @@ const TABLE: &str = "\
 2 word|v0 > end;\n\
 ";
 
-const KINDS: &str = "enter leave walk read write add \
-    begin end control slot host bring swap mark \
-    share unshare exclude release claim fill give \
-    set zap ask await change copy frame unframe \
-    publish watch freeze child thaw reroot \
-    take protect pause page peek arm";
+// The name of each kind, in the order of their numbers; `end` has a meaning of its own.
+const KINDS: &str = "\
+0 - w0#1|> w0 enter;\n\
+0 - w0#2|> w0 leave;\n\
+0 - w0#3|> w0 walk;\n\
+0 - w0#4|> w0 read;\n\
+0 - w0#5|> w0 write;\n\
+0 - w0#6|> w0 add;\n\
+0 - w0#7|> w0 begin;\n\
+0 - w0.|> w0 end;\n\
+0 - w0#9|> w0 control;\n\
+0 - w0#10|> w0 slot;\n\
+0 - w0#11|> w0 host;\n\
+0 - w0#12|> w0 bring;\n\
+0 - w0#13|> w0 swap;\n\
+0 - w0#14|> w0 mark;\n\
+0 - w0#15|> w0 share;\n\
+0 - w0#16|> w0 unshare;\n\
+0 - w0#17|> w0 exclude;\n\
+0 - w0#18|> w0 release;\n\
+0 - w0#19|> w0 claim;\n\
+0 - w0#20|> w0 fill;\n\
+0 - w0#21|> w0 give;\n\
+0 - w0#22|> w0 set;\n\
+0 - w0#23|> w0 zap;\n\
+0 - w0#24|> w0 ask;\n\
+0 - w0#25|> w0 await;\n\
+0 - w0#26|> w0 change;\n\
+0 - w0#27|> w0 copy;\n\
+0 - w0#28|> w0 frame;\n\
+0 - w0#29|> w0 unframe;\n\
+0 - w0#30|> w0 publish;\n\
+0 - w0#31|> w0 watch;\n\
+0 - w0#32|> w0 freeze;\n\
+0 - w0#33|> w0 child;\n\
+0 - w0#34|> w0 thaw;\n\
+0 - w0#35|> w0 reroot;\n\
+0 - w0#36|> w0 take;\n\
+0 - w0#37|> w0 protect;\n\
+0 - w0#38|> w0 pause;\n\
+0 - w0#39|> w0 page;\n\
+0 - w0#40|> w0 peek;\n\
+0 - w0#41|> w0 arm;\n\
+";
 
 fn item_text(alloc: Global, item: &Item) -> Result<String, Fail> {
     let actor = item.actor;
@@ -131,36 +170,28 @@ fn answer(alloc: Global, lines: &str) -> Result<String, Fail> {
     }
 }
 
-#[test]
-fn answers_the_table(rt: HostRuntime) -> Result<(), Fail> {
-    let alloc = rt.alloc();
-    let mut cases = 0u8;
-    for case in TABLE.split('\n') {
+// How many cases of the table are answered so, one after another, and the first one that isn't.
+fn first_other<'t>(alloc: Global, table: &'t str) -> Result<(usize, Option<&'t str>), Fail> {
+    let mut count = 0usize;
+    for case in table.split('\n') {
         if let Some((wanted, text)) = case.split_once('|') {
-            let given = answer(alloc, text)?;
-            assert!(rt; given.as_str() == wanted, "{case}");
-            cases = cases.saturating_add(1);
+            if answer(alloc, text)?.as_str() != wanted {
+                return Ok((count, Some(case)));
+            }
+            count = count.saturating_add(1);
         }
     }
-    assert_eq!(rt; cases, 69);
+    Ok((count, None))
+}
+
+#[test]
+fn answers_the_table(rt: HostRuntime) -> Result<(), Fail> {
+    expect_all(&rt, first_other(rt.alloc(), TABLE)?, 69);
     Ok(())
 }
 
 #[test]
 fn knows_each_kind(rt: HostRuntime) -> Result<(), Fail> {
-    let alloc = rt.alloc();
-    let mut code = 0u8;
-    for name in KINDS.split(' ') {
-        code = code.saturating_add(1);
-        let text = format!(in alloc; "> w0 {name};")?;
-        let wanted = if code == 8 {
-            format!(in alloc; "0 - w0.")?
-        } else {
-            format!(in alloc; "0 - w0#{code}")?
-        };
-        let given = answer(alloc, text.as_str())?;
-        assert!(rt; given.as_str() == wanted.as_str(), "{name}");
-    }
-    assert_eq!(rt; code, 41);
+    expect_all(&rt, first_other(rt.alloc(), KINDS)?, 41);
     Ok(())
 }

@@ -1,5 +1,6 @@
 //! How many pool pages a trace needs.
 
+use crate::expected::expect_none;
 use core_views::{Actor, Command, Header, HostChange, Line, Lines, Op, Slot, Trace, Words};
 use std::alloc::Global;
 use std::test::Fail;
@@ -64,51 +65,55 @@ fn needs(alloc: Global, pages: u64, slots: &[(u64, u64)]) -> Result<u64, Fail> {
     Ok(need(alloc, &trace)?)
 }
 
+// The first of these machines (its pages, and the slots of the trace) whose trace needs another number of pages.
+fn first_other(alloc: Global, cases: &[(u64, &[(u64, u64)], u64)]) -> Result<Option<usize>, Fail> {
+    for (i, (pages, slots, count)) in cases.iter().enumerate() {
+        if needs(alloc, *pages, slots)? != *count {
+            return Ok(Some(i));
+        }
+    }
+    Ok(None)
+}
+
 #[test]
 fn counts_the_tables_of_one_slot(rt: HostRuntime) -> Result<(), Fail> {
-    let alloc = rt.alloc();
-    for (pages, slots, count) in [
-        (1024, [].as_slice(), 4),
-        (1024, [(0, 16)].as_slice(), 7),
-        (1024, [(0, 512)].as_slice(), 7),
-        (1024, [(510, 4)].as_slice(), 8),
-        (1024, [((1 << 18) - 1, 2)].as_slice(), 9),
-        (1024, [((1 << 27) - 1, 2)].as_slice(), 10),
-        (262_144, [(0, 262_144)].as_slice(), 518),
-        (1_048_576, [(0, 1_048_576)].as_slice(), 2057),
-    ] {
-        assert_eq!(rt; needs(alloc, pages, slots)?, count, "of {slots:?}");
-    }
+    let cases: [(u64, &[(u64, u64)], u64); 8] = [
+        (1024, &[], 4),
+        (1024, &[(0, 16)], 7),
+        (1024, &[(0, 512)], 7),
+        (1024, &[(510, 4)], 8),
+        (1024, &[((1 << 18) - 1, 2)], 9),
+        (1024, &[((1 << 27) - 1, 2)], 10),
+        (262_144, &[(0, 262_144)], 518),
+        (1_048_576, &[(0, 1_048_576)], 2057),
+    ];
+    expect_none(&rt, first_other(rt.alloc(), &cases)?);
     Ok(())
 }
 
 #[test]
 fn counts_a_table_once(rt: HostRuntime) -> Result<(), Fail> {
-    let alloc = rt.alloc();
-    for (pages, slots, count) in [
-        (1024, [(0, 16), (100, 16)].as_slice(), 7),
-        (1024, [(1024, 1), (0, 600)].as_slice(), 9),
-        (1024, [(512, 1024), (0, 1024)].as_slice(), 9),
-        (1024, [(0, 1024), (10, 5), (900, 200)].as_slice(), 9),
-    ] {
-        assert_eq!(rt; needs(alloc, pages, slots)?, count, "of {slots:?}");
-    }
+    let cases: [(u64, &[(u64, u64)], u64); 4] = [
+        (1024, &[(0, 16), (100, 16)], 7),
+        (1024, &[(1024, 1), (0, 600)], 9),
+        (1024, &[(512, 1024), (0, 1024)], 9),
+        (1024, &[(0, 1024), (10, 5), (900, 200)], 9),
+    ];
+    expect_none(&rt, first_other(rt.alloc(), &cases)?);
     Ok(())
 }
 
 #[test]
 fn leaves_out_slots_that_do_not_count(rt: HostRuntime) -> Result<(), Fail> {
-    let alloc = rt.alloc();
-    for (pages, slots, count) in [
-        (1024, [(0, 0)].as_slice(), 4),
-        (16, [(0, 16)].as_slice(), 7),
-        (16, [(0, 17)].as_slice(), 4),
-        (16, [((1 << 36) - 4, 4)].as_slice(), 7),
-        (16, [((1 << 36) - 3, 4)].as_slice(), 4),
-        (16, [(u64::MAX, 4)].as_slice(), 4),
-        (u64::MAX, [(1, u64::MAX)].as_slice(), 4),
-    ] {
-        assert_eq!(rt; needs(alloc, pages, slots)?, count, "of {slots:?}");
-    }
+    let cases: [(u64, &[(u64, u64)], u64); 7] = [
+        (1024, &[(0, 0)], 4),
+        (16, &[(0, 16)], 7),
+        (16, &[(0, 17)], 4),
+        (16, &[((1 << 36) - 4, 4)], 7),
+        (16, &[((1 << 36) - 3, 4)], 4),
+        (16, &[(u64::MAX, 4)], 4),
+        (u64::MAX, &[(1, u64::MAX)], 4),
+    ];
+    expect_none(&rt, first_other(rt.alloc(), &cases)?);
     Ok(())
 }

@@ -1,5 +1,6 @@
 //! What is read of an input, and what is refused and why.
 
+use crate::expected::{expect, expect_all, expect_none};
 use core_views::{Actor, Command, Header, HostChange, Line, Op, Slot};
 use std::alloc::{AllocError, Global};
 use std::test::Fail;
@@ -358,18 +359,23 @@ fn is_refused(alloc: Global, bytes: Vec<u8>, line: u32, reason: Reason) -> Resul
     }
 }
 
-#[test]
-fn answers_the_table(rt: HostRuntime) -> Result<(), Fail> {
-    let alloc = rt.alloc();
-    let mut cases = 0u16;
-    for case in TABLE.split('\n') {
+// How many cases of the table are answered so, one after another, and the first one that isn't.
+fn first_other<'t>(alloc: Global, table: &'t str) -> Result<(usize, Option<&'t str>), Fail> {
+    let mut count = 0usize;
+    for case in table.split('\n') {
         if let Some((wanted, text)) = case.split_once('|') {
-            let given = answer(alloc, input(alloc, text.as_bytes())?)?;
-            assert!(rt; given.as_str() == wanted, "{case}");
-            cases = cases.saturating_add(1);
+            if answer(alloc, input(alloc, text.as_bytes())?)?.as_str() != wanted {
+                return Ok((count, Some(case)));
+            }
+            count = count.saturating_add(1);
         }
     }
-    assert_eq!(rt; cases, 284);
+    Ok((count, None))
+}
+
+#[test]
+fn answers_the_table(rt: HostRuntime) -> Result<(), Fail> {
+    expect_all(&rt, first_other(rt.alloc(), TABLE)?, 284);
     Ok(())
 }
 
@@ -388,25 +394,41 @@ fn filled(
     Ok(bytes)
 }
 
+// The first of these inputs (a text, so many of a byte after it, and an end) that isn't refused at this line for
+// this reason.
+fn first_unrefused(
+    alloc: Global,
+    inputs: &[(&str, u8, usize, &str, u32, Reason)],
+) -> Result<Option<usize>, Fail> {
+    for (i, (text, byte, count, end, line, reason)) in inputs.iter().enumerate() {
+        let bytes = filled(alloc, text, *byte, *count, end)?;
+        if !is_refused(alloc, bytes, *line, *reason)? {
+            return Ok(Some(i));
+        }
+    }
+    Ok(None)
+}
+
 #[test]
 fn refuses_long_inputs(rt: HostRuntime) -> Result<(), Fail> {
-    let alloc = rt.alloc();
-    for (count, end, reason) in [
-        (16_777_216, "", Reason::Cut),
-        (16_777_217, "", Reason::Size),
-        (16_777_215, "\n", Reason::Long),
-        (16_777_216, "\n", Reason::Size),
-    ] {
-        let bytes = filled(alloc, "", b'x', count, end)?;
-        assert!(rt; is_refused(alloc, bytes, 1, reason)?);
-    }
+    let inputs = [
+        ("", b'x', 16_777_216, "", 1, Reason::Cut),
+        ("", b'x', 16_777_217, "", 1, Reason::Size),
+        ("", b'x', 16_777_215, "\n", 1, Reason::Long),
+        ("", b'x', 16_777_216, "\n", 1, Reason::Size),
+    ];
+    expect_none(&rt, first_unrefused(rt.alloc(), &inputs)?);
     Ok(())
+}
+
+fn reads_the_longest(alloc: Global) -> Result<bool, Fail> {
+    let longest = answer(alloc, filled(alloc, "&%", b'#', 65_536, "\n")?)?;
+    Ok(longest.as_str() == "1 lines")
 }
 
 #[test]
 fn refuses_long_lines(rt: HostRuntime) -> Result<(), Fail> {
-    let alloc = rt.alloc();
-    for (text, byte, count, end, line, reason) in [
+    let inputs = [
         ("&%", b'x', 65_536, "\n", 3, Reason::Word),
         ("&%", b'x', 65_537, "\n", 3, Reason::Long),
         ("&%", b'#', 65_537, "\n", 3, Reason::Long),
@@ -415,12 +437,9 @@ fn refuses_long_lines(rt: HostRuntime) -> Result<(), Fail> {
         ("", b'x', 65_536, "\n", 1, Reason::Header),
         ("", b'x', 65_537, "\n", 1, Reason::Long),
         ("&%", b'x', 65_537, "", 3, Reason::Cut),
-    ] {
-        let bytes = filled(alloc, text, byte, count, end)?;
-        assert!(rt; is_refused(alloc, bytes, line, reason)?);
-    }
-    let longest = answer(alloc, filled(alloc, "&%", b'#', 65_536, "\n")?)?;
-    assert!(rt; longest.as_str() == "1 lines");
+    ];
+    expect_none(&rt, first_unrefused(rt.alloc(), &inputs)?);
+    expect(&rt, reads_the_longest(rt.alloc())?);
     Ok(())
 }
 
@@ -448,25 +467,33 @@ fn padded(alloc: Global, count: usize) -> Result<Vec<u8>, AllocError> {
     Ok(bytes)
 }
 
-#[test]
-fn refuses_many_lines(rt: HostRuntime) -> Result<(), Fail> {
-    let alloc = rt.alloc();
-    let most = answer(alloc, full(alloc, b"v1 read 8\n")?)?;
-    assert!(rt; most.as_str() == "999999 lines");
+// Whether so many lines are read, and one more is refused, of whatever text.
+fn refuses_one_more(alloc: Global) -> Result<bool, Fail> {
     for text in ["v1 read 8\n", "\n", "cut"] {
         let bytes = over_full(alloc, b"v1 read 8\n", text.as_bytes())?;
-        assert!(rt; is_refused(alloc, bytes, 1_000_001, Reason::Lines)?);
+        if !is_refused(alloc, bytes, 1_000_001, Reason::Lines)? {
+            return Ok(false);
+        }
     }
+    let most = answer(alloc, full(alloc, b"v1 read 8\n")?)?;
+    Ok(most.as_str() == "999999 lines")
+}
+
+#[test]
+fn refuses_many_lines(rt: HostRuntime) -> Result<(), Fail> {
+    expect(&rt, refuses_one_more(rt.alloc())?);
     Ok(())
+}
+
+// Whether an input of many lines and so many bytes is refused for this reason.
+fn refuses_padded(alloc: Global, count: usize, reason: Reason) -> Result<bool, Fail> {
+    is_refused(alloc, padded(alloc, count)?, 1_000_001, reason)
 }
 
 #[test]
 fn refuses_many_lines_before_many_bytes(rt: HostRuntime) -> Result<(), Fail> {
-    let alloc = rt.alloc();
-    for (count, reason) in [(16_777_216, Reason::Lines), (16_777_217, Reason::Size)] {
-        let bytes = padded(alloc, count)?;
-        assert!(rt; is_refused(alloc, bytes, 1_000_001, reason)?);
-    }
+    expect(&rt, refuses_padded(rt.alloc(), 16_777_216, Reason::Lines)?);
+    expect(&rt, refuses_padded(rt.alloc(), 16_777_217, Reason::Size)?);
     Ok(())
 }
 
@@ -488,19 +515,26 @@ fn many_answer(alloc: Global, text: &str) -> Result<String, Fail> {
     answer(alloc, bytes)
 }
 
+// The first of these texts after which another answer is given.
+fn first_other_end(alloc: Global, ends: &[(&str, &str)]) -> Result<Option<usize>, Fail> {
+    for (i, (text, wanted)) in ends.iter().enumerate() {
+        if many_answer(alloc, text)?.as_str() != *wanted {
+            return Ok(Some(i));
+        }
+    }
+    Ok(None)
+}
+
 #[test]
 fn reads_ids_that_come_again(rt: HostRuntime) -> Result<(), Fail> {
-    let alloc = rt.alloc();
-    for (text, wanted) in [
+    let ends = [
         ("vm slot 99999 0 1 0\n", "50001 lines"),
         ("vm slot 0xc351 0 1 0\n", "50001 lines"),
         ("vm slot 1 0 1 0\n", "50001 lines"),
         ("vm slot 50000 0 1 0\n", "50001 lines"),
         ("vm slot 0 0 1 0\nvm slot 100000 0 1 0\n", "50002 lines"),
-    ] {
-        let given = many_answer(alloc, text)?;
-        assert!(rt; given.as_str() == wanted, "{text}");
-    }
+    ];
+    expect_none(&rt, first_other_end(rt.alloc(), &ends)?);
     Ok(())
 }
 
@@ -563,13 +597,15 @@ fn is_read(alloc: Global, bytes: Vec<u8>, lines: &[Line]) -> Result<bool, Fail> 
     }
 }
 
+// Whether the input of `&%` and this text is read, and is the header and these lines.
+fn is_read_after_slot(alloc: Global, text: &str, lines: &[Line]) -> Result<bool, Fail> {
+    is_read(alloc, after_slot(alloc, text)?, lines)
+}
+
 #[test]
 fn reads_a_trace(rt: HostRuntime) -> Result<(), Fail> {
-    let alloc = rt.alloc();
-    let bytes = after_slot(
-        alloc,
-        "v1 read 0x12018\nv0 write 8 0xff\n\n# c\nv0 add 0 18446744073709551615\nh1 allow 0x2a\nh0 evict 7\nh1 move 9\n",
-    )?;
+    let text =
+        "v1 read 0x12018\nv0 write 8 0xff\n\n# c\nv0 add 0 18446744073709551615\nh1 allow 0x2a\nh0 evict 7\nh1 move 9\n";
     let lines = [
         slot_line(2),
         access_line(3, 1, 18, 3, Op::Read),
@@ -579,14 +615,13 @@ fn reads_a_trace(rt: HostRuntime) -> Result<(), Fail> {
         host_line(9, 0, 7, HostChange::Evict),
         host_line(10, 1, 9, HostChange::Move),
     ];
-    assert!(rt; is_read(alloc, bytes, &lines)?);
+    expect(&rt, is_read_after_slot(rt.alloc(), text, &lines)?);
     Ok(())
 }
 
 // The slot line of `%`, and deletions, of which the ID alone is kept.
 #[test]
 fn reads_deletions(rt: HostRuntime) -> Result<(), Fail> {
-    let alloc = rt.alloc();
     let text = "vm slot 0 0 0 0\nvm slot 0x28 0x5 0x0 0x40 ro\nvm slot 0 0x10 32 64\n";
     let lines = [
         slot_line(2),
@@ -594,14 +629,17 @@ fn reads_deletions(rt: HostRuntime) -> Result<(), Fail> {
         deletion_line(4, 40),
         slot_line(5),
     ];
-    assert!(rt; is_read(alloc, after_slot(alloc, text)?, &lines)?);
+    expect(&rt, is_read_after_slot(rt.alloc(), text, &lines)?);
     Ok(())
+}
+
+fn tells_a_fault(alloc: Global) -> Result<bool, Fail> {
+    let mut failing = MemSource::new(after_slot(alloc, "")?, vec![in alloc; 0]?);
+    Ok(matches!(read_trace(alloc, &mut failing)?, Read::ReadFault))
 }
 
 #[test]
 fn tells_a_failed_read(rt: HostRuntime) -> Result<(), Fail> {
-    let alloc = rt.alloc();
-    let mut failing = MemSource::new(after_slot(alloc, "")?, vec![in alloc; 0]?);
-    assert!(rt; matches!(read_trace(alloc, &mut failing)?, Read::ReadFault));
+    expect(&rt, tells_a_fault(rt.alloc())?);
     Ok(())
 }

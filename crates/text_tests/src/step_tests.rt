@@ -1,5 +1,6 @@
 //! The lines of steps.
 
+use crate::expected::expect_text;
 use core_views::{Actor, Answer, Item, LogMode, NoMemory, Refusal, Sizes, Until};
 use spte_words::{Area, WordMap};
 use std::alloc::Global;
@@ -84,8 +85,9 @@ fn tells_entries_by_the_role_of_their_page(rt: HostRuntime) -> Result<(), Fail> 
         turn(20, Area::Pool, 515, 6, 0x4807, 0),
     ];
     let text = told(rt.alloc(), &rows, &[Ending::GoesOn])?;
-    assert_eq!(rt;
-        text.as_str(),
+    expect_text(
+        &rt,
+        &text,
         "\
 1 v0 walk pool[0][0] 0x4807 (link 4)
 1 v0 walk pool[3][17] 0x0 (absent)
@@ -98,7 +100,7 @@ fn tells_entries_by_the_role_of_their_page(rt: HostRuntime) -> Result<(), Fail> 
 1 v0 slot pool[1][3] 0x1000
 1 v0 fill pool[1][3] 0x0 -> 0x4807
 1 v0 fill pool[1][3] 0x4807 -> 0x0
-"
+",
     );
     Ok(())
 }
@@ -118,8 +120,9 @@ fn tells_host_words_and_state_words(rt: HostRuntime) -> Result<(), Fail> {
         turn(31, Area::State, 4, 0, 1, 1),
     ];
     let text = told(rt.alloc(), &rows, &[Ending::GoesOn])?;
-    assert_eq!(rt;
-        text.as_str(),
+    expect_text(
+        &rt,
+        &text,
         "\
 1 v0 host host[5] 0x5007 (frame 5 rw)
 1 v0 bring host[5] 0x5006 (absent frame 5 rw) -> 0x5007 (frame 5 rw)
@@ -131,7 +134,7 @@ fn tells_host_words_and_state_words(rt: HostRuntime) -> Result<(), Fail> {
 1 v0 watch state[h0] 0x6 (in section, flush asked)
 1 v0 watch state[vm] 0x4 (outside, flush asked)
 1 v0 watch state[w0] 0x1 (in guest)
-"
+",
     );
     Ok(())
 }
@@ -161,8 +164,9 @@ fn tells_other_words_by_their_number(rt: HostRuntime) -> Result<(), Fail> {
         turn(5, Area::Content, 11, 0, 0, 0xffff_ffff_ffff_ffff),
     ];
     let text = told(rt.alloc(), &rows, &[Ending::GoesOn])?;
-    assert_eq!(rt;
-        text.as_str(),
+    expect_text(
+        &rt,
+        &text,
         "\
 1 v0 control root 0x0
 1 v0 publish slots 0x1 -> 0x2
@@ -177,7 +181,7 @@ fn tells_other_words_by_their_number(rt: HostRuntime) -> Result<(), Fail> {
 1 v0 mark log[0] 0x0 -> 0x8
 1 v0 fill role[3] 0x0 -> 0x1
 1 v0 write content[5][1] 0x0 -> 0xffffffffffffffff
-"
+",
     );
     Ok(())
 }
@@ -210,8 +214,9 @@ fn tells_how_turns_end(rt: HostRuntime) -> Result<(), Fail> {
         Ending::Answers(&refused),
     ];
     let text = told(alloc, &[turn(15, Area::Lock, 0, 0, 2, 3)], &endings)?;
-    assert_eq!(rt;
-        text.as_str(),
+    expect_text(
+        &rt,
+        &text,
         "\
 1 v0 share lock 0x2 -> 0x3
 1 v0 share lock 0x2 -> 0x3 waits
@@ -221,7 +226,7 @@ fn tells_how_turns_end(rt: HostRuntime) -> Result<(), Fail> {
 1 v0 share lock 0x2 -> 0x3 answers frame 1 value 0
 1 v0 share lock 0x2 -> 0x3 answers done
 1 v0 share lock 0x2 -> 0x3 answers refused bad-id
-"
+",
     );
     Ok(())
 }
@@ -249,14 +254,15 @@ fn tells_fills_as_one_line(rt: HostRuntime) -> Result<(), Fail> {
         fills(u64::MAX, 2, Actor::Worker(0), Area::Pool, 32766, u64::MAX),
     ];
     let text = told(rt.alloc(), &rows, &[Ending::GoesOn])?;
-    assert_eq!(rt;
-        text.as_str(),
+    expect_text(
+        &rt,
+        &text,
         "\
 21-532 v0 fill pool[2][0..511] 0x0
 40-41 h0 fill content[5][0..1] 0x0 -> 0x7
 533 vm fill pool[2][1] 0x0 -> 0x1
 18446744073709551615-18446744073709551616 w0 fill pool[63][510..511] 0x0 -> 0xffffffffffffffff
-"
+",
     );
     Ok(())
 }
@@ -277,7 +283,7 @@ fn items(alloc: Global) -> Result<String, NoMemory> {
 #[test]
 fn tells_items_and_rounds(rt: HostRuntime) -> Result<(), Fail> {
     let text = items(rt.alloc())?;
-    assert_eq!(rt; text.as_str(), "> v0 12\n> v0 end\n> h1 claim\nrounds\n");
+    expect_text(&rt, &text, "> v0 12\n> v0 end\n> h1 claim\nrounds\n");
     Ok(())
 }
 
