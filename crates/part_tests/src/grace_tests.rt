@@ -4,11 +4,13 @@ ghost use Rattle.std.specs.Prelude.{◌≡◌};
 ghost use Rattle.grace_period.specs.Watches.{watched_next};
 ghost use Rattle.part_steps.specs.PartBounds.{PartRests};
 
+use crate::expected::expect;
 use crate::{HEAD, expect_actor, machine_of};
 use core_views::{Actor, Hand, NoMemory, Seen};
 use grace_period::{Watch, begin, end};
 use mmu_core::{allows, part_rests};
 use part_steps::{PartStep, next_watched};
+use std::alloc::Global;
 use std::test::Fail;
 use step_seats::{PlainMachine, Stepper, Turn, make_part};
 
@@ -124,11 +126,24 @@ const H0_IN_SECTION: Option<Turn<()>> = Some(Turn::Wait(Seen { word: 10, value: 
 
 const VM_IN_SECTION: Option<Turn<()>> = Some(Turn::Wait(Seen { word: 11, value: 2 }));
 
+// The first of these acts, one after another at a machine with one watch, of which something else comes.
+fn first_other(
+    alloc: Global,
+    rows: &[(Actor, Act, Option<Turn<()>>)],
+) -> Result<Option<usize>, Fail> {
+    let mut machine = machine_of(alloc, HEAD, "")?;
+    let mut watch = Watch::new();
+    for (i, (actor, act, want)) in rows.iter().enumerate() {
+        if does(&mut machine, &mut watch, *actor, *act)? != *want {
+            return Ok(Some(i));
+        }
+    }
+    Ok(None)
+}
+
 #[test]
 fn managers_watch_waits_for_each_section(rt: HostRuntime) -> Result<(), Fail> {
-    let mut machine = machine_of(rt.alloc(), HEAD, "")?;
-    let mut watch = Watch::new();
-    for (actor, act, want) in [
+    let rows = [
         (V0, BEGIN, DONE),
         (VM, Act::Look, V0_IN_SECTION),
         (VM, Act::Look, V0_IN_SECTION),
@@ -144,18 +159,14 @@ fn managers_watch_waits_for_each_section(rt: HostRuntime) -> Result<(), Fail> {
         (H0, END, DONE),
         (VM, Act::Look, DONE),
         (VM, Act::Look, None),
-    ] {
-        let came = does(&mut machine, &mut watch, actor, act)?;
-        assert_eq!(rt; came, want, "{actor:?}");
-    }
+    ];
+    expect(&rt, (first_other(rt.alloc(), &rows)?, true));
     Ok(())
 }
 
 #[test]
 fn next_watch_begins_with_the_first(rt: HostRuntime) -> Result<(), Fail> {
-    let mut machine = machine_of(rt.alloc(), HEAD, "")?;
-    let mut watch = Watch::new();
-    for (actor, act, want) in [
+    let rows = [
         (VM, Act::Look, MORE),
         (VM, Act::Look, MORE),
         (V0, BEGIN, DONE),
@@ -164,18 +175,14 @@ fn next_watch_begins_with_the_first(rt: HostRuntime) -> Result<(), Fail> {
         (VM, Act::Look, MORE),
         (VM, Act::Look, MORE),
         (VM, Act::Look, DONE),
-    ] {
-        let came = does(&mut machine, &mut watch, actor, act)?;
-        assert_eq!(rt; came, want, "{actor:?}");
-    }
+    ];
+    expect(&rt, (first_other(rt.alloc(), &rows)?, true));
     Ok(())
 }
 
 #[test]
 fn watch_skips_its_own_actor(rt: HostRuntime) -> Result<(), Fail> {
-    let mut machine = machine_of(rt.alloc(), HEAD, "")?;
-    let mut watch = Watch::new();
-    for (actor, act, want) in [
+    let rows = [
         (V0, BEGIN, DONE),
         (V1, BEGIN, DONE),
         (V0, Act::Look, V1_IN_SECTION),
@@ -191,26 +198,20 @@ fn watch_skips_its_own_actor(rt: HostRuntime) -> Result<(), Fail> {
         (V1, Act::Look, MORE),
         (H0, BEGIN, DONE),
         (V1, Act::Look, H0_IN_SECTION),
-    ] {
-        let came = does(&mut machine, &mut watch, actor, act)?;
-        assert_eq!(rt; came, want, "{actor:?}");
-    }
+    ];
+    expect(&rt, (first_other(rt.alloc(), &rows)?, true));
     Ok(())
 }
 
 #[test]
 fn sections_do_not_nest(rt: HostRuntime) -> Result<(), Fail> {
-    let mut machine = machine_of(rt.alloc(), HEAD, "")?;
-    let mut watch = Watch::new();
-    for (act, want) in [
-        (END, None),
-        (BEGIN, DONE),
-        (BEGIN, None),
-        (END, DONE),
-        (BEGIN, DONE),
-    ] {
-        let came = does(&mut machine, &mut watch, H0, act)?;
-        assert_eq!(rt; came, want);
-    }
+    let rows = [
+        (H0, END, None),
+        (H0, BEGIN, DONE),
+        (H0, BEGIN, None),
+        (H0, END, DONE),
+        (H0, BEGIN, DONE),
+    ];
+    expect(&rt, (first_other(rt.alloc(), &rows)?, true));
     Ok(())
 }

@@ -13,6 +13,8 @@ pub use machines::{
 };
 
 #[cfg(test)]
+mod expected;
+#[cfg(test)]
 mod find_tests;
 #[cfg(test)]
 mod grace_tests;

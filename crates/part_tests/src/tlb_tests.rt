@@ -1,8 +1,10 @@
 //! A virtual processor goes into the guest and out of it, at a machine.
+use crate::expected::expect;
 use crate::{HEAD, expect_actor, last_word, machine_of};
 use core_views::{Actor, NoMemory};
 use mmu_core::allows;
 use part_steps::PartStep;
+use std::alloc::Global;
 use std::test::Fail;
 use step_seats::{PlainMachine, Stepper};
 use vcpu_tlb::{Entered, enter, leave, paused};
@@ -43,23 +45,34 @@ fn goes(machine: &mut PlainMachine, step: PartStep, note: u64) -> Result<(Came, 
     Ok((came, seat.hand().cache().len()))
 }
 
+// The first of these steps, one after another, of which something else comes, or with which the processor has a
+// translation cached; and whether its state word is 0 at last.
+fn first_other(
+    alloc: Global,
+    rows: &[(PartStep, u64, Came)],
+) -> Result<(Option<usize>, bool), Fail> {
+    let mut machine = machine_of(alloc, HEAD, "")?;
+    for (i, (step, note, want)) in rows.iter().enumerate() {
+        let (came, cached) = goes(&mut machine, *step, *note)?;
+        if came != *want || cached != 0 {
+            return Ok((Some(i), false));
+        }
+    }
+    Ok((None, last_word(machine, 8) == Some(0)))
+}
+
 // Virtual processor 0 looks at the pause, enters and leaves. No step asks for a flush, so
 // that `Flushed` is never reached.
 #[test]
 fn enters_and_leaves(rt: HostRuntime) -> Result<(), Fail> {
-    let mut machine = machine_of(rt.alloc(), HEAD, "")?;
-    for (step, note, want) in [
+    let rows = [
         (PartStep::Pause, 0, Came::Paused(false)),
         (PartStep::Leave, 0, Came::NotAllowed),
         (PartStep::Enter, 1, Came::Entered(Entered::In)),
         (PartStep::Enter, 0, Came::NotAllowed),
         (PartStep::Leave, 0, Came::Left),
         (PartStep::Leave, 0, Came::NotAllowed),
-    ] {
-        let came = goes(&mut machine, step, note)?;
-        assert_eq!(rt; came, (want, 0));
-    }
-    // the state word of v0
-    assert_eq!(rt; last_word(machine, 8), Some(0));
+    ];
+    expect(&rt, first_other(rt.alloc(), &rows)?);
     Ok(())
 }
