@@ -3,6 +3,7 @@ ghost use Rattle.std.specs.Prelude.{◌≡◌, ◌<◌};
 ghost use Rattle.core_views.specs.Sizes.{AreSizes};
 ghost use Rattle.host_map.specs.Touching.{touch_kind};
 
+use crate::expected::expect;
 use core_views::{Actor, HostLook, Kind, NoMemory, Op, Sizes, StepKind};
 use host_map::{Changed, bring_in, change, load, look, touch};
 use mmu_core::{allows, next_kind, part_rests, rests};
@@ -10,6 +11,7 @@ use part_steps::{PartStep, map_of};
 use part_tests::{
     HEAD_OF_POOL_8, expect_actor, first_other, go_to, is_next, machine_of, machine_with_slot,
 };
+use std::alloc::Global;
 use std::test::Fail;
 use step_seats::{PlainMachine, Stepper};
 
@@ -128,19 +130,31 @@ fn held(page: u64, word: u64) -> Option<(u64, Option<HostLook>)> {
     Some((word, Some(HostLook { page, word })))
 }
 
+// The first of these pages of which a look says something else.
+fn first_other_look(
+    alloc: Global,
+    rows: &[(u64, Option<(u64, Option<HostLook>)>)],
+) -> Result<Option<usize>, Fail> {
+    let mut machine = machine_of(alloc, HEAD_OF_POOL_8, "")?;
+    for (i, (page, want)) in rows.iter().enumerate() {
+        if looked(&mut machine, *page)? != *want {
+            return Ok(Some(i));
+        }
+    }
+    Ok(None)
+}
+
 // Each page is at the frame of its own number at first, present, writable and
 // small. There is no page 70.
 #[test]
 fn looks_at_a_page(rt: HostRuntime) -> Result<(), Fail> {
-    let mut machine = machine_of(rt.alloc(), HEAD_OF_POOL_8, "")?;
-    for (page, want) in [
+    let rows = [
         (0, held(0, 7)),
         (66, held(66, PRESENT)),
         (69, held(69, 4096 * 69 + 7)),
         (70, None),
-    ] {
-        assert_eq!(rt; looked(&mut machine, page)?, want);
-    }
+    ];
+    expect(&rt, (first_other_look(rt.alloc(), &rows)?, true));
     Ok(())
 }
 
@@ -169,14 +183,17 @@ fn other_content(machine: PlainMachine) -> (usize, Option<usize>) {
     (words.len(), None)
 }
 
+fn touches_word_1(alloc: Global) -> Result<bool, Fail> {
+    let mut machine = machine_with_slot(alloc, HEAD_OF_POOL_8, TOUCHES)?;
+    let is_found = touched(&mut machine)? == [Some(0), Some(77), Some(75), None];
+    Ok(is_found && other_content(machine) == (4452, None))
+}
+
 // A write, an add and a read of one word, each the touch of a line, as its word of
 // all 4,452 holds them. The write's line puts three tables and the leaf before.
 #[test]
 fn touches_a_word(rt: HostRuntime) -> Result<(), Fail> {
-    let mut machine = machine_with_slot(rt.alloc(), HEAD_OF_POOL_8, TOUCHES)?;
-    let found = touched(&mut machine)?;
-    let want = [Some(0), Some(77), Some(75), None];
-    assert_eq!(rt; (found, other_content(machine)), (want, (4452, None)));
+    expect(&rt, (None, touches_word_1(rt.alloc())?));
     Ok(())
 }
 
@@ -232,24 +249,33 @@ fn changed(machine: &mut PlainMachine) -> Result<[Option<Changed>; 3], Fail> {
     Ok([first, again, last])
 }
 
-// A page is taken away, and looked at by h0 again and by both processors. The first one brings it
-// in: the second one's exchange is lost, and so is that of h0, which tries again with the word
-// that it found.
-#[test]
-fn brings_a_page_in_once(rt: HostRuntime) -> Result<(), Fail> {
-    let mut machine = machine_with_slot(rt.alloc(), HEAD_OF_POOL_8, ABSENCE)?;
-    let taken = take_away(&mut machine)?;
-    let brought = brought(&mut machine)?;
-    let changed = changed(&mut machine)?;
+// Whether the page is taken away, brought in once and changed as it is to be.
+fn brings_page_66_in(machine: &mut PlainMachine) -> Result<bool, Fail> {
     let set = Some(Changed::Set);
     let lost = Some(Changed::Lost(PRESENT));
     let look = Some(HostLook {
         page: 66,
         word: PRESENT,
     });
-    let brings = [(set, look), (None, look), (lost, look)];
-    assert_eq!(rt; (taken, brought, changed), (set, brings, [lost, None, set]));
+    let is_taken = take_away(machine)? == set;
+    let is_brought = brought(machine)? == [(set, look), (None, look), (lost, look)];
+    let is_changed = changed(machine)? == [lost, None, set];
+    Ok(is_taken && is_brought && is_changed)
+}
+
+// The same at a machine of its own, and whether the page is present at last.
+fn brings_in_at_a_machine(alloc: Global) -> Result<bool, Fail> {
+    let mut machine = machine_with_slot(alloc, HEAD_OF_POOL_8, ABSENCE)?;
+    let is_in = brings_page_66_in(&mut machine)?;
     // the host words begin at word 18
-    assert_eq!(rt; first_other(machine, &[(18 + 66, PRESENT)]), (4452, None));
+    Ok(is_in && first_other(machine, &[(18 + 66, PRESENT)]) == (4452, None))
+}
+
+// A page is taken away, and looked at by h0 again and by both processors. The first one brings it
+// in: the second one's exchange is lost, and so is that of h0, which tries again with the word
+// that it found.
+#[test]
+fn brings_a_page_in_once(rt: HostRuntime) -> Result<(), Fail> {
+    expect(&rt, (None, brings_in_at_a_machine(rt.alloc())?));
     Ok(())
 }

@@ -3,6 +3,8 @@
 #![tactic(auto)]
 
 #[cfg(test)]
+mod expected;
+#[cfg(test)]
 mod frame_claim_tests;
 #[cfg(test)]
 mod host_move_tests;
