@@ -58,6 +58,7 @@ new_beginning (place.Access (Fault (fault.End end_of.Installed))) is = absurd (c
 new_beginning (place.Access (Fault (fault.End end_of.Mmio))) is = absurd (cc is)
 new_beginning (place.Access (Fault (fault.End end_of.HostFault))) is = absurd (cc is)
 new_beginning (place.Access (Fault (fault.End end_of.Starved))) is = absurd (cc is)
+new_beginning (place.Access (Fault (fault.End (end_of.NotFast found)))) is = absurd (cc is)
 new_beginning (place.Access (Fault _)) is = absurd (cc is)
 new_beginning (place.Access (Enter again)) is = absurd (cc is)
 new_beginning (place.Access (Pause again)) is = absurd (cc is)

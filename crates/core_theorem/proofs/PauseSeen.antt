@@ -7,7 +7,7 @@ use Rattle.core_views.specs.declared.kind.StepKind.TheVariants as kind
 use Rattle.core_views.specs.declared.place.AccessPlace.{AccessPlace}
 use Rattle.core_views.specs.declared.place.AccessPlace.TheVariants.{Pause, Root, Walk, Touch, Leave, Fault}
 use Rattle.core_views.specs.declared.place.FaultEnd.{FaultEnd}
-use Rattle.core_views.specs.declared.place.FaultEnd.TheVariants.{Installed, Retry}
+use Rattle.core_views.specs.declared.place.FaultEnd.TheVariants.{Installed, NotFast, Retry}
 use Rattle.core_views.specs.declared.place.FaultNext.{FaultNext}
 use Rattle.core_views.specs.declared.place.FaultNext.TheVariants as next_of
 use Rattle.core_views.specs.declared.place.Leaving.TheVariants as leaving
@@ -107,6 +107,7 @@ module _ (z : Sizes) (w : World Held) (ss : List (Step Kind)) (s : Step Kind) (G
   ends_saw : (e : FaultEnd) → SawNow (place_after (behind_fault (next_of.Ends e)))
   ends_saw Installed = tt
   ends_saw (Retry cause) = tt
+  ends_saw (NotFast found) = tt
   ends_saw _ = tt
 
   fault_saw : (n : FaultNext) → SawNow (place_after (behind_fault n))
@@ -126,7 +127,8 @@ module _ (z : Sizes) (w : World Held) (ss : List (Step Kind)) (s : Step Kind) (G
       walked again (kind_of h.topics.walk.level v) (allows_access (is_write op) v)
       (longer (code_of kind.Walk) (ap (λ (k : Kind). k.code) K.is) (λ e. absurd (omega (arith, e))) (λ e. absurd (omega (arith, e))) S)
   access_saw (Leave (leaving.Reached frame value)) gfn word op K S = tt
-  access_saw (Leave leaving.Faults) gfn word op K S = tt
+  access_saw (Leave (leaving.Faults true)) gfn word op K S = tt
+  access_saw (Leave (leaving.Faults false)) gfn word op K S = tt
   access_saw (Fault p) gfn word op K S = fault_saw (fault_next p h.state.sizes gfn (is_write op) h.topics v)
   access_saw _ gfn word op K S = tt
 

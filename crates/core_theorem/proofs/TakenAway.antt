@@ -79,6 +79,7 @@ misses_entry z w ss s G legal M =
       gfn = M.gfn;
       word = M.word;
       op = M.op;
+      fast = M.fast;
       at = M.at;
       access_is = M.access_is;
       misses = M.misses;

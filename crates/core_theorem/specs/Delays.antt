@@ -116,9 +116,10 @@ pub record MissesEntry (z : Sizes) (w : World Held) (ss : List (Step Kind)) (s :
   pub gfn : ℕ
   pub word : ℕ
   pub op : Op
+  pub fast : Bool
   pub at : (hand_of w ss s).state.place ≡ place.Access (access.Walk true)
   pub access_is : (hand_of w ss s).state.line.command ≡ Access gfn word op
-  pub misses : outcome_of (hand_of w ss s) (answer_of w ss s) ≡ Goes (place.Access (access.Leave leaving.Faults))
+  pub misses : outcome_of (hand_of w ss s) (answer_of w ss s) ≡ Goes (place.Access (access.Leave (leaving.Faults fast)))
   pub taken : WasTakenAway z s.actor gfn (is_write op) w ss
 
 -- The hand counts its step, with this answer, as a delay of its line.

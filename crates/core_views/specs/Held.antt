@@ -139,6 +139,7 @@ first_topics = record {
   watched = 0;
   host = None;
   pause = 0;
+  owed = None;
   flush = record { asked = 0; awaited = 0 };
   frames = record { claim = no_claim; owned = None };
 }

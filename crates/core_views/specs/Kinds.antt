@@ -5,7 +5,7 @@ use Rattle.core_views.specs.declared.kind.Kind.{Kind}
 use Rattle.core_views.specs.declared.kind.Operation.{Operation}
 use Rattle.core_views.specs.declared.kind.Operation.TheVariants as operation
 use Rattle.core_views.specs.declared.kind.StepKind.{StepKind}
-use Rattle.core_views.specs.declared.kind.StepKind.TheVariants.{Enter, Leave, Walk, Read, Write, Add, Begin, End, Control, Slot, Host, Bring, Swap, Share}
+use Rattle.core_views.specs.declared.kind.StepKind.TheVariants.{Enter, Leave, Walk, Read, Write, Add, Begin, End, Control, Slot, Host, Bring, Swap, Mark, Share}
 use Rattle.core_views.specs.declared.kind.StepKind.TheVariants.{Unshare, Exclude, Release, Claim, Fill, Give, Set, Zap, Ask, Await, Change}
 use Rattle.core_views.specs.declared.kind.StepKind.TheVariants.{Copy, Frame, Unframe, Publish, Watch}
 
@@ -24,6 +24,7 @@ code_of Slot = 10
 code_of Host = 11
 code_of Bring = 12
 code_of Swap = 13
+code_of Mark = 14
 code_of Share = 15
 code_of Unshare = 16
 code_of Exclude = 17
@@ -57,6 +58,7 @@ kind_named code =
     if code == code_of Host then Host else
     if code == code_of Bring then Bring else
     if code == code_of Swap then Swap else
+    if code == code_of Mark then Mark else
     if code == code_of Share then Share else
     if code == code_of Unshare then Unshare else
     if code == code_of Exclude then Exclude else
@@ -90,6 +92,7 @@ operation_of Slot = operation.Load
 operation_of Host = operation.Load
 operation_of Bring = operation.CompareExchange
 operation_of Swap = operation.CompareExchange
+operation_of Mark = operation.FetchOr
 operation_of Share = operation.FetchAdd
 operation_of Unshare = operation.FetchSub
 operation_of Exclude = operation.CompareExchange

@@ -30,6 +30,8 @@ pub enum StepKind {
     Bring,
     /// Exchanges an entry of the table, where it is as it was seen.
     Swap,
+    /// Sets the bit of a host page in the dirty log.
+    Mark,
     /// Adds itself to the readers of the lock.
     Share,
     /// Takes itself out of the readers of the lock.
@@ -105,6 +107,7 @@ impl StepKind {
             StepKind::Host => 11,
             StepKind::Bring => 12,
             StepKind::Swap => 13,
+            StepKind::Mark => 14,
             StepKind::Share => 15,
             StepKind::Unshare => 16,
             StepKind::Exclude => 17,
@@ -145,7 +148,7 @@ impl StepKind {
             | StepKind::Release
             | StepKind::Claim
             | StepKind::Frame => { Operation::FetchAnd }
-            StepKind::Begin | StepKind::Give | StepKind::Ask | StepKind::Unframe =>
+            StepKind::Begin | StepKind::Mark | StepKind::Give | StepKind::Ask | StepKind::Unframe =>
                 Operation::FetchOr,
             StepKind::Bring | StepKind::Swap => Operation::CompareExchange,
             StepKind::Exclude | StepKind::Change => Operation::CompareExchange,
@@ -186,6 +189,7 @@ impl Kind {
             11 => StepKind::Host,
             12 => StepKind::Bring,
             13 => StepKind::Swap,
+            14 => StepKind::Mark,
             15 => StepKind::Share,
             16 => StepKind::Unshare,
             17 => StepKind::Exclude,

@@ -22,8 +22,9 @@ pub enum SlotField {
 pub enum Leaving {
     /// It reached its word, and is answered so.
     Reached { frame: u64, value: u64 },
-    /// It found no translation, and faults.
-    Faults,
+    /// It found no translation, and faults: fast, where it met a leaf that forbids the write
+    /// (locking.rst, "Fast page fault").
+    Faults { fast: bool },
 }
 
 /// The steps of a guest access, in their order: stays in the guest, and between
@@ -203,6 +204,9 @@ pub enum FaultEnd {
     HostFault,
     /// No pool page was free for a table.
     Starved,
+    /// The write can't be allowed in this entry; 0 where no slot has the guest frame. The fault is
+    /// to be made whole.
+    NotFast(u64),
     /// It is to begin anew.
     Retry(Cause),
 }
@@ -220,7 +224,8 @@ pub enum CheckStage {
     Seq,
 }
 
-/// The steps of a fault, in their order (tdp_mmu.c, `kvm_tdp_mmu_map`).
+/// The steps of a fault, in their order (tdp_mmu.c, `kvm_tdp_mmu_map`); and those of a fast one,
+/// which allows the write in a leaf that stands, without the lock (locking.rst, "Fast page fault").
 #[derive(Clone, Copy, PartialEq, Eq, Drop)]
 pub enum FaultPlace {
     /// Begins a section.
@@ -251,8 +256,18 @@ pub enum FaultPlace {
     Link,
     /// Gives the page back, where another actor's entry stands.
     Give(FaultEnd),
-    /// Puts the leaf.
-    Leaf,
+    /// Puts the leaf, for an access that writes or doesn't.
+    Leaf { write: bool },
+    /// Begins the section of a fast fault.
+    FastBegin,
+    /// Loads which slot set is published, or, once begun, the next word of its search.
+    FastFind { begun: bool },
+    /// Loads the root, or, once rooted, the entry in the table that the walk has come to.
+    FastWalk { rooted: bool },
+    /// Allows the write in the leaf.
+    Fix,
+    /// Marks the page in the dirty log of its slot: without the lock in a fast fault.
+    Mark { fast: bool },
     /// Gives the lock back.
     Unshare(FaultEnd),
     /// Ends the section.

@@ -206,6 +206,9 @@ pub struct Topics {
     pub host: Option<HostLook>,
     /// The pause word that was loaded last.
     pub pause: u64,
+    /// The guest frame for which a mark in the dirty log is owed: its leaf was made writable in this
+    /// section, in a slot with a dirty log.
+    pub owed: Option<u64>,
     /// The flush that the actor has asked for.
     pub flush: Flush,
     pub frames: Frames,
@@ -267,6 +270,7 @@ impl Topics {
             watched: 0,
             host: None,
             pause: 0,
+            owed: None,
             flush: Flush {
                 asked: 0,
                 awaited: 0,

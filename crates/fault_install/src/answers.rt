@@ -1,6 +1,8 @@
 //! What a turn of a fault answers, by what the part of its place answered.
-ghost use Rattle.std.specs.Prelude.{◌≡◌};
-ghost use Rattle.fault_install.specs.Faults.{claim_turn, end_turn, lock_turn};
+ghost use Rattle.std.specs.Prelude.{◌≡◌, false};
+ghost use Rattle.core_views.specs.declared.place.FaultPlace.TheVariants.{End};
+ghost use Rattle.fault_install.specs.Faults.{claim_turn, end_told, lock_turn};
+ghost use Rattle.step_seats.specs.FaultTurns.{as_end, end_turn, is_fast_place};
 
 use crate::Faulted;
 use core_views::{FaultEnd, Seen};
@@ -30,7 +32,8 @@ pub(crate) fn claim_turn(answer: Turn<Claimed>) -> Turn<Faulted>
 
 /// After the end of the section.
 pub(crate) fn end_turn(end: FaultEnd) -> Turn<Faulted>
-    ensures { result ≡ end_turn end }
+    requires whole { is_fast_place (End end) ≡ false }
+    ensures { as_end end_told result ≡ end_turn end }
 {
     match end {
         FaultEnd::Installed => Turn::Done(Faulted::Installed),
@@ -38,5 +41,6 @@ pub(crate) fn end_turn(end: FaultEnd) -> Turn<Faulted>
         FaultEnd::HostFault => Turn::Done(Faulted::HostFault),
         FaultEnd::Starved => Turn::Done(Faulted::Starved),
         FaultEnd::Retry(cause) => Turn::Retry(cause),
+        FaultEnd::NotFast(_) => unreachable!(),
     }
 }

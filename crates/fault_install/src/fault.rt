@@ -1,19 +1,15 @@
-ghost use Rattle.std.specs.Prelude.{◌≡◌, ◌<◌};
-ghost use Rattle.core_views.specs.declared.place.AccessPlace.TheVariants.{Fault};
+ghost use Rattle.std.specs.Prelude.{◌≡◌, ◌<◌, false};
 ghost use Rattle.core_views.specs.declared.place.FaultPlace.TheVariants as at;
-ghost use Rattle.core_views.specs.declared.place.Place.TheVariants as Place;
-ghost use Rattle.fault_install.specs.Faults.{ComesAfterCheck, IsAtFaultPlace, LeadsOn, MakesFaultStep, StandsInLine, TurnsFault};
+ghost use Rattle.fault_install.specs.Faults.{ComesAfterCheck, LeadsOn, StandsInLine, end_told};
 ghost use Rattle.mmu_core.specs.alone.LineAlone.{hand_left};
-ghost use Rattle.mmu_core.specs.lines.AccessSteps.{access_note};
 ghost use Rattle.mmu_core.specs.lines.FaultSteps.{fault_part};
-ghost use Rattle.mmu_core.specs.machine.Steps.{place_at};
-ghost use Rattle.mmu_core.specs.machine.Worlds.{HandReached};
+ghost use Rattle.step_seats.specs.FaultTurns.{IsAtFaultPlace, MakesFaultStep, TurnsFault, as_end, is_fast_place};
 ghost use Rattle.step_seats.specs.Moves.{KeepsRoom};
 ghost use Rattle.step_seats.specs.PartTurns.{MakesPart};
 ghost use Rattle.step_seats.specs.declared.turn.Turn.TheVariants.{More};
 
 use crate::answers::{claim_turn, end_turn, lock_turn};
-use core_views::{AccessPlace, FaultEnd, FaultPlace, Hand, Place};
+use core_views::{AccessPlace, FaultEnd, FaultPlace};
 use grace_period::{begin, end};
 use host_map::{bring_in, look};
 use invalidate_seq::{Check, Snapshot};
@@ -22,7 +18,7 @@ use mmu_core::{FreeMap, access_note, part_rests};
 use mmu_lock::{try_shared, unlock};
 use part_steps::{PartStep, map_of, page_of, page_owned};
 use spte_words::Area;
-use step_seats::{Stepper, Turn, make_part};
+use step_seats::{Stepper, Turn, fault_place, make_part};
 use table_pool::{Claim, Fill, Give};
 use tdp_walk::Walk;
 
@@ -51,31 +47,12 @@ pub struct FaultJob {
     pub write: bool,
 }
 
-// The place where the fault of the hand's line stands.
-fn place_of(hand: &Hand, job: &FaultJob) -> FaultPlace
-    requires stands { StandsInLine job.now hand.now.core }
-    ensures { place_at hand.now.core.state.place hand.now.core ≡ Place.Access (Fault result) }
-{
-    match hand.progress().place {
-        Place::Access(AccessPlace::Fault(place)) => place,
-        _ => unreachable!(),
-    }
-}
-
 impl FaultJob {
-    // The fault of a hand's line may make the step of the place where it stands, and
-    // knows what this place asks.
-    fn may_step(&self, hand: &Hand, place: FaultPlace)
-        requires reached { ∥ HandReached hand.now.core ∥₁ }
-        requires stands { StandsInLine self.now hand.now.core }
-        requires place { place_at hand.now.core.state.place hand.now.core ≡ Place.Access (Fault place) }
-        ensures { IsAtFaultPlace place self.now (access_note (Fault place)) hand.now.core }
-    {}
-
     // Makes the step of a place that always leads on to another one.
     fn go_on<S: Stepper>(&self, s: &mut S, place: FaultPlace, note: u64)
-        requires is_at { IsAtFaultPlace place self.now note (S.seat s.old).hand }
+        requires is_at { IsAtFaultPlace place self.now.gfn self.now.write note (S.seat s.old).hand }
         requires leads_on { LeadsOn place }
+        requires whole { is_fast_place place ≡ false }
         requires reserved { 0 < (S.seat s.old).room }
         ensures makes { MakesPart (fault_part place self.now.gfn (S.seat s.old).hand.topics) note (S.seat s.old) (S.seat s.new) }
         ensures room { KeepsRoom (S.seat s.old) (S.seat s.new) }
@@ -108,8 +85,9 @@ impl FaultJob {
 
     // Makes the step of such a place that comes after the check of the look-up.
     fn go_down<S: Stepper>(&self, s: &mut S, place: FaultPlace, note: u64)
-        requires is_at { IsAtFaultPlace place self.now note (S.seat s.old).hand }
+        requires is_at { IsAtFaultPlace place self.now.gfn self.now.write note (S.seat s.old).hand }
         requires leads_on { LeadsOn place }
+        requires whole { is_fast_place place ≡ false }
         requires checked { ComesAfterCheck place }
         requires reserved { 0 < (S.seat s.old).room }
         ensures makes { MakesPart (fault_part place self.now.gfn (S.seat s.old).hand.topics) note (S.seat s.old) (S.seat s.new) }
@@ -136,8 +114,11 @@ impl FaultJob {
             FaultPlace::Give(_) => {
                 let _ = Give::new(page).turn(s, note);
             }
-            FaultPlace::Leaf => {
-                let _ = make_part(s, PartStep::Leaf(gfn), note);
+            FaultPlace::Leaf { write } => {
+                let _ = make_part(s, PartStep::Leaf { gfn, write }, note);
+            }
+            FaultPlace::Mark { .. } => {
+                let _ = make_part(s, PartStep::Mark, note);
             }
             FaultPlace::Unshare(_) => unlock(s, note),
             _ => unreachable!(),
@@ -146,9 +127,9 @@ impl FaultJob {
 
     // Tries to share the lock, and waits once a try that found a writer is taken back.
     fn share<S: Stepper>(&self, s: &mut S, note: u64) -> Turn<Faulted>
-        requires is_at { IsAtFaultPlace at.Share self.now note (S.seat s.old).hand }
+        requires is_at { IsAtFaultPlace at.Share self.now.gfn self.now.write note (S.seat s.old).hand }
         requires reserved { 0 < (S.seat s.old).room }
-        ensures makes { MakesFaultStep at.Share self.now result note (S.seat s.old) (S.seat s.new) }
+        ensures makes { MakesFaultStep at.Share self.now.gfn self.now.write (as_end end_told result) note (S.seat s.old) (S.seat s.new) }
         ensures room { KeepsRoom (S.seat s.old) (S.seat s.new) }
         ensures same { ((S.seat s.new).actor ≡ (S.seat s.old).actor) × (S.frame s.new ≡ S.frame s.old) }
     {
@@ -159,9 +140,9 @@ impl FaultJob {
 
     // Claims a page for a table, and waits where the page that it tried was taken.
     fn claim<S: Stepper>(&self, s: &mut S, begun: bool, note: u64) -> Turn<Faulted>
-        requires is_at { IsAtFaultPlace (at.Claim begun) self.now note (S.seat s.old).hand }
+        requires is_at { IsAtFaultPlace (at.Claim begun) self.now.gfn self.now.write note (S.seat s.old).hand }
         requires reserved { 0 < (S.seat s.old).room }
-        ensures makes { MakesFaultStep (at.Claim begun) self.now result note (S.seat s.old) (S.seat s.new) }
+        ensures makes { MakesFaultStep (at.Claim begun) self.now.gfn self.now.write (as_end end_told result) note (S.seat s.old) (S.seat s.new) }
         ensures room { KeepsRoom (S.seat s.old) (S.seat s.new) }
         ensures same { ((S.seat s.new).actor ≡ (S.seat s.old).actor) × (S.frame s.new ≡ S.frame s.old) }
     {
@@ -174,9 +155,10 @@ impl FaultJob {
 
     // Ends the section, and the fault with it.
     fn end<S: Stepper>(&self, s: &mut S, ended: FaultEnd, note: u64) -> Turn<Faulted>
-        requires is_at { IsAtFaultPlace (at.End ended) self.now note (S.seat s.old).hand }
+        requires is_at { IsAtFaultPlace (at.End ended) self.now.gfn self.now.write note (S.seat s.old).hand }
+        requires whole { is_fast_place (at.End ended) ≡ false }
         requires reserved { 0 < (S.seat s.old).room }
-        ensures makes { MakesFaultStep (at.End ended) self.now result note (S.seat s.old) (S.seat s.new) }
+        ensures makes { MakesFaultStep (at.End ended) self.now.gfn self.now.write (as_end end_told result) note (S.seat s.old) (S.seat s.new) }
         ensures room { KeepsRoom (S.seat s.old) (S.seat s.new) }
         ensures same { ((S.seat s.new).actor ≡ (S.seat s.old).actor) × (S.frame s.new ≡ S.frame s.old) }
     {
@@ -187,9 +169,10 @@ impl FaultJob {
     // Makes the step of this place by the call of its part, and answers by what the
     // part answers.
     fn step<S: Stepper>(&self, s: &mut S, place: FaultPlace, note: u64) -> Turn<Faulted>
-        requires is_at { IsAtFaultPlace place self.now note (S.seat s.old).hand }
+        requires is_at { IsAtFaultPlace place self.now.gfn self.now.write note (S.seat s.old).hand }
+        requires whole { is_fast_place place ≡ false }
         requires reserved { 0 < (S.seat s.old).room }
-        ensures makes { MakesFaultStep place self.now result note (S.seat s.old) (S.seat s.new) }
+        ensures makes { MakesFaultStep place self.now.gfn self.now.write (as_end end_told result) note (S.seat s.old) (S.seat s.new) }
         ensures room { KeepsRoom (S.seat s.old) (S.seat s.new) }
         ensures same { ((S.seat s.new).actor ≡ (S.seat s.old).actor) × (S.frame s.new ≡ S.frame s.old) }
     {
@@ -204,22 +187,21 @@ impl FaultJob {
         }
     }
 
-    /// Makes the next step of the hand's line, which stands in its fault. `Wait`
+    /// Makes the next step of the hand's line, which stands in its fault, a whole one. `Wait`
     /// where a writer has the lock or a page was claimed by another actor meanwhile,
     /// and `Retry` where the look-up holds no more, or another actor's entry or host
     /// word stood in the way: the section is over then, and the access is to begin anew.
     pub fn turn<S: Stepper>(&self, s: &mut S) -> Turn<Faulted>
         requires stands { StandsInLine self.now (S.seat s.old).hand }
         requires reserved { 0 < (S.seat s.old).room }
-        ensures turned { TurnsFault self.now result (S.seat s.old) (S.seat s.new) }
+        ensures turned { TurnsFault self.now.gfn self.now.write (as_end end_told result) (S.seat s.old) (S.seat s.new) }
         ensures nearer { result ≡ More → hand_left (S.seat s.new).hand < hand_left (S.seat s.old).hand }
         ensures room { KeepsRoom (S.seat s.old) (S.seat s.new) }
         ensures same { ((S.seat s.new).actor ≡ (S.seat s.old).actor) × (S.frame s.new ≡ S.frame s.old) }
     {
         let hand = s.hand();
         part_rests(hand);
-        let place = place_of(hand, self);
-        self.may_step(hand, place);
+        let place = fault_place(hand, self.gfn, self.write);
         self.step(s, place, access_note(AccessPlace::Fault(place)))
     }
 }

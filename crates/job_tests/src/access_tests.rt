@@ -4,8 +4,9 @@
 use core_views::{Actor, Answer, Cause, Command, Seen};
 use part_steps::{PartStep, WRITER};
 use part_tests::{
-    HEAD, HEAD_OF_POOL_8, expect_actor, first_other, machine_with_slot, take_step, told,
+    HEAD, HEAD_OF_POOL_8, expect_actor, first_other, machine_with_slot, run_lines, take_step, told,
 };
+use std::alloc::Global;
 use std::test::Fail;
 use step_seats::{PlainMachine, Stepper, Turn};
 use vcpu_run::AccessJob;
@@ -16,6 +17,13 @@ const AT_FRAME_5: &str = "vm slot 0 0 6 64\nv0 write 0x5008 7\nv0 read 0x5008\nv
 
 // The same of guest frame 6, which is outside the slot.
 const AT_FRAME_6: &str = "vm slot 0 0 6 64\nv0 write 0x6008 7\nv0 read 0x6008\nv1 read 0x6008\n";
+
+// A read-only slot; and one of which the host thread forbids writes to host page 69, behind guest frame 5. The first
+// processor reads it, and then both write it.
+const READ_ONLY: &str = "vm slot 0 0 6 64 ro\nv0 read 0x5008\nv0 write 0x5008 7\nv1 add 0x5008 7\n";
+
+const FORBIDDEN: &str =
+    "vm slot 0 0 6 64\nv0 read 0x5008\nv0 write 0x5008 7\nv1 add 0x5008 7\nh0 protect 69\n";
 
 // Steps of a stay in the guest: enter, pause, root, one absent entry, leave; with
 // four entries down to the leaf, and the touch; and with a cached translation.
@@ -36,6 +44,13 @@ const ROOTED: u64 = FOUND + 4;
 const TABLE: u64 = 517;
 
 const END: u64 = 4;
+
+// Steps of a stay that meets a leaf which forbids the write: enter, pause, root, four
+// entries, leave; and of a fast fault that doesn't allow it: begin, slot set, the four
+// words of slot 0, root, four entries, end.
+const MET: u64 = 8;
+
+const FAST: u64 = 12;
 
 // Where the lock stands, and with 8 pool pages the entries of the root, and word 1
 // of frame 69.
@@ -176,6 +191,43 @@ fn waits_for_a_writer(rt: HostRuntime) -> Result<(), Fail> {
             (COLD + FOUND + 2, Turn::Wait(held)),
             (2, Turn::Wait(held)),
             (ROOTED - FOUND + 3 * TABLE + END + WALKED, reached(0)),
+        ]
+    );
+    Ok(())
+}
+
+// The read of the first processor and the writes of both, in a machine of these lines, after
+// the host thread's line, where it has one.
+fn read_and_write(alloc: Global, lines: &str) -> Result<[(u64, Turn<Answer>); 3], Fail> {
+    let mut machine = machine_with_slot(alloc, HEAD_OF_POOL_8, lines)?;
+    run_lines(&mut machine, Actor::Host(0), 40)?;
+    let read = access(&mut machine, 0, 9000)?;
+    let write = access(&mut machine, 0, 9000)?;
+    let add = access(&mut machine, 1, 9000)?;
+    Ok([read, write, add])
+}
+
+// A write that meets a leaf which forbids it makes a fast fault, and as this doesn't allow it
+// the whole fault: up to the slot, or to the host word.
+#[test]
+fn makes_both_faults_over_a_leaf(rt: HostRuntime) -> Result<(), Fail> {
+    let cold = COLD + ROOTED + 3 * TABLE + END + WALKED;
+    let outside = MET + FAST + FOUND;
+    let forbidden = MET + FAST + FOUND + 1;
+    assert_eq!(rt;
+        read_and_write(rt.alloc(), READ_ONLY)?,
+        [
+            (cold, reached(0)),
+            (outside, Turn::Done(Answer::Mmio)),
+            (outside, Turn::Done(Answer::Mmio)),
+        ]
+    );
+    assert_eq!(rt;
+        read_and_write(rt.alloc(), FORBIDDEN)?,
+        [
+            (cold, reached(0)),
+            (forbidden, Turn::Done(Answer::HostFault)),
+            (forbidden, Turn::Done(Answer::HostFault)),
         ]
     );
     Ok(())

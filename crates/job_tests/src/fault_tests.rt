@@ -11,7 +11,7 @@ use part_tests::{
 };
 use std::alloc::Global;
 use std::test::Fail;
-use step_seats::{PlainMachine, Stepper, Turn};
+use step_seats::{PlainMachine, Stepper, Turn, is_fast_place};
 
 // The manager's line, accesses of guest frame 5 by both processors, one of guest frame 4 by
 // the second one, and the host thread's line, which takes host page 69 away: guest frame 5.
@@ -41,16 +41,22 @@ const PAGE_5: usize = 2656;
 
 const INSTALLED: Turn<Faulted> = Turn::Done(Faulted::Installed);
 
-// The fault of the hand's line, where the line stands in one.
+// The fault of the hand's line, where the line stands in a whole one.
 fn fault_of(hand: &Hand) -> Option<FaultJob>
     ensures { IfSome result (λ job. StandsInLine job hand.now.core) }
 {
     if !hand.has_line() {
         return None;
     }
-    let Place::Access(AccessPlace::Fault(_)) = hand.progress().place else {
+    let Place::Access(access) = hand.progress().place else {
         return None;
     };
+    let AccessPlace::Fault(place) = access else {
+        return None;
+    };
+    if is_fast_place(place) {
+        return None;
+    }
     let Command::Access { gfn, op, .. } = &hand.line().command else {
         return None;
     };

@@ -5,6 +5,8 @@
 #[cfg(test)]
 mod access_tests;
 #[cfg(test)]
+mod fast_tests;
+#[cfg(test)]
 mod fault_tests;
 #[cfg(test)]
 mod host_line_tests;

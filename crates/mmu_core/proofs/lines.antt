@@ -4,8 +4,12 @@ pub mod AccessLeft
 pub mod AccessParts
 pub mod ByStep
 pub mod CachedKept
+pub mod SearchFalls
 pub mod FaultFalls
 pub mod LookKnown
+pub mod WalkKnown
+pub mod LeafKnown
+pub mod FastKnown
 pub mod FaultKnown
 pub mod FaultNeeds
 pub mod FaultSame

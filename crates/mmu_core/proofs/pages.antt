@@ -5,6 +5,7 @@ pub mod FrameUses
 pub mod FramesKept
 pub mod FramesTurn
 pub mod LeavesOver
+pub mod EntryStill
 pub mod LoadedKept
 pub mod NoneBelow
 pub mod SweptEntries

@@ -1,6 +1,8 @@
 pub mod Cached
 pub mod AccessSteps
 pub mod FaultLeft
+pub mod CheckSteps
+pub mod FastSteps
 pub mod FaultSteps
 pub mod SlotChangeSteps
 pub mod SlotChangeLeft
@@ -11,6 +13,7 @@ pub mod PartAt
 pub mod PartWaits
 pub mod Delays
 pub mod Rests
+pub mod FaultHolds
 pub mod FaultKnows
 pub mod LockKnows
 pub mod SlotChangeKnows

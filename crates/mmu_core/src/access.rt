@@ -77,7 +77,7 @@ pub fn access_note(place: AccessPlace) -> u64
     match place {
         AccessPlace::Leave(Leaving::Reached { .. }) => 1,
         AccessPlace::Fault(FaultPlace::End(end)) => match end {
-            FaultEnd::Installed | FaultEnd::Retry(_) => 0,
+            FaultEnd::Installed | FaultEnd::NotFast(_) | FaultEnd::Retry(_) => 0,
             FaultEnd::Mmio | FaultEnd::HostFault | FaultEnd::Starved => 1,
         },
         _ => 0,
@@ -129,7 +129,8 @@ fn stay_next(again: bool, level: u8, op: Op, found: u64) -> AccessPlace
     match entry.kind(level) {
         SpteKind::Table(_) => AccessPlace::Walk { again },
         SpteKind::Leaf if !op.is_write() || entry.is_writable() => AccessPlace::Touch,
-        _ => AccessPlace::Leave(Leaving::Faults),
+        SpteKind::Leaf => AccessPlace::Leave(Leaving::Faults { fast: true }),
+        SpteKind::Absent | SpteKind::Frozen => AccessPlace::Leave(Leaving::Faults { fast: false }),
     }
 }
 
@@ -141,14 +142,15 @@ fn behind_fault(next: FaultNext) -> Outcome
         FaultNext::Goes(place) => return Outcome::Goes(Place::Access(AccessPlace::Fault(place))),
         FaultNext::Ends(end) => end,
     };
-    let again = match end {
-        FaultEnd::Installed => true,
-        FaultEnd::Retry(_) => false,
+    let place = match end {
+        FaultEnd::Installed => AccessPlace::Enter { again: true },
+        FaultEnd::Retry(_) => AccessPlace::Enter { again: false },
+        FaultEnd::NotFast(_) => AccessPlace::Fault(FaultPlace::Begin),
         FaultEnd::Mmio => return Outcome::Ends(Answer::Mmio),
         FaultEnd::HostFault => return Outcome::Ends(Answer::HostFault),
         FaultEnd::Starved => return Outcome::Ends(Answer::Starved),
     };
-    Outcome::Goes(Place::Access(AccessPlace::Enter { again }))
+    Outcome::Goes(Place::Access(place))
 }
 
 /// Where the line stands after the step of this place, and the translation that the
@@ -189,7 +191,12 @@ pub(crate) fn outcome(
         AccessPlace::Leave(Leaving::Reached { frame, value }) => {
             return (Outcome::Ends(Answer::Reached { frame, value }), None);
         }
-        AccessPlace::Leave(Leaving::Faults) => (AccessPlace::Fault(FaultPlace::Begin), None),
+        AccessPlace::Leave(Leaving::Faults { fast: true }) => {
+            (AccessPlace::Fault(FaultPlace::FastBegin), None)
+        }
+        AccessPlace::Leave(Leaving::Faults { fast: false }) => {
+            (AccessPlace::Fault(FaultPlace::Begin), None)
+        }
         AccessPlace::Fault(place) => {
             let next = fault::next(place, hand, gfn, op.is_write(), found);
             return (behind_fault(next), None);

@@ -35,7 +35,7 @@ fn leaves_to_fault(outcome: &Outcome) -> bool
 {
     matches!(
         outcome,
-        Outcome::Goes(Place::Access(AccessPlace::Leave(Leaving::Faults)))
+        Outcome::Goes(Place::Access(AccessPlace::Leave(Leaving::Faults { .. })))
     )
 }
 

@@ -1,11 +1,12 @@
 //! The steps of a fault.
-ghost use Rattle.std.specs.Prelude.{◌≡◌, ◌≢◌, ◌≤◌, ◌<◌, ◌^◌, ◌==◌, Bool, true, if◌then◌else◌};
+ghost use Rattle.std.specs.Prelude.{◌≡◌, ◌≤◌, ◌<◌, ◌^◌, ◌==◌, ◌&&◌, Bool, true, false, if◌then◌else◌};
 ghost use Rattle.core_views.specs.declared.place.Cause.TheVariants.{Entry};
 ghost use Rattle.core_views.specs.declared.place.FaultEnd.TheVariants.{Retry};
-ghost use Rattle.core_views.specs.declared.place.FaultPlace.TheVariants.{End, Find, Give, Host, Share, Unshare};
+ghost use Rattle.core_views.specs.declared.place.FaultPlace.TheVariants.{End, FastFind, Find, Fix, Give, Host, Leaf, Link, Share, Unshare, Walk};
 ghost use Rattle.core_views.specs.Sizes.{AreSizes};
-ghost use Rattle.mmu_core.specs.lines.FaultSteps.{after_claim, after_share, check_next, check_part, entry_word, fault_next, fault_part, find_next};
-ghost use Rattle.mmu_core.specs.lines.FaultSteps.{host_word_at, page_next, share_next, walk_next};
+ghost use Rattle.mmu_core.specs.lines.FaultSteps.{after_claim, after_share, check_next, check_part, entry_word, exchange_lost};
+ghost use Rattle.mmu_core.specs.lines.FaultSteps.{fault_next, fault_part, find_next};
+ghost use Rattle.mmu_core.specs.lines.FaultSteps.{fast_find_next, fast_walk_next, host_word_at, page_next, put_next, share_next, walk_next};
 ghost use Rattle.part_steps.specs.declared.part_step.PartStep.TheVariants as part;
 ghost use Rattle.part_steps.specs.PartBounds.{PartRests};
 ghost use Rattle.part_steps.specs.PartTasks.{table_page, word_looked};
@@ -20,7 +21,9 @@ use core_views::{
     Cause, CheckStage, FaultEnd, FaultNext, FaultPlace, Hand, HostLook, Sizes, SlotField,
     SlotSearch, TableWalk, Topics,
 };
-use part_steps::{PartStep, entry_index, map_of, page_of, search, table_page, words_filled};
+use part_steps::{
+    PartStep, entry_index, is_fixable, map_of, page_of, search, table_page, words_filled,
+};
 use spte_words::{Area, HostWord, Spte, SpteKind};
 
 /// How many words of a table's page are entries.
@@ -58,9 +61,16 @@ pub(crate) fn part(place: FaultPlace, gfn: u64, topics: &Topics) -> PartStep
         FaultPlace::Role => PartStep::Role(topics.walk.level.saturating_sub(1) as u64),
         FaultPlace::Link => PartStep::Link(gfn),
         FaultPlace::Give(_) => PartStep::Give,
-        FaultPlace::Leaf => PartStep::Leaf(gfn),
+        FaultPlace::Leaf { write } => PartStep::Leaf { gfn, write },
         FaultPlace::Unshare(_) => PartStep::Unshare,
         FaultPlace::End(_) => PartStep::End,
+        FaultPlace::FastBegin => PartStep::Begin,
+        FaultPlace::FastFind { begun: true } => PartStep::Slot,
+        FaultPlace::FastFind { begun: false } => PartStep::Slots,
+        FaultPlace::FastWalk { rooted: true } => PartStep::Walk(gfn),
+        FaultPlace::FastWalk { rooted: false } => PartStep::Root,
+        FaultPlace::Fix => PartStep::Fix(gfn),
+        FaultPlace::Mark { .. } => PartStep::Mark,
     }
 }
 
@@ -78,6 +88,19 @@ fn find_next(gfn: u64, write: bool, loaded: SlotField, found: &SlotSearch) -> Fa
         FaultPlace::End(FaultEnd::Mmio)
     } else {
         FaultPlace::Find { begun: true }
+    }
+}
+
+// The same in a fast fault.
+fn fast_find_next(gfn: u64, loaded: SlotField, found: &SlotSearch) -> FaultPlace
+    ensures { result ≡ fast_find_next gfn loaded found.now }
+{
+    if loaded == SlotField::Host && found.slot.contains(gfn) {
+        FaultPlace::FastWalk { rooted: false }
+    } else if found.id == 32 {
+        FaultPlace::End(FaultEnd::NotFast(0))
+    } else {
+        FaultPlace::FastFind { begun: true }
     }
 }
 
@@ -185,14 +208,41 @@ fn walk_next(sizes: &Sizes, gfn: u64, write: bool, walk: &TableWalk, found: u64)
             if !write || entry.is_writable() {
                 FaultPlace::Unshare(FaultEnd::Installed)
             } else {
-                FaultPlace::Leaf
+                FaultPlace::Leaf { write }
             }
         }
-        SpteKind::Absent if walk.level == 1 => FaultPlace::Leaf,
+        SpteKind::Absent if walk.level == 1 => FaultPlace::Leaf { write },
         SpteKind::Absent => FaultPlace::Claim { begun: false },
         SpteKind::Leaf | SpteKind::Frozen => {
             FaultPlace::Unshare(changed(entry_word(sizes, gfn, walk), found, found))
         }
+    }
+}
+
+// After an entry on the way of a fast fault: where it is a leaf of the lowest level that forbids
+// nothing but the write, this is to be allowed.
+fn fast_walk_next(walk: &TableWalk, found: u64) -> FaultPlace
+    ensures { result ≡ fast_walk_next (kind_of walk.now.level found) walk.now found }
+{
+    let entry = Spte::from_word(found);
+    match entry.kind(walk.level) {
+        SpteKind::Table(_) => FaultPlace::FastWalk { rooted: true },
+        SpteKind::Leaf if walk.level == 1 && is_fixable(entry) => FaultPlace::Fix,
+        _ => FaultPlace::End(FaultEnd::NotFast(found)),
+    }
+}
+
+// After a leaf was put, or writes allowed in it: where the slot has a dirty log the page is
+// marked.
+fn put_next(fast: bool, marks: bool) -> FaultPlace
+    ensures { result ≡ put_next fast marks }
+{
+    if marks {
+        FaultPlace::Mark { fast }
+    } else if fast {
+        FaultPlace::End(FaultEnd::Installed)
+    } else {
+        FaultPlace::Unshare(FaultEnd::Installed)
     }
 }
 
@@ -207,31 +257,48 @@ fn after_claim(next: ClaimNext) -> FaultPlace
     }
 }
 
-// Behind an exchange of an entry: where it was won, this place.
-fn exchange_next(hand: &Hand, gfn: u64, found: u64, won: FaultPlace, link: bool) -> FaultPlace
+// Why it is to begin anew after an exchange of an entry that was lost.
+fn exchange_lost(hand: &Hand, gfn: u64, found: u64) -> FaultEnd
     requires rests { PartRests hand.now.core }
     requires from { 1 ≤ hand.now.core.topics.walk.level }
-    ensures won { found ≡ hand.now.core.topics.walk.entry → result ≡ won }
-    ensures lost { found ≢ hand.now.core.topics.walk.entry → result ≡ (if link
-        then Give (Retry (Entry (entry_word hand.now.core.state.sizes gfn hand.now.core.topics.walk) hand.now.core.topics.walk.entry found))
-        else Unshare (Retry (Entry (entry_word hand.now.core.state.sizes gfn hand.now.core.topics.walk) hand.now.core.topics.walk.entry found))) }
+    ensures { result ≡ exchange_lost hand.now.core.state.sizes gfn hand.now.core.topics.walk found }
 {
     let walk = &hand.topics().walk;
-    if found == walk.entry {
-        return won;
-    }
     let word = entry_word(&hand.progress().sizes, gfn, walk);
-    let end = changed(word, walk.entry, found);
-    if link {
-        FaultPlace::Give(end)
-    } else {
-        FaultPlace::Unshare(end)
+    changed(word, walk.entry, found)
+}
+
+// After an exchange of an entry.
+fn exchange_next(place: FaultPlace, hand: &Hand, gfn: u64, found: u64) -> FaultPlace
+    requires rests { PartRests hand.now.core }
+    requires from { 1 ≤ hand.now.core.topics.walk.level }
+    ensures link { place ≡ Link → result ≡ (if found == hand.now.core.topics.walk.entry then Walk true
+        else Give (exchange_lost hand.now.core.state.sizes gfn hand.now.core.topics.walk found)) }
+    ensures leaf { (writes : Bool) → place ≡ Leaf writes → result ≡ (if found == hand.now.core.topics.walk.entry
+        then put_next false (writes && hand.now.core.topics.search.logged)
+        else Unshare (exchange_lost hand.now.core.state.sizes gfn hand.now.core.topics.walk found)) }
+    ensures fix { place ≡ Fix → result ≡ (if found == hand.now.core.topics.walk.entry then put_next true hand.now.core.topics.search.logged
+        else End (exchange_lost hand.now.core.state.sizes gfn hand.now.core.topics.walk found)) }
+{
+    let topics = hand.topics();
+    let won = found == topics.walk.entry;
+    let logged = topics.search.logged;
+    match place {
+        FaultPlace::Link if won => FaultPlace::Walk { rooted: true },
+        FaultPlace::Link => FaultPlace::Give(exchange_lost(hand, gfn, found)),
+        FaultPlace::Leaf { write } if won => put_next(false, write && logged),
+        FaultPlace::Leaf { .. } => FaultPlace::Unshare(exchange_lost(hand, gfn, found)),
+        _ if won => put_next(true, logged),
+        _ => FaultPlace::End(exchange_lost(hand, gfn, found)),
     }
 }
 
 // The place after a step of the look-up or of the lock.
 fn looked_next(place: FaultPlace, gfn: u64, write: bool, topics: &Topics, found: u64) -> FaultPlace
     requires begun { place ≡ Find true → topics.now.search.id ≤ 31 }
+    requires fast_begun { place ≡ FastFind true → topics.now.search.id ≤ 31 }
+    ensures fast { (begun : Bool) → place ≡ FastFind begun
+        → result ≡ (if begun then fast_find_next gfn topics.now.search.next (searched topics.now.search found) else FastFind true) }
     ensures find { (begun : Bool) → place ≡ Find begun
         → result ≡ (if begun then find_next gfn write topics.now.search.next (searched topics.now.search found) else Find true) }
     ensures host { place ≡ Host → result ≡ page_next write found }
@@ -244,6 +311,12 @@ fn looked_next(place: FaultPlace, gfn: u64, write: bool, topics: &Topics, found:
             find_next(gfn, write, topics.search.next, &after)
         }
         FaultPlace::Find { begun: false } => FaultPlace::Find { begun: true },
+        FaultPlace::FastFind { begun: true } => {
+            let mut after = topics.search;
+            search(&mut after, found);
+            fast_find_next(gfn, topics.search.next, &after)
+        }
+        FaultPlace::FastFind { begun: false } => FaultPlace::FastFind { begun: true },
         FaultPlace::Host => page_next(write, HostWord::from_word(found)),
         _ => after_share(share_next(topics.hold, found)),
     }
@@ -260,9 +333,10 @@ pub(crate) fn next(place: FaultPlace, hand: &Hand, gfn: u64, write: bool, found:
     FaultNext::Goes(match place {
         FaultPlace::Begin => FaultPlace::Snapshot,
         FaultPlace::Snapshot => FaultPlace::Find { begun: false },
-        FaultPlace::Find { .. } | FaultPlace::Host | FaultPlace::Share => {
-            looked_next(place, gfn, write, topics, found)
-        }
+        FaultPlace::Find { .. }
+        | FaultPlace::FastFind { .. }
+        | FaultPlace::Host
+        | FaultPlace::Share => { looked_next(place, gfn, write, topics, found) }
         FaultPlace::Bring => brought_next(hand, found),
         FaultPlace::Check(stage) => check_next(stage, gfn, topics, found),
         FaultPlace::Walk { rooted: true } => walk_next(sizes, gfn, write, &topics.walk, found),
@@ -273,14 +347,14 @@ pub(crate) fn next(place: FaultPlace, hand: &Hand, gfn: u64, write: bool, found:
         FaultPlace::Fill if words_filled(topics.owned) + 1 < ENTRIES => FaultPlace::Fill,
         FaultPlace::Fill => FaultPlace::Role,
         FaultPlace::Role => FaultPlace::Link,
-        FaultPlace::Link => {
-            exchange_next(hand, gfn, found, FaultPlace::Walk { rooted: true }, true)
+        FaultPlace::Link | FaultPlace::Leaf { .. } | FaultPlace::Fix => {
+            exchange_next(place, hand, gfn, found)
         }
         FaultPlace::Give(end) => FaultPlace::Unshare(end),
-        FaultPlace::Leaf => {
-            let installed = FaultPlace::Unshare(FaultEnd::Installed);
-            exchange_next(hand, gfn, found, installed, false)
-        }
+        FaultPlace::FastBegin => FaultPlace::FastFind { begun: false },
+        FaultPlace::FastWalk { rooted: true } => fast_walk_next(&topics.walk, found),
+        FaultPlace::FastWalk { rooted: false } => FaultPlace::FastWalk { rooted: true },
+        FaultPlace::Mark { fast } => put_next(fast, false),
         FaultPlace::Unshare(end) => FaultPlace::End(end),
         FaultPlace::End(end) => return FaultNext::Ends(end),
     })

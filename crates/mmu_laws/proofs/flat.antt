@@ -4,6 +4,7 @@ pub mod EveryHistory
 pub mod BringFlat
 pub mod ExchangeFlat
 pub mod FaultNotes
+pub mod FaultEnds
 pub mod FaultFlat
 pub mod FindFlat
 pub mod FlatKept

@@ -4,6 +4,7 @@ pub mod EntryLost
 pub mod EntrySeen
 pub mod HostNearer
 pub mod InstalledEntries
+pub mod LeadsStay
 pub mod LeavesStay
 pub mod SlotChangeNearer
 pub mod StayNearer

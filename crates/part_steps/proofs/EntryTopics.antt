@@ -18,7 +18,7 @@ use Rattle.part_steps.specs.SweepHoldings.{MaySweep}
 use Rattle.part_steps.specs.PartTasks.{table_page, word_looked}
 use Rattle.part_steps.specs.PartHoldings.{LookedUp}
 use Rattle.part_steps.specs.SweepTopics.{gone_up, walk_on}
-use Rattle.part_steps.specs.WalkTopics.{is_in_table, still_owned, swapped, walked}
+use Rattle.part_steps.specs.WalkTopics.{is_in_table, owed_after, still_owned, swapped, walked}
 use Rattle.part_steps.specs.TopicSteps.{index_in_page, topics_after, topics_by}
 
 table_if : (walk : TableWalk) → 1 ≤ walk.level → is_in_table walk ≡ true
@@ -43,17 +43,29 @@ entry_not_loaded z k t found named below =
     ∙ sym (ap (λ (n : StepKind). topics_by n z k t found) named)
 
 -- An entry is exchanged.
-pub entry_exchanged : (z : Sizes) (k : Kind) (t : Topics) (found : ℕ) (walk : TableWalk) (owned : Option OwnedPage) (i : ℕ)
+pub entry_exchanged : (z : Sizes) (k : Kind) (t : Topics) (found : ℕ) (walk : TableWalk) (owned : Option OwnedPage) (owed : Option ℕ) (i : ℕ)
     → kind_named k.code ≡ kind.Swap → 1 ≤ t.walk.level → i ≡ index_in_page z k.word
     → walk ≡ swapped (found == k.old) t.walk i k.new found → owned ≡ still_owned (found == k.old) t.walk k.new t.owned
-    → record t { walk = walk; owned = owned } ≡ topics_after z k t found
+    → owed ≡ owed_after (found == k.old) t.search.logged t.walk i k.new t.owed
+    → record t { walk = walk; owned = owned; owed = owed } ≡ topics_after z k t found
 unfolding topics_after
-entry_exchanged z k t found walk owned i named from at is page =
-    ap (λ (x : TableWalk). record t { walk = x; owned = owned }) (is ∙ ap (λ j. swapped (found == k.old) t.walk j k.new found) at)
-    ∙ ap (λ (o : Option OwnedPage). record t { walk = swapped (found == k.old) t.walk (index_in_page z k.word) k.new found; owned = o }) page
+entry_exchanged z k t found walk owned owed i named from at is page mark =
+    ap (λ (x : TableWalk). record t { walk = x; owned = owned; owed = owed }) is
+    ∙ ap (λ (o : Option OwnedPage). record t { walk = swapped (found == k.old) t.walk i k.new found; owned = o; owed = owed }) page
+    ∙ ap (λ (m : Option ℕ). record t {
+      walk = swapped (found == k.old) t.walk i k.new found;
+      owned = still_owned (found == k.old) t.walk k.new t.owned;
+      owed = m;
+    }) mark
+    ∙ ap (λ (j : ℕ). record t {
+      walk = swapped (found == k.old) t.walk j k.new found;
+      owned = still_owned (found == k.old) t.walk k.new t.owned;
+      owed = owed_after (found == k.old) t.search.logged t.walk j k.new t.owed;
+    }) at
     ∙ sym (ap (λ (b : Bool). record t {
       walk = if b then swapped (found == k.old) t.walk (index_in_page z k.word) k.new found else t.walk;
       owned = if b then still_owned (found == k.old) t.walk k.new t.owned else t.owned;
+      owed = if b then owed_after (found == k.old) t.search.logged t.walk (index_in_page z k.word) k.new t.owed else t.owed;
     }) (table_if t.walk from))
     ∙ sym (ap (λ (n : StepKind). topics_by n z k t found) named)
 
@@ -63,6 +75,7 @@ entry_not_exchanged z k t found named below =
     sym (ap (λ (b : Bool). record t {
       walk = if b then swapped (found == k.old) t.walk (index_in_page z k.word) k.new found else t.walk;
       owned = if b then still_owned (found == k.old) t.walk k.new t.owned else t.owned;
+      owed = if b then owed_after (found == k.old) t.search.logged t.walk (index_in_page z k.word) k.new t.owed else t.owed;
     }) (no_table_if t.walk below))
     ∙ sym (ap (λ (n : StepKind). topics_by n z k t found) named)
 

@@ -22,6 +22,11 @@ abbrev pub role_filled : Option OwnedPage → ℕ
 role_filled None = 0
 role_filled (Some o) = o.role
 
+-- the number that is kept, and 0 where none is
+abbrev pub number_or_none : Option ℕ → ℕ
+number_or_none None = 0
+number_or_none (Some n) = n
+
 -- the page that is retired
 abbrev pub page_retired : Option ℕ → ℕ
 page_retired None = 0

@@ -37,6 +37,7 @@ pub record CountersPart (z : Sizes) (t : Topics) : Type 0 where
   pub seen : t.claim.seen < 2 ^ 64
   pub watched : t.watched ≤ actors_of z
   pub span : 1 ≤ t.walk.level → t.walk.prefix < 2 ^ 36
+  pub entry : t.walk.entry < 2 ^ 64
   pub counted : t.invalidations.count ≤ actors_of z
   pub seq : t.invalidations.seq < 2 ^ 40
   pub asked : t.flush.asked ≤ z.vcpus

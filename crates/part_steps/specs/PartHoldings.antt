@@ -1,7 +1,7 @@
 -- What a hand holds that a step of a part needs: of pages, of the walk, of the look-up and of the invalidations.
-use Rattle.std.specs.Prelude.{◌≡◌, ◌+◌, ◌/◌, ◌^◌, ◌<◌, ◌≤◌, ◌⊎◌, ℕ, true, false, ◌==◌, if◌then◌else◌, Some, None, is_some}
+use Rattle.std.specs.Prelude.{◌≡◌, ◌+◌, ◌/◌, ◌^◌, ◌<◌, ◌≤◌, ◌⊎◌, ℕ, Bool, true, false, ◌==◌, ◌&&◌, not, if◌then◌else◌, Some, None, is_some}
 use Rattle.core_views.specs.declared.topics.Checked.TheVariants as checked
-use Rattle.core_views.specs.declared.topics.Hold.TheVariants.{Shared, Exclusive}
+use Rattle.core_views.specs.declared.topics.Hold.TheVariants.{Loose, Shared, Exclusive}
 use Rattle.core_views.specs.declared.topics.Invalidations.{Invalidations}
 use Rattle.core_views.specs.declared.topics.Stay.TheVariants.{Section}
 use Rattle.core_views.specs.declared.topics.TableWalk.{TableWalk}
@@ -9,11 +9,12 @@ use Rattle.core_views.specs.declared.topics.Topics.{Topics}
 use Rattle.core_views.specs.Held.{Held}
 use Rattle.core_views.specs.Sizes.{actors_of}
 use Rattle.core_views.specs.Slots.{contains}
-use Rattle.spte_words.specs.Entries.{level_span}
+use Rattle.spte_words.specs.declared.spte_kind.SpteKind.TheVariants.{Leaf}
+use Rattle.spte_words.specs.Entries.{can_write, host_writable, kind_of, level_span, mmu_writable}
 use Rattle.spte_words.specs.HostWords.{host_present}
 use Rattle.part_steps.specs.SetWords.{set_role}
 use Rattle.part_steps.specs.SlotWords.{page_of}
-use Rattle.part_steps.specs.PartTasks.{entry_index, words_filled, is_absent, role_filled, own_index, page_retired, word_looked}
+use Rattle.part_steps.specs.PartTasks.{entry_index, number_or_none, words_filled, is_absent, role_filled, own_index, page_retired, word_looked}
 
 -- the actor whose state word comes next, where those before this place were looked at: each but the own
 abbrev pub next_watched : ℕ → ℕ → ℕ
@@ -82,6 +83,32 @@ pub record MayEnter (gfn : ℕ) (t : Topics) : Type 0 where
   pub looked_up : LookedUp gfn t
   pub present : host_present (word_looked t.host) ≡ true
   pub saw : SawEntry gfn t.walk
+  pub owes_none : t.owed ≡ None
+
+-- The entry that was loaded isn't a leaf that allows writes.
+abbrev pub SawNoWrites : TableWalk → Type 0
+SawNoWrites walk = kind_of walk.level walk.entry ≡ Leaf → can_write walk.entry ≡ false
+
+-- The leaf forbids writes, which slot and host allow (locking.rst, "Fast page fault").
+abbrev pub is_fixable : ℕ → Bool
+is_fixable w = not (can_write w) && (host_writable w && mmu_writable w)
+
+-- A fast fault may allow writes in the guest frame's leaf: in a section, without the lock, it found the slot, and saw that the leaf forbids them alone.
+pub record MayFix (gfn : ℕ) (t : Topics) : Type 0 where
+  pub section : t.stay ≡ Section
+  pub loose : t.hold ≡ Loose
+  pub found : FoundSlot gfn t
+  pub saw : SawEntry gfn t.walk
+  pub lowest : t.walk.level ≡ 1
+  pub leaf : kind_of t.walk.level t.walk.entry ≡ Leaf
+  pub fixable : is_fixable t.walk.entry ≡ true
+  pub owes_none : t.owed ≡ None
+
+-- A mark is owed for a guest frame of the slot that was found, in a section.
+pub record MayMark (t : Topics) : Type 0 where
+  pub section : t.stay ≡ Section
+  pub owes : is_some t.owed ≡ true
+  pub found : FoundSlot (number_or_none t.owed) t
 
 -- The page that is owned is filled whole, as a slot set.
 pub record OwnsSet (t : Topics) : Type 0 where

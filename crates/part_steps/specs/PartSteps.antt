@@ -18,7 +18,7 @@ use Rattle.part_steps.specs.declared.part_step.PartStep.TheVariants as part
 use Rattle.part_steps.specs.PartTasks.{own_index, page_owned, word_looked}
 use Rattle.part_steps.specs.FrameHoldings.{MayCopy, MayGiveFrame, MayStore, revises}
 use Rattle.part_steps.specs.PartHoldings.{next_watched, OwnsPage, HasToFill, HasRoleToSet, HoldsSet, IsOver, MayBring, OwnsTable, MayEnter}
-use Rattle.part_steps.specs.PartHoldings.{MayPublish, MayGiveOld}
+use Rattle.part_steps.specs.PartHoldings.{MayFix, MayGiveOld, MayMark, MayPublish, SawNoWrites}
 use Rattle.part_steps.specs.InvalidationHoldings.{MayAsk, MayChange, MayCount, MayEndInvalidation, MaySetEnd, MaySetStart}
 use Rattle.part_steps.specs.SweepHoldings.{MaySweep, MayZap}
 use Rattle.part_steps.specs.InvalidationRange.{has_found_looked}
@@ -40,11 +40,13 @@ counts Exclusive = false
 abbrev pub GoesOnToWord : ℕ → MapClaim → Type 0
 GoesOnToWord word claim = (word ≡ 0) ⊎ ((word ≡ claim.at) × (claim.seen ≡ 0))
 
--- The step is one of lines alone, in their order: it changes an entry of the tables, or is of a publication, of an invalidation or of a change
+-- The step is one of lines alone, in their order: it changes an entry of the tables, marks a page, or is of a publication, of an invalidation or of a change
 -- or move of a host page. No actor makes it that has no line left.
 abbrev pub needs_line : PartStep → Bool
 needs_line (part.Link gfn) = true
-needs_line (part.Leaf gfn) = true
+needs_line (part.Leaf gfn write) = true
+needs_line (part.Fix gfn) = true
+needs_line part.Mark = true
 needs_line part.Publish = true
 needs_line part.Clear = true
 needs_line part.GiveOld = true
@@ -71,7 +73,7 @@ PartNeeds part.Enter h = IsVcpu h.state.actor × (h.topics.stay ≡ Outside)
 PartNeeds part.Leave h = h.topics.stay ≡ Guest
 PartNeeds part.Pause h = Unit {0}
 PartNeeds part.Begin h = h.topics.stay ≡ Outside
-PartNeeds part.End h = h.topics.stay ≡ Section
+PartNeeds part.End h = (h.topics.stay ≡ Section) × (h.topics.owed ≡ None)
 PartNeeds part.Share h = h.topics.hold ≡ Loose
 PartNeeds part.Unshare h = counts h.topics.hold ≡ true
 PartNeeds part.Exclude h = h.topics.hold ≡ Loose
@@ -94,7 +96,9 @@ PartNeeds (part.Sweep gfn) h = MaySweep gfn h.topics
 PartNeeds (part.Link gfn) h =
     MayEnter gfn h.topics × (2 ≤ h.topics.walk.level) × (kind_of h.topics.walk.level h.topics.walk.entry ≡ entry_kind.Absent)
     × OwnsTable (h.topics.walk.level - 1) h.topics
-PartNeeds (part.Leaf gfn) h = MayEnter gfn h.topics × (h.topics.walk.level ≡ 1)
+PartNeeds (part.Leaf gfn write) h = MayEnter gfn h.topics × (h.topics.walk.level ≡ 1) × SawNoWrites h.topics.walk
+PartNeeds (part.Fix gfn) h = MayFix gfn h.topics
+PartNeeds part.Mark h = MayMark h.topics
 PartNeeds (part.Host page) h = (page < h.state.sizes.pages) × (is_alone h.topics.hold ≡ false)
 PartNeeds part.Bring h = MayBring h.topics
 PartNeeds (part.Watch index) h =

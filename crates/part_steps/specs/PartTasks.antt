@@ -1,5 +1,5 @@
 -- Which step of the machine each step of a part is: its kind, its word, what it expects there and what it writes.
-use Rattle.std.specs.Prelude.{◌/◌, ◌%◌, ◌^◌, ◌<◌, ℕ, true, ◌==◌, if◌then◌else◌}
+use Rattle.std.specs.Prelude.{◌/◌, ◌%◌, ◌^◌, ◌<◌, ℕ, Bool, true, not, ◌==◌, ◌||◌, if◌then◌else◌}
 use Rattle.std.specs.Int.{bit_not}
 use mir.Syntax.{w64}
 use Rattle.core_views.specs.declared.kind.Kind.{Kind}
@@ -12,14 +12,14 @@ use Rattle.core_views.specs.Sizes.{index_of}
 use Rattle.spte_words.specs.declared.area.Area.{Area}
 use Rattle.spte_words.specs.declared.area.Area.TheVariants as area
 use Rattle.spte_words.specs.Areas.{pool_index, size_of}
-use Rattle.spte_words.specs.Entries.{level_span, table_word}
+use Rattle.spte_words.specs.Entries.{level_span, table_word, with_write}
 use Rattle.spte_words.specs.HostWords.{with_presence}
 use Rattle.part_steps.specs.declared.task.Task.{Task}
 use Rattle.part_steps.specs.declared.part_step.PartStep.{PartStep}
 use Rattle.part_steps.specs.declared.part_step.PartStep.TheVariants as part
-pub use Rattle.part_steps.specs.HeldNumbers.{is_absent, page_retired, page_owned, role_filled, set_held, word_looked, words_filled}
+pub use Rattle.part_steps.specs.HeldNumbers.{is_absent, number_or_none, page_retired, page_owned, role_filled, set_held, word_looked, words_filled}
 pub use Rattle.part_steps.specs.InvalidationRange.{page_looked}
-use Rattle.part_steps.specs.SlotWords.{leaf_of, slot_index}
+use Rattle.part_steps.specs.SlotWords.{leaf_of, page_of, slot_index}
 use Rattle.part_steps.specs.Tasks.{kind_of_task, loads, map_of}
 use Rattle.part_steps.specs.FrameTopics.{frame_owned, word_held}
 use Rattle.part_steps.specs.PageTopics.{tried_bit}
@@ -42,12 +42,24 @@ table_page walk =
 abbrev pub entry_index : ℕ → ℕ → ℕ
 entry_index gfn level = gfn / level_span level % 512
 
--- what a link to the owned page is, and the leaf of the page that was looked up
+-- A leaf is put with write permission for a write, and where the slot has no dirty log (locking.rst, "Fast page fault").
+abbrev pub puts_write : Bool → Topics → Bool
+puts_write write t = write || not t.search.logged
+
+-- what a link to the owned page is, and the leaf of the page that was looked up, for an access that writes or doesn't; and the leaf that was seen, which
+-- allows writes now
 abbrev pub link_written : Topics → ℕ
 link_written t = table_word (page_owned t.owned)
 
-abbrev pub leaf_written : Topics → ℕ
-leaf_written t = leaf_of t.search.slot (word_looked t.host)
+abbrev pub leaf_written : Bool → Topics → ℕ
+leaf_written write t = leaf_of (puts_write write t) t.search.slot (word_looked t.host)
+
+abbrev pub leaf_fixed : Topics → ℕ
+leaf_fixed t = with_write t.walk.entry
+
+-- the host page behind the guest frame for which a mark is owed
+abbrev pub page_owed : Topics → ℕ
+page_owed t = page_of t.search.slot (number_or_none t.owed)
 
 -- an exchange of a guest frame's entry in the table that the walk has come to, where it is as it was loaded
 abbrev pub entry_task : ℕ → ℕ → TableWalk → ℕ → Task
@@ -100,7 +112,9 @@ part_task (part.Walk gfn) own t note = loads kind.Walk area.Pool (pool_index (ta
 part_task (part.Sweep gfn) own t note =
     loads kind.Walk area.Pool (pool_index (table_page (gone_up t.walk)) (entry_index gfn (gone_up t.walk).level)) note
 part_task (part.Link gfn) own t note = entry_task gfn (link_written t) t.walk note
-part_task (part.Leaf gfn) own t note = entry_task gfn (leaf_written t) t.walk note
+part_task (part.Leaf gfn write) own t note = entry_task gfn (leaf_written write t) t.walk note
+part_task (part.Fix gfn) own t note = entry_task gfn (leaf_fixed t) t.walk note
+part_task part.Mark own t note = works kind.Mark area.Log (page_owed t / 64) (2 ^ (page_owed t % 64)) note
 part_task (part.Host page) own t note = loads kind.Host area.Host page note
 part_task (part.Watch index) own t note = loads kind.Watch area.State index note
 part_task part.Publish own t note = works kind.Publish area.Slots 0 (page_owned t.owned) note

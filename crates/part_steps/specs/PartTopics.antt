@@ -9,10 +9,10 @@ use Rattle.part_steps.specs.declared.part_step.PartStep.TheVariants as part
 use Rattle.spte_words.specs.HostWords.{host_frame, with_presence}
 use Rattle.part_steps.specs.FrameTopics.{frame_after, frame_given, frame_tried, word_copied, word_stored}
 use Rattle.part_steps.specs.InvalidationRange.{page_aimed}
-use Rattle.part_steps.specs.PartTasks.{entry_index, leaf_written, link_written, page_looked, word_looked}
+use Rattle.part_steps.specs.PartTasks.{entry_index, leaf_fixed, leaf_written, link_written, page_looked, word_looked}
 use Rattle.part_steps.specs.StayTopics.{begun, flush_kept, has_lock, is_loose, kept_search, let_go, may_search, may_walk, unchecked}
 use Rattle.part_steps.specs.SweepTopics.{gone_up}
-use Rattle.part_steps.specs.WalkTopics.{gone_down, still_owned, swapped, walked}
+use Rattle.part_steps.specs.WalkTopics.{gone_down, owed_after, still_owned, swapped, walked}
 use Rattle.part_steps.specs.PageTopics.{claimed, filled_more, given_back, published, searched, tried}
 use Rattle.part_steps.specs.ControlTopics.{at_root, at_set, count_checked, end_known, range_checked}
 use Rattle.part_steps.specs.ControlBits.{has_to_flush, has_writer, in_section}
@@ -32,7 +32,11 @@ sequenced without_lock t v = record t {
 
 -- The entry at an index was to be exchanged for a new one, and v was found there.
 abbrev pub exchanged : Bool → ℕ → ℕ → Topics → ℕ → Topics
-exchanged won index new_ t v = record t { walk = swapped won t.walk index new_ v; owned = still_owned won t.walk new_ t.owned }
+exchanged won index new_ t v = record t {
+  walk = swapped won t.walk index new_ v;
+  owned = still_owned won t.walk new_ t.owned;
+  owed = owed_after won t.search.logged t.walk index new_ t.owed;
+}
 
 -- The host word that was looked up was to be exchanged for a new one, and v was found there.
 abbrev pub exchanged_host : ℕ → Topics → ℕ → Topics
@@ -73,7 +77,9 @@ part_topics part.Root t v = record t { walk = at_root (may_walk t.stay t.hold) t
 part_topics (part.Walk gfn) t v = record t { walk = walked t.walk (entry_index gfn t.walk.level) v }
 part_topics (part.Sweep gfn) t v = record t { walk = walked (gone_up t.walk) (entry_index gfn (gone_up t.walk).level) v }
 part_topics (part.Link gfn) t v = exchanged (v == t.walk.entry) (entry_index gfn t.walk.level) (link_written t) t v
-part_topics (part.Leaf gfn) t v = exchanged (v == t.walk.entry) (entry_index gfn t.walk.level) (leaf_written t) t v
+part_topics (part.Leaf gfn write) t v = exchanged (v == t.walk.entry) (entry_index gfn t.walk.level) (leaf_written write t) t v
+part_topics (part.Fix gfn) t v = exchanged (v == t.walk.entry) (entry_index gfn t.walk.level) (leaf_fixed t) t v
+part_topics part.Mark t v = record t { owed = None }
 part_topics (part.Host page) t v = record t { host = Some (record { page = page; word = v }) }
 part_topics (part.Watch index) t v = record t { watched = index + (if in_section v then 0 else 1) }
 part_topics part.Publish t v = published t v

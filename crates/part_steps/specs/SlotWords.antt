@@ -68,6 +68,6 @@ page_of slot gfn = slot.host + (gfn - slot.base)
 abbrev pub may_write : Slot → ℕ → Bool
 may_write slot host = host_allows_write host && not slot.read_only
 
--- the leaf of a page in the slot, from its host word: with write permission where host and slot allow it
-abbrev pub leaf_of : Slot → ℕ → ℕ
-leaf_of slot host = leaf_word 1 (host_frame host) (may_write slot host) (host_allows_write host) (may_write slot host)
+-- the leaf of a page in the slot, from its host word: with write permission, if it is asked for, where host and slot allow it
+abbrev pub leaf_of : Bool → Slot → ℕ → ℕ
+leaf_of writes slot host = leaf_word 1 (host_frame host) (writes && may_write slot host) (host_allows_write host) (may_write slot host)

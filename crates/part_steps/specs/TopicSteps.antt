@@ -16,7 +16,7 @@ use Rattle.part_steps.specs.Tasks.{map_of}
 use Rattle.part_steps.specs.InvalidationRange.{page_aimed}
 use Rattle.part_steps.specs.SweepTopics.{walk_on}
 use Rattle.part_steps.specs.StayTopics.{unchecked, begun, flush_kept, let_go}
-use Rattle.part_steps.specs.WalkTopics.{gone_down, is_in_table, walked, swapped, still_owned}
+use Rattle.part_steps.specs.WalkTopics.{gone_down, is_in_table, owed_after, walked, swapped, still_owned}
 use Rattle.part_steps.specs.PageTopics.{searched, claimed, tried, filled_more, given_back, published}
 use Rattle.part_steps.specs.FrameTopics.{frame_after, frame_given, frame_tried, word_copied, word_stored, words_moved}
 use Rattle.part_steps.specs.ControlTopics.{controlled, stored}
@@ -87,7 +87,9 @@ topics_by kind.Add z k t v = t
 topics_by kind.Swap z k t v = record t {
   walk = if is_in_table t.walk then swapped (v == k.old) t.walk (index_in_page z k.word) k.new v else t.walk;
   owned = if is_in_table t.walk then still_owned (v == k.old) t.walk k.new t.owned else t.owned;
+  owed = if is_in_table t.walk then owed_after (v == k.old) t.search.logged t.walk (index_in_page z k.word) k.new t.owed else t.owed;
 }
+topics_by kind.Mark z k t v = record t { owed = None }
 
 -- what is held after a step that answered v
 unfoldable pub topics_after : Sizes → Kind → Topics → ℕ → Topics

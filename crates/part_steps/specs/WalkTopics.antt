@@ -1,10 +1,10 @@
 -- What an actor holds of a walk: after each load of an entry, and each exchange of one.
-use Rattle.std.specs.Prelude.{◌+◌, ◌-◌, ◌*◌, ℕ, Bool, true, false, ◌==◌, nat_le, if◌then◌else◌, Option, Some, None}
+use Rattle.std.specs.Prelude.{◌+◌, ◌-◌, ◌*◌, ℕ, Bool, true, false, ◌==◌, ◌&&◌, nat_le, if◌then◌else◌, Option, Some, None}
 use Rattle.core_views.specs.declared.topics.OwnedPage.{OwnedPage}
 use Rattle.core_views.specs.declared.topics.TableWalk.{TableWalk}
 use Rattle.spte_words.specs.declared.spte_kind.SpteKind.{SpteKind}
 use Rattle.spte_words.specs.declared.spte_kind.SpteKind.TheVariants as entry_kind
-use Rattle.spte_words.specs.Entries.{kind_of}
+use Rattle.spte_words.specs.Entries.{can_write, kind_of}
 
 -- the pool page that an entry links to, if it is a link
 abbrev pub linked_page : SpteKind → Option ℕ
@@ -45,3 +45,11 @@ unless_linked (Some page) owned = None
 abbrev pub still_owned : Bool → TableWalk → ℕ → Option OwnedPage → Option OwnedPage
 still_owned true walk new_ owned = unless_linked (linked_page (kind_of walk.level new_)) owned
 still_owned false walk new_ owned = owned
+
+-- A leaf that allows writes was put into a table of the lowest level, where the slot has a dirty log.
+abbrev pub owes_mark : Bool → Bool → TableWalk → ℕ → Bool
+owes_mark won logged walk new_ = won && ((walk.level == 1) && (logged && can_write new_))
+
+-- Then a mark is owed for its guest frame (locking.rst, "Fast page fault").
+abbrev pub owed_after : Bool → Bool → TableWalk → ℕ → ℕ → Option ℕ → Option ℕ
+owed_after won logged walk index new_ owed = if owes_mark won logged walk new_ then Some (walk.prefix * 512 + index) else owed

@@ -20,7 +20,7 @@ pub use part_step::{
     PartStep, entry_index, page_owned, part_kind, part_task, span_of, table_page, word_looked,
     words_filled,
 };
-pub use slot_words::{SLOT_SET_ROLE, page_of, set_word};
+pub use slot_words::{SLOT_SET_ROLE, is_fixable, page_of, set_word};
 pub use sweep::{has_entry, leads_nowhere, sweep_on, swept_to};
 pub use task::{Task, kind_of, map_of};
 pub use topics::{is_won, search, step_topics};

@@ -40,13 +40,14 @@ fn is_of_pool(pool: u64, owned: Option<OwnedPage>) -> bool
 }
 
 /// Whether the step is one of lines alone, which no actor makes that has no line
-/// left: it changes an entry of the tables, or is of a publication, of an invalidation or of
+/// left: it changes an entry of the tables, marks a page, or is of a publication, of an invalidation or of
 /// a change or move of a host page.
 pub fn needs_line(step: PartStep) -> bool
     ensures { result ≡ needs_line step }
 {
     match step {
-        PartStep::Link(_) | PartStep::Leaf(_) | PartStep::Sweep(_) | PartStep::Zap(_) => true,
+        PartStep::Link(_) | PartStep::Leaf { .. } | PartStep::Sweep(_) | PartStep::Zap(_) => true,
+        PartStep::Fix(_) | PartStep::Mark => true,
         PartStep::Publish | PartStep::Clear | PartStep::GiveOld => true,
         PartStep::SetStart { .. } | PartStep::SetEnd { .. } => true,
         PartStep::SetCount(_) | PartStep::SetSeq(_) => true,
@@ -74,7 +75,7 @@ pub fn has_needs(hand: &Hand, step: PartStep) -> bool
         }
         PartStep::Leave => topics.stay == Stay::Guest,
         PartStep::Begin => topics.stay == Stay::Outside,
-        PartStep::End => topics.stay == Stay::Section,
+        PartStep::End => topics.stay == Stay::Section && topics.owed.is_none(),
         PartStep::Share | PartStep::Exclude => topics.hold == Hold::Loose,
         PartStep::Unshare => matches!(topics.hold, Hold::Shared | Hold::Owing(_)),
         PartStep::Release => topics.hold == Hold::Exclusive,

@@ -6,7 +6,8 @@ ghost use Rattle.core_views.specs.declared.topics.OwnedPage.{OwnedPage};
 ghost use Rattle.spte_words.specs.declared.area.Area.TheVariants as Area;
 ghost use Rattle.spte_words.specs.Areas.{IsWordMap, pool_index, size_of};
 ghost use Rattle.part_steps.specs.PartBounds.{PartRests};
-ghost use Rattle.part_steps.specs.PartTasks.{all_but, entry_index, entry_task, leaf_written, own_index, page_retired, page_looked, page_owned};
+ghost use Rattle.part_steps.specs.PartTasks.{all_but, entry_index, entry_task, leaf_fixed, leaf_written, own_index};
+ghost use Rattle.part_steps.specs.PartTasks.{page_looked, page_owed, page_owned, page_retired};
 ghost use Rattle.part_steps.specs.PartTasks.{exchanges_host, part_kind, part_task, set_held, stores_bound, table_page, word_looked, words_filled, works};
 ghost use Rattle.part_steps.specs.PartSteps.{PartNeeds};
 ghost use Rattle.part_steps.specs.SlotWords.{slot_index};
@@ -20,7 +21,7 @@ ghost use Rattle.part_steps.specs.declared.part_step.PartStep.TheVariants.{Enter
 
 use crate::control_words::{GUEST_BITS, REQUEST_BIT, SECTION_BIT, WRITER};
 use crate::frames::{frame_owned, word_held};
-use crate::slot_words::{leaf_of, slot_word};
+use crate::slot_words::{leaf_of, page_of, slot_word};
 use crate::sweep::go_up;
 use crate::task::{Task, kind_of, map_of};
 use crate::topics::tried_bit;
@@ -81,8 +82,13 @@ pub enum PartStep {
     Sweep(u64),
     /// Links the page that it owns as a table, at the entry of this guest frame.
     Link(u64),
-    /// Puts the leaf of this guest frame's page at its entry.
-    Leaf(u64),
+    /// Puts the leaf of this guest frame's page at its entry, for an access that writes or
+    /// doesn't.
+    Leaf { gfn: u64, write: bool },
+    /// Allows writes in the leaf of this guest frame that its walk has come to.
+    Fix(u64),
+    /// Marks the host page for which a mark is owed in the dirty log.
+    Mark,
     /// Loads the host word of this page.
     Host(u64),
     /// Loads the state word of the actor at this place.
@@ -325,15 +331,36 @@ fn link(owned: Option<OwnedPage>) -> u64
 }
 
 // The leaf of the page that was looked up.
-fn leaf(topics: &Topics) -> u64
+fn leaf(topics: &Topics, write: bool) -> u64
     requires frame { host_frame (word_looked topics.now.host) < 2 ^ 40 }
     requires looked { is_some topics.now.host ≡ true }
-    ensures { result ≡ leaf_written topics.now }
+    ensures { result ≡ leaf_written write topics.now }
 {
     let Some(HostLook { word, .. }) = topics.host else {
         unreachable!()
     };
-    leaf_of(&topics.search.slot, word)
+    leaf_of(write || !topics.search.logged, &topics.search.slot, word)
+}
+
+// The leaf that was seen, which allows writes now.
+fn fixed(topics: &Topics) -> u64
+    ensures { result ≡ leaf_fixed topics.now }
+{
+    Spte::from_word(topics.walk.entry).with_write().word()
+}
+
+// Sets the bit of the page for which a mark is owed.
+fn mark(topics: &Topics, note: u64) -> Task
+    requires owes { is_some topics.now.owed ≡ true }
+    requires small { page_owed topics.now < 2 ^ 64 }
+    ensures { result ≡ works StepKind.Mark Area.Log (page_owed topics.now / 64) (2 ^ (page_owed topics.now % 64)) note }
+{
+    let Some(gfn) = topics.owed else {
+        unreachable!()
+    };
+    let page = page_of(&topics.search.slot, gfn);
+    let bit = 1 << (page % 64);
+    work(StepKind::Mark, Area::Log, page / 64, bit, note)
 }
 
 // Swaps the guest frame's entry, in the table that the walk has come to, for an absent one.
@@ -489,7 +516,9 @@ pub fn part_task(hand: &Hand, step: PartStep, note: u64) -> Task
             walk(map, &at, gfn, note)
         }
         PartStep::Link(gfn) => enter(map, &topics.walk, gfn, link(topics.owned), note),
-        PartStep::Leaf(gfn) => enter(map, &topics.walk, gfn, leaf(topics), note),
+        PartStep::Leaf { gfn, write } => enter(map, &topics.walk, gfn, leaf(topics, write), note),
+        PartStep::Fix(gfn) => enter(map, &topics.walk, gfn, fixed(topics), note),
+        PartStep::Mark => mark(topics, note),
         PartStep::Host(page) => Task::load(StepKind::Host, Area::Host, page, note),
         PartStep::Watch(index) => Task::load(StepKind::Watch, Area::State, index, note),
         PartStep::Publish => publish(topics.owned, note),

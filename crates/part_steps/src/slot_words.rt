@@ -1,4 +1,5 @@
 ghost use Rattle.std.specs.Prelude.{◌≡◌, ◌≤◌, ◌<◌, ◌^◌};
+ghost use Rattle.part_steps.specs.PartHoldings.{is_fixable};
 ghost use Rattle.part_steps.specs.SlotWords.{field_number, leaf_of, may_write, page_of, slot_index};
 ghost use Rattle.part_steps.specs.SetWords.{set_word, word_of_slot};
 ghost use Rattle.core_views.specs.Refusals.{after_set};
@@ -121,13 +122,21 @@ pub fn page_of(slot: &Slot, gfn: u64) -> u64
     slot.host + gfn.saturating_sub(slot.base)
 }
 
-/// The leaf of a page in the slot, from its host word: with write permission
-/// where host and slot allow it.
-pub(crate) fn leaf_of(slot: &Slot, host: u64) -> u64
+/// Whether the leaf forbids writes, which slot and host allow.
+pub fn is_fixable(leaf: Spte) -> bool
+    ensures { result ≡ is_fixable leaf }
+{
+    !leaf.is_writable() && leaf.is_host_writable() && leaf.is_mmu_writable()
+}
+
+/// The leaf of a page in the slot, from its host word: with write permission, if it is
+/// asked for, where host and slot allow it.
+pub(crate) fn leaf_of(writes: bool, slot: &Slot, host: u64) -> u64
     requires { host_frame host < 2 ^ 40 }
-    ensures { result ≡ leaf_of slot.now host }
+    ensures { result ≡ leaf_of writes slot.now host }
 {
     let host = HostWord::from_word(host);
     let writable = host.is_writable() && !slot.read_only;
-    Spte::leaf(1, host.frame(), writable, host.is_writable(), writable).word()
+    let host_allows = host.is_writable();
+    Spte::leaf(1, host.frame(), writes && writable, host_allows, writable).word()
 }

@@ -9,7 +9,7 @@ ghost use Rattle.spte_words.specs.Areas.{number_of};
 ghost use Rattle.spte_words.specs.declared.area.Area.TheVariants as Area;
 ghost use Rattle.part_steps.specs.ControlBits.{is_content};
 ghost use Rattle.part_steps.specs.StayTopics.{begun, let_go, may_search, may_walk};
-ghost use Rattle.part_steps.specs.WalkTopics.{gone_down, is_in_table, still_owned, swapped, walked};
+ghost use Rattle.part_steps.specs.WalkTopics.{gone_down, is_in_table, owed_after, still_owned, swapped, walked};
 ghost use Rattle.part_steps.specs.PageTopics.{claimed, filled_more, is_won, published, searched, tried, tried_bit};
 ghost use Rattle.part_steps.specs.ControlTopics.{at_word, checked_after, controlled, count_checked, end_known, noted, range_checked, seq_checked};
 ghost use Rattle.part_steps.specs.ControlTopics.{start_checked, start_known, stored, takes_snapshot};
@@ -48,6 +48,7 @@ fn go(topics: &mut Topics, stay: Stay)
     topics.search.set = None;
     topics.search.whole = false;
     topics.host = None;
+    topics.owed = None;
     topics.invalidations.snapshot = None;
     topics.invalidations.checked = Checked::Nothing;
 }
@@ -159,6 +160,17 @@ fn load_entry(sizes: &Sizes, kind: Kind, topics: &mut Topics, found: u64)
     }
 }
 
+// A mark is owed where a leaf that allows writes was put, in a slot with a dirty log.
+fn owe_mark(owed: &mut Option<u64>, at: &TableWalk, won: bool, logged: bool, index: u64, new: u64)
+    requires room { at.now.prefix < 2 ^ 36 }
+    requires index { index < 512 }
+    ensures { owed.new ≡ owed_after won logged at.now index new owed.old }
+{
+    if won && at.level == 1 && logged && Spte::from_word(new).is_writable() {
+        *owed = Some(at.prefix * 512 + index);
+    }
+}
+
 // An entry was exchanged, where the walk has come to a table.
 fn exchange_entry(sizes: &Sizes, kind: Kind, topics: &mut Topics, found: u64)
     requires sizes { AreSizes sizes.now }
@@ -170,6 +182,8 @@ fn exchange_entry(sizes: &Sizes, kind: Kind, topics: &mut Topics, found: u64)
         let won = found == kind.old;
         keep_owned(&mut topics.owned, &topics.walk, won, kind.new);
         let index = index_in_page(sizes, kind.word);
+        let logged = topics.search.logged;
+        owe_mark(&mut topics.owed, &topics.walk, won, logged, index, kind.new);
         swap_entry(&mut topics.walk, won, index, kind.new, found);
     }
 }
@@ -516,6 +530,7 @@ pub fn step_topics(sizes: &Sizes, kind: Kind, topics: &mut Topics, found: u64)
         StepKind::Begin => go(topics, Stay::Section),
         StepKind::Walk => load_entry(sizes, kind, topics, found),
         StepKind::Swap => exchange_entry(sizes, kind, topics, found),
+        StepKind::Mark => topics.owed = None,
         StepKind::Control => control(sizes, kind.word, topics, found),
         StepKind::Slot => {
             if topics.search.set.is_some() {

@@ -15,6 +15,8 @@ pub use machines::{
 #[cfg(test)]
 mod expected;
 #[cfg(test)]
+mod fast_tests;
+#[cfg(test)]
 mod find_tests;
 #[cfg(test)]
 mod grace_tests;

@@ -1,7 +1,7 @@
 //! Whole runs of the program, over sources and sinks in memory.
 use crate::program::{run, run_within};
 use crate::status::Status;
-use crate::{race_steps, short_steps};
+use crate::{fast_steps, race_steps, short_steps};
 use std::alloc::Global;
 use std::test::Fail;
 use tdp_io::{MemSink, MemSource};
@@ -160,6 +160,16 @@ fn shows_two_that_race(rt: HostRuntime) -> Result<(), Fail> {
     let (status, out) = run_on(rt.alloc(), &["show_steps"], race_steps::TRACE, &[], &[])?;
     assert_eq!(rt; status, Status::Done);
     assert!(rt; out.bytes() == race_steps::STEPS.as_bytes());
+    Ok(())
+}
+
+// A fast fault that doesn't allow the write goes on to the whole one with an ordinary turn.
+#[test]
+fn shows_a_fast_fault(rt: HostRuntime) -> Result<(), Fail> {
+    let replay = ["show_steps", "replay"];
+    let (status, out) = run_on(rt.alloc(), &replay, fast_steps::TRACE, &[], &[])?;
+    assert_eq!(rt; status, Status::Done);
+    assert!(rt; out.bytes().ends_with(fast_steps::STEPS.as_bytes()));
     Ok(())
 }
 

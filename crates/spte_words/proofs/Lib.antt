@@ -1,6 +1,7 @@
 pub mod Spans
 pub mod ReadsBits
 pub mod ReadsEntries
+pub mod FixedEntries
 pub mod ReadsHost
 pub mod ReadsFlags
 pub mod Places

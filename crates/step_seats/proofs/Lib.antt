@@ -9,4 +9,5 @@ pub mod Found
 pub mod ToldWords
 pub mod LineParts
 pub mod LineTurns
+pub mod FaultTurns
 pub mod Answering

@@ -1,6 +1,7 @@
 //! Seats at the words of the machine: each makes the steps of one actor.
 #![tactic(auto)]
 
+mod fault;
 mod part;
 mod plain;
 mod seat;
@@ -8,6 +9,7 @@ mod start;
 mod stepper;
 mod turn;
 
+pub use fault::{fault_place, is_fast_place};
 pub use part::make_part;
 pub use plain::PlainMachine;
 pub use seat::{ActorSeat, MachineFrame};

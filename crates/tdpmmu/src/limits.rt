@@ -41,6 +41,34 @@ const ABSENT: [(&str, u64); 5] = [
     ("write", 1581),
 ];
 
+// A write that meets a leaf of a read-only slot makes 28 steps: a stay that finds the leaf (8), a fast fault, which
+// looks up slot and leaf, and doesn't allow the write (12), and a fault that finds the slot again (8).
+const IN_VAIN: u64 = 28;
+
+const MET: [(&str, u64); 13] = [
+    ("enter", 1),
+    ("control", 2),
+    ("walk", 4),
+    ("leave", 8),
+    ("begin", 9),
+    ("begin\n> v0 control", 10),
+    ("slot", 11),
+    ("slot\n> v0 control", 15),
+    ("slot\n> v0 walk", 16),
+    ("slot\n> v0 begin", 21),
+    ("begin\n> v0 begin", 21),
+    ("begin\n> v0 begin\n> v0 control", 22),
+    ("begin\n> v0 begin\n> v0 slot", 24),
+];
+
+// Where the host forbids the write instead, the fault looks at the host word, too.
+const FORBIDDEN: [(&str, u64); 4] = [
+    ("leave", 8),
+    ("slot\n> v0 walk", 16),
+    ("slot\n> v0 begin", 21),
+    ("host", 28),
+];
+
 // How a weave of the lines after the header ends within so many turns in rounds,
 // and what it prints.
 fn weave_lines(alloc: Global, lines: &str, limit: u64) -> Result<Option<(How, MemSink)>, Fail> {
@@ -81,18 +109,19 @@ fn ends(alloc: Global, lines: &str, limit: u64, how: How, text: &str) -> Result<
     }
 }
 
-// The lines before `go`, how many lines they are, how many steps a cold access makes below them, and what
-// they print.
+// The lines before `go`, how many lines they are, and what they print; and how many steps a write makes below
+// them, and how it is answered.
 #[derive(Drop)]
 struct Above<'t> {
     lines: &'t str,
     count: u32,
-    steps: u64,
     text: &'t str,
+    steps: u64,
+    answer: &'t str,
 }
 
-// The first kind of the table of which a cold access, once it has made it with this turn, doesn't need just as
-// many steps as are left.
+// The first kind of the table of which the write, once it has made it with this turn, doesn't need just as many
+// steps as are left.
 fn first_other<'t>(
     alloc: Global,
     above: &Above<'_>,
@@ -104,7 +133,8 @@ fn first_other<'t>(
         line,
     };
     let text = above.text;
-    let all = format!(in alloc; "{text}{line} v0 frame 1 value 0\n")?;
+    let answer = above.answer;
+    let all = format!(in alloc; "{text}{line} v0 {answer}\n")?;
     let part = format!(in alloc; "{text}unfinished {line} v0\n")?;
     for (kind, turn) in table {
         let before = above.lines;
@@ -124,8 +154,9 @@ fn leaves_the_steps_after_each_kind(rt: HostRuntime) -> Result<(), Fail> {
     let above = Above {
         lines: "vm slot 0 0 16 0\n",
         count: 1,
-        steps: COLD,
         text: "2 vm done\n",
+        steps: COLD,
+        answer: "frame 1 value 0",
     };
     assert_eq!(rt; first_other(rt.alloc(), &above, &FIRST)?, None);
     Ok(())
@@ -136,10 +167,33 @@ fn brings_a_page_in_with_one_step_more(rt: HostRuntime) -> Result<(), Fail> {
     let above = Above {
         lines: "vm slot 0 0 16 0\nh0 evict 1\n",
         count: 2,
-        steps: COLD + 1,
         text: "2 vm done\n3 h0 done\n",
+        steps: COLD + 1,
+        answer: "frame 1 value 0",
     };
     assert_eq!(rt; first_other(rt.alloc(), &above, &ABSENT)?, None);
+    Ok(())
+}
+
+#[test]
+fn makes_a_fast_fault_where_it_meets_a_leaf(rt: HostRuntime) -> Result<(), Fail> {
+    let read_only = Above {
+        lines: "vm slot 0 0 16 0 ro\nv1 read 0x1000\n",
+        count: 2,
+        text: "2 vm done\n3 v1 frame 1 value 0\n",
+        steps: IN_VAIN,
+        answer: "mmio",
+    };
+    let forbidden = Above {
+        lines: "vm slot 0 0 16 0\nh0 protect 1\nv0 read 0x1000\n",
+        count: 3,
+        text: "2 vm done\n3 h0 done\n4 v0 frame 1 value 0\n",
+        steps: IN_VAIN + 1,
+        answer: "hostfault",
+    };
+    let first = first_other(rt.alloc(), &read_only, &MET)?;
+    let second = first_other(rt.alloc(), &forbidden, &FORBIDDEN)?;
+    assert_eq!(rt; (first, second), (None, None));
     Ok(())
 }
 

@@ -36,6 +36,8 @@ fn main(rt: HostRuntime) -> ExitCode {
 }
 
 #[cfg(test)]
+mod fast_schedules;
+#[cfg(test)]
 mod host_schedules;
 #[cfg(test)]
 mod host_traces;

@@ -13,9 +13,7 @@ use Rattle.core_views.specs.declared.place.FaultNext.{FaultNext}
 use Rattle.core_views.specs.declared.place.FaultNext.TheVariants.{Goes, Ends}
 use Rattle.core_views.specs.declared.place.FaultPlace.{FaultPlace}
 use Rattle.core_views.specs.Slots.{is_write}
-use Rattle.fault_install.specs.declared.fault.FaultJob.{FaultJob}
-use Rattle.fault_install.specs.declared.fault.Faulted.{Faulted}
-use Rattle.fault_install.specs.Faults.{FaultAnswersBy, EndsBy, TurnsAt, TurnsFault, end_turn}
+use Rattle.step_seats.specs.FaultTurns.{FaultAnswersBy, EndsBy, TurnsAt, TurnsFault, end_turn}
 use Rattle.mmu_core.specs.lines.Cached.{frame_used}
 use Rattle.mmu_core.specs.declared.outcome.Outcome.{Outcome}
 use Rattle.mmu_core.specs.declared.outcome.Outcome.TheVariants as outcome
@@ -150,10 +148,6 @@ is_stay (Walk again) other = tt
 is_stay Touch other = tt
 is_stay (Leave how) other = tt
 
--- what the fault of the access is
-abbrev pub fault_of : AccessJob → FaultJob
-fault_of job = record { gfn = job.gfn; write = is_write job.op }
-
 -- The turn of a stay answers by the answers of its hand.
 stay_waits : (p : AccessPlace) (gfn word : ℕ) (op : Op) (h : Held) (v : ℕ) → IsStay p → line_waits (place.Access p) (Access gfn word op) h v ≡ false
 stay_waits (Fault p) gfn word op h v stay = absurd stay
@@ -232,20 +226,21 @@ over_cause end_of.Installed job h K = tt
 over_cause end_of.Mmio job h K = K
 over_cause end_of.HostFault job h K = K
 over_cause end_of.Starved job h K = K
+over_cause (end_of.NotFast word) job h K = tt
 over_cause (end_of.Retry cause) job h K = K
 
-next_cause : (turn : Turn Faulted) (next : FaultNext) (job : AccessJob) (h : Held) → FaultAnswersBy turn next
+next_cause : (turn : Turn FaultEnd) (next : FaultNext) (job : AccessJob) (h : Held) → FaultAnswersBy turn next
     → EndsBy next (λ e. FaultEndKnows e h.state.sizes job.gfn (is_write job.op) h.topics) → HasItsCause (turn_answer turn) job h
 next_cause More (Goes p) job h is K = tt
 next_cause (Wait seen) (Goes p) job h is K = tt
 next_cause (Done answer) (Goes p) job h is K = absurd is
 next_cause (Retry cause) (Goes p) job h is K = absurd is
-next_cause turn (Ends e) job h is K = subst (λ (t : Turn Faulted). HasItsCause (turn_answer t) job h) (sym is) (over_cause e job h K)
+next_cause turn (Ends e) job h is K = subst (λ (t : Turn FaultEnd). HasItsCause (turn_answer t) job h) (sym is) (over_cause e job h K)
 
-pub fault_cause : (p : FaultPlace) (job : AccessJob) (fault : FaultJob) (turn : Turn Faulted) (before after : Seat) → IsAtAccessPlace (Fault p) job before.hand
-    → fault ≡ fault_of job → TurnsFault fault turn before after → HasItsCause (turn_answer turn) job before.hand
-fault_cause p job fault turn before after S is T =
-    let turns : TurnsAt p (fault_of job) turn before after = subst (λ (j : FaultJob). TurnsAt p j turn before after) is (T p S.stands) in
+pub fault_cause : (p : FaultPlace) (job : AccessJob) (turn : Turn FaultEnd) (before after : Seat) → IsAtAccessPlace (Fault p) job before.hand
+    → TurnsFault job.gfn (is_write job.op) turn before after → HasItsCause (turn_answer turn) job before.hand
+fault_cause p job turn before after S T =
+    let turns : TurnsAt p job.gfn (is_write job.op) turn before after = T p S.stands in
     next_cause turn (fault_next p before.hand.state.sizes job.gfn (is_write job.op) before.hand.topics turns.step.found) job before.hand turns.step.turned
     turns.ends_by
 
@@ -253,7 +248,7 @@ fault_cause p job fault turn before after S is T =
 stay_outcome : (p : AccessPlace) (gfn word : ℕ) (op : Op) (h : Held) (v : ℕ) (turn : Turn Answer) (job : AccessJob) → IsStay p
     → turn ≡ turn_of (outcome_at (place.Access p) (Access gfn word op) h v) → HasItsCause turn job h
 stay_outcome (Leave (leaving.Reached frame value)) gfn word op h v turn job stay is = subst (λ (t : Turn Answer). HasItsCause t job h) (sym is) tt
-stay_outcome (Leave leaving.Faults) gfn word op h v turn job stay is = subst (λ (t : Turn Answer). HasItsCause t job h) (sym is) tt
+stay_outcome (Leave (leaving.Faults fast)) gfn word op h v turn job stay is = subst (λ (t : Turn Answer). HasItsCause t job h) (sym is) tt
 stay_outcome (Fault p) gfn word op h v turn job stay is = absurd stay
 stay_outcome _ gfn word op h v turn job stay is = subst (λ (t : Turn Answer). HasItsCause t job h) (sym is) tt
 

@@ -4,14 +4,12 @@ use Rattle.core_views.specs.declared.answer.Answer.{Answer}
 use Rattle.core_views.specs.declared.answer.Answer.TheVariants.{Mmio, HostFault, Starved}
 use Rattle.core_views.specs.declared.place.AccessPlace.{AccessPlace}
 use Rattle.core_views.specs.declared.place.AccessPlace.TheVariants.{Fault, Root, Walk}
+use Rattle.core_views.specs.declared.place.FaultEnd.{FaultEnd}
 use Rattle.core_views.specs.declared.place.FaultEnd.TheVariants as end_of
-use Rattle.core_views.specs.declared.place.FaultPlace.{FaultPlace}
 use Rattle.core_views.specs.declared.place.Place.TheVariants as place
 use Rattle.core_views.specs.declared.trace.Command.TheVariants.{Access}
 use Rattle.core_views.specs.Held.{Held}
 use Rattle.core_views.specs.Slots.{is_write}
-use Rattle.fault_install.specs.declared.fault.Faulted.{Faulted}
-use Rattle.fault_install.specs.declared.fault.Faulted.TheVariants as faulted
 use Rattle.mmu_core.specs.lines.FaultKnows.{FaultEndKnows}
 use Rattle.mmu_core.specs.lines.Forms.{KnowsPart}
 use Rattle.mmu_core.specs.lines.Rests.{Rests}
@@ -43,20 +41,17 @@ pub record WalksAt (rooted : Bool) (job : AccessJob) (h : Held) : Type 0 where
   pub again : Bool
   pub stands : IsAtAccessPlace (walk_place again rooted) job h
 
--- The access stands in its fault.
-pub record IsInFault (job : AccessJob) (h : Held) : Type 0 where
-  pub at : FaultPlace
-  pub stands : IsAtAccessPlace (Fault at) job h
-
--- what the turn of an access answers, by the answer of its fault's turn
-abbrev pub turn_answer : Turn Faulted → Turn Answer
+-- what the turn of an access answers, by the end that its fault's turn tells
+abbrev pub turn_answer : Turn FaultEnd → Turn Answer
 turn_answer More = More
 turn_answer (Wait seen) = Wait seen
 turn_answer (Retry cause) = Retry cause
-turn_answer (Done faulted.Installed) = More
-turn_answer (Done faulted.Mmio) = Done Mmio
-turn_answer (Done faulted.HostFault) = Done HostFault
-turn_answer (Done faulted.Starved) = Done Starved
+turn_answer (Done end_of.Installed) = More
+turn_answer (Done (end_of.NotFast word)) = More
+turn_answer (Done end_of.Mmio) = Done Mmio
+turn_answer (Done end_of.HostFault) = Done HostFault
+turn_answer (Done end_of.Starved) = Done Starved
+turn_answer (Done (end_of.Retry cause)) = Retry cause
 
 -- What an exit, or a begin anew, of the access rests on: the words that its fault has loaded, of which the hand has kept what matters.
 abbrev pub HasItsCause : Turn Answer → AccessJob → Held → Type 0

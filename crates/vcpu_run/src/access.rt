@@ -10,13 +10,17 @@ ghost use Rattle.mmu_core.specs.machine.Steps.{place_at};
 ghost use Rattle.mmu_core.specs.machine.Turns.{IsSameHand, line_of};
 ghost use Rattle.step_seats.specs.Moves.{KeepsRoom};
 ghost use Rattle.step_seats.specs.LineTurns.{MakesLine, Says, TurnsLine, turn_told, untold};
-ghost use Rattle.vcpu_run.specs.Accesses.{HasItsCause, IsInFault, IsStay, IsAtAccessPlace, WalksAt, turn_answer};
+ghost use Rattle.fast_fault.specs.Fasts.{end_told as fast_told};
+ghost use Rattle.fault_install.specs.Faults.{end_told};
+ghost use Rattle.step_seats.specs.FaultTurns.{as_end};
+ghost use Rattle.vcpu_run.specs.Accesses.{HasItsCause, IsStay, IsAtAccessPlace, WalksAt, turn_answer};
 
-use core_views::{AccessPlace, Hand, Op, Place};
+use core_views::{AccessPlace, FaultPlace, Hand, Op, Place};
+use fast_fault::{FastFaulted, FastJob};
 use fault_install::{FaultJob, Faulted};
 use host_map::touch;
 use mmu_core::{access_note, frame_used, knows, rests};
-use step_seats::{Stepper, Turn};
+use step_seats::{Stepper, Turn, is_fast_place};
 use tdp_walk::Walk;
 use vcpu_tlb::{enter, leave, paused};
 
@@ -111,20 +115,22 @@ impl AccessJob {
         let _ = walk.turn(s, 0);
     }
 
-    // Makes the step of its fault.
-    fn fault<S: Stepper>(&self, s: &mut S) -> Turn<()>
-        requires stands { IsInFault self.now (S.seat s.old).hand }
+    // Makes the step of its fault, which stands at this place: of a fast one or a whole one.
+    fn fault<S: Stepper>(&self, s: &mut S, place: FaultPlace) -> Turn<()>
+        requires stands { IsAtAccessPlace (at.Fault place) self.now (S.seat s.old).hand }
         requires reserved { 0 < (S.seat s.old).room }
         ensures turns { TurnsLine (turn_told result (S.seat s.old).hand (S.seat s.new).hand) (S.seat s.old) (S.seat s.new) }
         ensures cause { HasItsCause (turn_told result (S.seat s.old).hand (S.seat s.new).hand) self.now (S.seat s.old).hand }
         ensures room { KeepsRoom (S.seat s.old) (S.seat s.new) }
         ensures same { ((S.seat s.new).actor ≡ (S.seat s.old).actor) × (S.frame s.new ≡ S.frame s.old) }
     {
-        let job = FaultJob {
-            gfn: self.gfn,
-            write: self.op.is_write(),
-        };
-        said_of(job.turn(s))
+        let gfn = self.gfn;
+        let write = self.op.is_write();
+        if is_fast_place(place) {
+            fast_said(FastJob { gfn, write }.turn(s))
+        } else {
+            said_of(FaultJob { gfn, write }.turn(s))
+        }
     }
 
     /// Makes the next step of the line, and says whether it is answered: the hand has
@@ -149,8 +155,8 @@ impl AccessJob {
         rests(hand);
         knows(hand);
         let place = place_of(hand, self);
-        if let AccessPlace::Fault(_) = place {
-            return self.fault(s);
+        if let AccessPlace::Fault(fault) = place {
+            return self.fault(s, fault);
         }
         self.stay(s, place);
         match s.hand().answers().get(self.index) {
@@ -162,12 +168,23 @@ impl AccessJob {
 
 // What a turn of the access says, by the answer of its fault's turn.
 fn said_of(turn: Turn<Faulted>) -> Turn<()>
-    ensures { result ≡ untold (turn_answer turn) }
+    ensures { result ≡ untold (turn_answer (as_end end_told turn)) }
 {
     match turn {
         Turn::More | Turn::Done(Faulted::Installed) => Turn::More,
         Turn::Wait(seen) => Turn::Wait(seen),
         Turn::Retry(cause) => Turn::Retry(cause),
         Turn::Done(Faulted::Mmio | Faulted::HostFault | Faulted::Starved) => Turn::Done(()),
+    }
+}
+
+// The same of its fast fault: where this can't be made, the line goes on with a whole one.
+fn fast_said(turn: Turn<FastFaulted>) -> Turn<()>
+    ensures { result ≡ untold (turn_answer (as_end fast_told turn)) }
+{
+    match turn {
+        Turn::More | Turn::Done(FastFaulted::Fixed | FastFaulted::NotFast(_)) => Turn::More,
+        Turn::Wait(seen) => Turn::Wait(seen),
+        Turn::Retry(why) => Turn::Retry(why),
     }
 }

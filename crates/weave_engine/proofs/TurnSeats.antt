@@ -51,6 +51,7 @@ fault_goes (next_of.Ends end_of.Installed) seen e = absurd (cc e)
 fault_goes (next_of.Ends end_of.Mmio) seen e = absurd (cc e)
 fault_goes (next_of.Ends end_of.HostFault) seen e = absurd (cc e)
 fault_goes (next_of.Ends end_of.Starved) seen e = absurd (cc e)
+fault_goes (next_of.Ends (end_of.NotFast word)) seen e = absurd (cc e)
 fault_goes (next_of.Ends (end_of.Retry cause)) seen e = absurd (cc e)
 
 line_goes : (p : Place) (command : Command) (h : Held) (v : ℕ) (seen : Seen) → line_turn p command h v ≢ Wait seen

@@ -99,7 +99,7 @@ module _ (z : Sizes) (v : View) (a gfn : ℕ) (write : Bool) (I : Invariant z v)
         page = page;
         there = in_;
         frame = lowest_frame gfn (v.hand a).state found.0 ∙ ap frame_in L.is
-            ∙ leaf_frame 1 (host_frame w) (may_write L.slot w) (host_allows_write w) (may_write L.slot w)
+            ∙ leaf_frame 1 (host_frame w) (L.writes && may_write L.slot w) (host_allows_write w) (may_write L.slot w)
             (omega (arith, (P.hosts page in_).1, I.sizes.frames.1));
         gives = record { id = L.id; slot = L.slot; live = L.live; has = B.0; is = B.1 };
       }

@@ -23,11 +23,11 @@ use Rattle.part_steps.specs.PartBounds.{CountersPart, FrameCountersPart}
 use Rattle.part_steps.specs.FrameTopics.{words_moved}
 use Rattle.core_views.specs.declared.topics.Frames.{Frames}
 use Rattle.spte_words.specs.HostWords.{host_frame}
-use Rattle.part_steps.specs.PartTasks.{entry_index, leaf_written, link_written, table_page, word_looked}
+use Rattle.part_steps.specs.PartTasks.{entry_index, table_page, word_looked}
 use Rattle.part_steps.specs.PartHoldings.{IsOver}
 use Rattle.mmu_core.specs.invariant.TopicsInvariant.{TopicsInvariant}
 use Rattle.part_steps.specs.StayTopics.{begun, is_loose, kept_search, may_walk}
-use Rattle.part_steps.specs.WalkTopics.{walked}
+use Rattle.part_steps.specs.WalkTopics.{walked, linked_page}
 use Rattle.part_steps.specs.PageTopics.{is_won, searched, searched_at}
 use Rattle.part_steps.specs.ControlBits.{in_section}
 use Rattle.mmu_core.specs.machine.View.{View, part_stepped, upd}
@@ -35,10 +35,13 @@ use Rattle.core_views.specs.declared.topics.Flush.{Flush}
 use Rattle.mmu_core.proofs.held.FrameCounters.{changed_frames, copied_frames, given_frames, map_frames, stored_frames, tried_frames}
 use Rattle.mmu_core.proofs.held.FrameCounters.{flush_few, one_more, one_more_unless, seq_few, tried_at, tried_seen}
 use Rattle.mmu_core.proofs.held.InvalidationsKept.{count_few, counts_behind}
-use Rattle.mmu_core.proofs.held.WalkSpans.{SpanFits, exchanged_span, gone_span, let_go_span, root_span}
+use Rattle.mmu_core.proofs.held.WalkSpans.{SpanFits, exchanged_span, gone_span, let_go_span, root_span, exchanged_entry, gone_entry}
 use Rattle.mmu_core.proofs.machine.Columns.{at_upd}
 use Rattle.mmu_core.proofs.machine.PartStepping.{IsPart}
 use Rattle.mmu_core.proofs.words.PartTopics.{behind_step, part_behind}
+use Rattle.spte_words.specs.declared.area.Area.{Area}
+use Rattle.mmu_core.proofs.pages.Standing.{entry_now}
+use Rattle.part_steps.specs.PartTopics.{exchanged}
 
 abbrev pub CountersAt : Sizes → View → Type 0
 CountersAt z v = (i : ℕ) → i < actors_of z → CountersPart z (v.hand i).topics
@@ -69,13 +72,14 @@ Numbers z n = (n.count ≤ actors_of z) × (n.seq < 2 ^ 40) × ((n.start < 2 ^ 6
 
 -- a hand that keeps its counters but the walk's
 walked_counts : (z : Sizes) (t s : Topics) → s.search.id ≡ t.search.id → s.claim ≡ t.claim → s.watched ≡ t.watched → SameNumbers s.invalidations t.invalidations
-    → s.flush ≡ t.flush → s.frames ≡ t.frames → SpanFits s.walk → CountersPart z t → CountersPart z s
-walked_counts z t s id claim watched numbers flush frames span C = record {
+    → s.flush ≡ t.flush → s.frames ≡ t.frames → SpanFits s.walk → s.walk.entry < 2 ^ 64 → CountersPart z t → CountersPart z s
+walked_counts z t s id claim watched numbers flush frames span entry C = record {
   slots = omega (arith, id, C.slots);
   claim = subst (λ (c : MapClaim). c.at ≤ words_of_bits z.pool) (sym claim) C.claim;
   seen = subst (λ (c : MapClaim). c.seen < 2 ^ 64) (sym claim) C.seen;
   watched = omega (arith, watched, C.watched);
   span = span;
+  entry = entry;
   counted = omega (arith, numbers.0, C.counted);
   seq = omega (arith, numbers.1, C.seq);
   range = (omega (arith, numbers.2, C.range.0), omega (arith, numbers.3, C.range.1));
@@ -86,7 +90,9 @@ walked_counts z t s id claim watched numbers flush frames span C = record {
 -- a hand that keeps its counters
 same_counts : (z : Sizes) (t s : Topics) → s.search.id ≡ t.search.id → s.claim ≡ t.claim → s.watched ≡ t.watched → SameNumbers s.invalidations t.invalidations
     → s.flush ≡ t.flush → s.frames ≡ t.frames → s.walk ≡ t.walk → CountersPart z t → CountersPart z s
-same_counts z t s id claim watched numbers flush frames walk C = walked_counts z t s id claim watched numbers flush frames (subst SpanFits (sym walk) C.span) C
+same_counts z t s id claim watched numbers flush frames walk C =
+    walked_counts z t s id claim watched numbers flush frames (subst SpanFits (sym walk) C.span)
+    (subst (λ (w : TableWalk). w.entry < 2 ^ 64) (sym walk) C.entry) C
 
 -- a hand that keeps its counters but those of the invalidations and of the flush
 numbered_counts : (z : Sizes) (t s : Topics) → s.search.id ≡ t.search.id → s.claim ≡ t.claim → s.watched ≡ t.watched → s.walk ≡ t.walk
@@ -97,6 +103,7 @@ numbered_counts z t s id claim watched walk frames numbers asked C = record {
   seen = subst (λ (c : MapClaim). c.seen < 2 ^ 64) (sym claim) C.seen;
   watched = omega (arith, watched, C.watched);
   span = subst SpanFits (sym walk) C.span;
+  entry = subst (λ (w : TableWalk). w.entry < 2 ^ 64) (sym walk) C.entry;
   counted = numbers.0;
   seq = numbers.1;
   asked = asked;
@@ -113,6 +120,7 @@ other_counts z t s slots claim seen watched walk same flush frames C = record {
   seen = seen;
   watched = watched;
   span = subst SpanFits (sym walk) C.span;
+  entry = subst (λ (w : TableWalk). w.entry < 2 ^ 64) (sym walk) C.entry;
   counted = subst (λ (n : Invalidations). n.count ≤ actors_of z) (sym same) C.counted;
   seq = subst (λ (n : Invalidations). n.seq < 2 ^ 40) (sym same) C.seq;
   asked = subst (λ (f : Flush). f.asked ≤ z.vcpus) (sym flush) C.asked;
@@ -154,7 +162,7 @@ snapshot_id false s = refl
 
 -- who goes in or out of the guest or a section has come to no table
 begun_counts : (z : Sizes) (stay : Stay) (t : Topics) → CountersPart z t → CountersPart z (begun stay t)
-begun_counts z stay t C = walked_counts z t _ refl refl refl (refl, refl, refl, refl) refl refl (λ from. absurd (omega (arith, from))) C
+begun_counts z stay t C = walked_counts z t _ refl refl refl (refl, refl, refl, refl) refl refl (λ from. absurd (omega (arith, from))) C.entry C
 
 -- who only changes what it holds of frames
 framed_counts : (z : Sizes) (v : View) (a : ℕ) (h : Held) (f : Frames) → TopicsInvariant z v → a < actors_of z
@@ -164,12 +172,23 @@ framed_counts z v a h f I there is F =
     all_count z v a h I (subst (CountersPart z) (sym is)
     (other_counts z (v.hand a).topics (record (v.hand a).topics { frames = f }) C.slots C.claim C.seen C.watched refl refl refl F C))
 
-loaded_counts : (z : Sizes) (v : View) (a gfn : ℕ) (walk : TableWalk) → TopicsInvariant z v → a < actors_of z → IsOver gfn walk → CountersPart z
+loaded_counts : (z : Sizes) (v : View) (a gfn : ℕ) (walk : TableWalk) → ((b : Area) (i : ℕ) → v.words b i < 2 ^ 64) → TopicsInvariant z v → a < actors_of z
+    → IsOver gfn walk → CountersPart z
     (record (v.hand a).topics {
       walk = walked walk (entry_index gfn walk.level) (v.words area.Pool (pool_index (table_page walk) (entry_index gfn walk.level)));
     })
-loaded_counts z v a gfn walk I lt O =
-    walked_counts z (v.hand a).topics _ refl refl refl (refl, refl, refl, refl) refl refl (gone_span gfn _ walk _ O) (I.counters a lt)
+loaded_counts z v a gfn walk small I lt O =
+    walked_counts z (v.hand a).topics _ refl refl refl (refl, refl, refl, refl) refl refl (gone_span gfn _ walk _ O)
+    (gone_entry (linked_page _) walk _ _ (small area.Pool _)) (I.counters a lt)
+
+-- an entry was exchanged, for a number of 64 bits
+exchanged_counts : (z : Sizes) (v : View) (a gfn new_ : ℕ) → ((b : Area) (i : ℕ) → v.words b i < 2 ^ 64) → TopicsInvariant z v → a < actors_of z
+    → IsOver gfn (v.hand a).topics.walk → new_ < 2 ^ 64
+    → CountersPart z (exchanged (entry_now gfn (v.hand a).topics v == (v.hand a).topics.walk.entry) (entry_index gfn (v.hand a).topics.walk.level) new_
+    (v.hand a).topics (entry_now gfn (v.hand a).topics v))
+exchanged_counts z v a gfn new_ small I lt O few =
+    walked_counts z (v.hand a).topics _ refl refl refl (refl, refl, refl, refl) refl refl
+    (exchanged_span gfn _ new_ (v.hand a).topics.walk _ O) (exchanged_entry _ (v.hand a).topics.walk _ new_ _ few (small area.Pool _)) (I.counters a lt)
 
 counters_behind : (z : Sizes) (v : View) (a note : ℕ) (step : PartStep) → CountersBehind z v a note step
 counters_behind z v a note (part.Map word) = map_counts z v a note word
@@ -194,10 +213,10 @@ counters_behind z v a note part.Begin = λ S I. all_count z v a _ I (begun_count
 counters_behind z v a note part.End = λ S I. all_count z v a _ I (begun_counts z Outside (v.hand a).topics (I.counters a S.there))
 counters_behind z v a note part.Unshare = λ S I.
     all_count z v a _ I (walked_counts z (v.hand a).topics _ refl refl refl (refl, refl, refl, refl) refl refl
-    (let_go_span (v.hand a).topics.stay (v.hand a).topics (I.counters a S.there).span) (I.counters a S.there))
+    (let_go_span (v.hand a).topics.stay (v.hand a).topics (I.counters a S.there).span) (I.counters a S.there).entry (I.counters a S.there))
 counters_behind z v a note part.Release = λ S I.
     all_count z v a _ I (walked_counts z (v.hand a).topics _ refl refl refl (refl, refl, refl, refl) refl refl
-    (let_go_span (v.hand a).topics.stay (v.hand a).topics (I.counters a S.there).span) (I.counters a S.there))
+    (let_go_span (v.hand a).topics.stay (v.hand a).topics (I.counters a S.there).span) (I.counters a S.there).entry (I.counters a S.there))
 counters_behind z v a note part.Seq = λ S I.
     let t : Topics = (v.hand a).topics in
     let C = I.counters a S.there in
@@ -237,7 +256,7 @@ counters_behind z v a note (part.Await index) = λ S I.
     let C = I.counters a S.there in all_count z v a _ I (numbered_counts z (v.hand a).topics _ refl refl refl refl refl (C.counted, C.seq, C.range) C.asked C)
 counters_behind z v a note (part.Zap gfn) = λ S I.
     all_count z v a _ I (walked_counts z (v.hand a).topics _ refl refl refl (refl, refl, refl, refl) refl refl
-    (gone_span gfn 0 (v.hand a).topics.walk None S.needs.saw.over) (I.counters a S.there))
+    (gone_span gfn 0 (v.hand a).topics.walk None S.needs.saw.over) (omega arith) (I.counters a S.there))
 counters_behind z v a note part.Publish = λ S I.
     let C = I.counters a S.there in
     all_count z v a _ I (other_counts z (v.hand a).topics _ C.slots C.claim C.seen (omega arith) refl refl refl C.frames C)
@@ -259,15 +278,17 @@ counters_behind z v a note part.GiveFrame = λ S I. framed_counts z v a _ _ I S.
     (given_frames z (v.hand a).topics.frames (I.counters a S.there).frames)
 counters_behind z v a note part.Root = λ S I.
     all_count z v a _ I (walked_counts z (v.hand a).topics _ refl refl refl (refl, refl, refl, refl) refl refl
-    (root_span (may_walk (v.hand a).topics.stay (v.hand a).topics.hold) (v.hand a).topics.walk (v.words area.Root 0)) (I.counters a S.there))
-counters_behind z v a note (part.Walk gfn) = λ S I. all_count z v a _ I (loaded_counts z v a gfn (v.hand a).topics.walk I S.there S.needs.0)
-counters_behind z v a note (part.Sweep gfn) = λ S I. all_count z v a _ I (loaded_counts z v a gfn (gone_up (v.hand a).topics.walk) I S.there S.needs.over)
+    (root_span (may_walk (v.hand a).topics.stay (v.hand a).topics.hold) (v.hand a).topics.walk (v.words area.Root 0)) (I.counters a S.there).entry
+    (I.counters a S.there))
+counters_behind z v a note (part.Walk gfn) = λ S I. all_count z v a _ I (loaded_counts z v a gfn (v.hand a).topics.walk S.small I S.there S.needs.0)
+counters_behind z v a note (part.Sweep gfn) = λ S I.
+    all_count z v a _ I (loaded_counts z v a gfn (gone_up (v.hand a).topics.walk) S.small I S.there S.needs.over)
 counters_behind z v a note (part.Link gfn) = λ S I.
-    all_count z v a _ I (walked_counts z (v.hand a).topics _ refl refl refl (refl, refl, refl, refl) refl refl
-    (exchanged_span gfn _ (link_written (v.hand a).topics) (v.hand a).topics.walk _ S.needs.0.saw.over) (I.counters a S.there))
-counters_behind z v a note (part.Leaf gfn) = λ S I.
-    all_count z v a _ I (walked_counts z (v.hand a).topics _ refl refl refl (refl, refl, refl, refl) refl refl
-    (exchanged_span gfn _ (leaf_written (v.hand a).topics) (v.hand a).topics.walk _ S.needs.0.saw.over) (I.counters a S.there))
+    all_count z v a _ I (exchanged_counts z v a gfn _ S.small I S.there S.needs.0.saw.over S.written)
+counters_behind z v a note (part.Leaf gfn write) = λ S I.
+    all_count z v a _ I (exchanged_counts z v a gfn _ S.small I S.there S.needs.0.saw.over S.written)
+counters_behind z v a note (part.Fix gfn) = λ S I.
+    all_count z v a _ I (exchanged_counts z v a gfn _ S.small I S.there S.needs.saw.over S.written)
 counters_behind z v a note _ = λ S I.
     all_count z v a _ I (same_counts z (v.hand a).topics _ refl refl refl (refl, refl, refl, refl) refl refl refl (I.counters a S.there))
 

@@ -1,5 +1,5 @@
 -- What was checked under the lock, of open invalidations: none is of the guest frame, so none is of its page. And which leaves a change of a host word leaves.
-use Rattle.std.proofs.Common.{◌≡◌, ◌≢◌, ◌⊎◌, inl, inr, ◌+◌, ◌-◌, ◌<◌, ◌≤◌, ◌^◌, ℕ, refl, sym, ap, ◌∙◌, arith}
+use Rattle.std.proofs.Common.{◌≡◌, ◌≢◌, ◌⊎◌, inl, inr, ◌+◌, ◌-◌, ◌<◌, ◌≤◌, ◌^◌, ℕ, refl, sym, subst, ap, ◌∙◌, arith}
 use Rattle.std.specs.Prelude.{Bool, true, false, nat_le, ◌&&◌, nat_lt, ◌==◌, if◌then◌else◌, Some}
 use Rattle.std.proofs.lemmas.Bool.Decides.{nat_tests}
 use Rattle.core_views.specs.declared.sizes.Sizes.{Sizes}
@@ -9,7 +9,7 @@ use Rattle.core_views.specs.declared.trace.Slot.{Slot as SlotOf}
 use Rattle.core_views.specs.Sizes.{actors_of}
 use Rattle.core_views.specs.Slots.{contains, has_host_page}
 use Rattle.spte_words.specs.declared.area.Area.TheVariants as area
-use Rattle.spte_words.specs.HostWords.{host_present, with_presence}
+use Rattle.spte_words.specs.HostWords.{host_present, with_presence, host_frame}
 use Rattle.part_steps.specs.InvalidationHoldings.{knows_count}
 use Rattle.part_steps.specs.InvalidationRange.{gfn_behind}
 use Rattle.part_steps.specs.PartHoldings.{IsFresh, MayEnter}
@@ -113,8 +113,10 @@ leaf_same pool host set page word gfn leaf L same = record {
   slot = L.slot;
   live = L.live;
   holds = L.holds;
-  is = L.is ∙ ap (leaf_of L.slot) (sym stays);
+  writes = L.writes;
+  is = L.is ∙ ap (leaf_of L.writes L.slot) (sym stays);
   present = ap host_present stays ∙ L.present;
+  small = subst (λ w. host_frame w < 2 ^ 40) (sym stays) L.small;
 }
   where
     stays : upd host page word (page_of L.slot gfn) ≡ host (page_of L.slot gfn)

@@ -19,7 +19,7 @@ use Rattle.spte_words.specs.Entries.{kind_of}
 use Rattle.part_steps.specs.declared.part_step.PartStep.{PartStep}
 use Rattle.part_steps.specs.declared.part_step.PartStep.TheVariants as part
 use Rattle.mmu_core.specs.invariant.HeldPart.{HeldPart}
-use Rattle.part_steps.specs.PartTasks.{entry_index, leaf_written, link_written, page_owned, table_page}
+use Rattle.part_steps.specs.PartTasks.{entry_index, leaf_written, link_written, page_owned, table_page, leaf_fixed}
 use Rattle.part_steps.specs.PartTopics.{exchanged}
 use Rattle.mmu_core.specs.invariant.TopicsInvariant.{TopicsInvariant}
 use Rattle.part_steps.specs.StayTopics.{is_loose, begun, kept_search, let_go, may_search, may_walk, unchecked}
@@ -103,11 +103,7 @@ set_kept false s v = refl
 
 slot_held : (stands : ℕ → Option Position) (t : Topics) (b : Bool) (v : ℕ) → HeldPart stands t
     → HeldPart stands (record t { search = if b then searched t.search v else t.search })
-slot_held stands t b v H = record {
-  table = H.table;
-  no_table = H.no_table;
-  no_set = λ f. set_kept b t.search v ∙ H.no_set f;
-}
+slot_held stands t b v H = record { table = H.table; no_table = H.no_table; no_set = λ f. set_kept b t.search v ∙ H.no_set f }
 
 -- a snapshot lets the search go, or leaves it
 snapshot_held : (stands : ℕ → Option Position) (t s : Topics) (b : Bool) → s.stay ≡ t.stay → s.hold ≡ t.hold → s.walk ≡ t.walk
@@ -253,12 +249,15 @@ link_held z v a note gfn S I =
         (Under (table_page t.walk) (entry_index gfn t.walk.level)) (upd_same I.up page (Under (table_page t.walk) (entry_index gfn t.walk.level))) refl
         ∙ ap Some (upd_same I.spot page (position_below gfn t))
 
-leaf_held : (z : Sizes) (v : View) (a note gfn : ℕ) → HeldBehind z v a note (part.Leaf gfn)
-leaf_held z v a note gfn S I =
+-- A leaf is put, or writes are allowed in one.
+put_held : (z : Sizes) (v : View) (a gfn new_ : ℕ) → a < actors_of z → (I : TopicsInvariant z v) → 1 ≤ (v.hand a).topics.walk.level
+    → (v.hand a).topics.walk.level ≡ 1
+    → HeldPart (stands I.up I.spot) (exchanged (entry_now gfn (v.hand a).topics v == (v.hand a).topics.walk.entry)
+    (entry_index gfn (v.hand a).topics.walk.level) new_ (v.hand a).topics (entry_now gfn (v.hand a).topics v))
+put_held z v a gfn new_ lt I there low =
     let t : Topics = (v.hand a).topics in
-    still_held z v a (part.Leaf gfn) _ S I (exchanged_held (stands I.up I.spot) t (entry_now gfn t v == t.walk.entry) (entry_index gfn t.walk.level)
-    (leaf_written t) _ (walk_level z v a S.there I S.needs.0.saw.over.there)
-    (λ is. lowest_leads_down (stands I.up I.spot) (at t.walk.level t.walk.prefix) (entry_index gfn t.walk.level) (leaf_written t) S.needs.1) (I.held a S.there))
+    exchanged_held (stands I.up I.spot) t (entry_now gfn t v == t.walk.entry) (entry_index gfn t.walk.level) new_ _ (walk_level z v a lt I there)
+    (λ is. lowest_leads_down (stands I.up I.spot) (at t.walk.level t.walk.prefix) (entry_index gfn t.walk.level) new_ low) (I.held a lt)
 
 held_behind : (z : Sizes) (v : View) (a note : ℕ) (step : PartStep) → HeldBehind z v a note step
 held_behind z v a note part.Enter = λ S I. still_held z v a part.Enter _ S I (begun_held (stands I.up I.spot) Guest (v.hand a).topics)
@@ -286,7 +285,10 @@ held_behind z v a note part.Root =
 held_behind z v a note (part.Walk gfn) = walk_held z v a note gfn
 held_behind z v a note (part.Sweep gfn) = sweep_held z v a note gfn
 held_behind z v a note (part.Link gfn) = link_held z v a note gfn
-held_behind z v a note (part.Leaf gfn) = leaf_held z v a note gfn
+held_behind z v a note (part.Leaf gfn write) = λ S I.
+    still_held z v a (part.Leaf gfn write) _ S I (put_held z v a gfn (leaf_written write (v.hand a).topics) S.there I S.needs.0.saw.over.there S.needs.1)
+held_behind z v a note (part.Fix gfn) = λ S I.
+    still_held z v a (part.Fix gfn) _ S I (put_held z v a gfn (leaf_fixed (v.hand a).topics) S.there I S.needs.saw.over.there S.needs.lowest)
 held_behind z v a note (part.Zap gfn) = λ S I.
     let j : ℕ = entry_index gfn (v.hand a).topics.walk.level in
     still_held z v a (part.Zap gfn) _ S I (gone_held (stands I.up I.spot) (v.hand a).topics _ j 0 None refl refl refl refl

@@ -42,8 +42,10 @@ retired_words_stay z v a (part.Fill value) note S I i k lt is =
     page_stays z v a (part.Fill value) note S k (λ o owned. retired_not_owned I.uses i k lt is a o S.there owned)
 retired_words_stay z v a (part.Link gfn) note S I i k lt is =
     page_stays z v a (part.Link gfn) note S k (retired_no_walk z v a i k S.there lt I S.needs.0.saw.over.there is)
-retired_words_stay z v a (part.Leaf gfn) note S I i k lt is =
-    page_stays z v a (part.Leaf gfn) note S k (retired_no_walk z v a i k S.there lt I S.needs.0.saw.over.there is)
+retired_words_stay z v a (part.Leaf gfn write) note S I i k lt is =
+    page_stays z v a (part.Leaf gfn write) note S k (retired_no_walk z v a i k S.there lt I S.needs.0.saw.over.there is)
+retired_words_stay z v a (part.Fix gfn) note S I i k lt is =
+    page_stays z v a (part.Fix gfn) note S k (retired_no_walk z v a i k S.there lt I S.needs.saw.over.there is)
 retired_words_stay z v a (part.Zap gfn) note S I i k lt is =
     page_stays z v a (part.Zap gfn) note S k (retired_no_walk z v a i k S.there lt I S.needs.saw.over.there is)
 retired_words_stay z v a _ note S I i k lt is = λ j low. refl

@@ -203,7 +203,8 @@ own_passed z v a note part.GiveOld S I = λ alone out aimed.
     let t : Topics = (v.hand a).topics in I.passed a S.there alone out (aimed_before t.owned None t.host S.needs.owns_none aimed)
 own_passed z v a note part.Give S I = λ alone. absurd (let other = S.needs.1 in cc (other, alone))
 own_passed z v a note (part.Link gfn) S I = λ alone. absurd (let shares = S.needs.0.shares in cc (shares, alone))
-own_passed z v a note (part.Leaf gfn) S I = λ alone. absurd (let shares = S.needs.0.shares in cc (shares, alone))
+own_passed z v a note (part.Fix gfn) S I = λ alone. absurd (let loose = S.needs.loose in cc (loose, alone))
+own_passed z v a note (part.Leaf gfn write) S I = λ alone. absurd (let shares = S.needs.0.shares in cc (shares, alone))
 own_passed z v a note _ S I = I.passed a S.there
 
 pub passed_kept : (z : Sizes) (v : View) (a : ℕ) (step : PartStep) (note : ℕ) → IsPart z v a step → TopicsInvariant z v

@@ -106,7 +106,7 @@ states_behind z v a note part.Begin =
     λ S I. told (actors_of z) (v.words area.State) v.hand a _ _ (begun_word (v.words area.State a) (own_word z v a part.Begin Outside S I S.needs))
     I.states_part
 states_behind z v a note part.End =
-    λ S I. told (actors_of z) (v.words area.State) v.hand a _ _ (ended_word (v.words area.State a) (own_word z v a part.End Section S I S.needs))
+    λ S I. told (actors_of z) (v.words area.State) v.hand a _ _ (ended_word (v.words area.State a) (own_word z v a part.End Section S I S.needs.0))
     I.states_part
 states_behind z v a note (part.Ask index) = λ S I. states_frame (actors_of z)
     (upd (v.words area.State) index (bit_or (v.words area.State index) request_bit)) v.hand a _ refl

@@ -78,8 +78,10 @@ agree_published pool host vcpus set page t cached stay clean agrees k d lt =
       slot = L.slot;
       live = by L.slot (stay L.id L.slot L.live) L.holds;
       holds = L.holds;
+      writes = L.writes;
       is = L.is;
       present = L.present;
+      small = L.small;
     }
   where
     by : {id : ℕ} (slot : SlotOf) → IsLiveIn pool page id slot ⊎ IsFlushedOut vcpus slot t → contains (get_or cached k d).gfn slot ≡ true

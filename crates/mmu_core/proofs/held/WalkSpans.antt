@@ -36,3 +36,12 @@ gone_span gfn v walk (Some page) over = λ from. span_below gfn (level_span walk
 pub exchanged_span : (gfn v new_ : ℕ) (walk : TableWalk) (won : Bool) → IsOver gfn walk → SpanFits (swapped won walk (entry_index gfn walk.level) new_ v)
 exchanged_span gfn v new_ walk true over = gone_span gfn new_ walk (linked_page (kind_of walk.level new_)) over
 exchanged_span gfn v new_ walk false over = gone_span gfn v walk None over
+
+-- The entry that is kept is a number of 64 bits.
+pub gone_entry : (o : Option ℕ) (walk : TableWalk) (j v : ℕ) → v < 2 ^ 64 → (gone_down o walk j v).entry < 2 ^ 64
+gone_entry None walk j v small = small
+gone_entry (Some page) walk j v small = small
+
+pub exchanged_entry : (won : Bool) (walk : TableWalk) (j new_ v : ℕ) → new_ < 2 ^ 64 → v < 2 ^ 64 → (swapped won walk j new_ v).entry < 2 ^ 64
+exchanged_entry true walk j new_ v few small = gone_entry (linked_page (kind_of walk.level new_)) walk j new_ few
+exchanged_entry false walk j new_ v few small = small

@@ -165,6 +165,7 @@ enter_stays gfn t x = record {
   looked_up = looked_stays gfn t (∥∥₁_map x (λ M. M.looked_up));
   present = ∥∥₁_elim x (hlevel props) (λ M. M.present);
   saw = ∥∥₁_elim x (hlevel props) (λ M. M.saw);
+  owes_none = ∥∥₁_elim x (hlevel props) (λ M. M.owes_none);
 }
 
 word_stays : (word : ℕ) (claim : MapClaim) → ∥ GoesOnToWord word claim ∥₁ → GoesOnToWord word claim
@@ -186,7 +187,8 @@ needs_stay (part.Link gfn) h x = (
   ∥∥₁_elim x (hlevel props) (λ N. N.2),
   ∥∥₁_elim x (hlevel props) (λ N. N.3),
 )
-needs_stay (part.Leaf gfn) h x = (enter_stays gfn h.topics (∥∥₁_map x (λ N. N.0)), ∥∥₁_elim x (hlevel props) (λ N. N.1))
+needs_stay (part.Leaf gfn write) h x =
+    (enter_stays gfn h.topics (∥∥₁_map x (λ N. N.0)), ∥∥₁_elim x (hlevel props) (λ N. N.1), ∥∥₁_elim x (hlevel props) (λ N. N.2))
 needs_stay (part.Watch index) h x = (
   ∥∥₁_elim x (hlevel props) (λ N. N.0),
   ∥∥₁_elim x (hlevel props) (λ N. N.1),

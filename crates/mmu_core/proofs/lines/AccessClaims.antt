@@ -1,6 +1,6 @@
 -- Which steps of an access claim: those of its fault's claim; it is starved only after one.
 use Rattle.std.proofs.Common.{◌≡◌, ◌≢◌, ◌⊎◌, inl, inr, ◌≤◌, ℕ, refl}
-use Rattle.std.specs.Prelude.{Bool, true, false, Option, Some, None}
+use Rattle.std.specs.Prelude.{Bool, true, false, Option, Some, None, if◌then◌else◌}
 use Rattle.core_views.specs.declared.answer.Answer.TheVariants.{Reached, Starved}
 use Rattle.core_views.specs.declared.cache.Translation.{Translation}
 use Rattle.core_views.specs.declared.place.AccessPlace.{AccessPlace}
@@ -62,6 +62,7 @@ no_frames (next_of.Ends end_of.Installed) = (λ S. S, λ e. cc e)
 no_frames (next_of.Ends end_of.Mmio) = (λ S. S, λ e. cc e)
 no_frames (next_of.Ends end_of.HostFault) = (λ S. S, λ e. cc e)
 no_frames (next_of.Ends end_of.Starved) = (λ S. S, λ e. cc e)
+no_frames (next_of.Ends (end_of.NotFast seen)) = (λ S. S, λ e. cc e)
 no_frames (next_of.Ends (end_of.Retry cause)) = (λ S. S, λ e. cc e)
 
 over_begun : (n : FaultNext) → HasScan (place_after (behind_fault n)) Pages → BegunNext n
@@ -70,6 +71,7 @@ over_begun (next_of.Ends end_of.Installed) S = absurd S
 over_begun (next_of.Ends end_of.Mmio) S = absurd S
 over_begun (next_of.Ends end_of.HostFault) S = absurd S
 over_begun (next_of.Ends end_of.Starved) S = absurd S
+over_begun (next_of.Ends (end_of.NotFast seen)) S = absurd S
 over_begun (next_of.Ends (end_of.Retry cause)) S = absurd S
 
 -- The note of an access is 1 where it is answered.
@@ -103,8 +105,9 @@ goes_on : (p : AccessPlace) → is_fault p ≡ false → HasNoScan (Goes (place.
 goes_on (access.Fault p) other = absurd (cc other)
 goes_on p other = record { no_scan = each_map (λ map. HasScan (place.Access p) map → ⊥) (λ S. S) (λ S. S); fed = λ map e. cc e }
 
-faults : HasNoScan (Goes (place.Access (access.Fault fault.Begin)))
-faults = record { no_scan = each_map (λ map. HasScan (place.Access (access.Fault fault.Begin)) map → ⊥) (λ S. S) (λ S. S); fed = λ map e. cc e }
+faults : (fast : Bool) → HasNoScan (Goes (place.Access (access.Fault (if fast then fault.FastBegin else fault.Begin))))
+faults true = record { no_scan = each_map (λ map. HasScan (place.Access (access.Fault fault.FastBegin)) map → ⊥) (λ S. S) (λ S. S); fed = λ map e. cc e }
+faults false = record { no_scan = each_map (λ map. HasScan (place.Access (access.Fault fault.Begin)) map → ⊥) (λ S. S) (λ S. S); fed = λ map e. cc e }
 
 answers : (frame value : ℕ) → HasNoScan (Ends (Reached frame value))
 answers frame value = is_answered (Reached frame value) (each_map (λ map. Ends (Reached frame value) ≢ Ends (answer_without map)) (λ e. cc e) (λ e. cc e))
@@ -116,7 +119,8 @@ not_by_pause again (Some t) = goes_on access.Touch refl
 not_by_stay : (again : Bool) (k : SpteKind) (allowed : Bool) → HasNoScan (Goes (place.Access (stay_next again k allowed)))
 not_by_stay again (entry_kind.Table page) allowed = goes_on (access.Walk again) refl
 not_by_stay again entry_kind.Leaf true = goes_on access.Touch refl
-not_by_stay again _ _ = goes_on (access.Leave leaving.Faults) refl
+not_by_stay again entry_kind.Leaf false = goes_on (access.Leave (leaving.Faults true)) refl
+not_by_stay again _ _ = goes_on (access.Leave (leaving.Faults false)) refl
 
 module _ (gfn word : ℕ) (op : Op) (h : Held) (v : ℕ) where
   abbrev OfAccess : AccessPlace → Type 0
@@ -153,8 +157,8 @@ module _ (gfn word : ℕ) (op : Op) (h : Held) (v : ℕ) where
   other_step (access.Fault p) other N = absurd (cc other)
   other_step (access.Leave (leaving.Reached frame value)) other N =
       to_no_scan (place.Access (access.Leave (leaving.Reached frame value))) (Access gfn word op) h v (no_claim _ refl) (λ map. refl) refl N
-  other_step (access.Leave leaving.Faults) other N =
-      to_no_scan (place.Access (access.Leave leaving.Faults)) (Access gfn word op) h v (no_claim _ refl) (λ map. refl) refl N
+  other_step (access.Leave (leaving.Faults fast)) other N =
+      to_no_scan (place.Access (access.Leave (leaving.Faults fast))) (Access gfn word op) h v (no_claim _ refl) (λ map. refl) refl N
   other_step p other N = to_no_scan (place.Access p) (Access gfn word op) h v (no_claim p refl) (λ map. refl) refl N
 
   pub access_claims_or_not : (p : AccessPlace) → OfAccess p
@@ -167,5 +171,5 @@ module _ (gfn word : ℕ) (op : Op) (h : Held) (v : ℕ) where
   access_claims_or_not access.Touch = other_step access.Touch refl (goes_on (access.Leave (leaving.Reached (frame_used gfn h.state) v)) refl)
   access_claims_or_not (access.Leave (leaving.Reached frame value)) =
       other_step (access.Leave (leaving.Reached frame value)) refl (answers frame value)
-  access_claims_or_not (access.Leave leaving.Faults) = other_step (access.Leave leaving.Faults) refl faults
+  access_claims_or_not (access.Leave (leaving.Faults fast)) = other_step (access.Leave (leaving.Faults fast)) refl (faults fast)
   access_claims_or_not (access.Fault p) = fault_claims_or_not p

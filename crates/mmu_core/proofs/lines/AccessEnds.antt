@@ -57,6 +57,7 @@ pub access_fed : (p : AccessPlace) (h : Held) (gfn word : ℕ) (op : Op) (v : �
 access_fed (Pause again) h gfn word op v other = (λ e. absurd (cc e), tt)
 access_fed Touch h gfn word op v other = (λ e. absurd (cc e), tt)
 access_fed (Fault (fault.Find begun)) h gfn word op v other = look_fed begun
+access_fed (Fault (fault.FastFind begun)) h gfn word op v other = look_fed begun
 access_fed (Fault fault.Host) h gfn word op v other = (λ e. absurd (cc e), tt)
 access_fed (Fault fault.Bring) h gfn word op v other = brought_fed (v == word_looked h.topics.host) (page_looked h.topics.host)
 access_fed (Fault (fault.End end_)) h gfn word op v other = exit_fed (fault_over end_) other

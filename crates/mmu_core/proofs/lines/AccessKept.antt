@@ -39,12 +39,13 @@ fault_holds z pool set (next_of.Ends end_of.Installed) gfn word op g = tt
 fault_holds z pool set (next_of.Ends end_of.Mmio) gfn word op g = tt
 fault_holds z pool set (next_of.Ends end_of.HostFault) gfn word op g = tt
 fault_holds z pool set (next_of.Ends end_of.Starved) gfn word op g = tt
+fault_holds z pool set (next_of.Ends (end_of.NotFast seen)) gfn word op g = tt
 fault_holds z pool set (next_of.Ends (end_of.Retry cause)) gfn word op g = tt
 
 access_holds : (z : Sizes) (pool : ℕ → ℕ) (set : ℕ) (p : AccessPlace) (h : Held) (gfn word : ℕ) (op : Op) (x : ℕ) (g : Held)
     → Holds z pool set (place_after (access_outcome p h gfn op x)) (Access gfn word op) g
 access_holds z pool set (Leave (leaving.Reached frame value)) h gfn word op x g = tt
-access_holds z pool set (Leave leaving.Faults) h gfn word op x g = tt
+access_holds z pool set (Leave (leaving.Faults fast)) h gfn word op x g = tt
 access_holds z pool set (Fault q) h gfn word op x g = fault_holds z pool set (fault_next q h.state.sizes gfn (is_write op) h.topics x) gfn word op g
 access_holds z pool set _ h gfn word op x g = tt
 

@@ -1,6 +1,6 @@
 -- The step of a part that an access makes at its place is one that its actor may make.
 use Rattle.std.proofs.Common.{◌+◌, ◌^◌, ◌<◌, ℕ, subst, ap, ◌∙◌}
-use Rattle.std.specs.Prelude.{Option}
+use Rattle.std.specs.Prelude.{Option, ◌≡◌}
 use Rattle.core_views.specs.declared.place.AccessPlace.{AccessPlace}
 use Rattle.core_views.specs.declared.place.Place.TheVariants as place
 use Rattle.core_views.specs.declared.sizes.Sizes.{Sizes}
@@ -21,9 +21,10 @@ use Rattle.mmu_core.specs.machine.View.{View}
 use Rattle.mmu_core.proofs.lines.KnowsKept.{NeedsOf, access_needs, access_vcpu, step_knows}
 use Rattle.mmu_core.proofs.slots.LiveStays.{MakesParts, access_untold}
 use Rattle.mmu_core.proofs.invariant.PartBounded.{part_rests_at}
-use Rattle.mmu_core.proofs.words.PartFits.{part_within}
+use Rattle.mmu_core.proofs.words.PartFits.{part_within, part_small}
 use Rattle.mmu_core.proofs.machine.PartStepping.{IsPart, Replaces, replaces_none}
 use Rattle.mmu_core.proofs.machine.Stepping.{IsStep}
+use Rattle.part_steps.specs.PartTasks.{part_task, own_index}
 
 -- Each word has 64 bits, and the next sequence number stays far below.
 pub record AreSmall (v : View) : Type 0 where
@@ -37,15 +38,20 @@ may_make z v a step small I P there needs replaces = record {
   is_sizes = I.sizes;
   there = there;
   sizes = O.sizes;
-  own_place = ap (λ y. index_of y (v.hand a).state.actor) O.sizes ∙ O.index;
+  own_place = own_place;
   needs = needs;
   replaces = replaces;
   within = part_within step (v.hand a) needs (part_rests_at z v a I P there);
   small = small.each;
+  written =
+      subst (λ n. (part_task step n (v.hand a).topics 0).written < 2 ^ 64) own_place (part_small step (v.hand a) 0 needs (part_rests_at z v a I P there));
 }
   where
     O : OwnLines z a (v.hand a)
     O = I.lines a there
+
+    own_place : own_index (v.hand a) ≡ a
+    own_place = ap (λ y. index_of y (v.hand a).state.actor) O.sizes ∙ O.index
 
 pub makes_parts : (z : Sizes) (v : View) (a : ℕ) (line : Line) (p : AccessPlace) (gfn word : ℕ) (op : Op) → AreSmall v
     → IsStep z v a line (Access gfn word op) (place.Access p) → Invariant z v → TopicsInvariant z v → MakesParts z v a p gfn

@@ -1,28 +1,26 @@
 -- Each step of a fault that doesn't wait for another actor leaves it fewer steps.
-use Rattle.std.proofs.Common.{◌≡◌, ◌≢◌, ◌+◌, ◌-◌, ◌*◌, ◌^◌, ◌<◌, ◌≤◌, ℕ, refl, sym, subst, ap, ◌∙◌, arith}
+use Rattle.std.proofs.Common.{◌≡◌, ◌+◌, ◌-◌, ◌^◌, ◌<◌, ◌≤◌, ℕ, refl, sym, subst, ap, ◌∙◌, arith}
 use Rattle.std.specs.Prelude.{Bool, true, false, ◌==◌, ◌&&◌, nat_le, nat_lt, not, if◌then◌else◌, Option, Some, None, is_some}
 use Rattle.std.proofs.lemmas.Bool.Decides.{nat_tests}
 use Rattle.core_views.specs.declared.place.Cause.TheVariants.{Open, Moved, Entry}
 use Rattle.core_views.specs.declared.place.CheckStage.{CheckStage}
 use Rattle.core_views.specs.declared.place.CheckStage.TheVariants as stage
-use Rattle.core_views.specs.declared.place.FaultEnd.TheVariants.{Installed, Mmio, HostFault, Retry}
+use Rattle.core_views.specs.declared.place.FaultEnd.{FaultEnd}
+use Rattle.core_views.specs.declared.place.FaultEnd.TheVariants.{Installed, Mmio, HostFault, NotFast, Retry}
 use Rattle.core_views.specs.declared.place.FaultPlace.{FaultPlace}
 use Rattle.core_views.specs.declared.place.FaultPlace.TheVariants.{Begin, Find, Host, Bring, Share, Check, Walk, Claim, Fill, Role, Link, Give}
-use Rattle.core_views.specs.declared.place.FaultPlace.TheVariants.{Leaf, Unshare, End}
-use Rattle.core_views.specs.declared.place.SlotField.{SlotField}
-use Rattle.core_views.specs.declared.place.SlotField.TheVariants as field
+use Rattle.core_views.specs.declared.place.FaultPlace.TheVariants.{Leaf, Unshare, End, FastBegin, FastFind, FastWalk, Fix, Mark}
 use Rattle.core_views.specs.declared.sizes.Sizes.{Sizes}
 use Rattle.core_views.specs.declared.topics.Hold.{Hold}
 use Rattle.core_views.specs.declared.topics.Hold.TheVariants.{Loose}
 use Rattle.core_views.specs.declared.topics.OwnedPage.{OwnedPage}
+use Rattle.core_views.specs.declared.topics.TableWalk.{TableWalk}
 use Rattle.core_views.specs.declared.topics.Topics.{Topics}
 use Rattle.core_views.specs.Held.{Held}
 use Rattle.core_views.specs.Sizes.{AreSizes}
-use Rattle.core_views.specs.Slots.{contains}
 use Rattle.spte_words.specs.declared.spte_kind.SpteKind.{SpteKind}
 use Rattle.spte_words.specs.declared.spte_kind.SpteKind.TheVariants as entry_kind
 use Rattle.spte_words.specs.Entries.{kind_of, table_word}
-use Rattle.spte_words.specs.Flags.{flags_live}
 use Rattle.spte_words.specs.HostWords.{host_allows_write, host_present}
 use Rattle.spte_words.proofs.ReadsEntries.{kind_of_table}
 use Rattle.part_steps.specs.declared.part_step.PartStep.{PartStep}
@@ -30,63 +28,31 @@ use Rattle.mmu_core.specs.declared.claim.ClaimNext.{ClaimNext}
 use Rattle.mmu_core.specs.declared.share.ShareNext.{ShareNext}
 use Rattle.mmu_core.specs.declared.share.ShareNext.TheVariants as shares
 use Rattle.mmu_core.specs.lines.FaultKnows.{FaultKnows}
-use Rattle.mmu_core.specs.lines.FaultLeft.{check_left, entering_left, fault_left, next_left, table_left, walk_left}
-use Rattle.mmu_core.specs.lines.FaultSteps.{after_claim, after_share, allows_access, check_next, entry_word, fault_next, fault_part, find_next}
+use Rattle.mmu_core.specs.lines.FaultLeft.{check_left, end_left, entering_left, fault_left, next_left, table_left, walk_left}
+use Rattle.mmu_core.specs.lines.FaultSteps.{after_claim, after_share, allows_access, check_next, entry_word, exchange_lost}
+use Rattle.mmu_core.specs.lines.FaultSteps.{fast_walk_next, fault_next, fault_part}
+use Rattle.mmu_core.specs.lines.FaultSteps.{found_next, put_next}
 use Rattle.mmu_core.specs.lines.FaultSteps.{Pages, host_word_at, share_next, share_part, snapshot_taken, walk_next, claim_left, share_left}
 use Rattle.mmu_core.specs.lines.PartWaits.{part_waits}
 use Rattle.part_steps.specs.PartBounds.{PartRests}
 use Rattle.part_steps.specs.PartTasks.{entry_index, link_written, page_owned, word_looked, words_filled}
-use Rattle.part_steps.specs.PartHoldings.{HasToFill}
+use Rattle.part_steps.specs.PartHoldings.{HasToFill, is_fixable}
 use Rattle.part_steps.specs.PartTopics.{exchanged, part_topics}
-use Rattle.mmu_core.specs.lines.SearchLeft.{look_left}
 use Rattle.part_steps.specs.StayTopics.{may_walk}
 use Rattle.part_steps.specs.WalkTopics.{gone_down, linked_page}
-use Rattle.part_steps.specs.PageTopics.{filled_more, searched, searched_at}
+use Rattle.part_steps.specs.PageTopics.{filled_more, searched}
 use Rattle.mmu_core.proofs.lines.ClaimMade.{ClaimMade, claim_falls, claim_made, claim_left_after, word_there}
 use Rattle.mmu_core.proofs.lines.ClaimMade as made
-use Rattle.mmu_core.proofs.lines.FaultKnown.{above_lowest}
+use Rattle.mmu_core.proofs.lines.WalkKnown.{above_lowest}
+use Rattle.mmu_core.proofs.lines.SearchFalls.{Leads, slot_falls}
 use Rattle.mmu_core.proofs.pages.Owned.{more_filled, table_owned}
 use Rattle.mmu_core.proofs.lines.ShareMade.{share_falls, share_made, share_left_after}
+use Rattle.core_views.specs.declared.place.FaultNext.TheVariants.{Ends}
 
 -- the search
-search_falls : (b : Bool) (z : Sizes) (u : Topics) (n : ℕ) → (u.search.id == 32) ≡ b → (b ≡ false
-    → 4 * (31 - u.search.id) + look_left u.search.next < n) → fault_left (if b then End Mmio else Find true) z u < entering_left z + 8 + n
-search_falls true z u n is less = omega arith
-search_falls false z u n is less = let few = less refl in omega (arith, few)
-
-pub flags_fall : (live : Bool) (id : ℕ) → id ≤ 31 → ((if live then id else id + 1) == 32) ≡ false
-    → 4 * (31 - (if live then id else id + 1)) + look_left (if live then field.Base else field.Flags) < 4 * (31 - id) + 4
-flags_fall true id low is = omega arith
-flags_fall false id low is = let lower : id + 1 ≢ 32 = grind (arith, nat_tests) in omega (arith, lower)
-
-found_falls : (holds denied : Bool) (z : Sizes) (u : Topics) (id : ℕ) → id ≤ 31 → u.search.id ≡ id + 1 → look_left u.search.next ≡ 4
-    → fault_left (if holds then (if denied then End Mmio else Host) else if u.search.id == 32 then End Mmio else Find true) z u
-    < entering_left z + 8 + (4 * (31 - id) + 1)
-found_falls true true z u id low is next = omega arith
-found_falls true false z u id low is next = omega arith
-found_falls false denied z u id low is next =
-    search_falls (u.search.id == 32) z u (4 * (31 - id) + 1) refl
-    (λ e. let lower : u.search.id ≢ 32 = grind (arith, nat_tests) in omega (arith, lower))
-
-find_falls : (f : SlotField) (z : Sizes) (gfn : ℕ) (write : Bool) (t : Topics) (v : ℕ) → t.search.id ≤ 31
-    → fault_left (find_next gfn write f (searched_at f t.search v)) z (record t { search = searched_at f t.search v })
-    < entering_left z + 8 + (4 * (31 - t.search.id) + look_left f)
-find_falls field.Flags z gfn write t v low =
-    search_falls ((searched_at field.Flags t.search v).id == 32) z (record t { search = searched_at field.Flags t.search v })
-    (4 * (31 - t.search.id) + 4) refl (λ e. flags_fall (flags_live v) t.search.id low e)
-find_falls field.Base z gfn write t v low =
-    search_falls (t.search.id == 32) z (record t { search = searched_at field.Base t.search v }) (4 * (31 - t.search.id) + 3) refl (λ e. omega arith)
-find_falls field.Pages z gfn write t v low =
-    search_falls (t.search.id == 32) z (record t { search = searched_at field.Pages t.search v }) (4 * (31 - t.search.id) + 2) refl (λ e. omega arith)
-find_falls field.Host z gfn write t v low =
-    found_falls (contains gfn (searched_at field.Host t.search v).slot) (write && t.search.slot.read_only) z
-    (record t { search = searched_at field.Host t.search v }) t.search.id low refl refl
-
-slot_falls : (b : Bool) (z : Sizes) (gfn : ℕ) (write : Bool) (t : Topics) (v : ℕ) → b ≡ true → t.search.id ≤ 31
-    → fault_left (find_next gfn write t.search.next (searched t.search v)) z (record t { search = if b then searched t.search v else t.search })
-    < entering_left z + 8 + (4 * (31 - t.search.id) + look_left t.search.next)
-slot_falls true z gfn write t v is low = find_falls t.search.next z gfn write t v low
-slot_falls false z gfn write t v is low = absurd (cc is)
+find_leads : (z : Sizes) (denied : Bool) → Leads z (entering_left z + 8) (if denied then End Mmio else Host) (End Mmio) (Find true)
+find_leads z true = record { found = λ u. omega arith; ends = λ u. omega arith; goes_on = λ u. refl }
+find_leads z false = record { found = λ u. omega arith; ends = λ u. omega arith; goes_on = λ u. refl }
 
 -- the host word, and the lock
 begins_share : (z : Sizes) (u : Topics) → u.hold ≡ Loose → fault_left Share z u < entering_left z + 7
@@ -141,18 +107,18 @@ root_falls : (b : Bool) (z : Sizes) → walk_left z (if b then 4 else 0) < enter
 root_falls true z = omega arith
 root_falls false z = omega arith
 
-four_left : (z : Sizes) (level : ℕ) → 4 ≤ walk_left z level
-four_left z level = omega arith
+five_left : (z : Sizes) (level : ℕ) → 5 ≤ walk_left z level
+five_left z level = omega arith
 
-leaf_falls : (lowest allows : Bool) (z : Sizes) (word v level : ℕ) (u : Topics)
-    → fault_left (if lowest then (if allows then Unshare Installed else Leaf) else Unshare (Retry (Entry word v v))) z u < walk_left z level
-leaf_falls true true z word v level u = let four = four_left z level in omega (arith, four)
-leaf_falls _ _ z word v level u = let four = four_left z level in omega (arith, four)
+leaf_falls : (lowest allows write : Bool) (z : Sizes) (word v level : ℕ) (u : Topics)
+    → fault_left (if lowest then (if allows then Unshare Installed else Leaf write) else Unshare (Retry (Entry word v v))) z u < walk_left z level
+leaf_falls true true write z word v level u = let five = five_left z level in omega (arith, five)
+leaf_falls _ _ write z word v level u = let five = five_left z level in omega (arith, five)
 
-none_falls : (lowest : Bool) (z : Sizes) (u : Topics) → (u.walk.level == 1) ≡ lowest → 1 ≤ u.walk.level → u.walk.level ≤ 4
-    → fault_left (if lowest then Leaf else Claim false) z u < walk_left z u.walk.level
-none_falls true z u is from most = let four = four_left z u.walk.level in omega (arith, four)
-none_falls false z u is from most =
+none_falls : (lowest write : Bool) (z : Sizes) (u : Topics) → (u.walk.level == 1) ≡ lowest → 1 ≤ u.walk.level → u.walk.level ≤ 4
+    → fault_left (if lowest then Leaf write else Claim false) z u < walk_left z u.walk.level
+none_falls true write z u is from most = let five = five_left z u.walk.level in omega (arith, five)
+none_falls false write z u is from most =
     let upper : 2 ≤ u.walk.level = grind (arith, nat_tests) in
     let below = table_below z u.walk.level upper most in
     omega (arith, below)
@@ -162,10 +128,11 @@ walk_falls : (k : SpteKind) (z : Sizes) (gfn : ℕ) (write : Bool) (t : Topics) 
     < walk_left z t.walk.level
 walk_falls (entry_kind.Table page) z gfn write t v is from most =
     let below = table_below z t.walk.level (above_lowest t.walk.level v page from is) most in omega (arith, below)
-walk_falls entry_kind.Leaf z gfn write t v is from most = leaf_falls (t.walk.level == 1) (allows_access write v) z (entry_word z gfn t.walk) v t.walk.level _
+walk_falls entry_kind.Leaf z gfn write t v is from most =
+    leaf_falls (t.walk.level == 1) (allows_access write v) write z (entry_word z gfn t.walk) v t.walk.level _
 walk_falls entry_kind.Absent z gfn write t v is from most =
-    none_falls (t.walk.level == 1) z (record t { walk = gone_down None t.walk (entry_index gfn t.walk.level) v }) refl from most
-walk_falls entry_kind.Frozen z gfn write t v is from most = let four = four_left z t.walk.level in omega (arith, four)
+    none_falls (t.walk.level == 1) write z (record t { walk = gone_down None t.walk (entry_index gfn t.walk.level) v }) refl from most
+walk_falls entry_kind.Frozen z gfn write t v is from most = let five = five_left z t.walk.level in omega (arith, five)
 
 -- the claim
 claims_fall : (z : Sizes) (begun : Bool) (t : Topics) (v : ℕ) (step : PartStep) (next : ClaimNext) (u : Topics) → ClaimMade z Pages begun t v step next u
@@ -181,7 +148,7 @@ fill_falls true z t v F = omega (arith, F.1, more_filled t.owned v F.0)
 fill_falls false z t v F = omega (arith, F.1)
 
 link_falls : (b : Bool) (z : Sizes) (t : Topics) (gfn v : ℕ) (o : OwnedPage) → 2 ≤ t.walk.level → t.owned ≡ Some o → o.page < 2 ^ 32
-    → fault_left (if b then Walk true else Give (Retry (Entry (entry_word z gfn t.walk) t.walk.entry v))) z
+    → fault_left (if b then Walk true else Give (exchange_lost z gfn t.walk v)) z
     (exchanged b (entry_index gfn t.walk.level) (link_written t) t v) < walk_left z (t.walk.level - 1) + 1
 link_falls true z t gfn v o from is small =
     subst (λ (k : SpteKind). walk_left z (gone_down (linked_page k) t.walk (entry_index gfn t.walk.level) (link_written t)).level
@@ -190,18 +157,62 @@ link_falls true z t gfn v o from is small =
   where
     linked : kind_of t.walk.level (link_written t) ≡ entry_kind.Table o.page
     linked = ap (λ (x : Option OwnedPage). kind_of t.walk.level (table_word (page_owned x))) is ∙ kind_of_table t.walk.level o.page from small
-link_falls false z t gfn v o from is small = let four = four_left z (t.walk.level - 1) in omega (arith, four)
+link_falls false z t gfn v o from is small = let five = five_left z (t.walk.level - 1) in omega (arith, five)
 
-leaf_put : (b : Bool) (z : Sizes) (word read v : ℕ) (u : Topics) → fault_left (if b then Unshare Installed else Unshare (Retry (Entry word read v))) z u < 3
-leaf_put true z word read v u = omega arith
-leaf_put false z word read v u = omega arith
+-- the leaf, and the mark
+put_left : (fast marks : Bool) (z : Sizes) (u : Topics) → fault_left (put_next fast marks) z u < 4
+put_left fast true z u = omega arith
+put_left true false z u = omega arith
+put_left false false z u = omega arith
+
+leaf_put : (b marks : Bool) (z : Sizes) (gfn : ℕ) (walk : TableWalk) (v : ℕ) (u : Topics)
+    → fault_left (if b then put_next false marks else Unshare (exchange_lost z gfn walk v)) z u < 4
+leaf_put true marks z gfn walk v u = put_left false marks z u
+leaf_put false marks z gfn walk v u = omega arith
+
+fix_made : (b marks : Bool) (z : Sizes) (gfn : ℕ) (walk : TableWalk) (v : ℕ) (u : Topics)
+    → fault_left (if b then put_next true marks else End (exchange_lost z gfn walk v)) z u < 4
+fix_made true marks z gfn walk v u = put_left true marks z u
+fix_made false marks z gfn walk v u = omega arith
+
+mark_made : (fast : Bool) (z : Sizes) (u : Topics) → fault_left (put_next fast false) z u < 3
+mark_made true z u = omega arith
+mark_made false z u = omega arith
+
+-- ---- a fast fault
+
+fast_leads : (z : Sizes) → Leads z (entering_left z + 146) (FastWalk false) (End (NotFast 0)) (FastFind true)
+fast_leads z = record { found = λ u. omega arith; ends = λ u. omega arith; goes_on = λ u. refl }
+
+fast_root_falls : (b : Bool) (z : Sizes) → (if b then 4 else 0) < 5
+fast_root_falls true z = omega arith
+fast_root_falls false z = omega arith
+
+fast_leaf_falls : (b : Bool) (z : Sizes) (v level : ℕ) (u : Topics) → 1 ≤ level
+    → fault_left (if b then Fix else End (NotFast v)) z u < entering_left z + 140 + level
+fast_leaf_falls true z v level u from = omega arith
+fast_leaf_falls false z v level u from = omega arith
+
+fast_walk_falls : (k : SpteKind) (z : Sizes) (gfn : ℕ) (t : Topics) (v : ℕ) → kind_of t.walk.level v ≡ k → 1 ≤ t.walk.level
+    → fault_left (fast_walk_next k t.walk v) z (record t { walk = gone_down (linked_page k) t.walk (entry_index gfn t.walk.level) v })
+    < entering_left z + 140 + t.walk.level
+fast_walk_falls (entry_kind.Table page) z gfn t v is from = omega arith
+fast_walk_falls entry_kind.Leaf z gfn t v is from = fast_leaf_falls ((t.walk.level == 1) && is_fixable v) z v t.walk.level _ from
+fast_walk_falls entry_kind.Absent z gfn t v is from = omega arith
+fast_walk_falls entry_kind.Frozen z gfn t v is from = omega arith
+
+end_falls : (e : FaultEnd) (z : Sizes) (u : Topics) → next_left (Ends e) z u < end_left e z
+end_falls (NotFast word) z u = omega arith
+end_falls _ z u = omega arith
 
 pub fault_falls : (p : FaultPlace) (h : Held) (gfn v : ℕ) (write : Bool) → gfn < 2 ^ 36 → PartRests h → FaultKnows p h.state.sizes gfn write h.topics
     → part_waits (fault_part p gfn h.topics) h.topics v ≡ false
     → next_left (fault_next p h.state.sizes gfn write h.topics v) h.state.sizes (part_topics (fault_part p gfn h.topics) h.topics v)
     < fault_left p h.state.sizes h.topics
 fault_falls (Find true) h gfn v write small R K goes =
-    let set = K.1 refl in slot_falls (is_some h.topics.search.set) h.state.sizes gfn write h.topics v set.0 set.1
+    let set = K.1 refl in
+    slot_falls (is_some h.topics.search.set) h.state.sizes (entering_left h.state.sizes + 8) (found_next write (searched h.topics.search v)) (End Mmio)
+    (Find true) gfn h.topics v (find_leads h.state.sizes (write && (searched h.topics.search v).slot.read_only)) set.0 set.1
 fault_falls (Find false) h gfn v write small R K goes = omega arith
 fault_falls Host h gfn v write small R K goes =
     host_falls (write && not (host_allows_write v)) (host_present v) h.state.sizes (part_topics (fault_part Host gfn h.topics) h.topics v) K.0.loose
@@ -224,9 +235,21 @@ fault_falls Link h gfn v write small R K goes =
     let O = table_owned (h.topics.walk.level - 1) h.topics K.2 in
     let low : O.owned.page < 2 ^ 32 = let page = R.page O.owned O.is in let most = R.sizes.pool.1 in omega (arith, page, most) in
     link_falls (v == h.topics.walk.entry) h.state.sizes h.topics gfn v O.owned K.1.upper O.is low
-fault_falls Leaf h gfn v write small R K goes =
-    leaf_put (v == h.topics.walk.entry) h.state.sizes (entry_word h.state.sizes gfn h.topics.walk) h.topics.walk.entry v _
+fault_falls (Leaf writes) h gfn v write small R K goes =
+    leaf_put (v == h.topics.walk.entry) (writes && h.topics.search.logged) h.state.sizes gfn h.topics.walk v _
+fault_falls (End e) h gfn v write small R K goes = end_falls e h.state.sizes _
+fault_falls (FastFind true) h gfn v write small R K goes =
+    let set = K.2 refl in
+    slot_falls (is_some h.topics.search.set) h.state.sizes (entering_left h.state.sizes + 146) (FastWalk false) (End (NotFast 0)) (FastFind true) gfn
+    h.topics v (fast_leads h.state.sizes) set.0 set.1
+fault_falls (FastFind false) h gfn v write small R K goes = omega arith
+fault_falls (FastWalk true) h gfn v write small R K goes =
+    let over = K.1 refl in fast_walk_falls (kind_of h.topics.walk.level v) h.state.sizes gfn h.topics v refl over.there
+fault_falls (FastWalk false) h gfn v write small R K goes =
+    let less = fast_root_falls (may_walk h.topics.stay h.topics.hold) h.state.sizes in omega (arith, less)
+fault_falls Fix h gfn v write small R K goes = fix_made (v == h.topics.walk.entry) h.topics.search.logged h.state.sizes gfn h.topics.walk v _
+fault_falls (Mark fast) h gfn v write small R K goes = mark_made fast h.state.sizes _
 fault_falls _ h gfn v write small R K goes = omega arith
 
-pub fault_is_bounded : (z : Sizes) (t : Topics) → AreSizes z → fault_left Begin z t ≤ 8192 + z.pool
+pub fault_is_bounded : (z : Sizes) (t : Topics) → AreSizes z → fault_left FastBegin z t ≤ 8192 + z.pool
 fault_is_bounded z t S = let most = S.pool.1 in omega (arith, most)

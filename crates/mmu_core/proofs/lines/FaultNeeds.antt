@@ -1,11 +1,11 @@
 -- What a fault knows at a place is what the step of this place needs.
-use Rattle.std.proofs.Common.{◌≡◌, ◌+◌, ◌^◌, ◌<◌, ℕ, refl, ap, arith}
+use Rattle.std.proofs.Common.{◌≡◌, ◌+◌, ◌^◌, ◌<◌, ℕ, refl, sym, subst, ap, arith}
 use Rattle.std.specs.Prelude.{Bool, true, false, ◌&&◌, Option, Some, None, is_some}
 use Rattle.core_views.specs.declared.place.CheckStage.{CheckStage}
 use Rattle.core_views.specs.declared.place.CheckStage.TheVariants as stage
 use Rattle.core_views.specs.declared.place.FaultPlace.{FaultPlace}
 use Rattle.core_views.specs.declared.place.FaultPlace.TheVariants.{Begin, Snapshot, Find, Host, Bring, Share, Check, Walk, Claim, Fill, Role, Link}
-use Rattle.core_views.specs.declared.place.FaultPlace.TheVariants.{Give, Leaf, Unshare, End}
+use Rattle.core_views.specs.declared.place.FaultPlace.TheVariants.{Give, Leaf, Unshare, End, FastBegin, FastFind, FastWalk, Fix, Mark}
 use Rattle.core_views.specs.declared.topics.Hold.{Hold}
 use Rattle.core_views.specs.declared.topics.HostLook.{HostLook}
 use Rattle.core_views.specs.declared.topics.OwnedPage.{OwnedPage}
@@ -16,7 +16,7 @@ use Rattle.mmu_core.specs.lines.FaultSteps.{Pages, check_part, fault_part}
 use Rattle.part_steps.specs.PartBounds.{PartRests}
 use Rattle.part_steps.specs.PartHoldings.{FoundSlot, MayEnter, SawEntry}
 use Rattle.part_steps.specs.PartSteps.{PartNeeds, counts}
-use Rattle.part_steps.specs.PartTasks.{page_owned, words_filled}
+use Rattle.part_steps.specs.PartTasks.{page_owned, words_filled, number_or_none}
 use Rattle.part_steps.specs.SlotWords.{page_of}
 use Rattle.mmu_core.proofs.lines.ClaimMade.{claim_needs}
 use Rattle.mmu_core.proofs.lines.FaultSame.{over_it}
@@ -43,6 +43,7 @@ may_enter gfn write t E S = record {
   looked_up = E.sharing.looked.looked_up;
   present = E.sharing.looked.presence;
   saw = S;
+  owes_none = E.sharing.owes_none;
 }
 
 -- A page that is owned is one of the pool; so is one that is filled but for its role.
@@ -76,6 +77,17 @@ fault_needs Fill h gfn write small R K = (K.2, omega arith, owned_below h R K.2.
 fault_needs Role h gfn write small R K = (K.2, omega (arith, R.level), owned_below h R (full_owns h.topics.owned K.2))
 fault_needs Link h gfn write small R K = (may_enter gfn write h.topics K.0 K.1.saw, K.1.upper, K.1.absent, K.2)
 fault_needs (Give e) h gfn write small R K = (K.2, ap is_alone K.1)
-fault_needs Leaf h gfn write small R K = (may_enter gfn write h.topics K.0 K.2, K.3)
+fault_needs (Leaf writes) h gfn write small R K = (may_enter gfn write h.topics K.0 K.2, K.3, K.5)
 fault_needs (Unshare e) h gfn write small R K = ap (λ (x : Hold). counts x) K.1
-fault_needs (End e) h gfn write small R K = K.0.section
+fault_needs (End e) h gfn write small R K = (K.0.section, K.0.owes_none)
+fault_needs FastBegin h gfn write small R K = K.outside
+fault_needs (FastFind true) h gfn write small R K = let S = K.2 refl in (S.0, S.1, ap (λ (k : Hold). is_alone k && has_found_looked h.topics) K.1)
+fault_needs (FastFind false) h gfn write small R K = tt
+fault_needs (FastWalk true) h gfn write small R K = (K.1 refl, no_sweep h.topics K.0.inside.section refl)
+fault_needs (FastWalk false) h gfn write small R K = tt
+fault_needs Fix h gfn write small R K = K.1
+fault_needs (Mark fast) h gfn write small R K = record {
+  section = K.section;
+  owes = ap (λ (o : Option ℕ). is_some o) K.owes;
+  found = subst (λ (o : Option ℕ). FoundSlot (number_or_none o) h.topics) (sym K.owes) K.found;
+}

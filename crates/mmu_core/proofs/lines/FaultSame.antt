@@ -4,7 +4,7 @@ use Rattle.std.specs.Prelude.{Bool, true, false, ◌&&◌, nat_le, nat_lt, not, 
 use Rattle.std.proofs.lemmas.Bool.Decides.{nat_tests}
 use Rattle.core_views.specs.declared.place.Cause.TheVariants.{Open, Moved, Entry}
 use Rattle.core_views.specs.declared.place.FaultEnd.{FaultEnd}
-use Rattle.core_views.specs.declared.place.FaultEnd.TheVariants.{Installed, Mmio, HostFault, Starved, Retry}
+use Rattle.core_views.specs.declared.place.FaultEnd.TheVariants.{Installed, Mmio, HostFault, Starved, Retry, NotFast}
 use Rattle.core_views.specs.declared.sizes.Sizes.{Sizes}
 use Rattle.core_views.specs.declared.topics.HostLook.{HostLook}
 use Rattle.core_views.specs.declared.topics.Invalidations.{Invalidations}
@@ -16,6 +16,7 @@ use Rattle.spte_words.specs.Areas.{words_of_bits}
 use Rattle.spte_words.specs.Entries.{kind_of}
 use Rattle.spte_words.specs.HostWords.{host_present}
 use Rattle.mmu_core.specs.lines.FaultKnows.{FaultEndKnows, Entering, FoundNoPage, IsInTheWay, LookedFor, SawAbsentEntry, Sharing, WithoutLock}
+use Rattle.mmu_core.specs.lines.FaultKnows.{HasEntry, InSection, SawNotFast, forbids_more}
 use Rattle.mmu_core.specs.lines.FaultSteps.{allows_access, host_word_at}
 use Rattle.part_steps.specs.PartHoldings.{FoundSlot, IsFresh, LookedUp, SawEntry}
 use Rattle.part_steps.specs.PartTasks.{word_looked}
@@ -64,17 +65,21 @@ same_looked present gfn write t u search host snapshot L = record {
 }
 
 pub same_sharing : (gfn : ℕ) (write : Bool) (t u : Topics) → u.stay ≡ t.stay → u.hold ≡ t.hold → u.search ≡ t.search → u.host ≡ t.host
-    → u.invalidations.snapshot ≡ t.invalidations.snapshot → Sharing gfn write t → Sharing gfn write u
-same_sharing gfn write t u stay hold search host snapshot S = record {
+    → u.invalidations.snapshot ≡ t.invalidations.snapshot → u.owed ≡ t.owed → Sharing gfn write t → Sharing gfn write u
+same_sharing gfn write t u stay hold search host snapshot owed S = record {
   section = stay ∙ S.section;
   shares = hold ∙ S.shares;
   looked = same_looked true gfn write t u search host snapshot S.looked;
+  owes_none = owed ∙ S.owes_none;
 }
 
+pub same_inside : (t u : Topics) → u.stay ≡ t.stay → u.owned ≡ t.owned → u.owed ≡ t.owed → InSection t → InSection u
+same_inside t u stay owned owed I = record { section = stay ∙ I.section; owns_none = owned ∙ I.owns_none; owes_none = owed ∙ I.owes_none }
+
 pub same_entering : (gfn : ℕ) (write : Bool) (t u : Topics) → u.stay ≡ t.stay → u.hold ≡ t.hold → u.search ≡ t.search → u.host ≡ t.host
-    → u.invalidations ≡ t.invalidations → Entering gfn write t → Entering gfn write u
-same_entering gfn write t u stay hold search host n E = record {
-  sharing = same_sharing gfn write t u stay hold search host (ap (λ (x : Invalidations). x.snapshot) n) E.sharing;
+    → u.invalidations ≡ t.invalidations → u.owed ≡ t.owed → Entering gfn write t → Entering gfn write u
+same_entering gfn write t u stay hold search host n owed E = record {
+  sharing = same_sharing gfn write t u stay hold search host (ap (λ (x : Invalidations). x.snapshot) n) owed E.sharing;
   fresh = subst (IsFresh gfn) (sym n) E.fresh;
 }
 
@@ -90,18 +95,27 @@ pub same_page : (gfn : ℕ) (write : Bool) (t u : Topics) → u.search ≡ t.sea
 same_page gfn write t u search (inl n) = inl (n.0, same_found gfn t u search n.1, ap (λ (s : SlotSearch). s.slot.read_only) search ∙ n.2)
 same_page gfn write t u search (inr e) = inr (ap (λ (s : SlotSearch). s.id) search ∙ e)
 
-pub ends_same : (e : FaultEnd) (z : Sizes) (gfn : ℕ) (write : Bool) (t u : Topics) → u.walk ≡ t.walk → u.search ≡ t.search → u.host ≡ t.host
-    → u.claim.at ≡ t.claim.at → unchecked u.invalidations ≡ unchecked t.invalidations → FaultEndKnows e z gfn write t → FaultEndKnows e z gfn write u
-ends_same Installed z gfn write t u walk search host claim n K = record {
+pub same_entry : (gfn : ℕ) (write : Bool) (t u : Topics) → u.walk ≡ t.walk → HasEntry gfn write t → HasEntry gfn write u
+same_entry gfn write t u walk K = record {
   saw = subst (SawEntry gfn) (sym walk) K.saw;
   lowest = ap (λ (w : TableWalk). w.level) walk ∙ K.lowest;
   leaf = ap (λ (w : TableWalk). kind_of 1 w.entry) walk ∙ K.leaf;
   allows = ap (λ (w : TableWalk). allows_access write w.entry) walk ∙ K.allows;
 }
+
+same_not_fast : (word gfn : ℕ) (t u : Topics) → u.walk ≡ t.walk → u.search ≡ t.search → SawNotFast word gfn t → SawNotFast word gfn u
+same_not_fast word gfn t u walk search (inl n) = inl (n.0, ap (λ (s : SlotSearch). s.id) search ∙ n.1)
+same_not_fast word gfn t u walk search (inr S) = inr (subst
+    (λ (w : TableWalk). SawEntry gfn w × (w.entry ≡ word) × (forbids_more (kind_of w.level word) w.level word ≡ true)) (sym walk) S)
+
+pub ends_same : (e : FaultEnd) (z : Sizes) (gfn : ℕ) (write : Bool) (t u : Topics) → u.walk ≡ t.walk → u.search ≡ t.search → u.host ≡ t.host
+    → u.claim.at ≡ t.claim.at → unchecked u.invalidations ≡ unchecked t.invalidations → FaultEndKnows e z gfn write t → FaultEndKnows e z gfn write u
+ends_same Installed z gfn write t u walk search host claim n K = same_entry gfn write t u walk K
 ends_same Mmio z gfn write t u walk search host claim n K = same_page gfn write t u search K
 ends_same HostFault z gfn write t u walk search host claim n K =
     record { writes = K.writes; looked_up = same_looked_up gfn t u search host K.looked_up; forbids = K.forbids }
 ends_same Starved z gfn write t u walk search host claim n K = subst (λ n. words_of_bits z.pool ≤ n) (sym claim) K
+ends_same (NotFast word) z gfn write t u walk search host claim n K = same_not_fast word gfn t u walk search K
 ends_same (Retry (Open count start end_ at)) z gfn write t u walk search host claim n K =
     (K.0, K.1, K.2, K.3, ap (λ (x : Invalidations). x.count) n ∙ K.4, ap (λ (x : Invalidations). x.start) n ∙ K.5, ap (λ (x : Invalidations). x.end) n ∙ K.6)
 ends_same (Retry (Moved old_ now_)) z gfn write t u walk search host claim n K =
@@ -114,9 +128,10 @@ ends_same (Retry (Entry word read seen)) z gfn write t u walk search host claim 
   why = M.why;
 })
 
-pub same_without : (t u : Topics) → u.stay ≡ t.stay → u.owned ≡ t.owned → u.hold ≡ t.hold → u.invalidations ≡ t.invalidations → WithoutLock t → WithoutLock u
-same_without t u stay owned hold n W = record {
-  inside = record { section = stay ∙ W.inside.section; owns_none = owned ∙ W.inside.owns_none };
+pub same_without : (t u : Topics) → u.stay ≡ t.stay → u.owned ≡ t.owned → u.hold ≡ t.hold → u.invalidations ≡ t.invalidations → u.owed ≡ t.owed
+    → WithoutLock t → WithoutLock u
+same_without t u stay owned hold n owed W = record {
+  inside = same_inside t u stay owned owed W.inside;
   loose = hold ∙ W.loose;
   snapshot = ap (λ (x : Invalidations). is_some x.snapshot) n ∙ W.snapshot;
 }

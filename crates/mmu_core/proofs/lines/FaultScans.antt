@@ -3,9 +3,10 @@ use Rattle.std.proofs.Common.{◌≡◌, ℕ, refl, ap}
 use Rattle.std.specs.Prelude.{◌+◌, Bool, true, false, ◌==◌, ◌&&◌, nat_le, nat_lt, not, if◌then◌else◌}
 use Rattle.core_views.specs.declared.place.CheckStage.{CheckStage}
 use Rattle.core_views.specs.declared.place.CheckStage.TheVariants as stage
-use Rattle.core_views.specs.declared.place.FaultEnd.TheVariants.{Installed, Mmio, HostFault, Retry}
+use Rattle.core_views.specs.declared.place.FaultEnd.TheVariants.{Installed, Mmio, HostFault, Retry, NotFast}
 use Rattle.core_views.specs.declared.place.FaultPlace.{FaultPlace}
 use Rattle.core_views.specs.declared.place.FaultPlace.TheVariants.{Find, Host, Bring, Share, Check, Walk, Claim, Fill, Role, Link, Give, Leaf, Unshare, End}
+use Rattle.core_views.specs.declared.place.FaultPlace.TheVariants.{FastFind, FastWalk, Fix, Mark}
 use Rattle.core_views.specs.declared.place.SlotField.{SlotField}
 use Rattle.core_views.specs.declared.sizes.Sizes.{Sizes}
 use Rattle.core_views.specs.declared.topics.SlotSearch.{SlotSearch}
@@ -20,6 +21,7 @@ use Rattle.mmu_core.specs.declared.share.ShareNext.{ShareNext}
 use Rattle.mmu_core.specs.declared.share.ShareNext.TheVariants as shares
 use Rattle.mmu_core.specs.lines.FaultSteps.{after_share, allows_access, check_next, check_part, fault_next, fault_part, find_next, found_next}
 use Rattle.mmu_core.specs.lines.FaultSteps.{is_last_word, share_next, share_part, snapshot_taken, walk_next}
+use Rattle.mmu_core.specs.lines.FaultSteps.{search_next, fast_find_next, fast_walk_next, put_next}
 use Rattle.mmu_core.specs.lines.ClaimSteps.{FreeMap, Pages, Frames, claim_part, load_part, map_word, tries_one, try_part}
 use Rattle.mmu_core.specs.lines.ScanPlaces.{BegunNext, HasBegun, IsStarvedEnd}
 use Rattle.mmu_core.specs.lines.FaultKnows.{FaultKnows, IsRetry}
@@ -34,6 +36,7 @@ use Rattle.part_steps.specs.declared.part_step.PartStep.{PartStep}
 use Rattle.part_steps.specs.declared.part_step.PartStep.TheVariants as part
 use Rattle.part_steps.specs.PartTasks.{word_looked, words_filled}
 use Rattle.part_steps.specs.PageTopics.{searched}
+use Rattle.part_steps.specs.PartHoldings.{is_fixable}
 
 -- The fault is at a step of its claim, or is to be starved.
 abbrev pub ClaimsOrStarves : FaultPlace → Type 0
@@ -49,11 +52,14 @@ NotBegun p = HasBegun p → ⊥
 not_found : (write : Bool) (found : SlotSearch) → NotBegun (found_next write found)
 not_found write found = either_place NotBegun (write && found.slot.read_only) (End Mmio) Host (λ e. e) (λ e. e)
 
+not_by_search : (has none more : FaultPlace) (gfn : ℕ) (loaded : SlotField) (found : SlotSearch) → NotBegun has → NotBegun none → NotBegun more
+    → NotBegun (search_next has none more gfn loaded found)
+not_by_search has none more gfn loaded found at_found at_end on =
+    either_place NotBegun (is_last_word loaded && contains gfn found.slot) has (if found.id == 32 then none else more) at_found
+    (either_place NotBegun (found.id == 32) none more at_end on)
+
 not_by_find : (gfn : ℕ) (write : Bool) (loaded : SlotField) (found : SlotSearch) → NotBegun (find_next gfn write loaded found)
-not_by_find gfn write loaded found =
-    either_place NotBegun (is_last_word loaded && contains gfn found.slot) (found_next write found) (if found.id == 32 then End Mmio else Find true)
-    (not_found write found)
-    (either_place NotBegun (found.id == 32) (End Mmio) (Find true) (λ e. e) (λ e. e))
+not_by_find gfn write loaded found = not_by_search (found_next write found) (End Mmio) (Find true) gfn loaded found (not_found write found) (λ e. e) (λ e. e)
 
 not_by_share : (next : ShareNext) → NotBegun (after_share next)
 not_by_share shares.Tries = λ e. e
@@ -68,10 +74,21 @@ not_by_check stage.Seq gfn t v = either_place NotBegun (v == snapshot_taken t.in
 
 not_by_walk : (k : SpteKind) (z : Sizes) (gfn : ℕ) (write : Bool) (walk : TableWalk) (v : ℕ) → NotBegun (walk_next k z gfn write walk v)
 not_by_walk entry_kind.Leaf z gfn write walk v =
-    either_place NotBegun (walk.level == 1) (if allows_access write v then Unshare Installed else Leaf) (Unshare (Retry _))
-    (either_place NotBegun (allows_access write v) (Unshare Installed) Leaf (λ e. e) (λ e. e)) (λ e. e)
-not_by_walk entry_kind.Absent z gfn write walk v = either_place NotBegun (walk.level == 1) Leaf (Claim false) (λ e. e) (λ e. absurd (cc e))
+    either_place NotBegun (walk.level == 1) (if allows_access write v then Unshare Installed else Leaf write) (Unshare (Retry _))
+    (either_place NotBegun (allows_access write v) (Unshare Installed) (Leaf write) (λ e. e) (λ e. e)) (λ e. e)
+not_by_walk entry_kind.Absent z gfn write walk v = either_place NotBegun (walk.level == 1) (Leaf write) (Claim false) (λ e. e) (λ e. absurd (cc e))
 not_by_walk _ z gfn write walk v = λ e. e
+
+not_by_fast_walk : (k : SpteKind) (walk : TableWalk) (v : ℕ) → NotBegun (fast_walk_next k walk v)
+not_by_fast_walk entry_kind.Leaf walk v = either_place NotBegun ((walk.level == 1) && is_fixable v) Fix (End (NotFast v)) (λ e. e) (λ e. e)
+not_by_fast_walk entry_kind.Absent walk v = λ e. e
+not_by_fast_walk entry_kind.Frozen walk v = λ e. e
+not_by_fast_walk (entry_kind.Table page) walk v = λ e. e
+
+not_by_put : (fast marks : Bool) → NotBegun (put_next fast marks)
+not_by_put fast true = λ e. e
+not_by_put true false = λ e. e
+not_by_put false false = λ e. e
 
 retry_starves_not : (e : FaultEnd) → IsRetry e → IsStarvedEnd e → ⊥
 retry_starves_not (Retry cause) retry starved = starved
@@ -94,8 +111,18 @@ fault_claims (Walk rooted) z gfn write t v K e =
 fault_claims (Claim begun) z gfn write t v K e = tt
 fault_claims Fill z gfn write t v K e = either_place NotBegun (nat_lt (words_filled t.owned + 1) 512) Fill Role (λ x. x) (λ x. x) e
 fault_claims Link z gfn write t v K e = either_place NotBegun (v == t.walk.entry) (Walk true) (Give (Retry _)) (λ x. x) (λ x. x) e
-fault_claims Leaf z gfn write t v K e = either_place NotBegun (v == t.walk.entry) (Unshare Installed) (Unshare (Retry _)) (λ x. x) (λ x. x) e
-fault_claims (Give end) z gfn write t v K e = absurd (retry_starves_not end K.4 e)
+fault_claims (Leaf writes) z gfn write t v K e =
+    either_place NotBegun (v == t.walk.entry) (put_next false (writes && t.search.logged)) (Unshare (Retry _)) (not_by_put false _) (λ x. x) e
+fault_claims (Give end) z gfn write t v K e = absurd (retry_starves_not end K.5 e)
+fault_claims (FastFind begun) z gfn write t v K e =
+    either_place NotBegun begun (fast_find_next gfn t.search.next (searched t.search v)) (FastFind true)
+    (not_by_search (FastWalk false) (End (NotFast 0)) (FastFind true) gfn t.search.next (searched t.search v) (λ x. x) (λ x. x) (λ x. x)) (λ x. x) e
+fault_claims (FastWalk rooted) z gfn write t v K e =
+    either_place NotBegun rooted (fast_walk_next (kind_of t.walk.level v) t.walk v) (FastWalk true)
+    (not_by_fast_walk (kind_of t.walk.level v) t.walk v) (λ x. x) e
+fault_claims Fix z gfn write t v K e =
+    either_place NotBegun (v == t.walk.entry) (put_next true t.search.logged) (End (Retry _)) (not_by_put true _) (λ x. x) e
+fault_claims (Mark fast) z gfn write t v K e = not_by_put fast false e
 fault_claims _ z gfn write t v K e = e
 
 -- ---- which steps claim
@@ -195,6 +222,8 @@ fault_maps_not map (Find begun) gfn t is = one_maps_not map begun part.Slot part
 fault_maps_not map Share gfn t is = share_maps_not map t.hold
 fault_maps_not map (Check at) gfn t is = check_maps_not map at
 fault_maps_not map (Walk rooted) gfn t is = one_maps_not map rooted (part.Walk gfn) part.Root refl refl
+fault_maps_not map (FastFind begun) gfn t is = one_maps_not map begun part.Slot part.Slots refl refl
+fault_maps_not map (FastWalk rooted) gfn t is = one_maps_not map rooted (part.Walk gfn) part.Root refl refl
 fault_maps_not map _ gfn t is = refl
 
 -- A fault tries a page only with a scan.

@@ -73,7 +73,7 @@ fault_goes (next_of.Ends e) = fault_over_goes e
 
 access_goes : (p : AccessPlace) (h : Held) (gfn : ℕ) (op : Op) (v : ℕ) → GoesUnderWay (access_outcome p h gfn op v)
 access_goes (Leave (leaving.Reached frame value)) h gfn op v = tt
-access_goes (Leave leaving.Faults) h gfn op v = tt
+access_goes (Leave (leaving.Faults fast)) h gfn op v = tt
 access_goes (Fault p) h gfn op v = fault_goes (fault_next p h.state.sizes gfn (is_write op) h.topics v)
 access_goes _ h gfn op v = tt
 

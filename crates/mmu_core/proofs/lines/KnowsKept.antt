@@ -59,7 +59,8 @@ use Rattle.part_steps.specs.TopicSteps.{topics_after}
 use Rattle.mmu_core.specs.machine.View.{View, answer_in, hand_after, part_stepped}
 use Rattle.mmu_core.proofs.machine.Columns.{at_upd}
 use Rattle.mmu_core.proofs.machine.PartStepping.{behind_part}
-use Rattle.mmu_core.proofs.lines.FaultKnown.{above_lowest, fault_known, gone_over, parts_answer, root_over}
+use Rattle.mmu_core.proofs.lines.FaultKnown.{fault_known, parts_answer}
+use Rattle.mmu_core.proofs.lines.WalkKnown.{above_lowest, gone_over, root_over}
 use Rattle.mmu_core.proofs.lines.FaultNeeds.{fault_needs}
 use Rattle.mmu_core.proofs.lines.Forms.{first_known}
 use Rattle.mmu_core.proofs.lines.UsedTranslations.{CachesBehind, flushed_behind, newest_filled}
@@ -131,6 +132,7 @@ fault_over_known (next_of.Ends end_of.Installed) gfn word op g K = K
 fault_over_known (next_of.Ends end_of.Mmio) gfn word op g K = K
 fault_over_known (next_of.Ends end_of.HostFault) gfn word op g K = K
 fault_over_known (next_of.Ends end_of.Starved) gfn word op g K = K
+fault_over_known (next_of.Ends (end_of.NotFast seen)) gfn word op g K = K
 fault_over_known (next_of.Ends (end_of.Retry cause)) gfn word op g K = K
 
 -- after each step of an access
@@ -155,7 +157,9 @@ access_known (Walk again) line h gfn word op cached v C small R K A =
 access_known Touch line h gfn word op cached v C small R K A = K.0
 access_known (Leave (leaving.Reached frame value)) line h gfn word op cached v C small R K A =
     record { outside = refl; loose = K.loose; owns_none = K.owns_none; no_table = refl; no_set = refl }
-access_known (Leave leaving.Faults) line h gfn word op cached v C small R K A =
+access_known (Leave (leaving.Faults true)) line h gfn word op cached v C small R K A =
+    record { outside = refl; loose = K.loose; owns_none = K.owns_none; no_table = refl; no_set = refl }
+access_known (Leave (leaving.Faults false)) line h gfn word op cached v C small R K A =
     record { outside = refl; loose = K.loose; owns_none = K.owns_none; no_table = refl; no_set = refl }
 access_known (Fault p) line h gfn word op cached v C small R K A =
     fault_over_known (fault_next p h.state.sizes gfn (is_write op) h.topics v) gfn word op

@@ -12,7 +12,7 @@ use Rattle.core_views.specs.declared.place.Cause.TheVariants.{Entry}
 use Rattle.core_views.specs.declared.place.CheckStage.{CheckStage}
 use Rattle.core_views.specs.declared.place.CheckStage.TheVariants as stage
 use Rattle.core_views.specs.declared.place.FaultEnd.{FaultEnd}
-use Rattle.core_views.specs.declared.place.FaultEnd.TheVariants.{Mmio, HostFault, Retry}
+use Rattle.core_views.specs.declared.place.FaultEnd.TheVariants.{Mmio, HostFault, Retry, NotFast}
 use Rattle.core_views.specs.declared.place.FaultPlace.{FaultPlace}
 use Rattle.core_views.specs.declared.place.FaultPlace.TheVariants as fault
 use Rattle.core_views.specs.declared.place.Place.{Place}
@@ -33,7 +33,7 @@ use Rattle.spte_words.specs.declared.spte_kind.SpteKind.TheVariants as entry_kin
 use Rattle.spte_words.specs.Entries.{kind_of}
 use Rattle.spte_words.specs.HostWords.{host_allows_write}
 use Rattle.mmu_core.specs.lines.FaultKnows.{CheckKnows, FaultEndKnows, Entering, FaultKnows, FoundNoPage, HasCause, HostForbids, IsInTheWay}
-use Rattle.mmu_core.specs.lines.FaultKnows.{IsHostWordMoved, LookedFor, Sharing, IsRetry}
+use Rattle.mmu_core.specs.lines.FaultKnows.{IsHostWordMoved, LookedFor, Sharing, IsRetry, SawNotFast}
 use Rattle.mmu_core.specs.lines.FaultSteps.{host_word_at}
 use Rattle.mmu_core.specs.lines.AccessKnows.{AccessKnows}
 use Rattle.mmu_core.specs.lines.Forms.{KnowsPart}
@@ -86,6 +86,7 @@ sharing_stays gfn write t x = record {
   section = ∥∥₁_elim x (hlevel props) (λ S. S.section);
   shares = ∥∥₁_elim x (hlevel props) (λ S. S.shares);
   looked = looked_for_stays true gfn write t (∥∥₁_map x (λ S. S.looked));
+  owes_none = ∥∥₁_elim x (hlevel props) (λ S. S.owes_none);
 }
 
 entering_stays : (gfn : ℕ) (write : Bool) (t : Topics) → ∥ Entering gfn write t ∥₁ → Entering gfn write t
@@ -118,6 +119,16 @@ no_page_stays gfn write t x = by (same_or t.search.id 32)
     by : (t.search.id ≡ 32) ⊎ (t.search.id ≢ 32) → FoundNoPage gfn write t
     by (inl behind) = inr behind
     by (inr before) = inl (∥∥₁_elim x (hlevel props) (⊎_elim (λ found. found) (λ behind. absurd (before behind))))
+
+not_fast_stays : (word gfn : ℕ) (t : Topics) → ∥ SawNotFast word gfn t ∥₁ → SawNotFast word gfn t
+not_fast_stays word gfn t x = by (both_or (same_or word 0) (same_or t.search.id 32))
+  where
+    NoSlot : Type 0
+    NoSlot = (word ≡ 0) × (t.search.id ≡ 32)
+
+    by : NoSlot ⊎ (NoSlot → ⊥) → SawNotFast word gfn t
+    by (inl none) = inl none
+    by (inr found) = inr (∥∥₁_elim x (hlevel props) (⊎_elim (λ none. absurd (found none)) (λ saw. saw)))
 
 forbids_stays : (gfn : ℕ) (write : Bool) (t : Topics) → ∥ HostForbids gfn write t ∥₁ → HostForbids gfn write t
 forbids_stays gfn write t x =
@@ -193,6 +204,7 @@ cause_stays _ z gfn t x = prop_stays (hlevel props) x
 end_stays : (e : FaultEnd) (z : Sizes) (gfn : ℕ) (write : Bool) (t : Topics) → ∥ FaultEndKnows e z gfn write t ∥₁ → FaultEndKnows e z gfn write t
 end_stays Mmio z gfn write t x = no_page_stays gfn write t x
 end_stays HostFault z gfn write t x = forbids_stays gfn write t x
+end_stays (NotFast word) z gfn write t x = not_fast_stays word gfn t x
 end_stays (Retry cause) z gfn write t x = cause_stays cause z gfn t x
 end_stays _ z gfn write t x = prop_stays (hlevel props) x
 
@@ -212,13 +224,21 @@ fault_stays (fault.Claim begun) z gfn write t x = entering_three gfn write t x (
 fault_stays fault.Fill z gfn write t x = entering_three gfn write t x (hlevel props) (hlevel props) (hlevel props)
 fault_stays fault.Role z gfn write t x = entering_three gfn write t x (hlevel props) (hlevel props) (hlevel props)
 fault_stays fault.Link z gfn write t x = entering_two gfn write t x (hlevel props) (hlevel props)
-fault_stays fault.Leaf z gfn write t x = entering_three gfn write t x (hlevel props) (hlevel props) (hlevel props)
+fault_stays (fault.Leaf writes) z gfn write t x = (
+  entering_stays gfn write t (∥∥₁_map x (λ K. K.0)),
+  ∥∥₁_elim x (hlevel props) (λ K. K.1),
+  ∥∥₁_elim x (hlevel props) (λ K. K.2),
+  ∥∥₁_elim x (hlevel props) (λ K. K.3),
+  ∥∥₁_elim x (hlevel props) (λ K. K.4),
+  ∥∥₁_elim x (hlevel props) (λ K. K.5),
+)
 fault_stays (fault.Give e) z gfn write t x = (
   ∥∥₁_elim x (hlevel props) (λ K. K.0),
   ∥∥₁_elim x (hlevel props) (λ K. K.1),
   ∥∥₁_elim x (hlevel props) (λ K. K.2),
-  end_stays e z gfn write t (∥∥₁_map x (λ K. K.3)),
-  retry_stays e (∥∥₁_map x (λ K. K.4)),
+  ∥∥₁_elim x (hlevel props) (λ K. K.3),
+  end_stays e z gfn write t (∥∥₁_map x (λ K. K.4)),
+  retry_stays e (∥∥₁_map x (λ K. K.5)),
 )
 fault_stays (fault.Unshare e) z gfn write t x =
     (∥∥₁_elim x (hlevel props) (λ K. K.0), ∥∥₁_elim x (hlevel props) (λ K. K.1), end_stays e z gfn write t (∥∥₁_map x (λ K. K.2)))

@@ -40,7 +40,7 @@ use Rattle.mmu_core.proofs.lines.FaultSame.{both, ends_same, is_not, not_not, no
 
 -- the section, and the snapshot
 without_lock : (t : Topics) (v : ℕ) → InSection t → t.hold ≡ Loose → WithoutLock (sequenced true t v)
-without_lock t v I loose = record { inside = record { section = I.section; owns_none = I.owns_none }; loose = loose; snapshot = refl }
+without_lock t v I loose = record { inside = record { section = I.section; owns_none = I.owns_none; owes_none = I.owes_none }; loose = loose; snapshot = refl }
 
 pub snapshot_known : (t : Topics) (v : ℕ) → InSection t → t.hold ≡ Loose → WithoutLock (sequenced (is_loose t.hold) t v)
 snapshot_known t v I loose = subst (λ (x : Hold). WithoutLock (sequenced (is_loose x) t v)) (sym loose) (without_lock t v I loose)
@@ -48,7 +48,7 @@ snapshot_known t v I loose = subst (λ (x : Hold). WithoutLock (sequenced (is_lo
 -- the search
 pub slots_known : (z : Sizes) (gfn : ℕ) (write b : Bool) (t : Topics) (v : ℕ) → b ≡ true → WithoutLock t
     → FaultKnows (Find true) z gfn write (record t { search = at_set b t.search v })
-slots_known z gfn write true t v holds W = (same_without t _ refl refl refl refl W, λ _. (refl, omega arith))
+slots_known z gfn write true t v holds W = (same_without t _ refl refl refl refl refl W, λ _. (refl, omega arith))
 slots_known z gfn write false t v holds W = absurd (cc holds)
 
 find_goes_on : (b : Bool) (z : Sizes) (gfn : ℕ) (write : Bool) (u : Topics) → (u.search.id == 32) ≡ b → u.search.id ≤ 32 → WithoutLock u → HoldsSet u
@@ -64,7 +64,7 @@ slot_found true true z gfn write u is denied whole most W set =
 slot_found true false z gfn write u is denied whole most W set = (W, record { whole = whole; holds = is }, denied)
 slot_found false denied z gfn write u is _ whole most W set = find_goes_on (u.search.id == 32) z gfn write u refl most W set
 
-one_further : (live : Bool) (id : ℕ) → id ≤ 31 → (if live then id else id + 1) ≤ 32
+pub one_further : (live : Bool) (id : ℕ) → id ≤ 31 → (if live then id else id + 1) ≤ 32
 one_further true id low = omega arith
 one_further false id low = omega arith
 
@@ -72,11 +72,11 @@ find_known : (f : SlotField) (z : Sizes) (gfn : ℕ) (write : Bool) (t : Topics)
     → FaultKnows (find_next gfn write f (searched_at f t.search v)) z gfn write (record t { search = searched_at f t.search v })
 find_known field.Flags z gfn write t v low W set =
     find_goes_on ((searched_at field.Flags t.search v).id == 32) z gfn write _ refl (one_further _ t.search.id low)
-    (same_without t _ refl refl refl refl W) set
+    (same_without t _ refl refl refl refl refl W) set
 find_known field.Host z gfn write t v low W set =
     slot_found (contains gfn (searched_at field.Host t.search v).slot) (write && t.search.slot.read_only) z gfn write _ refl refl refl (omega arith)
-    (same_without t _ refl refl refl refl W) set
-find_known _ z gfn write t v low W set = find_goes_on (t.search.id == 32) z gfn write _ refl (omega arith) (same_without t _ refl refl refl refl W) set
+    (same_without t _ refl refl refl refl refl W) set
+find_known _ z gfn write t v low W set = find_goes_on (t.search.id == 32) z gfn write _ refl (omega arith) (same_without t _ refl refl refl refl refl W) set
 
 pub slot_known : (z : Sizes) (gfn : ℕ) (write b : Bool) (t : Topics) (v : ℕ) → b ≡ true → t.search.id ≤ 31 → WithoutLock t → HoldsSet t
     → FaultKnows (find_next gfn write t.search.next (searched t.search v)) z gfn write (record t { search = if b then searched t.search v else t.search })
@@ -100,7 +100,7 @@ pub host_known : (b present : Bool) (z : Sizes) (gfn : ℕ) (write : Bool) (t : 
     (record t { host = Some (record { page = page_of t.search.slot gfn; word = v }) })
 host_known true present z gfn write t v is there W F may =
     let D = both write (not (host_allows_write v)) is in (
-      record { section = W.inside.section; owns_none = W.inside.owns_none },
+      record { section = W.inside.section; owns_none = W.inside.owns_none; owes_none = W.inside.owes_none },
       W.loose,
       record {
         writes = D.0;
@@ -109,11 +109,11 @@ host_known true present z gfn write t v is there W F may =
       },
     )
 host_known false true z gfn write t v is there W F may = (
-  record { section = W.inside.section; owns_none = W.inside.owns_none },
+  record { section = W.inside.section; owns_none = W.inside.owns_none; owes_none = W.inside.owes_none },
   ap (λ (x : Hold). is_trying x) W.loose,
   looked_for true gfn write t v is there W F may,
 )
-host_known false false z gfn write t v is there W F may = (same_without t _ refl refl refl refl W, looked_for false gfn write t v is there W F may)
+host_known false false z gfn write t v is there W F may = (same_without t _ refl refl refl refl refl W, looked_for false gfn write t v is there W F may)
 
 -- the page that was absent: the word with it present allows what it did
 abbrev brought : (gfn : ℕ) (t : Topics) (v : ℕ) → LookedUp gfn t → LookedUp gfn (record t { host = Some (record { page = page_looked t.host; word = v }) })
@@ -129,7 +129,7 @@ pub bring_known : (b : Bool) (z : Sizes) (gfn : ℕ) (write : Bool) (t : Topics)
     (record t { host = Some (record { page = page_looked t.host; word = if b then with_presence true (word_looked t.host) else v }) })
 bring_known true z gfn write t v is W L =
     let w : ℕ = word_looked t.host in (
-      record { section = W.inside.section; owns_none = W.inside.owns_none },
+      record { section = W.inside.section; owns_none = W.inside.owns_none; owes_none = W.inside.owes_none },
       ap (λ (x : Hold). is_trying x) W.loose,
       record {
         looked_up = brought gfn t (with_presence true w) L.looked_up;
@@ -145,7 +145,7 @@ bring_known true z gfn write t v is W L =
       },
     )
 bring_known false z gfn write t v is W L = (
-  record { section = W.inside.section; owns_none = W.inside.owns_none },
+  record { section = W.inside.section; owns_none = W.inside.owns_none; owes_none = W.inside.owes_none },
   W.loose,
   inr (record { looked_up = brought gfn t v L.looked_up; is_word = refl; holds = refl; why = grind (arith, nat_tests) }),
 )
@@ -160,20 +160,20 @@ kept_table t section = ap (λ (s : Stay). kept_walk (not (is_outside s)) t.walk)
 pub share_known : (z : Sizes) (gfn : ℕ) (write : Bool) (t : Topics) (v : ℕ) (step : PartStep) (next : ShareNext) (u : Topics)
     → ShareMade t v step next u → InSection t → LookedFor true gfn write t → FaultKnows (after_share next) z gfn write u
 share_known z gfn write t v _ _ _ (share.Got loose is) I L =
-    (record { section = I.section; shares = refl; looked = same_looked true gfn write t _ refl refl refl L }, I.owns_none, tt)
+    (record { section = I.section; shares = refl; looked = same_looked true gfn write t _ refl refl refl L; owes_none = I.owes_none }, I.owns_none, tt)
 share_known z gfn write t v _ _ _ (share.SawWriter loose is) I L =
-    (record { section = I.section; owns_none = I.owns_none }, refl, same_looked true gfn write t _ refl refl refl L)
+    (record { section = I.section; owns_none = I.owns_none; owes_none = I.owes_none }, refl, same_looked true gfn write t _ refl refl refl L)
 share_known z gfn write t v _ _ _ (share.TakesBack word is) I L =
-    (record { section = I.section; owns_none = I.owns_none }, refl, same_looked true gfn write t _ (kept t I.section) refl refl L)
+    (record { section = I.section; owns_none = I.owns_none; owes_none = I.owes_none }, refl, same_looked true gfn write t _ (kept t I.section) refl refl L)
 
 -- the check
 count_known : (b : Bool) (z : Sizes) (gfn : ℕ) (write : Bool) (t : Topics) (v : ℕ) → (v == 0) ≡ b → Sharing gfn write t → t.owned ≡ None
     → FaultKnows (if b then Check stage.Seq else Check stage.Start) z gfn write
     (record t { invalidations = record t.invalidations { count = v; checked = count_checked t.hold } })
 count_known true z gfn write t v is S none =
-    (same_sharing gfn write t _ refl refl refl refl refl S, none, inl (ap (λ (x : Hold). count_checked x) S.shares, grind (arith, nat_tests)))
+    (same_sharing gfn write t _ refl refl refl refl refl refl S, none, inl (ap (λ (x : Hold). count_checked x) S.shares, grind (arith, nat_tests)))
 count_known false z gfn write t v is S none =
-    (same_sharing gfn write t _ refl refl refl refl refl S, none, (ap (λ (x : Hold). count_checked x) S.shares, grind (arith, nat_tests)))
+    (same_sharing gfn write t _ refl refl refl refl refl refl S, none, (ap (λ (x : Hold). count_checked x) S.shares, grind (arith, nat_tests)))
 
 past : (start gfn end_ : ℕ) → (nat_le start gfn && nat_lt gfn end_) ≡ false → (gfn < start) ⊎ (end_ ≤ gfn)
 past start gfn end_ e = by (nat_le start gfn) refl
@@ -187,9 +187,10 @@ range_known : (b : Bool) (z : Sizes) (gfn : ℕ) (write : Bool) (t : Topics) (v 
     → FaultKnows (if b then Unshare (Retry (Open t.invalidations.count t.invalidations.start v gfn)) else Check stage.Seq) z gfn write
     (record t { invalidations = record t.invalidations { end = v; checked = range_checked t.invalidations.checked } })
 range_known true z gfn write t v is S none K =
-    let O = over_it t.invalidations.start gfn v is in (record { section = S.section; owns_none = none }, S.shares, (refl, K.1, O.0, O.1, refl, refl, refl))
+    let O = over_it t.invalidations.start gfn v is in
+    (record { section = S.section; owns_none = none; owes_none = S.owes_none }, S.shares, (refl, K.1, O.0, O.1, refl, refl, refl))
 range_known false z gfn write t v is S none K =
-    (same_sharing gfn write t _ refl refl refl refl refl S, none, inr (ap (λ (x : Checked). range_checked x) K.0, past t.invalidations.start gfn v is))
+    (same_sharing gfn write t _ refl refl refl refl refl refl S, none, inr (ap (λ (x : Checked). range_checked x) K.0, past t.invalidations.start gfn v is))
 
 taken : (s : Option ℕ) → is_some s ≡ true → s ≡ Some (snapshot_taken s)
 taken None is = absurd (cc is)
@@ -211,20 +212,23 @@ seq_by true z gfn write t v is S none K =
     let N = none_open (has_lock t.hold) t.invalidations gfn K in
     let same : v ≡ snapshot_taken t.invalidations.snapshot = grind (arith, nat_tests) in (
       record {
-        sharing = same_sharing gfn write t _ refl refl refl refl refl S;
+        sharing = same_sharing gfn write t _ refl refl refl refl refl refl S;
         fresh = record { checked_all = N.0; still = taken t.invalidations.snapshot S.looked.snapshot ∙ ap Some (sym same); none_over = N.1 };
       },
       none,
       λ e. absurd (cc e),
     )
-seq_by false z gfn write t v is S none K =
-    (record { section = S.section; owns_none = none }, S.shares, (taken t.invalidations.snapshot S.looked.snapshot, refl, grind (arith, nat_tests)))
+seq_by false z gfn write t v is S none K = (
+  record { section = S.section; owns_none = none; owes_none = S.owes_none },
+  S.shares,
+  (taken t.invalidations.snapshot S.looked.snapshot, refl, grind (arith, nat_tests)),
+)
 
 pub check_known : (at : CheckStage) (z : Sizes) (gfn : ℕ) (write : Bool) (t : Topics) (v : ℕ) → Sharing gfn write t → t.owned ≡ None
     → CheckKnows at gfn t.invalidations → FaultKnows (check_next at gfn t v) z gfn write (part_topics (check_part at) t v)
 check_known stage.Count z gfn write t v S none K = count_known (v == 0) z gfn write t v refl S none
 check_known stage.Start z gfn write t v S none K =
-    (same_sharing gfn write t _ refl refl refl refl refl S, none, (ap (λ (x : Checked). start_checked x) K.0, K.1))
+    (same_sharing gfn write t _ refl refl refl refl refl refl S, none, (ap (λ (x : Checked). start_checked x) K.0, K.1))
 check_known stage.End z gfn write t v S none K = range_known (nat_le t.invalidations.start gfn && nat_lt gfn v) z gfn write t v refl S none K
 check_known stage.Seq z gfn write t v S none K =
     subst (λ (x : Hold). FaultKnows (check_next stage.Seq gfn t v) z gfn write (sequenced (is_loose x) t v)) (sym S.shares)
@@ -233,5 +237,8 @@ check_known stage.Seq z gfn write t v S none K =
 -- the lock given back, and the section's end
 pub unshare_known : (e : FaultEnd) (z : Sizes) (gfn : ℕ) (write : Bool) (t : Topics) → InSection t → FaultEndKnows e z gfn write t
     → FaultKnows (End e) z gfn write (let_go t)
-unshare_known e z gfn write t I K =
-    (record { section = I.section; owns_none = I.owns_none }, refl, ends_same e z gfn write t _ (kept_table t I.section) (kept t I.section) refl refl refl K)
+unshare_known e z gfn write t I K = (
+  record { section = I.section; owns_none = I.owns_none; owes_none = I.owes_none },
+  refl,
+  ends_same e z gfn write t _ (kept_table t I.section) (kept t I.section) refl refl refl K,
+)

@@ -23,7 +23,7 @@ use Rattle.mmu_core.specs.lines.InvalidateKnows.{BeginKnows, FramesAre, IsOfOwn,
 use Rattle.mmu_core.specs.lines.InvalidateSteps.{sweep_next, swept_on, zapped_at}
 use Rattle.mmu_core.proofs.lines.AloneKnown.{same_alone, same_sweep}
 use Rattle.mmu_core.proofs.lines.EitherPlace.{one_place}
-use Rattle.mmu_core.proofs.lines.FaultKnown.{root_over}
+use Rattle.mmu_core.proofs.lines.WalkKnown.{root_over}
 use Rattle.mmu_core.proofs.lines.SweepWalks.{stays_without}
 use Rattle.mmu_core.proofs.lines.SweptSteps.{GoesPast, SweptStep, begins_at, swept_step, swept_zap}
 use Rattle.mmu_core.proofs.lines.SweptSteps as step

@@ -11,7 +11,7 @@ use Rattle.part_steps.specs.PartHoldings.{IsOver, SawEntry}
 use Rattle.part_steps.specs.PartTasks.{entry_index}
 use Rattle.part_steps.specs.SweepTopics.{entry_end, entry_start, gone_up, has_entry, leads_nowhere, swept_to}
 use Rattle.part_steps.specs.WalkTopics.{gone_down, linked_page, walked}
-use Rattle.mmu_core.proofs.lines.FaultKnown.{above_lowest}
+use Rattle.mmu_core.proofs.lines.WalkKnown.{above_lowest}
 use Rattle.mmu_core.proofs.lines.SweepWalks.{saw_entry, up_levels}
 use Rattle.mmu_core.proofs.lines.SweptSteps.{starts_same}
 

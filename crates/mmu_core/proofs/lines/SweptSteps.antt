@@ -15,7 +15,7 @@ use Rattle.part_steps.specs.SweepTopics.{entry_end, entry_start, gone_up, has_en
 use Rattle.part_steps.specs.WalkTopics.{gone_down, linked_page}
 use Rattle.mmu_core.specs.lines.InvalidateKnows.{SweepsOn, begins_entry}
 use Rattle.mmu_core.specs.lines.InvalidateSteps.{swept_on, zapped_at}
-use Rattle.mmu_core.proofs.lines.FaultKnown.{above_lowest, gone_over}
+use Rattle.mmu_core.proofs.lines.WalkKnown.{above_lowest, gone_over}
 use Rattle.mmu_core.proofs.lines.SweepSpans.{begins_below, table_begins}
 use Rattle.mmu_core.proofs.lines.SweepWalks.{EntryOver, GoesOnAt, UpFrom, goes_on, not_second, saw_entry, stays_without, up_levels}
 

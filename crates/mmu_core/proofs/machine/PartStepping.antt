@@ -8,7 +8,7 @@ use Rattle.spte_words.specs.declared.area.Area.{Area}
 use Rattle.spte_words.specs.declared.area.Area.TheVariants as area
 use Rattle.part_steps.specs.declared.part_step.PartStep.TheVariants as part
 use Rattle.part_steps.specs.declared.part_step.PartStep.{PartStep}
-use Rattle.part_steps.specs.PartTasks.{IsWithin, own_index, page_owned}
+use Rattle.part_steps.specs.PartTasks.{IsWithin, own_index, page_owned, part_task}
 use Rattle.part_steps.specs.PartSteps.{PartNeeds, needs_line}
 use Rattle.part_steps.specs.PartTopics.{part_topics}
 use Rattle.std.specs.Prelude.{Option, Some, None}
@@ -64,6 +64,7 @@ pub record IsPart (z : Sizes) (v : View) (a : ℕ) (step : PartStep) : Type 0 wh
   pub replaces : Replaces z step (v.words area.Pool) (v.words area.Slots 0) (v.hand a).topics
   pub within : IsWithin (v.hand a) step
   pub small : (b : Area) (i : ℕ) → v.words b i < 2 ^ 64
+  pub written : (part_task step a (v.hand a).topics 0).written < 2 ^ 64
 
 -- The step is a publication.
 abbrev pub is_publish : PartStep → Bool

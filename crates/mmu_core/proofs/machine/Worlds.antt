@@ -37,7 +37,7 @@ use Rattle.mmu_core.proofs.lines.KnowsKept.{part_knows_behind}
 use Rattle.mmu_core.proofs.invariant.Kept.{step_kept}
 use Rattle.mmu_core.proofs.machine.Extend.{hands_of_effect, words_of_effect}
 use Rattle.mmu_core.proofs.invariant.PartKept.{part_keeps_lines}
-use Rattle.mmu_core.proofs.words.PartIndex.{index_same}
+use Rattle.mmu_core.proofs.words.PartIndex.{index_same, written_same}
 use Rattle.mmu_core.proofs.words.PartWords.{areas_stay}
 use Rattle.mmu_core.proofs.invariant.RestsKept.{task_within}
 use Rattle.mmu_core.proofs.machine.Which.{has_line_is, is_next, is_part, next_of_line, next_of_part}
@@ -177,6 +177,9 @@ takes_part z w s G may N =
         replaces = replaces_none z N.step (word_in z w area.Pool) (word_in z w area.Slots 0) h.topics (idle_untold N.step N.free);
         within = N.within;
         small = view_small z w G.small;
+        written =
+            subst (λ i. (part_task N.step i h.topics 0).written < 2 ^ 64) (ap (λ y. index_of y h.state.actor) same ∙ O.index)
+            (subst (λ n. n < 2 ^ 64) (written_same N.step (own_index h) h.topics N.note) (subst (λ (k : Kind). k.new < 2 ^ 64) N.is N.small));
       };
       leads = ap (λ k. view z (effect mmu w (record { actor = s.actor; kind = k }))) kind
           ∙ (view_behind z w s.actor t within G.words may.there ∙ part_stepped_is z w s.actor N.step N.note same N.none_left);

@@ -10,7 +10,7 @@ use Rattle.spte_words.specs.Entries.{absent_word, level_span, table_word}
 use Rattle.spte_words.proofs.Indices.{same_pool_word}
 use Rattle.part_steps.specs.declared.part_step.PartStep.{PartStep}
 use Rattle.part_steps.specs.declared.part_step.PartStep.TheVariants as part
-use Rattle.part_steps.specs.PartTasks.{entry_index, is_absent, leaf_written, link_written, page_owned, table_page}
+use Rattle.part_steps.specs.PartTasks.{entry_index, is_absent, leaf_written, link_written, page_owned, table_page, leaf_fixed}
 use Rattle.part_steps.specs.PartHoldings.{IsOver}
 use Rattle.mmu_core.specs.invariant.AllOver.{AllOver, IsEntryOver}
 use Rattle.mmu_core.specs.invariant.PoolPart.{IsFilled}
@@ -26,6 +26,7 @@ use Rattle.mmu_core.proofs.pages.PoolPages.{owned_there, owned_use}
 use Rattle.mmu_core.proofs.pages.Standing.{entry_now, position_below, spot_after, spot_of, up_after, upd_if}
 use Rattle.mmu_core.proofs.machine.SumsBelow.{upd_id}
 use Rattle.mmu_core.proofs.pages.UsesStay.{SameTable, SameTables, is_link, same_tables}
+use Rattle.mmu_core.proofs.machine.ColumnsTell.{tells}
 
 pub absent_is : 0 ≡ absent_word
 unfolding absent_word
@@ -122,7 +123,7 @@ module _ (up : ℕ → Use) (spot : ℕ → Position) (pool : ℕ → ℕ) (m : 
   over_words after same k j gfn R O = subst (IsSo (spot k).level gfn) (sym (same k j (reached_table up m k table R) O.0)) (A k j gfn R O)
 
   -- One entry is stored, of which it is said so.
-  over_stored : (k j w : ℕ) → j < 512 → ((gfn : ℕ) → IsEntryOver (spot k) j gfn → IsSo (spot k).level gfn w)
+  over_stored : (k j w : ℕ) → j < 512 → ((gfn : ℕ) → HangsBelow up m k → IsEntryOver (spot k) j gfn → IsSo (spot k).level gfn w)
       → AllOver up spot (upd pool (pool_index k j) w) m IsSo
   over_stored k j w low stored l i gfn R O = by (same_or (pool_index l i) (pool_index k j))
     where
@@ -132,9 +133,10 @@ module _ (up : ℕ → Use) (spot : ℕ → Position) (pool : ℕ → ℕ) (m : 
           let s = same_pool_word l k i j O.0 low e in
           subst (IsSo (spot l).level gfn) (sym (ap (upd pool (pool_index k j) w) e ∙ upd_same pool (pool_index k j) w))
           (subst (λ n. IsSo (spot n).level gfn w) (sym s.0)
-          (stored gfn (subst (λ n. IsEntryOver (spot n) j gfn) s.0 (subst (λ n. IsEntryOver (spot l) n gfn) s.1 O))))
+          (stored gfn (subst (HangsBelow up m) s.0 R) (subst (λ n. IsEntryOver (spot n) j gfn) s.0 (subst (λ n. IsEntryOver (spot l) n gfn) s.1 O))))
 
-  over_exchanged : (k j w : ℕ) (won : Bool) → j < 512 → (won ≡ true → (gfn : ℕ) → IsEntryOver (spot k) j gfn → IsSo (spot k).level gfn w)
+  over_exchanged : (k j w : ℕ) (won : Bool) → j < 512 → (won ≡ true → (gfn : ℕ) → HangsBelow up m k → IsEntryOver (spot k) j gfn
+      → IsSo (spot k).level gfn w)
       → AllOver up spot (upd pool (pool_index k j) (if won then w else pool (pool_index k j))) m IsSo
   over_exchanged k j w true low stored = over_stored k j w low (stored refl)
   over_exchanged k j w false low stored = subst (λ (words : ℕ → ℕ). AllOver up spot words m IsSo) (sym (upd_id pool (pool_index k j))) A
@@ -167,9 +169,13 @@ over_grown {up = up} {spot = spot} T pool m IsSo table light true page use_ p no
 
 -- ---- Behind each step.
 
--- What the leaf that a step puts owes: it is so of each guest frame of its span.
+-- What the leaf that a step puts owes: it is so of each guest frame of its span; where it stands in place of one, as this one was.
 abbrev pub OfNewLeaf : PartStep → Topics → (ℕ → ℕ → ℕ → Type 0) → Type 0
-OfNewLeaf (part.Leaf gfn) t IsSo = (other : ℕ) → other / level_span t.walk.level ≡ gfn / level_span t.walk.level → IsSo t.walk.level other (leaf_written t)
+OfNewLeaf (part.Leaf gfn write) t IsSo =
+    (other : ℕ) → other / level_span t.walk.level ≡ gfn / level_span t.walk.level → IsSo t.walk.level other (leaf_written write t)
+OfNewLeaf (part.Fix gfn) t IsSo =
+    (other : ℕ) → other / level_span t.walk.level ≡ gfn / level_span t.walk.level → IsSo t.walk.level other t.walk.entry
+    → IsSo t.walk.level other (leaf_fixed t)
 OfNewLeaf _ t IsSo = Unit {0}
 
 module _ (z : Sizes) (v : View) (a : ℕ) (I : TopicsInvariant z v) (m : ℕ) (IsSo : ℕ → ℕ → ℕ → Type 0) (table : is_table (I.up m) ≡ true)
@@ -190,29 +196,36 @@ module _ (z : Sizes) (v : View) (a : ℕ) (I : TopicsInvariant z v) (m : ℕ) (I
       (λ l i is low. page_stays z v a step note S l (elsewhere l is) i low) k j gfn
       (R.0, same_below I.up (up_after step a t v I.up) m same R.0 k R.1) O
 
-  leaf_over : (gfn note : ℕ) → IsPart z v a (part.Leaf gfn) → OfNewLeaf (part.Leaf gfn) t IsSo
-      → AllOver I.up I.spot ((part_stepped a (part.Leaf gfn) note v).words area.Pool) m IsSo
-  leaf_over gfn note S new_ =
-      over_exchanged I.up I.spot (v.words area.Pool) m IsSo table A (table_page t.walk) (entry_index gfn t.walk.level) (leaf_written t)
+  -- A leaf is put in the guest frame's entry, or another one in its place.
+  put_over : (gfn new_ : ℕ) → a < actors_of z → IsOver gfn t.walk → (entry_now gfn t v ≡ t.walk.entry → (other : ℕ)
+      → other / level_span t.walk.level ≡ gfn / level_span t.walk.level → IsSo t.walk.level other t.walk.entry → IsSo t.walk.level other new_)
+      → AllOver I.up I.spot (upd (v.words area.Pool) (pool_index (table_page t.walk) (entry_index gfn t.walk.level))
+      (if entry_now gfn t v == t.walk.entry then new_ else entry_now gfn t v)) m IsSo
+  put_over gfn new_ lt over new_so =
+      over_exchanged I.up I.spot (v.words area.Pool) m IsSo table A (table_page t.walk) (entry_index gfn t.walk.level) new_
       (entry_now gfn t v == t.walk.entry) (omega arith)
-      (λ won other O. subst (λ p. IsSo p.level other (leaf_written t)) (sym here)
-      (new_ other (own other (subst (λ p. IsEntryOver p (entry_index gfn t.walk.level) other) here O))))
+      (λ won other R O. subst (λ p. IsSo p.level other new_) (sym here)
+      (new_so (tells (entry_now gfn t v) t.walk.entry won) other (own other (subst (λ p. IsEntryOver p (entry_index gfn t.walk.level) other) here O))
+      (was (tells (entry_now gfn t v) t.walk.entry won) other R O)))
     where
-      over : IsOver gfn t.walk
-      over = S.needs.0.saw.over
-
       here : I.spot (table_page t.walk) ≡ at t.walk.level t.walk.prefix
-      here = at_walk S.there over.there
+      here = at_walk lt over.there
 
       own : (other : ℕ) → IsEntryOver (at t.walk.level t.walk.prefix) (entry_index gfn t.walk.level) other
           → other / level_span t.walk.level ≡ gfn / level_span t.walk.level
       own other O = let is = O.1 in let span = over.span in omega (arith, is, span)
 
+      was : entry_now gfn t v ≡ t.walk.entry → (other : ℕ) → HangsBelow I.up m (table_page t.walk)
+          → IsEntryOver (I.spot (table_page t.walk)) (entry_index gfn t.walk.level) other → IsSo t.walk.level other t.walk.entry
+      was is other R O =
+          subst (λ w. IsSo t.walk.level other w) is
+          (subst (λ p. IsSo p.level other (entry_now gfn t v)) here (A (table_page t.walk) (entry_index gfn t.walk.level) other R O))
+
   -- A leaf is zapped.
   zap_over : (gfn note : ℕ) → AllOver I.up I.spot ((part_stepped a (part.Zap gfn) note v).words area.Pool) m IsSo
   zap_over gfn note =
       over_stored I.up I.spot (v.words area.Pool) m IsSo table A (table_page t.walk) (entry_index gfn t.walk.level) 0 (omega arith)
-      (λ other O. subst (IsSo (I.spot (table_page t.walk)).level other) (sym absent_is) (light.absent (I.spot (table_page t.walk)).level other))
+      (λ other R O. subst (IsSo (I.spot (table_page t.walk)).level other) (sym absent_is) (light.absent (I.spot (table_page t.walk)).level other))
 
   link_over : (gfn note : ℕ) → IsPart z v a (part.Link gfn) → AllOver (up_after (part.Link gfn) a t v I.up) (spot_after (part.Link gfn) t v I.spot)
       ((part_stepped a (part.Link gfn) note v).words area.Pool) m IsSo
@@ -222,7 +235,7 @@ module _ (z : Sizes) (v : View) (a : ℕ) (I : TopicsInvariant z v) (m : ℕ) (I
       (λ is j low. page_stays z v a (part.Link gfn) note S (page_owned t.owned) apart j low ∙ ap (λ k. v.words area.Pool (pool_index k j)) page
       ∙ filled.absent (ap is_absent (sym owns.is) ∙ S.needs.3.absent) j (omega (arith, low, owns.whole)) low ∙ absent_is)
       (over_exchanged I.up I.spot (v.words area.Pool) m IsSo table A (table_page t.walk) (entry_index gfn t.walk.level) (link_written t) won (omega arith)
-      (λ is other O. light.link (I.spot (table_page t.walk)).level other (page_owned t.owned)
+      (λ is other R O. light.link (I.spot (table_page t.walk)).level other (page_owned t.owned)
       (let upper = S.needs.1 in let level = ap (λ (p : Position). p.level) here in omega (arith, upper, level))
       (omega (arith, page, owned_there I.uses a owns.owned S.there owns.is, S.is_sizes.pool.1))))
     where
@@ -256,7 +269,10 @@ pub over_step : (z : Sizes) (v : View) (a : ℕ) (step : PartStep) (note : ℕ) 
     → AllOver I.up I.spot (v.words area.Pool) m IsSo → AllOver (up_after step a (v.hand a).topics v I.up) (spot_after step (v.hand a).topics v I.spot)
     ((part_stepped a step note v).words area.Pool) m IsSo
 over_step z v a (part.Link gfn) note S I m IsSo table light new_ A = link_over z v a I m IsSo table light A gfn note S
-over_step z v a (part.Leaf gfn) note S I m IsSo table light new_ A = leaf_over z v a I m IsSo table light A gfn note S new_
+over_step z v a (part.Leaf gfn write) note S I m IsSo table light new_ A =
+    put_over z v a I m IsSo table light A gfn (leaf_written write (v.hand a).topics) S.there S.needs.0.saw.over (λ is other over was. new_ other over)
+over_step z v a (part.Fix gfn) note S I m IsSo table light new_ A =
+    put_over z v a I m IsSo table light A gfn (leaf_fixed (v.hand a).topics) S.there S.needs.saw.over (λ is. new_)
 over_step z v a (part.Fill value) note S I m IsSo table light new_ A =
     still_over z v a I m IsSo table light A (part.Fill value) note S refl
     (λ k is o owns e. let no = ap (λ l. is_table (I.up l)) (sym e) ∙ ap is_table (owned_use I.uses a o S.there owns) in absurd (cc (no, is)))

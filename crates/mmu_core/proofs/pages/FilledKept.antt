@@ -137,10 +137,15 @@ own_filled z v a (part.Link gfn) note S I o is =
         → ◌≡◌ {A = Option OwnedPage} (if won then None else Some mine) (Some o) → (v.hand a).topics.owned ≡ Some o
     unlinked true mine owned e = absurd (cc e)
     unlinked false mine owned e = owned ∙ e
-own_filled z v a (part.Leaf gfn) note S I o is =
+own_filled z v a (part.Leaf gfn write) note S I o is =
     let t : Topics = (v.hand a).topics in
-    let owned : t.owned ≡ Some o = sym (leaf_stored t (entry_now gfn t v == t.walk.entry) S.needs.1) ∙ is in
-    still_filled z v a (part.Leaf gfn) note S o (λ e. walks_unowned z v a S.there I S.needs.0.saw.over.there a o S.there owned (sym e)) tt
+    let owned : t.owned ≡ Some o = sym (leaf_stored t _ (entry_now gfn t v == t.walk.entry) S.needs.1) ∙ is in
+    still_filled z v a (part.Leaf gfn write) note S o (λ e. walks_unowned z v a S.there I S.needs.0.saw.over.there a o S.there owned (sym e)) tt
+    (I.filled a o S.there owned)
+own_filled z v a (part.Fix gfn) note S I o is =
+    let t : Topics = (v.hand a).topics in
+    let owned : t.owned ≡ Some o = sym (leaf_stored t _ (entry_now gfn t v == t.walk.entry) S.needs.lowest) ∙ is in
+    still_filled z v a (part.Fix gfn) note S o (λ e. walks_unowned z v a S.there I S.needs.saw.over.there a o S.there owned (sym e)) tt
     (I.filled a o S.there owned)
 own_filled z v a (part.Zap gfn) note S I o is =
     still_filled z v a (part.Zap gfn) note S o (λ e. walks_unowned z v a S.there I S.needs.saw.over.there a o S.there is (sym e)) tt (I.filled a o S.there is)
@@ -151,7 +156,8 @@ pub others_elsewhere : (z : Sizes) (v : View) (a : ℕ) (step : PartStep) → Is
     → i < actors_of z → i ≢ a → (v.hand i).topics.owned ≡ Some o → IsElsewhere step (v.hand a).topics o.page
 others_elsewhere z v a (part.Fill value) S I i o lt apart is = λ p mine same. apart (one_owner I.uses i a o p lt S.there is mine same)
 others_elsewhere z v a (part.Link gfn) S I i o lt apart is = λ e. walks_unowned z v a S.there I S.needs.0.saw.over.there i o lt is (sym e)
-others_elsewhere z v a (part.Leaf gfn) S I i o lt apart is = λ e. walks_unowned z v a S.there I S.needs.0.saw.over.there i o lt is (sym e)
+others_elsewhere z v a (part.Leaf gfn write) S I i o lt apart is = λ e. walks_unowned z v a S.there I S.needs.0.saw.over.there i o lt is (sym e)
+others_elsewhere z v a (part.Fix gfn) S I i o lt apart is = λ e. walks_unowned z v a S.there I S.needs.saw.over.there i o lt is (sym e)
 others_elsewhere z v a (part.Zap gfn) S I i o lt apart is = λ e. walks_unowned z v a S.there I S.needs.saw.over.there i o lt is (sym e)
 others_elsewhere z v a _ S I i o lt apart is = tt
 

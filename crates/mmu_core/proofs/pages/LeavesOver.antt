@@ -1,19 +1,19 @@
 -- Each leaf to which links lead from the root is the one that slots and host give the guest frames that it is over: each step of a part keeps it.
 use Rattle.std.proofs.Common.{◌≡◌, ◌+◌, ◌*◌, ◌/◌, ◌<◌, ℕ, refl, sym, subst, ap, ◌∙◌, arith, ◌≤◌, ◌⊎◌, ◌≢◌, inl, inr}
-use Rattle.std.specs.Prelude.{◌-◌, Some, false}
+use Rattle.std.specs.Prelude.{◌-◌, Some, false, Bool, true, not, ◌&&◌, ◌^◌}
 use Rattle.core_views.specs.declared.sizes.Sizes.{Sizes}
 use Rattle.core_views.specs.declared.topics.Topics.{Topics}
 use Rattle.spte_words.specs.declared.area.Area.TheVariants as area
 use Rattle.spte_words.specs.declared.spte_kind.SpteKind.TheVariants as entry_kind
 use Rattle.spte_words.specs.Areas.{pool_index}
-use Rattle.spte_words.specs.Entries.{kind_of, level_span}
-use Rattle.spte_words.specs.HostWords.{host_present}
-use Rattle.spte_words.proofs.ReadsEntries.{kind_of_absent, kind_of_table}
+use Rattle.spte_words.specs.Entries.{kind_of, level_span, can_write, host_writable, leaf_word, mmu_writable, with_write}
+use Rattle.spte_words.specs.HostWords.{host_present, host_allows_write, host_frame}
+use Rattle.spte_words.proofs.ReadsEntries.{kind_of_absent, kind_of_table, leaf_mmu_writable, leaf_with_write}
 use Rattle.spte_words.proofs.Spans.{span_1}
 use Rattle.part_steps.specs.declared.part_step.PartStep.{PartStep}
 use Rattle.part_steps.specs.declared.part_step.PartStep.TheVariants as part
-use Rattle.part_steps.specs.PartTasks.{leaf_written, page_owned, word_looked}
-use Rattle.part_steps.specs.SlotWords.{leaf_of, page_of}
+use Rattle.part_steps.specs.PartTasks.{leaf_written, page_owned, word_looked, puts_write}
+use Rattle.part_steps.specs.SlotWords.{leaf_of, page_of, may_write}
 use Rattle.mmu_core.specs.invariant.AllOver.{AllOver, IsEntryOver, LeafIsFor}
 use Rattle.mmu_core.specs.invariant.CachedPart.{IsLeafFor}
 use Rattle.mmu_core.specs.invariant.SlotSetPart.{IsLiveIn}
@@ -32,6 +32,8 @@ use Rattle.mmu_core.proofs.pages.TreePlaces.{all_reached}
 use Rattle.part_steps.specs.InvalidationRange.{page_looked}
 use Rattle.mmu_core.specs.invariant.InvalidatedPart.{SlotGives}
 use Rattle.mmu_core.proofs.machine.Columns.{same_or}
+use Rattle.part_steps.specs.PartHoldings.{is_fixable}
+use Rattle.mmu_core.proofs.lines.FaultSame.{both}
 
 -- It says nothing of what is no leaf.
 pub leaves_light : (pool host : ℕ → ℕ) (set : ℕ) → IsLight (LeafIsFor pool host set)
@@ -49,12 +51,41 @@ stays_live z v a step note never S I =
     λ id slot live. live_in_stays (v.words area.Slots 0) (v.words area.Pool) ((part_stepped a step note v).words area.Pool) id slot
     (part_live_stays z v a step note S I) live
 
+-- A leaf that slots and host give, with nothing but the write forbidden, is the one that allows it, once it is allowed.
+fixed_leaf : (pool host : ℕ → ℕ) (set gfn leaf : ℕ) → is_fixable leaf ≡ true → IsLeafFor pool host set gfn leaf → IsLeafFor pool host set gfn (with_write leaf)
+fixed_leaf pool host set gfn leaf fixable L = record {
+  id = L.id;
+  slot = L.slot;
+  live = L.live;
+  holds = L.holds;
+  writes = true;
+  is =
+      ap with_write L.is ∙ leaf_with_write 1 (host_frame word) (L.writes && may_write L.slot word) (host_allows_write word) (may_write L.slot word)
+      ∙ ap (λ (b : Bool). leaf_word 1 (host_frame word) b (host_allows_write word) (may_write L.slot word)) (sym may);
+  present = L.present;
+  small = L.small;
+}
+  where
+    word : ℕ
+    word = host (page_of L.slot gfn)
+
+    allows : mmu_writable leaf ≡ true
+    allows = (both (host_writable leaf) (mmu_writable leaf) (both (not (can_write leaf)) _ fixable).1).1
+
+    may : may_write L.slot word ≡ true
+    may =
+        sym (leaf_mmu_writable 1 (host_frame word) (L.writes && may_write L.slot word) (host_allows_write word) (may_write L.slot word) L.small)
+        ∙ ap mmu_writable (sym L.is) ∙ allows
+
 -- A new leaf is the one for the guest frame that its fault is for.
 new_leaf : (z : Sizes) (v : View) (a : ℕ) (step : PartStep) → IsPart z v a step → TopicsInvariant z v
     → OfNewLeaf step (v.hand a).topics (LeafIsFor (v.words area.Pool) (v.words area.Host) (v.words area.Slots 0))
-new_leaf z v a (part.Leaf gfn) S I =
+new_leaf z v a (part.Fix gfn) S I = λ other over was leaf.
+    let is = was S.needs.leaf in
+    (is.0, fixed_leaf (v.words area.Pool) (v.words area.Host) (v.words area.Slots 0) other _ S.needs.fixable is.1)
+new_leaf z v a (part.Leaf gfn write) S I =
     λ other over leaf.
-    (S.needs.1, subst (λ g. IsLeafFor (v.words area.Pool) (v.words area.Host) (v.words area.Slots 0) g (leaf_written t)) (sym (same other over)) own)
+    (S.needs.1, subst (λ g. IsLeafFor (v.words area.Pool) (v.words area.Host) (v.words area.Slots 0) g (leaf_written write t)) (sym (same other over)) own)
   where
     t : Topics
     t = (v.hand a).topics
@@ -65,14 +96,19 @@ new_leaf z v a (part.Leaf gfn) S I =
         let frames : other / 1 ≡ gfn / 1 = subst (λ n. other / n ≡ gfn / n) one over in
         omega (arith, frames)
 
-    own : IsLeafFor (v.words area.Pool) (v.words area.Host) (v.words area.Slots 0) gfn (leaf_written t)
+    own : IsLeafFor (v.words area.Pool) (v.words area.Host) (v.words area.Slots 0) gfn (leaf_written write t)
     own = let found = S.needs.0.looked_up in record {
       id = t.search.id - 1;
       slot = t.search.slot;
       live = found_live z v a gfn S.there I S.needs.0;
       holds = found.found.holds;
-      is = ap (leaf_of t.search.slot) (looked_word z v a gfn S.there I S.needs.0);
+      writes = puts_write write t;
+      is = ap (leaf_of (puts_write write t) t.search.slot) (looked_word z v a gfn S.there I S.needs.0);
       present = ap host_present (sym (looked_word z v a gfn S.there I S.needs.0)) ∙ S.needs.0.present;
+      small =
+          let looked = ((I.looks a S.there).is_word _ found.host).1 in
+          subst (λ w. host_frame w < 2 ^ 40) (ap word_looked (sym found.host) ∙ looked_word z v a gfn S.there I S.needs.0)
+          (omega (arith, looked, S.is_sizes.frames.1));
     }
 new_leaf z v a _ S I = tt
 
@@ -121,7 +157,16 @@ published_leaves z v a note S I =
         → (L : IsLeafFor (v.words area.Pool) (v.words area.Host) (v.words area.Slots 0) gfn (v.words area.Pool (pool_index table entry)))
         → IsLiveIn (v.words area.Pool) page L.id L.slot ⊎ IsFlushedOut z.vcpus L.slot (v.hand a).topics
         → IsLeafFor (v.words area.Pool) (v.words area.Host) page gfn (v.words area.Pool (pool_index table entry))
-    stays table entry gfn R O leaf L (inl same) = record { id = L.id; slot = L.slot; live = same; holds = L.holds; is = L.is; present = L.present }
+    stays table entry gfn R O leaf L (inl same) = record {
+      id = L.id;
+      slot = L.slot;
+      live = same;
+      holds = L.holds;
+      writes = L.writes;
+      is = L.is;
+      present = L.present;
+      small = L.small;
+    }
     stays table entry gfn R O leaf L (inr F) =
         let some = S.is_sizes.some in
         let of_it = flushed_within z.vcpus gfn L.slot (v.hand a).topics F L.holds in

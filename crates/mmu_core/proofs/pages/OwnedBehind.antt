@@ -10,7 +10,7 @@ use Rattle.spte_words.specs.Entries.{frozen_word, is_leaf_at, kind_of}
 use Rattle.spte_words.proofs.ReadsEntries.{kind_of_table}
 use Rattle.part_steps.specs.declared.part_step.PartStep.{PartStep}
 use Rattle.part_steps.specs.declared.part_step.PartStep.TheVariants as part
-use Rattle.part_steps.specs.PartTasks.{leaf_written, link_written, page_owned, part_task}
+use Rattle.part_steps.specs.PartTasks.{link_written, page_owned, part_task}
 use Rattle.part_steps.specs.Tasks.{kind_of_task}
 use Rattle.part_steps.specs.WalkTopics.{linked_page, still_owned, unless_linked}
 use Rattle.part_steps.specs.PageTopics.{still_retired}
@@ -39,10 +39,9 @@ no_link w = by (w == frozen_word) (has_bit 11 w)
     by false true = refl
     by false false = refl
 
-pub leaf_stored : (t : Topics) (won : Bool) → t.walk.level ≡ 1 → still_owned won t.walk (leaf_written t) t.owned ≡ t.owned
-leaf_stored t false lowest = refl
-leaf_stored t true lowest =
-    ap (λ page. unless_linked page t.owned) (ap (λ l. linked_page (kind_of l (leaf_written t))) lowest ∙ no_link (leaf_written t))
+pub leaf_stored : (t : Topics) (new_ : ℕ) (won : Bool) → t.walk.level ≡ 1 → still_owned won t.walk new_ t.owned ≡ t.owned
+leaf_stored t new_ false lowest = refl
+leaf_stored t new_ true lowest = ap (λ page. unless_linked page t.owned) (ap (λ l. linked_page (kind_of l new_)) lowest ∙ no_link new_)
 
 -- Who links its page owns none, where the link was stored.
 pub link_stored : (t : Topics) (o : OwnedPage) (won : Bool) → 2 ≤ t.walk.level → t.owned ≡ Some o → o.page < 2 ^ 32

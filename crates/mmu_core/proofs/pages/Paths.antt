@@ -20,7 +20,7 @@ use Rattle.mmu_core.specs.invariant.HeldPart.{HeldPart, PathPart, span_at, table
 use Rattle.mmu_core.specs.invariant.TopicsInvariant.{TopicsInvariant}
 use Rattle.mmu_core.specs.invariant.TreePart.{Position, at, stands}
 use Rattle.mmu_core.specs.machine.View.{View, answer_in, part_stepped}
-use Rattle.part_steps.specs.PartTasks.{part_task}
+use Rattle.part_steps.specs.PartTasks.{part_task, leaf_fixed}
 use Rattle.std.proofs.lemmas.Bool.{cases_lt}
 use Rattle.std.proofs.Common.{◌⊎◌, inl, inr, sym, subst}
 use Rattle.mmu_core.proofs.machine.Columns.{at_upd}
@@ -183,7 +183,8 @@ part_goes part.Root t v from = rooted_goes (may_walk t.stay t.hold) t.walk v
 part_goes (part.Walk gfn) t v from = down_goes (linked_page (kind_of t.walk.level v)) t.walk _ v (omega arith)
 part_goes (part.Sweep gfn) t v from = sweep_goes t.walk _ v from (omega arith)
 part_goes (part.Link gfn) t v from = swap_goes (v == t.walk.entry) t.walk _ (link_written t) v (omega arith)
-part_goes (part.Leaf gfn) t v from = swap_goes (v == t.walk.entry) t.walk _ (leaf_written t) v (omega arith)
+part_goes (part.Leaf gfn write) t v from = swap_goes (v == t.walk.entry) t.walk _ (leaf_written write t) v (omega arith)
+part_goes (part.Fix gfn) t v from = swap_goes (v == t.walk.entry) t.walk _ (leaf_fixed t) v (omega arith)
 part_goes (part.Zap gfn) t v from = down_goes None t.walk _ 0 (omega arith)
 part_goes _ t v from = stays t.walk
 

@@ -101,9 +101,12 @@ uses_after z v a (part.Link gfn) note S I =
     (subst (λ (o : Option OwnedPage). UsePart (actors_of z) z.pool (v.words area.Slots 0) (v.words area.PoolMap) (upd (λ i. (v.hand i).topics.owned) a o)
     (λ i. (v.hand i).topics.retired) (upd_if won I.up owns.owned.page under)) (sym (link_stored t owns.owned won S.needs.1 owns.is small))
     (link_kept I.uses a S.there owns.owned won (table_page t.walk) (entry_index gfn t.walk.level) owns.is)))
-uses_after z v a (part.Leaf gfn) note S I =
-    own_alone z v a (part.Leaf gfn) note I.up refl
-    (uses_stay I.uses a S.there _ _ (λ k. refl) (λ k. ap (λ o. is_owned o k) (leaf_stored (v.hand a).topics _ S.needs.1)))
+uses_after z v a (part.Leaf gfn write) note S I =
+    own_alone z v a (part.Leaf gfn write) note I.up refl
+    (uses_stay I.uses a S.there _ _ (λ k. refl) (λ k. ap (λ o. is_owned o k) (leaf_stored (v.hand a).topics _ _ S.needs.1)))
+uses_after z v a (part.Fix gfn) note S I =
+    own_alone z v a (part.Fix gfn) note I.up refl
+    (uses_stay I.uses a S.there _ _ (λ k. refl) (λ k. ap (λ o. is_owned o k) (leaf_stored (v.hand a).topics _ _ S.needs.lowest)))
 uses_after z v a part.Clear note S I =
     own_alone z v a part.Clear note I.up refl (uses_stay I.uses a S.there _ _ (λ k. refl) (filled_owned (v.hand a).topics.owned _))
 uses_after z v a (part.Fill value) note S I =

@@ -185,7 +185,8 @@ own_swept z v a note (part.Walk gfn) S I = λ alone out opened. absurd
     (let idle = S.needs.1 in let busy = sweeps (v.hand a).topics out alone opened in cc (idle, busy))
 own_swept z v a note (part.Sweep gfn) S I = sweep_own z v a note gfn S I
 own_swept z v a note (part.Link gfn) S I = λ alone. absurd (let shared = S.needs.0.shares in cc (alone, shared))
-own_swept z v a note (part.Leaf gfn) S I = λ alone. absurd (let shared = S.needs.0.shares in cc (alone, shared))
+own_swept z v a note (part.Leaf gfn write) S I = λ alone. absurd (let shared = S.needs.0.shares in cc (alone, shared))
+own_swept z v a note (part.Fix gfn) S I = λ alone out. absurd (let section = S.needs.section in cc (out, section))
 own_swept z v a note (part.Zap gfn) S I = zap_own z v a note gfn S I
 own_swept z v a note (part.SetStart first gfn) S I = λ alone out opened. absurd (let closed = S.needs.0.opening.closed in cc (closed, opened))
 own_swept z v a note (part.SetEnd last gfn) S I = λ alone out opened. absurd (let closed = S.needs.0.opening.closed in cc (closed, opened))
@@ -197,10 +198,11 @@ own_swept z v a note step S I = λ alone out opened from.
 
 -- ---- Those of others.
 
--- Nobody else has the lock, so none stores a leaf.
+-- Nobody else has the lock, so none stores a leaf, but in place of one.
 others_leaf : (z : Sizes) (v : View) (a i : ℕ) (step : PartStep) → IsPart z v a step → TopicsInvariant z v → i < actors_of z → i ≢ a
     → (v.hand i).topics.hold ≡ Exclusive → (own_ : Invalidated) (to : ℕ) → OfNewLeaf step (v.hand a).topics (IsNoLeafBelow own_ to)
-others_leaf z v a i (part.Leaf gfn) S I lt ne alone own_ to =
+others_leaf z v a i (part.Fix gfn) S I lt ne alone own_ to = λ other over none from below leaf. none from below S.needs.leaf
+others_leaf z v a i (part.Leaf gfn write) S I lt ne alone own_ to =
     absurd (let none = alone_holds (actors_of z) (v.words area.Lock 0) (λ j. (v.hand j).topics.hold) i a lt S.there (λ e. ne (sym e)) I.lock_part alone in
     let lock = ap has_lock S.needs.0.shares in cc (none, lock))
 others_leaf z v a i _ S I lt ne alone own_ to = tt

@@ -1,23 +1,23 @@
 -- Each step of a part keeps what the tables are.
 use Rattle.std.proofs.Common.{◌≡◌, ◌⊎◌, inl, inr, ◌+◌, ◌*◌, ◌/◌, ◌%◌, ◌^◌, ◌<◌, ◌≤◌, ℕ, refl, sym, subst, ap, ◌∙◌, arith}
-use Rattle.std.specs.Prelude.{Bool, true, false, ◌-◌, ◌==◌, if◌then◌else◌, Some}
+use Rattle.std.specs.Prelude.{Bool, true, false, ◌-◌, ◌==◌, if◌then◌else◌, Some, ◌&&◌, not}
 use Rattle.core_views.specs.declared.sizes.Sizes.{Sizes}
 use Rattle.core_views.specs.declared.topics.Topics.{Topics}
 use Rattle.spte_words.specs.declared.area.Area.TheVariants as area
 use Rattle.spte_words.specs.declared.spte_kind.SpteKind.TheVariants as entry_kind
 use Rattle.spte_words.specs.Areas.{pool_index}
-use Rattle.spte_words.specs.Entries.{absent_word, kind_of, level_span}
+use Rattle.spte_words.specs.Entries.{absent_word, kind_of, level_span, can_write}
 use Rattle.spte_words.proofs.ReadsEntries.{kind_of_leaf, kind_of_table}
 use Rattle.spte_words.specs.HostWords.{host_allows_write, host_frame}
 use Rattle.part_steps.specs.SlotWords.{may_write}
 use Rattle.spte_words.proofs.Spans.{span_1}
 use Rattle.part_steps.specs.declared.part_step.PartStep.{PartStep}
 use Rattle.part_steps.specs.declared.part_step.PartStep.TheVariants as part
-use Rattle.part_steps.specs.PartTasks.{entry_index, is_absent, leaf_written, link_written, page_owned, table_page, word_looked}
-use Rattle.part_steps.specs.PartHoldings.{MayEnter}
+use Rattle.part_steps.specs.PartTasks.{entry_index, is_absent, leaf_written, link_written, page_owned, table_page, word_looked, leaf_fixed, puts_write}
+use Rattle.part_steps.specs.PartHoldings.{MayEnter, MayFix}
 use Rattle.mmu_core.specs.invariant.PoolPart.{IsFilled}
 use Rattle.mmu_core.specs.invariant.TopicsInvariant.{TopicsInvariant}
-use Rattle.mmu_core.specs.invariant.TreePart.{EntryPart, IsLeafAt, Position, TreePart, Use, at, is_table, stands}
+use Rattle.mmu_core.specs.invariant.TreePart.{EntryPart, Position, TreePart, Use, at, is_table, stands}
 use Rattle.mmu_core.specs.invariant.TreePart.Use.{Under}
 use Rattle.mmu_core.specs.machine.View.{View, part_stepped, upd}
 use Rattle.mmu_core.proofs.pages.Owned.{OwnsWhole, table_owned}
@@ -30,6 +30,10 @@ use Rattle.mmu_core.proofs.machine.SumsBelow.{upd_id}
 use Rattle.mmu_core.proofs.pages.TreePlaces.{link_stands}
 use Rattle.mmu_core.proofs.pages.TreeStored.{entry_stored, table_linked, tree_moved}
 use Rattle.mmu_core.proofs.pages.UsesStay.{is_link, same_tables, stay_same, stood_same}
+use Rattle.mmu_core.proofs.pages.EntryStill.{still_leaf}
+use Rattle.spte_words.proofs.FixedEntries.{fixed_kind}
+use Rattle.mmu_core.proofs.lines.FaultSame.{both, is_not}
+use Rattle.core_views.specs.Sizes.{actors_of}
 
 absent_is : 0 ≡ absent_word
 unfolding absent_word
@@ -43,11 +47,19 @@ span_lowest gfn level prefix lowest over =
     omega (arith, own, over)
 
 -- What a fault puts into a table of the lowest level is a leaf.
-pub leaf_is : (t : Topics) → t.walk.level ≡ 1 → kind_of t.walk.level (leaf_written t) ≡ entry_kind.Leaf
-leaf_is t lowest =
+pub leaf_is : (write : Bool) (t : Topics) → t.walk.level ≡ 1 → kind_of t.walk.level (leaf_written write t) ≡ entry_kind.Leaf
+leaf_is write t lowest =
     let word : ℕ = word_looked t.host in
-    ap (λ l. kind_of l (leaf_written t)) lowest ∙ kind_of_leaf 1 (host_frame word) (may_write t.search.slot word) (host_allows_write word)
-    (may_write t.search.slot word) (omega arith) (omega arith)
+    ap (λ l. kind_of l (leaf_written write t)) lowest
+    ∙ kind_of_leaf 1 (host_frame word) (puts_write write t && may_write t.search.slot word) (host_allows_write word) (may_write t.search.slot word)
+    (omega arith) (omega arith)
+
+-- And so is the leaf in which a fast one has allowed writes.
+pub fixed_is_leaf : {gfn : ℕ} (t : Topics) → MayFix gfn t → kind_of t.walk.level (leaf_fixed t) ≡ entry_kind.Leaf
+fixed_is_leaf t M =
+    ap (λ l. kind_of l (leaf_fixed t)) M.lowest
+    ∙ fixed_kind t.walk.entry (ap (λ l. kind_of l t.walk.entry) (sym M.lowest) ∙ M.leaf)
+    (is_not (can_write t.walk.entry) (both (not (can_write t.walk.entry)) _ M.fixable).0)
 
 -- An entry above the lowest level whose kind is absent is the absent word.
 pub absent_entry : {pages root : ℕ} {role pool : ℕ → ℕ} {up : ℕ → Use} {spot : ℕ → Position} (T : TreePart pages root role pool up spot)
@@ -127,19 +139,12 @@ module _ (z : Sizes) (v : View) (a gfn note : ℕ) (I : TopicsInvariant z v) whe
       filled : IsFilled (v.words area.Role) (v.words area.Pool) owns.owned
       filled = I.filled a owns.owned S.there owns.is
 
-  leafed : (S : IsPart z v a (part.Leaf gfn)) (won : Bool)
-      → TreePart z.pool (v.words area.Root 0) (v.words area.Role) (exchanged won (leaf_written t)) I.up I.spot
-  leafed S false = lost here I.tree
-  leafed S true =
-      entry_stored I.tree (table_page t.walk) (at t.walk.level t.walk.prefix) index (leaf_written t)
-      ((I.held a S.there).table may.saw.over.there) (omega arith)
-      (record { entry = inr (inr leaf); no_link = inl S.needs.1 })
-    where
-      may : MayEnter gfn t
-      may = S.needs.0
-
-      leaf : IsLeafAt (at t.walk.level t.walk.prefix) (leaf_written t)
-      leaf = record { lowest = S.needs.1; leaf = leaf_is t S.needs.1 }
+  leafed : (new_ : ℕ) (won : Bool) → a < actors_of z → 1 ≤ t.walk.level → t.walk.level ≡ 1 → kind_of t.walk.level new_ ≡ entry_kind.Leaf
+      → TreePart z.pool (v.words area.Root 0) (v.words area.Role) (exchanged won new_) I.up I.spot
+  leafed new_ false lt there low leaf = lost here I.tree
+  leafed new_ true lt there low leaf =
+      entry_stored I.tree (table_page t.walk) (at t.walk.level t.walk.prefix) index new_ ((I.held a lt).table there) (omega arith)
+      (record { entry = inr (inr (record { lowest = low; leaf = leaf })); no_link = inl low })
 
   -- An entry of which a leaf was loaded that is there still is no link.
   zapped : (S : IsPart z v a (part.Zap gfn)) → TreePart z.pool (v.words area.Root 0) (v.words area.Role) (upd (v.words area.Pool) here 0) I.up I.spot
@@ -150,14 +155,11 @@ module _ (z : Sizes) (v : View) (a gfn note : ℕ) (I : TopicsInvariant z v) whe
       at_walk : stands I.up I.spot (table_page t.walk) ≡ Some (at t.walk.level t.walk.prefix)
       at_walk = (I.held a S.there).table S.needs.saw.over.there
 
-      still : v.words area.Pool here ≡ t.walk.entry
-      still =
-          let seen = S.needs.saw.loaded in
-          ap (λ i. v.words area.Pool (pool_index (table_page t.walk) i)) (sym seen)
-          ∙ I.loaded a S.there S.needs.alone S.needs.outside S.needs.saw.over.there (omega (arith, seen))
-
       leaf : kind_of t.walk.level (v.words area.Pool here) ≡ entry_kind.Leaf
-      leaf = ap (kind_of t.walk.level) still ∙ S.needs.leaf
+      leaf =
+          let seen = S.needs.saw.loaded in
+          ap (λ i. kind_of t.walk.level (v.words area.Pool (pool_index (table_page t.walk) i))) (sym seen)
+          ∙ still_leaf t.walk.level _ t.walk.entry (I.loaded a S.there S.needs.alone S.needs.outside S.needs.saw.over.there (omega (arith, seen))) S.needs.leaf
 
       by : EntryPart I.up (table_page t.walk) (at t.walk.level t.walk.prefix) index (v.words area.Pool here)
           → (t.walk.level ≡ 1) ⊎ (v.words area.Pool here ≡ absent_word)
@@ -176,8 +178,12 @@ tree_behind : (z : Sizes) (v : View) (a : ℕ) (step : PartStep) (note : ℕ) �
     (up_after step a (v.hand a).topics v I.up) (spot_after step (v.hand a).topics v I.spot)
 tree_behind z v a (part.Link gfn) note S I =
     linked z v a gfn note I S (entry_now gfn (v.hand a).topics v == (v.hand a).topics.walk.entry) refl
-tree_behind z v a (part.Leaf gfn) note S I =
-    leafed z v a gfn note I S (entry_now gfn (v.hand a).topics v == (v.hand a).topics.walk.entry)
+tree_behind z v a (part.Leaf gfn write) note S I =
+    leafed z v a gfn note I (leaf_written write (v.hand a).topics) (entry_now gfn (v.hand a).topics v == (v.hand a).topics.walk.entry) S.there
+    S.needs.0.saw.over.there S.needs.1 (leaf_is write (v.hand a).topics S.needs.1)
+tree_behind z v a (part.Fix gfn) note S I =
+    leafed z v a gfn note I (leaf_fixed (v.hand a).topics) (entry_now gfn (v.hand a).topics v == (v.hand a).topics.walk.entry) S.there
+    S.needs.saw.over.there S.needs.lowest (fixed_is_leaf (v.hand a).topics S.needs)
 tree_behind z v a (part.Fill value) note S I =
     stay z v a (part.Fill value) note S I refl (λ k p is. (λ o owns. table_not_owned I.uses I.spot k p is a o S.there owns, tt))
 tree_behind z v a (part.Role value) note S I =

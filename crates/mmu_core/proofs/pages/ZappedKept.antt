@@ -50,7 +50,8 @@ one_frame level other gfn lowest over =
 
 new_leaf : (z : Sizes) (v : View) (a i : ℕ) (step : PartStep) → IsPart z v a step → TopicsInvariant z v → i < actors_of z
     → (v.hand i).topics.invalidations.opened ≡ true → OfNewLeaf step (v.hand a).topics (IsNoLeafIn (v.hand i).topics.invalidations.own)
-new_leaf z v a i (part.Leaf gfn) S I lt is_open = λ other over is_in leaf.
+new_leaf z v a i (part.Fix gfn) S I lt is_open = λ other over none is_in leaf. none is_in S.needs.leaf
+new_leaf z v a i (part.Leaf gfn write) S I lt is_open = λ other over is_in leaf.
     let same : other ≡ gfn = one_frame (v.hand a).topics.walk.level other gfn S.needs.1 over in
     fresh_in_none z v a i gfn I S.there lt (ap has_lock S.needs.0.shares) S.needs.0.fresh is_open
     (subst (IsIn (v.hand i).topics.invalidations.own) same is_in)
@@ -104,7 +105,9 @@ own_zapped z v a note (part.Ask index) S I = λ is_open asked. (by is_open (same
     by is_open (inl none) = swept_zapped z v a index S I none
     by is_open (inr some) = I.zapped a S.there is_open (omega (arith, some))
 own_zapped z v a note part.Exclude S I = λ is_open asked. (I.zapped a S.there is_open (asked_before _ (v.hand a).topics.flush asked), tt)
-own_zapped z v a note (part.Leaf gfn) S I = λ is_open asked. (I.zapped a S.there is_open asked, new_leaf z v a a (part.Leaf gfn) S I S.there is_open)
+own_zapped z v a note (part.Leaf gfn write) S I = λ is_open asked.
+    (I.zapped a S.there is_open asked, new_leaf z v a a (part.Leaf gfn write) S I S.there is_open)
+own_zapped z v a note (part.Fix gfn) S I = λ is_open asked. (I.zapped a S.there is_open asked, new_leaf z v a a (part.Fix gfn) S I S.there is_open)
 own_zapped z v a note (part.SetEnd last gfn) S I = λ is_open. absurd (let closed = S.needs.0.opening.closed in cc (closed, is_open))
 own_zapped z v a note (part.SetStart first gfn) S I = λ is_open. absurd (let closed = S.needs.0.opening.closed in cc (closed, is_open))
 own_zapped z v a note (part.SetCount count) S I = λ is_open asked. absurd (counted_unasked count (v.hand a).topics S.needs is_open asked)

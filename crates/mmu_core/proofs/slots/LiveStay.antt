@@ -24,7 +24,16 @@ module _ (before : ℕ → ℕ) (set : ℕ) (after : ℕ → ℕ) (other : ℕ) 
   slot_stays id low live = (stay id (slot_at before set id) (record { low = low; live = live; is = refl })).is
 
   pub leaf_stays : (host : ℕ → ℕ) (gfn leaf : ℕ) → IsLeafFor before host set gfn leaf → IsLeafFor after host other gfn leaf
-  leaf_stays host gfn leaf L = record { id = L.id; slot = L.slot; live = stay L.id L.slot L.live; holds = L.holds; is = L.is; present = L.present }
+  leaf_stays host gfn leaf L = record {
+    id = L.id;
+    slot = L.slot;
+    live = stay L.id L.slot L.live;
+    holds = L.holds;
+    writes = L.writes;
+    is = L.is;
+    present = L.present;
+    small = L.small;
+  }
 
   pub translations_stay : (host : ℕ → ℕ) (ts : List Translation) → AgreePart before host set ts → AgreePart after host other ts
   translations_stay host ts each =

@@ -137,6 +137,8 @@ plain_by_fault (fault.Check stage.Start) gfn t other = (refl, refl)
 plain_by_fault (fault.Check stage.End) gfn t other = (refl, refl)
 plain_by_fault (fault.Check stage.Seq) gfn t other = (refl, refl)
 plain_by_fault (fault.Walk rooted) gfn t other = either_place IsPlain rooted (part.Walk gfn) part.Root (refl, refl) (refl, refl)
+plain_by_fault (fault.FastFind begun) gfn t other = either_place IsPlain begun part.Slot part.Slots (refl, refl) (refl, refl)
+plain_by_fault (fault.FastWalk rooted) gfn t other = either_place IsPlain rooted (part.Walk gfn) part.Root (refl, refl) (refl, refl)
 plain_by_fault (fault.Claim begun) gfn t other = claim_is IsPlain free.Pages begun t.claim (refl, refl) (λ word. (refl, refl))
 plain_by_fault _ gfn t other = (refl, refl)
 

@@ -197,6 +197,7 @@ counters_first z = record {
   seen = omega arith;
   watched = omega arith;
   span = λ from. absurd (omega (arith, from));
+  entry = omega arith;
   counted = omega arith;
   seq = omega arith;
   asked = omega arith;

@@ -19,7 +19,7 @@ pub leaf_there : (z : Sizes) (set : ℕ) (role pool host : ℕ → ℕ) (gfn lea
 leaf_there z set role pool host gfn leaf sizes part hosts L =
     let w : ℕ = host (page_of L.slot gfn) in
     let h : host_frame w < z.frames = (hosts (page_of L.slot gfn) page).1 in
-    rw (L.is, leaf_frame 1 (host_frame w) (may_write L.slot w) (host_allows_write w) (may_write L.slot w) (omega (arith, h, sizes.frames.1))) h
+    rw (L.is, leaf_frame 1 (host_frame w) (L.writes && may_write L.slot w) (host_allows_write w) (may_write L.slot w) (omega (arith, h, sizes.frames.1))) h
   where
     bounds : (low high : ℕ) → (nat_le low gfn && nat_lt gfn high) ≡ true → (low ≤ gfn) × (gfn < high)
     bounds low high test = (grind (arith, nat_tests), grind (arith, nat_tests))

@@ -1,6 +1,6 @@
 -- The word of each step of a part is one of its area, and what it writes has 64 bits.
 use Rattle.std.proofs.Common.{◌≡◌, ◌<◌, ◌≤◌, ◌^◌, ◌%◌, ◌+◌, ◌-◌, ◌*◌, ℕ, refl, sym, subst, ap, arith, Bool}
-use Rattle.std.specs.Prelude.{Bool, true, false, Some, None, is_some, Option, if◌then◌else◌}
+use Rattle.std.specs.Prelude.{Bool, true, false, Some, None, is_some, Option, if◌then◌else◌, ◌&&◌, not}
 use Rattle.std.proofs.Math.Pow.{pow-lt}
 use Rattle.core_views.specs.declared.place.SlotField.{SlotField}
 use Rattle.core_views.specs.declared.place.SlotField.TheVariants as field
@@ -20,19 +20,22 @@ use Rattle.part_steps.specs.declared.part_step.PartStep.TheVariants as part
 use Rattle.part_steps.specs.PartBounds.{PartRests}
 use Rattle.part_steps.specs.SweepTopics.{gone_up}
 use Rattle.part_steps.specs.PartTasks.{IsWithin, all_but, leaf_written, link_written, own_index, page_owned, part_kind, part_task, set_held}
-use Rattle.part_steps.specs.PartTasks.{table_page, word_looked, words_filled, page_retired, page_looked}
+use Rattle.part_steps.specs.PartTasks.{table_page, word_looked, words_filled, page_retired, page_looked, number_or_none, page_owed, puts_write}
 use Rattle.core_views.specs.declared.topics.OwnedFrame.{OwnedFrame}
 use Rattle.part_steps.specs.FrameHoldings.{revises}
 use Rattle.part_steps.specs.FrameTopics.{frame_owned}
 use Rattle.part_steps.proofs.FrameWords.{copied_within, stored_within}
 use Rattle.part_steps.specs.InvalidationHoldings.{MayCount}
-use Rattle.part_steps.specs.PartHoldings.{LookedUp, OwnsTable, MayPublish, MayGiveOld}
+use Rattle.part_steps.specs.PartHoldings.{LookedUp, OwnsTable, MayPublish, MayGiveOld, MayMark}
 use Rattle.part_steps.specs.PartSteps.{PartNeeds}
 use Rattle.part_steps.specs.SlotWords.{field_number, leaf_of, may_write, slot_index}
 use Rattle.part_steps.specs.Tasks.{map_of}
 use Rattle.part_steps.specs.PageTopics.{tried_bit}
 use Rattle.mmu_core.proofs.pages.Owned.{owned_some, some_filled}
 use Rattle.mmu_core.proofs.words.HostStays.{each_revision}
+use Rattle.spte_words.specs.Entries.{can_write}
+use Rattle.spte_words.proofs.FixedEntries.{fixed_fits}
+use Rattle.mmu_core.proofs.lines.FaultSame.{both, is_not, over_it}
 
 pub is_number : (f : SlotField) → field_number f ≤ 3
 is_number field.Base = omega arith
@@ -87,6 +90,13 @@ frame_there h some R = by h.topics.frames.owned refl some
     by None is some = absurd (cc some)
     by (Some o) is some = R.frame o is
 
+-- The page that is marked is one of the machine's.
+page_marked : (h : Held) → MayMark h.topics → PartRests h → page_owed h.topics < h.state.sizes.pages
+page_marked h M R =
+    let B = over_it h.topics.search.slot.base (number_or_none h.topics.owed) (h.topics.search.slot.base + h.topics.search.slot.pages) M.found.holds in
+    let high = R.found M.found.whole in
+    omega (arith, B.0, B.1, high)
+
 pub part_within_by : (step : PartStep) (h : Held) (note : ℕ) → PartNeeds step h → PartRests h → IsWithinBy h step note
 part_within_by part.Enter h note N R = R.own_place
 part_within_by part.Leave h note N R = R.own_place
@@ -102,7 +112,10 @@ part_within_by part.Slot h note N R = slot_within h note N.0 N.1 R
 part_within_by (part.Walk gfn) h note N R = pool_within (map_of h.state.sizes) (table_page h.topics.walk) _ (R.table N.0.there) (omega arith)
 part_within_by (part.Sweep gfn) h note N R = pool_within (map_of h.state.sizes) (table_page (gone_up h.topics.walk)) _ (R.above N.there) (omega arith)
 part_within_by (part.Link gfn) h note N R = pool_within (map_of h.state.sizes) (table_page h.topics.walk) _ (R.table N.0.saw.over.there) (omega arith)
-part_within_by (part.Leaf gfn) h note N R = pool_within (map_of h.state.sizes) (table_page h.topics.walk) _ (R.table N.0.saw.over.there) (omega arith)
+part_within_by (part.Leaf gfn write) h note N R =
+    pool_within (map_of h.state.sizes) (table_page h.topics.walk) _ (R.table N.0.saw.over.there) (omega arith)
+part_within_by (part.Fix gfn) h note N R = pool_within (map_of h.state.sizes) (table_page h.topics.walk) _ (R.table N.saw.over.there) (omega arith)
+part_within_by part.Mark h note N R = let low = page_marked h N R in omega (arith, low)
 part_within_by (part.Host page) h note N R = N.0
 part_within_by (part.Watch index) h note N R = N.0
 part_within_by part.Clear h note N R = left_there h N R
@@ -138,11 +151,12 @@ link_small h O R =
     let page = page_there h (some_filled h.topics.owned 513 O.whole (omega arith)) R in
     table_fits (page_owned h.topics.owned) (omega (arith, page, R.sizes.pool.1))
 
-leaf_small : {gfn : ℕ} (h : Held) → LookedUp gfn h.topics → PartRests h → leaf_written h.topics < 2 ^ 64
-leaf_small h U R =
+leaf_small : {gfn : ℕ} (h : Held) (write : Bool) → LookedUp gfn h.topics → PartRests h → leaf_written write h.topics < 2 ^ 64
+leaf_small h write U R =
     let looked = R.looked _ U.host in
-    subst (λ o. leaf_of h.topics.search.slot (word_looked o) < 2 ^ 64) (sym U.host)
-    (leaf_fits 1 (host_frame U.word) (may_write h.topics.search.slot U.word) (host_allows_write U.word) (may_write h.topics.search.slot U.word)
+    subst (λ o. leaf_of (puts_write write h.topics) h.topics.search.slot (word_looked o) < 2 ^ 64) (sym U.host)
+    (leaf_fits 1 (host_frame U.word) (puts_write write h.topics && may_write h.topics.search.slot U.word) (host_allows_write U.word)
+    (may_write h.topics.search.slot U.word)
     (omega (arith, looked.1, R.sizes.frames.1)))
 
 -- A page that is published is one of the pool.
@@ -192,7 +206,10 @@ part_small (part.Fill value) h note N R = N.1
 part_small (part.Role value) h note N R = N.1
 part_small part.Give h note N R = power_small (page_owned h.topics.owned % 64) (omega arith)
 part_small (part.Link gfn) h note N R = link_small h N.3 R
-part_small (part.Leaf gfn) h note N R = leaf_small h N.0.looked_up R
+part_small (part.Leaf gfn write) h note N R = leaf_small h write N.0.looked_up R
+part_small (part.Fix gfn) h note N R =
+    fixed_fits h.topics.walk.entry R.counters.entry (is_not (can_write h.topics.walk.entry) (both (not (can_write h.topics.walk.entry)) _ N.fixable).0)
+part_small part.Mark h note N R = power_small (page_owed h.topics % 64) (omega arith)
 part_small part.Publish h note N R = publish_small h N R
 part_small part.GiveOld h note N R = power_small (page_retired h.topics.retired % 64) (omega arith)
 part_small (part.SetStart first gfn) h note N R = N.2

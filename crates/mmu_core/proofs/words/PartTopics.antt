@@ -19,7 +19,7 @@ use Rattle.mmu_core.specs.lines.Cached.{flushed}
 use Rattle.part_steps.specs.declared.part_step.PartStep.{PartStep}
 use Rattle.part_steps.specs.declared.part_step.PartStep.TheVariants as part
 use Rattle.part_steps.specs.PartTasks.{entry_index, entry_task, leaf_written, link_written, part_task, table_page, word_looked, page_looked}
-use Rattle.part_steps.specs.PartTasks.{page_retired, page_owned, words_filled}
+use Rattle.part_steps.specs.PartTasks.{page_retired, page_owned, words_filled, leaf_fixed}
 use Rattle.part_steps.specs.PartSteps.{PartNeeds}
 use Rattle.part_steps.specs.PartTopics.{changed_host, exchanged, part_topics, exchanged_host}
 use Rattle.mmu_core.specs.machine.Steps.{idle_after}
@@ -28,7 +28,7 @@ pub use Rattle.mmu_core.proofs.words.MapTopics.{map_end, map_word_at}
 use Rattle.part_steps.specs.Tasks.{kind_of_task, loads, map_of}
 use Rattle.part_steps.specs.StayTopics.{is_alone, is_outside}
 use Rattle.part_steps.specs.SweepTopics.{gone_up, is_sweeping, walk_on}
-use Rattle.part_steps.specs.WalkTopics.{is_in_table, still_owned, swapped, walked, gone_down}
+use Rattle.part_steps.specs.WalkTopics.{is_in_table, still_owned, swapped, walked, gone_down, owed_after}
 use Rattle.part_steps.specs.ControlBits.{in_section}
 use Rattle.part_steps.specs.ControlBits.{has_to_flush}
 use Rattle.part_steps.specs.TopicSteps.{host_begins, index_in_page, topics_after}
@@ -47,7 +47,8 @@ IsThere z t part.Clear = page_retired t.retired < z.pool
 IsThere z t (part.Walk gfn) = (1 ≤ t.walk.level) × (is_sweeping t ≡ false)
 IsThere z t (part.Sweep gfn) = (1 ≤ t.walk.level) × (is_sweeping t ≡ true)
 IsThere z t (part.Link gfn) = 1 ≤ t.walk.level
-IsThere z t (part.Leaf gfn) = 1 ≤ t.walk.level
+IsThere z t (part.Leaf gfn write) = 1 ≤ t.walk.level
+IsThere z t (part.Fix gfn) = 1 ≤ t.walk.level
 IsThere z t (part.Zap gfn) = 1 ≤ t.walk.level
 IsThere z t _ = Unit {0}
 
@@ -89,6 +90,9 @@ swap_topics z gfn new_ note t v from =
           if b then swapped (v == t.walk.entry) t.walk
           (index_in_page z (place (map_of z) area.Pool (pool_index (table_page t.walk) (entry_index gfn t.walk.level)))) new_ v else t.walk;
       owned = if b then still_owned (v == t.walk.entry) t.walk new_ t.owned else t.owned;
+      owed =
+          if b then owed_after (v == t.walk.entry) t.search.logged t.walk
+          (index_in_page z (place (map_of z) area.Pool (pool_index (table_page t.walk) (entry_index gfn t.walk.level)))) new_ t.owed else t.owed;
     }) (in_table t.walk from)
     ∙ ap (λ i. exchanged (v == t.walk.entry) i new_ t v) (in_its_page z (table_page t.walk) (entry_index gfn t.walk.level) (omega arith))
 
@@ -136,7 +140,8 @@ part_topics_is z (part.Walk gfn) own t note v there =
 part_topics_is z (part.Sweep gfn) own t note v there =
     walk_topics z gfn (gone_up t.walk) t note v there.0 (ap (λ (b : Bool). if b then gone_up t.walk else t.walk) there.1)
 part_topics_is z (part.Link gfn) own t note v there = swap_topics z gfn (link_written t) note t v there
-part_topics_is z (part.Leaf gfn) own t note v there = swap_topics z gfn (leaf_written t) note t v there
+part_topics_is z (part.Leaf gfn write) own t note v there = swap_topics z gfn (leaf_written write t) note t v there
+part_topics_is z (part.Fix gfn) own t note v there = swap_topics z gfn (leaf_fixed t) note t v there
 part_topics_is z (part.Host page) own t note v there = ap (λ p. record t { host = Some (record { page = p; word = v }) }) (behind_host z page)
 part_topics_is z (part.Watch index) own t note v there = ap (λ i. record t { watched = i + (if in_section v then 0 else 1) }) (state_place z index)
 part_topics_is z (part.Zap gfn) own t note v there = zap_topics z own gfn t note v there
@@ -197,7 +202,8 @@ is_there part.Clear h N = N.in_pool
 is_there (part.Walk gfn) h N = (N.0.there, N.1)
 is_there (part.Sweep gfn) h N = (N.there, sweeps h.topics N.outside N.alone N.opened)
 is_there (part.Link gfn) h N = N.0.saw.over.there
-is_there (part.Leaf gfn) h N = N.0.saw.over.there
+is_there (part.Leaf gfn write) h N = N.0.saw.over.there
+is_there (part.Fix gfn) h N = N.saw.over.there
 is_there (part.Zap gfn) h N = N.saw.over.there
 is_there _ h N = tt
 

@@ -13,7 +13,7 @@ use Rattle.spte_words.proofs.Indices.{same_pool_word}
 use Rattle.part_steps.specs.declared.part_step.PartStep.{PartStep}
 use Rattle.part_steps.specs.declared.part_step.PartStep.TheVariants as part
 use Rattle.part_steps.specs.PartTasks.{entry_index, entry_task, leaf_written, link_written, own_index, page_owned, part_task, table_page}
-use Rattle.part_steps.specs.PartTasks.{words_filled, page_retired}
+use Rattle.part_steps.specs.PartTasks.{words_filled, page_retired, leaf_fixed}
 use Rattle.mmu_core.specs.invariant.TopicsInvariant.{TopicsInvariant}
 use Rattle.mmu_core.specs.machine.View.{View, part_stepped, put, upd, words_after}
 use Rattle.mmu_core.proofs.machine.Columns.{upd_other}
@@ -36,6 +36,7 @@ stays area.RangeEnd = false
 stays area.Host = false
 stays area.FrameMap = false
 stays area.Content = false
+stays area.Log = false
 stays _ = true
 
 -- The area is none of those that a step of a part stores in.
@@ -53,6 +54,7 @@ record IsApart (b : Area) : Type 0 where
   host : (number_of b == number_of area.Host) ≡ false
   frames : (number_of b == number_of area.FrameMap) ≡ false
   content : (number_of b == number_of area.Content) ≡ false
+  log : (number_of b == number_of area.Log) ≡ false
 
 apart : (b : Area) → stays b ≡ true → IsApart b
 apart area.Lock is = absurd (cc is)
@@ -68,6 +70,7 @@ apart area.RangeEnd is = absurd (cc is)
 apart area.Host is = absurd (cc is)
 apart area.FrameMap is = absurd (cc is)
 apart area.Content is = absurd (cc is)
+apart area.Log is = absurd (cc is)
 apart _ is = record {
   lock = refl;
   state = refl;
@@ -82,6 +85,7 @@ apart _ is = record {
   host = refl;
   frames = refl;
   content = refl;
+  log = refl;
 }
 
 put_elsewhere : (words : Area → ℕ → ℕ) (stored b : Area) (i x : ℕ) → (number_of b == number_of stored) ≡ false → put words stored i x b ≡ words b
@@ -103,7 +107,9 @@ words_stay part.GiveOld own t note words b A = put_elsewhere words area.PoolMap 
 words_stay part.Publish own t note words b A = put_elsewhere words area.Slots b 0 _ A.slots
 words_stay part.Clear own t note words b A = put_elsewhere words area.Role b _ _ A.role
 words_stay (part.Link gfn) own t note words b A = put_elsewhere words area.Pool b _ _ A.pool
-words_stay (part.Leaf gfn) own t note words b A = put_elsewhere words area.Pool b _ _ A.pool
+words_stay (part.Leaf gfn write) own t note words b A = put_elsewhere words area.Pool b _ _ A.pool
+words_stay (part.Fix gfn) own t note words b A = put_elsewhere words area.Pool b _ _ A.pool
+words_stay part.Mark own t note words b A = put_elsewhere words area.Log b _ _ A.log
 words_stay (part.Fill value) own t note words b A = put_elsewhere words area.Pool b _ _ A.pool
 words_stay (part.Role value) own t note words b A = put_elsewhere words area.Role b _ _ A.role
 words_stay (part.SetStart first gfn) own t note words b A = put_elsewhere words area.RangeStart b 0 _ A.start
@@ -119,7 +125,7 @@ words_stay part.GiveFrame own t note words b A = put_elsewhere words area.FrameM
 words_stay (part.Store index) own t note words b A = put_elsewhere words area.Content b index _ A.content
 words_stay _ own t note words b A = refl
 
--- Whole areas stay: the root, the pause and the log.
+-- Whole areas stay: the root and the pause.
 pub areas_stay : (v : View) (a : ℕ) (step : PartStep) (note : ℕ) (b : Area) → stays b ≡ true → (part_stepped a step note v).words b ≡ v.words b
 areas_stay v a step note b is = words_stay step (own_index (v.hand a)) (v.hand a).topics note v.words b (apart b is)
 
@@ -148,7 +154,8 @@ slots_are v a step note = slots_after step (own_index (v.hand a)) (v.hand a).top
 abbrev pub IsElsewhere : PartStep → Topics → ℕ → Type 0
 IsElsewhere (part.Fill value) t k = (o : OwnedPage) → t.owned ≡ Some o → o.page ≢ k
 IsElsewhere (part.Link gfn) t k = table_page t.walk ≢ k
-IsElsewhere (part.Leaf gfn) t k = table_page t.walk ≢ k
+IsElsewhere (part.Leaf gfn write) t k = table_page t.walk ≢ k
+IsElsewhere (part.Fix gfn) t k = table_page t.walk ≢ k
 IsElsewhere (part.Zap gfn) t k = table_page t.walk ≢ k
 IsElsewhere _ t k = Unit {0}
 
@@ -185,7 +192,9 @@ page_stays z v a (part.Fill value) note S k differs j low =
     let t : Topics = (v.hand a).topics in
     fill_leaves (page_owned t.owned) (words_filled t.owned) value (v.words area.Pool) k j S.needs.0.1 low (λ e d. owned_elsewhere t S.needs.0.0 k differs e)
 page_stays z v a (part.Link gfn) note S k differs j low = entry_leaves gfn (link_written (v.hand a).topics) note (v.hand a).topics.walk v.words k j low differs
-page_stays z v a (part.Leaf gfn) note S k differs j low = entry_leaves gfn (leaf_written (v.hand a).topics) note (v.hand a).topics.walk v.words k j low differs
+page_stays z v a (part.Leaf gfn write) note S k differs j low =
+    entry_leaves gfn (leaf_written write (v.hand a).topics) note (v.hand a).topics.walk v.words k j low differs
+page_stays z v a (part.Fix gfn) note S k differs j low = entry_leaves gfn (leaf_fixed (v.hand a).topics) note (v.hand a).topics.walk v.words k j low differs
 page_stays z v a (part.Zap gfn) note S k differs j low = entry_apart gfn 0 (v.hand a).topics.walk (v.words area.Pool) k j low differs
 page_stays z v a _ note S k differs j low = refl
 
@@ -222,7 +231,8 @@ pub slots_elsewhere : (z : Sizes) (v : View) (a : ℕ) (step : PartStep) → IsP
     → IsElsewhere step (v.hand a).topics (v.words area.Slots 0)
 slots_elsewhere z v a (part.Fill value) S I = λ o is. owned_not_slots I.uses a o S.there is
 slots_elsewhere z v a (part.Link gfn) S I = walks_elsewhere z v a S.there I S.needs.0.saw.over.there
-slots_elsewhere z v a (part.Leaf gfn) S I = walks_elsewhere z v a S.there I S.needs.0.saw.over.there
+slots_elsewhere z v a (part.Leaf gfn write) S I = walks_elsewhere z v a S.there I S.needs.0.saw.over.there
+slots_elsewhere z v a (part.Fix gfn) S I = walks_elsewhere z v a S.there I S.needs.saw.over.there
 slots_elsewhere z v a (part.Zap gfn) S I = walks_elsewhere z v a S.there I S.needs.saw.over.there
 slots_elsewhere z v a _ S I = tt
 

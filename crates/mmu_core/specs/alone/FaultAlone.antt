@@ -1,13 +1,13 @@
 -- A fault that runs while all other actors rest: what it knows of the words at each place, so that it never begins anew, and what
 -- stands where it ends.
-use Rattle.std.specs.Prelude.{◌≡◌, ◌/◌, ◌^◌, ◌<◌, ℕ, zero, suc, Bool, true, false, Some}
+use Rattle.std.specs.Prelude.{◌≡◌, ◌/◌, ◌^◌, ◌<◌, ℕ, Bool, true, false, Some}
 use Rattle.core_views.specs.declared.place.CheckStage.TheVariants as stage
 use Rattle.core_views.specs.declared.place.FaultEnd.{FaultEnd}
 use Rattle.core_views.specs.declared.place.FaultEnd.TheVariants.{HostFault, Installed, Mmio, Retry}
 use Rattle.core_views.specs.declared.place.FaultNext.{FaultNext}
 use Rattle.core_views.specs.declared.place.FaultNext.TheVariants.{Goes, Ends}
 use Rattle.core_views.specs.declared.place.FaultPlace.{FaultPlace}
-use Rattle.core_views.specs.declared.place.FaultPlace.TheVariants.{Bring, Find, Check, Claim, Fill, Role, Link, Give, Leaf, Unshare, End}
+use Rattle.core_views.specs.declared.place.FaultPlace.TheVariants.{Bring, Find, Check, Claim, Fill, Role, Link, Give, Leaf, Unshare, End, Fix, Mark}
 use Rattle.core_views.specs.declared.sizes.Sizes.{Sizes}
 use Rattle.core_views.specs.declared.topics.Topics.{Topics}
 use Rattle.core_views.specs.declared.trace.Slot.{Slot}
@@ -16,43 +16,27 @@ use Rattle.core_views.specs.Sizes.{actors_of}
 use Rattle.core_views.specs.Slots.{contains}
 use Rattle.spte_words.specs.declared.area.Area.{Area}
 use Rattle.spte_words.specs.declared.area.Area.TheVariants as area
-use Rattle.spte_words.specs.declared.spte_kind.SpteKind.TheVariants as entry_kind
 use Rattle.spte_words.specs.Areas.{pool_index}
-use Rattle.spte_words.specs.Entries.{kind_of, level_span}
+use Rattle.spte_words.specs.Entries.{level_span}
 use Rattle.spte_words.specs.HostWords.{host_allows_write}
 use Rattle.part_steps.specs.declared.task.Task.{Task}
 use Rattle.part_steps.specs.declared.part_step.PartStep.{PartStep}
 use Rattle.mmu_core.specs.machine.Enabled.{mmu}
 use Rattle.mmu_core.specs.lines.FaultKnows.{FaultKnows}
-use Rattle.mmu_core.specs.lines.FaultSteps.{allows_access, fault_next, fault_part}
+use Rattle.mmu_core.specs.lines.FaultSteps.{fault_next, fault_part}
 use Rattle.mmu_core.specs.lines.PartWaits.{part_waits}
 use Rattle.mmu_core.specs.invariant.Laws.{IsSound}
 use Rattle.mmu_core.specs.invariant.SlotSetPart.{IsLiveIn}
 use Rattle.mmu_core.specs.machine.Machine.{World, hand_in}
 use Rattle.mmu_core.specs.alone.OthersRest.{OthersRest}
 use Rattle.mmu_core.specs.alone.SeenStands.{SeenStands}
+pub use Rattle.mmu_core.specs.alone.Leads.{LeadsTo, LeadsToLeaf}
 use Rattle.mmu_core.specs.lines.ScanPlaces.{BegunNext, HasBegun, OfPages}
 use Rattle.part_steps.specs.PartTasks.{entry_index, page_looked, part_task, table_page, word_looked}
 use Rattle.part_steps.specs.PartTopics.{part_topics}
 use Rattle.part_steps.specs.SlotWords.{NoneBelow, NoneHasPage, page_of}
-use Rattle.part_steps.specs.WalkTopics.{linked_page}
 use Rattle.mmu_core.specs.invariant.TreePart.{at, stands}
 use Rattle.mmu_core.specs.machine.View.{answer_in, word_in, words_after}
-
--- From the table in a page, which is of the level, links lead the guest frame down to this entry of the lowest level.
-abbrev pub LeadsTo : (ℕ → ℕ) → ℕ → ℕ → ℕ → ℕ → Type 0
-LeadsTo pool zero page gfn entry = ⊥
-LeadsTo pool (suc zero) page gfn entry = pool (pool_index page (entry_index gfn 1)) ≡ entry
-LeadsTo pool (suc (suc level)) page gfn entry =
-    (below : ℕ) × (linked_page (kind_of (suc (suc level)) (pool (pool_index page (entry_index gfn (suc (suc level)))))) ≡ Some below)
-    × LeadsTo pool (suc level) below gfn entry
-
--- They lead to a leaf that allows the access.
-pub record LeadsToLeaf (pool : ℕ → ℕ) (level page gfn : ℕ) (write : Bool) : Type 0 where
-  pub entry : ℕ
-  pub leads : LeadsTo pool level page gfn entry
-  pub leaf : kind_of 1 entry ≡ entry_kind.Leaf
-  pub allows : allows_access write entry ≡ true
 
 -- The entry that was loaded stands still.
 abbrev pub EntryStands : (ℕ → ℕ) → ℕ → Topics → Type 0
@@ -88,7 +72,9 @@ FaultAlone (Claim begun) root set pool host gfn write t = EntryStands pool gfn t
 FaultAlone Fill root set pool host gfn write t = EntryStands pool gfn t
 FaultAlone Role root set pool host gfn write t = EntryStands pool gfn t
 FaultAlone Link root set pool host gfn write t = EntryStands pool gfn t
-FaultAlone Leaf root set pool host gfn write t = EntryStands pool gfn t
+FaultAlone (Leaf writes) root set pool host gfn write t = EntryStands pool gfn t
+FaultAlone Fix root set pool host gfn write t = EntryStands pool gfn t
+FaultAlone (Mark fast) root set pool host gfn write t = LeadsToLeaf pool 4 root gfn write
 FaultAlone (Give e) root set pool host gfn write t = ⊥
 FaultAlone (Unshare e) root set pool host gfn write t = EndAlone e root set pool host gfn write
 FaultAlone (End e) root set pool host gfn write t = EndAlone e root set pool host gfn write

@@ -1,5 +1,5 @@
 -- Invalidations (kvm_main.c, mmu_invalidate_seq and mmu_invalidate_in_progress): how many are open, what an actor has loaded of them, and how many have ended.
-use Rattle.std.specs.Prelude.{◌≡◌, ◌≤◌, ◌<◌, ◌+◌, ℕ, Bool, true, false, if◌then◌else◌, length}
+use Rattle.std.specs.Prelude.{◌≡◌, ◌≤◌, ◌<◌, ◌+◌, ℕ, Bool, true, false, if◌then◌else◌, length, ◌⊎◌}
 use Rattle.core_views.specs.declared.place.EndPlace.TheVariants as ends
 use Rattle.core_views.specs.declared.place.EndPlace.{EndPlace}
 use Rattle.core_views.specs.declared.place.SlotChangePlace.TheVariants as change
@@ -19,6 +19,8 @@ use Rattle.part_steps.specs.InvalidationHoldings.{knows_count}
 use Rattle.part_steps.specs.PartTasks.{table_page}
 use Rattle.part_steps.specs.StayTopics.{has_lock}
 use Rattle.mmu_core.specs.machine.Sums.{one_if, sum_below}
+use Rattle.spte_words.specs.declared.spte_kind.SpteKind.TheVariants.{Leaf}
+use Rattle.spte_words.specs.Entries.{kind_of}
 
 -- The count is that of the actors that have an invalidation open.
 abbrev pub CountPart : ℕ → ℕ → (ℕ → Bool) → Type 0
@@ -52,10 +54,15 @@ abbrev pub KnownRangePart : ℕ → ℕ → Topics → Type 0
 KnownRangePart start end_ t =
     has_lock t.hold ≡ true → t.invalidations.checked ≡ checked.All → 0 < t.invalidations.count → (t.invalidations.start ≡ start) × (t.invalidations.end ≡ end_)
 
--- The entry that an actor has loaded that has the lock alone, outside of every section, is in its table still.
+-- An entry of the level is the one that was seen; or this was a leaf, and it is one now: a fast fault may have allowed writes in it.
+abbrev pub IsEntryStill : ℕ → ℕ → ℕ → Type 0
+IsEntryStill level now_ seen = (now_ ≡ seen) ⊎ ((kind_of level seen ≡ Leaf) × (kind_of level now_ ≡ Leaf))
+
+-- So is the entry that an actor has loaded that has the lock alone, outside of every section.
 abbrev pub LoadedPart : (ℕ → ℕ) → Topics → Type 0
 LoadedPart pool t =
-    t.hold ≡ Exclusive → t.stay ≡ Outside → 1 ≤ t.walk.level → t.walk.index < 512 → pool (pool_index (table_page t.walk) t.walk.index) ≡ t.walk.entry
+    t.hold ≡ Exclusive → t.stay ≡ Outside → 1 ≤ t.walk.level → t.walk.index < 512
+    → IsEntryStill t.walk.level (pool (pool_index (table_page t.walk) t.walk.index)) t.walk.entry
 
 -- The sequence number is raised from this place of an end on.
 abbrev pub is_raised_at : EndPlace → Bool

@@ -59,6 +59,7 @@ fault_over end_of.Installed = Goes (Access (Enter true))
 fault_over end_of.Mmio = Ends Mmio
 fault_over end_of.HostFault = Ends HostFault
 fault_over end_of.Starved = Ends Starved
+fault_over (end_of.NotFast word) = Goes (Access (Fault fault.Begin))
 fault_over (end_of.Retry cause) = Goes (Access (Enter false))
 
 -- 1 where the line may end with the step
@@ -84,12 +85,12 @@ abbrev pub pause_next : Bool → Option Translation → AccessPlace
 pause_next again None = Root again
 pause_next again (Some t) = Touch
 
--- after an entry: a link leads down, a leaf that allows the access is used, and else the access leaves and faults
+-- after an entry: a link leads down, a leaf that allows the access is used, and else the access leaves and faults: fast, where it met a leaf
 abbrev pub stay_next : Bool → SpteKind → Bool → AccessPlace
 stay_next again (entry_kind.Table page) allowed = Walk again
-stay_next again entry_kind.Leaf allowed = if allowed then Touch else Leave leaving.Faults
-stay_next again entry_kind.Absent allowed = Leave leaving.Faults
-stay_next again entry_kind.Frozen allowed = Leave leaving.Faults
+stay_next again entry_kind.Leaf allowed = if allowed then Touch else Leave (leaving.Faults true)
+stay_next again entry_kind.Absent allowed = Leave (leaving.Faults false)
+stay_next again entry_kind.Frozen allowed = Leave (leaving.Faults false)
 
 abbrev pub behind_fault : FaultNext → Outcome
 behind_fault (next_of.Goes p) = Goes (Access (Fault p))
@@ -102,7 +103,7 @@ access_outcome (Root again) h gfn op v = Goes (Access (Walk again))
 access_outcome (Walk again) h gfn op v = Goes (Access (stay_next again (kind_of h.topics.walk.level v) (allows_access (is_write op) v)))
 access_outcome Touch h gfn op v = Goes (Access (Leave (leaving.Reached (frame_used gfn h.state) v)))
 access_outcome (Leave (leaving.Reached frame value)) h gfn op v = Ends (Reached frame value)
-access_outcome (Leave leaving.Faults) h gfn op v = Goes (Access (Fault fault.Begin))
+access_outcome (Leave (leaving.Faults fast)) h gfn op v = Goes (Access (Fault (if fast then fault.FastBegin else fault.Begin)))
 access_outcome (Fault p) h gfn op v = behind_fault (fault_next p h.state.sizes gfn (is_write op) h.topics v)
 
 -- the translation that the access uses: the one that was found, where one was
@@ -135,6 +136,7 @@ abbrev pub access_tells : AccessPlace → Held → ℕ → ℕ → Op → ℕ �
 access_tells (Pause again) h gfn word op v = LookedAtPause ∷ []
 access_tells Touch h gfn word op v = Accessed gfn word op (frame_used gfn h.state) v ∷ []
 access_tells (Fault (fault.Find begun)) h gfn word op v = if begun then [] else LookedAtSlots ∷ []
+access_tells (Fault (fault.FastFind begun)) h gfn word op v = if begun then [] else LookedAtSlots ∷ []
 access_tells (Fault fault.Host) h gfn word op v = LookedAtHost (page_of h.topics.search.slot gfn) ∷ []
 access_tells (Fault fault.Bring) h gfn word op v = if v == word_looked h.topics.host then BroughtIn (page_looked h.topics.host) ∷ [] else []
 access_tells (Fault (fault.End e)) h gfn word op v = exiting (fault_over e)

@@ -12,10 +12,10 @@ use Rattle.spte_words.specs.Areas.{words_of_bits}
 use Rattle.mmu_core.specs.lines.FaultLeft.{fault_left}
 pub use Rattle.mmu_core.specs.lines.SearchLeft.{look_left}
 
--- An access that finds no translation faults once, and then finds the leaf in another stay: what is left of it from each place on. A
+-- An access that finds no translation faults once, fast and then whole, and then finds the leaf in another stay: what is left of it from each place on. A
 -- walk goes through four tables at most.
 abbrev pub stay_left : Bool → Sizes → Topics → ℕ
-stay_left again z t = if again then 2 else 1 + (fault_left fault.Begin z t + 9)
+stay_left again z t = if again then 2 else 1 + (fault_left fault.FastBegin z t + 9)
 
 abbrev pub access_left : AccessPlace → Sizes → Topics → ℕ
 access_left (Enter again) z t = 7 + stay_left again z t
@@ -24,7 +24,7 @@ access_left (Root again) z t = 5 + stay_left again z t
 access_left (Walk again) z t = t.walk.level + stay_left again z t
 access_left Touch z t = 2
 access_left (Leave (leaving.Reached frame value)) z t = 1
-access_left (Leave leaving.Faults) z t = 1 + (fault_left fault.Begin z t + 9)
+access_left (Leave (leaving.Faults fast)) z t = 1 + (fault_left fault.FastBegin z t + 9)
 access_left (Fault p) z t = fault_left p z t + 9
 
 -- The most steps of a line with this command, alone. One that changes a slot or a host page makes as many whatever the pool and the frames, but for the words

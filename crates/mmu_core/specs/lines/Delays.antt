@@ -36,7 +36,7 @@ walks_again _ = false
 
 -- It leaves the guest for a fault.
 abbrev pub leaves_to_fault : Outcome → Bool
-leaves_to_fault (Goes (place.Access (Leave leaving.Faults))) = true
+leaves_to_fault (Goes (place.Access (Leave (leaving.Faults fast)))) = true
 leaves_to_fault _ = false
 
 -- The step is a delay of its line: the line waits, its fault begins anew, or the stay after an installed entry finds no translation that

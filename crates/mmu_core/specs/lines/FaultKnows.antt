@@ -1,80 +1,57 @@
 -- What a fault knows at each of its places, from what its actor holds alone.
-use Rattle.std.specs.Prelude.{◌≡◌, ◌≢◌, ◌-◌, ◌<◌, ◌≤◌, ◌⊎◌, ℕ, Bool, true, false, ◌&&◌, Some, None, is_some}
+use Rattle.std.specs.Prelude.{◌≡◌, ◌≢◌, ◌-◌, ◌<◌, ◌≤◌, ◌⊎◌, ℕ, Bool, true, false, ◌&&◌, ◌||◌, ◌==◌, not, Some, None, if◌then◌else◌}
 use Rattle.core_views.specs.declared.place.Cause.{Cause}
 use Rattle.core_views.specs.declared.place.Cause.TheVariants.{Open, Moved, Entry}
-use Rattle.core_views.specs.declared.place.CheckStage.{CheckStage}
-use Rattle.core_views.specs.declared.place.CheckStage.TheVariants as stage
 use Rattle.core_views.specs.declared.place.FaultEnd.{FaultEnd}
-use Rattle.core_views.specs.declared.place.FaultEnd.TheVariants.{Installed, Mmio, HostFault, Starved, Retry}
+use Rattle.core_views.specs.declared.place.FaultEnd.TheVariants.{Installed, Mmio, HostFault, Starved, NotFast, Retry}
 use Rattle.core_views.specs.declared.place.FaultNext.{FaultNext}
 use Rattle.core_views.specs.declared.place.FaultNext.TheVariants.{Goes, Ends}
 use Rattle.core_views.specs.declared.place.FaultPlace.{FaultPlace}
 use Rattle.core_views.specs.declared.place.FaultPlace.TheVariants.{Begin, Snapshot, Find, Host, Bring, Share, Check, Walk, Claim, Fill}
-use Rattle.core_views.specs.declared.place.FaultPlace.TheVariants.{Role, Link, Give, Leaf, Unshare, End}
+use Rattle.core_views.specs.declared.place.FaultPlace.TheVariants.{Role, Link, Give, Leaf, Unshare, End, FastBegin, FastFind, FastWalk, Fix, Mark}
 use Rattle.core_views.specs.declared.sizes.Sizes.{Sizes}
-use Rattle.core_views.specs.declared.topics.Checked.TheVariants as checked
 use Rattle.core_views.specs.declared.topics.Hold.TheVariants.{Loose, Shared}
-use Rattle.core_views.specs.declared.topics.Invalidations.{Invalidations}
 use Rattle.core_views.specs.declared.topics.Stay.TheVariants.{Section}
 use Rattle.core_views.specs.declared.topics.TableWalk.{TableWalk}
 use Rattle.core_views.specs.declared.topics.Topics.{Topics}
+use Rattle.spte_words.specs.declared.spte_kind.SpteKind.{SpteKind}
 use Rattle.spte_words.specs.declared.spte_kind.SpteKind.TheVariants as entry_kind
 use Rattle.spte_words.specs.Areas.{words_of_bits}
-use Rattle.spte_words.specs.Entries.{kind_of}
-use Rattle.spte_words.specs.HostWords.{host_allows_write, host_present}
+use Rattle.spte_words.specs.Entries.{can_write, host_writable, kind_of, mmu_writable}
+use Rattle.spte_words.specs.HostWords.{host_allows_write}
 pub use Rattle.mmu_core.specs.lines.ShareSteps.{is_trying}
-use Rattle.mmu_core.specs.lines.FaultSteps.{allows_access, entry_word, host_word_at}
+pub use Rattle.mmu_core.specs.lines.FaultHolds.{CheckKnows, Entering, HasEntry, InSection, LookedFor, SawAbsentEntry, Sharing, WithoutLock}
+use Rattle.mmu_core.specs.lines.FaultSteps.{entry_word, host_word_at}
 use Rattle.part_steps.specs.PartTasks.{is_absent, word_looked}
-use Rattle.part_steps.specs.PartHoldings.{FoundSlot, HasRoleToSet, HasToFill, HoldsSet, IsFresh, IsOver, LookedUp, OwnsPage, OwnsTable, SawEntry}
+use Rattle.part_steps.specs.PartHoldings.{FoundSlot, HasRoleToSet, HasToFill, HoldsSet, IsOver, LookedUp, MayFix, OwnsPage, OwnsTable, SawEntry}
+use Rattle.part_steps.specs.PartHoldings.{SawNoWrites}
 use Rattle.part_steps.specs.PartSteps.{IsAtRest}
 
--- In a section, with no page; without the lock, or sharing it.
-pub record InSection (t : Topics) : Type 0 where
-  pub section : t.stay ≡ Section
-  pub owns_none : t.owned ≡ None
-
-pub record WithoutLock (t : Topics) : Type 0 where
+-- In a section of a fast fault, without the lock, after the slot was found.
+pub record FastFound (gfn : ℕ) (t : Topics) : Type 0 where
   pub inside : InSection t
   pub loose : t.hold ≡ Loose
-  pub snapshot : is_some t.invalidations.snapshot ≡ true
+  pub found : FoundSlot gfn t
 
--- The look-up allows the access: neither the slot nor the host forbids the write, if it is one. The page is present, or isn't.
-pub record LookedFor (present : Bool) (gfn : ℕ) (write : Bool) (t : Topics) : Type 0 where
-  pub looked_up : LookedUp gfn t
-  pub presence : host_present (word_looked t.host) ≡ present
-  pub allowed : write ≡ true → (t.search.slot.read_only ≡ false) × (host_allows_write looked_up.word ≡ true)
-  pub snapshot : is_some t.invalidations.snapshot ≡ true
-
--- It shares the lock, and looked up.
-pub record Sharing (gfn : ℕ) (write : Bool) (t : Topics) : Type 0 where
+-- An entry that allows the access was put at the guest frame, whose slot has a dirty log: a mark is owed, under the shared lock or without it.
+pub record Marks (fast : Bool) (gfn : ℕ) (write : Bool) (t : Topics) : Type 0 where
   pub section : t.stay ≡ Section
-  pub shares : t.hold ≡ Shared
-  pub looked : LookedFor true gfn write t
+  pub owns_none : t.owned ≡ None
+  pub held : t.hold ≡ (if fast then Loose else Shared)
+  pub owes : t.owed ≡ Some gfn
+  pub found : FoundSlot gfn t
+  pub entry : HasEntry gfn write t
 
--- How far the check has come.
-abbrev pub CheckKnows : CheckStage → ℕ → Invalidations → Type 0
-CheckKnows stage.Count gfn n = Unit {0}
-CheckKnows stage.Start gfn n = (n.checked ≡ checked.Count) × (0 < n.count)
-CheckKnows stage.End gfn n = (n.checked ≡ checked.Start) × (0 < n.count)
-CheckKnows stage.Seq gfn n = ((n.checked ≡ checked.Count) × (n.count ≡ 0)) ⊎ ((n.checked ≡ checked.Range) × ((gfn < n.start) ⊎ (n.end ≤ gfn)))
+-- The entry is no leaf of the lowest level, or allows the write already; or slot or host may forbid this.
+abbrev pub forbids_more : SpteKind → ℕ → ℕ → Bool
+forbids_more entry_kind.Leaf level v = not (level == 1) || (can_write v || (not (host_writable v) || not (mmu_writable v)))
+forbids_more _ level v = true
 
--- The check is made: the fault may store entries.
-pub record Entering (gfn : ℕ) (write : Bool) (t : Topics) : Type 0 where
-  pub sharing : Sharing gfn write t
-  pub fresh : IsFresh gfn t.invalidations
-
--- The guest frame's entry in a table above the lowest level was loaded, and is absent.
-pub record SawAbsentEntry (gfn : ℕ) (t : Topics) : Type 0 where
-  pub saw : SawEntry gfn t.walk
-  pub upper : 2 ≤ t.walk.level
-  pub absent : kind_of t.walk.level t.walk.entry ≡ entry_kind.Absent
-
--- An entry of the lowest level that allows the access was seen, or put, at the guest frame.
-pub record HasEntry (gfn : ℕ) (write : Bool) (t : Topics) : Type 0 where
-  pub saw : SawEntry gfn t.walk
-  pub lowest : t.walk.level ≡ 1
-  pub leaf : kind_of 1 t.walk.entry ≡ entry_kind.Leaf
-  pub allows : allows_access write t.walk.entry ≡ true
+-- The search has come after the last slot; or the guest frame's entry, which is this word, is one in which a write can't be allowed.
+abbrev pub SawNotFast : ℕ → ℕ → Topics → Type 0
+SawNotFast word gfn t =
+    ((word ≡ 0) × (t.search.id ≡ 32))
+    ⊎ (SawEntry gfn t.walk × (t.walk.entry ≡ word) × (forbids_more (kind_of t.walk.level word) t.walk.level word ≡ true))
 
 -- The host word that was looked up forbids the write.
 pub record HostForbids (gfn : ℕ) (write : Bool) (t : Topics) : Type 0 where
@@ -114,6 +91,7 @@ FaultEndKnows Installed z gfn write t = HasEntry gfn write t
 FaultEndKnows Mmio z gfn write t = FoundNoPage gfn write t
 FaultEndKnows HostFault z gfn write t = HostForbids gfn write t
 FaultEndKnows Starved z gfn write t = words_of_bits z.pool ≤ t.claim.at
+FaultEndKnows (NotFast word) z gfn write t = SawNotFast word gfn t
 FaultEndKnows (Retry cause) z gfn write t = HasCause cause z gfn t
 
 -- A page is given back only where the fault is to begin anew.
@@ -135,10 +113,16 @@ FaultKnows (Claim begun) z gfn write t = Entering gfn write t × (t.owned ≡ No
 FaultKnows Fill z gfn write t = Entering gfn write t × SawAbsentEntry gfn t × HasToFill t × (is_absent t.owned ≡ true)
 FaultKnows Role z gfn write t = Entering gfn write t × SawAbsentEntry gfn t × HasRoleToSet t × (is_absent t.owned ≡ true)
 FaultKnows Link z gfn write t = Entering gfn write t × SawAbsentEntry gfn t × OwnsTable (t.walk.level - 1) t
-FaultKnows Leaf z gfn write t = Entering gfn write t × (t.owned ≡ None) × SawEntry gfn t.walk × (t.walk.level ≡ 1)
-FaultKnows (Give e) z gfn write t = (t.stay ≡ Section) × (t.hold ≡ Shared) × OwnsPage t × FaultEndKnows e z gfn write t × IsRetry e
+FaultKnows (Leaf writes) z gfn write t =
+    Entering gfn write t × (t.owned ≡ None) × SawEntry gfn t.walk × (t.walk.level ≡ 1) × (writes ≡ write) × SawNoWrites t.walk
+FaultKnows (Give e) z gfn write t = (t.stay ≡ Section) × (t.hold ≡ Shared) × OwnsPage t × (t.owed ≡ None) × FaultEndKnows e z gfn write t × IsRetry e
 FaultKnows (Unshare e) z gfn write t = InSection t × (t.hold ≡ Shared) × FaultEndKnows e z gfn write t
 FaultKnows (End e) z gfn write t = InSection t × (t.hold ≡ Loose) × FaultEndKnows e z gfn write t
+FaultKnows FastBegin z gfn write t = IsAtRest t
+FaultKnows (FastFind begun) z gfn write t = InSection t × (t.hold ≡ Loose) × (begun ≡ true → HoldsSet t × (t.search.id ≤ 31))
+FaultKnows (FastWalk rooted) z gfn write t = FastFound gfn t × (rooted ≡ true → IsOver gfn t.walk)
+FaultKnows Fix z gfn write t = FastFound gfn t × MayFix gfn t
+FaultKnows (Mark fast) z gfn write t = Marks fast gfn write t
 
 -- what it knows after a step: where it is over it holds nothing
 abbrev pub KnowsNext : FaultNext → Sizes → ℕ → Bool → Topics → Type 0

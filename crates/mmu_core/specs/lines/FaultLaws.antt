@@ -1,7 +1,7 @@
 -- The order of a fault's steps can be kept, and comes to an end.
 use Rattle.std.specs.Prelude.{◌≡◌, ◌+◌, ◌^◌, ◌<◌, ◌≤◌, ℕ, Bool, false}
 use Rattle.core_views.specs.declared.place.FaultPlace.{FaultPlace}
-use Rattle.core_views.specs.declared.place.FaultPlace.TheVariants.{Begin}
+use Rattle.core_views.specs.declared.place.FaultPlace.TheVariants.{FastBegin}
 use Rattle.core_views.specs.declared.sizes.Sizes.{Sizes}
 use Rattle.core_views.specs.declared.topics.Topics.{Topics}
 use Rattle.core_views.specs.Held.{Held}
@@ -57,6 +57,6 @@ FaultStepsFall =
     → next_left (fault_next p h.state.sizes gfn write h.topics v) h.state.sizes (part_topics (fault_part p gfn h.topics) h.topics v)
     < fault_left p h.state.sizes h.topics
 
--- A fault has at most so many steps.
+-- A fast fault and the whole one after it have at most so many steps.
 abbrev pub FaultIsBounded : Type 0
-FaultIsBounded = (z : Sizes) (t : Topics) → AreSizes z → fault_left Begin z t ≤ 8192 + z.pool
+FaultIsBounded = (z : Sizes) (t : Topics) → AreSizes z → fault_left FastBegin z t ≤ 8192 + z.pool

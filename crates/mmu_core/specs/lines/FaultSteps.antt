@@ -1,24 +1,24 @@
 -- The order of steps of a fault (tdp_mmu.c, kvm_tdp_mmu_map; locking.rst): in a section the snapshot, the slot of the guest frame and the
 -- host word of its page, which it brings in where it isn't present; then, sharing the lock, the check of the snapshot, and from the root down
--- each level's entry: a link leads down, an absent entry gets a table of its own, and at the lowest level the leaf.
-use Rattle.std.specs.Prelude.{◌+◌, ◌-◌, ℕ, Bool, true, false, ◌==◌, ◌&&◌, ◌||◌, nat_le, nat_lt, not, if◌then◌else◌, Option, Some, None}
-use Rattle.core_views.specs.declared.place.Cause.TheVariants.{Open, Moved, Entry}
-use Rattle.core_views.specs.declared.place.CheckStage.{CheckStage}
+-- each level's entry: a link leads down, an absent entry gets a table of its own, and at the lowest level the leaf. Where a leaf stands that forbids the
+-- write, a fast fault comes first (locking.rst, "Fast page fault"): in a section, without the lock, it finds the slot and the leaf, and allows the write in
+-- this very word. Who has allowed writes in a slot with a dirty log marks the page after it, in the same section.
+use Rattle.std.specs.Prelude.{◌+◌, ◌-◌, ℕ, Bool, true, false, ◌==◌, ◌&&◌, ◌||◌, nat_lt, not, if◌then◌else◌, Option}
+use Rattle.core_views.specs.declared.place.Cause.TheVariants.{Entry}
 use Rattle.core_views.specs.declared.place.CheckStage.TheVariants as stage
+use Rattle.core_views.specs.declared.place.FaultEnd.{FaultEnd}
 use Rattle.core_views.specs.declared.place.FaultEnd.TheVariants.{Installed, Mmio, HostFault, Starved, Retry}
 use Rattle.core_views.specs.declared.place.FaultNext.{FaultNext}
 use Rattle.core_views.specs.declared.place.FaultNext.TheVariants.{Goes, Ends}
 use Rattle.core_views.specs.declared.place.FaultPlace.{FaultPlace}
 use Rattle.core_views.specs.declared.place.FaultPlace.TheVariants.{Begin, Snapshot, Find, Host, Bring, Share, Check, Walk, Claim, Fill}
-use Rattle.core_views.specs.declared.place.FaultPlace.TheVariants.{Role, Link, Give, Leaf, Unshare, End}
+use Rattle.core_views.specs.declared.place.FaultPlace.TheVariants.{Role, Link, Give, Leaf, Unshare, End, FastBegin, FastFind, FastWalk, Fix, Mark}
 use Rattle.core_views.specs.declared.place.SlotField.{SlotField}
-use Rattle.core_views.specs.declared.place.SlotField.TheVariants as field
 use Rattle.core_views.specs.declared.sizes.Sizes.{Sizes}
 use Rattle.core_views.specs.declared.topics.HostLook.{HostLook}
 use Rattle.core_views.specs.declared.topics.SlotSearch.{SlotSearch}
 use Rattle.core_views.specs.declared.topics.TableWalk.{TableWalk}
 use Rattle.core_views.specs.declared.topics.Topics.{Topics}
-use Rattle.core_views.specs.Slots.{contains}
 use Rattle.spte_words.specs.declared.area.Area.TheVariants as area
 use Rattle.spte_words.specs.declared.spte_kind.SpteKind.{SpteKind}
 use Rattle.spte_words.specs.declared.spte_kind.SpteKind.TheVariants as entry_kind
@@ -35,15 +35,11 @@ use Rattle.mmu_core.specs.declared.share.ShareNext.TheVariants as shares
 use Rattle.part_steps.specs.SlotWords.{page_of}
 use Rattle.part_steps.specs.Tasks.{map_of}
 use Rattle.part_steps.specs.PageTopics.{searched}
+pub use Rattle.mmu_core.specs.lines.CheckSteps.{check_next, check_part, snapshot_taken}
+pub use Rattle.mmu_core.specs.lines.FastSteps.{fast_find_next, fast_walk_next, is_fast, is_last_word, put_next, search_next}
 pub use Rattle.mmu_core.specs.lines.ClaimSteps.{Pages, claim_left, claim_next, claim_part, map_word, tries_one}
 pub use Rattle.mmu_core.specs.lines.PartWaits.{is_owing}
 pub use Rattle.mmu_core.specs.lines.ShareSteps.{share_left, share_next, share_part}
-
-abbrev pub check_part : CheckStage → PartStep
-check_part stage.Count = part.Count
-check_part stage.Start = part.RangeStart
-check_part stage.End = part.RangeEnd
-check_part stage.Seq = part.Seq
 
 -- the step of each place; a table's page is filled with 512 absent entries, and its role is one level below the walk's table
 abbrev pub fault_part : FaultPlace → ℕ → Topics → PartStep
@@ -60,23 +56,20 @@ fault_part Fill gfn t = part.Fill 0
 fault_part Role gfn t = part.Role (t.walk.level - 1)
 fault_part Link gfn t = part.Link gfn
 fault_part (Give e) gfn t = part.Give
-fault_part Leaf gfn t = part.Leaf gfn
+fault_part (Leaf write) gfn t = part.Leaf gfn write
 fault_part (Unshare e) gfn t = part.Unshare
 fault_part (End e) gfn t = part.End
-
--- after a word of the slots: the slot with the guest frame is found, none has it, or the search goes on
-abbrev pub is_last_word : SlotField → Bool
-is_last_word field.Host = true
-is_last_word _ = false
+fault_part FastBegin gfn t = part.Begin
+fault_part (FastFind begun) gfn t = if begun then part.Slot else part.Slots
+fault_part (FastWalk rooted) gfn t = if rooted then part.Walk gfn else part.Root
+fault_part Fix gfn t = part.Fix gfn
+fault_part (Mark fast) gfn t = part.Mark
 
 abbrev pub found_next : Bool → SlotSearch → FaultPlace
 found_next write found = if write && found.slot.read_only then End Mmio else Host
 
 abbrev pub find_next : ℕ → Bool → SlotField → SlotSearch → FaultPlace
-find_next gfn write loaded found =
-    if is_last_word loaded && contains gfn found.slot then found_next write found else
-    if found.id == 32 then End Mmio else
-    Find true
+find_next gfn write loaded found = search_next (found_next write found) (End Mmio) (Find true) gfn loaded found
 
 -- after the host word of the page: the host forbids the write, the page is there, or is to be brought in
 abbrev pub page_next : Bool → ℕ → FaultPlace
@@ -91,19 +84,6 @@ abbrev pub after_share : ShareNext → FaultPlace
 after_share shares.Tries = Share
 after_share shares.Shares = Check stage.Count
 
--- the snapshot that was taken
-abbrev pub snapshot_taken : Option ℕ → ℕ
-snapshot_taken None = 0
-snapshot_taken (Some n) = n
-
-abbrev pub check_next : CheckStage → ℕ → Topics → ℕ → FaultPlace
-check_next stage.Count gfn t v = if v == 0 then Check stage.Seq else Check stage.Start
-check_next stage.Start gfn t v = Check stage.End
-check_next stage.End gfn t v =
-    if nat_le t.invalidations.start gfn && nat_lt gfn v then Unshare (Retry (Open t.invalidations.count t.invalidations.start v gfn)) else Check stage.Seq
-check_next stage.Seq gfn t v =
-    if v == snapshot_taken t.invalidations.snapshot then Walk false else Unshare (Retry (Moved (snapshot_taken t.invalidations.snapshot) v))
-
 -- where the guest frame's entry of the walk's table stands among all words
 abbrev pub entry_word : Sizes → ℕ → TableWalk → ℕ
 entry_word z gfn walk = place (map_of z) area.Pool (pool_index (table_page walk) (entry_index gfn walk.level))
@@ -116,9 +96,13 @@ allows_access write w = not write || can_write w
 abbrev pub walk_next : SpteKind → Sizes → ℕ → Bool → TableWalk → ℕ → FaultPlace
 walk_next (entry_kind.Table page) z gfn write walk v = Walk true
 walk_next entry_kind.Leaf z gfn write walk v =
-    if walk.level == 1 then (if allows_access write v then Unshare Installed else Leaf) else Unshare (Retry (Entry (entry_word z gfn walk) v v))
-walk_next entry_kind.Absent z gfn write walk v = if walk.level == 1 then Leaf else Claim false
+    if walk.level == 1 then (if allows_access write v then Unshare Installed else Leaf write) else Unshare (Retry (Entry (entry_word z gfn walk) v v))
+walk_next entry_kind.Absent z gfn write walk v = if walk.level == 1 then Leaf write else Claim false
 walk_next entry_kind.Frozen z gfn write walk v = Unshare (Retry (Entry (entry_word z gfn walk) v v))
+
+-- after its exchange that is lost, which found v
+abbrev pub exchange_lost : Sizes → ℕ → TableWalk → ℕ → FaultEnd
+exchange_lost z gfn walk v = Retry (Entry (entry_word z gfn walk) walk.entry v)
 
 -- after a step of its claim: the page is to be filled, or no page is free
 abbrev pub after_claim : ClaimNext → FaultPlace
@@ -139,8 +123,14 @@ fault_next (Walk rooted) z gfn write t v = Goes (if rooted then walk_next (kind_
 fault_next (Claim begun) z gfn write t v = Goes (after_claim (claim_next Pages begun z t.claim v))
 fault_next Fill z gfn write t v = Goes (if nat_lt (words_filled t.owned + 1) 512 then Fill else Role)
 fault_next Role z gfn write t v = Goes Link
-fault_next Link z gfn write t v = Goes (if v == t.walk.entry then Walk true else Give (Retry (Entry (entry_word z gfn t.walk) t.walk.entry v)))
+fault_next Link z gfn write t v = Goes (if v == t.walk.entry then Walk true else Give (exchange_lost z gfn t.walk v))
 fault_next (Give e) z gfn write t v = Goes (Unshare e)
-fault_next Leaf z gfn write t v = Goes (if v == t.walk.entry then Unshare Installed else Unshare (Retry (Entry (entry_word z gfn t.walk) t.walk.entry v)))
+fault_next (Leaf writes) z gfn write t v =
+    Goes (if v == t.walk.entry then put_next false (writes && t.search.logged) else Unshare (exchange_lost z gfn t.walk v))
 fault_next (Unshare e) z gfn write t v = Goes (End e)
 fault_next (End e) z gfn write t v = Ends e
+fault_next FastBegin z gfn write t v = Goes (FastFind false)
+fault_next (FastFind begun) z gfn write t v = Goes (if begun then fast_find_next gfn t.search.next (searched t.search v) else FastFind true)
+fault_next (FastWalk rooted) z gfn write t v = Goes (if rooted then fast_walk_next (kind_of t.walk.level v) t.walk v else FastWalk true)
+fault_next Fix z gfn write t v = Goes (if v == t.walk.entry then put_next true t.search.logged else End (exchange_lost z gfn t.walk v))
+fault_next (Mark fast) z gfn write t v = Goes (put_next fast false)

@@ -47,7 +47,7 @@ use Rattle.mmu_core.specs.machine.Enabled.{mmu}
 use Rattle.mmu_core.specs.machine.Machine.{World, hand_in}
 use Rattle.mmu_core.specs.machine.Steps.{task_at}
 use Rattle.mmu_core.specs.machine.View.{answer_in, word_in, words_after}
-use Rattle.mmu_core.proofs.lines.FaultKnown.{above_lowest}
+use Rattle.mmu_core.proofs.lines.WalkKnown.{above_lowest}
 use Rattle.mmu_core.proofs.machine.GoesOn.{GoesToSimple}
 use Rattle.mmu_core.proofs.machine.PartStepping.{behind_part}
 use Rattle.mmu_laws.proofs.alone.FaultAlone.{goes_through}
@@ -101,6 +101,7 @@ module _ (gfn word : ℕ) (op : Op) (words : Area → ℕ → ℕ) where
   fault_form (next_of.Ends end_of.Mmio) t alone = tt
   fault_form (next_of.Ends end_of.HostFault) t alone = tt
   fault_form (next_of.Ends end_of.Starved) t alone = tt
+  fault_form (next_of.Ends (end_of.NotFast seen)) t alone = tt
   fault_form (next_of.Ends (end_of.Retry cause)) t alone = absurd alone
 
 -- ---- in a sound world
@@ -153,5 +154,6 @@ module _ (z : Sizes) (w : World Held) (a : ℕ) (sound : IsSound z w) (others : 
       fault_form gfn word op (words_after (access_task (Fault p) h gfn word op) words) (fault_next p h.state.sizes gfn (is_write op) h.topics v)
       (part_topics (fault_part p gfn h.topics) h.topics v) G.next
   access_form (Leave (leaving.Reached frame value)) gfn word op small rests closed K L = tt
-  access_form (Leave leaving.Faults) gfn word op small rests closed K L = tt
+  access_form (Leave (leaving.Faults true)) gfn word op small rests closed K L = tt
+  access_form (Leave (leaving.Faults false)) gfn word op small rests closed K L = tt
   access_form Touch gfn word op small rests closed K L = tt

@@ -5,10 +5,9 @@ use Rattle.core_views.specs.declared.place.Cause.TheVariants.{Entry, Moved}
 use Rattle.core_views.specs.declared.place.CheckStage.TheVariants as stage
 use Rattle.core_views.specs.declared.place.FaultEnd.TheVariants.{Retry}
 use Rattle.core_views.specs.declared.place.FaultPlace.{FaultPlace}
-use Rattle.core_views.specs.declared.place.FaultPlace.TheVariants.{Begin, Snapshot, Find, Host, Bring, Share, Check, Walk, Claim, Fill, Role, Link}
-use Rattle.core_views.specs.declared.place.FaultPlace.TheVariants.{Give, Leaf, Unshare, End}
+use Rattle.core_views.specs.declared.place.FaultPlace.TheVariants.{Begin, Snapshot, Find, Host, Bring, Share, Check, Walk, Claim, Fill, Role, Link, Give, Leaf}
+use Rattle.core_views.specs.declared.place.FaultPlace.TheVariants.{Unshare, End, FastBegin, FastFind, FastWalk, Fix, Mark}
 use Rattle.core_views.specs.declared.sizes.Sizes.{Sizes}
-use Rattle.core_views.specs.declared.topics.HostLook.{HostLook}
 use Rattle.core_views.specs.declared.topics.Topics.{Topics}
 use Rattle.core_views.specs.Held.{Held}
 use Rattle.spte_words.specs.declared.area.Area.{Area}
@@ -16,25 +15,25 @@ use Rattle.spte_words.specs.declared.area.Area.TheVariants as area
 use Rattle.spte_words.specs.declared.spte_kind.SpteKind.TheVariants as entry_kind
 use Rattle.spte_words.specs.Areas.{pool_index}
 use Rattle.spte_words.specs.Entries.{kind_of, level_span}
-use Rattle.spte_words.specs.HostWords.{host_allows_write, host_frame, host_present}
-use Rattle.spte_words.proofs.ReadsEntries.{kind_of_absent, kind_of_leaf, kind_of_table}
+use Rattle.spte_words.specs.HostWords.{host_allows_write, host_present}
+use Rattle.spte_words.proofs.ReadsEntries.{kind_of_absent, kind_of_table}
 use Rattle.part_steps.specs.declared.task.Task.{Task}
 use Rattle.part_steps.specs.declared.part_step.PartStep.{PartStep}
 use Rattle.part_steps.specs.declared.part_step.PartStep.TheVariants as part
 use Rattle.mmu_core.specs.machine.Enabled.{mmu}
-use Rattle.mmu_core.specs.declared.claim.ClaimNext.{ClaimNext}
 use Rattle.mmu_core.specs.alone.FaultAlone.{AloneNext, EntryStands, GoesThrough, LeadsTo, LeadsToLeaf, FaultRunsAlone}
-use Rattle.mmu_core.specs.lines.FaultKnows.{Entering, FaultKnows}
+use Rattle.mmu_core.specs.lines.FaultKnows.{FaultKnows}
 use Rattle.mmu_core.specs.declared.claim.FreeMap.TheVariants.{Pages}
 use Rattle.mmu_core.specs.lines.ClaimSteps.{claim_next, claim_part}
-use Rattle.mmu_core.specs.lines.FaultSteps.{allows_access, entry_word, fault_next, fault_part, host_word_at, share_next, share_part, snapshot_taken}
+use Rattle.mmu_core.specs.lines.FaultSteps.{allows_access, fault_next, fault_part, host_word_at, share_next, share_part, snapshot_taken, exchange_lost}
+use Rattle.mmu_core.specs.lines.FaultSteps.{is_last_word}
 use Rattle.mmu_core.specs.machine.Machine.{World, hand_in}
-use Rattle.part_steps.specs.PartTasks.{entry_index, leaf_written, page_looked, page_owned, part_task, table_page, word_looked, words_filled}
-use Rattle.part_steps.specs.PartHoldings.{IsOver, LookedUp, SawEntry, HasToFill}
+use Rattle.part_steps.specs.PartTasks.{entry_index, leaf_written, page_looked, page_owned, part_task, table_page, word_looked, words_filled, leaf_fixed}
+use Rattle.part_steps.specs.PartHoldings.{IsOver, HasToFill}
 use Rattle.part_steps.specs.PartTopics.{part_topics}
-use Rattle.part_steps.specs.SlotWords.{leaf_of, may_write, page_of}
+use Rattle.part_steps.specs.SlotWords.{page_of}
 use Rattle.part_steps.specs.StayTopics.{may_search}
-use Rattle.mmu_core.specs.invariant.TreePart.{EntryPart, IsLeafAt, TreePart, at, stands}
+use Rattle.mmu_core.specs.invariant.TreePart.{EntryPart, TreePart, at, stands}
 use Rattle.mmu_core.proofs.pages.TreePlaces.{all_reached, link_stands}
 use Rattle.mmu_core.specs.machine.View.{answer_in, upd, view, word_in, words_after}
 use Rattle.mmu_core.proofs.invariant.AloneLaws.{lock_free}
@@ -46,30 +45,23 @@ use Rattle.mmu_core.specs.lines.ScanPlaces.{BegunNext, HasBegun, OfPages}
 use Rattle.part_steps.specs.PartSteps.{PartNeeds}
 use Rattle.mmu_laws.proofs.alone.OthersOpen.{none_alone}
 use Rattle.mmu_laws.proofs.alone.PartAlone.{part_goes_alone, seen_on}
-use Rattle.mmu_core.proofs.lines.ClaimMade.{ClaimMade, claim_made}
-use Rattle.mmu_core.proofs.lines.ClaimMade as made
+use Rattle.mmu_core.proofs.lines.ClaimMade.{claim_made}
 use Rattle.mmu_core.proofs.machine.Columns.{upd_same}
-use Rattle.mmu_core.proofs.lines.FaultKnown.{allowed_leaf}
+use Rattle.mmu_core.proofs.lines.LeafKnown.{IsPut, fix_put, leaf_put}
 use Rattle.mmu_laws.proofs.alone.FindAlone.{find_goes}
 use Rattle.mmu_laws.proofs.alone.HostAlone.{host_forbids}
 use Rattle.mmu_laws.proofs.leaves.LeadsDown.{leads_same}
 use Rattle.mmu_core.proofs.pages.Owned.{owned_some}
 use Rattle.mmu_core.proofs.words.PartWords.{fill_leaves, walks_unowned}
 use Rattle.mmu_core.proofs.lines.ShareMade.{share_comes, share_made}
-use Rattle.mmu_core.proofs.pages.TreeKept.{leaf_is}
 use Rattle.mmu_core.proofs.pages.TreeStored.{entry_stored}
 use Rattle.core_views.specs.declared.topics.Stay.{Stay}
-use Rattle.mmu_laws.proofs.alone.FaultComes.{bring_alone, host_alone, share_alone, count_alone, seq_alone, installed, walk_alone, claim_alone}
-use Rattle.mmu_laws.proofs.alone.FaultComes.{fill_alone, keeps_pages, link_alone, leaf_alone, is_it, tries_pages, trying_loose}
-
--- A step of the claim leaves the entry.
-entry_still : (z : Sizes) (gfn : ℕ) (begun : Bool) (t : Topics) (v : ℕ) (words : Area → ℕ → ℕ) (a note : ℕ) (step : PartStep) (next : ClaimNext) (u : Topics)
-    → ClaimMade z Pages begun t v step next u
-    → EntryStands (words area.Pool) gfn t → EntryStands (words_after (part_task step a t note) words area.Pool) gfn u
-entry_still z gfn begun t v words a note _ _ _ (made.Won tries b some is) stands = stands
-entry_still z gfn begun t v words a note _ _ _ _ stands = stands
-
--- ---- in a sound world
+use Rattle.mmu_laws.proofs.alone.FaultComes.{bring_alone, host_alone, share_alone, count_alone, seq_alone, installed, walk_alone, claim_alone, fill_alone}
+use Rattle.mmu_laws.proofs.alone.FaultComes.{keeps_pages, link_alone, leaf_alone, is_it, tries_pages, trying_loose, fast_find_alone, fast_walk_alone, put_alone}
+use Rattle.mmu_laws.proofs.alone.FaultComes.{entry_still}
+use Rattle.core_views.specs.declared.topics.SlotSearch.{SlotSearch}
+use Rattle.core_views.specs.Slots.{contains}
+use Rattle.part_steps.specs.PageTopics.{searched}
 
 module _ (z : Sizes) (w : World Held) (a gfn note : ℕ) (write : Bool) (p : FaultPlace) (R : FaultRunsAlone z w a p gfn write) where
   abbrev t : Topics
@@ -127,39 +119,31 @@ module _ (z : Sizes) (w : World Held) (a gfn note : ℕ) (write : Bool) (p : Fau
       fill_leaves (page_owned t.owned) (words_filled t.owned) value (words area.Pool) page index F.1 (omega arith)
       (λ e d. walks_unowned z (view z w) a R.there R.sound.topics from a o.0 R.there o.1 (sym (ap page_owned o.1) ∙ e))
 
-  -- after the leaf's exchange
-  abbrev leafed : ℕ → ℕ
-  leafed = words_after (part_task (part.Leaf gfn) a t note) words area.Pool
+  -- after an exchange of the entry for a leaf
+  abbrev leafed : ℕ → ℕ → ℕ
+  leafed new_ = upd (words area.Pool) (pool_index page index) (if words area.Pool (pool_index page index) == t.walk.entry then new_
+      else words area.Pool (pool_index page index))
 
-  module _ (E : Entering gfn write t) (saw : SawEntry gfn t.walk) (low : t.walk.level ≡ 1) (stands : EntryStands (words area.Pool) gfn t) where
-    stored : leafed ≡ upd (words area.Pool) (pool_index page index) (leaf_written t)
+  module _ (new_ : ℕ) (over : IsOver gfn t.walk) (low : t.walk.level ≡ 1) (leaf : kind_of 1 new_ ≡ entry_kind.Leaf) (allows : allows_access write new_ ≡ true)
+      (stands : EntryStands (words area.Pool) gfn t) where
+    stored : leafed new_ ≡ upd (words area.Pool) (pool_index page index) new_
     stored =
-        ap (λ (b : Bool). upd (words area.Pool) (pool_index page index) (if b then leaf_written t else words area.Pool (pool_index page index)))
+        ap (λ (b : Bool). upd (words area.Pool) (pool_index page index) (if b then new_ else words area.Pool (pool_index page index)))
         (is_it (words area.Pool (pool_index page index)) t.walk.entry stands)
 
-    is_leaf : IsLeafAt (at t.walk.level t.walk.prefix) (leaf_written t)
-    is_leaf = record { lowest = low; leaf = leaf_is t low }
-
-    tree_leafed : TreePart z.pool (words area.Root 0) (words area.Role) leafed R.sound.topics.up R.sound.topics.spot
+    tree_leafed : TreePart z.pool (words area.Root 0) (words area.Role) (leafed new_) R.sound.topics.up R.sound.topics.spot
     tree_leafed =
         subst (λ (pool : ℕ → ℕ). TreePart z.pool (words area.Root 0) (words area.Role) pool R.sound.topics.up R.sound.topics.spot) (sym stored)
-        (entry_stored R.sound.topics.tree page (at t.walk.level t.walk.prefix) index (leaf_written t)
-        ((R.sound.topics.held a R.there).table saw.over.there) (omega arith)
-        (record { entry = inr (inr is_leaf); no_link = inl low }))
+        (entry_stored R.sound.topics.tree page (at t.walk.level t.walk.prefix) index new_
+        ((R.sound.topics.held a R.there).table over.there) (omega arith)
+        (record { entry = inr (inr (record { lowest = low; leaf = ap (λ l. kind_of l new_) low ∙ leaf })); no_link = inl low }))
 
-    leaf_leads : LeadsToLeaf leafed 4 (words area.Root 0) gfn write
+    leaf_leads : LeadsToLeaf (leafed new_) 4 (words area.Root 0) gfn write
     leaf_leads =
-        installed (words area.Root 0) (words area.Slots 0) leafed (words area.Host) gfn write page t.walk.level (leaf_written t) low
-        (leads_same tree_leafed few gfn (leaf_written t) 1 page (all_reached R.sound.topics.tree page _ (lowest_over saw.over low))
-        (lowest_over saw.over low)).above
-        (ap (λ (pool : ℕ → ℕ). pool (pool_index page index)) stored ∙ upd_same (words area.Pool) (pool_index page index) (leaf_written t))
-        (kind_of_leaf 1 (host_frame (word_looked t.host)) (may_write t.search.slot (word_looked t.host)) (host_allows_write (word_looked t.host))
-        (may_write t.search.slot (word_looked t.host)) (omega arith) (omega arith))
-        (ap (λ (x : Option HostLook). allows_access write (leaf_of t.search.slot (word_looked x))) L.host
-        ∙ allowed_leaf write t.search.slot L.word E.sharing.looked.allowed)
-      where
-        L : LookedUp gfn t
-        L = E.sharing.looked.looked_up
+        installed (words area.Root 0) (words area.Slots 0) (leafed new_) (words area.Host) gfn write page t.walk.level new_ low
+        (leads_same tree_leafed few gfn new_ 1 page (all_reached R.sound.topics.tree page _ (lowest_over over low))
+        (lowest_over over low)).above
+        (ap (λ (pool : ℕ → ℕ). pool (pool_index page index)) stored ∙ upd_same (words area.Pool) (pool_index page index) new_) leaf allows
 
 -- ---- each place
 
@@ -247,16 +231,44 @@ next_alone z w a gfn note write Link R =
     let v : ℕ = word_in z w area.Pool (pool_index (table_page t.walk) (entry_index gfn t.walk.level)) in
     let after : Area → ℕ → ℕ = words_after (part_task (part.Link gfn) a t note) (word_in z w) in
     link_alone (after area.Root 0) (after area.Slots 0) (after area.Pool) (after area.Host) gfn write (v == t.walk.entry)
-    (Give (Retry (Entry (entry_word z gfn t.walk) t.walk.entry v))) (part_topics (part.Link gfn) t v)
+    (Give (exchange_lost z gfn t.walk v)) (part_topics (part.Link gfn) t v)
     (is_it v t.walk.entry R.alone)
 next_alone z w a gfn note write (Give e) R = absurd R.alone
-next_alone z w a gfn note write Leaf R =
+next_alone z w a gfn note write (Leaf writes) R =
     let t : Topics = (hand_in mmu w a).topics in
     let v : ℕ = word_in z w area.Pool (pool_index (table_page t.walk) (entry_index gfn t.walk.level)) in
-    let after : Area → ℕ → ℕ = words_after (part_task (part.Leaf gfn) a t note) (word_in z w) in
-    leaf_alone (after area.Root 0) (after area.Slots 0) (after area.Pool) (after area.Host) gfn write (v == t.walk.entry)
-    (Unshare (Retry (Entry (entry_word z gfn t.walk) t.walk.entry v))) (part_topics (part.Leaf gfn) t v)
-    (is_it v t.walk.entry R.alone) (leaf_leads z w a gfn note write Leaf R R.knows.0 R.knows.2 R.knows.3 R.alone)
+    let after : Area → ℕ → ℕ = words_after (part_task (part.Leaf gfn writes) a t note) (word_in z w) in
+    let P : IsPut gfn write t (leaf_written writes t) =
+    subst (λ (b : Bool). IsPut gfn write t (leaf_written b t)) (sym R.knows.4) (leaf_put gfn write t R.knows.0 R.knows.2 R.knows.3) in
+    leaf_alone (after area.Root 0) (after area.Slots 0) (after area.Pool) (after area.Host) gfn write (v == t.walk.entry) false
+    (writes && t.search.logged) (Unshare (exchange_lost z gfn t.walk v)) (part_topics (part.Leaf gfn writes) t v) (is_it v t.walk.entry R.alone)
+    (leaf_leads z w a gfn note write (Leaf writes) R (leaf_written writes t) P.over P.low P.leaf P.allows R.alone)
+next_alone z w a gfn note write Fix R =
+    let t : Topics = (hand_in mmu w a).topics in
+    let v : ℕ = word_in z w area.Pool (pool_index (table_page t.walk) (entry_index gfn t.walk.level)) in
+    let after : Area → ℕ → ℕ = words_after (part_task (part.Fix gfn) a t note) (word_in z w) in
+    let P : IsPut gfn write t (leaf_fixed t) = fix_put gfn write t R.knows.1 in
+    leaf_alone (after area.Root 0) (after area.Slots 0) (after area.Pool) (after area.Host) gfn write (v == t.walk.entry) true t.search.logged
+    (End (exchange_lost z gfn t.walk v)) (part_topics (part.Fix gfn) t v) (is_it v t.walk.entry R.alone)
+    (leaf_leads z w a gfn note write Fix R (leaf_fixed t) P.over P.low P.leaf P.allows R.alone)
+next_alone z w a gfn note write (Mark fast) R =
+    let t : Topics = (hand_in mmu w a).topics in
+    put_alone (word_in z w area.Root 0) (word_in z w area.Slots 0) (word_in z w area.Pool) (word_in z w area.Host) gfn write fast false
+    (record t { owed = None }) R.alone
+next_alone z w a gfn note write FastBegin R = tt
+next_alone z w a gfn note write (FastFind true) R =
+    let t : Topics = (hand_in mmu w a).topics in
+    let v : ℕ = answer_in (part_task part.Slot a t note) (word_in z w) in
+    let s : SlotSearch = searched t.search v in
+    fast_find_alone (word_in z w area.Root 0) (word_in z w area.Slots 0) (word_in z w area.Pool) (word_in z w area.Host) gfn write
+    (is_last_word t.search.next && contains gfn s.slot) (s.id == 32) (part_topics part.Slot t v)
+next_alone z w a gfn note write (FastFind false) R = tt
+next_alone z w a gfn note write (FastWalk true) R =
+    let t : Topics = (hand_in mmu w a).topics in
+    let v : ℕ = word_in z w area.Pool (pool_index (table_page t.walk) (entry_index gfn t.walk.level)) in
+    fast_walk_alone (word_in z w area.Root 0) (word_in z w area.Slots 0) (word_in z w area.Pool) (word_in z w area.Host) gfn write
+    (kind_of t.walk.level v) t v refl
+next_alone z w a gfn note write (FastWalk false) R = tt
 next_alone z w a gfn note write _ R = R.alone
 
 pub goes_through : (z : Sizes) (w : World Held) (a gfn note : ℕ) (write : Bool) (p : FaultPlace) → FaultRunsAlone z w a p gfn write

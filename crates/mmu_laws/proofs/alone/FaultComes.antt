@@ -1,11 +1,11 @@
 -- What each place of a fault comes to that runs while all other actors rest, by what it finds there.
 use Rattle.std.proofs.Common.{◌≡◌, ◌≢◌, ℕ, refl, sym, subst, ap, arith}
-use Rattle.std.specs.Prelude.{Bool, true, false, ◌==◌, if◌then◌else◌, Option, Some, None, is_some}
+use Rattle.std.specs.Prelude.{Bool, true, false, ◌==◌, if◌then◌else◌, Option, Some, None, is_some, ◌&&◌}
 use Rattle.std.proofs.lemmas.Bool.Decides.{nat_tests}
 use Rattle.core_views.specs.declared.place.CheckStage.TheVariants as stage
-use Rattle.core_views.specs.declared.place.FaultEnd.TheVariants.{Installed, HostFault}
+use Rattle.core_views.specs.declared.place.FaultEnd.TheVariants.{Installed, HostFault, NotFast}
 use Rattle.core_views.specs.declared.place.FaultPlace.{FaultPlace}
-use Rattle.core_views.specs.declared.place.FaultPlace.TheVariants.{Bring, Share, Check, Walk, Claim, Fill, Role, Leaf, Unshare, End}
+use Rattle.core_views.specs.declared.place.FaultPlace.TheVariants.{Bring, Share, Check, Walk, Claim, Fill, Role, Leaf, Unshare, End, FastFind, FastWalk, Fix}
 use Rattle.core_views.specs.declared.sizes.Sizes.{Sizes}
 use Rattle.core_views.specs.declared.topics.Hold.{Hold}
 use Rattle.core_views.specs.declared.topics.Hold.TheVariants.{Loose, Owing}
@@ -24,12 +24,20 @@ use Rattle.mmu_core.specs.declared.claim.FreeMap.TheVariants.{Frames, Pages}
 use Rattle.mmu_core.specs.lines.ClaimSteps.{try_part}
 use Rattle.mmu_core.specs.lines.FaultKnows.{FaultKnows}
 use Rattle.mmu_core.specs.lines.FaultSteps.{allows_access, fault_next, fault_part, is_owing, snapshot_taken, walk_next, after_claim, after_share}
+use Rattle.mmu_core.specs.lines.FaultSteps.{fast_walk_next, put_next}
 use Rattle.mmu_core.specs.lines.ScanPlaces.{BegunNext, HasBegun, OfPages}
 use Rattle.mmu_core.specs.lines.ShareSteps.{is_trying}
-use Rattle.part_steps.specs.PartTasks.{entry_index, page_looked, table_page, word_looked}
+use Rattle.part_steps.specs.PartTasks.{entry_index, page_looked, table_page, word_looked, part_task}
 use Rattle.part_steps.specs.WalkTopics.{gone_down, linked_page}
 use Rattle.mmu_core.specs.invariant.TreePart.{stands}
 use Rattle.mmu_core.proofs.lines.FaultScans.{KeepsScan, fault_keeps, fault_maps_not, fault_tries, maps, page_maps_not}
+use Rattle.part_steps.specs.PartHoldings.{is_fixable}
+use Rattle.spte_words.specs.declared.area.Area.{Area}
+use Rattle.mmu_core.proofs.lines.ClaimMade.{ClaimMade}
+use Rattle.mmu_core.specs.machine.View.{words_after}
+use Rattle.part_steps.specs.declared.part_step.PartStep.{PartStep}
+use Rattle.mmu_core.proofs.lines.ClaimMade as made
+use Rattle.spte_words.specs.declared.area.Area.TheVariants as area
 
 -- ---- tests
 
@@ -99,7 +107,7 @@ module _ (root set : ℕ) (pool host : ℕ → ℕ) (gfn : ℕ) (write : Bool) w
       → allows_access write v ≡ allows → kind_of t.walk.level v ≡ entry_kind.Leaf → pool (pool_index (table_page t.walk) (entry_index gfn t.walk.level)) ≡ v
       → (t.walk.level ≡ 1 → LeadsTo pool 1 (table_page t.walk) gfn v → LeadsTo pool 4 root gfn v)
       → (kind_of t.walk.level v ≡ entry_kind.Leaf → t.walk.level ≡ 1)
-      → FaultAlone (if lowest then (if allows then Unshare Installed else Leaf) else end_) root set pool host gfn write
+      → FaultAlone (if lowest then (if allows then Unshare Installed else Leaf write) else end_) root set pool host gfn write
       (record t { walk = gone_down None t.walk (entry_index gfn t.walk.level) v })
   walk_leaf true true z t v end_ low may leaf is above only =
       let one : t.walk.level ≡ 1 = grind (arith, nat_tests) in
@@ -108,7 +116,7 @@ module _ (root set : ℕ) (pool host : ℕ → ℕ) (gfn : ℕ) (write : Bool) w
   walk_leaf false allows z t v end_ low may leaf is above only = let one = only leaf in absurd (grind (arith, nat_tests))
 
   pub walk_none : (lowest : Bool) (t : Topics) (v : ℕ) → pool (pool_index (table_page t.walk) (entry_index gfn t.walk.level)) ≡ v
-      → FaultAlone (if lowest then Leaf else Claim false) root set pool host gfn write
+      → FaultAlone (if lowest then Leaf write else Claim false) root set pool host gfn write
       (record t { walk = gone_down None t.walk (entry_index gfn t.walk.level) v })
   walk_none true t v is = is
   walk_none false t v is = is
@@ -141,7 +149,39 @@ module _ (root set : ℕ) (pool host : ℕ → ℕ) (gfn : ℕ) (write : Bool) w
   link_alone true end_ u is = tt
   link_alone false end_ u is = absurd (cc is)
 
-  pub leaf_alone : (won : Bool) (end_ : FaultPlace) (u : Topics) → won ≡ true → LeadsToLeaf pool 4 root gfn write
-      → FaultAlone (if won then Unshare Installed else end_) root set pool host gfn write u
-  leaf_alone true end_ u is leads = leads
-  leaf_alone false end_ u is leads = absurd (cc is)
+  pub put_alone : (fast marks : Bool) (u : Topics) → LeadsToLeaf pool 4 root gfn write → FaultAlone (put_next fast marks) root set pool host gfn write u
+  put_alone fast true u leads = leads
+  put_alone true false u leads = leads
+  put_alone false false u leads = leads
+
+  pub leaf_alone : (won fast marks : Bool) (end_ : FaultPlace) (u : Topics) → won ≡ true → LeadsToLeaf pool 4 root gfn write
+      → FaultAlone (if won then put_next fast marks else end_) root set pool host gfn write u
+  leaf_alone true fast marks end_ u is leads = put_alone fast marks u leads
+  leaf_alone false fast marks end_ u is leads = absurd (cc is)
+
+  -- ---- a fast fault
+
+  fast_leaf : (b : Bool) (t : Topics) (v : ℕ) → EntryStands pool gfn t → FaultAlone (if b then Fix else End (NotFast v)) root set pool host gfn write t
+  fast_leaf true t v stands = stands
+  fast_leaf false t v stands = tt
+
+  pub fast_walk_alone : (k : SpteKind) (t : Topics) (v : ℕ) → pool (pool_index (table_page t.walk) (entry_index gfn t.walk.level)) ≡ v
+      → FaultAlone (fast_walk_next k t.walk v) root set pool host gfn write
+      (record t { walk = gone_down (linked_page k) t.walk (entry_index gfn t.walk.level) v })
+  fast_walk_alone (entry_kind.Table page) t v here = tt
+  fast_walk_alone entry_kind.Leaf t v here = fast_leaf ((t.walk.level == 1) && is_fixable v) _ v here
+  fast_walk_alone entry_kind.Absent t v here = tt
+  fast_walk_alone entry_kind.Frozen t v here = tt
+
+  pub fast_find_alone : (found none : Bool) (t : Topics)
+      → FaultAlone (if found then FastWalk false else if none then End (NotFast 0) else FastFind true) root set pool host gfn write t
+  fast_find_alone true none t = tt
+  fast_find_alone false true t = tt
+  fast_find_alone false false t = tt
+
+-- A step of the claim leaves the entry.
+pub entry_still : (z : Sizes) (gfn : ℕ) (begun : Bool) (t : Topics) (v : ℕ) (words : Area → ℕ → ℕ) (a note : ℕ) (step : PartStep) (next : ClaimNext) (u : Topics)
+    → ClaimMade z Pages begun t v step next u
+    → EntryStands (words area.Pool) gfn t → EntryStands (words_after (part_task step a t note) words area.Pool) gfn u
+entry_still z gfn begun t v words a note _ _ _ (made.Won tries b some is) stands = stands
+entry_still z gfn begun t v words a note _ _ _ _ stands = stands

@@ -96,12 +96,14 @@ end_no_move end_of.Installed = tt
 end_no_move end_of.Mmio = (tt, tt)
 end_no_move end_of.HostFault = (tt, tt)
 end_no_move end_of.Starved = (tt, tt)
+end_no_move (end_of.NotFast seen) = tt
 end_no_move (end_of.Retry cause) = tt
 
 access_no_move : (p : AccessPlace) (h : Held) (gfn word : ℕ) (op : Op) (v : ℕ) → AreNoMoves (access_tells p h gfn word op v)
 access_no_move (access.Pause again) h gfn word op v = (tt, tt)
 access_no_move access.Touch h gfn word op v = (tt, tt)
 access_no_move (access.Fault (fault.Find begun)) h gfn word op v = either_place AreNoMoves begun [] (LookedAtSlots ∷ []) tt (tt, tt)
+access_no_move (access.Fault (fault.FastFind begun)) h gfn word op v = either_place AreNoMoves begun [] (LookedAtSlots ∷ []) tt (tt, tt)
 access_no_move (access.Fault fault.Host) h gfn word op v = (tt, tt)
 access_no_move (access.Fault fault.Bring) h gfn word op v =
     either_place AreNoMoves (v == word_looked h.topics.host) (BroughtIn (page_looked h.topics.host) ∷ []) [] (tt, tt) tt

@@ -7,20 +7,17 @@ use Rattle.core_views.specs.declared.kind.Kind.{Kind}
 use Rattle.core_views.specs.declared.place.Cause.TheVariants.{Open, Moved, Entry}
 use Rattle.core_views.specs.declared.place.CheckStage.{CheckStage}
 use Rattle.core_views.specs.declared.place.CheckStage.TheVariants as stage
-use Rattle.core_views.specs.declared.place.FaultEnd.TheVariants.{Installed, Mmio, HostFault, Retry}
+use Rattle.core_views.specs.declared.place.FaultEnd.TheVariants.{Installed, HostFault, Retry, NotFast}
 use Rattle.core_views.specs.declared.place.FaultPlace.{FaultPlace}
 use Rattle.core_views.specs.declared.place.FaultPlace.TheVariants.{Snapshot, Find, Host, Bring, Share, Check, Walk, Claim, Fill, Role, Link, Give, Leaf}
-use Rattle.core_views.specs.declared.place.FaultPlace.TheVariants.{Unshare, End}
-use Rattle.core_views.specs.declared.place.SlotField.{SlotField}
+use Rattle.core_views.specs.declared.place.FaultPlace.TheVariants.{Unshare, End, FastFind, FastWalk, Fix, Mark}
 use Rattle.core_views.specs.declared.sizes.Sizes.{Sizes}
 use Rattle.core_views.specs.declared.topics.Hold.{Hold}
 use Rattle.core_views.specs.declared.topics.Hold.TheVariants.{Loose, Owing}
-use Rattle.core_views.specs.declared.topics.SlotSearch.{SlotSearch}
 use Rattle.core_views.specs.declared.topics.Topics.{Topics}
 use Rattle.core_views.specs.Held.{Held}
 use Rattle.core_views.specs.Kinds.{after}
 use Rattle.core_views.specs.Sizes.{actors_of}
-use Rattle.core_views.specs.Slots.{contains}
 use Rattle.spte_words.specs.declared.area.Area.{Area}
 use Rattle.spte_words.specs.declared.area.Area.TheVariants as area
 use Rattle.spte_words.specs.declared.spte_kind.SpteKind.{SpteKind}
@@ -35,12 +32,9 @@ use Rattle.mmu_laws.specs.causes.Causes.{Finds, HasMade, SawChange, StaysInSecti
 use Rattle.mmu_core.specs.machine.Enabled.{mmu}
 use Rattle.mmu_core.specs.declared.claim.ClaimNext.{ClaimNext}
 use Rattle.mmu_core.specs.declared.claim.ClaimNext.TheVariants as claims
-use Rattle.mmu_core.specs.declared.share.ShareNext.{ShareNext}
-use Rattle.mmu_core.specs.declared.share.ShareNext.TheVariants as shares
 use Rattle.mmu_core.specs.lines.FaultKnows.{CheckKnows, FaultKnows, is_trying}
-use Rattle.mmu_core.specs.lines.FaultSteps.{after_claim, after_share, allows_access, check_next, check_part, entry_word, fault_next, host_word_at}
-use Rattle.mmu_core.specs.lines.FaultSteps.{fault_part, find_next, found_next, is_last_word, share_next, share_part, snapshot_taken}
-use Rattle.mmu_core.specs.lines.FaultSteps.{walk_next}
+use Rattle.mmu_core.specs.lines.FaultSteps.{after_claim, after_share, allows_access, check_next, check_part, entry_word, fault_next, host_word_at, fault_part}
+use Rattle.mmu_core.specs.lines.FaultSteps.{share_next, share_part, snapshot_taken, walk_next, exchange_lost, fast_walk_next, put_next}
 use Rattle.mmu_core.specs.declared.claim.FreeMap.TheVariants.{Pages}
 use Rattle.mmu_core.specs.lines.ClaimSteps.{claim_next, map_word, tries_one}
 use Rattle.mmu_core.specs.invariant.Laws.{IsSound}
@@ -53,7 +47,7 @@ use Rattle.part_steps.specs.Tasks.{map_of}
 use Rattle.part_steps.specs.StayTopics.{is_loose}
 use Rattle.part_steps.specs.WalkTopics.{gone_down, linked_page}
 use Rattle.part_steps.specs.PageTopics.{searched}
-use Rattle.mmu_laws.proofs.causes.CausePlaces.{CauseSaw, FaultSaw, KnowsEntry, KnowsHostWord, end_longer}
+use Rattle.mmu_laws.proofs.causes.CausePlaces.{FaultSaw, KnowsEntry, KnowsHostWord, end_longer, EndSaw, either_saw, find_saw, fast_find_saw, put_saw, tried_saw}
 use Rattle.mmu_laws.proofs.causes.CauseSteps.{IsAmid, IsExchange, IsLoad, Spares, spared}
 use Rattle.mmu_laws.proofs.causes.Changes.{Knows, knows_longer, knows_now, made_longer, made_now, saw_now, was_changed}
 use Rattle.mmu_core.proofs.lines.ClaimMade.{claim_made, claim_walk}
@@ -61,6 +55,8 @@ use Rattle.mmu_laws.proofs.causes.EachFault.{NextIs}
 use Rattle.mmu_core.proofs.lines.FaultSame.{over_it}
 use Rattle.mmu_laws.proofs.causes.MadeSteps.{Makes, exchange_finds, in_machine, load_finds, load_keeps, own_rests, own_sizes, stays_in, word_on}
 use Rattle.mmu_laws.proofs.causes.EntryLoaded.{fill_spares, kinds, low}
+use Rattle.core_views.specs.declared.place.FaultEnd.{FaultEnd}
+use Rattle.part_steps.specs.PartHoldings.{is_fixable}
 
 module _ (z : Sizes) (w : World Held) (ss : List (Step Kind)) (s : Step Kind) (G : IsSound z (run mmu w ss)) (may : May mmu (run mmu w ss) s) where
   abbrev a : ℕ
@@ -125,8 +121,7 @@ module _ (z : Sizes) (w : World Held) (ss : List (Step Kind)) (s : Step Kind) (G
 
   either : (b : Bool) (p q : FaultPlace) (gfn : ℕ) (t_ : Topics) → FaultSaw z a w p gfn t_ more behind → FaultSaw z a w q gfn t_ more behind
       → FaultSaw z a w (if b then p else q) gfn t_ more behind
-  either true p q gfn t_ one other = one
-  either false p q gfn t_ one other = other
+  either b p q gfn t_ one other = either_saw z a w more behind gfn t_ b p q one other
 
   snapshot_saw : (gfn : ℕ) (hold : Hold) → hold ≡ Loose → Made part.Seq → FaultSaw z a w (Find false) gfn (sequenced (is_loose hold) t v) more behind
   snapshot_saw gfn Loose loose M = loads_now part.Seq (place_of (map_of z) area.Seq 0) tt M (word_on z u s G may part.Seq M)
@@ -134,20 +129,10 @@ module _ (z : Sizes) (w : World Held) (ss : List (Step Kind)) (s : Step Kind) (G
 
   -- ---- the search, the lock and the check
 
-  find_saw : (gfn : ℕ) (write : Bool) (f : SlotField) (so_far : SlotSearch) (t_ : Topics) → SeqIs (snapshot_taken t_.invalidations.snapshot) more behind
-      → FaultSaw z a w (find_next gfn write f so_far) gfn t_ more behind
-  find_saw gfn write f so_far t_ K =
-      either (is_last_word f && contains gfn so_far.slot) (found_next write so_far) (if so_far.id == 32 then End Mmio else Find true) gfn t_
-      (either (write && so_far.slot.read_only) (End Mmio) Host gfn t_ tt K) (either (so_far.id == 32) (End Mmio) (Find true) gfn t_ tt K)
-
-  tried_saw : (next : ShareNext) (gfn : ℕ) (t_ : Topics) → SeqIs (snapshot_taken t_.invalidations.snapshot) more behind
-      → FaultSaw z a w (after_share next) gfn t_ more behind
-  tried_saw shares.Tries gfn t_ K = K
-  tried_saw shares.Shares gfn t_ K = (K, tt)
-
   share_saw : (hold : Hold) (gfn : ℕ) → is_trying hold ≡ true → Made (share_part hold) → SeqIs (snapshot_taken t.invalidations.snapshot) ss u
       → FaultSaw z a w (after_share (share_next hold v)) gfn (part_topics (share_part hold) t v) more behind
-  share_saw Loose gfn try_ M K = tried_saw (share_next Loose v) gfn (part_topics part.Share t v) (seq_longer _ part.Share M tt (inr (λ e. absurd (cc e))) K)
+  share_saw Loose gfn try_ M K =
+      tried_saw z a w more behind gfn (part_topics part.Share t v) (share_next Loose v) (seq_longer _ part.Share M tt (inr (λ e. absurd (cc e))) K)
   share_saw (Owing word) gfn try_ M K = seq_longer _ part.Unshare M tt (inr (λ e. absurd (cc e))) K
   share_saw _ gfn try_ M K = absurd (cc try_)
 
@@ -214,16 +199,18 @@ module _ (z : Sizes) (w : World Held) (ss : List (Step Kind)) (s : Step Kind) (G
   gone gfn k = record t { walk = gone_down (linked_page k) t.walk (entry_index gfn t.walk.level) v }
 
   leaf_saw : (gfn : ℕ) (write : Bool) (b : Bool) → (t.walk.level == 1) ≡ b → kind_of t.walk.level v ≡ entry_kind.Leaf → Made (part.Walk gfn)
-      → FaultSaw z a w (if b then (if allows_access write v then Unshare Installed else Leaf) else Unshare (Retry (Entry (entry_word z gfn t.walk) v v))) gfn
+      → FaultSaw z a w
+      (if b then (if allows_access write v then Unshare Installed else Leaf write) else Unshare (Retry (Entry (entry_word z gfn t.walk) v v))) gfn
       (gone gfn entry_kind.Leaf) more behind
-  leaf_saw gfn write true is leaf M = either (allows_access write v) (Unshare Installed) Leaf gfn (gone gfn entry_kind.Leaf) tt (entry_now gfn M)
+  leaf_saw gfn write true is leaf M = either (allows_access write v) (Unshare Installed) (Leaf write) gfn (gone gfn entry_kind.Leaf) tt (entry_now gfn M)
   leaf_saw gfn write false is leaf M = let one = (kinds z u s G may gfn M).0 leaf in absurd (grind (arith, nat_tests))
 
   walk_saw : (gfn : ℕ) (write : Bool) (k : SpteKind) → kind_of t.walk.level v ≡ k → Made (part.Walk gfn)
       → FaultSaw z a w (walk_next k z gfn write t.walk v) gfn (gone gfn k) more behind
   walk_saw gfn write (entry_kind.Table page) is M = tt
   walk_saw gfn write entry_kind.Leaf is M = leaf_saw gfn write (t.walk.level == 1) refl is M
-  walk_saw gfn write entry_kind.Absent is M = either (t.walk.level == 1) Leaf (Claim false) gfn (gone gfn entry_kind.Absent) (entry_now gfn M) (entry_now gfn M)
+  walk_saw gfn write entry_kind.Absent is M =
+      either (t.walk.level == 1) (Leaf write) (Claim false) gfn (gone gfn entry_kind.Absent) (entry_now gfn M) (entry_now gfn M)
   walk_saw gfn write entry_kind.Frozen is M = absurd ((kinds z u s G may gfn M).1 is)
 
   claim_longer : (gfn : ℕ) (tries : Bool) (word : ℕ) → Made (if tries then part.Claim else part.Map word) → 1 ≤ t.walk.level → EntryIs gfn t.walk.entry ss u
@@ -236,21 +223,22 @@ module _ (z : Sizes) (w : World Held) (ss : List (Step Kind)) (s : Step Kind) (G
   claim_saw gfn claims.Empty t_ walk K = tt
   claim_saw gfn _ t_ walk K = subst (λ x. KnowsEntry z a w gfn x more behind) (sym walk) K
 
-  -- A lost exchange saw that the entry was changed.
-  swap_saw : (gfn : ℕ) (step : PartStep) (M : Made step) → IsAmid step → IsExchange step → s.kind.word ≡ entry_word z gfn t.walk → EntryIs gfn t.walk.entry ss u
-      → (v == t.walk.entry) ≡ false → CauseSaw (Entry (entry_word z gfn t.walk) t.walk.entry v) z a gfn w more
-  swap_saw gfn step M is ex here K lost =
-      saw step (entry_word z gfn t.walk) t.walk.entry M is here (exchange_finds z u s G may step M ex) K (eqb-false v t.walk.entry lost)
+  -- An exchange that is lost saw that the entry was changed.
+  exchange_saw : (has : FaultPlace) (gives : FaultEnd → FaultPlace) (gfn : ℕ) (b : Bool) (step : PartStep) (t_ : Topics) (M : Made step) → IsAmid step
+      → IsExchange step → s.kind.word ≡ entry_word z gfn t.walk → EntryIs gfn t.walk.entry ss u → (v == t.walk.entry) ≡ b
+      → FaultSaw z a w has gfn t_ more behind → ((e : FaultEnd) → EndSaw z a w e gfn more → FaultSaw z a w (gives e) gfn t_ more behind)
+      → FaultSaw z a w (if b then has else gives (exchange_lost z gfn t.walk v)) gfn t_ more behind
+  exchange_saw has gives gfn true step t_ M is ex here K won so lost = so
+  exchange_saw has gives gfn false step t_ M is ex here K won so lost =
+      lost (exchange_lost z gfn t.walk v) (saw step (entry_word z gfn t.walk) t.walk.entry M is here (exchange_finds z u s G may step M ex) K
+      (eqb-false v t.walk.entry won))
 
-  link_saw : (gfn : ℕ) (b : Bool) (t_ : Topics) → (v == t.walk.entry) ≡ b → Made (part.Link gfn) → EntryIs gfn t.walk.entry ss u
-      → FaultSaw z a w (if b then Walk true else Give (Retry (Entry (entry_word z gfn t.walk) t.walk.entry v))) gfn t_ more behind
-  link_saw gfn true t_ is M K = tt
-  link_saw gfn false t_ is M K = swap_saw gfn (part.Link gfn) M tt tt (word_on z u s G may (part.Link gfn) M) K is
-
-  put_saw : (gfn : ℕ) (b : Bool) (t_ : Topics) → (v == t.walk.entry) ≡ b → Made (part.Leaf gfn) → EntryIs gfn t.walk.entry ss u
-      → FaultSaw z a w (if b then Unshare Installed else Unshare (Retry (Entry (entry_word z gfn t.walk) t.walk.entry v))) gfn t_ more behind
-  put_saw gfn true t_ is M K = tt
-  put_saw gfn false t_ is M K = swap_saw gfn (part.Leaf gfn) M tt tt (word_on z u s G may (part.Leaf gfn) M) K is
+  fast_saw : (gfn : ℕ) (k : SpteKind) → Made (part.Walk gfn) → FaultSaw z a w (fast_walk_next k t.walk v) gfn (gone gfn k) more behind
+  fast_saw gfn (entry_kind.Table page) M = tt
+  fast_saw gfn entry_kind.Leaf M =
+      either ((t.walk.level == 1) && is_fixable v) Fix (End (NotFast v)) gfn (gone gfn entry_kind.Leaf) (entry_now gfn M) tt
+  fast_saw gfn entry_kind.Absent M = tt
+  fast_saw gfn entry_kind.Frozen M = tt
 
   -- ---- the host word
 
@@ -272,7 +260,7 @@ module _ (z : Sizes) (w : World Held) (ss : List (Step Kind)) (s : Step Kind) (G
       → NextIs (λ actor. FaultSaw z actor w) a (fault_next p z gfn write t v) gfn (part_topics (fault_part p gfn t) t v) more behind
   own_saw Snapshot gfn write M K S = snapshot_saw gfn t.hold K.1 M
   own_saw (Find true) gfn write M K S =
-      find_saw gfn write t.search.next (searched t.search v) (part_topics part.Slot t v) (seq_longer _ part.Slot M tt (inl tt) S)
+      find_saw z a w more behind gfn (part_topics part.Slot t v) write t.search.next (searched t.search v) (seq_longer _ part.Slot M tt (inl tt) S)
   own_saw (Find false) gfn write M K S = seq_longer _ part.Slots M tt (inl tt) S
   own_saw Host gfn write M K S =
       let K_ = seq_longer _ (fault_part Host gfn t) M tt (inl tt) S in
@@ -293,8 +281,19 @@ module _ (z : Sizes) (w : World Held) (ss : List (Step Kind)) (s : Step Kind) (G
       let K_ = entry_longer gfn (fault_part Fill gfn t) M from tt (fill_spares z u s G may gfn 0 M.note K.2 from) S in
       either (nat_lt (words_filled t.owned + 1) 512) Fill Role gfn _ K_ K_
   own_saw Role gfn write M K S = let up = K.1.upper in entry_longer gfn (fault_part Role gfn t) M (omega (arith, up)) tt (inr (λ e. absurd (cc e))) S
-  own_saw Link gfn write M K S = link_saw gfn (v == t.walk.entry) _ refl M S
+  own_saw Link gfn write M K S =
+      exchange_saw (Walk true) Give gfn (v == t.walk.entry) (part.Link gfn) _ M tt tt (word_on z u s G may (part.Link gfn) M) S refl tt (λ e E. E)
   own_saw (Give e) gfn write M K S = end_longer z a w ss s (stays_in z u s G may part.Give M tt) e gfn S
-  own_saw Leaf gfn write M K S = put_saw gfn (v == t.walk.entry) _ refl M S
+  own_saw (Leaf writes) gfn write M K S =
+      exchange_saw (put_next false (writes && t.search.logged)) Unshare gfn (v == t.walk.entry) (part.Leaf gfn writes) _ M tt tt
+      (word_on z u s G may (part.Leaf gfn writes) M) S refl (put_saw z a w more behind gfn _ false (writes && t.search.logged)) (λ e E. E)
+  own_saw Fix gfn write M K S =
+      exchange_saw (put_next true t.search.logged) End gfn (v == t.walk.entry) (part.Fix gfn) _ M tt tt (word_on z u s G may (part.Fix gfn) M) S refl
+      (put_saw z a w more behind gfn _ true t.search.logged) (λ e E. E)
+  own_saw (Mark fast) gfn write M K S = put_saw z a w more behind gfn _ fast false
+  own_saw (FastFind true) gfn write M K S = fast_find_saw z a w more behind gfn _ t.search.next (searched t.search v)
+  own_saw (FastFind false) gfn write M K S = tt
+  own_saw (FastWalk true) gfn write M K S = fast_saw gfn (kind_of t.walk.level v) M
+  own_saw (FastWalk false) gfn write M K S = tt
   own_saw (Unshare e) gfn write M K S = end_longer z a w ss s (stays_in z u s G may part.Unshare M tt) e gfn S
   own_saw _ gfn write M K S = tt

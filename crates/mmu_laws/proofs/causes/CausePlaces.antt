@@ -6,10 +6,10 @@ use Rattle.core_views.specs.declared.place.Cause.TheVariants.{Open, Moved, Entry
 use Rattle.core_views.specs.declared.place.CheckStage.{CheckStage}
 use Rattle.core_views.specs.declared.place.CheckStage.TheVariants as stage
 use Rattle.core_views.specs.declared.place.FaultEnd.{FaultEnd}
-use Rattle.core_views.specs.declared.place.FaultEnd.TheVariants.{Retry}
+use Rattle.core_views.specs.declared.place.FaultEnd.TheVariants.{Retry, Mmio, NotFast}
 use Rattle.core_views.specs.declared.place.FaultPlace.{FaultPlace}
-use Rattle.core_views.specs.declared.place.FaultPlace.TheVariants.{Begin, Snapshot, Find, Host, Bring, Share, Check, Walk, Claim, Fill}
-use Rattle.core_views.specs.declared.place.FaultPlace.TheVariants.{Role, Link, Give, Leaf, Unshare, End}
+use Rattle.core_views.specs.declared.place.FaultPlace.TheVariants.{Begin, Snapshot, Find, Host, Bring, Share, Check, Walk, Claim, Fill, Role, Link, Give, Leaf}
+use Rattle.core_views.specs.declared.place.FaultPlace.TheVariants.{Unshare, End, FastBegin, FastFind, FastWalk, Fix, Mark}
 use Rattle.core_views.specs.declared.sizes.Sizes.{Sizes}
 use Rattle.core_views.specs.declared.topics.HostLook.{HostLook}
 use Rattle.core_views.specs.declared.topics.Invalidations.{Invalidations}
@@ -21,11 +21,18 @@ use Rattle.spte_words.specs.declared.area.Area.TheVariants as area
 use Rattle.spte_words.specs.Areas.{place as place_of}
 use Rattle.mmu_laws.specs.causes.Causes.{Finds, HasMade, SawChange, SawOpen, StaysInSection}
 use Rattle.mmu_core.specs.machine.Enabled.{mmu}
-use Rattle.mmu_core.specs.lines.FaultSteps.{entry_word, host_word_at, snapshot_taken}
+use Rattle.mmu_core.specs.lines.FaultSteps.{entry_word, host_word_at, snapshot_taken, after_share, find_next, found_next, is_last_word, put_next}
+use Rattle.mmu_core.specs.lines.FaultSteps.{fast_find_next}
 use Rattle.mmu_core.specs.machine.Machine.{May, Step, World, effect, run}
 use Rattle.part_steps.specs.PartTasks.{word_looked}
 use Rattle.part_steps.specs.Tasks.{map_of}
 use Rattle.mmu_laws.proofs.causes.Changes.{Knows, made_longer, knows_longer, saw_longer}
+use Rattle.std.specs.Prelude.{Bool, true, false, ◌&&◌, ◌==◌, if◌then◌else◌}
+use Rattle.core_views.specs.declared.place.SlotField.{SlotField}
+use Rattle.core_views.specs.declared.topics.SlotSearch.{SlotSearch}
+use Rattle.core_views.specs.Slots.{contains}
+use Rattle.mmu_core.specs.declared.share.ShareNext.{ShareNext}
+use Rattle.mmu_core.specs.declared.share.ShareNext.TheVariants as shares
 
 -- what a fault has seen that begins anew, by its cause
 abbrev pub CauseSaw : Cause → Sizes → ℕ → ℕ → World Held → List (Step Kind) → Type 0
@@ -52,7 +59,7 @@ module _ (z : Sizes) (actor : ℕ) (w : World Held) where
   CheckSaw stage.End n ss = FoundWord area.Count n.count ss × FoundWord area.RangeStart n.start ss
   CheckSaw _ n ss = Unit {0}
 
-  abbrev EndSaw : FaultEnd → ℕ → List (Step Kind) → Type 0
+  abbrev pub EndSaw : FaultEnd → ℕ → List (Step Kind) → Type 0
   EndSaw (Retry cause) gfn ss = CauseSaw cause z actor gfn w ss
   EndSaw _ gfn ss = Unit {0}
 
@@ -66,7 +73,8 @@ module _ (z : Sizes) (actor : ℕ) (w : World Held) where
   FaultSaw Fill gfn t ss u = KnowsEntry gfn t.walk ss u
   FaultSaw Role gfn t ss u = KnowsEntry gfn t.walk ss u
   FaultSaw Link gfn t ss u = KnowsEntry gfn t.walk ss u
-  FaultSaw Leaf gfn t ss u = KnowsEntry gfn t.walk ss u
+  FaultSaw (Leaf writes) gfn t ss u = KnowsEntry gfn t.walk ss u
+  FaultSaw Fix gfn t ss u = KnowsEntry gfn t.walk ss u
   FaultSaw (Give e) gfn t ss u = EndSaw e gfn ss
   FaultSaw (Unshare e) gfn t ss u = EndSaw e gfn ss
   FaultSaw (End e) gfn t ss u = EndSaw e gfn ss
@@ -120,7 +128,39 @@ module _ (z : Sizes) (actor : ℕ) (w : World Held) where
       by Bring K = (longer _ _ K.0, longer _ _ K.1)
       by (Check at) K = (longer _ _ K.0, check_longer ss s so at t.invalidations K.1)
       by (Walk rooted) K = tt
+      by FastBegin K = tt
+      by (FastFind begun) K = tt
+      by (FastWalk rooted) K = tt
+      by (Mark fast) K = tt
       by (Give e) K = end_longer ss s so e gfn K
       by (Unshare e) K = end_longer ss s so e gfn K
       by (End e) K = end_longer ss s so e gfn K
       by _ K = longer _ _ K
+
+-- ---- the next places
+
+module _ (z : Sizes) (a : ℕ) (w : World Held) (ss : List (Step Kind)) (u : World Held) (gfn : ℕ) (t : Topics) where
+  pub either_saw : (b : Bool) (p q : FaultPlace) → FaultSaw z a w p gfn t ss u → FaultSaw z a w q gfn t ss u
+      → FaultSaw z a w (if b then p else q) gfn t ss u
+  either_saw true p q one other = one
+  either_saw false p q one other = other
+
+  pub find_saw : (write : Bool) (f : SlotField) (so_far : SlotSearch) → KnowsSeq z a w t.invalidations ss u
+      → FaultSaw z a w (find_next gfn write f so_far) gfn t ss u
+  find_saw write f so_far K =
+      either_saw (is_last_word f && contains gfn so_far.slot) (found_next write so_far) (if so_far.id == 32 then End Mmio else Find true)
+      (either_saw (write && so_far.slot.read_only) (End Mmio) Host tt K) (either_saw (so_far.id == 32) (End Mmio) (Find true) tt K)
+
+  pub fast_find_saw : (f : SlotField) (so_far : SlotSearch) → FaultSaw z a w (fast_find_next gfn f so_far) gfn t ss u
+  fast_find_saw f so_far =
+      either_saw (is_last_word f && contains gfn so_far.slot) (FastWalk false) (if so_far.id == 32 then End (NotFast 0) else FastFind true) tt
+      (either_saw (so_far.id == 32) (End (NotFast 0)) (FastFind true) tt tt)
+
+  pub put_saw : (fast marks : Bool) → FaultSaw z a w (put_next fast marks) gfn t ss u
+  put_saw fast true = tt
+  put_saw true false = tt
+  put_saw false false = tt
+
+  pub tried_saw : (next : ShareNext) → KnowsSeq z a w t.invalidations ss u → FaultSaw z a w (after_share next) gfn t ss u
+  tried_saw shares.Tries K = K
+  tried_saw shares.Shares K = (K, tt)

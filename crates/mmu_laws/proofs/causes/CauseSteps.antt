@@ -82,7 +82,8 @@ IsExchange part.Claim = Unit {0}
 IsExchange part.Frame = Unit {0}
 IsExchange part.Bring = Unit {0}
 IsExchange (part.Link gfn) = Unit {0}
-IsExchange (part.Leaf gfn) = Unit {0}
+IsExchange (part.Leaf gfn write) = Unit {0}
+IsExchange (part.Fix gfn) = Unit {0}
 IsExchange _ = ⊥
 
 pub exchange_answers : (step : PartStep) (h : Held) (note n : ℕ) → IsExchange step → answer (part_kind h step note) n ≡ n
@@ -93,7 +94,8 @@ exchange_answers part.Claim h note n is = refl
 exchange_answers part.Frame h note n is = refl
 exchange_answers part.Bring h note n is = refl
 exchange_answers (part.Link gfn) h note n is = refl
-exchange_answers (part.Leaf gfn) h note n is = refl
+exchange_answers (part.Leaf gfn write) h note n is = refl
+exchange_answers (part.Fix gfn) h note n is = refl
 exchange_answers _ h note n is = absurd is
 
 -- The step leaves word i of the area: it is a load, or on another word.

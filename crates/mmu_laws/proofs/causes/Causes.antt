@@ -25,7 +25,7 @@ use Rattle.mmu_core.proofs.machine.Worlds.{good_run}
 
 causes_seen : (z : Sizes) (w : World Held) → AreSeen z w (λ actor. FaultSaw z actor w)
 causes_seen z w = record {
-  begins = λ actor gfn t ss u. tt;
+  begins = λ actor gfn t ss u. (tt, tt);
   own = λ ss s G may p gfn write M K S. own_saw z w ss s G may p gfn write M K S;
   others = λ actor p gfn t ss s may other S. others_saw z actor w p gfn t ss s may other S;
 }

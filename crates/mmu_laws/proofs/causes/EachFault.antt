@@ -1,15 +1,15 @@
 -- What a fault has seen at its place, whoever made which steps: what is so of its first place, after its own step, and after those of others.
 use Rattle.std.proofs.Common.{◌≡◌, ◌≢◌, ℕ, List, [], ◌∷◌, ◌++◌, refl, sym, subst}
-use Rattle.std.specs.Prelude.{Bool, true, Option, Some, None}
+use Rattle.std.specs.Prelude.{Bool, true, Option, Some, None, false}
 use Rattle.core_views.specs.declared.cache.Translation.{Translation}
 use Rattle.core_views.specs.declared.kind.Kind.{Kind}
 use Rattle.core_views.specs.declared.place.AccessPlace.{AccessPlace}
 use Rattle.core_views.specs.declared.place.AccessPlace.TheVariants as access
-use Rattle.core_views.specs.declared.place.FaultEnd.TheVariants.{Installed, Mmio, HostFault, Starved, Retry}
+use Rattle.core_views.specs.declared.place.FaultEnd.TheVariants.{Installed, Mmio, HostFault, Starved, Retry, NotFast}
 use Rattle.core_views.specs.declared.place.FaultNext.{FaultNext}
 use Rattle.core_views.specs.declared.place.FaultNext.TheVariants as next_of
 use Rattle.core_views.specs.declared.place.FaultPlace.{FaultPlace}
-use Rattle.core_views.specs.declared.place.FaultPlace.TheVariants.{Begin}
+use Rattle.core_views.specs.declared.place.FaultPlace.TheVariants.{Begin, FastBegin}
 use Rattle.core_views.specs.declared.place.Leaving.TheVariants as leaving
 use Rattle.core_views.specs.declared.place.Place.{Place}
 use Rattle.core_views.specs.declared.place.Place.TheVariants as place
@@ -50,7 +50,7 @@ NextIs Saw actor (next_of.Ends e) gfn t ss u = Unit {0}
 
 -- A fault that begins has seen it; after each own step it has seen it; and no other actor's step takes it away.
 pub record AreSeen (z : Sizes) (w : World Held) (Saw : Sights) : Type 0 where
-  pub begins : (actor gfn : ℕ) (t : Topics) (ss : List (Step Kind)) (u : World Held) → Saw actor Begin gfn t ss u
+  pub begins : (actor gfn : ℕ) (t : Topics) (ss : List (Step Kind)) (u : World Held) → Saw actor Begin gfn t ss u × Saw actor FastBegin gfn t ss u
   pub own : (ss : List (Step Kind)) (s : Step Kind) → IsSound z (run mmu w ss) → May mmu (run mmu w ss) s → (p : FaultPlace) (gfn : ℕ) (write : Bool)
       → Makes (hand_in mmu (run mmu w ss) s.actor) s (fault_part p gfn (hand_in mmu (run mmu w ss) s.actor).topics)
       → FaultKnows p z gfn write (hand_in mmu (run mmu w ss) s.actor).topics
@@ -101,6 +101,7 @@ module _ (z : Sizes) (w : World Held) (Saw : Sights) (A : AreSeen z w Saw) (ss :
   over_saw (next_of.Ends Mmio) gfn word op t S = tt
   over_saw (next_of.Ends HostFault) gfn word op t S = tt
   over_saw (next_of.Ends Starved) gfn word op t S = tt
+  over_saw (next_of.Ends (NotFast seen)) gfn word op t S = (A.begins s.actor gfn t (ss ++ s ∷ []) (effect mmu u s)).0
   over_saw (next_of.Ends (Retry cause)) gfn word op t S = tt
 
   fault_saw : (p : FaultPlace) (gfn word : ℕ) (op : Op) → IsStepAt h s (place.Access (access.Fault p)) (Access gfn word op) → Saw s.actor p gfn h.topics ss u
@@ -134,7 +135,8 @@ module _ (z : Sizes) (w : World Held) (Saw : Sights) (A : AreSeen z w Saw) (ss :
   access_saw (access.Pause again) gfn word op K S = pause_saw again (first_usable gfn (is_write op) h.cached.items) gfn word op behind
   access_saw (access.Walk again) gfn word op K S = stay_saw again (kind_of h.topics.walk.level v) (allows_access (is_write op) v) gfn word op behind
   access_saw (access.Leave (leaving.Reached frame value)) gfn word op K S = tt
-  access_saw (access.Leave leaving.Faults) gfn word op K S = A.begins s.actor gfn behind (ss ++ s ∷ []) (effect mmu u s)
+  access_saw (access.Leave (leaving.Faults true)) gfn word op K S = (A.begins s.actor gfn behind (ss ++ s ∷ []) (effect mmu u s)).1
+  access_saw (access.Leave (leaving.Faults false)) gfn word op K S = (A.begins s.actor gfn behind (ss ++ s ∷ []) (effect mmu u s)).0
   access_saw (access.Fault p) gfn word op K S = fault_saw p gfn word op K S
   access_saw _ gfn word op K S = tt
 

@@ -75,7 +75,7 @@ pause_under pool gfn op t u again None runs = runs
 pause_under pool gfn op t u again (Some found) runs = runs
 
 leaf_under : (pool : ℕ → ℕ) (gfn : ℕ) (op : Op) (t : Topics) (u : LineUnderWay) (allowed : Bool) → Runs u
-    → AccessUnder pool (if allowed then Touch else Leave leaving.Faults) gfn op t u
+    → AccessUnder pool (if allowed then Touch else Leave (leaving.Faults true)) gfn op t u
 leaf_under pool gfn op t u true runs = runs
 leaf_under pool gfn op t u false runs = runs
 
@@ -124,8 +124,8 @@ touches z v a line gfn word op facts u S I P U K R =
     let page : ℕ = page_of F.slot gfn in
     let page_in : page < z.pages = page_in_machine z (v.words area.Slots 0) (v.words area.Role) (v.words area.Pool) F.id gfn F.slot I.set_part F.live F.holds in
     let frame : frame_used gfn s ≡ host_frame (v.words area.Host page) = lowest_frame gfn s used.0 ∙ ap frame_in F.is
-    ∙ frame_of_leaf z (v.words area.Host) F.slot page I.sizes P.hosts page_in in
-    let allowed = leaf_allows op F.slot (v.words area.Host page) s.used.leaf F.is (uses_allows gfn (is_write op) (v.hand a) K.1) in
+    ∙ frame_of_leaf z (v.words area.Host) F.writes F.slot page I.sizes P.hosts page_in in
+    let allowed = leaf_allows op F.writes F.slot (v.words area.Host page) s.used.leaf F.is (uses_allows gfn (is_write op) (v.hand a) K.1) in
     record {
       page = page;
       page_in = page_in;
@@ -270,6 +270,8 @@ module _ (z : Sizes) (v : View) (a : ℕ) (line : Line) (gfn word : ℕ) (facts 
       (R.under.0, walk_under (words_behind op (Walk again) area.Pool) gfn op (held_behind op (Walk again)) u again k allowed R.under.1)
   access_goes op Touch S I P U part_ K R = touch_owes op S I P U part_ K R
   access_goes op (Leave (leaving.Reached frame value)) S I P U part_ K R = reached_owes op frame value S I P U part_ K R
-  access_goes op (Leave leaving.Faults) S I P U part_ K R =
-      quiet op (Leave leaving.Faults) (Fault fault.Begin) part.Leave refl refl part_ I P R (R.under.0, (R.under.1, tt))
+  access_goes op (Leave (leaving.Faults true)) S I P U part_ K R =
+      quiet op (Leave (leaving.Faults true)) (Fault fault.FastBegin) part.Leave refl refl part_ I P R (R.under.0, (R.under.1, tt))
+  access_goes op (Leave (leaving.Faults false)) S I P U part_ K R =
+      quiet op (Leave (leaving.Faults false)) (Fault fault.Begin) part.Leave refl refl part_ I P R (R.under.0, (R.under.1, tt))
   access_goes op (Fault p) S I P U part_ K R = fault_goes z v a line gfn word op facts past u p S part_ I P K R

@@ -1,16 +1,10 @@
 -- What the steps of a fault owe flat memory.
-use Rattle.std.proofs.Common.{◌≡◌, ◌+◌, ◌<◌, ℕ, [], ◌∷◌, refl, sym, subst, ap, ◌∙◌, arith}
+use Rattle.std.proofs.Common.{◌≡◌, ◌+◌, ◌<◌, ℕ, [], refl, sym, subst, ap, ◌∙◌, arith}
 use Rattle.std.specs.Prelude.{Bool, true, false, ◌==◌, ◌&&◌, nat_lt, not, if◌then◌else◌, Some}
-use Rattle.core_views.specs.declared.answer.Answer.{Answer}
-use Rattle.core_views.specs.declared.answer.Answer.TheVariants as answer
-use Rattle.core_views.specs.declared.event.EventKind.TheVariants.{Answered, Exited}
-use Rattle.core_views.specs.declared.place.Cause.TheVariants.{Entry}
-use Rattle.core_views.specs.declared.place.FaultEnd.{FaultEnd}
-use Rattle.core_views.specs.declared.place.FaultEnd.TheVariants.{Installed, Mmio, HostFault, Starved, Retry}
 use Rattle.core_views.specs.declared.place.FaultPlace.{FaultPlace}
 use Rattle.core_views.specs.declared.place.FaultPlace.TheVariants.{Begin, Snapshot, Find, Host, Bring, Share, Check, Walk, Claim, Fill}
-use Rattle.core_views.specs.declared.place.FaultPlace.TheVariants.{Role, Link, Give, Leaf, Unshare, End}
-use Rattle.core_views.specs.declared.place.AccessPlace.TheVariants.{Enter, Fault}
+use Rattle.core_views.specs.declared.place.FaultPlace.TheVariants.{Role, Link, Give, Leaf, Unshare, End, FastBegin, FastFind, FastWalk, Fix, Mark}
+use Rattle.core_views.specs.declared.place.AccessPlace.TheVariants.{Fault}
 use Rattle.core_views.specs.declared.place.Place.TheVariants as place
 use Rattle.core_views.specs.declared.sizes.Sizes.{Sizes}
 use Rattle.core_views.specs.declared.topics.Topics.{Topics}
@@ -20,8 +14,8 @@ use Rattle.core_views.specs.declared.trace.Op.{Op}
 use Rattle.core_views.specs.Flat.{Facts, LineUnderWay, Notes}
 use Rattle.core_views.specs.Past.{Past}
 use Rattle.core_views.specs.Host.{is_denied, with_entry}
-use Rattle.core_views.specs.Lawful.{MayLeave, SawPage, SawForbidden}
-use Rattle.core_views.specs.Slots.{is_write}
+use Rattle.core_views.specs.Lawful.{SawPage, SawForbidden}
+use Rattle.core_views.specs.Slots.{is_write, contains}
 use Rattle.spte_words.specs.declared.area.Area.{Area}
 use Rattle.spte_words.specs.declared.area.Area.TheVariants as area
 use Rattle.spte_words.specs.Entries.{kind_of}
@@ -32,8 +26,8 @@ use Rattle.mmu_core.specs.declared.share.ShareNext.{ShareNext}
 use Rattle.mmu_core.specs.lines.AccessSteps.{access_note, access_task}
 use Rattle.mmu_core.specs.lines.FaultKnows.{FaultKnows}
 use Rattle.mmu_core.specs.declared.claim.FreeMap.TheVariants.{Pages}
-use Rattle.mmu_core.specs.lines.FaultSteps.{after_claim, after_share, check_next, claim_next, entry_word, fault_part, find_next}
-use Rattle.mmu_core.specs.lines.FaultSteps.{share_next, walk_next}
+use Rattle.mmu_core.specs.lines.FaultSteps.{after_claim, after_share, check_next, claim_next, fault_part, find_next}
+use Rattle.mmu_core.specs.lines.FaultSteps.{share_next, walk_next, exchange_lost, fast_find_next, fast_walk_next, is_last_word, put_next}
 use Rattle.mmu_laws.specs.flat.FlatInvariant.{NotedAt, NotedLook, NotedPage}
 use Rattle.mmu_core.specs.lines.HostSteps.{entry_of}
 use Rattle.mmu_core.specs.invariant.Invariant.{Invariant}
@@ -44,7 +38,7 @@ use Rattle.mmu_core.specs.machine.View.{View, answer_in, words_after}
 use Rattle.mmu_laws.proofs.flat.BringFlat.{brings}
 use Rattle.mmu_laws.proofs.flat.FindFlat.{find_noted}
 use Rattle.mmu_core.proofs.lines.EitherPlace.{either_place}
-use Rattle.mmu_laws.proofs.flat.FlatSteps.{Goes, Ready, StepGoes, goes_by, leaves_by, part_refines, refined_slots}
+use Rattle.mmu_laws.proofs.flat.FlatSteps.{Goes, Ready, StepGoes, goes_by, part_refines, refined_slots}
 use Rattle.mmu_core.proofs.machine.PartStepping.{IsPart}
 use Rattle.mmu_core.proofs.words.PartTopics.{part_topics_is}
 use Rattle.mmu_core.proofs.machine.Stepping.{IsStep}
@@ -58,6 +52,8 @@ use Rattle.core_views.specs.declared.topics.Stay.{Stay}
 use Rattle.mmu_core.proofs.slots.LiveStays.{access_never, access_quiet, is_bring}
 use Rattle.mmu_core.proofs.held.OldSets.{held_are_slots}
 use Rattle.mmu_laws.proofs.flat.FaultNotes.{Noted, check_noted, claim_noted, entry_noted, host_noted, share_noted, walk_noted}
+use Rattle.mmu_laws.proofs.flat.FaultEnds.{ends}
+use Rattle.mmu_laws.proofs.flat.FaultNotes.{fast_find_noted, fast_walk_noted, put_noted}
 
 module _ (z : Sizes) (v : View) (a : ℕ) (line : Line) (gfn word : ℕ) (op : Op) (facts : Facts) (past : Past) (u : LineUnderWay) where
   abbrev held : Topics
@@ -82,6 +78,17 @@ module _ (z : Sizes) (v : View) (a : ℕ) (line : Line) (gfn word : ℕ) (op : O
       goes_by z v a line (Access gfn word op) (access_task (Fault p) (v.hand a) gfn word op) facts past u
       (part_refines z v a (fault_part p gfn held) (access_note (Fault p)) facts S P (access_never (Fault p) gfn held (fault_part p gfn held) refl)
       (access_quiet (Fault p) gfn held (fault_part p gfn held) refl other) R.refines) (place.Access (Fault next)) (R.under.0, (R.under.1.0, noted))
+
+  -- After an exchange for a leaf, won or lost.
+  puts : (p : FaultPlace) (fast marks : Bool) (lost : FaultPlace) (won : Bool) → is_bring (Fault p) ≡ false → IsPart z v a (fault_part p gfn held)
+      → Invariant z v → TopicsInvariant z v → Ready z v line (Access gfn word op) (place.Access (Fault p)) held facts u
+      → NotedAt (words_behind p area.Pool) lost gfn op (held_behind p) u.notes
+      → Goes z (v.hand a).state.actor line (Access gfn word op) (words_behind p)
+      (place.Access (Fault (if won then put_next fast marks else lost))) (held_behind p) [] facts past u
+  puts p fast marks lost won other S I P R noted =
+      quiet p (if won then put_next fast marks else lost) other S I P R
+      (either_place (Noted (words_behind p area.Pool) gfn op (held_behind p) u.notes) won (put_next fast marks) lost
+      (put_noted (words_behind p area.Pool) gfn op (held_behind p) u.notes fast marks) noted)
 
   -- The line looks at the slots: those of the published set, which its search holds now, and none of them is passed yet.
   looks : FaultKnows (Find false) (v.hand a).state.sizes gfn (is_write op) held
@@ -213,35 +220,6 @@ module _ (z : Sizes) (v : View) (a : ℕ) (line : Line) (gfn word : ℕ) (op : O
         );
       }
 
-  -- The line leaves the guest with what its fault ends with.
-  leaves_with : (how : Answer) → line.command ≡ Access gfn word op → IsPart z v a part.End → Invariant z v → TopicsInvariant z v → (e : FaultEnd)
-      → Ready z v line (Access gfn word op) (place.Access (Fault (End e))) held facts u
-      → MayLeave z facts (v.hand a).state.actor (Access gfn word op) u.notes how
-      → Goes z (v.hand a).state.actor line (Access gfn word op) (words_behind (End e)) place.Between (held_behind (End e))
-      (Exited how ∷ Answered line.number how ∷ []) facts past u
-  leaves_with how is S I P e R may =
-      let own : u.line.command ≡ Access gfn word op = ap (λ (l : Line). l.command) R.under.0 ∙ is in
-      leaves_by z v a line (Access gfn word op) (access_task (Fault (End e)) (v.hand a) gfn word op) facts past u
-      (part_refines z v a part.End (access_note (Fault (End e))) facts S P refl refl R.refines) how R.under.0 R.under.1.0.0
-      (subst (λ c. MayLeave z facts (v.hand a).state.actor c u.notes how) (sym own) may)
-
-  -- Or it enters the guest again.
-  goes_back : (again : Bool) (e : FaultEnd) → IsPart z v a part.End → Invariant z v → TopicsInvariant z v
-      → Ready z v line (Access gfn word op) (place.Access (Fault (End e))) held facts u
-      → Goes z (v.hand a).state.actor line (Access gfn word op) (words_behind (End e)) (place.Access (Enter again)) (held_behind (End e)) [] facts past u
-  goes_back again e S I P R =
-      goes_by z v a line (Access gfn word op) (access_task (Fault (End e)) (v.hand a) gfn word op) facts past u
-      (part_refines z v a part.End (access_note (Fault (End e))) facts S P refl refl R.refines) (place.Access (Enter again)) (R.under.0, R.under.1.0.0)
-
-  ends : (e : FaultEnd) → line.command ≡ Access gfn word op → IsPart z v a part.End → Invariant z v → TopicsInvariant z v
-      → Ready z v line (Access gfn word op) (place.Access (Fault (End e))) held facts u
-      → StepGoes z v a line (Access gfn word op) (place.Access (Fault (End e))) facts past u
-  ends Installed is S I P R = goes_back true Installed S I P R
-  ends Mmio is S I P R = leaves_with answer.Mmio is S I P Mmio R R.under.1.1
-  ends HostFault is S I P R = leaves_with answer.HostFault is S I P HostFault R R.under.1.1
-  ends Starved is S I P R = leaves_with answer.Starved is S I P Starved R (refl, R.under.1.1)
-  ends (Retry cause) is S I P R = goes_back false (Retry cause) S I P R
-
   pub fault_goes : (p : FaultPlace) → IsStep z v a line (Access gfn word op) (place.Access (Fault p)) → IsPart z v a (fault_part p gfn held)
       → Invariant z v → TopicsInvariant z v
       → FaultKnows p (v.hand a).state.sizes gfn (is_write op) held → Ready z v line (Access gfn word op) (place.Access (Fault p)) held facts u
@@ -275,14 +253,31 @@ module _ (z : Sizes) (v : View) (a : ℕ) (line : Line) (gfn word : ℕ) (op : O
   fault_goes Role S part_ I P K R = quiet Role Link refl part_ I P R R.under.1.1
   fault_goes Link S part_ I P K R =
       let x : ℕ = answered Link in
-      let lost : FaultPlace = Give (Retry (Entry (entry_word (v.hand a).state.sizes gfn held.walk) held.walk.entry x)) in
+      let lost : FaultPlace = Give (exchange_lost (v.hand a).state.sizes gfn held.walk x) in
       quiet Link (if x == held.walk.entry then Walk true else lost) refl part_ I P R
       (either_place (Noted (words_behind Link area.Pool) gfn op (held_behind Link) u.notes) (x == held.walk.entry) (Walk true) lost R.under.1.1 tt)
   fault_goes (Give e) S part_ I P K R = quiet (Give e) (Unshare e) refl part_ I P R R.under.1.1
-  fault_goes Leaf S part_ I P K R =
-      let x : ℕ = answered Leaf in
-      let lost : FaultPlace = Unshare (Retry (Entry (entry_word (v.hand a).state.sizes gfn held.walk) held.walk.entry x)) in
-      quiet Leaf (if x == held.walk.entry then Unshare Installed else lost) refl part_ I P R
-      (either_place (Noted (words_behind Leaf area.Pool) gfn op (held_behind Leaf) u.notes) (x == held.walk.entry) (Unshare Installed) lost tt tt)
+  fault_goes (Leaf writes) S part_ I P K R =
+      let x : ℕ = answered (Leaf writes) in
+      puts (Leaf writes) false (writes && held.search.logged) (Unshare (exchange_lost (v.hand a).state.sizes gfn held.walk x)) (x == held.walk.entry) refl part_
+      I P R tt
+  fault_goes FastBegin S part_ I P K R = quiet FastBegin (FastFind false) refl part_ I P R tt
+  fault_goes (FastFind false) S part_ I P K R = record { allowed = (R.under.1.0.0, tt); refines = R.refines; under = (R.under.0, (R.under.1.0, tt)) }
+  fault_goes (FastFind true) S part_ I P K R =
+      let s : SlotSearch = searched held.search (answered (FastFind true)) in
+      quiet (FastFind true) (fast_find_next gfn held.search.next s) refl part_ I P R
+      (fast_find_noted (words_behind (FastFind true) area.Pool) gfn op (held_behind (FastFind true)) u.notes
+      (is_last_word held.search.next && contains gfn s.slot) (s.id == 32))
+  fault_goes (FastWalk false) S part_ I P K R = quiet (FastWalk false) (FastWalk true) refl part_ I P R tt
+  fault_goes (FastWalk true) S part_ I P K R =
+      let x : ℕ = answered (FastWalk true) in
+      quiet (FastWalk true) (fast_walk_next (kind_of held.walk.level x) held.walk x) refl part_ I P R
+      (fast_walk_noted (words_behind (FastWalk true) area.Pool) gfn op (held_behind (FastWalk true)) u.notes (kind_of held.walk.level x) held.walk x)
+  fault_goes Fix S part_ I P K R =
+      let x : ℕ = answered Fix in
+      puts Fix true held.search.logged (End (exchange_lost (v.hand a).state.sizes gfn held.walk x)) (x == held.walk.entry) refl part_ I P R tt
+  fault_goes (Mark fast) S part_ I P K R =
+      quiet (Mark fast) (put_next fast false) refl part_ I P R
+      (put_noted (words_behind (Mark fast) area.Pool) gfn op (held_behind (Mark fast)) u.notes fast false)
   fault_goes (Unshare e) S part_ I P K R = quiet (Unshare e) (End e) refl part_ I P R R.under.1.1
-  fault_goes (End e) S part_ I P K R = ends e S.command_is part_ I P R
+  fault_goes (End e) S part_ I P K R = ends z v a line gfn word op facts past u e S.command_is part_ I P R

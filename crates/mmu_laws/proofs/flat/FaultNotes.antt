@@ -5,10 +5,10 @@ use Rattle.std.specs.Prelude.{Bool, true, false, ◌==◌, ◌&&◌, nat_le, nat
 use Rattle.core_views.specs.declared.place.Cause.TheVariants.{Open, Moved, Entry}
 use Rattle.core_views.specs.declared.place.CheckStage.{CheckStage}
 use Rattle.core_views.specs.declared.place.CheckStage.TheVariants as stage
-use Rattle.core_views.specs.declared.place.FaultEnd.TheVariants.{Installed, HostFault, Retry}
+use Rattle.core_views.specs.declared.place.FaultEnd.TheVariants.{Installed, HostFault, Retry, NotFast}
 use Rattle.core_views.specs.declared.place.FaultPlace.{FaultPlace}
 use Rattle.core_views.specs.declared.place.FaultPlace.TheVariants.{Bring, Share, Check, Walk, Claim}
-use Rattle.core_views.specs.declared.place.FaultPlace.TheVariants.{Leaf, Unshare, End}
+use Rattle.core_views.specs.declared.place.FaultPlace.TheVariants.{Leaf, Unshare, End, FastFind, FastWalk, Fix}
 use Rattle.core_views.specs.declared.sizes.Sizes.{Sizes}
 use Rattle.core_views.specs.declared.topics.TableWalk.{TableWalk}
 use Rattle.core_views.specs.declared.topics.Topics.{Topics}
@@ -25,9 +25,10 @@ use Rattle.mmu_core.specs.declared.claim.ClaimNext.TheVariants as claims
 use Rattle.mmu_core.specs.declared.share.ShareNext.{ShareNext}
 use Rattle.mmu_core.specs.declared.share.ShareNext.TheVariants as shares
 use Rattle.mmu_core.specs.lines.FaultSteps.{after_claim, after_share, allows_access, check_next, entry_word}
-use Rattle.mmu_core.specs.lines.FaultSteps.{page_next, snapshot_taken, walk_next}
+use Rattle.mmu_core.specs.lines.FaultSteps.{page_next, snapshot_taken, walk_next, fast_walk_next, put_next}
 use Rattle.mmu_laws.specs.flat.FlatInvariant.{NotedAt, NotedLook}
 use Rattle.mmu_core.proofs.lines.EitherPlace.{either_place}
+use Rattle.part_steps.specs.PartHoldings.{is_fixable}
 
 -- Where a fault stands after most of its steps the line has noted nothing, up to its look at the host, and from there on that it saw a page.
 module _ (pool : ℕ → ℕ) (gfn : ℕ) (op : Op) (t : Topics) (notes : Notes) where
@@ -50,11 +51,28 @@ module _ (pool : ℕ → ℕ) (gfn : ℕ) (op : Op) (t : Topics) (notes : Notes)
 
   pub walk_noted : SawPage notes gfn op → (k : SpteKind) (z : Sizes) (write : Bool) (walk : TableWalk) (x : ℕ) → Noted (walk_next k z gfn write walk x)
   walk_noted saw entry_kind.Leaf z write walk x =
-      either_place Noted (walk.level == 1) (if allows_access write x then Unshare Installed else Leaf) (Unshare (Retry (Entry (entry_word z gfn walk) x x)))
-      (either_place Noted (allows_access write x) (Unshare Installed) Leaf tt saw) tt
-  walk_noted saw entry_kind.Absent z write walk x = either_place Noted (walk.level == 1) Leaf (Claim false) saw saw
+      either_place Noted (walk.level == 1) (if allows_access write x then Unshare Installed else Leaf write)
+      (Unshare (Retry (Entry (entry_word z gfn walk) x x)))
+      (either_place Noted (allows_access write x) (Unshare Installed) (Leaf write) tt saw) tt
+  walk_noted saw entry_kind.Absent z write walk x = either_place Noted (walk.level == 1) (Leaf write) (Claim false) saw saw
   walk_noted saw (entry_kind.Table page) z write walk x = saw
   walk_noted saw entry_kind.Frozen z write walk x = tt
+
+  pub put_noted : (fast marks : Bool) → Noted (put_next fast marks)
+  put_noted fast true = tt
+  put_noted true false = tt
+  put_noted false false = tt
+
+  pub fast_walk_noted : (k : SpteKind) (walk : TableWalk) (x : ℕ) → Noted (fast_walk_next k walk x)
+  fast_walk_noted (entry_kind.Table page) walk x = tt
+  fast_walk_noted entry_kind.Leaf walk x = either_place Noted ((walk.level == 1) && is_fixable x) Fix (End (NotFast x)) tt tt
+  fast_walk_noted entry_kind.Absent walk x = tt
+  fast_walk_noted entry_kind.Frozen walk x = tt
+
+  pub fast_find_noted : (found none : Bool) → Noted (if found then FastWalk false else if none then End (NotFast 0) else FastFind true)
+  fast_find_noted true none = tt
+  fast_find_noted false true = tt
+  fast_find_noted false false = tt
 
   pub claim_noted : SawPage notes gfn op → (next : ClaimNext) → Noted (after_claim next)
   claim_noted saw claims.Goes = saw

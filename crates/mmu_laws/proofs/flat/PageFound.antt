@@ -43,26 +43,27 @@ page_in_machine z set role pool id gfn slot P L holds =
 pub frame_small : (z : Sizes) (host : ℕ → ℕ) (page : ℕ) → AreSizes z → HostWordsPart z host → page < z.pages → host_frame (host page) < 2 ^ 40
 frame_small z host page sizes P lt = omega (arith, (P page lt).1, sizes.frames.1)
 
-pub frame_of_leaf : (z : Sizes) (host : ℕ → ℕ) (slot : Slot) (page : ℕ) → AreSizes z → HostWordsPart z host → page < z.pages
-    → frame_in (leaf_of slot (host page)) ≡ host_frame (host page)
-frame_of_leaf z host slot page sizes P lt =
-    leaf_frame 1 (host_frame (host page)) (may_write slot (host page)) (host_allows_write (host page)) (may_write slot (host page))
+pub frame_of_leaf : (z : Sizes) (host : ℕ → ℕ) (writes : Bool) (slot : Slot) (page : ℕ) → AreSizes z → HostWordsPart z host → page < z.pages
+    → frame_in (leaf_of writes slot (host page)) ≡ host_frame (host page)
+frame_of_leaf z host writes slot page sizes P lt =
+    leaf_frame 1 (host_frame (host page)) (writes && may_write slot (host page)) (host_allows_write (host page)) (may_write slot (host page))
     (frame_small z host page sizes P lt)
 
 -- A leaf that allows the access is of a slot that allows it, and of a host word that does.
-not_denied : (write host read_only : Bool) → (not write || (host && not read_only)) ≡ true → ((write && read_only) ≡ false) × ((write && not host) ≡ false)
-not_denied true true true e = absurd (cc e)
-not_denied true true false e = (refl, refl)
-not_denied true false true e = absurd (cc e)
-not_denied true false false e = absurd (cc e)
-not_denied false host read_only e = (refl, refl)
+not_denied : (write writes host read_only : Bool) → (not write || (writes && (host && not read_only))) ≡ true
+    → ((write && read_only) ≡ false) × ((write && not host) ≡ false)
+not_denied true true true true e = absurd (cc e)
+not_denied true true true false e = (refl, refl)
+not_denied true true false read_only e = absurd (cc e)
+not_denied true false host read_only e = absurd (cc e)
+not_denied false writes host read_only e = (refl, refl)
 
-pub leaf_allows : (op : Op) (slot : Slot) (host leaf : ℕ) → leaf ≡ leaf_of slot host → allows_access (is_write op) leaf ≡ true
+pub leaf_allows : (op : Op) (writes : Bool) (slot : Slot) (host leaf : ℕ) → leaf ≡ leaf_of writes slot host → allows_access (is_write op) leaf ≡ true
     → ((is_write op && slot.read_only) ≡ false) × ((is_write op && not (host_allows_write host)) ≡ false)
-leaf_allows op slot host leaf is allows =
-    not_denied (is_write op) (host_allows_write host) slot.read_only
+leaf_allows op writes slot host leaf is allows =
+    not_denied (is_write op) writes (host_allows_write host) slot.read_only
     (subst (λ b. (not (is_write op) || b) ≡ true)
-    (ap can_write is ∙ leaf_can_write 1 (host_frame host) (may_write slot host) (host_allows_write host) (may_write slot host)) allows)
+    (ap can_write is ∙ leaf_can_write 1 (host_frame host) (writes && may_write slot host) (host_allows_write host) (may_write slot host)) allows)
 
 -- The slots give the guest frame the page that was found.
 pub page_is_behind : (z : Sizes) (set : ℕ) (role pool : ℕ → ℕ) (id gfn : ℕ) (slot : Slot) (op : Op) (now_ : Slots) → SlotSetPart z set role pool

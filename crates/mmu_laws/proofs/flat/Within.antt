@@ -42,6 +42,7 @@ access_within : (p : AccessPlace) (h : Held) (gfn word : ℕ) (op : Op) (v : ℕ
 access_within (Pause again) h gfn word op v = (tt, tt)
 access_within Touch h gfn word op v = (tt, tt)
 access_within (Fault (fault.Find begun)) h gfn word op v = look_within begun
+access_within (Fault (fault.FastFind begun)) h gfn word op v = look_within begun
 access_within (Fault fault.Host) h gfn word op v = (tt, tt)
 access_within (Fault fault.Bring) h gfn word op v =
     either_place AllWithin (v == word_looked h.topics.host) (BroughtIn (page_looked h.topics.host) ∷ []) [] (tt, tt) tt

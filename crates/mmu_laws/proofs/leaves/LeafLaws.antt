@@ -41,12 +41,12 @@ use Rattle.mmu_core.proofs.pages.LeavesOver.{leaf_for}
 use Rattle.mmu_core.proofs.pages.TreePlaces.{root_stands}
 use Rattle.mmu_core.proofs.pages.NoneBelow.{span_up}
 use Rattle.mmu_laws.proofs.leaves.LeadsDown.{below_stands, leads_down}
-use Rattle.mmu_laws.proofs.flat.PageFound.{frame_small, page_in_machine}
 use Rattle.mmu_core.proofs.words.SlotLists.{only_one_holds}
 use Rattle.mmu_core.proofs.lines.UsedTranslations.{uses_allows}
 use Rattle.mmu_core.proofs.machine.Stepping.{line_allowed}
 use Rattle.mmu_core.proofs.held.UsableKept.{vcpu_below, used_agrees}
 use Rattle.core_views.specs.Traces.{IsCommandFor}
+use Rattle.mmu_core.proofs.lines.FaultSame.{both}
 
 -- A write gets the page of its slot, where the slot isn't read-only.
 gets_page : (write read_only : Bool) (page : ℕ) → write ≡ true → is_some (if write && read_only then None else Some page) ≡ not read_only
@@ -61,14 +61,12 @@ leaf_agrees z set role pool host gfn leaf sizes hosts P L = record {
   page = page_of slot gfn;
   behind = ap (page_in gfn Read) found;
   present = L.present;
-  frame = ap frame_in L.is ∙ leaf_frame 1 (host_frame word) (may_write slot word) (host_allows_write word) (may_write slot word) small;
-  writes = λ op is. writes_are
+  frame = ap frame_in L.is ∙ leaf_frame 1 (host_frame word) allowed (host_allows_write word) (may_write slot word) L.small;
+  host_bit = ap host_writable L.is ∙ leaf_host_writable 1 (host_frame word) allowed (host_allows_write word) (may_write slot word) L.small;
+  mmu_bit = λ op is. mmu_is
       ∙ ap (λ b. host_allows_write word && b)
       (sym (ap (λ (o : Option Slot). is_some (page_in gfn op o)) found ∙ gets_page (is_write op) slot.read_only (page_of slot gfn) is));
-  host_bit = ap host_writable L.is ∙ leaf_host_writable 1 (host_frame word) (may_write slot word) (host_allows_write word) (may_write slot word) small;
-  mmu_bit =
-      ap mmu_writable L.is ∙ leaf_mmu_writable 1 (host_frame word) (may_write slot word) (host_allows_write word) (may_write slot word) small
-      ∙ sym writes_are;
+  writes = λ is. mmu_is ∙ (both L.writes (may_write slot word) (sym writes_are ∙ is)).1;
 }
   where
     slot : Slot
@@ -77,14 +75,14 @@ leaf_agrees z set role pool host gfn leaf sizes hosts P L = record {
     word : ℕ
     word = host (page_of slot gfn)
 
-    there : page_of slot gfn < z.pages
-    there = page_in_machine z set role pool L.id gfn slot P L.live L.holds
+    allowed : Bool
+    allowed = L.writes && may_write slot word
 
-    small : host_frame word < 2 ^ 40
-    small = frame_small z host (page_of slot gfn) sizes hosts there
+    writes_are : can_write leaf ≡ allowed
+    writes_are = ap can_write L.is ∙ leaf_can_write 1 (host_frame word) allowed (host_allows_write word) (may_write slot word)
 
-    writes_are : can_write leaf ≡ may_write slot word
-    writes_are = ap can_write L.is ∙ leaf_can_write 1 (host_frame word) (may_write slot word) (host_allows_write word) (may_write slot word)
+    mmu_is : mmu_writable leaf ≡ may_write slot word
+    mmu_is = ap mmu_writable L.is ∙ leaf_mmu_writable 1 (host_frame word) allowed (host_allows_write word) (may_write slot word) L.small
 
     holds : contains gfn (slot_at pool set L.id) ≡ true
     holds = ap (contains gfn) L.live.is ∙ L.holds
@@ -106,13 +104,10 @@ leaf_says z set role pool host level gfn leaf sizes hosts P lowest L = record {
   frame =
       let one : level_span level ≡ 1 = ap level_span lowest ∙ span_1 in
       subst (λ n. host_frame word ≡ frame_in leaf + gfn % n) (sym one) (omega (arith, names));
-  writes = λ is. sym (ap can_write L.is ∙ leaf_can_write 1 (host_frame word) (may_write slot word) (host_allows_write word) (may_write slot word)) ∙ is;
-  host_bit =
-      λ is. sym (ap host_writable L.is
-      ∙ leaf_host_writable 1 (host_frame word) (may_write slot word) (host_allows_write word) (may_write slot word) small) ∙ is;
-  mmu_bit =
-      λ is. sym (ap mmu_writable L.is
-      ∙ leaf_mmu_writable 1 (host_frame word) (may_write slot word) (host_allows_write word) (may_write slot word) small) ∙ is;
+  writes = λ is. (both L.writes (may_write slot word)
+      (sym (ap can_write L.is ∙ leaf_can_write 1 (host_frame word) allowed (host_allows_write word) (may_write slot word)) ∙ is)).1;
+  host_bit = λ is. sym (ap host_writable L.is ∙ leaf_host_writable 1 (host_frame word) allowed (host_allows_write word) (may_write slot word) L.small) ∙ is;
+  mmu_bit = λ is. sym (ap mmu_writable L.is ∙ leaf_mmu_writable 1 (host_frame word) allowed (host_allows_write word) (may_write slot word) L.small) ∙ is;
 }
   where
     slot : Slot
@@ -121,14 +116,11 @@ leaf_says z set role pool host level gfn leaf sizes hosts P lowest L = record {
     word : ℕ
     word = host (page_of slot gfn)
 
-    there : page_of slot gfn < z.pages
-    there = page_in_machine z set role pool L.id gfn slot P L.live L.holds
-
-    small : host_frame word < 2 ^ 40
-    small = frame_small z host (page_of slot gfn) sizes hosts there
+    allowed : Bool
+    allowed = L.writes && may_write slot word
 
     names : frame_in leaf ≡ host_frame word
-    names = ap frame_in L.is ∙ leaf_frame 1 (host_frame word) (may_write slot word) (host_allows_write word) (may_write slot word) small
+    names = ap frame_in L.is ∙ leaf_frame 1 (host_frame word) allowed (host_allows_write word) (may_write slot word) L.small
 
 -- All leaves in the tables below the root do, and so do those below any table that the root reaches.
 pub leaves_say : (z : Sizes) (w : World Held) (sound : IsSound z w) (k : ℕ) → HangsBelow sound.topics.up (word_in z w area.Root 0) k

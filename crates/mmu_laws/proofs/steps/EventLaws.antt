@@ -113,6 +113,8 @@ module _ (h : Held) (v : ℕ) where
   access_told (Pause again) gfn word op K = one z v _ _ (record { kind_is = refl; on = refl })
   access_told Touch gfn word op K = touch_told gfn word op
   access_told (Fault (fault.Find begun)) gfn word op K = find_told begun gfn word op
+  access_told (Fault (fault.FastFind true)) gfn word op K = none z v _
+  access_told (Fault (fault.FastFind false)) gfn word op K = one z v _ _ (record { kind_is = refl; on = refl })
   access_told (Fault fault.Host) gfn word op K = one z v _ _ (record { kind_is = refl; on = refl })
   access_told (Fault fault.Bring) gfn word op K = bring_told (v == word_looked h.topics.host) gfn word op refl K.1.presence
   access_told (Fault (fault.End e)) gfn word op K = exits_so z v _ (fault_over e)

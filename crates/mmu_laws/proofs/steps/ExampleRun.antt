@@ -19,6 +19,7 @@ use Rattle.core_views.specs.declared.sizes.Sizes.{Sizes}
 use Rattle.core_views.specs.Text.{line_text, text}
 use Rattle.spte_words.specs.Areas.{content_index, place, pool_index}
 use Rattle.spte_words.specs.Entries.{absent_word, can_write, frame_in, frozen_word, is_leaf_at, kind_of, leaf_word, level_span, mapped_frame, table_word}
+use Rattle.spte_words.specs.Entries.{host_writable, mmu_writable}
 use Rattle.spte_words.specs.Flags.{flags_live, flags_logged, flags_read_only, flags_word}
 use Rattle.spte_words.specs.HostWords.{host_allows_write, host_frame, host_present, host_word}
 use Rattle.mmu_laws.specs.steps.ExampleRaces.{ExampleRaces, first_line, race_events, race_lines, race_order, second_line}
@@ -91,12 +92,14 @@ run_leaves z lines order a index value sizes allowed few has holds =
 
 run_tale : tale (start_view run_sizes run_lines) run_order ≡ run_events
 unfolding flushed topics_after place kind_of level_span table_word frozen_word content_index pool_index absent_word frame_in mapped_frame leaf_word flags_live
-    flags_read_only flags_word host_allows_write host_frame host_present host_word can_write is_leaf_at flags_logged count_trailing_zeros
+    flags_read_only flags_word host_allows_write host_frame host_present host_word can_write is_leaf_at flags_logged host_writable mmu_writable
+    count_trailing_zeros
 run_tale = refl
 
 run_has_lines : have_lines run_sizes (start_view run_sizes run_lines) run_order ≡ true
 unfolding flushed topics_after place kind_of level_span table_word frozen_word content_index pool_index absent_word frame_in mapped_frame leaf_word flags_live
-    flags_read_only flags_word host_allows_write host_frame host_present host_word can_write is_leaf_at flags_logged count_trailing_zeros
+    flags_read_only flags_word host_allows_write host_frame host_present host_word can_write is_leaf_at flags_logged host_writable mmu_writable
+    count_trailing_zeros
 run_has_lines = refl
 
 -- The one host thread has all pages.

@@ -16,6 +16,7 @@ use Rattle.core_views.specs.Kinds.{kind_named}
 use Rattle.core_views.specs.Sizes.{actors_of}
 use Rattle.spte_words.specs.HostWords.{host_present, with_presence}
 use Rattle.spte_words.specs.declared.area.Area.TheVariants as area
+use Rattle.spte_words.specs.declared.spte_kind.SpteKind.TheVariants as entry_kind
 use Rattle.spte_words.specs.Areas.{place as place_of, pool_index}
 use Rattle.spte_words.specs.Entries.{kind_of, level_span}
 use Rattle.part_steps.specs.declared.part_step.PartStep.{PartStep}
@@ -41,6 +42,7 @@ use Rattle.mmu_laws.specs.steps.InvalidationLaws.{ZapsOwnFrame}
 use Rattle.mmu_laws.proofs.causes.CauseSteps.{entry_kinds}
 use Rattle.mmu_laws.proofs.causes.MadeSteps.{Makes, in_machine, own_sizes, word_on}
 use Rattle.mmu_laws.proofs.leaves.LeadsDown.{leads_down}
+use Rattle.mmu_core.proofs.pages.EntryStill.{still_leaf}
 
 -- A step of this kind is one of a part.
 abbrev IsOfPart : StepKind → Type 0
@@ -99,7 +101,7 @@ module _ (z : Sizes) (w : World Held) (s : Step Kind) (G : IsSound z w) (may : M
     page = page;
     on = word_on z w s G may (part.Zap gfn) M ∙ ap (λ l. place_of (map_of z) area.Pool (pool_index page (entry_index gfn l))) lowest;
     leads = (leads_down z w gfn page t.walk.level entry G stood).above (subst (λ l. LeadsTo pool l page gfn entry) (sym lowest) refl);
-    leaf = ap (λ l. kind_of l entry) (sym lowest) ∙ (ap (kind_of t.walk.level) seen ∙ M.needs.leaf);
+    leaf = seen;
   }
     where
       page : ℕ
@@ -120,21 +122,22 @@ module _ (z : Sizes) (w : World Held) (s : Step Kind) (G : IsSound z w) (may : M
       stood : stands G.topics.up G.topics.spot page ≡ Some (at t.walk.level (gfn / level_span t.walk.level / 512))
       stood = at_page ∙ ap (λ p. Some (at t.walk.level p)) (sym M.needs.saw.over.span)
 
-      here : pool (pool_index page (entry_index gfn t.walk.level)) ≡ t.walk.entry
+      here : kind_of t.walk.level (pool (pool_index page (entry_index gfn t.walk.level))) ≡ entry_kind.Leaf
       here =
           let loaded = M.needs.saw.loaded in
-          ap (λ i. pool (pool_index page i)) (sym loaded)
-          ∙ G.topics.loaded s.actor there M.needs.alone M.needs.outside M.needs.saw.over.there (omega (arith, loaded))
+          ap (λ i. kind_of t.walk.level (pool (pool_index page i))) (sym loaded)
+          ∙ still_leaf t.walk.level _ t.walk.entry
+          (G.topics.loaded s.actor there M.needs.alone M.needs.outside M.needs.saw.over.there (omega (arith, loaded))) M.needs.leaf
 
       lowest : t.walk.level ≡ 1
       lowest =
           let most = G.holds.sizes.pool.1 in
           (entry_kinds G.topics.tree page (at t.walk.level t.walk.prefix) (entry_index gfn t.walk.level) (pool (pool_index page (entry_index gfn t.walk.level)))
           (omega (arith, most)) at_page (G.topics.tree.entries page (at t.walk.level t.walk.prefix) at_page (entry_index gfn t.walk.level) (omega arith))).0
-          (ap (kind_of t.walk.level) here ∙ M.needs.leaf)
+          here
 
-      seen : entry ≡ t.walk.entry
-      seen = ap (λ l. pool (pool_index page (entry_index gfn l))) (sym lowest) ∙ here
+      seen : kind_of 1 entry ≡ entry_kind.Leaf
+      seen = subst (λ l. kind_of l (pool (pool_index page (entry_index gfn l))) ≡ entry_kind.Leaf) lowest here
 
   -- ---- what is changed, and what is brought in
 

@@ -29,7 +29,7 @@ use Rattle.mmu_core.specs.lines.InvalidateSteps.{begin_next, begin_part, search_
 use Rattle.mmu_core.specs.lines.PartWaits.{part_waits}
 use Rattle.mmu_core.specs.lines.SearchLeft.{look_left}
 use Rattle.mmu_core.proofs.lines.EitherPlace.{either_place, one_place}
-use Rattle.mmu_core.proofs.lines.FaultFalls.{flags_fall}
+use Rattle.mmu_core.proofs.lines.SearchFalls.{flags_fall}
 use Rattle.mmu_core.proofs.lines.HostPlaces.{look_some}
 use Rattle.mmu_core.proofs.lines.SearchKnown.{may_search_alone, may_walk_alone, not_either}
 use Rattle.mmu_core.proofs.lines.SweepFalls.{root_falls, sweep_falls, zap_falls}

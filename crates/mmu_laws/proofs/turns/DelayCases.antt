@@ -45,17 +45,18 @@ pub record Misses (p : Place) (c : Command) (o : Outcome) : Type 0 where
   pub gfn : ℕ
   pub word : ℕ
   pub op : Op
+  pub fast : Bool
   pub at : p ≡ place.Access (Walk true)
   pub access_is : c ≡ Access gfn word op
-  pub leaves : o ≡ Goes (place.Access (Leave leaving.Faults))
+  pub leaves : o ≡ Goes (place.Access (Leave (leaving.Faults fast)))
 
-leaves_is : (o : Outcome) → leaves_to_fault o ≡ true → o ≡ Goes (place.Access (Leave leaving.Faults))
-leaves_is (Goes (place.Access (Leave leaving.Faults))) is = refl
+leaves_is : (o : Outcome) → leaves_to_fault o ≡ true → (fast : Bool) × (o ≡ Goes (place.Access (Leave (leaving.Faults fast))))
+leaves_is (Goes (place.Access (Leave (leaving.Faults fast)))) is = (fast, refl)
 leaves_is _ is = absurd (cc is)
 
 pub misses_at : (p : Place) (c : Command) (h : Held) (o : Outcome) → KnowsPart p c h → (walks_again p && leaves_to_fault o) ≡ true → Misses p c o
 misses_at (place.Access (Walk true)) (Access gfn word op) h o K is =
-    record { gfn = gfn; word = word; op = op; at = refl; access_is = refl; leaves = leaves_is o is }
+    let L = leaves_is o is in record { gfn = gfn; word = word; op = op; fast = L.0; at = refl; access_is = refl; leaves = L.1 }
 misses_at (place.Access (Walk true)) _ h o K is = absurd K
 misses_at _ c h o K is = absurd (cc is)
 
@@ -149,7 +150,7 @@ module _ (z : Sizes) (start : World Held) (ss : List (Step Kind)) (s : Step Kind
           ⊎ LostEntry z s.actor M.gfn (is_write M.op) start ss
           → StayMisses z start ss s
       by (inl L) = let found = ap misses T.answers ∙ finds L.1 in absurd (cc (is, found))
-      by (inr lost) = record { gfn = M.gfn; word = M.word; op = M.op; at = at; access_is = command; misses = M.leaves; lost = lost }
+      by (inr lost) = record { gfn = M.gfn; word = M.word; op = M.op; fast = M.fast; at = at; access_is = command; misses = M.leaves; lost = lost }
 
   turn : line_waits stood line.command h v ≡ false → begins_anew stood ≡ false → (p : Place) → outcome_of h v ≡ Goes p
       → (hand_left (hand_in mmu (effect mmu w s) s.actor) < hand_left h) ⊎ StayMisses z start ss s

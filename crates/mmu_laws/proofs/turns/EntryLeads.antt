@@ -59,9 +59,10 @@ has_entry end_of.Installed y gfn write t is K = K
 has_entry _ y gfn write t is K = absurd (cc is)
 
 entry_known : (q : FaultPlace) (y : Sizes) (gfn : ℕ) (write : Bool) (t : Topics) → ends_installed q ≡ true → FaultKnows q y gfn write t → HasEntry gfn write t
-entry_known (fault.Give e) y gfn write t is K = has_entry e y gfn write t is K.3
+entry_known (fault.Give e) y gfn write t is K = has_entry e y gfn write t is K.4
 entry_known (fault.Unshare e) y gfn write t is K = has_entry e y gfn write t is K.2
 entry_known (fault.End e) y gfn write t is K = has_entry e y gfn write t is K.2
+entry_known (fault.Mark fast) y gfn write t is K = K.entry
 entry_known _ y gfn write t is K = absurd (cc is)
 
 -- Links lead from the root to the entry that the walk saw.

@@ -117,9 +117,9 @@ pub lost_line : (q : Place) (h : Held) (c : Command) (words : Area → ℕ → �
 lost_line place.Between h c words is = absurd (cc is)
 lost_line _ h c words is = refl
 
-pub faults_lost : (c : Command) (words : Area → ℕ → ℕ) → is_lost (place.Access (Leave leaving.Faults)) c words ≡ false
-faults_lost (Access gfn word op) words = refl
-faults_lost _ words = refl
+pub faults_lost : (fast : Bool) (c : Command) (words : Area → ℕ → ℕ) → is_lost (place.Access (Leave (leaving.Faults fast))) c words ≡ false
+faults_lost fast (Access gfn word op) words = refl
+faults_lost fast _ words = refl
 
 -- Where it isn't, the walk finds a leaf.
 module _ (z : Sizes) (w : World Held) (actor : ℕ) (G : IsSound z w) (there : actor < actors_of z) where

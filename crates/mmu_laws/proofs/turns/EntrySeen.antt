@@ -1,10 +1,9 @@
 -- Where a fault comes to its end with an entry installed, it has just loaded this entry or stored it.
-use Rattle.std.proofs.Common.{◌≡◌, ℕ, refl, sym, subst, ap, ◌∙◌, arith}
+use Rattle.std.proofs.Common.{◌≡◌, ℕ, refl, sym, subst}
 use Rattle.std.specs.Prelude.{◌+◌, Bool, true, false, ◌==◌, ◌&&◌, nat_le, nat_lt, not, if◌then◌else◌}
 use Rattle.core_views.specs.declared.place.Cause.TheVariants.{Entry, Moved, Open}
 use Rattle.core_views.specs.declared.place.CheckStage.{CheckStage}
 use Rattle.core_views.specs.declared.place.CheckStage.TheVariants as stage
-use Rattle.core_views.specs.declared.place.FaultEnd.{FaultEnd}
 use Rattle.core_views.specs.declared.place.FaultEnd.TheVariants as end_of
 use Rattle.core_views.specs.declared.place.FaultNext.{FaultNext}
 use Rattle.core_views.specs.declared.place.FaultNext.TheVariants as next_of
@@ -20,9 +19,8 @@ use Rattle.spte_words.specs.declared.area.Area.TheVariants as area
 use Rattle.spte_words.specs.declared.spte_kind.SpteKind.{SpteKind}
 use Rattle.spte_words.specs.declared.spte_kind.SpteKind.TheVariants as entry_kind
 use Rattle.spte_words.specs.Areas.{pool_index}
-use Rattle.spte_words.specs.Entries.{kind_of}
-use Rattle.spte_words.specs.HostWords.{host_allows_write, host_frame, host_present}
-use Rattle.spte_words.proofs.ReadsEntries.{kind_of_leaf}
+use Rattle.spte_words.specs.Entries.{kind_of, can_write}
+use Rattle.spte_words.specs.HostWords.{host_allows_write, host_present}
 use Rattle.part_steps.specs.declared.part_step.PartStep.TheVariants as part
 use Rattle.mmu_core.specs.declared.claim.ClaimNext.{ClaimNext}
 use Rattle.mmu_core.specs.declared.claim.ClaimNext.TheVariants as claims
@@ -31,16 +29,20 @@ use Rattle.mmu_core.specs.declared.share.ShareNext.TheVariants as shares
 use Rattle.mmu_core.specs.alone.FaultAlone.{EntryStands}
 use Rattle.mmu_core.specs.lines.FaultKnows.{FaultKnows}
 use Rattle.mmu_core.specs.declared.claim.FreeMap.TheVariants.{Pages}
-use Rattle.mmu_core.specs.lines.FaultSteps.{after_claim, after_share, check_next, check_part, claim_next, claim_part, entry_word, fault_next}
+use Rattle.mmu_core.specs.lines.FaultSteps.{after_claim, after_share, check_next, check_part, claim_next, claim_part, fault_next}
 use Rattle.mmu_core.specs.lines.FaultSteps.{fault_part, find_next, host_word_at, is_last_word, share_next, share_part, snapshot_taken, walk_next}
-use Rattle.part_steps.specs.PartTasks.{entry_index, leaf_written, page_looked, part_task, table_page, word_looked, words_filled}
+use Rattle.mmu_core.specs.lines.FaultSteps.{exchange_lost, fast_walk_next, put_next}
+use Rattle.part_steps.specs.PartTasks.{entry_index, leaf_written, page_looked, part_task, table_page, word_looked, words_filled, leaf_fixed}
 use Rattle.part_steps.specs.PartTopics.{exchanged, part_topics}
-use Rattle.part_steps.specs.SlotWords.{may_write, page_of}
-use Rattle.part_steps.specs.WalkTopics.{gone_down, linked_page, unless_linked}
+use Rattle.part_steps.specs.SlotWords.{page_of}
+use Rattle.part_steps.specs.WalkTopics.{gone_down, linked_page}
 use Rattle.part_steps.specs.PageTopics.{searched}
 use Rattle.mmu_laws.specs.turns.Removal.{ends_installed, has_installed}
 use Rattle.mmu_core.specs.machine.View.{answer_in, upd, words_after}
 use Rattle.mmu_core.proofs.machine.Columns.{upd_same}
+use Rattle.part_steps.specs.PartHoldings.{is_fixable}
+use Rattle.mmu_core.proofs.lines.LeafKnown.{IsPut, fix_marks, fix_put, leaf_put, put_at, put_is, puts_marks}
+use Rattle.core_views.specs.declared.topics.TableWalk.{TableWalk}
 
 -- Where a fault comes to such an end, it has just loaded or stored the entry; it is over with one only from such a place.
 abbrev pub SeesEntry : FaultNext → (ℕ → ℕ) → ℕ → Topics → Type 0
@@ -88,26 +90,42 @@ walk_sees : (k : SpteKind) (z : Sizes) (gfn : ℕ) (write : Bool) (t : Topics) (
 walk_sees (entry_kind.Table page) z gfn write t pool v here = λ is. absurd (cc is)
 walk_sees _ z gfn write t pool v here = λ is. here
 
-leaf_sees : (won : Bool) (z : Sizes) (gfn v : ℕ) (t : Topics) (pool : ℕ → ℕ) (cause : FaultEnd) → has_installed cause ≡ false → t.walk.level ≡ 1
-    → v ≡ pool (pool_index (table_page t.walk) (entry_index gfn t.walk.level))
-    → SeesEntry (next_of.Goes (if won then fault.Unshare end_of.Installed else fault.Unshare cause))
-    (upd pool (pool_index (table_page t.walk) (entry_index gfn t.walk.level)) (if won then leaf_written t else v)) gfn
-    (exchanged won (entry_index gfn t.walk.level) (leaf_written t) t v)
-leaf_sees false z gfn v t pool cause not_ low is = λ ends. absurd (cc (not_, ends))
-leaf_sees true z gfn v t pool cause not_ low is =
-    subst (λ (k : SpteKind). SeesEntry (next_of.Goes (fault.Unshare end_of.Installed)) behind gfn (record t {
-      walk = gone_down (linked_page k) t.walk (entry_index gfn t.walk.level) (leaf_written t);
-      owned = unless_linked (linked_page k) t.owned;
-    }))
-    (sym stays) (λ ends. upd_same pool (pool_index (table_page t.walk) (entry_index gfn t.walk.level)) (leaf_written t))
+-- An exchange for a leaf that was won.
+put_sees : (gfn new_ v : ℕ) (write fast marks : Bool) (t : Topics) (pool : ℕ → ℕ) → IsPut gfn write t new_ → (t.search.logged && can_write new_) ≡ marks
+    → SeesEntry (next_of.Goes (put_next fast marks)) (upd pool (pool_index (table_page t.walk) (entry_index gfn t.walk.level)) new_) gfn
+    (exchanged true (entry_index gfn t.walk.level) new_ t v)
+put_sees gfn new_ v write fast marks t pool P is =
+    subst (λ (u : Topics). SeesEntry (next_of.Goes (put_next fast marks)) behind gfn u) (sym (put_is gfn new_ v write marks t P is)) (by fast marks)
   where
     behind : ℕ → ℕ
-    behind = upd pool (pool_index (table_page t.walk) (entry_index gfn t.walk.level)) (leaf_written t)
+    behind = upd pool (pool_index (table_page t.walk) (entry_index gfn t.walk.level)) new_
 
-    stays : kind_of t.walk.level (leaf_written t) ≡ entry_kind.Leaf
-    stays = ap (λ l. kind_of l (leaf_written t)) low
-        ∙ kind_of_leaf 1 (host_frame (word_looked t.host)) (may_write t.search.slot (word_looked t.host)) (host_allows_write (word_looked t.host))
-        (may_write t.search.slot (word_looked t.host)) (omega arith) (omega arith)
+    stands : EntryStands behind gfn (put_at gfn new_ v marks t)
+    stands = upd_same pool (pool_index (table_page t.walk) (entry_index gfn t.walk.level)) new_
+
+    by : (fast marks_ : Bool) → SeesEntry (next_of.Goes (put_next fast marks_)) behind gfn (put_at gfn new_ v marks t)
+    by fast true = λ ends. stands
+    by true false = λ ends. stands
+    by false false = λ ends. stands
+
+exchange_sees : (won : Bool) (gfn new_ v : ℕ) (write fast marks : Bool) (t : Topics) (pool : ℕ → ℕ) (lost : FaultPlace) → ends_installed lost ≡ false
+    → IsPut gfn write t new_ → (t.search.logged && can_write new_) ≡ marks
+    → SeesEntry (next_of.Goes (if won then put_next fast marks else lost))
+    (upd pool (pool_index (table_page t.walk) (entry_index gfn t.walk.level)) (if won then new_ else v)) gfn
+    (exchanged won (entry_index gfn t.walk.level) new_ t v)
+exchange_sees true gfn new_ v write fast marks t pool lost not_ P is = put_sees gfn new_ v write fast marks t pool P is
+exchange_sees false gfn new_ v write fast marks t pool lost not_ P is = λ ends. absurd (cc (not_, ends))
+
+fast_not : (k : SpteKind) (walk : TableWalk) (v : ℕ) → ends_installed (fast_walk_next k walk v) ≡ true → ⊥
+fast_not (entry_kind.Table page) walk v is = cc is
+fast_not entry_kind.Leaf walk v is = neither ((walk.level == 1) && is_fixable v) fault.Fix (fault.End (end_of.NotFast v)) refl refl is
+fast_not entry_kind.Absent walk v is = cc is
+fast_not entry_kind.Frozen walk v is = cc is
+
+fast_finds_not : (found last : Bool)
+    → ends_installed (if found then fault.FastWalk false else if last then fault.End (end_of.NotFast 0) else fault.FastFind true) ≡ true → ⊥
+fast_finds_not true last is = cc is
+fast_finds_not false last is = neither last (fault.End (end_of.NotFast 0)) (fault.FastFind true) refl refl is
 
 pub fault_sees : (p : FaultPlace) (z : Sizes) (own gfn note : ℕ) (write : Bool) (t : Topics) (words : Area → ℕ → ℕ) → ends_installed p ≡ false
     → FaultKnows p z gfn write t
@@ -137,11 +155,29 @@ fault_sees (fault.Claim begun) z own gfn note write t words not_ K =
 fault_sees fault.Fill z own gfn note write t words not_ K = λ is. absurd (neither (nat_lt (words_filled t.owned + 1) 512) fault.Fill fault.Role refl refl is)
 fault_sees fault.Link z own gfn note write t words not_ K =
     let v : ℕ = words area.Pool (pool_index (table_page t.walk) (entry_index gfn t.walk.level)) in
-    λ is. absurd (neither (v == t.walk.entry) (fault.Walk true) (fault.Give (end_of.Retry (Entry (entry_word z gfn t.walk) t.walk.entry v))) refl refl is)
+    λ is. absurd (neither (v == t.walk.entry) (fault.Walk true) (fault.Give (exchange_lost z gfn t.walk v)) refl refl is)
 fault_sees (fault.Give e) z own gfn note write t words not_ K = λ is. absurd (cc (not_, is))
-fault_sees fault.Leaf z own gfn note write t words not_ K =
+fault_sees (fault.Leaf writes) z own gfn note write t words not_ K =
     let v : ℕ = words area.Pool (pool_index (table_page t.walk) (entry_index gfn t.walk.level)) in
-    leaf_sees (v == t.walk.entry) z gfn v t (words area.Pool) (end_of.Retry (Entry (entry_word z gfn t.walk) t.walk.entry v)) refl K.3 refl
+    let P : IsPut gfn write t (leaf_written writes t) =
+    subst (λ (b : Bool). IsPut gfn write t (leaf_written b t)) (sym K.4) (leaf_put gfn write t K.0 K.2 K.3) in
+    let marks : (t.search.logged && can_write (leaf_written writes t)) ≡ (writes && t.search.logged) =
+    subst (λ (b : Bool). (t.search.logged && can_write (leaf_written b t)) ≡ (b && t.search.logged)) (sym K.4) (puts_marks gfn write t K.0) in
+    exchange_sees (v == t.walk.entry) gfn (leaf_written writes t) v write false (writes && t.search.logged) t (words area.Pool)
+    (fault.Unshare (exchange_lost z gfn t.walk v)) refl P marks
+fault_sees fault.Fix z own gfn note write t words not_ K =
+    let v : ℕ = words area.Pool (pool_index (table_page t.walk) (entry_index gfn t.walk.level)) in
+    exchange_sees (v == t.walk.entry) gfn (leaf_fixed t) v write true t.search.logged t (words area.Pool) (fault.End (exchange_lost z gfn t.walk v)) refl
+    (fix_put gfn write t K.1) (fix_marks gfn t K.1)
+fault_sees (fault.Mark fast) z own gfn note write t words not_ K = absurd (cc not_)
+fault_sees (fault.FastFind true) z own gfn note write t words not_ K =
+    let s : SlotSearch = searched t.search (answer_in (part_task part.Slot own t note) words) in
+    λ is. absurd (fast_finds_not (is_last_word t.search.next && contains gfn s.slot) (s.id == 32) is)
+fault_sees (fault.FastFind false) z own gfn note write t words not_ K = λ is. absurd (cc is)
+fault_sees (fault.FastWalk true) z own gfn note write t words not_ K =
+    let v : ℕ = words area.Pool (pool_index (table_page t.walk) (entry_index gfn t.walk.level)) in
+    λ is. absurd (fast_not (kind_of t.walk.level v) t.walk v is)
+fault_sees (fault.FastWalk false) z own gfn note write t words not_ K = λ is. absurd (cc is)
 fault_sees (fault.Unshare e) z own gfn note write t words not_ K = λ is. absurd (cc (not_, is))
 fault_sees (fault.End e) z own gfn note write t words not_ K = not_
 fault_sees _ z own gfn note write t words not_ K = λ is. absurd (cc is)

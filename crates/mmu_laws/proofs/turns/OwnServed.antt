@@ -75,6 +75,7 @@ behind_fault_installed X (next_of.Ends end_of.Installed) y gfn write pool t sees
 behind_fault_installed X (next_of.Ends end_of.Mmio) y gfn write pool t sees K make = tt
 behind_fault_installed X (next_of.Ends end_of.HostFault) y gfn write pool t sees K make = tt
 behind_fault_installed X (next_of.Ends end_of.Starved) y gfn write pool t sees K make = tt
+behind_fault_installed X (next_of.Ends (end_of.NotFast seen)) y gfn write pool t sees K make = λ is. absurd (cc is)
 behind_fault_installed X (next_of.Ends (end_of.Retry cause)) y gfn write pool t sees K make = λ is. absurd (cc is)
 
 pause_installed : (X : Type 0) (used : Option Translation) (again : Bool) → (again ≡ true → X) → WhereInstalled (Goes (place.Access (pause_next again used))) X
@@ -111,7 +112,8 @@ module _ (X : Type 0) (h : Held) (gfn word : ℕ) (op : Op) (words : Area → �
       walk_installed X (kind_of h.topics.walk.level v) again (allows_access (is_write op) v) still
   access_installed Touch still K make = λ is. absurd (cc is)
   access_installed (Leave (leaving.Reached frame value)) still K make = tt
-  access_installed (Leave leaving.Faults) still K make = λ is. absurd (cc is)
+  access_installed (Leave (leaving.Faults true)) still K make = λ is. absurd (cc is)
+  access_installed (Leave (leaving.Faults false)) still K make = λ is. absurd (cc is)
   access_installed (Fault p) still K make =
       let v : ℕ = answer_in (access_task (Fault p) h gfn word op) words in
       let same : topics_at (place.Access (Fault p)) (Access gfn word op) h words ≡ part_topics (fault_part p gfn h.topics) h.topics v =

@@ -61,6 +61,8 @@ fault_never fault.Share gfn t = share_never t.hold
 fault_never (fault.Walk rooted) gfn t = either_place NeverZaps rooted (part.Walk gfn) part.Root (λ own_ note u e. cc e) (λ own_ note u e. cc e)
 fault_never (fault.Claim begun) gfn t =
     either_place NeverZaps (tries_one begun t.claim) part.Claim (part.Map (map_word begun t.claim)) (λ own_ note u e. cc e) (λ own_ note u e. cc e)
+fault_never (fault.FastFind begun) gfn t = either_place NeverZaps begun part.Slot part.Slots (λ own_ note u e. cc e) (λ own_ note u e. cc e)
+fault_never (fault.FastWalk rooted) gfn t = either_place NeverZaps rooted (part.Walk gfn) part.Root (λ own_ note u e. cc e) (λ own_ note u e. cc e)
 fault_never _ gfn t = λ own_ note u e. cc e
 
 touch_never : (op : Op) (index : ℕ) → (touch_of op index).kind ≡ kind.Zap → ⊥

@@ -183,14 +183,15 @@ module _ (z : Sizes) (w : World Held) (s : Step Kind) (G : IsSound z w) (may : M
     M : Misses stood line.command (outcome_at stood line.command h v)
     M = misses_at stood line.command h (outcome_at stood line.command h v) (knows_at z (view z w) a G.holds T.is_step.there T.is_step.left) is
 
-    leaves_at : g.state.place ≡ place.Access (Leave leaving.Faults)
+    leaves_at : g.state.place ≡ place.Access (Leave (leaving.Faults M.fast))
     leaves_at =
         ap (λ (k : Held). k.state.place) behind ∙ ap (λ n. place_after (outcome_at stood line.command h n)) (sym T.answers)
         ∙ ap (λ (o : Outcome). place_after o) M.leaves
 
     few_left : hand_left g ≤ most
     few_left =
-        let under : UnderWay (place.Access (Leave leaving.Faults)) g = subst (λ (q : Place). UnderWay q g) leaves_at (N.holds.lines a T.is_step.there).under in
+        let under : UnderWay (place.Access (Leave (leaving.Faults M.fast))) g =
+        subst (λ (q : Place). UnderWay q g) leaves_at (N.holds.lines a T.is_step.there).under in
         let line_is : line_of g ≡ g.state.line = ap (λ (q : Place). line_at q g) leaves_at in
         let bound = hand_few z (view z next_) a N.holds N.topics T.is_step.there under.1 in
         let same : most_steps g.state.sizes (line_of g).command ≡ most = ap (λ (l : Line). most_steps g.state.sizes l.command) line_is ∙ same_most in
@@ -199,7 +200,7 @@ module _ (z : Sizes) (w : World Held) (s : Step Kind) (G : IsSound z w) (may : M
     after_miss : LeavesFewer
     after_miss =
         misses_fewer (miss_is_lost is) (ap (λ (q : Place). is_lost q g.state.line.command (word_in z next_)) leaves_at
-        ∙ faults_lost g.state.line.command (word_in z next_)) few_left
+        ∙ faults_lost M.fast g.state.line.command (word_in z next_)) few_left
 
   goes_on : line_waits stood line.command h v ≡ false → begins_anew stood ≡ false → (p : Place) → outcome_of h v ≡ Goes p → LeavesFewer
   goes_on goes on p out = by (misses v) refl

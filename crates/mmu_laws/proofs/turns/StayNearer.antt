@@ -40,7 +40,7 @@ use Rattle.part_steps.specs.WalkTopics.{gone_down, linked_page}
 use Rattle.part_steps.specs.ControlTopics.{at_root}
 use Rattle.mmu_core.proofs.lines.FaultFalls.{fault_falls}
 pub use Rattle.mmu_laws.proofs.turns.Nearer.{Nearer}
-use Rattle.mmu_core.proofs.lines.FaultKnown.{above_lowest}
+use Rattle.mmu_core.proofs.lines.WalkKnown.{above_lowest}
 use Rattle.mmu_core.proofs.lines.AccessLeft.{two_left}
 use Rattle.mmu_core.proofs.machine.PartStepping.{behind_part}
 
@@ -66,10 +66,11 @@ root_nearer again true y t v is = let same : stay_left again y (record t { walk 
 root_nearer again false y t v is = absurd (cc is)
 
 -- It leaves for a fault in the first stay alone, but for a delay.
-leaves_nearer : (again : Bool) (level : ℕ) (y : Sizes) (t u : Topics) → (again && true) ≡ false → 1 ≤ level
-    → Nearer (Goes (place.Access (Leave leaving.Faults))) y u (level + stay_left again y t)
-leaves_nearer true level y t u on from = absurd (cc on)
-leaves_nearer false level y t u on from = let same : fault_left fault.Begin y u ≡ fault_left fault.Begin y t = refl in omega (arith, same, from)
+leaves_nearer : (again fast : Bool) (level : ℕ) (y : Sizes) (t u : Topics) → (again && true) ≡ false → 1 ≤ level
+    → Nearer (Goes (place.Access (Leave (leaving.Faults fast)))) y u (level + stay_left again y t)
+leaves_nearer true fast level y t u on from = absurd (cc on)
+leaves_nearer false fast level y t u on from =
+    let same : fault_left fault.FastBegin y u ≡ fault_left fault.FastBegin y t = refl in omega (arith, same, from)
 
 walk_nearer : (k : SpteKind) (allowed again : Bool) (gfn : ℕ) (y : Sizes) (t : Topics) (v : ℕ) → kind_of t.walk.level v ≡ k → 1 ≤ t.walk.level
     → (again && leaves_to_fault (Goes (place.Access (stay_next again k allowed)))) ≡ false
@@ -82,8 +83,10 @@ walk_nearer (entry_kind.Table page) allowed again gfn y t v is from on =
     let upper : 2 ≤ t.walk.level = above_lowest t.walk.level v page from is in
     omega (arith, same, upper)
 walk_nearer entry_kind.Leaf true again gfn y t v is from on = let two = two_left again y t in omega (arith, from, two)
+walk_nearer entry_kind.Leaf false again gfn y t v is from on =
+    leaves_nearer again true t.walk.level y t (record t { walk = gone_down None t.walk (entry_index gfn t.walk.level) v }) on from
 walk_nearer _ _ again gfn y t v is from on =
-    leaves_nearer again t.walk.level y t (record t { walk = gone_down None t.walk (entry_index gfn t.walk.level) v }) on from
+    leaves_nearer again false t.walk.level y t (record t { walk = gone_down None t.walk (entry_index gfn t.walk.level) v }) on from
 
 -- ---- the fault
 
@@ -106,6 +109,7 @@ fault_nearer (next_of.Ends end_of.Installed) y u left on less = omega (arith, le
 fault_nearer (next_of.Ends end_of.Mmio) y u left on less = tt
 fault_nearer (next_of.Ends end_of.HostFault) y u left on less = tt
 fault_nearer (next_of.Ends end_of.Starved) y u left on less = tt
+fault_nearer (next_of.Ends (end_of.NotFast seen)) y u left on less = omega (arith, less)
 fault_nearer (next_of.Ends (end_of.Retry cause)) y u left on less = absurd on
 
 -- ---- each place
@@ -126,8 +130,12 @@ module _ (h : Held) (gfn word : ℕ) (op : Op) (v : ℕ) (small : gfn < 2 ^ 36) 
       walk_nearer (kind_of h.topics.walk.level v) (allows_access (is_write op) v) again gfn h.state.sizes h.topics v refl K.1.there on
   access_nearer Touch K on = omega arith
   access_nearer (Leave (leaving.Reached frame value)) K on = tt
-  access_nearer (Leave leaving.Faults) K on =
-      let u : Topics = behind_part (access_part (Leave leaving.Faults) gfn h.topics) h.topics v in
+  access_nearer (Leave (leaving.Faults true)) K on =
+      let u : Topics = behind_part (access_part (Leave (leaving.Faults true)) gfn h.topics) h.topics v in
+      let same : fault_left fault.FastBegin h.state.sizes u ≡ fault_left fault.FastBegin h.state.sizes h.topics = refl in
+      omega (arith, same)
+  access_nearer (Leave (leaving.Faults false)) K on =
+      let u : Topics = behind_part (access_part (Leave (leaving.Faults false)) gfn h.topics) h.topics v in
       let same : fault_left fault.Begin h.state.sizes u ≡ fault_left fault.Begin h.state.sizes h.topics = refl in
       omega (arith, same)
   access_nearer (Fault p) K on =

@@ -75,7 +75,8 @@ EndNoted end_of.HostFault gfn op notes = SawForbidden notes gfn op
 EndNoted end_of.Starved gfn op notes = SawPage notes gfn op
 EndNoted _ gfn op notes = Unit {0}
 
--- what the line has noted: while it searches the slots; once it has found its slot; from its look at the host on; and once its fault is to end
+-- what the line has noted: while it searches the slots; once it has found its slot; from its look at the host on; and once its fault is to end. A fast fault
+-- notes nothing that counts.
 abbrev pub NotedAt : (ℕ → ℕ) → FaultPlace → ℕ → Op → Topics → Notes → Type 0
 NotedAt pool fault.Begin gfn op t notes = Unit {0}
 NotedAt pool fault.Snapshot gfn op t notes = Unit {0}
@@ -86,6 +87,11 @@ NotedAt pool fault.Bring gfn op t notes = NotedLook notes t.host gfn op
 NotedAt pool (fault.Give e) gfn op t notes = EndNoted e gfn op notes
 NotedAt pool (fault.Unshare e) gfn op t notes = EndNoted e gfn op notes
 NotedAt pool (fault.End e) gfn op t notes = EndNoted e gfn op notes
+NotedAt pool fault.FastBegin gfn op t notes = Unit {0}
+NotedAt pool (fault.FastFind begun) gfn op t notes = Unit {0}
+NotedAt pool (fault.FastWalk rooted) gfn op t notes = Unit {0}
+NotedAt pool fault.Fix gfn op t notes = Unit {0}
+NotedAt pool (fault.Mark fast) gfn op t notes = Unit {0}
 NotedAt pool _ gfn op t notes = SawPage notes gfn op
 
 -- The line has done nothing yet, and has looked at the pause, which wasn't set.

@@ -25,15 +25,16 @@ use Rattle.part_steps.specs.SlotWords.{slots_below}
 use Rattle.mmu_core.specs.machine.View.{word_in}
 
 -- The leaf is of the page that the live slots of the published set give the guest frame; this page is present, and the leaf names the frame that its
--- host word names. It allows writes exactly where the slots give a write its page too and the host allows writes to this page.
+-- host word names. Its MMU-writable bit tells whether the slots give a write its page too and the host allows writes to this page, its host-writable bit
+-- whether the host does; and it allows no write that its MMU-writable bit doesn't tell. (A leaf that a read entered in a logged slot allows none.)
 pub record LeafAgrees (set : ℕ) (pool host : ℕ → ℕ) (gfn leaf : ℕ) : Type 0 where
   pub page : ℕ
   pub behind : page_behind (slots_below pool set 32) gfn Read ≡ Some page
   pub present : host_present (host page) ≡ true
   pub frame : frame_in leaf ≡ host_frame (host page)
-  pub writes : (op : Op) → is_write op ≡ true → can_write leaf ≡ (host_allows_write (host page) && is_some (page_behind (slots_below pool set 32) gfn op))
   pub host_bit : host_writable leaf ≡ host_allows_write (host page)
-  pub mmu_bit : mmu_writable leaf ≡ can_write leaf
+  pub mmu_bit : (op : Op) → is_write op ≡ true → mmu_writable leaf ≡ (host_allows_write (host page) && is_some (page_behind (slots_below pool set 32) gfn op))
+  pub writes : can_write leaf ≡ true → mmu_writable leaf ≡ true
 
 -- In every sound world: each leaf to which links lead a guest frame from the root agrees.
 abbrev pub LeavesAgree : Type 0

@@ -46,9 +46,10 @@ run_lines = set_line ∷ set_read_only_line ∷ outsider_line ∷ write_line ∷
 -- and links it; it puts the leaf; and in another stay in the guest the processor walks to this leaf, touches, and leaves.
 -- The read walks to the same leaf: 9 steps. The addition and the second read go by what is cached: 4 steps each.
 -- The read of the other slot finds the tables, and its fault puts a leaf alone. It is cached, but doesn't allow the write after it, which
--- walks, leaves, and finds in its fault that the slot is read-only.
+-- walks and leaves: 8 steps. Its fast fault finds the slot and walks to the leaf, in which writes can't be allowed: 16 steps. Its whole fault
+-- finds that the slot is read-only: 12 steps.
 abbrev pub run_order : List ℕ
-run_order = replicate 1048 3 ++ (replicate 47 0 ++ (replicate 1581 1 ++ (replicate 13 0 ++ (replicate 4 1 ++ (replicate 40 0 ++ replicate 20 0)))))
+run_order = replicate 1048 3 ++ (replicate 47 0 ++ (replicate 1581 1 ++ (replicate 13 0 ++ (replicate 4 1 ++ (replicate 40 0 ++ replicate 36 0)))))
 
 -- what they tell
 abbrev pub run_events : List Event
@@ -92,6 +93,7 @@ run_events =
     ∷ by other_slot_line (Answered 9 (Reached 1 0))
     ∷ by forbidden_line (Begun forbidden_line)
     ∷ by forbidden_line LookedAtPause
+    ∷ by forbidden_line LookedAtSlots
     ∷ by forbidden_line LookedAtSlots
     ∷ by forbidden_line (Exited Mmio)
     ∷ by forbidden_line (Answered 10 Mmio)

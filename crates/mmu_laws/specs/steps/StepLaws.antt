@@ -78,6 +78,7 @@ IsOn kind.Unframe a = a ≡ area.FrameMap
 IsOn kind.Read a = a ≡ area.Content
 IsOn kind.Write a = a ≡ area.Content
 IsOn kind.Add a = a ≡ area.Content
+IsOn kind.Mark a = a ≡ area.Log
 
 -- The step's word is one of an area of its kind.
 pub record IsOnItsArea (z : Sizes) (k : Kind) : Type 0 where

@@ -51,6 +51,7 @@ abbrev pub ends_installed : FaultPlace → Bool
 ends_installed (fault.Give e) = has_installed e
 ends_installed (fault.Unshare e) = has_installed e
 ends_installed (fault.End e) = has_installed e
+ends_installed (fault.Mark fast) = true
 ends_installed _ = false
 
 -- The access stands after such an entry: in the last steps of its fault, or in the stay in the guest that comes next.
@@ -116,7 +117,8 @@ pub record StayMisses (z : Sizes) (w : World Held) (ss : List (Step Kind)) (s : 
   pub gfn : ℕ
   pub word : ℕ
   pub op : Op
+  pub fast : Bool
   pub at : (hand_in mmu (run mmu w ss) s.actor).state.place ≡ place.Access (Walk true)
   pub access_is : (hand_in mmu (run mmu w ss) s.actor).state.line.command ≡ Access gfn word op
-  pub misses : outcome_of (hand_in mmu (run mmu w ss) s.actor) (answered mmu (run mmu w ss) s.kind) ≡ Goes (place.Access (Leave leaving.Faults))
+  pub misses : outcome_of (hand_in mmu (run mmu w ss) s.actor) (answered mmu (run mmu w ss) s.kind) ≡ Goes (place.Access (Leave (leaving.Faults fast)))
   pub lost : LostEntry z s.actor gfn (is_write op) w ss

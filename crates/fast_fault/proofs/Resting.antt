@@ -1,0 +1,73 @@
+-- What the answer of a fast fault's turn rests on, from the step that it made.
+use Rattle.std.proofs.Common.{◌≡◌, ◌∙◌, ℕ, None, refl, sym, subst}
+use Rattle.std.specs.Prelude.{Bool, true, false}
+use Rattle.core_views.specs.declared.hand.Seen.{Seen}
+use Rattle.core_views.specs.declared.place.AccessPlace.TheVariants.{Fault}
+use Rattle.core_views.specs.declared.place.FaultEnd.{FaultEnd}
+use Rattle.core_views.specs.declared.place.FaultEnd.TheVariants as end_of
+use Rattle.core_views.specs.declared.place.FaultNext.TheVariants.{Goes}
+use Rattle.core_views.specs.declared.place.FaultPlace.{FaultPlace}
+use Rattle.core_views.specs.declared.place.FaultPlace.TheVariants.{End, FastBegin, FastFind, FastWalk, Fix, Mark}
+use Rattle.core_views.specs.declared.place.Place.TheVariants as place
+use Rattle.core_views.specs.Held.{Held}
+use Rattle.mmu_core.specs.lines.FaultKnows.{FaultEndKnows, HasCause}
+use Rattle.mmu_core.specs.machine.Steps.{place_at}
+use Rattle.step_seats.specs.FaultTurns.{FaultAnswersBy, IsAtFaultPlace, MakesFaultStep, WaitsBy, as_end, end_turn}
+use Rattle.step_seats.specs.Seats.{Seat}
+use Rattle.step_seats.specs.declared.turn.Turn.{Turn}
+use Rattle.step_seats.specs.declared.turn.Turn.TheVariants.{More, Wait, Retry, Done}
+use Rattle.fast_fault.specs.declared.fast.FastJob.{FastJob}
+use Rattle.fast_fault.specs.declared.fast.FastFaulted.{FastFaulted}
+use Rattle.fast_fault.specs.declared.fast.FastFaulted.TheVariants.{Fixed, NotFast}
+use Rattle.fast_fault.specs.Fasts.{FastRestsOn, StandsInFast, end_told, stands_fast}
+
+-- A turn that goes on doesn't wait, where its step doesn't.
+goes : (turn : Turn FastFaulted) (q : FaultPlace) (waits : Bool) (way : Seen) (job : FastJob) (h : Held) → waits ≡ false
+    → FaultAnswersBy (as_end end_told turn) (Goes q) → WaitsBy (as_end end_told turn) waits way → FastRestsOn turn job h
+goes More q waits way job h never is by_ = tt
+goes (Wait seen) q waits way job h never is by_ = let waited = by_.0 in absurd (cc (waited, never))
+goes (Retry cause) q waits way job h never is by_ = absurd is
+goes (Done answer) q waits way job h never is by_ = absurd is
+
+-- what the end that a turn tells rests on
+abbrev Rests : Turn FaultEnd → FastJob → Held → Type 0
+Rests (Done e) job h = FaultEndKnows e h.state.sizes job.gfn job.write h.topics × (h.topics.owed ≡ None)
+Rests (Retry cause) job h = HasCause cause h.state.sizes job.gfn h.topics
+Rests (Wait seen) job h = ⊥
+Rests More job h = Unit {0}
+
+over : (e : FaultEnd) (job : FastJob) (h : Held) → FaultEndKnows e h.state.sizes job.gfn job.write h.topics → h.topics.owed ≡ None → Rests (end_turn e) job h
+over end_of.Installed job h K owes = (K, owes)
+over end_of.Mmio job h K owes = (K, owes)
+over end_of.HostFault job h K owes = (K, owes)
+over end_of.Starved job h K owes = (K, owes)
+over (end_of.NotFast word) job h K owes = (K, owes)
+over (end_of.Retry cause) job h K owes = K
+
+told : (turn : Turn FastFaulted) (job : FastJob) (h : Held) → Rests (as_end end_told turn) job h → FastRestsOn turn job h
+told (Done Fixed) job h K = K
+told (Done (NotFast word)) job h K = K.0
+told (Retry cause) job h K = K
+told (Wait seen) job h K = K
+told More job h K = tt
+
+pub rests_on : (p : FaultPlace) (job : FastJob) (turn : Turn FastFaulted) (note : ℕ) (before after : Seat) → stands_fast p ≡ true
+    → IsAtFaultPlace p job.gfn job.write note before.hand → MakesFaultStep p job.gfn job.write (as_end end_told turn) note before after
+    → FastRestsOn turn job before.hand
+rests_on (End e) job turn note before after fast I M =
+    told turn job before.hand (subst (λ (t : Turn FaultEnd). Rests t job before.hand) (sym M.turned) (over e job before.hand I.knows.2 I.knows.0.owes_none))
+rests_on FastBegin job turn note before after fast I M = goes turn _ _ _ job before.hand refl M.turned M.waits_by
+rests_on (FastFind true) job turn note before after fast I M = goes turn _ _ _ job before.hand refl M.turned M.waits_by
+rests_on (FastFind false) job turn note before after fast I M = goes turn _ _ _ job before.hand refl M.turned M.waits_by
+rests_on (FastWalk true) job turn note before after fast I M = goes turn _ _ _ job before.hand refl M.turned M.waits_by
+rests_on (FastWalk false) job turn note before after fast I M = goes turn _ _ _ job before.hand refl M.turned M.waits_by
+rests_on Fix job turn note before after fast I M = goes turn _ _ _ job before.hand refl M.turned M.waits_by
+rests_on (Mark lockless) job turn note before after fast I M = goes turn _ _ _ job before.hand refl M.turned M.waits_by
+rests_on _ job turn note before after fast I M = absurd (cc fast)
+
+-- The place where the hand's line stands is one of a fast fault.
+pub stands_there : (p : FaultPlace) (job : FastJob) (h : Held) → StandsInFast job h → place_at h.state.place h ≡ place.Access (Fault p) → stands_fast p ≡ true
+stands_there p job h S at =
+    let same : place.Access (Fault S.fault.at) ≡ place.Access (Fault p) = sym S.fault.stands ∙ at in
+    let is : S.fault.at ≡ p = cc same in
+    subst (λ (q : FaultPlace). stands_fast q ≡ true) is S.fast

@@ -1,2 +1,0 @@
-pub mod InLine
-pub mod Turning

@@ -1,0 +1,42 @@
+-- Where a search of the slots leads a fault, a whole one or a fast one; and what a fast one does with an entry (locking.rst, "Fast page fault").
+use Rattle.std.specs.Prelude.{ℕ, Bool, true, false, ◌==◌, ◌&&◌, if◌then◌else◌}
+use Rattle.core_views.specs.declared.place.FaultEnd.TheVariants.{Installed, NotFast}
+use Rattle.core_views.specs.declared.place.FaultPlace.{FaultPlace}
+use Rattle.core_views.specs.declared.place.FaultPlace.TheVariants.{Unshare, End, FastFind, FastWalk, Fix, Mark}
+use Rattle.core_views.specs.declared.place.SlotField.{SlotField}
+use Rattle.core_views.specs.declared.place.SlotField.TheVariants as field
+use Rattle.core_views.specs.declared.topics.SlotSearch.{SlotSearch}
+use Rattle.core_views.specs.declared.topics.TableWalk.{TableWalk}
+use Rattle.core_views.specs.Slots.{contains}
+use Rattle.spte_words.specs.declared.spte_kind.SpteKind.{SpteKind}
+use Rattle.spte_words.specs.declared.spte_kind.SpteKind.TheVariants as entry_kind
+use Rattle.part_steps.specs.PartHoldings.{is_fixable}
+
+-- after a word of the slots: the slot with the guest frame is found, none has it, or the search goes on
+abbrev pub is_last_word : SlotField → Bool
+is_last_word field.Host = true
+is_last_word _ = false
+
+-- the place where the slot is found, where none has the guest frame, and where the search goes on
+abbrev pub search_next : FaultPlace → FaultPlace → FaultPlace → ℕ → SlotField → SlotSearch → FaultPlace
+search_next has none more gfn loaded found =
+    if is_last_word loaded && contains gfn found.slot then has else
+    if found.id == 32 then none else
+    more
+
+abbrev pub fast_find_next : ℕ → SlotField → SlotSearch → FaultPlace
+fast_find_next gfn loaded found = search_next (FastWalk false) (End (NotFast 0)) (FastFind true) gfn loaded found
+
+-- The entry is a leaf of the lowest level that forbids nothing but the write.
+abbrev pub is_fast : SpteKind → ℕ → ℕ → Bool
+is_fast entry_kind.Leaf level v = (level == 1) && is_fixable v
+is_fast _ level v = false
+
+-- after an entry v on the way of a fast fault
+abbrev pub fast_walk_next : SpteKind → TableWalk → ℕ → FaultPlace
+fast_walk_next (entry_kind.Table page) walk v = FastWalk true
+fast_walk_next entry walk v = if is_fast entry walk.level v then Fix else End (NotFast v)
+
+-- after a leaf was put, or writes allowed in it: where the slot has a dirty log the page is marked
+abbrev pub put_next : Bool → Bool → FaultPlace
+put_next fast marks = if marks then Mark fast else if fast then End Installed else Unshare Installed

@@ -1,0 +1,119 @@
+-- Where links lead from the root to a leaf, they lead to one that allows as much where each entry of a table stays that isn't absent, but that a leaf
+-- may allow writes from then on; or the step zaps an entry of the guest frame.
+use Rattle.core_views.specs.declared.kind.StepKind.TheVariants as kind
+use Rattle.std.proofs.Common.{◌≡◌, ◌⊎◌, inl, inr, ◌+◌, ◌*◌, ◌^◌, ◌<◌, ◌≤◌, ℕ, zero, suc, refl, sym, ap, ◌∙◌, arith}
+use Rattle.std.specs.Prelude.{true, Option, Some, None}
+use Rattle.spte_words.specs.declared.area.Area.{Area}
+use Rattle.spte_words.specs.declared.area.Area.TheVariants as area
+use Rattle.spte_words.specs.declared.spte_kind.SpteKind.{SpteKind}
+use Rattle.spte_words.specs.declared.spte_kind.SpteKind.TheVariants as entry_kind
+use Rattle.spte_words.specs.Areas.{pool_index}
+use Rattle.spte_words.specs.Entries.{absent_word, kind_of, can_write}
+use Rattle.spte_words.proofs.ReadsEntries.{kind_of_absent}
+use Rattle.mmu_core.specs.alone.FaultAlone.{LeadsTo}
+use Rattle.part_steps.specs.PartTasks.{entry_index}
+use Rattle.part_steps.specs.WalkTopics.{linked_page}
+use Rattle.mmu_core.specs.invariant.TreePart.{Position, TreePart, at, Use, stands}
+use Rattle.mmu_laws.proofs.leaves.LeadsDown.{below_stands}
+use Rattle.part_steps.specs.declared.task.Task.{Task}
+
+-- The step zaps a leaf in an entry of the table that stands there, and leaves the entry absent.
+pub record IsZapped (task : Task) (before : ℕ → ℕ) (k : ℕ) (p : Position) (j : ℕ) : Type 0 where
+  pub kind_is : task.kind ≡ kind.Zap
+  pub area_is : task.area ≡ area.Pool
+  pub index_is : task.index ≡ pool_index k j
+  pub writes : task.written ≡ 0
+  pub leaf : kind_of p.level (before (pool_index k j)) ≡ entry_kind.Leaf
+
+-- A leaf was there, and one is that allows writes if it did.
+pub record IsLeafStill (level was is : ℕ) : Type 0 where
+  pub was_leaf : kind_of level was ≡ entry_kind.Leaf
+  pub is_leaf : kind_of level is ≡ entry_kind.Leaf
+  pub writes : can_write was ≡ true → can_write is ≡ true
+
+-- What was in an entry of a table is there still, or it was absent, or the step zaps it, or both are leaves; and the root is the same.
+abbrev pub EntryStays : Task → (ℕ → ℕ) → (ℕ → ℕ) → ℕ → Position → ℕ → Type 0
+EntryStays task before after k p j =
+    (after (pool_index k j) ≡ before (pool_index k j)) ⊎ (before (pool_index k j) ≡ absent_word) ⊎ IsZapped task before k p j
+    ⊎ IsLeafStill p.level (before (pool_index k j)) (after (pool_index k j))
+
+abbrev pub EntriesStay : Task → (ℕ → Option Position) → (ℕ → ℕ) → (ℕ → ℕ) → Type 0
+EntriesStay task stands before after = (k : ℕ) (p : Position) → stands k ≡ Some p → (j : ℕ) → j < 512 → EntryStays task before after k p j
+
+pub record LinksStay (task : Task) (stands : ℕ → Option Position) (before after : Area → ℕ → ℕ) : Type 0 where
+  pub entries : EntriesStay task stands (before area.Pool) (after area.Pool)
+  pub root : after area.Root 0 ≡ before area.Root 0
+
+-- The step zaps an entry of the guest frame.
+pub record ZapsEntry (task : Task) (stands : ℕ → Option Position) (before : ℕ → ℕ) (gfn : ℕ) : Type 0 where
+  pub level : ℕ
+  pub prefix : ℕ
+  pub page : ℕ
+  pub at_page : stands page ≡ Some (at level prefix)
+  pub zaps : IsZapped task before page (at level prefix) (entry_index gfn level)
+
+-- ---- where links lead
+
+module _ {pages root : ℕ} {role before : ℕ → ℕ} {up : ℕ → Use} {spot : ℕ → Position} (T : TreePart pages root role before up spot) (after : ℕ → ℕ)
+    (few : pages ≤ 2 ^ 32) (task : Task)
+    (stay : EntriesStay task (stands up spot) before after) (gfn entry : ℕ) where
+  abbrev Zaps : Type 0
+  Zaps = ZapsEntry task (stands up spot) before gfn
+
+  -- Links lead to a leaf that allows writes if the one before did.
+  pub record LeadsOn (level page : ℕ) : Type 0 where
+    pub leaf : ℕ
+    pub leads : LeadsTo after level page gfn leaf
+    pub is_leaf : kind_of 1 leaf ≡ entry_kind.Leaf
+    pub writes : can_write entry ≡ true → can_write leaf ≡ true
+
+  lowest_stays : (prefix page : ℕ) → kind_of 1 entry ≡ entry_kind.Leaf → stands up spot page ≡ Some (at 1 prefix) → LeadsTo before 1 page gfn entry
+      → LeadsOn 1 page ⊎ Zaps
+  lowest_stays prefix page leaf at_page leads = by (stay page (at 1 prefix) at_page (entry_index gfn 1) (omega arith))
+    where
+      by : EntryStays task before after page (at 1 prefix) (entry_index gfn 1) → LeadsOn 1 page ⊎ Zaps
+      by (inl same) = inl (record { leaf = entry; leads = same ∙ leads; is_leaf = leaf; writes = λ w. w })
+      by (inr (inl was)) = let absent : kind_of 1 entry ≡ entry_kind.Absent = ap (kind_of 1) (sym leads ∙ was) ∙ kind_of_absent 1 in absurd (cc (absent, leaf))
+      by (inr (inr (inl Z))) = inr (record { level = 1; prefix = prefix; page = page; at_page = at_page; zaps = Z })
+      by (inr (inr (inr K))) = inl (record {
+        leaf = after (pool_index page (entry_index gfn 1));
+        leads = refl;
+        is_leaf = K.is_leaf;
+        writes = λ w. K.writes (ap can_write leads ∙ w);
+      })
+
+  -- the link to a table, from an entry of a level
+  abbrev Links : (ℕ → ℕ) → ℕ → ℕ → ℕ → Type 0
+  Links pool level page below = linked_page (kind_of level (pool (pool_index page (entry_index gfn level)))) ≡ Some below
+
+  link_stays : (level prefix page below : ℕ) → stands up spot page ≡ Some (at level prefix) → Links before level page below
+      → Links after level page below ⊎ Zaps
+  link_stays level prefix page below at_page link = by (stay page (at level prefix) at_page j (omega arith))
+    where
+      j : ℕ
+      j = entry_index gfn level
+
+      by : EntryStays task before after page (at level prefix) j → Links after level page below ⊎ Zaps
+      by (inl same) = inl (ap (λ n. linked_page (kind_of level n)) same ∙ link)
+      by (inr (inl was)) =
+          let none : linked_page (kind_of level (before (pool_index page j))) ≡ None = ap (λ n. linked_page (kind_of level n)) was
+          ∙ ap (λ (k : SpteKind). linked_page k) (kind_of_absent level) in
+          absurd (cc (none, link))
+      by (inr (inr (inl Z))) = inr (record { level = level; prefix = prefix; page = page; at_page = at_page; zaps = Z })
+      by (inr (inr (inr K))) =
+          let none : linked_page (kind_of level (before (pool_index page j))) ≡ None = ap (λ (k : SpteKind). linked_page k) K.was_leaf in
+          absurd (cc (none, link))
+
+  pub leads_stay : (level prefix page : ℕ) → kind_of 1 entry ≡ entry_kind.Leaf → stands up spot page ≡ Some (at (suc level) prefix)
+      → LeadsTo before (suc level) page gfn entry → LeadsOn (suc level) page ⊎ Zaps
+  leads_stay zero prefix page leaf at_page leads = lowest_stays prefix page leaf at_page leads
+  leads_stay (suc level) prefix page leaf at_page leads =
+      both (link_stays (suc (suc level)) prefix page leads.0 at_page leads.1)
+      (leads_stay level (prefix * 512 + entry_index gfn (suc (suc level))) leads.0 leaf
+      (below_stands T few gfn entry level prefix page leads.0 at_page leads.1) leads.2)
+    where
+      both : Links after (suc (suc level)) page leads.0 ⊎ Zaps → LeadsOn (suc level) leads.0 ⊎ Zaps → LeadsOn (suc (suc level)) page ⊎ Zaps
+      both (inl link) (inl below) =
+          inl (record { leaf = below.leaf; leads = (leads.0, link, below.leads); is_leaf = below.is_leaf; writes = below.writes })
+      both (inl link) (inr Z) = inr Z
+      both (inr Z) more = inr Z

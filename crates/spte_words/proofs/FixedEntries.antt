@@ -1,0 +1,52 @@
+-- A leaf of the lowest level in which writes are allowed.
+use Rattle.std.proofs.Common.{◌≡◌, ◌≢◌, ◌+◌, ◌/◌, ◌%◌, ◌^◌, ◌<◌, ℕ, true, false, refl, arith, ap, ◌∙◌}
+use Rattle.std.specs.Prelude.{Bool, ◌==◌, if◌then◌else◌, not}
+use Rattle.std.proofs.lemmas.Bool.Decides.{nat_tests}
+use Rattle.spte_words.specs.declared.spte_kind.SpteKind.TheVariants.{Absent, Frozen, Leaf}
+use Rattle.spte_words.specs.Bits.{has_bit, bit_if}
+use Rattle.spte_words.specs.Entries.{can_write, frozen_word, is_leaf_at, kind_of, with_write}
+
+-- the word with bit 1 set, where it is clear
+fixed_is : (w : ℕ) → can_write w ≡ false → with_write w ≡ w + 2
+unfolding with_write
+fixed_is w denies = ap (λ (b : Bool). w + bit_if 1 (not b)) denies
+
+clear : (w : ℕ) → can_write w ≡ false → w / 2 % 2 ≡ 0
+unfolding can_write
+clear w denies = grind (arith, nat_tests)
+
+pub fixed_can_write : (w : ℕ) → can_write w ≡ false → can_write (with_write w) ≡ true
+unfolding can_write
+fixed_can_write w denies = ap (has_bit 1) (fixed_is w denies) ∙ by (clear w denies)
+  where
+    by : w / 2 % 2 ≡ 0 → has_bit 1 (w + 2) ≡ true
+    by none = let one : (w + 2) / 2 % 2 ≡ 1 = omega (arith, none) in grind (arith, nat_tests)
+
+present_leaf : (w : ℕ) → kind_of 1 w ≡ Leaf → (w ≢ frozen_word) × (w / 2048 % 2 ≡ 1)
+unfolding kind_of is_leaf_at
+present_leaf w is = by (w == frozen_word) (has_bit 11 w) refl refl is
+  where
+    by : (frozen present : Bool) → (w == frozen_word) ≡ frozen → has_bit 11 w ≡ present
+        → (if frozen then Frozen else if present then Leaf else Absent) ≡ Leaf → (w ≢ frozen_word) × (w / 2048 % 2 ≡ 1)
+    by true present f p e = absurd (cc e)
+    by false true f p e = (grind (arith, nat_tests), grind (arith, nat_tests))
+    by false false f p e = absurd (cc e)
+
+-- It is a leaf still.
+pub fixed_kind : (w : ℕ) → kind_of 1 w ≡ Leaf → can_write w ≡ false → kind_of 1 (with_write w) ≡ Leaf
+unfolding kind_of is_leaf_at frozen_word
+fixed_kind w is denies = ap (kind_of 1) (fixed_is w denies) ∙ by (clear w denies) (present_leaf w is).1
+  where
+    by : w / 2 % 2 ≡ 0 → w / 2048 % 2 ≡ 1 → kind_of 1 (w + 2) ≡ Leaf
+    by none one =
+        let present : (w + 2) / 2048 % 2 ≡ 1 = omega (arith, none, one) in
+        let other : w + 2 ≢ 0x5a0 = omega (arith, present) in
+        let a : (w + 2 == 0x5a0) ≡ false = grind (arith, nat_tests) in
+        let b : has_bit 11 (w + 2) ≡ true = grind (arith, nat_tests) in
+        rw (a, b) refl
+
+pub fixed_fits : (w : ℕ) → w < 2 ^ 64 → can_write w ≡ false → with_write w < 2 ^ 64
+fixed_fits w small denies = rw (fixed_is w denies) (by (clear w denies))
+  where
+    by : w / 2 % 2 ≡ 0 → w + 2 < 2 ^ 64
+    by none = omega (arith, none, small)

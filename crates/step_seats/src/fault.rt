@@ -1,0 +1,40 @@
+//! The place of a hand's line in its fault.
+ghost use Rattle.std.specs.Prelude.{◌≡◌};
+ghost use Rattle.core_views.specs.declared.place.AccessPlace.TheVariants.{Fault};
+ghost use Rattle.core_views.specs.declared.place.Place.TheVariants as Place;
+ghost use Rattle.mmu_core.specs.lines.AccessSteps.{access_note};
+ghost use Rattle.mmu_core.specs.machine.Steps.{place_at};
+ghost use Rattle.mmu_core.specs.machine.Worlds.{HandReached};
+ghost use Rattle.step_seats.specs.FaultTurns.{IsAtFaultPlace, StandsInFault, is_fast_place};
+
+use core_views::{AccessPlace, FaultEnd, FaultPlace, Hand, Place};
+
+/// Whether the place is one of a fast fault alone (locking.rst, "Fast page fault"). A fault ends
+/// as installed, or begins anew, at the same place whether it is a fast one or a whole one.
+pub fn is_fast_place(place: FaultPlace) -> bool
+    ensures { result ≡ is_fast_place place }
+{
+    match place {
+        FaultPlace::FastBegin | FaultPlace::FastFind { .. } | FaultPlace::FastWalk { .. } => true,
+        FaultPlace::Fix | FaultPlace::End(FaultEnd::NotFast(_)) => true,
+        FaultPlace::Mark { fast } => fast,
+        _ => false,
+    }
+}
+
+/// The place where the fault of the hand's line stands. Its actor may make the step of this
+/// place, and knows what the place asks.
+pub fn fault_place(hand: &Hand, gfn: u64, write: bool) -> FaultPlace
+    requires reached { ∥ HandReached hand.now.core ∥₁ }
+    requires stands { StandsInFault gfn write hand.now.core }
+    ensures stands { place_at hand.now.core.state.place hand.now.core ≡ Place.Access (Fault result) }
+    ensures is_at { IsAtFaultPlace result gfn write (access_note (Fault result)) hand.now.core }
+{
+    let Place::Access(access) = hand.progress().place else {
+        unreachable!()
+    };
+    let AccessPlace::Fault(place) = access else {
+        unreachable!()
+    };
+    place
+}
