@@ -4,3 +4,4 @@ pub mod Pending
 pub mod PendingArmed
 pub mod Readings
 pub mod Rules
+pub mod OneReader

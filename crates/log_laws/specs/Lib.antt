@@ -4,3 +4,4 @@ pub mod LogTraces
 pub mod UnlawfulReadings
 pub mod ClearTraces
 pub mod LogRules
+pub mod OneReader

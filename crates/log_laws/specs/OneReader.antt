@@ -1,0 +1,40 @@
+-- Where one actor alone reads dirty logs, as the manager does, no two readings overlap.
+use Rattle.std.specs.Prelude.{◌≡◌, ◌≢◌, ◌⊎◌, ℕ, List, [], ◌∷◌, ◌++◌, None}
+use Rattle.core_views.specs.declared.actor.Actor.{Actor}
+use Rattle.core_views.specs.declared.event.Event.{Event}
+use Rattle.core_views.specs.declared.event.EventKind.{EventKind}
+use Rattle.core_views.specs.declared.event.EventKind.TheVariants.{Begun, Harvested, Shown, Taken}
+use Rattle.core_views.specs.declared.sizes.Sizes.{Sizes}
+use Rattle.core_views.specs.LogCommands.{log_read}
+use Rattle.core_views.specs.Flat.{first_flat}
+use Rattle.core_views.specs.Lawful.{IsLawful}
+use Rattle.core_views.specs.Writes.{NoneIsTaken}
+use Rattle.log_laws.specs.HarvestLaws.{made_by}
+
+-- Of another actor than the reader the event begins no line that reads a log.
+abbrev pub LeavesReading : Actor → Actor → EventKind → Type 0
+LeavesReading reader actor (Begun line) = (actor ≡ reader) ⊎ (log_read line.command ≡ None)
+LeavesReading _ _ _ = Unit {0}
+
+-- Only this actor begins lines that read logs.
+abbrev pub OnlyReads : Actor → List Event → Type 0
+OnlyReads reader [] = Unit {0}
+OnlyReads reader (e ∷ es) = LeavesReading reader e.actor e.kind × OnlyReads reader es
+
+-- The event is not the end of a reading of this actor.
+abbrev pub EndsNone : Actor → Actor → EventKind → Type 0
+EndsNone reader actor (Harvested id frames) = actor ≢ reader
+EndsNone reader actor (Shown id frames) = actor ≢ reader
+EndsNone _ _ _ = Unit {0}
+
+-- So is none of the events.
+abbrev pub StillReads : Actor → List Event → Type 0
+StillReads reader [] = Unit {0}
+StillReads reader (e ∷ es) = EndsNone reader e.actor e.kind × StillReads reader es
+
+-- In a lawful history in which one actor alone reads logs: from where it begins to read one until it has read it, no log begins to be read.
+abbrev pub ReadingsAreApart : Type 0
+ReadingsAreApart =
+    (z : Sizes) (before between : List Event) (reader : Actor) (id : ℕ)
+    → IsLawful z first_flat (before ++ (made_by reader (Taken id) ∷ between))
+    → OnlyReads reader before → OnlyReads reader between → StillReads reader between → NoneIsTaken between
