@@ -1,1 +1,2 @@
 pub mod SlotRules
+pub mod DoneLines

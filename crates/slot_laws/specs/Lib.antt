@@ -1,2 +1,3 @@
 pub mod SlotRules
 pub mod Starving
+pub mod DoneLines

@@ -1,3 +1,4 @@
+ghost use Rattle.slot_laws.specs.DoneLines.{DoneComesOfOneChange};
 ghost use Rattle.slot_laws.specs.SlotRules.{DeletionsAreOfSlots, DoneAtOnceChangesNone, SetSlotsKeepShapes, WorkChangesOne};
 ghost use Rattle.slot_laws.specs.Starving.{MissingCannotStarve, UnchangedCannotStarve};
 
@@ -12,6 +13,13 @@ pub fn slot_lines_keep_shapes()
     ensures deletions { DeletionsAreOfSlots }
     ensures none { DoneAtOnceChangesNone }
     ensures some { WorkChangesOne }
+{}
+
+/// A law about lawful histories. A line that changes a slot and is answered done has changed it just
+/// once, as it asks, between its begin and its answer; or it has changed none, and has nothing to do
+/// with the slots right before its answer.
+pub fn done_lines_have_changed_once()
+    ensures { DoneComesOfOneChange }
 {}
 
 /// A law about two closed histories that aren't lawful: a line that sets a slot as it is, and a

@@ -4,4 +4,6 @@
 
 mod laws;
 
-pub use laws::{idle_slot_lines_cannot_starve, slot_lines_keep_shapes};
+pub use laws::{
+    done_lines_have_changed_once, idle_slot_lines_cannot_starve, slot_lines_keep_shapes,
+};
