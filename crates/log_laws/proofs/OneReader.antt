@@ -1,5 +1,5 @@
 -- The reader's own line is in its reading until this ends, and nobody else has a line that reads.
-use Rattle.std.proofs.Common.{◌≡◌, ◌⊎◌, inl, inr, ℕ, Bool, true, false, List, [], ◌∷◌, ◌++◌, refl, sym, ap, ◌∙◌, subst}
+use Rattle.std.proofs.Common.{◌≡◌, ◌⊎◌, inl, inr, ℕ, Bool, true, false, List, [], ◌∷◌, ◌++◌, refl, sym, ap, ◌∙◌, subst, append_assoc}
 use Rattle.std.specs.Prelude.{None, if◌then◌else◌}
 use Rattle.core_views.specs.declared.actor.Actor.{Actor}
 use Rattle.core_views.specs.declared.event.Event.{Event}
@@ -14,12 +14,13 @@ use Rattle.core_views.specs.Past.{Past}
 use Rattle.core_views.specs.Flat.{Facts, Flat, LineUnderWay, Stage, Idle, HasTaken, first_flat}
 use Rattle.core_views.specs.Events.{after, after_all, under_after}
 use Rattle.core_views.specs.Lawful.{IsAllowed, IsLawful, Tells}
-use Rattle.core_views.specs.Writes.{IsNoTaking, NoneIsTaken}
+use Rattle.core_views.specs.Writes.{IsNoTaking, NoneIsTaken, DueFramesAreKept}
 use Rattle.core_views.proofs.SameActor.{changed_here, same_is}
 use Rattle.core_views.proofs.Writes.{apart_actors}
 use Rattle.log_laws.specs.HarvestLaws.{made_by}
-use Rattle.log_laws.specs.OneReader.{EndsNone, LeavesReading, OnlyReads, ReadingsAreApart, StillReads}
-use Rattle.log_laws.proofs.Readings.{lawful_rest}
+use Rattle.log_laws.specs.OneReader.{EndsNone, LeavesReading, OnlyReads, ReadingsAreApart, StillReads, LoneReadingsAreComplete}
+use Rattle.log_laws.proofs.Readings.{lawful_rest, complete}
+use Rattle.core_views.specs.FlatHistory.{harvest}
 
 -- No line is under way, or one that reads no log.
 abbrev IsNoReader : LineUnderWay → Type 0
@@ -138,3 +139,18 @@ apart z before between reader id lawful early late still =
 
     rest : IsLawful z f (taken ∷ between)
     rest = lawful_rest z before (taken ∷ between) first_flat lawful
+
+-- The front of a lawful history is lawful.
+lawful_front : (z : Sizes) (xs ys : List Event) (f : Flat) → IsLawful z f (xs ++ ys) → IsLawful z f xs
+lawful_front z [] ys f lawful = tt
+lawful_front z (x ∷ xs) ys f lawful = (lawful.0, lawful_front z xs ys (after x f) lawful.1)
+
+pub lone_complete : DueFramesAreKept → LoneReadingsAreComplete
+lone_complete kept z before between reader id takes frames lawful early late still gfn dirty nobody asked =
+    complete kept z before between reader id takes frames lawful
+    (apart z before between reader id (lawful_front z (before ++ (made_by reader (Taken id) ∷ between)) last first_flat
+    (subst (IsLawful z first_flat) (sym (append_assoc before (made_by reader (Taken id) ∷ between) last)) lawful)) early late still)
+    gfn dirty nobody asked
+  where
+    last : List Event
+    last = made_by reader (harvest takes id frames) ∷ []

@@ -1,15 +1,17 @@
 -- Where one actor alone reads dirty logs, as the manager does, no two readings overlap.
-use Rattle.std.specs.Prelude.{◌≡◌, ◌≢◌, ◌⊎◌, ℕ, List, [], ◌∷◌, ◌++◌, None}
+use Rattle.std.specs.Prelude.{◌≡◌, ◌≢◌, ◌⊎◌, ℕ, Bool, List, [], ◌∷◌, ◌++◌, None, true}
 use Rattle.core_views.specs.declared.actor.Actor.{Actor}
 use Rattle.core_views.specs.declared.event.Event.{Event}
 use Rattle.core_views.specs.declared.event.EventKind.{EventKind}
 use Rattle.core_views.specs.declared.event.EventKind.TheVariants.{Begun, Harvested, Shown, Taken}
 use Rattle.core_views.specs.declared.sizes.Sizes.{Sizes}
-use Rattle.core_views.specs.LogCommands.{log_read}
+use Rattle.core_views.specs.LogCommands.{is_among, log_read}
 use Rattle.core_views.specs.Flat.{first_flat}
+use Rattle.core_views.specs.FlatHistory.{harvest}
+use Rattle.core_views.specs.Events.{after_all}
 use Rattle.core_views.specs.Lawful.{IsLawful}
 use Rattle.core_views.specs.Writes.{NoneIsTaken}
-use Rattle.log_laws.specs.HarvestLaws.{made_by}
+use Rattle.log_laws.specs.HarvestLaws.{IsAskedFor, NobodyWrites, made_by}
 
 -- Of another actor than the reader the event begins no line that reads a log.
 abbrev pub LeavesReading : Actor → Actor → EventKind → Type 0
@@ -38,3 +40,14 @@ ReadingsAreApart =
     (z : Sizes) (before between : List Event) (reader : Actor) (id : ℕ)
     → IsLawful z first_flat (before ++ (made_by reader (Taken id) ∷ between))
     → OnlyReads reader before → OnlyReads reader between → StillReads reader between → NoneIsTaken between
+
+-- So a reading of such an actor has read each frame for which it asks that was dirty as it began, unless a line was under way then that writes it: from its
+-- begin to its end, of which there is none between them.
+abbrev pub LoneReadingsAreComplete : Type 0
+LoneReadingsAreComplete =
+    (z : Sizes) (before between : List Event) (reader : Actor) (id : ℕ) (takes : Bool) (frames : List ℕ)
+    → IsLawful z first_flat (before ++ (made_by reader (Taken id) ∷ (between ++ (made_by reader (harvest takes id frames) ∷ []))))
+    → OnlyReads reader before → OnlyReads reader between → StillReads reader between
+    → (gfn : ℕ) → (after_all before first_flat).facts.pending gfn ≡ true → NobodyWrites before gfn
+    → IsAskedFor (after_all (before ++ (made_by reader (Taken id) ∷ between)) first_flat) reader id gfn
+    → is_among gfn frames ≡ true

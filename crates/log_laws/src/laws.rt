@@ -5,7 +5,7 @@ ghost use Rattle.log_laws.specs.LogTraces.{AllSetPrints, EndsPrint, GetPrints, M
 ghost use Rattle.log_laws.specs.LogTraces.{RangesPrint, ReadPrints, RefusalsPrint, WordsPrint};
 ghost use Rattle.log_laws.specs.LogRules.{ArmingArms, BadRangesAreTold, SuchMayBeRead};
 ghost use Rattle.log_laws.specs.LogWords.{ClearWordsTellFrames, GetWordsTellFrames};
-ghost use Rattle.log_laws.specs.OneReader.{ReadingsAreApart};
+ghost use Rattle.log_laws.specs.OneReader.{LoneReadingsAreComplete, ReadingsAreApart};
 ghost use Rattle.log_laws.specs.UnlawfulReadings.{AutomaticGetTakesAll, LogBeginsAllSet, LogBeginsArmed};
 ghost use Rattle.log_laws.specs.UnlawfulReadings.{LogBeginsClean, ManualGetTakesNone, NextGetReadsIt, RaceIsLawful};
 ghost use Rattle.log_laws.specs.UnlawfulReadings.{TakenIsNotReadAgain, UnwrittenIsNotRead, WrittenIsNotLeftOut};
@@ -24,7 +24,8 @@ use core_views::writes_are_kept;
 /// KVM_CLEAR_DIRTY_LOG). Nothing more is asked of a reading: any frames that rise, for which the
 /// line asks, that have a cause, and of which none is left out that must not be, may be read
 /// (`such`). An event that arms a log does so for its slot alone (`arms`). And where one actor alone
-/// reads logs, as the manager does, no log begins to be read before its reading has ended (`apart`).
+/// reads logs, as the manager does, no log begins to be read before its reading has ended (`apart`);
+/// so each of its readings is complete (`lone`).
 pub fn readings_tell_what_was_written()
     ensures complete { ReadingsAreComplete }
     ensures caused { ReadingsAreCaused }
@@ -36,6 +37,7 @@ pub fn readings_tell_what_was_written()
     ensures such { SuchMayBeRead }
     ensures arms { ArmingArms }
     ensures apart { ReadingsAreApart }
+    ensures lone { LoneReadingsAreComplete }
 {
     writes_are_kept();
 }

@@ -5,7 +5,7 @@ use Rattle.core_views.specs.Flat.{Flat, first_flat}
 use Rattle.core_views.specs.Events.{after, after_all}
 use Rattle.core_views.proofs.WrittenSince.{after_append}
 use Rattle.log_laws.specs.HarvestLaws.{IsMadeClean, MakesClean, made_by}
-use Rattle.log_laws.proofs.OneReader.{apart}
+use Rattle.log_laws.proofs.OneReader.{apart, lone_complete}
 use Rattle.log_laws.proofs.Pending.{Cleaned, dirty_until, makes_clean, write_marks}
 use Rattle.log_laws.proofs.PendingArmed.{all_armed, armed_found, first_armed}
 use Rattle.log_laws.proofs.Readings.{caused, complete}
@@ -63,3 +63,6 @@ returns-clause-arms c = arming
 
 pub returns-clause-apart : goal.returns-clause-apart
 returns-clause-apart c = apart
+
+pub returns-clause-lone : goal.returns-clause-lone
+returns-clause-lone c = lone_complete c.writes_are_kept.ensures.due
