@@ -198,8 +198,9 @@ pub fn the_pool_is_enough()
 /// guest frame from the root, or from the table over it that an actor's walk has come to,
 /// each one that a virtual processor may use of what it has cached, and the one by which
 /// an access is about to touch is of the page that the slots give the guest frame, at the
-/// frame that the host gives this page, and allows writes exactly where the slots give a
-/// write this page and the host allows it. A virtual processor may use all that it has
+/// frame that the host gives this page. It is MMU-writable exactly where the slots give a
+/// write this page and the host allows it, host-writable exactly where the host does, and
+/// allows writes only where it is MMU-writable. A virtual processor may use all that it has
 /// cached while it is in the guest, or no flush is asked of it. What is cached else is of
 /// the lowest level too, at frames of the machine, and no other actor has anything cached
 /// (tdp_mmu.c, `tdp_mmu_map_handle_target_level`; mmu.rst, "Shadow pages"). Each guest
