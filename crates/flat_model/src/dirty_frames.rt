@@ -14,8 +14,8 @@ use std::alloc::Global;
 use std::collections::BTreeSet;
 use std::marker::Model;
 
-/// The guest frames that are dirty: each was written while its slot had a dirty log, and was not
-/// taken out of the log since.
+/// The guest frames that are dirty: each was written while its slot had a dirty log, or was dirty as
+/// this log began, and was not taken out of the log since.
 #[derive(Drop)]
 pub struct DirtyFrames {
     frames: BTreeSet<u64>,
