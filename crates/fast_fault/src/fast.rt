@@ -11,7 +11,7 @@ ghost use Rattle.step_seats.specs.declared.turn.Turn.TheVariants.{More};
 use core_views::{AccessPlace, FaultEnd, FaultPlace};
 use grace_period::{begin, end};
 use memslots::{Find, Sought};
-use mmu_core::{access_note, part_rests};
+use mmu_steps::{access_note, part_rests};
 use part_steps::PartStep;
 use step_seats::{Stepper, Turn, fault_place, make_part};
 use tdp_walk::Walk;

@@ -9,7 +9,7 @@ ghost use Rattle.step_seats.specs.PartTurns.{TurnsPart, waits};
 ghost use Rattle.step_seats.specs.declared.turn.Turn.TheVariants.{More};
 
 use core_views::{Hand, Seen};
-use mmu_core::part_rests;
+use mmu_steps::part_rests;
 use part_steps::{PartStep, in_section, map_of, next_watched};
 use std::marker::Model;
 use step_seats::{Stepper, Turn, make_part};

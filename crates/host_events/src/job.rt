@@ -7,7 +7,8 @@ ghost use Rattle.step_seats.specs.Moves.{KeepsRoom};
 
 use crate::places::{claim, copy_word, exchange, free, look_up, store_word, watch};
 use core_views::{Command, Hand, HostChange, HostPlace, Seen};
-use mmu_core::{host_note, host_place, knows, part_rests, rests};
+use mmu_core::{knows, rests};
+use mmu_steps::{host_note, host_place, part_rests};
 use range_notifier::{BeginJob, EndJob};
 use step_seats::{Stepper, Turn};
 

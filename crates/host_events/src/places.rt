@@ -8,7 +8,8 @@ use core_views::{HostChange, Seen};
 use grace_period::Watch;
 use host_map::{change, copy, frame_give, look, store};
 use invalidate_seq::Snapshot;
-use mmu_core::{FreeMap, part_rests, word_put, word_to_copy, word_to_store};
+use mmu_core::FreeMap;
+use mmu_steps::{part_rests, word_put, word_to_copy, word_to_store};
 use step_seats::Stepper;
 use table_pool::Claim;
 

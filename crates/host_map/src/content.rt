@@ -6,7 +6,7 @@ ghost use Rattle.mmu_core.specs.machine.Enabled.{Enabled};
 ghost use Rattle.step_seats.specs.Moves.{KeepsRoom};
 
 use core_views::{Kind, Op, Sizes, StepKind};
-use mmu_core::part_rests;
+use mmu_steps::part_rests;
 use part_steps::map_of;
 use step_seats::Stepper;
 

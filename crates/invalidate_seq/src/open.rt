@@ -18,7 +18,7 @@ ghost use Rattle.invalidate_seq.specs.Invalidating.{
 };
 
 use core_views::Invalidations;
-use mmu_core::part_rests;
+use mmu_steps::part_rests;
 use part_steps::{PartStep, end_with, start_with};
 use step_seats::{Stepper, Turn, make_part};
 

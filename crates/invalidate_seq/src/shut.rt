@@ -7,7 +7,7 @@ ghost use Rattle.step_seats.specs.declared.turn.Turn.TheVariants.{More};
 ghost use Rattle.invalidate_seq.specs.Invalidating.{KeepsWord, Shuts, shut_after, shut_at, shut_step, shut_turn, shut_word, shuts_left};
 
 use core_views::Invalidations;
-use mmu_core::part_rests;
+use mmu_steps::part_rests;
 use part_steps::PartStep;
 use step_seats::{Stepper, Turn, make_part};
 

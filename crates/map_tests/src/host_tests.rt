@@ -6,7 +6,8 @@ ghost use Rattle.host_map.specs.Touching.{touch_kind};
 use crate::expected::expect;
 use core_views::{Actor, HostLook, Kind, NoMemory, Op, Sizes, StepKind};
 use host_map::{Changed, bring_in, change, load, look, touch};
-use mmu_core::{allows, next_kind, part_rests, rests};
+use mmu_core::rests;
+use mmu_steps::{allows, next_kind, part_rests};
 use part_steps::{PartStep, map_of};
 use part_tests::{
     HEAD_OF_POOL_8, expect_actor, first_other, go_to, is_next, machine_of, machine_with_slot,

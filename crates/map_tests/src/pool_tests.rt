@@ -9,7 +9,8 @@ ghost use Rattle.table_pool.specs.Pages.{fill_step};
 
 use crate::expected::expect;
 use core_views::{Actor, Seen};
-use mmu_core::{FreeMap, allows, part_rests};
+use mmu_core::FreeMap;
+use mmu_steps::{allows, part_rests};
 use part_steps::{PartStep, map_of, words_filled};
 use part_tests::{HEAD, expect_actor, machine_of};
 use spte_words::Area;

@@ -16,7 +16,7 @@ ghost use Rattle.memslots.specs.Finding.{
 };
 
 use core_views::{Slot, SlotField, SlotSearch};
-use mmu_core::part_rests;
+use mmu_steps::part_rests;
 use part_steps::PartStep;
 use step_seats::{Stepper, Turn, make_part};
 

@@ -13,7 +13,6 @@ pub mod FastKnown
 pub mod FaultKnown
 pub mod FaultNeeds
 pub mod FaultSame
-pub mod FirstUsable
 pub mod Forms
 pub mod KnowsKept
 pub mod KnowsStay
@@ -46,7 +45,6 @@ pub mod SweepFalls
 pub mod SweepSpans
 pub mod SweepWalks
 pub mod SweptSteps
-pub mod SweptBounds
 pub mod InvalidateKnown
 pub mod HostPlaces
 pub mod HostMoves

@@ -1,4 +1,3 @@
-pub mod Advancing
 pub mod Columns
 pub mod ColumnsTell
 pub mod EndsKept
@@ -6,7 +5,6 @@ pub mod Extend
 pub mod GoesOn
 pub mod HandAfter
 pub mod HandWith
-pub mod LineMade
 pub mod LineParts
 pub mod LineRuns
 pub mod NextTopics

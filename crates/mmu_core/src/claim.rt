@@ -1,22 +1,11 @@
-//! The steps of a claim of a page of the pool, or of a frame of the host, which several
-//! kinds of line make in the same order.
-ghost use Rattle.std.specs.Prelude.{◌≡◌, ◌<◌, ◌^◌, true};
+//! What is claimed, and what a claim of it comes to: the steps of a claim are those of
+//! several kinds of line.
+ghost use Rattle.std.specs.Prelude.{◌≡◌, ◌<◌, ◌^◌};
 ghost use Rattle.core_views.specs.Sizes.{AreSizes};
-ghost use Rattle.mmu_core.specs.lines.ClaimSteps.{
-  claim_next,
-  claim_over,
-  claim_part,
-  load_part,
-  loads_last_word,
-  map_area,
-  map_word,
-  map_words,
-  tries_one,
-  try_part,
-};
+ghost use Rattle.mmu_core.specs.lines.ClaimSteps.{claim_over, load_part, map_area, map_words, try_part};
 
 use core_views::{MapClaim, Sizes, Topics};
-use part_steps::{PartStep, is_won, map_of};
+use part_steps::{PartStep, map_of};
 use spte_words::Area;
 
 /// A map of bits, one for each thing that may be claimed, set where this is free.
@@ -88,63 +77,4 @@ pub enum ClaimNext {
     Got,
     /// No word of the map had one free.
     Empty,
-}
-
-fn tries_one(begun: bool, claim: &MapClaim) -> bool
-    ensures { result ≡ tries_one begun claim.now }
-{
-    begun && claim.seen > 0
-}
-
-fn map_word(begun: bool, claim: &MapClaim) -> u64
-    ensures { result ≡ map_word begun claim.now }
-{
-    if begun { claim.at } else { 0 }
-}
-
-/// The step of a claim.
-pub(crate) fn claim_part(map: FreeMap, begun: bool, claim: &MapClaim) -> PartStep
-    ensures { result ≡ claim_part map begun claim.now }
-{
-    if tries_one(begun, claim) {
-        map.try_part()
-    } else {
-        map.load_part(map_word(begun, claim))
-    }
-}
-
-/// The step loads the last word of the map.
-pub(crate) fn loads_last_word(map: FreeMap, begun: bool, sizes: &Sizes, claim: &MapClaim) -> bool
-    requires sizes { AreSizes sizes.now }
-    requires at { claim.now.at < 2 ^ 32 }
-    ensures { result ≡ loads_last_word map begun sizes.now claim.now }
-{
-    !tries_one(begun, claim) && map_word(begun, claim) + 1 == map.words(sizes)
-}
-
-/// What a claim comes to with its step, which answered `found`.
-pub(crate) fn claim_next(
-    map: FreeMap,
-    begun: bool,
-    sizes: &Sizes,
-    claim: &MapClaim,
-    found: u64,
-) -> ClaimNext
-    requires sizes { AreSizes sizes.now }
-    requires at { claim.now.at < 2 ^ 32 }
-    ensures { result ≡ claim_next map begun sizes.now claim.now found }
-{
-    if tries_one(begun, claim) {
-        return if is_won(claim, found) {
-            ClaimNext::Got
-        } else {
-            ClaimNext::Goes
-        };
-    }
-    let at = map_word(begun, claim) + if found == 0 { 1 } else { 0 };
-    if at < map.words(sizes) {
-        ClaimNext::Goes
-    } else {
-        ClaimNext::Empty
-    }
 }

@@ -1,34 +1,18 @@
 //! The steps of the machine: which step a hand allows, and what it does to its
-//! word and to the hand; and what holds of words and hands at every moment.
+//! word and to the hand; and what holds of words and hands at every moment. The
+//! functions that work out a step are those of `mmu_steps`.
 #![tactic(auto)]
 
-mod access;
-mod cached;
 mod claim;
-mod delays;
-mod fault;
-mod host;
 mod invalidate;
 mod laws;
 mod outcome;
-mod parts;
 mod share;
-mod slot_change;
-mod step;
-mod waits;
 mod watch;
 
-pub use access::{access_note, frame_used};
-pub use cached::lookup;
 pub use claim::{ClaimNext, FreeMap};
-pub use fault::entry_word;
-pub use host::{host_place, note as host_note, word_put, word_to_copy, word_to_store};
 pub use invalidate::{BeginNext, EndNext};
 pub use laws::{knows, rests};
 pub use outcome::Outcome;
-pub use parts::{allows, may_make, part_rests};
 pub use share::ShareNext;
-pub use slot_change::{change_place, note as change_note};
-pub use step::{advance, asks_flush, next_kind, next_step};
-pub use waits::{part_waits, waits_by};
 pub use watch::WatchNext;

@@ -19,7 +19,7 @@ ghost use Rattle.step_seats.specs.PartTurns.{MadePart, MakesPart};
 ghost use Rattle.step_seats.specs.declared.turn.Turn.TheVariants.{More};
 
 use core_views::{Hold, Seen};
-use mmu_core::part_rests;
+use mmu_steps::part_rests;
 use part_steps::{PartStep, has_writer};
 use step_seats::{Stepper, Turn, make_part};
 

@@ -1,7 +1,7 @@
 //! The two steps of a fast fault that change a word, at a machine that is at its start: no actor makes them without a line.
 use crate::{HEAD, expect_actor, machine_of, take_step};
 use core_views::{Actor, NoMemory};
-use mmu_core::allows;
+use mmu_steps::allows;
 use part_steps::{PartStep, needs_line};
 use std::test::Fail;
 use step_seats::{PlainMachine, Stepper};

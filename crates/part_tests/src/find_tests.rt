@@ -4,7 +4,7 @@ use crate::expected::expect;
 use crate::{HEAD, SETTING, expect_actor, machine_of, run_lines, take_step};
 use core_views::{Actor, NoMemory, Slot, Stay};
 use memslots::{Find, FoundSlot, Sought};
-use mmu_core::allows;
+use mmu_steps::allows;
 use part_steps::PartStep;
 use std::alloc::Global;
 use std::test::Fail;

@@ -8,7 +8,7 @@ use crate::expected::expect;
 use crate::{HEAD, expect_actor, machine_of};
 use core_views::{Actor, Hand, NoMemory, Seen};
 use grace_period::{Watch, begin, end};
-use mmu_core::{allows, part_rests};
+use mmu_steps::{allows, part_rests};
 use part_steps::{PartStep, next_watched};
 use std::alloc::Global;
 use std::test::Fail;

@@ -7,7 +7,8 @@ ghost use Rattle.mmu_core.specs.machine.Worlds.{HandReached};
 
 use crate::expect_actor;
 use core_views::{Actor, Answer, Hand, NoMemory};
-use mmu_core::{allows, next_kind, next_step, part_rests, rests};
+use mmu_core::rests;
+use mmu_steps::{allows, next_kind, next_step, part_rests};
 use part_steps::{PartStep, part_kind};
 use std::test::Fail;
 use step_seats::{PlainMachine, Stepper, Turn, make_part};

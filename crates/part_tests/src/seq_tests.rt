@@ -3,7 +3,7 @@ use crate::expected::expect;
 use crate::{HEAD, expect_actor, machine_of, take_step};
 use core_views::{Actor, CheckStage, Hold, Invalidated, Invalidations, NoMemory};
 use invalidate_seq::{Check, Checked, Snapshot};
-use mmu_core::allows;
+use mmu_steps::allows;
 use part_steps::PartStep;
 use std::alloc::Global;
 use std::test::Fail;

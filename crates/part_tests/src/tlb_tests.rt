@@ -2,7 +2,7 @@
 use crate::expected::expect;
 use crate::{HEAD, expect_actor, last_word, machine_of};
 use core_views::{Actor, NoMemory};
-use mmu_core::allows;
+use mmu_steps::allows;
 use part_steps::PartStep;
 use std::alloc::Global;
 use std::test::Fail;

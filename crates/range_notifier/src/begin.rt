@@ -12,7 +12,7 @@ use crate::lock::{exclude, release};
 use core_views::{BeginPlace, Hand, HostPlace, Place, Seen, Slot, SlotChangePlace};
 use invalidate_seq::{Open, OpenStage};
 use memslots::{Find, Sought};
-use mmu_core::part_rests;
+use mmu_steps::part_rests;
 use part_steps::{Target, map_of, swept_to};
 use step_seats::{Stepper, Turn};
 use tdp_walk::{Walk, sweep_entry, zap};

@@ -6,8 +6,8 @@ ghost use Rattle.step_seats.specs.Moves.{KeepsRoom};
 ghost use Rattle.step_seats.specs.PartTurns.{MadeTelling};
 
 use core_views::{Hold, Seen};
-use mmu_core::{part_rests, part_waits};
 use mmu_lock::{try_exclusive, unlock};
+use mmu_steps::{part_rests, part_waits};
 use part_steps::{PartStep, map_of};
 use spte_words::Area;
 use step_seats::Stepper;

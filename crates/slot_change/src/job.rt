@@ -8,7 +8,8 @@ ghost use Rattle.step_seats.specs.Moves.{KeepsRoom};
 use crate::places;
 use core_views::{Seen, SlotChangePlace};
 use invalidate_seq::Snapshot;
-use mmu_core::{change_note, change_place, knows, rests};
+use mmu_core::{knows, rests};
+use mmu_steps::{change_note, change_place};
 use part_steps::PartStep;
 use step_seats::{Stepper, Turn};
 

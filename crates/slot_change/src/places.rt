@@ -12,8 +12,9 @@ ghost use Rattle.step_seats.specs.Moves.{KeepsRoom};
 
 use core_views::{BeginPlace, EndPlace, Hand, Seen, Slot, SlotChangePlace};
 use grace_period::Watch;
-use mmu_core::{FreeMap, part_rests};
+use mmu_core::FreeMap;
 use mmu_lock::{try_exclusive, unlock};
+use mmu_steps::part_rests;
 use part_steps::{PartStep, SLOT_SET_ROLE, map_of, page_owned, set_word, words_filled};
 use range_notifier::{BeginJob, EndJob};
 use spte_words::Area;

@@ -5,7 +5,7 @@ ghost use Rattle.step_seats.specs.PartTurns.{MadePart};
 ghost use Rattle.step_seats.specs.Where.{HasHand};
 
 use crate::Stepper;
-use mmu_core::part_rests;
+use mmu_steps::part_rests;
 use part_steps::{PartStep, part_kind};
 
 /// Makes this step of a part of the machine, and answers what it found in its

@@ -13,7 +13,7 @@ ghost use Rattle.step_seats.specs.Where.{HasHand, IsMadeIn};
 use crate::ActorSeat;
 use crate::start::{start_hands, start_words};
 use core_views::{Actor, Closing, Hand, Kind, NoMemory, Sequence, Sizes, Trace};
-use mmu_core::advance;
+use mmu_steps::advance;
 use std::alloc::Global;
 use std::marker::Model;
 

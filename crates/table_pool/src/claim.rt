@@ -27,7 +27,8 @@ ghost use Rattle.table_pool.specs.Claims.{
 ghost use Rattle.table_pool.specs.declared.claim.Claimed.TheVariants.{Got};
 
 use core_views::{Hand, MapClaim, Seen, Sizes, Topics};
-use mmu_core::{FreeMap, part_rests};
+use mmu_core::FreeMap;
+use mmu_steps::part_rests;
 use part_steps::{PartStep, map_of};
 use step_seats::{Stepper, Turn, make_part};
 

@@ -7,7 +7,7 @@ ghost use Rattle.step_seats.specs.PartTurns.{MadePart, MakesPart, WherePartMade}
 ghost use Rattle.step_seats.specs.declared.turn.Turn.TheVariants.{More, Done};
 ghost use Rattle.table_pool.specs.Pages.{FillTurn, FillsWhereMade, FreesPage, GivesPage, fill_step, words_left};
 
-use mmu_core::part_rests;
+use mmu_steps::part_rests;
 use part_steps::{PartStep, part_kind, words_filled};
 use step_seats::{Stepper, Turn, make_part};
 

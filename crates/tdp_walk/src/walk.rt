@@ -6,7 +6,7 @@ ghost use Rattle.step_seats.specs.PartTurns.{MakesPart};
 ghost use Rattle.step_seats.specs.declared.turn.Turn.TheVariants.{More};
 ghost use Rattle.tdp_walk.specs.Walks.{FindsRoot, Looks, WasNextWord, walk_turns, walk_step};
 
-use mmu_core::part_rests;
+use mmu_steps::part_rests;
 use part_steps::PartStep;
 use spte_words::{Spte, SpteKind};
 use step_seats::{Stepper, Turn, make_part};

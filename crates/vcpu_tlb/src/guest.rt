@@ -7,7 +7,7 @@ ghost use Rattle.step_seats.specs.Moves.{KeepsRoom};
 ghost use Rattle.step_seats.specs.PartTurns.{MadePart, MakesPart};
 ghost use Rattle.vcpu_tlb.specs.Entering.{AnswersPause, AnswersState, Enters, KeepsAsking, TellsGuest, TellsOutside, cached_behind};
 
-use mmu_core::asks_flush;
+use mmu_steps::asks_flush;
 use part_steps::PartStep;
 use step_seats::{Stepper, make_part};
 

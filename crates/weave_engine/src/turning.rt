@@ -11,7 +11,8 @@ ghost use Rattle.weave_engine.specs.Turned.{TurnedOn, TurnedTold, next_code_in};
 
 use crate::job::next_job;
 use core_views::{Actor, NoMemory};
-use mmu_core::{next_kind, rests};
+use mmu_core::rests;
+use mmu_steps::next_kind;
 use step_seats::{ActorSeat, PlainMachine, Stepper, Turn};
 
 /// A turn that an actor has made: of which line, and how it ended. Where the line is

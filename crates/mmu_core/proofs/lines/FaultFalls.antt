@@ -8,7 +8,7 @@ use Rattle.core_views.specs.declared.place.CheckStage.TheVariants as stage
 use Rattle.core_views.specs.declared.place.FaultEnd.{FaultEnd}
 use Rattle.core_views.specs.declared.place.FaultEnd.TheVariants.{Installed, Mmio, HostFault, NotFast, Retry}
 use Rattle.core_views.specs.declared.place.FaultPlace.{FaultPlace}
-use Rattle.core_views.specs.declared.place.FaultPlace.TheVariants.{Begin, Find, Host, Bring, Share, Check, Walk, Claim, Fill, Role, Link, Give}
+use Rattle.core_views.specs.declared.place.FaultPlace.TheVariants.{Find, Host, Bring, Share, Check, Walk, Claim, Fill, Role, Link, Give}
 use Rattle.core_views.specs.declared.place.FaultPlace.TheVariants.{Leaf, Unshare, End, FastBegin, FastFind, FastWalk, Fix, Mark}
 use Rattle.core_views.specs.declared.sizes.Sizes.{Sizes}
 use Rattle.core_views.specs.declared.topics.Hold.{Hold}

@@ -9,7 +9,7 @@ use Rattle.core_views.specs.declared.kind.StepKind.{StepKind}
 use Rattle.core_views.specs.declared.kind.StepKind.TheVariants as kind
 use Rattle.core_views.specs.declared.sizes.Sizes.{Sizes}
 use Rattle.core_views.specs.Held.{Held}
-use Rattle.core_views.specs.Kinds.{after, answer, code_of, operation_of, operation_of_code, word_after, word_answered}
+use Rattle.core_views.specs.Kinds.{after, answer, code_of, kind_named, operation_of, operation_of_code, word_after, word_answered}
 use Rattle.spte_words.specs.declared.area.Area.{Area}
 use Rattle.spte_words.specs.declared.word_map.WordMap.{WordMap}
 use Rattle.spte_words.specs.Areas.{number_of, place, size_of, total}
@@ -76,6 +76,11 @@ read_set m words area other i j x lt count = by (eqb_tells (number_of other) (nu
     by (inr ne) =
         read_other m words area other i j x lt (λ e inside. ne.1 (ap number_of (places_apart m other area j i inside lt e).0))
         ∙ sym (ap (λ (b : Bool). (if b then upd (read m words other) i x else read m words other) j) ne.0)
+
+-- the kind that a kind's number names
+pub named_is : (k : StepKind) → kind_named (code_of k) ≡ k
+named_is kind.Enter = refl
+named_is _ = refl
 
 -- the operation of a kind, by its number
 operation_is : (k : StepKind) → operation_of_code (code_of k) ≡ operation_of k

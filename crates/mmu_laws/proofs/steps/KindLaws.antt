@@ -34,7 +34,7 @@ use Rattle.mmu_core.specs.machine.Steps.{line_at, place_at, task_of}
 use Rattle.mmu_core.specs.machine.View.{view, word_in}
 use Rattle.mmu_core.proofs.lines.StepIn.{StepIn, Touches, step_in}
 use Rattle.mmu_core.proofs.lines.StepIn as step_in_
-use Rattle.mmu_core.proofs.machine.Advancing.{named_is}
+use Rattle.mmu_core.proofs.machine.Views.{named_is}
 use Rattle.mmu_core.proofs.machine.Which.{is_next, is_part}
 use Rattle.mmu_core.proofs.machine.Worlds.{Takes, TakesPart, are_small, takes}
 use Rattle.mmu_laws.specs.steps.InvalidationLaws.{BringsAbsentPage, BringsAreOfAbsentPages, ChangesAreInvalidated, ChangesOwnPage, ZapsAreOfOpenInvalidations}

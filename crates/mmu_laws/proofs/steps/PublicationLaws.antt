@@ -28,7 +28,7 @@ use Rattle.mmu_core.specs.machine.Machine.{May, Step, World, effect, hand_in}
 use Rattle.mmu_core.specs.machine.Steps.{line_at, place_at, task_of}
 use Rattle.mmu_core.specs.machine.View.{View, view, word_in, words_after}
 use Rattle.mmu_core.proofs.lines.StepIn.{StepIn, Makes, Touches, step_in}
-use Rattle.mmu_core.proofs.machine.Advancing.{named_is}
+use Rattle.mmu_core.proofs.machine.Views.{named_is}
 use Rattle.mmu_core.proofs.machine.PartStepping.{IsFlushedOut, IsPart, MayReplace, idle_never, is_publish}
 use Rattle.mmu_core.proofs.machine.Which.{is_next, is_part}
 use Rattle.mmu_core.proofs.machine.Worlds.{Takes, TakesPart, are_small, takes}

@@ -35,7 +35,7 @@ use Rattle.mmu_core.specs.lines.Forms.{caches_at, RestsAt}
 use Rattle.mmu_core.specs.machine.Steps.{has_line, next, next_by, place_at, task_at, task_of}
 use Rattle.part_steps.specs.Tasks.{kind_of_task, map_of}
 use Rattle.mmu_core.specs.machine.Turns.{line_of}
-use Rattle.mmu_core.proofs.machine.Advancing.{named_is}
+use Rattle.mmu_core.proofs.machine.Views.{named_is}
 use Rattle.mmu_core.proofs.words.PartIndex.{index_same}
 use Rattle.mmu_core.proofs.invariant.RestsKept.{task_within}
 use Rattle.mmu_core.proofs.lines.ByStep.{StepAt, step_at, Makes, Touches}

@@ -1,0 +1,4 @@
+pub mod Advancing
+pub mod FirstUsable
+pub mod LineMade
+pub mod SweptBounds

@@ -1,0 +1,27 @@
+//! The running twins of the machine's definitions: which step a hand allows, and what it
+//! does to the hand. The order of the steps, and what holds at every moment, `mmu_core`
+//! has.
+#![tactic(auto)]
+
+mod access;
+mod cached;
+mod claim;
+mod delays;
+mod fault;
+mod host;
+mod invalidate;
+mod parts;
+mod share;
+mod slot_change;
+mod step;
+mod waits;
+mod watch;
+
+pub use access::{access_note, frame_used};
+pub use cached::lookup;
+pub use fault::entry_word;
+pub use host::{host_place, note as host_note, word_put, word_to_copy, word_to_store};
+pub use parts::{allows, may_make, part_rests};
+pub use slot_change::{change_place, note as change_note};
+pub use step::{advance, asks_flush, next_kind, next_step};
+pub use waits::{part_waits, waits_by};

@@ -1,0 +1,278 @@
+//! The step that a hand allows, and the hand after it.
+ghost use Rattle.std.specs.Prelude.{◌≡◌, ◌<◌, ◌+◌, Some, length, true, false};
+ghost use Rattle.core_views.specs.Sizes.{AreSizes};
+ghost use Rattle.core_views.specs.Traces.{IsCommandFor};
+ghost use Rattle.mmu_core.specs.lines.Forms.{AcceptsAt, RestsAt, part_at, caches_at, first_place, loads_at, outcome_at, records_at};
+ghost use Rattle.mmu_core.specs.lines.AccessSteps.{use_found};
+ghost use Rattle.mmu_core.specs.lines.Rests.{IsUnderWay, Rests};
+ghost use Rattle.mmu_core.specs.machine.Enabled.{Enabled};
+ghost use Rattle.mmu_core.specs.machine.Steps.{has_line, line_after, line_at, next, next_line, place_at, standing, task_at};
+ghost use Rattle.mmu_core.specs.lines.Cached.{asks_flush, flushed};
+ghost use Rattle.part_steps.specs.declared.part_step.PartStep.TheVariants.{Claim, Frame};
+ghost use Rattle.part_steps.specs.PartBounds.{PartRests};
+ghost use Rattle.core_views.specs.Kinds.{kind_named};
+ghost use Rattle.part_steps.specs.Tasks.{map_of};
+ghost use Rattle.part_steps.specs.TopicSteps.{HasRoom, topics_after};
+ghost use Rattle.spte_words.specs.Areas.{size_of};
+
+use crate::delays::{delays_behind, is_delay, steps_behind};
+use crate::{access, host, slot_change};
+use core_views::{
+    AccessPlace, AnsweredLine, Command, Hand, Kind, Line, Place, Progress, StepKind, Translation,
+};
+use mmu_core::Outcome;
+use part_steps::{PartStep, Task, kind_of, step_topics};
+
+// Where a line begins.
+fn first(hand: &Hand, line: &Line) -> Place
+    ensures { result ≡ first_place hand.now.core.state.sizes hand.now.core.slots line.now.command }
+{
+    match &line.command {
+        Command::Access { .. } => Place::Access(AccessPlace::Enter { again: false }),
+        Command::ChangeHost { .. } => Place::Host(host::first(&line.command)),
+        command => {
+            let sizes = &hand.progress().sizes;
+            Place::SlotChange(slot_change::first(sizes, hand.slots(), command))
+        }
+    }
+}
+
+// Where the line of the hand's next step stands.
+fn place_of(hand: &Hand, line: &Line) -> Place
+    ensures { result ≡ standing hand.now.core.state.place hand.now.core.state.sizes hand.now.core.slots line.now.command }
+{
+    let place = hand.progress().place;
+    match place {
+        Place::Between => first(hand, line),
+        _ => place,
+    }
+}
+
+// What the step of a place is to do.
+fn task(place: Place, hand: &Hand, line: &Line) -> Task
+    requires part { PartRests hand.now.core }
+    requires line { IsCommandFor hand.now.core.state.sizes line.now.actor line.now.command }
+    requires rests { RestsAt place line.now.command hand.now.core }
+    requires begun { IsUnderWay place }
+    ensures task { result ≡ task_at place line.now.command hand.now.core }
+    ensures within { result.index < size_of (map_of hand.now.core.state.sizes) result.area }
+{
+    match (place, &line.command) {
+        (Place::Access(place), Command::Access { gfn, word, op }) => {
+            access::task(place, hand, *gfn, *word, *op)
+        }
+        (Place::SlotChange(place), command) => slot_change::task(place, hand, command),
+        (Place::Host(place), Command::ChangeHost { page, change }) => {
+            host::task(place, *page, *change, hand)
+        }
+        _ => unreachable!(),
+    }
+}
+
+/// The one step that the hand allows: the next one of its line, in the order
+/// of the line's steps.
+#[tactic(auto, unfolding(mmu_core::specs::machine::Enabled::Enabled))]
+pub fn next_kind(hand: &Hand) -> Kind
+    requires left { length hand.now.core.answers < length hand.now.core.lines }
+    requires rests { Rests hand.now.core }
+    ensures { Enabled hand.now.core result }
+{
+    let line = hand.line();
+    let task = task(place_of(hand, line), hand, line);
+    kind_of(&hand.progress().sizes, &task)
+}
+
+/// The step of a part that a line makes at this place; `None` where the guest
+/// touches a content word.
+#[tactic(auto, using(mmu_core::proofs::lines::UsedTranslations::part_needs, mmu_core::proofs::lines::LineWaits::claims_seen))]
+pub(crate) fn part_of(place: Place, command: &Command, hand: &Hand) -> Option<PartStep>
+    requires part { PartRests hand.now.core }
+    requires rests { RestsAt place command.now hand.now.core }
+    ensures step { result ≡ part_at place command.now hand.now.core }
+    ensures seen { result ≡ Some Claim → 0 < hand.now.core.topics.claim.seen }
+    ensures frame_seen { result ≡ Some Frame → 0 < hand.now.core.topics.frames.claim.seen }
+{
+    match (place, command) {
+        (Place::Access(place), Command::Access { gfn, .. }) => access::part(place, *gfn, hand),
+        (Place::SlotChange(place), command) => Some(slot_change::part(place, hand, command)),
+        (Place::Host(place), Command::ChangeHost { page, change }) => {
+            Some(host::part(place, *page, *change, hand))
+        }
+        _ => Some(PartStep::Seq),
+    }
+}
+
+/// The step of a part that the hand's next step is, in the order of its line's
+/// steps; `None` where the guest touches a content word.
+pub fn next_step(hand: &Hand) -> Option<PartStep>
+    requires left { length hand.now.core.answers < length hand.now.core.lines }
+    requires rests { Rests hand.now.core }
+    ensures step { result ≡ part_at (place_at hand.now.core.state.place hand.now.core) (line_at hand.now.core.state.place hand.now.core).command hand.now.core }
+    ensures seen { result ≡ Some Claim → 0 < hand.now.core.topics.claim.seen }
+    ensures frame_seen { result ≡ Some Frame → 0 < hand.now.core.topics.frames.claim.seen }
+{
+    let line = hand.line();
+    part_of(place_of(hand, line), &line.command, hand)
+}
+
+// What is cached after the step of a place.
+fn fill_cache(place: Place, hand: &mut Hand, found: u64)
+    requires { length hand.old.core.answers < length hand.old.core.lines }
+    ensures core { hand.new.core ≡ record hand.old.core { cached = caches_at place (next_line hand.old.core).command hand.old.core found } }
+    ensures room { hand.new.room ≡ hand.old.room }
+{
+    let Place::Access(AccessPlace::Walk { again }) = place else {
+        return;
+    };
+    if let Command::Access { gfn, op, .. } = &hand.line().command {
+        let (gfn, op) = (*gfn, *op);
+        access::fill_cache(AccessPlace::Walk { again }, hand, gfn, op, found);
+    }
+}
+
+// The manager's own record of the slots after the step of a place.
+fn record_step(place: Place, hand: &mut Hand)
+    requires left { length hand.old.core.answers < length hand.old.core.lines }
+    requires line { IsCommandFor hand.old.core.state.sizes (next_line hand.old.core).actor (next_line hand.old.core).command }
+    requires accepts { AcceptsAt place (next_line hand.old.core).command hand.old.core.state.sizes hand.old.core.slots }
+    ensures core { hand.new.core ≡ record hand.old.core { slots = records_at place (next_line hand.old.core).command hand.old.core.slots } }
+    ensures room { hand.new.room ≡ hand.old.room }
+{
+    if let Place::SlotChange(place) = place {
+        slot_change::record_change(place, hand);
+    }
+}
+
+// Where the line stands after the step of a place, and the translation that it uses from
+// now on, where the step found one.
+fn outcome(
+    place: Place,
+    command: &Command,
+    hand: &Hand,
+    found: u64,
+) -> (Outcome, Option<Translation>)
+    requires part { PartRests hand.now.core }
+    requires rests { RestsAt place command.now hand.now.core }
+    ensures outcome { result.0 ≡ outcome_at place command.now hand.now.core found }
+    ensures used { use_found result.1 hand.now.core.state.used ≡ (loads_at place command.now hand.now.core found).used }
+{
+    match (place, command) {
+        (Place::Access(place), Command::Access { gfn, op, .. }) => {
+            access::outcome(place, hand, *gfn, *op, found)
+        }
+        (Place::SlotChange(place), command) => {
+            (slot_change::outcome(place, command, hand, found), None)
+        }
+        (Place::Host(place), Command::ChangeHost { page, change }) => {
+            (host::outcome(place, *page, *change, hand, found), None)
+        }
+        _ => (Outcome::Goes(place), None),
+    }
+}
+
+// The translation is used from now on, if there is one.
+fn use_translation(progress: &mut Progress, found: Option<Translation>)
+    ensures { progress.new ≡ record progress.old { used = use_found found progress.old.used } }
+{
+    if let Some(translation) = found {
+        progress.used = translation;
+    }
+}
+
+// The effect of a line's step on the hand, but for its topics and for a flush.
+fn advance_line(hand: &mut Hand, place: Place, found: u64)
+    requires left { length hand.old.core.answers < length hand.old.core.lines }
+    requires part { PartRests hand.old.core }
+    requires line { IsCommandFor hand.old.core.state.sizes (next_line hand.old.core).actor (next_line hand.old.core).command }
+    requires rests { RestsAt place (next_line hand.old.core).command hand.old.core }
+    requires begun { IsUnderWay place }
+    requires accepts { AcceptsAt place (next_line hand.old.core).command hand.old.core.state.sizes hand.old.core.slots }
+    requires room { 0 < hand.old.room }
+    ensures core { hand.new.core ≡ line_after (next_line hand.old.core) place hand.old.core found }
+    ensures room { length hand.new.core.answers + hand.new.room ≡ length hand.old.core.answers + hand.old.room }
+{
+    let line = hand.line();
+    let (number, actor) = (line.number, line.actor);
+    let (outcome, used) = outcome(place, &line.command, hand, found);
+    let delay = is_delay(place, &line.command, hand, &outcome, found);
+    let steps = steps_behind(delay, hand);
+    let delays = delays_behind(delay, hand);
+    record_step(place, hand);
+    fill_cache(place, hand, found);
+    let progress = hand.progress_mut();
+    use_translation(progress, used);
+    progress.steps = steps;
+    progress.delays = delays;
+    match outcome {
+        Outcome::Goes(place) => progress.place = place,
+        Outcome::Ends(answer) => {
+            progress.place = Place::Between;
+            hand.answer(AnsweredLine {
+                number,
+                actor,
+                answer,
+            });
+        }
+    }
+}
+
+// The step of the hand's line, where it has one left.
+#[inline(never)]
+fn step_line(hand: &mut Hand, found: u64)
+    requires rests { has_line hand.old.core ≡ true → Rests hand.old.core }
+    requires room { 0 < hand.old.room }
+    ensures line { has_line hand.old.core ≡ true → hand.new.core
+        ≡ line_after (line_at hand.old.core.state.place hand.old.core) (place_at hand.old.core.state.place hand.old.core) hand.old.core found }
+    ensures none { has_line hand.old.core ≡ false → hand.new.core ≡ hand.old.core }
+    ensures room { length hand.new.core.answers + hand.new.room ≡ length hand.old.core.answers + hand.old.room }
+{
+    if hand.has_line() {
+        let place = place_of(hand, hand.line());
+        advance_line(hand, place, found);
+    }
+}
+
+// The effect of a step on the topics of the hand.
+#[inline(always)]
+fn advance_topics(hand: &mut Hand, kind: Kind, found: u64)
+    requires sizes { AreSizes hand.old.core.state.sizes }
+    requires room { HasRoom (kind_named kind.code) hand.old.core.topics }
+    ensures core { hand.new.core ≡ record hand.old.core { topics = topics_after hand.old.core.state.sizes kind hand.old.core.topics found } }
+    ensures room { hand.new.room ≡ hand.old.room }
+{
+    let sizes = hand.progress().sizes;
+    step_topics(&sizes, kind, hand.topics_mut(), found);
+}
+
+/// Whether a flush is asked for, by an actor's state word: its bit 2.
+pub fn asks_flush(state: u64) -> bool
+    ensures { result ≡ asks_flush state }
+{
+    state / (1 << 2) % 2 == 1
+}
+
+// The effect of a step on what is cached, where a flush was asked for.
+#[inline(always)]
+#[tactic(auto, unfolding(mmu_core::specs::lines::Cached::flushed))]
+fn flush(hand: &mut Hand, kind: Kind, found: u64)
+    ensures core { hand.new.core ≡ record hand.old.core { cached = flushed kind hand.old.core.cached found } }
+    ensures room { hand.new.room ≡ hand.old.room }
+{
+    if kind.named() == StepKind::Enter && asks_flush(found) {
+        hand.cache_mut().clear();
+    }
+}
+
+/// Makes the effect of a step on the hand, where the step answered `found`.
+#[inline(always)]
+#[tactic(auto, unfolding(mmu_core::specs::machine::Steps::next))]
+pub fn advance(hand: &mut Hand, kind: Kind, found: u64)
+    requires enabled { Enabled hand.old.core kind }
+    requires room { 0 < hand.old.room }
+    ensures core { hand.new.core ≡ next hand.old.core kind found }
+    ensures room { length hand.new.core.answers + hand.new.room ≡ length hand.old.core.answers + hand.old.room }
+{
+    step_line(hand, found);
+    flush(hand, kind, found);
+    advance_topics(hand, kind, found);
+}
