@@ -9,6 +9,11 @@ pub mod EventLaws
 pub mod InvalidationLaws
 pub mod PublicationLaws
 pub mod ViewRuns
+pub mod FilledPages
+pub mod PageFillers
+pub mod FilledRounds
+pub mod FoldedRuns
+pub mod ComputedRuns
 pub mod ExampleHostRun
 pub mod ExampleProtectRun
 pub mod ExampleEvictRun

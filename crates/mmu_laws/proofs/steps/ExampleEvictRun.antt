@@ -14,129 +14,111 @@ use lib.Count.{count_trailing_zeros}
 use Rattle.core_views.specs.Text.{line_text, text}
 use Rattle.core_views.specs.declared.event.Event.{Event}
 use Rattle.mmu_laws.specs.steps.ExampleHost.{write_first}
-use Rattle.mmu_laws.specs.steps.ExampleEvict.{ExampleEvict, bring_line, events_to_write, evict_again, evict_events, evict_line, evict_lines, evict_order}
-use Rattle.mmu_laws.specs.steps.ExampleEvict.{forbid_line, late_line, order_to_bring, order_to_evict, order_to_forbid, order_to_read, order_to_write}
+use Rattle.mmu_laws.specs.steps.ExampleEvict.{ExampleEvict, bring_line, events_to_write, evict_again, evict_events, evict_line, evict_lines}
+use Rattle.mmu_laws.specs.steps.ExampleEvict.{forbid_line, late_line}
 use Rattle.mmu_laws.specs.steps.ExampleEvict.{read_between}
 use Rattle.spte_words.specs.declared.area.Area.{Area}
 use Rattle.spte_words.specs.declared.area.Area.TheVariants as area
 use Rattle.mmu_laws.specs.steps.ExampleSteps.{RunDelays, RunLeaves, run_sizes, set_line}
-use Rattle.mmu_laws.proofs.steps.ExampleRun.{May, may_set, run_delays, run_in_range, run_leaves}
+use Rattle.mmu_laws.proofs.steps.ExampleRun.{may_set, run_in_range}
+use Rattle.mmu_laws.proofs.steps.ComputedRuns.{May, run_delays, run_leaves}
 use Rattle.mmu_laws.proofs.steps.Decimals.{two_digits}
-use Rattle.mmu_laws.proofs.steps.ViewRuns.{have_lines, tale, turned_all}
+use Rattle.mmu_laws.proofs.steps.FoldedRuns.{fits_all, leads_all, steps_of, tells_all, turns}
+use Rattle.mmu_core.specs.machine.View.{View}
 use Rattle.mmu_core.proofs.start.StartViews.{start_view}
 
+-- the start, and what hands have counted and words hold after these rounds
+abbrev begun : View
+begun = start_view run_sizes evict_lines
+
+abbrev delays_after : List (ℕ × List ℕ) → ℕ → ℕ
+delays_after rounds actor = ((leads_all rounds begun).hand actor).state.delays
+
+abbrev word_after : List (ℕ × List ℕ) → Area → ℕ → ℕ
+word_after rounds a index = (leads_all rounds begun).words a index
+
+-- the rounds
+abbrev rounds_to_evict : List (ℕ × List ℕ)
+rounds_to_evict = steps_of 524 3 ∷ steps_of 1581 0 ∷ steps_of 29 2 ∷ []
+
+abbrev rounds_to_bring : List (ℕ × List ℕ)
+rounds_to_bring = rounds_to_evict ++ (steps_of 16 0 ∷ steps_of 16 1 ∷ steps_of 1 0 ∷ [])
+
+abbrev rounds_to_read : List (ℕ × List ℕ)
+rounds_to_read = rounds_to_bring ++ (steps_of 38 1 ∷ [])
+
+abbrev rounds_to_write : List (ℕ × List ℕ)
+rounds_to_write = rounds_to_read ++ (steps_of 19 0 ∷ [])
+
+abbrev rounds_to_forbid : ℕ → List (ℕ × List ℕ)
+rounds_to_forbid steps = rounds_to_write ++ (steps_of 50 2 ∷ steps_of 17 1 ∷ steps_of steps 2 ∷ [])
+
+abbrev evict_rounds : List (ℕ × List ℕ)
+evict_rounds = rounds_to_forbid 8 ++ (steps_of 41 1 ∷ [])
+
+-- where the page is taken away
+evicted :
+    (fits_all run_sizes rounds_to_evict begun ≡ true)
+    × (word_after rounds_to_evict area.Host 65 ≡ host_word 65 false true 1)
+    × (word_after rounds_to_evict area.Pool (pool_index 4 6) ≡ 0)
+    × (word_after rounds_to_evict area.Content (content_index (map_of run_sizes) 65 0) ≡ 7)
+unfolding flushed topics_after place kind_of level_span table_word frozen_word content_index pool_index absent_word frame_in mapped_frame leaf_word flags_live
+    flags_read_only flags_word host_allows_write host_frame host_present host_level host_word can_write is_leaf_at flags_logged count_trailing_zeros
+evicted = (refl, refl, refl, refl)
+
+-- where it is brought in
+brought :
+    (fits_all run_sizes rounds_to_bring begun ≡ true)
+    × (word_after rounds_to_bring area.Host 65 ≡ host_word 65 true true 1)
+unfolding flushed topics_after place kind_of level_span table_word frozen_word content_index pool_index absent_word frame_in mapped_frame leaf_word flags_live
+    flags_read_only flags_word host_allows_write host_frame host_present host_level host_word can_write is_leaf_at flags_logged count_trailing_zeros
+brought = (refl, refl)
+
+-- where the second processor has read
+read :
+    (fits_all run_sizes rounds_to_read begun ≡ true)
+    × (word_after rounds_to_read area.Pool (pool_index 4 6) ≡ leaf_word 1 65 true true true)
+unfolding flushed topics_after place kind_of level_span table_word frozen_word content_index pool_index absent_word frame_in mapped_frame leaf_word flags_live
+    flags_read_only flags_word host_allows_write host_frame host_present host_level host_word can_write is_leaf_at flags_logged count_trailing_zeros
+read = (refl, refl)
+
 -- up to the write for which the page was brought in
-write_tale : tale (start_view run_sizes evict_lines) order_to_write ≡ events_to_write
+written :
+    (fits_all run_sizes rounds_to_write begun ≡ true)
+    × (tells_all rounds_to_write begun ≡ events_to_write)
+    × (delays_after rounds_to_write 1 ≡ 1)
 unfolding flushed topics_after place kind_of level_span table_word frozen_word content_index pool_index absent_word frame_in mapped_frame leaf_word flags_live
     flags_read_only flags_word host_allows_write host_frame host_present host_level host_word can_write is_leaf_at flags_logged count_trailing_zeros
-write_tale = refl
+written = (refl, refl, refl)
 
-write_have : have_lines run_sizes (start_view run_sizes evict_lines) order_to_write ≡ true
+-- after the exchange that is lost
+lost :
+    (fits_all run_sizes (rounds_to_forbid 1) begun ≡ true)
+    × (word_after (rounds_to_forbid 1) area.Host 65 ≡ host_word 65 true true 1)
 unfolding flushed topics_after place kind_of level_span table_word frozen_word content_index pool_index absent_word frame_in mapped_frame leaf_word flags_live
     flags_read_only flags_word host_allows_write host_frame host_present host_level host_word can_write is_leaf_at flags_logged count_trailing_zeros
-write_have = refl
+lost = (refl, refl)
 
-write_counts : ((turned_all (start_view run_sizes evict_lines) order_to_write).hand 1).state.delays ≡ 1
+-- after the next one
+won :
+    (fits_all run_sizes (rounds_to_forbid 2) begun ≡ true)
+    × (word_after (rounds_to_forbid 2) area.Host 65 ≡ host_word 65 true false 1)
 unfolding flushed topics_after place kind_of level_span table_word frozen_word content_index pool_index absent_word frame_in mapped_frame leaf_word flags_live
     flags_read_only flags_word host_allows_write host_frame host_present host_level host_word can_write is_leaf_at flags_logged count_trailing_zeros
-write_counts = refl
+won = (refl, refl)
 
 -- the whole run
-evict_tale : tale (start_view run_sizes evict_lines) evict_order ≡ evict_events
+whole :
+    (fits_all run_sizes evict_rounds begun ≡ true)
+    × (tells_all evict_rounds begun ≡ evict_events)
+    × (delays_after evict_rounds 1 ≡ 1)
+    × (delays_after evict_rounds 2 ≡ 0)
+    × (word_after evict_rounds area.Pool (pool_index 4 6) ≡ leaf_word 1 65 false false false)
+    × (word_after evict_rounds area.Seq 0 ≡ 3)
+    × (word_after evict_rounds area.Count 0 ≡ 0)
 unfolding flushed topics_after place kind_of level_span table_word frozen_word content_index pool_index absent_word frame_in mapped_frame leaf_word flags_live
     flags_read_only flags_word host_allows_write host_frame host_present host_level host_word can_write is_leaf_at flags_logged count_trailing_zeros
-evict_tale = refl
-
-evict_have : have_lines run_sizes (start_view run_sizes evict_lines) evict_order ≡ true
-unfolding flushed topics_after place kind_of level_span table_word frozen_word content_index pool_index absent_word frame_in mapped_frame leaf_word flags_live
-    flags_read_only flags_word host_allows_write host_frame host_present host_level host_word can_write is_leaf_at flags_logged count_trailing_zeros
-evict_have = refl
-
-evict_counts : ((turned_all (start_view run_sizes evict_lines) evict_order).hand 1).state.delays ≡ 1
-unfolding flushed topics_after place kind_of level_span table_word frozen_word content_index pool_index absent_word frame_in mapped_frame leaf_word flags_live
-    flags_read_only flags_word host_allows_write host_frame host_present host_level host_word can_write is_leaf_at flags_logged count_trailing_zeros
-evict_counts = refl
-
-host_counts : ((turned_all (start_view run_sizes evict_lines) evict_order).hand 2).state.delays ≡ 0
-unfolding flushed topics_after place kind_of level_span table_word frozen_word content_index pool_index absent_word frame_in mapped_frame leaf_word flags_live
-    flags_read_only flags_word host_allows_write host_frame host_present host_level host_word can_write is_leaf_at flags_logged count_trailing_zeros
-host_counts = refl
-
--- what the words hold on the way
-have_to_evict : have_lines run_sizes (start_view run_sizes evict_lines) order_to_evict ≡ true
-unfolding flushed topics_after place kind_of level_span table_word frozen_word content_index pool_index absent_word frame_in mapped_frame leaf_word flags_live
-    flags_read_only flags_word host_allows_write host_frame host_present host_level host_word can_write is_leaf_at flags_logged count_trailing_zeros
-have_to_evict = refl
-
-have_to_bring : have_lines run_sizes (start_view run_sizes evict_lines) order_to_bring ≡ true
-unfolding flushed topics_after place kind_of level_span table_word frozen_word content_index pool_index absent_word frame_in mapped_frame leaf_word flags_live
-    flags_read_only flags_word host_allows_write host_frame host_present host_level host_word can_write is_leaf_at flags_logged count_trailing_zeros
-have_to_bring = refl
-
-have_to_read : have_lines run_sizes (start_view run_sizes evict_lines) order_to_read ≡ true
-unfolding flushed topics_after place kind_of level_span table_word frozen_word content_index pool_index absent_word frame_in mapped_frame leaf_word flags_live
-    flags_read_only flags_word host_allows_write host_frame host_present host_level host_word can_write is_leaf_at flags_logged count_trailing_zeros
-have_to_read = refl
-
-have_1 : have_lines run_sizes (start_view run_sizes evict_lines) (order_to_forbid 1) ≡ true
-unfolding flushed topics_after place kind_of level_span table_word frozen_word content_index pool_index absent_word frame_in mapped_frame leaf_word flags_live
-    flags_read_only flags_word host_allows_write host_frame host_present host_level host_word can_write is_leaf_at flags_logged count_trailing_zeros
-have_1 = refl
-
-have_2 : have_lines run_sizes (start_view run_sizes evict_lines) (order_to_forbid 2) ≡ true
-unfolding flushed topics_after place kind_of level_span table_word frozen_word content_index pool_index absent_word frame_in mapped_frame leaf_word flags_live
-    flags_read_only flags_word host_allows_write host_frame host_present host_level host_word can_write is_leaf_at flags_logged count_trailing_zeros
-have_2 = refl
-
-word_absent : (turned_all (start_view run_sizes evict_lines) order_to_evict).words area.Host 65 ≡ host_word 65 false true 1
-unfolding flushed topics_after place kind_of level_span table_word frozen_word content_index pool_index absent_word frame_in mapped_frame leaf_word flags_live
-    flags_read_only flags_word host_allows_write host_frame host_present host_level host_word can_write is_leaf_at flags_logged count_trailing_zeros
-word_absent = refl
-
-leaf_gone : (turned_all (start_view run_sizes evict_lines) order_to_evict).words area.Pool (pool_index 4 6) ≡ 0
-unfolding flushed topics_after place kind_of level_span table_word frozen_word content_index pool_index absent_word frame_in mapped_frame leaf_word flags_live
-    flags_read_only flags_word host_allows_write host_frame host_present host_level host_word can_write is_leaf_at flags_logged count_trailing_zeros
-leaf_gone = refl
-
-value_kept : (turned_all (start_view run_sizes evict_lines) order_to_evict).words area.Content (content_index (map_of run_sizes) 65 0) ≡ 7
-unfolding flushed topics_after place kind_of level_span table_word frozen_word content_index pool_index absent_word frame_in mapped_frame leaf_word flags_live
-    flags_read_only flags_word host_allows_write host_frame host_present host_level host_word can_write is_leaf_at flags_logged count_trailing_zeros
-value_kept = refl
-
-word_present : (turned_all (start_view run_sizes evict_lines) order_to_bring).words area.Host 65 ≡ host_word 65 true true 1
-unfolding flushed topics_after place kind_of level_span table_word frozen_word content_index pool_index absent_word frame_in mapped_frame leaf_word flags_live
-    flags_read_only flags_word host_allows_write host_frame host_present host_level host_word can_write is_leaf_at flags_logged count_trailing_zeros
-word_present = refl
-
-leaf_again : (turned_all (start_view run_sizes evict_lines) order_to_read).words area.Pool (pool_index 4 6) ≡ leaf_word 1 65 true true true
-unfolding flushed topics_after place kind_of level_span table_word frozen_word content_index pool_index absent_word frame_in mapped_frame leaf_word flags_live
-    flags_read_only flags_word host_allows_write host_frame host_present host_level host_word can_write is_leaf_at flags_logged count_trailing_zeros
-leaf_again = refl
-
-exchange_lost : (turned_all (start_view run_sizes evict_lines) (order_to_forbid 1)).words area.Host 65 ≡ host_word 65 true true 1
-unfolding flushed topics_after place kind_of level_span table_word frozen_word content_index pool_index absent_word frame_in mapped_frame leaf_word flags_live
-    flags_read_only flags_word host_allows_write host_frame host_present host_level host_word can_write is_leaf_at flags_logged count_trailing_zeros
-exchange_lost = refl
-
-exchange_won : (turned_all (start_view run_sizes evict_lines) (order_to_forbid 2)).words area.Host 65 ≡ host_word 65 true false 1
-unfolding flushed topics_after place kind_of level_span table_word frozen_word content_index pool_index absent_word frame_in mapped_frame leaf_word flags_live
-    flags_read_only flags_word host_allows_write host_frame host_present host_level host_word can_write is_leaf_at flags_logged count_trailing_zeros
-exchange_won = refl
-
-leaf_forbids : (turned_all (start_view run_sizes evict_lines) evict_order).words area.Pool (pool_index 4 6) ≡ leaf_word 1 65 false false false
-unfolding flushed topics_after place kind_of level_span table_word frozen_word content_index pool_index absent_word frame_in mapped_frame leaf_word flags_live
-    flags_read_only flags_word host_allows_write host_frame host_present host_level host_word can_write is_leaf_at flags_logged count_trailing_zeros
-leaf_forbids = refl
-
-three_ended : (turned_all (start_view run_sizes evict_lines) evict_order).words area.Seq 0 ≡ 3
-unfolding flushed topics_after place kind_of level_span table_word frozen_word content_index pool_index absent_word frame_in mapped_frame leaf_word flags_live
-    flags_read_only flags_word host_allows_write host_frame host_present host_level host_word can_write is_leaf_at flags_logged count_trailing_zeros
-three_ended = refl
-
-none_open : (turned_all (start_view run_sizes evict_lines) evict_order).words area.Count 0 ≡ 0
-unfolding flushed topics_after place kind_of level_span table_word frozen_word content_index pool_index absent_word frame_in mapped_frame leaf_word flags_live
-    flags_read_only flags_word host_allows_write host_frame host_present host_level host_word can_write is_leaf_at flags_logged count_trailing_zeros
-none_open = refl
+whole = (refl, refl, refl, refl, refl, refl, refl)
 
 evict_allowed : All (May run_sizes) evict_lines
 evict_allowed =
@@ -170,29 +152,28 @@ evict_prints =
     )
 
 -- That these actors in turn tell this, and what one of them has counted then; and what a word holds after them.
-counts : (order : List ℕ) (events : List Event) (actor delays : ℕ) → have_lines run_sizes (start_view run_sizes evict_lines) order ≡ true
-    → tale (start_view run_sizes evict_lines) order ≡ events → ((turned_all (start_view run_sizes evict_lines) order).hand actor).state.delays ≡ delays
-    → RunDelays run_sizes evict_lines order events actor delays
-counts order events actor delays = run_delays run_sizes evict_lines order events actor delays run_in_range evict_allowed (omega arith)
+counts : (rounds : List (ℕ × List ℕ)) (events : List Event) (actor delays : ℕ) → fits_all run_sizes rounds begun ≡ true → tells_all rounds begun ≡ events
+    → delays_after rounds actor ≡ delays → RunDelays run_sizes evict_lines (turns rounds) events actor delays
+counts rounds events actor delays = run_delays run_sizes evict_lines rounds events actor delays run_in_range evict_allowed (omega arith)
 
-leaves : (order : List ℕ) (a : Area) (index value : ℕ) → have_lines run_sizes (start_view run_sizes evict_lines) order ≡ true
-    → (turned_all (start_view run_sizes evict_lines) order).words a index ≡ value → RunLeaves run_sizes evict_lines order a index value
-leaves order a index value = run_leaves run_sizes evict_lines order a index value run_in_range evict_allowed (omega arith)
+leaves : (rounds : List (ℕ × List ℕ)) (a : Area) (index value : ℕ) → fits_all run_sizes rounds begun ≡ true → word_after rounds a index ≡ value
+    → RunLeaves run_sizes evict_lines (turns rounds) a index value
+leaves rounds a index value = run_leaves run_sizes evict_lines rounds a index value run_in_range evict_allowed (omega arith)
 
 pub example_evict : ExampleEvict
 example_evict = (
-  counts order_to_write events_to_write 1 1 write_have write_tale write_counts,
-  counts evict_order evict_events 1 1 evict_have evict_tale evict_counts,
-  counts evict_order evict_events 2 0 evict_have evict_tale host_counts,
-  leaves order_to_evict area.Host 65 (host_word 65 false true 1) have_to_evict word_absent,
-  leaves order_to_evict area.Pool (pool_index 4 6) 0 have_to_evict leaf_gone,
-  leaves order_to_evict area.Content (content_index (map_of run_sizes) 65 0) 7 have_to_evict value_kept,
-  leaves order_to_bring area.Host 65 (host_word 65 true true 1) have_to_bring word_present,
-  leaves order_to_read area.Pool (pool_index 4 6) (leaf_word 1 65 true true true) have_to_read leaf_again,
-  leaves (order_to_forbid 1) area.Host 65 (host_word 65 true true 1) have_1 exchange_lost,
-  leaves (order_to_forbid 2) area.Host 65 (host_word 65 true false 1) have_2 exchange_won,
-  leaves evict_order area.Pool (pool_index 4 6) (leaf_word 1 65 false false false) evict_have leaf_forbids,
-  leaves evict_order area.Seq 0 3 evict_have three_ended,
-  leaves evict_order area.Count 0 0 evict_have none_open,
+  counts rounds_to_write events_to_write 1 1 written.0 written.1 written.2,
+  counts evict_rounds evict_events 1 1 whole.0 whole.1 whole.2,
+  counts evict_rounds evict_events 2 0 whole.0 whole.1 whole.3,
+  leaves rounds_to_evict area.Host 65 (host_word 65 false true 1) evicted.0 evicted.1,
+  leaves rounds_to_evict area.Pool (pool_index 4 6) 0 evicted.0 evicted.2,
+  leaves rounds_to_evict area.Content (content_index (map_of run_sizes) 65 0) 7 evicted.0 evicted.3,
+  leaves rounds_to_bring area.Host 65 (host_word 65 true true 1) brought.0 brought.1,
+  leaves rounds_to_read area.Pool (pool_index 4 6) (leaf_word 1 65 true true true) read.0 read.1,
+  leaves (rounds_to_forbid 1) area.Host 65 (host_word 65 true true 1) lost.0 lost.1,
+  leaves (rounds_to_forbid 2) area.Host 65 (host_word 65 true false 1) won.0 won.1,
+  leaves evict_rounds area.Pool (pool_index 4 6) (leaf_word 1 65 false false false) whole.0 whole.4,
+  leaves evict_rounds area.Seq 0 3 whole.0 whole.5,
+  leaves evict_rounds area.Count 0 0 whole.0 whole.6,
   evict_prints,
 )

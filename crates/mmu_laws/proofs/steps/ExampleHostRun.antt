@@ -3,7 +3,7 @@ use Rattle.part_steps.specs.TopicSteps.{topics_after}
 use Rattle.std.proofs.lemmas.Fmt.{decimal_digit}
 use Rattle.std.proofs.lemmas.List.Elements.{All-cons, All-nil}
 use Rattle.mmu_core.specs.lines.Cached.{flushed}
-use Rattle.std.proofs.Common.{◌≡◌, [], ◌∷◌, refl, arith, lit<, lit≤}
+use Rattle.std.proofs.Common.{◌≡◌, [], ◌∷◌, refl, arith, lit<, lit≤, List, ℕ}
 use Rattle.std.specs.Prelude.{All, true, codes}
 use Rattle.spte_words.specs.Areas.{content_index, place, pool_index}
 use Rattle.spte_words.specs.Entries.{absent_word, can_write, frame_in, frozen_word, is_leaf_at, kind_of, leaf_word, level_span, mapped_frame, table_word}
@@ -11,84 +11,72 @@ use Rattle.spte_words.specs.Flags.{flags_live, flags_logged, flags_read_only, fl
 use Rattle.spte_words.specs.HostWords.{host_allows_write, host_frame, host_level, host_present, host_word}
 use lib.Count.{count_trailing_zeros}
 use Rattle.core_views.specs.Text.{line_text, text}
-use Rattle.mmu_laws.specs.steps.ExampleHost.{ExampleHost, allow_line, host_events, host_lines, host_order, order_to_zap, read_again, read_cached, write_first}
+use Rattle.mmu_laws.specs.steps.ExampleHost.{ExampleHost, allow_line, host_events, host_lines, read_again, read_cached, write_first}
+use Rattle.spte_words.specs.declared.area.Area.{Area}
 use Rattle.spte_words.specs.declared.area.Area.TheVariants as area
-use Rattle.mmu_laws.specs.steps.ExampleSteps.{run_sizes, set_line}
-use Rattle.mmu_laws.proofs.steps.ExampleRun.{May, may_set, run_delays, run_in_range, run_leaves}
+use Rattle.core_views.specs.declared.event.Event.{Event}
+use Rattle.mmu_laws.specs.steps.ExampleSteps.{RunDelays, RunLeaves, run_sizes, set_line}
+use Rattle.mmu_laws.proofs.steps.ExampleRun.{may_set, run_in_range}
+use Rattle.mmu_laws.proofs.steps.ComputedRuns.{May, run_delays, run_leaves}
 use Rattle.mmu_laws.proofs.steps.Decimals.{two_digits}
-use Rattle.mmu_laws.proofs.steps.ViewRuns.{have_lines, tale, turned_all}
+use Rattle.mmu_laws.proofs.steps.FoldedRuns.{fits_all, leads_all, steps_of, tells_all, turns}
+use Rattle.mmu_core.specs.machine.View.{View}
 use Rattle.mmu_core.proofs.start.StartViews.{start_view}
 
-host_tale : tale (start_view run_sizes host_lines) host_order ≡ host_events
-unfolding flushed topics_after place kind_of level_span table_word frozen_word content_index pool_index absent_word frame_in mapped_frame leaf_word flags_live
-    flags_read_only flags_word host_allows_write host_frame host_present host_level host_word can_write is_leaf_at flags_logged count_trailing_zeros
-host_tale = refl
+-- the start, and what hands have counted and words hold after these rounds
+abbrev begun : View
+begun = start_view run_sizes host_lines
 
-host_have : have_lines run_sizes (start_view run_sizes host_lines) host_order ≡ true
-unfolding flushed topics_after place kind_of level_span table_word frozen_word content_index pool_index absent_word frame_in mapped_frame leaf_word flags_live
-    flags_read_only flags_word host_allows_write host_frame host_present host_level host_word can_write is_leaf_at flags_logged count_trailing_zeros
-host_have = refl
+abbrev delays_after : List (ℕ × List ℕ) → ℕ → ℕ
+delays_after rounds actor = ((leads_all rounds begun).hand actor).state.delays
 
-host_counts : ((turned_all (start_view run_sizes host_lines) host_order).hand 2).state.delays ≡ 1
-unfolding flushed topics_after place kind_of level_span table_word frozen_word content_index pool_index absent_word frame_in mapped_frame leaf_word flags_live
-    flags_read_only flags_word host_allows_write host_frame host_present host_level host_word can_write is_leaf_at flags_logged count_trailing_zeros
-host_counts = refl
+abbrev word_after : List (ℕ × List ℕ) → Area → ℕ → ℕ
+word_after rounds a index = (leads_all rounds begun).words a index
 
--- what the words hold on the way
-have_16 : have_lines run_sizes (start_view run_sizes host_lines) (order_to_zap 16) ≡ true
-unfolding flushed topics_after place kind_of level_span table_word frozen_word content_index pool_index absent_word frame_in mapped_frame leaf_word flags_live
-    flags_read_only flags_word host_allows_write host_frame host_present host_level host_word can_write is_leaf_at flags_logged count_trailing_zeros
-have_16 = refl
+-- the rounds
+abbrev rounds_to_zap : ℕ → List (ℕ × List ℕ)
+rounds_to_zap steps = steps_of 524 3 ∷ steps_of 1581 0 ∷ steps_of 2 0 ∷ steps_of steps 2 ∷ []
 
-have_17 : have_lines run_sizes (start_view run_sizes host_lines) (order_to_zap 17) ≡ true
-unfolding flushed topics_after place kind_of level_span table_word frozen_word content_index pool_index absent_word frame_in mapped_frame leaf_word flags_live
-    flags_read_only flags_word host_allows_write host_frame host_present host_level host_word can_write is_leaf_at flags_logged count_trailing_zeros
-have_17 = refl
+abbrev host_rounds : List (ℕ × List ℕ)
+host_rounds = steps_of 524 3 ∷ steps_of 1581 0 ∷ steps_of 2 0 ∷ steps_of 20 2 ∷ steps_of 2 0 ∷ steps_of 3 2 ∷ steps_of 21 1 ∷ steps_of 7 2 ∷ steps_of 37 1 ∷ []
 
-have_18 : have_lines run_sizes (start_view run_sizes host_lines) (order_to_zap 18) ≡ true
+-- before the leaf is zapped
+before_zap :
+    (fits_all run_sizes (rounds_to_zap 16) begun ≡ true)
+    × (word_after (rounds_to_zap 16) area.Pool (pool_index 4 6) ≡ leaf_word 1 65 true true true)
 unfolding flushed topics_after place kind_of level_span table_word frozen_word content_index pool_index absent_word frame_in mapped_frame leaf_word flags_live
     flags_read_only flags_word host_allows_write host_frame host_present host_level host_word can_write is_leaf_at flags_logged count_trailing_zeros
-have_18 = refl
+before_zap = (refl, refl)
 
-host_zap_16 : (turned_all (start_view run_sizes host_lines) (order_to_zap 16)).words area.Pool (pool_index 4 6) ≡ leaf_word 1 65 true true true
+-- after it
+zapped :
+    (fits_all run_sizes (rounds_to_zap 17) begun ≡ true)
+    × (word_after (rounds_to_zap 17) area.Pool (pool_index 4 6) ≡ 0)
+    × (word_after (rounds_to_zap 17) area.Count 0 ≡ 1)
+    × (word_after (rounds_to_zap 17) area.RangeStart 0 ≡ 6)
+    × (word_after (rounds_to_zap 17) area.RangeEnd 0 ≡ 7)
 unfolding flushed topics_after place kind_of level_span table_word frozen_word content_index pool_index absent_word frame_in mapped_frame leaf_word flags_live
     flags_read_only flags_word host_allows_write host_frame host_present host_level host_word can_write is_leaf_at flags_logged count_trailing_zeros
-host_zap_16 = refl
+zapped = (refl, refl, refl, refl, refl)
 
-host_zap_17 : (turned_all (start_view run_sizes host_lines) (order_to_zap 17)).words area.Pool (pool_index 4 6) ≡ 0
+-- where the first processor is asked for a flush
+asked :
+    (fits_all run_sizes (rounds_to_zap 18) begun ≡ true)
+    × (word_after (rounds_to_zap 18) area.State 0 ≡ 7)
 unfolding flushed topics_after place kind_of level_span table_word frozen_word content_index pool_index absent_word frame_in mapped_frame leaf_word flags_live
     flags_read_only flags_word host_allows_write host_frame host_present host_level host_word can_write is_leaf_at flags_logged count_trailing_zeros
-host_zap_17 = refl
+asked = (refl, refl)
 
-host_opens : (turned_all (start_view run_sizes host_lines) (order_to_zap 17)).words area.Count 0 ≡ 1
+-- the whole run
+whole :
+    (fits_all run_sizes host_rounds begun ≡ true)
+    × (tells_all host_rounds begun ≡ host_events)
+    × (delays_after host_rounds 2 ≡ 1)
+    × (word_after host_rounds area.Seq 0 ≡ 1)
+    × (word_after host_rounds area.Count 0 ≡ 0)
 unfolding flushed topics_after place kind_of level_span table_word frozen_word content_index pool_index absent_word frame_in mapped_frame leaf_word flags_live
     flags_read_only flags_word host_allows_write host_frame host_present host_level host_word can_write is_leaf_at flags_logged count_trailing_zeros
-host_opens = refl
-
-host_starts : (turned_all (start_view run_sizes host_lines) (order_to_zap 17)).words area.RangeStart 0 ≡ 6
-unfolding flushed topics_after place kind_of level_span table_word frozen_word content_index pool_index absent_word frame_in mapped_frame leaf_word flags_live
-    flags_read_only flags_word host_allows_write host_frame host_present host_level host_word can_write is_leaf_at flags_logged count_trailing_zeros
-host_starts = refl
-
-host_stops : (turned_all (start_view run_sizes host_lines) (order_to_zap 17)).words area.RangeEnd 0 ≡ 7
-unfolding flushed topics_after place kind_of level_span table_word frozen_word content_index pool_index absent_word frame_in mapped_frame leaf_word flags_live
-    flags_read_only flags_word host_allows_write host_frame host_present host_level host_word can_write is_leaf_at flags_logged count_trailing_zeros
-host_stops = refl
-
-host_asks : (turned_all (start_view run_sizes host_lines) (order_to_zap 18)).words area.State 0 ≡ 7
-unfolding flushed topics_after place kind_of level_span table_word frozen_word content_index pool_index absent_word frame_in mapped_frame leaf_word flags_live
-    flags_read_only flags_word host_allows_write host_frame host_present host_level host_word can_write is_leaf_at flags_logged count_trailing_zeros
-host_asks = refl
-
-host_raises : (turned_all (start_view run_sizes host_lines) host_order).words area.Seq 0 ≡ 1
-unfolding flushed topics_after place kind_of level_span table_word frozen_word content_index pool_index absent_word frame_in mapped_frame leaf_word flags_live
-    flags_read_only flags_word host_allows_write host_frame host_present host_level host_word can_write is_leaf_at flags_logged count_trailing_zeros
-host_raises = refl
-
-host_closes : (turned_all (start_view run_sizes host_lines) host_order).words area.Count 0 ≡ 0
-unfolding flushed topics_after place kind_of level_span table_word frozen_word content_index pool_index absent_word frame_in mapped_frame leaf_word flags_live
-    flags_read_only flags_word host_allows_write host_frame host_present host_level host_word can_write is_leaf_at flags_logged count_trailing_zeros
-host_closes = refl
+whole = (refl, refl, refl, refl, refl)
 
 host_allowed : All (May run_sizes) host_lines
 host_allowed =
@@ -112,17 +100,25 @@ host_prints = simp (
   two_digits 65 (lit≤ tt) (lit< tt),
 )
 
+-- That these actors in turn tell this, and what one of them has counted then; and what a word holds after them.
+counts : (rounds : List (ℕ × List ℕ)) (events : List Event) (actor delays : ℕ) → fits_all run_sizes rounds begun ≡ true → tells_all rounds begun ≡ events
+    → delays_after rounds actor ≡ delays → RunDelays run_sizes host_lines (turns rounds) events actor delays
+counts rounds events actor delays = run_delays run_sizes host_lines rounds events actor delays run_in_range host_allowed (omega arith)
+
+leaves : (rounds : List (ℕ × List ℕ)) (a : Area) (index value : ℕ) → fits_all run_sizes rounds begun ≡ true → word_after rounds a index ≡ value
+    → RunLeaves run_sizes host_lines (turns rounds) a index value
+leaves rounds a index value = run_leaves run_sizes host_lines rounds a index value run_in_range host_allowed (omega arith)
+
 pub example_host : ExampleHost
 example_host = (
-  run_delays run_sizes host_lines host_order host_events 2 1 run_in_range host_allowed (omega arith) host_have host_tale host_counts,
-  run_leaves run_sizes host_lines (order_to_zap 16) area.Pool (pool_index 4 6) (leaf_word 1 65 true true true) run_in_range host_allowed
-      (omega arith) have_16 host_zap_16,
-  run_leaves run_sizes host_lines (order_to_zap 17) area.Pool (pool_index 4 6) 0 run_in_range host_allowed (omega arith) have_17 host_zap_17,
-  run_leaves run_sizes host_lines (order_to_zap 17) area.Count 0 1 run_in_range host_allowed (omega arith) have_17 host_opens,
-  run_leaves run_sizes host_lines (order_to_zap 17) area.RangeStart 0 6 run_in_range host_allowed (omega arith) have_17 host_starts,
-  run_leaves run_sizes host_lines (order_to_zap 17) area.RangeEnd 0 7 run_in_range host_allowed (omega arith) have_17 host_stops,
-  run_leaves run_sizes host_lines (order_to_zap 18) area.State 0 7 run_in_range host_allowed (omega arith) have_18 host_asks,
-  run_leaves run_sizes host_lines host_order area.Seq 0 1 run_in_range host_allowed (omega arith) host_have host_raises,
-  run_leaves run_sizes host_lines host_order area.Count 0 0 run_in_range host_allowed (omega arith) host_have host_closes,
+  counts host_rounds host_events 2 1 whole.0 whole.1 whole.2,
+  leaves (rounds_to_zap 16) area.Pool (pool_index 4 6) (leaf_word 1 65 true true true) before_zap.0 before_zap.1,
+  leaves (rounds_to_zap 17) area.Pool (pool_index 4 6) 0 zapped.0 zapped.1,
+  leaves (rounds_to_zap 17) area.Count 0 1 zapped.0 zapped.2,
+  leaves (rounds_to_zap 17) area.RangeStart 0 6 zapped.0 zapped.3,
+  leaves (rounds_to_zap 17) area.RangeEnd 0 7 zapped.0 zapped.4,
+  leaves (rounds_to_zap 18) area.State 0 7 asked.0 asked.1,
+  leaves host_rounds area.Seq 0 1 whole.0 whole.3,
+  leaves host_rounds area.Count 0 0 whole.0 whole.4,
   host_prints,
 )

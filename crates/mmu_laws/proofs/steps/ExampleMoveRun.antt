@@ -4,8 +4,8 @@ use Rattle.part_steps.specs.Tasks.{map_of}
 use Rattle.std.proofs.lemmas.Fmt.{decimal_digit}
 use Rattle.std.proofs.lemmas.List.Elements.{All-cons, All-nil}
 use Rattle.mmu_core.specs.lines.Cached.{flushed}
-use Rattle.std.proofs.Common.{ℕ, List, ◌≡◌, [], ◌∷◌, refl, arith, lit<, lit≤}
-use Rattle.std.specs.Prelude.{All, true, codes, replicate}
+use Rattle.std.proofs.Common.{ℕ, List, ◌≡◌, [], ◌∷◌, refl, arith, lit<, lit≤, ◌++◌}
+use Rattle.std.specs.Prelude.{All, true, codes}
 use Rattle.core_views.specs.Sizes.{AreSizes}
 use Rattle.mmu_core.specs.machine.View.{View}
 use Rattle.spte_words.specs.Areas.{content_index, place, pool_index}
@@ -19,116 +19,85 @@ use Rattle.spte_words.specs.declared.area.Area.{Area}
 use Rattle.spte_words.specs.declared.area.Area.TheVariants as area
 use Rattle.mmu_laws.specs.steps.ExampleSteps.{RunDelays, RunLeaves, run_sizes, set_line}
 use Rattle.mmu_laws.specs.steps.ExampleHost.{write_first}
-use Rattle.mmu_laws.specs.steps.ExampleMove.{ExampleMove, move_events, move_lines, move_none, move_order, move_seven, move_six, move_sizes, none_events}
-use Rattle.mmu_laws.specs.steps.ExampleMove.{order_to_move, order_to_watch, read_seven, read_six}
-use Rattle.mmu_laws.proofs.steps.ExampleRun.{May, frames_in_range, run_delays, run_in_range, run_leaves, run_tells}
+use Rattle.mmu_laws.specs.steps.ExampleMove.{ExampleMove, move_events, move_lines, move_none, move_seven, move_six, move_sizes, none_events}
+use Rattle.mmu_laws.specs.steps.ExampleMove.{read_seven, read_six}
+use Rattle.mmu_laws.proofs.steps.ExampleRun.{frames_in_range, run_in_range}
+use Rattle.mmu_laws.proofs.steps.ComputedRuns.{May, run_delays, run_leaves, run_tells}
 use Rattle.mmu_laws.proofs.steps.Decimals.{three_digits, two_digits}
-use Rattle.mmu_laws.proofs.steps.ViewRuns.{have_lines, tale, turned_all}
+use Rattle.mmu_laws.proofs.steps.FoldedRuns.{fits_all, leads_all, steps_of, tells_all, turns}
 use Rattle.mmu_core.proofs.start.StartViews.{start_view}
 
 move_in_range : AreSizes move_sizes
 move_in_range = frames_in_range 129 (omega arith) (omega arith)
 
--- the run
+-- the start, and what hands have counted and words hold after these rounds
 abbrev begun : View
 begun = start_view move_sizes move_lines
 
-move_tale : tale begun move_order ≡ move_events
-unfolding flushed topics_after place kind_of level_span table_word frozen_word content_index pool_index absent_word frame_in mapped_frame leaf_word flags_live
-    flags_read_only flags_word host_allows_write host_frame host_present host_level host_word can_write is_leaf_at flags_logged count_trailing_zeros
-move_tale = refl
+abbrev delays_after : List (ℕ × List ℕ) → ℕ → ℕ
+delays_after rounds actor = ((leads_all rounds begun).hand actor).state.delays
 
-move_have : have_lines move_sizes begun move_order ≡ true
-unfolding flushed topics_after place kind_of level_span table_word frozen_word content_index pool_index absent_word frame_in mapped_frame leaf_word flags_live
-    flags_read_only flags_word host_allows_write host_frame host_present host_level host_word can_write is_leaf_at flags_logged count_trailing_zeros
-move_have = refl
+abbrev word_after : List (ℕ × List ℕ) → Area → ℕ → ℕ
+word_after rounds a index = (leads_all rounds begun).words a index
 
-fault_counts : ((turned_all begun move_order).hand 1).state.delays ≡ 1
-unfolding flushed topics_after place kind_of level_span table_word frozen_word content_index pool_index absent_word frame_in mapped_frame leaf_word flags_live
-    flags_read_only flags_word host_allows_write host_frame host_present host_level host_word can_write is_leaf_at flags_logged count_trailing_zeros
-fault_counts = refl
+-- the rounds
+abbrev rounds_to_watch : List (ℕ × List ℕ)
+rounds_to_watch = steps_of 524 3 ∷ steps_of 1581 0 ∷ steps_of 16 1 ∷ steps_of 38 2 ∷ []
 
-read_counts : ((turned_all begun move_order).hand 0).state.delays ≡ 0
-unfolding flushed topics_after place kind_of level_span table_word frozen_word content_index pool_index absent_word frame_in mapped_frame leaf_word flags_live
-    flags_read_only flags_word host_allows_write host_frame host_present host_level host_word can_write is_leaf_at flags_logged count_trailing_zeros
-read_counts = refl
+abbrev rounds_to_move : ℕ → List (ℕ × List ℕ)
+rounds_to_move steps = rounds_to_watch ++ (steps_of 5 1 ∷ steps_of 3 2 ∷ steps_of 36 1 ∷ steps_of steps 2 ∷ [])
 
--- what the words hold on the way
-watch_have : have_lines move_sizes begun order_to_watch ≡ true
-unfolding flushed topics_after place kind_of level_span table_word frozen_word content_index pool_index absent_word frame_in mapped_frame leaf_word flags_live
-    flags_read_only flags_word host_allows_write host_frame host_present host_level host_word can_write is_leaf_at flags_logged count_trailing_zeros
-watch_have = refl
+abbrev move_rounds : List (ℕ × List ℕ)
+move_rounds = rounds_to_move 40 ++ (steps_of 36 0 ∷ [])
 
-word_moved : (turned_all begun order_to_watch).words area.Host 66 ≡ host_word 128 true true 1
+-- where the first move waits
+watched :
+    (fits_all move_sizes rounds_to_watch begun ≡ true)
+    × (word_after rounds_to_watch area.Host 66 ≡ host_word 128 true true 1)
+    × (word_after rounds_to_watch area.Seq 0 ≡ 1)
+    × (word_after rounds_to_watch area.FrameMap 2 ≡ 0)
 unfolding flushed topics_after place kind_of level_span table_word frozen_word content_index pool_index absent_word frame_in mapped_frame leaf_word flags_live
     flags_read_only flags_word host_allows_write host_frame host_present host_level host_word can_write is_leaf_at flags_logged count_trailing_zeros
-word_moved = refl
+watched = (refl, refl, refl, refl)
 
-one_ended : (turned_all begun order_to_watch).words area.Seq 0 ≡ 1
+-- where the content is copied, and the page is at its old frame
+copied :
+    (fits_all move_sizes (rounds_to_move 29) begun ≡ true)
+    × (word_after (rounds_to_move 29) area.Content (content_index (map_of move_sizes) 66 0) ≡ 7)
+    × (word_after (rounds_to_move 29) area.Host 65 ≡ host_word 65 true true 1)
 unfolding flushed topics_after place kind_of level_span table_word frozen_word content_index pool_index absent_word frame_in mapped_frame leaf_word flags_live
     flags_read_only flags_word host_allows_write host_frame host_present host_level host_word can_write is_leaf_at flags_logged count_trailing_zeros
-one_ended = refl
+copied = (refl, refl, refl)
 
-none_free : (turned_all begun order_to_watch).words area.FrameMap 2 ≡ 0
+-- where it is at the new one
+moved :
+    (fits_all move_sizes (rounds_to_move 30) begun ≡ true)
+    × (word_after (rounds_to_move 30) area.Host 65 ≡ host_word 66 true true 1)
 unfolding flushed topics_after place kind_of level_span table_word frozen_word content_index pool_index absent_word frame_in mapped_frame leaf_word flags_live
     flags_read_only flags_word host_allows_write host_frame host_present host_level host_word can_write is_leaf_at flags_logged count_trailing_zeros
-none_free = refl
+moved = (refl, refl)
 
-copied_have : have_lines move_sizes begun (order_to_move 29) ≡ true
+-- the whole run
+whole :
+    (fits_all move_sizes move_rounds begun ≡ true)
+    × (tells_all move_rounds begun ≡ move_events)
+    × (delays_after move_rounds 1 ≡ 1)
+    × (delays_after move_rounds 0 ≡ 0)
+    × (word_after move_rounds area.Pool (pool_index 4 6) ≡ leaf_word 1 66 true true true)
+    × (word_after move_rounds area.Seq 0 ≡ 2)
+    × (word_after move_rounds area.Count 0 ≡ 0)
+    × (word_after move_rounds area.FrameMap 1 ≡ 2)
 unfolding flushed topics_after place kind_of level_span table_word frozen_word content_index pool_index absent_word frame_in mapped_frame leaf_word flags_live
     flags_read_only flags_word host_allows_write host_frame host_present host_level host_word can_write is_leaf_at flags_logged count_trailing_zeros
-copied_have = refl
-
-copied : (turned_all begun (order_to_move 29)).words area.Content (content_index (map_of move_sizes) 66 0) ≡ 7
-unfolding flushed topics_after place kind_of level_span table_word frozen_word content_index pool_index absent_word frame_in mapped_frame leaf_word flags_live
-    flags_read_only flags_word host_allows_write host_frame host_present host_level host_word can_write is_leaf_at flags_logged count_trailing_zeros
-copied = refl
-
-yet_there : (turned_all begun (order_to_move 29)).words area.Host 65 ≡ host_word 65 true true 1
-unfolding flushed topics_after place kind_of level_span table_word frozen_word content_index pool_index absent_word frame_in mapped_frame leaf_word flags_live
-    flags_read_only flags_word host_allows_write host_frame host_present host_level host_word can_write is_leaf_at flags_logged count_trailing_zeros
-yet_there = refl
-
-moved_have : have_lines move_sizes begun (order_to_move 30) ≡ true
-unfolding flushed topics_after place kind_of level_span table_word frozen_word content_index pool_index absent_word frame_in mapped_frame leaf_word flags_live
-    flags_read_only flags_word host_allows_write host_frame host_present host_level host_word can_write is_leaf_at flags_logged count_trailing_zeros
-moved_have = refl
-
-moved : (turned_all begun (order_to_move 30)).words area.Host 65 ≡ host_word 66 true true 1
-unfolding flushed topics_after place kind_of level_span table_word frozen_word content_index pool_index absent_word frame_in mapped_frame leaf_word flags_live
-    flags_read_only flags_word host_allows_write host_frame host_present host_level host_word can_write is_leaf_at flags_logged count_trailing_zeros
-moved = refl
-
-leaf_moved : (turned_all begun move_order).words area.Pool (pool_index 4 6) ≡ leaf_word 1 66 true true true
-unfolding flushed topics_after place kind_of level_span table_word frozen_word content_index pool_index absent_word frame_in mapped_frame leaf_word flags_live
-    flags_read_only flags_word host_allows_write host_frame host_present host_level host_word can_write is_leaf_at flags_logged count_trailing_zeros
-leaf_moved = refl
-
-two_ended : (turned_all begun move_order).words area.Seq 0 ≡ 2
-unfolding flushed topics_after place kind_of level_span table_word frozen_word content_index pool_index absent_word frame_in mapped_frame leaf_word flags_live
-    flags_read_only flags_word host_allows_write host_frame host_present host_level host_word can_write is_leaf_at flags_logged count_trailing_zeros
-two_ended = refl
-
-none_open : (turned_all begun move_order).words area.Count 0 ≡ 0
-unfolding flushed topics_after place kind_of level_span table_word frozen_word content_index pool_index absent_word frame_in mapped_frame leaf_word flags_live
-    flags_read_only flags_word host_allows_write host_frame host_present host_level host_word can_write is_leaf_at flags_logged count_trailing_zeros
-none_open = refl
-
-old_free : (turned_all begun move_order).words area.FrameMap 1 ≡ 2
-unfolding flushed topics_after place kind_of level_span table_word frozen_word content_index pool_index absent_word frame_in mapped_frame leaf_word flags_live
-    flags_read_only flags_word host_allows_write host_frame host_present host_level host_word can_write is_leaf_at flags_logged count_trailing_zeros
-old_free = refl
+whole = (refl, refl, refl, refl, refl, refl, refl, refl)
 
 -- where no frame is free
-none_tale : tale (start_view run_sizes (move_none ∷ [])) (replicate 3 2) ≡ none_events
+refused :
+    (fits_all run_sizes (steps_of 3 2 ∷ []) (start_view run_sizes (move_none ∷ [])) ≡ true)
+    × (tells_all (steps_of 3 2 ∷ []) (start_view run_sizes (move_none ∷ [])) ≡ none_events)
 unfolding flushed topics_after place kind_of level_span table_word frozen_word content_index pool_index absent_word frame_in mapped_frame leaf_word flags_live
     flags_read_only flags_word host_allows_write host_frame host_present host_level host_word can_write is_leaf_at flags_logged count_trailing_zeros
-none_tale = refl
-
-none_have : have_lines run_sizes (start_view run_sizes (move_none ∷ [])) (replicate 3 2) ≡ true
-unfolding flushed topics_after place kind_of level_span table_word frozen_word content_index pool_index absent_word frame_in mapped_frame leaf_word flags_live
-    flags_read_only flags_word host_allows_write host_frame host_present host_level host_word can_write is_leaf_at flags_logged count_trailing_zeros
-none_have = refl
+refused = (refl, refl)
 
 move_allowed : All (May move_sizes) move_lines
 move_allowed =
@@ -166,29 +135,29 @@ unfolding line_text
 none_prints = simp (decimal_digit 0 (lit< tt), decimal_digit 2 (lit< tt))
 
 -- That these actors in turn tell this, and what one of them has counted then; and what a word holds after them.
-counts : (order : List ℕ) (events : List Event) (actor delays : ℕ) → have_lines move_sizes begun order ≡ true → tale begun order ≡ events
-    → ((turned_all begun order).hand actor).state.delays ≡ delays → RunDelays move_sizes move_lines order events actor delays
-counts order events actor delays = run_delays move_sizes move_lines order events actor delays move_in_range move_allowed (omega arith)
+counts : (rounds : List (ℕ × List ℕ)) (events : List Event) (actor delays : ℕ) → fits_all move_sizes rounds begun ≡ true → tells_all rounds begun ≡ events
+    → delays_after rounds actor ≡ delays → RunDelays move_sizes move_lines (turns rounds) events actor delays
+counts rounds events actor delays = run_delays move_sizes move_lines rounds events actor delays move_in_range move_allowed (omega arith)
 
-leaves : (order : List ℕ) (a : Area) (index value : ℕ) → have_lines move_sizes begun order ≡ true → (turned_all begun order).words a index ≡ value
-    → RunLeaves move_sizes move_lines order a index value
-leaves order a index value = run_leaves move_sizes move_lines order a index value move_in_range move_allowed (omega arith)
+leaves : (rounds : List (ℕ × List ℕ)) (a : Area) (index value : ℕ) → fits_all move_sizes rounds begun ≡ true → word_after rounds a index ≡ value
+    → RunLeaves move_sizes move_lines (turns rounds) a index value
+leaves rounds a index value = run_leaves move_sizes move_lines rounds a index value move_in_range move_allowed (omega arith)
 
 pub example_move : ExampleMove
 example_move = (
-  counts move_order move_events 1 1 move_have move_tale fault_counts,
-  counts move_order move_events 0 0 move_have move_tale read_counts,
-  leaves order_to_watch area.Host 66 (host_word 128 true true 1) watch_have word_moved,
-  leaves order_to_watch area.Seq 0 1 watch_have one_ended,
-  leaves order_to_watch area.FrameMap 2 0 watch_have none_free,
-  leaves (order_to_move 29) area.Content (content_index (map_of move_sizes) 66 0) 7 copied_have copied,
-  leaves (order_to_move 29) area.Host 65 (host_word 65 true true 1) copied_have yet_there,
-  leaves (order_to_move 30) area.Host 65 (host_word 66 true true 1) moved_have moved,
-  leaves move_order area.Pool (pool_index 4 6) (leaf_word 1 66 true true true) move_have leaf_moved,
-  leaves move_order area.Seq 0 2 move_have two_ended,
-  leaves move_order area.Count 0 0 move_have none_open,
-  leaves move_order area.FrameMap 1 2 move_have old_free,
+  counts move_rounds move_events 1 1 whole.0 whole.1 whole.2,
+  counts move_rounds move_events 0 0 whole.0 whole.1 whole.3,
+  leaves rounds_to_watch area.Host 66 (host_word 128 true true 1) watched.0 watched.1,
+  leaves rounds_to_watch area.Seq 0 1 watched.0 watched.2,
+  leaves rounds_to_watch area.FrameMap 2 0 watched.0 watched.3,
+  leaves (rounds_to_move 29) area.Content (content_index (map_of move_sizes) 66 0) 7 copied.0 copied.1,
+  leaves (rounds_to_move 29) area.Host 65 (host_word 65 true true 1) copied.0 copied.2,
+  leaves (rounds_to_move 30) area.Host 65 (host_word 66 true true 1) moved.0 moved.1,
+  leaves move_rounds area.Pool (pool_index 4 6) (leaf_word 1 66 true true true) whole.0 whole.4,
+  leaves move_rounds area.Seq 0 2 whole.0 whole.5,
+  leaves move_rounds area.Count 0 0 whole.0 whole.6,
+  leaves move_rounds area.FrameMap 1 2 whole.0 whole.7,
   move_prints,
-  run_tells run_sizes (move_none ∷ []) (replicate 3 2) none_events run_in_range none_allowed (omega arith) none_have none_tale,
+  run_tells run_sizes (move_none ∷ []) (steps_of 3 2 ∷ []) none_events run_in_range none_allowed (omega arith) refused.0 refused.1,
   none_prints,
 )

@@ -1,106 +1,45 @@
 -- The steps of the examples, by computation.
-use Rattle.mmu_core.specs.invariant.Laws.{IsSound}
-use Rattle.mmu_core.specs.machine.Worlds.{IsStart}
-use Rattle.core_views.specs.Held.{Held}
-use Rattle.spte_words.specs.declared.area.Area.{Area}
 use Rattle.core_views.proofs.HeaderSizes.{four}
 use lib.Count.{count_trailing_zeros}
-use Rattle.std.proofs.Common.{ℕ, zero, suc, List, ◌≤◌, ◌+◌, lit≤, ◌≡◌, [], ◌∷◌, refl, sym, subst, ap, ◌∙◌, arith, lit<, length}
+use Rattle.std.proofs.Common.{ℕ, zero, suc, List, ◌≤◌, ◌+◌, lit≤, ◌≡◌, [], ◌∷◌, refl, ap, arith, lit<}
 use Rattle.std.proofs.lemmas.Option.{slice_get_past}
 use Rattle.std.proofs.lemmas.Fmt.{decimal_digit}
 use Rattle.mmu_laws.proofs.steps.Decimals.{two_digits}
 use Rattle.std.specs.Prelude.{All, Option, codes, true, unwrap_or}
 use Rattle.std.proofs.lemmas.List.Elements.{All-cons, All-nil}
-use Rattle.core_views.specs.declared.trace.Line.{Line}
 use Rattle.core_views.specs.Sizes.{AreSizes, first_page_in}
-use Rattle.core_views.specs.Traces.{IsCommandFor}
-use Rattle.core_views.specs.declared.event.Event.{Event}
-use Rattle.core_views.specs.declared.sizes.Sizes.{Sizes}
 use Rattle.core_views.specs.Text.{line_text, text}
 use Rattle.spte_words.specs.Areas.{content_index, place, pool_index}
 use Rattle.spte_words.specs.Entries.{absent_word, can_write, frame_in, frozen_word, is_leaf_at, kind_of, leaf_word, level_span, mapped_frame, table_word}
 use Rattle.spte_words.specs.Entries.{host_writable, mmu_writable}
 use Rattle.spte_words.specs.Flags.{flags_live, flags_logged, flags_read_only, flags_word}
 use Rattle.spte_words.specs.HostWords.{host_allows_write, host_frame, host_present, host_word}
-use Rattle.mmu_laws.specs.steps.ExampleRaces.{ExampleRaces, first_line, race_events, race_lines, race_order, second_line}
+use Rattle.mmu_laws.specs.steps.ExampleRaces.{ExampleRaces, first_line, race_events, race_lines, second_line}
 use Rattle.mmu_laws.specs.steps.ExampleRuns.{ExamplePrints, ExampleRuns, add_line, forbidden_line, other_slot_line, outsider_line, reader_line}
-use Rattle.mmu_laws.specs.steps.ExampleRuns.{run_events, run_lines, run_order, sum_line, write_line}
-use Rattle.mmu_laws.specs.steps.ExampleStarves.{ExampleStarves, small_events, small_lines, small_order, small_sizes, starved_line, starved_set_line}
-use Rattle.mmu_laws.specs.steps.ExampleSteps.{RunDelays, RunTells, run_sizes, set_line, set_read_only_line, turns_of, RunLeaves}
-use Rattle.mmu_laws.specs.steps.ExampleWaits.{ExampleWaits, beside_line, wait_events, wait_lines, wait_order}
+use Rattle.mmu_laws.specs.steps.ExampleRuns.{run_events, run_lines, sum_line, write_line}
+use Rattle.mmu_laws.specs.steps.ExampleStarves.{ExampleStarves, small_events, small_lines, small_sizes, starved_line, starved_set_line}
+use Rattle.mmu_laws.specs.steps.ExampleSteps.{run_sizes, set_line, set_read_only_line}
+use Rattle.mmu_laws.specs.steps.ExampleWaits.{ExampleWaits, beside_line, wait_events, wait_lines}
 use Rattle.mmu_core.specs.lines.Cached.{flushed}
-use Rattle.mmu_core.specs.machine.Enabled.{mmu}
-use Rattle.mmu_core.specs.machine.Machine.{run, World}
 use Rattle.part_steps.specs.TopicSteps.{topics_after}
-use Rattle.mmu_core.specs.machine.View.{View, view}
-use Rattle.mmu_core.proofs.start.StartViews.{a_start, start_view, start_view_is}
-use Rattle.mmu_core.proofs.start.Starts.{start_good}
-use Rattle.mmu_laws.proofs.steps.ViewRuns.{HaveLines, have_lines, have_lines_by, tale, turned_all, turns_are, turns_lead}
-
--- What a run over words and hands as columns tells, a run of worlds tells.
-pub run_tells : (z : Sizes) (lines : List Line) (order : List ℕ) (events : List Event) → AreSizes z
-    → All (λ line. IsCommandFor z line.actor line.command) lines → length lines ≤ 1000000
-    → have_lines z (start_view z lines) order ≡ true → tale (start_view z lines) order ≡ events → RunTells z lines order events
-run_tells z lines order events sizes allowed few has told =
-    let s = a_start z lines sizes allowed few in
-    let is : ◌≡◌ {A = View} (view z s.0) (start_view z lines) = start_view_is z lines s.0 s.1 in
-    let have = subst (λ (v : View). HaveLines z v order) (sym is) (have_lines_by z (start_view z lines) order has) in
-    let runs = turns_are z s.0 order (start_good z lines s.0 s.1) have in
-    record { start = s.0; is_start = s.1; legal = runs.0; tells = runs.1 ∙ (ap (λ (v : View). tale v order) is ∙ told) }
-
--- What an actor counts in such a run, it counts in a run of worlds.
-pub run_delays : (z : Sizes) (lines : List Line) (order : List ℕ) (events : List Event) (actor delays : ℕ) → AreSizes z
-    → All (λ line. IsCommandFor z line.actor line.command) lines → length lines ≤ 1000000
-    → have_lines z (start_view z lines) order ≡ true → tale (start_view z lines) order ≡ events
-    → ((turned_all (start_view z lines) order).hand actor).state.delays ≡ delays → RunDelays z lines order events actor delays
-run_delays z lines order events actor delays sizes allowed few has told counts =
-    record { tells = T; counts = ap (λ (v : View). (v.hand actor).state.delays) leads ∙ counts }
-  where
-    T : RunTells z lines order events
-    T = run_tells z lines order events sizes allowed few has told
-
-    is : ◌≡◌ {A = View} (view z T.start) (start_view z lines)
-    is = start_view_is z lines T.start T.is_start
-
-    leads : ◌≡◌ {A = View} (view z (run mmu T.start (turns_of z T.start order))) (turned_all (start_view z lines) order)
-    leads = turns_lead z T.start order (start_good z lines T.start T.is_start) (subst (λ (v : View). HaveLines z v order) (sym is)
-        (have_lines_by z (start_view z lines) order has)) ∙ ap (λ (v : View). turned_all v order) is
-
--- What a word holds after such a run, it holds in a run of worlds.
-pub run_leaves : (z : Sizes) (lines : List Line) (order : List ℕ) (a : Area) (index value : ℕ) → AreSizes z
-    → All (λ line. IsCommandFor z line.actor line.command) lines → length lines ≤ 1000000
-    → have_lines z (start_view z lines) order ≡ true → (turned_all (start_view z lines) order).words a index ≡ value → RunLeaves z lines order a index value
-run_leaves z lines order a index value sizes allowed few has holds =
-    record { start = s.0; is_start = s.1; legal = (turns_are z s.0 order good have).0; holds = ap (λ (v : View). v.words a index) leads ∙ holds }
-  where
-    s : (w : World Held) × IsStart z lines w
-    s = a_start z lines sizes allowed few
-
-    good : IsSound z s.0
-    good = start_good z lines s.0 s.1
-
-    is : ◌≡◌ {A = View} (view z s.0) (start_view z lines)
-    is = start_view_is z lines s.0 s.1
-
-    have : HaveLines z (view z s.0) order
-    have = subst (λ (v : View). HaveLines z v order) (sym is) (have_lines_by z (start_view z lines) order has)
-
-    leads : ◌≡◌ {A = View} (view z (run mmu s.0 (turns_of z s.0 order))) (turned_all (start_view z lines) order)
-    leads = turns_lead z s.0 order good have ∙ ap (λ (v : View). turned_all v order) is
+use Rattle.mmu_core.proofs.start.StartViews.{start_view}
+use Rattle.mmu_laws.proofs.steps.ComputedRuns.{May, run_delays, run_tells}
+use Rattle.mmu_laws.proofs.steps.FoldedRuns.{fits_all, leads_all, steps_of, tells_all}
 
 -- ---- a pool that is large enough
 
-run_tale : tale (start_view run_sizes run_lines) run_order ≡ run_events
-unfolding flushed topics_after place kind_of level_span table_word frozen_word content_index pool_index absent_word frame_in mapped_frame leaf_word flags_live
-    flags_read_only flags_word host_allows_write host_frame host_present host_word can_write is_leaf_at flags_logged host_writable mmu_writable
-    count_trailing_zeros
-run_tale = refl
+-- the rounds
+abbrev run_rounds : List (ℕ × List ℕ)
+run_rounds = steps_of 1048 3 ∷ steps_of 47 0 ∷ steps_of 1581 1 ∷ steps_of 13 0 ∷ steps_of 4 1 ∷ steps_of 76 0 ∷ []
 
-run_has_lines : have_lines run_sizes (start_view run_sizes run_lines) run_order ≡ true
+-- the whole run
+run_whole :
+    (fits_all run_sizes run_rounds (start_view run_sizes run_lines) ≡ true)
+    × (tells_all run_rounds (start_view run_sizes run_lines) ≡ run_events)
 unfolding flushed topics_after place kind_of level_span table_word frozen_word content_index pool_index absent_word frame_in mapped_frame leaf_word flags_live
     flags_read_only flags_word host_allows_write host_frame host_present host_word can_write is_leaf_at flags_logged host_writable mmu_writable
     count_trailing_zeros
-run_has_lines = refl
+run_whole = (refl, refl)
 
 -- The one host thread has all pages.
 firsts_rise : (host : ℕ) → first_page_in (0 ∷ 128 ∷ 128 ∷ 128 ∷ []) 128 host ≤ first_page_in (0 ∷ 128 ∷ 128 ∷ 128 ∷ []) 128 (host + 1)
@@ -134,9 +73,6 @@ frames_in_range frames least most = record {
 pub run_in_range : AreSizes run_sizes
 run_in_range = frames_in_range 128 (omega arith) (omega arith)
 
-abbrev pub May : Sizes → Line → Type 0
-May z line = IsCommandFor z line.actor line.command
-
 pub may_set : May run_sizes set_line
 may_set = record { some = omega arith; pages = omega arith; base = omega arith; host = omega arith; aligned = omega arith }
 
@@ -159,7 +95,7 @@ run_allowed =
     (All-cons (May run_sizes) forbidden_line [] (omega arith, omega arith, omega arith) (All-nil (May run_sizes))))))))))
 
 pub example_runs : ExampleRuns
-example_runs = run_tells run_sizes run_lines run_order run_events run_in_range run_allowed (omega arith) run_has_lines run_tale
+example_runs = run_tells run_sizes run_lines run_rounds run_events run_in_range run_allowed (omega arith) run_whole.0 run_whole.1
 
 -- what it prints
 pub example_prints : ExamplePrints
@@ -182,15 +118,16 @@ example_prints =
 
 -- ---- a pool that is too small
 
-small_tale : tale (start_view small_sizes small_lines) small_order ≡ small_events
-unfolding flushed topics_after place kind_of level_span table_word frozen_word content_index pool_index absent_word frame_in mapped_frame leaf_word flags_live
-    flags_read_only flags_word host_allows_write host_frame host_present host_word can_write is_leaf_at flags_logged count_trailing_zeros
-small_tale = refl
+abbrev small_rounds : List (ℕ × List ℕ)
+small_rounds = steps_of 524 3 ∷ steps_of 1055 0 ∷ steps_of 1 3 ∷ []
 
-small_has_lines : have_lines small_sizes (start_view small_sizes small_lines) small_order ≡ true
+-- the whole run
+small_whole :
+    (fits_all small_sizes small_rounds (start_view small_sizes small_lines) ≡ true)
+    × (tells_all small_rounds (start_view small_sizes small_lines) ≡ small_events)
 unfolding flushed topics_after place kind_of level_span table_word frozen_word content_index pool_index absent_word frame_in mapped_frame leaf_word flags_live
     flags_read_only flags_word host_allows_write host_frame host_present host_word can_write is_leaf_at flags_logged count_trailing_zeros
-small_has_lines = refl
+small_whole = (refl, refl)
 
 small_in_range : AreSizes small_sizes
 small_in_range = record {
@@ -218,21 +155,22 @@ small_prints = simp (decimal_digit 0 (lit< tt), decimal_digit 2 (lit< tt), decim
 
 pub example_starves : ExampleStarves
 example_starves = (
-  run_tells small_sizes small_lines small_order small_events small_in_range small_allowed (omega arith) small_has_lines small_tale,
+  run_tells small_sizes small_lines small_rounds small_events small_in_range small_allowed (omega arith) small_whole.0 small_whole.1,
   small_prints,
 )
 
 -- ---- two processors at one guest frame
 
-race_tale : tale (start_view run_sizes race_lines) race_order ≡ race_events
-unfolding flushed topics_after place kind_of level_span table_word frozen_word content_index pool_index absent_word frame_in mapped_frame leaf_word flags_live
-    flags_read_only flags_word host_allows_write host_frame host_present host_word can_write is_leaf_at flags_logged count_trailing_zeros
-race_tale = refl
+abbrev race_rounds : List (ℕ × List ℕ)
+race_rounds = steps_of 524 3 ∷ (1581, 0 ∷ 1 ∷ []) ∷ steps_of 46 1 ∷ []
 
-race_has_lines : have_lines run_sizes (start_view run_sizes race_lines) race_order ≡ true
+-- the whole run
+race_whole :
+    (fits_all run_sizes race_rounds (start_view run_sizes race_lines) ≡ true)
+    × (tells_all race_rounds (start_view run_sizes race_lines) ≡ race_events)
 unfolding flushed topics_after place kind_of level_span table_word frozen_word content_index pool_index absent_word frame_in mapped_frame leaf_word flags_live
     flags_read_only flags_word host_allows_write host_frame host_present host_word can_write is_leaf_at flags_logged count_trailing_zeros
-race_has_lines = refl
+race_whole = (refl, refl)
 
 race_allowed : All (May run_sizes) race_lines
 race_allowed =
@@ -254,26 +192,23 @@ race_prints = simp (
 
 pub example_races : ExampleRaces
 example_races = (
-  run_tells run_sizes race_lines race_order race_events run_in_range race_allowed (omega arith) race_has_lines race_tale,
+  run_tells run_sizes race_lines race_rounds race_events run_in_range race_allowed (omega arith) race_whole.0 race_whole.1,
   race_prints,
 )
 
 -- ---- a slot line beside a processor
 
-wait_tale : tale (start_view run_sizes wait_lines) wait_order ≡ wait_events
-unfolding flushed topics_after place kind_of level_span table_word frozen_word content_index pool_index absent_word frame_in mapped_frame leaf_word flags_live
-    flags_read_only flags_word host_allows_write host_frame host_present host_word can_write is_leaf_at flags_logged count_trailing_zeros
-wait_tale = refl
+abbrev wait_rounds : List (ℕ × List ℕ)
+wait_rounds = steps_of 524 3 ∷ steps_of 19 1 ∷ steps_of 1 3 ∷ steps_of 1 1 ∷ steps_of 516 3 ∷ steps_of 1553 1 ∷ steps_of 6 3 ∷ steps_of 8 1 ∷ steps_of 4 3 ∷ []
 
-wait_has_lines : have_lines run_sizes (start_view run_sizes wait_lines) wait_order ≡ true
+-- the whole run
+wait_whole :
+    (fits_all run_sizes wait_rounds (start_view run_sizes wait_lines) ≡ true)
+    × (tells_all wait_rounds (start_view run_sizes wait_lines) ≡ wait_events)
+    × (((leads_all wait_rounds (start_view run_sizes wait_lines)).hand 3).state.delays ≡ 3)
 unfolding flushed topics_after place kind_of level_span table_word frozen_word content_index pool_index absent_word frame_in mapped_frame leaf_word flags_live
     flags_read_only flags_word host_allows_write host_frame host_present host_word can_write is_leaf_at flags_logged count_trailing_zeros
-wait_has_lines = refl
-
-wait_counts : ((turned_all (start_view run_sizes wait_lines) wait_order).hand 3).state.delays ≡ 3
-unfolding flushed topics_after place kind_of level_span table_word frozen_word content_index pool_index absent_word frame_in mapped_frame leaf_word flags_live
-    flags_read_only flags_word host_allows_write host_frame host_present host_word can_write is_leaf_at flags_logged count_trailing_zeros
-wait_counts = refl
+wait_whole = (refl, refl, refl)
 
 wait_allowed : All (May run_sizes) wait_lines
 wait_allowed =
@@ -282,5 +217,4 @@ wait_allowed =
     (All-cons (May run_sizes) beside_line [] (omega arith, omega arith, omega arith) (All-nil (May run_sizes))))
 
 pub example_waits : ExampleWaits
-example_waits = run_delays run_sizes wait_lines wait_order wait_events 3 3 run_in_range wait_allowed (omega arith) wait_has_lines
-    wait_tale wait_counts
+example_waits = run_delays run_sizes wait_lines wait_rounds wait_events 3 3 run_in_range wait_allowed (omega arith) wait_whole.0 wait_whole.1 wait_whole.2

@@ -13,97 +13,117 @@ use lib.Count.{count_trailing_zeros}
 use Rattle.core_views.specs.Text.{line_text, text}
 use Rattle.core_views.specs.declared.event.Event.{Event}
 use Rattle.mmu_laws.specs.steps.ExampleHost.{write_first}
-use Rattle.mmu_laws.specs.steps.ExampleSlots.{ExampleSlots, delete_line, events_to_read, move_line, order_to_cache, order_to_move, order_to_read, order_to_wait}
-use Rattle.mmu_laws.specs.steps.ExampleSlots.{read_beside, read_gone, read_inside, same_line, slots_events, slots_lines, slots_order}
+use Rattle.mmu_laws.specs.steps.ExampleSlots.{ExampleSlots, delete_line, events_to_read, move_line}
+use Rattle.mmu_laws.specs.steps.ExampleSlots.{read_beside, read_gone, read_inside, same_line, slots_events, slots_lines}
 use Rattle.spte_words.specs.declared.area.Area.{Area}
 use Rattle.spte_words.specs.declared.area.Area.TheVariants as area
 use Rattle.mmu_laws.specs.steps.ExampleSteps.{RunDelays, RunLeaves, run_sizes, set_line}
-use Rattle.mmu_laws.proofs.steps.ExampleRun.{May, may_set, run_delays, run_in_range, run_leaves}
+use Rattle.mmu_laws.proofs.steps.ExampleRun.{may_set, run_in_range}
+use Rattle.mmu_laws.proofs.steps.ComputedRuns.{May, run_delays, run_leaves}
 use Rattle.mmu_laws.proofs.steps.Decimals.{two_digits}
-use Rattle.mmu_laws.proofs.steps.ViewRuns.{have_lines, tale, turned_all}
+use Rattle.mmu_laws.proofs.steps.FoldedRuns.{fits_all, leads_all, steps_of, tells_all, turns}
 use Rattle.mmu_core.specs.machine.View.{View}
 use Rattle.mmu_core.proofs.start.StartViews.{start_view}
 
--- the start, and what hands have counted and words hold after these actors in turn
+-- the start, and what hands have counted and words hold after these rounds
 abbrev begun : View
 begun = start_view run_sizes slots_lines
 
-abbrev delays_after : List ℕ → ℕ → ℕ
-delays_after order actor = ((turned_all begun order).hand actor).state.delays
+abbrev delays_after : List (ℕ × List ℕ) → ℕ → ℕ
+delays_after rounds actor = ((leads_all rounds begun).hand actor).state.delays
 
-abbrev word_after : List ℕ → Area → ℕ → ℕ
-word_after order a index = (turned_all begun order).words a index
+abbrev word_after : List (ℕ × List ℕ) → Area → ℕ → ℕ
+word_after rounds a index = (leads_all rounds begun).words a index
+
+-- the rounds
+abbrev rounds_to_look : List (ℕ × List ℕ)
+rounds_to_look = steps_of 524 3 ∷ steps_of 1581 0 ∷ steps_of 16 1 ∷ []
+
+abbrev rounds_to_move : ℕ → List (ℕ × List ℕ)
+rounds_to_move steps = rounds_to_look ++ (steps_of steps 3 ∷ [])
+
+abbrev rounds_to_read : List (ℕ × List ℕ)
+rounds_to_read = rounds_to_move 581 ++ (steps_of 41 1 ∷ [])
+
+abbrev rounds_to_cache : List (ℕ × List ℕ)
+rounds_to_cache = rounds_to_read ++ (steps_of 5 3 ∷ steps_of 7 0 ∷ [])
+
+abbrev rounds_to_wait : List (ℕ × List ℕ)
+rounds_to_wait = rounds_to_cache ++ (steps_of 567 3 ∷ [])
+
+abbrev slots_rounds : List (ℕ × List ℕ)
+slots_rounds = rounds_to_wait ++ (steps_of 2 0 ∷ steps_of 18 3 ∷ steps_of 44 1 ∷ [])
 
 -- before the move zaps the leaf
 before_zap :
-    (have_lines run_sizes begun (order_to_move 562) ≡ true)
-    × (word_after (order_to_move 562) area.Pool (pool_index 4 6) ≡ leaf_word 1 65 true true true)
+    (fits_all run_sizes (rounds_to_move 562) begun ≡ true)
+    × (word_after (rounds_to_move 562) area.Pool (pool_index 4 6) ≡ leaf_word 1 65 true true true)
 unfolding flushed topics_after place kind_of level_span table_word frozen_word content_index pool_index absent_word frame_in mapped_frame leaf_word flags_live
     flags_read_only flags_word host_allows_write host_frame host_present host_level host_word can_write is_leaf_at flags_logged count_trailing_zeros
 before_zap = (refl, refl)
 
 -- after it
 zapped :
-    (have_lines run_sizes begun (order_to_move 563) ≡ true)
-    × (word_after (order_to_move 563) area.Pool (pool_index 4 6) ≡ 0)
-    × (word_after (order_to_move 563) area.RangeStart 0 ≡ 5)
-    × (word_after (order_to_move 563) area.RangeEnd 0 ≡ 8)
+    (fits_all run_sizes (rounds_to_move 563) begun ≡ true)
+    × (word_after (rounds_to_move 563) area.Pool (pool_index 4 6) ≡ 0)
+    × (word_after (rounds_to_move 563) area.RangeStart 0 ≡ 5)
+    × (word_after (rounds_to_move 563) area.RangeEnd 0 ≡ 8)
 unfolding flushed topics_after place kind_of level_span table_word frozen_word content_index pool_index absent_word frame_in mapped_frame leaf_word flags_live
     flags_read_only flags_word host_allows_write host_frame host_present host_level host_word can_write is_leaf_at flags_logged count_trailing_zeros
 zapped = (refl, refl, refl, refl)
 
 -- before the move publishes its set
 before_publication :
-    (have_lines run_sizes begun (order_to_move 571) ≡ true)
-    × (word_after (order_to_move 571) area.Slots 0 ≡ 2)
+    (fits_all run_sizes (rounds_to_move 571) begun ≡ true)
+    × (word_after (rounds_to_move 571) area.Slots 0 ≡ 2)
 unfolding flushed topics_after place kind_of level_span table_word frozen_word content_index pool_index absent_word frame_in mapped_frame leaf_word flags_live
     flags_read_only flags_word host_allows_write host_frame host_present host_level host_word can_write is_leaf_at flags_logged count_trailing_zeros
 before_publication = (refl, refl)
 
 -- after it
 published :
-    (have_lines run_sizes begun (order_to_move 572) ≡ true)
-    × (word_after (order_to_move 572) area.Slots 0 ≡ 5)
-    × (word_after (order_to_move 572) area.Count 0 ≡ 1)
-    × (word_after (order_to_move 572) area.Seq 0 ≡ 0)
+    (fits_all run_sizes (rounds_to_move 572) begun ≡ true)
+    × (word_after (rounds_to_move 572) area.Slots 0 ≡ 5)
+    × (word_after (rounds_to_move 572) area.Count 0 ≡ 1)
+    × (word_after (rounds_to_move 572) area.Seq 0 ≡ 0)
 unfolding flushed topics_after place kind_of level_span table_word frozen_word content_index pool_index absent_word frame_in mapped_frame leaf_word flags_live
     flags_read_only flags_word host_allows_write host_frame host_present host_level host_word can_write is_leaf_at flags_logged count_trailing_zeros
 published = (refl, refl, refl, refl)
 
 -- after the read beside the move
 read :
-    (have_lines run_sizes begun order_to_read ≡ true)
-    × (tale begun order_to_read ≡ events_to_read)
-    × (delays_after order_to_read 1 ≡ 1)
+    (fits_all run_sizes rounds_to_read begun ≡ true)
+    × (tells_all rounds_to_read begun ≡ events_to_read)
+    × (delays_after rounds_to_read 1 ≡ 1)
 unfolding flushed topics_after place kind_of level_span table_word frozen_word content_index pool_index absent_word frame_in mapped_frame leaf_word flags_live
     flags_read_only flags_word host_allows_write host_frame host_present host_level host_word can_write is_leaf_at flags_logged count_trailing_zeros
 read = (refl, refl, refl)
 
 -- where the next read has cached its leaf
 cached :
-    (have_lines run_sizes begun order_to_cache ≡ true)
-    × (word_after order_to_cache area.Seq 0 ≡ 1)
+    (fits_all run_sizes rounds_to_cache begun ≡ true)
+    × (word_after rounds_to_cache area.Seq 0 ≡ 1)
 unfolding flushed topics_after place kind_of level_span table_word frozen_word content_index pool_index absent_word frame_in mapped_frame leaf_word flags_live
     flags_read_only flags_word host_allows_write host_frame host_present host_level host_word can_write is_leaf_at flags_logged count_trailing_zeros
 cached = (refl, refl)
 
 -- where the deletion waits for it
 waits :
-    (have_lines run_sizes begun order_to_wait ≡ true)
-    × (word_after order_to_wait area.Pool (pool_index 4 7) ≡ 0)
-    × (word_after order_to_wait area.Slots 0 ≡ 5)
+    (fits_all run_sizes rounds_to_wait begun ≡ true)
+    × (word_after rounds_to_wait area.Pool (pool_index 4 7) ≡ 0)
+    × (word_after rounds_to_wait area.Slots 0 ≡ 5)
 unfolding flushed topics_after place kind_of level_span table_word frozen_word content_index pool_index absent_word frame_in mapped_frame leaf_word flags_live
     flags_read_only flags_word host_allows_write host_frame host_present host_level host_word can_write is_leaf_at flags_logged count_trailing_zeros
 waits = (refl, refl, refl)
 
 -- the whole run
 whole :
-    (have_lines run_sizes begun slots_order ≡ true)
-    × (tale begun slots_order ≡ slots_events)
-    × (delays_after slots_order 3 ≡ 1)
-    × (word_after slots_order area.Slots 0 ≡ 2)
-    × (word_after slots_order area.Seq 0 ≡ 2)
-    × (word_after slots_order area.Count 0 ≡ 0)
+    (fits_all run_sizes slots_rounds begun ≡ true)
+    × (tells_all slots_rounds begun ≡ slots_events)
+    × (delays_after slots_rounds 3 ≡ 1)
+    × (word_after slots_rounds area.Slots 0 ≡ 2)
+    × (word_after slots_rounds area.Seq 0 ≡ 2)
+    × (word_after slots_rounds area.Count 0 ≡ 0)
 unfolding flushed topics_after place kind_of level_span table_word frozen_word content_index pool_index absent_word frame_in mapped_frame leaf_word flags_live
     flags_read_only flags_word host_allows_write host_frame host_present host_level host_word can_write is_leaf_at flags_logged count_trailing_zeros
 whole = (refl, refl, refl, refl, refl, refl)
@@ -143,31 +163,31 @@ slots_print =
     )
 
 -- That these actors in turn tell this, and what one of them has counted then; and what a word holds after them.
-counts : (order : List ℕ) (events : List Event) (actor delays : ℕ) → have_lines run_sizes begun order ≡ true → tale begun order ≡ events
-    → delays_after order actor ≡ delays → RunDelays run_sizes slots_lines order events actor delays
-counts order events actor delays = run_delays run_sizes slots_lines order events actor delays run_in_range slots_allowed (omega arith)
+counts : (rounds : List (ℕ × List ℕ)) (events : List Event) (actor delays : ℕ) → fits_all run_sizes rounds begun ≡ true → tells_all rounds begun ≡ events
+    → delays_after rounds actor ≡ delays → RunDelays run_sizes slots_lines (turns rounds) events actor delays
+counts rounds events actor delays = run_delays run_sizes slots_lines rounds events actor delays run_in_range slots_allowed (omega arith)
 
-leaves : (order : List ℕ) (a : Area) (index value : ℕ) → have_lines run_sizes begun order ≡ true → word_after order a index ≡ value
-    → RunLeaves run_sizes slots_lines order a index value
-leaves order a index value = run_leaves run_sizes slots_lines order a index value run_in_range slots_allowed (omega arith)
+leaves : (rounds : List (ℕ × List ℕ)) (a : Area) (index value : ℕ) → fits_all run_sizes rounds begun ≡ true → word_after rounds a index ≡ value
+    → RunLeaves run_sizes slots_lines (turns rounds) a index value
+leaves rounds a index value = run_leaves run_sizes slots_lines rounds a index value run_in_range slots_allowed (omega arith)
 
 pub example_slots : ExampleSlots
 example_slots = (
-  counts order_to_read events_to_read 1 1 read.0 read.1 read.2,
-  counts slots_order slots_events 3 1 whole.0 whole.1 whole.2,
-  leaves (order_to_move 562) area.Pool (pool_index 4 6) (leaf_word 1 65 true true true) before_zap.0 before_zap.1,
-  leaves (order_to_move 563) area.Pool (pool_index 4 6) 0 zapped.0 zapped.1,
-  leaves (order_to_move 563) area.RangeStart 0 5 zapped.0 zapped.2,
-  leaves (order_to_move 563) area.RangeEnd 0 8 zapped.0 zapped.3,
-  leaves (order_to_move 571) area.Slots 0 2 before_publication.0 before_publication.1,
-  leaves (order_to_move 572) area.Slots 0 5 published.0 published.1,
-  leaves (order_to_move 572) area.Count 0 1 published.0 published.2,
-  leaves (order_to_move 572) area.Seq 0 0 published.0 published.3,
-  leaves order_to_cache area.Seq 0 1 cached.0 cached.1,
-  leaves order_to_wait area.Pool (pool_index 4 7) 0 waits.0 waits.1,
-  leaves order_to_wait area.Slots 0 5 waits.0 waits.2,
-  leaves slots_order area.Slots 0 2 whole.0 whole.3,
-  leaves slots_order area.Seq 0 2 whole.0 whole.4,
-  leaves slots_order area.Count 0 0 whole.0 whole.5,
+  counts rounds_to_read events_to_read 1 1 read.0 read.1 read.2,
+  counts slots_rounds slots_events 3 1 whole.0 whole.1 whole.2,
+  leaves (rounds_to_move 562) area.Pool (pool_index 4 6) (leaf_word 1 65 true true true) before_zap.0 before_zap.1,
+  leaves (rounds_to_move 563) area.Pool (pool_index 4 6) 0 zapped.0 zapped.1,
+  leaves (rounds_to_move 563) area.RangeStart 0 5 zapped.0 zapped.2,
+  leaves (rounds_to_move 563) area.RangeEnd 0 8 zapped.0 zapped.3,
+  leaves (rounds_to_move 571) area.Slots 0 2 before_publication.0 before_publication.1,
+  leaves (rounds_to_move 572) area.Slots 0 5 published.0 published.1,
+  leaves (rounds_to_move 572) area.Count 0 1 published.0 published.2,
+  leaves (rounds_to_move 572) area.Seq 0 0 published.0 published.3,
+  leaves rounds_to_cache area.Seq 0 1 cached.0 cached.1,
+  leaves rounds_to_wait area.Pool (pool_index 4 7) 0 waits.0 waits.1,
+  leaves rounds_to_wait area.Slots 0 5 waits.0 waits.2,
+  leaves slots_rounds area.Slots 0 2 whole.0 whole.3,
+  leaves slots_rounds area.Seq 0 2 whole.0 whole.4,
+  leaves slots_rounds area.Count 0 0 whole.0 whole.5,
   slots_print,
 )

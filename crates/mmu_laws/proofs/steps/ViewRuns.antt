@@ -44,7 +44,7 @@ HaveLines z v [] = Unit {0}
 HaveLines z v (a ∷ actors) = (a < actors_of z) × HasLineThatFits (v.hand a) × HaveLines z (turned v a) actors
 
 -- the same, as a test
-abbrev writes_one_word : Command → Bool
+abbrev pub writes_one_word : Command → Bool
 writes_one_word (Access gfn word Read) = true
 writes_one_word (Access gfn word (Write x)) = nat_lt x (2 ^ 64)
 writes_one_word (Access gfn word (Add x)) = nat_lt x (2 ^ 64)
@@ -56,14 +56,14 @@ have_lines z v (a ∷ actors) =
     (nat_lt a (actors_of z) && (nat_lt (length (v.hand a).answers) (length (v.hand a).lines) && writes_one_word (next_line (v.hand a)).command))
     && have_lines z (turned v a) actors
 
-both : (a b : Bool) → (a && b) ≡ true → (a ≡ true) × (b ≡ true)
+pub both : (a b : Bool) → (a && b) ≡ true → (a ≡ true) × (b ≡ true)
 both true b e = (refl, e)
 both false b e = absurd (cc)
 
-below : (a b : ℕ) → nat_lt a b ≡ true → a < b
+pub below : (a b : ℕ) → nat_lt a b ≡ true → a < b
 below a b e = grind (arith, nat_tests)
 
-writes : (command : Command) → writes_one_word command ≡ true → WritesOneWord command
+pub writes : (command : Command) → writes_one_word command ≡ true → WritesOneWord command
 writes (Access gfn word Read) e = tt
 writes (Access gfn word (Write x)) e = below x (2 ^ 64) e
 writes (Access gfn word (Add x)) e = below x (2 ^ 64) e
