@@ -16,9 +16,8 @@ use Rattle.mmu_core.specs.machine.Worlds.{IsStart}
 use Rattle.mmu_core.proofs.start.Starts.{start_good}
 use Rattle.mmu_core.proofs.start.StartViews.{a_start, start_view, start_view_is}
 use Rattle.mmu_laws.specs.steps.ExampleSteps.{RunDelays, RunLeaves, RunTells, turns_of}
-use Rattle.mmu_laws.proofs.steps.FilledPages.{Runs}
 use Rattle.mmu_laws.proofs.steps.FoldedRuns.{all_fold, fits_all, leads_all, tells_all, turns}
-use Rattle.mmu_laws.proofs.steps.ViewRuns.{HaveLines, tale, turned_all, turns_are, turns_lead}
+use Rattle.mmu_laws.proofs.steps.ViewRuns.{HaveLines, Runs, tale, turned_all, turns_are, turns_lead}
 
 -- An actor may be given this line.
 abbrev pub May : Sizes → Line → Type 0

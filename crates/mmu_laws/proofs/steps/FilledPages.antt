@@ -1,7 +1,6 @@
 -- What the next fills of a page make of words and hands, all of them at once.
 use Rattle.std.proofs.Common.{◌≡◌, ◌≢◌, ◌⊎◌, inl, inr, ◌+◌, ◌*◌, ◌-◌, ◌^◌, ◌<◌, ◌≤◌, ℕ, zero, suc, List, [], ◌∷◌, ◌++◌, refl, sym, subst, ap, ◌∙◌, arith}
 use Rattle.std.specs.Prelude.{Bool, true, false, ◌&&◌, ◌==◌, nat_le, nat_lt, Some, if◌then◌else◌}
-use Rattle.std.proofs.lemmas.List.{append_assoc}
 use Rattle.std.proofs.lemmas.Bool.Decides.{nat_tests}
 use Rattle.core_views.specs.declared.event.Event.{Event}
 use Rattle.core_views.specs.declared.place.Place.{Place}
@@ -17,7 +16,7 @@ use Rattle.mmu_core.specs.machine.NextSteps.{HasLineThatFits}
 use Rattle.mmu_core.specs.machine.View.{View, put, upd}
 use Rattle.mmu_core.proofs.machine.Columns.{same_or, upd_same}
 use Rattle.mmu_laws.specs.steps.ExampleRaces.{in_turn}
-use Rattle.mmu_laws.proofs.steps.ViewRuns.{HaveLines, tale, tells, turned, turned_all}
+use Rattle.mmu_laws.proofs.steps.ViewRuns.{HaveLines, Runs, tale, tells, turned, turned_all}
 
 -- ---- the words
 
@@ -148,39 +147,6 @@ pub record FillsOne (F : Filler) (h : Held) : Type 0 where
   pub tells_none : (v : View) (a steps : ℕ) (o : OwnedPage) → v.hand a ≡ at_fill (F.place true) F.command o steps h → tells v a ≡ []
 
 -- ---- all of them
-
--- These actors in turn can make their steps, which lead there and tell this.
-pub record Runs (z : Sizes) (v : View) (actors : List ℕ) (there : View) (events : List Event) : Type 0 where
-  pub have : HaveLines z v actors
-  pub leads : ◌≡◌ {A = View} (turned_all v actors) there
-  pub tells_them : tale v actors ≡ events
-
-pub no_turns : (z : Sizes) (v : View) → Runs z v [] v []
-no_turns z v = record { have = tt; leads = refl; tells_them = refl }
-
-have_both : (z : Sizes) (v : View) (xs ys : List ℕ) → HaveLines z v xs → HaveLines z (turned_all v xs) ys → HaveLines z v (xs ++ ys)
-have_both z v [] ys first next = next
-have_both z v (a ∷ xs) ys first next = (first.0, first.1, have_both z (turned v a) xs ys first.2 next)
-
-turned_both : (v : View) (xs ys : List ℕ) → ◌≡◌ {A = View} (turned_all v (xs ++ ys)) (turned_all (turned_all v xs) ys)
-turned_both v [] ys = refl
-turned_both v (a ∷ xs) ys = turned_both (turned v a) xs ys
-
-tale_both : (v : View) (xs ys : List ℕ) → tale v (xs ++ ys) ≡ tale v xs ++ tale (turned_all v xs) ys
-tale_both v [] ys = refl
-tale_both v (a ∷ xs) ys =
-    ap (λ (es : List Event). tells v a ++ es) (tale_both (turned v a) xs ys)
-    ∙ sym (append_assoc (tells v a) (tale (turned v a) xs) (tale (turned_all (turned v a) xs) ys))
-
-pub run_on : (z : Sizes) (v w x : View) (xs ys : List ℕ) (es fs : List Event) → Runs z v xs w es → Runs z w ys x fs → Runs z v (xs ++ ys) x (es ++ fs)
-run_on z v w x xs ys es fs R S = record {
-  have = have_both z v xs ys R.have (subst (λ (u : View). HaveLines z u ys) (sym R.leads) S.have);
-  leads = turned_both v xs ys ∙ (ap (λ (u : View). turned_all u ys) R.leads ∙ S.leads);
-  tells_them =
-      tale_both v xs ys
-      ∙ (ap (λ (ds : List Event). ds ++ tale (turned_all v xs) ys) R.tells_them
-      ∙ ap (λ (ds : List Event). es ++ ds) (ap (λ (u : View). tale u ys) R.leads ∙ S.tells_them));
-}
 
 and_true : (b : Bool) → b ≡ (b && true)
 and_true true = refl

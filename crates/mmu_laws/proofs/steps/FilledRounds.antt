@@ -12,8 +12,9 @@ use Rattle.mmu_core.specs.machine.NextSteps.{HasLineThatFits}
 use Rattle.mmu_core.specs.machine.View.{View, upd}
 use Rattle.mmu_core.proofs.machine.Columns.{upd_other, upd_same}
 use Rattle.mmu_laws.specs.steps.ExampleRaces.{in_turn}
-use Rattle.mmu_laws.proofs.steps.FilledPages.{Filler, FillsOne, IsFilling, Runs, area_or, filled, fills_run, hand_filled, is_among}
-use Rattle.mmu_laws.proofs.steps.FilledPages.{one_filled, put_words, run_on, word_or}
+use Rattle.mmu_laws.proofs.steps.FilledPages.{Filler, FillsOne, IsFilling, area_or, filled, fills_run, hand_filled, is_among}
+use Rattle.mmu_laws.proofs.steps.FilledPages.{one_filled, put_words, word_or}
+use Rattle.mmu_laws.proofs.steps.ViewRuns.{Runs, run_on}
 
 -- The actor can make n fills more.
 pub record CanFill (z : Sizes) (F : Filler) (n a steps : ℕ) (h : Held) (v : View) : Type 0 where

@@ -9,10 +9,10 @@ use Rattle.core_views.specs.declared.sizes.Sizes.{Sizes}
 use Rattle.core_views.specs.Held.{Held}
 use Rattle.mmu_core.specs.machine.View.{View}
 use Rattle.mmu_laws.specs.steps.ExampleRaces.{in_turn}
-use Rattle.mmu_laws.proofs.steps.FilledPages.{Filler, Runs, at_fill, filled, no_turns, run_on}
+use Rattle.mmu_laws.proofs.steps.FilledPages.{Filler, at_fill, filled}
 use Rattle.mmu_laws.proofs.steps.FilledRounds.{CanFill, can_run, rounds_run}
 use Rattle.mmu_laws.proofs.steps.PageFillers.{Fills, filler_at, filler_fills}
-use Rattle.mmu_laws.proofs.steps.ViewRuns.{HaveLines, below, both, have_lines, have_lines_by, tale, turned_all}
+use Rattle.mmu_laws.proofs.steps.ViewRuns.{HaveLines, Runs, below, both, have_lines, have_lines_by, no_turns, run_on, tale, turned_all}
 
 -- The next rounds of some actors: one; or so many fills of the only one, or of both.
 pub data Leap : Type 0 where
@@ -97,13 +97,16 @@ fits_on z (suc fuel) actors (suc n) v =
 
 -- ---- rounds after rounds: how many, and of which actors
 
+-- so many steps of one actor
 abbrev pub steps_of : ℕ → ℕ → ℕ × List ℕ
 steps_of count actor = (count, actor ∷ [])
 
+-- the actors, one after another
 abbrev pub turns : List (ℕ × List ℕ) → List ℕ
 turns [] = []
 turns (r ∷ rs) = in_turn r.0 r.1 ++ turns rs
 
+-- the words and hands after them, what they tell, and that they can be made
 abbrev pub leads_all : List (ℕ × List ℕ) → View → View
 leads_all [] v = v
 leads_all (r ∷ rs) v = leads_all rs (leads_on r.0 r.1 r.0 v)

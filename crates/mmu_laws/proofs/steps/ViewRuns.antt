@@ -2,6 +2,7 @@
 use Rattle.std.proofs.Common.{◌≡◌, ◌^◌, ◌<◌, ℕ, List, [], ◌∷◌, ◌++◌, length, refl, sym, subst, ap, ◌∙◌, arith}
 use Rattle.std.specs.Prelude.{Bool, true, false, ◌&&◌, nat_lt}
 use Rattle.std.proofs.lemmas.Bool.Decides.{nat_tests}
+use Rattle.std.proofs.lemmas.List.{append_assoc}
 use Rattle.core_views.specs.declared.event.Event.{Event}
 use Rattle.core_views.specs.declared.sizes.Sizes.{Sizes}
 use Rattle.core_views.specs.declared.trace.Command.{Command}
@@ -44,7 +45,7 @@ HaveLines z v [] = Unit {0}
 HaveLines z v (a ∷ actors) = (a < actors_of z) × HasLineThatFits (v.hand a) × HaveLines z (turned v a) actors
 
 -- the same, as a test
-abbrev pub writes_one_word : Command → Bool
+abbrev writes_one_word : Command → Bool
 writes_one_word (Access gfn word Read) = true
 writes_one_word (Access gfn word (Write x)) = nat_lt x (2 ^ 64)
 writes_one_word (Access gfn word (Add x)) = nat_lt x (2 ^ 64)
@@ -63,7 +64,7 @@ both false b e = absurd (cc)
 pub below : (a b : ℕ) → nat_lt a b ≡ true → a < b
 below a b e = grind (arith, nat_tests)
 
-pub writes : (command : Command) → writes_one_word command ≡ true → WritesOneWord command
+writes : (command : Command) → writes_one_word command ≡ true → WritesOneWord command
 writes (Access gfn word Read) e = tt
 writes (Access gfn word (Write x)) e = below x (2 ^ 64) e
 writes (Access gfn word (Add x)) e = below x (2 ^ 64) e
@@ -115,3 +116,38 @@ turns_lead z w (a ∷ actors) G have =
     turns_lead z (effect mmu w (next_step z w a)) actors (good_step z w (next_step z w a) G may)
     (subst (λ (v : View). HaveLines z v actors) (sym T.leads) have.2)
     ∙ ap (λ (v : View). turned_all v actors) T.leads
+
+-- ---- turns after turns
+
+-- These actors in turn can make their steps, which lead there and tell this.
+pub record Runs (z : Sizes) (v : View) (actors : List ℕ) (there : View) (events : List Event) : Type 0 where
+  pub have : HaveLines z v actors
+  pub leads : ◌≡◌ {A = View} (turned_all v actors) there
+  pub tells_them : tale v actors ≡ events
+
+pub no_turns : (z : Sizes) (v : View) → Runs z v [] v []
+no_turns z v = record { have = tt; leads = refl; tells_them = refl }
+
+have_both : (z : Sizes) (v : View) (xs ys : List ℕ) → HaveLines z v xs → HaveLines z (turned_all v xs) ys → HaveLines z v (xs ++ ys)
+have_both z v [] ys first next = next
+have_both z v (a ∷ xs) ys first next = (first.0, first.1, have_both z (turned v a) xs ys first.2 next)
+
+turned_both : (v : View) (xs ys : List ℕ) → ◌≡◌ {A = View} (turned_all v (xs ++ ys)) (turned_all (turned_all v xs) ys)
+turned_both v [] ys = refl
+turned_both v (a ∷ xs) ys = turned_both (turned v a) xs ys
+
+tale_both : (v : View) (xs ys : List ℕ) → tale v (xs ++ ys) ≡ tale v xs ++ tale (turned_all v xs) ys
+tale_both v [] ys = refl
+tale_both v (a ∷ xs) ys =
+    ap (λ (es : List Event). tells v a ++ es) (tale_both (turned v a) xs ys)
+    ∙ sym (append_assoc (tells v a) (tale (turned v a) xs) (tale (turned_all (turned v a) xs) ys))
+
+pub run_on : (z : Sizes) (v w x : View) (xs ys : List ℕ) (es fs : List Event) → Runs z v xs w es → Runs z w ys x fs → Runs z v (xs ++ ys) x (es ++ fs)
+run_on z v w x xs ys es fs R S = record {
+  have = have_both z v xs ys R.have (subst (λ (u : View). HaveLines z u ys) (sym R.leads) S.have);
+  leads = turned_both v xs ys ∙ (ap (λ (u : View). turned_all u ys) R.leads ∙ S.leads);
+  tells_them =
+      tale_both v xs ys
+      ∙ (ap (λ (ds : List Event). ds ++ tale (turned_all v xs) ys) R.tells_them
+      ∙ ap (λ (ds : List Event). es ++ ds) (ap (λ (u : View). tale u ys) R.leads ∙ S.tells_them));
+}
