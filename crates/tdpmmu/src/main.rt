@@ -36,6 +36,8 @@ fn main(rt: HostRuntime) -> ExitCode {
 }
 
 #[cfg(test)]
+mod cases;
+#[cfg(test)]
 mod fast_schedules;
 #[cfg(test)]
 mod host_schedules;

@@ -6,12 +6,12 @@ ghost use Rattle.core_views.specs.Traces.{AreLinesOf};
 use crate::host_traces::{HOST_COUNT, HOST_TRACES};
 use crate::move_traces::{MOVE_COUNT, MOVE_TRACES};
 use crate::slot_traces::{SLOT_COUNT, SLOT_TRACES};
-use crate::status::Status;
-use crate::tests::run_on;
+use crate::tests::prints;
 use crate::traces::{COUNT, TRACES};
 use core_views::Trace;
 use flat_model::Plain;
 use std::alloc::Global;
+use std::process::Abort;
 use std::sync::Wait;
 use std::test::Fail;
 use std::thread::Threads;
@@ -67,8 +67,7 @@ fn differing<R: Threads + Wait + Sync>(
     };
     for (more, cache) in [(0, 1), (0, 64), (1, 1), (60, 64)] {
         let whole = whole_trace(alloc, text, need.saturating_add(more), cache)?;
-        let (status, out) = run_on(rt, alloc, &["tdpmmu", "replay"], "", &whole, &[], &[])?;
-        if status != Status::Done || out.bytes() != answers.as_bytes() {
+        if !prints(rt, alloc, "replay", &whole, &answers)? {
             return Ok(Some(whole));
         }
     }
@@ -98,34 +97,34 @@ fn first_differing<'t, R: Threads + Wait + Sync>(
     Ok((None, rest))
 }
 
+// The table has so many traces, and on each the machine answers as flat guest memory.
+fn expect_as_flat<R: Threads + Wait + Sync + Abort>(
+    rt: &R,
+    alloc: Global,
+    table: &str,
+    count: usize,
+) -> Result<(), Fail> {
+    let found = first_differing(rt, alloc, table, count)?;
+    assert_eq!(rt; found, (None, ""));
+    Ok(())
+}
+
 #[test]
 fn answers_as_flat_memory(rt: HostRuntime) -> Result<(), Fail> {
-    let (found, rest) = first_differing(&rt, rt.alloc(), TRACES, COUNT)?;
-    assert!(rt; found.is_none(), "on {found:?}");
-    assert_eq!(rt; rest, "");
-    Ok(())
+    expect_as_flat(&rt, rt.alloc(), TRACES, COUNT)
 }
 
 #[test]
 fn answers_host_threads_as_flat_memory(rt: HostRuntime) -> Result<(), Fail> {
-    let (found, rest) = first_differing(&rt, rt.alloc(), HOST_TRACES, HOST_COUNT)?;
-    assert!(rt; found.is_none(), "on {found:?}");
-    assert_eq!(rt; rest, "");
-    Ok(())
+    expect_as_flat(&rt, rt.alloc(), HOST_TRACES, HOST_COUNT)
 }
 
 #[test]
 fn answers_moves_as_flat_memory(rt: HostRuntime) -> Result<(), Fail> {
-    let (found, rest) = first_differing(&rt, rt.alloc(), MOVE_TRACES, MOVE_COUNT)?;
-    assert!(rt; found.is_none(), "on {found:?}");
-    assert_eq!(rt; rest, "");
-    Ok(())
+    expect_as_flat(&rt, rt.alloc(), MOVE_TRACES, MOVE_COUNT)
 }
 
 #[test]
 fn answers_slot_lines_as_flat_memory(rt: HostRuntime) -> Result<(), Fail> {
-    let (found, rest) = first_differing(&rt, rt.alloc(), SLOT_TRACES, SLOT_COUNT)?;
-    assert!(rt; found.is_none(), "on {found:?}");
-    assert_eq!(rt; rest, "");
-    Ok(())
+    expect_as_flat(&rt, rt.alloc(), SLOT_TRACES, SLOT_COUNT)
 }
