@@ -1,6 +1,6 @@
 -- Each delay of a line has its cause: it waits, begins its fault anew or misses an installed entry, and each of these has one.
 use Rattle.std.proofs.Common.{◌≡◌, ◌⊎◌, inl, inr, ◌<◌, ℕ, List, [], ◌∷◌, ◌++◌, refl, sym, subst, ap}
-use Rattle.std.specs.Prelude.{true}
+use Rattle.std.specs.Prelude.{Bool, true}
 use Rattle.core_views.specs.declared.kind.Kind.{Kind}
 use Rattle.core_views.specs.declared.place.AccessPlace.TheVariants.{Enter, Pause, Root, Walk, Touch, Leave, Fault}
 use Rattle.core_views.specs.declared.place.FaultPlace.TheVariants as fault
@@ -49,15 +49,17 @@ use Rattle.core_theorem.proofs.Runs.{before, may_last, reached, sound}
 
 -- The place is the end of a section that begins anew.
 record IsNewBeginning (p : Place) : Type 0 where
+  fast : Bool
   cause : Cause
-  is : p ≡ place.Access (Fault (fault.End (end_of.Retry cause)))
+  is : p ≡ place.Access (Fault (fault.End (end_of.Retry fast cause)))
 
 new_beginning : (p : Place) → begins_anew p ≡ true → IsNewBeginning p
-new_beginning (place.Access (Fault (fault.End (end_of.Retry cause)))) is = record { cause = cause; is = refl }
+new_beginning (place.Access (Fault (fault.End (end_of.Retry fast cause)))) is = record { fast = fast; cause = cause; is = refl }
 new_beginning (place.Access (Fault (fault.End end_of.Installed))) is = absurd (cc is)
 new_beginning (place.Access (Fault (fault.End end_of.Mmio))) is = absurd (cc is)
 new_beginning (place.Access (Fault (fault.End end_of.HostFault))) is = absurd (cc is)
 new_beginning (place.Access (Fault (fault.End end_of.Starved))) is = absurd (cc is)
+new_beginning (place.Access (Fault (fault.End (end_of.Fixed marked)))) is = absurd (cc is)
 new_beginning (place.Access (Fault (fault.End (end_of.NotFast found)))) is = absurd (cc is)
 new_beginning (place.Access (Fault _)) is = absurd (cc is)
 new_beginning (place.Access (Enter again)) is = absurd (cc is)
@@ -114,15 +116,16 @@ module _ (z : Sizes) (lines : List Line) (w : World Held) (ss ts : List (Step Ki
 
   beginning : (hand_in mmu u s.actor).state.place ≡ place.Between → IsNewBeginning h.state.place → BeginsAnew z u ts s
   beginning idle N =
-      let A = is_access h (Fault (fault.End (end_of.Retry N.cause))) N.is known in
+      let A = is_access h (Fault (fault.End (end_of.Retry N.fast N.cause))) N.is known in
       record {
+        fast = N.fast;
         cause = N.cause;
         gfn = A.gfn;
         word = A.word;
         op = A.op;
         at = N.is;
         access_is = A.command;
-        caused = faults_begin_anew_by_cause z u ts s.actor A.gfn A.word A.op N.cause good since.0 idle N.is A.command;
+        caused = faults_begin_anew_by_cause z u ts s.actor A.gfn A.word A.op N.fast N.cause good since.0 idle N.is A.command;
       }
 
   abbrev pub Caused : Type 0

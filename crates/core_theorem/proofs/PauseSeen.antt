@@ -7,7 +7,7 @@ use Rattle.core_views.specs.declared.kind.StepKind.TheVariants as kind
 use Rattle.core_views.specs.declared.place.AccessPlace.{AccessPlace}
 use Rattle.core_views.specs.declared.place.AccessPlace.TheVariants.{Pause, Root, Walk, Touch, Leave, Fault}
 use Rattle.core_views.specs.declared.place.FaultEnd.{FaultEnd}
-use Rattle.core_views.specs.declared.place.FaultEnd.TheVariants.{Installed, NotFast, Retry}
+use Rattle.core_views.specs.declared.place.FaultEnd.TheVariants.{Fixed, Installed, NotFast, Retry}
 use Rattle.core_views.specs.declared.place.FaultNext.{FaultNext}
 use Rattle.core_views.specs.declared.place.FaultNext.TheVariants as next_of
 use Rattle.core_views.specs.declared.place.Leaving.TheVariants as leaving
@@ -106,7 +106,8 @@ module _ (z : Sizes) (w : World Held) (ss : List (Step Kind)) (s : Step Kind) (G
   -- A fault leads to no place of a stay before it enters the guest.
   ends_saw : (e : FaultEnd) → SawNow (place_after (behind_fault (next_of.Ends e)))
   ends_saw Installed = tt
-  ends_saw (Retry cause) = tt
+  ends_saw (Retry fast cause) = tt
+  ends_saw (Fixed marked) = tt
   ends_saw (NotFast found) = tt
   ends_saw _ = tt
 

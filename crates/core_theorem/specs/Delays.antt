@@ -44,9 +44,9 @@ answer_of w ss s = answered mmu (run mmu w ss) s.kind
 -- Where a step ends the section of a fault that begins anew, this has its cause in the steps before it, in this section.
 abbrev pub FaultsHaveCauses : Type 0
 FaultsHaveCauses =
-    (z : Sizes) (lines : List Line) (w : World Held) (ss : List (Step Kind)) (s : Step Kind) (cause : Cause) (gfn word : ℕ) (op : Op)
+    (z : Sizes) (lines : List Line) (w : World Held) (ss : List (Step Kind)) (s : Step Kind) (fast : Bool) (cause : Cause) (gfn word : ℕ) (op : Op)
     → IsRun z lines w (ss ++ s ∷ [])
-    → (hand_of w ss s).state.place ≡ place.Access (access.Fault (End (Retry cause))) → (hand_of w ss s).state.line.command ≡ Access gfn word op
+    → (hand_of w ss s).state.place ≡ place.Access (access.Fault (End (Retry fast cause))) → (hand_of w ss s).state.line.command ≡ Access gfn word op
     → IsCaused cause z s.actor gfn w ss
 
 -- At the start no actor has a line under way, or has seen anything that a step waits for.
@@ -82,11 +82,12 @@ WaitsInRunsSeeAnother =
 
 -- With the step the fault of the line ends its section, to begin anew, for this cause in the steps before it, in this section.
 pub record BeginsAnew (z : Sizes) (w : World Held) (ss : List (Step Kind)) (s : Step Kind) : Type 0 where
+  pub fast : Bool
   pub cause : Cause
   pub gfn : ℕ
   pub word : ℕ
   pub op : Op
-  pub at : (hand_of w ss s).state.place ≡ place.Access (access.Fault (End (Retry cause)))
+  pub at : (hand_of w ss s).state.place ≡ place.Access (access.Fault (End (Retry fast cause)))
   pub access_is : (hand_of w ss s).state.line.command ≡ Access gfn word op
   pub caused : IsCaused cause z s.actor gfn w ss
 

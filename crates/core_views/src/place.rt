@@ -204,11 +204,14 @@ pub enum FaultEnd {
     HostFault,
     /// No pool page was free for a table.
     Starved,
+    /// A fast fault has allowed the write in the leaf that it read, and has marked the page where
+    /// its slot has a dirty log.
+    Fixed { marked: bool },
     /// The write can't be allowed in this entry; 0 where no slot has the guest frame. The fault is
     /// to be made whole.
     NotFast(u64),
-    /// It is to begin anew.
-    Retry(Cause),
+    /// It is to begin anew, a whole fault or a fast one.
+    Retry { fast: bool, cause: Cause },
 }
 
 /// The word that a check of a look-up loads next.

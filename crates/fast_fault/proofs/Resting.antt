@@ -10,16 +10,16 @@ use Rattle.core_views.specs.declared.place.FaultPlace.{FaultPlace}
 use Rattle.core_views.specs.declared.place.FaultPlace.TheVariants.{End, FastBegin, FastFind, FastWalk, Fix, Mark}
 use Rattle.core_views.specs.declared.place.Place.TheVariants as place
 use Rattle.core_views.specs.Held.{Held}
-use Rattle.mmu_core.specs.lines.FaultKnows.{FaultEndKnows, HasCause}
+use Rattle.mmu_core.specs.lines.FaultKnows.{FaultEndKnows, Retries}
 use Rattle.mmu_core.specs.machine.Steps.{place_at}
-use Rattle.step_seats.specs.FaultTurns.{FaultAnswersBy, IsAtFaultPlace, MakesFaultStep, WaitsBy, as_end, end_turn}
+use Rattle.step_seats.specs.FaultTurns.{FaultAnswersBy, IsAtFaultPlace, MakesFaultStep, WaitsBy, as_end, end_turn, is_fast_place}
 use Rattle.step_seats.specs.Seats.{Seat}
 use Rattle.step_seats.specs.declared.turn.Turn.{Turn}
 use Rattle.step_seats.specs.declared.turn.Turn.TheVariants.{More, Wait, Retry, Done}
 use Rattle.fast_fault.specs.declared.fast.FastJob.{FastJob}
 use Rattle.fast_fault.specs.declared.fast.FastFaulted.{FastFaulted}
 use Rattle.fast_fault.specs.declared.fast.FastFaulted.TheVariants.{Fixed, NotFast}
-use Rattle.fast_fault.specs.Fasts.{FastRestsOn, StandsInFast, end_told, stands_fast}
+use Rattle.fast_fault.specs.Fasts.{FastRestsOn, StandsInFast, end_told}
 
 -- A turn that goes on doesn't wait, where its step doesn't.
 goes : (turn : Turn FastFaulted) (q : FaultPlace) (waits : Bool) (way : Seen) (job : FastJob) (h : Held) → waits ≡ false
@@ -32,30 +32,33 @@ goes (Done answer) q waits way job h never is by_ = absurd is
 -- what the end that a turn tells rests on
 abbrev Rests : Turn FaultEnd → FastJob → Held → Type 0
 Rests (Done e) job h = FaultEndKnows e h.state.sizes job.gfn job.write h.topics × (h.topics.owed ≡ None)
-Rests (Retry cause) job h = HasCause cause h.state.sizes job.gfn h.topics
+Rests (Retry cause) job h = Retries true cause h.state.sizes job.gfn h.topics
 Rests (Wait seen) job h = ⊥
 Rests More job h = Unit {0}
 
-over : (e : FaultEnd) (job : FastJob) (h : Held) → FaultEndKnows e h.state.sizes job.gfn job.write h.topics → h.topics.owed ≡ None → Rests (end_turn e) job h
-over end_of.Installed job h K owes = (K, owes)
-over end_of.Mmio job h K owes = (K, owes)
-over end_of.HostFault job h K owes = (K, owes)
-over end_of.Starved job h K owes = (K, owes)
-over (end_of.NotFast word) job h K owes = (K, owes)
-over (end_of.Retry cause) job h K owes = K
+over : (e : FaultEnd) (job : FastJob) (h : Held) → is_fast_place (End e) ≡ true → FaultEndKnows e h.state.sizes job.gfn job.write h.topics
+    → h.topics.owed ≡ None → Rests (end_turn e) job h
+over end_of.Installed job h fast K owes = (K, owes)
+over end_of.Mmio job h fast K owes = (K, owes)
+over end_of.HostFault job h fast K owes = (K, owes)
+over end_of.Starved job h fast K owes = (K, owes)
+over (end_of.Fixed marked) job h fast K owes = (K, owes)
+over (end_of.NotFast word) job h fast K owes = (K, owes)
+over (end_of.Retry fast cause) job h is K owes = subst (λ (b : Bool). Retries b cause h.state.sizes job.gfn h.topics) is K
 
 told : (turn : Turn FastFaulted) (job : FastJob) (h : Held) → Rests (as_end end_told turn) job h → FastRestsOn turn job h
-told (Done Fixed) job h K = K
+told (Done (Fixed marked)) job h K = K
 told (Done (NotFast word)) job h K = K.0
 told (Retry cause) job h K = K
 told (Wait seen) job h K = K
 told More job h K = tt
 
-pub rests_on : (p : FaultPlace) (job : FastJob) (turn : Turn FastFaulted) (note : ℕ) (before after : Seat) → stands_fast p ≡ true
+pub rests_on : (p : FaultPlace) (job : FastJob) (turn : Turn FastFaulted) (note : ℕ) (before after : Seat) → is_fast_place p ≡ true
     → IsAtFaultPlace p job.gfn job.write note before.hand → MakesFaultStep p job.gfn job.write (as_end end_told turn) note before after
     → FastRestsOn turn job before.hand
 rests_on (End e) job turn note before after fast I M =
-    told turn job before.hand (subst (λ (t : Turn FaultEnd). Rests t job before.hand) (sym M.turned) (over e job before.hand I.knows.2 I.knows.0.owes_none))
+    told turn job before.hand
+    (subst (λ (t : Turn FaultEnd). Rests t job before.hand) (sym M.turned) (over e job before.hand fast I.knows.2 I.knows.0.owes_none))
 rests_on FastBegin job turn note before after fast I M = goes turn _ _ _ job before.hand refl M.turned M.waits_by
 rests_on (FastFind true) job turn note before after fast I M = goes turn _ _ _ job before.hand refl M.turned M.waits_by
 rests_on (FastFind false) job turn note before after fast I M = goes turn _ _ _ job before.hand refl M.turned M.waits_by
@@ -66,8 +69,8 @@ rests_on (Mark lockless) job turn note before after fast I M = goes turn _ _ _ j
 rests_on _ job turn note before after fast I M = absurd (cc fast)
 
 -- The place where the hand's line stands is one of a fast fault.
-pub stands_there : (p : FaultPlace) (job : FastJob) (h : Held) → StandsInFast job h → place_at h.state.place h ≡ place.Access (Fault p) → stands_fast p ≡ true
+pub stands_there : (p : FaultPlace) (job : FastJob) (h : Held) → StandsInFast job h → place_at h.state.place h ≡ place.Access (Fault p) → is_fast_place p ≡ true
 stands_there p job h S at =
     let same : place.Access (Fault S.fault.at) ≡ place.Access (Fault p) = sym S.fault.stands ∙ at in
     let is : S.fault.at ≡ p = cc same in
-    subst (λ (q : FaultPlace). stands_fast q ≡ true) is S.fast
+    subst (λ (q : FaultPlace). is_fast_place q ≡ true) is S.fast

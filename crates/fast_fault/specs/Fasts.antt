@@ -1,11 +1,11 @@
 -- What a fast fault answers, and what its answers rest on (locking.rst, "Fast page fault").
-use Rattle.std.specs.Prelude.{◌≡◌, Bool, true, None}
+use Rattle.std.specs.Prelude.{◌≡◌, true, None}
 use Rattle.core_views.specs.declared.place.FaultEnd.{FaultEnd}
 use Rattle.core_views.specs.declared.place.FaultEnd.TheVariants as end_of
 use Rattle.core_views.specs.declared.place.FaultPlace.{FaultPlace}
 use Rattle.core_views.specs.declared.place.FaultPlace.TheVariants.{End}
 use Rattle.core_views.specs.Held.{Held}
-use Rattle.mmu_core.specs.lines.FaultKnows.{HasCause, HasEntry, SawNotFast}
+use Rattle.mmu_core.specs.lines.FaultKnows.{HasFixed, Retries, SawNotFast}
 use Rattle.step_seats.specs.FaultTurns.{StandsInFault, is_fast_place}
 use Rattle.step_seats.specs.declared.turn.Turn.{Turn}
 use Rattle.step_seats.specs.declared.turn.Turn.TheVariants.{More, Wait, Retry, Done}
@@ -15,14 +15,8 @@ use Rattle.fast_fault.specs.declared.fast.FastFaulted.TheVariants.{Fixed, NotFas
 
 -- the end of the fault that an answer tells
 abbrev pub end_told : FastFaulted → FaultEnd
-end_told Fixed = end_of.Installed
+end_told (Fixed marked) = end_of.Fixed marked
 end_told (NotFast word) = end_of.NotFast word
-
--- A fast fault may stand at this place: it is one of a fast fault alone, or one at which either fault ends.
-abbrev pub stands_fast : FaultPlace → Bool
-stands_fast (End end_of.Installed) = true
-stands_fast (End (end_of.Retry cause)) = true
-stands_fast p = is_fast_place p
 
 -- The step of such a place leads on to another place.
 abbrev pub LeadsOn : FaultPlace → Type 0
@@ -32,14 +26,15 @@ LeadsOn p = is_fast_place p ≡ true
 -- The hand's next line is the access whose fast fault this is, and stands at a place of it.
 pub record StandsInFast (job : FastJob) (h : Held) : Type 0 where
   pub fault : StandsInFault job.gfn job.write h
-  pub fast : stands_fast fault.at ≡ true
+  pub fast : is_fast_place fault.at ≡ true
 
--- What the answer of a turn rests on, by what the actor has loaded and stored in this section: the guest frame's entry was put, or seen, as a leaf that
--- allows the access, and no mark is owed for it in a dirty log; no slot has the guest frame, or the entry is this word, in which a write can't be allowed;
--- or another actor's word stood in the way. No turn waits.
+-- What the answer of a turn rests on, by what the actor has loaded and stored in this section: write permission was set in the very word that was read as the
+-- guest frame's leaf, which allows the access now, the page was marked exactly where the slot that was found has a dirty log, and no mark is owed; no slot has
+-- the guest frame, or the entry is this word, in which a write can't be allowed; or the exchange of this leaf was lost, to another word that stood there. No
+-- turn waits.
 abbrev pub FastRestsOn : Turn FastFaulted → FastJob → Held → Type 0
-FastRestsOn (Done Fixed) job h = HasEntry job.gfn job.write h.topics × (h.topics.owed ≡ None)
+FastRestsOn (Done (Fixed marked)) job h = HasFixed marked job.gfn job.write h.topics × (h.topics.owed ≡ None)
 FastRestsOn (Done (NotFast word)) job h = SawNotFast word job.gfn h.topics
-FastRestsOn (Retry cause) job h = HasCause cause h.state.sizes job.gfn h.topics
+FastRestsOn (Retry cause) job h = Retries true cause h.state.sizes job.gfn h.topics
 FastRestsOn (Wait seen) job h = ⊥
 FastRestsOn More job h = Unit {0}

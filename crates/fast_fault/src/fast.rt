@@ -1,9 +1,9 @@
 ghost use Rattle.std.specs.Prelude.{◌≡◌, ◌<◌, true};
 ghost use Rattle.core_views.specs.declared.place.FaultPlace.TheVariants as at;
-ghost use Rattle.fast_fault.specs.Fasts.{FastRestsOn, LeadsOn, StandsInFast, end_told, stands_fast};
+ghost use Rattle.fast_fault.specs.Fasts.{FastRestsOn, LeadsOn, StandsInFast, end_told};
 ghost use Rattle.mmu_core.specs.alone.LineAlone.{hand_left};
 ghost use Rattle.mmu_core.specs.lines.FaultSteps.{fault_part};
-ghost use Rattle.step_seats.specs.FaultTurns.{IsAtFaultPlace, MakesFaultStep, TurnsFault, as_end, end_turn};
+ghost use Rattle.step_seats.specs.FaultTurns.{IsAtFaultPlace, MakesFaultStep, TurnsFault, as_end, end_turn, is_fast_place};
 ghost use Rattle.step_seats.specs.Moves.{KeepsRoom};
 ghost use Rattle.step_seats.specs.PartTurns.{MakesPart};
 ghost use Rattle.step_seats.specs.declared.turn.Turn.TheVariants.{More};
@@ -20,8 +20,8 @@ use tdp_walk::Walk;
 #[derive(Clone, Copy, Debug, PartialEq, Eq, Drop)]
 pub enum FastFaulted {
     /// The entry of the guest frame allows the access: writes were allowed in the very word that
-    /// was read, and where the slot has a dirty log the page was marked in it, in the same section.
-    Fixed,
+    /// was read; and the page was marked, in the same section, where the slot has a dirty log.
+    Fixed { marked: bool },
     /// Writes can't be allowed there: the entry, which is this word, isn't a leaf of the lowest
     /// level that forbids nothing but the write; or no slot has the guest frame, and the word is 0.
     NotFast(u64),
@@ -39,13 +39,13 @@ pub struct FastJob {
 
 // What the turn answers that ends the section.
 fn end_turn(end: FaultEnd) -> Turn<FastFaulted>
-    requires fast { stands_fast (at.End end) ≡ true }
+    requires fast { is_fast_place (at.End end) ≡ true }
     ensures { as_end end_told result ≡ end_turn end }
 {
     match end {
-        FaultEnd::Installed => Turn::Done(FastFaulted::Fixed),
+        FaultEnd::Fixed { marked } => Turn::Done(FastFaulted::Fixed { marked }),
         FaultEnd::NotFast(word) => Turn::Done(FastFaulted::NotFast(word)),
-        FaultEnd::Retry(cause) => Turn::Retry(cause),
+        FaultEnd::Retry { cause, .. } => Turn::Retry(cause),
         _ => unreachable!(),
     }
 }
@@ -83,7 +83,7 @@ impl FastJob {
     // Ends the section, and the fault with it.
     fn end<S: Stepper>(&self, s: &mut S, ended: FaultEnd, note: u64) -> Turn<FastFaulted>
         requires is_at { IsAtFaultPlace (at.End ended) self.now.gfn self.now.write note (S.seat s.old).hand }
-        requires fast { stands_fast (at.End ended) ≡ true }
+        requires fast { is_fast_place (at.End ended) ≡ true }
         requires reserved { 0 < (S.seat s.old).room }
         ensures makes { MakesFaultStep (at.End ended) self.now.gfn self.now.write (as_end end_told result) note (S.seat s.old) (S.seat s.new) }
         ensures room { KeepsRoom (S.seat s.old) (S.seat s.new) }
@@ -96,7 +96,7 @@ impl FastJob {
     // Makes the step of this place by the call of its part, and answers whether the fault is over.
     fn step<S: Stepper>(&self, s: &mut S, place: FaultPlace, note: u64) -> Turn<FastFaulted>
         requires is_at { IsAtFaultPlace place self.now.gfn self.now.write note (S.seat s.old).hand }
-        requires fast { stands_fast place ≡ true }
+        requires fast { is_fast_place place ≡ true }
         requires reserved { 0 < (S.seat s.old).room }
         ensures makes { MakesFaultStep place self.now.gfn self.now.write (as_end end_told result) note (S.seat s.old) (S.seat s.new) }
         ensures room { KeepsRoom (S.seat s.old) (S.seat s.new) }
@@ -112,7 +112,7 @@ impl FastJob {
     }
 
     /// Makes the next step of the hand's line, which stands in its fast fault. It never waits, and
-    /// takes no lock. `Retry` where another actor's entry stood in the way as writes were to be
+    /// takes no lock. `Retry` where another word stood in the leaf's place as writes were to be
     /// allowed: the section is over then, and the access is to begin anew. After `NotFast` the
     /// whole fault comes next.
     pub fn turn<S: Stepper>(&self, s: &mut S) -> Turn<FastFaulted>

@@ -1,5 +1,5 @@
 -- What a fault answers, and which places are its own: those of a whole fault.
-use Rattle.std.specs.Prelude.{◌≡◌, ℕ, Bool, false}
+use Rattle.std.specs.Prelude.{◌≡◌, ℕ, false}
 use Rattle.core_views.specs.declared.place.FaultEnd.{FaultEnd}
 use Rattle.core_views.specs.declared.place.FaultEnd.TheVariants as end_of
 use Rattle.core_views.specs.declared.place.FaultPlace.{FaultPlace}
@@ -9,7 +9,7 @@ use Rattle.mmu_lock.specs.declared.lock.Lock.{Lock}
 use Rattle.mmu_lock.specs.declared.lock.Lock.TheVariants as lock
 use Rattle.step_seats.specs.FaultTurns.{StandsInFault, is_fast_place}
 use Rattle.step_seats.specs.declared.turn.Turn.{Turn}
-use Rattle.step_seats.specs.declared.turn.Turn.TheVariants.{More, Wait, Retry, Done}
+use Rattle.step_seats.specs.declared.turn.Turn.TheVariants.{More, Wait, Done}
 use Rattle.table_pool.specs.declared.claim.Claimed.{Claimed}
 use Rattle.fault_install.specs.declared.fault.FaultJob.{FaultJob}
 use Rattle.fault_install.specs.declared.fault.Faulted.{Faulted}
@@ -51,7 +51,7 @@ ComesAfterCheck (Check at) = ⊥
 ComesAfterCheck (End e) = ⊥
 ComesAfterCheck _ = Unit {0}
 
--- The hand's next line is the access whose fault this is, and stands at a place of it that isn't one of a fast fault alone.
+-- The hand's next line is the access whose fault this is, and stands at a place of it that isn't one of a fast fault.
 pub record StandsInLine (job : FaultJob) (h : Held) : Type 0 where
   pub fault : StandsInFault job.gfn job.write h
   pub whole : is_fast_place fault.at ≡ false

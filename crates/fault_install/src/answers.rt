@@ -40,7 +40,7 @@ pub(crate) fn end_turn(end: FaultEnd) -> Turn<Faulted>
         FaultEnd::Mmio => Turn::Done(Faulted::Mmio),
         FaultEnd::HostFault => Turn::Done(Faulted::HostFault),
         FaultEnd::Starved => Turn::Done(Faulted::Starved),
-        FaultEnd::Retry(cause) => Turn::Retry(cause),
-        FaultEnd::NotFast(_) => unreachable!(),
+        FaultEnd::Retry { cause, .. } => Turn::Retry(cause),
+        FaultEnd::Fixed { .. } | FaultEnd::NotFast(_) => unreachable!(),
     }
 }

@@ -1,10 +1,8 @@
 -- The hand's line stands in a fault of its access.
-use Rattle.std.proofs.Common.{◌≡◌, ◌<◌, ℕ, Bool, ap, arith, length, refl, true}
+use Rattle.std.proofs.Common.{◌≡◌, ◌<◌, ℕ, Bool, ap, arith, length, true}
 use Rattle.std.proofs.lemmas.Bool.Decides.{nat_tests}
 use Rattle.core_views.specs.declared.place.AccessPlace.TheVariants.{Fault}
-use Rattle.core_views.specs.declared.place.FaultEnd.TheVariants.{Installed, Retry}
 use Rattle.core_views.specs.declared.place.FaultPlace.{FaultPlace}
-use Rattle.core_views.specs.declared.place.FaultPlace.TheVariants.{End}
 use Rattle.core_views.specs.declared.place.Place.{Place}
 use Rattle.core_views.specs.declared.place.Place.TheVariants.{Access}
 use Rattle.core_views.specs.declared.trace.Command.{Command}
@@ -13,8 +11,7 @@ use Rattle.core_views.specs.declared.trace.Op.{Op}
 use Rattle.core_views.specs.Held.{Held, has_line, line_at}
 use Rattle.core_views.specs.Slots.{is_write}
 use Rattle.mmu_core.specs.machine.Steps.{place_at}
-use Rattle.step_seats.specs.FaultTurns.{StandsInFault, is_fast_place}
-use Rattle.fast_fault.specs.Fasts.{stands_fast}
+use Rattle.step_seats.specs.FaultTurns.{StandsInFault}
 
 pub has_left : (h : Held) → has_line h ≡ true → length h.answers < length h.lines
 has_left h has = grind (arith, nat_tests)
@@ -30,8 +27,3 @@ in_fault h p gfn word op write has at is writes = record {
   command = is;
   writes = writes;
 }
-
-pub may_be_fast : (p : FaultPlace) → is_fast_place p ≡ true → stands_fast p ≡ true
-may_be_fast (End Installed) is = refl
-may_be_fast (End (Retry cause)) is = refl
-may_be_fast _ is = is

@@ -49,7 +49,7 @@ const LEAF: usize = 2144 + 5;
 
 const LOG: usize = 17;
 
-// The fast fault of the hand's line, where the line stands at a place of fast faults alone.
+// The fast fault of the hand's line, where the line stands in a fast one.
 fn fast_of(hand: &Hand) -> Option<FastJob>
     ensures { IfSome result (λ job. StandsInFast job hand.now.core) }
 {

@@ -77,7 +77,8 @@ pub fn access_note(place: AccessPlace) -> u64
     match place {
         AccessPlace::Leave(Leaving::Reached { .. }) => 1,
         AccessPlace::Fault(FaultPlace::End(end)) => match end {
-            FaultEnd::Installed | FaultEnd::NotFast(_) | FaultEnd::Retry(_) => 0,
+            FaultEnd::Installed | FaultEnd::Fixed { .. } => 0,
+            FaultEnd::NotFast(_) | FaultEnd::Retry { .. } => 0,
             FaultEnd::Mmio | FaultEnd::HostFault | FaultEnd::Starved => 1,
         },
         _ => 0,
@@ -143,8 +144,8 @@ fn behind_fault(next: FaultNext) -> Outcome
         FaultNext::Ends(end) => end,
     };
     let place = match end {
-        FaultEnd::Installed => AccessPlace::Enter { again: true },
-        FaultEnd::Retry(_) => AccessPlace::Enter { again: false },
+        FaultEnd::Installed | FaultEnd::Fixed { .. } => AccessPlace::Enter { again: true },
+        FaultEnd::Retry { .. } => AccessPlace::Enter { again: false },
         FaultEnd::NotFast(_) => AccessPlace::Fault(FaultPlace::Begin),
         FaultEnd::Mmio => return Outcome::Ends(Answer::Mmio),
         FaultEnd::HostFault => return Outcome::Ends(Answer::HostFault),

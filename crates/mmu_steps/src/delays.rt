@@ -15,7 +15,7 @@ fn begins_anew(place: Place) -> bool
 {
     matches!(
         place,
-        Place::Access(AccessPlace::Fault(FaultPlace::End(FaultEnd::Retry(_))))
+        Place::Access(AccessPlace::Fault(FaultPlace::End(FaultEnd::Retry { .. })))
     )
 }
 

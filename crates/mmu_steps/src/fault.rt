@@ -6,7 +6,7 @@ ghost use Rattle.core_views.specs.declared.place.FaultPlace.TheVariants.{End, Fa
 ghost use Rattle.core_views.specs.Sizes.{AreSizes};
 ghost use Rattle.mmu_core.specs.lines.FaultSteps.{after_claim, after_share, check_next, check_part, entry_word, exchange_lost};
 ghost use Rattle.mmu_core.specs.lines.FaultSteps.{fault_next, fault_part, find_next};
-ghost use Rattle.mmu_core.specs.lines.FaultSteps.{fast_find_next, fast_walk_next, host_word_at, page_next, put_next, share_next, walk_next};
+ghost use Rattle.mmu_core.specs.lines.FaultSteps.{fast_find_next, fast_walk_next, host_word_at, over_next, page_next, put_next, share_next, walk_next};
 ghost use Rattle.part_steps.specs.declared.part_step.PartStep.TheVariants as part;
 ghost use Rattle.part_steps.specs.PartBounds.{PartRests};
 ghost use Rattle.part_steps.specs.PartTasks.{table_page, word_looked};
@@ -123,7 +123,7 @@ fn brought_next(hand: &Hand, found: u64) -> FaultPlace
     requires rests { PartRests hand.now.core }
     requires needs { PartNeeds part.Bring hand.now.core }
     ensures { result ≡ (if found == word_looked hand.now.core.topics.host then Share
-        else End (Retry (Entry (host_word_at hand.now.core.state.sizes hand.now.core.topics.host) (word_looked hand.now.core.topics.host) found))) }
+        else End (Retry false (Entry (host_word_at hand.now.core.state.sizes hand.now.core.topics.host) (word_looked hand.now.core.topics.host) found))) }
 {
     let Some(HostLook { page, word }) = hand.topics().host else {
         unreachable!()
@@ -132,7 +132,7 @@ fn brought_next(hand: &Hand, found: u64) -> FaultPlace
         return FaultPlace::Share;
     }
     let at = map_of(&hand.progress().sizes).word_of(Area::Host, page);
-    FaultPlace::End(changed(at, word, found))
+    FaultPlace::End(changed(false, at, word, found))
 }
 
 // After a step of sharing the lock.
@@ -145,6 +145,13 @@ fn after_share(next: ShareNext) -> FaultPlace
     }
 }
 
+// A whole fault is to begin anew.
+fn retry(cause: Cause) -> FaultEnd
+    ensures { result ≡ Retry false cause }
+{
+    FaultEnd::Retry { fast: false, cause }
+}
+
 // Behind a word of the check.
 fn check_next(stage: CheckStage, gfn: u64, topics: &Topics, found: u64) -> FaultPlace
     ensures { result ≡ check_next stage gfn topics.now found }
@@ -155,7 +162,7 @@ fn check_next(stage: CheckStage, gfn: u64, topics: &Topics, found: u64) -> Fault
         CheckStage::Count => FaultPlace::Check(CheckStage::Start),
         CheckStage::Start => FaultPlace::Check(CheckStage::End),
         CheckStage::End if kept.start <= gfn && gfn < found => {
-            FaultPlace::Unshare(FaultEnd::Retry(Cause::Open {
+            FaultPlace::Unshare(retry(Cause::Open {
                 count: kept.count,
                 start: kept.start,
                 end: found,
@@ -168,7 +175,7 @@ fn check_next(stage: CheckStage, gfn: u64, topics: &Topics, found: u64) -> Fault
             if found == old {
                 FaultPlace::Walk { rooted: false }
             } else {
-                FaultPlace::Unshare(FaultEnd::Retry(Cause::Moved { old, now: found }))
+                FaultPlace::Unshare(retry(Cause::Moved { old, now: found }))
             }
         }
     }
@@ -188,10 +195,11 @@ pub fn entry_word(sizes: &Sizes, gfn: u64, walk: &TableWalk) -> u32
 }
 
 // The entry isn't as it was read.
-fn changed(word: u32, read: u64, seen: u64) -> FaultEnd
-    ensures { result ≡ Retry (Entry word read seen) }
+fn changed(fast: bool, word: u32, read: u64, seen: u64) -> FaultEnd
+    ensures { result ≡ Retry fast (Entry word read seen) }
 {
-    FaultEnd::Retry(Cause::Entry { word, read, seen })
+    let cause = Cause::Entry { word, read, seen };
+    FaultEnd::Retry { fast, cause }
 }
 
 // Behind an entry of the walk's table.
@@ -215,7 +223,7 @@ fn walk_next(sizes: &Sizes, gfn: u64, write: bool, walk: &TableWalk, found: u64)
         SpteKind::Absent if walk.level == 1 => FaultPlace::Leaf { write },
         SpteKind::Absent => FaultPlace::Claim { begun: false },
         SpteKind::Leaf | SpteKind::Frozen => {
-            FaultPlace::Unshare(changed(entry_word(sizes, gfn, walk), found, found))
+            FaultPlace::Unshare(changed(false, entry_word(sizes, gfn, walk), found, found))
         }
     }
 }
@@ -233,6 +241,17 @@ fn fast_walk_next(walk: &TableWalk, found: u64) -> FaultPlace
     }
 }
 
+// Once a leaf was put, or writes allowed in it, and the page marked or not.
+fn over_next(fast: bool, marked: bool) -> FaultPlace
+    ensures { result ≡ over_next fast marked }
+{
+    if fast {
+        FaultPlace::End(FaultEnd::Fixed { marked })
+    } else {
+        FaultPlace::Unshare(FaultEnd::Installed)
+    }
+}
+
 // After a leaf was put, or writes allowed in it: where the slot has a dirty log the page is
 // marked.
 fn put_next(fast: bool, marks: bool) -> FaultPlace
@@ -240,10 +259,8 @@ fn put_next(fast: bool, marks: bool) -> FaultPlace
 {
     if marks {
         FaultPlace::Mark { fast }
-    } else if fast {
-        FaultPlace::End(FaultEnd::Installed)
     } else {
-        FaultPlace::Unshare(FaultEnd::Installed)
+        over_next(fast, false)
     }
 }
 
@@ -259,14 +276,14 @@ fn after_claim(next: ClaimNext) -> FaultPlace
 }
 
 // Why it is to begin anew after an exchange of an entry that was lost.
-fn exchange_lost(hand: &Hand, gfn: u64, found: u64) -> FaultEnd
+fn exchange_lost(fast: bool, hand: &Hand, gfn: u64, found: u64) -> FaultEnd
     requires rests { PartRests hand.now.core }
     requires from { 1 ≤ hand.now.core.topics.walk.level }
-    ensures { result ≡ exchange_lost hand.now.core.state.sizes gfn hand.now.core.topics.walk found }
+    ensures { result ≡ exchange_lost fast hand.now.core.state.sizes gfn hand.now.core.topics.walk found }
 {
     let walk = &hand.topics().walk;
     let word = entry_word(&hand.progress().sizes, gfn, walk);
-    changed(word, walk.entry, found)
+    changed(fast, word, walk.entry, found)
 }
 
 // After an exchange of an entry.
@@ -274,23 +291,23 @@ fn exchange_next(place: FaultPlace, hand: &Hand, gfn: u64, found: u64) -> FaultP
     requires rests { PartRests hand.now.core }
     requires from { 1 ≤ hand.now.core.topics.walk.level }
     ensures link { place ≡ Link → result ≡ (if found == hand.now.core.topics.walk.entry then Walk true
-        else Give (exchange_lost hand.now.core.state.sizes gfn hand.now.core.topics.walk found)) }
+        else Give (exchange_lost false hand.now.core.state.sizes gfn hand.now.core.topics.walk found)) }
     ensures leaf { (writes : Bool) → place ≡ Leaf writes → result ≡ (if found == hand.now.core.topics.walk.entry
         then put_next false (writes && hand.now.core.topics.search.logged)
-        else Unshare (exchange_lost hand.now.core.state.sizes gfn hand.now.core.topics.walk found)) }
+        else Unshare (exchange_lost false hand.now.core.state.sizes gfn hand.now.core.topics.walk found)) }
     ensures fix { place ≡ Fix → result ≡ (if found == hand.now.core.topics.walk.entry then put_next true hand.now.core.topics.search.logged
-        else End (exchange_lost hand.now.core.state.sizes gfn hand.now.core.topics.walk found)) }
+        else End (exchange_lost true hand.now.core.state.sizes gfn hand.now.core.topics.walk found)) }
 {
     let topics = hand.topics();
     let won = found == topics.walk.entry;
     let logged = topics.search.logged;
     match place {
         FaultPlace::Link if won => FaultPlace::Walk { rooted: true },
-        FaultPlace::Link => FaultPlace::Give(exchange_lost(hand, gfn, found)),
+        FaultPlace::Link => FaultPlace::Give(exchange_lost(false, hand, gfn, found)),
         FaultPlace::Leaf { write } if won => put_next(false, write && logged),
-        FaultPlace::Leaf { .. } => FaultPlace::Unshare(exchange_lost(hand, gfn, found)),
+        FaultPlace::Leaf { .. } => FaultPlace::Unshare(exchange_lost(false, hand, gfn, found)),
         _ if won => put_next(true, logged),
-        _ => FaultPlace::End(exchange_lost(hand, gfn, found)),
+        _ => FaultPlace::End(exchange_lost(true, hand, gfn, found)),
     }
 }
 
@@ -355,7 +372,7 @@ pub(crate) fn next(place: FaultPlace, hand: &Hand, gfn: u64, write: bool, found:
         FaultPlace::FastBegin => FaultPlace::FastFind { begun: false },
         FaultPlace::FastWalk { rooted: true } => fast_walk_next(&topics.walk, found),
         FaultPlace::FastWalk { rooted: false } => FaultPlace::FastWalk { rooted: true },
-        FaultPlace::Mark { fast } => put_next(fast, false),
+        FaultPlace::Mark { fast } => over_next(fast, true),
         FaultPlace::Unshare(end) => FaultPlace::End(end),
         FaultPlace::End(end) => return FaultNext::Ends(end),
     })

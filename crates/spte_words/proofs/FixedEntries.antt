@@ -1,10 +1,10 @@
 -- A leaf of the lowest level in which writes are allowed.
-use Rattle.std.proofs.Common.{◌≡◌, ◌≢◌, ◌+◌, ◌/◌, ◌%◌, ◌^◌, ◌<◌, ℕ, true, false, refl, arith, ap, ◌∙◌}
+use Rattle.std.proofs.Common.{◌≡◌, ◌≢◌, ◌+◌, ◌-◌, ◌/◌, ◌%◌, ◌^◌, ◌<◌, ℕ, true, false, refl, arith, ap, ◌∙◌}
 use Rattle.std.specs.Prelude.{Bool, ◌==◌, if◌then◌else◌, not}
 use Rattle.std.proofs.lemmas.Bool.Decides.{nat_tests}
 use Rattle.spte_words.specs.declared.spte_kind.SpteKind.TheVariants.{Absent, Frozen, Leaf}
 use Rattle.spte_words.specs.Bits.{has_bit, bit_if}
-use Rattle.spte_words.specs.Entries.{can_write, frozen_word, is_leaf_at, kind_of, with_write}
+use Rattle.spte_words.specs.Entries.{can_write, frozen_word, is_leaf_at, kind_of, with_write, without_write}
 
 -- the word with bit 1 set, where it is clear
 fixed_is : (w : ℕ) → can_write w ≡ false → with_write w ≡ w + 2
@@ -44,6 +44,11 @@ fixed_kind w is denies = ap (kind_of 1) (fixed_is w denies) ∙ by (clear w deni
         let a : (w + 2 == 0x5a0) ≡ false = grind (arith, nat_tests) in
         let b : has_bit 11 (w + 2) ≡ true = grind (arith, nat_tests) in
         rw (a, b) refl
+
+-- Without it, it is the word again.
+pub fixed_back : (w : ℕ) → can_write w ≡ false → without_write (with_write w) ≡ w
+unfolding without_write
+fixed_back w denies = ap (λ (b : Bool). with_write w - bit_if 1 b) (fixed_can_write w denies) ∙ ap (λ n. n - 2) (fixed_is w denies) ∙ omega arith
 
 pub fixed_fits : (w : ℕ) → w < 2 ^ 64 → can_write w ≡ false → with_write w < 2 ^ 64
 fixed_fits w small denies = rw (fixed_is w denies) (by (clear w denies))

@@ -133,8 +133,9 @@ goes_nearer (Ends e) turn g z u m is by_ stands sizes topics less = absurd (neve
     never end_of.Mmio x = cc x
     never end_of.HostFault x = cc x
     never end_of.Starved x = cc x
+    never (end_of.Fixed marked) x = cc x
     never (end_of.NotFast word) x = cc x
-    never (end_of.Retry cause) x = cc x
+    never (end_of.Retry fast cause) x = cc x
 
 -- The fault of the hand's line, at its place, whose step was made.
 module _ (p : FaultPlace) (gfn : ℕ) (write : Bool) (turn : Turn FaultEnd) (before after : Seat) (rests : PartRests before.hand)

@@ -82,8 +82,9 @@ over_case end_of.Installed waits free = inr (record { place = place.Access (Ente
 over_case end_of.Mmio waits free = inl (record { answer = answers.Mmio; done = refl; free = free answers.Mmio refl; is = refl })
 over_case end_of.HostFault waits free = inl (record { answer = answers.HostFault; done = refl; free = free answers.HostFault refl; is = refl })
 over_case end_of.Starved waits free = inl (record { answer = answers.Starved; done = refl; free = free answers.Starved refl; is = refl })
+over_case (end_of.Fixed marked) waits free = inr (record { place = place.Access (Enter true); more = λ answer e. absurd (cc e); is = refl })
 over_case (end_of.NotFast word) waits free = inr (record { place = place.Access (Fault fault.Begin); more = λ answer e. absurd (cc e); is = refl })
-over_case (end_of.Retry cause) waits free = inr (record { place = place.Access (Enter false); more = λ answer e. absurd (cc e); is = refl })
+over_case (end_of.Retry fast cause) waits free = inr (record { place = place.Access (Enter false); more = λ answer e. absurd (cc e); is = refl })
 
 going : (n : FaultNext) (q : FaultPlace) → n ≡ Goes q → GoesSo (fault_turn n) (behind_fault n)
 going n q is = record { place = place.Access (Fault q); more = λ answer e. absurd (cc (ap fault_turn is, e)); is = ap behind_fault is }
@@ -185,8 +186,9 @@ done_ends answer before after T = by (cases before.hand T.makes.found)
 
 -- Only the end of a fault's section begins an access anew, outside the guest.
 record BeginsAnew (p : Place) (o : Outcome) : Type 0 where
+  fast : Bool
   cause : Cause
-  at : p ≡ place.Access (Fault (fault.End (end_of.Retry cause)))
+  at : p ≡ place.Access (Fault (fault.End (end_of.Retry fast cause)))
   is : o ≡ outcome.Goes (place.Access (Enter false))
 
 over_anew : (e : FaultEnd) (cause : Cause) → fault_turn (Ends e) ≡ Retry cause → BeginsAnew (place.Access (Fault (fault.End e))) (behind_fault (Ends e))
@@ -194,8 +196,9 @@ over_anew end_of.Installed cause is = absurd (cc is)
 over_anew end_of.Mmio cause is = absurd (cc is)
 over_anew end_of.HostFault cause is = absurd (cc is)
 over_anew end_of.Starved cause is = absurd (cc is)
+over_anew (end_of.Fixed marked) cause is = absurd (cc is)
 over_anew (end_of.NotFast word) cause is = absurd (cc is)
-over_anew (end_of.Retry why) cause is = record { cause = why; at = refl; is = refl }
+over_anew (end_of.Retry fast why) cause is = record { fast = fast; cause = why; at = refl; is = refl }
 
 plain_anew : (p : Place) (o : Outcome) (cause : Cause) → turn_of o ≡ Retry cause → BeginsAnew p o
 plain_anew p (outcome.Goes q) cause is = absurd (cc is)

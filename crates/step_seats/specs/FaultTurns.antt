@@ -26,14 +26,16 @@ use Rattle.step_seats.specs.Seats.{Seat}
 use Rattle.step_seats.specs.declared.turn.Turn.{Turn}
 use Rattle.step_seats.specs.declared.turn.Turn.TheVariants.{More, Wait, Retry, Done}
 
--- The place is one of a fast fault alone. Other ends than that it can't be made are places of both.
+-- The place is one of a fast fault.
 abbrev pub is_fast_place : FaultPlace → Bool
 is_fast_place FastBegin = true
 is_fast_place (FastFind begun) = true
 is_fast_place (FastWalk rooted) = true
 is_fast_place Fix = true
 is_fast_place (Mark fast) = fast
+is_fast_place (End (end_of.Fixed marked)) = true
 is_fast_place (End (end_of.NotFast word)) = true
+is_fast_place (End (end_of.Retry fast cause)) = fast
 is_fast_place _ = false
 
 -- The hand's next line is an access of this guest frame, which writes or doesn't, and stands at this place of its fault.
@@ -61,11 +63,12 @@ as_end told (Done answer) = Done (told answer)
 
 -- what the last turn of a fault answers, by its end
 abbrev pub end_turn : FaultEnd → Turn FaultEnd
-end_turn (end_of.Retry cause) = Retry cause
+end_turn (end_of.Retry fast cause) = Retry cause
 end_turn end_of.Installed = Done end_of.Installed
 end_turn end_of.Mmio = Done end_of.Mmio
 end_turn end_of.HostFault = Done end_of.HostFault
 end_turn end_of.Starved = Done end_of.Starved
+end_turn (end_of.Fixed marked) = Done (end_of.Fixed marked)
 end_turn (end_of.NotFast word) = Done (end_of.NotFast word)
 
 -- The turn answers by what is next after its step: it goes on, or has to be made again, or the fault is over.

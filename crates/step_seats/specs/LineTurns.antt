@@ -63,7 +63,7 @@ turn_of (Ends answer) = Done answer
 
 -- a fault that begins anew says why
 abbrev pub or_anew : FaultNext → Turn Answer → Turn Answer
-or_anew (next_of.Ends (end_of.Retry cause)) turn = Retry cause
+or_anew (next_of.Ends (end_of.Retry fast cause)) turn = Retry cause
 or_anew _ turn = turn
 
 -- what the turn of an access's fault answers, by what is next after its step

@@ -9,15 +9,15 @@ ghost use Rattle.step_seats.specs.FaultTurns.{IsAtFaultPlace, StandsInFault, is_
 
 use core_views::{AccessPlace, FaultEnd, FaultPlace, Hand, Place};
 
-/// Whether the place is one of a fast fault alone (locking.rst, "Fast page fault"). A fault ends
-/// as installed, or begins anew, at the same place whether it is a fast one or a whole one.
+/// Whether the place is one of a fast fault (locking.rst, "Fast page fault").
 pub fn is_fast_place(place: FaultPlace) -> bool
     ensures { result ≡ is_fast_place place }
 {
     match place {
         FaultPlace::FastBegin | FaultPlace::FastFind { .. } | FaultPlace::FastWalk { .. } => true,
-        FaultPlace::Fix | FaultPlace::End(FaultEnd::NotFast(_)) => true,
-        FaultPlace::Mark { fast } => fast,
+        FaultPlace::Fix => true,
+        FaultPlace::End(FaultEnd::Fixed { .. } | FaultEnd::NotFast(_)) => true,
+        FaultPlace::Mark { fast } | FaultPlace::End(FaultEnd::Retry { fast, .. }) => fast,
         _ => false,
     }
 }

@@ -226,8 +226,9 @@ over_cause end_of.Installed job h K = tt
 over_cause end_of.Mmio job h K = K
 over_cause end_of.HostFault job h K = K
 over_cause end_of.Starved job h K = K
+over_cause (end_of.Fixed marked) job h K = tt
 over_cause (end_of.NotFast word) job h K = tt
-over_cause (end_of.Retry cause) job h K = K
+over_cause (end_of.Retry fast cause) job h K = K.has
 
 next_cause : (turn : Turn FaultEnd) (next : FaultNext) (job : AccessJob) (h : Held) → FaultAnswersBy turn next
     → EndsBy next (λ e. FaultEndKnows e h.state.sizes job.gfn (is_write job.op) h.topics) → HasItsCause (turn_answer turn) job h

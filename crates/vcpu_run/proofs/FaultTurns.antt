@@ -8,7 +8,6 @@ use Rattle.core_views.specs.declared.place.FaultEnd.TheVariants as end_of
 use Rattle.core_views.specs.declared.place.FaultNext.{FaultNext}
 use Rattle.core_views.specs.declared.place.FaultNext.TheVariants.{Goes, Ends}
 use Rattle.core_views.specs.declared.place.FaultPlace.{FaultPlace}
-use Rattle.core_views.specs.declared.place.FaultPlace.TheVariants.{End}
 use Rattle.core_views.specs.Slots.{is_write}
 use Rattle.mmu_core.specs.lines.FaultSteps.{fault_next, fault_part}
 use Rattle.mmu_core.specs.lines.PartWaits.{part_seen, part_waits}
@@ -27,7 +26,7 @@ use Rattle.vcpu_run.specs.declared.access.AccessJob.{AccessJob}
 use Rattle.step_seats.specs.FaultTurns.{FaultAnswersBy, StandsInFault, TurnsFault, WaitsBy, end_turn, is_fast_place}
 use Rattle.step_seats.specs.LineTurns.{WaitsElse, TurnsLine, fault_turn, line_seen, line_turn, turn_told, untold}
 use Rattle.step_seats.proofs.LineTurns.{made_line, turns_told}
-use Rattle.fast_fault.specs.Fasts.{StandsInFast, stands_fast}
+use Rattle.fast_fault.specs.Fasts.{StandsInFast}
 use Rattle.fault_install.specs.Faults.{StandsInLine}
 use Rattle.vcpu_run.specs.Accesses.{HasItsCause, IsAtAccessPlace, turn_answer}
 use Rattle.vcpu_run.proofs.Accessing.{fault_cause, may_make}
@@ -49,15 +48,10 @@ in_fault p job h S = record {
   writes = refl;
 }
 
-may_be_fast : (p : FaultPlace) → is_fast_place p ≡ true → stands_fast p ≡ true
-may_be_fast (End end_of.Installed) is = refl
-may_be_fast (End (end_of.Retry cause)) is = refl
-may_be_fast _ is = is
-
 pub in_fast : (p : FaultPlace) (job : AccessJob) (h : Held) → IsAtAccessPlace (Fault p) job h → is_fast_place p ≡ true
     → StandsInFast (record { gfn = job.gfn; write = is_write job.op }) h
 unfolding in_fault
-in_fast p job h S is = record { fault = in_fault p job h S; fast = may_be_fast p is }
+in_fast p job h S is = record { fault = in_fault p job h S; fast = is }
 
 pub in_whole : (p : FaultPlace) (job : AccessJob) (h : Held) → IsAtAccessPlace (Fault p) job h → is_fast_place p ≡ false
     → StandsInLine (record { gfn = job.gfn; write = is_write job.op }) h
@@ -70,8 +64,9 @@ over_gives end_of.Installed waits way by_ = (not_true waits by_, refl)
 over_gives end_of.Mmio waits way by_ = (not_true waits by_, refl)
 over_gives end_of.HostFault waits way by_ = (not_true waits by_, refl)
 over_gives end_of.Starved waits way by_ = (not_true waits by_, refl)
+over_gives (end_of.Fixed marked) waits way by_ = (not_true waits by_, refl)
 over_gives (end_of.NotFast word) waits way by_ = (not_true waits by_, refl)
-over_gives (end_of.Retry cause) waits way by_ = (not_true waits by_, refl)
+over_gives (end_of.Retry fast cause) waits way by_ = (not_true waits by_, refl)
 
 gives_fault : (turn : Turn FaultEnd) (next : FaultNext) (waits : Bool) (way : Seen) → FaultAnswersBy turn next → WaitsBy turn waits way
     → WaitsElse (turn_answer turn) waits way (fault_turn next)

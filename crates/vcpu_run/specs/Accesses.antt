@@ -10,7 +10,7 @@ use Rattle.core_views.specs.declared.place.Place.TheVariants as place
 use Rattle.core_views.specs.declared.trace.Command.TheVariants.{Access}
 use Rattle.core_views.specs.Held.{Held}
 use Rattle.core_views.specs.Slots.{is_write}
-use Rattle.mmu_core.specs.lines.FaultKnows.{FaultEndKnows}
+use Rattle.mmu_core.specs.lines.FaultKnows.{FaultEndKnows, HasCause}
 use Rattle.mmu_core.specs.lines.Forms.{KnowsPart}
 use Rattle.mmu_core.specs.lines.Rests.{Rests}
 use Rattle.mmu_core.specs.machine.Steps.{place_at}
@@ -47,16 +47,17 @@ turn_answer More = More
 turn_answer (Wait seen) = Wait seen
 turn_answer (Retry cause) = Retry cause
 turn_answer (Done end_of.Installed) = More
+turn_answer (Done (end_of.Fixed marked)) = More
 turn_answer (Done (end_of.NotFast word)) = More
 turn_answer (Done end_of.Mmio) = Done Mmio
 turn_answer (Done end_of.HostFault) = Done HostFault
 turn_answer (Done end_of.Starved) = Done Starved
-turn_answer (Done (end_of.Retry cause)) = Retry cause
+turn_answer (Done (end_of.Retry fast cause)) = Retry cause
 
 -- What an exit, or a begin anew, of the access rests on: the words that its fault has loaded, of which the hand has kept what matters.
 abbrev pub HasItsCause : Turn Answer → AccessJob → Held → Type 0
 HasItsCause (Done Mmio) job h = FaultEndKnows end_of.Mmio h.state.sizes job.gfn (is_write job.op) h.topics
 HasItsCause (Done HostFault) job h = FaultEndKnows end_of.HostFault h.state.sizes job.gfn (is_write job.op) h.topics
 HasItsCause (Done Starved) job h = FaultEndKnows end_of.Starved h.state.sizes job.gfn (is_write job.op) h.topics
-HasItsCause (Retry cause) job h = FaultEndKnows (end_of.Retry cause) h.state.sizes job.gfn (is_write job.op) h.topics
+HasItsCause (Retry cause) job h = HasCause cause h.state.sizes job.gfn h.topics
 HasItsCause _ job h = Unit {0}

@@ -184,7 +184,7 @@ fn fast_said(turn: Turn<FastFaulted>) -> Turn<()>
     ensures { result ≡ untold (turn_answer (as_end fast_told turn)) }
 {
     match turn {
-        Turn::More | Turn::Done(FastFaulted::Fixed | FastFaulted::NotFast(_)) => Turn::More,
+        Turn::More | Turn::Done(FastFaulted::Fixed { .. } | FastFaulted::NotFast(_)) => Turn::More,
         Turn::Wait(seen) => Turn::Wait(seen),
         Turn::Retry(why) => Turn::Retry(why),
     }

@@ -87,8 +87,9 @@ module _ (number : ℕ) (actor : Actor) where
   fault_ends end_of.Mmio turn gfn word op h v gives = by_outcome turn _ (fault_over end_of.Mmio) gives
   fault_ends end_of.HostFault turn gfn word op h v gives = by_outcome turn _ (fault_over end_of.HostFault) gives
   fault_ends end_of.Starved turn gfn word op h v gives = by_outcome turn _ (fault_over end_of.Starved) gives
+  fault_ends (end_of.Fixed marked) turn gfn word op h v gives = by_outcome turn _ (fault_over (end_of.Fixed marked)) gives
   fault_ends (end_of.NotFast seen) turn gfn word op h v gives = by_outcome turn _ (fault_over (end_of.NotFast seen)) gives
-  fault_ends (end_of.Retry cause) turn gfn word op h v gives = retries turn _ cause (place.Access (access.Enter false)) gives
+  fault_ends (end_of.Retry fast cause) turn gfn word op h v gives = retries turn _ cause (place.Access (access.Enter false)) gives
 
   abbrev Tells : Turn Answer → Place → Command → Held → ℕ → Type 0
   Tells turn p command h v =

@@ -51,8 +51,9 @@ fault_goes (next_of.Ends end_of.Installed) seen e = absurd (cc e)
 fault_goes (next_of.Ends end_of.Mmio) seen e = absurd (cc e)
 fault_goes (next_of.Ends end_of.HostFault) seen e = absurd (cc e)
 fault_goes (next_of.Ends end_of.Starved) seen e = absurd (cc e)
+fault_goes (next_of.Ends (end_of.Fixed marked)) seen e = absurd (cc e)
 fault_goes (next_of.Ends (end_of.NotFast word)) seen e = absurd (cc e)
-fault_goes (next_of.Ends (end_of.Retry cause)) seen e = absurd (cc e)
+fault_goes (next_of.Ends (end_of.Retry fast cause)) seen e = absurd (cc e)
 
 line_goes : (p : Place) (command : Command) (h : Held) (v : ℕ) (seen : Seen) → line_turn p command h v ≢ Wait seen
 line_goes (place.Access (Fault p)) (Access gfn word op) h v seen e = fault_goes (fault_next p h.state.sizes gfn (is_write op) h.topics v) seen e

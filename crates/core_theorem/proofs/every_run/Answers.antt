@@ -143,8 +143,8 @@ pub returns-clause-open_lines : goal.returns-clause-open_lines
 returns-clause-open_lines c = lines_are_open
 
 pub returns-clause-begins_anew : goal.returns-clause-begins_anew
-returns-clause-begins_anew c z lines w ss s cause gfn word op R stands command =
-    faults_begin_anew_by_cause z w ss s.actor gfn word op cause (start_good z lines w R.start) (before z lines w ss s R).legal
+returns-clause-begins_anew c z lines w ss s fast cause gfn word op R stands command =
+    faults_begin_anew_by_cause z w ss s.actor gfn word op fast cause (start_good z lines w R.start) (before z lines w ss s R).legal
     (starts_between z lines w ss s R) stands command
 
 pub returns-clause-waits : goal.returns-clause-waits

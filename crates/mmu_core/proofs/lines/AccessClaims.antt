@@ -62,8 +62,9 @@ no_frames (next_of.Ends end_of.Installed) = (λ S. S, λ e. cc e)
 no_frames (next_of.Ends end_of.Mmio) = (λ S. S, λ e. cc e)
 no_frames (next_of.Ends end_of.HostFault) = (λ S. S, λ e. cc e)
 no_frames (next_of.Ends end_of.Starved) = (λ S. S, λ e. cc e)
+no_frames (next_of.Ends (end_of.Fixed marked)) = (λ S. S, λ e. cc e)
 no_frames (next_of.Ends (end_of.NotFast seen)) = (λ S. S, λ e. cc e)
-no_frames (next_of.Ends (end_of.Retry cause)) = (λ S. S, λ e. cc e)
+no_frames (next_of.Ends (end_of.Retry fast cause)) = (λ S. S, λ e. cc e)
 
 over_begun : (n : FaultNext) → HasScan (place_after (behind_fault n)) Pages → BegunNext n
 over_begun (next_of.Goes p) S = S
@@ -71,8 +72,9 @@ over_begun (next_of.Ends end_of.Installed) S = absurd S
 over_begun (next_of.Ends end_of.Mmio) S = absurd S
 over_begun (next_of.Ends end_of.HostFault) S = absurd S
 over_begun (next_of.Ends end_of.Starved) S = absurd S
+over_begun (next_of.Ends (end_of.Fixed marked)) S = absurd S
 over_begun (next_of.Ends (end_of.NotFast seen)) S = absurd S
-over_begun (next_of.Ends (end_of.Retry cause)) S = absurd S
+over_begun (next_of.Ends (end_of.Retry fast cause)) S = absurd S
 
 -- The note of an access is 1 where it is answered.
 fault_note : (p : FaultPlace) (z : Sizes) (gfn : ℕ) (write : Bool) (t : Topics) (v : ℕ)
@@ -88,7 +90,8 @@ starved_at (fault.End end_of.Starved) h gfn op v K e = (scans.Keeps part.End tt 
 starved_at (fault.End end_of.Installed) h gfn op v K e = absurd (cc e)
 starved_at (fault.End end_of.Mmio) h gfn op v K e = absurd (cc e)
 starved_at (fault.End end_of.HostFault) h gfn op v K e = absurd (cc e)
-starved_at (fault.End (end_of.Retry cause)) h gfn op v K e = absurd (cc e)
+starved_at (fault.End (end_of.Fixed marked)) h gfn op v K e = absurd (cc e)
+starved_at (fault.End (end_of.Retry fast cause)) h gfn op v K e = absurd (cc e)
 starved_at _ h gfn op v K e = absurd (cc e)
 
 -- Another place of an access leads to no scan.

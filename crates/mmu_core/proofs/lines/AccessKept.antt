@@ -39,8 +39,9 @@ fault_holds z pool set (next_of.Ends end_of.Installed) gfn word op g = tt
 fault_holds z pool set (next_of.Ends end_of.Mmio) gfn word op g = tt
 fault_holds z pool set (next_of.Ends end_of.HostFault) gfn word op g = tt
 fault_holds z pool set (next_of.Ends end_of.Starved) gfn word op g = tt
+fault_holds z pool set (next_of.Ends (end_of.Fixed marked)) gfn word op g = tt
 fault_holds z pool set (next_of.Ends (end_of.NotFast seen)) gfn word op g = tt
-fault_holds z pool set (next_of.Ends (end_of.Retry cause)) gfn word op g = tt
+fault_holds z pool set (next_of.Ends (end_of.Retry fast cause)) gfn word op g = tt
 
 access_holds : (z : Sizes) (pool : ℕ → ℕ) (set : ℕ) (p : AccessPlace) (h : Held) (gfn word : ℕ) (op : Op) (x : ℕ) (g : Held)
     → Holds z pool set (place_after (access_outcome p h gfn op x)) (Access gfn word op) g

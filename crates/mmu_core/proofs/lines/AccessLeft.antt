@@ -23,7 +23,7 @@ use Rattle.mmu_core.specs.lines.FaultLeft.{check_left, fault_left, find_left, ta
 use Rattle.mmu_core.specs.lines.SearchLeft.{look_left}
 use Rattle.mmu_core.proofs.lines.ClaimMade.{claim_few}
 use Rattle.core_views.specs.declared.place.FaultEnd.{FaultEnd}
-use Rattle.core_views.specs.declared.place.FaultEnd.TheVariants.{Installed, Mmio, HostFault, Starved, NotFast, Retry}
+use Rattle.core_views.specs.declared.place.FaultEnd.TheVariants.{Installed, Mmio, HostFault, Starved, Fixed, NotFast, Retry}
 
 tables_few : (z : Sizes) (level : ℕ) → level ≤ 4 → (level - 1) * table_left z ≤ 3 * table_left z
 tables_few z level most = let few : level - 1 ≤ 3 = omega (arith, most) in mul-le-mul_right (table_left z) few
@@ -97,11 +97,12 @@ some_fault_left : (p : FaultPlace) (z : Sizes) (t : Topics) → 0 < fault_left p
 some_fault_left (fault.Walk true) z t = omega arith
 some_fault_left (fault.Walk false) z t = omega arith
 some_fault_left (fault.End (NotFast word)) z t = omega arith
+some_fault_left (fault.End (Fixed marked)) z t = omega arith
 some_fault_left (fault.End Installed) z t = omega arith
 some_fault_left (fault.End Mmio) z t = omega arith
 some_fault_left (fault.End HostFault) z t = omega arith
 some_fault_left (fault.End Starved) z t = omega arith
-some_fault_left (fault.End (Retry cause)) z t = omega arith
+some_fault_left (fault.End (Retry fast cause)) z t = omega arith
 some_fault_left _ z t = omega arith
 
 pub some_access_left : (p : AccessPlace) (z : Sizes) (t : Topics) → 0 < access_left p z t

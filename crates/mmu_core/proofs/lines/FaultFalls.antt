@@ -31,7 +31,7 @@ use Rattle.mmu_core.specs.lines.FaultKnows.{FaultKnows}
 use Rattle.mmu_core.specs.lines.FaultLeft.{check_left, end_left, entering_left, fault_left, next_left, table_left, walk_left}
 use Rattle.mmu_core.specs.lines.FaultSteps.{after_claim, after_share, allows_access, check_next, entry_word, exchange_lost}
 use Rattle.mmu_core.specs.lines.FaultSteps.{fast_walk_next, fault_next, fault_part}
-use Rattle.mmu_core.specs.lines.FaultSteps.{found_next, put_next}
+use Rattle.mmu_core.specs.lines.FaultSteps.{found_next, over_next, put_next}
 use Rattle.mmu_core.specs.lines.FaultSteps.{Pages, host_word_at, share_next, share_part, snapshot_taken, walk_next, claim_left, share_left}
 use Rattle.mmu_core.specs.lines.PartWaits.{part_waits}
 use Rattle.part_steps.specs.PartBounds.{PartRests}
@@ -65,7 +65,7 @@ host_falls false true z u loose = let less = begins_share z u loose in omega (ar
 host_falls false false z u loose = omega arith
 
 bring_falls : (b : Bool) (z : Sizes) (word read v : ℕ) (u : Topics) → u.hold ≡ Loose
-    → fault_left (if b then Share else End (Retry (Entry word read v))) z u < entering_left z + 7
+    → fault_left (if b then Share else End (Retry false (Entry word read v))) z u < entering_left z + 7
 bring_falls true z word read v u loose = begins_share z u loose
 bring_falls false z word read v u loose = omega arith
 
@@ -84,13 +84,13 @@ check_falls stage.Count z gfn t u v = by (v == 0)
 check_falls stage.Start z gfn t u v = omega arith
 check_falls stage.End z gfn t u v = by (nat_le t.invalidations.start gfn && nat_lt gfn v)
   where
-    by : (b : Bool) → fault_left (if b then Unshare (Retry (Open t.invalidations.count t.invalidations.start v gfn)) else Check stage.Seq) z u
+    by : (b : Bool) → fault_left (if b then Unshare (Retry false (Open t.invalidations.count t.invalidations.start v gfn)) else Check stage.Seq) z u
         < entering_left z + 2
     by true = omega arith
     by false = omega arith
 check_falls stage.Seq z gfn t u v = by (v == snapshot_taken t.invalidations.snapshot)
   where
-    by : (b : Bool) → fault_left (if b then Walk false else Unshare (Retry (Moved (snapshot_taken t.invalidations.snapshot) v))) z u < entering_left z + 1
+    by : (b : Bool) → fault_left (if b then Walk false else Unshare (Retry false (Moved (snapshot_taken t.invalidations.snapshot) v))) z u < entering_left z + 1
     by true = omega arith
     by false = omega arith
 
@@ -111,7 +111,7 @@ five_left : (z : Sizes) (level : ℕ) → 5 ≤ walk_left z level
 five_left z level = omega arith
 
 leaf_falls : (lowest allows write : Bool) (z : Sizes) (word v level : ℕ) (u : Topics)
-    → fault_left (if lowest then (if allows then Unshare Installed else Leaf write) else Unshare (Retry (Entry word v v))) z u < walk_left z level
+    → fault_left (if lowest then (if allows then Unshare Installed else Leaf write) else Unshare (Retry false (Entry word v v))) z u < walk_left z level
 leaf_falls true true write z word v level u = let five = five_left z level in omega (arith, five)
 leaf_falls _ _ write z word v level u = let five = five_left z level in omega (arith, five)
 
@@ -148,7 +148,7 @@ fill_falls true z t v F = omega (arith, F.1, more_filled t.owned v F.0)
 fill_falls false z t v F = omega (arith, F.1)
 
 link_falls : (b : Bool) (z : Sizes) (t : Topics) (gfn v : ℕ) (o : OwnedPage) → 2 ≤ t.walk.level → t.owned ≡ Some o → o.page < 2 ^ 32
-    → fault_left (if b then Walk true else Give (exchange_lost z gfn t.walk v)) z
+    → fault_left (if b then Walk true else Give (exchange_lost false z gfn t.walk v)) z
     (exchanged b (entry_index gfn t.walk.level) (link_written t) t v) < walk_left z (t.walk.level - 1) + 1
 link_falls true z t gfn v o from is small =
     subst (λ (k : SpteKind). walk_left z (gone_down (linked_page k) t.walk (entry_index gfn t.walk.level) (link_written t)).level
@@ -160,24 +160,23 @@ link_falls true z t gfn v o from is small =
 link_falls false z t gfn v o from is small = let five = five_left z (t.walk.level - 1) in omega (arith, five)
 
 -- the leaf, and the mark
+over_left : (fast marked : Bool) (z : Sizes) (u : Topics) → fault_left (over_next fast marked) z u < 3
+over_left true marked z u = omega arith
+over_left false marked z u = omega arith
+
 put_left : (fast marks : Bool) (z : Sizes) (u : Topics) → fault_left (put_next fast marks) z u < 4
 put_left fast true z u = omega arith
-put_left true false z u = omega arith
-put_left false false z u = omega arith
+put_left fast false z u = let less = over_left fast false z u in omega (arith, less)
 
 leaf_put : (b marks : Bool) (z : Sizes) (gfn : ℕ) (walk : TableWalk) (v : ℕ) (u : Topics)
-    → fault_left (if b then put_next false marks else Unshare (exchange_lost z gfn walk v)) z u < 4
+    → fault_left (if b then put_next false marks else Unshare (exchange_lost false z gfn walk v)) z u < 4
 leaf_put true marks z gfn walk v u = put_left false marks z u
 leaf_put false marks z gfn walk v u = omega arith
 
 fix_made : (b marks : Bool) (z : Sizes) (gfn : ℕ) (walk : TableWalk) (v : ℕ) (u : Topics)
-    → fault_left (if b then put_next true marks else End (exchange_lost z gfn walk v)) z u < 4
+    → fault_left (if b then put_next true marks else End (exchange_lost true z gfn walk v)) z u < 4
 fix_made true marks z gfn walk v u = put_left true marks z u
 fix_made false marks z gfn walk v u = omega arith
-
-mark_made : (fast : Bool) (z : Sizes) (u : Topics) → fault_left (put_next fast false) z u < 3
-mark_made true z u = omega arith
-mark_made false z u = omega arith
 
 -- ---- a fast fault
 
@@ -248,7 +247,7 @@ fault_falls (FastWalk true) h gfn v write small R K goes =
 fault_falls (FastWalk false) h gfn v write small R K goes =
     let less = fast_root_falls (may_walk h.topics.stay h.topics.hold) h.state.sizes in omega (arith, less)
 fault_falls Fix h gfn v write small R K goes = fix_made (v == h.topics.walk.entry) h.topics.search.logged h.state.sizes gfn h.topics.walk v _
-fault_falls (Mark fast) h gfn v write small R K goes = mark_made fast h.state.sizes _
+fault_falls (Mark fast) h gfn v write small R K goes = over_left fast true h.state.sizes _
 fault_falls _ h gfn v write small R K goes = omega arith
 
 pub fault_is_bounded : (z : Sizes) (t : Topics) → AreSizes z → fault_left FastBegin z t ≤ 8192 + z.pool

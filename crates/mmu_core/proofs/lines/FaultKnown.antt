@@ -39,7 +39,7 @@ use Rattle.mmu_core.proofs.pages.Owned.{more_absent, more_role, table_owned}
 use Rattle.mmu_core.proofs.lines.ClaimMade.{ClaimMade, claim_made}
 use Rattle.mmu_core.proofs.lines.ClaimMade as made
 use Rattle.mmu_core.proofs.lines.ShareMade.{share_made}
-use Rattle.mmu_core.proofs.lines.FaultSame.{ends_same, same_entering, same_none}
+use Rattle.mmu_core.proofs.lines.FaultSame.{ends_same, same_entering, same_none, whole_anew}
 use Rattle.mmu_core.proofs.lines.WalkKnown.{above_lowest, gone_over, root_over, saw_it}
 use Rattle.mmu_core.proofs.lines.LeafKnown.{fix_known, leaf_known, mark_known, upper_owes_none}
 use Rattle.mmu_core.proofs.lines.FastKnown.{fast_root_known, fast_slot_known, fast_slots_known, fast_walk_known}
@@ -58,8 +58,8 @@ denied false v is = absurd (cc is)
 leaf_seen : (lowest allows : Bool) (z : Sizes) (gfn : ℕ) (write : Bool) (t : Topics) (v : ℕ) → (t.walk.level == 1) ≡ lowest
     → allows_access write v ≡ allows → kind_of t.walk.level v ≡ entry_kind.Leaf
     → Entering gfn write t → t.owned ≡ None → IsOver gfn t.walk
-    → FaultKnows (if lowest then (if allows then Unshare Installed else Leaf write) else Unshare (Retry (Entry (entry_word z gfn t.walk) v v))) z gfn write
-    (record t { walk = gone_down None t.walk (entry_index gfn t.walk.level) v })
+    → FaultKnows (if lowest then (if allows then Unshare Installed else Leaf write) else Unshare (Retry false (Entry (entry_word z gfn t.walk) v v))) z gfn
+    write (record t { walk = gone_down None t.walk (entry_index gfn t.walk.level) v })
 leaf_seen true true z gfn write t v low may is E none O =
     let one : t.walk.level ≡ 1 = grind (arith, nat_tests) in (
       record { section = E.sharing.section; owns_none = none; owes_none = E.sharing.owes_none },
@@ -72,7 +72,8 @@ leaf_seen false allows z gfn write t v low may is E none O =
     let from : 1 ≤ t.walk.level = O.there in (
       record { section = E.sharing.section; owns_none = none; owes_none = E.sharing.owes_none },
       E.sharing.shares,
-      inl (record { saw = saw_it gfn v t.walk O; is_entry = refl; holds = refl; why = inr (inr (is, grind (arith, nat_tests))) }),
+      whole_anew (Entry (entry_word z gfn t.walk) v v) z gfn _
+          (inl (record { saw = saw_it gfn v t.walk O; is_entry = refl; holds = refl; why = inr (inr (is, grind (arith, nat_tests))) })),
     )
 
 none_seen : (lowest : Bool) (z : Sizes) (gfn : ℕ) (write : Bool) (t : Topics) (v : ℕ) → (t.walk.level == 1) ≡ lowest
@@ -98,7 +99,8 @@ walk_known entry_kind.Absent z gfn write t v is most E none O = none_seen (t.wal
 walk_known entry_kind.Frozen z gfn write t v is most E none O = (
   record { section = E.sharing.section; owns_none = none; owes_none = E.sharing.owes_none },
   E.sharing.shares,
-  inl (record { saw = saw_it gfn v t.walk O; is_entry = refl; holds = refl; why = inr (inl is) }),
+  whole_anew (Entry (entry_word z gfn t.walk) v v) z gfn _
+      (inl (record { saw = saw_it gfn v t.walk O; is_entry = refl; holds = refl; why = inr (inl is) })),
 )
 
 -- the claim
@@ -156,7 +158,7 @@ link_won z gfn write t v most E S o is small =
 
 link_known : (b : Bool) (z : Sizes) (gfn : ℕ) (write : Bool) (t : Topics) (v : ℕ) → (v == t.walk.entry) ≡ b → t.walk.level ≤ 4 → Entering gfn write t
     → SawAbsentEntry gfn t → (o : OwnedPage) → t.owned ≡ Some o → o.page < 2 ^ 32
-    → FaultKnows (if b then Walk true else Give (exchange_lost z gfn t.walk v)) z gfn write
+    → FaultKnows (if b then Walk true else Give (exchange_lost false z gfn t.walk v)) z gfn write
     (exchanged b (entry_index gfn t.walk.level) (link_written t) t v)
 link_known true z gfn write t v is most E S o owned small = link_won z gfn write t v most E S o owned small
 link_known false z gfn write t v is most E S o owned small = (
@@ -164,7 +166,8 @@ link_known false z gfn write t v is most E S o owned small = (
   E.sharing.shares,
   ap (λ (x : Option OwnedPage). is_some x) owned,
   E.sharing.owes_none,
-  inl (record { saw = saw_it gfn v t.walk S.saw.over; is_entry = refl; holds = refl; why = inl (grind (arith, nat_tests)) }),
+  whole_anew (Entry (entry_word z gfn t.walk) t.walk.entry v) z gfn _
+      (inl (record { saw = saw_it gfn v t.walk S.saw.over; is_entry = refl; holds = refl; why = inl (grind (arith, nat_tests)) })),
   tt,
 )
 

@@ -3,8 +3,9 @@ use Rattle.std.proofs.Common.{◌≡◌, inl, inr, ◌<◌, ◌≤◌, ℕ, refl
 use Rattle.std.specs.Prelude.{Bool, true, false, ◌&&◌, nat_le, nat_lt, not, Option, Some, is_some}
 use Rattle.std.proofs.lemmas.Bool.Decides.{nat_tests}
 use Rattle.core_views.specs.declared.place.Cause.TheVariants.{Open, Moved, Entry}
+use Rattle.core_views.specs.declared.place.Cause.{Cause}
 use Rattle.core_views.specs.declared.place.FaultEnd.{FaultEnd}
-use Rattle.core_views.specs.declared.place.FaultEnd.TheVariants.{Installed, Mmio, HostFault, Starved, Retry, NotFast}
+use Rattle.core_views.specs.declared.place.FaultEnd.TheVariants.{Installed, Mmio, HostFault, Starved, Fixed, Retry, NotFast}
 use Rattle.core_views.specs.declared.sizes.Sizes.{Sizes}
 use Rattle.core_views.specs.declared.topics.HostLook.{HostLook}
 use Rattle.core_views.specs.declared.topics.Invalidations.{Invalidations}
@@ -16,7 +17,7 @@ use Rattle.spte_words.specs.Areas.{words_of_bits}
 use Rattle.spte_words.specs.Entries.{kind_of}
 use Rattle.spte_words.specs.HostWords.{host_present}
 use Rattle.mmu_core.specs.lines.FaultKnows.{FaultEndKnows, Entering, FoundNoPage, IsInTheWay, LookedFor, SawAbsentEntry, Sharing, WithoutLock}
-use Rattle.mmu_core.specs.lines.FaultKnows.{HasEntry, InSection, SawNotFast, forbids_more}
+use Rattle.mmu_core.specs.lines.FaultKnows.{HasCause, HasEntry, InSection, IsFixed, IsLostFix, Retries, SawNotFast, forbids_more}
 use Rattle.mmu_core.specs.lines.FaultSteps.{allows_access, host_word_at}
 use Rattle.part_steps.specs.PartHoldings.{FoundSlot, IsFresh, LookedUp, SawEntry}
 use Rattle.part_steps.specs.PartTasks.{word_looked}
@@ -108,6 +109,24 @@ same_not_fast word gfn t u walk search (inl n) = inl (n.0, ap (λ (s : SlotSearc
 same_not_fast word gfn t u walk search (inr S) = inr (subst
     (λ (w : TableWalk). SawEntry gfn w × (w.entry ≡ word) × (forbids_more (kind_of w.level word) w.level word ≡ true)) (sym walk) S)
 
+cause_same : (cause : Cause) (z : Sizes) (gfn : ℕ) (t u : Topics) → u.walk ≡ t.walk → u.search ≡ t.search → u.host ≡ t.host
+    → unchecked u.invalidations ≡ unchecked t.invalidations → HasCause cause z gfn t → HasCause cause z gfn u
+cause_same (Open count start end_ at) z gfn t u walk search host n K =
+    (K.0, K.1, K.2, K.3, ap (λ (x : Invalidations). x.count) n ∙ K.4, ap (λ (x : Invalidations). x.start) n ∙ K.5, ap (λ (x : Invalidations). x.end) n ∙ K.6)
+cause_same (Moved old_ now_) z gfn t u walk search host n K =
+    (ap (λ (x : Invalidations). x.snapshot) n ∙ K.0, ap (λ (x : Invalidations). x.seq) n ∙ K.1, K.2)
+cause_same (Entry word read seen) z gfn t u walk search host n (inl W) = inl (subst (IsInTheWay word read seen z gfn) (sym walk) W)
+cause_same (Entry word read seen) z gfn t u walk search host n (inr M) = inr (record {
+  looked_up = same_looked_up gfn t u search host M.looked_up;
+  is_word = M.is_word ∙ ap (λ (x : Option HostLook). host_word_at z x) (sym host);
+  holds = ap (λ (x : Option HostLook). word_looked x) host ∙ M.holds;
+  why = M.why;
+})
+
+-- A whole fault begins anew.
+pub whole_anew : (cause : Cause) (z : Sizes) (gfn : ℕ) (t : Topics) → HasCause cause z gfn t → Retries false cause z gfn t
+whole_anew cause z gfn t K = record { has = K; lost = λ e. absurd (cc e) }
+
 pub ends_same : (e : FaultEnd) (z : Sizes) (gfn : ℕ) (write : Bool) (t u : Topics) → u.walk ≡ t.walk → u.search ≡ t.search → u.host ≡ t.host
     → u.claim.at ≡ t.claim.at → unchecked u.invalidations ≡ unchecked t.invalidations → FaultEndKnows e z gfn write t → FaultEndKnows e z gfn write u
 ends_same Installed z gfn write t u walk search host claim n K = same_entry gfn write t u walk K
@@ -116,17 +135,16 @@ ends_same HostFault z gfn write t u walk search host claim n K =
     record { writes = K.writes; looked_up = same_looked_up gfn t u search host K.looked_up; forbids = K.forbids }
 ends_same Starved z gfn write t u walk search host claim n K = subst (λ n. words_of_bits z.pool ≤ n) (sym claim) K
 ends_same (NotFast word) z gfn write t u walk search host claim n K = same_not_fast word gfn t u walk search K
-ends_same (Retry (Open count start end_ at)) z gfn write t u walk search host claim n K =
-    (K.0, K.1, K.2, K.3, ap (λ (x : Invalidations). x.count) n ∙ K.4, ap (λ (x : Invalidations). x.start) n ∙ K.5, ap (λ (x : Invalidations). x.end) n ∙ K.6)
-ends_same (Retry (Moved old_ now_)) z gfn write t u walk search host claim n K =
-    (ap (λ (x : Invalidations). x.snapshot) n ∙ K.0, ap (λ (x : Invalidations). x.seq) n ∙ K.1, K.2)
-ends_same (Retry (Entry word read seen)) z gfn write t u walk search host claim n (inl W) = inl (subst (IsInTheWay word read seen z gfn) (sym walk) W)
-ends_same (Retry (Entry word read seen)) z gfn write t u walk search host claim n (inr M) = inr (record {
-  looked_up = same_looked_up gfn t u search host M.looked_up;
-  is_word = M.is_word ∙ ap (λ (x : Option HostLook). host_word_at z x) (sym host);
-  holds = ap (λ (x : Option HostLook). word_looked x) host ∙ M.holds;
-  why = M.why;
-})
+ends_same (Fixed marked) z gfn write t u walk search host claim n K = record {
+  found = same_found gfn t u search K.found;
+  entry = same_entry gfn write t u walk K.entry;
+  fixed = subst (λ (w : TableWalk). IsFixed w.entry) (sym walk) K.fixed;
+  marks = K.marks ∙ ap (λ (s : SlotSearch). s.logged) (sym search);
+}
+ends_same (Retry fast cause) z gfn write t u walk search host claim n K = record {
+  has = cause_same cause z gfn t u walk search host n K.has;
+  lost = λ is. subst (IsLostFix cause z gfn) (sym walk) (K.lost is);
+}
 
 pub same_without : (t u : Topics) → u.stay ≡ t.stay → u.owned ≡ t.owned → u.hold ≡ t.hold → u.invalidations ≡ t.invalidations → u.owed ≡ t.owed
     → WithoutLock t → WithoutLock u

@@ -21,7 +21,7 @@ use Rattle.mmu_core.specs.declared.share.ShareNext.{ShareNext}
 use Rattle.mmu_core.specs.declared.share.ShareNext.TheVariants as shares
 use Rattle.mmu_core.specs.lines.FaultSteps.{after_share, allows_access, check_next, check_part, fault_next, fault_part, find_next, found_next}
 use Rattle.mmu_core.specs.lines.FaultSteps.{is_last_word, share_next, share_part, snapshot_taken, walk_next}
-use Rattle.mmu_core.specs.lines.FaultSteps.{search_next, fast_find_next, fast_walk_next, put_next}
+use Rattle.mmu_core.specs.lines.FaultSteps.{search_next, fast_find_next, fast_walk_next, over_next, put_next}
 use Rattle.mmu_core.specs.lines.ClaimSteps.{FreeMap, Pages, Frames, claim_part, load_part, map_word, tries_one, try_part}
 use Rattle.mmu_core.specs.lines.ScanPlaces.{BegunNext, HasBegun, IsStarvedEnd}
 use Rattle.mmu_core.specs.lines.FaultKnows.{FaultKnows, IsRetry}
@@ -68,13 +68,13 @@ not_by_share _ = λ e. e
 not_by_check : (at : CheckStage) (gfn : ℕ) (t : Topics) (v : ℕ) → NotBegun (check_next at gfn t v)
 not_by_check stage.Count gfn t v = either_place NotBegun (v == 0) (Check stage.Seq) (Check stage.Start) (λ e. e) (λ e. e)
 not_by_check stage.Start gfn t v = λ e. e
-not_by_check stage.End gfn t v = either_place NotBegun (nat_le t.invalidations.start gfn && nat_lt gfn v) (Unshare (Retry _)) (Check stage.Seq) (λ e. e)
+not_by_check stage.End gfn t v = either_place NotBegun (nat_le t.invalidations.start gfn && nat_lt gfn v) (Unshare (Retry false _)) (Check stage.Seq) (λ e. e)
     (λ e. e)
-not_by_check stage.Seq gfn t v = either_place NotBegun (v == snapshot_taken t.invalidations.snapshot) (Walk false) (Unshare (Retry _)) (λ e. e) (λ e. e)
+not_by_check stage.Seq gfn t v = either_place NotBegun (v == snapshot_taken t.invalidations.snapshot) (Walk false) (Unshare (Retry false _)) (λ e. e) (λ e. e)
 
 not_by_walk : (k : SpteKind) (z : Sizes) (gfn : ℕ) (write : Bool) (walk : TableWalk) (v : ℕ) → NotBegun (walk_next k z gfn write walk v)
 not_by_walk entry_kind.Leaf z gfn write walk v =
-    either_place NotBegun (walk.level == 1) (if allows_access write v then Unshare Installed else Leaf write) (Unshare (Retry _))
+    either_place NotBegun (walk.level == 1) (if allows_access write v then Unshare Installed else Leaf write) (Unshare (Retry false _))
     (either_place NotBegun (allows_access write v) (Unshare Installed) (Leaf write) (λ e. e) (λ e. e)) (λ e. e)
 not_by_walk entry_kind.Absent z gfn write walk v = either_place NotBegun (walk.level == 1) (Leaf write) (Claim false) (λ e. e) (λ e. absurd (cc e))
 not_by_walk _ z gfn write walk v = λ e. e
@@ -85,13 +85,16 @@ not_by_fast_walk entry_kind.Absent walk v = λ e. e
 not_by_fast_walk entry_kind.Frozen walk v = λ e. e
 not_by_fast_walk (entry_kind.Table page) walk v = λ e. e
 
+not_by_over : (fast marked : Bool) → NotBegun (over_next fast marked)
+not_by_over true marked = λ e. e
+not_by_over false marked = λ e. e
+
 not_by_put : (fast marks : Bool) → NotBegun (put_next fast marks)
 not_by_put fast true = λ e. e
-not_by_put true false = λ e. e
-not_by_put false false = λ e. e
+not_by_put fast false = not_by_over fast false
 
 retry_starves_not : (e : FaultEnd) → IsRetry e → IsStarvedEnd e → ⊥
-retry_starves_not (Retry cause) retry starved = starved
+retry_starves_not (Retry fast cause) retry starved = starved
 retry_starves_not _ retry starved = retry
 
 pub fault_claims : (p : FaultPlace) (z : Sizes) (gfn : ℕ) (write : Bool) (t : Topics) (v : ℕ) → FaultKnows p z gfn write t
@@ -102,7 +105,7 @@ fault_claims (Find begun) z gfn write t v K e =
 fault_claims Host z gfn write t v K e =
     either_place NotBegun (write && not (host_allows_write v)) (End HostFault) (if host_present v then Share else Bring) (λ x. x)
     (either_place NotBegun (host_present v) Share Bring (λ x. x) (λ x. x)) e
-fault_claims Bring z gfn write t v K e = either_place NotBegun (v == word_looked t.host) Share (End (Retry _)) (λ x. x) (λ x. x) e
+fault_claims Bring z gfn write t v K e = either_place NotBegun (v == word_looked t.host) Share (End (Retry false _)) (λ x. x) (λ x. x) e
 fault_claims Share z gfn write t v K e = not_by_share (share_next t.hold v) e
 fault_claims (Check at) z gfn write t v K e = not_by_check at gfn t v e
 fault_claims (Walk rooted) z gfn write t v K e =
@@ -110,9 +113,9 @@ fault_claims (Walk rooted) z gfn write t v K e =
     (not_by_walk (kind_of t.walk.level v) z gfn write t.walk v) (λ x. x) e
 fault_claims (Claim begun) z gfn write t v K e = tt
 fault_claims Fill z gfn write t v K e = either_place NotBegun (nat_lt (words_filled t.owned + 1) 512) Fill Role (λ x. x) (λ x. x) e
-fault_claims Link z gfn write t v K e = either_place NotBegun (v == t.walk.entry) (Walk true) (Give (Retry _)) (λ x. x) (λ x. x) e
+fault_claims Link z gfn write t v K e = either_place NotBegun (v == t.walk.entry) (Walk true) (Give (Retry false _)) (λ x. x) (λ x. x) e
 fault_claims (Leaf writes) z gfn write t v K e =
-    either_place NotBegun (v == t.walk.entry) (put_next false (writes && t.search.logged)) (Unshare (Retry _)) (not_by_put false _) (λ x. x) e
+    either_place NotBegun (v == t.walk.entry) (put_next false (writes && t.search.logged)) (Unshare (Retry false _)) (not_by_put false _) (λ x. x) e
 fault_claims (Give end) z gfn write t v K e = absurd (retry_starves_not end K.5 e)
 fault_claims (FastFind begun) z gfn write t v K e =
     either_place NotBegun begun (fast_find_next gfn t.search.next (searched t.search v)) (FastFind true)
@@ -121,8 +124,8 @@ fault_claims (FastWalk rooted) z gfn write t v K e =
     either_place NotBegun rooted (fast_walk_next (kind_of t.walk.level v) t.walk v) (FastWalk true)
     (not_by_fast_walk (kind_of t.walk.level v) t.walk v) (λ x. x) e
 fault_claims Fix z gfn write t v K e =
-    either_place NotBegun (v == t.walk.entry) (put_next true t.search.logged) (End (Retry _)) (not_by_put true _) (λ x. x) e
-fault_claims (Mark fast) z gfn write t v K e = not_by_put fast false e
+    either_place NotBegun (v == t.walk.entry) (put_next true t.search.logged) (End (Retry true _)) (not_by_put true _) (λ x. x) e
+fault_claims (Mark fast) z gfn write t v K e = not_by_over fast true e
 fault_claims _ z gfn write t v K e = e
 
 -- ---- which steps claim

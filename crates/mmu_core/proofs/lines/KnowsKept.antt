@@ -132,8 +132,9 @@ fault_over_known (next_of.Ends end_of.Installed) gfn word op g K = K
 fault_over_known (next_of.Ends end_of.Mmio) gfn word op g K = K
 fault_over_known (next_of.Ends end_of.HostFault) gfn word op g K = K
 fault_over_known (next_of.Ends end_of.Starved) gfn word op g K = K
+fault_over_known (next_of.Ends (end_of.Fixed marked)) gfn word op g K = K
 fault_over_known (next_of.Ends (end_of.NotFast seen)) gfn word op g K = K
-fault_over_known (next_of.Ends (end_of.Retry cause)) gfn word op g K = K
+fault_over_known (next_of.Ends (end_of.Retry fast cause)) gfn word op g K = K
 
 -- after each step of an access
 pub access_known : (p : AccessPlace) (line : Line) (h : Held) (gfn word : ℕ) (op : Op) (cached : Buffer Translation) (v : ℕ)

@@ -1,8 +1,9 @@
 -- What a fault knows after it has put a leaf, or allowed writes in one, and after it has marked the page.
-use Rattle.std.proofs.Common.{◌≡◌, inl, ◌+◌, ◌*◌, ◌/◌, ◌%◌, ◌≤◌, ℕ, refl, sym, subst, ap, ◌∙◌, arith}
+use Rattle.std.proofs.Common.{◌≡◌, ◌≢◌, inl, ◌+◌, ◌*◌, ◌/◌, ◌%◌, ◌≤◌, ℕ, refl, sym, subst, ap, ◌∙◌, arith}
 use Rattle.std.specs.Prelude.{Bool, true, false, ◌==◌, ◌&&◌, ◌||◌, not, if◌then◌else◌, Option, Some, None}
 use Rattle.std.proofs.lemmas.Bool.Decides.{nat_tests}
 use Rattle.core_views.specs.declared.place.FaultPlace.TheVariants.{End, Unshare}
+use Rattle.core_views.specs.declared.place.Cause.TheVariants.{Entry}
 use Rattle.core_views.specs.declared.sizes.Sizes.{Sizes}
 use Rattle.core_views.specs.declared.topics.HostLook.{HostLook}
 use Rattle.core_views.specs.declared.topics.TableWalk.{TableWalk}
@@ -10,19 +11,19 @@ use Rattle.core_views.specs.declared.topics.Topics.{Topics}
 use Rattle.core_views.specs.declared.trace.Slot.{Slot}
 use Rattle.spte_words.specs.declared.spte_kind.SpteKind.{SpteKind}
 use Rattle.spte_words.specs.declared.spte_kind.SpteKind.TheVariants as entry_kind
-use Rattle.spte_words.specs.Entries.{can_write, kind_of, level_span}
+use Rattle.spte_words.specs.Entries.{can_write, kind_of, level_span, with_write, without_write}
 use Rattle.spte_words.specs.HostWords.{host_allows_write, host_frame}
-use Rattle.spte_words.proofs.FixedEntries.{fixed_can_write, fixed_kind}
+use Rattle.spte_words.proofs.FixedEntries.{fixed_back, fixed_can_write, fixed_kind}
 use Rattle.spte_words.proofs.ReadsEntries.{kind_of_leaf, leaf_can_write}
 use Rattle.spte_words.proofs.Spans.{span_1}
-use Rattle.mmu_core.specs.lines.FaultKnows.{Entering, FastFound, FaultKnows, HasEntry, Marks}
-use Rattle.mmu_core.specs.lines.FaultSteps.{allows_access, exchange_lost, put_next}
-use Rattle.part_steps.specs.PartHoldings.{IsOver, LookedUp, MayFix, SawEntry}
+use Rattle.mmu_core.specs.lines.FaultKnows.{Entering, FastFound, FaultKnows, HasEntry, IsFixed, IsLost, Marks}
+use Rattle.mmu_core.specs.lines.FaultSteps.{allows_access, entry_word, exchange_lost, over_next, put_next}
+use Rattle.part_steps.specs.PartHoldings.{IsOver, LookedUp, MayFix, SawEntry, is_fixable}
 use Rattle.part_steps.specs.PartTasks.{entry_index, leaf_fixed, leaf_written, puts_write, word_looked}
 use Rattle.part_steps.specs.PartTopics.{exchanged}
 use Rattle.part_steps.specs.SlotWords.{leaf_of, may_write}
 use Rattle.part_steps.specs.WalkTopics.{gone_down, linked_page, owed_after, unless_linked}
-use Rattle.mmu_core.proofs.lines.FaultSame.{both, is_not, same_entry, same_found, same_inside}
+use Rattle.mmu_core.proofs.lines.FaultSame.{both, is_not, same_entry, same_found, same_inside, whole_anew}
 use Rattle.mmu_core.proofs.lines.WalkKnown.{saw_it}
 
 -- An entry above the lowest level owes no mark.
@@ -147,17 +148,19 @@ puts_marks gfn write t E = leaf_marks write t.search.logged t.search.slot (word_
         ap (λ (x : Option HostLook). may_write t.search.slot (word_looked x)) L.host
         ∙ ap (λ (b : Bool). b && not t.search.slot.read_only) M.1 ∙ ap (λ (b : Bool). not b) M.0
 
-leaf_ends : (marks : Bool) (z : Sizes) (gfn new_ v : ℕ) (write : Bool) (t : Topics) → Entering gfn write t → t.owned ≡ None → IsPut gfn write t new_
-    → FaultKnows (put_next false marks) z gfn write (put_at gfn new_ v marks t)
-leaf_ends true z gfn new_ v write t E none P = record {
+leaf_ends : (marks : Bool) (z : Sizes) (gfn new_ v : ℕ) (write : Bool) (t : Topics) → (marks ≡ true → t.search.logged ≡ true) → Entering gfn write t
+    → t.owned ≡ None → IsPut gfn write t new_ → FaultKnows (put_next false marks) z gfn write (put_at gfn new_ v marks t)
+leaf_ends true z gfn new_ v write t logged E none P = record {
   section = E.sharing.section;
   owns_none = none;
   held = E.sharing.shares;
   owes = refl;
   found = same_found gfn t _ refl E.sharing.looked.looked_up.found;
   entry = has_entry gfn new_ v write true t P;
+  logged = logged refl;
+  fixed = λ e. absurd (cc e);
 }
-leaf_ends false z gfn new_ v write t E none P = (
+leaf_ends false z gfn new_ v write t logged E none P = (
   record { section = E.sharing.section; owns_none = none; owes_none = refl },
   E.sharing.shares,
   has_entry gfn new_ v write false t P,
@@ -165,21 +168,22 @@ leaf_ends false z gfn new_ v write t E none P = (
 
 pub leaf_known : (b writes : Bool) (z : Sizes) (gfn : ℕ) (write : Bool) (t : Topics) (v : ℕ) → (v == t.walk.entry) ≡ b → Entering gfn write t → t.owned ≡ None
     → SawEntry gfn t.walk → t.walk.level ≡ 1 → writes ≡ write
-    → FaultKnows (if b then put_next false (writes && t.search.logged) else Unshare (exchange_lost z gfn t.walk v)) z gfn write
+    → FaultKnows (if b then put_next false (writes && t.search.logged) else Unshare (exchange_lost false z gfn t.walk v)) z gfn write
     (exchanged b (entry_index gfn t.walk.level) (leaf_written writes t) t v)
 leaf_known true writes z gfn write t v is E none S low same = subst
     (λ (w : Bool). FaultKnows (put_next false (w && t.search.logged)) z gfn write (exchanged true (entry_index gfn t.walk.level) (leaf_written w t) t v))
     (sym same)
     (subst (λ (u : Topics). FaultKnows (put_next false (write && t.search.logged)) z gfn write u)
     (sym (put_is gfn (leaf_written write t) v write (write && t.search.logged) t P (puts_marks gfn write t E)))
-    (leaf_ends (write && t.search.logged) z gfn (leaf_written write t) v write t E none P))
+    (leaf_ends (write && t.search.logged) z gfn (leaf_written write t) v write t (λ is. (both write t.search.logged is).1) E none P))
   where
     P : IsPut gfn write t (leaf_written write t)
     P = leaf_put gfn write t E S low
 leaf_known false writes z gfn write t v is E none S low same = (
   record { section = E.sharing.section; owns_none = none; owes_none = E.sharing.owes_none },
   E.sharing.shares,
-  inl (record { saw = saw_it gfn v t.walk S.over; is_entry = refl; holds = refl; why = inl (grind (arith, nat_tests)) }),
+  whole_anew (Entry (entry_word z gfn t.walk) t.walk.entry v) z gfn _
+      (inl (record { saw = saw_it gfn v t.walk S.over; is_entry = refl; holds = refl; why = inl (grind (arith, nat_tests)) })),
 )
 
 -- ---- writes allowed by a fast fault
@@ -213,43 +217,75 @@ fix_marks gfn t M =
     and_true true = refl
     and_true false = refl
 
-fix_ends : (marks : Bool) (z : Sizes) (gfn v : ℕ) (write : Bool) (t : Topics) → FastFound gfn t → IsPut gfn write t (leaf_fixed t)
-    → FaultKnows (put_next true marks) z gfn write (put_at gfn (leaf_fixed t) v marks t)
-fix_ends true z gfn v write t F P = record {
+fix_is : (gfn : ℕ) (t : Topics) → MayFix gfn t → IsFixed (leaf_fixed t)
+fix_is gfn t M = record { fixable = ap is_fixable back ∙ M.fixable; set = ap with_write back }
+  where
+    back : without_write (leaf_fixed t) ≡ t.walk.entry
+    back = fixed_back t.walk.entry (is_not (can_write t.walk.entry) (both (not (can_write t.walk.entry)) _ M.fixable).0)
+
+fix_ends : (marks : Bool) (z : Sizes) (gfn v : ℕ) (write : Bool) (t : Topics) → t.search.logged ≡ marks → FastFound gfn t → MayFix gfn t
+    → IsPut gfn write t (leaf_fixed t) → FaultKnows (put_next true marks) z gfn write (put_at gfn (leaf_fixed t) v marks t)
+fix_ends true z gfn v write t logged F M P = record {
   section = F.inside.section;
   owns_none = F.inside.owns_none;
   held = F.loose;
   owes = refl;
   found = same_found gfn t _ refl F.found;
   entry = has_entry gfn (leaf_fixed t) v write true t P;
+  logged = logged;
+  fixed = λ e. fix_is gfn t M;
 }
-fix_ends false z gfn v write t F P = (
+fix_ends false z gfn v write t logged F M P = (
   record { section = F.inside.section; owns_none = F.inside.owns_none; owes_none = refl },
   F.loose,
-  has_entry gfn (leaf_fixed t) v write false t P,
+  record {
+    found = same_found gfn t _ refl F.found;
+    entry = has_entry gfn (leaf_fixed t) v write false t P;
+    fixed = fix_is gfn t M;
+    marks = sym logged;
+  },
 )
 
 pub fix_known : (b : Bool) (z : Sizes) (gfn : ℕ) (write : Bool) (t : Topics) (v : ℕ) → (v == t.walk.entry) ≡ b → FastFound gfn t → MayFix gfn t
-    → FaultKnows (if b then put_next true t.search.logged else End (exchange_lost z gfn t.walk v)) z gfn write
+    → FaultKnows (if b then put_next true t.search.logged else End (exchange_lost true z gfn t.walk v)) z gfn write
     (exchanged b (entry_index gfn t.walk.level) (leaf_fixed t) t v)
 fix_known true z gfn write t v is F M =
     subst (λ (u : Topics). FaultKnows (put_next true t.search.logged) z gfn write u)
     (sym (put_is gfn (leaf_fixed t) v write t.search.logged t P (fix_marks gfn t M)))
-    (fix_ends t.search.logged z gfn v write t F P)
+    (fix_ends t.search.logged z gfn v write t refl F M P)
   where
     P : IsPut gfn write t (leaf_fixed t)
     P = fix_put gfn write t M
 fix_known false z gfn write t v is F M = (
   same_inside t _ refl refl refl F.inside,
   F.loose,
-  inl (record { saw = saw_it gfn v t.walk M.saw.over; is_entry = refl; holds = refl; why = inl (grind (arith, nat_tests)) }),
+  record {
+    has = inl (record { saw = saw_it gfn v t.walk M.saw.over; is_entry = refl; holds = refl; why = inl differs });
+    lost =
+        λ e.
+        record {
+          saw = saw_it gfn v t.walk M.saw.over;
+          lowest = M.lowest;
+          is_entry = refl;
+          holds = refl;
+          leaf = ap (λ l. kind_of l t.walk.entry) (sym M.lowest) ∙ M.leaf;
+          fixable = M.fixable;
+          differs = differs;
+        };
+  },
 )
+  where
+    differs : t.walk.entry ≢ v
+    differs = grind (arith, nat_tests)
 
 -- ---- the mark
 
 pub mark_known : (fast : Bool) (z : Sizes) (gfn : ℕ) (write : Bool) (t : Topics) → Marks fast gfn write t
-    → FaultKnows (put_next fast false) z gfn write (record t { owed = None })
-mark_known true z gfn write t K =
-    (record { section = K.section; owns_none = K.owns_none; owes_none = refl }, K.held, same_entry gfn write t _ refl K.entry)
+    → FaultKnows (over_next fast true) z gfn write (record t { owed = None })
+mark_known true z gfn write t K = (
+  record { section = K.section; owns_none = K.owns_none; owes_none = refl },
+  K.held,
+  record { found = same_found gfn t _ refl K.found; entry = same_entry gfn write t _ refl K.entry; fixed = K.fixed refl; marks = sym K.logged },
+)
 mark_known false z gfn write t K =
     (record { section = K.section; owns_none = K.owns_none; owes_none = refl }, K.held, same_entry gfn write t _ refl K.entry)

@@ -36,7 +36,7 @@ use Rattle.part_steps.specs.PageTopics.{searched, searched_at}
 use Rattle.part_steps.specs.ControlTopics.{at_set, count_checked, range_checked, seq_checked, start_checked}
 use Rattle.mmu_core.proofs.lines.ShareMade.{ShareMade}
 use Rattle.mmu_core.proofs.lines.ShareMade as share
-use Rattle.mmu_core.proofs.lines.FaultSame.{both, ends_same, is_not, not_not, not_then, over_it, same_looked, same_sharing, same_without}
+use Rattle.mmu_core.proofs.lines.FaultSame.{both, ends_same, is_not, not_not, not_then, over_it, same_looked, same_sharing, same_without, whole_anew}
 
 -- the section, and the snapshot
 without_lock : (t : Topics) (v : ℕ) → InSection t → t.hold ≡ Loose → WithoutLock (sequenced true t v)
@@ -125,7 +125,7 @@ brought gfn t v L = record {
 
 pub bring_known : (b : Bool) (z : Sizes) (gfn : ℕ) (write : Bool) (t : Topics) (v : ℕ) → (v == word_looked t.host) ≡ b → WithoutLock t
     → LookedFor false gfn write t
-    → FaultKnows (if b then Share else End (Retry (Entry (host_word_at z t.host) (word_looked t.host) v))) z gfn write
+    → FaultKnows (if b then Share else End (Retry false (Entry (host_word_at z t.host) (word_looked t.host) v))) z gfn write
     (record t { host = Some (record { page = page_looked t.host; word = if b then with_presence true (word_looked t.host) else v }) })
 bring_known true z gfn write t v is W L =
     let w : ℕ = word_looked t.host in (
@@ -147,7 +147,8 @@ bring_known true z gfn write t v is W L =
 bring_known false z gfn write t v is W L = (
   record { section = W.inside.section; owns_none = W.inside.owns_none; owes_none = W.inside.owes_none },
   W.loose,
-  inr (record { looked_up = brought gfn t v L.looked_up; is_word = refl; holds = refl; why = grind (arith, nat_tests) }),
+  whole_anew (Entry (host_word_at z t.host) (word_looked t.host) v) z gfn _
+      (inr (record { looked_up = brought gfn t v L.looked_up; is_word = refl; holds = refl; why = grind (arith, nat_tests) })),
 )
 
 -- the lock
@@ -184,11 +185,14 @@ past start gfn end_ e = by (nat_le start gfn) refl
 
 range_known : (b : Bool) (z : Sizes) (gfn : ℕ) (write : Bool) (t : Topics) (v : ℕ) → (nat_le t.invalidations.start gfn && nat_lt gfn v) ≡ b
     → Sharing gfn write t → t.owned ≡ None → CheckKnows stage.End gfn t.invalidations
-    → FaultKnows (if b then Unshare (Retry (Open t.invalidations.count t.invalidations.start v gfn)) else Check stage.Seq) z gfn write
+    → FaultKnows (if b then Unshare (Retry false (Open t.invalidations.count t.invalidations.start v gfn)) else Check stage.Seq) z gfn write
     (record t { invalidations = record t.invalidations { end = v; checked = range_checked t.invalidations.checked } })
 range_known true z gfn write t v is S none K =
-    let O = over_it t.invalidations.start gfn v is in
-    (record { section = S.section; owns_none = none; owes_none = S.owes_none }, S.shares, (refl, K.1, O.0, O.1, refl, refl, refl))
+    let O = over_it t.invalidations.start gfn v is in (
+      record { section = S.section; owns_none = none; owes_none = S.owes_none },
+      S.shares,
+      whole_anew (Open t.invalidations.count t.invalidations.start v gfn) z gfn _ (refl, K.1, O.0, O.1, refl, refl, refl),
+    )
 range_known false z gfn write t v is S none K =
     (same_sharing gfn write t _ refl refl refl refl refl refl S, none, inr (ap (λ (x : Checked). range_checked x) K.0, past t.invalidations.start gfn v is))
 
@@ -207,7 +211,7 @@ none_open locked n gfn (inr c) = (ap (λ (x : Checked). seq_checked locked n.cou
 
 seq_by : (b : Bool) (z : Sizes) (gfn : ℕ) (write : Bool) (t : Topics) (v : ℕ) → (v == snapshot_taken t.invalidations.snapshot) ≡ b
     → Sharing gfn write t → t.owned ≡ None → CheckKnows stage.Seq gfn t.invalidations
-    → FaultKnows (if b then Walk false else Unshare (Retry (Moved (snapshot_taken t.invalidations.snapshot) v))) z gfn write (sequenced false t v)
+    → FaultKnows (if b then Walk false else Unshare (Retry false (Moved (snapshot_taken t.invalidations.snapshot) v))) z gfn write (sequenced false t v)
 seq_by true z gfn write t v is S none K =
     let N = none_open (has_lock t.hold) t.invalidations gfn K in
     let same : v ≡ snapshot_taken t.invalidations.snapshot = grind (arith, nat_tests) in (
@@ -221,7 +225,7 @@ seq_by true z gfn write t v is S none K =
 seq_by false z gfn write t v is S none K = (
   record { section = S.section; owns_none = none; owes_none = S.owes_none },
   S.shares,
-  (taken t.invalidations.snapshot S.looked.snapshot, refl, grind (arith, nat_tests)),
+  whole_anew (Moved (snapshot_taken t.invalidations.snapshot) v) z gfn _ (taken t.invalidations.snapshot S.looked.snapshot, refl, grind (arith, nat_tests)),
 )
 
 pub check_known : (at : CheckStage) (z : Sizes) (gfn : ℕ) (write : Bool) (t : Topics) (v : ℕ) → Sharing gfn write t → t.owned ≡ None

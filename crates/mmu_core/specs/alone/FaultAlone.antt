@@ -3,7 +3,7 @@
 use Rattle.std.specs.Prelude.{◌≡◌, ◌/◌, ◌^◌, ◌<◌, ℕ, Bool, true, false, Some}
 use Rattle.core_views.specs.declared.place.CheckStage.TheVariants as stage
 use Rattle.core_views.specs.declared.place.FaultEnd.{FaultEnd}
-use Rattle.core_views.specs.declared.place.FaultEnd.TheVariants.{HostFault, Installed, Mmio, Retry}
+use Rattle.core_views.specs.declared.place.FaultEnd.TheVariants.{Fixed, HostFault, Installed, Mmio, Retry}
 use Rattle.core_views.specs.declared.place.FaultNext.{FaultNext}
 use Rattle.core_views.specs.declared.place.FaultNext.TheVariants.{Goes, Ends}
 use Rattle.core_views.specs.declared.place.FaultPlace.{FaultPlace}
@@ -56,9 +56,10 @@ pub record HostForbidsPage (set : ℕ) (pool host : ℕ → ℕ) (gfn : ℕ) (wr
 -- set has a page for the access; where it ends with a host fault, the host forbids this write; no fault begins anew.
 abbrev pub EndAlone : FaultEnd → ℕ → ℕ → (ℕ → ℕ) → (ℕ → ℕ) → ℕ → Bool → Type 0
 EndAlone Installed root set pool host gfn write = LeadsToLeaf pool 4 root gfn write
+EndAlone (Fixed marked) root set pool host gfn write = LeadsToLeaf pool 4 root gfn write
 EndAlone Mmio root set pool host gfn write = NoneHasPage gfn write pool set
 EndAlone HostFault root set pool host gfn write = HostForbidsPage set pool host gfn write
-EndAlone (Retry cause) root set pool host gfn write = ⊥
+EndAlone (Retry fast cause) root set pool host gfn write = ⊥
 EndAlone _ root set pool host gfn write = Unit {0}
 
 -- What a fault knows of the words at each place, where no other actor is in its way: the slots before its search don't have the guest frame; the host word

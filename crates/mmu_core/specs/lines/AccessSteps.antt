@@ -56,11 +56,12 @@ touch_of (Add x) index = record { kind = kind.Add; area = area.Content; index = 
 -- what becomes of the access after its fault: an exit, or another stay in the guest
 abbrev pub fault_over : FaultEnd → Outcome
 fault_over end_of.Installed = Goes (Access (Enter true))
+fault_over (end_of.Fixed marked) = Goes (Access (Enter true))
 fault_over end_of.Mmio = Ends Mmio
 fault_over end_of.HostFault = Ends HostFault
 fault_over end_of.Starved = Ends Starved
 fault_over (end_of.NotFast word) = Goes (Access (Fault fault.Begin))
-fault_over (end_of.Retry cause) = Goes (Access (Enter false))
+fault_over (end_of.Retry fast cause) = Goes (Access (Enter false))
 
 -- 1 where the line may end with the step
 abbrev pub ends_with : Outcome → ℕ

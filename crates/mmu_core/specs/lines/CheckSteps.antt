@@ -26,6 +26,6 @@ abbrev pub check_next : CheckStage → ℕ → Topics → ℕ → FaultPlace
 check_next stage.Count gfn t v = if v == 0 then Check stage.Seq else Check stage.Start
 check_next stage.Start gfn t v = Check stage.End
 check_next stage.End gfn t v =
-    if nat_le t.invalidations.start gfn && nat_lt gfn v then Unshare (Retry (Open t.invalidations.count t.invalidations.start v gfn)) else Check stage.Seq
+    if nat_le t.invalidations.start gfn && nat_lt gfn v then Unshare (Retry false (Open t.invalidations.count t.invalidations.start v gfn)) else Check stage.Seq
 check_next stage.Seq gfn t v =
-    if v == snapshot_taken t.invalidations.snapshot then Walk false else Unshare (Retry (Moved (snapshot_taken t.invalidations.snapshot) v))
+    if v == snapshot_taken t.invalidations.snapshot then Walk false else Unshare (Retry false (Moved (snapshot_taken t.invalidations.snapshot) v))

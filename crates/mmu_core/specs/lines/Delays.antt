@@ -26,7 +26,7 @@ line_waits p command h v = waits_by (part_at p command h) h.topics v
 
 -- The line's fault ends with this step and begins anew.
 abbrev pub begins_anew : Place → Bool
-begins_anew (place.Access (Fault (fault.End (end_of.Retry cause)))) = true
+begins_anew (place.Access (Fault (fault.End (end_of.Retry fast cause)))) = true
 begins_anew _ = false
 
 -- The access walks, in the stay after a fault that has installed an entry.

@@ -1,6 +1,6 @@
 -- Where a search of the slots leads a fault, a whole one or a fast one; and what a fast one does with an entry (locking.rst, "Fast page fault").
 use Rattle.std.specs.Prelude.{ℕ, Bool, true, false, ◌==◌, ◌&&◌, if◌then◌else◌}
-use Rattle.core_views.specs.declared.place.FaultEnd.TheVariants.{Installed, NotFast}
+use Rattle.core_views.specs.declared.place.FaultEnd.TheVariants.{Installed, Fixed, NotFast}
 use Rattle.core_views.specs.declared.place.FaultPlace.{FaultPlace}
 use Rattle.core_views.specs.declared.place.FaultPlace.TheVariants.{Unshare, End, FastFind, FastWalk, Fix, Mark}
 use Rattle.core_views.specs.declared.place.SlotField.{SlotField}
@@ -37,6 +37,10 @@ abbrev pub fast_walk_next : SpteKind → TableWalk → ℕ → FaultPlace
 fast_walk_next (entry_kind.Table page) walk v = FastWalk true
 fast_walk_next entry walk v = if is_fast entry walk.level v then Fix else End (NotFast v)
 
+-- once a leaf was put, or writes allowed in it, and the page marked or not
+abbrev pub over_next : Bool → Bool → FaultPlace
+over_next fast marked = if fast then End (Fixed marked) else Unshare Installed
+
 -- after a leaf was put, or writes allowed in it: where the slot has a dirty log the page is marked
 abbrev pub put_next : Bool → Bool → FaultPlace
-put_next fast marks = if marks then Mark fast else if fast then End Installed else Unshare Installed
+put_next fast marks = if marks then Mark fast else over_next fast false

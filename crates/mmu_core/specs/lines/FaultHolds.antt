@@ -1,18 +1,23 @@
--- What a fault holds, as its places ask it: of the section, of the look-up, of the check, and of the entry that it has come to.
-use Rattle.std.specs.Prelude.{◌≡◌, ◌<◌, ◌≤◌, ◌⊎◌, ℕ, Bool, true, false, None, is_some}
+-- What a fault holds, as its places ask it: of the section, of the look-up, of the check, and of the entry that it has come to; and what a fast one has
+-- made of it.
+use Rattle.std.specs.Prelude.{◌≡◌, ◌≢◌, ◌<◌, ◌≤◌, ◌⊎◌, ℕ, Bool, true, false, None, is_some}
+use Rattle.core_views.specs.declared.place.Cause.{Cause}
+use Rattle.core_views.specs.declared.place.Cause.TheVariants.{Entry}
 use Rattle.core_views.specs.declared.place.CheckStage.{CheckStage}
 use Rattle.core_views.specs.declared.place.CheckStage.TheVariants as stage
 use Rattle.core_views.specs.declared.topics.Checked.TheVariants as checked
 use Rattle.core_views.specs.declared.topics.Hold.TheVariants.{Loose, Shared}
 use Rattle.core_views.specs.declared.topics.Invalidations.{Invalidations}
 use Rattle.core_views.specs.declared.topics.Stay.TheVariants.{Section}
+use Rattle.core_views.specs.declared.sizes.Sizes.{Sizes}
+use Rattle.core_views.specs.declared.topics.TableWalk.{TableWalk}
 use Rattle.core_views.specs.declared.topics.Topics.{Topics}
 use Rattle.spte_words.specs.declared.spte_kind.SpteKind.TheVariants as entry_kind
-use Rattle.spte_words.specs.Entries.{kind_of}
+use Rattle.spte_words.specs.Entries.{kind_of, with_write, without_write}
 use Rattle.spte_words.specs.HostWords.{host_allows_write, host_present}
-use Rattle.mmu_core.specs.lines.FaultSteps.{allows_access}
+use Rattle.mmu_core.specs.lines.FaultSteps.{allows_access, entry_word}
 use Rattle.part_steps.specs.PartTasks.{word_looked}
-use Rattle.part_steps.specs.PartHoldings.{IsFresh, LookedUp, SawEntry}
+use Rattle.part_steps.specs.PartHoldings.{FoundSlot, IsFresh, LookedUp, SawEntry, is_fixable}
 
 -- In a section, with no page, and no mark owed; without the lock, or sharing it.
 pub record InSection (t : Topics) : Type 0 where
@@ -63,3 +68,30 @@ pub record HasEntry (gfn : ℕ) (write : Bool) (t : Topics) : Type 0 where
   pub lowest : t.walk.level ≡ 1
   pub leaf : kind_of 1 t.walk.entry ≡ entry_kind.Leaf
   pub allows : allows_access write t.walk.entry ≡ true
+
+-- The entry is a leaf that forbade nothing but the write, with write permission set in this very word.
+pub record IsFixed (entry : ℕ) : Type 0 where
+  pub fixable : is_fixable (without_write entry) ≡ true
+  pub set : with_write (without_write entry) ≡ entry
+
+-- A fast fault has allowed the write so, in the entry that it had read; and the page was marked exactly where the slot that it found has a dirty log.
+pub record HasFixed (marked : Bool) (gfn : ℕ) (write : Bool) (t : Topics) : Type 0 where
+  pub found : FoundSlot gfn t
+  pub entry : HasEntry gfn write t
+  pub fixed : IsFixed t.walk.entry
+  pub marks : marked ≡ t.search.logged
+
+-- Its exchange was lost: this word is the guest frame's entry of the lowest level, which was read as a leaf that forbids nothing but the write, and was seen as
+-- another number.
+pub record IsLost (word read seen : ℕ) (z : Sizes) (gfn : ℕ) (walk : TableWalk) : Type 0 where
+  pub saw : SawEntry gfn walk
+  pub lowest : walk.level ≡ 1
+  pub is_entry : word ≡ entry_word z gfn walk
+  pub holds : walk.entry ≡ seen
+  pub leaf : kind_of 1 read ≡ entry_kind.Leaf
+  pub fixable : is_fixable read ≡ true
+  pub differs : read ≢ seen
+
+abbrev pub IsLostFix : Cause → Sizes → ℕ → TableWalk → Type 0
+IsLostFix (Entry word read seen) z gfn walk = IsLost word read seen z gfn walk
+IsLostFix _ z gfn walk = ⊥

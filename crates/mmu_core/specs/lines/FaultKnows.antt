@@ -3,7 +3,7 @@ use Rattle.std.specs.Prelude.{◌≡◌, ◌≢◌, ◌-◌, ◌<◌, ◌≤◌,
 use Rattle.core_views.specs.declared.place.Cause.{Cause}
 use Rattle.core_views.specs.declared.place.Cause.TheVariants.{Open, Moved, Entry}
 use Rattle.core_views.specs.declared.place.FaultEnd.{FaultEnd}
-use Rattle.core_views.specs.declared.place.FaultEnd.TheVariants.{Installed, Mmio, HostFault, Starved, NotFast, Retry}
+use Rattle.core_views.specs.declared.place.FaultEnd.TheVariants.{Installed, Mmio, HostFault, Starved, Fixed, NotFast, Retry}
 use Rattle.core_views.specs.declared.place.FaultNext.{FaultNext}
 use Rattle.core_views.specs.declared.place.FaultNext.TheVariants.{Goes, Ends}
 use Rattle.core_views.specs.declared.place.FaultPlace.{FaultPlace}
@@ -20,7 +20,8 @@ use Rattle.spte_words.specs.Areas.{words_of_bits}
 use Rattle.spte_words.specs.Entries.{can_write, host_writable, kind_of, mmu_writable}
 use Rattle.spte_words.specs.HostWords.{host_allows_write}
 pub use Rattle.mmu_core.specs.lines.ShareSteps.{is_trying}
-pub use Rattle.mmu_core.specs.lines.FaultHolds.{CheckKnows, Entering, HasEntry, InSection, LookedFor, SawAbsentEntry, Sharing, WithoutLock}
+pub use Rattle.mmu_core.specs.lines.FaultHolds.{CheckKnows, Entering, HasEntry, HasFixed, InSection, IsFixed, IsLost, IsLostFix}
+pub use Rattle.mmu_core.specs.lines.FaultHolds.{LookedFor, SawAbsentEntry, Sharing, WithoutLock}
 use Rattle.mmu_core.specs.lines.FaultSteps.{entry_word, host_word_at}
 use Rattle.part_steps.specs.PartTasks.{is_absent, word_looked}
 use Rattle.part_steps.specs.PartHoldings.{FoundSlot, HasRoleToSet, HasToFill, HoldsSet, IsOver, LookedUp, MayFix, OwnsPage, OwnsTable, SawEntry}
@@ -33,7 +34,8 @@ pub record FastFound (gfn : ℕ) (t : Topics) : Type 0 where
   pub loose : t.hold ≡ Loose
   pub found : FoundSlot gfn t
 
--- An entry that allows the access was put at the guest frame, whose slot has a dirty log: a mark is owed, under the shared lock or without it.
+-- An entry that allows the access was put at the guest frame, whose slot has a dirty log: a mark is owed, under the shared lock or without it. A fast fault
+-- has allowed the write in the entry that it had read.
 pub record Marks (fast : Bool) (gfn : ℕ) (write : Bool) (t : Topics) : Type 0 where
   pub section : t.stay ≡ Section
   pub owns_none : t.owned ≡ None
@@ -41,6 +43,8 @@ pub record Marks (fast : Bool) (gfn : ℕ) (write : Bool) (t : Topics) : Type 0 
   pub owes : t.owed ≡ Some gfn
   pub found : FoundSlot gfn t
   pub entry : HasEntry gfn write t
+  pub logged : t.search.logged ≡ true
+  pub fixed : fast ≡ true → IsFixed t.walk.entry
 
 -- The entry is no leaf of the lowest level, or allows the write already; or slot or host may forbid this.
 abbrev pub forbids_more : SpteKind → ℕ → ℕ → Bool
@@ -85,18 +89,24 @@ HasCause (Open count start end_ at) z gfn t =
 HasCause (Moved old_ now_) z gfn t = (t.invalidations.snapshot ≡ Some old_) × (t.invalidations.seq ≡ now_) × (now_ ≢ old_)
 HasCause (Entry word read seen) z gfn t = IsInTheWay word read seen z gfn t.walk ⊎ IsHostWordMoved word read seen z gfn t
 
+-- And where a fast fault begins anew: its exchange was lost.
+pub record Retries (fast : Bool) (cause : Cause) (z : Sizes) (gfn : ℕ) (t : Topics) : Type 0 where
+  pub has : HasCause cause z gfn t
+  pub lost : fast ≡ true → IsLostFix cause z gfn t.walk
+
 -- what the end of a fault rests on
 abbrev pub FaultEndKnows : FaultEnd → Sizes → ℕ → Bool → Topics → Type 0
 FaultEndKnows Installed z gfn write t = HasEntry gfn write t
 FaultEndKnows Mmio z gfn write t = FoundNoPage gfn write t
 FaultEndKnows HostFault z gfn write t = HostForbids gfn write t
 FaultEndKnows Starved z gfn write t = words_of_bits z.pool ≤ t.claim.at
+FaultEndKnows (Fixed marked) z gfn write t = HasFixed marked gfn write t
 FaultEndKnows (NotFast word) z gfn write t = SawNotFast word gfn t
-FaultEndKnows (Retry cause) z gfn write t = HasCause cause z gfn t
+FaultEndKnows (Retry fast cause) z gfn write t = Retries fast cause z gfn t
 
 -- A page is given back only where the fault is to begin anew.
 abbrev pub IsRetry : FaultEnd → Type 0
-IsRetry (Retry cause) = Unit {0}
+IsRetry (Retry fast cause) = Unit {0}
 IsRetry _ = ⊥
 
 -- what a fault knows at each place

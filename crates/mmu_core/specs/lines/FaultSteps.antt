@@ -36,7 +36,7 @@ use Rattle.part_steps.specs.SlotWords.{page_of}
 use Rattle.part_steps.specs.Tasks.{map_of}
 use Rattle.part_steps.specs.PageTopics.{searched}
 pub use Rattle.mmu_core.specs.lines.CheckSteps.{check_next, check_part, snapshot_taken}
-pub use Rattle.mmu_core.specs.lines.FastSteps.{fast_find_next, fast_walk_next, is_fast, is_last_word, put_next, search_next}
+pub use Rattle.mmu_core.specs.lines.FastSteps.{fast_find_next, fast_walk_next, is_fast, is_last_word, over_next, put_next, search_next}
 pub use Rattle.mmu_core.specs.lines.ClaimSteps.{Pages, claim_left, claim_next, claim_part, map_word, tries_one}
 pub use Rattle.mmu_core.specs.lines.PartWaits.{is_owing}
 pub use Rattle.mmu_core.specs.lines.ShareSteps.{share_left, share_next, share_part}
@@ -96,13 +96,13 @@ allows_access write w = not write || can_write w
 abbrev pub walk_next : SpteKind → Sizes → ℕ → Bool → TableWalk → ℕ → FaultPlace
 walk_next (entry_kind.Table page) z gfn write walk v = Walk true
 walk_next entry_kind.Leaf z gfn write walk v =
-    if walk.level == 1 then (if allows_access write v then Unshare Installed else Leaf write) else Unshare (Retry (Entry (entry_word z gfn walk) v v))
+    if walk.level == 1 then (if allows_access write v then Unshare Installed else Leaf write) else Unshare (Retry false (Entry (entry_word z gfn walk) v v))
 walk_next entry_kind.Absent z gfn write walk v = if walk.level == 1 then Leaf write else Claim false
-walk_next entry_kind.Frozen z gfn write walk v = Unshare (Retry (Entry (entry_word z gfn walk) v v))
+walk_next entry_kind.Frozen z gfn write walk v = Unshare (Retry false (Entry (entry_word z gfn walk) v v))
 
 -- after its exchange that is lost, which found v
-abbrev pub exchange_lost : Sizes → ℕ → TableWalk → ℕ → FaultEnd
-exchange_lost z gfn walk v = Retry (Entry (entry_word z gfn walk) walk.entry v)
+abbrev pub exchange_lost : Bool → Sizes → ℕ → TableWalk → ℕ → FaultEnd
+exchange_lost fast z gfn walk v = Retry fast (Entry (entry_word z gfn walk) walk.entry v)
 
 -- after a step of its claim: the page is to be filled, or no page is free
 abbrev pub after_claim : ClaimNext → FaultPlace
@@ -116,21 +116,21 @@ fault_next Begin z gfn write t v = Goes Snapshot
 fault_next Snapshot z gfn write t v = Goes (Find false)
 fault_next (Find begun) z gfn write t v = Goes (if begun then find_next gfn write t.search.next (searched t.search v) else Find true)
 fault_next Host z gfn write t v = Goes (page_next write v)
-fault_next Bring z gfn write t v = Goes (if v == word_looked t.host then Share else End (Retry (Entry (host_word_at z t.host) (word_looked t.host) v)))
+fault_next Bring z gfn write t v = Goes (if v == word_looked t.host then Share else End (Retry false (Entry (host_word_at z t.host) (word_looked t.host) v)))
 fault_next Share z gfn write t v = Goes (after_share (share_next t.hold v))
 fault_next (Check at) z gfn write t v = Goes (check_next at gfn t v)
 fault_next (Walk rooted) z gfn write t v = Goes (if rooted then walk_next (kind_of t.walk.level v) z gfn write t.walk v else Walk true)
 fault_next (Claim begun) z gfn write t v = Goes (after_claim (claim_next Pages begun z t.claim v))
 fault_next Fill z gfn write t v = Goes (if nat_lt (words_filled t.owned + 1) 512 then Fill else Role)
 fault_next Role z gfn write t v = Goes Link
-fault_next Link z gfn write t v = Goes (if v == t.walk.entry then Walk true else Give (exchange_lost z gfn t.walk v))
+fault_next Link z gfn write t v = Goes (if v == t.walk.entry then Walk true else Give (exchange_lost false z gfn t.walk v))
 fault_next (Give e) z gfn write t v = Goes (Unshare e)
 fault_next (Leaf writes) z gfn write t v =
-    Goes (if v == t.walk.entry then put_next false (writes && t.search.logged) else Unshare (exchange_lost z gfn t.walk v))
+    Goes (if v == t.walk.entry then put_next false (writes && t.search.logged) else Unshare (exchange_lost false z gfn t.walk v))
 fault_next (Unshare e) z gfn write t v = Goes (End e)
 fault_next (End e) z gfn write t v = Ends e
 fault_next FastBegin z gfn write t v = Goes (FastFind false)
 fault_next (FastFind begun) z gfn write t v = Goes (if begun then fast_find_next gfn t.search.next (searched t.search v) else FastFind true)
 fault_next (FastWalk rooted) z gfn write t v = Goes (if rooted then fast_walk_next (kind_of t.walk.level v) t.walk v else FastWalk true)
-fault_next Fix z gfn write t v = Goes (if v == t.walk.entry then put_next true t.search.logged else End (exchange_lost z gfn t.walk v))
-fault_next (Mark fast) z gfn write t v = Goes (put_next fast false)
+fault_next Fix z gfn write t v = Goes (if v == t.walk.entry then put_next true t.search.logged else End (exchange_lost true z gfn t.walk v))
+fault_next (Mark fast) z gfn write t v = Goes (over_next fast true)

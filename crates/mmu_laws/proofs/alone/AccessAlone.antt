@@ -101,8 +101,9 @@ module _ (gfn word : ℕ) (op : Op) (words : Area → ℕ → ℕ) where
   fault_form (next_of.Ends end_of.Mmio) t alone = tt
   fault_form (next_of.Ends end_of.HostFault) t alone = tt
   fault_form (next_of.Ends end_of.Starved) t alone = tt
+  fault_form (next_of.Ends (end_of.Fixed marked)) t alone = λ yes. alone
   fault_form (next_of.Ends (end_of.NotFast seen)) t alone = tt
-  fault_form (next_of.Ends (end_of.Retry cause)) t alone = absurd alone
+  fault_form (next_of.Ends (end_of.Retry fast cause)) t alone = absurd alone
 
 -- ---- in a sound world
 

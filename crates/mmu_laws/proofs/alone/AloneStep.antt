@@ -65,8 +65,8 @@ use Rattle.mmu_core.proofs.held.OwnPages.{own_words}
 
 never_anew : (p : Place) (command : Command) (h : Held) (words : Area → ℕ → ℕ) → RestsAt p command h → FormAlone p command words h.topics
     → begins_anew p ≡ false
-never_anew (place.Access (Fault (fault.End (end_of.Retry cause)))) (Access gfn word op) h words R alone = absurd alone
-never_anew (place.Access (Fault (fault.End (end_of.Retry cause)))) _ h words R alone = absurd R
+never_anew (place.Access (Fault (fault.End (end_of.Retry fast cause)))) (Access gfn word op) h words R alone = absurd alone
+never_anew (place.Access (Fault (fault.End (end_of.Retry fast cause)))) _ h words R alone = absurd R
 never_anew _ _ h words R alone = refl
 
 walks_installed : (p : Place) (command : Command) (words : Area → ℕ → ℕ) (t : Topics) → FormAlone p command words t → WalksInstalled p command words t

@@ -57,7 +57,8 @@ use Rattle.mmu_core.proofs.lines.ShareMade.{share_comes, share_made}
 use Rattle.mmu_core.proofs.pages.TreeStored.{entry_stored}
 use Rattle.core_views.specs.declared.topics.Stay.{Stay}
 use Rattle.mmu_laws.proofs.alone.FaultComes.{bring_alone, host_alone, share_alone, count_alone, seq_alone, installed, walk_alone, claim_alone, fill_alone}
-use Rattle.mmu_laws.proofs.alone.FaultComes.{keeps_pages, link_alone, leaf_alone, is_it, tries_pages, trying_loose, fast_find_alone, fast_walk_alone, put_alone}
+use Rattle.mmu_laws.proofs.alone.FaultComes.{keeps_pages, link_alone, leaf_alone, is_it, tries_pages, trying_loose, fast_find_alone, fast_walk_alone}
+use Rattle.mmu_laws.proofs.alone.FaultComes.{over_alone}
 use Rattle.mmu_laws.proofs.alone.FaultComes.{entry_still}
 use Rattle.core_views.specs.declared.topics.SlotSearch.{SlotSearch}
 use Rattle.core_views.specs.Slots.{contains}
@@ -175,7 +176,7 @@ next_alone z w a gfn note write Bring R =
     let v : ℕ = word_in z w area.Host (page_looked t.host) in
     let after : Area → ℕ → ℕ = words_after (part_task part.Bring a t note) (word_in z w) in
     bring_alone (after area.Root 0) (after area.Slots 0) (after area.Pool) (after area.Host) gfn write (v == word_looked t.host)
-    (End (Retry (Entry (host_word_at z t.host) (word_looked t.host) v))) (part_topics part.Bring t v) (is_it v (word_looked t.host) (sym R.alone))
+    (End (Retry false (Entry (host_word_at z t.host) (word_looked t.host) v))) (part_topics part.Bring t v) (is_it v (word_looked t.host) (sym R.alone))
 next_alone z w a gfn note write Share R =
     let t : Topics = (hand_in mmu w a).topics in
     let task : Task = part_task (share_part t.hold) a t note in
@@ -197,7 +198,7 @@ next_alone z w a gfn note write (Check stage.Seq) R =
     let v : ℕ = word_in z w area.Seq 0 in
     let snapshot : Option ℕ = t.invalidations.snapshot in
     seq_alone (word_in z w area.Root 0) (word_in z w area.Slots 0) (word_in z w area.Pool) (word_in z w area.Host) gfn write snapshot v
-    (Unshare (Retry (Moved (snapshot_taken snapshot) v))) (part_topics part.Seq t v)
+    (Unshare (Retry false (Moved (snapshot_taken snapshot) v))) (part_topics part.Seq t v)
     R.knows.0.looked.snapshot (R.seen.snapshot R.knows.0.section)
 next_alone z w a gfn note write (Walk false) R = tt
 next_alone z w a gfn note write (Walk true) R =
@@ -231,7 +232,7 @@ next_alone z w a gfn note write Link R =
     let v : ℕ = word_in z w area.Pool (pool_index (table_page t.walk) (entry_index gfn t.walk.level)) in
     let after : Area → ℕ → ℕ = words_after (part_task (part.Link gfn) a t note) (word_in z w) in
     link_alone (after area.Root 0) (after area.Slots 0) (after area.Pool) (after area.Host) gfn write (v == t.walk.entry)
-    (Give (exchange_lost z gfn t.walk v)) (part_topics (part.Link gfn) t v)
+    (Give (exchange_lost false z gfn t.walk v)) (part_topics (part.Link gfn) t v)
     (is_it v t.walk.entry R.alone)
 next_alone z w a gfn note write (Give e) R = absurd R.alone
 next_alone z w a gfn note write (Leaf writes) R =
@@ -241,7 +242,7 @@ next_alone z w a gfn note write (Leaf writes) R =
     let P : IsPut gfn write t (leaf_written writes t) =
     subst (λ (b : Bool). IsPut gfn write t (leaf_written b t)) (sym R.knows.4) (leaf_put gfn write t R.knows.0 R.knows.2 R.knows.3) in
     leaf_alone (after area.Root 0) (after area.Slots 0) (after area.Pool) (after area.Host) gfn write (v == t.walk.entry) false
-    (writes && t.search.logged) (Unshare (exchange_lost z gfn t.walk v)) (part_topics (part.Leaf gfn writes) t v) (is_it v t.walk.entry R.alone)
+    (writes && t.search.logged) (Unshare (exchange_lost false z gfn t.walk v)) (part_topics (part.Leaf gfn writes) t v) (is_it v t.walk.entry R.alone)
     (leaf_leads z w a gfn note write (Leaf writes) R (leaf_written writes t) P.over P.low P.leaf P.allows R.alone)
 next_alone z w a gfn note write Fix R =
     let t : Topics = (hand_in mmu w a).topics in
@@ -249,11 +250,11 @@ next_alone z w a gfn note write Fix R =
     let after : Area → ℕ → ℕ = words_after (part_task (part.Fix gfn) a t note) (word_in z w) in
     let P : IsPut gfn write t (leaf_fixed t) = fix_put gfn write t R.knows.1 in
     leaf_alone (after area.Root 0) (after area.Slots 0) (after area.Pool) (after area.Host) gfn write (v == t.walk.entry) true t.search.logged
-    (End (exchange_lost z gfn t.walk v)) (part_topics (part.Fix gfn) t v) (is_it v t.walk.entry R.alone)
+    (End (exchange_lost true z gfn t.walk v)) (part_topics (part.Fix gfn) t v) (is_it v t.walk.entry R.alone)
     (leaf_leads z w a gfn note write Fix R (leaf_fixed t) P.over P.low P.leaf P.allows R.alone)
 next_alone z w a gfn note write (Mark fast) R =
     let t : Topics = (hand_in mmu w a).topics in
-    put_alone (word_in z w area.Root 0) (word_in z w area.Slots 0) (word_in z w area.Pool) (word_in z w area.Host) gfn write fast false
+    over_alone (word_in z w area.Root 0) (word_in z w area.Slots 0) (word_in z w area.Pool) (word_in z w area.Host) gfn write fast true
     (record t { owed = None }) R.alone
 next_alone z w a gfn note write FastBegin R = tt
 next_alone z w a gfn note write (FastFind true) R =

@@ -24,7 +24,7 @@ use Rattle.mmu_core.specs.declared.claim.FreeMap.TheVariants.{Frames, Pages}
 use Rattle.mmu_core.specs.lines.ClaimSteps.{try_part}
 use Rattle.mmu_core.specs.lines.FaultKnows.{FaultKnows}
 use Rattle.mmu_core.specs.lines.FaultSteps.{allows_access, fault_next, fault_part, is_owing, snapshot_taken, walk_next, after_claim, after_share}
-use Rattle.mmu_core.specs.lines.FaultSteps.{fast_walk_next, put_next}
+use Rattle.mmu_core.specs.lines.FaultSteps.{fast_walk_next, over_next, put_next}
 use Rattle.mmu_core.specs.lines.ScanPlaces.{BegunNext, HasBegun, OfPages}
 use Rattle.mmu_core.specs.lines.ShareSteps.{is_trying}
 use Rattle.part_steps.specs.PartTasks.{entry_index, page_looked, table_page, word_looked, part_task}
@@ -149,10 +149,13 @@ module _ (root set : ℕ) (pool host : ℕ → ℕ) (gfn : ℕ) (write : Bool) w
   link_alone true end_ u is = tt
   link_alone false end_ u is = absurd (cc is)
 
+  pub over_alone : (fast marked : Bool) (u : Topics) → LeadsToLeaf pool 4 root gfn write → FaultAlone (over_next fast marked) root set pool host gfn write u
+  over_alone true marked u leads = leads
+  over_alone false marked u leads = leads
+
   pub put_alone : (fast marks : Bool) (u : Topics) → LeadsToLeaf pool 4 root gfn write → FaultAlone (put_next fast marks) root set pool host gfn write u
   put_alone fast true u leads = leads
-  put_alone true false u leads = leads
-  put_alone false false u leads = leads
+  put_alone fast false u leads = over_alone fast false u leads
 
   pub leaf_alone : (won fast marks : Bool) (end_ : FaultPlace) (u : Topics) → won ≡ true → LeadsToLeaf pool 4 root gfn write
       → FaultAlone (if won then put_next fast marks else end_) root set pool host gfn write u

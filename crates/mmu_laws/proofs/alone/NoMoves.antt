@@ -96,8 +96,9 @@ end_no_move end_of.Installed = tt
 end_no_move end_of.Mmio = (tt, tt)
 end_no_move end_of.HostFault = (tt, tt)
 end_no_move end_of.Starved = (tt, tt)
+end_no_move (end_of.Fixed marked) = tt
 end_no_move (end_of.NotFast seen) = tt
-end_no_move (end_of.Retry cause) = tt
+end_no_move (end_of.Retry fast cause) = tt
 
 access_no_move : (p : AccessPlace) (h : Held) (gfn word : ℕ) (op : Op) (v : ℕ) → AreNoMoves (access_tells p h gfn word op v)
 access_no_move (access.Pause again) h gfn word op v = (tt, tt)

@@ -47,7 +47,8 @@ use Rattle.part_steps.specs.Tasks.{map_of}
 use Rattle.part_steps.specs.StayTopics.{is_loose}
 use Rattle.part_steps.specs.WalkTopics.{gone_down, linked_page}
 use Rattle.part_steps.specs.PageTopics.{searched}
-use Rattle.mmu_laws.proofs.causes.CausePlaces.{FaultSaw, KnowsEntry, KnowsHostWord, end_longer, EndSaw, either_saw, find_saw, fast_find_saw, put_saw, tried_saw}
+use Rattle.mmu_laws.proofs.causes.CausePlaces.{FaultSaw, KnowsEntry, KnowsHostWord, end_longer, EndSaw, either_saw, find_saw, fast_find_saw}
+use Rattle.mmu_laws.proofs.causes.CausePlaces.{over_saw, put_saw, tried_saw}
 use Rattle.mmu_laws.proofs.causes.CauseSteps.{IsAmid, IsExchange, IsLoad, Spares, spared}
 use Rattle.mmu_laws.proofs.causes.Changes.{Knows, knows_longer, knows_now, made_longer, made_now, saw_now, was_changed}
 use Rattle.mmu_core.proofs.lines.ClaimMade.{claim_made, claim_walk}
@@ -143,7 +144,8 @@ module _ (z : Sizes) (w : World Held) (ss : List (Step Kind)) (s : Step Kind) (G
 
   range_saw : (gfn : ℕ) (b : Bool) → (nat_le t.invalidations.start gfn && nat_lt gfn v) ≡ b → Made part.RangeEnd → CheckKnows stage.End gfn t.invalidations
       → FaultSaw z a w (Check stage.End) gfn t ss u → FaultSaw z a w
-      (if b then Unshare (Retry (Open t.invalidations.count t.invalidations.start v gfn)) else Check stage.Seq) gfn (part_topics part.RangeEnd t v) more behind
+      (if b then Unshare (Retry false (Open t.invalidations.count t.invalidations.start v gfn)) else Check stage.Seq) gfn
+      (part_topics part.RangeEnd t v) more behind
   range_saw gfn true is M C K =
       let O = over_it t.invalidations.start gfn v is in
       let counted = made_longer (Finds a _ t.invalidations.count) So w ss s (stays_in z u s G may part.RangeEnd M tt) K.1.0 in
@@ -160,7 +162,7 @@ module _ (z : Sizes) (w : World Held) (ss : List (Step Kind)) (s : Step Kind) (G
       (λ e. differs (sym finds ∙ ap (slice_index u.words) here ∙ e))) (record { by_actor = refl; on = here; finds = finds }) differs
 
   seq_saw : (gfn : ℕ) (b : Bool) → (v == snapshot_taken t.invalidations.snapshot) ≡ b → Made part.Seq → SeqIs (snapshot_taken t.invalidations.snapshot) ss u
-      → FaultSaw z a w (if b then Walk false else Unshare (Retry (Moved (snapshot_taken t.invalidations.snapshot) v))) gfn
+      → FaultSaw z a w (if b then Walk false else Unshare (Retry false (Moved (snapshot_taken t.invalidations.snapshot) v))) gfn
       (part_topics part.Seq t v) more behind
   seq_saw gfn true is M K = tt
   seq_saw gfn false is M K = saw part.Seq _ (snapshot_taken t.invalidations.snapshot) M tt (word_on z u s G may part.Seq M)
@@ -200,7 +202,7 @@ module _ (z : Sizes) (w : World Held) (ss : List (Step Kind)) (s : Step Kind) (G
 
   leaf_saw : (gfn : ℕ) (write : Bool) (b : Bool) → (t.walk.level == 1) ≡ b → kind_of t.walk.level v ≡ entry_kind.Leaf → Made (part.Walk gfn)
       → FaultSaw z a w
-      (if b then (if allows_access write v then Unshare Installed else Leaf write) else Unshare (Retry (Entry (entry_word z gfn t.walk) v v))) gfn
+      (if b then (if allows_access write v then Unshare Installed else Leaf write) else Unshare (Retry false (Entry (entry_word z gfn t.walk) v v))) gfn
       (gone gfn entry_kind.Leaf) more behind
   leaf_saw gfn write true is leaf M = either (allows_access write v) (Unshare Installed) (Leaf write) gfn (gone gfn entry_kind.Leaf) tt (entry_now gfn M)
   leaf_saw gfn write false is leaf M = let one = (kinds z u s G may gfn M).0 leaf in absurd (grind (arith, nat_tests))
@@ -224,13 +226,13 @@ module _ (z : Sizes) (w : World Held) (ss : List (Step Kind)) (s : Step Kind) (G
   claim_saw gfn _ t_ walk K = subst (λ x. KnowsEntry z a w gfn x more behind) (sym walk) K
 
   -- An exchange that is lost saw that the entry was changed.
-  exchange_saw : (has : FaultPlace) (gives : FaultEnd → FaultPlace) (gfn : ℕ) (b : Bool) (step : PartStep) (t_ : Topics) (M : Made step) → IsAmid step
-      → IsExchange step → s.kind.word ≡ entry_word z gfn t.walk → EntryIs gfn t.walk.entry ss u → (v == t.walk.entry) ≡ b
+  exchange_saw : (fast : Bool) (has : FaultPlace) (gives : FaultEnd → FaultPlace) (gfn : ℕ) (b : Bool) (step : PartStep) (t_ : Topics) (M : Made step)
+      → IsAmid step → IsExchange step → s.kind.word ≡ entry_word z gfn t.walk → EntryIs gfn t.walk.entry ss u → (v == t.walk.entry) ≡ b
       → FaultSaw z a w has gfn t_ more behind → ((e : FaultEnd) → EndSaw z a w e gfn more → FaultSaw z a w (gives e) gfn t_ more behind)
-      → FaultSaw z a w (if b then has else gives (exchange_lost z gfn t.walk v)) gfn t_ more behind
-  exchange_saw has gives gfn true step t_ M is ex here K won so lost = so
-  exchange_saw has gives gfn false step t_ M is ex here K won so lost =
-      lost (exchange_lost z gfn t.walk v) (saw step (entry_word z gfn t.walk) t.walk.entry M is here (exchange_finds z u s G may step M ex) K
+      → FaultSaw z a w (if b then has else gives (exchange_lost fast z gfn t.walk v)) gfn t_ more behind
+  exchange_saw fast has gives gfn true step t_ M is ex here K won so lost = so
+  exchange_saw fast has gives gfn false step t_ M is ex here K won so lost =
+      lost (exchange_lost fast z gfn t.walk v) (saw step (entry_word z gfn t.walk) t.walk.entry M is here (exchange_finds z u s G may step M ex) K
       (eqb-false v t.walk.entry won))
 
   fast_saw : (gfn : ℕ) (k : SpteKind) → Made (part.Walk gfn) → FaultSaw z a w (fast_walk_next k t.walk v) gfn (gone gfn k) more behind
@@ -248,7 +250,8 @@ module _ (z : Sizes) (w : World Held) (ss : List (Step Kind)) (s : Step Kind) (G
 
   -- A lost exchange saw that the page's word was changed.
   bring_saw : (gfn : ℕ) (b : Bool) → (v == word_looked t.host) ≡ b → Made part.Bring → FaultSaw z a w Bring gfn t ss u
-      → FaultSaw z a w (if b then Share else End (Retry (Entry (host_word_at z t.host) (word_looked t.host) v))) gfn (part_topics part.Bring t v) more behind
+      → FaultSaw z a w (if b then Share else End (Retry false (Entry (host_word_at z t.host) (word_looked t.host) v))) gfn (part_topics part.Bring t v) more
+      behind
   bring_saw gfn true is M K = seq_longer _ part.Bring M tt (inr (λ e. absurd (cc e))) K.0
   bring_saw gfn false is M K =
       saw part.Bring (host_word_at z t.host) (word_looked t.host) M tt (word_on z u s G may part.Bring M) (exchange_finds z u s G may part.Bring M tt) K.1
@@ -282,15 +285,15 @@ module _ (z : Sizes) (w : World Held) (ss : List (Step Kind)) (s : Step Kind) (G
       either (nat_lt (words_filled t.owned + 1) 512) Fill Role gfn _ K_ K_
   own_saw Role gfn write M K S = let up = K.1.upper in entry_longer gfn (fault_part Role gfn t) M (omega (arith, up)) tt (inr (λ e. absurd (cc e))) S
   own_saw Link gfn write M K S =
-      exchange_saw (Walk true) Give gfn (v == t.walk.entry) (part.Link gfn) _ M tt tt (word_on z u s G may (part.Link gfn) M) S refl tt (λ e E. E)
+      exchange_saw false (Walk true) Give gfn (v == t.walk.entry) (part.Link gfn) _ M tt tt (word_on z u s G may (part.Link gfn) M) S refl tt (λ e E. E)
   own_saw (Give e) gfn write M K S = end_longer z a w ss s (stays_in z u s G may part.Give M tt) e gfn S
   own_saw (Leaf writes) gfn write M K S =
-      exchange_saw (put_next false (writes && t.search.logged)) Unshare gfn (v == t.walk.entry) (part.Leaf gfn writes) _ M tt tt
+      exchange_saw false (put_next false (writes && t.search.logged)) Unshare gfn (v == t.walk.entry) (part.Leaf gfn writes) _ M tt tt
       (word_on z u s G may (part.Leaf gfn writes) M) S refl (put_saw z a w more behind gfn _ false (writes && t.search.logged)) (λ e E. E)
   own_saw Fix gfn write M K S =
-      exchange_saw (put_next true t.search.logged) End gfn (v == t.walk.entry) (part.Fix gfn) _ M tt tt (word_on z u s G may (part.Fix gfn) M) S refl
+      exchange_saw true (put_next true t.search.logged) End gfn (v == t.walk.entry) (part.Fix gfn) _ M tt tt (word_on z u s G may (part.Fix gfn) M) S refl
       (put_saw z a w more behind gfn _ true t.search.logged) (λ e E. E)
-  own_saw (Mark fast) gfn write M K S = put_saw z a w more behind gfn _ fast false
+  own_saw (Mark fast) gfn write M K S = over_saw z a w more behind gfn _ fast true
   own_saw (FastFind true) gfn write M K S = fast_find_saw z a w more behind gfn _ t.search.next (searched t.search v)
   own_saw (FastFind false) gfn write M K S = tt
   own_saw (FastWalk true) gfn write M K S = fast_saw gfn (kind_of t.walk.level v) M

@@ -22,7 +22,7 @@ use Rattle.spte_words.specs.Areas.{place as place_of}
 use Rattle.mmu_laws.specs.causes.Causes.{Finds, HasMade, SawChange, SawOpen, StaysInSection}
 use Rattle.mmu_core.specs.machine.Enabled.{mmu}
 use Rattle.mmu_core.specs.lines.FaultSteps.{entry_word, host_word_at, snapshot_taken, after_share, find_next, found_next, is_last_word, put_next}
-use Rattle.mmu_core.specs.lines.FaultSteps.{fast_find_next}
+use Rattle.mmu_core.specs.lines.FaultSteps.{fast_find_next, over_next}
 use Rattle.mmu_core.specs.machine.Machine.{May, Step, World, effect, run}
 use Rattle.part_steps.specs.PartTasks.{word_looked}
 use Rattle.part_steps.specs.Tasks.{map_of}
@@ -60,7 +60,7 @@ module _ (z : Sizes) (actor : ℕ) (w : World Held) where
   CheckSaw _ n ss = Unit {0}
 
   abbrev pub EndSaw : FaultEnd → ℕ → List (Step Kind) → Type 0
-  EndSaw (Retry cause) gfn ss = CauseSaw cause z actor gfn w ss
+  EndSaw (Retry fast cause) gfn ss = CauseSaw cause z actor gfn w ss
   EndSaw _ gfn ss = Unit {0}
 
   abbrev pub FaultSaw : FaultPlace → ℕ → Topics → List (Step Kind) → World Held → Type 0
@@ -107,7 +107,7 @@ module _ (z : Sizes) (actor : ℕ) (w : World Held) where
     caused_longer (Entry word read seen) gfn C = saw_longer actor word read seen w ss s so C
 
     pub end_longer : (e : FaultEnd) (gfn : ℕ) → EndSaw e gfn ss → EndSaw e gfn (ss ++ s ∷ [])
-    end_longer (Retry cause) gfn C = caused_longer cause gfn C
+    end_longer (Retry fast cause) gfn C = caused_longer cause gfn C
     end_longer _ gfn C = tt
 
   -- Another actor's step takes nothing away.
@@ -156,10 +156,13 @@ module _ (z : Sizes) (a : ℕ) (w : World Held) (ss : List (Step Kind)) (u : Wor
       either_saw (is_last_word f && contains gfn so_far.slot) (FastWalk false) (if so_far.id == 32 then End (NotFast 0) else FastFind true) tt
       (either_saw (so_far.id == 32) (End (NotFast 0)) (FastFind true) tt tt)
 
+  pub over_saw : (fast marked : Bool) → FaultSaw z a w (over_next fast marked) gfn t ss u
+  over_saw true marked = tt
+  over_saw false marked = tt
+
   pub put_saw : (fast marks : Bool) → FaultSaw z a w (put_next fast marks) gfn t ss u
   put_saw fast true = tt
-  put_saw true false = tt
-  put_saw false false = tt
+  put_saw fast false = over_saw fast false
 
   pub tried_saw : (next : ShareNext) → KnowsSeq z a w t.invalidations ss u → FaultSaw z a w (after_share next) gfn t ss u
   tried_saw shares.Tries K = K

@@ -54,9 +54,9 @@ under_way_is_there u actor p stands = by (nat_lt actor (length u.hands)) refl
         absurd (cc (idle, stands))
 
 pub faults_begin_anew_by_cause : FaultsBeginAnewByCause
-faults_begin_anew_by_cause z w ss actor gfn word op cause G legal idle ends command =
+faults_begin_anew_by_cause z w ss actor gfn word op fast cause G legal idle ends command =
     let sound : IsSound z (run mmu w ss) = good_run z w ss G legal in
     caused cause z actor gfn w ss
-    (each_fault z w (λ actor. FaultSaw z actor w) (causes_seen z w) ss actor gfn word op (End (Retry cause)) G legal idle ends command)
-    (cause_of_frame z (run mmu w ss) actor gfn word op cause sound
-    (subst (λ n. actor < n) sound.hands (under_way_is_there (run mmu w ss) actor (Fault (End (Retry cause))) ends)) ends command)
+    (each_fault z w (λ actor. FaultSaw z actor w) (causes_seen z w) ss actor gfn word op (End (Retry fast cause)) G legal idle ends command)
+    (cause_of_frame z (run mmu w ss) actor gfn word op fast cause sound
+    (subst (λ n. actor < n) sound.hands (under_way_is_there (run mmu w ss) actor (Fault (End (Retry fast cause))) ends)) ends command)

@@ -5,7 +5,7 @@ use Rattle.core_views.specs.declared.cache.Translation.{Translation}
 use Rattle.core_views.specs.declared.kind.Kind.{Kind}
 use Rattle.core_views.specs.declared.place.AccessPlace.{AccessPlace}
 use Rattle.core_views.specs.declared.place.AccessPlace.TheVariants as access
-use Rattle.core_views.specs.declared.place.FaultEnd.TheVariants.{Installed, Mmio, HostFault, Starved, Retry, NotFast}
+use Rattle.core_views.specs.declared.place.FaultEnd.TheVariants.{Installed, Mmio, HostFault, Starved, Fixed, Retry, NotFast}
 use Rattle.core_views.specs.declared.place.FaultNext.{FaultNext}
 use Rattle.core_views.specs.declared.place.FaultNext.TheVariants as next_of
 use Rattle.core_views.specs.declared.place.FaultPlace.{FaultPlace}
@@ -101,8 +101,9 @@ module _ (z : Sizes) (w : World Held) (Saw : Sights) (A : AreSeen z w Saw) (ss :
   over_saw (next_of.Ends Mmio) gfn word op t S = tt
   over_saw (next_of.Ends HostFault) gfn word op t S = tt
   over_saw (next_of.Ends Starved) gfn word op t S = tt
+  over_saw (next_of.Ends (Fixed marked)) gfn word op t S = tt
   over_saw (next_of.Ends (NotFast seen)) gfn word op t S = (A.begins s.actor gfn t (ss ++ s ∷ []) (effect mmu u s)).0
-  over_saw (next_of.Ends (Retry cause)) gfn word op t S = tt
+  over_saw (next_of.Ends (Retry fast cause)) gfn word op t S = tt
 
   fault_saw : (p : FaultPlace) (gfn word : ℕ) (op : Op) → IsStepAt h s (place.Access (access.Fault p)) (Access gfn word op) → Saw s.actor p gfn h.topics ss u
       → SawNow (place_after (behind_fault (fault_next p h.state.sizes gfn (is_write op) h.topics v))) (Access gfn word op) behind

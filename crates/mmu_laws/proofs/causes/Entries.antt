@@ -1,5 +1,6 @@
 -- The word that is in the way of a fault is an entry of its guest frame, or the host word of the page behind it.
 use Rattle.std.proofs.Common.{◌≡◌, ◌⊎◌, inl, inr, ◌<◌, ℕ, subst, ap, ◌∙◌}
+use Rattle.std.specs.Prelude.{Bool}
 use Rattle.core_views.specs.declared.place.AccessPlace.TheVariants as access
 use Rattle.core_views.specs.declared.place.Cause.{Cause}
 use Rattle.core_views.specs.declared.place.Cause.TheVariants.{Open, Moved, Entry}
@@ -51,13 +52,14 @@ frame_of z gfn (Entry word read seen) h same R (inr M) =
     inr (record { found = M.looked_up.found; is = M.is_word ∙ ap (host_word_at z) M.looked_up.host })
 
 -- So it is with each fault that is about to end its section to begin anew.
-pub cause_of_frame : (z : Sizes) (u : World Held) (actor gfn word : ℕ) (op : Op) (cause : Cause) → IsSound z u → actor < actors_of z
-    → (hand_in mmu u actor).state.place ≡ place.Access (access.Fault (End (Retry cause)))
+pub cause_of_frame : (z : Sizes) (u : World Held) (actor gfn word : ℕ) (op : Op) (fast : Bool) (cause : Cause) → IsSound z u → actor < actors_of z
+    → (hand_in mmu u actor).state.place ≡ place.Access (access.Fault (End (Retry fast cause)))
     → (hand_in mmu u actor).state.line.command ≡ Access gfn word op → IsOfFrame cause z gfn (hand_in mmu u actor).topics
-cause_of_frame z u actor gfn word op cause G there ends command =
+cause_of_frame z u actor gfn word op fast cause G there ends command =
     let h : Held = hand_in mmu u actor in
     let same : h.state.sizes ≡ z = (G.holds.lines actor there).sizes in
-    let K : KnowsPart (place.Access (access.Fault (End (Retry cause)))) (Access gfn word op) h =
-    subst (λ (c : Command). KnowsPart (place.Access (access.Fault (End (Retry cause)))) c h) command
+    let K : KnowsPart (place.Access (access.Fault (End (Retry fast cause)))) (Access gfn word op) h =
+    subst (λ (c : Command). KnowsPart (place.Access (access.Fault (End (Retry fast cause)))) c h) command
     (subst (λ (p : Place). KnowsPart p h.state.line.command h) ends (G.holds.knows actor there)) in
-    frame_of z gfn cause h same (rests_in z u actor G there) (subst (λ (y : Sizes). FaultKnows (End (Retry cause)) y gfn (is_write op) h.topics) same K).2
+    frame_of z gfn cause h same (rests_in z u actor G there)
+    (subst (λ (y : Sizes). FaultKnows (End (Retry fast cause)) y gfn (is_write op) h.topics) same K).2.has

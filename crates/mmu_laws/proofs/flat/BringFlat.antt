@@ -71,7 +71,7 @@ module _ (z : Sizes) (v : View) (a : ℕ) (line : Line) (gfn word : ℕ) (op : O
 
   -- where it goes on, won or lost
   abbrev lost : FaultPlace
-  lost = End (Retry (Entry (host_word_at (v.hand a).state.sizes held.host) looked (v.words area.Host page)))
+  lost = End (Retry false (Entry (host_word_at (v.hand a).state.sizes held.host) looked (v.words area.Host page)))
 
   abbrev GoesOn : Bool → Type 0
   GoesOn won =

@@ -5,7 +5,7 @@ use Rattle.core_views.specs.declared.answer.Answer.{Answer}
 use Rattle.core_views.specs.declared.answer.Answer.TheVariants as answer
 use Rattle.core_views.specs.declared.event.EventKind.TheVariants.{Answered, Exited}
 use Rattle.core_views.specs.declared.place.FaultEnd.{FaultEnd}
-use Rattle.core_views.specs.declared.place.FaultEnd.TheVariants.{Installed, Mmio, HostFault, Starved, Retry, NotFast}
+use Rattle.core_views.specs.declared.place.FaultEnd.TheVariants.{Installed, Mmio, HostFault, Starved, Fixed, Retry, NotFast}
 use Rattle.core_views.specs.declared.place.FaultPlace.TheVariants.{Begin}
 use Rattle.core_views.specs.declared.place.FaultPlace.TheVariants.{End}
 use Rattle.core_views.specs.declared.place.AccessPlace.TheVariants.{Enter, Fault}
@@ -78,5 +78,6 @@ module _ (z : Sizes) (v : View) (a : ℕ) (line : Line) (gfn word : ℕ) (op : O
   ends Mmio is S I P R = leaves_with answer.Mmio is S I P Mmio R R.under.1.1
   ends HostFault is S I P R = leaves_with answer.HostFault is S I P HostFault R R.under.1.1
   ends Starved is S I P R = leaves_with answer.Starved is S I P Starved R (refl, R.under.1.1)
+  ends (Fixed marked) is S I P R = goes_back true (Fixed marked) S I P R
   ends (NotFast seen) is S I P R = goes_whole seen S I P R
-  ends (Retry cause) is S I P R = goes_back false (Retry cause) S I P R
+  ends (Retry fast cause) is S I P R = goes_back false (Retry fast cause) S I P R

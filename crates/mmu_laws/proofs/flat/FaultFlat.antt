@@ -27,7 +27,7 @@ use Rattle.mmu_core.specs.lines.AccessSteps.{access_note, access_task}
 use Rattle.mmu_core.specs.lines.FaultKnows.{FaultKnows}
 use Rattle.mmu_core.specs.declared.claim.FreeMap.TheVariants.{Pages}
 use Rattle.mmu_core.specs.lines.FaultSteps.{after_claim, after_share, check_next, claim_next, fault_part, find_next}
-use Rattle.mmu_core.specs.lines.FaultSteps.{share_next, walk_next, exchange_lost, fast_find_next, fast_walk_next, is_last_word, put_next}
+use Rattle.mmu_core.specs.lines.FaultSteps.{share_next, walk_next, exchange_lost, fast_find_next, fast_walk_next, is_last_word, over_next, put_next}
 use Rattle.mmu_laws.specs.flat.FlatInvariant.{NotedAt, NotedLook, NotedPage}
 use Rattle.mmu_core.specs.lines.HostSteps.{entry_of}
 use Rattle.mmu_core.specs.invariant.Invariant.{Invariant}
@@ -53,7 +53,7 @@ use Rattle.mmu_core.proofs.slots.LiveStays.{access_never, access_quiet, is_bring
 use Rattle.mmu_core.proofs.held.OldSets.{held_are_slots}
 use Rattle.mmu_laws.proofs.flat.FaultNotes.{Noted, check_noted, claim_noted, entry_noted, host_noted, share_noted, walk_noted}
 use Rattle.mmu_laws.proofs.flat.FaultEnds.{ends}
-use Rattle.mmu_laws.proofs.flat.FaultNotes.{fast_find_noted, fast_walk_noted, put_noted}
+use Rattle.mmu_laws.proofs.flat.FaultNotes.{fast_find_noted, fast_walk_noted, over_noted, put_noted}
 
 module _ (z : Sizes) (v : View) (a : ℕ) (line : Line) (gfn word : ℕ) (op : Op) (facts : Facts) (past : Past) (u : LineUnderWay) where
   abbrev held : Topics
@@ -253,14 +253,14 @@ module _ (z : Sizes) (v : View) (a : ℕ) (line : Line) (gfn word : ℕ) (op : O
   fault_goes Role S part_ I P K R = quiet Role Link refl part_ I P R R.under.1.1
   fault_goes Link S part_ I P K R =
       let x : ℕ = answered Link in
-      let lost : FaultPlace = Give (exchange_lost (v.hand a).state.sizes gfn held.walk x) in
+      let lost : FaultPlace = Give (exchange_lost false (v.hand a).state.sizes gfn held.walk x) in
       quiet Link (if x == held.walk.entry then Walk true else lost) refl part_ I P R
       (either_place (Noted (words_behind Link area.Pool) gfn op (held_behind Link) u.notes) (x == held.walk.entry) (Walk true) lost R.under.1.1 tt)
   fault_goes (Give e) S part_ I P K R = quiet (Give e) (Unshare e) refl part_ I P R R.under.1.1
   fault_goes (Leaf writes) S part_ I P K R =
       let x : ℕ = answered (Leaf writes) in
-      puts (Leaf writes) false (writes && held.search.logged) (Unshare (exchange_lost (v.hand a).state.sizes gfn held.walk x)) (x == held.walk.entry) refl part_
-      I P R tt
+      puts (Leaf writes) false (writes && held.search.logged) (Unshare (exchange_lost false (v.hand a).state.sizes gfn held.walk x)) (x == held.walk.entry)
+      refl part_ I P R tt
   fault_goes FastBegin S part_ I P K R = quiet FastBegin (FastFind false) refl part_ I P R tt
   fault_goes (FastFind false) S part_ I P K R = record { allowed = (R.under.1.0.0, tt); refines = R.refines; under = (R.under.0, (R.under.1.0, tt)) }
   fault_goes (FastFind true) S part_ I P K R =
@@ -275,9 +275,9 @@ module _ (z : Sizes) (v : View) (a : ℕ) (line : Line) (gfn word : ℕ) (op : O
       (fast_walk_noted (words_behind (FastWalk true) area.Pool) gfn op (held_behind (FastWalk true)) u.notes (kind_of held.walk.level x) held.walk x)
   fault_goes Fix S part_ I P K R =
       let x : ℕ = answered Fix in
-      puts Fix true held.search.logged (End (exchange_lost (v.hand a).state.sizes gfn held.walk x)) (x == held.walk.entry) refl part_ I P R tt
+      puts Fix true held.search.logged (End (exchange_lost true (v.hand a).state.sizes gfn held.walk x)) (x == held.walk.entry) refl part_ I P R tt
   fault_goes (Mark fast) S part_ I P K R =
-      quiet (Mark fast) (put_next fast false) refl part_ I P R
-      (put_noted (words_behind (Mark fast) area.Pool) gfn op (held_behind (Mark fast)) u.notes fast false)
+      quiet (Mark fast) (over_next fast true) refl part_ I P R
+      (over_noted (words_behind (Mark fast) area.Pool) gfn op (held_behind (Mark fast)) u.notes fast true)
   fault_goes (Unshare e) S part_ I P K R = quiet (Unshare e) (End e) refl part_ I P R R.under.1.1
   fault_goes (End e) S part_ I P K R = ends z v a line gfn word op facts past u e S.command_is part_ I P R

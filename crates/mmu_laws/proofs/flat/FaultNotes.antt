@@ -25,7 +25,7 @@ use Rattle.mmu_core.specs.declared.claim.ClaimNext.TheVariants as claims
 use Rattle.mmu_core.specs.declared.share.ShareNext.{ShareNext}
 use Rattle.mmu_core.specs.declared.share.ShareNext.TheVariants as shares
 use Rattle.mmu_core.specs.lines.FaultSteps.{after_claim, after_share, allows_access, check_next, entry_word}
-use Rattle.mmu_core.specs.lines.FaultSteps.{page_next, snapshot_taken, walk_next, fast_walk_next, put_next}
+use Rattle.mmu_core.specs.lines.FaultSteps.{page_next, snapshot_taken, walk_next, fast_walk_next, over_next, put_next}
 use Rattle.mmu_laws.specs.flat.FlatInvariant.{NotedAt, NotedLook}
 use Rattle.mmu_core.proofs.lines.EitherPlace.{either_place}
 use Rattle.part_steps.specs.PartHoldings.{is_fixable}
@@ -43,25 +43,28 @@ module _ (pool : ℕ → ℕ) (gfn : ℕ) (op : Op) (t : Topics) (notes : Notes)
   check_noted saw stage.Count h x = either_place Noted (x == 0) (Check stage.Seq) (Check stage.Start) saw saw
   check_noted saw stage.Start h x = saw
   check_noted saw stage.End h x =
-      either_place Noted (nat_le h.invalidations.start gfn && nat_lt gfn x) (Unshare (Retry (Open h.invalidations.count h.invalidations.start x gfn)))
+      either_place Noted (nat_le h.invalidations.start gfn && nat_lt gfn x) (Unshare (Retry false (Open h.invalidations.count h.invalidations.start x gfn)))
       (Check stage.Seq) tt saw
   check_noted saw stage.Seq h x =
       either_place Noted (x == snapshot_taken h.invalidations.snapshot) (Walk false)
-      (Unshare (Retry (Moved (snapshot_taken h.invalidations.snapshot) x))) saw tt
+      (Unshare (Retry false (Moved (snapshot_taken h.invalidations.snapshot) x))) saw tt
 
   pub walk_noted : SawPage notes gfn op → (k : SpteKind) (z : Sizes) (write : Bool) (walk : TableWalk) (x : ℕ) → Noted (walk_next k z gfn write walk x)
   walk_noted saw entry_kind.Leaf z write walk x =
       either_place Noted (walk.level == 1) (if allows_access write x then Unshare Installed else Leaf write)
-      (Unshare (Retry (Entry (entry_word z gfn walk) x x)))
+      (Unshare (Retry false (Entry (entry_word z gfn walk) x x)))
       (either_place Noted (allows_access write x) (Unshare Installed) (Leaf write) tt saw) tt
   walk_noted saw entry_kind.Absent z write walk x = either_place Noted (walk.level == 1) (Leaf write) (Claim false) saw saw
   walk_noted saw (entry_kind.Table page) z write walk x = saw
   walk_noted saw entry_kind.Frozen z write walk x = tt
 
+  pub over_noted : (fast marked : Bool) → Noted (over_next fast marked)
+  over_noted true marked = tt
+  over_noted false marked = tt
+
   pub put_noted : (fast marks : Bool) → Noted (put_next fast marks)
   put_noted fast true = tt
-  put_noted true false = tt
-  put_noted false false = tt
+  put_noted fast false = over_noted fast false
 
   pub fast_walk_noted : (k : SpteKind) (walk : TableWalk) (x : ℕ) → Noted (fast_walk_next k walk x)
   fast_walk_noted (entry_kind.Table page) walk x = tt

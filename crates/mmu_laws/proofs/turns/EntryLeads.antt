@@ -56,6 +56,7 @@ over_stands z w a gfn G there over =
 
 has_entry : (e : FaultEnd) (y : Sizes) (gfn : ℕ) (write : Bool) (t : Topics) → has_installed e ≡ true → FaultEndKnows e y gfn write t → HasEntry gfn write t
 has_entry end_of.Installed y gfn write t is K = K
+has_entry (end_of.Fixed marked) y gfn write t is K = K.entry
 has_entry _ y gfn write t is K = absurd (cc is)
 
 entry_known : (q : FaultPlace) (y : Sizes) (gfn : ℕ) (write : Bool) (t : Topics) → ends_installed q ≡ true → FaultKnows q y gfn write t → HasEntry gfn write t

@@ -73,11 +73,11 @@ checks_not : (at_ : CheckStage) (gfn : ℕ) (t : Topics) (v : ℕ) → ends_inst
 checks_not stage.Count gfn t v is = neither (v == 0) (fault.Check stage.Seq) (fault.Check stage.Start) refl refl is
 checks_not stage.Start gfn t v is = cc is
 checks_not stage.End gfn t v is =
-    neither (nat_le t.invalidations.start gfn && nat_lt gfn v) (fault.Unshare (end_of.Retry (Open t.invalidations.count t.invalidations.start v gfn)))
+    neither (nat_le t.invalidations.start gfn && nat_lt gfn v) (fault.Unshare (end_of.Retry false (Open t.invalidations.count t.invalidations.start v gfn)))
     (fault.Check stage.Seq) refl refl is
 checks_not stage.Seq gfn t v is =
     neither (v == snapshot_taken t.invalidations.snapshot) (fault.Walk false)
-    (fault.Unshare (end_of.Retry (Moved (snapshot_taken t.invalidations.snapshot) v))) refl refl is
+    (fault.Unshare (end_of.Retry false (Moved (snapshot_taken t.invalidations.snapshot) v))) refl refl is
 
 claims_not : (next : ClaimNext) → ends_installed (after_claim next) ≡ true → ⊥
 claims_not claims.Goes is = cc is
@@ -141,7 +141,8 @@ fault_sees fault.Host z own gfn note write t words not_ K =
     λ is. absurd (looks_by (write && not (host_allows_write v)) (host_present v) is)
 fault_sees fault.Bring z own gfn note write t words not_ K =
     let v : ℕ = words area.Host (page_looked t.host) in
-    λ is. absurd (neither (v == word_looked t.host) fault.Share (fault.End (end_of.Retry (Entry (host_word_at z t.host) (word_looked t.host) v))) refl refl is)
+    λ is. absurd
+    (neither (v == word_looked t.host) fault.Share (fault.End (end_of.Retry false (Entry (host_word_at z t.host) (word_looked t.host) v))) refl refl is)
 fault_sees fault.Share z own gfn note write t words not_ K =
     λ is. absurd (shares_not (share_next t.hold (answer_in (part_task (share_part t.hold) own t note) words)) is)
 fault_sees (fault.Check at_) z own gfn note write t words not_ K =
@@ -155,7 +156,7 @@ fault_sees (fault.Claim begun) z own gfn note write t words not_ K =
 fault_sees fault.Fill z own gfn note write t words not_ K = λ is. absurd (neither (nat_lt (words_filled t.owned + 1) 512) fault.Fill fault.Role refl refl is)
 fault_sees fault.Link z own gfn note write t words not_ K =
     let v : ℕ = words area.Pool (pool_index (table_page t.walk) (entry_index gfn t.walk.level)) in
-    λ is. absurd (neither (v == t.walk.entry) (fault.Walk true) (fault.Give (exchange_lost z gfn t.walk v)) refl refl is)
+    λ is. absurd (neither (v == t.walk.entry) (fault.Walk true) (fault.Give (exchange_lost false z gfn t.walk v)) refl refl is)
 fault_sees (fault.Give e) z own gfn note write t words not_ K = λ is. absurd (cc (not_, is))
 fault_sees (fault.Leaf writes) z own gfn note write t words not_ K =
     let v : ℕ = words area.Pool (pool_index (table_page t.walk) (entry_index gfn t.walk.level)) in
@@ -164,10 +165,10 @@ fault_sees (fault.Leaf writes) z own gfn note write t words not_ K =
     let marks : (t.search.logged && can_write (leaf_written writes t)) ≡ (writes && t.search.logged) =
     subst (λ (b : Bool). (t.search.logged && can_write (leaf_written b t)) ≡ (b && t.search.logged)) (sym K.4) (puts_marks gfn write t K.0) in
     exchange_sees (v == t.walk.entry) gfn (leaf_written writes t) v write false (writes && t.search.logged) t (words area.Pool)
-    (fault.Unshare (exchange_lost z gfn t.walk v)) refl P marks
+    (fault.Unshare (exchange_lost false z gfn t.walk v)) refl P marks
 fault_sees fault.Fix z own gfn note write t words not_ K =
     let v : ℕ = words area.Pool (pool_index (table_page t.walk) (entry_index gfn t.walk.level)) in
-    exchange_sees (v == t.walk.entry) gfn (leaf_fixed t) v write true t.search.logged t (words area.Pool) (fault.End (exchange_lost z gfn t.walk v)) refl
+    exchange_sees (v == t.walk.entry) gfn (leaf_fixed t) v write true t.search.logged t (words area.Pool) (fault.End (exchange_lost true z gfn t.walk v)) refl
     (fix_put gfn write t K.1) (fix_marks gfn t K.1)
 fault_sees (fault.Mark fast) z own gfn note write t words not_ K = absurd (cc not_)
 fault_sees (fault.FastFind true) z own gfn note write t words not_ K =

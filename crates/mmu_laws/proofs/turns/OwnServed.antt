@@ -75,8 +75,9 @@ behind_fault_installed X (next_of.Ends end_of.Installed) y gfn write pool t sees
 behind_fault_installed X (next_of.Ends end_of.Mmio) y gfn write pool t sees K make = tt
 behind_fault_installed X (next_of.Ends end_of.HostFault) y gfn write pool t sees K make = tt
 behind_fault_installed X (next_of.Ends end_of.Starved) y gfn write pool t sees K make = tt
+behind_fault_installed X (next_of.Ends (end_of.Fixed marked)) y gfn write pool t sees K make = absurd (cc sees)
 behind_fault_installed X (next_of.Ends (end_of.NotFast seen)) y gfn write pool t sees K make = λ is. absurd (cc is)
-behind_fault_installed X (next_of.Ends (end_of.Retry cause)) y gfn write pool t sees K make = λ is. absurd (cc is)
+behind_fault_installed X (next_of.Ends (end_of.Retry fast cause)) y gfn write pool t sees K make = λ is. absurd (cc is)
 
 pause_installed : (X : Type 0) (used : Option Translation) (again : Bool) → (again ≡ true → X) → WhereInstalled (Goes (place.Access (pause_next again used))) X
 pause_installed X None again still = still

@@ -91,11 +91,11 @@ walk_nearer _ _ again gfn y t v is from on =
 -- ---- the fault
 
 abbrev NotAnew : FaultNext → Type 0
-NotAnew (next_of.Ends (end_of.Retry cause)) = ⊥
+NotAnew (next_of.Ends (end_of.Retry fast cause)) = ⊥
 NotAnew _ = Unit {0}
 
 ends_not_anew : (e : FaultEnd) → begins_anew (place.Access (Fault (fault.End e))) ≡ false → NotAnew (next_of.Ends e)
-ends_not_anew (end_of.Retry cause) is = absurd (cc is)
+ends_not_anew (end_of.Retry fast cause) is = absurd (cc is)
 ends_not_anew _ is = tt
 
 not_anew : (p : FaultPlace) (z : Sizes) (gfn : ℕ) (write : Bool) (t : Topics) (v : ℕ) → begins_anew (place.Access (Fault p)) ≡ false
@@ -109,8 +109,9 @@ fault_nearer (next_of.Ends end_of.Installed) y u left on less = omega (arith, le
 fault_nearer (next_of.Ends end_of.Mmio) y u left on less = tt
 fault_nearer (next_of.Ends end_of.HostFault) y u left on less = tt
 fault_nearer (next_of.Ends end_of.Starved) y u left on less = tt
+fault_nearer (next_of.Ends (end_of.Fixed marked)) y u left on less = omega (arith, less)
 fault_nearer (next_of.Ends (end_of.NotFast seen)) y u left on less = omega (arith, less)
-fault_nearer (next_of.Ends (end_of.Retry cause)) y u left on less = absurd on
+fault_nearer (next_of.Ends (end_of.Retry fast cause)) y u left on less = absurd on
 
 -- ---- each place
 

@@ -1,5 +1,5 @@
 -- Why a fault begins anew, in every list of steps: what its actor found in a word, and who changed this word since.
-use Rattle.std.specs.Prelude.{◌≡◌, ◌≢◌, ◌⊎◌, ◌<◌, ◌≤◌, ℕ, List, ◌∷◌, ◌++◌, All}
+use Rattle.std.specs.Prelude.{◌≡◌, ◌≢◌, ◌⊎◌, ◌<◌, ◌≤◌, ℕ, Bool, List, ◌∷◌, ◌++◌, All}
 use Rattle.core_views.specs.declared.kind.Kind.{Kind}
 use Rattle.core_views.specs.declared.kind.StepKind.TheVariants as kind
 use Rattle.core_views.specs.declared.place.AccessPlace.TheVariants as access
@@ -116,8 +116,8 @@ IsCaused (Entry word read seen) z actor gfn w ss =
 -- about to end its section to begin anew, this has its cause in these steps, in this section.
 abbrev pub FaultsBeginAnewByCause : Type 0
 FaultsBeginAnewByCause =
-    (z : Sizes) (w : World Held) (ss : List (Step Kind)) (actor gfn word : ℕ) (op : Op) (cause : Cause) → IsSound z w → Legal mmu w ss
+    (z : Sizes) (w : World Held) (ss : List (Step Kind)) (actor gfn word : ℕ) (op : Op) (fast : Bool) (cause : Cause) → IsSound z w → Legal mmu w ss
     → (hand_in mmu w actor).state.place ≡ place.Between
-    → (hand_in mmu (run mmu w ss) actor).state.place ≡ place.Access (access.Fault (End (Retry cause)))
+    → (hand_in mmu (run mmu w ss) actor).state.place ≡ place.Access (access.Fault (End (Retry fast cause)))
     → (hand_in mmu (run mmu w ss) actor).state.line.command ≡ Access gfn word op
     → IsCaused cause z actor gfn w ss

@@ -42,9 +42,10 @@ LeavesStay =
     (z : Sizes) (w : World Held) (ss : List (Step Kind)) (gfn : ℕ) (write : Bool) → IsSound z w → Legal mmu w ss → LeadsFromRoot z w gfn write
     → LeadsFromRoot z (run mmu w ss) gfn write ⊎ WasBroken (Breaks z gfn) w ss
 
--- The fault ends with an entry that allows the access: it put one, or found one.
+-- The fault ends with an entry that allows the access: it put one, or found one, or allowed writes in one.
 abbrev pub has_installed : FaultEnd → Bool
 has_installed end_of.Installed = true
+has_installed (end_of.Fixed marked) = true
 has_installed _ = false
 
 abbrev pub ends_installed : FaultPlace → Bool

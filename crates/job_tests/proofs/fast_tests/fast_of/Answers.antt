@@ -3,7 +3,7 @@ use Rattle.core_views.specs.declared.hand.Progress.{Progress}
 use Rattle.core_views.specs.declared.place.AccessPlace.{AccessPlace}
 use Rattle.core_views.specs.declared.place.Place.TheVariants.{Access}
 use Rattle.core_views.specs.declared.trace.Line.{Line}
-use Rattle.job_tests.proofs.InFault.{in_fault, may_be_fast}
+use Rattle.job_tests.proofs.InFault.{in_fault}
 use Rattle.job_tests.proofs.fast_tests.fast_of.Goals as goal
 
 pub returns : goal.returns
@@ -14,5 +14,5 @@ returns c = record {
       (sym c.has_line.ensures ∙ c.if-not-has_line.false)
       (ap (λ (x : Progress). x.place) (sym c.progress.ensures) ∙ c.in-Access.is ∙ ap (λ (a : AccessPlace). Access a) c.in-Fault.is)
       (ap (λ (l : Line). l.command) (sym c.line.ensures.line) ∙ c.in-Access-command.is) (sym c.is_write.ensures);
-  fast = may_be_fast c.in-Fault.place (sym c.is_fast_place.ensures ∙ c.if-not-is_fast_place.false);
+  fast = sym c.is_fast_place.ensures ∙ c.if-not-is_fast_place.false;
 }

@@ -26,6 +26,14 @@ returns-then-is_fast_place-clause-turns g c =
     rw c.fast_said.ensures (told_turns c.args.place c.args.self.now turn before after c.requires.stands
     (subst (λ (w : Bool). TurnsFault c.args.self.now.gfn w turn before after) c.is_write-write.ensures c.turn.ensures.turned))
 
+pub returns-then-is_fast_place-clause-cause : goal.returns-then-is_fast_place-clause-cause
+returns-then-is_fast_place-clause-cause g c =
+    let before = g.S.Stepper.seat c.args.s.now in
+    let after = g.S.Stepper.seat c.turn.new.s in
+    let turn = as_end fast_told c.turn.result in
+    rw c.fast_said.ensures (told_has_cause c.args.place c.args.self.now turn before after c.requires.stands
+    (subst (λ (w : Bool). TurnsFault c.args.self.now.gfn w turn before after) c.is_write-write.ensures c.turn.ensures.turned))
+
 pub returns-else-is_fast_place-clause-turns : goal.returns-else-is_fast_place-clause-turns
 returns-else-is_fast_place-clause-turns g c =
     let before = g.S.Stepper.seat c.args.s.now in
