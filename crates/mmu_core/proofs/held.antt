@@ -22,6 +22,7 @@ pub mod OldSets
 pub mod Invalidating
 pub mod HeldSlotsKept
 pub mod OthersStay
+pub mod OwedKept
 pub mod SawWriterKept
 pub mod SearchKept
 pub mod LooksKept

@@ -1,5 +1,5 @@
 -- What the steps of the parts may rest on, from the hand alone: bounds.
-use Rattle.std.specs.Prelude.{◌≡◌, ◌+◌, ◌^◌, ◌<◌, ◌≤◌, ℕ, All, Some, true}
+use Rattle.std.specs.Prelude.{◌≡◌, ◌+◌, ◌^◌, ◌<◌, ◌≤◌, ℕ, All, Some, None, true, false}
 use Rattle.core_views.specs.declared.topics.Hold.TheVariants.{Owing}
 use Rattle.core_views.specs.declared.place.SlotField.TheVariants.{Flags}
 use Rattle.core_views.specs.declared.topics.HostLook.{HostLook}
@@ -16,6 +16,7 @@ use Rattle.spte_words.specs.HostWords.{host_frame}
 use Rattle.part_steps.specs.FrameTopics.{word_held, words_moved}
 use Rattle.part_steps.specs.PartTasks.{own_index, table_page}
 use Rattle.part_steps.specs.ControlBits.{has_writer}
+use Rattle.part_steps.specs.StayTopics.{is_section}
 use Rattle.part_steps.specs.SweepTopics.{gone_up}
 
 -- Its leaf is one of a level that has leaves, 1 to 3.
@@ -45,7 +46,8 @@ pub record CountersPart (z : Sizes) (t : Topics) : Type 0 where
   pub frames : FrameCountersPart z t.frames
 
 -- What holds of every hand that some world has: its actor is one of the machine's, its pages are pages of the pool, its frame is one of the machine's, its
--- counters stay within what they count, its cache has room for a translation, and where it has yet to take itself out of the lock's readers it saw a writer.
+-- counters stay within what they count, its cache has room for a translation, where it has yet to take itself out of the lock's readers it saw a writer, and
+-- outside of a section no mark is owed.
 pub record PartRests (h : Held) : Type 0 where
   pub sizes : AreSizes h.state.sizes
   pub own_place : own_index h < actors_of h.state.sizes
@@ -65,3 +67,4 @@ pub record PartRests (h : Held) : Type 0 where
   pub levels : All IsAtLeafLevel h.cached.items
   pub looked : (look : HostLook) → h.topics.host ≡ Some look → (look.page < h.state.sizes.pages) × (host_frame look.word < h.state.sizes.frames)
   pub saw_writer : (word : ℕ) → h.topics.hold ≡ Owing word → has_writer word ≡ true
+  pub owes : is_section h.topics.stay ≡ false → h.topics.owed ≡ None

@@ -122,11 +122,12 @@ PartNeeds (part.Copy index) h = MayCopy index h
 PartNeeds (part.Store index) h = MayStore index h
 PartNeeds part.GiveFrame h = MayGiveFrame h
 
--- The actor holds nothing: it is outside, and has no lock, no page, no table and no slot set.
+-- The actor holds nothing: it is outside, and has no lock, no page, no table and no slot set; and it owes no mark.
 pub record IsAtRest (t : Topics) : Type 0 where
   pub outside : t.stay ≡ Outside
   pub loose : t.hold ≡ Loose
   pub owns_none : t.owned ≡ None
+  pub owes_none : t.owed ≡ None
   pub no_table : t.walk.level ≡ 0
   pub no_set : t.search.set ≡ None
 

@@ -67,14 +67,13 @@ no_flush = record { asked = 0; awaited = 0 }
 abbrev pub flush_kept : Bool → Topics → Flush
 flush_kept won t = if won && not t.invalidations.opened then no_flush else t.flush
 
--- what is held where the actor goes into the guest, into a section, or out of them: of tables, slots and look-ups nothing, nor is a mark owed
+-- what is held where the actor goes into the guest, into a section, or out of them: of tables, slots and look-ups nothing
 abbrev pub begun : Stay → Topics → Topics
 begun stay t = record t {
   stay = stay;
   walk = kept_walk false t.walk;
   search = kept_search false t.search;
   host = None;
-  owed = None;
   invalidations = forgotten t.invalidations;
 }
 

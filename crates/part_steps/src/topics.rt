@@ -48,7 +48,6 @@ fn go(topics: &mut Topics, stay: Stay)
     topics.search.set = None;
     topics.search.whole = false;
     topics.host = None;
-    topics.owed = None;
     topics.invalidations.snapshot = None;
     topics.invalidations.checked = Checked::Nothing;
 }

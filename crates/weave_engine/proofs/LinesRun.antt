@@ -173,7 +173,7 @@ pub rest_at_start : (z : Sizes) (lines : List Line) (w : World Held) → IsStart
 rest_at_start z lines w start =
     λ i lt. subst (λ (h : Held). HoldsNothing h.topics) (sym (hand_is z lines w i start (subst (λ n. i < n) (start_good z lines w start).hands lt)))
     (record {
-      rests = record { outside = refl; loose = refl; owns_none = refl; no_table = refl; no_set = refl };
+      rests = record { outside = refl; loose = refl; owns_none = refl; no_table = refl; no_set = refl; owes_none = refl };
       retires_none = refl;
       opens_none = refl;
       owns_no_frame = refl;

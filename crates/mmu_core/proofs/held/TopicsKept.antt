@@ -29,6 +29,7 @@ use Rattle.mmu_core.proofs.pages.LeavesOver.{leaves_kept}
 use Rattle.mmu_core.proofs.pages.Paths.{paths_kept}
 use Rattle.mmu_core.proofs.pages.PoolKept.{uses_kept}
 use Rattle.mmu_core.proofs.machine.SameTopics.{same_topics}
+use Rattle.mmu_core.proofs.held.OwedKept.{owed_kept}
 use Rattle.mmu_core.proofs.held.SawWriterKept.{saw_kept}
 use Rattle.mmu_core.proofs.held.LookedFrames.{looked_frames_kept}
 use Rattle.mmu_core.proofs.held.LooksKept.{looks_kept}
@@ -68,6 +69,7 @@ topics_part_kept z v a step note S I = record {
   tree = tree_kept z v a step note S I;
   held = held_kept z v a step note S I;
   paths = paths_kept z v a step note S I;
+  owed = owed_kept z v a step note S I;
   sets = sets_kept z v a step note S I;
   old_sets = old_sets_kept z v a step note S I;
   held_slots = held_slots_kept z v a step note S I;

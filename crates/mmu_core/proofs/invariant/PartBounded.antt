@@ -51,6 +51,7 @@ part_rests_at z v i I P there = record {
   levels = All-weaker (λ (t : Translation). (t.level ≡ 1) × (frame_in t.leaf < z.frames)) IsAtLeafLevel lowest h.cached.items (I.cached i there);
   looked = λ look is. subst (λ (y : Sizes). (look.page < y.pages) × (host_frame look.word < y.frames)) (sym same) (looked look is);
   saw_writer = λ word is. subst SawWriter is (P.saw_writer i there);
+  owes = P.owed i there;
 }
   where
     h : Held

@@ -36,18 +36,18 @@ pub claim_rests : (z : Sizes) (map : FreeMap) (begun : Bool) (t : Topics) (v : â
 claim_rests z Pages begun t v _ _ _ (made.Won tries b some is) K none low =
     (record { outside = K.outside; holds = K.loose; no_table = K.no_table; no_set = K.no_set }, (refl, omega arith))
 claim_rests z Pages begun t v _ _ _ (made.Lost tries b some is) K none low =
-    (record { outside = K.outside; loose = K.loose; owns_none = refl; no_table = K.no_table; no_set = K.no_set }, refl, low b)
+    (record { outside = K.outside; loose = K.loose; owns_none = refl; owes_none = K.owes_none; no_table = K.no_table; no_set = K.no_set }, refl, low b)
 claim_rests z Pages begun t v _ _ _ (made.Saw not_ lt) K none low =
-    (record { outside = K.outside; loose = K.loose; owns_none = K.owns_none; no_table = K.no_table; no_set = K.no_set }, none, lt)
+    (record { outside = K.outside; loose = K.loose; owns_none = K.owns_none; owes_none = K.owes_none; no_table = K.no_table; no_set = K.no_set }, none, lt)
 claim_rests z Pages begun t v _ _ _ (made.SawNone not_ le) K none low =
-    (record { outside = K.outside; loose = K.loose; owns_none = K.owns_none; no_table = K.no_table; no_set = K.no_set }, none, le)
+    (record { outside = K.outside; loose = K.loose; owns_none = K.owns_none; owes_none = K.owes_none; no_table = K.no_table; no_set = K.no_set }, none, le)
 claim_rests z Frames begun t v _ _ _ (made.Won tries b some is) K none low = (
-  record { outside = K.outside; loose = K.loose; owns_none = K.owns_none; no_table = K.no_table; no_set = K.no_set },
+  record { outside = K.outside; loose = K.loose; owns_none = K.owns_none; owes_none = K.owes_none; no_table = K.no_table; no_set = K.no_set },
   record { owns = refl; uncopied = refl },
 )
 claim_rests z Frames begun t v _ _ _ (made.Lost tries b some is) K none low =
-    (record { outside = K.outside; loose = K.loose; owns_none = K.owns_none; no_table = K.no_table; no_set = K.no_set }, refl, low b)
+    (record { outside = K.outside; loose = K.loose; owns_none = K.owns_none; owes_none = K.owes_none; no_table = K.no_table; no_set = K.no_set }, refl, low b)
 claim_rests z Frames begun t v _ _ _ (made.Saw not_ lt) K none low =
-    (record { outside = K.outside; loose = K.loose; owns_none = K.owns_none; no_table = K.no_table; no_set = K.no_set }, none, lt)
+    (record { outside = K.outside; loose = K.loose; owns_none = K.owns_none; owes_none = K.owes_none; no_table = K.no_table; no_set = K.no_set }, none, lt)
 claim_rests z Frames begun t v _ _ _ (made.SawNone not_ le) K none low =
-    (record { outside = K.outside; loose = K.loose; owns_none = K.owns_none; no_table = K.no_table; no_set = K.no_set }, none, le)
+    (record { outside = K.outside; loose = K.loose; owns_none = K.owns_none; owes_none = K.owes_none; no_table = K.no_table; no_set = K.no_set }, none, le)

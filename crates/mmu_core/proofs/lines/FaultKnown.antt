@@ -174,7 +174,7 @@ link_known false z gfn write t v is most E S o owned small = (
 pub fault_known : (p : FaultPlace) (h : Held) (gfn v : ℕ) (write : Bool) → gfn < 2 ^ 36 → PartRests h → FaultKnows p h.state.sizes gfn write h.topics
     → CanAnswer (fault_part p gfn h.topics) v
     → KnowsNext (fault_next p h.state.sizes gfn write h.topics v) h.state.sizes gfn write (part_topics (fault_part p gfn h.topics) h.topics v)
-fault_known Begin h gfn v write small R K A = (record { section = refl; owns_none = K.owns_none; owes_none = refl }, K.loose)
+fault_known Begin h gfn v write small R K A = (record { section = refl; owns_none = K.owns_none; owes_none = K.owes_none }, K.loose)
 fault_known Snapshot h gfn v write small R K A = (snapshot_known h.topics v K.0 K.1, λ e. absurd (cc e))
 fault_known (Find true) h gfn v write small R K A =
     let set = K.1 refl in slot_known h.state.sizes gfn write (is_some h.topics.search.set) h.topics v set.0 set.1 K.0 set.0
@@ -204,8 +204,10 @@ fault_known (Give e) h gfn v write small R K A =
 fault_known (Leaf writes) h gfn v write small R K A =
     leaf_known (v == h.topics.walk.entry) writes h.state.sizes gfn write h.topics v refl K.0 K.1 K.2 K.3 K.4
 fault_known (Unshare e) h gfn v write small R K A = unshare_known e h.state.sizes gfn write h.topics K.0 K.2
-fault_known (End e) h gfn v write small R K A = record { outside = refl; loose = K.1; owns_none = K.0.owns_none; no_table = refl; no_set = refl }
-fault_known FastBegin h gfn v write small R K A = (record { section = refl; owns_none = K.owns_none; owes_none = refl }, K.loose, λ e. absurd (cc e))
+fault_known (End e) h gfn v write small R K A =
+    record { outside = refl; loose = K.1; owns_none = K.0.owns_none; owes_none = K.0.owes_none; no_table = refl; no_set = refl }
+fault_known FastBegin h gfn v write small R K A =
+    (record { section = refl; owns_none = K.owns_none; owes_none = K.owes_none }, K.loose, λ e. absurd (cc e))
 fault_known (FastFind true) h gfn v write small R K A =
     let set = K.2 refl in fast_slot_known h.state.sizes gfn write (is_some h.topics.search.set) h.topics v set.0 set.1 K.0 K.1 set.0
 fault_known (FastFind false) h gfn v write small R K A =

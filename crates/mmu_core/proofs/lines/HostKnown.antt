@@ -43,7 +43,7 @@ use Rattle.mmu_core.specs.lines.Forms.{KnowsPart, may_open}
 use Rattle.mmu_core.specs.lines.HostKnows.{HasFlushed, HostKnows, LooksAt, OwnsToMove}
 use Rattle.mmu_core.specs.lines.HostSteps.{after_begin, after_end, after_frame_claim, after_frame_watch, host_outcome, host_part, moves, word_put}
 use Rattle.mmu_core.specs.lines.InvalidateKnows.{EndKnows}
-use Rattle.part_steps.specs.StayTopics.{is_loose}
+use Rattle.part_steps.specs.StayTopics.{is_loose, is_section}
 use Rattle.mmu_core.specs.lines.InvalidateSteps.{begin_next, begin_part, end_next, end_part}
 use Rattle.mmu_core.proofs.lines.ClaimMade.{claim_host, claim_made, claim_opens}
 use Rattle.mmu_core.proofs.lines.ClaimRests.{RestsAfterClaim, claim_rests}
@@ -95,13 +95,13 @@ module _ (line : Line) (h : Held) (page : ℕ) (change : HostChange) (cached : B
       let looks : LooksAt page (behind (Look moving) u) = record { own_ = is; looked = refl; at = refl } in
       one_place (λ q. Knows q (behind (Look moving) u)) moving (Claim false) (Begin begins.Exclude)
       (λ e. (
-        rests_still h.topics u refl refl refl refl refl K.0,
+        rests_still h.topics u refl refl refl refl refl refl K.0,
         looks,
         record { moves = sym K.1 ∙ e; owns_none = K.2; within = λ b. absurd (cc b) },
       ))
       (λ e. (
         looks,
-        (rests_free u (rests_still h.topics u refl refl refl refl refl K.0), closed),
+        (rests_free u (rests_still h.topics u refl refl refl refl refl refl K.0), closed),
         owns_none change h.topics.frames.owned K.2 (sym K.1 ∙ e),
         K.0.owns_none,
       ))
@@ -147,7 +147,7 @@ module _ (line : Line) (h : Held) (page : ℕ) (change : HostChange) (cached : B
     leaves.owned ∙ K.4,
   )
   end_comes p ends_next.Ended u R same leaves K C =
-      let rests : IsAtRest u = free_rests u (leaves.owned ∙ K.4) C.0 in
+      let rests : IsAtRest u = free_rests u (leaves.owned ∙ K.4) (leaves.owed ∙ R.owes (ap is_section (sym leaves.stay ∙ C.0.outside))) C.0 in
       one_place (λ o. KnowsBehind o (ChangeHost page change) (behind (End p) u)) (moves h.topics) (Goes (place.Host Watch)) (Ends Done)
       (λ e. (
         looks_still (End p) u same K.0,
@@ -194,19 +194,19 @@ module _ (line : Line) (h : Held) (page : ℕ) (change : HostChange) (cached : B
       → Knows (after_frame_watch next) (behind Watch u)
   watch_known _ _ (made.Again is) K = (
     looks_still Watch _ refl K.0,
-    rests_still h.topics _ refl refl refl refl refl K.1,
+    rests_still h.topics _ refl refl refl refl refl refl K.1,
     record { moves = K.2.moves; owns = K.2.owns; closed = K.2.closed },
     watch_comes (own_index h) (actors_of h.state.sizes) h.topics v _ _ (made.Again is) K.3,
   )
   watch_known _ _ (made.Next is lt) K = (
     looks_still Watch _ refl K.0,
-    rests_still h.topics _ refl refl refl refl refl K.1,
+    rests_still h.topics _ refl refl refl refl refl refl K.1,
     record { moves = K.2.moves; owns = K.2.owns; closed = K.2.closed },
     lt,
   )
   watch_known _ _ (made.Last is le) K = (
     looks_still Watch _ refl K.0,
-    rests_still h.topics _ refl refl refl refl refl K.1,
+    rests_still h.topics _ refl refl refl refl refl refl K.1,
     record { moves = K.2.moves; owns = K.2.owns; closed = K.2.closed },
     record { owns = K.2.owns; closed = K.2.closed; watched = le },
   )
@@ -244,4 +244,4 @@ module _ (line : Line) (h : Held) (page : ℕ) (change : HostChange) (cached : B
       end_comes p (end_next p v) (part_topics (end_part p h.topics) h.topics v) R (end_leaves_host p h.topics v K.1) (end_leaves_pages p h.topics v) K
       (ending_known p h.topics v K.1 A)
   host_known Watch R K closed A = watch_known _ _ (watch_made h v) K
-  host_known Free R K closed A = rests_still h.topics _ refl refl refl refl refl K.1
+  host_known Free R K closed A = rests_still h.topics _ refl refl refl refl refl refl K.1

@@ -112,18 +112,20 @@ open_still t u stay hold walk search own_ O = record {
   unraised = ap (λ n. n.raised) own_ ∙ O.unraised;
 }
 
--- Who is free, and owns no page, is at rest.
-pub free_rests : (t : Topics) → t.owned ≡ None → IsFree t → IsAtRest t
-free_rests t none F = record { outside = F.outside; loose = F.loose; owns_none = none; no_table = F.no_table; no_set = F.no_set }
+-- Who is free, owns no page and owes no mark is at rest.
+pub free_rests : (t : Topics) → t.owned ≡ None → t.owed ≡ None → IsFree t → IsAtRest t
+free_rests t none owes F = record { outside = F.outside; loose = F.loose; owns_none = none; owes_none = owes; no_table = F.no_table; no_set = F.no_set }
 
 pub rests_free : (t : Topics) → IsAtRest t → IsFree t
 rests_free t R = record { outside = R.outside; loose = R.loose; no_table = R.no_table; no_set = R.no_set }
 
-pub rests_still : (t u : Topics) → u.stay ≡ t.stay → u.hold ≡ t.hold → u.owned ≡ t.owned → u.walk ≡ t.walk → u.search ≡ t.search → IsAtRest t → IsAtRest u
-rests_still t u stay hold owned walk search R = record {
+pub rests_still : (t u : Topics) → u.stay ≡ t.stay → u.hold ≡ t.hold → u.owned ≡ t.owned → u.owed ≡ t.owed → u.walk ≡ t.walk → u.search ≡ t.search
+    → IsAtRest t → IsAtRest u
+rests_still t u stay hold owned owed walk search R = record {
   outside = stay ∙ R.outside;
   loose = hold ∙ R.loose;
   owns_none = owned ∙ R.owns_none;
+  owes_none = owed ∙ R.owes_none;
   no_table = ap (λ w. w.level) walk ∙ R.no_table;
   no_set = ap (λ s. s.set) search ∙ R.no_set;
 }

@@ -50,9 +50,11 @@ begin_rises _ target t = refl
 
 -- ---- what it leaves
 
--- What the actor has of pages and frames, and how many it has watched, is as it was.
+-- Where the actor is, what it has of pages and frames, the mark that it owes, and how many it has watched, is as it was.
 pub record LeavesPages (t u : Topics) : Type 0 where
+  pub stay : u.stay ≡ t.stay
   pub owned : u.owned ≡ t.owned
+  pub owed : u.owed ≡ t.owed
   pub retired : u.retired ≡ t.retired
   pub frames : u.frames ≡ t.frames
   pub watched : u.watched ≡ t.watched
@@ -60,17 +62,17 @@ pub record LeavesPages (t u : Topics) : Type 0 where
 pub begin_leaves_pages : (p : BeginPlace) (target : Target) (t : Topics) (v : ℕ) → LeavesPages t (part_topics (begin_part p target t) t v)
 begin_leaves_pages (begins.Find begun) target t v =
     either_place (λ step. LeavesPages t (part_topics step t v)) begun part.Slot part.Slots
-    (record { owned = refl; retired = refl; frames = refl; watched = refl })
-    (record { owned = refl; retired = refl; frames = refl; watched = refl })
+    (record { stay = refl; owned = refl; owed = refl; retired = refl; frames = refl; watched = refl })
+    (record { stay = refl; owned = refl; owed = refl; retired = refl; frames = refl; watched = refl })
 begin_leaves_pages (begins.Walk rooted) target t v =
     either_place (λ step. LeavesPages t (part_topics step t v)) rooted (part.Sweep _) part.Root
-    (record { owned = refl; retired = refl; frames = refl; watched = refl })
-    (record { owned = refl; retired = refl; frames = refl; watched = refl })
-begin_leaves_pages _ target t v = record { owned = refl; retired = refl; frames = refl; watched = refl }
+    (record { stay = refl; owned = refl; owed = refl; retired = refl; frames = refl; watched = refl })
+    (record { stay = refl; owned = refl; owed = refl; retired = refl; frames = refl; watched = refl })
+begin_leaves_pages _ target t v = record { stay = refl; owned = refl; owed = refl; retired = refl; frames = refl; watched = refl }
 
 pub end_leaves_pages : (p : EndPlace) (t : Topics) (v : ℕ) → LeavesPages t (part_topics (end_part p t) t v)
-end_leaves_pages ends.Exclude t v = record { owned = refl; retired = refl; frames = refl; watched = refl }
-end_leaves_pages _ t v = record { owned = refl; retired = refl; frames = refl; watched = refl }
+end_leaves_pages ends.Exclude t v = record { stay = refl; owned = refl; owed = refl; retired = refl; frames = refl; watched = refl }
+end_leaves_pages _ t v = record { stay = refl; owned = refl; owed = refl; retired = refl; frames = refl; watched = refl }
 
 -- Up to its count the invalidation isn't open.
 pub not_yet_open : (p : BeginPlace) (z : Sizes) (target : Target) (t : Topics) → is_among_open p ≡ false → BeginKnows p z target t

@@ -52,7 +52,7 @@ use Rattle.part_steps.specs.PartTopics.{part_topics}
 use Rattle.mmu_core.specs.machine.Steps.{has_line, line_at, place_at, standing}
 use Rattle.part_steps.specs.Tasks.{kind_of_task}
 use Rattle.mmu_core.specs.machine.Outcomes.{place_after}
-use Rattle.part_steps.specs.StayTopics.{may_walk}
+use Rattle.part_steps.specs.StayTopics.{is_section, may_walk}
 use Rattle.part_steps.specs.WalkTopics.{gone_down, linked_page}
 use Rattle.part_steps.specs.ControlTopics.{at_root}
 use Rattle.part_steps.specs.TopicSteps.{topics_after}
@@ -157,11 +157,11 @@ access_known (Walk again) line h gfn word op cached v C small R K A =
     (record { guest = K.0.guest; loose = K.0.loose; owns_none = K.0.owns_none; no_set = K.0.no_set }) refl refl
 access_known Touch line h gfn word op cached v C small R K A = K.0
 access_known (Leave (leaving.Reached frame value)) line h gfn word op cached v C small R K A =
-    record { outside = refl; loose = K.loose; owns_none = K.owns_none; no_table = refl; no_set = refl }
+    record { outside = refl; loose = K.loose; owns_none = K.owns_none; owes_none = R.owes (ap is_section K.guest); no_table = refl; no_set = refl }
 access_known (Leave (leaving.Faults true)) line h gfn word op cached v C small R K A =
-    record { outside = refl; loose = K.loose; owns_none = K.owns_none; no_table = refl; no_set = refl }
+    record { outside = refl; loose = K.loose; owns_none = K.owns_none; owes_none = R.owes (ap is_section K.guest); no_table = refl; no_set = refl }
 access_known (Leave (leaving.Faults false)) line h gfn word op cached v C small R K A =
-    record { outside = refl; loose = K.loose; owns_none = K.owns_none; no_table = refl; no_set = refl }
+    record { outside = refl; loose = K.loose; owns_none = K.owns_none; owes_none = R.owes (ap is_section K.guest); no_table = refl; no_set = refl }
 access_known (Fault p) line h gfn word op cached v C small R K A =
     fault_over_known (fault_next p h.state.sizes gfn (is_write op) h.topics v) gfn word op
     (hand_with line (Access gfn word op) (place.Access (Fault p)) h (behind_part (access_part (Fault p) gfn h.topics) h.topics v) cached v)

@@ -28,8 +28,8 @@ pub rests_by_seq : (t : Topics) (v : ℕ) → IsAtRest t → IsAtRest (part_topi
 rests_by_seq t v K = by (is_loose t.hold)
   where
     by : (b : Bool) → IsAtRest (sequenced b t v)
-    by true = record { outside = K.outside; loose = K.loose; owns_none = K.owns_none; no_table = K.no_table; no_set = refl }
-    by false = record { outside = K.outside; loose = K.loose; owns_none = K.owns_none; no_table = K.no_table; no_set = K.no_set }
+    by true = record { outside = K.outside; loose = K.loose; owns_none = K.owns_none; owes_none = K.owes_none; no_table = K.no_table; no_set = refl }
+    by false = record { outside = K.outside; loose = K.loose; owns_none = K.owns_none; owes_none = K.owes_none; no_table = K.no_table; no_set = K.no_set }
 
 -- Who publishes a slot set holds it as before.
 pub lock_publishes : (hold : Hold) (t : Topics) (v : ℕ) → HoldsLock hold t → HoldsLock hold (part_topics part.Publish t v)

@@ -4,7 +4,8 @@ use Rattle.core_views.specs.declared.sizes.Sizes.{Sizes}
 use Rattle.core_views.specs.declared.topics.Topics.{Topics}
 use Rattle.core_views.specs.Held.{Held}
 use Rattle.core_views.specs.Sizes.{actors_of}
-use Rattle.mmu_core.specs.invariant.TopicsInvariant.{CountersPart, FilledPart, FramesPart, HeldPart, LockPart, LookPart, OwnLooksPart, SawWriter, SearchPart}
+use Rattle.mmu_core.specs.invariant.TopicsInvariant.{CountersPart, FilledPart, FramesPart, HeldPart, LockPart, LookPart, OwedPart}
+use Rattle.mmu_core.specs.invariant.TopicsInvariant.{OwnLooksPart, SawWriter, SearchPart}
 use Rattle.mmu_core.specs.invariant.TopicsInvariant.{StatesPart, TopicsInvariantOf, SetsPart, OldSetsPart, PathPart, UsePart, stands, CountPart}
 use Rattle.mmu_core.specs.invariant.TopicsInvariant.{CheckedPart, HeldSlotsPart, KnownRangePart, LoadedPart, LookedFramesPart, PassedPart, RangePart}
 use Rattle.mmu_core.specs.invariant.TopicsInvariant.{ScopePart, SweptPart, ZappedPart}
@@ -26,6 +27,7 @@ same_topics z lock root slots seq count start end_ states map frame_map host rol
   filled = subst (λ (t : ℕ → Topics). FilledPart (actors_of z) role pool (λ i. (t i).owned)) (sym same) I.filled;
   held = subst (λ (t : ℕ → Topics). (i : ℕ) → i < actors_of z → HeldPart (stands I.up I.spot) (t i)) (sym same) I.held;
   paths = subst (λ (t : ℕ → Topics). (i : ℕ) → i < actors_of z → PathPart (stands I.up I.spot) (t i).walk) (sym same) I.paths;
+  owed = subst (λ (t : ℕ → Topics). (i : ℕ) → i < actors_of z → OwedPart (t i)) (sym same) I.owed;
   sets = subst (λ (t : ℕ → Topics). SetsPart (actors_of z) slots t) (sym same) I.sets;
   old_sets = subst (λ (t : ℕ → Topics). OldSetsPart z (actors_of z) pool (λ i. (t i).retired)) (sym same) I.old_sets;
   held_slots = subst (λ (t : ℕ → Topics). HeldSlotsPart (actors_of z) seq pool slots t) (sym same) I.held_slots;

@@ -1,5 +1,6 @@
 -- A line that changes a slot knows after each of its steps what its next place asks.
 use Rattle.std.proofs.Common.{◌≡◌, ◌<◌, ◌≤◌, ◌+◌, ◌==◌, ℕ, refl, ap, ◌∙◌}
+use Rattle.part_steps.specs.StayTopics.{is_section}
 use Rattle.std.specs.Prelude.{true, nat_lt, Option, Some, None, is_some}
 use Rattle.std.proofs.lemmas.Bool.{eqb-true}
 use Rattle.circular_buffer.specs.Buffer.{Buffer}
@@ -203,4 +204,5 @@ module _ (line : Line) (h : Held) (command : Command) (cached : Buffer Translati
       let owns_none = ap (λ o. filled_more o v) K.1.owns_none in
       (changes, (K.0, record { leaves = K.1.leaves; in_pool = K.1.in_pool; owns_none = owns_none; watched = K.1.watched }))
   slot_change_known Give R K left W A =
-      record { outside = K.0.outside; loose = K.0.holds; owns_none = refl; no_table = K.0.no_table; no_set = K.0.no_set }
+      let owes_none = R.owes (ap is_section K.0.outside) in
+      record { outside = K.0.outside; loose = K.0.holds; owns_none = refl; owes_none = owes_none; no_table = K.0.no_table; no_set = K.0.no_set }

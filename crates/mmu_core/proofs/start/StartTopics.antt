@@ -226,7 +226,7 @@ pub seq_start : (z : Sizes) (lines : List Line) (w : World Held) → IsStart z l
 seq_start z lines w start = word_at_start z w area.Seq 0 0 start.words (λ l. refl) (λ e. refl)
 
 pub rest_first : IsAtRest first_topics
-rest_first = record { outside = refl; loose = refl; owns_none = refl; no_table = refl; no_set = refl }
+rest_first = record { outside = refl; loose = refl; owns_none = refl; owes_none = refl; no_table = refl; no_set = refl }
 
 pub none_open_yet : (z : Sizes) (lines : List Line) (w : World Held) (i : ℕ) → IsStart z lines w → i < actors_of z
     → (hand_in mmu w i).topics.invalidations.opened ≡ true → ⊥
@@ -251,6 +251,7 @@ start_topics z lines w start = record {
       λ i lt. subst (HeldPart (stands (start_up z.pool) start_spot)) (sym (topics_are z lines w i start lt)) (held_first (stands (start_up z.pool) start_spot));
   paths = λ i lt. subst (λ (t : Topics). PathPart (stands (start_up z.pool) start_spot) t.walk) (sym (topics_are z lines w i start lt))
       (λ level from above most. absurd (omega (arith, from)));
+  owed = λ i lt out. ap (λ (t : Topics). t.owed) (topics_are z lines w i start lt);
   sets = λ i k lt is. absurd (holds_none z lines w i k start lt is);
   old_sets = λ i k lt is. absurd (retires_none z lines w i k start lt is);
   held_slots = λ i set gfn id slot lt is. absurd (holds_none z lines w i set start lt is);

@@ -6,7 +6,7 @@ use Rattle.core_views.specs.declared.topics.TableWalk.{TableWalk}
 use Rattle.core_views.specs.declared.topics.Topics.{Topics}
 use Rattle.part_steps.specs.PartTasks.{table_page}
 use Rattle.mmu_core.specs.invariant.SlotSetPart.{AreSlots}
-use Rattle.part_steps.specs.StayTopics.{may_search, may_walk}
+use Rattle.part_steps.specs.StayTopics.{is_section, may_search, may_walk}
 use Rattle.mmu_core.specs.invariant.TreePart.{Position, at}
 
 -- The table that a walk has come to is one, at the walk's level and span; and neither a table nor a slot set is held outside of the
@@ -15,6 +15,10 @@ pub record HeldPart (stands : ℕ → Option Position) (t : Topics) : Type 0 whe
   pub table : 1 ≤ t.walk.level → stands (table_page t.walk) ≡ Some (at t.walk.level t.walk.prefix)
   pub no_table : may_walk t.stay t.hold ≡ false → t.walk.level ≡ 0
   pub no_set : may_search t.stay t.hold ≡ false → t.search.set ≡ None
+
+-- No mark is owed outside of a section.
+abbrev pub OwedPart : Topics → Type 0
+OwedPart t = is_section t.stay ≡ false → t.owed ≡ None
 
 -- the table that a walk holds at a level
 abbrev pub table_at : ℕ → TableWalk → ℕ

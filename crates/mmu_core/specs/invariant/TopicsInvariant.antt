@@ -9,7 +9,7 @@ pub use Rattle.part_steps.specs.PartBounds.{CountersPart}
 pub use Rattle.mmu_core.specs.invariant.AllOver.{AllOver, LeafIsFor}
 pub use Rattle.mmu_core.specs.invariant.FramesPart.{CopiedPart, FrameUse, FramesPart, LookedFramesPart}
 pub use Rattle.mmu_core.specs.invariant.HostWordsPart.{HostWordsPart, IsHostWord, OwnLooksPart}
-pub use Rattle.mmu_core.specs.invariant.HeldPart.{HeldPart, HoldsOld, OldSetsPart, PathPart, SetsPart}
+pub use Rattle.mmu_core.specs.invariant.HeldPart.{HeldPart, HoldsOld, OldSetsPart, OwedPart, PathPart, SetsPart}
 pub use Rattle.mmu_core.specs.invariant.InvalidationsPart.{CheckedPart, CountPart, KnownRangePart, LoadedPart}
 pub use Rattle.mmu_core.specs.invariant.InvalidatedPart.{PassedPart, RangePart, ScopePart, SweptPart, ZappedPart}
 pub use Rattle.mmu_core.specs.invariant.LockPart.{LockPart, SawWriter}
@@ -33,6 +33,7 @@ pub record TopicsInvariantOf (z : Sizes) (lock root slots seq count start end_ :
   pub filled : FilledPart (actors_of z) role pool (λ i. (hand i).topics.owned)
   pub held : (i : ℕ) → i < actors_of z → HeldPart (stands up spot) (hand i).topics
   pub paths : (i : ℕ) → i < actors_of z → PathPart (stands up spot) (hand i).topics.walk
+  pub owed : (i : ℕ) → i < actors_of z → OwedPart (hand i).topics
   pub sets : SetsPart (actors_of z) slots (λ i. (hand i).topics)
   pub old_sets : OldSetsPart z (actors_of z) pool (λ i. (hand i).topics.retired)
   pub held_slots : HeldSlotsPart (actors_of z) seq pool slots (λ i. (hand i).topics)
