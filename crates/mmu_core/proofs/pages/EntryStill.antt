@@ -1,15 +1,11 @@
 -- What is so of an entry that was seen, while only fast faults may have changed it.
-use Rattle.std.proofs.Common.{◌≡◌, inl, inr, ℕ, sym, ap, ◌∙◌}
+use Rattle.std.proofs.Common.{◌≡◌, inl, inr, ℕ, ap, ◌∙◌}
 use Rattle.spte_words.specs.declared.spte_kind.SpteKind.TheVariants.{Leaf}
 use Rattle.spte_words.specs.Entries.{kind_of}
+use Rattle.spte_words.proofs.FixedEntries.{fixed_kind}
 use Rattle.mmu_core.specs.invariant.InvalidationsPart.{IsEntryStill}
 
 -- A leaf is a leaf still.
 pub still_leaf : (level now_ seen : ℕ) → IsEntryStill level now_ seen → kind_of level seen ≡ Leaf → kind_of level now_ ≡ Leaf
 still_leaf level now_ seen (inl same) leaf = ap (kind_of level) same ∙ leaf
-still_leaf level now_ seen (inr both) leaf = both.1
-
--- What is there now was seen, or a leaf.
-pub seen_leaf : (level now_ seen : ℕ) → IsEntryStill level now_ seen → kind_of level now_ ≡ Leaf → kind_of level seen ≡ Leaf
-seen_leaf level now_ seen (inl same) leaf = ap (kind_of level) (sym same) ∙ leaf
-seen_leaf level now_ seen (inr both) leaf = both.0
+still_leaf level now_ seen (inr A) leaf = ap (λ l. kind_of l now_) A.lowest ∙ ap (kind_of 1) A.is ∙ fixed_kind seen A.leaf A.denied

@@ -1,6 +1,6 @@
 -- The entry that an actor has loaded that has the lock alone, outside of every section, stays in its table: each step of a part keeps it.
 use Rattle.std.proofs.Common.{◌≡◌, ◌≢◌, ◌⊎◌, inl, inr, ◌<◌, ◌≤◌, ℕ, refl, sym, subst, ap, ◌∙◌, arith}
-use Rattle.std.specs.Prelude.{Bool, true, false, if◌then◌else◌, Option, Some, None, ◌==◌}
+use Rattle.std.specs.Prelude.{Bool, true, false, if◌then◌else◌, Option, Some, None, ◌==◌, not}
 use Rattle.core_views.specs.declared.sizes.Sizes.{Sizes}
 use Rattle.core_views.specs.declared.topics.Hold.{Hold}
 use Rattle.core_views.specs.declared.topics.Hold.TheVariants.{Shared, Owing, Exclusive}
@@ -12,7 +12,8 @@ use Rattle.core_views.specs.Held.{Held}
 use Rattle.core_views.specs.Sizes.{actors_of}
 use Rattle.spte_words.specs.declared.area.Area.TheVariants as area
 use Rattle.spte_words.specs.Areas.{pool_index}
-use Rattle.spte_words.specs.Entries.{kind_of}
+use Rattle.spte_words.specs.Entries.{can_write, kind_of, with_write}
+use Rattle.spte_words.proofs.FixedEntries.{fixed_can_write}
 use Rattle.part_steps.specs.declared.part_step.PartStep.{PartStep}
 use Rattle.part_steps.specs.declared.part_step.PartStep.TheVariants as part
 use Rattle.part_steps.specs.PartTasks.{entry_index, part_task, table_page, leaf_fixed}
@@ -32,10 +33,9 @@ use Rattle.mmu_core.proofs.words.PartTopics.{behind_step, part_behind}
 use Rattle.mmu_core.proofs.words.PartWords.{IsElsewhere, page_stays}
 use Rattle.spte_words.specs.declared.spte_kind.SpteKind.TheVariants.{Leaf}
 use Rattle.mmu_core.specs.invariant.TreePart.{Position, stands}
-use Rattle.mmu_core.proofs.pages.EntryStill.{seen_leaf}
 use Rattle.mmu_core.proofs.pages.Standing.{entry_now, one_position}
-use Rattle.mmu_core.proofs.pages.TreeKept.{fixed_is_leaf}
 use Rattle.mmu_core.proofs.machine.ColumnsTell.{tells}
+use Rattle.mmu_core.proofs.lines.FaultSame.{both, is_not}
 use Rattle.spte_words.proofs.Indices.{same_pool_word}
 
 -- of a view, whose words of the pool are these
@@ -116,7 +116,18 @@ others_apart z v a i step never S I lt ne alone from = by step never S
     by (part.Zap gfn) n T = absurd (let lock = ap has_lock T.needs.alone in cc (none, lock))
     by _ n T = tt
 
--- In the entry that was loaded a fast fault finds a leaf, and leaves one.
+-- Writes are allowed once in a leaf that was seen: where they were allowed since, it doesn't forbid them now.
+fixed_once : (level now_ after seen : ℕ) → level ≡ 1 → kind_of 1 now_ ≡ Leaf → can_write now_ ≡ false → after ≡ with_write now_
+    → IsEntryStill level now_ seen → IsEntryStill level after seen
+fixed_once level now_ after seen low leaf denied is (inl same) = inr (record {
+  lowest = low;
+  leaf = ap (kind_of 1) (sym same) ∙ leaf;
+  denied = ap can_write (sym same) ∙ denied;
+  is = is ∙ ap with_write same;
+})
+fixed_once level now_ after seen low leaf denied is (inr A) = absurd (let may = ap can_write A.is ∙ fixed_can_write seen A.denied in cc (may, denied))
+
+-- In the entry that was loaded a fast fault allows writes.
 fixed_loaded : (z : Sizes) (v : View) (a i gfn : ℕ) → IsPart z v a (part.Fix gfn) → TopicsInvariant z v → i < actors_of z
     → 1 ≤ (v.hand i).topics.walk.level → (v.hand i).topics.walk.index < 512 → (won : Bool)
     → (entry_now gfn (v.hand a).topics v == (v.hand a).topics.walk.entry) ≡ won
@@ -160,12 +171,10 @@ fixed_loaded z v a i gfn S I lt from low won is E = by won is (same_or at here)
         let s = same_pool_word (table_page walk) (table_page t.walk) walk.index (entry_index gfn t.walk.level) low (omega arith) e in
         let level : walk.level ≡ t.walk.level = one_level s.0 in
         let found : pool at ≡ t.walk.entry = ap pool e ∙ tells (entry_now gfn t v) t.walk.entry at_w in
-        let was : kind_of walk.level (pool at) ≡ Leaf = ap (λ l. kind_of l (pool at)) level ∙ ap (kind_of t.walk.level) found ∙ S.needs.leaf in
-        inr (
-          seen_leaf walk.level (pool at) walk.entry E was,
-          ap (λ n. kind_of walk.level n) (ap (upd pool here (leaf_fixed t)) e ∙ upd_same pool here (leaf_fixed t))
-              ∙ ap (λ l. kind_of l (leaf_fixed t)) level ∙ fixed_is_leaf t S.needs,
-        )
+        fixed_once walk.level (pool at) (upd pool here (leaf_fixed t) at) walk.entry (level ∙ S.needs.lowest)
+        (ap (λ l. kind_of l (pool at)) (sym S.needs.lowest) ∙ ap (kind_of t.walk.level) found ∙ S.needs.leaf)
+        (ap can_write found ∙ is_not (can_write t.walk.entry) (both (not (can_write t.walk.entry)) _ S.needs.fixable).0)
+        (ap (upd pool here (leaf_fixed t)) e ∙ upd_same pool here (leaf_fixed t) ∙ ap with_write (sym found)) E
 
 -- An entry that another actor has loaded, under the lock alone.
 others_loaded : (z : Sizes) (v : View) (a i : ℕ) (step : PartStep) (note : ℕ) → IsPart z v a step → TopicsInvariant z v → i < actors_of z → i ≢ a

@@ -20,7 +20,7 @@ use Rattle.part_steps.specs.PartTasks.{table_page}
 use Rattle.part_steps.specs.StayTopics.{has_lock}
 use Rattle.mmu_core.specs.machine.Sums.{one_if, sum_below}
 use Rattle.spte_words.specs.declared.spte_kind.SpteKind.TheVariants.{Leaf}
-use Rattle.spte_words.specs.Entries.{kind_of}
+use Rattle.spte_words.specs.Entries.{can_write, kind_of, with_write}
 
 -- The count is that of the actors that have an invalidation open.
 abbrev pub CountPart : ℕ → ℕ → (ℕ → Bool) → Type 0
@@ -54,9 +54,16 @@ abbrev pub KnownRangePart : ℕ → ℕ → Topics → Type 0
 KnownRangePart start end_ t =
     has_lock t.hold ≡ true → t.invalidations.checked ≡ checked.All → 0 < t.invalidations.count → (t.invalidations.start ≡ start) × (t.invalidations.end ≡ end_)
 
--- An entry of the level is the one that was seen; or this was a leaf, and it is one now: a fast fault may have allowed writes in it.
+-- A leaf of the lowest level that forbade writes was seen, and it is the same but for this now: a fast fault has allowed them in it.
+pub record AllowsWrites (level now_ seen : ℕ) : Type 0 where
+  pub lowest : level ≡ 1
+  pub leaf : kind_of 1 seen ≡ Leaf
+  pub denied : can_write seen ≡ false
+  pub is : now_ ≡ with_write seen
+
+-- An entry of the level is the one that was seen, or this with writes allowed.
 abbrev pub IsEntryStill : ℕ → ℕ → ℕ → Type 0
-IsEntryStill level now_ seen = (now_ ≡ seen) ⊎ ((kind_of level seen ≡ Leaf) × (kind_of level now_ ≡ Leaf))
+IsEntryStill level now_ seen = (now_ ≡ seen) ⊎ AllowsWrites level now_ seen
 
 -- So is the entry that an actor has loaded that has the lock alone, outside of every section.
 abbrev pub LoadedPart : (ℕ → ℕ) → Topics → Type 0
