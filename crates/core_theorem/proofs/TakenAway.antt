@@ -1,5 +1,5 @@
 -- A stay misses an installed entry only where another actor took an entry of the guest frame away since its fault began.
-use Rattle.std.proofs.Common.{◌≡◌, ℕ, List, [], ◌∷◌, ◌++◌, sym, subst, ap, ◌∙◌, append_assoc}
+use Rattle.std.proofs.Common.{◌≡◌, ◌⊎◌, inl, inr, ℕ, List, [], ◌∷◌, ◌++◌, sym, subst, ap, ◌∙◌, append_assoc}
 use Rattle.std.specs.Prelude.{Bool}
 use Rattle.core_views.specs.declared.kind.Kind.{Kind}
 use Rattle.core_views.specs.declared.kind.StepKind.{StepKind}
@@ -13,14 +13,15 @@ use Rattle.mmu_core.specs.invariant.Laws.{IsSound}
 use Rattle.mmu_core.specs.machine.Machine.{Legal, Step, World, effect, run}
 use Rattle.mmu_core.proofs.machine.Extend.{run-append}
 use Rattle.mmu_core.proofs.machine.Worlds.{good_run}
-use Rattle.mmu_laws.specs.turns.Breaking.{TakesAway, TakesLeaf}
+use Rattle.mmu_laws.specs.turns.Breaking.{ForbidsWrites, TakesAway, TakesLeaf}
 use Rattle.mmu_laws.specs.turns.Removal.{LostEntry, StandsSinceFault, StayMisses, Throughout, is_since_fault}
 use Rattle.mmu_laws.proofs.causes.StarvedScan.{legal_parts}
 use Rattle.mmu_laws.proofs.turns.OwnTakesNone.{own_takes_none}
 use Rattle.core_theorem.specs.Delays.{MissesEntry, WasTakenAway}
 
-taken_leaf : (k : StepKind) (z : Sizes) (gfn : ℕ) (w : World Held) (s : Step Kind) → TakesAway k z gfn w s → TakesLeaf z gfn w s
-taken_leaf kind.Zap z gfn w s takes_ = takes_
+taken_leaf : (k : StepKind) (z : Sizes) (gfn : ℕ) (w : World Held) (s : Step Kind) → TakesAway k z gfn w s → TakesLeaf z gfn w s ⊎ ForbidsWrites z gfn w s
+taken_leaf kind.Zap z gfn w s takes_ = inl takes_
+taken_leaf kind.Protect z gfn w s takes_ = inr takes_
 taken_leaf _ z gfn w s takes_ = absurd takes_
 
 -- What is so throughout some steps is so throughout the later ones.

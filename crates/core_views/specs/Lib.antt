@@ -22,6 +22,7 @@ pub mod Whole
 pub mod FlatHistory
 pub mod Alone
 pub mod Need
+pub mod StepCodes
 pub mod Kinds
 pub mod Held
 pub mod Writes

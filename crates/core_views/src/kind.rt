@@ -68,6 +68,14 @@ pub enum StepKind {
     Publish,
     /// Loads the state word of another actor.
     Watch,
+    /// Clears bits in a word of the dirty log.
+    Take,
+    /// Clears the bit of write permission in a leaf of the second-stage table.
+    Protect,
+    /// Loads a word of the dirty log.
+    Peek,
+    /// Stores a word of the dirty log, before it begins.
+    Arm,
 }
 
 /// The atomic operations on a word.
@@ -125,6 +133,10 @@ impl StepKind {
             StepKind::Unframe => 29,
             StepKind::Publish => 30,
             StepKind::Watch => 31,
+            StepKind::Take => 36,
+            StepKind::Protect => 37,
+            StepKind::Peek => 40,
+            StepKind::Arm => 41,
         }
     }
 
@@ -137,7 +149,8 @@ impl StepKind {
                 Operation::Load
             }
             StepKind::Host | StepKind::Await | StepKind::Copy | StepKind::Watch => Operation::Load,
-            StepKind::Fill | StepKind::Set => Operation::Store,
+            StepKind::Peek => Operation::Load,
+            StepKind::Fill | StepKind::Set | StepKind::Arm => Operation::Store,
             StepKind::Enter | StepKind::Write | StepKind::Zap | StepKind::Publish => {
                 Operation::Swap
             }
@@ -147,7 +160,9 @@ impl StepKind {
             | StepKind::End
             | StepKind::Release
             | StepKind::Claim
-            | StepKind::Frame => { Operation::FetchAnd }
+            | StepKind::Frame
+            | StepKind::Take
+            | StepKind::Protect => { Operation::FetchAnd }
             StepKind::Begin | StepKind::Mark | StepKind::Give | StepKind::Ask | StepKind::Unframe =>
                 Operation::FetchOr,
             StepKind::Bring | StepKind::Swap => Operation::CompareExchange,
@@ -207,6 +222,10 @@ impl Kind {
             29 => StepKind::Unframe,
             30 => StepKind::Publish,
             31 => StepKind::Watch,
+            36 => StepKind::Take,
+            37 => StepKind::Protect,
+            40 => StepKind::Peek,
+            41 => StepKind::Arm,
             _ => StepKind::Control,
         }
     }

@@ -2,6 +2,7 @@ pub mod Grace
 pub mod EmptySections
 pub mod CopiedKept
 pub mod CopiedSteps
+pub mod CounterTopics
 pub mod CountersKept
 pub mod WalkSpans
 pub mod FrameCounters
@@ -11,6 +12,7 @@ pub mod FlushSteps
 pub mod UsableKept
 pub mod UsableSteps
 pub mod LeadsDown
+pub mod HeldTopics
 pub mod HeldKept
 pub mod InvalidationsKept
 pub mod KnownRange

@@ -1,4 +1,5 @@
 pub mod AllOver
+pub mod OverSteps
 pub mod CopiedWords
 pub mod FilledKept
 pub mod FrameUses
@@ -6,6 +7,7 @@ pub mod FramesKept
 pub mod FramesTurn
 pub mod LeavesOver
 pub mod EntryStill
+pub mod ProtectedLeaf
 pub mod LoadedKept
 pub mod NoneBelow
 pub mod SweptEntries

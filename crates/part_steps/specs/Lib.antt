@@ -11,11 +11,13 @@ pub mod ControlBits
 pub mod ControlTopics
 pub mod TopicSteps
 pub mod HeldNumbers
+pub mod EntryWords
 pub mod PartTasks
 pub mod PartHoldings
 pub mod SweepHoldings
 pub mod InvalidationHoldings
 pub mod FrameHoldings
+pub mod LogHoldings
 pub mod PartSteps
 pub mod PartTopics
 pub mod PartBounds

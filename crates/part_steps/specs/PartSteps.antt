@@ -21,6 +21,7 @@ use Rattle.part_steps.specs.PartHoldings.{next_watched, OwnsPage, HasToFill, Has
 use Rattle.part_steps.specs.PartHoldings.{MayFix, MayGiveOld, MayMark, MayPublish, SawNoWrites}
 use Rattle.part_steps.specs.InvalidationHoldings.{MayAsk, MayChange, MayCount, MayEndInvalidation, MaySetEnd, MaySetStart}
 use Rattle.part_steps.specs.SweepHoldings.{MaySweep, MayZap}
+use Rattle.part_steps.specs.LogHoldings.{MayArm, MayProtect, MayReadLog, MayTake}
 use Rattle.part_steps.specs.InvalidationRange.{has_found_looked}
 use Rattle.part_steps.specs.SweepTopics.{is_sweeping}
 use Rattle.part_steps.specs.StayTopics.{is_alone}
@@ -40,8 +41,8 @@ counts Exclusive = false
 abbrev pub GoesOnToWord : ℕ → MapClaim → Type 0
 GoesOnToWord word claim = (word ≡ 0) ⊎ ((word ≡ claim.at) × (claim.seen ≡ 0))
 
--- The step is one of lines alone, in their order: it changes an entry of the tables, marks a page, or is of a publication, of an invalidation or of a change
--- or move of a host page. No actor makes it that has no line left.
+-- The step is one of lines alone, in their order: it changes an entry of the tables, is on a word of the dirty log, or is of a publication, of an invalidation or
+-- of a change or move of a host page. No actor makes it that has no line left.
 abbrev pub needs_line : PartStep → Bool
 needs_line (part.Link gfn) = true
 needs_line (part.Leaf gfn write) = true
@@ -65,6 +66,10 @@ needs_line part.Frame = true
 needs_line (part.Copy index) = true
 needs_line (part.Store index) = true
 needs_line part.GiveFrame = true
+needs_line (part.Take word mask) = true
+needs_line (part.Protect gfn) = true
+needs_line (part.Peek word) = true
+needs_line (part.Arm word bits) = true
 needs_line _ = false
 
 -- what a step needs of the hand
@@ -121,6 +126,10 @@ PartNeeds part.Frame h =
 PartNeeds (part.Copy index) h = MayCopy index h
 PartNeeds (part.Store index) h = MayStore index h
 PartNeeds part.GiveFrame h = MayGiveFrame h
+PartNeeds (part.Take word mask) h = MayTake word mask h
+PartNeeds (part.Protect gfn) h = MayProtect gfn h.topics
+PartNeeds (part.Peek word) h = MayReadLog word h
+PartNeeds (part.Arm word bits) h = MayArm word bits h
 
 -- The actor holds nothing: it is outside, and has no lock, no page, no table and no slot set; and it owes no mark.
 pub record IsAtRest (t : Topics) : Type 0 where

@@ -1,5 +1,5 @@
 -- Which step of the machine each step of a part is: its kind, its word, what it expects there and what it writes.
-use Rattle.std.specs.Prelude.{◌/◌, ◌%◌, ◌^◌, ◌<◌, ℕ, Bool, true, not, ◌==◌, ◌||◌, if◌then◌else◌}
+use Rattle.std.specs.Prelude.{◌/◌, ◌%◌, ◌^◌, ◌<◌, ℕ, true}
 use Rattle.std.specs.Int.{bit_not}
 use mir.Syntax.{w64}
 use Rattle.core_views.specs.declared.kind.Kind.{Kind}
@@ -12,14 +12,15 @@ use Rattle.core_views.specs.Sizes.{index_of}
 use Rattle.spte_words.specs.declared.area.Area.{Area}
 use Rattle.spte_words.specs.declared.area.Area.TheVariants as area
 use Rattle.spte_words.specs.Areas.{pool_index, size_of}
-use Rattle.spte_words.specs.Entries.{level_span, table_word, with_write}
+use Rattle.spte_words.specs.Entries.{write_bit}
 use Rattle.spte_words.specs.HostWords.{with_presence}
 use Rattle.part_steps.specs.declared.task.Task.{Task}
 use Rattle.part_steps.specs.declared.part_step.PartStep.{PartStep}
 use Rattle.part_steps.specs.declared.part_step.PartStep.TheVariants as part
 pub use Rattle.part_steps.specs.HeldNumbers.{is_absent, number_or_none, page_retired, page_owned, role_filled, set_held, word_looked, words_filled}
+pub use Rattle.part_steps.specs.EntryWords.{entry_index, leaf_fixed, leaf_written, link_written, puts_write, table_page}
 pub use Rattle.part_steps.specs.InvalidationRange.{page_looked}
-use Rattle.part_steps.specs.SlotWords.{leaf_of, page_of, slot_index}
+use Rattle.part_steps.specs.SlotWords.{page_of, slot_index}
 use Rattle.part_steps.specs.Tasks.{kind_of_task, loads, map_of}
 use Rattle.part_steps.specs.FrameTopics.{frame_owned, word_held}
 use Rattle.part_steps.specs.PageTopics.{tried_bit}
@@ -29,33 +30,6 @@ use Rattle.part_steps.specs.SweepTopics.{gone_up}
 -- the number that keeps all bits but these
 abbrev pub all_but : ℕ → ℕ
 all_but bits = bit_not w64 bits
-
--- the page of the table that a walk has come to
-abbrev pub table_page : TableWalk → ℕ
-table_page walk =
-    if walk.level == 4 then walk.root else
-    if walk.level == 3 then walk.third else
-    if walk.level == 2 then walk.second else
-    walk.first
-
--- the place of a guest frame's entry in a table of the level
-abbrev pub entry_index : ℕ → ℕ → ℕ
-entry_index gfn level = gfn / level_span level % 512
-
--- A leaf is put with write permission for a write, and where the slot has no dirty log (locking.rst, "Fast page fault").
-abbrev pub puts_write : Bool → Topics → Bool
-puts_write write t = write || not t.search.logged
-
--- what a link to the owned page is, and the leaf of the page that was looked up, for an access that writes or doesn't; and the leaf that was seen, which
--- allows writes now
-abbrev pub link_written : Topics → ℕ
-link_written t = table_word (page_owned t.owned)
-
-abbrev pub leaf_written : Bool → Topics → ℕ
-leaf_written write t = leaf_of (puts_write write t) t.search.slot (word_looked t.host)
-
-abbrev pub leaf_fixed : Topics → ℕ
-leaf_fixed t = with_write t.walk.entry
 
 -- the host page behind the guest frame for which a mark is owed
 abbrev pub page_owed : Topics → ℕ
@@ -135,6 +109,11 @@ part_task (part.Copy index) own t note = loads kind.Copy area.Content index note
 part_task (part.Store index) own t note = works kind.Fill area.Content index (word_held t.frames.owned) note
 part_task part.GiveFrame own t note =
     works kind.Unframe area.FrameMap (frame_owned t.frames.owned / 64) (2 ^ (frame_owned t.frames.owned % 64)) note
+part_task (part.Take word mask) own t note = works kind.Take area.Log word (all_but mask) note
+part_task (part.Protect gfn) own t note =
+    works kind.Protect area.Pool (pool_index (table_page t.walk) (entry_index gfn t.walk.level)) (all_but write_bit) note
+part_task (part.Peek word) own t note = loads kind.Peek area.Log word note
+part_task (part.Arm word bits) own t note = works kind.Arm area.Log word bits note
 
 -- the place of the hand's actor
 abbrev pub own_index : Held → ℕ

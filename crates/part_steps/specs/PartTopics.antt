@@ -6,6 +6,7 @@ use Rattle.core_views.specs.declared.topics.Stay.TheVariants.{Outside, Guest, Se
 use Rattle.core_views.specs.declared.topics.Topics.{Topics}
 use Rattle.part_steps.specs.declared.part_step.PartStep.{PartStep}
 use Rattle.part_steps.specs.declared.part_step.PartStep.TheVariants as part
+use Rattle.spte_words.specs.Entries.{without_write}
 use Rattle.spte_words.specs.HostWords.{host_frame, with_presence}
 use Rattle.part_steps.specs.FrameTopics.{frame_after, frame_given, frame_tried, word_copied, word_stored}
 use Rattle.part_steps.specs.InvalidationRange.{page_aimed}
@@ -114,3 +115,7 @@ part_topics part.Frame t v = record t { frames = frame_tried t.frames v }
 part_topics (part.Copy index) t v = record t { frames = record t.frames { owned = word_copied t.frames.owned v } }
 part_topics (part.Store index) t v = record t { frames = record t.frames { owned = word_stored t.frames.owned } }
 part_topics part.GiveFrame t v = record t { frames = frame_given t.frames }
+part_topics (part.Take word mask) t v = t
+part_topics (part.Protect gfn) t v = record t { walk = gone_down None t.walk (entry_index gfn t.walk.level) (without_write v) }
+part_topics (part.Peek word) t v = t
+part_topics (part.Arm word bits) t v = t

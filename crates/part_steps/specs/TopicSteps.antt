@@ -11,6 +11,7 @@ use Rattle.core_views.specs.declared.topics.Topics.{Topics}
 use Rattle.core_views.specs.Kinds.{kind_named}
 use Rattle.spte_words.specs.declared.area.Area.TheVariants as area
 use Rattle.spte_words.specs.Areas.{number_of, place}
+use Rattle.spte_words.specs.Entries.{without_write}
 use Rattle.spte_words.specs.HostWords.{host_frame}
 use Rattle.part_steps.specs.Tasks.{map_of}
 use Rattle.part_steps.specs.InvalidationRange.{page_aimed}
@@ -90,6 +91,11 @@ topics_by kind.Swap z k t v = record t {
   owed = if is_in_table t.walk then owed_after (v == k.old) t.search.logged t.walk (index_in_page z k.word) k.new t.owed else t.owed;
 }
 topics_by kind.Mark z k t v = record t { owed = None }
+topics_by kind.Take z k t v = t
+topics_by kind.Protect z k t v =
+    record t { walk = if is_in_table t.walk then gone_down None t.walk (index_in_page z k.word) (without_write v) else t.walk }
+topics_by kind.Peek z k t v = t
+topics_by kind.Arm z k t v = t
 
 -- what is held after a step that answered v
 unfoldable pub topics_after : Sizes → Kind → Topics → ℕ → Topics

@@ -40,8 +40,8 @@ fn is_of_pool(pool: u64, owned: Option<OwnedPage>) -> bool
 }
 
 /// Whether the step is one of lines alone, which no actor makes that has no line
-/// left: it changes an entry of the tables, marks a page, or is of a publication, of an invalidation or of
-/// a change or move of a host page.
+/// left: it changes an entry of the tables, is on a word of the dirty log, or is of a publication, of an
+/// invalidation or of a change or move of a host page.
 pub fn needs_line(step: PartStep) -> bool
     ensures { result ≡ needs_line step }
 {
@@ -54,6 +54,8 @@ pub fn needs_line(step: PartStep) -> bool
         PartStep::Ask(_) | PartStep::Await(_) | PartStep::Change(_) | PartStep::Bring => true,
         PartStep::FrameMap(_) | PartStep::Frame | PartStep::GiveFrame => true,
         PartStep::Copy(_) | PartStep::Store(_) => true,
+        PartStep::Take { .. } | PartStep::Protect(_) => true,
+        PartStep::Peek(_) | PartStep::Arm { .. } => true,
         _ => false,
     }
 }

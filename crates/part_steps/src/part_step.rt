@@ -11,7 +11,7 @@ ghost use Rattle.part_steps.specs.PartTasks.{page_looked, page_owed, page_owned,
 ghost use Rattle.part_steps.specs.PartTasks.{exchanges_host, part_kind, part_task, set_held, stores_bound, table_page, word_looked, words_filled, works};
 ghost use Rattle.part_steps.specs.PartSteps.{PartNeeds};
 ghost use Rattle.part_steps.specs.SlotWords.{slot_index};
-ghost use Rattle.spte_words.specs.Entries.{level_span, table_word};
+ghost use Rattle.spte_words.specs.Entries.{level_span, table_word, write_bit};
 ghost use Rattle.spte_words.specs.HostWords.{host_frame, with_presence};
 ghost use Rattle.part_steps.specs.Tasks.{loads, map_of};
 ghost use Rattle.part_steps.specs.FrameTopics.{frame_owned};
@@ -28,7 +28,7 @@ use crate::topics::tried_bit;
 use core_views::{
     Hand, HostLook, Kind, MapClaim, OwnedFrame, OwnedPage, SlotSearch, StepKind, TableWalk, Topics,
 };
-use spte_words::{Area, HostWord, Spte, WordMap};
+use spte_words::{Area, HostWord, Spte, WRITE, WordMap};
 
 /// One step of a part of the machine, with the number that its caller gives.
 /// Which word it is on follows from this, and from what the hand holds.
@@ -128,6 +128,14 @@ pub enum PartStep {
     Store(u64),
     /// Gives its frame back.
     GiveFrame,
+    /// Clears the bits of this mask in this word of the dirty log.
+    Take { word: u64, mask: u64 },
+    /// Forbids writes in the leaf of this guest frame that its walk has come to.
+    Protect(u64),
+    /// Loads this word of the dirty log.
+    Peek(u64),
+    /// Stores this number in this word of the dirty log, of a slot that has none yet.
+    Arm { word: u64, bits: u64 },
 }
 
 // An operation that writes, or works with, this number.
@@ -376,6 +384,19 @@ fn zap(map: &WordMap, walk: &TableWalk, gfn: u64, note: u64) -> Task
     work(StepKind::Zap, Area::Pool, index, 0, note)
 }
 
+// Forbids writes in the guest frame's leaf, in the table that the walk has come to.
+fn protect(map: &WordMap, walk: &TableWalk, gfn: u64, note: u64) -> Task
+    requires map { IsWordMap map.now }
+    requires from { 1 ≤ walk.now.level }
+    requires to { walk.now.level ≤ 4 }
+    requires page { table_page walk.now < map.now.pool }
+    ensures task { result ≡ works StepKind.Protect Area.Pool (pool_index (table_page walk.now) (entry_index gfn walk.now.level)) (all_but write_bit) note }
+    ensures within { result.index < size_of map.now result.area }
+{
+    let index = map.pool_index(table_page(walk), entry_index(gfn, walk.level));
+    work(StepKind::Protect, Area::Pool, index, !WRITE, note)
+}
+
 /// The host word that was looked up; 0 where none was.
 pub fn word_looked(host: Option<HostLook>) -> u64
     ensures { result ≡ word_looked host }
@@ -540,6 +561,10 @@ pub fn part_task(hand: &Hand, step: PartStep, note: u64) -> Task
             work(StepKind::Fill, Area::Content, index, word, note)
         }
         PartStep::GiveFrame => give_frame(topics.frames.owned, note),
+        PartStep::Take { word, mask } => work(StepKind::Take, Area::Log, word, !mask, note),
+        PartStep::Protect(gfn) => protect(map, &topics.walk, gfn, note),
+        PartStep::Peek(word) => Task::load(StepKind::Peek, Area::Log, word, note),
+        PartStep::Arm { word, bits } => work(StepKind::Arm, Area::Log, word, bits, note),
     }
 }
 

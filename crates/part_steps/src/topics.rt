@@ -409,14 +409,14 @@ fn store(word: u32, own: u64, page: Option<u64>, invalidations: &mut Invalidatio
     }
 }
 
-// A leaf was zapped: an absent entry stands there.
-fn zap_entry(sizes: &Sizes, word: u32, walk: &mut TableWalk)
+// A leaf was zapped, or writes were forbidden there: this entry stands there now.
+fn leave_entry(sizes: &Sizes, word: u32, walk: &mut TableWalk, entry: u64)
     requires { AreSizes sizes.now }
-    ensures { walk.new ≡ (if is_in_table walk.old then gone_down None walk.old (index_in_page sizes.now word) 0 else walk.old) }
+    ensures { walk.new ≡ (if is_in_table walk.old then gone_down None walk.old (index_in_page sizes.now word) entry else walk.old) }
 {
     if walk.level >= 1 {
         walk.index = index_in_page(sizes, word);
-        walk.entry = 0;
+        walk.entry = entry;
     }
 }
 
@@ -579,7 +579,11 @@ pub fn step_topics(sizes: &Sizes, kind: Kind, topics: &mut Topics, found: u64)
             let page = page_aimed(topics);
             store(kind.word, kind.old, page, &mut topics.invalidations, found);
         }
-        StepKind::Zap => zap_entry(sizes, kind.word, &mut topics.walk),
+        StepKind::Zap => leave_entry(sizes, kind.word, &mut topics.walk, 0),
+        StepKind::Protect => {
+            let left = Spte::from_word(found).without_write().word();
+            leave_entry(sizes, kind.word, &mut topics.walk, left);
+        }
         StepKind::Ask => topics.flush.asked = state_index(kind.word) + 1,
         StepKind::Await => {
             topics.flush.awaited = state_index(kind.word) + if has_to_flush(found) { 0 } else { 1 };
@@ -595,5 +599,6 @@ pub fn step_topics(sizes: &Sizes, kind: Kind, topics: &mut Topics, found: u64)
             topics.watched = state_index(kind.word) + if in_section(found) { 0 } else { 1 };
         }
         StepKind::Read | StepKind::Write | StepKind::Add => {}
+        StepKind::Take | StepKind::Peek | StepKind::Arm => {}
     }
 }

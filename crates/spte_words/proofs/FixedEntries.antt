@@ -22,7 +22,7 @@ fixed_can_write w denies = ap (has_bit 1) (fixed_is w denies) ∙ by (clear w de
     by : w / 2 % 2 ≡ 0 → has_bit 1 (w + 2) ≡ true
     by none = let one : (w + 2) / 2 % 2 ≡ 1 = omega (arith, none) in grind (arith, nat_tests)
 
-present_leaf : (w : ℕ) → kind_of 1 w ≡ Leaf → (w ≢ frozen_word) × (w / 2048 % 2 ≡ 1)
+pub present_leaf : (w : ℕ) → kind_of 1 w ≡ Leaf → (w ≢ frozen_word) × (w / 2048 % 2 ≡ 1)
 unfolding kind_of is_leaf_at
 present_leaf w is = by (w == frozen_word) (has_bit 11 w) refl refl is
   where

@@ -2,6 +2,7 @@ pub mod Spans
 pub mod ReadsBits
 pub mod ReadsEntries
 pub mod FixedEntries
+pub mod ProtectedEntries
 pub mod ReadsHost
 pub mod ReadsFlags
 pub mod Places

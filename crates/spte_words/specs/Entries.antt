@@ -32,6 +32,10 @@ frame_in word = word / 2 ^ 12 % 2 ^ 40
 unfoldable pub mapped_frame : ℕ → ℕ → ℕ → ℕ
 mapped_frame level leaf gfn = frame_in leaf + gfn % level_span level
 
+-- the bit of write permission
+abbrev pub write_bit : ℕ
+write_bit = 2
+
 unfoldable pub can_write : ℕ → Bool
 can_write word = has_bit 1 word
 

@@ -17,6 +17,6 @@ pub use laws::{
     entries_tell_what_they_are, host_words_and_flags_tell_what_they_are, places_are_apart,
 };
 pub use slot_flags::SlotFlags;
-pub use spte::Spte;
+pub use spte::{Spte, WRITE};
 pub use spte_kind::SpteKind;
 pub use word_map::WordMap;

@@ -8,7 +8,8 @@ use std::marker::Model;
 
 const READ: u64 = 1;
 
-const WRITE: u64 = 1 << 1;
+/// Bit 1 of an entry: guest writes are allowed.
+pub const WRITE: u64 = 1 << 1;
 
 const EXECUTE: u64 = 1 << 2;
 

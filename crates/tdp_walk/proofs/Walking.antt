@@ -22,7 +22,7 @@ use Rattle.step_seats.specs.Seats.{Seat}
 use Rattle.step_seats.specs.PartTurns.{MadePart, WherePartMade}
 use Rattle.tdp_walk.specs.declared.walk.Walk.{Walk}
 use Rattle.tdp_walk.specs.Walks.{FoundNext, GoesDown, StandsAtRoot, StopsAt, walk_step}
-use Rattle.mmu_core.proofs.held.HeldKept.{page_below}
+use Rattle.mmu_core.proofs.held.HeldTopics.{page_below}
 use Rattle.step_seats.proofs.Where.{telling, where_made}
 use Rattle.step_seats.proofs.Found.{found_told}
 

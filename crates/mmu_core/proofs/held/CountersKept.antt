@@ -1,10 +1,7 @@
 -- Each step of a part keeps the counters of what actors hold within what they count, and so the span of a walk's table.
-use Rattle.std.proofs.Common.{◌≡◌, ◌+◌, ◌^◌, ◌<◌, ◌≤◌, ℕ, refl, sym, subst, ap, arith}
+use Rattle.std.proofs.Common.{◌≡◌, ◌^◌, ◌<◌, ℕ, refl, sym, subst, ap, arith}
 use Rattle.std.specs.Prelude.{Bool, true, false, ◌==◌, ◌&&◌, not, if◌then◌else◌, None, is_some}
-use Rattle.core_views.specs.declared.place.SlotField.{SlotField}
-use Rattle.core_views.specs.declared.place.SlotField.TheVariants as field
 use Rattle.core_views.specs.declared.sizes.Sizes.{Sizes}
-use Rattle.core_views.specs.declared.topics.Invalidations.{Invalidations}
 use Rattle.core_views.specs.declared.topics.MapClaim.{MapClaim}
 use Rattle.core_views.specs.declared.topics.SlotSearch.{SlotSearch}
 use Rattle.core_views.specs.declared.topics.Stay.{Stay}
@@ -15,7 +12,8 @@ use Rattle.core_views.specs.Held.{Held}
 use Rattle.core_views.specs.Sizes.{actors_of}
 use Rattle.spte_words.specs.declared.area.Area.TheVariants as area
 use Rattle.spte_words.specs.Areas.{pool_index, words_of_bits}
-use Rattle.spte_words.specs.Flags.{flags_live}
+use Rattle.spte_words.specs.Entries.{without_write}
+use Rattle.spte_words.proofs.ProtectedEntries.{protected_least}
 use Rattle.part_steps.specs.SweepTopics.{gone_up}
 use Rattle.part_steps.specs.declared.part_step.PartStep.{PartStep}
 use Rattle.part_steps.specs.declared.part_step.PartStep.TheVariants as part
@@ -28,108 +26,20 @@ use Rattle.part_steps.specs.PartHoldings.{IsOver}
 use Rattle.mmu_core.specs.invariant.TopicsInvariant.{TopicsInvariant}
 use Rattle.part_steps.specs.StayTopics.{begun, is_loose, kept_search, may_walk}
 use Rattle.part_steps.specs.WalkTopics.{walked, linked_page}
-use Rattle.part_steps.specs.PageTopics.{is_won, searched, searched_at}
+use Rattle.part_steps.specs.PageTopics.{is_won}
 use Rattle.part_steps.specs.ControlBits.{in_section}
 use Rattle.mmu_core.specs.machine.View.{View, part_stepped, upd}
-use Rattle.core_views.specs.declared.topics.Flush.{Flush}
 use Rattle.mmu_core.proofs.held.FrameCounters.{changed_frames, copied_frames, given_frames, map_frames, stored_frames, tried_frames}
 use Rattle.mmu_core.proofs.held.FrameCounters.{flush_few, one_more, one_more_unless, seq_few, tried_at, tried_seen}
 use Rattle.mmu_core.proofs.held.InvalidationsKept.{count_few, counts_behind}
-use Rattle.mmu_core.proofs.held.WalkSpans.{SpanFits, exchanged_span, gone_span, let_go_span, root_span, exchanged_entry, gone_entry}
-use Rattle.mmu_core.proofs.machine.Columns.{at_upd}
+use Rattle.mmu_core.proofs.held.WalkSpans.{exchanged_span, gone_span, let_go_span, root_span, exchanged_entry, gone_entry}
 use Rattle.mmu_core.proofs.machine.PartStepping.{IsPart}
-use Rattle.mmu_core.proofs.words.PartTopics.{behind_step, part_behind}
+use Rattle.mmu_core.proofs.words.PartTopics.{behind_step}
 use Rattle.spte_words.specs.declared.area.Area.{Area}
 use Rattle.mmu_core.proofs.pages.Standing.{entry_now}
 use Rattle.part_steps.specs.PartTopics.{exchanged}
-
-abbrev pub CountersAt : Sizes → View → Type 0
-CountersAt z v = (i : ℕ) → i < actors_of z → CountersPart z (v.hand i).topics
-
--- ---- The counters.
-searched_id : (f : SlotField) (s : SlotSearch) (v : ℕ) → s.id ≤ 31 → (searched_at f s v).id ≤ 32
-searched_id field.Flags s v le = by (flags_live v)
-  where
-    by : (b : Bool) → (if b then s.id else s.id + 1) ≤ 32
-    by true = omega (arith, le)
-    by false = omega (arith, le)
-searched_id _ s v le = omega (arith, le)
-
-slot_counts : (b : Bool) (s : SlotSearch) (v : ℕ) → s.id ≤ 31 → (if b then searched s v else s).id ≤ 32
-slot_counts true s v le = searched_id s.next s v le
-slot_counts false s v le = omega (arith, le)
-
-pub all_count : (z : Sizes) (v : View) (a : ℕ) (h : Held) → TopicsInvariant z v → CountersPart z h.topics → (i : ℕ) → i < actors_of z
-    → CountersPart z (upd v.hand a h i).topics
-all_count z v a h I here = at_upd (λ i (k : Held). i < actors_of z → CountersPart z k.topics) v.hand a h (λ lt. here) (λ i ne. I.counters i)
-
--- the numbers that were loaded of the invalidations, or stored: as before; and within what they count
-abbrev SameNumbers : Invalidations → Invalidations → Type 0
-SameNumbers n m = (n.count ≡ m.count) × (n.seq ≡ m.seq) × (n.start ≡ m.start) × (n.end ≡ m.end)
-
-abbrev Numbers : Sizes → Invalidations → Type 0
-Numbers z n = (n.count ≤ actors_of z) × (n.seq < 2 ^ 40) × ((n.start < 2 ^ 64) × (n.end < 2 ^ 64))
-
--- a hand that keeps its counters but the walk's
-walked_counts : (z : Sizes) (t s : Topics) → s.search.id ≡ t.search.id → s.claim ≡ t.claim → s.watched ≡ t.watched → SameNumbers s.invalidations t.invalidations
-    → s.flush ≡ t.flush → s.frames ≡ t.frames → SpanFits s.walk → s.walk.entry < 2 ^ 64 → CountersPart z t → CountersPart z s
-walked_counts z t s id claim watched numbers flush frames span entry C = record {
-  slots = omega (arith, id, C.slots);
-  claim = subst (λ (c : MapClaim). c.at ≤ words_of_bits z.pool) (sym claim) C.claim;
-  seen = subst (λ (c : MapClaim). c.seen < 2 ^ 64) (sym claim) C.seen;
-  watched = omega (arith, watched, C.watched);
-  span = span;
-  entry = entry;
-  counted = omega (arith, numbers.0, C.counted);
-  seq = omega (arith, numbers.1, C.seq);
-  range = (omega (arith, numbers.2, C.range.0), omega (arith, numbers.3, C.range.1));
-  asked = subst (λ (f : Flush). f.asked ≤ z.vcpus) (sym flush) C.asked;
-  frames = subst (FrameCountersPart z) (sym frames) C.frames;
-}
-
--- a hand that keeps its counters
-same_counts : (z : Sizes) (t s : Topics) → s.search.id ≡ t.search.id → s.claim ≡ t.claim → s.watched ≡ t.watched → SameNumbers s.invalidations t.invalidations
-    → s.flush ≡ t.flush → s.frames ≡ t.frames → s.walk ≡ t.walk → CountersPart z t → CountersPart z s
-same_counts z t s id claim watched numbers flush frames walk C =
-    walked_counts z t s id claim watched numbers flush frames (subst SpanFits (sym walk) C.span)
-    (subst (λ (w : TableWalk). w.entry < 2 ^ 64) (sym walk) C.entry) C
-
--- a hand that keeps its counters but those of the invalidations and of the flush
-numbered_counts : (z : Sizes) (t s : Topics) → s.search.id ≡ t.search.id → s.claim ≡ t.claim → s.watched ≡ t.watched → s.walk ≡ t.walk
-    → s.frames ≡ t.frames → Numbers z s.invalidations → s.flush.asked ≤ z.vcpus → CountersPart z t → CountersPart z s
-numbered_counts z t s id claim watched walk frames numbers asked C = record {
-  slots = omega (arith, id, C.slots);
-  claim = subst (λ (c : MapClaim). c.at ≤ words_of_bits z.pool) (sym claim) C.claim;
-  seen = subst (λ (c : MapClaim). c.seen < 2 ^ 64) (sym claim) C.seen;
-  watched = omega (arith, watched, C.watched);
-  span = subst SpanFits (sym walk) C.span;
-  entry = subst (λ (w : TableWalk). w.entry < 2 ^ 64) (sym walk) C.entry;
-  counted = numbers.0;
-  seq = numbers.1;
-  asked = asked;
-  range = numbers.2;
-  frames = subst (FrameCountersPart z) (sym frames) C.frames;
-}
-
--- a hand that keeps its counters but those of the slots, of the claims, of the watch and of the frame that is owned
-other_counts : (z : Sizes) (t s : Topics) → s.search.id ≤ 32 → s.claim.at ≤ words_of_bits z.pool → s.claim.seen < 2 ^ 64 → s.watched ≤ actors_of z
-    → s.walk ≡ t.walk → s.invalidations ≡ t.invalidations → s.flush ≡ t.flush → FrameCountersPart z s.frames → CountersPart z t → CountersPart z s
-other_counts z t s slots claim seen watched walk same flush frames C = record {
-  slots = slots;
-  claim = claim;
-  seen = seen;
-  watched = watched;
-  span = subst SpanFits (sym walk) C.span;
-  entry = subst (λ (w : TableWalk). w.entry < 2 ^ 64) (sym walk) C.entry;
-  counted = subst (λ (n : Invalidations). n.count ≤ actors_of z) (sym same) C.counted;
-  seq = subst (λ (n : Invalidations). n.seq < 2 ^ 40) (sym same) C.seq;
-  asked = subst (λ (f : Flush). f.asked ≤ z.vcpus) (sym flush) C.asked;
-  range = subst (λ (n : Invalidations). (n.start < 2 ^ 64) × (n.end < 2 ^ 64)) (sym same) C.range;
-  frames = frames;
-}
-
-abbrev CountersBehind : Sizes → View → ℕ → ℕ → PartStep → Type 0
-CountersBehind z v a note step = IsPart z v a step → TopicsInvariant z v → CountersAt z (part_behind a step note v)
+pub use Rattle.mmu_core.proofs.held.CounterTopics.{CountersAt}
+use Rattle.mmu_core.proofs.held.CounterTopics.{slot_counts, all_count, walked_counts, same_counts, numbered_counts, other_counts, CountersBehind}
 
 pool_of : (z : Sizes) (v : View) (a : ℕ) (step : PartStep) → IsPart z v a step → words_of_bits (v.hand a).state.sizes.pool ≡ words_of_bits z.pool
 pool_of z v a step S = ap (λ (y : Sizes). words_of_bits y.pool) S.sizes
@@ -257,6 +167,11 @@ counters_behind z v a note (part.Await index) = λ S I.
 counters_behind z v a note (part.Zap gfn) = λ S I.
     all_count z v a _ I (walked_counts z (v.hand a).topics _ refl refl refl (refl, refl, refl, refl) refl refl
     (gone_span gfn 0 (v.hand a).topics.walk None S.needs.saw.over) (omega arith) (I.counters a S.there))
+counters_behind z v a note (part.Protect gfn) = λ S I.
+    let found : ℕ = entry_now gfn (v.hand a).topics v in
+    let left : without_write found < 2 ^ 64 = omega (arith, protected_least found, S.small area.Pool (pool_index (table_page (v.hand a).topics.walk) (entry_index gfn (v.hand a).topics.walk.level))) in
+    all_count z v a _ I (walked_counts z (v.hand a).topics _ refl refl refl (refl, refl, refl, refl) refl refl
+    (gone_span gfn (without_write found) (v.hand a).topics.walk None S.needs.saw.over) left (I.counters a S.there))
 counters_behind z v a note part.Publish = λ S I.
     let C = I.counters a S.there in
     all_count z v a _ I (other_counts z (v.hand a).topics _ C.slots C.claim C.seen (omega arith) refl refl refl C.frames C)

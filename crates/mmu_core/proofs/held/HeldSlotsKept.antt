@@ -16,7 +16,7 @@ use Rattle.mmu_core.specs.invariant.SearchPart.{HeldSlotsPart, IsOnFrame}
 use Rattle.mmu_core.specs.invariant.SlotSetPart.{IsLiveIn}
 use Rattle.mmu_core.specs.invariant.TopicsInvariant.{TopicsInvariant}
 use Rattle.mmu_core.specs.machine.View.{View, part_stepped}
-use Rattle.mmu_core.proofs.held.HeldKept.{set_kept}
+use Rattle.mmu_core.proofs.held.HeldTopics.{set_kept}
 use Rattle.mmu_core.proofs.held.Invalidating.{NoneInvalidating, invalidating_after, none_is_raised, raises_number, topics_now}
 use Rattle.mmu_core.proofs.held.OldSets.{held_words_stay}
 use Rattle.mmu_core.proofs.held.SetsKept.{begun_set, let_go_set}

@@ -48,6 +48,8 @@ retired_words_stay z v a (part.Fix gfn) note S I i k lt is =
     page_stays z v a (part.Fix gfn) note S k (retired_no_walk z v a i k S.there lt I S.needs.saw.over.there is)
 retired_words_stay z v a (part.Zap gfn) note S I i k lt is =
     page_stays z v a (part.Zap gfn) note S k (retired_no_walk z v a i k S.there lt I S.needs.saw.over.there is)
+retired_words_stay z v a (part.Protect gfn) note S I i k lt is =
+    page_stays z v a (part.Protect gfn) note S k (retired_no_walk z v a i k S.there lt I S.needs.saw.over.there is)
 retired_words_stay z v a _ note S I i k lt is = λ j low. refl
 
 -- what is retired after a step was retired before it, or is the page that was published

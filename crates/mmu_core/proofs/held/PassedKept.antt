@@ -33,7 +33,7 @@ use Rattle.mmu_core.specs.invariant.SlotSetPart.{IsLiveIn}
 use Rattle.mmu_core.specs.invariant.TopicsInvariant.{TopicsInvariant}
 use Rattle.mmu_core.specs.machine.View.{View, part_stepped, answer_in}
 use Rattle.std.proofs.lemmas.Bool.{cases_lt}
-use Rattle.mmu_core.proofs.held.HeldKept.{searched_set}
+use Rattle.mmu_core.proofs.held.HeldTopics.{searched_set}
 use Rattle.mmu_core.proofs.held.OldSets.{held_words_stay}
 use Rattle.mmu_core.proofs.held.SearchKept.{searched_part}
 use Rattle.mmu_core.proofs.machine.Columns.{at_upd}

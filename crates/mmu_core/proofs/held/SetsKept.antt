@@ -20,7 +20,7 @@ use Rattle.mmu_core.specs.machine.View.{View, part_stepped, upd}
 use Rattle.mmu_core.proofs.machine.PartStepping.{IsPart}
 use Rattle.mmu_core.proofs.words.PartTopics.{behind_step, part_behind}
 use Rattle.mmu_core.proofs.words.PartWords.{slots_are, slots_behind}
-use Rattle.mmu_core.proofs.held.HeldKept.{set_kept}
+use Rattle.mmu_core.proofs.held.HeldTopics.{set_kept}
 use Rattle.mmu_core.proofs.held.InSection.{all_passed, holder_in_section, watch_passes_none}
 use Rattle.mmu_core.proofs.held.Retired.{OldStays, OwnStays, held_quiet, held_same, held_still, retired_now}
 

@@ -16,7 +16,7 @@ use Rattle.spte_words.specs.HostWords.{host_allows_write, host_frame}
 use Rattle.spte_words.proofs.FixedEntries.{fixed_back, fixed_can_write, fixed_kind}
 use Rattle.spte_words.proofs.ReadsEntries.{kind_of_leaf, leaf_can_write}
 use Rattle.spte_words.proofs.Spans.{span_1}
-use Rattle.mmu_core.specs.lines.FaultKnows.{Entering, FastFound, FaultKnows, HasEntry, IsFixed, IsLost, Marks}
+use Rattle.mmu_core.specs.lines.FaultKnows.{Entering, FastFound, FaultKnows, HasEntry, IsFixed, Marks}
 use Rattle.mmu_core.specs.lines.FaultSteps.{allows_access, entry_word, exchange_lost, over_next, put_next}
 use Rattle.part_steps.specs.PartHoldings.{IsOver, LookedUp, MayFix, SawEntry, is_fixable}
 use Rattle.part_steps.specs.PartTasks.{entry_index, leaf_fixed, leaf_written, puts_write, word_looked}

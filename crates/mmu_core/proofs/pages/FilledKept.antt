@@ -149,6 +149,9 @@ own_filled z v a (part.Fix gfn) note S I o is =
     (I.filled a o S.there owned)
 own_filled z v a (part.Zap gfn) note S I o is =
     still_filled z v a (part.Zap gfn) note S o (λ e. walks_unowned z v a S.there I S.needs.saw.over.there a o S.there is (sym e)) tt (I.filled a o S.there is)
+own_filled z v a (part.Protect gfn) note S I o is =
+    still_filled z v a (part.Protect gfn) note S o (λ e. walks_unowned z v a S.there I S.needs.saw.over.there a o S.there is (sym e)) tt
+    (I.filled a o S.there is)
 own_filled z v a _ note S I o is = I.filled a o S.there is
 
 -- Another owner's page is none that the step stores in.
@@ -159,6 +162,7 @@ others_elsewhere z v a (part.Link gfn) S I i o lt apart is = λ e. walks_unowned
 others_elsewhere z v a (part.Leaf gfn write) S I i o lt apart is = λ e. walks_unowned z v a S.there I S.needs.0.saw.over.there i o lt is (sym e)
 others_elsewhere z v a (part.Fix gfn) S I i o lt apart is = λ e. walks_unowned z v a S.there I S.needs.saw.over.there i o lt is (sym e)
 others_elsewhere z v a (part.Zap gfn) S I i o lt apart is = λ e. walks_unowned z v a S.there I S.needs.saw.over.there i o lt is (sym e)
+others_elsewhere z v a (part.Protect gfn) S I i o lt apart is = λ e. walks_unowned z v a S.there I S.needs.saw.over.there i o lt is (sym e)
 others_elsewhere z v a _ S I i o lt apart is = tt
 
 -- And its role none.

@@ -6,9 +6,9 @@ use Rattle.core_views.specs.declared.topics.Topics.{Topics}
 use Rattle.spte_words.specs.declared.area.Area.TheVariants as area
 use Rattle.spte_words.specs.declared.spte_kind.SpteKind.TheVariants as entry_kind
 use Rattle.spte_words.specs.Areas.{pool_index}
-use Rattle.spte_words.specs.Entries.{kind_of, level_span, can_write, host_writable, leaf_word, mmu_writable, with_write}
+use Rattle.spte_words.specs.Entries.{kind_of, level_span, can_write, host_writable, leaf_word, mmu_writable, with_write, without_write}
 use Rattle.spte_words.specs.HostWords.{host_present, host_allows_write, host_frame}
-use Rattle.spte_words.proofs.ReadsEntries.{kind_of_absent, kind_of_table, leaf_mmu_writable, leaf_with_write}
+use Rattle.spte_words.proofs.ReadsEntries.{kind_of_absent, kind_of_table, leaf_mmu_writable, leaf_with_write, leaf_without_write}
 use Rattle.spte_words.proofs.Spans.{span_1}
 use Rattle.part_steps.specs.declared.part_step.PartStep.{PartStep}
 use Rattle.part_steps.specs.declared.part_step.PartStep.TheVariants as part
@@ -20,7 +20,8 @@ use Rattle.mmu_core.specs.invariant.SlotSetPart.{IsLiveIn}
 use Rattle.mmu_core.specs.invariant.TopicsInvariant.{TopicsInvariant}
 use Rattle.mmu_core.specs.invariant.TreePart.{HangsBelow, Position, Use, at, is_table, stands}
 use Rattle.mmu_core.specs.machine.View.{View, part_stepped}
-use Rattle.mmu_core.proofs.pages.AllOver.{IsLight, OfNewLeaf, over_step, over_weaker}
+use Rattle.mmu_core.proofs.pages.AllOver.{IsLight, over_weaker}
+use Rattle.mmu_core.proofs.pages.OverSteps.{OfNewLeaf, over_step}
 use Rattle.mmu_core.proofs.slots.LiveStay.{StayLive, leaf_stays}
 use Rattle.mmu_core.proofs.slots.LiveStays.{live_in_stays, part_live_stays}
 use Rattle.mmu_core.proofs.machine.PartStepping.{IsFlushedOut, IsPart, changes_word, flushed_within, is_publish}
@@ -77,12 +78,32 @@ fixed_leaf pool host set gfn leaf fixable L = record {
         sym (leaf_mmu_writable 1 (host_frame word) (L.writes && may_write L.slot word) (host_allows_write word) (may_write L.slot word) L.small)
         ∙ ap mmu_writable (sym L.is) ∙ allows
 
+-- And it is one that slots and host give, once writes are forbidden in it.
+left_leaf_for : (pool host : ℕ → ℕ) (set gfn leaf : ℕ) → IsLeafFor pool host set gfn leaf → IsLeafFor pool host set gfn (without_write leaf)
+left_leaf_for pool host set gfn leaf L = record {
+  id = L.id;
+  slot = L.slot;
+  live = L.live;
+  holds = L.holds;
+  writes = false;
+  is =
+      ap without_write L.is
+      ∙ leaf_without_write 1 (host_frame word) (L.writes && may_write L.slot word) (host_allows_write word) (may_write L.slot word);
+  present = L.present;
+  small = L.small;
+}
+  where
+    word : ℕ
+    word = host (page_of L.slot gfn)
+
 -- A new leaf is the one for the guest frame that its fault is for.
 new_leaf : (z : Sizes) (v : View) (a : ℕ) (step : PartStep) → IsPart z v a step → TopicsInvariant z v
     → OfNewLeaf step (v.hand a).topics (LeafIsFor (v.words area.Pool) (v.words area.Host) (v.words area.Slots 0))
 new_leaf z v a (part.Fix gfn) S I = λ other over was leaf.
     let is = was S.needs.leaf in
     (is.0, fixed_leaf (v.words area.Pool) (v.words area.Host) (v.words area.Slots 0) other _ S.needs.fixable is.1)
+new_leaf z v a (part.Protect gfn) S I = λ found other leaf was now_.
+    let is = was leaf in (is.0, left_leaf_for (v.words area.Pool) (v.words area.Host) (v.words area.Slots 0) other found is.1)
 new_leaf z v a (part.Leaf gfn write) S I =
     λ other over leaf.
     (S.needs.1, subst (λ g. IsLeafFor (v.words area.Pool) (v.words area.Host) (v.words area.Slots 0) g (leaf_written write t)) (sym (same other over)) own)

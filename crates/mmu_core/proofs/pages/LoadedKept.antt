@@ -12,7 +12,7 @@ use Rattle.core_views.specs.Held.{Held}
 use Rattle.core_views.specs.Sizes.{actors_of}
 use Rattle.spte_words.specs.declared.area.Area.TheVariants as area
 use Rattle.spte_words.specs.Areas.{pool_index}
-use Rattle.spte_words.specs.Entries.{can_write, kind_of, with_write}
+use Rattle.spte_words.specs.Entries.{can_write, kind_of, with_write, without_write}
 use Rattle.spte_words.proofs.FixedEntries.{fixed_can_write}
 use Rattle.part_steps.specs.declared.part_step.PartStep.{PartStep}
 use Rattle.part_steps.specs.declared.part_step.PartStep.TheVariants as part
@@ -33,6 +33,7 @@ use Rattle.mmu_core.proofs.words.PartTopics.{behind_step, part_behind}
 use Rattle.mmu_core.proofs.words.PartWords.{IsElsewhere, page_stays}
 use Rattle.spte_words.specs.declared.spte_kind.SpteKind.TheVariants.{Leaf}
 use Rattle.mmu_core.specs.invariant.TreePart.{Position, stands}
+use Rattle.mmu_core.proofs.pages.ProtectedLeaf.{pool_protected}
 use Rattle.mmu_core.proofs.pages.Standing.{entry_now, one_position}
 use Rattle.mmu_core.proofs.machine.ColumnsTell.{tells}
 use Rattle.mmu_core.proofs.lines.FaultSame.{both, is_not}
@@ -85,6 +86,10 @@ own_loaded z v a note (part.Leaf gfn write) S I = λ alone. absurd (let shared =
 own_loaded z v a note (part.Fix gfn) S I = λ alone out. absurd (let section = S.needs.section in cc (out, section))
 own_loaded z v a note (part.Zap gfn) S I = λ alone out from low. inl (upd_same (v.words area.Pool)
     (pool_index (table_page (v.hand a).topics.walk) (entry_index gfn (v.hand a).topics.walk.level)) 0)
+own_loaded z v a note (part.Protect gfn) S I = λ alone out from low.
+    let here : ℕ = pool_index (table_page (v.hand a).topics.walk) (entry_index gfn (v.hand a).topics.walk.level) in
+    inl (ap (λ (pool : ℕ → ℕ). pool here) (pool_protected z v a gfn S note)
+    ∙ upd_same (v.words area.Pool) here (without_write (entry_now gfn (v.hand a).topics v)))
 own_loaded z v a note (part.Fill value) S I = λ alone out from low.
     let walk : TableWalk = (v.hand a).topics.walk in
     subst (λ (w : ℕ). IsEntryStill walk.level w walk.entry)
@@ -114,6 +119,7 @@ others_apart z v a i step never S I lt ne alone from = by step never S
     by (part.Leaf gfn write) n T = absurd (let lock = ap has_lock T.needs.0.shares in cc (none, lock))
     by (part.Fix gfn) n T = absurd (cc n)
     by (part.Zap gfn) n T = absurd (let lock = ap has_lock T.needs.alone in cc (none, lock))
+    by (part.Protect gfn) n T = absurd (let lock = ap has_lock T.needs.alone in cc (none, lock))
     by _ n T = tt
 
 -- Writes are allowed once in a leaf that was seen: where they were allowed since, it doesn't forbid them now.

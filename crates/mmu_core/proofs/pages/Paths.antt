@@ -4,7 +4,7 @@ use Rattle.std.specs.Prelude.{◌-◌, ◌%◌, Bool, true, false, ◌==◌, ◌
 use Rattle.std.proofs.lemmas.Bool.Decides.{nat_tests}
 use Rattle.core_views.specs.declared.topics.TableWalk.{TableWalk}
 use Rattle.core_views.specs.declared.topics.Topics.{Topics}
-use Rattle.spte_words.specs.Entries.{kind_of}
+use Rattle.spte_words.specs.Entries.{kind_of, without_write}
 use Rattle.part_steps.specs.declared.part_step.PartStep.{PartStep}
 use Rattle.part_steps.specs.declared.part_step.PartStep.TheVariants as part
 use Rattle.part_steps.specs.PartTasks.{leaf_written, link_written, table_page}
@@ -186,6 +186,7 @@ part_goes (part.Link gfn) t v from = swap_goes (v == t.walk.entry) t.walk _ (lin
 part_goes (part.Leaf gfn write) t v from = swap_goes (v == t.walk.entry) t.walk _ (leaf_written write t) v (omega arith)
 part_goes (part.Fix gfn) t v from = swap_goes (v == t.walk.entry) t.walk _ (leaf_fixed t) v (omega arith)
 part_goes (part.Zap gfn) t v from = down_goes None t.walk _ 0 (omega arith)
+part_goes (part.Protect gfn) t v from = down_goes None t.walk _ (without_write v) (omega arith)
 part_goes _ t v from = stays t.walk
 
 -- ---- The tables of a walk stand after each step.

@@ -33,7 +33,8 @@ use Rattle.mmu_core.proofs.held.InvalidationsKept.{alone_holds}
 use Rattle.mmu_core.proofs.held.OpenFrames.{opened_by}
 use Rattle.mmu_core.proofs.machine.Columns.{at_upd, upd_same}
 use Rattle.mmu_core.proofs.machine.PartStepping.{IsPart}
-use Rattle.mmu_core.proofs.pages.AllOver.{IsLight, OfNewLeaf, absent_is, over_step}
+use Rattle.mmu_core.proofs.pages.AllOver.{IsLight, absent_is}
+use Rattle.mmu_core.proofs.pages.OverSteps.{OfNewLeaf, over_step}
 use Rattle.mmu_core.proofs.pages.Paths.{up_stands}
 use Rattle.mmu_core.proofs.pages.Standing.{spot_after, up_after}
 use Rattle.mmu_core.proofs.pages.SweptEntries.{below_swept, both_true, comes_to, loaded_swept, past_entry, starts_at}
@@ -188,6 +189,7 @@ own_swept z v a note (part.Link gfn) S I = λ alone. absurd (let shared = S.need
 own_swept z v a note (part.Leaf gfn write) S I = λ alone. absurd (let shared = S.needs.0.shares in cc (alone, shared))
 own_swept z v a note (part.Fix gfn) S I = λ alone out. absurd (let section = S.needs.section in cc (out, section))
 own_swept z v a note (part.Zap gfn) S I = zap_own z v a note gfn S I
+own_swept z v a note (part.Protect gfn) S I = λ alone out opened. absurd (let none = S.needs.none_open in cc (none, opened))
 own_swept z v a note (part.SetStart first gfn) S I = λ alone out opened. absurd (let closed = S.needs.0.opening.closed in cc (closed, opened))
 own_swept z v a note (part.SetEnd last gfn) S I = λ alone out opened. absurd (let closed = S.needs.0.opening.closed in cc (closed, opened))
 own_swept z v a note (part.SetCount count) S I = λ alone out more from.
@@ -202,6 +204,7 @@ own_swept z v a note step S I = λ alone out opened from.
 others_leaf : (z : Sizes) (v : View) (a i : ℕ) (step : PartStep) → IsPart z v a step → TopicsInvariant z v → i < actors_of z → i ≢ a
     → (v.hand i).topics.hold ≡ Exclusive → (own_ : Invalidated) (to : ℕ) → OfNewLeaf step (v.hand a).topics (IsNoLeafBelow own_ to)
 others_leaf z v a i (part.Fix gfn) S I lt ne alone own_ to = λ other over none from below leaf. none from below S.needs.leaf
+others_leaf z v a i (part.Protect gfn) S I lt ne alone own_ to = λ found other was none from below leaf. none from below was
 others_leaf z v a i (part.Leaf gfn write) S I lt ne alone own_ to =
     absurd (let none = alone_holds (actors_of z) (v.words area.Lock 0) (λ j. (v.hand j).topics.hold) i a lt S.there (λ e. ne (sym e)) I.lock_part alone in
     let lock = ap has_lock S.needs.0.shares in cc (none, lock))

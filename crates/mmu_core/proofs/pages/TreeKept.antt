@@ -6,7 +6,7 @@ use Rattle.core_views.specs.declared.topics.Topics.{Topics}
 use Rattle.spte_words.specs.declared.area.Area.TheVariants as area
 use Rattle.spte_words.specs.declared.spte_kind.SpteKind.TheVariants as entry_kind
 use Rattle.spte_words.specs.Areas.{pool_index}
-use Rattle.spte_words.specs.Entries.{absent_word, kind_of, level_span, can_write}
+use Rattle.spte_words.specs.Entries.{absent_word, kind_of, level_span, can_write, without_write}
 use Rattle.spte_words.proofs.ReadsEntries.{kind_of_leaf, kind_of_table}
 use Rattle.spte_words.specs.HostWords.{host_allows_write, host_frame}
 use Rattle.part_steps.specs.SlotWords.{may_write}
@@ -31,6 +31,7 @@ use Rattle.mmu_core.proofs.pages.TreePlaces.{link_stands}
 use Rattle.mmu_core.proofs.pages.TreeStored.{entry_stored, table_linked, tree_moved}
 use Rattle.mmu_core.proofs.pages.UsesStay.{is_link, same_tables, stay_same, stood_same}
 use Rattle.mmu_core.proofs.pages.EntryStill.{still_leaf}
+use Rattle.mmu_core.proofs.pages.ProtectedLeaf.{left_leaf, pool_protected}
 use Rattle.spte_words.proofs.FixedEntries.{fixed_kind}
 use Rattle.mmu_core.proofs.lines.FaultSame.{both, is_not}
 use Rattle.core_views.specs.Sizes.{actors_of}
@@ -146,6 +147,14 @@ module _ (z : Sizes) (v : View) (a gfn note : ℕ) (I : TopicsInvariant z v) whe
       entry_stored I.tree (table_page t.walk) (at t.walk.level t.walk.prefix) index new_ ((I.held a lt).table there) (omega arith)
       (record { entry = inr (inr (record { lowest = low; leaf = leaf })); no_link = inl low })
 
+  -- A leaf in which writes are forbidden is one still.
+  protected : (S : IsPart z v a (part.Protect gfn)) → TreePart z.pool (v.words area.Root 0) (v.words area.Role)
+      (upd (v.words area.Pool) here (without_write (entry_now gfn t v))) I.up I.spot
+  protected S =
+      entry_stored I.tree (table_page t.walk) (at t.walk.level t.walk.prefix) index (without_write (entry_now gfn t v))
+      ((I.held a S.there).table S.needs.saw.over.there) (omega arith)
+      (record { entry = inr (inr (record { lowest = S.needs.lowest; leaf = left_leaf z v a gfn S I })); no_link = inl S.needs.lowest })
+
   -- An entry of which a leaf was loaded that is there still is no link.
   zapped : (S : IsPart z v a (part.Zap gfn)) → TreePart z.pool (v.words area.Root 0) (v.words area.Role) (upd (v.words area.Pool) here 0) I.up I.spot
   zapped S =
@@ -195,6 +204,9 @@ tree_behind z v a part.Clear note S I =
           (λ l left e. retired_no_table I.uses I.spot a l p S.there left (ap (stands I.up I.spot) e ∙ is)),
     ))
 tree_behind z v a (part.Zap gfn) note S I = zapped z v a gfn note I S
+tree_behind z v a (part.Protect gfn) note S I =
+    subst (λ (pool : ℕ → ℕ). TreePart z.pool (v.words area.Root 0) (v.words area.Role) pool I.up I.spot) (sym (pool_protected z v a gfn S note))
+    (protected z v a gfn note I S)
 tree_behind z v a step note S I = stay z v a step note S I refl (λ k p is. (tt, tt))
 
 -- Each step of a part keeps what the tables are.

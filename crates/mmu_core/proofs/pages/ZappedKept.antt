@@ -26,7 +26,8 @@ use Rattle.mmu_core.specs.invariant.TreePart.{is_table}
 use Rattle.mmu_core.specs.machine.View.{View, answer_in, part_stepped}
 use Rattle.mmu_core.proofs.machine.Columns.{at_upd, same_or}
 use Rattle.mmu_core.proofs.machine.PartStepping.{IsPart}
-use Rattle.mmu_core.proofs.pages.AllOver.{IsLight, OfNewLeaf, over_step}
+use Rattle.mmu_core.proofs.pages.AllOver.{IsLight}
+use Rattle.mmu_core.proofs.pages.OverSteps.{OfNewLeaf, over_step}
 use Rattle.mmu_core.proofs.pages.Standing.{spot_after, up_after}
 use Rattle.mmu_core.proofs.words.PartTopics.{behind_step}
 use Rattle.mmu_core.proofs.words.PartWords.{areas_stay}
@@ -51,6 +52,7 @@ one_frame level other gfn lowest over =
 new_leaf : (z : Sizes) (v : View) (a i : ℕ) (step : PartStep) → IsPart z v a step → TopicsInvariant z v → i < actors_of z
     → (v.hand i).topics.invalidations.opened ≡ true → OfNewLeaf step (v.hand a).topics (IsNoLeafIn (v.hand i).topics.invalidations.own)
 new_leaf z v a i (part.Fix gfn) S I lt is_open = λ other over none is_in leaf. none is_in S.needs.leaf
+new_leaf z v a i (part.Protect gfn) S I lt is_open = λ found other was none is_in leaf. none is_in was
 new_leaf z v a i (part.Leaf gfn write) S I lt is_open = λ other over is_in leaf.
     let same : other ≡ gfn = one_frame (v.hand a).topics.walk.level other gfn S.needs.1 over in
     fresh_in_none z v a i gfn I S.there lt (ap has_lock S.needs.0.shares) S.needs.0.fresh is_open
@@ -108,6 +110,7 @@ own_zapped z v a note part.Exclude S I = λ is_open asked. (I.zapped a S.there i
 own_zapped z v a note (part.Leaf gfn write) S I = λ is_open asked.
     (I.zapped a S.there is_open asked, new_leaf z v a a (part.Leaf gfn write) S I S.there is_open)
 own_zapped z v a note (part.Fix gfn) S I = λ is_open asked. (I.zapped a S.there is_open asked, new_leaf z v a a (part.Fix gfn) S I S.there is_open)
+own_zapped z v a note (part.Protect gfn) S I = λ is_open. absurd (let none = S.needs.none_open in cc (none, is_open))
 own_zapped z v a note (part.SetEnd last gfn) S I = λ is_open. absurd (let closed = S.needs.0.opening.closed in cc (closed, is_open))
 own_zapped z v a note (part.SetStart first gfn) S I = λ is_open. absurd (let closed = S.needs.0.opening.closed in cc (closed, is_open))
 own_zapped z v a note (part.SetCount count) S I = λ is_open asked. absurd (counted_unasked count (v.hand a).topics S.needs is_open asked)

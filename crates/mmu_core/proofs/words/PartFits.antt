@@ -33,7 +33,7 @@ use Rattle.part_steps.specs.Tasks.{map_of}
 use Rattle.part_steps.specs.PageTopics.{tried_bit}
 use Rattle.mmu_core.proofs.pages.Owned.{owned_some, some_filled}
 use Rattle.mmu_core.proofs.words.HostStays.{each_revision}
-use Rattle.spte_words.specs.Entries.{can_write}
+use Rattle.spte_words.specs.Entries.{can_write, write_bit}
 use Rattle.spte_words.proofs.FixedEntries.{fixed_fits}
 use Rattle.mmu_core.proofs.lines.FaultSame.{both, is_not, over_it}
 
@@ -130,6 +130,10 @@ part_within_by part.Frame h note N R = N.2
 part_within_by (part.Copy index) h note N R = copied_within h index R N
 part_within_by (part.Store index) h note N R = stored_within h index R N
 part_within_by part.GiveFrame h note N R = let at = frame_there h N.owns R in omega (arith, at)
+part_within_by (part.Take word mask) h note N R = N.reads.there
+part_within_by (part.Protect gfn) h note N R = pool_within (map_of h.state.sizes) (table_page h.topics.walk) _ (R.table N.saw.over.there) (omega arith)
+part_within_by (part.Peek word) h note N R = N.there
+part_within_by (part.Arm word bits) h note N R = N.reads.there
 part_within_by _ h note N R = omega arith
 
 pub part_within : (step : PartStep) (h : Held) → PartNeeds step h → PartRests h → IsWithin h step
@@ -225,4 +229,7 @@ part_small (part.Change new_) h note N R =
 part_small part.Frame h note N R = not_small (2 ^ tried_bit h.topics.frames.claim)
 part_small (part.Store index) h note N R = R.counters.frames.copied
 part_small part.GiveFrame h note N R = power_small (frame_owned h.topics.frames.owned % 64) (omega arith)
+part_small (part.Take word mask) h note N R = not_small mask
+part_small (part.Protect gfn) h note N R = not_small write_bit
+part_small (part.Arm word bits) h note N R = N.small
 part_small _ h note N R = omega arith

@@ -13,6 +13,7 @@ use Rattle.core_views.specs.declared.topics.Topics.{Topics}
 use Rattle.core_views.specs.Held.{Held}
 use Rattle.spte_words.specs.declared.area.Area.TheVariants as area
 use Rattle.spte_words.specs.Areas.{number_of, place, pool_index, words_of_bits}
+use Rattle.spte_words.specs.Entries.{without_write}
 use Rattle.spte_words.proofs.Indices.{pool_within}
 use Rattle.part_steps.specs.declared.task.Task.{Task}
 use Rattle.mmu_core.specs.lines.Cached.{flushed}
@@ -37,7 +38,7 @@ use Rattle.mmu_core.proofs.machine.PartStepping.{IsPart}
 use Rattle.spte_words.specs.HostWords.{with_presence}
 
 -- the word of a map that the step loads, if it does, is there; the page that it fills, or whose role it stores; and the table whose entry it loads,
--- exchanges or zaps
+-- exchanges or zaps, or in which it forbids writes
 abbrev pub IsThere : Sizes → Topics → PartStep → Type 0
 IsThere z t (part.Map word) = word < words_of_bits z.pool
 IsThere z t (part.FrameMap word) = word < words_of_bits z.frames
@@ -50,6 +51,7 @@ IsThere z t (part.Link gfn) = 1 ≤ t.walk.level
 IsThere z t (part.Leaf gfn write) = 1 ≤ t.walk.level
 IsThere z t (part.Fix gfn) = 1 ≤ t.walk.level
 IsThere z t (part.Zap gfn) = 1 ≤ t.walk.level
+IsThere z t (part.Protect gfn) = 1 ≤ t.walk.level
 IsThere z t _ = Unit {0}
 
 state_place : (z : Sizes) (i : ℕ) → place (map_of z) area.State i - number_of area.State ≡ i
@@ -96,15 +98,19 @@ swap_topics z gfn new_ note t v from =
     }) (in_table t.walk from)
     ∙ ap (λ i. exchanged (v == t.walk.entry) i new_ t v) (in_its_page z (table_page t.walk) (entry_index gfn t.walk.level) (omega arith))
 
-zap_topics : (z : Sizes) (own gfn : ℕ) (t : Topics) (note v : ℕ) → 1 ≤ t.walk.level
-    → topics_after z (kind_of_task z (part_task (part.Zap gfn) own t note)) t v ≡ part_topics (part.Zap gfn) t v
-unfolding topics_after
-zap_topics z own gfn t note v from =
+-- an entry that was zapped, or in which writes were forbidden: x stands there
+left_topics : (z : Sizes) (gfn x : ℕ) (t : Topics) → 1 ≤ t.walk.level
+    → record t {
+      walk = if is_in_table t.walk then gone_down None t.walk
+          (index_in_page z (place (map_of z) area.Pool (pool_index (table_page t.walk) (entry_index gfn t.walk.level)))) x else t.walk;
+    }
+    ≡ record t { walk = gone_down None t.walk (entry_index gfn t.walk.level) x }
+left_topics z gfn x t from =
     ap (λ (b : Bool). record t {
       walk = if b then gone_down None t.walk
-          (index_in_page z (place (map_of z) area.Pool (pool_index (table_page t.walk) (entry_index gfn t.walk.level)))) 0 else t.walk;
+          (index_in_page z (place (map_of z) area.Pool (pool_index (table_page t.walk) (entry_index gfn t.walk.level)))) x else t.walk;
     }) (in_table t.walk from)
-    ∙ ap (λ i. record t { walk = gone_down None t.walk i 0 }) (in_its_page z (table_page t.walk) (entry_index gfn t.walk.level) (omega arith))
+    ∙ ap (λ i. record t { walk = gone_down None t.walk i x }) (in_its_page z (table_page t.walk) (entry_index gfn t.walk.level) (omega arith))
 
 host_topics : (z : Sizes) (new_ : ℕ) (t : Topics) (v : ℕ)
     → record t {
@@ -144,7 +150,8 @@ part_topics_is z (part.Leaf gfn write) own t note v there = swap_topics z gfn (l
 part_topics_is z (part.Fix gfn) own t note v there = swap_topics z gfn (leaf_fixed t) note t v there
 part_topics_is z (part.Host page) own t note v there = ap (λ p. record t { host = Some (record { page = p; word = v }) }) (behind_host z page)
 part_topics_is z (part.Watch index) own t note v there = ap (λ i. record t { watched = i + (if in_section v then 0 else 1) }) (state_place z index)
-part_topics_is z (part.Zap gfn) own t note v there = zap_topics z own gfn t note v there
+part_topics_is z (part.Zap gfn) own t note v there = left_topics z gfn 0 t there
+part_topics_is z (part.Protect gfn) own t note v there = left_topics z gfn (without_write v) t there
 part_topics_is z (part.Ask index) own t note v there = ap (λ i. record t { flush = record t.flush { asked = i + 1 } }) (state_place z index)
 part_topics_is z (part.Await index) own t note v there = ap (λ i. record t { flush = record t.flush { awaited = i + (if has_to_flush v then 0 else 1) } })
     (state_place z index)
@@ -205,6 +212,7 @@ is_there (part.Link gfn) h N = N.0.saw.over.there
 is_there (part.Leaf gfn write) h N = N.0.saw.over.there
 is_there (part.Fix gfn) h N = N.saw.over.there
 is_there (part.Zap gfn) h N = N.saw.over.there
+is_there (part.Protect gfn) h N = N.saw.over.there
 is_there _ h N = tt
 
 pub part_stepped_is : (z : Sizes) (v : View) (a : ℕ) (step : PartStep) (note : ℕ) → IsPart z v a step → part_stepped a step note v ≡ part_behind a step note v

@@ -123,6 +123,9 @@ words_stay (part.Change new_) own t note words b A = put_elsewhere words area.Ho
 words_stay part.Frame own t note words b A = put_elsewhere words area.FrameMap b _ _ A.frames
 words_stay part.GiveFrame own t note words b A = put_elsewhere words area.FrameMap b _ _ A.frames
 words_stay (part.Store index) own t note words b A = put_elsewhere words area.Content b index _ A.content
+words_stay (part.Take word mask) own t note words b A = put_elsewhere words area.Log b word _ A.log
+words_stay (part.Protect gfn) own t note words b A = put_elsewhere words area.Pool b _ _ A.pool
+words_stay (part.Arm word bits) own t note words b A = put_elsewhere words area.Log b word _ A.log
 words_stay _ own t note words b A = refl
 
 -- Whole areas stay: the root and the pause.
@@ -150,13 +153,14 @@ slots_are v a step note = slots_after step (own_index (v.hand a)) (v.hand a).top
 -- ---- a page that the step doesn't store in
 
 -- The step stores in no word of the page: in none of the page that the actor owns, where it fills that, and in none of the table that
--- its walk has come to, where it exchanges or zaps an entry.
+-- its walk has come to, where it exchanges or zaps an entry, or forbids writes in it.
 abbrev pub IsElsewhere : PartStep → Topics → ℕ → Type 0
 IsElsewhere (part.Fill value) t k = (o : OwnedPage) → t.owned ≡ Some o → o.page ≢ k
 IsElsewhere (part.Link gfn) t k = table_page t.walk ≢ k
 IsElsewhere (part.Leaf gfn write) t k = table_page t.walk ≢ k
 IsElsewhere (part.Fix gfn) t k = table_page t.walk ≢ k
 IsElsewhere (part.Zap gfn) t k = table_page t.walk ≢ k
+IsElsewhere (part.Protect gfn) t k = table_page t.walk ≢ k
 IsElsewhere _ t k = Unit {0}
 
 -- Nor in its role: it isn't the page whose role is stored, or taken.
@@ -175,7 +179,7 @@ pub fill_leaves : (page filled value : ℕ) (pool : ℕ → ℕ) (k j : ℕ) →
 fill_leaves page filled value pool k j low in_page differs =
     upd_other pool (pool_index page filled) (pool_index k j) value (λ e. let s = same_pool_word k page j filled in_page low e in differs (sym s.0) (sym s.1))
 
--- An exchange of an entry leaves each other page, and so does what zaps one.
+-- An exchange of an entry leaves each other page, and so does what zaps one, or forbids writes in it.
 entry_apart : (gfn x : ℕ) (walk : TableWalk) (pool : ℕ → ℕ) (k j : ℕ) → j < 512 → table_page walk ≢ k
     → upd pool (pool_index (table_page walk) (entry_index gfn walk.level)) x (pool_index k j) ≡ pool (pool_index k j)
 entry_apart gfn x walk pool k j low apart =
@@ -196,6 +200,7 @@ page_stays z v a (part.Leaf gfn write) note S k differs j low =
     entry_leaves gfn (leaf_written write (v.hand a).topics) note (v.hand a).topics.walk v.words k j low differs
 page_stays z v a (part.Fix gfn) note S k differs j low = entry_leaves gfn (leaf_fixed (v.hand a).topics) note (v.hand a).topics.walk v.words k j low differs
 page_stays z v a (part.Zap gfn) note S k differs j low = entry_apart gfn 0 (v.hand a).topics.walk (v.words area.Pool) k j low differs
+page_stays z v a (part.Protect gfn) note S k differs j low = entry_apart gfn _ (v.hand a).topics.walk (v.words area.Pool) k j low differs
 page_stays z v a _ note S k differs j low = refl
 
 pub role_stays : (z : Sizes) (v : View) (a : ℕ) (step : PartStep) (note : ℕ) → IsPart z v a step → (k : ℕ) → HasOtherRole step (v.hand a).topics k
@@ -234,6 +239,7 @@ slots_elsewhere z v a (part.Link gfn) S I = walks_elsewhere z v a S.there I S.ne
 slots_elsewhere z v a (part.Leaf gfn write) S I = walks_elsewhere z v a S.there I S.needs.0.saw.over.there
 slots_elsewhere z v a (part.Fix gfn) S I = walks_elsewhere z v a S.there I S.needs.saw.over.there
 slots_elsewhere z v a (part.Zap gfn) S I = walks_elsewhere z v a S.there I S.needs.saw.over.there
+slots_elsewhere z v a (part.Protect gfn) S I = walks_elsewhere z v a S.there I S.needs.saw.over.there
 slots_elsewhere z v a _ S I = tt
 
 -- And its role.

@@ -1,17 +1,18 @@
 -- Where links lead from the root to a leaf, they lead to one that allows as much where each entry of a table stays that isn't absent, but that a leaf
--- may allow writes from then on; or the step zaps an entry of the guest frame.
+-- may allow writes from then on; or the step takes an entry of the guest frame away.
+use Rattle.core_views.specs.declared.kind.StepKind.{StepKind}
 use Rattle.core_views.specs.declared.kind.StepKind.TheVariants as kind
 use Rattle.std.proofs.Common.{◌≡◌, ◌⊎◌, inl, inr, ◌+◌, ◌*◌, ◌^◌, ◌<◌, ◌≤◌, ℕ, zero, suc, refl, sym, ap, ◌∙◌, arith}
-use Rattle.std.specs.Prelude.{true, Option, Some, None}
+use Rattle.std.specs.Prelude.{Bool, true, false, Option, Some, None}
 use Rattle.spte_words.specs.declared.area.Area.{Area}
 use Rattle.spte_words.specs.declared.area.Area.TheVariants as area
 use Rattle.spte_words.specs.declared.spte_kind.SpteKind.{SpteKind}
 use Rattle.spte_words.specs.declared.spte_kind.SpteKind.TheVariants as entry_kind
 use Rattle.spte_words.specs.Areas.{pool_index}
-use Rattle.spte_words.specs.Entries.{absent_word, kind_of, can_write}
+use Rattle.spte_words.specs.Entries.{absent_word, kind_of, can_write, write_bit}
 use Rattle.spte_words.proofs.ReadsEntries.{kind_of_absent}
 use Rattle.mmu_core.specs.alone.FaultAlone.{LeadsTo}
-use Rattle.part_steps.specs.PartTasks.{entry_index}
+use Rattle.part_steps.specs.PartTasks.{all_but, entry_index}
 use Rattle.part_steps.specs.WalkTopics.{linked_page}
 use Rattle.mmu_core.specs.invariant.TreePart.{Position, TreePart, at, Use, stands}
 use Rattle.mmu_laws.proofs.leaves.LeadsDown.{below_stands}
@@ -25,16 +26,39 @@ pub record IsZapped (task : Task) (before : ℕ → ℕ) (k : ℕ) (p : Position
   pub writes : task.written ≡ 0
   pub leaf : kind_of p.level (before (pool_index k j)) ≡ entry_kind.Leaf
 
+-- It forbids the writes that a leaf there allows.
+pub record IsProtected (task : Task) (before : ℕ → ℕ) (k : ℕ) (p : Position) (j : ℕ) : Type 0 where
+  pub kind_is : task.kind ≡ kind.Protect
+  pub area_is : task.area ≡ area.Pool
+  pub index_is : task.index ≡ pool_index k j
+  pub writes : task.written ≡ all_but write_bit
+  pub leaf : kind_of p.level (before (pool_index k j)) ≡ entry_kind.Leaf
+  pub allowed : can_write (before (pool_index k j)) ≡ true
+
+-- It takes the leaf away, or some of what it allows.
+abbrev pub IsTaken : Task → (ℕ → ℕ) → ℕ → Position → ℕ → Type 0
+IsTaken task before k p j = IsZapped task before k p j ⊎ IsProtected task before k p j
+
+-- A step of one of these kinds does so.
+abbrev pub takes_entries : StepKind → Bool
+takes_entries kind.Zap = true
+takes_entries kind.Protect = true
+takes_entries _ = false
+
+pub taken_kind : (task : Task) (before : ℕ → ℕ) (k : ℕ) (p : Position) (j : ℕ) → IsTaken task before k p j → takes_entries task.kind ≡ true
+taken_kind task before k p j (inl zaps) = ap takes_entries zaps.kind_is
+taken_kind task before k p j (inr forbids) = ap takes_entries forbids.kind_is
+
 -- A leaf was there, and one is that allows writes if it did.
 pub record IsLeafStill (level was is : ℕ) : Type 0 where
   pub was_leaf : kind_of level was ≡ entry_kind.Leaf
   pub is_leaf : kind_of level is ≡ entry_kind.Leaf
   pub writes : can_write was ≡ true → can_write is ≡ true
 
--- What was in an entry of a table is there still, or it was absent, or the step zaps it, or both are leaves; and the root is the same.
+-- What was in an entry of a table is there still, or it was absent, or the step takes it away, or both are leaves; and the root is the same.
 abbrev pub EntryStays : Task → (ℕ → ℕ) → (ℕ → ℕ) → ℕ → Position → ℕ → Type 0
 EntryStays task before after k p j =
-    (after (pool_index k j) ≡ before (pool_index k j)) ⊎ (before (pool_index k j) ≡ absent_word) ⊎ IsZapped task before k p j
+    (after (pool_index k j) ≡ before (pool_index k j)) ⊎ (before (pool_index k j) ≡ absent_word) ⊎ IsTaken task before k p j
     ⊎ IsLeafStill p.level (before (pool_index k j)) (after (pool_index k j))
 
 abbrev pub EntriesStay : Task → (ℕ → Option Position) → (ℕ → ℕ) → (ℕ → ℕ) → Type 0
@@ -44,21 +68,21 @@ pub record LinksStay (task : Task) (stands : ℕ → Option Position) (before af
   pub entries : EntriesStay task stands (before area.Pool) (after area.Pool)
   pub root : after area.Root 0 ≡ before area.Root 0
 
--- The step zaps an entry of the guest frame.
-pub record ZapsEntry (task : Task) (stands : ℕ → Option Position) (before : ℕ → ℕ) (gfn : ℕ) : Type 0 where
+-- The step takes an entry of the guest frame away.
+pub record TakesEntry (task : Task) (stands : ℕ → Option Position) (before : ℕ → ℕ) (gfn : ℕ) : Type 0 where
   pub level : ℕ
   pub prefix : ℕ
   pub page : ℕ
   pub at_page : stands page ≡ Some (at level prefix)
-  pub zaps : IsZapped task before page (at level prefix) (entry_index gfn level)
+  pub takes : IsTaken task before page (at level prefix) (entry_index gfn level)
 
 -- ---- where links lead
 
 module _ {pages root : ℕ} {role before : ℕ → ℕ} {up : ℕ → Use} {spot : ℕ → Position} (T : TreePart pages root role before up spot) (after : ℕ → ℕ)
     (few : pages ≤ 2 ^ 32) (task : Task)
     (stay : EntriesStay task (stands up spot) before after) (gfn entry : ℕ) where
-  abbrev Zaps : Type 0
-  Zaps = ZapsEntry task (stands up spot) before gfn
+  abbrev Takes : Type 0
+  Takes = TakesEntry task (stands up spot) before gfn
 
   -- Links lead to a leaf that allows writes if the one before did.
   pub record LeadsOn (level page : ℕ) : Type 0 where
@@ -68,13 +92,13 @@ module _ {pages root : ℕ} {role before : ℕ → ℕ} {up : ℕ → Use} {spot
     pub writes : can_write entry ≡ true → can_write leaf ≡ true
 
   lowest_stays : (prefix page : ℕ) → kind_of 1 entry ≡ entry_kind.Leaf → stands up spot page ≡ Some (at 1 prefix) → LeadsTo before 1 page gfn entry
-      → LeadsOn 1 page ⊎ Zaps
+      → LeadsOn 1 page ⊎ Takes
   lowest_stays prefix page leaf at_page leads = by (stay page (at 1 prefix) at_page (entry_index gfn 1) (omega arith))
     where
-      by : EntryStays task before after page (at 1 prefix) (entry_index gfn 1) → LeadsOn 1 page ⊎ Zaps
+      by : EntryStays task before after page (at 1 prefix) (entry_index gfn 1) → LeadsOn 1 page ⊎ Takes
       by (inl same) = inl (record { leaf = entry; leads = same ∙ leads; is_leaf = leaf; writes = λ w. w })
       by (inr (inl was)) = let absent : kind_of 1 entry ≡ entry_kind.Absent = ap (kind_of 1) (sym leads ∙ was) ∙ kind_of_absent 1 in absurd (cc (absent, leaf))
-      by (inr (inr (inl Z))) = inr (record { level = 1; prefix = prefix; page = page; at_page = at_page; zaps = Z })
+      by (inr (inr (inl Z))) = inr (record { level = 1; prefix = prefix; page = page; at_page = at_page; takes = Z })
       by (inr (inr (inr K))) = inl (record {
         leaf = after (pool_index page (entry_index gfn 1));
         leads = refl;
@@ -87,32 +111,32 @@ module _ {pages root : ℕ} {role before : ℕ → ℕ} {up : ℕ → Use} {spot
   Links pool level page below = linked_page (kind_of level (pool (pool_index page (entry_index gfn level)))) ≡ Some below
 
   link_stays : (level prefix page below : ℕ) → stands up spot page ≡ Some (at level prefix) → Links before level page below
-      → Links after level page below ⊎ Zaps
+      → Links after level page below ⊎ Takes
   link_stays level prefix page below at_page link = by (stay page (at level prefix) at_page j (omega arith))
     where
       j : ℕ
       j = entry_index gfn level
 
-      by : EntryStays task before after page (at level prefix) j → Links after level page below ⊎ Zaps
+      by : EntryStays task before after page (at level prefix) j → Links after level page below ⊎ Takes
       by (inl same) = inl (ap (λ n. linked_page (kind_of level n)) same ∙ link)
       by (inr (inl was)) =
           let none : linked_page (kind_of level (before (pool_index page j))) ≡ None = ap (λ n. linked_page (kind_of level n)) was
           ∙ ap (λ (k : SpteKind). linked_page k) (kind_of_absent level) in
           absurd (cc (none, link))
-      by (inr (inr (inl Z))) = inr (record { level = level; prefix = prefix; page = page; at_page = at_page; zaps = Z })
+      by (inr (inr (inl Z))) = inr (record { level = level; prefix = prefix; page = page; at_page = at_page; takes = Z })
       by (inr (inr (inr K))) =
           let none : linked_page (kind_of level (before (pool_index page j))) ≡ None = ap (λ (k : SpteKind). linked_page k) K.was_leaf in
           absurd (cc (none, link))
 
   pub leads_stay : (level prefix page : ℕ) → kind_of 1 entry ≡ entry_kind.Leaf → stands up spot page ≡ Some (at (suc level) prefix)
-      → LeadsTo before (suc level) page gfn entry → LeadsOn (suc level) page ⊎ Zaps
+      → LeadsTo before (suc level) page gfn entry → LeadsOn (suc level) page ⊎ Takes
   leads_stay zero prefix page leaf at_page leads = lowest_stays prefix page leaf at_page leads
   leads_stay (suc level) prefix page leaf at_page leads =
       both (link_stays (suc (suc level)) prefix page leads.0 at_page leads.1)
       (leads_stay level (prefix * 512 + entry_index gfn (suc (suc level))) leads.0 leaf
       (below_stands T few gfn entry level prefix page leads.0 at_page leads.1) leads.2)
     where
-      both : Links after (suc (suc level)) page leads.0 ⊎ Zaps → LeadsOn (suc level) leads.0 ⊎ Zaps → LeadsOn (suc (suc level)) page ⊎ Zaps
+      both : Links after (suc (suc level)) page leads.0 ⊎ Takes → LeadsOn (suc level) leads.0 ⊎ Takes → LeadsOn (suc (suc level)) page ⊎ Takes
       both (inl link) (inl below) =
           inl (record { leaf = below.leaf; leads = (leads.0, link, below.leads); is_leaf = below.is_leaf; writes = below.writes })
       both (inl link) (inr Z) = inr Z

@@ -13,7 +13,8 @@ use Rattle.spte_words.specs.declared.area.Area.{Area}
 use Rattle.spte_words.specs.declared.area.Area.TheVariants as area
 use Rattle.spte_words.specs.declared.spte_kind.SpteKind.TheVariants as entry_kind
 use Rattle.spte_words.specs.Areas.{pool_index}
-use Rattle.spte_words.specs.Entries.{absent_word, kind_of, can_write}
+use Rattle.spte_words.specs.Entries.{absent_word, kind_of, can_write, without_write}
+use Rattle.mmu_core.proofs.pages.ProtectedLeaf.{denied_same, found_leaf, pool_protected}
 use Rattle.part_steps.specs.declared.part_step.PartStep.{PartStep}
 use Rattle.part_steps.specs.declared.part_step.PartStep.TheVariants as part
 use Rattle.mmu_core.specs.lines.AccessSteps.{touch_of}
@@ -41,7 +42,7 @@ use Rattle.spte_words.proofs.FixedEntries.{fixed_can_write}
 use Rattle.mmu_core.proofs.pages.EntryStill.{still_leaf}
 use Rattle.mmu_core.specs.lines.FaultSteps.{allows_access}
 use Rattle.core_views.specs.Sizes.{actors_of}
-pub use Rattle.mmu_laws.proofs.turns.LeadsStay.{EntriesStay, EntryStays, IsLeafStill, IsZapped, LinksStay, ZapsEntry}
+pub use Rattle.mmu_laws.proofs.turns.LeadsStay.{EntriesStay, EntryStays, IsLeafStill, IsProtected, IsTaken, IsZapped, LinksStay, TakesEntry, taken_kind, takes_entries}
 use Rattle.mmu_laws.proofs.turns.LeadsStay.{LeadsOn, leads_stay}
 
 -- ---- what a step stores
@@ -166,6 +167,30 @@ module _ (z : Sizes) (v : View) (a gfn : ℕ) (J : Invariant z v) (I : TopicsInv
         leaf = ap (λ (q : Position). kind_of q.level (pool (pool_index k j))) is ∙ ap (λ i. kind_of t.walk.level (pool i)) e ∙ leaf;
       }
 
+  -- So it is where writes are forbidden; where none were allowed the entry stays.
+  protected_stays : (S : IsPart z v a (part.Protect gfn)) (own_ note k : ℕ) (p : Position) (j : ℕ) → j < 512 → stands I.up I.spot k ≡ Some p
+      → EntryStays (part_task (part.Protect gfn) own_ t note) pool (upd pool here (without_write (entry_now gfn t v))) k p j
+  protected_stays S own_ note k p j low at_k = by (same_or (pool_index k j) here) (can_write (pool here)) refl
+    where
+      after : ℕ → ℕ
+      after = upd pool here (without_write (pool here))
+
+      by : (pool_index k j ≡ here) ⊎ (pool_index k j ≢ here) → (b : Bool) → can_write (pool here) ≡ b
+          → EntryStays (part_task (part.Protect gfn) own_ t note) pool after k p j
+      by (inr ne) b writes = inl (upd_other pool here (pool_index k j) (without_write (pool here)) ne)
+      by (inl e) false none =
+          inl (ap after e ∙ upd_same pool here (without_write (pool here)) ∙ denied_same (pool here) none ∙ sym (ap pool e))
+      by (inl e) true writes = inr (inr (inl (inr (record {
+        kind_is = refl;
+        area_is = refl;
+        index_is = sym e;
+        writes = refl;
+        leaf =
+            ap (λ l. kind_of l (pool (pool_index k j))) (level_here S.there S.needs.saw.over.there k p j low at_k e)
+            ∙ ap (λ i. kind_of t.walk.level (pool i)) e ∙ found_leaf z v a gfn S I;
+        allowed = ap (λ i. can_write (pool i)) e ∙ writes;
+      }))))
+
 -- a step of a part
 abbrev task_in : View → ℕ → PartStep → ℕ → Task
 task_in v a step note = part_task step (own_index (v.hand a)) (v.hand a).topics note
@@ -185,8 +210,11 @@ part_entries_stay z v a (part.Zap gfn) note S J I k p is j low = by (same_or (po
   where
     by : (pool_index k j ≡ here z v a gfn J I) ⊎ (pool_index k j ≢ here z v a gfn J I)
         → EntryStays (task_in v a (part.Zap gfn) note) (v.words area.Pool) ((part_stepped a (part.Zap gfn) note v).words area.Pool) k p j
-    by (inl e) = inr (inr (inl (zapped z v a gfn J I S (own_index (v.hand a)) note k p j low is e)))
+    by (inl e) = inr (inr (inl (inl (zapped z v a gfn J I S (own_index (v.hand a)) note k p j low is e))))
     by (inr ne) = inl (upd_other (v.words area.Pool) (here z v a gfn J I) (pool_index k j) 0 ne)
+part_entries_stay z v a (part.Protect gfn) note S J I k p is j low =
+    subst (λ (pool : ℕ → ℕ). EntryStays (task_in v a (part.Protect gfn) note) (v.words area.Pool) pool k p j) (sym (pool_protected z v a gfn S note))
+    (protected_stays z v a gfn J I S (own_index (v.hand a)) note k p j low is)
 part_entries_stay z v a (part.Fill value) note S J I k p is j low =
     inl (page_stays z v a (part.Fill value) note S k (λ o owns. table_not_owned I.uses I.spot k p is a o S.there owns) j low)
 part_entries_stay z v a step note S J I k p is j low = inl (page_stays z v a step note S k tt j low)
@@ -208,11 +236,11 @@ pub links_by : (z : Sizes) (v : View) (a : ℕ) (task : Task) → StepIn z v a t
 links_by z v a _ (Makes step note S) J I = part_links_stay z v a step note S J I
 links_by z v a _ (Touches op index) J I = touch_links_stay (stands I.up I.spot) v.words op index
 
--- Where links lead from the root to a leaf, they do so after the step, or it zaps an entry of the guest frame.
-pub leads_or_zaps : (z : Sizes) (w : World Held) (G : IsSound z w) (task : Task) (after : Area → ℕ → ℕ) (gfn : ℕ) (write : Bool)
+-- Where links lead from the root to a leaf, they do so after the step, or it takes an entry of the guest frame away.
+pub leads_or_takes : (z : Sizes) (w : World Held) (G : IsSound z w) (task : Task) (after : Area → ℕ → ℕ) (gfn : ℕ) (write : Bool)
     → LinksStay task (stands G.topics.up G.topics.spot) (word_in z w) after → LeadsFromRoot z w gfn write
-    → LeadsToLeaf (after area.Pool) 4 (after area.Root 0) gfn write ⊎ ZapsEntry task (stands G.topics.up G.topics.spot) (word_in z w area.Pool) gfn
-leads_or_zaps z w G task after gfn write S L =
+    → LeadsToLeaf (after area.Pool) 4 (after area.Root 0) gfn write ⊎ TakesEntry task (stands G.topics.up G.topics.spot) (word_in z w area.Pool) gfn
+leads_or_takes z w G task after gfn write S L =
     by (leads_stay I.tree (after area.Pool) (let most = G.holds.sizes.pool.1 in omega (arith, most)) task S.entries gfn L.entry 3 0
     (word_in z w area.Root 0) L.leaf (root_stands I.tree) L.leads)
   where
@@ -224,8 +252,8 @@ leads_or_zaps z w G task after gfn write S L =
     allows leaf writes false may = refl
 
     by : LeadsOn I.tree (after area.Pool) (let most = G.holds.sizes.pool.1 in omega (arith, most)) task S.entries gfn L.entry 4 (word_in z w area.Root 0)
-        ⊎ ZapsEntry task (stands I.up I.spot) (word_in z w area.Pool) gfn
-        → LeadsToLeaf (after area.Pool) 4 (after area.Root 0) gfn write ⊎ ZapsEntry task (stands I.up I.spot) (word_in z w area.Pool) gfn
+        ⊎ TakesEntry task (stands I.up I.spot) (word_in z w area.Pool) gfn
+        → LeadsToLeaf (after area.Pool) 4 (after area.Root 0) gfn write ⊎ TakesEntry task (stands I.up I.spot) (word_in z w area.Pool) gfn
     by (inl on) = inl (record {
       entry = on.leaf;
       leads = subst (λ k. LeadsTo (after area.Pool) 4 k gfn on.leaf) (sym S.root) on.leads;

@@ -38,39 +38,40 @@ use Rattle.mmu_core.proofs.lines.EitherPlace.{either_place}
 use Rattle.mmu_core.proofs.machine.Which.{has_line_is, is_next}
 use Rattle.mmu_laws.specs.turns.Breaking.{Breaks, TakesAway}
 use Rattle.mmu_laws.specs.turns.Removal.{StandsAt}
+use Rattle.mmu_laws.proofs.turns.LeadsStay.{takes_entries}
 
--- ---- no step of an access zaps an entry
+-- ---- no step of an access takes an entry away
 
-abbrev NeverZaps : PartStep → Type 0
-NeverZaps step = (own_ note : ℕ) (t : Topics) → (part_task step own_ t note).kind ≡ kind.Zap → ⊥
+abbrev NeverTakes : PartStep → Type 0
+NeverTakes step = (own_ note : ℕ) (t : Topics) → takes_entries (part_task step own_ t note).kind ≡ true → ⊥
 
-check_never : (at_ : CheckStage) → NeverZaps (check_part at_)
+check_never : (at_ : CheckStage) → NeverTakes (check_part at_)
 check_never stage.Count own_ note t e = cc e
 check_never stage.Start own_ note t e = cc e
 check_never stage.End own_ note t e = cc e
 check_never stage.Seq own_ note t e = cc e
 
-share_never : (k : Hold) → NeverZaps (share_part k)
+share_never : (k : Hold) → NeverTakes (share_part k)
 share_never (Owing word) own_ note t e = cc e
 share_never _ own_ note t e = cc e
 
-fault_never : (p : FaultPlace) (gfn : ℕ) (t : Topics) → NeverZaps (fault_part p gfn t)
-fault_never (fault.Find begun) gfn t = either_place NeverZaps begun part.Slot part.Slots (λ own_ note u e. cc e) (λ own_ note u e. cc e)
+fault_never : (p : FaultPlace) (gfn : ℕ) (t : Topics) → NeverTakes (fault_part p gfn t)
+fault_never (fault.Find begun) gfn t = either_place NeverTakes begun part.Slot part.Slots (λ own_ note u e. cc e) (λ own_ note u e. cc e)
 fault_never (fault.Check at_) gfn t = check_never at_
 fault_never fault.Share gfn t = share_never t.hold
-fault_never (fault.Walk rooted) gfn t = either_place NeverZaps rooted (part.Walk gfn) part.Root (λ own_ note u e. cc e) (λ own_ note u e. cc e)
+fault_never (fault.Walk rooted) gfn t = either_place NeverTakes rooted (part.Walk gfn) part.Root (λ own_ note u e. cc e) (λ own_ note u e. cc e)
 fault_never (fault.Claim begun) gfn t =
-    either_place NeverZaps (tries_one begun t.claim) part.Claim (part.Map (map_word begun t.claim)) (λ own_ note u e. cc e) (λ own_ note u e. cc e)
-fault_never (fault.FastFind begun) gfn t = either_place NeverZaps begun part.Slot part.Slots (λ own_ note u e. cc e) (λ own_ note u e. cc e)
-fault_never (fault.FastWalk rooted) gfn t = either_place NeverZaps rooted (part.Walk gfn) part.Root (λ own_ note u e. cc e) (λ own_ note u e. cc e)
+    either_place NeverTakes (tries_one begun t.claim) part.Claim (part.Map (map_word begun t.claim)) (λ own_ note u e. cc e) (λ own_ note u e. cc e)
+fault_never (fault.FastFind begun) gfn t = either_place NeverTakes begun part.Slot part.Slots (λ own_ note u e. cc e) (λ own_ note u e. cc e)
+fault_never (fault.FastWalk rooted) gfn t = either_place NeverTakes rooted (part.Walk gfn) part.Root (λ own_ note u e. cc e) (λ own_ note u e. cc e)
 fault_never _ gfn t = λ own_ note u e. cc e
 
-touch_never : (op : Op) (index : ℕ) → (touch_of op index).kind ≡ kind.Zap → ⊥
+touch_never : (op : Op) (index : ℕ) → takes_entries (touch_of op index).kind ≡ true → ⊥
 touch_never Read index e = cc e
 touch_never (Write x) index e = cc e
 touch_never (Add x) index e = cc e
 
-access_never : (p : AccessPlace) (gfn word : ℕ) (op : Op) (h : Held) → (task_at (place.Access p) (Access gfn word op) h).kind ≡ kind.Zap → ⊥
+access_never : (p : AccessPlace) (gfn word : ℕ) (op : Op) (h : Held) → takes_entries (task_at (place.Access p) (Access gfn word op) h).kind ≡ true → ⊥
 access_never (Enter again) gfn word op h e = cc e
 access_never (Pause again) gfn word op h e = cc e
 access_never (Root again) gfn word op h e = cc e
@@ -81,9 +82,10 @@ access_never (Fault p) gfn word op h e = fault_never p gfn h.topics _ _ h.topics
 
 -- ---- nor takes one away
 
-breaks_by_zap : (k : StepKind) (z : Sizes) (gfn : ℕ) (w : World Held) (s : Step Kind) → TakesAway k z gfn w s → k ≡ kind.Zap
-breaks_by_zap kind.Zap z gfn w s takes_ = refl
-breaks_by_zap _ z gfn w s takes_ = absurd takes_
+breaks_by : (k : StepKind) (z : Sizes) (gfn : ℕ) (w : World Held) (s : Step Kind) → TakesAway k z gfn w s → takes_entries k ≡ true
+breaks_by kind.Zap z gfn w s takes_ = refl
+breaks_by kind.Protect z gfn w s takes_ = refl
+breaks_by _ z gfn w s takes_ = absurd takes_
 
 named : (k : StepKind) → kind_named (code_of k) ≡ k
 named kind.Enter = refl
@@ -91,11 +93,11 @@ named _ = refl
 
 -- The line is an access, at some place.
 module _ (is_such : AccessPlace → Bool) (gfn : ℕ) (write : Bool) where
-  stands_never : (q : Place) (h : Held) → StandsAt is_such q h.state.line.command gfn write → (task_at (place_at q h) (line_at q h).command h).kind ≡ kind.Zap
+  stands_never : (q : Place) (h : Held) → StandsAt is_such q h.state.line.command gfn write → takes_entries (task_at (place_at q h) (line_at q h).command h).kind ≡ true
       → ⊥
   stands_never (place.Access p) h S e = by h.state.line.command S e
     where
-      by : (c : Command) → StandsAt is_such (place.Access p) c gfn write → (task_at (place.Access p) c h).kind ≡ kind.Zap → ⊥
+      by : (c : Command) → StandsAt is_such (place.Access p) c gfn write → takes_entries (task_at (place.Access p) c h).kind ≡ true → ⊥
       by (Access of_line word op) at f = access_never p of_line word op h f
       by _ at f = absurd at
   stands_never _ h S e = absurd S
@@ -111,6 +113,6 @@ module _ (is_such : AccessPlace → Bool) (gfn : ℕ) (write : Bool) where
       let there : s.actor < actors_of z = subst (λ n. s.actor < n) G.hands may.there in
       let has = has_begun h.state.place h S (G.holds.lines s.actor there).under in
       let code : s.kind.code ≡ code_of (task_of h).kind = ap (λ (k : Kind). k.code) (is_next h s.kind may.enabled has).is in
-      let is : (task_of h).kind ≡ kind.Zap = sym (named (task_of h).kind) ∙ sym (ap kind_named code)
-      ∙ breaks_by_zap (kind_named s.kind.code) z frame w s breaks in
+      let is : takes_entries (task_of h).kind ≡ true = ap takes_entries (sym (named (task_of h).kind) ∙ sym (ap kind_named code))
+      ∙ breaks_by (kind_named s.kind.code) z frame w s breaks in
       stands_never h.state.place h S is

@@ -79,6 +79,10 @@ IsOn kind.Read a = a ≡ area.Content
 IsOn kind.Write a = a ≡ area.Content
 IsOn kind.Add a = a ≡ area.Content
 IsOn kind.Mark a = a ≡ area.Log
+IsOn kind.Take a = a ≡ area.Log
+IsOn kind.Protect a = a ≡ area.Pool
+IsOn kind.Peek a = a ≡ area.Log
+IsOn kind.Arm a = a ≡ area.Log
 
 -- The step's word is one of an area of its kind.
 pub record IsOnItsArea (z : Sizes) (k : Kind) : Type 0 where

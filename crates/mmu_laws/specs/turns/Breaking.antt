@@ -1,5 +1,5 @@
 -- Which steps take entries of the tables away, and what such a step does.
-use Rattle.std.specs.Prelude.{◌≡◌, ◌≢◌, ℕ, List, ◌∷◌, ◌++◌}
+use Rattle.std.specs.Prelude.{◌≡◌, ◌≢◌, ℕ, true, List, ◌∷◌, ◌++◌}
 use Rattle.core_views.specs.declared.kind.Kind.{Kind}
 use Rattle.core_views.specs.declared.kind.StepKind.{StepKind}
 use Rattle.core_views.specs.declared.kind.StepKind.TheVariants as kind
@@ -7,7 +7,7 @@ use Rattle.core_views.specs.declared.sizes.Sizes.{Sizes}
 use Rattle.core_views.specs.Held.{Held}
 use Rattle.core_views.specs.Kinds.{after, kind_named}
 use Rattle.spte_words.specs.declared.spte_kind.SpteKind.TheVariants.{Absent, Leaf}
-use Rattle.spte_words.specs.Entries.{absent_word, kind_of}
+use Rattle.spte_words.specs.Entries.{absent_word, can_write, kind_of, without_write}
 use Rattle.mmu_core.specs.machine.Enabled.{mmu}
 use Rattle.mmu_core.specs.invariant.Laws.{IsSound}
 use Rattle.mmu_core.specs.machine.Machine.{May, Step, World, found, run}
@@ -19,9 +19,18 @@ pub record TakesLeaf (z : Sizes) (gfn : ℕ) (w : World Held) (s : Step Kind) : 
   pub was : kind_of entry.level (found mmu w s.kind) ≡ Leaf
   pub is_gone : after s.kind (found mmu w s.kind) ≡ absent_word
 
--- A step of this kind takes an entry of the guest frame away. One kind does so, which zaps a leaf: another that freezes or protects entries has a row here.
+-- It finds a leaf there that allows writes, and leaves the same one, which forbids them.
+pub record ForbidsWrites (z : Sizes) (gfn : ℕ) (w : World Held) (s : Step Kind) : Type 0 where
+  pub entry : IsEntryOf z gfn s.kind.word
+  pub was : kind_of entry.level (found mmu w s.kind) ≡ Leaf
+  pub allowed : can_write (found mmu w s.kind) ≡ true
+  pub leaves : after s.kind (found mmu w s.kind) ≡ without_write (found mmu w s.kind)
+
+-- A step of this kind takes an entry of the guest frame away, or some of what it allows. Two kinds do so, which zap a leaf, and forbid writes in one: another
+-- that freezes entries has a row here.
 abbrev pub TakesAway : StepKind → Sizes → ℕ → World Held → Step Kind → Type 0
 TakesAway kind.Zap z gfn w s = TakesLeaf z gfn w s
+TakesAway kind.Protect z gfn w s = ForbidsWrites z gfn w s
 TakesAway _ z gfn w s = ⊥
 
 abbrev pub Breaks : Sizes → ℕ → World Held → Step Kind → Type 0
