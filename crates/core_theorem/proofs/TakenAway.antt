@@ -1,6 +1,6 @@
 -- A stay misses an installed entry only where another actor took an entry of the guest frame away since its fault began.
 use Rattle.std.proofs.Common.{◌≡◌, ◌⊎◌, inl, inr, ℕ, List, [], ◌∷◌, ◌++◌, sym, subst, ap, ◌∙◌, append_assoc}
-use Rattle.std.specs.Prelude.{Bool}
+use Rattle.std.specs.Prelude.{Bool, true}
 use Rattle.core_views.specs.declared.kind.Kind.{Kind}
 use Rattle.core_views.specs.declared.kind.StepKind.{StepKind}
 use Rattle.core_views.specs.declared.kind.StepKind.TheVariants as kind
@@ -19,10 +19,11 @@ use Rattle.mmu_laws.proofs.causes.StarvedScan.{legal_parts}
 use Rattle.mmu_laws.proofs.turns.OwnTakesNone.{own_takes_none}
 use Rattle.core_theorem.specs.Delays.{MissesEntry, WasTakenAway}
 
-taken_leaf : (k : StepKind) (z : Sizes) (gfn : ℕ) (w : World Held) (s : Step Kind) → TakesAway k z gfn w s → TakesLeaf z gfn w s ⊎ ForbidsWrites z gfn w s
-taken_leaf kind.Zap z gfn w s takes_ = inl takes_
-taken_leaf kind.Protect z gfn w s takes_ = inr takes_
-taken_leaf _ z gfn w s takes_ = absurd takes_
+taken_leaf : (k : StepKind) (z : Sizes) (gfn : ℕ) (write : Bool) (w : World Held) (s : Step Kind) → TakesAway k z gfn write w s
+    → TakesLeaf z gfn w s ⊎ ((write ≡ true) × ForbidsWrites z gfn w s)
+taken_leaf kind.Zap z gfn write w s takes_ = inl takes_
+taken_leaf kind.Protect z gfn write w s takes_ = inr takes_
+taken_leaf _ z gfn write w s takes_ = absurd takes_
 
 -- What is so throughout some steps is so throughout the later ones.
 throughout_later : (IsSo : World Held → Type 0) (w : World Held) (ss ts : List (Step Kind)) → Throughout IsSo w (ss ++ ts) → Throughout IsSo (run mmu w ss) ts
@@ -39,7 +40,7 @@ module _ (z : Sizes) (actor gfn : ℕ) (write : Bool) (w : World Held) (ss : Lis
     by_other = λ own.
         own_takes_none is_since_fault gfn write z u takes gfn (good_run z w before G parts.0) parts.1.0
         (subst (λ i. StandsSinceFault i gfn write u) (sym own) stood.0) breaks;
-    is = taken_leaf (kind_named takes.kind.code) z gfn u takes breaks;
+    is = taken_leaf (kind_named takes.kind.code) z gfn write u takes breaks;
     stood = stood;
   }
     where
@@ -70,8 +71,8 @@ module _ (z : Sizes) (actor gfn : ℕ) (write : Bool) (w : World Held) (ss : Lis
           (throughout_later (StandsSinceFault actor gfn write) (run mmu w L.earlier) L.broken.earlier rest
           (subst (Throughout (StandsSinceFault actor gfn write) (run mmu w L.earlier)) L.broken.are L.stood))
 
-      breaks : TakesAway (kind_named takes.kind.code) z gfn u takes
-      breaks = subst (λ (x : World Held). TakesAway (kind_named takes.kind.code) z gfn x takes) same L.broken.is
+      breaks : TakesAway (kind_named takes.kind.code) z gfn write u takes
+      breaks = subst (λ (x : World Held). TakesAway (kind_named takes.kind.code) z gfn write x takes) same L.broken.is
 
 pub misses_entry : (z : Sizes) (w : World Held) (ss : List (Step Kind)) (s : Step Kind) → IsSound z w → Legal mmu w ss → StayMisses z w ss s
     → MissesEntry z w ss s

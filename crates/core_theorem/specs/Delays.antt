@@ -100,15 +100,16 @@ pub record StepWaits (z : Sizes) (w : World Held) (ss : List (Step Kind)) (s : S
   pub waits : part_waits step (hand_of w ss s).topics (answer_of w ss s) ≡ true
   pub caused : StepWaitIsCaused step z w ss s
 
--- Since the fault of the actor's access of this guest frame began, another actor took an entry of the guest frame away: with this step it found a leaf
--- there and left none, or one that forbids the writes which it allowed. From before it on, up to the last of the steps, the actor's line stood in this fault, or in the stay in the guest after it.
+-- Since the fault of the actor's access of this guest frame began, another actor took an entry of the guest frame from it: with this step it found a leaf
+-- there and left none, or, where the access writes, one that forbids the writes which it allowed. From before it on, up to the last of the steps, the actor's
+-- line stood in this fault, or in the stay in the guest after it.
 pub record WasTakenAway (z : Sizes) (actor gfn : ℕ) (write : Bool) (w : World Held) (ss : List (Step Kind)) : Type 0 where
   pub earlier : List (Step Kind)
   pub takes : Step Kind
   pub later : List (Step Kind)
   pub are : ss ≡ earlier ++ takes ∷ later
   pub by_other : takes.actor ≢ actor
-  pub is : TakesLeaf z gfn (run mmu w earlier) takes ⊎ ForbidsWrites z gfn (run mmu w earlier) takes
+  pub is : TakesLeaf z gfn (run mmu w earlier) takes ⊎ ((write ≡ true) × ForbidsWrites z gfn (run mmu w earlier) takes)
   pub stood : Throughout (StandsSinceFault actor gfn write) (run mmu w earlier) (takes ∷ later)
 
 -- The step is one of the stay after a fault that has installed an entry, and finds no translation that allows the access: it leaves the guest for another

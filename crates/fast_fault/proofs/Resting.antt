@@ -65,7 +65,7 @@ rests_on (FastFind false) job turn note before after fast I M = goes turn _ _ _ 
 rests_on (FastWalk true) job turn note before after fast I M = goes turn _ _ _ job before.hand refl M.turned M.waits_by
 rests_on (FastWalk false) job turn note before after fast I M = goes turn _ _ _ job before.hand refl M.turned M.waits_by
 rests_on Fix job turn note before after fast I M = goes turn _ _ _ job before.hand refl M.turned M.waits_by
-rests_on (Mark lockless) job turn note before after fast I M = goes turn _ _ _ job before.hand refl M.turned M.waits_by
+rests_on (Mark of_fast) job turn note before after fast I M = goes turn _ _ _ job before.hand refl M.turned M.waits_by
 rests_on _ job turn note before after fast I M = absurd (cc fast)
 
 -- The place where the hand's line stands is one of a fast fault.

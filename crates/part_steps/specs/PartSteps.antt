@@ -41,8 +41,8 @@ counts Exclusive = false
 abbrev pub GoesOnToWord : ℕ → MapClaim → Type 0
 GoesOnToWord word claim = (word ≡ 0) ⊎ ((word ≡ claim.at) × (claim.seen ≡ 0))
 
--- The step is one of lines alone, in their order: it changes an entry of the tables, is on a word of the dirty log, or is of a publication, of an invalidation or
--- of a change or move of a host page. No actor makes it that has no line left.
+-- The step is one of lines alone, in their order: it changes an entry of the tables, is on a word of the dirty log, or is of a publication, of an
+-- invalidation or of a change or move of a host page. No actor makes it that has no line left.
 abbrev pub needs_line : PartStep → Bool
 needs_line (part.Link gfn) = true
 needs_line (part.Leaf gfn write) = true

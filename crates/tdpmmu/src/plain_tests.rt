@@ -86,7 +86,7 @@ fn first_differing<'t, R: Threads + Wait + Sync>(
     let mut rest = table;
     for _ in 0..count {
         let Some((text, more)) = rest.split_once("--\n") else {
-            break;
+            return Ok((Some(String::new(alloc)), rest));
         };
         let found = differing(rt, alloc, text)?;
         if found.is_some() {

@@ -52,8 +52,9 @@ abbrev pub Numbers : Sizes → Invalidations → Type 0
 Numbers z n = (n.count ≤ actors_of z) × (n.seq < 2 ^ 40) × ((n.start < 2 ^ 64) × (n.end < 2 ^ 64))
 
 -- a hand that keeps its counters but the walk's
-pub walked_counts : (z : Sizes) (t s : Topics) → s.search.id ≡ t.search.id → s.claim ≡ t.claim → s.watched ≡ t.watched → SameNumbers s.invalidations t.invalidations
-    → s.flush ≡ t.flush → s.frames ≡ t.frames → SpanFits s.walk → s.walk.entry < 2 ^ 64 → CountersPart z t → CountersPart z s
+pub walked_counts : (z : Sizes) (t s : Topics) → s.search.id ≡ t.search.id → s.claim ≡ t.claim → s.watched ≡ t.watched
+    → SameNumbers s.invalidations t.invalidations → s.flush ≡ t.flush → s.frames ≡ t.frames → SpanFits s.walk → s.walk.entry < 2 ^ 64
+    → CountersPart z t → CountersPart z s
 walked_counts z t s id claim watched numbers flush frames span entry C = record {
   slots = omega (arith, id, C.slots);
   claim = subst (λ (c : MapClaim). c.at ≤ words_of_bits z.pool) (sym claim) C.claim;
@@ -69,8 +70,8 @@ walked_counts z t s id claim watched numbers flush frames span entry C = record 
 }
 
 -- a hand that keeps its counters
-pub same_counts : (z : Sizes) (t s : Topics) → s.search.id ≡ t.search.id → s.claim ≡ t.claim → s.watched ≡ t.watched → SameNumbers s.invalidations t.invalidations
-    → s.flush ≡ t.flush → s.frames ≡ t.frames → s.walk ≡ t.walk → CountersPart z t → CountersPart z s
+pub same_counts : (z : Sizes) (t s : Topics) → s.search.id ≡ t.search.id → s.claim ≡ t.claim → s.watched ≡ t.watched
+    → SameNumbers s.invalidations t.invalidations → s.flush ≡ t.flush → s.frames ≡ t.frames → s.walk ≡ t.walk → CountersPart z t → CountersPart z s
 same_counts z t s id claim watched numbers flush frames walk C =
     walked_counts z t s id claim watched numbers flush frames (subst SpanFits (sym walk) C.span)
     (subst (λ (w : TableWalk). w.entry < 2 ^ 64) (sym walk) C.entry) C

@@ -33,7 +33,8 @@ use Rattle.mmu_core.proofs.pages.UsesStay.{stays_standing}
 use Rattle.mmu_core.proofs.pages.Owned.{table_owned}
 use Rattle.mmu_core.proofs.pages.Paths.{up_stands}
 use Rattle.mmu_core.proofs.held.LeadsDown.{LeadsDown, entry_leads_down, link_leads_down, lowest_leads_down}
-use Rattle.mmu_core.proofs.held.HeldTopics.{never_or, begun_held, shared_held, excluded_held, let_go_held, root_held, slots_held, slot_held, snapshot_held, same_held, held_stays, gone_held}
+use Rattle.mmu_core.proofs.held.HeldTopics.{never_or, begun_held, shared_held, excluded_held, let_go_held, root_held, slots_held, slot_held, snapshot_held}
+use Rattle.mmu_core.proofs.held.HeldTopics.{same_held, held_stays, gone_held}
 
 -- what is said of what each hand holds, and of its counters, of a view
 abbrev pub HeldAt : Sizes → (ℕ → Option Position) → View → Type 0

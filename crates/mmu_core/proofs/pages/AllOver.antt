@@ -104,7 +104,8 @@ module _ {pages root : ℕ} {role pool : ℕ → ℕ} {up : ℕ → Use} {spot :
 module _ (up : ℕ → Use) (spot : ℕ → Position) (pool : ℕ → ℕ) (m : ℕ) (IsSo : ℕ → ℕ → ℕ → Type 0) (table : is_table (up m) ≡ true)
     (A : AllOver up spot pool m IsSo) where
   -- The words of tables stay.
-  pub over_words : (after : ℕ → ℕ) → ((k j : ℕ) → is_table (up k) ≡ true → j < 512 → after (pool_index k j) ≡ pool (pool_index k j)) → AllOver up spot after m IsSo
+  pub over_words : (after : ℕ → ℕ) → ((k j : ℕ) → is_table (up k) ≡ true → j < 512 → after (pool_index k j) ≡ pool (pool_index k j))
+      → AllOver up spot after m IsSo
   over_words after same k j gfn R O = subst (IsSo (spot k).level gfn) (sym (same k j (reached_table up m k table R) O.0)) (A k j gfn R O)
 
   -- One entry is stored, of which it is said so.

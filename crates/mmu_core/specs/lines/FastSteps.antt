@@ -12,12 +12,13 @@ use Rattle.spte_words.specs.declared.spte_kind.SpteKind.{SpteKind}
 use Rattle.spte_words.specs.declared.spte_kind.SpteKind.TheVariants as entry_kind
 use Rattle.part_steps.specs.PartHoldings.{is_fixable}
 
--- after a word of the slots: the slot with the guest frame is found, none has it, or the search goes on
+-- the last word that a search loads of a slot which has the guest frame
 abbrev pub is_last_word : SlotField → Bool
 is_last_word field.Host = true
 is_last_word _ = false
 
--- the place where the slot is found, where none has the guest frame, and where the search goes on
+-- After a word of the slots: the first place where the slot with the guest frame is found, the second where none has it, or the third, where the search
+-- goes on.
 abbrev pub search_next : FaultPlace → FaultPlace → FaultPlace → ℕ → SlotField → SlotSearch → FaultPlace
 search_next has none more gfn loaded found =
     if is_last_word loaded && contains gfn found.slot then has else

@@ -69,12 +69,13 @@ pub record HasEntry (gfn : ℕ) (write : Bool) (t : Topics) : Type 0 where
   pub leaf : kind_of 1 t.walk.entry ≡ entry_kind.Leaf
   pub allows : allows_access write t.walk.entry ≡ true
 
--- The entry is a leaf that forbade nothing but the write, with write permission set in this very word.
+-- The entry is what allowing the write makes of a leaf that forbids nothing but it.
 pub record IsFixed (entry : ℕ) : Type 0 where
   pub fixable : is_fixable (without_write entry) ≡ true
   pub set : with_write (without_write entry) ≡ entry
 
--- A fast fault has allowed the write so, in the entry that it had read; and the page was marked exactly where the slot that it found has a dirty log.
+-- The actor holds such an entry, which allows the access, and has a mark to tell of exactly where the slot that it found has a dirty log. That an exchange
+-- was won and the page marked isn't said here.
 pub record HasFixed (marked : Bool) (gfn : ℕ) (write : Bool) (t : Topics) : Type 0 where
   pub found : FoundSlot gfn t
   pub entry : HasEntry gfn write t

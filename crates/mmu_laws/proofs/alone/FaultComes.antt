@@ -183,8 +183,8 @@ module _ (root set : ℕ) (pool host : ℕ → ℕ) (gfn : ℕ) (write : Bool) w
   fast_find_alone false false t = tt
 
 -- A step of the claim leaves the entry.
-pub entry_still : (z : Sizes) (gfn : ℕ) (begun : Bool) (t : Topics) (v : ℕ) (words : Area → ℕ → ℕ) (a note : ℕ) (step : PartStep) (next : ClaimNext) (u : Topics)
-    → ClaimMade z Pages begun t v step next u
+pub entry_still : (z : Sizes) (gfn : ℕ) (begun : Bool) (t : Topics) (v : ℕ) (words : Area → ℕ → ℕ) (a note : ℕ) (step : PartStep) (next : ClaimNext)
+    (u : Topics) → ClaimMade z Pages begun t v step next u
     → EntryStands (words area.Pool) gfn t → EntryStands (words_after (part_task step a t note) words area.Pool) gfn u
 entry_still z gfn begun t v words a note _ _ _ (made.Won tries b some is) stands = stands
 entry_still z gfn begun t v words a note _ _ _ _ stands = stands

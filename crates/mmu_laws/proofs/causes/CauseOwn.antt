@@ -295,8 +295,6 @@ module _ (z : Sizes) (w : World Held) (ss : List (Step Kind)) (s : Step Kind) (G
       (put_saw z a w more behind gfn _ true t.search.logged) (λ e E. E)
   own_saw (Mark fast) gfn write M K S = over_saw z a w more behind gfn _ fast true
   own_saw (FastFind true) gfn write M K S = fast_find_saw z a w more behind gfn _ t.search.next (searched t.search v)
-  own_saw (FastFind false) gfn write M K S = tt
   own_saw (FastWalk true) gfn write M K S = fast_saw gfn (kind_of t.walk.level v) M
-  own_saw (FastWalk false) gfn write M K S = tt
   own_saw (Unshare e) gfn write M K S = end_longer z a w ss s (stays_in z u s G may part.Unshare M tt) e gfn S
   own_saw _ gfn write M K S = tt

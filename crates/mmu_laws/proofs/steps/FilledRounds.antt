@@ -145,20 +145,20 @@ round_and_more z F G n a b j k g h v apart pages C D rest =
     (filled (one_filled G) n (k + 1) h b (filled (one_filled F) n (j + 1) g a (first_round F G a b j k g h v))) (a ∷ b ∷ []) (in_turn n (a ∷ b ∷ []))
     [] [] first rest)
   where
-    v1 : View
-    v1 = filled F 1 j g a v
+    halfway : View
+    halfway = filled F 1 j g a v
 
-    D1 : CanFill z G 1 b k h v1
-    D1 = can_one z G n b k h v1 (can_still z F G 1 (suc n) a b j k g h v apart D)
+    second_can : CanFill z G 1 b k h halfway
+    second_can = can_one z G n b k h halfway (can_still z F G 1 (suc n) a b j k g h v apart D)
 
     first : Runs z v (a ∷ b ∷ []) (first_round F G a b j k g h v) []
-    first = run_on z v v1 (first_round F G a b j k g h v) (a ∷ []) (b ∷ []) [] [] (can_run z F 1 a j g v (can_one z F n a j g v C))
-        (can_run z G 1 b k h v1 D1)
+    first = run_on z v halfway (first_round F G a b j k g h v) (a ∷ []) (b ∷ []) [] [] (can_run z F 1 a j g v (can_one z F n a j g v C))
+        (can_run z G 1 b k h halfway second_can)
 
     turned_round : ◌≡◌ {A = View} (filled (one_filled G) n (k + 1) h b (filled (one_filled F) n (j + 1) g a (first_round F G a b j k g h v)))
         (filled (one_filled G) n (k + 1) h b (filled G 1 k h b (filled F (suc n) j g a v)))
     turned_round = ap (λ (w : View). filled (one_filled G) n (k + 1) h b w)
-        (changed_round (one_filled F) G n 1 a b (j + 1) k g h v1 apart pages (omega (arith, C.room)) (omega (arith, D.room))
+        (changed_round (one_filled F) G n 1 a b (j + 1) k g h halfway apart pages (omega (arith, C.room)) (omega (arith, D.room))
         ∙ ap (λ (w : View). filled G 1 k h b w) (merged z F n a j g v C))
 
     whole : ◌≡◌ {A = View} (filled (one_filled G) n (k + 1) h b (filled G 1 k h b (filled F (suc n) j g a v)))

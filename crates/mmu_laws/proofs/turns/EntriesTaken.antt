@@ -1,4 +1,4 @@
--- Each step keeps a leaf to which links lead, or takes an entry of the guest frame away; and what takes one away changes it.
+-- Each step keeps a leaf to which links lead, or takes an entry of the guest frame from the access; and what takes one away changes it.
 use Rattle.core_views.specs.declared.kind.Kind.{Kind}
 use Rattle.core_views.specs.declared.kind.StepKind.{StepKind}
 use Rattle.core_views.specs.declared.kind.StepKind.TheVariants as kind
@@ -34,7 +34,7 @@ use Rattle.mmu_core.proofs.machine.Which.{is_next}
 use Rattle.mmu_core.proofs.machine.Worlds.{Takes, TakesPart, are_small, good_step, takes}
 use Rattle.mmu_laws.specs.turns.Breaking.{BreakingChangesEntries, Breaks, ChangesEntry, TakesAway}
 use Rattle.mmu_laws.specs.turns.Removal.{LeadsFromRoot, LeavesStay}
-use Rattle.mmu_laws.proofs.turns.LeavesStay.{IsTaken, TakesEntry, leads_or_takes, links_by, taken_kind, takes_entries}
+use Rattle.mmu_laws.proofs.turns.LeavesStay.{IsTakenAway, TakesEntry, leads_or_takes, links_by, taken_kind, takes_entries}
 use Rattle.mmu_laws.proofs.turns.Removal.{stands_or_broken}
 use Rattle.std.proofs.Common.{◌≡◌, ◌⊎◌, inl, inr, ◌^◌, ◌<◌, ◌≤◌, ℕ, refl, sym, subst, ap, ◌∙◌, bit_and}
 use Rattle.std.specs.Prelude.{Bool, true, false, Some}
@@ -56,7 +56,7 @@ unfolding absent_word
 none_is = refl
 
 -- A step of a task of this kind on an entry of the guest frame, which answers what it found.
-module _ (z : Sizes) (w : World Held) (s : Step Kind) (G : IsSound z w) (gfn : ℕ) (task : Task) (is : s.kind ≡ kind_of_task z task)
+module _ (z : Sizes) (w : World Held) (s : Step Kind) (G : IsSound z w) (gfn : ℕ) (write : Bool) (task : Task) (is : s.kind ≡ kind_of_task z task)
     (answers : answered mmu w s.kind ≡ answer_in task (word_in z w)) where
   module _ (kind_ : StepKind) (level prefix page : ℕ) (at_page : stands G.topics.up G.topics.spot page ≡ Some (at level prefix)) (kind_is : task.kind ≡ kind_)
       (area_is : task.area ≡ area.Pool) (index_is : task.index ≡ pool_index page (entry_index gfn level))
@@ -85,12 +85,12 @@ module _ (z : Sizes) (w : World Held) (s : Step Kind) (G : IsSound z w) (gfn : �
     }
 
   -- It zaps a leaf, or forbids writes in one.
-  takes_leaf : TakesEntry task (stands G.topics.up G.topics.spot) (word_in z w area.Pool) gfn → Breaks z gfn w s
+  takes_leaf : TakesEntry write task (stands G.topics.up G.topics.spot) (word_in z w area.Pool) gfn → Breaks z gfn write w s
   takes_leaf Z = by Z.takes
     where
-      by : IsTaken task (word_in z w area.Pool) Z.page (at Z.level Z.prefix) (entry_index gfn Z.level) → Breaks z gfn w s
+      by : IsTakenAway write task (word_in z w area.Pool) Z.page (at Z.level Z.prefix) (entry_index gfn Z.level) → Breaks z gfn write w s
       by (inl zaps) =
-          subst (λ (k : StepKind). TakesAway k z gfn w s)
+          subst (λ (k : StepKind). TakesAway k z gfn write w s)
           (sym (named kind.Zap Z.level Z.prefix Z.page Z.at_page zaps.kind_is zaps.area_is zaps.index_is (λ written n. refl))) (record {
             entry = entry_is kind.Zap Z.level Z.prefix Z.page Z.at_page zaps.kind_is zaps.area_is zaps.index_is (λ written n. refl);
             was =
@@ -100,10 +100,11 @@ module _ (z : Sizes) (w : World Held) (s : Step Kind) (G : IsSound z w) (gfn : �
                 (named kind.Zap Z.level Z.prefix Z.page Z.at_page zaps.kind_is zaps.area_is zaps.index_is (λ written n. refl))
                 ∙ ap (λ (k : Kind). k.new) is ∙ zaps.writes ∙ none_is;
           })
-      by (inr forbids) =
+      by (inr protects) =
+          let forbids = protects.1 in
           let of_kind = named kind.Protect Z.level Z.prefix Z.page Z.at_page forbids.kind_is forbids.area_is forbids.index_is (λ written n. refl) in
           let is_found = finds kind.Protect Z.level Z.prefix Z.page Z.at_page forbids.kind_is forbids.area_is forbids.index_is (λ written n. refl) in
-          subst (λ (k : StepKind). TakesAway k z gfn w s) (sym of_kind) (record {
+          subst (λ (k : StepKind). TakesAway k z gfn write w s) (sym of_kind) (protects.0, record {
             entry = entry_is kind.Protect Z.level Z.prefix Z.page Z.at_page forbids.kind_is forbids.area_is forbids.index_is (λ written n. refl);
             was = ap (kind_of Z.level) is_found ∙ forbids.leaf;
             allowed = ap can_write is_found ∙ forbids.allowed;
@@ -136,10 +137,10 @@ module _ (z : Sizes) (w : World Held) (s : Step Kind) (gfn : ℕ) (write : Bool)
   Led words = LeadsToLeaf (words area.Pool) 4 (words area.Root 0) gfn write
 
   abbrev Taken : Task → Type 0
-  Taken task = TakesEntry task (stands G.topics.up G.topics.spot) (word_in z w area.Pool) gfn
+  Taken task = TakesEntry write task (stands G.topics.up G.topics.spot) (word_in z w area.Pool) gfn
 
   abbrev StaysOrBreaks : Type 0
-  StaysOrBreaks = LeadsFromRoot z (effect mmu w s) gfn write ⊎ Breaks z gfn w s
+  StaysOrBreaks = LeadsFromRoot z (effect mmu w s) gfn write ⊎ Breaks z gfn write w s
 
   -- a step of a line
   by_line : (T : Takes z w s h) → Led (words_after (task_at stood line.command h) (word_in z w)) ⊎ Taken (task_at stood line.command h) → StaysOrBreaks
@@ -147,39 +148,40 @@ module _ (z : Sizes) (w : World Held) (s : Step Kind) (gfn : ℕ) (write : Bool)
   by_line T (inr Z) =
       let same : h.state.sizes ≡ z = (G.holds.lines s.actor T.is_step.there).sizes in
       let is : s.kind ≡ kind_of_task z (task_of h) = (is_next h s.kind may.enabled T.has).is ∙ ap (λ (y : Sizes). kind_of_task y (task_of h)) same in
-      inr (takes_leaf z w s G gfn (task_at stood line.command h) is T.answers Z)
+      inr (takes_leaf z w s G gfn write (task_at stood line.command h) is T.answers Z)
 
   -- a step of a part, with no line
   by_part : (T : TakesPart z w s h) → Led (part_stepped s.actor T.step T.note (view z w)).words ⊎ Taken (part_task T.step (own_index h) h.topics T.note)
       → StaysOrBreaks
   by_part T (inl led) = inl (subst (λ (v : View). Led v.words) (sym T.leads) led)
-  by_part T (inr Z) = absurd (never_takes T.step (own_index h) h.topics T.note T.free (taken_kind _ _ _ _ _ Z.takes))
+  by_part T (inr Z) = absurd (never_takes T.step (own_index h) h.topics T.note T.free (taken_kind _ _ _ _ _ _ Z.takes))
 
   by_step : Takes z w s h ⊎ TakesPart z w s h → StaysOrBreaks
   by_step (inl T) =
       let makes = step_in z (view z w) s.actor line line.command stood (are_small z w G) T.is_step G.holds G.topics in
       by_line T (leads_or_takes z w G (task_at stood line.command h) (words_after (task_at stood line.command h) (word_in z w)) gfn write
-      (links_by z (view z w) s.actor (task_at stood line.command h) makes G.holds G.topics) L)
+      (links_by write z (view z w) s.actor (task_at stood line.command h) makes G.holds G.topics) L)
   by_step (inr T) =
       let task : Task = part_task T.step (own_index h) h.topics T.note in
       by_part T (leads_or_takes z w G task (words_after task (word_in z w)) gfn write
-      (links_by z (view z w) s.actor task (Makes T.step T.note T.is_part) G.holds G.topics) L)
+      (links_by write z (view z w) s.actor task (Makes T.step T.note T.is_part) G.holds G.topics) L)
 
--- Each step keeps it so, or takes an entry of the guest frame away.
+-- Each step keeps it so, or takes an entry of the guest frame from the access.
 pub leaf_stays_or_breaks : (z : Sizes) (w : World Held) (s : Step Kind) (gfn : ℕ) (write : Bool) → IsSound z w → May mmu w s → LeadsFromRoot z w gfn write
-    → LeadsFromRoot z (effect mmu w s) gfn write ⊎ Breaks z gfn w s
+    → LeadsFromRoot z (effect mmu w s) gfn write ⊎ Breaks z gfn write w s
 leaf_stays_or_breaks z w s gfn write G may L = by_step z w s gfn write G may L (takes z w s G may)
 
 pub leaves_stay : LeavesStay
 leaves_stay z w ss gfn write G legal L =
-    stands_or_broken (IsSound z) (λ (u : World Held). LeadsFromRoot z u gfn write) (Breaks z gfn) (good_step z)
+    stands_or_broken (IsSound z) (λ (u : World Held). LeadsFromRoot z u gfn write) (Breaks z gfn write) (good_step z)
     (λ u s. leaf_stays_or_breaks z u s gfn write) w ss G legal L
 
 -- ---- what such a step changes
 
 -- A step that takes an entry of the guest frame away changes such an entry, which isn't absent: a kind that does so has its case here.
-taken_changes : (kind : StepKind) (z : Sizes) (gfn : ℕ) (w : World Held) (s : Step Kind) → TakesAway kind z gfn w s → ChangesEntry z gfn w s
-taken_changes kind.Zap z gfn w s T = record {
+taken_changes : (kind : StepKind) (z : Sizes) (gfn : ℕ) (write : Bool) (w : World Held) (s : Step Kind) → TakesAway kind z gfn write w s
+    → ChangesEntry z gfn w s
+taken_changes kind.Zap z gfn write w s T = record {
   entry = T.entry;
   is_there = λ absent. let leaf = T.was in cc (absent, leaf);
   changes = λ same.
@@ -188,7 +190,7 @@ taken_changes kind.Zap z gfn w s T = record {
       ∙ kind_of_absent T.entry.level in
       cc (absent, leaf);
 }
-taken_changes kind.Protect z gfn w s T = record {
+taken_changes kind.Protect z gfn write w s (is, T) = record {
   entry = T.entry;
   is_there = λ absent. let leaf = T.was in cc (absent, leaf);
   changes = λ same.
@@ -196,7 +198,7 @@ taken_changes kind.Protect z gfn w s T = record {
       let allows = T.allowed in
       cc (denies, allows);
 }
-taken_changes _ z gfn w s takes_ = absurd takes_
+taken_changes _ z gfn write w s takes_ = absurd takes_
 
 pub breaking_changes_entries : BreakingChangesEntries
-breaking_changes_entries z gfn w s G may breaks = taken_changes (kind_named s.kind.code) z gfn w s breaks
+breaking_changes_entries z gfn write w s G may breaks = taken_changes (kind_named s.kind.code) z gfn write w s breaks

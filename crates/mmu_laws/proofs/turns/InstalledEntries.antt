@@ -67,12 +67,13 @@ module _ (z : Sizes) (w : World Held) (ss : List (Step Kind)) (s : Step Kind) (G
   Before actor gfn write = StandsInstalled actor gfn write u × LedOrLost z w actor ss u gfn write
 
   abbrev After : ℕ → ℕ → Bool → Type 0
-  After actor gfn write = Leads (word_in z next_world) gfn write ⊎ LostEntry z actor gfn write w ss ⊎ (StandsInstalled actor gfn write u × Breaks z gfn u s)
+  After actor gfn write =
+      Leads (word_in z next_world) gfn write ⊎ LostEntry z actor gfn write w ss ⊎ (StandsInstalled actor gfn write u × Breaks z gfn write u s)
 
   goes_on : (actor gfn : ℕ) (write : Bool) → Before actor gfn write → After actor gfn write
   goes_on actor gfn write B = by B.1
     where
-      still : Leads (word_in z next_world) gfn write ⊎ Breaks z gfn u s → After actor gfn write
+      still : Leads (word_in z next_world) gfn write ⊎ Breaks z gfn write u s → After actor gfn write
       still (inl leads) = inl leads
       still (inr breaks) = inr (inr (B.0, breaks))
 

@@ -35,9 +35,9 @@ pub record IsProtected (task : Task) (before : ℕ → ℕ) (k : ℕ) (p : Posit
   pub leaf : kind_of p.level (before (pool_index k j)) ≡ entry_kind.Leaf
   pub allowed : can_write (before (pool_index k j)) ≡ true
 
--- It takes the leaf away, or some of what it allows.
-abbrev pub IsTaken : Task → (ℕ → ℕ) → ℕ → Position → ℕ → Type 0
-IsTaken task before k p j = IsZapped task before k p j ⊎ IsProtected task before k p j
+-- It takes the leaf from an access, which is a write or none.
+abbrev pub IsTakenAway : Bool → Task → (ℕ → ℕ) → ℕ → Position → ℕ → Type 0
+IsTakenAway write task before k p j = IsZapped task before k p j ⊎ ((write ≡ true) × IsProtected task before k p j)
 
 -- A step of one of these kinds does so.
 abbrev pub takes_entries : StepKind → Bool
@@ -45,65 +45,67 @@ takes_entries kind.Zap = true
 takes_entries kind.Protect = true
 takes_entries _ = false
 
-pub taken_kind : (task : Task) (before : ℕ → ℕ) (k : ℕ) (p : Position) (j : ℕ) → IsTaken task before k p j → takes_entries task.kind ≡ true
-taken_kind task before k p j (inl zaps) = ap takes_entries zaps.kind_is
-taken_kind task before k p j (inr forbids) = ap takes_entries forbids.kind_is
+pub taken_kind : (write : Bool) (task : Task) (before : ℕ → ℕ) (k : ℕ) (p : Position) (j : ℕ) → IsTakenAway write task before k p j
+    → takes_entries task.kind ≡ true
+taken_kind write task before k p j (inl zaps) = ap takes_entries zaps.kind_is
+taken_kind write task before k p j (inr forbids) = ap takes_entries forbids.1.kind_is
 
--- A leaf was there, and one is that allows writes if it did.
-pub record IsLeafStill (level was is : ℕ) : Type 0 where
+-- A leaf was there, and one is that allows writes if it did, where it is of an access that writes.
+pub record IsLeafStill (write : Bool) (level was is : ℕ) : Type 0 where
   pub was_leaf : kind_of level was ≡ entry_kind.Leaf
   pub is_leaf : kind_of level is ≡ entry_kind.Leaf
-  pub writes : can_write was ≡ true → can_write is ≡ true
+  pub writes : write ≡ true → can_write was ≡ true → can_write is ≡ true
 
 -- What was in an entry of a table is there still, or it was absent, or the step takes it away, or both are leaves; and the root is the same.
-abbrev pub EntryStays : Task → (ℕ → ℕ) → (ℕ → ℕ) → ℕ → Position → ℕ → Type 0
-EntryStays task before after k p j =
-    (after (pool_index k j) ≡ before (pool_index k j)) ⊎ (before (pool_index k j) ≡ absent_word) ⊎ IsTaken task before k p j
-    ⊎ IsLeafStill p.level (before (pool_index k j)) (after (pool_index k j))
+abbrev pub EntryStays : Bool → Task → (ℕ → ℕ) → (ℕ → ℕ) → ℕ → Position → ℕ → Type 0
+EntryStays write task before after k p j =
+    (after (pool_index k j) ≡ before (pool_index k j)) ⊎ (before (pool_index k j) ≡ absent_word) ⊎ IsTakenAway write task before k p j
+    ⊎ IsLeafStill write p.level (before (pool_index k j)) (after (pool_index k j))
 
-abbrev pub EntriesStay : Task → (ℕ → Option Position) → (ℕ → ℕ) → (ℕ → ℕ) → Type 0
-EntriesStay task stands before after = (k : ℕ) (p : Position) → stands k ≡ Some p → (j : ℕ) → j < 512 → EntryStays task before after k p j
+abbrev pub EntriesStay : Bool → Task → (ℕ → Option Position) → (ℕ → ℕ) → (ℕ → ℕ) → Type 0
+EntriesStay write task stands before after =
+    (k : ℕ) (p : Position) → stands k ≡ Some p → (j : ℕ) → j < 512 → EntryStays write task before after k p j
 
-pub record LinksStay (task : Task) (stands : ℕ → Option Position) (before after : Area → ℕ → ℕ) : Type 0 where
-  pub entries : EntriesStay task stands (before area.Pool) (after area.Pool)
+pub record LinksStay (write : Bool) (task : Task) (stands : ℕ → Option Position) (before after : Area → ℕ → ℕ) : Type 0 where
+  pub entries : EntriesStay write task stands (before area.Pool) (after area.Pool)
   pub root : after area.Root 0 ≡ before area.Root 0
 
--- The step takes an entry of the guest frame away.
-pub record TakesEntry (task : Task) (stands : ℕ → Option Position) (before : ℕ → ℕ) (gfn : ℕ) : Type 0 where
+-- The step takes an entry of the guest frame from the access.
+pub record TakesEntry (write : Bool) (task : Task) (stands : ℕ → Option Position) (before : ℕ → ℕ) (gfn : ℕ) : Type 0 where
   pub level : ℕ
   pub prefix : ℕ
   pub page : ℕ
   pub at_page : stands page ≡ Some (at level prefix)
-  pub takes : IsTaken task before page (at level prefix) (entry_index gfn level)
+  pub takes : IsTakenAway write task before page (at level prefix) (entry_index gfn level)
 
 -- ---- where links lead
 
 module _ {pages root : ℕ} {role before : ℕ → ℕ} {up : ℕ → Use} {spot : ℕ → Position} (T : TreePart pages root role before up spot) (after : ℕ → ℕ)
-    (few : pages ≤ 2 ^ 32) (task : Task)
-    (stay : EntriesStay task (stands up spot) before after) (gfn entry : ℕ) where
+    (few : pages ≤ 2 ^ 32) (write : Bool) (task : Task)
+    (stay : EntriesStay write task (stands up spot) before after) (gfn entry : ℕ) where
   abbrev Takes : Type 0
-  Takes = TakesEntry task (stands up spot) before gfn
+  Takes = TakesEntry write task (stands up spot) before gfn
 
-  -- Links lead to a leaf that allows writes if the one before did.
+  -- Links lead to a leaf that allows writes if the one before did, where the access writes.
   pub record LeadsOn (level page : ℕ) : Type 0 where
     pub leaf : ℕ
     pub leads : LeadsTo after level page gfn leaf
     pub is_leaf : kind_of 1 leaf ≡ entry_kind.Leaf
-    pub writes : can_write entry ≡ true → can_write leaf ≡ true
+    pub writes : write ≡ true → can_write entry ≡ true → can_write leaf ≡ true
 
   lowest_stays : (prefix page : ℕ) → kind_of 1 entry ≡ entry_kind.Leaf → stands up spot page ≡ Some (at 1 prefix) → LeadsTo before 1 page gfn entry
       → LeadsOn 1 page ⊎ Takes
   lowest_stays prefix page leaf at_page leads = by (stay page (at 1 prefix) at_page (entry_index gfn 1) (omega arith))
     where
-      by : EntryStays task before after page (at 1 prefix) (entry_index gfn 1) → LeadsOn 1 page ⊎ Takes
-      by (inl same) = inl (record { leaf = entry; leads = same ∙ leads; is_leaf = leaf; writes = λ w. w })
+      by : EntryStays write task before after page (at 1 prefix) (entry_index gfn 1) → LeadsOn 1 page ⊎ Takes
+      by (inl same) = inl (record { leaf = entry; leads = same ∙ leads; is_leaf = leaf; writes = λ is w. w })
       by (inr (inl was)) = let absent : kind_of 1 entry ≡ entry_kind.Absent = ap (kind_of 1) (sym leads ∙ was) ∙ kind_of_absent 1 in absurd (cc (absent, leaf))
       by (inr (inr (inl Z))) = inr (record { level = 1; prefix = prefix; page = page; at_page = at_page; takes = Z })
       by (inr (inr (inr K))) = inl (record {
         leaf = after (pool_index page (entry_index gfn 1));
         leads = refl;
         is_leaf = K.is_leaf;
-        writes = λ w. K.writes (ap can_write leads ∙ w);
+        writes = λ is w. K.writes is (ap can_write leads ∙ w);
       })
 
   -- the link to a table, from an entry of a level
@@ -117,7 +119,7 @@ module _ {pages root : ℕ} {role before : ℕ → ℕ} {up : ℕ → Use} {spot
       j : ℕ
       j = entry_index gfn level
 
-      by : EntryStays task before after page (at level prefix) j → Links after level page below ⊎ Takes
+      by : EntryStays write task before after page (at level prefix) j → Links after level page below ⊎ Takes
       by (inl same) = inl (ap (λ n. linked_page (kind_of level n)) same ∙ link)
       by (inr (inl was)) =
           let none : linked_page (kind_of level (before (pool_index page j))) ≡ None = ap (λ n. linked_page (kind_of level n)) was

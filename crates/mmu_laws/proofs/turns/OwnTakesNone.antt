@@ -82,10 +82,10 @@ access_never (Fault p) gfn word op h e = fault_never p gfn h.topics _ _ h.topics
 
 -- ---- nor takes one away
 
-breaks_by : (k : StepKind) (z : Sizes) (gfn : ℕ) (w : World Held) (s : Step Kind) → TakesAway k z gfn w s → takes_entries k ≡ true
-breaks_by kind.Zap z gfn w s takes_ = refl
-breaks_by kind.Protect z gfn w s takes_ = refl
-breaks_by _ z gfn w s takes_ = absurd takes_
+breaks_by : (k : StepKind) (z : Sizes) (gfn : ℕ) (write : Bool) (w : World Held) (s : Step Kind) → TakesAway k z gfn write w s → takes_entries k ≡ true
+breaks_by kind.Zap z gfn write w s takes_ = refl
+breaks_by kind.Protect z gfn write w s takes_ = refl
+breaks_by _ z gfn write w s takes_ = absurd takes_
 
 named : (k : StepKind) → kind_named (code_of k) ≡ k
 named kind.Enter = refl
@@ -93,8 +93,8 @@ named _ = refl
 
 -- The line is an access, at some place.
 module _ (is_such : AccessPlace → Bool) (gfn : ℕ) (write : Bool) where
-  stands_never : (q : Place) (h : Held) → StandsAt is_such q h.state.line.command gfn write → takes_entries (task_at (place_at q h) (line_at q h).command h).kind ≡ true
-      → ⊥
+  stands_never : (q : Place) (h : Held) → StandsAt is_such q h.state.line.command gfn write
+      → takes_entries (task_at (place_at q h) (line_at q h).command h).kind ≡ true → ⊥
   stands_never (place.Access p) h S e = by h.state.line.command S e
     where
       by : (c : Command) → StandsAt is_such (place.Access p) c gfn write → takes_entries (task_at (place.Access p) c h).kind ≡ true → ⊥
@@ -107,12 +107,12 @@ module _ (is_such : AccessPlace → Bool) (gfn : ℕ) (write : Bool) where
   has_begun _ h S under = absurd S
 
   pub own_takes_none : (z : Sizes) (w : World Held) (s : Step Kind) (frame : ℕ) → IsSound z w → May mmu w s
-      → StandsAt is_such (hand_in mmu w s.actor).state.place (hand_in mmu w s.actor).state.line.command gfn write → Breaks z frame w s → ⊥
+      → StandsAt is_such (hand_in mmu w s.actor).state.place (hand_in mmu w s.actor).state.line.command gfn write → Breaks z frame write w s → ⊥
   own_takes_none z w s frame G may S breaks =
       let h : Held = hand_in mmu w s.actor in
       let there : s.actor < actors_of z = subst (λ n. s.actor < n) G.hands may.there in
       let has = has_begun h.state.place h S (G.holds.lines s.actor there).under in
       let code : s.kind.code ≡ code_of (task_of h).kind = ap (λ (k : Kind). k.code) (is_next h s.kind may.enabled has).is in
       let is : takes_entries (task_of h).kind ≡ true = ap takes_entries (sym (named (task_of h).kind) ∙ sym (ap kind_named code))
-      ∙ breaks_by (kind_named s.kind.code) z frame w s breaks in
+      ∙ breaks_by (kind_named s.kind.code) z frame write w s breaks in
       stands_never h.state.place h S is

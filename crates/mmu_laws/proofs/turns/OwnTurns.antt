@@ -104,7 +104,7 @@ module _ (z : Sizes) (w : World Held) (s : Step Kind) (G : IsSound z w) (may : M
   still_leads : (gfn : ℕ) (write : Bool) → StandsInstalled a gfn write w × Leads words gfn write → Leads (word_in z next_) gfn write
   still_leads gfn write B = by (leaf_stays_or_breaks z w s gfn write G may B.1)
     where
-      by : Leads (word_in z next_) gfn write ⊎ Breaks z gfn w s → Leads (word_in z next_) gfn write
+      by : Leads (word_in z next_) gfn write ⊎ Breaks z gfn write w s → Leads (word_in z next_) gfn write
       by (inl leads) = leads
       by (inr breaks) = absurd (own_takes_none is_installed gfn write z w s gfn G may B.0 breaks)
 

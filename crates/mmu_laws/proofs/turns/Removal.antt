@@ -79,10 +79,10 @@ module _ (z : Sizes) (actor gfn : ℕ) (write : Bool) (w : World Held) (ss : Lis
         stood =
             throughout_longer (StandsSinceFault actor gfn write) u L.later s L.stood
             (subst (StandsSinceFault actor gfn write) (sym here) (stands_since_fault actor gfn write (effect mmu (run mmu w ss) s) stands));
-        broken = broken_longer (Breaks z gfn) u L.later s L.broken;
+        broken = broken_longer (Breaks z gfn write) u L.later s L.broken;
       }
 
-  pub lost_now : StandsInstalled actor gfn write (run mmu w ss) → Breaks z gfn (run mmu w ss) s → LostEntry z actor gfn write w (ss ++ s ∷ [])
+  pub lost_now : StandsInstalled actor gfn write (run mmu w ss) → Breaks z gfn write (run mmu w ss) s → LostEntry z actor gfn write w (ss ++ s ∷ [])
   lost_now stood breaks = record {
     earlier = ss;
     later = s ∷ [];

@@ -1,5 +1,5 @@
 -- Which steps take entries of the tables away, and what such a step does.
-use Rattle.std.specs.Prelude.{◌≡◌, ◌≢◌, ℕ, true, List, ◌∷◌, ◌++◌}
+use Rattle.std.specs.Prelude.{◌≡◌, ◌≢◌, ℕ, Bool, true, List, ◌∷◌, ◌++◌}
 use Rattle.core_views.specs.declared.kind.Kind.{Kind}
 use Rattle.core_views.specs.declared.kind.StepKind.{StepKind}
 use Rattle.core_views.specs.declared.kind.StepKind.TheVariants as kind
@@ -26,15 +26,15 @@ pub record ForbidsWrites (z : Sizes) (gfn : ℕ) (w : World Held) (s : Step Kind
   pub allowed : can_write (found mmu w s.kind) ≡ true
   pub leaves : after s.kind (found mmu w s.kind) ≡ without_write (found mmu w s.kind)
 
--- A step of this kind takes an entry of the guest frame away, or some of what it allows. Two kinds do so, which zap a leaf, and forbid writes in one: another
--- that freezes entries has a row here.
-abbrev pub TakesAway : StepKind → Sizes → ℕ → World Held → Step Kind → Type 0
-TakesAway kind.Zap z gfn w s = TakesLeaf z gfn w s
-TakesAway kind.Protect z gfn w s = ForbidsWrites z gfn w s
-TakesAway _ z gfn w s = ⊥
+-- A step of this kind takes from an access, which is a write or none, an entry of its guest frame. Two kinds do so: one zaps a leaf, and the other forbids
+-- writes in one, which takes nothing from a reader. Another kind that freezes entries has a row here.
+abbrev pub TakesAway : StepKind → Sizes → ℕ → Bool → World Held → Step Kind → Type 0
+TakesAway kind.Zap z gfn write w s = TakesLeaf z gfn w s
+TakesAway kind.Protect z gfn write w s = (write ≡ true) × ForbidsWrites z gfn w s
+TakesAway _ z gfn write w s = ⊥
 
-abbrev pub Breaks : Sizes → ℕ → World Held → Step Kind → Type 0
-Breaks z gfn w s = TakesAway (kind_named s.kind.code) z gfn w s
+abbrev pub Breaks : Sizes → ℕ → Bool → World Held → Step Kind → Type 0
+Breaks z gfn write w s = TakesAway (kind_named s.kind.code) z gfn write w s
 
 -- The step is on the word of an entry of the guest frame. It finds an entry there that isn't absent, and leaves another number.
 pub record ChangesEntry (z : Sizes) (gfn : ℕ) (w : World Held) (s : Step Kind) : Type 0 where
@@ -44,7 +44,8 @@ pub record ChangesEntry (z : Sizes) (gfn : ℕ) (w : World Held) (s : Step Kind)
 
 -- A step that may be made, and takes an entry of the guest frame away, changes such an entry.
 abbrev pub BreakingChangesEntries : Type 0
-BreakingChangesEntries = (z : Sizes) (gfn : ℕ) (w : World Held) (s : Step Kind) → IsSound z w → May mmu w s → Breaks z gfn w s → ChangesEntry z gfn w s
+BreakingChangesEntries =
+    (z : Sizes) (gfn : ℕ) (write : Bool) (w : World Held) (s : Step Kind) → IsSound z w → May mmu w s → Breaks z gfn write w s → ChangesEntry z gfn w s
 
 -- One of the steps, made from this world on, is such a step in its turn.
 pub record WasBroken (IsSuch : World Held → Step Kind → Type 0) (w : World Held) (ss : List (Step Kind)) : Type 0 where

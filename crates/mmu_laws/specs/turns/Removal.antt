@@ -36,11 +36,12 @@ use Rattle.mmu_laws.specs.turns.Breaking.{Breaks, WasBroken}
 abbrev pub LeadsFromRoot : Sizes → World Held → ℕ → Bool → Type 0
 LeadsFromRoot z w gfn write = LeadsToLeaf (word_in z w area.Pool) 4 (word_in z w area.Root 0) gfn write
 
--- Where links lead to such a leaf once, they do so after every list of steps, or one of the steps took an entry of the guest frame away.
+-- Where links lead to such a leaf once, they do so after every list of steps, or one of the steps took an entry of
+-- the guest frame from such an access.
 abbrev pub LeavesStay : Type 0
 LeavesStay =
     (z : Sizes) (w : World Held) (ss : List (Step Kind)) (gfn : ℕ) (write : Bool) → IsSound z w → Legal mmu w ss → LeadsFromRoot z w gfn write
-    → LeadsFromRoot z (run mmu w ss) gfn write ⊎ WasBroken (Breaks z gfn) w ss
+    → LeadsFromRoot z (run mmu w ss) gfn write ⊎ WasBroken (Breaks z gfn write) w ss
 
 -- The fault ends with an entry that allows the access: it put one, or found one, or allowed writes in one.
 abbrev pub has_installed : FaultEnd → Bool
@@ -102,7 +103,7 @@ pub record LostEntry (z : Sizes) (actor gfn : ℕ) (write : Bool) (w : World Hel
   pub later : List (Step Kind)
   pub are : ss ≡ earlier ++ later
   pub stood : Throughout (StandsSinceFault actor gfn write) (run mmu w earlier) later
-  pub broken : WasBroken (Breaks z gfn) (run mmu w earlier) later
+  pub broken : WasBroken (Breaks z gfn write) (run mmu w earlier) later
 
 -- After every list of steps of all actors, links lead each line that stands after an installed entry to a leaf that allows its access, or a step since its
 -- fault began took an entry of the guest frame away.
