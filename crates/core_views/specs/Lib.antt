@@ -25,10 +25,4 @@ pub mod Need
 pub mod StepCodes
 pub mod Kinds
 pub mod Held
-pub mod Writes
-pub mod ReachedWrites
-pub mod Laws
-pub mod Unlawful
-pub mod SlotLines
-pub mod HostExamples
 pub mod Rows

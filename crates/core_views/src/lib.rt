@@ -9,7 +9,6 @@ mod event;
 mod hand;
 mod host;
 mod kind;
-mod laws;
 mod no_memory;
 mod place;
 mod sequence;
@@ -26,10 +25,6 @@ pub use event::{Event, EventKind};
 pub use hand::{Closing, Hand, Hands, Progress, Seen};
 pub use host::HostEntry;
 pub use kind::{Kind, Operation, StepKind};
-pub use laws::{
-    alone_is_flat, flat_history_is_lawful, reached_writes_are_kept, slot_lines_set_slots,
-    unlawful_histories_are_refused, writes_are_kept,
-};
 pub use no_memory::NoMemory;
 pub use place::{
     AccessPlace, BeginPlace, Cause, CheckStage, EndPlace, FaultEnd, FaultNext, FaultPlace,

@@ -14,9 +14,9 @@ use Rattle.core_views.specs.Past.{Past}
 use Rattle.core_views.specs.Flat.{Facts, Flat, LineUnderWay, Stage, Idle, HasTaken, first_flat}
 use Rattle.core_views.specs.Events.{after, after_all, under_after}
 use Rattle.core_views.specs.Lawful.{IsAllowed, IsLawful, Tells}
-use Rattle.core_views.specs.Writes.{IsNoTaking, NoneIsTaken, DueFramesAreKept}
+use Rattle.flat_laws.specs.Writes.{IsNoTaking, NoneIsTaken, DueFramesAreKept}
 use Rattle.core_views.proofs.SameActor.{changed_here, same_is}
-use Rattle.core_views.proofs.Writes.{apart_actors}
+use Rattle.flat_laws.proofs.Writes.{apart_actors}
 use Rattle.log_laws.specs.HarvestLaws.{made_by}
 use Rattle.log_laws.specs.OneReader.{EndsNone, LeavesReading, OnlyReads, ReadingsAreApart, StillReads, LoneReadingsAreComplete}
 use Rattle.log_laws.proofs.Readings.{lawful_rest, complete}

@@ -14,7 +14,7 @@ use Rattle.core_views.specs.Flat.{Facts, Flat, LineUnderWay, first_flat}
 use Rattle.core_views.specs.FlatHistory.{harvest}
 use Rattle.core_views.specs.Events.{after, after_all}
 use Rattle.core_views.specs.Lawful.{IsAllowed, IsLawful}
-use Rattle.core_views.specs.Writes.{DueFramesAreKept, WrittenFramesAreKept}
+use Rattle.flat_laws.specs.Writes.{DueFramesAreKept, WrittenFramesAreKept}
 use Rattle.log_laws.specs.HarvestLaws.{IsAskedFor, ReadingsAreCaused, ReadingsAreComplete, made_by}
 
 -- What comes after the front of a lawful history is lawful in the state that the front leads to.

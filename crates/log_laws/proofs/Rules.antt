@@ -9,7 +9,7 @@ use Rattle.core_views.specs.FlatHistory.{harvest}
 use Rattle.core_views.specs.Harvests.{IsHarvest}
 use Rattle.core_views.specs.Lawful.{IsAllowed, MayRead}
 use Rattle.core_views.specs.LogCommands.{is_bad_range}
-use Rattle.core_views.specs.Writes.{DueFramesAreKept, WrittenFramesAreKept}
+use Rattle.flat_laws.specs.Writes.{DueFramesAreKept, WrittenFramesAreKept}
 use Rattle.log_laws.specs.LogRules.{ArmingArms, AreWholeWords, BadRangesAreTold, SuchMayBeRead}
 
 pub arming : ArmingArms

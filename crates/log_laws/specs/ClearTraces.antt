@@ -4,9 +4,9 @@ use Rattle.std.specs.Prelude.{◌≡◌, [], ◌∷◌, true, false, codes}
 use Rattle.core_views.specs.declared.sizes.LogMode.TheVariants.{Automatic, Manual, ManualAllSet}
 use Rattle.core_views.specs.declared.trace.Command.TheVariants.{ClearLog, GetLog, SetLog}
 use Rattle.core_views.specs.declared.trace.Op.TheVariants.{Write}
-use Rattle.core_views.specs.Laws.{access_line, manager_line}
+use Rattle.flat_laws.specs.Laws.{access_line, manager_line}
 use Rattle.core_views.specs.Sizes.{mode_of}
-use Rattle.core_views.specs.SlotLines.{open_slot}
+use Rattle.flat_laws.specs.SlotLines.{open_slot}
 use Rattle.log_laws.specs.LogTraces.{Print, log_line, slot_of_pages, with_log}
 
 -- Of two dirty frames a clear names the one of its second word, and the other one stays dirty.

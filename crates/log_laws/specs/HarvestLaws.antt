@@ -15,7 +15,7 @@ use Rattle.core_views.specs.Flat.{Facts, Flat, first_flat}
 use Rattle.core_views.specs.FlatHistory.{harvest}
 use Rattle.core_views.specs.Events.{after_all, facts_after, is_armed}
 use Rattle.core_views.specs.Lawful.{IsLawful}
-use Rattle.core_views.specs.Writes.{HasBegunWrite, NoneIsTaken, NoneReadsOut, WasArmed, WasWritten}
+use Rattle.flat_laws.specs.Writes.{HasBegunWrite, NoneIsTaken, NoneReadsOut, WasArmed, WasWritten}
 
 -- the event of this actor
 abbrev pub made_by : Actor → EventKind → Event

@@ -15,7 +15,7 @@ use Rattle.core_views.specs.Flat.{Facts, HasTaken, first_flat}
 use Rattle.core_views.specs.FlatHistory.{harvest}
 use Rattle.core_views.specs.Events.{after_all, facts_after}
 use Rattle.core_views.specs.Lawful.{IsAllowed}
-use Rattle.core_views.specs.Writes.{NoneReadsOut, WasArmed, WasDue, WasWritten}
+use Rattle.flat_laws.specs.Writes.{NoneReadsOut, WasArmed, WasDue, WasWritten}
 
 -- Writes to the slot with the ID are logged from now on, and those to others as before. Each of its frames is dirty, or none is; each other frame is as before.
 pub record Arms (id : ℕ) (all : Bool) (f after : Facts) : Type 0 where

@@ -10,8 +10,8 @@ use Rattle.core_views.specs.declared.trace.Line.{Line}
 use Rattle.core_views.specs.declared.trace.Op.TheVariants.{Read, Write}
 use Rattle.core_views.specs.Flat.{first_facts}
 use Rattle.core_views.specs.FlatHistory.{one_by_one}
-use Rattle.core_views.specs.Laws.{access_line, manager_line}
-use Rattle.core_views.specs.SlotLines.{deletion_line, open_slot}
+use Rattle.flat_laws.specs.Laws.{access_line, manager_line}
+use Rattle.flat_laws.specs.SlotLines.{deletion_line, open_slot}
 use Rattle.core_views.specs.Text.{text}
 
 -- a machine of 128 host pages, whose dirty logs are taken so

@@ -10,7 +10,7 @@ use Rattle.core_views.specs.Flat.{first_flat}
 use Rattle.core_views.specs.FlatHistory.{harvest}
 use Rattle.core_views.specs.Events.{after_all}
 use Rattle.core_views.specs.Lawful.{IsLawful}
-use Rattle.core_views.specs.Writes.{NoneIsTaken}
+use Rattle.flat_laws.specs.Writes.{NoneIsTaken}
 use Rattle.log_laws.specs.HarvestLaws.{IsAskedFor, NobodyWrites, made_by}
 
 -- Of another actor than the reader the event begins no line that reads a log.

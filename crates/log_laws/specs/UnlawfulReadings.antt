@@ -14,9 +14,9 @@ use Rattle.core_views.specs.declared.trace.Line.{Line}
 use Rattle.core_views.specs.declared.trace.Op.TheVariants.{Write}
 use Rattle.core_views.specs.Flat.{first_facts, first_flat}
 use Rattle.core_views.specs.FlatHistory.{answers, by, one_by_one}
-use Rattle.core_views.specs.Laws.{access_line}
+use Rattle.flat_laws.specs.Laws.{access_line}
 use Rattle.core_views.specs.Lawful.{IsLawful}
-use Rattle.core_views.specs.SlotLines.{open_slot}
+use Rattle.flat_laws.specs.SlotLines.{open_slot}
 use Rattle.log_laws.specs.LogTraces.{log_line, log_sizes, slot_of_pages, with_log}
 
 -- The line begins, does these, and is answered so.

@@ -10,7 +10,7 @@ ghost use Rattle.log_laws.specs.UnlawfulReadings.{AutomaticGetTakesAll, LogBegin
 ghost use Rattle.log_laws.specs.UnlawfulReadings.{LogBeginsClean, ManualGetTakesNone, NextGetReadsIt, RaceIsLawful};
 ghost use Rattle.log_laws.specs.UnlawfulReadings.{TakenIsNotReadAgain, UnwrittenIsNotRead, WrittenIsNotLeftOut};
 
-use core_views::writes_are_kept;
+use flat_laws::writes_are_kept;
 
 /// A law about the readings of dirty logs, over all histories. In a lawful history a reading holds
 /// each frame for which its line asks that was dirty as the line began to read, with no line under

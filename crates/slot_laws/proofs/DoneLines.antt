@@ -24,9 +24,9 @@ use Rattle.core_views.specs.LogCommands.{log_read}
 use Rattle.core_views.specs.Past.{Past}
 use Rattle.core_views.specs.SlotCommands.{change_at_once, changes_slot, refused_or_done, slot_change}
 use Rattle.core_views.specs.SlotSets.{MemorySlots}
-use Rattle.core_views.specs.Writes.{StaysWithin}
+use Rattle.flat_laws.specs.Writes.{StaysWithin}
 use Rattle.core_views.proofs.SameActor.{changed_here, same_is}
-use Rattle.core_views.proofs.Writes.{apart_actors}
+use Rattle.flat_laws.proofs.Writes.{apart_actors}
 use Rattle.slot_laws.specs.DoneLines.{ChangesOnce, DoneComesOfOneChange, HasNothingToDo, LeavesSlots, NoneChanges, begins_after, by}
 
 -- ---- what a slot line's own events are

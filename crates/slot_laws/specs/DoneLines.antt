@@ -12,7 +12,7 @@ use Rattle.core_views.specs.Events.{after, after_all}
 use Rattle.core_views.specs.Flat.{Flat, first_flat}
 use Rattle.core_views.specs.Lawful.{IsLawful}
 use Rattle.core_views.specs.SlotCommands.{change_at_once, changes_slot, slot_change}
-use Rattle.core_views.specs.Writes.{StaysWithin}
+use Rattle.flat_laws.specs.Writes.{StaysWithin}
 
 -- the line's event of this kind
 abbrev pub by : Line → EventKind → Event

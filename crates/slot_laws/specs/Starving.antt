@@ -2,8 +2,8 @@
 use Rattle.std.specs.Prelude.{[], ◌∷◌}
 use Rattle.core_views.specs.declared.answer.Answer.TheVariants.{Starved}
 use Rattle.core_views.specs.declared.event.EventKind.TheVariants.{Exited}
-use Rattle.core_views.specs.SlotLines.{deletion_line}
-use Rattle.core_views.specs.Unlawful.{IsUnlawful, same_line}
+use Rattle.flat_laws.specs.SlotLines.{deletion_line}
+use Rattle.flat_laws.specs.Unlawful.{IsUnlawful, same_line}
 
 -- A line that sets a slot as it is needs no page, so it can't be given up.
 abbrev pub UnchangedCannotStarve : Type 0

@@ -19,7 +19,7 @@ use Rattle.core_views.specs.Held.{Held, first_held}
 use Rattle.core_views.specs.Sizes.{actor_at, actors_of, index_of, sizes_of}
 use Rattle.core_views.specs.Traces.{IsCommandFor}
 use Rattle.core_views.specs.Whole.{IsWhole, lines_of}
-use Rattle.core_views.proofs.AloneIsWhole.{stands_whole}
+use Rattle.flat_laws.proofs.AloneIsWhole.{stands_whole}
 use Rattle.core_views.proofs.SameActor.{is_same_self}
 use Rattle.mmu_core.specs.lines.Bounds.{most_steps}
 use Rattle.mmu_core.specs.machine.Enabled.{mmu}

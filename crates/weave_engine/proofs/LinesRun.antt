@@ -18,7 +18,7 @@ use Rattle.core_views.specs.Sizes.{actor_at, actors_of, index_of}
 use Rattle.core_views.specs.Text.{line_text, lines_text, text}
 use Rattle.core_views.specs.Traces.{IsCommandFor}
 use Rattle.core_views.specs.Whole.{lines_of}
-use Rattle.core_views.proofs.StandsAlone.{stands_append}
+use Rattle.flat_laws.proofs.StandsAlone.{stands_append}
 use Rattle.core_views.proofs.Texts.{text_append}
 use Rattle.std.proofs.lemmas.List.Sums.{sum_by-append, sum_by-cons}
 use Rattle.std.specs.List.{sum_by}

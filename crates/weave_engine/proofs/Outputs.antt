@@ -12,7 +12,7 @@ use Rattle.core_views.specs.declared.sizes.Sizes.{Sizes}
 use Rattle.core_views.specs.declared.trace.Line.{Line}
 use Rattle.core_views.specs.declared.trace.Trace.{Trace}
 use Rattle.core_views.specs.Alone.{NoneStarved, TakeLowest}
-use Rattle.core_views.proofs.FallsAsFlat.{all_fall}
+use Rattle.flat_laws.proofs.FallsAsFlat.{all_fall}
 use Rattle.core_views.specs.Traces.{IsCommandFor}
 use Rattle.weave_engine.proofs.NoneReads.{lines_read_none}
 use Rattle.std.proofs.lemmas.List.{append-nil}
@@ -23,8 +23,8 @@ use Rattle.core_views.specs.Need.{need}
 use Rattle.core_views.specs.Sizes.{index_of, sizes_of}
 use Rattle.core_views.specs.Text.{text}
 use Rattle.core_views.specs.Traces.{IsTrace}
-use Rattle.core_views.proofs.AloneIsFlat.{goes_as_flat}
-use Rattle.core_views.proofs.AloneIsWhole.{stands_whole}
+use Rattle.flat_laws.proofs.AloneIsFlat.{goes_as_flat}
+use Rattle.flat_laws.proofs.AloneIsWhole.{stands_whole}
 use Rattle.core_views.proofs.HeaderSizes.{header_sizes}
 use Rattle.spte_words.specs.declared.area.Area.TheVariants as area
 use Rattle.mmu_core.specs.declared.claim.FreeMap.TheVariants.{Pages}

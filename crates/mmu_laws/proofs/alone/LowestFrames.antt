@@ -27,7 +27,7 @@ use Rattle.core_views.specs.Held.{Held}
 use Rattle.core_views.specs.Host.{HostMap}
 use Rattle.core_views.specs.HostChanges.{is_taken, lowest_free}
 use Rattle.core_views.specs.Sizes.{actors_of}
-use Rattle.core_views.proofs.FallsAsFlat.{lowest_append}
+use Rattle.flat_laws.proofs.FallsAsFlat.{lowest_append}
 use Rattle.core_views.proofs.LowestFrames.{lowest_is, none_left, taken_by, untaken}
 use Rattle.spte_words.specs.declared.area.Area.TheVariants as area
 use Rattle.spte_words.specs.Areas.{words_of_bits}

@@ -12,7 +12,7 @@ use Rattle.core_views.specs.Flat.{Flat, first_flat}
 use Rattle.core_views.specs.Held.{Held}
 use Rattle.core_views.specs.Lawful.{IsLawful}
 use Rattle.core_views.specs.Sizes.{actors_of}
-use Rattle.core_views.proofs.AloneIsLawful.{lawful_append}
+use Rattle.flat_laws.proofs.AloneIsLawful.{lawful_append}
 use Rattle.spte_words.specs.declared.area.Area.{Area}
 use Rattle.spte_words.specs.declared.area.Area.TheVariants as area
 use Rattle.part_steps.specs.declared.task.Task.{Task}

@@ -15,7 +15,7 @@ use Rattle.core_views.specs.Alone.{AreWithin, IsInside, StandsAlone}
 use Rattle.core_views.specs.FlatHistory.{answers, by}
 use Rattle.core_views.specs.Held.{Held}
 use Rattle.core_views.specs.Text.{answers_of, or_answered}
-use Rattle.core_views.proofs.StandsAlone.{one_stands, within_append}
+use Rattle.flat_laws.proofs.StandsAlone.{one_stands, within_append}
 use Rattle.core_views.proofs.Texts.{answers_append}
 use Rattle.mmu_core.specs.declared.outcome.Outcome.{Outcome}
 use Rattle.mmu_core.specs.declared.outcome.Outcome.TheVariants.{Goes, Ends}

@@ -11,7 +11,7 @@ use Rattle.core_views.specs.declared.trace.Line.{Line}
 use Rattle.core_views.specs.declared.trace.Op.TheVariants.{Write}
 use Rattle.core_views.specs.FlatHistory.{by}
 use Rattle.core_views.specs.Host.{own_frames}
-use Rattle.core_views.specs.Laws.{access_line, example_slot}
+use Rattle.flat_laws.specs.Laws.{access_line, example_slot}
 use Rattle.core_views.specs.Text.{text}
 use Rattle.spte_words.specs.declared.area.Area.TheVariants as area
 use Rattle.spte_words.specs.Areas.{pool_index}

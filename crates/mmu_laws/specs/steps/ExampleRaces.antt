@@ -6,7 +6,7 @@ use Rattle.core_views.specs.declared.event.EventKind.TheVariants.{Accessed, Answ
 use Rattle.core_views.specs.declared.trace.Line.{Line}
 use Rattle.core_views.specs.declared.trace.Op.TheVariants.{Write}
 use Rattle.core_views.specs.FlatHistory.{by}
-use Rattle.core_views.specs.Laws.{access_line, example_slot}
+use Rattle.flat_laws.specs.Laws.{access_line, example_slot}
 use Rattle.core_views.specs.Text.{text}
 use Rattle.mmu_laws.specs.steps.ExampleSteps.{RunTells, run_sizes, set_line, unlogged}
 

@@ -6,8 +6,8 @@ use Rattle.core_views.specs.declared.event.EventKind.TheVariants.{Accessed, Answ
 use Rattle.core_views.specs.declared.trace.Line.{Line}
 use Rattle.core_views.specs.declared.trace.Op.TheVariants.{Read, Write}
 use Rattle.core_views.specs.FlatHistory.{by}
-use Rattle.core_views.specs.Laws.{access_line, example_slot, manager_line}
-use Rattle.core_views.specs.SlotLines.{deletion_line}
+use Rattle.flat_laws.specs.Laws.{access_line, example_slot, manager_line}
+use Rattle.flat_laws.specs.SlotLines.{deletion_line}
 use Rattle.core_views.specs.Text.{text}
 use Rattle.spte_words.specs.declared.area.Area.TheVariants as area
 use Rattle.spte_words.specs.Areas.{pool_index}

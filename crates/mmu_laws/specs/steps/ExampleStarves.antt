@@ -7,7 +7,7 @@ use Rattle.core_views.specs.declared.sizes.Sizes.{Sizes}
 use Rattle.core_views.specs.declared.trace.Line.{Line}
 use Rattle.core_views.specs.declared.trace.Op.TheVariants.{Write}
 use Rattle.core_views.specs.FlatHistory.{by}
-use Rattle.core_views.specs.Laws.{access_line, example_sizes, example_slot, manager_line}
+use Rattle.flat_laws.specs.Laws.{access_line, example_sizes, example_slot, manager_line}
 use Rattle.core_views.specs.Text.{text}
 use Rattle.mmu_laws.specs.steps.ExampleSteps.{RunTells, set_line, unlogged}
 

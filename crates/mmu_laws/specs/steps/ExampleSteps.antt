@@ -10,7 +10,7 @@ use Rattle.core_views.specs.declared.trace.Line.{Line}
 use Rattle.core_views.specs.declared.slot_set.MemorySlot.{MemorySlot}
 use Rattle.core_views.specs.declared.trace.Slot.{Slot}
 use Rattle.core_views.specs.Held.{Held}
-use Rattle.core_views.specs.Laws.{example_sizes, example_slot, manager_line}
+use Rattle.flat_laws.specs.Laws.{example_sizes, example_slot, manager_line}
 use Rattle.mmu_core.specs.machine.Enabled.{mmu}
 use Rattle.mmu_core.specs.machine.Machine.{Legal, Step, World, effect, hand_in, run}
 use Rattle.mmu_core.specs.machine.Worlds.{IsStart, history}

@@ -6,7 +6,7 @@ use Rattle.core_views.specs.declared.event.EventKind.TheVariants.{Accessed, Answ
 use Rattle.core_views.specs.declared.trace.Line.{Line}
 use Rattle.core_views.specs.declared.trace.Op.TheVariants.{Write}
 use Rattle.core_views.specs.FlatHistory.{by}
-use Rattle.core_views.specs.Laws.{access_line, example_slot}
+use Rattle.flat_laws.specs.Laws.{access_line, example_slot}
 use Rattle.mmu_laws.specs.steps.ExampleSteps.{RunDelays, run_sizes, set_line, set_read_only_line, unlogged}
 
 -- A slot line beside a write, which both claim a page from the same word of the map. The processor takes the page that the slot line is about to

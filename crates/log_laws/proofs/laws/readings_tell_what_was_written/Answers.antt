@@ -3,7 +3,7 @@ use Rattle.core_views.specs.declared.event.Event.{Event}
 use Rattle.core_views.specs.declared.event.EventKind.TheVariants.{Accessed}
 use Rattle.core_views.specs.Flat.{Flat, first_flat}
 use Rattle.core_views.specs.Events.{after, after_all}
-use Rattle.core_views.proofs.WrittenSince.{after_append}
+use Rattle.flat_laws.proofs.WrittenSince.{after_append}
 use Rattle.log_laws.specs.HarvestLaws.{IsMadeClean, MakesClean, made_by}
 use Rattle.log_laws.proofs.OneReader.{apart, lone_complete}
 use Rattle.log_laws.proofs.Pending.{Cleaned, dirty_until, makes_clean, write_marks}

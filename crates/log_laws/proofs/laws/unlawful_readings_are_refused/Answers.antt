@@ -9,7 +9,7 @@ use Rattle.core_views.specs.Flat.{Facts, Flat, HasTaken, first_facts, first_flat
 use Rattle.core_views.specs.Harvests.{IsHarvest}
 use Rattle.core_views.specs.LogCommands.{is_among, words_of}
 use Rattle.core_views.specs.Past.{Past}
-use Rattle.core_views.specs.SlotLines.{open_slot}
+use Rattle.flat_laws.specs.SlotLines.{open_slot}
 use Rattle.core_views.specs.Slots.{contains, page_behind}
 use Rattle.core_views.specs.SlotSets.{flat_slots, slot_of_id}
 use Rattle.core_views.specs.declared.answer.Answer.TheVariants.{Reached}
@@ -23,9 +23,9 @@ use Rattle.core_views.specs.Events.{after_all}
 use Rattle.core_views.specs.FlatHistory.{by, one_by_one}
 use Rattle.core_views.specs.Lawful.{MayRead, Reaches}
 use Rattle.core_views.specs.Names.{named_frame}
-use Rattle.core_views.proofs.AloneIsLawful.{lawful_append, one_by_one_lawful}
-use Rattle.core_views.proofs.Caused.{first_caused}
-use Rattle.core_views.proofs.Writes.{first_of_lines}
+use Rattle.flat_laws.proofs.AloneIsLawful.{lawful_append, one_by_one_lawful}
+use Rattle.flat_laws.proofs.Caused.{first_caused}
+use Rattle.flat_laws.proofs.Writes.{first_of_lines}
 use Rattle.log_laws.specs.LogTraces.{log_line, log_sizes, with_log}
 use Rattle.log_laws.specs.UnlawfulReadings.{get_of, other_line, race, whole_line, write_line}
 use Rattle.log_laws.proofs.Readings.{lawful_rest}

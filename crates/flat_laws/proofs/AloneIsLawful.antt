@@ -30,14 +30,14 @@ use Rattle.core_views.specs.LogCommands.{is_all_set}
 use Rattle.core_views.specs.SlotCommands.{arms}
 use Rattle.core_views.specs.FlatHistory.{by, answers, accessing, bringing, changing_host, moving, reaching, doing, doing_by, rest_of, looks, looks_behind}
 use Rattle.core_views.specs.FlatHistory.{alone, arming, one_by_one, working}
-use Rattle.core_views.proofs.Looks.{facts_behind, still_paused}
+use Rattle.flat_laws.proofs.Looks.{facts_behind, still_paused}
 use Rattle.core_views.proofs.HostLines.{owned_answer, mapped}
 use Rattle.core_views.proofs.LowestFrames.{free_is}
 use Rattle.core_views.proofs.SlotChanges.{changes}
-use Rattle.core_views.proofs.Caused.{AreCaused, all_caused, caused_after}
-use Rattle.core_views.proofs.Writes.{AreOfLines, all_of_lines}
-use Rattle.core_views.proofs.AloneSteps.{AllIdle, Closes, IsAt, allowed, answered, more, step}
-use Rattle.core_views.proofs.AloneReads.{read_or_answer}
+use Rattle.flat_laws.proofs.Caused.{AreCaused, all_caused, caused_after}
+use Rattle.flat_laws.proofs.Writes.{AreOfLines, all_of_lines}
+use Rattle.flat_laws.proofs.AloneSteps.{AllIdle, Closes, IsAt, allowed, answered, more, step}
+use Rattle.flat_laws.proofs.AloneReads.{read_or_answer}
 
 -- An access looks at the pause, at the slots, and at the host page that they give it. It runs where nothing is paused.
 

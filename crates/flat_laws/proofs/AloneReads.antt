@@ -20,8 +20,8 @@ use Rattle.core_views.specs.Lawful.{slot_at, slot_read}
 use Rattle.core_views.specs.LogCommands.{asked_frames, bits_for, log_read, takes_out}
 use Rattle.core_views.specs.FlatHistory.{by, answers, doing, doing_by}
 use Rattle.core_views.specs.FlatHistory.{harvest, reading, working}
-use Rattle.core_views.proofs.HarvestsAlone.{reads_dirty, reads_there}
-use Rattle.core_views.proofs.AloneSteps.{Closes, IsAt, allowed, answered, more, step}
+use Rattle.flat_laws.proofs.HarvestsAlone.{reads_dirty, reads_there}
+use Rattle.flat_laws.proofs.AloneSteps.{Closes, IsAt, allowed, answered, more, step}
 
 -- A line that reads a log reads all that is dirty of it.
 

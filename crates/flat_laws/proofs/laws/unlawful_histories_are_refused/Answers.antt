@@ -9,9 +9,9 @@ use Rattle.core_views.specs.declared.trace.HostChange.{HostChange}
 use Rattle.core_views.specs.declared.trace.HostChange.TheVariants.{Move}
 use Rattle.core_views.specs.Host.{own_frames}
 use Rattle.core_views.specs.HostChanges.{Changes}
-use Rattle.core_views.specs.HostExamples.{host_sizes}
+use Rattle.flat_laws.specs.HostExamples.{host_sizes}
 use Rattle.core_views.specs.Slots.{Slots, page_behind}
-use Rattle.core_views.proofs.laws.unlawful_histories_are_refused.Goals as goal
+use Rattle.flat_laws.proofs.laws.unlawful_histories_are_refused.Goals as goal
 
 -- The slot line is begun, sets its slot, and is answered; then the other line begins.
 

@@ -11,8 +11,8 @@ use Rattle.core_views.specs.LogCommands.{is_among}
 use Rattle.core_views.specs.Past.{FrameSet, Past, counted_anew, is_being_written, has_gfn, of_others, past_begun, with_guest_frame, written_frame}
 use Rattle.core_views.specs.Flat.{Facts}
 use Rattle.core_views.specs.Events.{past_after}
-use Rattle.core_views.specs.Writes.{IsNoTaking, IsOutside, KeepsSlot, LeavesFrame}
-use Rattle.core_views.proofs.Writes.{cons_cases, first_in, later_in, of_another}
+use Rattle.flat_laws.specs.Writes.{IsNoTaking, IsOutside, KeepsSlot, LeavesFrame}
+use Rattle.flat_laws.proofs.Writes.{cons_cases, first_in, later_in, of_another}
 
 -- An actor has a write of the frame under way.
 pub record WritesNow (writes : List (Actor × ℕ)) (gfn : ℕ) : Type 0 where

@@ -9,9 +9,9 @@ use Rattle.core_views.specs.SlotSets.{slot_of_id}
 use Rattle.core_views.specs.Past.{has_gfn}
 use Rattle.core_views.specs.Flat.{Flat}
 use Rattle.core_views.specs.Events.{after, after_all, facts_after}
-use Rattle.core_views.specs.Writes.{IsNoTaking, KeepsSlot, LeavesFrame, LeavesFrom, NoneIsTaken, NoneReadsOut, NoneTakesOut, SlotKept}
-use Rattle.core_views.proofs.Written.{Arms, CauseOf, IsArmed, IsInBoth, IsWritten, WasLately, WasThere, WritesNow, armed_there, cause_of, causes_keep}
-use Rattle.core_views.proofs.Written.{causes_stay, in_both, recent_keep, recent_was}
+use Rattle.flat_laws.specs.Writes.{IsNoTaking, KeepsSlot, LeavesFrame, LeavesFrom, NoneIsTaken, NoneReadsOut, NoneTakesOut, SlotKept}
+use Rattle.flat_laws.proofs.Written.{Arms, CauseOf, IsArmed, IsInBoth, IsWritten, WasLately, WasThere, WritesNow, armed_there, cause_of, causes_keep}
+use Rattle.flat_laws.proofs.Written.{causes_stay, in_both, recent_keep, recent_was}
 
 pub after_append : (xs ys : List Event) (f : Flat) → ◌≡◌ {A = Flat} (after_all (xs ++ ys) f) (after_all ys (after_all xs f))
 after_append [] ys f = refl

@@ -13,7 +13,7 @@ use Rattle.core_views.specs.Past.{written_frame}
 use Rattle.core_views.specs.Flat.{first_flat}
 use Rattle.core_views.specs.Events.{after_all, facts_after}
 use Rattle.core_views.specs.Lawful.{IsLawful}
-use Rattle.core_views.specs.Writes.{NoneIsTaken, NoneReadsOut, SlotKept}
+use Rattle.flat_laws.specs.Writes.{NoneIsTaken, NoneReadsOut, SlotKept}
 
 -- In this history an access that writes has reached the guest frame, the frame's slot was not changed since, and the events since are such.
 pub record WasReached (Since : List Event → Type 0) (history : List Event) (gfn : ℕ) : Type 0 where

@@ -14,7 +14,7 @@ use Rattle.core_views.specs.declared.trace.Line.{Line}
 use Rattle.core_views.specs.declared.trace.Op.TheVariants.{Read, Write, Add}
 use Rattle.core_views.specs.Flat.{first_facts, first_flat}
 use Rattle.core_views.specs.FlatHistory.{answers, by, one_by_one}
-use Rattle.core_views.specs.Laws.{access_line, example_slot, manager_line}
+use Rattle.flat_laws.specs.Laws.{access_line, example_slot, manager_line}
 use Rattle.core_views.specs.Lawful.{IsLawful}
 use Rattle.core_views.specs.Text.{text}
 

@@ -1,8 +1,8 @@
 use Rattle.std.proofs.Common.{refl}
 use Rattle.core_views.specs.Flat.{first_flat}
-use Rattle.core_views.proofs.AloneIsFlat.{goes_as_flat}
-use Rattle.core_views.proofs.AloneIsWhole.{stands_whole}
-use Rattle.core_views.proofs.laws.alone_is_flat.Goals as goal
+use Rattle.flat_laws.proofs.AloneIsFlat.{goes_as_flat}
+use Rattle.flat_laws.proofs.AloneIsWhole.{stands_whole}
+use Rattle.flat_laws.proofs.laws.alone_is_flat.Goals as goal
 
 pub returns-clause-flat : goal.returns-clause-flat
 returns-clause-flat c z lines h lawful stands falls = (goes_as_flat z lines h first_flat (λ i. refl) lawful stands falls).shown

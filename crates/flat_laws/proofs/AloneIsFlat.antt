@@ -22,11 +22,11 @@ use Rattle.core_views.specs.Lawful.{IsLawful, IsAllowed}
 use Rattle.core_views.specs.FlatHistory.{by, answers, rest_of, one_by_one}
 use Rattle.core_views.specs.Text.{answers_of, lines_text, text}
 use Rattle.core_views.specs.Alone.{is_look, without_looks, IsInside, AreWithin, FallAsFlat, FallsAsFlat, StandsAlone, StandsFirst}
-use Rattle.core_views.proofs.AloneSteps.{AllIdle, IsAt, step, at_end}
-use Rattle.core_views.proofs.Looks.{facts_without_looks, answers_without_looks, facts_behind}
-use Rattle.core_views.proofs.FlatShows.{flat_shows}
-use Rattle.core_views.proofs.NextAlone.{AreExact, IsNext, access_is_next, arming_is_next, bringing_is_next, exit_is_next, harvest_is_next, told}
-use Rattle.core_views.proofs.NextAlone.{host_change_is_next, showing_is_next, slot_change_is_next, taking_is_next}
+use Rattle.flat_laws.proofs.AloneSteps.{AllIdle, IsAt, step, at_end}
+use Rattle.flat_laws.proofs.Looks.{facts_without_looks, answers_without_looks, facts_behind}
+use Rattle.flat_laws.proofs.FlatShows.{flat_shows}
+use Rattle.flat_laws.proofs.NextAlone.{AreExact, IsNext, access_is_next, arming_is_next, bringing_is_next, exit_is_next, harvest_is_next, told}
+use Rattle.flat_laws.proofs.NextAlone.{host_change_is_next, showing_is_next, slot_change_is_next, taking_is_next}
 use Rattle.core_views.proofs.HostLines.{still_writable}
 
 abbrev under_way : Line → Stage → Notes → LineUnderWay

@@ -15,8 +15,8 @@ use Rattle.core_views.specs.LogCommands.{is_among}
 use Rattle.core_views.specs.Past.{FrameSet, Past, has_gfn, past_begun, written_frame}
 use Rattle.core_views.specs.Slots.{is_write}
 use Rattle.core_views.specs.SlotSets.{slot_of_id}
-use Rattle.core_views.proofs.Writes.{AreOfLines, are_after, none_at_first}
-use Rattle.core_views.proofs.Written.{IsInBoth, in_both}
+use Rattle.flat_laws.proofs.Writes.{AreOfLines, are_after, none_at_first}
+use Rattle.flat_laws.proofs.Written.{IsInBoth, in_both}
 
 -- each frame that is being written is among those, and each dirty one has a cause
 pub record AreCaused (facts : Facts) (past : Past) : Type 0 where

@@ -5,12 +5,12 @@ use Rattle.core_views.specs.declared.event.Event.{Event}
 use Rattle.core_views.specs.Flat.{first_flat}
 use Rattle.core_views.specs.Events.{after_all}
 use Rattle.core_views.specs.Past.{is_being_written}
-use Rattle.core_views.specs.Writes.{HasBegunWrite, NoneIsTaken, NoneReadsOut, StaysWithin, WasArmed, WasDue, WasWritten}
-use Rattle.core_views.proofs.DueFrames.{DueSince, due_since, due_stands}
-use Rattle.core_views.proofs.Written.{is_written, some_writes}
-use Rattle.core_views.proofs.WrittenSince.{ArmedSince, WasSince, armed_stands, cause_stands, only_cause, only_recent, recent_stands}
-use Rattle.core_views.proofs.Writes.{all_of_lines, begun_is_in, begun_or_stood, first_of_lines, none_at_first}
-use Rattle.core_views.proofs.laws.writes_are_kept.Goals as goal
+use Rattle.flat_laws.specs.Writes.{HasBegunWrite, NoneIsTaken, NoneReadsOut, StaysWithin, WasArmed, WasDue, WasWritten}
+use Rattle.flat_laws.proofs.DueFrames.{DueSince, due_since, due_stands}
+use Rattle.flat_laws.proofs.Written.{is_written, some_writes}
+use Rattle.flat_laws.proofs.WrittenSince.{ArmedSince, WasSince, armed_stands, cause_stands, only_cause, only_recent, recent_stands}
+use Rattle.flat_laws.proofs.Writes.{all_of_lines, begun_is_in, begun_or_stood, first_of_lines, none_at_first}
+use Rattle.flat_laws.proofs.laws.writes_are_kept.Goals as goal
 
 only_begun : (history : List Event) (actor : Actor) (gfn : ℕ)
     → HasBegunWrite history actor gfn ⊎ (Contains first_flat.past.writes (actor, gfn) × StaysWithin actor history) → HasBegunWrite history actor gfn

@@ -1,12 +1,12 @@
-ghost use Rattle.core_views.specs.Laws.{FlatIsLawful, FlatIsWhole, FlatStandsAlone, FlatPrints, AloneIsFlat, AloneAnswersAsFlat, AloneIsWhole};
-ghost use Rattle.core_views.specs.ReachedWrites.{OnlyWritesChange, OnlyWritesCount, ReachedFramesAreKept};
-ghost use Rattle.core_views.specs.SlotLines.{DeletesAtItsId, FittingPrints, KeepsOtherIds, LogsAtItsId, SetsAsRecord, SetsAtItsId, WholePrints};
-ghost use Rattle.core_views.specs.HostExamples.{FullPrints, HostPrints, PresentIsNotBroughtIn, AbsentIsNotReached, DeniedIsNotBroughtIn};
-ghost use Rattle.core_views.specs.HostExamples.{NamedIsNotTaken, OthersAreNotChanged, UnseenIsNotChanged};
-ghost use Rattle.core_views.specs.Writes.{DueFramesAreKept, WritesAreBegun, WritesAreUnderWay, WrittenFramesAreKept};
-ghost use Rattle.core_views.specs.Unlawful.{AccessLooksAtPause, AccessReachesItsFrame, ExitLooksAtPause};
-ghost use Rattle.core_views.specs.Unlawful.{OutsideCannotStarve, OutsideReachesNone, OverlapCannotStarve};
-ghost use Rattle.core_views.specs.Unlawful.{StarvedLooksAtHost, StarvedLooksAtPause, UnchangedChangesNone};
+ghost use Rattle.flat_laws.specs.Laws.{FlatIsLawful, FlatIsWhole, FlatStandsAlone, FlatPrints, AloneIsFlat, AloneAnswersAsFlat, AloneIsWhole};
+ghost use Rattle.flat_laws.specs.ReachedWrites.{OnlyWritesChange, OnlyWritesCount, ReachedFramesAreKept};
+ghost use Rattle.flat_laws.specs.SlotLines.{DeletesAtItsId, FittingPrints, KeepsOtherIds, LogsAtItsId, SetsAsRecord, SetsAtItsId, WholePrints};
+ghost use Rattle.flat_laws.specs.HostExamples.{FullPrints, HostPrints, PresentIsNotBroughtIn, AbsentIsNotReached, DeniedIsNotBroughtIn};
+ghost use Rattle.flat_laws.specs.HostExamples.{NamedIsNotTaken, OthersAreNotChanged, UnseenIsNotChanged};
+ghost use Rattle.flat_laws.specs.Writes.{DueFramesAreKept, WritesAreBegun, WritesAreUnderWay, WrittenFramesAreKept};
+ghost use Rattle.flat_laws.specs.Unlawful.{AccessLooksAtPause, AccessReachesItsFrame, ExitLooksAtPause};
+ghost use Rattle.flat_laws.specs.Unlawful.{OutsideCannotStarve, OutsideReachesNone, OverlapCannotStarve};
+ghost use Rattle.flat_laws.specs.Unlawful.{StarvedLooksAtHost, StarvedLooksAtPause, UnchangedChangesNone};
 
 /// Laws about the definitions alone: the flat history of every list of lines
 /// is lawful, answers each line once, in its actor's order, and is made of

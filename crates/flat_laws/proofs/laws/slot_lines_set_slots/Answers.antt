@@ -11,15 +11,15 @@ use Rattle.core_views.specs.declared.answer.Answer.TheVariants.{Reached, Mmio, D
 use Rattle.core_views.specs.declared.answer.AnsweredLine.{AnsweredLine}
 use Rattle.core_views.specs.declared.answer.Refusal.TheVariants.{BadId, Fixed, Missing, Resize, TooLarge}
 use Rattle.core_views.specs.FlatHistory.{one_by_one}
-use Rattle.core_views.specs.Laws.{example_sizes}
+use Rattle.flat_laws.specs.Laws.{example_sizes}
 use Rattle.core_views.specs.declared.slot_set.MemorySlot.{MemorySlot}
 use Rattle.core_views.specs.Refusals.{is_logged}
 use Rattle.core_views.specs.Slots.{is_some_and}
-use Rattle.core_views.specs.SlotLines.{fitting_lines, fitting_bytes, has_log, whole_lines, whole_bytes}
+use Rattle.flat_laws.specs.SlotLines.{fitting_lines, fitting_bytes, has_log, whole_lines, whole_bytes}
 use Rattle.core_views.specs.SlotSets.{slot_of_id}
 use Rattle.core_views.specs.Text.{answers_of, line_text, lines_text}
 use Rattle.core_views.proofs.SlotLines.{log_elsewhere, log_here, set_elsewhere, set_here, taken_at}
-use Rattle.core_views.proofs.laws.slot_lines_set_slots.Goals as goal
+use Rattle.flat_laws.proofs.laws.slot_lines_set_slots.Goals as goal
 
 pub returns-clause-record : goal.returns-clause-record
 returns-clause-record c id slot slots = refl

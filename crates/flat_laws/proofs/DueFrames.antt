@@ -9,8 +9,8 @@ use Rattle.core_views.specs.declared.event.EventKind.TheVariants.{Begun, Taken}
 use Rattle.core_views.specs.Past.{Past, is_being_written, past_begun, written_frame}
 use Rattle.core_views.specs.Flat.{Facts, Flat}
 use Rattle.core_views.specs.Events.{after, after_all, past_after}
-use Rattle.core_views.specs.Writes.{IsNoTaking, NoneIsTaken}
-use Rattle.core_views.proofs.WrittenSince.{after_append}
+use Rattle.flat_laws.specs.Writes.{IsNoTaking, NoneIsTaken}
+use Rattle.flat_laws.proofs.WrittenSince.{after_append}
 
 begun_due : (a : Actor) (frame : Option ℕ) (past : Past) (gfn : ℕ) → (past_begun a frame past).due gfn ≡ past.due gfn
 begun_due a None past gfn = refl

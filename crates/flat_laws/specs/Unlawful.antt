@@ -9,7 +9,7 @@ use Rattle.core_views.specs.declared.trace.Line.{Line}
 use Rattle.core_views.specs.declared.trace.Op.TheVariants.{Read}
 use Rattle.core_views.specs.Flat.{first_facts, first_flat}
 use Rattle.core_views.specs.FlatHistory.{alone, answers, by}
-use Rattle.core_views.specs.Laws.{access_line, example_sizes, example_slot, manager_line}
+use Rattle.flat_laws.specs.Laws.{access_line, example_sizes, example_slot, manager_line}
 use Rattle.core_views.specs.Lawful.{IsLawful}
 
 -- Guest frames 5 to 7 are host pages 64 to 66.

@@ -13,11 +13,11 @@ use Rattle.core_views.specs.Past.{written_frame}
 use Rattle.core_views.specs.Flat.{Flat, first_flat}
 use Rattle.core_views.specs.Events.{after, after_all}
 use Rattle.core_views.specs.Lawful.{IsLawful}
-use Rattle.core_views.specs.Writes.{NoneIsTaken, NoneReadsOut}
-use Rattle.core_views.specs.ReachedWrites.{WasReached, WritesFrame}
-use Rattle.core_views.proofs.WrittenSince.{WasSince, cause_stands, recent_stands}
-use Rattle.core_views.proofs.Writes.{all_of_lines, first_of_lines, none_at_first}
-use Rattle.core_views.proofs.laws.reached_writes_are_kept.Goals as goal
+use Rattle.flat_laws.specs.Writes.{NoneIsTaken, NoneReadsOut}
+use Rattle.flat_laws.specs.ReachedWrites.{WasReached, WritesFrame}
+use Rattle.flat_laws.proofs.WrittenSince.{WasSince, cause_stands, recent_stands}
+use Rattle.flat_laws.proofs.Writes.{all_of_lines, first_of_lines, none_at_first}
+use Rattle.flat_laws.proofs.laws.reached_writes_are_kept.Goals as goal
 
 -- The front of a lawful history is lawful, and what comes after it, in the state that it leads to.
 lawful_parts : (z : Sizes) (xs ys : List Event) (f : Flat) → IsLawful z f (xs ++ ys) → IsLawful z f xs × IsLawful z (after_all xs f) ys

@@ -25,7 +25,7 @@ use Rattle.core_views.specs.LogCommands.{takes_out}
 use Rattle.core_views.specs.Alone.{without_looks}
 use Rattle.core_views.proofs.HostLines.{owned_answer}
 use Rattle.core_views.proofs.SlotChanges.{changes}
-use Rattle.core_views.proofs.Looks.{without_looks_append, facts_without_looks}
+use Rattle.flat_laws.proofs.Looks.{without_looks_append, facts_without_looks}
 
 -- An access is shown, whether it brings its page in or not.
 bringing_shows : (line : Line) (page : ℕ) (present : Bool) (es : List Event) → without_looks es ≡ es

@@ -14,7 +14,7 @@ use Rattle.core_views.specs.Flat.{Facts, Flat, LineUnderWay, first_flat}
 use Rattle.core_views.specs.Events.{after, after_all, under_after, past_after}
 use Rattle.core_views.specs.Lawful.{IsAllowed, IsLawful}
 use Rattle.core_views.specs.Alone.{IsInside}
-use Rattle.core_views.specs.Writes.{StaysWithin, HasBegunWrite, IsWriting}
+use Rattle.flat_laws.specs.Writes.{StaysWithin, HasBegunWrite, IsWriting}
 use Rattle.core_views.proofs.SameActor.{is_same_self, same_is}
 
 pub apart_actors : {X : Type 0} (a b : Actor) → is_same a b ≡ false → a ≡ b → X

@@ -3,12 +3,12 @@ use Rattle.std.specs.Fmt.{digits}
 use Rattle.core_views.specs.Flat.{first_facts, first_flat}
 use Rattle.core_views.specs.FlatHistory.{one_by_one}
 use Rattle.core_views.specs.Text.{line_text}
-use Rattle.core_views.proofs.AloneIsLawful.{one_by_one_lawful}
-use Rattle.core_views.proofs.Caused.{first_caused}
-use Rattle.core_views.proofs.Writes.{first_of_lines}
-use Rattle.core_views.proofs.AloneIsWhole.{stands_whole}
-use Rattle.core_views.proofs.StandsAlone.{one_by_one_stands}
-use Rattle.core_views.proofs.laws.flat_history_is_lawful.Goals as goal
+use Rattle.flat_laws.proofs.AloneIsLawful.{one_by_one_lawful}
+use Rattle.flat_laws.proofs.Caused.{first_caused}
+use Rattle.flat_laws.proofs.Writes.{first_of_lines}
+use Rattle.flat_laws.proofs.AloneIsWhole.{stands_whole}
+use Rattle.flat_laws.proofs.StandsAlone.{one_by_one_stands}
+use Rattle.flat_laws.proofs.laws.flat_history_is_lawful.Goals as goal
 
 pub returns-clause-lawful : goal.returns-clause-lawful
 returns-clause-lawful c h lines = one_by_one_lawful h lines first_flat (λ i. refl) refl (record { lines = first_of_lines; caused = first_caused })

@@ -10,7 +10,7 @@ use Rattle.core_views.specs.declared.trace.Op.TheVariants.{Read, Write}
 use Rattle.core_views.specs.declared.trace.Slot.{Slot}
 use Rattle.core_views.specs.Flat.{first_facts}
 use Rattle.core_views.specs.FlatHistory.{one_by_one}
-use Rattle.core_views.specs.Laws.{access_line, example_sizes, manager_line}
+use Rattle.flat_laws.specs.Laws.{access_line, example_sizes, manager_line}
 use Rattle.core_views.specs.Refusals.{after_set}
 use Rattle.core_views.specs.SlotCommands.{slots_after}
 use Rattle.core_views.specs.SlotSets.{MemorySlots, slot_of_id}

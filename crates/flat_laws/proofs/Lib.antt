@@ -1,0 +1,16 @@
+pub mod AloneSteps
+pub mod AloneReads
+pub mod AloneIsLawful
+pub mod AloneIsWhole
+pub mod Looks
+pub mod FlatShows
+pub mod NextAlone
+pub mod AloneIsFlat
+pub mod StandsAlone
+pub mod Writes
+pub mod Written
+pub mod WrittenSince
+pub mod DueFrames
+pub mod FallsAsFlat
+pub mod Caused
+pub mod HarvestsAlone
