@@ -249,6 +249,11 @@ pub lawful_append : (z : Sizes) (xs ys : List Event) (f : Flat) → IsLawful z f
 lawful_append z [] ys f front back = back
 lawful_append z (x ∷ xs) ys f front back = (front.0, lawful_append z xs ys (after x f) front.1 back)
 
+-- The front of a lawful history is lawful, and what comes after it, in the state that it leads to.
+pub lawful_parts : (z : Sizes) (xs ys : List Event) (f : Flat) → IsLawful z f (xs ++ ys) → IsLawful z f xs × IsLawful z (after_all xs f) ys
+lawful_parts z [] ys f lawful = (tt, lawful)
+lawful_parts z (x ∷ xs) ys f lawful = let rest = lawful_parts z xs ys (after x f) lawful.1 in ((lawful.0, rest.0), rest.1)
+
 pub one_by_one_lawful : (z : Sizes) (lines : List Line) (f : Flat) → AllIdle f → f.facts.paused ≡ false → IsKept f
     → IsLawful z f (one_by_one z lines f.facts)
 one_by_one_lawful z [] f idle runs kept = tt

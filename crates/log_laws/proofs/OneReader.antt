@@ -19,7 +19,8 @@ use Rattle.core_views.proofs.SameActor.{changed_here, same_is}
 use Rattle.flat_laws.proofs.Writes.{apart_actors}
 use Rattle.log_laws.specs.HarvestLaws.{made_by}
 use Rattle.log_laws.specs.OneReader.{EndsNone, LeavesReading, OnlyReads, ReadingsAreApart, StillReads, LoneReadingsAreComplete}
-use Rattle.log_laws.proofs.Readings.{lawful_rest, complete}
+use Rattle.flat_laws.proofs.AloneIsLawful.{lawful_parts}
+use Rattle.log_laws.proofs.Readings.{complete}
 use Rattle.core_views.specs.FlatHistory.{harvest}
 
 -- No line is under way, or one that reads no log.
@@ -138,18 +139,13 @@ apart z before between reader id lawful early late still =
     f = after_all before first_flat
 
     rest : IsLawful z f (taken ∷ between)
-    rest = lawful_rest z before (taken ∷ between) first_flat lawful
-
--- The front of a lawful history is lawful.
-lawful_front : (z : Sizes) (xs ys : List Event) (f : Flat) → IsLawful z f (xs ++ ys) → IsLawful z f xs
-lawful_front z [] ys f lawful = tt
-lawful_front z (x ∷ xs) ys f lawful = (lawful.0, lawful_front z xs ys (after x f) lawful.1)
+    rest = (lawful_parts z before (taken ∷ between) first_flat lawful).1
 
 pub lone_complete : DueFramesAreKept → LoneReadingsAreComplete
 lone_complete kept z before between reader id takes frames lawful early late still gfn dirty nobody asked =
     complete kept z before between reader id takes frames lawful
-    (apart z before between reader id (lawful_front z (before ++ (made_by reader (Taken id) ∷ between)) last first_flat
-    (subst (IsLawful z first_flat) (sym (append_assoc before (made_by reader (Taken id) ∷ between) last)) lawful)) early late still)
+    (apart z before between reader id (lawful_parts z (before ++ (made_by reader (Taken id) ∷ between)) last first_flat
+    (subst (IsLawful z first_flat) (sym (append_assoc before (made_by reader (Taken id) ∷ between) last)) lawful)).0 early late still)
     gfn dirty nobody asked
   where
     last : List Event

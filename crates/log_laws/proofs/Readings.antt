@@ -15,12 +15,8 @@ use Rattle.core_views.specs.FlatHistory.{harvest}
 use Rattle.core_views.specs.Events.{after, after_all}
 use Rattle.core_views.specs.Lawful.{IsAllowed, IsLawful}
 use Rattle.flat_laws.specs.Writes.{DueFramesAreKept, WrittenFramesAreKept}
+use Rattle.flat_laws.proofs.AloneIsLawful.{lawful_parts}
 use Rattle.log_laws.specs.HarvestLaws.{IsAskedFor, ReadingsAreCaused, ReadingsAreComplete, made_by}
-
--- What comes after the front of a lawful history is lawful in the state that the front leads to.
-pub lawful_rest : (z : Sizes) (xs ys : List Event) (f : Flat) → IsLawful z f (xs ++ ys) → IsLawful z (after_all xs f) ys
-lawful_rest z [] ys f lawful = lawful
-lawful_rest z (x ∷ xs) ys f lawful = lawful_rest z xs ys (after x f) lawful.1
 
 -- Either kind of reading is a harvest.
 is_harvest : (z : Sizes) (f : Facts) (past : Past) (actor : Actor) (u : LineUnderWay) (id : ℕ) (takes : Bool) (frames : List ℕ)
@@ -33,7 +29,7 @@ last_read : (z : Sizes) (history : List Event) (actor : Actor) (id : ℕ) (takes
     → IsHarvest (after_all history first_flat).facts (after_all history first_flat).past ((after_all history first_flat).under actor).line.command id frames
 last_read z history actor id takes frames lawful =
     let f = after_all history first_flat in
-    is_harvest z f.facts f.past actor (f.under actor) id takes frames (lawful_rest z history (made_by actor (harvest takes id frames) ∷ []) first_flat lawful).0
+    is_harvest z f.facts f.past actor (f.under actor) id takes frames (lawful_parts z history (made_by actor (harvest takes id frames) ∷ []) first_flat lawful).1.0
 
 -- The slot of the harvest is the one that has the frame.
 must_hold : (f : Flat) (actor : Actor) (id gfn : ℕ) (frames : List ℕ) → IsHarvest f.facts f.past (f.under actor).line.command id frames

@@ -26,6 +26,7 @@ use Rattle.core_views.specs.SlotCommands.{change_at_once, changes_slot, refused_
 use Rattle.core_views.specs.SlotSets.{MemorySlots}
 use Rattle.flat_laws.specs.Writes.{StaysWithin}
 use Rattle.core_views.proofs.SameActor.{changed_here, same_is}
+use Rattle.flat_laws.proofs.AloneIsLawful.{lawful_parts}
 use Rattle.flat_laws.proofs.Writes.{apart_actors}
 use Rattle.slot_laws.specs.DoneLines.{ChangesOnce, DoneComesOfOneChange, HasNothingToDo, LeavesSlots, NoneChanges, begins_after, by}
 
@@ -280,14 +281,10 @@ module _ (z : Sizes) (line : Line) (changes : changes_slot line.command ≡ true
           by_own mine (own f.facts f.past (f.under line.actor) e.kind (its_own e f mine lawful.0) (within.0 mine) U) more
       by_actor false is more = one_more e es f (leaves_other e is) (more (stays Fresh e f is U))
 
-lawful_rest : (z : Sizes) (xs ys : List Event) (f : Flat) → IsLawful z f (xs ++ ys) → IsLawful z (after_all xs f) ys
-lawful_rest z [] ys f lawful = lawful
-lawful_rest z (x ∷ xs) ys f lawful = lawful_rest z xs ys (after x f) lawful.1
-
 pub done_comes_of_one_change : DoneComesOfOneChange
 done_comes_of_one_change z before between line changes lawful within =
     told z line changes between (begins_after line before)
-    (lawful_rest z before (by line (Begun line) ∷ (between ++ (by line (Answered line.number Done) ∷ []))) first_flat lawful).1 within
+    (lawful_parts z before (by line (Begun line) ∷ (between ++ (by line (Answered line.number Done) ∷ []))) first_flat lawful).1.1 within
     (record {
       line_is = ap (λ (u : LineUnderWay). u.line) begun;
       stage_is = ap (λ (u : LineUnderWay). u.stage) begun;

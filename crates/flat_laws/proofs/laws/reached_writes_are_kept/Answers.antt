@@ -15,14 +15,10 @@ use Rattle.core_views.specs.Events.{after, after_all}
 use Rattle.core_views.specs.Lawful.{IsLawful}
 use Rattle.flat_laws.specs.Writes.{NoneIsTaken, NoneReadsOut}
 use Rattle.flat_laws.specs.ReachedWrites.{WasReached, WritesFrame}
+use Rattle.flat_laws.proofs.AloneIsLawful.{lawful_parts}
 use Rattle.flat_laws.proofs.WrittenSince.{WasSince, cause_stands, recent_stands}
 use Rattle.flat_laws.proofs.Writes.{all_of_lines, first_of_lines, none_at_first}
 use Rattle.flat_laws.proofs.laws.reached_writes_are_kept.Goals as goal
-
--- The front of a lawful history is lawful, and what comes after it, in the state that it leads to.
-lawful_parts : (z : Sizes) (xs ys : List Event) (f : Flat) → IsLawful z f (xs ++ ys) → IsLawful z f xs × IsLawful z (after_all xs f) ys
-lawful_parts z [] ys f lawful = (tt, lawful)
-lawful_parts z (x ∷ xs) ys f lawful = let rest = lawful_parts z xs ys (after x f) lawful.1 in ((lawful.0, rest.0), rest.1)
 
 -- Right before a write reaches its frame, it is among those under way.
 under_way : (Since : List Event → Type 0) (z : Sizes) (history : List Event) → IsLawful z first_flat history → (gfn : ℕ)

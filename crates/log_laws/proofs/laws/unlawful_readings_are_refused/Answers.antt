@@ -23,12 +23,11 @@ use Rattle.core_views.specs.Events.{after_all}
 use Rattle.core_views.specs.FlatHistory.{by, one_by_one}
 use Rattle.core_views.specs.Lawful.{MayRead, Reaches}
 use Rattle.core_views.specs.Names.{named_frame}
-use Rattle.flat_laws.proofs.AloneIsLawful.{lawful_append, one_by_one_lawful}
+use Rattle.flat_laws.proofs.AloneIsLawful.{lawful_append, one_by_one_lawful, lawful_parts}
 use Rattle.flat_laws.proofs.Caused.{first_caused}
 use Rattle.flat_laws.proofs.Writes.{first_of_lines}
 use Rattle.log_laws.specs.LogTraces.{log_line, log_sizes, with_log}
 use Rattle.log_laws.specs.UnlawfulReadings.{get_of, other_line, race, whole_line, write_line}
-use Rattle.log_laws.proofs.Readings.{lawful_rest}
 use Rattle.log_laws.proofs.laws.unlawful_readings_are_refused.Goals as goal
 
 -- Slot 0 is set, and mostly its log begins, and a write is made; then the other line begins.
@@ -182,5 +181,5 @@ returns-clause-race c =
 
 pub returns-clause-next : goal.returns-clause-next
 returns-clause-next c lawful =
-    let then_ = lawful_rest sizes race (get_of (log_line 7 (GetLog 0)) [] (0 ∷ [])) first_flat lawful in
+    let then_ = (lawful_parts sizes race (get_of (log_line 7 (GetLog 0)) [] (0 ∷ [])) first_flat lawful).1 in
     let read : is_among 1 [] ≡ true = must_read _ _ 0 1 [] logged_slot then_.1.1.0.harvest refl refl refl in absurd (cc read)
