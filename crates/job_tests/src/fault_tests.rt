@@ -1,240 +1,106 @@
 //! Faults of the accesses of two processors, beside a manager that sets slot 0: of
-//! guest frames 0 to 5, which are host pages 64 to 69, at frames 64 to 69. A host thread
-//! evicts the last of them, in the tests that run its line.
-ghost use Rattle.std.specs.Prelude.{IfSome};
-ghost use Rattle.fault_install.specs.Faults.{StandsInLine};
+//! guest frames 0 to 5, which are host pages 64 to 69, at frames 64 to 69. Both processors access
+//! guest frame 5, and then the second one guest frame 4. A host thread
+//! evicts the last page, in the cases that make the steps of its line.
 
-use core_views::{AccessPlace, Actor, Cause, Command, FaultPlace, Hand, Place};
-use fault_install::{FaultJob, Faulted};
-use part_tests::{
-    HEAD, HEAD_OF_POOL_8, expect_actor, first_other, machine_with_slot, make_steps, run_lines,
-};
-use std::alloc::Global;
+use crate::cases::expect_all;
+use part_tests::HEAD_OF_POOL_8;
 use std::test::Fail;
-use step_seats::{PlainMachine, Stepper, Turn, is_fast_place};
 
-// The manager's line, accesses of guest frame 5 by both processors, one of guest frame 4 by
-// the second one, and the host thread's line, which takes host page 69 away: guest frame 5.
-const AT_FRAME_5: &str =
-    "vm slot 0 0 6 64\nv0 read 0x5000\nv1 write 0x5000 7\nv1 write 0x4000 7\nh0 evict 69\n";
-
-// The same with accesses of guest frame 6, which is outside the slot.
-const AT_FRAME_6: &str =
-    "vm slot 0 0 6 64\nv0 read 0x6000\nv1 write 0x6000 7\nv1 write 0x4000 7\nh0 evict 69\n";
-
-// Where the pool's map stands, and with 8 pool pages the entries of the root and
-// of pages 1, 3, 4 and 5.
-const MAP: usize = 12;
-
-// Where the host word of page 69 stands.
-const HOST_69: usize = 18 + 69;
-
-const ROOT: usize = 96;
-
-const PAGE_1: usize = 608;
-
-const PAGE_3: usize = 1632;
-
-const PAGE_4: usize = 2144;
-
-const PAGE_5: usize = 2656;
-
-const INSTALLED: Turn<Faulted> = Turn::Done(Faulted::Installed);
-
-// The fault of the hand's line, where the line stands in a whole one.
-fn fault_of(hand: &Hand) -> Option<FaultJob>
-    ensures { IfSome result (λ job. StandsInLine job hand.now.core) }
-{
-    if !hand.has_line() {
-        return None;
-    }
-    let Place::Access(access) = hand.progress().place else {
-        return None;
-    };
-    let AccessPlace::Fault(place) = access else {
-        return None;
-    };
-    if is_fast_place(place) {
-        return None;
-    }
-    let Command::Access { gfn, op, .. } = &hand.line().command else {
-        return None;
-    };
-    Some(FaultJob {
-        gfn: *gfn,
-        write: op.is_write(),
-    })
-}
-
-// Makes the steps of the seat's lines up to the next fault.
-fn go_to_fault<S: Stepper>(s: &mut S) -> Result<(), Fail> {
-    for _ in 0..40 {
-        if fault_of(s.hand()).is_some() {
-            return Ok(());
-        }
-        make_steps(s, 1)?;
-    }
-    Err(Fail::new("there is no fault"))
-}
-
-// Makes the turns of the fault that the seat's line stands in up to its end, or up
-// to this place: how many they were, and the last one.
-fn run<S: Stepper>(s: &mut S, stop: Option<FaultPlace>) -> Result<(u64, Turn<Faulted>), Fail> {
-    let stop = stop.map(|place| Place::Access(AccessPlace::Fault(place)));
-    for turns in 0..9000 {
-        s.reserve()?;
-        let Some(job) = fault_of(s.hand()) else {
-            return Err(Fail::new("the line stands in no fault"));
-        };
-        if stop == Some(s.hand().progress().place) {
-            return Ok((turns, Turn::More));
-        }
-        let last = job.turn(s);
-        if matches!(last, Turn::Retry(_) | Turn::Done(_)) {
-            return Ok((turns + 1, last));
-        }
-    }
-    Err(Fail::new("the fault goes on"))
-}
-
-// Makes the steps of a processor's lines up to its next fault.
-fn leave_the_guest(machine: &mut PlainMachine, vcpu: u8) -> Result<(), Fail> {
-    let actor = Actor::Vcpu(vcpu);
-    expect_actor(machine, actor)?;
-    let mut seat = machine.as_actor(actor);
-    go_to_fault(&mut seat)
-}
-
-// The turns of the next fault of a processor of the machine.
-fn fault(
-    machine: &mut PlainMachine,
-    vcpu: u8,
-    stop: Option<FaultPlace>,
-) -> Result<(u64, Turn<Faulted>), Fail> {
-    let actor = Actor::Vcpu(vcpu);
-    expect_actor(machine, actor)?;
-    let mut seat = machine.as_actor(actor);
-    go_to_fault(&mut seat)?;
-    run(&mut seat, stop)
-}
-
+// The pool's map is word 12, and the host word of page 69 word 18 + 69. The entries of the root begin
+// at word 96, and those of the pages 1, 3, 4 and 5 at words 608, 1632, 2144 and 2656.
+const FAULTS: &str = "\
 // The first fault makes 12 turns up to the root, then for the levels 4, 3 and 2
 // the entry, the map, the page, 513 fills and the link each, and the entry, the
 // leaf and two turns to the end. The second processor has left the guest for the
 // same guest frame before: its fault finds the three tables and the leaf. The next
 // one finds the tables alone.
-#[test]
-fn puts_tables_and_leaves(rt: HostRuntime) -> Result<(), Fail> {
-    let mut machine = machine_with_slot(rt.alloc(), HEAD_OF_POOL_8, AT_FRAME_5)?;
-    leave_the_guest(&mut machine, 1)?;
-    for (vcpu, turns) in [(0, 12 + 3 * 517 + 4), (1, 12 + 4 + 2), (1, 12 + 3 + 4)] {
-        assert_eq!(rt; fault(&mut machine, vcpu, None)?, (turns, INSTALLED));
-    }
-    let all = [
-        (MAP, 0xe0),
-        (ROOT, 0x1807),
-        (PAGE_1, 0x3807),
-        (PAGE_3, 0x4807),
-        (PAGE_4 + 4, 0x0600_0000_0004_4807),
-        (PAGE_4 + 5, 0x0600_0000_0004_5807),
-    ];
-    assert_eq!(rt; first_other(machine, &all), (4452, None));
-    Ok(())
-}
-
-// Outside the slot: the four words of slot 0, and the flags of the 31 others.
-#[test]
-fn leaves_outside_the_slot(rt: HostRuntime) -> Result<(), Fail> {
-    let mut machine = machine_with_slot(rt.alloc(), HEAD, AT_FRAME_6)?;
-    let last = fault(&mut machine, 0, None)?;
-    assert_eq!(rt; last, (3 + 4 + 31 + 1, Turn::Done(Faulted::Mmio)));
-    Ok(())
-}
-
-// With four pool pages two tables are linked, and there is none for level 1.
-#[test]
-fn starves_where_no_page_is_free(rt: HostRuntime) -> Result<(), Fail> {
-    let mut machine = machine_with_slot(rt.alloc(), HEAD, AT_FRAME_5)?;
-    let last = fault(&mut machine, 0, None)?;
-    let starved = (12 + 2 * 517 + 4, Turn::Done(Faulted::Starved));
-    let all = [(MAP, 0), (92, 0x1807), (604, 0x3807), (1628, 0)];
-    assert_eq!(rt; (last, first_other(machine, &all)), (starved, (2400, None)));
-    Ok(())
-}
-
+vm slot 0 0 6 64; v0 read 0x5000; v1 write 0x5000 7; v1 write 0x4000 7; h0 evict 69
+==
+vm steps 524
+v1 leave
+v0 fault -> turn 12 + 3 * 517 + 4: installed
+v1 fault -> turn 12 + 4 + 2: installed
+v1 fault -> turn 12 + 3 + 4: installed
+==
+word 12 -> 0xe0
+word 96 -> 0x1807
+word 608 -> 0x3807
+word 1632 -> 0x4807
+word 2144 + 4 -> 0x600000000044807
+word 2144 + 5 -> 0x600000000045807
+words -> 4452
+--
 // The first processor has page 1 ready, and the second one links page 3 at the
 // root first: page 1 is given back, and the first one is to begin anew.
-#[test]
-fn loses_its_link(rt: HostRuntime) -> Result<(), Fail> {
-    let mut machine = machine_with_slot(rt.alloc(), HEAD_OF_POOL_8, AT_FRAME_5)?;
-    let lost = Cause::Entry {
-        word: 96,
-        read: 0,
-        seen: 0x3807,
-    };
-    for (vcpu, stop, turns, last) in [
-        (0, Some(FaultPlace::Link), 12 + 516, Turn::More),
-        (1, None, 12 + 3 * 517 + 4, INSTALLED),
-        (0, None, 4, Turn::Retry(lost)),
-    ] {
-        assert_eq!(rt; fault(&mut machine, vcpu, stop)?, (turns, last));
-    }
-    let all = [
-        (MAP, 0xc2),
-        (ROOT, 0x3807),
-        (PAGE_3, 0x4807),
-        (PAGE_4, 0x5807),
-        (PAGE_5 + 5, 0x0600_0000_0004_5807),
-    ];
-    assert_eq!(rt; first_other(machine, &all), (4452, None));
-    Ok(())
-}
-
-// The machine after the host thread's line.
-fn evicted(alloc: Global) -> Result<PlainMachine, Fail> {
-    let mut machine = machine_with_slot(alloc, HEAD_OF_POOL_8, AT_FRAME_5)?;
-    run_lines(&mut machine, Actor::Host(0), 40)?;
-    Ok(machine)
-}
-
-// The first processor brings the page in, after 8 turns, and goes on as for a page that is
+vm slot 0 0 6 64; v0 read 0x5000; v1 write 0x5000 7; v1 write 0x4000 7; h0 evict 69
+==
+vm steps 524
+v0 fault Link -> turn 12 + 516: more
+v1 fault -> turn 12 + 3 * 517 + 4: installed
+v0 fault -> turn 4: begins anew (word 96 held 0x0, holds 0x3807)
+==
+word 12 -> 0xc2
+word 96 -> 0x3807
+word 1632 -> 0x4807
+word 2144 -> 0x5807
+word 2656 + 5 -> 0x600000000045807
+words -> 4452
+--
+// Host page 69 is absent. The first processor brings it in, after 8 turns, and goes on as for a page that is
 // present; the second one finds it present.
-#[test]
-fn brings_an_absent_page_in(rt: HostRuntime) -> Result<(), Fail> {
-    let mut machine = evicted(rt.alloc())?;
-    leave_the_guest(&mut machine, 1)?;
-    for (vcpu, stop, turns, last) in [
-        (0, Some(FaultPlace::Bring), 8, Turn::More),
-        (0, None, 5 + 3 * 517 + 4, INSTALLED),
-        (1, None, 12 + 4 + 2, INSTALLED),
-    ] {
-        assert_eq!(rt; fault(&mut machine, vcpu, stop)?, (turns, last));
-    }
-    let all = [(HOST_69, 0x4_5007), (PAGE_4 + 5, 0x0600_0000_0004_5807)];
-    assert_eq!(rt; first_other(machine, &all), (4452, None));
-    Ok(())
-}
-
+vm slot 0 0 6 64; v0 read 0x5000; v1 write 0x5000 7; v1 write 0x4000 7; h0 evict 69
+==
+vm steps 524
+h0 steps 40
+v1 leave
+v0 fault Bring -> turn 8: more
+v0 fault -> turn 5 + 3 * 517 + 4: installed
+v1 fault -> turn 12 + 4 + 2: installed
+==
+word 18 + 69 -> 0x45007
+word 2144 + 5 -> 0x600000000045807
+words -> 4452
+--
 // Both processors see the page absent, and the first one brings it in before: the second one
 // ends its section, and is to begin anew. Its line finds the leaf then, and its next fault is
 // one of guest frame 4, which is present.
+vm slot 0 0 6 64; v0 read 0x5000; v1 write 0x5000 7; v1 write 0x4000 7; h0 evict 69
+==
+vm steps 524
+h0 steps 40
+v1 fault Bring -> turn 8: more
+v0 fault -> turn 13 + 3 * 517 + 4: installed
+v1 fault -> turn 2: begins anew (word 87 held 0x45006, holds 0x45007)
+v1 fault -> turn 12 + 3 + 4: installed
+==
+word 18 + 69 -> 0x45007
+word 2144 + 4 -> 0x600000000044807
+words -> 4452
+--
+// With four pool pages. Guest frame 6 is outside the slot: the four words of slot 0, and the flags of the 31 others.
+tdp 1 vcpus 2 workers 0 pages 70 frames 130 words 2 pool 4 cache 64 manual 0 hosts 0
+vm slot 0 0 6 64; v0 read 0x6000; v1 write 0x6000 7; v1 write 0x4000 7; h0 evict 69
+==
+vm steps 524
+v0 fault -> turn 3 + 4 + 31 + 1: mmio
+--
+// With four pool pages two tables are linked, and there is none for level 1. The entries of the root begin at word 92.
+tdp 1 vcpus 2 workers 0 pages 70 frames 130 words 2 pool 4 cache 64 manual 0 hosts 0
+vm slot 0 0 6 64; v0 read 0x5000; v1 write 0x5000 7; v1 write 0x4000 7; h0 evict 69
+==
+vm steps 524
+v0 fault -> turn 12 + 2 * 517 + 4: starved
+==
+word 12 -> 0x0
+word 92 -> 0x1807
+word 604 -> 0x3807
+word 1628 -> 0x0
+words -> 2400
+--
+";
+
 #[test]
-fn loses_a_page_that_it_brings_in(rt: HostRuntime) -> Result<(), Fail> {
-    let mut machine = evicted(rt.alloc())?;
-    let lost = Cause::Entry {
-        word: 87,
-        read: 0x4_5006,
-        seen: 0x4_5007,
-    };
-    for (vcpu, stop, turns, last) in [
-        (1, Some(FaultPlace::Bring), 8, Turn::More),
-        (0, None, 13 + 3 * 517 + 4, INSTALLED),
-        (1, None, 2, Turn::Retry(lost)),
-        (1, None, 12 + 3 + 4, INSTALLED),
-    ] {
-        assert_eq!(rt; fault(&mut machine, vcpu, stop)?, (turns, last));
-    }
-    let all = [(HOST_69, 0x4_5007), (PAGE_4 + 4, 0x0600_0000_0004_4807)];
-    assert_eq!(rt; first_other(machine, &all), (4452, None));
-    Ok(())
+fn puts_a_leaf_or_says_why_not(rt: HostRuntime) -> Result<(), Fail> {
+    expect_all(&rt, rt.alloc(), HEAD_OF_POOL_8, FAULTS, 6)
 }

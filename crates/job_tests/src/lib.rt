@@ -5,6 +5,10 @@
 #[cfg(test)]
 mod access_tests;
 #[cfg(test)]
+mod acts;
+#[cfg(test)]
+mod cases;
+#[cfg(test)]
 mod fast_tests;
 #[cfg(test)]
 mod fault_tests;
@@ -13,4 +17,8 @@ mod host_line_tests;
 #[cfg(test)]
 mod move_line_tests;
 #[cfg(test)]
+mod numbers;
+#[cfg(test)]
 mod slot_line_tests;
+#[cfg(test)]
+mod turns;

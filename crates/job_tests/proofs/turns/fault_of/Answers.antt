@@ -3,8 +3,8 @@ use Rattle.core_views.specs.declared.hand.Progress.{Progress}
 use Rattle.core_views.specs.declared.place.AccessPlace.{AccessPlace}
 use Rattle.core_views.specs.declared.place.Place.TheVariants.{Access}
 use Rattle.core_views.specs.declared.trace.Line.{Line}
-use Rattle.job_tests.proofs.InFault.{in_fault}
-use Rattle.job_tests.proofs.fault_tests.fault_of.Goals as goal
+use Rattle.job_tests.proofs.InFault.{in_fault, is_same}
+use Rattle.job_tests.proofs.turns.fault_of.Goals as goal
 
 pub returns : goal.returns
 unfolding in_fault
@@ -14,5 +14,5 @@ returns c = record {
       (sym c.has_line.ensures ∙ c.if-not-has_line.false)
       (ap (λ (x : Progress). x.place) (sym c.progress.ensures) ∙ c.in-Access.is ∙ ap (λ (a : AccessPlace). Access a) c.in-Fault.is)
       (ap (λ (l : Line). l.command) (sym c.line.ensures.line) ∙ c.in-Access-command.is) (sym c.is_write.ensures);
-  whole = sym c.is_fast_place.ensures ∙ c.if-is_fast_place.false;
+  kind = sym c.is_fast_place.ensures ∙ is_same c.is_fast_place.result c.args.fast c.if-is_fast_place-fast.false;
 }
