@@ -1,48 +1,93 @@
 //! The two steps of a fast fault that change a word, at a machine that is at its start: no actor makes them without a line.
-use crate::{HEAD, expect_actor, machine_of, take_step};
-use core_views::{Actor, NoMemory};
+use crate::expected::expect_all;
+use crate::{Acts, Came, HEAD};
+use core_views::Actor;
 use mmu_steps::allows;
 use part_steps::{PartStep, needs_line};
 use std::test::Fail;
-use step_seats::{PlainMachine, Stepper};
+use step_seats::{PlainMachine, Stepper, make_part};
 
 // Whether the hand allows that writes are allowed in a leaf, or that a page is marked.
-fn may<S: Stepper>(seat: &mut S) -> Result<bool, NoMemory> {
-    seat.reserve()?;
-    Ok(allows(seat.hand(), PartStep::Fix(5), 0) || allows(seat.hand(), PartStep::Mark, 0))
+fn may<S: Stepper>(seat: &mut S) -> Came {
+    if seat.reserve().is_err() {
+        return Came::no_memory();
+    }
+    if allows(seat.hand(), PartStep::Fix(5), 0) || allows(seat.hand(), PartStep::Mark, 0) {
+        Came::only("may")
+    } else {
+        Came::only("may not")
+    }
 }
 
-// The same of an actor of the machine.
-fn actor_may(machine: &mut PlainMachine, actor: Actor) -> Result<bool, Fail> {
-    expect_actor(machine, actor)?;
-    let mut seat = machine.as_actor(actor);
-    Ok(may(&mut seat)?)
+// Makes the step, where the actor may.
+fn step<S: Stepper>(seat: &mut S, step: PartStep) -> Came {
+    if seat.reserve().is_err() {
+        return Came::no_memory();
+    }
+    if !allows(seat.hand(), step, 0) {
+        return Came::not_allowed();
+    }
+    let _ = make_part(seat, step, 0);
+    may(seat)
 }
 
-// The first of these actors that may, once it is in a section and has loaded the slot set and the root.
-fn first_that_may(machine: &mut PlainMachine, actors: &[Actor]) -> Result<Option<Actor>, Fail> {
-    for actor in actors {
-        for step in [PartStep::Begin, PartStep::Slots, PartStep::Root] {
-            take_step(machine, *actor, step)?;
-            if actor_may(machine, *actor)? {
-                return Ok(Some(*actor));
-            }
+fn line(step: PartStep) -> Came {
+    if needs_line(step) {
+        Came::only("needs a line")
+    } else {
+        Came::only("needs none")
+    }
+}
+
+fn step_named(word: &str) -> Option<PartStep> {
+    match word {
+        "begin" => Some(PartStep::Begin),
+        "slots" => Some(PartStep::Slots),
+        "root" => Some(PartStep::Root),
+        "fix" => Some(PartStep::Fix(5)),
+        "mark" => Some(PartStep::Mark),
+        _ => None,
+    }
+}
+
+// `begin`, `slots` and `root`: whether the actor may fix a leaf or mark a page after this step. `fix` and `mark`:
+// whether these steps need a line.
+#[derive(Drop)]
+struct FastSteps;
+
+impl Acts for FastSteps {
+    fn act(&mut self, machine: &mut PlainMachine, actor: Actor, word: &str, _number: u64) -> Came {
+        let named = step_named(word);
+        let mut seat = machine.as_actor(actor);
+        match named {
+            Some(PartStep::Fix(gfn)) => line(PartStep::Fix(gfn)),
+            Some(PartStep::Mark) => line(PartStep::Mark),
+            Some(named) => step(&mut seat, named),
+            None => Came::unknown(),
         }
     }
-    Ok(None)
 }
+
+// Each actor, in a section, has loaded the slot set and the root.
+const NOBODY: &str = "\
+==
+v0 begin: may not
+v0 slots: may not
+v0 root: may not
+v1 begin: may not
+v1 slots: may not
+v1 root: may not
+h0 begin: may not
+h0 slots: may not
+h0 root: may not
+vm begin: may not
+vm slots: may not
+vm root: may not
+v0 fix: needs a line
+v0 mark: needs a line
+";
 
 #[test]
 fn nobody_fixes_or_marks_without_a_line(rt: HostRuntime) -> Result<(), Fail> {
-    let mut machine = machine_of(rt.alloc(), HEAD, "")?;
-    let actors = [
-        Actor::Vcpu(0),
-        Actor::Vcpu(1),
-        Actor::Host(0),
-        Actor::Manager,
-    ];
-    let found = first_that_may(&mut machine, &actors)?;
-    let alone = (needs_line(PartStep::Fix(5)), needs_line(PartStep::Mark));
-    assert_eq!(rt; (found, alone), (None, (true, true)));
-    Ok(())
+    expect_all(&rt, rt.alloc(), HEAD, &mut FastSteps, NOBODY, 14)
 }

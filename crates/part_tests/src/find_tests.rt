@@ -1,109 +1,146 @@
 //! Searches at machines with no slot, and with one.
-
-use crate::expected::expect;
-use crate::{HEAD, SETTING, expect_actor, machine_of, run_lines, take_step};
-use core_views::{Actor, NoMemory, Slot, Stay};
+use crate::expected::expect_all;
+use crate::{Acts, Came, HEAD, make, make_steps};
+use core_views::{Actor, Stay};
 use memslots::{Find, FoundSlot, Sought};
 use mmu_steps::allows;
 use part_steps::PartStep;
-use std::alloc::Global;
 use std::test::Fail;
 use step_seats::{PlainMachine, Stepper, Turn};
 
 // The next turn of the search, where the hand allows its step.
-fn turn<S: Stepper>(
-    find: &mut Find,
-    seat: &mut S,
-) -> Result<Option<Turn<Option<FoundSlot>>>, NoMemory> {
-    seat.reserve()?;
+fn turn<S: Stepper>(find: &mut Find, seat: &mut S) -> Option<Turn<Option<FoundSlot>>> {
+    if seat.reserve().is_err() {
+        return None;
+    }
     let in_section = seat.hand().topics().stay == Stay::Section;
     let allowed = if find.begun {
         allows(seat.hand(), PartStep::Slot, 0)
     } else {
         allows(seat.hand(), PartStep::Slots, 0) && in_section
     };
-    Ok(if allowed {
+    if allowed {
         Some(find.turn(seat, 0))
     } else {
         None
-    })
+    }
 }
 
-// What a search comes to: how many turns said that there is more, what the last one said, and
-// the page of the slot set that is searched.
-type Searched = (u64, Option<Turn<Option<FoundSlot>>>, Option<u64>);
+// A slot, as the line has it that sets it.
+fn slot(found: &FoundSlot) -> Came {
+    let FoundSlot { id, slot, logged } = *found;
+    let words = match (slot.read_only, logged) {
+        (false, false) => "slot",
+        (true, false) => "ro slot",
+        (_, true) => "slot with a log",
+    };
+    Came::four(words, id, slot.base, slot.pages, slot.host)
+}
 
-// A search by the first processor, in its section.
-fn search(machine: &mut PlainMachine, sought: Sought) -> Result<Searched, Fail> {
-    expect_actor(machine, Actor::Vcpu(0))?;
-    let mut seat = machine.as_actor(Actor::Vcpu(0));
+fn said(last: &Option<Turn<Option<FoundSlot>>>) -> Came {
+    match last {
+        Some(Turn::Done(Some(found))) => slot(found),
+        Some(Turn::Done(None)) => Came::only("none"),
+        Some(turn) => Came::turn(turn),
+        None => Came::not_allowed(),
+    }
+}
+
+// A search of at most 200 turns: how many said that there is more, and what the last one said.
+fn search<S: Stepper>(seat: &mut S, sought: Sought) -> (u64, Option<Turn<Option<FoundSlot>>>) {
     let mut find = Find::new(sought);
     for more in 0..200 {
-        let said = turn(&mut find, &mut seat)?;
-        if said != Some(Turn::More) {
-            return Ok((more, said, seat.hand().topics().search.set));
+        let said = turn(&mut find, seat);
+        if !matches!(said, Some(Turn::More)) {
+            return (more, said);
         }
     }
-    Err(Fail::new("the search goes on"))
+    (200, Some(Turn::More))
 }
 
-// Whether the search finds no slot at the start of a machine, with the flags of ID 31.
-fn ends_with_the_last_flags(alloc: Global) -> Result<bool, Fail> {
-    let mut machine = machine_of(alloc, HEAD, "")?;
-    take_step(&mut machine, Actor::Vcpu(0), PartStep::Begin)?;
-    let found = search(&mut machine, Sought::GuestFrame(5))?;
-    Ok(found == (32, Some(Turn::Done(None)), Some(1)))
+// The page of the slot set that is searched.
+fn set<S: Stepper>(seat: &S) -> u64 {
+    seat.hand().topics().search.set.unwrap_or(0)
+}
+
+fn line<S: Stepper>(seat: &mut S) -> Came {
+    match make_steps(seat, 600) {
+        Ok(made) => Came::one("made", made),
+        Err(_) => Came::no_memory(),
+    }
+}
+
+// `line`: the steps of the actor's line, 600 of them at most, and how many there were. `begin`. `frame N` and
+// `page N`: a search by a guest frame, or by a host page, and the slot. `more-and-set`: how many of its turns said that
+// there is more, and the pool page of the slot set.
+#[derive(Drop)]
+struct Searches {
+    more: u64,
+}
+
+impl Searches {
+    fn finds<S: Stepper>(&mut self, seat: &mut S, sought: Sought) -> Came {
+        let (more, last) = search(seat, sought);
+        self.more = more;
+        said(&last)
+    }
+}
+
+impl Acts for Searches {
+    fn act(&mut self, machine: &mut PlainMachine, actor: Actor, word: &str, number: u64) -> Came {
+        let mut seat = machine.as_actor(actor);
+        match word {
+            "line" => line(&mut seat),
+            "begin" => make(&mut seat, PartStep::Begin),
+            "frame" => self.finds(&mut seat, Sought::GuestFrame(number)),
+            "page" => self.finds(&mut seat, Sought::HostPage(number)),
+            "more-and-set" => Came::two("", self.more, set(&seat)),
+            _ => Came::unknown(),
+        }
+    }
 }
 
 // No slot is live at the start: the search ends with the flags of ID 31.
+const NO_SLOT: &str = "\
+==
+v0 begin: made
+v0 frame 5: none
+v0 more-and-set: 32 1
+";
+
 #[test]
 fn finds_none_at_the_start(rt: HostRuntime) -> Result<(), Fail> {
-    expect(&rt, (None, ends_with_the_last_flags(rt.alloc())?));
-    Ok(())
+    let mut searches = Searches { more: 0 };
+    expect_all(&rt, rt.alloc(), HEAD, &mut searches, NO_SLOT, 3)
 }
 
-// The first of these searches, after the manager's line, that takes another count of turns or finds another slot;
-// and whether the line made as many steps as setting a slot takes.
-fn first_other(
-    alloc: Global,
-    rows: &[(Sought, u64, Option<FoundSlot>)],
-) -> Result<(Option<usize>, bool), Fail> {
-    let mut machine = machine_of(alloc, HEAD, "vm slot 3 5 3 64 ro\n")?;
-    let made = run_lines(&mut machine, Actor::Manager, 600)?;
-    take_step(&mut machine, Actor::Vcpu(0), PartStep::Begin)?;
-    for (i, (sought, more, want)) in rows.iter().enumerate() {
-        if search(&mut machine, *sought)? != (*more, Some(Turn::Done(*want)), Some(2)) {
-            return Ok((Some(i), made == SETTING));
-        }
-    }
-    Ok((None, made == SETTING))
-}
-
-// The manager sets slot 3, of guest frames 5, 6 and 7: each search loads the
+// The manager sets slot 3, of guest frames 5, 6 and 7, in the steps that `SETTING` has. Each search loads the
 // flags of IDs 0 to 2, and the four words of ID 3.
+const A_SLOT: &str = "\
+vm slot 3 5 3 64 ro
+==
+vm line: made 524
+v0 begin: made
+v0 frame 5: ro slot 3 5 3 64
+v0 more-and-set: 7 2
+v0 frame 7: ro slot 3 5 3 64
+v0 more-and-set: 7 2
+v0 frame 4: none
+v0 more-and-set: 35 2
+v0 frame 8: none
+v0 more-and-set: 35 2
+v0 page 64: ro slot 3 5 3 64
+v0 more-and-set: 7 2
+v0 page 66: ro slot 3 5 3 64
+v0 more-and-set: 7 2
+v0 page 63: none
+v0 more-and-set: 35 2
+v0 page 67: none
+v0 more-and-set: 35 2
+";
+
 #[test]
 fn finds_the_slot_of_a_frame(rt: HostRuntime) -> Result<(), Fail> {
-    let slot = Slot {
-        base: 5,
-        pages: 3,
-        host: 64,
-        read_only: true,
-    };
-    let found = FoundSlot {
-        id: 3,
-        slot,
-        logged: false,
-    };
-    let rows = [
-        (Sought::GuestFrame(5), 7, Some(found)),
-        (Sought::GuestFrame(7), 7, Some(found)),
-        (Sought::GuestFrame(4), 35, None),
-        (Sought::GuestFrame(8), 35, None),
-        (Sought::HostPage(64), 7, Some(found)),
-        (Sought::HostPage(66), 7, Some(found)),
-        (Sought::HostPage(63), 35, None),
-        (Sought::HostPage(67), 35, None),
-    ];
-    expect(&rt, first_other(rt.alloc(), &rows)?);
-    Ok(())
+    let mut searches = Searches { more: 0 };
+    expect_all(&rt, rt.alloc(), HEAD, &mut searches, A_SLOT, 18)
 }

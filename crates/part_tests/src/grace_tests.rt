@@ -4,44 +4,24 @@ ghost use Rattle.std.specs.Prelude.{◌≡◌};
 ghost use Rattle.grace_period.specs.Watches.{watched_next};
 ghost use Rattle.part_steps.specs.PartBounds.{PartRests};
 
-use crate::expected::expect;
-use crate::{HEAD, expect_actor, machine_of};
-use core_views::{Actor, Hand, NoMemory, Seen};
+use crate::expected::expect_all;
+use crate::{Acts, Came, HEAD};
+use core_views::{Actor, Hand};
 use grace_period::{Watch, begin, end};
 use mmu_steps::{allows, part_rests};
 use part_steps::{PartStep, next_watched};
 use std::alloc::Global;
+use std::process::Abort;
 use std::test::Fail;
-use step_seats::{PlainMachine, Stepper, Turn, make_part};
-
-const V0: Actor = Actor::Vcpu(0);
-
-const V1: Actor = Actor::Vcpu(1);
-
-const H0: Actor = Actor::Host(0);
-
-const VM: Actor = Actor::Manager;
-
-// What an actor does.
-#[derive(Clone, Copy, Drop)]
-enum Act {
-    // This step on its own state word.
-    Step(PartStep),
-    // The first look of a new watch.
-    LookAnew,
-    // The next look of the watch.
-    Look,
-}
-
-const BEGIN: Act = Act::Step(PartStep::Begin);
-
-const END: Act = Act::Step(PartStep::End);
+use step_seats::{PlainMachine, Stepper, make_part};
 
 // The step on the actor's own state word, where it is allowed.
-fn go<S: Stepper>(seat: &mut S, step: PartStep) -> Result<Option<Turn<()>>, NoMemory> {
-    seat.reserve()?;
+fn go<S: Stepper>(seat: &mut S, step: PartStep) -> Came {
+    if seat.reserve().is_err() {
+        return Came::no_memory();
+    }
     if !allows(seat.hand(), step, 0) {
-        return Ok(None);
+        return Came::not_allowed();
     }
     match step {
         PartStep::Begin => begin(seat, 0),
@@ -50,7 +30,7 @@ fn go<S: Stepper>(seat: &mut S, step: PartStep) -> Result<Option<Turn<()>>, NoMe
             let _ = make_part(seat, step, 0);
         }
     }
-    Ok(Some(Turn::Done(())))
+    Came::only("done")
 }
 
 // A watch that has looked at an actor, or has looked at nobody yet.
@@ -77,141 +57,140 @@ fn next_look(has_looked: bool, hand: &Hand) -> u64
 
 // The next look of the watch, where it is allowed. Whether the watch has looked before, a
 // comparison tells.
-fn look<S: Stepper>(seat: &mut S, watch: &mut Watch) -> Result<Option<Turn<()>>, NoMemory> {
+fn look<S: Stepper>(seat: &mut S, watch: &mut Watch) -> Came {
     let has_looked = *watch == Watch::under_way();
     *watch = watch_of(has_looked);
-    seat.reserve()?;
+    if seat.reserve().is_err() {
+        return Came::no_memory();
+    }
     let hand = seat.hand();
     part_rests(hand);
     let index = next_look(has_looked, hand);
     if !allows(hand, PartStep::Watch(index), 0) {
-        return Ok(None);
+        return Came::not_allowed();
     }
-    Ok(Some(watch.turn(seat, 0)))
+    Came::turn(&watch.turn(seat, 0))
 }
 
-// What comes of it, where it is allowed: a step is done.
-fn does(
-    machine: &mut PlainMachine,
-    watch: &mut Watch,
-    actor: Actor,
-    act: Act,
-) -> Result<Option<Turn<()>>, Fail> {
-    expect_actor(machine, actor)?;
-    let mut seat = machine.as_actor(actor);
-    let came = match act {
-        Act::Step(step) => go(&mut seat, step),
-        Act::LookAnew => {
-            *watch = Watch::new();
-            look(&mut seat, watch)
+fn step_named(word: &str) -> Option<PartStep> {
+    match word {
+        "begin" => Some(PartStep::Begin),
+        "end" => Some(PartStep::End),
+        "enter" => Some(PartStep::Enter),
+        "leave" => Some(PartStep::Leave),
+        _ => None,
+    }
+}
+
+// `begin`, `end`, `enter` and `leave`: this step on the actor's own state word. `look-anew`: the first look of a new
+// watch. `look`: the next look of the watch.
+#[derive(Drop)]
+struct Watching {
+    watch: Watch,
+}
+
+impl Acts for Watching {
+    fn act(&mut self, machine: &mut PlainMachine, actor: Actor, word: &str, _number: u64) -> Came {
+        let step = step_named(word);
+        if word == "look-anew" {
+            self.watch = Watch::new();
         }
-        Act::Look => look(&mut seat, watch),
+        let looks = word == "look" || word == "look-anew";
+        let mut seat = machine.as_actor(actor);
+        match step {
+            Some(step) => go(&mut seat, step),
+            None if looks => look(&mut seat, &mut self.watch),
+            None => Came::unknown(),
+        }
+    }
+}
+
+// The table's rows, at a machine with one watch.
+fn expect_watch<R: Abort>(rt: &R, alloc: Global, table: &str, count: usize) -> Result<(), Fail> {
+    let mut watching = Watching {
+        watch: Watch::new(),
     };
-    Ok(came?)
+    expect_all(rt, alloc, HEAD, &mut watching, table, count)
 }
 
-const MORE: Option<Turn<()>> = Some(Turn::More);
+// An actor waits for the state word of another one: 8 of v0, 9 of v1, 10 of h0, 11 of vm. It is 2 in a section, and
+// 3 in the guest.
 
-const DONE: Option<Turn<()>> = Some(Turn::Done(()));
-
-// Seen in a section, or in the guest.
-
-const V0_IN_SECTION: Option<Turn<()>> = Some(Turn::Wait(Seen { word: 8, value: 2 }));
-
-const V1_IN_SECTION: Option<Turn<()>> = Some(Turn::Wait(Seen { word: 9, value: 2 }));
-
-const V1_IN_GUEST: Option<Turn<()>> = Some(Turn::Wait(Seen { word: 9, value: 3 }));
-
-const H0_IN_SECTION: Option<Turn<()>> = Some(Turn::Wait(Seen { word: 10, value: 2 }));
-
-const VM_IN_SECTION: Option<Turn<()>> = Some(Turn::Wait(Seen { word: 11, value: 2 }));
-
-// The first of these acts, one after another at a machine with one watch, of which something else comes.
-fn first_other(
-    alloc: Global,
-    rows: &[(Actor, Act, Option<Turn<()>>)],
-) -> Result<Option<usize>, Fail> {
-    let mut machine = machine_of(alloc, HEAD, "")?;
-    let mut watch = Watch::new();
-    for (i, (actor, act, want)) in rows.iter().enumerate() {
-        if does(&mut machine, &mut watch, *actor, *act)? != *want {
-            return Ok(Some(i));
-        }
-    }
-    Ok(None)
-}
+const EACH_SECTION: &str = "\
+==
+v0 begin: done
+vm look: wait 8 2
+vm look: wait 8 2
+v0 end: done
+vm look: more
+v0 begin: done
+v1 enter: done
+vm look: wait 9 3
+v1 leave: done
+vm look: more
+h0 begin: done
+vm look: wait 10 2
+h0 end: done
+vm look: done
+vm look: not allowed
+";
 
 #[test]
 fn managers_watch_waits_for_each_section(rt: HostRuntime) -> Result<(), Fail> {
-    let rows = [
-        (V0, BEGIN, DONE),
-        (VM, Act::Look, V0_IN_SECTION),
-        (VM, Act::Look, V0_IN_SECTION),
-        (V0, END, DONE),
-        (VM, Act::Look, MORE),
-        (V0, BEGIN, DONE),
-        (V1, Act::Step(PartStep::Enter), DONE),
-        (VM, Act::Look, V1_IN_GUEST),
-        (V1, Act::Step(PartStep::Leave), DONE),
-        (VM, Act::Look, MORE),
-        (H0, BEGIN, DONE),
-        (VM, Act::Look, H0_IN_SECTION),
-        (H0, END, DONE),
-        (VM, Act::Look, DONE),
-        (VM, Act::Look, None),
-    ];
-    expect(&rt, (first_other(rt.alloc(), &rows)?, true));
-    Ok(())
+    expect_watch(&rt, rt.alloc(), EACH_SECTION, 15)
 }
+
+const NEXT_WATCH: &str = "\
+==
+vm look: more
+vm look: more
+v0 begin: done
+vm look-anew: wait 8 2
+v0 end: done
+vm look: more
+vm look: more
+vm look: done
+";
 
 #[test]
 fn next_watch_begins_with_the_first(rt: HostRuntime) -> Result<(), Fail> {
-    let rows = [
-        (VM, Act::Look, MORE),
-        (VM, Act::Look, MORE),
-        (V0, BEGIN, DONE),
-        (VM, Act::LookAnew, V0_IN_SECTION),
-        (V0, END, DONE),
-        (VM, Act::Look, MORE),
-        (VM, Act::Look, MORE),
-        (VM, Act::Look, DONE),
-    ];
-    expect(&rt, (first_other(rt.alloc(), &rows)?, true));
-    Ok(())
+    expect_watch(&rt, rt.alloc(), NEXT_WATCH, 8)
 }
+
+const ITS_OWN_ACTOR: &str = "\
+==
+v0 begin: done
+v1 begin: done
+v0 look: wait 9 2
+v1 end: done
+v0 look: more
+v0 look: more
+vm begin: done
+v0 look: wait 11 2
+vm end: done
+v0 look: done
+v1 look-anew: wait 8 2
+v0 end: done
+v1 look: more
+h0 begin: done
+v1 look: wait 10 2
+";
 
 #[test]
 fn watch_skips_its_own_actor(rt: HostRuntime) -> Result<(), Fail> {
-    let rows = [
-        (V0, BEGIN, DONE),
-        (V1, BEGIN, DONE),
-        (V0, Act::Look, V1_IN_SECTION),
-        (V1, END, DONE),
-        (V0, Act::Look, MORE),
-        (V0, Act::Look, MORE),
-        (VM, BEGIN, DONE),
-        (V0, Act::Look, VM_IN_SECTION),
-        (VM, END, DONE),
-        (V0, Act::Look, DONE),
-        (V1, Act::LookAnew, V0_IN_SECTION),
-        (V0, END, DONE),
-        (V1, Act::Look, MORE),
-        (H0, BEGIN, DONE),
-        (V1, Act::Look, H0_IN_SECTION),
-    ];
-    expect(&rt, (first_other(rt.alloc(), &rows)?, true));
-    Ok(())
+    expect_watch(&rt, rt.alloc(), ITS_OWN_ACTOR, 15)
 }
+
+const NESTED: &str = "\
+==
+h0 end: not allowed
+h0 begin: done
+h0 begin: not allowed
+h0 end: done
+h0 begin: done
+";
 
 #[test]
 fn sections_do_not_nest(rt: HostRuntime) -> Result<(), Fail> {
-    let rows = [
-        (H0, END, None),
-        (H0, BEGIN, DONE),
-        (H0, BEGIN, None),
-        (H0, END, DONE),
-        (H0, BEGIN, DONE),
-    ];
-    expect(&rt, (first_other(rt.alloc(), &rows)?, true));
-    Ok(())
+    expect_watch(&rt, rt.alloc(), NESTED, 5)
 }

@@ -1,12 +1,14 @@
 //! What the tests of the crates below the engine share: a machine at the start of the trace
-//! that a text has, and the steps of its actors' lines; and the tests of the small parts. The
+//! that a text has, the steps of its actors' lines, and tables of acts; and the tests of the small parts. The
 //! tests stand here, in `map_tests` and in `job_tests`, and not in the crates that they are
 //! of, since a crate with tests is proved once without them and once with them.
 #![tactic(auto)]
 
+mod cases;
 mod lines;
 mod machines;
 
+pub use cases::{Acts, Came, first_other_row, make};
 pub use lines::{go_to, is_next, last_word, make_steps, run_lines, take_step, told};
 pub use machines::{
     HEAD, HEAD_OF_POOL_8, SETTING, expect_actor, first_other, machine_of, machine_with_slot,

@@ -1,198 +1,177 @@
 //! The lock on a machine whose actors have no lines.
-use crate::expected::expect;
+use crate::expected::expect_all;
 use crate::untold::{UntoldSeat, exclusive_untold};
-use crate::{HEAD, expect_actor, last_word, machine_of};
-use core_views::{Actor, Hold, NoMemory};
+use crate::{Acts, Came, HEAD};
+use core_views::{Actor, Hold};
 use mmu_lock::{Lock, try_exclusive, try_shared, unlock};
 use mmu_steps::allows;
 use part_steps::{PartStep, WRITER};
-use std::alloc::Global;
 use std::test::Fail;
 use step_seats::{PlainMachine, Stepper, Turn};
 
-const V0: Actor = Actor::Vcpu(0);
-
-const V1: Actor = Actor::Vcpu(1);
-
-const VM: Actor = Actor::Manager;
-
-// What an actor does with the lock.
-#[derive(Clone, Copy, Debug, Drop)]
-enum Act {
-    // The next turn of a reader's try.
-    Share,
-    // A writer's try.
-    Exclude,
-    // Gives it back.
-    GiveBack,
+// What a try for the lock came to: the word that it found, where others have it.
+fn tried(lock: Lock) -> Came {
+    match lock {
+        Lock::Got => Came::only("got"),
+        Lock::Held(word) if word >= WRITER => Came::one("held writer +", word - WRITER),
+        Lock::Held(word) => Came::one("held", word),
+    }
 }
 
-// What comes of it.
-#[derive(Debug, PartialEq, Drop)]
-enum Came {
-    // What the try said; a writer's is done.
-    Tried(Turn<Lock>),
-    // It is given back.
-    GivenBack,
-    // The hand doesn't allow its step.
-    NotAllowed,
-}
-
-const GOT: Came = Came::Tried(Turn::Done(Lock::Got));
-
-// The lock was found with this word.
-fn held(word: u64) -> Came {
-    Came::Tried(Turn::Done(Lock::Held(word)))
+fn shared_turn(turn: &Turn<Lock>) -> Came {
+    match turn {
+        Turn::Done(lock) => tried(*lock),
+        _ => Came::turn(turn),
+    }
 }
 
 // A turn of a reader's try, where the hand allows its step.
-fn shared<S: Stepper>(s: &mut S) -> Result<Came, NoMemory> {
-    s.reserve()?;
+fn share<S: Stepper>(s: &mut S) -> Came {
+    if s.reserve().is_err() {
+        return Came::no_memory();
+    }
     match s.hand().topics().hold {
         Hold::Loose => {
             if allows(s.hand(), PartStep::Share, 0) {
-                return Ok(Came::Tried(try_shared(s, 0)));
+                return shared_turn(&try_shared(s, 0));
             }
         }
         Hold::Owing(_) => {
             if allows(s.hand(), PartStep::Unshare, 0) {
-                return Ok(Came::Tried(try_shared(s, 0)));
+                return shared_turn(&try_shared(s, 0));
             }
         }
         Hold::Shared | Hold::Exclusive => {}
     }
-    Ok(Came::NotAllowed)
+    Came::not_allowed()
 }
 
 // A writer's try, where the hand allows its step.
-fn exclusive<S: Stepper>(s: &mut S) -> Result<Came, NoMemory> {
-    s.reserve()?;
-    if allows(s.hand(), PartStep::Exclude, 0) {
-        Ok(Came::Tried(Turn::Done(try_exclusive(s, 0))))
-    } else {
-        Ok(Came::NotAllowed)
+fn exclude<S: Stepper>(s: &mut S) -> Came {
+    if s.reserve().is_err() {
+        return Came::no_memory();
     }
+    if !allows(s.hand(), PartStep::Exclude, 0) {
+        return Came::not_allowed();
+    }
+    tried(try_exclusive(s, 0))
 }
 
 // Gives the lock back, where it is held.
-fn given_back<S: Stepper>(s: &mut S) -> Result<Came, NoMemory> {
-    s.reserve()?;
+fn give_back<S: Stepper>(s: &mut S) -> Came {
+    if s.reserve().is_err() {
+        return Came::no_memory();
+    }
     match s.hand().topics().hold {
         Hold::Shared => {
             if allows(s.hand(), PartStep::Unshare, 0) {
                 unlock(s, 0);
-                return Ok(Came::GivenBack);
+                return Came::only("given back");
             }
         }
         Hold::Exclusive => {
             if allows(s.hand(), PartStep::Release, 0) {
                 unlock(s, 0);
-                return Ok(Came::GivenBack);
+                return Came::only("given back");
             }
         }
         Hold::Loose | Hold::Owing(_) => {}
     }
-    Ok(Came::NotAllowed)
-}
-
-// What comes of it, by an actor of the machine.
-fn does(machine: &mut PlainMachine, actor: Actor, act: Act) -> Result<Came, Fail> {
-    expect_actor(machine, actor)?;
-    let mut seat = machine.as_actor(actor);
-    let came = match act {
-        Act::Share => shared(&mut seat),
-        Act::Exclude => exclusive(&mut seat),
-        Act::GiveBack => given_back(&mut seat),
-    };
-    Ok(came?)
-}
-
-// The first of these acts, one after another at a machine, of which something else comes, and the lock's word at last.
-fn first_other(
-    alloc: Global,
-    rows: &[(Actor, Act, Came)],
-) -> Result<(Option<usize>, Option<u64>), Fail> {
-    let mut machine = machine_of(alloc, HEAD, "")?;
-    for (i, (actor, act, want)) in rows.iter().enumerate() {
-        if does(&mut machine, *actor, *act)? != *want {
-            return Ok((Some(i), None));
-        }
-    }
-    Ok((None, last_word(machine, 6)))
-}
-
-// Two readers share the lock, and a writer finds both of them.
-#[test]
-fn readers_share_it(rt: HostRuntime) -> Result<(), Fail> {
-    let rows = [
-        (V0, Act::Share, GOT),
-        (V1, Act::Share, GOT),
-        (VM, Act::Exclude, held(2)),
-        (V0, Act::GiveBack, Came::GivenBack),
-        (VM, Act::Exclude, held(1)),
-        (V1, Act::GiveBack, Came::GivenBack),
-        (VM, Act::Exclude, GOT),
-    ];
-    let (first, word) = first_other(rt.alloc(), &rows)?;
-    expect(&rt, (first, word == Some(WRITER)));
-    Ok(())
-}
-
-// A reader that finds a writer takes itself out again, and answers what it found.
-#[test]
-fn a_writer_keeps_readers_out(rt: HostRuntime) -> Result<(), Fail> {
-    let rows = [
-        (VM, Act::Exclude, GOT),
-        (V0, Act::Share, Came::Tried(Turn::More)),
-        (V1, Act::Share, Came::Tried(Turn::More)),
-        (V0, Act::Share, held(WRITER)),
-        (VM, Act::GiveBack, Came::GivenBack),
-        (VM, Act::Exclude, held(1)),
-        // It added itself after the other reader.
-        (V1, Act::Share, held(WRITER + 1)),
-        (VM, Act::Exclude, GOT),
-    ];
-    expect(&rt, (first_other(rt.alloc(), &rows)?.0, true));
-    Ok(())
+    Came::not_allowed()
 }
 
 // A writer's try through a seat that tells no world, where the hand allows it.
-fn exclusive_untold_by(machine: &mut PlainMachine, actor: Actor) -> Result<Came, Fail> {
-    expect_actor(machine, actor)?;
-    let mut seat = UntoldSeat {
-        seat: machine.as_actor(actor),
-    };
-    seat.reserve()?;
-    if allows(seat.hand(), PartStep::Exclude, 0) {
-        Ok(Came::Tried(Turn::Done(exclusive_untold(&mut seat))))
-    } else {
-        Ok(Came::NotAllowed)
+fn exclude_untold(s: &mut UntoldSeat<'_>) -> Came {
+    if s.reserve().is_err() {
+        return Came::no_memory();
+    }
+    if !allows(s.hand(), PartStep::Exclude, 0) {
+        return Came::not_allowed();
+    }
+    tried(exclusive_untold(s))
+}
+
+// `share`: the next turn of a reader's try. `exclude`: a writer's try. `give-back`. A try that finds others in the
+// lock's word says so: its bit 63 is a writer.
+#[derive(Drop)]
+struct Locks;
+
+impl Acts for Locks {
+    fn act(&mut self, machine: &mut PlainMachine, actor: Actor, word: &str, _number: u64) -> Came {
+        let mut seat = machine.as_actor(actor);
+        match word {
+            "share" => share(&mut seat),
+            "exclude" => exclude(&mut seat),
+            "give-back" => give_back(&mut seat),
+            _ => Came::unknown(),
+        }
     }
 }
 
-// A reader's try through such a seat.
-fn shared_untold_by(machine: &mut PlainMachine, actor: Actor) -> Result<Came, Fail> {
-    expect_actor(machine, actor)?;
-    let mut seat = UntoldSeat {
-        seat: machine.as_actor(actor),
-    };
-    Ok(shared(&mut seat)?)
+// `share` and `exclude` through a seat that tells no world.
+#[derive(Drop)]
+struct UntoldLocks;
+
+impl Acts for UntoldLocks {
+    fn act(&mut self, machine: &mut PlainMachine, actor: Actor, word: &str, _number: u64) -> Came {
+        let mut seat = UntoldSeat {
+            seat: machine.as_actor(actor),
+        };
+        match word {
+            "share" => share(&mut seat),
+            "exclude" => exclude_untold(&mut seat),
+            _ => Came::unknown(),
+        }
+    }
 }
 
-// Whether two writers, a reader and another writer find what they are to find, through such seats: the last one
-// comes after the reader has added itself.
-fn untold_tries(alloc: Global) -> Result<bool, Fail> {
-    let mut machine = machine_of(alloc, HEAD, "")?;
-    let first = exclusive_untold_by(&mut machine, V0)? == GOT;
-    let second = exclusive_untold_by(&mut machine, V1)? == held(WRITER);
-    let reader = shared_untold_by(&mut machine, V1)? == Came::Tried(Turn::More);
-    let last = exclusive_untold_by(&mut machine, VM)? == held(WRITER + 1);
-    Ok(first && second && reader && last)
+// Two readers share the lock, and a writer finds both of them. The lock's word is word 6.
+const READERS: &str = "\
+==
+v0 share: got
+v1 share: got
+vm exclude: held 2
+v0 give-back: given back
+vm exclude: held 1
+v1 give-back: given back
+vm exclude: got
+machine word 6: 0x8000000000000000
+";
+
+#[test]
+fn readers_share_it(rt: HostRuntime) -> Result<(), Fail> {
+    expect_all(&rt, rt.alloc(), HEAD, &mut Locks, READERS, 8)
 }
 
-// The parts do the same at a seat that tells no world.
+// A reader that finds a writer takes itself out again, and answers what it found.
+const A_WRITER: &str = "\
+==
+vm exclude: got
+v0 share: more
+v1 share: more
+v0 share: held writer + 0
+vm give-back: given back
+vm exclude: held 1
+// It added itself after the other reader.
+v1 share: held writer + 1
+vm exclude: got
+";
+
+#[test]
+fn a_writer_keeps_readers_out(rt: HostRuntime) -> Result<(), Fail> {
+    expect_all(&rt, rt.alloc(), HEAD, &mut Locks, A_WRITER, 8)
+}
+
+// The parts do the same at a seat that tells no world. The last writer comes after the reader has added itself.
+const UNTOLD: &str = "\
+==
+v0 exclude: got
+v1 exclude: held writer + 0
+v1 share: more
+vm exclude: held writer + 1
+";
+
 #[test]
 fn untold_seats_take_the_lock(rt: HostRuntime) -> Result<(), Fail> {
-    expect(&rt, (None, untold_tries(rt.alloc())?));
-    Ok(())
+    expect_all(&rt, rt.alloc(), HEAD, &mut UntoldLocks, UNTOLD, 4)
 }

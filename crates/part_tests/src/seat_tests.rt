@@ -1,17 +1,16 @@
 //! Steps through the bound, at the machine.
-ghost use Rattle.std.specs.Prelude.{◌≡◌, ◌<◌, length};
+ghost use Rattle.std.specs.Prelude.{◌≡◌, ◌<◌, length, true};
 ghost use Rattle.core_views.specs.Sizes.{index_of};
 ghost use Rattle.mmu_core.specs.machine.Enabled.{mmu};
 ghost use Rattle.mmu_core.specs.machine.Machine.{Leads};
 ghost use Rattle.step_seats.specs.Machines.{world_in};
 ghost use Rattle.step_seats.specs.Told.{WorldLeadsOn};
 
-use crate::expected::expect;
-use crate::{HEAD, expect_actor, first_other, machine_of};
-use core_views::{Actor, Answer, NoMemory};
+use crate::expected::expect_all;
+use crate::{Acts, Came, HEAD};
+use core_views::{Actor, Answer, Hand, NoMemory};
 use mmu_core::rests;
 use mmu_steps::next_kind;
-use std::alloc::Global;
 use std::test::Fail;
 use step_seats::{PlainMachine, Stepper};
 
@@ -40,51 +39,87 @@ fn step_of(machine: &mut PlainMachine, actor: Actor) -> Result<Option<u64>, NoMe
     step(&mut seat)
 }
 
-// What the steps of the first processor's line find, 64 of them at most.
-fn run_line(alloc: Global, machine: &mut PlainMachine) -> Result<Vec<u64>, Fail> {
-    let mut found = Vec::new(alloc);
-    for _ in 0..64 {
-        expect_actor(machine, Actor::Vcpu(0))?;
-        match step_of(machine, Actor::Vcpu(0))? {
-            Some(value) => found.push(value)?,
-            None => break,
+// Whether the machine has this actor.
+fn has_actor(machine: &PlainMachine, actor: Actor) -> bool
+    ensures { result ≡ true → index_of machine.now.sizes actor < length machine.now.hands }
+{
+    let sizes = machine.sizes();
+    sizes.index_of(actor) < sizes.actors()
+}
+
+// A step of the actor's line: what it found, where one is left.
+fn next(machine: &mut PlainMachine, actor: Actor) -> Option<u64> {
+    if has_actor(machine, actor) {
+        step_of(machine, actor).unwrap_or(None)
+    } else {
+        None
+    }
+}
+
+// So many steps of the actor's line, while each finds the same: how many they are, and what they found. One that
+// finds another thing is not counted.
+fn run(machine: &mut PlainMachine, actor: Actor, most: u64) -> Came {
+    let first = next(machine, actor);
+    let Some(found) = first else {
+        return Came::only("none left");
+    };
+    for made in 1..most {
+        if next(machine, actor) != first {
+            return Came::two("", made, found);
         }
     }
-    Ok(found)
+    Came::two("", most, found)
 }
 
-// The answers of the first processor: how many, and whether the first is an MMIO exit.
-fn answered(machine: &mut PlainMachine) -> Result<(usize, bool), Fail> {
-    expect_actor(machine, Actor::Vcpu(0))?;
-    let seat = machine.as_actor(Actor::Vcpu(0));
-    let answers = seat.hand().answers();
-    let mmio = answers
-        .first()
-        .is_some_and(|line| line.answer == Answer::Mmio);
-    Ok((answers.len(), mmio))
+// The answers of the actor: how many, and whether the first is an MMIO exit.
+fn answered(hand: &Hand) -> Came {
+    let answers = hand.answers();
+    let words = match answers.first() {
+        Some(line) if matches!(line.answer, Answer::Mmio) => "mmio",
+        _ => "another",
+    };
+    Came::one(words, answers.len() as u64)
 }
 
-// Whether its steps found these words, and left the machine with these.
-fn finds_no_slot(alloc: Global, wanted: &[u64], all: &[(usize, u64)]) -> Result<bool, Fail> {
-    let mut machine = machine_of(alloc, HEAD, "v0 read 0x5008\n")?;
-    let found = run_line(alloc, &mut machine)?;
-    let answers = answered(&mut machine)?;
-    let is_told = machine.sizes().actors() == 4 && answers == (1, true);
-    let words = 12 + 1 + 3 + 2 + 70 + 4 + 2048 + 260;
-    let is_left = first_other(machine, all) == (words, None);
-    Ok(is_told && is_left && found.as_slice() == wanted)
+// `steps N`: how many steps of the actor's line, N at most, find the same, one after another, and what they find.
+// `answers`: the first of its answers, and how many there are. `actors`: how many there are.
+#[derive(Drop)]
+struct Steps;
+
+impl Acts for Steps {
+    fn act(&mut self, machine: &mut PlainMachine, actor: Actor, word: &str, number: u64) -> Came {
+        match word {
+            "steps" => run(machine, actor, number),
+            "answers" => answered(machine.as_actor(actor).hand()),
+            "actors" => Came::one("", machine.sizes().actors()),
+            _ => Came::unknown(),
+        }
+    }
 }
 
 // An access of a guest frame that no slot has: it enters the guest, finds no entry
 // in the root, and leaves; its fault takes the sequence number, and finds no slot
-// in the set of pool page 1. Each step answers what it found.
+// in the set of pool page 1. Each step answers what it found. There are
+// 12 + 1 + 3 + 2 + 70 + 4 + 2048 + 260 words.
+const NO_SLOT: &str = "\
+v0 read 0x5008
+==
+v0 steps 4: 4 0
+v0 steps 1: 1 3
+v0 steps 2: 2 0
+v0 steps 1: 1 1
+v0 steps 32: 32 0
+v0 steps 24: 1 2
+v0 answers: mmio 1
+vm actors: 4
+machine word 1: 1
+machine word 8: 0
+machine word 12: 12
+machine word 14: 0xffffffffffffffc0
+machine words: 2400
+";
+
 #[test]
 fn an_access_without_a_slot(rt: HostRuntime) -> Result<(), Fail> {
-    let mut wanted = [0; 41];
-    wanted[4] = 3;
-    wanted[7] = 1;
-    wanted[40] = 2;
-    let all = [(1, 1), (8, 0), (12, 0xc), (14, 0xffff_ffff_ffff_ffc0)];
-    expect(&rt, (None, finds_no_slot(rt.alloc(), &wanted, &all)?));
-    Ok(())
+    expect_all(&rt, rt.alloc(), HEAD, &mut Steps, NO_SLOT, 13)
 }

@@ -1,91 +1,105 @@
 //! A snapshot and a check at a machine that is at its start, and checks at numbers.
-use crate::expected::expect;
-use crate::{HEAD, expect_actor, machine_of, take_step};
-use core_views::{Actor, CheckStage, Hold, Invalidated, Invalidations, NoMemory};
+use crate::expected::expect_all;
+use crate::{Acts, Came, HEAD, make};
+use core_views::{Actor, CheckStage, Hold, Invalidated, Invalidations};
 use invalidate_seq::{Check, Checked, Snapshot};
 use mmu_steps::allows;
 use part_steps::PartStep;
-use std::alloc::Global;
 use std::test::Fail;
 use step_seats::{PlainMachine, Stepper, Turn};
 
-// A snapshot by an actor that doesn't hold the lock, where the hand allows it.
-fn snapshot<S: Stepper>(seat: &mut S) -> Result<Option<Turn<u64>>, NoMemory> {
-    seat.reserve()?;
-    let is_loose = seat.hand().topics().hold == Hold::Loose;
-    let allowed = allows(seat.hand(), PartStep::Seq, 0) && is_loose;
-    Ok(if allowed {
-        Some(Snapshot::new().turn(seat, 0))
-    } else {
-        None
-    })
+fn checked(turn: &Turn<Checked>) -> Came {
+    match turn {
+        Turn::Done(Checked::Fresh) => Came::only("fresh"),
+        Turn::Done(Checked::Open { count, start, end }) => Came::three(
+            "open", *count, *start, *end,
+        ),
+        Turn::Done(Checked::Moved { snapshot, seq }) => Came::two("moved", *snapshot, *seq),
+        _ => Came::turn(turn),
+    }
 }
 
-// What the first turn of a check says, the check after it, and what the last turn says.
-type Said = (Turn<Checked>, Check, Turn<Checked>);
+// A snapshot by an actor that doesn't hold the lock, where the hand allows it.
+fn snapshot<S: Stepper>(seat: &mut S) -> Came {
+    if seat.reserve().is_err() {
+        return Came::no_memory();
+    }
+    let is_loose = seat.hand().topics().hold == Hold::Loose;
+    if !allows(seat.hand(), PartStep::Seq, 0) || !is_loose {
+        return Came::not_allowed();
+    }
+    match Snapshot::new().turn(seat, 0) {
+        Turn::Done(number) => Came::one("done", number),
+        turn => Came::turn(&turn),
+    }
+}
 
-// The first turn of a check by an actor that shares the lock and has a snapshot, and then its
-// turn at the sequence number, where the hand allows their steps.
-fn check_twice<S: Stepper>(seat: &mut S, gfn: u64) -> Result<Option<Said>, NoMemory> {
-    let mut job = Check::new(gfn);
-    seat.reserve()?;
+// What the last turn of a check says, by an actor that shares the lock and has a snapshot, where the hand allows its
+// steps. The first turn says that there is more, and goes on to the sequence number.
+fn check<S: Stepper>(seat: &mut S, job: &mut Check, gfn: u64) -> Came {
+    if seat.reserve().is_err() {
+        return Came::no_memory();
+    }
     let shares = seat.hand().topics().hold == Hold::Shared;
     let has_snapshot = seat.hand().topics().invalidations.snapshot.is_some();
-    let allowed = allows(seat.hand(), PartStep::Count, 0) && shares && has_snapshot;
-    if !allowed {
-        return Ok(None);
+    if !allows(seat.hand(), PartStep::Count, 0) || !shares || !has_snapshot {
+        return Came::not_allowed();
     }
+    *job = Check::new(gfn);
     let first = job.turn(seat, 0);
-    let check = job;
-    seat.reserve()?;
-    let goes_on = first == Turn::More && job.stage == CheckStage::Seq;
-    let allowed = allows(seat.hand(), PartStep::Seq, 0) && goes_on;
-    if !allowed {
-        return Ok(None);
+    if seat.reserve().is_err() {
+        return Came::no_memory();
     }
-    let last = job.turn(seat, 0);
-    Ok(Some((first, check, last)))
+    if !matches!(first, Turn::More) || job.stage != CheckStage::Seq {
+        return Came::only("ended with the count");
+    }
+    if !allows(seat.hand(), PartStep::Seq, 0) {
+        return Came::not_allowed();
+    }
+    checked(&job.turn(seat, 0))
 }
 
-// The same by the first processor.
-
-fn snapshot_by_v0(machine: &mut PlainMachine) -> Result<Option<Turn<u64>>, Fail> {
-    expect_actor(machine, Actor::Vcpu(0))?;
-    let mut seat = machine.as_actor(Actor::Vcpu(0));
-    Ok(snapshot(&mut seat)?)
+// `snapshot`, `share`. `check N`: both turns of a check of a guest frame, of which the first one goes on to the sequence
+// number: what the second one says. `of`: the guest frame of the last check.
+#[derive(Drop)]
+struct Checks {
+    check: Check,
 }
 
-fn check_by_v0(machine: &mut PlainMachine, gfn: u64) -> Result<Option<Said>, Fail> {
-    expect_actor(machine, Actor::Vcpu(0))?;
-    let mut seat = machine.as_actor(Actor::Vcpu(0));
-    Ok(check_twice(&mut seat, gfn)?)
-}
-
-// Whether a snapshot and a check at the start of a machine say that nothing has moved and nothing is open.
-fn is_fresh_at_the_start(alloc: Global) -> Result<bool, Fail> {
-    let mut machine = machine_of(alloc, HEAD, "")?;
-    let taken = snapshot_by_v0(&mut machine)?;
-    take_step(&mut machine, Actor::Vcpu(0), PartStep::Share)?;
-    let said = check_by_v0(&mut machine, 5)?;
-    let check = Check {
-        gfn: 5,
-        stage: CheckStage::Seq,
-    };
-    let want = (Turn::More, check, Turn::Done(Checked::Fresh));
-    Ok(taken == Some(Turn::Done(0)) && said == Some(want))
+impl Acts for Checks {
+    fn act(&mut self, machine: &mut PlainMachine, actor: Actor, word: &str, number: u64) -> Came {
+        let mut seat = machine.as_actor(actor);
+        match word {
+            "share" => make(&mut seat, PartStep::Share),
+            "snapshot" => snapshot(&mut seat),
+            "check" => check(&mut seat, &mut self.check, number),
+            "of" => Came::one("frame", self.check.gfn),
+            _ => Came::unknown(),
+        }
+    }
 }
 
 // No invalidation is open at the start, and the sequence number is 0: a check
 // loads these two words, and finds nothing.
+const AT_THE_START: &str = "\
+==
+v0 snapshot: done 0
+v0 share: made
+v0 check 5: fresh
+v0 of: frame 5
+";
+
 #[test]
 fn finds_nothing_at_the_start(rt: HostRuntime) -> Result<(), Fail> {
-    expect(&rt, (None, is_fresh_at_the_start(rt.alloc())?));
-    Ok(())
+    let mut checks = Checks {
+        check: Check::new(0),
+    };
+    expect_all(&rt, rt.alloc(), HEAD, &mut checks, AT_THE_START, 4)
 }
 
-// The frame after the range isn't in it.
-#[test]
-fn answers_by_the_numbers_kept(rt: HostRuntime) {
+// What a check of the guest frame says at the end of the range 5 to 9, or at the sequence number, where the numbers
+// kept are these.
+fn said_at(stage: CheckStage, gfn: u64) -> Option<Turn<Checked>> {
     let kept = Invalidations {
         snapshot: Some(7),
         count: 2,
@@ -101,29 +115,52 @@ fn answers_by_the_numbers_kept(rt: HostRuntime) {
         },
         raised: false,
     };
-    let open = Turn::Done(Checked::Open {
-        count: 2,
-        start: 5,
-        end: 9,
-    });
-    for (gfn, want) in [(4, Turn::More), (5, open), (8, open), (9, Turn::More)] {
-        let mut check = Check {
-            gfn,
-            stage: CheckStage::End,
-        };
-        assert_eq!(rt; check.go_on(&kept), want, "at {gfn}");
+    let mut check = Check { gfn, stage };
+    match stage {
+        CheckStage::End => Some(check.go_on(&kept)),
+        CheckStage::Seq if gfn >= 9 => {
+            let all = Invalidations {
+                checked: core_views::Checked::All,
+                ..kept
+            };
+            Some(check.go_on(&all))
+        }
+        _ => None,
     }
-    let mut check = Check {
-        gfn: 9,
-        stage: CheckStage::Seq,
-    };
-    let moved = Checked::Moved {
-        snapshot: 7,
-        seq: 8,
-    };
-    let all = Invalidations {
-        checked: core_views::Checked::All,
-        ..kept
-    };
-    assert_eq!(rt; check.go_on(&all), Turn::Done(moved));
+}
+
+fn said(stage: CheckStage, gfn: u64) -> Came {
+    match said_at(stage, gfn) {
+        Some(turn) => checked(&turn),
+        None => Came::not_allowed(),
+    }
+}
+
+// `end N` and `number N`: a check of a guest frame at numbers, of no actor.
+#[derive(Drop)]
+struct Numbers;
+
+impl Acts for Numbers {
+    fn act(&mut self, _machine: &mut PlainMachine, _actor: Actor, word: &str, number: u64) -> Came {
+        match word {
+            "end" => said(CheckStage::End, number),
+            "number" => said(CheckStage::Seq, number),
+            _ => Came::unknown(),
+        }
+    }
+}
+
+// The frame after the range isn't in it.
+const BY_NUMBERS: &str = "\
+==
+v0 end 4: more
+v0 end 5: open 2 5 9
+v0 end 8: open 2 5 9
+v0 end 9: more
+v0 number 9: moved 7 8
+";
+
+#[test]
+fn answers_by_the_numbers_kept(rt: HostRuntime) -> Result<(), Fail> {
+    expect_all(&rt, rt.alloc(), HEAD, &mut Numbers, BY_NUMBERS, 5)
 }

@@ -1,78 +1,86 @@
 //! A virtual processor goes into the guest and out of it, at a machine.
-use crate::expected::expect;
-use crate::{HEAD, expect_actor, last_word, machine_of};
-use core_views::{Actor, NoMemory};
+ghost use Rattle.std.specs.Prelude.{◌≡◌, ◌<◌, true};
+ghost use Rattle.mmu_core.specs.machine.MayMake.{MayMake};
+
+use crate::expected::expect_all;
+use crate::{Acts, Came, HEAD};
+use core_views::Actor;
 use mmu_steps::allows;
 use part_steps::PartStep;
-use std::alloc::Global;
 use std::test::Fail;
 use step_seats::{PlainMachine, Stepper};
 use vcpu_tlb::{Entered, enter, leave, paused};
 
-// What comes of a step.
-#[derive(Debug, PartialEq, Drop)]
-enum Came {
-    // Whether processors are to stay outside.
-    Paused(bool),
-    Entered(Entered),
-    Left,
-    // The hand doesn't allow it.
-    NotAllowed,
+// Whether the seat may make the step, for which it has taken room.
+fn may<S: Stepper>(seat: &mut S, step: PartStep, note: u64) -> bool
+    ensures may { result ≡ true → MayMake step note (S.seat seat.new).hand }
+    ensures room { result ≡ true → 0 < (S.seat seat.new).room }
+{
+    seat.reserve().is_ok() && allows(seat.hand(), step, note)
 }
 
-// The step by its part, where the hand allows it.
-fn go<S: Stepper>(seat: &mut S, step: PartStep, note: u64) -> Result<Came, NoMemory> {
-    seat.reserve()?;
-    if !allows(seat.hand(), step, note) {
-        return Ok(Came::NotAllowed);
+// Whether processors are to stay outside.
+fn pause<S: Stepper>(seat: &mut S, note: u64) -> &'static str {
+    if !may(seat, PartStep::Pause, note) {
+        return "not allowed, cached";
     }
-    Ok(match step {
-        PartStep::Pause => Came::Paused(paused(seat, note)),
-        PartStep::Enter => Came::Entered(enter(seat, note)),
-        PartStep::Leave => {
-            leave(seat, note);
-            Came::Left
-        }
-        _ => Came::NotAllowed,
-    })
-}
-
-// What comes of the first processor's step, and how many translations it has cached then.
-fn goes(machine: &mut PlainMachine, step: PartStep, note: u64) -> Result<(Came, usize), Fail> {
-    expect_actor(machine, Actor::Vcpu(0))?;
-    let mut seat = machine.as_actor(Actor::Vcpu(0));
-    let came = go(&mut seat, step, note)?;
-    Ok((came, seat.hand().cache().len()))
-}
-
-// The first of these steps, one after another, of which something else comes, or with which the processor has a
-// translation cached; and whether its state word is 0 at last.
-fn first_other(
-    alloc: Global,
-    rows: &[(PartStep, u64, Came)],
-) -> Result<(Option<usize>, bool), Fail> {
-    let mut machine = machine_of(alloc, HEAD, "")?;
-    for (i, (step, note, want)) in rows.iter().enumerate() {
-        let (came, cached) = goes(&mut machine, *step, *note)?;
-        if came != *want || cached != 0 {
-            return Ok((Some(i), false));
-        }
+    if paused(seat, note) {
+        "paused, cached"
+    } else {
+        "not paused, cached"
     }
-    Ok((None, last_word(machine, 8) == Some(0)))
+}
+
+fn go_in<S: Stepper>(seat: &mut S, note: u64) -> &'static str {
+    if !may(seat, PartStep::Enter, note) {
+        return "not allowed, cached";
+    }
+    match enter(seat, note) {
+        Entered::In => "in, cached",
+        Entered::Flushed => "flushed, cached",
+    }
+}
+
+fn go_out<S: Stepper>(seat: &mut S, note: u64) -> &'static str {
+    if !may(seat, PartStep::Leave, note) {
+        return "not allowed, cached";
+    }
+    leave(seat, note);
+    "left, cached"
+}
+
+// `pause`, `enter` and `leave`: the step by its part with this note, where the hand allows it, and how many
+// translations the processor has cached then.
+#[derive(Drop)]
+struct Entries;
+
+impl Acts for Entries {
+    fn act(&mut self, machine: &mut PlainMachine, actor: Actor, word: &str, number: u64) -> Came {
+        let mut seat = machine.as_actor(actor);
+        let words = match word {
+            "pause" => pause(&mut seat, number),
+            "enter" => go_in(&mut seat, number),
+            "leave" => go_out(&mut seat, number),
+            _ => "no such act",
+        };
+        Came::one(words, seat.hand().cache().len() as u64)
+    }
 }
 
 // Virtual processor 0 looks at the pause, enters and leaves. No step asks for a flush, so
-// that `Flushed` is never reached.
+// that `flushed` is never reached. Its state word is word 8.
+const IN_AND_OUT: &str = "\
+==
+v0 pause 0: not paused, cached 0
+v0 leave 0: not allowed, cached 0
+v0 enter 1: in, cached 0
+v0 enter 0: not allowed, cached 0
+v0 leave 0: left, cached 0
+v0 leave 0: not allowed, cached 0
+machine word 8: 0
+";
+
 #[test]
 fn enters_and_leaves(rt: HostRuntime) -> Result<(), Fail> {
-    let rows = [
-        (PartStep::Pause, 0, Came::Paused(false)),
-        (PartStep::Leave, 0, Came::NotAllowed),
-        (PartStep::Enter, 1, Came::Entered(Entered::In)),
-        (PartStep::Enter, 0, Came::NotAllowed),
-        (PartStep::Leave, 0, Came::Left),
-        (PartStep::Leave, 0, Came::NotAllowed),
-    ];
-    expect(&rt, first_other(rt.alloc(), &rows)?);
-    Ok(())
+    expect_all(&rt, rt.alloc(), HEAD, &mut Entries, IN_AND_OUT, 7)
 }

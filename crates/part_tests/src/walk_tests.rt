@@ -1,61 +1,85 @@
 //! Walks at a machine that is at its start.
-use crate::expected::expect;
-use crate::{HEAD, expect_actor, machine_of, take_step};
-use core_views::{Actor, NoMemory, Stay};
+use crate::expected::expect_all;
+use crate::{Acts, Came, HEAD, make};
+use core_views::{Actor, Stay};
 use mmu_steps::allows;
 use part_steps::PartStep;
-use std::alloc::Global;
 use std::test::Fail;
 use step_seats::{PlainMachine, Stepper, Turn};
 use tdp_walk::{Walk, Walked};
 
+// What a turn said.
+fn said(turn: &Turn<Walked>) -> Came {
+    match turn {
+        Turn::Done(Walked::Absent { level }) => Came::one("absent", *level as u64),
+        Turn::Done(Walked::Leaf { .. }) => Came::only("leaf"),
+        Turn::Done(Walked::Frozen { .. }) => Came::only("frozen"),
+        _ => Came::turn(turn),
+    }
+}
+
 // The next turn of the walk, where the hand allows its step.
-fn turn<S: Stepper>(walk: &mut Walk, seat: &mut S) -> Result<Option<Turn<Walked>>, NoMemory> {
-    seat.reserve()?;
+fn go_on<S: Stepper>(walk: &mut Walk, seat: &mut S) -> Came {
+    if seat.reserve().is_err() {
+        return Came::no_memory();
+    }
     let in_section = seat.hand().topics().stay == Stay::Section;
     if walk.gfn >= 1 << 36 {
-        return Ok(None);
+        return Came::not_allowed();
     }
     let allowed = if walk.rooted {
         allows(seat.hand(), PartStep::Walk(walk.gfn), 0)
     } else {
         allows(seat.hand(), PartStep::Root, 0) && in_section
     };
-    Ok(if allowed {
-        Some(walk.turn(seat, 0))
-    } else {
-        None
-    })
+    if !allowed {
+        return Came::not_allowed();
+    }
+    said(&walk.turn(seat, 0))
 }
 
-// What the next turn of a walk by the first processor, in its section, said; and the level,
-// the root and the entry that the walk has come to.
-fn go_on(
-    machine: &mut PlainMachine,
-    walk: &mut Walk,
-) -> Result<(Option<Turn<Walked>>, u8, u64, u64), Fail> {
-    expect_actor(machine, Actor::Vcpu(0))?;
-    let mut seat = machine.as_actor(Actor::Vcpu(0));
-    let said = turn(walk, &mut seat)?;
+// The level, the root and the entry that the walk has come to.
+fn place<S: Stepper>(seat: &S) -> Came {
     let held = seat.hand().topics().walk;
-    Ok((said, held.level, held.root, held.entry))
+    Came::three(
+        "level, root and entry",
+        held.level as u64,
+        held.root,
+        held.entry,
+    )
 }
 
-// Whether a walk of the first processor finds nothing in its second turn, at level 4.
-fn finds_no_entry(alloc: Global) -> Result<bool, Fail> {
-    let mut machine = machine_of(alloc, HEAD, "")?;
-    take_step(&mut machine, Actor::Vcpu(0), PartStep::Begin)?;
-    let mut walk = Walk::new(5);
-    let first = go_on(&mut machine, &mut walk)?;
-    let second = go_on(&mut machine, &mut walk)?;
-    let absent = Turn::Done(Walked::Absent { level: 4 });
-    Ok(first == (Some(Turn::More), 4, 0, 0) && second == (Some(absent), 4, 0, 0))
+// `begin`. `walk`: the next turn of the walk. `at`: where the walk has come to.
+#[derive(Drop)]
+struct Walks {
+    walk: Walk,
+}
+
+impl Acts for Walks {
+    fn act(&mut self, machine: &mut PlainMachine, actor: Actor, word: &str, _number: u64) -> Came {
+        let mut seat = machine.as_actor(actor);
+        match word {
+            "begin" => make(&mut seat, PartStep::Begin),
+            "walk" => go_on(&mut self.walk, &mut seat),
+            "at" => place(&seat),
+            _ => Came::unknown(),
+        }
+    }
 }
 
 // The root of a machine at its start is pool page 0, and none of its entries is
-// present: a walk ends in its second turn, at level 4.
+// present: a walk to guest frame 5 ends in its second turn, at level 4.
+const EMPTY_ROOT: &str = "\
+==
+v0 begin: made
+v0 walk: more
+v0 at: level, root and entry 4 0 0
+v0 walk: absent 4
+v0 at: level, root and entry 4 0 0
+";
+
 #[test]
 fn ends_at_the_empty_root(rt: HostRuntime) -> Result<(), Fail> {
-    expect(&rt, (None, finds_no_entry(rt.alloc())?));
-    Ok(())
+    let mut walks = Walks { walk: Walk::new(5) };
+    expect_all(&rt, rt.alloc(), HEAD, &mut walks, EMPTY_ROOT, 5)
 }

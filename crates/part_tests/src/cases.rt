@@ -1,0 +1,297 @@
+//! Tables of acts, as text, and machines at which they are done. A table is the lines of a trace, a line `==`, and a
+//! row for each act, which says who does it, what it is, with a number or none, and after a `:` what comes of it.
+//! `machine word N` looks at a word of the machine, `machine zeros N` counts the words from there on that are 0, and
+//! a last row `machine words` has how many words there are. Numbers above 65535 are told in sixteens. Lines that
+//! begin with `//` say what the rows are about.
+ghost use Rattle.std.specs.Prelude.{◌<◌, length};
+ghost use Rattle.core_views.specs.Sizes.{index_of};
+
+use crate::{expect_actor, machine_of};
+use core_views::{Actor, Seen};
+use mmu_steps::allows;
+use part_steps::{PartStep, map_of};
+use std::alloc::Global;
+use std::test::Fail;
+use step_seats::{PlainMachine, Stepper, Turn, make_part};
+
+/// What comes of an act: some words, and up to four numbers after them.
+#[derive(Clone, Copy, Drop)]
+pub struct Came {
+    words: &'static str,
+    numbers: [u64; 4],
+    count: usize,
+}
+
+impl Came {
+    /// These words.
+    pub fn only(words: &'static str) -> Came {
+        Came {
+            words,
+            numbers: [0; 4],
+            count: 0,
+        }
+    }
+
+    /// These words, and a number.
+    pub fn one(words: &'static str, number: u64) -> Came {
+        Came {
+            words,
+            numbers: [number, 0, 0, 0],
+            count: 1,
+        }
+    }
+
+    /// These words, and two numbers.
+    pub fn two(words: &'static str, first: u64, second: u64) -> Came {
+        Came {
+            words,
+            numbers: [first, second, 0, 0],
+            count: 2,
+        }
+    }
+
+    /// These words, and three numbers.
+    pub fn three(words: &'static str, first: u64, second: u64, third: u64) -> Came {
+        Came {
+            words,
+            numbers: [first, second, third, 0],
+            count: 3,
+        }
+    }
+
+    /// These words, and four numbers.
+    pub fn four(words: &'static str, first: u64, second: u64, third: u64, fourth: u64) -> Came {
+        Came {
+            words,
+            numbers: [first, second, third, fourth],
+            count: 4,
+        }
+    }
+
+    /// The hand doesn't allow the step.
+    pub fn not_allowed() -> Came {
+        Came::only("not allowed")
+    }
+
+    /// No memory is left for the act.
+    pub fn no_memory() -> Came {
+        Came::only("no memory")
+    }
+
+    /// There is no such act.
+    pub fn unknown() -> Came {
+        Came::only("no such act")
+    }
+
+    /// What a turn said: a wait has the word that it found in its way, and that word's value.
+    pub fn turn<T: Drop>(turn: &Turn<T>) -> Came {
+        match turn {
+            Turn::More => Came::only("more"),
+            Turn::Wait(Seen { word, value }) => Came::two("wait", *word as u64, *value),
+            Turn::Retry(_) => Came::only("retry"),
+            Turn::Done(_) => Came::only("done"),
+        }
+    }
+}
+
+/// Makes this step of a part, where the hand allows it.
+pub fn make<S: Stepper>(seat: &mut S, step: PartStep) -> Came {
+    if seat.reserve().is_err() {
+        return Came::no_memory();
+    }
+    if !allows(seat.hand(), step, 0) {
+        return Came::not_allowed();
+    }
+    let _ = make_part(seat, step, 0);
+    Came::only("made")
+}
+
+/// The acts that the rows of a table name.
+pub trait Acts {
+    /// The actor does what this word says, with the number after it, or 0: what comes of it.
+    fn act(&mut self, machine: &mut PlainMachine, actor: Actor, word: &str, number: u64) -> Came
+        requires there { index_of machine.old.sizes actor < length machine.old.hands };
+}
+
+// The number that is written there, in tens or, after `0x`, in sixteens.
+fn number(text: &str) -> Result<u64, Fail> {
+    let Some(digits) = text.strip_prefix("0x") else {
+        return Ok(text.parse::<u64>()?);
+    };
+    Ok(u64::from_str_radix(digits, 16)?)
+}
+
+fn push_number(text: &mut String, number: u64) -> Result<(), Fail> {
+    if number > 0xffff {
+        write!(text, " 0x{number:x}")?;
+    } else {
+        write!(text, " {number}")?;
+    }
+    Ok(())
+}
+
+// What came of an act, as a row has it after the `:`.
+fn text_of(alloc: Global, came: &Came) -> Result<String, Fail> {
+    let mut text = String::new(alloc);
+    if !came.words.is_empty() {
+        text.push(' ')?;
+        text.push_str(came.words)?;
+    }
+    for number in came.numbers.iter().take(came.count) {
+        push_number(&mut text, *number)?;
+    }
+    Ok(text)
+}
+
+fn actor_named(name: &str) -> Option<Actor> {
+    match name {
+        "v0" => Some(Actor::Vcpu(0)),
+        "v1" => Some(Actor::Vcpu(1)),
+        "h0" => Some(Actor::Host(0)),
+        "h1" => Some(Actor::Host(1)),
+        "vm" => Some(Actor::Manager),
+        _ => None,
+    }
+}
+
+fn word_at(machine: &PlainMachine, place: u64) -> u64 {
+    match u32::try_from(place) {
+        Ok(place) => machine.word(place),
+        Err(_) => 0,
+    }
+}
+
+fn zeros(machine: &PlainMachine, first: u64) -> u64 {
+    let total = map_of(&machine.sizes()).total() as u64;
+    let mut count = 0u64;
+    for place in first..total {
+        if word_at(machine, place) != 0 {
+            break;
+        }
+        count = count.saturating_add(1);
+    }
+    count
+}
+
+// What a row finds that looks at words of the machine.
+fn looked(machine: &PlainMachine, word: &str, place: u64) -> Came {
+    match word {
+        "word" => Came::one("", word_at(machine, place)),
+        "zeros" => Came::one("", zeros(machine, place)),
+        _ => Came::unknown(),
+    }
+}
+
+// What comes of an act with this number, by whom the row names.
+fn act_by<A: Acts>(
+    acts: &mut A,
+    machine: &mut PlainMachine,
+    name: &str,
+    word: &str,
+    number: u64,
+) -> Result<Came, Fail> {
+    let Some(actor) = actor_named(name) else {
+        return Ok(looked(machine, word, number));
+    };
+    expect_actor(machine, actor)?;
+    Ok(acts.act(machine, actor, word, number))
+}
+
+// The words of an act: who does it, what, and the number, if it has one.
+fn parts(act: &str) -> (&str, &str, &str) {
+    let Some((name, rest)) = act.split_once(' ') else {
+        return (act, "", "0");
+    };
+    match rest.split_once(' ') {
+        Some((word, number)) => (name, word, number),
+        None => (name, rest, "0"),
+    }
+}
+
+// The act is done: what comes of it.
+fn done<A: Acts>(
+    alloc: Global,
+    acts: &mut A,
+    machine: &mut PlainMachine,
+    act: &str,
+) -> Result<String, Fail> {
+    let (name, word, digits) = parts(act);
+    let came = act_by(acts, machine, name, word, number(digits)?)?;
+    text_of(alloc, &came)
+}
+
+// What the row says, and what came of it.
+fn told(alloc: Global, row: &str, came: &str) -> Result<String, Fail> {
+    Ok(format!(in alloc; "{row}, but it came:{came}")?)
+}
+
+// The act of a row and what is to come of it, but of a note.
+fn act_of(row: &str) -> Option<(&str, &str)> {
+    if row.starts_with("//") {
+        None
+    } else {
+        row.split_once(':')
+    }
+}
+
+// How many acts, one after another, come out as they stand in their rows, and the first row that doesn't, if any.
+fn first_other_act<A: Acts>(
+    alloc: Global,
+    acts: &mut A,
+    machine: &mut PlainMachine,
+    rows: &str,
+) -> Result<(usize, String), Fail> {
+    let mut count = 0usize;
+    for row in rows.split('\n') {
+        if let Some((act, want)) = act_of(row) {
+            let came = done(alloc, acts, machine, act)?;
+            if came.as_str() != want {
+                return Ok((count, told(alloc, row, &came)?));
+            }
+            count = count.saturating_add(1);
+        }
+    }
+    Ok((count, String::new(alloc)))
+}
+
+// The parts of a table: the lines of the trace, the acts, and how many words there are, if it says so.
+fn parts_of(table: &str) -> (&str, &str, Option<&str>) {
+    let Some((lines, rest)) = table.split_once("==\n") else {
+        return (table, "", None);
+    };
+    match rest.split_once("machine words: ") {
+        Some((rows, words)) => (lines, rows, Some(words)),
+        None => (lines, rest, None),
+    }
+}
+
+// The same of the row that says how many words there are.
+fn counted(alloc: Global, machine: PlainMachine, want: &str) -> Result<(usize, String), Fail> {
+    let words = machine.into_closing().words.as_slice().len();
+    let came = format!(in alloc; "{words}\n")?;
+    if came.as_str() == want {
+        Ok((1, String::new(alloc)))
+    } else {
+        Ok((0, told(alloc, "machine words", &came)?))
+    }
+}
+
+/// How many rows of the table come out as they stand there, and the first one that doesn't, with what came of it.
+/// The trace of its machine has this header.
+pub fn first_other_row<A: Acts>(
+    alloc: Global,
+    head: &str,
+    acts: &mut A,
+    table: &str,
+) -> Result<(usize, String), Fail> {
+    let (lines, rows, words) = parts_of(table);
+    let mut machine = machine_of(alloc, head, lines)?;
+    let (done, other) = first_other_act(alloc, acts, &mut machine, rows)?;
+    match words {
+        Some(want) if other.is_empty() => {
+            let (one, other) = counted(alloc, machine, want)?;
+            Ok((done.saturating_add(one), other))
+        }
+        _ => Ok((done, other)),
+    }
+}
