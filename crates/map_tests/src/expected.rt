@@ -1,7 +1,19 @@
 //! What the tests of this crate expect.
+use part_tests::{Acts, first_other_row};
+use std::alloc::Global;
 use std::process::Abort;
+use std::test::Fail;
 
-/// No row of a table came out otherwise than it stands there, and this is so.
-pub fn expect<R: Abort>(rt: &R, found: (Option<usize>, bool)) {
-    assert_eq!(rt; found, (None, true));
+/// The table has so many rows, and each comes out as it stands there.
+pub fn expect_all<R: Abort, A: Acts>(
+    rt: &R,
+    alloc: Global,
+    head: &str,
+    acts: &mut A,
+    table: &str,
+    count: usize,
+) -> Result<(), Fail> {
+    let (rows, other) = first_other_row(alloc, head, acts, table)?;
+    assert_eq!(rt; (rows, other.as_str()), (count, ""));
+    Ok(())
 }

@@ -1,16 +1,15 @@
 //! Claims of frames by lines of two host threads, each of which moves a page, at a plain
 //! machine with 70 pages: word 1 of the map of frames has a bit for each frame after them.
-ghost use Rattle.std.specs.Prelude.{◌≡◌, IfOk};
+ghost use Rattle.std.specs.Prelude.{◌≡◌, IfSome};
 ghost use Rattle.mmu_core.specs.declared.claim.FreeMap.TheVariants.{Frames};
 ghost use Rattle.mmu_core.specs.lines.ClaimSteps.{claim_part};
 ghost use Rattle.mmu_core.specs.machine.MayMake.{MayMake};
 
-use crate::expected::expect;
-use core_views::{Actor, Answer, MapClaim, Refusal, Seen};
+use crate::expected::expect_all;
+use core_views::{Actor, Answer, Hand, MapClaim, Refusal};
 use mmu_core::FreeMap;
 use part_steps::PartStep;
-use part_tests::{expect_actor, is_next, last_word, machine_of, run_lines};
-use std::alloc::Global;
+use part_tests::{Acts, Came, is_next, make_steps};
 use std::test::Fail;
 use step_seats::{PlainMachine, Stepper, Turn};
 use table_pool::{Claim, Claimed};
@@ -26,15 +25,6 @@ const HEAD_OF_71: &str =
 const HEAD_OF_72: &str =
     "tdp 1 vcpus 1 workers 0 pages 70 frames 72 words 1 pool 4 cache 1 manual 0 hosts 0 35\n";
 
-const LINES: &str = "h0 move 5\nh1 move 40\n";
-
-// Where word 1 of the map of frames stands.
-const MAP: usize = 14;
-
-const H0: Actor = Actor::Host(0);
-
-const H1: Actor = Actor::Host(1);
-
 // The step of a claim of a frame.
 fn step_of(begun: bool, claim: &MapClaim) -> PartStep
     ensures { result ≡ claim_part Frames begun claim.now }
@@ -48,116 +38,134 @@ fn step_of(begun: bool, claim: &MapClaim) -> PartStep
 
 // Looks whether this is the next step of the seat's line; answers the note that it makes
 // then, which is 1 where the line may end with the step.
-fn expect_claim<S: Stepper>(seat: &S, begun: bool) -> Result<u64, Fail>
-    ensures { IfOk result (λ note. MayMake (claim_part Frames begun (S.seat seat.now).hand.topics.frames.claim) note (S.seat seat.now).hand) }
+fn claim_note<S: Stepper>(seat: &S, begun: bool) -> Option<u64>
+    ensures { IfSome result (λ note. MayMake (claim_part Frames begun (S.seat seat.now).hand.topics.frames.claim) note (S.seat seat.now).hand) }
 {
     let hand = seat.hand();
     let step = step_of(begun, &hand.topics().frames.claim);
     if is_next(hand, step, 0) {
-        return Ok(0);
+        return Some(0);
     }
     if is_next(hand, step, 1) {
-        return Ok(1);
+        return Some(1);
     }
-    Err(Fail::new("the line doesn't claim"))
+    None
 }
 
-fn claim_by<S: Stepper>(seat: &mut S, begun: bool) -> Result<Turn<Claimed>, Fail> {
-    seat.reserve()?;
-    let note = expect_claim(seat, begun)?;
+fn said(turn: &Turn<Claimed>) -> Came {
+    match turn {
+        Turn::Done(Claimed::Got(frame)) => Came::one("got", *frame),
+        Turn::Done(Claimed::Empty) => Came::only("empty"),
+        _ => Came::turn(turn),
+    }
+}
+
+// A turn of a claim, where it is the next step of the line.
+fn claim<S: Stepper>(seat: &mut S, begun: bool) -> Came {
+    if seat.reserve().is_err() {
+        return Came::no_memory();
+    }
+    let Some(note) = claim_note(seat, begun) else {
+        return Came::only("not next");
+    };
     let mut job = Claim {
         map: FreeMap::Frames,
         begun,
     };
-    Ok(job.turn(seat, note))
-}
-
-// One turn of the actor's claim.
-fn claim(machine: &mut PlainMachine, actor: Actor, begun: bool) -> Result<Turn<Claimed>, Fail> {
-    expect_actor(machine, actor)?;
-    let mut seat = machine.as_actor(actor);
-    claim_by(&mut seat, begun)
-}
-
-// After the look at the page, the first step of the line, a claim that loads both words of
-// the map: what its second turn says.
-fn claim_seen(machine: &mut PlainMachine, actor: Actor) -> Result<Turn<Claimed>, Fail> {
-    if run_lines(machine, actor, 1)? != 1 {
-        return Err(Fail::new("no line is left"));
-    }
-    if claim(machine, actor, false)? != Turn::More {
-        return Err(Fail::new("the first word isn't the last one"));
-    }
-    claim(machine, actor, true)
+    said(&job.turn(seat, note))
 }
 
 // The answer that the actor has given last.
-fn last_answer(machine: &mut PlainMachine, actor: Actor) -> Result<Answer, Fail> {
-    expect_actor(machine, actor)?;
-    let seat = machine.as_actor(actor);
-    let Some(last) = seat.hand().answers().last() else {
-        return Err(Fail::new("the line isn't answered"));
-    };
-    Ok(last.answer.clone()?)
+fn answer(hand: &Hand) -> Came {
+    match hand.answers().last() {
+        Some(last) if matches!(last.answer, Answer::Refused(Refusal::NoFrame)) => {
+            Came::only("refused no-frame")
+        }
+        Some(_) => Came::only("another"),
+        None => Came::only("none"),
+    }
 }
 
-// Whether h0's claim takes frame 70, and leaves one.
-fn takes_frame_70(alloc: Global) -> Result<bool, Fail> {
-    let mut machine = machine_of(alloc, HEAD_OF_72, LINES)?;
-    let seen = claim_seen(&mut machine, H0)?;
-    let tried = claim(&mut machine, H0, true)?;
-    let is_taken = seen == Turn::More && tried == Turn::Done(Claimed::Got(70));
-    Ok(is_taken && last_word(machine, MAP) == Some(0x80))
+// A step of the actor's line, where one is left: how many it made.
+fn step<S: Stepper>(seat: &mut S) -> Came {
+    match make_steps(seat, 1) {
+        Ok(made) => Came::one("made", made),
+        Err(_) => Came::no_memory(),
+    }
 }
 
-// Frame 70 is the lowest free one, and frame 71 is left.
+// `step`: a step of the actor's line, where one is left. `claim-anew`: the first turn of a claim. `claim`: the next
+// one. `answer`: what the actor has answered last.
+#[derive(Drop)]
+struct FrameClaims;
+
+impl Acts for FrameClaims {
+    fn act(&mut self, machine: &mut PlainMachine, actor: Actor, word: &str, _number: u64) -> Came {
+        let mut seat = machine.as_actor(actor);
+        match word {
+            "step" => step(&mut seat),
+            "claim-anew" => claim(&mut seat, false),
+            "claim" => claim(&mut seat, true),
+            "answer" => answer(seat.hand()),
+            _ => Came::unknown(),
+        }
+    }
+}
+
+// The first step of each line is the look at the page. A claim loads both words of the map, of which the second is
+// word 14 of all words.
+
+// Frame 70 is the lowest free one, and frame 71 is left: bit 7 of word 14.
+const LOWEST: &str = "\
+h0 move 5
+h1 move 40
+==
+h0 step: made 1
+h0 claim-anew: more
+h0 claim: more
+h0 claim: got 70
+machine word 14: 128
+";
+
 #[test]
 fn claims_the_lowest_frame(rt: HostRuntime) -> Result<(), Fail> {
-    expect(&rt, (None, takes_frame_70(rt.alloc())?));
-    Ok(())
-}
-
-fn is_refused_for_want_of_a_frame(alloc: Global) -> Result<bool, Fail> {
-    let mut machine = machine_of(alloc, HEAD_OF_70, LINES)?;
-    let seen = claim_seen(&mut machine, H0)?;
-    let answer = last_answer(&mut machine, H0)?;
-    let is_empty = seen == Turn::Done(Claimed::Empty);
-    Ok(is_empty && answer == Answer::Refused(Refusal::NoFrame))
+    expect_all(&rt, rt.alloc(), HEAD_OF_72, &mut FrameClaims, LOWEST, 5)
 }
 
 // Each frame has a page: the line is answered with the load of the last word.
+const NONE: &str = "\
+h0 move 5
+h1 move 40
+==
+h0 step: made 1
+h0 claim-anew: more
+h0 claim: empty
+h0 answer: refused no-frame
+";
+
 #[test]
 fn finds_no_frame(rt: HostRuntime) -> Result<(), Fail> {
-    expect(&rt, (None, is_refused_for_want_of_a_frame(rt.alloc())?));
-    Ok(())
+    expect_all(&rt, rt.alloc(), HEAD_OF_70, &mut FrameClaims, NONE, 4)
 }
 
-// After both threads have seen the map, the first of these claims that says something else.
-fn first_other(
-    alloc: Global,
-    rows: &[(Actor, Turn<Claimed>)],
-) -> Result<(Option<usize>, bool), Fail> {
-    let mut machine = machine_of(alloc, HEAD_OF_71, LINES)?;
-    let seen = claim_seen(&mut machine, H0)?;
-    let seen_by_another = claim_seen(&mut machine, H1)?;
-    let have_seen = seen == Turn::More && seen_by_another == Turn::More;
-    for (i, (actor, want)) in rows.iter().enumerate() {
-        if claim(&mut machine, *actor, true)? != *want {
-            return Ok((Some(i), have_seen));
-        }
-    }
-    Ok((None, have_seen))
-}
+// After both threads have seen the map, the only free frame is taken: the claim of the other one loads the word
+// again, and finds none.
+const LOST: &str = "\
+h0 move 5
+h1 move 40
+==
+h0 step: made 1
+h0 claim-anew: more
+h0 claim: more
+h1 step: made 1
+h1 claim-anew: more
+h1 claim: more
+h1 claim: got 70
+h0 claim: wait 14 0
+h0 claim: empty
+";
 
-// The only free frame is taken meanwhile: the claim loads the word again, and finds none.
 #[test]
 fn loses_a_frame_to_another(rt: HostRuntime) -> Result<(), Fail> {
-    let gone = Seen { word: 14, value: 0 };
-    let rows = [
-        (H1, Turn::Done(Claimed::Got(70))),
-        (H0, Turn::Wait(gone)),
-        (H0, Turn::Done(Claimed::Empty)),
-    ];
-    expect(&rt, first_other(rt.alloc(), &rows)?);
-    Ok(())
+    expect_all(&rt, rt.alloc(), HEAD_OF_71, &mut FrameClaims, LOST, 9)
 }

@@ -3,33 +3,15 @@ ghost use Rattle.std.specs.Prelude.{◌≡◌, ◌<◌};
 ghost use Rattle.core_views.specs.Sizes.{AreSizes};
 ghost use Rattle.host_map.specs.Touching.{touch_kind};
 
-use crate::expected::expect;
-use core_views::{Actor, HostLook, Kind, NoMemory, Op, Sizes, StepKind};
+use crate::expected::expect_all;
+use core_views::{Actor, Hand, HostLook, Kind, Op, Sizes, StepKind};
 use host_map::{Changed, bring_in, change, load, look, touch};
 use mmu_core::rests;
 use mmu_steps::{allows, next_kind, part_rests};
 use part_steps::{PartStep, map_of};
-use part_tests::{
-    HEAD_OF_POOL_8, expect_actor, first_other, go_to, is_next, machine_of, machine_with_slot,
-};
-use std::alloc::Global;
+use part_tests::{Acts, Came, HEAD_OF_POOL_8, go_to, is_next, make_steps};
 use std::test::Fail;
 use step_seats::{PlainMachine, Stepper};
-
-// The line that sets slot 0, of which guest frames 16 to 19 are host pages 64 to 67, and three
-// lines of v0 at word 1 of guest frame 18, which is host page 66. The add is one of -2.
-const TOUCHES: &str = "vm slot 0 16 4 64\nv0 write 0x12008 77\n\
-    v0 add 0x12008 0xfffffffffffffffe\nv0 read 0x12008\n";
-
-// The same slot, a read by each processor, and two lines of h0: the page of the reads is taken
-// away, and writes to it are allowed.
-const ABSENCE: &str =
-    "vm slot 0 16 4 64\nv0 read 0x12008\nv1 read 0x12008\nh0 evict 66\nh0 allow 66\n";
-
-// The host word of page 66, where it is present, and where it isn't.
-const PRESENT: u64 = 4096 * 66 + 7;
-
-const ABSENT: u64 = 4096 * 66 + 6;
 
 // The operation on a word of a frame, as the words of the machine see it.
 fn touch_kind(sizes: &Sizes, frame: u64, word: u8, op: Op) -> Kind
@@ -54,15 +36,12 @@ fn touch_kind(sizes: &Sizes, frame: u64, word: u8, op: Op) -> Kind
 }
 
 // Makes the steps of the seat's line until the next one is this operation, and
-// makes it: a read by `load`, the others by `touch`. `None` where none is.
-fn touch_next<S: Stepper>(
-    seat: &mut S,
-    frame: u64,
-    word: u8,
-    op: Op,
-) -> Result<Option<u64>, NoMemory> {
+// makes it: a read by `load`, the others by `touch`.
+fn touch_next<S: Stepper>(seat: &mut S, frame: u64, word: u8, op: Op) -> Came {
     for _ in 0..2000 {
-        seat.reserve()?;
+        if seat.reserve().is_err() {
+            return Came::no_memory();
+        }
         let hand = seat.hand();
         if hand.next_line().is_none() {
             break;
@@ -75,208 +54,200 @@ fn touch_next<S: Stepper>(
         }
         let kind = next_kind(hand);
         if kind == touch_kind(&sizes, frame, word, op) {
-            return Ok(Some(match op {
+            let found = match op {
                 Op::Read => load(seat, frame, word, 0),
                 Op::Write(_) | Op::Add(_) => touch(seat, frame, word, op, 0),
-            }));
+            };
+            return Came::one("found", found);
         }
         let _ = seat.act(kind);
     }
-    Ok(None)
+    Came::only("none is next")
+}
+
+fn exchanged(changed: Changed) -> Came {
+    match changed {
+        Changed::Set => Came::only("set"),
+        Changed::Lost(word) => Came::one("lost", word),
+    }
 }
 
 // Brings the page in that the seat has looked up, if that is the next step of its line.
-fn bring_next<S: Stepper>(seat: &mut S) -> Result<Option<Changed>, NoMemory> {
-    seat.reserve()?;
+fn bring_next<S: Stepper>(seat: &mut S) -> Came {
+    if seat.reserve().is_err() {
+        return Came::no_memory();
+    }
     if is_next(seat.hand(), PartStep::Bring, 0) {
-        Ok(Some(bring_in(seat, 0)))
+        exchanged(bring_in(seat, 0))
     } else {
-        Ok(None)
+        Came::only("not next")
     }
 }
 
 // Changes the host word that the seat has looked up to this one, if that is the next step of its
 // line.
-fn change_next<S: Stepper>(seat: &mut S, word: u64) -> Result<Option<Changed>, NoMemory> {
-    seat.reserve()?;
+pub(crate) fn change_next<S: Stepper>(seat: &mut S, word: u64) -> Came {
+    if seat.reserve().is_err() {
+        return Came::no_memory();
+    }
     if is_next(seat.hand(), PartStep::Change(word), 0) {
-        Ok(Some(change(seat, word, 0)))
+        exchanged(change(seat, word, 0))
     } else {
-        Ok(None)
+        Came::only("not next")
     }
 }
 
-// Looks at this host page, if it may: the word that is there, and what the hand holds then.
-fn look_at<S: Stepper>(
-    seat: &mut S,
-    page: u64,
-) -> Result<Option<(u64, Option<HostLook>)>, NoMemory> {
-    seat.reserve()?;
+// Looks at this host page, if it may: the word that is there.
+fn look_at<S: Stepper>(seat: &mut S, page: u64) -> Came {
+    if seat.reserve().is_err() {
+        return Came::no_memory();
+    }
     if !allows(seat.hand(), PartStep::Host(page), 0) {
-        return Ok(None);
+        return Came::not_allowed();
     }
-    let word = look(seat, page, 0);
-    Ok(Some((word, seat.hand().topics().host)))
+    Came::one("found", look(seat, page, 0))
 }
 
-// The same of the second processor.
-fn looked(machine: &mut PlainMachine, page: u64) -> Result<Option<(u64, Option<HostLook>)>, Fail> {
-    expect_actor(machine, Actor::Vcpu(1))?;
-    let mut seat = machine.as_actor(Actor::Vcpu(1));
-    Ok(look_at(&mut seat, page)?)
+// The host page that the hand has looked up, and the word that it holds of it.
+fn held(hand: &Hand) -> Came {
+    match hand.topics().host {
+        Some(HostLook { page, word }) => Came::two("page, word", page, word),
+        None => Came::only("none"),
+    }
 }
 
-// A look that found this word.
-fn held(page: u64, word: u64) -> Option<(u64, Option<HostLook>)> {
-    Some((word, Some(HostLook { page, word })))
+/// So many steps of the seat's lines, or those that are left.
+pub(crate) fn run<S: Stepper>(seat: &mut S, most: u64) -> Came {
+    match make_steps(seat, most) {
+        Ok(_) => Came::only("ran"),
+        Err(_) => Came::no_memory(),
+    }
 }
 
-// The first of these pages of which a look says something else.
-fn first_other_look(
-    alloc: Global,
-    rows: &[(u64, Option<(u64, Option<HostLook>)>)],
-) -> Result<Option<usize>, Fail> {
-    let mut machine = machine_of(alloc, HEAD_OF_POOL_8, "")?;
-    for (i, (page, want)) in rows.iter().enumerate() {
-        if looked(&mut machine, *page)? != *want {
-            return Ok(Some(i));
+fn lead<S: Stepper>(seat: &mut S, step: PartStep) -> Came {
+    match go_to(seat, step, 0) {
+        Ok(()) => Came::only("led"),
+        Err(_) => Came::no_memory(),
+    }
+}
+
+// `run N`: so many steps of the actor's lines, or those that are left. `write N`, `add N` and `read`: the line's steps
+// up to this touch of word 1 of frame 66, and what it found.
+#[derive(Drop)]
+struct Touches;
+
+impl Acts for Touches {
+    fn act(&mut self, machine: &mut PlainMachine, actor: Actor, word: &str, number: u64) -> Came {
+        let mut seat = machine.as_actor(actor);
+        match word {
+            "run" => run(&mut seat, number),
+            "write" => touch_next(&mut seat, 66, 1, Op::Write(number)),
+            "add" => touch_next(&mut seat, 66, 1, Op::Add(number)),
+            "read" => touch_next(&mut seat, 66, 1, Op::Read),
+            _ => Came::unknown(),
         }
     }
-    Ok(None)
+}
+
+// `run N` too. `look N`: a look at this host page. `lead-to-change N` and `lead-to-bring`: the line's steps up to this
+// one. `change N`: the host word that was looked up is changed to this one. `bring`: its page is brought in. `held`:
+// what the hand holds of the page that it has looked up.
+#[derive(Drop)]
+struct HostSteps;
+
+impl Acts for HostSteps {
+    fn act(&mut self, machine: &mut PlainMachine, actor: Actor, word: &str, number: u64) -> Came {
+        let mut seat = machine.as_actor(actor);
+        match word {
+            "run" => run(&mut seat, number),
+            "look" => look_at(&mut seat, number),
+            "lead-to-change" => lead(&mut seat, PartStep::Change(number)),
+            "lead-to-bring" => lead(&mut seat, PartStep::Bring),
+            "change" => change_next(&mut seat, number),
+            "bring" => bring_next(&mut seat),
+            "held" => held(seat.hand()),
+            _ => Came::unknown(),
+        }
+    }
 }
 
 // Each page is at the frame of its own number at first, present, writable and
-// small. There is no page 70.
+// small: 4096 times the frame, and 7. There is no page 70.
+const LOOKS: &str = "\
+==
+v1 look 0: found 7
+v1 held: page, word 0 7
+v1 look 66: found 0x42007
+v1 held: page, word 66 0x42007
+v1 look 69: found 0x45007
+v1 held: page, word 69 0x45007
+v1 look 70: not allowed
+";
+
 #[test]
 fn looks_at_a_page(rt: HostRuntime) -> Result<(), Fail> {
-    let rows = [
-        (0, held(0, 7)),
-        (66, held(66, PRESENT)),
-        (69, held(69, 4096 * 69 + 7)),
-        (70, None),
-    ];
-    expect(&rt, (first_other_look(rt.alloc(), &rows)?, true));
-    Ok(())
+    expect_all(&rt, rt.alloc(), HEAD_OF_POOL_8, &mut HostSteps, LOOKS, 7)
 }
 
-// What v0's touches of word 1 of frame 66 find: a write of 77, an add of -2, and two reads.
-fn touched(machine: &mut PlainMachine) -> Result<[Option<u64>; 4], Fail> {
-    expect_actor(machine, Actor::Vcpu(0))?;
-    let mut seat = machine.as_actor(Actor::Vcpu(0));
-    let wrote = touch_next(&mut seat, 66, 1, Op::Write(77))?;
-    let added = touch_next(&mut seat, 66, 1, Op::Add(u64::MAX - 1))?;
-    let read = touch_next(&mut seat, 66, 1, Op::Read)?;
-    let again = touch_next(&mut seat, 66, 1, Op::Read)?;
-    Ok([wrote, added, read, again])
-}
+// The manager sets slot 0, of which guest frames 16 to 19 are host pages 64 to 67. Three lines of v0 touch word 1 of
+// guest frame 18, which is host page 66: a write, an add of -2 and a read. The write's line puts three tables and the
+// leaf before. The contents begin at word 4192, with two words a frame.
+const TOUCHES: &str = "\
+vm slot 0 16 4 64
+v0 write 0x12008 77
+v0 add 0x12008 0xfffffffffffffffe
+v0 read 0x12008
+==
+vm run 524: ran
+v0 write 77: found 0
+v0 add 0xfffffffffffffffe: found 77
+v0 read: found 75
+v0 read: none is next
+machine zeros 4192: 133
+machine word 4325: 75
+machine zeros 4326: 126
+machine words: 4452
+";
 
-// How many words the machine has at its end, and the first content word that isn't 0, but for
-// word 1 of frame 66, which is to be 75.
-fn other_content(machine: PlainMachine) -> (usize, Option<usize>) {
-    let closing = machine.into_closing();
-    let words = closing.words.as_slice();
-    // the contents begin at word 4,192, with two words a frame
-    for (i, word) in words.iter().skip(4192).enumerate() {
-        if *word != if i == 2 * 66 + 1 { 75 } else { 0 } {
-            return (words.len(), Some(i));
-        }
-    }
-    (words.len(), None)
-}
-
-fn touches_word_1(alloc: Global) -> Result<bool, Fail> {
-    let mut machine = machine_with_slot(alloc, HEAD_OF_POOL_8, TOUCHES)?;
-    let is_found = touched(&mut machine)? == [Some(0), Some(77), Some(75), None];
-    Ok(is_found && other_content(machine) == (4452, None))
-}
-
-// A write, an add and a read of one word, each the touch of a line, as its word of
-// all 4,452 holds them. The write's line puts three tables and the leaf before.
 #[test]
 fn touches_a_word(rt: HostRuntime) -> Result<(), Fail> {
-    expect(&rt, (None, touches_word_1(rt.alloc())?));
-    Ok(())
+    expect_all(&rt, rt.alloc(), HEAD_OF_POOL_8, &mut Touches, TOUCHES, 9)
 }
 
-// Makes the steps of the actor's lines until the next one is this step of a part.
-fn lead(machine: &mut PlainMachine, actor: Actor, step: PartStep) -> Result<(), Fail> {
-    expect_actor(machine, actor)?;
-    let mut seat = machine.as_actor(actor);
-    go_to(&mut seat, step, 0)?;
-    Ok(())
-}
+// The same slot, a read by each processor, and two lines of h0: the page of the reads is taken
+// away, and writes to it are allowed. Its host word is 0x42007 where the page is present, and
+// 0x42006 where it isn't.
+const ABSENCE: &str = "\
+vm slot 0 16 4 64
+v0 read 0x12008
+v1 read 0x12008
+h0 evict 66
+h0 allow 66
+==
+vm run 524: ran
+// The page is taken away, and looked at by h0 again and by both processors.
+h0 lead-to-change 0x42006: led
+h0 change 0x42006: set
+h0 lead-to-change 0x42006: led
+v1 lead-to-bring: led
+v0 lead-to-bring: led
+// The first one brings it in: the second one's exchange is lost.
+v0 bring: set
+v0 held: page, word 66 0x42007
+v0 bring: not next
+v0 held: page, word 66 0x42007
+v1 bring: lost 0x42007
+v1 held: page, word 66 0x42007
+// So is that of h0, which tries again with the word that it found.
+h0 change 0x42006: lost 0x42007
+h0 change 0x42006: not next
+h0 change 0x42007: set
+// The host words begin at word 18.
+machine word 84: 0x42007
+machine words: 4452
+";
 
-// Brings the page in that the processor has looked up: what comes of it, and what it holds then.
-fn bring(
-    machine: &mut PlainMachine,
-    vcpu: u8,
-) -> Result<(Option<Changed>, Option<HostLook>), Fail> {
-    expect_actor(machine, Actor::Vcpu(vcpu))?;
-    let mut seat = machine.as_actor(Actor::Vcpu(vcpu));
-    let changed = bring_next(&mut seat)?;
-    Ok((changed, seat.hand().topics().host))
-}
-
-// Changes the host word that h0 has looked up to this one.
-pub(crate) fn change_to(machine: &mut PlainMachine, word: u64) -> Result<Option<Changed>, Fail> {
-    expect_actor(machine, Actor::Host(0))?;
-    let mut seat = machine.as_actor(Actor::Host(0));
-    Ok(change_next(&mut seat, word)?)
-}
-
-// Takes host page 66 away, and has h0 and both processors look at it again.
-fn take_away(machine: &mut PlainMachine) -> Result<Option<Changed>, Fail> {
-    lead(machine, Actor::Host(0), PartStep::Change(ABSENT))?;
-    let taken = change_to(machine, ABSENT)?;
-    lead(machine, Actor::Host(0), PartStep::Change(ABSENT))?;
-    lead(machine, Actor::Vcpu(1), PartStep::Bring)?;
-    lead(machine, Actor::Vcpu(0), PartStep::Bring)?;
-    Ok(taken)
-}
-
-// Has the first processor bring the page in, twice, and then the second one.
-fn brought(machine: &mut PlainMachine) -> Result<[(Option<Changed>, Option<HostLook>); 3], Fail> {
-    let first = bring(machine, 0)?;
-    let again = bring(machine, 0)?;
-    let second = bring(machine, 1)?;
-    Ok([first, again, second])
-}
-
-// Has h0 change the page by its look at the absent one, twice, and then by the word that it found.
-fn changed(machine: &mut PlainMachine) -> Result<[Option<Changed>; 3], Fail> {
-    let first = change_to(machine, ABSENT)?;
-    let again = change_to(machine, ABSENT)?;
-    let last = change_to(machine, PRESENT)?;
-    Ok([first, again, last])
-}
-
-// Whether the page is taken away, brought in once and changed as it is to be.
-fn brings_page_66_in(machine: &mut PlainMachine) -> Result<bool, Fail> {
-    let set = Some(Changed::Set);
-    let lost = Some(Changed::Lost(PRESENT));
-    let look = Some(HostLook {
-        page: 66,
-        word: PRESENT,
-    });
-    let is_taken = take_away(machine)? == set;
-    let is_brought = brought(machine)? == [(set, look), (None, look), (lost, look)];
-    let is_changed = changed(machine)? == [lost, None, set];
-    Ok(is_taken && is_brought && is_changed)
-}
-
-// The same at a machine of its own, and whether the page is present at last.
-fn brings_in_at_a_machine(alloc: Global) -> Result<bool, Fail> {
-    let mut machine = machine_with_slot(alloc, HEAD_OF_POOL_8, ABSENCE)?;
-    let is_in = brings_page_66_in(&mut machine)?;
-    // the host words begin at word 18
-    Ok(is_in && first_other(machine, &[(18 + 66, PRESENT)]) == (4452, None))
-}
-
-// A page is taken away, and looked at by h0 again and by both processors. The first one brings it
-// in: the second one's exchange is lost, and so is that of h0, which tries again with the word
-// that it found.
 #[test]
 fn brings_a_page_in_once(rt: HostRuntime) -> Result<(), Fail> {
-    expect(&rt, (None, brings_in_at_a_machine(rt.alloc())?));
-    Ok(())
+    expect_all(&rt, rt.alloc(), HEAD_OF_POOL_8, &mut HostSteps, ABSENCE, 17)
 }

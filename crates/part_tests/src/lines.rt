@@ -120,9 +120,3 @@ pub fn told(said: Turn<()>, hand: &Hand) -> Result<Turn<Answer>, Fail> {
         }
     })
 }
-
-/// The word at this place among all words of the machine, once all steps are made.
-pub fn last_word(machine: PlainMachine, place: usize) -> Option<u64> {
-    let closing = machine.into_closing();
-    closing.words.as_slice().get(place).copied()
-}
