@@ -39,6 +39,8 @@ fn main(rt: HostRuntime) -> ExitCode {
 }
 
 #[cfg(test)]
+mod cases;
+#[cfg(test)]
 mod fast_steps;
 #[cfg(test)]
 mod fill_tests;
