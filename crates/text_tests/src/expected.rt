@@ -1,22 +1,17 @@
-//! What the tests of this crate expect.
+//! What the tests of this crate expect, but for tables (`cases.rt`).
 use std::process::Abort;
-
-/// All cases of a table came out as they stand there, and were so many.
-pub fn expect_all<R: Abort>(rt: &R, found: (usize, Option<&str>), count: usize) {
-    assert_eq!(rt; found, (count, None));
-}
-
-/// No row of a table came out otherwise.
-pub fn expect_none<R: Abort>(rt: &R, found: Option<usize>) {
-    assert_eq!(rt; found, None);
-}
+use std::test::Fail;
 
 /// The text is this one.
-pub fn expect_text<R: Abort>(rt: &R, text: &str, wanted: &str) {
-    assert_eq!(rt; text, wanted);
+pub fn expect_text<R: Abort>(rt: &R, text: Result<String, Fail>, wanted: &str) -> Result<(), Fail> {
+    let text = text?;
+    assert_eq!(rt; text.as_str(), wanted);
+    Ok(())
 }
 
 /// This is so.
-pub fn expect<R: Abort>(rt: &R, is_so: bool) {
+pub fn expect<R: Abort>(rt: &R, is_so: Result<bool, Fail>) -> Result<(), Fail> {
+    let is_so = is_so?;
     assert!(rt; is_so);
+    Ok(())
 }

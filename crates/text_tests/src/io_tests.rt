@@ -44,8 +44,7 @@ fn reads_nines_after_a_fault(alloc: Global) -> Result<bool, Fail> {
 
 #[test]
 fn reads_on_after_a_fault(rt: HostRuntime) -> Result<(), Fail> {
-    expect(&rt, reads_nines_after_a_fault(rt.alloc())?);
-    Ok(())
+    expect(&rt, reads_nines_after_a_fault(rt.alloc()))
 }
 
 fn reads_each_chunk(alloc: Global) -> Result<bool, Fail> {
@@ -59,8 +58,7 @@ fn reads_each_chunk(alloc: Global) -> Result<bool, Fail> {
 
 #[test]
 fn reads_many_chunks(rt: HostRuntime) -> Result<(), Fail> {
-    expect(&rt, reads_each_chunk(rt.alloc())?);
-    Ok(())
+    expect(&rt, reads_each_chunk(rt.alloc()))
 }
 
 fn writes_one_of_two(alloc: Global) -> Result<bool, Fail> {
@@ -74,8 +72,12 @@ fn writes_one_of_two(alloc: Global) -> Result<bool, Fail> {
 
 #[test]
 fn stops_at_a_fault(rt: HostRuntime) -> Result<(), Fail> {
-    expect(&rt, writes_one_of_two(rt.alloc())?);
-    Ok(())
+    expect(&rt, writes_one_of_two(rt.alloc()))
+}
+
+fn fails_to_read() -> bool {
+    let mut buf = [0; 2];
+    StdSource::new(Broken).read(&mut buf) == Pulled::Failed
 }
 
 fn reads_abc() -> bool {
@@ -87,10 +89,12 @@ fn reads_abc() -> bool {
 }
 
 #[test]
-fn reads_from_std(rt: HostRuntime) {
-    let mut buf = [0; 2];
-    let is_failed = StdSource::new(Broken).read(&mut buf) == Pulled::Failed;
-    expect(&rt, is_failed && reads_abc());
+fn reads_from_std(rt: HostRuntime) -> Result<(), Fail> {
+    expect(&rt, Ok(fails_to_read() && reads_abc()))
+}
+
+fn fails_to_write() -> bool {
+    StdSink::new(Broken).write(b"abc") == Output::Failed
 }
 
 // A writer that has room for four bytes, and takes nothing then.
@@ -105,9 +109,8 @@ fn writes_four() -> bool {
 }
 
 #[test]
-fn writes_to_std(rt: HostRuntime) {
-    let is_failed = StdSink::new(Broken).write(b"abc") == Output::Failed;
-    expect(&rt, is_failed && writes_four());
+fn writes_to_std(rt: HostRuntime) -> Result<(), Fail> {
+    expect(&rt, Ok(fails_to_write() && writes_four()))
 }
 
 #[test]

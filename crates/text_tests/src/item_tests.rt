@@ -1,8 +1,8 @@
 //! What is read of `go` and of schedule items.
 
-use crate::expected::expect_all;
+use crate::cases::{Way, expect_all};
 use core_views::{Item, Trace, Until};
-use std::alloc::Global;
+use std::alloc::{AllocError, Global};
 use std::test::Fail;
 use tdp_io::MemSource;
 use trace_reader::{Read, read_trace};
@@ -130,30 +130,39 @@ const KINDS: &str = "\
 0 - w0#41|> w0 arm;\n\
 ";
 
-fn item_text(alloc: Global, item: &Item) -> Result<String, Fail> {
+fn item_text(alloc: Global, item: &Item) -> Result<String, AllocError> {
     let actor = item.actor;
     match item.until {
-        Until::Turns(count) => Ok(format!(in alloc; " {actor}*{count}")?),
-        Until::Answered => Ok(format!(in alloc; " {actor}.")?),
-        Until::Made(code) => Ok(format!(in alloc; " {actor}#{code}")?),
+        Until::Turns(count) => format!(in alloc; " {actor}*{count}"),
+        Until::Answered => format!(in alloc; " {actor}."),
+        Until::Made(code) => format!(in alloc; " {actor}#{code}"),
     }
 }
 
-fn trace_text(alloc: Global, trace: &Trace) -> Result<String, Fail> {
+// How many lines the trace has, and how many of them stand above `go`.
+fn counts_text(alloc: Global, trace: &Trace) -> Result<String, AllocError> {
     let count = trace.lines.as_slice().len();
-    let mut text = match trace.go {
-        Some(above) => format!(in alloc; "{count} {above}")?,
-        None => format!(in alloc; "{count} -")?,
-    };
+    match trace.go {
+        Some(above) => format!(in alloc; "{count} {above}"),
+        None => format!(in alloc; "{count} -"),
+    }
+}
+
+fn push_item(alloc: Global, text: &mut String, item: &Item) -> Result<(), AllocError> {
+    let item = item_text(alloc, item)?;
+    text.push_str(&item)
+}
+
+fn trace_text(alloc: Global, trace: &Trace) -> Result<String, Fail> {
+    let mut text = counts_text(alloc, trace)?;
     for item in trace.items.as_slice() {
-        let part = item_text(alloc, item)?;
-        text.push_str(part.as_str())?;
+        push_item(alloc, &mut text, item)?;
     }
     Ok(text)
 }
 
-// What is answered, as the table has it.
-fn answer(alloc: Global, lines: &str) -> Result<String, Fail> {
+/// What is answered, as the table has it.
+pub fn told(alloc: Global, lines: &str) -> Result<String, Fail> {
     let mut bytes = Vec::new(alloc);
     bytes.extend_from_slice(HEAD.as_bytes())?;
     for byte in lines.as_bytes() {
@@ -170,28 +179,12 @@ fn answer(alloc: Global, lines: &str) -> Result<String, Fail> {
     }
 }
 
-// How many cases of the table are answered so, one after another, and the first one that isn't.
-fn first_other<'t>(alloc: Global, table: &'t str) -> Result<(usize, Option<&'t str>), Fail> {
-    let mut count = 0usize;
-    for case in table.split('\n') {
-        if let Some((wanted, text)) = case.split_once('|') {
-            if answer(alloc, text)?.as_str() != wanted {
-                return Ok((count, Some(case)));
-            }
-            count = count.saturating_add(1);
-        }
-    }
-    Ok((count, None))
-}
-
 #[test]
 fn answers_the_table(rt: HostRuntime) -> Result<(), Fail> {
-    expect_all(&rt, first_other(rt.alloc(), TABLE)?, 69);
-    Ok(())
+    expect_all(&rt, rt.alloc(), Way::Items, TABLE, 69)
 }
 
 #[test]
 fn knows_each_kind(rt: HostRuntime) -> Result<(), Fail> {
-    expect_all(&rt, first_other(rt.alloc(), KINDS)?, 41);
-    Ok(())
+    expect_all(&rt, rt.alloc(), Way::Items, KINDS, 41)
 }

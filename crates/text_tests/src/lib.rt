@@ -6,6 +6,8 @@
 #[cfg(test)]
 mod answer_tests;
 #[cfg(test)]
+mod cases;
+#[cfg(test)]
 mod expected;
 #[cfg(test)]
 mod io_tests;

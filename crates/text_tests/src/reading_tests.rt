@@ -1,7 +1,8 @@
 //! What is read of an input, and what is refused and why.
 
-use crate::expected::{expect, expect_all, expect_none};
-use core_views::{Actor, Command, Header, HostChange, Line, Op, Slot};
+use crate::cases::{Way, expect_all};
+use crate::expected::expect_text;
+use core_views::{Command, Header, HostChange, Line, Op, Slot, Trace};
 use std::alloc::{AllocError, Global};
 use std::test::Fail;
 use tdp_io::MemSource;
@@ -299,347 +300,301 @@ const TABLE: &str = "\
 3 lines|&v0 read 0;%v1 add 0 1;\n\
 ";
 
-fn push_text(bytes: &mut Vec<u8>, byte: u8) -> Result<(), AllocError> {
-    match byte {
-        b';' => bytes.extend_from_slice(b"\n"),
-        b'&' => bytes.extend_from_slice(HEAD.as_bytes()),
-        b'%' => bytes.extend_from_slice(b"vm slot 0 0x10 32 64\n"),
-        b'<' => bytes.extend_from_slice(b"tdp 1 vcpus 1 workers 0 pages "),
-        b'=' => bytes.extend_from_slice(b" pool 4 cache 1 manual 0 hosts 0\n"),
-        b'^' => bytes.extend_from_slice(b"\t"),
-        b'$' => bytes.extend_from_slice(b"\r"),
-        b'@' => bytes.extend_from_slice(b"\x00"),
-        b'?' => bytes.extend_from_slice(b"\x7f"),
-        b'!' => bytes.extend_from_slice(b"\xff"),
-        b'*' => bytes.extend_from_slice(b"\x1f"),
-        b'{' => bytes.extend_from_slice(b"\x80"),
-        _ => bytes.extend_from_slice(&[byte]),
+// The text that the character stands for, if it stands for one.
+fn text_of(character: u8) -> Option<&'static str> {
+    match character {
+        b'&' => Some(HEAD),
+        b'%' => Some("vm slot 0 0x10 32 64\n"),
+        b'<' => Some("tdp 1 vcpus 1 workers 0 pages "),
+        b'=' => Some(" pool 4 cache 1 manual 0 hosts 0\n"),
+        _ => None,
     }
 }
 
-fn input(alloc: Global, text: &[u8]) -> Result<Vec<u8>, AllocError> {
-    let mut bytes = Vec::new(alloc);
-    for byte in text {
-        push_text(&mut bytes, *byte)?;
-    }
-    Ok(bytes)
-}
-
-// What is answered, as the table has it.
-fn answer(alloc: Global, bytes: Vec<u8>) -> Result<String, Fail> {
-    let mut source = MemSource::new(bytes, Vec::new(alloc));
-    match read_trace(alloc, &mut source)? {
-        Read::Trace(trace) => {
-            let count = trace.lines.as_slice().len();
-            Ok(format!(in alloc; "{count} lines")?)
-        }
-        Read::Refused { line, reason } => {
-            let name = reason.name();
-            Ok(format!(in alloc; "{line} {name}")?)
-        }
-        Read::ReadFault => Ok(format!(in alloc; "fault")?),
+// The byte that the character stands for: that of its own, or another one.
+fn byte_of(character: u8) -> u8 {
+    match character {
+        b';' => b'\n',
+        b'^' => b'\t',
+        b'$' => b'\r',
+        b'@' => 0,
+        b'?' => 0x7f,
+        b'!' => 0xff,
+        b'*' => 0x1f,
+        b'{' => 0x80,
+        _ => character,
     }
 }
 
-// The header and a slot line, and this text after them.
-fn after_slot(alloc: Global, text: &str) -> Result<Vec<u8>, AllocError> {
-    let mut bytes = input(alloc, b"&%")?;
-    bytes.extend_from_slice(text.as_bytes())?;
-    Ok(bytes)
-}
-
-fn is_refused(alloc: Global, bytes: Vec<u8>, line: u32, reason: Reason) -> Result<bool, Fail> {
-    let mut source = MemSource::new(bytes, Vec::new(alloc));
-    match read_trace(alloc, &mut source)? {
-        Read::Refused {
-            line: named,
-            reason: given,
-        } => Ok(named == line && given == reason),
-        _ => Ok(false),
+fn push_character(bytes: &mut Vec<u8>, character: u8) -> Result<(), AllocError> {
+    match text_of(character) {
+        Some(text) => bytes.extend_from_slice(text.as_bytes()),
+        None => bytes.extend_from_slice(&[byte_of(character)]),
     }
 }
 
-// How many cases of the table are answered so, one after another, and the first one that isn't.
-fn first_other<'t>(alloc: Global, table: &'t str) -> Result<(usize, Option<&'t str>), Fail> {
-    let mut count = 0usize;
-    for case in table.split('\n') {
-        if let Some((wanted, text)) = case.split_once('|') {
-            if answer(alloc, input(alloc, text.as_bytes())?)?.as_str() != wanted {
-                return Ok((count, Some(case)));
-            }
-            count = count.saturating_add(1);
-        }
+fn push_texts(bytes: &mut Vec<u8>, text: &str) -> Result<(), AllocError> {
+    for character in text.as_bytes() {
+        push_character(bytes, *character)?;
     }
-    Ok((count, None))
-}
-
-#[test]
-fn answers_the_table(rt: HostRuntime) -> Result<(), Fail> {
-    expect_all(&rt, first_other(rt.alloc(), TABLE)?, 284);
     Ok(())
 }
 
-// The text, so many of this byte after it, and this end.
-fn filled(
-    alloc: Global,
-    text: &str,
-    byte: u8,
-    count: usize,
-    end: &str,
-) -> Result<Vec<u8>, AllocError> {
-    let mut bytes = input(alloc, text.as_bytes())?;
-    let line = vec![in alloc; byte; count]?;
-    bytes.extend_from_slice(&line)?;
-    bytes.extend_from_slice(end.as_bytes())?;
-    Ok(bytes)
-}
-
-// The first of these inputs (a text, so many of a byte after it, and an end) that isn't refused at this line for
-// this reason.
-fn first_unrefused(
-    alloc: Global,
-    inputs: &[(&str, u8, usize, &str, u32, Reason)],
-) -> Result<Option<usize>, Fail> {
-    for (i, (text, byte, count, end, line, reason)) in inputs.iter().enumerate() {
-        let bytes = filled(alloc, text, *byte, *count, end)?;
-        if !is_refused(alloc, bytes, *line, *reason)? {
-            return Ok(Some(i));
-        }
-    }
-    Ok(None)
-}
-
-#[test]
-fn refuses_long_inputs(rt: HostRuntime) -> Result<(), Fail> {
-    let inputs = [
-        ("", b'x', 16_777_216, "", 1, Reason::Cut),
-        ("", b'x', 16_777_217, "", 1, Reason::Size),
-        ("", b'x', 16_777_215, "\n", 1, Reason::Long),
-        ("", b'x', 16_777_216, "\n", 1, Reason::Size),
-    ];
-    expect_none(&rt, first_unrefused(rt.alloc(), &inputs)?);
-    Ok(())
-}
-
-fn reads_the_longest(alloc: Global) -> Result<bool, Fail> {
-    let longest = answer(alloc, filled(alloc, "&%", b'#', 65_536, "\n")?)?;
-    Ok(longest.as_str() == "1 lines")
-}
-
-#[test]
-fn refuses_long_lines(rt: HostRuntime) -> Result<(), Fail> {
-    let inputs = [
-        ("&%", b'x', 65_536, "\n", 3, Reason::Word),
-        ("&%", b'x', 65_537, "\n", 3, Reason::Long),
-        ("&%", b'#', 65_537, "\n", 3, Reason::Long),
-        ("&%", b'\t', 65_536, "\n", 3, Reason::Byte),
-        ("&%", b'\t', 65_537, "\n", 3, Reason::Long),
-        ("", b'x', 65_536, "\n", 1, Reason::Header),
-        ("", b'x', 65_537, "\n", 1, Reason::Long),
-        ("&%", b'x', 65_537, "", 3, Reason::Cut),
-    ];
-    expect_none(&rt, first_unrefused(rt.alloc(), &inputs)?);
-    expect(&rt, reads_the_longest(rt.alloc())?);
-    Ok(())
-}
-
-// The header, and this line as line 2 and each further one up to line 1,000,000.
-fn full(alloc: Global, line: &[u8]) -> Result<Vec<u8>, AllocError> {
-    let mut bytes = input(alloc, b"&")?;
-    for _ in 0..999_999 {
-        bytes.extend_from_slice(line)?;
-    }
-    Ok(bytes)
-}
-
-// The header and lines up to line 1,000,000, all of them this one, and this text after them.
-fn over_full(alloc: Global, line: &[u8], text: &[u8]) -> Result<Vec<u8>, AllocError> {
-    let mut bytes = full(alloc, line)?;
-    bytes.extend_from_slice(text)?;
-    Ok(bytes)
-}
-
-// The header and comments up to line 1,000,000, and as much text after them that there are so many bytes.
-fn padded(alloc: Global, count: usize) -> Result<Vec<u8>, AllocError> {
-    let mut bytes = full(alloc, b"# a comment...\n")?;
-    let missing = vec![in alloc; b'x'; count.saturating_sub(bytes.len())]?;
-    bytes.extend_from_slice(&missing)?;
-    Ok(bytes)
-}
-
-// Whether so many lines are read, and one more is refused, of whatever text.
-fn refuses_one_more(alloc: Global) -> Result<bool, Fail> {
-    for text in ["v1 read 8\n", "\n", "cut"] {
-        let bytes = over_full(alloc, b"v1 read 8\n", text.as_bytes())?;
-        if !is_refused(alloc, bytes, 1_000_001, Reason::Lines)? {
-            return Ok(false);
-        }
-    }
-    let most = answer(alloc, full(alloc, b"v1 read 8\n")?)?;
-    Ok(most.as_str() == "999999 lines")
-}
-
-#[test]
-fn refuses_many_lines(rt: HostRuntime) -> Result<(), Fail> {
-    expect(&rt, refuses_one_more(rt.alloc())?);
-    Ok(())
-}
-
-// Whether an input of many lines and so many bytes is refused for this reason.
-fn refuses_padded(alloc: Global, count: usize, reason: Reason) -> Result<bool, Fail> {
-    is_refused(alloc, padded(alloc, count)?, 1_000_001, reason)
-}
-
-#[test]
-fn refuses_many_lines_before_many_bytes(rt: HostRuntime) -> Result<(), Fail> {
-    expect(&rt, refuses_padded(rt.alloc(), 16_777_216, Reason::Lines)?);
-    expect(&rt, refuses_padded(rt.alloc(), 16_777_217, Reason::Size)?);
-    Ok(())
-}
-
-// The header, and 50,000 slot lines at IDs that fall from 99,999 by 2.
-fn many_slots(alloc: Global) -> Result<Vec<u8>, Fail> {
-    let mut bytes = input(alloc, b"&")?;
+// 50,000 slot lines at IDs that fall from 99,999 by 2.
+fn push_slots(alloc: Global, bytes: &mut Vec<u8>) -> Result<(), AllocError> {
     for count in 0..50_000u64 {
         let id = 99_999u64.saturating_sub(2 * count);
         let line = format!(in alloc; "vm slot {id} 0 1 0\n")?;
         bytes.extend_from_slice(line.as_bytes())?;
     }
+    Ok(())
+}
+
+// The bytes so many times.
+fn push_again(bytes: &mut Vec<u8>, count: usize, again: &[u8]) -> Result<(), AllocError> {
+    for _ in 0..count {
+        bytes.extend_from_slice(again)?;
+    }
+    Ok(())
+}
+
+// As many of the byte as are missing until there are so many bytes.
+fn push_until(
+    alloc: Global,
+    bytes: &mut Vec<u8>,
+    count: usize,
+    byte: u8,
+) -> Result<(), AllocError> {
+    let missing = vec![in alloc; byte; count.saturating_sub(bytes.len())]?;
+    bytes.extend_from_slice(&missing)
+}
+
+// A part of an input: a text, a text that stands there so many times (`999 times x`), as many `x` as are
+// missing until there are so many bytes (`999 bytes`), or the 50,000 slot lines (`slots`).
+fn push_part(alloc: Global, bytes: &mut Vec<u8>, part: &str) -> Result<(), Fail> {
+    if let Some((count, text)) = part.split_once(" times ") {
+        let mut again = Vec::new(alloc);
+        push_texts(&mut again, text)?;
+        return Ok(push_again(bytes, count.parse::<usize>().unwrap_or(0), &again)?);
+    }
+    if let Some((count, _)) = part.split_once(" bytes") {
+        return Ok(push_until(alloc, bytes, count.parse::<usize>().unwrap_or(0), b'x')?);
+    }
+    if part == "slots" {
+        return Ok(push_slots(alloc, bytes)?);
+    }
+    Ok(push_texts(bytes, part)?)
+}
+
+// The input of a case, whose parts are parted by `|`.
+fn input(alloc: Global, case: &str) -> Result<Vec<u8>, Fail> {
+    let mut bytes = Vec::new(alloc);
+    for part in case.split('|') {
+        push_part(alloc, &mut bytes, part)?;
+    }
     Ok(bytes)
 }
 
-// What is answered where this text stands after them.
-fn many_answer(alloc: Global, text: &str) -> Result<String, Fail> {
-    let mut bytes = many_slots(alloc)?;
-    bytes.extend_from_slice(text.as_bytes())?;
-    answer(alloc, bytes)
+// What is answered, as the tables have it.
+fn answer(alloc: Global, read: &Read) -> Result<String, AllocError> {
+    match read {
+        Read::Trace(trace) => {
+            let count = trace.lines.as_slice().len();
+            format!(in alloc; "{count} lines")
+        }
+        Read::Refused {
+            line,
+            reason: Reason::Lines,
+        } => format!(in alloc; "{line} is too many"),
+        Read::Refused { line, reason } => {
+            let name = reason.name();
+            format!(in alloc; "{line} {name}")
+        }
+        Read::ReadFault => String::from_str(alloc, "fault"),
+    }
 }
 
-// The first of these texts after which another answer is given.
-fn first_other_end(alloc: Global, ends: &[(&str, &str)]) -> Result<Option<usize>, Fail> {
-    for (i, (text, wanted)) in ends.iter().enumerate() {
-        if many_answer(alloc, text)?.as_str() != *wanted {
-            return Ok(Some(i));
-        }
-    }
-    Ok(None)
+/// What comes of a case.
+pub fn told(alloc: Global, case: &str) -> Result<String, Fail> {
+    let mut source = MemSource::new(input(alloc, case)?, Vec::new(alloc));
+    let read = read_trace(alloc, &mut source)?;
+    Ok(answer(alloc, &read)?)
 }
+
+#[test]
+fn answers_the_table(rt: HostRuntime) -> Result<(), Fail> {
+    expect_all(&rt, rt.alloc(), Way::Reads, TABLE, 284)
+}
+
+// Inputs and lines of the most bytes, and of one more.
+const LONG: &str = "\
+1 cut|16777216 bytes
+1 size|16777217 bytes
+1 long|16777215 bytes|;
+1 size|16777216 bytes|;
+3 word|&%|65536 times x|;
+3 long|&%|65537 times x|;
+3 long|&%|65537 times #|;
+3 byte|&%|65536 times ^|;
+3 long|&%|65537 times ^|;
+1 header|65536 times x|;
+1 long|65537 times x|;
+3 cut|&%|65537 times x
+1 lines|&%|65536 times #|;
+";
+
+#[test]
+fn refuses_long_inputs_and_lines(rt: HostRuntime) -> Result<(), Fail> {
+    expect_all(&rt, rt.alloc(), Way::Reads, LONG, 13)
+}
+
+// 1,000,000 lines, and one more, of whatever text. That there are too many bytes comes first.
+const MANY: &str = "\
+1000001 is too many|&|999999 times v1 read 8;|v1 read 8;
+1000001 is too many|&|999999 times v1 read 8;|;
+1000001 is too many|&|999999 times v1 read 8;|cut
+999999 lines|&|999999 times v1 read 8;
+1000001 is too many|&|999999 times # a comment...;|16777216 bytes
+1000001 size|&|999999 times # a comment...;|16777217 bytes
+";
+
+#[test]
+fn refuses_many_lines(rt: HostRuntime) -> Result<(), Fail> {
+    expect_all(&rt, rt.alloc(), Way::Reads, MANY, 6)
+}
+
+// IDs that are there, and new ones, after many slot lines.
+const AGAIN: &str = "\
+50001 lines|&|slots|vm slot 99999 0 1 0;
+50001 lines|&|slots|vm slot 0xc351 0 1 0;
+50001 lines|&|slots|vm slot 1 0 1 0;
+50001 lines|&|slots|vm slot 50000 0 1 0;
+50002 lines|&|slots|vm slot 0 0 1 0;vm slot 100000 0 1 0;
+";
 
 #[test]
 fn reads_ids_that_come_again(rt: HostRuntime) -> Result<(), Fail> {
-    let ends = [
-        ("vm slot 99999 0 1 0\n", "50001 lines"),
-        ("vm slot 0xc351 0 1 0\n", "50001 lines"),
-        ("vm slot 1 0 1 0\n", "50001 lines"),
-        ("vm slot 50000 0 1 0\n", "50001 lines"),
-        ("vm slot 0 0 1 0\nvm slot 100000 0 1 0\n", "50002 lines"),
-    ];
-    expect_none(&rt, first_other_end(rt.alloc(), &ends)?);
-    Ok(())
+    expect_all(&rt, rt.alloc(), Way::Reads, AGAIN, 5)
 }
 
-// A line of this host thread that makes this change of this page.
-fn host_line(number: u32, thread: u8, page: u64, change: HostChange) -> Line {
-    Line {
-        number,
-        actor: Actor::Host(thread),
-        command: Command::ChangeHost { page, change },
+fn change_name(change: HostChange) -> &'static str {
+    match change {
+        HostChange::Allow => "allow",
+        HostChange::Protect => "protect",
+        HostChange::Evict => "evict",
+        HostChange::Move => "move",
     }
 }
 
-// A line of a processor at this word.
-fn access_line(number: u32, vcpu: u8, gfn: u64, word: u8, op: Op) -> Line {
-    Line {
-        number,
-        actor: Actor::Vcpu(vcpu),
-        command: Command::Access { gfn, word, op },
+fn access_text(alloc: Global, gfn: u64, word: u8, op: Op) -> Result<String, AllocError> {
+    match op {
+        Op::Read => format!(in alloc; "read {gfn} {word}"),
+        Op::Write(value) => format!(in alloc; "write {gfn} {word} {value}"),
+        Op::Add(value) => format!(in alloc; "add {gfn} {word} {value}"),
     }
 }
 
-// A line that deletes the slot with this ID.
-fn deletion_line(number: u32, id: u64) -> Line {
-    Line {
-        number,
-        actor: Actor::Manager,
-        command: Command::DeleteSlot { id },
+fn slot_text(alloc: Global, id: u64, slot: &Slot) -> Result<String, AllocError> {
+    let (base, pages, host) = (slot.base, slot.pages, slot.host);
+    let read_only = if slot.read_only { " ro" } else { "" };
+    format!(in alloc; "slot {id} {base} {pages} {host}{read_only}")
+}
+
+fn command_text(alloc: Global, command: &Command) -> Result<String, AllocError> {
+    match command {
+        Command::Access { gfn, word, op } => access_text(alloc, *gfn, *word, *op),
+        Command::SetSlot { id, slot } => slot_text(alloc, *id, slot),
+        Command::DeleteSlot { id } => format!(in alloc; "delete {id}"),
+        Command::ChangeHost { page, change } => {
+            let name = change_name(*change);
+            format!(in alloc; "{name} {page}")
+        }
+        _ => String::from_str(alloc, "of a dirty log"),
     }
 }
 
-// The line of `%`.
-fn slot_line(number: u32) -> Line {
-    let slot = Slot {
-        base: 16,
-        pages: 32,
-        host: 64,
-        read_only: false,
-    };
-    Line {
-        number,
-        actor: Actor::Manager,
-        command: Command::SetSlot { id: 0, slot },
+fn line_text(alloc: Global, line: &Line) -> Result<String, AllocError> {
+    let (number, actor) = (line.number, line.actor);
+    let command = command_text(alloc, &line.command)?;
+    format!(in alloc; "{number} {actor} {command}\n")
+}
+
+fn header_text(alloc: Global, header: &Header) -> Result<String, AllocError> {
+    let (version, vcpus, workers) = (header.version, header.vcpus, header.workers);
+    let (pages, frames, words) = (header.pages, header.frames, header.words);
+    let (pool, cache, manual) = (header.pool, header.cache, header.manual);
+    let hosts = header.hosts.as_slice();
+    format!(in alloc;
+        "{version} vcpus {vcpus} workers {workers} pages {pages} frames {frames} words {words} pool {pool} cache {cache} manual {manual} hosts {hosts:?}\n"
+    )
+}
+
+fn push_line(alloc: Global, text: &mut String, line: &Line) -> Result<(), AllocError> {
+    let line = line_text(alloc, line)?;
+    text.push_str(&line)
+}
+
+// The header of a trace and its lines, each with all that is kept of it.
+fn trace_text(alloc: Global, trace: &Trace) -> Result<String, AllocError> {
+    let mut text = header_text(alloc, &trace.header)?;
+    for line in trace.lines.as_slice() {
+        push_line(alloc, &mut text, line)?;
+    }
+    Ok(text)
+}
+
+fn read_text(alloc: Global, case: &str) -> Result<String, Fail> {
+    let mut source = MemSource::new(input(alloc, case)?, Vec::new(alloc));
+    let read = read_trace(alloc, &mut source)?;
+    match &read {
+        Read::Trace(trace) => Ok(trace_text(alloc, trace)?),
+        _ => Ok(answer(alloc, &read)?),
     }
 }
 
-// Whether the header is that of `&`.
-fn is_head(header: &Header) -> bool {
-    let vcpus = (header.version, header.vcpus, header.workers) == (1, 2, 0);
-    let words = (header.pages, header.frames, header.words) == (96, 96, 4);
-    let pool = (header.pool, header.cache, header.manual) == (64, 8, 2);
-    vcpus && words && pool && header.hosts.as_slice() == [0, 32].as_slice()
-}
+const TRACE: &str =
+    "&%v1 read 0x12018;v0 write 8 0xff;;# c;v0 add 0 18446744073709551615;h1 allow 0x2a;h0 evict 7;h1 move 9;";
 
-// Whether the input is read, and is the header of `&` and these lines.
-fn is_read(alloc: Global, bytes: Vec<u8>, lines: &[Line]) -> Result<bool, Fail> {
-    let mut source = MemSource::new(bytes, Vec::new(alloc));
-    match read_trace(alloc, &mut source)? {
-        Read::Trace(trace) => Ok(is_head(&trace.header) && trace.lines.as_slice() == lines),
-        _ => Ok(false),
-    }
-}
-
-// Whether the input of `&%` and this text is read, and is the header and these lines.
-fn is_read_after_slot(alloc: Global, text: &str, lines: &[Line]) -> Result<bool, Fail> {
-    is_read(alloc, after_slot(alloc, text)?, lines)
-}
+// What is kept of it.
+const KEPT: &str = "\
+1 vcpus 2 workers 0 pages 96 frames 96 words 4 pool 64 cache 8 manual 2 hosts [0, 32]
+2 vm slot 0 16 32 64
+3 v1 read 18 3
+4 v0 write 0 1 255
+7 v0 add 0 0 18446744073709551615
+8 h1 allow 42
+9 h0 evict 7
+10 h1 move 9
+";
 
 #[test]
 fn reads_a_trace(rt: HostRuntime) -> Result<(), Fail> {
-    let text =
-        "v1 read 0x12018\nv0 write 8 0xff\n\n# c\nv0 add 0 18446744073709551615\nh1 allow 0x2a\nh0 evict 7\nh1 move 9\n";
-    let lines = [
-        slot_line(2),
-        access_line(3, 1, 18, 3, Op::Read),
-        access_line(4, 0, 0, 1, Op::Write(255)),
-        access_line(7, 0, 0, 0, Op::Add(18_446_744_073_709_551_615)),
-        host_line(8, 1, 42, HostChange::Allow),
-        host_line(9, 0, 7, HostChange::Evict),
-        host_line(10, 1, 9, HostChange::Move),
-    ];
-    expect(&rt, is_read_after_slot(rt.alloc(), text, &lines)?);
-    Ok(())
+    expect_text(&rt, read_text(rt.alloc(), TRACE), KEPT)
 }
+
+const DELETIONS: &str = "&%vm slot 0 0 0 0;vm slot 0x28 0x5 0x0 0x40 ro;vm slot 0 0x10 32 64;";
 
 // The slot line of `%`, and deletions, of which the ID alone is kept.
+const KEPT_DELETIONS: &str = "\
+1 vcpus 2 workers 0 pages 96 frames 96 words 4 pool 64 cache 8 manual 2 hosts [0, 32]
+2 vm slot 0 16 32 64
+3 vm delete 0
+4 vm delete 40
+5 vm slot 0 16 32 64
+";
+
 #[test]
 fn reads_deletions(rt: HostRuntime) -> Result<(), Fail> {
-    let text = "vm slot 0 0 0 0\nvm slot 0x28 0x5 0x0 0x40 ro\nvm slot 0 0x10 32 64\n";
-    let lines = [
-        slot_line(2),
-        deletion_line(3, 0),
-        deletion_line(4, 40),
-        slot_line(5),
-    ];
-    expect(&rt, is_read_after_slot(rt.alloc(), text, &lines)?);
-    Ok(())
+    expect_text(&rt, read_text(rt.alloc(), DELETIONS), KEPT_DELETIONS)
 }
 
-fn tells_a_fault(alloc: Global) -> Result<bool, Fail> {
-    let mut failing = MemSource::new(after_slot(alloc, "")?, vec![in alloc; 0]?);
-    Ok(matches!(read_trace(alloc, &mut failing)?, Read::ReadFault))
+fn failed_read(alloc: Global) -> Result<String, Fail> {
+    let mut failing = MemSource::new(input(alloc, "&%")?, vec![in alloc; 0]?);
+    let read = read_trace(alloc, &mut failing)?;
+    Ok(answer(alloc, &read)?)
 }
 
 #[test]
 fn tells_a_failed_read(rt: HostRuntime) -> Result<(), Fail> {
-    expect(&rt, tells_a_fault(rt.alloc())?);
-    Ok(())
+    expect_text(&rt, failed_read(rt.alloc()), "fault")
 }
