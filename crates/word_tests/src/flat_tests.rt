@@ -1,36 +1,63 @@
-//! Lines that `Plain` answers, worked out by hand.
+//! Lines that `Plain` answers, worked out by hand. A table begins with a line that says how many frames
+//! there are, in which mode dirty logs are taken, by its number, and from which pages on those of each host
+//! thread are, as the header of a trace does. Its rows are
+//!
+//! - `slot ID BASE PAGES HOST`, with `ro` if it is read only, and `delete ID`, of the manager;
+//! - `log ID on` and `log ID off`, which give a slot a dirty log and take it away, `get ID`, which reads
+//!   its log, and `clear ID FIRST PAGES WORD WORD`, which clears it for so many pages from one on whose bits
+//!   are set in two words;
+//! - `read GFN WORD`, `write GFN WORD VALUE` and `add GFN WORD VALUE`, of a virtual processor;
+//! - `allow PAGE`, `protect PAGE`, `evict PAGE` and `move PAGE`, with `by` and the number of the host thread.
 ghost use Rattle.flat_model.specs.Kept.{IsInRange};
 
-use crate::expected::expect;
-use core_views::HostChange::{Allow, Evict, Move, Protect};
-use core_views::Op::{Add, Read, Write};
-use core_views::{
-    Actor, Answer, Command, Header, HostChange, Line, Lines, NoMemory, Op, Slot, Trace, Words,
-};
+use crate::expected::expect_rows;
+use core_views::{Actor, Answer, Command, Header, HostChange, Line, Lines, Op, Slot, Trace, Words};
 use flat_model::Plain;
 use std::alloc::Global;
 use std::test::Fail;
 
-// A line of the manager that sets a slot of 16 pages, by its ID, first guest frame, first host
-// page and whether it is read only, or one of so many pages from host page 0 on, or that deletes
-// one; of a virtual processor at a word of a guest frame; of a host thread; and of the manager that
-// gives a slot a dirty log or takes it away, that reads its log, or that clears it for so many pages
-// from one on whose bits are set in two words.
-#[derive(Clone, Copy, Drop)]
-enum Row {
-    Slot(u64, u64, u64, bool),
-    Delete(u64),
-    Access(u64, u8, Op),
-    Host(u8, u64, HostChange),
-    Large(u64, u64, u64),
-    Log(u64, bool),
-    Get(u64),
-    Clear(u64, u64, u64, [u64; 2]),
+// The number that the word is: in decimal digits, or in hex after `0x`.
+fn number(word: &str) -> Option<u64> {
+    let (digits, base) = match word.strip_prefix("0x") {
+        Some(digits) => (digits, 16u8),
+        None => (word, 10),
+    };
+    let mut number = 0u64;
+    for digit in digits.bytes() {
+        let value = match digit {
+            b'0'..=b'9' => digit - b'0',
+            b'a'..=b'f' if base == 16 => digit - b'a' + 10,
+            _ => return None,
+        };
+        number = number
+            .wrapping_mul(u64::from(base))
+            .wrapping_add(u64::from(value));
+    }
+    Some(number)
 }
 
-// Guest memory of 1024 pages of two words and so many frames; the host threads own the pages
-// from these on, and dirty logs are taken in the mode with this number.
-fn memory(alloc: Global, frames: u64, hosts: &[u64], manual: u8) -> Result<Plain, NoMemory> {
+// The numbers among the words of a row.
+fn numbers(alloc: Global, row: &str) -> Result<Vec<u64>, Fail> {
+    let mut numbers = Vec::new(alloc);
+    for word in row.split(' ') {
+        if let Some(number) = number(word) {
+            numbers.push(number)?;
+        }
+    }
+    Ok(numbers)
+}
+
+// The first word of a row.
+fn verb(row: &str) -> &str {
+    match row.split_once(' ') {
+        Some((verb, _)) => verb,
+        None => row,
+    }
+}
+
+// Guest memory of 1024 pages of two words and so many frames, with the host threads' first pages, whose
+// dirty logs are taken in the mode with this number.
+fn memory(alloc: Global, frames: u64, manual: u8, hosts: &[u64]) -> Result<Plain, Fail> {
     let header = Header {
         version: 1,
         vcpus: 1,
@@ -44,10 +71,24 @@ fn memory(alloc: Global, frames: u64, hosts: &[u64], manual: u8) -> Result<Plain
         hosts: Words::from_vec(hosts.to_vec(alloc)?),
     };
     let trace = Trace::unscheduled(alloc, header, Lines::from_vec(Vec::new(alloc)));
-    Plain::new(alloc, &trace)
+    Ok(Plain::new(alloc, &trace)?)
 }
 
-fn run(alloc: Global, plain: &mut Plain, actor: Actor, command: Command) -> Result<Answer, NoMemory>
+// The memory that a table begins with.
+fn begun(alloc: Global, head: &str) -> Result<Plain, Fail> {
+    let numbers = numbers(alloc, head)?;
+    match numbers.as_slice() {
+        [frames, manual, hosts @ ..] => memory(alloc, *frames, small(*manual), hosts),
+        _ => Err(Fail::new("the table has no head")),
+    }
+}
+
+// A number that is small; 255 stands for one that isn't.
+fn small(number: u64) -> u8 {
+    u8::try_from(number).unwrap_or(255)
+}
+
+fn run(alloc: Global, plain: &mut Plain, actor: Actor, command: Command) -> Result<Answer, Fail>
     requires { IsInRange command }
 {
     let line = Line {
@@ -55,7 +96,7 @@ fn run(alloc: Global, plain: &mut Plain, actor: Actor, command: Command) -> Resu
         actor,
         command,
     };
-    plain.line(alloc, &line)
+    Ok(plain.line(alloc, &line)?)
 }
 
 // The slot's line, if its numbers are in the ranges of a line.
@@ -66,418 +107,412 @@ fn set_slot(alloc: Global, plain: &mut Plain, id: u64, slot: Slot) -> Result<Ans
     if slot.base >= 1 << 36 || slot.host >= 1 << 36 || slot.host % 64 != 0 {
         return Err(Fail::new("the slot is out of range"));
     }
-    let command = Command::SetSlot { id, slot };
-    Ok(run(alloc, plain, Actor::Manager, command)?)
+    run(alloc, plain, Actor::Manager, Command::SetSlot { id, slot })
+}
+
+fn changed_slot(
+    alloc: Global,
+    plain: &mut Plain,
+    row: &str,
+    numbers: &[u64],
+) -> Result<Answer, Fail> {
+    match numbers {
+        [id] => run(
+            alloc,
+            plain,
+            Actor::Manager,
+            Command::DeleteSlot { id: *id },
+        ),
+        [id, base, pages, host] => {
+            let slot = Slot {
+                base: *base,
+                pages: *pages,
+                host: *host,
+                read_only: row.ends_with(" ro"),
+            };
+            set_slot(alloc, plain, *id, slot)
+        }
+        _ => Err(Fail::new("a slot's row has other numbers")),
+    }
+}
+
+fn accessed(alloc: Global, plain: &mut Plain, row: &str, numbers: &[u64]) -> Result<Answer, Fail> {
+    let (gfn, word, op) = match (verb(row), numbers) {
+        ("read", [gfn, word]) => (*gfn, *word, Op::Read),
+        ("write", [gfn, word, value]) => (*gfn, *word, Op::Write(*value)),
+        ("add", [gfn, word, value]) => (*gfn, *word, Op::Add(*value)),
+        _ => return Err(Fail::new("an access's row has other numbers")),
+    };
+    let command = Command::Access {
+        gfn,
+        word: small(word),
+        op,
+    };
+    run(alloc, plain, Actor::Vcpu(0), command)
+}
+
+fn changed_page(
+    alloc: Global,
+    plain: &mut Plain,
+    change: HostChange,
+    numbers: &[u64],
+) -> Result<Answer, Fail> {
+    match numbers {
+        [page, host] => {
+            let command = Command::ChangeHost {
+                page: *page,
+                change,
+            };
+            run(alloc, plain, Actor::Host(small(*host)), command)
+        }
+        _ => Err(Fail::new("a page's row has other numbers")),
+    }
+}
+
+fn cleared(alloc: Global, plain: &mut Plain, numbers: &[u64]) -> Result<Answer, Fail> {
+    match numbers {
+        [id, first, count, words @ ..] => {
+            let command = Command::ClearLog {
+                id: *id,
+                first: *first,
+                count: *count,
+                words: Words::from_vec(words.to_vec(alloc)?),
+            };
+            run(alloc, plain, Actor::Manager, command)
+        }
+        _ => Err(Fail::new("a clear's row has other numbers")),
+    }
+}
+
+fn logged(alloc: Global, plain: &mut Plain, row: &str, numbers: &[u64]) -> Result<Answer, Fail> {
+    match (verb(row), numbers) {
+        ("log", [id]) => {
+            let on = row.ends_with(" on");
+            run(
+                alloc,
+                plain,
+                Actor::Manager,
+                Command::SetLog { id: *id, on },
+            )
+        }
+        ("get", [id]) => run(alloc, plain, Actor::Manager, Command::GetLog { id: *id }),
+        _ => cleared(alloc, plain, numbers),
+    }
 }
 
 // What the row is answered.
-fn answer_to(alloc: Global, plain: &mut Plain, row: Row) -> Result<Answer, Fail> {
-    match row {
-        Row::Slot(id, base, host, read_only) => {
-            let slot = Slot {
-                base,
-                pages: 16,
-                host,
-                read_only,
-            };
-            set_slot(alloc, plain, id, slot)
-        }
-        Row::Large(id, base, pages) => {
-            let slot = Slot {
-                base,
-                pages,
-                host: 0,
-                read_only: false,
-            };
-            set_slot(alloc, plain, id, slot)
-        }
-        Row::Delete(id) => {
-            let command = Command::DeleteSlot { id };
-            Ok(run(alloc, plain, Actor::Manager, command)?)
-        }
-        Row::Access(gfn, word, op) => {
-            let command = Command::Access { gfn, word, op };
-            Ok(run(alloc, plain, Actor::Vcpu(0), command)?)
-        }
-        Row::Host(host, page, change) => {
-            let command = Command::ChangeHost { page, change };
-            Ok(run(alloc, plain, Actor::Host(host), command)?)
-        }
-        Row::Log(id, on) => {
-            let command = Command::SetLog { id, on };
-            Ok(run(alloc, plain, Actor::Manager, command)?)
-        }
-        Row::Get(id) => {
-            let command = Command::GetLog { id };
-            Ok(run(alloc, plain, Actor::Manager, command)?)
-        }
-        Row::Clear(id, first, count, words) => {
-            let command = Command::ClearLog {
-                id,
-                first,
-                count,
-                words: Words::from_vec(words.to_vec(alloc)?),
-            };
-            Ok(run(alloc, plain, Actor::Manager, command)?)
-        }
+fn answer_to(alloc: Global, plain: &mut Plain, row: &str, numbers: &[u64]) -> Result<Answer, Fail> {
+    match verb(row) {
+        "slot" | "delete" => changed_slot(alloc, plain, row, numbers),
+        "log" | "get" | "clear" => logged(alloc, plain, row, numbers),
+        "allow" => changed_page(alloc, plain, HostChange::Allow, numbers),
+        "protect" => changed_page(alloc, plain, HostChange::Protect, numbers),
+        "evict" => changed_page(alloc, plain, HostChange::Evict, numbers),
+        "move" => changed_page(alloc, plain, HostChange::Move, numbers),
+        _ => accessed(alloc, plain, row, numbers),
     }
 }
 
-// The first of these rows, run one after another in memory of its own, whose answer is printed
-// otherwise than it stands here.
-fn first_other(
-    alloc: Global,
-    frames: u64,
-    hosts: &[u64],
-    rows: &[(Row, &str)],
-) -> Result<Option<usize>, Fail> {
-    let mut plain = memory(alloc, frames, hosts, 0)?;
-    first_other_in(alloc, &mut plain, rows)
+fn told(alloc: Global, plain: &mut Plain, row: &str) -> Result<String, Fail> {
+    let numbers = numbers(alloc, row)?;
+    let answer = answer_to(alloc, plain, row, &numbers)?;
+    Ok(format!(in alloc; "{answer}")?)
 }
 
-// The same in this memory.
-fn first_other_in(
-    alloc: Global,
-    plain: &mut Plain,
-    rows: &[(Row, &str)],
-) -> Result<Option<usize>, Fail> {
-    for (i, (row, answer)) in rows.iter().enumerate() {
-        let given = answer_to(alloc, plain, *row)?;
-        if format!(in alloc; "{given}")?.as_str() != *answer {
-            return Ok(Some(i));
+// The first row of a case that is answered otherwise than it stands there, one after another, with its answer,
+// or no text. It counts the others.
+fn other_of_case(alloc: Global, case: &str, count: &mut usize) -> Result<String, Fail> {
+    let (head, rows) = case.split_once('\n').unwrap_or((case, ""));
+    let mut plain = begun(alloc, head)?;
+    for row in rows.split('\n') {
+        if let Some((row, wanted)) = row.split_once(": ") {
+            let came = told(alloc, &mut plain, row)?;
+            if came.as_str() != wanted {
+                return Ok(format!(in alloc; "{row}: {came}")?);
+            }
+            *count = count.saturating_add(1);
         }
     }
-    Ok(None)
+    Ok(String::new(alloc))
 }
 
-// Guest frames 0 to 15 are host pages 0 to 15.
-const SLOT: Row = Row::Slot(0, 0, 0, false);
-
-// The first of these rows that is answered otherwise, in memory whose dirty logs are taken in the
-// mode with this number.
-fn first_other_log(alloc: Global, manual: u8, rows: &[(Row, &str)]) -> Result<Option<usize>, Fail> {
-    let mut plain = memory(alloc, 1040, &[0], manual)?;
-    first_other_in(alloc, &mut plain, rows)
+// The same of a table, whose cases begin with a line `--`, with how many rows are answered as they stand there.
+fn first_other(alloc: Global, table: &str) -> Result<(usize, String), Fail> {
+    let mut count = 0usize;
+    for case in table.split("--\n") {
+        if !case.is_empty() {
+            let other = other_of_case(alloc, case, &mut count)?;
+            if !other.is_empty() {
+                return Ok((count, other));
+            }
+        }
+    }
+    Ok((count, String::new(alloc)))
 }
 
 // Guest frames 32 to 47 are host pages 64 to 79 then, which the guest may not write to. What
 // is refused changes nothing.
-#[test]
-fn answers_line_by_line(rt: HostRuntime) -> Result<(), Fail> {
-    let rows = [
-        (Row::Slot(32, 0, 0, false), "refused bad-id"),
-        (Row::Slot(0, (1 << 36) - 15, 0, false), "refused too-large"),
-        (Row::Slot(0, 0, 1024, false), "refused too-large"),
-        (SLOT, "done"),
-        (Row::Slot(1, 15, 64, false), "refused overlap"),
-        (Row::Slot(1, 16, 0, false), "refused host-overlap"),
-        (Row::Slot(0, 16, 64, false), "refused fixed"),
-        (Row::Slot(31, 32, 64, true), "done"),
-        (Row::Access(1, 0, Write(7)), "frame 1 value 0"),
-        (Row::Access(15, 1, Write(3)), "frame 15 value 0"),
-        (Row::Access(1, 0, Read), "frame 1 value 7"),
-        (Row::Access(15, 1, Read), "frame 15 value 3"),
-        (Row::Access(15, 0, Read), "frame 15 value 0"),
-        (Row::Access(1, 0, Add(u64::MAX)), "frame 1 value 7"),
-        (Row::Access(1, 0, Read), "frame 1 value 6"),
-        (Row::Access(16, 0, Read), "mmio"),
-        (Row::Access(33, 0, Write(1)), "mmio"),
-        (Row::Access(33, 0, Read), "frame 65 value 0"),
-    ];
-    expect(&rt, (first_other(rt.alloc(), 1040, &[0], &rows)?, true));
-    Ok(())
-}
-
+//
 // The slot moves, over a part of its old guest frames, and stays where it is set again; it is deleted,
 // and its host pages, with their content, are another slot's.
+const SLOTS: &str = "\
+--
+frames 1040 manual 0 hosts 0
+slot 32 0 16 0: refused bad-id
+slot 0 68719476721 16 0: refused too-large
+slot 0 0 16 1024: refused too-large
+slot 0 0 16 0: done
+slot 1 15 16 64: refused overlap
+slot 1 16 16 0: refused host-overlap
+slot 0 16 16 64: refused fixed
+slot 31 32 16 64 ro: done
+write 1 0 7: frame 1 value 0
+write 15 1 3: frame 15 value 0
+read 1 0: frame 1 value 7
+read 15 1: frame 15 value 3
+read 15 0: frame 15 value 0
+add 1 0 0xffffffffffffffff: frame 1 value 7
+read 1 0: frame 1 value 6
+read 16 0: mmio
+write 33 0 1: mmio
+read 33 0: frame 65 value 0
+--
+frames 1040 manual 0 hosts 0
+delete 0: refused missing
+delete 32: refused bad-id
+slot 0 0 16 0: done
+write 9 0 7: frame 9 value 0
+slot 0 8 16 0: done
+slot 0 8 16 0: done
+read 9 0: frame 1 value 0
+read 17 0: frame 9 value 7
+read 7 0: mmio
+slot 1 23 16 64: refused overlap
+delete 0: done
+delete 0: refused missing
+read 17 0: mmio
+slot 1 23 16 64: done
+slot 0 100 16 0 ro: done
+read 109 0: frame 9 value 7
+add 109 0 1: mmio
+";
+
 #[test]
-fn moves_a_slot_and_deletes_it(rt: HostRuntime) -> Result<(), Fail> {
-    let rows = [
-        (Row::Delete(0), "refused missing"),
-        (Row::Delete(32), "refused bad-id"),
-        (SLOT, "done"),
-        (Row::Access(9, 0, Write(7)), "frame 9 value 0"),
-        (Row::Slot(0, 8, 0, false), "done"),
-        (Row::Slot(0, 8, 0, false), "done"),
-        (Row::Access(9, 0, Read), "frame 1 value 0"),
-        (Row::Access(17, 0, Read), "frame 9 value 7"),
-        (Row::Access(7, 0, Read), "mmio"),
-        (Row::Slot(1, 23, 64, false), "refused overlap"),
-        (Row::Delete(0), "done"),
-        (Row::Delete(0), "refused missing"),
-        (Row::Access(17, 0, Read), "mmio"),
-        (Row::Slot(1, 23, 64, false), "done"),
-        (Row::Slot(0, 100, 0, true), "done"),
-        (Row::Access(109, 0, Read), "frame 9 value 7"),
-        (Row::Access(109, 0, Add(1)), "mmio"),
-    ];
-    expect(&rt, (first_other(rt.alloc(), 1040, &[0], &rows)?, true));
-    Ok(())
+fn answers_slot_lines_and_accesses(rt: HostRuntime) -> Result<(), Fail> {
+    expect_rows(&rt, first_other(rt.alloc(), SLOTS), 35)
 }
 
-// The content goes with a page that is moved, to the lowest free frame.
-#[test]
-fn moves_a_page(rt: HostRuntime) -> Result<(), Fail> {
-    let rows = [
-        (SLOT, "done"),
-        (Row::Access(2, 0, Write(7)), "frame 2 value 0"),
-        (Row::Host(0, 2, Move), "frame 1024"),
-        (Row::Access(2, 0, Read), "frame 1024 value 7"),
-        // Frame 2 was given up.
-        (Row::Host(0, 9, Move), "frame 2"),
-        (Row::Access(9, 0, Read), "frame 2 value 0"),
-        (Row::Host(0, 1023, Move), "frame 9"),
-        (Row::Host(0, 2, Move), "frame 1023"),
-        (Row::Access(2, 0, Add(1)), "frame 1023 value 7"),
-        (Row::Access(2, 0, Read), "frame 1023 value 8"),
-    ];
-    expect(&rt, (first_other(rt.alloc(), 1040, &[0], &rows)?, true));
-    Ok(())
-}
-
+// The content goes with a page that is moved, to the lowest free frame: the second one goes to
+// frame 2, which was given up.
+//
 // A page that isn't present still names its frame, and an access brings it in.
-#[test]
-fn evicts_a_page(rt: HostRuntime) -> Result<(), Fail> {
-    let rows = [
-        (SLOT, "done"),
-        (Row::Access(5, 0, Write(3)), "frame 5 value 0"),
-        (Row::Host(0, 5, Evict), "done"),
-        (Row::Access(5, 0, Read), "frame 5 value 3"),
-        (Row::Host(0, 3, Move), "frame 1024"),
-        (Row::Host(0, 3, Move), "frame 3"),
-        (Row::Host(0, 3, Evict), "done"),
-        (Row::Host(0, 4, Move), "frame 1024"),
-        (Row::Host(0, 3, Move), "frame 4"),
-        (Row::Access(3, 0, Read), "frame 4 value 0"),
-    ];
-    expect(&rt, (first_other(rt.alloc(), 1040, &[0], &rows)?, true));
-    Ok(())
-}
-
+//
 // A write to a page that is protected leaves the guest, and brings nothing in.
-#[test]
-fn protects_a_page(rt: HostRuntime) -> Result<(), Fail> {
-    let rows = [
-        (SLOT, "done"),
-        (Row::Host(0, 4, Protect), "done"),
-        (Row::Access(4, 0, Write(1)), "hostfault"),
-        (Row::Host(0, 4, Allow), "done"),
-        (Row::Access(4, 0, Write(1)), "frame 4 value 0"),
-        (Row::Host(0, 6, Protect), "done"),
-        (Row::Host(0, 6, Evict), "done"),
-        (Row::Host(0, 6, Move), "frame 1024"),
-        (Row::Access(6, 0, Add(1)), "hostfault"),
-        (Row::Access(6, 0, Read), "frame 1024 value 0"),
-        (Row::Access(6, 0, Add(1)), "hostfault"),
-        (Row::Access(16, 0, Write(1)), "mmio"),
-    ];
-    expect(&rt, (first_other(rt.alloc(), 1040, &[0], &rows)?, true));
-    Ok(())
-}
-
-// Where each frame is named no page moves, and one free frame is enough.
-#[test]
-fn moves_within_few_frames(rt: HostRuntime) -> Result<(), Fail> {
-    let none_free = [
-        (SLOT, "done"),
-        (Row::Host(0, 0, Move), "refused no-frame"),
-        (Row::Host(0, 0, Evict), "done"),
-        (Row::Host(0, 0, Move), "refused no-frame"),
-        (Row::Access(0, 0, Read), "frame 0 value 0"),
-    ];
-    expect(
-        &rt,
-        (first_other(rt.alloc(), 1024, &[0], &none_free)?, true),
-    );
-    let one_free = [
-        (SLOT, "done"),
-        (Row::Host(0, 7, Move), "frame 1024"),
-        (Row::Host(0, 8, Move), "frame 7"),
-        (Row::Host(0, 7, Move), "frame 8"),
-        (Row::Host(0, 9, Move), "frame 1024"),
-        (Row::Host(0, 9, Move), "frame 9"),
-    ];
-    expect(&rt, (first_other(rt.alloc(), 1025, &[0], &one_free)?, true));
-    Ok(())
-}
-
+//
+// Where each frame is named no page moves.
+//
+// One free frame is enough.
+//
 // A host thread changes its own pages alone: here h0 owns pages 0 to 511, and h1
 // pages 512 to 1023.
+const PAGES: &str = "\
+--
+frames 1040 manual 0 hosts 0
+slot 0 0 16 0: done
+write 2 0 7: frame 2 value 0
+move 2 by 0: frame 1024
+read 2 0: frame 1024 value 7
+move 9 by 0: frame 2
+read 9 0: frame 2 value 0
+move 1023 by 0: frame 9
+move 2 by 0: frame 1023
+add 2 0 1: frame 1023 value 7
+read 2 0: frame 1023 value 8
+--
+frames 1040 manual 0 hosts 0
+slot 0 0 16 0: done
+write 5 0 3: frame 5 value 0
+evict 5 by 0: done
+read 5 0: frame 5 value 3
+move 3 by 0: frame 1024
+move 3 by 0: frame 3
+evict 3 by 0: done
+move 4 by 0: frame 1024
+move 3 by 0: frame 4
+read 3 0: frame 4 value 0
+--
+frames 1040 manual 0 hosts 0
+slot 0 0 16 0: done
+protect 4 by 0: done
+write 4 0 1: hostfault
+allow 4 by 0: done
+write 4 0 1: frame 4 value 0
+protect 6 by 0: done
+evict 6 by 0: done
+move 6 by 0: frame 1024
+add 6 0 1: hostfault
+read 6 0: frame 1024 value 0
+add 6 0 1: hostfault
+write 16 0 1: mmio
+--
+frames 1024 manual 0 hosts 0
+slot 0 0 16 0: done
+move 0 by 0: refused no-frame
+evict 0 by 0: done
+move 0 by 0: refused no-frame
+read 0 0: frame 0 value 0
+--
+frames 1025 manual 0 hosts 0
+slot 0 0 16 0: done
+move 7 by 0: frame 1024
+move 8 by 0: frame 7
+move 7 by 0: frame 8
+move 9 by 0: frame 1024
+move 9 by 0: frame 9
+--
+frames 1040 manual 0 hosts 0 512
+slot 0 0 16 0: done
+move 512 by 0: refused out-of-range
+evict 511 by 1: refused out-of-range
+protect 1024 by 1: refused out-of-range
+allow 0xffffffffffffffff by 1: refused out-of-range
+move 0 by 2: refused out-of-range
+move 511 by 0: frame 1024
+move 512 by 1: frame 511
+";
+
 #[test]
-fn keeps_to_its_own_pages(rt: HostRuntime) -> Result<(), Fail> {
-    let rows = [
-        (SLOT, "done"),
-        (Row::Host(0, 512, Move), "refused out-of-range"),
-        (Row::Host(1, 511, Evict), "refused out-of-range"),
-        (Row::Host(1, 1024, Protect), "refused out-of-range"),
-        (Row::Host(1, u64::MAX, Allow), "refused out-of-range"),
-        (Row::Host(2, 0, Move), "refused out-of-range"),
-        (Row::Host(0, 511, Move), "frame 1024"),
-        (Row::Host(1, 512, Move), "frame 511"),
-    ];
-    expect(
-        &rt,
-        (first_other(rt.alloc(), 1040, &[0, 512], &rows)?, true),
-    );
-    Ok(())
+fn changes_host_pages(rt: HostRuntime) -> Result<(), Fail> {
+    expect_rows(&rt, first_other(rt.alloc(), PAGES), 51)
 }
 
 // A write or an add makes its page dirty, if its slot has a log, and a get takes out what it
-// reads. A log that is taken away is forgotten.
-#[test]
-fn reads_an_automatic_log(rt: HostRuntime) -> Result<(), Fail> {
-    let rows = [
-        (SLOT, "done"),
-        (Row::Slot(1, 32, 64, true), "done"),
-        (Row::Access(3, 0, Write(1)), "frame 3 value 0"),
-        (Row::Log(0, true), "done"),
-        (Row::Access(1, 0, Write(7)), "frame 1 value 0"),
-        (Row::Access(9, 1, Add(1)), "frame 9 value 0"),
-        (Row::Access(9, 0, Write(2)), "frame 9 value 0"),
-        (Row::Access(4, 0, Read), "frame 4 value 0"),
-        (Row::Get(0), "bits 0x202"),
-        (Row::Get(0), "bits 0x0"),
-        (Row::Access(15, 0, Write(1)), "frame 15 value 0"),
-        (Row::Access(0, 0, Write(1)), "frame 0 value 0"),
-        (Row::Clear(0, 0, 16, [0x8000, 0]), "bits 0x8000"),
-        (Row::Get(0), "bits 0x1"),
-        // A protected page is not written, and one of a read-only slot isn't either.
-        (Row::Host(0, 2, Protect), "done"),
-        (Row::Access(2, 0, Write(1)), "hostfault"),
-        (Row::Log(1, true), "done"),
-        (Row::Access(32, 0, Write(1)), "mmio"),
-        (Row::Get(1), "bits 0x0"),
-        (Row::Access(5, 0, Write(1)), "frame 5 value 0"),
-        (Row::Log(0, false), "done"),
-        (Row::Log(0, true), "done"),
-        (Row::Get(0), "bits 0x0"),
-    ];
-    expect(&rt, (first_other_log(rt.alloc(), 0, &rows)?, true));
-    Ok(())
-}
-
-// A slot with a log is not moved or deleted, and keeps its log where it is set again.
-#[test]
-fn refuses_logs(rt: HostRuntime) -> Result<(), Fail> {
-    let rows = [
-        (Row::Log(0, true), "refused missing"),
-        (Row::Log(32, false), "refused missing"),
-        (Row::Get(0), "refused missing"),
-        (Row::Clear(0, 1, 1, [0, 0]), "refused missing"),
-        (SLOT, "done"),
-        (Row::Log(0, false), "refused no-log"),
-        (Row::Get(0), "refused no-log"),
-        (Row::Clear(0, 1, 1, [0, 0]), "refused no-log"),
-        (Row::Log(0, true), "done"),
-        (Row::Log(0, true), "refused logged"),
-        (Row::Access(6, 0, Write(1)), "frame 6 value 0"),
-        (Row::Delete(0), "refused logged"),
-        (Row::Slot(0, 16, 0, false), "refused logged"),
-        (SLOT, "done"),
-        // The pages begin within a word, end within one before the slot's end, or reach past it.
-        (Row::Clear(0, 1, 15, [0, 0]), "refused bad-range"),
-        (Row::Clear(0, 0, 15, [0, 0]), "refused bad-range"),
-        (Row::Clear(0, 0, 64, [0, 0]), "refused bad-range"),
-        (Row::Clear(0, 64, 0, [0, 0]), "refused bad-range"),
-        (Row::Clear(0, 0, u64::MAX, [0, 0]), "refused bad-range"),
-        (
-            Row::Clear(0, u64::MAX - 63, 64, [0, 0]),
-            "refused bad-range",
-        ),
-        (Row::Clear(0, 0, 0, [0x40, 0]), "bits"),
-        (Row::Get(0), "bits 0x40"),
-        (Row::Log(0, false), "done"),
-        (Row::Slot(0, 16, 0, false), "done"),
-        (Row::Log(0, true), "done"),
-        (Row::Get(0), "bits 0x0"),
-        (Row::Log(0, false), "done"),
-        (Row::Delete(0), "done"),
-    ];
-    expect(&rt, (first_other_log(rt.alloc(), 0, &rows)?, true));
-    Ok(())
-}
-
+// reads. A log that is taken away is forgotten. A protected page is not written, and one of a
+// read-only slot isn't either.
+//
+// A slot with a log is not moved or deleted, and keeps its log where it is set again. The pages to be
+// cleared begin within a word, end within one before the slot's end, or reach past it.
+//
 // A get only looks, and a clear takes out those of its pages whose bits are set. Bits past the
 // count are ignored.
-#[test]
-fn reads_a_manual_log(rt: HostRuntime) -> Result<(), Fail> {
-    let rows = [
-        (SLOT, "done"),
-        (Row::Log(0, true), "done"),
-        (Row::Get(0), "bits 0x0"),
-        (Row::Access(1, 0, Write(7)), "frame 1 value 0"),
-        (Row::Access(9, 0, Write(7)), "frame 9 value 0"),
-        (Row::Get(0), "bits 0x202"),
-        (Row::Get(0), "bits 0x202"),
-        (Row::Clear(0, 0, 16, [0xf_0002, u64::MAX]), "bits 0x2"),
-        (Row::Get(0), "bits 0x200"),
-        (Row::Access(1, 0, Add(1)), "frame 1 value 7"),
-        (Row::Get(0), "bits 0x202"),
-        (Row::Clear(0, 0, 16, [0xffff, 0]), "bits 0x202"),
-        (Row::Get(0), "bits 0x0"),
-    ];
-    expect(&rt, (first_other_log(rt.alloc(), 1, &rows)?, true));
-    Ok(())
-}
-
+//
 // Each page of a new log is dirty, and those of another slot's aren't.
-#[test]
-fn begins_a_log_all_set(rt: HostRuntime) -> Result<(), Fail> {
-    let rows = [
-        (SLOT, "done"),
-        (Row::Slot(1, 16, 64, false), "done"),
-        (Row::Log(0, true), "done"),
-        (Row::Get(0), "bits 0xffff"),
-        (Row::Clear(0, 0, 16, [0xff, 0]), "bits 0xff"),
-        (Row::Get(0), "bits 0xff00"),
-        (Row::Access(3, 0, Write(1)), "frame 3 value 0"),
-        (Row::Get(0), "bits 0xff08"),
-        (Row::Get(1), "refused no-log"),
-        (Row::Log(1, true), "done"),
-        (Row::Clear(1, 0, 16, [0x1, 0]), "bits 0x1"),
-        (Row::Get(1), "bits 0xfffe"),
-        (Row::Log(0, false), "done"),
-        (Row::Get(1), "bits 0xfffe"),
-        (Row::Log(0, true), "done"),
-        (Row::Get(0), "bits 0xffff"),
-    ];
-    expect(&rt, (first_other_log(rt.alloc(), 2, &rows)?, true));
-    Ok(())
-}
-
+//
 // Bit 0 of the second word is of page 64, and its last one of page 99.
+//
+// The same where each page of a new log is dirty.
+const LOGS: &str = "\
+--
+frames 1040 manual 0 hosts 0
+slot 0 0 16 0: done
+slot 1 32 16 64 ro: done
+write 3 0 1: frame 3 value 0
+log 0 on: done
+write 1 0 7: frame 1 value 0
+add 9 1 1: frame 9 value 0
+write 9 0 2: frame 9 value 0
+read 4 0: frame 4 value 0
+get 0: bits 0x202
+get 0: bits 0x0
+write 15 0 1: frame 15 value 0
+write 0 0 1: frame 0 value 0
+clear 0 0 16 0x8000 0: bits 0x8000
+get 0: bits 0x1
+protect 2 by 0: done
+write 2 0 1: hostfault
+log 1 on: done
+write 32 0 1: mmio
+get 1: bits 0x0
+write 5 0 1: frame 5 value 0
+log 0 off: done
+log 0 on: done
+get 0: bits 0x0
+--
+frames 1040 manual 0 hosts 0
+log 0 on: refused missing
+log 32 off: refused missing
+get 0: refused missing
+clear 0 1 1 0 0: refused missing
+slot 0 0 16 0: done
+log 0 off: refused no-log
+get 0: refused no-log
+clear 0 1 1 0 0: refused no-log
+log 0 on: done
+log 0 on: refused logged
+write 6 0 1: frame 6 value 0
+delete 0: refused logged
+slot 0 16 16 0: refused logged
+slot 0 0 16 0: done
+clear 0 1 15 0 0: refused bad-range
+clear 0 0 15 0 0: refused bad-range
+clear 0 0 64 0 0: refused bad-range
+clear 0 64 0 0 0: refused bad-range
+clear 0 0 0xffffffffffffffff 0 0: refused bad-range
+clear 0 0xffffffffffffffc0 64 0 0: refused bad-range
+clear 0 0 0 0x40 0: bits
+get 0: bits 0x40
+log 0 off: done
+slot 0 16 16 0: done
+log 0 on: done
+get 0: bits 0x0
+log 0 off: done
+delete 0: done
+--
+frames 1040 manual 1 hosts 0
+slot 0 0 16 0: done
+log 0 on: done
+get 0: bits 0x0
+write 1 0 7: frame 1 value 0
+write 9 0 7: frame 9 value 0
+get 0: bits 0x202
+get 0: bits 0x202
+clear 0 0 16 0xf0002 0xffffffffffffffff: bits 0x2
+get 0: bits 0x200
+add 1 0 1: frame 1 value 7
+get 0: bits 0x202
+clear 0 0 16 0xffff 0: bits 0x202
+get 0: bits 0x0
+--
+frames 1040 manual 2 hosts 0
+slot 0 0 16 0: done
+slot 1 16 16 64: done
+log 0 on: done
+get 0: bits 0xffff
+clear 0 0 16 0xff 0: bits 0xff
+get 0: bits 0xff00
+write 3 0 1: frame 3 value 0
+get 0: bits 0xff08
+get 1: refused no-log
+log 1 on: done
+clear 1 0 16 0x1 0: bits 0x1
+get 1: bits 0xfffe
+log 0 off: done
+get 1: bits 0xfffe
+log 0 on: done
+get 0: bits 0xffff
+--
+frames 1040 manual 0 hosts 0
+slot 3 1000 100 0: done
+log 3 on: done
+write 1063 0 1: frame 63 value 0
+write 1064 0 1: frame 64 value 0
+get 3: bits 0x8000000000000000 0x1
+get 3: bits 0x0 0x0
+--
+frames 1040 manual 2 hosts 0
+slot 3 1000 100 0: done
+log 3 on: done
+get 3: bits 0xffffffffffffffff 0xfffffffff
+clear 3 64 36 0x800000001 0: bits 0x800000001
+get 3: bits 0xffffffffffffffff 0x7fffffffe
+clear 3 0 64 0xfffffffffffffffe 0xffffffffffffffff: bits 0xfffffffffffffffe
+get 3: bits 0x1 0x7fffffffe
+write 1099 0 1: frame 99 value 0
+clear 3 0 100 0x3 0x800000003: bits 0x1 0x800000002
+get 3: bits 0x0 0x7fffffffc
+";
+
 #[test]
-fn reads_a_log_of_two_words(rt: HostRuntime) -> Result<(), Fail> {
-    let automatic = [
-        (Row::Large(3, 1000, 100), "done"),
-        (Row::Log(3, true), "done"),
-        (Row::Access(1063, 0, Write(1)), "frame 63 value 0"),
-        (Row::Access(1064, 0, Write(1)), "frame 64 value 0"),
-        (Row::Get(3), "bits 0x8000000000000000 0x1"),
-        (Row::Get(3), "bits 0x0 0x0"),
-    ];
-    expect(&rt, (first_other_log(rt.alloc(), 0, &automatic)?, true));
-    let all_set = [
-        (Row::Large(3, 1000, 100), "done"),
-        (Row::Log(3, true), "done"),
-        (Row::Get(3), "bits 0xffffffffffffffff 0xfffffffff"),
-        (
-            Row::Clear(3, 64, 36, [0x8_0000_0001, 0]),
-            "bits 0x800000001",
-        ),
-        (Row::Get(3), "bits 0xffffffffffffffff 0x7fffffffe"),
-        (
-            Row::Clear(3, 0, 64, [u64::MAX - 1, u64::MAX]),
-            "bits 0xfffffffffffffffe",
-        ),
-        (Row::Get(3), "bits 0x1 0x7fffffffe"),
-        (Row::Access(1099, 0, Write(1)), "frame 99 value 0"),
-        (
-            Row::Clear(3, 0, 100, [0x3, 0x8_0000_0003]),
-            "bits 0x1 0x800000002",
-        ),
-        (Row::Get(3), "bits 0x0 0x7fffffffc"),
-    ];
-    expect(&rt, (first_other_log(rt.alloc(), 2, &all_set)?, true));
-    Ok(())
+fn reads_and_clears_logs(rt: HostRuntime) -> Result<(), Fail> {
+    expect_rows(&rt, first_other(rt.alloc(), LOGS), 96)
 }
