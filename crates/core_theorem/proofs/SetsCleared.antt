@@ -1,13 +1,21 @@
 -- Where a slot line is about to give the old slot set's page back, the page's role is cleared.
-use Rattle.core_views.specs.SlotCommands.{changes_slot, slot_invalidated}
+use Rattle.core_views.specs.SlotCommands.{changes_slot, slot_armed, slot_invalidated}
+use Rattle.core_views.specs.LogCommands.{is_all_set}
+use Rattle.core_views.specs.declared.place.FrameRange.{FrameRange}
+use Rattle.core_views.specs.declared.place.WriteProtectPlace.TheVariants as protect
+use Rattle.core_views.specs.declared.trace.Slot.{Slot}
+use Rattle.part_steps.specs.LogHoldings.{log_end}
+use Rattle.mmu_core.specs.declared.write_protect.WriteProtectNext.{WriteProtectNext}
+use Rattle.mmu_core.specs.declared.write_protect.WriteProtectNext.TheVariants as protects_next
+use Rattle.mmu_core.specs.lines.WriteProtectSteps.{protect_next}
 use Rattle.std.proofs.Common.{◌≡◌, ◌≢◌, ◌⊎◌, inl, inr, ◌<◌, ℕ, List, refl, sym, subst, ap, ◌∙◌}
-use Rattle.std.specs.Prelude.{Bool, true, false, ◌+◌, ◌==◌, nat_lt, Option, Some, None, is_some}
+use Rattle.std.specs.Prelude.{Bool, true, false, ◌+◌, ◌==◌, nat_lt, if◌then◌else◌, Option, Some, None, is_some}
 use Rattle.core_views.specs.declared.kind.Kind.{Kind}
 use Rattle.core_views.specs.declared.place.Place.{Place}
 use Rattle.core_views.specs.declared.place.Place.TheVariants as place
 use Rattle.core_views.specs.declared.place.SlotChangePlace.{SlotChangePlace}
-use Rattle.core_views.specs.declared.place.SlotChangePlace.TheVariants.{Claim, Fill, Role, Begin, Exclude, Count, Close, Publish}
-use Rattle.core_views.specs.declared.place.SlotChangePlace.TheVariants.{Release, End, Watch, Clear, Give}
+use Rattle.core_views.specs.declared.place.SlotChangePlace.TheVariants.{Claim, Fill, Role, Arm, Begin, Exclude, Count, Close, Publish}
+use Rattle.core_views.specs.declared.place.SlotChangePlace.TheVariants.{Release, End, Watch, WriteProtect, Clear, Give}
 use Rattle.core_views.specs.declared.place.BeginPlace.TheVariants as begins
 use Rattle.core_views.specs.declared.place.EndPlace.TheVariants as ends
 use Rattle.core_views.specs.declared.sizes.Sizes.{Sizes}
@@ -44,7 +52,7 @@ use Rattle.mmu_core.specs.declared.invalidate.BeginNext.TheVariants as begins_ne
 use Rattle.mmu_core.specs.declared.invalidate.EndNext.{EndNext}
 use Rattle.mmu_core.specs.declared.invalidate.EndNext.TheVariants as ends_next
 use Rattle.mmu_core.specs.lines.InvalidateSteps.{begin_next, end_next}
-use Rattle.mmu_core.specs.lines.SlotChangeSteps.{after_set_begin, after_set_end, slot_target}
+use Rattle.mmu_core.specs.lines.SlotChangeSteps.{after_grace, after_protect, after_set_begin, after_set_end, arm_word, frames_of, log_target, slot_target}
 use Rattle.mmu_core.specs.lines.SlotChangeSteps.{after_set_claim, watch_next, slot_change_note, slot_change_outcome, slot_change_task}
 use Rattle.mmu_core.specs.machine.Steps.{has_line, line_at, place_at}
 use Rattle.mmu_core.specs.invariant.TopicsInvariant.{TopicsInvariant}
@@ -98,6 +106,14 @@ module _ (role : ℕ → ℕ) (x : ℕ) (t : Topics) where
   ended_cleared (ends_next.Goes p) = tt
   ended_cleared ends_next.Ended = tt
 
+  grace_cleared : (z : Sizes) (slot : Option Slot) → SlotChangeCleared role (after_grace z slot) t
+  grace_cleared z None = tt
+  grace_cleared z (Some slot) = either_place (λ q. SlotChangeCleared role q t) (is_all_set z.mode) Clear (WriteProtect (frames_of slot) protect.Exclude) tt tt
+
+  protected_cleared : (range : FrameRange) (next : WriteProtectNext) → SlotChangeCleared role (after_protect range next) t
+  protected_cleared range (protects_next.Goes p) = tt
+  protected_cleared range protects_next.Over = tt
+
   -- The step of this place clears the role.
   abbrev clears : SlotChangePlace → Bool
   clears Clear = true
@@ -108,13 +124,21 @@ module _ (role : ℕ → ℕ) (x : ℕ) (t : Topics) where
   no_give (Claim begun) command h never = claim_cleared (claim_next Pages begun h.state.sizes h.topics.claim x)
   no_give Fill command h never = either_place (λ q. SlotChangeCleared role q t) (nat_lt (words_filled h.topics.owned + 1) 512) Fill Role tt tt
   no_give Role command h never =
-      either_place (λ q. SlotChangeCleared role q t) (is_some (slot_invalidated h.slots command)) (Begin begins.Exclude) Exclude tt tt
+      either_place (λ q. SlotChangeCleared role q t) (is_some (slot_invalidated h.slots command)) (Begin begins.Exclude)
+      (if is_some (slot_armed h.slots command) then Arm false else Exclude) tt
+      (either_place (λ q. SlotChangeCleared role q t) (is_some (slot_armed h.slots command)) (Arm false) Exclude tt tt)
+  no_give (Arm begun) command h never =
+      let slot = log_target h command in
+      either_place (λ q. SlotChangeCleared role q t) (nat_lt (arm_word begun slot h.topics + 1) (log_end slot)) (Arm true) Exclude tt tt
+  no_give (WriteProtect range p) command h never = protected_cleared range (protect_next p h.state.sizes range h.topics x)
   no_give (Begin p) command h never = begun_cleared (begin_next p h.state.sizes (slot_target h command) h.topics x)
   no_give Release command h never = either_place (λ q. SlotChangeCleared role q t) h.topics.invalidations.opened (End ends.Exclude) Watch tt tt
   no_give (End p) command h never = ended_cleared (end_next p x)
   no_give Exclude command h never = either_place (λ q. SlotChangeCleared role q t) (x == 0) Count Exclude tt tt
   no_give Count command h never = either_place (λ q. SlotChangeCleared role q t) (x == own_open h.topics.invalidations) Publish Close tt tt
-  no_give Watch command h never = each_watch (λ q. SlotChangeCleared role q t) (watch_next h x) Watch Clear tt tt
+  no_give Watch command h never =
+      each_watch (λ q. SlotChangeCleared role q t) (watch_next h x) Watch (after_grace h.state.sizes (slot_armed h.slots command)) tt
+      (grace_cleared h.state.sizes (slot_armed h.slots command))
   no_give Clear command h never = absurd (cc never)
   no_give _ command h never = tt
 
@@ -192,8 +216,7 @@ module _ (z : Sizes) (v : View) (a i : ℕ) (I : Invariant z v) (P : TopicsInvar
 
   others_cleared : (h : Held) (task : Task) → StepIn z v a task → HandCleared v i
       → HandCleared (record { words = words_after task v.words; hand = upd v.hand a h }) i
-  others_cleared h task makes C =
-      subst (HeldCleared (words_after task v.words area.Role)) (sym (upd_other v.hand a i h ne))
+  others_cleared h task makes C = subst (HeldCleared (words_after task v.words area.Role)) (sym (upd_other v.hand a i h ne))
       (still_cleared (v.words area.Role) (words_after task v.words area.Role) (v.hand i).state.place (v.hand i).state.line.command (v.hand i) (I.knows i lt)
       (λ k left. role_after k left task makes) C)
 
@@ -257,8 +280,7 @@ each_cleared z lines w ss R i lt =
     (subst (HeldCleared (word_in z w area.Role)) (sym (hand_is z lines w i R.start lt)) tt)
 
 pub returned_sets_are_cleared : ReturnedSetsAreCleared
-returned_sets_are_cleared z lines w ss s R page gives left =
-    ap (λ l. word_in z u area.Role (page_retired l)) (sym left)
+returned_sets_are_cleared z lines w ss s R page gives left = ap (λ l. word_in z u area.Role (page_retired l)) (sym left)
     ∙ subst (λ p. PlaceCleared (word_in z u area.Role) p h.topics) at (each_cleared z lines w ss earlier s.actor there)
   where
     u : World Held

@@ -1,13 +1,13 @@
 -- Where a slot line gives the old slot set's page back.
 use Rattle.std.proofs.Common.{◌≡◌, ◌<◌, ℕ, refl, sym, ap, ◌∙◌, arith}
-use Rattle.std.specs.Prelude.{Some}
+use Rattle.std.specs.Prelude.{true, false, Some}
 use Rattle.core_views.specs.declared.kind.Kind.{Kind}
 use Rattle.core_views.specs.declared.kind.StepKind.TheVariants as kind
 use Rattle.core_views.specs.Kinds.{code_of}
 use Rattle.core_views.specs.declared.place.Place.{Place}
 use Rattle.core_views.specs.declared.place.Place.TheVariants as place
 use Rattle.core_views.specs.declared.place.SlotChangePlace.{SlotChangePlace}
-use Rattle.core_views.specs.declared.place.SlotChangePlace.TheVariants.{Release, End, Watch, Clear, Give}
+use Rattle.core_views.specs.declared.place.SlotChangePlace.TheVariants.{Release, End, Watch, WriteProtect, Clear, Give}
 use Rattle.core_views.specs.declared.place.EndPlace.{EndPlace}
 use Rattle.core_views.specs.declared.place.EndPlace.TheVariants as ends
 use Rattle.core_views.specs.declared.sizes.Sizes.{Sizes}
@@ -23,6 +23,10 @@ use Rattle.mmu_core.specs.invariant.Laws.{IsSound}
 use Rattle.mmu_core.specs.machine.Machine.{May, Step, World, hand_in}
 use Rattle.mmu_core.specs.lines.PartAt.{task_at}
 use Rattle.mmu_core.specs.lines.InvalidateSteps.{end_part}
+use Rattle.mmu_core.specs.lines.WriteProtectSteps.{protect_part}
+use Rattle.core_views.specs.declared.place.FrameRange.{FrameRange}
+use Rattle.core_views.specs.declared.place.WriteProtectPlace.{WriteProtectPlace}
+use Rattle.core_views.specs.declared.place.WriteProtectPlace.TheVariants as protect
 use Rattle.mmu_core.specs.lines.SlotChangeSteps.{slot_change_task}
 use Rattle.mmu_core.specs.machine.Steps.{line_at, place_at, task_of}
 use Rattle.mmu_core.specs.lines.SlotChangeKnows.{SlotChangeKnows}
@@ -46,12 +50,23 @@ gives_old z u G s page there may gives left =
     ends_none ends.SetCount e = omega (arith, e)
     ends_none ends.Release e = omega (arith, e)
 
+    protects_none : (p : WriteProtectPlace) (range : FrameRange)
+        → code_of (part_task (protect_part p range h.topics) (own_index h) h.topics 0).kind ≡ code_of kind.Give → ⊥
+    protects_none protect.Exclude range e = omega (arith, e)
+    protects_none (protect.Walk true) range e = omega (arith, e)
+    protects_none (protect.Walk false) range e = omega (arith, e)
+    protects_none protect.Protect range e = omega (arith, e)
+    protects_none protect.Release range e = omega (arith, e)
+    protects_none protect.Ask range e = omega (arith, e)
+    protects_none protect.Await range e = omega (arith, e)
+
     old : (p : SlotChangePlace) (command : Command) → SlotChangeKnows p command h → RetiresPart (place.SlotChange p) h.topics
         → code_of (slot_change_task p h command).kind ≡ code_of kind.Give → (place.SlotChange p ≡ place.SlotChange Give) × MayGiveOld h
     old Give command K L e = (refl, K.1)
     old Release command K L e = absurd (omega (arith, e))
     old (End p) command K L e = absurd (ends_none p e)
     old Watch command K L e = absurd (omega (arith, e))
+    old (WriteProtect range p) command K L e = absurd (protects_none p range e)
     old Clear command K L e = absurd (omega (arith, e))
     old _ command K L e = let none = L.leaves refl in absurd (cc (none, left))
 

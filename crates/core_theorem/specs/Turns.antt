@@ -8,6 +8,7 @@ use Rattle.core_views.specs.declared.trace.Line.{Line}
 use Rattle.core_views.specs.Flat.{no_line}
 use Rattle.core_views.specs.Held.{Held}
 use Rattle.core_views.specs.Sizes.{actors_of}
+use Rattle.spte_words.specs.Areas.{words_of_bits}
 use Rattle.mmu_core.specs.lines.Bounds.{most_steps}
 use Rattle.mmu_core.specs.machine.Enabled.{mmu}
 use Rattle.mmu_core.specs.machine.Machine.{Step, World, answered, effect, hand_in, run}
@@ -110,7 +111,7 @@ StepsAreFew =
 
 -- No line's command allows more than this. So in numbers of delays and of lines, of which there are no more than have no answer yet:
 abbrev pub most_of_all : Sizes → ℕ
-most_of_all z = 8192 + z.pool + z.frames + 5 * z.pages
+most_of_all z = 8192 + z.pool + z.frames + 5 * z.pages + words_of_bits z.pages
 
 abbrev pub AllStepsAreFew : Type 0
 AllStepsAreFew =

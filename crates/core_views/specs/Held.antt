@@ -142,6 +142,7 @@ first_topics = record {
   owed = None;
   flush = record { asked = 0; awaited = 0 };
   frames = record { claim = no_claim; owned = None };
+  next_log_word = 0;
 }
 
 abbrev pub first_held : Sizes → Actor → List Line → Held

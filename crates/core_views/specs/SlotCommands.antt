@@ -62,6 +62,11 @@ abbrev pub arms : Command → Bool
 arms (SetLog id on) = on
 arms _ = false
 
+-- The slot whose dirty log begins with the line, if one does. The line leaves it else as it is.
+abbrev pub slot_armed : MemorySlots → Command → Option Slot
+slot_armed slots (SetLog id true) = option_map (λ was. was.slot) (slot_of_id id slots)
+slot_armed slots _ = None
+
 -- why the line is refused, on a machine of these sizes with these slots
 abbrev pub change_refusal : Sizes → Command → MemorySlots → Option Refusal
 change_refusal z (Access gfn word op) slots = None

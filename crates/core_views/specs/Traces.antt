@@ -4,7 +4,7 @@ use Rattle.std.specs.List.Sorted.{IsStrictlyIncreasing}
 use Rattle.core_views.specs.declared.actor.Actor.{Actor}
 use Rattle.core_views.specs.declared.actor.Actor.TheVariants.{Vcpu, Host, Manager, Worker}
 use Rattle.core_views.specs.declared.trace.Command.{Command}
-use Rattle.core_views.specs.declared.trace.Command.TheVariants.{Access, ChangeHost, DeleteSlot, SetSlot}
+use Rattle.core_views.specs.declared.trace.Command.TheVariants.{Access, ChangeHost, DeleteSlot, SetLog, SetSlot}
 use Rattle.core_views.specs.declared.trace.Header.{Header}
 use Rattle.core_views.specs.declared.trace.Item.{Item}
 use Rattle.core_views.specs.declared.trace.Line.{Line}
@@ -28,6 +28,7 @@ abbrev pub IsCommandFor : Sizes → Actor → Command → Type 0
 IsCommandFor z (Vcpu n) (Access gfn word op) = (n < z.vcpus) × (gfn < 2 ^ 36) × (word < z.words)
 IsCommandFor z Manager (SetSlot id slot) = IsSlotInRange slot
 IsCommandFor z Manager (DeleteSlot id) = Unit {0}
+IsCommandFor z Manager (SetLog id on) = Unit {0}
 IsCommandFor z (Host n) (ChangeHost page change) = n < z.hosts
 IsCommandFor z _ _ = ⊥
 

@@ -28,7 +28,7 @@ pub use kind::{Kind, Operation, StepKind};
 pub use no_memory::NoMemory;
 pub use place::{
     AccessPlace, BeginPlace, Cause, CheckStage, EndPlace, FaultEnd, FaultNext, FaultPlace,
-    HostPlace, Leaving, Place, SlotChangePlace, SlotField,
+    FrameRange, HostPlace, Leaving, Place, SlotChangePlace, SlotField, WriteProtectPlace,
 };
 pub use sequence::Sequence;
 pub use sizes::{LogMode, Sizes};

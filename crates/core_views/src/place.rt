@@ -58,11 +58,17 @@ pub enum SlotChangePlace {
     /// or, with no refusal, leaves the slots as they are.
     AtOnce(Option<crate::Refusal>),
     /// Loads a word of the pool's map, or tries a page that it saw there.
-    Claim { begun: bool },
+    Claim {
+        begun: bool,
+    },
     /// Stores the next word of the new slot set.
     Fill,
     /// Stores the role of its page, once all words are stored.
     Role,
+    /// Stores the next word of the slot's dirty log, or, where none has begun, the first.
+    Arm {
+        begun: bool,
+    },
     /// A step that begins its invalidation.
     Begin(BeginPlace),
     /// Tries to take the lock alone.
@@ -79,10 +85,42 @@ pub enum SlotChangePlace {
     End(EndPlace),
     /// Looks at the next other actor, until it is seen in no section.
     Watch,
+    /// A step that forbids writes to the slot's guest frames, whose dirty log is to begin.
+    WriteProtect {
+        frames: FrameRange,
+        place: WriteProtectPlace,
+    },
     /// Takes the role from the page of the old slot set.
     Clear,
     /// Gives this page back.
     Give,
+}
+
+/// Guest frames, from `start` up to `end`, which isn't one of them.
+#[derive(Clone, Copy, PartialEq, Eq, Drop)]
+pub struct FrameRange {
+    pub start: u64,
+    pub end: u64,
+}
+
+/// The steps that forbid writes to a slot, in their order (KVM's mmu.c,
+/// `kvm_mmu_slot_remove_write_access`; tdp_mmu.c, `kvm_tdp_mmu_wrprot_slot`): under the lock
+/// alone the leaves of its guest frames forbid writes, and then what virtual processors have
+/// cached is flushed.
+#[derive(Clone, Copy, PartialEq, Eq, Drop)]
+pub enum WriteProtectPlace {
+    /// Tries to take the lock alone.
+    Exclude,
+    /// Loads the root, or, once rooted, the entry in the table that the walk has come to.
+    Walk { rooted: bool },
+    /// Forbids writes in the leaf.
+    Protect,
+    /// Gives the lock back.
+    Release,
+    /// Asks the next virtual processor for a flush.
+    Ask,
+    /// Looks at the next one that was asked, until it is seen outside of the guest or flushed.
+    Await,
 }
 
 /// The steps that begin an invalidation, in their order (mmu_notifier.rst;

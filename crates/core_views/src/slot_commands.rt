@@ -2,7 +2,7 @@
 ghost use Rattle.std.specs.Prelude.{◌≡◌, ◌≤◌, None};
 ghost use Rattle.core_views.specs.Refusals.{after_set, delete_refusal, log_refusal, set_refusal};
 ghost use Rattle.core_views.specs.declared.trace.Command.TheVariants.{SetLog};
-ghost use Rattle.core_views.specs.SlotCommands.{HasPages, change_at_once, slot_invalidated, slots_after};
+ghost use Rattle.core_views.specs.SlotCommands.{HasPages, change_at_once, slot_armed, slot_invalidated, slots_after};
 ghost use Rattle.core_views.specs.SlotSets.{without_slot_at};
 ghost use Rattle.core_views.specs.Traces.{IsCommandFor};
 
@@ -64,6 +64,19 @@ impl SlotSet {
         match command {
             Command::SetSlot { id, .. } | Command::DeleteSlot { id } => Some(self.get(*id)?.slot),
             Command::Access { .. } | Command::ChangeHost { .. } | Command::SetLog { .. } => None,
+            Command::GetLog { .. } | Command::ClearLog { .. } => None,
+        }
+    }
+
+    /// The slot whose dirty log begins with the line; `None` where none does.
+    pub fn armed(&self, command: &Command) -> Option<Slot>
+        ensures { result ≡ slot_armed self.now command.now }
+    {
+        match command {
+            Command::SetLog { id, on: true } => Some(self.get(*id)?.slot),
+            Command::SetLog { on: false, .. } => None,
+            Command::SetSlot { .. } | Command::DeleteSlot { .. } => None,
+            Command::Access { .. } | Command::ChangeHost { .. } => None,
             Command::GetLog { .. } | Command::ClearLog { .. } => None,
         }
     }

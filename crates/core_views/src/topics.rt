@@ -212,6 +212,8 @@ pub struct Topics {
     /// The flush that the actor has asked for.
     pub flush: Flush,
     pub frames: Frames,
+    /// The word of the dirty log after the one that was stored last.
+    pub next_log_word: u64,
 }
 
 impl Topics {
@@ -279,6 +281,7 @@ impl Topics {
                 claim: MapClaim { at: 0, seen: 0 },
                 owned: None,
             },
+            next_log_word: 0,
         }
     }
 }

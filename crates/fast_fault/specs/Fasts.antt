@@ -28,8 +28,8 @@ pub record StandsInFast (job : FastJob) (h : Held) : Type 0 where
   pub fault : StandsInFault job.gfn job.write h
   pub fast : is_fast_place fault.at ≡ true
 
--- What the answer of a turn rests on, by what the actor has loaded and stored in this section: it holds the guest frame's leaf, as allowing the write leaves it,
--- the answer tells of a mark exactly where the slot that was found has a dirty log, and no mark is owed; no slot has the guest frame, or the entry is this
+-- What the answer of a turn rests on, by what the actor has loaded and stored in this section: it holds the guest frame's leaf, as allowing the write leaves
+-- it, the answer tells of a mark exactly where the slot that was found has a dirty log, and no mark is owed; no slot has the guest frame, or the entry is this
 -- word, in which a write can't be allowed; or the exchange of this leaf was lost, to another word that stood there. No turn waits.
 abbrev pub FastRestsOn : Turn FastFaulted → FastJob → Held → Type 0
 FastRestsOn (Done (Fixed marked)) job h = HasFixed marked job.gfn job.write h.topics × (h.topics.owed ≡ None)

@@ -29,7 +29,8 @@ last_read : (z : Sizes) (history : List Event) (actor : Actor) (id : ℕ) (takes
     → IsHarvest (after_all history first_flat).facts (after_all history first_flat).past ((after_all history first_flat).under actor).line.command id frames
 last_read z history actor id takes frames lawful =
     let f = after_all history first_flat in
-    is_harvest z f.facts f.past actor (f.under actor) id takes frames (lawful_parts z history (made_by actor (harvest takes id frames) ∷ []) first_flat lawful).1.0
+    is_harvest z f.facts f.past actor (f.under actor) id takes frames
+    (lawful_parts z history (made_by actor (harvest takes id frames) ∷ []) first_flat lawful).1.0
 
 -- The slot of the harvest is the one that has the frame.
 must_hold : (f : Flat) (actor : Actor) (id gfn : ℕ) (frames : List ℕ) → IsHarvest f.facts f.past (f.under actor).line.command id frames

@@ -37,10 +37,13 @@ pub mod FillMade
 pub mod LockHeld
 pub mod StepTopics
 pub mod InvalidatePlaces
+pub mod ProtectPlaces
+pub mod ProtectKnown
 pub mod InvalidateNeeds
 pub mod AloneKnown
 pub mod SearchKnown
 pub mod SweepKnown
+pub mod BeginSweeps
 pub mod SweepFalls
 pub mod SweepSpans
 pub mod SweepWalks

@@ -11,5 +11,8 @@ pub mod SlotChangeMakes
 pub mod SlotChangeNeeds
 pub mod SlotChangeRetires
 pub mod SlotChangePlaces
+pub mod SlotChangeCounted
+pub mod SlotChangeTold
+pub mod SlotChangeArms
 pub mod SlotsStay
 pub mod SlotChangeClaims

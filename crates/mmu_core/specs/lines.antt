@@ -5,7 +5,13 @@ pub mod CheckSteps
 pub mod FastSteps
 pub mod FaultSteps
 pub mod SlotChangeSteps
+pub mod SlotChangeTells
+pub mod SlotTargets
+pub mod ArmKnows
 pub mod SlotChangeLeft
+pub mod SweepSteps
+pub mod SweepKnows
+pub mod WriteProtectSteps
 pub mod InvalidateSteps
 pub mod InvalidateLeft
 pub mod HostSteps
@@ -18,6 +24,7 @@ pub mod FaultKnows
 pub mod LockKnows
 pub mod SlotChangeKnows
 pub mod InvalidateKnows
+pub mod WriteProtectKnows
 pub mod HostKnows
 pub mod AccessKnows
 pub mod Forms

@@ -8,11 +8,15 @@ mod invalidate;
 mod laws;
 mod outcome;
 mod share;
+mod sweep;
 mod watch;
+mod write_protect;
 
 pub use claim::{ClaimNext, FreeMap};
 pub use invalidate::{BeginNext, EndNext};
 pub use laws::{knows, rests};
 pub use outcome::Outcome;
 pub use share::ShareNext;
+pub use sweep::SweepNext;
 pub use watch::WatchNext;
+pub use write_protect::WriteProtectNext;

@@ -58,13 +58,13 @@ step_goes z v a line (ChangeHost page change) (place.Host p) f u S I P part K U 
 step_goes z v a line _ _ f u S I P part K U C R = absurd S.holds
 
 -- A line that begins is under way, and has done nothing.
-pub first_at : (pool : ℕ → ℕ) (z : Sizes) (slots : MemorySlots) (line : Line) (command : Command) (t : Topics) (u : LineUnderWay) → u.stage ≡ Fresh
-    → u.line ≡ line → UnderAt pool (first_place z slots command) line command t u
-first_at pool z slots line (Access gfn word op) t u fresh is = (is, fresh)
-first_at pool z slots line (ChangeHost page change) t u fresh is = (is, fresh)
-first_at pool z slots line command t u fresh is = (is, first_set (change_at_once z command slots))
+pub first_at : (z : Sizes) (pool : ℕ → ℕ) (y : Sizes) (slots : MemorySlots) (line : Line) (command : Command) (t : Topics) (u : LineUnderWay) → u.stage ≡ Fresh
+    → u.line ≡ line → UnderAt z pool (first_place y slots command) line command t u
+first_at z pool y slots line (Access gfn word op) t u fresh is = (is, fresh)
+first_at z pool y slots line (ChangeHost page change) t u fresh is = (is, fresh)
+first_at z pool y slots line command t u fresh is = (is, first_set (change_at_once y command slots))
   where
-    first_set : (r : Option (Option Refusal)) → SlotChangeUnder (slot_change_first r) u
+    first_set : (r : Option (Option Refusal)) → SlotChangeUnder (slot_change_first r) z command u
     first_set None = fresh
     first_set (Some refusal) = fresh
 
@@ -73,7 +73,7 @@ first_at pool z slots line command t u fresh is = (is, first_set (change_at_once
 -- Each step of a line that is no delay leaves it fewer steps, by what its hand holds alone, whatever the step finds.
 pub form_nearer : (p : Place) (c : Command) (z : Sizes) (h : Held) (v : ℕ) → IsUnderWay p → IsCommandFor z h.state.actor c → PartRests h → KnowsPart p c h
     → FindsStill (part_at p c h) h.topics v → delays_at p c h v ≡ false
-    → Nearer (outcome_at p c h v) h.state.sizes (behind_part (part_at p c h) h.topics v) (steps_left p h.state.sizes h.topics)
+    → Nearer (outcome_at p c h v) c h.state.sizes (behind_part (part_at p c h) h.topics v) (steps_left p c h.state.sizes h.topics)
 form_nearer place.Between c z h v begun may rests K finds on = absurd begun
 form_nearer (place.Access p) (Access gfn word op) z h v begun may rests K finds on =
     let V = access_vcpu z h.state.actor gfn word op may in access_nearer h gfn word op v V.1 rests p K on

@@ -16,6 +16,7 @@ pub mod FoldedRuns
 pub mod ComputedRuns
 pub mod ExampleHostRun
 pub mod ExampleProtectRun
+pub mod ExampleLogRun
 pub mod ExampleEvictRun
 pub mod ExampleMoveRun
 pub mod ExampleOverlapRun

@@ -10,6 +10,7 @@ pub mod ExampleRaces
 pub mod ExampleWaits
 pub mod ExampleHost
 pub mod ExampleProtect
+pub mod ExampleLog
 pub mod ExampleEvict
 pub mod ExampleMove
 pub mod ExampleOverlap

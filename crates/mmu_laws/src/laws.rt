@@ -7,6 +7,7 @@ ghost use Rattle.mmu_laws.specs.steps.ExampleEvict.{ExampleEvict};
 ghost use Rattle.mmu_laws.specs.steps.ExampleSlots.{ExampleSlots};
 ghost use Rattle.mmu_laws.specs.steps.ExampleMove.{ExampleMove};
 ghost use Rattle.mmu_laws.specs.steps.ExampleOverlap.{ExampleOverlap};
+ghost use Rattle.mmu_laws.specs.steps.ExampleLog.{ExampleLog};
 ghost use Rattle.mmu_laws.specs.steps.ExampleProtect.{ExampleProtect};
 ghost use Rattle.mmu_laws.specs.steps.ExampleRaces.{ExampleRaces};
 ghost use Rattle.mmu_laws.specs.steps.ExampleRuns.{ExamplePrints, ExampleRuns};
@@ -97,7 +98,10 @@ pub fn each_delay_has_its_cause()
 /// one is, and sets its slot once none is. Where a slot is moved beside a fault that has looked
 /// at its page, the fault begins anew, and finds the page that the moved slot gives; a deletion
 /// waits for the processor that is in the guest with the slot's leaf cached, and the next access
-/// finds no slot; and a slot that is set as it is takes one step.
+/// finds no slot; and a slot that is set as it is takes one step. Where a slot gets a dirty log
+/// beside a fault that has found none, the manager waits for the fault's section, and then
+/// forbids writes in the leaf that it put, too; a write after that allows them again in its leaf,
+/// and marks its page; and where each page is dirty as the log begins, no write is forbidden.
 pub fn the_steps_can_be_made()
     ensures starts { EveryMachineStarts }
     ensures goes_on { EachMayStep }
@@ -112,6 +116,7 @@ pub fn the_steps_can_be_made()
     ensures moves { ExampleMove }
     ensures overlap { ExampleOverlap }
     ensures slots { ExampleSlots }
+    ensures log { ExampleLog }
 {}
 
 /// What a step's numbers tell of it: each step that a hand allows is on a word of the

@@ -3,6 +3,8 @@
 //! bits, and has bit 63 set while one holds it alone.
 #![tactic(auto)]
 
+mod alone;
 mod lock;
 
+pub use alone::{exclude, release};
 pub use lock::{Lock, try_exclusive, try_shared, unlock};

@@ -1,19 +1,17 @@
 //! The steps that begin an invalidation and those that end it, which several kinds of line
 //! make in the same order.
 ghost use Rattle.std.specs.Prelude.{◌≡◌, ◌≤◌, ◌<◌, ◌^◌, true};
-ghost use Rattle.mmu_core.specs.lines.InvalidateSteps.{IsWalkSmall, begin_next, begin_part, end_next, end_part, search_next};
-ghost use Rattle.mmu_core.specs.lines.InvalidateSteps.{sweep_next, sweeps, swept_on, zapped_at};
+ghost use Rattle.mmu_core.specs.lines.InvalidateSteps.{IsWalkSmall, begin_next, begin_part, begin_swept, end_next, end_part, search_next, sweeps};
+ghost use Rattle.mmu_core.specs.lines.SweepSteps.{range_of};
 ghost use Rattle.core_views.specs.declared.place.BeginPlace.TheVariants.{Find, Walk, Zap};
 ghost use Rattle.part_steps.specs.SweepHoldings.{MaySweep, MayZap};
 ghost use Rattle.part_steps.specs.InvalidationRange.{HasSmallSlot, IsSmall};
 ghost use Rattle.part_steps.specs.SweepTopics.{swept_to};
 
-use core_views::{BeginPlace, EndPlace, Invalidated, Sizes, SlotSearch, TableWalk, Topics};
-use mmu_core::{BeginNext, EndNext};
-use part_steps::{
-    PartStep, Target, entry_index, has_entry, has_to_flush, leads_nowhere, search, sweep_on,
-    swept_to,
-};
+use crate::sweep::{after_entry, after_leaf};
+use core_views::{BeginPlace, EndPlace, FrameRange, Invalidated, Sizes, SlotSearch, Topics};
+use mmu_core::{BeginNext, EndNext, SweepNext};
+use part_steps::{PartStep, Target, has_to_flush, search, swept_to};
 
 // After a word of the slots.
 fn search_next(target: &Target, found: &SlotSearch) -> BeginPlace
@@ -26,45 +24,25 @@ fn search_next(target: &Target, found: &SlotSearch) -> BeginPlace
     }
 }
 
-// After an entry of the sweep for these frames, where the walk has come to this.
-fn sweep_next(own: &Invalidated, walk: &TableWalk) -> BeginPlace
-    requires from { 1 ≤ walk.now.level }
-    requires to { walk.now.level ≤ 4 }
-    requires prefix { walk.now.prefix < 2 ^ 36 }
-    requires small { swept_to own.now.start walk.now < 2 ^ 64 }
-    ensures { result ≡ sweep_next own.now walk.now }
+// The guest frames of the actor's own invalidation.
+fn range_of(own: &Invalidated) -> FrameRange
+    ensures { result ≡ range_of own.now }
 {
-    if own.end <= swept_to(own.start, walk) {
-        BeginPlace::Ask
-    } else if has_entry(walk) && !leads_nowhere(walk) {
-        BeginPlace::Zap
-    } else {
-        BeginPlace::Walk { rooted: true }
+    FrameRange {
+        start: own.start,
+        end: own.end,
     }
 }
 
-// After the next entry of the sweep, which is this.
-fn after_entry(topics: &Topics, found: u64) -> BeginPlace
-    requires walk { IsWalkSmall topics.now.walk }
-    requires may { MaySweep (swept_to topics.now.invalidations.own.start topics.now.walk) topics.now }
-    ensures { result ≡ sweep_next topics.now.invalidations.own (swept_on (swept_to topics.now.invalidations.own.start topics.now.walk) topics.now.walk found) }
+// After an entry of the sweep.
+fn begin_swept(next: SweepNext) -> BeginPlace
+    ensures { result ≡ begin_swept next }
 {
-    let own = &topics.invalidations.own;
-    let gfn = swept_to(own.start, &topics.walk);
-    sweep_next(own, &sweep_on(gfn, &topics.walk, found))
-}
-
-// After the leaf was zapped that it has come to.
-fn after_zap(topics: &Topics) -> BeginPlace
-    requires walk { IsWalkSmall topics.now.walk }
-    requires may { MayZap (swept_to topics.now.invalidations.own.start topics.now.walk) topics.now }
-    ensures { result ≡ sweep_next topics.now.invalidations.own (zapped_at (swept_to topics.now.invalidations.own.start topics.now.walk) topics.now.walk) }
-{
-    let own = &topics.invalidations.own;
-    let mut after = topics.walk;
-    after.index = entry_index(swept_to(own.start, &topics.walk), after.level);
-    after.entry = 0;
-    sweep_next(own, &after)
+    match next {
+        SweepNext::Over => BeginPlace::Ask,
+        SweepNext::Leaf => BeginPlace::Zap,
+        SweepNext::Entry => BeginPlace::Walk { rooted: true },
+    }
 }
 
 /// The step that begins the invalidation of the target, at this place.
@@ -74,7 +52,7 @@ pub(crate) fn begin_part(place: BeginPlace, target: &Target, topics: &Topics) ->
     requires slot { HasSmallSlot topics.now.search }
     requires walk { IsWalkSmall topics.now.walk }
     requires there { sweeps place ≡ true → 1 ≤ topics.now.walk.level }
-    requires come { sweeps place ≡ true → swept_to topics.now.invalidations.own.start topics.now.walk < 2 ^ 64 }
+    requires come { sweeps place ≡ true → swept_to true topics.now.invalidations.own.start topics.now.walk < 2 ^ 64 }
     ensures { result ≡ begin_part place target.now topics.now }
 {
     let search = &topics.search;
@@ -96,8 +74,12 @@ pub(crate) fn begin_part(place: BeginPlace, target: &Target, topics: &Topics) ->
         },
         BeginPlace::SetCount => PartStep::SetCount(topics.invalidations.count + 1),
         BeginPlace::Walk { rooted: false } => PartStep::Root,
-        BeginPlace::Walk { rooted: true } => PartStep::Sweep(swept_to(own.start, &topics.walk)),
-        BeginPlace::Zap => PartStep::Zap(swept_to(own.start, &topics.walk)),
+        BeginPlace::Walk { rooted: true } => PartStep::Sweep(swept_to(
+            true,
+            own.start,
+            &topics.walk,
+        )),
+        BeginPlace::Zap => PartStep::Zap(swept_to(true, own.start, &topics.walk)),
         BeginPlace::Ask => PartStep::Ask(topics.flush.asked),
         BeginPlace::Await => PartStep::Await(topics.flush.awaited),
         BeginPlace::Release => PartStep::Release,
@@ -115,8 +97,8 @@ pub(crate) fn begin_next(
     requires id { (place ≡ Find true) → topics.now.search.id ≤ 31 }
     requires asked { topics.now.flush.asked < 2 ^ 32 }
     requires walk { IsWalkSmall topics.now.walk }
-    requires sweeps { (place ≡ Walk true) → MaySweep (swept_to topics.now.invalidations.own.start topics.now.walk) topics.now }
-    requires zaps { (place ≡ Zap) → MayZap (swept_to topics.now.invalidations.own.start topics.now.walk) topics.now }
+    requires sweeps { (place ≡ Walk true) → MaySweep (swept_to true topics.now.invalidations.own.start topics.now.walk) topics.now }
+    requires zaps { (place ≡ Zap) → MayZap (swept_to true topics.now.invalidations.own.start topics.now.walk) topics.now }
     ensures { result ≡ begin_next place sizes.now target.now topics.now found }
 {
     let own = &topics.invalidations.own;
@@ -137,12 +119,14 @@ pub(crate) fn begin_next(
         BeginPlace::SetStart => BeginPlace::SetEnd,
         BeginPlace::SetEnd => BeginPlace::SetCount,
         BeginPlace::SetCount => BeginPlace::Walk { rooted: false },
-        BeginPlace::Walk { rooted: true } => after_entry(topics, found),
+        BeginPlace::Walk { rooted: true } => {
+            begin_swept(after_entry(true, range_of(own), &topics.walk, found))
+        }
         BeginPlace::Walk { rooted: false } if own.start < own.end => {
             BeginPlace::Walk { rooted: true }
         }
         BeginPlace::Walk { rooted: false } => BeginPlace::Ask,
-        BeginPlace::Zap => after_zap(topics),
+        BeginPlace::Zap => begin_swept(after_leaf(true, range_of(own), &topics.walk, 0)),
         BeginPlace::Ask if flush.asked + 1 < sizes.vcpus => BeginPlace::Ask,
         BeginPlace::Ask => BeginPlace::Await,
         BeginPlace::Await if has_to_flush(found) || flush.awaited < sizes.vcpus.saturating_sub(1) =>

@@ -14,14 +14,16 @@ mod parts;
 mod share;
 mod slot_change;
 mod step;
+mod sweep;
 mod waits;
 mod watch;
+mod write_protect;
 
 pub use access::{access_note, frame_used};
 pub use cached::lookup;
 pub use fault::entry_word;
 pub use host::{host_place, note as host_note, word_put, word_to_copy, word_to_store};
 pub use parts::{allows, may_make, part_rests};
-pub use slot_change::{change_place, note as change_note};
+pub use slot_change::{arm_step, change_place, note as change_note};
 pub use step::{advance, asks_flush, next_kind, next_step};
 pub use waits::{part_waits, waits_by};

@@ -1,13 +1,16 @@
 //! The steps of a line that changes a slot.
-ghost use Rattle.std.specs.Prelude.{◌≡◌, ◌<◌, length, true};
+ghost use Rattle.std.specs.Prelude.{◌≡◌, ◌+◌, ◌^◌, ◌<◌, ◌≤◌, Some, length, true};
 ghost use Rattle.core_views.specs.declared.place.Place.TheVariants as place;
+ghost use Rattle.core_views.specs.declared.place.SlotChangePlace.TheVariants as change_at;
 ghost use Rattle.core_views.specs.SlotCommands.{change_at_once, changes_slot};
 ghost use Rattle.core_views.specs.Traces.{IsCommandFor};
 ghost use Rattle.part_steps.specs.PartBounds.{PartRests};
 ghost use Rattle.part_steps.specs.PartSteps.{PartNeeds};
-ghost use Rattle.mmu_core.specs.lines.SlotChangeKnows.{RecordAccepts, SlotChangeRests};
+ghost use Rattle.mmu_core.specs.lines.SlotChangeKnows.{IsInLog, RecordAccepts, SlotChangeRests};
 ghost use Rattle.mmu_core.specs.lines.Rests.{Rests};
-ghost use Rattle.mmu_core.specs.lines.SlotChangeSteps.{after_role, after_set_begin, after_set_claim, after_set_end, after_watch, slot_change_first};
+ghost use Rattle.mmu_core.specs.lines.SlotChangeSteps.{after_arm, after_grace, after_protect, after_role, after_set_begin, after_set_claim, after_set_end};
+ghost use Rattle.mmu_core.specs.lines.SlotChangeSteps.{after_watch, arm_bits, arm_part, arm_word, log_target, slot_change_first};
+ghost use Rattle.part_steps.specs.LogHoldings.{log_begin, log_end};
 ghost use Rattle.mmu_core.specs.lines.SlotChangeSteps.{slot_change_note, slot_change_outcome, slot_change_part};
 ghost use Rattle.mmu_core.specs.lines.SlotChangeSteps.{slot_change_records, slot_change_task, slot_target};
 ghost use Rattle.mmu_core.specs.machine.Steps.{next_line, place_at};
@@ -19,10 +22,12 @@ use crate::claim::{claim_next, claim_part, loads_last_word};
 use crate::invalidate::{begin_next, begin_part, end_next, end_part};
 use crate::waits::own_open;
 use crate::watch::{looked_at, watch_next};
+use crate::write_protect::{protect_next, protect_part};
 use core_views::{
-    Answer, BeginPlace, Command, EndPlace, Hand, Place, Sizes, Slot, SlotChangePlace, SlotSet,
+    Answer, BeginPlace, Command, EndPlace, FrameRange, Hand, LogMode, Place, Sizes, Slot,
+    SlotChangePlace, SlotSet, Topics, WriteProtectPlace,
 };
-use mmu_core::{BeginNext, ClaimNext, EndNext, FreeMap, Outcome, WatchNext};
+use mmu_core::{BeginNext, ClaimNext, EndNext, FreeMap, Outcome, WatchNext, WriteProtectNext};
 use part_steps::{PartStep, SLOT_SET_ROLE, Target, Task, part_task, set_word, words_filled};
 
 /// How many words of a slot set's page are filled.
@@ -36,6 +41,71 @@ pub(crate) fn first(sizes: &Sizes, slots: &SlotSet, command: &Command) -> SlotCh
         Some(refusal) => SlotChangePlace::AtOnce(refusal),
         None => SlotChangePlace::Claim { begun: false },
     }
+}
+
+// The slot whose dirty log begins, or no slot.
+fn log_target(hand: &Hand, command: &Command) -> Slot
+    ensures { result ≡ log_target hand.now.core command.now }
+{
+    hand.slots().armed(command).unwrap_or(Slot {
+        base: 0,
+        pages: 0,
+        host: 0,
+        read_only: false,
+    })
+}
+
+// The word of its log that is set next.
+fn arm_word(begun: bool, slot: &Slot, topics: &Topics) -> u64
+    ensures { result ≡ arm_word begun slot.now topics.now }
+{
+    if begun {
+        topics.next_log_word
+    } else {
+        slot.host / 64
+    }
+}
+
+// The bits of this word of its log: each of its pages has one, or none.
+fn arm_bits(all: bool, slot: &Slot, word: u64) -> u64
+    requires within { IsInLog slot.now word }
+    requires few { slot.now.pages < 2 ^ 63 }
+    ensures { result ≡ arm_bits all slot.now word }
+{
+    let before = 64 * (word - slot.host / 64);
+    if !all {
+        0
+    } else if before + 63 < slot.pages {
+        u64::MAX
+    } else {
+        (1 << (slot.pages - before)) - 1
+    }
+}
+
+// The step that sets it.
+fn arm_part(begun: bool, sizes: &Sizes, slot: &Slot, topics: &Topics) -> PartStep
+    requires within { IsInLog slot.now (arm_word begun slot.now topics.now) }
+    requires few { slot.now.pages < 2 ^ 63 }
+    ensures { result ≡ arm_part begun sizes.now slot.now topics.now }
+{
+    let word = arm_word(begun, slot, topics);
+    PartStep::Arm {
+        word,
+        bits: arm_bits(sizes.mode == LogMode::ManualAllSet, slot, word),
+    }
+}
+
+/// The step that sets the next word of the dirty log that the line begins.
+pub fn arm_step(begun: bool, hand: &Hand, command: &Command) -> PartStep
+    requires rests { SlotChangeRests (change_at.Arm begun) command.now hand.now.core }
+    ensures { result ≡ slot_change_part (change_at.Arm begun) hand.now.core command.now }
+{
+    arm_part(
+        begun,
+        &hand.progress().sizes,
+        &log_target(hand, command),
+        hand.topics(),
+    )
 }
 
 // What the line invalidates: the slot that it moves or deletes.
@@ -67,6 +137,7 @@ pub(crate) fn part(place: SlotChangePlace, hand: &Hand, command: &Command) -> Pa
             PartStep::Fill(set_word(hand.slots(), command, words_filled(topics.owned)))
         }
         SlotChangePlace::Role => PartStep::Role(SLOT_SET_ROLE),
+        SlotChangePlace::Arm { begun } => arm_step(begun, hand, command),
         SlotChangePlace::Begin(place) => begin_part(place, &target(hand, command), topics),
         SlotChangePlace::Exclude => PartStep::Exclude,
         SlotChangePlace::Count => PartStep::Count,
@@ -74,6 +145,7 @@ pub(crate) fn part(place: SlotChangePlace, hand: &Hand, command: &Command) -> Pa
         SlotChangePlace::Publish => PartStep::Publish,
         SlotChangePlace::End(place) => end_part(place, topics),
         SlotChangePlace::Watch => PartStep::Watch(looked_at(hand)),
+        SlotChangePlace::WriteProtect { frames, place } => protect_part(place, frames, topics),
         SlotChangePlace::Clear => PartStep::Clear,
         SlotChangePlace::Give => PartStep::GiveOld,
     }
@@ -135,12 +207,25 @@ fn after_set_claim(next: ClaimNext) -> Outcome
 }
 
 // After the new set is filled.
-fn after_role(invalidated: Option<Slot>) -> SlotChangePlace
-    ensures { result ≡ after_role invalidated }
+fn after_role(invalidated: Option<Slot>, armed: Option<Slot>) -> SlotChangePlace
+    ensures { result ≡ after_role invalidated armed }
 {
-    match invalidated {
-        Some(_) => SlotChangePlace::Begin(BeginPlace::Exclude),
-        None => SlotChangePlace::Exclude,
+    match (invalidated, armed) {
+        (Some(_), _) => SlotChangePlace::Begin(BeginPlace::Exclude),
+        (None, Some(_)) => SlotChangePlace::Arm { begun: false },
+        (None, None) => SlotChangePlace::Exclude,
+    }
+}
+
+// After this word of a dirty log is set.
+fn after_arm(slot: &Slot, word: u64) -> SlotChangePlace
+    requires { word < 2 ^ 63 }
+    ensures { result ≡ after_arm slot.now word }
+{
+    if word + 1 < slot.host / 64 + slot.pages.div_ceil(64) {
+        SlotChangePlace::Arm { begun: true }
+    } else {
+        SlotChangePlace::Exclude
     }
 }
 
@@ -164,12 +249,41 @@ fn after_set_end(next: EndNext) -> SlotChangePlace
     }
 }
 
-// After a look of its watch.
-fn after_watch(next: WatchNext) -> SlotChangePlace
-    ensures { result ≡ after_watch next }
+// After its watch: writes to a slot are forbidden whose dirty log is to begin, unless each page
+// is dirty then.
+fn after_grace(sizes: &Sizes, armed: Option<Slot>) -> SlotChangePlace
+    requires small { (slot : Slot) → armed ≡ Some slot → slot.base + slot.pages < 2 ^ 64 }
+    ensures { result ≡ after_grace sizes.now armed }
+{
+    match armed {
+        Some(slot) if sizes.mode != LogMode::ManualAllSet => SlotChangePlace::WriteProtect {
+            frames: FrameRange {
+                start: slot.base,
+                end: slot.base + slot.pages,
+            },
+            place: WriteProtectPlace::Exclude,
+        },
+        Some(_) | None => SlotChangePlace::Clear,
+    }
+}
+
+// After a step that forbids writes.
+fn after_protect(frames: FrameRange, next: WriteProtectNext) -> SlotChangePlace
+    ensures { result ≡ after_protect frames next }
 {
     match next {
-        WatchNext::Last => SlotChangePlace::Clear,
+        WriteProtectNext::Goes(place) => SlotChangePlace::WriteProtect { frames, place },
+        WriteProtectNext::Over => SlotChangePlace::Clear,
+    }
+}
+
+// After a look of its watch.
+fn after_watch(sizes: &Sizes, armed: Option<Slot>, next: WatchNext) -> SlotChangePlace
+    requires small { (slot : Slot) → armed ≡ Some slot → slot.base + slot.pages < 2 ^ 64 }
+    ensures { result ≡ after_watch sizes.now armed next }
+{
+    match next {
+        WatchNext::Last => after_grace(sizes, armed),
         WatchNext::Again | WatchNext::Next => SlotChangePlace::Watch,
     }
 }
@@ -178,6 +292,7 @@ fn after_watch(next: WatchNext) -> SlotChangePlace
 pub(crate) fn outcome(place: SlotChangePlace, command: &Command, hand: &Hand, found: u64) -> Outcome
     requires part { PartRests hand.now.core }
     requires needs { PartNeeds (slot_change_part place hand.now.core command.now) hand.now.core }
+    requires rests { SlotChangeRests place command.now hand.now.core }
     ensures { result ≡ slot_change_outcome place command.now hand.now.core found }
 {
     let topics = hand.topics();
@@ -189,7 +304,16 @@ pub(crate) fn outcome(place: SlotChangePlace, command: &Command, hand: &Hand, fo
         }
         SlotChangePlace::Fill if words_filled(topics.owned) + 1 < WORDS => SlotChangePlace::Fill,
         SlotChangePlace::Fill => SlotChangePlace::Role,
-        SlotChangePlace::Role => after_role(hand.slots().invalidated(command)),
+        SlotChangePlace::Role => {
+            after_role(
+                hand.slots().invalidated(command),
+                hand.slots().armed(command),
+            )
+        }
+        SlotChangePlace::Arm { begun } => {
+            let slot = log_target(hand, command);
+            after_arm(&slot, arm_word(begun, &slot, topics))
+        }
         SlotChangePlace::Begin(place) => {
             let target = target(hand, command);
             after_set_begin(begin_next(place, sizes, &target, topics, found))
@@ -207,7 +331,12 @@ pub(crate) fn outcome(place: SlotChangePlace, command: &Command, hand: &Hand, fo
         }
         SlotChangePlace::Release => SlotChangePlace::Watch,
         SlotChangePlace::End(place) => after_set_end(end_next(place, found)),
-        SlotChangePlace::Watch => after_watch(watch_next(hand, found)),
+        SlotChangePlace::Watch => {
+            after_watch(sizes, hand.slots().armed(command), watch_next(hand, found))
+        }
+        SlotChangePlace::WriteProtect { frames, place } => {
+            after_protect(frames, protect_next(place, sizes, frames, topics, found))
+        }
         SlotChangePlace::Clear => SlotChangePlace::Give,
         SlotChangePlace::Give => return Outcome::Ends(Answer::Done),
     }))

@@ -3,7 +3,7 @@
 use Rattle.std.specs.Prelude.{◌≡◌, ◌+◌, ◌-◌, ◌<◌, ◌≤◌, ◌^◌, ℕ, Bool, true, false, ◌==◌, nat_lt, if◌then◌else◌, is_some, Some}
 use Rattle.core_views.specs.declared.topics.Checked.{Checked}
 use Rattle.core_views.specs.declared.topics.Checked.TheVariants as checked
-use Rattle.core_views.specs.declared.topics.Hold.TheVariants.{Exclusive}
+use Rattle.core_views.specs.declared.topics.Hold.TheVariants.{Exclusive, Loose}
 use Rattle.core_views.specs.declared.topics.Stay.TheVariants.{Outside}
 use Rattle.core_views.specs.declared.topics.Topics.{Topics}
 use Rattle.core_views.specs.Held.{Held}
@@ -89,15 +89,15 @@ pub record MayCount (count : ℕ) (t : Topics) : Type 0 where
   pub opens : t.invalidations.opened ≡ false → MayOpen t
   pub closes : t.invalidations.opened ≡ true → t.invalidations.raised ≡ true
 
--- The next virtual processor may be asked for a flush: under the lock that the actor has alone, with its own invalidation open; the first one once no leaf of
--- its frames is left.
+-- The next virtual processor may be asked for a flush, outside of every section: with an own invalidation open under the lock that the actor has alone, the
+-- first one once no leaf of its frames is left; and with none without the lock.
 pub record MayAsk (index : ℕ) (h : Held) : Type 0 where
   pub low : index < h.state.sizes.vcpus
   pub next : index ≡ h.topics.flush.asked
-  pub alone : h.topics.hold ≡ Exclusive
   pub outside : h.topics.stay ≡ Outside
-  pub opened : h.topics.invalidations.opened ≡ true
-  pub swept : h.topics.flush.asked ≡ 0 → IsSwept h.topics
+  pub alone : h.topics.invalidations.opened ≡ true → h.topics.hold ≡ Exclusive
+  pub swept : h.topics.invalidations.opened ≡ true → h.topics.flush.asked ≡ 0 → IsSwept h.topics
+  pub loose : h.topics.invalidations.opened ≡ false → h.topics.hold ≡ Loose
 
 -- ---- between begin and end
 

@@ -1,13 +1,13 @@
 -- What a hand holds that a step on a word of the dirty log needs, and one that forbids writes in a leaf (kvm_main.c, kvm_get_dirty_log_protect).
-use Rattle.std.specs.Prelude.{◌≡◌, ◌+◌, ◌*◌, ◌/◌, ◌^◌, ◌<◌, ◌&&◌, ℕ, Bool, true, false, nat_le, nat_lt, Some}
+use Rattle.std.specs.Prelude.{◌≡◌, ◌+◌, ◌/◌, ◌^◌, ◌<◌, ◌&&◌, ℕ, Bool, true, false, not, nat_le, nat_lt}
+use Rattle.std.specs.List.{list_any}
 use Rattle.core_views.specs.declared.actor.Actor.TheVariants.{Manager}
-use Rattle.core_views.specs.declared.slot_set.MemorySlot.{MemorySlot}
 use Rattle.core_views.specs.declared.topics.Hold.TheVariants.{Exclusive}
 use Rattle.core_views.specs.declared.topics.Stay.TheVariants.{Outside}
 use Rattle.core_views.specs.declared.topics.Topics.{Topics}
 use Rattle.core_views.specs.declared.trace.Slot.{Slot}
 use Rattle.core_views.specs.Held.{Held}
-use Rattle.core_views.specs.SlotSets.{slot_of_id}
+use Rattle.core_views.specs.SlotSets.{MemorySlots}
 use Rattle.spte_words.specs.declared.spte_kind.SpteKind.TheVariants.{Leaf}
 use Rattle.spte_words.specs.Areas.{words_of_bits}
 use Rattle.spte_words.specs.Entries.{can_write, kind_of}
@@ -24,15 +24,23 @@ pub record MayTake (word mask : ℕ) (h : Held) : Type 0 where
   pub alone : h.topics.hold ≡ Exclusive
   pub small : mask < 2 ^ 64
 
--- A page of the slot has its bit in the word.
-abbrev pub has_bit_in : ℕ → Slot → Bool
-has_bit_in word slot = nat_le (slot.host / 64) word && nat_lt (64 * word) (slot.host + slot.pages)
+-- The words of a slot's dirty log are these, from the first one up to the last: its pages begin with a word (api.rst, KVM_GET_DIRTY_LOG).
+abbrev pub log_begin : Slot → ℕ
+log_begin slot = slot.host / 64
 
--- The word may be set before its log begins: no slot that has one has a bit in it.
+abbrev pub log_end : Slot → ℕ
+log_end slot = slot.host / 64 + words_of_bits slot.pages
+
+-- The word is one of those of a slot that has no dirty log.
+abbrev pub is_unlogged_word : ℕ → MemorySlots → Bool
+is_unlogged_word word slots =
+    list_any (λ entry. not entry.1.logged && (nat_le (log_begin entry.1.slot) word && nat_lt word (log_end entry.1.slot))) slots
+
+-- The word may be set before its log begins.
 pub record MayArm (word bits : ℕ) (h : Held) : Type 0 where
   pub reads : MayReadLog word h
   pub small : bits < 2 ^ 64
-  pub of_no_log : (id : ℕ) (m : MemorySlot) → slot_of_id id h.slots ≡ Some m → m.logged ≡ true → has_bit_in word m.slot ≡ false
+  pub unlogged : is_unlogged_word word h.slots ≡ true
 
 -- Writes may be forbidden in the guest frame's leaf, where it was seen to allow them: under the lock alone, with no invalidation of the actor's own open.
 pub record MayProtect (gfn : ℕ) (t : Topics) : Type 0 where
@@ -40,6 +48,5 @@ pub record MayProtect (gfn : ℕ) (t : Topics) : Type 0 where
   pub outside : t.stay ≡ Outside
   pub none_open : t.invalidations.opened ≡ false
   pub saw : SawEntry gfn t.walk
-  pub lowest : t.walk.level ≡ 1
   pub leaf : kind_of t.walk.level t.walk.entry ≡ Leaf
   pub writes : can_write t.walk.entry ≡ true

@@ -116,6 +116,6 @@ part_topics (part.Copy index) t v = record t { frames = record t.frames { owned 
 part_topics (part.Store index) t v = record t { frames = record t.frames { owned = word_stored t.frames.owned } }
 part_topics part.GiveFrame t v = record t { frames = frame_given t.frames }
 part_topics (part.Take word mask) t v = t
-part_topics (part.Protect gfn) t v = record t { walk = gone_down None t.walk (entry_index gfn t.walk.level) (without_write v) }
+part_topics (part.Protect gfn) t v = record t { walk = gone_down None t.walk (entry_index gfn t.walk.level) (without_write t.walk.entry) }
 part_topics (part.Peek word) t v = t
-part_topics (part.Arm word bits) t v = t
+part_topics (part.Arm word bits) t v = record t { next_log_word = word + 1 }

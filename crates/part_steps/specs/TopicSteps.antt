@@ -23,7 +23,10 @@ use Rattle.part_steps.specs.FrameTopics.{frame_after, frame_given, frame_tried, 
 use Rattle.part_steps.specs.ControlTopics.{controlled, stored}
 use Rattle.part_steps.specs.ControlBits.{has_to_flush, has_writer, in_section, is_content}
 
--- where the host words begin, and the words of the pool
+-- where the words of the dirty log begin, the host words, and the words of the pool
+abbrev pub log_begins : Sizes → ℕ
+log_begins z = place (map_of z) area.Log 0
+
 abbrev pub host_begins : Sizes → ℕ
 host_begins z = place (map_of z) area.Host 0
 
@@ -93,9 +96,9 @@ topics_by kind.Swap z k t v = record t {
 topics_by kind.Mark z k t v = record t { owed = None }
 topics_by kind.Take z k t v = t
 topics_by kind.Protect z k t v =
-    record t { walk = if is_in_table t.walk then gone_down None t.walk (index_in_page z k.word) (without_write v) else t.walk }
+    record t { walk = if is_in_table t.walk then gone_down None t.walk (index_in_page z k.word) (without_write t.walk.entry) else t.walk }
 topics_by kind.Peek z k t v = t
-topics_by kind.Arm z k t v = t
+topics_by kind.Arm z k t v = record t { next_log_word = (k.word - log_begins z) + 1 }
 
 -- what is held after a step that answered v
 unfoldable pub topics_after : Sizes → Kind → Topics → ℕ → Topics

@@ -21,6 +21,6 @@ pub use part_step::{
     words_filled,
 };
 pub use slot_words::{SLOT_SET_ROLE, is_fixable, page_of, set_word};
-pub use sweep::{has_entry, leads_nowhere, sweep_on, swept_to};
+pub use sweep::{has_entry, is_done, sweep_on, swept_to};
 pub use task::{Task, kind_of, map_of};
 pub use topics::{is_won, search, step_topics};

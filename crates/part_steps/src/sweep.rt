@@ -1,8 +1,9 @@
-//! A sweep over the tables for the guest frames of an actor's own invalidation (KVM's tdp_mmu.c,
-//! `kvm_tdp_mmu_unmap_gfn_range`): how far its walk has come, and where it goes on.
+//! A sweep over the tables for the guest frames of an actor's own invalidation, or of a slot whose
+//! dirty log begins (KVM's tdp_mmu.c, `kvm_tdp_mmu_unmap_gfn_range` and `kvm_tdp_mmu_wrprot_slot`):
+//! how far its walk has come, and where it goes on.
 ghost use Rattle.std.specs.Prelude.{◌≡◌, ◌≤◌, ◌<◌, ◌^◌, true};
 ghost use Rattle.part_steps.specs.PartTasks.{entry_index};
-ghost use Rattle.part_steps.specs.SweepTopics.{entry_end, entry_start, gone_up, gone_up_once, has_entry, is_sweeping, leads_nowhere, swept_to};
+ghost use Rattle.part_steps.specs.SweepTopics.{entry_end, entry_start, gone_up, gone_up_once, has_entry, is_done, is_sweeping, swept_to};
 ghost use Rattle.part_steps.specs.WalkTopics.{walked};
 
 use crate::part_step::entry_index;
@@ -34,11 +35,13 @@ pub(crate) fn go_up(walk: &mut TableWalk)
 }
 
 // Whether the actor has the lock alone, outside of every section, with its own invalidation
-// open.
+// open or a retired page.
 pub(crate) fn is_sweeping(topics: &Topics) -> bool
     ensures { result ≡ is_sweeping topics.now }
 {
-    topics.stay == Stay::Outside && topics.hold == Hold::Exclusive && topics.invalidations.opened
+    topics.stay == Stay::Outside
+        && topics.hold == Hold::Exclusive
+        && (topics.invalidations.opened || topics.retired.is_some())
 }
 
 /// Whether an entry was loaded in the table that the walk has come to.
@@ -48,14 +51,17 @@ pub fn has_entry(walk: &TableWalk) -> bool
     walk.index < 512
 }
 
-/// Whether it leads nowhere: it is no link, and no leaf.
-pub fn leads_nowhere(walk: &TableWalk) -> bool
-    ensures { result ≡ leads_nowhere walk.now }
+/// Whether a sweep, which zaps leaves or forbids writes in them, has nothing to do at it: it is no
+/// link, and no such leaf.
+pub fn is_done(zaps: bool, walk: &TableWalk) -> bool
+    ensures { result ≡ is_done zaps walk.now }
 {
-    matches!(
-        Spte::from_word(walk.entry).kind(walk.level),
-        SpteKind::Absent | SpteKind::Frozen
-    )
+    let entry = Spte::from_word(walk.entry);
+    match entry.kind(walk.level) {
+        SpteKind::Table(_) => false,
+        SpteKind::Leaf => !(zaps || entry.is_writable()),
+        SpteKind::Absent | SpteKind::Frozen => true,
+    }
 }
 
 // The first guest frame of the entry that was loaded last, or of the table where none was.
@@ -83,14 +89,14 @@ fn entry_end(walk: &TableWalk) -> u64
 }
 
 /// The guest frame to which a sweep from `from` on has come.
-pub fn swept_to(from: u64, walk: &TableWalk) -> u64
+pub fn swept_to(zaps: bool, from: u64, walk: &TableWalk) -> u64
     requires from { 1 ≤ walk.now.level }
     requires to { walk.now.level ≤ 4 }
     requires prefix { walk.now.prefix < 2 ^ 36 }
-    requires small { swept_to from walk.now < 2 ^ 64 }
-    ensures { result ≡ swept_to from walk.now }
+    requires small { swept_to zaps from walk.now < 2 ^ 64 }
+    ensures { result ≡ swept_to zaps from walk.now }
 {
-    if has_entry(walk) && leads_nowhere(walk) {
+    if has_entry(walk) && is_done(zaps, walk) {
         entry_end(walk)
     } else {
         from.max(entry_start(walk))

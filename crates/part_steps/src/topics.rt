@@ -14,7 +14,7 @@ ghost use Rattle.part_steps.specs.PageTopics.{claimed, filled_more, is_won, publ
 ghost use Rattle.part_steps.specs.ControlTopics.{at_word, checked_after, controlled, count_checked, end_known, noted, range_checked, seq_checked};
 ghost use Rattle.part_steps.specs.ControlTopics.{start_checked, start_known, stored, takes_snapshot};
 ghost use Rattle.part_steps.specs.SweepTopics.{walk_on};
-ghost use Rattle.part_steps.specs.TopicSteps.{HasRoom, host_begins, host_changed, index_in_page, topics_after};
+ghost use Rattle.part_steps.specs.TopicSteps.{HasRoom, host_begins, host_changed, index_in_page, log_begins, topics_after};
 
 use crate::control_words::{has_lock, has_to_flush, has_writer, in_section, is_word_of};
 use crate::frames::{claim_frame, copy_word, give_frame, move_frame, store_word};
@@ -428,6 +428,15 @@ fn state_index(word: u32) -> u64
     word.saturating_sub(Area::State.number()) as u64
 }
 
+// Which word of the dirty log this one is.
+fn log_index(sizes: &Sizes, word: u32) -> u64
+    requires { AreSizes sizes.now }
+    ensures is { result ≡ word - log_begins sizes.now }
+    ensures below { result < 2 ^ 32 }
+{
+    word.saturating_sub(map_of(sizes).word_of(Area::Log, 0)) as u64
+}
+
 // A host word was to be exchanged.
 fn exchange_host(sizes: &Sizes, kind: Kind, found: u64) -> HostLook
     requires { AreSizes sizes.now }
@@ -581,7 +590,7 @@ pub fn step_topics(sizes: &Sizes, kind: Kind, topics: &mut Topics, found: u64)
         }
         StepKind::Zap => leave_entry(sizes, kind.word, &mut topics.walk, 0),
         StepKind::Protect => {
-            let left = Spte::from_word(found).without_write().word();
+            let left = Spte::from_word(topics.walk.entry).without_write().word();
             leave_entry(sizes, kind.word, &mut topics.walk, left);
         }
         StepKind::Ask => topics.flush.asked = state_index(kind.word) + 1,
@@ -599,6 +608,7 @@ pub fn step_topics(sizes: &Sizes, kind: Kind, topics: &mut Topics, found: u64)
             topics.watched = state_index(kind.word) + if in_section(found) { 0 } else { 1 };
         }
         StepKind::Read | StepKind::Write | StepKind::Add => {}
-        StepKind::Take | StepKind::Peek | StepKind::Arm => {}
+        StepKind::Arm => topics.next_log_word = log_index(sizes, kind.word) + 1,
+        StepKind::Take | StepKind::Peek => {}
     }
 }

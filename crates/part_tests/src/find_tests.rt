@@ -114,8 +114,9 @@ fn finds_none_at_the_start(rt: HostRuntime) -> Result<(), Fail> {
     expect_all(&rt, rt.alloc(), HEAD, &mut searches, NO_SLOT, 3)
 }
 
-// The manager sets slot 3, of guest frames 5, 6 and 7, in the steps that `SETTING` has. Each search loads the
-// flags of IDs 0 to 2, and the four words of ID 3.
+// The manager sets slot 3, of guest frames 5, 6 and 7, in 524 steps: the map, the page, 512 words and the role of the
+// set, the lock, the count, the set, the lock, the three other actors, and the role and the page of the set before. The
+// set stands in page 2 then. Each search loads the flags of IDs 0 to 2, and the four words of ID 3.
 const A_SLOT: &str = "\
 vm slot 3 5 3 64 ro
 ==

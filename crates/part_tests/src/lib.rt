@@ -9,10 +9,8 @@ mod lines;
 mod machines;
 
 pub use cases::{Acts, Came, first_other_row, make};
-pub use lines::{go_to, is_next, make_steps, run_lines, take_step, told};
-pub use machines::{
-    HEAD, HEAD_OF_POOL_8, SETTING, expect_actor, first_other, machine_of, machine_with_slot,
-};
+pub use lines::{go_to, is_next, make_steps, take_step, told};
+pub use machines::{HEAD, HEAD_OF_POOL_8, expect_actor, machine_of};
 
 #[cfg(test)]
 mod expected;

@@ -28,13 +28,6 @@ pub fn make_steps<S: Stepper>(seat: &mut S, most: u64) -> Result<u64, NoMemory> 
     Ok(most)
 }
 
-/// The same of an actor of the machine.
-pub fn run_lines(machine: &mut PlainMachine, actor: Actor, most: u64) -> Result<u64, Fail> {
-    expect_actor(machine, actor)?;
-    let mut seat = machine.as_actor(actor);
-    Ok(make_steps(&mut seat, most)?)
-}
-
 // Whether both are the same step, of those of lines alone that tests make by calls of parts.
 fn is_same(one: PartStep, other: PartStep) -> bool
     ensures { result ≡ true → one ≡ other }

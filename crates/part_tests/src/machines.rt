@@ -2,7 +2,6 @@
 ghost use Rattle.std.specs.Prelude.{◌<◌, OnOk, length};
 ghost use Rattle.core_views.specs.Sizes.{index_of};
 
-use crate::run_lines;
 use core_views::Actor;
 use std::alloc::Global;
 use std::test::Fail;
@@ -19,11 +18,6 @@ pub const HEAD: &str =
 pub const HEAD_OF_POOL_8: &str =
     "tdp 1 vcpus 2 workers 0 pages 70 frames 130 words 2 pool 8 cache 64 manual 0 hosts 0\n";
 
-/// Steps of the manager's line: the map, the page, 512 words and the role of the set,
-/// the lock, the count, the set, the lock, the three other actors, and the role and
-/// the page of the set before. The set stands in page 2 then, and page 1 is free.
-pub const SETTING: u64 = 524;
-
 /// The machine of the trace that has this header and these lines, at its start.
 pub fn machine_of(alloc: Global, head: &str, lines: &str) -> Result<PlainMachine, Fail> {
     let mut bytes = head.as_bytes().to_vec(alloc)?;
@@ -35,13 +29,6 @@ pub fn machine_of(alloc: Global, head: &str, lines: &str) -> Result<PlainMachine
     }
 }
 
-/// The same, whose manager has made the steps of its line, which sets a slot.
-pub fn machine_with_slot(alloc: Global, head: &str, lines: &str) -> Result<PlainMachine, Fail> {
-    let mut machine = machine_of(alloc, head, lines)?;
-    run_lines(&mut machine, Actor::Manager, SETTING)?;
-    Ok(machine)
-}
-
 /// Looks whether the machine has this actor.
 pub fn expect_actor(machine: &PlainMachine, actor: Actor) -> Result<(), Fail>
     ensures { OnOk result (index_of machine.now.sizes actor < length machine.now.hands) }
@@ -51,17 +38,4 @@ pub fn expect_actor(machine: &PlainMachine, actor: Actor) -> Result<(), Fail>
         return Err(Fail::new("there is no such actor"));
     }
     Ok(())
-}
-
-/// How many words the machine has at its end, and the first of these places whose word is
-/// another one than is wanted there.
-pub fn first_other(machine: PlainMachine, wanted: &[(usize, u64)]) -> (usize, Option<usize>) {
-    let closing = machine.into_closing();
-    let words = closing.words.as_slice();
-    for (place, word) in wanted {
-        if words.get(*place).copied() != Some(*word) {
-            return (words.len(), Some(*place));
-        }
-    }
-    (words.len(), None)
 }

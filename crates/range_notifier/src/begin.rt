@@ -8,10 +8,10 @@ ghost use Rattle.range_notifier.specs.Notifying.{BeginsNext, NeverWaits, IsInBeg
 ghost use Rattle.step_seats.specs.Moves.{KeepsRoom};
 ghost use Rattle.step_seats.specs.PartTurns.{MadeTelling, MakesPart};
 
-use crate::lock::{exclude, release};
 use core_views::{BeginPlace, Hand, HostPlace, Place, Seen, Slot, SlotChangePlace};
 use invalidate_seq::{Open, OpenStage};
 use memslots::{Find, Sought};
+use mmu_lock::{exclude, release};
 use mmu_steps::part_rests;
 use part_steps::{Target, map_of, swept_to};
 use step_seats::{Stepper, Turn};
@@ -41,11 +41,11 @@ fn place_of(hand: &Hand) -> Option<BeginPlace>
 fn swept_frame(hand: &Hand) -> u64
     requires rests { PartRests hand.now.core }
     requires there { 1 ≤ hand.now.core.topics.walk.level }
-    requires small { swept_to hand.now.core.topics.invalidations.own.start hand.now.core.topics.walk < 2 ^ 64 }
-    ensures { result ≡ swept_to hand.now.core.topics.invalidations.own.start hand.now.core.topics.walk }
+    requires small { swept_to true hand.now.core.topics.invalidations.own.start hand.now.core.topics.walk < 2 ^ 64 }
+    ensures { result ≡ swept_to true hand.now.core.topics.invalidations.own.start hand.now.core.topics.walk }
 {
     let topics = hand.topics();
-    swept_to(topics.invalidations.own.start, &topics.walk)
+    swept_to(true, topics.invalidations.own.start, &topics.walk)
 }
 
 impl BeginJob {

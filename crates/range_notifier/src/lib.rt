@@ -8,7 +8,6 @@
 
 mod begin;
 mod end;
-mod lock;
 
 pub use begin::BeginJob;
 pub use end::EndJob;

@@ -2,7 +2,7 @@
 use Rattle.std.specs.Prelude.{◌-◌, ◌/◌, ℕ, Bool, List, [], ◌∷◌, ◌==◌, ◌&&◌, ◌||◌, nat_lt, if◌then◌else◌, slice_index}
 use Rattle.core_views.specs.declared.answer.Answer.{Answer}
 use Rattle.core_views.specs.declared.kind.Kind.{Kind}
-use Rattle.core_views.specs.declared.kind.StepKind.TheVariants.{Walk, Swap, Zap}
+use Rattle.core_views.specs.declared.kind.StepKind.TheVariants.{Walk, Swap, Zap, Protect}
 use Rattle.core_views.specs.declared.place.Cause.{Cause}
 use Rattle.core_views.specs.declared.place.Cause.TheVariants.{Open, Moved, Entry}
 use Rattle.core_views.specs.declared.sizes.Sizes.{Sizes}
@@ -36,7 +36,7 @@ place_in m word = if nat_lt word (total m) then place_among m areas word else re
 
 -- The step is on an entry of a table.
 abbrev pub is_on_entry : ℕ → Bool
-is_on_entry code = (code == code_of Walk) || ((code == code_of Swap) || (code == code_of Zap))
+is_on_entry code = (code == code_of Walk) || ((code == code_of Swap) || ((code == code_of Zap) || (code == code_of Protect)))
 
 -- the role of the pool page that this word is in, and 0 where it is in none
 abbrev pub role_of : Sizes → World Held → WordPlace → ℕ

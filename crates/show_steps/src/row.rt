@@ -36,7 +36,10 @@ fn place_in(map: &WordMap, word: u32) -> WordPlace
 fn is_on_entry(code: u8) -> bool
     ensures { result ≡ is_on_entry code }
 {
-    code == StepKind::Walk.code() || code == StepKind::Swap.code() || code == StepKind::Zap.code()
+    code == StepKind::Walk.code()
+        || code == StepKind::Swap.code()
+        || code == StepKind::Zap.code()
+        || code == StepKind::Protect.code()
 }
 
 // The role of the pool page that this word is in, and 0 where it is in none.

@@ -6,14 +6,16 @@ ghost use Rattle.step_seats.specs.LineTurns.{Says, TurnsLine, turn_told};
 ghost use Rattle.step_seats.specs.Moves.{KeepsRoom};
 
 use crate::places;
+use crate::write_protect::write_protect;
 use core_views::{Seen, SlotChangePlace};
 use invalidate_seq::Snapshot;
 use mmu_core::{knows, rests};
+use mmu_lock::{exclude, release};
 use mmu_steps::{change_note, change_place};
 use part_steps::PartStep;
 use step_seats::{Stepper, Turn};
 
-/// The change of a slot, a step a turn. Where it stands is kept in the manager's
+/// The change of a slot, or of its dirty log, a step a turn. Where it stands is kept in the manager's
 /// hand, which drives the job.
 #[derive(Clone, Copy, Drop)]
 pub struct SlotJob {
@@ -71,12 +73,13 @@ fn step<S: Stepper>(s: &mut S, place: SlotChangePlace, note: u64) -> Option<Seen
         SlotChangePlace::Claim { begun } => places::claim(s, begun, note),
         SlotChangePlace::Fill => places::fill(s, note),
         SlotChangePlace::Role => places::role(s, note),
+        SlotChangePlace::Arm { begun } => places::arm(s, begun, note),
         SlotChangePlace::Begin(begin) => places::begin(s, begin, note),
-        SlotChangePlace::Exclude => places::exclude(s, note),
-        SlotChangePlace::Close => places::close(s, note),
-        SlotChangePlace::Release => places::release(s, note),
+        SlotChangePlace::Exclude => exclude(s, note),
+        SlotChangePlace::Close | SlotChangePlace::Release => release(s, note),
         SlotChangePlace::End(end) => places::end(s, end, note),
         SlotChangePlace::Watch => places::watch(s, note),
+        SlotChangePlace::WriteProtect { frames, place } => write_protect(s, frames, place, note),
         SlotChangePlace::Count => places::make(s, place, PartStep::Count, note),
         SlotChangePlace::Publish => places::make(s, place, PartStep::Publish, note),
         SlotChangePlace::Clear => places::make(s, place, PartStep::Clear, note),

@@ -1,23 +1,18 @@
 //! The step of each place, by the call of its part.
 ghost use Rattle.std.specs.Prelude.{◌≡◌, ◌<◌, length, true, is_some};
-ghost use Rattle.core_views.specs.Sizes.{AreSizes};
 ghost use Rattle.core_views.specs.SlotCommands.{slot_invalidated};
 ghost use Rattle.core_views.specs.declared.place.SlotChangePlace.TheVariants as at;
-ghost use Rattle.mmu_core.specs.lines.PartWaits.{part_seen};
 ghost use Rattle.mmu_core.specs.lines.SlotChangeSteps.{slot_or_none};
 ghost use Rattle.mmu_core.specs.machine.Turns.{line_of};
-ghost use Rattle.part_steps.specs.declared.part_step.PartStep.TheVariants.{Release};
 ghost use Rattle.slot_change.specs.Places.{IsAtSlotPlace, IsPlain, MakesSlotStep};
 ghost use Rattle.step_seats.specs.Moves.{KeepsRoom};
 
 use core_views::{BeginPlace, EndPlace, Hand, Seen, Slot, SlotChangePlace};
 use grace_period::Watch;
 use mmu_core::FreeMap;
-use mmu_lock::{try_exclusive, unlock};
-use mmu_steps::part_rests;
-use part_steps::{PartStep, SLOT_SET_ROLE, map_of, page_owned, set_word, words_filled};
+use mmu_steps::arm_step;
+use part_steps::{PartStep, SLOT_SET_ROLE, page_owned, set_word, words_filled};
 use range_notifier::{BeginJob, EndJob};
-use spte_words::Area;
 use step_seats::{Stepper, make_part};
 use table_pool::{Claim, Fill};
 
@@ -77,6 +72,19 @@ fn slot_invalidated(hand: &Hand) -> Slot
     }
 }
 
+// Sets the next word of the dirty log that begins. It never waits.
+pub(crate) fn arm<S: Stepper>(s: &mut S, begun: bool, note: u64) -> Option<Seen>
+    requires is_at { IsAtSlotPlace (at.Arm begun) note (S.seat s.old).hand }
+    requires reserved { 0 < (S.seat s.old).room }
+    ensures makes { MakesSlotStep result (at.Arm begun) note (S.seat s.old) (S.seat s.new) }
+    ensures room { KeepsRoom (S.seat s.old) (S.seat s.new) }
+    ensures same { ((S.seat s.new).actor ≡ (S.seat s.old).actor) × (S.frame s.new ≡ S.frame s.old) }
+{
+    let step = arm_step(begun, s.hand(), &s.hand().line().command);
+    let _ = make_part(s, step, note);
+    None
+}
+
 // Makes the next step of the invalidation's begin.
 pub(crate) fn begin<S: Stepper>(s: &mut S, place: BeginPlace, note: u64) -> Option<Seen>
     requires is_at { IsAtSlotPlace (at.Begin place) note (S.seat s.old).hand }
@@ -87,45 +95,6 @@ pub(crate) fn begin<S: Stepper>(s: &mut S, place: BeginPlace, note: u64) -> Opti
 {
     let slot = slot_invalidated(s.hand());
     BeginJob::of_slot(slot).turn(s, note).in_way()
-}
-
-// Tries to hold the lock alone.
-pub(crate) fn exclude<S: Stepper>(s: &mut S, note: u64) -> Option<Seen>
-    requires is_at { IsAtSlotPlace at.Exclude note (S.seat s.old).hand }
-    requires reserved { 0 < (S.seat s.old).room }
-    ensures makes { MakesSlotStep result at.Exclude note (S.seat s.old) (S.seat s.new) }
-    ensures room { KeepsRoom (S.seat s.old) (S.seat s.new) }
-    ensures same { ((S.seat s.new).actor ≡ (S.seat s.old).actor) × (S.frame s.new ≡ S.frame s.old) }
-{
-    part_rests(s.hand());
-    let word = map_of(&s.hand().progress().sizes).word_of(Area::Lock, 0);
-    try_exclusive(s, note).in_way(word)
-}
-
-// Gives the lock back, since invalidations are open: their number is in its way.
-pub(crate) fn close<S: Stepper>(s: &mut S, note: u64) -> Option<Seen>
-    requires is_at { IsAtSlotPlace at.Close note (S.seat s.old).hand }
-    requires reserved { 0 < (S.seat s.old).room }
-    ensures makes { MakesSlotStep result at.Close note (S.seat s.old) (S.seat s.new) }
-    ensures room { KeepsRoom (S.seat s.old) (S.seat s.new) }
-    ensures same { ((S.seat s.new).actor ≡ (S.seat s.old).actor) × (S.frame s.new ≡ S.frame s.old) }
-{
-    part_rests(s.hand());
-    let counted = counted(s.hand());
-    unlock(s, note);
-    Some(counted)
-}
-
-// Gives the lock back.
-pub(crate) fn release<S: Stepper>(s: &mut S, note: u64) -> Option<Seen>
-    requires is_at { IsAtSlotPlace at.Release note (S.seat s.old).hand }
-    requires reserved { 0 < (S.seat s.old).room }
-    ensures makes { MakesSlotStep result at.Release note (S.seat s.old) (S.seat s.new) }
-    ensures room { KeepsRoom (S.seat s.old) (S.seat s.new) }
-    ensures same { ((S.seat s.new).actor ≡ (S.seat s.old).actor) × (S.frame s.new ≡ S.frame s.old) }
-{
-    unlock(s, note);
-    None
 }
 
 // Makes the next step of the invalidation's end.
@@ -168,16 +137,4 @@ pub(crate) fn make<S: Stepper>(
 {
     let _ = make_part(s, step, note);
     None
-}
-
-// How many invalidations are open: what the step has seen that gives the lock
-// back for them.
-fn counted(hand: &Hand) -> Seen
-    requires sizes { AreSizes hand.now.core.state.sizes }
-    ensures { result ≡ part_seen Release hand.now.core 0 }
-{
-    Seen {
-        word: map_of(&hand.progress().sizes).word_of_count(0),
-        value: hand.topics().invalidations.count,
-    }
 }

@@ -1,14 +1,13 @@
--- A leaf of the lowest level in which writes are forbidden.
+-- A leaf in which writes are forbidden.
 use Rattle.std.proofs.Common.{◌≡◌, ◌≢◌, ◌+◌, ◌-◌, ◌*◌, ◌/◌, ◌%◌, ◌^◌, ◌<◌, ◌≤◌, ℕ, true, false, refl, arith, ap, ◌∙◌, bit_and, w64}
-use Rattle.std.specs.Prelude.{Bool, ◌==◌, if◌then◌else◌}
+use Rattle.std.specs.Prelude.{Bool, ◌==◌, ◌&&◌, ◌||◌, nat_lt, if◌then◌else◌}
 use Rattle.std.specs.Int.{bit_not}
 use Rattle.std.proofs.lemmas.Bool.Decides.{nat_tests}
 use Rattle.std.proofs.lemmas.Nat.{and_comm, and-not}
 use Rattle.std.proofs.lemmas.Nat.Bits.{and_pow}
-use Rattle.spte_words.specs.declared.spte_kind.SpteKind.TheVariants.{Leaf}
+use Rattle.spte_words.specs.declared.spte_kind.SpteKind.TheVariants.{Absent, Frozen, Leaf, Table}
 use Rattle.spte_words.specs.Bits.{has_bit, bit_if}
-use Rattle.spte_words.specs.Entries.{can_write, frozen_word, is_leaf_at, kind_of, without_write, write_bit}
-use Rattle.spte_words.proofs.FixedEntries.{present_leaf}
+use Rattle.spte_words.specs.Entries.{can_write, frame_in, frozen_word, is_leaf_at, kind_of, without_write, write_bit}
 
 -- The mask that keeps all bits but that one leaves the word without it.
 pub protected_is : (w : ℕ) → w < 2 ^ 64 → bit_and w (bit_not w64 write_bit) ≡ without_write w
@@ -35,21 +34,41 @@ protected_least w = omega arith
 whole : (w : ℕ) → w - 0 ≡ w
 whole w = omega arith
 
--- It is a leaf still, and forbids writes.
-pub protected_kind : (w : ℕ) → kind_of 1 w ≡ Leaf → kind_of 1 (without_write w) ≡ Leaf
-unfolding kind_of is_leaf_at frozen_word without_write can_write
-protected_kind w is = by (has_bit 1 w) refl
+-- A leaf is present, and one at its level.
+leaf_bits : (level w : ℕ) → kind_of level w ≡ Leaf → (has_bit 11 w ≡ true) × (is_leaf_at level w ≡ true)
+unfolding kind_of
+leaf_bits level w is = by (w == frozen_word) (has_bit 11 w) (is_leaf_at level w) is
   where
-    by : (b : Bool) → has_bit 1 w ≡ b → kind_of 1 (w - bit_if 1 b) ≡ Leaf
-    by false none = ap (kind_of 1) (whole w) ∙ is
+    by : (frozen present leaf : Bool)
+        → (if frozen then Frozen else if present then (if leaf then Leaf else Table (frame_in w % 2 ^ 32)) else Absent) ≡ Leaf
+        → (present ≡ true) × (leaf ≡ true)
+    by true present leaf e = absurd (cc e)
+    by false true true e = (refl, refl)
+    by false true false e = absurd (cc e)
+    by false false leaf e = absurd (cc e)
+
+-- It is a leaf still, and forbids writes.
+pub protected_kind : (level w : ℕ) → kind_of level w ≡ Leaf → kind_of level (without_write w) ≡ Leaf
+unfolding kind_of is_leaf_at frozen_word without_write can_write
+protected_kind level w is = by (has_bit 1 w) refl
+  where
+    bits : (has_bit 11 w ≡ true) × ((nat_lt level 2 || (nat_lt level 4 && has_bit 7 w)) ≡ true)
+    bits = leaf_bits level w is
+
+    by : (b : Bool) → has_bit 1 w ≡ b → kind_of level (w - bit_if 1 b) ≡ Leaf
+    by false none = ap (kind_of level) (whole w) ∙ is
     by true one =
         let bit : w / 2 % 2 ≡ 1 = grind (arith, nat_tests) in
-        let was : w / 2048 % 2 ≡ 1 = (present_leaf w is).1 in
+        let there = bits.0 in
+        let was : w / 2048 % 2 ≡ 1 = grind (arith, nat_tests) in
         let present : (w - 2) / 2048 % 2 ≡ 1 = omega (arith, bit, was) in
         let other : w - 2 ≢ 0x5a0 = omega (arith, present) in
         let a : (w - 2 == 0x5a0) ≡ false = grind (arith, nat_tests) in
         let b : has_bit 11 (w - 2) ≡ true = grind (arith, nat_tests) in
-        rw (a, b) refl
+        let seventh : (w - 2) / 128 % 2 ≡ w / 128 % 2 = omega (arith, bit) in
+        let leaf : (nat_lt level 2 || (nat_lt level 4 && has_bit 7 (w - 2))) ≡ true =
+        ap (λ n. nat_lt level 2 || (nat_lt level 4 && (n == 1))) seventh ∙ bits.1 in
+        rw (a, b, leaf) refl
 
 pub protected_denies : (w : ℕ) → can_write (without_write w) ≡ false
 unfolding without_write can_write

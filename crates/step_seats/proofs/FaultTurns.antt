@@ -172,7 +172,7 @@ module _ (p : FaultPlace) (gfn : ℕ) (write : Bool) (turn : Turn FaultEnd) (bef
       ap (λ (x : Held). x.state.sizes) M.made.hand
       ∙ (next_same before.hand (part_kind before.hand (fault_part p gfn before.hand.topics) (access_note (Fault p))) M.found).sizes in
       let stood : hand_left before.hand ≡ fault_left p before.hand.state.sizes before.hand.topics + 9 =
-      ap (λ (q : Place). steps_left q before.hand.state.sizes before.hand.topics) at in
+      ap (λ (q : Place). steps_left q (line_of before.hand).command before.hand.state.sizes before.hand.topics) at in
       subst (λ n. hand_left after.hand < n) (sym stood)
       (goes_nearer goes_to turn after.hand before.hand.state.sizes _ _ is M.turned stands_there same M.made.topics falls)
 

@@ -228,11 +228,11 @@ retry_has_more cause before after left T =
     let g : Held = after.hand in
     let v : ℕ = T.makes.found in
     let B = anew (place_at h.state.place h) (line_of h).command h v cause (sym T.gives.1) in
-    let few : hand_left h ≡ 10 = ap (λ (q : Place). steps_left q h.state.sizes h.topics) B.at in
+    let few : hand_left h ≡ 10 = ap (λ (q : Place). steps_left q (line_of h).command h.state.sizes h.topics) B.at in
     let at : g.state.place ≡ place.Access (Enter false) =
     ap (λ (x : Held). x.state.place) (T.makes.hand ∙ next_of_line h T.makes.kind v (has_line_is h left)) ∙ ap place_after B.is in
-    let many : hand_left g ≡ steps_left (place.Access (Enter false)) g.state.sizes g.topics =
-    ap (λ (q : Place). steps_left (place_at q g) g.state.sizes g.topics) at in
+    let many : hand_left g ≡ steps_left (place.Access (Enter false)) (line_of g).command g.state.sizes g.topics =
+    ap (λ (q : Place). steps_left (place_at q g) (line_of g).command g.state.sizes g.topics) at in
     omega (arith, few, many)
 
 -- What a turn made of a seat it made of one whose actor, hand and world are the same, whatever its room.

@@ -46,6 +46,8 @@ mod host_traces;
 #[cfg(test)]
 mod limits;
 #[cfg(test)]
+mod log_schedules;
+#[cfg(test)]
 mod move_schedules;
 #[cfg(test)]
 mod move_traces;

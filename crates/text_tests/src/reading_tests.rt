@@ -223,6 +223,20 @@ const TABLE: &str = "\
 2 number|&v0 add 0 00;\n\
 2 number|&v0 add 1 1;\n\
 2 number|&v0 add 0 18446744073709551616;\n\
+1 lines|&vm logon 0;\n\
+1 lines|&vm logon 18446744073709551615;\n\
+2 lines|&vm logoff 0x1f;vm logoff 0xffffffffffffffff;\n\
+2 word|&vm logon;\n\
+2 word|&vm logoff 0 0;\n\
+2 word|&vm log 0;\n\
+2 word|&vm logoN 0;\n\
+2 word|&v0 logon 0;\n\
+2 word|&h0 logoff 0;\n\
+2 word|&v0 logon z;\n\
+2 number|&vm logon z;\n\
+2 number|&vm logoff 00;\n\
+2 number|&vm logon 18446744073709551616;\n\
+3 number|&vm logon 0;vm logoff 0x;\n\
 2 number|&vm slot z 0 1 0;\n\
 2 number|&vm slot 18446744073709551616 0 1 0;\n\
 2 number|&vm slot 0 68719476736 1 0;\n\
@@ -423,7 +437,7 @@ pub fn told(alloc: Global, case: &str) -> Result<String, Fail> {
 
 #[test]
 fn answers_the_table(rt: HostRuntime) -> Result<(), Fail> {
-    expect_all(&rt, rt.alloc(), Way::Reads, TABLE, 284)
+    expect_all(&rt, rt.alloc(), Way::Reads, TABLE, 298)
 }
 
 // Inputs and lines of the most bytes, and of one more.
@@ -509,7 +523,8 @@ fn command_text(alloc: Global, command: &Command) -> Result<String, AllocError> 
             let name = change_name(*change);
             format!(in alloc; "{name} {page}")
         }
-        _ => String::from_str(alloc, "of a dirty log"),
+        Command::SetLog { id, on } => format!(in alloc; "log {id} {on}"),
+        _ => String::from_str(alloc, "none that is read"),
     }
 }
 
@@ -553,7 +568,7 @@ fn read_text(alloc: Global, case: &str) -> Result<String, Fail> {
 }
 
 const TRACE: &str =
-    "&%v1 read 0x12018;v0 write 8 0xff;;# c;v0 add 0 18446744073709551615;h1 allow 0x2a;h0 evict 7;h1 move 9;";
+    "&%v1 read 0x12018;v0 write 8 0xff;;# c;v0 add 0 18446744073709551615;h1 allow 0x2a;h0 evict 7;h1 move 9;vm logon 0x20;vm logoff 5;";
 
 // What is kept of it.
 const KEPT: &str = "\
@@ -565,6 +580,8 @@ const KEPT: &str = "\
 8 h1 allow 42
 9 h0 evict 7
 10 h1 move 9
+11 vm log 32 true
+12 vm log 5 false
 ";
 
 #[test]

@@ -9,7 +9,7 @@ use Rattle.core_views.specs.Traces.{HasActor, IsCommandOf, IsHeader}
 use Rattle.core_views.specs.declared.actor.Actor.{Actor}
 use Rattle.core_views.specs.declared.actor.Actor.TheVariants.{Vcpu, Host, Manager}
 use Rattle.core_views.specs.declared.trace.Command.{Command}
-use Rattle.core_views.specs.declared.trace.Command.TheVariants.{Access, ChangeHost, DeleteSlot, SetSlot}
+use Rattle.core_views.specs.declared.trace.Command.TheVariants.{Access, ChangeHost, DeleteSlot, SetLog, SetSlot}
 use Rattle.core_views.specs.declared.trace.HostChange.{HostChange}
 use Rattle.core_views.specs.declared.trace.HostChange.TheVariants.{Allow, Evict, Move, Protect}
 use Rattle.core_views.specs.declared.trace.Header.{Header}
@@ -19,6 +19,7 @@ use Rattle.trace_reader.proofs.Accesses.{IsVcpu, access_form, access_plain, acce
 use Rattle.trace_reader.proofs.HostLines.{IsHost, host_judged, host_line_form, host_plain, host_reads}
 use Rattle.trace_reader.proofs.Items.{has_declared}
 use Rattle.trace_reader.proofs.Judged.{AreTwo, IsOne, Judged, none, row}
+use Rattle.trace_reader.proofs.LogLines.{log_judged, log_line_form, log_plain, log_reads}
 use Rattle.trace_reader.proofs.Operands.{small_words}
 use Rattle.trace_reader.proofs.Results.{other_word, parts_same}
 use Rattle.trace_reader.proofs.SlotLines.{AreSetting, IsManager, slot_judged, slot_line_form, slot_plain, slot_reads}
@@ -36,10 +37,12 @@ IsRow command a rest =
     Either (bytes_eq command (codes "write")) (IsVcpu a × AreTwo rest) (
     Either (bytes_eq command (codes "add")) (IsVcpu a × AreTwo rest) (
     Either (bytes_eq command (codes "slot")) (IsManager a × AreSetting rest) (
+    Either (bytes_eq command (codes "logon")) (IsManager a × IsOne rest) (
+    Either (bytes_eq command (codes "logoff")) (IsManager a × IsOne rest) (
     Either (bytes_eq command (codes "move")) (IsHost a × IsOne rest) (
     Either (bytes_eq command (codes "evict")) (IsHost a × IsOne rest) (
     Either (bytes_eq command (codes "protect")) (IsHost a × IsOne rest) (
-    Either (bytes_eq command (codes "allow")) (IsHost a × IsOne rest) ⊥)))))))
+    Either (bytes_eq command (codes "allow")) (IsHost a × IsOne rest) ⊥)))))))))
 
 -- The words of a form are the actor's name, a command's word, and those of its row.
 abbrev HasRow : List (List ℕ) → Actor → Type 0
@@ -55,7 +58,9 @@ has_row : (words : List (List ℕ)) (a : Actor) → IsCommandForm words a → Ha
 has_row words (Vcpu i) (inl (x, e)) = (codes "read", x ∷ [], e, (tt, (x, refl)))
 has_row words (Vcpu i) (inr (inl (x, y, e))) = (codes "write", x ∷ y ∷ [], e, (tt, (x, y, refl)))
 has_row words (Vcpu i) (inr (inr (x, y, e))) = (codes "add", x ∷ y ∷ [], e, (tt, (x, y, refl)))
-has_row words Manager (i, b, p, k, read_only, e) = (codes "slot", _, e, (tt, (i, b, p, k, read_only, refl)))
+has_row words Manager (inl (i, b, p, k, read_only, e)) = (codes "slot", _, e, (tt, (i, b, p, k, read_only, refl)))
+has_row words Manager (inr (i, true, e)) = (codes "logon", i ∷ [], e, (tt, (i, refl)))
+has_row words Manager (inr (i, false, e)) = (codes "logoff", i ∷ [], e, (tt, (i, refl)))
 has_row words (Host i) (command, p, change, tells, e) = (command, p ∷ [], e, host_row i command p change tells)
 has_row words _ form = absurd form
 
@@ -85,6 +90,10 @@ by_command_judged h who command rest =
     (λ is. rw is (add_judged h who rest (only who (codes "add") rest))) (λ add.
     row (Judged h (who ∷ command ∷ rest)) command (codes "slot") _ _ _ refl
     (λ is. rw is (slot_judged h who rest (only who (codes "slot") rest))) (λ slot.
+    row (Judged h (who ∷ command ∷ rest)) command (codes "logon") _ _ _ refl
+    (λ is. rw is (log_judged h who (codes "logon") true rest (λ i. refl) (only who (codes "logon") rest))) (λ logon.
+    row (Judged h (who ∷ command ∷ rest)) command (codes "logoff") _ _ _ refl
+    (λ is. rw is (log_judged h who (codes "logoff") false rest (λ i. refl) (only who (codes "logoff") rest))) (λ logoff.
     row (Judged h (who ∷ command ∷ rest)) command (codes "move") _ _ _ refl
     (λ is. rw is (host_judged h who (codes "move") Move rest (λ n page lt. lt) refl (only who (codes "move") rest))) (λ moves.
     row (Judged h (who ∷ command ∷ rest)) command (codes "evict") _ _ _ refl
@@ -99,11 +108,13 @@ by_command_judged h who command rest =
       other_word command (codes "write") write,
       other_word command (codes "add") add,
       other_word command (codes "slot") slot,
+      other_word command (codes "logon") logon,
+      other_word command (codes "logoff") logoff,
       other_word command (codes "move") moves,
       other_word command (codes "evict") evict,
       other_word command (codes "protect") protect,
       other_word command (codes "allow") allow,
-    ) at (only who command rest a form).1 in no)))))))))
+    ) at (only who command rest a form).1 in no)))))))))))
 
 pub by_form_judged : (h : Header) (words : List (List ℕ)) → Judged h words (by_form h words)
 unfolding by_form
@@ -117,14 +128,16 @@ pub reads : (h : Header) (words : List (List ℕ)) (a : Actor) (c : Command) →
 reads h words (Vcpu i) (Access gfn word op) header range are = access_reads h words i gfn word op header.vcpus.1 (small_words h header) range are
 reads h words Manager (SetSlot id s) header range are = slot_reads h words id s range are
 reads h words Manager (DeleteSlot id) header range are = delete_reads h words id are
+reads h words Manager (SetLog id on) header range are = log_reads h words id on are
 reads h words (Host i) (ChangeHost page change) header range are = host_reads h words i page change header.hosts.count range are
 reads h words _ _ header range are = absurd are
 
 -- Words that say a command are of a form of its actor.
 pub command_form : (words : List (List ℕ)) (a : Actor) (c : Command) → AreCommandWords words a c → IsCommandForm words a
 command_form words (Vcpu i) (Access gfn word op) are = access_form words i gfn word op are
-command_form words Manager (SetSlot id s) are = slot_line_form words id s are
-command_form words Manager (DeleteSlot id) are = delete_line_form words id are
+command_form words Manager (SetSlot id s) are = inl (slot_line_form words id s are)
+command_form words Manager (DeleteSlot id) are = inl (delete_line_form words id are)
+command_form words Manager (SetLog id on) are = inr (log_line_form words id on are)
 command_form words (Host i) (ChangeHost page change) are = host_line_form words i page change are
 command_form words _ _ are = absurd are
 
@@ -133,6 +146,7 @@ pub command_words : (words : List (List ℕ)) (a : Actor) (c : Command) → IsAc
 command_words words (Vcpu i) (Access gfn word op) le are = access_plain words i gfn word op le are
 command_words words Manager (SetSlot id s) le are = slot_plain words id s are
 command_words words Manager (DeleteSlot id) le are = delete_plain words id are
+command_words words Manager (SetLog id on) le are = log_plain words id on are
 command_words words (Host i) (ChangeHost page change) le are = host_plain words i page change le are
 command_words words _ _ le are = absurd are
 
@@ -141,6 +155,7 @@ commands : (h : Header) (a : Actor) (c : Command) → IsCommandOf h a c → HasA
 commands h (Vcpu i) (Access gfn word op) range = range.0
 commands h Manager (SetSlot id s) range = tt
 commands h Manager (DeleteSlot id) range = tt
+commands h Manager (SetLog id on) range = tt
 commands h (Host i) (ChangeHost page change) range = range
 commands h _ _ range = absurd range
 

@@ -9,6 +9,7 @@ pub mod Operands
 pub mod Judged
 pub mod Accesses
 pub mod SlotLines
+pub mod LogLines
 pub mod HostLines
 pub mod Commands
 pub mod Words

@@ -62,10 +62,10 @@ other_count h rest only four five =
 
 setting_form_why : (h : Header) (rest : List (List ℕ)) → Only (codes "vm") rest
     → Tells h (codes "vm" ∷ codes "slot" ∷ rest) (setting_form rest)
-setting_form_why h (i ∷ b ∷ p ∷ k ∷ []) only = setting_why h (codes "vm" ∷ codes "slot" ∷ i ∷ b ∷ p ∷ k ∷ []) i b p k false (i, b, p, k, false, refl)
+setting_form_why h (i ∷ b ∷ p ∷ k ∷ []) only = setting_why h (codes "vm" ∷ codes "slot" ∷ i ∷ b ∷ p ∷ k ∷ []) i b p k false (inl (i, b, p, k, false, refl))
 setting_form_why h (i ∷ b ∷ p ∷ k ∷ last ∷ []) only =
     row (Tells h (codes "vm" ∷ codes "slot" ∷ i ∷ b ∷ p ∷ k ∷ last ∷ [])) last (codes "ro") (bytes_eq last (codes "ro")) _ _ refl
-    (λ is. setting_why h (codes "vm" ∷ codes "slot" ∷ i ∷ b ∷ p ∷ k ∷ last ∷ []) i b p k true (i, b, p, k, true, rw is refl))
+    (λ is. setting_why h (codes "vm" ∷ codes "slot" ∷ i ∷ b ∷ p ∷ k ∷ last ∷ []) i b p k true (inl (i, b, p, k, true, rw is refl)))
     (λ other. none h (codes "vm" ∷ codes "slot" ∷ i ∷ b ∷ p ∷ k ∷ last ∷ [])
     (λ a form. let (is, (manager, set)) = only a form in other (last_is i b p k last set)))
 setting_form_why h [] only = other_count h [] only (λ e. cc) (λ e. cc)
@@ -74,7 +74,7 @@ setting_form_why h (i ∷ b ∷ []) only = other_count h (i ∷ b ∷ []) only (
 setting_form_why h (i ∷ b ∷ p ∷ []) only = other_count h (i ∷ b ∷ p ∷ []) only (λ e. cc) (λ e. cc)
 setting_form_why h (i ∷ b ∷ p ∷ k ∷ l ∷ m ∷ more) only = other_count h (i ∷ b ∷ p ∷ k ∷ l ∷ m ∷ more) only (λ e. grind (arith, e)) (λ e. grind (arith, e))
 
-named_vm : (who : List ℕ) (a : Actor) → who ≡ actor_name a → IsManager a → who ≡ codes "vm"
+pub named_vm : (who : List ℕ) (a : Actor) → who ≡ actor_name a → IsManager a → who ≡ codes "vm"
 named_vm who (Vcpu i) e is = absurd is
 named_vm who (Host i) e is = absurd is
 named_vm who Manager e is = e

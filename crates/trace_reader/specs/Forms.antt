@@ -6,7 +6,7 @@ use Rattle.core_views.specs.Traces.{IsCommandOf}
 use Rattle.core_views.specs.declared.actor.Actor.{Actor}
 use Rattle.core_views.specs.declared.actor.Actor.TheVariants.{Vcpu, Host, Manager}
 use Rattle.core_views.specs.declared.trace.Command.{Command}
-use Rattle.core_views.specs.declared.trace.Command.TheVariants.{Access, SetSlot, DeleteSlot, ChangeHost}
+use Rattle.core_views.specs.declared.trace.Command.TheVariants.{Access, SetSlot, DeleteSlot, ChangeHost, SetLog}
 use Rattle.core_views.specs.declared.trace.HostChange.{HostChange}
 use Rattle.core_views.specs.declared.trace.HostChange.TheVariants.{Allow, Evict, Move, Protect}
 use Rattle.core_views.specs.declared.trace.Op.TheVariants.{Read, Write, Add}
@@ -65,6 +65,11 @@ setting_form _ = Err reason.Word
 unfoldable pub slot_form : List ℕ → List (List ℕ) → Said
 slot_form who rest = if bytes_eq who (codes "vm") then setting_form rest else Err reason.Word
 
+-- `vm logon ID` and `vm logoff ID`, where the command's word tells which
+unfoldable pub log_form : Bool → List ℕ → List (List ℕ) → Said
+log_form on who (x ∷ []) = if bytes_eq who (codes "vm") then (number x >>= λ id. Ok (Manager, SetLog id on)) else Err reason.Word
+log_form on who _ = Err reason.Word
+
 -- Each host thread may make this change by a line, of any page.
 abbrev pub HostsMake : Header → HostChange → Type 0
 HostsMake h change = (n page : ℕ) → n < length h.hosts → IsCommandOf h (Host n) (ChangeHost page change)
@@ -81,6 +86,8 @@ by_command h who command rest =
     if bytes_eq command (codes "write") then write_form h who rest else
     if bytes_eq command (codes "add") then add_form h who rest else
     if bytes_eq command (codes "slot") then slot_form who rest else
+    if bytes_eq command (codes "logon") then log_form true who rest else
+    if bytes_eq command (codes "logoff") then log_form false who rest else
     if bytes_eq command (codes "move") then host_form h Move who rest else
     if bytes_eq command (codes "evict") then host_form h Evict who rest else
     if bytes_eq command (codes "protect") then host_form h Protect who rest else

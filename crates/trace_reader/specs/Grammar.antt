@@ -6,7 +6,7 @@ use Rattle.core_views.specs.Text.{actor_name}
 use Rattle.core_views.specs.declared.actor.Actor.{Actor}
 use Rattle.core_views.specs.declared.actor.Actor.TheVariants.{Vcpu, Host, Manager, Worker}
 use Rattle.core_views.specs.declared.trace.Command.{Command}
-use Rattle.core_views.specs.declared.trace.Command.TheVariants.{Access, SetSlot, DeleteSlot, ChangeHost}
+use Rattle.core_views.specs.declared.trace.Command.TheVariants.{Access, SetSlot, DeleteSlot, ChangeHost, SetLog}
 use Rattle.core_views.specs.declared.trace.HostChange.{HostChange}
 use Rattle.core_views.specs.declared.trace.HostChange.TheVariants.{Allow, Evict, Move, Protect}
 use Rattle.core_views.specs.declared.trace.Op.TheVariants.{Read, Write, Add}
@@ -45,6 +45,10 @@ ending read_only = if read_only then codes "ro" ∷ [] else []
 abbrev pub slot_words : List ℕ → List ℕ → List ℕ → List ℕ → Bool → List (List ℕ)
 slot_words i b p k read_only = actor_name Manager ∷ codes "slot" ∷ i ∷ b ∷ p ∷ k ∷ ending read_only
 
+-- the words of `vm logon ID` and `vm logoff ID`
+abbrev pub log_words : Bool → List ℕ → List (List ℕ)
+log_words on i = actor_name Manager ∷ (if on then codes "logon" else codes "logoff") ∷ i ∷ []
+
 -- The word is that of a host thread's line that makes this change.
 abbrev pub TellsChange : List ℕ → HostChange → Type 0
 TellsChange w Move = w ≡ codes "move"
@@ -71,6 +75,7 @@ AreCommandWords words Manager (SetSlot id slot) =
 AreCommandWords words Manager (DeleteSlot id) =
     (i b p k : List ℕ) × (base host : ℕ) × (read_only : Bool) × (words ≡ slot_words i b p k read_only) × Spells i id × Spells b base × Spells p 0
     × Spells k host × AreSlotPlaces base host
+AreCommandWords words Manager (SetLog id on) = (i : List ℕ) × (words ≡ log_words on i) × Spells i id
 AreCommandWords words (Host i) (ChangeHost page change) =
     (command p : List ℕ) × TellsChange command change × (words ≡ host_words i command p) × Spells p page
 AreCommandWords words _ _ = ⊥
@@ -93,6 +98,10 @@ IsAccessForm i words = ((a : List ℕ) × (words ≡ read_words i a)) ⊎ ((a x 
 abbrev pub IsSlotForm : List (List ℕ) → Type 0
 IsSlotForm words = (i b p k : List ℕ) × (read_only : Bool) × (words ≡ slot_words i b p k read_only)
 
+-- The words are those of a line that turns a dirty log on or off, whatever stands in the number's place.
+abbrev pub IsLogForm : List (List ℕ) → Type 0
+IsLogForm words = (i : List ℕ) × (on : Bool) × (words ≡ log_words on i)
+
 -- The words are those of a line of this host thread, whatever stands in the number's place.
 abbrev pub IsHostForm : ℕ → List (List ℕ) → Type 0
 IsHostForm i words = (command p : List ℕ) × (change : HostChange) × TellsChange command change × (words ≡ host_words i command p)
@@ -100,7 +109,7 @@ IsHostForm i words = (command p : List ℕ) × (change : HostChange) × TellsCha
 -- The words are of a form that the actor's own lines have.
 abbrev pub IsCommandForm : List (List ℕ) → Actor → Type 0
 IsCommandForm words (Vcpu i) = IsAccessForm i words
-IsCommandForm words Manager = IsSlotForm words
+IsCommandForm words Manager = IsSlotForm words ⊎ IsLogForm words
 IsCommandForm words (Host i) = IsHostForm i words
 IsCommandForm words _ = ⊥
 

@@ -4,7 +4,7 @@ ghost use Rattle.core_views.specs.Traces.{IsCommandOf};
 ghost use Rattle.core_views.specs.declared.actor.Actor.TheVariants.{Manager};
 ghost use Rattle.trace_reader.specs.Operands.{indexed, vcpu, host_thread, address, number as number_word};
 ghost use Rattle.trace_reader.specs.Forms.{slot, slot_command, setting, read_form, write_form, add_form, slot_form, HostsMake, host_form, by_command};
-ghost use Rattle.trace_reader.specs.Forms.{by_form};
+ghost use Rattle.trace_reader.specs.Forms.{log_form, by_form};
 ghost use Rattle.trace_reader.specs.Grammar.{AreSlotPlaces};
 
 use crate::Reason;
@@ -198,6 +198,22 @@ fn slot_said(header: &Header, who: &[u8], rest: &[&[u8]]) -> Result<(Actor, Comm
     }
 }
 
+// A line that turns a dirty log on or off: the command's word tells which.
+#[tactic(auto, unfolding(crate::specs::Forms::log_form))]
+fn log_said(on: bool, who: &[u8], rest: &[&[u8]]) -> Result<(Actor, Command), Reason>
+    ensures value { result ≡ log_form on who.now (map (λ w. w.now) rest.now) }
+    ensures allowed { (h : Header) → IfOk result (λ x. IsCommandOf h x.0 x.1) }
+{
+    let [id] = rest else {
+        return Err(Reason::Word);
+    };
+    if !is(who, "vm") {
+        return Err(Reason::Word);
+    }
+    let id = number_of(id)?;
+    Ok((Actor::Manager, Command::SetLog { id, on }))
+}
+
 // A line that makes this change: the command's word tells which.
 #[tactic(auto, unfolding(crate::specs::Forms::host_form))]
 fn host_said(
@@ -231,30 +247,28 @@ fn command_said(
     ensures allowed { IfOk result (λ x. IsCommandOf header.now x.0 x.1) }
 {
     if is(command, "read") {
-        return read_said(header, who, rest);
+        read_said(header, who, rest)
+    } else if is(command, "write") {
+        write_said(header, who, rest)
+    } else if is(command, "add") {
+        add_said(header, who, rest)
+    } else if is(command, "slot") {
+        slot_said(header, who, rest)
+    } else if is(command, "logon") {
+        log_said(true, who, rest)
+    } else if is(command, "logoff") {
+        log_said(false, who, rest)
+    } else if is(command, "move") {
+        host_said(header, HostChange::Move, who, rest)
+    } else if is(command, "evict") {
+        host_said(header, HostChange::Evict, who, rest)
+    } else if is(command, "protect") {
+        host_said(header, HostChange::Protect, who, rest)
+    } else if is(command, "allow") {
+        host_said(header, HostChange::Allow, who, rest)
+    } else {
+        Err(Reason::Word)
     }
-    if is(command, "write") {
-        return write_said(header, who, rest);
-    }
-    if is(command, "add") {
-        return add_said(header, who, rest);
-    }
-    if is(command, "slot") {
-        return slot_said(header, who, rest);
-    }
-    if is(command, "move") {
-        return host_said(header, HostChange::Move, who, rest);
-    }
-    if is(command, "evict") {
-        return host_said(header, HostChange::Evict, who, rest);
-    }
-    if is(command, "protect") {
-        return host_said(header, HostChange::Protect, who, rest);
-    }
-    if is(command, "allow") {
-        return host_said(header, HostChange::Allow, who, rest);
-    }
-    Err(Reason::Word)
 }
 
 /// What the words of an actor's line say: the actor and its command.

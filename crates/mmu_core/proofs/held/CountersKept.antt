@@ -168,11 +168,12 @@ counters_behind z v a note (part.Zap gfn) = λ S I.
     all_count z v a _ I (walked_counts z (v.hand a).topics _ refl refl refl (refl, refl, refl, refl) refl refl
     (gone_span gfn 0 (v.hand a).topics.walk None S.needs.saw.over) (omega arith) (I.counters a S.there))
 counters_behind z v a note (part.Protect gfn) = λ S I.
-    let found : ℕ = entry_now gfn (v.hand a).topics v in
-    let at_ : ℕ = pool_index (table_page (v.hand a).topics.walk) (entry_index gfn (v.hand a).topics.walk.level) in
-    let left : without_write found < 2 ^ 64 = omega (arith, protected_least found, S.small area.Pool at_) in
+    let seen : ℕ = (v.hand a).topics.walk.entry in
+    let C = I.counters a S.there in
+    let small = C.entry in
+    let left : without_write seen < 2 ^ 64 = omega (arith, protected_least seen, small) in
     all_count z v a _ I (walked_counts z (v.hand a).topics _ refl refl refl (refl, refl, refl, refl) refl refl
-    (gone_span gfn (without_write found) (v.hand a).topics.walk None S.needs.saw.over) left (I.counters a S.there))
+    (gone_span gfn (without_write seen) (v.hand a).topics.walk None S.needs.saw.over) left C)
 counters_behind z v a note part.Publish = λ S I.
     let C = I.counters a S.there in
     all_count z v a _ I (other_counts z (v.hand a).topics _ C.slots C.claim C.seen (omega arith) refl refl refl C.frames C)

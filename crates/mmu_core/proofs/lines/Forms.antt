@@ -1,4 +1,5 @@
 -- What is so of the lines of every form: the one place where it is told by the form. A form of line writes a clause in each of these.
+use Rattle.spte_words.specs.Areas.{words_of_bits}
 use Rattle.mmu_core.specs.lines.HostKnows.{HostRests, is_move}
 use Rattle.core_views.specs.Traces.{IsCommandFor}
 use Rattle.mmu_core.specs.lines.HostSteps.{host_part}
@@ -50,12 +51,13 @@ use Rattle.mmu_core.specs.lines.SlotChangeSteps.{slot_change_part}
 use Rattle.mmu_core.proofs.lines.AccessLeft.{access_few, some_access_left}
 use Rattle.mmu_core.proofs.machine.GoesOn.{GoesToNoAccess, GoesUnderWay, IsNoAccess, IsSimple, simple_is_no_access}
 use Rattle.mmu_core.proofs.slots.LiveStays.{OwnedStays}
-use Rattle.mmu_core.proofs.slots.SlotChangePlaces.{accepts_prop, begins_at_once, slot_change_begins, slot_change_begins_known, slot_change_few}
-use Rattle.mmu_core.proofs.slots.SlotChangePlaces.{slot_change_goes, slot_change_knows_prop, slot_change_stays, change_accepts, some_change_left}
-use Rattle.mmu_core.proofs.slots.SlotChangePlaces.{slot_change_free, slot_change_rests_prop, slot_change_simple}
+use Rattle.mmu_core.proofs.slots.SlotChangeCounted.{slot_change_few, some_change_left}
+use Rattle.mmu_core.proofs.slots.SlotChangePlaces.{accepts_prop, begins_at_once, change_accepts, slot_change_begins, slot_change_begins_known}
+use Rattle.mmu_core.proofs.slots.SlotChangePlaces.{slot_change_goes, slot_change_knows_prop, slot_change_rests_prop, slot_change_stays}
+use Rattle.mmu_core.proofs.slots.SlotChangeTold.{slot_change_free, slot_change_simple}
 use Rattle.mmu_core.proofs.slots.SlotChangeClaims.{begins_without_scan}
 use Rattle.mmu_core.proofs.lines.HostClaims.{host_begins_without}
-use Rattle.mmu_core.proofs.lines.SimplePlaces.{SimplePlace, Told, Nothing, Exit, Change, OfAccess, OfHost, between_simple}
+use Rattle.mmu_core.proofs.lines.SimplePlaces.{SimplePlace, Told, Nothing, Arms, ArmsClean, Exit, Change, OfAccess, OfHost, between_simple}
 use Rattle.mmu_core.proofs.lines.AccessEnds.{AreFed, access_fed, access_free, exit_fed}
 use Rattle.mmu_core.specs.lines.ClaimSteps.{FreeMap, Pages, Frames}
 use Rattle.mmu_core.specs.lines.ScanPlaces.{HasScan}
@@ -133,12 +135,16 @@ other_rests (place.SlotChange p) command h other = by (changes_slot command) ref
 
 -- No more than its command allows.
 pub place_few : (p : Place) (command : Command) (z : Sizes) (pool : ℕ → ℕ) (set : ℕ) (h : Held) → Holds z pool set p command h → KnowsPart p command h
-    → AreSizes h.state.sizes → h.topics.walk.level ≤ 4 → steps_left p h.state.sizes h.topics ≤ most_steps h.state.sizes command
+    → AreSizes h.state.sizes → h.topics.walk.level ≤ 4 → steps_left p command h.state.sizes h.topics ≤ most_steps h.state.sizes command
 place_few place.Between command z pool set h holds K S most = omega arith
 place_few (place.Access p) (Access gfn word op) z pool set h holds K S most =
     let few = access_few p h.state.sizes h.topics most in let pool = S.pool.1 in omega (arith, few, pool)
 place_few (place.SlotChange p) (Access gfn word op) z pool set h holds K S most = absurd (cc K.0)
 place_few (place.SlotChange p) (ChangeHost page change) z pool set h holds K S most = absurd (cc K.0)
+place_few (place.SlotChange p) (SetLog id true) z pool set h holds K S most =
+    let few = slot_change_few p (SetLog id true) h most K.1 in let actors = S.actors in omega (arith, few, actors)
+place_few (place.SlotChange p) (SetLog id false) z pool set h holds K S most =
+    let few = slot_change_few p (SetLog id false) h most K.1 in let actors = S.actors in omega (arith, few, actors)
 place_few (place.SlotChange p) command z pool set h holds K S most =
     let few = slot_change_few p command h most K.1 in let actors = S.actors in omega (arith, few, actors)
 place_few (place.Host p) (ChangeHost page change) z pool set h holds K S most =
@@ -146,16 +152,18 @@ place_few (place.Host p) (ChangeHost page change) z pool set h holds K S most =
 place_few _ _ z pool set h holds K S most = absurd holds
 
 -- No line makes more than an access and the sweep of all guest frames that a slot may have.
-pub most_small : (z : Sizes) (command : Command) → most_steps z command ≤ 8192 + z.pool + z.frames + 5 * z.pages
+pub most_small : (z : Sizes) (command : Command) → most_steps z command ≤ 8192 + z.pool + z.frames + 5 * z.pages + words_of_bits z.pages
 most_small z (Access gfn word op) = omega arith
+most_small z (SetLog id true) = omega arith
+most_small z (SetLog id false) = omega arith
 most_small z _ = omega arith
 
 -- At each place it has one.
-pub some_left : (p : Place) (z : Sizes) (t : Topics) → IsUnderWay p → 0 < steps_left p z t
-some_left place.Between z t under = absurd under
-some_left (place.Access p) z t under = some_access_left p z t
-some_left (place.SlotChange p) z t under = some_change_left p z t
-some_left (place.Host p) z t under = some_host_left p z t
+pub some_left : (p : Place) (c : Command) (z : Sizes) (t : Topics) → IsUnderWay p → 0 < steps_left p c z t
+some_left place.Between c z t under = absurd under
+some_left (place.Access p) c z t under = some_access_left p z t
+some_left (place.SlotChange p) c z t under = some_change_left p c z t
+some_left (place.Host p) c z t under = some_host_left p z t
 
 -- ---- where it begins
 
@@ -283,6 +291,8 @@ tells_fed p command h v = by p command (tells_at p command h v) (place_tells p c
     by : (q : Place) (c : Command) (kinds : List EventKind) → Told h v q c kinds → outcome_at q c h v ≢ Ends Starved → AreFed kinds
     by _ _ _ Nothing other = tt
     by q c _ (Exit not_) other = exit_fed (outcome_at q c h v) other
-    by _ _ _ (Change id slot at) other = (λ e. absurd (cc e), tt)
+    by _ _ _ (Arms id at) other = (λ e. absurd (cc e), tt)
+    by _ _ _ (ArmsClean id index at seen) other = (λ e. absurd (cc e), tt)
+    by q c _ (Change id slot at more) other = (λ e. absurd (cc e), by q c _ more other)
     by _ _ _ (OfAccess q gfn word op) other = access_fed q h gfn word op v other
     by _ _ _ (OfHost q page change) other = host_fed q page change h v

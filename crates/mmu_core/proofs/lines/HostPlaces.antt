@@ -112,7 +112,7 @@ begin_few (begins.Find begun) y z page t most K = let few = find_few begun t.sea
 begin_few (begins.Walk true) y z page t most K =
     let own_ = t.invalidations.own in
     let few =
-    sweep_few (has_entry t.walk) own_.start own_.end (swept_to own_.start t.walk) t.walk.level most K.0.of_own.few.0 (K.1 refl).0.from in
+    sweep_few (has_entry t.walk) own_.start own_.end (swept_to true own_.start t.walk) t.walk.level most K.0.of_own.few.0 (K.1 refl).on.from in
     omega (arith, few)
 begin_few (begins.Walk false) y z page t most K = let one = K.0.of_own.few.0 in omega (arith, one)
 begin_few begins.Zap y z page t most K = let one = K.0.of_own.few.0 in let from = K.1.from in omega (arith, one, from)

@@ -36,7 +36,7 @@ use Rattle.core_views.specs.declared.topics.Invalidated.{Invalidated}
 use Rattle.part_steps.specs.InvalidationHoldings.{has_counted, has_widened}
 use Rattle.part_steps.specs.InvalidationRange.{HasSmallSlot, IsAimed, IsSmall, end_with, greater, has_searched, invalidated_by, is_within_range, lesser}
 use Rattle.part_steps.specs.InvalidationRange.{page_of_target, start_with}
-use Rattle.mmu_core.proofs.lines.SweepKnown.{root_known, sweep_known, zap_known}
+use Rattle.mmu_core.proofs.lines.BeginSweeps.{entry_known, root_begins, zap_known}
 use Rattle.mmu_core.proofs.lines.SearchKnown.{may_search_alone, may_walk_alone, none_searched, same_searches, search_known, slots_loaded}
 use Rattle.mmu_core.proofs.lines.AloneKnown.{alone_let_go, alone_taken, alone_tried, same_alone}
 
@@ -223,8 +223,8 @@ begin_known begins.SetCount z target t v sizes small aimed frames most K A = (
   λ rooted. absurd (cc rooted),
 )
 begin_known (begins.Walk false) z target t v sizes small aimed frames most K A =
-    root_known (may_walk t.stay t.hold) z target t v sizes (may_walk_alone t K.0.sweeping.with_lock.alone) K.0
-begin_known (begins.Walk true) z target t v sizes small aimed frames most K A = let B = K.1 refl in sweep_known z target t v sizes K.0 B.0 B.1
+    root_begins (may_walk t.stay t.hold) z target t v sizes (may_walk_alone t K.0.sweeping.with_lock.alone) K.0
+begin_known (begins.Walk true) z target t v sizes small aimed frames most K A = entry_known z target t v sizes K.0 (K.1 refl)
 begin_known begins.Zap z target t v sizes small aimed frames most K A = zap_known z target t sizes most K.0 K.1
 begin_known begins.Ask z target t v sizes small aimed frames most K A =
     let some = sizes.some in

@@ -2,7 +2,7 @@
 use Rattle.core_views.specs.declared.topics.Checked.{Checked}
 use Rattle.std.proofs.lemmas.Bool.Decides.{nat_tests}
 use Rattle.std.proofs.Common.{◌≡◌, ◌+◌, ◌-◌, ◌^◌, ◌<◌, ◌≤◌, ℕ, Bool, true, false, refl, sym, subst, ap, ◌∙◌, arith}
-use Rattle.std.specs.Prelude.{◌==◌, if◌then◌else◌, nat_le, nat_lt, ◌&&◌, Option, Some, None, is_some}
+use Rattle.std.specs.Prelude.{◌==◌, if◌then◌else◌, nat_le, nat_lt, ◌&&◌, ◌||◌, Option, Some, None, is_some}
 use Rattle.core_views.specs.declared.place.BeginPlace.{BeginPlace}
 use Rattle.core_views.specs.declared.place.BeginPlace.TheVariants as begins
 use Rattle.core_views.specs.declared.place.EndPlace.{EndPlace}
@@ -21,8 +21,12 @@ use Rattle.part_steps.specs.InvalidationHoldings.{MayCount, has_counted, knows_c
 use Rattle.part_steps.specs.InvalidationRange.{HasSmallSlot, IsAimed, IsSmall, has_found_looked, has_searched, invalidated_by, is_within_range}
 use Rattle.part_steps.specs.InvalidationRange.{page_aimed, page_looked, page_of_look}
 use Rattle.part_steps.specs.PartSteps.{PartNeeds}
+use Rattle.part_steps.specs.SweepHoldings.{MaySweep, MayZap}
+use Rattle.part_steps.specs.SweepTopics.{is_clear, swept_to}
 use Rattle.part_steps.specs.StayTopics.{is_alone}
-use Rattle.mmu_core.specs.lines.InvalidateKnows.{BeginKnows, EndKnows, IsAloneWith, HasSearched}
+use Rattle.mmu_core.specs.lines.InvalidateKnows.{BeginKnows, EndKnows, HasSearched, IsAloneWith, IsSweeping}
+use Rattle.mmu_core.specs.lines.SweepKnows.{IsAtEntry, IsAtLeaf}
+use Rattle.mmu_core.specs.lines.SweepSteps.{range_of}
 use Rattle.mmu_core.specs.lines.InvalidateSteps.{begin_part, end_part, gfn_behind, greater, has_found, lesser, range_end, range_start, target_end, target_start}
 use Rattle.mmu_core.proofs.lines.EitherPlace.{either_place}
 use Rattle.mmu_core.proofs.lines.FaultSame.{both, over_it}
@@ -156,6 +160,30 @@ none_found (aim.Page page) t aimed is =
     second_not false e = refl
 none_found (aim.Slot slot) t aimed is = ap (λ (o : Option ℕ). is_some o && has_found (page_looked t.host) t.search) aimed
 
+-- A sweep of the own open invalidation.
+may_sweep : (t : Topics) → IsSweeping true t → IsAtEntry true (range_of t.invalidations.own) t.walk
+    → MaySweep (swept_to true t.invalidations.own.start t.walk) t
+may_sweep t W K = record {
+  alone = W.with_lock.alone.alone;
+  outside = W.with_lock.alone.outside;
+  sweeps = ap (λ (b : Bool). b || is_some t.retired) W.with_lock.is;
+  there = K.on.there;
+  clear = ap (λ (b : Bool). is_clear b t.walk) W.with_lock.is ∙ K.clear;
+  of_own = λ opened. (refl, K.left);
+  over = K.on.over K.left;
+}
+
+may_zap : (t : Topics) → IsSweeping true t → IsAtLeaf true (range_of t.invalidations.own) t.walk → MayZap (swept_to true t.invalidations.own.start t.walk) t
+may_zap t W K = record {
+  alone = W.with_lock.alone.alone;
+  outside = W.with_lock.alone.outside;
+  opened = W.with_lock.is;
+  from = K.from;
+  to = K.left;
+  saw = K.saw;
+  leaf = K.leaf;
+}
+
 pub begin_needs : (p : BeginPlace) (h : Held) (target : Target) → PartRests h → IsSmall target → IsAimed target h.topics
     → is_uncopied h.topics.frames.owned ≡ true → BeginKnows p h.state.sizes target h.topics → PartNeeds (begin_part p target h.topics) h
 begin_needs begins.Exclude h target R small aimed none K = K.0.loose
@@ -186,10 +214,17 @@ begin_needs begins.SetEnd h target R small aimed none K =
       end_small target h.topics small R.counters.range.1 R.frames,
     )
 begin_needs begins.SetCount h target R small aimed none K = one_more target h.topics aimed small R.frames K.0 K.1 K.2 K.3 none
-begin_needs (begins.Walk true) h target R small aimed none K = (K.1 refl).1
-begin_needs begins.Zap h target R small aimed none K = K.1
+begin_needs (begins.Walk true) h target R small aimed none K = may_sweep h.topics K.0.sweeping (K.1 refl)
+begin_needs begins.Zap h target R small aimed none K = may_zap h.topics K.0.sweeping K.1
 begin_needs begins.Ask h target R small aimed none K =
-    record { low = K.2; next = refl; alone = K.0.alone.alone; outside = K.0.alone.outside; opened = K.0.is; swept = K.4 }
+    record {
+      low = K.2;
+      next = refl;
+      outside = K.0.alone.outside;
+      alone = λ opened. K.0.alone.alone;
+      swept = λ opened. K.4;
+      loose = λ closed. absurd (let opened = K.0.is in cc (closed, opened));
+    }
 begin_needs begins.Await h target R small aimed none K = (let asked = K.2 in let lt = K.3 in omega (arith, asked, lt), refl, K.0.alone.outside)
 begin_needs begins.Release h target R small aimed none K = K.0.alone.alone
 begin_needs (begins.Find false) h target R small aimed none K = tt

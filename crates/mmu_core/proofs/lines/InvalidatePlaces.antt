@@ -90,7 +90,7 @@ not_yet_open _ z target t is K = absurd (cc is)
 -- ---- how many steps are left
 
 -- A sweep of so many guest frames has five left for each at most: an entry of each level and the zap of a leaf.
-sweep_few : (has : Bool) (frames start end_ come level : ℕ) → level ≤ 4 → end_ ≤ start + frames → start ≤ come
+pub sweep_few : (has : Bool) (frames start end_ come level : ℕ) → level ≤ 4 → end_ ≤ start + frames → start ≤ come
     → (if has then 5 * (end_ - come) else 5 * (end_ - come) + level - 4) ≤ 5 * frames
 sweep_few true frames start end_ come level most few from = omega (arith, few, from)
 sweep_few false frames start end_ come level most few from = omega (arith, most, few, from)
@@ -102,7 +102,7 @@ begin_few (begins.Find begun) y z target frames t most few K = let left = find_f
 begin_few (begins.Walk true) y z target frames t most few K =
     let own_ = t.invalidations.own in
     let left =
-    sweep_few (has_entry t.walk) frames own_.start own_.end (swept_to own_.start t.walk) t.walk.level most (few K.0.of_own.few) (K.1 refl).0.from in
+    sweep_few (has_entry t.walk) frames own_.start own_.end (swept_to true own_.start t.walk) t.walk.level most (few K.0.of_own.few) (K.1 refl).on.from in
     omega (arith, left)
 begin_few (begins.Walk false) y z target frames t most few K = let left = few K.0.of_own.few in omega (arith, left)
 begin_few begins.Zap y z target frames t most few K = let left = few K.0.of_own.few in let from = K.1.from in omega (arith, left, from)

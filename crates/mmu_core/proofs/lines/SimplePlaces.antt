@@ -1,10 +1,11 @@
 -- What a line tells at a place, in a few shapes; and all that laws ask of the places of a simple form, in one record, of which each such form has one.
 use Rattle.std.proofs.Common.{◌≡◌, ◌≢◌, ◌⊎◌, ℕ, List, [], ◌∷◌, refl}
-use Rattle.std.specs.Prelude.{Option, Some}
+use Rattle.std.specs.Prelude.{Option, Some, true, false}
+use Rattle.part_steps.specs.ControlBits.{has_to_flush}
 use Rattle.core_views.specs.declared.answer.Answer.TheVariants.{Refused}
 use Rattle.core_views.specs.declared.answer.Refusal.TheVariants.{NoFrame}
 use Rattle.core_views.specs.declared.event.EventKind.{EventKind}
-use Rattle.core_views.specs.declared.event.EventKind.TheVariants.{SlotChanged}
+use Rattle.core_views.specs.declared.event.EventKind.TheVariants.{Armed, SlotChanged}
 use Rattle.core_views.specs.declared.place.AccessPlace.{AccessPlace}
 use Rattle.core_views.specs.declared.place.HostPlace.{HostPlace}
 use Rattle.core_views.specs.declared.place.Place.{Place}
@@ -35,11 +36,15 @@ use Rattle.std.proofs.Common.{◌+◌, ◌≤◌, length, arith}
 -- ---- what a step tells
 
 -- At this place, for this command, a step that finds v tells one of these, besides that its line begins or is answered: nothing; an exit, but none for
--- want of a frame; a slot's change, where it publishes; or what an access or a host line tells.
+-- want of a frame; that a log begins, where it publishes or has
+-- awaited a flush; a slot's change, where it publishes, and then one of these; or what an access or a host line tells.
 pub data Told (h : Held) (v : ℕ) : Place → Command → List EventKind → Type 0 where
   Nothing : {p : Place} {c : Command} → Told h v p c []
   Exit : {p : Place} {c : Command} → outcome_at p c h v ≢ Ends (Refused NoFrame) → Told h v p c (exiting (outcome_at p c h v))
-  Change : {p : Place} {c : Command} (id : ℕ) (slot : Option MemorySlot) → part_at p c h ≡ Some part.Publish → Told h v p c (SlotChanged id slot ∷ [])
+  Arms : {p : Place} {c : Command} (id : ℕ) → part_at p c h ≡ Some part.Publish → Told h v p c (Armed id true ∷ [])
+  ArmsClean : {p : Place} {c : Command} (id index : ℕ) → part_at p c h ≡ Some (part.Await index) → has_to_flush v ≡ false → Told h v p c (Armed id false ∷ [])
+  Change : {p : Place} {c : Command} {more : List EventKind} (id : ℕ) (slot : Option MemorySlot) → part_at p c h ≡ Some part.Publish → Told h v p c more
+      → Told h v p c (SlotChanged id slot ∷ more)
   OfAccess : (p : AccessPlace) (gfn word : ℕ) (op : Op) → Told h v (place.Access p) (Access gfn word op) (access_tells p h gfn word op v)
   OfHost : (p : HostPlace) (page : ℕ) (change : HostChange) → Told h v (place.Host p) (ChangeHost page change) (host_tells p page change h v)
 

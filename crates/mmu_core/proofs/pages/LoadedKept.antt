@@ -33,7 +33,7 @@ use Rattle.mmu_core.proofs.words.PartTopics.{behind_step, part_behind}
 use Rattle.mmu_core.proofs.words.PartWords.{IsElsewhere, page_stays}
 use Rattle.spte_words.specs.declared.spte_kind.SpteKind.TheVariants.{Leaf}
 use Rattle.mmu_core.specs.invariant.TreePart.{Position, stands}
-use Rattle.mmu_core.proofs.pages.ProtectedLeaf.{pool_protected}
+use Rattle.mmu_core.proofs.pages.ProtectedLeaf.{found_same, pool_protected}
 use Rattle.mmu_core.proofs.pages.Standing.{entry_now, one_position}
 use Rattle.mmu_core.proofs.machine.ColumnsTell.{tells}
 use Rattle.mmu_core.proofs.lines.FaultSame.{both, is_not}
@@ -89,7 +89,7 @@ own_loaded z v a note (part.Zap gfn) S I = λ alone out from low. inl (upd_same 
 own_loaded z v a note (part.Protect gfn) S I = λ alone out from low.
     let here : ℕ = pool_index (table_page (v.hand a).topics.walk) (entry_index gfn (v.hand a).topics.walk.level) in
     inl (ap (λ (pool : ℕ → ℕ). pool here) (pool_protected z v a gfn S note)
-    ∙ upd_same (v.words area.Pool) here (without_write (entry_now gfn (v.hand a).topics v)))
+    ∙ upd_same (v.words area.Pool) here (without_write (entry_now gfn (v.hand a).topics v)) ∙ ap without_write (found_same z v a gfn S I))
 own_loaded z v a note (part.Fill value) S I = λ alone out from low.
     let walk : TableWalk = (v.hand a).topics.walk in
     subst (λ (w : ℕ). IsEntryStill walk.level w walk.entry)

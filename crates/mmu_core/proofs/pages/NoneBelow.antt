@@ -1,19 +1,34 @@
 -- Where the entry of a table over a guest frame leads nowhere, no links lead to a leaf over this frame.
 use Rattle.std.proofs.Math.Nat.{div-div-eq-div-mul}
 use Rattle.std.proofs.Common.{◌≡◌, ◌⊎◌, inl, inr, ◌+◌, ◌-◌, ◌/◌, ◌%◌, ◌^◌, ◌<◌, ◌≤◌, ℕ, zero, suc, refl, sym, subst, ap, ◌∙◌, arith}
-use Rattle.std.specs.Prelude.{true, false, Some}
+use Rattle.std.specs.Prelude.{Bool, true, false, Some}
 use Rattle.spte_words.specs.declared.spte_kind.SpteKind.TheVariants as entry_kind
 use Rattle.spte_words.specs.Areas.{pool_index}
 use Rattle.spte_words.specs.Entries.{kind_of, level_span}
 use Rattle.spte_words.proofs.ReadsEntries.{kind_of_absent, kind_of_table}
 use Rattle.spte_words.proofs.Spans.{span_above}
 use Rattle.part_steps.specs.PartTasks.{entry_index}
-use Rattle.part_steps.specs.SweepTopics.{leads_on}
+use Rattle.part_steps.specs.SweepTopics.{has_done}
+use Rattle.spte_words.specs.declared.spte_kind.SpteKind.{SpteKind}
 use Rattle.mmu_core.specs.invariant.AllOver.{AllOver, IsEntryOver}
 use Rattle.mmu_core.specs.invariant.TreePart.{EntryPart, Position, HangsBelow, TreePart, Use, at, is_table, stands}
 use Rattle.mmu_core.proofs.pages.AllOver.{reached_table}
 use Rattle.mmu_core.proofs.pages.Standing.{at_spot, one_position}
 use Rattle.mmu_core.proofs.pages.TreePlaces.{IsLinked, all_reached, link_stands, linked, one_place, root_stands}
+
+-- The entry is a link or a leaf.
+abbrev pub leads_on : SpteKind → Bool
+leads_on (entry_kind.Table page) = true
+leads_on entry_kind.Leaf = true
+leads_on entry_kind.Absent = false
+leads_on entry_kind.Frozen = false
+
+-- A sweep that zaps leaves has done what there is to do just where it is neither.
+pub done_leads : (writes : Bool) (k : SpteKind) → has_done true writes k ≡ true → leads_on k ≡ false
+done_leads writes (entry_kind.Table page) is = absurd (cc is)
+done_leads writes entry_kind.Leaf is = absurd (cc is)
+done_leads writes entry_kind.Absent is = refl
+done_leads writes entry_kind.Frozen is = refl
 
 -- the span of a guest frame, one level up
 pub span_up : (gfn level : ℕ) → 1 ≤ level → gfn / level_span level / 512 ≡ gfn / level_span (level + 1)
@@ -32,7 +47,7 @@ record LeadsAt (pool : ℕ → ℕ) (up : ℕ → Use) (spot : ℕ → Position)
 module _ {pages root : ℕ} {role pool : ℕ → ℕ} {up : ℕ → Use} {spot : ℕ → Position} (T : TreePart pages root role pool up spot)
     (few : pages ≤ 2 ^ 32) where
   -- Leaves are at the lowest level.
-  leaf_lowest : (k : ℕ) (p : Position) (j : ℕ) → stands up spot k ≡ Some p → j < 512 → kind_of p.level (pool (pool_index k j)) ≡ entry_kind.Leaf
+  pub leaf_lowest : (k : ℕ) (p : Position) (j : ℕ) → stands up spot k ≡ Some p → j < 512 → kind_of p.level (pool (pool_index k j)) ≡ entry_kind.Leaf
       → p.level ≡ 1
   leaf_lowest k p j at_k low leaf = by (T.entries k p at_k j low)
     where

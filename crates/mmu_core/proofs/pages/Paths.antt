@@ -186,7 +186,7 @@ part_goes (part.Link gfn) t v from = swap_goes (v == t.walk.entry) t.walk _ (lin
 part_goes (part.Leaf gfn write) t v from = swap_goes (v == t.walk.entry) t.walk _ (leaf_written write t) v (omega arith)
 part_goes (part.Fix gfn) t v from = swap_goes (v == t.walk.entry) t.walk _ (leaf_fixed t) v (omega arith)
 part_goes (part.Zap gfn) t v from = down_goes None t.walk _ 0 (omega arith)
-part_goes (part.Protect gfn) t v from = down_goes None t.walk _ (without_write v) (omega arith)
+part_goes (part.Protect gfn) t v from = down_goes None t.walk _ (without_write t.walk.entry) (omega arith)
 part_goes _ t v from = stays t.walk
 
 -- ---- The tables of a walk stand after each step.

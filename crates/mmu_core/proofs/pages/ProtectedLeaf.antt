@@ -1,5 +1,5 @@
 -- What a step leaves that forbids writes in a leaf: the same leaf, which forbids them.
-use Rattle.std.proofs.Common.{◌≡◌, ◌-◌, ℕ, false, sym, ap, ◌∙◌, arith}
+use Rattle.std.proofs.Common.{◌≡◌, inl, inr, ◌-◌, ℕ, false, sym, ap, ◌∙◌, arith}
 use Rattle.std.specs.Prelude.{Bool}
 use Rattle.core_views.specs.declared.sizes.Sizes.{Sizes}
 use Rattle.spte_words.specs.declared.area.Area.TheVariants as area
@@ -10,10 +10,13 @@ use Rattle.spte_words.specs.Entries.{can_write, kind_of, without_write}
 use Rattle.spte_words.proofs.ProtectedEntries.{protected_is, protected_kind}
 use Rattle.part_steps.specs.declared.part_step.PartStep.TheVariants as part
 use Rattle.part_steps.specs.PartTasks.{entry_index, table_page}
+use Rattle.mmu_core.specs.invariant.InvalidationsPart.{IsEntryStill}
 use Rattle.mmu_core.specs.invariant.TopicsInvariant.{TopicsInvariant}
+use Rattle.mmu_core.specs.invariant.TreePart.{at}
 use Rattle.mmu_core.specs.machine.View.{View, part_stepped, upd}
 use Rattle.mmu_core.proofs.machine.PartStepping.{IsPart}
 use Rattle.mmu_core.proofs.pages.EntryStill.{still_leaf}
+use Rattle.mmu_core.proofs.pages.NoneBelow.{leaf_lowest}
 use Rattle.mmu_core.proofs.pages.Standing.{entry_now}
 
 -- Where a leaf allows no writes, it stays.
@@ -33,11 +36,29 @@ module _ (z : Sizes) (v : View) (a gfn : ℕ) (S : IsPart z v a (part.Protect gf
       ∙ still_leaf (v.hand a).topics.walk.level _ (v.hand a).topics.walk.entry
       (I.loaded a S.there S.needs.alone S.needs.outside S.needs.saw.over.there (omega (arith, seen))) S.needs.leaf
 
+  -- It allowed writes, and so it is the same.
+  pub found_same : TopicsInvariant z v → entry_now gfn (v.hand a).topics v ≡ (v.hand a).topics.walk.entry
+  found_same I =
+      let seen = S.needs.saw.loaded in
+      by (I.loaded a S.there S.needs.alone S.needs.outside S.needs.saw.over.there (omega (arith, seen)))
+    where
+      here : ℕ → ℕ
+      here i = v.words area.Pool (pool_index (table_page (v.hand a).topics.walk) i)
+
+      by : IsEntryStill (v.hand a).topics.walk.level (here (v.hand a).topics.walk.index) (v.hand a).topics.walk.entry
+          → here walk_index ≡ (v.hand a).topics.walk.entry
+      by (inl same) = sym (ap here S.needs.saw.loaded) ∙ same
+      by (inr allows) = let denied = allows.denied in let writes = S.needs.writes in absurd (cc (denied, writes))
+
+  -- And it is of the lowest level.
+  pub at_lowest : TopicsInvariant z v → (v.hand a).topics.walk.level ≡ 1
+  at_lowest I =
+      let most = S.is_sizes.pool.1 in
+      leaf_lowest I.tree (omega (arith, most)) (table_page (v.hand a).topics.walk) (at (v.hand a).topics.walk.level (v.hand a).topics.walk.prefix) walk_index
+      ((I.held a S.there).table S.needs.saw.over.there) (omega arith) (found_leaf I)
+
   pub left_leaf : TopicsInvariant z v → kind_of (v.hand a).topics.walk.level (without_write (entry_now gfn (v.hand a).topics v)) ≡ Leaf
-  left_leaf I =
-      let now_ : ℕ = entry_now gfn (v.hand a).topics v in
-      ap (λ l. kind_of l (without_write now_)) S.needs.lowest
-      ∙ protected_kind now_ (ap (λ l. kind_of l now_) (sym S.needs.lowest) ∙ found_leaf I)
+  left_leaf I = protected_kind (v.hand a).topics.walk.level (entry_now gfn (v.hand a).topics v) (found_leaf I)
 
   pub pool_protected : (note : ℕ) → ◌≡◌ {A = ℕ → ℕ} ((part_stepped a (part.Protect gfn) note v).words area.Pool)
       (upd (v.words area.Pool) (pool_index (table_page (v.hand a).topics.walk) walk_index) (without_write (entry_now gfn (v.hand a).topics v)))

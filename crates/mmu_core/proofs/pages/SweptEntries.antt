@@ -1,27 +1,27 @@
 -- How far a sweep has come, by the entry that it has loaded last: up to there no links lead to a leaf of its frames.
 use Rattle.std.proofs.Math.Nat.{div-mul-le_self, div-lt_iff_lt-mul, le-div_iff_mul-le}
 use Rattle.std.proofs.Common.{◌≡◌, ◌⊎◌, inl, inr, ◌+◌, ◌-◌, ◌*◌, ◌/◌, ◌%◌, ◌^◌, ◌<◌, ◌≤◌, ℕ, refl, sym, subst, ap, ◌∙◌, arith}
-use Rattle.std.specs.Prelude.{Bool, true, false, ◌&&◌, nat_le, nat_lt, not, if◌then◌else◌, Option, Some, None}
+use Rattle.std.specs.Prelude.{Bool, true, false, ◌&&◌, nat_le, nat_lt, if◌then◌else◌, Option, Some, None}
 use Rattle.std.proofs.lemmas.Bool.{cases_lt}
 use Rattle.std.proofs.lemmas.Bool.Decides.{nat_tests}
 use Rattle.core_views.specs.declared.topics.Invalidated.{Invalidated}
 use Rattle.core_views.specs.declared.topics.TableWalk.{TableWalk}
 use Rattle.spte_words.specs.Areas.{pool_index}
-use Rattle.spte_words.specs.Entries.{kind_of, level_span}
+use Rattle.spte_words.specs.Entries.{can_write, kind_of, level_span}
 use Rattle.spte_words.proofs.Spans.{span_above, span_positive}
 use Rattle.part_steps.specs.PartTasks.{entry_index, table_page}
-use Rattle.part_steps.specs.SweepTopics.{entry_end, entry_start, has_entry, leads_nowhere, leads_on, swept_to}
+use Rattle.part_steps.specs.SweepTopics.{entry_end, entry_start, has_entry, is_done, swept_to}
 use Rattle.part_steps.specs.WalkTopics.{gone_down}
 use Rattle.mmu_core.specs.invariant.AllOver.{AllOver}
 use Rattle.mmu_core.specs.invariant.InvalidatedPart.{IsNoLeafBelow}
 use Rattle.mmu_core.specs.invariant.TreePart.{Position, TreePart, Use, at, stands}
-use Rattle.mmu_core.proofs.pages.NoneBelow.{none_below}
+use Rattle.mmu_core.proofs.pages.NoneBelow.{done_leads, leads_on, none_below}
 
 -- A guest frame of the invalidation that lies below lies below the end of an entry that leads nowhere, or below the entry.
-pub below_swept : (from : ℕ) (walk : TableWalk) (gfn : ℕ) → from ≤ gfn → gfn < swept_to from walk
-    → (((has_entry walk && leads_nowhere walk) ≡ true) × (gfn < entry_end walk)) ⊎ (gfn < entry_start walk)
+pub below_swept : (from : ℕ) (walk : TableWalk) (gfn : ℕ) → from ≤ gfn → gfn < swept_to true from walk
+    → (((has_entry walk && is_done true walk) ≡ true) × (gfn < entry_end walk)) ⊎ (gfn < entry_start walk)
 below_swept from walk gfn at_least below =
-    by (has_entry walk && leads_nowhere walk) (nat_le from (entry_start walk)) (entry_end walk) (entry_start walk) below
+    by (has_entry walk && is_done true walk) (nat_le from (entry_start walk)) (entry_end walk) (entry_start walk) below
   where
     by : (done later : Bool) (end_ start : ℕ) → gfn < (if done then end_ else if later then start else from)
         → ((done ≡ true) × (gfn < end_)) ⊎ (gfn < start)
@@ -30,8 +30,8 @@ below_swept from walk gfn at_least below =
     by false false end_ start lt = absurd (omega (arith, at_least, lt))
 
 -- It has come to the entry that was loaded last, where this leads on.
-pub comes_to : (from : ℕ) (walk : TableWalk) → leads_nowhere walk ≡ false → entry_start walk ≤ swept_to from walk
-comes_to from walk leads = by (has_entry walk) (leads_nowhere walk) leads (nat_le from (entry_start walk)) (entry_start walk) (entry_end walk) refl
+pub comes_to : (from : ℕ) (walk : TableWalk) → is_done true walk ≡ false → entry_start walk ≤ swept_to true from walk
+comes_to from walk leads = by (has_entry walk) (is_done true walk) leads (nat_le from (entry_start walk)) (entry_start walk) (entry_end walk) refl
   where
     by : (some none : Bool) → none ≡ false → (later : Bool) (start end_ : ℕ) → nat_le from start ≡ later
         → start ≤ (if some && none then end_ else if later then start else from)
@@ -54,10 +54,6 @@ entry_below gfn level prefix over =
 
 regrouped : (n span : ℕ) → (n * 512 + 0) * span ≡ n * (512 * span)
 regrouped n span = omega arith
-
-not_true : (b : Bool) → not b ≡ true → b ≡ false
-not_true true e = absurd (cc e)
-not_true false e = refl
 
 below_512 : (n : ℕ) → nat_lt (n % 512) 512 ≡ true
 below_512 n = grind (arith, nat_tests)
@@ -103,7 +99,7 @@ module _ {pages root : ℕ} {role pool : ℕ → ℕ} {up : ℕ → Use} {spot :
 
   -- The entry was loaded of the guest frame to which a sweep had come.
   pub loaded_swept : (gfn : ℕ) (o : Option ℕ) → gfn / level_span walk.level / 512 ≡ walk.prefix → AllOver up spot pool root (IsNoLeafBelow own_ gfn)
-      → 1 ≤ (on o gfn).level → AllOver up spot pool root (IsNoLeafBelow own_ (swept_to own_.start (on o gfn)))
+      → 1 ≤ (on o gfn).level → AllOver up spot pool root (IsNoLeafBelow own_ (swept_to true own_.start (on o gfn)))
   loaded_swept gfn o over A from l j other R O is_in below leaf = by o from (below_swept own_.start (on o gfn) other is_in.0 below)
     where
       index : ℕ
@@ -113,9 +109,9 @@ module _ {pages root : ℕ} {role pool : ℕ → ℕ} {up : ℕ → Use} {spot :
       start = entry_below gfn walk.level walk.prefix over
 
       by : (o : Option ℕ) → 1 ≤ (on o gfn).level
-          → (((has_entry (on o gfn) && leads_nowhere (on o gfn)) ≡ true) × (other < entry_end (on o gfn))) ⊎ (other < entry_start (on o gfn)) → ⊥
+          → (((has_entry (on o gfn) && is_done true (on o gfn)) ≡ true) × (other < entry_end (on o gfn))) ⊎ (other < entry_start (on o gfn)) → ⊥
       by (Some page) level (inl none) =
-          absurd (let e = (both_true (has_entry (on (Some page) gfn)) (leads_nowhere (on (Some page) gfn)) none.0).0 in cc e)
+          absurd (let e = (both_true (has_entry (on (Some page) gfn)) (is_done true (on (Some page) gfn)) none.0).0 in cc e)
       by (Some page) level (inr lt) =
           let up_to : walk.level - 1 + 1 ≡ walk.level = omega (arith, level) in
           let span : level_span walk.level ≡ 512 * level_span (walk.level - 1) = ap level_span (sym up_to) ∙ span_above (walk.level - 1) level in
@@ -123,7 +119,8 @@ module _ {pages root : ℕ} {role pool : ℕ → ℕ} {up : ℕ → Use} {spot :
           let same = regrouped (walk.prefix * 512 + index) (level_span (walk.level - 1)) in
           A l j other R O is_in (omega (arith, lt, least, same)) leaf
       by None level (inl none) =
-          let nowhere = not_true _ (both_true (has_entry (on None gfn)) (leads_nowhere (on None gfn)) none.0).1 in
+          let nowhere = done_leads (can_write (on None gfn).entry) (kind_of (on None gfn).level (on None gfn).entry)
+          (both_true (has_entry (on None gfn)) (is_done true (on None gfn)) none.0).1 in
           past_entry index gfn (omega arith) nowhere start A l j other R O is_in none.1 leaf
       by None level (inr lt) =
           let same = starts_at walk gfn (pool (pool_index k index)) in

@@ -1,6 +1,6 @@
 -- A sweep under the lock has left no leaf of the frames of its invalidation up to where it has come: each step of a part keeps it.
 use Rattle.std.proofs.Common.{◌≡◌, ◌≢◌, ◌⊎◌, inl, inr, ◌+◌, ◌*◌, ◌^◌, ◌<◌, ◌≤◌, ℕ, refl, sym, subst, ap, ◌∙◌, arith}
-use Rattle.std.specs.Prelude.{Bool, true, false, ◌&&◌, nat_lt, not, if◌then◌else◌, Some, None}
+use Rattle.std.specs.Prelude.{Bool, true, false, ◌&&◌, ◌||◌, nat_lt, if◌then◌else◌, is_some, Some, None}
 use Rattle.core_views.specs.declared.sizes.Sizes.{Sizes}
 use Rattle.core_views.specs.declared.topics.Hold.{Hold}
 use Rattle.core_views.specs.declared.topics.Hold.TheVariants.{Shared, Owing, Exclusive}
@@ -13,7 +13,7 @@ use Rattle.core_views.specs.Held.{Held}
 use Rattle.core_views.specs.Sizes.{actors_of}
 use Rattle.spte_words.specs.declared.area.Area.TheVariants as area
 use Rattle.spte_words.specs.Areas.{pool_index}
-use Rattle.spte_words.specs.Entries.{kind_of, level_span}
+use Rattle.spte_words.specs.Entries.{can_write, kind_of, level_span}
 use Rattle.spte_words.proofs.ReadsEntries.{kind_of_absent, kind_of_table}
 use Rattle.part_steps.specs.declared.part_step.PartStep.{PartStep}
 use Rattle.part_steps.specs.declared.part_step.PartStep.TheVariants as part
@@ -22,7 +22,7 @@ use Rattle.part_steps.specs.ControlTopics.{at_root}
 use Rattle.part_steps.specs.PartTasks.{entry_index, part_task, table_page}
 use Rattle.part_steps.specs.PartTopics.{part_topics}
 use Rattle.part_steps.specs.StayTopics.{has_lock, may_walk}
-use Rattle.part_steps.specs.SweepTopics.{entry_end, entry_start, gone_up, has_entry, leads_nowhere, leads_on, swept_to}
+use Rattle.part_steps.specs.SweepTopics.{entry_end, entry_start, gone_up, has_done, has_entry, is_done, swept_to}
 use Rattle.part_steps.specs.WalkTopics.{gone_down}
 use Rattle.mmu_core.specs.invariant.AllOver.{AllOver}
 use Rattle.mmu_core.specs.invariant.InvalidatedPart.{IsIn, IsNoLeafBelow, SweptPart}
@@ -37,6 +37,7 @@ use Rattle.mmu_core.proofs.pages.AllOver.{IsLight, absent_is}
 use Rattle.mmu_core.proofs.pages.OverSteps.{OfNewLeaf, over_step}
 use Rattle.mmu_core.proofs.pages.Paths.{up_stands}
 use Rattle.mmu_core.proofs.pages.Standing.{spot_after, up_after}
+use Rattle.mmu_core.proofs.pages.NoneBelow.{leads_on}
 use Rattle.mmu_core.proofs.pages.SweptEntries.{below_swept, both_true, comes_to, loaded_swept, past_entry, starts_at}
 use Rattle.mmu_core.proofs.pages.TreeKept.{tree_kept}
 use Rattle.mmu_core.proofs.words.PartTopics.{behind_step, sweeps}
@@ -78,15 +79,15 @@ few_pages z v a step S = let most = S.is_sizes.pool.1 in omega (arith, most)
 abbrev OwnSwept : (z : Sizes) (v : View) (a note : ℕ) (step : PartStep) (S : IsPart z v a step) → TopicsInvariant z v → Topics → Type 0
 OwnSwept z v a note step S I t =
     t.hold ≡ Exclusive → t.stay ≡ Outside → t.invalidations.opened ≡ true → 1 ≤ t.walk.level
-    → NowBelow z v a note step S I t.invalidations.own (swept_to t.invalidations.own.start t.walk)
+    → NowBelow z v a note step S I t.invalidations.own (swept_to true t.invalidations.own.start t.walk)
 
 -- A walk begins at the root, before all its frames.
-root_swept : (own_ : Invalidated) (b : Bool) (walk : TableWalk) (root gfn : ℕ) → IsIn own_ gfn → gfn < swept_to own_.start (at_root b walk root) → ⊥
+root_swept : (own_ : Invalidated) (b : Bool) (walk : TableWalk) (root gfn : ℕ) → IsIn own_ gfn → gfn < swept_to true own_.start (at_root b walk root) → ⊥
 root_swept own_ b walk root gfn is_in below = by (below_swept own_.start (at_root b walk root) gfn is_in.0 below)
   where
-    by : (((has_entry (at_root b walk root) && leads_nowhere (at_root b walk root)) ≡ true) × (gfn < entry_end (at_root b walk root)))
+    by : (((has_entry (at_root b walk root) && is_done true (at_root b walk root)) ≡ true) × (gfn < entry_end (at_root b walk root)))
         ⊎ (gfn < entry_start (at_root b walk root)) → ⊥
-    by (inl none) = let e = (both_true (has_entry (at_root b walk root)) (leads_nowhere (at_root b walk root)) none.0).0 in cc e
+    by (inl none) = let e = (both_true (has_entry (at_root b walk root)) (is_done true (at_root b walk root)) none.0).0 in cc e
     by (inr lt) = omega (arith, lt)
 
 root_own : (z : Sizes) (v : View) (a note : ℕ) (S : IsPart z v a part.Root) (I : TopicsInvariant z v)
@@ -116,8 +117,10 @@ sweep_own z v a note gfn S I alone out opened from =
 
     before : WasBelow z v a note (part.Sweep gfn) S I t.invalidations.own gfn
     before =
-        subst (WasBelow z v a note (part.Sweep gfn) S I t.invalidations.own) (sym S.needs.next)
-        (I.swept a S.there S.needs.alone S.needs.outside S.needs.opened S.needs.there)
+        let of_own = S.needs.of_own opened in
+        subst (WasBelow z v a note (part.Sweep gfn) S I t.invalidations.own)
+        (sym of_own.0)
+        (I.swept a S.there S.needs.alone S.needs.outside opened S.needs.there)
 
 zap_own : (z : Sizes) (v : View) (a note gfn : ℕ) (S : IsPart z v a (part.Zap gfn)) (I : TopicsInvariant z v)
     → OwnSwept z v a note (part.Zap gfn) S I (part_topics (part.Zap gfn) (v.hand a).topics 0)
@@ -134,7 +137,7 @@ zap_own z v a note gfn S I alone out opened from l j other R O is_in below leaf 
     after = gone_down None t.walk index 0
 
     came : ℕ
-    came = swept_to t.invalidations.own.start t.walk
+    came = swept_to true t.invalidations.own.start t.walk
 
     pool : ℕ → ℕ
     pool = (part_stepped a (part.Zap gfn) note v).words area.Pool
@@ -146,7 +149,7 @@ zap_own z v a note gfn S I alone out opened from l j other R O is_in below leaf 
 
     start : (t.walk.prefix * 512 + index) * level_span t.walk.level ≤ came
     start =
-        let leads : leads_nowhere t.walk ≡ false = ap (λ k. not (leads_on k)) S.needs.leaf in
+        let leads : is_done true t.walk ≡ false = ap (has_done true (can_write t.walk.entry)) S.needs.leaf in
         let same =
         ap (λ i. (t.walk.prefix * 512 + (if nat_lt i 512 then i else 0)) * level_span t.walk.level) S.needs.saw.loaded ∙ starts_at t.walk gfn 0 in
         let comes = comes_to t.invalidations.own.start t.walk leads in
@@ -162,7 +165,7 @@ zap_own z v a note gfn S I alone out opened from l j other R O is_in below leaf 
         past_entry (tree_kept z v a (part.Zap gfn) note S I) (few_pages z v a (part.Zap gfn) S) t.invalidations.own t.walk
         ((I.held a S.there).table S.needs.saw.over.there) index came (omega arith) nowhere start was
 
-    by : (((has_entry after && leads_nowhere after) ≡ true) × (other < entry_end after)) ⊎ (other < entry_start after) → ⊥
+    by : (((has_entry after && is_done true after) ≡ true) × (other < entry_end after)) ⊎ (other < entry_start after) → ⊥
     by (inl none) = past l j other R O is_in none.1 leaf
     by (inr lt) =
         let same = starts_at t.walk gfn 0 in
@@ -183,7 +186,8 @@ own_swept z v a note part.Exclude S I = λ alone out opened from.
     absurd (omega (arith, from, none))
 own_swept z v a note part.Root S I = root_own z v a note S I
 own_swept z v a note (part.Walk gfn) S I = λ alone out opened. absurd
-    (let idle = S.needs.1 in let busy = sweeps (v.hand a).topics out alone opened in cc (idle, busy))
+    (let idle = S.needs.1 in let busy = sweeps (v.hand a).topics out alone (ap (λ (b : Bool). b || is_some (v.hand a).topics.retired) opened) in cc
+    (idle, busy))
 own_swept z v a note (part.Sweep gfn) S I = sweep_own z v a note gfn S I
 own_swept z v a note (part.Link gfn) S I = λ alone. absurd (let shared = S.needs.0.shares in cc (alone, shared))
 own_swept z v a note (part.Leaf gfn write) S I = λ alone. absurd (let shared = S.needs.0.shares in cc (alone, shared))

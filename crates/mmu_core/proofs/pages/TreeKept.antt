@@ -31,7 +31,7 @@ use Rattle.mmu_core.proofs.pages.TreePlaces.{link_stands}
 use Rattle.mmu_core.proofs.pages.TreeStored.{entry_stored, table_linked, tree_moved}
 use Rattle.mmu_core.proofs.pages.UsesStay.{is_link, same_tables, stay_same, stood_same}
 use Rattle.mmu_core.proofs.pages.EntryStill.{still_leaf}
-use Rattle.mmu_core.proofs.pages.ProtectedLeaf.{left_leaf, pool_protected}
+use Rattle.mmu_core.proofs.pages.ProtectedLeaf.{at_lowest, left_leaf, pool_protected}
 use Rattle.spte_words.proofs.FixedEntries.{fixed_kind}
 use Rattle.mmu_core.proofs.lines.FaultSame.{both, is_not}
 use Rattle.core_views.specs.Sizes.{actors_of}
@@ -153,7 +153,7 @@ module _ (z : Sizes) (v : View) (a gfn note : ℕ) (I : TopicsInvariant z v) whe
   protected S =
       entry_stored I.tree (table_page t.walk) (at t.walk.level t.walk.prefix) index (without_write (entry_now gfn t v))
       ((I.held a S.there).table S.needs.saw.over.there) (omega arith)
-      (record { entry = inr (inr (record { lowest = S.needs.lowest; leaf = left_leaf z v a gfn S I })); no_link = inl S.needs.lowest })
+      (record { entry = inr (inr (record { lowest = at_lowest z v a gfn S I; leaf = left_leaf z v a gfn S I })); no_link = inl (at_lowest z v a gfn S I) })
 
   -- An entry of which a leaf was loaded that is there still is no link.
   zapped : (S : IsPart z v a (part.Zap gfn)) → TreePart z.pool (v.words area.Root 0) (v.words area.Role) (upd (v.words area.Pool) here 0) I.up I.spot

@@ -66,14 +66,14 @@ abbrev ZappedIn : (z : Sizes) (v : View) → TopicsInvariant z v → Invalidated
 ZappedIn z v I own_ = AllOver I.up I.spot (v.words area.Pool) (v.words area.Root 0) (IsNoLeafIn own_)
 
 -- A sweep has left no leaf of its frames.
-swept_zapped : (z : Sizes) (v : View) (a index : ℕ) → IsPart z v a (part.Ask index) → (I : TopicsInvariant z v) → (v.hand a).topics.flush.asked ≡ 0
-    → ZappedIn z v I (v.hand a).topics.invalidations.own
-swept_zapped z v a index S I none l j gfn R O is_in leaf =
+swept_zapped : (z : Sizes) (v : View) (a index : ℕ) → IsPart z v a (part.Ask index) → (I : TopicsInvariant z v)
+    → (v.hand a).topics.invalidations.opened ≡ true → (v.hand a).topics.flush.asked ≡ 0 → ZappedIn z v I (v.hand a).topics.invalidations.own
+swept_zapped z v a index S I is_open none l j gfn R O is_in leaf =
     let from = is_in.0 in
     let to = is_in.1 in
-    let W : HasSwept t.invalidations.own t.walk = S.needs.swept none (grind (arith, nat_tests)) in
+    let W : HasSwept t.invalidations.own t.walk = S.needs.swept is_open none (grind (arith, nat_tests)) in
     let all = W.all in
-    I.swept a S.there S.needs.alone S.needs.outside S.needs.opened W.there l j gfn R O is_in (omega (arith, to, all)) leaf
+    I.swept a S.there (S.needs.alone is_open) S.needs.outside is_open W.there l j gfn R O is_in (omega (arith, to, all)) leaf
   where
     t : Topics
     t = (v.hand a).topics
@@ -104,7 +104,7 @@ own_zapped z v a note (part.Ask index) S I = λ is_open asked. (by is_open (same
   where
     by : (v.hand a).topics.invalidations.opened ≡ true → ((v.hand a).topics.flush.asked ≡ 0) ⊎ ((v.hand a).topics.flush.asked ≢ 0)
         → ZappedIn z v I (v.hand a).topics.invalidations.own
-    by is_open (inl none) = swept_zapped z v a index S I none
+    by is_open (inl none) = swept_zapped z v a index S I is_open none
     by is_open (inr some) = I.zapped a S.there is_open (omega (arith, some))
 own_zapped z v a note part.Exclude S I = λ is_open asked. (I.zapped a S.there is_open (asked_before _ (v.hand a).topics.flush asked), tt)
 own_zapped z v a note (part.Leaf gfn write) S I = λ is_open asked.

@@ -1,7 +1,8 @@
 -- What a line makes of the slots that it is to change: a clause for each command that changes one.
-use Rattle.std.proofs.Common.{◌≡◌, ◌≢◌, ◌⊎◌, inl, inr, ◌<◌, ◌≤◌, ◌^◌, ℕ, Bool, List, length, refl, sym, subst, ap, ◌∙◌, arith}
+use Rattle.std.proofs.Common.{◌≡◌, ◌≢◌, ◌⊎◌, inl, inr, ◌<◌, ◌≤◌, ◌^◌, ◌==◌, ℕ, Bool, List, [], ◌∷◌, length, refl, sym, subst, ap, ◌∙◌}
 use Rattle.std.specs.Option.{option_map}
-use Rattle.std.specs.Prelude.{All, Option, Some, None, is_some, true}
+use Rattle.std.specs.Prelude.{All, Bool, ◌||◌, if◌then◌else◌, Option, Some, None, is_some, true, false}
+use Rattle.std.specs.List.{list_any}
 use Rattle.core_views.specs.declared.actor.Actor.{Actor}
 use Rattle.core_views.specs.declared.actor.Actor.TheVariants.{Manager}
 use Rattle.core_views.specs.declared.place.Place.{Place}
@@ -15,7 +16,7 @@ use Rattle.core_views.specs.Held.{Held}
 use Rattle.core_views.proofs.SlotChanges.{none_refused}
 use Rattle.core_views.proofs.Sound.{deletion_low}
 use Rattle.core_views.specs.Refusals.{after_set, is_logged}
-use Rattle.core_views.specs.SlotCommands.{after_change, change_at_once, changes_slot, slot_change, slot_invalidated, slots_after}
+use Rattle.core_views.specs.SlotCommands.{after_change, change_at_once, changes_slot, slot_armed, slot_change, slot_invalidated, slots_after}
 use Rattle.core_views.specs.Slots.{contains, has_host_page}
 use Rattle.core_views.proofs.SlotLines.{log_here, logged_so, set_here}
 use Rattle.core_views.proofs.SlotChanges.{logged_there}
@@ -41,7 +42,7 @@ use Rattle.mmu_core.proofs.slots.Accepted.{MayBeSet, may_be_set}
 use Rattle.mmu_core.proofs.slots.SetFilled.{alike_but, filled_page, has_others, list_with, list_without, log_other, new_live, new_slot, none_at_id}
 use Rattle.mmu_core.proofs.slots.SetFilled.{others_live, others_same, recorded_live, set_other, taken_other}
 use Rattle.mmu_core.proofs.slots.SetPublished.{set_with, set_without}
-use Rattle.mmu_core.proofs.words.SmallSlots.{in_range, record_small}
+use Rattle.mmu_core.proofs.words.SmallSlots.{has_page, in_range, record_is_so, record_small}
 
 -- The manager alone changes slots.
 pub change_is_managers : (z : Sizes) (actor : Actor) (command : Command) → changes_slot command ≡ true → IsCommandFor z actor command → actor ≡ Manager
@@ -196,20 +197,41 @@ change_publishes z v a line (SetLog id on) p S changes I owns works filled =
 change_publishes z v a line (GetLog id) p S changes I owns works filled = absurd (cc changes)
 change_publishes z v a line (ClearLog id first count words) p S changes I owns works filled = absurd (cc changes)
 
--- The slot that a line moves or deletes is live, and so it fits the machine.
+-- A slot of the record is live, and so it fits the machine.
+pub recorded_fits : (z : Sizes) (pool : ℕ → ℕ) (set id : ℕ) (slots : MemorySlots) (was : MemorySlot) → RecordPart pool set slots → AreSlots z pool set
+    → slot_of_id id slots ≡ Some was → FitsMachine z was.slot
+recorded_fits z pool set id slots was R A at =
+    let L = recorded_live pool set id slots was R at in
+    let F = subst (Fits z) L.is (A.fits id L.low L.live) in
+    record { frames = F.frames; pages = F.pages }
+
+-- What is so of the slot at an ID is so of some slot.
+pub some_slot : (test : MemorySlot → Bool) (slots : MemorySlots) (id : ℕ) (m : MemorySlot) → slot_of_id id slots ≡ Some m → test m ≡ true
+    → list_any (λ entry. test entry.1) slots ≡ true
+some_slot test [] id m is so = absurd (cc is)
+some_slot test ((k, n) ∷ es) id m is so = by (k == id) is (some_slot test es id m)
+  where
+    same : {x y : MemorySlot} → Some x ≡ Some y → x ≡ y
+    same e = cc e
+
+    second : (a b : Bool) → b ≡ true → (a || b) ≡ true
+    second true b e = refl
+    second false b e = e
+
+    by : (b : Bool) → (if b then Some n else slot_of_id id es) ≡ Some m
+        → (slot_of_id id es ≡ Some m → test m ≡ true → list_any (λ entry. test entry.1) es ≡ true)
+        → (test n || list_any (λ entry. test entry.1) es) ≡ true
+    by true e rest = ap (λ (b : Bool). b || list_any (λ entry. test entry.1) es) (ap test (same e) ∙ so)
+    by false e rest = second (test n) _ (rest e so)
+
+-- So does the slot that a line moves or deletes.
 pub invalidated_fits : (z : Sizes) (pool : ℕ → ℕ) (set : ℕ) (slots : MemorySlots) (command : Command) (slot : Slot) → RecordPart pool set slots
     → AreSlots z pool set → slot_invalidated slots command ≡ Some slot → FitsMachine z slot
 invalidated_fits z pool set slots command slot R A is = by command is
   where
-    fits : {id : ℕ} {s : Slot} → IsLiveIn pool set id s → FitsMachine z s
-    fits {id} L =
-        let F = subst (Fits z) L.is (A.fits id L.low L.live) in
-        let pages = F.pages in
-        record { frames = F.frames; pages = omega (arith, pages) }
-
     at_id : (id : ℕ) (m : Option MemorySlot) → slot_of_id id slots ≡ m → option_map (λ was. was.slot) m ≡ Some slot → FitsMachine z slot
     at_id id None at none = absurd (cc none)
-    at_id id (Some was) at some = subst (FitsMachine z) (same some) (fits (recorded_live pool set id slots was R at))
+    at_id id (Some was) at some = subst (FitsMachine z) (same some) (recorded_fits z pool set id slots was R A at)
       where
         same : {x y : Slot} → Some x ≡ Some y → x ≡ y
         same e = cc e
@@ -220,6 +242,33 @@ invalidated_fits z pool set slots command slot R A is = by command is
     by (SetSlot id new_) is = at_id id (slot_of_id id slots) refl is
     by (DeleteSlot id) is = at_id id (slot_of_id id slots) refl is
     by (SetLog id on) is = absurd (cc is)
+    by (GetLog id) is = absurd (cc is)
+    by (ClearLog id first count words) is = absurd (cc is)
+
+-- So does the slot whose dirty log a line begins, and it has a page at least.
+pub armed_fits : (z : Sizes) (pool : ℕ → ℕ) (set : ℕ) (lines : List Line) (slots : MemorySlots) (command : Command) (slot : Slot) → RecordPart pool set slots
+    → AreSlots z pool set → All (λ line. IsCommandFor z line.actor line.command) lines → All (IsSetBy lines) slots → slot_armed slots command ≡ Some slot
+    → FitsMachine z slot × (1 ≤ slot.pages)
+armed_fits z pool set lines slots command slot R A allowed by_lines is = by command is
+  where
+    at_id : (id : ℕ) (m : Option MemorySlot) → slot_of_id id slots ≡ m → option_map (λ was. was.slot) m ≡ Some slot → FitsMachine z slot × (1 ≤ slot.pages)
+    at_id id None at none = absurd (cc none)
+    at_id id (Some was) at some =
+        subst (λ (s : Slot). FitsMachine z s × (1 ≤ s.pages)) (same some) (
+          recorded_fits z pool set id slots was R A at,
+          record_is_so (λ s. 1 ≤ s.pages) has_page z lines slots allowed by_lines id was at,
+        )
+      where
+        same : {x y : Slot} → Some x ≡ Some y → x ≡ y
+        same e = cc e
+
+    by : (command : Command) → slot_armed slots command ≡ Some slot → FitsMachine z slot × (1 ≤ slot.pages)
+    by (SetLog id true) is = at_id id (slot_of_id id slots) refl is
+    by (SetLog id false) is = absurd (cc is)
+    by (Access gfn word op) is = absurd (cc is)
+    by (ChangeHost page change) is = absurd (cc is)
+    by (SetSlot id new_) is = absurd (cc is)
+    by (DeleteSlot id) is = absurd (cc is)
     by (GetLog id) is = absurd (cc is)
     by (ClearLog id first count words) is = absurd (cc is)
 

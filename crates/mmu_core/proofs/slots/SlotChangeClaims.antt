@@ -1,18 +1,20 @@
 -- Which steps of a line that changes a slot claim: those of its claim, with the last of which it may be starved.
 use Rattle.std.proofs.Common.{◌≡◌, ◌≢◌, ◌⊎◌, inl, inr, ◌+◌, ℕ, refl, ap}
-use Rattle.std.specs.Prelude.{Bool, true, false, ◌==◌, nat_lt, Option, Some, None, is_some}
+use Rattle.std.specs.Prelude.{Bool, true, false, ◌==◌, nat_lt, if◌then◌else◌, Option, Some, None, is_some}
 use Rattle.core_views.specs.declared.answer.Answer.TheVariants.{Done}
 use Rattle.core_views.specs.declared.answer.Refusal.{Refusal}
 use Rattle.core_views.specs.declared.answer.Refusal.TheVariants.{NoFrame}
 use Rattle.core_views.specs.declared.place.BeginPlace.TheVariants as begins
 use Rattle.core_views.specs.declared.place.EndPlace.TheVariants as ends
+use Rattle.core_views.specs.declared.place.FrameRange.{FrameRange}
+use Rattle.core_views.specs.declared.place.WriteProtectPlace.TheVariants as protect
 use Rattle.core_views.specs.declared.place.Place.TheVariants as place
 use Rattle.core_views.specs.declared.place.SlotChangePlace.{SlotChangePlace}
-use Rattle.core_views.specs.declared.place.SlotChangePlace.TheVariants.{AtOnce, Claim, Fill, Role, Begin, Exclude, Count, Close, Publish}
-use Rattle.core_views.specs.declared.place.SlotChangePlace.TheVariants.{Release, End, Watch, Clear, Give}
+use Rattle.core_views.specs.declared.place.SlotChangePlace.TheVariants.{AtOnce, Claim, Fill, Role, Arm, Begin, Exclude, Count, Close, Publish}
+use Rattle.core_views.specs.declared.place.SlotChangePlace.TheVariants.{Release, End, Watch, WriteProtect, Clear, Give}
 use Rattle.core_views.specs.declared.trace.Command.{Command}
 use Rattle.core_views.specs.Held.{Held}
-use Rattle.core_views.specs.SlotCommands.{refused_or_done, slot_invalidated}
+use Rattle.core_views.specs.SlotCommands.{refused_or_done, slot_armed, slot_invalidated}
 use Rattle.core_views.specs.Slots.{is_some_and}
 use Rattle.part_steps.specs.PartHoldings.{own_open}
 use Rattle.part_steps.specs.PartTasks.{words_filled}
@@ -26,7 +28,16 @@ use Rattle.mmu_core.specs.lines.ClaimSteps.{FreeMap, Pages, Frames, claim_next}
 use Rattle.mmu_core.specs.lines.ScanPlaces.{HasScan, answer_without, claim_at}
 use Rattle.mmu_core.specs.lines.SlotChangeKnows.{is_of_frames}
 use Rattle.mmu_core.specs.lines.InvalidateSteps.{begin_next, end_next}
-use Rattle.mmu_core.specs.lines.SlotChangeSteps.{after_set_begin, after_set_end, slot_change_first, slot_change_outcome, slot_target, watch_next}
+use Rattle.mmu_core.specs.lines.SlotChangeSteps.{after_grace, after_protect, after_set_begin, after_set_end, arm_word, frames_of, log_target}
+use Rattle.mmu_core.specs.lines.SlotChangeSteps.{slot_change_first, slot_change_outcome, slot_target, watch_next}
+use Rattle.mmu_core.specs.declared.write_protect.WriteProtectNext.{WriteProtectNext}
+use Rattle.mmu_core.specs.declared.write_protect.WriteProtectNext.TheVariants as protects_next
+use Rattle.mmu_core.specs.lines.WriteProtectSteps.{protect_next}
+use Rattle.mmu_core.proofs.lines.ProtectPlaces.{protect_plain}
+use Rattle.part_steps.specs.LogHoldings.{log_end}
+use Rattle.core_views.specs.LogCommands.{is_all_set}
+use Rattle.core_views.specs.declared.sizes.Sizes.{Sizes}
+use Rattle.core_views.specs.declared.trace.Slot.{Slot}
 use Rattle.mmu_core.proofs.lines.EitherPlace.{each_map, each_watch, either_place}
 use Rattle.mmu_core.proofs.lines.InvalidatePlaces.{begin_plain, end_plain}
 use Rattle.mmu_core.proofs.lines.LineClaims.{Claims, ClaimsNot, HasNoScan, claim_leads, claim_notes, claim_scans, is_answered, no_scan_between, to_no_scan}
@@ -75,12 +86,27 @@ module _ (command : Command) (h : Held) (v : ℕ) where
   by_end (ends_next.Goes p) = goes_on (End p) (λ S. S)
   by_end ends_next.Ended = goes_on Watch (λ S. S)
 
+  by_grace : (z : Sizes) (slot : Option Slot) → NoScan (after_grace z slot)
+  by_grace z None = goes_on Clear (λ S. S)
+  by_grace z (Some slot) =
+      either_place NoScan (is_all_set z.mode) Clear (WriteProtect (frames_of slot) protect.Exclude) (goes_on Clear (λ S. S))
+      (goes_on (WriteProtect (frames_of slot) protect.Exclude) (λ S. S))
+
+  by_protect : (range : FrameRange) (next : WriteProtectNext) → NoScan (after_protect range next)
+  by_protect range (protects_next.Goes q) = goes_on (WriteProtect range q) (λ S. S)
+  by_protect range protects_next.Over = goes_on Clear (λ S. S)
+
   no_scan : (p : SlotChangePlace) → is_claim p ≡ false → is_at_once p ≡ false → HasNoScan (slot_change_outcome p command h v)
   no_scan (Claim begun) other not_ = absurd (cc other)
   no_scan (AtOnce refusal) other not_ = absurd (cc not_)
   no_scan Fill other not_ = either_place NoScan (nat_lt (words_filled h.topics.owned + 1) 512) Fill Role (goes_on Fill (λ S. S)) (goes_on Role (λ S. S))
   no_scan Role other not_ =
-      either_place NoScan (is_some (slot_invalidated h.slots command)) (Begin begins.Exclude) Exclude (goes_on (Begin begins.Exclude) (λ S. S))
+      either_place NoScan (is_some (slot_invalidated h.slots command)) (Begin begins.Exclude)
+      (if is_some (slot_armed h.slots command) then Arm false else Exclude) (goes_on (Begin begins.Exclude) (λ S. S))
+      (either_place NoScan (is_some (slot_armed h.slots command)) (Arm false) Exclude (goes_on (Arm false) (λ S. S)) (goes_on Exclude (λ S. S)))
+  no_scan (Arm begun) other not_ =
+      let slot = log_target h command in
+      either_place NoScan (nat_lt (arm_word begun slot h.topics + 1) (log_end slot)) (Arm true) Exclude (goes_on (Arm true) (λ S. S))
       (goes_on Exclude (λ S. S))
   no_scan (Begin p) other not_ = by_begin (begin_next p h.state.sizes (slot_target h command) h.topics v)
   no_scan Exclude other not_ = either_place NoScan (v == 0) Count Exclude (goes_on Count (λ S. S)) (goes_on Exclude (λ S. S))
@@ -91,7 +117,10 @@ module _ (command : Command) (h : Held) (v : ℕ) where
   no_scan Release other not_ =
       either_place NoScan h.topics.invalidations.opened (End ends.Exclude) Watch (goes_on (End ends.Exclude) (λ S. S)) (goes_on Watch (λ S. S))
   no_scan (End p) other not_ = by_end (end_next p v)
-  no_scan Watch other not_ = each_watch NoScan (watch_next h v) Watch Clear (goes_on Watch (λ S. S)) (goes_on Clear (λ S. S))
+  no_scan Watch other not_ =
+      each_watch NoScan (watch_next h v) Watch (after_grace h.state.sizes (slot_armed h.slots command)) (goes_on Watch (λ S. S))
+      (by_grace h.state.sizes (slot_armed h.slots command))
+  no_scan (WriteProtect range p) other not_ = by_protect range (protect_next p h.state.sizes range h.topics v)
   no_scan Clear other not_ = goes_on Give (λ S. S)
   no_scan Give other not_ = is_answered Done (each_map (λ map. Ends Done ≢ Ends (answer_without map)) (λ e. cc e) (λ e. cc e))
 
@@ -123,6 +152,9 @@ module _ (command : Command) (h : Held) (v : ℕ) where
       (no_scan (Begin p) refl refl)
   change_claims_or_not (End p) =
       to_no_scan (place.SlotChange (End p)) command h v (no_claim (End p) refl) (end_plain p h.topics).maps_not refl (no_scan (End p) refl refl)
+  change_claims_or_not (WriteProtect range p) =
+      to_no_scan (place.SlotChange (WriteProtect range p)) command h v (no_claim (WriteProtect range p) refl) (protect_plain p range h.topics).maps_not refl
+      (no_scan (WriteProtect range p) refl refl)
   change_claims_or_not p = to_no_scan (place.SlotChange p) command h v (no_claim p refl) (λ map. refl) refl (no_scan p refl refl)
 
 -- It begins with no scan.

@@ -1,52 +1,37 @@
--- A line that changes a slot at its places: where it begins, goes on to and ends, what it has loaded, what the record accepts, and how many steps it has left.
-use Rattle.std.proofs.Common.{◌≡◌, ◌<◌, ◌≤◌, ℕ, ◌∙◌, ◌+◌, ◌*◌, ap, arith, length, ◌≢◌, refl}
+-- A line that changes a slot at its places: where it begins and goes on to, what it has loaded, and what the record accepts.
+use Rattle.std.proofs.Common.{◌≡◌, ℕ, ◌∙◌, refl}
 use Rattle.std.proofs.Props.{props}
 use Rattle.std.specs.Prelude.{true, Option, Some, None, Bool, false, List, [], ◌∷◌, is_none, nat_lt, not}
-use Rattle.core_views.specs.declared.answer.Answer.{Answer}
-use Rattle.core_views.specs.declared.answer.Answer.TheVariants.{Done, Refused, Starved}
+use Rattle.core_views.specs.declared.answer.Answer.TheVariants.{Starved}
 use Rattle.core_views.specs.declared.answer.Refusal.{Refusal}
-use Rattle.core_views.specs.declared.answer.Refusal.TheVariants.{BadId, TooLarge, Missing, Logged, NoLog, NoFrame, Resize, Fixed, Overlap, HostOverlap}
+use Rattle.core_views.specs.declared.answer.Refusal.TheVariants.{BadId, TooLarge, Missing, Logged, NoLog, Resize, Fixed, Overlap, HostOverlap}
 use Rattle.core_views.specs.Refusals.{is_logged, moves_logged}
 use Rattle.core_views.specs.Slots.{changes_fixed, first_of, is_some_and, is_too_large, meets_guest_frames, meets_host_pages, resizes, slot_with_id}
 use Rattle.core_views.specs.declared.place.BeginPlace.TheVariants as begins
 use Rattle.core_views.specs.declared.place.EndPlace.TheVariants as ends
+use Rattle.core_views.specs.declared.place.WriteProtectPlace.TheVariants as protect
 use Rattle.core_views.specs.declared.place.Place.TheVariants as place
 use Rattle.core_views.specs.declared.place.SlotChangePlace.{SlotChangePlace}
-use Rattle.core_views.specs.declared.place.SlotChangePlace.TheVariants.{AtOnce, Claim, Fill, Begin, Publish, Release, End, Watch, Clear, Give}
+use Rattle.core_views.specs.declared.place.SlotChangePlace.TheVariants.{AtOnce, Claim, Fill, Begin, Publish, Release, End, Watch, WriteProtect, Clear, Give}
 use Rattle.core_views.specs.declared.sizes.Sizes.{Sizes}
-use Rattle.core_views.specs.declared.slot_set.MemorySlot.{MemorySlot}
-use Rattle.core_views.specs.declared.topics.Topics.{Topics}
-use Rattle.core_views.specs.declared.trace.Slot.{Slot}
 use Rattle.core_views.specs.declared.trace.Command.{Command}
 use Rattle.core_views.specs.declared.trace.Command.TheVariants.{Access, ChangeHost, ClearLog, DeleteSlot, GetLog, SetLog, SetSlot}
 use Rattle.core_views.specs.Held.{Held}
-use Rattle.core_views.specs.Sizes.{actors_of}
-use Rattle.core_views.specs.SlotCommands.{at_once, change_at_once, changes_slot, is_unchanged, slot_change, slot_invalidated}
+use Rattle.core_views.specs.SlotCommands.{at_once, change_at_once, changes_slot, is_unchanged}
 use Rattle.core_views.specs.SlotSets.{MemorySlots, flat_slots, slot_of_id}
-use Rattle.spte_words.specs.Areas.{words_of_bits}
-use Rattle.part_steps.specs.declared.invalidations.Target.TheVariants as aim
 use Rattle.part_steps.specs.PartSteps.{IsAtRest}
-use Rattle.mmu_core.specs.declared.outcome.Outcome.TheVariants.{Ends}
 use Rattle.mmu_core.specs.lines.ClaimSteps.{Pages, claim_next}
 use Rattle.mmu_core.specs.lines.Delays.{line_waits}
 use Rattle.mmu_core.specs.lines.Forms.{Holds}
-use Rattle.mmu_core.specs.lines.PartWaits.{part_waits}
 use Rattle.mmu_core.specs.lines.SlotChangeKnows.{FillsSet, SlotChangeHolds, RecordAccepts, SlotChangeKnows, SlotChangeRests, is_of_frames}
-use Rattle.mmu_core.specs.lines.SlotChangeLeft.{slot_change_left}
-use Rattle.mmu_core.specs.lines.SlotChangeSteps.{changed, slot_change_first, slot_change_outcome}
-use Rattle.mmu_core.specs.lines.SlotChangeSteps.{slot_change_part, slot_change_tells, slot_or_none, slot_target}
-use Rattle.mmu_core.specs.lines.WatchSteps.{watch_next}
-use Rattle.mmu_core.specs.invariant.InvalidationsPart.{has_raised}
-use Rattle.mmu_core.specs.machine.Sums.{one_if}
-use Rattle.mmu_core.proofs.lines.ClaimMade.{claim_few, claim_free, claim_is, claim_made}
-use Rattle.mmu_core.proofs.lines.EitherPlace.{each_claim, each_watch}
-use Rattle.mmu_core.proofs.lines.InvalidatePlaces.{begin_few, begin_plain, begin_rises, end_few, end_plain}
-use Rattle.mmu_core.proofs.lines.LinesKept.{answers_length}
+use Rattle.mmu_core.specs.lines.SlotChangeSteps.{slot_change_first, slot_change_outcome}
+use Rattle.mmu_core.specs.lines.SlotChangeSteps.{slot_change_part, slot_target}
+use Rattle.mmu_core.proofs.lines.ProtectPlaces.{protect_plain}
+use Rattle.mmu_core.proofs.lines.ClaimMade.{claim_is}
+use Rattle.mmu_core.proofs.lines.EitherPlace.{each_claim}
+use Rattle.mmu_core.proofs.lines.InvalidatePlaces.{begin_plain, end_plain}
 use Rattle.mmu_core.proofs.machine.GoesOn.{GoesToSimple, GoesUnderWay}
-use Rattle.mmu_core.proofs.machine.PartStepping.{is_publish, changes_word, rises}
-use Rattle.mmu_core.proofs.lines.SimplePlaces.{SimplePlace, Told, RaisesOn, Nothing, Exit, Change, none_raised}
-use Rattle.mmu_core.proofs.slots.SlotChangeClaims.{change_claims_or_not}
-use Rattle.mmu_core.specs.lines.AccessSteps.{exiting}
+use Rattle.mmu_core.proofs.machine.PartStepping.{is_publish, changes_word}
 use Rattle.mmu_core.proofs.slots.LiveStays.{OwnedStays}
 
 -- It publishes at one place alone.
@@ -62,6 +47,7 @@ change_plain (Claim begun) h command other =
     claim_is (λ s. (is_publish s ≡ false) × (changes_word s ≡ false)) Pages begun h.topics.claim (refl, refl) (λ word. (refl, refl))
 change_plain (Begin p) h command other = let P = begin_plain p (slot_target h command) h.topics in (P.never, P.quiet)
 change_plain (End p) h command other = let P = end_plain p h.topics in (P.never, P.quiet)
+change_plain (WriteProtect range p) h command other = let P = protect_plain p range h.topics in (P.never, P.quiet)
 change_plain _ h command other = (refl, refl)
 
 pub change_never : (p : SlotChangePlace) (h : Held) (command : Command) → is_publication p ≡ false → is_publish (slot_change_part p h command) ≡ false
@@ -98,6 +84,7 @@ module _ (z : Sizes) (before after : ℕ → ℕ) (h : Held) (own : OwnedStays b
   slot_change_stays Release command e = e
   slot_change_stays (End p) command e = e
   slot_change_stays Watch command e = e
+  slot_change_stays (WriteProtect range p) command e = e
   slot_change_stays Clear command e = e
   slot_change_stays Give command e = e
   slot_change_stays _ command e = fills_stay command e
@@ -112,29 +99,6 @@ change_accepts _ command z pool h e = tt
 pub accepts_prop : (p : SlotChangePlace) (z : Sizes) (command : Command) (slots : MemorySlots) → IsProp (RecordAccepts p z command slots)
 accepts_prop Publish z command slots = hlevel props
 accepts_prop _ z command slots = hlevel props
-
--- ---- how many steps it has left
-
--- Few beside those of a claim, of 64 pages a word, of the invalidation of a slot, of five for each of its frames, and other actors.
-pub slot_change_few : (p : SlotChangePlace) (command : Command) (h : Held) → h.topics.walk.level ≤ 4 → SlotChangeKnows p command h
-    → slot_change_left p h.state.sizes h.topics
-    ≤ 665 + actors_of h.state.sizes + 2 * h.state.sizes.vcpus + 5 * h.state.sizes.pages + words_of_bits h.state.sizes.pool
-slot_change_few (Claim begun) command h most K = let few = claim_few Pages begun h.state.sizes h.topics.claim in omega (arith, few)
-slot_change_few (Begin p) command h most K =
-    let z : Sizes = h.state.sizes in
-    let own_ = h.topics.invalidations.own in
-    let slot : Slot = slot_or_none (slot_invalidated h.slots command) in
-    let pages = K.3.pages in
-    let few = begin_few p z z (aim.Slot slot) z.pages h.topics most (λ F. let first = F.0 in let last = F.1 in omega (arith, first, last, pages)) K.1 in
-    omega (arith, few)
-slot_change_few (End p) command h most K = let few = end_few p in omega (arith, few)
-slot_change_few _ command h most K = omega arith
-
-pub some_change_left : (p : SlotChangePlace) (z : Sizes) (t : Topics) → 0 < slot_change_left p z t
-some_change_left (AtOnce refusal) z t = omega arith
-some_change_left (Begin p) z t = omega arith
-some_change_left (End p) z t = omega arith
-some_change_left _ z t = omega arith
 
 -- ---- where it begins
 
@@ -200,6 +164,9 @@ slot_change_knows_prop (Begin begins.Exclude) command h = hlevel props
 slot_change_knows_prop (Begin (begins.Find begun)) command h = hlevel props
 slot_change_knows_prop (Begin (begins.Walk rooted)) command h = hlevel props
 slot_change_knows_prop (Begin _) command h = hlevel props
+slot_change_knows_prop (WriteProtect range protect.Exclude) command h = hlevel props
+slot_change_knows_prop (WriteProtect range (protect.Walk rooted)) command h = hlevel props
+slot_change_knows_prop (WriteProtect range _) command h = hlevel props
 slot_change_knows_prop (End ends.Exclude) command h = hlevel props
 slot_change_knows_prop (End _) command h = hlevel props
 slot_change_knows_prop _ command h = hlevel props
@@ -208,68 +175,3 @@ slot_change_knows_prop _ command h = hlevel props
 pub slot_change_rests_prop : (p : SlotChangePlace) (command : Command) (h : Held) → IsProp (SlotChangeRests p command h)
 slot_change_rests_prop (Begin p) command h = hlevel props
 slot_change_rests_prop _ command h = hlevel props
-
--- ---- how it ends
-
--- The step that ends it doesn't wait.
-pub slot_change_free : (p : SlotChangePlace) (h : Held) (command : Command) (v : ℕ) (answer : Answer) → slot_change_outcome p command h v ≡ Ends answer
-    → part_waits (slot_change_part p h command) h.topics v ≡ false
-slot_change_free (Claim begun) h command v answer e =
-    claim_free h.state.sizes Pages begun h.topics v _ _ _ (claim_made h.state.sizes Pages begun h.topics v) (place.SlotChange (Claim true))
-    (place.SlotChange Fill) Starved answer e
-slot_change_free (AtOnce refusal) h command v answer e = refl
-slot_change_free (Begin p) h command v answer e = absurd (cc e)
-slot_change_free (End p) h command v answer e = absurd (cc e)
-slot_change_free Give h command v answer e = refl
-slot_change_free _ h command v answer e = absurd (cc e)
-
--- ---- what it tells, and what else is so of each place of a simple form
-
-module _ (h : Held) (command : Command) (v : ℕ) where
-  -- the slot's change, if there is one
-  change_told : (change : Option (ℕ × Option MemorySlot)) → Told h v (place.SlotChange Publish) command (changed change)
-  change_told None = Nothing
-  change_told (Some (id, slot)) = Change id slot refl
-
-  -- Its claim is answered for want of a page alone.
-  claim_told : (begun : Bool) → Told h v (place.SlotChange (Claim begun)) command (exiting (slot_change_outcome (Claim begun) command h v))
-  claim_told begun =
-      Exit (each_claim (λ o. o ≢ Ends (Refused NoFrame)) (claim_next Pages begun h.state.sizes h.topics.claim v) (place.SlotChange (Claim true))
-      (place.SlotChange Fill) Starved (λ e. cc e) (λ e. cc e) (λ e. cc e))
-
-  slot_change_told : (p : SlotChangePlace) → Told h v (place.SlotChange p) command (slot_change_tells p h command v)
-  slot_change_told (Claim begun) = claim_told begun
-  slot_change_told Publish = change_told (slot_change h.slots command)
-  slot_change_told _ = Nothing
-
-  -- It raises the sequence number with one step of the invalidation's end, and has raised it from then on.
-  abbrev RaisesFrom : SlotChangePlace → Type 0
-  RaisesFrom p = RaisesOn (place.SlotChange p) command h v
-
-  raises_none : (p : SlotChangePlace) → has_raised (place.SlotChange p) ≡ false → rises (slot_change_part p h command) ≡ 0 → RaisesFrom p
-  raises_none p not_yet none line =
-      let more = none_raised (slot_change_outcome p command h v) line h.answers (rises (slot_change_part p h command)) none in
-      let same = ap one_if not_yet in
-      omega (arith, more, same)
-
-  change_raises : (p : SlotChangePlace) → RaisesFrom p
-  change_raises (Claim begun) line =
-      raises_none (Claim begun) refl (claim_is (λ s. rises s ≡ 0) Pages begun h.topics.claim refl (λ word. refl)) line
-  change_raises (Begin p) line = raises_none (Begin p) refl (begin_rises p (slot_target h command) h.topics) line
-  change_raises (End ends.Exclude) line = omega arith
-  change_raises (End _) line = omega arith
-  change_raises Watch line =
-      each_watch (λ q. length h.answers + 1 + 0 ≤ length h.answers + one_if (has_raised (place.SlotChange q))) (watch_next h v) Watch Clear (omega arith)
-      (omega arith)
-  change_raises Clear line = omega arith
-  change_raises Give line =
-      let more = answers_length h.answers (record { number = line.number; actor = line.actor; answer = Done }) in omega (arith, more)
-  change_raises p line = raises_none p refl refl line
-
-  pub slot_change_simple : (p : SlotChangePlace) → SimplePlace (place.SlotChange p) command h v
-  slot_change_simple p = record {
-    goes = (slot_change_goes p command h v).1;
-    tells = slot_change_told p;
-    raises = change_raises p;
-    claims = λ R. change_claims_or_not command h v p;
-  }

@@ -1,7 +1,7 @@
 -- Where a line that changes a slot stands after a step: what it has filled of its page, and that a page is retired, and its own invalidation is open, where its
 -- place says so.
 use Rattle.std.proofs.Common.{◌≡◌, ◌+◌, ◌==◌, ℕ, refl, sym, subst, ap, ◌∙◌}
-use Rattle.std.specs.Prelude.{Bool, true, false, nat_lt, None, is_some}
+use Rattle.std.specs.Prelude.{Bool, true, false, nat_lt, if◌then◌else◌, Option, Some, None, is_some}
 use Rattle.circular_buffer.specs.Buffer.{Buffer}
 use Rattle.core_views.specs.declared.cache.Translation.{Translation}
 use Rattle.core_views.specs.declared.place.BeginPlace.{BeginPlace}
@@ -9,15 +9,19 @@ use Rattle.core_views.specs.declared.place.BeginPlace.TheVariants as begins
 use Rattle.core_views.specs.declared.place.EndPlace.TheVariants as ends
 use Rattle.core_views.specs.declared.place.Place.TheVariants as place
 use Rattle.core_views.specs.declared.place.SlotChangePlace.{SlotChangePlace}
-use Rattle.core_views.specs.declared.place.SlotChangePlace.TheVariants.{Claim, Fill, Role, Begin, Exclude, Count, Close, Publish}
-use Rattle.core_views.specs.declared.place.SlotChangePlace.TheVariants.{Release, End, Watch, Clear, Give}
+use Rattle.core_views.specs.declared.place.SlotChangePlace.TheVariants.{Claim, Fill, Role, Arm, Begin, Exclude, Count, Close, Publish}
+use Rattle.core_views.specs.declared.place.SlotChangePlace.TheVariants.{Release, End, Watch, WriteProtect, Clear, Give}
 use Rattle.core_views.specs.declared.sizes.Sizes.{Sizes}
 use Rattle.core_views.specs.declared.topics.Frames.{Frames as HeldFrames}
 use Rattle.core_views.specs.declared.topics.Topics.{Topics}
 use Rattle.core_views.specs.declared.trace.Command.{Command}
 use Rattle.core_views.specs.declared.trace.Line.{Line}
 use Rattle.core_views.specs.Held.{Held}
-use Rattle.core_views.specs.SlotCommands.{change_at_once, slot_invalidated, slots_after}
+use Rattle.core_views.specs.SlotCommands.{change_at_once, slot_armed, slot_invalidated, slots_after}
+use Rattle.core_views.specs.LogCommands.{is_all_set}
+use Rattle.core_views.specs.declared.trace.Slot.{Slot}
+use Rattle.core_views.specs.declared.place.WriteProtectPlace.TheVariants as protect
+use Rattle.part_steps.specs.LogHoldings.{log_end}
 use Rattle.spte_words.specs.declared.area.Area.{Area}
 use Rattle.spte_words.specs.declared.area.Area.TheVariants as area
 use Rattle.part_steps.specs.declared.invalidations.Target.{Target}
@@ -39,7 +43,12 @@ use Rattle.mmu_core.specs.lines.FaultLaws.{CanAnswer}
 use Rattle.mmu_core.specs.lines.Forms.{Holds, RetiresPart, may_open, may_retire}
 use Rattle.mmu_core.specs.lines.InvalidateSteps.{begin_next, end_next}
 use Rattle.mmu_core.specs.lines.SlotChangeKnows.{FillsSet, SlotChangeHolds, SlotChangeKnows}
-use Rattle.mmu_core.specs.lines.SlotChangeSteps.{after_set_begin, after_set_claim, after_set_end, looked_at, slot_change_outcome, slot_change_part}
+use Rattle.mmu_core.specs.lines.SlotChangeSteps.{after_grace, after_protect, after_set_begin, after_set_claim, after_set_end, arm_word, frames_of, log_target}
+use Rattle.mmu_core.specs.lines.SlotChangeSteps.{looked_at, slot_change_outcome, slot_change_part}
+use Rattle.mmu_core.specs.declared.write_protect.WriteProtectNext.{WriteProtectNext}
+use Rattle.mmu_core.specs.declared.write_protect.WriteProtectNext.TheVariants as protects_next
+use Rattle.mmu_core.specs.lines.WriteProtectSteps.{protect_next}
+use Rattle.mmu_core.proofs.lines.ProtectPlaces.{protect_leaves_pages, protect_opens}
 use Rattle.mmu_core.specs.lines.SlotChangeSteps.{slot_change_task, slot_or_none, slot_target, watch_next}
 use Rattle.mmu_core.specs.machine.Outcomes.{place_after}
 use Rattle.mmu_core.specs.machine.View.{words_after}
@@ -96,7 +105,13 @@ module _ (line : Line) (h : Held) (command : Command) (cached : Buffer Translati
       let filled = all_filled (words area.Pool) (set_word (slots_after command h.slots)) h.topics.owned v K.1 e.filled in
       let F : FillsSet z (words area.Pool) command h.slots (filled_more h.topics.owned v) = record { works = e.works; filled = filled } in
       either_place (λ q. SlotChangeHolds z (words area.Pool) q command (behind Role (record h.topics { owned = filled_more h.topics.owned v })))
-      (is_some (slot_invalidated h.slots command)) (Begin begins.Exclude) Exclude F F
+      (is_some (slot_invalidated h.slots command)) (Begin begins.Exclude) (if is_some (slot_armed h.slots command) then Arm false else Exclude) F
+      (either_place (λ q. SlotChangeHolds z (words area.Pool) q command (behind Role (record h.topics { owned = filled_more h.topics.owned v })))
+      (is_some (slot_armed h.slots command)) (Arm false) Exclude F F)
+  change_holds z words set (Arm begun) K stays e =
+      let slot = log_target h command in
+      either_place (λ q. SlotChangeHolds z (words area.Pool) q command (behind (Arm begun) (part_topics (slot_change_part (Arm begun) h command) h.topics v)))
+      (nat_lt (arm_word begun slot h.topics + 1) (log_end slot)) (Arm true) Exclude e e
   change_holds z words set (Begin p) K stays e =
       let target : Target = slot_target h command in
       let pool : ℕ → ℕ = words_after (slot_change_task (Begin p) h command) words area.Pool in
@@ -123,7 +138,21 @@ module _ (line : Line) (h : Held) (command : Command) (cached : Buffer Translati
       end_holds ends_next.Ended = tt
   change_holds z words set Watch K stays e =
       each_watch (λ q. SlotChangeHolds z (words area.Pool) q command (behind Watch (part_topics (part.Watch (looked_at h)) h.topics v)))
-      (watch_next h v) Watch Clear tt tt
+      (watch_next h v) Watch (after_grace h.state.sizes (slot_armed h.slots command)) tt (grace_holds (slot_armed h.slots command))
+    where
+      grace_holds : (slot : Option Slot) → SlotChangeHolds z (words area.Pool) (after_grace h.state.sizes slot) command
+          (behind Watch (part_topics (part.Watch (looked_at h)) h.topics v))
+      grace_holds None = tt
+      grace_holds (Some slot) =
+          either_place (λ q. SlotChangeHolds z (words area.Pool) q command (behind Watch (part_topics (part.Watch (looked_at h)) h.topics v)))
+          (is_all_set h.state.sizes.mode) Clear (WriteProtect (frames_of slot) protect.Exclude) tt tt
+  change_holds z words set (WriteProtect range p) K stays e = protect_holds (protect_next p h.state.sizes range h.topics v)
+    where
+      protect_holds : (next : WriteProtectNext)
+          → SlotChangeHolds z (words_after (slot_change_task (WriteProtect range p) h command) words area.Pool) (after_protect range next) command
+          (behind (WriteProtect range p) (part_topics (slot_change_part (WriteProtect range p) h command) h.topics v))
+      protect_holds (protects_next.Goes q) = tt
+      protect_holds protects_next.Over = tt
   change_holds z words set _ K stays e = tt
 
 -- ---- which page is retired: after a step up to the publication none, and after the last one none any more
@@ -146,8 +175,25 @@ module _ (h : Held) (command : Command) (v : ℕ) where
   page_retires Release K left =
       either_place (λ q. may_retire (place.SlotChange q) ≡ false → h.topics.retired ≡ None) h.topics.invalidations.opened (End ends.Exclude) Watch left left
   page_retires (End p) K left = λ may. let still = end_retires (end_next p v) in absurd (cc (may, still))
+  page_retires Role K left =
+      either_place (λ q. may_retire (place.SlotChange q) ≡ false → h.topics.retired ≡ None) (is_some (slot_invalidated h.slots command)) (Begin begins.Exclude)
+      (if is_some (slot_armed h.slots command) then Arm false else Exclude) (λ may. left refl)
+      (either_place (λ q. may_retire (place.SlotChange q) ≡ false → h.topics.retired ≡ None) (is_some (slot_armed h.slots command)) (Arm false) Exclude
+      (λ may. left refl) (λ may. left refl))
   page_retires Watch K left =
-      each_watch (λ q. may_retire (place.SlotChange q) ≡ false → h.topics.retired ≡ None) (watch_next h v) Watch Clear left left
+      each_watch (λ q. may_retire (place.SlotChange q) ≡ false → h.topics.retired ≡ None) (watch_next h v) Watch
+      (after_grace h.state.sizes (slot_armed h.slots command)) left (grace_retires (slot_armed h.slots command))
+    where
+      grace_retires : (slot : Option Slot) → may_retire (place.SlotChange (after_grace h.state.sizes slot)) ≡ false → h.topics.retired ≡ None
+      grace_retires None = left
+      grace_retires (Some slot) =
+          either_place (λ q. may_retire (place.SlotChange q) ≡ false → h.topics.retired ≡ None) (is_all_set h.state.sizes.mode) Clear
+          (WriteProtect (frames_of slot) protect.Exclude) left left
+  page_retires (WriteProtect range p) K left = by (protect_next p h.state.sizes range h.topics v)
+    where
+      by : (next : WriteProtectNext) → may_retire (place.SlotChange (after_protect range next)) ≡ false → (after (WriteProtect range p)).retired ≡ None
+      by (protects_next.Goes q) = λ may. absurd (cc may)
+      by protects_next.Over = λ may. absurd (cc may)
   page_retires Clear K left = left
   page_retires Give K left = λ may. ap (λ x. still_retired x h.topics.retired) K.1.owns_none
   page_retires _ K left = λ may. left refl
@@ -175,6 +221,8 @@ module _ (h : Held) (command : Command) (v : ℕ) where
       begin_opens (begin_next p h.state.sizes target h.topics v) (after (Begin p))
       (begin_known p h.state.sizes target h.topics v R.sizes K.3.frames
       (owns_aimed (slot_or_none (slot_invalidated h.slots command)) h.topics K.0) R.frames R.level K.1 A)
+  change_opens Watch R K left A = λ may. left refl
+  change_opens (WriteProtect range p) R K left A = λ may. protect_opens p range h.topics v ∙ left refl
   change_opens Exclude R K left A = either_place (λ q. Opens q (after Exclude)) (v == 0) Count Exclude (λ may. absurd (cc may)) (λ may. absurd (cc may))
   change_opens Count R K left A =
       either_place (λ q. Opens q (after Count)) (v == own_open h.topics.invalidations) Publish Close (λ may. absurd (cc may)) (λ may. absurd (cc may))
@@ -190,6 +238,7 @@ module _ (h : Held) (command : Command) (v : ℕ) where
   change_frames (Claim begun) = claim_is (λ s. (part_topics s h.topics v).frames ≡ h.topics.frames) Pages begun h.topics.claim refl (λ word. refl)
   change_frames (Begin p) = (begin_leaves_pages p (slot_target h command) h.topics v).frames
   change_frames (End p) = (end_leaves_pages p h.topics v).frames
+  change_frames (WriteProtect range p) = (protect_leaves_pages p range h.topics v).frames
   change_frames _ = refl
 
   pub change_leaves : (p : SlotChangePlace) → PartRests h → SlotChangeKnows p command h → RetiresPart (place.SlotChange p) h.topics

@@ -1,6 +1,6 @@
 -- What an actor holds after each step of a part: the topics of the step, written out.
 use Rattle.std.proofs.Common.{◌≡◌, ◌+◌, ◌-◌, ◌<◌, ◌≤◌, ℕ, refl, sym, subst, ap, ◌∙◌, arith}
-use Rattle.std.specs.Prelude.{Bool, true, false, ◌==◌, ◌&&◌, if◌then◌else◌, Some, None}
+use Rattle.std.specs.Prelude.{Bool, true, false, ◌==◌, ◌&&◌, ◌||◌, if◌then◌else◌, Some, None, is_some}
 use Rattle.std.proofs.lemmas.Bool.Decides.{nat_tests}
 use Rattle.core_views.specs.declared.sizes.Sizes.{Sizes}
 use Rattle.core_views.specs.declared.kind.StepKind.TheVariants as kind
@@ -32,7 +32,7 @@ use Rattle.part_steps.specs.SweepTopics.{gone_up, is_sweeping, walk_on}
 use Rattle.part_steps.specs.WalkTopics.{is_in_table, still_owned, swapped, walked, gone_down, owed_after}
 use Rattle.part_steps.specs.ControlBits.{in_section}
 use Rattle.part_steps.specs.ControlBits.{has_to_flush}
-use Rattle.part_steps.specs.TopicSteps.{host_begins, index_in_page, topics_after}
+use Rattle.part_steps.specs.TopicSteps.{host_begins, index_in_page, log_begins, topics_after}
 use Rattle.mmu_core.specs.machine.View.{View, answer_in, part_stepped, upd, words_after}
 use Rattle.mmu_core.proofs.machine.PartStepping.{IsPart}
 use Rattle.spte_words.specs.HostWords.{with_presence}
@@ -62,6 +62,10 @@ state_place z i = omega arith
 in_its_page : (z : Sizes) (page j : ℕ) → j < 512 → index_in_page z (place (map_of z) area.Pool (pool_index page j)) ≡ j
 unfolding place pool_index
 in_its_page z page j low = omega (arith, low)
+
+behind_log : (z : Sizes) (word : ℕ) → place (map_of z) area.Log word - log_begins z ≡ word
+unfolding place
+behind_log z word = omega arith
 
 behind_host : (z : Sizes) (page : ℕ) → place (map_of z) area.Host page - host_begins z ≡ page
 unfolding place
@@ -151,7 +155,8 @@ part_topics_is z (part.Fix gfn) own t note v there = swap_topics z gfn (leaf_fix
 part_topics_is z (part.Host page) own t note v there = ap (λ p. record t { host = Some (record { page = p; word = v }) }) (behind_host z page)
 part_topics_is z (part.Watch index) own t note v there = ap (λ i. record t { watched = i + (if in_section v then 0 else 1) }) (state_place z index)
 part_topics_is z (part.Zap gfn) own t note v there = left_topics z gfn 0 t there
-part_topics_is z (part.Protect gfn) own t note v there = left_topics z gfn (without_write v) t there
+part_topics_is z (part.Arm word bits) own t note v there = ap (λ i. record t { next_log_word = i + 1 }) (behind_log z word)
+part_topics_is z (part.Protect gfn) own t note v there = left_topics z gfn (without_write t.walk.entry) t there
 part_topics_is z (part.Ask index) own t note v there = ap (λ i. record t { flush = record t.flush { asked = i + 1 } }) (state_place z index)
 part_topics_is z (part.Await index) own t note v there = ap (λ i. record t { flush = record t.flush { awaited = i + (if has_to_flush v then 0 else 1) } })
     (state_place z index)
@@ -190,14 +195,14 @@ stepped_hand a step note v = part_hand step a note (v.hand a) (answer_in (part_t
 -- Who is in the guest or in a section sweeps nothing.
 pub no_sweep : {s : Stay} (t : Topics) → t.stay ≡ s → is_outside s ≡ false → is_sweeping t ≡ false
 no_sweep {s} t stay inside =
-    ap (λ (x : Stay). is_outside x && (is_alone t.hold && t.invalidations.opened)) stay
-    ∙ ap (λ (b : Bool). b && (is_alone t.hold && t.invalidations.opened)) inside
+    ap (λ (x : Stay). is_outside x && (is_alone t.hold && (t.invalidations.opened || is_some t.retired))) stay
+    ∙ ap (λ (b : Bool). b && (is_alone t.hold && (t.invalidations.opened || is_some t.retired))) inside
 
--- Who has the lock alone, outside, with its own invalidation open sweeps.
-pub sweeps : (t : Topics) → t.stay ≡ Outside → t.hold ≡ Exclusive → t.invalidations.opened ≡ true → is_sweeping t ≡ true
-sweeps t outside alone opened =
-    ap (λ (s : Stay). is_outside s && (is_alone t.hold && t.invalidations.opened)) outside
-    ∙ ap (λ (k : Hold). is_alone k && t.invalidations.opened) alone ∙ opened
+-- Who has the lock alone, outside, with its own invalidation open or a retired page sweeps.
+pub sweeps : (t : Topics) → t.stay ≡ Outside → t.hold ≡ Exclusive → (t.invalidations.opened || is_some t.retired) ≡ true → is_sweeping t ≡ true
+sweeps t outside alone either =
+    ap (λ (s : Stay). is_outside s && (is_alone t.hold && (t.invalidations.opened || is_some t.retired))) outside
+    ∙ ap (λ (k : Hold). is_alone k && (t.invalidations.opened || is_some t.retired)) alone ∙ either
 
 -- The step makes of the words and hands what is written out above.
 pub is_there : (step : PartStep) (h : Held) → PartNeeds step h → IsThere h.state.sizes h.topics step
@@ -207,7 +212,7 @@ is_there (part.Fill value) h N = (N.2, N.0.1)
 is_there (part.Role value) h N = N.2
 is_there part.Clear h N = N.in_pool
 is_there (part.Walk gfn) h N = (N.0.there, N.1)
-is_there (part.Sweep gfn) h N = (N.there, sweeps h.topics N.outside N.alone N.opened)
+is_there (part.Sweep gfn) h N = (N.there, sweeps h.topics N.outside N.alone N.sweeps)
 is_there (part.Link gfn) h N = N.0.saw.over.there
 is_there (part.Leaf gfn write) h N = N.0.saw.over.there
 is_there (part.Fix gfn) h N = N.saw.over.there

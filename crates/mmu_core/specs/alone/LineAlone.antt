@@ -32,7 +32,7 @@ use Rattle.mmu_core.specs.machine.Worlds.{IsStart}
 
 -- the most steps that the hand's line has left, where nobody is in its way: those from its first place on, where it hasn't begun
 abbrev pub hand_left : Held → ℕ
-hand_left h = steps_left (place_at h.state.place h) h.state.sizes h.topics
+hand_left h = steps_left (place_at h.state.place h) (line_of h).command h.state.sizes h.topics
 
 -- Actor a has a line left, all other actors rest, and the line knows what its place asks.
 pub record LineAlone (z : Sizes) (w : World Held) (a : ℕ) : Type 0 where

@@ -72,7 +72,7 @@ abbrev pub SweptPart : ℕ → (ℕ → Use) → (ℕ → Position) → (ℕ →
 SweptPart n up spot pool root topics =
     (i : ℕ) → i < n → (topics i).hold ≡ Exclusive → (topics i).stay ≡ Outside → (topics i).invalidations.opened ≡ true → 1 ≤ (topics i).walk.level
     → AllOver up spot pool root
-    (IsNoLeafBelow (topics i).invalidations.own (swept_to (topics i).invalidations.own.start (topics i).walk))
+    (IsNoLeafBelow (topics i).invalidations.own (swept_to true (topics i).invalidations.own.start (topics i).walk))
 
 -- From the moment at which a first flush is asked for no links lead to a leaf of the frames of an open invalidation.
 abbrev pub ZappedPart : ℕ → (ℕ → Use) → (ℕ → Position) → (ℕ → ℕ) → ℕ → (ℕ → Topics) → Type 0

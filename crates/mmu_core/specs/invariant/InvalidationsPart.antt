@@ -82,6 +82,7 @@ is_raised_at _ = false
 abbrev pub has_raised : Place → Bool
 has_raised (place.SlotChange (change.End p)) = is_raised_at p
 has_raised (place.SlotChange change.Watch) = true
+has_raised (place.SlotChange (change.WriteProtect range p)) = true
 has_raised (place.SlotChange change.Clear) = true
 has_raised (place.SlotChange change.Give) = true
 has_raised (place.Host (host.End p)) = is_raised_at p

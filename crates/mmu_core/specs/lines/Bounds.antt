@@ -1,5 +1,5 @@
 -- How many steps a line makes at most.
-use Rattle.std.specs.Prelude.{◌+◌, ◌*◌, ℕ, Bool, if◌then◌else◌}
+use Rattle.std.specs.Prelude.{◌+◌, ◌*◌, ℕ, Bool, true, false, if◌then◌else◌}
 use Rattle.core_views.specs.declared.place.AccessPlace.{AccessPlace}
 use Rattle.core_views.specs.declared.place.AccessPlace.TheVariants.{Enter, Pause, Root, Walk, Touch, Leave, Fault}
 use Rattle.core_views.specs.declared.place.FaultPlace.TheVariants as fault
@@ -7,7 +7,7 @@ use Rattle.core_views.specs.declared.place.Leaving.TheVariants as leaving
 use Rattle.core_views.specs.declared.sizes.Sizes.{Sizes}
 use Rattle.core_views.specs.declared.topics.Topics.{Topics}
 use Rattle.core_views.specs.declared.trace.Command.{Command}
-use Rattle.core_views.specs.declared.trace.Command.TheVariants.{Access, ChangeHost}
+use Rattle.core_views.specs.declared.trace.Command.TheVariants.{Access, ChangeHost, SetLog}
 use Rattle.spte_words.specs.Areas.{words_of_bits}
 use Rattle.mmu_core.specs.lines.FaultLeft.{fault_left}
 pub use Rattle.mmu_core.specs.lines.SearchLeft.{look_left}
@@ -28,8 +28,10 @@ access_left (Leave (leaving.Faults fast)) z t = 1 + (fault_left fault.FastBegin 
 access_left (Fault p) z t = fault_left p z t + 9
 
 -- The most steps of a line with this command, alone. One that changes a slot or a host page makes as many whatever the pool and the frames, but for the words
--- of the map in which it may claim; and one that moves a slot sweeps for its guest frames.
+-- of the map in which it may claim; and one that moves a slot, or begins its dirty log, sweeps for its guest frames.
 abbrev pub most_steps : Sizes → Command → ℕ
 most_steps z (Access gfn word op) = 8192 + z.pool + z.frames
 most_steps z (ChangeHost page change) = 1024 + words_of_bits z.frames
+most_steps z (SetLog id true) = 1024 + 5 * z.pages + words_of_bits z.pool + words_of_bits z.pages
+most_steps z (SetLog id false) = 1024 + words_of_bits z.pool
 most_steps z _ = 1024 + 5 * z.pages + words_of_bits z.pool

@@ -29,7 +29,8 @@ use Rattle.mmu_core.specs.lines.Bounds.{access_left}
 use Rattle.mmu_core.specs.lines.SlotChangeKnows.{RecordAccepts, SlotChangeHolds, SlotChangeKnows, SlotChangeRests, slot_change_opens, slot_change_retires}
 use Rattle.mmu_core.specs.lines.SlotChangeLeft.{slot_change_left}
 use Rattle.mmu_core.specs.lines.SlotChangeSteps.{slot_change_first, slot_change_note, slot_change_outcome, slot_change_part}
-use Rattle.mmu_core.specs.lines.SlotChangeSteps.{slot_change_records, slot_change_tells}
+use Rattle.mmu_core.specs.lines.SlotChangeSteps.{slot_change_records}
+use Rattle.mmu_core.specs.lines.SlotChangeTells.{slot_change_tells}
 
 -- ---- the order of its steps
 
@@ -61,11 +62,11 @@ outcome_at (place.Host p) (ChangeHost page change) h v = host_outcome p page h v
 outcome_at p _ h v = Goes p
 
 -- the most steps that a line has left where it stands, where nobody is in its way
-abbrev pub steps_left : Place → Sizes → Topics → ℕ
-steps_left place.Between z t = 0
-steps_left (place.Access p) z t = access_left p z t
-steps_left (place.SlotChange p) z t = slot_change_left p z t
-steps_left (place.Host p) z t = host_left p z t
+abbrev pub steps_left : Place → Command → Sizes → Topics → ℕ
+steps_left place.Between c z t = 0
+steps_left (place.Access p) c z t = access_left p z t
+steps_left (place.SlotChange p) c z t = slot_change_left p c z t
+steps_left (place.Host p) c z t = host_left p z t
 
 -- ---- what a step makes besides
 

@@ -1,5 +1,5 @@
 -- What a line knows that begins or ends an invalidation, at each of its places, from what its actor holds alone.
-use Rattle.std.specs.Prelude.{◌≡◌, ◌<◌, ◌≤◌, ◌+◌, ◌%◌, ◌^◌, ℕ, Bool, true, false, ◌==◌, ◌||◌, nat_le, nat_lt, not}
+use Rattle.std.specs.Prelude.{◌≡◌, ◌<◌, ◌≤◌, ◌+◌, ◌^◌, ℕ, Bool, true, false, ◌||◌, nat_le, nat_lt, not}
 use Rattle.core_views.specs.declared.place.BeginPlace.{BeginPlace}
 use Rattle.core_views.specs.declared.place.BeginPlace.TheVariants as begins
 use Rattle.core_views.specs.declared.place.EndPlace.{EndPlace}
@@ -10,17 +10,16 @@ use Rattle.core_views.specs.declared.topics.Hold.TheVariants.{Exclusive}
 use Rattle.core_views.specs.declared.topics.Invalidated.{Invalidated}
 use Rattle.core_views.specs.declared.topics.Invalidations.{Invalidations}
 use Rattle.core_views.specs.declared.topics.Stay.TheVariants.{Outside}
-use Rattle.core_views.specs.declared.topics.TableWalk.{TableWalk}
 use Rattle.core_views.specs.declared.trace.Slot.{Slot}
 use Rattle.core_views.specs.declared.topics.Topics.{Topics}
-use Rattle.spte_words.specs.Entries.{level_span}
 use Rattle.part_steps.specs.declared.invalidations.Target.{Target}
 use Rattle.part_steps.specs.declared.invalidations.Target.TheVariants as aim
 use Rattle.part_steps.specs.InvalidationHoldings.{has_counted, has_widened}
-use Rattle.part_steps.specs.SweepHoldings.{IsSwept, MaySweep, MayZap}
+use Rattle.part_steps.specs.SweepHoldings.{IsSwept}
 use Rattle.part_steps.specs.InvalidationRange.{has_searched, invalidated_by, is_within_range, page_of_target, target_end, target_start}
-use Rattle.part_steps.specs.PartHoldings.{HoldsSet, IsOver}
-use Rattle.part_steps.specs.SweepTopics.{gone_up, swept_to}
+use Rattle.part_steps.specs.PartHoldings.{HoldsSet}
+use Rattle.mmu_core.specs.lines.SweepKnows.{IsAtEntry, IsAtLeaf}
+use Rattle.mmu_core.specs.lines.SweepSteps.{range_of}
 use Rattle.part_steps.specs.PartSteps.{IsFree}
 use Rattle.part_steps.specs.StayTopics.{no_flush}
 
@@ -72,19 +71,6 @@ pub record Sweeps (target : Target) (t : Topics) : Type 0 where
   pub sweeping : IsSweeping true t
   pub of_own : IsOfOwn target t.invalidations
 
--- The guest frame to which a sweep has come is the first of all, or the first of the entry that is next.
-abbrev pub begins_entry : Invalidated → TableWalk → Bool
-begins_entry own_ walk =
-    (swept_to own_.start walk == own_.start) || (swept_to own_.start walk % level_span (gone_up walk).level == 0)
-
--- The sweep stands where the next entry is over the guest frame to which it has come, and has left out none.
-pub record SweepsOn (own_ : Invalidated) (walk : TableWalk) : Type 0 where
-  pub there : 1 ≤ walk.level
-  pub low : walk.level ≤ 4
-  pub from : own_.start ≤ swept_to own_.start walk
-  pub even : begins_entry own_ walk ≡ true
-  pub over : swept_to own_.start walk < own_.end → IsOver (swept_to own_.start walk) (gone_up walk)
-
 -- What it knows at each place of the begin.
 abbrev pub BeginKnows : BeginPlace → Sizes → Target → Topics → Type 0
 BeginKnows begins.Exclude z target t = IsFree t × (t.invalidations.opened ≡ false)
@@ -101,8 +87,8 @@ BeginKnows begins.SetCount z target t =
     HasSearched target t × (t.invalidations.checked ≡ checked.Range) × (t.invalidations.own ≡ invalidated_by target t.search)
     × (is_within_range t.invalidations.own t.invalidations ≡ true)
 BeginKnows (begins.Walk rooted) z target t =
-    Sweeps target t × (rooted ≡ true → SweepsOn t.invalidations.own t.walk × MaySweep (swept_to t.invalidations.own.start t.walk) t)
-BeginKnows begins.Zap z target t = Sweeps target t × MayZap (swept_to t.invalidations.own.start t.walk) t
+    Sweeps target t × (rooted ≡ true → IsAtEntry true (range_of t.invalidations.own) t.walk)
+BeginKnows begins.Zap z target t = Sweeps target t × IsAtLeaf true (range_of t.invalidations.own) t.walk
 BeginKnows begins.Ask z target t =
     IsAloneWith true t × IsOfOwn target t.invalidations × (t.flush.asked < z.vcpus) × (t.flush.awaited ≡ 0) × (t.flush.asked ≡ 0 → IsSwept t)
 BeginKnows begins.Await z target t =

@@ -1,20 +1,13 @@
 -- How many steps the begin of an invalidation has left, and its end.
-use Rattle.std.specs.Prelude.{◌+◌, ◌-◌, ◌*◌, ℕ, true, false, if◌then◌else◌}
+use Rattle.std.specs.Prelude.{◌+◌, ◌-◌, ◌*◌, ℕ, true, false}
 use Rattle.core_views.specs.declared.place.BeginPlace.{BeginPlace}
 use Rattle.core_views.specs.declared.place.BeginPlace.TheVariants as begins
 use Rattle.core_views.specs.declared.place.EndPlace.{EndPlace}
 use Rattle.core_views.specs.declared.place.EndPlace.TheVariants as ends
 use Rattle.core_views.specs.declared.sizes.Sizes.{Sizes}
-use Rattle.core_views.specs.declared.topics.Invalidated.{Invalidated}
-use Rattle.core_views.specs.declared.topics.TableWalk.{TableWalk}
 use Rattle.core_views.specs.declared.topics.Topics.{Topics}
-use Rattle.part_steps.specs.SweepTopics.{has_entry, swept_to}
+use Rattle.mmu_core.specs.lines.SweepSteps.{leaf_left, range_of, sweep_left}
 use Rattle.mmu_core.specs.lines.FaultLeft.{find_left}
-
--- The most steps that a sweep has left: five for each guest frame, an entry of each level and the zap of a leaf, less those that led down to its table.
-abbrev pub sweep_left : Invalidated → TableWalk → ℕ
-sweep_left own_ walk =
-    if has_entry walk then 5 * (own_.end - swept_to own_.start walk) else 5 * (own_.end - swept_to own_.start walk) + walk.level - 4
 
 -- the most steps that the begin of an invalidation of so many guest frames has left, where no other actor is in the way
 abbrev pub begin_left : BeginPlace → Sizes → ℕ → Topics → ℕ
@@ -26,9 +19,9 @@ begin_left begins.RangeEnd z frames t = 2 * z.vcpus + 6 + 5 * frames
 begin_left begins.SetStart z frames t = 2 * z.vcpus + 5 + 5 * frames
 begin_left begins.SetEnd z frames t = 2 * z.vcpus + 4 + 5 * frames
 begin_left begins.SetCount z frames t = 2 * z.vcpus + 3 + 5 * frames
-begin_left (begins.Walk true) z frames t = 2 * z.vcpus + 1 + sweep_left t.invalidations.own t.walk
+begin_left (begins.Walk true) z frames t = 2 * z.vcpus + 1 + sweep_left true (range_of t.invalidations.own) t.walk
 begin_left (begins.Walk false) z frames t = 2 * z.vcpus + 2 + 5 * (t.invalidations.own.end - t.invalidations.own.start)
-begin_left begins.Zap z frames t = 2 * z.vcpus + 1 + (5 * (t.invalidations.own.end - swept_to t.invalidations.own.start t.walk) - 4)
+begin_left begins.Zap z frames t = 2 * z.vcpus + 1 + leaf_left true (range_of t.invalidations.own) t.walk
 begin_left begins.Ask z frames t = z.vcpus + 1 + (z.vcpus - t.flush.asked)
 begin_left begins.Await z frames t = 1 + (z.vcpus - t.flush.awaited)
 begin_left begins.Release z frames t = 1

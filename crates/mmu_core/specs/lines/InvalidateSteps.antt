@@ -4,27 +4,27 @@
 -- under the lock alone again, the sequence number is raised, and one less is open.
 pub use Rattle.part_steps.specs.declared.invalidations.Target.{Target}
 pub use Rattle.part_steps.specs.InvalidationRange.{gfn_behind, greater, has_found, has_searched, lesser, range_end, range_start, target_end, target_start}
-use Rattle.std.specs.Prelude.{◌≤◌, ◌<◌, ◌+◌, ◌-◌, ◌^◌, ℕ, Bool, true, false, ◌==◌, ◌&&◌, ◌||◌, not, nat_le, nat_lt, if◌then◌else◌, None}
+use Rattle.std.specs.Prelude.{◌≤◌, ◌<◌, ◌+◌, ◌-◌, ◌^◌, ℕ, Bool, true, false, ◌==◌, ◌||◌, nat_lt, if◌then◌else◌}
 use Rattle.core_views.specs.declared.place.BeginPlace.{BeginPlace}
 use Rattle.core_views.specs.declared.place.BeginPlace.TheVariants as begins
 use Rattle.core_views.specs.declared.place.EndPlace.{EndPlace}
 use Rattle.core_views.specs.declared.place.EndPlace.TheVariants as ends
 use Rattle.core_views.specs.declared.sizes.Sizes.{Sizes}
-use Rattle.core_views.specs.declared.topics.Invalidated.{Invalidated}
 use Rattle.core_views.specs.declared.topics.SlotSearch.{SlotSearch}
 use Rattle.core_views.specs.declared.topics.TableWalk.{TableWalk}
 use Rattle.core_views.specs.declared.topics.Topics.{Topics}
 use Rattle.part_steps.specs.ControlBits.{has_to_flush}
 use Rattle.part_steps.specs.PageTopics.{searched}
-use Rattle.part_steps.specs.PartTasks.{entry_index}
-use Rattle.part_steps.specs.SweepTopics.{gone_up, has_entry, leads_nowhere, swept_to}
-use Rattle.part_steps.specs.WalkTopics.{gone_down, walked}
+use Rattle.part_steps.specs.SweepTopics.{swept_to}
 use Rattle.part_steps.specs.declared.part_step.PartStep.{PartStep}
 use Rattle.part_steps.specs.declared.part_step.PartStep.TheVariants as part
 use Rattle.mmu_core.specs.declared.invalidate.BeginNext.{BeginNext}
 use Rattle.mmu_core.specs.declared.invalidate.BeginNext.TheVariants as begins_next
 use Rattle.mmu_core.specs.declared.invalidate.EndNext.{EndNext}
 use Rattle.mmu_core.specs.declared.invalidate.EndNext.TheVariants as ends_next
+use Rattle.mmu_core.specs.declared.sweep.SweepNext.{SweepNext}
+use Rattle.mmu_core.specs.declared.sweep.SweepNext.TheVariants.{Over, Leaf, Entry}
+use Rattle.mmu_core.specs.lines.SweepSteps.{range_of, sweep_next, swept_on, zapped_at}
 
 -- ---- its begin
 
@@ -38,8 +38,8 @@ begin_part begins.RangeEnd target t = part.RangeEnd
 begin_part begins.SetStart target t = part.SetStart (target_start target t.search) (range_start target t)
 begin_part begins.SetEnd target t = part.SetEnd (target_end target t.search) (range_end target t)
 begin_part begins.SetCount target t = part.SetCount (t.invalidations.count + 1)
-begin_part (begins.Walk rooted) target t = if rooted then part.Sweep (swept_to t.invalidations.own.start t.walk) else part.Root
-begin_part begins.Zap target t = part.Zap (swept_to t.invalidations.own.start t.walk)
+begin_part (begins.Walk rooted) target t = if rooted then part.Sweep (swept_to true t.invalidations.own.start t.walk) else part.Root
+begin_part begins.Zap target t = part.Zap (swept_to true t.invalidations.own.start t.walk)
 begin_part begins.Ask target t = part.Ask t.flush.asked
 begin_part begins.Await target t = part.Await t.flush.awaited
 begin_part begins.Release target t = part.Release
@@ -48,19 +48,11 @@ begin_part begins.Release target t = part.Release
 abbrev pub search_next : Target → SlotSearch → BeginPlace
 search_next target search = if has_searched target search then begins.Count else begins.Find true
 
--- the walk of a sweep after the next entry, which is v; and after the leaf was zapped that it has come to
-abbrev pub swept_on : ℕ → TableWalk → ℕ → TableWalk
-swept_on gfn walk v = walked (gone_up walk) (entry_index gfn (gone_up walk).level) v
-
-abbrev pub zapped_at : ℕ → TableWalk → TableWalk
-zapped_at gfn walk = gone_down None walk (entry_index gfn walk.level) 0
-
 -- after an entry of the sweep: it is over, a leaf is zapped, or it goes on
-abbrev pub sweep_next : Invalidated → TableWalk → BeginPlace
-sweep_next own_ walk =
-    if nat_le own_.end (swept_to own_.start walk) then begins.Ask else
-    if has_entry walk && not (leads_nowhere walk) then begins.Zap else
-    begins.Walk true
+abbrev pub begin_swept : SweepNext → BeginPlace
+begin_swept Over = begins.Ask
+begin_swept Leaf = begins.Zap
+begin_swept Entry = begins.Walk true
 
 -- where it stands after the step of its place, which found v
 abbrev pub begin_next : BeginPlace → Sizes → Target → Topics → ℕ → BeginNext
@@ -73,11 +65,11 @@ begin_next begins.SetStart z target t v = begins_next.Goes begins.SetEnd
 begin_next begins.SetEnd z target t v = begins_next.Goes begins.SetCount
 begin_next begins.SetCount z target t v = begins_next.Goes (begins.Walk false)
 begin_next (begins.Walk true) z target t v =
-    begins_next.Goes (sweep_next t.invalidations.own (swept_on (swept_to t.invalidations.own.start t.walk) t.walk v))
+    begins_next.Goes (begin_swept (sweep_next true (range_of t.invalidations.own) (swept_on (swept_to true t.invalidations.own.start t.walk) t.walk v)))
 begin_next (begins.Walk false) z target t v =
     begins_next.Goes (if nat_lt t.invalidations.own.start t.invalidations.own.end then begins.Walk true else begins.Ask)
 begin_next begins.Zap z target t v =
-    begins_next.Goes (sweep_next t.invalidations.own (zapped_at (swept_to t.invalidations.own.start t.walk) t.walk))
+    begins_next.Goes (begin_swept (sweep_next true (range_of t.invalidations.own) (zapped_at (swept_to true t.invalidations.own.start t.walk) t.walk)))
 begin_next begins.Ask z target t v = begins_next.Goes (if nat_lt (t.flush.asked + 1) z.vcpus then begins.Ask else begins.Await)
 begin_next begins.Await z target t v =
     begins_next.Goes (if has_to_flush v || nat_lt (t.flush.awaited + 1) z.vcpus then begins.Await else begins.Release)

@@ -1,11 +1,11 @@
 -- What a line that changes a slot knows at each of its places, from what its actor holds alone.
-use Rattle.std.specs.Prelude.{◌≡◌, ◌<◌, ◌≤◌, ◌+◌, ◌^◌, ℕ, Bool, Option, Some, true, false, None, is_some}
+use Rattle.std.specs.Prelude.{◌≡◌, ◌<◌, ℕ, Bool, Option, Some, true, false, None, is_some}
 use Rattle.core_views.specs.declared.answer.Refusal.{Refusal}
 use Rattle.core_views.specs.declared.answer.Refusal.TheVariants.{NoFrame}
 use Rattle.core_views.specs.declared.place.EndPlace.TheVariants as ends
 use Rattle.core_views.specs.declared.place.SlotChangePlace.{SlotChangePlace}
-use Rattle.core_views.specs.declared.place.SlotChangePlace.TheVariants.{AtOnce, Claim, Fill, Role, Begin, Exclude, Count, Close, Publish}
-use Rattle.core_views.specs.declared.place.SlotChangePlace.TheVariants.{Release, End, Watch, Clear, Give}
+use Rattle.core_views.specs.declared.place.SlotChangePlace.TheVariants.{AtOnce, Claim, Fill, Role, Arm, Begin, Exclude, Count, Close, Publish}
+use Rattle.core_views.specs.declared.place.SlotChangePlace.TheVariants.{Release, End, Watch, WriteProtect, Clear, Give}
 use Rattle.core_views.specs.declared.topics.Hold.TheVariants.{Loose, Exclusive}
 use Rattle.core_views.specs.declared.topics.OwnedPage.{OwnedPage}
 use Rattle.core_views.specs.declared.topics.Topics.{Topics}
@@ -13,7 +13,8 @@ use Rattle.core_views.specs.declared.sizes.Sizes.{Sizes}
 use Rattle.core_views.specs.declared.trace.Command.{Command}
 use Rattle.core_views.specs.declared.trace.Slot.{Slot}
 use Rattle.core_views.specs.Held.{Held}
-use Rattle.core_views.specs.SlotCommands.{change_at_once, slot_invalidated, slots_after}
+use Rattle.core_views.specs.LogCommands.{is_all_set}
+use Rattle.core_views.specs.SlotCommands.{arms, change_at_once, slot_invalidated, slots_after}
 use Rattle.core_views.specs.Slots.{is_some_and}
 use Rattle.core_views.specs.SlotSets.{MemorySlots}
 use Rattle.core_views.specs.Sizes.{actors_of}
@@ -23,8 +24,10 @@ use Rattle.part_steps.specs.PartHoldings.{HasRoleToSet, HasToFill, MayGiveOld, M
 use Rattle.part_steps.specs.PartSteps.{IsAtRest}
 use Rattle.part_steps.specs.SetWords.{IsFilledWith}
 pub use Rattle.mmu_core.specs.lines.LockKnows.{HoldsLock}
+pub use Rattle.mmu_core.specs.lines.ArmKnows.{ArmsFitting, ArmsSlot, ArmsThere, FitsMachine, IsInLog, IsSweepable}
 use Rattle.mmu_core.specs.lines.PartWaits.{saw_open}
-use Rattle.mmu_core.specs.lines.SlotChangeSteps.{looked_at, slot_or_none, slot_target}
+use Rattle.mmu_core.specs.lines.SlotChangeSteps.{arm_word, log_target, looked_at, slot_or_none, slot_target}
+use Rattle.mmu_core.specs.lines.WriteProtectKnows.{WriteProtectKnows}
 use Rattle.mmu_core.specs.lines.InvalidateKnows.{BeginKnows, EndKnows, IsFlushedOut}
 use Rattle.mmu_core.specs.lines.InvalidateSteps.{is_among_open}
 
@@ -37,11 +40,6 @@ pub record HasPublished (retired : Option ℕ) (owned : Option OwnedPage) : Type
 abbrev pub is_of_frames : Refusal → Bool
 is_of_frames NoFrame = true
 is_of_frames _ = false
-
--- A slot that is moved or deleted fits the machine: its guest frames lie below 2 ^ 36, and it has no more pages than the machine.
-pub record FitsMachine (z : Sizes) (slot : Slot) : Type 0 where
-  pub frames : slot.base + slot.pages ≤ 2 ^ 36
-  pub pages : slot.pages ≤ z.pages
 
 -- The slot that is moved or deleted, if one is, is flushed out where it was, by an open invalidation of exactly its guest frames, and of no host page; and else
 -- no invalidation of the actor's own is open.
@@ -59,24 +57,38 @@ SlotChangeKnows Role command h = HoldsLock Loose h.topics × HasRoleToSet h.topi
 SlotChangeKnows (Begin p) command h =
     OwnsSet h.topics × BeginKnows p h.state.sizes (slot_target h command) h.topics × (is_some (slot_invalidated h.slots command) ≡ true)
     × FitsMachine h.state.sizes (slot_or_none (slot_invalidated h.slots command))
-SlotChangeKnows Exclude command h = HoldsLock Loose h.topics × OwnsSet h.topics × HasMadeWay h.state.sizes (slot_invalidated h.slots command) h.topics
-SlotChangeKnows Count command h = HoldsLock Exclusive h.topics × OwnsSet h.topics × HasMadeWay h.state.sizes (slot_invalidated h.slots command) h.topics
+SlotChangeKnows (Arm begun) command h =
+    HoldsLock Loose h.topics × OwnsSet h.topics × (h.topics.invalidations.opened ≡ false) × ArmsSlot h.state.actor h.state.sizes command h.slots
+    × (begun ≡ true → IsInLog (log_target h command) h.topics.next_log_word)
+SlotChangeKnows Exclude command h =
+    HoldsLock Loose h.topics × OwnsSet h.topics × HasMadeWay h.state.sizes (slot_invalidated h.slots command) h.topics × ArmsThere command h.slots
+SlotChangeKnows Count command h =
+    HoldsLock Exclusive h.topics × OwnsSet h.topics × HasMadeWay h.state.sizes (slot_invalidated h.slots command) h.topics × ArmsThere command h.slots
 SlotChangeKnows Close command h =
     HoldsLock Exclusive h.topics × OwnsSet h.topics × HasMadeWay h.state.sizes (slot_invalidated h.slots command) h.topics
-    × (saw_open h.topics.invalidations ≡ true)
+    × (saw_open h.topics.invalidations ≡ true) × ArmsThere command h.slots
 SlotChangeKnows Publish command h =
-    HoldsLock Exclusive h.topics × MayPublish h.topics × HasMadeWay h.state.sizes (slot_invalidated h.slots command) h.topics
+    HoldsLock Exclusive h.topics × MayPublish h.topics × HasMadeWay h.state.sizes (slot_invalidated h.slots command) h.topics × ArmsThere command h.slots
 SlotChangeKnows Release command h =
     HoldsLock Exclusive h.topics × HasPublished h.topics.retired h.topics.owned × (h.topics.watched ≡ 0) × (saw_open h.topics.invalidations ≡ false)
-    × (h.topics.invalidations.opened ≡ true → h.topics.invalidations.raised ≡ false)
-SlotChangeKnows (End p) command h = EndKnows p h.topics × HasPublished h.topics.retired h.topics.owned × (h.topics.watched ≡ 0)
-SlotChangeKnows Watch command h = HoldsLock Loose h.topics × HasPublished h.topics.retired h.topics.owned × (looked_at h < actors_of h.state.sizes)
+    × (h.topics.invalidations.opened ≡ true → h.topics.invalidations.raised ≡ false) × ArmsThere command h.slots
+SlotChangeKnows (End p) command h =
+    EndKnows p h.topics × HasPublished h.topics.retired h.topics.owned × (h.topics.watched ≡ 0) × ArmsThere command h.slots
+SlotChangeKnows Watch command h =
+    HoldsLock Loose h.topics × HasPublished h.topics.retired h.topics.owned × (looked_at h < actors_of h.state.sizes)
+    × ArmsFitting h.state.sizes command h.slots × ArmsThere command h.slots
+SlotChangeKnows (WriteProtect range p) command h =
+    MayGiveOld h × WriteProtectKnows p h.state.sizes range h.topics × IsSweepable h.state.sizes range
+    × (arms command ≡ true) × (is_all_set h.state.sizes.mode ≡ false)
 SlotChangeKnows Clear command h = HoldsLock Loose h.topics × MayGiveOld h
 SlotChangeKnows Give command h = HoldsLock Loose h.topics × MayGiveOld h
 
--- What a step asks besides its needs: the slot that is invalidated lies below 2 ^ 36.
+-- What a step asks besides its needs: the slot that is invalidated lies below 2 ^ 36, and the one whose dirty log begins fits the machine.
 abbrev pub SlotChangeRests : SlotChangePlace → Command → Held → Type 0
 SlotChangeRests (Begin p) command h = IsSmall (slot_target h command)
+SlotChangeRests (Arm begun) command h =
+    IsInLog (log_target h command) (arm_word begun (log_target h command) h.topics) × FitsMachine h.state.sizes (log_target h command)
+SlotChangeRests Watch command h = ArmsFitting h.state.sizes command h.slots
 SlotChangeRests _ command h = Unit {0}
 
 -- The line whose set is published has something to do, by the manager's own record.
@@ -96,6 +108,7 @@ SlotChangeHolds z pool (Claim begun) command h = change_at_once z command h.slot
 SlotChangeHolds z pool Release command h = Unit {0}
 SlotChangeHolds z pool (End p) command h = Unit {0}
 SlotChangeHolds z pool Watch command h = Unit {0}
+SlotChangeHolds z pool (WriteProtect range p) command h = Unit {0}
 SlotChangeHolds z pool Clear command h = Unit {0}
 SlotChangeHolds z pool Give command h = Unit {0}
 SlotChangeHolds z pool _ command h = FillsSet z pool command h.slots h.topics.owned
@@ -107,6 +120,7 @@ abbrev pub slot_change_retires : SlotChangePlace → Bool
 slot_change_retires Release = true
 slot_change_retires (End p) = true
 slot_change_retires Watch = true
+slot_change_retires (WriteProtect range p) = true
 slot_change_retires Clear = true
 slot_change_retires Give = true
 slot_change_retires _ = false

@@ -1,32 +1,33 @@
 -- The order of steps of each line that changes a slot (api.rst, KVM_SET_USER_MEMORY_REGION; kvm_main.c, `kvm_swap_active_memslots`): one that is refused, or
 -- sets a slot as it is, makes one load of the sequence. Else a page is claimed and filled with the new slot set; under the lock alone, with no invalidation of
--- others open, it is published in place of the old one; and after a watch of all other actors the old page is given back. Where the slot was there, this stands
--- within an invalidation of its guest frames, which begins before the publication and ends after it (kvm_invalidate_memslot).
-use Rattle.std.specs.Prelude.{ℕ, true, false, List, [], ◌∷◌, Option, Some, None, ◌==◌, nat_lt, if◌then◌else◌, is_some, ◌+◌}
+-- others open, it is published in place of the old one; and after a watch of all other actors the old page is given back. Where the slot is moved or deleted,
+-- this stands within an invalidation of its guest frames, which begins before the publication and ends after it (kvm_invalidate_memslot). Where it gets a dirty
+-- log, its words are set before the publication, and after the watch writes to it are forbidden, unless each page is to be dirty as the log begins.
+use Rattle.std.specs.Prelude.{ℕ, true, false, Option, Some, None, ◌==◌, nat_lt, if◌then◌else◌, is_some}
+use Rattle.std.specs.Prelude.{◌+◌}
 use Rattle.core_views.specs.declared.answer.Answer.TheVariants.{Done, Starved}
 use Rattle.core_views.specs.declared.answer.Refusal.{Refusal}
-use Rattle.core_views.specs.declared.event.EventKind.{EventKind}
-use Rattle.core_views.specs.declared.event.EventKind.TheVariants.{SlotChanged}
 use Rattle.core_views.specs.declared.place.SlotChangePlace.{SlotChangePlace}
-use Rattle.core_views.specs.declared.place.SlotChangePlace.TheVariants.{AtOnce, Claim, Fill, Role, Begin, Exclude, Count, Close, Publish}
-use Rattle.core_views.specs.declared.place.SlotChangePlace.TheVariants.{Release, End, Watch, Clear, Give}
+use Rattle.core_views.specs.declared.place.SlotChangePlace.TheVariants.{AtOnce, Claim, Fill, Role, Arm, Begin, Exclude, Count, Close, Publish}
+use Rattle.core_views.specs.declared.place.SlotChangePlace.TheVariants.{Release, End, Watch, WriteProtect, Clear, Give}
 use Rattle.core_views.specs.declared.place.BeginPlace.TheVariants as begins
 use Rattle.core_views.specs.declared.place.EndPlace.TheVariants as ends
+use Rattle.core_views.specs.declared.place.FrameRange.{FrameRange}
+use Rattle.core_views.specs.declared.place.WriteProtectPlace.TheVariants as protect
 use Rattle.core_views.specs.declared.place.Place.TheVariants.{SlotChange}
 use Rattle.core_views.specs.declared.trace.Command.{Command}
 use Rattle.core_views.specs.declared.trace.Slot.{Slot}
-use Rattle.core_views.specs.declared.slot_set.MemorySlot.{MemorySlot}
-use Rattle.core_views.specs.Held.{Held, no_slot}
-use Rattle.core_views.specs.SlotCommands.{refused_or_done, slot_change, slot_invalidated, slots_after}
+use Rattle.core_views.specs.declared.sizes.Sizes.{Sizes}
+use Rattle.core_views.specs.Held.{Held}
+use Rattle.core_views.specs.LogCommands.{is_all_set}
+use Rattle.core_views.specs.SlotCommands.{refused_or_done, slot_armed, slot_invalidated, slots_after}
 use Rattle.core_views.specs.SlotSets.{MemorySlots}
 use Rattle.mmu_core.specs.declared.outcome.Outcome.{Outcome}
 use Rattle.mmu_core.specs.declared.outcome.Outcome.TheVariants.{Goes, Ends}
 use Rattle.part_steps.specs.declared.task.Task.{Task}
 use Rattle.part_steps.specs.declared.part_step.PartStep.{PartStep}
 use Rattle.part_steps.specs.declared.part_step.PartStep.TheVariants as part
-use Rattle.mmu_core.specs.lines.AccessSteps.{exiting}
-use Rattle.part_steps.specs.declared.invalidations.Target.{Target}
-use Rattle.part_steps.specs.declared.invalidations.Target.TheVariants as aim
+use Rattle.part_steps.specs.LogHoldings.{log_end}
 use Rattle.part_steps.specs.PartHoldings.{own_open}
 use Rattle.part_steps.specs.PartTasks.{own_index, part_task, words_filled}
 use Rattle.mmu_core.specs.declared.invalidate.BeginNext.{BeginNext}
@@ -38,6 +39,10 @@ use Rattle.part_steps.specs.SetWords.{set_role, set_word}
 use Rattle.mmu_core.specs.lines.ClaimSteps.{Pages, claim_next, claim_outcome, claim_part, loads_last_word}
 use Rattle.mmu_core.specs.declared.claim.ClaimNext.{ClaimNext}
 use Rattle.mmu_core.specs.declared.watch.WatchNext.{WatchNext}
+use Rattle.mmu_core.specs.declared.write_protect.WriteProtectNext.{WriteProtectNext}
+use Rattle.mmu_core.specs.declared.write_protect.WriteProtectNext.TheVariants as protects_next
+use Rattle.mmu_core.specs.lines.WriteProtectSteps.{protect_next, protect_part}
+pub use Rattle.mmu_core.specs.lines.SlotTargets.{arm_bits, arm_part, arm_word, log_target, slot_or_none, slot_target}
 pub use Rattle.mmu_core.specs.lines.WatchSteps.{looked_at, watch_next}
 use Rattle.mmu_core.specs.lines.WatchSteps.{watch_place}
 
@@ -46,20 +51,13 @@ abbrev pub slot_change_first : Option (Option Refusal) → SlotChangePlace
 slot_change_first (Some refusal) = AtOnce refusal
 slot_change_first None = Claim false
 
--- what a line that moves or deletes a slot invalidates: the slot, as it is before; and none has no frames
-abbrev pub slot_or_none : Option Slot → Slot
-slot_or_none None = no_slot
-slot_or_none (Some slot) = slot
-
-abbrev pub slot_target : Held → Command → Target
-slot_target h command = aim.Slot (slot_or_none (slot_invalidated h.slots command))
-
 -- the step of each place
 abbrev pub slot_change_part : SlotChangePlace → Held → Command → PartStep
 slot_change_part (AtOnce refusal) h command = part.Seq
 slot_change_part (Claim begun) h command = claim_part Pages begun h.topics.claim
 slot_change_part Fill h command = part.Fill (set_word (slots_after command h.slots) (words_filled h.topics.owned))
 slot_change_part Role h command = part.Role set_role
+slot_change_part (Arm begun) h command = arm_part begun h.state.sizes (log_target h command) h.topics
 slot_change_part (Begin p) h command = begin_part p (slot_target h command) h.topics
 slot_change_part Exclude h command = part.Exclude
 slot_change_part Count h command = part.Count
@@ -68,6 +66,7 @@ slot_change_part Publish h command = part.Publish
 slot_change_part Release h command = part.Release
 slot_change_part (End p) h command = end_part p h.topics
 slot_change_part Watch h command = part.Watch (looked_at h)
+slot_change_part (WriteProtect range p) h command = protect_part p range h.topics
 slot_change_part Clear h command = part.Clear
 slot_change_part Give h command = part.GiveOld
 
@@ -90,13 +89,28 @@ slot_change_records _ command slots = slots
 abbrev pub after_set_claim : ClaimNext → Outcome
 after_set_claim next = claim_outcome (SlotChange (Claim true)) (SlotChange Fill) Starved next
 
--- after a look of its watch
-abbrev pub after_watch : WatchNext → SlotChangePlace
-after_watch next = watch_place Watch Clear next
+-- After its watch, and after a look of it: writes to a slot are forbidden whose dirty log is to begin, unless each page is dirty then.
+abbrev pub frames_of : Slot → FrameRange
+frames_of slot = record { start = slot.base; end = slot.base + slot.pages }
 
--- After the new set is filled: a slot that is moved or deleted is invalidated first. After a step of the invalidation's begin, and of its end.
-abbrev pub after_role : Option Slot → SlotChangePlace
-after_role invalidated = if is_some invalidated then Begin begins.Exclude else Exclude
+abbrev pub after_grace : Sizes → Option Slot → SlotChangePlace
+after_grace z None = Clear
+after_grace z (Some slot) = if is_all_set z.mode then Clear else WriteProtect (frames_of slot) protect.Exclude
+
+abbrev pub after_watch : Sizes → Option Slot → WatchNext → SlotChangePlace
+after_watch z armed next = watch_place Watch (after_grace z armed) next
+
+-- After the new set is filled: a slot that is moved or deleted is invalidated first, and of one whose dirty log begins the words are set. After such a word;
+-- after a step of the invalidation's begin, and of its end; and after one that forbids writes.
+abbrev pub after_role : Option Slot → Option Slot → SlotChangePlace
+after_role invalidated armed = if is_some invalidated then Begin begins.Exclude else if is_some armed then Arm false else Exclude
+
+abbrev pub after_arm : Slot → ℕ → SlotChangePlace
+after_arm slot word = if nat_lt (word + 1) (log_end slot) then Arm true else Exclude
+
+abbrev pub after_protect : FrameRange → WriteProtectNext → SlotChangePlace
+after_protect range (protects_next.Goes p) = WriteProtect range p
+after_protect range protects_next.Over = Clear
 
 abbrev pub after_set_begin : BeginNext → SlotChangePlace
 after_set_begin (begins_next.Goes p) = Begin p
@@ -111,7 +125,9 @@ abbrev pub slot_change_outcome : SlotChangePlace → Command → Held → ℕ �
 slot_change_outcome (AtOnce refusal) command h v = Ends (refused_or_done refusal)
 slot_change_outcome (Claim begun) command h v = after_set_claim (claim_next Pages begun h.state.sizes h.topics.claim v)
 slot_change_outcome Fill command h v = Goes (SlotChange (if nat_lt (words_filled h.topics.owned + 1) 512 then Fill else Role))
-slot_change_outcome Role command h v = Goes (SlotChange (after_role (slot_invalidated h.slots command)))
+slot_change_outcome Role command h v = Goes (SlotChange (after_role (slot_invalidated h.slots command) (slot_armed h.slots command)))
+slot_change_outcome (Arm begun) command h v =
+    Goes (SlotChange (after_arm (log_target h command) (arm_word begun (log_target h command) h.topics)))
 slot_change_outcome (Begin p) command h v =
     Goes (SlotChange (after_set_begin (begin_next p h.state.sizes (slot_target h command) h.topics v)))
 slot_change_outcome Exclude command h v = Goes (SlotChange (if v == 0 then Count else Exclude))
@@ -120,17 +136,7 @@ slot_change_outcome Close command h v = Goes (SlotChange Exclude)
 slot_change_outcome Publish command h v = Goes (SlotChange Release)
 slot_change_outcome Release command h v = Goes (SlotChange (if h.topics.invalidations.opened then End ends.Exclude else Watch))
 slot_change_outcome (End p) command h v = Goes (SlotChange (after_set_end (end_next p v)))
-slot_change_outcome Watch command h v = Goes (SlotChange (after_watch (watch_next h v)))
+slot_change_outcome Watch command h v = Goes (SlotChange (after_watch h.state.sizes (slot_armed h.slots command) (watch_next h v)))
+slot_change_outcome (WriteProtect range p) command h v = Goes (SlotChange (after_protect range (protect_next p h.state.sizes range h.topics v)))
 slot_change_outcome Clear command h v = Goes (SlotChange Give)
 slot_change_outcome Give command h v = Ends Done
-
--- the event of a change
-abbrev pub changed : Option (ℕ × Option MemorySlot) → List EventKind
-changed None = []
-changed (Some (id, slot)) = SlotChanged id slot ∷ []
-
--- What a step tells besides that its line begins or is answered: the slot is changed where its set is published.
-abbrev pub slot_change_tells : SlotChangePlace → Held → Command → ℕ → List EventKind
-slot_change_tells (Claim begun) h command v = exiting (slot_change_outcome (Claim begun) command h v)
-slot_change_tells Publish h command v = changed (slot_change h.slots command)
-slot_change_tells _ h command v = []

@@ -37,7 +37,7 @@ use Rattle.mmu_core.specs.lines.PartWaits.{is_owing}
 use Rattle.part_steps.specs.StayTopics.{has_lock}
 use Rattle.mmu_core.proofs.machine.Columns.{same_or, upd_other, upd_same}
 use Rattle.mmu_core.proofs.machine.Extend.{hands_of_effect}
-use Rattle.mmu_core.proofs.invariant.HandLeft.{hand_few, left_there}
+use Rattle.mmu_core.proofs.invariant.HandLeft.{hand_few, left_of}
 use Rattle.mmu_core.proofs.lines.Forms.{first_alone}
 use Rattle.mmu_core.proofs.lines.KnowsKept.{KnowsBehind, knows_at, step_leaves}
 use Rattle.mmu_core.proofs.invariant.Kept.{line_knows}
@@ -107,7 +107,8 @@ goes_on q z w after a line g words sizes B H G =
     let left : length g.answers < length g.lines = rw (H.answers, H.lines) H.left in
     let same : g.state.sizes ≡ (hand_in mmu w a).state.sizes =
     sym (ap (λ (x : Held). x.state.sizes) B.hand) ∙ (B.sound.holds.lines a B.there).sizes ∙ sym sizes in
-    let left_now : hand_left g ≡ steps_left q (hand_in mmu w a).state.sizes g.topics = left_there q g H.stands G.0 ∙ ap (λ y. steps_left q y g.topics) same in
+    let left_now : hand_left g ≡ steps_left q line.command (hand_in mmu w a).state.sizes g.topics =
+    left_of q g line.command H.stands G.0 (ap (λ (l : Line). l.command) H.line_is) ∙ ap (λ y. steps_left q line.command y g.topics) same in
     let nearer : hand_left g < hand_left (hand_in mmu w a) = subst (λ n. n < hand_left (hand_in mmu w a)) (sym left_now) G.2 in (
       record {
         sound = B.sound;

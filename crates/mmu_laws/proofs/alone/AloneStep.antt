@@ -99,7 +99,7 @@ seen_touched before after op index words t S keeps = record {
 -- What the step comes to, put together.
 comes_alone : (o : Outcome) (command : Command) (y : Sizes) (words : Area → ℕ → ℕ) (t : Topics) (left : ℕ) → GoesUnderWay o
     → SeenStands (HasScan (place_after o)) words t → FormNext o command words t
-    → Nearer o y t left → ((map : FreeMap) → o ≡ Ends (answer_without map) → NoneFreeBefore (words (map_area map)) (map_words map y))
+    → Nearer o command y t left → ((map : FreeMap) → o ≡ Ends (answer_without map) → NoneFreeBefore (words (map_area map)) (map_words map y))
     → GoesAlone o command y words t left
 comes_alone (Goes p) command y words t left under seen form nearer starved = (under, record { seen = seen; form = form }, nearer)
 comes_alone (Ends answer) command y words t left under seen form nearer starved = λ map e. starved map (ap Ends e)
@@ -178,7 +178,7 @@ module _ (z : Sizes) (w : World Held) (a : ℕ) (sound : IsSound z w) (others : 
         (no_miss p command h words (walks_installed p command words h.topics L.form))
 
     nearer : IsUnderWay p → IsCommandFor z h.state.actor command → PartRests h
-        → Nearer o h.state.sizes (topics_at p command h words) (steps_left p h.state.sizes h.topics)
+        → Nearer o command h.state.sizes (topics_at p command h words) (steps_left p command h.state.sizes h.topics)
     nearer begun may rests = place_nearer p command z h words begun may rests R K
         (own_words z (view z w) a sound.topics there (sound.holds.lines a there).sizes (sound.holds.lines a there).index) no_delay
 
@@ -207,7 +207,8 @@ module _ (z : Sizes) (w : World Held) (a : ℕ) (sound : IsSound z w) (others : 
       record {
         goes = goes_alone p command R K L;
         next =
-            comes_alone o command h.state.sizes after (topics_at p command h words) (steps_left p h.state.sizes h.topics) (outcome_goes p command h v begun)
+            comes_alone o command h.state.sizes after (topics_at p command h words) (steps_left p command h.state.sizes h.topics)
+            (outcome_goes p command h v begun)
             (seen_after p command R K L (HasScan (place_after o)) (keeps_scan p command h v (claims_or_not p command h v R) K))
             (subst (FormNext o command after) (sym (topics_of_step p command h v R)) (form_after p command may rests left R K L))
             (nearer p command R K L begun may rests) (starved_alone p command R K L);

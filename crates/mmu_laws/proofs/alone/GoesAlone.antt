@@ -20,14 +20,14 @@ use Rattle.part_steps.specs.TopicSteps.{topics_after}
 
 -- After a step the line goes on, with what its next place asks and fewer than n steps left; or it is answered.
 abbrev pub GoesAlone : Outcome → Command → Sizes → (Area → ℕ → ℕ) → Topics → ℕ → Type 0
-GoesAlone (Goes p) command y words t n = IsUnderWay p × AloneKnows p command words t × (steps_left p y t < n)
+GoesAlone (Goes p) command y words t n = IsUnderWay p × AloneKnows p command words t × (steps_left p command y t < n)
 GoesAlone (Ends answer) command y words t n = StarvedOnlyWithout answer y words
 
 -- The step of a place goes through.
 pub record GoesOnAlone (p : Place) (command : Command) (h : Held) (words : Area → ℕ → ℕ) (u : Topics) : Type 0 where
   pub goes : line_waits p command h (answer_in (task_at p command h) words) ≡ false
   pub next : GoesAlone (outcome_at p command h (answer_in (task_at p command h) words)) command h.state.sizes
-      (words_after (task_at p command h) words) u (steps_left p h.state.sizes h.topics)
+      (words_after (task_at p command h) words) u (steps_left p command h.state.sizes h.topics)
 
 -- what is held after the step of a place
 abbrev pub topics_at : Place → Command → Held → (Area → ℕ → ℕ) → Topics

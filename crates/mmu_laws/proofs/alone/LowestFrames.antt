@@ -156,7 +156,7 @@ module _ (z : Sizes) (u : World Held) (s : Step Kind) (f : Flat) (L : LineAlone 
     comes : outcome_of h v ≡ outcome_at (place_at stood h) command h v
     knows : KnowsPart (place_at stood h) command h
     form : FormAlone stood command (word_in z u) h.topics
-    under : UnderIs (word_in z u area.Pool) stood h.state.line.command h (f.under actor)
+    under : UnderIs z (word_in z u area.Pool) stood h.state.line.command h (f.under actor)
 
   -- It is refused a frame only where there is none.
   refused : (kinds : List EventKind) → events_of h v ≡ told actor kinds → facts_behind kinds f.facts ≡ f.facts → outcome_of h v ≡ Ends (Refused NoFrame)
@@ -196,7 +196,7 @@ module _ (z : Sizes) (u : World Held) (s : Step Kind) (f : Flat) (L : LineAlone 
   takes_by (place.Host (host.Claim begun)) (ChangeHost page change) S =
       claim_takes (claim_next Frames begun h.state.sizes h.topics.frames.claim v) (line_at (place.Host (host.Claim begun)) h) S.tells S.comes
   takes_by (place.Host host.Change) (ChangeHost page change) S =
-      let under = subst (λ c. UnderIs (word_in z u area.Pool) (place.Host host.Change) c h (f.under actor)) S.command_is S.under in
+      let under = subst (λ c. UnderIs z (word_in z u area.Pool) (place.Host host.Change) c h (f.under actor)) S.command_is S.under in
       change_takes (v == word_looked h.topics.host) page (entry_of (word_put change h.topics))
       (subst (λ c. TakesLowest z f.facts c (HostChanged page (entry_of (word_put change h.topics))))
       (sym (ap (λ (l : Line). l.command) under.0 ∙ S.command_is)) (changed_takes page change S.knows S.form))

@@ -34,7 +34,7 @@ use Rattle.mmu_core.specs.machine.Outcomes.{answering}
 use Rattle.mmu_core.specs.machine.Steps.{beginning}
 use Rattle.mmu_core.proofs.lines.EitherPlace.{either_place}
 use Rattle.mmu_core.proofs.lines.Forms.{place_tells}
-use Rattle.mmu_core.proofs.lines.SimplePlaces.{Told, Nothing, Exit, Change, OfAccess, OfHost}
+use Rattle.mmu_core.proofs.lines.SimplePlaces.{Told, Nothing, Arms, ArmsClean, Exit, Change, OfAccess, OfHost}
 use Rattle.mmu_laws.proofs.flat.Told.{told}
 
 abbrev pub IsNoMove : EventKind → Type 0
@@ -122,7 +122,9 @@ tells_no_move p command h v = by p command (tells_at p command h v) (place_tells
     by : (q : Place) (c : Command) (kinds : List EventKind) → Told h v q c kinds → moves_at q c ≡ false → AreNoMoves kinds
     by _ _ _ Nothing other = tt
     by q c _ (Exit no_frame) other = exit_no_move (outcome_at q c h v) no_frame
-    by _ _ _ (Change id slot at) other = (tt, tt)
+    by _ _ _ (Arms id at) other = (tt, tt)
+    by _ _ _ (ArmsClean id index at seen) other = (tt, tt)
+    by q c _ (Change id slot at more) other = (tt, by q c _ more other)
     by _ _ _ (OfAccess q gfn word op) other = access_no_move q h gfn word op v
     by _ _ _ (OfHost (host.Claim begun) page change) other = absurd (cc other)
     by _ _ _ (OfHost host.Change page change) other = absurd (cc other)

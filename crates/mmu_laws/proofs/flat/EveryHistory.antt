@@ -57,10 +57,10 @@ part_keeps_flat : (z : Sizes) (v : View) (f : Flat) (a : ℕ) (step : PartStep) 
     → has_line (v.hand a) ≡ false → Invariant z v → TopicsInvariant z v → FlatInvariant z v f → FlatInvariant z (part_stepped a step note v) f
 part_keeps_flat z v f a step note S free none I P F = record {
   refines = refines_stay z v.words words f.facts L F.refines;
-  under = at_upd (λ i (g : Held). i < actors_of z → UnderIs (words area.Pool) g.state.place g.state.line.command g (f.under g.state.actor)) v.hand a behind
-      (λ lt. subst (λ q. UnderIs (words area.Pool) q h.state.line.command behind (f.under h.state.actor)) (sym (idle lt))
-      (subst (λ q. UnderIs (v.words area.Pool) q h.state.line.command h (f.under h.state.actor)) (idle lt) (F.under a lt)))
-      (λ i ne lt. under_still (v.words area.Pool) (words area.Pool) (v.hand i).state.place (v.hand i).state.line.command (v.hand i)
+  under = at_upd (λ i (g : Held). i < actors_of z → UnderIs z (words area.Pool) g.state.place g.state.line.command g (f.under g.state.actor)) v.hand a behind
+      (λ lt. subst (λ q. UnderIs z (words area.Pool) q h.state.line.command behind (f.under h.state.actor)) (sym (idle lt))
+      (subst (λ q. UnderIs z (v.words area.Pool) q h.state.line.command h (f.under h.state.actor)) (idle lt) (F.under a lt)))
+      (λ i ne lt. under_still z (v.words area.Pool) (words area.Pool) (v.hand i).state.place (v.hand i).state.line.command (v.hand i)
       (f.under (v.hand i).state.actor) (λ k held. others_held z v a step note S P i k lt ne held) (F.under i lt));
 }
   where
@@ -150,7 +150,7 @@ start_flat z lines w start = record {
     paused = ap (λ n. not (n == 0)) (sym (word_at_start z w area.Pause 0 0 start.words (λ l. refl) (λ e. refl)));
   };
   under =
-      λ i lt. subst (λ (h : Held). UnderIs (word_in z w area.Pool) h.state.place h.state.line.command h (first_flat.under h.state.actor))
+      λ i lt. subst (λ (h : Held). UnderIs z (word_in z w area.Pool) h.state.place h.state.line.command h (first_flat.under h.state.actor))
       (sym (hand_is z lines w i start lt)) refl;
 }
 

@@ -81,7 +81,7 @@ apart_actors z a b apart = case (is_same a b) refl
 abbrev Others : Sizes → View → ℕ → Flat → Type 0
 Others z v a f =
     (i : ℕ) → i < actors_of z → i ≢ a
-    → UnderIs (v.words area.Pool) (v.hand i).state.place (v.hand i).state.line.command (v.hand i) (f.under (v.hand i).state.actor)
+    → UnderIs z (v.words area.Pool) (v.hand i).state.place (v.hand i).state.line.command (v.hand i) (f.under (v.hand i).state.actor)
 
 pub other_actor : (z : Sizes) (v : View) (a i : ℕ) → Invariant z v → a < actors_of z → i < actors_of z → i ≢ a
     → is_same (v.hand a).state.actor (v.hand i).state.actor ≡ false
@@ -110,7 +110,7 @@ meets_begun z v f a line command p S I P part K U C R others = (
         subst (Refines z (words area.Slots 0) (words area.Pool) (words area.Host) (words area.Content) (words area.Pause 0))
         (sym (told_facts s.actor kinds f)) G.refines;
     under =
-        at_upd (λ i (h : Held). i < actors_of z → UnderIs (words area.Pool) h.state.place h.state.line.command h (behind.under h.state.actor)) v.hand a then_
+        at_upd (λ i (h : Held). i < actors_of z → UnderIs z (words area.Pool) h.state.place h.state.line.command h (behind.under h.state.actor)) v.hand a then_
         (λ a_in. here) (λ i apart i_in. there i i_in apart);
   },
 )
@@ -136,19 +136,19 @@ meets_begun z v f a line command p S I P part K U C R others = (
     G : StepGoes z v a line command p f.facts f.past (f.under s.actor)
     G = step_goes z v a line command p f (f.under s.actor) S I P part K U C R
 
-    here : UnderIs (words area.Pool) then_.state.place then_.state.line.command then_ (behind.under then_.state.actor)
+    here : UnderIs z (words area.Pool) then_.state.place then_.state.line.command then_ (behind.under then_.state.actor)
     here =
-        subst (λ k. UnderIs (words area.Pool) then_.state.place line.command then_ (behind.under k)) (sym (same_actor p command (v.hand a) x))
-        (subst (λ c. UnderIs (words area.Pool) then_.state.place c then_ (behind.under s.actor)) (sym S.command_is)
-        (subst (UnderIs (words area.Pool) then_.state.place command then_) (sym (told_line s.actor kinds f))
+        subst (λ k. UnderIs z (words area.Pool) then_.state.place line.command then_ (behind.under k)) (sym (same_actor p command (v.hand a) x))
+        (subst (λ c. UnderIs z (words area.Pool) then_.state.place c then_ (behind.under s.actor)) (sym S.command_is)
+        (subst (UnderIs z (words area.Pool) then_.state.place command then_) (sym (told_line s.actor kinds f))
         G.under))
 
     there : (i : ℕ) → i < actors_of z → i ≢ a
-        → UnderIs (words area.Pool) (v.hand i).state.place (v.hand i).state.line.command (v.hand i) (behind.under (v.hand i).state.actor)
+        → UnderIs z (words area.Pool) (v.hand i).state.place (v.hand i).state.line.command (v.hand i) (behind.under (v.hand i).state.actor)
     there i i_in apart =
-        subst (UnderIs (words area.Pool) (v.hand i).state.place (v.hand i).state.line.command (v.hand i))
+        subst (UnderIs z (words area.Pool) (v.hand i).state.place (v.hand i).state.line.command (v.hand i))
         (sym (told_others s.actor (v.hand i).state.actor kinds f (other_actor z v a i I S.there i_in apart)))
-        (under_still (v.words area.Pool) (words area.Pool) (v.hand i).state.place (v.hand i).state.line.command (v.hand i)
+        (under_still z (v.words area.Pool) (words area.Pool) (v.hand i).state.place (v.hand i).state.line.command (v.hand i)
         (f.under (v.hand i).state.actor) (λ k held. line_held z v a command p P part i k i_in apart held) (others i i_in apart))
 
 -- Where the pause's word is 0 nothing is paused.
@@ -163,8 +163,8 @@ ready_first : (z : Sizes) (v : View) (f : Flat) (a : ℕ) (line : Line) (command
 ready_first z v f a line command p S F no_pause e = record {
   runs = not_paused z v f F no_pause;
   refines = F.refines;
-  under = subst (λ q. UnderAt (v.words area.Pool) q line command h.topics now_) first_is
-      (first_at (v.words area.Pool) h.state.sizes h.slots line command h.topics now_ (ap (λ (u : LineUnderWay). u.stage) begun)
+  under = subst (λ q. UnderAt z (v.words area.Pool) q line command h.topics now_) first_is
+      (first_at z (v.words area.Pool) h.state.sizes h.slots line command h.topics now_ (ap (λ (u : LineUnderWay). u.stage) begun)
       (ap (λ (u : LineUnderWay). u.line) begun));
 }
   where
@@ -198,9 +198,9 @@ ready_on : (z : Sizes) (v : View) (f : Flat) (a : ℕ) (line : Line) (command : 
 ready_on z v f a line command p S F no_pause stands = record {
   runs = not_paused z v f F no_pause;
   refines = F.refines;
-  under = subst (λ q. UnderAt (v.words area.Pool) q line command h.topics u) place_is
-      (subst (λ c. UnderAt (v.words area.Pool) h.state.place line c h.topics u) (ap (λ (l : Line). l.command) (sym line_is) ∙ S.command_is)
-      (subst (λ (l : Line). UnderAt (v.words area.Pool) h.state.place l h.state.line.command h.topics u) (sym line_is)
+  under = subst (λ q. UnderAt z (v.words area.Pool) q line command h.topics u) place_is
+      (subst (λ c. UnderAt z (v.words area.Pool) h.state.place line c h.topics u) (ap (λ (l : Line). l.command) (sym line_is) ∙ S.command_is)
+      (subst (λ (l : Line). UnderAt z (v.words area.Pool) h.state.place l h.state.line.command h.topics u) (sym line_is)
       (F.under a S.there)));
 }
   where
@@ -230,7 +230,7 @@ flat_kept z v f a line command p S I P part K no_pause U C F = case (v.hand a).s
 
     others : Others z v a begun
     others i i_in apart =
-        subst (UnderIs (v.words area.Pool) (v.hand i).state.place (v.hand i).state.line.command (v.hand i))
+        subst (UnderIs z (v.words area.Pool) (v.hand i).state.place (v.hand i).state.line.command (v.hand i))
         (sym (told_others actor (v.hand i).state.actor (Begun line ∷ []) f (other_actor z v a i I S.there i_in apart))) (F.under i i_in)
 
     on : IsUnderWay (v.hand a).state.place → Meets z v f a line command p (told actor (told_kinds v a line command p))
@@ -240,7 +240,7 @@ flat_kept z v f a line command p S I P part K no_pause U C F = case (v.hand a).s
         → Meets z v f a line command p (told (v.hand a).state.actor (beginning q line ++ told_kinds v a line command p))
     case place.Between e =
         let idle : (f.under actor).stage ≡ Idle =
-        subst (λ q. UnderIs (v.words area.Pool) q (v.hand a).state.line.command (v.hand a) (f.under actor)) e (F.under a S.there) in
+        subst (λ q. UnderIs z (v.words area.Pool) q (v.hand a).state.line.command (v.hand a) (f.under actor)) e (F.under a S.there) in
         let rest = meets_begun z v begun a line command p S I P part K U C (ready_first z v f a line command p S F no_pause e) others in
         (((idle, S.own), rest.0), rest.1)
     case _ e = on (subst IsUnderWay (sym e) tt)

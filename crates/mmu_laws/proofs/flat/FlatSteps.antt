@@ -52,7 +52,7 @@ use Rattle.spte_words.specs.HostWords.{host_frame}
 pub record Ready (z : Sizes) (v : View) (line : Line) (command : Command) (p : Place) (t : Topics) (facts : Facts) (u : LineUnderWay) : Type 0 where
   pub runs : facts.paused ≡ false
   pub refines : Refines z (v.words area.Slots 0) (v.words area.Pool) (v.words area.Host) (v.words area.Content) (v.words area.Pause 0) facts
-  pub under : UnderAt (v.words area.Pool) p line command t u
+  pub under : UnderAt z (v.words area.Pool) p line command t u
 
 -- What the step tells is allowed; after it the facts are what the words say, and the line stands at this place.
 pub record Goes (z : Sizes) (actor : Actor) (line : Line) (command : Command) (after : Area → ℕ → ℕ) (p : Place) (t : Topics) (kinds : List EventKind)
@@ -60,7 +60,7 @@ pub record Goes (z : Sizes) (actor : Actor) (line : Line) (command : Command) (a
     (u : LineUnderWay) : Type 0 where
   pub allowed : AreAllowed z actor kinds facts past u
   pub refines : Refines z (after area.Slots 0) (after area.Pool) (after area.Host) (after area.Content) (after area.Pause 0) (facts_behind kinds facts)
-  pub under : UnderAt (after area.Pool) p line command t (line_behind kinds facts u)
+  pub under : UnderAt z (after area.Pool) p line command t (line_behind kinds facts u)
 
 -- the same of the actor's step, once its line has begun
 abbrev pub StepGoes : Sizes → View → ℕ → Line → Command → Place → Facts → Past → LineUnderWay → Type 0
@@ -164,7 +164,7 @@ GoesBy z v a line command task next kinds facts past u =
 module _ (z : Sizes) (v : View) (a : ℕ) (line : Line) (command : Command) (task : Task) (facts : Facts) (past : Past) (u : LineUnderWay)
     (R : RefinesBy z v task facts) where
   -- It tells nothing, where the line is under way as its next place asks.
-  pub goes_by : (next : Place) → UnderAt (words_after task v.words area.Pool) next line command (topics_by v a task) u
+  pub goes_by : (next : Place) → UnderAt z (words_after task v.words area.Pool) next line command (topics_by v a task) u
       → GoesBy z v a line command task next [] facts past u
   goes_by next under = record { allowed = tt; refines = R; under = under }
 

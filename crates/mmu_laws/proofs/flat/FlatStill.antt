@@ -67,11 +67,11 @@ access_still pool other (access.Leave (leaving.Reached frame value)) gfn op t u 
 access_still pool other _ gfn op t u still under = under
 
 -- A line under way is flat's still.
-pub under_still : (pool other : ℕ → ℕ) (p : Place) (command : Command) (h : Held) (u : LineUnderWay) → HeldStays pool other h.topics.search
-    → UnderIs pool p command h u → UnderIs other p command h u
-under_still pool other (place.Access p) (Access gfn word op) h u still under = (under.0, access_still pool other p gfn op h.topics u still under.1)
-under_still pool other _ (Access gfn word op) h u still under = under
-under_still pool other _ _ h u still under = under
+pub under_still : (z : Sizes) (pool other : ℕ → ℕ) (p : Place) (command : Command) (h : Held) (u : LineUnderWay) → HeldStays pool other h.topics.search
+    → UnderIs z pool p command h u → UnderIs z other p command h u
+under_still z pool other (place.Access p) (Access gfn word op) h u still under = (under.0, access_still pool other p gfn op h.topics u still under.1)
+under_still z pool other _ (Access gfn word op) h u still under = under
+under_still z pool other _ _ h u still under = under
 
 -- ---- Each step leaves the slot sets that other actors hold.
 

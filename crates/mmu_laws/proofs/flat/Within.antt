@@ -23,7 +23,7 @@ use Rattle.mmu_core.specs.lines.AccessSteps.{access_tells, exiting, fault_over}
 use Rattle.mmu_core.specs.lines.Forms.{outcome_at, tells_at}
 use Rattle.core_views.specs.declared.trace.HostChange.{HostChange}
 use Rattle.mmu_core.proofs.lines.Forms.{place_tells}
-use Rattle.mmu_core.proofs.lines.SimplePlaces.{Told, Nothing, Exit, Change, OfAccess, OfHost}
+use Rattle.mmu_core.proofs.lines.SimplePlaces.{Told, Nothing, Arms, ArmsClean, Exit, Change, OfAccess, OfHost}
 
 -- Each of the events stands within a line.
 abbrev pub AllWithin : List EventKind → Type 0
@@ -63,6 +63,8 @@ tells_within p command h v = by p command (tells_at p command h v) (place_tells 
     by : (q : Place) (c : Command) (kinds : List EventKind) → Told h v q c kinds → AllWithin kinds
     by _ _ _ Nothing = tt
     by q c _ (Exit no_frame) = exit_within (outcome_at q c h v)
-    by _ _ _ (Change id slot at) = (tt, tt)
+    by _ _ _ (Arms id at) = (tt, tt)
+    by _ _ _ (ArmsClean id index at seen) = (tt, tt)
+    by q c _ (Change id slot at more) = (tt, by q c _ more)
     by _ _ _ (OfAccess q gfn word op) = access_within q h gfn word op v
     by _ _ _ (OfHost q page change) = host_within q page change h v

@@ -4,7 +4,7 @@ use Rattle.std.proofs.lemmas.List.Elements.{All-append, All-cons, All-map, All-n
 use Rattle.std.specs.Prelude.{All, Bool, Option, Some, true, false, ◌==◌, if◌then◌else◌}
 use Rattle.core_views.specs.declared.event.Event.{Event}
 use Rattle.core_views.specs.declared.event.EventKind.{EventKind}
-use Rattle.core_views.specs.declared.event.EventKind.TheVariants.{Answered, Begun, BroughtIn, Exited, HostChanged, LookedAtHost}
+use Rattle.core_views.specs.declared.event.EventKind.TheVariants.{SlotChanged, Answered, Begun, BroughtIn, Exited, HostChanged, LookedAtHost}
 use Rattle.core_views.specs.declared.kind.Kind.{Kind}
 use Rattle.core_views.specs.declared.place.AccessPlace.{AccessPlace}
 use Rattle.core_views.specs.declared.place.AccessPlace.TheVariants.{Fault, Pause, Touch}
@@ -33,7 +33,8 @@ use Rattle.part_steps.specs.PartTasks.{page_looked, word_looked}
 use Rattle.mmu_core.specs.lines.Forms.{KnowsPart, note_at, outcome_at, part_at, tells_at}
 use Rattle.mmu_core.specs.lines.PartAt.{touch_at}
 use Rattle.mmu_core.proofs.lines.Forms.{place_tells}
-use Rattle.mmu_core.proofs.lines.SimplePlaces.{Told, Nothing, Exit, Change, OfAccess, OfHost}
+use Rattle.part_steps.specs.ControlBits.{has_to_flush}
+use Rattle.mmu_core.proofs.lines.SimplePlaces.{Told, Nothing, Arms, ArmsClean, Exit, Change, OfAccess, OfHost}
 use Rattle.part_steps.specs.declared.part_step.PartStep.{PartStep}
 use Rattle.mmu_core.specs.machine.Enabled.{mmu}
 use Rattle.mmu_core.specs.machine.Machine.{May, Step, World, answered, hand_in}
@@ -54,7 +55,7 @@ use Rattle.mmu_core.specs.machine.View.{view}
 use Rattle.mmu_core.proofs.lines.KnowsKept.{knows_at}
 use Rattle.mmu_core.proofs.machine.Which.{is_next}
 use Rattle.part_steps.specs.Tasks.{kind_of_task}
-use Rattle.mmu_laws.specs.steps.EventLaws.{IsOfKindOn, MayTell}
+use Rattle.mmu_laws.specs.steps.EventLaws.{HasAwaited, IsOfKindOn, MayTell}
 
 module _ (z : Sizes) (v : ℕ) where
   -- What a step with these numbers may tell, all of it.
@@ -127,6 +128,12 @@ module _ (h : Held) (v : ℕ) where
       subst (λ (s : Option PartStep). IsOfKindOn z kind.Publish area.Slots 0 (kind_of_task z (task_by s h (note_at p command h) (touch_at command h))))
       (sym at) (record { kind_is = refl; on = refl })
 
+  awaits : (p : Place) (command : Command) (index : ℕ) → part_at p command h ≡ Some (part.Await index) → has_to_flush v ≡ false
+      → HasAwaited z (kind_of_task z (task_at p command h)) v
+  awaits p command index at seen =
+      subst (λ (s : Option PartStep). HasAwaited z (kind_of_task z (task_by s h (note_at p command h) (touch_at command h))) v) (sym at)
+      (record { index = index; at = record { kind_is = refl; on = refl }; seen = seen })
+
   look_told : (own : Bool) (page : ℕ) → is_own z h.state.actor page ≡ own
       → AllMay z v (kind_of_task z (part_task (if own then part.Host page else part.Seq) (own_index h) h.topics (if own then 0 else 1)))
       (if own then LookedAtHost page ∷ [] else [])
@@ -154,7 +161,10 @@ module _ (h : Held) (v : ℕ) where
       → AllMay z v (kind_of_task z (task_at p command h)) kinds
   line_told p command _ Nothing K = none z v _
   line_told p command _ (Exit no_frame) K = exits_so z v _ (outcome_at p command h v)
-  line_told p command _ (Change id slot at) K = one z v _ _ (publishes p command at)
+  line_told p command _ (Arms id at) K = one z v _ _ (publishes p command at)
+  line_told p command _ (ArmsClean id index at seen) K = one z v _ _ (awaits p command index at seen)
+  line_told p command _ (Change id slot at more) K =
+      All-cons (MayTell z (kind_of_task z (task_at p command h)) v) (SlotChanged id slot) _ (publishes p command at) (line_told p command _ more K)
   line_told _ _ _ (OfAccess p gfn word op) K = access_told p gfn word op K
   line_told _ _ _ (OfHost p page change) K = host_told p page change K
 

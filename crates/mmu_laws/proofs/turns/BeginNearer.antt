@@ -32,7 +32,10 @@ use Rattle.mmu_core.proofs.lines.EitherPlace.{either_place, one_place}
 use Rattle.mmu_core.proofs.lines.SearchFalls.{flags_fall}
 use Rattle.mmu_core.proofs.lines.HostPlaces.{look_some}
 use Rattle.mmu_core.proofs.lines.SearchKnown.{may_search_alone, may_walk_alone, not_either}
-use Rattle.mmu_core.proofs.lines.SweepFalls.{root_falls, sweep_falls, zap_falls}
+use Rattle.mmu_core.proofs.lines.BeginSweeps.{frames_low, root_less, swept_falls}
+use Rattle.mmu_core.proofs.lines.SweepFalls.{leaf_falls, sweep_falls}
+use Rattle.mmu_core.proofs.lines.SweptSteps.{zapped_done}
+use Rattle.mmu_core.specs.lines.SweepSteps.{range_of}
 
 -- how many steps the line has left after a step of the begin
 abbrev pub begin_left_after : BeginNext → Sizes → ℕ → Topics → ℕ
@@ -108,10 +111,13 @@ begin_falls begins.SetCount z frames target t v few most K goes =
     let own_ = ap (λ (o : Invalidated). o.end - o.start) K.2 in
     let less = target_few target frames t.search few in
     omega (arith, own_, less)
-begin_falls (begins.Walk true) z frames target t v few most K goes = let S = K.1 refl in sweep_falls z frames target t v K.0 S.0 S.1.left
+begin_falls (begins.Walk true) z frames target t v few most K goes =
+    swept_falls _ z frames t _ _ (sweep_falls true (range_of t.invalidations.own) t.walk v (frames_low target t.invalidations.own K.0.of_own.few) (K.1 refl))
 begin_falls (begins.Walk false) z frames target t v few most K goes =
-    root_falls (may_walk t.stay t.hold) z frames t v (may_walk_alone t K.0.sweeping.with_lock.alone)
-begin_falls begins.Zap z frames target t v few most K goes = zap_falls z frames target t most K.0 K.1
+    root_less (may_walk t.stay t.hold) z frames t v (may_walk_alone t K.0.sweeping.with_lock.alone)
+begin_falls begins.Zap z frames target t v few most K goes =
+    swept_falls _ z frames t _ _
+    (leaf_falls true (range_of t.invalidations.own) t.walk 0 (frames_low target t.invalidations.own K.0.of_own.few) most K.1 (zapped_done true t.walk.level))
 begin_falls begins.Ask z frames target t v few most K goes =
     let lt = K.2 in
     one_place (λ q. begin_left q z frames (part_topics (part.Ask t.flush.asked) t v) < z.vcpus + 1 + (z.vcpus - t.flush.asked))

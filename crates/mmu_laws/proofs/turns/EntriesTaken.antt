@@ -104,15 +104,18 @@ module _ (z : Sizes) (w : World Held) (s : Step Kind) (G : IsSound z w) (gfn : �
           let forbids = protects.1 in
           let of_kind = named kind.Protect Z.level Z.prefix Z.page Z.at_page forbids.kind_is forbids.area_is forbids.index_is (λ written n. refl) in
           let is_found = finds kind.Protect Z.level Z.prefix Z.page Z.at_page forbids.kind_is forbids.area_is forbids.index_is (λ written n. refl) in
-          subst (λ (k : StepKind). TakesAway k z gfn write w s) (sym of_kind) (protects.0, record {
-            entry = entry_is kind.Protect Z.level Z.prefix Z.page Z.at_page forbids.kind_is forbids.area_is forbids.index_is (λ written n. refl);
-            was = ap (kind_of Z.level) is_found ∙ forbids.leaf;
-            allowed = ap can_write is_found ∙ forbids.allowed;
-            leaves =
-                leaves_by kind.Protect s.kind (found mmu w s.kind) of_kind
-                ∙ ap (bit_and (found mmu w s.kind)) (ap (λ (k : Kind). k.new) is ∙ forbids.writes)
-                ∙ protected_is (found mmu w s.kind) (subst (λ n. n < 2 ^ 64) (sym is_found) ((are_small z w G).each area.Pool _));
-          })
+          subst (λ (k : StepKind). TakesAway k z gfn write w s) (sym of_kind) (
+            protects.0,
+            record {
+              entry = entry_is kind.Protect Z.level Z.prefix Z.page Z.at_page forbids.kind_is forbids.area_is forbids.index_is (λ written n. refl);
+              was = ap (kind_of Z.level) is_found ∙ forbids.leaf;
+              allowed = ap can_write is_found ∙ forbids.allowed;
+              leaves =
+                  leaves_by kind.Protect s.kind (found mmu w s.kind) of_kind
+                  ∙ ap (bit_and (found mmu w s.kind)) (ap (λ (k : Kind). k.new) is ∙ forbids.writes)
+                  ∙ protected_is (found mmu w s.kind) (subst (λ n. n < 2 ^ 64) (sym is_found) ((are_small z w G).each area.Pool _));
+            },
+          )
 
 -- A step of a part that needs no line takes nothing away.
 never_takes : (step : PartStep) (own_ : ℕ) (t : Topics) (note : ℕ) → needs_line step ≡ false → takes_entries (part_task step own_ t note).kind ≡ true → ⊥

@@ -33,6 +33,7 @@ use Rattle.part_steps.specs.PartBounds.{PartRests}
 use Rattle.spte_words.specs.declared.area.Area.{Area}
 use Rattle.core_views.specs.declared.topics.Topics.{Topics}
 use Rattle.core_views.specs.declared.trace.Command.{Command}
+use Rattle.core_views.specs.declared.trace.Command.TheVariants.{ChangeHost}
 use Rattle.part_steps.specs.declared.task.Task.{Task}
 use Rattle.core_views.specs.Held.{Held}
 use Rattle.part_steps.specs.PartTasks.{page_looked, word_looked}
@@ -118,17 +119,17 @@ still_owner true frame (Some o) = refl
 still_owner false frame owned = refl
 
 -- Where it is lost, the page was seen absent, and found present.
-change_nearer : (won : Bool) (z : Sizes) (t : Topics) (v new_ : ℕ) → (v == word_looked t.host) ≡ won → IsStill (word_looked t.host) v
-    → Nearer (Goes (place.Host (if won then End ends.Exclude else Change))) z (record t {
+change_nearer : (c : Command) (won : Bool) (z : Sizes) (t : Topics) (v new_ : ℕ) → (v == word_looked t.host) ≡ won → IsStill (word_looked t.host) v
+    → Nearer (Goes (place.Host (if won then End ends.Exclude else Change))) c z (record t {
       host = Some (record { page = page_looked t.host; word = if won then new_ else v });
       watched = 0;
       frames = record t.frames { owned = frame_after won (host_frame (word_looked t.host)) t.frames.owned };
     }) (host_left Change z t)
-change_nearer true z t v new_ is still =
+change_nearer c true z t v new_ is still =
     let same = ap (λ (b : Bool). frees_left b z) (still_owner true (host_frame (word_looked t.host)) t.frames.owned) in
     omega (arith, same)
-change_nearer false z t v new_ is (inl same) = absurd (grind (arith, nat_tests))
-change_nearer false z t v new_ is (inr brought) =
+change_nearer c false z t v new_ is (inl same) = absurd (grind (arith, nat_tests))
+change_nearer c false z t v new_ is (inr brought) =
     let seen : ℕ = word_looked t.host in
     fewer_tries (host_present v) (host_present seen) (frees_left (moves t) z)
     (ap host_present brought.1 ∙ host_is_present (host_frame seen) true (host_allows_write seen) (host_level seen)) brought.0
@@ -146,12 +147,12 @@ frees_most true z = omega arith
 frees_most false z = omega arith
 
 -- The look leads to the claim, or to the begin.
-look_nearer : (moving own_ : Bool) (z : Sizes) (t u : Topics) → t.frames.owned ≡ None → u.frames ≡ t.frames
-    → Nearer (if own_ then Goes (place.Host (if moving then Claim false else Begin begins.Exclude)) else Ends (Refused OutOfRange)) z u
+look_nearer : (c : Command) (moving own_ : Bool) (z : Sizes) (t u : Topics) → t.frames.owned ≡ None → u.frames ≡ t.frames
+    → Nearer (if own_ then Goes (place.Host (if moving then Claim false else Begin begins.Exclude)) else Ends (Refused OutOfRange)) c z u
     (host_left (Look moving) z t)
-look_nearer moving false z t u none same = tt
-look_nearer true true z t u none same = omega arith
-look_nearer false true z t u none same =
+look_nearer c moving false z t u none same = tt
+look_nearer c true true z t u none same = omega arith
+look_nearer c false true z t u none same =
     let no : moves u ≡ false = ap (λ (f : HeldFrames). is_some f.owned) same ∙ ap is_some none in
     rw no (omega arith)
 
@@ -164,23 +165,23 @@ stored_moved : (owned : Option OwnedFrame) → is_some owned ≡ true → words_
 stored_moved None some = absurd (cc some)
 stored_moved (Some o) some = refl
 
-store_nearer : (more : Bool) (z : Sizes) (t : Topics) → is_some t.frames.owned ≡ true → words_moved t.frames.owned < z.words
-    → Nearer (Goes (place.Host (if more then Copy else Change))) z (record t { frames = record t.frames { owned = word_stored t.frames.owned } })
+store_nearer : (c : Command) (more : Bool) (z : Sizes) (t : Topics) → is_some t.frames.owned ≡ true → words_moved t.frames.owned < z.words
+    → Nearer (Goes (place.Host (if more then Copy else Change))) c z (record t { frames = record t.frames { owned = word_stored t.frames.owned } })
     (host_left Store z t)
-store_nearer true z t owns left = let stored = stored_moved t.frames.owned owns in omega (arith, stored, left)
-store_nearer false z t owns left =
+store_nearer c true z t owns left = let stored = stored_moved t.frames.owned owns in omega (arith, stored, left)
+store_nearer c false z t owns left =
     let few = few_tries (host_present (word_looked t.host)) in
     let most = frees_most (is_some (word_stored t.frames.owned)) z in
     omega (arith, few, most, left)
 
 -- ---- the invalidation
 
-begin_nearer : (moving : Bool) (next : BeginNext) (z : Sizes) (u : Topics) (n : ℕ) → moves u ≡ moving → begin_left_after next z 1 u < n
-    → Nearer (Goes (place.Host (after_begin moving next))) z u (n + 8 + (if moving then copies_left z None else 0) + frees_left moving z)
-begin_nearer true (begins_next.Goes p) z u n is less = rw is (omega (arith, less))
-begin_nearer false (begins_next.Goes p) z u n is less = rw is (omega (arith, less))
-begin_nearer true begins_next.Begun z u n is less = omega (arith, less)
-begin_nearer false begins_next.Begun z u n is less = let few = few_tries (host_present (word_looked u.host)) in rw is (omega (arith, less, few))
+begin_nearer : (c : Command) (moving : Bool) (next : BeginNext) (z : Sizes) (u : Topics) (n : ℕ) → moves u ≡ moving → begin_left_after next z 1 u < n
+    → Nearer (Goes (place.Host (after_begin moving next))) c z u (n + 8 + (if moving then copies_left z None else 0) + frees_left moving z)
+begin_nearer c true (begins_next.Goes p) z u n is less = rw is (omega (arith, less))
+begin_nearer c false (begins_next.Goes p) z u n is less = rw is (omega (arith, less))
+begin_nearer c true begins_next.Begun z u n is less = omega (arith, less)
+begin_nearer c false begins_next.Begun z u n is less = let few = few_tries (host_present (word_looked u.host)) in rw is (omega (arith, less, few))
 
 pub end_less : (p : EndPlace) (t : Topics) (v : ℕ) → part_waits (end_part p t) t v ≡ false → end_left_after (end_next p v) < end_left p
 end_less ends.Exclude t v goes =
@@ -191,41 +192,45 @@ end_less ends.Count t v goes = omega arith
 end_less ends.SetCount t v goes = omega arith
 end_less ends.Release t v goes = omega arith
 
-end_nearer : (moving : Bool) (next : EndNext) (z : Sizes) (u : Topics) (n : ℕ) → moves u ≡ moving → end_left_after next < n
-    → Nearer (after_end moving next) z u (n + frees_left moving z)
-end_nearer moving (ends_next.Goes q) z u n is less = rw is (omega (arith, less))
-end_nearer true ends_next.Ended z u n is less = omega (arith, less)
-end_nearer false ends_next.Ended z u n is less = tt
+end_nearer : (c : Command) (moving : Bool) (next : EndNext) (z : Sizes) (u : Topics) (n : ℕ) → moves u ≡ moving → end_left_after next < n
+    → Nearer (after_end moving next) c z u (n + frees_left moving z)
+end_nearer c moving (ends_next.Goes q) z u n is less = rw is (omega (arith, less))
+end_nearer c true ends_next.Ended z u n is less = omega (arith, less)
+end_nearer c false ends_next.Ended z u n is less = tt
 
 -- ---- each place
 
 pub host_nearer : (p : HostPlace) (page : ℕ) (change : HostChange) (h : Held) (v : ℕ) → PartRests h → HostKnows p page change h
     → FindsStill (Some (host_part p page change h)) h.topics v → part_waits (host_part p page change h) h.topics v ≡ false
-    → Nearer (host_outcome p page h v) h.state.sizes (part_topics (host_part p page change h) h.topics v) (host_left p h.state.sizes h.topics)
+    → Nearer (host_outcome p page h v) (ChangeHost page change) h.state.sizes (part_topics (host_part p page change h) h.topics v)
+    (host_left p h.state.sizes h.topics)
 host_nearer (Look moving) page change h v R K finds goes =
-    look_nearer moving (is_own h.state.sizes h.state.actor page) h.state.sizes h.topics (part_topics (host_part (Look moving) page change h) h.topics v) K.2
+    look_nearer (ChangeHost page change) moving (is_own h.state.sizes h.state.actor page) h.state.sizes h.topics
+    (part_topics (host_part (Look moving) page change h) h.topics v) K.2
     (either_place (λ s. (part_topics s h.topics v).frames ≡ h.topics.frames) (is_own h.state.sizes h.state.actor page) (part.Host page) part.Seq refl refl)
 host_nearer (Claim begun) page change h v R K finds goes =
     let z : Sizes = h.state.sizes in
     let u : Topics = part_topics (host_part (Claim begun) page change h) h.topics v in
     let low = word_there Frames begun z h.topics.frames.claim R.sizes K.2.within in
     let less = claim_falls z Frames begun h.topics v _ _ _ (claim_made z Frames begun h.topics v) goes low in
-    claim_nearer Frames (claim_next Frames begun z h.topics.frames.claim v) (place.Host (Claim true)) (place.Host (Begin begins.Exclude)) (Refused NoFrame) z u
+    claim_nearer Frames (claim_next Frames begun z h.topics.frames.claim v) (place.Host (Claim true)) (place.Host (Begin begins.Exclude)) (Refused NoFrame)
+    (ChangeHost page change) z u
     (2 * z.vcpus + 151 + copies_left z None + frees_left true z) (claim_left Frames begun z h.topics.frames.claim) less refl (begin_most (moves u) z)
 host_nearer (Begin p) page change h v R K finds goes =
     let same = ap (λ (f : HeldFrames). is_some f.owned) (begin_leaves_pages p (aim.Page page) h.topics v).frames in
-    begin_nearer (moves h.topics) (begin_next p h.state.sizes (aim.Page page) h.topics v) h.state.sizes _ (begin_left p h.state.sizes 1 h.topics) same
+    begin_nearer (ChangeHost page change) (moves h.topics) (begin_next p h.state.sizes (aim.Page page) h.topics v) h.state.sizes _
+    (begin_left p h.state.sizes 1 h.topics) same
     (begin_falls p h.state.sizes 1 (aim.Page page) h.topics v (omega arith) R.level K.1 goes)
 host_nearer Copy page change h v R K finds goes = let moved = copied_moved h.topics.frames.owned v in omega (arith, moved)
 host_nearer Store page change h v R K finds goes =
-    store_nearer (nat_lt (words_moved h.topics.frames.owned + 1) h.state.sizes.words) h.state.sizes h.topics K.2.owns K.2.left
+    store_nearer (ChangeHost page change) (nat_lt (words_moved h.topics.frames.owned + 1) h.state.sizes.words) h.state.sizes h.topics K.2.owns K.2.left
 host_nearer Change page change h v R K finds goes =
-    change_nearer (v == word_looked h.topics.host) h.state.sizes h.topics v (word_put change h.topics) refl finds
+    change_nearer (ChangeHost page change) (v == word_looked h.topics.host) h.state.sizes h.topics v (word_put change h.topics) refl finds
 host_nearer (End p) page change h v R K finds goes =
     let same = ap (λ (f : HeldFrames). is_some f.owned) (end_leaves_pages p h.topics v).frames in
-    end_nearer (moves h.topics) (end_next p v) h.state.sizes _ (end_left p) same (end_less p h.topics v goes)
+    end_nearer (ChangeHost page change) (moves h.topics) (end_next p v) h.state.sizes _ (end_left p) same (end_less p h.topics v goes)
 host_nearer Watch page change h v R K finds goes =
     let less = watch_falls (own_index h) (actors_of h.state.sizes) h.topics v _ _ (watch_made h v) goes K.3 in
-    watch_nearer (λ q. place.Host q) (watch_next h v) Watch Free h.state.sizes (part_topics (part.Watch (looked_at h)) h.topics v) 1
+    watch_nearer (λ q. place.Host q) (watch_next h v) Watch Free (ChangeHost page change) h.state.sizes (part_topics (part.Watch (looked_at h)) h.topics v) 1
     (actors_of h.state.sizes - h.topics.watched) less refl (omega arith)
 host_nearer Free page change h v R K finds goes = tt

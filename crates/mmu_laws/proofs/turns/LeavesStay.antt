@@ -194,14 +194,17 @@ module _ (access : Bool) (z : Sizes) (v : View) (a gfn : ℕ) (J : Invariant z v
             ∙ ap (kind_of t.walk.level) (ap after e ∙ upd_same pool here (without_write (pool here))) ∙ left_leaf z v a gfn S I;
         writes = λ writes_. absurd (cc (is, writes_));
       })))
-      by (inl e) true writes true is = inr (inr (inl (inr (is, record {
-        kind_is = refl;
-        area_is = refl;
-        index_is = sym e;
-        writes = refl;
-        leaf = was_leaf e;
-        allowed = ap (λ i. can_write (pool i)) e ∙ writes;
-      }))))
+      by (inl e) true writes true is = inr (inr (inl (inr (
+        is,
+        record {
+          kind_is = refl;
+          area_is = refl;
+          index_is = sym e;
+          writes = refl;
+          leaf = was_leaf e;
+          allowed = ap (λ i. can_write (pool i)) e ∙ writes;
+        },
+      ))))
 
 -- a step of a part
 abbrev task_in : View → ℕ → PartStep → ℕ → Task

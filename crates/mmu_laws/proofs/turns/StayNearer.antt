@@ -15,6 +15,7 @@ use Rattle.core_views.specs.declared.place.Place.TheVariants as place
 use Rattle.core_views.specs.declared.sizes.Sizes.{Sizes}
 use Rattle.core_views.specs.declared.topics.Stay.{Stay}
 use Rattle.core_views.specs.declared.topics.Topics.{Topics}
+use Rattle.core_views.specs.declared.trace.Command.{Command}
 use Rattle.core_views.specs.declared.trace.Command.TheVariants.{Access}
 use Rattle.core_views.specs.declared.trace.Op.{Op}
 use Rattle.core_views.specs.Held.{Held}
@@ -55,38 +56,38 @@ second_of_none false b is = is
 
 -- ---- the stay in the guest
 
-pause_nearer : (used : Option Translation) (again : Bool) (y : Sizes) (t u : Topics)
-    → Nearer (Goes (place.Access (pause_next again used))) y u (6 + stay_left again y t)
-pause_nearer None again y t u = let same : stay_left again y u ≡ stay_left again y t = refl in omega (arith, same)
-pause_nearer (Some used) again y t u = omega arith
+pause_nearer : (c : Command) (used : Option Translation) (again : Bool) (y : Sizes) (t u : Topics)
+    → Nearer (Goes (place.Access (pause_next again used))) c y u (6 + stay_left again y t)
+pause_nearer c None again y t u = let same : stay_left again y u ≡ stay_left again y t = refl in omega (arith, same)
+pause_nearer c (Some used) again y t u = omega arith
 
-root_nearer : (again holds : Bool) (y : Sizes) (t : Topics) (v : ℕ) → holds ≡ true
-    → Nearer (Goes (place.Access (Walk again))) y (record t { walk = at_root holds t.walk v }) (5 + stay_left again y t)
-root_nearer again true y t v is = let same : stay_left again y (record t { walk = at_root true t.walk v }) ≡ stay_left again y t = refl in omega (arith, same)
-root_nearer again false y t v is = absurd (cc is)
+root_nearer : (c : Command) (again holds : Bool) (y : Sizes) (t : Topics) (v : ℕ) → holds ≡ true
+    → Nearer (Goes (place.Access (Walk again))) c y (record t { walk = at_root holds t.walk v }) (5 + stay_left again y t)
+root_nearer c again true y t v is = let same : stay_left again y (record t { walk = at_root true t.walk v }) ≡ stay_left again y t = refl in omega (arith, same)
+root_nearer c again false y t v is = absurd (cc is)
 
 -- It leaves for a fault in the first stay alone, but for a delay.
-leaves_nearer : (again fast : Bool) (level : ℕ) (y : Sizes) (t u : Topics) → (again && true) ≡ false → 1 ≤ level
-    → Nearer (Goes (place.Access (Leave (leaving.Faults fast)))) y u (level + stay_left again y t)
-leaves_nearer true fast level y t u on from = absurd (cc on)
-leaves_nearer false fast level y t u on from =
+leaves_nearer : (c : Command) (again fast : Bool) (level : ℕ) (y : Sizes) (t u : Topics) → (again && true) ≡ false → 1 ≤ level
+    → Nearer (Goes (place.Access (Leave (leaving.Faults fast)))) c y u (level + stay_left again y t)
+leaves_nearer c true fast level y t u on from = absurd (cc on)
+leaves_nearer c false fast level y t u on from =
     let same : fault_left fault.FastBegin y u ≡ fault_left fault.FastBegin y t = refl in omega (arith, same, from)
 
-walk_nearer : (k : SpteKind) (allowed again : Bool) (gfn : ℕ) (y : Sizes) (t : Topics) (v : ℕ) → kind_of t.walk.level v ≡ k → 1 ≤ t.walk.level
+walk_nearer : (c : Command) (k : SpteKind) (allowed again : Bool) (gfn : ℕ) (y : Sizes) (t : Topics) (v : ℕ) → kind_of t.walk.level v ≡ k → 1 ≤ t.walk.level
     → (again && leaves_to_fault (Goes (place.Access (stay_next again k allowed)))) ≡ false
-    → Nearer (Goes (place.Access (stay_next again k allowed))) y (record t {
+    → Nearer (Goes (place.Access (stay_next again k allowed))) c y (record t {
       walk =
           gone_down (linked_page k) t.walk (entry_index gfn t.walk.level) v;
     }) (t.walk.level + stay_left again y t)
-walk_nearer (entry_kind.Table page) allowed again gfn y t v is from on =
+walk_nearer c (entry_kind.Table page) allowed again gfn y t v is from on =
     let same : stay_left again y (record t { walk = gone_down (Some page) t.walk (entry_index gfn t.walk.level) v }) ≡ stay_left again y t = refl in
     let upper : 2 ≤ t.walk.level = above_lowest t.walk.level v page from is in
     omega (arith, same, upper)
-walk_nearer entry_kind.Leaf true again gfn y t v is from on = let two = two_left again y t in omega (arith, from, two)
-walk_nearer entry_kind.Leaf false again gfn y t v is from on =
-    leaves_nearer again true t.walk.level y t (record t { walk = gone_down None t.walk (entry_index gfn t.walk.level) v }) on from
-walk_nearer _ _ again gfn y t v is from on =
-    leaves_nearer again false t.walk.level y t (record t { walk = gone_down None t.walk (entry_index gfn t.walk.level) v }) on from
+walk_nearer c entry_kind.Leaf true again gfn y t v is from on = let two = two_left again y t in omega (arith, from, two)
+walk_nearer c entry_kind.Leaf false again gfn y t v is from on =
+    leaves_nearer c again true t.walk.level y t (record t { walk = gone_down None t.walk (entry_index gfn t.walk.level) v }) on from
+walk_nearer c _ _ again gfn y t v is from on =
+    leaves_nearer c again false t.walk.level y t (record t { walk = gone_down None t.walk (entry_index gfn t.walk.level) v }) on from
 
 -- ---- the fault
 
@@ -103,32 +104,34 @@ not_anew : (p : FaultPlace) (z : Sizes) (gfn : ℕ) (write : Bool) (t : Topics) 
 not_anew (fault.End e) z gfn write t v is = ends_not_anew e is
 not_anew _ z gfn write t v is = tt
 
-fault_nearer : (n : FaultNext) (y : Sizes) (u : Topics) (left : ℕ) → NotAnew n → next_left n y u < left → Nearer (behind_fault n) y u (left + 9)
-fault_nearer (next_of.Goes p) y u left on less = omega (arith, less)
-fault_nearer (next_of.Ends end_of.Installed) y u left on less = omega (arith, less)
-fault_nearer (next_of.Ends end_of.Mmio) y u left on less = tt
-fault_nearer (next_of.Ends end_of.HostFault) y u left on less = tt
-fault_nearer (next_of.Ends end_of.Starved) y u left on less = tt
-fault_nearer (next_of.Ends (end_of.Fixed marked)) y u left on less = omega (arith, less)
-fault_nearer (next_of.Ends (end_of.NotFast seen)) y u left on less = omega (arith, less)
-fault_nearer (next_of.Ends (end_of.Retry fast cause)) y u left on less = absurd on
+fault_nearer : (c : Command) (n : FaultNext) (y : Sizes) (u : Topics) (left : ℕ) → NotAnew n → next_left n y u < left → Nearer (behind_fault n) c y u (left + 9)
+fault_nearer c (next_of.Goes p) y u left on less = omega (arith, less)
+fault_nearer c (next_of.Ends end_of.Installed) y u left on less = omega (arith, less)
+fault_nearer c (next_of.Ends end_of.Mmio) y u left on less = tt
+fault_nearer c (next_of.Ends end_of.HostFault) y u left on less = tt
+fault_nearer c (next_of.Ends end_of.Starved) y u left on less = tt
+fault_nearer c (next_of.Ends (end_of.Fixed marked)) y u left on less = omega (arith, less)
+fault_nearer c (next_of.Ends (end_of.NotFast seen)) y u left on less = omega (arith, less)
+fault_nearer c (next_of.Ends (end_of.Retry fast cause)) y u left on less = absurd on
 
 -- ---- each place
 
 module _ (h : Held) (gfn word : ℕ) (op : Op) (v : ℕ) (small : gfn < 2 ^ 36) (R : PartRests h) where
   pub access_nearer : (p : AccessPlace) → AccessKnows p gfn (is_write op) h
       → is_delay (place.Access p) (Access gfn word op) h (access_outcome p h gfn op v) v ≡ false
-      → Nearer (access_outcome p h gfn op v) h.state.sizes (behind_part (access_part p gfn h.topics) h.topics v) (access_left p h.state.sizes h.topics)
+      → Nearer (access_outcome p h gfn op v) (Access gfn word op) h.state.sizes (behind_part (access_part p gfn h.topics) h.topics v)
+      (access_left p h.state.sizes h.topics)
   access_nearer (Enter again) K on =
       let same : stay_left again h.state.sizes (behind_part (access_part (Enter again) gfn h.topics) h.topics v)
       ≡ stay_left again h.state.sizes h.topics =
       refl in
       omega (arith, same)
-  access_nearer (Pause again) K on = pause_nearer (first_usable gfn (is_write op) h.cached.items) again h.state.sizes h.topics _
+  access_nearer (Pause again) K on = pause_nearer (Access gfn word op) (first_usable gfn (is_write op) h.cached.items) again h.state.sizes h.topics _
   access_nearer (Root again) K on =
-      root_nearer again (may_walk h.topics.stay h.topics.hold) h.state.sizes h.topics v (ap (λ (s : Stay). may_walk s h.topics.hold) K.guest)
+      root_nearer (Access gfn word op) again (may_walk h.topics.stay h.topics.hold) h.state.sizes h.topics v
+      (ap (λ (s : Stay). may_walk s h.topics.hold) K.guest)
   access_nearer (Walk again) K on =
-      walk_nearer (kind_of h.topics.walk.level v) (allows_access (is_write op) v) again gfn h.state.sizes h.topics v refl K.1.there on
+      walk_nearer (Access gfn word op) (kind_of h.topics.walk.level v) (allows_access (is_write op) v) again gfn h.state.sizes h.topics v refl K.1.there on
   access_nearer Touch K on = omega arith
   access_nearer (Leave (leaving.Reached frame value)) K on = tt
   access_nearer (Leave (leaving.Faults true)) K on =
@@ -147,7 +150,8 @@ module _ (h : Held) (gfn word : ℕ) (op : Op) (v : ℕ) (small : gfn < 2 ^ 36) 
       let more =
       second_of_none (part_waits (fault_part p gfn h.topics) h.topics v)
       (begins_anew (place.Access (Fault p)) || (walks_again (place.Access (Fault p)) && leaves_to_fault o)) on in
-      fault_nearer (fault_next p h.state.sizes gfn (is_write op) h.topics v) h.state.sizes (part_topics (fault_part p gfn h.topics) h.topics v)
+      fault_nearer (Access gfn word op) (fault_next p h.state.sizes gfn (is_write op) h.topics v) h.state.sizes
+      (part_topics (fault_part p gfn h.topics) h.topics v)
       (fault_left p h.state.sizes h.topics)
       (not_anew p h.state.sizes gfn (is_write op) h.topics v (first_of_none (begins_anew (place.Access (Fault p)))
       (walks_again (place.Access (Fault p)) && leaves_to_fault o) more)) (fault_falls p h gfn v (is_write op) small R K goes)

@@ -30,7 +30,7 @@ use Rattle.mmu_laws.specs.turns.TurnLaws.{CountFits, CountsOn}
 use Rattle.mmu_core.specs.machine.Turns.{line_of}
 use Rattle.mmu_core.specs.machine.View.{View, answer_in, hand_after, view, word_in}
 use Rattle.mmu_core.specs.machine.Worlds.{IsStart, Reachable}
-use Rattle.mmu_core.proofs.invariant.HandLeft.{hand_few, hand_some, left_there}
+use Rattle.mmu_core.proofs.invariant.HandLeft.{hand_few, hand_some, left_of}
 use Rattle.mmu_core.proofs.lines.Forms.{most_small, place_few}
 use Rattle.mmu_core.proofs.machine.Columns.{at_upd}
 use Rattle.mmu_core.proofs.invariant.PartBounded.{part_rests_at}
@@ -57,19 +57,21 @@ stood_fits place.Between h n left bounded under = omega (arith, bounded)
 stood_fits _ h n left bounded under = under tt
 
 -- Behind a delay nothing is counted, and else one step more, of which there was one left.
-delay_fits : (delay : Bool) (o : Outcome) (y : Sizes) (u : Topics) (n left most : ℕ) → n + left ≤ most → 0 < left → (delay ≡ false → Nearer o y u left)
-    → (IsUnderWay (place_after o) → steps_left (place_after o) y u ≤ most)
-    → (steps_counted delay n ≤ most) × (IsUnderWay (place_after o) → steps_counted delay n + steps_left (place_after o) y u ≤ most)
-delay_fits true o y u n left most fits some nearer bounded = (omega (arith, fits), λ under. let few = bounded under in omega (arith, few))
-delay_fits false (Goes p) y u n left most fits some nearer bounded =
-    let less : steps_left p y u < left = nearer refl in
+delay_fits : (delay : Bool) (o : Outcome) (c : Command) (y : Sizes) (u : Topics) (n left most : ℕ) → n + left ≤ most → 0 < left
+    → (delay ≡ false → Nearer o c y u left)
+    → (IsUnderWay (place_after o) → steps_left (place_after o) c y u ≤ most)
+    → (steps_counted delay n ≤ most) × (IsUnderWay (place_after o) → steps_counted delay n + steps_left (place_after o) c y u ≤ most)
+delay_fits true o c y u n left most fits some nearer bounded = (omega (arith, fits), λ under. let few = bounded under in omega (arith, few))
+delay_fits false (Goes p) c y u n left most fits some nearer bounded =
+    let less : steps_left p c y u < left = nearer refl in
     let more = one_more_few n in
     (omega (arith, fits, some, more), λ under. omega (arith, fits, less, more))
-delay_fits false (Ends answer) y u n left most fits some nearer bounded = let more = one_more_few n in (omega (arith, fits, some, more), λ under. absurd under)
+delay_fits false (Ends answer) c y u n left most fits some nearer bounded =
+    let more = one_more_few n in (omega (arith, fits, some, more), λ under. absurd under)
 
 fits_by : (g : Held) (q : Place) (y : Sizes) (command : Command) (n : ℕ) → g.state.place ≡ q → g.state.sizes ≡ y → g.state.line.command ≡ command
     → g.state.steps ≡ n
-    → (n ≤ most_steps y command) × (IsUnderWay q → n + steps_left q y g.topics ≤ most_steps y command) → CountFits g
+    → (n ≤ most_steps y command) × (IsUnderWay q → n + steps_left q command y g.topics ≤ most_steps y command) → CountFits g
 fits_by g q y command n stands sizes is steps fits =
     let most : most_steps g.state.sizes g.state.line.command ≡ most_steps y command =
     ap (λ x. most_steps x g.state.line.command) sizes ∙ ap (most_steps y) is in
@@ -78,7 +80,8 @@ fits_by g q y command n stands sizes is steps fits =
       with_left = λ under.
           let there : IsUnderWay q = subst IsUnderWay stands under in
           let both = fits.1 there in
-          let left : hand_left g ≡ steps_left q y g.topics = left_there q g stands there ∙ ap (λ (x : Sizes). steps_left q x g.topics) sizes in
+          let left : hand_left g ≡ steps_left q command y g.topics =
+          left_of q g command stands there is ∙ ap (λ (x : Sizes). steps_left q command x g.topics) sizes in
           omega (arith, both, most, left, steps);
     }
 
@@ -140,14 +143,14 @@ module _ (z : Sizes) (w : World Held) (s : Step Kind) (G : IsSound z w) (may : M
 
     -- where it goes on to, it has no more left than its command allows
     next_few : IsUnderWay (place_after (outcome_at stood line.command h x))
-        → steps_left (place_after (outcome_at stood line.command h x)) h.state.sizes after.topics ≤ most_steps h.state.sizes line.command
+        → steps_left (place_after (outcome_at stood line.command h x)) line.command h.state.sizes after.topics ≤ most_steps h.state.sizes line.command
     next_few under =
         let next = good_step z w s G may in
         let u : View = view z (effect mmu w s) in
         let here : u.hand a ≡ after = hand_behind z w s G may T.has in
         let level : after.topics.walk.level ≤ 4 = subst (λ (g : Held). g.topics.walk.level ≤ 4) here (part_rests_at z u a next.holds next.topics there).level in
         let sizes : after.state.sizes ≡ h.state.sizes = same_sizes z w s G may T.has in
-        subst (λ (y : Sizes). steps_left (place_after (outcome_at stood line.command h x)) y after.topics ≤ most_steps y line.command) sizes
+        subst (λ (y : Sizes). steps_left (place_after (outcome_at stood line.command h x)) line.command y after.topics ≤ most_steps y line.command) sizes
         (place_few (place_after (outcome_at stood line.command h x)) line.command z (u.words area.Pool) (u.words area.Slots 0) after
         (subst (λ (g : Held). Holds z (u.words area.Pool) (u.words area.Slots 0) g.state.place g.state.line.command g) here (next.holds.loads a there))
         (subst (λ (g : Held). KnowsPart g.state.place g.state.line.command g) here (next.holds.knows a there)) (subst AreSizes (sym sizes) R.sizes) level)
@@ -157,7 +160,8 @@ module _ (z : Sizes) (w : World Held) (s : Step Kind) (G : IsSound z w) (may : M
         fits_by after (place_after (outcome_at stood line.command h x)) h.state.sizes line.command
         (steps_counted (delays_at stood line.command h x) (counted h.state.place h.state.steps))
         refl (same_sizes z w s G may T.has) refl refl
-        (delay_fits (delays_at stood line.command h x) (outcome_at stood line.command h x) h.state.sizes after.topics (counted h.state.place h.state.steps)
+        (delay_fits (delays_at stood line.command h x) (outcome_at stood line.command h x) line.command h.state.sizes after.topics
+        (counted h.state.place h.state.steps)
         (hand_left h)
         (most_steps h.state.sizes line.command) here_fits (hand_some h) (nearer_here z w s G may T.has) next_few)
 

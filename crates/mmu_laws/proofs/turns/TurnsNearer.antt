@@ -41,7 +41,7 @@ use Rattle.mmu_core.specs.machine.Turns.{outcome_of}
 use Rattle.mmu_core.specs.machine.View.{View, answer_in, hand_after, view, word_in}
 use Rattle.mmu_laws.proofs.leaves.LeadsDown.{is_leaf_here}
 use Rattle.mmu_core.proofs.machine.Columns.{upd_same}
-use Rattle.mmu_core.proofs.invariant.HandLeft.{left_there}
+use Rattle.mmu_core.proofs.invariant.HandLeft.{left_of}
 use Rattle.mmu_core.proofs.lines.Forms.{first_goes, first_no_end, outcome_goes}
 use Rattle.mmu_core.proofs.machine.GoesOn.{GoesUnderWay}
 use Rattle.mmu_core.proofs.lines.KnowsKept.{knows_at}
@@ -115,10 +115,10 @@ where_it_stands _ y slots c h v is = is
 -- So each step comes nearer that is no delay, where what its hand has looked up of its actor's own pages is their words, as in every sound world.
 pub place_nearer : (p : Place) (c : Command) (z : Sizes) (h : Held) (words : Area → ℕ → ℕ) → IsUnderWay p → IsCommandFor z h.state.actor c
     → PartRests h → RestsAt p c h → KnowsPart p c h → OwnWords h (words area.Host) → delays_at p c h (answer_in (task_at p c h) words) ≡ false
-    → Nearer (outcome_at p c h (answer_in (task_at p c h) words)) h.state.sizes (topics_at p c h words) (steps_left p h.state.sizes h.topics)
+    → Nearer (outcome_at p c h (answer_in (task_at p c h) words)) c h.state.sizes (topics_at p c h words) (steps_left p c h.state.sizes h.topics)
 place_nearer p c z h words begun may rests R K looks on =
     let v : ℕ = answer_in (task_at p c h) words in
-    subst (λ (t : Topics). Nearer (outcome_at p c h v) h.state.sizes t (steps_left p h.state.sizes h.topics)) (sym (topics_of_step p c h v R))
+    subst (λ (t : Topics). Nearer (outcome_at p c h v) c h.state.sizes t (steps_left p c h.state.sizes h.topics)) (sym (topics_of_step p c h v R))
     (form_nearer p c z h v begun may rests K (finds_at p c h words R looks) on)
 
 -- ---- from world to world
@@ -127,12 +127,13 @@ pub has_left : (h : Held) → has_line h ≡ true → length h.answers < length 
 has_left h has = grind (arith, nat_tests)
 
 -- The hand after a step stands there, with these topics.
-pub nearer_hand : (g : Held) (o : Outcome) (p : Place) (y : Sizes) (n : ℕ) → o ≡ Goes p → GoesUnderWay o → g.state.place ≡ place_after o → g.state.sizes ≡ y
-    → Nearer o y g.topics n → hand_left g < n
-nearer_hand g o p y n is under stands sizes N =
-    let less : steps_left p y g.topics < n = subst (λ (q : Outcome). Nearer q y g.topics n) is N in
-    let left : hand_left g ≡ steps_left p y g.topics =
-    left_there p g (stands ∙ ap place_after is) (subst GoesUnderWay is under) ∙ ap (λ (x : Sizes). steps_left p x g.topics) sizes in
+pub nearer_hand : (g : Held) (o : Outcome) (p : Place) (line : Line) (y : Sizes) (n : ℕ) → o ≡ Goes p → GoesUnderWay o → g.state.place ≡ place_after o
+    → g.state.line ≡ line → g.state.sizes ≡ y → Nearer o line.command y g.topics n → hand_left g < n
+nearer_hand g o p line y n is under stands line_is sizes N =
+    let less : steps_left p line.command y g.topics < n = subst (λ (q : Outcome). Nearer q line.command y g.topics n) is N in
+    let left : hand_left g ≡ steps_left p line.command y g.topics =
+    left_of p g line.command (stands ∙ ap place_after is) (subst GoesUnderWay is under) (ap (λ (l : Line). l.command) line_is)
+    ∙ ap (λ (x : Sizes). steps_left p line.command x g.topics) sizes in
     omega (arith, less, left)
 
 -- A step of a line that may be made, and the hand after it.
@@ -174,7 +175,7 @@ module _ (z : Sizes) (w : World Held) (s : Step Kind) (G : IsSound z w) (may : M
   same_sizes = sym (ap (λ (g : Held). g.state.sizes) hand_behind) ∙ ((good_step z w s G may).holds.lines a there).sizes ∙ sym sizes
 
   -- What is no delay leaves fewer steps.
-  pub nearer_here : delays_at stood line.command h x ≡ false → Nearer (outcome_at stood line.command h x) h.state.sizes after.topics (hand_left h)
+  pub nearer_here : delays_at stood line.command h x ≡ false → Nearer (outcome_at stood line.command h x) line.command h.state.sizes after.topics (hand_left h)
   nearer_here on =
       let S = taken.is_step in
       place_nearer stood line.command z h words S.begun (subst (λ y. IsCommandFor z y line.command) S.own S.allowed)
@@ -191,5 +192,5 @@ module _ (z : Sizes) (w : World Held) (s : Step Kind) (G : IsSound z w) (may : M
       let none : delays_at stood line.command h x ≡ false = none_of (line_waits stood line.command h x) (begins_anew stood) (misses x)
       (ap (line_waits stood line.command h) (sym taken.answers) ∙ goes) on (ap misses (sym taken.answers) ∙ finds) in
       subst (λ (g : Held). hand_left g < hand_left h) (sym hand_behind)
-      (nearer_hand after (outcome_at stood line.command h x) p h.state.sizes (hand_left h) (ap (outcome_at stood line.command h) (sym taken.answers) ∙ out)
-      (outcome_goes stood line.command h x taken.is_step.begun) refl same_sizes (nearer_here none))
+      (nearer_hand after (outcome_at stood line.command h x) p line h.state.sizes (hand_left h) (ap (outcome_at stood line.command h) (sym taken.answers) ∙ out)
+      (outcome_goes stood line.command h x taken.is_step.begun) refl refl same_sizes (nearer_here none))

@@ -1,7 +1,7 @@
 -- The words and hands as flat guest memory: the facts that the words stand for, and the lines that the hands have under way.
 use Rattle.core_views.specs.declared.place.HostPlace.{HostPlace}
 use Rattle.core_views.specs.declared.place.HostPlace.TheVariants as host_at
-use Rattle.std.specs.Prelude.{◌≡◌, ◌<◌, ◌==◌, ℕ, All, Option, Some, true, false, not}
+use Rattle.std.specs.Prelude.{◌≡◌, ◌<◌, ◌==◌, ◌&&◌, ℕ, All, Bool, Option, Some, true, false, not, if◌then◌else◌}
 use Rattle.core_views.specs.declared.place.AccessPlace.{AccessPlace}
 use Rattle.core_views.specs.declared.place.AccessPlace.TheVariants as access
 use Rattle.core_views.specs.declared.place.FaultEnd.{FaultEnd}
@@ -12,7 +12,7 @@ use Rattle.core_views.specs.declared.place.Leaving.TheVariants as leaving
 use Rattle.core_views.specs.declared.place.Place.{Place}
 use Rattle.core_views.specs.declared.place.Place.TheVariants as place
 use Rattle.core_views.specs.declared.place.SlotChangePlace.{SlotChangePlace}
-use Rattle.core_views.specs.declared.place.SlotChangePlace.TheVariants.{Release, End, Watch, Clear, Give}
+use Rattle.core_views.specs.declared.place.SlotChangePlace.TheVariants.{Release, End, Watch, WriteProtect, Clear, Give}
 use Rattle.core_views.specs.declared.sizes.Sizes.{Sizes}
 use Rattle.core_views.specs.declared.topics.HostLook.{HostLook}
 use Rattle.core_views.specs.declared.topics.SlotSearch.{SlotSearch}
@@ -21,11 +21,13 @@ use Rattle.core_views.specs.declared.trace.Command.{Command}
 use Rattle.core_views.specs.declared.trace.Command.TheVariants.{Access, ChangeHost}
 use Rattle.core_views.specs.declared.trace.Line.{Line}
 use Rattle.core_views.specs.declared.trace.Op.{Op}
-use Rattle.core_views.specs.Flat.{Facts, Flat, LineUnderWay, Notes, Fresh, HasAccessed, HasChanged, Idle, HasChangedHost}
+use Rattle.core_views.specs.Flat.{Facts, Flat, LineUnderWay, Notes, Fresh, HasAccessed, HasArmed, HasChanged, HasChangedHost, Idle, Stage}
 use Rattle.core_views.specs.Held.{Held}
 use Rattle.core_views.specs.Host.{is_denied}
 use Rattle.core_views.specs.HostChanges.{Agree}
 use Rattle.core_views.specs.Lawful.{SawForbidden, SawNoPage, SawPage}
+use Rattle.core_views.specs.LogCommands.{is_all_set}
+use Rattle.core_views.specs.SlotCommands.{arms}
 use Rattle.core_views.specs.Sizes.{actors_of}
 use Rattle.core_views.specs.Slots.{Slots, contains, page_behind}
 use Rattle.spte_words.specs.Areas.{content_index}
@@ -106,14 +108,19 @@ AccessUnder pool (access.Fault p) gfn op t u = Runs u × NotedAt pool p gfn op t
 AccessUnder pool (access.Leave (leaving.Reached frame value)) gfn op t u = u.stage ≡ HasAccessed frame value
 AccessUnder pool _ gfn op t u = Runs u
 
--- A slot line has done nothing yet, up to its publication; after it, it has changed its slot.
-abbrev pub SlotChangeUnder : SlotChangePlace → LineUnderWay → Type 0
-SlotChangeUnder Release u = u.stage ≡ HasChanged
-SlotChangeUnder (End p) u = u.stage ≡ HasChanged
-SlotChangeUnder Watch u = u.stage ≡ HasChanged
-SlotChangeUnder Clear u = u.stage ≡ HasChanged
-SlotChangeUnder Give u = u.stage ≡ HasChanged
-SlotChangeUnder _ u = u.stage ≡ Fresh
+-- A slot line has done nothing yet, up to its publication; after it, it has changed its slot. A log has begun then where each page is dirty as it does, and
+-- else once writes are forbidden.
+abbrev pub changed_stage : Bool → Command → Stage
+changed_stage begun command = if begun && arms command then HasArmed else HasChanged
+
+abbrev pub SlotChangeUnder : SlotChangePlace → Sizes → Command → LineUnderWay → Type 0
+SlotChangeUnder Release z command u = u.stage ≡ changed_stage (is_all_set z.mode) command
+SlotChangeUnder (End p) z command u = u.stage ≡ changed_stage (is_all_set z.mode) command
+SlotChangeUnder Watch z command u = u.stage ≡ changed_stage (is_all_set z.mode) command
+SlotChangeUnder (WriteProtect range p) z command u = u.stage ≡ HasChanged
+SlotChangeUnder Clear z command u = u.stage ≡ changed_stage true command
+SlotChangeUnder Give z command u = u.stage ≡ changed_stage true command
+SlotChangeUnder _ z command u = u.stage ≡ Fresh
 
 -- A host line has done nothing yet, up to its change, and from its first step on it has looked at its page, which its word maps so, but that the page may have
 -- been brought in since; after it, it has changed the page, to the word that it has put.
@@ -125,18 +132,18 @@ HostUnder host_at.Free page t u = u.stage ≡ HasChangedHost (entry_of (word_loo
 HostUnder _ page t u = (u.stage ≡ Fresh) × ((seen : HostEntry) × (u.notes.host page ≡ Some seen) × Agree seen (entry_of (word_looked t.host)))
 
 -- The line under way is this one, with this command, at this place, and its actor holds these topics.
-abbrev pub UnderAt : (ℕ → ℕ) → Place → Line → Command → Topics → LineUnderWay → Type 0
-UnderAt pool place.Between line command t u = u.stage ≡ Idle
-UnderAt pool (place.Access p) line (Access gfn word op) t u = (u.line ≡ line) × AccessUnder pool p gfn op t u
-UnderAt pool (place.SlotChange p) line command t u = (u.line ≡ line) × SlotChangeUnder p u
-UnderAt pool (place.Host p) line (ChangeHost page change) t u = (u.line ≡ line) × HostUnder p page t u
-UnderAt pool _ line command t u = ⊥
+abbrev pub UnderAt : Sizes → (ℕ → ℕ) → Place → Line → Command → Topics → LineUnderWay → Type 0
+UnderAt z pool place.Between line command t u = u.stage ≡ Idle
+UnderAt z pool (place.Access p) line (Access gfn word op) t u = (u.line ≡ line) × AccessUnder pool p gfn op t u
+UnderAt z pool (place.SlotChange p) line command t u = (u.line ≡ line) × SlotChangeUnder p z command u
+UnderAt z pool (place.Host p) line (ChangeHost page change) t u = (u.line ≡ line) × HostUnder p page t u
+UnderAt z pool _ line command t u = ⊥
 
 -- The hand's line under way is the flat one.
-abbrev pub UnderIs : (ℕ → ℕ) → Place → Command → Held → LineUnderWay → Type 0
-UnderIs pool p command h u = UnderAt pool p h.state.line command h.topics u
+abbrev pub UnderIs : Sizes → (ℕ → ℕ) → Place → Command → Held → LineUnderWay → Type 0
+UnderIs z pool p command h u = UnderAt z pool p h.state.line command h.topics u
 
 pub record FlatInvariant (z : Sizes) (v : View) (f : Flat) : Type 0 where
   pub refines : Refines z (v.words area.Slots 0) (v.words area.Pool) (v.words area.Host) (v.words area.Content) (v.words area.Pause 0) f.facts
   pub under : (i : ℕ) → i < actors_of z
-      → UnderIs (v.words area.Pool) (v.hand i).state.place (v.hand i).state.line.command (v.hand i) (f.under (v.hand i).state.actor)
+      → UnderIs z (v.words area.Pool) (v.hand i).state.place (v.hand i).state.line.command (v.hand i) (f.under (v.hand i).state.actor)

@@ -3,7 +3,8 @@
 use Rattle.std.specs.Prelude.{◌≡◌, ℕ, All, true, false}
 use Rattle.core_views.specs.declared.event.Event.{Event}
 use Rattle.core_views.specs.declared.event.EventKind.{EventKind}
-use Rattle.core_views.specs.declared.event.EventKind.TheVariants.{Accessed, BroughtIn, HostChanged, LookedAtHost, LookedAtPause, LookedAtSlots, SlotChanged}
+use Rattle.core_views.specs.declared.event.EventKind.TheVariants.{Accessed, Armed, BroughtIn, HostChanged, LookedAtHost}
+use Rattle.core_views.specs.declared.event.EventKind.TheVariants.{LookedAtPause, LookedAtSlots, SlotChanged}
 use Rattle.core_views.specs.declared.host.HostEntry.{HostEntry}
 use Rattle.core_views.specs.declared.kind.Kind.{Kind}
 use Rattle.core_views.specs.declared.kind.StepKind.{StepKind}
@@ -16,6 +17,7 @@ use Rattle.core_views.specs.Kinds.{kind_named}
 use Rattle.spte_words.specs.declared.area.Area.{Area}
 use Rattle.spte_words.specs.declared.area.Area.TheVariants as area
 use Rattle.spte_words.specs.Areas.{content_index, place}
+use Rattle.part_steps.specs.ControlBits.{has_to_flush}
 use Rattle.part_steps.specs.Tasks.{map_of}
 use Rattle.mmu_core.specs.invariant.Laws.{IsSound}
 use Rattle.mmu_core.specs.lines.HostSteps.{entry_of}
@@ -52,6 +54,12 @@ pub record TouchesWord (z : Sizes) (op : Op) (frame word before : ℕ) (k : Kind
   pub at : IsOfKindOn z (kind_for op) area.Content (content_index (map_of z) frame word) k
   pub finds : v ≡ before
 
+-- It looks at an actor's state word, and finds no flush asked for there.
+pub record HasAwaited (z : Sizes) (k : Kind) (v : ℕ) : Type 0 where
+  pub index : ℕ
+  pub at : IsOfKindOn z kind.Await area.State index k
+  pub seen : has_to_flush v ≡ false
+
 -- A step with these numbers, which found v, may tell this.
 abbrev pub MayTell : Sizes → Kind → ℕ → EventKind → Type 0
 MayTell z k v LookedAtPause = IsOfKindOn z kind.Control area.Pause 0 k
@@ -60,6 +68,8 @@ MayTell z k v (LookedAtHost page) = IsOfKindOn z kind.Host area.Host page k
 MayTell z k v (BroughtIn page) = BringsPageIn z page k v
 MayTell z k v (HostChanged page entry) = ChangesHostWord z page entry k v
 MayTell z k v (SlotChanged id slot) = IsOfKindOn z kind.Publish area.Slots 0 k
+MayTell z k v (Armed id true) = IsOfKindOn z kind.Publish area.Slots 0 k
+MayTell z k v (Armed id false) = HasAwaited z k v
 MayTell z k v (Accessed gfn word op frame before) = TouchesWord z op frame word before k v
 MayTell z k v _ = Unit {0}
 

@@ -1,4 +1,5 @@
 use Rattle.mmu_laws.proofs.steps.ExampleHostRun.{example_host}
+use Rattle.mmu_laws.proofs.steps.ExampleLogRun.{example_log}
 use Rattle.mmu_laws.proofs.steps.ExampleProtectRun.{example_protect}
 use Rattle.mmu_laws.proofs.steps.ExampleEvictRun.{example_evict}
 use Rattle.mmu_laws.proofs.steps.ExampleSlotsRun.{example_slots}
@@ -52,3 +53,6 @@ returns-clause-overlap c = example_overlap
 
 pub returns-clause-slots : goal.returns-clause-slots
 returns-clause-slots c = example_slots
+
+pub returns-clause-log : goal.returns-clause-log
+returns-clause-log c = example_log

@@ -1,19 +1,20 @@
-//! The lock alone, for the begin and for the end of an invalidation.
+//! The lock alone, as the steps of a line take it and give it back: what is in their way is told.
 ghost use Rattle.std.specs.Prelude.{◌≡◌, ◌<◌};
 ghost use Rattle.mmu_core.specs.machine.MayMake.{MayMake};
 ghost use Rattle.part_steps.specs.declared.part_step.PartStep.TheVariants.{Exclude, Release};
 ghost use Rattle.step_seats.specs.Moves.{KeepsRoom};
 ghost use Rattle.step_seats.specs.PartTurns.{MadeTelling};
 
-use core_views::{Hold, Seen};
-use mmu_lock::{try_exclusive, unlock};
+use crate::lock::{try_exclusive, unlock};
+use core_views::Seen;
 use mmu_steps::{part_rests, part_waits};
 use part_steps::{PartStep, map_of};
 use spte_words::Area;
 use step_seats::Stepper;
 
-// Tries to hold the lock alone. The lock's word is in the way where it isn't 0.
-pub(crate) fn exclude<S: Stepper>(s: &mut S, note: u64) -> Option<Seen>
+/// Tries to hold the lock alone, and says what is in the way: the lock's word, where it isn't 0.
+/// It takes no memory.
+pub fn exclude<S: Stepper>(s: &mut S, note: u64) -> Option<Seen>
     requires may { MayMake Exclude note (S.seat s.old).hand }
     requires reserved { 0 < (S.seat s.old).room }
     ensures makes { MadeTelling result Exclude note (S.seat s.old) (S.seat s.new) }
@@ -25,9 +26,10 @@ pub(crate) fn exclude<S: Stepper>(s: &mut S, note: u64) -> Option<Seen>
     try_exclusive(s, note).in_way(word)
 }
 
-// Gives the lock back that the actor has alone. The count of open invalidations is in the
-// way where the check of a look-up had come to it alone, and others are open.
-pub(crate) fn release<S: Stepper>(s: &mut S, note: u64) -> Option<Seen>
+/// Gives the lock back that the actor has, and says what is in the way: how many invalidations
+/// are open, where the actor saw under this lock that there are others than its own. It takes no
+/// memory.
+pub fn release<S: Stepper>(s: &mut S, note: u64) -> Option<Seen>
     requires may { MayMake Release note (S.seat s.old).hand }
     requires reserved { 0 < (S.seat s.old).room }
     ensures makes { MadeTelling result Release note (S.seat s.old) (S.seat s.new) }

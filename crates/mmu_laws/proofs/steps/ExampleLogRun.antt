@@ -1,0 +1,222 @@
+-- The runs in which a slot gets a dirty log, by computation.
+use Rattle.part_steps.specs.TopicSteps.{topics_after}
+use Rattle.std.proofs.lemmas.Fmt.{decimal_digit}
+use Rattle.std.proofs.lemmas.List.Elements.{All-cons, All-nil}
+use Rattle.mmu_core.specs.lines.Cached.{flushed}
+use Rattle.std.proofs.Common.{ℕ, List, ◌≡◌, [], ◌∷◌, refl, arith, lit<, lit≤, ◌++◌}
+use Rattle.std.specs.Prelude.{All, true, false, codes}
+use Rattle.spte_words.specs.Areas.{content_index, place, pool_index}
+use Rattle.spte_words.specs.Entries.{absent_word, can_write, frame_in, frozen_word, is_leaf_at, kind_of, leaf_word, level_span, mapped_frame}
+use Rattle.spte_words.specs.Entries.{table_word, with_write, without_write, host_writable, mmu_writable}
+use Rattle.spte_words.specs.Flags.{flags_live, flags_logged, flags_read_only, flags_word}
+use Rattle.spte_words.specs.HostWords.{host_allows_write, host_frame, host_level, host_present, host_word}
+use lib.Count.{count_trailing_zeros}
+use Rattle.core_views.specs.Sizes.{AreSizes}
+use Rattle.core_views.specs.Text.{line_text, text}
+use Rattle.core_views.specs.declared.event.Event.{Event}
+use Rattle.mmu_laws.specs.steps.ExampleHost.{write_first}
+use Rattle.mmu_laws.specs.steps.ExampleLog.{ExampleLog, all_set_events, all_set_lines, all_set_sizes, events_to_log, log_all, log_events, log_lines}
+use Rattle.mmu_laws.specs.steps.ExampleLog.{log_off, log_on, write_beside, write_logged}
+use Rattle.spte_words.specs.declared.area.Area.{Area}
+use Rattle.spte_words.specs.declared.area.Area.TheVariants as area
+use Rattle.mmu_laws.specs.steps.ExampleSteps.{RunDelays, RunLeaves, run_sizes, set_line}
+use Rattle.mmu_laws.proofs.steps.ExampleRun.{may_set, run_in_range}
+use Rattle.mmu_laws.proofs.steps.ComputedRuns.{May, run_delays, run_leaves}
+use Rattle.mmu_laws.proofs.steps.Decimals.{two_digits}
+use Rattle.mmu_laws.proofs.steps.FoldedRuns.{fits_all, leads_all, steps_of, tells_all, turns}
+use Rattle.mmu_core.specs.machine.View.{View}
+use Rattle.mmu_core.proofs.start.StartViews.{start_view}
+
+-- the start, and what hands have counted and words hold after these rounds
+abbrev begun : View
+begun = start_view run_sizes log_lines
+
+abbrev all_begun : View
+all_begun = start_view all_set_sizes all_set_lines
+
+abbrev delays_after : List (ℕ × List ℕ) → View → ℕ → ℕ
+delays_after rounds v actor = ((leads_all rounds v).hand actor).state.delays
+
+abbrev word_after : List (ℕ × List ℕ) → View → Area → ℕ → ℕ
+word_after rounds v a index = (leads_all rounds v).words a index
+
+-- the rounds
+abbrev rounds_to_log : ℕ → List (ℕ × List ℕ)
+rounds_to_log steps = steps_of 524 3 ∷ steps_of 1581 0 ∷ steps_of 16 1 ∷ steps_of 522 3 ∷ steps_of 20 1 ∷ steps_of steps 3 ∷ []
+
+abbrev rounds_to_write : ℕ → List (ℕ × List ℕ)
+rounds_to_write steps = rounds_to_log 19 ++ (steps_of steps 0 ∷ [])
+
+abbrev log_rounds : List (ℕ × List ℕ)
+log_rounds = rounds_to_write 31 ++ (steps_of 524 3 ∷ [])
+
+abbrev all_rounds : ℕ → List (ℕ × List ℕ)
+all_rounds steps = steps_of 524 3 ∷ steps_of 1581 0 ∷ steps_of steps 3 ∷ []
+
+-- before the first leaf forbids writes, and after it
+first_before :
+    (fits_all run_sizes (rounds_to_log 9) begun ≡ true)
+    × (word_after (rounds_to_log 9) begun area.Pool (pool_index 4 6) ≡ leaf_word 1 65 true true true)
+unfolding flushed topics_after place kind_of level_span table_word frozen_word content_index pool_index absent_word frame_in mapped_frame leaf_word flags_live
+    flags_read_only flags_word host_allows_write host_frame host_present host_level host_word can_write is_leaf_at flags_logged count_trailing_zeros
+    without_write
+first_before = (refl, refl)
+
+first_forbids :
+    (fits_all run_sizes (rounds_to_log 10) begun ≡ true)
+    × (word_after (rounds_to_log 10) begun area.Pool (pool_index 4 6) ≡ leaf_word 1 65 false true true)
+unfolding flushed topics_after place kind_of level_span table_word frozen_word content_index pool_index absent_word frame_in mapped_frame leaf_word flags_live
+    flags_read_only flags_word host_allows_write host_frame host_present host_level host_word can_write is_leaf_at flags_logged count_trailing_zeros
+    without_write
+first_forbids = (refl, refl)
+
+-- the same of the second one
+second_before :
+    (fits_all run_sizes (rounds_to_log 11) begun ≡ true)
+    × (word_after (rounds_to_log 11) begun area.Pool (pool_index 4 7) ≡ leaf_word 1 66 true true true)
+unfolding flushed topics_after place kind_of level_span table_word frozen_word content_index pool_index absent_word frame_in mapped_frame leaf_word flags_live
+    flags_read_only flags_word host_allows_write host_frame host_present host_level host_word can_write is_leaf_at flags_logged count_trailing_zeros
+    without_write
+second_before = (refl, refl)
+
+second_forbids :
+    (fits_all run_sizes (rounds_to_log 12) begun ≡ true)
+    × (word_after (rounds_to_log 12) begun area.Pool (pool_index 4 7) ≡ leaf_word 1 66 false true true)
+unfolding flushed topics_after place kind_of level_span table_word frozen_word content_index pool_index absent_word frame_in mapped_frame leaf_word flags_live
+    flags_read_only flags_word host_allows_write host_frame host_present host_level host_word can_write is_leaf_at flags_logged count_trailing_zeros
+    without_write
+second_forbids = (refl, refl)
+
+-- up to the begin of the log
+logged :
+    (fits_all run_sizes (rounds_to_log 19) begun ≡ true)
+    × (tells_all (rounds_to_log 19) begun ≡ events_to_log)
+    × (delays_after (rounds_to_log 19) begun 3 ≡ 1)
+unfolding flushed topics_after place kind_of level_span table_word frozen_word content_index pool_index absent_word frame_in mapped_frame leaf_word flags_live
+    flags_read_only flags_word host_allows_write host_frame host_present host_level host_word can_write is_leaf_at flags_logged count_trailing_zeros
+    without_write
+logged = (refl, refl, refl)
+
+-- where the write owes its mark, and after it
+owes :
+    (fits_all run_sizes (rounds_to_write 20) begun ≡ true)
+    × (word_after (rounds_to_write 20) begun area.Pool (pool_index 4 6) ≡ leaf_word 1 65 true true true)
+    × (word_after (rounds_to_write 20) begun area.Log 1 ≡ 0)
+unfolding flushed topics_after place kind_of level_span table_word frozen_word content_index pool_index absent_word frame_in mapped_frame leaf_word flags_live
+    flags_read_only flags_word host_allows_write host_frame host_present host_level host_word can_write is_leaf_at flags_logged count_trailing_zeros
+    without_write with_write host_writable mmu_writable
+owes = (refl, refl, refl)
+
+marked :
+    (fits_all run_sizes (rounds_to_write 21) begun ≡ true)
+    × (word_after (rounds_to_write 21) begun area.Log 1 ≡ 2)
+unfolding flushed topics_after place kind_of level_span table_word frozen_word content_index pool_index absent_word frame_in mapped_frame leaf_word flags_live
+    flags_read_only flags_word host_allows_write host_frame host_present host_level host_word can_write is_leaf_at flags_logged count_trailing_zeros
+    without_write with_write host_writable mmu_writable
+marked = (refl, refl)
+
+-- the whole run
+whole :
+    (fits_all run_sizes log_rounds begun ≡ true)
+    × (tells_all log_rounds begun ≡ log_events)
+    × (delays_after log_rounds begun 3 ≡ 0)
+    × (word_after log_rounds begun area.Pool (pool_index 4 7) ≡ leaf_word 1 66 false true true)
+unfolding flushed topics_after place kind_of level_span table_word frozen_word content_index pool_index absent_word frame_in mapped_frame leaf_word flags_live
+    flags_read_only flags_word host_allows_write host_frame host_present host_level host_word can_write is_leaf_at flags_logged count_trailing_zeros
+    without_write with_write host_writable mmu_writable
+whole = (refl, refl, refl, refl)
+
+-- where the log begins with each page dirty
+set_all :
+    (fits_all all_set_sizes (all_rounds 516) all_begun ≡ true)
+    × (word_after (all_rounds 516) all_begun area.Log 1 ≡ 7)
+unfolding flushed topics_after place kind_of level_span table_word frozen_word content_index pool_index absent_word frame_in mapped_frame leaf_word flags_live
+    flags_read_only flags_word host_allows_write host_frame host_present host_level host_word can_write is_leaf_at flags_logged count_trailing_zeros
+    without_write
+set_all = (refl, refl)
+
+all_whole :
+    (fits_all all_set_sizes (all_rounds 525) all_begun ≡ true)
+    × (tells_all (all_rounds 525) all_begun ≡ all_set_events)
+    × (delays_after (all_rounds 525) all_begun 3 ≡ 0)
+    × (word_after (all_rounds 525) all_begun area.Pool (pool_index 4 6) ≡ leaf_word 1 65 true true true)
+unfolding flushed topics_after place kind_of level_span table_word frozen_word content_index pool_index absent_word frame_in mapped_frame leaf_word flags_live
+    flags_read_only flags_word host_allows_write host_frame host_present host_level host_word can_write is_leaf_at flags_logged count_trailing_zeros
+    without_write
+all_whole = (refl, refl, refl, refl)
+
+log_allowed : All (May run_sizes) log_lines
+log_allowed =
+    All-cons (May run_sizes) set_line (write_first ∷ write_beside ∷ log_on ∷ write_logged ∷ log_off ∷ []) may_set
+    (All-cons (May run_sizes) write_first (write_beside ∷ log_on ∷ write_logged ∷ log_off ∷ []) (omega arith, omega arith, omega arith)
+    (All-cons (May run_sizes) write_beside (log_on ∷ write_logged ∷ log_off ∷ []) (omega arith, omega arith, omega arith)
+    (All-cons (May run_sizes) log_on (write_logged ∷ log_off ∷ []) tt
+    (All-cons (May run_sizes) write_logged (log_off ∷ []) (omega arith, omega arith, omega arith)
+    (All-cons (May run_sizes) log_off [] tt (All-nil (May run_sizes)))))))
+
+all_allowed : All (May all_set_sizes) all_set_lines
+all_allowed =
+    All-cons (May all_set_sizes) set_line (write_first ∷ log_all ∷ [])
+    (record { some = omega arith; pages = omega arith; base = omega arith; host = omega arith; aligned = omega arith })
+    (All-cons (May all_set_sizes) write_first (log_all ∷ []) (omega arith, omega arith, omega arith)
+    (All-cons (May all_set_sizes) log_all [] tt (All-nil (May all_set_sizes))))
+
+all_in_range : AreSizes all_set_sizes
+all_in_range =
+    let R = run_in_range in
+    record {
+      actors = record { vcpus = R.actors.vcpus; hosts = R.actors.hosts; workers = R.actors.workers };
+      some = R.some;
+      pages = R.pages;
+      frames = R.frames;
+      words = R.words;
+      content = R.content;
+      pool = R.pool;
+      cache = R.cache;
+      firsts = R.firsts;
+      rising = record { each = R.rising.each };
+    }
+
+log_prints : text log_events ≡ codes "2 vm done\n3 v0 frame 65 value 0\n4 v1 frame 66 value 0\n5 vm done\n6 v0 frame 65 value 7\n7 vm done\n"
+unfolding line_text
+log_prints =
+    simp (
+      decimal_digit 0 (lit< tt),
+      decimal_digit 1 (lit< tt),
+      decimal_digit 2 (lit< tt),
+      decimal_digit 3 (lit< tt),
+      decimal_digit 4 (lit< tt),
+      decimal_digit 5 (lit< tt),
+      decimal_digit 6 (lit< tt),
+      decimal_digit 7 (lit< tt),
+      two_digits 65 (lit≤ tt) (lit< tt),
+      two_digits 66 (lit≤ tt) (lit< tt),
+    )
+
+-- That these actors in turn tell this, and what one of them has counted then; and what a word holds after them.
+counts : (rounds : List (ℕ × List ℕ)) (events : List Event) (actor delays : ℕ) → fits_all run_sizes rounds begun ≡ true → tells_all rounds begun ≡ events
+    → delays_after rounds begun actor ≡ delays → RunDelays run_sizes log_lines (turns rounds) events actor delays
+counts rounds events actor delays = run_delays run_sizes log_lines rounds events actor delays run_in_range log_allowed (omega arith)
+
+leaves : (rounds : List (ℕ × List ℕ)) (a : Area) (index value : ℕ) → fits_all run_sizes rounds begun ≡ true → word_after rounds begun a index ≡ value
+    → RunLeaves run_sizes log_lines (turns rounds) a index value
+leaves rounds a index value = run_leaves run_sizes log_lines rounds a index value run_in_range log_allowed (omega arith)
+
+pub example_log : ExampleLog
+example_log = (
+  counts (rounds_to_log 19) events_to_log 3 1 logged.0 logged.1 logged.2,
+  counts log_rounds log_events 3 0 whole.0 whole.1 whole.2,
+  leaves (rounds_to_log 9) area.Pool (pool_index 4 6) (leaf_word 1 65 true true true) first_before.0 first_before.1,
+  leaves (rounds_to_log 10) area.Pool (pool_index 4 6) (leaf_word 1 65 false true true) first_forbids.0 first_forbids.1,
+  leaves (rounds_to_log 11) area.Pool (pool_index 4 7) (leaf_word 1 66 true true true) second_before.0 second_before.1,
+  leaves (rounds_to_log 12) area.Pool (pool_index 4 7) (leaf_word 1 66 false true true) second_forbids.0 second_forbids.1,
+  leaves (rounds_to_write 20) area.Pool (pool_index 4 6) (leaf_word 1 65 true true true) owes.0 owes.1,
+  leaves (rounds_to_write 20) area.Log 1 0 owes.0 owes.2,
+  leaves (rounds_to_write 21) area.Log 1 2 marked.0 marked.1,
+  leaves log_rounds area.Pool (pool_index 4 7) (leaf_word 1 66 false true true) whole.0 whole.3,
+  log_prints,
+  run_delays all_set_sizes all_set_lines (all_rounds 525) all_set_events 3 0 all_in_range all_allowed (omega arith) all_whole.0 all_whole.1 all_whole.2,
+  run_leaves all_set_sizes all_set_lines (all_rounds 516) area.Log 1 7 all_in_range all_allowed (omega arith) set_all.0 set_all.1,
+  run_leaves all_set_sizes all_set_lines (all_rounds 525) area.Pool (pool_index 4 6) (leaf_word 1 65 true true true) all_in_range all_allowed (omega arith)
+      all_whole.0 all_whole.3,
+)
