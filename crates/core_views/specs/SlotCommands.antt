@@ -57,7 +57,7 @@ abbrev pub slot_invalidated : MemorySlots → Command → Option Slot
 slot_invalidated slots (SetLog id on) = None
 slot_invalidated slots command = slot_before slots (slot_change slots command)
 
--- The line gives the slot with the ID a dirty log: from its end on writes to the slot are logged.
+-- The line gives the slot with the ID a dirty log, which begins before the line is answered.
 abbrev pub arms : Command → Bool
 arms (SetLog id on) = on
 arms _ = false

@@ -14,5 +14,6 @@ pub mod SlotChangePlaces
 pub mod SlotChangeCounted
 pub mod SlotChangeTold
 pub mod SlotChangeArms
+pub mod LogsApart
 pub mod SlotsStay
 pub mod SlotChangeClaims

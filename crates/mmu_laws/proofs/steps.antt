@@ -4,6 +4,7 @@ pub mod ExampleRun
 pub mod Notes
 pub mod StepLaws
 pub mod KindLaws
+pub mod LogKinds
 pub mod AllowedWords
 pub mod EventLaws
 pub mod InvalidationLaws
@@ -17,6 +18,7 @@ pub mod ComputedRuns
 pub mod ExampleHostRun
 pub mod ExampleProtectRun
 pub mod ExampleLogRun
+pub mod ExampleLogAllRun
 pub mod ExampleEvictRun
 pub mod ExampleMoveRun
 pub mod ExampleOverlapRun

@@ -2,6 +2,7 @@ pub mod StepLaws
 pub mod EventLaws
 pub mod InvalidationLaws
 pub mod PublicationLaws
+pub mod LogLaws
 pub mod CanStep
 pub mod ExampleSteps
 pub mod ExampleRuns
@@ -11,6 +12,7 @@ pub mod ExampleWaits
 pub mod ExampleHost
 pub mod ExampleProtect
 pub mod ExampleLog
+pub mod ExampleLogAll
 pub mod ExampleEvict
 pub mod ExampleMove
 pub mod ExampleOverlap

@@ -8,6 +8,7 @@ ghost use Rattle.mmu_laws.specs.steps.ExampleSlots.{ExampleSlots};
 ghost use Rattle.mmu_laws.specs.steps.ExampleMove.{ExampleMove};
 ghost use Rattle.mmu_laws.specs.steps.ExampleOverlap.{ExampleOverlap};
 ghost use Rattle.mmu_laws.specs.steps.ExampleLog.{ExampleLog};
+ghost use Rattle.mmu_laws.specs.steps.ExampleLogAll.{ExampleLogAll};
 ghost use Rattle.mmu_laws.specs.steps.ExampleProtect.{ExampleProtect};
 ghost use Rattle.mmu_laws.specs.steps.ExampleRaces.{ExampleRaces};
 ghost use Rattle.mmu_laws.specs.steps.ExampleRuns.{ExamplePrints, ExampleRuns};
@@ -25,6 +26,8 @@ ghost use Rattle.mmu_core.specs.invariant.Scans.{StarvedLinesScan};
 ghost use Rattle.mmu_laws.specs.steps.EventLaws.{EventsAreOfTheirSteps};
 ghost use Rattle.mmu_laws.specs.steps.InvalidationLaws.{BringsAreOfAbsentPages, ChangesAreInvalidated, InvalidationsAreCounted};
 ghost use Rattle.mmu_laws.specs.steps.InvalidationLaws.{SequenceIsRaised, ZapsAreOfOpenInvalidations};
+ghost use Rattle.mmu_laws.specs.steps.LogLaws.{AllowedWritesAreOwed, MarksAreOfOwedPages, MarksStayOwed, SectionsEndWithNoneOwed};
+ghost use Rattle.mmu_laws.specs.steps.LogLaws.{WordsAreSetBeforeTheirLog, WritesAreForbiddenInLeaves};
 ghost use Rattle.mmu_laws.specs.steps.PublicationLaws.{OthersLeaveSlots, PublicationsAreInvalidated};
 ghost use Rattle.mmu_laws.specs.steps.StepLaws.{EnteringFlushes, NotesTellEnds, OthersCacheOneAtMost, RevisedWordsTell, StepsAreOnTheirAreas};
 ghost use Rattle.mmu_laws.specs.turns.Breaking.{BreakingChangesEntries};
@@ -101,7 +104,8 @@ pub fn each_delay_has_its_cause()
 /// finds no slot; and a slot that is set as it is takes one step. Where a slot gets a dirty log
 /// beside a fault that has found none, the manager waits for the fault's section, and then
 /// forbids writes in the leaf that it put, too; a write after that allows them again in its leaf,
-/// and marks its page; and where each page is dirty as the log begins, no write is forbidden.
+/// and marks its page; the mark goes as the log begins again; and where each page is dirty as the
+/// log begins, each has its bit, and no write is forbidden.
 pub fn the_steps_can_be_made()
     ensures starts { EveryMachineStarts }
     ensures goes_on { EachMayStep }
@@ -117,6 +121,7 @@ pub fn the_steps_can_be_made()
     ensures overlap { ExampleOverlap }
     ensures slots { ExampleSlots }
     ensures log { ExampleLog }
+    ensures log_all { ExampleLogAll }
 {}
 
 /// What a step's numbers tell of it: each step that a hand allows is on a word of the
@@ -129,14 +134,20 @@ pub fn the_steps_can_be_made()
 /// word that is put to allow writes or forbid them, to have its page in memory or not, or
 /// at another frame, does so, and tells the same else as the one before it. And each event that a step
 /// tells of the pause, of slots, host pages or memory is of the word that the step is on,
-/// and of what it found and left there. The sequence number of invalidations is raised by
+/// and of what it found and left there. A dirty log is told to begin by a publication, or, where
+/// no page is dirty then, by the `await` of the last flush, of an actor that has watched each
+/// other one since its publication. The sequence number of invalidations is raised by
 /// one, and only by an actor that has the lock alone and an invalidation open; how many
 /// are open rises by one with such an actor's own one, and falls by one with it, once the
 /// number was raised (kvm_main.c, `kvm_mmu_invalidate_begin`, `kvm_mmu_invalidate_end`). A
 /// step that zaps is on the leaf to which links lead a guest frame of its actor's own open
 /// invalidation. One that changes a host word, whatever it leaves there, is of a page of its
 /// actor's own, while this actor's invalidation of the page is open and flushed. And one that
-/// brings a page in is in a section, of the page that its actor looked at and saw absent.
+/// brings a page in is in a section, of the page that its actor looked at and saw absent. A step
+/// that forbids writes is on a leaf to which links lead a guest frame, and which allows them, and
+/// takes its Writable bit away; one that allows writes in a leaf of a slot with a dirty log leaves
+/// its actor owing a mark, which stays owed up to the mark, and no section ends before it; one
+/// that marks sets the bit of the page for whose guest frame its actor owes one; and a word of a dirty log is set only before its log begins.
 /// A step that publishes a slot set is of an actor that has the lock alone, with no
 /// invalidation open but its own: each slot that was published stays so, unless exactly its
 /// guest frames are invalidated by this actor, and flushed; and the new set differs from the
@@ -154,6 +165,12 @@ pub fn steps_tell_what_they_are()
     ensures zaps { ZapsAreOfOpenInvalidations }
     ensures changes { ChangesAreInvalidated }
     ensures brings { BringsAreOfAbsentPages }
+    ensures forbids { WritesAreForbiddenInLeaves }
+    ensures owes { AllowedWritesAreOwed }
+    ensures stays_owed { MarksStayOwed }
+    ensures paid { SectionsEndWithNoneOwed }
+    ensures marks { MarksAreOfOwedPages }
+    ensures arms { WordsAreSetBeforeTheirLog }
     ensures published { PublicationsAreInvalidated }
     ensures kept_slots { OthersLeaveSlots }
 {}

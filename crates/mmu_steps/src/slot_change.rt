@@ -12,7 +12,7 @@ ghost use Rattle.mmu_core.specs.lines.SlotChangeSteps.{after_arm, after_grace, a
 ghost use Rattle.mmu_core.specs.lines.SlotChangeSteps.{after_watch, arm_bits, arm_part, arm_word, log_target, slot_change_first};
 ghost use Rattle.part_steps.specs.LogHoldings.{log_begin, log_end};
 ghost use Rattle.mmu_core.specs.lines.SlotChangeSteps.{slot_change_note, slot_change_outcome, slot_change_part};
-ghost use Rattle.mmu_core.specs.lines.SlotChangeSteps.{slot_change_records, slot_change_task, slot_target};
+ghost use Rattle.mmu_core.specs.lines.SlotChangeSteps.{slot_change_records, slot_change_task, slot_or_none, slot_target};
 ghost use Rattle.mmu_core.specs.machine.Steps.{next_line, place_at};
 ghost use Rattle.part_steps.specs.Tasks.{map_of};
 ghost use Rattle.mmu_core.specs.machine.Turns.{line_of};
@@ -43,16 +43,31 @@ pub(crate) fn first(sizes: &Sizes, slots: &SlotSet, command: &Command) -> SlotCh
     }
 }
 
-// The slot whose dirty log begins, or no slot.
-fn log_target(hand: &Hand, command: &Command) -> Slot
-    ensures { result ≡ log_target hand.now.core command.now }
+// This slot, or one without pages.
+fn slot_or_none(slot: Option<Slot>) -> Slot
+    ensures { result ≡ slot_or_none slot }
 {
-    hand.slots().armed(command).unwrap_or(Slot {
+    slot.unwrap_or(Slot {
         base: 0,
         pages: 0,
         host: 0,
         read_only: false,
     })
+}
+
+// The slot whose dirty log begins, or no slot.
+fn log_target(hand: &Hand, command: &Command) -> Slot
+    ensures { result ≡ log_target hand.now.core command.now }
+{
+    slot_or_none(hand.slots().armed(command))
+}
+
+// The first word of its log.
+fn log_begin(slot: &Slot) -> u64
+    ensures is { result ≡ log_begin slot.now }
+    ensures small { result < 2 ^ 58 }
+{
+    slot.host / 64
 }
 
 // The word of its log that is set next.
@@ -62,7 +77,7 @@ fn arm_word(begun: bool, slot: &Slot, topics: &Topics) -> u64
     if begun {
         topics.next_log_word
     } else {
-        slot.host / 64
+        log_begin(slot)
     }
 }
 
@@ -72,7 +87,7 @@ fn arm_bits(all: bool, slot: &Slot, word: u64) -> u64
     requires few { slot.now.pages < 2 ^ 63 }
     ensures { result ≡ arm_bits all slot.now word }
 {
-    let before = 64 * (word - slot.host / 64);
+    let before = 64 * (word - log_begin(slot));
     if !all {
         0
     } else if before + 63 < slot.pages {
@@ -112,14 +127,7 @@ pub fn arm_step(begun: bool, hand: &Hand, command: &Command) -> PartStep
 fn target(hand: &Hand, command: &Command) -> Target
     ensures { result ≡ slot_target hand.now.core command.now }
 {
-    Target::Slot(
-        hand.slots().invalidated(command).unwrap_or(Slot {
-            base: 0,
-            pages: 0,
-            host: 0,
-            read_only: false,
-        }),
-    )
+    Target::Slot(slot_or_none(hand.slots().invalidated(command)))
 }
 
 /// The step of this place.
@@ -222,7 +230,7 @@ fn after_arm(slot: &Slot, word: u64) -> SlotChangePlace
     requires { word < 2 ^ 63 }
     ensures { result ≡ after_arm slot.now word }
 {
-    if word + 1 < slot.host / 64 + slot.pages.div_ceil(64) {
+    if word + 1 < log_begin(slot) + slot.pages.div_ceil(64) {
         SlotChangePlace::Arm { begun: true }
     } else {
         SlotChangePlace::Exclude

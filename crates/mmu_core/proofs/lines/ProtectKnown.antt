@@ -73,7 +73,7 @@ protect_needs protect.Protect h range retired K = record {
   leaf = K.1.leaf;
   writes = allows_writes h.topics.walk range K.1;
 }
-protect_needs protect.Release h range retired K = K.with_lock.alone.alone
+protect_needs protect.Release h range retired K = K.0.with_lock.alone.alone
 protect_needs protect.Ask h range retired K =
     let closed = K.0.closed in
     record {
@@ -96,7 +96,7 @@ ProtectComes next.Over z range t = IsFreeOfOwn t
 -- Where the sweep goes on.
 swept_known : (n : SweepNext) (z : Sizes) (range : FrameRange) (t : Topics) (w : TableWalk) → IsSweeping false t → SweepKnows n false range w
     → WriteProtectKnows (protect_swept n) z range (record t { walk = w })
-swept_known Over z range t w W K = same_sweep false t (record t { walk = w }) refl refl refl refl W
+swept_known Over z range t w W K = (same_sweep false t (record t { walk = w }) refl refl refl refl W, K)
 swept_known Leaf z range t w W K = (same_sweep false t (record t { walk = w }) refl refl refl refl W, K)
 swept_known Entry z range t w W K = (same_sweep false t (record t { walk = w }) refl refl refl refl W, λ rooted. K)
 
@@ -144,11 +144,11 @@ protect_known protect.Protect z range t v sizes some low most K =
     swept_known _ z range t _ K.0
     (leaf_known false range t.walk (without_write t.walk.entry) low most K.1 (protected_done t.walk.level t.walk.entry K.1.leaf))
 protect_known protect.Release z range t v sizes some low most K =
-    let none = ap (λ (f : Flush). f.asked) K.unasked in
+    let none = ap (λ (f : Flush). f.asked) K.0.unasked in
     let vcpus = sizes.some in (
-      record { free = alone_let_go t K.with_lock.alone; closed = K.with_lock.is },
+      record { free = alone_let_go t K.0.with_lock.alone; closed = K.0.with_lock.is },
       omega (arith, none, vcpus),
-      ap (λ (f : Flush). f.awaited) K.unasked,
+      ap (λ (f : Flush). f.awaited) K.0.unasked,
     )
 protect_known protect.Ask z range t v sizes some low most K =
     let vcpus = sizes.some in
@@ -204,7 +204,7 @@ protect_falls protect.Protect z range t v low most K goes =
     swept_falls _ z range t _ _
     (leaf_falls false range t.walk (without_write t.walk.entry) low most K.1 (protected_done t.walk.level t.walk.entry K.1.leaf))
 protect_falls protect.Release z range t v low most K goes =
-    let none = ap (λ (f : Flush). f.asked) K.unasked in omega (arith, none)
+    let none = ap (λ (f : Flush). f.asked) K.0.unasked in omega (arith, none)
 protect_falls protect.Ask z range t v low most K goes =
     let lt = K.1 in
     let none = K.2 in

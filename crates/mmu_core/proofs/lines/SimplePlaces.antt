@@ -1,15 +1,18 @@
 -- What a line tells at a place, in a few shapes; and all that laws ask of the places of a simple form, in one record, of which each such form has one.
 use Rattle.std.proofs.Common.{◌≡◌, ◌≢◌, ◌⊎◌, ℕ, List, [], ◌∷◌, refl}
-use Rattle.std.specs.Prelude.{Option, Some, true, false}
+use Rattle.std.specs.Prelude.{Option, Some, nat_lt, true, false}
 use Rattle.part_steps.specs.ControlBits.{has_to_flush}
 use Rattle.core_views.specs.declared.answer.Answer.TheVariants.{Refused}
 use Rattle.core_views.specs.declared.answer.Refusal.TheVariants.{NoFrame}
 use Rattle.core_views.specs.declared.event.EventKind.{EventKind}
 use Rattle.core_views.specs.declared.event.EventKind.TheVariants.{Armed, SlotChanged}
 use Rattle.core_views.specs.declared.place.AccessPlace.{AccessPlace}
+use Rattle.core_views.specs.declared.place.FrameRange.{FrameRange}
 use Rattle.core_views.specs.declared.place.HostPlace.{HostPlace}
 use Rattle.core_views.specs.declared.place.Place.{Place}
 use Rattle.core_views.specs.declared.place.Place.TheVariants as place
+use Rattle.core_views.specs.declared.place.SlotChangePlace.TheVariants.{WriteProtect}
+use Rattle.core_views.specs.declared.place.WriteProtectPlace.TheVariants as protect
 use Rattle.core_views.specs.declared.slot_set.MemorySlot.{MemorySlot}
 use Rattle.core_views.specs.declared.trace.Command.{Command}
 use Rattle.core_views.specs.declared.trace.Command.TheVariants.{Access, ChangeHost}
@@ -36,13 +39,14 @@ use Rattle.std.proofs.Common.{◌+◌, ◌≤◌, length, arith}
 -- ---- what a step tells
 
 -- At this place, for this command, a step that finds v tells one of these, besides that its line begins or is answered: nothing; an exit, but none for
--- want of a frame; that a log begins, where it publishes or has
--- awaited a flush; a slot's change, where it publishes, and then one of these; or what an access or a host line tells.
+-- want of a frame; that a log begins, where it publishes, or has awaited the last flush; a slot's change, where it publishes, and then one of these; or what
+-- an access or a host line tells.
 pub data Told (h : Held) (v : ℕ) : Place → Command → List EventKind → Type 0 where
   Nothing : {p : Place} {c : Command} → Told h v p c []
   Exit : {p : Place} {c : Command} → outcome_at p c h v ≢ Ends (Refused NoFrame) → Told h v p c (exiting (outcome_at p c h v))
   Arms : {p : Place} {c : Command} (id : ℕ) → part_at p c h ≡ Some part.Publish → Told h v p c (Armed id true ∷ [])
-  ArmsClean : {p : Place} {c : Command} (id index : ℕ) → part_at p c h ≡ Some (part.Await index) → has_to_flush v ≡ false → Told h v p c (Armed id false ∷ [])
+  ArmsClean : {c : Command} (range : FrameRange) (id : ℕ) → has_to_flush v ≡ false → nat_lt (h.topics.flush.awaited + 1) h.state.sizes.vcpus ≡ false
+      → Told h v (place.SlotChange (WriteProtect range protect.Await)) c (Armed id false ∷ [])
   Change : {p : Place} {c : Command} {more : List EventKind} (id : ℕ) (slot : Option MemorySlot) → part_at p c h ≡ Some part.Publish → Told h v p c more
       → Told h v p c (SlotChanged id slot ∷ more)
   OfAccess : (p : AccessPlace) (gfn word : ℕ) (op : Op) → Told h v (place.Access p) (Access gfn word op) (access_tells p h gfn word op v)

@@ -32,7 +32,6 @@ use Rattle.mmu_core.specs.invariant.Invariant.{Invariant, IsSetBy, RecordPart}
 use Rattle.mmu_core.specs.invariant.SlotSetPart.{AreSlots, Fits, IsLiveIn, SlotSetPart}
 use Rattle.mmu_core.specs.machine.Steps.{next_line}
 use Rattle.mmu_core.specs.machine.View.{View}
-use Rattle.mmu_core.specs.lines.SlotChangeKnows.{FitsMachine}
 use Rattle.part_steps.specs.PartHoldings.{OwnsSet}
 use Rattle.mmu_core.proofs.lines.LinesKept.{line_sets, set_by_at, set_by_with, set_by_without}
 use Rattle.mmu_core.proofs.machine.Columns.{same_or}
@@ -199,11 +198,10 @@ change_publishes z v a line (ClearLog id first count words) p S changes I owns w
 
 -- A slot of the record is live, and so it fits the machine.
 pub recorded_fits : (z : Sizes) (pool : ℕ → ℕ) (set id : ℕ) (slots : MemorySlots) (was : MemorySlot) → RecordPart pool set slots → AreSlots z pool set
-    → slot_of_id id slots ≡ Some was → FitsMachine z was.slot
+    → slot_of_id id slots ≡ Some was → Fits z was.slot
 recorded_fits z pool set id slots was R A at =
     let L = recorded_live pool set id slots was R at in
-    let F = subst (Fits z) L.is (A.fits id L.low L.live) in
-    record { frames = F.frames; pages = F.pages }
+    subst (Fits z) L.is (A.fits id L.low L.live)
 
 -- What is so of the slot at an ID is so of some slot.
 pub some_slot : (test : MemorySlot → Bool) (slots : MemorySlots) (id : ℕ) (m : MemorySlot) → slot_of_id id slots ≡ Some m → test m ≡ true
@@ -226,17 +224,17 @@ some_slot test ((k, n) ∷ es) id m is so = by (k == id) is (some_slot test es i
 
 -- So does the slot that a line moves or deletes.
 pub invalidated_fits : (z : Sizes) (pool : ℕ → ℕ) (set : ℕ) (slots : MemorySlots) (command : Command) (slot : Slot) → RecordPart pool set slots
-    → AreSlots z pool set → slot_invalidated slots command ≡ Some slot → FitsMachine z slot
+    → AreSlots z pool set → slot_invalidated slots command ≡ Some slot → Fits z slot
 invalidated_fits z pool set slots command slot R A is = by command is
   where
-    at_id : (id : ℕ) (m : Option MemorySlot) → slot_of_id id slots ≡ m → option_map (λ was. was.slot) m ≡ Some slot → FitsMachine z slot
+    at_id : (id : ℕ) (m : Option MemorySlot) → slot_of_id id slots ≡ m → option_map (λ was. was.slot) m ≡ Some slot → Fits z slot
     at_id id None at none = absurd (cc none)
-    at_id id (Some was) at some = subst (FitsMachine z) (same some) (recorded_fits z pool set id slots was R A at)
+    at_id id (Some was) at some = subst (Fits z) (same some) (recorded_fits z pool set id slots was R A at)
       where
         same : {x y : Slot} → Some x ≡ Some y → x ≡ y
         same e = cc e
 
-    by : (command : Command) → slot_invalidated slots command ≡ Some slot → FitsMachine z slot
+    by : (command : Command) → slot_invalidated slots command ≡ Some slot → Fits z slot
     by (Access gfn word op) is = absurd (cc is)
     by (ChangeHost page change) is = absurd (cc is)
     by (SetSlot id new_) is = at_id id (slot_of_id id slots) refl is
@@ -248,13 +246,13 @@ invalidated_fits z pool set slots command slot R A is = by command is
 -- So does the slot whose dirty log a line begins, and it has a page at least.
 pub armed_fits : (z : Sizes) (pool : ℕ → ℕ) (set : ℕ) (lines : List Line) (slots : MemorySlots) (command : Command) (slot : Slot) → RecordPart pool set slots
     → AreSlots z pool set → All (λ line. IsCommandFor z line.actor line.command) lines → All (IsSetBy lines) slots → slot_armed slots command ≡ Some slot
-    → FitsMachine z slot × (1 ≤ slot.pages)
+    → Fits z slot × (1 ≤ slot.pages)
 armed_fits z pool set lines slots command slot R A allowed by_lines is = by command is
   where
-    at_id : (id : ℕ) (m : Option MemorySlot) → slot_of_id id slots ≡ m → option_map (λ was. was.slot) m ≡ Some slot → FitsMachine z slot × (1 ≤ slot.pages)
+    at_id : (id : ℕ) (m : Option MemorySlot) → slot_of_id id slots ≡ m → option_map (λ was. was.slot) m ≡ Some slot → Fits z slot × (1 ≤ slot.pages)
     at_id id None at none = absurd (cc none)
     at_id id (Some was) at some =
-        subst (λ (s : Slot). FitsMachine z s × (1 ≤ s.pages)) (same some) (
+        subst (λ (s : Slot). Fits z s × (1 ≤ s.pages)) (same some) (
           recorded_fits z pool set id slots was R A at,
           record_is_so (λ s. 1 ≤ s.pages) has_page z lines slots allowed by_lines id was at,
         )
@@ -262,7 +260,7 @@ armed_fits z pool set lines slots command slot R A allowed by_lines is = by comm
         same : {x y : Slot} → Some x ≡ Some y → x ≡ y
         same e = cc e
 
-    by : (command : Command) → slot_armed slots command ≡ Some slot → FitsMachine z slot × (1 ≤ slot.pages)
+    by : (command : Command) → slot_armed slots command ≡ Some slot → Fits z slot × (1 ≤ slot.pages)
     by (SetLog id true) is = at_id id (slot_of_id id slots) refl is
     by (SetLog id false) is = absurd (cc is)
     by (Access gfn word op) is = absurd (cc is)

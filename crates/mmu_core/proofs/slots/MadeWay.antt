@@ -21,14 +21,14 @@ use Rattle.part_steps.specs.StayTopics.{no_flush}
 use Rattle.mmu_core.specs.lines.InvalidateKnows.{FramesAre, IsFlushedOut, IsOpen}
 use Rattle.mmu_core.specs.lines.LockKnows.{HoldsLock}
 use Rattle.mmu_core.specs.lines.PartWaits.{saw_open, was_counted}
-use Rattle.mmu_core.specs.lines.SlotChangeKnows.{FitsMachine, HasMadeWay}
+use Rattle.mmu_core.specs.lines.SlotChangeKnows.{Fits, HasMadeWay}
 use Rattle.mmu_core.specs.lines.SlotChangeSteps.{slot_or_none}
 use Rattle.mmu_core.proofs.pages.Owned.{some_filled}
 
 -- ---- the slot that is moved
 
-pub some_fits : (z : Sizes) (moved : Option Slot) → ((slot : Slot) → moved ≡ Some slot → FitsMachine z slot) → is_some moved ≡ true
-    → FitsMachine z (slot_or_none moved)
+pub some_fits : (z : Sizes) (moved : Option Slot) → ((slot : Slot) → moved ≡ Some slot → Fits z slot) → is_some moved ≡ true
+    → Fits z (slot_or_none moved)
 some_fits z None each some = absurd (cc some)
 some_fits z (Some slot) each some = each slot refl
 

@@ -47,7 +47,7 @@ use Rattle.mmu_core.specs.lines.ClaimSteps.{Pages}
 use Rattle.mmu_core.specs.lines.FaultLaws.{CanAnswer}
 use Rattle.mmu_core.specs.lines.Forms.{KnowsPart, RetiresPart}
 use Rattle.mmu_core.specs.lines.InvalidateSteps.{begin_next, begin_part, end_next, end_part}
-use Rattle.mmu_core.specs.lines.SlotChangeKnows.{ArmsFitting, ArmsSlot, FitsMachine, HasPublished, HoldsLock, IsInLog, SlotChangeKnows}
+use Rattle.mmu_core.specs.lines.SlotChangeKnows.{ArmsFitting, ArmsSlot, Fits, HasPublished, HoldsLock, IsInLog, SlotChangeKnows}
 use Rattle.mmu_core.specs.lines.SlotChangeSteps.{after_arm, after_grace, after_protect, after_role, after_set_begin, after_set_claim, arm_word, frames_of}
 use Rattle.mmu_core.specs.lines.SlotChangeSteps.{after_set_end, after_watch, log_target, slot_change_outcome, slot_change_part}
 use Rattle.mmu_core.specs.lines.SlotChangeSteps.{slot_or_none, slot_target}
@@ -74,9 +74,9 @@ use Rattle.mmu_core.proofs.slots.SlotChangeArms.{armed_is, none_moved, published
 -- What the words say besides what the line knows: a slot that it moves, or gives a dirty log, fits the machine, and its own invalidation is among those that
 -- are counted.
 pub record WordsSay (p : SlotChangePlace) (command : Command) (h : Held) (v : ℕ) : Type 0 where
-  pub fits : (slot : Slot) → slot_invalidated h.slots command ≡ Some slot → FitsMachine h.state.sizes slot
+  pub fits : (slot : Slot) → slot_invalidated h.slots command ≡ Some slot → Fits h.state.sizes slot
   pub counted : p ≡ Count → own_open h.topics.invalidations ≤ v
-  pub armed : (slot : Slot) → slot_armed h.slots command ≡ Some slot → FitsMachine h.state.sizes slot × (1 ≤ slot.pages)
+  pub armed : (slot : Slot) → slot_armed h.slots command ≡ Some slot → Fits h.state.sizes slot × (1 ≤ slot.pages)
   pub there : p ≡ Role → arms command ≡ true → is_some (slot_armed h.slots command) ≡ true
   pub arms_slot : p ≡ Role → is_some (slot_armed h.slots command) ≡ true → ArmsSlot h.state.actor h.state.sizes command h.slots
 
@@ -133,6 +133,7 @@ module _ (line : Line) (h : Held) (command : Command) (cached : Buffer Translati
           record { some = omega (arith, some); low = frames; few = omega (arith, pages) },
           armed_is h.slots command slot is,
           none,
+          (sym (ap (λ o. (slot_or_none o).base) is), sym (ap (λ o. (slot_or_none o).base + (slot_or_none o).pages) is)),
         ),
       ))
 
@@ -183,7 +184,7 @@ module _ (line : Line) (h : Held) (command : Command) (cached : Buffer Translati
   protect_comes : (range : FrameRange) (p : WriteProtectPlace) (next : WriteProtectNext) (u : Topics) → LeavesPages h.topics u
       → SlotChangeKnows (WriteProtect range p) command h → ProtectComes next h.state.sizes range u
       → Knows (after_protect range next) (behind (WriteProtect range p) u)
-  protect_comes range p (protects_next.Goes q) u L K C = (changes, (still_given range p u L K.0, C, K.2, K.3, K.4))
+  protect_comes range p (protects_next.Goes q) u L K C = (changes, (still_given range p u L K.0, C, K.2, K.3, K.4, K.5))
   protect_comes range p protects_next.Over u L K C = (changes, (free_holds u C.free, still_given range p u L K.0))
 
   -- after a step that begins its invalidation

@@ -7,7 +7,7 @@ use Rattle.part_steps.specs.PartHoldings.{own_open}
 use Rattle.mmu_core.specs.lines.ClaimSteps.{Pages}
 use Rattle.mmu_core.specs.lines.InvalidateKnows.{IsFlushedOut}
 use Rattle.mmu_core.specs.lines.InvalidateSteps.{begin_part}
-use Rattle.mmu_core.specs.lines.SlotChangeKnows.{ArmsSlot, FitsMachine, IsInLog, SlotChangeRests}
+use Rattle.mmu_core.specs.lines.SlotChangeKnows.{ArmsSlot, Fits, IsInLog, SlotChangeRests}
 use Rattle.mmu_core.specs.machine.Sums.{one_if}
 use Rattle.mmu_core.proofs.lines.AccessParts.{AreSmall}
 use Rattle.mmu_core.proofs.lines.ClaimMade.{claim_is}
@@ -40,7 +40,7 @@ use Rattle.core_views.specs.Refusals.{is_logged, log_refusal}
 use Rattle.core_views.specs.Slots.{first_of, is_some_and}
 use Rattle.core_views.specs.SlotSets.{slot_of_id}
 use Rattle.core_views.proofs.SlotChanges.{logged_there, none_refused}
-use Rattle.part_steps.specs.LogHoldings.{log_begin, log_end}
+use Rattle.part_steps.specs.LogHoldings.{is_in_log, log_begin, log_end}
 use Rattle.mmu_core.specs.invariant.Invariant.{RecordPart}
 use Rattle.mmu_core.specs.lines.WriteProtectSteps.{protect_part}
 use Rattle.std.specs.Option.{option_map}
@@ -52,6 +52,7 @@ use Rattle.mmu_core.specs.invariant.TopicsInvariant.{TopicsInvariant}
 use Rattle.mmu_core.specs.machine.View.{View, answer_in}
 use Rattle.mmu_core.proofs.slots.Changes.{Publishes, armed_fits, change_is_managers, change_small, invalidated_fits, recorded_fits, some_slot}
 use Rattle.mmu_core.proofs.words.SmallSlots.{has_page, record_is_so}
+use Rattle.mmu_core.proofs.slots.LogsApart.{logs_apart}
 use Rattle.mmu_core.proofs.machine.PartStepping.{AreApart, Replaces}
 use Rattle.part_steps.specs.PartBounds.{PartRests}
 use Rattle.mmu_core.proofs.invariant.PartBounded.{part_rests_at}
@@ -150,6 +151,9 @@ arms_slot z v a line command S I some = by command refl some
     Arms : Command → Type 0
     Arms c = ArmsSlot h.state.actor h.state.sizes c h.slots
 
+    same_some : {x y : MemorySlot} → Some x ≡ Some y → x ≡ y
+    same_some e = cc e
+
     -- the slot at the ID
     of_slot : (id : ℕ) (was : MemorySlot) → slot_of_id id h.slots ≡ Some was → was.logged ≡ false → Arms (SetLog id true)
     of_slot id was at none =
@@ -160,18 +164,27 @@ arms_slot z v a line command S I some = by command refl some
           arms = refl;
           there = ap (λ (o : Option MemorySlot). is_some (option_map (λ m. m.slot) o)) at;
           fits =
-              subst (λ s. FitsMachine h.state.sizes s) (sym same) (subst (λ (y : Sizes). FitsMachine y was.slot) (sym (I.lines a S.there).sizes)
+              subst (λ s. Fits h.state.sizes s) (sym same) (subst (λ (y : Sizes). Fits y was.slot) (sym (I.lines a S.there).sizes)
               (recorded_fits z (v.words area.Pool) (v.words area.Slots 0) id h.slots was R I.set_part.slots at));
           some =
               subst (λ s. 1 ≤ s.pages) (sym same)
               (record_is_so (λ s. 1 ≤ s.pages) has_page z h.lines h.slots (I.lines a S.there).allowed (I.lines a S.there).set id was at);
           unlogged = λ word in_log.
-              some_slot (λ m. not m.logged && (nat_le (log_begin m.slot) word && nat_lt word (log_end m.slot))) h.slots id was at
+              some_slot (λ m. not m.logged && is_in_log word m.slot) h.slots id was at
               (of_word was word none (subst (λ s. IsInLog s word) same in_log));
+          of_no_log = λ word in_log other m there has.
+              logs_apart z (v.words area.Pool) (v.words area.Slots 0) h.lines h.slots R I.set_part.slots (I.lines a S.there).allowed (I.lines a S.there).set
+              id other was m (λ e. one_log was m none has (same_slot id other was m e at there)) at there word (subst (λ s. IsInLog s word) same in_log);
         }
       where
+        same_slot : (i j : ℕ) (m n : MemorySlot) → i ≡ j → slot_of_id i h.slots ≡ Some m → slot_of_id j h.slots ≡ Some n → m ≡ n
+        same_slot i j m n e here there = same_some (sym here ∙ ap (λ k. slot_of_id k h.slots) e ∙ there)
+
+        one_log : (m n : MemorySlot) → m.logged ≡ false → n.logged ≡ true → m ≡ n → ⊥
+        one_log m n none has e = let s = ap (λ (o : MemorySlot). o.logged) e in cc (none, has, s)
+
         of_word : (m : MemorySlot) (word : ℕ) → m.logged ≡ false → IsInLog m.slot word
-            → (not m.logged && (nat_le (log_begin m.slot) word && nat_lt word (log_end m.slot))) ≡ true
+            → (not m.logged && is_in_log word m.slot) ≡ true
         of_word m word none in_log =
             let from : nat_le (log_begin m.slot) word ≡ true = let le = in_log.0 in grind (arith, nat_tests) in
             let to : nat_lt word (log_end m.slot) ≡ true = let lt = in_log.1 in grind (arith, nat_tests) in
@@ -227,13 +240,13 @@ pub change_said : (z : Sizes) (v : View) (a : ℕ) (line : Line) (p : SlotChange
     → Invariant z v → TopicsInvariant z v → WordsSay p command (v.hand a) (answer_in (slot_change_task p (v.hand a) command) v.words)
 change_said z v a line p command S I P = record {
   fits = λ slot is.
-      subst (λ (y : Sizes). FitsMachine y slot) (sym (I.lines a S.there).sizes)
+      subst (λ (y : Sizes). Fits y slot) (sym (I.lines a S.there).sizes)
       (invalidated_fits z (v.words area.Pool) (v.words area.Slots 0) (v.hand a).slots command slot (record_of z v a line command p S I) I.set_part.slots is);
   counted = λ is.
       subst (λ q. own_open (v.hand a).topics.invalidations ≤ answer_in (slot_change_task q (v.hand a) command) v.words) (sym is)
       (own_counted z v a P S.there);
   armed = λ slot is.
-      subst (λ (y : Sizes). FitsMachine y slot × (1 ≤ slot.pages)) (sym (I.lines a S.there).sizes)
+      subst (λ (y : Sizes). Fits y slot × (1 ≤ slot.pages)) (sym (I.lines a S.there).sizes)
       (armed_fits z (v.words area.Pool) (v.words area.Slots 0) (v.hand a).lines (v.hand a).slots command slot (record_of z v a line command p S I)
       I.set_part.slots (I.lines a S.there).allowed (I.lines a S.there).set is);
   there = λ is. armed_there z v a line command (subst (λ q. IsStep z v a line command (place.SlotChange q)) is S) I;

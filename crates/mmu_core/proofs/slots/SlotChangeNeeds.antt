@@ -58,6 +58,7 @@ arm_needs begun h command K = by begun K.4
           reads = record { manager = K.3.manager; there = omega (arith, high, pages) };
           small = small;
           unlogged = K.3.unlogged word in_log;
+          of_no_log = K.3.of_no_log word in_log;
         }
 
     by : (begun : Bool) → (begun ≡ true → IsInLog slot h.topics.next_log_word) → PartNeeds (slot_change_part (Arm begun) h command) h

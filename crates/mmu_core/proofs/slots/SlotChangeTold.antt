@@ -77,27 +77,31 @@ module _ (h : Held) (command : Command) (v : ℕ) where
   at_once_told true = arms_told command
   at_once_told false = Nothing
 
-  clean_told : (range : FrameRange) (c : Command) → has_to_flush v ≡ false
+  clean_told : (range : FrameRange) (c : Command) → has_to_flush v ≡ false → nat_lt (h.topics.flush.awaited + 1) h.state.sizes.vcpus ≡ false
       → Told h v (place.SlotChange (WriteProtect range protect.Await)) command (armed false c)
-  clean_told range (SetLog id true) seen = ArmsClean id h.topics.flush.awaited refl seen
-  clean_told range (SetLog id false) seen = Nothing
-  clean_told range (Access gfn word op) seen = Nothing
-  clean_told range (ChangeHost page change) seen = Nothing
-  clean_told range (SetSlot id slot) seen = Nothing
-  clean_told range (DeleteSlot id) seen = Nothing
-  clean_told range (GetLog id) seen = Nothing
-  clean_told range (ClearLog id first count words) seen = Nothing
+  clean_told range (SetLog id true) seen last = ArmsClean range id seen last
+  clean_told range (SetLog id false) seen last = Nothing
+  clean_told range (Access gfn word op) seen last = Nothing
+  clean_told range (ChangeHost page change) seen last = Nothing
+  clean_told range (SetSlot id slot) seen last = Nothing
+  clean_told range (DeleteSlot id) seen last = Nothing
+  clean_told range (GetLog id) seen last = Nothing
+  clean_told range (ClearLog id first count words) seen last = Nothing
 
   first_not : (a b : Bool) → (a || b) ≡ false → a ≡ false
   first_not true b is = absurd (cc is)
   first_not false b is = refl
+
+  second_not : (a b : Bool) → (a || b) ≡ false → b ≡ false
+  second_not true b is = absurd (cc is)
+  second_not false b is = is
 
   protect_told : (range : FrameRange) (p : WriteProtectPlace)
       → Told h v (place.SlotChange (WriteProtect range p)) command (protect_tells (protect_next p h.state.sizes range h.topics v) command)
   protect_told range protect.Await =
       one_place (λ q. Told h v (place.SlotChange (WriteProtect range protect.Await)) command (protect_tells q command))
       (has_to_flush v || nat_lt (h.topics.flush.awaited + 1) h.state.sizes.vcpus) (protects_next.Goes protect.Await) protects_next.Over (λ e. Nothing)
-      (λ e. clean_told range command (first_not (has_to_flush v) _ e))
+      (λ e. clean_told range command (first_not (has_to_flush v) _ e) (second_not (has_to_flush v) _ e))
   protect_told range (protect.Walk true) = Nothing
   protect_told range (protect.Walk false) = Nothing
   protect_told range _ = Nothing

@@ -1,5 +1,5 @@
 -- The slots that lines set, and those of the manager's record, have small numbers.
-use Rattle.std.proofs.Common.{◌≡◌, ◌<◌, ◌≤◌, ◌==◌, ℕ, zero, suc, List, [], ◌∷◌, length, get_or, map, subst, arith}
+use Rattle.std.proofs.Common.{◌≡◌, ◌<◌, ◌≤◌, ◌==◌, ◌%◌, ℕ, zero, suc, List, [], ◌∷◌, length, get_or, map, subst, arith}
 use Rattle.std.specs.Prelude.{Bool, true, false, All, Contains, if◌then◌else◌, Some}
 use Rattle.std.proofs.lemmas.List.Elements.{All-head, All-tail}
 use Rattle.core_views.specs.declared.actor.Actor.{Actor}
@@ -24,6 +24,11 @@ in_range z _ id slot may = absurd may
 pub has_page : (z : Sizes) (actor : Actor) (id : ℕ) (slot : Slot) → IsCommandFor z actor (SetSlot id slot) → 1 ≤ slot.pages
 has_page z Manager id slot may = may.some
 has_page z _ id slot may = absurd may
+
+-- And its host pages begin with a word of the dirty logs.
+pub aligned : (z : Sizes) (actor : Actor) (id : ℕ) (slot : Slot) → IsCommandFor z actor (SetSlot id slot) → slot.host % 64 ≡ 0
+aligned z Manager id slot may = may.aligned
+aligned z _ id slot may = absurd may
 
 -- What is so of each slot that a line may set is so of each of a record that lines set.
 module _ (IsSo : Slot → Type 0) (each : (z : Sizes) (actor : Actor) (id : ℕ) (slot : Slot) → IsCommandFor z actor (SetSlot id slot) → IsSo slot) where

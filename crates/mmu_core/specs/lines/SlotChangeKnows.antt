@@ -24,7 +24,7 @@ use Rattle.part_steps.specs.PartHoldings.{HasRoleToSet, HasToFill, MayGiveOld, M
 use Rattle.part_steps.specs.PartSteps.{IsAtRest}
 use Rattle.part_steps.specs.SetWords.{IsFilledWith}
 pub use Rattle.mmu_core.specs.lines.LockKnows.{HoldsLock}
-pub use Rattle.mmu_core.specs.lines.ArmKnows.{ArmsFitting, ArmsSlot, ArmsThere, FitsMachine, IsInLog, IsSweepable}
+pub use Rattle.mmu_core.specs.lines.ArmKnows.{AreFramesOf, ArmsFitting, ArmsSlot, ArmsThere, Fits, IsInLog, IsSweepable}
 use Rattle.mmu_core.specs.lines.PartWaits.{saw_open}
 use Rattle.mmu_core.specs.lines.SlotChangeSteps.{arm_word, log_target, looked_at, slot_or_none, slot_target}
 use Rattle.mmu_core.specs.lines.WriteProtectKnows.{WriteProtectKnows}
@@ -56,7 +56,7 @@ SlotChangeKnows Fill command h = HoldsLock Loose h.topics × HasToFill h.topics
 SlotChangeKnows Role command h = HoldsLock Loose h.topics × HasRoleToSet h.topics
 SlotChangeKnows (Begin p) command h =
     OwnsSet h.topics × BeginKnows p h.state.sizes (slot_target h command) h.topics × (is_some (slot_invalidated h.slots command) ≡ true)
-    × FitsMachine h.state.sizes (slot_or_none (slot_invalidated h.slots command))
+    × Fits h.state.sizes (slot_or_none (slot_invalidated h.slots command))
 SlotChangeKnows (Arm begun) command h =
     HoldsLock Loose h.topics × OwnsSet h.topics × (h.topics.invalidations.opened ≡ false) × ArmsSlot h.state.actor h.state.sizes command h.slots
     × (begun ≡ true → IsInLog (log_target h command) h.topics.next_log_word)
@@ -79,7 +79,7 @@ SlotChangeKnows Watch command h =
     × ArmsFitting h.state.sizes command h.slots × ArmsThere command h.slots
 SlotChangeKnows (WriteProtect range p) command h =
     MayGiveOld h × WriteProtectKnows p h.state.sizes range h.topics × IsSweepable h.state.sizes range
-    × (arms command ≡ true) × (is_all_set h.state.sizes.mode ≡ false)
+    × (arms command ≡ true) × (is_all_set h.state.sizes.mode ≡ false) × AreFramesOf (log_target h command) range
 SlotChangeKnows Clear command h = HoldsLock Loose h.topics × MayGiveOld h
 SlotChangeKnows Give command h = HoldsLock Loose h.topics × MayGiveOld h
 
@@ -87,7 +87,7 @@ SlotChangeKnows Give command h = HoldsLock Loose h.topics × MayGiveOld h
 abbrev pub SlotChangeRests : SlotChangePlace → Command → Held → Type 0
 SlotChangeRests (Begin p) command h = IsSmall (slot_target h command)
 SlotChangeRests (Arm begun) command h =
-    IsInLog (log_target h command) (arm_word begun (log_target h command) h.topics) × FitsMachine h.state.sizes (log_target h command)
+    IsInLog (log_target h command) (arm_word begun (log_target h command) h.topics) × Fits h.state.sizes (log_target h command)
 SlotChangeRests Watch command h = ArmsFitting h.state.sizes command h.slots
 SlotChangeRests _ command h = Unit {0}
 

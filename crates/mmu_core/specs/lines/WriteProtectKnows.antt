@@ -7,7 +7,7 @@ use Rattle.core_views.specs.declared.sizes.Sizes.{Sizes}
 use Rattle.core_views.specs.declared.topics.Topics.{Topics}
 use Rattle.part_steps.specs.PartSteps.{IsFree}
 use Rattle.mmu_core.specs.lines.InvalidateKnows.{IsSweeping}
-use Rattle.mmu_core.specs.lines.SweepKnows.{IsAtEntry, IsAtLeaf}
+use Rattle.mmu_core.specs.lines.SweepKnows.{IsAtEnd, IsAtEntry, IsAtLeaf}
 
 -- It holds nothing but, perhaps, a page, and no invalidation of its own is open.
 pub record IsFreeOfOwn (t : Topics) : Type 0 where
@@ -18,6 +18,6 @@ abbrev pub WriteProtectKnows : WriteProtectPlace → Sizes → FrameRange → To
 WriteProtectKnows protect.Exclude z range t = IsFreeOfOwn t
 WriteProtectKnows (protect.Walk rooted) z range t = IsSweeping false t × (rooted ≡ true → IsAtEntry false range t.walk)
 WriteProtectKnows protect.Protect z range t = IsSweeping false t × IsAtLeaf false range t.walk
-WriteProtectKnows protect.Release z range t = IsSweeping false t
+WriteProtectKnows protect.Release z range t = IsSweeping false t × IsAtEnd false range t.walk
 WriteProtectKnows protect.Ask z range t = IsFreeOfOwn t × (t.flush.asked < z.vcpus) × (t.flush.awaited ≡ 0)
 WriteProtectKnows protect.Await z range t = IsFreeOfOwn t × (t.flush.asked ≡ z.vcpus) × (t.flush.awaited < z.vcpus)

@@ -1,7 +1,8 @@
 -- Each event that a step tells is of its word, and of what it finds and leaves there.
-use Rattle.std.proofs.Common.{◌≡◌, ◌<◌, eqb-true, ℕ, List, [], ◌∷◌, refl, sym, subst, ap, arith}
+use Rattle.std.proofs.Common.{◌≡◌, ◌≤◌, ◌<◌, ◌+◌, eqb-true, ℕ, List, [], ◌∷◌, refl, sym, subst, ap, arith}
 use Rattle.std.proofs.lemmas.List.Elements.{All-append, All-cons, All-map, All-nil}
-use Rattle.std.specs.Prelude.{All, Bool, Option, Some, true, false, ◌==◌, if◌then◌else◌}
+use Rattle.std.specs.Prelude.{All, Bool, Option, Some, true, false, ◌==◌, nat_lt, if◌then◌else◌}
+use Rattle.std.proofs.lemmas.Bool.Decides.{nat_tests}
 use Rattle.core_views.specs.declared.event.Event.{Event}
 use Rattle.core_views.specs.declared.event.EventKind.{EventKind}
 use Rattle.core_views.specs.declared.event.EventKind.TheVariants.{SlotChanged, Answered, Begun, BroughtIn, Exited, HostChanged, LookedAtHost}
@@ -11,7 +12,10 @@ use Rattle.core_views.specs.declared.place.AccessPlace.TheVariants.{Fault, Pause
 use Rattle.core_views.specs.declared.place.FaultPlace.TheVariants as fault
 use Rattle.core_views.specs.declared.place.HostPlace.{HostPlace}
 use Rattle.core_views.specs.declared.place.HostPlace.TheVariants as host_at
+use Rattle.core_views.specs.declared.place.FrameRange.{FrameRange}
 use Rattle.core_views.specs.declared.place.Place.{Place}
+use Rattle.core_views.specs.declared.place.SlotChangePlace.TheVariants.{WriteProtect}
+use Rattle.core_views.specs.declared.place.WriteProtectPlace.TheVariants as protect
 use Rattle.core_views.specs.declared.place.Place.TheVariants as place
 use Rattle.core_views.specs.declared.sizes.Sizes.{Sizes}
 use Rattle.core_views.specs.declared.trace.Command.{Command}
@@ -57,16 +61,16 @@ use Rattle.mmu_core.proofs.machine.Which.{is_next}
 use Rattle.part_steps.specs.Tasks.{kind_of_task}
 use Rattle.mmu_laws.specs.steps.EventLaws.{HasAwaited, IsOfKindOn, MayTell}
 
-module _ (z : Sizes) (v : ℕ) where
-  -- What a step with these numbers may tell, all of it.
+module _ (z : Sizes) (h : Held) (v : ℕ) where
+  -- What a step of this hand with these numbers may tell, all of it.
   abbrev AllMay : Kind → List EventKind → Type 0
-  AllMay k events = All (MayTell z k v) events
+  AllMay k events = All (MayTell z h k v) events
 
-  one : (k : Kind) (event : EventKind) → MayTell z k v event → AllMay k (event ∷ [])
-  one k event may = All-cons (MayTell z k v) event [] may (All-nil (MayTell z k v))
+  one : (k : Kind) (event : EventKind) → MayTell z h k v event → AllMay k (event ∷ [])
+  one k event may = All-cons (MayTell z h k v) event [] may (All-nil (MayTell z h k v))
 
   none : (k : Kind) → AllMay k []
-  none k = All-nil (MayTell z k v)
+  none k = All-nil (MayTell z h k v)
 
   begins_so : (k : Kind) (p : Place) (line : Line) → AllMay k (beginning p line)
   begins_so k place.Between line = one k (Begun line) tt
@@ -87,39 +91,39 @@ module _ (h : Held) (v : ℕ) where
   z = h.state.sizes
 
   abbrev AllTold : Place → Command → Type 0
-  AllTold p command = AllMay z v (kind_of_task z (task_at p command h)) (tells_at p command h v)
+  AllTold p command = AllMay z h v (kind_of_task z (task_at p command h)) (tells_at p command h v)
 
   touch_told : (gfn word : ℕ) (op : Op) → AllTold (place.Access Touch) (Access gfn word op)
-  touch_told gfn word Read = one z v _ _ (record { at = record { kind_is = refl; on = refl }; finds = refl })
-  touch_told gfn word (Write x) = one z v _ _ (record { at = record { kind_is = refl; on = refl }; finds = refl })
-  touch_told gfn word (Add x) = one z v _ _ (record { at = record { kind_is = refl; on = refl }; finds = refl })
+  touch_told gfn word Read = one z h v _ _ (record { at = record { kind_is = refl; on = refl }; finds = refl })
+  touch_told gfn word (Write x) = one z h v _ _ (record { at = record { kind_is = refl; on = refl }; finds = refl })
+  touch_told gfn word (Add x) = one z h v _ _ (record { at = record { kind_is = refl; on = refl }; finds = refl })
 
   find_told : (begun : Bool) (gfn word : ℕ) (op : Op) → AllTold (place.Access (Fault (fault.Find begun))) (Access gfn word op)
-  find_told true gfn word op = none z v _
-  find_told false gfn word op = one z v _ _ (record { kind_is = refl; on = refl })
+  find_told true gfn word op = none z h v _
+  find_told false gfn word op = one z h v _ _ (record { kind_is = refl; on = refl })
 
   bring_told : (won : Bool) (gfn word : ℕ) (op : Op) → (v == word_looked h.topics.host) ≡ won → host_present (word_looked h.topics.host) ≡ false
-      → AllMay z v (kind_of_task z (task_at (place.Access (Fault fault.Bring)) (Access gfn word op) h))
+      → AllMay z h v (kind_of_task z (task_at (place.Access (Fault fault.Bring)) (Access gfn word op) h))
       (if won then BroughtIn (page_looked h.topics.host) ∷ [] else [])
   bring_told true gfn word op is absent =
-      one z v _ _ (record {
+      one z h v _ _ (record {
         at = record { kind_is = refl; on = refl };
         won = eqb-true v (word_looked h.topics.host) is;
         absent = absent;
         leaves = (words_tell true 0 (word_looked h.topics.host)).presence;
       })
-  bring_told false gfn word op is absent = none z v _
+  bring_told false gfn word op is absent = none z h v _
 
   access_told : (p : AccessPlace) (gfn word : ℕ) (op : Op) → AccessKnows p gfn (is_write op) h → AllTold (place.Access p) (Access gfn word op)
-  access_told (Pause again) gfn word op K = one z v _ _ (record { kind_is = refl; on = refl })
+  access_told (Pause again) gfn word op K = one z h v _ _ (record { kind_is = refl; on = refl })
   access_told Touch gfn word op K = touch_told gfn word op
   access_told (Fault (fault.Find begun)) gfn word op K = find_told begun gfn word op
-  access_told (Fault (fault.FastFind true)) gfn word op K = none z v _
-  access_told (Fault (fault.FastFind false)) gfn word op K = one z v _ _ (record { kind_is = refl; on = refl })
-  access_told (Fault fault.Host) gfn word op K = one z v _ _ (record { kind_is = refl; on = refl })
+  access_told (Fault (fault.FastFind true)) gfn word op K = none z h v _
+  access_told (Fault (fault.FastFind false)) gfn word op K = one z h v _ _ (record { kind_is = refl; on = refl })
+  access_told (Fault fault.Host) gfn word op K = one z h v _ _ (record { kind_is = refl; on = refl })
   access_told (Fault fault.Bring) gfn word op K = bring_told (v == word_looked h.topics.host) gfn word op refl K.1.presence
-  access_told (Fault (fault.End e)) gfn word op K = exits_so z v _ (fault_over e)
-  access_told _ gfn word op K = none z v _
+  access_told (Fault (fault.End e)) gfn word op K = exits_so z h v _ (fault_over e)
+  access_told _ gfn word op K = none z h v _
 
   -- A step that publishes is of the set's word.
   publishes : (p : Place) (command : Command) → part_at p command h ≡ Some part.Publish
@@ -128,59 +132,68 @@ module _ (h : Held) (v : ℕ) where
       subst (λ (s : Option PartStep). IsOfKindOn z kind.Publish area.Slots 0 (kind_of_task z (task_by s h (note_at p command h) (touch_at command h))))
       (sym at) (record { kind_is = refl; on = refl })
 
-  awaits : (p : Place) (command : Command) (index : ℕ) → part_at p command h ≡ Some (part.Await index) → has_to_flush v ≡ false
-      → HasAwaited z (kind_of_task z (task_at p command h)) v
-  awaits p command index at seen =
-      subst (λ (s : Option PartStep). HasAwaited z (kind_of_task z (task_by s h (note_at p command h) (touch_at command h))) v) (sym at)
-      (record { index = index; at = record { kind_is = refl; on = refl }; seen = seen })
+  awaited_last : (range : FrameRange) (command : Command) → KnowsPart (place.SlotChange (WriteProtect range protect.Await)) command h
+      → has_to_flush v ≡ false → nat_lt (h.topics.flush.awaited + 1) z.vcpus ≡ false
+      → HasAwaited z h (kind_of_task z (task_at (place.SlotChange (WriteProtect range protect.Await)) command h)) v
+  awaited_last range command K seen last =
+      let lt = K.1.1.2 in
+      let all : z.vcpus ≤ h.topics.flush.awaited + 1 = grind (arith, nat_tests) in
+      record {
+        at = record { kind_is = refl; on = refl };
+        seen = seen;
+        loose = K.1.1.0.free.loose;
+        asked = K.1.1.1;
+        last = omega (arith, lt, all);
+        watched = K.1.0;
+      }
 
   look_told : (own : Bool) (page : ℕ) → is_own z h.state.actor page ≡ own
-      → AllMay z v (kind_of_task z (part_task (if own then part.Host page else part.Seq) (own_index h) h.topics (if own then 0 else 1)))
+      → AllMay z h v (kind_of_task z (part_task (if own then part.Host page else part.Seq) (own_index h) h.topics (if own then 0 else 1)))
       (if own then LookedAtHost page ∷ [] else [])
-  look_told true page is = one z v _ _ (record { kind_is = refl; on = refl })
-  look_told false page is = none z v _
+  look_told true page is = one z h v _ _ (record { kind_is = refl; on = refl })
+  look_told false page is = none z h v _
 
   exchange_told : (won : Bool) (page : ℕ) (change : HostChange) → (v == word_looked h.topics.host) ≡ won → page_looked h.topics.host ≡ page
-      → AllMay z v (kind_of_task z (task_at (place.Host host_at.Change) (ChangeHost page change) h))
+      → AllMay z h v (kind_of_task z (task_at (place.Host host_at.Change) (ChangeHost page change) h))
       (if won then HostChanged page (entry_of (word_put change h.topics)) ∷ [] else [])
   exchange_told true page change is at =
-      one z v _ _ (record {
+      one z h v _ _ (record {
         at = record { kind_is = refl; on = ap (λ (i : ℕ). place_of (map_of z) area.Host i) at };
         won = eqb-true v (word_looked h.topics.host) is;
         leaves = refl;
       })
-  exchange_told false page change is at = none z v _
+  exchange_told false page change is at = none z h v _
 
   host_told : (p : HostPlace) (page : ℕ) (change : HostChange) → HostKnows p page change h → AllTold (place.Host p) (ChangeHost page change)
   host_told (host_at.Look moving) page change K = look_told (is_own z h.state.actor page) page refl
-  host_told (host_at.Claim begun) page change K = exits_so z v _ (host_outcome (host_at.Claim begun) page h v)
+  host_told (host_at.Claim begun) page change K = exits_so z h v _ (host_outcome (host_at.Claim begun) page h v)
   host_told host_at.Change page change K = exchange_told (v == word_looked h.topics.host) page change refl K.0.at
-  host_told _ page change K = none z v _
+  host_told _ page change K = none z h v _
 
   line_told : (p : Place) (command : Command) (kinds : List EventKind) → Told h v p command kinds → KnowsPart p command h
-      → AllMay z v (kind_of_task z (task_at p command h)) kinds
-  line_told p command _ Nothing K = none z v _
-  line_told p command _ (Exit no_frame) K = exits_so z v _ (outcome_at p command h v)
-  line_told p command _ (Arms id at) K = one z v _ _ (publishes p command at)
-  line_told p command _ (ArmsClean id index at seen) K = one z v _ _ (awaits p command index at seen)
+      → AllMay z h v (kind_of_task z (task_at p command h)) kinds
+  line_told p command _ Nothing K = none z h v _
+  line_told p command _ (Exit no_frame) K = exits_so z h v _ (outcome_at p command h v)
+  line_told p command _ (Arms id at) K = one z h v _ _ (publishes p command at)
+  line_told _ command _ (ArmsClean range id seen last) K = one z h v _ _ (awaited_last range command K seen last)
   line_told p command _ (Change id slot at more) K =
-      All-cons (MayTell z (kind_of_task z (task_at p command h)) v) (SlotChanged id slot) _ (publishes p command at) (line_told p command _ more K)
+      All-cons (MayTell z h (kind_of_task z (task_at p command h)) v) (SlotChanged id slot) _ (publishes p command at) (line_told p command _ more K)
   line_told _ _ _ (OfAccess p gfn word op) K = access_told p gfn word op K
   line_told _ _ _ (OfHost p page change) K = host_told p page change K
 
   -- with its line's begin and its answer
   all_told : KnowsPart (place_at h.state.place h) (line_of h).command h
-      → All (λ (e : Event). MayTell z (kind_of_task z (task_of h)) v e.kind) (events_by true h v)
+      → All (λ (e : Event). MayTell z h (kind_of_task z (task_of h)) v e.kind) (events_by true h v)
   all_told K =
       let p : Place = place_at h.state.place h in
       let k : Kind = kind_of_task z (task_of h) in
-      All-map (λ (e : Event). MayTell z k v e.kind) (λ (event : EventKind). record { actor = h.state.actor; kind = event }) _
-      (All-append (MayTell z k v) (beginning h.state.place (line_of h)) _ (begins_so z v k h.state.place (line_of h))
-      (All-append (MayTell z k v) (tells_at p (line_of h).command h v) _ (line_told p (line_of h).command _ (place_tells p (line_of h).command h v) K)
-      (answers_so z v k (outcome_at p (line_of h).command h v) (line_of h))))
+      All-map (λ (e : Event). MayTell z h k v e.kind) (λ (event : EventKind). record { actor = h.state.actor; kind = event }) _
+      (All-append (MayTell z h k v) (beginning h.state.place (line_of h)) _ (begins_so z h v k h.state.place (line_of h))
+      (All-append (MayTell z h k v) (tells_at p (line_of h).command h v) _ (line_told p (line_of h).command _ (place_tells p (line_of h).command h v) K)
+      (answers_so z h v k (outcome_at p (line_of h).command h v) (line_of h))))
 
 pub events_are_of_their_steps : (z : Sizes) (w : World Held) (s : Step Kind) → IsSound z w → May mmu w s
-    → All (λ (e : Event). MayTell z s.kind (answered mmu w s.kind) e.kind) (events_of (hand_in mmu w s.actor) (answered mmu w s.kind))
+    → All (λ (e : Event). MayTell z (hand_in mmu w s.actor) s.kind (answered mmu w s.kind) e.kind) (events_of (hand_in mmu w s.actor) (answered mmu w s.kind))
 unfolding events_of
 events_are_of_their_steps z w s G may = by (has_line h) refl
   where
@@ -196,10 +209,10 @@ events_are_of_their_steps z w s G may = by (has_line h) refl
     same : h.state.sizes ≡ z
     same = (G.holds.lines s.actor there).sizes
 
-    by : (b : Bool) → has_line h ≡ b → All (λ (e : Event). MayTell z s.kind v e.kind) (events_by b h v)
-    by false is = All-nil (λ (e : Event). MayTell z s.kind v e.kind)
+    by : (b : Bool) → has_line h ≡ b → All (λ (e : Event). MayTell z h s.kind v e.kind) (events_by b h v)
+    by false is = All-nil (λ (e : Event). MayTell z h s.kind v e.kind)
     by true is =
         let N = is_next h s.kind may.enabled is in
-        subst (λ (k : Kind). All (λ (e : Event). MayTell z k v e.kind) (events_by true h v)) (sym N.is)
-        (subst (λ (y : Sizes). All (λ (e : Event). MayTell y (kind_of_task h.state.sizes (task_of h)) v e.kind) (events_by true h v)) same
+        subst (λ (k : Kind). All (λ (e : Event). MayTell z h k v e.kind) (events_by true h v)) (sym N.is)
+        (subst (λ (y : Sizes). All (λ (e : Event). MayTell y h (kind_of_task h.state.sizes (task_of h)) v e.kind) (events_by true h v)) same
         (all_told h v (knows_at z (view z w) s.actor G.holds there N.left)))

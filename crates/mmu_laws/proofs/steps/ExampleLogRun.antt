@@ -11,12 +11,10 @@ use Rattle.spte_words.specs.Entries.{table_word, with_write, without_write, host
 use Rattle.spte_words.specs.Flags.{flags_live, flags_logged, flags_read_only, flags_word}
 use Rattle.spte_words.specs.HostWords.{host_allows_write, host_frame, host_level, host_present, host_word}
 use lib.Count.{count_trailing_zeros}
-use Rattle.core_views.specs.Sizes.{AreSizes}
 use Rattle.core_views.specs.Text.{line_text, text}
 use Rattle.core_views.specs.declared.event.Event.{Event}
 use Rattle.mmu_laws.specs.steps.ExampleHost.{write_first}
-use Rattle.mmu_laws.specs.steps.ExampleLog.{ExampleLog, all_set_events, all_set_lines, all_set_sizes, events_to_log, log_all, log_events, log_lines}
-use Rattle.mmu_laws.specs.steps.ExampleLog.{log_off, log_on, write_beside, write_logged}
+use Rattle.mmu_laws.specs.steps.ExampleLog.{ExampleLog, events_to_log, log_again, log_events, log_lines, log_off, log_on, write_beside, write_logged}
 use Rattle.spte_words.specs.declared.area.Area.{Area}
 use Rattle.spte_words.specs.declared.area.Area.TheVariants as area
 use Rattle.mmu_laws.specs.steps.ExampleSteps.{RunDelays, RunLeaves, run_sizes, set_line}
@@ -30,9 +28,6 @@ use Rattle.mmu_core.proofs.start.StartViews.{start_view}
 -- the start, and what hands have counted and words hold after these rounds
 abbrev begun : View
 begun = start_view run_sizes log_lines
-
-abbrev all_begun : View
-all_begun = start_view all_set_sizes all_set_lines
 
 abbrev delays_after : List (ℕ × List ℕ) → View → ℕ → ℕ
 delays_after rounds v actor = ((leads_all rounds v).hand actor).state.delays
@@ -50,8 +45,8 @@ rounds_to_write steps = rounds_to_log 19 ++ (steps_of steps 0 ∷ [])
 abbrev log_rounds : List (ℕ × List ℕ)
 log_rounds = rounds_to_write 31 ++ (steps_of 524 3 ∷ [])
 
-abbrev all_rounds : ℕ → List (ℕ × List ℕ)
-all_rounds steps = steps_of 524 3 ∷ steps_of 1581 0 ∷ steps_of steps 3 ∷ []
+abbrev rounds_again : ℕ → List (ℕ × List ℕ)
+rounds_again steps = log_rounds ++ (steps_of steps 3 ∷ [])
 
 -- before the first leaf forbids writes, and after it
 first_before :
@@ -126,56 +121,32 @@ unfolding flushed topics_after place kind_of level_span table_word frozen_word c
     without_write with_write host_writable mmu_writable
 whole = (refl, refl, refl, refl)
 
--- where the log begins with each page dirty
-set_all :
-    (fits_all all_set_sizes (all_rounds 516) all_begun ≡ true)
-    × (word_after (all_rounds 516) all_begun area.Log 1 ≡ 7)
+-- before the log's word is set as it begins again, and after it
+before_again :
+    (fits_all run_sizes (rounds_again 515) begun ≡ true)
+    × (word_after (rounds_again 515) begun area.Log 1 ≡ 2)
 unfolding flushed topics_after place kind_of level_span table_word frozen_word content_index pool_index absent_word frame_in mapped_frame leaf_word flags_live
     flags_read_only flags_word host_allows_write host_frame host_present host_level host_word can_write is_leaf_at flags_logged count_trailing_zeros
-    without_write
-set_all = (refl, refl)
+    without_write with_write host_writable mmu_writable
+before_again = (refl, refl)
 
-all_whole :
-    (fits_all all_set_sizes (all_rounds 525) all_begun ≡ true)
-    × (tells_all (all_rounds 525) all_begun ≡ all_set_events)
-    × (delays_after (all_rounds 525) all_begun 3 ≡ 0)
-    × (word_after (all_rounds 525) all_begun area.Pool (pool_index 4 6) ≡ leaf_word 1 65 true true true)
+again :
+    (fits_all run_sizes (rounds_again 516) begun ≡ true)
+    × (word_after (rounds_again 516) begun area.Log 1 ≡ 0)
 unfolding flushed topics_after place kind_of level_span table_word frozen_word content_index pool_index absent_word frame_in mapped_frame leaf_word flags_live
     flags_read_only flags_word host_allows_write host_frame host_present host_level host_word can_write is_leaf_at flags_logged count_trailing_zeros
-    without_write
-all_whole = (refl, refl, refl, refl)
+    without_write with_write host_writable mmu_writable
+again = (refl, refl)
 
 log_allowed : All (May run_sizes) log_lines
 log_allowed =
-    All-cons (May run_sizes) set_line (write_first ∷ write_beside ∷ log_on ∷ write_logged ∷ log_off ∷ []) may_set
-    (All-cons (May run_sizes) write_first (write_beside ∷ log_on ∷ write_logged ∷ log_off ∷ []) (omega arith, omega arith, omega arith)
-    (All-cons (May run_sizes) write_beside (log_on ∷ write_logged ∷ log_off ∷ []) (omega arith, omega arith, omega arith)
-    (All-cons (May run_sizes) log_on (write_logged ∷ log_off ∷ []) tt
-    (All-cons (May run_sizes) write_logged (log_off ∷ []) (omega arith, omega arith, omega arith)
-    (All-cons (May run_sizes) log_off [] tt (All-nil (May run_sizes)))))))
-
-all_allowed : All (May all_set_sizes) all_set_lines
-all_allowed =
-    All-cons (May all_set_sizes) set_line (write_first ∷ log_all ∷ [])
-    (record { some = omega arith; pages = omega arith; base = omega arith; host = omega arith; aligned = omega arith })
-    (All-cons (May all_set_sizes) write_first (log_all ∷ []) (omega arith, omega arith, omega arith)
-    (All-cons (May all_set_sizes) log_all [] tt (All-nil (May all_set_sizes))))
-
-all_in_range : AreSizes all_set_sizes
-all_in_range =
-    let R = run_in_range in
-    record {
-      actors = record { vcpus = R.actors.vcpus; hosts = R.actors.hosts; workers = R.actors.workers };
-      some = R.some;
-      pages = R.pages;
-      frames = R.frames;
-      words = R.words;
-      content = R.content;
-      pool = R.pool;
-      cache = R.cache;
-      firsts = R.firsts;
-      rising = record { each = R.rising.each };
-    }
+    All-cons (May run_sizes) set_line (write_first ∷ write_beside ∷ log_on ∷ write_logged ∷ log_off ∷ log_again ∷ []) may_set
+    (All-cons (May run_sizes) write_first (write_beside ∷ log_on ∷ write_logged ∷ log_off ∷ log_again ∷ []) (omega arith, omega arith, omega arith)
+    (All-cons (May run_sizes) write_beside (log_on ∷ write_logged ∷ log_off ∷ log_again ∷ []) (omega arith, omega arith, omega arith)
+    (All-cons (May run_sizes) log_on (write_logged ∷ log_off ∷ log_again ∷ []) tt
+    (All-cons (May run_sizes) write_logged (log_off ∷ log_again ∷ []) (omega arith, omega arith, omega arith)
+    (All-cons (May run_sizes) log_off (log_again ∷ []) tt
+    (All-cons (May run_sizes) log_again [] tt (All-nil (May run_sizes))))))))
 
 log_prints : text log_events ≡ codes "2 vm done\n3 v0 frame 65 value 0\n4 v1 frame 66 value 0\n5 vm done\n6 v0 frame 65 value 7\n7 vm done\n"
 unfolding line_text
@@ -214,9 +185,7 @@ example_log = (
   leaves (rounds_to_write 20) area.Log 1 0 owes.0 owes.2,
   leaves (rounds_to_write 21) area.Log 1 2 marked.0 marked.1,
   leaves log_rounds area.Pool (pool_index 4 7) (leaf_word 1 66 false true true) whole.0 whole.3,
+  leaves (rounds_again 515) area.Log 1 2 before_again.0 before_again.1,
+  leaves (rounds_again 516) area.Log 1 0 again.0 again.1,
   log_prints,
-  run_delays all_set_sizes all_set_lines (all_rounds 525) all_set_events 3 0 all_in_range all_allowed (omega arith) all_whole.0 all_whole.1 all_whole.2,
-  run_leaves all_set_sizes all_set_lines (all_rounds 516) area.Log 1 7 all_in_range all_allowed (omega arith) set_all.0 set_all.1,
-  run_leaves all_set_sizes all_set_lines (all_rounds 525) area.Pool (pool_index 4 6) (leaf_word 1 65 true true true) all_in_range all_allowed (omega arith)
-      all_whole.0 all_whole.3,
 )

@@ -5,7 +5,9 @@ use Rattle.core_views.specs.declared.kind.Kind.{Kind}
 use Rattle.core_views.specs.declared.kind.StepKind.{StepKind}
 use Rattle.core_views.specs.declared.kind.StepKind.TheVariants as kind
 use Rattle.core_views.specs.declared.sizes.Sizes.{Sizes}
+use Rattle.core_views.specs.declared.topics.Hold.TheVariants.{Exclusive}
 use Rattle.core_views.specs.declared.topics.HostLook.{HostLook}
+use Rattle.core_views.specs.declared.topics.Stay.TheVariants.{Outside}
 use Rattle.core_views.specs.declared.topics.Topics.{Topics}
 use Rattle.core_views.specs.declared.trace.Line.{Line}
 use Rattle.core_views.specs.declared.trace.Op.{Op}
@@ -18,13 +20,15 @@ use Rattle.spte_words.specs.HostWords.{host_present, with_presence}
 use Rattle.spte_words.specs.declared.area.Area.TheVariants as area
 use Rattle.spte_words.specs.declared.spte_kind.SpteKind.TheVariants as entry_kind
 use Rattle.spte_words.specs.Areas.{place as place_of, pool_index}
-use Rattle.spte_words.specs.Entries.{kind_of, level_span}
+use Rattle.spte_words.specs.Entries.{can_write, kind_of, level_span}
 use Rattle.part_steps.specs.declared.part_step.PartStep.{PartStep}
 use Rattle.part_steps.specs.declared.part_step.PartStep.TheVariants as part
 use Rattle.part_steps.specs.declared.task.Task.{Task}
+use Rattle.part_steps.specs.PartHoldings.{SawEntry}
 use Rattle.part_steps.specs.PartTasks.{entry_index, own_index, page_looked, part_task, table_page, word_looked}
 use Rattle.part_steps.specs.Tasks.{kind_of_task, map_of}
 use Rattle.mmu_core.specs.alone.FaultAlone.{LeadsTo}
+use Rattle.mmu_core.specs.invariant.InvalidationsPart.{IsEntryStill}
 use Rattle.mmu_core.specs.invariant.Laws.{IsSound}
 use Rattle.mmu_core.specs.invariant.TreePart.{at, stands}
 use Rattle.mmu_core.specs.lines.AccessSteps.{touch_of}
@@ -45,21 +49,21 @@ use Rattle.mmu_laws.proofs.leaves.LeadsDown.{leads_down}
 use Rattle.mmu_core.proofs.pages.EntryStill.{still_leaf}
 
 -- A step of this kind is one of a part.
-abbrev IsOfPart : StepKind → Type 0
+abbrev pub IsOfPart : StepKind → Type 0
 IsOfPart k = (op : Op) (index : ℕ) → (touch_of op index).kind ≢ k
 
 module _ (z : Sizes) (w : World Held) (s : Step Kind) (G : IsSound z w) (may : May mmu w s) where
-  abbrev h : Held
+  abbrev pub h : Held
   h = hand_in mmu w s.actor
 
-  abbrev t : Topics
+  abbrev pub t : Topics
   t = h.topics
 
   -- The step of a part that it is, of this kind.
-  record Made (k : StepKind) : Type 0 where
-    step : PartStep
-    makes : Makes h s step
-    kind_is : (part_task step (own_index h) t makes.note).kind ≡ k
+  pub record Made (k : StepKind) : Type 0 where
+    pub step : PartStep
+    pub makes : Makes h s step
+    pub kind_is : (part_task step (own_index h) t makes.note).kind ≡ k
 
   of_kind : (k : StepKind) (task : Task) → s.kind ≡ kind_of_task h.state.sizes task → kind_named s.kind.code ≡ k → task.kind ≡ k
   of_kind k task is named = sym (named_is task.kind) ∙ (sym (ap (λ (x : Kind). kind_named x.code) is) ∙ named)
@@ -73,7 +77,7 @@ module _ (z : Sizes) (w : World Held) (s : Step Kind) (G : IsSound z w) (may : M
   }
   by_task k other named _ (Touches op index) is = absurd (other op index (of_kind k (touch_of op index) is named))
 
-  made : (k : StepKind) → IsOfPart k → kind_named s.kind.code ≡ k → Made k
+  pub made : (k : StepKind) → IsOfPart k → kind_named s.kind.code ≡ k → Made k
   made k other named = by (takes z w s G may)
     where
       by : Takes z w s h ⊎ TakesPart z w s h → Made k
@@ -92,42 +96,52 @@ module _ (z : Sizes) (w : World Held) (s : Step Kind) (G : IsSound z w) (may : M
 
   -- ---- what is zapped
 
-  zaps_leaf : (gfn : ℕ) → Makes h s (part.Zap gfn) → ZapsOwnFrame z w s
-  zaps_leaf gfn M = record {
-    alone = M.needs.alone;
-    opened = M.needs.opened;
-    gfn = gfn;
-    of_own = (M.needs.from, M.needs.to);
-    page = page;
-    on = word_on z w s G may (part.Zap gfn) M ∙ ap (λ l. place_of (map_of z) area.Pool (pool_index page (entry_index gfn l))) lowest;
-    leads = (leads_down z w gfn page t.walk.level entry G stood).above (subst (λ l. LeadsTo pool l page gfn entry) (sym lowest) refl);
-    leaf = seen;
+  abbrev pub pool : ℕ → ℕ
+  pool = word_in z w area.Pool
+
+  abbrev pub page : ℕ
+  page = table_page t.walk
+
+  abbrev pub entry : ℕ → ℕ
+  entry gfn = pool (pool_index page (entry_index gfn 1))
+
+  -- A leaf that was seen under the lock alone is one of the lowest level still, to which links lead, and what it was where it allowed writes.
+  pub record SeenLeaf (gfn : ℕ) : Type 0 where
+    pub lowest : t.walk.level ≡ 1
+    pub leads : LeadsTo pool 4 (word_in z w area.Root 0) gfn (entry gfn)
+    pub leaf : kind_of 1 (entry gfn) ≡ entry_kind.Leaf
+    pub allows : can_write t.walk.entry ≡ true → can_write (entry gfn) ≡ true
+
+  pub seen_leaf : (gfn : ℕ) → t.hold ≡ Exclusive → t.stay ≡ Outside → SawEntry gfn t.walk → kind_of t.walk.level t.walk.entry ≡ entry_kind.Leaf → SeenLeaf gfn
+  seen_leaf gfn alone outside saw leaf = record {
+    lowest = lowest;
+    leads = (leads_down z w gfn page t.walk.level (entry gfn) G stood).above (subst (λ l. LeadsTo pool l page gfn (entry gfn)) (sym lowest) refl);
+    leaf = subst (λ l. kind_of l (pool (pool_index page (entry_index gfn l))) ≡ entry_kind.Leaf) lowest here;
+    allows = λ writes. subst (λ l. can_write (pool (pool_index page (entry_index gfn l))) ≡ true) lowest (allowed writes still);
   }
     where
-      page : ℕ
-      page = table_page t.walk
-
-      pool : ℕ → ℕ
-      pool = word_in z w area.Pool
-
-      entry : ℕ
-      entry = pool (pool_index page (entry_index gfn 1))
-
       there : s.actor < actors_of z
       there = in_machine z w s G may
 
       at_page : stands G.topics.up G.topics.spot page ≡ Some (at t.walk.level t.walk.prefix)
-      at_page = (G.topics.held s.actor there).table M.needs.saw.over.there
+      at_page = (G.topics.held s.actor there).table saw.over.there
 
       stood : stands G.topics.up G.topics.spot page ≡ Some (at t.walk.level (gfn / level_span t.walk.level / 512))
-      stood = at_page ∙ ap (λ p. Some (at t.walk.level p)) (sym M.needs.saw.over.span)
+      stood = at_page ∙ ap (λ p. Some (at t.walk.level p)) (sym saw.over.span)
+
+      still : IsEntryStill t.walk.level (pool (pool_index page (entry_index gfn t.walk.level))) t.walk.entry
+      still =
+          let loaded = saw.loaded in
+          subst (λ i. IsEntryStill t.walk.level (pool (pool_index page i)) t.walk.entry) loaded
+          (G.topics.loaded s.actor there alone outside saw.over.there (omega (arith, loaded)))
 
       here : kind_of t.walk.level (pool (pool_index page (entry_index gfn t.walk.level))) ≡ entry_kind.Leaf
-      here =
-          let loaded = M.needs.saw.loaded in
-          ap (λ i. kind_of t.walk.level (pool (pool_index page i))) (sym loaded)
-          ∙ still_leaf t.walk.level _ t.walk.entry
-          (G.topics.loaded s.actor there M.needs.alone M.needs.outside M.needs.saw.over.there (omega (arith, loaded))) M.needs.leaf
+      here = still_leaf t.walk.level _ t.walk.entry still leaf
+
+      allowed : can_write t.walk.entry ≡ true → IsEntryStill t.walk.level (pool (pool_index page (entry_index gfn t.walk.level))) t.walk.entry
+          → can_write (pool (pool_index page (entry_index gfn t.walk.level))) ≡ true
+      allowed writes (inl same) = ap can_write same ∙ writes
+      allowed writes (inr fixed) = let denied = fixed.denied in absurd (cc (denied, writes))
 
       lowest : t.walk.level ≡ 1
       lowest =
@@ -136,8 +150,19 @@ module _ (z : Sizes) (w : World Held) (s : Step Kind) (G : IsSound z w) (may : M
           (omega (arith, most)) at_page (G.topics.tree.entries page (at t.walk.level t.walk.prefix) at_page (entry_index gfn t.walk.level) (omega arith))).0
           here
 
-      seen : kind_of 1 entry ≡ entry_kind.Leaf
-      seen = subst (λ l. kind_of l (pool (pool_index page (entry_index gfn l))) ≡ entry_kind.Leaf) lowest here
+  zaps_leaf : (gfn : ℕ) → Makes h s (part.Zap gfn) → ZapsOwnFrame z w s
+  zaps_leaf gfn M =
+      let L = seen_leaf gfn M.needs.alone M.needs.outside M.needs.saw M.needs.leaf in
+      record {
+        alone = M.needs.alone;
+        opened = M.needs.opened;
+        gfn = gfn;
+        of_own = (M.needs.from, M.needs.to);
+        page = page;
+        on = word_on z w s G may (part.Zap gfn) M ∙ ap (λ l. place_of (map_of z) area.Pool (pool_index page (entry_index gfn l))) L.lowest;
+        leads = L.leads;
+        leaf = L.leaf;
+      }
 
   -- ---- what is changed, and what is brought in
 

@@ -1,11 +1,9 @@
--- A run in which a slot gets a dirty log while a fault is under way that has found none, and writes are logged; and one in which each page is dirty at once.
+-- A run in which a slot gets a dirty log while a fault is under way that has found none, and writes are logged.
 use Rattle.std.specs.Prelude.{◌≡◌, List, [], ◌∷◌, ◌++◌, replicate, codes, ℕ, Bool, Some, false, true}
 use Rattle.core_views.specs.declared.actor.Actor.TheVariants.{Manager}
 use Rattle.core_views.specs.declared.answer.Answer.TheVariants.{Done, Reached}
 use Rattle.core_views.specs.declared.event.Event.{Event}
 use Rattle.core_views.specs.declared.event.EventKind.TheVariants.{Accessed, Answered, Armed, Begun, LookedAtHost, LookedAtPause, LookedAtSlots, SlotChanged}
-use Rattle.core_views.specs.declared.sizes.LogMode.TheVariants.{ManualAllSet}
-use Rattle.core_views.specs.declared.sizes.Sizes.{Sizes}
 use Rattle.core_views.specs.declared.trace.Command.TheVariants.{SetLog}
 use Rattle.core_views.specs.declared.trace.Line.{Line}
 use Rattle.core_views.specs.declared.trace.Op.TheVariants.{Write}
@@ -18,7 +16,8 @@ use Rattle.spte_words.specs.Entries.{leaf_word}
 use Rattle.mmu_laws.specs.steps.ExampleHost.{write_first}
 use Rattle.mmu_laws.specs.steps.ExampleSteps.{RunDelays, RunLeaves, run_sizes, set_line, unlogged}
 
--- The second processor writes to guest frame 7; the dirty log of the slot begins; the first processor writes to guest frame 6 once more; and the log ends.
+-- The second processor writes to guest frame 7; the dirty log of the slot begins; the first processor writes to guest frame 6 once more; and the log ends,
+-- and begins again.
 abbrev pub write_beside : Line
 write_beside = access_line 4 1 7 1 (Write 5)
 
@@ -34,8 +33,11 @@ write_logged = access_line 6 0 6 0 (Write 9)
 abbrev pub log_off : Line
 log_off = log_line 7 false
 
+abbrev pub log_again : Line
+log_again = log_line 8 true
+
 abbrev pub log_lines : List Line
-log_lines = set_line ∷ write_first ∷ write_beside ∷ log_on ∷ write_logged ∷ log_off ∷ []
+log_lines = set_line ∷ write_first ∷ write_beside ∷ log_on ∷ write_logged ∷ log_off ∷ log_again ∷ []
 
 -- The leaf of guest frame 6 is there. The second processor's fault has found the slot without a log as the set with the log is published, and the manager
 -- waits for its section.
@@ -52,6 +54,10 @@ order_to_write steps = order_to_log 19 ++ replicate steps 0
 
 abbrev pub log_order : List ℕ
 log_order = order_to_write 31 ++ replicate 524 3
+
+-- The log begins again, up to a step of its line.
+abbrev pub order_again : ℕ → List ℕ
+order_again steps = log_order ++ replicate steps 3
 
 abbrev pub events_to_log : List Event
 events_to_log =
@@ -92,40 +98,9 @@ log_events =
     ∷ by log_off (Answered 7 Done)
     ∷ []
 
--- Where each page is dirty as its log begins, no write is forbidden.
-abbrev pub all_set_sizes : Sizes
-all_set_sizes = record run_sizes { mode = ManualAllSet }
-
-abbrev pub log_all : Line
-log_all = log_line 4 true
-
-abbrev pub all_set_lines : List Line
-all_set_lines = set_line ∷ write_first ∷ log_all ∷ []
-
-abbrev pub all_set_order : ℕ → List ℕ
-all_set_order steps = replicate 524 3 ++ replicate 1581 0 ++ replicate steps 3
-
-abbrev pub all_set_events : List Event
-all_set_events =
-    by set_line (Begun set_line)
-    ∷ by set_line (SlotChanged 0 (unlogged (example_slot 5 64 false)))
-    ∷ by set_line (Answered 2 Done)
-    ∷ by write_first (Begun write_first)
-    ∷ by write_first LookedAtPause
-    ∷ by write_first LookedAtSlots
-    ∷ by write_first (LookedAtHost 65)
-    ∷ by write_first LookedAtPause
-    ∷ by write_first (Accessed 6 0 (Write 7) 65 0)
-    ∷ by write_first (Answered 3 (Reached 65 0))
-    ∷ by log_all (Begun log_all)
-    ∷ by log_all (SlotChanged 0 (Some (record { slot = example_slot 5 64 false; logged = true })))
-    ∷ by log_all (Armed 0 true)
-    ∷ by log_all (Answered 4 Done)
-    ∷ []
-
 -- The manager is delayed once, by the fault. The leaf that this put allows writes, and the sweep forbids them in both leaves, with the tenth and the twelfth
 -- step after the wait. With its twentieth step the write that is logged allows writes again in its leaf, and with the next one it marks page 65, the second
--- one of the log's second word. Where each page is dirty as the log begins, its three pages have their bits, and the leaf is as it was.
+-- one of the log's second word. The mark stays as the log ends, and goes as it begins again, with the 516th step of that line.
 abbrev pub ExampleLog : Type 0
 ExampleLog =
     RunDelays run_sizes log_lines (order_to_log 19) events_to_log 3 1
@@ -138,8 +113,7 @@ ExampleLog =
     × RunLeaves run_sizes log_lines (order_to_write 20) area.Log 1 0
     × RunLeaves run_sizes log_lines (order_to_write 21) area.Log 1 2
     × RunLeaves run_sizes log_lines log_order area.Pool (pool_index 4 7) (leaf_word 1 66 false true true)
+    × RunLeaves run_sizes log_lines (order_again 515) area.Log 1 2
+    × RunLeaves run_sizes log_lines (order_again 516) area.Log 1 0
     × (text log_events
     ≡ codes "2 vm done\n3 v0 frame 65 value 0\n4 v1 frame 66 value 0\n5 vm done\n6 v0 frame 65 value 7\n7 vm done\n")
-    × RunDelays all_set_sizes all_set_lines (all_set_order 525) all_set_events 3 0
-    × RunLeaves all_set_sizes all_set_lines (all_set_order 516) area.Log 1 7
-    × RunLeaves all_set_sizes all_set_lines (all_set_order 525) area.Pool (pool_index 4 6) (leaf_word 1 65 true true true)

@@ -1,3 +1,5 @@
+use Rattle.mmu_laws.proofs.steps.LogKinds.{allowed_writes_are_owed, marks_are_of_owed_pages, marks_stay_owed, sections_end_with_none_owed}
+use Rattle.mmu_laws.proofs.steps.LogKinds.{words_are_set_before_their_log, writes_are_forbidden_in_leaves}
 use Rattle.mmu_laws.proofs.steps.InvalidationLaws.{invalidations_are_counted, sequence_is_raised}
 use Rattle.mmu_laws.proofs.steps.PublicationLaws.{others_leave_slots, publications_are_invalidated}
 use Rattle.mmu_laws.proofs.steps.EventLaws.{events_are_of_their_steps}
@@ -45,3 +47,21 @@ returns-clause-published c = publications_are_invalidated
 
 pub returns-clause-kept_slots : goal.returns-clause-kept_slots
 returns-clause-kept_slots c = others_leave_slots
+
+pub returns-clause-forbids : goal.returns-clause-forbids
+returns-clause-forbids c = writes_are_forbidden_in_leaves
+
+pub returns-clause-marks : goal.returns-clause-marks
+returns-clause-marks c = marks_are_of_owed_pages
+
+pub returns-clause-arms : goal.returns-clause-arms
+returns-clause-arms c = words_are_set_before_their_log
+
+pub returns-clause-owes : goal.returns-clause-owes
+returns-clause-owes c = allowed_writes_are_owed
+
+pub returns-clause-stays_owed : goal.returns-clause-stays_owed
+returns-clause-stays_owed c = marks_stay_owed
+
+pub returns-clause-paid : goal.returns-clause-paid
+returns-clause-paid c = sections_end_with_none_owed

@@ -1,5 +1,6 @@
 use Rattle.mmu_laws.proofs.steps.ExampleHostRun.{example_host}
 use Rattle.mmu_laws.proofs.steps.ExampleLogRun.{example_log}
+use Rattle.mmu_laws.proofs.steps.ExampleLogAllRun.{example_log_all}
 use Rattle.mmu_laws.proofs.steps.ExampleProtectRun.{example_protect}
 use Rattle.mmu_laws.proofs.steps.ExampleEvictRun.{example_evict}
 use Rattle.mmu_laws.proofs.steps.ExampleSlotsRun.{example_slots}
@@ -56,3 +57,6 @@ returns-clause-slots c = example_slots
 
 pub returns-clause-log : goal.returns-clause-log
 returns-clause-log c = example_log
+
+pub returns-clause-log_all : goal.returns-clause-log_all
+returns-clause-log_all c = example_log_all
