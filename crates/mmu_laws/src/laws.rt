@@ -147,7 +147,8 @@ pub fn the_steps_can_be_made()
 /// that forbids writes is on a leaf to which links lead a guest frame, and which allows them, and
 /// takes its Writable bit away; one that allows writes in a leaf of a slot with a dirty log leaves
 /// its actor owing a mark, which stays owed up to the mark, and no section ends before it; one
-/// that marks sets the bit of the page for whose guest frame its actor owes one; and a word of a dirty log is set only before its log begins.
+/// that marks sets the bit of the page for whose guest frame its actor owes one; and a word of a
+/// dirty log is set only before its log begins.
 /// A step that publishes a slot set is of an actor that has the lock alone, with no
 /// invalidation open but its own: each slot that was published stays so, unless exactly its
 /// guest frames are invalidated by this actor, and flushed; and the new set differs from the

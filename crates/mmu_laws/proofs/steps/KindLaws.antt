@@ -1,6 +1,6 @@
 -- What a hand holds that makes a step of a kind: which step of a part it is, what this needs, and so what is zapped, changed and brought in.
 use Rattle.std.proofs.Common.{◌≡◌, ◌≢◌, ◌⊎◌, inl, inr, ◌<◌, ◌≤◌, ◌/◌, ℕ, refl, sym, subst, ap, ◌∙◌, arith}
-use Rattle.std.specs.Prelude.{true, Some, Option, None, is_some}
+use Rattle.std.specs.Prelude.{true, Some, Option, None, is_some, Bool, false}
 use Rattle.core_views.specs.declared.kind.Kind.{Kind}
 use Rattle.core_views.specs.declared.kind.StepKind.{StepKind}
 use Rattle.core_views.specs.declared.kind.StepKind.TheVariants as kind
@@ -51,6 +51,18 @@ use Rattle.mmu_core.proofs.pages.EntryStill.{still_leaf}
 -- A step of this kind is one of a part.
 abbrev pub IsOfPart : StepKind → Type 0
 IsOfPart k = (op : Op) (index : ℕ) → (touch_of op index).kind ≢ k
+
+-- It is, unless it is a read, a write or an add.
+abbrev pub is_touch : StepKind → Bool
+is_touch kind.Read = true
+is_touch kind.Write = true
+is_touch kind.Add = true
+is_touch _ = false
+
+pub no_touch : (k : StepKind) → is_touch k ≡ false → IsOfPart k
+no_touch k other Read index is = let touch = ap is_touch is in cc (touch, other)
+no_touch k other (Write x) index is = let touch = ap is_touch is in cc (touch, other)
+no_touch k other (Add x) index is = let touch = ap is_touch is in cc (touch, other)
 
 module _ (z : Sizes) (w : World Held) (s : Step Kind) (G : IsSound z w) (may : May mmu w s) where
   abbrev pub h : Held
@@ -212,29 +224,14 @@ module _ (z : Sizes) (w : World Held) (s : Step Kind) (G : IsSound z w) (may : M
   bringing (part.Fill value) M is = absurd (cc is)
   bringing _ M is = absurd (cc is)
 
-no_touch_zaps : IsOfPart kind.Zap
-no_touch_zaps Read index is = cc is
-no_touch_zaps (Write x) index is = cc is
-no_touch_zaps (Add x) index is = cc is
-
-no_touch_changes : IsOfPart kind.Change
-no_touch_changes Read index is = cc is
-no_touch_changes (Write x) index is = cc is
-no_touch_changes (Add x) index is = cc is
-
-no_touch_brings : IsOfPart kind.Bring
-no_touch_brings Read index is = cc is
-no_touch_brings (Write x) index is = cc is
-no_touch_brings (Add x) index is = cc is
-
 pub zaps_are_of_open_invalidations : ZapsAreOfOpenInvalidations
 zaps_are_of_open_invalidations z w s G may named =
-    let M = made z w s G may kind.Zap no_touch_zaps named in zapping z w s G may M.step M.makes M.kind_is
+    let M = made z w s G may kind.Zap (no_touch kind.Zap refl) named in zapping z w s G may M.step M.makes M.kind_is
 
 pub changes_are_invalidated : ChangesAreInvalidated
 changes_are_invalidated z w s G may named =
-    let M = made z w s G may kind.Change no_touch_changes named in changing z w s G may M.step M.makes M.kind_is
+    let M = made z w s G may kind.Change (no_touch kind.Change refl) named in changing z w s G may M.step M.makes M.kind_is
 
 pub brings_are_of_absent_pages : BringsAreOfAbsentPages
 brings_are_of_absent_pages z w s G may named =
-    let M = made z w s G may kind.Bring no_touch_brings named in bringing z w s G may M.step M.makes M.kind_is
+    let M = made z w s G may kind.Bring (no_touch kind.Bring refl) named in bringing z w s G may M.step M.makes M.kind_is

@@ -37,11 +37,11 @@ use Rattle.mmu_core.proofs.lines.StepIn as step_in_
 use Rattle.mmu_core.proofs.machine.NextTopics.{next_topics, topics_behind}
 use Rattle.mmu_core.proofs.machine.Which.{is_next, is_part}
 use Rattle.mmu_core.proofs.machine.Worlds.{Takes, TakesPart, are_small, takes}
-use Rattle.mmu_laws.specs.steps.LogLaws.{ForbidsWrites, MarksAreOfOwedPages, MarksOwedPage, SetsUnloggedWord}
+use Rattle.mmu_laws.specs.steps.LogLaws.{ProtectsLeaf, MarksAreOfOwedPages, MarksOwedPage, SetsUnloggedWord}
 use Rattle.mmu_laws.specs.steps.LogLaws.{MarksStayOwed, SectionsEndWithNoneOwed, WordsAreSetBeforeTheirLog}
 use Rattle.mmu_laws.specs.steps.LogLaws.{WritesAreForbiddenInLeaves, AllowedWritesAreOwed, AllowsLoggedWrites, OwesMarkAfter}
 use Rattle.mmu_laws.proofs.causes.MadeSteps.{Makes, word_on}
-use Rattle.mmu_laws.proofs.steps.KindLaws.{IsOfPart, made, seen_leaf}
+use Rattle.mmu_laws.proofs.steps.KindLaws.{made, no_touch, seen_leaf}
 
 module _ (z : Sizes) (w : World Held) (s : Step Kind) (G : IsSound z w) (may : May mmu w s) where
   abbrev h : Held
@@ -53,7 +53,7 @@ module _ (z : Sizes) (w : World Held) (s : Step Kind) (G : IsSound z w) (may : M
   abbrev page : ℕ
   page = table_page t.walk
 
-  forbids_writes : (gfn : ℕ) → Makes h s (part.Protect gfn) → ForbidsWrites z w s
+  forbids_writes : (gfn : ℕ) → Makes h s (part.Protect gfn) → ProtectsLeaf z w s
   forbids_writes gfn M =
       let L = seen_leaf z w s G may gfn M.needs.alone M.needs.outside M.needs.saw M.needs.leaf in
       record {
@@ -191,7 +191,7 @@ module _ (z : Sizes) (w : World Held) (s : Step Kind) (G : IsSound z w) (may : M
     may = subst (λ b. MayArm word b h) (sym (ap (λ (k : Kind). k.new) M.is)) M.needs;
   }
 
-  forbidding : (step : PartStep) (M : Makes h s step) → (part_task step (own_index h) t M.note).kind ≡ kind.Protect → ForbidsWrites z w s
+  forbidding : (step : PartStep) (M : Makes h s step) → (part_task step (own_index h) t M.note).kind ≡ kind.Protect → ProtectsLeaf z w s
   forbidding (part.Protect gfn) M is = forbids_writes gfn M
   forbidding (part.Fill value) M is = absurd (cc is)
   forbidding _ M is = absurd (cc is)
@@ -206,50 +206,25 @@ module _ (z : Sizes) (w : World Held) (s : Step Kind) (G : IsSound z w) (may : M
   arming (part.Fill value) M is = absurd (cc is)
   arming _ M is = absurd (cc is)
 
-no_touch_forbids : IsOfPart kind.Protect
-no_touch_forbids Read index is = cc is
-no_touch_forbids (Write x) index is = cc is
-no_touch_forbids (Add x) index is = cc is
-
-no_touch_marks : IsOfPart kind.Mark
-no_touch_marks Read index is = cc is
-no_touch_marks (Write x) index is = cc is
-no_touch_marks (Add x) index is = cc is
-
-no_touch_arms : IsOfPart kind.Arm
-no_touch_arms Read index is = cc is
-no_touch_arms (Write x) index is = cc is
-no_touch_arms (Add x) index is = cc is
-
 pub writes_are_forbidden_in_leaves : WritesAreForbiddenInLeaves
 writes_are_forbidden_in_leaves z w s G may named =
-    let M = made z w s G may kind.Protect no_touch_forbids named in forbidding z w s G may M.step M.makes M.kind_is
-
-no_touch_swaps : IsOfPart kind.Swap
-no_touch_swaps Read index is = cc is
-no_touch_swaps (Write x) index is = cc is
-no_touch_swaps (Add x) index is = cc is
+    let M = made z w s G may kind.Protect (no_touch kind.Protect refl) named in forbidding z w s G may M.step M.makes M.kind_is
 
 pub allowed_writes_are_owed : AllowedWritesAreOwed
 allowed_writes_are_owed z w s G may A =
-    let M = made z w s G may kind.Swap no_touch_swaps A.exchanges in owing z w s G may A M.step M.makes M.kind_is
+    let M = made z w s G may kind.Swap (no_touch kind.Swap refl) A.exchanges in owing z w s G may A M.step M.makes M.kind_is
 
 pub marks_stay_owed : MarksStayOwed
 marks_stay_owed z w s gfn G may owed other = stays_owed z w s G may gfn owed other
 
-no_touch_ends : IsOfPart kind.End
-no_touch_ends Read index is = cc is
-no_touch_ends (Write x) index is = cc is
-no_touch_ends (Add x) index is = cc is
-
 pub sections_end_with_none_owed : SectionsEndWithNoneOwed
 sections_end_with_none_owed z w s G may named =
-    let M = made z w s G may kind.End no_touch_ends named in ends_paid z w s G may M.step M.makes M.kind_is
+    let M = made z w s G may kind.End (no_touch kind.End refl) named in ends_paid z w s G may M.step M.makes M.kind_is
 
 pub marks_are_of_owed_pages : MarksAreOfOwedPages
 marks_are_of_owed_pages z w s G may named =
-    let M = made z w s G may kind.Mark no_touch_marks named in marking z w s G may M.step M.makes M.kind_is
+    let M = made z w s G may kind.Mark (no_touch kind.Mark refl) named in marking z w s G may M.step M.makes M.kind_is
 
 pub words_are_set_before_their_log : WordsAreSetBeforeTheirLog
 words_are_set_before_their_log z w s G may named =
-    let M = made z w s G may kind.Arm no_touch_arms named in arming z w s G may M.step M.makes M.kind_is
+    let M = made z w s G may kind.Arm (no_touch kind.Arm refl) named in arming z w s G may M.step M.makes M.kind_is

@@ -1,5 +1,5 @@
--- Steps for dirty logs: in which leaves writes are forbidden, who owes a mark, which page is marked, and which words are set before their log begins (tdp_mmu.c,
--- wrprot_gfn_range; kvm_main.c, mark_page_dirty_in_slot).
+-- Steps for dirty logs: in which leaves writes are forbidden, who owes a mark, which page is marked, and which words are set before their log begins
+-- (tdp_mmu.c, wrprot_gfn_range; kvm_main.c, mark_page_dirty_in_slot).
 use Rattle.std.specs.Prelude.{◌≡◌, ◌≢◌, ◌/◌, ◌%◌, ◌^◌, ℕ, Some, None, true}
 use Rattle.core_views.specs.declared.kind.Kind.{Kind}
 use Rattle.core_views.specs.declared.kind.StepKind.TheVariants as kind
@@ -26,7 +26,7 @@ use Rattle.mmu_laws.specs.steps.InvalidationLaws.{held_by}
 
 -- The actor has the lock alone; the step's word is the entry of the lowest level to which links lead a guest frame from the root, and a leaf that allows
 -- writes; and the step takes its Writable bit away, and no other.
-pub record ForbidsWrites (z : Sizes) (w : World Held) (s : Step Kind) : Type 0 where
+pub record ProtectsLeaf (z : Sizes) (w : World Held) (s : Step Kind) : Type 0 where
   pub alone : (held_by w s).hold ≡ Exclusive
   pub gfn : ℕ
   pub page : ℕ
@@ -39,7 +39,7 @@ pub record ForbidsWrites (z : Sizes) (w : World Held) (s : Step Kind) : Type 0 w
 -- So is each step that forbids writes.
 abbrev pub WritesAreForbiddenInLeaves : Type 0
 WritesAreForbiddenInLeaves =
-    (z : Sizes) (w : World Held) (s : Step Kind) → IsSound z w → May mmu w s → kind_named s.kind.code ≡ kind.Protect → ForbidsWrites z w s
+    (z : Sizes) (w : World Held) (s : Step Kind) → IsSound z w → May mmu w s → kind_named s.kind.code ≡ kind.Protect → ProtectsLeaf z w s
 
 -- The step wins the exchange of an entry in a table of the lowest level for one that allows writes, of a slot that its actor has found with a dirty log.
 pub record AllowsLoggedWrites (w : World Held) (s : Step Kind) : Type 0 where
