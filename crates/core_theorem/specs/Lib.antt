@@ -10,3 +10,4 @@ pub mod Holdings
 pub mod Delays
 pub mod Turns
 pub mod Stays
+pub mod Logs

@@ -9,6 +9,7 @@ ghost use Rattle.core_theorem.specs.Holdings.{WatchedHoldNoOldSet};
 ghost use Rattle.core_theorem.specs.Frames.{CopiedWordsAreThePages, EachFrameHasOneUse, FramesAreReusedAlone, WatchedHoldNoOldFrame};
 ghost use Rattle.core_theorem.specs.Leaves.{HeldLeavesAgree, LinkedLeavesAgree, TranslationsAgree, UsedLeavesAgree};
 ghost use Rattle.core_theorem.specs.Locks.{LockIsKept};
+ghost use Rattle.core_theorem.specs.Logs.{DirtyLogsAreKept};
 ghost use Rattle.core_theorem.specs.LookUps.{FoundSlotsAreHeld, HeldSlotsStand, LookedUpPagesStand};
 ghost use Rattle.core_theorem.specs.OpenFrames.{OpenFramesAreFlushed, OpenFramesAreOfThePage, OpenFramesAreRecorded, OpenFramesAreZapped};
 ghost use Rattle.core_theorem.specs.Pages.{EachPageHasOneUse};
@@ -56,7 +57,10 @@ ghost use Rattle.core_theorem.specs.Walks.{WalksHoldTables};
 /// `rest`: whose line is answered holds nothing after it. `lawful`: each access, each
 /// exit and each answer is one that flat guest memory allows. `facts`: the words stand
 /// for the slots, host pages and contents that the events so far make of flat guest
-/// memory. `pause`: an access that is about to touch has looked at the pause since its
+/// memory. `logs`: each guest frame that is dirty in flat memory is of a slot of which writes
+/// are logged, and its page's bit is set or an actor owes the mark that sets it; so it is of
+/// each linked leaf, and each translation that may be used, which allows writes in such a
+/// slot; and each bit that is set has a cause. `pause`: an access that is about to touch has looked at the pause since its
 /// actor entered the guest, and none was set. `begins_anew`, `waits`, `starved`: what
 /// stood in the way of a fault, and of each step that waits, whoever makes it, was
 /// another actor's, an open invalidation, or that each word of the pool's map was found
@@ -107,6 +111,7 @@ pub fn every_run()
     ensures rest { AnsweredLinesRest }
     ensures lawful { TellsLawfully }
     ensures facts { WordsStandForFacts }
+    ensures logs { DirtyLogsAreKept }
     ensures pause { PauseIsSeenInStay }
     ensures counts { CountsAreFew }
     ensures line_turns { LinesMakeFewSteps }

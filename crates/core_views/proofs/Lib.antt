@@ -12,3 +12,4 @@ pub mod HostLines
 pub mod Ranges
 pub mod LowestFrames
 pub mod AskedFrames
+pub mod UnloggedSlots

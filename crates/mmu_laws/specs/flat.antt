@@ -1,2 +1,4 @@
 pub mod FlatInvariant
 pub mod Histories
+pub mod FlatLogs
+pub mod ArmedSlots

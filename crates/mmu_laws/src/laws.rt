@@ -1,3 +1,4 @@
+ghost use Rattle.mmu_laws.specs.flat.ArmedSlots.{ArmedSlotsAreCovered};
 ghost use Rattle.mmu_laws.specs.causes.Causes.{FaultsBeginAnewByCause};
 ghost use Rattle.mmu_laws.specs.pool.Enough.{EachTableIsWanted, EnoughPages, TablesAreForTheirSpans};
 ghost use Rattle.mmu_laws.specs.alone.LowestFrames.{MovesAloneTakeLowest};
@@ -17,6 +18,7 @@ ghost use Rattle.mmu_laws.specs.steps.ExampleWaits.{ExampleWaits};
 ghost use Rattle.mmu_core.specs.alone.FaultAlone.{FaultGoesThrough, LeadsDown};
 ghost use Rattle.mmu_core.specs.lines.FaultLaws.{FaultIsBounded, FaultMeetsNeeds, FaultStaysKnown, FaultStepsFall, PartsAnswer};
 ghost use Rattle.mmu_core.specs.lines.PartWaits.{WaitsSeeAnother};
+ghost use Rattle.mmu_laws.specs.flat.FlatLogs.{LogsAreFlat};
 ghost use Rattle.mmu_laws.specs.flat.Histories.{AnswersAreTold, EndsWhole, StaysWhole};
 ghost use Rattle.mmu_core.specs.invariant.Laws.{StaysSound, TellsLawfully};
 ghost use Rattle.mmu_laws.specs.leaves.LeafLaws.{CachedLeavesAgree, HeldLeavesAgree, LeavesAgree, UsedLeavesAgree};
@@ -40,10 +42,17 @@ ghost use Rattle.mmu_laws.specs.causes.Waits.{BetweenLinesSawNothing, StartsSawN
 /// a line starved, its actor has gone through the whole map of the pool since the
 /// line began, word by word, owned no page at these loads, and found each word 0
 /// (tdp_mmu.c, `kvm_tdp_mmu_map`); and so through the whole map of frames where one of
-/// them refuses a line a frame.
+/// them refuses a line a frame. Dirty logs have what flat memory says of them (api.rst,
+/// KVM_GET_DIRTY_LOG): each slot of which writes are logged has a log in the published
+/// slot set, and no line is to begin it yet; each guest frame that is dirty is of such a
+/// slot, and its page's bit is set or a mark is owed for it; and each bit that is set in
+/// a published slot's log is of a guest frame with a cause to stand in it. In such a slot a
+/// leaf, and a translation that a virtual processor may use, is covered so where it allows writes.
 pub fn every_list_of_steps()
     ensures sound { StaysSound }
     ensures lawful { TellsLawfully }
+    ensures logs { LogsAreFlat }
+    ensures armed { ArmedSlotsAreCovered }
     ensures starved { StarvedLinesScan }
 {}
 

@@ -26,6 +26,8 @@ use Rattle.core_theorem.proofs.PauseSeen.{pause_is_seen_in_stay}
 use Rattle.core_theorem.proofs.Runs.{before, may_last, sound, starts_between}
 use Rattle.core_theorem.proofs.SetsCleared.{returned_sets_are_cleared}
 use Rattle.core_theorem.proofs.WalksKept.{held_leaves_are_linked, walks_hold_tables}
+use Rattle.mmu_laws.proofs.flat.ArmedSlots.{armed_slots_are_covered}
+use Rattle.mmu_laws.proofs.flat.EveryLog.{every_log}
 use Rattle.core_theorem.proofs.every_run.Goals as goal
 use Rattle.core_views.specs.Flat.{first_flat}
 use Rattle.core_views.specs.Events.{after_all}
@@ -106,6 +108,10 @@ returns-clause-cleared c = returned_sets_are_cleared
 
 pub returns-clause-lawful : goal.returns-clause-lawful
 returns-clause-lawful c z lines w ss R = every_history z lines w ss R.start R.legal
+
+pub returns-clause-logs : goal.returns-clause-logs
+returns-clause-logs c z lines w ss R =
+    record { flat = every_log z lines w ss R.start R.legal; armed = λ id on. armed_slots_are_covered z lines w ss id R.start R.legal on }
 
 pub returns-clause-facts : goal.returns-clause-facts
 returns-clause-facts c z lines w ss R =

@@ -70,7 +70,7 @@ pub used_gone : (state now : ℕ) (stay behind : Stay) → asks_flush now ≡ as
 used_gone state now stay behind asks gone may = none_asked state stay (sym asks ∙ asks_not (asks_flush now) (sym gone ∙ may))
 
 -- Where it may be used, and there is no flush to make, none is asked for.
-used_flushed : (state : ℕ) (stay : Stay) → state % 4 ≡ stay_bits stay → has_to_flush state ≡ false → may_use state stay ≡ true
+pub used_flushed : (state : ℕ) (stay : Stay) → state % 4 ≡ stay_bits stay → has_to_flush state ≡ false → may_use state stay ≡ true
     → asks_flush state ≡ false
 used_flushed state Guest is none may = ap (λ (b : Bool). b && asks_flush state) (sym in_guest) ∙ none
   where

@@ -36,7 +36,7 @@ retired_no_walk z v a i k there lt I from is e =
     retired_no_table I.uses I.spot i k _ lt is (sym (ap (stands I.up I.spot) e) ∙ (I.held a there).table from)
 
 -- a page that is retired is none that a step stores words in
-retired_words_stay : (z : Sizes) (v : View) (a : ℕ) (step : PartStep) (note : ℕ) → IsPart z v a step → TopicsInvariant z v → (i k : ℕ) → i < actors_of z
+pub retired_words_stay : (z : Sizes) (v : View) (a : ℕ) (step : PartStep) (note : ℕ) → IsPart z v a step → TopicsInvariant z v → (i k : ℕ) → i < actors_of z
     → (v.hand i).topics.retired ≡ Some k → SetStays k (v.words area.Pool) ((part_stepped a step note v).words area.Pool)
 retired_words_stay z v a (part.Fill value) note S I i k lt is =
     page_stays z v a (part.Fill value) note S k (λ o owned. retired_not_owned I.uses i k lt is a o S.there owned)

@@ -60,6 +60,9 @@ search_stays before after s stays P = record {
   whole = λ k is whole. let W = P.whole k is whole in (W.0, live_in_stays k before after (s.id - 1) s.slot (stays k is) W.1);
   held = P.held;
   before_flags = P.before_flags;
+  flags =
+      λ k is whole. let W = P.whole k is whole in
+      P.flags k is whole ∙ ap flags_logged (sym ((stays k is).each (s.id - 1) field.Flags W.1.low W.1.live));
 }
 
 -- ---- The search after each step.
@@ -73,6 +76,7 @@ let_go_search pool false s P = record {
   whole = λ k is. absurd (cc is);
   held = λ whole. absurd (cc whole);
   before_flags = λ whole. absurd (cc whole);
+  flags = λ k e whole. absurd (cc whole);
 }
 
 -- A search that begins has loaded nothing yet.
@@ -83,6 +87,7 @@ at_set_search pool holds s v = record {
   whole = λ k is whole. absurd (cc whole);
   held = λ whole. absurd (cc whole);
   before_flags = λ whole. absurd (cc whole);
+  flags = λ k e whole. absurd (cc whole);
 }
 
 -- The search after a load of its next word.
@@ -114,6 +119,7 @@ searched_part field.Flags pool set s at own low P = by (flags_live (pool (slot_i
       whole = λ k e whole. absurd (cc whole);
       held = λ whole. absurd (cc whole);
       before_flags = λ whole. absurd (cc whole);
+      flags = λ k e whole. absurd (cc whole);
     }
     by false is = record {
       listed = tt;
@@ -121,6 +127,7 @@ searched_part field.Flags pool set s at own low P = by (flags_live (pool (slot_i
       whole = λ k e whole. absurd (cc whole);
       held = λ whole. absurd (cc whole);
       before_flags = λ whole. absurd (cc whole);
+      flags = λ k e whole. absurd (cc whole);
     }
 searched_part field.Base pool set s at own low P = record {
   listed = low;
@@ -130,6 +137,7 @@ searched_part field.Base pool set s at own low P = record {
   whole = λ k e whole. absurd (let flags = P.before_flags whole in cc (at, flags));
   held = λ whole. absurd (let flags = P.before_flags whole in cc (at, flags));
   before_flags = λ whole. absurd (let flags = P.before_flags whole in cc (at, flags));
+  flags = λ k e whole. absurd (let flags = P.before_flags whole in cc (at, flags));
 }
 searched_part field.Pages pool set s at own low P = record {
   listed = low;
@@ -138,6 +146,7 @@ searched_part field.Pages pool set s at own low P = record {
   whole = λ k e whole. absurd (let flags = P.before_flags whole in cc (at, flags));
   held = λ whole. absurd (let flags = P.before_flags whole in cc (at, flags));
   before_flags = λ whole. absurd (let flags = P.before_flags whole in cc (at, flags));
+  flags = λ k e whole. absurd (let flags = P.before_flags whole in cc (at, flags));
 }
 searched_part field.Host pool set s at own low P = record {
   listed = tt;
@@ -147,8 +156,14 @@ searched_part field.Host pool set s at own low P = record {
       (omega arith, subst (λ n. IsLiveIn pool n (s.id + 1 - 1) behind.slot) same (subst (λ n. IsLiveIn pool set n behind.slot) (omega arith) live));
   held = λ whole. (set, own);
   before_flags = λ whole. refl;
+  flags = λ k e whole. let same : set ≡ k = cc (own, e) in
+      loaded.0.2 ∙ ap (λ n. flags_logged (pool (slot_index set n field.Flags))) (sub_one s.id)
+      ∙ ap (λ n. flags_logged (pool (slot_index n (s.id + 1 - 1) field.Flags))) same;
 }
   where
+    sub_one : (n : ℕ) → n ≡ n + 1 - 1
+    sub_one n = omega arith
+
     behind : SlotSearch
     behind = searched_at field.Host s (pool (slot_index set s.id field.Host))
 

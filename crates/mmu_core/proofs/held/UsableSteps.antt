@@ -213,7 +213,7 @@ module _ (z : Sizes) (v : View) (a note : ℕ) (c : Buffer Translation) (g : Hel
       by (inl e) = used_asked (before k) (states (part.Ask index) k) stay (asked_there before index k e) may
       by (inr ne) = used_elsewhere stay index k _ ne may
 
-  other_used : (step : PartStep) (stay : Stay) (k : ℕ) → k ≢ a → may_use (states step k) stay ≡ true → may_use (before k) stay ≡ true
+  pub other_used : (step : PartStep) (stay : Stay) (k : ℕ) → k ≢ a → may_use (states step k) stay ≡ true → may_use (before k) stay ≡ true
   other_used part.Enter stay k ne may = used_elsewhere stay a k _ ne may
   other_used part.Leave stay k ne may = used_elsewhere stay a k _ ne may
   other_used part.Begin stay k ne may = used_elsewhere stay a k _ ne may
@@ -221,33 +221,60 @@ module _ (z : Sizes) (v : View) (a note : ℕ) (c : Buffer Translation) (g : Hel
   other_used (part.Ask index) stay k ne may = used_of stay index k may
   other_used _ stay k ne may = may
 
-  -- What is so of all that the actor itself has cached, where it may use it, is so after the step.
-  module _ (P : Translation → Type 0) (all : may_use (before a) h.topics.stay ≡ true → All P c.items) where
-    gone : (w : ℕ) (stay : Stay) → asks_flush w ≡ asks_flush (before a) → may_use w stay ≡ not (asks_flush w)
-        → may_use (upd before a w a) stay ≡ true → All P c.items
-    gone w stay asks goes may = all (used_gone (before a) w h.topics.stay stay asks goes (ap (λ n. may_use n stay) (sym (upd_same before a w)) ∙ may))
+  -- The state word of a virtual processor asks for a flush after the step, if it did before.
+  abbrev StillAsks : PartStep → ℕ → Type 0
+  StillAsks step k = asks_flush (before k) ≡ true → asks_flush (states step k) ≡ true
 
-    own_used : (step : PartStep) → IsPart z v a step → may_use (states step a) (topics step).stay ≡ true → All P (cached step).items
+  asks_elsewhere : (place k w : ℕ) → k ≢ place → asks_flush (before k) ≡ true → asks_flush (upd before place w k) ≡ true
+  asks_elsewhere place k w ne asks = ap asks_flush (upd_other before place k w ne) ∙ asks
+
+  pub asks_of : (index k : ℕ) → StillAsks (part.Ask index) k
+  asks_of index k asks = by (same_or k index)
+    where
+      by : (k ≡ index) ⊎ (k ≢ index) → asks_flush (states (part.Ask index) k) ≡ true
+      by (inl e) = asked_there before index k e
+      by (inr ne) = asks_elsewhere index k _ ne asks
+
+  -- So does that of each but the step's actor.
+  pub other_asks : (step : PartStep) (k : ℕ) → k ≢ a → StillAsks step k
+  other_asks part.Enter k ne = asks_elsewhere a k _ ne
+  other_asks part.Leave k ne = asks_elsewhere a k _ ne
+  other_asks part.Begin k ne = asks_elsewhere a k _ ne
+  other_asks part.End k ne = asks_elsewhere a k _ ne
+  other_asks (part.Ask index) k ne = asks_of index k
+  other_asks _ k ne = λ asks. asks
+
+  -- What is so of all that the actor itself has cached, where it may use it and is asked for a flush still if it was, is so after the step.
+  module _ (P : Translation → Type 0) where
+    gone : (w : ℕ) (stay : Stay) → asks_flush w ≡ asks_flush (before a) → may_use w stay ≡ not (asks_flush w)
+        → ((asks_flush (before a) ≡ true → asks_flush (upd before a w a) ≡ true) → may_use (before a) h.topics.stay ≡ true → All P c.items)
+        → may_use (upd before a w a) stay ≡ true → All P c.items
+    gone w stay asks goes all may =
+        all (λ was. ap asks_flush (upd_same before a w) ∙ asks ∙ was)
+        (used_gone (before a) w h.topics.stay stay asks goes (ap (λ n. may_use n stay) (sym (upd_same before a w)) ∙ may))
+
+    pub own_used : (step : PartStep) → IsPart z v a step → (StillAsks step a → may_use (before a) h.topics.stay ≡ true → All P c.items)
+        → may_use (states step a) (topics step).stay ≡ true → All P (cached step).items
     unfolding flushed
-    own_used part.Enter S may = by (asks_flush (before a)) refl
+    own_used part.Enter S all may = by (asks_flush (before a)) refl
       where
         by : (b : Bool) → asks_flush (before a) ≡ b → All P (if b then buffer [] c.capacity else c).items
         by true asks = All-nil P
-        by false none = all (none_asked (before a) h.topics.stay none)
-    own_used part.Leave S may = gone _ Outside (left_asks (before a) (S.small area.State a)) refl may
-    own_used part.Begin S may = gone _ Section (begun_asks (before a)) refl may
-    own_used part.End S may = gone _ Outside (ended_asks (before a)) refl may
-    own_used (part.Ask index) S may = all (used_of h.topics.stay index a may)
-    own_used _ S may = all may
+        by false none = all (λ asks. absurd (cc (asks, none))) (none_asked (before a) h.topics.stay none)
+    own_used part.Leave S all may = gone _ Outside (left_asks (before a) (S.small area.State a)) refl all may
+    own_used part.Begin S all may = gone _ Section (begun_asks (before a)) refl all may
+    own_used part.End S all may = gone _ Outside (ended_asks (before a)) refl all may
+    own_used (part.Ask index) S all may = all (asks_of index a) (used_of h.topics.stay index a may)
+    own_used _ S all may = all (λ asks. asks) may
 
   pub part_usable : (step : PartStep) → IsPart z v a step → TopicsInvariant z v → Caches z v a c → FlushAt z v → UsableAt z v
       → UsableAt z (record { words = words step; hand = upd v.hand a (behind step) })
   part_usable step S I C F U = each_usable z v a (words step) (behind step) own others (λ high. flushed_none _ c _ (C.none high)) U
     where
       own : a < z.vcpus → may_use (states step a) (topics step).stay ≡ true → Agrees (words step) (cached step).items
-      own low = own_used (λ (t : Translation). IsLeafFor (words step area.Pool) (words step area.Host) (words step area.Slots 0) t.gfn t.leaf)
-          (λ may. agrees_after step c.items S I
-          (clean_for step a h.topics.stay S low (λ opened. cached_more (C.keeps a S.there opened) (F a a S.there low opened)) may) (C.agrees low may)) step S
+      own low = own_used (λ (t : Translation). IsLeafFor (words step area.Pool) (words step area.Host) (words step area.Slots 0) t.gfn t.leaf) step S
+          (λ asks may. agrees_after step c.items S I
+          (clean_for step a h.topics.stay S low (λ opened. cached_more (C.keeps a S.there opened) (F a a S.there low opened)) may) (C.agrees low may))
 
       others : (k : ℕ) → k < z.vcpus → k ≢ a → may_use (states step k) (v.hand k).topics.stay ≡ true → Agrees (words step) (v.hand k).cached.items
       others k low ne may =

@@ -83,8 +83,7 @@ with_leaf_all P gfn level leaf c new_ each =
 -- ---- a translation that is used
 
 -- What is found in a list passes the test, and has what all have.
-found_has : (P : Translation → Type 0) (test : Translation → Bool) (ts : List Translation) (t : Translation) → All P ts → find test ts ≡ Some t
-    → P t × (test t ≡ true)
+pub found_has : {X : Type 0} (P : X → Type 0) (test : X → Bool) (ts : List X) (t : X) → All P ts → find test ts ≡ Some t → P t × (test t ≡ true)
 found_has P test [] t all is = absurd (cc is)
 found_has P test (x ∷ xs) t all is = by (test x) refl (found_has P test xs t (All-tail P x xs all)) is
   where

@@ -98,14 +98,14 @@ left_leaf_for pool host set gfn leaf L = record {
 
 -- A new leaf is the one for the guest frame that its fault is for.
 new_leaf : (z : Sizes) (v : View) (a : ℕ) (step : PartStep) → IsPart z v a step → TopicsInvariant z v
-    → OfNewLeaf step (v.hand a).topics (LeafIsFor (v.words area.Pool) (v.words area.Host) (v.words area.Slots 0))
-new_leaf z v a (part.Fix gfn) S I = λ other over was leaf.
+    → OfNewLeaf step (v.hand a).topics v (LeafIsFor (v.words area.Pool) (v.words area.Host) (v.words area.Slots 0))
+new_leaf z v a (part.Fix gfn) S I = λ won other over was leaf.
     let is = was S.needs.leaf in
     (is.0, fixed_leaf (v.words area.Pool) (v.words area.Host) (v.words area.Slots 0) other _ S.needs.fixable is.1)
 new_leaf z v a (part.Protect gfn) S I = λ found other leaf was now_.
     let is = was leaf in (is.0, left_leaf_for (v.words area.Pool) (v.words area.Host) (v.words area.Slots 0) other found is.1)
 new_leaf z v a (part.Leaf gfn write) S I =
-    λ other over leaf.
+    λ won other over leaf.
     (S.needs.1, subst (λ g. IsLeafFor (v.words area.Pool) (v.words area.Host) (v.words area.Slots 0) g (leaf_written write t)) (sym (same other over)) own)
   where
     t : Topics

@@ -29,16 +29,18 @@ use Rattle.spte_words.specs.Entries.{kind_of, without_write}
 use Rattle.mmu_core.proofs.pages.ProtectedLeaf.{found_leaf, pool_protected}
 use Rattle.mmu_core.proofs.pages.AllOver.{IsLight, absent_is, same_below, over_grown, over_words, over_stored, over_exchanged}
 
--- What the leaf owes that a step puts or leaves: it is so of each guest frame of its span; where it stands in place of one, as this one was.
-abbrev pub OfNewLeaf : PartStep → Topics → (ℕ → ℕ → ℕ → Type 0) → Type 0
-OfNewLeaf (part.Leaf gfn write) t IsSo =
-    (other : ℕ) → other / level_span t.walk.level ≡ gfn / level_span t.walk.level → IsSo t.walk.level other (leaf_written write t)
-OfNewLeaf (part.Fix gfn) t IsSo =
-    (other : ℕ) → other / level_span t.walk.level ≡ gfn / level_span t.walk.level → IsSo t.walk.level other t.walk.entry
+-- What the leaf owes that a step leaves, or puts by an exchange that is won: it is so of each guest frame of its span; where it stands in place of one, as this
+-- one was.
+abbrev pub OfNewLeaf : PartStep → Topics → View → (ℕ → ℕ → ℕ → Type 0) → Type 0
+OfNewLeaf (part.Leaf gfn write) t v IsSo =
+    entry_now gfn t v ≡ t.walk.entry → (other : ℕ) → other / level_span t.walk.level ≡ gfn / level_span t.walk.level
+    → IsSo t.walk.level other (leaf_written write t)
+OfNewLeaf (part.Fix gfn) t v IsSo =
+    entry_now gfn t v ≡ t.walk.entry → (other : ℕ) → other / level_span t.walk.level ≡ gfn / level_span t.walk.level → IsSo t.walk.level other t.walk.entry
     → IsSo t.walk.level other (leaf_fixed t)
-OfNewLeaf (part.Protect gfn) t IsSo =
+OfNewLeaf (part.Protect gfn) t v IsSo =
     (found other : ℕ) → kind_of t.walk.level found ≡ Leaf → IsSo t.walk.level other found → IsSo t.walk.level other (without_write found)
-OfNewLeaf _ t IsSo = Unit {0}
+OfNewLeaf _ t v IsSo = Unit {0}
 
 module _ (z : Sizes) (v : View) (a : ℕ) (I : TopicsInvariant z v) (m : ℕ) (IsSo : ℕ → ℕ → ℕ → Type 0) (table : is_table (I.up m) ≡ true)
     (light : IsLight IsSo) (A : AllOver I.up I.spot (v.words area.Pool) m IsSo) where
@@ -90,7 +92,7 @@ module _ (z : Sizes) (v : View) (a : ℕ) (I : TopicsInvariant z v) (m : ℕ) (I
       (λ other R O. subst (IsSo (I.spot (table_page t.walk)).level other) (sym absent_is) (light.absent (I.spot (table_page t.walk)).level other))
 
   -- Writes are forbidden in a leaf.
-  protect_over : (gfn note : ℕ) → IsPart z v a (part.Protect gfn) → OfNewLeaf (part.Protect gfn) t IsSo
+  protect_over : (gfn note : ℕ) → IsPart z v a (part.Protect gfn) → OfNewLeaf (part.Protect gfn) t v IsSo
       → AllOver I.up I.spot ((part_stepped a (part.Protect gfn) note v).words area.Pool) m IsSo
   protect_over gfn note S new_ =
       subst (λ (pool : ℕ → ℕ). AllOver I.up I.spot pool m IsSo) (sym (pool_protected z v a gfn S note))
@@ -143,14 +145,14 @@ module _ (z : Sizes) (v : View) (a : ℕ) (I : TopicsInvariant z v) (m : ℕ) (I
 
 -- What is said of all entries below a table, of a claim that is light, is so after each step, if the new leaf is.
 pub over_step : (z : Sizes) (v : View) (a : ℕ) (step : PartStep) (note : ℕ) → IsPart z v a step
-    → (I : TopicsInvariant z v) (m : ℕ) (IsSo : ℕ → ℕ → ℕ → Type 0) → is_table (I.up m) ≡ true → IsLight IsSo → OfNewLeaf step (v.hand a).topics IsSo
+    → (I : TopicsInvariant z v) (m : ℕ) (IsSo : ℕ → ℕ → ℕ → Type 0) → is_table (I.up m) ≡ true → IsLight IsSo → OfNewLeaf step (v.hand a).topics v IsSo
     → AllOver I.up I.spot (v.words area.Pool) m IsSo → AllOver (up_after step a (v.hand a).topics v I.up) (spot_after step (v.hand a).topics v I.spot)
     ((part_stepped a step note v).words area.Pool) m IsSo
 over_step z v a (part.Link gfn) note S I m IsSo table light new_ A = link_over z v a I m IsSo table light A gfn note S
 over_step z v a (part.Leaf gfn write) note S I m IsSo table light new_ A =
-    put_over z v a I m IsSo table light A gfn (leaf_written write (v.hand a).topics) S.there S.needs.0.saw.over (λ is other over was. new_ other over)
+    put_over z v a I m IsSo table light A gfn (leaf_written write (v.hand a).topics) S.there S.needs.0.saw.over (λ is other over was. new_ is other over)
 over_step z v a (part.Fix gfn) note S I m IsSo table light new_ A =
-    put_over z v a I m IsSo table light A gfn (leaf_fixed (v.hand a).topics) S.there S.needs.saw.over (λ is. new_)
+    put_over z v a I m IsSo table light A gfn (leaf_fixed (v.hand a).topics) S.there S.needs.saw.over new_
 over_step z v a (part.Fill value) note S I m IsSo table light new_ A =
     still_over z v a I m IsSo table light A (part.Fill value) note S refl
     (λ k is o owns e. let no = ap (λ l. is_table (I.up l)) (sym e) ∙ ap is_table (owned_use I.uses a o S.there owns) in absurd (cc (no, is)))

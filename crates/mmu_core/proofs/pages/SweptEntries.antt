@@ -17,11 +17,11 @@ use Rattle.mmu_core.specs.invariant.InvalidatedPart.{IsNoLeafBelow}
 use Rattle.mmu_core.specs.invariant.TreePart.{Position, TreePart, Use, at, stands}
 use Rattle.mmu_core.proofs.pages.NoneBelow.{done_leads, leads_on, none_below}
 
--- A guest frame of the invalidation that lies below lies below the end of an entry that leads nowhere, or below the entry.
-pub below_swept : (from : ℕ) (walk : TableWalk) (gfn : ℕ) → from ≤ gfn → gfn < swept_to true from walk
-    → (((has_entry walk && is_done true walk) ≡ true) × (gfn < entry_end walk)) ⊎ (gfn < entry_start walk)
-below_swept from walk gfn at_least below =
-    by (has_entry walk && is_done true walk) (nat_le from (entry_start walk)) (entry_end walk) (entry_start walk) below
+-- A guest frame of a sweep that lies below lies below the end of an entry at which there is nothing to do, or below the entry.
+pub below_swept : (zaps : Bool) (from : ℕ) (walk : TableWalk) (gfn : ℕ) → from ≤ gfn → gfn < swept_to zaps from walk
+    → (((has_entry walk && is_done zaps walk) ≡ true) × (gfn < entry_end walk)) ⊎ (gfn < entry_start walk)
+below_swept zaps from walk gfn at_least below =
+    by (has_entry walk && is_done zaps walk) (nat_le from (entry_start walk)) (entry_end walk) (entry_start walk) below
   where
     by : (done later : Bool) (end_ start : ℕ) → gfn < (if done then end_ else if later then start else from)
         → ((done ≡ true) × (gfn < end_)) ⊎ (gfn < start)
@@ -47,12 +47,12 @@ both_true true false e = absurd (cc e)
 both_true false y e = absurd (cc e)
 
 -- The entry of a guest frame begins no higher than it.
-entry_below : (gfn level prefix : ℕ) → gfn / level_span level / 512 ≡ prefix → (prefix * 512 + entry_index gfn level) * level_span level ≤ gfn
+pub entry_below : (gfn level prefix : ℕ) → gfn / level_span level / 512 ≡ prefix → (prefix * 512 + entry_index gfn level) * level_span level ≤ gfn
 entry_below gfn level prefix over =
     let same : prefix * 512 + entry_index gfn level ≡ gfn / level_span level = omega (arith, over) in
     subst (λ n. n * level_span level ≤ gfn) (sym same) (div-mul-le_self gfn (level_span level))
 
-regrouped : (n span : ℕ) → (n * 512 + 0) * span ≡ n * (512 * span)
+pub regrouped : (n span : ℕ) → (n * 512 + 0) * span ≡ n * (512 * span)
 regrouped n span = omega arith
 
 below_512 : (n : ℕ) → nat_lt (n % 512) 512 ≡ true
@@ -65,7 +65,7 @@ starts_at walk gfn v =
     ap (λ (b : Bool). (walk.prefix * 512 + (if b then entry_index gfn walk.level else 0)) * level_span walk.level) (below_512 (gfn / level_span walk.level))
 
 -- What lies in an entry is over it.
-in_entry : (gfn entry span : ℕ) → 0 < span → entry * span ≤ gfn → gfn < (entry + 1) * span → gfn / span ≡ entry
+pub in_entry : (gfn entry span : ℕ) → 0 < span → entry * span ≤ gfn → gfn < (entry + 1) * span → gfn / span ≡ entry
 in_entry gfn entry span some low high =
     let from : entry ≤ gfn / span = (le-div_iff_mul-le some).1 low in
     let to : gfn / span < entry + 1 = (div-lt_iff_lt-mul some).1 high in
@@ -100,7 +100,7 @@ module _ {pages root : ℕ} {role pool : ℕ → ℕ} {up : ℕ → Use} {spot :
   -- The entry was loaded of the guest frame to which a sweep had come.
   pub loaded_swept : (gfn : ℕ) (o : Option ℕ) → gfn / level_span walk.level / 512 ≡ walk.prefix → AllOver up spot pool root (IsNoLeafBelow own_ gfn)
       → 1 ≤ (on o gfn).level → AllOver up spot pool root (IsNoLeafBelow own_ (swept_to true own_.start (on o gfn)))
-  loaded_swept gfn o over A from l j other R O is_in below leaf = by o from (below_swept own_.start (on o gfn) other is_in.0 below)
+  loaded_swept gfn o over A from l j other R O is_in below leaf = by o from (below_swept true own_.start (on o gfn) other is_in.0 below)
     where
       index : ℕ
       index = entry_index gfn walk.level

@@ -66,7 +66,7 @@ module _ (z : Sizes) (v : View) (a note : ℕ) (step : PartStep) (S : IsPart z v
       AllOver (up_after step a (v.hand a).topics v I.up) (spot_after step (v.hand a).topics v I.spot) ((part_stepped a step note v).words area.Pool)
       ((part_stepped a step note v).words area.Root 0) (IsNoLeafBelow own_ to)
 
-  still_below : (own_ : Invalidated) (to : ℕ) → OfNewLeaf step (v.hand a).topics (IsNoLeafBelow own_ to) → WasBelow own_ to → NowBelow own_ to
+  still_below : (own_ : Invalidated) (to : ℕ) → OfNewLeaf step (v.hand a).topics v (IsNoLeafBelow own_ to) → WasBelow own_ to → NowBelow own_ to
   still_below own_ to new_ A =
       subst (λ root. AllOver (up_after step a (v.hand a).topics v I.up) (spot_after step (v.hand a).topics v I.spot)
       ((part_stepped a step note v).words area.Pool) root (IsNoLeafBelow own_ to)) (sym (ap (λ (r : ℕ → ℕ). r 0) (areas_stay v a step note area.Root refl)))
@@ -83,7 +83,7 @@ OwnSwept z v a note step S I t =
 
 -- A walk begins at the root, before all its frames.
 root_swept : (own_ : Invalidated) (b : Bool) (walk : TableWalk) (root gfn : ℕ) → IsIn own_ gfn → gfn < swept_to true own_.start (at_root b walk root) → ⊥
-root_swept own_ b walk root gfn is_in below = by (below_swept own_.start (at_root b walk root) gfn is_in.0 below)
+root_swept own_ b walk root gfn is_in below = by (below_swept true own_.start (at_root b walk root) gfn is_in.0 below)
   where
     by : (((has_entry (at_root b walk root) && is_done true (at_root b walk root)) ≡ true) × (gfn < entry_end (at_root b walk root)))
         ⊎ (gfn < entry_start (at_root b walk root)) → ⊥
@@ -125,7 +125,7 @@ sweep_own z v a note gfn S I alone out opened from =
 zap_own : (z : Sizes) (v : View) (a note gfn : ℕ) (S : IsPart z v a (part.Zap gfn)) (I : TopicsInvariant z v)
     → OwnSwept z v a note (part.Zap gfn) S I (part_topics (part.Zap gfn) (v.hand a).topics 0)
 zap_own z v a note gfn S I alone out opened from l j other R O is_in below leaf =
-    by (below_swept t.invalidations.own.start after other is_in.0 below)
+    by (below_swept true t.invalidations.own.start after other is_in.0 below)
   where
     t : Topics
     t = (v.hand a).topics
@@ -206,8 +206,8 @@ own_swept z v a note step S I = λ alone out opened from.
 
 -- Nobody else has the lock, so none stores a leaf, but in place of one.
 others_leaf : (z : Sizes) (v : View) (a i : ℕ) (step : PartStep) → IsPart z v a step → TopicsInvariant z v → i < actors_of z → i ≢ a
-    → (v.hand i).topics.hold ≡ Exclusive → (own_ : Invalidated) (to : ℕ) → OfNewLeaf step (v.hand a).topics (IsNoLeafBelow own_ to)
-others_leaf z v a i (part.Fix gfn) S I lt ne alone own_ to = λ other over none from below leaf. none from below S.needs.leaf
+    → (v.hand i).topics.hold ≡ Exclusive → (own_ : Invalidated) (to : ℕ) → OfNewLeaf step (v.hand a).topics v (IsNoLeafBelow own_ to)
+others_leaf z v a i (part.Fix gfn) S I lt ne alone own_ to = λ won other over none from below leaf. none from below S.needs.leaf
 others_leaf z v a i (part.Protect gfn) S I lt ne alone own_ to = λ found other was none from below leaf. none from below was
 others_leaf z v a i (part.Leaf gfn write) S I lt ne alone own_ to =
     absurd (let none = alone_holds (actors_of z) (v.words area.Lock 0) (λ j. (v.hand j).topics.hold) i a lt S.there (λ e. ne (sym e)) I.lock_part alone in

@@ -50,10 +50,10 @@ one_frame level other gfn lowest over =
     omega (arith, frames)
 
 new_leaf : (z : Sizes) (v : View) (a i : ℕ) (step : PartStep) → IsPart z v a step → TopicsInvariant z v → i < actors_of z
-    → (v.hand i).topics.invalidations.opened ≡ true → OfNewLeaf step (v.hand a).topics (IsNoLeafIn (v.hand i).topics.invalidations.own)
-new_leaf z v a i (part.Fix gfn) S I lt is_open = λ other over none is_in leaf. none is_in S.needs.leaf
+    → (v.hand i).topics.invalidations.opened ≡ true → OfNewLeaf step (v.hand a).topics v (IsNoLeafIn (v.hand i).topics.invalidations.own)
+new_leaf z v a i (part.Fix gfn) S I lt is_open = λ won other over none is_in leaf. none is_in S.needs.leaf
 new_leaf z v a i (part.Protect gfn) S I lt is_open = λ found other was none is_in leaf. none is_in was
-new_leaf z v a i (part.Leaf gfn write) S I lt is_open = λ other over is_in leaf.
+new_leaf z v a i (part.Leaf gfn write) S I lt is_open = λ won other over is_in leaf.
     let same : other ≡ gfn = one_frame (v.hand a).topics.walk.level other gfn S.needs.1 over in
     fresh_in_none z v a i gfn I S.there lt (ap has_lock S.needs.0.shares) S.needs.0.fresh is_open
     (subst (IsIn (v.hand i).topics.invalidations.own) same is_in)
@@ -96,7 +96,7 @@ asked_before false f asked = asked
 -- So it is before the step of what is open after it, and of a new leaf.
 abbrev OwnZapped : (z : Sizes) (v : View) → ℕ → PartStep → TopicsInvariant z v → Topics → Type 0
 OwnZapped z v a step I t =
-    t.invalidations.opened ≡ true → 1 ≤ t.flush.asked → ZappedIn z v I t.invalidations.own × OfNewLeaf step (v.hand a).topics (IsNoLeafIn t.invalidations.own)
+    t.invalidations.opened ≡ true → 1 ≤ t.flush.asked → ZappedIn z v I t.invalidations.own × OfNewLeaf step (v.hand a).topics v (IsNoLeafIn t.invalidations.own)
 
 own_zapped : (z : Sizes) (v : View) (a note : ℕ) (step : PartStep) → IsPart z v a step → (I : TopicsInvariant z v)
     → OwnZapped z v a step I (part_topics step (v.hand a).topics (answer_in (part_task step a (v.hand a).topics note) v.words))
@@ -139,7 +139,7 @@ zapped_kept z v a step note S I =
         i < actors_of z → h.topics.invalidations.opened ≡ true → 1 ≤ h.topics.flush.asked
         → IsZapped ((part_stepped a step note v).words area.Root) h.topics.invalidations.own
 
-    carried : (own_ : Invalidated) → ZappedIn z v I own_ → OfNewLeaf step (v.hand a).topics (IsNoLeafIn own_)
+    carried : (own_ : Invalidated) → ZappedIn z v I own_ → OfNewLeaf step (v.hand a).topics v (IsNoLeafIn own_)
         → IsZapped ((part_stepped a step note v).words area.Root) own_
     carried own_ A new_ =
         subst (λ root. IsZapped root own_) (sym (areas_stay v a step note area.Root refl))

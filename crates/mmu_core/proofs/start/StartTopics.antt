@@ -153,7 +153,14 @@ held_first stands = record { table = λ from. absurd (omega (arith, from)); no_t
 
 search_first : (pool : ℕ → ℕ) → SearchPart pool first_topics.search
 search_first pool =
-    record { listed = tt; loaded = λ k e. tt; whole = λ k e whole. absurd (cc whole); held = λ whole. absurd (cc whole); before_flags = λ whole. refl }
+    record {
+      listed = tt;
+      loaded = λ k e. tt;
+      whole = λ k e whole. absurd (cc whole);
+      held = λ whole. absurd (cc whole);
+      before_flags = λ whole. refl;
+      flags = λ k e whole. absurd (cc whole);
+    }
 
 look_first : (z : Sizes) (n seq : ℕ) (host : ℕ → ℕ) (topics : ℕ → Topics) → LookPart z n seq host topics first_topics
 look_first z n seq host topics =

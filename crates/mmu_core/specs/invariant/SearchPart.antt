@@ -35,13 +35,14 @@ IsOnList Flags id = Unit {0}
 IsOnList _ id = id ≤ 31
 
 -- What was loaded of the slot under search stands in the slot set that is held; the slot that was loaded whole is live there, with the
--- ID before the next one, whose flags are next.
+-- ID before the next one, whose flags are next, and has a dirty log where its flags say so.
 pub record SearchPart (pool : ℕ → ℕ) (s : SlotSearch) : Type 0 where
   pub listed : IsOnList s.next s.id
   pub loaded : (k : ℕ) → s.set ≡ Some k → HasLoaded s.next pool k s
   pub whole : (k : ℕ) → s.set ≡ Some k → s.whole ≡ true → (1 ≤ s.id) × IsLiveIn pool k (s.id - 1) s.slot
   pub held : s.whole ≡ true → (k : ℕ) × (s.set ≡ Some k)
   pub before_flags : s.whole ≡ true → s.next ≡ Flags
+  pub flags : (k : ℕ) → s.set ≡ Some k → s.whole ≡ true → s.logged ≡ flags_logged (pool (slot_index k (s.id - 1) Flags))
 
 -- The actor's own invalidation is open, is of what is meant, and hasn't raised the sequence number yet.
 pub record IsInvalidating (IsOf : Invalidated → Type 0) (t : Topics) : Type 0 where

@@ -53,7 +53,7 @@ none_under place.Between h under none = refl
 none_under _ h under none = let has = has_line_is h under.1 in absurd (cc (none, has))
 
 -- A step of a part tells nothing, and the words still stand for the same facts.
-part_keeps_flat : (z : Sizes) (v : View) (f : Flat) (a : ℕ) (step : PartStep) (note : ℕ) → IsPart z v a step → needs_line step ≡ false
+pub part_keeps_flat : (z : Sizes) (v : View) (f : Flat) (a : ℕ) (step : PartStep) (note : ℕ) → IsPart z v a step → needs_line step ≡ false
     → has_line (v.hand a) ≡ false → Invariant z v → TopicsInvariant z v → FlatInvariant z v f → FlatInvariant z (part_stepped a step note v) f
 part_keeps_flat z v f a step note S free none I P F = record {
   refines = refines_stay z v.words words f.facts L F.refines;
@@ -139,7 +139,7 @@ entry_at_start z lines w start p lt =
     ap entry_of is ∙ entry_made p true true 1 (omega arith)
 
 -- The start stands for the first flat state.
-start_flat : (z : Sizes) (lines : List Line) (w : World Held) → IsStart z lines w → FlatInvariant z (view z w) first_flat
+pub start_flat : (z : Sizes) (lines : List Line) (w : World Held) → IsStart z lines w → FlatInvariant z (view z w) first_flat
 start_flat z lines w start = record {
   refines = record {
     slots =

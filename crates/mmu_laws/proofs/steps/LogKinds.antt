@@ -1,7 +1,7 @@
 -- What a hand holds that makes a step for a dirty log: so where writes are forbidden, which page is marked, and which words of logs are set.
-use Rattle.std.proofs.Common.{◌≡◌, ◌≢◌, ◌⊎◌, inl, inr, ℕ, refl, sym, subst, ap, ◌∙◌, ◌/◌, arith}
+use Rattle.std.proofs.Common.{◌≡◌, ◌≢◌, ◌⊎◌, inl, inr, ℕ, refl, sym, subst, ap, ◌∙◌, arith}
 use Rattle.std.proofs.lemmas.Bool.Decides.{nat_tests}
-use Rattle.std.specs.Prelude.{true, Some, Option, None, is_some, Bool, ◌==◌, ◌+◌, ◌*◌, ◌%◌}
+use Rattle.std.specs.Prelude.{true, false, Some, Option, None, is_some, ◌==◌}
 use Rattle.core_views.specs.Held.{Held}
 use Rattle.core_views.specs.declared.kind.Kind.{Kind}
 use Rattle.core_views.specs.declared.kind.StepKind.TheVariants as kind
@@ -12,7 +12,7 @@ use Rattle.core_views.specs.declared.trace.Op.{Op}
 use Rattle.core_views.specs.declared.trace.Op.TheVariants.{Add, Read, Write}
 use Rattle.core_views.specs.Kinds.{kind_named}
 use Rattle.spte_words.specs.Areas.{place as place_of, pool_index}
-use Rattle.spte_words.specs.Entries.{can_write, level_span}
+use Rattle.spte_words.specs.Entries.{can_write}
 use Rattle.spte_words.specs.declared.area.Area.TheVariants as area
 use Rattle.part_steps.specs.HeldNumbers.{number_or_none}
 use Rattle.part_steps.specs.LogHoldings.{MayArm}
@@ -21,7 +21,6 @@ use Rattle.part_steps.specs.PartTasks.{entry_index, own_index, part_task, table_
 use Rattle.part_steps.specs.PartTopics.{exchanged, part_topics}
 use Rattle.part_steps.specs.Tasks.{map_of, kind_of_task}
 use Rattle.part_steps.specs.TopicSteps.{topics_after}
-use Rattle.part_steps.specs.WalkTopics.{owed_after}
 use Rattle.part_steps.specs.declared.part_step.PartStep.{PartStep}
 use Rattle.part_steps.specs.declared.part_step.PartStep.TheVariants as part
 use Rattle.part_steps.specs.declared.task.Task.{Task}
@@ -32,6 +31,7 @@ use Rattle.mmu_core.specs.machine.Machine.{May, Step, World, hand_in, answered, 
 use Rattle.mmu_core.specs.machine.Steps.{line_at, next, place_at, task_of}
 use Rattle.mmu_core.specs.machine.View.{view}
 use Rattle.mmu_core.proofs.held.Grace.{hand_here}
+use Rattle.mmu_core.proofs.held.OwedKept.{is_mark, mark_owed, owed_stays}
 use Rattle.mmu_core.proofs.lines.StepIn.{StepIn, Touches, step_in}
 use Rattle.mmu_core.proofs.lines.StepIn as step_in_
 use Rattle.mmu_core.proofs.machine.NextTopics.{next_topics, topics_behind}
@@ -81,22 +81,6 @@ module _ (z : Sizes) (w : World Held) (s : Step Kind) (G : IsSound z w) (may : M
     after_is step M =
         ap (λ (x : Held). x.topics) (hand_here w s may.there) ∙ ap (λ k. (next h k v).topics) M.is ∙ topics_behind h step M.note v M.needs
 
-    frame_is : (gfn : ℕ) → SawEntry gfn t.walk → t.walk.prefix * 512 + entry_index gfn t.walk.level ≡ gfn
-    unfolding level_span
-    frame_is gfn saw =
-        let span = saw.over.span in
-        ap (λ l. t.walk.prefix * 512 + entry_index gfn l) A.lowest
-        ∙ frame (subst (λ l. gfn / level_span l / 512 ≡ t.walk.prefix) A.lowest span)
-      where
-        frame : gfn / 1 / 512 ≡ t.walk.prefix → t.walk.prefix * 512 + gfn / 1 % 512 ≡ gfn
-        frame is = omega (arith, is)
-
-    owes : (won : Bool) (new_ index gfn : ℕ) → won ≡ true → can_write new_ ≡ true → t.walk.prefix * 512 + index ≡ gfn
-        → owed_after won t.search.logged t.walk index new_ t.owed ≡ Some gfn
-    owes won new_ index gfn wins allows at =
-        let low : (t.walk.level == 1) ≡ true = let is = A.lowest in grind (arith, nat_tests) in
-        rw (wins, low, A.logged, allows) (ap Some at)
-
     by_exchange : (gfn new_ : ℕ) (step : PartStep) (M : Makes h s step) → SawEntry gfn t.walk → FoundSlot gfn t
         → part_task step (own_index h) t M.note ≡ entry_task gfn new_ t.walk M.note
         → part_topics step t v ≡ exchanged (v == t.walk.entry) (entry_index gfn t.walk.level) new_ t v → OwesMarkAfter z w s
@@ -110,7 +94,8 @@ module _ (z : Sizes) (w : World Held) (s : Step Kind) (G : IsSound z w) (may : M
               ∙ ap (λ l. place_of (map_of z) area.Pool (pool_index page (entry_index gfn l))) A.lowest;
           found = found;
           owed = ap (λ (x : Topics). x.owed) (after_is step M ∙ topics)
-              ∙ owes (v == t.walk.entry) new_ (entry_index gfn t.walk.level) gfn won (sym (ap (λ (k : Kind). can_write k.new) K) ∙ A.allows) (frame_is gfn saw);
+              ∙ mark_owed (v == t.walk.entry) t.search.logged t.walk gfn new_ t.owed won A.logged A.lowest saw.over
+              (sym (ap (λ (k : Kind). can_write k.new) K) ∙ A.allows);
         }
 
     owing : (step : PartStep) (M : Makes h s step) → (part_task step (own_index h) t M.note).kind ≡ kind.Swap → OwesMarkAfter z w s
@@ -126,19 +111,15 @@ module _ (z : Sizes) (w : World Held) (s : Step Kind) (G : IsSound z w) (may : M
     abbrev found : ℕ
     found = answered mmu w s.kind
 
-    not_both : t.owed ≡ None → ⊥
-    not_both none = cc (owed, none)
-
-    still_by : (step : PartStep) (M : Makes h s step) → (part_topics step t found).owed ≡ Some gfn
-    still_by part.Mark M = absurd (other (ap (λ (k : Kind). kind_named k.code) M.is))
-    still_by (part.Link frame) M = absurd (not_both M.needs.0.owes_none)
-    still_by (part.Leaf frame write) M = absurd (not_both M.needs.0.owes_none)
-    still_by (part.Fix frame) M = absurd (not_both M.needs.owes_none)
-    still_by _ M = owed
+    -- it is no mark
+    no_mark : (step : PartStep) → Makes h s step → is_mark step ≡ false
+    no_mark part.Mark M = absurd (other (ap (λ (k : Kind). kind_named k.code) M.is))
+    no_mark _ M = refl
 
     by_part : (step : PartStep) → Makes h s step → (next h s.kind found).topics.owed ≡ Some gfn
     by_part step M =
-        ap (λ k. (next h k found).topics.owed) M.is ∙ ap (λ (x : Topics). x.owed) (topics_behind h step M.note found M.needs) ∙ still_by step M
+        ap (λ k. (next h k found).topics.owed) M.is ∙ ap (λ (x : Topics). x.owed) (topics_behind h step M.note found M.needs)
+        ∙ owed_stays step h found gfn M.needs (no_mark step M) owed
 
     by_touch : (op : Op) (index : ℕ) → s.kind ≡ kind_of_task h.state.sizes (touch_of op index) → (next h s.kind found).topics.owed ≡ Some gfn
     unfolding topics_after

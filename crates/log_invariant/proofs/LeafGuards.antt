@@ -1,0 +1,196 @@
+-- What a step of a line leaves guarded: what was so before it, but for what its sweep passes; the slot whose log it begins; and a new leaf.
+use Rattle.core_views.specs.Held.{Held}
+use Rattle.core_views.specs.LogCommands.{is_all_set}
+use Rattle.core_views.specs.Sizes.{actors_of}
+use Rattle.core_views.specs.Slots.{contains}
+use Rattle.core_views.specs.declared.place.Place.TheVariants as place
+use Rattle.core_views.specs.declared.place.Place.{Place}
+use Rattle.core_views.specs.declared.sizes.Sizes.{Sizes}
+use Rattle.core_views.specs.declared.topics.TableWalk.{TableWalk}
+use Rattle.core_views.specs.declared.topics.Topics.{Topics}
+use Rattle.core_views.specs.declared.trace.Command.{Command}
+use Rattle.core_views.specs.declared.trace.Line.{Line}
+use Rattle.core_views.specs.declared.trace.Slot.{Slot as SlotOf}
+use Rattle.log_invariant.proofs.CoveredKept.{AllGuarded, IsGuardedNow, PublishesLog, covered_kept, guarded_kept, logged_before}
+use Rattle.log_invariant.proofs.HeldLogs.{IsLoggedNow, IsOpening, found_is_logged}
+use Rattle.log_invariant.proofs.LeafClaims.{LeavesAre, OfNewWrites, leaves_weaker, part_leaves, touch_leaves}
+use Rattle.log_invariant.proofs.LogsBegun.{AllSetNow, begun_guarded}
+use Rattle.log_invariant.proofs.OpeningSlot.{opening_is}
+use Rattle.log_invariant.proofs.OwnExcuse.{AllowsAt, PassesAt, change_excuse}
+use Rattle.log_invariant.proofs.PassedFrames.{topics_made}
+use Rattle.log_invariant.proofs.StepPlaces.{Makes, StepAt, Touches, of_hand, step_at}
+use Rattle.log_invariant.specs.LogBegins.{MayAllow}
+use Rattle.log_invariant.specs.LogInvariant.{LogInvariant}
+use Rattle.mmu_core.proofs.held.OwedKept.{mark_owed}
+use Rattle.mmu_core.proofs.invariant.Kept.{makes_at}
+use Rattle.mmu_core.proofs.invariant.QuietKept.{MakesAt}
+use Rattle.mmu_core.proofs.lines.AccessParts.{AreSmall}
+use Rattle.mmu_core.proofs.machine.Columns.{same_or, upd_other, upd_same}
+use Rattle.mmu_core.proofs.machine.PartStepping.{is_publish}
+use Rattle.mmu_core.proofs.machine.Stepping.{IsStep}
+use Rattle.mmu_core.specs.invariant.Invariant.{Invariant}
+use Rattle.mmu_core.specs.invariant.TopicsInvariant.{TopicsInvariant}
+use Rattle.mmu_core.specs.lines.Forms.{first_place, outcome_at, part_at}
+use Rattle.mmu_core.specs.lines.PartAt.{task_at}
+use Rattle.mmu_core.specs.lines.SlotChangeSteps.{slot_change_part}
+use Rattle.mmu_core.specs.machine.Outcomes.{place_after}
+use Rattle.mmu_core.specs.machine.View.{View, answer_in, hand_after, stepped, words_after}
+use Rattle.part_steps.specs.PartHoldings.{FoundSlot, IsOver}
+use Rattle.part_steps.specs.PartTasks.{entry_index, leaf_fixed, leaf_written}
+use Rattle.part_steps.specs.PartTopics.{exchanged}
+use Rattle.part_steps.specs.declared.part_step.PartStep.TheVariants as part
+use Rattle.part_steps.specs.declared.part_step.PartStep.{PartStep}
+use Rattle.part_steps.specs.declared.task.Task.{Task}
+use Rattle.spte_words.specs.Entries.{can_write}
+use Rattle.std.proofs.Common.{◌<◌, ◌∙◌, ◌≡◌, ◌≢◌, ◌⊎◌, ap, arith, inl, inr, refl, subst, sym, ℕ}
+use Rattle.std.proofs.lemmas.Bool.Decides.{nat_tests}
+use Rattle.std.specs.Prelude.{◌==◌, Bool, Some, false, true}
+
+-- What the part of the invariant on leaves says of a view.
+abbrev pub LeavesNow : Sizes → View → Type 0
+LeavesNow z v = LeavesAre z v.words (AllGuarded z v MayAllow)
+
+-- what a hand excuses after a step, or is passed by the sweep whose step it is, with the walk before and after it
+abbrev pub ExcusedOrPassed : Place → TableWalk → TableWalk → Held → ℕ → Type 0
+ExcusedOrPassed p before after h gfn = MayAllow h gfn ⊎ PassesAt p before after gfn
+
+-- What the line of an actor excuses before its step, it excuses after it, or its sweep has passed.
+own_excuse : (z : Sizes) (v : View) (a : ℕ) (line : Line) (command : Command) (p : Place) → MakesAt z v a p command → (gfn : ℕ)
+    → AllowsAt p command (v.hand a) gfn
+    → AllowsAt (place_after (outcome_at p command (v.hand a) (answer_in (task_at p command (v.hand a)) v.words))) command
+    (hand_after line command p (v.hand a) (answer_in (task_at p command (v.hand a)) v.words)) gfn
+    ⊎ PassesAt p (v.hand a).topics.walk (hand_after line command p (v.hand a) (answer_in (task_at p command (v.hand a)) v.words)).topics.walk gfn
+own_excuse z v a line command (place.SlotChange q) makes gfn excuse =
+    change_excuse q command (v.hand a) (answer_in (task_at (place.SlotChange q) command (v.hand a)) v.words) _ gfn (record {
+      slots = refl;
+      sizes = refl;
+      walk = ap (λ (t : Topics). t.walk) (topics_made v a line command (place.SlotChange q) (slot_change_part q (v.hand a) command) refl (makes _ refl).needs);
+    }) excuse
+own_excuse z v a line command _ makes gfn (inl O) = absurd O.0
+own_excuse z v a line command _ makes gfn (inr W) = absurd W
+
+module _ (z : Sizes) (v : View) (a : ℕ) (line : Line) (command : Command) (p : Place) (small : AreSmall v) (S : IsStep z v a line command p)
+    (I : Invariant z v) (P : TopicsInvariant z v) (G : LogInvariant z v) (all_set : AllSetNow z (stepped a line command p v)) where
+  abbrev h : Held
+  h = v.hand a
+
+  abbrev x : ℕ
+  x = answer_in (task_at p command h) v.words
+
+  abbrev g : Held
+  g = hand_after line command p h x
+
+  abbrev w : View
+  w = stepped a line command p v
+
+  here : w.hand a ≡ g
+  here = upd_same v.hand a g
+
+  abbrev After : Held → ℕ → Type 0
+  After = ExcusedOrPassed p h.topics.walk g.topics.walk
+
+  own_guards : (gfn : ℕ) (slot : SlotOf) → After g gfn → IsGuardedNow z w After slot gfn
+  own_guards gfn slot excuse = inr (a, S.there, subst (λ k. After k gfn) (sym here) excuse)
+
+  -- ---- the actor's own excuse
+
+  -- It is one of the place where the step is made.
+  at_place : (gfn : ℕ) → MayAllow h gfn → AllowsAt p command h gfn
+  at_place gfn = of_hand z v a line command p S (λ q c. AllowsAt q c h gfn) (λ sizes slots c. none (first_place sizes slots c) c)
+    where
+      none : (q : Place) (c : Command) → AllowsAt place.Between h.state.line.command h gfn → AllowsAt q c h gfn
+      none q c (inl O) = absurd O.0
+      none q c (inr W) = absurd W
+
+  makes : MakesAt z v a p command
+  makes = makes_at z v a line command p small S I P
+
+  excuse_after : (gfn : ℕ) → MayAllow h gfn → After g gfn
+  excuse_after gfn excuse =
+      subst (λ c. AllowsAt g.state.place c g gfn ⊎ PassesAt p h.topics.walk g.topics.walk gfn) (sym S.command_is)
+      (own_excuse z v a line command p makes gfn (at_place gfn excuse))
+
+  -- So what a hand excused before the step is guarded after it.
+  excused : (j gfn : ℕ) (slot : SlotOf) → j < actors_of z → MayAllow (v.hand j) gfn → IsGuardedNow z w After slot gfn
+  excused j gfn slot lt excuse = by (same_or j a)
+    where
+      by : (j ≡ a) ⊎ (j ≢ a) → IsGuardedNow z w After slot gfn
+      by (inl e) = own_guards gfn slot (excuse_after gfn (subst (λ i. MayAllow (v.hand i) gfn) e excuse))
+      by (inr ne) = inr (j, lt, subst (λ k. After k gfn) (sym (upd_other v.hand a j g ne)) (inl excuse))
+
+  kept : (gfn : ℕ) → AllGuarded z v MayAllow gfn → AllGuarded z w After gfn
+  kept gfn =
+      guarded_kept z v a line command p small S I P G gfn MayAllow After (record {
+        others = λ j lt ne excuse. inl excuse;
+        own = λ id slot logged holds excuse. own_guards gfn slot (excuse_after gfn excuse);
+      })
+      (λ slot B holds. begun_guarded z v a line command p S I After gfn slot (λ k opens clean. inl (inl (opens, clean))) all_set B holds)
+
+  -- ---- a new leaf
+
+  -- What was said of leaves before the step is so of them, as far as they stay.
+  before : LeavesAre z v.words (AllGuarded z w After)
+  before = leaves_weaker z v.words (AllGuarded z v MayAllow) (AllGuarded z w After) kept G.leaves
+
+  -- Where the log of a slot is opening, a write in it was excused, or its page is dirty.
+  opening_guards : (gfn id : ℕ) (slot : SlotOf) → IsLoggedNow v id slot → contains gfn slot ≡ true → IsOpening z v gfn → IsGuardedNow z w After slot gfn
+  opening_guards gfn id slot logged holds O = by (is_all_set (v.hand O.0).state.sizes.mode) refl
+    where
+      by : (b : Bool) → is_all_set (v.hand O.0).state.sizes.mode ≡ b → IsGuardedNow z w After slot gfn
+      by false clean = excused O.0 gfn slot O.1 (inl (O.2, clean))
+      by true dirty =
+          inl (covered_kept z v a line command p small S I P G id gfn slot logged holds
+          (inl (G.all_set O.0 gfn slot O.1 (ap (λ (y : Sizes). is_all_set y.mode) (sym (I.lines O.0 O.1).sizes) ∙ dirty) O.2
+          (opening_is z v O.0 gfn id slot I O.1 O.2 logged.live holds))))
+
+  -- The exchange leaves a mark owed, where the search has found the log.
+  new_guards : (gfn : ℕ) → FoundSlot gfn h.topics → (h.topics.search.logged ≡ true → g.topics.owed ≡ Some gfn)
+      → ((slot : SlotOf) → PublishesLog v a command p slot → ⊥) → AllGuarded z w After gfn
+  new_guards gfn found owes publishes_none id slot logged holds = by (logged_before z v a line command p small S I P id slot logged)
+    where
+      found_it : IsLoggedNow v id slot → ((h.topics.search.slot ≡ slot) × (h.topics.search.logged ≡ true)) ⊎ IsOpening z v gfn
+          → IsGuardedNow z w After slot gfn
+      found_it was (inl both) = inl (inr (a, S.there, ap (λ (k : Held). k.topics.owed) here ∙ owes both.1))
+      found_it was (inr O) = opening_guards gfn id slot was holds O
+
+      by : IsLoggedNow v id slot ⊎ PublishesLog v a command p slot → IsGuardedNow z w After slot gfn
+      by (inl was) = found_it was (found_is_logged z v a gfn id slot S.there I P G found was holds)
+      by (inr B) = absurd (publishes_none slot B)
+
+  owes : (gfn new_ found : ℕ) → h.topics.walk.level ≡ 1 → IsOver gfn h.topics.walk → found ≡ h.topics.walk.entry → can_write new_ ≡ true
+      → g.topics ≡ exchanged (found == h.topics.walk.entry) (entry_index gfn h.topics.walk.level) new_ h.topics found → h.topics.search.logged ≡ true
+      → g.topics.owed ≡ Some gfn
+  owes gfn new_ found lowest over won writes is logged =
+      ap (λ (t : Topics). t.owed) is
+      ∙ mark_owed (found == h.topics.walk.entry) h.topics.search.logged h.topics.walk gfn new_ h.topics.owed (grind (arith, nat_tests)) logged lowest over
+      writes
+
+  publishes_none : (step : PartStep) → part_at p command h ≡ Some step → is_publish step ≡ false → (slot : SlotOf) → PublishesLog v a command p slot → ⊥
+  publishes_none step is never slot B =
+      let at = ap (λ q. part_at q command h) B.at in
+      let same : step ≡ part.Publish = cc (is, at) in
+      let publishes = ap is_publish same in cc (publishes, never)
+
+  new_writes : (step : PartStep) → part_at p command h ≡ Some step → OfNewWrites step h.topics v (AllGuarded z w After)
+  new_writes (part.Leaf gfn write) is = λ won writes.
+      let M = makes (part.Leaf gfn write) is in
+      new_guards gfn M.needs.0.looked_up.found
+      (owes gfn (leaf_written write h.topics) _ M.needs.1 M.needs.0.saw.over won writes (topics_made v a line command p _ is M.needs))
+      (publishes_none (part.Leaf gfn write) is refl)
+  new_writes (part.Fix gfn) is = λ won writes.
+      let M = makes (part.Fix gfn) is in
+      new_guards gfn M.needs.found
+      (owes gfn (leaf_fixed h.topics) _ M.needs.lowest M.needs.saw.over won writes (topics_made v a line command p _ is M.needs))
+      (publishes_none (part.Fix gfn) is refl)
+  new_writes _ is = tt
+
+  -- ---- all leaves
+
+  all_by : (task : Task) → StepAt z v a (part_at p command h) task → LeavesAre z (words_after task v.words) (AllGuarded z w After)
+  all_by _ (Makes step note is M) = part_leaves z v a step note M P (AllGuarded z w After) (new_writes step is) before
+  all_by _ (Touches op index none) = touch_leaves z v.words op index (AllGuarded z w After) before
+
+  -- Each leaf that allows writes is guarded after it, or its guest frame is passed.
+  pub guarded_or_passed : LeavesAre z (stepped a line command p v).words (AllGuarded z (stepped a line command p v) (ExcusedOrPassed p (v.hand a).topics.walk
+      (hand_after line command p (v.hand a) (answer_in (task_at p command (v.hand a)) v.words)).topics.walk))
+  guarded_or_passed = all_by (task_at p command h) (step_at z v a line command p small S I P)

@@ -1,0 +1,68 @@
+-- The slot whose log a line begins: it is live in the published set, and so it is each published slot that has a guest frame of it.
+use Rattle.std.proofs.Common.{◌<◌, ◌∙◌, ◌≡◌, ap, refl, subst, sym, ℕ}
+use Rattle.std.specs.Option.{option_map}
+use Rattle.std.specs.Prelude.{None, Option, Some, false, true}
+use Rattle.core_views.specs.Held.{Held}
+use Rattle.core_views.specs.Sizes.{actors_of}
+use Rattle.core_views.specs.SlotCommands.{slot_armed}
+use Rattle.core_views.specs.SlotSets.{MemorySlots, slot_of_id}
+use Rattle.core_views.specs.Slots.{contains}
+use Rattle.core_views.specs.declared.place.Place.{Place}
+use Rattle.core_views.specs.declared.place.Place.TheVariants as place
+use Rattle.core_views.specs.declared.sizes.Sizes.{Sizes}
+use Rattle.core_views.specs.declared.slot_set.MemorySlot.{MemorySlot}
+use Rattle.core_views.specs.declared.trace.Command.{Command}
+use Rattle.core_views.specs.declared.trace.Command.TheVariants.{Access, ChangeHost, ClearLog, DeleteSlot, GetLog, SetLog, SetSlot}
+use Rattle.core_views.specs.declared.trace.Slot.{Slot as SlotOf}
+use Rattle.spte_words.specs.declared.area.Area.TheVariants as area
+use Rattle.part_steps.specs.SlotWords.{slot_at}
+use Rattle.mmu_core.proofs.slots.SetFilled.{recorded_live}
+use Rattle.mmu_core.proofs.slots.SlotChangeKept.{change_hand}
+use Rattle.mmu_core.specs.invariant.Invariant.{Invariant, KnowsPart, RecordPart}
+use Rattle.mmu_core.specs.invariant.SlotSetPart.{IsLiveIn}
+use Rattle.mmu_core.specs.machine.View.{View}
+use Rattle.log_invariant.specs.LogBegins.{OpensLog, OpensLogAt}
+
+-- The slot is live in the set that the record is of.
+armed_live : (pool : ℕ → ℕ) (set : ℕ) (slots : MemorySlots) (command : Command) (slot : SlotOf) → RecordPart pool set slots
+    → slot_armed slots command ≡ Some slot → (id : ℕ) × IsLiveIn pool set id slot
+armed_live pool set slots (SetLog id true) slot R is = by (slot_of_id id slots) refl is
+  where
+    by : (o : Option MemorySlot) → slot_of_id id slots ≡ o → option_map (λ was. was.slot) o ≡ Some slot → (id : ℕ) × IsLiveIn pool set id slot
+    by None at is = absurd (cc is)
+    by (Some was) at is =
+        let same : was.slot ≡ slot = cc is in
+        (id, subst (λ s. IsLiveIn pool set id s) same (recorded_live pool set id slots was R at))
+armed_live pool set slots (SetLog id false) slot R is = absurd (cc is)
+armed_live pool set slots (Access gfn word op) slot R is = absurd (cc is)
+armed_live pool set slots (ChangeHost page change) slot R is = absurd (cc is)
+armed_live pool set slots (SetSlot id new_) slot R is = absurd (cc is)
+armed_live pool set slots (DeleteSlot id) slot R is = absurd (cc is)
+armed_live pool set slots (GetLog id) slot R is = absurd (cc is)
+armed_live pool set slots (ClearLog id first count words) slot R is = absurd (cc is)
+
+-- Where a line begins the log of a slot with the guest frame, and others may not know of it, this slot is the published one with the guest frame.
+pub opening_is : (z : Sizes) (v : View) (j gfn id : ℕ) (slot : SlotOf) → Invariant z v → j < actors_of z → OpensLog (v.hand j) gfn
+    → IsLiveIn (v.words area.Pool) (v.words area.Slots 0) id slot → contains gfn slot ≡ true
+    → slot_armed (v.hand j).slots (v.hand j).state.line.command ≡ Some slot
+opening_is z v j gfn id slot I lt O live holds = by h.state.place refl (I.knows j lt) O
+  where
+    h : Held
+    h = v.hand j
+
+    set : ℕ
+    set = v.words area.Slots 0
+
+    one : (other : SlotOf) (i : ℕ) → IsLiveIn (v.words area.Pool) set i other → contains gfn other ≡ true → other ≡ slot
+    one other i there has =
+        let same : i ≡ id = I.set_part.slots.guest_apart gfn i id there.low live.low there.live live.live (ap (contains gfn) there.is ∙ has)
+        (ap (contains gfn) live.is ∙ holds) in
+        sym there.is ∙ ap (slot_at (v.words area.Pool) set) same ∙ live.is
+
+    by : (q : Place) → h.state.place ≡ q → KnowsPart q h.state.line.command h → OpensLogAt q h.state.line.command h gfn
+        → slot_armed h.slots h.state.line.command ≡ Some slot
+    by (place.SlotChange p) at K O =
+        let manager = change_hand z j h p h.state.line.command (I.lines j lt) at refl K.0 in
+        let L = armed_live (v.words area.Pool) set h.slots h.state.line.command O.1 (I.recorded j lt manager) O.2 in
+        O.2 ∙ ap Some (one O.1 L.0 L.1 O.3)
+    by _ at K O = absurd O

@@ -1,0 +1,133 @@
+-- Each step keeps it that what a virtual processor may use of what it has cached, and which allows writes, is guarded.
+use Rattle.std.proofs.Common.{arith, inl, inr, refl, subst, sym, ℕ, ◌*◌, ◌+◌, ◌/◌, ◌<◌, ◌≡◌}
+use Rattle.std.specs.Prelude.{Bool, List, false, if◌then◌else◌, true}
+use Rattle.core_views.specs.declared.cache.Translation.{Translation}
+use Rattle.core_views.specs.declared.place.AccessPlace.TheVariants.{Walk}
+use Rattle.core_views.specs.declared.place.AccessPlace.{AccessPlace}
+use Rattle.core_views.specs.declared.place.Place.TheVariants as place
+use Rattle.core_views.specs.declared.place.Place.{Place}
+use Rattle.core_views.specs.declared.place.SlotChangePlace.TheVariants as change
+use Rattle.core_views.specs.declared.place.WriteProtectPlace.TheVariants as protect
+use Rattle.core_views.specs.declared.place.WriteProtectPlace.{WriteProtectPlace}
+use Rattle.core_views.specs.declared.sizes.Sizes.{Sizes}
+use Rattle.core_views.specs.declared.topics.Flush.{Flush}
+use Rattle.core_views.specs.declared.topics.TableWalk.{TableWalk}
+use Rattle.core_views.specs.declared.trace.Command.TheVariants.{Access}
+use Rattle.core_views.specs.declared.trace.Command.{Command}
+use Rattle.core_views.specs.declared.trace.Op.{Op}
+use Rattle.core_views.specs.Held.{Held}
+use Rattle.core_views.specs.Sizes.{actors_of}
+use Rattle.core_views.specs.Slots.{is_write}
+use Rattle.spte_words.specs.declared.area.Area.TheVariants as area
+use Rattle.spte_words.specs.Areas.{pool_index}
+use Rattle.spte_words.specs.Entries.{can_write, kind_of, level_span}
+use Rattle.part_steps.specs.declared.part_step.PartStep.TheVariants as part
+use Rattle.part_steps.specs.PartHoldings.{IsOver}
+use Rattle.part_steps.specs.PartTasks.{entry_index, table_page}
+use Rattle.mmu_core.specs.invariant.InvalidatedPart.{may_use}
+use Rattle.mmu_core.specs.invariant.TopicsInvariant.{TopicsInvariant}
+use Rattle.mmu_core.specs.invariant.TreePart.{Position, at}
+use Rattle.mmu_core.specs.lines.AccessSteps.{access_caches, access_task, is_found}
+use Rattle.mmu_core.specs.lines.Cached.{with_leaf}
+use Rattle.mmu_core.specs.lines.FaultSteps.{allows_access}
+use Rattle.mmu_core.specs.lines.Forms.{caches_at}
+use Rattle.mmu_core.specs.lines.PartAt.{task_at}
+use Rattle.mmu_core.specs.machine.View.{View, answer_in}
+use Rattle.mmu_core.proofs.invariant.QuietKept.{MakesAt}
+use Rattle.mmu_core.proofs.lines.CachedKept.{found_is_leaf, with_leaf_all}
+use Rattle.mmu_core.proofs.machine.PartStepping.{IsPart}
+use Rattle.mmu_core.proofs.pages.Standing.{spot_of}
+use Rattle.mmu_core.proofs.pages.TreePlaces.{all_reached}
+use Rattle.log_invariant.specs.LogBegins.{FlushesLaterAt, IsUnflushedAt, MayAllow, MayUse}
+use Rattle.log_invariant.specs.LogInvariant.{AreGuarded, LeafIsGuarded, LogInvariant}
+use Rattle.log_invariant.proofs.CachesCarried.{AsksStill}
+use Rattle.log_invariant.proofs.CoveredKept.{AllGuarded, IsGuardedNow}
+use Rattle.log_invariant.proofs.UsesExcused.{allowed_used}
+
+-- So it is in a view.
+abbrev pub CachedNow : Sizes → View → Type 0
+CachedNow z v = (k : ℕ) → k < z.vcpus → may_use (v.words area.State k) (v.hand k).topics.stay ≡ true
+    → AreGuarded (AllGuarded z v (MayUse k (v.words area.State k))) (v.hand k).cached.items
+
+-- ---- excuses
+
+-- What is guarded by one excuse is guarded by a weaker one.
+pub guarded_by : (z : Sizes) (v : View) (Less More : Held → ℕ → Type 0) (gfn : ℕ) → ((h : Held) → Less h gfn → More h gfn) → AllGuarded z v Less gfn
+    → AllGuarded z v More gfn
+guarded_by z v Less More gfn more guarded id slot logged holds = by (guarded id slot logged holds)
+  where
+    by : IsGuardedNow z v Less slot gfn → IsGuardedNow z v More slot gfn
+    by (inl covered) = inl covered
+    by (inr excuse) = inr (excuse.0, excuse.1, more (v.hand excuse.0) excuse.2)
+
+-- An excuse stays where the state word asks for a flush still.
+still_unflushed : (p : WriteProtectPlace) (flush : Flush) (k state now_ : ℕ) → AsksStill state now_
+    → IsUnflushedAt p flush k state → IsUnflushedAt p flush k now_
+still_unflushed protect.Ask flush k state now_ still (inl le) = inl le
+still_unflushed protect.Ask flush k state now_ still (inr U) = inr (U.0, still U.1)
+still_unflushed protect.Await flush k state now_ still (inl le) = inl le
+still_unflushed protect.Await flush k state now_ still (inr U) = inr (U.0, still U.1)
+still_unflushed _ flush k state now_ still U = tt
+
+still_flushes : (p : Place) (k state now_ : ℕ) (h : Held) (gfn : ℕ) → AsksStill state now_ → FlushesLaterAt p h k state gfn
+    → FlushesLaterAt p h k now_ gfn
+still_flushes (place.SlotChange (change.WriteProtect range p)) k state now_ h gfn still F = (F.0, still_unflushed p h.topics.flush k state now_ still F.1)
+still_flushes _ k state now_ h gfn still F = absurd F
+
+pub still_excused : (k state now_ : ℕ) (h : Held) (gfn : ℕ) → AsksStill state now_ → MayUse k state h gfn → MayUse k now_ h gfn
+still_excused k state now_ h gfn still (inl opens) = inl opens
+still_excused k state now_ h gfn still (inr F) = inr (still_flushes h.state.place k state now_ h gfn still F)
+
+-- ---- what an access caches
+
+module _ (z : Sizes) (v : View) (a : ℕ) (P : TopicsInvariant z v) (G : LogInvariant z v) (there : a < actors_of z) where
+  abbrev h : Held
+  h = v.hand a
+
+  abbrev walk : TableWalk
+  walk = h.topics.walk
+
+  -- the entry of the guest frame in the walk's table
+  abbrev entry : ℕ → ℕ
+  entry gfn = v.words area.Pool (pool_index (table_page walk) (entry_index gfn walk.level))
+
+  -- A leaf that its walk finds is guarded.
+  entry_guarded : (gfn : ℕ) → IsOver gfn walk → LeafIsGuarded (AllGuarded z v MayAllow) walk.level gfn (entry gfn)
+  entry_guarded gfn over =
+      let at_walk = (P.held a there).table over.there in
+      let here : P.spot (table_page walk) ≡ at walk.level walk.prefix = (spot_of P.up P.spot (table_page walk) (at walk.level walk.prefix) at_walk).1 in
+      let span = over.span in
+      subst (λ (p : Position). LeafIsGuarded (AllGuarded z v MayAllow) p.level gfn (entry gfn)) here
+      (G.leaves P.up P.spot P.tree (table_page walk) (entry_index gfn walk.level) gfn
+      (all_reached P.tree (table_page walk) (at walk.level walk.prefix) at_walk)
+      (omega arith, subst (λ (p : Position). gfn / level_span p.level ≡ p.prefix * 512 + entry_index gfn walk.level) (sym here) (omega (arith, span))))
+
+  -- The use of it is guarded, and so is that of each translation that is cached then.
+  abbrev Guarded : List Translation → Type 0
+  Guarded items = AreGuarded (AllGuarded z v (MayUse a (v.words area.State a))) items
+
+  walk_guarded : (gfn : ℕ) (allowed : Bool) → IsPart z v a (part.Walk gfn) → Guarded h.cached.items
+      → Guarded (if is_found (kind_of walk.level (entry gfn)) allowed then with_leaf gfn walk.level (entry gfn) h.cached else h.cached).items
+  walk_guarded gfn allowed S each = by (is_found (kind_of walk.level (entry gfn)) allowed) refl
+    where
+      by : (b : Bool) → is_found (kind_of walk.level (entry gfn)) allowed ≡ b
+          → Guarded (if b then with_leaf gfn walk.level (entry gfn) h.cached else h.cached).items
+      by false is = each
+      by true is =
+          let found = found_is_leaf (kind_of walk.level (entry gfn)) allowed is in
+          with_leaf_all (λ (t : Translation). can_write t.leaf ≡ true → AllGuarded z v (MayUse a (v.words area.State a)) t.gfn)
+          gfn walk.level (entry gfn) h.cached
+          (λ writes. guarded_by z v MayAllow (MayUse a (v.words area.State a)) gfn
+          (λ g. allowed_used g.state.place a (v.words area.State a) g.state.line.command g gfn)
+          (entry_guarded gfn S.needs.0 found writes)) each
+
+  access_guarded : (p : AccessPlace) (gfn word : ℕ) (op : Op) → MakesAt z v a (place.Access p) (Access gfn word op) → Guarded h.cached.items
+      → Guarded (access_caches p h gfn op (answer_in (access_task p h gfn word op) v.words)).items
+  access_guarded (Walk again) gfn word op makes each = walk_guarded gfn (allows_access (is_write op) (entry gfn)) (makes (part.Walk gfn) refl) each
+  access_guarded _ gfn word op makes each = each
+
+  -- No other step caches anything.
+  pub line_guarded : (p : Place) (command : Command) → MakesAt z v a p command → Guarded h.cached.items
+      → Guarded (caches_at p command h (answer_in (task_at p command h) v.words)).items
+  line_guarded (place.Access p) (Access gfn word op) makes each = access_guarded p gfn word op makes each
+  line_guarded _ _ makes each = each

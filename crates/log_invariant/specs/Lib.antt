@@ -1,0 +1,4 @@
+pub mod Covered
+pub mod LogBegins
+pub mod LogInvariant
+pub mod Laws

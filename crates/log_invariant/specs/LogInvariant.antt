@@ -1,0 +1,124 @@
+-- What holds of dirty logs at every moment, of the words and hands: what allows writes in a slot with a dirty log is covered, or stands before the line that
+-- begins the log.
+use Rattle.std.specs.Prelude.{◌≡◌, ◌<◌, ◌⊎◌, ◌+◌, ◌/◌, ℕ, All, Bool, List, Option, Some, true, false}
+use Rattle.core_views.specs.declared.actor.Actor.TheVariants.{Manager}
+use Rattle.core_views.specs.declared.cache.Translation.{Translation}
+use Rattle.core_views.specs.declared.place.AccessPlace.TheVariants as access
+use Rattle.core_views.specs.declared.place.FaultPlace.{FaultPlace}
+use Rattle.core_views.specs.declared.place.FaultPlace.TheVariants as fault
+use Rattle.core_views.specs.declared.place.Leaving.TheVariants.{Faults}
+use Rattle.core_views.specs.declared.place.Place.{Place}
+use Rattle.core_views.specs.declared.place.Place.TheVariants as place
+use Rattle.core_views.specs.declared.place.SlotChangePlace.TheVariants as change
+use Rattle.core_views.specs.declared.sizes.Sizes.{Sizes}
+use Rattle.core_views.specs.declared.trace.Command.{Command}
+use Rattle.core_views.specs.declared.trace.Command.TheVariants.{Access}
+use Rattle.core_views.specs.declared.trace.Slot.{Slot as SlotOf}
+use Rattle.core_views.specs.Held.{Held}
+use Rattle.core_views.specs.LogCommands.{is_all_set}
+use Rattle.core_views.specs.Sizes.{actors_of}
+use Rattle.core_views.specs.SlotCommands.{arms, slot_armed}
+use Rattle.core_views.specs.Slots.{contains, has_host_page, is_write}
+use Rattle.spte_words.specs.declared.area.Area.TheVariants as area
+use Rattle.spte_words.specs.declared.spte_kind.SpteKind.TheVariants.{Leaf}
+use Rattle.spte_words.specs.Entries.{can_write, kind_of}
+use Rattle.part_steps.specs.LogHoldings.{is_in_log, log_end}
+use Rattle.part_steps.specs.SlotWords.{page_of}
+use Rattle.mmu_core.specs.invariant.AllOver.{AllOver}
+use Rattle.mmu_core.specs.invariant.InvalidatedPart.{may_use}
+use Rattle.mmu_core.specs.invariant.SlotSetPart.{IsLiveIn}
+use Rattle.mmu_core.specs.invariant.TreePart.{Position, TreePart, Use}
+use Rattle.mmu_core.specs.lines.ArmKnows.{IsInLog}
+use Rattle.mmu_core.specs.lines.SlotTargets.{arm_bits, log_target}
+use Rattle.mmu_core.specs.machine.View.{View}
+use Rattle.log_invariant.specs.Covered.{IsCovered, IsLoggedIn, is_marked}
+use Rattle.log_invariant.specs.LogBegins.{MayAllow, MayUse, OpensLog}
+
+-- ---- who marks
+
+-- The line is to mark the page of this guest frame, which it writes.
+abbrev pub IsMarkingAt : Place → Command → ℕ → Type 0
+IsMarkingAt (place.Access (access.Fault (fault.Mark fast))) (Access at word op) gfn = (at ≡ gfn) × (is_write op ≡ true)
+IsMarkingAt _ command gfn = ⊥
+
+-- A place of a fast fault.
+abbrev pub is_fast_place : FaultPlace → Bool
+is_fast_place fault.FastBegin = true
+is_fast_place (fault.FastFind begun) = true
+is_fast_place (fault.FastWalk rooted) = true
+is_fast_place fault.Fix = true
+is_fast_place (fault.Mark fast) = fast
+is_fast_place _ = false
+
+-- A fast fault, and a stay that ends with one, is of an access that writes.
+abbrev pub FastWritesAt : Place → Command → Type 0
+FastWritesAt (place.Access (access.Fault p)) (Access gfn word op) = is_fast_place p ≡ true → is_write op ≡ true
+FastWritesAt (place.Access (access.Leave (Faults fast))) (Access gfn word op) = fast ≡ true → is_write op ≡ true
+FastWritesAt _ command = Unit {0}
+
+-- ---- slot sets
+
+-- One slot set was published in the place of another, by a line that begins the log of this slot, or of none. A slot with a log in the new one had it in the
+-- old one, but for this slot; and one with a log in the old one is the same in the new one, with its log or without.
+pub record KeepsLogs (pool : ℕ → ℕ) (old_ new_ : ℕ) (begun : Option SlotOf) : Type 0 where
+  pub had : (id : ℕ) (slot : SlotOf) → IsLoggedIn pool new_ id slot → IsLoggedIn pool old_ id slot ⊎ (begun ≡ Some slot)
+  pub stays : (id : ℕ) (slot : SlotOf) → IsLoggedIn pool old_ id slot → IsLiveIn pool new_ id slot
+
+-- ---- words of the log
+
+-- The words of the log that is to begin are set, of those below this one.
+abbrev pub AreSetBelow : Command → Held → (ℕ → ℕ) → ℕ → Type 0
+AreSetBelow command h log to =
+    (word : ℕ) → IsInLog (log_target h command) word → word < to → log word ≡ arm_bits (is_all_set h.state.sizes.mode) (log_target h command) word
+
+-- So are all before the publication.
+abbrev pub AreSet : Command → Held → (ℕ → ℕ) → Type 0
+AreSet command h log = arms command ≡ true → AreSetBelow command h log (log_end (log_target h command))
+
+abbrev pub SetsWordsAt : Place → Command → Held → (ℕ → ℕ) → Type 0
+SetsWordsAt (place.SlotChange (change.Arm true)) command h log = AreSetBelow command h log h.topics.next_log_word
+SetsWordsAt (place.SlotChange change.Exclude) command h log = AreSet command h log
+SetsWordsAt (place.SlotChange change.Count) command h log = AreSet command h log
+SetsWordsAt (place.SlotChange change.Close) command h log = AreSet command h log
+SetsWordsAt (place.SlotChange change.Publish) command h log = AreSet command h log
+SetsWordsAt _ command h log = Unit {0}
+
+-- ---- what allows writes
+
+-- A write to the guest frame in this slot is covered; or the line of some hand says that it needn't be yet.
+abbrev pub IsGuarded : ℕ → (ℕ → ℕ) → (ℕ → Held) → (Held → ℕ → Type 0) → SlotOf → ℕ → Type 0
+IsGuarded n log hand Excuses slot gfn = IsCovered n log (λ i. (hand i).topics) slot gfn ⊎ ((j : ℕ) × (j < n) × Excuses (hand j) gfn)
+
+-- So it is in each published slot with a log that has the guest frame.
+abbrev pub IsGuardedIn : ℕ → (ℕ → ℕ) → (ℕ → ℕ) → ℕ → (ℕ → Held) → (Held → ℕ → Type 0) → ℕ → Type 0
+IsGuardedIn n log pool slots hand Excuses gfn =
+    (id : ℕ) (slot : SlotOf) → IsLoggedIn pool slots id slot → contains gfn slot ≡ true → IsGuarded n log hand Excuses slot gfn
+
+-- An entry that is a leaf which allows writes.
+abbrev pub LeafIsGuarded : (ℕ → Type 0) → ℕ → ℕ → ℕ → Type 0
+LeafIsGuarded IsSo level gfn w = kind_of level w ≡ Leaf → can_write w ≡ true → IsSo gfn
+
+-- A translation that allows writes.
+abbrev pub AreGuarded : (ℕ → Type 0) → List Translation → Type 0
+AreGuarded IsSo cached = All (λ t. can_write t.leaf ≡ true → IsSo t.gfn) cached
+
+-- All parts, of the columns of words and the column of hands, of which the one after those of virtual processors and hosts is the manager's.
+pub record LogInvariantOf (z : Sizes) (root slots : ℕ) (states log role pool : ℕ → ℕ) (hand : ℕ → Held) : Type 0 where
+  pub manager : (hand (z.vcpus + z.hosts)).state.actor ≡ Manager
+  pub marks : (i gfn : ℕ) → i < actors_of z → (hand i).topics.owed ≡ Some gfn → IsMarkingAt (hand i).state.place (hand i).state.line.command gfn
+  pub fast : (i : ℕ) → i < actors_of z → FastWritesAt (hand i).state.place (hand i).state.line.command
+  pub old_logs : (j set : ℕ) → j < actors_of z → (hand j).topics.retired ≡ Some set
+      → KeepsLogs pool set slots (slot_armed (hand j).slots (hand j).state.line.command)
+  pub set_words : (j : ℕ) → j < actors_of z → SetsWordsAt (hand j).state.place (hand j).state.line.command (hand j) log
+  pub all_set : (j gfn : ℕ) (slot : SlotOf) → j < actors_of z → is_all_set z.mode ≡ true → OpensLog (hand j) gfn
+      → slot_armed (hand j).slots (hand j).state.line.command ≡ Some slot → is_marked log (page_of slot gfn) ≡ true
+  pub within : (id page : ℕ) (slot : SlotOf) → IsLoggedIn pool slots id slot → is_in_log (page / 64) slot ≡ true → is_marked log page ≡ true
+      → has_host_page page slot ≡ true
+  pub leaves : (up : ℕ → Use) (spot : ℕ → Position) → TreePart z.pool root role pool up spot
+      → AllOver up spot pool root (LeafIsGuarded (IsGuardedIn (actors_of z) log pool slots hand MayAllow))
+  pub cached : (v : ℕ) → v < z.vcpus → may_use (states v) (hand v).topics.stay ≡ true
+      → AreGuarded (IsGuardedIn (actors_of z) log pool slots hand (MayUse v (states v))) (hand v).cached.items
+
+abbrev pub LogInvariant : Sizes → View → Type 0
+LogInvariant z v =
+    LogInvariantOf z (v.words area.Root 0) (v.words area.Slots 0) (v.words area.State) (v.words area.Log) (v.words area.Role) (v.words area.Pool) v.hand

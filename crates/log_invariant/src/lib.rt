@@ -1,0 +1,8 @@
+//! What always holds of dirty logs, of the words and hands: each leaf and each cached translation that
+//! allows writes in a slot with a dirty log is covered, by its page's bit or by a mark that is owed.
+//! It stands on the invariant of `mmu_core`, and every step keeps it.
+#![tactic(auto)]
+
+mod laws;
+
+pub use laws::writes_are_covered;

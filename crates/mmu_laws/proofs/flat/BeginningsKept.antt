@@ -1,0 +1,172 @@
+-- Which hands are to begin a log for flat memory: after a step that publishes nothing only those that were so before it, and the manager's alone.
+use Rattle.std.proofs.Common.{◌≡◌, inl, inr, ◌<◌, ◌++◌, [], ℕ, List, refl, sym, subst, ap, ◌∙◌}
+use Rattle.std.specs.Prelude.{Bool, true, false, Option, Some, None}
+use Rattle.core_views.specs.declared.actor.Actor.TheVariants.{Manager}
+use Rattle.core_views.specs.declared.answer.Refusal.{Refusal}
+use Rattle.core_views.specs.declared.event.EventKind.{EventKind}
+use Rattle.core_views.specs.declared.place.AccessPlace.TheVariants as access
+use Rattle.core_views.specs.declared.place.HostPlace.TheVariants as host_at
+use Rattle.core_views.specs.declared.place.Place.{Place}
+use Rattle.core_views.specs.declared.place.Place.TheVariants as place
+use Rattle.core_views.specs.declared.place.SlotChangePlace.TheVariants as change
+use Rattle.core_views.specs.declared.sizes.Sizes.{Sizes}
+use Rattle.core_views.specs.declared.trace.Command.{Command}
+use Rattle.core_views.specs.declared.trace.Command.TheVariants.{Access, ChangeHost}
+use Rattle.core_views.specs.declared.trace.Line.{Line}
+use Rattle.core_views.specs.Held.{Held}
+use Rattle.core_views.specs.LogCommands.{is_all_set}
+use Rattle.core_views.specs.Sizes.{actors_of}
+use Rattle.core_views.specs.SlotCommands.{change_at_once, slot_armed}
+use Rattle.core_views.specs.SlotSets.{MemorySlots}
+use Rattle.mmu_core.specs.invariant.Invariant.{Invariant, KnowsPart}
+use Rattle.mmu_core.specs.lines.Forms.{first_place, outcome_at, records_at}
+use Rattle.mmu_core.specs.lines.SlotChangeSteps.{slot_change_first}
+use Rattle.mmu_core.specs.lines.Rests.{IsUnderWay}
+use Rattle.mmu_core.specs.machine.Outcomes.{place_after}
+use Rattle.mmu_core.specs.machine.Steps.{beginning, line_at, place_at, task_at}
+use Rattle.mmu_core.specs.machine.View.{View, answer_in, hand_after, stepped}
+use Rattle.mmu_core.proofs.lines.LinesKept.{one_manager}
+use Rattle.mmu_core.proofs.machine.Columns.{at_upd}
+use Rattle.mmu_core.proofs.machine.HandAfter.{loads_same}
+use Rattle.mmu_core.proofs.machine.Stepping.{IsStep}
+use Rattle.mmu_core.proofs.slots.SlotChangeKept.{change_hand}
+use Rattle.log_invariant.specs.LogBegins.{OpensLogAt}
+use Rattle.log_invariant.proofs.StepPlaces.{publishes}
+use Rattle.mmu_laws.specs.flat.FlatLogs.{IsBeginning}
+use Rattle.mmu_laws.proofs.flat.FlatKept.{told_events, told_kinds}
+use Rattle.mmu_laws.proofs.flat.Told.{told}
+use Rattle.mmu_laws.proofs.flat.LogBeginnings.{BeginsAt, begins_before, may_begin, none_begins}
+
+-- ---- where a line stands
+
+-- A line begins at the place.
+abbrev pub is_first : Place → Bool
+is_first (place.Access (access.Enter false)) = true
+is_first (place.SlotChange (change.AtOnce refusal)) = true
+is_first (place.SlotChange (change.Claim false)) = true
+is_first (place.Host (host_at.Look moving)) = true
+is_first _ = false
+
+first_change : (r : Option (Option Refusal)) → is_first (place.SlotChange (slot_change_first r)) ≡ true
+first_change None = refl
+first_change (Some refusal) = refl
+
+begins_first : (z : Sizes) (slots : MemorySlots) (command : Command) → is_first (first_place z slots command) ≡ true
+begins_first z slots (Access gfn word op) = refl
+begins_first z slots (ChangeHost page change) = refl
+begins_first z slots command = first_change (change_at_once z command slots)
+
+-- The hand's line is under way, at the place.
+pub record StandsAt (h : Held) (line : Line) (command : Command) (p : Place) : Type 0 where
+  pub at : h.state.place ≡ p
+  pub line_is : h.state.line ≡ line
+  pub command_is : h.state.line.command ≡ command
+
+-- So is a line that makes a step at a place where none begins.
+pub stands_at : (z : Sizes) (v : View) (a : ℕ) (line : Line) (command : Command) (p : Place) → IsStep z v a line command p → is_first p ≡ false
+    → StandsAt (v.hand a) line command p
+stands_at z v a line command p S later = by (v.hand a).state.place refl S.place_is S.line_is
+  where
+    h : Held
+    h = v.hand a
+
+    by : (q : Place) → h.state.place ≡ q → place_at q h ≡ p → line ≡ line_at q h → StandsAt h line command p
+    by place.Between e is own =
+        let first = begins_first h.state.sizes h.slots (line_at place.Between h).command in
+        let same : is_first p ≡ true = sym (ap is_first is) ∙ first in absurd (cc (later, same))
+    by (place.Access q) e is own =
+        record { at = e ∙ is; line_is = sym own; command_is = ap (λ (l : Line). l.command) (sym own) ∙ S.command_is }
+    by (place.SlotChange q) e is own =
+        record { at = e ∙ is; line_is = sym own; command_is = ap (λ (l : Line). l.command) (sym own) ∙ S.command_is }
+    by (place.Host q) e is own =
+        record { at = e ∙ is; line_is = sym own; command_is = ap (λ (l : Line). l.command) (sym own) ∙ S.command_is }
+
+-- It tells no begin of its line.
+no_begin : (p : Place) (line : Line) → IsUnderWay p → beginning p line ≡ []
+no_begin place.Between line under = absurd under
+no_begin _ line under = refl
+
+pub told_later : (z : Sizes) (v : View) (a : ℕ) (line : Line) (command : Command) (p : Place) → IsStep z v a line command p → is_first p ≡ false
+    → told_events v a line command p ≡ told (v.hand a).state.actor (told_kinds v a line command p)
+told_later z v a line command p S later =
+    ap (λ (kinds : List EventKind). told (v.hand a).state.actor (kinds ++ told_kinds v a line command p))
+    (ap (λ q. beginning q line) (stands_at z v a line command p S later).at ∙ no_begin p line S.begun)
+
+-- ---- the hand after a step
+
+records_same : (p : Place) (command : Command) (slots : MemorySlots) → publishes p ≡ false → records_at p command slots ≡ slots
+records_same (place.SlotChange change.Publish) command slots never = absurd (cc never)
+records_same (place.SlotChange p) command slots never = refl
+records_same _ command slots never = refl
+
+opens_same : (q : Place) (c d : Command) (g h : Held) (gfn : ℕ) → c ≡ d → g.slots ≡ h.slots → OpensLogAt q c g gfn → OpensLogAt q d h gfn
+opens_same (place.SlotChange p) c d g h gfn said same o =
+    (o.0, o.1, ap (slot_armed h.slots) (sym said) ∙ ap (λ (slots : MemorySlots). slot_armed slots c) (sym same) ∙ o.2, o.3)
+opens_same _ c d g h gfn said same o = absurd o
+
+-- A hand that opens a log, or forbids writes, by its place and what it is said to hold.
+pub begins_same : (q : Place) (c d : Command) (g h : Held) (gfn : ℕ) → c ≡ d → g.slots ≡ h.slots → g.state.sizes ≡ h.state.sizes → BeginsAt q c g gfn
+    → BeginsAt q d h gfn
+begins_same q c d g h gfn said same sizes (inl o) =
+    inl (opens_same q c d g h gfn said same o.0, ap (λ (y : Sizes). is_all_set y.mode) (sym sizes) ∙ o.1)
+begins_same q c d g h gfn said same sizes (inr f) = inr f
+
+-- A line that is to begin a log stands where none begins.
+begins_later : (p : Place) → may_begin p ≡ true → is_first p ≡ false
+begins_later (place.SlotChange (change.WriteProtect range p)) may = refl
+begins_later (place.SlotChange change.Release) may = refl
+begins_later (place.SlotChange (change.End p)) may = refl
+begins_later (place.SlotChange change.Watch) may = refl
+begins_later (place.SlotChange p) may = absurd (cc may)
+begins_later _ may = absurd (cc may)
+
+module _ (z : Sizes) (v : View) (a : ℕ) (line : Line) (command : Command) (p : Place) (S : IsStep z v a line command p) (never : publishes p ≡ false) where
+  abbrev h : Held
+  h = v.hand a
+
+  abbrev x : ℕ
+  x = answer_in (task_at p command h) v.words
+
+  -- The own hand is to begin a log only where it was before.
+  own_before : (gfn : ℕ) → IsBeginning (hand_after line command p h x) gfn → IsBeginning h gfn
+  own_before gfn B = by (may_begin p) refl
+    where
+      behind : BeginsAt (place_after (outcome_at p command h x)) command h gfn
+      behind =
+          begins_same (place_after (outcome_at p command h x)) line.command command (hand_after line command p h x) h gfn S.command_is
+          (records_same p command h.slots never) (loads_same p command h x).sizes B
+
+      here : BeginsAt p command h gfn
+      here = begins_before command h gfn p x never behind
+
+      by : (b : Bool) → may_begin p ≡ b → IsBeginning h gfn
+      by true may =
+          let T = stands_at z v a line command p S (begins_later p may) in
+          subst (λ c. BeginsAt h.state.place c h gfn) (sym T.command_is) (subst (λ q. BeginsAt q command h gfn) (sym T.at) here)
+      by false none = none_begins command h gfn p none here
+
+  -- So it is of each hand.
+  pub beginning_before : (j gfn : ℕ) → IsBeginning ((stepped a line command p v).hand j) gfn → IsBeginning (v.hand j) gfn
+  beginning_before j gfn = at_upd (λ i (g : Held). IsBeginning g gfn → IsBeginning (v.hand i) gfn) v.hand a (hand_after line command p h x)
+      (own_before gfn) (λ i apart B. B) j
+
+-- ---- the manager's alone
+
+-- Whose hand is to begin a log is the manager.
+beginning_manager : (z : Sizes) (v : View) (j gfn : ℕ) → Invariant z v → j < actors_of z → IsBeginning (v.hand j) gfn → (v.hand j).state.actor ≡ Manager
+beginning_manager z v j gfn I there B = by h.state.place refl (I.knows j there) B
+  where
+    h : Held
+    h = v.hand j
+
+    by : (q : Place) → h.state.place ≡ q → KnowsPart q h.state.line.command h → BeginsAt q h.state.line.command h gfn → h.state.actor ≡ Manager
+    by (place.SlotChange p) at K B = change_hand z j h p h.state.line.command (I.lines j there) at refl K.0
+    by (place.Access p) at K B = none_begins h.state.line.command h gfn (place.Access p) refl B
+    by (place.Host p) at K B = none_begins h.state.line.command h gfn (place.Host p) refl B
+    by place.Between at K B = none_begins h.state.line.command h gfn place.Between refl B
+
+-- So it is the hand of this manager.
+pub beginning_is : (z : Sizes) (v : View) (a j gfn : ℕ) → Invariant z v → a < actors_of z → (v.hand a).state.actor ≡ Manager → j < actors_of z
+    → IsBeginning (v.hand j) gfn → j ≡ a
+beginning_is z v a j gfn I a_in manager there B =
+    one_manager z j a (v.hand j) (v.hand a) (I.lines j there) (I.lines a a_in) (beginning_manager z v j gfn I there B) manager

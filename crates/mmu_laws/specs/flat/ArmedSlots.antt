@@ -1,0 +1,42 @@
+-- A slot of which flat memory logs writes: each leaf and each translation that allows them is covered, by the page's bit or by a mark that is owed (locking.rst,
+-- "Fast page fault"; tdp_mmu.c, kvm_tdp_mmu_wrprot_slot).
+use Rattle.std.specs.Prelude.{◌≡◌, ◌<◌, List, ℕ, true}
+use Rattle.core_views.specs.declared.kind.Kind.{Kind}
+use Rattle.core_views.specs.declared.sizes.Sizes.{Sizes}
+use Rattle.core_views.specs.declared.trace.Line.{Line}
+use Rattle.core_views.specs.declared.trace.Slot.{Slot as SlotOf}
+use Rattle.core_views.specs.Events.{after_all}
+use Rattle.core_views.specs.Flat.{first_flat}
+use Rattle.core_views.specs.Held.{Held}
+use Rattle.core_views.specs.Sizes.{actors_of}
+use Rattle.core_views.specs.Slots.{contains}
+use Rattle.spte_words.specs.declared.area.Area.TheVariants as area
+use Rattle.mmu_core.specs.invariant.AllOver.{AllOver}
+use Rattle.mmu_core.specs.invariant.InvalidatedPart.{may_use}
+use Rattle.mmu_core.specs.invariant.TreePart.{Position, TreePart, Use}
+use Rattle.mmu_core.specs.machine.Enabled.{mmu}
+use Rattle.mmu_core.specs.machine.Machine.{Legal, Step, World, run}
+use Rattle.mmu_core.specs.machine.View.{View, view}
+use Rattle.mmu_core.specs.machine.Worlds.{IsStart, history}
+use Rattle.log_invariant.specs.Covered.{IsCovered, IsLoggedIn}
+use Rattle.log_invariant.specs.LogInvariant.{AreGuarded, LeafIsGuarded}
+
+-- If the slot has the guest frame, a write to it is covered.
+abbrev pub IsCoveredOf : Sizes → View → SlotOf → ℕ → Type 0
+IsCoveredOf z v slot gfn = contains gfn slot ≡ true → IsCovered (actors_of z) (v.words area.Log) (λ i. (v.hand i).topics) slot gfn
+
+-- The published slot with this ID has a log; each leaf of its frames to which links lead from the root, in each account of the tables, is covered if it allows
+-- writes; and so is each translation of them that a virtual processor may use.
+pub record IsCoveredSlot (z : Sizes) (v : View) (id : ℕ) : Type 0 where
+  pub slot : SlotOf
+  pub logged : IsLoggedIn (v.words area.Pool) (v.words area.Slots 0) id slot
+  pub leaves : (up : ℕ → Use) (spot : ℕ → Position) → TreePart z.pool (v.words area.Root 0) (v.words area.Role) (v.words area.Pool) up spot
+      → AllOver up spot (v.words area.Pool) (v.words area.Root 0) (LeafIsGuarded (IsCoveredOf z v slot))
+  pub cached : (k : ℕ) → k < z.vcpus → may_use (v.words area.State k) (v.hand k).topics.stay ≡ true
+      → AreGuarded (IsCoveredOf z v slot) (v.hand k).cached.items
+
+-- So is each slot of which the flat state logs writes that the history of a list of steps leaves, whatever the steps.
+abbrev pub ArmedSlotsAreCovered : Type 0
+ArmedSlotsAreCovered =
+    (z : Sizes) (lines : List Line) (w : World Held) (ss : List (Step Kind)) (id : ℕ) → IsStart z lines w → Legal mmu w ss
+    → (after_all (history w ss) first_flat).facts.armed id ≡ true → IsCoveredSlot z (view z (run mmu w ss)) id
