@@ -9,7 +9,7 @@ use Rattle.mmu_core.specs.machine.Enabled.{mmu}
 use Rattle.mmu_core.specs.machine.Machine.{Step, World, effect, hand_in, run}
 use Rattle.mmu_core.specs.machine.Sums.{one_if, sum_below}
 use Rattle.mmu_core.specs.machine.Turns.{line_of}
-use Rattle.mmu_core.proofs.lines.Forms.{most_small}
+use Rattle.mmu_core.proofs.lines.StepsFew.{most_small}
 use Rattle.core_theorem.specs.Turns.{AllStepsAreFew, begins_line, bound_of, bound_under_way, bounds_of, delays_line, how_many, is_under_way}
 use Rattle.core_theorem.specs.Turns.{lines_under_way, most_of_all}
 use Rattle.core_theorem.proofs.Turns.{steps_are_few}

@@ -6,6 +6,7 @@ pub mod LookUps
 pub mod Holdings
 pub mod SetsGiven
 pub mod SetsCleared
+pub mod SetsAlwaysCleared
 pub mod Runs
 pub mod TakenAway
 pub mod Turns

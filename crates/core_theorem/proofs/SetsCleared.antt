@@ -1,4 +1,8 @@
--- Where a slot line is about to give the old slot set's page back, the page's role is cleared.
+-- What a step leaves of the role of an old slot set's page, where a slot line is about to give the page back.
+use Rattle.mmu_core.specs.declared.log_next.LogNext.{LogNext}
+use Rattle.mmu_core.specs.declared.log_next.LogNext.TheVariants as reads_next
+use Rattle.mmu_core.specs.lines.LogOutcomes.{after_log}
+use Rattle.mmu_core.specs.lines.LogSteps.{log_next, log_reads}
 use Rattle.core_views.specs.SlotCommands.{changes_slot, slot_armed, slot_invalidated}
 use Rattle.core_views.specs.LogCommands.{is_all_set}
 use Rattle.core_views.specs.declared.place.FrameRange.{FrameRange}
@@ -8,9 +12,8 @@ use Rattle.part_steps.specs.LogHoldings.{log_end}
 use Rattle.mmu_core.specs.declared.write_protect.WriteProtectNext.{WriteProtectNext}
 use Rattle.mmu_core.specs.declared.write_protect.WriteProtectNext.TheVariants as protects_next
 use Rattle.mmu_core.specs.lines.WriteProtectSteps.{protect_next}
-use Rattle.std.proofs.Common.{◌≡◌, ◌≢◌, ◌⊎◌, inl, inr, ◌<◌, ℕ, List, refl, sym, subst, ap, ◌∙◌}
+use Rattle.std.proofs.Common.{◌≡◌, ◌≢◌, ◌<◌, ℕ, List, refl, sym, subst, ap, ◌∙◌}
 use Rattle.std.specs.Prelude.{Bool, true, false, ◌+◌, ◌==◌, nat_lt, if◌then◌else◌, Option, Some, None, is_some}
-use Rattle.core_views.specs.declared.kind.Kind.{Kind}
 use Rattle.core_views.specs.declared.place.Place.{Place}
 use Rattle.core_views.specs.declared.place.Place.TheVariants as place
 use Rattle.core_views.specs.declared.place.SlotChangePlace.{SlotChangePlace}
@@ -32,18 +35,15 @@ use Rattle.spte_words.specs.declared.area.Area.TheVariants as area
 use Rattle.part_steps.specs.declared.part_step.PartStep.{PartStep}
 use Rattle.part_steps.specs.declared.part_step.PartStep.TheVariants as part
 use Rattle.part_steps.specs.declared.task.Task.{Task}
-use Rattle.part_steps.specs.PartTasks.{own_index, page_retired, part_task, words_filled}
+use Rattle.part_steps.specs.PartTasks.{own_index, page_retired, words_filled}
 use Rattle.part_steps.specs.Tasks.{kind_of_task}
 use Rattle.part_steps.specs.TopicSteps.{topics_after}
 use Rattle.mmu_core.specs.declared.claim.ClaimNext.{ClaimNext}
 use Rattle.mmu_core.specs.declared.claim.ClaimNext.TheVariants as claims
 use Rattle.mmu_core.specs.declared.claim.FreeMap.TheVariants.{Pages}
 use Rattle.mmu_core.specs.lines.AccessSteps.{touch_of}
-use Rattle.mmu_core.specs.machine.Enabled.{mmu}
 use Rattle.mmu_core.specs.lines.ClaimSteps.{claim_next}
-use Rattle.mmu_core.specs.invariant.Invariant.{Invariant, KnowsPart, UnderWay}
-use Rattle.mmu_core.specs.invariant.Laws.{IsSound}
-use Rattle.mmu_core.specs.machine.Machine.{May, Step, World, effect, hand_in, run}
+use Rattle.mmu_core.specs.invariant.Invariant.{Invariant, KnowsPart}
 use Rattle.mmu_core.specs.machine.Outcomes.{place_after}
 use Rattle.mmu_core.specs.lines.PartAt.{task_at}
 use Rattle.part_steps.specs.PartHoldings.{own_open}
@@ -54,25 +54,16 @@ use Rattle.mmu_core.specs.declared.invalidate.EndNext.TheVariants as ends_next
 use Rattle.mmu_core.specs.lines.InvalidateSteps.{begin_next, end_next}
 use Rattle.mmu_core.specs.lines.SlotChangeSteps.{after_grace, after_protect, after_set_begin, after_set_end, arm_word, frames_of, log_target, slot_target}
 use Rattle.mmu_core.specs.lines.SlotChangeSteps.{after_set_claim, watch_next, slot_change_note, slot_change_outcome, slot_change_task}
-use Rattle.mmu_core.specs.machine.Steps.{has_line, line_at, place_at}
 use Rattle.mmu_core.specs.invariant.TopicsInvariant.{TopicsInvariant}
-use Rattle.mmu_core.specs.machine.View.{View, answer_in, part_stepped, stepped, upd, view, word_in, words_after, hand_after}
-use Rattle.mmu_laws.proofs.causes.Changes.{of_each_list}
-use Rattle.mmu_core.proofs.machine.Columns.{same_or, upd_other, upd_same}
+use Rattle.mmu_core.specs.machine.View.{View, answer_in, stepped, upd, words_after, hand_after}
+use Rattle.mmu_core.proofs.machine.Columns.{upd_other, upd_same}
 use Rattle.mmu_core.proofs.pages.OwnedBehind.{retired_is}
 use Rattle.mmu_core.proofs.machine.PartStepping.{IsPart}
 use Rattle.mmu_core.proofs.words.PartWords.{HasOtherRole, retired_elsewhere, role_stays}
 use Rattle.mmu_core.proofs.pages.PoolPages.{retired_not_owned, one_retires}
 use Rattle.mmu_core.proofs.lines.EitherPlace.{each_watch, either_place}
-use Rattle.mmu_core.proofs.start.Starts.{hand_is, start_good}
-use Rattle.mmu_core.proofs.lines.StepIn.{StepIn, Makes, Touches, step_in}
+use Rattle.mmu_core.proofs.lines.StepIn.{StepIn, Makes, Touches}
 use Rattle.mmu_core.proofs.machine.Stepping.{IsStep}
-use Rattle.mmu_core.proofs.machine.Which.{has_line_is}
-use Rattle.mmu_core.proofs.machine.Worlds.{Takes, TakesPart, good_step, takes, are_small}
-use Rattle.core_theorem.specs.Holdings.{ReturnedSetsAreCleared}
-use Rattle.core_theorem.specs.Runs.{IsRun}
-use Rattle.core_theorem.proofs.Runs.{before, last_actor, may_last, sound}
-use Rattle.core_theorem.proofs.SetsGiven.{gives_old}
 
 -- ---- its role
 
@@ -81,14 +72,14 @@ abbrev SlotChangeCleared : (ℕ → ℕ) → SlotChangePlace → Topics → Type
 SlotChangeCleared role Give t = role (page_retired t.retired) ≡ 0
 SlotChangeCleared role _ t = Unit {0}
 
-abbrev PlaceCleared : (ℕ → ℕ) → Place → Topics → Type 0
+abbrev pub PlaceCleared : (ℕ → ℕ) → Place → Topics → Type 0
 PlaceCleared role (place.SlotChange p) t = SlotChangeCleared role p t
 PlaceCleared role _ t = Unit {0}
 
-abbrev HeldCleared : (ℕ → ℕ) → Held → Type 0
+abbrev pub HeldCleared : (ℕ → ℕ) → Held → Type 0
 HeldCleared role h = PlaceCleared role h.state.place h.topics
 
-abbrev HandCleared : View → ℕ → Type 0
+abbrev pub HandCleared : View → ℕ → Type 0
 HandCleared v i = HeldCleared (v.words area.Role) (v.hand i)
 
 -- ---- a line's own step
@@ -170,7 +161,11 @@ not_cleared z v a line c p none S after same =
     other_cleared (w.words area.Role) (w.hand a).state.place c (w.hand a) none
     (subst (λ c. KnowsPart (w.hand a).state.place c (w.hand a)) command (after.knows a S.there))
 
-own_cleared : (z : Sizes) (v : View) (a : ℕ) (line : Line) (c : Command) (p : Place) → IsStep z v a line c p → Invariant z (stepped a line c p v)
+reads_cleared : (role : ℕ → ℕ) (n : LogNext) (words : List ℕ) (t : Topics) → PlaceCleared role (place_after (after_log n words)) t
+reads_cleared role (reads_next.Goes p) words t = tt
+reads_cleared role _ words t = tt
+
+pub own_cleared : (z : Sizes) (v : View) (a : ℕ) (line : Line) (c : Command) (p : Place) → IsStep z v a line c p → Invariant z (stepped a line c p v)
     → HandCleared (stepped a line c p v) a
 own_cleared z v a line command (place.SlotChange p) S after =
     let w : View = stepped a line command (place.SlotChange p) v in
@@ -181,6 +176,11 @@ own_cleared z v a line (Access gfn word op) (place.Access p) S after =
     not_cleared z v a line (Access gfn word op) (place.Access p) refl S after (upd_same v.hand a _)
 own_cleared z v a line (ChangeHost page change) (place.Host p) S after =
     not_cleared z v a line (ChangeHost page change) (place.Host p) refl S after (upd_same v.hand a _)
+own_cleared z v a line command (place.Log p) S after =
+    let w : View = stepped a line command (place.Log p) v in
+    let x : ℕ = answer_in (task_at (place.Log p) command (v.hand a)) v.words in
+    subst (HeldCleared (w.words area.Role)) (sym (upd_same v.hand a _))
+    (reads_cleared (w.words area.Role) (log_next p command (v.hand a) x) (log_reads p command (v.hand a) x) _)
 own_cleared z v a line _ _ S after = absurd S.holds
 
 -- ---- another actor's step
@@ -214,86 +214,8 @@ module _ (z : Sizes) (v : View) (a i : ℕ) (I : Invariant z v) (P : TopicsInvar
   still_cleared role after (place.SlotChange _) c h K same C = tt
   still_cleared role after _ c h K same C = tt
 
-  others_cleared : (h : Held) (task : Task) → StepIn z v a task → HandCleared v i
+  pub others_cleared : (h : Held) (task : Task) → StepIn z v a task → HandCleared v i
       → HandCleared (record { words = words_after task v.words; hand = upd v.hand a h }) i
   others_cleared h task makes C = subst (HeldCleared (words_after task v.words area.Role)) (sym (upd_other v.hand a i h ne))
       (still_cleared (v.words area.Role) (words_after task v.words area.Role) (v.hand i).state.place (v.hand i).state.line.command (v.hand i) (I.knows i lt)
       (λ k left. role_after k left task makes) C)
-
--- ---- each step
-
--- Who has no line left stands at no place of a slot line.
-idle_cleared : (role : ℕ → ℕ) (p : Place) (h : Held) (t : Topics) → has_line h ≡ false → UnderWay p h → PlaceCleared role p t
-idle_cleared role (place.SlotChange p) h t none U = let has = has_line_is h U.1 in absurd (cc (none, has))
-idle_cleared role _ h t none U = tt
-
-module _ (z : Sizes) (u : World Held) (s : Step Kind) (G : IsSound z u) (may : May mmu u s) (i : ℕ) (lt : i < actors_of z) (C : HandCleared (view z u) i) where
-  abbrev h : Held
-  h = hand_in mmu u s.actor
-
-  line_step : Takes z u s h → HandCleared (view z (effect mmu u s)) i
-  line_step T = subst (λ (v : View). HandCleared v i) (sym T.leads) (by (same_or i s.actor))
-    where
-      line : Line
-      line = line_at h.state.place h
-
-      p : Place
-      p = place_at h.state.place h
-
-      after : View
-      after = stepped s.actor line line.command p (view z u)
-
-      makes : StepIn z (view z u) s.actor (task_at p line.command h)
-      makes = step_in z (view z u) s.actor line line.command p (are_small z u G) T.is_step G.holds G.topics
-
-      by : (i ≡ s.actor) ⊎ (i ≢ s.actor) → HandCleared after i
-      by (inl own) =
-          subst (HandCleared after) (sym own)
-          (own_cleared z (view z u) s.actor line line.command p T.is_step (subst (Invariant z) T.leads (good_step z u s G may).holds))
-      by (inr ne) = others_cleared z (view z u) s.actor i G.holds G.topics lt ne _ (task_at p line.command h) makes C
-
-  part_step : TakesPart z u s h → HandCleared (view z (effect mmu u s)) i
-  part_step T = subst (λ (v : View). HandCleared v i) (sym T.leads) (by (same_or i s.actor))
-    where
-      after : View
-      after = part_stepped s.actor T.step T.note (view z u)
-
-      by : (i ≡ s.actor) ⊎ (i ≢ s.actor) → HandCleared after i
-      by (inl own) =
-          subst (HandCleared after) (sym own) (subst (HeldCleared (after.words area.Role)) (sym (upd_same (hand_in mmu u) s.actor _))
-          (idle_cleared (after.words area.Role) h.state.place h _ T.none_left (G.holds.lines s.actor T.is_part.there).under))
-      by (inr ne) =
-          let task : Task = part_task T.step (own_index h) h.topics T.note in
-          others_cleared z (view z u) s.actor i G.holds G.topics lt ne _ task (Makes T.step T.note T.is_part) C
-
-  one_more : HandCleared (view z (effect mmu u s)) i
-  one_more = by (takes z u s G may)
-    where
-      by : Takes z u s h ⊎ TakesPart z u s h → HandCleared (view z (effect mmu u s)) i
-      by (inl T) = line_step T
-      by (inr T) = part_step T
-
-each_cleared : (z : Sizes) (lines : List Line) (w : World Held) (ss : List (Step Kind)) → IsRun z lines w ss → (i : ℕ) → i < actors_of z
-    → HandCleared (view z (run mmu w ss)) i
-each_cleared z lines w ss R i lt =
-    of_each_list z w (λ ts u. HandCleared (view z u) i) (λ ts s G may C. one_more z (run mmu w ts) s G may i lt C) ss (start_good z lines w R.start) R.legal
-    (subst (HeldCleared (word_in z w area.Role)) (sym (hand_is z lines w i R.start lt)) tt)
-
-pub returned_sets_are_cleared : ReturnedSetsAreCleared
-returned_sets_are_cleared z lines w ss s R page gives left = ap (λ l. word_in z u area.Role (page_retired l)) (sym left)
-    ∙ subst (λ p. PlaceCleared (word_in z u area.Role) p h.topics) at (each_cleared z lines w ss earlier s.actor there)
-  where
-    u : World Held
-    u = run mmu w ss
-
-    h : Held
-    h = hand_in mmu u s.actor
-
-    earlier : IsRun z lines w ss
-    earlier = before z lines w ss s R
-
-    there : s.actor < actors_of z
-    there = last_actor z lines w ss s R
-
-    at : h.state.place ≡ place.SlotChange Give
-    at = (gives_old z u (sound z lines w ss earlier) s page there (may_last z lines w ss s R) gives.gives left).0

@@ -58,7 +58,7 @@ ghost use Rattle.core_theorem.specs.Walks.{WalksHoldTables};
 /// exit and each answer is one that flat guest memory allows. `facts`: the words stand
 /// for the slots, host pages and contents that the events so far make of flat guest
 /// memory. `logs`: each guest frame that is dirty in flat memory is of a slot of which writes
-/// are logged, and its page's bit is set or an actor owes the mark that sets it; so it is of
+/// are logged, and its page's bit is set or an actor owes a mark for it; so it is of
 /// each linked leaf, and each translation that may be used, which allows writes in such a
 /// slot; and each bit that is set has a cause. `pause`: an access that is about to touch has looked at the pause since its
 /// actor entered the guest, and none was set. `begins_anew`, `waits`, `starved`: what
@@ -78,12 +78,12 @@ ghost use Rattle.core_theorem.specs.Walks.{WalksHoldTables};
 ///
 /// `counts`, `line_turns`: a line makes no more steps than its command allows
 /// (`most_steps`: an access 8,192, one for each pool page and one for each frame; a slot
-/// line 1,024 and one for each word of the pool's map; a host line 1,024 and one for each
-/// word of the map of frames) up to the end of its first delay, as many from there to the
-/// end of the next, and as many after its last. `turns`: so all lines together make at
-/// most as many for each of their delays and for each line. `all_turns`, `open_lines`: no
-/// line makes more than 8,192, one for each pool page and one for each frame, and there
-/// are no more lines than have no answer yet.
+/// line 1,024 and one for each word of the pool's map, and more where it sweeps; a host
+/// line 1,024 and one for each word of the map of frames) up to the end of its first delay,
+/// as many from there to the end of the next, and as many after its last. `turns`: so all
+/// lines together make at most as many for each of their delays and for each line.
+/// `all_turns`, `open_lines`: no line makes more than 8,192, one for each pool page and one
+/// for each frame, and there are no more lines than have no answer yet.
 pub fn every_run()
     ensures pages { EachPageHasOneUse }
     ensures walks { WalksHoldTables }

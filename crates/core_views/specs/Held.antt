@@ -1,5 +1,5 @@
 -- What one actor holds, as contracts see it.
-use Rattle.std.specs.Prelude.{ℕ, Bool, List, [], ◌∷◌, ◌++◌, false, None, length, nat_lt, slice_get, unwrap_or}
+use Rattle.std.specs.Prelude.{ℕ, Bool, List, [], ◌∷◌, ◌++◌, length, nat_lt, slice_get, unwrap_or}
 use Rattle.circular_buffer.specs.Buffer.{Buffer, buffer}
 use Rattle.core_views.specs.declared.actor.Actor.{Actor}
 use Rattle.core_views.specs.declared.answer.AnsweredLine.{AnsweredLine}
@@ -7,18 +7,10 @@ use Rattle.core_views.specs.declared.cache.Translation.{Translation}
 use Rattle.core_views.specs.declared.hand.Progress.{Progress}
 use Rattle.core_views.specs.declared.place.Place.{Place}
 use Rattle.core_views.specs.declared.place.Place.TheVariants.{Between}
-use Rattle.core_views.specs.declared.place.SlotField.TheVariants.{Flags}
 use Rattle.core_views.specs.declared.sizes.Sizes.{Sizes}
-use Rattle.core_views.specs.declared.topics.Checked.TheVariants.{Nothing}
-use Rattle.core_views.specs.declared.topics.Hold.TheVariants.{Loose}
-use Rattle.core_views.specs.declared.topics.Invalidations.{Invalidations}
-use Rattle.core_views.specs.declared.topics.MapClaim.{MapClaim}
-use Rattle.core_views.specs.declared.topics.SlotSearch.{SlotSearch}
-use Rattle.core_views.specs.declared.topics.Stay.TheVariants.{Outside}
-use Rattle.core_views.specs.declared.topics.TableWalk.{TableWalk}
 use Rattle.core_views.specs.declared.topics.Topics.{Topics}
 use Rattle.core_views.specs.declared.trace.Line.{Line}
-use Rattle.core_views.specs.declared.trace.Slot.{Slot}
+pub use Rattle.core_views.specs.FirstTopics.{first_topics, no_claim, no_invalidations, no_search, no_slot, no_walk}
 use Rattle.core_views.specs.Flat.{no_line}
 use Rattle.core_views.specs.SlotSets.{MemorySlots}
 
@@ -38,6 +30,7 @@ pub record Held : Type 0 where
   pub topics : Topics
   pub cached : Buffer Translation  -- the newest first
   pub slots : MemorySlots  -- the manager's own record of the slots
+  pub harvest : List ℕ  -- the words that its line under way has read of a dirty log, the first one first
   pub lines : List Line
   pub answers : List AnsweredLine
 
@@ -46,12 +39,12 @@ pub record Handful : Type 0 where
   pub core : Held
   pub room : ℕ
 
-abbrev pub no_slot : Slot
-no_slot = record { base = 0; pages = 0; host = 0; read_only = false }
+-- the first of a hand's lines that has no answer, where n of these have one
+abbrev pub line_of : List Line → ℕ → Line
+line_of lines n = unwrap_or (slice_get lines n) no_line
 
--- the first of a hand's lines that has no answer
 abbrev pub next_line : Held → Line
-next_line h = unwrap_or (slice_get h.lines (length h.answers)) no_line
+next_line h = line_of h.lines (length h.answers)
 
 -- the line that the hand's next step is of: the one under way, or the next one
 abbrev pub line_at : Place → Held → Line
@@ -89,6 +82,7 @@ answered answer h = record {
   topics = h.topics;
   cached = h.cached;
   slots = h.slots;
+  harvest = h.harvest;
   lines = h.lines;
   answers = h.answers ++ answer ∷ [];
 }
@@ -103,47 +97,13 @@ first_progress z actor = record { sizes = z; actor = actor; place = Between; use
 abbrev pub first_state : Sizes → Actor → State
 first_state z actor = record { sizes = z; actor = actor; place = Between; line = no_line; used = no_translation; steps = 0; delays = 0 }
 
-abbrev pub no_search : SlotSearch
-no_search = record { set = None; id = 0; next = Flags; slot = no_slot; logged = false; whole = false }
-
-abbrev pub no_invalidations : Invalidations
-no_invalidations = record {
-  snapshot = None;
-  count = 0;
-  start = 0;
-  end = 0;
-  seq = 0;
-  checked = Nothing;
-  opened = false;
-  own = record { page = None; start = 0; end = 0 };
-  raised = false;
-}
-
-abbrev pub no_walk : TableWalk
-no_walk = record { level = 0; prefix = 0; root = 0; third = 0; second = 0; first = 0; index = 512; entry = 0 }
-
-abbrev pub no_claim : MapClaim
-no_claim = record { at = 0; seen = 0 }
-
--- what an actor holds of each part of the machine before its first step
-abbrev pub first_topics : Topics
-first_topics = record {
-  stay = Outside;
-  hold = Loose;
-  search = no_search;
-  invalidations = no_invalidations;
-  walk = no_walk;
-  claim = no_claim;
-  owned = None;
-  retired = None;
-  watched = 0;
-  host = None;
-  pause = 0;
-  owed = None;
-  flush = record { asked = 0; awaited = 0 };
-  frames = record { claim = no_claim; owned = None };
-  next_log_word = 0;
-}
-
 abbrev pub first_held : Sizes → Actor → List Line → Held
-first_held z actor lines = record { state = first_state z actor; topics = first_topics; cached = buffer [] z.cache; slots = []; lines = lines; answers = [] }
+first_held z actor lines = record {
+  state = first_state z actor;
+  topics = first_topics;
+  cached = buffer [] z.cache;
+  slots = [];
+  harvest = [];
+  lines = lines;
+  answers = [];
+}

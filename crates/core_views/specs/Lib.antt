@@ -24,5 +24,6 @@ pub mod Alone
 pub mod Need
 pub mod StepCodes
 pub mod Kinds
+pub mod FirstTopics
 pub mod Held
 pub mod Rows

@@ -1,11 +1,13 @@
 -- What a line reads of a dirty log, and why it may not (api.rst, KVM_GET_DIRTY_LOG and KVM_CLEAR_DIRTY_LOG): a clause for each command that reads one.
-use Rattle.std.specs.Prelude.{◌+◌, ◌*◌, ◌-◌, ◌/◌, ◌%◌, ◌^◌, ◌==◌, ◌&&◌, ◌||◌, ℕ, zero, suc, Bool, true, false, not, List, [], ◌∷◌, Option, Some, None}
+use Rattle.std.specs.Prelude.{◌≤◌, ◌+◌, ◌*◌, ◌-◌, ◌/◌, ◌%◌, ◌^◌, ◌==◌, ◌&&◌, ◌||◌, ℕ, zero, suc, Bool, true, false, not, List, [], ◌∷◌, Option, Some, None}
 use Rattle.std.specs.Prelude.{nat_le, nat_lt, is_none, if◌then◌else◌, filter, map, get_or}
+use Rattle.std.specs.Int.Bits.{bit_and}
 use Rattle.std.specs.List.{list_any, range_with_len}
 use Rattle.core_views.specs.declared.answer.Refusal.{Refusal}
 use Rattle.core_views.specs.declared.answer.Refusal.TheVariants.{BadRange, Missing, NoLog}
 use Rattle.core_views.specs.declared.sizes.LogMode.{LogMode}
 use Rattle.core_views.specs.declared.sizes.LogMode.TheVariants.{Automatic, ManualAllSet}
+use Rattle.core_views.specs.declared.sizes.Sizes.{Sizes}
 use Rattle.core_views.specs.declared.slot_set.MemorySlot.{MemorySlot}
 use Rattle.core_views.specs.declared.trace.Command.{Command}
 use Rattle.core_views.specs.declared.trace.Command.TheVariants.{ClearLog, GetLog}
@@ -87,6 +89,33 @@ first_asked _ = 0
 abbrev pub count_asked : Command → Slot → ℕ
 count_asked (ClearLog id first count words) slot = count
 count_asked _ slot = slot.pages
+
+-- how many words of the log that is; and the most that the line reads of the log of any slot, on a machine of these sizes
+abbrev pub words_asked : Command → Slot → ℕ
+words_asked command slot = (count_asked command slot + 63) / 64
+
+abbrev pub most_words : Sizes → Command → ℕ
+most_words z (GetLog id) = z.pages / 64 + 1
+most_words z (ClearLog id first count words) = count / 64 + 1
+most_words z _ = 0
+
+-- what the command says of the pages of a word of the answer: a clear by the bits that it gives, a get that it asks for all
+abbrev pub word_given : Command → ℕ → ℕ
+word_given (ClearLog id first count words) word = get_or words word 0
+word_given _ word = 2 ^ 64 - 1
+
+-- the number with this many of its low bits set, up to all 64
+abbrev pub low_bits : ℕ → ℕ
+low_bits n = if nat_le 64 n then 2 ^ 64 - 1 else 2 ^ n - 1
+
+-- the bits of this word of the answer for whose pages the line asks
+abbrev pub mask_asked : Command → Slot → ℕ → ℕ
+mask_asked command slot word = bit_and (word_given command word) (low_bits (count_asked command slot - 64 * word))
+
+-- The pages for which the line asks are the slot's, and its guest frames are those of a machine.
+pub record IsReadOf (command : Command) (slot : Slot) : Type 0 where
+  pub inside : first_asked command + count_asked command slot ≤ slot.pages
+  pub below : slot.base + slot.pages ≤ 2 ^ 36
 
 -- what is read of a slot's log as words: a bit is set for each of these guest frames
 abbrev pub bits_for : Command → Option MemorySlot → List ℕ → List ℕ

@@ -1,12 +1,8 @@
 -- The types of what a hand lends.
 use Rattle.std.specs.Borrow.{RattleType}
 use Rattle.core_views.specs.contracts.cache.Cache as cache
-use Rattle.core_views.specs.contracts.hand.Progress as progress
 use Rattle.core_views.specs.contracts.slot_set.SlotSet as slots
 use Rattle.core_views.specs.contracts.topics.Topics as topics
-
-abbrev pub progress_row : RattleType
-progress_row = progress.the_row
 
 abbrev pub topics_row : RattleType
 topics_row = topics.the_row

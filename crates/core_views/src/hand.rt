@@ -1,16 +1,19 @@
-ghost use Rattle.std.specs.Prelude.{◌≤◌, IfOk, None, ◌≡◌, ◌-◌, ◌<◌, OnErr, OnOk, length, slice_get};
+ghost use Rattle.std.specs.Prelude.{◌≤◌, IfOk, None, ◌≡◌, ◌-◌, ◌<◌, ◌++◌, ◌∷◌, [], OnErr, OnOk, length, slice_get};
 ghost use Rattle.std.specs.Option.{option_copied};
 ghost use Rattle.core_views.specs.HostChanges.{is_own};
 ghost use Rattle.core_views.specs.SlotCommands.{change_at_once, slots_after};
 ghost use Rattle.core_views.specs.Traces.{IsCommandFor};
+ghost use Rattle.core_views.specs.LogCommands.{most_words};
+ghost use Rattle.core_views.specs.declared.answer.Answer.TheVariants.{Bits};
 ghost use Rattle.core_views.specs.Held.{answered, first_held, first_progress, has_line, line_at, next_line, progress_of, state_of};
 
 use crate::{
-    Actor, AnsweredLine, Cache, Line, NoMemory, Place, Sequence, Sizes, SlotSet, Topics,
+    Actor, Answer, AnsweredLine, Cache, Line, NoMemory, Place, Sequence, Sizes, SlotSet, Topics,
     Translation,
 };
 use std::alloc::Global;
 use std::marker::Model;
+use std::mem;
 
 /// What a turn's step found: the word and its value.
 #[derive(Clone, Copy, Debug, PartialEq, Eq, Drop)]
@@ -69,22 +72,26 @@ impl Progress {
 }
 
 /// What one actor holds: where its line stands and what this line loaded; what
-/// it holds of each part of the machine; the manager's own record of the slots; its
-/// lines of the trace, and the answers that it has given them, with room for more.
+/// it holds of each part of the machine; the manager's own record of the slots, and what its
+/// line has read of a dirty log; its lines of the trace, and the answers that it has given
+/// them, with room for one more.
 #[derive(Drop)]
 pub struct Hand {
+    alloc: Global,
     progress: Progress,
     topics: Topics,
     cache: Cache,
     slots: SlotSet,
+    harvest: Vec<u64>,
     lines: Vec<Line>,
     answers: Vec<AnsweredLine>,
     room: usize,
 }
 
 impl Model for Hand {
-    ghost use Rattle.std.specs.Prelude.{◌≤◌, ◌+◌, length, vec_len, vec_capacity};
-    ghost use Rattle.core_views.specs.Held.{Handful, state_of};
+    ghost use Rattle.std.specs.Prelude.{◌≤◌, ◌<◌, ◌+◌, length, vec_len, vec_capacity};
+    ghost use Rattle.core_views.specs.Held.{Handful, line_of, state_of};
+    ghost use Rattle.core_views.specs.LogCommands.{most_words};
 
     ghost Value = { Handful };
 
@@ -94,19 +101,21 @@ impl Model for Hand {
         topics = h.topics;
         cached = h.cache;
         slots = h.slots;
+        harvest = h.harvest.items;
         lines = h.lines.items;
         answers = h.answers.items;
       };
       room = h.room;
     } };
 
-    ghost invariant = { λ h. vec_len h.answers + h.room ≤ vec_capacity h.answers };
+    ghost invariant = { λ h. (vec_len h.answers + h.room ≤ vec_capacity h.answers) × (h.room ≤ 1)
+        × (0 < h.room → most_words h.progress.sizes (line_of h.lines.items (length h.answers.items)).command ≤ vec_capacity h.harvest) };
 }
 
 impl Hand {
     ghost use Rattle.std.specs.Borrow.{Lends, sem};
     ghost use Rattle.core_views.specs.contracts.hand.Hand.{the_row};
-    ghost use Rattle.core_views.specs.Rows.{cache_row, slots_row, progress_row, topics_row};
+    ghost use Rattle.core_views.specs.Rows.{cache_row, slots_row, topics_row};
 
     /// The hand of an actor before its first line.
     pub fn new(
@@ -119,10 +128,12 @@ impl Hand {
         ensures { IfOk result (λ h. h.core ≡ first_held sizes actor lines.items) }
     {
         Ok(Hand {
+            alloc,
             progress: Progress::first(sizes, actor),
             topics: Topics::first(),
             cache: Cache::new(alloc, sizes.cache as u8)?,
             slots: SlotSet::empty(),
+            harvest: Vec::new(alloc),
             lines,
             answers: Vec::new(alloc),
             room: 0,
@@ -181,22 +192,19 @@ impl Hand {
         &self.answers
     }
 
-    /// Where the line stands and what it loaded, to be changed in place.
-    pub fn progress_mut(&mut self) -> &mut Progress
-        ensures value { result.now ≡ progress_of self.old.core.state }
-        ensures* lends { sem 𝓛 (Lends the_row progress_row self.entry result (λ p. record {
-          core = record {
-            state = state_of p self.old.core.lines (length self.old.core.answers);
-            topics = self.old.core.topics;
-            cached = self.old.core.cached;
-            slots = self.old.core.slots;
-            lines = self.old.core.lines;
-            answers = self.old.core.answers;
-          };
-          room = self.old.room;
-        })) }
+    /// The line stands at this place from now on, uses this translation, and has counted so
+    /// many steps and delays.
+    pub fn go_on(&mut self, place: Place, used: Translation, steps: u64, delays: u64)
+        ensures core { self.new.core ≡ record self.old.core {
+          state = state_of (record (progress_of self.old.core.state) { place = place; used = used; steps = steps; delays = delays })
+              self.old.core.lines (length self.old.core.answers);
+        } }
+        ensures room { self.new.room ≡ self.old.room }
     {
-        &mut self.progress
+        self.progress.place = place;
+        self.progress.used = used;
+        self.progress.steps = steps;
+        self.progress.delays = delays;
     }
 
     /// What is held of each part of the machine, to be changed in place.
@@ -208,6 +216,7 @@ impl Hand {
             topics = t;
             cached = self.old.core.cached;
             slots = self.old.core.slots;
+            harvest = self.old.core.harvest;
             lines = self.old.core.lines;
             answers = self.old.core.answers;
           };
@@ -233,6 +242,7 @@ impl Hand {
             topics = self.old.core.topics;
             cached = c;
             slots = self.old.core.slots;
+            harvest = self.old.core.harvest;
             lines = self.old.core.lines;
             answers = self.old.core.answers;
           };
@@ -251,6 +261,7 @@ impl Hand {
             topics = self.old.core.topics;
             cached = self.old.core.cached;
             slots = s;
+            harvest = self.old.core.harvest;
             lines = self.old.core.lines;
             answers = self.old.core.answers;
           };
@@ -273,13 +284,47 @@ impl Hand {
         self.slots.change(line, &self.progress.sizes);
     }
 
-    /// Takes room for one more answer. Where it is refused nothing has changed.
+    /// The words that the line under way has read of a dirty log, the first one first.
+    pub fn harvest(&self) -> &[u64]
+        ensures { result.now ≡ self.now.core.harvest }
+    {
+        &self.harvest
+    }
+
+    /// Adds a word that the line has read of a dirty log: no more than the line may read, for
+    /// which there is room.
+    pub fn add_word(&mut self, word: u64)
+        requires room { 0 < self.old.room }
+        requires more { length self.old.core.harvest < most_words self.old.core.state.sizes (next_line self.old.core).command }
+        ensures core { self.new.core ≡ record self.old.core { harvest = self.old.core.harvest ++ word ∷ [] } }
+        ensures room { self.new.room ≡ self.old.room }
+    {
+        match self.harvest.push(word) {
+            Ok(()) => {}
+            Err(_) => { unreachable!() }
+        }
+    }
+
+    /// Lets go of them.
+    pub fn clear_harvest(&mut self)
+        ensures core { self.new.core ≡ record self.old.core { harvest = [] } }
+        ensures room { self.new.room ≡ self.old.room }
+    {
+        self.harvest.clear();
+    }
+
+    /// Takes the room that the next line needs: for its answer, and for the words that it may
+    /// read of a dirty log. Where it is refused nothing has changed.
     pub fn reserve(&mut self) -> Result<(), NoMemory>
         ensures core { self.new.core ≡ self.old.core }
         ensures room { OnOk result (0 < self.new.room) }
         ensures refused { OnErr result (self.new ≡ self.old) }
     {
         self.answers.reserve(1)?;
+        let words = self
+            .next_line()
+            .map_or(0, |line| self.progress.sizes.most_words(&line.command));
+        self.harvest.reserve(words)?;
         self.room = 1;
         Ok(())
     }
@@ -291,6 +336,27 @@ impl Hand {
     {
         self.room -= 1;
         match self.answers.push(answer) {
+            Ok(()) => {}
+            Err(_) => { unreachable!() }
+        }
+    }
+
+    /// Answers a line of this number and actor with what it has read of a dirty log, for which
+    /// there is room.
+    pub fn answer_harvest(&mut self, number: u32, actor: Actor)
+        requires { 0 < self.old.room }
+        ensures core { self.new.core
+            ≡ record (answered (record { number = number; actor = actor; answer = Bits self.old.core.harvest }) self.old.core) { harvest = [] } }
+        ensures room { self.new.room ≡ self.old.room - 1 }
+    {
+        let words = mem::replace(&mut self.harvest, Vec::new(self.alloc));
+        self.room -= 1;
+        let answer = Answer::Bits(Sequence::from_vec(words));
+        match self.answers.push(AnsweredLine {
+            number,
+            actor,
+            answer,
+        }) {
             Ok(()) => {}
             Err(_) => { unreachable!() }
         }

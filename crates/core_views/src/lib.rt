@@ -9,6 +9,7 @@ mod event;
 mod hand;
 mod host;
 mod kind;
+mod log_commands;
 mod no_memory;
 mod place;
 mod sequence;
@@ -28,7 +29,7 @@ pub use kind::{Kind, Operation, StepKind};
 pub use no_memory::NoMemory;
 pub use place::{
     AccessPlace, BeginPlace, Cause, CheckStage, EndPlace, FaultEnd, FaultNext, FaultPlace,
-    FrameRange, HostPlace, Leaving, Place, SlotChangePlace, SlotField, WriteProtectPlace,
+    FrameRange, HostPlace, Leaving, LogPlace, Place, SlotChangePlace, SlotField, WriteProtectPlace,
 };
 pub use sequence::Sequence;
 pub use sizes::{LogMode, Sizes};

@@ -6,6 +6,7 @@ pub enum Place {
     Access(AccessPlace),
     SlotChange(SlotChangePlace),
     Host(HostPlace),
+    Log(LogPlace),
 }
 
 /// A word of a slot in its slot set.
@@ -203,6 +204,37 @@ pub enum HostPlace {
     Watch,
     /// Gives the old frame back.
     Free,
+}
+
+/// The steps of a line that reads a slot's dirty log, in their order (kvm_main.c,
+/// `kvm_get_dirty_log_protect` and `kvm_clear_dirty_log_protect`). Where it takes out what it
+/// reads, it does so under the lock alone, and forbids writes to each page that it took; then
+/// what virtual processors have cached is flushed. A get in the manual modes loads the words
+/// alone (`KVM_CAP_MANUAL_DIRTY_LOG_PROTECT2`).
+#[derive(Clone, Copy, PartialEq, Eq, Drop)]
+pub enum LogPlace {
+    /// It is refused, which is known before its first step.
+    AtOnce(crate::Refusal),
+    /// Tries to take the lock alone.
+    Exclude,
+    /// Takes the bits for which it asks out of the next word, or, where none has begun, the
+    /// first.
+    Take { begun: bool },
+    /// Loads the root.
+    Root,
+    /// Loads the next entry on the way from the root to the leaf of a page that it took; pages
+    /// are counted from the first one for which it asks.
+    Walk { page: u64 },
+    /// Forbids writes in this leaf.
+    Protect { page: u64 },
+    /// Gives the lock back.
+    Release,
+    /// Asks the next virtual processor for a flush.
+    Ask,
+    /// Looks at the next one that was asked, until it is seen outside of the guest or flushed.
+    Await,
+    /// Loads the next word, or, where none has begun, the first.
+    Peek { begun: bool },
 }
 
 /// Why a fault is to begin anew (locking.rst; tdp_mmu.c, `RET_PF_RETRY`).

@@ -190,16 +190,13 @@ impl SlotSet {
         ensures set { OnOk result (self.new ≡ after_log on id self.old) }
         ensures flat { flat_slots self.new ≡ flat_slots self.old }
     {
-        let Some(slot) = self.get(id) else {
-            return Err(Refusal::Missing);
-        };
-        if slot.logged == on {
-            return Err(if on { Refusal::Logged } else { Refusal::NoLog });
+        self.check_log(id, on)?;
+        if let Some(slot) = self.get(id) {
+            self.places[id as usize] = Some(MemorySlot {
+                slot: slot.slot,
+                logged: on,
+            });
         }
-        self.places[id as usize] = Some(MemorySlot {
-            slot: slot.slot,
-            logged: on,
-        });
         Ok(())
     }
 

@@ -8,10 +8,10 @@ use Rattle.std.specs.List.{range_with_len}
 use Rattle.std.specs.Prelude.{Some, if◌then◌else◌, map}
 use Rattle.core_views.specs.declared.slot_set.MemorySlot.{MemorySlot}
 use Rattle.core_views.specs.declared.trace.Command.{Command}
-use Rattle.core_views.specs.LogCommands.{asked_frames, asks_for, bits_for, count_asked, first_asked, is_among, number_of, words_of}
+use Rattle.core_views.specs.LogCommands.{IsReadOf, asked_frames, asks_for, bits_for, count_asked, first_asked, is_among, number_of, words_of}
 use Rattle.core_views.specs.Past.{FrameSet}
 use Rattle.core_views.specs.Slots.{contains}
-use Rattle.flat_model.specs.Dirty.{IsReadOf, is_bit_set, word_of}
+use Rattle.flat_model.specs.Dirty.{is_bit_set, word_of}
 use Rattle.flat_model.proofs.DirtySets.{among}
 
 abbrev pub bit_of : Bool → ℕ

@@ -1,12 +1,11 @@
 -- The dirty frames as the interpreter keeps them, and what a line makes of them.
-use Rattle.std.specs.Prelude.{◌+◌, ◌^◌, ◌≤◌, ◌&&◌, ◌||◌, ℕ, List, Bool, not, Option, Some, if◌then◌else◌, nat_lt}
+use Rattle.std.specs.Prelude.{◌+◌, ◌&&◌, ◌||◌, ℕ, List, Bool, not, Option, Some, if◌then◌else◌, nat_lt}
 use Rattle.std.specs.List.{list_any}
 use Rattle.std.specs.Ordering.{nat_cmp}
 use Rattle.std.specs.BTreeMap.{is_at}
 use Rattle.core_views.specs.declared.sizes.LogMode.{LogMode}
 use Rattle.core_views.specs.declared.slot_set.MemorySlot.{MemorySlot}
 use Rattle.core_views.specs.declared.trace.Command.{Command}
-use Rattle.core_views.specs.declared.trace.Slot.{Slot}
 use Rattle.core_views.specs.Events.{is_armed, unlogged}
 use Rattle.core_views.specs.LogCommands.{asked_frames, count_asked, first_asked, is_all_set, is_among, number_of}
 use Rattle.core_views.specs.Past.{FrameSet, has_gfn}
@@ -41,11 +40,6 @@ dirty_after mode command was slot pending = dirty_by (sets_all mode command) was
 -- the dirty frames without these, or with them all, where a line that reads them doesn't take them out
 abbrev pub left_dirty : Bool → List ℕ → FrameSet → FrameSet
 left_dirty out frames pending = λ gfn. if out then not (is_among gfn frames) && pending gfn else pending gfn
-
--- The pages for which the line asks are the slot's, and its guest frames are those of a machine.
-pub record IsReadOf (command : Command) (slot : Slot) : Type 0 where
-  pub inside : first_asked command + count_asked command slot ≤ slot.pages
-  pub below : slot.base + slot.pages ≤ 2 ^ 36
 
 -- The bit at this place of what is read of a slot's log, which has these dirty frames.
 abbrev pub is_bit_set : FrameSet → Command → MemorySlot → ℕ → Bool

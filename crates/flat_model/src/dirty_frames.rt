@@ -4,11 +4,10 @@ ghost use Rattle.std.specs.Bool.{OnFalse, OnTrue};
 ghost use Rattle.std.specs.Ordering.{nat_cmp};
 ghost use Rattle.std.specs.Set.{remove_key};
 ghost use Rattle.core_views.specs.Events.{unlogged};
-ghost use Rattle.core_views.specs.LogCommands.{asked_frames, bits_for};
+ghost use Rattle.core_views.specs.LogCommands.{IsReadOf, asked_frames, bits_for};
 ghost use Rattle.core_views.specs.Past.{has_gfn};
-ghost use Rattle.flat_model.specs.Dirty.{IsReadOf, dirty_by, is_bit_set, is_dirty, left_dirty, with_slot_dirty, word_of};
+ghost use Rattle.flat_model.specs.Dirty.{dirty_by, is_bit_set, is_dirty, left_dirty, with_slot_dirty, word_of};
 
-use crate::log_commands::{asks_for, count_asked, first_asked};
 use core_views::{Command, MemorySlot, NoMemory, Words};
 use std::alloc::Global;
 use std::collections::BTreeSet;
@@ -131,7 +130,7 @@ impl DirtyFrames {
         ensures { (gfn : ℕ) → is_dirty self.new gfn ≡ left_dirty true (asked_frames (is_dirty self.old) command.now (Some slot.now)) (is_dirty self.old) gfn }
     {
         let slot = slot.slot;
-        self.frames.retain(|gfn| !(slot.contains(*gfn) && asks_for(command, *gfn - slot.base)));
+        self.frames.retain(|gfn| !(slot.contains(*gfn) && command.asks_for(*gfn - slot.base)));
     }
 
     /// The dirty frames of the slot for which the line asks, as words of its log.
@@ -144,7 +143,7 @@ impl DirtyFrames {
         requires { IsReadOf command.now slot.now.slot }
         ensures { IfOk result (λ words. words ≡ bits_for command.now (Some slot.now) (asked_frames (is_dirty self.now) command.now (Some slot.now))) }
     {
-        let count = (count_asked(command, &slot.slot) + 63) / 64;
+        let count = (command.count_asked(&slot.slot) + 63) / 64;
         let mut words = Vec::with_capacity(alloc, count as usize)?;
         for word in 0..count {
             words.push(self.word(command, slot, 64 * word))?;
@@ -171,10 +170,10 @@ impl DirtyFrames {
         requires { IsReadOf command.now slot.now.slot }
         ensures { result ≡ is_bit_set (is_dirty self.now) command.now slot.now bit }
     {
-        if bit >= count_asked(command, &slot.slot) {
+        if bit >= command.count_asked(&slot.slot) {
             return false;
         }
-        let page = first_asked(command) + bit;
-        asks_for(command, page) && self.frames.contains(&(slot.slot.base + page))
+        let page = command.first_asked() + bit;
+        command.asks_for(page) && self.frames.contains(&(slot.slot.base + page))
     }
 }

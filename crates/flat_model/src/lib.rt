@@ -5,7 +5,6 @@
 mod dirty_frames;
 mod free_frames;
 mod host_pages;
-mod log_commands;
 mod plain;
 
 pub use plain::Plain;

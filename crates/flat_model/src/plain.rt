@@ -7,16 +7,15 @@ ghost use Rattle.core_views.specs.Slots.{page_behind};
 ghost use Rattle.core_views.specs.SlotSets.{flat_slots};
 ghost use Rattle.core_views.specs.LogCommands.{log_read, read_refusal};
 ghost use Rattle.core_views.specs.Memory.{with_word};
-ghost use Rattle.flat_model.specs.Dirty.{is_dirty, is_frame_logged};
+ghost use Rattle.flat_model.specs.Dirty.{is_dirty, is_frame_logged, sets_all};
 ghost use Rattle.flat_model.specs.Kept.{GivesLine, IsInRange, facts_of, memory_of};
 ghost use Rattle.flat_model.specs.LogSteps.{ReadsLog};
 ghost use Rattle.flat_model.specs.Steps.{Accesses, ChangesHost, ChangesSlots, HasStored, IsChangeOf};
 
 use crate::dirty_frames::DirtyFrames;
 use crate::host_pages::HostPages;
-use crate::log_commands::{sets_all, slot_to_read, takes_out};
 use core_views::{
-    Actor, Answer, Command, HostChange, Line, NoMemory, Op, Refusal, Sizes, SlotSet, Trace,
+    Actor, Answer, Command, HostChange, Line, LogMode, NoMemory, Op, Refusal, Sizes, SlotSet, Trace,
 };
 use std::alloc::Global;
 use std::collections::HashMap;
@@ -44,6 +43,16 @@ impl Model for Plain {
     ghost view = { λ p. record { sizes = p.host.sizes; slots = p.slots; changed = p.host.changed; words = p.memory.entries; dirty = p.dirty } };
 
     ghost invariant = { λ p. (p.host.sizes.pages < 2 ^ 64) × AreSlotsOf p.host.sizes.pages (flat_slots p.slots) };
+}
+
+// Whether the line gives a slot a dirty log in which each page is dirty.
+fn sets_all(mode: LogMode, command: &Command) -> bool
+    ensures { result ≡ sets_all mode command.now }
+{
+    match (command, mode) {
+        (Command::SetLog { on, .. }, LogMode::ManualAllSet) => *on,
+        _ => false,
+    }
 }
 
 impl Plain {
@@ -108,12 +117,12 @@ impl Plain {
         ensures kept { OnErr result (self.new ≡ self.old) }
         ensures sizes { self.new.sizes ≡ self.old.sizes }
     {
-        let slot = match slot_to_read(&self.slots, command, id) {
+        let slot = match self.slots.to_read(command, id) {
             Ok(slot) => slot,
             Err(refusal) => return Ok(Answer::Refused(refusal)),
         };
         let words = self.dirty.words(alloc, command, &slot)?;
-        if takes_out(self.host.sizes().mode, command) {
+        if command.takes_out(self.host.sizes().mode) {
             self.dirty.take_out(command, &slot);
         }
         Ok(Answer::Bits(words))

@@ -53,6 +53,7 @@ stands_there place.Between (Begin x) page change h is stands = absurd (cc stands
 stands_there place.Between _ page change h is stands = absurd (cc stands)
 stands_there (place.Access a) _ page change h is stands = absurd (cc stands)
 stands_there (place.SlotChange a) _ page change h is stands = absurd (cc stands)
+stands_there (place.Log a) _ page change h is stands = absurd (cc stands)
 stands_there (place.Host a) (Begin x) page change h is stands = is ∙ stands
 stands_there (place.Host a) _ page change h is stands = is ∙ stands
 

@@ -16,7 +16,7 @@ use Rattle.core_views.specs.declared.place.SlotChangePlace.{SlotChangePlace}
 use Rattle.core_views.specs.declared.place.WriteProtectPlace.TheVariants as protect
 use Rattle.core_views.specs.declared.sizes.Sizes.{Sizes}
 use Rattle.core_views.specs.declared.topics.Topics.{Topics}
-use Rattle.core_views.specs.declared.trace.Command.TheVariants.{Access, ChangeHost}
+use Rattle.core_views.specs.declared.trace.Command.TheVariants.{Access, ChangeHost, ClearLog, GetLog}
 use Rattle.core_views.specs.declared.trace.Command.{Command}
 use Rattle.core_views.specs.declared.trace.Line.{Line}
 use Rattle.core_views.specs.declared.trace.Slot.{Slot as SlotOf}
@@ -27,14 +27,14 @@ use Rattle.log_invariant.proofs.LogWords.{idle_off_log, is_on_log, log_same, mar
 use Rattle.log_invariant.proofs.PublishedLogs.{armed_stays}
 use Rattle.log_invariant.proofs.StepPlaces.{of_hand}
 use Rattle.log_invariant.specs.Covered.{is_marked}
-use Rattle.log_invariant.specs.LogBegins.{OpensLog, OpensLogAt, is_opening}
+use Rattle.log_invariant.specs.LogBegins.{LogIsUnwatched, LogIsUnwatchedAt, is_unwatched}
 use Rattle.log_invariant.specs.LogInvariant.{LogInvariant}
 use Rattle.mmu_core.proofs.held.FreshFrames.{behind_it}
 use Rattle.mmu_core.proofs.held.OthersStay.{retires_none}
 use Rattle.mmu_core.proofs.invariant.Kept.{line_knows}
 use Rattle.mmu_core.proofs.lines.AccessParts.{AreSmall}
 use Rattle.mmu_core.proofs.lines.EitherPlace.{each_watch, either_place}
-use Rattle.mmu_core.proofs.lines.KnowsKept.{knows_after, step_leaves}
+use Rattle.mmu_core.proofs.lines.KnowsKept.{knows_after, step_knows, step_leaves}
 use Rattle.mmu_core.proofs.lines.LinesKept.{one_manager}
 use Rattle.mmu_core.proofs.lines.StepIn.{Makes, StepIn, Touches, step_in}
 use Rattle.mmu_core.proofs.machine.Columns.{at_upd}
@@ -74,20 +74,21 @@ use Rattle.std.specs.Prelude.{None, Option, Some, false, is_some, true}
 -- What is so of a hand at a place of a line.
 abbrev IsAllSetAt : Sizes → Place → Command → Held → (ℕ → ℕ) → Type 0
 IsAllSetAt z p command h log =
-    (gfn : ℕ) (slot : SlotOf) → is_all_set z.mode ≡ true → OpensLogAt p command h gfn → slot_armed h.slots command ≡ Some slot
+    (gfn : ℕ) (slot : SlotOf) → is_all_set z.mode ≡ true → LogIsUnwatchedAt p command h gfn → slot_armed h.slots command ≡ Some slot
     → is_marked log (page_of slot gfn) ≡ true
 
 -- Only a line that changes a slot stands there, and its hand has retired a page.
-opens_changes : (p : Place) (command : Command) (h : Held) (gfn : ℕ) → OpensLogAt p command h gfn → KnowsPart p command h → changes_slot command ≡ true
+opens_changes : (p : Place) (command : Command) (h : Held) (gfn : ℕ) → LogIsUnwatchedAt p command h gfn → KnowsPart p command h → changes_slot command ≡ true
 opens_changes (place.SlotChange p) command h gfn O K = K.0
 opens_changes _ command h gfn O K = absurd O
 
 opens_manager : (z : Sizes) (i : ℕ) (h : Held) (p : Place) (command : Command) (gfn : ℕ) → OwnLines z i h → h.state.place ≡ p → h.state.line.command ≡ command
-    → OpensLogAt p command h gfn → KnowsPart p command h → h.state.actor ≡ Manager
+    → LogIsUnwatchedAt p command h gfn → KnowsPart p command h → h.state.actor ≡ Manager
 opens_manager z i h (place.SlotChange p) command gfn O at said opens K = change_hand z i h p command O at said K.0
 opens_manager z i h _ command gfn O at said opens K = absurd opens
 
-opens_retired : (p : Place) (command : Command) (h : Held) (gfn : ℕ) → OpensLogAt p command h gfn → KnowsPart p command h → is_some h.topics.retired ≡ true
+opens_retired : (p : Place) (command : Command) (h : Held) (gfn : ℕ) → LogIsUnwatchedAt p command h gfn → KnowsPart p command h
+    → is_some h.topics.retired ≡ true
 opens_retired (place.SlotChange change.Release) command h gfn O K = K.1.1.leaves
 opens_retired (place.SlotChange (change.End p)) command h gfn O K = K.1.1.leaves
 opens_retired (place.SlotChange change.Watch) command h gfn O K = K.1.1.leaves
@@ -104,9 +105,9 @@ module _ (z : Sizes) (v : View) (a j : ℕ) (there : j < actors_of z) (ne : j �
   AllSet log = IsAllSetAt z h.state.place h.state.line.command h log
 
   was : AllSet (v.words area.Log)
-  was gfn slot mode opens is = G.all_set j gfn slot there mode opens is
+  was gfn slot mode opens is = G.all_marked j gfn slot there mode opens is
 
-  not_manager : (gfn : ℕ) → OpensLog h gfn → a < actors_of z → (v.hand a).state.actor ≡ Manager → ⊥
+  not_manager : (gfn : ℕ) → LogIsUnwatched h gfn → a < actors_of z → (v.hand a).state.actor ≡ Manager → ⊥
   not_manager gfn opens lt manager =
       let own_ = opens_manager z j h h.state.place h.state.line.command gfn (I.lines j there) refl refl opens (I.knows j there) in
       ne (one_manager z j a h (v.hand a) (I.lines j there) (I.lines a lt) own_ manager)
@@ -137,6 +138,8 @@ end_off_log ends.Release t = refl
 first_all_set : (z y : Sizes) (slots : MemorySlots) (h : Held) (log : ℕ → ℕ) (c : Command) → IsAllSetAt z (first_place y slots c) c h log
 first_all_set z y slots h log (Access gfn word op) = λ gfn slot mode O is. absurd O
 first_all_set z y slots h log (ChangeHost page change) = λ gfn slot mode O is. absurd O
+first_all_set z y slots h log (GetLog id) = λ gfn slot mode O is. absurd O
+first_all_set z y slots h log (ClearLog id first count words) = λ gfn slot mode O is. absurd O
 first_all_set z y slots h log c = by (change_at_once y c slots)
   where
     by : (r : Option (Option Refusal)) → IsAllSetAt z (place.SlotChange (slot_change_first r)) c h log
@@ -160,9 +163,9 @@ module _ (z : Sizes) (v : View) (a : ℕ) (line : Line) (command : Command) (I :
   stands : (p : Place) → IsStep z v a line command p → IsAllSetAt z p command g (v.words area.Log)
   stands p S =
       of_hand z v a line command p S (λ q c. IsAllSetAt z q c g (v.words area.Log)) (λ y slots c so. first_all_set z y slots g (v.words area.Log) c)
-      (λ gfn slot mode O is. G.all_set a gfn slot S.there mode O is)
+      (λ gfn slot mode O is. G.all_marked a gfn slot S.there mode O is)
 
-  closed : (p : SlotChangePlace) → (q : SlotChangePlace) → is_opening q ≡ false → IsAllSetAt z (place.SlotChange q) command (after p) (log p)
+  closed : (p : SlotChangePlace) → (q : SlotChangePlace) → is_unwatched q ≡ false → IsAllSetAt z (place.SlotChange q) command (after p) (log p)
   closed p q none = λ gfn slot mode O is. let some = O.0 in absurd (cc (some, none))
 
   -- With the publication the bit of each page is set: those of the words were.
@@ -235,7 +238,7 @@ module _ (z : Sizes) (v : View) (a : ℕ) (line : Line) (command : Command) (I :
       let found : ℕ = answer_in (task_at p command g) v.words in
       let some = opens_changes (place_after (outcome_at p command g found)) command (hand_after line command p g found) gfn O
       (knows_after (outcome_at p command g found) command (hand_after line command p g found) (line_knows z v a line command p S I P S.there)) in
-      let none = changes_none z (v.words area.Pool) (v.words area.Slots 0) p command g refl S.begun S.holds in
+      let none = changes_none z (v.words area.Pool) (v.words area.Slots 0) p command g refl S.begun S.holds (step_knows z v a line command p S I) in
       absurd (cc (some, none))
 
 -- ---- each step
@@ -243,7 +246,7 @@ module _ (z : Sizes) (v : View) (a : ℕ) (line : Line) (command : Command) (I :
 -- By a line.
 pub all_set_kept : (z : Sizes) (v : View) (a : ℕ) (line : Line) (command : Command) (p : Place) → AreSmall v → IsStep z v a line command p
     → Invariant z v → TopicsInvariant z v → LogInvariant z v → (j gfn : ℕ) (slot : SlotOf) → j < actors_of z → is_all_set z.mode ≡ true
-    → OpensLog ((stepped a line command p v).hand j) gfn
+    → LogIsUnwatched ((stepped a line command p v).hand j) gfn
     → slot_armed ((stepped a line command p v).hand j).slots ((stepped a line command p v).hand j).state.line.command ≡ Some slot
     → is_marked ((stepped a line command p v).words area.Log) (page_of slot gfn) ≡ true
 all_set_kept z v a line command p small S I P G j gfn slot there mode opens is =
@@ -262,7 +265,7 @@ all_set_kept z v a line command p small S I P G j gfn slot there mode opens is =
 -- By an actor with no line left.
 pub idle_all_set_kept : (z : Sizes) (v : View) (a : ℕ) (step : PartStep) (note : ℕ) → needs_line step ≡ false → has_line (v.hand a) ≡ false
     → Invariant z v → LogInvariant z v → (j gfn : ℕ) (slot : SlotOf) → j < actors_of z → is_all_set z.mode ≡ true
-    → OpensLog ((part_stepped a step note v).hand j) gfn
+    → LogIsUnwatched ((part_stepped a step note v).hand j) gfn
     → slot_armed ((part_stepped a step note v).hand j).slots ((part_stepped a step note v).hand j).state.line.command ≡ Some slot
     → is_marked ((part_stepped a step note v).words area.Log) (page_of slot gfn) ≡ true
 idle_all_set_kept z v a step note free none I G j gfn slot there mode opens is =
@@ -270,7 +273,7 @@ idle_all_set_kept z v a step note free none I G j gfn slot there mode opens is =
     (λ there. idle_says (λ q. IsAllSetAt z q (v.hand a).state.line.command after log) (v.hand a) none (I.lines a there).under
     (λ gfn slot mode O is. absurd O))
     (λ j ne there. subst (IsAllSetAt z (v.hand j).state.place (v.hand j).state.line.command (v.hand j)) (sym same)
-    (λ gfn slot mode O is. G.all_set j gfn slot there mode O is)) j there gfn slot mode opens is
+    (λ gfn slot mode O is. G.all_marked j gfn slot there mode O is)) j there gfn slot mode opens is
   where
     task : Task
     task = part_task step (own_index (v.hand a)) (v.hand a).topics note

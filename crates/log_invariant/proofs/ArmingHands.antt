@@ -13,7 +13,7 @@ use Rattle.core_views.specs.declared.trace.Slot.{Slot as SlotOf}
 use Rattle.log_invariant.proofs.LogRecords.{ArmedAt, armed_at}
 use Rattle.log_invariant.proofs.WordsApart.{words_apart}
 use Rattle.log_invariant.specs.Covered.{IsLoggedIn}
-use Rattle.log_invariant.specs.LogInvariant.{SetsWordsAt}
+use Rattle.log_invariant.specs.LogInvariant.{HasArmedWordsAt}
 use Rattle.mmu_core.proofs.invariant.Kept.{manager_retires}
 use Rattle.mmu_core.proofs.lines.LinesKept.{one_manager}
 use Rattle.mmu_core.proofs.slots.SlotChangeKept.{change_hand}
@@ -39,7 +39,7 @@ is_arming _ = false
 -- They are set still where each word of the log is as it was.
 pub sets_same : (p : Place) (command : Command) (h : Held) (log other : ℕ → ℕ)
     → (is_arming p ≡ true → arms command ≡ true → (word : ℕ) → IsInLog (log_target h command) word → other word ≡ log word)
-    → KnowsPart p command h → SetsWordsAt p command h log → SetsWordsAt p command h other
+    → KnowsPart p command h → HasArmedWordsAt p command h log → HasArmedWordsAt p command h other
 sets_same (place.SlotChange (change.Arm true)) command h log other same K W = λ word in_log lt. same refl K.1.3.arms word in_log ∙ W word in_log lt
 sets_same (place.SlotChange change.Exclude) command h log other same K W = λ is word in_log lt. same refl is word in_log ∙ W is word in_log lt
 sets_same (place.SlotChange change.Count) command h log other same K W = λ is word in_log lt. same refl is word in_log ∙ W is word in_log lt
@@ -49,7 +49,7 @@ sets_same _ command h log other same K W = tt
 
 -- A line that changes no slot sets none.
 pub sets_none : (p : Place) (command : Command) (h : Held) (log : ℕ → ℕ) → KnowsPart p command h → changes_slot command ≡ false
-    → SetsWordsAt p command h log
+    → HasArmedWordsAt p command h log
 sets_none (place.SlotChange (change.Arm true)) command h log K none = let some = K.0 in absurd (cc (some, none))
 sets_none (place.SlotChange change.Exclude) command h log K none = let some = K.0 in absurd (cc (some, none))
 sets_none (place.SlotChange change.Count) command h log K none = let some = K.0 in absurd (cc (some, none))

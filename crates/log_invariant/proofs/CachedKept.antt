@@ -47,7 +47,7 @@ use Rattle.mmu_core.proofs.machine.Columns.{at_upd, upd_same}
 use Rattle.mmu_core.proofs.machine.HandWith.{hand_with}
 use Rattle.mmu_core.proofs.machine.PartStepping.{IsPart}
 use Rattle.mmu_core.proofs.machine.Stepping.{IsStep}
-use Rattle.log_invariant.specs.LogBegins.{MayUse}
+use Rattle.log_invariant.specs.LogBegins.{ExcusesCached}
 use Rattle.log_invariant.specs.LogInvariant.{AreGuarded, LogInvariant}
 use Rattle.log_invariant.proofs.CachesCarried.{task_carried, AsksStill}
 use Rattle.log_invariant.proofs.CoveredKept.{AllGuarded, guarded_kept, idle_guarded_kept}
@@ -63,17 +63,18 @@ use Rattle.log_invariant.proofs.UsesExcused.{MayUseAt, ShowsFlushAt, excused_at,
 -- What is guarded before a step is guarded after it, of each virtual processor that may use what it has cached, and is asked for a flush still if it was.
 abbrev Carries : Sizes → View → View → Type 0
 Carries z v w = (k : ℕ) → AsksStill (v.words area.State k) (w.words area.State k) → k < z.vcpus → may_use (v.words area.State k) (v.hand k).topics.stay ≡ true
-    → (gfn : ℕ) → AllGuarded z v (MayUse k (v.words area.State k)) gfn → AllGuarded z w (MayUse k (w.words area.State k)) gfn
+    → (gfn : ℕ) → AllGuarded z v (ExcusesCached k (v.words area.State k)) gfn → AllGuarded z w (ExcusesCached k (w.words area.State k)) gfn
 
 -- Then all that it has cached is guarded after it, where actor a has this cached before a flush.
 carried_guarded : (z : Sizes) (v w : View) (a : ℕ) (c : Buffer Translation) → Carries z v w
-    → (a < z.vcpus → may_use (v.words area.State a) (v.hand a).topics.stay ≡ true → AreGuarded (AllGuarded z v (MayUse a (v.words area.State a))) c.items)
+    → (a < z.vcpus → may_use (v.words area.State a) (v.hand a).topics.stay ≡ true
+    → AreGuarded (AllGuarded z v (ExcusesCached a (v.words area.State a))) c.items)
     → CachedNow z v → (k : ℕ) → k < z.vcpus → AsksStill (v.words area.State k) (w.words area.State k)
     → may_use (v.words area.State k) (v.hand k).topics.stay ≡ true
-    → AreGuarded (AllGuarded z w (MayUse k (w.words area.State k))) (upd (λ i. (v.hand i).cached) a c k).items
+    → AreGuarded (AllGuarded z w (ExcusesCached k (w.words area.State k))) (upd (λ i. (v.hand i).cached) a c k).items
 carried_guarded z v w a c carries own cached k low still may =
     at_upd (λ k (b : Buffer Translation). k < z.vcpus → AsksStill (v.words area.State k) (w.words area.State k)
-    → may_use (v.words area.State k) (v.hand k).topics.stay ≡ true → AreGuarded (AllGuarded z w (MayUse k (w.words area.State k))) b.items)
+    → may_use (v.words area.State k) (v.hand k).topics.stay ≡ true → AreGuarded (AllGuarded z w (ExcusesCached k (w.words area.State k))) b.items)
     (λ i. (v.hand i).cached) a c
     (λ low still may i d lt writes. carries a still low may _ (own low may i d lt writes))
     (λ k ne low still may i d lt writes. carries k still low may _ (cached k low may i d lt writes)) k low still may
@@ -99,10 +100,10 @@ line_tells z v a note k _ range P lt may = tt
 -- What the own line excuses it excuses after its step.
 uses_excused : (z : Sizes) (v : View) (a : ℕ) (line : Line) (command : Command) (p : Place) → IsStep z v a line command p → Invariant z v
     → TopicsInvariant z v → (k gfn : ℕ) → k < z.vcpus → may_use (v.words area.State k) (v.hand k).topics.stay ≡ true
-    → MayUse k (v.words area.State k) (v.hand a) gfn
-    → MayUse k ((stepped a line command p v).words area.State k) ((stepped a line command p v).hand a) gfn
+    → ExcusesCached k (v.words area.State k) (v.hand a) gfn
+    → ExcusesCached k ((stepped a line command p v).words area.State k) ((stepped a line command p v).hand a) gfn
 uses_excused z v a line command p S I P k gfn low may excuse =
-    subst (λ (g : Held). MayUse k ((stepped a line command p v).words area.State k) g gfn)
+    subst (λ (g : Held). ExcusesCached k ((stepped a line command p v).words area.State k) g gfn)
     (sym (upd_same v.hand a (hand_after line command p h (answer_in (task_at p command h) v.words))))
     (subst (λ c. MayUseAt k ((stepped a line command p v).words area.State k)
     (place_after (outcome_at p command h (answer_in (task_at p command h) v.words))) c
@@ -142,7 +143,7 @@ pub line_cached_kept : (z : Sizes) (v : View) (a : ℕ) (line : Line) (command :
     → Invariant z v → TopicsInvariant z v → LogInvariant z v → AllSetNow z (stepped a line command p v) → CachedNow z (stepped a line command p v)
 line_cached_kept z v a line command p small S I P G set k low =
     task_carried z v a c (hand_after line command p h x) (task_at p command h)
-    (λ t. can_write t.leaf ≡ true → AllGuarded z w (MayUse k (w.words area.State k)) t.gfn) k (step_of z v a command p makes)
+    (λ t. can_write t.leaf ≡ true → AllGuarded z w (ExcusesCached k (w.words area.State k)) t.gfn) k (step_of z v a command p makes)
     (λ still may. carried_guarded z v w a c carries (λ lt was. line_guarded z v a P G S.there p command makes (G.cached a lt was)) G.cached k low still may)
   where
     h : Held
@@ -162,11 +163,11 @@ line_cached_kept z v a line command p small S I P G set k low =
 
     carries : Carries z v w
     carries k still low may gfn guarded =
-        guarded_kept z v a line command p small S I P G gfn (MayUse k (v.words area.State k)) (MayUse k (w.words area.State k)) (record {
+        guarded_kept z v a line command p small S I P G gfn (ExcusesCached k (v.words area.State k)) (ExcusesCached k (w.words area.State k)) (record {
           others = λ j lt ne excuse. still_excused k (v.words area.State k) (w.words area.State k) (v.hand j) gfn still excuse;
           own = λ id slot logged holds excuse. inr (a, S.there, uses_excused z v a line command p S I P k gfn low may excuse);
         })
-        (λ slot begins holds. begun_guarded z v a line command p S I (MayUse k (w.words area.State k)) gfn slot (λ g opens clean. inl (opens, clean)) set
+        (λ slot begins holds. begun_guarded z v a line command p S I (ExcusesCached k (w.words area.State k)) gfn slot (λ g opens clean. inl (opens, clean)) set
         begins holds) guarded
 
 -- ---- a step of an actor with no line left
@@ -176,7 +177,7 @@ pub part_cached_kept : (z : Sizes) (v : View) (a : ℕ) (step : PartStep) (note 
     → has_line (v.hand a) ≡ false → Invariant z v → TopicsInvariant z v → LogInvariant z v → CachedNow z (part_stepped a step note v)
 part_cached_kept z v a step note S free none I P G k low =
     task_carried z v a h.cached h (part_task step (own_index h) h.topics note)
-    (λ t. can_write t.leaf ≡ true → AllGuarded z w (MayUse k (w.words area.State k)) t.gfn) k (Makes step note S)
+    (λ t. can_write t.leaf ≡ true → AllGuarded z w (ExcusesCached k (w.words area.State k)) t.gfn) k (Makes step note S)
     (λ still may. carried_guarded z v w a h.cached carries (G.cached a) G.cached k low still may)
   where
     h : Held
@@ -185,7 +186,7 @@ part_cached_kept z v a step note S free none I P G k low =
     w : View
     w = part_stepped a step note v
 
-    never : (k state gfn : ℕ) → MayUse k state h gfn → ⊥
+    never : (k state gfn : ℕ) → ExcusesCached k state h gfn → ⊥
     never k state gfn = idle_says (λ q. MayUseAt k state q h.state.line.command h gfn → ⊥) h none (I.lines a S.there).under by
       where
         by : MayUseAt k state place.Between h.state.line.command h gfn → ⊥
@@ -194,7 +195,7 @@ part_cached_kept z v a step note S free none I P G k low =
 
     carries : Carries z v w
     carries k still low may gfn guarded =
-        idle_guarded_kept z v a step note S free P gfn (MayUse k (v.words area.State k)) (MayUse k (w.words area.State k)) (record {
+        idle_guarded_kept z v a step note S free P gfn (ExcusesCached k (v.words area.State k)) (ExcusesCached k (w.words area.State k)) (record {
           others = λ j lt ne excuse. still_excused k (v.words area.State k) (w.words area.State k) (v.hand j) gfn still excuse;
           own = λ id slot logged holds excuse. absurd (never k (v.words area.State k) gfn excuse);
         }) guarded

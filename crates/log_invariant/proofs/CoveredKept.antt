@@ -39,7 +39,7 @@ use Rattle.mmu_core.specs.lines.Forms.{part_at}
 use Rattle.mmu_core.specs.lines.PartAt.{task_at}
 use Rattle.mmu_core.proofs.invariant.Kept.{makes_at}
 use Rattle.mmu_core.proofs.invariant.QuietKept.{sets_stay}
-use Rattle.mmu_core.proofs.lines.KnowsKept.{touch_topics}
+use Rattle.mmu_core.proofs.lines.KnowsKept.{step_knows, touch_topics}
 use Rattle.mmu_core.proofs.machine.Columns.{same_or, upd_other, upd_same}
 use Rattle.mmu_core.proofs.slots.LiveStays.{SetStays, published_stays}
 use Rattle.mmu_core.proofs.words.PartTopics.{is_there, part_topics_is}
@@ -104,7 +104,7 @@ owes_still z v a step note S other gfn i lt owed g x topics = (i, lt, by (same_o
     by (inr ne) = ap (λ (y : Held). y.topics.owed) (upd_other v.hand a i g ne) ∙ owed
 
 -- Who owes a mark for a guest frame of a published slot with a log has found this slot.
-found_same : (z : Sizes) (v : View) (i id gfn : ℕ) (slot : SlotOf) → i < actors_of z → Invariant z v → TopicsInvariant z v → LogInvariant z v
+pub found_same : (z : Sizes) (v : View) (i id gfn : ℕ) (slot : SlotOf) → i < actors_of z → Invariant z v → TopicsInvariant z v → LogInvariant z v
     → IsLoggedNow v id slot → contains gfn slot ≡ true → (v.hand i).topics.owed ≡ Some gfn → (v.hand i).topics.search.slot ≡ slot
 found_same z v i id gfn slot lt I P G logged holds owed =
     let M = marked_is_live z v i gfn lt I P G owed in
@@ -169,7 +169,8 @@ pub covered_kept : (z : Sizes) (v : View) (a : ℕ) (line : Line) (command : Com
     → TopicsInvariant z v → LogInvariant z v → (id gfn : ℕ) (slot : SlotOf) → IsLoggedNow v id slot → contains gfn slot ≡ true → IsCoveredNow z v slot gfn
     → IsCoveredNow z (stepped a line command p v) slot gfn
 covered_kept z v a line command p small S I P G id gfn slot logged holds covered =
-    covered_by_task z v a (part_at p command (v.hand a)) I id gfn slot logged holds (takes_none p command (v.hand a))
+    covered_by_task z v a (part_at p command (v.hand a)) I id gfn slot logged holds
+    (takes_none z line.actor p command (v.hand a) S.allowed (step_knows z v a line command p S I))
     (found_same z v a id gfn slot S.there I P G logged holds) covered (task_at p command (v.hand a)) (step_at z v a line command p small S I P) _ refl
 
 pub idle_covered_kept : (z : Sizes) (v : View) (a : ℕ) (step : PartStep) (note : ℕ) → IsPart z v a step → needs_line step ≡ false

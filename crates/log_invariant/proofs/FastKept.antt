@@ -37,6 +37,7 @@ use Rattle.mmu_core.specs.lines.AccessSteps.{access_outcome, behind_fault, pause
 use Rattle.mmu_core.specs.lines.Cached.{first_usable}
 use Rattle.mmu_core.specs.lines.FaultSteps.{after_claim, after_share, allows_access, fault_next, walk_next, found_next}
 use Rattle.mmu_core.specs.lines.Forms.{first_place, outcome_at}
+use Rattle.mmu_core.proofs.lines.Forms.{outcome_apart}
 use Rattle.mmu_core.specs.machine.Outcomes.{place_after}
 use Rattle.mmu_core.specs.machine.View.{View, part_stepped, stepped, answer_in}
 use Rattle.mmu_core.proofs.lines.EitherPlace.{either_place}
@@ -199,6 +200,7 @@ fast_after (place.Access p) (Access gfn word op) h v F = access_writes p h gfn w
 fast_after (place.SlotChange p) command h v F =
     no_access (slot_change_outcome p command h v) command (simple_is_no_access (slot_change_outcome p command h v) (slot_change_goes p command h v).1)
 fast_after (place.Host p) (ChangeHost page change) h v F = no_access (host_outcome p page h v) (ChangeHost page change) (host_goes p page h v).1
+fast_after (place.Log p) command h v F = no_access (outcome_at (place.Log p) command h v) command (outcome_apart (place.Log p) command h v tt)
 fast_after p command h v F = F
 
 pub fast_kept : (z : Sizes) (v : View) (a : ℕ) (line : Line) (command : Command) (p : Place) → IsStep z v a line command p → FastAt z v

@@ -25,7 +25,7 @@ use Rattle.mmu_core.specs.invariant.SlotSetPart.{IsLiveIn}
 use Rattle.mmu_core.specs.invariant.TopicsInvariant.{TopicsInvariant}
 use Rattle.mmu_core.specs.machine.View.{View}
 use Rattle.log_invariant.specs.Covered.{IsLoggedIn}
-use Rattle.log_invariant.specs.LogBegins.{OpensLog, OpensLogAt, is_opening}
+use Rattle.log_invariant.specs.LogBegins.{LogIsUnwatched, LogIsUnwatchedAt, is_unwatched}
 use Rattle.log_invariant.specs.LogInvariant.{LogInvariant, KeepsLogs, IsMarkingAt}
 use Rattle.mmu_core.specs.invariant.HeldPart.{HoldsOld}
 use Rattle.mmu_core.specs.invariant.SearchPart.{SearchPart}
@@ -49,13 +49,13 @@ set_logged_was set before after id slot stays L = record {
 }
 
 -- The line of some hand begins the log of a slot with the guest frame, and others may not know of it yet.
-abbrev pub IsOpening : Sizes → View → ℕ → Type 0
-IsOpening z v gfn = (j : ℕ) × (j < actors_of z) × OpensLog (v.hand j) gfn
+abbrev pub SomeLogIsUnwatched : Sizes → View → ℕ → Type 0
+SomeLogIsUnwatched z v gfn = (j : ℕ) × (j < actors_of z) × LogIsUnwatched (v.hand j) gfn
 
 -- A slot set is as said of the published one.
 pub record HeldLogs (z : Sizes) (v : View) (set : ℕ) : Type 0 where
   pub had : (id gfn : ℕ) (slot : SlotOf) → IsLoggedNow v id slot → contains gfn slot ≡ true
-      → IsLoggedIn (v.words area.Pool) set id slot ⊎ IsOpening z v gfn
+      → IsLoggedIn (v.words area.Pool) set id slot ⊎ SomeLogIsUnwatched z v gfn
   pub stays : (id : ℕ) (slot : SlotOf) → IsLoggedIn (v.words area.Pool) set id slot → IsLiveIn (v.words area.Pool) (v.words area.Slots 0) id slot
 
 -- Who has retired a page and hasn't watched all others since stands before the end of its watch.
@@ -63,7 +63,7 @@ module _ (h : Held) (set gfn : ℕ) (slot : SlotOf) (leaves : h.topics.retired �
   not_both : h.topics.retired ≡ None → ⊥
   not_both none = cc (none, leaves)
 
-  opening : (p : SlotChangePlace) (command : Command) → SlotChangeKnows p command h → RetiresPart (place.SlotChange p) h.topics → is_opening p ≡ true
+  opening : (p : SlotChangePlace) (command : Command) → SlotChangeKnows p command h → RetiresPart (place.SlotChange p) h.topics → is_unwatched p ≡ true
   opening change.Release command K L = refl
   opening (change.End p) command K L = refl
   opening change.Watch command K L = refl
@@ -73,7 +73,7 @@ module _ (h : Held) (set gfn : ℕ) (slot : SlotOf) (leaves : h.topics.retired �
   opening _ command K L = absurd (not_both (L.leaves refl))
 
   opens_log : (p : Place) (command : Command) → KnowsPart p command h → RetiresPart p h.topics → slot_armed h.slots command ≡ Some slot
-      → contains gfn slot ≡ true → OpensLogAt p command h gfn
+      → contains gfn slot ≡ true → LogIsUnwatchedAt p command h gfn
   opens_log (place.SlotChange p) command K L begins holds = (opening p command K.1 L, slot, begins, holds)
   opens_log _ command K L begins holds = absurd (not_both (L.leaves refl))
 
@@ -102,7 +102,7 @@ held_logs z v i set lt I P G held = by (P.sets i set lt held)
 
         known : (id gfn : ℕ) (slot : SlotOf) → contains gfn slot ≡ true
             → IsLoggedIn (v.words area.Pool) set id slot ⊎ (slot_armed h.slots h.state.line.command ≡ Some slot)
-            → IsLoggedIn (v.words area.Pool) set id slot ⊎ IsOpening z v gfn
+            → IsLoggedIn (v.words area.Pool) set id slot ⊎ SomeLogIsUnwatched z v gfn
         known id gfn slot holds (inl had) = inl had
         known id gfn slot holds (inr begins) =
             inr (
@@ -115,7 +115,7 @@ held_logs z v i set lt I P G held = by (P.sets i set lt held)
 -- Who has found a slot with a guest frame that is in a published slot with a log has found this slot, and that it is logged; or the log is opening.
 pub found_is_logged : (z : Sizes) (v : View) (i gfn id : ℕ) (slot : SlotOf) → i < actors_of z → Invariant z v → TopicsInvariant z v → LogInvariant z v
     → FoundSlot gfn (v.hand i).topics → IsLoggedNow v id slot → contains gfn slot ≡ true
-    → (((v.hand i).topics.search.slot ≡ slot) × ((v.hand i).topics.search.logged ≡ true)) ⊎ IsOpening z v gfn
+    → (((v.hand i).topics.search.slot ≡ slot) × ((v.hand i).topics.search.logged ≡ true)) ⊎ SomeLogIsUnwatched z v gfn
 found_is_logged z v i gfn id slot lt I P G found logged holds = by ((held_logs z v i set lt I P G held).had id gfn slot logged holds)
   where
     pool : ℕ → ℕ
@@ -136,7 +136,7 @@ found_is_logged z v i gfn id slot lt I P G found logged holds = by ((held_logs z
     L : IsLiveIn pool set (s.id - 1) s.slot
     L = (S.whole set held found.whole).1
 
-    by : IsLoggedIn pool set id slot ⊎ IsOpening z v gfn → ((s.slot ≡ slot) × (s.logged ≡ true)) ⊎ IsOpening z v gfn
+    by : IsLoggedIn pool set id slot ⊎ SomeLogIsUnwatched z v gfn → ((s.slot ≡ slot) × (s.logged ≡ true)) ⊎ SomeLogIsUnwatched z v gfn
     by (inr begins) = inr begins
     by (inl had) =
         let same : s.id - 1 ≡ id =

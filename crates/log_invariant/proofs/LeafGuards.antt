@@ -12,14 +12,14 @@ use Rattle.core_views.specs.declared.trace.Command.{Command}
 use Rattle.core_views.specs.declared.trace.Line.{Line}
 use Rattle.core_views.specs.declared.trace.Slot.{Slot as SlotOf}
 use Rattle.log_invariant.proofs.CoveredKept.{AllGuarded, IsGuardedNow, PublishesLog, covered_kept, guarded_kept, logged_before}
-use Rattle.log_invariant.proofs.HeldLogs.{IsLoggedNow, IsOpening, found_is_logged}
+use Rattle.log_invariant.proofs.HeldLogs.{IsLoggedNow, SomeLogIsUnwatched, found_is_logged}
 use Rattle.log_invariant.proofs.LeafClaims.{LeavesAre, OfNewWrites, leaves_weaker, part_leaves, touch_leaves}
 use Rattle.log_invariant.proofs.LogsBegun.{AllSetNow, begun_guarded}
 use Rattle.log_invariant.proofs.OpeningSlot.{opening_is}
 use Rattle.log_invariant.proofs.OwnExcuse.{AllowsAt, PassesAt, change_excuse}
 use Rattle.log_invariant.proofs.PassedFrames.{topics_made}
 use Rattle.log_invariant.proofs.StepPlaces.{Makes, StepAt, Touches, of_hand, step_at}
-use Rattle.log_invariant.specs.LogBegins.{MayAllow}
+use Rattle.log_invariant.specs.LogBegins.{ExcusesLeaf}
 use Rattle.log_invariant.specs.LogInvariant.{LogInvariant}
 use Rattle.mmu_core.proofs.held.OwedKept.{mark_owed}
 use Rattle.mmu_core.proofs.invariant.Kept.{makes_at}
@@ -48,11 +48,11 @@ use Rattle.std.specs.Prelude.{◌==◌, Bool, Some, false, true}
 
 -- What the part of the invariant on leaves says of a view.
 abbrev pub LeavesNow : Sizes → View → Type 0
-LeavesNow z v = LeavesAre z v.words (AllGuarded z v MayAllow)
+LeavesNow z v = LeavesAre z v.words (AllGuarded z v ExcusesLeaf)
 
 -- what a hand excuses after a step, or is passed by the sweep whose step it is, with the walk before and after it
 abbrev pub ExcusedOrPassed : Place → TableWalk → TableWalk → Held → ℕ → Type 0
-ExcusedOrPassed p before after h gfn = MayAllow h gfn ⊎ PassesAt p before after gfn
+ExcusedOrPassed p before after h gfn = ExcusesLeaf h gfn ⊎ PassesAt p before after gfn
 
 -- What the line of an actor excuses before its step, it excuses after it, or its sweep has passed.
 own_excuse : (z : Sizes) (v : View) (a : ℕ) (line : Line) (command : Command) (p : Place) → MakesAt z v a p command → (gfn : ℕ)
@@ -70,7 +70,7 @@ own_excuse z v a line command _ makes gfn (inl O) = absurd O.0
 own_excuse z v a line command _ makes gfn (inr W) = absurd W
 
 module _ (z : Sizes) (v : View) (a : ℕ) (line : Line) (command : Command) (p : Place) (small : AreSmall v) (S : IsStep z v a line command p)
-    (I : Invariant z v) (P : TopicsInvariant z v) (G : LogInvariant z v) (all_set : AllSetNow z (stepped a line command p v)) where
+    (I : Invariant z v) (P : TopicsInvariant z v) (G : LogInvariant z v) (all_marked : AllSetNow z (stepped a line command p v)) where
   abbrev h : Held
   h = v.hand a
 
@@ -95,7 +95,7 @@ module _ (z : Sizes) (v : View) (a : ℕ) (line : Line) (command : Command) (p :
   -- ---- the actor's own excuse
 
   -- It is one of the place where the step is made.
-  at_place : (gfn : ℕ) → MayAllow h gfn → AllowsAt p command h gfn
+  at_place : (gfn : ℕ) → ExcusesLeaf h gfn → AllowsAt p command h gfn
   at_place gfn = of_hand z v a line command p S (λ q c. AllowsAt q c h gfn) (λ sizes slots c. none (first_place sizes slots c) c)
     where
       none : (q : Place) (c : Command) → AllowsAt place.Between h.state.line.command h gfn → AllowsAt q c h gfn
@@ -105,42 +105,43 @@ module _ (z : Sizes) (v : View) (a : ℕ) (line : Line) (command : Command) (p :
   makes : MakesAt z v a p command
   makes = makes_at z v a line command p small S I P
 
-  excuse_after : (gfn : ℕ) → MayAllow h gfn → After g gfn
+  excuse_after : (gfn : ℕ) → ExcusesLeaf h gfn → After g gfn
   excuse_after gfn excuse =
       subst (λ c. AllowsAt g.state.place c g gfn ⊎ PassesAt p h.topics.walk g.topics.walk gfn) (sym S.command_is)
       (own_excuse z v a line command p makes gfn (at_place gfn excuse))
 
   -- So what a hand excused before the step is guarded after it.
-  excused : (j gfn : ℕ) (slot : SlotOf) → j < actors_of z → MayAllow (v.hand j) gfn → IsGuardedNow z w After slot gfn
+  excused : (j gfn : ℕ) (slot : SlotOf) → j < actors_of z → ExcusesLeaf (v.hand j) gfn → IsGuardedNow z w After slot gfn
   excused j gfn slot lt excuse = by (same_or j a)
     where
       by : (j ≡ a) ⊎ (j ≢ a) → IsGuardedNow z w After slot gfn
-      by (inl e) = own_guards gfn slot (excuse_after gfn (subst (λ i. MayAllow (v.hand i) gfn) e excuse))
+      by (inl e) = own_guards gfn slot (excuse_after gfn (subst (λ i. ExcusesLeaf (v.hand i) gfn) e excuse))
       by (inr ne) = inr (j, lt, subst (λ k. After k gfn) (sym (upd_other v.hand a j g ne)) (inl excuse))
 
-  kept : (gfn : ℕ) → AllGuarded z v MayAllow gfn → AllGuarded z w After gfn
+  kept : (gfn : ℕ) → AllGuarded z v ExcusesLeaf gfn → AllGuarded z w After gfn
   kept gfn =
-      guarded_kept z v a line command p small S I P G gfn MayAllow After (record {
+      guarded_kept z v a line command p small S I P G gfn ExcusesLeaf After (record {
         others = λ j lt ne excuse. inl excuse;
         own = λ id slot logged holds excuse. own_guards gfn slot (excuse_after gfn excuse);
       })
-      (λ slot B holds. begun_guarded z v a line command p S I After gfn slot (λ k opens clean. inl (inl (opens, clean))) all_set B holds)
+      (λ slot B holds. begun_guarded z v a line command p S I After gfn slot (λ k opens clean. inl (inl (opens, clean))) all_marked B holds)
 
   -- ---- a new leaf
 
   -- What was said of leaves before the step is so of them, as far as they stay.
   before : LeavesAre z v.words (AllGuarded z w After)
-  before = leaves_weaker z v.words (AllGuarded z v MayAllow) (AllGuarded z w After) kept G.leaves
+  before = leaves_weaker z v.words (AllGuarded z v ExcusesLeaf) (AllGuarded z w After) kept G.leaves
 
   -- Where the log of a slot is opening, a write in it was excused, or its page is dirty.
-  opening_guards : (gfn id : ℕ) (slot : SlotOf) → IsLoggedNow v id slot → contains gfn slot ≡ true → IsOpening z v gfn → IsGuardedNow z w After slot gfn
+  opening_guards : (gfn id : ℕ) (slot : SlotOf) → IsLoggedNow v id slot → contains gfn slot ≡ true → SomeLogIsUnwatched z v gfn
+      → IsGuardedNow z w After slot gfn
   opening_guards gfn id slot logged holds O = by (is_all_set (v.hand O.0).state.sizes.mode) refl
     where
       by : (b : Bool) → is_all_set (v.hand O.0).state.sizes.mode ≡ b → IsGuardedNow z w After slot gfn
       by false clean = excused O.0 gfn slot O.1 (inl (O.2, clean))
       by true dirty =
           inl (covered_kept z v a line command p small S I P G id gfn slot logged holds
-          (inl (G.all_set O.0 gfn slot O.1 (ap (λ (y : Sizes). is_all_set y.mode) (sym (I.lines O.0 O.1).sizes) ∙ dirty) O.2
+          (inl (G.all_marked O.0 gfn slot O.1 (ap (λ (y : Sizes). is_all_set y.mode) (sym (I.lines O.0 O.1).sizes) ∙ dirty) O.2
           (opening_is z v O.0 gfn id slot I O.1 O.2 logged.live holds))))
 
   -- The exchange leaves a mark owed, where the search has found the log.
@@ -148,7 +149,7 @@ module _ (z : Sizes) (v : View) (a : ℕ) (line : Line) (command : Command) (p :
       → ((slot : SlotOf) → PublishesLog v a command p slot → ⊥) → AllGuarded z w After gfn
   new_guards gfn found owes publishes_none id slot logged holds = by (logged_before z v a line command p small S I P id slot logged)
     where
-      found_it : IsLoggedNow v id slot → ((h.topics.search.slot ≡ slot) × (h.topics.search.logged ≡ true)) ⊎ IsOpening z v gfn
+      found_it : IsLoggedNow v id slot → ((h.topics.search.slot ≡ slot) × (h.topics.search.logged ≡ true)) ⊎ SomeLogIsUnwatched z v gfn
           → IsGuardedNow z w After slot gfn
       found_it was (inl both) = inl (inr (a, S.there, ap (λ (k : Held). k.topics.owed) here ∙ owes both.1))
       found_it was (inr O) = opening_guards gfn id slot was holds O

@@ -13,7 +13,7 @@ use Rattle.log_invariant.proofs.LinePlaces.{idle_says}
 use Rattle.log_invariant.proofs.LogsBegun.{AllSetNow}
 use Rattle.log_invariant.proofs.OwnExcuse.{AllowsAt}
 use Rattle.log_invariant.proofs.PassedFrames.{none_passed}
-use Rattle.log_invariant.specs.LogBegins.{MayAllow}
+use Rattle.log_invariant.specs.LogBegins.{ExcusesLeaf}
 use Rattle.log_invariant.specs.LogInvariant.{LogInvariant}
 use Rattle.mmu_core.proofs.lines.AccessParts.{AreSmall}
 use Rattle.mmu_core.proofs.machine.PartStepping.{IsPart}
@@ -32,7 +32,7 @@ use Rattle.std.specs.Prelude.{false}
 -- ---- an idle step
 
 -- Whose line isn't under way excuses nothing.
-idle_excuses : (z : Sizes) (v : View) (a gfn : ℕ) → Invariant z v → a < actors_of z → has_line (v.hand a) ≡ false → MayAllow (v.hand a) gfn → ⊥
+idle_excuses : (z : Sizes) (v : View) (a gfn : ℕ) → Invariant z v → a < actors_of z → has_line (v.hand a) ≡ false → ExcusesLeaf (v.hand a) gfn → ⊥
 idle_excuses z v a gfn I lt none =
     idle_says (λ q. AllowsAt q (v.hand a).state.line.command (v.hand a) gfn → ⊥) (v.hand a) none (I.lines a lt).under by
   where
@@ -50,15 +50,15 @@ idle_new _ t v IsSo free = tt
 pub part_leaves_kept : (z : Sizes) (v : View) (a : ℕ) (step : PartStep) (note : ℕ) → IsPart z v a step → needs_line step ≡ false
     → has_line (v.hand a) ≡ false → Invariant z v → TopicsInvariant z v → LogInvariant z v → LeavesNow z (part_stepped a step note v)
 part_leaves_kept z v a step note S free none I P G =
-    part_leaves z v a step note S P (AllGuarded z w MayAllow) (idle_new step (v.hand a).topics v (AllGuarded z w MayAllow) free)
-    (leaves_weaker z v.words (AllGuarded z v MayAllow) (AllGuarded z w MayAllow) kept G.leaves)
+    part_leaves z v a step note S P (AllGuarded z w ExcusesLeaf) (idle_new step (v.hand a).topics v (AllGuarded z w ExcusesLeaf) free)
+    (leaves_weaker z v.words (AllGuarded z v ExcusesLeaf) (AllGuarded z w ExcusesLeaf) kept G.leaves)
   where
     w : View
     w = part_stepped a step note v
 
-    kept : (gfn : ℕ) → AllGuarded z v MayAllow gfn → AllGuarded z w MayAllow gfn
+    kept : (gfn : ℕ) → AllGuarded z v ExcusesLeaf gfn → AllGuarded z w ExcusesLeaf gfn
     kept gfn =
-        idle_guarded_kept z v a step note S free P gfn MayAllow MayAllow (record {
+        idle_guarded_kept z v a step note S free P gfn ExcusesLeaf ExcusesLeaf (record {
           others = λ j lt ne excuse. excuse;
           own = λ id slot logged holds excuse. absurd (idle_excuses z v a gfn I S.there none excuse);
         })
@@ -68,14 +68,14 @@ part_leaves_kept z v a step note S free none I P G =
 -- Each step of a line keeps it, where each page is dirty after it of a slot whose log begins so.
 pub line_leaves_kept : (z : Sizes) (v : View) (a : ℕ) (line : Line) (command : Command) (p : Place) → AreSmall v → IsStep z v a line command p
     → Invariant z v → TopicsInvariant z v → LogInvariant z v → AllSetNow z (stepped a line command p v) → LeavesNow z (stepped a line command p v)
-line_leaves_kept z v a line command p small S I P G all_set up spot T table entry gfn R O leaf writes id slot logged holds =
-    by (guarded_or_passed z v a line command p small S I P G all_set up spot T table entry gfn R O leaf writes id slot logged holds)
+line_leaves_kept z v a line command p small S I P G all_marked up spot T table entry gfn R O leaf writes id slot logged holds =
+    by (guarded_or_passed z v a line command p small S I P G all_marked up spot T table entry gfn R O leaf writes id slot logged holds)
   where
     w : View
     w = stepped a line command p v
 
     by : IsGuardedNow z w (ExcusedOrPassed p (v.hand a).topics.walk
-        (hand_after line command p (v.hand a) (answer_in (task_at p command (v.hand a)) v.words)).topics.walk) slot gfn → IsGuardedNow z w MayAllow slot gfn
+        (hand_after line command p (v.hand a) (answer_in (task_at p command (v.hand a)) v.words)).topics.walk) slot gfn → IsGuardedNow z w ExcusesLeaf slot gfn
     by (inl covered) = inl covered
     by (inr (j, lt, inl excuse)) = inr (j, lt, excuse)
     by (inr (j, lt, inr passes)) = absurd (none_passed z v a line command small I P p S up spot T table entry gfn R O passes leaf writes)

@@ -19,12 +19,13 @@ use Rattle.mmu_core.specs.machine.View.{View, part_stepped, stepped, view}
 use Rattle.mmu_core.proofs.lines.AccessParts.{AreSmall}
 use Rattle.mmu_core.proofs.machine.PartStepping.{IsPart}
 use Rattle.mmu_core.proofs.machine.Stepping.{IsStep}
-use Rattle.mmu_core.proofs.machine.Worlds.{Takes, TakesPart, are_small, good_step, takes}
+use Rattle.mmu_core.proofs.machine.Worlds.{Takes, TakesPart, are_small, good_run, good_step, takes}
 use Rattle.mmu_core.proofs.start.Starts.{start_good}
 use Rattle.log_invariant.specs.Laws.{WritesAreCovered}
 use Rattle.log_invariant.specs.LogInvariant.{LogInvariant}
 use Rattle.log_invariant.proofs.AllSetKept.{all_set_kept, idle_all_set_kept}
 use Rattle.log_invariant.proofs.CachedKept.{line_cached_kept, part_cached_kept}
+use Rattle.log_invariant.proofs.CoveredKept.{found_same}
 use Rattle.log_invariant.proofs.FastKept.{fast_kept, idle_fast_kept}
 use Rattle.log_invariant.proofs.LeavesKept.{line_leaves_kept, part_leaves_kept}
 use Rattle.log_invariant.proofs.LogsBegun.{AllSetNow}
@@ -46,8 +47,8 @@ line_log_kept z v a line command p small S I P G =
       marks = marks_kept z v a line command p small S I P G;
       fast = fast_kept z v a line command p S G.fast;
       old_logs = old_logs_kept z v a line command p small S I P G.old_logs;
-      set_words = set_words_kept z v a line command p small S I P G;
-      all_set = set;
+      armed_words = set_words_kept z v a line command p small S I P G;
+      all_marked = set;
       within = within_kept z v a line command p small S I P G;
       leaves = line_leaves_kept z v a line command p small S I P G set;
       cached = line_cached_kept z v a line command p small S I P G set;
@@ -61,8 +62,8 @@ part_log_kept z v a step note S free none I P G = record {
   marks = idle_marks_kept z v a step note S free G.marks;
   fast = idle_fast_kept z v a step note G.fast;
   old_logs = idle_old_logs_kept z v a step note S free P G.old_logs;
-  set_words = idle_set_words_kept z v a step note S free none I G;
-  all_set = idle_all_set_kept z v a step note free none I G;
+  armed_words = idle_set_words_kept z v a step note S free none I G;
+  all_marked = idle_all_set_kept z v a step note free none I G;
   within = idle_within_kept z v a step note S free P G;
   leaves = part_leaves_kept z v a step note S free none I P G;
   cached = part_cached_kept z v a step note S free none I P G;
@@ -90,4 +91,11 @@ log_run z w [] G L legal = L
 log_run z w (s ∷ ss) G L legal = log_run z (effect mmu w s) ss (good_step z w s G legal.0) (log_step z w s G L legal.0) legal.1
 
 pub writes_are_covered : WritesAreCovered
-writes_are_covered z lines w ss start legal = log_run z w ss (start_good z lines w start) (start_logs z lines w start) legal
+writes_are_covered z lines w ss start legal =
+    let first : IsSound z w = start_good z lines w start in
+    let G : IsSound z (run mmu w ss) = good_run z w ss first legal in
+    let L = log_run z w ss first (start_logs z lines w start) legal in
+    record {
+      holds = L;
+      marks = λ i id gfn slot lt logged has owed. found_same z (view z (run mmu w ss)) i id gfn slot lt G.holds G.topics L logged has owed;
+    }

@@ -21,13 +21,13 @@ use Rattle.mmu_core.specs.machine.View.{View, answer_in, hand_after, stepped}
 use Rattle.mmu_core.proofs.machine.Columns.{upd_same}
 use Rattle.mmu_core.proofs.machine.Stepping.{IsStep}
 use Rattle.log_invariant.specs.Covered.{is_marked}
-use Rattle.log_invariant.specs.LogBegins.{BeginsClean, OpensLog}
+use Rattle.log_invariant.specs.LogBegins.{BeginsClean, LogIsUnwatched}
 use Rattle.log_invariant.proofs.CoveredKept.{IsGuardedNow, PublishesLog}
 use Rattle.log_invariant.proofs.PublishedLogs.{armed_stays}
 
 -- Of the log that a line is to begin, each page is marked where it begins so, in a view.
 abbrev pub AllSetNow : Sizes → View → Type 0
-AllSetNow z v = (j gfn : ℕ) (slot : SlotOf) → j < actors_of z → is_all_set z.mode ≡ true → OpensLog (v.hand j) gfn
+AllSetNow z v = (j gfn : ℕ) (slot : SlotOf) → j < actors_of z → is_all_set z.mode ≡ true → LogIsUnwatched (v.hand j) gfn
     → slot_armed (v.hand j).slots (v.hand j).state.line.command ≡ Some slot → is_marked (v.words area.Log) (page_of slot gfn) ≡ true
 
 -- The hand after the publication.
@@ -36,7 +36,7 @@ published line command h x = hand_after line command (place.SlotChange change.Pu
 
 -- A write to a guest frame of the slot is guarded after it, where a line that opens a log excuses it.
 pub begun_guarded : (z : Sizes) (v : View) (a : ℕ) (line : Line) (command : Command) (p : Place) → IsStep z v a line command p → Invariant z v
-    → (Excuses : Held → ℕ → Type 0) (gfn : ℕ) (slot : SlotOf) → ((h : Held) → OpensLog h gfn → BeginsClean h → Excuses h gfn)
+    → (Excuses : Held → ℕ → Type 0) (gfn : ℕ) (slot : SlotOf) → ((h : Held) → LogIsUnwatched h gfn → BeginsClean h → Excuses h gfn)
     → AllSetNow z (stepped a line command p v) → PublishesLog v a command p slot → contains gfn slot ≡ true
     → IsGuardedNow z (stepped a line command p v) Excuses slot gfn
 begun_guarded z v a line command p S I Excuses gfn slot excuses set begins holds = by (is_all_set z.mode) refl
@@ -59,11 +59,11 @@ begun_guarded z v a line command p S I Excuses gfn slot excuses set begins holds
     armed : slot_armed g.slots g.state.line.command ≡ Some slot
     armed = subst (λ c. slot_armed (slots_after command h.slots) c ≡ Some slot) (sym S.command_is) (armed_stays h.slots command ∙ begins.begins)
 
-    opens : OpensLog g gfn
+    opens : LogIsUnwatched g gfn
     opens = (refl, slot, armed, holds)
 
     by : (b : Bool) → is_all_set z.mode ≡ b → IsGuardedNow z w Excuses slot gfn
-    by true all = inl (inl (set a gfn slot S.there all (subst (λ (y : Held). OpensLog y gfn) (sym is) opens)
+    by true all = inl (inl (set a gfn slot S.there all (subst (λ (y : Held). LogIsUnwatched y gfn) (sym is) opens)
         (subst (λ (y : Held). slot_armed y.slots y.state.line.command ≡ Some slot) (sym is) armed)))
     by false none = inr (
       a,

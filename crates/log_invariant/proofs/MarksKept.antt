@@ -4,6 +4,7 @@ use Rattle.std.specs.Prelude.{Bool, true, false, Option, Some, None, if◌then�
 use Rattle.core_views.specs.declared.place.AccessPlace.TheVariants as access
 use Rattle.core_views.specs.declared.place.FaultPlace.{FaultPlace}
 use Rattle.core_views.specs.declared.place.FaultPlace.TheVariants as fault
+use Rattle.core_views.specs.declared.place.LogPlace.TheVariants as log
 use Rattle.core_views.specs.declared.place.Place.{Place}
 use Rattle.core_views.specs.declared.place.Place.TheVariants as place
 use Rattle.core_views.specs.declared.place.SlotChangePlace.TheVariants as change
@@ -157,6 +158,7 @@ marks_after (place.Access (access.Fault (fault.Leaf writes))) command h x gfn K 
 marks_after (place.Access (access.Fault fault.Fix)) command h x gfn K F needs was owed = absurd K
 marks_after (place.Access (access.Fault (fault.Mark fast))) command h x gfn K F needs was owed = absurd K
 marks_after (place.SlotChange change.Publish) command h x gfn K F needs was owed = absurd (was owed)
+marks_after (place.Log (log.Take begun)) command h x gfn K F needs was owed = absurd (was owed)
 marks_after p command h x gfn K F needs was owed = absurd (none p refl needs was owed)
   where
     none : (p : Place) → is_usual p ≡ true → ((step : PartStep) → part_at p command h ≡ Some step → PartNeeds step h)

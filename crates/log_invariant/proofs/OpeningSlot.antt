@@ -21,7 +21,7 @@ use Rattle.mmu_core.proofs.slots.SlotChangeKept.{change_hand}
 use Rattle.mmu_core.specs.invariant.Invariant.{Invariant, KnowsPart, RecordPart}
 use Rattle.mmu_core.specs.invariant.SlotSetPart.{IsLiveIn}
 use Rattle.mmu_core.specs.machine.View.{View}
-use Rattle.log_invariant.specs.LogBegins.{OpensLog, OpensLogAt}
+use Rattle.log_invariant.specs.LogBegins.{LogIsUnwatched, LogIsUnwatchedAt}
 
 -- The slot is live in the set that the record is of.
 armed_live : (pool : ℕ → ℕ) (set : ℕ) (slots : MemorySlots) (command : Command) (slot : SlotOf) → RecordPart pool set slots
@@ -42,7 +42,7 @@ armed_live pool set slots (GetLog id) slot R is = absurd (cc is)
 armed_live pool set slots (ClearLog id first count words) slot R is = absurd (cc is)
 
 -- Where a line begins the log of a slot with the guest frame, and others may not know of it, this slot is the published one with the guest frame.
-pub opening_is : (z : Sizes) (v : View) (j gfn id : ℕ) (slot : SlotOf) → Invariant z v → j < actors_of z → OpensLog (v.hand j) gfn
+pub opening_is : (z : Sizes) (v : View) (j gfn id : ℕ) (slot : SlotOf) → Invariant z v → j < actors_of z → LogIsUnwatched (v.hand j) gfn
     → IsLiveIn (v.words area.Pool) (v.words area.Slots 0) id slot → contains gfn slot ≡ true
     → slot_armed (v.hand j).slots (v.hand j).state.line.command ≡ Some slot
 opening_is z v j gfn id slot I lt O live holds = by h.state.place refl (I.knows j lt) O
@@ -59,7 +59,7 @@ opening_is z v j gfn id slot I lt O live holds = by h.state.place refl (I.knows 
         (ap (contains gfn) live.is ∙ holds) in
         sym there.is ∙ ap (slot_at (v.words area.Pool) set) same ∙ live.is
 
-    by : (q : Place) → h.state.place ≡ q → KnowsPart q h.state.line.command h → OpensLogAt q h.state.line.command h gfn
+    by : (q : Place) → h.state.place ≡ q → KnowsPart q h.state.line.command h → LogIsUnwatchedAt q h.state.line.command h gfn
         → slot_armed h.slots h.state.line.command ≡ Some slot
     by (place.SlotChange p) at K O =
         let manager = change_hand z j h p h.state.line.command (I.lines j lt) at refl K.0 in

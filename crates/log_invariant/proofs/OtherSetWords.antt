@@ -10,7 +10,7 @@ use Rattle.log_invariant.proofs.ArmingHands.{arming_apart, arming_manager, is_ar
 use Rattle.log_invariant.proofs.LogWords.{touch_leaves_log}
 use Rattle.log_invariant.proofs.MarkedSlots.{marks_in, marks_published}
 use Rattle.log_invariant.proofs.WordsApart.{live_aligned}
-use Rattle.log_invariant.specs.LogInvariant.{LogInvariant, SetsWordsAt}
+use Rattle.log_invariant.specs.LogInvariant.{LogInvariant, HasArmedWordsAt}
 use Rattle.mmu_core.proofs.lines.LinesKept.{one_manager}
 use Rattle.mmu_core.proofs.lines.StepIn.{Makes, StepIn, Touches}
 use Rattle.mmu_core.proofs.machine.Columns.{upd_other}
@@ -33,7 +33,7 @@ module _ (z : Sizes) (v : View) (a j : ℕ) (there : j < actors_of z) (ne : j �
   h = v.hand j
 
   abbrev Sets : (ℕ → ℕ) → Type 0
-  Sets log = SetsWordsAt h.state.place h.state.line.command h log
+  Sets log = HasArmedWordsAt h.state.place h.state.line.command h log
 
   -- The manager makes no step of another actor.
   not_manager : is_arming h.state.place ≡ true → a < actors_of z → (v.hand a).state.actor ≡ Manager → ⊥
@@ -42,7 +42,7 @@ module _ (z : Sizes) (v : View) (a j : ℕ) (there : j < actors_of z) (ne : j �
   part_sets : (step : PartStep) (note : ℕ) → IsPart z v a step
       → Sets (words_after (part_task step (own_index (v.hand a)) (v.hand a).topics note) v.words area.Log)
   part_sets part.Mark note S =
-      sets_same h.state.place h.state.line.command h (v.words area.Log) _ elsewhere (I.knows j there) (G.set_words j there)
+      sets_same h.state.place h.state.line.command h (v.words area.Log) _ elsewhere (I.knows j there) (G.armed_words j there)
     where
       t : Topics
       t = (v.hand a).topics
@@ -58,13 +58,13 @@ module _ (z : Sizes) (v : View) (a j : ℕ) (there : j < actors_of z) (ne : j �
           arming_apart z v j there I is on _ t.search.slot logged word in_log (subst (IsInLog t.search.slot) (sym e) marked))
   part_sets (part.Take word mask) note S =
       sets_same h.state.place h.state.line.command h (v.words area.Log) _ (λ is. absurd (not_manager is S.there S.needs.reads.manager)) (I.knows j there)
-      (G.set_words j there)
+      (G.armed_words j there)
   part_sets (part.Arm word bits) note S =
       sets_same h.state.place h.state.line.command h (v.words area.Log) _ (λ is. absurd (not_manager is S.there S.needs.reads.manager)) (I.knows j there)
-      (G.set_words j there)
-  part_sets _ note S = G.set_words j there
+      (G.armed_words j there)
+  part_sets _ note S = G.armed_words j there
 
   -- So they stay set with each step of another actor.
   pub task_sets : (task : Task) → StepIn z v a task → Sets (words_after task v.words area.Log)
   task_sets _ (Makes step note S) = part_sets step note S
-  task_sets _ (Touches op index) = subst Sets (sym (touch_leaves_log v.words op index)) (G.set_words j there)
+  task_sets _ (Touches op index) = subst Sets (sym (touch_leaves_log v.words op index)) (G.armed_words j there)

@@ -36,11 +36,11 @@ use Rattle.mmu_core.specs.lines.SweepSteps.{protected_at, sweep_next, swept_on}
 use Rattle.mmu_core.specs.lines.WatchSteps.{watch_next}
 use Rattle.mmu_core.specs.lines.WriteProtectSteps.{protect_next, protect_sweeps, protect_swept}
 use Rattle.mmu_core.specs.machine.Outcomes.{place_after}
-use Rattle.log_invariant.specs.LogBegins.{BeginsClean, IsAmong, IsUnsweptAt, OpensLogAt, SweepsLaterAt, is_opening}
+use Rattle.log_invariant.specs.LogBegins.{BeginsClean, IsAmong, IsUnsweptAt, LogIsUnwatchedAt, SweepsLaterAt, is_unwatched}
 
 -- What a hand excuses, of its place.
 abbrev pub AllowsAt : Place → Command → Held → ℕ → Type 0
-AllowsAt p command h gfn = (OpensLogAt p command h gfn × BeginsClean h) ⊎ SweepsLaterAt p h gfn
+AllowsAt p command h gfn = (LogIsUnwatchedAt p command h gfn × BeginsClean h) ⊎ SweepsLaterAt p h gfn
 
 -- The guest frame is one that the sweep passes with the step of its place, with the walk before and after it.
 abbrev pub PassesAt : Place → TableWalk → TableWalk → ℕ → Type 0
@@ -117,8 +117,8 @@ protect_excuse _ range command h x g gfn F among left = absurd left
 -- ---- an opening
 
 -- The line stands at another place where others may not know of the log.
-opens : (p q : SlotChangePlace) (command : Command) (h g : Held) (gfn : ℕ) → is_opening q ≡ true → g.slots ≡ h.slots
-    → g.state.sizes ≡ h.state.sizes → OpensLogAt (place.SlotChange p) command h gfn → BeginsClean h → AllowsAt (place.SlotChange q) command g gfn
+opens : (p q : SlotChangePlace) (command : Command) (h g : Held) (gfn : ℕ) → is_unwatched q ≡ true → g.slots ≡ h.slots
+    → g.state.sizes ≡ h.state.sizes → LogIsUnwatchedAt (place.SlotChange p) command h gfn → BeginsClean h → AllowsAt (place.SlotChange q) command g gfn
 opens p q command h g gfn is slots sizes O clean =
     inl ((is, O.1, subst (λ s. slot_armed s command ≡ Some O.1) (sym slots) O.2, O.3), subst (λ (z : Sizes). is_all_set z.mode ≡ false) (sym sizes) clean)
 

@@ -9,8 +9,8 @@ use Rattle.core_views.specs.declared.trace.Line.{Line}
 use Rattle.core_views.specs.declared.trace.Slot.{Slot as SlotOf}
 use Rattle.log_invariant.proofs.WithinKept.{manager_there}
 use Rattle.log_invariant.specs.Covered.{IsLoggedIn}
-use Rattle.log_invariant.specs.LogBegins.{MayUse, OpensLogAt}
-use Rattle.log_invariant.specs.LogInvariant.{AreGuarded, FastWritesAt, IsGuardedIn, LogInvariant, SetsWordsAt}
+use Rattle.log_invariant.specs.LogBegins.{ExcusesCached, LogIsUnwatchedAt}
+use Rattle.log_invariant.specs.LogInvariant.{AreGuarded, FastWritesAt, IsGuardedIn, LogInvariant, HasArmedWordsAt}
 use Rattle.mmu_core.proofs.pages.AllOver.{absent_is}
 use Rattle.mmu_core.proofs.start.StartWords.{pool_word}
 use Rattle.mmu_core.proofs.start.Starts.{hand_is, none_live}
@@ -60,7 +60,7 @@ module _ (z : Sizes) (lines : List Line) (w : World Held) (start : IsStart z lin
       let none : (h i).topics.retired ≡ None = ap (λ (x : Held). x.topics.retired) (hand_is z lines w i start lt) in cc (none, leaves)
 
   abbrev Guarded : ℕ → ℕ → Type 0
-  Guarded v = IsGuardedIn (actors_of z) (word_in z w area.Log) pool (word_in z w area.Slots 0) h (MayUse v (word_in z w area.State v))
+  Guarded v = IsGuardedIn (actors_of z) (word_in z w area.Log) pool (word_in z w area.Slots 0) h (ExcusesCached v (word_in z w area.State v))
 
   -- So what holds of dirty logs holds.
   pub start_logs : LogInvariant z (view z w)
@@ -69,9 +69,9 @@ module _ (z : Sizes) (lines : List Line) (w : World Held) (start : IsStart z lin
     marks = λ i gfn lt owed. absurd (owes_none i gfn lt owed);
     fast = λ i lt. subst (λ p. FastWritesAt p (h i).state.line.command) (sym (place_at_start i lt)) tt;
     old_logs = λ j set lt leaves. absurd (retires_none j set lt leaves);
-    set_words = λ j lt. subst (λ p. SetsWordsAt p (h j).state.line.command (h j) (word_in z w area.Log)) (sym (place_at_start j lt)) tt;
-    all_set = λ j gfn slot lt mode opens is.
-        absurd (subst (λ p. OpensLogAt p (h j).state.line.command (h j) gfn) (place_at_start j lt) opens);
+    armed_words = λ j lt. subst (λ p. HasArmedWordsAt p (h j).state.line.command (h j) (word_in z w area.Log)) (sym (place_at_start j lt)) tt;
+    all_marked = λ j gfn slot lt mode opens is.
+        absurd (subst (λ p. LogIsUnwatchedAt p (h j).state.line.command (h j) gfn) (place_at_start j lt) opens);
     within = λ id page slot logged. absurd (none_logged (word_in z w area.Slots 0) id slot logged);
     leaves = λ up spot T table entry gfn hangs over leaf. absurd (no_leaf (spot table).level (pool_index table entry) leaf);
     cached = λ v low may.

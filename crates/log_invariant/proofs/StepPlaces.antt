@@ -1,6 +1,7 @@
 -- At which places of a line its step publishes a slot set, puts or fixes a leaf, or marks a page; no line takes bits of the log.
 use Rattle.std.proofs.Common.{◌≡◌, ℕ, refl, sym, subst, ap, ◌∙◌}
 use Rattle.std.specs.Prelude.{Bool, true, false, Option, Some, None}
+use Rattle.core_views.specs.declared.actor.Actor.{Actor}
 use Rattle.core_views.specs.declared.place.AccessPlace.{AccessPlace}
 use Rattle.core_views.specs.declared.place.AccessPlace.TheVariants as access
 use Rattle.core_views.specs.declared.place.BeginPlace.{BeginPlace}
@@ -13,6 +14,8 @@ use Rattle.core_views.specs.declared.place.FaultPlace.TheVariants as fault
 use Rattle.core_views.specs.declared.place.FrameRange.{FrameRange}
 use Rattle.core_views.specs.declared.place.HostPlace.{HostPlace}
 use Rattle.core_views.specs.declared.place.HostPlace.TheVariants as host
+use Rattle.core_views.specs.declared.place.LogPlace.{LogPlace}
+use Rattle.core_views.specs.declared.place.LogPlace.TheVariants as log
 use Rattle.core_views.specs.declared.place.Place.{Place}
 use Rattle.core_views.specs.declared.place.Place.TheVariants as place
 use Rattle.core_views.specs.declared.place.SlotChangePlace.{SlotChangePlace}
@@ -32,13 +35,15 @@ use Rattle.part_steps.specs.declared.invalidations.Target.{Target}
 use Rattle.part_steps.specs.declared.part_step.PartStep.{PartStep}
 use Rattle.part_steps.specs.declared.part_step.PartStep.TheVariants as part
 use Rattle.part_steps.specs.declared.task.Task.{Task}
+use Rattle.part_steps.specs.SweepTopics.{has_entry}
 use Rattle.part_steps.specs.PartTasks.{own_index, part_task}
 use Rattle.mmu_core.specs.declared.claim.FreeMap.TheVariants as free
 use Rattle.mmu_core.specs.invariant.Invariant.{Invariant}
 use Rattle.mmu_core.specs.invariant.TopicsInvariant.{TopicsInvariant}
 use Rattle.mmu_core.specs.lines.AccessSteps.{access_part, task_by, touch_of}
 use Rattle.mmu_core.specs.lines.FaultSteps.{fault_part}
-use Rattle.mmu_core.specs.lines.Forms.{note_at, part_at, first_place}
+use Rattle.mmu_core.specs.lines.Forms.{KnowsPart, note_at, part_at, first_place}
+use Rattle.mmu_core.specs.lines.LogSteps.{log_part}
 use Rattle.mmu_core.specs.lines.HostSteps.{host_part}
 use Rattle.mmu_core.specs.lines.InvalidateSteps.{begin_part, end_part}
 use Rattle.mmu_core.specs.lines.PartAt.{task_at, touch_at}
@@ -50,6 +55,8 @@ use Rattle.mmu_core.proofs.invariant.QuietKept.{touched}
 use Rattle.mmu_core.proofs.lines.AccessParts.{AreSmall}
 use Rattle.mmu_core.proofs.lines.ClaimMade.{claim_is}
 use Rattle.mmu_core.proofs.lines.EitherPlace.{either_place}
+use Rattle.mmu_core.proofs.lines.Forms.{reads_none}
+use Rattle.mmu_core.proofs.lines.LogTold.{log_knows_reads}
 use Rattle.mmu_core.proofs.lines.ShareMade.{share_is}
 use Rattle.mmu_core.proofs.machine.PartStepping.{IsPart, is_publish, behind_part}
 use Rattle.mmu_core.proofs.machine.Stepping.{IsStep}
@@ -57,6 +64,7 @@ use Rattle.part_steps.specs.Tasks.{kind_of_task}
 use Rattle.part_steps.specs.TopicSteps.{topics_after}
 use Rattle.mmu_core.proofs.words.PartTopics.{is_there, part_topics_is}
 use Rattle.mmu_core.proofs.lines.KnowsKept.{touch_topics}
+use Rattle.core_views.specs.Traces.{IsCommandFor}
 use Rattle.core_views.specs.SlotSets.{MemorySlots}
 use Rattle.mmu_core.specs.machine.Steps.{line_at, next_line, place_at}
 
@@ -140,6 +148,7 @@ is_usual_fault _ = true
 abbrev pub is_usual : Place → Bool
 is_usual (place.Access (access.Fault p)) = is_usual_fault p
 is_usual (place.SlotChange change.Publish) = false
+is_usual (place.Log (log.Take begun)) = false
 is_usual _ = true
 
 abbrev IsUsual : PartStep → Type 0
@@ -191,6 +200,11 @@ usual_in_host (host.Begin p) page change h = usual_in_begin p _ h.topics
 usual_in_host (host.End p) page change h = usual_in_end p h.topics
 usual_in_host _ page change h = refl
 
+usual_in_log : (p : LogPlace) (h : Held) (command : Command) → is_usual (place.Log p) ≡ true → IsUsual (log_part p h command)
+usual_in_log (log.Take begun) h command usual = absurd (cc usual)
+usual_in_log (log.Walk page) h command usual = either_place IsUsual (has_entry h.topics.walk) (part.WalkAnew _) (part.Walk _) refl refl
+usual_in_log _ h command usual = refl
+
 abbrev special_by : Option PartStep → Bool
 special_by None = false
 special_by (Some step) = is_special step
@@ -203,6 +217,7 @@ usual_by : (p : Place) (command : Command) (h : Held) → is_usual p ≡ true �
 usual_by (place.Access p) (Access gfn word op) h usual = usual_in_access p gfn h.topics usual
 usual_by (place.SlotChange p) command h usual = usual_in_change p h command usual
 usual_by (place.Host p) (ChangeHost page change) h usual = usual_in_host p page change h
+usual_by (place.Log p) command h usual = usual_in_log p h command usual
 usual_by _ _ h usual = refl
 
 -- The step that such a place names isn't special.
@@ -222,24 +237,27 @@ none_usual test never p command h usual = by (part_at p command h) (usual_by p c
     by None e = refl
     by (Some step) e = never step e
 
--- ---- no line takes bits of the log
+-- ---- no line of a trace takes bits of the log
 
 none_taken : (step : PartStep) → is_special step ≡ false → takes_bits step ≡ false
 none_taken (part.Take word mask) usual = absurd (cc usual)
 none_taken _ usual = refl
 
-takes_at : (p : Place) (command : Command) (h : Held) → by_test takes_bits (part_at p command h) ≡ false
-takes_at (place.Access (access.Fault (fault.Leaf writes))) (Access gfn word op) h = refl
-takes_at (place.Access (access.Fault (fault.Leaf writes))) command h = refl
-takes_at (place.Access (access.Fault fault.Fix)) (Access gfn word op) h = refl
-takes_at (place.Access (access.Fault fault.Fix)) command h = refl
-takes_at (place.Access (access.Fault (fault.Mark fast))) (Access gfn word op) h = refl
-takes_at (place.Access (access.Fault (fault.Mark fast))) command h = refl
-takes_at (place.SlotChange change.Publish) command h = refl
-takes_at p command h = none_usual takes_bits none_taken p command h refl
+takes_at : (z : Sizes) (actor : Actor) (p : Place) (command : Command) (h : Held) → IsCommandFor z actor command → KnowsPart p command h
+    → by_test takes_bits (part_at p command h) ≡ false
+takes_at z actor (place.Access (access.Fault (fault.Leaf writes))) (Access gfn word op) h may K = refl
+takes_at z actor (place.Access (access.Fault (fault.Leaf writes))) command h may K = refl
+takes_at z actor (place.Access (access.Fault fault.Fix)) (Access gfn word op) h may K = refl
+takes_at z actor (place.Access (access.Fault fault.Fix)) command h may K = refl
+takes_at z actor (place.Access (access.Fault (fault.Mark fast))) (Access gfn word op) h may K = refl
+takes_at z actor (place.Access (access.Fault (fault.Mark fast))) command h may K = refl
+takes_at z actor (place.SlotChange change.Publish) command h may K = refl
+takes_at z actor (place.Log (log.Take begun)) command h may K = absurd (reads_none z actor command (log_knows_reads (log.Take begun) command h K) may)
+takes_at z actor p command h may K = none_usual takes_bits none_taken p command h refl
 
-pub takes_none : (p : Place) (command : Command) (h : Held) (step : PartStep) → part_at p command h ≡ Some step → takes_bits step ≡ false
-takes_none p command h step is = sym (ap (by_test takes_bits) is) ∙ takes_at p command h
+pub takes_none : (z : Sizes) (actor : Actor) (p : Place) (command : Command) (h : Held) → IsCommandFor z actor command → KnowsPart p command h
+    → (step : PartStep) → part_at p command h ≡ Some step → takes_bits step ≡ false
+takes_none z actor p command h may K step is = sym (ap (by_test takes_bits) is) ∙ takes_at z actor p command h may K
 
 -- ---- a line publishes a slot set at one place alone
 
@@ -259,6 +277,7 @@ publishes_at (place.Access (access.Fault fault.Fix)) command h other = refl
 publishes_at (place.Access (access.Fault (fault.Mark fast))) (Access gfn word op) h other = refl
 publishes_at (place.Access (access.Fault (fault.Mark fast))) command h other = refl
 publishes_at (place.SlotChange change.Publish) command h other = absurd (cc other)
+publishes_at (place.Log (log.Take begun)) command h other = refl
 publishes_at p command h other = none_usual is_publish none_published p command h refl
 
 pub publishes_none : (p : Place) (command : Command) (h : Held) (step : PartStep) → publishes p ≡ false → part_at p command h ≡ Some step

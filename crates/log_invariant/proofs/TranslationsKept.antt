@@ -38,7 +38,7 @@ use Rattle.mmu_core.proofs.lines.CachedKept.{found_is_leaf, with_leaf_all}
 use Rattle.mmu_core.proofs.machine.PartStepping.{IsPart}
 use Rattle.mmu_core.proofs.pages.Standing.{spot_of}
 use Rattle.mmu_core.proofs.pages.TreePlaces.{all_reached}
-use Rattle.log_invariant.specs.LogBegins.{FlushesLaterAt, IsUnflushedAt, MayAllow, MayUse}
+use Rattle.log_invariant.specs.LogBegins.{FlushesLaterAt, IsUnflushedAt, ExcusesLeaf, ExcusesCached}
 use Rattle.log_invariant.specs.LogInvariant.{AreGuarded, LeafIsGuarded, LogInvariant}
 use Rattle.log_invariant.proofs.CachesCarried.{AsksStill}
 use Rattle.log_invariant.proofs.CoveredKept.{AllGuarded, IsGuardedNow}
@@ -47,7 +47,7 @@ use Rattle.log_invariant.proofs.UsesExcused.{allowed_used}
 -- So it is in a view.
 abbrev pub CachedNow : Sizes → View → Type 0
 CachedNow z v = (k : ℕ) → k < z.vcpus → may_use (v.words area.State k) (v.hand k).topics.stay ≡ true
-    → AreGuarded (AllGuarded z v (MayUse k (v.words area.State k))) (v.hand k).cached.items
+    → AreGuarded (AllGuarded z v (ExcusesCached k (v.words area.State k))) (v.hand k).cached.items
 
 -- ---- excuses
 
@@ -74,7 +74,7 @@ still_flushes : (p : Place) (k state now_ : ℕ) (h : Held) (gfn : ℕ) → Asks
 still_flushes (place.SlotChange (change.WriteProtect range p)) k state now_ h gfn still F = (F.0, still_unflushed p h.topics.flush k state now_ still F.1)
 still_flushes _ k state now_ h gfn still F = absurd F
 
-pub still_excused : (k state now_ : ℕ) (h : Held) (gfn : ℕ) → AsksStill state now_ → MayUse k state h gfn → MayUse k now_ h gfn
+pub still_excused : (k state now_ : ℕ) (h : Held) (gfn : ℕ) → AsksStill state now_ → ExcusesCached k state h gfn → ExcusesCached k now_ h gfn
 still_excused k state now_ h gfn still (inl opens) = inl opens
 still_excused k state now_ h gfn still (inr F) = inr (still_flushes h.state.place k state now_ h gfn still F)
 
@@ -92,19 +92,19 @@ module _ (z : Sizes) (v : View) (a : ℕ) (P : TopicsInvariant z v) (G : LogInva
   entry gfn = v.words area.Pool (pool_index (table_page walk) (entry_index gfn walk.level))
 
   -- A leaf that its walk finds is guarded.
-  entry_guarded : (gfn : ℕ) → IsOver gfn walk → LeafIsGuarded (AllGuarded z v MayAllow) walk.level gfn (entry gfn)
+  entry_guarded : (gfn : ℕ) → IsOver gfn walk → LeafIsGuarded (AllGuarded z v ExcusesLeaf) walk.level gfn (entry gfn)
   entry_guarded gfn over =
       let at_walk = (P.held a there).table over.there in
       let here : P.spot (table_page walk) ≡ at walk.level walk.prefix = (spot_of P.up P.spot (table_page walk) (at walk.level walk.prefix) at_walk).1 in
       let span = over.span in
-      subst (λ (p : Position). LeafIsGuarded (AllGuarded z v MayAllow) p.level gfn (entry gfn)) here
+      subst (λ (p : Position). LeafIsGuarded (AllGuarded z v ExcusesLeaf) p.level gfn (entry gfn)) here
       (G.leaves P.up P.spot P.tree (table_page walk) (entry_index gfn walk.level) gfn
       (all_reached P.tree (table_page walk) (at walk.level walk.prefix) at_walk)
       (omega arith, subst (λ (p : Position). gfn / level_span p.level ≡ p.prefix * 512 + entry_index gfn walk.level) (sym here) (omega (arith, span))))
 
   -- The use of it is guarded, and so is that of each translation that is cached then.
   abbrev Guarded : List Translation → Type 0
-  Guarded items = AreGuarded (AllGuarded z v (MayUse a (v.words area.State a))) items
+  Guarded items = AreGuarded (AllGuarded z v (ExcusesCached a (v.words area.State a))) items
 
   walk_guarded : (gfn : ℕ) (allowed : Bool) → IsPart z v a (part.Walk gfn) → Guarded h.cached.items
       → Guarded (if is_found (kind_of walk.level (entry gfn)) allowed then with_leaf gfn walk.level (entry gfn) h.cached else h.cached).items
@@ -115,9 +115,9 @@ module _ (z : Sizes) (v : View) (a : ℕ) (P : TopicsInvariant z v) (G : LogInva
       by false is = each
       by true is =
           let found = found_is_leaf (kind_of walk.level (entry gfn)) allowed is in
-          with_leaf_all (λ (t : Translation). can_write t.leaf ≡ true → AllGuarded z v (MayUse a (v.words area.State a)) t.gfn)
+          with_leaf_all (λ (t : Translation). can_write t.leaf ≡ true → AllGuarded z v (ExcusesCached a (v.words area.State a)) t.gfn)
           gfn walk.level (entry gfn) h.cached
-          (λ writes. guarded_by z v MayAllow (MayUse a (v.words area.State a)) gfn
+          (λ writes. guarded_by z v ExcusesLeaf (ExcusesCached a (v.words area.State a)) gfn
           (λ g. allowed_used g.state.place a (v.words area.State a) g.state.line.command g gfn)
           (entry_guarded gfn S.needs.0 found writes)) each
 

@@ -34,7 +34,7 @@ use Rattle.mmu_core.specs.machine.Outcomes.{place_after}
 use Rattle.mmu_core.proofs.lines.EitherPlace.{either_place, one_place}
 use Rattle.mmu_core.proofs.machine.Columns.{same_or}
 use Rattle.mmu_core.proofs.machine.HandWith.{hand_with}
-use Rattle.log_invariant.specs.LogBegins.{BeginsClean, FlushesLaterAt, IsAmong, IsUnflushedAt, OpensLogAt, IsUnsweptAt, SweepsLaterAt}
+use Rattle.log_invariant.specs.LogBegins.{BeginsClean, FlushesLaterAt, IsAmong, IsUnflushedAt, LogIsUnwatchedAt, IsUnsweptAt, SweepsLaterAt}
 use Rattle.log_invariant.proofs.CachesCarried.{AsksStill}
 use Rattle.log_invariant.proofs.OwnExcuse.{AllowsAt, change_excuse}
 
@@ -42,7 +42,7 @@ use Rattle.log_invariant.proofs.OwnExcuse.{AllowsAt, change_excuse}
 
 -- The line that stands there has yet to see that nothing of the guest frame is left which virtual processor k has cached.
 abbrev pub MayUseAt : ℕ → ℕ → Place → Command → Held → ℕ → Type 0
-MayUseAt k state p command h gfn = (OpensLogAt p command h gfn × BeginsClean h) ⊎ FlushesLaterAt p h k state gfn
+MayUseAt k state p command h gfn = (LogIsUnwatchedAt p command h gfn × BeginsClean h) ⊎ FlushesLaterAt p h k state gfn
 
 -- What has yet to be swept has yet to be flushed.
 allows_use : (p : Place) (k state : ℕ) (h : Held) (gfn : ℕ) → SweepsLaterAt p h gfn → FlushesLaterAt p h k state gfn

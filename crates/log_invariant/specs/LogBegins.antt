@@ -22,20 +22,20 @@ use Rattle.mmu_core.specs.lines.Cached.{asks_flush}
 -- ---- others may not know of the log
 
 -- The new slot set is published, and the watch of the others isn't over.
-abbrev pub is_opening : SlotChangePlace → Bool
-is_opening change.Release = true
-is_opening (change.End p) = true
-is_opening change.Watch = true
-is_opening _ = false
+abbrev pub is_unwatched : SlotChangePlace → Bool
+is_unwatched change.Release = true
+is_unwatched (change.End p) = true
+is_unwatched change.Watch = true
+is_unwatched _ = false
 
 -- The line stands there, and begins the log of a slot with the guest frame.
-abbrev pub OpensLogAt : Place → Command → Held → ℕ → Type 0
-OpensLogAt (place.SlotChange p) command h gfn =
-    (is_opening p ≡ true) × (slot : SlotOf) × (slot_armed h.slots command ≡ Some slot) × (contains gfn slot ≡ true)
-OpensLogAt _ command h gfn = ⊥
+abbrev pub LogIsUnwatchedAt : Place → Command → Held → ℕ → Type 0
+LogIsUnwatchedAt (place.SlotChange p) command h gfn =
+    (is_unwatched p ≡ true) × (slot : SlotOf) × (slot_armed h.slots command ≡ Some slot) × (contains gfn slot ≡ true)
+LogIsUnwatchedAt _ command h gfn = ⊥
 
-abbrev pub OpensLog : Held → ℕ → Type 0
-OpensLog h gfn = OpensLogAt h.state.place h.state.line.command h gfn
+abbrev pub LogIsUnwatched : Held → ℕ → Type 0
+LogIsUnwatched h gfn = LogIsUnwatchedAt h.state.place h.state.line.command h gfn
 
 -- No page is to be dirty as the log begins.
 abbrev pub BeginsClean : Held → Type 0
@@ -59,15 +59,18 @@ SweepsLaterAt (place.SlotChange (change.WriteProtect range p)) h gfn = IsAmong r
 SweepsLaterAt _ h gfn = ⊥
 
 -- The hand's line has yet to forbid writes to the guest frame.
-abbrev pub MayAllow : Held → ℕ → Type 0
-MayAllow h gfn = (OpensLog h gfn × BeginsClean h) ⊎ SweepsLaterAt h.state.place h gfn
+abbrev pub ExcusesLeaf : Held → ℕ → Type 0
+ExcusesLeaf h gfn = (LogIsUnwatched h gfn × BeginsClean h) ⊎ SweepsLaterAt h.state.place h gfn
 
 -- ---- a virtual processor may use what it has cached
 
 -- The virtual processor with this state word isn't asked for a flush, or has yet to make the one that it is asked for.
+abbrev pub IsUnflushed : Flush → ℕ → ℕ → Type 0
+IsUnflushed flush v state = (flush.asked ≤ v) ⊎ ((flush.awaited ≤ v) × (asks_flush state ≡ true))
+
 abbrev pub IsUnflushedAt : WriteProtectPlace → Flush → ℕ → ℕ → Type 0
-IsUnflushedAt protect.Ask flush v state = (flush.asked ≤ v) ⊎ ((flush.awaited ≤ v) × (asks_flush state ≡ true))
-IsUnflushedAt protect.Await flush v state = (flush.asked ≤ v) ⊎ ((flush.awaited ≤ v) × (asks_flush state ≡ true))
+IsUnflushedAt protect.Ask flush v state = IsUnflushed flush v state
+IsUnflushedAt protect.Await flush v state = IsUnflushed flush v state
 IsUnflushedAt _ flush v state = Unit {0}
 
 abbrev pub FlushesLaterAt : Place → Held → ℕ → ℕ → ℕ → Type 0
@@ -75,5 +78,5 @@ FlushesLaterAt (place.SlotChange (change.WriteProtect range p)) h v state gfn = 
 FlushesLaterAt _ h v state gfn = ⊥
 
 -- The hand's line has yet to see that nothing of the guest frame is left which virtual processor v, with this state word, has cached.
-abbrev pub MayUse : ℕ → ℕ → Held → ℕ → Type 0
-MayUse v state h gfn = (OpensLog h gfn × BeginsClean h) ⊎ FlushesLaterAt h.state.place h v state gfn
+abbrev pub ExcusesCached : ℕ → ℕ → Held → ℕ → Type 0
+ExcusesCached v state h gfn = (LogIsUnwatched h gfn × BeginsClean h) ⊎ FlushesLaterAt h.state.place h v state gfn

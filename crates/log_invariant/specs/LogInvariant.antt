@@ -32,7 +32,7 @@ use Rattle.mmu_core.specs.lines.ArmKnows.{IsInLog}
 use Rattle.mmu_core.specs.lines.SlotTargets.{arm_bits, log_target}
 use Rattle.mmu_core.specs.machine.View.{View}
 use Rattle.log_invariant.specs.Covered.{IsCovered, IsLoggedIn, is_marked}
-use Rattle.log_invariant.specs.LogBegins.{MayAllow, MayUse, OpensLog}
+use Rattle.log_invariant.specs.LogBegins.{ExcusesLeaf, ExcusesCached, LogIsUnwatched}
 
 -- ---- who marks
 
@@ -67,21 +67,21 @@ pub record KeepsLogs (pool : ℕ → ℕ) (old_ new_ : ℕ) (begun : Option Slot
 -- ---- words of the log
 
 -- The words of the log that is to begin are set, of those below this one.
-abbrev pub AreSetBelow : Command → Held → (ℕ → ℕ) → ℕ → Type 0
-AreSetBelow command h log to =
+abbrev pub AreArmedBelow : Command → Held → (ℕ → ℕ) → ℕ → Type 0
+AreArmedBelow command h log to =
     (word : ℕ) → IsInLog (log_target h command) word → word < to → log word ≡ arm_bits (is_all_set h.state.sizes.mode) (log_target h command) word
 
 -- So are all before the publication.
-abbrev pub AreSet : Command → Held → (ℕ → ℕ) → Type 0
-AreSet command h log = arms command ≡ true → AreSetBelow command h log (log_end (log_target h command))
+abbrev pub AreArmed : Command → Held → (ℕ → ℕ) → Type 0
+AreArmed command h log = arms command ≡ true → AreArmedBelow command h log (log_end (log_target h command))
 
-abbrev pub SetsWordsAt : Place → Command → Held → (ℕ → ℕ) → Type 0
-SetsWordsAt (place.SlotChange (change.Arm true)) command h log = AreSetBelow command h log h.topics.next_log_word
-SetsWordsAt (place.SlotChange change.Exclude) command h log = AreSet command h log
-SetsWordsAt (place.SlotChange change.Count) command h log = AreSet command h log
-SetsWordsAt (place.SlotChange change.Close) command h log = AreSet command h log
-SetsWordsAt (place.SlotChange change.Publish) command h log = AreSet command h log
-SetsWordsAt _ command h log = Unit {0}
+abbrev pub HasArmedWordsAt : Place → Command → Held → (ℕ → ℕ) → Type 0
+HasArmedWordsAt (place.SlotChange (change.Arm true)) command h log = AreArmedBelow command h log h.topics.next_log_word
+HasArmedWordsAt (place.SlotChange change.Exclude) command h log = AreArmed command h log
+HasArmedWordsAt (place.SlotChange change.Count) command h log = AreArmed command h log
+HasArmedWordsAt (place.SlotChange change.Close) command h log = AreArmed command h log
+HasArmedWordsAt (place.SlotChange change.Publish) command h log = AreArmed command h log
+HasArmedWordsAt _ command h log = Unit {0}
 
 -- ---- what allows writes
 
@@ -104,20 +104,28 @@ AreGuarded IsSo cached = All (λ t. can_write t.leaf ≡ true → IsSo t.gfn) ca
 
 -- All parts, of the columns of words and the column of hands, of which the one after those of virtual processors and hosts is the manager's.
 pub record LogInvariantOf (z : Sizes) (root slots : ℕ) (states log role pool : ℕ → ℕ) (hand : ℕ → Held) : Type 0 where
+  -- The hand at the manager's place is the manager's.
   pub manager : (hand (z.vcpus + z.hosts)).state.actor ≡ Manager
+  -- Who owes a mark stands where it is made.
   pub marks : (i gfn : ℕ) → i < actors_of z → (hand i).topics.owed ≡ Some gfn → IsMarkingAt (hand i).state.place (hand i).state.line.command gfn
   pub fast : (i : ℕ) → i < actors_of z → FastWritesAt (hand i).state.place (hand i).state.line.command
+  -- A slot set that was replaced, and may still be held, has the logs of the published one.
   pub old_logs : (j set : ℕ) → j < actors_of z → (hand j).topics.retired ≡ Some set
       → KeepsLogs pool set slots (slot_armed (hand j).slots (hand j).state.line.command)
-  pub set_words : (j : ℕ) → j < actors_of z → SetsWordsAt (hand j).state.place (hand j).state.line.command (hand j) log
-  pub all_set : (j gfn : ℕ) (slot : SlotOf) → j < actors_of z → is_all_set z.mode ≡ true → OpensLog (hand j) gfn
+  -- The words of a log that is to begin are as they were stored.
+  pub armed_words : (j : ℕ) → j < actors_of z → HasArmedWordsAt (hand j).state.place (hand j).state.line.command (hand j) log
+  -- Where each page is dirty as a log begins, the bit of each is set while the log is unwatched.
+  pub all_marked : (j gfn : ℕ) (slot : SlotOf) → j < actors_of z → is_all_set z.mode ≡ true → LogIsUnwatched (hand j) gfn
       → slot_armed (hand j).slots (hand j).state.line.command ≡ Some slot → is_marked log (page_of slot gfn) ≡ true
+  -- In the words of a log only bits of its slot's pages are set.
   pub within : (id page : ℕ) (slot : SlotOf) → IsLoggedIn pool slots id slot → is_in_log (page / 64) slot ≡ true → is_marked log page ≡ true
       → has_host_page page slot ≡ true
+  -- A linked leaf that allows writes is covered or excused.
   pub leaves : (up : ℕ → Use) (spot : ℕ → Position) → TreePart z.pool root role pool up spot
-      → AllOver up spot pool root (LeafIsGuarded (IsGuardedIn (actors_of z) log pool slots hand MayAllow))
+      → AllOver up spot pool root (LeafIsGuarded (IsGuardedIn (actors_of z) log pool slots hand ExcusesLeaf))
+  -- So is a translation that allows writes, and that a virtual processor may use.
   pub cached : (v : ℕ) → v < z.vcpus → may_use (states v) (hand v).topics.stay ≡ true
-      → AreGuarded (IsGuardedIn (actors_of z) log pool slots hand (MayUse v (states v))) (hand v).cached.items
+      → AreGuarded (IsGuardedIn (actors_of z) log pool slots hand (ExcusesCached v (states v))) (hand v).cached.items
 
 abbrev pub LogInvariant : Sizes → View → Type 0
 LogInvariant z v =

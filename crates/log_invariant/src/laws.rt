@@ -4,7 +4,7 @@ ghost use Rattle.log_invariant.specs.Laws.{WritesAreCovered};
 /// actors in any order, from the start of every machine. A leaf that links lead to from the
 /// root, and which allows writes, over a guest frame of a slot that has a dirty log in the
 /// published slot set, is covered: the bit of the frame's page is set in the log, or an
-/// actor owes the mark that sets it. So is what a virtual processor may use of what it has
+/// actor owes a mark for the frame. So is what a virtual processor may use of what it has
 /// cached, and which allows writes. Only the line with which the log begins excuses one
 /// that isn't: a leaf, until it has watched all other actors since it published the log,
 /// and its sweep has forbidden writes there; what is cached, until the flush that it asks
@@ -14,8 +14,9 @@ ghost use Rattle.log_invariant.specs.Laws.{WritesAreCovered};
 /// a published log only bits of its slot's pages are set, and those of a log that is to
 /// begin are as it begins from their store on up to the publication. A slot set that an
 /// actor has retired has the logs of the published one, but for the one that its line begins.
-/// And who owes a mark is about to make it, in a line that writes the frame; a fast fault
-/// is one of an access that writes (locking.rst, "Fast page fault").
+/// And who owes a mark is about to make it, in a line that writes the frame, of the page that
+/// the slot gives the frame; a fast fault is one of an access that writes (locking.rst, "Fast
+/// page fault").
 pub fn writes_are_covered()
     ensures { WritesAreCovered }
 {}

@@ -12,7 +12,7 @@ use Rattle.core_views.specs.LogCommands.{asks_for, is_among}
 use Rattle.core_views.specs.Past.{Past}
 use Rattle.core_views.specs.Flat.{Facts, Flat, LineUnderWay, first_flat}
 use Rattle.core_views.specs.FlatHistory.{harvest}
-use Rattle.core_views.specs.Events.{after, after_all}
+use Rattle.core_views.specs.Events.{after_all}
 use Rattle.core_views.specs.Lawful.{IsAllowed, IsLawful}
 use Rattle.flat_laws.specs.Writes.{DueFramesAreKept, WrittenFramesAreKept}
 use Rattle.flat_laws.proofs.AloneIsLawful.{lawful_parts}

@@ -58,3 +58,14 @@ pub mod HostKept
 pub mod HostClaims
 pub mod HostMakes
 pub mod OpenedStays
+pub mod LogKnownWords
+pub mod LogKnownWalks
+pub mod LogKnown
+pub mod LogNeeds
+pub mod LogFalls
+pub mod LogPlaces
+pub mod LogTold
+pub mod LogFirst
+pub mod LogMakes
+pub mod LogKept
+pub mod StepsFew

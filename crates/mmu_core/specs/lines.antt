@@ -27,6 +27,12 @@ pub mod InvalidateKnows
 pub mod WriteProtectKnows
 pub mod HostKnows
 pub mod AccessKnows
+pub mod LogSteps
+pub mod LogKnows
+pub mod LogLeft
+pub mod LogOutcomes
+pub mod LogTells
+pub mod MayHave
 pub mod Forms
 pub mod FaultLaws
 pub mod SearchLeft

@@ -6,6 +6,7 @@
 mod claim;
 mod invalidate;
 mod laws;
+mod log_next;
 mod outcome;
 mod share;
 mod sweep;
@@ -15,6 +16,7 @@ mod write_protect;
 pub use claim::{ClaimNext, FreeMap};
 pub use invalidate::{BeginNext, EndNext};
 pub use laws::{knows, rests};
+pub use log_next::LogNext;
 pub use outcome::Outcome;
 pub use share::ShareNext;
 pub use sweep::SweepNext;

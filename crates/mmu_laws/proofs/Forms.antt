@@ -38,7 +38,11 @@ use Rattle.mmu_core.specs.machine.Steps.{delays_at}
 use Rattle.mmu_laws.proofs.turns.Nearer.{Nearer}
 use Rattle.mmu_laws.proofs.turns.HostNearer.{FindsStill, host_nearer}
 use Rattle.mmu_laws.proofs.turns.SlotChangeNearer.{slot_change_nearer}
+use Rattle.mmu_core.proofs.lines.Forms.{reads_none}
 use Rattle.mmu_core.proofs.lines.KnowsKept.{access_vcpu}
+use Rattle.mmu_core.proofs.lines.LogMakes.{none_reads}
+use Rattle.mmu_core.proofs.lines.LogTold.{log_knows_reads}
+use Rattle.core_views.specs.declared.trace.Command.TheVariants.{ClearLog, GetLog}
 use Rattle.mmu_core.proofs.machine.PartStepping.{behind_part}
 use Rattle.mmu_laws.proofs.turns.StayNearer.{access_nearer, first_of_none}
 
@@ -55,14 +59,18 @@ step_goes z v a line command (place.SlotChange p) f u S I P part K U C R =
     slot_change_goes z v a line command f.facts f.past u p K.0 S I P (part (slot_change_part p (v.hand a) command) refl) R
 step_goes z v a line (ChangeHost page change) (place.Host p) f u S I P part K U C R =
     host_goes_on z v a line page change f.facts f.past u p K S I P C (part (host_part p page change (v.hand a)) refl) R
+step_goes z v a line command (place.Log p) f u S I P part K U C R = none_reads z v a line p command S I
 step_goes z v a line _ _ f u S I P part K U C R = absurd S.holds
 
 -- A line that begins is under way, and has done nothing.
-pub first_at : (z : Sizes) (pool : ℕ → ℕ) (y : Sizes) (slots : MemorySlots) (line : Line) (command : Command) (t : Topics) (u : LineUnderWay) → u.stage ≡ Fresh
-    → u.line ≡ line → UnderAt z pool (first_place y slots command) line command t u
-first_at z pool y slots line (Access gfn word op) t u fresh is = (is, fresh)
-first_at z pool y slots line (ChangeHost page change) t u fresh is = (is, fresh)
-first_at z pool y slots line command t u fresh is = (is, first_set (change_at_once y command slots))
+pub first_at : (z : Sizes) (pool : ℕ → ℕ) (y : Sizes) (slots : MemorySlots) (line : Line) (command : Command) (t : Topics) (u : LineUnderWay)
+    → IsCommandFor z line.actor command → u.stage ≡ Fresh → u.line ≡ line → UnderAt z pool (first_place y slots command) line command t u
+first_at z pool y slots line (Access gfn word op) t u may fresh is = (is, fresh)
+first_at z pool y slots line (ChangeHost page change) t u may fresh is = (is, fresh)
+first_at z pool y slots line (GetLog id) t u may fresh is = absurd (reads_none z line.actor (GetLog id) refl may)
+first_at z pool y slots line (ClearLog id first count words) t u may fresh is =
+    absurd (reads_none z line.actor (ClearLog id first count words) refl may)
+first_at z pool y slots line command t u may fresh is = (is, first_set (change_at_once y command slots))
   where
     first_set : (r : Option (Option Refusal)) → SlotChangeUnder (slot_change_first r) z command u
     first_set None = fresh
@@ -81,4 +89,5 @@ form_nearer (place.SlotChange p) command z h v begun may rests K finds on =
     slot_change_nearer p h command v rests K.1 (first_of_none (part_waits (slot_change_part p h command) h.topics v) false on)
 form_nearer (place.Host p) (ChangeHost page change) z h v begun may rests K finds on =
     host_nearer p page change h v rests K finds (first_of_none (part_waits (host_part p page change h) h.topics v) false on)
+form_nearer (place.Log p) command z h v begun may rests K finds on = absurd (reads_none z h.state.actor command (log_knows_reads p command h K) may)
 form_nearer _ _ z h v begun may rests K finds on = absurd K

@@ -76,6 +76,7 @@ part_room part.Slot h note z few N small = λ some. N.1
 part_room part.Claim h note z few N small = (N.1, omega (arith, N.2, z.pool.1))
 part_room (part.Walk gfn) h note z few N small = λ from. span_small gfn h.topics.walk N.0
 part_room (part.Sweep gfn) h note z few N small = small refl
+part_room (part.WalkAnew gfn) h note z few N small = small refl
 part_room (part.Link gfn) h note z few N small = λ from. span_small gfn h.topics.walk N.0.saw.over
 part_room (part.Leaf gfn write) h note z few N small = λ from. span_small gfn h.topics.walk N.0.saw.over
 part_room (part.Fix gfn) h note z few N small = λ from. span_small gfn h.topics.walk N.saw.over

@@ -1,5 +1,5 @@
 -- The hand that a line's step makes, field by field.
-use Rattle.std.specs.Prelude.{Bool, Option}
+use Rattle.std.specs.Prelude.{Bool}
 use Rattle.std.proofs.Common.{◌≡◌, ℕ, suc, List, [], ◌∷◌, ◌++◌, length, refl, sym, ap, ◌∙◌, arith}
 use Rattle.std.proofs.lemmas.List.{length_push}
 use Rattle.circular_buffer.specs.Buffer.{Buffer}
@@ -19,17 +19,19 @@ use Rattle.core_views.specs.declared.hand.Progress.{Progress}
 use Rattle.core_views.specs.Held.{Held, line_under, next_line, progress_of}
 use Rattle.core_views.specs.SlotSets.{MemorySlots}
 use Rattle.mmu_core.specs.declared.outcome.Outcome.{Outcome}
-use Rattle.mmu_core.specs.lines.AccessSteps.{access_caches, use_found}
+use Rattle.mmu_core.specs.lines.AccessSteps.{access_caches}
 use Rattle.mmu_core.specs.lines.Delays.{counted, delays_counted, is_delay, steps_counted}
 use Rattle.mmu_core.specs.lines.Rests.{IsUnderWay}
 use Rattle.mmu_core.specs.machine.Steps.{delays_at, line_after}
-use Rattle.mmu_core.specs.lines.Forms.{caches_at, loads_at, outcome_at, records_at}
+use Rattle.mmu_core.specs.lines.Forms.{RestsAt, caches_at, loads_at, outcome_at, reads_at, records_at}
 use Rattle.mmu_core.specs.machine.Outcomes.{answers_after, place_after}
+use Rattle.core_views.specs.Traces.{IsCommandFor}
+use Rattle.mmu_core.proofs.lines.Forms.{reads_none}
 use Rattle.mmu_core.proofs.machine.HandAfter.{IsSameState, loads_same}
 
 -- What is cached doesn't hang on the record of slots.
 abbrev pub with_slots : Held → MemorySlots → Held
-with_slots h slots = record { state = h.state; topics = h.topics; cached = h.cached; slots = slots; lines = h.lines; answers = h.answers }
+with_slots h slots = record { state = h.state; topics = h.topics; cached = h.cached; slots = slots; harvest = h.harvest; lines = h.lines; answers = h.answers }
 
 access_caches_same : (p : AccessPlace) (h : Held) (slots : MemorySlots) (gfn : ℕ) (op : Op) (v : ℕ)
     → access_caches p (with_slots h slots) gfn op v ≡ access_caches p h gfn op v
@@ -46,12 +48,13 @@ placed s q line used steps delays f answers = record {
   topics = f.topics;
   cached = f.cached;
   slots = f.slots;
+  harvest = f.harvest;
   lines = f.lines;
   answers = answers;
 }
 
 abbrev pub with_cached : Held → Buffer Translation → MemorySlots → Held
-with_cached h c slots = record { state = h.state; topics = h.topics; cached = c; slots = slots; lines = h.lines; answers = h.answers }
+with_cached h c slots = record { state = h.state; topics = h.topics; cached = c; slots = slots; harvest = h.harvest; lines = h.lines; answers = h.answers }
 
 -- what was counted after a step that is a delay, or none
 abbrev steps_behind : Held → Bool → ℕ
@@ -60,18 +63,17 @@ steps_behind h delay = steps_counted delay (counted h.state.place h.state.steps)
 abbrev delays_behind : Held → Bool → ℕ
 delays_behind h delay = delays_counted delay (counted h.state.place h.state.delays)
 
-pub line_made : (h f : Held) (s : Progress) (line : Line) (p q : Place) (l : Line) (v : ℕ) (used : Translation) (slots : MemorySlots) (o : Outcome)
+pub line_made : (h f : Held) (line : Line) (p q : Place) (l : Line) (v : ℕ) (used : Translation) (slots : MemorySlots) (o : Outcome)
     (delay : Bool) (steps delays : ℕ) (answers : List AnsweredLine)
     → o ≡ outcome_at p line.command h v → used ≡ (loads_at p line.command h v).used
     → delay ≡ is_delay p line.command h o v → steps ≡ steps_behind h delay → delays ≡ delays_behind h delay
-    → slots ≡ records_at p line.command h.slots → f ≡ with_cached h (caches_at p line.command (with_slots h slots) v) slots → s ≡ progress_of f.state
-    → q ≡ place_after o → answers ≡ answers_after o line h.answers → l ≡ line
-    → placed s q l used steps delays f answers ≡ line_after line p h v
-line_made h f s line p q l v used slots o delay steps delays answers o_is used_is delay_is steps_is delays_is slots_is f_is s_is q_is answers_is line_is =
+    → slots ≡ records_at p line.command h.slots → f ≡ with_cached h (caches_at p line.command (with_slots h slots) v) slots
+    → q ≡ place_after o → answers ≡ answers_after o line h.answers → l ≡ line → reads_at p line.command h v ≡ h.harvest
+    → placed (progress_of f.state) q l used steps delays f answers ≡ line_after line p h v
+line_made h f line p q l v used slots o delay steps delays answers o_is used_is delay_is steps_is delays_is slots_is f_is q_is answers_is line_is reads =
     let same : IsSameState h.state (loads_at p line.command h v) = loads_same p line.command h v in
     let same_delay : delay ≡ delays_at p line.command h v = delay_is ∙ ap (λ (x : Outcome). is_delay p line.command h x v) o_is in
-    ap (λ (x : Line). placed s q x used steps delays f answers) line_is
-    ∙ ap (λ (x : Progress). placed x q line used steps delays f answers) s_is
+    ap (λ (x : Line). placed (progress_of f.state) q x used steps delays f answers) line_is
     ∙ ap (λ x. placed (progress_of f.state) q line used x delays f answers) (steps_is ∙ ap (steps_behind h) same_delay)
     ∙ ap (λ x. placed (progress_of f.state) q line used made x f answers) (delays_is ∙ ap (delays_behind h) same_delay)
     ∙ ap (λ (x : Held). placed (progress_of x.state) q line used made waits x answers) f_is
@@ -88,6 +90,7 @@ line_made h f s line p q l v used slots o delay steps delays answers o_is used_i
     ∙ ap (λ (x : List AnsweredLine). placed (progress_of (loads_at p line.command h v)) (place_after (outcome_at p line.command h v)) line
     (loads_at p line.command h v).used made waits cached x)
     (answers_is ∙ ap (λ (x : Outcome). answers_after x line h.answers) o_is)
+    ∙ ap (λ (words : List ℕ). record (line_after line p h v) { harvest = words }) (sym reads)
   where
     made : ℕ
     made = steps_behind h (delays_at p line.command h v)
@@ -97,6 +100,12 @@ line_made h f s line p q l v used slots o delay steps delays answers o_is used_i
 
     cached : Held
     cached = with_cached h (caches_at p line.command h v) (records_at p line.command h.slots)
+
+-- No line of a trace reads a log yet: what was read stays.
+pub reads_same : (p : Place) (line : Line) (h : Held) (v : ℕ) → IsCommandFor h.state.sizes line.actor line.command → RestsAt p line.command h
+    → reads_at p line.command h v ≡ h.harvest
+reads_same (place.Log p) line h v may R = absurd (reads_none h.state.sizes line.actor line.command R.0 may)
+reads_same _ line h v may R = refl
 
 -- The line that a hand has under way, or has answered last, is the one that the step was of.
 pub line_goes : (q : Place) (h : Held) → IsUnderWay q → line_under q h.lines (length h.answers) ≡ next_line h
@@ -115,8 +124,3 @@ pub filled_is : (h g f : Held) (line : Line) (p : Place) (v : ℕ) → line ≡ 
 filled_is h g f line p v line_is recorded filled =
     filled ∙ (ap (λ (x : Held). record x { cached = caches_at p (next_line x).command x v }) recorded
     ∙ ap (λ (l : Line). with_cached h (caches_at p l.command (with_slots h (records_at p l.command h.slots)) v) (records_at p l.command h.slots)) (sym line_is))
-
--- What its step found is used from then on.
-pub used_behind : (h f : Held) (found : Option Translation) (p : Progress) {c : Buffer Translation} {slots : MemorySlots} → f ≡ with_cached h c slots
-    → p ≡ progress_of f.state → use_found found p.used ≡ use_found found h.state.used
-used_behind h f found p f_is p_is = ap (λ (x : Progress). use_found found x.used) p_is ∙ ap (λ (x : Held). use_found found x.state.used) f_is

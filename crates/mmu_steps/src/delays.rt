@@ -1,12 +1,13 @@
 //! What a line counts: its steps since it began or since its last delay, and
 //! its delays.
 ghost use Rattle.std.specs.Prelude.{◌≡◌};
+ghost use Rattle.core_views.specs.Traces.{IsCommandFor};
 ghost use Rattle.mmu_core.specs.lines.Delays.{begins_anew, counted, delays_counted, is_delay, leaves_to_fault, one_more, steps_counted, walks_again};
 ghost use Rattle.mmu_core.specs.lines.Forms.{RestsAt};
 ghost use Rattle.part_steps.specs.PartBounds.{PartRests};
 
 use crate::waits::line_waits;
-use core_views::{AccessPlace, Command, FaultEnd, FaultPlace, Hand, Leaving, Place};
+use core_views::{AccessPlace, FaultEnd, FaultPlace, Hand, Leaving, Line, Place};
 use mmu_core::Outcome;
 
 // The line's fault ends with the step of this place, and begins anew.
@@ -43,16 +44,17 @@ fn leaves_to_fault(outcome: &Outcome) -> bool
 /// begins anew, or the stay after an installed entry finds no translation.
 pub(crate) fn is_delay(
     place: Place,
-    command: &Command,
+    line: &Line,
     hand: &Hand,
     outcome: &Outcome,
     found: u64,
 ) -> bool
     requires part { PartRests hand.now.core }
-    requires rests { RestsAt place command.now hand.now.core }
-    ensures { result ≡ is_delay place command.now hand.now.core outcome.now found }
+    requires line { IsCommandFor hand.now.core.state.sizes line.now.actor line.now.command }
+    requires rests { RestsAt place line.now.command hand.now.core }
+    ensures { result ≡ is_delay place line.now.command hand.now.core outcome.now found }
 {
-    line_waits(place, command, hand, found)
+    line_waits(place, line, hand, found)
         || begins_anew(place)
         || walks_again(place) && leaves_to_fault(outcome)
 }

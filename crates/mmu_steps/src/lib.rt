@@ -10,6 +10,7 @@ mod delays;
 mod fault;
 mod host;
 mod invalidate;
+mod log;
 mod parts;
 mod share;
 mod slot_change;

@@ -16,9 +16,9 @@ ghost use Rattle.part_steps.specs.TopicSteps.{HasRoom, topics_after};
 ghost use Rattle.spte_words.specs.Areas.{size_of};
 
 use crate::delays::{delays_behind, is_delay, steps_behind};
-use crate::{access, host, slot_change};
+use crate::{access, host, log, slot_change};
 use core_views::{
-    AccessPlace, AnsweredLine, Command, Hand, Kind, Line, Place, Progress, StepKind, Translation,
+    AccessPlace, AnsweredLine, Command, Hand, Kind, Line, Place, StepKind, Translation,
 };
 use mmu_core::Outcome;
 use part_steps::{PartStep, Task, kind_of, step_topics};
@@ -30,6 +30,10 @@ fn first(hand: &Hand, line: &Line) -> Place
     match &line.command {
         Command::Access { .. } => Place::Access(AccessPlace::Enter { again: false }),
         Command::ChangeHost { .. } => Place::Host(host::first(&line.command)),
+        Command::GetLog { id } | Command::ClearLog { id, .. } => {
+            let sizes = &hand.progress().sizes;
+            Place::Log(log::first(sizes, hand.slots(), &line.command, *id))
+        }
         command => {
             let sizes = &hand.progress().sizes;
             Place::SlotChange(slot_change::first(sizes, hand.slots(), command))
@@ -85,19 +89,21 @@ pub fn next_kind(hand: &Hand) -> Kind
 /// The step of a part that a line makes at this place; `None` where the guest
 /// touches a content word.
 #[tactic(auto, using(mmu_core::proofs::lines::UsedTranslations::part_needs, mmu_core::proofs::lines::LineWaits::claims_seen))]
-pub(crate) fn part_of(place: Place, command: &Command, hand: &Hand) -> Option<PartStep>
+pub(crate) fn part_of(place: Place, line: &Line, hand: &Hand) -> Option<PartStep>
     requires part { PartRests hand.now.core }
-    requires rests { RestsAt place command.now hand.now.core }
-    ensures step { result ≡ part_at place command.now hand.now.core }
+    requires line { IsCommandFor hand.now.core.state.sizes line.now.actor line.now.command }
+    requires rests { RestsAt place line.now.command hand.now.core }
+    ensures step { result ≡ part_at place line.now.command hand.now.core }
     ensures seen { result ≡ Some Claim → 0 < hand.now.core.topics.claim.seen }
     ensures frame_seen { result ≡ Some Frame → 0 < hand.now.core.topics.frames.claim.seen }
 {
-    match (place, command) {
+    match (place, &line.command) {
         (Place::Access(place), Command::Access { gfn, .. }) => access::part(place, *gfn, hand),
         (Place::SlotChange(place), command) => Some(slot_change::part(place, hand, command)),
         (Place::Host(place), Command::ChangeHost { page, change }) => {
             Some(host::part(place, *page, *change, hand))
         }
+        (Place::Log(_), _) => unreachable!(),
         _ => Some(PartStep::Seq),
     }
 }
@@ -112,7 +118,7 @@ pub fn next_step(hand: &Hand) -> Option<PartStep>
     ensures frame_seen { result ≡ Some Frame → 0 < hand.now.core.topics.frames.claim.seen }
 {
     let line = hand.line();
-    part_of(place_of(hand, line), &line.command, hand)
+    part_of(place_of(hand, line), line, hand)
 }
 
 // What is cached after the step of a place.
@@ -145,18 +151,14 @@ fn record_step(place: Place, hand: &mut Hand)
 
 // Where the line stands after the step of a place, and the translation that it uses from
 // now on, where the step found one.
-fn outcome(
-    place: Place,
-    command: &Command,
-    hand: &Hand,
-    found: u64,
-) -> (Outcome, Option<Translation>)
+fn outcome(place: Place, line: &Line, hand: &Hand, found: u64) -> (Outcome, Option<Translation>)
     requires part { PartRests hand.now.core }
-    requires rests { RestsAt place command.now hand.now.core }
-    ensures outcome { result.0 ≡ outcome_at place command.now hand.now.core found }
-    ensures used { use_found result.1 hand.now.core.state.used ≡ (loads_at place command.now hand.now.core found).used }
+    requires line { IsCommandFor hand.now.core.state.sizes line.now.actor line.now.command }
+    requires rests { RestsAt place line.now.command hand.now.core }
+    ensures outcome { result.0 ≡ outcome_at place line.now.command hand.now.core found }
+    ensures used { use_found result.1 hand.now.core.state.used ≡ (loads_at place line.now.command hand.now.core found).used }
 {
-    match (place, command) {
+    match (place, &line.command) {
         (Place::Access(place), Command::Access { gfn, op, .. }) => {
             access::outcome(place, hand, *gfn, *op, found)
         }
@@ -166,16 +168,18 @@ fn outcome(
         (Place::Host(place), Command::ChangeHost { page, change }) => {
             (host::outcome(place, *page, *change, hand, found), None)
         }
+        (Place::Log(_), _) => unreachable!(),
         _ => (Outcome::Goes(place), None),
     }
 }
 
-// The translation is used from now on, if there is one.
-fn use_translation(progress: &mut Progress, found: Option<Translation>)
-    ensures { progress.new ≡ record progress.old { used = use_found found progress.old.used } }
+// The translation that the line uses from now on: the one that was found, if there is one.
+fn used_behind(found: Option<Translation>, hand: &Hand) -> Translation
+    ensures { result ≡ use_found found hand.now.core.state.used }
 {
-    if let Some(translation) = found {
-        progress.used = translation;
+    match found {
+        Some(translation) => translation,
+        None => hand.progress().used,
     }
 }
 
@@ -193,20 +197,17 @@ fn advance_line(hand: &mut Hand, place: Place, found: u64)
 {
     let line = hand.line();
     let (number, actor) = (line.number, line.actor);
-    let (outcome, used) = outcome(place, &line.command, hand, found);
-    let delay = is_delay(place, &line.command, hand, &outcome, found);
+    let (outcome, translation) = outcome(place, line, hand, found);
+    let used = used_behind(translation, hand);
+    let delay = is_delay(place, line, hand, &outcome, found);
     let steps = steps_behind(delay, hand);
     let delays = delays_behind(delay, hand);
     record_step(place, hand);
     fill_cache(place, hand, found);
-    let progress = hand.progress_mut();
-    use_translation(progress, used);
-    progress.steps = steps;
-    progress.delays = delays;
     match outcome {
-        Outcome::Goes(place) => progress.place = place,
+        Outcome::Goes(place) => hand.go_on(place, used, steps, delays),
         Outcome::Ends(answer) => {
-            progress.place = Place::Between;
+            hand.go_on(Place::Between, used, steps, delays);
             hand.answer(AnsweredLine {
                 number,
                 actor,

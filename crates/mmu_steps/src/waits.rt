@@ -1,5 +1,6 @@
 //! Which steps wait for another actor.
 ghost use Rattle.std.specs.Prelude.{◌≡◌, ◌<◌, Some};
+ghost use Rattle.core_views.specs.Traces.{IsCommandFor};
 ghost use Rattle.mmu_core.specs.lines.Delays.{line_waits, waits_by};
 ghost use Rattle.mmu_core.specs.lines.PartWaits.{own_open, part_waits, saw_open};
 ghost use Rattle.mmu_core.specs.lines.Forms.{RestsAt};
@@ -7,7 +8,7 @@ ghost use Rattle.part_steps.specs.declared.part_step.PartStep.TheVariants.{Claim
 ghost use Rattle.part_steps.specs.PartBounds.{PartRests};
 
 use crate::step::part_of;
-use core_views::{Checked, Command, Hand, Hold, Invalidations, Place, Topics};
+use core_views::{Checked, Hand, Hold, Invalidations, Line, Place, Topics};
 use part_steps::{PartStep, has_to_flush, in_section, is_won};
 
 // How many are open of the actor's own.
@@ -60,10 +61,11 @@ pub fn waits_by(step: Option<PartStep>, topics: &Topics, found: u64) -> bool
 
 /// The step of a line waits for another actor, where it found this: it is the
 /// step of a part that waits, whatever the line is.
-pub(crate) fn line_waits(place: Place, command: &Command, hand: &Hand, found: u64) -> bool
+pub(crate) fn line_waits(place: Place, line: &Line, hand: &Hand, found: u64) -> bool
     requires part { PartRests hand.now.core }
-    requires rests { RestsAt place command.now hand.now.core }
-    ensures { result ≡ line_waits place command.now hand.now.core found }
+    requires line { IsCommandFor hand.now.core.state.sizes line.now.actor line.now.command }
+    requires rests { RestsAt place line.now.command hand.now.core }
+    ensures { result ≡ line_waits place line.now.command hand.now.core found }
 {
-    waits_by(part_of(place, command, hand), hand.topics(), found)
+    waits_by(part_of(place, line, hand), hand.topics(), found)
 }

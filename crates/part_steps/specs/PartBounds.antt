@@ -54,6 +54,7 @@ pub record PartRests (h : Held) : Type 0 where
   pub level : h.topics.walk.level ≤ 4
   pub table : 1 ≤ h.topics.walk.level → table_page h.topics.walk < h.state.sizes.pool
   pub above : 1 ≤ h.topics.walk.level → table_page (gone_up h.topics.walk) < h.state.sizes.pool
+  pub root : 1 ≤ h.topics.walk.level → h.topics.walk.root < h.state.sizes.pool
   pub set : (k : ℕ) → h.topics.search.set ≡ Some k → k < h.state.sizes.pool
   pub page : (o : OwnedPage) → h.topics.owned ≡ Some o → o.page < h.state.sizes.pool
   pub left : (k : ℕ) → h.topics.retired ≡ Some k → k < h.state.sizes.pool

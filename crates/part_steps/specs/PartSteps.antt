@@ -20,10 +20,10 @@ use Rattle.part_steps.specs.FrameHoldings.{MayCopy, MayGiveFrame, MayStore, revi
 use Rattle.part_steps.specs.PartHoldings.{next_watched, OwnsPage, HasToFill, HasRoleToSet, HoldsSet, IsOver, MayBring, OwnsTable, MayEnter}
 use Rattle.part_steps.specs.PartHoldings.{MayFix, MayGiveOld, MayMark, MayPublish, SawNoWrites}
 use Rattle.part_steps.specs.InvalidationHoldings.{MayAsk, MayChange, MayCount, MayEndInvalidation, MaySetEnd, MaySetStart}
-use Rattle.part_steps.specs.SweepHoldings.{MaySweep, MayZap}
+use Rattle.part_steps.specs.SweepHoldings.{MaySweep, MayWalkAnew, MayZap}
 use Rattle.part_steps.specs.LogHoldings.{MayArm, MayProtect, MayReadLog, MayTake}
 use Rattle.part_steps.specs.InvalidationRange.{has_found_looked}
-use Rattle.part_steps.specs.SweepTopics.{is_sweeping}
+use Rattle.part_steps.specs.SweepTopics.{is_sweeping, walks_anew}
 use Rattle.part_steps.specs.StayTopics.{is_alone}
 
 abbrev pub IsVcpu : Actor → Type 0
@@ -52,6 +52,7 @@ needs_line part.Publish = true
 needs_line part.Clear = true
 needs_line part.GiveOld = true
 needs_line (part.Sweep gfn) = true
+needs_line (part.WalkAnew gfn) = true
 needs_line (part.SetStart first gfn) = true
 needs_line (part.SetEnd last gfn) = true
 needs_line (part.SetCount count) = true
@@ -96,8 +97,9 @@ PartNeeds part.Count h = Unit {0}
 PartNeeds part.RangeStart h = Unit {0}
 PartNeeds part.RangeEnd h = Unit {0}
 PartNeeds part.Root h = Unit {0}
-PartNeeds (part.Walk gfn) h = IsOver gfn h.topics.walk × (is_sweeping h.topics ≡ false)
+PartNeeds (part.Walk gfn) h = IsOver gfn h.topics.walk × (is_sweeping h.topics ≡ false) × (walks_anew h.topics ≡ false)
 PartNeeds (part.Sweep gfn) h = MaySweep gfn h.topics
+PartNeeds (part.WalkAnew gfn) h = MayWalkAnew gfn h.topics
 PartNeeds (part.Link gfn) h =
     MayEnter gfn h.topics × (2 ≤ h.topics.walk.level) × (kind_of h.topics.walk.level h.topics.walk.entry ≡ entry_kind.Absent)
     × OwnsTable (h.topics.walk.level - 1) h.topics

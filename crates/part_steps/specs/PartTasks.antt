@@ -25,7 +25,7 @@ use Rattle.part_steps.specs.Tasks.{kind_of_task, loads, map_of}
 use Rattle.part_steps.specs.FrameTopics.{frame_owned, word_held}
 use Rattle.part_steps.specs.PageTopics.{tried_bit}
 use Rattle.part_steps.specs.ControlBits.{guest_bits, request_bit, section_bit, writer}
-use Rattle.part_steps.specs.SweepTopics.{gone_up}
+use Rattle.part_steps.specs.SweepTopics.{at_top, gone_up}
 
 -- the number that keeps all bits but these
 abbrev pub all_but : ℕ → ℕ
@@ -85,6 +85,7 @@ part_task part.Root own t note = loads kind.Control area.Root 0 note
 part_task (part.Walk gfn) own t note = loads kind.Walk area.Pool (pool_index (table_page t.walk) (entry_index gfn t.walk.level)) note
 part_task (part.Sweep gfn) own t note =
     loads kind.Walk area.Pool (pool_index (table_page (gone_up t.walk)) (entry_index gfn (gone_up t.walk).level)) note
+part_task (part.WalkAnew gfn) own t note = loads kind.Walk area.Pool (pool_index (table_page (at_top t.walk)) (entry_index gfn 4)) note
 part_task (part.Link gfn) own t note = entry_task gfn (link_written t) t.walk note
 part_task (part.Leaf gfn write) own t note = entry_task gfn (leaf_written write t) t.walk note
 part_task (part.Fix gfn) own t note = entry_task gfn (leaf_fixed t) t.walk note

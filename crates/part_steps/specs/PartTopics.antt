@@ -12,7 +12,7 @@ use Rattle.part_steps.specs.FrameTopics.{frame_after, frame_given, frame_tried, 
 use Rattle.part_steps.specs.InvalidationRange.{page_aimed}
 use Rattle.part_steps.specs.PartTasks.{entry_index, leaf_fixed, leaf_written, link_written, page_looked, word_looked}
 use Rattle.part_steps.specs.StayTopics.{begun, flush_kept, has_lock, is_loose, kept_search, let_go, may_search, may_walk, unchecked}
-use Rattle.part_steps.specs.SweepTopics.{gone_up}
+use Rattle.part_steps.specs.SweepTopics.{at_top, gone_up}
 use Rattle.part_steps.specs.WalkTopics.{gone_down, owed_after, still_owned, swapped, walked}
 use Rattle.part_steps.specs.PageTopics.{claimed, filled_more, given_back, published, searched, tried}
 use Rattle.part_steps.specs.ControlTopics.{at_root, at_set, count_checked, end_known, range_checked}
@@ -77,6 +77,7 @@ part_topics part.RangeEnd t v = record t { invalidations = record t.invalidation
 part_topics part.Root t v = record t { walk = at_root (may_walk t.stay t.hold) t.walk v }
 part_topics (part.Walk gfn) t v = record t { walk = walked t.walk (entry_index gfn t.walk.level) v }
 part_topics (part.Sweep gfn) t v = record t { walk = walked (gone_up t.walk) (entry_index gfn (gone_up t.walk).level) v }
+part_topics (part.WalkAnew gfn) t v = record t { walk = walked (at_top t.walk) (entry_index gfn 4) v }
 part_topics (part.Link gfn) t v = exchanged (v == t.walk.entry) (entry_index gfn t.walk.level) (link_written t) t v
 part_topics (part.Leaf gfn write) t v = exchanged (v == t.walk.entry) (entry_index gfn t.walk.level) (leaf_written write t) t v
 part_topics (part.Fix gfn) t v = exchanged (v == t.walk.entry) (entry_index gfn t.walk.level) (leaf_fixed t) t v
@@ -115,7 +116,7 @@ part_topics part.Frame t v = record t { frames = frame_tried t.frames v }
 part_topics (part.Copy index) t v = record t { frames = record t.frames { owned = word_copied t.frames.owned v } }
 part_topics (part.Store index) t v = record t { frames = record t.frames { owned = word_stored t.frames.owned } }
 part_topics part.GiveFrame t v = record t { frames = frame_given t.frames }
-part_topics (part.Take word mask) t v = t
+part_topics (part.Take word mask) t v = record t { next_log_word = word + 1 }
 part_topics (part.Protect gfn) t v = record t { walk = gone_down None t.walk (entry_index gfn t.walk.level) (without_write t.walk.entry) }
-part_topics (part.Peek word) t v = t
+part_topics (part.Peek word) t v = record t { next_log_word = word + 1 }
 part_topics (part.Arm word bits) t v = record t { next_log_word = word + 1 }

@@ -26,9 +26,21 @@ gone_up_once walk = record walk {
 abbrev pub gone_up : TableWalk → TableWalk
 gone_up walk = gone_up_once (gone_up_once (gone_up_once walk))
 
+-- An entry was loaded in the table that the walk has come to.
+abbrev pub has_entry : TableWalk → Bool
+has_entry walk = nat_lt walk.index 512
+
+-- The actor has the lock alone, outside of every section, sweeps nothing, and has loaded an entry that leads no further: its walk begins anew at its root.
+abbrev pub walks_anew : Topics → Bool
+walks_anew t = is_outside t.stay && (is_alone t.hold && (not (t.invalidations.opened || is_some t.retired) && has_entry t.walk))
+
+-- the walk, as it stands at its root
+abbrev pub at_top : TableWalk → TableWalk
+at_top walk = record walk { level = 4; prefix = 0; index = 512 }
+
 -- the walk from which the next entry is loaded
 abbrev pub walk_on : Topics → TableWalk
-walk_on t = if is_sweeping t then gone_up t.walk else t.walk
+walk_on t = if is_sweeping t then gone_up t.walk else if walks_anew t then at_top t.walk else t.walk
 
 -- A sweep that zaps leaves, or forbids writes in them, has nothing to do at an entry of this kind, which allows writes or doesn't: it is no link, and no such
 -- leaf.
@@ -38,10 +50,7 @@ has_done zaps writes Leaf = not (zaps || writes)
 has_done zaps writes Absent = true
 has_done zaps writes Frozen = true
 
--- An entry was loaded in the table that the walk has come to; and there is nothing to do at it.
-abbrev pub has_entry : TableWalk → Bool
-has_entry walk = nat_lt walk.index 512
-
+-- There is nothing to do at the entry that was loaded last.
 abbrev pub is_done : Bool → TableWalk → Bool
 is_done zaps walk = has_done zaps (can_write walk.entry) (kind_of walk.level walk.entry)
 

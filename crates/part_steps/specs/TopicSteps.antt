@@ -94,10 +94,10 @@ topics_by kind.Swap z k t v = record t {
   owed = if is_in_table t.walk then owed_after (v == k.old) t.search.logged t.walk (index_in_page z k.word) k.new t.owed else t.owed;
 }
 topics_by kind.Mark z k t v = record t { owed = None }
-topics_by kind.Take z k t v = t
+topics_by kind.Take z k t v = record t { next_log_word = (k.word - log_begins z) + 1 }
 topics_by kind.Protect z k t v =
     record t { walk = if is_in_table t.walk then gone_down None t.walk (index_in_page z k.word) (without_write t.walk.entry) else t.walk }
-topics_by kind.Peek z k t v = t
+topics_by kind.Peek z k t v = record t { next_log_word = (k.word - log_begins z) + 1 }
 topics_by kind.Arm z k t v = record t { next_log_word = (k.word - log_begins z) + 1 }
 
 -- what is held after a step that answered v

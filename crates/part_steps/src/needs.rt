@@ -4,11 +4,11 @@ ghost use Rattle.part_steps.specs.PartBounds.{PartRests};
 ghost use Rattle.part_steps.specs.PartTasks.{page_owned};
 ghost use Rattle.part_steps.specs.PartHoldings.{IsOver, next_watched};
 ghost use Rattle.part_steps.specs.PartSteps.{PartNeeds, needs_line};
-ghost use Rattle.part_steps.specs.SweepTopics.{is_sweeping};
+ghost use Rattle.part_steps.specs.SweepTopics.{is_sweeping, walks_anew};
 
 use crate::invalidations::has_found_looked;
 use crate::part_step::{PartStep, span_of, words_filled};
-use crate::sweep::is_sweeping;
+use crate::sweep::{is_sweeping, walks_anew};
 use crate::task::map_of;
 use core_views::{Actor, Hand, Hold, MapClaim, OwnedPage, Stay, TableWalk};
 use spte_words::Area;
@@ -47,6 +47,7 @@ pub fn needs_line(step: PartStep) -> bool
 {
     match step {
         PartStep::Link(_) | PartStep::Leaf { .. } | PartStep::Sweep(_) | PartStep::Zap(_) => true,
+        PartStep::WalkAnew(_) => true,
         PartStep::Fix(_) | PartStep::Mark => true,
         PartStep::Publish | PartStep::Clear | PartStep::GiveOld => true,
         PartStep::SetStart { .. } | PartStep::SetEnd { .. } => true,
@@ -103,7 +104,9 @@ pub fn has_needs(hand: &Hand, step: PartStep) -> bool
                 && topics.search.id <= 31
                 && !(topics.hold == Hold::Exclusive && has_found_looked(topics))
         }
-        PartStep::Walk(gfn) => is_over(gfn, &topics.walk) && !is_sweeping(topics),
+        PartStep::Walk(gfn) => {
+            is_over(gfn, &topics.walk) && !is_sweeping(topics) && !walks_anew(topics)
+        }
         PartStep::Host(page) => page < sizes.pages && topics.hold != Hold::Exclusive,
         PartStep::Watch(index) => {
             index < sizes.actors()

@@ -22,7 +22,7 @@ ghost use Rattle.part_steps.specs.declared.part_step.PartStep.TheVariants.{Enter
 use crate::control_words::{GUEST_BITS, REQUEST_BIT, SECTION_BIT, WRITER};
 use crate::frames::{frame_owned, word_held};
 use crate::slot_words::{leaf_of, page_of, slot_word};
-use crate::sweep::go_up;
+use crate::sweep::{begin_anew, go_up};
 use crate::task::{Task, kind_of, map_of};
 use crate::topics::tried_bit;
 use core_views::{
@@ -80,6 +80,8 @@ pub enum PartStep {
     Walk(u64),
     /// Loads the next entry of a sweep, over this guest frame.
     Sweep(u64),
+    /// Loads the entry of this guest frame in the root of its walk, which begins anew there.
+    WalkAnew(u64),
     /// Links the page that it owns as a table, at the entry of this guest frame.
     Link(u64),
     /// Puts the leaf of this guest frame's page at its entry, for an access that writes or
@@ -534,6 +536,11 @@ pub fn part_task(hand: &Hand, step: PartStep, note: u64) -> Task
         PartStep::Sweep(gfn) => {
             let mut at = topics.walk;
             go_up(&mut at);
+            walk(map, &at, gfn, note)
+        }
+        PartStep::WalkAnew(gfn) => {
+            let mut at = topics.walk;
+            begin_anew(&mut at);
             walk(map, &at, gfn, note)
         }
         PartStep::Link(gfn) => enter(map, &topics.walk, gfn, link(topics.owned), note),

@@ -3,7 +3,7 @@
 //! how far its walk has come, and where it goes on.
 ghost use Rattle.std.specs.Prelude.{◌≡◌, ◌≤◌, ◌<◌, ◌^◌, true};
 ghost use Rattle.part_steps.specs.PartTasks.{entry_index};
-ghost use Rattle.part_steps.specs.SweepTopics.{entry_end, entry_start, gone_up, gone_up_once, has_entry, is_done, is_sweeping, swept_to};
+ghost use Rattle.part_steps.specs.SweepTopics.{at_top, entry_end, entry_start, gone_up, gone_up_once, has_entry, is_done, is_sweeping, swept_to, walks_anew};
 ghost use Rattle.part_steps.specs.WalkTopics.{walked};
 
 use crate::part_step::entry_index;
@@ -42,6 +42,27 @@ pub(crate) fn is_sweeping(topics: &Topics) -> bool
     topics.stay == Stay::Outside
         && topics.hold == Hold::Exclusive
         && (topics.invalidations.opened || topics.retired.is_some())
+}
+
+// The walk stands at its root.
+pub(crate) fn begin_anew(walk: &mut TableWalk)
+    ensures top { walk.new ≡ at_top walk.old }
+    ensures less { walk.new.prefix ≤ walk.old.prefix }
+{
+    walk.level = 4;
+    walk.prefix = 0;
+    walk.index = 512;
+}
+
+// Whether the actor has the lock alone, outside of every section, sweeps nothing, and has loaded
+// an entry that leads no further.
+pub(crate) fn walks_anew(topics: &Topics) -> bool
+    ensures { result ≡ walks_anew topics.now }
+{
+    topics.stay == Stay::Outside
+        && topics.hold == Hold::Exclusive
+        && !(topics.invalidations.opened || topics.retired.is_some())
+        && has_entry(&topics.walk)
 }
 
 /// Whether an entry was loaded in the table that the walk has come to.

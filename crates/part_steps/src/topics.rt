@@ -19,7 +19,7 @@ ghost use Rattle.part_steps.specs.TopicSteps.{HasRoom, host_begins, host_changed
 use crate::control_words::{has_lock, has_to_flush, has_writer, in_section, is_word_of};
 use crate::frames::{claim_frame, copy_word, give_frame, move_frame, store_word};
 use crate::invalidations::page_aimed;
-use crate::sweep::{go_up, is_sweeping};
+use crate::sweep::{begin_anew, go_up, is_sweeping, walks_anew};
 use crate::task::map_of;
 use core_views::{
     Checked, Flush, Hold, HostLook, Invalidations, Kind, MapClaim, OwnedPage, Sizes, SlotField,
@@ -141,6 +141,8 @@ fn walk_on(topics: &Topics) -> TableWalk
     let mut at = topics.walk;
     if is_sweeping(topics) {
         go_up(&mut at);
+    } else if walks_anew(topics) {
+        begin_anew(&mut at);
     }
     at
 }
@@ -608,7 +610,8 @@ pub fn step_topics(sizes: &Sizes, kind: Kind, topics: &mut Topics, found: u64)
             topics.watched = state_index(kind.word) + if in_section(found) { 0 } else { 1 };
         }
         StepKind::Read | StepKind::Write | StepKind::Add => {}
-        StepKind::Arm => topics.next_log_word = log_index(sizes, kind.word) + 1,
-        StepKind::Take | StepKind::Peek => {}
+        StepKind::Take | StepKind::Peek | StepKind::Arm => {
+            topics.next_log_word = log_index(sizes, kind.word) + 1;
+        }
     }
 }

@@ -17,6 +17,7 @@ needs_at : (p : Place) (c : Command) (h : Held) → RestsAt p c h → IfSome (pa
 needs_at (place.Access p) (Access gfn word op) h R = part_needs (access_part p gfn h.topics) gfn (is_write op) h R
 needs_at (place.SlotChange p) command h R = R.1
 needs_at (place.Host p) (ChangeHost page change) h R = R.0
+needs_at (place.Log p) command h R = R.1
 needs_at place.Between c h R = tt
 needs_at _ _ h R = absurd R
 

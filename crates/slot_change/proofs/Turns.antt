@@ -11,7 +11,7 @@ use Rattle.core_views.specs.declared.place.Place.TheVariants as place
 use Rattle.core_views.specs.declared.place.SlotChangePlace.{SlotChangePlace}
 use Rattle.core_views.specs.declared.place.SlotChangePlace.TheVariants.{Begin, End}
 use Rattle.core_views.specs.declared.trace.Command.{Command}
-use Rattle.core_views.specs.declared.trace.Command.TheVariants.{Access, ChangeHost}
+use Rattle.core_views.specs.declared.trace.Command.TheVariants.{Access, ChangeHost, ClearLog, GetLog}
 use Rattle.core_views.specs.Held.{Held}
 use Rattle.core_views.specs.SlotCommands.{change_at_once}
 use Rattle.part_steps.specs.PartTasks.{part_kind}
@@ -54,9 +54,12 @@ stands_there : (q : Place) (p : SlotChangePlace) (c : Command) (h : Held) → h.
     → StandsThere p h
 stands_there place.Between p (Access gfn word op) h is stands = absurd (cc stands)
 stands_there place.Between p (ChangeHost page change) h is stands = absurd (cc stands)
+stands_there place.Between p (GetLog id) h is stands = absurd (cc stands)
+stands_there place.Between p (ClearLog id first count words) h is stands = absurd (cc stands)
 stands_there place.Between p c h is stands = first_is_there (change_at_once h.state.sizes c h.slots) p h stands
 stands_there (place.Access a) p c h is stands = absurd (cc stands)
 stands_there (place.Host a) p c h is stands = absurd (cc stands)
+stands_there (place.Log a) p c h is stands = absurd (cc stands)
 stands_there (place.SlotChange a) (Begin b) c h is stands = is ∙ stands
 stands_there (place.SlotChange a) (End e) c h is stands = is ∙ stands
 stands_there (place.SlotChange a) _ c h is stands = tt

@@ -8,7 +8,7 @@ ghost use Rattle.step_seats.specs.LineTurns.{Says, TurnsLine, answer_given, turn
 
 use core_views::{Command, Hand, Line, NoMemory, Place};
 use host_events::HostJob;
-use mmu_core::knows;
+use mmu_core::rests;
 use slot_change::SlotJob;
 use step_seats::{Stepper, Turn};
 use vcpu_run::AccessJob;
@@ -41,7 +41,7 @@ impl LineJob {
                 LineJob::SlotChange(SlotJob { index })
             }
             Command::GetLog { .. } | Command::ClearLog { .. } => {
-                knows(hand);
+                rests(hand);
                 unreachable!()
             }
         }

@@ -24,7 +24,7 @@ use Rattle.core_theorem.proofs.Turns.{counts_are_few, steps_are_few}
 use Rattle.core_theorem.proofs.Pages.{pages_are_used}
 use Rattle.core_theorem.proofs.PauseSeen.{pause_is_seen_in_stay}
 use Rattle.core_theorem.proofs.Runs.{before, may_last, sound, starts_between}
-use Rattle.core_theorem.proofs.SetsCleared.{returned_sets_are_cleared}
+use Rattle.core_theorem.proofs.SetsAlwaysCleared.{returned_sets_are_cleared}
 use Rattle.core_theorem.proofs.WalksKept.{held_leaves_are_linked, walks_hold_tables}
 use Rattle.mmu_laws.proofs.flat.ArmedSlots.{armed_slots_are_covered}
 use Rattle.mmu_laws.proofs.flat.EveryLog.{every_log}

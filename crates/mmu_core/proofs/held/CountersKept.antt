@@ -14,7 +14,7 @@ use Rattle.spte_words.specs.declared.area.Area.TheVariants as area
 use Rattle.spte_words.specs.Areas.{pool_index, words_of_bits}
 use Rattle.spte_words.specs.Entries.{without_write}
 use Rattle.spte_words.proofs.ProtectedEntries.{protected_least}
-use Rattle.part_steps.specs.SweepTopics.{gone_up}
+use Rattle.part_steps.specs.SweepTopics.{at_top, gone_up}
 use Rattle.part_steps.specs.declared.part_step.PartStep.{PartStep}
 use Rattle.part_steps.specs.declared.part_step.PartStep.TheVariants as part
 use Rattle.part_steps.specs.PartBounds.{CountersPart, FrameCountersPart}
@@ -32,7 +32,7 @@ use Rattle.mmu_core.specs.machine.View.{View, part_stepped, upd}
 use Rattle.mmu_core.proofs.held.FrameCounters.{changed_frames, copied_frames, given_frames, map_frames, stored_frames, tried_frames}
 use Rattle.mmu_core.proofs.held.FrameCounters.{flush_few, one_more, one_more_unless, seq_few, tried_at, tried_seen}
 use Rattle.mmu_core.proofs.held.InvalidationsKept.{count_few, counts_behind}
-use Rattle.mmu_core.proofs.held.WalkSpans.{exchanged_span, gone_span, let_go_span, root_span, exchanged_entry, gone_entry}
+use Rattle.mmu_core.proofs.held.WalkSpans.{exchanged_span, gone_span, let_go_span, over_top, root_span, exchanged_entry, gone_entry}
 use Rattle.mmu_core.proofs.machine.PartStepping.{IsPart}
 use Rattle.mmu_core.proofs.words.PartTopics.{behind_step}
 use Rattle.spte_words.specs.declared.area.Area.{Area}
@@ -200,6 +200,8 @@ counters_behind z v a note part.Root = λ S I.
 counters_behind z v a note (part.Walk gfn) = λ S I. all_count z v a _ I (loaded_counts z v a gfn (v.hand a).topics.walk S.small I S.there S.needs.0)
 counters_behind z v a note (part.Sweep gfn) = λ S I.
     all_count z v a _ I (loaded_counts z v a gfn (gone_up (v.hand a).topics.walk) S.small I S.there S.needs.over)
+counters_behind z v a note (part.WalkAnew gfn) = λ S I.
+    all_count z v a _ I (loaded_counts z v a gfn (at_top (v.hand a).topics.walk) S.small I S.there (over_top gfn (v.hand a).topics.walk S.needs.small))
 counters_behind z v a note (part.Link gfn) = λ S I.
     all_count z v a _ I (exchanged_counts z v a gfn _ S.small I S.there S.needs.0.saw.over S.written)
 counters_behind z v a note (part.Leaf gfn write) = λ S I.

@@ -17,7 +17,7 @@ use Rattle.part_steps.specs.PartTasks.{entry_index, leaf_written, link_written, 
 use Rattle.part_steps.specs.PartTopics.{exchanged}
 use Rattle.mmu_core.specs.invariant.TopicsInvariant.{TopicsInvariant}
 use Rattle.part_steps.specs.StayTopics.{is_loose, may_walk}
-use Rattle.part_steps.specs.SweepTopics.{gone_up}
+use Rattle.part_steps.specs.SweepTopics.{at_top, gone_up}
 use Rattle.part_steps.specs.WalkTopics.{linked_page}
 use Rattle.part_steps.specs.ControlBits.{has_writer}
 use Rattle.mmu_core.specs.invariant.TreePart.{Position, at, stands}
@@ -31,7 +31,7 @@ use Rattle.mmu_core.proofs.pages.Standing.{at_spot, entry_now, position_below, s
 use Rattle.mmu_core.proofs.pages.TreePlaces.{root_stands}
 use Rattle.mmu_core.proofs.pages.UsesStay.{stays_standing}
 use Rattle.mmu_core.proofs.pages.Owned.{table_owned}
-use Rattle.mmu_core.proofs.pages.Paths.{up_stands}
+use Rattle.mmu_core.proofs.pages.Paths.{top_stands, up_stands}
 use Rattle.mmu_core.proofs.held.LeadsDown.{LeadsDown, entry_leads_down, link_leads_down, lowest_leads_down}
 use Rattle.mmu_core.proofs.held.HeldTopics.{never_or, begun_held, shared_held, excluded_held, let_go_held, root_held, slots_held, slot_held, snapshot_held}
 use Rattle.mmu_core.proofs.held.HeldTopics.{same_held, held_stays, gone_held}
@@ -89,6 +89,19 @@ sweep_held z v a note gfn S I =
     (entry_leads_down I.tree (table_page up) (at up.level up.prefix) j _ (omega (arith, S.is_sizes.pool.1)) at_up
     (I.tree.entries (table_page up) _ at_up j (omega arith)))
     (record { table = λ from. at_up; no_table = λ f. absurd (never_or _ (sym alone ∙ f)); no_set = H.no_set }))
+
+-- The walk begins anew at its root.
+anew_held : (z : Sizes) (v : View) (a note gfn : ℕ) → HeldBehind z v a note (part.WalkAnew gfn)
+anew_held z v a note gfn S I =
+    let t : Topics = (v.hand a).topics in
+    let top : TableWalk = at_top t.walk in
+    let j : ℕ = entry_index gfn 4 in
+    let H = I.held a S.there in
+    let at_root = top_stands I.tree t H (I.paths a S.there) S.needs.there in
+    let alone : may_walk t.stay t.hold ≡ may_walk t.stay Exclusive = ap (may_walk t.stay) S.needs.alone in
+    still_held z v a (part.WalkAnew gfn) _ S I (gone_held (stands I.up I.spot) (record t { walk = top }) _ j _ _ refl refl refl refl (omega arith)
+    (entry_leads_down I.tree t.walk.root (at 4 0) j _ (omega (arith, S.is_sizes.pool.1)) at_root (I.tree.entries t.walk.root _ at_root j (omega arith)))
+    (record { table = λ from. at_root; no_table = λ f. absurd (never_or _ (sym alone ∙ f)); no_set = H.no_set }))
 
 -- an exchange, won or lost
 exchanged_held : (stands : ℕ → Option Position) (t : Topics) (won : Bool) (j new_ v : ℕ) → t.walk.level ≤ 4 → (won ≡ true → LeadsDown stands
@@ -163,6 +176,7 @@ held_behind z v a note part.Root =
     λ S I. still_held z v a part.Root _ S I (root_held (v.words area.Root 0) (stands I.up I.spot) (v.hand a).topics (root_stands I.tree) (I.held a S.there))
 held_behind z v a note (part.Walk gfn) = walk_held z v a note gfn
 held_behind z v a note (part.Sweep gfn) = sweep_held z v a note gfn
+held_behind z v a note (part.WalkAnew gfn) = anew_held z v a note gfn
 held_behind z v a note (part.Link gfn) = link_held z v a note gfn
 held_behind z v a note (part.Leaf gfn write) = λ S I.
     still_held z v a (part.Leaf gfn write) _ S I (put_held z v a gfn (leaf_written write (v.hand a).topics) S.there I S.needs.0.saw.over.there S.needs.1)

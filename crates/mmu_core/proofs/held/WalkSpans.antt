@@ -6,10 +6,12 @@ use Rattle.core_views.specs.declared.topics.Stay.TheVariants.{Outside}
 use Rattle.core_views.specs.declared.topics.TableWalk.{TableWalk}
 use Rattle.core_views.specs.declared.topics.Topics.{Topics}
 use Rattle.spte_words.specs.Entries.{kind_of, level_span}
+use Rattle.spte_words.proofs.Spans.{span_4}
 use Rattle.part_steps.specs.ControlTopics.{at_root}
 use Rattle.part_steps.specs.PartHoldings.{IsOver}
 use Rattle.part_steps.specs.PartTasks.{entry_index}
 use Rattle.part_steps.specs.StayTopics.{let_go}
+use Rattle.part_steps.specs.SweepTopics.{at_top}
 use Rattle.part_steps.specs.WalkTopics.{gone_down, linked_page, swapped}
 
 -- The span of a walk's table is one of those of its level.
@@ -24,6 +26,10 @@ let_go_span _ t span = span
 pub root_span : (b : Bool) (walk : TableWalk) (v : ℕ) → SpanFits (at_root b walk v)
 root_span true walk v = λ from. omega arith
 root_span false walk v = λ from. absurd (omega (arith, from))
+
+-- A walk that stands at its root has each guest frame's entry there.
+pub over_top : (gfn : ℕ) (walk : TableWalk) → gfn < 2 ^ 36 → IsOver gfn (at_top walk)
+over_top gfn walk small = record { small = small; there = omega arith; span = rw span_4 (omega arith) }
 
 -- The guest frame's entry leads to a span that it is in itself, one level down.
 span_below : (gfn span prefix : ℕ) → gfn < 2 ^ 36 → gfn / span / 512 ≡ prefix → prefix * 512 + gfn / span % 512 < 2 ^ 36

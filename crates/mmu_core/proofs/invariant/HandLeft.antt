@@ -19,7 +19,7 @@ use Rattle.mmu_core.specs.machine.Steps.{place_at}
 use Rattle.mmu_core.specs.machine.Turns.{line_of}
 use Rattle.mmu_core.specs.machine.View.{View}
 use Rattle.mmu_core.proofs.invariant.PartBounded.{part_rests_at}
-use Rattle.mmu_core.proofs.lines.Forms.{place_few, some_left}
+use Rattle.mmu_core.proofs.lines.StepsFew.{place_few, some_left}
 use Rattle.mmu_core.proofs.lines.KnowsKept.{knows_at}
 use Rattle.mmu_core.proofs.machine.Stepping.{is_begun, is_step}
 

@@ -2,6 +2,10 @@
 use Rattle.mmu_core.proofs.lines.HostMakes.{makes_host}
 use Rattle.mmu_core.specs.lines.HostSteps.{host_part}
 use Rattle.mmu_core.proofs.lines.HostKept.{own_host, host_kept}
+use Rattle.mmu_core.proofs.lines.LogKept.{own_log, log_kept}
+use Rattle.mmu_core.proofs.lines.LogMakes.{log_fits, log_rests, makes_log}
+use Rattle.mmu_core.specs.lines.LogSteps.{log_part, slot_asked}
+use Rattle.mmu_core.specs.invariant.SlotSetPart.{Fits}
 use Rattle.mmu_core.proofs.lines.HostNeeds.{host_needs}
 use Rattle.std.proofs.Common.{◌≡◌, ℕ, refl, subst, sym, ◌<◌}
 use Rattle.std.specs.Prelude.{Some}
@@ -47,20 +51,23 @@ needs_at z v a line command (place.Access p) S I P = tt
 needs_at z v a line (ChangeHost page change) (place.Host p) S I P =
     host_needs p (v.hand a) page change (part_rests_at z v a I P S.there) (step_knows z v a line (ChangeHost page change) (place.Host p) S I)
 needs_at z v a line _ (place.Host p) S I P = absurd S.holds
+needs_at z v a line command (place.Log p) S I P = log_rests z v a line p command S I
 needs_at z v a line command (place.SlotChange p) S I P = (
   (step_knows z v a line command (place.SlotChange p) S I).0,
   change_needs z v a line p command S I P,
   change_rests z v a line p command S I,
 )
 
--- What the words say to a line that changes a slot, besides what it knows.
+-- What the words say to a line that changes a slot, besides what it knows; and to one that reads a dirty log, that its slot fits the machine.
 abbrev SaidAt : Place → Command → Held → (Area → ℕ → ℕ) → Type 0
 SaidAt (place.SlotChange p) command h words = WordsSay p command h (answer_in (slot_change_task p h command) words)
+SaidAt (place.Log p) command h words = Fits h.state.sizes (slot_asked h command)
 SaidAt _ command h words = Unit {0}
 
 said_at : (z : Sizes) (v : View) (a : ℕ) (line : Line) (command : Command) (p : Place) → IsStep z v a line command p → Invariant z v
     → TopicsInvariant z v → SaidAt p command (v.hand a) v.words
 said_at z v a line command (place.SlotChange p) S I P = change_said z v a line p command S I P
+said_at z v a line command (place.Log p) S I P = log_fits z v a line p command S I
 said_at z v a line command _ S I P = tt
 
 -- What its actor knows after its step.
@@ -72,6 +79,7 @@ own_known (place.Access p) line (Access gfn word op) z h words begun may R K lef
     let V = access_vcpu z h.state.actor gfn word op may in own_access p line h gfn word op words V.0 V.1 R K
 own_known (place.SlotChange p) line command z h words begun may R K left N W = own_slot_change p line h command words R K left N.1 W
 own_known (place.Host p) line (ChangeHost page change) z h words begun may R K left N W = own_host p line h page change words R K left
+own_known (place.Log p) line command z h words begun may R K left N W = own_log p line command h words R K left N W
 own_known _ line _ z h words begun may R K left N W = absurd K
 
 -- The step of a line leaves its actor with what its next place asks, or at rest where the line is answered.
@@ -112,6 +120,8 @@ makes_at z v a line command (place.SlotChange p) small S I P =
     one_step (IsPart z v a) (slot_change_part p (v.hand a) command) (makes_slot_change z v a line p command small S I P)
 makes_at z v a line (ChangeHost page change) (place.Host p) small S I P =
     one_step (IsPart z v a) (host_part p page change (v.hand a)) (makes_host z v a line p page change small S I P)
+makes_at z v a line command (place.Log p) small S I P =
+    one_step (IsPart z v a) (log_part p (v.hand a) command) (makes_log z v a line p command S I small P)
 makes_at z v a line _ _ small S I P = absurd S.holds
 
 -- Each step keeps the invariant.
@@ -127,6 +137,8 @@ step_kept z v a line command (place.SlotChange p) small S I P =
 step_kept z v a line (ChangeHost page change) (place.Host p) small S I P =
     host_kept z v a line p page change S I P (makes_at z v a line (ChangeHost page change) (place.Host p) small S I P)
     (knows_behind z v a line (ChangeHost page change) (place.Host p) S I P)
+step_kept z v a line command (place.Log p) small S I P =
+    log_kept z v a line p command S I P (makes_at z v a line command (place.Log p) small S I P) (knows_behind z v a line command (place.Log p) S I P)
 step_kept z v a line _ _ small S I P = absurd S.holds
 
 -- The hand that has retired a page is the manager's.

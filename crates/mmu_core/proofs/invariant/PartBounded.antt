@@ -23,7 +23,7 @@ use Rattle.part_steps.specs.SweepTopics.{gone_up}
 use Rattle.mmu_core.specs.invariant.TopicsInvariant.{TopicsInvariant}
 use Rattle.mmu_core.specs.invariant.TreePart.{stands}
 use Rattle.mmu_core.proofs.pages.FrameUses.{owned_frame_there}
-use Rattle.mmu_core.proofs.pages.Paths.{up_stands}
+use Rattle.mmu_core.proofs.pages.Paths.{up_stands, whole_path}
 use Rattle.mmu_core.proofs.pages.PoolPages.{left_there, owned_there, slots_there}
 use Rattle.mmu_core.specs.machine.View.{View}
 use Rattle.mmu_core.proofs.held.OldSets.{held_are_slots}
@@ -38,6 +38,8 @@ part_rests_at z v i I P there = record {
   table = λ from. subst (λ (y : Sizes). table_page h.topics.walk < y.pool) (sym same) (P.tree.there _ _ (H.table from)).0;
   above = λ from. subst (λ (y : Sizes). table_page (gone_up h.topics.walk) < y.pool) (sym same)
       (P.tree.there _ _ (up_stands (stands P.up P.spot) h.topics H (P.paths i there) from (P.tree.there _ _ (H.table from)).2)).0;
+  root = λ from. subst (λ (y : Sizes). h.topics.walk.root < y.pool) (sym same)
+      (P.tree.there _ _ (whole_path (stands P.up P.spot) h.topics H (P.paths i there) 4 from (P.tree.there _ _ (H.table from)).2 (omega arith))).0;
   set = λ k is. subst (λ (y : Sizes). k < y.pool) (sym same) (set_there k is);
   page = λ o is. subst (λ (y : Sizes). o.page < y.pool) (sym same) (owned_there P.uses i o there is);
   left = λ k is. subst (λ (y : Sizes). k < y.pool) (sym same) (left_there P.uses i k there is);

@@ -35,7 +35,7 @@ use Rattle.spte_words.specs.Entries.{frame_in}
 
 -- a hand with other topics, and with other translations in its cache
 abbrev pub with_topics : Held → Topics → Buffer Translation → Held
-with_topics h t c = record { state = h.state; topics = t; cached = c; slots = h.slots; lines = h.lines; answers = h.answers }
+with_topics h t c = record { state = h.state; topics = t; cached = c; slots = h.slots; harvest = h.harvest; lines = h.lines; answers = h.answers }
 
 own_lines : (z : Sizes) (i : ℕ) (h : Held) (t : Topics) (c : Buffer Translation) → c.capacity ≡ h.cached.capacity → OwnLines z i h
     → OwnLines z i (with_topics h t c)

@@ -153,6 +153,7 @@ quiet_kept z v a line command p S I W Q knows =
     own : OwnLines z a after
     own =
         let O = I.lines a S.there in
-        lines_behind z a h line (state_at p command h x) o after.topics after.cached after.slots O S.next S.left (loaded.sizes ∙ O.sizes) loaded.actor
+        lines_behind z a h line (state_at p command h x) o after.topics after.cached after.slots after.harvest O S.next S.left (loaded.sizes ∙ O.sizes)
+        loaded.actor
         (flushed_room (kind_of_task h.state.sizes (task_at p command h)) (caches_at p command h x) x ∙ Q.room)
         (subst (λ (s : MemorySlots). All (IsSetBy h.lines) s) (sym Q.same) O.set)

@@ -53,7 +53,7 @@ use Rattle.mmu_core.proofs.invariant.Kept.{needs_at}
 use Rattle.mmu_core.proofs.invariant.PartBounded.{part_rests_at}
 use Rattle.mmu_core.proofs.invariant.TargetStays.{count_stays, end_stays, start_stays}
 use Rattle.mmu_core.proofs.words.PartFits.{part_within_by}
-use Rattle.mmu_core.proofs.words.PartTopics.{no_sweep}
+use Rattle.mmu_core.proofs.words.PartTopics.{no_anew, no_sweep}
 use Rattle.mmu_core.proofs.machine.Stepping.{is_step}
 use Rattle.part_steps.specs.declared.task.Task.{Task}
 use Rattle.mmu_core.proofs.lines.Forms.{RestsOnPart, accepts_at, accepts_at_prop, other_rests}
@@ -78,7 +78,7 @@ access_rests Touch z h gfn word op cached same may R K =
     }
 access_rests (Enter again) z h gfn word op cached same may R K =
     let V = access_vcpu z h.state.actor gfn word op may in access_needs (Enter again) h gfn (is_write op) V.0 V.1 R K
-access_rests (Walk again) z h gfn word op cached same may R K = (K.1, no_sweep h.topics K.0.guest refl)
+access_rests (Walk again) z h gfn word op cached same may R K = (K.1, no_sweep h.topics K.0.guest refl, no_anew h.topics K.0.guest refl)
 access_rests (Leave how) z h gfn word op cached same may R K = K.guest
 access_rests (Fault p) z h gfn word op cached same may R K =
     let V = access_vcpu z h.state.actor gfn word op may in access_needs (Fault p) h gfn (is_write op) V.0 V.1 R K

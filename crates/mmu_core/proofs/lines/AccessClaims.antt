@@ -145,7 +145,7 @@ module _ (gfn word : ℕ) (op : Op) (h : Held) (v : ℕ) where
       inr (record {
         at = fault_at p refl;
         step = λ map. fault_maps_not map p gfn h.topics refl;
-        note = fault_note p h.state.sizes gfn (is_write op) h.topics v;
+        note = inl (fault_note p h.state.sizes gfn (is_write op) h.topics v);
         keeps = λ K.
             each_map (λ map. HasScan (place_after (behind_fault n)) map → KeepsAt map (place.Access (access.Fault p)) (Some (fault_part p gfn h.topics)))
             (λ S. fault_keeps p h.state.sizes gfn (is_write op) h.topics v K (over_begun n S)) (λ S. absurd ((no_frames n).0 S));

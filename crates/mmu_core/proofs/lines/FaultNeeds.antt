@@ -23,7 +23,7 @@ use Rattle.mmu_core.proofs.lines.FaultSame.{over_it}
 use Rattle.mmu_core.proofs.lines.ShareMade.{share_needs}
 use Rattle.part_steps.specs.StayTopics.{is_alone}
 use Rattle.part_steps.specs.InvalidationRange.{has_found_looked}
-use Rattle.mmu_core.proofs.words.PartTopics.{no_sweep}
+use Rattle.mmu_core.proofs.words.PartTopics.{no_anew, no_sweep}
 
 page_within : (gfn : ℕ) (h : Held) → PartRests h → FoundSlot gfn h.topics → page_of h.topics.search.slot gfn < h.state.sizes.pages
 page_within gfn h R F =
@@ -70,7 +70,7 @@ fault_needs Bring h gfn write small R K =
     record { section = K.0.inside.section; looked = ap (λ (o : Option HostLook). is_some o) K.1.looked_up.host; absent = K.1.presence }
 fault_needs Share h gfn write small R K = share_needs h.topics.hold h refl K.1
 fault_needs (Check at) h gfn write small R K = check_needs at h
-fault_needs (Walk true) h gfn write small R K = (K.2 refl, no_sweep h.topics K.0.sharing.section refl)
+fault_needs (Walk true) h gfn write small R K = (K.2 refl, no_sweep h.topics K.0.sharing.section refl, no_anew h.topics K.0.sharing.section refl)
 fault_needs (Walk false) h gfn write small R K = tt
 fault_needs (Claim begun) h gfn write small R K = claim_needs Pages begun h R.sizes K.1 K.3
 fault_needs Fill h gfn write small R K = (K.2, omega arith, owned_below h R K.2.0)
@@ -83,7 +83,7 @@ fault_needs (End e) h gfn write small R K = (K.0.section, K.0.owes_none)
 fault_needs FastBegin h gfn write small R K = K.outside
 fault_needs (FastFind true) h gfn write small R K = let S = K.2 refl in (S.0, S.1, ap (λ (k : Hold). is_alone k && has_found_looked h.topics) K.1)
 fault_needs (FastFind false) h gfn write small R K = tt
-fault_needs (FastWalk true) h gfn write small R K = (K.1 refl, no_sweep h.topics K.0.inside.section refl)
+fault_needs (FastWalk true) h gfn write small R K = (K.1 refl, no_sweep h.topics K.0.inside.section refl, no_anew h.topics K.0.inside.section refl)
 fault_needs (FastWalk false) h gfn write small R K = tt
 fault_needs Fix h gfn write small R K = K.1
 fault_needs (Mark fast) h gfn write small R K = record {

@@ -1,14 +1,13 @@
 -- What is so of the lines of every form: the one place where it is told by the form. A form of line writes a clause in each of these.
-use Rattle.spte_words.specs.Areas.{words_of_bits}
 use Rattle.mmu_core.specs.lines.HostKnows.{HostRests, is_move}
 use Rattle.core_views.specs.Traces.{IsCommandFor}
 use Rattle.mmu_core.specs.lines.HostSteps.{host_part}
-use Rattle.mmu_core.proofs.lines.HostPlaces.{host_goes, host_few, some_host_left, look_goes, host_knows_prop, host_free, host_fed, host_rests_prop}
+use Rattle.mmu_core.proofs.lines.HostPlaces.{host_goes, look_goes, host_knows_prop, host_free, host_fed, host_rests_prop}
 use Rattle.core_views.specs.declared.actor.Actor.{Actor}
 use Rattle.core_views.specs.declared.actor.Actor.TheVariants.{Host, Manager, Vcpu, Worker}
 use Rattle.core_views.specs.declared.trace.HostChange.{HostChange}
 use Rattle.core_views.specs.declared.trace.HostChange.TheVariants.{Move, Evict, Protect, Allow}
-use Rattle.std.proofs.Common.{◌≡◌, ◌⊎◌, inl, inr, ◌<◌, ◌≤◌, ℕ, refl, arith, ◌≢◌, Bool, ◌+◌, ◌*◌}
+use Rattle.std.proofs.Common.{◌≡◌, ◌⊎◌, inl, inr, ℕ, refl, ◌≢◌, Bool}
 use Rattle.std.proofs.Props.{props}
 use Rattle.std.specs.Prelude.{List, Some, None, is_some, true, false}
 use Rattle.core_views.specs.declared.answer.Answer.{Answer}
@@ -26,38 +25,38 @@ use Rattle.core_views.specs.declared.sizes.Sizes.{Sizes}
 use Rattle.core_views.specs.declared.topics.Topics.{Topics}
 use Rattle.core_views.specs.declared.trace.Command.{Command}
 use Rattle.core_views.specs.declared.trace.Command.TheVariants.{Access, ChangeHost, ClearLog, DeleteSlot, GetLog, SetLog, SetSlot}
-use Rattle.core_views.specs.LogCommands.{log_read}
+use Rattle.core_views.specs.LogCommands.{log_read, read_refusal, takes_out}
 use Rattle.core_views.specs.declared.trace.Op.{Op}
 use Rattle.core_views.specs.Held.{Held}
 use Rattle.core_views.specs.HostChanges.{moves_page}
 use Rattle.core_views.specs.SlotCommands.{change_at_once, changes_slot}
-use Rattle.core_views.specs.Sizes.{AreSizes}
 use Rattle.core_views.specs.SlotSets.{MemorySlots}
 use Rattle.core_views.specs.Slots.{is_write}
 use Rattle.part_steps.specs.declared.part_step.PartStep.{PartStep}
 use Rattle.part_steps.specs.declared.part_step.PartStep.TheVariants as part
 use Rattle.part_steps.specs.PartSteps.{IsAtRest, PartNeeds}
-use Rattle.mmu_core.specs.lines.Forms.{KnowsPart, Holds, steps_left, part_at, AcceptsAt, RestsAt, first_place, outcome_at, tells_at}
+use Rattle.mmu_core.specs.lines.Forms.{KnowsPart, Holds, part_at, AcceptsAt, RestsAt, first_place, outcome_at, tells_at}
 use Rattle.spte_words.specs.declared.area.Area.{Area}
 use Rattle.mmu_core.specs.alone.AloneKnows.{FormAlone}
 use Rattle.mmu_core.specs.lines.AccessSteps.{access_outcome, behind_fault, fault_over}
 use Rattle.mmu_core.specs.declared.outcome.Outcome.TheVariants.{Ends}
 use Rattle.mmu_core.specs.lines.Delays.{line_waits, begins_anew}
 use Rattle.mmu_core.specs.lines.FaultSteps.{fault_next}
-use Rattle.mmu_core.specs.lines.Bounds.{most_steps}
 use Rattle.mmu_core.specs.lines.Rests.{IsUnderWay}
 use Rattle.mmu_core.specs.lines.SlotChangeKnows.{SlotChangeRests}
 use Rattle.mmu_core.specs.lines.SlotChangeSteps.{slot_change_part}
-use Rattle.mmu_core.proofs.lines.AccessLeft.{access_few, some_access_left}
 use Rattle.mmu_core.proofs.machine.GoesOn.{GoesToNoAccess, GoesUnderWay, IsNoAccess, IsSimple, simple_is_no_access}
 use Rattle.mmu_core.proofs.slots.LiveStays.{OwnedStays}
-use Rattle.mmu_core.proofs.slots.SlotChangeCounted.{slot_change_few, some_change_left}
 use Rattle.mmu_core.proofs.slots.SlotChangePlaces.{accepts_prop, begins_at_once, change_accepts, slot_change_begins, slot_change_begins_known}
 use Rattle.mmu_core.proofs.slots.SlotChangePlaces.{slot_change_goes, slot_change_knows_prop, slot_change_rests_prop, slot_change_stays}
 use Rattle.mmu_core.proofs.slots.SlotChangeTold.{slot_change_free, slot_change_simple}
 use Rattle.mmu_core.proofs.slots.SlotChangeClaims.{begins_without_scan}
 use Rattle.mmu_core.proofs.lines.HostClaims.{host_begins_without}
-use Rattle.mmu_core.proofs.lines.SimplePlaces.{SimplePlace, Told, Nothing, Arms, ArmsClean, Exit, Change, OfAccess, OfHost, between_simple}
+use Rattle.mmu_core.proofs.lines.LogFirst.{HavePages, log_first_known}
+use Rattle.mmu_core.proofs.lines.LogTold.{log_fed, log_free, log_goes, log_knows_prop, log_knows_reads, log_rests_prop, log_scans_none, log_simple}
+use Rattle.mmu_core.specs.lines.LogKnows.{LogRests}
+use Rattle.mmu_core.specs.lines.LogSteps.{log_first, log_next, log_part, log_reads}
+use Rattle.mmu_core.proofs.lines.SimplePlaces.{SimplePlace, Told, Nothing, Arms, ArmsClean, Exit, Change, OfAccess, OfHost, OfLog, between_simple}
 use Rattle.mmu_core.proofs.lines.AccessEnds.{AreFed, access_fed, access_free, exit_fed}
 use Rattle.mmu_core.specs.lines.ClaimSteps.{FreeMap, Pages, Frames}
 use Rattle.mmu_core.specs.lines.ScanPlaces.{HasScan}
@@ -85,12 +84,14 @@ simple_place (place.Access p) command h v simple = absurd simple
 simple_place (place.Host p) command h v simple = absurd simple
 simple_place place.Between command h v simple = between_simple command h v
 simple_place (place.SlotChange p) command h v simple = slot_change_simple h command v p
+simple_place (place.Log p) command h v simple = log_simple command h v p
 
 pub outcome_goes : (p : Place) (command : Command) (h : Held) (v : ℕ) → IsUnderWay p → GoesUnderWay (outcome_at p command h v)
 outcome_goes place.Between command h v begun = absurd begun
 outcome_goes (place.Access p) (Access gfn word op) h v begun = access_goes p h gfn op v
 outcome_goes (place.SlotChange p) command h v begun = (slot_change_goes p command h v).0
 outcome_goes (place.Host p) (ChangeHost page change) h v begun = (host_goes p page h v).0
+outcome_goes (place.Log p) command h v begun = log_goes (log_next p command h v) (log_reads p command h v)
 outcome_goes _ _ h v begun = tt
 
 pub outcome_apart : (p : Place) (command : Command) (h : Held) (v : ℕ) → IsNoAccess p → GoesToNoAccess (outcome_at p command h v)
@@ -130,63 +131,23 @@ other_rests (place.SlotChange p) command h other = by (changes_slot command) ref
       rests = λ N M. (is, N, M);
     })
     by false is = inl (λ R. let changes = R.0 in cc (changes, is))
-
--- ---- how many steps it has left
-
--- No more than its command allows.
-pub place_few : (p : Place) (command : Command) (z : Sizes) (pool : ℕ → ℕ) (set : ℕ) (h : Held) → Holds z pool set p command h → KnowsPart p command h
-    → AreSizes h.state.sizes → h.topics.walk.level ≤ 4 → steps_left p command h.state.sizes h.topics ≤ most_steps h.state.sizes command
-place_few place.Between command z pool set h holds K S most = omega arith
-place_few (place.Access p) (Access gfn word op) z pool set h holds K S most =
-    let few = access_few p h.state.sizes h.topics most in let pool = S.pool.1 in omega (arith, few, pool)
-place_few (place.SlotChange p) (Access gfn word op) z pool set h holds K S most = absurd (cc K.0)
-place_few (place.SlotChange p) (ChangeHost page change) z pool set h holds K S most = absurd (cc K.0)
-place_few (place.SlotChange p) (SetLog id true) z pool set h holds K S most =
-    let few = slot_change_few p (SetLog id true) h most K.1 in let actors = S.actors in omega (arith, few, actors)
-place_few (place.SlotChange p) (SetLog id false) z pool set h holds K S most =
-    let few = slot_change_few p (SetLog id false) h most K.1 in let actors = S.actors in omega (arith, few, actors)
-place_few (place.SlotChange p) command z pool set h holds K S most =
-    let few = slot_change_few p command h most K.1 in let actors = S.actors in omega (arith, few, actors)
-place_few (place.Host p) (ChangeHost page change) z pool set h holds K S most =
-    let few = host_few p h.state.sizes page change h most K in let actors = S.actors in let words = S.words.1 in omega (arith, few, actors, words)
-place_few _ _ z pool set h holds K S most = absurd holds
-
--- No line makes more than an access and the sweep of all guest frames that a slot may have.
-pub most_small : (z : Sizes) (command : Command) → most_steps z command ≤ 8192 + z.pool + z.frames + 5 * z.pages + words_of_bits z.pages
-most_small z (Access gfn word op) = omega arith
-most_small z (SetLog id true) = omega arith
-most_small z (SetLog id false) = omega arith
-most_small z _ = omega arith
-
--- At each place it has one.
-pub some_left : (p : Place) (c : Command) (z : Sizes) (t : Topics) → IsUnderWay p → 0 < steps_left p c z t
-some_left place.Between c z t under = absurd under
-some_left (place.Access p) c z t under = some_access_left p z t
-some_left (place.SlotChange p) c z t under = some_change_left p c z t
-some_left (place.Host p) c z t under = some_host_left p z t
+other_rests (place.Log p) command h other = by (is_some (log_read command)) refl
+  where
+    by : (b : Bool) → is_some (log_read command) ≡ b → (RestsAt (place.Log p) command h → ⊥) ⊎ RestsOnPart (place.Log p) command h
+    by true is = inr (record {
+      step = log_part p h command;
+      at = refl;
+      more = LogRests p command h;
+      more_prop = log_rests_prop p command h;
+      needs = λ R. (R.1, R.2);
+      rests = λ N M. (is, N, M);
+    })
+    by false is = inl (λ R. let reads = R.0 in cc (reads, is))
 
 -- ---- where it begins
 
--- Its first step doesn't wait, and is no end of a fault that begins anew.
-pub first_goes : (z : Sizes) (slots : MemorySlots) (command : Command) (h : Held) (v : ℕ) → line_waits (first_place z slots command) command h v ≡ true → ⊥
-first_goes z slots (Access gfn word op) h v is = cc is
-first_goes z slots (ChangeHost page change) h v is = let goes = look_goes (moves_page (ChangeHost page change)) page change h v in cc (is, goes)
-first_goes z slots command h v is = begins_at_once (change_at_once z command slots) command h v is
-
-pub first_no_end : (z : Sizes) (slots : MemorySlots) (command : Command) → begins_anew (first_place z slots command) ≡ true → ⊥
-first_no_end z slots (Access gfn word op) is = cc is
-first_no_end z slots (ChangeHost page change) is = cc is
-first_no_end z slots _ is = cc is
-
--- A line that moves its page says so where it begins.
-says_move : (page : ℕ) (change : HostChange) → moves_page (ChangeHost page change) ≡ is_move change
-says_move page Move = refl
-says_move page Evict = refl
-says_move page Protect = refl
-says_move page Allow = refl
-
 -- No line of a trace reads a log yet.
-reads_none : (z : Sizes) (actor : Actor) (command : Command) → is_some (log_read command) ≡ true → IsCommandFor z actor command → ⊥
+pub reads_none : (z : Sizes) (actor : Actor) (command : Command) → is_some (log_read command) ≡ true → IsCommandFor z actor command → ⊥
 reads_none z actor (Access gfn word op) is may = cc is
 reads_none z actor (ChangeHost page change) is may = cc is
 reads_none z actor (SetSlot id slot) is may = cc is
@@ -197,22 +158,47 @@ reads_none z (Host n) _ is may = may
 reads_none z Manager _ is may = may
 reads_none z (Worker n) _ is may = may
 
--- Its actor, which was at rest and owned no frame, knows what its first place asks.
-pub first_known : (z : Sizes) (command : Command) (h : Held) (y : Sizes) (actor : Actor) → IsCommandFor y actor command → IsAtRest h.topics
-    → h.topics.frames.owned ≡ None → KnowsPart (first_place z h.slots command) command h
-first_known z (Access gfn word op) h y actor may R none = R
-first_known z (ChangeHost page change) h y actor may R none = (R, says_move page change, none)
-first_known z (GetLog id) h y actor may R none = absurd (reads_none y actor (GetLog id) refl may)
-first_known z (ClearLog id first count words) h y actor may R none = absurd (reads_none y actor (ClearLog id first count words) refl may)
-first_known z (SetSlot id slot) h y actor may R none = (refl, slot_change_begins_known z (SetSlot id slot) h R)
-first_known z (DeleteSlot id) h y actor may R none = (refl, slot_change_begins_known z (DeleteSlot id) h R)
-first_known z (SetLog id on) h y actor may R none = (refl, slot_change_begins_known z (SetLog id on) h R)
+-- Its first step doesn't wait, where it is a line of a trace, and is no end of a fault that begins anew.
+pub first_goes : (z : Sizes) (slots : MemorySlots) (command : Command) (h : Held) (v : ℕ) (y : Sizes) (actor : Actor) → IsCommandFor y actor command
+    → line_waits (first_place z slots command) command h v ≡ true → ⊥
+first_goes z slots (Access gfn word op) h v y actor may is = cc is
+first_goes z slots (ChangeHost page change) h v y actor may is = let goes = look_goes (moves_page (ChangeHost page change)) page change h v in cc (is, goes)
+first_goes z slots (GetLog id) h v y actor may is = reads_none y actor (GetLog id) refl may
+first_goes z slots (ClearLog id first count words) h v y actor may is = reads_none y actor (ClearLog id first count words) refl may
+first_goes z slots command h v y actor may is = begins_at_once (change_at_once z command slots) command h v is
+
+pub first_no_end : (z : Sizes) (slots : MemorySlots) (command : Command) → begins_anew (first_place z slots command) ≡ true → ⊥
+first_no_end z slots (Access gfn word op) is = cc is
+first_no_end z slots (ChangeHost page change) is = cc is
+first_no_end z slots (GetLog id) is = cc is
+first_no_end z slots (ClearLog id first count words) is = cc is
+first_no_end z slots _ is = cc is
+
+-- A line that moves its page says so where it begins.
+says_move : (page : ℕ) (change : HostChange) → moves_page (ChangeHost page change) ≡ is_move change
+says_move page Move = refl
+says_move page Evict = refl
+says_move page Protect = refl
+says_move page Allow = refl
+
+-- Its actor, which was at rest and owned no frame, knows what its first place asks; each slot of its record has a page.
+pub first_known : (command : Command) (h : Held) → IsAtRest h.topics → h.topics.frames.owned ≡ None → HavePages h.slots
+    → KnowsPart (first_place h.state.sizes h.slots command) command h
+first_known (Access gfn word op) h R none some = R
+first_known (ChangeHost page change) h R none some = (R, says_move page change, none)
+first_known (GetLog id) h R none some = log_first_known (GetLog id) h refl R some
+first_known (ClearLog id first count words) h R none some = log_first_known (ClearLog id first count words) h refl R some
+first_known (SetSlot id slot) h R none some = (refl, slot_change_begins_known h.state.sizes (SetSlot id slot) h R)
+first_known (DeleteSlot id) h R none some = (refl, slot_change_begins_known h.state.sizes (DeleteSlot id) h R)
+first_known (SetLog id on) h R none some = (refl, slot_change_begins_known h.state.sizes (SetLog id on) h R)
 
 -- Alone, it knows what its first place asks of the words.
 pub first_alone : (z : Sizes) (slots : MemorySlots) (command : Command) (words : Area → ℕ → ℕ) (t : Topics)
     → FormAlone (first_place z slots command) command words t
 first_alone z slots (Access gfn word op) words t = λ e. absurd (cc e)
 first_alone z slots (ChangeHost page change) words t = tt
+first_alone z slots (GetLog id) words t = tt
+first_alone z slots (ClearLog id first count words_) words t = tt
 first_alone z slots _ words t = tt
 
 -- It begins with no scan.
@@ -220,6 +206,9 @@ pub begins_without : (z : Sizes) (slots : MemorySlots) (command : Command) (map 
 begins_without z slots (Access gfn word op) Pages S = S
 begins_without z slots (Access gfn word op) Frames S = S
 begins_without z slots (ChangeHost page change) map S = host_begins_without (moves_page (ChangeHost page change)) map S
+begins_without z slots (GetLog id) map S = log_scans_none (log_first (read_refusal (GetLog id) slots) (takes_out z.mode (GetLog id))) map S
+begins_without z slots (ClearLog id first count words) map S =
+    log_scans_none (log_first (read_refusal (ClearLog id first count words) slots) (takes_out z.mode (ClearLog id first count words))) map S
 begins_without z slots command map S = begins_without_scan (change_at_once z command slots) map S
 
 -- ---- what it knows
@@ -229,6 +218,7 @@ pub knows_prop : (p : Place) (command : Command) (h : Held) → IsNoAccess p →
 knows_prop (place.Access p) command h other = absurd other
 knows_prop (place.SlotChange p) command h other = slot_change_knows_prop p command h
 knows_prop (place.Host p) (ChangeHost page change) h other = host_knows_prop p page change h
+knows_prop (place.Log p) command h other = log_knows_prop p command h
 knows_prop _ _ h other = hlevel props
 
 -- No access stands at the place of another form.
@@ -237,6 +227,7 @@ other_knows (place.Access p) gfn word op h other begun K = absurd other
 other_knows place.Between gfn word op h other begun K = absurd begun
 other_knows (place.SlotChange p) gfn word op h other begun K = cc K.0
 other_knows (place.Host p) gfn word op h other begun K = absurd K
+other_knows (place.Log p) gfn word op h other begun K = let reads = log_knows_reads p (Access gfn word op) h K in cc reads
 
 -- ---- what a line has loaded or stored
 
@@ -244,6 +235,8 @@ other_knows (place.Host p) gfn word op h other begun K = absurd K
 pub first_holds : (z : Sizes) (pool : ℕ → ℕ) (set : ℕ) (command : Command) (h : Held) → Holds z pool set (first_place z h.slots command) command h
 first_holds z pool set (Access gfn word op) h = tt
 first_holds z pool set (ChangeHost page change) h = tt
+first_holds z pool set (GetLog id) h = tt
+first_holds z pool set (ClearLog id first count words) h = tt
 first_holds z pool set command h = slot_change_begins z pool set command h (change_at_once z command h.slots) refl
 
 -- It stays, where the words of the line's own page do.
@@ -253,6 +246,7 @@ module _ (z : Sizes) (before : ℕ → ℕ) (set : ℕ) (after : ℕ → ℕ) (o
   loads_stay (place.Access p) (Access gfn word op) e = tt
   loads_stay (place.SlotChange p) command e = slot_change_stays z before after h own p command e
   loads_stay (place.Host p) (ChangeHost page change) e = tt
+  loads_stay (place.Log p) command e = tt
   loads_stay _ _ e = absurd e
 
 -- ---- what the manager's record accepts
@@ -274,6 +268,7 @@ pub ends_free : (p : Place) (command : Command) (h : Held) (v : ℕ) (answer : A
 ends_free (place.Access p) (Access gfn word op) h v answer R e = access_free p h gfn op v answer e
 ends_free (place.SlotChange p) command h v answer R e = slot_change_free p h command v answer e
 ends_free (place.Host p) (ChangeHost page change) h v answer R e = host_free p page change h v answer R.1 e
+ends_free (place.Log p) command h v answer R e = log_free p command h v answer e
 ends_free _ _ h v answer R e = absurd (cc e)
 
 -- What it tells is of one of a few shapes.
@@ -295,4 +290,5 @@ tells_fed p command h v = by p command (tells_at p command h v) (place_tells p c
     by _ _ _ (ArmsClean range id seen last) other = (λ e. absurd (cc e), tt)
     by q c _ (Change id slot at more) other = (λ e. absurd (cc e), by q c _ more other)
     by _ _ _ (OfAccess q gfn word op) other = access_fed q h gfn word op v other
+    by _ c _ (OfLog q) other = log_fed q c h v
     by _ _ _ (OfHost q page change) other = host_fed q page change h v

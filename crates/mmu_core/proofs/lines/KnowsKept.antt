@@ -63,9 +63,11 @@ use Rattle.mmu_core.proofs.lines.FaultKnown.{fault_known, parts_answer}
 use Rattle.mmu_core.proofs.lines.WalkKnown.{above_lowest, gone_over, root_over}
 use Rattle.mmu_core.proofs.lines.FaultNeeds.{fault_needs}
 use Rattle.mmu_core.proofs.lines.Forms.{first_known}
+use Rattle.mmu_core.proofs.lines.LogFirst.{HavePages}
 use Rattle.mmu_core.proofs.lines.UsedTranslations.{CachesBehind, flushed_behind, newest_filled}
-use Rattle.mmu_core.proofs.words.PartTopics.{is_there, no_sweep, part_topics_is}
-use Rattle.mmu_core.proofs.machine.Stepping.{IsStep, is_step}
+use Rattle.mmu_core.proofs.words.SmallSlots.{has_page, record_is_so}
+use Rattle.mmu_core.proofs.words.PartTopics.{is_there, no_anew, no_sweep, part_topics_is}
+use Rattle.mmu_core.proofs.machine.Stepping.{IsStep}
 use Rattle.mmu_core.proofs.machine.Which.{has_line_is}
 use Rattle.mmu_core.proofs.machine.HandWith.{hand_with}
 use Rattle.core_views.specs.SlotSets.{MemorySlots}
@@ -96,7 +98,7 @@ NeedsOf (Some step) h = PartNeeds step h
 pub access_needs : (p : AccessPlace) (h : Held) (gfn : ℕ) (write : Bool) → IsVcpu h.state.actor → gfn < 2 ^ 36 → PartRests h
     → AccessKnows p gfn write h → NeedsOf (access_part p gfn h.topics) h
 access_needs (Enter again) h gfn write vcpu small R K = (vcpu, K.outside)
-access_needs (Walk again) h gfn write vcpu small R K = (K.1, no_sweep h.topics K.0.guest refl)
+access_needs (Walk again) h gfn write vcpu small R K = (K.1, no_sweep h.topics K.0.guest refl, no_anew h.topics K.0.guest refl)
 access_needs Touch h gfn write vcpu small R K = K.0.guest
 access_needs (Leave how) h gfn write vcpu small R K = K.guest
 access_needs (Fault p) h gfn write vcpu small R K = fault_needs p h gfn write small R K
@@ -204,18 +206,17 @@ NeedsAt (place.Access p) command h = Unit {0}
 NeedsAt p command h = RestsAt p command h
 
 -- what a hand knows where its line stands, also where this is about to begin
-standing_known : (q : Place) (z : Sizes) (h : Held) (y : Sizes) (actor : Actor) → length h.answers < length h.lines → IsCommandFor y actor (line_at q h).command
-    → KnowsPart q h.state.line.command h → RetiresPart q h.topics → KnowsPart (standing q z h.slots (line_at q h).command) (line_at q h).command h
-standing_known place.Between z h y actor left may K L =
-    first_known z (line_at place.Between h).command h y actor may (K (has_line_is h left)) (L.frames refl)
-standing_known _ z h y actor left may K L = K
+standing_known : (q : Place) (h : Held) → length h.answers < length h.lines → HavePages h.slots → KnowsPart q h.state.line.command h → RetiresPart q h.topics
+    → KnowsPart (standing q h.state.sizes h.slots (line_at q h).command) (line_at q h).command h
+standing_known place.Between h left some K L = first_known (line_at place.Between h).command h (K (has_line_is h left)) (L.frames refl) some
+standing_known _ h left some K L = K
 
 pub knows_at : (z : Sizes) (v : View) (a : ℕ) → Invariant z v → a < actors_of z → length (v.hand a).answers < length (v.hand a).lines
     → KnowsPart (place_at (v.hand a).state.place (v.hand a)) (line_at (v.hand a).state.place (v.hand a)).command (v.hand a)
 knows_at z v a I there left =
-    let line : Line = line_at (v.hand a).state.place (v.hand a) in
-    standing_known (v.hand a).state.place (v.hand a).state.sizes (v.hand a) z line.actor left (is_step z v a I there left).allowed
-    (I.knows a there) (I.leaves a there)
+    let O = I.lines a there in
+    standing_known (v.hand a).state.place (v.hand a) left
+    (λ id slot. record_is_so (λ s. 1 ≤ s.pages) has_page z (v.hand a).lines (v.hand a).slots O.allowed O.set id slot) (I.knows a there) (I.leaves a there)
 
 pub step_knows : (z : Sizes) (v : View) (a : ℕ) (line : Line) (command : Command) (p : Place) → IsStep z v a line command p → Invariant z v
     → KnowsPart p command (v.hand a)

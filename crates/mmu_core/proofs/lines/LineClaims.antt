@@ -1,6 +1,6 @@
 -- The step of a line is one of its claim of a page or a frame, or another one; and what follows of its scan of the map, whatever its form is.
 use Rattle.std.proofs.Common.{◌≡◌, ◌≢◌, ◌⊎◌, inl, inr, ◌≤◌, ℕ, refl, sym, subst, ap, ◌∙◌}
-use Rattle.std.specs.Prelude.{Bool, true, false, Option, Some, None, if◌then◌else◌}
+use Rattle.std.specs.Prelude.{Bool, true, false, Option, Some, None, is_some, if◌then◌else◌}
 use Rattle.core_views.specs.declared.answer.Answer.{Answer}
 use Rattle.core_views.specs.declared.place.Place.{Place}
 use Rattle.core_views.specs.declared.place.Place.TheVariants as place
@@ -9,6 +9,7 @@ use Rattle.core_views.specs.declared.topics.MapClaim.{MapClaim}
 use Rattle.core_views.specs.declared.topics.Topics.{Topics}
 use Rattle.core_views.specs.declared.trace.Command.{Command}
 use Rattle.core_views.specs.Held.{Held}
+use Rattle.core_views.specs.LogCommands.{log_read}
 use Rattle.part_steps.specs.declared.part_step.PartStep.{PartStep}
 use Rattle.mmu_core.specs.declared.outcome.Outcome.{Outcome}
 use Rattle.mmu_core.specs.declared.outcome.Outcome.TheVariants.{Ends}
@@ -16,6 +17,7 @@ use Rattle.mmu_core.specs.declared.claim.ClaimNext.{ClaimNext}
 use Rattle.mmu_core.specs.declared.claim.ClaimNext.TheVariants as claims
 use Rattle.mmu_core.specs.lines.ClaimSteps.{FreeMap, Pages, Frames, claim_next, claim_outcome, claim_over, claim_part, loads_last_word, map_words}
 use Rattle.mmu_core.specs.lines.ClaimSteps.{try_part, word_after_load}
+use Rattle.mmu_core.specs.lines.Delays.{line_waits}
 use Rattle.mmu_core.specs.lines.Forms.{note_at, part_at, KnowsPart, outcome_at}
 use Rattle.mmu_core.specs.lines.AccessSteps.{ends_with}
 use Rattle.mmu_core.specs.lines.ScanPlaces.{answer_without, ends_with_claim, HasScan, claim_at}
@@ -116,11 +118,18 @@ pub record Claims (p : Place) (c : Command) (h : Held) (v : ℕ) : Type 0 where
 abbrev pub ComesToEnd : FreeMap → Option PartStep → Held → ℕ → Type 0
 ComesToEnd map s h v = map_words map h.state.sizes ≤ (claim_over map (behind_part s h.topics v)).at
 
+-- A line that reads a dirty log may end with its look at the last virtual processor, and waits there.
+pub record MayEnd (p : Place) (c : Command) (h : Held) (v : ℕ) : Type 0 where
+  pub reads : is_some (log_read c) ≡ true
+  pub note : note_by (part_at p c h) (note_at p c h) ≡ 1
+  pub goes : ends_with (outcome_at p c h v) ≡ 0
+  pub waits : line_waits p c h v ≡ true
+
 -- Or it makes another step: with it the line comes to no scan but its own, and is answered for want of a page or a frame only after one.
 pub record ClaimsNot (p : Place) (c : Command) (h : Held) (v : ℕ) : Type 0 where
   pub at : (map : FreeMap) → claim_at map p ≡ None
   pub step : (map : FreeMap) → maps_by map (part_at p c h) ≡ false
-  pub note : note_by (part_at p c h) (note_at p c h) ≡ ends_with (outcome_at p c h v)
+  pub note : (note_by (part_at p c h) (note_at p c h) ≡ ends_with (outcome_at p c h v)) ⊎ MayEnd p c h v
   pub keeps : KnowsPart p c h → (map : FreeMap) → HasScan (place_after (outcome_at p c h v)) map → KeepsAt map p (part_at p c h)
   pub starved : KnowsPart p c h → (map : FreeMap) → outcome_at p c h v ≡ Ends (answer_without map)
       → KeepsAt map p (part_at p c h) × ComesToEnd map (part_at p c h) h v
@@ -132,7 +141,7 @@ pub to_no_scan : (p : Place) (c : Command) (h : Held) (v : ℕ) → ((map : Free
 to_no_scan p c h v at step note N = inr (record {
   at = at;
   step = step;
-  note = note;
+  note = inl note;
   keeps = λ K map S. absurd (N.no_scan map S);
   starved = λ K map e. absurd (N.fed map e);
 })

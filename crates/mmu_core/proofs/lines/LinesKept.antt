@@ -89,35 +89,36 @@ answers_more (Ends answer) line answers =
     let n = answers_length answers (record { number = line.number; actor = line.actor; answer = answer }) in omega (arith, n)
 
 -- the hand after a step that went so
-abbrev pub behind : Held → Line → State → Outcome → Topics → Buffer Translation → MemorySlots → Held
-behind h line s o t c slots = record {
+abbrev pub behind : Held → Line → State → Outcome → Topics → Buffer Translation → MemorySlots → List ℕ → Held
+behind h line s o t c slots harvest = record {
   state = record s { line = line; place = place_after o };
   topics = t;
   cached = c;
   slots = slots;
+  harvest = harvest;
   lines = h.lines;
   answers = answers_after o line h.answers;
 }
 
-under_behind : (h : Held) (line : Line) (s : State) (p : Place) (t : Topics) (c : Buffer Translation) (slots : MemorySlots) → line ≡ next_line h
-    → length h.answers < length h.lines → UnderWay p (behind h line s (Goes p) t c slots)
-under_behind h line s place.Between t c slots is left = tt
-under_behind h line s _ t c slots is left = (is, left)
+under_behind : (h : Held) (line : Line) (s : State) (p : Place) (t : Topics) (c : Buffer Translation) (slots : MemorySlots) (harvest : List ℕ)
+    → line ≡ next_line h → length h.answers < length h.lines → UnderWay p (behind h line s (Goes p) t c slots harvest)
+under_behind h line s place.Between t c slots harvest is left = tt
+under_behind h line s _ t c slots harvest is left = (is, left)
 
 pub lines_behind : (z : Sizes) (a : ℕ) (h : Held) (line : Line) (s : State) (o : Outcome) (t : Topics) (c : Buffer Translation) (slots : MemorySlots)
-    → OwnLines z a h → line ≡ next_line h → length h.answers < length h.lines
-    → s.sizes ≡ z → s.actor ≡ h.state.actor → c.capacity ≡ h.cached.capacity → All (IsSetBy h.lines) slots → OwnLines z a (behind h line s o t c slots)
-lines_behind z a h line s (Goes p) t c slots O is left same actor room set = record {
+    (harvest : List ℕ) → OwnLines z a h → line ≡ next_line h → length h.answers < length h.lines
+    → s.sizes ≡ z → s.actor ≡ h.state.actor → c.capacity ≡ h.cached.capacity → All (IsSetBy h.lines) slots → OwnLines z a (behind h line s o t c slots harvest)
+lines_behind z a h line s (Goes p) t c slots harvest O is left same actor room set = record {
   sizes = same;
   cache = room ∙ O.cache;
   index = ap (index_of z) actor ∙ O.index;
   allowed = O.allowed;
   few = O.few;
   own = subst (λ x. All (λ (l : Line). l.actor ≡ x) h.lines) (sym actor) O.own;
-  under = under_behind h line s p t c slots is left;
+  under = under_behind h line s p t c slots harvest is left;
   set = set;
 }
-lines_behind z a h line s (Ends answer) t c slots O is left same actor room set = record {
+lines_behind z a h line s (Ends answer) t c slots harvest O is left same actor room set = record {
   sizes = same;
   cache = room ∙ O.cache;
   index = ap (index_of z) actor ∙ O.index;

@@ -9,6 +9,7 @@ use Rattle.core_views.specs.declared.event.EventKind.TheVariants.{Armed, SlotCha
 use Rattle.core_views.specs.declared.place.AccessPlace.{AccessPlace}
 use Rattle.core_views.specs.declared.place.FrameRange.{FrameRange}
 use Rattle.core_views.specs.declared.place.HostPlace.{HostPlace}
+use Rattle.core_views.specs.declared.place.LogPlace.{LogPlace}
 use Rattle.core_views.specs.declared.place.Place.{Place}
 use Rattle.core_views.specs.declared.place.Place.TheVariants as place
 use Rattle.core_views.specs.declared.place.SlotChangePlace.TheVariants.{WriteProtect}
@@ -24,6 +25,7 @@ use Rattle.mmu_core.specs.declared.outcome.Outcome.TheVariants.{Ends}
 use Rattle.mmu_core.specs.lines.AccessSteps.{access_tells, exiting}
 use Rattle.mmu_core.specs.lines.Forms.{RestsAt, outcome_at, part_at, tells_at}
 use Rattle.mmu_core.specs.lines.HostSteps.{host_tells}
+use Rattle.mmu_core.specs.lines.LogTells.{log_tells}
 use Rattle.mmu_core.proofs.lines.LineClaims.{Claims, ClaimsNot, no_claim_between, no_scan_between, to_no_scan}
 use Rattle.mmu_core.proofs.machine.GoesOn.{GoesToSimple}
 use Rattle.mmu_core.proofs.machine.PartStepping.{raises}
@@ -40,7 +42,7 @@ use Rattle.std.proofs.Common.{◌+◌, ◌≤◌, length, arith}
 
 -- At this place, for this command, a step that finds v tells one of these, besides that its line begins or is answered: nothing; an exit, but none for
 -- want of a frame; that a log begins, where it publishes, or has awaited the last flush; a slot's change, where it publishes, and then one of these; or what
--- an access or a host line tells.
+-- an access, a host line or one that reads a dirty log tells.
 pub data Told (h : Held) (v : ℕ) : Place → Command → List EventKind → Type 0 where
   Nothing : {p : Place} {c : Command} → Told h v p c []
   Exit : {p : Place} {c : Command} → outcome_at p c h v ≢ Ends (Refused NoFrame) → Told h v p c (exiting (outcome_at p c h v))
@@ -50,6 +52,7 @@ pub data Told (h : Held) (v : ℕ) : Place → Command → List EventKind → Ty
   Change : {p : Place} {c : Command} {more : List EventKind} (id : ℕ) (slot : Option MemorySlot) → part_at p c h ≡ Some part.Publish → Told h v p c more
       → Told h v p c (SlotChanged id slot ∷ more)
   OfAccess : (p : AccessPlace) (gfn word : ℕ) (op : Op) → Told h v (place.Access p) (Access gfn word op) (access_tells p h gfn word op v)
+  OfLog : (p : LogPlace) {c : Command} → Told h v (place.Log p) c (log_tells p c h v)
   OfHost : (p : HostPlace) (page : ℕ) (change : HostChange) → Told h v (place.Host p) (ChangeHost page change) (host_tells p page change h v)
 
 -- ---- the sequence number

@@ -7,7 +7,7 @@ use Rattle.core_views.specs.declared.topics.Topics.{Topics}
 use Rattle.core_views.specs.declared.trace.Command.{Command}
 use Rattle.core_views.specs.declared.trace.Line.{Line}
 use Rattle.core_views.specs.Held.{Held}
-use Rattle.mmu_core.specs.lines.Forms.{outcome_at, records_at}
+use Rattle.mmu_core.specs.lines.Forms.{outcome_at, reads_at, records_at}
 use Rattle.mmu_core.specs.machine.Steps.{state_at}
 use Rattle.mmu_core.specs.machine.Outcomes.{answers_after, place_after}
 
@@ -18,6 +18,7 @@ hand_with line command p h t cached v = record {
   topics = t;
   cached = cached;
   slots = records_at p command h.slots;
+  harvest = reads_at p command h v;
   lines = h.lines;
   answers = answers_after (outcome_at p command h v) line h.answers;
 }

@@ -20,7 +20,7 @@ use Rattle.part_steps.specs.PartTasks.{entry_index, part_task, table_page, leaf_
 use Rattle.part_steps.specs.ControlBits.{has_writer}
 use Rattle.part_steps.specs.PartTopics.{part_topics}
 use Rattle.part_steps.specs.StayTopics.{has_lock, may_walk}
-use Rattle.part_steps.specs.SweepTopics.{gone_up}
+use Rattle.part_steps.specs.SweepTopics.{at_top, gone_up}
 use Rattle.part_steps.specs.WalkTopics.{gone_down, linked_page}
 use Rattle.mmu_core.specs.invariant.InvalidationsPart.{LoadedPart, IsEntryStill}
 use Rattle.mmu_core.specs.invariant.TopicsInvariant.{TopicsInvariant}
@@ -81,6 +81,10 @@ own_loaded z v a note (part.Sweep gfn) S I = λ alone out from low.
     let walk : TableWalk = gone_up (v.hand a).topics.walk in
     let j : ℕ = entry_index gfn walk.level in
     gone_loaded (v.words area.Pool) walk j (linked_page (kind_of walk.level (v.words area.Pool (pool_index (table_page walk) j)))) low
+own_loaded z v a note (part.WalkAnew gfn) S I = λ alone out from low.
+    let walk : TableWalk = at_top (v.hand a).topics.walk in
+    let j : ℕ = entry_index gfn 4 in
+    gone_loaded (v.words area.Pool) walk j (linked_page (kind_of 4 (v.words area.Pool (pool_index (table_page walk) j)))) low
 own_loaded z v a note (part.Link gfn) S I = λ alone. absurd (let shared = S.needs.0.shares in cc (alone, shared))
 own_loaded z v a note (part.Leaf gfn write) S I = λ alone. absurd (let shared = S.needs.0.shares in cc (alone, shared))
 own_loaded z v a note (part.Fix gfn) S I = λ alone out. absurd (let section = S.needs.section in cc (out, section))

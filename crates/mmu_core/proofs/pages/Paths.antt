@@ -11,22 +11,23 @@ use Rattle.part_steps.specs.PartTasks.{leaf_written, link_written, table_page}
 use Rattle.part_steps.specs.PartSteps.{PartNeeds}
 use Rattle.part_steps.specs.PartTopics.{part_topics}
 use Rattle.part_steps.specs.StayTopics.{is_outside, may_walk}
-use Rattle.part_steps.specs.SweepTopics.{gone_up, gone_up_once}
-use Rattle.part_steps.specs.WalkTopics.{gone_down, linked_page, swapped}
+use Rattle.part_steps.specs.SweepTopics.{at_top, gone_up, gone_up_once}
+use Rattle.part_steps.specs.WalkTopics.{gone_down, linked_page, swapped, walked}
 use Rattle.core_views.specs.declared.sizes.Sizes.{Sizes}
 use Rattle.core_views.specs.Held.{Held}
 use Rattle.core_views.specs.Sizes.{actors_of}
 use Rattle.mmu_core.specs.invariant.HeldPart.{HeldPart, PathPart, span_at, table_at}
 use Rattle.mmu_core.specs.invariant.TopicsInvariant.{TopicsInvariant}
-use Rattle.mmu_core.specs.invariant.TreePart.{Position, at, stands}
+use Rattle.mmu_core.specs.invariant.TreePart.{Position, TreePart, Use, at, stands}
+use Rattle.mmu_core.proofs.pages.TreePlaces.{root_stands, table_or}
 use Rattle.mmu_core.specs.machine.View.{View, answer_in, part_stepped}
-use Rattle.part_steps.specs.PartTasks.{part_task, leaf_fixed}
+use Rattle.part_steps.specs.PartTasks.{entry_index, part_task, leaf_fixed}
 use Rattle.std.proofs.lemmas.Bool.{cases_lt}
 use Rattle.std.proofs.Common.{◌⊎◌, inl, inr, sym, subst}
 use Rattle.mmu_core.proofs.machine.Columns.{at_upd}
 use Rattle.mmu_core.proofs.machine.PartStepping.{IsPart}
 use Rattle.mmu_core.proofs.words.PartTopics.{behind_step, part_behind}
-use Rattle.mmu_core.proofs.pages.Standing.{spot_after, up_after}
+use Rattle.mmu_core.proofs.pages.Standing.{one_position, spot_after, up_after}
 use Rattle.mmu_core.proofs.pages.UsesStay.{stays_standing}
 
 -- Above the table that a walk has come to, it has gone through the tables that it had gone through or come to before, for the same spans.
@@ -161,16 +162,32 @@ sweep_goes walk index v from low level there above most =
     let on = down_goes (linked_page (kind_of (gone_up walk).level v)) (gone_up walk) index v low level there above most in
     on_up (up_goes walk level from on.down most) on
 
+-- A walk that begins anew goes on from the root.
+anew_goes : (walk : TableWalk) (index v : ℕ) → index < 512 → 1 ≤ walk.level → walk.level ≤ 4 → span_at 4 walk ≡ 0
+    → GoesOn walk (walked (at_top walk) index v)
+anew_goes walk index v low there most top = by (linked_page (kind_of 4 v))
+  where
+    by : (o : Option ℕ) → GoesOn walk (gone_down o (at_top walk) index v)
+    by None level from above few = absurd (omega (arith, above, few))
+    by (Some page) level from above few =
+        let four : level ≡ 4 = omega (arith, above, few) in
+        let none : (0 * 512 + index) / 512 ≡ 0 = omega (arith, low) in
+        subst (GoesOnAt walk (gone_down (Some page) (at_top walk) index v)) (sym four)
+        (record { from = there; down = most; table = refl; span = none ∙ sym top })
+
 -- ---- After each step of a part.
 
 -- A sweep goes on from a table.
 abbrev pub IsInTable : PartStep → TableWalk → Type 0
 IsInTable (part.Sweep gfn) walk = 1 ≤ walk.level
+IsInTable (part.WalkAnew gfn) walk = (1 ≤ walk.level) × (walk.level ≤ 4) × (span_at 4 walk ≡ 0)
 IsInTable _ walk = Unit {0}
 
-in_table : (step : PartStep) (h : Held) → PartNeeds step h → IsInTable step h.topics.walk
-in_table (part.Sweep gfn) h N = N.there
-in_table _ h N = tt
+in_table : (step : PartStep) (h : Held) → PartNeeds step h → (1 ≤ h.topics.walk.level → (h.topics.walk.level ≤ 4) × (span_at 4 h.topics.walk ≡ 0))
+    → IsInTable step h.topics.walk
+in_table (part.Sweep gfn) h N top = N.there
+in_table (part.WalkAnew gfn) h N top = let T = top N.there in (N.there, T.0, T.1)
+in_table _ h N top = tt
 
 pub part_goes : (step : PartStep) (t : Topics) (v : ℕ) → IsInTable step t.walk → GoesOn t.walk (part_topics step t v).walk
 part_goes part.Enter t v from = kept_goes false t.walk
@@ -182,6 +199,7 @@ part_goes part.Release t v from = kept_goes (not (is_outside t.stay)) t.walk
 part_goes part.Root t v from = rooted_goes (may_walk t.stay t.hold) t.walk v
 part_goes (part.Walk gfn) t v from = down_goes (linked_page (kind_of t.walk.level v)) t.walk _ v (omega arith)
 part_goes (part.Sweep gfn) t v from = sweep_goes t.walk _ v from (omega arith)
+part_goes (part.WalkAnew gfn) t v from = anew_goes t.walk (entry_index gfn 4) v (omega arith) from.0 from.1 from.2
 part_goes (part.Link gfn) t v from = swap_goes (v == t.walk.entry) t.walk _ (link_written t) v (omega arith)
 part_goes (part.Leaf gfn write) t v from = swap_goes (v == t.walk.entry) t.walk _ (leaf_written write t) v (omega arith)
 part_goes (part.Fix gfn) t v from = swap_goes (v == t.walk.entry) t.walk _ (leaf_fixed t) v (omega arith)
@@ -205,6 +223,24 @@ whole_path stands t H P level from down most = by (cases_lt t.walk.level level)
         let here : t.walk.level ≡ level = omega (arith, down, not_above) in
         subst (λ l. stands (table_at l t.walk) ≡ Some (at l (span_at l t.walk))) here
         (H.table from ∙ ap (λ r. Some (at t.walk.level r)) (own_span t.walk))
+
+-- The root of a walk is the table at the top.
+pub top_span : {pages root : ℕ} {role pool : ℕ → ℕ} {up : ℕ → Use} {spot : ℕ → Position} → TreePart pages root role pool up spot → (t : Topics)
+    → HeldPart (stands up spot) t → PathPart (stands up spot) t.walk → 1 ≤ t.walk.level → (t.walk.level ≤ 4) × (span_at 4 t.walk ≡ 0)
+top_span {up = up} {spot = spot} T t H P from =
+    let most = (T.there _ _ (H.table from)).2 in
+    let at_4 = whole_path (stands up spot) t H P 4 from most (omega arith) in (
+      most,
+      table_or T (table_at 4 t.walk) (at 4 (span_at 4 t.walk)) at_4
+          (λ e. ap (λ (p : Position). p.prefix) (one_position (sym at_4 ∙ ap (stands up spot) (T.only _ e) ∙ root_stands T)))
+          (λ m j e V. absurd (let lower = V.lower in omega (arith, lower))),
+    )
+
+pub top_stands : {pages root : ℕ} {role pool : ℕ → ℕ} {up : ℕ → Use} {spot : ℕ → Position} → TreePart pages root role pool up spot → (t : Topics)
+    → HeldPart (stands up spot) t → PathPart (stands up spot) t.walk → 1 ≤ t.walk.level → stands up spot t.walk.root ≡ Some (at 4 0)
+top_stands {up = up} {spot = spot} T t H P from =
+    let S = top_span T t H P from in
+    whole_path (stands up spot) t H P 4 from S.0 (omega arith) ∙ ap (λ r. Some (at 4 r)) S.1
 
 -- So does the one to which it goes up.
 pub up_stands : (stands : ℕ → Option Position) (t : Topics) → HeldPart stands t → PathPart stands t.walk → 1 ≤ t.walk.level → t.walk.level ≤ 4
@@ -239,6 +275,7 @@ paths_kept z v a step note S I = behind_step (PathsAt z after) z v a step note S
         at_upd (λ i (h : Held). i < actors_of z → PathPart after h.topics.walk) v.hand a _
         (λ lt. path_on (stands I.up I.spot) after (v.hand a).topics
         (part_topics step (v.hand a).topics (answer_in (part_task step a (v.hand a).topics note) v.words)) (stays_standing z v a step S I)
-        (part_goes step (v.hand a).topics _ (in_table step (v.hand a) S.needs)) (I.held a lt) (I.paths a lt))
+        (part_goes step (v.hand a).topics _ (in_table step (v.hand a) S.needs (top_span I.tree (v.hand a).topics (I.held a lt) (I.paths a lt))))
+        (I.held a lt) (I.paths a lt))
         (λ i apart lt level from above most. stays_standing z v a step S I (table_at level (v.hand i).topics.walk)
         (at level (span_at level (v.hand i).topics.walk)) (I.paths i lt level from above most))

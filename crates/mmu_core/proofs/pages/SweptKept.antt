@@ -189,6 +189,8 @@ own_swept z v a note (part.Walk gfn) S I = λ alone out opened. absurd
     (let idle = S.needs.1 in let busy = sweeps (v.hand a).topics out alone (ap (λ (b : Bool). b || is_some (v.hand a).topics.retired) opened) in cc
     (idle, busy))
 own_swept z v a note (part.Sweep gfn) S I = sweep_own z v a note gfn S I
+own_swept z v a note (part.WalkAnew gfn) S I = λ alone out opened. absurd
+    (let neither = S.needs.sweeps_not in let open_ = ap (λ (b : Bool). b || is_some (v.hand a).topics.retired) opened in cc (neither, open_))
 own_swept z v a note (part.Link gfn) S I = λ alone. absurd (let shared = S.needs.0.shares in cc (alone, shared))
 own_swept z v a note (part.Leaf gfn write) S I = λ alone. absurd (let shared = S.needs.0.shares in cc (alone, shared))
 own_swept z v a note (part.Fix gfn) S I = λ alone out. absurd (let section = S.needs.section in cc (out, section))

@@ -143,7 +143,7 @@ module _ (command : Command) (h : Held) (v : ℕ) where
   change_claims_or_not (AtOnce refusal) = inr (record {
     at = no_claim (AtOnce refusal) refl;
     step = λ map. refl;
-    note = refl;
+    note = inl refl;
     keeps = λ K map S. absurd (no_scan_between map S);
     starved = λ K map e. absurd (refused_not refusal map K.1.1 e);
   })

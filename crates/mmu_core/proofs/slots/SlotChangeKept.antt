@@ -171,7 +171,7 @@ published_kept z v a line command S I P knows =
     own : OwnLines z a after
     own =
         lines_behind z a h line (state_at (place.SlotChange Publish) command h set) (Goes (place.SlotChange Release)) after.topics after.cached
-        (slots_after command h.slots) O S.next S.left O.sizes refl
+        (slots_after command h.slots) after.harvest O S.next S.left O.sizes refl
         (flushed_room (kind_of_task h.state.sizes (slot_change_task Publish h command)) h.cached set) recorded
 
 -- The invariant after each of its steps, where each actor knows after it what its place asks.

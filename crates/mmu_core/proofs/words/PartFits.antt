@@ -111,6 +111,7 @@ part_within_by part.Give h note N R = give_within h note N.0 R
 part_within_by part.Slot h note N R = slot_within h note N.0 N.1 R
 part_within_by (part.Walk gfn) h note N R = pool_within (map_of h.state.sizes) (table_page h.topics.walk) _ (R.table N.0.there) (omega arith)
 part_within_by (part.Sweep gfn) h note N R = pool_within (map_of h.state.sizes) (table_page (gone_up h.topics.walk)) _ (R.above N.there) (omega arith)
+part_within_by (part.WalkAnew gfn) h note N R = pool_within (map_of h.state.sizes) h.topics.walk.root _ (R.root N.there) (omega arith)
 part_within_by (part.Link gfn) h note N R = pool_within (map_of h.state.sizes) (table_page h.topics.walk) _ (R.table N.0.saw.over.there) (omega arith)
 part_within_by (part.Leaf gfn write) h note N R =
     pool_within (map_of h.state.sizes) (table_page h.topics.walk) _ (R.table N.0.saw.over.there) (omega arith)

@@ -1,6 +1,6 @@
 -- What an actor holds after each step of a part: the topics of the step, written out.
 use Rattle.std.proofs.Common.{◌≡◌, ◌+◌, ◌-◌, ◌<◌, ◌≤◌, ℕ, refl, sym, subst, ap, ◌∙◌, arith}
-use Rattle.std.specs.Prelude.{Bool, true, false, ◌==◌, ◌&&◌, ◌||◌, if◌then◌else◌, Some, None, is_some}
+use Rattle.std.specs.Prelude.{not, Bool, true, false, ◌==◌, ◌&&◌, ◌||◌, if◌then◌else◌, Some, None, is_some}
 use Rattle.std.proofs.lemmas.Bool.Decides.{nat_tests}
 use Rattle.core_views.specs.declared.sizes.Sizes.{Sizes}
 use Rattle.core_views.specs.declared.kind.StepKind.TheVariants as kind
@@ -28,7 +28,7 @@ use Rattle.mmu_core.proofs.words.MapTopics.{filled_topics, frame_map_topics, lon
 pub use Rattle.mmu_core.proofs.words.MapTopics.{map_end, map_word_at}
 use Rattle.part_steps.specs.Tasks.{kind_of_task, loads, map_of}
 use Rattle.part_steps.specs.StayTopics.{is_alone, is_outside}
-use Rattle.part_steps.specs.SweepTopics.{gone_up, is_sweeping, walk_on}
+use Rattle.part_steps.specs.SweepTopics.{at_top, gone_up, has_entry, is_sweeping, walk_on, walks_anew}
 use Rattle.part_steps.specs.WalkTopics.{is_in_table, still_owned, swapped, walked, gone_down, owed_after}
 use Rattle.part_steps.specs.ControlBits.{in_section}
 use Rattle.part_steps.specs.ControlBits.{has_to_flush}
@@ -45,7 +45,8 @@ IsThere z t (part.FrameMap word) = word < words_of_bits z.frames
 IsThere z t (part.Fill value) = (page_owned t.owned < z.pool) × (words_filled t.owned < 512)
 IsThere z t (part.Role value) = page_owned t.owned < z.pool
 IsThere z t part.Clear = page_retired t.retired < z.pool
-IsThere z t (part.Walk gfn) = (1 ≤ t.walk.level) × (is_sweeping t ≡ false)
+IsThere z t (part.Walk gfn) = (1 ≤ t.walk.level) × (is_sweeping t ≡ false) × (walks_anew t ≡ false)
+IsThere z t (part.WalkAnew gfn) = (1 ≤ t.walk.level) × (is_sweeping t ≡ false) × (walks_anew t ≡ true)
 IsThere z t (part.Sweep gfn) = (1 ≤ t.walk.level) × (is_sweeping t ≡ true)
 IsThere z t (part.Link gfn) = 1 ≤ t.walk.level
 IsThere z t (part.Leaf gfn write) = 1 ≤ t.walk.level
@@ -73,6 +74,11 @@ behind_host z page = omega arith
 
 in_table : (walk : TableWalk) → 1 ≤ walk.level → is_in_table walk ≡ true
 in_table walk from = grind (arith, nat_tests)
+
+-- the walk from which the next entry is loaded, by whether the actor sweeps
+walks_from : (t : Topics) (b : Bool) → is_sweeping t ≡ b
+    → walk_on t ≡ (if b then gone_up t.walk else if walks_anew t then at_top t.walk else t.walk)
+walks_from t b is = ap (λ (x : Bool). if x then gone_up t.walk else if walks_anew t then at_top t.walk else t.walk) is
 
 -- a load or an exchange of an entry, where the walk has come to a table
 walk_topics : (z : Sizes) (gfn : ℕ) (walk : TableWalk) (t : Topics) (note v : ℕ) → 1 ≤ t.walk.level → walk_on t ≡ walk
@@ -146,9 +152,10 @@ part_topics_is z part.RangeStart own t note v there = lone_is z 4 t v (omega ari
 part_topics_is z part.RangeEnd own t note v there = lone_is z 5 t v (omega arith)
 part_topics_is z part.Root own t note v there = lone_is z 0 t v (omega arith)
 part_topics_is z (part.Walk gfn) own t note v there =
-    walk_topics z gfn t.walk t note v there.0 (ap (λ (b : Bool). if b then gone_up t.walk else t.walk) there.1)
-part_topics_is z (part.Sweep gfn) own t note v there =
-    walk_topics z gfn (gone_up t.walk) t note v there.0 (ap (λ (b : Bool). if b then gone_up t.walk else t.walk) there.1)
+    walk_topics z gfn t.walk t note v there.0 (walks_from t false there.1 ∙ ap (λ (b : Bool). if b then at_top t.walk else t.walk) there.2)
+part_topics_is z (part.Sweep gfn) own t note v there = walk_topics z gfn (gone_up t.walk) t note v there.0 (walks_from t true there.1)
+part_topics_is z (part.WalkAnew gfn) own t note v there =
+    walk_topics z gfn (at_top t.walk) t note v there.0 (walks_from t false there.1 ∙ ap (λ (b : Bool). if b then at_top t.walk else t.walk) there.2)
 part_topics_is z (part.Link gfn) own t note v there = swap_topics z gfn (link_written t) note t v there
 part_topics_is z (part.Leaf gfn write) own t note v there = swap_topics z gfn (leaf_written write t) note t v there
 part_topics_is z (part.Fix gfn) own t note v there = swap_topics z gfn (leaf_fixed t) note t v there
@@ -156,6 +163,8 @@ part_topics_is z (part.Host page) own t note v there = ap (λ p. record t { host
 part_topics_is z (part.Watch index) own t note v there = ap (λ i. record t { watched = i + (if in_section v then 0 else 1) }) (state_place z index)
 part_topics_is z (part.Zap gfn) own t note v there = left_topics z gfn 0 t there
 part_topics_is z (part.Arm word bits) own t note v there = ap (λ i. record t { next_log_word = i + 1 }) (behind_log z word)
+part_topics_is z (part.Take word mask) own t note v there = ap (λ i. record t { next_log_word = i + 1 }) (behind_log z word)
+part_topics_is z (part.Peek word) own t note v there = ap (λ i. record t { next_log_word = i + 1 }) (behind_log z word)
 part_topics_is z (part.Protect gfn) own t note v there = left_topics z gfn (without_write t.walk.entry) t there
 part_topics_is z (part.Ask index) own t note v there = ap (λ i. record t { flush = record t.flush { asked = i + 1 } }) (state_place z index)
 part_topics_is z (part.Await index) own t note v there = ap (λ i. record t { flush = record t.flush { awaited = i + (if has_to_flush v then 0 else 1) } })
@@ -178,6 +187,7 @@ part_hand step own note h v = record {
   topics = part_topics step h.topics v;
   cached = flushed (kind_of_task h.state.sizes (part_task step own h.topics note)) h.cached v;
   slots = h.slots;
+  harvest = h.harvest;
   lines = h.lines;
   answers = h.answers;
 }
@@ -198,6 +208,28 @@ no_sweep {s} t stay inside =
     ap (λ (x : Stay). is_outside x && (is_alone t.hold && (t.invalidations.opened || is_some t.retired))) stay
     ∙ ap (λ (b : Bool). b && (is_alone t.hold && (t.invalidations.opened || is_some t.retired))) inside
 
+-- Nor does its walk begin anew.
+pub no_anew : {s : Stay} (t : Topics) → t.stay ≡ s → is_outside s ≡ false → walks_anew t ≡ false
+no_anew {s} t stay inside =
+    ap (λ (x : Stay). is_outside x && (is_alone t.hold && (not (t.invalidations.opened || is_some t.retired) && has_entry t.walk))) stay
+    ∙ ap (λ (b : Bool). b && (is_alone t.hold && (not (t.invalidations.opened || is_some t.retired) && has_entry t.walk))) inside
+
+-- Who has the lock alone, outside, with none of these: it sweeps nothing; and its walk begins anew once an entry was loaded that leads no further.
+pub sweeps_not : (t : Topics) → (t.invalidations.opened || is_some t.retired) ≡ false → is_sweeping t ≡ false
+sweeps_not t neither = ap (λ (b : Bool). is_outside t.stay && (is_alone t.hold && b)) neither ∙ none (is_outside t.stay) (is_alone t.hold)
+  where
+    none : (x y : Bool) → (x && (y && false)) ≡ false
+    none true true = refl
+    none true false = refl
+    none false y = refl
+
+pub begins_anew : (t : Topics) → t.stay ≡ Outside → t.hold ≡ Exclusive → (t.invalidations.opened || is_some t.retired) ≡ false
+    → walks_anew t ≡ has_entry t.walk
+begins_anew t outside alone neither =
+    ap (λ (s : Stay). is_outside s && (is_alone t.hold && (not (t.invalidations.opened || is_some t.retired) && has_entry t.walk))) outside
+    ∙ ap (λ (k : Hold). is_alone k && (not (t.invalidations.opened || is_some t.retired) && has_entry t.walk)) alone
+    ∙ ap (λ (b : Bool). not b && has_entry t.walk) neither
+
 -- Who has the lock alone, outside, with its own invalidation open or a retired page sweeps.
 pub sweeps : (t : Topics) → t.stay ≡ Outside → t.hold ≡ Exclusive → (t.invalidations.opened || is_some t.retired) ≡ true → is_sweeping t ≡ true
 sweeps t outside alone either =
@@ -211,7 +243,8 @@ is_there (part.FrameMap word) h N = N.1
 is_there (part.Fill value) h N = (N.2, N.0.1)
 is_there (part.Role value) h N = N.2
 is_there part.Clear h N = N.in_pool
-is_there (part.Walk gfn) h N = (N.0.there, N.1)
+is_there (part.Walk gfn) h N = (N.0.there, N.1, N.2)
+is_there (part.WalkAnew gfn) h N = (N.there, sweeps_not h.topics N.sweeps_not, begins_anew h.topics N.outside N.alone N.sweeps_not ∙ N.loaded)
 is_there (part.Sweep gfn) h N = (N.there, sweeps h.topics N.outside N.alone N.sweeps)
 is_there (part.Link gfn) h N = N.0.saw.over.there
 is_there (part.Leaf gfn write) h N = N.0.saw.over.there
@@ -237,6 +270,7 @@ part_stepped_is z v a step note S =
             flushed (kind_of_task (v.hand a).state.sizes (part_task step a (v.hand a).topics note)) (v.hand a).cached
             (answer_in (part_task step a (v.hand a).topics note) v.words);
         slots = (v.hand a).slots;
+        harvest = (v.hand a).harvest;
         lines = (v.hand a).lines;
         answers = (v.hand a).answers;
       });

@@ -7,7 +7,7 @@ use Rattle.core_views.specs.declared.place.Leaving.TheVariants as leaving
 use Rattle.core_views.specs.declared.sizes.Sizes.{Sizes}
 use Rattle.core_views.specs.declared.topics.Topics.{Topics}
 use Rattle.core_views.specs.declared.trace.Command.{Command}
-use Rattle.core_views.specs.declared.trace.Command.TheVariants.{Access, ChangeHost, SetLog}
+use Rattle.core_views.specs.declared.trace.Command.TheVariants.{Access, ChangeHost, ClearLog, GetLog, SetLog}
 use Rattle.spte_words.specs.Areas.{words_of_bits}
 use Rattle.mmu_core.specs.lines.FaultLeft.{fault_left}
 pub use Rattle.mmu_core.specs.lines.SearchLeft.{look_left}
@@ -34,4 +34,6 @@ most_steps z (Access gfn word op) = 8192 + z.pool + z.frames
 most_steps z (ChangeHost page change) = 1024 + words_of_bits z.frames
 most_steps z (SetLog id true) = 1024 + 5 * z.pages + words_of_bits z.pool + words_of_bits z.pages
 most_steps z (SetLog id false) = 1024 + words_of_bits z.pool
+most_steps z (GetLog id) = 1024 + 5 * z.pages + words_of_bits z.pages
+most_steps z (ClearLog id first count words) = 1024 + 5 * z.pages + words_of_bits z.pages
 most_steps z _ = 1024 + 5 * z.pages + words_of_bits z.pool

@@ -1,8 +1,8 @@
 -- What each form of line says at its places: a clause a form in each table. The tables are filled in by the form's own files.
-use Rattle.mmu_core.specs.lines.HostKnows.{HostKnows, HostRests, host_opens, host_owns_frame}
+use Rattle.mmu_core.specs.lines.HostKnows.{HostKnows, HostRests}
 use Rattle.mmu_core.specs.lines.HostSteps.{host_left, host_note, host_outcome, host_part, host_tells}
 use Rattle.core_views.specs.declared.place.HostPlace.TheVariants as host
-use Rattle.std.specs.Prelude.{◌≡◌, ℕ, Bool, List, [], Option, Some, None, true, false}
+use Rattle.std.specs.Prelude.{◌≡◌, ℕ, List, [], Option, Some, is_some, true, false}
 use Rattle.circular_buffer.specs.Buffer.{Buffer}
 use Rattle.core_views.specs.declared.cache.Translation.{Translation}
 use Rattle.core_views.specs.declared.event.EventKind.{EventKind}
@@ -12,9 +12,10 @@ use Rattle.core_views.specs.declared.place.Place.TheVariants as place
 use Rattle.core_views.specs.declared.sizes.Sizes.{Sizes}
 use Rattle.core_views.specs.declared.topics.Topics.{Topics}
 use Rattle.core_views.specs.declared.trace.Command.{Command}
-use Rattle.core_views.specs.declared.trace.Command.TheVariants.{Access, ChangeHost}
+use Rattle.core_views.specs.declared.trace.Command.TheVariants.{Access, ChangeHost, ClearLog, GetLog}
 use Rattle.core_views.specs.Held.{Held, State}
 use Rattle.core_views.specs.HostChanges.{moves_page}
+use Rattle.core_views.specs.LogCommands.{log_read, read_refusal, takes_out}
 use Rattle.core_views.specs.SlotCommands.{change_at_once, changes_slot}
 use Rattle.core_views.specs.Slots.{is_write}
 use Rattle.core_views.specs.SlotSets.{MemorySlots}
@@ -26,7 +27,13 @@ use Rattle.mmu_core.specs.declared.outcome.Outcome.TheVariants.{Goes}
 use Rattle.mmu_core.specs.lines.AccessKnows.{AccessKnows, RestsOn}
 use Rattle.mmu_core.specs.lines.AccessSteps.{access_caches, access_loads, access_note, access_outcome, access_part, access_tells}
 use Rattle.mmu_core.specs.lines.Bounds.{access_left}
-use Rattle.mmu_core.specs.lines.SlotChangeKnows.{RecordAccepts, SlotChangeHolds, SlotChangeKnows, SlotChangeRests, slot_change_opens, slot_change_retires}
+use Rattle.mmu_core.specs.lines.LogKnows.{LogKnows, LogRests}
+use Rattle.mmu_core.specs.lines.LogLeft.{log_left}
+use Rattle.mmu_core.specs.lines.LogOutcomes.{after_log, harvest_after}
+use Rattle.mmu_core.specs.lines.LogSteps.{log_first, log_next, log_note, log_part, log_reads}
+use Rattle.mmu_core.specs.lines.LogTells.{log_tells}
+pub use Rattle.mmu_core.specs.lines.MayHave.{RetiresPart, may_open, may_own_frame, may_retire}
+use Rattle.mmu_core.specs.lines.SlotChangeKnows.{RecordAccepts, SlotChangeHolds, SlotChangeKnows, SlotChangeRests}
 use Rattle.mmu_core.specs.lines.SlotChangeLeft.{slot_change_left}
 use Rattle.mmu_core.specs.lines.SlotChangeSteps.{slot_change_first, slot_change_note, slot_change_outcome, slot_change_part}
 use Rattle.mmu_core.specs.lines.SlotChangeSteps.{slot_change_records}
@@ -38,6 +45,9 @@ use Rattle.mmu_core.specs.lines.SlotChangeTells.{slot_change_tells}
 abbrev pub first_place : Sizes → MemorySlots → Command → Place
 first_place z slots (Access gfn word op) = place.Access (Enter false)
 first_place z slots (ChangeHost page change) = place.Host (host.Look (moves_page (ChangeHost page change)))
+first_place z slots (GetLog id) = place.Log (log_first (read_refusal (GetLog id) slots) (takes_out z.mode (GetLog id)))
+first_place z slots (ClearLog id first count words) =
+    place.Log (log_first (read_refusal (ClearLog id first count words) slots) (takes_out z.mode (ClearLog id first count words)))
 first_place z slots command = place.SlotChange (slot_change_first (change_at_once z command slots))
 
 -- the step of a part at each place; none where the guest touches
@@ -45,6 +55,7 @@ abbrev pub part_at : Place → Command → Held → Option PartStep
 part_at (place.Access p) (Access gfn word op) h = access_part p gfn h.topics
 part_at (place.SlotChange p) command h = Some (slot_change_part p h command)
 part_at (place.Host p) (ChangeHost page change) h = Some (host_part p page change h)
+part_at (place.Log p) command h = Some (log_part p h command)
 part_at _ _ h = Some part.Seq
 
 -- 1 where the line may end with it
@@ -52,6 +63,7 @@ abbrev pub note_at : Place → Command → Held → ℕ
 note_at (place.Access p) (Access gfn word op) h = access_note p
 note_at (place.SlotChange p) command h = slot_change_note p h
 note_at (place.Host p) (ChangeHost page change) h = host_note p page h
+note_at (place.Log p) command h = log_note p h command
 note_at _ _ h = 0
 
 -- where the line stands after it
@@ -59,6 +71,7 @@ abbrev pub outcome_at : Place → Command → Held → ℕ → Outcome
 outcome_at (place.Access p) (Access gfn word op) h v = access_outcome p h gfn op v
 outcome_at (place.SlotChange p) command h v = slot_change_outcome p command h v
 outcome_at (place.Host p) (ChangeHost page change) h v = host_outcome p page h v
+outcome_at (place.Log p) command h v = after_log (log_next p command h v) (log_reads p command h v)
 outcome_at p _ h v = Goes p
 
 -- the most steps that a line has left where it stands, where nobody is in its way
@@ -67,6 +80,7 @@ steps_left place.Between c z t = 0
 steps_left (place.Access p) c z t = access_left p z t
 steps_left (place.SlotChange p) c z t = slot_change_left p c z t
 steps_left (place.Host p) c z t = host_left p z t
+steps_left (place.Log p) c z t = log_left p z t
 
 -- ---- what a step makes besides
 
@@ -85,11 +99,17 @@ abbrev pub records_at : Place → Command → MemorySlots → MemorySlots
 records_at (place.SlotChange p) command slots = slot_change_records p command slots
 records_at _ _ slots = slots
 
+-- what the line has read of a dirty log after it
+abbrev pub reads_at : Place → Command → Held → ℕ → List ℕ
+reads_at (place.Log p) command h v = harvest_after (log_next p command h v) (log_reads p command h v)
+reads_at _ _ h v = h.harvest
+
 -- what it tells of the line, besides its begin and its answer
 abbrev pub tells_at : Place → Command → Held → ℕ → List EventKind
 tells_at (place.Access p) (Access gfn word op) h v = access_tells p h gfn word op v
 tells_at (place.SlotChange p) command h v = slot_change_tells p h command v
 tells_at (place.Host p) (ChangeHost page change) h v = host_tells p page change h v
+tells_at (place.Log p) command h v = log_tells p command h v
 tells_at _ _ h v = []
 
 -- ---- what its actor knows there
@@ -99,6 +119,7 @@ abbrev pub RestsAt : Place → Command → Held → Type 0
 RestsAt (place.Access p) (Access gfn word op) h = RestsOn (access_part p gfn h.topics) gfn (is_write op) h
 RestsAt (place.SlotChange p) command h = (changes_slot command ≡ true) × PartNeeds (slot_change_part p h command) h × SlotChangeRests p command h
 RestsAt (place.Host p) (ChangeHost page change) h = PartNeeds (host_part p page change h) h × HostRests p h
+RestsAt (place.Log p) command h = (is_some (log_read command) ≡ true) × PartNeeds (log_part p h command) h × LogRests p command h
 RestsAt place.Between command h = Unit {0}
 RestsAt _ _ h = ⊥
 
@@ -113,6 +134,7 @@ KnowsPart place.Between command h = has_line h ≡ true → IsAtRest h.topics
 KnowsPart (place.Access p) (Access gfn word op) h = AccessKnows p gfn (is_write op) h
 KnowsPart (place.SlotChange p) command h = (changes_slot command ≡ true) × SlotChangeKnows p command h
 KnowsPart (place.Host p) (ChangeHost page change) h = HostKnows p page change h
+KnowsPart (place.Log p) command h = LogKnows p command h
 KnowsPart _ _ h = ⊥
 
 -- Loads: what the line under way has loaded or stored agrees with the words of the pool, and with the published set.
@@ -120,27 +142,6 @@ abbrev pub Holds : Sizes → (ℕ → ℕ) → ℕ → Place → Command → Hel
 Holds z pool set (place.Access p) (Access gfn word op) h = Unit {0}
 Holds z pool set (place.SlotChange p) command h = SlotChangeHolds z pool p command h
 Holds z pool set (place.Host p) (ChangeHost page change) h = Unit {0}
+Holds z pool set (place.Log p) command h = Unit {0}
 Holds z pool set place.Between command h = Unit {0}
 Holds z pool set _ _ h = ⊥
-
--- ---- what it has there, beside what its line knows
-
--- Its actor may have a page that is retired, an open invalidation, or a frame.
-abbrev pub may_retire : Place → Bool
-may_retire (place.SlotChange p) = slot_change_retires p
-may_retire _ = false
-
-abbrev pub may_open : Place → Bool
-may_open (place.SlotChange p) = slot_change_opens p
-may_open (place.Host p) = host_opens p
-may_open _ = false
-
-abbrev pub may_own_frame : Place → Bool
-may_own_frame (place.Host p) = host_owns_frame p
-may_own_frame _ = false
-
--- It has them at no other place.
-pub record RetiresPart (p : Place) (t : Topics) : Type 0 where
-  pub leaves : may_retire p ≡ false → t.retired ≡ None
-  pub opens : may_open p ≡ false → t.invalidations.opened ≡ false
-  pub frames : may_own_frame p ≡ false → t.frames.owned ≡ None

@@ -18,7 +18,7 @@ use Rattle.part_steps.specs.declared.task.Task.{Task}
 use Rattle.mmu_core.specs.lines.Cached.{flushed}
 pub use Rattle.part_steps.specs.PartSteps.{has_line}
 use Rattle.mmu_core.specs.lines.Delays.{counted, delays_counted, is_delay, steps_counted}
-use Rattle.mmu_core.specs.lines.Forms.{caches_at, first_place, loads_at, outcome_at, records_at, tells_at}
+use Rattle.mmu_core.specs.lines.Forms.{caches_at, first_place, loads_at, outcome_at, reads_at, records_at, tells_at}
 pub use Rattle.mmu_core.specs.lines.PartAt.{task_at}
 use Rattle.mmu_core.specs.machine.Outcomes.{answering, answers_after, place_after}
 use Rattle.part_steps.specs.TopicSteps.{topics_after}
@@ -54,6 +54,7 @@ line_after line p h v = record {
   topics = h.topics;
   cached = caches_at p line.command h v;
   slots = records_at p line.command h.slots;
+  harvest = reads_at p line.command h v;
   lines = h.lines;
   answers = answers_after (outcome_at p line.command h v) line h.answers;
 }
@@ -65,6 +66,7 @@ held_after line p h k v = record {
   topics = topics_after h.state.sizes k h.topics v;
   cached = flushed k (caches_at p line.command h v) v;
   slots = records_at p line.command h.slots;
+  harvest = reads_at p line.command h v;
   lines = h.lines;
   answers = answers_after (outcome_at p line.command h v) line h.answers;
 }
@@ -77,6 +79,7 @@ idle_after h k v =
       topics = topics_after h.state.sizes k h.topics v;
       cached = flushed k h.cached v;
       slots = h.slots;
+      harvest = h.harvest;
       lines = h.lines;
       answers = h.answers;
     }

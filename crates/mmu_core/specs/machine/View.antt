@@ -14,7 +14,7 @@ use Rattle.part_steps.specs.declared.task.Task.{Task}
 use Rattle.mmu_core.specs.lines.Cached.{flushed}
 use Rattle.mmu_core.specs.machine.Enabled.{mmu}
 use Rattle.mmu_core.specs.machine.Machine.{World, hand_in}
-use Rattle.mmu_core.specs.lines.Forms.{caches_at, outcome_at, records_at}
+use Rattle.mmu_core.specs.lines.Forms.{caches_at, outcome_at, reads_at, records_at}
 use Rattle.mmu_core.specs.machine.Steps.{idle_after, state_at, task_at}
 use Rattle.part_steps.specs.PartTasks.{own_index, part_task}
 use Rattle.part_steps.specs.declared.part_step.PartStep.{PartStep}
@@ -61,6 +61,7 @@ hand_after line command p h v = record {
   topics = topics_after h.state.sizes (kind_of_task h.state.sizes (task_at p command h)) h.topics v;
   cached = flushed (kind_of_task h.state.sizes (task_at p command h)) (caches_at p command h v) v;
   slots = records_at p command h.slots;
+  harvest = reads_at p command h v;
   lines = h.lines;
   answers = answers_after (outcome_at p command h v) line h.answers;
 }

@@ -1,4 +1,6 @@
 -- Which events are no move of a page, nor a move that is refused a frame: all that lines tell but at the claim of a frame and at the exchange of a host word.
+use Rattle.core_views.specs.declared.trace.Command.TheVariants.{ClearLog, GetLog}
+use Rattle.mmu_core.proofs.lines.LogTold.{log_tells_so}
 use Rattle.std.proofs.Common.{◌≡◌, ◌≢◌, List, [], ◌∷◌, ◌++◌, ℕ, refl}
 use Rattle.std.specs.Prelude.{Bool, true, false, ◌==◌}
 use Rattle.core_views.specs.declared.actor.Actor.{Actor}
@@ -34,7 +36,7 @@ use Rattle.mmu_core.specs.machine.Outcomes.{answering}
 use Rattle.mmu_core.specs.machine.Steps.{beginning}
 use Rattle.mmu_core.proofs.lines.EitherPlace.{either_place}
 use Rattle.mmu_core.proofs.lines.Forms.{place_tells}
-use Rattle.mmu_core.proofs.lines.SimplePlaces.{Told, Nothing, Arms, ArmsClean, Exit, Change, OfAccess, OfHost}
+use Rattle.mmu_core.proofs.lines.SimplePlaces.{Told, Nothing, Arms, ArmsClean, Exit, Change, OfAccess, OfHost, OfLog}
 use Rattle.mmu_laws.proofs.flat.Told.{told}
 
 abbrev pub IsNoMove : EventKind → Type 0
@@ -89,6 +91,8 @@ moves_at _ _ = false
 pub first_moves_not : (z : Sizes) (slots : MemorySlots) (command : Command) → moves_at (first_place z slots command) command ≡ false
 first_moves_not z slots (Access gfn word op) = refl
 first_moves_not z slots (ChangeHost page change) = refl
+first_moves_not z slots (GetLog id) = refl
+first_moves_not z slots (ClearLog id first count words) = refl
 first_moves_not z slots _ = refl
 
 end_no_move : (e : FaultEnd) → AreNoMoves (exiting (fault_over e))
@@ -126,6 +130,8 @@ tells_no_move p command h v = by p command (tells_at p command h v) (place_tells
     by _ _ _ (ArmsClean range id seen last) other = (tt, tt)
     by q c _ (Change id slot at more) other = (tt, by q c _ more other)
     by _ _ _ (OfAccess q gfn word op) other = access_no_move q h gfn word op v
+    by _ c _ (OfLog q) other =
+        log_tells_so AreNoMoves tt (λ id. (tt, tt)) (λ id frames. (tt, tt)) (λ id frames. (tt, tt)) (λ id frames. (tt, (tt, tt))) q c h v
     by _ _ _ (OfHost (host.Claim begun) page change) other = absurd (cc other)
     by _ _ _ (OfHost host.Change page change) other = absurd (cc other)
     by _ _ _ (OfHost (host.Look moving) page change) other =

@@ -15,7 +15,7 @@ use Rattle.mmu_core.specs.machine.Machine.{run}
 use Rattle.mmu_core.specs.machine.View.{View, view}
 use Rattle.mmu_core.specs.machine.Worlds.{history}
 use Rattle.log_invariant.specs.Covered.{IsCovered}
-use Rattle.log_invariant.specs.LogBegins.{MayAllow, MayUse, SweepsLaterAt}
+use Rattle.log_invariant.specs.LogBegins.{ExcusesLeaf, ExcusesCached, SweepsLaterAt}
 use Rattle.log_invariant.specs.LogInvariant.{IsGuarded, IsGuardedIn, LogInvariant}
 use Rattle.log_invariant.proofs.LogRuns.{writes_are_covered}
 use Rattle.mmu_laws.specs.flat.ArmedSlots.{ArmedSlotsAreCovered, IsCoveredOf, IsCoveredSlot}
@@ -28,7 +28,7 @@ sweep_forbids : (p : Place) (h : Held) (gfn : ℕ) → SweepsLaterAt p h gfn →
 sweep_forbids (place.SlotChange (WriteProtect range q)) h gfn later = later.0
 sweep_forbids _ h gfn later = absurd later
 
-allow_begins : (h : Held) (gfn : ℕ) → MayAllow h gfn → IsBeginning h gfn
+allow_begins : (h : Held) (gfn : ℕ) → ExcusesLeaf h gfn → IsBeginning h gfn
 allow_begins h gfn (inl opens) = inl opens
 allow_begins h gfn (inr later) = inr (sweep_forbids h.state.place h gfn later)
 
@@ -48,12 +48,12 @@ covered_slot z v f id G L on =
       slot = A.slot;
       logged = A.logged;
       leaves = λ up spot T table entry gfn hangs over leaf allows.
-          all_covered z v id gfn A MayAllow (λ h. allow_begins h gfn) (G.leaves up spot T table entry gfn hangs over leaf allows);
-      cached = λ k low may i d lt allows. all_covered z v id _ A (MayUse k (v.words area.State k)) (λ h. use_begins k (v.words area.State k) h _)
+          all_covered z v id gfn A ExcusesLeaf (λ h. allow_begins h gfn) (G.leaves up spot T table entry gfn hangs over leaf allows);
+      cached = λ k low may i d lt allows. all_covered z v id _ A (ExcusesCached k (v.words area.State k)) (λ h. use_begins k (v.words area.State k) h _)
           (G.cached k low may i d lt allows);
     }
 
 pub armed_slots_are_covered : ArmedSlotsAreCovered
 armed_slots_are_covered z lines w ss id start legal on =
-    covered_slot z (view z (run mmu w ss)) (after_all (history w ss) first_flat) id (writes_are_covered z lines w ss start legal)
+    covered_slot z (view z (run mmu w ss)) (after_all (history w ss) first_flat) id (writes_are_covered z lines w ss start legal).holds
     (every_log z lines w ss start legal) on

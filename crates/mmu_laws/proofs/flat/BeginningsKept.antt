@@ -1,4 +1,9 @@
 -- Which hands are to begin a log for flat memory: after a step that publishes nothing only those that were so before it, and the manager's alone.
+use Rattle.core_views.specs.declared.answer.Refusal.{Refusal}
+use Rattle.core_views.specs.declared.place.LogPlace.TheVariants as log
+use Rattle.core_views.specs.LogCommands.{read_refusal, takes_out}
+use Rattle.mmu_core.specs.lines.LogSteps.{log_first}
+use Rattle.core_views.specs.declared.trace.Command.TheVariants.{ClearLog, GetLog}
 use Rattle.std.proofs.Common.{◌≡◌, inl, inr, ◌<◌, ◌++◌, [], ℕ, List, refl, sym, subst, ap, ◌∙◌}
 use Rattle.std.specs.Prelude.{Bool, true, false, Option, Some, None}
 use Rattle.core_views.specs.declared.actor.Actor.TheVariants.{Manager}
@@ -30,7 +35,7 @@ use Rattle.mmu_core.proofs.machine.Columns.{at_upd}
 use Rattle.mmu_core.proofs.machine.HandAfter.{loads_same}
 use Rattle.mmu_core.proofs.machine.Stepping.{IsStep}
 use Rattle.mmu_core.proofs.slots.SlotChangeKept.{change_hand}
-use Rattle.log_invariant.specs.LogBegins.{OpensLogAt}
+use Rattle.log_invariant.specs.LogBegins.{LogIsUnwatchedAt}
 use Rattle.log_invariant.proofs.StepPlaces.{publishes}
 use Rattle.mmu_laws.specs.flat.FlatLogs.{IsBeginning}
 use Rattle.mmu_laws.proofs.flat.FlatKept.{told_events, told_kinds}
@@ -45,15 +50,26 @@ is_first (place.Access (access.Enter false)) = true
 is_first (place.SlotChange (change.AtOnce refusal)) = true
 is_first (place.SlotChange (change.Claim false)) = true
 is_first (place.Host (host_at.Look moving)) = true
+is_first (place.Log (log.AtOnce refusal)) = true
+is_first (place.Log log.Exclude) = true
+is_first (place.Log (log.Peek false)) = true
 is_first _ = false
 
 first_change : (r : Option (Option Refusal)) → is_first (place.SlotChange (slot_change_first r)) ≡ true
 first_change None = refl
 first_change (Some refusal) = refl
 
+first_log : (r : Option Refusal) (out : Bool) → is_first (place.Log (log_first r out)) ≡ true
+first_log (Some refusal) out = refl
+first_log None true = refl
+first_log None false = refl
+
 begins_first : (z : Sizes) (slots : MemorySlots) (command : Command) → is_first (first_place z slots command) ≡ true
 begins_first z slots (Access gfn word op) = refl
 begins_first z slots (ChangeHost page change) = refl
+begins_first z slots (GetLog id) = first_log (read_refusal (GetLog id) slots) (takes_out z.mode (GetLog id))
+begins_first z slots (ClearLog id first count words) =
+    first_log (read_refusal (ClearLog id first count words) slots) (takes_out z.mode (ClearLog id first count words))
 begins_first z slots command = first_change (change_at_once z command slots)
 
 -- The hand's line is under way, at the place.
@@ -80,6 +96,8 @@ stands_at z v a line command p S later = by (v.hand a).state.place refl S.place_
         record { at = e ∙ is; line_is = sym own; command_is = ap (λ (l : Line). l.command) (sym own) ∙ S.command_is }
     by (place.Host q) e is own =
         record { at = e ∙ is; line_is = sym own; command_is = ap (λ (l : Line). l.command) (sym own) ∙ S.command_is }
+    by (place.Log q) e is own =
+        record { at = e ∙ is; line_is = sym own; command_is = ap (λ (l : Line). l.command) (sym own) ∙ S.command_is }
 
 -- It tells no begin of its line.
 no_begin : (p : Place) (line : Line) → IsUnderWay p → beginning p line ≡ []
@@ -99,7 +117,7 @@ records_same (place.SlotChange change.Publish) command slots never = absurd (cc 
 records_same (place.SlotChange p) command slots never = refl
 records_same _ command slots never = refl
 
-opens_same : (q : Place) (c d : Command) (g h : Held) (gfn : ℕ) → c ≡ d → g.slots ≡ h.slots → OpensLogAt q c g gfn → OpensLogAt q d h gfn
+opens_same : (q : Place) (c d : Command) (g h : Held) (gfn : ℕ) → c ≡ d → g.slots ≡ h.slots → LogIsUnwatchedAt q c g gfn → LogIsUnwatchedAt q d h gfn
 opens_same (place.SlotChange p) c d g h gfn said same o =
     (o.0, o.1, ap (slot_armed h.slots) (sym said) ∙ ap (λ (slots : MemorySlots). slot_armed slots c) (sym same) ∙ o.2, o.3)
 opens_same _ c d g h gfn said same o = absurd o
@@ -162,6 +180,7 @@ beginning_manager z v j gfn I there B = by h.state.place refl (I.knows j there) 
     by : (q : Place) → h.state.place ≡ q → KnowsPart q h.state.line.command h → BeginsAt q h.state.line.command h gfn → h.state.actor ≡ Manager
     by (place.SlotChange p) at K B = change_hand z j h p h.state.line.command (I.lines j there) at refl K.0
     by (place.Access p) at K B = none_begins h.state.line.command h gfn (place.Access p) refl B
+    by (place.Log p) at K B = none_begins h.state.line.command h gfn (place.Log p) refl B
     by (place.Host p) at K B = none_begins h.state.line.command h gfn (place.Host p) refl B
     by place.Between at K B = none_begins h.state.line.command h gfn place.Between refl B
 

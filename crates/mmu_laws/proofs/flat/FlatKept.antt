@@ -164,7 +164,8 @@ ready_first z v f a line command p S F no_pause e = record {
   runs = not_paused z v f F no_pause;
   refines = F.refines;
   under = subst (λ q. UnderAt z (v.words area.Pool) q line command h.topics now_) first_is
-      (first_at z (v.words area.Pool) h.state.sizes h.slots line command h.topics now_ (ap (λ (u : LineUnderWay). u.stage) begun)
+      (first_at z (v.words area.Pool) h.state.sizes h.slots line command h.topics now_ S.allowed
+      (ap (λ (u : LineUnderWay). u.stage) begun)
       (ap (λ (u : LineUnderWay). u.line) begun));
 }
   where

@@ -1,7 +1,11 @@
 -- Where a line stands that is to begin a log for flat memory: no step but a publication leads to such a place from another one, and the line is the manager's.
+use Rattle.mmu_core.specs.declared.log_next.LogNext.{LogNext}
+use Rattle.mmu_core.specs.declared.log_next.LogNext.TheVariants as reads_next
+use Rattle.mmu_core.specs.lines.LogOutcomes.{after_log}
+use Rattle.mmu_core.specs.lines.LogSteps.{log_next, log_reads}
 use Rattle.std.proofs.Common.{◌≡◌, ◌⊎◌, inl, inr, ◌+◌, ℕ, refl, subst, arith}
 use Rattle.std.proofs.lemmas.Bool.Decides.{nat_tests}
-use Rattle.std.specs.Prelude.{Bool, true, false, ◌==◌, nat_lt, if◌then◌else◌, is_some, Option, Some, None}
+use Rattle.std.specs.Prelude.{List, Bool, true, false, ◌==◌, nat_lt, if◌then◌else◌, is_some, Option, Some, None}
 use Rattle.core_views.specs.declared.answer.Answer.TheVariants.{Done, Refused, Starved}
 use Rattle.core_views.specs.declared.answer.Refusal.TheVariants.{NoFrame, OutOfRange}
 use Rattle.core_views.specs.declared.place.AccessPlace.{AccessPlace}
@@ -52,18 +56,18 @@ use Rattle.mmu_core.specs.lines.SlotChangeSteps.{slot_change_outcome, slot_targe
 use Rattle.mmu_core.specs.lines.WriteProtectSteps.{protect_next}
 use Rattle.mmu_core.specs.machine.Outcomes.{place_after}
 use Rattle.mmu_core.proofs.lines.EitherPlace.{each_claim, each_watch, either_place, one_place}
-use Rattle.log_invariant.specs.LogBegins.{BeginsClean, OpensLogAt, is_opening}
+use Rattle.log_invariant.specs.LogBegins.{BeginsClean, LogIsUnwatchedAt, is_unwatched}
 use Rattle.log_invariant.proofs.StepPlaces.{publishes}
 use Rattle.mmu_laws.specs.flat.FlatLogs.{ForbidsAt}
 
 -- A line stands at the place, by its hand's record, and its log is to begin.
 abbrev pub BeginsAt : Place → Command → Held → ℕ → Type 0
-BeginsAt p command h gfn = (OpensLogAt p command h gfn × BeginsClean h) ⊎ ForbidsAt p gfn
+BeginsAt p command h gfn = (LogIsUnwatchedAt p command h gfn × BeginsClean h) ⊎ ForbidsAt p gfn
 
 -- It is one of the places where a line may be so.
 abbrev pub may_begin : Place → Bool
 may_begin (place.SlotChange (change.WriteProtect range p)) = true
-may_begin (place.SlotChange p) = is_opening p
+may_begin (place.SlotChange p) = is_unwatched p
 may_begin _ = false
 
 -- ---- a line that changes no slot
@@ -102,6 +106,10 @@ host_elsewhere (host_at.End ends.Release) page h x =
 host_elsewhere (host_at.End _) page h x = tt
 host_elsewhere _ page h x = tt
 
+log_elsewhere : (n : LogNext) (words : List ℕ) → GoesElsewhere (after_log n words)
+log_elsewhere (reads_next.Goes p) words = tt
+log_elsewhere _ words = tt
+
 -- ---- where a step leads
 
 module _ (command : Command) (h : Held) (gfn : ℕ) where
@@ -116,7 +124,7 @@ module _ (command : Command) (h : Held) (gfn : ℕ) where
   none_begins _ none (inr f) = absurd f
 
   -- A place at which a line may be so, where it had opened the log before.
-  opened : (p q : SlotChangePlace) → is_opening p ≡ true → may_begin (place.SlotChange q) ≡ is_opening q → At (place.SlotChange q) → At (place.SlotChange p)
+  opened : (p q : SlotChangePlace) → is_unwatched p ≡ true → may_begin (place.SlotChange q) ≡ is_unwatched q → At (place.SlotChange q) → At (place.SlotChange p)
   opened p (change.WriteProtect range q) is same B = absurd (cc same)
   opened p q is same (inl o) = inl ((is, o.0.1, o.0.2, o.0.3), o.1)
   opened p q is same (inr f) = absurd f
@@ -194,6 +202,7 @@ module _ (command : Command) (h : Held) (gfn : ℕ) where
   elsewhere (Goes place.Between) other B = none_begins place.Between refl B
   elsewhere (Goes (place.Access p)) other B = none_begins (place.Access p) refl B
   elsewhere (Goes (place.Host p)) other B = none_begins (place.Host p) refl B
+  elsewhere (Goes (place.Log p)) other B = none_begins (place.Log p) refl B
   elsewhere (Goes (place.SlotChange p)) other B = absurd other
 
   -- So where a step leads to such a place that publishes nothing, its own was one.
@@ -205,4 +214,6 @@ module _ (command : Command) (h : Held) (gfn : ℕ) where
       by (place.SlotChange p) c same never B =
           change_before p x never (subst (λ d. At (place_after (slot_change_outcome p d h x))) same B)
       by (place.Host p) (ChangeHost page change_) same never B = elsewhere (host_outcome p page h x) (host_elsewhere p page h x) B
+      by (place.Log p) c same never B =
+          elsewhere (after_log (log_next p c h x) (log_reads p c h x)) (log_elsewhere (log_next p c h x) (log_reads p c h x)) B
       by _ _ same never B = B

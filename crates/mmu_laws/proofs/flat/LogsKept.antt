@@ -23,6 +23,7 @@ use Rattle.mmu_core.specs.machine.Outcomes.{answering}
 use Rattle.mmu_core.specs.machine.Steps.{beginning, task_at}
 use Rattle.mmu_core.specs.machine.View.{View, answer_in, stepped}
 use Rattle.mmu_core.proofs.lines.AccessParts.{AreSmall}
+use Rattle.mmu_core.proofs.lines.LogMakes.{none_reads}
 use Rattle.mmu_core.proofs.machine.Stepping.{IsStep}
 use Rattle.log_invariant.specs.LogInvariant.{LogInvariant}
 use Rattle.log_invariant.proofs.StepPlaces.{publishes}
@@ -79,4 +80,5 @@ logs_kept z v f a line command (place.SlotChange change.Publish) S R kept covere
     publish_logs z v a line command R.small S R.holds R.topics R.covered f kept covered R.flat R.logs
 logs_kept z v f a line command (place.SlotChange (change.WriteProtect range protect.Await)) S R kept covered =
     await_logs z v a line command range R.small S R.holds R.topics R.covered R.given f R.flat R.lines R.caused R.logs
+logs_kept z v f a line command (place.Log p) S R kept covered = none_reads z v a line p command S R.holds
 logs_kept z v f a line command p S R kept covered = quiet_logs z v f a line command p S R refl refl

@@ -43,6 +43,7 @@ use Rattle.mmu_core.proofs.lines.AccessParts.{AreSmall}
 use Rattle.mmu_core.proofs.machine.Columns.{at_upd, upd_other}
 use Rattle.mmu_core.proofs.machine.ColumnsTell.{some_is}
 use Rattle.mmu_core.proofs.machine.PartStepping.{IsPart, idle_never}
+use Rattle.mmu_core.proofs.lines.KnowsKept.{step_knows}
 use Rattle.mmu_core.proofs.machine.Stepping.{IsStep}
 use Rattle.mmu_core.proofs.slots.LiveStays.{SetStays, published_stays}
 use Rattle.mmu_core.proofs.slots.SlotsStay.{is_live_stays, word_stays}
@@ -203,7 +204,7 @@ module _ (z : Sizes) (v : View) (a : ℕ) (line : Line) (command : Command) (p :
           → IsLoggedNow v id slot ⊎ PublishesLog v a command p slot → f.past.causes gfn ≡ true
       by_before gfn id slot has set (inl logged) =
           by_bit gfn id slot logged has (bit_at z v a I gfn id slot logged has (part_at p command (v.hand a)) (task_at p command (v.hand a))
-          (step_at z v a line command p small S I P) (λ step is. takes_none p command (v.hand a) step is) set)
+          (step_at z v a line command p small S I P) (takes_none z line.actor p command (v.hand a) S.allowed (step_knows z v a line command p S I)) set)
       by_before gfn id slot has set (inr X) =
           absurd (let is = ap publishes X.at in cc (is, never))
 

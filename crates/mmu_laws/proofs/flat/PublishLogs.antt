@@ -44,8 +44,8 @@ use Rattle.mmu_core.proofs.machine.Stepping.{IsStep}
 use Rattle.mmu_core.proofs.slots.Changes.{change_is_managers}
 use Rattle.mmu_core.proofs.slots.SlotChangeKept.{change_published, record_of}
 use Rattle.log_invariant.specs.Covered.{IsCovered, IsLoggedIn, is_marked}
-use Rattle.log_invariant.specs.LogBegins.{OpensLog}
-use Rattle.log_invariant.specs.LogInvariant.{LogInvariant, SetsWordsAt}
+use Rattle.log_invariant.specs.LogBegins.{LogIsUnwatched}
+use Rattle.log_invariant.specs.LogInvariant.{LogInvariant, HasArmedWordsAt}
 use Rattle.log_invariant.proofs.ArmBits.{word_of_page}
 use Rattle.log_invariant.proofs.CoveredKept.{covered_kept}
 use Rattle.log_invariant.proofs.LogRecords.{ArmedAt, armed_at}
@@ -125,10 +125,10 @@ module _ (z : Sizes) (v : View) (a : ℕ) (line : Line) (command : Command) (sma
 
   -- ---- where no page is dirty as a log begins, no bit of it is set
 
-  words_set : SetsWordsAt p command h log
+  words_set : HasArmedWordsAt p command h log
   words_set =
       let T : StandsAt h line command p = stands_at z v a line command p S refl in
-      subst (λ c. SetsWordsAt p c h log) T.command_is (subst (λ q. SetsWordsAt q h.state.line.command h log) T.at (G.set_words a S.there))
+      subst (λ c. HasArmedWordsAt p c h log) T.command_is (subst (λ q. HasArmedWordsAt q h.state.line.command h log) T.at (G.armed_words a S.there))
 
   zero_words : is_all_set h.state.sizes.mode ≡ false → (gfn : ℕ) (slot : SlotOf) → slot_armed h.slots command ≡ Some slot → contains gfn slot ≡ true
       → log (page_of slot gfn / 64) ≡ 0
@@ -195,8 +195,8 @@ module _ (z : Sizes) (v : View) (a : ℕ) (line : Line) (command : Command) (sma
 
     all_covered : (gfn : ℕ) → contains gfn begun.0 ≡ true → IsCovered (actors_of z) log (λ k. (behind.hand k).topics) begun.0 gfn
     all_covered gfn has =
-        inl (H.all_set a gfn begun.0 S.there (ap (λ (y : Sizes). is_all_set y.mode) (sym (I.lines a S.there).sizes) ∙ all)
-        (subst (λ (g : Held). OpensLog g gfn) (sym is) (refl, begun.0, opened, has))
+        inl (H.all_marked a gfn begun.0 S.there (ap (λ (y : Sizes). is_all_set y.mode) (sym (I.lines a S.there).sizes) ∙ all)
+        (subst (λ (g : Held). LogIsUnwatched g gfn) (sym is) (refl, begun.0, opened, has))
         (subst (λ (g : Held). slot_armed g.slots g.state.line.command ≡ Some begun.0) (sym is) opened))
       where
         is : behind.hand a ≡ hand_after line command p h x

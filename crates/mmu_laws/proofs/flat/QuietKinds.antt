@@ -1,4 +1,7 @@
 -- Events that say nothing of dirty logs: which steps tell no others, and that they leave what flat memory keeps of logs.
+use Rattle.core_views.specs.declared.place.LogPlace.{LogPlace}
+use Rattle.core_views.specs.declared.place.LogPlace.TheVariants as log
+use Rattle.mmu_core.specs.lines.LogTells.{log_tells}
 use Rattle.std.proofs.Common.{◌≡◌, ℕ, List, [], ◌∷◌, ◌++◌}
 use Rattle.std.specs.Prelude.{◌==◌, Bool, true, false, if◌then◌else◌}
 use Rattle.core_views.specs.declared.actor.Actor.{Actor}
@@ -57,10 +60,14 @@ quiet_append (kind ∷ kinds) more are rest = (are.0, quiet_append kinds more ar
 
 -- ---- what a step tells
 
--- A step at such a place may tell an event that isn't quiet: an access, a change of a slot, or that a log begins.
+-- A step at such a place may tell an event that isn't quiet: an access, a change of a slot, that a log begins, or what is
+-- read of it.
 abbrev pub tells_of_logs : Place → Bool
 tells_of_logs (place.Access Touch) = true
 tells_of_logs (place.SlotChange change.Publish) = true
+tells_of_logs (place.Log log.Exclude) = true
+tells_of_logs (place.Log log.Await) = true
+tells_of_logs (place.Log (log.Peek begun)) = true
 tells_of_logs (place.SlotChange (change.WriteProtect range protect.Await)) = true
 tells_of_logs _ = false
 
@@ -101,12 +108,19 @@ host_quiet host_at.Change page change h v =
     either_place AreQuiet (v == word_looked h.topics.host) (HostChanged page (entry_of (word_put change h.topics)) ∷ []) [] (tt, tt) tt
 host_quiet _ page change h v = tt
 
+log_quiet : (p : LogPlace) (command : Command) (h : Held) (v : ℕ) → tells_of_logs (place.Log p) ≡ false → AreQuiet (log_tells p command h v)
+log_quiet log.Exclude command h v quiet = absurd (cc quiet)
+log_quiet log.Await command h v quiet = absurd (cc quiet)
+log_quiet (log.Peek begun) command h v quiet = absurd (cc quiet)
+log_quiet _ command h v quiet = tt
+
 pub tells_quiet : (p : Place) (command : Command) (h : Held) (v : ℕ) → tells_of_logs p ≡ false → AreQuiet (tells_at p command h v)
 tells_quiet (place.Access p) (Access gfn word op) h v quiet = access_quiet p h gfn word op v quiet
 tells_quiet (place.Access p) _ h v quiet = tt
 tells_quiet (place.SlotChange p) command h v quiet = change_quiet p h command v quiet
 tells_quiet (place.Host p) (ChangeHost page change) h v quiet = host_quiet p page change h v
 tells_quiet (place.Host p) _ h v quiet = tt
+tells_quiet (place.Log p) command h v quiet = log_quiet p command h v quiet
 tells_quiet place.Between command h v quiet = tt
 
 pub begins_quiet : (p : Place) (line : Line) → AreQuiet (beginning p line)

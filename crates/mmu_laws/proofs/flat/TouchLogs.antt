@@ -41,7 +41,7 @@ use Rattle.mmu_core.proofs.lines.KnowsKept.{step_knows}
 use Rattle.mmu_core.proofs.lines.UsedTranslations.{uses_allows}
 use Rattle.mmu_core.proofs.machine.Stepping.{IsStep}
 use Rattle.log_invariant.specs.Covered.{IsCovered}
-use Rattle.log_invariant.specs.LogBegins.{FlushesLaterAt, MayUse}
+use Rattle.log_invariant.specs.LogBegins.{FlushesLaterAt, ExcusesCached}
 use Rattle.log_invariant.specs.LogInvariant.{IsGuardedIn, LogInvariant}
 use Rattle.mmu_laws.specs.flat.FlatInvariant.{FlatInvariant}
 use Rattle.mmu_laws.specs.flat.FlatLogs.{FlatLogs, FlatLogsOf, ForbidsAt, IsArmedIn, IsBeginning, IsDirtyIn}
@@ -115,7 +115,7 @@ flush_forbids : (p : Place) (h : Held) (v state gfn : ℕ) → FlushesLaterAt p 
 flush_forbids (place.SlotChange (change.WriteProtect range p)) h v state gfn F = F.0
 flush_forbids _ h v state gfn F = absurd F
 
-pub use_begins : (v state : ℕ) (h : Held) (gfn : ℕ) → MayUse v state h gfn → IsBeginning h gfn
+pub use_begins : (v state : ℕ) (h : Held) (gfn : ℕ) → ExcusesCached v state h gfn → IsBeginning h gfn
 use_begins v state h gfn (inl opens) = inl opens
 use_begins v state h gfn (inr later) = inr (flush_forbids h.state.place h v state gfn later)
 
@@ -130,7 +130,7 @@ module _ (z : Sizes) (v : View) (a : ℕ) (line : Line) (gfn word : ℕ) (op : O
 
   abbrev Guarded : ℕ → Type 0
   Guarded frame =
-      IsGuardedIn (actors_of z) (v.words area.Log) (v.words area.Pool) (v.words area.Slots 0) v.hand (MayUse a (v.words area.State a)) frame
+      IsGuardedIn (actors_of z) (v.words area.Log) (v.words area.Pool) (v.words area.Slots 0) v.hand (ExcusesCached a (v.words area.State a)) frame
 
   K : AccessKnows access.Touch gfn (is_write op) h
   K = step_knows z v a line (Access gfn word op) (place.Access access.Touch) S I
@@ -174,7 +174,7 @@ module _ (z : Sizes) (v : View) (a : ℕ) (line : Line) (gfn word : ℕ) (op : O
       A = armed_holding (actors_of z) (v.words area.Log) (v.words area.Pool) (v.words area.Slots 0) v.hand f gfn L F.refines.slots armed
 
       by : IsCovered (actors_of z) (v.words area.Log) (λ i. (v.hand i).topics) A.is.slot gfn
-          ⊎ ((j : ℕ) × (j < actors_of z) × MayUse a (v.words area.State a) (v.hand j) gfn)
+          ⊎ ((j : ℕ) × (j < actors_of z) × ExcusesCached a (v.words area.State a) (v.hand j) gfn)
           → IsCovered (actors_of z) (v.words area.Log) (λ i. (v.hand i).topics) A.is.slot gfn
       by (inl covered) = covered
       by (inr (j, lt, may)) = absurd (A.is.begun j gfn lt A.holds (use_begins a (v.words area.State a) (v.hand j) gfn may))

@@ -1,4 +1,5 @@
 -- Besides its begin and its answer, a line tells only events that stand within it: what it does, and not that it begins or ends.
+use Rattle.mmu_core.proofs.lines.LogTold.{log_tells_so}
 use Rattle.part_steps.specs.PartTasks.{word_looked, page_looked}
 use Rattle.std.specs.Prelude.{◌==◌, Bool, true, false, if◌then◌else◌}
 use Rattle.core_views.specs.HostChanges.{is_own}
@@ -23,7 +24,7 @@ use Rattle.mmu_core.specs.lines.AccessSteps.{access_tells, exiting, fault_over}
 use Rattle.mmu_core.specs.lines.Forms.{outcome_at, tells_at}
 use Rattle.core_views.specs.declared.trace.HostChange.{HostChange}
 use Rattle.mmu_core.proofs.lines.Forms.{place_tells}
-use Rattle.mmu_core.proofs.lines.SimplePlaces.{Told, Nothing, Arms, ArmsClean, Exit, Change, OfAccess, OfHost}
+use Rattle.mmu_core.proofs.lines.SimplePlaces.{Told, Nothing, Arms, ArmsClean, Exit, Change, OfAccess, OfHost, OfLog}
 
 -- Each of the events stands within a line.
 abbrev pub AllWithin : List EventKind → Type 0
@@ -67,4 +68,5 @@ tells_within p command h v = by p command (tells_at p command h v) (place_tells 
     by _ _ _ (ArmsClean range id seen last) = (tt, tt)
     by q c _ (Change id slot at more) = (tt, by q c _ more)
     by _ _ _ (OfAccess q gfn word op) = access_within q h gfn word op v
+    by _ c _ (OfLog q) = log_tells_so AllWithin tt (λ id. (tt, tt)) (λ id frames. (tt, tt)) (λ id frames. (tt, tt)) (λ id frames. (tt, (tt, tt))) q c h v
     by _ _ _ (OfHost q page change) = host_within q page change h v

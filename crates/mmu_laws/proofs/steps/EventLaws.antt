@@ -1,4 +1,7 @@
 -- Each event that a step tells is of its word, and of what it finds and leaves there.
+use Rattle.core_views.specs.declared.event.EventKind.TheVariants.{Harvested, Shown, Taken}
+use Rattle.core_views.specs.declared.place.LogPlace.{LogPlace}
+use Rattle.mmu_core.proofs.lines.LogTold.{log_tells_so}
 use Rattle.std.proofs.Common.{◌≡◌, ◌≤◌, ◌<◌, ◌+◌, eqb-true, ℕ, List, [], ◌∷◌, refl, sym, subst, ap, arith}
 use Rattle.std.proofs.lemmas.List.Elements.{All-append, All-cons, All-map, All-nil}
 use Rattle.std.specs.Prelude.{All, Bool, Option, Some, true, false, ◌==◌, nat_lt, if◌then◌else◌}
@@ -38,7 +41,7 @@ use Rattle.mmu_core.specs.lines.Forms.{KnowsPart, note_at, outcome_at, part_at, 
 use Rattle.mmu_core.specs.lines.PartAt.{touch_at}
 use Rattle.mmu_core.proofs.lines.Forms.{place_tells}
 use Rattle.part_steps.specs.ControlBits.{has_to_flush}
-use Rattle.mmu_core.proofs.lines.SimplePlaces.{Told, Nothing, Arms, ArmsClean, Exit, Change, OfAccess, OfHost}
+use Rattle.mmu_core.proofs.lines.SimplePlaces.{Told, Nothing, Arms, ArmsClean, Exit, Change, OfAccess, OfHost, OfLog}
 use Rattle.part_steps.specs.declared.part_step.PartStep.{PartStep}
 use Rattle.mmu_core.specs.machine.Enabled.{mmu}
 use Rattle.mmu_core.specs.machine.Machine.{May, Step, World, answered, hand_in}
@@ -170,6 +173,14 @@ module _ (h : Held) (v : ℕ) where
   host_told host_at.Change page change K = exchange_told (v == word_looked h.topics.host) page change refl K.0.at
   host_told _ page change K = none z h v _
 
+  -- What is told of a reading may be told of each step.
+  log_told : (p : LogPlace) (command : Command) → AllTold (place.Log p) command
+  log_told p command =
+      let k : Kind = kind_of_task z (task_at (place.Log p) command h) in
+      log_tells_so (AllMay z h v k) (none z h v k) (λ id. one z h v k (Taken id) tt) (λ id frames. one z h v k (Harvested id frames) tt)
+      (λ id frames. one z h v k (Shown id frames) tt)
+      (λ id frames. All-cons (MayTell z h k v) (Taken id) (Shown id frames ∷ []) tt (one z h v k (Shown id frames) tt)) p command h v
+
   line_told : (p : Place) (command : Command) (kinds : List EventKind) → Told h v p command kinds → KnowsPart p command h
       → AllMay z h v (kind_of_task z (task_at p command h)) kinds
   line_told p command _ Nothing K = none z h v _
@@ -179,6 +190,7 @@ module _ (h : Held) (v : ℕ) where
   line_told p command _ (Change id slot at more) K =
       All-cons (MayTell z h (kind_of_task z (task_at p command h)) v) (SlotChanged id slot) _ (publishes p command at) (line_told p command _ more K)
   line_told _ _ _ (OfAccess p gfn word op) K = access_told p gfn word op K
+  line_told _ command _ (OfLog p) K = log_told p command
   line_told _ _ _ (OfHost p page change) K = host_told p page change K
 
   -- with its line's begin and its answer

@@ -107,6 +107,7 @@ at_fill p command o steps h = record {
   topics = record h.topics { owned = Some o };
   cached = h.cached;
   slots = h.slots;
+  harvest = h.harvest;
   lines = h.lines;
   answers = h.answers;
 }

@@ -2,6 +2,8 @@
 use Rattle.std.proofs.Common.{◌≡◌, ◌∙◌, ◌≢◌, ◌⊎◌, inl, inr, ◌<◌, ◌≤◌, ℕ, refl, sym, ap, arith, subst}
 use Rattle.std.specs.Prelude.{Bool, true, false, ◌+◌, ◌==◌, if◌then◌else◌, Option, Some, None, is_some}
 use Rattle.std.proofs.lemmas.Bool.Decides.{nat_tests}
+use Rattle.core_views.specs.declared.actor.Actor.{Actor}
+use Rattle.core_views.specs.Traces.{IsCommandFor}
 use Rattle.core_views.specs.declared.kind.Kind.{Kind}
 use Rattle.core_views.specs.declared.kind.StepKind.TheVariants as kind
 use Rattle.core_views.specs.declared.place.Place.{Place}
@@ -29,15 +31,16 @@ use Rattle.mmu_core.specs.lines.Forms.{note_at, part_at, RestsAt, outcome_at}
 use Rattle.mmu_core.specs.lines.PartAt.{touch_at}
 use Rattle.mmu_core.specs.lines.ScanPlaces.{claim_at, ends_with_claim}
 use Rattle.mmu_core.specs.machine.Enabled.{Enabled}
-use Rattle.mmu_core.specs.machine.Steps.{has_line, place_at, task_at}
+use Rattle.mmu_core.specs.machine.Steps.{has_line, line_at, place_at, task_at}
 use Rattle.mmu_core.specs.machine.Turns.{line_of, outcome_of}
 use Rattle.mmu_core.proofs.machine.ColumnsTell.{some_is}
 use Rattle.mmu_core.proofs.invariant.QuietKept.{touched}
 use Rattle.mmu_core.proofs.lines.ByStep.{step_needs}
+use Rattle.mmu_core.proofs.lines.Forms.{reads_none}
 use Rattle.mmu_core.proofs.lines.ClaimMade.{ClaimMade, claim_made}
 use Rattle.mmu_core.proofs.lines.ClaimMade as made
 use Rattle.mmu_core.proofs.lines.ClaimPlaces.{claims_or_not}
-use Rattle.mmu_core.proofs.lines.LineClaims.{Claims, ClaimsNot, HasNote, ends_after, note_by, one_claim}
+use Rattle.mmu_core.proofs.lines.LineClaims.{Claims, ClaimsNot, HasNote, MayEnd, ends_after, note_by, one_claim}
 use Rattle.mmu_core.proofs.machine.Which.{is_next}
 use Rattle.mmu_laws.specs.steps.StepLaws.{LoadsLastWord, NoteTells}
 use Rattle.mmu_laws.proofs.steps.StepLaws.{tells_part, tells_touch}
@@ -195,13 +198,17 @@ module _ (p : Place) (command : Command) (h : Held) (v : ℕ) (R : RestsAt p com
       ((tells_part (step_of C) (own_index h) h.topics note).note_is ∙ N)
       (λ map e. let here = subst (λ m. ends_with_claim m p ≡ true) (one_map p C.map map C.begun C.at e) e in cc (never, here))
 
-  line_tells : Claims p command h v ⊎ ClaimsNot p command h v → TellsOf (task_at p command h)
-  line_tells (inl C) =
+  line_tells : (y : Sizes) (actor : Actor) → IsCommandFor y actor command → Claims p command h v ⊎ ClaimsNot p command h v → TellsOf (task_at p command h)
+  line_tells y actor may (inl C) =
       subst (λ (s : Option PartStep). TellsOf (task_by s h note (touch_at command h))) (sym C.step) (claim_tells C (ends_with_claim C.map p) refl C.note)
-  line_tells (inr N) =
-      tells_exactly p h.state.sizes (task_at p command h) outcome v
-      (note_is (part_at p command h) h note (touch_at command h) (touch_note p command h) ∙ N.note)
-      (λ map e. let some = claims_there map p e in let at = N.at map in cc (some, at))
+  line_tells y actor may (inr N) = by N.note
+    where
+      by : (note_by (part_at p command h) note ≡ ends_with outcome) ⊎ MayEnd p command h v → TellsOf (task_at p command h)
+      by (inl is) =
+          tells_exactly p h.state.sizes (task_at p command h) outcome v
+          (note_is (part_at p command h) h note (touch_at command h) (touch_note p command h) ∙ is)
+          (λ map e. let some = claims_there map p e in let at = N.at map in cc (some, at))
+      by (inr M) = absurd (reads_none y actor command M.reads may)
 
 pub notes_tell_ends : (h : Held) (k : Kind) (v : ℕ) → Enabled h k → has_line h ≡ true → NoteTells (place_at h.state.place h) h.state.sizes k (outcome_of h v) v
 notes_tell_ends h k v enabled has =
@@ -209,4 +216,4 @@ notes_tell_ends h k v enabled has =
     let p : Place = place_at h.state.place h in
     let command : Command = (line_of h).command in
     subst (λ (x : Kind). NoteTells p h.state.sizes x (outcome_of h v) v) (sym N.is)
-    (line_tells p command h v N.rests.at (claims_or_not p command h v N.rests.at))
+    (line_tells p command h v N.rests.at h.state.sizes (line_at h.state.place h).actor N.rests.line (claims_or_not p command h v N.rests.at))

@@ -58,6 +58,7 @@ counted_at p command t steps h = record {
   topics = t;
   cached = h.cached;
   slots = h.slots;
+  harvest = h.harvest;
   lines = h.lines;
   answers = h.answers;
 }
@@ -187,6 +188,7 @@ hand_is p command o h place_is command_is owned_is = λ s. record {
   topics = record h.topics { owned = owned_is s };
   cached = h.cached;
   slots = h.slots;
+  harvest = h.harvest;
   lines = h.lines;
   answers = h.answers;
 }

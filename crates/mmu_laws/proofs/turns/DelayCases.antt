@@ -170,8 +170,8 @@ module _ (z : Sizes) (start : World Held) (ss : List (Step Kind)) (s : Step Kind
 
       by : (line_waits stood line.command h v ≡ true) ⊎ (begins_anew stood ≡ true) ⊎ (misses v ≡ true)
           → (line_waits h.state.place line.command h v ≡ true) ⊎ (begins_anew h.state.place ≡ true) ⊎ StayMisses z start ss s
-      by (inl waits) = two (where_it_stands h.state.place h.state.sizes h.slots line.command h v (inl waits))
-      by (inr (inl anew)) = two (where_it_stands h.state.place h.state.sizes h.slots line.command h v (inr anew))
+      by (inl waits) = two (where_it_stands h.state.place h.state.sizes h.slots line.command h v z line.actor T.is_step.allowed (inl waits))
+      by (inr (inl anew)) = two (where_it_stands h.state.place h.state.sizes h.slots line.command h v z line.actor T.is_step.allowed (inr anew))
       by (inr (inr is)) = inr (inr (miss_is is))
 
 pub turns_come_nearer : TurnsComeNearer

@@ -31,7 +31,7 @@ use Rattle.mmu_core.specs.machine.Turns.{line_of}
 use Rattle.mmu_core.specs.machine.View.{View, answer_in, hand_after, view, word_in}
 use Rattle.mmu_core.specs.machine.Worlds.{IsStart, Reachable}
 use Rattle.mmu_core.proofs.invariant.HandLeft.{hand_few, hand_some, left_of}
-use Rattle.mmu_core.proofs.lines.Forms.{most_small, place_few}
+use Rattle.mmu_core.proofs.lines.StepsFew.{most_small, place_few}
 use Rattle.mmu_core.proofs.machine.Columns.{at_upd}
 use Rattle.mmu_core.proofs.invariant.PartBounded.{part_rests_at}
 use Rattle.mmu_core.proofs.start.StartWords.{hand_is}

@@ -3,6 +3,7 @@ use Rattle.std.proofs.Common.{◌≡◌, ◌⊎◌, inl, inr, ◌<◌, ℕ, leng
 use Rattle.std.specs.Prelude.{Bool, true, false, ◌&&◌, ◌||◌}
 use Rattle.std.proofs.lemmas.Bool.Decides.{nat_tests}
 use Rattle.core_views.specs.declared.kind.Kind.{Kind}
+use Rattle.core_views.specs.declared.actor.Actor.{Actor}
 use Rattle.core_views.specs.declared.place.AccessPlace.TheVariants.{Enter, Pause, Root, Walk, Touch, Leave, Fault}
 use Rattle.core_views.specs.declared.place.Place.{Place}
 use Rattle.core_views.specs.declared.place.Place.TheVariants as place
@@ -104,11 +105,11 @@ one_of false false c is = inr (inr is)
 abbrev pub WaitsOrBegins : Place → Command → Held → ℕ → Type 0
 WaitsOrBegins p c h v = (line_waits p c h v ≡ true) ⊎ (begins_anew p ≡ true)
 
-pub where_it_stands : (q : Place) (y : Sizes) (slots : MemorySlots) (c : Command) (h : Held) (v : ℕ) → WaitsOrBegins (standing q y slots c) c h v
-    → WaitsOrBegins q c h v
-where_it_stands place.Between y slots c h v (inl waits) = absurd (first_goes y slots c h v waits)
-where_it_stands place.Between y slots c h v (inr anew) = absurd (first_no_end y slots c anew)
-where_it_stands _ y slots c h v is = is
+pub where_it_stands : (q : Place) (y : Sizes) (slots : MemorySlots) (c : Command) (h : Held) (v : ℕ) (z : Sizes) (actor : Actor)
+    → IsCommandFor z actor c → WaitsOrBegins (standing q y slots c) c h v → WaitsOrBegins q c h v
+where_it_stands place.Between y slots c h v z actor may (inl waits) = absurd (first_goes y slots c h v z actor may waits)
+where_it_stands place.Between y slots c h v z actor may (inr anew) = absurd (first_no_end y slots c anew)
+where_it_stands _ y slots c h v z actor may is = is
 
 -- ---- nearer
 

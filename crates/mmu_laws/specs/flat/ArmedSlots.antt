@@ -1,5 +1,5 @@
--- A slot of which flat memory logs writes: each leaf and each translation that allows them is covered, by the page's bit or by a mark that is owed (locking.rst,
--- "Fast page fault"; tdp_mmu.c, kvm_tdp_mmu_wrprot_slot).
+-- A slot of which flat memory logs writes: each leaf and each translation that allows them is covered, by the page's bit or by a mark that is owed
+-- (locking.rst, "Fast page fault"; tdp_mmu.c, kvm_tdp_mmu_wrprot_slot).
 use Rattle.std.specs.Prelude.{◌≡◌, ◌<◌, List, ℕ, true}
 use Rattle.core_views.specs.declared.kind.Kind.{Kind}
 use Rattle.core_views.specs.declared.sizes.Sizes.{Sizes}

@@ -19,7 +19,7 @@ use Rattle.mmu_core.specs.machine.Machine.{Legal, Step, World, run}
 use Rattle.mmu_core.specs.machine.View.{View, view}
 use Rattle.mmu_core.specs.machine.Worlds.{IsStart, history}
 use Rattle.log_invariant.specs.Covered.{IsCovered, IsLoggedIn, is_marked}
-use Rattle.log_invariant.specs.LogBegins.{BeginsClean, IsAmong, OpensLog}
+use Rattle.log_invariant.specs.LogBegins.{BeginsClean, IsAmong, LogIsUnwatched}
 
 -- The line forbids writes to the guest frame, or flushes it, as its log is to begin.
 abbrev pub ForbidsAt : Place → ℕ → Type 0
@@ -28,7 +28,7 @@ ForbidsAt _ gfn = ⊥
 
 -- The hand's line has published a slot with the guest frame, whose log hasn't begun yet for flat memory.
 abbrev pub IsBeginning : Held → ℕ → Type 0
-IsBeginning h gfn = (OpensLog h gfn × BeginsClean h) ⊎ ForbidsAt h.state.place gfn
+IsBeginning h gfn = (LogIsUnwatched h gfn × BeginsClean h) ⊎ ForbidsAt h.state.place gfn
 
 -- The slot with the ID, of which flat memory logs writes, has a log in the published set, and no hand's line is to begin it yet.
 pub record IsArmedIn (n : ℕ) (pool : ℕ → ℕ) (slots : ℕ) (hand : ℕ → Held) (id : ℕ) : Type 0 where

@@ -1,4 +1,4 @@
-use Rattle.std.proofs.Common.{◌≡◌, ℕ, List, [], ◌∷◌, ◌++◌, Bool, true, refl, ap, ◌∙◌, subst}
+use Rattle.std.proofs.Common.{◌≡◌, ℕ, List, ◌∷◌, Bool, true, refl, ap, ◌∙◌, subst}
 use Rattle.std.proofs.lemmas.Option.{same_Some}
 use Rattle.std.specs.Prelude.{Contains, Some, None, false, if◌then◌else◌}
 use Rattle.core_views.specs.declared.actor.Actor.{Actor}
@@ -10,8 +10,8 @@ use Rattle.core_views.specs.declared.trace.Op.{Op}
 use Rattle.core_views.specs.declared.trace.Op.TheVariants.{Read, Write, Add}
 use Rattle.core_views.specs.Slots.{is_write}
 use Rattle.core_views.specs.Past.{written_frame}
-use Rattle.core_views.specs.Flat.{Flat, first_flat}
-use Rattle.core_views.specs.Events.{after, after_all}
+use Rattle.core_views.specs.Flat.{first_flat}
+use Rattle.core_views.specs.Events.{after_all}
 use Rattle.core_views.specs.Lawful.{IsLawful}
 use Rattle.flat_laws.specs.Writes.{NoneIsTaken, NoneReadsOut}
 use Rattle.flat_laws.specs.ReachedWrites.{WasReached, WritesFrame}

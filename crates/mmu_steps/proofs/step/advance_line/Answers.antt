@@ -1,17 +1,15 @@
-use Rattle.std.proofs.Common.{length, ap, refl, subst, sym, ◌∙◌}
+use Rattle.std.proofs.Common.{◌≡◌, length, ap, refl, subst, sym, ◌∙◌}
 use Rattle.core_views.specs.declared.place.Place.TheVariants.{Between}
-use Rattle.core_views.specs.declared.hand.Progress.{Progress}
 use Rattle.core_views.specs.declared.trace.Line.{Line}
-use Rattle.core_views.specs.Held.{Held, line_under}
+use Rattle.core_views.specs.Held.{Held, answered, line_under, next_line}
 use Rattle.mmu_core.specs.declared.outcome.Outcome.{Outcome}
 use Rattle.mmu_core.specs.declared.outcome.Outcome.TheVariants.{Ends}
-use Rattle.mmu_core.specs.lines.AccessSteps.{use_found}
-use Rattle.mmu_core.specs.lines.Forms.{records_at}
+use Rattle.mmu_core.specs.lines.Forms.{reads_at, records_at}
 use Rattle.mmu_core.specs.machine.Outcomes.{answers_after, place_after}
 use Rattle.mmu_core.specs.machine.Steps.{line_after}
 use Rattle.mmu_core.proofs.lines.Forms.{outcome_goes}
 use Rattle.mmu_core.proofs.machine.GoesOn.{GoesUnderWay}
-use Rattle.mmu_steps.proofs.LineMade.{filled_is, line_ends, line_goes, line_made, placed, used_behind}
+use Rattle.mmu_steps.proofs.LineMade.{filled_is, line_ends, line_goes, line_made, reads_same}
 use Rattle.mmu_steps.proofs.step.advance_line.Goals as goal
 
 pub returns-in-Goes-clause-core : goal.returns-in-Goes-clause-core
@@ -19,23 +17,20 @@ returns-in-Goes-clause-core c =
     let h : Held = c.args.hand.now.core in
     let line : Line = c.line-line.result.now in
     let filled : Held = c.fill_cache.new.hand.core in
+    let reads = subst (λ (l : Line). reads_at c.args.place l.command h c.args.found ≡ h.harvest) (sym c.line-line.ensures.next)
+    (reads_same c.args.place (next_line h) h c.args.found c.requires.line c.requires.rests) in
     let f_is = filled_is h c.record_step.new.hand.core filled line c.args.place c.args.found c.line-line.ensures.next c.record_step.ensures.core
     c.fill_cache.ensures.core in
     let under = subst GoesUnderWay (sym c.outcome-outcome.ensures.outcome
     ∙ c.in-Goes.is) (outcome_goes c.args.place line.command h c.args.found c.requires.begun) in
-    let used_is = used_behind h filled c.outcome-outcome.result.1 c.progress_mut-progress.result.now f_is c.progress_mut-progress.ensures.value
-    ∙ c.outcome-outcome.ensures.used in
-    ap (λ (x : Progress). placed x c.in-Goes.place (line_under c.in-Goes.place filled.lines (length filled.answers)) x.used c.steps_behind-steps.result
-    c.delays_behind-delays.result filled filled.answers) c.use_translation.ensures
-    ∙ line_made h filled c.progress_mut-progress.result.now line c.args.place c.in-Goes.place (line_under c.in-Goes.place filled.lines (length filled.answers))
-    c.args.found
-    (use_found c.outcome-outcome.result.1 c.progress_mut-progress.result.now.used) (records_at c.args.place line.command h.slots) c.outcome-outcome.result.0
-    c.is_delay-delay.result c.steps_behind-steps.result
+    c.go_on.ensures.core
+    ∙ line_made h filled line c.args.place c.in-Goes.place (line_under c.in-Goes.place filled.lines (length filled.answers)) c.args.found
+    c.used_behind-used.result (records_at c.args.place line.command h.slots) c.outcome-outcome.result.0 c.is_delay-delay.result c.steps_behind-steps.result
     c.delays_behind-delays.result filled.answers
-    c.outcome-outcome.ensures.outcome used_is c.is_delay-delay.ensures c.steps_behind-steps.ensures c.delays_behind-delays.ensures
-    refl f_is c.progress_mut-progress.ensures.value (sym (ap place_after c.in-Goes.is))
+    c.outcome-outcome.ensures.outcome (c.used_behind-used.ensures ∙ c.outcome-outcome.ensures.used) c.is_delay-delay.ensures c.steps_behind-steps.ensures
+    c.delays_behind-delays.ensures refl f_is (sym (ap place_after c.in-Goes.is))
     (ap (λ (x : Held). x.answers) f_is ∙ sym (ap (λ (o : Outcome). answers_after o line h.answers) c.in-Goes.is))
-    (ap (λ (x : Held). line_under c.in-Goes.place x.lines (length x.answers)) f_is ∙ (line_goes c.in-Goes.place h under ∙ sym c.line-line.ensures.next))
+    (ap (λ (x : Held). line_under c.in-Goes.place x.lines (length x.answers)) f_is ∙ (line_goes c.in-Goes.place h under ∙ sym c.line-line.ensures.next)) reads
     ∙ ap (λ (l : Line). line_after l c.args.place h c.args.found) c.line-line.ensures.next
 
 pub returns-in-Ends-clause-core : goal.returns-in-Ends-clause-core
@@ -43,22 +38,20 @@ returns-in-Ends-clause-core c =
     let h : Held = c.args.hand.now.core in
     let line : Line = c.line-line.result.now in
     let filled : Held = c.fill_cache.new.hand.core in
+    let reads = subst (λ (l : Line). reads_at c.args.place l.command h c.args.found ≡ h.harvest) (sym c.line-line.ensures.next)
+    (reads_same c.args.place (next_line h) h c.args.found c.requires.line c.requires.rests) in
     let f_is = filled_is h c.record_step.new.hand.core filled line c.args.place c.args.found c.line-line.ensures.next c.record_step.ensures.core
     c.fill_cache.ensures.core in
     let answers = answers_after (Ends c.in-Ends.answer) line filled.answers in
-    let used_is = used_behind h filled c.outcome-outcome.result.1 c.progress_mut-progress.result.now f_is c.progress_mut-progress.ensures.value
-    ∙ c.outcome-outcome.ensures.used in
     ap (λ x. x.core) c.answer.ensures
-    ∙ ap (λ (x : Progress). placed x Between (line_under Between filled.lines (length answers)) x.used c.steps_behind-steps.result
-    c.delays_behind-delays.result filled answers) c.use_translation.ensures
-    ∙ line_made h filled c.progress_mut-progress.result.now line c.args.place Between (line_under Between filled.lines (length answers)) c.args.found
-    (use_found c.outcome-outcome.result.1 c.progress_mut-progress.result.now.used) (records_at c.args.place line.command h.slots) c.outcome-outcome.result.0
-    c.is_delay-delay.result c.steps_behind-steps.result
+    ∙ ap (λ (x : Held). answered (record { number = line.number; actor = line.actor; answer = c.in-Ends.answer }) x) c.go_on-in-Ends.ensures.core
+    ∙ line_made h filled line c.args.place Between (line_under Between filled.lines (length answers)) c.args.found
+    c.used_behind-used.result (records_at c.args.place line.command h.slots) c.outcome-outcome.result.0 c.is_delay-delay.result c.steps_behind-steps.result
     c.delays_behind-delays.result answers
-    c.outcome-outcome.ensures.outcome used_is c.is_delay-delay.ensures c.steps_behind-steps.ensures c.delays_behind-delays.ensures
-    refl f_is c.progress_mut-progress.ensures.value (sym (ap place_after c.in-Ends.is))
+    c.outcome-outcome.ensures.outcome (c.used_behind-used.ensures ∙ c.outcome-outcome.ensures.used) c.is_delay-delay.ensures c.steps_behind-steps.ensures
+    c.delays_behind-delays.ensures refl f_is (sym (ap place_after c.in-Ends.is))
     (ap (λ (x : Held). answers_after (Ends c.in-Ends.answer) line x.answers) f_is
     ∙ sym (ap (λ (o : Outcome). answers_after o line h.answers) c.in-Ends.is))
     (ap (λ (x : Held). line_under Between x.lines (length (answers_after (Ends c.in-Ends.answer) line x.answers))) f_is
-    ∙ (line_ends h _ ∙ sym c.line-line.ensures.next))
+    ∙ (line_ends h _ ∙ sym c.line-line.ensures.next)) reads
     ∙ ap (λ (l : Line). line_after l c.args.place h c.args.found) c.line-line.ensures.next

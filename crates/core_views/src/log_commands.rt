@@ -1,0 +1,157 @@
+//! What a line asks of a dirty log, and why it may not have it: a clause for each command that
+//! reads one.
+ghost use Rattle.std.specs.Prelude.{◌≡◌, IfOk, Some};
+ghost use Rattle.std.specs.Result.{result_err};
+ghost use Rattle.core_views.specs.LogCommands.{IsReadOf, asks_for, count_asked, first_asked, has_bit, is_bad_range, log_read, low_bits};
+ghost use Rattle.core_views.specs.LogCommands.{mask_asked, most_words, read_refusal, takes_out};
+ghost use Rattle.core_views.specs.SlotSets.{slot_of_id};
+
+use crate::{Command, LogMode, MemorySlot, Refusal, Sizes, Slot, SlotSet};
+
+/// Pages of a word of a dirty log.
+const WORD_PAGES: u64 = 64;
+
+// Whether the bit is set, of words of 64 bits each, the first word first.
+fn has_bit(words: &[u64], bit: u64) -> bool
+    ensures { result ≡ has_bit words.now bit }
+{
+    let word = words.get((bit / WORD_PAGES) as usize).copied().unwrap_or(0);
+    (word >> (bit % WORD_PAGES)) % 2 == 1
+}
+
+// The word with so many of its low bits set, up to all 64.
+fn low_bits(count: u64) -> u64
+    ensures { result ≡ low_bits count }
+{
+    if count >= WORD_PAGES {
+        u64::MAX
+    } else {
+        (1 << count) - 1
+    }
+}
+
+// Whether these pages aren't whole words of the log of a slot with so many pages.
+fn is_bad_range(pages: u64, first: u64, count: u64) -> bool
+    ensures { result ≡ is_bad_range pages first count }
+{
+    first % WORD_PAGES != 0
+        || count > pages
+        || first > pages - count
+        || (count % WORD_PAGES != 0 && first + count != pages)
+}
+
+impl Command {
+    /// The ID of the slot whose dirty log the line reads; `None` where it reads none.
+    pub fn log_read(&self) -> Option<u64>
+        ensures { result ≡ log_read self.now }
+    {
+        match self {
+            Command::GetLog { id } | Command::ClearLog { id, .. } => Some(*id),
+            Command::Access { .. } | Command::ChangeHost { .. } => None,
+            Command::SetSlot { .. } | Command::DeleteSlot { .. } | Command::SetLog { .. } => None,
+        }
+    }
+
+    /// Whether the line asks for this page of the slot: a get for all, a clear for those whose
+    /// bits are set.
+    pub fn asks_for(&self, page: u64) -> bool
+        ensures { result ≡ asks_for self.now page }
+    {
+        match self {
+            Command::GetLog { .. } => true,
+            Command::ClearLog {
+                first,
+                count,
+                words,
+                ..
+            } => {
+                *first <= page && page - *first < *count && has_bit(words.as_slice(), page - *first)
+            }
+            _ => false,
+        }
+    }
+
+    /// The page of the slot that bit 0 of the answer is of.
+    pub fn first_asked(&self) -> u64
+        ensures { result ≡ first_asked self.now }
+    {
+        match self {
+            Command::ClearLog { first, .. } => *first,
+            _ => 0,
+        }
+    }
+
+    /// How many pages of the slot the answer has a bit for.
+    pub fn count_asked(&self, slot: &Slot) -> u64
+        ensures { result ≡ count_asked self.now slot.now }
+    {
+        match self {
+            Command::ClearLog { count, .. } => *count,
+            _ => slot.pages,
+        }
+    }
+
+    /// The bits of this word of the answer for whose pages the line asks.
+    pub fn mask_asked(&self, slot: &Slot, word: u64) -> u64
+        ensures { result ≡ mask_asked self.now slot.now word }
+    {
+        let given = match self {
+            Command::ClearLog { words, .. } => {
+                words.as_slice().get(word as usize).copied().unwrap_or(0)
+            }
+            _ => u64::MAX,
+        };
+        let pages = self.count_asked(slot);
+        let before = word.saturating_mul(WORD_PAGES);
+        given & low_bits(pages.saturating_sub(before))
+    }
+
+    /// Whether the line takes out of the log what it reads.
+    pub fn takes_out(&self, mode: LogMode) -> bool
+        ensures { result ≡ takes_out mode self.now }
+    {
+        match (self, mode) {
+            (Command::GetLog { .. }, LogMode::Automatic) => true,
+            (Command::GetLog { .. }, LogMode::Manual | LogMode::ManualAllSet) => false,
+            _ => true,
+        }
+    }
+}
+
+impl Sizes {
+    /// The most words that the line reads of the dirty log of any slot of the machine.
+    pub fn most_words(&self, command: &Command) -> usize
+        ensures { result ≡ most_words self.now command.now }
+    {
+        match command {
+            Command::GetLog { .. } => (self.pages / WORD_PAGES) as usize + 1,
+            Command::ClearLog { count, .. } => (*count / WORD_PAGES) as usize + 1,
+            _ => 0,
+        }
+    }
+}
+
+impl SlotSet {
+    /// The slot with this ID, whose log the line reads. Refused: `Missing` where no slot has the
+    /// ID, else `NoLog` where the slot has no dirty log, else `BadRange` where a clear is of pages
+    /// that aren't whole words of the log.
+    pub fn to_read(&self, command: &Command, id: u64) -> Result<MemorySlot, Refusal>
+        requires { log_read command.now ≡ Some id }
+        ensures refusal { result_err result ≡ read_refusal command.now self.now }
+        ensures slot { IfOk result (λ slot. slot_of_id id self.now ≡ Some slot) }
+        ensures fits { IfOk result (λ slot. IsReadOf command.now slot.slot) }
+    {
+        let Some(found) = self.get(id) else {
+            return Err(Refusal::Missing);
+        };
+        if !found.logged {
+            return Err(Refusal::NoLog);
+        }
+        if let Command::ClearLog { first, count, .. } = command
+            && is_bad_range(found.slot.pages, *first, *count)
+        {
+            return Err(Refusal::BadRange);
+        }
+        Ok(found)
+    }
+}
