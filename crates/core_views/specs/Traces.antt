@@ -1,10 +1,10 @@
 -- What a trace may hold: the ranges of its header and of its lines.
-use Rattle.std.specs.Prelude.{◌≡◌, ◌*◌, ◌%◌, ◌^◌, ◌<◌, ◌≤◌, ◌⊎◌, ℕ, List, All, Some, IfSome, length, map, slice_get}
+use Rattle.std.specs.Prelude.{◌≡◌, ◌+◌, ◌/◌, ◌*◌, ◌%◌, ◌^◌, ◌<◌, ◌≤◌, ◌⊎◌, ℕ, List, All, Some, IfSome, length, map, slice_get}
 use Rattle.std.specs.List.Sorted.{IsStrictlyIncreasing}
 use Rattle.core_views.specs.declared.actor.Actor.{Actor}
 use Rattle.core_views.specs.declared.actor.Actor.TheVariants.{Vcpu, Host, Manager, Worker}
 use Rattle.core_views.specs.declared.trace.Command.{Command}
-use Rattle.core_views.specs.declared.trace.Command.TheVariants.{Access, ChangeHost, DeleteSlot, SetLog, SetSlot}
+use Rattle.core_views.specs.declared.trace.Command.TheVariants.{Access, ChangeHost, ClearLog, DeleteSlot, GetLog, SetLog, SetSlot}
 use Rattle.core_views.specs.declared.trace.Header.{Header}
 use Rattle.core_views.specs.declared.trace.Item.{Item}
 use Rattle.core_views.specs.declared.trace.Line.{Line}
@@ -29,6 +29,8 @@ IsCommandFor z (Vcpu n) (Access gfn word op) = (n < z.vcpus) × (gfn < 2 ^ 36) �
 IsCommandFor z Manager (SetSlot id slot) = IsSlotInRange slot
 IsCommandFor z Manager (DeleteSlot id) = Unit {0}
 IsCommandFor z Manager (SetLog id on) = Unit {0}
+IsCommandFor z Manager (GetLog id) = Unit {0}
+IsCommandFor z Manager (ClearLog id first count words) = (length words ≡ (count + 63) / 64) × All (λ word. word < 2 ^ 64) words
 IsCommandFor z (Host n) (ChangeHost page change) = n < z.hosts
 IsCommandFor z _ _ = ⊥
 
