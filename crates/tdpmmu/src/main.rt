@@ -54,6 +54,10 @@ mod move_traces;
 #[cfg(test)]
 mod plain_tests;
 #[cfg(test)]
+mod reading_schedules;
+#[cfg(test)]
+mod reading_traces;
+#[cfg(test)]
 mod schedules;
 #[cfg(test)]
 mod slot_schedules;

@@ -146,26 +146,14 @@ other_rests (place.Log p) command h other = by (is_some (log_read command)) refl
 
 -- ---- where it begins
 
--- No line of a trace reads a log yet.
-pub reads_none : (z : Sizes) (actor : Actor) (command : Command) → is_some (log_read command) ≡ true → IsCommandFor z actor command → ⊥
-reads_none z actor (Access gfn word op) is may = cc is
-reads_none z actor (ChangeHost page change) is may = cc is
-reads_none z actor (SetSlot id slot) is may = cc is
-reads_none z actor (DeleteSlot id) is may = cc is
-reads_none z actor (SetLog id on) is may = cc is
-reads_none z (Vcpu n) _ is may = may
-reads_none z (Host n) _ is may = may
-reads_none z Manager _ is may = may
-reads_none z (Worker n) _ is may = may
-
--- Its first step doesn't wait, where it is a line of a trace, and is no end of a fault that begins anew.
-pub first_goes : (z : Sizes) (slots : MemorySlots) (command : Command) (h : Held) (v : ℕ) (y : Sizes) (actor : Actor) → IsCommandFor y actor command
+-- Its first step doesn't wait, unless it is a line that reads a log, which may begin with a try for the lock; and it is no end of a fault that begins anew.
+pub first_goes : (z : Sizes) (slots : MemorySlots) (command : Command) (h : Held) (v : ℕ) → is_some (log_read command) ≡ false
     → line_waits (first_place z slots command) command h v ≡ true → ⊥
-first_goes z slots (Access gfn word op) h v y actor may is = cc is
-first_goes z slots (ChangeHost page change) h v y actor may is = let goes = look_goes (moves_page (ChangeHost page change)) page change h v in cc (is, goes)
-first_goes z slots (GetLog id) h v y actor may is = reads_none y actor (GetLog id) refl may
-first_goes z slots (ClearLog id first count words) h v y actor may is = reads_none y actor (ClearLog id first count words) refl may
-first_goes z slots command h v y actor may is = begins_at_once (change_at_once z command slots) command h v is
+first_goes z slots (Access gfn word op) h v other is = cc is
+first_goes z slots (ChangeHost page change) h v other is = let goes = look_goes (moves_page (ChangeHost page change)) page change h v in cc (is, goes)
+first_goes z slots (GetLog id) h v other is = cc other
+first_goes z slots (ClearLog id first count words) h v other is = cc other
+first_goes z slots command h v other is = begins_at_once (change_at_once z command slots) command h v is
 
 pub first_no_end : (z : Sizes) (slots : MemorySlots) (command : Command) → begins_anew (first_place z slots command) ≡ true → ⊥
 first_no_end z slots (Access gfn word op) is = cc is

@@ -30,7 +30,6 @@ use Rattle.mmu_core.proofs.lines.AccessParts.{AreSmall, may_make}
 use Rattle.mmu_core.proofs.lines.EitherPlace.{either_place}
 use Rattle.mmu_core.proofs.lines.KnowsKept.{step_knows, step_leaves}
 use Rattle.mmu_core.proofs.lines.LogNeeds.{log_needs}
-use Rattle.mmu_core.proofs.lines.Forms.{reads_none}
 use Rattle.mmu_core.proofs.lines.LogTold.{log_knows_reads}
 use Rattle.mmu_core.proofs.machine.PartStepping.{IsPart, Replaces}
 use Rattle.mmu_core.proofs.machine.Stepping.{IsStep}
@@ -46,10 +45,6 @@ log_is_managers z _ _ is may = absurd may
 module _ (z : Sizes) (v : View) (a : ℕ) (line : Line) (p : LogPlace) (command : Command) (S : IsStep z v a line command (place.Log p)) (I : Invariant z v) where
   reads : is_some (log_read command) ≡ true
   reads = log_knows_reads p command (v.hand a) (step_knows z v a line command (place.Log p) S I)
-
-  -- No line of a trace reads a log yet.
-  pub none_reads : {X : Type 0} → X
-  none_reads = absurd (reads_none z line.actor command reads S.allowed)
 
   manager : (v.hand a).state.actor ≡ Manager
   manager = sym S.own ∙ log_is_managers z line.actor command reads S.allowed
