@@ -19,6 +19,7 @@ pub mod ExampleHostRun
 pub mod ExampleProtectRun
 pub mod ExampleLogRun
 pub mod ExampleLogAllRun
+pub mod ExampleReadsRun
 pub mod ExampleEvictRun
 pub mod ExampleMoveRun
 pub mod ExampleOverlapRun

@@ -13,6 +13,7 @@ pub mod ExampleHost
 pub mod ExampleProtect
 pub mod ExampleLog
 pub mod ExampleLogAll
+pub mod ExampleReads
 pub mod ExampleEvict
 pub mod ExampleMove
 pub mod ExampleOverlap

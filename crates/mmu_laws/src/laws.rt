@@ -10,6 +10,7 @@ ghost use Rattle.mmu_laws.specs.steps.ExampleMove.{ExampleMove};
 ghost use Rattle.mmu_laws.specs.steps.ExampleOverlap.{ExampleOverlap};
 ghost use Rattle.mmu_laws.specs.steps.ExampleLog.{ExampleLog};
 ghost use Rattle.mmu_laws.specs.steps.ExampleLogAll.{ExampleLogAll};
+ghost use Rattle.mmu_laws.specs.steps.ExampleReads.{ExampleReads};
 ghost use Rattle.mmu_laws.specs.steps.ExampleProtect.{ExampleProtect};
 ghost use Rattle.mmu_laws.specs.steps.ExampleRaces.{ExampleRaces};
 ghost use Rattle.mmu_laws.specs.steps.ExampleRuns.{ExamplePrints, ExampleRuns};
@@ -114,7 +115,9 @@ pub fn each_delay_has_its_cause()
 /// beside a fault that has found none, the manager waits for the fault's section, and then
 /// forbids writes in the leaf that it put, too; a write after that allows them again in its leaf,
 /// and marks its page; the mark goes as the log begins again; and where each page is dirty as the
-/// log begins, each has its bit, and no write is forbidden.
+/// log begins, each has its bit, and no write is forbidden. A get beside a write whose mark is owed
+/// reads nothing; the next one takes the mark, and forbids writes in the leaf again. And where a log
+/// is read by hand, a get shows each page, a clear takes one, and the next get shows the others.
 pub fn the_steps_can_be_made()
     ensures starts { EveryMachineStarts }
     ensures goes_on { EachMayStep }
@@ -131,6 +134,7 @@ pub fn the_steps_can_be_made()
     ensures slots { ExampleSlots }
     ensures log { ExampleLog }
     ensures log_all { ExampleLogAll }
+    ensures reads { ExampleReads }
 {}
 
 /// What a step's numbers tell of it: each step that a hand allows is on a word of the

@@ -81,7 +81,7 @@ wide_allowed =
     (record { some = omega arith; pages = omega arith; base = omega arith; host = omega arith; aligned = omega arith })
     (All-cons (May all_set_sizes) log_all [] tt (All-nil (May all_set_sizes)))
 
-all_in_range : AreSizes all_set_sizes
+pub all_in_range : AreSizes all_set_sizes
 all_in_range =
     let R = run_in_range in
     record {

@@ -1,6 +1,7 @@
 use Rattle.mmu_laws.proofs.steps.ExampleHostRun.{example_host}
 use Rattle.mmu_laws.proofs.steps.ExampleLogRun.{example_log}
 use Rattle.mmu_laws.proofs.steps.ExampleLogAllRun.{example_log_all}
+use Rattle.mmu_laws.proofs.steps.ExampleReadsRun.{example_reads}
 use Rattle.mmu_laws.proofs.steps.ExampleProtectRun.{example_protect}
 use Rattle.mmu_laws.proofs.steps.ExampleEvictRun.{example_evict}
 use Rattle.mmu_laws.proofs.steps.ExampleSlotsRun.{example_slots}
@@ -60,3 +61,6 @@ returns-clause-log c = example_log
 
 pub returns-clause-log_all : goal.returns-clause-log_all
 returns-clause-log_all c = example_log_all
+
+pub returns-clause-reads : goal.returns-clause-reads
+returns-clause-reads c = example_reads
