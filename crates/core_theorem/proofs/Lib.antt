@@ -17,3 +17,4 @@ pub mod ActorSums
 pub mod Begins
 pub mod DelayCauses
 pub mod PauseSeen
+pub mod Readings

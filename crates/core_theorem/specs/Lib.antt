@@ -1,5 +1,6 @@
 pub mod Runs
 pub mod Pages
+pub mod Readings
 pub mod Frames
 pub mod Walks
 pub mod Leaves

@@ -13,10 +13,13 @@ ghost use Rattle.core_theorem.specs.Logs.{DirtyLogsAreKept};
 ghost use Rattle.core_theorem.specs.LookUps.{FoundSlotsAreHeld, HeldSlotsStand, LookedUpPagesStand};
 ghost use Rattle.core_theorem.specs.OpenFrames.{OpenFramesAreFlushed, OpenFramesAreOfThePage, OpenFramesAreRecorded, OpenFramesAreZapped};
 ghost use Rattle.core_theorem.specs.Pages.{EachPageHasOneUse};
+ghost use Rattle.core_theorem.specs.Readings.{ReadingsTellWrites};
 ghost use Rattle.core_theorem.specs.Runs.{TellsLawfully, WordsStandForFacts};
 ghost use Rattle.core_theorem.specs.Stays.{PauseIsSeenInStay};
 ghost use Rattle.core_theorem.specs.Turns.{AllStepsAreFew, CountsAreFew, LinesAreOpen, LinesMakeFewSteps, StepsAreFew};
 ghost use Rattle.core_theorem.specs.Walks.{WalksHoldTables};
+
+use log_laws::readings_tell_what_was_written;
 
 /// Every run of the machine. `pages`: each page is exactly one of free, the root, owned
 /// by one actor, linked by one entry of a table, the published slot set, an old slot set
@@ -60,7 +63,11 @@ ghost use Rattle.core_theorem.specs.Walks.{WalksHoldTables};
 /// memory. `logs`: each guest frame that is dirty in flat memory is of a slot of which writes
 /// are logged, and its page's bit is set or an actor owes a mark for it; so it is of
 /// each linked leaf, and each translation that may be used, which allows writes in such a
-/// slot; and each bit that is set has a cause. `pause`: an access that is about to touch has looked at the pause since its
+/// slot; and each bit that is set has a cause. `readings`: the manager alone reads logs; a reading
+/// has each frame for which its line asks that was dirty as it began, unless a line was under way
+/// then that writes the frame, and no other frame than one with a cause; and what is written
+/// while writes of its slot are logged is dirty, until a reading that is answered after the write
+/// has it, its slot is changed, or its log begins anew. `pause`: an access that is about to touch has looked at the pause since its
 /// actor entered the guest, and none was set. `begins_anew`, `waits`, `starved`: what
 /// stood in the way of a fault, and of each step that waits, whoever makes it, was
 /// another actor's, an open invalidation, or that each word of the pool's map was found
@@ -112,6 +119,7 @@ pub fn every_run()
     ensures lawful { TellsLawfully }
     ensures facts { WordsStandForFacts }
     ensures logs { DirtyLogsAreKept }
+    ensures readings { ReadingsTellWrites }
     ensures pause { PauseIsSeenInStay }
     ensures counts { CountsAreFew }
     ensures line_turns { LinesMakeFewSteps }
@@ -125,4 +133,6 @@ pub fn every_run()
     ensures between_lines { BetweenLinesSawNothing }
     ensures delays { DelaysHaveCauses }
     ensures starved { StarvedLinesScanned }
-{}
+{
+    readings_tell_what_was_written();
+}

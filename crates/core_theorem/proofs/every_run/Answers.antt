@@ -23,6 +23,7 @@ use Rattle.core_theorem.proofs.AllTurns.{all_steps_are_few}
 use Rattle.core_theorem.proofs.Turns.{counts_are_few, steps_are_few}
 use Rattle.core_theorem.proofs.Pages.{pages_are_used}
 use Rattle.core_theorem.proofs.PauseSeen.{pause_is_seen_in_stay}
+use Rattle.core_theorem.proofs.Readings.{readings_tell_writes}
 use Rattle.core_theorem.proofs.Runs.{before, may_last, sound, starts_between}
 use Rattle.core_theorem.proofs.SetsAlwaysCleared.{returned_sets_are_cleared}
 use Rattle.core_theorem.proofs.WalksKept.{held_leaves_are_linked, walks_hold_tables}
@@ -129,6 +130,11 @@ returns-clause-facts c z lines w ss R =
 pub returns-clause-rest : goal.returns-clause-rest
 returns-clause-rest c z lines w ss s answer R has ends =
     answered_rests z (run mmu w ss) s (sound z lines w ss (before z lines w ss s R)) (may_last z lines w ss s R) has answer ends
+
+pub returns-clause-readings : goal.returns-clause-readings
+returns-clause-readings c =
+    readings_tell_writes c.readings_tell_what_was_written.ensures.lone c.readings_tell_what_was_written.ensures.caused
+    c.readings_tell_what_was_written.ensures.dirty
 
 pub returns-clause-pause : goal.returns-clause-pause
 returns-clause-pause c = pause_is_seen_in_stay
