@@ -25,6 +25,7 @@ pub mod OtherSetWords
 pub mod OwnExcuse
 pub mod PassedFrames
 pub mod PublishedLogs
+pub mod ReadFrames
 pub mod SetWordsKept
 pub mod StartLogs
 pub mod StepPlaces
