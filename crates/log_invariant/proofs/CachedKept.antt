@@ -47,7 +47,7 @@ use Rattle.mmu_core.proofs.machine.Columns.{at_upd, upd_same}
 use Rattle.mmu_core.proofs.machine.HandWith.{hand_with}
 use Rattle.mmu_core.proofs.machine.PartStepping.{IsPart}
 use Rattle.mmu_core.proofs.machine.Stepping.{IsStep}
-use Rattle.log_invariant.specs.LogBegins.{ExcusesCached}
+use Rattle.log_invariant.specs.Excuses.{ExcusesCached}
 use Rattle.log_invariant.specs.LogInvariant.{AreGuarded, LogInvariant}
 use Rattle.log_invariant.proofs.CachesCarried.{task_carried, AsksStill}
 use Rattle.log_invariant.proofs.CoveredKept.{AllGuarded, guarded_kept, idle_guarded_kept}

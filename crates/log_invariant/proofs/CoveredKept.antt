@@ -1,6 +1,7 @@
 -- What is covered stays covered, by each step; and which slots have a dirty log after it.
 use Rattle.std.proofs.Common.{◌≡◌, ◌≢◌, ◌⊎◌, ◌<◌, ℕ, inl, inr, refl, sym, subst, ap, ◌∙◌}
 use Rattle.std.specs.Prelude.{Some, true, false, Option}
+use Rattle.core_views.specs.declared.place.LogPlace.TheVariants as log
 use Rattle.core_views.specs.declared.place.Place.{Place}
 use Rattle.core_views.specs.declared.place.Place.TheVariants as place
 use Rattle.core_views.specs.declared.place.SlotChangePlace.TheVariants as change
@@ -17,12 +18,14 @@ use Rattle.part_steps.specs.declared.part_step.PartStep.{PartStep}
 use Rattle.part_steps.specs.PartSteps.{needs_line}
 use Rattle.mmu_core.specs.invariant.Invariant.{Invariant}
 use Rattle.mmu_core.specs.invariant.TopicsInvariant.{TopicsInvariant}
-use Rattle.mmu_core.specs.machine.View.{View, part_stepped, stepped, answer_in, upd, words_after}
+use Rattle.mmu_core.specs.machine.View.{View, part_stepped, stepped, answer_in, hand_after, upd, words_after}
+use Rattle.mmu_core.specs.lines.LogSteps.{log_part, read_more, slot_asked}
 use Rattle.mmu_core.proofs.lines.AccessParts.{AreSmall}
 use Rattle.mmu_core.proofs.machine.PartStepping.{IsPart, idle_never}
 use Rattle.mmu_core.proofs.machine.Stepping.{IsStep}
 use Rattle.log_invariant.specs.Covered.{IsCovered, IsLoggedIn, IsOwed, is_marked}
 use Rattle.log_invariant.specs.LogInvariant.{IsGuarded, IsGuardedIn, LogInvariant}
+use Rattle.log_invariant.specs.LogReads.{IsRead, IsTaken}
 use Rattle.log_invariant.proofs.HeldLogs.{IsLoggedNow, marked_is_live, set_logged_was}
 use Rattle.core_views.specs.declared.topics.Topics.{Topics}
 use Rattle.core_views.specs.declared.trace.Op.{Op}
@@ -39,14 +42,15 @@ use Rattle.mmu_core.specs.lines.Forms.{part_at}
 use Rattle.mmu_core.specs.lines.PartAt.{task_at}
 use Rattle.mmu_core.proofs.invariant.Kept.{makes_at}
 use Rattle.mmu_core.proofs.invariant.QuietKept.{sets_stay}
-use Rattle.mmu_core.proofs.lines.KnowsKept.{step_knows, touch_topics}
+use Rattle.mmu_core.proofs.lines.KnowsKept.{touch_topics}
 use Rattle.mmu_core.proofs.machine.Columns.{same_or, upd_other, upd_same}
 use Rattle.mmu_core.proofs.slots.LiveStays.{SetStays, published_stays}
 use Rattle.mmu_core.proofs.words.PartTopics.{is_there, part_topics_is}
 use Rattle.mmu_core.proofs.words.PartWords.{slots_are, slots_same}
 use Rattle.log_invariant.proofs.LogWords.{idle_no_mark, idle_off_log, log_same, marked_kept, marked_now, touch_leaves_log}
 use Rattle.log_invariant.proofs.PublishedLogs.{published_logs}
-use Rattle.log_invariant.proofs.StepPlaces.{StepAt, Makes, Touches, publishes_none, step_at, takes_bits, takes_none}
+use Rattle.log_invariant.proofs.StepPlaces.{StepAt, Makes, Touches, publishes_none, step_at, takes, takes_bits, takes_none}
+use Rattle.log_invariant.proofs.TakenFrames.{left_or_read, read_taken}
 use Rattle.mmu_core.proofs.held.OwedKept.{is_mark, owed_stays}
 
 -- ---- which slots have a log
@@ -166,12 +170,44 @@ module _ (z : Sizes) (v : View) (a : ℕ) (named : Option PartStep) (I : Invaria
 
 -- In a published slot with a log it stays so.
 pub covered_kept : (z : Sizes) (v : View) (a : ℕ) (line : Line) (command : Command) (p : Place) → AreSmall v → IsStep z v a line command p → Invariant z v
-    → TopicsInvariant z v → LogInvariant z v → (id gfn : ℕ) (slot : SlotOf) → IsLoggedNow v id slot → contains gfn slot ≡ true → IsCoveredNow z v slot gfn
+    → TopicsInvariant z v → LogInvariant z v → ((step : PartStep) → part_at p command (v.hand a) ≡ Some step → takes_bits step ≡ false)
+    → (id gfn : ℕ) (slot : SlotOf) → IsLoggedNow v id slot → contains gfn slot ≡ true → IsCoveredNow z v slot gfn
     → IsCoveredNow z (stepped a line command p v) slot gfn
-covered_kept z v a line command p small S I P G id gfn slot logged holds covered =
-    covered_by_task z v a (part_at p command (v.hand a)) I id gfn slot logged holds
-    (takes_none z line.actor p command (v.hand a) S.allowed (step_knows z v a line command p S I))
-    (found_same z v a id gfn slot S.there I P G logged holds) covered (task_at p command (v.hand a)) (step_at z v a line command p small S I P) _ refl
+covered_kept z v a line command p small S I P G keeps id gfn slot logged holds covered =
+    covered_by_task z v a (part_at p command (v.hand a)) I id gfn slot logged holds keeps (found_same z v a id gfn slot S.there I P G logged holds) covered
+    (task_at p command (v.hand a)) (step_at z v a line command p small S I P) _ refl
+
+-- And so it does with each step, unless the line has taken its page then.
+pub covered_or_taken : (z : Sizes) (v : View) (a : ℕ) (line : Line) (command : Command) (p : Place) → AreSmall v → IsStep z v a line command p → Invariant z v
+    → TopicsInvariant z v → LogInvariant z v → (id gfn : ℕ) (slot : SlotOf) → IsLoggedNow v id slot → contains gfn slot ≡ true → IsCoveredNow z v slot gfn
+    → IsCoveredNow z (stepped a line command p v) slot gfn ⊎ IsTaken ((stepped a line command p v).hand a) gfn
+covered_or_taken z v a line command (place.Log (log.Take begun)) small S I P G id gfn slot logged holds (inl marked) =
+    by (left_or_read z v a line command begun S I id gfn slot logged holds marked)
+  where
+    h : Held
+    h = v.hand a
+
+    x : ℕ
+    x = answer_in (task_at (place.Log (log.Take begun)) command h) v.words
+
+    w : View
+    w = stepped a line command (place.Log (log.Take begun)) v
+
+    by : (is_marked (w.words area.Log) (page_of slot gfn) ≡ true) ⊎ IsRead (slot_asked h command) command (read_more begun (slot_asked h command) command h x) gfn
+        → IsCoveredNow z w slot gfn ⊎ IsTaken (w.hand a) gfn
+    by (inl still) = inl (inl still)
+    by (inr read) =
+        inr (subst (λ (k : Held). IsTaken k gfn) (sym (upd_same v.hand a (hand_after line command (place.Log (log.Take begun)) h x)))
+        (read_taken line command begun h x gfn read S.command_is))
+covered_or_taken z v a line command (place.Log (log.Take begun)) small S I P G id gfn slot logged holds (inr (i, lt, owed)) =
+    let h : Held = v.hand a in
+    let step : PartStep = log_part (log.Take begun) h command in
+    let M : IsPart z v a step = makes_at z v a line command (place.Log (log.Take begun)) small S I P step refl in
+    let x : ℕ = answer_in (task_at (place.Log (log.Take begun)) command h) v.words in
+    inl (inr (owes_still z v a step 0 M refl gfn i lt owed (hand_after line command (place.Log (log.Take begun)) h x) x
+    (part_topics_is h.state.sizes step (own_index h) h.topics 0 x (is_there step h M.needs))))
+covered_or_taken z v a line command p small S I P G id gfn slot logged holds covered =
+    inl (covered_kept z v a line command p small S I P G (λ step. takes_none p command (v.hand a) step refl) id gfn slot logged holds covered)
 
 pub idle_covered_kept : (z : Sizes) (v : View) (a : ℕ) (step : PartStep) (note : ℕ) → IsPart z v a step → needs_line step ≡ false
     → (gfn : ℕ) (slot : SlotOf) → IsCoveredNow z v slot gfn → IsCoveredNow z (part_stepped a step note v) slot gfn
@@ -199,34 +235,53 @@ pub record ExcusesStay (z : Sizes) (v w : View) (a gfn : ℕ) (Before After : He
 
 -- What is guarded stays guarded in a slot that had its log before.
 guarded_by : (z : Sizes) (v w : View) (a gfn : ℕ) (Before After : Held → ℕ → Type 0) → ExcusesStay z v w a gfn Before After → (id : ℕ) (slot : SlotOf)
-    → IsLoggedNow v id slot → contains gfn slot ≡ true → (IsCoveredNow z v slot gfn → IsCoveredNow z w slot gfn)
+    → IsLoggedNow v id slot → contains gfn slot ≡ true → (IsCoveredNow z v slot gfn → IsGuardedNow z w After slot gfn)
     → ((j : ℕ) → j ≢ a → w.hand j ≡ v.hand j) → IsGuardedNow z v Before slot gfn → IsGuardedNow z w After slot gfn
-guarded_by z v w a gfn Before After excuses id slot logged holds kept same (inl covered) = inl (kept covered)
+guarded_by z v w a gfn Before After excuses id slot logged holds kept same (inl covered) = kept covered
 guarded_by z v w a gfn Before After excuses id slot logged holds kept same (inr (j, lt, excused)) = by (same_or j a)
   where
     by : (j ≡ a) ⊎ (j ≢ a) → IsGuardedNow z w After slot gfn
     by (inl e) = excuses.own id slot logged holds (subst (λ k. Before (v.hand k) gfn) e excused)
     by (inr ne) = inr (j, lt, subst (λ (x : Held). After x gfn) (sym (same j ne)) (excuses.others j lt ne excused))
 
+-- What is covered is guarded after a step, where the line excuses what it takes with it.
+covered_guards : (z : Sizes) (v : View) (a : ℕ) (line : Line) (command : Command) (p : Place) → AreSmall v → IsStep z v a line command p → Invariant z v
+    → TopicsInvariant z v → LogInvariant z v → (gfn : ℕ) (After : Held → ℕ → Type 0)
+    → (takes p ≡ true → IsTaken ((stepped a line command p v).hand a) gfn → After ((stepped a line command p v).hand a) gfn) → (id : ℕ) (slot : SlotOf)
+    → IsLoggedNow v id slot → contains gfn slot ≡ true → IsCoveredNow z v slot gfn → IsGuardedNow z (stepped a line command p v) After slot gfn
+covered_guards z v a line command (place.Log (log.Take begun)) small S I P G gfn After taken id slot logged holds covered =
+    by (covered_or_taken z v a line command (place.Log (log.Take begun)) small S I P G id gfn slot logged holds covered)
+  where
+    w : View
+    w = stepped a line command (place.Log (log.Take begun)) v
+
+    by : IsCoveredNow z w slot gfn ⊎ IsTaken (w.hand a) gfn → IsGuardedNow z w After slot gfn
+    by (inl still) = inl still
+    by (inr is) = inr (a, S.there, taken refl is)
+covered_guards z v a line command p small S I P G gfn After taken id slot logged holds covered =
+    inl (covered_kept z v a line command p small S I P G (λ step. takes_none p command (v.hand a) step refl) id gfn slot logged holds covered)
+
 -- So what is guarded stays guarded, where a write in a slot is guarded whose log the publication begins.
 pub guarded_kept : (z : Sizes) (v : View) (a : ℕ) (line : Line) (command : Command) (p : Place) → AreSmall v → IsStep z v a line command p → Invariant z v
     → TopicsInvariant z v → LogInvariant z v → (gfn : ℕ) (Before After : Held → ℕ → Type 0)
     → ExcusesStay z v (stepped a line command p v) a gfn Before After
+    → (takes p ≡ true → IsTaken ((stepped a line command p v).hand a) gfn → After ((stepped a line command p v).hand a) gfn)
     → ((slot : SlotOf) → PublishesLog v a command p slot → contains gfn slot ≡ true → IsGuardedNow z (stepped a line command p v) After slot gfn)
     → AllGuarded z v Before gfn → AllGuarded z (stepped a line command p v) After gfn
-guarded_kept z v a line command p small S I P G gfn Before After excuses begun guarded id slot logged holds =
+guarded_kept z v a line command p small S I P G gfn Before After excuses taken begun guarded id slot logged holds =
     by (logged_before z v a line command p small S I P id slot logged)
   where
     by : IsLoggedNow v id slot ⊎ PublishesLog v a command p slot → IsGuardedNow z (stepped a line command p v) After slot gfn
     by (inr begins) = begun slot begins holds
     by (inl had) =
         guarded_by z v (stepped a line command p v) a gfn Before After excuses id slot had holds
-        (covered_kept z v a line command p small S I P G id gfn slot had holds) (λ j ne. upd_other v.hand a j _ ne) (guarded id slot had holds)
+        (covered_guards z v a line command p small S I P G gfn After taken id slot had holds) (λ j ne. upd_other v.hand a j _ ne) (guarded id slot had holds)
 
 pub idle_guarded_kept : (z : Sizes) (v : View) (a : ℕ) (step : PartStep) (note : ℕ) → IsPart z v a step → needs_line step ≡ false → TopicsInvariant z v
     → (gfn : ℕ) (Before After : Held → ℕ → Type 0) → ExcusesStay z v (part_stepped a step note v) a gfn Before After
     → AllGuarded z v Before gfn → AllGuarded z (part_stepped a step note v) After gfn
 idle_guarded_kept z v a step note S free P gfn Before After excuses guarded id slot logged holds =
     let had = idle_logged_before z v a step note S free P id slot logged in
-    guarded_by z v (part_stepped a step note v) a gfn Before After excuses id slot had holds (idle_covered_kept z v a step note S free gfn slot)
+    guarded_by z v (part_stepped a step note v) a gfn Before After excuses id slot had holds
+    (λ covered. inl (idle_covered_kept z v a step note S free gfn slot covered))
     (λ j ne. upd_other v.hand a j _ ne) (guarded id slot had holds)

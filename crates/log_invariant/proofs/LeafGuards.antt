@@ -19,7 +19,7 @@ use Rattle.log_invariant.proofs.OpeningSlot.{opening_is}
 use Rattle.log_invariant.proofs.OwnExcuse.{AllowsAt, PassesAt, change_excuse}
 use Rattle.log_invariant.proofs.PassedFrames.{topics_made}
 use Rattle.log_invariant.proofs.StepPlaces.{Makes, StepAt, Touches, of_hand, step_at}
-use Rattle.log_invariant.specs.LogBegins.{ExcusesLeaf}
+use Rattle.log_invariant.specs.Excuses.{ExcusesLeaf}
 use Rattle.log_invariant.specs.LogInvariant.{LogInvariant}
 use Rattle.mmu_core.proofs.held.OwedKept.{mark_owed}
 use Rattle.mmu_core.proofs.invariant.Kept.{makes_at}

@@ -13,7 +13,7 @@ use Rattle.log_invariant.proofs.LinePlaces.{idle_says}
 use Rattle.log_invariant.proofs.LogsBegun.{AllSetNow}
 use Rattle.log_invariant.proofs.OwnExcuse.{AllowsAt}
 use Rattle.log_invariant.proofs.PassedFrames.{none_passed}
-use Rattle.log_invariant.specs.LogBegins.{ExcusesLeaf}
+use Rattle.log_invariant.specs.Excuses.{ExcusesLeaf}
 use Rattle.log_invariant.specs.LogInvariant.{LogInvariant}
 use Rattle.mmu_core.proofs.lines.AccessParts.{AreSmall}
 use Rattle.mmu_core.proofs.machine.PartStepping.{IsPart}

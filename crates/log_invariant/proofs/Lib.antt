@@ -30,6 +30,7 @@ pub mod SetWordsKept
 pub mod StartLogs
 pub mod StepPlaces
 pub mod SweptWrites
+pub mod TakenFrames
 pub mod TranslationsKept
 pub mod UsesExcused
 pub mod WithinKept

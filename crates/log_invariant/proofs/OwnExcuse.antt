@@ -36,7 +36,8 @@ use Rattle.mmu_core.specs.lines.SweepSteps.{protected_at, sweep_next, swept_on}
 use Rattle.mmu_core.specs.lines.WatchSteps.{watch_next}
 use Rattle.mmu_core.specs.lines.WriteProtectSteps.{protect_next, protect_sweeps, protect_swept}
 use Rattle.mmu_core.specs.machine.Outcomes.{place_after}
-use Rattle.log_invariant.specs.LogBegins.{BeginsClean, IsAmong, IsUnsweptAt, LogIsUnwatchedAt, SweepsLaterAt, is_unwatched}
+use Rattle.log_invariant.specs.Excuses.{ForbidsLaterAt}
+use Rattle.log_invariant.specs.LogBegins.{BeginsClean, IsAmong, IsUnsweptAt, LogIsUnwatchedAt, is_unwatched}
 
 -- What a hand excuses, of its place.
 abbrev pub AllowsAt : Place → Command → Held → ℕ → Type 0

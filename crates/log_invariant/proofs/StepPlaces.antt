@@ -1,7 +1,6 @@
--- At which places of a line its step publishes a slot set, puts or fixes a leaf, or marks a page; no line takes bits of the log.
+-- At which places of a line its step publishes a slot set, puts or fixes a leaf, marks a page, or takes bits of the log.
 use Rattle.std.proofs.Common.{◌≡◌, ℕ, refl, sym, subst, ap, ◌∙◌}
 use Rattle.std.specs.Prelude.{Bool, true, false, Option, Some, None}
-use Rattle.core_views.specs.declared.actor.Actor.{Actor}
 use Rattle.core_views.specs.declared.place.AccessPlace.{AccessPlace}
 use Rattle.core_views.specs.declared.place.AccessPlace.TheVariants as access
 use Rattle.core_views.specs.declared.place.BeginPlace.{BeginPlace}
@@ -42,7 +41,7 @@ use Rattle.mmu_core.specs.invariant.Invariant.{Invariant}
 use Rattle.mmu_core.specs.invariant.TopicsInvariant.{TopicsInvariant}
 use Rattle.mmu_core.specs.lines.AccessSteps.{access_part, task_by, touch_of}
 use Rattle.mmu_core.specs.lines.FaultSteps.{fault_part}
-use Rattle.mmu_core.specs.lines.Forms.{KnowsPart, note_at, part_at, first_place}
+use Rattle.mmu_core.specs.lines.Forms.{note_at, part_at, first_place}
 use Rattle.mmu_core.specs.lines.LogSteps.{log_part}
 use Rattle.mmu_core.specs.lines.HostSteps.{host_part}
 use Rattle.mmu_core.specs.lines.InvalidateSteps.{begin_part, end_part}
@@ -55,8 +54,6 @@ use Rattle.mmu_core.proofs.invariant.QuietKept.{touched}
 use Rattle.mmu_core.proofs.lines.AccessParts.{AreSmall}
 use Rattle.mmu_core.proofs.lines.ClaimMade.{claim_is}
 use Rattle.mmu_core.proofs.lines.EitherPlace.{either_place}
-use Rattle.mmu_core.proofs.lines.Forms.{reads_none}
-use Rattle.mmu_core.proofs.lines.LogTold.{log_knows_reads}
 use Rattle.mmu_core.proofs.lines.ShareMade.{share_is}
 use Rattle.mmu_core.proofs.machine.PartStepping.{IsPart, is_publish, behind_part}
 use Rattle.mmu_core.proofs.machine.Stepping.{IsStep}
@@ -64,7 +61,6 @@ use Rattle.part_steps.specs.Tasks.{kind_of_task}
 use Rattle.part_steps.specs.TopicSteps.{topics_after}
 use Rattle.mmu_core.proofs.words.PartTopics.{is_there, part_topics_is}
 use Rattle.mmu_core.proofs.lines.KnowsKept.{touch_topics}
-use Rattle.core_views.specs.Traces.{IsCommandFor}
 use Rattle.core_views.specs.SlotSets.{MemorySlots}
 use Rattle.mmu_core.specs.machine.Steps.{line_at, next_line, place_at}
 
@@ -237,27 +233,29 @@ none_usual test never p command h usual = by (part_at p command h) (usual_by p c
     by None e = refl
     by (Some step) e = never step e
 
--- ---- no line of a trace takes bits of the log
+-- ---- a line takes bits of the log at one place alone
+
+abbrev pub takes : Place → Bool
+takes (place.Log (log.Take begun)) = true
+takes _ = false
 
 none_taken : (step : PartStep) → is_special step ≡ false → takes_bits step ≡ false
 none_taken (part.Take word mask) usual = absurd (cc usual)
 none_taken _ usual = refl
 
-takes_at : (z : Sizes) (actor : Actor) (p : Place) (command : Command) (h : Held) → IsCommandFor z actor command → KnowsPart p command h
-    → by_test takes_bits (part_at p command h) ≡ false
-takes_at z actor (place.Access (access.Fault (fault.Leaf writes))) (Access gfn word op) h may K = refl
-takes_at z actor (place.Access (access.Fault (fault.Leaf writes))) command h may K = refl
-takes_at z actor (place.Access (access.Fault fault.Fix)) (Access gfn word op) h may K = refl
-takes_at z actor (place.Access (access.Fault fault.Fix)) command h may K = refl
-takes_at z actor (place.Access (access.Fault (fault.Mark fast))) (Access gfn word op) h may K = refl
-takes_at z actor (place.Access (access.Fault (fault.Mark fast))) command h may K = refl
-takes_at z actor (place.SlotChange change.Publish) command h may K = refl
-takes_at z actor (place.Log (log.Take begun)) command h may K = absurd (reads_none z actor command (log_knows_reads (log.Take begun) command h K) may)
-takes_at z actor p command h may K = none_usual takes_bits none_taken p command h refl
+takes_at : (p : Place) (command : Command) (h : Held) → takes p ≡ false → by_test takes_bits (part_at p command h) ≡ false
+takes_at (place.Access (access.Fault (fault.Leaf writes))) (Access gfn word op) h other = refl
+takes_at (place.Access (access.Fault (fault.Leaf writes))) command h other = refl
+takes_at (place.Access (access.Fault fault.Fix)) (Access gfn word op) h other = refl
+takes_at (place.Access (access.Fault fault.Fix)) command h other = refl
+takes_at (place.Access (access.Fault (fault.Mark fast))) (Access gfn word op) h other = refl
+takes_at (place.Access (access.Fault (fault.Mark fast))) command h other = refl
+takes_at (place.SlotChange change.Publish) command h other = refl
+takes_at (place.Log (log.Take begun)) command h other = absurd (cc other)
+takes_at p command h other = none_usual takes_bits none_taken p command h refl
 
-pub takes_none : (z : Sizes) (actor : Actor) (p : Place) (command : Command) (h : Held) → IsCommandFor z actor command → KnowsPart p command h
-    → (step : PartStep) → part_at p command h ≡ Some step → takes_bits step ≡ false
-takes_none z actor p command h may K step is = sym (ap (by_test takes_bits) is) ∙ takes_at z actor p command h may K
+pub takes_none : (p : Place) (command : Command) (h : Held) (step : PartStep) → takes p ≡ false → part_at p command h ≡ Some step → takes_bits step ≡ false
+takes_none p command h step other is = sym (ap (by_test takes_bits) is) ∙ takes_at p command h other
 
 -- ---- a line publishes a slot set at one place alone
 

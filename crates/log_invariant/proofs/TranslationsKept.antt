@@ -38,7 +38,8 @@ use Rattle.mmu_core.proofs.lines.CachedKept.{found_is_leaf, with_leaf_all}
 use Rattle.mmu_core.proofs.machine.PartStepping.{IsPart}
 use Rattle.mmu_core.proofs.pages.Standing.{spot_of}
 use Rattle.mmu_core.proofs.pages.TreePlaces.{all_reached}
-use Rattle.log_invariant.specs.LogBegins.{FlushesLaterAt, IsUnflushedAt, ExcusesLeaf, ExcusesCached}
+use Rattle.log_invariant.specs.Excuses.{ExcusesCached, ExcusesLeaf, FlushesLaterAt}
+use Rattle.log_invariant.specs.LogBegins.{IsUnflushed, IsUnflushedAt}
 use Rattle.log_invariant.specs.LogInvariant.{AreGuarded, LeafIsGuarded, LogInvariant}
 use Rattle.log_invariant.proofs.CachesCarried.{AsksStill}
 use Rattle.log_invariant.proofs.CoveredKept.{AllGuarded, IsGuardedNow}

@@ -34,7 +34,8 @@ use Rattle.mmu_core.specs.machine.Outcomes.{place_after}
 use Rattle.mmu_core.proofs.lines.EitherPlace.{either_place, one_place}
 use Rattle.mmu_core.proofs.machine.Columns.{same_or}
 use Rattle.mmu_core.proofs.machine.HandWith.{hand_with}
-use Rattle.log_invariant.specs.LogBegins.{BeginsClean, FlushesLaterAt, IsAmong, IsUnflushedAt, LogIsUnwatchedAt, IsUnsweptAt, SweepsLaterAt}
+use Rattle.log_invariant.specs.Excuses.{FlushesLaterAt, ForbidsLaterAt}
+use Rattle.log_invariant.specs.LogBegins.{BeginsClean, IsAmong, IsUnflushedAt, IsUnsweptAt, LogIsUnwatchedAt}
 use Rattle.log_invariant.proofs.CachesCarried.{AsksStill}
 use Rattle.log_invariant.proofs.OwnExcuse.{AllowsAt, change_excuse}
 

@@ -1,4 +1,5 @@
 pub mod Covered
+pub mod Excuses
 pub mod LogBegins
 pub mod LogInvariant
 pub mod LogReads

@@ -54,14 +54,6 @@ IsUnsweptAt _ range walk gfn = ⊥
 abbrev pub IsAmong : FrameRange → ℕ → Type 0
 IsAmong range gfn = (range.start ≤ gfn) × (gfn < range.end)
 
-abbrev pub SweepsLaterAt : Place → Held → ℕ → Type 0
-SweepsLaterAt (place.SlotChange (change.WriteProtect range p)) h gfn = IsAmong range gfn × IsUnsweptAt p range h.topics.walk gfn
-SweepsLaterAt _ h gfn = ⊥
-
--- The hand's line has yet to forbid writes to the guest frame.
-abbrev pub ExcusesLeaf : Held → ℕ → Type 0
-ExcusesLeaf h gfn = (LogIsUnwatched h gfn × BeginsClean h) ⊎ SweepsLaterAt h.state.place h gfn
-
 -- ---- a virtual processor may use what it has cached
 
 -- The virtual processor with this state word isn't asked for a flush, or has yet to make the one that it is asked for.
@@ -72,11 +64,3 @@ abbrev pub IsUnflushedAt : WriteProtectPlace → Flush → ℕ → ℕ → Type 
 IsUnflushedAt protect.Ask flush v state = IsUnflushed flush v state
 IsUnflushedAt protect.Await flush v state = IsUnflushed flush v state
 IsUnflushedAt _ flush v state = Unit {0}
-
-abbrev pub FlushesLaterAt : Place → Held → ℕ → ℕ → ℕ → Type 0
-FlushesLaterAt (place.SlotChange (change.WriteProtect range p)) h v state gfn = IsAmong range gfn × IsUnflushedAt p h.topics.flush v state
-FlushesLaterAt _ h v state gfn = ⊥
-
--- The hand's line has yet to see that nothing of the guest frame is left which virtual processor v, with this state word, has cached.
-abbrev pub ExcusesCached : ℕ → ℕ → Held → ℕ → Type 0
-ExcusesCached v state h gfn = (LogIsUnwatched h gfn × BeginsClean h) ⊎ FlushesLaterAt h.state.place h v state gfn

@@ -32,7 +32,8 @@ use Rattle.mmu_core.specs.lines.ArmKnows.{IsInLog}
 use Rattle.mmu_core.specs.lines.SlotTargets.{arm_bits, log_target}
 use Rattle.mmu_core.specs.machine.View.{View}
 use Rattle.log_invariant.specs.Covered.{IsCovered, IsLoggedIn, is_marked}
-use Rattle.log_invariant.specs.LogBegins.{ExcusesLeaf, ExcusesCached, LogIsUnwatched}
+use Rattle.log_invariant.specs.Excuses.{ExcusesCached, ExcusesLeaf}
+use Rattle.log_invariant.specs.LogBegins.{LogIsUnwatched}
 
 -- ---- who marks
 
