@@ -4,6 +4,8 @@ use Rattle.std.specs.Prelude.{false, true}
 use Rattle.circular_buffer.specs.Buffer.{Buffer}
 use Rattle.core_views.specs.declared.cache.Translation.{Translation}
 use Rattle.core_views.specs.declared.place.FrameRange.{FrameRange}
+use Rattle.core_views.specs.declared.place.LogPlace.{LogPlace}
+use Rattle.core_views.specs.declared.place.LogPlace.TheVariants as log
 use Rattle.core_views.specs.declared.place.Place.TheVariants as place
 use Rattle.core_views.specs.declared.place.Place.{Place}
 use Rattle.core_views.specs.declared.place.SlotChangePlace.TheVariants as change
@@ -47,7 +49,7 @@ use Rattle.mmu_core.proofs.machine.Columns.{at_upd, upd_same}
 use Rattle.mmu_core.proofs.machine.HandWith.{hand_with}
 use Rattle.mmu_core.proofs.machine.PartStepping.{IsPart}
 use Rattle.mmu_core.proofs.machine.Stepping.{IsStep}
-use Rattle.log_invariant.specs.Excuses.{ExcusesCached}
+use Rattle.log_invariant.specs.Excuses.{ExcusesCached, FlushesLaterAt}
 use Rattle.log_invariant.specs.LogInvariant.{AreGuarded, LogInvariant}
 use Rattle.log_invariant.proofs.CachesCarried.{task_carried, AsksStill}
 use Rattle.log_invariant.proofs.CoveredKept.{AllGuarded, guarded_kept, idle_guarded_kept}
@@ -56,7 +58,10 @@ use Rattle.log_invariant.proofs.LogsBegun.{AllSetNow, begun_guarded}
 use Rattle.log_invariant.proofs.StepPlaces.{of_hand}
 pub use Rattle.log_invariant.proofs.TranslationsKept.{CachedNow}
 use Rattle.log_invariant.proofs.TranslationsKept.{line_guarded, still_excused}
-use Rattle.log_invariant.proofs.UsesExcused.{MayUseAt, ShowsFlushAt, excused_at, ShowsFlush}
+use Rattle.log_invariant.proofs.UsesExcused.{MayUseAt, ShowsFlushAt, allows_use, excused_at, ShowsFlush}
+use Rattle.log_invariant.proofs.LogExcuse.{taken_forbids}
+use Rattle.log_invariant.proofs.LogUses.{ShowsFlushBy, log_used, no_frames}
+use Rattle.mmu_core.specs.lines.LogSteps.{log_note}
 
 -- ---- carried over a step
 
@@ -97,6 +102,15 @@ line_tells z v a note k protect.Await range P lt may = (
 )
 line_tells z v a note k _ range P lt may = tt
 
+-- So they say where a line reads a log.
+log_tells : (z : Sizes) (v : View) (a : ℕ) (command : Command) (k : ℕ) (p : LogPlace) → TopicsInvariant z v → k < actors_of z
+    → may_use (v.words area.State k) (v.hand k).topics.stay ≡ true
+    → ShowsFlushBy p (v.hand a).topics k (answer_in (task_at (place.Log p) command (v.hand a)) v.words) (v.words area.State k)
+    (words_after (task_at (place.Log p) command (v.hand a)) v.words area.State k)
+log_tells z v a command k log.Ask P lt may = line_tells z v a 0 k protect.Ask no_frames P lt may
+log_tells z v a command k log.Await P lt may = line_tells z v a (log_note log.Await (v.hand a) command) k protect.Await no_frames P lt may
+log_tells z v a command k _ P lt may = tt
+
 -- What the own line excuses it excuses after its step.
 uses_excused : (z : Sizes) (v : View) (a : ℕ) (line : Line) (command : Command) (p : Place) → IsStep z v a line command p → Invariant z v
     → TopicsInvariant z v → (k gfn : ℕ) → k < z.vcpus → may_use (v.words area.State k) (v.hand k).topics.stay ≡ true
@@ -135,6 +149,15 @@ uses_excused z v a line command p S I P k gfn low may excuse =
         (excused_at line h command c k x (v.words area.State k) ((stepped a line command (place.SlotChange p) v).words area.State k) gfn
         (subst (λ (y : Sizes). k < y.vcpus) (sym (I.lines a S.there).sizes) low) p
         (step_knows z v a line command (place.SlotChange p) S I).1 (told p) excuse)
+    by (place.Log p) S (inr flushes) =
+        let x : ℕ = answer_in (task_at (place.Log p) command h) v.words in
+        let c : Buffer Translation = flushed (kind_of_task h.state.sizes (task_at (place.Log p) command h)) h.cached x in
+        let now_ : ℕ = (stepped a line command (place.Log p) v).words area.State k in
+        inr (subst (λ (t : Topics). FlushesLaterAt (place_after (outcome_at (place.Log p) command h x)) command
+        (hand_with line command (place.Log p) h t c x) k now_ gfn)
+        (sym (topics_of_step (place.Log p) command h x (needs_at z v a line command (place.Log p) S I P)))
+        (log_used line h command c k x (v.words area.State k) now_ gfn (subst (λ (y : Sizes). k < y.vcpus) (sym (I.lines a S.there).sizes) low) p
+        (step_knows z v a line command (place.Log p) S I) (log_tells z v a command k p P (omega (arith, low)) may) flushes))
     by _ S (inl opens) = absurd opens.0
     by _ S (inr flushes) = absurd flushes
 
@@ -167,6 +190,8 @@ line_cached_kept z v a line command p small S I P G set k low =
           others = λ j lt ne excuse. still_excused k (v.words area.State k) (w.words area.State k) (v.hand j) gfn still excuse;
           own = λ id slot logged holds excuse. inr (a, S.there, uses_excused z v a line command p S I P k gfn low may excuse);
         })
+        (λ takes T. inr (allows_use (w.hand a).state.place k (w.words area.State k) (w.hand a).state.line.command (w.hand a) gfn
+        (taken_forbids p takes v a line command gfn T)))
         (λ slot begins holds. begun_guarded z v a line command p S I (ExcusesCached k (w.words area.State k)) gfn slot (λ g opens clean. inl (opens, clean)) set
         begins holds) guarded
 

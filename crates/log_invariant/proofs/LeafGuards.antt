@@ -1,8 +1,9 @@
--- What a step of a line leaves guarded: what was so before it, but for what its sweep passes; the slot whose log it begins; and a new leaf.
+-- What a step of a line leaves guarded: what was so before it, but for what it passes as it forbids writes; the slot whose log it begins; and a new leaf.
 use Rattle.core_views.specs.Held.{Held}
 use Rattle.core_views.specs.LogCommands.{is_all_set}
 use Rattle.core_views.specs.Sizes.{actors_of}
 use Rattle.core_views.specs.Slots.{contains}
+use Rattle.core_views.specs.declared.place.LogPlace.TheVariants as log
 use Rattle.core_views.specs.declared.place.Place.TheVariants as place
 use Rattle.core_views.specs.declared.place.Place.{Place}
 use Rattle.core_views.specs.declared.sizes.Sizes.{Sizes}
@@ -18,19 +19,23 @@ use Rattle.log_invariant.proofs.LogsBegun.{AllSetNow, begun_guarded}
 use Rattle.log_invariant.proofs.OpeningSlot.{opening_is}
 use Rattle.log_invariant.proofs.OwnExcuse.{AllowsAt, PassesAt, change_excuse}
 use Rattle.log_invariant.proofs.PassedFrames.{topics_made}
-use Rattle.log_invariant.proofs.StepPlaces.{Makes, StepAt, Touches, of_hand, step_at}
-use Rattle.log_invariant.specs.Excuses.{ExcusesLeaf}
+use Rattle.log_invariant.proofs.LogExcuse.{log_excuse, taken_forbids}
+use Rattle.log_invariant.proofs.StepPlaces.{Makes, StepAt, Touches, of_hand, step_at, takes, takes_bits}
+use Rattle.log_invariant.specs.Excuses.{ExcusesLeaf, ForbidsLaterAt}
 use Rattle.log_invariant.specs.LogInvariant.{LogInvariant}
+use Rattle.log_invariant.specs.LogReads.{IsTaken}
 use Rattle.mmu_core.proofs.held.OwedKept.{mark_owed}
 use Rattle.mmu_core.proofs.invariant.Kept.{makes_at}
 use Rattle.mmu_core.proofs.invariant.QuietKept.{MakesAt}
 use Rattle.mmu_core.proofs.lines.AccessParts.{AreSmall}
+use Rattle.mmu_core.proofs.lines.KnowsKept.{step_knows, step_leaves}
 use Rattle.mmu_core.proofs.machine.Columns.{same_or, upd_other, upd_same}
 use Rattle.mmu_core.proofs.machine.PartStepping.{is_publish}
 use Rattle.mmu_core.proofs.machine.Stepping.{IsStep}
 use Rattle.mmu_core.specs.invariant.Invariant.{Invariant}
 use Rattle.mmu_core.specs.invariant.TopicsInvariant.{TopicsInvariant}
-use Rattle.mmu_core.specs.lines.Forms.{first_place, outcome_at, part_at}
+use Rattle.mmu_core.specs.lines.Forms.{RetiresPart, first_place, outcome_at, part_at}
+use Rattle.mmu_core.specs.lines.LogSteps.{log_part}
 use Rattle.mmu_core.specs.lines.PartAt.{task_at}
 use Rattle.mmu_core.specs.lines.SlotChangeSteps.{slot_change_part}
 use Rattle.mmu_core.specs.machine.Outcomes.{place_after}
@@ -50,24 +55,50 @@ use Rattle.std.specs.Prelude.{◌==◌, Bool, Some, false, true}
 abbrev pub LeavesNow : Sizes → View → Type 0
 LeavesNow z v = LeavesAre z v.words (AllGuarded z v ExcusesLeaf)
 
--- what a hand excuses after a step, or is passed by the sweep whose step it is, with the walk before and after it
-abbrev pub ExcusedOrPassed : Place → TableWalk → TableWalk → Held → ℕ → Type 0
-ExcusedOrPassed p before after h gfn = ExcusesLeaf h gfn ⊎ PassesAt p before after gfn
+-- what a hand excuses after a step, or is passed with the step of this place, made by the actor of this hand, with this walk after it
+abbrev pub ExcusedOrPassed : Place → Command → Held → TableWalk → Held → ℕ → Type 0
+ExcusedOrPassed p command before after h gfn = ExcusesLeaf h gfn ⊎ PassesAt p command before after gfn
 
--- What the line of an actor excuses before its step, it excuses after it, or its sweep has passed.
-own_excuse : (z : Sizes) (v : View) (a : ℕ) (line : Line) (command : Command) (p : Place) → MakesAt z v a p command → (gfn : ℕ)
-    → AllowsAt p command (v.hand a) gfn
-    → AllowsAt (place_after (outcome_at p command (v.hand a) (answer_in (task_at p command (v.hand a)) v.words))) command
-    (hand_after line command p (v.hand a) (answer_in (task_at p command (v.hand a)) v.words)) gfn
-    ⊎ PassesAt p (v.hand a).topics.walk (hand_after line command p (v.hand a) (answer_in (task_at p command (v.hand a)) v.words)).topics.walk gfn
-own_excuse z v a line command (place.SlotChange q) makes gfn excuse =
+-- What the line of an actor excuses before its step, it excuses after it, or it has passed it.
+abbrev ExcusesOrPasses : View → ℕ → Line → Command → Place → ℕ → Type 0
+ExcusesOrPasses v a line command p gfn =
+    let x : ℕ = answer_in (task_at p command (v.hand a)) v.words in
+    AllowsAt (place_after (outcome_at p command (v.hand a) x)) command (hand_after line command p (v.hand a) x) gfn
+    ⊎ PassesAt p command (v.hand a) (hand_after line command p (v.hand a) x).topics.walk gfn
+
+own_excuse : (z : Sizes) (v : View) (a : ℕ) (line : Line) (command : Command) (p : Place) → IsStep z v a line command p → Invariant z v
+    → MakesAt z v a p command → (gfn : ℕ) → AllowsAt p command (v.hand a) gfn → ExcusesOrPasses v a line command p gfn
+own_excuse z v a line command (place.SlotChange q) S I makes gfn excuse =
     change_excuse q command (v.hand a) (answer_in (task_at (place.SlotChange q) command (v.hand a)) v.words) _ gfn (record {
       slots = refl;
       sizes = refl;
       walk = ap (λ (t : Topics). t.walk) (topics_made v a line command (place.SlotChange q) (slot_change_part q (v.hand a) command) refl (makes _ refl).needs);
     }) excuse
-own_excuse z v a line command _ makes gfn (inl O) = absurd O.0
-own_excuse z v a line command _ makes gfn (inr W) = absurd W
+own_excuse z v a line command (place.Log q) S I makes gfn (inr W) =
+    by (log_excuse command h x g gfn q (record {
+      slots = refl;
+      words = refl;
+      walk = ap (λ (t : Topics). t.walk) (topics_made v a line command (place.Log q) (log_part q h command) refl (makes _ refl).needs);
+    }) (step_knows z v a line command (place.Log q) S I) (leaves.leaves refl) (leaves.opens refl) W)
+  where
+    h : Held
+    h = v.hand a
+
+    x : ℕ
+    x = answer_in (task_at (place.Log q) command h) v.words
+
+    g : Held
+    g = hand_after line command (place.Log q) h x
+
+    leaves : RetiresPart (place.Log q) h.topics
+    leaves = step_leaves z v a line command (place.Log q) S I
+
+    by : ForbidsLaterAt (place_after (outcome_at (place.Log q) command h x)) command g gfn ⊎ PassesAt (place.Log q) command h g.topics.walk gfn
+        → ExcusesOrPasses v a line command (place.Log q) gfn
+    by (inl forbids) = inl (inr forbids)
+    by (inr passes) = inr passes
+own_excuse z v a line command _ S I makes gfn (inl O) = absurd O.0
+own_excuse z v a line command _ S I makes gfn (inr W) = absurd W
 
 module _ (z : Sizes) (v : View) (a : ℕ) (line : Line) (command : Command) (p : Place) (small : AreSmall v) (S : IsStep z v a line command p)
     (I : Invariant z v) (P : TopicsInvariant z v) (G : LogInvariant z v) (all_marked : AllSetNow z (stepped a line command p v)) where
@@ -87,7 +118,7 @@ module _ (z : Sizes) (v : View) (a : ℕ) (line : Line) (command : Command) (p :
   here = upd_same v.hand a g
 
   abbrev After : Held → ℕ → Type 0
-  After = ExcusedOrPassed p h.topics.walk g.topics.walk
+  After = ExcusedOrPassed p command h g.topics.walk
 
   own_guards : (gfn : ℕ) (slot : SlotOf) → After g gfn → IsGuardedNow z w After slot gfn
   own_guards gfn slot excuse = inr (a, S.there, subst (λ k. After k gfn) (sym here) excuse)
@@ -107,8 +138,12 @@ module _ (z : Sizes) (v : View) (a : ℕ) (line : Line) (command : Command) (p :
 
   excuse_after : (gfn : ℕ) → ExcusesLeaf h gfn → After g gfn
   excuse_after gfn excuse =
-      subst (λ c. AllowsAt g.state.place c g gfn ⊎ PassesAt p h.topics.walk g.topics.walk gfn) (sym S.command_is)
-      (own_excuse z v a line command p makes gfn (at_place gfn excuse))
+      subst (λ c. AllowsAt g.state.place c g gfn ⊎ PassesAt p command h g.topics.walk gfn) (sym S.command_is)
+      (own_excuse z v a line command p S I makes gfn (at_place gfn excuse))
+
+  -- So does what it takes with it.
+  taken_after : (gfn : ℕ) → takes p ≡ true → IsTaken (w.hand a) gfn → After (w.hand a) gfn
+  taken_after gfn is T = inl (inr (taken_forbids p is v a line command gfn T))
 
   -- So what a hand excused before the step is guarded after it.
   excused : (j gfn : ℕ) (slot : SlotOf) → j < actors_of z → ExcusesLeaf (v.hand j) gfn → IsGuardedNow z w After slot gfn
@@ -124,6 +159,7 @@ module _ (z : Sizes) (v : View) (a : ℕ) (line : Line) (command : Command) (p :
         others = λ j lt ne excuse. inl excuse;
         own = λ id slot logged holds excuse. own_guards gfn slot (excuse_after gfn excuse);
       })
+      (taken_after gfn)
       (λ slot B holds. begun_guarded z v a line command p S I After gfn slot (λ k opens clean. inl (inl (opens, clean))) all_marked B holds)
 
   -- ---- a new leaf
@@ -133,26 +169,27 @@ module _ (z : Sizes) (v : View) (a : ℕ) (line : Line) (command : Command) (p :
   before = leaves_weaker z v.words (AllGuarded z v ExcusesLeaf) (AllGuarded z w After) kept G.leaves
 
   -- Where the log of a slot is opening, a write in it was excused, or its page is dirty.
-  opening_guards : (gfn id : ℕ) (slot : SlotOf) → IsLoggedNow v id slot → contains gfn slot ≡ true → SomeLogIsUnwatched z v gfn
-      → IsGuardedNow z w After slot gfn
-  opening_guards gfn id slot logged holds O = by (is_all_set (v.hand O.0).state.sizes.mode) refl
+  opening_guards : ((step : PartStep) → part_at p command h ≡ Some step → takes_bits step ≡ false) → (gfn id : ℕ) (slot : SlotOf) → IsLoggedNow v id slot
+      → contains gfn slot ≡ true → SomeLogIsUnwatched z v gfn → IsGuardedNow z w After slot gfn
+  opening_guards keeps gfn id slot logged holds O = by (is_all_set (v.hand O.0).state.sizes.mode) refl
     where
       by : (b : Bool) → is_all_set (v.hand O.0).state.sizes.mode ≡ b → IsGuardedNow z w After slot gfn
       by false clean = excused O.0 gfn slot O.1 (inl (O.2, clean))
       by true dirty =
-          inl (covered_kept z v a line command p small S I P G id gfn slot logged holds
+          inl (covered_kept z v a line command p small S I P G keeps id gfn slot logged holds
           (inl (G.all_marked O.0 gfn slot O.1 (ap (λ (y : Sizes). is_all_set y.mode) (sym (I.lines O.0 O.1).sizes) ∙ dirty) O.2
           (opening_is z v O.0 gfn id slot I O.1 O.2 logged.live holds))))
 
   -- The exchange leaves a mark owed, where the search has found the log.
   new_guards : (gfn : ℕ) → FoundSlot gfn h.topics → (h.topics.search.logged ≡ true → g.topics.owed ≡ Some gfn)
-      → ((slot : SlotOf) → PublishesLog v a command p slot → ⊥) → AllGuarded z w After gfn
-  new_guards gfn found owes publishes_none id slot logged holds = by (logged_before z v a line command p small S I P id slot logged)
+      → ((slot : SlotOf) → PublishesLog v a command p slot → ⊥) → ((step : PartStep) → part_at p command h ≡ Some step → takes_bits step ≡ false)
+      → AllGuarded z w After gfn
+  new_guards gfn found owes publishes_none keeps id slot logged holds = by (logged_before z v a line command p small S I P id slot logged)
     where
       found_it : IsLoggedNow v id slot → ((h.topics.search.slot ≡ slot) × (h.topics.search.logged ≡ true)) ⊎ SomeLogIsUnwatched z v gfn
           → IsGuardedNow z w After slot gfn
       found_it was (inl both) = inl (inr (a, S.there, ap (λ (k : Held). k.topics.owed) here ∙ owes both.1))
-      found_it was (inr O) = opening_guards gfn id slot was holds O
+      found_it was (inr O) = opening_guards keeps gfn id slot was holds O
 
       by : IsLoggedNow v id slot ⊎ PublishesLog v a command p slot → IsGuardedNow z w After slot gfn
       by (inl was) = found_it was (found_is_logged z v a gfn id slot S.there I P G found was holds)
@@ -172,17 +209,21 @@ module _ (z : Sizes) (v : View) (a : ℕ) (line : Line) (command : Command) (p :
       let same : step ≡ part.Publish = cc (is, at) in
       let publishes = ap is_publish same in cc (publishes, never)
 
+  takes_none : (step : PartStep) → part_at p command h ≡ Some step → takes_bits step ≡ false → (s : PartStep) → part_at p command h ≡ Some s
+      → takes_bits s ≡ false
+  takes_none step is never s at = let same : s ≡ step = cc (is, at) in ap takes_bits same ∙ never
+
   new_writes : (step : PartStep) → part_at p command h ≡ Some step → OfNewWrites step h.topics v (AllGuarded z w After)
   new_writes (part.Leaf gfn write) is = λ won writes.
       let M = makes (part.Leaf gfn write) is in
       new_guards gfn M.needs.0.looked_up.found
       (owes gfn (leaf_written write h.topics) _ M.needs.1 M.needs.0.saw.over won writes (topics_made v a line command p _ is M.needs))
-      (publishes_none (part.Leaf gfn write) is refl)
+      (publishes_none (part.Leaf gfn write) is refl) (takes_none (part.Leaf gfn write) is refl)
   new_writes (part.Fix gfn) is = λ won writes.
       let M = makes (part.Fix gfn) is in
       new_guards gfn M.needs.found
       (owes gfn (leaf_fixed h.topics) _ M.needs.lowest M.needs.saw.over won writes (topics_made v a line command p _ is M.needs))
-      (publishes_none (part.Fix gfn) is refl)
+      (publishes_none (part.Fix gfn) is refl) (takes_none (part.Fix gfn) is refl)
   new_writes _ is = tt
 
   -- ---- all leaves
@@ -192,6 +233,6 @@ module _ (z : Sizes) (v : View) (a : ℕ) (line : Line) (command : Command) (p :
   all_by _ (Touches op index none) = touch_leaves z v.words op index (AllGuarded z w After) before
 
   -- Each leaf that allows writes is guarded after it, or its guest frame is passed.
-  pub guarded_or_passed : LeavesAre z (stepped a line command p v).words (AllGuarded z (stepped a line command p v) (ExcusedOrPassed p (v.hand a).topics.walk
+  pub guarded_or_passed : LeavesAre z (stepped a line command p v).words (AllGuarded z (stepped a line command p v) (ExcusedOrPassed p command (v.hand a)
       (hand_after line command p (v.hand a) (answer_in (task_at p command (v.hand a)) v.words)).topics.walk))
   guarded_or_passed = all_by (task_at p command h) (step_at z v a line command p small S I P)

@@ -74,7 +74,7 @@ line_leaves_kept z v a line command p small S I P G all_marked up spot T table e
     w : View
     w = stepped a line command p v
 
-    by : IsGuardedNow z w (ExcusedOrPassed p (v.hand a).topics.walk
+    by : IsGuardedNow z w (ExcusedOrPassed p command (v.hand a)
         (hand_after line command p (v.hand a) (answer_in (task_at p command (v.hand a)) v.words)).topics.walk) slot gfn → IsGuardedNow z w ExcusesLeaf slot gfn
     by (inl covered) = inl covered
     by (inr (j, lt, inl excuse)) = inr (j, lt, excuse)

@@ -13,8 +13,10 @@ pub mod LeafGuards
 pub mod LeavesKept
 pub mod LinePlaces
 pub mod LogBits
+pub mod LogExcuse
 pub mod LogRecords
 pub mod LogRuns
+pub mod LogUses
 pub mod LogWords
 pub mod LogsBegun
 pub mod MarkedSlots
@@ -24,6 +26,7 @@ pub mod OpeningSlot
 pub mod OtherSetWords
 pub mod OwnExcuse
 pub mod PassedFrames
+pub mod PassedPages
 pub mod PublishedLogs
 pub mod ReadFrames
 pub mod SetWordsKept

@@ -1,4 +1,4 @@
--- What the line of a hand excuses before its step, it excuses after it; but for the guest frames that a sweep passes which forbids writes.
+-- What the line of a hand excuses before its step, it excuses after it; but for the guest frames that it passes as it forbids writes.
 use Rattle.std.proofs.Common.{◌+◌, ◌<◌, ◌≡◌, ◌≤◌, ◌⊎◌, arith, inl, inr, refl, subst, sym, ℕ}
 use Rattle.std.proofs.lemmas.Bool.{cases_lt}
 use Rattle.std.proofs.lemmas.Bool.Decides.{nat_tests}
@@ -36,18 +36,22 @@ use Rattle.mmu_core.specs.lines.SweepSteps.{protected_at, sweep_next, swept_on}
 use Rattle.mmu_core.specs.lines.WatchSteps.{watch_next}
 use Rattle.mmu_core.specs.lines.WriteProtectSteps.{protect_next, protect_sweeps, protect_swept}
 use Rattle.mmu_core.specs.machine.Outcomes.{place_after}
+use Rattle.mmu_core.specs.lines.LogSteps.{slot_asked}
+use Rattle.log_invariant.proofs.LogExcuse.{IsPassedBy}
 use Rattle.log_invariant.specs.Excuses.{ForbidsLaterAt}
 use Rattle.log_invariant.specs.LogBegins.{BeginsClean, IsAmong, IsUnsweptAt, LogIsUnwatchedAt, is_unwatched}
 
 -- What a hand excuses, of its place.
 abbrev pub AllowsAt : Place → Command → Held → ℕ → Type 0
-AllowsAt p command h gfn = (LogIsUnwatchedAt p command h gfn × BeginsClean h) ⊎ SweepsLaterAt p h gfn
+AllowsAt p command h gfn = (LogIsUnwatchedAt p command h gfn × BeginsClean h) ⊎ ForbidsLaterAt p command h gfn
 
--- The guest frame is one that the sweep passes with the step of its place, with the walk before and after it.
-abbrev pub PassesAt : Place → TableWalk → TableWalk → ℕ → Type 0
-PassesAt (place.SlotChange (change.WriteProtect range p)) before after gfn =
-    (protect_sweeps p ≡ true) × (swept_to false range.start before ≤ gfn) × (gfn < swept_to false range.start after)
-PassesAt _ before after gfn = ⊥
+-- The guest frame is one that the line passes with the step of its place, with this hand before it and this walk after it: its sweep comes past the frame, or it
+-- has come to the leaf of the frame's page.
+abbrev pub PassesAt : Place → Command → Held → TableWalk → ℕ → Type 0
+PassesAt (place.SlotChange (change.WriteProtect range p)) command h after gfn =
+    (protect_sweeps p ≡ true) × (swept_to false range.start h.topics.walk ≤ gfn) × (gfn < swept_to false range.start after)
+PassesAt (place.Log p) command h after gfn = IsPassedBy p (slot_asked h command) command after gfn
+PassesAt _ command h after gfn = ⊥
 
 -- The hand after the step of a place, of what an excuse speaks of.
 pub record Follows (q : SlotChangePlace) (command : Command) (h : Held) (x : ℕ) (g : Held) : Type 0 where
@@ -66,40 +70,41 @@ root_from b from root walk = by (nat_le from (entry_start (at_root b walk root))
     by false is = omega arith
 
 -- Where it hasn't come past a guest frame of its frames, it isn't over.
-goes_on : (range : FrameRange) (walk : TableWalk) (h : Held) (gfn : ℕ) → h.topics.walk ≡ walk → IsAmong range gfn → swept_to false range.start walk ≤ gfn
-    → SweepsLaterAt (place.SlotChange (change.WriteProtect range (protect_swept (sweep_next false range walk)))) h gfn
-goes_on range walk h gfn is among left = by (nat_le range.end (swept_to false range.start walk)) refl
+goes_on : (range : FrameRange) (walk : TableWalk) (command : Command) (h : Held) (gfn : ℕ) → h.topics.walk ≡ walk → IsAmong range gfn
+    → swept_to false range.start walk ≤ gfn
+    → ForbidsLaterAt (place.SlotChange (change.WriteProtect range (protect_swept (sweep_next false range walk)))) command h gfn
+goes_on range walk command h gfn is among left = by (nat_le range.end (swept_to false range.start walk)) refl
   where
     unswept : swept_to false range.start h.topics.walk ≤ gfn
     unswept = subst (λ w. swept_to false range.start w ≤ gfn) (sym is) left
 
     by : (over : Bool) → nat_le range.end (swept_to false range.start walk) ≡ over
-        → SweepsLaterAt (place.SlotChange (change.WriteProtect range
-        (protect_swept (if over then Over else if has_entry walk && not (is_done false walk) then Leaf else Entry)))) h gfn
+        → ForbidsLaterAt (place.SlotChange (change.WriteProtect range
+        (protect_swept (if over then Over else if has_entry walk && not (is_done false walk) then Leaf else Entry)))) command h gfn
     by true e = absurd (let all : range.end ≤ swept_to false range.start walk = grind (arith, nat_tests) in let to = among.1 in omega (arith, all, left, to))
     by false e =
-        either_place (λ n. SweepsLaterAt (place.SlotChange (change.WriteProtect range (protect_swept n))) h gfn) (has_entry walk && not (is_done false walk))
+        either_place (λ n. ForbidsLaterAt (place.SlotChange (change.WriteProtect range (protect_swept n))) command h gfn) (has_entry walk && not (is_done false walk))
         Leaf Entry (among, unswept) (among, unswept)
 
 -- It comes past the guest frame with its step, or goes on before it.
-swept_excuse : (range : FrameRange) (p : WriteProtectPlace) (before walk : TableWalk) (command : Command) (h : Held) (gfn : ℕ) → protect_sweeps p ≡ true
-    → h.topics.walk ≡ walk → IsAmong range gfn → swept_to false range.start before ≤ gfn
+swept_excuse : (range : FrameRange) (p : WriteProtectPlace) (before : Held) (walk : TableWalk) (command : Command) (h : Held) (gfn : ℕ)
+    → protect_sweeps p ≡ true → h.topics.walk ≡ walk → IsAmong range gfn → swept_to false range.start before.topics.walk ≤ gfn
     → AllowsAt (place.SlotChange (change.WriteProtect range (protect_swept (sweep_next false range walk)))) command h gfn
-    ⊎ PassesAt (place.SlotChange (change.WriteProtect range p)) before h.topics.walk gfn
+    ⊎ PassesAt (place.SlotChange (change.WriteProtect range p)) command before h.topics.walk gfn
 swept_excuse range p before walk command h gfn sweeps is among left = by (cases_lt gfn (swept_to false range.start walk))
   where
     by : (gfn < swept_to false range.start walk) ⊎ (swept_to false range.start walk ≤ gfn)
         → AllowsAt (place.SlotChange (change.WriteProtect range (protect_swept (sweep_next false range walk)))) command h gfn
-        ⊎ PassesAt (place.SlotChange (change.WriteProtect range p)) before h.topics.walk gfn
+        ⊎ PassesAt (place.SlotChange (change.WriteProtect range p)) command before h.topics.walk gfn
     by (inl lt) = inr (sweeps, left, subst (λ w. gfn < swept_to false range.start w) (sym is) lt)
-    by (inr ge) = inl (inr (goes_on range walk h gfn is among ge))
+    by (inr ge) = inl (inr (goes_on range walk command h gfn is among ge))
 
 protect_excuse : (p : WriteProtectPlace) (range : FrameRange) (command : Command) (h : Held) (x : ℕ) (g : Held) (gfn : ℕ)
     → Follows (change.WriteProtect range p) command h x g → IsAmong range gfn → IsUnsweptAt p range h.topics.walk gfn
     → AllowsAt (place.SlotChange (after_protect range (protect_next p h.state.sizes range h.topics x))) command g gfn
-    ⊎ PassesAt (place.SlotChange (change.WriteProtect range p)) h.topics.walk g.topics.walk gfn
+    ⊎ PassesAt (place.SlotChange (change.WriteProtect range p)) command h g.topics.walk gfn
 protect_excuse protect.Exclude range command h x g gfn F among left =
-    inl (inr (either_place (λ n. SweepsLaterAt (place.SlotChange (change.WriteProtect range n)) g gfn) (x == 0) (protect.Walk false) protect.Exclude
+    inl (inr (either_place (λ n. ForbidsLaterAt (place.SlotChange (change.WriteProtect range n)) command g gfn) (x == 0) (protect.Walk false) protect.Exclude
     (among, tt) (among, tt)))
 protect_excuse (protect.Walk false) range command h x g gfn F among left =
     inl (inr (
@@ -108,10 +113,10 @@ protect_excuse (protect.Walk false) range command h x g gfn F among left =
           (let from = among.0 in let first = root_from (may_walk h.topics.stay h.topics.hold) range.start x h.topics.walk in omega (arith, from, first)),
     ))
 protect_excuse (protect.Walk true) range command h x g gfn F among left =
-    swept_excuse range (protect.Walk true) h.topics.walk (swept_on (swept_to false range.start h.topics.walk) h.topics.walk x) command g gfn refl F.walk among
+    swept_excuse range (protect.Walk true) h (swept_on (swept_to false range.start h.topics.walk) h.topics.walk x) command g gfn refl F.walk among
     left
 protect_excuse protect.Protect range command h x g gfn F among left =
-    swept_excuse range protect.Protect h.topics.walk (protected_at (swept_to false range.start h.topics.walk) h.topics.walk) command g gfn refl F.walk among
+    swept_excuse range protect.Protect h (protected_at (swept_to false range.start h.topics.walk) h.topics.walk) command g gfn refl F.walk among
     left
 protect_excuse _ range command h x g gfn F among left = absurd left
 
@@ -138,7 +143,7 @@ watched_excuse n z armed command h g gfn slot is clean holds still =
 -- What a slot line excuses it excuses after its step, or its sweep passes it.
 pub change_excuse : (q : SlotChangePlace) (command : Command) (h : Held) (x : ℕ) (g : Held) (gfn : ℕ) → Follows q command h x g
     → AllowsAt (place.SlotChange q) command h gfn
-    → AllowsAt (place_after (slot_change_outcome q command h x)) command g gfn ⊎ PassesAt (place.SlotChange q) h.topics.walk g.topics.walk gfn
+    → AllowsAt (place_after (slot_change_outcome q command h x)) command g gfn ⊎ PassesAt (place.SlotChange q) command h g.topics.walk gfn
 change_excuse change.Release command h x g gfn F (inl O) =
     inl (either_place (λ q. AllowsAt (place.SlotChange q) command g gfn) h.topics.invalidations.opened (change.End ends.Exclude) change.Watch
     (opens change.Release (change.End ends.Exclude) command h g gfn refl F.slots F.sizes O.0 O.1)

@@ -1,8 +1,10 @@
--- No links lead to a leaf that allows writes over a guest frame that a sweep which forbids them passes with its step.
+-- No links lead to a leaf that allows writes over a guest frame that a line which forbids them passes with its step.
 use Rattle.std.proofs.Common.{◌^◌, ◌∙◌, ◌≡◌, ◌≤◌, ap, arith, refl, subst, sym, ℕ}
 use Rattle.std.specs.Prelude.{Bool, None, Option, Some, false, true}
 use Rattle.core_views.specs.Held.{Held}
 use Rattle.core_views.specs.declared.place.FrameRange.{FrameRange}
+use Rattle.core_views.specs.declared.place.LogPlace.{LogPlace}
+use Rattle.core_views.specs.declared.place.LogPlace.TheVariants as log
 use Rattle.core_views.specs.declared.place.Place.{Place}
 use Rattle.core_views.specs.declared.place.Place.TheVariants as place
 use Rattle.core_views.specs.declared.place.SlotChangePlace.{SlotChangePlace}
@@ -16,19 +18,20 @@ use Rattle.core_views.specs.declared.trace.Command.{Command}
 use Rattle.core_views.specs.declared.trace.Line.{Line}
 use Rattle.spte_words.specs.Areas.{pool_index}
 use Rattle.spte_words.specs.Entries.{can_write, kind_of, without_write}
+use Rattle.spte_words.specs.declared.area.Area.{Area}
 use Rattle.spte_words.specs.declared.area.Area.TheVariants as area
 use Rattle.spte_words.specs.declared.spte_kind.SpteKind.TheVariants as entry_kind
 use Rattle.part_steps.specs.PartSteps.{PartNeeds}
 use Rattle.part_steps.specs.PartTasks.{entry_index, own_index, part_task, table_page}
 use Rattle.part_steps.specs.PartTopics.{part_topics}
-use Rattle.part_steps.specs.SweepTopics.{gone_up, swept_to}
+use Rattle.part_steps.specs.SweepTopics.{gone_up, has_entry, swept_to}
 use Rattle.part_steps.specs.Tasks.{kind_of_task}
 use Rattle.part_steps.specs.TopicSteps.{topics_after}
 use Rattle.part_steps.specs.WalkTopics.{linked_page}
 use Rattle.part_steps.specs.declared.part_step.PartStep.{PartStep}
 use Rattle.part_steps.specs.declared.part_step.PartStep.TheVariants as part
 use Rattle.part_steps.specs.declared.task.Task.{Task}
-use Rattle.mmu_core.proofs.invariant.Kept.{makes_slot_change}
+use Rattle.mmu_core.proofs.invariant.Kept.{makes_at, makes_slot_change}
 use Rattle.mmu_core.proofs.lines.AccessParts.{AreSmall}
 use Rattle.mmu_core.proofs.lines.KnowsKept.{step_knows}
 use Rattle.mmu_core.proofs.lines.SweepKnown.{sweep_known}
@@ -49,11 +52,12 @@ use Rattle.mmu_core.specs.invariant.TreePart.{Position, TreePart, Use, at, stand
 use Rattle.mmu_core.specs.lines.AccessSteps.{task_by}
 use Rattle.mmu_core.specs.lines.Forms.{note_at, part_at}
 use Rattle.mmu_core.specs.lines.PartAt.{task_at, touch_at}
-use Rattle.mmu_core.specs.lines.SlotChangeSteps.{slot_change_note, slot_change_part}
+use Rattle.mmu_core.specs.lines.LogSteps.{frame_asked, log_part, slot_asked}
 use Rattle.mmu_core.specs.lines.SweepKnows.{IsAtEntry, IsAtLeaf, SweepKnows}
 use Rattle.mmu_core.specs.machine.View.{View, answer_in, hand_after, part_stepped, stepped}
 use Rattle.log_invariant.proofs.Accounts.{all_accounts}
 use Rattle.log_invariant.proofs.OwnExcuse.{PassesAt}
+use Rattle.log_invariant.proofs.PassedPages.{leaf_denies, walk_denies}
 use Rattle.log_invariant.proofs.SweptWrites.{passed_denies}
 
 -- A sweep stands at a table, after an entry.
@@ -63,10 +67,10 @@ swept_there Leaf zaps range walk K = K.saw.over.there
 swept_there Entry zaps range walk K = K.on.there
 
 -- what is said of no leaf of these frames
-abbrev pub DeniesPassed : Place → TableWalk → TableWalk → ℕ → ℕ → ℕ → Type 0
-DeniesPassed p before after level gfn w = PassesAt p before after gfn → kind_of level w ≡ entry_kind.Leaf → can_write w ≡ true → ⊥
+abbrev pub DeniesPassed : Place → Command → Held → TableWalk → ℕ → ℕ → ℕ → Type 0
+DeniesPassed p command h after level gfn w = PassesAt p command h after gfn → kind_of level w ≡ entry_kind.Leaf → can_write w ≡ true → ⊥
 
-module _ (z : Sizes) (v : View) (a : ℕ) (note : ℕ) (P : TopicsInvariant z v) (range : FrameRange) where
+module _ (z : Sizes) (v : View) (a : ℕ) (note : ℕ) (P : TopicsInvariant z v) (command : Command) (range : FrameRange) where
   abbrev t : Topics
   t = (v.hand a).topics
 
@@ -76,7 +80,7 @@ module _ (z : Sizes) (v : View) (a : ℕ) (note : ℕ) (P : TopicsInvariant z v)
   -- It loads an entry.
   sweep_denies : (S : IsPart z v a (part.Sweep came)) → range.end ≤ 2 ^ 36 → IsAtEntry false range t.walk
       → AllOver P.up P.spot ((part_stepped a (part.Sweep came) note v).words area.Pool) ((part_stepped a (part.Sweep came) note v).words area.Root 0)
-      (DeniesPassed (place.SlotChange (change.WriteProtect range (protect.Walk true))) t.walk
+      (DeniesPassed (place.SlotChange (change.WriteProtect range (protect.Walk true))) command (v.hand a)
       (part_topics (part.Sweep came) t (v.words area.Pool (pool_index (table_page (gone_up t.walk)) (entry_index came (gone_up t.walk).level)))).walk)
   sweep_denies S most K l j other R O passes =
       passed_denies (tree_kept z v a (part.Sweep came) note S P) (omega (arith, few)) up at_up range.start came x (linked_page (kind_of up.level x))
@@ -99,7 +103,7 @@ module _ (z : Sizes) (v : View) (a : ℕ) (note : ℕ) (P : TopicsInvariant z v)
   -- It forbids writes in a leaf.
   protect_denies : (S : IsPart z v a (part.Protect came)) → IsAtLeaf false range t.walk
       → AllOver P.up P.spot ((part_stepped a (part.Protect came) note v).words area.Pool) ((part_stepped a (part.Protect came) note v).words area.Root 0)
-      (DeniesPassed (place.SlotChange (change.WriteProtect range protect.Protect)) t.walk (part_topics (part.Protect came) t 0).walk)
+      (DeniesPassed (place.SlotChange (change.WriteProtect range protect.Protect)) command (v.hand a) (part_topics (part.Protect came) t 0).walk)
   protect_denies S K l j other R O passes =
       passed_denies (tree_kept z v a (part.Protect came) note S P) (omega (arith, few)) t.walk ((P.held a S.there).table K.saw.over.there) range.start came
       (without_write t.walk.entry) None K.saw.over.span K.from left K.saw.over.there l j other R O passes.1 passes.2
@@ -133,22 +137,24 @@ module _ (z : Sizes) (v : View) (a : ℕ) (line : Line) (command : Command) (sma
   DeniesBehind p =
       let w : View = stepped a line command p v in
       (up : ℕ → Use) (spot : ℕ → Position) → TreePart z.pool (w.words area.Root 0) (w.words area.Role) (w.words area.Pool) up spot
-      → AllOver up spot (w.words area.Pool) (w.words area.Root 0) (DeniesPassed p (v.hand a).topics.walk
+      → AllOver up spot (w.words area.Pool) (w.words area.Root 0) (DeniesPassed p command (v.hand a)
       (hand_after line command p (v.hand a) (answer_in (task_at p command (v.hand a)) v.words)).topics.walk)
 
   -- What is so in one account is so in each.
-  carried : (q : SlotChangePlace) (M : IsPart z v a (slot_change_part q (v.hand a) command)) (walk : TableWalk)
-      → (hand_after line command (place.SlotChange q) (v.hand a) (answer_in (task_at (place.SlotChange q) command (v.hand a)) v.words)).topics.walk ≡ walk
-      → AllOver (up_after (slot_change_part q (v.hand a) command) a (v.hand a).topics v P.up)
-      (spot_after (slot_change_part q (v.hand a) command) (v.hand a).topics v P.spot)
-      ((stepped a line command (place.SlotChange q) v).words area.Pool) ((stepped a line command (place.SlotChange q) v).words area.Root 0)
-      (DeniesPassed (place.SlotChange q) (v.hand a).topics.walk walk)
-      → DeniesBehind (place.SlotChange q)
-  carried q M walk is A up spot T =
-      subst (λ (to : TableWalk). AllOver up spot ((stepped a line command (place.SlotChange q) v).words area.Pool)
-      ((stepped a line command (place.SlotChange q) v).words area.Root 0) (DeniesPassed (place.SlotChange q) (v.hand a).topics.walk to)) (sym is)
-      (all_accounts (tree_kept z v a (slot_change_part q (v.hand a) command) (slot_change_note q (v.hand a)) M P) T
-      (DeniesPassed (place.SlotChange q) (v.hand a).topics.walk walk) A)
+  carried : (p : Place) (step : PartStep) (note : ℕ) (M : IsPart z v a step) (walk : TableWalk)
+      → ◌≡◌ {A = Area → ℕ → ℕ} (stepped a line command p v).words (part_stepped a step note v).words
+      → (hand_after line command p (v.hand a) (answer_in (task_at p command (v.hand a)) v.words)).topics.walk ≡ walk
+      → AllOver (up_after step a (v.hand a).topics v P.up) (spot_after step (v.hand a).topics v P.spot) ((part_stepped a step note v).words area.Pool)
+      ((part_stepped a step note v).words area.Root 0) (DeniesPassed p command (v.hand a) walk)
+      → DeniesBehind p
+  carried p step note M walk same is A up spot =
+      subst (Denies (stepped a line command p v).words) (sym is) (subst (λ (words : Area → ℕ → ℕ). Denies words walk) (sym same)
+      (λ T. all_accounts (tree_kept z v a step note M P) T (DeniesPassed p command (v.hand a) walk) A))
+    where
+      Denies : (Area → ℕ → ℕ) → TableWalk → Type 0
+      Denies words to =
+          TreePart z.pool (words area.Root 0) (words area.Role) (words area.Pool) up spot
+          → AllOver up spot (words area.Pool) (words area.Root 0) (DeniesPassed p command (v.hand a) to)
 
   by_protect : (range : FrameRange) (q : WriteProtectPlace) → IsStep z v a line command (place.SlotChange (change.WriteProtect range q))
       → DeniesBehind (place.SlotChange (change.WriteProtect range q))
@@ -156,18 +162,31 @@ module _ (z : Sizes) (v : View) (a : ℕ) (line : Line) (command : Command) (sma
       let p : Place = place.SlotChange (change.WriteProtect range (protect.Walk true)) in
       let M = makes_slot_change z v a line (change.WriteProtect range (protect.Walk true)) command small S I P in
       let K = (step_knows z v a line command p S I).1 in
-      carried (change.WriteProtect range (protect.Walk true)) M _ (ap (λ (t : Topics). t.walk) (topics_made v a line command p _ refl M.needs))
-      (sweep_denies z v a 0 P range M K.2.low (K.1.1 refl))
+      carried p _ 0 M _ refl (ap (λ (t : Topics). t.walk) (topics_made v a line command p _ refl M.needs))
+      (sweep_denies z v a 0 P command range M K.2.low (K.1.1 refl))
   by_protect range protect.Protect S =
       let p : Place = place.SlotChange (change.WriteProtect range protect.Protect) in
       let M = makes_slot_change z v a line (change.WriteProtect range protect.Protect) command small S I P in
       let K = (step_knows z v a line command p S I).1 in
-      carried (change.WriteProtect range protect.Protect) M _ (ap (λ (t : Topics). t.walk) (topics_made v a line command p _ refl M.needs))
-      (protect_denies z v a 0 P range M K.1.1)
+      carried p _ 0 M _ refl (ap (λ (t : Topics). t.walk) (topics_made v a line command p _ refl M.needs)) (protect_denies z v a 0 P command range M K.1.1)
   by_protect range (protect.Walk false) S = λ up spot T table entry gfn R O passes. absurd (let no = passes.0 in cc no)
   by_protect range _ S = λ up spot T table entry gfn R O passes. absurd (let no = passes.0 in cc no)
+
+  by_log : (q : LogPlace) → IsStep z v a line command (place.Log q) → DeniesBehind (place.Log q)
+  by_log (log.Walk page) S =
+      let p : Place = place.Log (log.Walk page) in
+      let M = makes_at z v a line command p small S I P (log_part (log.Walk page) (v.hand a) command) refl in
+      carried p (log_part (log.Walk page) (v.hand a) command) 0 M _ refl (ap (λ (t : Topics). t.walk) (topics_made v a line command p _ refl M.needs))
+      (walk_denies z v a P (frame_asked (slot_asked (v.hand a) command) command page) (has_entry (v.hand a).topics.walk) M)
+  by_log (log.Protect page) S =
+      let p : Place = place.Log (log.Protect page) in
+      let M = makes_at z v a line command p small S I P (log_part (log.Protect page) (v.hand a) command) refl in
+      carried p (log_part (log.Protect page) (v.hand a) command) 0 M _ refl (ap (λ (t : Topics). t.walk) (topics_made v a line command p _ refl M.needs))
+      (leaf_denies z v a P (frame_asked (slot_asked (v.hand a) command) command page) M)
+  by_log _ S = λ up spot T table entry gfn R O passes. absurd passes
 
   -- Nothing is passed at any other place.
   pub none_passed : (p : Place) → IsStep z v a line command p → DeniesBehind p
   none_passed (place.SlotChange (change.WriteProtect range q)) S = by_protect range q S
+  none_passed (place.Log q) S = by_log q S
   none_passed _ S = λ up spot T table entry gfn R O passes. absurd passes

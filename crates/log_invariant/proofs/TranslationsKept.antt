@@ -4,6 +4,8 @@ use Rattle.std.specs.Prelude.{Bool, List, false, if◌then◌else◌, true}
 use Rattle.core_views.specs.declared.cache.Translation.{Translation}
 use Rattle.core_views.specs.declared.place.AccessPlace.TheVariants.{Walk}
 use Rattle.core_views.specs.declared.place.AccessPlace.{AccessPlace}
+use Rattle.core_views.specs.declared.place.LogPlace.{LogPlace}
+use Rattle.core_views.specs.declared.place.LogPlace.TheVariants as log
 use Rattle.core_views.specs.declared.place.Place.TheVariants as place
 use Rattle.core_views.specs.declared.place.Place.{Place}
 use Rattle.core_views.specs.declared.place.SlotChangePlace.TheVariants as change
@@ -41,6 +43,7 @@ use Rattle.mmu_core.proofs.pages.TreePlaces.{all_reached}
 use Rattle.log_invariant.specs.Excuses.{ExcusesCached, ExcusesLeaf, FlushesLaterAt}
 use Rattle.log_invariant.specs.LogBegins.{IsUnflushed, IsUnflushedAt}
 use Rattle.log_invariant.specs.LogInvariant.{AreGuarded, LeafIsGuarded, LogInvariant}
+use Rattle.log_invariant.specs.LogReads.{IsUnflushedBy}
 use Rattle.log_invariant.proofs.CachesCarried.{AsksStill}
 use Rattle.log_invariant.proofs.CoveredKept.{AllGuarded, IsGuardedNow}
 use Rattle.log_invariant.proofs.UsesExcused.{allowed_used}
@@ -62,22 +65,31 @@ guarded_by z v Less More gfn more guarded id slot logged holds = by (guarded id 
     by (inr excuse) = inr (excuse.0, excuse.1, more (v.hand excuse.0) excuse.2)
 
 -- An excuse stays where the state word asks for a flush still.
+still_asked : (flush : Flush) (k state now_ : ℕ) → AsksStill state now_ → IsUnflushed flush k state → IsUnflushed flush k now_
+still_asked flush k state now_ still (inl le) = inl le
+still_asked flush k state now_ still (inr U) = inr (U.0, still U.1)
+
 still_unflushed : (p : WriteProtectPlace) (flush : Flush) (k state now_ : ℕ) → AsksStill state now_
     → IsUnflushedAt p flush k state → IsUnflushedAt p flush k now_
-still_unflushed protect.Ask flush k state now_ still (inl le) = inl le
-still_unflushed protect.Ask flush k state now_ still (inr U) = inr (U.0, still U.1)
-still_unflushed protect.Await flush k state now_ still (inl le) = inl le
-still_unflushed protect.Await flush k state now_ still (inr U) = inr (U.0, still U.1)
+still_unflushed protect.Ask flush k state now_ still U = still_asked flush k state now_ still U
+still_unflushed protect.Await flush k state now_ still U = still_asked flush k state now_ still U
 still_unflushed _ flush k state now_ still U = tt
 
-still_flushes : (p : Place) (k state now_ : ℕ) (h : Held) (gfn : ℕ) → AsksStill state now_ → FlushesLaterAt p h k state gfn
-    → FlushesLaterAt p h k now_ gfn
-still_flushes (place.SlotChange (change.WriteProtect range p)) k state now_ h gfn still F = (F.0, still_unflushed p h.topics.flush k state now_ still F.1)
-still_flushes _ k state now_ h gfn still F = absurd F
+still_unflushed_by : (p : LogPlace) (flush : Flush) (k state now_ : ℕ) → AsksStill state now_ → IsUnflushedBy p flush k state → IsUnflushedBy p flush k now_
+still_unflushed_by log.Ask flush k state now_ still U = still_asked flush k state now_ still U
+still_unflushed_by log.Await flush k state now_ still U = still_asked flush k state now_ still U
+still_unflushed_by _ flush k state now_ still U = tt
+
+still_flushes : (p : Place) (k state now_ : ℕ) (command : Command) (h : Held) (gfn : ℕ) → AsksStill state now_ → FlushesLaterAt p command h k state gfn
+    → FlushesLaterAt p command h k now_ gfn
+still_flushes (place.SlotChange (change.WriteProtect range p)) k state now_ command h gfn still F =
+    (F.0, still_unflushed p h.topics.flush k state now_ still F.1)
+still_flushes (place.Log p) k state now_ command h gfn still F = (F.0, still_unflushed_by p h.topics.flush k state now_ still F.1)
+still_flushes _ k state now_ command h gfn still F = absurd F
 
 pub still_excused : (k state now_ : ℕ) (h : Held) (gfn : ℕ) → AsksStill state now_ → ExcusesCached k state h gfn → ExcusesCached k now_ h gfn
 still_excused k state now_ h gfn still (inl opens) = inl opens
-still_excused k state now_ h gfn still (inr F) = inr (still_flushes h.state.place k state now_ h gfn still F)
+still_excused k state now_ h gfn still (inr F) = inr (still_flushes h.state.place k state now_ h.state.line.command h gfn still F)
 
 -- ---- what an access caches
 

@@ -1,11 +1,13 @@
 -- A line that begins a dirty log excuses the use of what is cached up to when it has flushed it: its steps keep the excuse.
-use Rattle.std.proofs.Common.{ap, arith, inl, inr, refl, ℕ, ◌+◌, ◌<◌, ◌≡◌, ◌≤◌, ◌⊎◌}
+use Rattle.std.proofs.Common.{ap, arith, inl, inr, refl, subst, sym, ℕ, ◌+◌, ◌<◌, ◌≡◌, ◌≤◌, ◌⊎◌}
 use Rattle.std.specs.Prelude.{Bool, false, nat_lt, true, ◌==◌, ◌||◌, ◌≢◌, if◌then◌else◌}
 use Rattle.std.proofs.lemmas.Bool.Decides.{nat_tests}
 use Rattle.circular_buffer.specs.Buffer.{Buffer}
 use Rattle.core_views.specs.declared.cache.Translation.{Translation}
 use Rattle.core_views.specs.declared.place.Cause.TheVariants.{Entry}
 use Rattle.core_views.specs.declared.place.FrameRange.{FrameRange}
+use Rattle.core_views.specs.declared.place.LogPlace.{LogPlace}
+use Rattle.core_views.specs.declared.place.LogPlace.TheVariants as log
 use Rattle.core_views.specs.declared.place.Place.TheVariants as place
 use Rattle.core_views.specs.declared.place.Place.{Place}
 use Rattle.core_views.specs.declared.place.SlotChangePlace.TheVariants as change
@@ -31,11 +33,13 @@ use Rattle.mmu_core.specs.lines.SlotChangeSteps.{after_protect, slot_change_outc
 use Rattle.mmu_core.specs.lines.WriteProtectKnows.{WriteProtectKnows}
 use Rattle.mmu_core.specs.lines.WriteProtectSteps.{protect_next, protect_part, protect_swept}
 use Rattle.mmu_core.specs.machine.Outcomes.{place_after}
-use Rattle.mmu_core.proofs.lines.EitherPlace.{either_place, one_place}
+use Rattle.mmu_core.proofs.lines.EitherPlace.{either_place}
 use Rattle.mmu_core.proofs.machine.Columns.{same_or}
 use Rattle.mmu_core.proofs.machine.HandWith.{hand_with}
 use Rattle.log_invariant.specs.Excuses.{FlushesLaterAt, ForbidsLaterAt}
-use Rattle.log_invariant.specs.LogBegins.{BeginsClean, IsAmong, IsUnflushedAt, IsUnsweptAt, LogIsUnwatchedAt}
+use Rattle.log_invariant.specs.LogBegins.{BeginsClean, IsAmong, IsUnflushed, IsUnflushedAt, IsUnsweptAt, LogIsUnwatchedAt}
+use Rattle.log_invariant.specs.LogReads.{IsUnflushedBy, IsUnprotectedAt}
+use Rattle.mmu_core.specs.lines.LogSteps.{slot_asked}
 use Rattle.log_invariant.proofs.CachesCarried.{AsksStill}
 use Rattle.log_invariant.proofs.OwnExcuse.{AllowsAt, change_excuse}
 
@@ -43,24 +47,30 @@ use Rattle.log_invariant.proofs.OwnExcuse.{AllowsAt, change_excuse}
 
 -- The line that stands there has yet to see that nothing of the guest frame is left which virtual processor k has cached.
 abbrev pub MayUseAt : ℕ → ℕ → Place → Command → Held → ℕ → Type 0
-MayUseAt k state p command h gfn = (LogIsUnwatchedAt p command h gfn × BeginsClean h) ⊎ FlushesLaterAt p h k state gfn
+MayUseAt k state p command h gfn = (LogIsUnwatchedAt p command h gfn × BeginsClean h) ⊎ FlushesLaterAt p command h k state gfn
 
--- What has yet to be swept has yet to be flushed.
-allows_use : (p : Place) (k state : ℕ) (h : Held) (gfn : ℕ) → SweepsLaterAt p h gfn → FlushesLaterAt p h k state gfn
-allows_use (place.SlotChange (change.WriteProtect range p)) k state h gfn sweeps = (sweeps.0, by p sweeps.1)
+-- Where writes have yet to be forbidden, the flush has yet to be made.
+pub allows_use : (p : Place) (k state : ℕ) (command : Command) (h : Held) (gfn : ℕ) → ForbidsLaterAt p command h gfn → FlushesLaterAt p command h k state gfn
+allows_use (place.SlotChange (change.WriteProtect range p)) k state command h gfn sweeps = (sweeps.0, by p sweeps.1)
   where
     by : (p : WriteProtectPlace) → IsUnsweptAt p range h.topics.walk gfn → IsUnflushedAt p h.topics.flush k state
     by protect.Ask none = absurd none
     by protect.Await none = absurd none
     by _ unswept = tt
-allows_use _ k state h gfn sweeps = absurd sweeps
+allows_use (place.Log p) k state command h gfn forbids = (forbids.0, by p forbids.1)
+  where
+    by : (p : LogPlace) → IsUnprotectedAt p (slot_asked h command) command gfn → IsUnflushedBy p h.topics.flush k state
+    by log.Ask none = absurd none
+    by log.Await none = absurd none
+    by _ unprotected = tt
+allows_use _ k state command h gfn forbids = absurd forbids
 
 -- So what excuses a leaf excuses the use of it.
 pub allowed_used : (p : Place) (k state : ℕ) (command : Command) (h : Held) (gfn : ℕ) → AllowsAt p command h gfn → MayUseAt k state p command h gfn
 allowed_used p k state command h gfn (inl opens) = inl opens
-allowed_used p k state command h gfn (inr sweeps) = inr (allows_use p k state h gfn sweeps)
+allowed_used p k state command h gfn (inr forbids) = inr (allows_use p k state command h gfn forbids)
 
--- It is no sweep that passes the guest frame.
+-- Nothing passes the guest frame.
 never_passes : {A : Type 0} → A ⊎ ⊥ → A
 never_passes (inl so) = so
 never_passes (inr passes) = absurd passes
@@ -85,7 +95,7 @@ module _ (z : Sizes) (range : FrameRange) (t : Topics) (k x state now_ : ℕ) (l
   swept_unflushed Entry flush = tt
 
   -- One more is asked.
-  asked_unflushed : (t.flush.asked ≤ k) ⊎ ((t.flush.awaited ≤ k) × (asks_flush state ≡ true)) → ShowsFlush protect.Ask t k x state now_ → t.flush.awaited ≡ 0
+  pub asked_unflushed : (t.flush.asked ≤ k) ⊎ ((t.flush.awaited ≤ k) × (asks_flush state ≡ true)) → ShowsFlush protect.Ask t k x state now_ → t.flush.awaited ≡ 0
       → (t.flush.asked + 1 ≤ k) ⊎ ((t.flush.awaited ≤ k) × (asks_flush now_ ≡ true))
   asked_unflushed (inr U) T none = inr (U.0, T.0 U.1)
   asked_unflushed (inl le) T none = by (same_or k t.flush.asked)
@@ -94,23 +104,25 @@ module _ (z : Sizes) (range : FrameRange) (t : Topics) (k x state now_ : ℕ) (l
       by (inl e) = inr (omega (arith, none), T.1 e)
       by (inr ne) = inl (omega (arith, le, ne))
 
-  -- One is awaited that has flushed, or hasn't yet.
-  awaited_unflushed : (waits : Bool) → has_to_flush x ≡ waits → t.flush.awaited ≤ k → asks_flush state ≡ true → ShowsFlush protect.Await t k x state now_
-      → IsUnflushedBehind (if waits || nat_lt (t.flush.awaited + 1) z.vcpus then next.Goes protect.Await else next.Over)
-      (record t.flush { awaited = t.flush.awaited + (if waits then 0 else 1) }) k now_
-  awaited_unflushed true is le asks T = inr (omega (arith, le), T.0 asks)
+  -- One is awaited that has flushed, or hasn't yet: the line goes on where this one isn't flushed.
+  pub awaited_unflushed : (waits : Bool) → has_to_flush x ≡ waits → t.flush.awaited ≤ k → asks_flush state ≡ true → ShowsFlush protect.Await t k x state now_
+      → ((waits || nat_lt (t.flush.awaited + 1) z.vcpus) ≡ true)
+      × IsUnflushed (record t.flush { awaited = t.flush.awaited + (if waits then 0 else 1) }) k now_
+  awaited_unflushed true is le asks T = (refl, inr (omega (arith, le), T.0 asks))
   awaited_unflushed false is le asks T = by (same_or k t.flush.awaited)
     where
-      flush : Flush
-      flush = record t.flush { awaited = t.flush.awaited + 1 }
-
-      by : (k ≡ t.flush.awaited) ⊎ (k ≢ t.flush.awaited)
-          → IsUnflushedBehind (if nat_lt (t.flush.awaited + 1) z.vcpus then next.Goes protect.Await else next.Over) flush k now_
+      by : (k ≡ t.flush.awaited) ⊎ (k ≢ t.flush.awaited) → (nat_lt (t.flush.awaited + 1) z.vcpus ≡ true)
+          × IsUnflushed (record t.flush { awaited = t.flush.awaited + 1 }) k now_
       by (inl e) = let none = T.1 e is in absurd (cc (asks, none))
-      by (inr ne) =
-          one_place (λ q. IsUnflushedBehind q flush k now_) (nat_lt (t.flush.awaited + 1) z.vcpus) (next.Goes protect.Await) next.Over
-          (λ e. inr (omega (arith, le, ne), T.0 asks))
-          (λ e. let last : z.vcpus ≤ t.flush.awaited + 1 = grind (arith, nat_tests) in absurd (omega (arith, last, le, ne, low)))
+      by (inr ne) = let lt : t.flush.awaited + 1 < z.vcpus = omega (arith, le, ne, low) in (grind (arith, nat_tests), inr (omega (arith, le, ne), T.0 asks))
+
+  awaited_on : (waits : Bool) → has_to_flush x ≡ waits → t.flush.awaited ≤ k → asks_flush state ≡ true → ShowsFlush protect.Await t k x state now_
+      → IsUnflushedBehind (if waits || nat_lt (t.flush.awaited + 1) z.vcpus then next.Goes protect.Await else next.Over)
+      (record t.flush { awaited = t.flush.awaited + (if waits then 0 else 1) }) k now_
+  awaited_on waits is le asks T =
+      let on = awaited_unflushed waits is le asks T in
+      subst (λ (b : Bool). IsUnflushedBehind (if b then next.Goes protect.Await else next.Over)
+      (record t.flush { awaited = t.flush.awaited + (if waits then 0 else 1) }) k now_) (sym on.0) on.1
 
   -- After each step.
   protect_unflushed : (p : WriteProtectPlace) → WriteProtectKnows p z range t → ShowsFlush p t k x state now_ → IsUnflushedAt p t.flush k state
@@ -125,7 +137,7 @@ module _ (z : Sizes) (range : FrameRange) (t : Topics) (k x state now_ : ℕ) (l
       either_place (λ q. IsUnflushedAt q (record t.flush { asked = t.flush.asked + 1 }) k now_) (nat_lt (t.flush.asked + 1) z.vcpus) protect.Ask protect.Await
       (asked_unflushed U T K.2) (asked_unflushed U T K.2)
   protect_unflushed protect.Await K T (inl none) = let all = K.1 in absurd (omega (arith, none, all, low))
-  protect_unflushed protect.Await K T (inr U) = awaited_unflushed (has_to_flush x) refl U.0 U.1 T
+  protect_unflushed protect.Await K T (inr U) = awaited_on (has_to_flush x) refl U.0 U.1 T
 
 -- ---- after a step of the line
 
