@@ -58,17 +58,17 @@ pub cut_words : (bytes : List ℕ) (words : List (List ℕ)) (a : Actor) → byt
 cut_words bytes words a e are form = cut bytes words e are (λ none. no_words a (rw none at form))
 
 -- What a line says has words.
-say_some : (go_seen : Bool) (words : List (List ℕ)) (s : Saying) → AreWordsOf go_seen words s → words ≡ [] → ⊥
-say_some go_seen words (Does a c) are none = let (rest, e) = command_first words a (command_form words a c are) in cc
-say_some go_seen words Go (first, e) none = cc
-say_some go_seen words (Schedules item) (last, e, says) none = cc
+say_some : (h : Header) (go_seen : Bool) (words : List (List ℕ)) (s : Saying) → IsSayingOf h s → AreWordsOf go_seen words s → words ≡ [] → ⊥
+say_some h go_seen words (Does a c) range are none = let (rest, e) = command_first words a (command_form h words a c range are) in cc
+say_some h go_seen words Go range (first, e) none = cc
+say_some h go_seen words (Schedules item) range (last, e, says) none = cc
 
 -- What a line says is read.
 pub says : (h : Header) (go_seen : Bool) (bytes : List ℕ) (s : Saying) → IsHeader h → SaysLine h go_seen bytes s → said h go_seen bytes ≡ Ok s
 unfolding said by_words
 says h go_seen bytes s header (range, (words, e, are)) =
     let each = say_words h go_seen words s header range are in
-    let same = cut bytes words e each (say_some go_seen words s are) in
+    let same = cut bytes words e each (say_some h go_seen words s range are) in
     rw (same, none_empty words each) (words_read h go_seen words s header range are)
 
 -- Only what a line says is read.

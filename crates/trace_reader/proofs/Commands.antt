@@ -9,17 +9,18 @@ use Rattle.core_views.specs.Traces.{HasActor, IsCommandOf, IsHeader}
 use Rattle.core_views.specs.declared.actor.Actor.{Actor}
 use Rattle.core_views.specs.declared.actor.Actor.TheVariants.{Vcpu, Host, Manager}
 use Rattle.core_views.specs.declared.trace.Command.{Command}
-use Rattle.core_views.specs.declared.trace.Command.TheVariants.{Access, ChangeHost, DeleteSlot, SetLog, SetSlot}
+use Rattle.core_views.specs.declared.trace.Command.TheVariants.{Access, ChangeHost, ClearLog, DeleteSlot, GetLog, SetLog, SetSlot}
 use Rattle.core_views.specs.declared.trace.HostChange.{HostChange}
 use Rattle.core_views.specs.declared.trace.HostChange.TheVariants.{Allow, Evict, Move, Protect}
 use Rattle.core_views.specs.declared.trace.Header.{Header}
 use Rattle.trace_reader.specs.Forms.{by_command, by_form}
 use Rattle.trace_reader.specs.Grammar.{AreCommandWords, AreWords, IsActor, IsCommandForm, IsDeclared, TellsChange}
 use Rattle.trace_reader.proofs.Accesses.{IsVcpu, access_form, access_plain, access_reads, add_judged, read_judged, write_judged}
+use Rattle.trace_reader.proofs.ClearLines.{AreClearing, clear_judged, clear_line_form, clear_plain, clear_reads}
 use Rattle.trace_reader.proofs.HostLines.{IsHost, host_judged, host_line_form, host_plain, host_reads}
 use Rattle.trace_reader.proofs.Items.{has_declared}
 use Rattle.trace_reader.proofs.Judged.{AreTwo, IsOne, Judged, none, row}
-use Rattle.trace_reader.proofs.LogLines.{log_judged, log_line_form, log_plain, log_reads}
+use Rattle.trace_reader.proofs.LogLines.{get_judged, get_line_form, get_plain, get_reads, log_line_form, log_off_judged, log_on_judged, log_plain, log_reads}
 use Rattle.trace_reader.proofs.Operands.{small_words}
 use Rattle.trace_reader.proofs.Results.{other_word, parts_same}
 use Rattle.trace_reader.proofs.SlotLines.{AreSetting, IsManager, slot_judged, slot_line_form, slot_plain, slot_reads}
@@ -33,16 +34,18 @@ Either false A B = B
 -- Who makes the command of this word, and which words stand after it.
 abbrev IsRow : List ℕ → Actor → List (List ℕ) → Type 0
 IsRow command a rest =
+    Either (bytes_eq command (codes "clear")) (IsManager a × AreClearing rest) (
     Either (bytes_eq command (codes "read")) (IsVcpu a × IsOne rest) (
     Either (bytes_eq command (codes "write")) (IsVcpu a × AreTwo rest) (
     Either (bytes_eq command (codes "add")) (IsVcpu a × AreTwo rest) (
     Either (bytes_eq command (codes "slot")) (IsManager a × AreSetting rest) (
     Either (bytes_eq command (codes "logon")) (IsManager a × IsOne rest) (
     Either (bytes_eq command (codes "logoff")) (IsManager a × IsOne rest) (
+    Either (bytes_eq command (codes "get")) (IsManager a × IsOne rest) (
     Either (bytes_eq command (codes "move")) (IsHost a × IsOne rest) (
     Either (bytes_eq command (codes "evict")) (IsHost a × IsOne rest) (
     Either (bytes_eq command (codes "protect")) (IsHost a × IsOne rest) (
-    Either (bytes_eq command (codes "allow")) (IsHost a × IsOne rest) ⊥)))))))))
+    Either (bytes_eq command (codes "allow")) (IsHost a × IsOne rest) ⊥)))))))))))
 
 -- The words of a form are the actor's name, a command's word, and those of its row.
 abbrev HasRow : List (List ℕ) → Actor → Type 0
@@ -59,8 +62,10 @@ has_row words (Vcpu i) (inl (x, e)) = (codes "read", x ∷ [], e, (tt, (x, refl)
 has_row words (Vcpu i) (inr (inl (x, y, e))) = (codes "write", x ∷ y ∷ [], e, (tt, (x, y, refl)))
 has_row words (Vcpu i) (inr (inr (x, y, e))) = (codes "add", x ∷ y ∷ [], e, (tt, (x, y, refl)))
 has_row words Manager (inl (i, b, p, k, read_only, e)) = (codes "slot", _, e, (tt, (i, b, p, k, read_only, refl)))
-has_row words Manager (inr (i, true, e)) = (codes "logon", i ∷ [], e, (tt, (i, refl)))
-has_row words Manager (inr (i, false, e)) = (codes "logoff", i ∷ [], e, (tt, (i, refl)))
+has_row words Manager (inr (inl (i, true, e))) = (codes "logon", i ∷ [], e, (tt, (i, refl)))
+has_row words Manager (inr (inl (i, false, e))) = (codes "logoff", i ∷ [], e, (tt, (i, refl)))
+has_row words Manager (inr (inr (inl (i, e)))) = (codes "get", i ∷ [], e, (tt, (i, refl)))
+has_row words Manager (inr (inr (inr (i, f, c, ws, e, counted)))) = (codes "clear", i ∷ f ∷ c ∷ ws, e, (tt, (i, f, c, ws, refl, counted)))
 has_row words (Host i) (command, p, change, tells, e) = (command, p ∷ [], e, host_row i command p change tells)
 has_row words _ form = absurd form
 
@@ -78,10 +83,10 @@ only who command rest a form =
     (name, row_same command other rest more a same after is)
 
 -- What words of an actor's line give is what they say, or why they say nothing.
-by_command_judged : (h : Header) (who command : List ℕ) (rest : List (List ℕ))
+by_command_judged : (h : Header) (who command : List ℕ) (rest : List (List ℕ)) → (command ≡ codes "clear" → ⊥)
     → Judged h (who ∷ command ∷ rest) (by_command h who command rest)
 unfolding by_command
-by_command_judged h who command rest =
+by_command_judged h who command rest clear =
     row (Judged h (who ∷ command ∷ rest)) command (codes "read") _ _ _ refl
     (λ is. rw is (read_judged h who rest (only who (codes "read") rest))) (λ read.
     row (Judged h (who ∷ command ∷ rest)) command (codes "write") _ _ _ refl
@@ -91,9 +96,11 @@ by_command_judged h who command rest =
     row (Judged h (who ∷ command ∷ rest)) command (codes "slot") _ _ _ refl
     (λ is. rw is (slot_judged h who rest (only who (codes "slot") rest))) (λ slot.
     row (Judged h (who ∷ command ∷ rest)) command (codes "logon") _ _ _ refl
-    (λ is. rw is (log_judged h who (codes "logon") true rest (λ i. refl) (only who (codes "logon") rest))) (λ logon.
+    (λ is. rw is (log_on_judged h who rest (only who (codes "logon") rest))) (λ logon.
     row (Judged h (who ∷ command ∷ rest)) command (codes "logoff") _ _ _ refl
-    (λ is. rw is (log_judged h who (codes "logoff") false rest (λ i. refl) (only who (codes "logoff") rest))) (λ logoff.
+    (λ is. rw is (log_off_judged h who rest (only who (codes "logoff") rest))) (λ logoff.
+    row (Judged h (who ∷ command ∷ rest)) command (codes "get") _ _ _ refl
+    (λ is. rw is (get_judged h who rest (only who (codes "get") rest))) (λ get.
     row (Judged h (who ∷ command ∷ rest)) command (codes "move") _ _ _ refl
     (λ is. rw is (host_judged h who (codes "move") Move rest (λ n page lt. lt) refl (only who (codes "move") rest))) (λ moves.
     row (Judged h (who ∷ command ∷ rest)) command (codes "evict") _ _ _ refl
@@ -104,23 +111,28 @@ by_command_judged h who command rest =
     (λ is. rw is (host_judged h who (codes "allow") Allow rest (λ n page lt. lt) refl (only who (codes "allow") rest))) (λ allow.
     none h (who ∷ command ∷ rest) (λ a form.
     let no : ⊥ = rw (
+      other_word command (codes "clear") clear,
       other_word command (codes "read") read,
       other_word command (codes "write") write,
       other_word command (codes "add") add,
       other_word command (codes "slot") slot,
       other_word command (codes "logon") logon,
       other_word command (codes "logoff") logoff,
+      other_word command (codes "get") get,
       other_word command (codes "move") moves,
       other_word command (codes "evict") evict,
       other_word command (codes "protect") protect,
       other_word command (codes "allow") allow,
-    ) at (only who command rest a form).1 in no)))))))))))
+    ) at (only who command rest a form).1 in no))))))))))))
 
 pub by_form_judged : (h : Header) (words : List (List ℕ)) → Judged h words (by_form h words)
 unfolding by_form
 by_form_judged h [] = none h [] (λ a form. let (command, rest, e, is) = has_row [] a form in cc)
 by_form_judged h (w ∷ []) = none h (w ∷ []) (λ a form. let (command, rest, e, is) = has_row (w ∷ []) a form in cc)
-by_form_judged h (who ∷ command ∷ rest) = by_command_judged h who command rest
+by_form_judged h (who ∷ command ∷ rest) =
+    row (Judged h (who ∷ command ∷ rest)) command (codes "clear") _ _ _ refl
+    (λ is. rw is (clear_judged h who rest (only who (codes "clear") rest)))
+    (λ other. by_command_judged h who command rest other)
 
 -- What the words of a form say is read.
 pub reads : (h : Header) (words : List (List ℕ)) (a : Actor) (c : Command) → IsHeader h → IsCommandOf h a c
@@ -129,17 +141,21 @@ reads h words (Vcpu i) (Access gfn word op) header range are = access_reads h wo
 reads h words Manager (SetSlot id s) header range are = slot_reads h words id s range are
 reads h words Manager (DeleteSlot id) header range are = delete_reads h words id are
 reads h words Manager (SetLog id on) header range are = log_reads h words id on are
+reads h words Manager (GetLog id) header range are = get_reads h words id are
+reads h words Manager (ClearLog id first count bits) header range are = clear_reads h words id first count bits range are
 reads h words (Host i) (ChangeHost page change) header range are = host_reads h words i page change header.hosts.count range are
 reads h words _ _ header range are = absurd are
 
 -- Words that say a command are of a form of its actor.
-pub command_form : (words : List (List ℕ)) (a : Actor) (c : Command) → AreCommandWords words a c → IsCommandForm words a
-command_form words (Vcpu i) (Access gfn word op) are = access_form words i gfn word op are
-command_form words Manager (SetSlot id s) are = inl (slot_line_form words id s are)
-command_form words Manager (DeleteSlot id) are = inl (delete_line_form words id are)
-command_form words Manager (SetLog id on) are = inr (log_line_form words id on are)
-command_form words (Host i) (ChangeHost page change) are = host_line_form words i page change are
-command_form words _ _ are = absurd are
+pub command_form : (h : Header) (words : List (List ℕ)) (a : Actor) (c : Command) → IsCommandOf h a c → AreCommandWords words a c → IsCommandForm words a
+command_form h words (Vcpu i) (Access gfn word op) range are = access_form words i gfn word op are
+command_form h words Manager (SetSlot id s) range are = inl (slot_line_form words id s are)
+command_form h words Manager (DeleteSlot id) range are = inl (delete_line_form words id are)
+command_form h words Manager (SetLog id on) range are = inr (inl (log_line_form words id on are))
+command_form h words Manager (GetLog id) range are = inr (inr (inl (get_line_form words id are)))
+command_form h words Manager (ClearLog id first count bits) range are = inr (inr (inr (clear_line_form h words id first count bits range are)))
+command_form h words (Host i) (ChangeHost page change) range are = host_line_form words i page change are
+command_form h words _ _ range are = absurd are
 
 -- They are words.
 pub command_words : (words : List (List ℕ)) (a : Actor) (c : Command) → IsActor a → AreCommandWords words a c → AreWords words
@@ -147,6 +163,8 @@ command_words words (Vcpu i) (Access gfn word op) le are = access_plain words i 
 command_words words Manager (SetSlot id s) le are = slot_plain words id s are
 command_words words Manager (DeleteSlot id) le are = delete_plain words id are
 command_words words Manager (SetLog id on) le are = log_plain words id on are
+command_words words Manager (GetLog id) le are = get_plain words id are
+command_words words Manager (ClearLog id first count bits) le are = clear_plain words id first count bits are
 command_words words (Host i) (ChangeHost page change) le are = host_plain words i page change le are
 command_words words _ _ le are = absurd are
 
@@ -156,6 +174,8 @@ commands h (Vcpu i) (Access gfn word op) range = range.0
 commands h Manager (SetSlot id s) range = tt
 commands h Manager (DeleteSlot id) range = tt
 commands h Manager (SetLog id on) range = tt
+commands h Manager (GetLog id) range = tt
+commands h Manager (ClearLog id first count bits) range = tt
 commands h (Host i) (ChangeHost page change) range = range
 commands h _ _ range = absurd range
 

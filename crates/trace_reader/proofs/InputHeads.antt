@@ -1,7 +1,6 @@
 -- What the first line of an input says is read as its header, and only that.
-use Rattle.std.proofs.Common.{◌≡◌, inl, inr, ℕ, List, [], ◌∷◌, Result, Ok, Err, refl, sym, arith}
+use Rattle.std.proofs.Common.{◌≡◌, inl, inr, ℕ, List, Result, Ok, Err, refl, sym, arith}
 use Rattle.std.specs.Prelude.{codes}
-use Rattle.std.specs.List.{AllZip}
 use Rattle.std.proofs.lemmas.List.Splits.{join_with_byte-slice_split}
 use Rattle.std.specs.declared.option.Option.{Option}
 use Rattle.std.specs.declared.option.Option.TheVariants.{Some, None}
@@ -12,20 +11,15 @@ use Rattle.trace_reader.specs.Forms.{words_of}
 use Rattle.trace_reader.specs.Headers.{header_of}
 use Rattle.trace_reader.specs.Lines.{Raw, fault_of, after_checks}
 use Rattle.trace_reader.specs.Reading.{head_of}
-use Rattle.trace_reader.specs.Grammar.{Spells, spaced, AreWords}
+use Rattle.trace_reader.specs.Grammar.{spaced, AreWords}
 use Rattle.trace_reader.specs.HeaderGrammar.{HeaderWords, labelled, SpellsHeader}
 use Rattle.trace_reader.specs.InputGrammar.{SaysHeader, PassesAll, HeaderFails}
-use Rattle.trace_reader.proofs.PlainWords.{words_spaced, text_word, spelled_word}
+use Rattle.trace_reader.proofs.PlainWords.{words_spaced, text_word, spelled_word, spelled_words}
 use Rattle.trace_reader.proofs.HeaderSaid.{header_reads, header_only}
 use Rattle.trace_reader.proofs.HeaderRefused.{header_refuses}
 use Rattle.trace_reader.proofs.Checks.{Judged, judged, faultless, faulty}
 
 -- The header's line.
-all_words : (ws : List (List ℕ)) (ns : List ℕ) → AllZip Spells ws ns → AreWords ws
-all_words [] ns all = tt
-all_words (w ∷ ws) [] all = absurd all
-all_words (w ∷ ws) (n ∷ ns) (s, all) = (spelled_word w n s, all_words ws ns all)
-
 header_words : (w : HeaderWords) (h : Header) → SpellsHeader w h → AreWords (labelled w)
 header_words w h s = (
   text_word (codes "tdp") (omega arith) refl,
@@ -63,7 +57,7 @@ header_words w h s = (
                                   text_word (codes "manual") (omega arith) refl,
                                   (
                                     spelled_word w.manual _ s.manual,
-                                    (text_word (codes "hosts") (omega arith) refl, all_words w.hosts h.hosts s.hosts),
+                                    (text_word (codes "hosts") (omega arith) refl, spelled_words w.hosts h.hosts s.hosts),
                                   ),
                                 ),
                               ),

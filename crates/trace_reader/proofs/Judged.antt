@@ -79,7 +79,7 @@ judged h words (Ok p) found why = found p refl
 judged h words (Err r) found why = why
 
 -- A row of a table: what stands there where the word is its word, and else the rows after it.
-pub row : (P : Said → Type 0) (word name : List ℕ) (b : Bool) (x y : Said) → bytes_eq word name ≡ b → (word ≡ name → P x) → ((word ≡ name → ⊥) → P y)
+pub row : {A : Type 0} (P : A → Type 0) (word name : List ℕ) (b : Bool) (x y : A) → bytes_eq word name ≡ b → (word ≡ name → P x) → ((word ≡ name → ⊥) → P y)
     → P (cond b x y)
 row P word name true x y e is other = is (word_is word name e)
 row P word name false x y e is other = other (differs word name e)

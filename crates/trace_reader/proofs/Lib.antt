@@ -10,6 +10,7 @@ pub mod Judged
 pub mod Accesses
 pub mod SlotLines
 pub mod LogLines
+pub mod ClearLines
 pub mod HostLines
 pub mod Commands
 pub mod Words

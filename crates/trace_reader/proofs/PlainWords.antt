@@ -1,7 +1,7 @@
 -- Words have bytes and no space, and a line of words is cut into them.
 use Rattle.std.proofs.Common.{◌≡◌, ◌≤◌, ◌<◌, ◌^◌, inl, inr, ℕ, List, [], ◌∷◌, true, false, All, length, refl, ap, ◌∙◌, arith, ◌==◌, not}
 use Rattle.std.specs.Prelude.{codes}
-use Rattle.std.specs.List.{list_all, list_any}
+use Rattle.std.specs.List.{AllZip, list_all, list_any}
 use Rattle.std.specs.Fmt.{decimal}
 use Rattle.std.proofs.lemmas.Bool.Decides.{nat_tests}
 use Rattle.std.proofs.lemmas.Fmt.{digits_decimal, decimal_nonempty}
@@ -61,6 +61,11 @@ hex_word ds all = record { filled = omega arith; plain = digits_plain ds all }
 pub spelled_word : (w : List ℕ) (n : ℕ) → Spells w n → IsWord w
 spelled_word w n (lt, inl e) = rw e (decimal_word n lt)
 spelled_word w n (lt, inr (ds, e, low, high, all, v)) = rw e (hex_word ds all)
+
+pub spelled_words : (ws : List (List ℕ)) (ns : List ℕ) → AllZip Spells ws ns → AreWords ws
+spelled_words [] ns all = tt
+spelled_words (w ∷ ws) [] all = absurd all
+spelled_words (w ∷ ws) (n ∷ ns) (s, all) = (spelled_word w n s, spelled_words ws ns all)
 
 letter_word : (letter i : ℕ) → not (letter == 32) ≡ true → i < 16 → IsWord (letter ∷ decimal i)
 letter_word letter i other lt =

@@ -142,7 +142,7 @@ IsKnown h go_seen bytes (Schedules item) = IsOfForm bytes item.actor × IsDeclar
 line_form : (h : Header) (go_seen : Bool) (bytes : List ℕ) (s : Saying) → IsHeader h → SaysLine h go_seen bytes s → IsKnown h go_seen bytes s
 line_form h go_seen bytes (Does a c) header (range, (words, e, are)) =
     let k = commanding h a c header range in
-    ((k.0, (words, e, say_words h go_seen words (Does a c) header range are, inl (command_form words a c are))), k.1)
+    ((k.0, (words, e, say_words h go_seen words (Does a c) header range are, inl (command_form h words a c range are))), k.1)
 line_form h go_seen bytes Go header (range, (words, e, (first, is))) = (first, rw (e, is) refl)
 line_form h go_seen bytes (Schedules item) header (range, (words, e, are)) =
     let k = has_declared h item.actor header range.actor in

@@ -67,7 +67,7 @@ command_read : (h : Header) (go_seen : Bool) (words : List (List ℕ)) (a : Acto
     → AreCommandWords words a c → by_first h go_seen words ≡ Ok (Does a c)
 unfolding command_said
 command_read h go_seen words a c header range are =
-    let (rest, e) = command_first words a (command_form words a c are) in
+    let (rest, e) = command_first words a (command_form h words a c range are) in
     let said : by_form h words ≡ Ok (a, c) = reads h words a c header range are in
     let first = by_the_command h go_seen (actor_name a) rest (not_go a) (not_mark a) in
     rw e (first ∙ rw (← e, said) refl)

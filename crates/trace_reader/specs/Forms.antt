@@ -6,7 +6,7 @@ use Rattle.core_views.specs.Traces.{IsCommandOf}
 use Rattle.core_views.specs.declared.actor.Actor.{Actor}
 use Rattle.core_views.specs.declared.actor.Actor.TheVariants.{Vcpu, Host, Manager}
 use Rattle.core_views.specs.declared.trace.Command.{Command}
-use Rattle.core_views.specs.declared.trace.Command.TheVariants.{Access, SetSlot, DeleteSlot, ChangeHost, SetLog}
+use Rattle.core_views.specs.declared.trace.Command.TheVariants.{Access, ChangeHost, ClearLog, DeleteSlot, GetLog, SetLog, SetSlot}
 use Rattle.core_views.specs.declared.trace.HostChange.{HostChange}
 use Rattle.core_views.specs.declared.trace.HostChange.TheVariants.{Allow, Evict, Move, Protect}
 use Rattle.core_views.specs.declared.trace.Op.TheVariants.{Read, Write, Add}
@@ -14,7 +14,8 @@ use Rattle.core_views.specs.declared.trace.Slot.{Slot}
 use Rattle.core_views.specs.declared.trace.Header.{Header}
 use Rattle.trace_reader.specs.declared.reason.Reason.{Reason}
 use Rattle.trace_reader.specs.declared.reason.Reason.TheVariants as reason
-use Rattle.trace_reader.specs.Operands.{◌>>=◌, address, host_thread, number, vcpu}
+use Rattle.trace_reader.specs.Numbers.{spelled_number}
+use Rattle.trace_reader.specs.Operands.{◌>>=◌, address, are_counted, host_thread, number, numbers, vcpu}
 
 -- an actor and its command, or why there is none
 abbrev pub Said : Type 0
@@ -65,10 +66,32 @@ setting_form _ = Err reason.Word
 unfoldable pub slot_form : List ℕ → List (List ℕ) → Said
 slot_form who rest = if bytes_eq who (codes "vm") then setting_form rest else Err reason.Word
 
+-- `ID`, after `vm` and a command's word
+unfoldable pub id_form : List ℕ → List (List ℕ) → Result ℕ Reason
+id_form who (x ∷ []) = if bytes_eq who (codes "vm") then number x else Err reason.Word
+id_form who _ = Err reason.Word
+
 -- `vm logon ID` and `vm logoff ID`, where the command's word tells which
 unfoldable pub log_form : Bool → List ℕ → List (List ℕ) → Said
-log_form on who (x ∷ []) = if bytes_eq who (codes "vm") then (number x >>= λ id. Ok (Manager, SetLog id on)) else Err reason.Word
-log_form on who _ = Err reason.Word
+log_form on who rest = id_form who rest >>= λ id. Ok (Manager, SetLog id on)
+
+-- `vm get ID`
+unfoldable pub get_form : List ℕ → List (List ℕ) → Said
+get_form who rest = id_form who rest >>= λ id. Ok (Manager, GetLog id)
+
+-- `ID FIRST COUNT`
+unfoldable pub pages_named : List ℕ → List ℕ → List ℕ → Result (ℕ × ℕ × ℕ) Reason
+pages_named id first count = number id >>= λ i. number first >>= λ f. number count >>= λ c. Ok (i, f, c)
+
+-- `ID FIRST COUNT W0 W1 ..`, after `vm clear`
+unfoldable pub clearing : List ℕ → List ℕ → List ℕ → List (List ℕ) → Said
+clearing id first count words = pages_named id first count >>= λ x. numbers words >>= λ bits. Ok (Manager, ClearLog x.0 x.1 x.2 bits)
+
+-- `vm clear ID FIRST COUNT W0 W1 ..`; where COUNT is a number, there is a word for each 64 pages
+unfoldable pub clear_form : List ℕ → List (List ℕ) → Said
+clear_form who (id ∷ first ∷ count ∷ words) =
+    if bytes_eq who (codes "vm") && are_counted (spelled_number count) words then clearing id first count words else Err reason.Word
+clear_form who _ = Err reason.Word
 
 -- Each host thread may make this change by a line, of any page.
 abbrev pub HostsMake : Header → HostChange → Type 0
@@ -79,7 +102,7 @@ unfoldable pub host_form : Header → HostChange → List ℕ → List (List ℕ
 host_form h change who (x ∷ []) = host_thread h who >>= λ n. number x >>= λ page. Ok (Host n, ChangeHost page change)
 host_form h change who _ = Err reason.Word
 
--- what the words after a command's word say: one row for each form
+-- what the words after a command's word say: one row for each form but that of a clear
 unfoldable pub by_command : Header → List ℕ → List ℕ → List (List ℕ) → Said
 by_command h who command rest =
     if bytes_eq command (codes "read") then read_form h who rest else
@@ -88,6 +111,7 @@ by_command h who command rest =
     if bytes_eq command (codes "slot") then slot_form who rest else
     if bytes_eq command (codes "logon") then log_form true who rest else
     if bytes_eq command (codes "logoff") then log_form false who rest else
+    if bytes_eq command (codes "get") then get_form who rest else
     if bytes_eq command (codes "move") then host_form h Move who rest else
     if bytes_eq command (codes "evict") then host_form h Evict who rest else
     if bytes_eq command (codes "protect") then host_form h Protect who rest else
@@ -96,7 +120,7 @@ by_command h who command rest =
 
 -- what the words of an actor's line say: its name, the command's word, and the words after it
 unfoldable pub by_form : Header → List (List ℕ) → Said
-by_form h (who ∷ command ∷ rest) = by_command h who command rest
+by_form h (who ∷ command ∷ rest) = if bytes_eq command (codes "clear") then clear_form who rest else by_command h who command rest
 by_form h _ = Err reason.Word
 
 -- It has no bytes.

@@ -1,12 +1,12 @@
 -- What the words of an actor's line say, in the words of its form.
-use Rattle.std.specs.Prelude.{◌≡◌, ◌≤◌, ◌<◌, ◌+◌, ◌*◌, ◌%◌, ◌^◌, ◌⊎◌, ◌++◌, ◌==◌, ℕ, List, [], ◌∷◌, codes, Bool, true, not, length, if◌then◌else◌}
-use Rattle.std.specs.List.{list_all, join_with_byte}
+use Rattle.std.specs.Prelude.{◌≡◌, ◌≤◌, ◌<◌, ◌+◌, ◌*◌, ◌/◌, ◌%◌, ◌^◌, ◌⊎◌, ◌++◌, ◌==◌, ℕ, List, [], ◌∷◌, codes, Bool, true, not, length, if◌then◌else◌}
+use Rattle.std.specs.List.{AllZip, list_all, join_with_byte}
 use Rattle.std.specs.Fmt.{decimal}
 use Rattle.core_views.specs.Text.{actor_name}
 use Rattle.core_views.specs.declared.actor.Actor.{Actor}
 use Rattle.core_views.specs.declared.actor.Actor.TheVariants.{Vcpu, Host, Manager, Worker}
 use Rattle.core_views.specs.declared.trace.Command.{Command}
-use Rattle.core_views.specs.declared.trace.Command.TheVariants.{Access, SetSlot, DeleteSlot, ChangeHost, SetLog}
+use Rattle.core_views.specs.declared.trace.Command.TheVariants.{Access, ChangeHost, ClearLog, DeleteSlot, GetLog, SetLog, SetSlot}
 use Rattle.core_views.specs.declared.trace.HostChange.{HostChange}
 use Rattle.core_views.specs.declared.trace.HostChange.TheVariants.{Allow, Evict, Move, Protect}
 use Rattle.core_views.specs.declared.trace.Op.TheVariants.{Read, Write, Add}
@@ -49,6 +49,14 @@ slot_words i b p k read_only = actor_name Manager ∷ codes "slot" ∷ i ∷ b �
 abbrev pub log_words : Bool → List ℕ → List (List ℕ)
 log_words on i = actor_name Manager ∷ (if on then codes "logon" else codes "logoff") ∷ i ∷ []
 
+-- the words of `vm get ID`
+abbrev pub get_words : List ℕ → List (List ℕ)
+get_words i = actor_name Manager ∷ codes "get" ∷ i ∷ []
+
+-- the words of `vm clear ID FIRST COUNT W0 W1 ..`
+abbrev pub clear_words : List ℕ → List ℕ → List ℕ → List (List ℕ) → List (List ℕ)
+clear_words i f c ws = actor_name Manager ∷ codes "clear" ∷ i ∷ f ∷ c ∷ ws
+
 -- The word is that of a host thread's line that makes this change.
 abbrev pub TellsChange : List ℕ → HostChange → Type 0
 TellsChange w Move = w ≡ codes "move"
@@ -76,6 +84,9 @@ AreCommandWords words Manager (DeleteSlot id) =
     (i b p k : List ℕ) × (base host : ℕ) × (read_only : Bool) × (words ≡ slot_words i b p k read_only) × Spells i id × Spells b base × Spells p 0
     × Spells k host × AreSlotPlaces base host
 AreCommandWords words Manager (SetLog id on) = (i : List ℕ) × (words ≡ log_words on i) × Spells i id
+AreCommandWords words Manager (GetLog id) = (i : List ℕ) × (words ≡ get_words i) × Spells i id
+AreCommandWords words Manager (ClearLog id first count bits) =
+    (i f c : List ℕ) × (ws : List (List ℕ)) × (words ≡ clear_words i f c ws) × Spells i id × Spells f first × Spells c count × AllZip Spells ws bits
 AreCommandWords words (Host i) (ChangeHost page change) =
     (command p : List ℕ) × TellsChange command change × (words ≡ host_words i command p) × Spells p page
 AreCommandWords words _ _ = ⊥
@@ -102,6 +113,16 @@ IsSlotForm words = (i b p k : List ℕ) × (read_only : Bool) × (words ≡ slot
 abbrev pub IsLogForm : List (List ℕ) → Type 0
 IsLogForm words = (i : List ℕ) × (on : Bool) × (words ≡ log_words on i)
 
+-- The words are those of a line that gets a dirty log, whatever stands in the number's place.
+abbrev pub IsGetForm : List (List ℕ) → Type 0
+IsGetForm words = (i : List ℕ) × (words ≡ get_words i)
+
+-- The words are those of a line that clears a dirty log, whatever stands in the numbers' places; but where COUNT is a number, there is a word for each
+-- 64 pages.
+abbrev pub IsClearForm : List (List ℕ) → Type 0
+IsClearForm words =
+    (i f c : List ℕ) × (ws : List (List ℕ)) × (words ≡ clear_words i f c ws) × ((count : ℕ) → Spells c count → length ws ≡ (count + 63) / 64)
+
 -- The words are those of a line of this host thread, whatever stands in the number's place.
 abbrev pub IsHostForm : ℕ → List (List ℕ) → Type 0
 IsHostForm i words = (command p : List ℕ) × (change : HostChange) × TellsChange command change × (words ≡ host_words i command p)
@@ -109,7 +130,7 @@ IsHostForm i words = (command p : List ℕ) × (change : HostChange) × TellsCha
 -- The words are of a form that the actor's own lines have.
 abbrev pub IsCommandForm : List (List ℕ) → Actor → Type 0
 IsCommandForm words (Vcpu i) = IsAccessForm i words
-IsCommandForm words Manager = IsSlotForm words ⊎ IsLogForm words
+IsCommandForm words Manager = IsSlotForm words ⊎ IsLogForm words ⊎ IsGetForm words ⊎ IsClearForm words
 IsCommandForm words (Host i) = IsHostForm i words
 IsCommandForm words _ = ⊥
 

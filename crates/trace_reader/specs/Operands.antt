@@ -1,5 +1,5 @@
 -- What one word of an actor's line spells: a number, an address, the index in the actor's name.
-use Rattle.std.specs.Prelude.{◌*◌, ◌/◌, ◌%◌, ◌^◌, ℕ, List, [], ◌∷◌, Bool, ◌&&◌, nat_lt, nat_le, ◌==◌, if◌then◌else◌, length, Result, Ok, Err}
+use Rattle.std.specs.Prelude.{◌+◌, ◌*◌, ◌/◌, ◌%◌, ◌^◌, ℕ, List, [], ◌∷◌, Bool, true, ◌&&◌, nat_lt, nat_le, ◌==◌, if◌then◌else◌, length, Result, Ok, Err}
 use Rattle.std.specs.declared.option.Option.{Option}
 use Rattle.std.specs.declared.option.Option.TheVariants.{Some, None}
 use Rattle.core_views.specs.declared.trace.Header.{Header}
@@ -21,6 +21,16 @@ or_number (Some x) = Ok x
 -- the number that the word spells
 unfoldable pub number : List ℕ → Result ℕ Reason
 number w = or_number (spelled_number w)
+
+-- the numbers that the words spell
+unfoldable pub numbers : List (List ℕ) → Result (List ℕ) Reason
+numbers [] = Ok []
+numbers (w ∷ ws) = number w >>= λ n. numbers ws >>= λ ns. Ok (n ∷ ns)
+
+-- There is a word for each 64 of so many pages; where their count is no number, there may be any words.
+abbrev pub are_counted : Option ℕ → List (List ℕ) → Bool
+are_counted None ws = true
+are_counted (Some count) ws = length ws == (count + 63) / 64
 
 -- the address of a content word, where each page has this many
 abbrev pub is_address : ℕ → ℕ → Bool

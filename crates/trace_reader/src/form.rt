@@ -4,12 +4,16 @@ ghost use Rattle.core_views.specs.Traces.{IsCommandOf};
 ghost use Rattle.core_views.specs.declared.actor.Actor.TheVariants.{Manager};
 ghost use Rattle.trace_reader.specs.Operands.{indexed, vcpu, host_thread, address, number as number_word};
 ghost use Rattle.trace_reader.specs.Forms.{slot, slot_command, setting, read_form, write_form, add_form, slot_form, HostsMake, host_form, by_command};
-ghost use Rattle.trace_reader.specs.Forms.{log_form, by_form};
+ghost use Rattle.trace_reader.specs.Forms.{by_form};
 ghost use Rattle.trace_reader.specs.Grammar.{AreSlotPlaces};
+ghost use Rattle.trace_reader.specs.Steps.{ReadsTo};
 
 use crate::Reason;
+use crate::log_form::{clear_said, get_said, log_said};
 use crate::number::{decimal, number};
+use crate::refusal::ReadError;
 use core_views::{Actor, Command, Header, HostChange, Op, Slot};
+use std::alloc::Global;
 
 /// Whether the word is this name.
 pub fn is(word: &[u8], name: &str) -> bool
@@ -18,8 +22,9 @@ pub fn is(word: &[u8], name: &str) -> bool
     word == name.as_bytes()
 }
 
+/// The number that the word spells.
 #[tactic(auto, unfolding(crate::specs::Operands::number))]
-fn number_of(word: &[u8]) -> Result<u64, Reason>
+pub fn number_of(word: &[u8]) -> Result<u64, Reason>
     ensures { result ≡ number_word word.now }
 {
     number(word).ok_or(Reason::Number)
@@ -198,22 +203,6 @@ fn slot_said(header: &Header, who: &[u8], rest: &[&[u8]]) -> Result<(Actor, Comm
     }
 }
 
-// A line that turns a dirty log on or off: the command's word tells which.
-#[tactic(auto, unfolding(crate::specs::Forms::log_form))]
-fn log_said(on: bool, who: &[u8], rest: &[&[u8]]) -> Result<(Actor, Command), Reason>
-    ensures value { result ≡ log_form on who.now (map (λ w. w.now) rest.now) }
-    ensures allowed { (h : Header) → IfOk result (λ x. IsCommandOf h x.0 x.1) }
-{
-    let [id] = rest else {
-        return Err(Reason::Word);
-    };
-    if !is(who, "vm") {
-        return Err(Reason::Word);
-    }
-    let id = number_of(id)?;
-    Ok((Actor::Manager, Command::SetLog { id, on }))
-}
-
 // A line that makes this change: the command's word tells which.
 #[tactic(auto, unfolding(crate::specs::Forms::host_form))]
 fn host_said(
@@ -234,7 +223,7 @@ fn host_said(
     Ok((Actor::Host(index), Command::ChangeHost { page, change }))
 }
 
-/// What the words after a command's word say: one row for each form.
+// What the words after a command's word say: one row for each form but that of a clear.
 #[tactic(auto, unfolding(crate::specs::Forms::by_command))]
 fn command_said(
     header: &Header,
@@ -258,6 +247,8 @@ fn command_said(
         log_said(true, who, rest)
     } else if is(command, "logoff") {
         log_said(false, who, rest)
+    } else if is(command, "get") {
+        get_said(who, rest)
     } else if is(command, "move") {
         host_said(header, HostChange::Move, who, rest)
     } else if is(command, "evict") {
@@ -271,15 +262,29 @@ fn command_said(
     }
 }
 
-/// What the words of an actor's line say: the actor and its command.
+/// What the words of line `line`, which is an actor's, say: the actor and its command.
 #[tactic(auto, unfolding(crate::specs::Forms::by_form))]
-pub fn form_said(header: &Header, words: &[&[u8]]) -> Result<(Actor, Command), Reason>
+pub fn form_said(
+    alloc: Global,
+    header: &Header,
+    line: u32,
+    words: &[&[u8]],
+) -> Result<(Actor, Command), ReadError>
     requires { header.now.words ≤ 8 }
-    ensures value { result ≡ by_form header.now (map (λ w. w.now) words.now) }
+    ensures read { ReadsTo line (λ x. x) result (by_form header.now (map (λ w. w.now) words.now)) }
     ensures allowed { IfOk result (λ x. IsCommandOf header.now x.0 x.1) }
 {
-    match words {
-        [who, command, rest @ ..] => command_said(header, who, command, rest),
-        _ => Err(Reason::Word),
+    let [who, command, rest @ ..] = words else {
+        return Err(ReadError::Refused {
+            line,
+            reason: Reason::Word,
+        });
+    };
+    if is(command, "clear") {
+        return clear_said(alloc, line, who, rest);
+    }
+    match command_said(header, who, command, rest) {
+        Ok(found) => Ok(found),
+        Err(reason) => Err(ReadError::Refused { line, reason }),
     }
 }

@@ -9,6 +9,7 @@ mod header;
 mod item;
 mod line;
 mod lines;
+mod log_form;
 mod number;
 mod outcome;
 mod pool;

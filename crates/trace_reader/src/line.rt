@@ -82,13 +82,7 @@ fn said(
     ensures allowed { IfOk result (λ s. IsSayingOf header.now s) }
 {
     let words = words(alloc, bytes)?;
-    match words_said(header, go_seen, &words) {
-        Ok(says) => Ok(says),
-        Err(reason) => Err(ReadError::Refused {
-            line: number,
-            reason,
-        }),
-    }
+    words_said(alloc, header, go_seen, number, &words)
 }
 
 #[tactic(auto, unfolding(crate::specs::Lines::content))]

@@ -2,11 +2,14 @@ ghost use Rattle.std.specs.Prelude.{◌≡◌, ◌≤◌, map, IfOk};
 ghost use Rattle.std.specs.List.{list_any};
 ghost use Rattle.trace_reader.specs.Forms.{is_empty};
 ghost use Rattle.trace_reader.specs.Sayings.{IsSayingOf, by_first, by_words, command_said, go_said, schedule_said};
+ghost use Rattle.trace_reader.specs.Steps.{ReadsTo};
 
 use crate::Reason;
 use crate::form::{form_said, is};
 use crate::item::item_of;
+use crate::refusal::ReadError;
 use core_views::{Actor, Command, Header, Item};
+use std::alloc::Global;
 
 /// What a line after the header says.
 #[derive(Clone, Drop)]
@@ -44,31 +47,51 @@ fn schedule_of(header: &Header, rest: &[&[u8]]) -> Result<Saying, Reason>
 }
 
 #[tactic(auto, unfolding(crate::specs::Sayings::command_said))]
-fn command_of(header: &Header, words: &[&[u8]]) -> Result<Saying, Reason>
+fn command_of(
+    alloc: Global,
+    header: &Header,
+    line: u32,
+    words: &[&[u8]],
+) -> Result<Saying, ReadError>
     requires { header.now.words ≤ 8 }
-    ensures value { result ≡ command_said header.now (map (λ w. w.now) words.now) }
+    ensures read { ReadsTo line (λ s. s) result (command_said header.now (map (λ w. w.now) words.now)) }
     ensures allowed { IfOk result (λ s. IsSayingOf header.now s) }
 {
-    let (actor, command) = form_said(header, words)?;
-    Ok(Saying::Does { actor, command })
+    match form_said(alloc, header, line, words) {
+        Ok((actor, command)) => Ok(Saying::Does { actor, command }),
+        Err(error) => Err(error),
+    }
 }
 
 #[tactic(auto, unfolding(crate::specs::Sayings::by_first))]
-fn first_said(header: &Header, go_seen: bool, words: &[&[u8]]) -> Result<Saying, Reason>
+fn first_said(
+    alloc: Global,
+    header: &Header,
+    go_seen: bool,
+    line: u32,
+    words: &[&[u8]],
+) -> Result<Saying, ReadError>
     requires { header.now.words ≤ 8 }
-    ensures value { result ≡ by_first header.now go_seen (map (λ w. w.now) words.now) }
+    ensures read { ReadsTo line (λ s. s) result (by_first header.now go_seen (map (λ w. w.now) words.now)) }
     ensures allowed { IfOk result (λ s. IsSayingOf header.now s) }
 {
     let [first, rest @ ..] = words else {
-        return Err(Reason::Word);
+        return Err(ReadError::Refused {
+            line,
+            reason: Reason::Word,
+        });
     };
-    if is(first, "go") {
-        return go_of(go_seen, rest);
+    let found = if is(first, "go") {
+        go_of(go_seen, rest)
+    } else if is(first, ">") {
+        schedule_of(header, rest)
+    } else {
+        return command_of(alloc, header, line, words);
+    };
+    match found {
+        Ok(says) => Ok(says),
+        Err(reason) => Err(ReadError::Refused { line, reason }),
     }
-    if is(first, ">") {
-        return schedule_of(header, rest);
-    }
-    command_of(header, words)
 }
 
 fn has_empty(words: &[&[u8]]) -> bool
@@ -84,16 +107,25 @@ fn has_empty(words: &[&[u8]]) -> bool
     false
 }
 
-/// What a line says, by its words.
+/// What line `line` says, by its words.
 #[tactic(auto, unfolding(crate::specs::Sayings::by_words))]
-pub fn words_said(header: &Header, go_seen: bool, words: &[&[u8]]) -> Result<Saying, Reason>
+pub fn words_said(
+    alloc: Global,
+    header: &Header,
+    go_seen: bool,
+    line: u32,
+    words: &[&[u8]],
+) -> Result<Saying, ReadError>
     requires { header.now.words ≤ 8 }
-    ensures value { result ≡ by_words header.now go_seen (map (λ w. w.now) words.now) }
+    ensures read { ReadsTo line (λ s. s) result (by_words header.now go_seen (map (λ w. w.now) words.now)) }
     ensures allowed { IfOk result (λ s. IsSayingOf header.now s) }
 {
     if has_empty(words) {
-        Err(Reason::Word)
+        Err(ReadError::Refused {
+            line,
+            reason: Reason::Word,
+        })
     } else {
-        first_said(header, go_seen, words)
+        first_said(alloc, header, go_seen, line, words)
     }
 }
