@@ -1,7 +1,8 @@
+pub mod AddedSteps
 pub mod Stopping
 pub mod Marks
 pub mod Fed
-pub mod NoneReads
+pub mod ReadsAlone
 pub mod PartRuns
 pub mod PartEnds
 pub mod FileOrder

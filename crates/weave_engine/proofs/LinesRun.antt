@@ -43,6 +43,7 @@ use Rattle.weave_engine.specs.Replays.{EachRunsAlone, RanOn, RunsAlone, RunsLine
 use Rattle.weave_engine.specs.Turning.{EndsWithAnswer}
 use Rattle.weave_engine.specs.Turns.{RanAlone}
 use Rattle.weave_engine.proofs.Stopping.{answer_behind}
+use Rattle.weave_engine.proofs.ReadsAlone.{other_hands}
 use Rattle.weave_engine.proofs.FileOrder.{maker_is, maker_there, one_more_line, other_line, other_place, own_line}
 
 -- No line of this hand is under way, and it has answered its actor's lines among the first of all.
@@ -117,17 +118,6 @@ runs_none z start = record { steps = []; legal = tt; ends = refl; each = refl; a
 pub behind_none : (z : Sizes) (lines : List Line) (w : World Held) → IsStart z lines w → AreBehind z lines 0 w
 behind_none z lines w start =
     λ i lt. subst (IsBehind z lines 0 i) (sym (hand_is z lines w i start lt)) (record { between = refl; whose = refl; lines_are = refl; answered = refl })
-
--- Steps of one actor leave the hands of the others.
-other_hand : (w : World Held) (s : Step Kind) (b : ℕ) → b ≢ s.actor → hand_in mmu (effect mmu w s) b ≡ hand_in mmu w b
-unfolding effect
-other_hand w s b apart = get_or-set_other w.hands s.actor b _ nobody apart
-
-other_hands : (w : World Held) (ss : List (Step Kind)) (a b : ℕ) → b ≢ a → All (λ s. s.actor ≡ a) ss → hand_in mmu (run mmu w ss) b ≡ hand_in mmu w b
-other_hands w [] a b ne all = refl
-other_hands w (s ∷ ss) a b ne all =
-    let here : s.actor ≡ a = all 0 s (omega arith) in
-    other_hands (effect mmu w s) ss a b ne (λ k d lt. all (suc k) d (omega arith)) ∙ other_hand w s b (λ e. ne (e ∙ here))
 
 pub hands_more : (z : Sizes) (lines : List Line) (i : ℕ) (w t : World Held) (answer : Answer) → i < length lines
     → IsCommandFor z (get_or lines i no_line).actor (get_or lines i no_line).command

@@ -14,7 +14,6 @@ use Rattle.core_views.specs.declared.trace.Trace.{Trace}
 use Rattle.core_views.specs.Alone.{NoneStarved, TakeLowest}
 use Rattle.flat_laws.proofs.FallsAsFlat.{all_fall}
 use Rattle.core_views.specs.Traces.{IsCommandFor}
-use Rattle.weave_engine.proofs.NoneReads.{lines_read_none}
 use Rattle.std.proofs.lemmas.List.{append-nil}
 use Rattle.core_views.specs.Flat.{first_flat}
 use Rattle.core_views.specs.Held.{Held}
@@ -53,6 +52,7 @@ use Rattle.weave_engine.specs.declared.ran.How.TheVariants.{Done, WriteFault}
 use Rattle.weave_engine.proofs.Fed.{fed_append}
 use Rattle.weave_engine.proofs.Coming.{Printing}
 use Rattle.weave_engine.proofs.LinesRun.{between_at_start, none_ran}
+use Rattle.weave_engine.proofs.ReadsAlone.{lines_read_exactly}
 
 -- Lines that run alone, after steps from a trace's start, aren't starved where the pool has as many pages as the trace needs.
 module _ (trace : Trace) (start : World Held) (is_start : IsStart (sizes_of trace.header) trace.lines start)
@@ -99,16 +99,10 @@ each_lowest z all start is_start done (line ∷ lines) ss legal takes (own, rest
     (each_lowest z all start is_start (done ++ own) lines rest (legal-append mmu start done own legal ran.runs.legal)
     (ran.lowest all start done is_start legal refl takes) (subst (λ (x : World Held). EachRunsAlone z x lines rest) (sym both) each))
 
-allowed_lines : (trace : Trace) (start : World Held) → IsStart (sizes_of trace.header) trace.lines start → (count : ℕ)
-    → All (λ line. IsCommandFor (sizes_of trace.header) line.actor line.command) (take count trace.lines)
-allowed_lines trace start is_start count =
-    All-take (λ (line : Line). IsCommandFor (sizes_of trace.header) line.actor line.command) count trace.lines is_start.allowed
-
 -- Lines that ran alone from a trace's start are a replay of them.
 pub replays : (trace : Trace) (lines : List Line) (start end_ : World Held) (printed : List ℕ) → IsStart (sizes_of trace.header) trace.lines start
-    → All (λ line. IsCommandFor (sizes_of trace.header) line.actor line.command) lines
     → (r : RunsLines (sizes_of trace.header) start lines end_) → printed ≡ text (history start r.steps) → Replays trace lines printed end_
-replays trace lines start end_ printed is_start allowed r prints =
+replays trace lines start end_ printed is_start r prints =
     let z : Sizes = sizes_of trace.header in
     let lawful = every_history z trace.lines start r.steps is_start r.legal in
     record {
@@ -127,7 +121,7 @@ replays trace lines start end_ printed is_start allowed r prints =
         let G = goes_as_flat (sizes_of trace.header) lines (history start r.steps) first_flat (λ i. refl) lawful r.alone
         (all_fall (sizes_of trace.header) first_flat (history start r.steps) fed
         (each_lowest (sizes_of trace.header) trace.lines start is_start [] lines r.steps tt tt r.each)
-        (lines_read_none (sizes_of trace.header) lines (history start r.steps) first_flat lawful r.alone allowed (λ i. refl))) in
+        (lines_read_exactly (sizes_of trace.header) trace.lines start is_start lines r.steps r.each).reads) in
         record { none_starved = fed; same = G.shown; prints = prints ∙ G.prints }
 
 module _ {V : Type 0} (prints : V → List Mark → V → Type 0) (stops : V → List Mark → Stop → V → Type 0) (L : Printing prints stops) (trace : Trace) where
@@ -140,7 +134,7 @@ module _ {V : Type 0} (prints : V → List Mark → V → Type 0) (stops : V →
       let made = a_start z trace.lines (header_sizes trace.header good.header) good.lines good.few in
       let B = between_at_start z trace.lines made.0 made.1 in
       let stopped = subst (λ (ss : List (Step Kind)). stops p (turns_from made.0 ss) NoMemory q) (sym (none_ran z trace.lines made.0 made.1)) none in
-      (made.0, inl (0, [], replays trace (take 0 trace.lines) made.0 made.0 [] made.1 (allowed_lines trace made.0 made.1 0) B.ran B.prints, stopped))
+      (made.0, inl (0, [], replays trace (take 0 trace.lines) made.0 made.0 [] made.1 B.ran B.prints, stopped))
 
   module _ (z : Sizes) (lines : List Line) (start end_ : World Held) (p q : V) (sizes : z ≡ sizes_of trace.header) (are : lines ≡ trace.lines)
       (is_start : IsStart (sizes_of trace.header) trace.lines start) where
@@ -162,7 +156,7 @@ module _ {V : Type 0} (prints : V → List Mark → V → Type 0) (stops : V →
             inl (
               ran,
               text (history start r.steps),
-              replays trace (take ran trace.lines) start end_ (text (history start r.steps)) is_start (allowed_lines trace start is_start ran) r refl,
+              replays trace (take ran trace.lines) start end_ (text (history start r.steps)) is_start r refl,
               most,
             )
 
@@ -180,7 +174,7 @@ module _ {V : Type 0} (prints : V → List Mark → V → Type 0) (stops : V →
     replay_over count v whole puts put =
         let A = all_lines count whole puts in (
           text (history start A.0.steps),
-          replays trace trace.lines start end_ (text (history start A.0.steps)) is_start is_start.allowed A.0 refl,
+          replays trace trace.lines start end_ (text (history start A.0.steps)) is_start A.0 refl,
           L.both p q v (turns_from start A.0.steps) (Over None ∷ []) A.1 put,
         )
 
@@ -190,7 +184,7 @@ module _ {V : Type 0} (prints : V → List Mark → V → Type 0) (stops : V →
     replay_stopped_over count v stop whole puts most =
         let A = all_lines count whole puts in inr (
           text (history start A.0.steps),
-          replays trace trace.lines start end_ (text (history start A.0.steps)) is_start is_start.allowed A.0 refl,
+          replays trace trace.lines start end_ (text (history start A.0.steps)) is_start A.0 refl,
           L.stopped p q v (turns_from start A.0.steps) (Over None ∷ []) stop A.1 most,
         )
 

@@ -24,7 +24,8 @@ use Rattle.weave_engine.specs.Replays.{RunsAlone}
 use Rattle.weave_engine.specs.Turns.{RanAlone}
 use Rattle.step_seats.specs.LineTurns.{TurnsLine, answer_given, no_answer, turn_told}
 use Rattle.step_seats.proofs.LineTurns.{done_ends, more_goes, retry_goes, retry_has_more}
-use Rattle.weave_engine.proofs.PartRuns.{PartRun, adds_on, comes, ends_by, ends_on, goes_by, goes_through}
+use Rattle.weave_engine.proofs.AddedSteps.{adds_on}
+use Rattle.weave_engine.proofs.PartRuns.{PartRun, comes, ends_by, ends_on, goes_by, goes_through}
 
 ran_by : (start : Seat) (line : Line) (answer : Answer) (to : Seat) (steps : List (Step Kind)) (before : World Held) → start.tells.world ≡ Some before
     → RunsAlone start.hand.state.sizes start.actor line answer steps before → to.tells.world ≡ Some (run mmu before steps)

@@ -35,6 +35,7 @@ use Rattle.mmu_core.proofs.invariant.HandLeft.{hand_few, hand_some}
 use Rattle.mmu_core.proofs.machine.Extend.{legal-append, run-append}
 use Rattle.mmu_laws.proofs.alone.AloneRuns.{ToldAlone, steps_alone, told_alone}
 use Rattle.mmu_laws.proofs.alone.LowestFrames.{moves_take_lowest}
+use Rattle.mmu_laws.specs.alone.ReadingsAlone.{ReadsExactly}
 use Rattle.mmu_laws.proofs.flat.LineEvents as events
 use Rattle.mmu_laws.proofs.flat.LineEvents.{IsClosed, IsOpen, SoFar, step_tells}
 use Rattle.mmu_core.proofs.machine.LineRuns.{history_one_more, legal_one_more, own_hand, run_one_more}
@@ -43,11 +44,13 @@ use Rattle.mmu_core.proofs.machine.Which.{has_line_is}
 use Rattle.step_seats.specs.Seats.{Seat, Told}
 use Rattle.step_seats.specs.Moves.{Adds, ToldBy, step_by}
 use Rattle.step_seats.specs.declared.turn.Turn.{Turn}
-use Rattle.weave_engine.specs.Replays.{EachStepsAlone, RunsAlone, TakeLowestFrom}
+use Rattle.weave_engine.specs.Replays.{EachStepsAlone, ReadExactlyFrom, RunsAlone, TakeLowestFrom}
 use Rattle.weave_engine.specs.Turning.{is_ended}
 use Rattle.weave_engine.specs.Turns.{LineIsAlone}
 use Rattle.step_seats.specs.LineTurns.{MakesLine, TurnsLine}
+use Rattle.weave_engine.proofs.AddedSteps.{adds_none, adds_on}
 use Rattle.weave_engine.proofs.Fed.{fed_append, step_fed}
+use Rattle.weave_engine.proofs.ReadsAlone.{answered_idle, exact_more}
 use Rattle.weave_engine.proofs.Stopping.{answers_last}
 
 -- From its start on, the line has come to this hand, by steps of this actor alone, and all other actors rest. The steps lead to the world
@@ -68,6 +71,7 @@ pub record PartRun (line : Line) (actor : ℕ) (start here : Seat) : Type 0 wher
   pub so_far : SoFar here.hand.state.place line (history before steps)
   pub fed : NoneStarved (history before steps)
   pub lowest : TakeLowestFrom start.hand.state.sizes before steps
+  pub exact : ReadExactlyFrom start.hand.state.sizes actor before steps
   pub nearer : EachStepsAlone start.hand.state.sizes before steps
   pub alone : LineAlone start.hand.state.sizes (run mmu before steps) actor
   pub few : length steps + hand_left here.hand ≤ most_steps start.hand.state.sizes line.command
@@ -89,10 +93,6 @@ all_left line seat is L =
     (hand_few z (view z L.world) seat.actor A.sound.holds A.sound.topics A.there A.left) in
     let of_line : hand_left seat.hand ≤ most_steps z line.command = subst (λ (l : Line). hand_left seat.hand ≤ most_steps z l.command) is few in
     omega (arith, of_line)
-
-adds_none : (told : Option (List (Step Kind))) → IfSome told (λ ss. told ≡ Some (ss ++ []))
-adds_none None = tt
-adds_none (Some ss) = ap (λ (xs : List (Step Kind)). Some xs) (sym (append-nil ss))
 
 -- The seat may have taken room meanwhile.
 pub part_starts : (line : Line) (start here : Seat) → here.hand ≡ start.hand → here.tells ≡ start.tells → start.hand.state.place ≡ place.Between
@@ -116,6 +116,7 @@ part_starts line start here hand tells idle first L = (
     fed = tt;
     lowest = λ lines w ss is legal ends takes. subst (λ (l : List (Step Kind)). TakeLowest start.hand.state.sizes first_flat (history w l))
         (sym (append-nil ss)) takes;
+    exact = λ lines w ss is legal ends idle reads. subst (ReadsExactly start.hand.state.sizes w) (sym (append-nil ss)) reads;
     nearer = tt;
     alone = L.alone;
     few = rw hand (all_left line start (next_is start.hand.state.place start.hand line idle first) L);
@@ -125,14 +126,6 @@ part_starts line start here hand tells idle first L = (
 )
 
 -- One step more.
-
-pub adds_on : (told mid tells : Option (List (Step Kind))) (actor : ℕ) (steps : List (Step Kind)) (k : Kind)
-    → IfSome told (λ ss. mid ≡ Some (ss ++ steps)) → Adds mid actor k tells
-    → IfSome told (λ ss. tells ≡ Some (ss ++ (steps ++ step_by actor k ∷ [])))
-adds_on None mid tells actor steps k part adds = tt
-adds_on (Some ss) mid tells actor steps k part adds =
-    subst (λ (m : Option (List (Step Kind))). Adds m actor k tells) part adds
-    ∙ ap (λ (xs : List (Step Kind)). Some xs) (append_assoc ss steps (step_by actor k ∷ []))
 
 -- the line under way
 under_line : (p : Place) (h : Held) → IsUnderWay p → line_at p h ≡ h.state.line
@@ -226,6 +219,10 @@ module _ (turn : Turn Answer) (line : Line) (start from to : Seat) (left : lengt
       (subst (λ (x : World Held). LineAlone z x actor) (sym same) part.alone) (subst (λ (x : World Held). May mmu x step) (sym same) moved.0)
       (part.lowest lines w ss is legal ends takes))
 
+  -- And it reads just what is dirty.
+  exact_on : ReadExactlyFrom z actor part.before steps
+  exact_on = exact_more z part.before part.steps step part.sound part.own part.legal part.alone moved.0 part.exact
+
   nearer_on : EachStepsAlone z part.before steps
   nearer_on = one_nearer z part.before part.steps step part.nearer (steps_alone z here step part.alone moved.0)
 
@@ -260,6 +257,7 @@ module _ (turn : Turn Answer) (line : Line) (start from to : Seat) (left : lengt
           so_far = under_told b.state.place line (history part.before steps) says.under_way opened;
           fed = fed_on (λ e. absurd (cc (is, e)));
           lowest = lowest_on;
+          exact = exact_on;
           nearer = nearer_on;
           alone = subst (λ (w : World Held). LineAlone z w actor) (sym further) near.0;
           few = let n = length-append part.steps (step ∷ []) in let less = near.1 in let few = part.few in omega (arith, n, less, few);
@@ -288,6 +286,10 @@ module _ (turn : Turn Answer) (line : Line) (start from to : Seat) (left : lengt
         none_starved = λ other. fed_on (λ e. other (cc (is, e)));
         saw_each_word = λ map without. scans map (is ∙ ap (λ (x : Answer). Ends x) without);
         lowest = lowest_on;
+        exact = exact_on;
+        idle = ap (λ (w : World Held). (hand_in mmu w actor).state.place) further
+            ∙ answered_idle here step answer moved.0.there part.alone.left
+            (ap (λ (n : ℕ). outcome_of (hand_in mmu here actor) n) moved.1 ∙ ap (λ (h : Held). outcome_of h S.found) part.has ∙ is);
       }
 
   -- It never waits, and never begins anew.

@@ -5,6 +5,7 @@ use Rattle.core_views.specs.declared.answer.Answer.{Answer}
 use Rattle.core_views.specs.declared.answer.Answer.TheVariants.{Starved}
 use Rattle.core_views.specs.declared.event.Event.{Event}
 use Rattle.core_views.specs.declared.kind.Kind.{Kind}
+use Rattle.core_views.specs.declared.place.Place.TheVariants.{Between}
 use Rattle.core_views.specs.declared.sizes.Sizes.{Sizes}
 use Rattle.core_views.specs.declared.trace.Line.{Line}
 use Rattle.core_views.specs.declared.trace.Trace.{Trace}
@@ -24,6 +25,7 @@ use Rattle.mmu_core.specs.lines.Bounds.{most_steps}
 use Rattle.mmu_core.specs.machine.Enabled.{mmu}
 use Rattle.mmu_core.specs.alone.LineAlone.{AllRest, StarvedOnlyWithout, StepsAlone}
 use Rattle.mmu_laws.specs.alone.LineRuns.{RunsLine}
+use Rattle.mmu_laws.specs.alone.ReadingsAlone.{OthersIdle, ReadsExactly}
 use Rattle.mmu_core.specs.machine.Machine.{Legal, Step, World, effect, hand_in, run}
 use Rattle.mmu_core.specs.invariant.Scans.{EndsWithScan}
 use Rattle.mmu_core.specs.machine.Turns.{IsAnswered, IsSameHand}
@@ -43,10 +45,18 @@ TakeLowestFrom z before steps =
     (lines : List Line) (start : World Held) (ss : List (Step Kind)) → IsStart z lines start → Legal mmu start ss → run mmu start ss ≡ before
     → TakeLowest z first_flat (history start ss) → TakeLowest z first_flat (history start (ss ++ steps))
 
+-- What these steps read of dirty logs is just what is dirty, wherever it was so of the steps before them, back to a start, and no other actor has a line under
+-- way.
+abbrev pub ReadExactlyFrom : Sizes → ℕ → World Held → List (Step Kind) → Type 0
+ReadExactlyFrom z actor before steps =
+    (lines : List Line) (start : World Held) (ss : List (Step Kind)) → IsStart z lines start → Legal mmu start ss → run mmu start ss ≡ before
+    → OthersIdle actor before → ReadsExactly z start ss → ReadsExactly z start (ss ++ steps)
+
 -- The steps run the line alone: they are of its actor alone, at most as many as its command allows, none of them waits or leads away from the
 -- line's answer; the last one answers it, and they tell the line from its begin to this answer. After them all actors rest. Where the line is
 -- starved no page of the pool is free then, and its claim found each word of the pool's map 0, and so it is with frames where it is refused one; where it is
--- answered otherwise, no access of it left for want of a page. And if it moves a page, it takes the lowest frame that no page names.
+-- answered otherwise, no access of it left for want of a page. If it moves a page, it takes the lowest frame that no page names; and if it reads a dirty log, it
+-- reads just what is dirty.
 pub record RunsAlone (z : Sizes) (actor : ℕ) (line : Line) (answer : Answer) (steps : List (Step Kind)) (before : World Held) : Type 0 where
   pub own : All (λ s. s.actor ≡ actor) steps
   pub few : length steps ≤ most_steps z line.command
@@ -54,10 +64,12 @@ pub record RunsAlone (z : Sizes) (actor : ℕ) (line : Line) (answer : Answer) (
   pub last : EndsWithAnswer before steps
   pub runs : RunsLine line answer steps before (Some (run mmu before steps))
   pub rest : AllRest (run mmu before steps)
+  pub idle : (hand_in mmu (run mmu before steps) actor).state.place ≡ Between
   pub none_free : StarvedOnlyWithout answer z (word_in z (run mmu before steps))
   pub saw_each_word : (map : FreeMap) → answer ≡ answer_without map → EndsWithScan z map actor (map_words map z) before steps
   pub none_starved : answer ≢ Starved → NoneStarved (history before steps)
   pub lowest : TakeLowestFrom z before steps
+  pub exact : ReadExactlyFrom z actor before steps
 
 -- From this world on the steps run these lines one after another, each alone.
 abbrev pub EachRunsAlone : Sizes → World Held → List Line → List (Step Kind) → Type 0
