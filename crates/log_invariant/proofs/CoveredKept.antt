@@ -193,7 +193,8 @@ covered_or_taken z v a line command (place.Log (log.Take begun)) small S I P G i
     w : View
     w = stepped a line command (place.Log (log.Take begun)) v
 
-    by : (is_marked (w.words area.Log) (page_of slot gfn) ≡ true) ⊎ IsRead (slot_asked h command) command (read_more begun (slot_asked h command) command h x) gfn
+    by : (is_marked (w.words area.Log) (page_of slot gfn) ≡ true)
+        ⊎ IsRead (slot_asked h command) command (read_more begun (slot_asked h command) command h x) gfn
         → IsCoveredNow z w slot gfn ⊎ IsTaken (w.hand a) gfn
     by (inl still) = inl (inl still)
     by (inr read) =

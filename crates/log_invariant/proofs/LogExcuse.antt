@@ -126,10 +126,11 @@ module _ (command : Command) (h : Held) (x : ℕ) (g : Held) (gfn : ℕ) where
       stands_at (after_page (next_page slot command h.harvest from)) slots words (page_taken (next_page slot command h.harvest from)) R
       (goes_to_page slot command h.harvest from gfn R later)
 
-  -- It goes on behind a page, where there is nothing left to do at the entry w.
+  -- It goes on after a page, where there is nothing left to do at the entry w.
   goes_past : (page : ℕ) (walk : TableWalk) (w : ℕ) → g.slots ≡ h.slots → g.harvest ≡ h.harvest
-      → g.topics.walk ≡ gone_down None walk (entry_index (frame_asked slot command page) walk.level) w → has_done false (can_write w) (kind_of walk.level w) ≡ true
-      → IsRead slot command h.harvest gfn → frame_asked slot command page ≤ gfn → Forbids (after_page (next_page slot command h.harvest (page + 1))) ⊎ Passes page
+      → g.topics.walk ≡ gone_down None walk (entry_index (frame_asked slot command page) walk.level) w
+      → has_done false (can_write w) (kind_of walk.level w) ≡ true → IsRead slot command h.harvest gfn → frame_asked slot command page ≤ gfn
+      → Forbids (after_page (next_page slot command h.harvest (page + 1))) ⊎ Passes page
   goes_past page walk w slots words is done R left = by (same_or gfn (frame_asked slot command page))
     where
       on : TableWalk
@@ -138,8 +139,11 @@ module _ (command : Command) (h : Held) (x : ℕ) (g : Held) (gfn : ℕ) where
       by : (gfn ≡ frame_asked slot command page) ⊎ (gfn ≢ frame_asked slot command page)
           → Forbids (after_page (next_page slot command h.harvest (page + 1))) ⊎ Passes page
       by (inl e) =
-          inr (e, subst (λ (k : TableWalk). (has_entry k && is_done false k) ≡ true) (sym is)
-          (ap (λ (b : Bool). b && is_done false on) (entry_loaded (frame_asked slot command page) w walk) ∙ done))
+          inr (
+            e,
+            subst (λ (k : TableWalk). (has_entry k && is_done false k) ≡ true) (sym is)
+                (ap (λ (b : Bool). b && is_done false on) (entry_loaded (frame_asked slot command page) w walk) ∙ done),
+          )
       by (inr ne) = inl (goes_later (page + 1) slots words R (omega (arith, left, ne)))
 
   -- It loads an entry on the way to the leaf of a page.

@@ -1,5 +1,5 @@
 -- A line that has taken pages out of a dirty log excuses the use of what is cached of them up to when it has flushed it: its steps keep the excuse.
-use Rattle.std.proofs.Common.{ap, arith, inl, inr, refl, subst, sym, ℕ, ◌+◌, ◌<◌, ◌∙◌, ◌≡◌, ◌≤◌, ◌⊎◌}
+use Rattle.std.proofs.Common.{ap, arith, inl, inr, refl, subst, sym, ℕ, ◌+◌, ◌<◌, ◌∙◌, ◌≡◌}
 use Rattle.std.specs.Int.Bits.{bit_and}
 use Rattle.std.specs.Prelude.{Bool, List, None, Option, Some, if◌then◌else◌, nat_lt, not, true, false, ◌||◌}
 use Rattle.circular_buffer.specs.Buffer.{Buffer}
@@ -9,7 +9,6 @@ use Rattle.core_views.specs.declared.place.LogPlace.{LogPlace}
 use Rattle.core_views.specs.declared.place.LogPlace.TheVariants as log
 use Rattle.core_views.specs.declared.place.Place.TheVariants as place
 use Rattle.core_views.specs.declared.place.WriteProtectPlace.TheVariants as protect
-use Rattle.core_views.specs.declared.topics.Flush.{Flush}
 use Rattle.core_views.specs.declared.topics.Topics.{Topics}
 use Rattle.core_views.specs.declared.trace.Command.{Command}
 use Rattle.core_views.specs.declared.trace.Line.{Line}
@@ -111,7 +110,8 @@ module _ (line : Line) (h : Held) (command : Command) (cached : Buffer Translati
   log_used (log.Protect page) K T F = page_used (log.Protect page) (next_page slot command h.harvest (page + 1)) F.0.1
   log_used log.Release K T F = let none = K.0.unasked in ((refl, F.0.1), inl (omega (arith, none)))
   log_used log.Ask K T F =
-      either_place (λ q. UsesAt q (behind log.Ask)) (nat_lt (t.flush.asked + 1) h.state.sizes.vcpus) log.Ask log.Await ((refl, F.0.1), asked) ((refl, F.0.1), asked)
+      either_place (λ q. UsesAt q (behind log.Ask)) (nat_lt (t.flush.asked + 1) h.state.sizes.vcpus) log.Ask log.Await ((refl, F.0.1), asked)
+      ((refl, F.0.1), asked)
     where
       asked : IsUnflushed (record t.flush { asked = t.flush.asked + 1 }) k now_
       asked = asked_unflushed h.state.sizes no_frames t k x state now_ low F.1 T K.5

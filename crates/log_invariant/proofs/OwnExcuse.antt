@@ -45,8 +45,8 @@ use Rattle.log_invariant.specs.LogBegins.{BeginsClean, IsAmong, IsUnsweptAt, Log
 abbrev pub AllowsAt : Place → Command → Held → ℕ → Type 0
 AllowsAt p command h gfn = (LogIsUnwatchedAt p command h gfn × BeginsClean h) ⊎ ForbidsLaterAt p command h gfn
 
--- The guest frame is one that the line passes with the step of its place, with this hand before it and this walk after it: its sweep comes past the frame, or it
--- has come to the leaf of the frame's page.
+-- The guest frame is one that the line passes with the step of its place, with this hand before it and this walk after it: its sweep comes past the frame, or
+-- it has come to the leaf of the frame's page.
 abbrev pub PassesAt : Place → Command → Held → TableWalk → ℕ → Type 0
 PassesAt (place.SlotChange (change.WriteProtect range p)) command h after gfn =
     (protect_sweeps p ≡ true) × (swept_to false range.start h.topics.walk ≤ gfn) × (gfn < swept_to false range.start after)
@@ -83,8 +83,8 @@ goes_on range walk command h gfn is among left = by (nat_le range.end (swept_to 
         (protect_swept (if over then Over else if has_entry walk && not (is_done false walk) then Leaf else Entry)))) command h gfn
     by true e = absurd (let all : range.end ≤ swept_to false range.start walk = grind (arith, nat_tests) in let to = among.1 in omega (arith, all, left, to))
     by false e =
-        either_place (λ n. ForbidsLaterAt (place.SlotChange (change.WriteProtect range (protect_swept n))) command h gfn) (has_entry walk && not (is_done false walk))
-        Leaf Entry (among, unswept) (among, unswept)
+        either_place (λ n. ForbidsLaterAt (place.SlotChange (change.WriteProtect range (protect_swept n))) command h gfn)
+        (has_entry walk && not (is_done false walk)) Leaf Entry (among, unswept) (among, unswept)
 
 -- It comes past the guest frame with its step, or goes on before it.
 swept_excuse : (range : FrameRange) (p : WriteProtectPlace) (before : Held) (walk : TableWalk) (command : Command) (h : Held) (gfn : ℕ)

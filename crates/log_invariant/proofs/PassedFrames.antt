@@ -7,7 +7,6 @@ use Rattle.core_views.specs.declared.place.LogPlace.{LogPlace}
 use Rattle.core_views.specs.declared.place.LogPlace.TheVariants as log
 use Rattle.core_views.specs.declared.place.Place.{Place}
 use Rattle.core_views.specs.declared.place.Place.TheVariants as place
-use Rattle.core_views.specs.declared.place.SlotChangePlace.{SlotChangePlace}
 use Rattle.core_views.specs.declared.place.SlotChangePlace.TheVariants as change
 use Rattle.core_views.specs.declared.place.WriteProtectPlace.{WriteProtectPlace}
 use Rattle.core_views.specs.declared.place.WriteProtectPlace.TheVariants as protect

@@ -1,6 +1,6 @@
--- A line that forbids writes page by page: over the guest frame of a page no links lead to a leaf that allows writes, once it has come to an entry at which there is
--- nothing to do, or has forbidden writes in the leaf.
-use Rattle.std.proofs.Common.{◌*◌, ◌+◌, ◌/◌, ◌<◌, ◌^◌, ◌∙◌, ◌≡◌, ◌≤◌, ap, arith, refl, subst, sym, ℕ}
+-- A line that forbids writes page by page: over the guest frame of a page no links lead to a leaf that allows writes, once the line has come to an entry at
+-- which there is nothing to do, or has forbidden writes in the leaf.
+use Rattle.std.proofs.Common.{◌*◌, ◌+◌, ◌/◌, ◌^◌, ◌∙◌, ◌≡◌, ◌≤◌, ap, arith, refl, subst, sym, ℕ}
 use Rattle.std.specs.Prelude.{◌&&◌, Bool, None, Option, Some, false, if◌then◌else◌, true}
 use Rattle.core_views.specs.declared.sizes.Sizes.{Sizes}
 use Rattle.core_views.specs.declared.topics.TableWalk.{TableWalk}
@@ -9,7 +9,6 @@ use Rattle.spte_words.specs.Areas.{pool_index}
 use Rattle.spte_words.specs.Entries.{can_write, kind_of, level_span, without_write}
 use Rattle.spte_words.specs.declared.area.Area.TheVariants as area
 use Rattle.spte_words.specs.declared.spte_kind.SpteKind.TheVariants.{Leaf}
-use Rattle.part_steps.specs.PartHoldings.{IsOver}
 use Rattle.part_steps.specs.PartTasks.{entry_index, own_index, part_task, table_page}
 use Rattle.part_steps.specs.PartTopics.{part_topics}
 use Rattle.part_steps.specs.SweepTopics.{at_top, has_done, has_entry, is_done}
@@ -17,7 +16,6 @@ use Rattle.part_steps.specs.WalkTopics.{gone_down, linked_page}
 use Rattle.part_steps.specs.declared.part_step.PartStep.{PartStep}
 use Rattle.part_steps.specs.declared.part_step.PartStep.TheVariants as part
 use Rattle.mmu_core.proofs.held.WalkSpans.{over_top}
-use Rattle.mmu_core.proofs.lines.EitherPlace.{either_place}
 use Rattle.mmu_core.proofs.machine.Columns.{upd_same}
 use Rattle.mmu_core.proofs.machine.PartStepping.{IsPart}
 use Rattle.mmu_core.proofs.pages.Paths.{top_stands}

@@ -1,10 +1,9 @@
 -- A line that reads a dirty log and takes out what it reads: a page of a published log that its step clears is one that it has read then.
 use Rattle.std.proofs.Common.{◌≡◌, ◌≢◌, ◌⊎◌, inl, inr, ◌+◌, ◌-◌, ◌*◌, ◌/◌, ◌%◌, ◌<◌, ◌≤◌, ℕ, List, [], length, refl, sym, subst, ap, ◌∙◌, arith}
 use Rattle.std.proofs.lemmas.Bool.Decides.{nat_tests}
-use Rattle.std.specs.Prelude.{Bool, true, false, Option, Some, None, is_some, if◌then◌else◌, option_map}
+use Rattle.std.specs.Prelude.{Bool, true, false, Option, Some, None, if◌then◌else◌, option_map}
 use Rattle.core_views.specs.declared.actor.Actor.TheVariants.{Manager}
 use Rattle.core_views.specs.declared.place.LogPlace.TheVariants as log
-use Rattle.core_views.specs.declared.place.Place.{Place}
 use Rattle.core_views.specs.declared.place.Place.TheVariants as place
 use Rattle.core_views.specs.declared.sizes.Sizes.{Sizes}
 use Rattle.core_views.specs.declared.slot_set.MemorySlot.{MemorySlot}
@@ -23,9 +22,8 @@ use Rattle.mmu_core.specs.invariant.Invariant.{Invariant, RecordPart}
 use Rattle.mmu_core.specs.lines.ArmKnows.{IsInLog}
 use Rattle.mmu_core.specs.lines.LogKnows.{IsReading, LogKnows}
 use Rattle.mmu_core.specs.lines.LogSteps.{first_word, frame_asked, mask_read, read_more, reads_last, slot_asked, word_read}
-use Rattle.mmu_core.specs.lines.PartAt.{task_at}
 use Rattle.mmu_core.specs.lines.SlotTargets.{slot_or_none}
-use Rattle.mmu_core.specs.machine.View.{View, answer_in, hand_after, stepped}
+use Rattle.mmu_core.specs.machine.View.{View, hand_after, stepped}
 use Rattle.mmu_core.proofs.lines.EitherPlace.{either_place}
 use Rattle.mmu_core.proofs.lines.KnowsKept.{step_knows}
 use Rattle.mmu_core.proofs.lines.LogMakes.{log_is_managers}

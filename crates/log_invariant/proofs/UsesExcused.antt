@@ -95,12 +95,12 @@ module _ (z : Sizes) (range : FrameRange) (t : Topics) (k x state now_ : ℕ) (l
   swept_unflushed Entry flush = tt
 
   -- One more is asked.
-  pub asked_unflushed : (t.flush.asked ≤ k) ⊎ ((t.flush.awaited ≤ k) × (asks_flush state ≡ true)) → ShowsFlush protect.Ask t k x state now_ → t.flush.awaited ≡ 0
-      → (t.flush.asked + 1 ≤ k) ⊎ ((t.flush.awaited ≤ k) × (asks_flush now_ ≡ true))
+  pub asked_unflushed : IsUnflushed t.flush k state → ShowsFlush protect.Ask t k x state now_ → t.flush.awaited ≡ 0
+      → IsUnflushed (record t.flush { asked = t.flush.asked + 1 }) k now_
   asked_unflushed (inr U) T none = inr (U.0, T.0 U.1)
   asked_unflushed (inl le) T none = by (same_or k t.flush.asked)
     where
-      by : (k ≡ t.flush.asked) ⊎ (k ≢ t.flush.asked) → (t.flush.asked + 1 ≤ k) ⊎ ((t.flush.awaited ≤ k) × (asks_flush now_ ≡ true))
+      by : (k ≡ t.flush.asked) ⊎ (k ≢ t.flush.asked) → IsUnflushed (record t.flush { asked = t.flush.asked + 1 }) k now_
       by (inl e) = inr (omega (arith, none), T.1 e)
       by (inr ne) = inl (omega (arith, le, ne))
 

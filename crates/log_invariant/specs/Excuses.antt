@@ -1,6 +1,6 @@
--- What excuses a write that nothing covers, in a slot with a dirty log: the line that begins the log, or the one that has taken the page out of it, up to when it
--- has forbidden writes in the leaf (tdp_mmu.c, kvm_tdp_mmu_wrprot_slot, kvm_tdp_mmu_clear_dirty_pt_masked), and up to when each virtual processor has flushed
--- what it had cached (vcpu-requests.rst, KVM_REQ_TLB_FLUSH).
+-- What excuses a write that nothing covers, in a slot with a dirty log: the line that begins the log, or the one that has taken the page out of it, up to when
+-- it has forbidden writes in the leaf (tdp_mmu.c, kvm_tdp_mmu_wrprot_slot, kvm_tdp_mmu_clear_dirty_pt_masked), and up to when each virtual processor has
+-- flushed what it had cached (vcpu-requests.rst, KVM_REQ_TLB_FLUSH).
 use Rattle.std.specs.Prelude.{◌⊎◌, ℕ}
 use Rattle.core_views.specs.declared.place.Place.{Place}
 use Rattle.core_views.specs.declared.place.Place.TheVariants as place
@@ -13,8 +13,8 @@ use Rattle.log_invariant.specs.LogReads.{IsTakenAt, IsUnflushedBy, IsUnprotected
 
 -- ---- a leaf may allow writes
 
--- The line that stands there has yet to forbid writes to the guest frame: its sweep hasn't come past the frame, or it has taken the frame's page and not come to
--- the leaf.
+-- The line that stands there has yet to forbid writes to the guest frame: its sweep hasn't come past the frame, or it has taken the frame's page and not come
+-- to the leaf.
 abbrev pub ForbidsLaterAt : Place → Command → Held → ℕ → Type 0
 ForbidsLaterAt (place.SlotChange (change.WriteProtect range p)) command h gfn = IsAmong range gfn × IsUnsweptAt p range h.topics.walk gfn
 ForbidsLaterAt (place.Log p) command h gfn = IsTakenAt (place.Log p) command h gfn × IsUnprotectedAt p (slot_asked h command) command gfn
