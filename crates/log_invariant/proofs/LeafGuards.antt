@@ -58,13 +58,14 @@ LeavesNow z v = LeavesAre z v.words (AllGuarded z v ExcusesLeaf)
 abbrev pub ExcusedOrPassed : Place → Command → Held → TableWalk → Held → ℕ → Type 0
 ExcusedOrPassed p command before after h gfn = ExcusesLeaf h gfn ⊎ PassesAt p command before after gfn
 
--- What the line of an actor excuses before its step, it excuses after it, or it has passed it.
+-- The actor's line excuses the guest frame after its step, or has passed it.
 abbrev ExcusesOrPasses : View → ℕ → Line → Command → Place → ℕ → Type 0
 ExcusesOrPasses v a line command p gfn =
     let x : ℕ = answer_in (task_at p command (v.hand a)) v.words in
     AllowsAt (place_after (outcome_at p command (v.hand a) x)) command (hand_after line command p (v.hand a) x) gfn
     ⊎ PassesAt p command (v.hand a) (hand_after line command p (v.hand a) x).topics.walk gfn
 
+-- What it excuses before its step, it excuses after it, or passes it.
 own_excuse : (z : Sizes) (v : View) (a : ℕ) (line : Line) (command : Command) (p : Place) → IsStep z v a line command p → Invariant z v
     → MakesAt z v a p command → (gfn : ℕ) → AllowsAt p command (v.hand a) gfn → ExcusesOrPasses v a line command p gfn
 own_excuse z v a line command (place.SlotChange q) S I makes gfn excuse =
