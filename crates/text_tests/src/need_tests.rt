@@ -51,7 +51,7 @@ fn push_slot(lines: &mut Vec<Line>, slot: &str) -> Result<(), Fail> {
 }
 
 // Pushes lines that need no page.
-fn push_others(lines: &mut Vec<Line>) -> Result<(), Fail> {
+fn push_others(alloc: Global, lines: &mut Vec<Line>) -> Result<(), Fail> {
     let (gfn, page) = (9999, 9999);
     let (op, change) = (Op::Read, HostChange::Allow);
     lines.push(Line {
@@ -64,6 +64,13 @@ fn push_others(lines: &mut Vec<Line>) -> Result<(), Fail> {
         actor: Actor::Host(0),
         command: Command::ChangeHost { page, change },
     })?;
+    lines.push(slot_line(Command::GetLog { id: 0 }))?;
+    lines.push(slot_line(Command::ClearLog {
+        id: 0,
+        first: 0,
+        count: 9999,
+        words: Words::from_vec(vec![in alloc; 9999; 157]?),
+    }))?;
     Ok(())
 }
 
@@ -72,7 +79,7 @@ fn push_others(lines: &mut Vec<Line>) -> Result<(), Fail> {
 pub fn told(alloc: Global, case: &str) -> Result<String, Fail> {
     let (pages, slots) = case.split_once(", ").unwrap_or((case, ""));
     let mut lines = Vec::new(alloc);
-    push_others(&mut lines)?;
+    push_others(alloc, &mut lines)?;
     for slot in slots.split(", ") {
         if !slot.is_empty() {
             push_slot(&mut lines, slot)?;

@@ -440,6 +440,96 @@ fn answers_the_table(rt: HostRuntime) -> Result<(), Fail> {
     expect_all(&rt, rt.alloc(), Way::Reads, TABLE, 298)
 }
 
+// Lines that get a dirty log, or clear it. The long ones have 65,534 bytes, 65,536, and two more.
+const LOGS: &str = "\
+1 lines|&vm get 0;
+2 lines|&vm get 18446744073709551615;vm get 0x1f;
+2 word|&vm get;
+2 word|&vm get 0 0;
+2 word|&vm get 0 ;
+2 word|&vm Get 0;
+2 word|&vm gets 0;
+2 word|&v0 get 0;
+2 word|&v9 get 0;
+2 word|&h0 get 0;
+2 word|&w0 get z;
+2 number|&vm get z;
+2 number|&vm get 00;
+2 number|&vm get 0X0;
+2 number|&vm get 18446744073709551616;
+3 number|&vm get 0;vm get 0x;
+1 lines|&vm clear 0 0 0;
+1 lines|&vm clear 0 0 1 0;
+1 lines|&vm clear 0 0 64 0xffffffffffffffff;
+1 lines|&vm clear 0 0 65 0 0;
+1 lines|&vm clear 0 0 0x41 0 0;
+1 lines|&vm clear 0 0 128 0 0;
+1 lines|&vm clear 0 0 129 0 0 0;
+1 lines|&vm clear 18446744073709551615 0xffffffffffffffff 1 18446744073709551615;
+3 lines|&vm clear 0 0 0;vm get 0;vm clear 1 7 2 3;
+2 word|&vm clear;
+2 word|&vm clear 0;
+2 word|&vm clear 0 0;
+2 word|&vm clear 0 0 ;
+2 word|&vm clear 0 0 0 0;
+2 word|&vm clear 0 0 0 ;
+2 word|&vm clear 0 0 1;
+2 word|&vm clear 0 0 1  0;
+2 word|&vm clear 0 0 1 0 0;
+2 word|&vm clear 0 0 64 0 0;
+2 word|&vm clear 0 0 65 0;
+2 word|&vm clear 0 0 0x41 0;
+2 word|&vm clear 0 0 128 0 0 0;
+2 word|&vm clear 0 0 18446744073709551615;
+2 word|&vm clear 0 0 18446744073709551615 0;
+2 word|&vm clear 0 0 18446744073709551553;
+2 word|&vm clear 0 0 18446744073709551552;
+2 word|&vm clear 0 0 0xffffffffffffffff 0;
+2 word|&vm clear z 0 1;
+2 word|&vm clear 0 z 64 0 0;
+2 word|&vm clear z z 65 z;
+2 word|&vm clear 18446744073709551616 0 0 0;
+2 word|&vm Clear 0 0 0;
+2 word|&vm clears 0 0 0;
+2 word|&VM clear 0 0 0;
+2 word|&v0 clear 0 0 0;
+2 word|&v9 clear 0 0 z;
+2 word|&h0 clear 0 0 1 0;
+2 word|&w0 clear z z z;
+2 number|&vm clear 0 0 z;
+2 number|&vm clear 0 0 z 0 0 0;
+2 number|&vm clear 0 0 00;
+2 number|&vm clear 0 0 01 0 0;
+2 number|&vm clear 0 0 0x;
+2 number|&vm clear 0 0 0xFF;
+2 number|&vm clear 0 0 18446744073709551616;
+2 number|&vm clear 0 0 18446744073709551616 0;
+2 number|&vm clear 0 0 0x10000000000000000 0;
+2 number|&vm clear z z z z;
+2 number|&vm clear z 0 1 0;
+2 number|&vm clear 0 z 1 0;
+2 number|&vm clear 0 0 1 z;
+2 number|&vm clear 0 0 65 0 z;
+2 number|&vm clear 0 0 65 z 0;
+2 number|&vm clear 18446744073709551616 0 0;
+2 number|&vm clear 0 18446744073709551616 0;
+2 number|&vm clear 0 0 1 18446744073709551616;
+2 number|&vm clear 0 0 1 0x00000000000000000;
+2 number|&vm clear 0 0 1 00;
+1 lines|&vm clear 0 0 2096512|32758 times  0|;
+1 lines|&vm clear 0 0 2096449|32758 times  0|;
+2 word|&vm clear 0 0 2096512|32757 times  0|;
+2 word|&vm clear 0 0 2096513|32758 times  0|;
+2 word|&vm clear 0 0 2096448|32758 times  0|;
+2 number|&vm clear 0 0 2096512|32757 times  0| z;
+2 long|&vm clear 0 0 2096513|32759 times  0|;
+";
+
+#[test]
+fn reads_lines_of_dirty_logs(rt: HostRuntime) -> Result<(), Fail> {
+    expect_all(&rt, rt.alloc(), Way::Reads, LOGS, 81)
+}
+
 // Inputs and lines of the most bytes, and of one more.
 const LONG: &str = "\
 1 cut|16777216 bytes
@@ -524,7 +614,16 @@ fn command_text(alloc: Global, command: &Command) -> Result<String, AllocError> 
             format!(in alloc; "{name} {page}")
         }
         Command::SetLog { id, on } => format!(in alloc; "log {id} {on}"),
-        _ => String::from_str(alloc, "none that is read"),
+        Command::GetLog { id } => format!(in alloc; "get {id}"),
+        Command::ClearLog {
+            id,
+            first,
+            count,
+            words,
+        } => {
+            let words = words.as_slice();
+            format!(in alloc; "clear {id} {first} {count} {words:?}")
+        }
     }
 }
 
@@ -603,6 +702,23 @@ const KEPT_DELETIONS: &str = "\
 #[test]
 fn reads_deletions(rt: HostRuntime) -> Result<(), Fail> {
     expect_text(&rt, read_text(rt.alloc(), DELETIONS), KEPT_DELETIONS)
+}
+
+const READINGS: &str = "&vm get 7;vm clear 0x20 64 0x41 5 0xffffffffffffffff;vm clear 1 2 0;vm get 0x8;vm clear 18446744073709551615 3 4 6;";
+
+// Each has all its numbers, and a clear its words in their order.
+const KEPT_READINGS: &str = "\
+1 vcpus 2 workers 0 pages 96 frames 96 words 4 pool 64 cache 8 manual 2 hosts [0, 32]
+2 vm get 7
+3 vm clear 32 64 65 [5, 18446744073709551615]
+4 vm clear 1 2 0 []
+5 vm get 8
+6 vm clear 18446744073709551615 3 4 [6]
+";
+
+#[test]
+fn reads_what_logs_are_asked_for(rt: HostRuntime) -> Result<(), Fail> {
+    expect_text(&rt, read_text(rt.alloc(), READINGS), KEPT_READINGS)
 }
 
 fn failed_read(alloc: Global) -> Result<String, Fail> {
