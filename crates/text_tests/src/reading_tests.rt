@@ -704,7 +704,8 @@ fn reads_deletions(rt: HostRuntime) -> Result<(), Fail> {
     expect_text(&rt, read_text(rt.alloc(), DELETIONS), KEPT_DELETIONS)
 }
 
-const READINGS: &str = "&vm get 7;vm clear 0x20 64 0x41 5 0xffffffffffffffff;vm clear 1 2 0;vm get 0x8;vm clear 18446744073709551615 3 4 6;";
+const READINGS: &str =
+    "&vm get 7;vm clear 0x20 64 0x41 5 0xffffffffffffffff;vm clear 1 2 0;vm get 0x8;vm clear 18446744073709551615 3 4 6;";
 
 // Each has all its numbers, and a clear its words in their order.
 const KEPT_READINGS: &str = "\
