@@ -1,4 +1,6 @@
 pub mod Advancing
+pub mod FirstDirty
 pub mod FirstUsable
 pub mod LineMade
+pub mod LogMade
 pub mod SweptBounds

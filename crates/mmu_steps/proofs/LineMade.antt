@@ -1,5 +1,5 @@
 -- The hand that a line's step makes, field by field.
-use Rattle.std.specs.Prelude.{Bool}
+use Rattle.std.specs.Prelude.{◌≢◌, Bool}
 use Rattle.std.proofs.Common.{◌≡◌, ℕ, suc, List, [], ◌∷◌, ◌++◌, length, refl, sym, ap, ◌∙◌, arith}
 use Rattle.std.proofs.lemmas.List.{length_push}
 use Rattle.circular_buffer.specs.Buffer.{Buffer}
@@ -8,6 +8,7 @@ use Rattle.core_views.specs.declared.answer.AnsweredLine.{AnsweredLine}
 use Rattle.core_views.specs.declared.cache.Translation.{Translation}
 use Rattle.core_views.specs.declared.place.AccessPlace.{AccessPlace}
 use Rattle.core_views.specs.declared.place.AccessPlace.TheVariants.{Enter}
+use Rattle.core_views.specs.declared.place.LogPlace.{LogPlace}
 use Rattle.core_views.specs.declared.place.Place.{Place}
 use Rattle.core_views.specs.declared.place.Place.TheVariants as place
 use Rattle.core_views.specs.declared.sizes.Sizes.{Sizes}
@@ -23,10 +24,8 @@ use Rattle.mmu_core.specs.lines.AccessSteps.{access_caches}
 use Rattle.mmu_core.specs.lines.Delays.{counted, delays_counted, is_delay, steps_counted}
 use Rattle.mmu_core.specs.lines.Rests.{IsUnderWay}
 use Rattle.mmu_core.specs.machine.Steps.{delays_at, line_after}
-use Rattle.mmu_core.specs.lines.Forms.{RestsAt, caches_at, loads_at, outcome_at, reads_at, records_at}
+use Rattle.mmu_core.specs.lines.Forms.{caches_at, loads_at, outcome_at, reads_at, records_at}
 use Rattle.mmu_core.specs.machine.Outcomes.{answers_after, place_after}
-use Rattle.core_views.specs.Traces.{IsCommandFor}
-use Rattle.mmu_core.proofs.lines.Forms.{reads_none}
 use Rattle.mmu_core.proofs.machine.HandAfter.{IsSameState, loads_same}
 
 -- What is cached doesn't hang on the record of slots.
@@ -101,11 +100,10 @@ line_made h f line p q l v used slots o delay steps delays answers o_is used_is 
     cached : Held
     cached = with_cached h (caches_at p line.command h v) (records_at p line.command h.slots)
 
--- No line of a trace reads a log yet: what was read stays.
-pub reads_same : (p : Place) (line : Line) (h : Held) (v : ℕ) → IsCommandFor h.state.sizes line.actor line.command → RestsAt p line.command h
-    → reads_at p line.command h v ≡ h.harvest
-reads_same (place.Log p) line h v may R = absurd (reads_none h.state.sizes line.actor line.command R.0 may)
-reads_same _ line h v may R = refl
+-- What was read stays where the line reads no log.
+pub reads_same : (p : Place) (command : Command) (h : Held) (v : ℕ) → ((q : LogPlace) → p ≢ place.Log q) → reads_at p command h v ≡ h.harvest
+reads_same (place.Log p) command h v other = absurd (other p refl)
+reads_same _ command h v other = refl
 
 -- The line that a hand has under way, or has answered last, is the one that the step was of.
 pub line_goes : (q : Place) (h : Held) → IsUnderWay q → line_under q h.lines (length h.answers) ≡ next_line h

@@ -1,7 +1,6 @@
 //! What a line counts: its steps since it began or since its last delay, and
 //! its delays.
 ghost use Rattle.std.specs.Prelude.{◌≡◌};
-ghost use Rattle.core_views.specs.Traces.{IsCommandFor};
 ghost use Rattle.mmu_core.specs.lines.Delays.{begins_anew, counted, delays_counted, is_delay, leaves_to_fault, one_more, steps_counted, walks_again};
 ghost use Rattle.mmu_core.specs.lines.Forms.{RestsAt};
 ghost use Rattle.part_steps.specs.PartBounds.{PartRests};
@@ -50,7 +49,6 @@ pub(crate) fn is_delay(
     found: u64,
 ) -> bool
     requires part { PartRests hand.now.core }
-    requires line { IsCommandFor hand.now.core.state.sizes line.now.actor line.now.command }
     requires rests { RestsAt place line.now.command hand.now.core }
     ensures { result ≡ is_delay place line.now.command hand.now.core outcome.now found }
 {

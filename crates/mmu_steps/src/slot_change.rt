@@ -43,8 +43,8 @@ pub(crate) fn first(sizes: &Sizes, slots: &SlotSet, command: &Command) -> SlotCh
     }
 }
 
-// This slot, or one without pages.
-fn slot_or_none(slot: Option<Slot>) -> Slot
+/// This slot, or one without pages.
+pub(crate) fn slot_or_none(slot: Option<Slot>) -> Slot
     ensures { result ≡ slot_or_none slot }
 {
     slot.unwrap_or(Slot {
@@ -62,8 +62,8 @@ fn log_target(hand: &Hand, command: &Command) -> Slot
     slot_or_none(hand.slots().armed(command))
 }
 
-// The first word of its log.
-fn log_begin(slot: &Slot) -> u64
+/// The first word of a slot's log.
+pub(crate) fn log_begin(slot: &Slot) -> u64
     ensures is { result ≡ log_begin slot.now }
     ensures small { result < 2 ^ 58 }
 {

@@ -1,5 +1,7 @@
 //! The step that a hand allows, and the hand after it.
-ghost use Rattle.std.specs.Prelude.{◌≡◌, ◌<◌, ◌+◌, Some, length, true, false};
+ghost use Rattle.std.specs.Prelude.{◌≡◌, ◌≢◌, ◌<◌, ◌+◌, Some, length, true, false};
+ghost use Rattle.core_views.specs.declared.place.LogPlace.{LogPlace};
+ghost use Rattle.core_views.specs.declared.place.Place.TheVariants as at;
 ghost use Rattle.core_views.specs.Sizes.{AreSizes};
 ghost use Rattle.core_views.specs.Traces.{IsCommandFor};
 ghost use Rattle.mmu_core.specs.lines.Forms.{AcceptsAt, RestsAt, part_at, caches_at, first_place, loads_at, outcome_at, records_at};
@@ -16,11 +18,13 @@ ghost use Rattle.part_steps.specs.TopicSteps.{HasRoom, topics_after};
 ghost use Rattle.spte_words.specs.Areas.{size_of};
 
 use crate::delays::{delays_behind, is_delay, steps_behind};
+use crate::waits::line_waits;
 use crate::{access, host, log, slot_change};
 use core_views::{
-    AccessPlace, AnsweredLine, Command, Hand, Kind, Line, Place, StepKind, Translation,
+    AccessPlace, Answer, AnsweredLine, Command, Hand, Kind, Line, LogPlace, Place, StepKind,
+    Translation,
 };
-use mmu_core::Outcome;
+use mmu_core::{LogNext, Outcome};
 use part_steps::{PartStep, Task, kind_of, step_topics};
 
 // Where a line begins.
@@ -69,6 +73,7 @@ fn task(place: Place, hand: &Hand, line: &Line) -> Task
         (Place::Host(place), Command::ChangeHost { page, change }) => {
             host::task(place, *page, *change, hand)
         }
+        (Place::Log(place), command) => log::task(place, hand, command),
         _ => unreachable!(),
     }
 }
@@ -91,7 +96,6 @@ pub fn next_kind(hand: &Hand) -> Kind
 #[tactic(auto, using(mmu_core::proofs::lines::UsedTranslations::part_needs, mmu_core::proofs::lines::LineWaits::claims_seen))]
 pub(crate) fn part_of(place: Place, line: &Line, hand: &Hand) -> Option<PartStep>
     requires part { PartRests hand.now.core }
-    requires line { IsCommandFor hand.now.core.state.sizes line.now.actor line.now.command }
     requires rests { RestsAt place line.now.command hand.now.core }
     ensures step { result ≡ part_at place line.now.command hand.now.core }
     ensures seen { result ≡ Some Claim → 0 < hand.now.core.topics.claim.seen }
@@ -103,7 +107,7 @@ pub(crate) fn part_of(place: Place, line: &Line, hand: &Hand) -> Option<PartStep
         (Place::Host(place), Command::ChangeHost { page, change }) => {
             Some(host::part(place, *page, *change, hand))
         }
-        (Place::Log(_), _) => unreachable!(),
+        (Place::Log(place), command) => Some(log::log_step(place, hand, command)),
         _ => Some(PartStep::Seq),
     }
 }
@@ -149,12 +153,12 @@ fn record_step(place: Place, hand: &mut Hand)
     }
 }
 
-// Where the line stands after the step of a place, and the translation that it uses from
-// now on, where the step found one.
+// Where the line stands after the step of a place, which reads no log, and the translation that
+// it uses from now on, where the step found one.
 fn outcome(place: Place, line: &Line, hand: &Hand, found: u64) -> (Outcome, Option<Translation>)
     requires part { PartRests hand.now.core }
-    requires line { IsCommandFor hand.now.core.state.sizes line.now.actor line.now.command }
     requires rests { RestsAt place line.now.command hand.now.core }
+    requires other { (p : LogPlace) → place ≢ at.Log p }
     ensures outcome { result.0 ≡ outcome_at place line.now.command hand.now.core found }
     ensures used { use_found result.1 hand.now.core.state.used ≡ (loads_at place line.now.command hand.now.core found).used }
 {
@@ -183,7 +187,8 @@ fn used_behind(found: Option<Translation>, hand: &Hand) -> Translation
     }
 }
 
-// The effect of a line's step on the hand, but for its topics and for a flush.
+// The effect of a line's step on the hand, but for its topics and for a flush, where it reads
+// no log.
 fn advance_line(hand: &mut Hand, place: Place, found: u64)
     requires left { length hand.old.core.answers < length hand.old.core.lines }
     requires part { PartRests hand.old.core }
@@ -191,6 +196,7 @@ fn advance_line(hand: &mut Hand, place: Place, found: u64)
     requires rests { RestsAt place (next_line hand.old.core).command hand.old.core }
     requires begun { IsUnderWay place }
     requires accepts { AcceptsAt place (next_line hand.old.core).command hand.old.core.state.sizes hand.old.core.slots }
+    requires other { (p : LogPlace) → place ≢ at.Log p }
     requires room { 0 < hand.old.room }
     ensures core { hand.new.core ≡ line_after (next_line hand.old.core) place hand.old.core found }
     ensures room { length hand.new.core.answers + hand.new.room ≡ length hand.old.core.answers + hand.old.room }
@@ -217,6 +223,41 @@ fn advance_line(hand: &mut Hand, place: Place, found: u64)
     }
 }
 
+// The effect of a step of a line that reads a log on the hand, but for its topics.
+fn advance_log(hand: &mut Hand, place: LogPlace, found: u64)
+    requires left { length hand.old.core.answers < length hand.old.core.lines }
+    requires part { PartRests hand.old.core }
+    requires rests { RestsAt (at.Log place) (next_line hand.old.core).command hand.old.core }
+    requires room { 0 < hand.old.room }
+    ensures core { hand.new.core ≡ line_after (next_line hand.old.core) (at.Log place) hand.old.core found }
+    ensures room { length hand.new.core.answers + hand.new.room ≡ length hand.old.core.answers + hand.old.room }
+{
+    let line = hand.line();
+    let (number, actor) = (line.number, line.actor);
+    let next = log::next(place, &line.command, hand, found);
+    let delay = line_waits(Place::Log(place), line, hand, found);
+    let steps = steps_behind(delay, hand);
+    let delays = delays_behind(delay, hand);
+    let used = hand.progress().used;
+    log::read(place, hand, found);
+    match next {
+        LogNext::Goes(place) => hand.go_on(Place::Log(place), used, steps, delays),
+        LogNext::Refused(refusal) => {
+            hand.clear_harvest();
+            hand.go_on(Place::Between, used, steps, delays);
+            hand.answer(AnsweredLine {
+                number,
+                actor,
+                answer: Answer::Refused(refusal),
+            });
+        }
+        LogNext::Reads => {
+            hand.go_on(Place::Between, used, steps, delays);
+            hand.answer_harvest(number, actor);
+        }
+    }
+}
+
 // The step of the hand's line, where it has one left.
 #[inline(never)]
 fn step_line(hand: &mut Hand, found: u64)
@@ -229,7 +270,10 @@ fn step_line(hand: &mut Hand, found: u64)
 {
     if hand.has_line() {
         let place = place_of(hand, hand.line());
-        advance_line(hand, place, found);
+        match place {
+            Place::Log(place) => advance_log(hand, place, found),
+            _ => advance_line(hand, place, found),
+        }
     }
 }
 

@@ -1,6 +1,5 @@
 //! Which steps wait for another actor.
 ghost use Rattle.std.specs.Prelude.{◌≡◌, ◌<◌, Some};
-ghost use Rattle.core_views.specs.Traces.{IsCommandFor};
 ghost use Rattle.mmu_core.specs.lines.Delays.{line_waits, waits_by};
 ghost use Rattle.mmu_core.specs.lines.PartWaits.{own_open, part_waits, saw_open};
 ghost use Rattle.mmu_core.specs.lines.Forms.{RestsAt};
@@ -63,7 +62,6 @@ pub fn waits_by(step: Option<PartStep>, topics: &Topics, found: u64) -> bool
 /// step of a part that waits, whatever the line is.
 pub(crate) fn line_waits(place: Place, line: &Line, hand: &Hand, found: u64) -> bool
     requires part { PartRests hand.now.core }
-    requires line { IsCommandFor hand.now.core.state.sizes line.now.actor line.now.command }
     requires rests { RestsAt place line.now.command hand.now.core }
     ensures { result ≡ line_waits place line.now.command hand.now.core found }
 {

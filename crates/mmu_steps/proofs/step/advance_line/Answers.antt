@@ -1,10 +1,10 @@
-use Rattle.std.proofs.Common.{◌≡◌, length, ap, refl, subst, sym, ◌∙◌}
+use Rattle.std.proofs.Common.{length, ap, refl, subst, sym, ◌∙◌}
 use Rattle.core_views.specs.declared.place.Place.TheVariants.{Between}
 use Rattle.core_views.specs.declared.trace.Line.{Line}
-use Rattle.core_views.specs.Held.{Held, answered, line_under, next_line}
+use Rattle.core_views.specs.Held.{Held, answered, line_under}
 use Rattle.mmu_core.specs.declared.outcome.Outcome.{Outcome}
 use Rattle.mmu_core.specs.declared.outcome.Outcome.TheVariants.{Ends}
-use Rattle.mmu_core.specs.lines.Forms.{reads_at, records_at}
+use Rattle.mmu_core.specs.lines.Forms.{records_at}
 use Rattle.mmu_core.specs.machine.Outcomes.{answers_after, place_after}
 use Rattle.mmu_core.specs.machine.Steps.{line_after}
 use Rattle.mmu_core.proofs.lines.Forms.{outcome_goes}
@@ -17,8 +17,7 @@ returns-in-Goes-clause-core c =
     let h : Held = c.args.hand.now.core in
     let line : Line = c.line-line.result.now in
     let filled : Held = c.fill_cache.new.hand.core in
-    let reads = subst (λ (l : Line). reads_at c.args.place l.command h c.args.found ≡ h.harvest) (sym c.line-line.ensures.next)
-    (reads_same c.args.place (next_line h) h c.args.found c.requires.line c.requires.rests) in
+    let reads = reads_same c.args.place line.command h c.args.found c.requires.other in
     let f_is = filled_is h c.record_step.new.hand.core filled line c.args.place c.args.found c.line-line.ensures.next c.record_step.ensures.core
     c.fill_cache.ensures.core in
     let under = subst GoesUnderWay (sym c.outcome-outcome.ensures.outcome
@@ -38,8 +37,7 @@ returns-in-Ends-clause-core c =
     let h : Held = c.args.hand.now.core in
     let line : Line = c.line-line.result.now in
     let filled : Held = c.fill_cache.new.hand.core in
-    let reads = subst (λ (l : Line). reads_at c.args.place l.command h c.args.found ≡ h.harvest) (sym c.line-line.ensures.next)
-    (reads_same c.args.place (next_line h) h c.args.found c.requires.line c.requires.rests) in
+    let reads = reads_same c.args.place line.command h c.args.found c.requires.other in
     let f_is = filled_is h c.record_step.new.hand.core filled line c.args.place c.args.found c.line-line.ensures.next c.record_step.ensures.core
     c.fill_cache.ensures.core in
     let answers = answers_after (Ends c.in-Ends.answer) line filled.answers in

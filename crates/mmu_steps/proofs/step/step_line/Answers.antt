@@ -1,4 +1,5 @@
 use Rattle.std.proofs.Common.{sym, ◌∙◌}
+use Rattle.core_views.specs.declared.place.Place.TheVariants.{Log}
 use Rattle.mmu_steps.proofs.Advancing.{accepts_here, begun_here, command_here, made_here, part_here, rests_at_here}
 use Rattle.mmu_steps.proofs.step.step_line.Goals as goal
 
@@ -22,7 +23,20 @@ pub advance_line-requires-clause-accepts : goal.advance_line-requires-clause-acc
 advance_line-requires-clause-accepts c = accepts_here c.args.hand.now.core c.requires.rests (sym c.has_line.ensures
     ∙ c.if-has_line.true) c.line.result.now c.line.ensures.next c.line.ensures.line c.place_of-place.result c.place_of-place.ensures
 
-pub returns-then-has_line-clause-line : goal.returns-then-has_line-clause-line
-returns-then-has_line-clause-line c =
+pub returns-in_default-clause-line : goal.returns-in_default-clause-line
+returns-in_default-clause-line c =
     λ has. made_here c.args.hand.now.core c.requires.rests has c.line.result.now c.line.ensures.next c.line.ensures.line c.place_of-place.result
     c.place_of-place.ensures c.advance_line.new.hand.core c.args.found c.advance_line.ensures.core
+
+pub advance_log-requires-clause-part : goal.advance_log-requires-clause-part
+advance_log-requires-clause-part c = part_here c.args.hand.now.core c.requires.rests (sym c.has_line.ensures
+    ∙ c.if-has_line.true) c.line.result.now c.line.ensures.next c.line.ensures.line c.place_of-place.result c.place_of-place.ensures
+
+pub advance_log-requires-clause-rests : goal.advance_log-requires-clause-rests
+advance_log-requires-clause-rests c = rests_at_here c.args.hand.now.core c.requires.rests (sym c.has_line.ensures
+    ∙ c.if-has_line.true) c.line.result.now c.line.ensures.next c.line.ensures.line (Log c.in-Log.place) (sym c.in-Log.is ∙ c.place_of-place.ensures)
+
+pub returns-in-Log-clause-line : goal.returns-in-Log-clause-line
+returns-in-Log-clause-line c =
+    λ has. made_here c.args.hand.now.core c.requires.rests has c.line.result.now c.line.ensures.next c.line.ensures.line (Log c.in-Log.place)
+    (sym c.in-Log.is ∙ c.place_of-place.ensures) c.advance_log.new.hand.core c.args.found c.advance_log.ensures.core
