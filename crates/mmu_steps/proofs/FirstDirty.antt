@@ -4,7 +4,8 @@ use Rattle.std.proofs.lemmas.Nat.{shr-shr}
 use Rattle.std.proofs.lemmas.Nat.Bits.{bit_at-trailing_zeros, bit_at-zero, bit_at_above}
 use Rattle.std.proofs.Math.Nat.{div-le_self}
 use Rattle.std.proofs.Math.Pow.{shr_lt}
-use Rattle.std.proofs.Common.{◌≡◌, ◌+◌, ◌-◌, ◌*◌, ◌/◌, ◌%◌, ◌^◌, ◌<◌, ◌≤◌, ℕ, zero, suc, Bool, true, false, List, get_or, refl, subst, sym, ap, ◌∙◌, arith, cond}
+use Rattle.std.proofs.Common.{◌≡◌, ◌+◌, ◌-◌, ◌*◌, ◌/◌, ◌%◌, ◌^◌, ◌<◌, ◌≤◌, ℕ, zero, suc, Bool, true, false, cond}
+use Rattle.std.proofs.Common.{List, get_or, refl, subst, sym, ap, ◌∙◌, arith}
 use Rattle.std.specs.Prelude.{◌==◌, find, if◌then◌else◌, nat_lt, Some, None}
 use Rattle.std.specs.Int.{bit_at, trailing_zeros, w64}
 use Rattle.std.specs.List.{range_with_len}
@@ -16,7 +17,8 @@ first_found : (a n k : ℕ) (test : ℕ → Bool) → a ≤ k → k < a + n → 
     → find test (range_with_len a n) ≡ Some k
 first_found a zero k test from to is none = absurd (omega (arith, from, to))
 first_found a (suc n) k test from to is none =
-    by (test a) refl (λ apart. first_found (a + 1) n k test (omega (arith, from, apart)) (omega (arith, to)) is (λ i low high. none i (omega (arith, low)) high))
+    by (test a) refl
+    (λ apart. first_found (a + 1) n k test (omega (arith, from, apart)) (omega (arith, to)) is (λ i low high. none i (omega (arith, low)) high))
   where
     same : (b : Bool) → test a ≡ true → (b ≡ true → a ≡ k) → (b ≡ false → a < k) → Some a ≡ Some k
     same true passes is later = ap Some (is refl)
@@ -137,7 +139,8 @@ lowest_from words from w is small some =
 pub none_from : (words : List ℕ) (from w : ℕ) → w ≡ get_or words (from / 64) 0 → w / 2 ^ (from % 64) ≡ 0 → HasNone words from (64 * (from / 64 + 1))
 none_from words from w is empty page low high =
     let split : 64 * (from / 64) + from % 64 ≡ from = omega arith in
-    none_left words (from / 64) (from % 64) (omega arith) (ap (λ n. n / 2 ^ (from % 64)) (sym is) ∙ empty) page (omega (arith, split, low)) (omega (arith, high))
+    none_left words (from / 64) (from % 64) (omega arith) (ap (λ n. n / 2 ^ (from % 64)) (sym is) ∙ empty) page (omega (arith, split, low))
+    (omega (arith, high))
 
 -- In a later word, where there was none before.
 pub lowest_later : (words : List ℕ) (from at w : ℕ) → from < 64 * at → HasNone words from (64 * at) → w ≡ get_or words at 0 → w < 2 ^ 64 → (w ≡ 0 → ⊥)
