@@ -14,6 +14,7 @@ use Rattle.step_seats.specs.Seats.{Seat}
 use Rattle.step_seats.proofs.ToldWords.{StepsTo, told_both}
 use Rattle.step_seats.proofs.Where.{ToldBoth}
 use Rattle.tdp_walk.specs.Sweeps.{LoadsEntry, ProtectsEntry, ZapsEntry, entry_at}
+use Rattle.tdp_walk.specs.Walks.{LoadsRootEntry}
 
 pub zapped_word : (gfn note found : ℕ) (before after : Seat) → PartNeeds (part.Zap gfn) before.hand → MadePart (part.Zap gfn) note found before after
     → ToldBoth before.tells.world after.tells.world (ZapsEntry gfn found before.hand)
@@ -55,3 +56,9 @@ pub swept_word : (gfn note found : ℕ) (before after : Seat) → PartNeeds (par
 swept_word gfn note found before after needs made =
     told_both before.tells.world after.tells.world before.actor note found (part.Sweep gfn) before.hand (λ w u. LoadsEntry gfn found before.hand w) needs
     made.has made.world (λ w u S. sym S.finds)
+
+pub anew_word : (gfn note found : ℕ) (before after : Seat) → PartNeeds (part.WalkAnew gfn) before.hand
+    → MadePart (part.WalkAnew gfn) note found before after → ToldBoth before.tells.world after.tells.world (λ w u. LoadsRootEntry gfn found before.hand w)
+anew_word gfn note found before after needs made =
+    told_both before.tells.world after.tells.world before.actor note found (part.WalkAnew gfn) before.hand (λ w u. LoadsRootEntry gfn found before.hand w)
+    needs made.has made.world (λ w u S. sym S.finds)

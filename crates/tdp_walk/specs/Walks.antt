@@ -12,6 +12,8 @@ use Rattle.part_steps.specs.declared.part_step.PartStep.{PartStep}
 use Rattle.part_steps.specs.declared.part_step.PartStep.TheVariants as part
 use Rattle.part_steps.specs.PartTasks.{entry_index, table_page}
 use Rattle.part_steps.specs.PartHoldings.{IsOver, SawEntry}
+use Rattle.part_steps.specs.SweepTopics.{at_top}
+use Rattle.part_steps.specs.WalkTopics.{walked}
 use Rattle.step_seats.specs.declared.turn.Turn.{Turn}
 use Rattle.step_seats.specs.declared.turn.Turn.TheVariants.{More, Wait, Retry, Done}
 use Rattle.tdp_walk.specs.declared.walk.Walk.{Walk}
@@ -85,3 +87,17 @@ FoundNext walk before after w = found_last walk after.topics.walk ≡ word_next 
 -- It is, of the words of the world in which the step was made.
 abbrev pub WasNextWord : Walk → ℕ → Seat → Seat → Type 0
 WasNextWord walk note before after = WherePartMade (walk_step walk) note before after (λ w v. FoundNext walk before.hand after.hand w)
+
+-- ---- a walk that begins anew
+
+-- The walk stands at its root again, and has gone down where the entry there over the guest frame is a link. Nothing else that the actor holds has changed.
+abbrev pub walked_anew : ℕ → ℕ → Topics → Topics
+walked_anew gfn found t = record t { walk = walked (at_top t.walk) (entry_index gfn 4) found }
+
+-- The entry was this word.
+abbrev pub LoadsRootEntry : ℕ → ℕ → Held → World Held → Type 0
+LoadsRootEntry gfn found h w = word_in h.state.sizes w area.Pool (pool_index h.topics.walk.root (entry_index gfn 4)) ≡ found
+
+-- It was so where the step was made.
+abbrev pub WalksAnewWhereMade : ℕ → ℕ → ℕ → Seat → Seat → Type 0
+WalksAnewWhereMade gfn found note before after = WherePartMade (part.WalkAnew gfn) note before after (λ w v. LoadsRootEntry gfn found before.hand w)

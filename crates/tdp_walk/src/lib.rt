@@ -7,4 +7,4 @@ mod sweep;
 mod walk;
 
 pub use sweep::{forbid_writes, sweep_entry, zap};
-pub use walk::{Walk, Walked};
+pub use walk::{Walk, Walked, walk_anew};

@@ -1,10 +1,11 @@
 ghost use Rattle.std.specs.Prelude.{◌≡◌, ◌<◌, ◌^◌, true, false};
 ghost use Rattle.mmu_core.specs.machine.MayMake.{MayMake};
+ghost use Rattle.part_steps.specs.declared.part_step.PartStep.TheVariants.{WalkAnew};
 ghost use Rattle.part_steps.specs.StayTopics.{may_walk};
 ghost use Rattle.step_seats.specs.Moves.{KeepsRoom};
-ghost use Rattle.step_seats.specs.PartTurns.{MakesPart};
+ghost use Rattle.step_seats.specs.PartTurns.{MadePart, MakesPart};
 ghost use Rattle.step_seats.specs.declared.turn.Turn.TheVariants.{More};
-ghost use Rattle.tdp_walk.specs.Walks.{FindsRoot, Looks, WasNextWord, walk_turns, walk_step};
+ghost use Rattle.tdp_walk.specs.Walks.{FindsRoot, Looks, WalksAnewWhereMade, WasNextWord, walk_turns, walk_step, walked_anew};
 
 use mmu_steps::part_rests;
 use part_steps::PartStep;
@@ -74,4 +75,20 @@ impl Walk {
             SpteKind::Frozen => Turn::Done(Walked::Frozen { level }),
         }
     }
+}
+
+/// Loads the entry of this guest frame (below 2^36) in the root's table, from which a walk that
+/// has come to its end begins anew, and answers it (tdp_iter.c, `tdp_iter_restart`): where the
+/// entry is a link it goes down. The root is loaded no second time, since the actor has the lock
+/// alone; it sweeps nothing. It never waits and takes no memory.
+pub fn walk_anew<S: Stepper>(s: &mut S, gfn: u64, note: u64) -> u64
+    requires may { MayMake (WalkAnew gfn) note (S.seat s.old).hand }
+    requires reserved { 0 < (S.seat s.old).room }
+    ensures step { MadePart (WalkAnew gfn) note result (S.seat s.old) (S.seat s.new) }
+    ensures walk { (S.seat s.new).hand.topics ≡ walked_anew gfn result (S.seat s.old).hand.topics }
+    ensures told { WalksAnewWhereMade gfn result note (S.seat s.old) (S.seat s.new) }
+    ensures room { KeepsRoom (S.seat s.old) (S.seat s.new) }
+    ensures same { ((S.seat s.new).actor ≡ (S.seat s.old).actor) × (S.frame s.new ≡ S.frame s.old) }
+{
+    make_part(s, PartStep::WalkAnew(gfn), note)
 }
