@@ -25,7 +25,7 @@ pub use access::{access_note, frame_used};
 pub use cached::lookup;
 pub use fault::entry_word;
 pub use host::{host_place, note as host_note, word_put, word_to_copy, word_to_store};
-pub use log::{log_place, log_step, note as log_note};
+pub use log::{log_frame, log_place, log_step, note as log_note};
 pub use parts::{allows, may_make, part_rests};
 pub use slot_change::{arm_step, change_place, note as change_note};
 pub use step::{advance, asks_flush, next_kind, next_step};

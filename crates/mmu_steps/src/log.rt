@@ -95,12 +95,12 @@ fn reads_last(begun: bool, slot: &Slot, command: &Command, topics: &Topics) -> b
     end.saturating_sub(1) <= word_read(begun, slot, command, topics)
 }
 
-// The guest frame of a page, counted from the first one for which it asks.
-fn frame_asked(slot: &Slot, command: &Command, page: u64) -> u64
-    requires { frame_asked slot.now command.now page < 2 ^ 64 }
-    ensures { result ≡ frame_asked slot.now command.now page }
+/// The guest frame of a page, counted from the first one for which it asks.
+pub fn log_frame(page: u64, hand: &Hand, command: &Command) -> u64
+    requires { frame_asked (slot_asked hand.now.core command.now) command.now page < 2 ^ 64 }
+    ensures { result ≡ frame_asked (slot_asked hand.now.core command.now) command.now page }
 {
-    slot.base + (command.first_asked() + page)
+    slot_asked(hand, command).base + (command.first_asked() + page)
 }
 
 // ---- its steps
@@ -134,8 +134,8 @@ pub fn log_step(place: LogPlace, hand: &Hand, command: &Command) -> PartStep
             }
         }
         LogPlace::Root => PartStep::Root,
-        LogPlace::Walk { page } => walk_part(&topics.walk, frame_asked(&slot, command, page)),
-        LogPlace::Protect { page } => PartStep::Protect(frame_asked(&slot, command, page)),
+        LogPlace::Walk { page } => walk_part(&topics.walk, log_frame(page, hand, command)),
+        LogPlace::Protect { page } => PartStep::Protect(log_frame(page, hand, command)),
         LogPlace::Release => PartStep::Release,
         LogPlace::Ask => PartStep::Ask(topics.flush.asked),
         LogPlace::Await => PartStep::Await(topics.flush.awaited),

@@ -1,0 +1,2 @@
+pub mod LogWords
+pub mod Places
