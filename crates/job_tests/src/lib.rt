@@ -1,5 +1,5 @@
-//! The tests of the jobs of lines: faults, accesses, slot lines and lines of host threads, at
-//! machines that a trace's text describes.
+//! The tests of the jobs of lines: faults, accesses, slot lines, lines that read a dirty log and lines
+//! of host threads, at machines that a trace's text describes.
 #![tactic(auto)]
 
 #[cfg(test)]
@@ -14,6 +14,8 @@ mod fast_tests;
 mod fault_tests;
 #[cfg(test)]
 mod host_line_tests;
+#[cfg(test)]
+mod log_line_tests;
 #[cfg(test)]
 mod move_line_tests;
 #[cfg(test)]

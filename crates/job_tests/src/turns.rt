@@ -3,6 +3,7 @@ ghost use Rattle.std.specs.Prelude.{IfSome};
 ghost use Rattle.job_tests.specs.Faults.{StandsIn};
 
 use core_views::{AccessPlace, Answer, Cause, Command, FaultPlace, Hand, Place};
+use dirty_log::LogJob;
 use fast_fault::{FastFaulted, FastJob};
 use fault_install::{FaultJob, Faulted};
 use host_events::HostJob;
@@ -42,6 +43,7 @@ fn line_turn<S: Stepper>(s: &mut S) -> Result<Option<Turn<Answer>>, Fail> {
         }
         Command::ChangeHost { .. } => HostJob { index }.turn(s),
         Command::SetSlot { .. } | Command::DeleteSlot { .. } => SlotJob { index }.turn(s),
+        Command::GetLog { .. } | Command::ClearLog { .. } => LogJob { index }.turn(s),
         _ => return Ok(None),
     };
     Ok(Some(told(said, s.hand())?))

@@ -1,14 +1,13 @@
 ghost use Rattle.std.specs.Prelude.{◌≡◌, ◌≢◌, ◌<◌, IfOk, OnErr, OnOk, Some, length, slice_get};
 ghost use Rattle.core_views.specs.declared.place.Place.TheVariants.{Between};
-ghost use Rattle.mmu_core.specs.machine.Worlds.{HandReached};
 ghost use Rattle.mmu_core.specs.machine.Turns.{IsAnswered, IsSameHand, line_of};
 ghost use Rattle.step_seats.specs.Moves.{KeepsRoom};
 ghost use Rattle.weave_engine.specs.Turns.{LineIsAlone, IsJobOf, RanAlone};
 ghost use Rattle.step_seats.specs.LineTurns.{Says, TurnsLine, answer_given, turn_told};
 
 use core_views::{Command, Hand, Line, NoMemory, Place};
+use dirty_log::LogJob;
 use host_events::HostJob;
-use mmu_core::rests;
 use slot_change::SlotJob;
 use step_seats::{Stepper, Turn};
 use vcpu_run::AccessJob;
@@ -19,13 +18,13 @@ pub enum LineJob {
     Access(AccessJob),
     SlotChange(SlotJob),
     Host(HostJob),
+    Log(LogJob),
 }
 
 impl LineJob {
     /// The work on the hand's next line.
     fn of(hand: &Hand) -> LineJob
         requires left { length hand.now.core.answers < length hand.now.core.lines }
-        requires reached { ∥ HandReached hand.now.core ∥₁ }
         ensures { IsJobOf result (line_of hand.now.core) (length hand.now.core.answers) }
     {
         let index = hand.answers().len();
@@ -40,10 +39,7 @@ impl LineJob {
             Command::SetSlot { .. } | Command::DeleteSlot { .. } | Command::SetLog { .. } => {
                 LineJob::SlotChange(SlotJob { index })
             }
-            Command::GetLog { .. } | Command::ClearLog { .. } => {
-                rests(hand);
-                unreachable!()
-            }
+            Command::GetLog { .. } | Command::ClearLog { .. } => LineJob::Log(LogJob { index }),
         }
     }
 
@@ -64,13 +60,14 @@ impl LineJob {
             LineJob::Access(job) => job.turn(s),
             LineJob::SlotChange(job) => job.turn(s),
             LineJob::Host(job) => job.turn(s),
+            LineJob::Log(job) => job.turn(s),
         }
     }
 }
 
 /// The job of the actor's next line, which begins now. It takes all the memory
-/// that the line needs, which is room for its answer, and changes no word and
-/// nothing that the hand holds, whatever it answers.
+/// that the line needs, which is room for its answer, and for the words that it may read of a
+/// dirty log, and changes no word and nothing that the hand holds, whatever it answers.
 pub fn start_line<S: Stepper>(s: &mut S) -> Result<LineJob, NoMemory>
     requires left { length (S.seat s.old).hand.answers < length (S.seat s.old).hand.lines }
     requires idle { (S.seat s.old).hand.state.place ≡ Between }
