@@ -22,7 +22,7 @@ use Rattle.mmu_core.specs.lines.Forms.{KnowsPart}
 use Rattle.mmu_core.specs.invariant.Laws.{IsSound}
 use Rattle.mmu_core.specs.machine.Machine.{Legal, May, Step, World, hand_in, run}
 use Rattle.mmu_core.specs.lines.PartWaits.{part_waits}
-use Rattle.mmu_core.specs.machine.Steps.{has_line}
+use Rattle.mmu_core.specs.machine.Steps.{has_line, place_at}
 use Rattle.mmu_laws.specs.causes.Waits.{SawNothing, StepWaitIsCaused}
 use Rattle.mmu_core.specs.machine.View.{view}
 use Rattle.mmu_core.proofs.invariant.PartBounded.{part_rests_at}
@@ -132,7 +132,7 @@ module _ (z : Sizes) (lines : List Line) (w : World Held) (ss ts : List (Step Ki
   Caused = BeginsAnew z u ts s ⊎ StepWaits z u ts s ⊎ MissesEntry z u ts s
 
   by : has_line h ≡ true → (hand_in mmu u s.actor).state.place ≡ place.Between
-      → (line_waits h.state.place (line_of h).command h v ≡ true) ⊎ (begins_anew h.state.place ≡ true) ⊎ StayMisses z u ts s → Caused
+      → (line_waits (place_at h.state.place h) (line_of h).command h v ≡ true) ⊎ (begins_anew h.state.place ≡ true) ⊎ StayMisses z u ts s → Caused
   by has idle (inl is) =
       let had = line_left_before z u ts s.actor good since.0 has in
       let N = between_lines_saw_nothing u s.actor (reached z lines w ss up_to) (subst (λ n. s.actor < n) (sym good.hands) there) had idle in

@@ -49,11 +49,8 @@ pub claims_seen : (p : Place) (command : Command) (h : Held) → RestsAt p comma
 claims_seen p command h R Pages is = (step_needs p command h part.Claim R is).1
 claims_seen p command h R Frames is = (step_needs p command h part.Frame R is).1
 
--- the place of a line that has yet to begin is no place of waiting
-at_its_place : (q : Place) (h : Held) (v : ℕ) → line_waits q (line_at q h).command h v ≡ true → RestsAt (place_at q h) (line_at q h).command h
-    → WaitsAs h (kind_of_task h.state.sizes (task_at (place_at q h) (line_at q h).command h)) v
-at_its_place place.Between h v is R = absurd (cc is)
-at_its_place q h v is R = waits_as q h.state.line.command h v R is
-
-pub line_waits_as : (h : Held) (k : Kind) (v : ℕ) → IsNext h k → line_waits h.state.place (line_at h.state.place h).command h v ≡ true → WaitsAs h k v
-line_waits_as h k v N is = subst (λ (x : Kind). WaitsAs h x v) (sym N.is) (at_its_place h.state.place h v is N.rests.at)
+-- The line stands where it has begun, or at its first place.
+pub line_waits_as : (h : Held) (k : Kind) (v : ℕ) → IsNext h k → line_waits (place_at h.state.place h) (line_at h.state.place h).command h v ≡ true
+    → WaitsAs h k v
+line_waits_as h k v N is =
+    subst (λ (x : Kind). WaitsAs h x v) (sym N.is) (waits_as (place_at h.state.place h) (line_at h.state.place h).command h v N.rests.at is)
