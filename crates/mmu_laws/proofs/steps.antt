@@ -1,6 +1,7 @@
 pub mod CanStep
 pub mod Decimals
 pub mod ExampleRun
+pub mod AwaitNotes
 pub mod Notes
 pub mod StepLaws
 pub mod KindLaws

@@ -1,3 +1,4 @@
+pub mod LineStages
 pub mod FlatInvariant
 pub mod Histories
 pub mod FlatLogs

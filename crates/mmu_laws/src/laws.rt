@@ -141,7 +141,9 @@ pub fn the_steps_can_be_made()
 /// area that its kind is for, and the note of a line's step says whether the line is
 /// answered with it, whatever the step finds; but a slot line's load of the last word of
 /// the pool's map, and a host line's of the map of frames, has note 1, and is its answer
-/// exactly where it finds 0. Who enters the
+/// exactly where it finds 0; and so has the look at the last virtual processor, of a line that
+/// takes pages out of a dirty log, and it is its answer exactly where this one has no flush to
+/// make (vcpu-requests.rst, `KVM_REQUEST_WAIT`). Who enters the
 /// guest with a flush asked for has nothing cached after that step; each other step
 /// leaves at most one more translation (vcpu-requests.rst, KVM_REQ_TLB_FLUSH). The host
 /// word that is put to allow writes or forbid them, to have its page in memory or not, or

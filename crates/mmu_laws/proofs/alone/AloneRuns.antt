@@ -29,6 +29,7 @@ use Rattle.mmu_core.specs.machine.Steps.{line_at, place_at, standing, task_at}
 use Rattle.mmu_core.specs.machine.Outcomes.{answers_after, place_after}
 use Rattle.mmu_core.specs.machine.Turns.{line_of, outcome_of}
 use Rattle.mmu_core.specs.machine.View.{View, answer_in, hand_after, view, word_in, words_after}
+use Rattle.mmu_laws.proofs.Forms.{slot_fits}
 use Rattle.mmu_laws.proofs.alone.AloneStep.{alone_step}
 use Rattle.mmu_laws.proofs.alone.GoesAlone.{GoesAlone, GoesOnAlone, topics_at}
 use Rattle.mmu_core.proofs.lines.Forms.{begins_without}
@@ -184,7 +185,8 @@ module _ (z : Sizes) (w : World Held) (s : Step Kind) (L : LineAlone z w s.actor
       let S = taken.is_step in
       alone_step z w a L.sound L.others L.there stood line.command S.begun (subst (λ c. IsCommandFor z c line.command) S.own S.allowed)
       (part_rests_at z (view z w) a L.sound.holds L.sound.topics L.there)
-      (step_leaves z (view z w) a line line.command stood S L.sound.holds) (is_next h s.kind may.enabled (has_line_is h L.left)).rests.at
+      (step_leaves z (view z w) a line line.command stood S L.sound.holds) (slot_fits z (view z w) a line stood S L.sound.holds)
+      (is_next h s.kind may.enabled (has_line_is h L.left)).rests.at
       (knows_at z (view z w) a L.sound.holds L.there L.left)
       (standing_alone h.state.place h.state.sizes h.slots line.command words h.topics L.knows)
 

@@ -53,6 +53,7 @@ use Rattle.mmu_core.proofs.machine.PartStepping.{behind_part}
 use Rattle.mmu_core.proofs.lines.StepIn.{topics_of_step}
 use Rattle.mmu_core.proofs.machine.GoesOn.{GoesUnderWay}
 use Rattle.mmu_laws.specs.turns.Removal.{WalksInstalled}
+use Rattle.mmu_laws.proofs.Forms.{SlotFits}
 use Rattle.mmu_laws.proofs.alone.GoesAlone.{GoesAlone, GoesOnAlone, topics_at}
 use Rattle.mmu_laws.proofs.alone.HostLines.{host_form}
 use Rattle.mmu_laws.proofs.alone.PartAlone.{part_goes_alone, seen_on}
@@ -177,9 +178,9 @@ module _ (z : Sizes) (w : World Held) (a : ℕ) (sound : IsSound z w) (others : 
         none_of (line_waits p command h v) (begins_anew p) (walks_again p && leaves_to_fault o) goes_alone (never_anew p command h words R L.form)
         (no_miss p command h words (walks_installed p command words h.topics L.form))
 
-    nearer : IsUnderWay p → IsCommandFor z h.state.actor command → PartRests h
+    nearer : IsUnderWay p → IsCommandFor z h.state.actor command → PartRests h → RetiresPart p h.topics → SlotFits p command h
         → Nearer o command h.state.sizes (topics_at p command h words) (steps_left p command h.state.sizes h.topics)
-    nearer begun may rests = place_nearer p command z h words begun may rests R K
+    nearer begun may rests left fits = place_nearer p command z h words begun may rests R K left fits
         (own_words z (view z w) a sound.topics there (sound.holds.lines a there).sizes (sound.holds.lines a there).index) no_delay
 
   -- ---- each line
@@ -198,9 +199,9 @@ module _ (z : Sizes) (w : World Held) (a : ℕ) (sound : IsSound z w) (others : 
       (simple_place p command h v tt).goes
 
   pub alone_step : (p : Place) (command : Command) → IsUnderWay p → IsCommandFor z h.state.actor command → PartRests h → RetiresPart p h.topics
-      → RestsAt p command h → KnowsPart p command h
+      → SlotFits p command h → RestsAt p command h → KnowsPart p command h
       → AloneKnows p command words h.topics → GoesOnAlone p command h words (topics_at p command h words)
-  alone_step p command begun may rests left R K L =
+  alone_step p command begun may rests left fits R K L =
       let v : ℕ = answer_in (task_at p command h) words in
       let o : Outcome = outcome_at p command h v in
       let after : Area → ℕ → ℕ = words_after (task_at p command h) words in
@@ -211,5 +212,5 @@ module _ (z : Sizes) (w : World Held) (a : ℕ) (sound : IsSound z w) (others : 
             (outcome_goes p command h v begun)
             (seen_after p command R K L (HasScan (place_after o)) (keeps_scan p command h v (claims_or_not p command h v R) K))
             (subst (FormNext o command after) (sym (topics_of_step p command h v R)) (form_after p command may rests left R K L))
-            (nearer p command R K L begun may rests) (starved_alone p command R K L);
+            (nearer p command R K L begun may rests left fits) (starved_alone p command R K L);
       }

@@ -153,7 +153,7 @@ module _ (z : Sizes) (v : View) (a : ℕ) (line : Line) (command : Command) (ran
       subst (λ (es : List Event). FlatLogs z behind (after_all es f)) (sym (told_later z v a line command p S refl)) (by next refl)
     where
       still : FlatLogs z behind f
-      still = logs_still z v a line command p refl small S I P G f F lines are L
+      still = logs_still z v a line command p refl small S I P G f F lines are L refl
 
       begins : next ≡ protects_next.Over → (c : Command) → command ≡ c → FlatLogs z behind (after_all (told h.state.actor (armed false c ++ [])) f)
       begins over (SetLog id true) same =

@@ -32,7 +32,7 @@ use Rattle.mmu_core.proofs.slots.SetFilled.{recorded_live, set_other, taken_othe
 use Rattle.log_invariant.specs.Covered.{IsCovered, IsLoggedIn, is_marked}
 use Rattle.log_invariant.proofs.LogRecords.{with_log}
 use Rattle.log_invariant.proofs.PublishedLogs.{log_begun, logged_recorded, recorded_logged}
-use Rattle.mmu_laws.specs.flat.FlatLogs.{FlatLogsOf, IsArmedIn, IsBeginning, IsDirtyIn}
+use Rattle.mmu_laws.specs.flat.FlatLogs.{FlatLogsOf, IsArmedIn, IsBeginning, IsCoveredOrTaken, IsDirtyIn}
 
 -- ---- what a line changes
 
@@ -118,8 +118,8 @@ module _ (z : Sizes) (n : ℕ) (log pool : ℕ → ℕ) (set page : ℕ) (hand b
     (C : ChangeOf slots command) (same : f.facts.slots ≡ slots) (R : RecordPart pool set slots) (N : RecordPart pool page (slots_after command slots))
     (A : AreSlots z pool set) (B : AreSlots z pool page) (L : FlatLogsOf n log pool set hand f)
     (begins : (j gfn : ℕ) → j < n → IsBeginning (behind j) gfn → BeginsThen hand slots command j gfn)
-    (covers : (gfn i : ℕ) (slot : SlotOf) → IsLoggedIn pool set i slot → contains gfn slot ≡ true → IsCovered n log (λ k. (hand k).topics) slot gfn
-    → IsCovered n log (λ k. (behind k).topics) slot gfn) where
+    (covers : (gfn i : ℕ) (slot : SlotOf) → IsLoggedIn pool set i slot → contains gfn slot ≡ true → IsCoveredOrTaken n log hand slot gfn
+    → IsCoveredOrTaken n log behind slot gfn) where
   -- flat memory after the change
   abbrev g : Flat
   g = after (record { actor = actor; kind = SlotChanged C.id C.slot }) f
@@ -254,7 +254,7 @@ module _ (z : Sizes) (n : ℕ) (log pool : ℕ → ℕ) (set page : ℕ) (hand b
             is_armed = or_left (C.id == C.id) (g.facts.armed C.id) (eq-eqb C.id C.id refl);
             logged = T.logged;
             has = has;
-            covered = covered gfn has;
+            covered = inl (covered gfn has);
           }
       by gfn false other is = let D = dirty_on gfn is in
           record {

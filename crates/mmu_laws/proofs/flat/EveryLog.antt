@@ -1,4 +1,4 @@
--- The dirty logs of flat memory after every list of steps.
+-- What every list of steps tells is lawful, and after it flat memory has its dirty logs: one induction, since what a line reads of a log is lawful by these.
 use Rattle.std.proofs.Common.{◌≡◌, ◌⊎◌, inl, inr, List, [], ◌∷◌, sym, subst, ap, ◌∙◌}
 use Rattle.core_views.specs.declared.event.Event.{Event}
 use Rattle.core_views.specs.declared.kind.Kind.{Kind}
@@ -7,6 +7,8 @@ use Rattle.core_views.specs.declared.trace.Line.{Line}
 use Rattle.core_views.specs.Events.{after_all}
 use Rattle.core_views.specs.Flat.{Flat, first_flat}
 use Rattle.core_views.specs.Held.{Held}
+use Rattle.core_views.specs.Lawful.{IsLawful}
+use Rattle.flat_laws.proofs.AloneIsLawful.{lawful_append}
 use Rattle.flat_laws.proofs.Caused.{AreCaused, all_caused, first_caused}
 use Rattle.flat_laws.proofs.Writes.{AreOfLines, all_of_lines, first_of_lines}
 use Rattle.spte_words.specs.declared.area.Area.TheVariants as area
@@ -27,21 +29,25 @@ use Rattle.log_invariant.proofs.LogRuns.{log_step}
 use Rattle.log_invariant.proofs.StartLogs.{start_logs}
 use Rattle.mmu_laws.specs.flat.FlatInvariant.{FlatInvariant}
 use Rattle.mmu_laws.specs.flat.FlatLogs.{FlatLogs, LogsAreFlat}
-use Rattle.mmu_laws.proofs.flat.EveryHistory.{after_append, part_keeps_flat, start_flat}
 use Rattle.mmu_laws.proofs.flat.FlatKept.{flat_kept, told_events, told_is_events}
+use Rattle.mmu_laws.proofs.flat.FlatRuns.{after_append, part_keeps_flat, start_flat}
 use Rattle.mmu_laws.proofs.flat.GivenLogs.{HasGiven, LogsGiven, given_kept, idle_given_kept}
 use Rattle.mmu_laws.proofs.flat.LogsKept.{ReadyLogs, logs_kept}
 use Rattle.mmu_laws.proofs.flat.LogsStill.{idle_logs_still}
+use Rattle.mmu_laws.proofs.flat.ReadingEnds.{reads_well_at}
+use Rattle.mmu_laws.proofs.flat.Readings.{HasReadAt, Readings}
+use Rattle.mmu_laws.proofs.flat.ReadingsKept.{idle_readings_kept, readings_kept}
 
 -- A sound world that stands for a flat state, with its dirty logs.
-record LogsHold (z : Sizes) (w : World Held) (f : Flat) : Type 0 where
-  sound : IsSound z w
-  covered : LogInvariant z (view z w)
-  given : LogsGiven z (view z w)
-  flat : FlatInvariant z (view z w) f
-  lines : AreOfLines f
-  caused : AreCaused f.facts f.past
-  logs : FlatLogs z (view z w) f
+pub record LogsHold (z : Sizes) (w : World Held) (f : Flat) : Type 0 where
+  pub sound : IsSound z w
+  pub covered : LogInvariant z (view z w)
+  pub given : LogsGiven z (view z w)
+  pub flat : FlatInvariant z (view z w) f
+  pub lines : AreOfLines f
+  pub caused : AreCaused f.facts f.past
+  pub logs : FlatLogs z (view z w) f
+  pub reads : Readings z (view z w) f
 
 ready : (z : Sizes) (w : World Held) (f : Flat) → LogsHold z w f → ReadyLogs z (view z w) f
 ready z w f H = record {
@@ -54,37 +60,38 @@ ready z w f H = record {
   lines = H.lines;
   caused = H.caused;
   logs = H.logs;
+  reads = H.reads;
 }
 
--- Each step that may be made keeps it, with what it tells.
-logs_step : (z : Sizes) (w : World Held) (f : Flat) (s : Step Kind) → LogsHold z w f → May mmu w s
-    → LogsHold z (effect mmu w s) (after_all (events_of (hand_in mmu w s.actor) (answered mmu w s.kind)) f)
-logs_step z w f s H may = by (takes z w s G may)
-  where
-    G : IsSound z w
-    G = H.sound
+-- These events are lawful, and leave it so.
+abbrev pub LeavesLogs : Sizes → World Held → Flat → List Event → Type 0
+LeavesLogs z w f es = IsLawful z f es × LogsHold z w (after_all es f)
 
-    h : Held
-    h = hand_in mmu w s.actor
+module _ (z : Sizes) (w : World Held) (f : Flat) (s : Step Kind) (H : LogsHold z w f) (sound : IsSound z (effect mmu w s))
+    (covered : LogInvariant z (view z (effect mmu w s))) where
+  abbrev h : Held
+  h = hand_in mmu w s.actor
 
-    sound : IsSound z (effect mmu w s)
-    sound = good_step z w s G may
+  abbrev Leaves : Type 0
+  Leaves = LeavesLogs z (effect mmu w s) f (events_of h (answered mmu w s.kind))
 
-    covered : LogInvariant z (view z (effect mmu w s))
-    covered = log_step z w s G H.covered may
-
-    by : Takes z w s h ⊎ TakesPart z w s h → LogsHold z (effect mmu w s) (after_all (events_of h (answered mmu w s.kind)) f)
-    by (inl T) =
-        let line : Line = line_at h.state.place h in
-        let p = place_at h.state.place h in
-        let es : List Event = told_events (view z w) s.actor line line.command p in
-        let is : events_of h (answered mmu w s.kind) ≡ es =
-        ap (events_of h) T.answers ∙ sym (told_is_events z (view z w) s.actor line p T.is_step) in
-        let K =
-        flat_kept z (view z w) f s.actor line line.command p T.is_step G.holds G.topics
-        (makes_at z (view z w) s.actor line line.command p (are_small z w G) T.is_step G.holds G.topics)
-        (step_knows z (view z w) s.actor line line.command p T.is_step G.holds) G.no_pause G.usable G.copied H.flat in
-        subst (λ (xs : List Event). LogsHold z (effect mmu w s) (after_all xs f)) (sym is) (record {
+  -- a step of a line
+  line_logs : Takes z w s h → Leaves
+  line_logs T =
+      let G = H.sound in
+      let line : Line = line_at h.state.place h in
+      let p = place_at h.state.place h in
+      let es : List Event = told_events (view z w) s.actor line line.command p in
+      let is : events_of h (answered mmu w s.kind) ≡ es =
+      ap (events_of h) T.answers ∙ sym (told_is_events z (view z w) s.actor line p T.is_step) in
+      let K =
+      flat_kept z (view z w) f s.actor line line.command p T.is_step G.holds G.topics
+      (makes_at z (view z w) s.actor line line.command p (are_small z w G) T.is_step G.holds G.topics)
+      (step_knows z (view z w) s.actor line line.command p T.is_step G.holds) G.no_pause G.usable G.copied
+      (reads_well_at z (view z w) f s.actor line line.command p T.is_step (ready z w f H)) H.flat in
+      subst (LeavesLogs z (effect mmu w s) f) (sym is) (
+        K.0,
+        record {
           sound = sound;
           covered = covered;
           given = subst (LogsGiven z) (sym T.leads) (given_kept z (view z w) s.actor line line.command p T.is_step G.holds H.given);
@@ -94,31 +101,61 @@ logs_step z w f s H may = by (takes z w s G may)
           logs = subst (λ (v : View). FlatLogs z v (after_all es f)) (sym T.leads)
               (logs_kept z (view z w) f s.actor line line.command p T.is_step (ready z w f H) (subst (Invariant z) T.leads sound.holds)
               (subst (LogInvariant z) T.leads covered));
-        })
-    by (inr T) =
-        subst (λ (xs : List Event). LogsHold z (effect mmu w s) (after_all xs f)) (sym (events_of_part h (answered mmu w s.kind) T.none_left)) (record {
+          reads = subst (λ (v : View). Readings z v (after_all es f)) (sym T.leads)
+              (readings_kept z (view z w) f s.actor line line.command p T.is_step (ready z w f H) (subst (Invariant z) T.leads sound.holds));
+        },
+      )
+
+  -- a step of an actor with no line left
+  part_logs : TakesPart z w s h → Leaves
+  part_logs T =
+      subst (LeavesLogs z (effect mmu w s) f) (sym (events_of_part h (answered mmu w s.kind) T.none_left)) (
+        tt,
+        record {
           sound = sound;
           covered = covered;
           given = subst (LogsGiven z) (sym T.leads) (idle_given_kept z (view z w) s.actor T.step T.note H.given);
           flat = subst (λ (v : View). FlatInvariant z v f) (sym T.leads)
-              (part_keeps_flat z (view z w) f s.actor T.step T.note T.is_part T.free T.none_left G.holds G.topics H.flat);
+              (part_keeps_flat z (view z w) f s.actor T.step T.note T.is_part T.free T.none_left H.sound.holds H.sound.topics H.flat);
           lines = H.lines;
           caused = H.caused;
           logs = subst (λ (v : View). FlatLogs z v f) (sym T.leads)
-              (idle_logs_still z (view z w) s.actor T.step T.note T.is_part T.free G.topics f H.logs);
-        })
+              (idle_logs_still z (view z w) s.actor T.step T.note T.is_part T.free H.sound.topics f H.logs);
+          reads = subst (λ (v : View). Readings z v f) (sym T.leads)
+              (idle_readings_kept z (view z w) s.actor T.step T.note T.free T.none_left H.sound.holds f H.reads);
+        },
+      )
 
--- So does any list of steps.
-run_logs : (z : Sizes) (w : World Held) (f : Flat) (ss : List (Step Kind)) → LogsHold z w f → Legal mmu w ss
-    → LogsHold z (run mmu w ss) (after_all (history w ss) f)
-run_logs z w f [] H legal = H
+-- Each step that may be made keeps it, with what it tells.
+logs_step : (z : Sizes) (w : World Held) (f : Flat) (s : Step Kind) → LogsHold z w f → May mmu w s
+    → LeavesLogs z (effect mmu w s) f (events_of (hand_in mmu w s.actor) (answered mmu w s.kind))
+logs_step z w f s H may = by (takes z w s H.sound may)
+  where
+    sound : IsSound z (effect mmu w s)
+    sound = good_step z w s H.sound may
+
+    covered : LogInvariant z (view z (effect mmu w s))
+    covered = log_step z w s H.sound H.covered may
+
+    by : Takes z w s (hand_in mmu w s.actor) ⊎ TakesPart z w s (hand_in mmu w s.actor)
+        → LeavesLogs z (effect mmu w s) f (events_of (hand_in mmu w s.actor) (answered mmu w s.kind))
+    by (inl T) = line_logs z w f s H sound covered T
+    by (inr T) = part_logs z w f s H sound covered T
+
+-- So does any list of steps, and what it tells is lawful.
+pub run_logs : (z : Sizes) (w : World Held) (f : Flat) (ss : List (Step Kind)) → LogsHold z w f → Legal mmu w ss
+    → LeavesLogs z (run mmu w ss) f (history w ss)
+run_logs z w f [] H legal = (tt, H)
 run_logs z w f (s ∷ ss) H legal =
     let es : List Event = events_of (hand_in mmu w s.actor) (answered mmu w s.kind) in
-    subst (LogsHold z (run mmu (effect mmu w s) ss)) (sym (after_append es (history (effect mmu w s) ss) f))
-    (run_logs z (effect mmu w s) (after_all es f) ss (logs_step z w f s H legal.0) legal.1)
+    let one = logs_step z w f s H legal.0 in
+    let rest = run_logs z (effect mmu w s) (after_all es f) ss one.1 legal.1 in (
+      lawful_append z es (history (effect mmu w s) ss) f one.0 rest.0,
+      subst (LogsHold z (run mmu (effect mmu w s) ss)) (sym (after_append es (history (effect mmu w s) ss) f)) rest.1,
+    )
 
 -- At the start no slot is there, and no log is kept.
-start_hold : (z : Sizes) (lines : List Line) (w : World Held) → IsStart z lines w → LogsHold z w first_flat
+pub start_hold : (z : Sizes) (lines : List Line) (w : World Held) → IsStart z lines w → LogsHold z w first_flat
 start_hold z lines w start = record {
   sound = start_good z lines w start;
   covered = start_logs z lines w start;
@@ -132,7 +169,9 @@ start_hold z lines w start = record {
     caused = λ gfn id slot logged has marked.
         let none = none_live z w (word_in z w area.Slots 0) id start.words in let live = logged.live.live in absurd (cc (none, live));
   };
+  reads = λ i lt. subst (λ (h : Held). HasReadAt h.state.place h.state.line.command h (word_in z w area.Log) first_flat.past)
+      (sym (hand_is z lines w i start lt)) tt;
 }
 
 pub every_log : LogsAreFlat
-every_log z lines w ss start legal = (run_logs z w first_flat ss (start_hold z lines w start) legal).logs
+every_log z lines w ss start legal = (run_logs z w first_flat ss (start_hold z lines w start) legal).1.logs

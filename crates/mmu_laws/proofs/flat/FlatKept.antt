@@ -37,6 +37,7 @@ use Rattle.mmu_core.specs.invariant.TopicsInvariant.{TopicsInvariant}
 use Rattle.mmu_core.specs.machine.View.{View, answer_in, hand_after, stepped, words_after}
 use Rattle.mmu_core.proofs.machine.Columns.{at_upd}
 use Rattle.mmu_laws.proofs.flat.FlatSteps.{Ready, StepGoes, UnderAt}
+use Rattle.mmu_laws.proofs.flat.LogAnswers.{ReadsWell}
 use Rattle.mmu_laws.proofs.Forms.{first_at, step_goes}
 use Rattle.mmu_core.proofs.machine.Which.{events_of_line, has_line_is}
 use Rattle.mmu_core.proofs.invariant.Kept.{MakesAt}
@@ -56,6 +57,10 @@ told_kinds v a line command p =
 -- what a step tells
 abbrev pub told_events : View → ℕ → Line → Command → Place → List Event
 told_events v a line command p = told (v.hand a).state.actor (beginning (v.hand a).state.place line ++ told_kinds v a line command p)
+
+-- What the step reads of a log it may read, from this flat state.
+abbrev pub ReadsWellOf : View → ℕ → Command → Place → Flat → Type 0
+ReadsWellOf v a command p f = ReadsWell p (v.hand a).state.actor command (v.hand a) (answer_in (task_at p command (v.hand a)) v.words) f.facts f.past
 
 -- the events are lawful, and the words and hands after the step are flat memory after them
 abbrev Meets : Sizes → View → Flat → ℕ → Line → Command → Place → List Event → Type 0
@@ -100,10 +105,10 @@ same_actor _ _ h x = refl
 
 -- Behind the begin of its line a step meets flat memory.
 meets_begun : (z : Sizes) (v : View) (f : Flat) (a : ℕ) (line : Line) (command : Command) (p : Place) → IsStep z v a line command p → Invariant z v
-    → TopicsInvariant z v → MakesAt z v a p command → KnowsPart p command (v.hand a) → UsableAt z v → CopiedAt z v
+    → TopicsInvariant z v → MakesAt z v a p command → KnowsPart p command (v.hand a) → UsableAt z v → CopiedAt z v → ReadsWellOf v a command p f
     → Ready z v line command p (v.hand a).topics f.facts (f.under (v.hand a).state.actor) → Others z v a f
     → Meets z v f a line command p (told (v.hand a).state.actor (told_kinds v a line command p))
-meets_begun z v f a line command p S I P part K U C R others = (
+meets_begun z v f a line command p S I P part K U C W R others = (
   told_lawful z s.actor kinds f G.allowed,
   record {
     refines =
@@ -134,7 +139,7 @@ meets_begun z v f a line command p S I P part K U C R others = (
     then_ = hand_after line command p (v.hand a) x
 
     G : StepGoes z v a line command p f.facts f.past (f.under s.actor)
-    G = step_goes z v a line command p f (f.under s.actor) S I P part K U C R
+    G = step_goes z v a line command p f (f.under s.actor) S I P part K U C W R
 
     here : UnderIs z (words area.Pool) then_.state.place then_.state.line.command then_ (behind.under then_.state.actor)
     here =
@@ -219,9 +224,10 @@ ready_on z v f a line command p S F no_pause stands = record {
 
 pub flat_kept : (z : Sizes) (v : View) (f : Flat) (a : ℕ) (line : Line) (command : Command) (p : Place)
     → IsStep z v a line command p → Invariant z v → TopicsInvariant z v → MakesAt z v a p command → KnowsPart p command (v.hand a) → v.words area.Pause 0 ≡ 0
-    → UsableAt z v → CopiedAt z v → FlatInvariant z v f
+    → UsableAt z v → CopiedAt z v → ReadsWellOf v a command p (after_all (told (v.hand a).state.actor (beginning (v.hand a).state.place line)) f)
+    → FlatInvariant z v f
     → IsLawful z f (told_events v a line command p) × FlatInvariant z (stepped a line command p v) (after_all (told_events v a line command p) f)
-flat_kept z v f a line command p S I P part K no_pause U C F = case (v.hand a).state.place refl
+flat_kept z v f a line command p S I P part K no_pause U C well F = case (v.hand a).state.place refl well
   where
     actor : Actor
     actor = (v.hand a).state.actor
@@ -234,17 +240,17 @@ flat_kept z v f a line command p S I P part K no_pause U C F = case (v.hand a).s
         subst (UnderIs z (v.words area.Pool) (v.hand i).state.place (v.hand i).state.line.command (v.hand i))
         (sym (told_others actor (v.hand i).state.actor (Begun line ∷ []) f (other_actor z v a i I S.there i_in apart))) (F.under i i_in)
 
-    on : IsUnderWay (v.hand a).state.place → Meets z v f a line command p (told actor (told_kinds v a line command p))
-    on stands = meets_begun z v f a line command p S I P part K U C (ready_on z v f a line command p S F no_pause stands) (λ i i_in apart. F.under i i_in)
+    on : ReadsWellOf v a command p f → IsUnderWay (v.hand a).state.place → Meets z v f a line command p (told actor (told_kinds v a line command p))
+    on W stands = meets_begun z v f a line command p S I P part K U C W (ready_on z v f a line command p S F no_pause stands) (λ i i_in apart. F.under i i_in)
 
-    case : (q : Place) → (v.hand a).state.place ≡ q
+    case : (q : Place) → (v.hand a).state.place ≡ q → ReadsWellOf v a command p (after_all (told actor (beginning q line)) f)
         → Meets z v f a line command p (told (v.hand a).state.actor (beginning q line ++ told_kinds v a line command p))
-    case place.Between e =
+    case place.Between e W =
         let idle : (f.under actor).stage ≡ Idle =
         subst (λ q. UnderIs z (v.words area.Pool) q (v.hand a).state.line.command (v.hand a) (f.under actor)) e (F.under a S.there) in
-        let rest = meets_begun z v begun a line command p S I P part K U C (ready_first z v f a line command p S F no_pause e) others in
+        let rest = meets_begun z v begun a line command p S I P part K U C W (ready_first z v f a line command p S F no_pause e) others in
         (((idle, S.own), rest.0), rest.1)
-    case _ e = on (subst IsUnderWay (sym e) tt)
+    case _ e W = on W (subst IsUnderWay (sym e) tt)
 
 -- A step tells what its hand's next step tells.
 pub told_is_events : (z : Sizes) (v : View) (a : ℕ) (line : Line) (p : Place) → IsStep z v a line line.command p

@@ -2,6 +2,7 @@
 use Rattle.std.proofs.Common.{◌≡◌, ◌++◌, ℕ, refl}
 use Rattle.std.specs.Prelude.{false}
 use Rattle.core_views.specs.declared.place.AccessPlace.TheVariants as access
+use Rattle.core_views.specs.declared.place.LogPlace.TheVariants.{Await}
 use Rattle.core_views.specs.declared.place.Place.{Place}
 use Rattle.core_views.specs.declared.place.Place.TheVariants as place
 use Rattle.core_views.specs.declared.place.SlotChangePlace.TheVariants as change
@@ -23,7 +24,6 @@ use Rattle.mmu_core.specs.machine.Outcomes.{answering}
 use Rattle.mmu_core.specs.machine.Steps.{beginning, task_at}
 use Rattle.mmu_core.specs.machine.View.{View, answer_in, stepped}
 use Rattle.mmu_core.proofs.lines.AccessParts.{AreSmall}
-use Rattle.mmu_core.proofs.lines.LogMakes.{none_reads}
 use Rattle.mmu_core.proofs.machine.Stepping.{IsStep}
 use Rattle.log_invariant.specs.LogInvariant.{LogInvariant}
 use Rattle.log_invariant.proofs.StepPlaces.{publishes}
@@ -32,9 +32,12 @@ use Rattle.mmu_laws.specs.flat.FlatLogs.{FlatLogs}
 use Rattle.mmu_laws.proofs.flat.AwaitLogs.{await_logs}
 use Rattle.mmu_laws.proofs.flat.FlatKept.{told_events, told_kinds}
 use Rattle.mmu_laws.proofs.flat.GivenLogs.{LogsGiven}
+use Rattle.mmu_laws.proofs.flat.HarvestLogs.{harvest_logs}
 use Rattle.mmu_laws.proofs.flat.LogsStill.{logs_still}
 use Rattle.mmu_laws.proofs.flat.PublishLogs.{publish_logs}
 use Rattle.mmu_laws.proofs.flat.QuietKinds.{answers_quiet, begins_quiet, quiet_append, quiet_told, tells_of_logs, tells_quiet}
+use Rattle.mmu_laws.proofs.flat.Readings.{Readings}
+use Rattle.mmu_laws.proofs.flat.TakenStays.{ends_taking}
 use Rattle.mmu_laws.proofs.flat.TouchLogs.{touch_logs}
 
 -- What holds of a view and its flat state before a step.
@@ -48,6 +51,7 @@ pub record ReadyLogs (z : Sizes) (v : View) (f : Flat) : Type 0 where
   pub lines : AreOfLines f
   pub caused : AreCaused f.facts f.past
   pub logs : FlatLogs z v f
+  pub reads : Readings z v f
 
 -- the logs after the step
 abbrev pub KeptLogs : Sizes → View → Flat → ℕ → Line → Command → Place → Type 0
@@ -55,8 +59,8 @@ KeptLogs z v f a line command p = FlatLogs z (stepped a line command p v) (after
 
 -- A step that tells nothing of logs.
 quiet_logs : (z : Sizes) (v : View) (f : Flat) (a : ℕ) (line : Line) (command : Command) (p : Place) → IsStep z v a line command p → ReadyLogs z v f
-    → tells_of_logs p ≡ false → publishes p ≡ false → KeptLogs z v f a line command p
-quiet_logs z v f a line command p S R quiet never =
+    → tells_of_logs p ≡ false → publishes p ≡ false → ends_taking p ≡ false → KeptLogs z v f a line command p
+quiet_logs z v f a line command p S R quiet never on =
     let x : ℕ = answer_in (task_at p command (v.hand a)) v.words in
     let behind : View = stepped a line command p v in
     quiet_told (actors_of z) (behind.words area.Log) (behind.words area.Pool) (behind.words area.Slots 0) behind.hand (v.hand a).state.actor
@@ -64,7 +68,7 @@ quiet_logs z v f a line command p S R quiet never =
     (quiet_append (beginning (v.hand a).state.place line) (told_kinds v a line command p) (begins_quiet (v.hand a).state.place line)
     (quiet_append (tells_at p command (v.hand a) x) (answering (outcome_at p command (v.hand a) x) line) (tells_quiet p command (v.hand a) x quiet)
     (answers_quiet (outcome_at p command (v.hand a) x) line)))
-    (logs_still z v a line command p never R.small S R.holds R.topics R.covered f R.flat R.lines R.caused R.logs)
+    (logs_still z v a line command p never R.small S R.holds R.topics R.covered f R.flat R.lines R.caused R.logs on)
 
 touch_kept : (z : Sizes) (v : View) (f : Flat) (a : ℕ) (line : Line) (command : Command) → IsStep z v a line command (place.Access access.Touch)
     → ReadyLogs z v f → KeptLogs z v f a line command (place.Access access.Touch)
@@ -80,5 +84,6 @@ logs_kept z v f a line command (place.SlotChange change.Publish) S R kept covere
     publish_logs z v a line command R.small S R.holds R.topics R.covered f kept covered R.flat R.logs
 logs_kept z v f a line command (place.SlotChange (change.WriteProtect range protect.Await)) S R kept covered =
     await_logs z v a line command range R.small S R.holds R.topics R.covered R.given f R.flat R.lines R.caused R.logs
-logs_kept z v f a line command (place.Log p) S R kept covered = none_reads z v a line p command S R.holds
-logs_kept z v f a line command p S R kept covered = quiet_logs z v f a line command p S R refl refl
+logs_kept z v f a line command (place.Log Await) S R kept covered =
+    harvest_logs z v a line command R.small S R.holds R.topics R.covered f R.flat R.lines R.caused R.logs R.reads
+logs_kept z v f a line command p S R kept covered = quiet_logs z v f a line command p S R refl refl refl

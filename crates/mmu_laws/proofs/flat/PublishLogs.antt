@@ -47,15 +47,15 @@ use Rattle.log_invariant.specs.Covered.{IsCovered, IsLoggedIn, is_marked}
 use Rattle.log_invariant.specs.LogBegins.{LogIsUnwatched}
 use Rattle.log_invariant.specs.LogInvariant.{LogInvariant, HasArmedWordsAt}
 use Rattle.log_invariant.proofs.ArmBits.{word_of_page}
-use Rattle.log_invariant.proofs.CoveredKept.{covered_kept}
 use Rattle.log_invariant.proofs.LogRecords.{ArmedAt, armed_at}
 use Rattle.log_invariant.proofs.PublishedLogs.{armed_stays, logged_recorded, recorded_logged}
 use Rattle.log_invariant.proofs.WordsApart.{live_aligned}
 use Rattle.mmu_laws.specs.flat.FlatInvariant.{FlatInvariant}
-use Rattle.mmu_laws.specs.flat.FlatLogs.{FlatLogs, IsArmedIn, IsBeginning}
+use Rattle.mmu_laws.specs.flat.FlatLogs.{FlatLogs, IsArmedIn, IsBeginning, IsCoveredOrTaken}
 use Rattle.mmu_laws.proofs.flat.BeginningsKept.{StandsAt, beginning_is, stands_at, told_later}
 use Rattle.mmu_laws.proofs.flat.ChangedSlots.{BeginsThen, ChangeOf, change_of, changed_logs, set_logs}
 use Rattle.mmu_laws.proofs.flat.FlatKept.{told_events, told_kinds}
+use Rattle.mmu_laws.proofs.flat.TakenStays.{cover_stays, taken_stays}
 use Rattle.mmu_laws.proofs.flat.Told.{told}
 
 -- A line that begins the log of a slot gives it.
@@ -120,8 +120,9 @@ module _ (z : Sizes) (v : View) (a : ℕ) (line : Line) (command : Command) (sma
       own (inr f) = absurd f
 
   covers : (gfn i : ℕ) (slot : SlotOf) → IsLoggedIn pool set i slot → contains gfn slot ≡ true
-      → IsCovered (actors_of z) log (λ k. (v.hand k).topics) slot gfn → IsCovered (actors_of z) log (λ k. (behind.hand k).topics) slot gfn
-  covers gfn i slot M has covered = covered_kept z v a line command p small S I P G i gfn slot M has covered
+      → IsCoveredOrTaken (actors_of z) log v.hand slot gfn → IsCoveredOrTaken (actors_of z) log behind.hand slot gfn
+  covers gfn i slot M has covered =
+      cover_stays z v a line command p S gfn small I P G i slot M has (taken_stays z v a line command p S gfn refl) covered
 
   -- ---- where no page is dirty as a log begins, no bit of it is set
 

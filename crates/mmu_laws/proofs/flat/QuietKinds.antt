@@ -1,9 +1,12 @@
 -- Events that say nothing of dirty logs: which steps tell no others, and that they leave what flat memory keeps of logs.
 use Rattle.core_views.specs.declared.place.LogPlace.{LogPlace}
 use Rattle.core_views.specs.declared.place.LogPlace.TheVariants as log
-use Rattle.mmu_core.specs.lines.LogTells.{log_tells}
+use Rattle.core_views.specs.declared.trace.Slot.{Slot as SlotOf}
+use Rattle.core_views.specs.LogCommands.{log_read}
+use Rattle.mmu_core.specs.lines.LogSteps.{frames_read, read_more, reads_last, slot_asked}
+use Rattle.mmu_core.specs.lines.LogTells.{log_tells, shown, taken}
 use Rattle.std.proofs.Common.{◌≡◌, ℕ, List, [], ◌∷◌, ◌++◌}
-use Rattle.std.specs.Prelude.{◌==◌, Bool, true, false, if◌then◌else◌}
+use Rattle.std.specs.Prelude.{◌==◌, Bool, true, false, if◌then◌else◌, Option, Some, None}
 use Rattle.core_views.specs.declared.actor.Actor.{Actor}
 use Rattle.core_views.specs.declared.event.EventKind.{EventKind}
 use Rattle.core_views.specs.declared.event.EventKind.TheVariants.{Accessed, Armed, Begun, BroughtIn, Harvested, HostChanged, LookedAtHost}
@@ -61,13 +64,11 @@ quiet_append (kind ∷ kinds) more are rest = (are.0, quiet_append kinds more ar
 -- ---- what a step tells
 
 -- A step at such a place may tell an event that isn't quiet: an access, a change of a slot, that a log begins, or what is
--- read of it.
+-- taken out of it.
 abbrev pub tells_of_logs : Place → Bool
 tells_of_logs (place.Access Touch) = true
 tells_of_logs (place.SlotChange change.Publish) = true
-tells_of_logs (place.Log log.Exclude) = true
 tells_of_logs (place.Log log.Await) = true
-tells_of_logs (place.Log (log.Peek begun)) = true
 tells_of_logs (place.SlotChange (change.WriteProtect range protect.Await)) = true
 tells_of_logs _ = false
 
@@ -108,10 +109,24 @@ host_quiet host_at.Change page change h v =
     either_place AreQuiet (v == word_looked h.topics.host) (HostChanged page (entry_of (word_put change h.topics)) ∷ []) [] (tt, tt) tt
 host_quiet _ page change h v = tt
 
+taken_quiet : (o : Option ℕ) → AreQuiet (taken o)
+taken_quiet None = tt
+taken_quiet (Some id) = (tt, tt)
+
+shown_quiet : (o : Option ℕ) (frames : List ℕ) → AreQuiet (shown o frames)
+shown_quiet None frames = tt
+shown_quiet (Some id) frames = (tt, tt)
+
 log_quiet : (p : LogPlace) (command : Command) (h : Held) (v : ℕ) → tells_of_logs (place.Log p) ≡ false → AreQuiet (log_tells p command h v)
-log_quiet log.Exclude command h v quiet = absurd (cc quiet)
+log_quiet log.Exclude command h v quiet = either_place AreQuiet (v == 0) (taken (log_read command)) [] (taken_quiet (log_read command)) tt
 log_quiet log.Await command h v quiet = absurd (cc quiet)
-log_quiet (log.Peek begun) command h v quiet = absurd (cc quiet)
+log_quiet (log.Peek begun) command h v quiet =
+    let slot : SlotOf = slot_asked h command in
+    let last : Bool = reads_last begun slot command h.topics in
+    let end : List EventKind = shown (log_read command) (frames_read slot command (read_more begun slot command h v)) in
+    quiet_append (if begun then [] else taken (log_read command)) (if last then end else [])
+    (either_place AreQuiet begun [] (taken (log_read command)) tt (taken_quiet (log_read command)))
+    (either_place AreQuiet last end [] (shown_quiet (log_read command) _) tt)
 log_quiet _ command h v quiet = tt
 
 pub tells_quiet : (p : Place) (command : Command) (h : Held) (v : ℕ) → tells_of_logs p ≡ false → AreQuiet (tells_at p command h v)

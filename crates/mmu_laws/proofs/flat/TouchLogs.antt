@@ -13,6 +13,7 @@ use Rattle.core_views.specs.declared.place.Place.TheVariants as place
 use Rattle.core_views.specs.declared.place.SlotChangePlace.TheVariants as change
 use Rattle.core_views.specs.declared.sizes.Sizes.{Sizes}
 use Rattle.core_views.specs.declared.slot_set.MemorySlot.{MemorySlot}
+use Rattle.core_views.specs.declared.trace.Command.{Command}
 use Rattle.core_views.specs.declared.trace.Command.TheVariants.{Access}
 use Rattle.core_views.specs.declared.trace.Line.{Line}
 use Rattle.core_views.specs.declared.trace.Op.{Op}
@@ -41,13 +42,16 @@ use Rattle.mmu_core.proofs.lines.KnowsKept.{step_knows}
 use Rattle.mmu_core.proofs.lines.UsedTranslations.{uses_allows}
 use Rattle.mmu_core.proofs.machine.Stepping.{IsStep}
 use Rattle.log_invariant.specs.Covered.{IsCovered}
-use Rattle.log_invariant.specs.LogBegins.{FlushesLaterAt, ExcusesCached}
+use Rattle.log_invariant.specs.Excuses.{FlushesLaterAt, ExcusesCached}
 use Rattle.log_invariant.specs.LogInvariant.{IsGuardedIn, LogInvariant}
+use Rattle.log_invariant.specs.LogReads.{IsTakenAt}
 use Rattle.mmu_laws.specs.flat.FlatInvariant.{FlatInvariant}
-use Rattle.mmu_laws.specs.flat.FlatLogs.{FlatLogs, FlatLogsOf, ForbidsAt, IsArmedIn, IsBeginning, IsDirtyIn}
+use Rattle.mmu_laws.specs.flat.FlatLogs.{FlatLogs, FlatLogsOf, ForbidsAt, IsArmedIn, IsBeginning, IsCoveredOrTaken, IsDirtyIn}
+use Rattle.mmu_laws.specs.flat.ArmedSlots.{FlushesTakenAt}
 use Rattle.mmu_laws.proofs.flat.BeginningsKept.{told_later}
 use Rattle.mmu_laws.proofs.flat.FlatKept.{told_events}
 use Rattle.mmu_laws.proofs.flat.LogsStill.{dirty_still, logs_still}
+use Rattle.mmu_laws.proofs.flat.TakenStays.{taken_stays}
 
 -- ---- the event
 
@@ -110,14 +114,27 @@ armed_holding n log pool set hand f gfn L same is = by (slot_holding gfn (memory
 
 -- ---- the translation that is used
 
--- Who may use what it has cached for a line is to begin the log, or forbids writes to the frame.
-flush_forbids : (p : Place) (h : Held) (v state gfn : ℕ) → FlushesLaterAt p h v state gfn → ForbidsAt p gfn
-flush_forbids (place.SlotChange (change.WriteProtect range p)) h v state gfn F = F.0
-flush_forbids _ h v state gfn F = absurd F
+-- Who may use what it has cached for a line is to begin the log, or has taken the frame out of it and is yet to see the flush.
+abbrev FlushesTaken : Held → ℕ → ℕ → ℕ → Type 0
+FlushesTaken h v state gfn = FlushesTakenAt h.state.place h.state.line.command h v state gfn
 
-pub use_begins : (v state : ℕ) (h : Held) (gfn : ℕ) → ExcusesCached v state h gfn → IsBeginning h gfn
-use_begins v state h gfn (inl opens) = inl opens
-use_begins v state h gfn (inr later) = inr (flush_forbids h.state.place h v state gfn later)
+flush_forbids : (p : Place) (command : Command) (h : Held) (v state gfn : ℕ) → FlushesLaterAt p command h v state gfn
+    → ForbidsAt p gfn ⊎ FlushesTakenAt p command h v state gfn
+flush_forbids (place.SlotChange (change.WriteProtect range p)) command h v state gfn F = inl F.0
+flush_forbids (place.Log p) command h v state gfn F = inr F
+flush_forbids _ command h v state gfn F = absurd F
+
+pub use_begins : (v state : ℕ) (h : Held) (gfn : ℕ) → ExcusesCached v state h gfn → IsBeginning h gfn ⊎ FlushesTaken h v state gfn
+use_begins v state h gfn (inl opens) = inl (inl opens)
+use_begins v state h gfn (inr later) = by (flush_forbids h.state.place h.state.line.command h v state gfn later)
+  where
+    by : ForbidsAt h.state.place gfn ⊎ FlushesTaken h v state gfn → IsBeginning h gfn ⊎ FlushesTaken h v state gfn
+    by (inl forbids) = inl (inr forbids)
+    by (inr taken) = inr taken
+
+flushes_taken : (p : Place) (command : Command) (h : Held) (v state gfn : ℕ) → FlushesTakenAt p command h v state gfn → IsTakenAt p command h gfn
+flushes_taken (place.Log p) command h v state gfn F = F.0
+flushes_taken _ command h v state gfn F = absurd F
 
 second : (write writes : Bool) → (not write || writes) ≡ true → write ≡ true → writes ≡ true
 second true writes allows is = allows
@@ -175,9 +192,15 @@ module _ (z : Sizes) (v : View) (a : ℕ) (line : Line) (gfn word : ℕ) (op : O
 
       by : IsCovered (actors_of z) (v.words area.Log) (λ i. (v.hand i).topics) A.is.slot gfn
           ⊎ ((j : ℕ) × (j < actors_of z) × ExcusesCached a (v.words area.State a) (v.hand j) gfn)
-          → IsCovered (actors_of z) (v.words area.Log) (λ i. (v.hand i).topics) A.is.slot gfn
-      by (inl covered) = covered
-      by (inr (j, lt, may)) = absurd (A.is.begun j gfn lt A.holds (use_begins a (v.words area.State a) (v.hand j) gfn may))
+          → IsCoveredOrTaken (actors_of z) (v.words area.Log) v.hand A.is.slot gfn
+      by (inl covered) = inl covered
+      by (inr (j, lt, may)) = excused (use_begins a (v.words area.State a) (v.hand j) gfn may)
+        where
+          excused : IsBeginning (v.hand j) gfn ⊎ FlushesTaken (v.hand j) a (v.words area.State a) gfn
+              → IsCoveredOrTaken (actors_of z) (v.words area.Log) v.hand A.is.slot gfn
+          excused (inl begins) = absurd (A.is.begun j gfn lt A.holds begins)
+          excused (inr taken) =
+              inr (j, lt, flushes_taken (v.hand j).state.place (v.hand j).state.line.command (v.hand j) a (v.words area.State a) gfn taken)
 
   -- So is it after the touch.
   pub touch_logs : (f : Flat) → AreSmall v → TopicsInvariant z v → FlatInvariant z v f → AreOfLines f → AreCaused f.facts f.past → FlatLogs z v f
@@ -187,9 +210,10 @@ module _ (z : Sizes) (v : View) (a : ℕ) (line : Line) (gfn word : ℕ) (op : O
       subst (λ (es : List Event). FlatLogs z behind (after_all es f))
       (sym (told_later z v a line (Access gfn word op) (place.Access access.Touch) S refl))
       (accessed_logs (actors_of z) (behind.words area.Log) (behind.words area.Pool) (behind.words area.Slots 0) behind.hand f
-      (logs_still z v a line (Access gfn word op) (place.Access access.Touch) refl small S I P G f F lines are L)
+      (logs_still z v a line (Access gfn word op) (place.Access access.Touch) refl small S I P G f F lines are L refl)
       h.state.actor gfn word op _ _ (λ armed writes.
-      dirty_still z v a line (Access gfn word op) (place.Access access.Touch) refl small S I P G f.facts.armed gfn (touched_dirty f F L armed writes)))
+      dirty_still z v a line (Access gfn word op) (place.Access access.Touch) refl small S I P G f.facts.armed gfn
+      (taken_stays z v a line (Access gfn word op) (place.Access access.Touch) S gfn refl) (touched_dirty f F L armed writes)))
     where
       behind : View
       behind = stepped a line (Access gfn word op) (place.Access access.Touch) v

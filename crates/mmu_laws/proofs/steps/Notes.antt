@@ -1,11 +1,11 @@
--- The note of a step tells whether its line ends with it; but that of the load of a map's last word, with which a claim may end.
+-- The note of a step tells whether its line ends with it; but that of the load of a map's last word, with which a claim may end, and that of the look at the
+-- last virtual processor, with which a line may end that reads a dirty log.
 use Rattle.std.proofs.Common.{◌≡◌, ◌∙◌, ◌≢◌, ◌⊎◌, inl, inr, ◌<◌, ◌≤◌, ℕ, refl, sym, ap, arith, subst}
 use Rattle.std.specs.Prelude.{Bool, true, false, ◌+◌, ◌==◌, if◌then◌else◌, Option, Some, None, is_some}
 use Rattle.std.proofs.lemmas.Bool.Decides.{nat_tests}
-use Rattle.core_views.specs.declared.actor.Actor.{Actor}
-use Rattle.core_views.specs.Traces.{IsCommandFor}
 use Rattle.core_views.specs.declared.kind.Kind.{Kind}
 use Rattle.core_views.specs.declared.kind.StepKind.TheVariants as kind
+use Rattle.core_views.specs.declared.place.LogPlace.TheVariants.{Await}
 use Rattle.core_views.specs.declared.place.Place.{Place}
 use Rattle.core_views.specs.declared.place.Place.TheVariants as place
 use Rattle.core_views.specs.declared.sizes.Sizes.{Sizes}
@@ -31,18 +31,18 @@ use Rattle.mmu_core.specs.lines.Forms.{note_at, part_at, RestsAt, outcome_at}
 use Rattle.mmu_core.specs.lines.PartAt.{touch_at}
 use Rattle.mmu_core.specs.lines.ScanPlaces.{claim_at, ends_with_claim}
 use Rattle.mmu_core.specs.machine.Enabled.{Enabled}
-use Rattle.mmu_core.specs.machine.Steps.{has_line, line_at, place_at, task_at}
+use Rattle.mmu_core.specs.machine.Steps.{has_line, place_at, task_at}
 use Rattle.mmu_core.specs.machine.Turns.{line_of, outcome_of}
 use Rattle.mmu_core.proofs.machine.ColumnsTell.{some_is}
 use Rattle.mmu_core.proofs.invariant.QuietKept.{touched}
 use Rattle.mmu_core.proofs.lines.ByStep.{step_needs}
-use Rattle.mmu_core.proofs.lines.Forms.{reads_none}
 use Rattle.mmu_core.proofs.lines.ClaimMade.{ClaimMade, claim_made}
 use Rattle.mmu_core.proofs.lines.ClaimMade as made
 use Rattle.mmu_core.proofs.lines.ClaimPlaces.{claims_or_not}
 use Rattle.mmu_core.proofs.lines.LineClaims.{Claims, ClaimsNot, HasNote, MayEnd, ends_after, note_by, one_claim}
 use Rattle.mmu_core.proofs.machine.Which.{is_next}
-use Rattle.mmu_laws.specs.steps.StepLaws.{LoadsLastWord, NoteTells}
+use Rattle.mmu_laws.specs.steps.StepLaws.{AwaitsLast, LoadsLastWord, NoteTells}
+use Rattle.mmu_laws.proofs.steps.AwaitNotes.{await_tells, awaits_or_not, awaits_without, may_end_awaits}
 use Rattle.mmu_laws.proofs.steps.StepLaws.{tells_part, tells_touch}
 
 -- ---- the map of a claim
@@ -89,6 +89,10 @@ module _ (p : Place) (map : FreeMap) (may_end : ends_with_claim map p ≡ true) 
   abbrev Tells : PartStep → Bool → Type 0
   Tells step last = NoteTells p z (kind_for step (if last then 1 else 0)) o v
 
+  -- Where it may end with its claim, it awaits nobody.
+  awaits_none : (k : Kind) → AwaitsLast p z k → ⊥
+  awaits_none k A = let none = ap (claim_at map) A.at ∙ awaits_without map in cc (none, at)
+
   noted : (step : PartStep) (note : ℕ) → (kind_for step note).note ≡ note
   noted step note = (tells_part step own t note).note_is
 
@@ -121,17 +125,23 @@ module _ (p : Place) (map : FreeMap) (may_end : ends_with_claim map p ≡ true) 
   goes_on true false last zero_ lt goes =
       let one : word + 1 ≡ words = grind (arith, nat_tests) in
       record {
-        tells = inr (last_word one);
+        tells = inr (inl (last_word one));
+        awaits = λ A. absurd (awaits_none _ A);
         last = λ L. (noted (load_part map word) 1, goes ∙ ap (λ (b : Bool). if b then 1 else 0) (sym zero_));
       }
   goes_on false _ last zero_ lt goes =
-      record { tells = inl (noted (load_part map word) 0 ∙ sym goes); last = λ L. absurd (let one = at_end 0 L in grind (arith, nat_tests)) }
+      record {
+        tells = inl (noted (load_part map word) 0 ∙ sym goes);
+        awaits = λ A. absurd (awaits_none _ A);
+        last = λ L. absurd (let one = at_end 0 L in grind (arith, nat_tests));
+      }
 
   -- It ends with the load of the last word, in which it saw none.
   ends : (last zero_ : Bool) → (word + 1 == words) ≡ last → (v == 0) ≡ zero_ → word < words → words ≤ word + (if zero_ then 1 else 0) → ends_with o ≡ 1
       → Tells (load_part map word) last
   ends true true last zero_ lt le over = record {
     tells = inl (noted (load_part map word) 1 ∙ sym over);
+    awaits = λ A. absurd (awaits_none _ A);
     last = λ L. (noted (load_part map word) 1, over ∙ ap (λ (b : Bool). if b then 1 else 0) (sym zero_));
   }
   ends false true last zero_ lt le over = absurd (let other : word + 1 ≢ words = grind (arith, nat_tests) in omega (arith, lt, le, other))
@@ -139,7 +149,11 @@ module _ (p : Place) (map : FreeMap) (may_end : ends_with_claim map p ≡ true) 
 
   -- It tries what it saw.
   tries_so : ends_with o ≡ 0 → Tells (try_part map) false
-  tries_so goes = record { tells = inl (noted (try_part map) 0 ∙ sym goes); last = λ L. absurd (tries_no_load map z own t 0 L.loads) }
+  tries_so goes = record {
+    tells = inl (noted (try_part map) 0 ∙ sym goes);
+    awaits = λ A. absurd (awaits_none _ A);
+    last = λ L. absurd (tries_no_load map z own t 0 L.loads);
+  }
 
   pub claim_notes : (step : PartStep) (next : ClaimNext) (u : Topics) → ClaimMade z map begun t v step next u
       → (tries_one begun (claim_over map t) ≡ false → word < words) → ends_with o ≡ ends_after next
@@ -151,10 +165,15 @@ module _ (p : Place) (map : FreeMap) (may_end : ends_with_claim map p ≡ true) 
 
 -- ---- each line
 
--- The note is 1 exactly where the line ends, and no line ends with the claim.
-tells_exactly : (p : Place) (z : Sizes) (t : Task) (o : Outcome) (v : ℕ) → t.may_end ≡ ends_with o → ((map : FreeMap) → ends_with_claim map p ≡ true → ⊥)
-    → NoteTells p z (kind_of_task z t) o v
-tells_exactly p z t o v is other = record { tells = inl is; last = λ L. absurd (other L.map L.ends) }
+-- The line may not end with the load of a last word, nor with the look at the last virtual processor.
+record EndsWithNeither (p : Place) : Type 0 where
+  no_claim : (map : FreeMap) → ends_with_claim map p ≡ true → ⊥
+  no_look : p ≢ place.Log Await
+
+-- So the note is 1 exactly where it ends.
+tells_exactly : (p : Place) (z : Sizes) (t : Task) (o : Outcome) (v : ℕ) → t.may_end ≡ ends_with o → EndsWithNeither p → NoteTells p z (kind_of_task z t) o v
+tells_exactly p z t o v is E =
+    record { tells = inl is; last = λ L. absurd (E.no_claim L.map L.ends); awaits = λ A. absurd (E.no_look A.at) }
 
 note_is : (s : Option PartStep) (h : Held) (note : ℕ) (touch : Task) → (s ≡ None → touch.may_end ≡ 0) → (task_by s h note touch).may_end ≡ note_by s note
 note_is None h note touch none = none refl
@@ -169,6 +188,8 @@ word_inside : (map : FreeMap) (tries : Bool) (h : Held) (word : ℕ) → PartNee
 word_inside map true h word N is = absurd (cc is)
 word_inside Pages false h word N is = N.1
 word_inside Frames false h word N is = N.1
+
+-- ---- a step of each form
 
 module _ (p : Place) (command : Command) (h : Held) (v : ℕ) (R : RestsAt p command h) where
   abbrev outcome : Outcome
@@ -195,20 +216,32 @@ module _ (p : Place) (command : Command) (h : Held) (v : ℕ) (R : RestsAt p com
       (step_needs p command h (step_of C) R C.step)) N.1)
   claim_tells C false never N =
       tells_exactly p h.state.sizes (part_task (step_of C) (own_index h) h.topics note) outcome v
-      ((tells_part (step_of C) (own_index h) h.topics note).note_is ∙ N)
-      (λ map e. let here = subst (λ m. ends_with_claim m p ≡ true) (one_map p C.map map C.begun C.at e) e in cc (never, here))
+      ((tells_part (step_of C) (own_index h) h.topics note).note_is ∙ N) (record {
+        no_claim = λ map e. let here = subst (λ m. ends_with_claim m p ≡ true) (one_map p C.map map C.begun C.at e) e in cc (never, here);
+        no_look = λ is. let none = ap (claim_at C.map) is ∙ awaits_without C.map in let at = C.at in cc (none, at);
+      })
 
-  line_tells : (y : Sizes) (actor : Actor) → IsCommandFor y actor command → Claims p command h v ⊎ ClaimsNot p command h v → TellsOf (task_at p command h)
-  line_tells y actor may (inl C) =
-      subst (λ (s : Option PartStep). TellsOf (task_by s h note (touch_at command h))) (sym C.step) (claim_tells C (ends_with_claim C.map p) refl C.note)
-  line_tells y actor may (inr N) = by N.note
+  -- Each other step tells it, but the look at the last virtual processor.
+  other_tells : ClaimsNot p command h v → p ≢ place.Log Await → TellsOf (task_at p command h)
+  other_tells N apart = by N.note
     where
       by : (note_by (part_at p command h) note ≡ ends_with outcome) ⊎ MayEnd p command h v → TellsOf (task_at p command h)
       by (inl is) =
           tells_exactly p h.state.sizes (task_at p command h) outcome v
-          (note_is (part_at p command h) h note (touch_at command h) (touch_note p command h) ∙ is)
-          (λ map e. let some = claims_there map p e in let at = N.at map in cc (some, at))
-      by (inr M) = absurd (reads_none y actor command M.reads may)
+          (note_is (part_at p command h) h note (touch_at command h) (touch_note p command h) ∙ is) (record {
+            no_claim = λ map e. let some = claims_there map p e in let at = N.at map in cc (some, at);
+            no_look = apart;
+          })
+      by (inr M) = absurd (apart (may_end_awaits p command h v R M))
+
+line_tells : (p : Place) (command : Command) (h : Held) (v : ℕ) → RestsAt p command h → (p ≡ place.Log Await) ⊎ (p ≢ place.Log Await)
+    → Claims p command h v ⊎ ClaimsNot p command h v → NoteTells p h.state.sizes (kind_of_task h.state.sizes (task_at p command h)) (outcome_at p command h v) v
+line_tells p command h v R (inl is) C =
+    subst (λ q. NoteTells q h.state.sizes (kind_of_task h.state.sizes (task_at q command h)) (outcome_at q command h v) v) (sym is) (await_tells command h v)
+line_tells p command h v R (inr apart) (inl C) =
+    subst (λ (s : Option PartStep). NoteTells p h.state.sizes (kind_of_task h.state.sizes (task_by s h (note_at p command h) (touch_at command h)))
+    (outcome_at p command h v) v) (sym C.step) (claim_tells p command h v R C (ends_with_claim C.map p) refl C.note)
+line_tells p command h v R (inr apart) (inr N) = other_tells p command h v R N apart
 
 pub notes_tell_ends : (h : Held) (k : Kind) (v : ℕ) → Enabled h k → has_line h ≡ true → NoteTells (place_at h.state.place h) h.state.sizes k (outcome_of h v) v
 notes_tell_ends h k v enabled has =
@@ -216,4 +249,4 @@ notes_tell_ends h k v enabled has =
     let p : Place = place_at h.state.place h in
     let command : Command = (line_of h).command in
     subst (λ (x : Kind). NoteTells p h.state.sizes x (outcome_of h v) v) (sym N.is)
-    (line_tells p command h v N.rests.at h.state.sizes (line_at h.state.place h).actor N.rests.line (claims_or_not p command h v N.rests.at))
+    (line_tells p command h v N.rests.at (awaits_or_not p) (claims_or_not p command h v N.rests.at))

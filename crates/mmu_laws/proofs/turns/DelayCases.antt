@@ -25,7 +25,7 @@ use Rattle.mmu_core.specs.alone.LineAlone.{hand_left, line_waits}
 use Rattle.mmu_core.specs.machine.Machine.{Legal, May, Step, World, answered, effect, hand_in, run}
 use Rattle.mmu_laws.specs.turns.Removal.{LeadsFromRoot, LostEntry, StandsAt, StayMisses, WalksInstalled, is_installed}
 use Rattle.mmu_core.specs.machine.Steps.{has_line, line_at, place_at, standing, task_at}
-use Rattle.mmu_laws.specs.turns.TurnLaws.{DelaysWaitBeginAnewOrMiss, TurnsComeNearer, begins_anew, counts_as_delay}
+use Rattle.mmu_laws.specs.turns.TurnLaws.{DelaysWaitBeginAnewOrMiss, TurnsComeNearer, begins_anew, counts_as_delay, stands_at}
 use Rattle.mmu_core.specs.machine.Turns.{line_of, outcome_of}
 use Rattle.mmu_core.specs.machine.View.{answer_in, view, word_in}
 use Rattle.mmu_core.specs.machine.Worlds.{IsStart}
@@ -35,7 +35,7 @@ use Rattle.mmu_laws.proofs.causes.StarvedScan.{legal_parts}
 use Rattle.core_views.specs.Sizes.{actors_of}
 use Rattle.mmu_core.proofs.start.StartWords.{hand_is}
 use Rattle.mmu_core.proofs.start.Starts.{start_good}
-use Rattle.mmu_laws.proofs.turns.TurnsNearer.{WaitsOrBegins, finds_nearer, no_miss, one_of, taken, where_it_stands}
+use Rattle.mmu_laws.proofs.turns.TurnsNearer.{anew_where_it_stands, finds_nearer, no_miss, one_of, taken}
 use Rattle.mmu_core.proofs.machine.Worlds.{Takes, good_run}
 
 -- ---- a stay that misses
@@ -160,18 +160,13 @@ module _ (z : Sizes) (start : World Held) (ss : List (Step Kind)) (s : Step Kind
       by true is = inr (miss_is is)
       by false is = inl (finds_nearer z w s G may has goes on is p out)
 
-  delay : counts_as_delay w s ≡ true → (line_waits h.state.place line.command h v ≡ true) ⊎ (begins_anew h.state.place ≡ true) ⊎ StayMisses z start ss s
+  delay : counts_as_delay w s ≡ true → (line_waits stood line.command h v ≡ true) ⊎ (begins_anew h.state.place ≡ true) ⊎ StayMisses z start ss s
   delay counts = by (one_of (line_waits stood line.command h v) (begins_anew stood) (misses v) counts)
     where
-      two : WaitsOrBegins h.state.place line.command h v
-          → (line_waits h.state.place line.command h v ≡ true) ⊎ (begins_anew h.state.place ≡ true) ⊎ StayMisses z start ss s
-      two (inl waits) = inl waits
-      two (inr anew) = inr (inl anew)
-
       by : (line_waits stood line.command h v ≡ true) ⊎ (begins_anew stood ≡ true) ⊎ (misses v ≡ true)
-          → (line_waits h.state.place line.command h v ≡ true) ⊎ (begins_anew h.state.place ≡ true) ⊎ StayMisses z start ss s
-      by (inl waits) = two (where_it_stands h.state.place h.state.sizes h.slots line.command h v z line.actor T.is_step.allowed (inl waits))
-      by (inr (inl anew)) = two (where_it_stands h.state.place h.state.sizes h.slots line.command h v z line.actor T.is_step.allowed (inr anew))
+          → (line_waits stood line.command h v ≡ true) ⊎ (begins_anew h.state.place ≡ true) ⊎ StayMisses z start ss s
+      by (inl waits) = inl waits
+      by (inr (inl anew)) = inr (inl (anew_where_it_stands h.state.place h.state.sizes h.slots line.command anew))
       by (inr (inr is)) = inr (inr (miss_is is))
 
 pub turns_come_nearer : TurnsComeNearer
@@ -182,7 +177,7 @@ turns_come_nearer z lines start ss s is_start legal has goes on p out =
 -- From any moment on at which no line of an actor is under way.
 pub delays_since : (z : Sizes) (w : World Held) (ss : List (Step Kind)) (s : Step Kind) → IsSound z w → (hand_in mmu w s.actor).state.place ≡ place.Between
     → Legal mmu w (ss ++ s ∷ []) → has_line (hand_in mmu (run mmu w ss) s.actor) ≡ true → counts_as_delay (run mmu w ss) s ≡ true
-    → (line_waits (hand_in mmu (run mmu w ss) s.actor).state.place (line_of (hand_in mmu (run mmu w ss) s.actor)).command (hand_in mmu (run mmu w ss) s.actor)
+    → (line_waits (stands_at (run mmu w ss) s) (line_of (hand_in mmu (run mmu w ss) s.actor)).command (hand_in mmu (run mmu w ss) s.actor)
     (answered mmu (run mmu w ss) s.kind) ≡ true)
     ⊎ (begins_anew (hand_in mmu (run mmu w ss) s.actor).state.place ≡ true) ⊎ StayMisses z w ss s
 delays_since z w ss s sound idle legal has counts = delay z w ss s sound idle legal has counts

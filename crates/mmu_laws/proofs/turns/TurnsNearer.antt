@@ -3,7 +3,6 @@ use Rattle.std.proofs.Common.{◌≡◌, ◌⊎◌, inl, inr, ◌<◌, ℕ, leng
 use Rattle.std.specs.Prelude.{Bool, true, false, ◌&&◌, ◌||◌}
 use Rattle.std.proofs.lemmas.Bool.Decides.{nat_tests}
 use Rattle.core_views.specs.declared.kind.Kind.{Kind}
-use Rattle.core_views.specs.declared.actor.Actor.{Actor}
 use Rattle.core_views.specs.declared.place.AccessPlace.TheVariants.{Enter, Pause, Root, Walk, Touch, Leave, Fault}
 use Rattle.core_views.specs.declared.place.Place.{Place}
 use Rattle.core_views.specs.declared.place.Place.TheVariants as place
@@ -25,7 +24,7 @@ use Rattle.spte_words.specs.Entries.{kind_of}
 use Rattle.mmu_core.specs.declared.outcome.Outcome.{Outcome}
 use Rattle.mmu_core.specs.declared.outcome.Outcome.TheVariants.{Goes}
 use Rattle.mmu_core.specs.lines.AccessSteps.{stay_next}
-use Rattle.mmu_core.specs.lines.Forms.{KnowsPart, RestsAt, steps_left, outcome_at}
+use Rattle.mmu_core.specs.lines.Forms.{KnowsPart, RestsAt, RetiresPart, steps_left, outcome_at}
 use Rattle.mmu_core.specs.lines.Delays.{leaves_to_fault, walks_again}
 use Rattle.mmu_core.specs.alone.FaultAlone.{LeadsToLeaf}
 use Rattle.mmu_core.specs.machine.Enabled.{mmu}
@@ -43,12 +42,12 @@ use Rattle.mmu_core.specs.machine.View.{View, answer_in, hand_after, view, word_
 use Rattle.mmu_laws.proofs.leaves.LeadsDown.{is_leaf_here}
 use Rattle.mmu_core.proofs.machine.Columns.{upd_same}
 use Rattle.mmu_core.proofs.invariant.HandLeft.{left_of}
-use Rattle.mmu_core.proofs.lines.Forms.{first_goes, first_no_end, outcome_goes}
+use Rattle.mmu_core.proofs.lines.Forms.{first_no_end, outcome_goes}
 use Rattle.mmu_core.proofs.machine.GoesOn.{GoesUnderWay}
-use Rattle.mmu_core.proofs.lines.KnowsKept.{knows_at}
+use Rattle.mmu_core.proofs.lines.KnowsKept.{knows_at, step_leaves}
 use Rattle.mmu_core.proofs.invariant.PartBounded.{part_rests_at}
 use Rattle.mmu_laws.proofs.turns.StayNearer.{Nearer}
-use Rattle.mmu_laws.proofs.Forms.{form_nearer}
+use Rattle.mmu_laws.proofs.Forms.{SlotFits, form_nearer, slot_fits}
 use Rattle.mmu_laws.proofs.turns.HostNearer.{finds_at}
 use Rattle.mmu_laws.proofs.alone.GoesAlone.{topics_at}
 use Rattle.mmu_core.proofs.lines.StepIn.{topics_of_step}
@@ -101,26 +100,22 @@ one_of true b c is = inl refl
 one_of false true c is = inr (inl refl)
 one_of false false c is = inr (inr is)
 
--- No line begins with a delay: what is so of the place of its first step is so of the one at which it stands.
-abbrev pub WaitsOrBegins : Place → Command → Held → ℕ → Type 0
-WaitsOrBegins p c h v = (line_waits p c h v ≡ true) ⊎ (begins_anew p ≡ true)
-
-pub where_it_stands : (q : Place) (y : Sizes) (slots : MemorySlots) (c : Command) (h : Held) (v : ℕ) (z : Sizes) (actor : Actor)
-    → IsCommandFor z actor c → WaitsOrBegins (standing q y slots c) c h v → WaitsOrBegins q c h v
-where_it_stands place.Between y slots c h v z actor may (inl waits) = absurd (first_goes y slots c h v z actor may waits)
-where_it_stands place.Between y slots c h v z actor may (inr anew) = absurd (first_no_end y slots c anew)
-where_it_stands _ y slots c h v z actor may is = is
+-- No line begins with the end of a fault that begins anew: what begins anew has begun.
+pub anew_where_it_stands : (q : Place) (y : Sizes) (slots : MemorySlots) (c : Command) → begins_anew (standing q y slots c) ≡ true → begins_anew q ≡ true
+anew_where_it_stands place.Between y slots c anew = absurd (first_no_end y slots c anew)
+anew_where_it_stands _ y slots c anew = anew
 
 -- ---- nearer
 
 -- So each step comes nearer that is no delay, where what its hand has looked up of its actor's own pages is their words, as in every sound world.
 pub place_nearer : (p : Place) (c : Command) (z : Sizes) (h : Held) (words : Area → ℕ → ℕ) → IsUnderWay p → IsCommandFor z h.state.actor c
-    → PartRests h → RestsAt p c h → KnowsPart p c h → OwnWords h (words area.Host) → delays_at p c h (answer_in (task_at p c h) words) ≡ false
+    → PartRests h → RestsAt p c h → KnowsPart p c h → RetiresPart p h.topics → SlotFits p c h → OwnWords h (words area.Host)
+    → delays_at p c h (answer_in (task_at p c h) words) ≡ false
     → Nearer (outcome_at p c h (answer_in (task_at p c h) words)) c h.state.sizes (topics_at p c h words) (steps_left p c h.state.sizes h.topics)
-place_nearer p c z h words begun may rests R K looks on =
+place_nearer p c z h words begun may rests R K left fits looks on =
     let v : ℕ = answer_in (task_at p c h) words in
     subst (λ (t : Topics). Nearer (outcome_at p c h v) c h.state.sizes t (steps_left p c h.state.sizes h.topics)) (sym (topics_of_step p c h v R))
-    (form_nearer p c z h v begun may rests K (finds_at p c h words R looks) on)
+    (form_nearer p c z h v begun may rests K left fits (finds_at p c h words R looks) on)
 
 -- ---- from world to world
 
@@ -182,6 +177,7 @@ module _ (z : Sizes) (w : World Held) (s : Step Kind) (G : IsSound z w) (may : M
       place_nearer stood line.command z h words S.begun (subst (λ y. IsCommandFor z y line.command) S.own S.allowed)
       (part_rests_at z (view z w) a G.holds G.topics there)
       (is_next h s.kind may.enabled has).rests.at (knows_at z (view z w) a G.holds there S.left)
+      (step_leaves z (view z w) a line line.command stood S G.holds) (slot_fits z (view z w) a line stood S G.holds)
       (own_words z (view z w) a G.topics there sizes (G.holds.lines a there).index) on
 
   -- Where it neither waits nor begins anew, and no stay misses with it, its line has fewer steps left after it.

@@ -1,7 +1,7 @@
 -- The words and hands as flat guest memory: the facts that the words stand for, and the lines that the hands have under way.
 use Rattle.core_views.specs.declared.place.HostPlace.{HostPlace}
 use Rattle.core_views.specs.declared.place.HostPlace.TheVariants as host_at
-use Rattle.std.specs.Prelude.{◌≡◌, ◌<◌, ◌==◌, ◌&&◌, ℕ, All, Bool, Option, Some, true, false, not, if◌then◌else◌}
+use Rattle.std.specs.Prelude.{◌≡◌, ◌<◌, ◌==◌, ℕ, All, Option, Some, true, false, not}
 use Rattle.core_views.specs.declared.place.AccessPlace.{AccessPlace}
 use Rattle.core_views.specs.declared.place.AccessPlace.TheVariants as access
 use Rattle.core_views.specs.declared.place.FaultEnd.{FaultEnd}
@@ -11,8 +11,6 @@ use Rattle.core_views.specs.declared.place.FaultPlace.TheVariants as fault
 use Rattle.core_views.specs.declared.place.Leaving.TheVariants as leaving
 use Rattle.core_views.specs.declared.place.Place.{Place}
 use Rattle.core_views.specs.declared.place.Place.TheVariants as place
-use Rattle.core_views.specs.declared.place.SlotChangePlace.{SlotChangePlace}
-use Rattle.core_views.specs.declared.place.SlotChangePlace.TheVariants.{Release, End, Watch, WriteProtect, Clear, Give}
 use Rattle.core_views.specs.declared.sizes.Sizes.{Sizes}
 use Rattle.core_views.specs.declared.topics.HostLook.{HostLook}
 use Rattle.core_views.specs.declared.topics.SlotSearch.{SlotSearch}
@@ -21,13 +19,11 @@ use Rattle.core_views.specs.declared.trace.Command.{Command}
 use Rattle.core_views.specs.declared.trace.Command.TheVariants.{Access, ChangeHost}
 use Rattle.core_views.specs.declared.trace.Line.{Line}
 use Rattle.core_views.specs.declared.trace.Op.{Op}
-use Rattle.core_views.specs.Flat.{Facts, Flat, LineUnderWay, Notes, Fresh, HasAccessed, HasArmed, HasChanged, HasChangedHost, Idle, Stage}
+use Rattle.core_views.specs.Flat.{Facts, Flat, LineUnderWay, Notes, Fresh, HasAccessed, HasChangedHost, Idle}
 use Rattle.core_views.specs.Held.{Held}
 use Rattle.core_views.specs.Host.{is_denied}
 use Rattle.core_views.specs.HostChanges.{Agree}
 use Rattle.core_views.specs.Lawful.{SawForbidden, SawNoPage, SawPage}
-use Rattle.core_views.specs.LogCommands.{is_all_set}
-use Rattle.core_views.specs.SlotCommands.{arms}
 use Rattle.core_views.specs.Sizes.{actors_of}
 use Rattle.core_views.specs.Slots.{Slots, contains, page_behind}
 use Rattle.spte_words.specs.Areas.{content_index}
@@ -39,6 +35,7 @@ use Rattle.mmu_core.specs.machine.View.{View}
 use Rattle.core_views.specs.declared.host.HostEntry.{HostEntry}
 use Rattle.mmu_core.specs.lines.HostSteps.{entry_of}
 use Rattle.part_steps.specs.PartTasks.{page_looked, word_looked}
+pub use Rattle.mmu_laws.specs.flat.LineStages.{HasBegunToRead, LogUnder, SlotChangeUnder, changed_stage}
 
 -- The slots are the live ones of the published set, in this page, each with its dirty log or without; each host page is mapped as its word says;
 -- the content words of its frame are its memory; and a pause is set where its word isn't 0.
@@ -108,20 +105,6 @@ AccessUnder pool (access.Fault p) gfn op t u = Runs u × NotedAt pool p gfn op t
 AccessUnder pool (access.Leave (leaving.Reached frame value)) gfn op t u = u.stage ≡ HasAccessed frame value
 AccessUnder pool _ gfn op t u = Runs u
 
--- A slot line has done nothing yet, up to its publication; after it, it has changed its slot. A log has begun then where each page is dirty as it does, and
--- else once writes are forbidden.
-abbrev pub changed_stage : Bool → Command → Stage
-changed_stage begun command = if begun && arms command then HasArmed else HasChanged
-
-abbrev pub SlotChangeUnder : SlotChangePlace → Sizes → Command → LineUnderWay → Type 0
-SlotChangeUnder Release z command u = u.stage ≡ changed_stage (is_all_set z.mode) command
-SlotChangeUnder (End p) z command u = u.stage ≡ changed_stage (is_all_set z.mode) command
-SlotChangeUnder Watch z command u = u.stage ≡ changed_stage (is_all_set z.mode) command
-SlotChangeUnder (WriteProtect range p) z command u = u.stage ≡ HasChanged
-SlotChangeUnder Clear z command u = u.stage ≡ changed_stage true command
-SlotChangeUnder Give z command u = u.stage ≡ changed_stage true command
-SlotChangeUnder _ z command u = u.stage ≡ Fresh
-
 -- A host line has done nothing yet, up to its change, and from its first step on it has looked at its page, which its word maps so, but that the page may have
 -- been brought in since; after it, it has changed the page, to the word that it has put.
 abbrev pub HostUnder : HostPlace → ℕ → Topics → LineUnderWay → Type 0
@@ -137,6 +120,7 @@ UnderAt z pool place.Between line command t u = u.stage ≡ Idle
 UnderAt z pool (place.Access p) line (Access gfn word op) t u = (u.line ≡ line) × AccessUnder pool p gfn op t u
 UnderAt z pool (place.SlotChange p) line command t u = (u.line ≡ line) × SlotChangeUnder p z command u
 UnderAt z pool (place.Host p) line (ChangeHost page change) t u = (u.line ≡ line) × HostUnder p page t u
+UnderAt z pool (place.Log p) line command t u = (u.line ≡ line) × LogUnder p command u
 UnderAt z pool _ line command t u = ⊥
 
 -- The hand's line under way is the flat one.

@@ -18,8 +18,10 @@ use Rattle.mmu_core.specs.machine.Enabled.{mmu}
 use Rattle.mmu_core.specs.machine.Machine.{Legal, Step, World, run}
 use Rattle.mmu_core.specs.machine.View.{View, view}
 use Rattle.mmu_core.specs.machine.Worlds.{IsStart, history}
-use Rattle.log_invariant.specs.Covered.{IsCovered, IsLoggedIn, is_marked}
+use Rattle.log_invariant.specs.Covered.{IsLoggedIn, is_marked}
 use Rattle.log_invariant.specs.LogBegins.{BeginsClean, IsAmong, LogIsUnwatched}
+use Rattle.log_invariant.specs.LogInvariant.{IsGuarded}
+use Rattle.log_invariant.specs.LogReads.{IsTaken}
 
 -- The line forbids writes to the guest frame, or flushes it, as its log is to begin.
 abbrev pub ForbidsAt : Place → ℕ → Type 0
@@ -36,14 +38,18 @@ pub record IsArmedIn (n : ℕ) (pool : ℕ → ℕ) (slots : ℕ) (hand : ℕ �
   pub logged : IsLoggedIn pool slots id slot
   pub begun : (j gfn : ℕ) → j < n → contains gfn slot ≡ true → IsBeginning (hand j) gfn → ⊥
 
--- The guest frame is one of such a slot, and its page's bit is set or a mark is owed for it.
+-- The page of the guest frame is marked, or a mark is owed for the frame; or the line of some hand has taken it out of the log, and isn't answered yet.
+abbrev pub IsCoveredOrTaken : ℕ → (ℕ → ℕ) → (ℕ → Held) → SlotOf → ℕ → Type 0
+IsCoveredOrTaken n log hand slot gfn = IsGuarded n log hand IsTaken slot gfn
+
+-- The guest frame is one of such a slot, and so covered or taken.
 pub record IsDirtyIn (n : ℕ) (log pool : ℕ → ℕ) (slots : ℕ) (hand : ℕ → Held) (armed : ℕ → Bool) (gfn : ℕ) : Type 0 where
   pub id : ℕ
   pub slot : SlotOf
   pub is_armed : armed id ≡ true
   pub logged : IsLoggedIn pool slots id slot
   pub has : contains gfn slot ≡ true
-  pub covered : IsCovered n log (λ i. (hand i).topics) slot gfn
+  pub covered : IsCoveredOrTaken n log hand slot gfn
 
 -- So are all that are armed, and all that are dirty; and a bit of a published slot's log is set only of a guest frame with a cause to stand in it.
 pub record FlatLogsOf (n : ℕ) (log pool : ℕ → ℕ) (slots : ℕ) (hand : ℕ → Held) (f : Flat) : Type 0 where

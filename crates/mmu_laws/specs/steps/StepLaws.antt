@@ -1,11 +1,13 @@
 -- What the numbers of a step tell: of which area its word is, whether its line ends with it, and what it leaves of what is cached.
-use Rattle.std.specs.Prelude.{◌≡◌, ◌<◌, ◌+◌, ◌⊎◌, ℕ, Bool, true, false, [], ◌==◌, if◌then◌else◌}
+use Rattle.std.specs.Prelude.{◌≡◌, ◌<◌, ◌≤◌, ◌+◌, ◌⊎◌, ℕ, Bool, true, false, [], ◌==◌, if◌then◌else◌}
 use Rattle.circular_buffer.specs.Buffer.{Buffer}
 use Rattle.core_views.specs.declared.cache.Translation.{Translation}
 use Rattle.core_views.specs.declared.kind.Kind.{Kind}
 use Rattle.core_views.specs.declared.kind.StepKind.{StepKind}
 use Rattle.core_views.specs.declared.kind.StepKind.TheVariants as kind
+use Rattle.core_views.specs.declared.place.LogPlace.TheVariants.{Await}
 use Rattle.core_views.specs.declared.place.Place.{Place}
+use Rattle.core_views.specs.declared.place.Place.TheVariants as place_of
 use Rattle.core_views.specs.declared.sizes.Sizes.{Sizes}
 use Rattle.core_views.specs.Held.{Held}
 use Rattle.core_views.specs.Kinds.{kind_named}
@@ -22,6 +24,7 @@ use Rattle.mmu_core.specs.lines.ClaimSteps.{map_area, map_words}
 use Rattle.mmu_core.specs.lines.ScanPlaces.{ends_with_claim}
 use Rattle.mmu_core.specs.machine.Enabled.{Enabled}
 use Rattle.mmu_core.specs.machine.Steps.{has_line, next, place_at}
+use Rattle.part_steps.specs.ControlBits.{has_to_flush}
 use Rattle.part_steps.specs.Tasks.{map_of}
 use Rattle.mmu_core.specs.machine.Turns.{outcome_of}
 
@@ -103,11 +106,19 @@ pub record LoadsLastWord (p : Place) (z : Sizes) (k : Kind) : Type 0 where
   pub loads : kind_named k.code ≡ kind.Control
   pub last : k.word + 1 ≡ place (map_of z) (map_area map) (map_words map z)
 
--- The note of a step that found v is 1 where its line is answered with it, and 0 where the line goes on; but that of the load of the last
--- word of a map is 1, and the line is answered with this load exactly where it found 0.
+-- The step of this place looks at the last virtual processor, for a line that takes pages out of a dirty log and awaits the flush of each.
+pub record AwaitsLast (p : Place) (z : Sizes) (k : Kind) : Type 0 where
+  pub at : p ≡ place_of.Log Await
+  pub awaits : kind_named k.code ≡ kind.Await
+  pub last : place (map_of z) area.State z.vcpus ≤ k.word + 1
+
+-- The note of a step that found v is 1 where its line is answered with it, and 0 where the line goes on. But that of the load of the last
+-- word of a map is 1, and the line is answered with this load exactly where it found 0; and that of the look at the last virtual processor is 1, and the line
+-- is answered with it exactly where this one has no flush to make.
 pub record NoteTells (p : Place) (z : Sizes) (k : Kind) (o : Outcome) (v : ℕ) : Type 0 where
-  pub tells : (k.note ≡ ends_with o) ⊎ LoadsLastWord p z k
+  pub tells : (k.note ≡ ends_with o) ⊎ LoadsLastWord p z k ⊎ AwaitsLast p z k
   pub last : LoadsLastWord p z k → (k.note ≡ 1) × (ends_with o ≡ (if v == 0 then 1 else 0))
+  pub awaits : AwaitsLast p z k → (k.note ≡ 1) × (ends_with o ≡ (if has_to_flush v then 0 else 1))
 
 -- So are the notes of all lines' steps, whatever they find.
 abbrev pub NotesTellEnds : Type 0

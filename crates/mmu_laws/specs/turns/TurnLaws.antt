@@ -69,12 +69,12 @@ StepsAreCounted =
     (w : World Held) (s : Step Kind) → Reachable w → May mmu w s → has_line (hand_in mmu w s.actor) ≡ true
     → CountsOn (counts_as_delay w s) (hand_in mmu w s.actor) (hand_in mmu (effect mmu w s) s.actor)
 
--- A step that is counted as a delay waits, or begins its fault anew, at the place where its line stands, or is one of a stay that misses. So the step with
--- which a line begins is none.
+-- A step that is counted as a delay waits, at the place where its line stands or begins; or its fault begins anew, or it is one of a stay that misses. So the
+-- step with which a line begins is one only where it waits.
 abbrev pub DelaysWaitBeginAnewOrMiss : Type 0
 DelaysWaitBeginAnewOrMiss =
     (z : Sizes) (lines : List Line) (start : World Held) (ss : List (Step Kind)) (s : Step Kind) → IsStart z lines start → Legal mmu start (ss ++ s ∷ [])
     → has_line (hand_in mmu (run mmu start ss) s.actor) ≡ true → counts_as_delay (run mmu start ss) s ≡ true
-    → (line_waits (hand_in mmu (run mmu start ss) s.actor).state.place (line_of (hand_in mmu (run mmu start ss) s.actor)).command
+    → (line_waits (stands_at (run mmu start ss) s) (line_of (hand_in mmu (run mmu start ss) s.actor)).command
     (hand_in mmu (run mmu start ss) s.actor) (answered mmu (run mmu start ss) s.kind) ≡ true)
     ⊎ (begins_anew (hand_in mmu (run mmu start ss) s.actor).state.place ≡ true) ⊎ StayMisses z start ss s

@@ -1,0 +1,190 @@
+-- The last look of a line that takes out what it reads of a dirty log: what it has read goes out of the log of flat memory with it.
+use Rattle.std.proofs.Common.{◌≡◌, ◌⊎◌, inl, inr, ◌++◌, List, [], ℕ, refl, sym, subst, ◌∙◌}
+use Rattle.std.proofs.lemmas.Bool.{and_parts, not-true}
+use Rattle.std.specs.Prelude.{Bool, true, false, not, ◌&&◌, ◌||◌, if◌then◌else◌, Option, Some, None}
+use Rattle.core_views.specs.declared.actor.Actor.{Actor}
+use Rattle.core_views.specs.declared.answer.Refusal.{Refusal}
+use Rattle.core_views.specs.declared.event.Event.{Event}
+use Rattle.core_views.specs.declared.event.EventKind.TheVariants.{Harvested}
+use Rattle.core_views.specs.declared.place.LogPlace.TheVariants.{Await}
+use Rattle.core_views.specs.declared.place.Place.{Place}
+use Rattle.core_views.specs.declared.place.Place.TheVariants as place
+use Rattle.core_views.specs.declared.sizes.Sizes.{Sizes}
+use Rattle.core_views.specs.declared.trace.Command.{Command}
+use Rattle.core_views.specs.declared.trace.Command.TheVariants.{Access, ChangeHost, ClearLog, GetLog}
+use Rattle.core_views.specs.declared.trace.Line.{Line}
+use Rattle.core_views.specs.declared.trace.Slot.{Slot as SlotOf}
+use Rattle.core_views.specs.Events.{after, after_all}
+use Rattle.core_views.specs.Flat.{Flat}
+use Rattle.core_views.specs.Held.{Held}
+use Rattle.core_views.specs.LogCommands.{is_among, log_read, read_refusal, takes_out}
+use Rattle.core_views.specs.Past.{Past}
+use Rattle.core_views.specs.Sizes.{actors_of}
+use Rattle.core_views.specs.Slots.{contains}
+use Rattle.core_views.specs.SlotSets.{MemorySlots}
+use Rattle.flat_laws.proofs.Caused.{AreCaused}
+use Rattle.flat_laws.proofs.Writes.{AreOfLines}
+use Rattle.spte_words.specs.declared.area.Area.TheVariants as area
+use Rattle.part_steps.specs.ControlBits.{has_to_flush}
+use Rattle.part_steps.specs.SlotWords.{page_of}
+use Rattle.mmu_core.specs.declared.log_next.LogNext.TheVariants as comes
+use Rattle.mmu_core.specs.invariant.Invariant.{Invariant}
+use Rattle.mmu_core.specs.invariant.TopicsInvariant.{TopicsInvariant}
+use Rattle.mmu_core.specs.lines.Forms.{first_place}
+use Rattle.mmu_core.specs.lines.LogKnows.{LogKnows}
+use Rattle.mmu_core.specs.lines.LogOutcomes.{after_log, harvest_after}
+use Rattle.mmu_core.specs.lines.LogSteps.{awaits_last, frames_read, log_first, slot_asked, word_end}
+use Rattle.mmu_core.specs.lines.LogTells.{harvested}
+use Rattle.mmu_core.specs.machine.Outcomes.{answering, place_after}
+use Rattle.mmu_core.specs.machine.Steps.{task_at}
+use Rattle.mmu_core.specs.machine.View.{View, answer_in, hand_after, stepped}
+use Rattle.mmu_core.proofs.lines.AccessParts.{AreSmall}
+use Rattle.mmu_core.proofs.lines.EitherPlace.{one_place}
+use Rattle.mmu_core.proofs.lines.KnowsKept.{step_knows}
+use Rattle.mmu_core.proofs.lines.LogMakes.{log_is_managers}
+use Rattle.mmu_core.proofs.machine.Stepping.{IsStep}
+use Rattle.log_invariant.specs.Covered.{is_marked}
+use Rattle.log_invariant.specs.LogInvariant.{LogInvariant}
+use Rattle.log_invariant.specs.LogReads.{IsRead, IsTaken, IsTakenAt}
+use Rattle.log_invariant.proofs.HeldLogs.{IsLoggedNow}
+use Rattle.log_invariant.proofs.StepPlaces.{of_hand}
+use Rattle.mmu_laws.specs.flat.FlatInvariant.{FlatInvariant}
+use Rattle.mmu_laws.specs.flat.FlatLogs.{FlatLogs, IsDirtyIn}
+use Rattle.mmu_laws.proofs.flat.AskedPages.{read_inside}
+use Rattle.mmu_laws.proofs.flat.BeginningsKept.{told_later}
+use Rattle.mmu_laws.proofs.flat.FlatKept.{told_events}
+use Rattle.mmu_laws.proofs.flat.HarvestFrames.{among_read, read_among}
+use Rattle.mmu_laws.proofs.flat.LogsStill.{armed_still, bit_was, caused_still, dirty_still, logged_before_it}
+use Rattle.mmu_laws.proofs.flat.QuietKinds.{answers_quiet, quiet_told}
+use Rattle.mmu_laws.proofs.flat.Readings.{HasReadAt, HasReadTo, Readings}
+use Rattle.mmu_laws.proofs.flat.ReadSlots.{ReadsOf, one_slot, reads_of}
+use Rattle.mmu_laws.proofs.flat.TakenStays.{taken_here, taken_then}
+use Rattle.mmu_laws.proofs.flat.Told.{told}
+
+-- ---- what a line has read where it makes a step
+
+-- Where it begins it has read nothing.
+pub first_read : (z : Sizes) (slots : MemorySlots) (command : Command) (h : Held) (log : ℕ → ℕ) (past : Past)
+    → HasReadAt (first_place z slots command) command h log past
+first_read z slots (Access gfn word op) h log past = tt
+first_read z slots (ChangeHost page change) h log past = tt
+first_read z slots (GetLog id) h log past = by (read_refusal (GetLog id) slots) (takes_out z.mode (GetLog id))
+  where
+    by : (r : Option Refusal) (out : Bool) → HasReadAt (place.Log (log_first r out)) (GetLog id) h log past
+    by (Some refusal) out = λ begun. absurd (cc begun)
+    by None true = λ begun. absurd (cc begun)
+    by None false = λ begun. absurd (cc begun)
+first_read z slots (ClearLog id first count words) h log past = by (read_refusal (ClearLog id first count words) slots)
+    (takes_out z.mode (ClearLog id first count words))
+  where
+    by : (r : Option Refusal) (out : Bool) → HasReadAt (place.Log (log_first r out)) (ClearLog id first count words) h log past
+    by (Some refusal) out = λ begun. absurd (cc begun)
+    by None true = λ begun. absurd (cc begun)
+    by None false = λ begun. absurd (cc begun)
+first_read z slots _ h log past = tt
+
+pub read_here : (z : Sizes) (v : View) (a : ℕ) (line : Line) (command : Command) (p : Place) (f : Flat) → IsStep z v a line command p → Readings z v f
+    → HasReadAt p command (v.hand a) (v.words area.Log) f.past
+read_here z v a line command p f S reads =
+    of_hand z v a line command p S (λ q c. HasReadAt q c (v.hand a) (v.words area.Log) f.past)
+    (λ sizes slots c none. first_read sizes slots c (v.hand a) (v.words area.Log) f.past) (reads a S.there)
+
+-- ---- the step
+
+module _ (z : Sizes) (v : View) (a : ℕ) (line : Line) (command : Command) (small : AreSmall v) (S : IsStep z v a line command (place.Log Await))
+    (I : Invariant z v) (P : TopicsInvariant z v) (G : LogInvariant z v) (f : Flat) (F : FlatInvariant z v f) (lines : AreOfLines f)
+    (are : AreCaused f.facts f.past) (L : FlatLogs z v f) (reads : Readings z v f) where
+  abbrev p : Place
+  p = place.Log Await
+
+  abbrev h : Held
+  h = v.hand a
+
+  abbrev x : ℕ
+  x = answer_in (task_at p command h) v.words
+
+  abbrev behind : View
+  behind = stepped a line command p v
+
+  abbrev slot : SlotOf
+  slot = slot_asked h command
+
+  abbrev frames : List ℕ
+  frames = frames_read slot command h.harvest
+
+  abbrev waits : Bool
+  waits = has_to_flush x || not (awaits_last h)
+
+  K : LogKnows Await command h
+  K = step_knows z v a line command p S I
+
+  R : ReadsOf v h command
+  R = reads_of z v a command I S.there (sym S.own ∙ log_is_managers z line.actor command K.2.0.reads S.allowed) K.2.0
+
+  H : HasReadTo (v.words area.Log) slot command true h.harvest (word_end slot command) f.past
+  H = read_here z v a line command p f S reads refl
+
+  -- Where it waits, or looks at the next one, what it has taken it has taken still.
+  taken_on : waits ≡ true → (gfn : ℕ) → IsTaken h gfn → IsTaken (behind.hand a) gfn
+  taken_on on gfn T =
+      let then_ : Held = hand_after line command p h x in
+      taken_then z v a line command p S gfn
+      (one_place (λ n. IsTakenAt (place_after (after_log n h.harvest)) command (record then_ { harvest = harvest_after n h.harvest }) gfn) waits
+      (comes.Goes Await) comes.Reads (λ e. (refl, (taken_here z v a line command p S gfn T).1)) (λ e. absurd (cc (on, e))))
+
+  -- A frame that was read is none that is dirty after it.
+  dirty_then : (gfn : ℕ) → (not (is_among gfn frames) && f.facts.pending gfn) ≡ true
+      → IsDirtyIn (actors_of z) (behind.words area.Log) (behind.words area.Pool) (behind.words area.Slots 0) behind.hand f.facts.armed gfn
+  dirty_then gfn is =
+      let parts = and_parts (not (is_among gfn frames)) (f.facts.pending gfn) is in
+      let left = not-true (is_among gfn frames) parts.0 in
+      dirty_still z v a line command p refl small S I P G f.facts.armed gfn
+      (λ T. let among = read_among slot command h.harvest gfn (taken_here z v a line command p S gfn T).1 in absurd (cc (left, among))) (L.dirty gfn parts.1)
+
+  -- A bit that is set again is of a frame that was written since.
+  caused_then : (gfn id : ℕ) (one : SlotOf) → IsLoggedNow behind id one → contains gfn one ≡ true → is_marked (behind.words area.Log) (page_of one gfn) ≡ true
+      → (if is_among gfn frames then f.past.recent gfn else f.past.causes gfn) ≡ true
+  caused_then gfn id one logged has set = by (is_among gfn frames) refl
+    where
+      was : IsLoggedNow v id one
+      was = logged_before_it z v a line command p refl small S I P G id one logged
+
+      again : IsRead slot command h.harvest gfn
+          → (is_marked (v.words area.Log) (page_of one gfn) ≡ true) ⊎ ((f.past.recent gfn ≡ true) × (f.past.causes gfn ≡ true))
+          → f.past.recent gfn ≡ true
+      again read (inr written) = written.0
+      again read (inl marked) =
+          let same = one_slot z v gfn R.id id slot one I R.logged was (read_inside slot command h.harvest gfn R.whole.inside read) has in
+          H.recent refl gfn read (subst (λ s. is_marked (v.words area.Log) (page_of s gfn) ≡ true) same marked)
+
+      by : (b : Bool) → is_among gfn frames ≡ b → (if b then f.past.recent gfn else f.past.causes gfn) ≡ true
+      by true among =
+          again (among_read slot command h.harvest gfn among) (bit_was z v a line command p refl small S I P G f F lines are gfn id one was has set)
+      by false left = caused_still z v a line command p refl small S I P G f F lines are L gfn id one logged has set
+
+  harvested_logs : (actor : Actor) (id : ℕ) → FlatLogs z behind (after (record { actor = actor; kind = Harvested id frames }) f)
+  harvested_logs actor id = record {
+    armed = armed_still z v a line command p refl small S I P G f F lines are L;
+    dirty = dirty_then;
+    caused = caused_then;
+  }
+
+  -- The logs of flat memory after the look.
+  pub harvest_logs : FlatLogs z behind (after_all (told_events v a line command p) f)
+  harvest_logs =
+      subst (λ (es : List Event). FlatLogs z behind (after_all es f)) (sym (told_later z v a line command p S refl)) (by waits refl)
+    where
+      by : (b : Bool) → waits ≡ b
+          → FlatLogs z behind (after_all (told h.state.actor ((if b then [] else harvested (log_read command) frames)
+          ++ answering (after_log (if b then comes.Goes Await else comes.Reads) h.harvest) line)) f)
+      by true on = record {
+        armed = armed_still z v a line command p refl small S I P G f F lines are L;
+        dirty = λ gfn is. dirty_still z v a line command p refl small S I P G f.facts.armed gfn (taken_on on gfn) (L.dirty gfn is);
+        caused = caused_still z v a line command p refl small S I P G f F lines are L;
+      }
+      by false over =
+          subst (λ o. FlatLogs z behind (after_all (told h.state.actor (harvested o frames ++ answering (after_log comes.Reads h.harvest) line)) f))
+          (sym R.reads)
+          (quiet_told (actors_of z) (behind.words area.Log) (behind.words area.Pool) (behind.words area.Slots 0) behind.hand h.state.actor
+          (answering (after_log comes.Reads h.harvest) line) (after (record { actor = h.state.actor; kind = Harvested R.id frames }) f)
+          (answers_quiet (after_log comes.Reads h.harvest) line) (harvested_logs h.state.actor R.id))
