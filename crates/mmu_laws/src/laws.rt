@@ -2,6 +2,7 @@ ghost use Rattle.mmu_laws.specs.flat.ArmedSlots.{ArmedSlotsAreCovered};
 ghost use Rattle.mmu_laws.specs.causes.Causes.{FaultsBeginAnewByCause};
 ghost use Rattle.mmu_laws.specs.pool.Enough.{EachTableIsWanted, EnoughPages, TablesAreForTheirSpans};
 ghost use Rattle.mmu_laws.specs.alone.LowestFrames.{MovesAloneTakeLowest};
+ghost use Rattle.mmu_laws.specs.alone.ReadingsAlone.{ReadingsAloneAreExact};
 ghost use Rattle.mmu_laws.specs.steps.CanStep.{EachMayStep, EveryMachineStarts};
 ghost use Rattle.mmu_laws.specs.steps.ExampleHost.{ExampleHost};
 ghost use Rattle.mmu_laws.specs.steps.ExampleEvict.{ExampleEvict};
@@ -282,13 +283,18 @@ pub fn a_fault_alone_goes_through()
 /// free, so never where the pool has as many pages as the trace needs at most, and refused
 /// a frame only where none is free. And its steps can be made, up to its answer. Where it
 /// moves a page it takes the lowest frame that no page names (tdp_mmu.c,
-/// `kvm_tdp_mmu_map`; locking.rst; page_migration.rst).
+/// `kvm_tdp_mmu_map`; locking.rst; page_migration.rst). And where it reads a dirty log, and
+/// no other line is under way, it reads just what is dirty of what it asks for (api.rst,
+/// KVM_GET_DIRTY_LOG, KVM_CLEAR_DIRTY_LOG): while lines run so, one after another, each bit
+/// that is set in a published slot's log is of a dirty guest frame, or of one that the access
+/// under way is about to write.
 pub fn a_line_alone_goes_through()
     ensures through { LineGoesThrough }
     ensures begins { LineBeginsAlone }
     ensures ends { LineEndsAlone }
     ensures enough { NoneStarvedAlone }
     ensures lowest { MovesAloneTakeLowest }
+    ensures readings { ReadingsAloneAreExact }
 {}
 
 /// A line's turns come to an end between its delays, beside other actors that stand

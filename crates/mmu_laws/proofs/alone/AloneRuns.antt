@@ -47,7 +47,7 @@ use Rattle.mmu_core.proofs.machine.Which.{has_line_is, is_next}
 use Rattle.mmu_core.proofs.machine.Worlds.{Takes, good_step, takes_line}
 
 -- Where a line is about to begin it knows what its first place asks.
-standing_alone : (q : Place) (y : Sizes) (slots : MemorySlots) (command : Command) (words : Area → ℕ → ℕ) (t : Topics) → AloneKnows q command words t
+pub standing_alone : (q : Place) (y : Sizes) (slots : MemorySlots) (command : Command) (words : Area → ℕ → ℕ) (t : Topics) → AloneKnows q command words t
     → AloneKnows (standing q y slots command) command words t
 standing_alone place.Between y slots command words t K = record {
   seen = record {

@@ -70,7 +70,7 @@ never_anew (place.Access (Fault (fault.End (end_of.Retry fast cause)))) (Access 
 never_anew (place.Access (Fault (fault.End (end_of.Retry fast cause)))) _ h words R alone = absurd R
 never_anew _ _ h words R alone = refl
 
-walks_installed : (p : Place) (command : Command) (words : Area → ℕ → ℕ) (t : Topics) → FormAlone p command words t → WalksInstalled p command words t
+pub walks_installed : (p : Place) (command : Command) (words : Area → ℕ → ℕ) (t : Topics) → FormAlone p command words t → WalksInstalled p command words t
 walks_installed (place.Access (Walk again)) (Access gfn word op) words t alone = alone
 walks_installed _ _ words t alone = tt
 

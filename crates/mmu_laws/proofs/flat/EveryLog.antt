@@ -49,7 +49,7 @@ pub record LogsHold (z : Sizes) (w : World Held) (f : Flat) : Type 0 where
   pub logs : FlatLogs z (view z w) f
   pub reads : Readings z (view z w) f
 
-ready : (z : Sizes) (w : World Held) (f : Flat) → LogsHold z w f → ReadyLogs z (view z w) f
+pub ready : (z : Sizes) (w : World Held) (f : Flat) → LogsHold z w f → ReadyLogs z (view z w) f
 ready z w f H = record {
   small = are_small z w H.sound;
   holds = H.sound.holds;

@@ -95,13 +95,13 @@ module _ (z : Sizes) (v : View) (a : ℕ) (line : Line) (command : Command) (sma
   K : KnowsPart p command h
   K = step_knows z v a line command p S I
 
-  R : RecordPart pool set h.slots
+  pub R : RecordPart pool set h.slots
   R = record_of z v a line command change.Publish S I
 
-  N : RecordPart pool page next
+  pub N : RecordPart pool page next
   N = record { same = (change_published z v a line command S I).list }
 
-  C : ChangeOf h.slots command
+  pub C : ChangeOf h.slots command
   C = change_of z command h.slots K.0 S.holds.works
 
   manager : h.state.actor ≡ Manager
@@ -156,7 +156,7 @@ module _ (z : Sizes) (v : View) (a : ℕ) (line : Line) (command : Command) (sma
       target : log_target h command ≡ slot
       target = ap slot_or_none begun
 
-  none_set : (is_all_set h.state.sizes.mode ≡ false) ⊎ (arms command ≡ false) → (gfn : ℕ) (slot : SlotOf) → IsLoggedIn pool page C.id slot
+  pub none_set : (is_all_set h.state.sizes.mode ≡ false) ⊎ (arms command ≡ false) → (gfn : ℕ) (slot : SlotOf) → IsLoggedIn pool page C.id slot
       → contains gfn slot ≡ true → is_marked log (page_of slot gfn) ≡ true → ⊥
   none_set not_both gfn slot M has marked = by not_both
     where
@@ -208,7 +208,7 @@ module _ (z : Sizes) (v : View) (a : ℕ) (line : Line) (command : Command) (sma
 
   -- ---- both
 
-  kinds_are : told_kinds v a line command p
+  pub kinds_are : told_kinds v a line command p
       ≡ SlotChanged C.id C.slot ∷ ((if is_all_set h.state.sizes.mode then (if arms command then Armed C.id true ∷ [] else []) else []) ++ [])
   kinds_are =
       ap (λ (c : Option (ℕ × Option MemorySlot)). (changed c ++ (if is_all_set h.state.sizes.mode then armed true command else [])) ++ []) C.is

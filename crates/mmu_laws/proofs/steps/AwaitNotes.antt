@@ -36,7 +36,7 @@ awaits_without Pages = refl
 awaits_without Frames = refl
 
 -- A line that changes a slot reads no log.
-changes_no_log : (command : Command) → changes_slot command ≡ true → is_some (log_read command) ≡ true → ⊥
+pub changes_no_log : (command : Command) → changes_slot command ≡ true → is_some (log_read command) ≡ true → ⊥
 changes_no_log (Access gfn word op) changes reads = cc changes
 changes_no_log (ChangeHost page change) changes reads = cc changes
 changes_no_log (GetLog id) changes reads = cc changes

@@ -2,6 +2,7 @@ use Rattle.mmu_laws.proofs.alone.AloneEnds.{ends_alone}
 use Rattle.mmu_laws.proofs.alone.AloneEnough.{none_starved}
 use Rattle.mmu_laws.proofs.alone.AloneRuns.{begins_alone, steps_alone}
 use Rattle.mmu_laws.proofs.alone.LowestFrames.{moves_take_lowest}
+use Rattle.mmu_laws.proofs.alone.ReadingsAlone.{readings_alone_are_exact}
 use Rattle.mmu_laws.proofs.laws.a_line_alone_goes_through.Goals as goal
 
 pub returns-clause-through : goal.returns-clause-through
@@ -18,3 +19,6 @@ returns-clause-enough c = none_starved
 
 pub returns-clause-lowest : goal.returns-clause-lowest
 returns-clause-lowest c = moves_take_lowest
+
+pub returns-clause-readings : goal.returns-clause-readings
+returns-clause-readings c = readings_alone_are_exact
