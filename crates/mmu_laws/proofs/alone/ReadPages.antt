@@ -2,7 +2,6 @@
 -- one more word adds those whose bits were set in the log.
 use Rattle.std.proofs.Common.{◌≡◌, ◌⊎◌, inl, inr, ◌+◌, ◌-◌, ◌/◌, ◌%◌, ◌≤◌, ◌++◌, ◌∷◌, [], List, ℕ, refl, sym, subst, ap, ◌∙◌, arith, length, bit_and}
 use Rattle.std.proofs.lemmas.Bool.Decides.{nat_tests}
-use Rattle.std.specs.Int.{bit_at}
 use Rattle.std.specs.Option.{option_map}
 use Rattle.std.specs.Prelude.{Bool, true, false, Option, Some}
 use Rattle.core_views.specs.declared.actor.Actor.TheVariants.{Manager}
@@ -15,7 +14,7 @@ use Rattle.core_views.specs.declared.trace.Line.{Line}
 use Rattle.core_views.specs.declared.trace.Slot.{Slot as SlotOf}
 use Rattle.core_views.specs.Harvests.{slot_at, slot_read}
 use Rattle.core_views.specs.Held.{Held}
-use Rattle.core_views.specs.LogCommands.{count_asked, first_asked, has_bit, log_read}
+use Rattle.core_views.specs.LogCommands.{count_asked, first_asked, log_read}
 use Rattle.core_views.specs.Slots.{contains}
 use Rattle.core_views.specs.SlotSets.{slot_of_id}
 use Rattle.spte_words.specs.Bits.{has_bit as has_bit_of}
