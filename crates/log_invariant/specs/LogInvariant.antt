@@ -1,5 +1,5 @@
--- What holds of dirty logs at every moment, of the words and hands: what allows writes in a slot with a dirty log is covered, or the line excuses it that begins
--- the log, or has taken the page out of it.
+-- What holds of dirty logs at every moment, of the words and hands: what allows writes in a slot with a dirty log is covered, or the line excuses it that
+-- begins the log, or has taken the page out of it.
 use Rattle.std.specs.Prelude.{◌≡◌, ◌<◌, ◌⊎◌, ◌+◌, ◌/◌, ℕ, All, Bool, List, Option, Some, true, false}
 use Rattle.core_views.specs.declared.actor.Actor.TheVariants.{Manager}
 use Rattle.core_views.specs.declared.cache.Translation.{Translation}

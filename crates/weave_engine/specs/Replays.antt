@@ -54,9 +54,9 @@ ReadExactlyFrom z actor before steps =
 
 -- The steps run the line alone: they are of its actor alone, at most as many as its command allows, none of them waits or leads away from the
 -- line's answer; the last one answers it, and they tell the line from its begin to this answer. After them all actors rest. Where the line is
--- starved no page of the pool is free then, and its claim found each word of the pool's map 0, and so it is with frames where it is refused one; where it is
--- answered otherwise, no access of it left for want of a page. If it moves a page, it takes the lowest frame that no page names; and if it reads a dirty log, it
--- reads just what is dirty.
+-- starved no page of the pool is free then, and its claim found each word of the pool's map 0, and so it is with frames where it is refused one; where it
+-- is answered otherwise, no access of it left for want of a page. If it moves a page, it takes the lowest frame that no page names; and if it reads a dirty
+-- log, it reads just what is dirty.
 pub record RunsAlone (z : Sizes) (actor : ℕ) (line : Line) (answer : Answer) (steps : List (Step Kind)) (before : World Held) : Type 0 where
   pub own : All (λ s. s.actor ≡ actor) steps
   pub few : length steps ≤ most_steps z line.command

@@ -148,8 +148,9 @@ module _ (z : Sizes) (f : Flat) (actor : Actor) where
     where
       by : (id ≡ i) ⊎ (id ≢ i) → After (SlotChanged i slot) id
       by (inl e) =
-          let gives = gives_log z f.facts actor u.line.command i slot may.1 may.2 (subst (λ n. is_logged n (changed_slots i slot f.facts.slots) ≡ true) e logged)
-          in inr (
+          let here = subst (λ n. is_logged n (changed_slots i slot f.facts.slots) ≡ true) e logged in
+          let gives = gives_log z f.facts actor u.line.command i slot may.1 may.2 here in
+          inr (
             actor,
             subst (λ (x : LineUnderWay). ArmsLater x id) (sym (changed_here actor (under_after (SlotChanged i slot) f.facts u) f.under))
                 (record { stage = refl; command = gives ∙ ap (λ n. SetLog n true) (sym e) }),

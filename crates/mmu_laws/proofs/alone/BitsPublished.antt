@@ -1,5 +1,5 @@
--- The publication of a slot set, by a line that is alone: the bits of its logs are of dirty guest frames. A log that begins with it has no bit set, or a bit for
--- each page, and each is dirty.
+-- The publication of a slot set, by a line that is alone: the bits of its logs are of dirty guest frames. A log that begins with it has no bit set, or a bit
+-- for each page, and each is dirty.
 use Rattle.std.proofs.Common.{◌≡◌, ◌≢◌, ◌⊎◌, inl, inr, ◌<◌, ◌++◌, [], ◌∷◌, List, ℕ, refl, sym, subst, ap, ◌∙◌}
 use Rattle.std.specs.Prelude.{Bool, true, false, not, ◌||◌, ◌&&◌, if◌then◌else◌, Option, Some, None}
 use Rattle.core_views.specs.declared.event.Event.{Event}

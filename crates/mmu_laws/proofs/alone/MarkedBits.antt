@@ -1,7 +1,7 @@
 -- Who sets a bit of a log, whatever its step: who owes the mark for the page's guest frame. And a take clears each bit of its mask.
 use Rattle.std.proofs.Common.{◌≡◌, ◌⊎◌, inl, inr, ◌-◌, ◌/◌, ◌%◌, ◌^◌, ◌<◌, ℕ, min, sym, ap, ◌∙◌, arith, w64, bit_and}
 use Rattle.std.proofs.lemmas.Bool.Decides.{nat_tests}
-use Rattle.std.proofs.lemmas.Nat.Bits.{bit_at-lt, bit_at_and, bit_at_not}
+use Rattle.std.proofs.lemmas.Nat.Bits.{bit_at_and, bit_at_not}
 use Rattle.std.specs.Int.{bit_at}
 use Rattle.std.specs.Prelude.{true, false, ◌==◌, Option}
 use Rattle.core_views.specs.declared.sizes.Sizes.{Sizes}
@@ -63,24 +63,11 @@ module _ (z : Sizes) (v : View) (a : ℕ) (I : Invariant z v) (gfn id : ℕ) (sl
 
 -- ---- what a take clears
 
--- The bits of both.
-pub both_bits : (word mask i : ℕ) → bit_at (bit_and word mask) i ≡ 1 → (has_bit i word ≡ true) × (has_bit i mask ≡ true)
-both_bits word mask i is =
-    (by (bit_at word i) (bit_at mask i) (bit_at-lt word i) (bit_at-lt mask i) both, other (bit_at word i) (bit_at mask i) (bit_at-lt word i) (bit_at-lt mask i) both)
-  where
-    both : min (bit_at word i) (bit_at mask i) ≡ 1
-    both = sym (bit_at_and word mask i) ∙ is
-
-    by : (m n : ℕ) → m < 2 → n < 2 → min m n ≡ 1 → (m == 1) ≡ true
-    by m n low less e = let one : m ≡ 1 = omega (arith, low, less, e) in grind (arith, nat_tests)
-
-    other : (m n : ℕ) → m < 2 → n < 2 → min m n ≡ 1 → (n == 1) ≡ true
-    other m n low less e = let one : n ≡ 1 = omega (arith, low, less, e) in grind (arith, nat_tests)
-
 -- A bit of the mask is clear after it.
 bit_cleared : (word mask i : ℕ) → mask < 2 ^ 64 → i < 64 → has_bit i mask ≡ true → has_bit i (bit_and word (all_but mask)) ≡ false
 bit_cleared word mask i small low is =
-    ap (λ b. b == 1) (bit_at_and word (all_but mask) i ∙ ap (λ m. min (bit_at word i) m) (bit_at_not w64 mask i small low)) ∙ by (bit_at word i) (bit_at mask i) is
+    ap (λ b. b == 1) (bit_at_and word (all_but mask) i ∙ ap (λ m. min (bit_at word i) m) (bit_at_not w64 mask i small low))
+    ∙ by (bit_at word i) (bit_at mask i) is
   where
     by : (m n : ℕ) → (n == 1) ≡ true → (min m (1 - n) == 1) ≡ false
     by m n e = let one : n ≡ 1 = grind (arith, nat_tests) in let none : min m (1 - n) ≡ 0 = omega (arith, one) in grind (arith, nat_tests)

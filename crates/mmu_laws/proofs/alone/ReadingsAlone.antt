@@ -85,7 +85,9 @@ module _ (z : Sizes) (lines : List Line) (w : World Held) (ss : List (Step Kind)
 
   finds : (walks_again p && leaves_to_fault (outcome_at p line.command h (answer_in (task_at p line.command h) (word_in z u)))) ≡ false
   finds =
-      let K : AloneKnows p line.command (word_in z u) h.topics = standing_alone h.state.place h.state.sizes h.slots line.command (word_in z u) h.topics L.knows in
+      let K : AloneKnows p line.command (word_in z u) h.topics = (
+      standing_alone h.state.place h.state.sizes h.slots line.command (word_in z u) h.topics L.knows
+      ) in
       no_miss p line.command h (word_in z u) (walks_installed p line.command (word_in z u) h.topics K.form)
 
   steps : StepsAlone z (view z u) f a line p

@@ -3,8 +3,8 @@ use Rattle.std.specs.Prelude.{◌≡◌, List, [], ◌∷◌, ◌++◌, replicat
 use Rattle.core_views.specs.declared.actor.Actor.TheVariants.{Manager}
 use Rattle.core_views.specs.declared.answer.Answer.TheVariants.{Bits, Done, Reached}
 use Rattle.core_views.specs.declared.event.Event.{Event}
-use Rattle.core_views.specs.declared.event.EventKind.TheVariants.{Accessed, Answered, Armed, Begun, Harvested, LookedAtHost, LookedAtPause, LookedAtSlots, Shown}
-use Rattle.core_views.specs.declared.event.EventKind.TheVariants.{SlotChanged, Taken}
+use Rattle.core_views.specs.declared.event.EventKind.TheVariants.{Accessed, Answered, Armed, Begun, Harvested, LookedAtHost, LookedAtPause, LookedAtSlots}
+use Rattle.core_views.specs.declared.event.EventKind.TheVariants.{Shown, SlotChanged, Taken}
 use Rattle.core_views.specs.declared.trace.Command.{Command}
 use Rattle.core_views.specs.declared.trace.Command.TheVariants.{ClearLog, GetLog}
 use Rattle.core_views.specs.declared.trace.Line.{Line}
