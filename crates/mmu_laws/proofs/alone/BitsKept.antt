@@ -34,7 +34,6 @@ use Rattle.mmu_laws.specs.alone.ReadingsAlone.{WritesLater, WritesLaterAt}
 use Rattle.mmu_laws.specs.flat.FlatInvariant.{UnderAt}
 use Rattle.mmu_laws.proofs.alone.ArmedLogs.{ArmsLater}
 use Rattle.mmu_laws.proofs.alone.DirtyKept.{StaysPending, dirty_stays}
-use Rattle.mmu_laws.proofs.alone.MarkedBits.{was_set}
 use Rattle.mmu_laws.proofs.alone.ReadingDue.{others_idle}
 use Rattle.mmu_laws.proofs.alone.ReadingSteps.{StepsAlone}
 use Rattle.mmu_laws.proofs.alone.ToldFlat.{step_facts}
@@ -42,7 +41,7 @@ use Rattle.mmu_laws.proofs.alone.WritesLater.{marks_on, writes_on}
 use Rattle.mmu_laws.proofs.alone.WrittenDirty.{logged_armed}
 use Rattle.mmu_laws.proofs.flat.BeginningsKept.{StandsAt, stands_at}
 use Rattle.mmu_laws.proofs.flat.FlatKept.{told_events}
-use Rattle.mmu_laws.proofs.flat.LogsStill.{MarksPage, same_frame}
+use Rattle.mmu_laws.proofs.flat.LogsStill.{MarksPage, bit_at, same_frame}
 
 -- The line touches its word, or makes another step.
 touches_or_not : (p : Place) → (p ≡ place.Access access.Touch) ⊎ (p ≢ place.Access access.Touch)
@@ -162,6 +161,6 @@ module _ (z : Sizes) (v : View) (f : Flat) (a : ℕ) (line : Line) (p : Place) (
     where
       by : IsLoggedNow v id slot ⊎ PublishesLog v a line.command p slot → IsSaid gfn
       by (inl was) =
-          of_set gfn id slot was has (was_set z v a X.ready.holds gfn id slot was has (part_at p line.command h) (task_at p line.command h)
+          of_set gfn id slot was has (bit_at z v a X.ready.holds gfn id slot was has (part_at p line.command h) (task_at p line.command h)
           (step_at z v a line line.command p X.ready.small X.step X.ready.holds X.ready.topics) set)
       by (inr Y) = absurd (let is = ap publishes Y.at in cc (is, never))

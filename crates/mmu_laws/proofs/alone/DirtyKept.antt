@@ -46,7 +46,8 @@ use Rattle.log_invariant.proofs.HeldLogs.{IsLoggedNow}
 use Rattle.log_invariant.proofs.StepPlaces.{publishes}
 use Rattle.mmu_laws.specs.flat.FlatLogs.{ForbidsAt}
 use Rattle.mmu_laws.proofs.alone.ReadKept.{had_taken, known}
-use Rattle.mmu_laws.proofs.alone.ReadPages.{read_inside, reads_logged}
+use Rattle.mmu_laws.proofs.alone.ReadPages.{reads_logged}
+use Rattle.mmu_laws.proofs.flat.AskedPages.{read_inside}
 use Rattle.mmu_laws.proofs.alone.ReadingSteps.{StepsAlone}
 use Rattle.mmu_laws.proofs.alone.ToldFlat.{AreHarmless, harmless_append, harmless_pending, quiet_harmless, step_facts}
 use Rattle.mmu_laws.proofs.flat.BeginningsKept.{stands_at}
@@ -99,7 +100,7 @@ module _ (z : Sizes) (v : View) (f : Flat) (a gfn : ℕ) (line : Line) (X : Step
           let K = known z v f a line log.Await X in
           let L = reads_logged z v a line log.Await line.command X.step X.ready.holds K.2.0 in
           let R = among_read (slot_asked h line.command) line.command h.harvest gfn is in
-          let has = read_inside (slot_asked h line.command) line.command gfn L.even L.whole L.inside h.harvest R in
+          let has = read_inside (slot_asked h line.command) line.command h.harvest gfn L.inside R in
           let same = one_slot z v D.id L.id gfn D.slot (slot_asked h line.command) X.ready.holds.set_part.slots D.logged L.logged D.has has in
           let clear = had_taken z v f a line log.Await X refl gfn refl R in
           let set = ap (λ (s : SlotOf). is_marked (v.words area.Log) (page_of s gfn)) (sym same.1) ∙ D.marked in
@@ -179,20 +180,20 @@ taken_harmless : (o : Option ℕ) → AreHarmless (taken o)
 taken_harmless None = tt
 taken_harmless (Some id) = (tt, tt)
 
-shown_harmless : (o : Option ℕ) (frames : List ℕ) → AreHarmless (shown o frames)
-shown_harmless None frames = tt
-shown_harmless (Some id) frames = (tt, tt)
+shown_harmless : (o : Option ℕ) (gfns : List ℕ) → AreHarmless (shown o gfns)
+shown_harmless None gfns = tt
+shown_harmless (Some id) gfns = (tt, tt)
 
 begins_harmless : (b : Bool) (o : Option ℕ) → AreHarmless (if b then taken o else [])
 begins_harmless true o = taken_harmless o
 begins_harmless false o = tt
 
-peek_harmless : (begun last : Bool) (o : Option ℕ) (frames : List ℕ)
-    → AreHarmless ((if begun then [] else taken o) ++ (if last then shown o frames else []))
-peek_harmless true true o frames = shown_harmless o frames
-peek_harmless true false o frames = tt
-peek_harmless false true o frames = harmless_append (taken o) (shown o frames) (taken_harmless o) (shown_harmless o frames)
-peek_harmless false false o frames = harmless_append (taken o) [] (taken_harmless o) tt
+peek_harmless : (begun last : Bool) (o : Option ℕ) (gfns : List ℕ)
+    → AreHarmless ((if begun then [] else taken o) ++ (if last then shown o gfns else []))
+peek_harmless true true o gfns = shown_harmless o gfns
+peek_harmless true false o gfns = tt
+peek_harmless false true o gfns = harmless_append (taken o) (shown o gfns) (taken_harmless o) (shown_harmless o gfns)
+peek_harmless false false o gfns = harmless_append (taken o) [] (taken_harmless o) tt
 
 module _ (z : Sizes) (v : View) (f : Flat) (a gfn : ℕ) (line : Line) (D : IsDirtyPage v f gfn) where
   abbrev Tells : Place → List EventKind

@@ -33,7 +33,8 @@ use Rattle.log_invariant.proofs.StepPlaces.{of_hand}
 use Rattle.mmu_laws.specs.alone.ReadingsAlone.{HasReadAt, WritesLater, WritesLaterAt, has_begun, has_read}
 use Rattle.mmu_laws.specs.alone.ReadingsAlone.{IsReading as IsReadingAt}
 use Rattle.mmu_laws.proofs.alone.MarkedBits.{take_clears}
-use Rattle.mmu_laws.proofs.alone.ReadPages.{IsNew, ReadsLogged, next_mask, next_word, none_read, read_inside, read_now, reads_logged}
+use Rattle.mmu_laws.proofs.alone.ReadPages.{IsNew, ReadsLogged, next_mask, next_word, none_read, read_now, reads_logged}
+use Rattle.mmu_laws.proofs.flat.AskedPages.{read_inside}
 use Rattle.mmu_laws.proofs.alone.ReadingSteps.{StepsAlone}
 use Rattle.mmu_laws.proofs.flat.BeginningsKept.{StandsAt, is_first, stands_at}
 
@@ -67,7 +68,7 @@ module _ (z : Sizes) (v : View) (f : Flat) (a : ℕ) (line : Line) (p : LogPlace
   dirty : (gfn : ℕ) → (L : ReadsLogged v command h) → (words : List ℕ) → IsRead slot command words gfn
       → is_marked (v.words area.Log) (page_of slot gfn) ≡ true → f.facts.pending gfn ≡ true
   dirty gfn L words R marked =
-      by (X.exact.bits L.id gfn slot L.logged (read_inside slot command gfn L.even L.whole L.inside words R) marked)
+      by (X.exact.bits L.id gfn slot L.logged (read_inside slot command words gfn L.inside R) marked)
     where
       by : (f.facts.pending gfn ≡ true) ⊎ ((i : ℕ) × (i < actors_of z) × WritesLater (v.hand i) gfn) → f.facts.pending gfn ≡ true
       by (inl is) = is

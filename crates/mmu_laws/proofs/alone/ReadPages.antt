@@ -1,7 +1,6 @@
 -- The pages that a line has read of a dirty log, by the words that it has read: they are of guest frames of its slot, which is a published one with a log; and
 -- one more word adds those whose bits were set in the log.
 use Rattle.std.proofs.Common.{◌≡◌, ◌⊎◌, inl, inr, ◌+◌, ◌-◌, ◌/◌, ◌%◌, ◌≤◌, ◌++◌, ◌∷◌, [], List, ℕ, refl, sym, subst, ap, ◌∙◌, arith, length, bit_and}
-use Rattle.std.proofs.lemmas.Bool.Decides.{nat_tests}
 use Rattle.std.specs.Option.{option_map}
 use Rattle.std.specs.Prelude.{Bool, true, false, Option, Some}
 use Rattle.core_views.specs.declared.actor.Actor.TheVariants.{Manager}
@@ -15,9 +14,8 @@ use Rattle.core_views.specs.declared.trace.Slot.{Slot as SlotOf}
 use Rattle.core_views.specs.Harvests.{slot_at, slot_read}
 use Rattle.core_views.specs.Held.{Held}
 use Rattle.core_views.specs.LogCommands.{count_asked, first_asked, log_read}
-use Rattle.core_views.specs.Slots.{contains}
 use Rattle.core_views.specs.SlotSets.{slot_of_id}
-use Rattle.spte_words.specs.Bits.{has_bit as has_bit_of}
+use Rattle.spte_words.specs.Bits.{has_bit}
 use Rattle.spte_words.specs.declared.area.Area.TheVariants as area
 use Rattle.part_steps.specs.SlotWords.{page_of}
 use Rattle.mmu_core.specs.invariant.Invariant.{Invariant, RecordPart}
@@ -34,11 +32,11 @@ use Rattle.mmu_core.proofs.machine.Stepping.{IsStep}
 use Rattle.log_invariant.specs.Covered.{is_marked}
 use Rattle.log_invariant.specs.LogReads.{IsRead}
 use Rattle.log_invariant.proofs.HeldLogs.{IsLoggedNow}
+use Rattle.log_invariant.proofs.LogBits.{bit_of_both, bit_of_mask}
+use Rattle.log_invariant.proofs.ReadFrames.{page_bit, page_word, read_was}
 use Rattle.log_invariant.proofs.PublishedLogs.{recorded_logged}
 use Rattle.log_invariant.proofs.LogRecords.{with_log}
 use Rattle.log_invariant.proofs.WordsApart.{live_aligned}
-use Rattle.log_invariant.proofs.LogBits.{bit_of_both, bit_of_mask}
-use Rattle.log_invariant.proofs.ReadFrames.{page_bit, page_word, read_was}
 use Rattle.mmu_laws.proofs.flat.AskedPages.{bit_within}
 
 -- ---- the slot
@@ -89,31 +87,27 @@ module _ (slot : SlotOf) (command : Command) (gfn : ℕ) (even : slot.host % 64 
   abbrev asked : ℕ
   asked = gfn - frame_asked slot command 0
 
-  pub read_inside : (words : List ℕ) → IsRead slot command words gfn → contains gfn slot ≡ true
-  read_inside words R = let from = R.from in let below = R.below in grind (arith, nat_tests)
-
   -- What is read with one more word was read before, or its bit is set in this word of the log, and in what the line asks of it.
   pub record IsNewlyRead (log : ℕ → ℕ) (word mask : ℕ) : Type 0 where
     pub here : page_of slot gfn / 64 ≡ word
     pub marked : is_marked log (page_of slot gfn) ≡ true
-    pub asked_for : has_bit_of (page_of slot gfn % 64) mask ≡ true
+    pub asked_for : has_bit (page_of slot gfn % 64) mask ≡ true
 
   word_more : (words : List ℕ) (log : ℕ → ℕ) (word mask : ℕ) → first_word slot command + length words ≡ word
       → IsRead slot command (words ++ bit_and (log word) mask ∷ []) gfn → IsRead slot command words gfn ⊎ IsNewlyRead log word mask
   word_more words log word mask long R = by (read_was slot command words (bit_and (log word) mask) gfn R)
     where
-      by : IsRead slot command words gfn ⊎ ((asked / 64 ≡ length words) × (has_bit_of (asked % 64) (bit_and (log word) mask) ≡ true))
+      by : IsRead slot command words gfn ⊎ ((asked / 64 ≡ length words) × (has_bit (asked % 64) (bit_and (log word) mask) ≡ true))
           → IsRead slot command words gfn ⊎ IsNewlyRead log word mask
       by (inl was) = inl was
-      by (inr (here, set)) =
-          let at_word = page_word slot command gfn even whole R.from in
-          let at_bit = page_bit slot command gfn even whole R.from in
-          let word_is : page_of slot gfn / 64 ≡ word = omega (arith, at_word, here, long) in
+      by (inr (at, set)) =
+          let w = page_word slot command gfn even whole R.from in
+          let b = page_bit slot command gfn even whole R.from in
+          let here : page_of slot gfn / 64 ≡ word = omega (arith, w, at, long) in
           inr (record {
-            here = word_is;
-            marked = ap (λ k. has_bit_of (page_of slot gfn % 64) (log k)) word_is ∙ ap (λ b. has_bit_of b (log word)) at_bit
-                ∙ bit_of_both (log word) mask (asked % 64) set;
-            asked_for = ap (λ b. has_bit_of b mask) at_bit ∙ bit_of_mask (log word) mask (asked % 64) set;
+            here = here;
+            marked = ap (λ k. has_bit (page_of slot gfn % 64) (log k)) here ∙ ap (λ i. has_bit i (log word)) b ∙ bit_of_both (log word) mask (asked % 64) set;
+            asked_for = ap (λ i. has_bit i mask) b ∙ bit_of_mask (log word) mask (asked % 64) set;
           })
 
   pub none_read : IsRead slot command [] gfn → ⊥

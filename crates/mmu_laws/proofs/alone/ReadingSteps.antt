@@ -74,7 +74,7 @@ goes_by Exclude q command h x reads e = by (x == 0) e
     by : (b : Bool) → GoesTo Exclude command (if b then taken (log_read command) else [])
         (next.Goes (if b then (if nat_lt 0 (words_asked command (slot_asked h command)) then Take false else Root) else Exclude)) q
     by true e = begins Exclude q command (log_read command) refl reads
-    by false e = let same : Exclude ≡ q = cc e in Silent refl (λ b. let none : has_begun q ≡ false = ap has_begun (sym same) in cc (b, none))
+    by false e = let same : Exclude ≡ q = cc e in Silent refl (λ b. absurd (cc (b, ap has_begun (sym same))))
 goes_by Await q command h x reads e = by (has_to_flush x || not (awaits_last h)) e
   where
     by : (b : Bool) → GoesTo Await command (if b then [] else harvested (log_read command) (frames_read (slot_asked h command) command h.harvest))

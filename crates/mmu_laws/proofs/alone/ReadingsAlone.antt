@@ -37,10 +37,9 @@ use Rattle.mmu_laws.proofs.alone.ArmedLogs.{all_armed, first_armed}
 use Rattle.mmu_laws.proofs.alone.ExactKept.{exact_kept, step_reads}
 use Rattle.mmu_laws.proofs.alone.ReadingSteps.{StepsAlone}
 use Rattle.mmu_laws.proofs.alone.ToldFlat.{reads_append}
-use Rattle.mmu_laws.proofs.flat.EveryHistory.{every_history}
+use Rattle.mmu_laws.proofs.flat.EveryHistory.{after_append, every_history}
 use Rattle.mmu_laws.proofs.flat.EveryLog.{LogsHold, ready, run_logs, start_hold}
 use Rattle.mmu_laws.proofs.flat.FlatKept.{told_events, told_is_events}
-use Rattle.mmu_laws.proofs.flat.FlatRuns.{after_append}
 use Rattle.mmu_laws.proofs.turns.TurnsNearer.{no_miss}
 
 -- ---- a step

@@ -107,7 +107,7 @@ module _ (z : Sizes) (v : View) (a : ℕ) (I : Invariant z v) (gfn id : ℕ) (sl
       inl (sym (ap (has_bit (page % 64)) (upd_other (v.words area.Log) word (page / 64) bits (armed_apart z v a word bits S I id gfn slot logged holds))) ∙ set)
   bit_by _ note S set = inl set
 
-  bit_at : (named : Option PartStep) (task : Task) → StepAt z v a named task
+  pub bit_at : (named : Option PartStep) (task : Task) → StepAt z v a named task
       → is_marked (words_after task v.words area.Log) page ≡ true → WasSet
   bit_at named _ (Makes step note is S) set = bit_by step note S set
   bit_at named _ (Touches op index is) set = inl (sym (ap (λ (log : ℕ → ℕ). is_marked log page) (touch_leaves_log v.words op index)) ∙ set)
