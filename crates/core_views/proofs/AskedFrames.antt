@@ -17,7 +17,7 @@ use Rattle.core_views.proofs.Ranges.{any_passes, by_test}
 use Rattle.std.specs.Prelude.{Some}
 
 -- A number of a range is from its first on.
-in_range : (a n gfn : ℕ) → is_among gfn (range_with_len a n) ≡ true → (a ≤ gfn) × (gfn < a + n)
+pub in_range : (a n gfn : ℕ) → is_among gfn (range_with_len a n) ≡ true → (a ≤ gfn) × (gfn < a + n)
 in_range a zero gfn is = absurd (cc is)
 in_range a (suc n) gfn is = elim (by_test (a == gfn) (is_among gfn (range_with_len (a + 1) n)) is) [
   | inl here ↦ let same = eqb-true a gfn here in (omega (arith, same), omega (arith, same))
@@ -57,7 +57,7 @@ asked_has frames command slot gfn is =
     (any_passes slot.slot.base slot.slot.pages (λ frame. frame == gfn) gfn (grind (arith, nat_tests, is.inside)) (grind (arith, nat_tests, is.inside))
     (eq-eqb gfn gfn refl))
 
-range_rises : (a n : ℕ) → IsStrictlyIncreasing (range_with_len a n)
+pub range_rises : (a n : ℕ) → IsStrictlyIncreasing (range_with_len a n)
 range_rises a n k lt =
     let long = length-range_with_len a n in
     let here = get_or-range_with_len a n k 0 (omega (arith, long, lt)) in

@@ -47,9 +47,13 @@ ghost use Rattle.mmu_laws.specs.causes.Waits.{BetweenLinesSawNothing, StartsSawN
 /// them refuses a line a frame. Dirty logs have what flat memory says of them (api.rst,
 /// KVM_GET_DIRTY_LOG): each slot of which writes are logged has a log in the published
 /// slot set, and no line is to begin it yet; each guest frame that is dirty is of such a
-/// slot, and its page's bit is set or a mark is owed for it; and each bit that is set in
+/// slot, and its page's bit is set or a mark is owed for it, or a line that reads the log has
+/// taken it out and isn't answered yet; and each bit that is set in
 /// a published slot's log is of a guest frame with a cause to stand in it. In such a slot a
-/// leaf, and a translation that a virtual processor may use, is covered so where it allows writes.
+/// leaf, and a translation that a virtual processor may use, is covered so where it allows writes,
+/// or the line that has taken its page out has yet to come to it, or to see the flush. And what
+/// lines read of a log is among the events that are lawful: nothing is left out of it that was dirty
+/// as they began to read, and that nobody wrote then; and all in it has a cause.
 pub fn every_list_of_steps()
     ensures sound { StaysSound }
     ensures lawful { TellsLawfully }

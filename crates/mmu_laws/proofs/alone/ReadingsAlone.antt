@@ -68,7 +68,7 @@ module _ (z : Sizes) (lines : List Line) (w : World Held) (ss : List (Step Kind)
   told = told_events (view z u) a line line.command p
 
   holds : LogsHold z u f
-  holds = (run_logs z w first_flat ss (start_hold z lines w start) legal).1
+  holds = run_logs z w first_flat ss (start_hold z lines w start) legal
 
   T : Takes z u s h
   T = takes_line z u s L.sound may (is_next h s.kind may.enabled (has_line_is h L.left))

@@ -2,18 +2,22 @@
 use Rattle.std.proofs.lemmas.Bool.{and_from, and_parts, cases_lt, eq-eqb, eqb-true}
 use Rattle.std.proofs.lemmas.Bool.Decides.{nat_tests}
 use Rattle.std.proofs.lemmas.List.{get_or_past}
-use Rattle.std.proofs.lemmas.Nat.Bits.{bit_at-lt, bit_at-zero, bit_at_and, bit_at_ones, bit_at_ones_above}
+use Rattle.std.proofs.lemmas.Nat.Bits.{bit_at-zero, bit_at_and, bit_at_ones}
 use Rattle.std.proofs.Common.{◌≡◌, ◌⊎◌, inl, inr, ◌+◌, ◌-◌, ◌*◌, ◌/◌, ◌%◌, ◌^◌, ◌<◌, ◌≤◌, ◌==◌, ℕ, Bool, true, false, min, arith, ap, ap₂, refl, sym, ◌∙◌}
 use Rattle.std.specs.Int.{bit_at}
-use Rattle.std.specs.Prelude.{List, get_or, is_some, length, nat_le, nat_lt, if◌then◌else◌}
+use Rattle.std.specs.Prelude.{List, [], ◌∷◌, ◌++◌, get_or, is_some, length, nat_le, nat_lt, if◌then◌else◌}
 use Rattle.core_views.specs.declared.trace.Command.{Command}
 use Rattle.core_views.specs.declared.trace.Command.TheVariants.{ClearLog, GetLog}
 use Rattle.core_views.specs.declared.trace.Slot.{Slot}
 use Rattle.core_views.specs.LogCommands.{asks_for, count_asked, first_asked, has_bit, log_read, low_bits, mask_asked, word_given}
 use Rattle.core_views.specs.Slots.{contains}
 use Rattle.log_invariant.specs.LogReads.{IsRead}
+use Rattle.log_invariant.proofs.LogBits.{bit_of_both, bit_of_mask, low_bit_below}
+use Rattle.log_invariant.proofs.ReadFrames.{bit_was, page_bit, page_word}
+use Rattle.spte_words.specs.Bits.{has_bit as has_bit_of}
+use Rattle.part_steps.specs.SlotWords.{page_of}
 use Rattle.mmu_core.specs.lines.LogKnows.{AreAsked}
-use Rattle.mmu_core.specs.lines.LogSteps.{frame_asked}
+use Rattle.mmu_core.specs.lines.LogSteps.{first_word, frame_asked}
 
 -- ---- the bits of a mask
 
@@ -28,17 +32,6 @@ low_has n bit within lt = by (nat_le 64 n)
     by : (whole : Bool) → bit_at (if whole then 2 ^ 64 - 1 else 2 ^ n - 1) bit ≡ 1
     by true = bit_at_ones 64 bit within
     by false = bit_at_ones n bit lt
-
-low_within : (n bit : ℕ) → bit_at (low_bits n) bit ≡ 1 → bit < n
-low_within n bit is = by (cases_lt bit n)
-  where
-    none : (whole : Bool) → nat_le 64 n ≡ whole → n ≤ bit → bit_at (if whole then 2 ^ 64 - 1 else 2 ^ n - 1) bit ≡ 0
-    none true all past = let high : 64 ≤ bit = grind (arith, nat_tests) in bit_at_ones_above 64 bit high
-    none false few past = bit_at_ones_above n bit past
-
-    by : (bit < n) ⊎ (n ≤ bit) → bit < n
-    by (inl lt) = lt
-    by (inr past) = let zero_ = none (nat_le 64 n) refl past in absurd (omega (arith, zero_, is))
 
 -- What the command says of a page, and the bit that it gives for it.
 given_has : (command : Command) (page : ℕ) → asks_for command (first_asked command + page) ≡ true → bit_at (word_given command (page / 64)) (page % 64) ≡ 1
@@ -68,21 +61,21 @@ mask_has slot command page A =
     ∙ ap₂ min (given_has command page A.asked)
     (low_has (count_asked command slot - 64 * (page / 64)) (page % 64) (omega arith) (omega (arith, low)))
 
-pub both_set : (m n : ℕ) → m < 2 → n < 2 → min m n ≡ 1 → (m ≡ 1) × (n ≡ 1)
-both_set m n low less is = (omega (arith, low, less, is), omega (arith, low, less, is))
-
 pub mask_asks : (slot : Slot) (command : Command) (page : ℕ) → is_some (log_read command) ≡ true
-    → bit_at (mask_asked command slot (page / 64)) (page % 64) ≡ 1 → IsAskedPage slot command page
-mask_asks slot command page reads is = record { low = low; asked = given_asks command slot page reads low both.0 }
+    → has_bit_of (page % 64) (mask_asked command slot (page / 64)) ≡ true → IsAskedPage slot command page
+mask_asks slot command page reads is =
+    record { low = low; asked = given_asks command slot page reads low (eqb-true _ 1 (bit_of_both given few (page % 64) is)) }
   where
-    both : (bit_at (word_given command (page / 64)) (page % 64) ≡ 1)
-        × (bit_at (low_bits (count_asked command slot - 64 * (page / 64))) (page % 64) ≡ 1)
-    both =
-        both_set _ _ (bit_at-lt (word_given command (page / 64)) (page % 64)) (bit_at-lt (low_bits (count_asked command slot - 64 * (page / 64))) (page % 64))
-        (sym (bit_at_and (word_given command (page / 64)) (low_bits (count_asked command slot - 64 * (page / 64))) (page % 64)) ∙ is)
+    given : ℕ
+    given = word_given command (page / 64)
+
+    few : ℕ
+    few = low_bits (count_asked command slot - 64 * (page / 64))
 
     low : page < count_asked command slot
-    low = let within = low_within (count_asked command slot - 64 * (page / 64)) (page % 64) both.1 in omega (arith, within)
+    low =
+        let within = low_bit_below (count_asked command slot - 64 * (page / 64)) (page % 64) (omega arith) (bit_of_mask given few (page % 64) is) in
+        omega (arith, within)
 
 -- ---- the bits of words
 
@@ -97,19 +90,18 @@ bit_within words page is = by (cases_lt (page / 64) (length words))
         ap (λ word. bit_at word (page % 64) == 1) (get_or_past words (page / 64) 0 past) ∙ ap (λ x. x == 1) (bit_at-zero (page % 64)) in
         absurd (cc (none, is))
 
+-- What is set once a word has come was so before, or is a bit of this word.
+pub had_or_last : (words : List ℕ) (x page : ℕ) → has_bit (words ++ x ∷ []) page ≡ true
+    → (has_bit words page ≡ true) ⊎ ((page / 64 ≡ length words) × (bit_at x (page % 64) ≡ 1))
+had_or_last words x page is = elim (bit_was words x page is) [ inl was ↦ inl was | inr last ↦ inr (last.0, eqb-true _ 1 last.1) ]
+
 -- In words of which only bits are set for which the line asks it asks for the page of each that is set.
 pub read_asked : (slot : Slot) (command : Command) (words : List ℕ) (page : ℕ) → is_some (log_read command) ≡ true → AreAsked slot command words
     → has_bit words page ≡ true → IsAskedPage slot command page
 read_asked slot command words page reads asked is =
     mask_asks slot command page reads
-    (both_set _ _ (bit_at-lt word (page % 64)) (bit_at-lt mask (page % 64))
-    (sym (bit_at_and word mask (page % 64)) ∙ ap (λ w. bit_at w (page % 64)) (asked (page / 64) (bit_within words page is)) ∙ eqb-true _ 1 is)).1
-  where
-    word : ℕ
-    word = get_or words (page / 64) 0
-
-    mask : ℕ
-    mask = mask_asked command slot (page / 64)
+    (bit_of_mask (get_or words (page / 64) 0) (mask_asked command slot (page / 64)) (page % 64)
+    (ap (has_bit_of (page % 64)) (asked (page / 64) (bit_within words page is)) ∙ is))
 
 -- ---- the guest frames of pages
 
@@ -147,6 +139,20 @@ frame_inside slot command page inside A =
     let low = A.low in
     let back : frame_asked slot command page - slot.base ≡ first_asked command + page = omega arith in
     (grind (arith, nat_tests), ap (asks_for command) back ∙ A.asked)
+
+-- The place of its page's bit in the words of the log.
+pub record BitIsAt (slot : Slot) (command : Command) (page : ℕ) : Type 0 where
+  pub word : page_of slot (frame_asked slot command page) / 64 ≡ first_word slot command + page / 64
+  pub bit : page_of slot (frame_asked slot command page) % 64 ≡ page % 64
+
+pub bit_is_at : (slot : Slot) (command : Command) (page : ℕ) → slot.host % 64 ≡ 0 → first_asked command % 64 ≡ 0 → BitIsAt slot command page
+bit_is_at slot command page even whole =
+    let gfn : ℕ = frame_asked slot command page in
+    let same : gfn - frame_asked slot command 0 ≡ page = omega arith in
+    record {
+      word = page_word slot command gfn even whole (omega arith) ∙ ap (λ n. first_word slot command + n / 64) same;
+      bit = page_bit slot command gfn even whole (omega arith) ∙ ap (λ n. n % 64) same;
+    }
 
 -- ---- the guest frames that words say
 

@@ -142,17 +142,21 @@ logs_step z w f s H may = by (takes z w s H.sound may)
     by (inl T) = line_logs z w f s H sound covered T
     by (inr T) = part_logs z w f s H sound covered T
 
--- So does any list of steps, and what it tells is lawful.
-pub run_logs : (z : Sizes) (w : World Held) (f : Flat) (ss : List (Step Kind)) → LogsHold z w f → Legal mmu w ss
+-- So does any list of steps.
+pub run_tells : (z : Sizes) (w : World Held) (f : Flat) (ss : List (Step Kind)) → LogsHold z w f → Legal mmu w ss
     → LeavesLogs z (run mmu w ss) f (history w ss)
-run_logs z w f [] H legal = (tt, H)
-run_logs z w f (s ∷ ss) H legal =
+run_tells z w f [] H legal = (tt, H)
+run_tells z w f (s ∷ ss) H legal =
     let es : List Event = events_of (hand_in mmu w s.actor) (answered mmu w s.kind) in
     let one = logs_step z w f s H legal.0 in
-    let rest = run_logs z (effect mmu w s) (after_all es f) ss one.1 legal.1 in (
+    let rest = run_tells z (effect mmu w s) (after_all es f) ss one.1 legal.1 in (
       lawful_append z es (history (effect mmu w s) ss) f one.0 rest.0,
       subst (LogsHold z (run mmu (effect mmu w s) ss)) (sym (after_append es (history (effect mmu w s) ss) f)) rest.1,
     )
+
+pub run_logs : (z : Sizes) (w : World Held) (f : Flat) (ss : List (Step Kind)) → LogsHold z w f → Legal mmu w ss
+    → LogsHold z (run mmu w ss) (after_all (history w ss) f)
+run_logs z w f ss H legal = (run_tells z w f ss H legal).1
 
 -- At the start no slot is there, and no log is kept.
 pub start_hold : (z : Sizes) (lines : List Line) (w : World Held) → IsStart z lines w → LogsHold z w first_flat
@@ -174,4 +178,4 @@ start_hold z lines w start = record {
 }
 
 pub every_log : LogsAreFlat
-every_log z lines w ss start legal = (run_logs z w first_flat ss (start_hold z lines w start) legal).1.logs
+every_log z lines w ss start legal = (run_logs z w first_flat ss (start_hold z lines w start) legal).logs

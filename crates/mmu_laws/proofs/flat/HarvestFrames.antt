@@ -1,7 +1,7 @@
 -- The words that a line has read of a dirty log, as guest frames: which they are, that they rise, and that they are said by these very words.
 use Rattle.std.proofs.lemmas.Bool.{and_from, and_parts, cases_lt, eq-eqb, eqb-true}
 use Rattle.std.proofs.lemmas.Bool.Decides.{nat_tests}
-use Rattle.std.proofs.lemmas.List.FromFn.{fill_by_all, get_or-range_with_len, length-range_with_len}
+use Rattle.std.proofs.lemmas.List.FromFn.{fill_by_all}
 use Rattle.std.proofs.lemmas.List.Kept.{IsStrictlyIncreasing-filter}
 use Rattle.std.proofs.lemmas.Map.Views.{any-filter_same}
 use Rattle.std.proofs.lemmas.Nat.{and_le_r}
@@ -17,7 +17,8 @@ use Rattle.core_views.specs.declared.slot_set.MemorySlot.{MemorySlot}
 use Rattle.core_views.specs.declared.trace.Command.{Command}
 use Rattle.core_views.specs.declared.trace.Slot.{Slot}
 use Rattle.core_views.specs.LogCommands.{bits_for, count_asked, first_asked, has_bit, is_among, log_read, mask_asked, number_of, words_asked, words_of}
-use Rattle.core_views.proofs.Ranges.{any_passes, by_test}
+use Rattle.core_views.proofs.AskedFrames.{in_range, range_rises}
+use Rattle.core_views.proofs.Ranges.{any_passes}
 use Rattle.log_invariant.specs.LogReads.{IsRead}
 use Rattle.mmu_core.specs.lines.LogKnows.{AreAsked}
 use Rattle.mmu_core.specs.lines.LogSteps.{frame_asked, frames_read}
@@ -33,19 +34,12 @@ among_is slot command words gfn =
     (λ frame same. ap (λ (n : ℕ). has_bit words (n - frame_asked slot command 0)) (eqb-true frame gfn same))
     (range_with_len (frame_asked slot command 0) (count_asked command slot))
 
-range_from : (a n gfn : ℕ) → is_among gfn (range_with_len a n) ≡ true → (a ≤ gfn) × (gfn < a + n)
-range_from a zero gfn is = absurd (cc is)
-range_from a (suc n) gfn is = elim (by_test (a == gfn) (is_among gfn (range_with_len (a + 1) n)) is) [
-  | inl here ↦ let same = eqb-true a gfn here in (omega (arith, same), omega (arith, same))
-  | inr later ↦ let there = range_from (a + 1) n gfn later in (omega (arith, there.0), omega (arith, there.1))
-]
-
 -- They are those that the words say.
 pub among_read : (slot : Slot) (command : Command) (words : List ℕ) (gfn : ℕ) → is_among gfn (frames_read slot command words) ≡ true
     → IsRead slot command words gfn
 among_read slot command words gfn is =
     let parts = and_parts (has_bit words (gfn - frame_asked slot command 0)) _ (sym (among_is slot command words gfn) ∙ is) in
-    let within = range_from (frame_asked slot command 0) (count_asked command slot) gfn parts.1 in
+    let within = in_range (frame_asked slot command 0) (count_asked command slot) gfn parts.1 in
     record { from = within.0; below = let low = within.1 in omega (arith, low); bit = parts.0 }
 
 pub read_among : (slot : Slot) (command : Command) (words : List ℕ) (gfn : ℕ) → IsRead slot command words gfn
@@ -55,13 +49,6 @@ read_among slot command words gfn R =
     among_is slot command words gfn
     ∙ and_from (has_bit words (gfn - frame_asked slot command 0)) _ R.bit
     (any_passes (frame_asked slot command 0) (count_asked command slot) (λ frame. frame == gfn) gfn R.from (omega (arith, below)) (eq-eqb gfn gfn refl))
-
-range_rises : (a n : ℕ) → IsStrictlyIncreasing (range_with_len a n)
-range_rises a n k lt =
-    let long = length-range_with_len a n in
-    let here = get_or-range_with_len a n k 0 (omega (arith, long, lt)) in
-    let there = get_or-range_with_len a n (k + 1) 0 (omega (arith, long, lt)) in
-    omega (arith, here, there)
 
 pub frames_rise : (slot : Slot) (command : Command) (words : List ℕ) → IsStrictlyIncreasing (frames_read slot command words)
 frames_rise slot command words =

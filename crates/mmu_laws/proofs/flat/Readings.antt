@@ -1,8 +1,7 @@
 -- What a line that reads a dirty log has read of it so far: what it must not leave out is read, or its word is yet to come; and what it has read has a cause.
 use Rattle.std.proofs.lemmas.Bool.{eq-eqb, eqb-true}
-use Rattle.std.proofs.lemmas.Nat.Bits.{bit_at-lt, bit_at_and}
-use Rattle.std.proofs.Common.{◌≡◌, ◌≢◌, ◌⊎◌, inl, inr, ◌+◌, ◌-◌, ◌/◌, ◌%◌, ◌<◌, ◌≤◌, ◌++◌, ◌==◌, ℕ, Bool, true, false, min, arith, length}
-use Rattle.std.proofs.Common.{ap, ap₂, refl, subst, sym, ◌∙◌}
+use Rattle.std.proofs.Common.{◌≡◌, ◌≢◌, ◌⊎◌, inl, inr, ◌+◌, ◌-◌, ◌/◌, ◌%◌, ◌<◌, ◌≤◌, ◌++◌, ◌==◌, ℕ, Bool, true, false, arith, length}
+use Rattle.std.proofs.Common.{ap, refl, subst, sym, ◌∙◌}
 use Rattle.std.specs.Int.{bit_at}
 use Rattle.std.specs.Int.Bits.{bit_and}
 use Rattle.std.specs.Prelude.{List, [], ◌∷◌, Some, is_some, if◌then◌else◌}
@@ -22,6 +21,7 @@ use Rattle.core_views.specs.Past.{Past}
 use Rattle.core_views.specs.Sizes.{actors_of}
 use Rattle.core_views.specs.Slots.{contains}
 use Rattle.core_views.specs.SlotSets.{slot_of_id}
+use Rattle.spte_words.specs.Bits.{has_bit}
 use Rattle.spte_words.specs.declared.area.Area.TheVariants as area
 use Rattle.part_steps.specs.SlotWords.{page_of}
 use Rattle.mmu_core.specs.lines.LogKnows.{AreAsked}
@@ -30,8 +30,9 @@ use Rattle.mmu_core.specs.machine.View.{View}
 use Rattle.mmu_core.proofs.machine.Columns.{same_or}
 use Rattle.log_invariant.specs.Covered.{is_marked}
 use Rattle.log_invariant.specs.LogReads.{IsRead}
-use Rattle.log_invariant.proofs.ReadFrames.{newly_read, page_bit, page_word, read_still, read_was}
-use Rattle.mmu_laws.proofs.flat.AskedPages.{IsAskedFrame, IsReadPage, asked_frame, both_set, bit_within, frame_inside, mask_has}
+use Rattle.log_invariant.proofs.LogBits.{bit_of_both, bit_of_mask, both_bits}
+use Rattle.log_invariant.proofs.ReadFrames.{newly_read, read_still, read_was}
+use Rattle.mmu_laws.proofs.flat.AskedPages.{IsAskedFrame, IsReadPage, asked_frame, bit_is_at, bit_within, frame_inside, mask_has}
 use Rattle.mmu_laws.proofs.flat.AskedPages.{read_asked, read_inside, read_page}
 use Rattle.mmu_laws.proofs.flat.HarvestFrames.{among_read, frames_rise, read_among}
 
@@ -92,16 +93,10 @@ pub record IsWhole (slot : SlotOf) (command : Command) : Type 0 where
 module _ (slot : SlotOf) (command : Command) (W : IsWhole slot command) where
   -- The word of a frame's page.
   frame_word : (gfn page : ℕ) → gfn ≡ frame_asked slot command page → page_of slot gfn / 64 ≡ first_word slot command + page / 64
-  frame_word gfn page is =
-      let at = page_word slot command gfn W.even W.whole (omega (arith, is)) in
-      let same : gfn - frame_asked slot command 0 ≡ page = omega (arith, is) in
-      at ∙ ap (λ n. first_word slot command + n / 64) same
+  frame_word gfn page is = ap (λ g. page_of slot g / 64) is ∙ (bit_is_at slot command page W.even W.whole).word
 
   frame_bit : (gfn page : ℕ) → gfn ≡ frame_asked slot command page → page_of slot gfn % 64 ≡ page % 64
-  frame_bit gfn page is =
-      let at = page_bit slot command gfn W.even W.whole (omega (arith, is)) in
-      let same : gfn - frame_asked slot command 0 ≡ page = omega (arith, is) in
-      at ∙ ap (λ n. n % 64) same
+  frame_bit gfn page is = ap (λ g. page_of slot g % 64) is ∙ (bit_is_at slot command page W.even W.whole).bit
 
   -- The word of a frame for which the line asks is one of those that it reads.
   pub asked_from : (gfn : ℕ) → contains gfn slot ≡ true → asks_for command (gfn - slot.base) ≡ true → first_word slot command ≤ page_of slot gfn / 64
@@ -139,7 +134,7 @@ module _ (slot : SlotOf) (command : Command) (W : IsWhole slot command) where
     new_read gfn has asks marked here =
         newly_read slot command words now_ gfn (length words) refl (let is = A.is in omega (arith, is))
         (let is = A.is in let low = A.asked.low in omega (arith, is, low)) place_is
-        (ap (λ b. b == 1) (bit_at_and (log to) mask bit ∙ ap₂ min set masked))
+        (both_bits (log to) mask bit set (eq-eqb _ 1 masked))
       where
         A : IsAskedFrame slot command gfn
         A = asked_frame slot command gfn has asks
@@ -153,11 +148,10 @@ module _ (slot : SlotOf) (command : Command) (W : IsWhole slot command) where
         bit : ℕ
         bit = (gfn - frame_asked slot command 0) % 64
 
-        set : bit_at (log to) bit ≡ 1
+        set : has_bit bit (log to) ≡ true
         set =
-            eqb-true _ 1
-            (ap (λ k. bit_at (log to) (k % 64) == 1) same ∙ ap (λ k. bit_at (log to) k == 1) (sym (frame_bit gfn A.page A.is))
-            ∙ ap (λ k. bit_at (log k) (page_of slot gfn % 64) == 1) (sym here) ∙ marked)
+            ap (λ k. has_bit (k % 64) (log to)) same ∙ ap (λ k. has_bit k (log to)) (sym (frame_bit gfn A.page A.is))
+            ∙ ap (λ k. has_bit (page_of slot gfn % 64) (log k)) (sym here) ∙ marked
 
         masked : bit_at mask bit ≡ 1
         masked =
@@ -186,9 +180,9 @@ module _ (slot : SlotOf) (command : Command) (W : IsWhole slot command) where
             let bit : ℕ = page_of slot gfn % 64 in
             let word : page_of slot gfn / 64 ≡ to =
             frame_word gfn Q.page Q.is ∙ ap (λ n. first_word slot command + n / 64) (sym same) ∙ ap (λ n. first_word slot command + n) at ∙ sym count in
-            let bits = both_set _ _ (bit_at-lt (log to) bit) (bit_at-lt mask bit)
-            (sym (bit_at_and (log to) mask bit) ∙ ap (bit_at now_) (frame_bit gfn Q.page Q.is ∙ ap (λ n. n % 64) (sym same)) ∙ eqb-true _ 1 set) in
-            inr (word, ap (λ k. bit_at (log k) bit == 1) word ∙ eq-eqb _ 1 bits.0, bits.1)
+            let bits : has_bit bit now_ ≡ true =
+            ap (λ k. has_bit k now_) (frame_bit gfn Q.page Q.is ∙ ap (λ n. n % 64) (sym same)) ∙ set in
+            inr (word, ap (λ k. has_bit bit (log k)) word ∙ bit_of_both (log to) mask bit bits, eqb-true _ 1 (bit_of_mask (log to) mask bit bits))
 
     -- What is read then.
     pub word_is_read : HasReadTo after slot command out (words ++ now_ ∷ []) (to + 1) past
