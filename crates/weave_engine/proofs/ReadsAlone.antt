@@ -1,7 +1,7 @@
 -- A line that runs alone reads just what is dirty, while no other actor has a line under way; and lines that run one after another leave it so.
 use Rattle.std.proofs.Common.{◌≡◌, ◌≢◌, ◌⊎◌, inl, inr, ◌<◌, ℕ, suc, List, [], ◌∷◌, ◌++◌, length, get_or, refl, sym, subst, ap, ◌∙◌, append_assoc, arith}
 use Rattle.std.specs.Prelude.{All}
-use Rattle.std.proofs.lemmas.List.{append-nil, get_or-set_other}
+use Rattle.std.proofs.lemmas.List.{append-nil}
 use Rattle.core_views.specs.declared.answer.Answer.{Answer}
 use Rattle.core_views.specs.declared.kind.Kind.{Kind}
 use Rattle.core_views.specs.declared.place.Place.TheVariants.{Between}
@@ -18,6 +18,7 @@ use Rattle.mmu_core.specs.machine.Machine.{Legal, May, Step, World, answered, ef
 use Rattle.mmu_core.specs.machine.Steps.{next, nobody}
 use Rattle.mmu_core.specs.machine.Turns.{Comes, line_of, outcome_of}
 use Rattle.mmu_core.specs.machine.Worlds.{IsStart}
+use Rattle.mmu_core.proofs.held.ClaimGoes.{others_hand}
 use Rattle.mmu_core.proofs.machine.Columns.{same_or}
 use Rattle.mmu_core.proofs.machine.Extend.{legal-append, run-append}
 use Rattle.mmu_core.proofs.machine.HandAfter.{next_comes}
@@ -29,16 +30,12 @@ use Rattle.mmu_laws.proofs.alone.ReadingsAlone.{readings_alone_are_exact}
 use Rattle.weave_engine.specs.Replays.{EachRunsAlone, ReadExactlyFrom}
 
 -- Steps of one actor leave the hands of the others.
-other_hand : (w : World Held) (s : Step Kind) (b : ℕ) → b ≢ s.actor → hand_in mmu (effect mmu w s) b ≡ hand_in mmu w b
-unfolding effect
-other_hand w s b apart = get_or-set_other w.hands s.actor b _ nobody apart
-
 pub other_hands : (w : World Held) (ss : List (Step Kind)) (a b : ℕ) → b ≢ a → All (λ s. s.actor ≡ a) ss
     → hand_in mmu (run mmu w ss) b ≡ hand_in mmu w b
 other_hands w [] a b ne all = refl
 other_hands w (s ∷ ss) a b ne all =
     let here : s.actor ≡ a = all 0 s (omega arith) in
-    other_hands (effect mmu w s) ss a b ne (λ k d lt. all (suc k) d (omega arith)) ∙ other_hand w s b (λ e. ne (e ∙ here))
+    other_hands (effect mmu w s) ss a b ne (λ k d lt. all (suc k) d (omega arith)) ∙ others_hand w s b (λ e. ne (e ∙ here))
 
 -- A line that is answered is under way no more.
 pub answered_idle : (w : World Held) (s : Step Kind) (answer : Answer) → s.actor < length w.hands

@@ -1,7 +1,7 @@
 -- What is so of the lines of every form: the one place where it is told by the form. A form of line writes a clause in each of these.
 use Rattle.mmu_core.specs.lines.HostKnows.{HostRests, is_move}
 use Rattle.mmu_core.specs.lines.HostSteps.{host_part}
-use Rattle.mmu_core.proofs.lines.HostPlaces.{host_goes, look_goes, host_knows_prop, host_free, host_fed, host_rests_prop}
+use Rattle.mmu_core.proofs.lines.HostPlaces.{host_goes, host_knows_prop, host_free, host_fed, host_rests_prop}
 use Rattle.core_views.specs.declared.trace.HostChange.{HostChange}
 use Rattle.core_views.specs.declared.trace.HostChange.TheVariants.{Move, Evict, Protect, Allow}
 use Rattle.std.proofs.Common.{◌≡◌, ◌⊎◌, inl, inr, ℕ, refl, ◌≢◌, Bool}
@@ -44,7 +44,7 @@ use Rattle.mmu_core.specs.lines.SlotChangeKnows.{SlotChangeRests}
 use Rattle.mmu_core.specs.lines.SlotChangeSteps.{slot_change_part}
 use Rattle.mmu_core.proofs.machine.GoesOn.{GoesToNoAccess, GoesUnderWay, IsNoAccess, IsSimple, simple_is_no_access}
 use Rattle.mmu_core.proofs.slots.LiveStays.{OwnedStays}
-use Rattle.mmu_core.proofs.slots.SlotChangePlaces.{accepts_prop, begins_at_once, change_accepts, slot_change_begins, slot_change_begins_known}
+use Rattle.mmu_core.proofs.slots.SlotChangePlaces.{accepts_prop, change_accepts, slot_change_begins, slot_change_begins_known}
 use Rattle.mmu_core.proofs.slots.SlotChangePlaces.{slot_change_goes, slot_change_knows_prop, slot_change_rests_prop, slot_change_stays}
 use Rattle.mmu_core.proofs.slots.SlotChangeTold.{slot_change_free, slot_change_simple}
 use Rattle.mmu_core.proofs.slots.SlotChangeClaims.{begins_without_scan}
@@ -143,15 +143,7 @@ other_rests (place.Log p) command h other = by (is_some (log_read command)) refl
 
 -- ---- where it begins
 
--- Its first step doesn't wait, unless it is a line that reads a log, which may begin with a try for the lock; and it is no end of a fault that begins anew.
-pub first_goes : (z : Sizes) (slots : MemorySlots) (command : Command) (h : Held) (v : ℕ) → is_some (log_read command) ≡ false
-    → line_waits (first_place z slots command) command h v ≡ true → ⊥
-first_goes z slots (Access gfn word op) h v other is = cc is
-first_goes z slots (ChangeHost page change) h v other is = let goes = look_goes (moves_page (ChangeHost page change)) page change h v in cc (is, goes)
-first_goes z slots (GetLog id) h v other is = cc other
-first_goes z slots (ClearLog id first count words) h v other is = cc other
-first_goes z slots command h v other is = begins_at_once (change_at_once z command slots) command h v is
-
+-- Its first step is no end of a fault that begins anew.
 pub first_no_end : (z : Sizes) (slots : MemorySlots) (command : Command) → begins_anew (first_place z slots command) ≡ true → ⊥
 first_no_end z slots (Access gfn word op) is = cc is
 first_no_end z slots (ChangeHost page change) is = cc is

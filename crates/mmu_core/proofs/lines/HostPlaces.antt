@@ -151,7 +151,7 @@ some_host_left _ z t = omega arith
 -- ---- how it ends
 
 -- Its first step doesn't wait.
-pub look_goes : (moving : Bool) (page : ℕ) (change : HostChange) (h : Held) (v : ℕ) → part_waits (host_part (Look moving) page change h) h.topics v ≡ false
+look_goes : (moving : Bool) (page : ℕ) (change : HostChange) (h : Held) (v : ℕ) → part_waits (host_part (Look moving) page change h) h.topics v ≡ false
 look_goes moving page change h v = neither_waits (is_own h.state.sizes h.state.actor page) (part.Host page) part.Seq h.topics v refl refl
 
 -- Nor does the step that ends it.

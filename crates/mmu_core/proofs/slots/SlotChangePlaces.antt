@@ -21,7 +21,6 @@ use Rattle.core_views.specs.SlotCommands.{at_once, change_at_once, changes_slot,
 use Rattle.core_views.specs.SlotSets.{MemorySlots, flat_slots, slot_of_id}
 use Rattle.part_steps.specs.PartSteps.{IsAtRest}
 use Rattle.mmu_core.specs.lines.ClaimSteps.{Pages, claim_next}
-use Rattle.mmu_core.specs.lines.Delays.{line_waits}
 use Rattle.mmu_core.specs.lines.Forms.{Holds}
 use Rattle.mmu_core.specs.lines.SlotChangeKnows.{FillsSet, SlotChangeHolds, RecordAccepts, SlotChangeKnows, SlotChangeRests, is_of_frames}
 use Rattle.mmu_core.specs.lines.SlotChangeSteps.{slot_change_first, slot_change_outcome}
@@ -101,12 +100,6 @@ accepts_prop Publish z command slots = hlevel props
 accepts_prop _ z command slots = hlevel props
 
 -- ---- where it begins
-
--- Its first step doesn't wait.
-pub begins_at_once : (r : Option (Option Refusal)) (command : Command) (h : Held) (v : ℕ)
-    → line_waits (place.SlotChange (slot_change_first r)) command h v ≡ true → ⊥
-begins_at_once (Some refusal) command h v is = cc is
-begins_at_once None command h v is = cc is
 
 -- It isn't answered at once for want of a frame.
 abbrev for_frames : Option (Option Refusal) → Bool

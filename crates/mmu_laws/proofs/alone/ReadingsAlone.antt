@@ -19,7 +19,7 @@ use Rattle.mmu_core.specs.invariant.Invariant.{Invariant}
 use Rattle.mmu_core.specs.lines.Delays.{leaves_to_fault, walks_again}
 use Rattle.mmu_core.specs.lines.Forms.{outcome_at}
 use Rattle.mmu_core.specs.machine.Enabled.{mmu}
-use Rattle.mmu_core.specs.machine.Machine.{Legal, May, Step, World, effect, hand_in, run}
+use Rattle.mmu_core.specs.machine.Machine.{Legal, May, Step, World, hand_in, run}
 use Rattle.mmu_core.specs.machine.Steps.{events_of, line_at, place_at, task_at}
 use Rattle.mmu_core.specs.machine.View.{View, answer_in, stepped, view, word_in}
 use Rattle.mmu_core.specs.machine.Worlds.{IsStart, history}
@@ -27,8 +27,6 @@ use Rattle.mmu_core.proofs.machine.LineRuns.{history_one_more, legal_one_more, r
 use Rattle.mmu_core.proofs.machine.Which.{has_line_is, is_next}
 use Rattle.mmu_core.proofs.machine.Worlds.{Takes, good_step, takes_line}
 use Rattle.mmu_core.proofs.start.Starts.{hand_is, none_live}
-use Rattle.mmu_core.proofs.held.ClaimGoes.{others_hand}
-use Rattle.mmu_core.proofs.machine.Extend.{hands_of_effect}
 use Rattle.log_invariant.specs.LogReads.{IsTaken}
 use Rattle.mmu_laws.specs.alone.ReadingsAlone.{HasReadAt, IsReading, LogsAreExact, OthersIdle, ReadingsAloneAreExact, ReadsExactly}
 use Rattle.mmu_laws.proofs.alone.AloneRuns.{standing_alone}
@@ -139,10 +137,3 @@ reads_at_start z lines w start = record {
 
 pub readings_alone_are_exact : ReadingsAloneAreExact
 readings_alone_are_exact = record { starts = reads_at_start; goes_on = reads_on }
-
--- ---- other lines
-
--- Steps of one actor leave the others' lines as they are.
-pub idle_on : (w : World Held) (s : Step Kind) → OthersIdle s.actor w → OthersIdle s.actor (effect mmu w s)
-idle_on w s idle i lt apart =
-    ap (λ (h : Held). h.state.place) (others_hand w s i apart) ∙ idle i (subst (λ n. i < n) (hands_of_effect mmu w s) lt) apart
