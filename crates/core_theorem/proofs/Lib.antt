@@ -17,4 +17,5 @@ pub mod ActorSums
 pub mod Begins
 pub mod DelayCauses
 pub mod PauseSeen
+pub mod FastFaults
 pub mod Readings

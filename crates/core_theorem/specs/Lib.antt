@@ -11,4 +11,5 @@ pub mod Holdings
 pub mod Delays
 pub mod Turns
 pub mod Stays
+pub mod FastFaults
 pub mod Logs

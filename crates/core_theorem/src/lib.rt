@@ -6,6 +6,7 @@ ghost use Rattle.core_theorem.specs.Delays.{BetweenLinesSawNothing, StartsSawNot
 ghost use Rattle.core_theorem.specs.Delays.{DelaysHaveCauses, FaultsHaveCauses, StarvedLinesScanned, WaitsHaveCauses, WaitsInRunsSeeAnother};
 ghost use Rattle.core_theorem.specs.Holdings.{AnsweredLinesRest, HeldSetsAreKnown, NoneHoldsFreePages, PagesAreReusedAlone, ReturnedSetsAreCleared};
 ghost use Rattle.core_theorem.specs.Holdings.{WatchedHoldNoOldSet};
+ghost use Rattle.core_theorem.specs.FastFaults.{FixedFaultsHaveAllowed};
 ghost use Rattle.core_theorem.specs.Frames.{CopiedWordsAreThePages, EachFrameHasOneUse, FramesAreReusedAlone, WatchedHoldNoOldFrame};
 ghost use Rattle.core_theorem.specs.Leaves.{HeldLeavesAgree, LinkedLeavesAgree, TranslationsAgree, UsedLeavesAgree};
 ghost use Rattle.core_theorem.specs.Locks.{LockIsKept};
@@ -68,7 +69,9 @@ use log_laws::readings_tell_what_was_written;
 /// then that writes the frame, and no other frame than one with a cause; and what is written
 /// while writes of its slot are logged is dirty, until a reading that is answered after the write
 /// has it, its slot is changed, or its log begins anew. `pause`: an access that is about to touch has looked at the pause since its
-/// actor entered the guest, and none was set. `begins_anew`, `waits`, `starved`: what
+/// actor entered the guest, and none was set. `fixed`: a fast fault that is about to end with its write
+/// allowed has allowed it in this section, in the very word that it had read, by an exchange of its
+/// own, and it has marked the page where it says so. `begins_anew`, `waits`, `starved`: what
 /// stood in the way of a fault, and of each step that waits, whoever makes it, was
 /// another actor's, an open invalidation, or that each word of the pool's map was found
 /// with no page free since the line began; `delays`: so it is with each step that is
@@ -121,6 +124,7 @@ pub fn every_run()
     ensures logs { DirtyLogsAreKept }
     ensures readings { ReadingsTellWrites }
     ensures pause { PauseIsSeenInStay }
+    ensures fixed { FixedFaultsHaveAllowed }
     ensures counts { CountsAreFew }
     ensures line_turns { LinesMakeFewSteps }
     ensures turns { StepsAreFew }

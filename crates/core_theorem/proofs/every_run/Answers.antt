@@ -22,6 +22,7 @@ use Rattle.core_theorem.proofs.LineTurns.{lines_make_few_steps}
 use Rattle.core_theorem.proofs.AllTurns.{all_steps_are_few}
 use Rattle.core_theorem.proofs.Turns.{counts_are_few, steps_are_few}
 use Rattle.core_theorem.proofs.Pages.{pages_are_used}
+use Rattle.core_theorem.proofs.FastFaults.{fixed_faults_have_allowed}
 use Rattle.core_theorem.proofs.PauseSeen.{pause_is_seen_in_stay}
 use Rattle.core_theorem.proofs.Readings.{readings_tell_writes}
 use Rattle.core_theorem.proofs.Runs.{before, may_last, sound, starts_between}
@@ -138,6 +139,9 @@ returns-clause-readings c =
 
 pub returns-clause-pause : goal.returns-clause-pause
 returns-clause-pause c = pause_is_seen_in_stay
+
+pub returns-clause-fixed : goal.returns-clause-fixed
+returns-clause-fixed c = fixed_faults_have_allowed
 
 pub returns-clause-counts : goal.returns-clause-counts
 returns-clause-counts c = counts_are_few

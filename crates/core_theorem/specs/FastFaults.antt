@@ -1,0 +1,52 @@
+-- What a fast fault has done which ends with its write allowed: in the section that it is about to end its own exchange has allowed writes in the very word that
+-- it had read, and where its slot has a dirty log it has marked the page (locking.rst, "Fast page fault").
+use Rattle.std.specs.Prelude.{◌≡◌, ◌<◌, ℕ, List, Bool, Some, true}
+use Rattle.core_views.specs.declared.kind.Kind.{Kind}
+use Rattle.core_views.specs.declared.kind.StepKind.TheVariants as kind
+use Rattle.core_views.specs.declared.place.AccessPlace.TheVariants.{Fault}
+use Rattle.core_views.specs.declared.place.FaultEnd.TheVariants.{Fixed}
+use Rattle.core_views.specs.declared.place.FaultPlace.TheVariants.{End}
+use Rattle.core_views.specs.declared.place.Place.TheVariants as place
+use Rattle.core_views.specs.declared.sizes.Sizes.{Sizes}
+use Rattle.core_views.specs.declared.topics.TableWalk.{TableWalk}
+use Rattle.core_views.specs.declared.trace.Command.TheVariants.{Access}
+use Rattle.core_views.specs.declared.trace.Line.{Line}
+use Rattle.core_views.specs.declared.trace.Op.{Op}
+use Rattle.core_views.specs.Held.{Held}
+use Rattle.core_views.specs.Kinds.{code_of}
+use Rattle.core_views.specs.Sizes.{actors_of}
+use Rattle.spte_words.specs.Entries.{with_write}
+use Rattle.part_steps.specs.PartHoldings.{SawEntry, is_fixable}
+use Rattle.mmu_core.specs.lines.FaultSteps.{entry_word}
+use Rattle.mmu_core.specs.machine.Enabled.{mmu}
+use Rattle.mmu_core.specs.machine.Machine.{Step, World, hand_in, run}
+use Rattle.mmu_laws.specs.causes.Causes.{Finds, HasMade, Leaves, StaysInSection}
+use Rattle.core_theorem.specs.Runs.{IsRun}
+
+-- what the actor's walk has come to in this world
+abbrev pub walk_in : World Held → ℕ → TableWalk
+walk_in w actor = (hand_in mmu w actor).topics.walk
+
+-- The step, made in this world, is this actor's exchange of the guest frame's entry of the lowest level, to which its walk has come. It finds what the walk has
+-- loaded there, a leaf that forbids nothing but the write, and leaves this leaf with write permission.
+pub record AllowsWrite (z : Sizes) (actor gfn : ℕ) (w : World Held) (s : Step Kind) : Type 0 where
+  pub exchanges : s.kind.code ≡ code_of kind.Swap
+  pub is_entry : SawEntry gfn (walk_in w actor)
+  pub lowest : (walk_in w actor).level ≡ 1
+  pub forbids : is_fixable (walk_in w actor).entry ≡ true
+  pub finds : Finds actor (entry_word z gfn (walk_in w actor)) (walk_in w actor).entry w s
+  pub leaves : Leaves actor (entry_word z gfn (walk_in w actor)) (with_write (walk_in w actor).entry) w s
+
+-- The step is this actor's mark of the guest frame's page, which it owes.
+pub record MarksFrame (actor gfn : ℕ) (w : World Held) (s : Step Kind) : Type 0 where
+  pub by_actor : s.actor ≡ actor
+  pub marks : s.kind.code ≡ code_of kind.Mark
+  pub owed : (hand_in mmu w actor).topics.owed ≡ Some gfn
+
+-- Where a fault is about to end its section with its write allowed, and the page marked or not, its actor has allowed it in this very section, and marked it.
+abbrev pub FixedFaultsHaveAllowed : Type 0
+FixedFaultsHaveAllowed =
+    (z : Sizes) (lines : List Line) (w : World Held) (ss : List (Step Kind)) → IsRun z lines w ss → (actor : ℕ) → actor < actors_of z
+    → (gfn word : ℕ) (op : Op) (marked : Bool) → (hand_in mmu (run mmu w ss) actor).state.place ≡ place.Access (Fault (End (Fixed marked)))
+    → (hand_in mmu (run mmu w ss) actor).state.line.command ≡ Access gfn word op
+    → HasMade (AllowsWrite z actor gfn) (StaysInSection actor) w ss × (marked ≡ true → HasMade (MarksFrame actor gfn) (StaysInSection actor) w ss)
