@@ -1,5 +1,5 @@
--- What a fast fault has done which ends with its write allowed: in the section that it is about to end its own exchange has allowed writes in the very word that
--- it had read, and where its slot has a dirty log it has marked the page (locking.rst, "Fast page fault").
+-- What a fast fault has done which ends with its write allowed: in the section that it is about to end its own exchange has allowed writes in the very word
+-- that it had read, and where its slot has a dirty log it has marked the page (locking.rst, "Fast page fault").
 use Rattle.std.specs.Prelude.{◌≡◌, ◌<◌, ℕ, List, Bool, Some, true}
 use Rattle.core_views.specs.declared.kind.Kind.{Kind}
 use Rattle.core_views.specs.declared.kind.StepKind.TheVariants as kind

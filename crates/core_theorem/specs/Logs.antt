@@ -15,9 +15,9 @@ use Rattle.mmu_laws.specs.flat.ArmedSlots.{IsCoveredSlot}
 use Rattle.mmu_laws.specs.flat.FlatLogs.{FlatLogs}
 use Rattle.core_theorem.specs.Runs.{IsRun}
 
--- Each frame that is dirty for the flat state is of a slot of which it logs writes, and its page's bit is set or a mark is owed for it, or a line that reads the
--- log has taken it out and isn't answered yet; each bit that is set is of a frame with a cause (`flat`). And in each such slot a leaf, and a translation that may
--- be used, is covered so where it allows writes, or the line that has taken its page out has yet to come to it (`armed`).
+-- Each frame that is dirty for the flat state is of a slot of which it logs writes, and its page's bit is set or a mark is owed for it, or a line that reads
+-- the log has taken it out and isn't answered yet; each bit that is set is of a frame with a cause (`flat`). And in each such slot a leaf, and a translation
+-- that may be used, is covered so where it allows writes, or the line that has taken its page out has yet to come to it (`armed`).
 pub record LogsAreKept (z : Sizes) (v : View) (f : Flat) : Type 0 where
   pub flat : FlatLogs z v f
   pub armed : (id : ℕ) → f.facts.armed id ≡ true → IsCoveredSlot z v id
