@@ -6,6 +6,7 @@ use std::test::Fail;
 // left of the write, and what is left of two gets.
 const READ_PAGE: &str =
     "vm slot 0 0 16 0\nvm logon 0\nv0 read 0x3000\ngo\nv0 write 0x3000 5\nvm get 0\nvm get 0\n";
+
 const GET_FIRST: &str = "> vm end\n> v0 end\n> vm end\n> vm end\n";
 
 // The write stands at each of its 31 steps as the first get is run: a stay without a touch (8), a fast fault whose `swap`
@@ -73,6 +74,7 @@ const FAST_STOPS: &str = "\
 // v0 has written a page, and has cached a leaf that allows it.
 const WRITTEN_PAGE: &str =
     "vm slot 0 0 16 0\nvm logon 0\nv0 write 0x3000 1\ngo\nv0 write 0x3000 5\nvm get 0\nvm get 0\n";
+
 const WRITE_FIRST: &str = "> v0 end\n> vm end\n> vm end\n";
 
 // The get stands at each of its 13 steps as v0 writes the page again: exclude, take, the root, 4 entries, protect, release,
@@ -107,6 +109,7 @@ const CACHED_STOPS: &str = "\
 // v0 has written a page, and v1, which has nothing cached, writes it.
 const OTHERS_PAGE: &str =
     "vm slot 0 0 16 0\nvm logon 0\nv0 write 0x3000 1\ngo\nv1 write 0x3000 5\nvm get 0\nvm get 0\n";
+
 const OTHER_FIRST: &str = "> v1 end\n> vm end\n> vm end\n";
 
 // The same, where the writer walks the tables. At stake: it writes by the leaf up to the protection, and marks after it,
@@ -374,12 +377,24 @@ fn reads_beside_each_step_of_a_fast_fault(rt: HostRuntime) -> Result<(), Fail> {
 
 #[test]
 fn reads_beside_a_write_by_what_is_cached(rt: HostRuntime) -> Result<(), Fail> {
-    expect_schedules(&rt, rt.alloc(), (WRITTEN_PAGE, WRITE_FIRST), CACHED_STOPS, 13)
+    expect_schedules(
+        &rt,
+        rt.alloc(),
+        (WRITTEN_PAGE, WRITE_FIRST),
+        CACHED_STOPS,
+        13,
+    )
 }
 
 #[test]
 fn reads_beside_a_write_that_walks(rt: HostRuntime) -> Result<(), Fail> {
-    expect_schedules(&rt, rt.alloc(), (OTHERS_PAGE, OTHER_FIRST), WALKED_STOPS, 13)
+    expect_schedules(
+        &rt,
+        rt.alloc(),
+        (OTHERS_PAGE, OTHER_FIRST),
+        WALKED_STOPS,
+        13,
+    )
 }
 
 #[test]
