@@ -1,4 +1,4 @@
--- The line `vm clear ID FIRST COUNT W0 W1 ..`: what it says is read, and only that, and why it is refused.
+-- The line `vm clear ID FIRST COUNT WORD ..`: what it says is read, and only that, and why it is refused.
 use Rattle.std.proofs.Common.{◌≡◌, ◌<◌, ◌+◌, ◌/◌, ◌^◌, ◌==◌, ◌&&◌, inl, inr, ℕ, List, [], ◌∷◌, All, Bool, true, false, cond, Result, Ok, Err, refl, subst}
 use Rattle.std.proofs.Common.{arith, length}
 use Rattle.std.specs.Prelude.{codes, IfOk}

@@ -83,11 +83,11 @@ get_form who rest = id_form who rest >>= λ id. Ok (Manager, GetLog id)
 unfoldable pub pages_named : List ℕ → List ℕ → List ℕ → Result (ℕ × ℕ × ℕ) Reason
 pages_named id first count = number id >>= λ i. number first >>= λ f. number count >>= λ c. Ok (i, f, c)
 
--- `ID FIRST COUNT W0 W1 ..`, after `vm clear`
+-- `ID FIRST COUNT WORD ..`, after `vm clear`
 unfoldable pub clearing : List ℕ → List ℕ → List ℕ → List (List ℕ) → Said
 clearing id first count words = pages_named id first count >>= λ x. numbers words >>= λ bits. Ok (Manager, ClearLog x.0 x.1 x.2 bits)
 
--- `vm clear ID FIRST COUNT W0 W1 ..`; where COUNT is a number, there is a word for each 64 pages
+-- `vm clear ID FIRST COUNT WORD ..`; where COUNT is a number, there is a word for each 64 pages
 unfoldable pub clear_form : List ℕ → List (List ℕ) → Said
 clear_form who (id ∷ first ∷ count ∷ words) =
     if bytes_eq who (codes "vm") && are_counted (spelled_number count) words then clearing id first count words else Err reason.Word

@@ -53,7 +53,7 @@ log_words on i = actor_name Manager ∷ (if on then codes "logon" else codes "lo
 abbrev pub get_words : List ℕ → List (List ℕ)
 get_words i = actor_name Manager ∷ codes "get" ∷ i ∷ []
 
--- the words of `vm clear ID FIRST COUNT W0 W1 ..`
+-- the words of `vm clear ID FIRST COUNT WORD ..`
 abbrev pub clear_words : List ℕ → List ℕ → List ℕ → List (List ℕ) → List (List ℕ)
 clear_words i f c ws = actor_name Manager ∷ codes "clear" ∷ i ∷ f ∷ c ∷ ws
 

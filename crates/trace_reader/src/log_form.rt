@@ -1,5 +1,5 @@
 //! The lines about a dirty log: `vm logon ID`, `vm logoff ID`, `vm get ID` and
-//! `vm clear ID FIRST COUNT W0 W1 ..`.
+//! `vm clear ID FIRST COUNT WORD ..`.
 ghost use Rattle.std.specs.Prelude.{◌≡◌, map, IfOk};
 ghost use Rattle.core_views.specs.Traces.{IsCommandOf};
 ghost use Rattle.core_views.specs.declared.trace.Header.{Header};
