@@ -15,7 +15,8 @@ use Rattle.core_views.specs.Kinds.{code_of, kind_named}
 use Rattle.core_views.specs.Sizes.{actors_of}
 use Rattle.spte_words.specs.declared.area.Area.TheVariants as area
 use Rattle.spte_words.specs.Areas.{place}
-use Rattle.spte_words.specs.Entries.{frame_in}
+use Rattle.spte_words.specs.Entries.{mapped_frame}
+use Rattle.mmu_core.specs.lines.Cached.{covers}
 use Rattle.spte_words.specs.HostWords.{host_frame, host_present}
 use Rattle.spte_words.proofs.Places.{places_apart}
 use Rattle.part_steps.specs.declared.part_step.PartStep.{PartStep}
@@ -93,13 +94,14 @@ module _ (z : Sizes) (u : World Held) (G : IsSound z u) (frame : ℕ)
       by false high present = let none = none_present in absurd (cc (none, present))
 
   agreeing_apart : (items : List Translation)
-      → All (λ t. LeafAgrees (word_in z u area.Slots 0) (word_in z u area.Pool) (word_in z u area.Host) t.gfn t.leaf) items
-      → All (λ t. frame_in t.leaf ≢ frame) items
-  agreeing_apart items all k d lt e =
-      let L = all k d lt in apart L.page (present_there L.page L.present) (sym L.frame ∙ e)
+      → All (λ t. (gfn : ℕ) → covers gfn t ≡ true
+      → LeafAgrees (word_in z u area.Slots 0) (word_in z u area.Pool) (word_in z u area.Host) t.level gfn t.leaf) items
+      → All (λ t. (gfn : ℕ) → covers gfn t ≡ true → mapped_frame t.level t.leaf gfn ≢ frame) items
+  agreeing_apart items all k d lt gfn over e =
+      let L = all k d lt gfn over in apart L.page (present_there L.page L.present) (sym L.frame ∙ e)
 
   unused_frame : (vcpu : ℕ) → vcpu < z.vcpus → may_use (word_in z u area.State vcpu) (hand_in mmu u vcpu).topics.stay ≡ true
-      → All (λ t. frame_in t.leaf ≢ frame) (hand_in mmu u vcpu).cached.items
+      → All (λ t. (gfn : ℕ) → covers gfn t ≡ true → mapped_frame t.level t.leaf gfn ≢ frame) (hand_in mmu u vcpu).cached.items
   unused_frame vcpu low may =
       agreeing_apart (hand_in mmu u vcpu).cached.items ((cached_leaves_agree z u vcpu G (omega (arith, low))).agrees low may)
 

@@ -5,7 +5,8 @@ use Rattle.core_views.specs.declared.sizes.Sizes.{Sizes}
 use Rattle.core_views.specs.Held.{Held}
 use Rattle.spte_words.specs.declared.area.Area.TheVariants as area
 use Rattle.spte_words.specs.Areas.{pool_index}
-use Rattle.spte_words.proofs.ReadsEntries.{same_table, table_not_absent}
+use Rattle.spte_words.specs.Entries.{kind_of}
+use Rattle.spte_words.proofs.ReadsEntries.{same_table, table_no_leaf, table_not_absent}
 use Rattle.mmu_core.specs.invariant.Laws.{IsSound}
 use Rattle.mmu_core.specs.machine.Machine.{World}
 use Rattle.mmu_core.specs.invariant.TreePart.{EntryPart, Position, Use, stands}
@@ -40,7 +41,7 @@ module _ (z : Sizes) (u : World Held) (G : IsSound z u) (page : ℕ) where
       by : EntryPart up parent L.at entry (word_in z u area.Pool (pool_index parent entry)) → up page ≡ Under parent entry
       by (inl absent) = absurd (table_not_absent page (sym L.link ∙ absent))
       by (inr (inl K)) = ap up (sym (same_table K.page page (sym K.is ∙ L.link))) ∙ K.below
-      by (inr (inr F)) = absurd (let lowest = F.lowest in let upper = L.upper in omega (arith, lowest, upper))
+      by (inr (inr leaf)) = absurd (table_no_leaf L.at.level page L.upper (ap (kind_of L.at.level) (sym L.link) ∙ leaf))
 
   used : (use_ : Use) → up page ≡ use_ → IsUsedFor z u up spot page use_
   used Free is = told_so use_is G.topics.uses.told page Free is Free

@@ -1,6 +1,11 @@
 -- What readings of dirty logs hold, in every run: laws of lawful histories, of those that runs tell.
+use Rattle.core_views.specs.LogCommands.{reads_logs}
+use Rattle.core_views.specs.Traces.{IsCommandFor}
+use Rattle.mmu_core.proofs.lines.Forms.{no_migration}
+use Rattle.core_views.specs.declared.trace.Command.{Command}
+use Rattle.core_views.specs.declared.trace.Command.TheVariants.{ClearLog, GetLog, Migrate}
 use Rattle.std.proofs.Common.{◌≡◌, ◌⊎◌, inl, inr, ℕ, List, [], ◌∷◌, ◌++◌, refl, sym, subst, ap, ◌∙◌, append_assoc}
-use Rattle.std.specs.Prelude.{Option, Some, None, true}
+use Rattle.std.specs.Prelude.{Option, Some, None, false, true}
 use Rattle.core_views.specs.declared.actor.Actor.{Actor}
 use Rattle.core_views.specs.declared.actor.Actor.TheVariants.{Manager}
 use Rattle.core_views.specs.declared.event.Event.{Event}
@@ -67,18 +72,20 @@ answer_leaves actor (Goes p) line = tt
 answer_leaves actor (Ends answer) line = (tt, tt)
 
 -- A line that its actor may begin reads a log only where the actor is the manager.
-begin_leaves : (actor : Actor) (stood : Place) (line : Line) (more : List EventKind) → (actor ≡ Manager) ⊎ (log_read line.command ≡ None)
+begin_leaves : (actor : Actor) (stood : Place) (line : Line) (more : List EventKind) → (actor ≡ Manager) ⊎ (reads_logs line.command ≡ false)
     → OnlyReads Manager (told actor more) → OnlyReads Manager (told actor (beginning stood line ++ more))
 begin_leaves actor place.Between line more who rest = (who, rest)
 begin_leaves actor _ line more who rest = rest
 
 reader : (z : Sizes) (a : ℕ) (line : Line) (actor : Actor) (w : World Held) (p : Place) → IsStep z (view z w) a line line.command p → line.actor ≡ actor
-    → (actor ≡ Manager) ⊎ (log_read line.command ≡ None)
-reader z a line actor w p S own = by (log_read line.command) refl
+    → (actor ≡ Manager) ⊎ (reads_logs line.command ≡ false)
+reader z a line actor w p S own = by line.command refl S.allowed
   where
-    by : (o : Option ℕ) → log_read line.command ≡ o → (actor ≡ Manager) ⊎ (log_read line.command ≡ None)
-    by None is = inr is
-    by (Some id) is = inl (sym own ∙ log_is_managers z line.actor line.command (rw is refl) S.allowed)
+    by : (c : Command) → line.command ≡ c → IsCommandFor z line.actor c → (actor ≡ Manager) ⊎ (reads_logs line.command ≡ false)
+    by (GetLog id) is may = inl (sym own ∙ log_is_managers z line.actor (GetLog id) refl may)
+    by (ClearLog id first count words) is may = inl (sym own ∙ log_is_managers z line.actor (ClearLog id first count words) refl may)
+    by (Migrate call) is may = absurd (no_migration z line.actor call may)
+    by _ is may = inr (ap reads_logs is)
 
 step_leaves : (z : Sizes) (w : World Held) (s : Step Kind) → (G : IsSound z w) → Takes z w s (hand_in mmu w s.actor) ⊎ TakesPart z w s (hand_in mmu w s.actor)
     → OnlyReads Manager (events_of (hand_in mmu w s.actor) (answered mmu w s.kind))

@@ -49,10 +49,10 @@ walks_hold_tables z lines w ss R pages = holds_tables z (run mmu w ss) (sound z 
 
 -- Links that lead on from them lead from the root through them.
 pub held_leaves_are_linked : HeldLeavesAgree
-held_leaves_are_linked z lines w ss R actor level gfn entry there H small run_ leads leaf =
+held_leaves_are_linked z lines w ss R actor level gfn low entry there H small run_ leads leaf =
     let u : World Held = run mmu w ss in
     let G = sound z lines w ss R in
     let same =
-    leads_down z u gfn (table_at level (walk_of u actor)) level entry G
+    leads_down z u gfn (table_at level (walk_of u actor)) level low entry G
     (stands_at z u G actor level there H ∙ ap (λ r. Some (at level r)) (sym run_)) in
-    leaves_agree z u gfn entry G small (same.above leads) leaf
+    leaves_agree z u gfn low entry G small (same.above leads) leaf

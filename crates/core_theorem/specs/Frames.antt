@@ -12,7 +12,8 @@ use Rattle.core_views.specs.Held.{Held}
 use Rattle.core_views.specs.Kinds.{code_of}
 use Rattle.core_views.specs.Sizes.{actors_of}
 use Rattle.spte_words.specs.declared.area.Area.TheVariants as area
-use Rattle.spte_words.specs.Entries.{frame_in}
+use Rattle.spte_words.specs.Entries.{mapped_frame}
+use Rattle.mmu_core.specs.lines.Cached.{covers}
 use Rattle.spte_words.specs.HostWords.{host_frame}
 use Rattle.mmu_core.specs.invariant.FramesPart.{CopiedPart, FrameUse}
 use Rattle.mmu_core.specs.invariant.FramesPart.FrameUse.{Free, Outside, Page, Owned}
@@ -74,7 +75,7 @@ pub record IsNobodyElses (z : Sizes) (actor frame : ℕ) (w : World Held) : Type
   pub others : (other : ℕ) → other < actors_of z → other ≢ actor → OwnsFrame frame (hand_in mmu w other) → ⊥
   pub looks : (other : ℕ) → other < actors_of z → other ≢ actor → LooksAtFrame frame (hand_in mmu w other).topics → ⊥
   pub unused : (vcpu : ℕ) → vcpu < z.vcpus → may_use (word_in z w area.State vcpu) (hand_in mmu w vcpu).topics.stay ≡ true
-      → All (λ t. frame_in t.leaf ≢ frame) (hand_in mmu w vcpu).cached.items
+      → All (λ t. (gfn : ℕ) → covers gfn t ≡ true → mapped_frame t.level t.leaf gfn ≢ frame) (hand_in mmu w vcpu).cached.items
   pub pages : (page : ℕ) → page < z.pages → host_frame (word_in z w area.Host page) ≢ frame
 
 -- Where a frame is claimed, and where it is given back, it is nobody else's.

@@ -8,7 +8,7 @@ ghost use Rattle.core_theorem.specs.Holdings.{AnsweredLinesRest, HeldSetsAreKnow
 ghost use Rattle.core_theorem.specs.Holdings.{WatchedHoldNoOldSet};
 ghost use Rattle.core_theorem.specs.FastFaults.{FixedFaultsHaveAllowed};
 ghost use Rattle.core_theorem.specs.Frames.{CopiedWordsAreThePages, EachFrameHasOneUse, FramesAreReusedAlone, WatchedHoldNoOldFrame};
-ghost use Rattle.core_theorem.specs.Leaves.{HeldLeavesAgree, LinkedLeavesAgree, TranslationsAgree, UsedLeavesAgree};
+ghost use Rattle.core_theorem.specs.Leaves.{HeldLeavesAgree, LeavesAreLowest, LinkedLeavesAgree, TranslationsAgree, UsedLeavesAgree};
 ghost use Rattle.core_theorem.specs.Locks.{LockIsKept};
 ghost use Rattle.core_theorem.specs.Logs.{DirtyLogsAreKept};
 ghost use Rattle.core_theorem.specs.LookUps.{FoundSlotsAreHeld, HeldSlotsStand, LookedUpPagesStand};
@@ -34,12 +34,14 @@ use log_laws::readings_tell_what_was_written;
 /// that a virtual processor has cached and may use (in the guest, or with no flush asked
 /// of it), and the one by which an access is about to touch, is of the page that the
 /// slots give the guest frame, at the frame that the host gives this page; who is no
-/// virtual processor has nothing cached. `recorded`: each guest frame that an open
+/// virtual processor has nothing cached. `lowest`: each leaf linked below the root is of
+/// level 1, as what is cached is, and what is touched by. `recorded`: each guest frame that an open
 /// invalidation is of lies in the range of the open ones. `scopes`: it is of exactly the
 /// guest frames that the published slots give to its host page. `zapped`: once its actor
 /// has asked for a first flush, no links lead such a guest frame from the root to a leaf.
 /// `flushed`: a virtual processor whose flush was awaited, and which is in the guest or
-/// has no flush asked of it, has nothing cached of such a guest frame. `found`: the slot
+/// has no flush asked of it, has nothing cached of such a guest frame. Both hold up to the
+/// publication of a slot set, where the invalidation is of a slot. `found`: the slot
 /// that an actor has found is one of the slot set that it holds, of which no two slots
 /// meet. `held_slots`: the slot that has a guest frame in this set is live in the published
 /// one, and the same, while the sequence number is the one that the actor took before and
@@ -99,6 +101,7 @@ pub fn every_run()
     ensures walks { WalksHoldTables }
     ensures leaves { LinkedLeavesAgree }
     ensures held { HeldLeavesAgree }
+    ensures lowest { LeavesAreLowest }
     ensures translations { TranslationsAgree }
     ensures used { UsedLeavesAgree }
     ensures recorded { OpenFramesAreRecorded }

@@ -1,5 +1,6 @@
 pub mod SameActor
 pub mod SlotChanges
+pub mod Barred
 pub mod Texts
 pub mod HeaderSizes
 pub mod HostOwners

@@ -5,10 +5,12 @@ use Rattle.std.specs.Prelude.{Option, Some, None}
 use Rattle.core_views.specs.declared.answer.Refusal.{Refusal}
 use Rattle.core_views.specs.declared.answer.Refusal.TheVariants.{Missing}
 use Rattle.core_views.specs.declared.event.EventKind.TheVariants.{SlotChanged}
+use Rattle.core_views.specs.declared.migration.Migration.{Migration}
+use Rattle.core_views.specs.Migrations.{is_migrating, or_barred}
 use Rattle.core_views.specs.declared.slot_set.MemorySlot.{MemorySlot}
 use Rattle.core_views.specs.declared.trace.Command.{Command}
 use Rattle.core_views.specs.declared.actor.Actor.TheVariants.{Manager}
-use Rattle.core_views.specs.declared.trace.Command.TheVariants.{Access, ChangeHost, ClearLog, GetLog, SetLog, SetSlot}
+use Rattle.core_views.specs.declared.trace.Command.TheVariants.{Access, ChangeHost, ClearLog, GetLog, Migrate, SetLog, SetSlot}
 use Rattle.core_views.specs.declared.actor.Actor.{Actor}
 use Rattle.core_views.specs.declared.sizes.Sizes.{Sizes}
 use Rattle.core_views.specs.SlotCommands.{HasPages, after_change, at_once, change_at_once, change_refusal, changes_slot, is_unchanged}
@@ -27,16 +29,18 @@ changes z line (Access gfn word op) f change is = absurd (cc is)
 changes z line (ChangeHost page change_) f change is = absurd (cc is)
 changes z line (GetLog id) f change is = absurd (cc is)
 changes z line (ClearLog id first count words) f change is = absurd (cc is)
+changes z line (Migrate call) f change is = absurd (cc is)
 changes z line command f change is = ap (λ (c : Option (ℕ × Option MemorySlot)). changing line c (arming z line command)) is
 
--- It is answered at once by the slots, whoever makes it.
-pub answered_by_slots : (z : Sizes) (slots : MemorySlots) (actor : Actor) (command : Command) → changes_slot command ≡ true
-    → answer_at_once z slots actor command ≡ option_map refused_or_done (change_at_once z command slots)
-answered_by_slots z slots actor (Access gfn word op) is = absurd (cc is)
-answered_by_slots z slots actor (ChangeHost page change) is = absurd (cc is)
-answered_by_slots z slots actor (GetLog id) is = absurd (cc is)
-answered_by_slots z slots actor (ClearLog id first count words) is = absurd (cc is)
-answered_by_slots z slots actor _ is = refl
+-- It is answered at once by the slots and the migration, whoever makes it.
+pub answered_by_slots : (z : Sizes) (slots : MemorySlots) (migration : Migration) (actor : Actor) (command : Command) → changes_slot command ≡ true
+    → answer_at_once z slots migration actor command ≡ or_barred (is_migrating migration) (option_map refused_or_done (change_at_once z command slots))
+answered_by_slots z slots migration actor (Access gfn word op) is = absurd (cc is)
+answered_by_slots z slots migration actor (ChangeHost page change) is = absurd (cc is)
+answered_by_slots z slots migration actor (GetLog id) is = absurd (cc is)
+answered_by_slots z slots migration actor (ClearLog id first count words) is = absurd (cc is)
+answered_by_slots z slots migration actor (Migrate call) is = absurd (cc is)
+answered_by_slots z slots migration actor _ is = refl
 
 -- A line that has something to do isn't refused.
 pub none_refused : (z : Sizes) (command : Command) (slots : MemorySlots) → change_at_once z command slots ≡ None → change_refusal z command slots ≡ None
@@ -44,6 +48,7 @@ none_refused z (Access gfn word op) slots works = refl
 none_refused z (ChangeHost page change) slots works = refl
 none_refused z (GetLog id) slots works = refl
 none_refused z (ClearLog id first count words) slots works = refl
+none_refused z (Migrate call) slots works = refl
 none_refused z command slots works = by (change_refusal z command slots) works
   where
     by : (r : Option Refusal) → at_once r (is_unchanged command slots) ≡ None → r ≡ None

@@ -7,7 +7,8 @@ use Rattle.core_views.specs.declared.answer.AnsweredLine.{AnsweredLine}
 use Rattle.core_views.specs.declared.event.Event.{Event}
 use Rattle.core_views.specs.declared.event.EventKind.{EventKind}
 use Rattle.core_views.specs.declared.event.EventKind.TheVariants.{Answered}
-use Rattle.core_views.specs.Text.{answers_of, bits_text, or_answered, line_text, lines_text, text}
+use Rattle.core_views.specs.declared.migration.ImageWord.{ImageWord}
+use Rattle.core_views.specs.Text.{answers_of, bits_text, image_text, image_word_text, or_answered, line_text, lines_text, text}
 
 or_answered_append : (actor : Actor) (kind : EventKind) (xs ys : List AnsweredLine) → or_answered actor kind (xs ++ ys) ≡ or_answered actor kind xs ++ ys
 or_answered_append actor (Answered line answer) xs ys = refl
@@ -32,3 +33,11 @@ pub bits_more : (done words : List ℕ) (i : ℕ) → i < length words
 bits_more done words i lt =
     append_assoc done (codes " 0x" ++ digits 16 false (get_or words i 0)) (bits_text (drop (i + 1) words))
     ∙ ap (λ (rest : List ℕ). done ++ bits_text rest) (sym (drop_more words i 0 lt))
+
+-- Words of an image, as far as they are written: one more.
+pub image_more : (done : List ℕ) (word : ImageWord) (more rest : List ImageWord) → rest ≡ word ∷ more
+    → (done ++ (codes " " ++ image_word_text word)) ++ image_text more ≡ done ++ image_text rest
+image_more done word more rest is =
+    append_assoc done (codes " " ++ image_word_text word) (image_text more)
+    ∙ (ap (λ (xs : List ℕ). done ++ xs) (append_assoc (codes " ") (image_word_text word) (image_text more))
+    ∙ ap (λ (xs : List ImageWord). done ++ image_text xs) (sym is))

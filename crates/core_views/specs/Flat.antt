@@ -4,6 +4,8 @@ use Rattle.core_views.specs.declared.actor.Actor.{Actor}
 use Rattle.core_views.specs.declared.actor.Actor.TheVariants.{Vcpu}
 use Rattle.core_views.specs.declared.answer.Answer.{Answer}
 use Rattle.core_views.specs.declared.host.HostEntry.{HostEntry}
+use Rattle.core_views.specs.declared.migration.Migration.{Migration}
+use Rattle.core_views.specs.declared.migration.Migration.TheVariants.{Unstarted}
 use Rattle.core_views.specs.declared.trace.Command.TheVariants.{Access}
 use Rattle.core_views.specs.declared.trace.Op.TheVariants.{Read}
 use Rattle.core_views.specs.declared.trace.Line.{Line}
@@ -18,9 +20,11 @@ pub record Facts : Type 0 where
   pub slots : MemorySlots
   pub host : HostMap
   pub memory : Memory
-  pub paused : Bool  -- Virtual processors are to make no access.
+  pub migration : Migration  -- How far the migration of the guest has come: its last stages are a pause, in which virtual processors are to make no access.
   pub armed : ℕ → Bool  -- Writes to the slot with the ID are logged.
   pub pending : FrameSet  -- The frame is dirty: it was written while its slot was armed, and wasn't taken out of the log since.
+  pub image : Memory  -- what migrations have copied of each host page
+  pub to_copy : FrameSet  -- The page of the frame is yet to be copied.
 
 -- how far the line under way has come, by its own events
 pub data Stage : Type 0 where
@@ -32,6 +36,12 @@ pub data Stage : Type 0 where
   HasArmed : Stage  -- so it did, and the slot's writes are logged since
   HasTaken : (id : ℕ) → Stage  -- it has begun to read the log of this slot
   HasRead : (frames : List ℕ) → Stage  -- it has read it, with these guest frames in it
+  HasCalled : Stage  -- it has started the migration, or let the guest run again
+  HasSetPause : Stage  -- it has set the pause
+  HasToRead : (ids : List ℕ) → Stage  -- it has yet to read the logs of these slots, in this order, and then to copy
+  HasTakenNext : (id : ℕ) (ids : List ℕ) → Stage  -- it has begun to read the log of this slot, and has yet to read those
+  -- It has yet to copy these guest frames, in this order, and has copied so many, and so many words of the next one.
+  HasToCopy : (frames : List ℕ) (count word : ℕ) → Stage
   HasChangedHost : (entry : HostEntry) → Stage  -- its change of a host page took effect: this is the page's entry since
 
 -- what the line looked at, as it last did: the pause, the slots, and the entry of each host page
@@ -51,9 +61,18 @@ pub record Flat : Type 0 where
   pub past : Past
   pub under : Actor → LineUnderWay
 
--- At the start there is no slot, each host page is present and writable at its own frame, all content is zero, nothing is paused, and no log is kept.
+-- At the start there is no slot, each host page is present and writable at its own frame, all content is zero, nothing is migrated, and no log is kept.
 abbrev pub first_facts : Facts
-first_facts = record { slots = []; host = own_frames; memory = all_zero; paused = false; armed = λ id. false; pending = λ gfn. false }
+first_facts = record {
+  slots = [];
+  host = own_frames;
+  memory = all_zero;
+  migration = Unstarted;
+  armed = λ id. false;
+  pending = λ gfn. false;
+  image = all_zero;
+  to_copy = λ gfn. false;
+}
 
 abbrev pub no_notes : Notes
 no_notes = record { paused = None; slots = None; host = λ page. None }

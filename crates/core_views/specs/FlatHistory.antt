@@ -1,14 +1,15 @@
 -- The flat history of a trace: each line runs alone, in file order.
 use Rattle.std.specs.Prelude.{ℕ, List, [], ◌∷◌, ◌++◌, Bool, true, false, Option, Some, None, if◌then◌else◌}
 use Rattle.core_views.specs.declared.answer.Answer.{Answer}
-use Rattle.core_views.specs.declared.answer.Answer.TheVariants.{Reached, Mmio, HostFault, Done, Moved, Bits, Refused}
+use Rattle.core_views.specs.declared.answer.Answer.TheVariants.{Reached, Mmio, HostFault, Paused, Done, Moved, Bits, Refused}
 use Rattle.core_views.specs.declared.answer.Refusal.TheVariants.{NoFrame}
 use Rattle.core_views.specs.declared.event.Event.{Event}
 use Rattle.core_views.specs.declared.event.EventKind.{EventKind}
 use Rattle.core_views.specs.declared.event.EventKind.TheVariants.{Begun, LookedAtPause, LookedAtSlots, LookedAtHost, BroughtIn, Accessed, Exited, SlotChanged}
-use Rattle.core_views.specs.declared.event.EventKind.TheVariants.{HostChanged, Armed, Taken, Harvested, Shown, Answered}
+use Rattle.core_views.specs.declared.event.EventKind.TheVariants.{HostChanged, Armed, Taken, Harvested, Shown}
+use Rattle.core_views.specs.Migrations.{is_paused}
 use Rattle.core_views.specs.declared.trace.Command.{Command}
-use Rattle.core_views.specs.declared.trace.Command.TheVariants.{Access, ChangeHost, ClearLog, GetLog, SetLog}
+use Rattle.core_views.specs.declared.trace.Command.TheVariants.{Access, ChangeHost, ClearLog, GetLog, Migrate, SetLog}
 use Rattle.core_views.specs.declared.trace.HostChange.{HostChange}
 use Rattle.core_views.specs.declared.trace.HostChange.TheVariants.{Move, Evict, Protect, Allow}
 use Rattle.core_views.specs.declared.sizes.Sizes.{Sizes}
@@ -22,15 +23,12 @@ use Rattle.core_views.specs.HostChanges.{host_answer, is_own, lowest_free}
 use Rattle.core_views.specs.Slots.{page_behind}
 use Rattle.core_views.specs.SlotSets.{flat_slots}
 use Rattle.core_views.specs.Flat.{Facts, Stage, Idle, Fresh, HasAccessed, HasLeft, HasChanged, HasArmed, HasTaken, HasRead, HasChangedHost, first_facts}
+use Rattle.core_views.specs.Flat.{HasCalled, HasSetPause, HasTakenNext, HasToCopy, HasToRead}
 use Rattle.core_views.specs.LogCommands.{asked_frames, bits_for, is_all_set, takes_out}
 use Rattle.core_views.specs.Events.{facts_after_all}
 use Rattle.core_views.specs.Lawful.{answer_at_once, slot_change, slot_read}
-
-abbrev pub by : Line → EventKind → Event
-by line kind = record { actor = line.actor; kind = kind }
-
-abbrev pub answers : Line → Answer → List Event
-answers line answer = by line (Answered line.number answer) ∷ []
+pub use Rattle.core_views.specs.FlatMigrations.{by, answers, copying_page, page_copied, words_copied, copying}
+pub use Rattle.core_views.specs.FlatMigrations.{dirty_read, reading_logs, reading_next, stopping, migrating}
 
 -- An access brings its page in that isn't present.
 abbrev pub bringing : Line → ℕ → Bool → List Event
@@ -48,6 +46,11 @@ reaching line gfn word op f page false =
 abbrev pub accessing : Line → ℕ → ℕ → Op → Facts → Option ℕ → List Event
 accessing line gfn word op f None = by line (Exited Mmio) ∷ answers line Mmio
 accessing line gfn word op f (Some page) = reaching line gfn word op f page (is_denied op (f.host page))
+
+-- While the guest is paused an access isn't made.
+abbrev pub unless_paused : Line → Bool → List Event → List Event
+unless_paused line true rest = by line (Exited Paused) ∷ answers line Paused
+unless_paused line false rest = rest
 
 -- A line that has changed a slot is done, and one that has given the slot a dirty log arms it before.
 abbrev pub arming : Sizes → Line → Command → List Event
@@ -83,10 +86,12 @@ changing_host z line page Allow f = by line (HostChanged page (record (f.host pa
 
 -- what a line does that has something to do
 abbrev pub working : Sizes → Line → Command → Facts → List Event
-working z line (Access gfn word op) f = accessing line gfn word op f (page_behind (flat_slots f.slots) gfn op)
+working z line (Access gfn word op) f =
+    unless_paused line (is_paused f.migration) (accessing line gfn word op f (page_behind (flat_slots f.slots) gfn op))
 working z line (ChangeHost page change) f = changing_host z line page change f
 working z line (GetLog id) f = by line (Taken id) ∷ reading z line (GetLog id) id f
 working z line (ClearLog id first count words) f = by line (Taken id) ∷ reading z line (ClearLog id first count words) id f
+working z line (Migrate call) f = migrating z line call f
 working z line command f = changing line (slot_change f.slots command) (arming z line command)
 
 -- A line that has nothing to do is answered at once, and changes nothing.
@@ -95,7 +100,7 @@ doing_by z line command f None = working z line command f
 doing_by z line command f (Some answer) = answers line answer
 
 abbrev pub doing : Sizes → Line → Command → Facts → List Event
-doing z line command f = doing_by z line command f (answer_at_once z f.slots line.actor command)
+doing z line command f = doing_by z line command f (answer_at_once z f.slots f.migration line.actor command)
 
 -- what is left of a line, from each stage on
 abbrev pub rest_of : Sizes → Line → Stage → Facts → List Event
@@ -107,6 +112,11 @@ rest_of z line HasChanged f = arming z line line.command
 rest_of z line HasArmed f = answers line Done
 rest_of z line (HasTaken id) f = reading z line line.command id f
 rest_of z line (HasRead frames) f = answers line (Bits (bits_for line.command (slot_read f.slots line.command) frames))
+rest_of z line HasCalled f = answers line Done
+rest_of z line HasSetPause f = stopping z line line.command f
+rest_of z line (HasToRead ids) f = reading_logs z line line.command ids f
+rest_of z line (HasTakenNext id ids) f = reading_next z line line.command id ids f
+rest_of z line (HasToCopy frames count word) f = copying z line line.command frames count word f
 rest_of z line (HasChangedHost entry) f = answers line (host_answer line.command entry)
 
 -- what a line looks at before it does anything: an access at the pause, at the slots, and at the host page that they give it; a host line at its page,

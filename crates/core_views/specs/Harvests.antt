@@ -11,7 +11,7 @@ use Rattle.core_views.specs.Slots.{contains}
 use Rattle.core_views.specs.SlotSets.{MemorySlots, slot_of_id}
 
 -- The line reads these guest frames of the slot's log. It has asked for each (`asked`), and each has a cause to stand in the log (`caused`). None is left out
--- for which it has asked that was dirty as it began to read, with no write to it under way then (`complete`).
+-- for which it has asked that was dirty as it began to read, with no write to it under way then, or with the guest stopped (`complete`).
 pub record IsHarvest (f : Facts) (past : Past) (command : Command) (id : ℕ) (frames : List ℕ) : Type 0 where
   pub slot : MemorySlot
   pub there : slot_of_id id f.slots ≡ Some slot

@@ -10,27 +10,35 @@ use Rattle.core_views.specs.declared.sizes.LogMode.TheVariants.{Automatic, Manua
 use Rattle.core_views.specs.declared.sizes.Sizes.{Sizes}
 use Rattle.core_views.specs.declared.slot_set.MemorySlot.{MemorySlot}
 use Rattle.core_views.specs.declared.trace.Command.{Command}
-use Rattle.core_views.specs.declared.trace.Command.TheVariants.{ClearLog, GetLog}
+use Rattle.core_views.specs.declared.trace.Command.TheVariants.{ClearLog, GetLog, Migrate}
 use Rattle.core_views.specs.declared.trace.Slot.{Slot}
 use Rattle.core_views.specs.Past.{FrameSet}
 use Rattle.core_views.specs.Refusals.{is_logged, log_refusal}
 use Rattle.core_views.specs.Slots.{first_of, is_some_and}
 use Rattle.core_views.specs.SlotSets.{MemorySlots, slot_of_id}
 
--- the ID of the slot whose dirty log the line reads, or none
+-- the ID of the slot whose dirty log the line reads, or none; a migration reads those of all slots
 abbrev pub log_read : Command → Option ℕ
 log_read (GetLog id) = Some id
 log_read (ClearLog id first count words) = Some id
 log_read _ = None
 
+-- The line may read a dirty log.
+abbrev pub reads_logs : Command → Bool
+reads_logs (GetLog id) = true
+reads_logs (ClearLog id first count words) = true
+reads_logs (Migrate call) = true
+reads_logs _ = false
+
 -- The bit is set, of words of 64 bits each, the first word first.
 abbrev pub has_bit : List ℕ → ℕ → Bool
 has_bit words bit = get_or words (bit / 64) 0 / 2 ^ (bit % 64) % 2 == 1
 
--- The line asks for this page of the slot: a get for all, a clear for those whose bits are set.
+-- The line asks for this page of the slot: a get for all, a clear for those whose bits are set, and a migration for all of each slot.
 abbrev pub asks_for : Command → ℕ → Bool
 asks_for (GetLog id) page = true
 asks_for (ClearLog id first count words) page = nat_le first page && (nat_lt page (first + count) && has_bit words (page - first))
+asks_for (Migrate call) page = true
 asks_for _ page = false
 
 -- The log is automatic: a get clears what it reads.
@@ -97,6 +105,7 @@ words_asked command slot = (count_asked command slot + 63) / 64
 abbrev pub most_words : Sizes → Command → ℕ
 most_words z (GetLog id) = z.pages / 64 + 1
 most_words z (ClearLog id first count words) = count / 64 + 1
+most_words z (Migrate call) = z.pages / 64 + 1
 most_words z _ = 0
 
 -- what the command says of the pages of a word of the answer: a clear by the bits that it gives, a get that it asks for all

@@ -15,7 +15,7 @@ FrameSet = ℕ → Bool
 -- A write that is under way may still reach its frame, or have done so.
 pub record Past : Type 0 where
   pub writes : List (Actor × ℕ)  -- the lines under way that write: the actor of each, and its guest frame
-  pub due : FrameSet  -- The frame was dirty as a log last began to be read, and no such line was under way then.
+  pub due : FrameSet  -- The frame was dirty as a log last began to be read, and no such line was under way then, or the guest was stopped.
   pub recent : FrameSet  -- Such a line was under way at some moment since a log last began to be read, and since the frame's slot was last changed.
   -- One was since that reading began that took the frame out of its log last, and since the frame's slot was last changed; or each page of the slot was
   -- dirty as its log began, and the frame wasn't taken out since.

@@ -9,7 +9,7 @@ use Rattle.core_views.specs.declared.slot_set.MemorySlot.{MemorySlot}
 use Rattle.core_views.specs.declared.sizes.Sizes.{Sizes}
 use Rattle.core_views.specs.declared.trace.Command.{Command}
 use Rattle.core_views.specs.declared.trace.Slot.{Slot}
-use Rattle.core_views.specs.declared.trace.Command.TheVariants.{Access, ChangeHost, ClearLog, DeleteSlot, GetLog, SetLog, SetSlot}
+use Rattle.core_views.specs.declared.trace.Command.TheVariants.{Access, ChangeHost, ClearLog, DeleteSlot, GetLog, Migrate, SetLog, SetSlot}
 use Rattle.core_views.specs.Refusals.{delete_refusal, is_logged, log_refusal, set_refusal}
 use Rattle.core_views.specs.Slots.{is_some_and, slot_with_id}
 use Rattle.core_views.specs.SlotSets.{MemorySlots, changed_slots, flat_slots, slot_of_id}
@@ -25,6 +25,7 @@ changes_slot (Access gfn word op) = false
 changes_slot (ChangeHost page change) = false
 changes_slot (GetLog id) = false
 changes_slot (ClearLog id first count words) = false
+changes_slot (Migrate call) = false
 changes_slot _ = true
 
 -- The ID of which a line changes the slot, and the slot after the change, or none where the line deletes it. A slot that is set has a dirty log where the
@@ -37,6 +38,7 @@ slot_change slots (DeleteSlot id) = Some (id, None)
 slot_change slots (SetLog id on) = Some (id, option_map (λ was. record { slot = was.slot; logged = on }) (slot_of_id id slots))
 slot_change slots (GetLog id) = None
 slot_change slots (ClearLog id first count words) = None
+slot_change slots (Migrate call) = None
 
 -- the slots after such a change
 abbrev pub after_change : Option (ℕ × Option MemorySlot) → MemorySlots → MemorySlots
@@ -76,6 +78,7 @@ change_refusal z (DeleteSlot id) slots = delete_refusal id slots
 change_refusal z (SetLog id on) slots = log_refusal on id slots
 change_refusal z (GetLog id) slots = None
 change_refusal z (ClearLog id first count words) slots = None
+change_refusal z (Migrate call) slots = None
 
 -- The slot that was there has the same first guest frame. Its number of pages, its host pages and its flag can't be others, else this one is refused.
 abbrev pub stays : Slot → Slot → Bool
@@ -96,6 +99,7 @@ change_at_once z (Access gfn word op) slots = None
 change_at_once z (ChangeHost page change) slots = None
 change_at_once z (GetLog id) slots = None
 change_at_once z (ClearLog id first count words) slots = None
+change_at_once z (Migrate call) slots = None
 change_at_once z command slots = at_once (change_refusal z command slots) (is_unchanged command slots)
 
 -- what such a line is answered

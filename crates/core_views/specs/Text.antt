@@ -5,10 +5,11 @@ use Rattle.core_views.specs.declared.actor.Actor.{Actor}
 use Rattle.core_views.specs.declared.actor.Actor.TheVariants.{Vcpu, Host, Manager, Worker}
 use Rattle.core_views.specs.declared.answer.Answer.{Answer}
 use Rattle.core_views.specs.declared.answer.AnsweredLine.{AnsweredLine}
-use Rattle.core_views.specs.declared.answer.Answer.TheVariants.{Reached, Mmio, HostFault, Starved, Done, Moved, Bits, Refused}
+use Rattle.core_views.specs.declared.answer.Answer.TheVariants.{Reached, Mmio, HostFault, Starved, Paused, Done, Moved, Bits, Copied, Image, Refused}
 use Rattle.core_views.specs.declared.answer.Refusal.{Refusal}
 use Rattle.core_views.specs.declared.answer.Refusal.TheVariants.{BadId, TooLarge, Missing, Logged, NoLog, Resize, Fixed, Overlap, HostOverlap, OutOfRange}
-use Rattle.core_views.specs.declared.answer.Refusal.TheVariants.{NoFrame, BadRange}
+use Rattle.core_views.specs.declared.answer.Refusal.TheVariants.{NoFrame, BadRange, Migrating, NotLogged, NotStarted}
+use Rattle.core_views.specs.declared.migration.ImageWord.{ImageWord}
 use Rattle.core_views.specs.declared.event.Event.{Event}
 use Rattle.core_views.specs.declared.event.EventKind.{EventKind}
 use Rattle.core_views.specs.declared.event.EventKind.TheVariants.{Answered}
@@ -32,20 +33,35 @@ refusal_name HostOverlap = codes "host-overlap"
 refusal_name OutOfRange = codes "out-of-range"
 refusal_name NoFrame = codes "no-frame"
 refusal_name BadRange = codes "bad-range"
+refusal_name Migrating = codes "migrating"
+refusal_name NotLogged = codes "not-logged"
+refusal_name NotStarted = codes "not-started"
 
 -- words of a dirty log, each after a space, in hexadecimal digits
 abbrev pub bits_text : List ℕ → List ℕ
 bits_text [] = []
 bits_text (word ∷ words) = codes " 0x" ++ (digits 16 false word ++ bits_text words)
 
+-- a word of an image, and words of one, each after a space
+abbrev pub image_word_text : ImageWord → List ℕ
+image_word_text at =
+    decimal at.id ++ (codes ":" ++ (decimal at.page ++ (codes ":" ++ (decimal at.word ++ (codes "=" ++ decimal at.value)))))
+
+abbrev pub image_text : List ImageWord → List ℕ
+image_text [] = []
+image_text (word ∷ words) = codes " " ++ (image_word_text word ++ image_text words)
+
 abbrev pub answer_text : Answer → List ℕ
 answer_text (Reached frame value) = codes "frame " ++ (decimal frame ++ (codes " value " ++ decimal value))
 answer_text Mmio = codes "mmio"
 answer_text HostFault = codes "hostfault"
 answer_text Starved = codes "starved"
+answer_text Paused = codes "paused"
 answer_text Done = codes "done"
 answer_text (Moved frame) = codes "frame " ++ decimal frame
 answer_text (Bits words) = codes "bits" ++ bits_text words
+answer_text (Copied pages) = codes "copied " ++ decimal pages
+answer_text (Image words) = codes "image" ++ image_text words
 answer_text (Refused refusal) = codes "refused " ++ refusal_name refusal
 
 -- a line's number, its actor, its answer, and LF

@@ -1,9 +1,9 @@
-ghost use Rattle.std.specs.Prelude.{◌≡◌, Some};
+ghost use Rattle.std.specs.Prelude.{◌≡◌, ◌++◌, Some, codes};
 ghost use Rattle.core_views.specs.SlotCommands.{refused_or_done};
 ghost use Rattle.std.specs.Fmt.{WritesOnOk};
-ghost use Rattle.core_views.specs.Text.{answer_text, bits_text, refusal_name};
+ghost use Rattle.core_views.specs.Text.{answer_text, bits_text, image_text, image_word_text, refusal_name};
 
-use crate::{Actor, Sequence, Words};
+use crate::{Actor, Image, ImageWord, Sequence, Words};
 use std::fmt;
 
 /// What a line of the trace is answered.
@@ -18,6 +18,8 @@ pub enum Answer {
     HostFault,
     /// No pool page was free for a table that the access needs.
     Starved,
+    /// The guest is paused, so the access isn't made.
+    Paused,
     /// The change took effect: of a slot, or of a host page that wasn't moved.
     Done,
     /// The host page was moved to this frame.
@@ -25,6 +27,10 @@ pub enum Answer {
     /// A dirty log, as far as it was asked for: a bit for each page, bit 0 of the first word
     /// first.
     Bits(Words),
+    /// So many pages were copied into the image of guest memory.
+    Copied(u64),
+    /// The image of guest memory: its words that aren't 0.
+    Image(Image),
     /// The line is refused, and nothing has changed.
     Refused(Refusal),
 }
@@ -58,6 +64,12 @@ pub enum Refusal {
     NoFrame,
     /// The pages to be cleared aren't whole words of the slot's log.
     BadRange,
+    /// The guest is being migrated.
+    Migrating,
+    /// Some slot has no dirty log, so the guest can't be migrated.
+    NotLogged,
+    /// No migration goes on while the guest runs, or, for the line that resumes it, the guest isn't stopped.
+    NotStarted,
 }
 
 impl Answer {
@@ -91,6 +103,9 @@ impl Refusal {
             Refusal::OutOfRange => "out-of-range",
             Refusal::NoFrame => "no-frame",
             Refusal::BadRange => "bad-range",
+            Refusal::Migrating => "migrating",
+            Refusal::NotLogged => "not-logged",
+            Refusal::NotStarted => "not-started",
         }
     }
 }
@@ -116,11 +131,17 @@ impl fmt::Display for Answer {
             Answer::Mmio => write!(f, "mmio"),
             Answer::HostFault => write!(f, "hostfault"),
             Answer::Starved => write!(f, "starved"),
+            Answer::Paused => write!(f, "paused"),
             Answer::Done => write!(f, "done"),
             Answer::Moved(frame) => write!(f, "frame {frame}"),
             Answer::Bits(words) => {
                 write!(f, "bits")?;
                 write_bits(f, words.as_slice())
+            }
+            Answer::Copied(pages) => write!(f, "copied {pages}"),
+            Answer::Image(words) => {
+                write!(f, "image")?;
+                write_image(f, words.as_slice())
             }
             Answer::Refused(refusal) => {
                 let name = refusal.name();
@@ -138,4 +159,23 @@ fn write_bits<W: fmt::Write>(f: &mut fmt::Formatter<W>, words: &[u64]) -> fmt::R
         write!(f, " 0x{word:x}")?;
     }
     Ok(())
+}
+
+// Writes words of an image, each after a space.
+fn write_image<W: fmt::Write>(f: &mut fmt::Formatter<W>, words: &[ImageWord]) -> fmt::Result
+    ensures { WritesOnOk W.write_str_gives f.old result (image_text words.now) f.new }
+{
+    let mut rest = words;
+    while let Some((at, more)) = rest.split_first() {
+        write_word(f, at)?;
+        rest = more;
+    }
+    Ok(())
+}
+
+// Writes a word of an image after a space.
+fn write_word<W: fmt::Write>(f: &mut fmt::Formatter<W>, at: &ImageWord) -> fmt::Result
+    ensures { WritesOnOk W.write_str_gives f.old result (codes " " ++ image_word_text at.now) f.new }
+{
+    write!(f, " {at}")
 }

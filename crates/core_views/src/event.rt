@@ -69,6 +69,24 @@ pub enum EventKind {
         id: u64,
         frames: Words,
     },
+    /// The migration of the guest starts: each page of each slot is to be copied.
+    MigrationStarted,
+    /// From now on a virtual processor that looks at the pause makes no access.
+    PauseSet,
+    /// From now on no virtual processor makes an access.
+    GuestStopped,
+    /// A word of the host page that is behind the guest frame was copied into the image, and
+    /// holds `value`. With `whole` it was the last one of its page, which isn't to be copied
+    /// any longer.
+    WordCopied {
+        gfn: u64,
+        page: u64,
+        word: u8,
+        value: u64,
+        whole: bool,
+    },
+    /// The pause is over, and so is the migration.
+    Resumed,
     /// The line with this number is answered.
     Answered {
         line: u32,

@@ -10,6 +10,7 @@ mod hand;
 mod host;
 mod kind;
 mod log_commands;
+mod migration;
 mod no_memory;
 mod place;
 mod sequence;
@@ -26,6 +27,7 @@ pub use event::{Event, EventKind};
 pub use hand::{Closing, Hand, Hands, Progress, Seen};
 pub use host::HostEntry;
 pub use kind::{Kind, Operation, StepKind};
+pub use migration::{Image, ImageWord, Migration};
 pub use no_memory::NoMemory;
 pub use place::{
     AccessPlace, BeginPlace, Cause, CheckStage, EndPlace, FaultEnd, FaultNext, FaultPlace,
@@ -39,5 +41,6 @@ pub use topics::{
     OwnedPage, SlotSearch, Stay, TableWalk, Topics,
 };
 pub use trace::{
-    Command, Header, HostChange, Item, Items, Line, Lines, Op, Slot, Trace, Until, Words,
+    Command, Header, HostChange, Item, Items, Line, Lines, MigrationCall, Op, Slot, Trace, Until,
+    Words,
 };

@@ -49,6 +49,7 @@ impl Command {
             Command::GetLog { id } | Command::ClearLog { id, .. } => Some(*id),
             Command::Access { .. } | Command::ChangeHost { .. } => None,
             Command::SetSlot { .. } | Command::DeleteSlot { .. } | Command::SetLog { .. } => None,
+            Command::Migrate { .. } => None,
         }
     }
 
@@ -58,7 +59,7 @@ impl Command {
         ensures { result ≡ asks_for self.now page }
     {
         match self {
-            Command::GetLog { .. } => true,
+            Command::GetLog { .. } | Command::Migrate { .. } => true,
             Command::ClearLog {
                 first,
                 count,
@@ -124,7 +125,8 @@ impl Sizes {
         ensures { result ≡ most_words self.now command.now }
     {
         match command {
-            Command::GetLog { .. } => (self.pages / WORD_PAGES) as usize + 1,
+            Command::GetLog { .. } | Command::Migrate { .. } => (self.pages / WORD_PAGES) as usize
+                + 1,
             Command::ClearLog { count, .. } => (*count / WORD_PAGES) as usize + 1,
             _ => 0,
         }

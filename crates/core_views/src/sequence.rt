@@ -1,6 +1,7 @@
 ghost use Rattle.std.specs.Prelude.{◌≡◌};
 ghost use Rattle.std.specs.Cmp.Lexicographic.{pointwise, lists_equiv, lists_per};
 
+use crate::ImageWord;
 use std::alloc::AllocError;
 use std::fmt;
 use std::marker::Model;
@@ -43,6 +44,15 @@ impl<T> Sequence<T> {
 
 /// A clone of numbers is the same numbers.
 impl Clone for Sequence<u64> {
+    ghost is_clone = { λ v w. w ≡ v };
+
+    fn clone(&self) -> Result<Self, AllocError> {
+        Ok(Sequence::from_vec(self.items.clone()?))
+    }
+}
+
+/// A clone of words of an image is the same words.
+impl Clone for Sequence<ImageWord> {
     ghost is_clone = { λ v w. w ≡ v };
 
     fn clone(&self) -> Result<Self, AllocError> {

@@ -27,7 +27,7 @@ impl SlotSet {
             },
             Command::SetLog { id, on } => self.check_log(*id, *on).err().map(Some),
             Command::Access { .. } | Command::ChangeHost { .. } => None,
-            Command::GetLog { .. } | Command::ClearLog { .. } => None,
+            Command::GetLog { .. } | Command::ClearLog { .. } | Command::Migrate { .. } => None,
         }
     }
 
@@ -53,7 +53,7 @@ impl SlotSet {
             Command::DeleteSlot { id } => self.take_out(*id),
             Command::SetLog { id, on } => self.put_log(*id, *on),
             Command::Access { .. } | Command::ChangeHost { .. } => {}
-            Command::GetLog { .. } | Command::ClearLog { .. } => {}
+            Command::GetLog { .. } | Command::ClearLog { .. } | Command::Migrate { .. } => {}
         }
     }
 
@@ -64,7 +64,7 @@ impl SlotSet {
         match command {
             Command::SetSlot { id, .. } | Command::DeleteSlot { id } => Some(self.get(*id)?.slot),
             Command::Access { .. } | Command::ChangeHost { .. } | Command::SetLog { .. } => None,
-            Command::GetLog { .. } | Command::ClearLog { .. } => None,
+            Command::GetLog { .. } | Command::ClearLog { .. } | Command::Migrate { .. } => None,
         }
     }
 
@@ -77,7 +77,7 @@ impl SlotSet {
             Command::SetLog { on: false, .. } => None,
             Command::SetSlot { .. } | Command::DeleteSlot { .. } => None,
             Command::Access { .. } | Command::ChangeHost { .. } => None,
-            Command::GetLog { .. } | Command::ClearLog { .. } => None,
+            Command::GetLog { .. } | Command::ClearLog { .. } | Command::Migrate { .. } => None,
         }
     }
 

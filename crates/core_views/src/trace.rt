@@ -89,6 +89,19 @@ pub enum HostChange {
     Allow,
 }
 
+/// What a line does to the migration of the guest.
+#[derive(Clone, Copy, Debug, PartialEq, Eq, Drop)]
+pub enum MigrationCall {
+    /// Starts it: each page of each slot is to be copied.
+    Start,
+    /// Reads the dirty logs, and copies the pages that are to be copied, while the guest runs.
+    Round,
+    /// Stops the guest, and does the same.
+    Finish,
+    /// Lets the guest run again, and ends the migration.
+    Resume,
+}
+
 /// What a line asks for: one variant for each form of line.
 #[derive(Clone, Debug, PartialEq, Eq, Drop)]
 pub enum Command {
@@ -132,6 +145,10 @@ pub enum Command {
         first: u64,
         count: u64,
         words: Words,
+    },
+    /// Starts, goes on with, finishes or ends the migration of the guest.
+    Migrate {
+        call: MigrationCall,
     },
 }
 

@@ -1,5 +1,5 @@
 -- A line that reads a log alone, from a state in which no line is under way, is lawful.
-use Rattle.std.proofs.Common.{◌&&◌, ◌≡◌, ℕ, List, ◌∷◌, Bool, true, false, refl, sym, ap, ◌∙◌, subst}
+use Rattle.std.proofs.Common.{◌&&◌, ◌≡◌, inl, ℕ, List, ◌∷◌, Bool, true, false, refl, sym, ap, ◌∙◌, subst}
 use Rattle.std.specs.Prelude.{Option, Some, None}
 use Rattle.core_views.specs.declared.actor.Actor.{Actor}
 use Rattle.core_views.specs.declared.answer.Answer.{Answer}
@@ -13,8 +13,8 @@ use Rattle.core_views.specs.declared.trace.Line.{Line}
 use Rattle.core_views.specs.declared.slot_set.MemorySlot.{MemorySlot}
 use Rattle.core_views.specs.Harvests.{IsHarvest}
 use Rattle.core_views.specs.Past.{Past}
-use Rattle.core_views.specs.Flat.{Facts, LineUnderWay, Flat, Fresh, HasTaken, no_notes}
-use Rattle.core_views.specs.Events.{after, facts_after}
+use Rattle.core_views.specs.Flat.{Facts, LineUnderWay, Flat, Fresh, HasTaken, Stage, no_notes}
+use Rattle.core_views.specs.Events.{after, facts_after, logs_left, stage_taken}
 use Rattle.core_views.specs.Lawful.{HasWork, MayRead, answer_at_once}
 use Rattle.core_views.specs.Lawful.{slot_at, slot_read}
 use Rattle.core_views.specs.LogCommands.{asked_frames, bits_for, log_read, takes_out}
@@ -55,7 +55,7 @@ read_closes z line command id facts true f is may at =
     let event : EventKind = Harvested id (frames_read facts command) in
     more z (by line event) (answers line (words_read facts command)) f
     (allowed z line.actor event facts _ f at
-    (subst (λ (c : Command). MayRead z facts f.past c (HasTaken id) id (frames_read facts command) true) (sym is) may))
+    (inl (subst (λ (c : Command). MayRead z facts f.past c (HasTaken id) id (frames_read facts command) true) (sym is) may)))
     (answered z line (words_read facts command) (facts_after event facts) _ _ (step line.actor event facts _ f at) refl (rw is refl))
 read_closes z line command id facts false f is may at =
     let event : EventKind = Shown id (frames_read facts command) in
@@ -64,7 +64,7 @@ read_closes z line command id facts false f is may at =
     (subst (λ (c : Command). MayRead z facts f.past c (HasTaken id) id (frames_read facts command) false) (sym is) may))
     (answered z line (words_read facts command) facts _ _ (step line.actor event facts _ f at) refl (rw is refl))
 
-first_of_two : (b c : Bool) → (b && c) ≡ true → b ≡ true
+pub first_of_two : (b c : Bool) → (b && c) ≡ true → b ≡ true
 first_of_two true c is = refl
 first_of_two false c is = absurd (cc is)
 
@@ -77,18 +77,21 @@ taken_closes z line command id facts f is reads works caused at =
     let due : (gfn : ℕ) → then_.past.due gfn ≡ true → facts.pending gfn ≡ true =
     λ gfn was. ap (λ (g : Facts). g.pending gfn) (sym at.facts_are) ∙ first_of_two (f.facts.pending gfn) _ was in
     more z (by line (Taken id)) (reading z line command id facts) f
-    (allowed z line.actor (Taken id) facts _ f at (refl, rw is works, rw is reads))
+    (allowed z line.actor (Taken id) facts _ f at (inl (refl, rw is works, rw is reads)))
     (read_closes z line command id facts (takes_out z.mode command) then_ is
     (may_read z line.actor command id facts then_.past (takes_out z.mode command) reads works refl caused due)
-    (step line.actor (Taken id) facts _ f at))
+    (subst (λ (stage : Stage). IsAt line.actor facts (record { line = line; stage = stage; notes = no_notes }) then_)
+    (ap (λ (read : Option ℕ). stage_taken read (logs_left facts.slots line.command Fresh) id) (ap log_read is ∙ reads))
+    (step line.actor (Taken id) facts _ f at)))
 
 pub read_or_answer : (z : Sizes) (line : Line) (command : Command) (id : ℕ) (facts : Facts) (f : Flat) → line.command ≡ command → log_read command ≡ Some id
     → working z line command facts ≡ by line (Taken id) ∷ reading z line command id facts
     → ((gfn : ℕ) → facts.pending gfn ≡ true → f.past.causes gfn ≡ true)
     → IsAt line.actor facts (record { line = line; stage = Fresh; notes = no_notes }) f → Closes z (doing z line command facts) f
-read_or_answer z line command id facts f is reads does caused at = by_answer (answer_at_once z facts.slots line.actor command) refl
+read_or_answer z line command id facts f is reads does caused at = by_answer (answer_at_once z facts.slots facts.migration line.actor command) refl
   where
-    by_answer : (answer : Option Answer) → answer_at_once z facts.slots line.actor command ≡ answer → Closes z (doing_by z line command facts answer) f
+    by_answer : (answer : Option Answer) → answer_at_once z facts.slots facts.migration line.actor command ≡ answer
+        → Closes z (doing_by z line command facts answer) f
     by_answer None works =
         subst (λ (es : List Event). Closes z es f) (sym does) (taken_closes z line command id facts f is reads works caused at)
     by_answer (Some answer) says = answered z line answer facts _ f at refl (rw is says)

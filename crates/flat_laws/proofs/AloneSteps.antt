@@ -56,7 +56,7 @@ pub record Closes (z : Sizes) (es : List Event) (f : Flat) : Type 0 where
   pub facts_are : (after_all es f).facts ≡ facts_after_all es f.facts
 
 pub answered : (z : Sizes) (line : Line) (answer : Answer) (facts : Facts) (u : LineUnderWay) (f : Flat) → IsAt line.actor facts u f → u.line ≡ line
-    → Tells z facts.slots line.actor u.line.command u.stage answer → Closes z (answers line answer) f
+    → Tells z facts line.actor u.line.command u.stage answer → Closes z (answers line answer) f
 answered z line answer facts u f at is tells = record {
   lawful = (allowed z line.actor (Answered line.number answer) facts u f at (ap (λ (l : Line). l.number) (sym is), tells), tt);
   idle = λ i. at_end (is_same line.actor i) (under_after (Answered line.number answer) f.facts (f.under line.actor)) (f.under i) refl (at.others i);

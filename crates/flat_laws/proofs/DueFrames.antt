@@ -1,7 +1,8 @@
 -- The frames that a reading must not leave out: one event at a time, and over a list of events from any state.
-use Rattle.std.proofs.Common.{◌≡◌, ◌⊎◌, inl, inr, ℕ, List, [], ◌∷◌, ◌++◌, true, false, refl, sym, ap, ◌∙◌}
+use Rattle.std.proofs.Common.{◌≡◌, ◌⊎◌, inl, inr, ℕ, List, [], ◌∷◌, ◌++◌, ◌||◌, true, refl, sym, ap, ◌∙◌}
 use Rattle.std.specs.Prelude.{not, Option, Some, None}
-use Rattle.std.proofs.lemmas.Bool.{and_from, and_parts, not-true, not_from_false}
+use Rattle.core_views.specs.Migrations.{is_stopped}
+use Rattle.std.proofs.lemmas.Bool.{and_from, and_parts}
 use Rattle.core_views.specs.declared.actor.Actor.{Actor}
 use Rattle.core_views.specs.declared.event.Event.{Event}
 use Rattle.core_views.specs.declared.event.EventKind.{EventKind}
@@ -16,20 +17,20 @@ begun_due : (a : Actor) (frame : Option ℕ) (past : Past) (gfn : ℕ) → (past
 begun_due a None past gfn = refl
 begun_due a (Some first) past gfn = refl
 
--- A log begins to be read with the event, and before it the frame is dirty and isn't being written.
+-- A log begins to be read with the event, and before it the frame is dirty, and isn't being written, or the guest is stopped.
 record Takes (kind : EventKind) (f : Facts) (past : Past) (gfn : ℕ) : Type 0 where
   id : ℕ
   kind_is : kind ≡ Taken id
   dirty : f.pending gfn ≡ true
-  unwritten : is_being_written past.writes gfn ≡ false
+  unwritten : (is_stopped f.migration || not (is_being_written past.writes gfn)) ≡ true
 
 -- A frame that is due after an event is so by it, or was before and no log begins to be read.
 due_was : (a : Actor) (kind : EventKind) (f : Facts) (past : Past) (gfn : ℕ) → (past_after a kind f past).due gfn ≡ true
     → Takes kind f past gfn ⊎ ((past.due gfn ≡ true) × IsNoTaking kind)
 due_was a (Begun line) f past gfn is = inr (sym (begun_due a (written_frame line.command) past gfn) ∙ is, tt)
 due_was a (Taken id) f past gfn is =
-    let both = and_parts (f.pending gfn) (not (is_being_written past.writes gfn)) is in
-    inl (record { id = id; kind_is = refl; dirty = both.0; unwritten = not-true (is_being_written past.writes gfn) both.1 })
+    let both = and_parts (f.pending gfn) (is_stopped f.migration || not (is_being_written past.writes gfn)) is in
+    inl (record { id = id; kind_is = refl; dirty = both.0; unwritten = both.1 })
 due_was a _ f past gfn is = inr (is, tt)
 
 due_keep : (a : Actor) (kind : EventKind) (f : Facts) (past : Past) (gfn : ℕ) → IsNoTaking kind → past.due gfn ≡ true
@@ -38,7 +39,7 @@ due_keep a (Begun line) f past gfn none is = begun_due a (written_frame line.com
 due_keep a (Taken id) f past gfn none is = absurd none
 due_keep a _ f past gfn none is = is
 
--- As a log last began to be read among these events, the frame was dirty, and it wasn't being written.
+-- As a log last began to be read among these events, the frame was dirty, and it wasn't being written, or the guest was stopped.
 pub record DueSince (gfn : ℕ) (es : List Event) (f : Flat) : Type 0 where
   pub before : List Event
   pub actor : Actor
@@ -46,7 +47,7 @@ pub record DueSince (gfn : ℕ) (es : List Event) (f : Flat) : Type 0 where
   pub since : List Event
   pub are : es ≡ before ++ (record { actor = actor; kind = Taken id } ∷ since)
   pub dirty : (after_all before f).facts.pending gfn ≡ true
-  pub unwritten : is_being_written (after_all before f).past.writes gfn ≡ false
+  pub unwritten : (is_stopped (after_all before f).facts.migration || not (is_being_written (after_all before f).past.writes gfn)) ≡ true
   pub last : NoneIsTaken since
 
 pub due_since : (gfn : ℕ) (es : List Event) (f : Flat) → (after_all es f).past.due gfn ≡ true
@@ -95,4 +96,4 @@ due_stands gfn es f D =
     ap (λ (xs : List Event). (after_all xs f).past.due gfn) D.are
     ∙ ap (λ (end : Flat). end.past.due gfn) (after_append D.before (taking ∷ D.since) f)
     ∙ due_stays gfn D.since (after taking first) D.last
-    (and_from (first.facts.pending gfn) (not (is_being_written first.past.writes gfn)) D.dirty (not_from_false _ D.unwritten))
+    (and_from (first.facts.pending gfn) (is_stopped first.facts.migration || not (is_being_written first.past.writes gfn)) D.dirty D.unwritten)

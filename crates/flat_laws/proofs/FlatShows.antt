@@ -5,7 +5,7 @@ use Rattle.core_views.specs.declared.event.Event.{Event}
 use Rattle.core_views.specs.declared.event.EventKind.TheVariants.{Begun, LookedAtHost, SlotChanged, Taken}
 use Rattle.core_views.specs.declared.answer.Answer.{Answer}
 use Rattle.core_views.specs.declared.trace.Command.{Command}
-use Rattle.core_views.specs.declared.trace.Command.TheVariants.{Access, ChangeHost, ClearLog, GetLog, SetLog}
+use Rattle.core_views.specs.declared.trace.Command.TheVariants.{Access, ChangeHost, ClearLog, GetLog, Migrate, SetLog}
 use Rattle.core_views.specs.declared.trace.HostChange.{HostChange}
 use Rattle.core_views.specs.declared.trace.HostChange.TheVariants.{Move, Evict, Protect, Allow}
 use Rattle.core_views.specs.declared.trace.Line.{Line}
@@ -20,7 +20,9 @@ use Rattle.core_views.specs.Flat.{Facts, Fresh}
 use Rattle.core_views.specs.Events.{facts_after_all}
 use Rattle.core_views.specs.Lawful.{answer_at_once, slot_change}
 use Rattle.core_views.specs.FlatHistory.{by, accessing, bringing, changing_host, moving, reaching, doing, doing_by, rest_of, looks, looks_behind, alone}
-use Rattle.core_views.specs.FlatHistory.{answers, arming, harvest, one_by_one, reading, working}
+use Rattle.core_views.specs.FlatHistory.{answers, arming, harvest, one_by_one, reading, unless_paused, working}
+use Rattle.core_views.specs.Migrations.{is_paused}
+use Rattle.flat_laws.proofs.MigrationsStand.{migration_shows}
 use Rattle.core_views.specs.LogCommands.{takes_out}
 use Rattle.core_views.specs.Alone.{without_looks}
 use Rattle.core_views.proofs.HostLines.{owned_answer}
@@ -42,6 +44,13 @@ accessing_shows : (line : Line) (gfn word : ℕ) (op : Op) (f : Facts) (page : O
     → without_looks (looks_behind line page ++ accessing line gfn word op f page) ≡ accessing line gfn word op f page
 accessing_shows line gfn word op f None = refl
 accessing_shows line gfn word op f (Some page) = reaching_shows line gfn word op f page (is_denied op (f.host page))
+
+unless_shows : (line : Line) (gfn word : ℕ) (op : Op) (f : Facts) (page : Option ℕ) (paused : Bool)
+    → without_looks (looks_behind line page ++ unless_paused line paused (accessing line gfn word op f page))
+    ≡ unless_paused line paused (accessing line gfn word op f page)
+unless_shows line gfn word op f page false = accessing_shows line gfn word op f page
+unless_shows line gfn word op f None true = refl
+unless_shows line gfn word op f (Some page) true = refl
 
 arming_shows : (z : Sizes) (line : Line) (command : Command) → without_looks (arming z line command) ≡ arming z line command
 arming_shows z line (SetLog id true) = refl
@@ -92,12 +101,13 @@ owned_shows z line page change f false = refl
 
 doing_shows : (z : Sizes) (line : Line) (command : Command) (f : Facts)
     → without_looks (looks z line command f ++ doing z line command f) ≡ doing z line command f
-doing_shows z line (Access gfn word op) f = accessing_shows line gfn word op f (page_behind (flat_slots f.slots) gfn op)
+doing_shows z line (Access gfn word op) f = unless_shows line gfn word op f (page_behind (flat_slots f.slots) gfn op) (is_paused f.migration)
 doing_shows z line (ChangeHost page change) f = owned_shows z line page change f (is_own z line.actor page)
-doing_shows z line (GetLog id) f = read_shows z line (GetLog id) id f (answer_at_once z f.slots line.actor (GetLog id)) refl
+doing_shows z line (GetLog id) f = read_shows z line (GetLog id) id f (answer_at_once z f.slots f.migration line.actor (GetLog id)) refl
 doing_shows z line (ClearLog id first count words) f =
-    read_shows z line (ClearLog id first count words) id f (answer_at_once z f.slots line.actor (ClearLog id first count words)) refl
-doing_shows z line command f = change_shows z line command f _ (answer_at_once z f.slots line.actor command) refl
+    read_shows z line (ClearLog id first count words) id f (answer_at_once z f.slots f.migration line.actor (ClearLog id first count words)) refl
+doing_shows z line (Migrate call) f = migration_shows z line call f (answer_at_once z f.slots f.migration line.actor (Migrate call))
+doing_shows z line command f = change_shows z line command f _ (answer_at_once z f.slots f.migration line.actor command) refl
 
 alone_shows : (z : Sizes) (line : Line) (f : Facts) → without_looks (alone z line f) ≡ by line (Begun line) ∷ rest_of z line Fresh f
 alone_shows z line f = ap (λ (es : List Event). by line (Begun line) ∷ es) (doing_shows z line line.command f)

@@ -10,13 +10,14 @@ use Rattle.core_views.specs.declared.answer.Refusal.TheVariants.{Missing}
 use Rattle.core_views.specs.declared.sizes.Sizes.{Sizes}
 use Rattle.core_views.specs.declared.slot_set.MemorySlot.{MemorySlot}
 use Rattle.core_views.specs.declared.trace.Command.{Command}
-use Rattle.core_views.specs.declared.trace.Command.TheVariants.{Access, ChangeHost, ClearLog, DeleteSlot, GetLog, SetLog, SetSlot}
+use Rattle.core_views.specs.declared.trace.Command.TheVariants.{Access, ChangeHost, ClearLog, DeleteSlot, GetLog, Migrate, SetLog, SetSlot}
 use Rattle.core_views.specs.Flat.{Facts}
 use Rattle.core_views.specs.Harvests.{IsHarvest}
 use Rattle.core_views.specs.Lawful.{HasWork}
 use Rattle.core_views.specs.LogCommands.{asked_frames, log_read, read_refusal}
 use Rattle.core_views.specs.Past.{Past}
 use Rattle.core_views.specs.SlotSets.{MemorySlots, slot_of_id}
+use Rattle.core_views.proofs.Barred.{unbarred}
 use Rattle.core_views.proofs.AskedFrames.{asked_has, asked_is, asked_rise}
 use Rattle.core_views.proofs.SlotChanges.{IsSlotThere}
 
@@ -44,15 +45,16 @@ pub reads_there : (z : Sizes) (f : Facts) (actor : Actor) (command : Command) (i
     → IsSlotThere f.slots id
 reads_there z f actor (GetLog i) id reads works =
     subst (IsSlotThere f.slots) (same_Some i id reads)
-    (by_slot f.slots i (slot_of_id i f.slots) refl (λ none. refused (get_missing i f.slots none) (unmapped _ works)))
+    (by_slot f.slots i (slot_of_id i f.slots) refl (λ none. refused (get_missing i f.slots none) (unmapped _ (unbarred _ _ works).1)))
 reads_there z f actor (ClearLog i first count words) id reads works =
     subst (IsSlotThere f.slots) (same_Some i id reads)
-    (by_slot f.slots i (slot_of_id i f.slots) refl (λ none. refused (clear_missing i first count words f.slots none) (unmapped _ works)))
+    (by_slot f.slots i (slot_of_id i f.slots) refl (λ none. refused (clear_missing i first count words f.slots none) (unmapped _ (unbarred _ _ works).1)))
 reads_there z f actor (Access gfn word op) id reads works = absurd (cc reads)
 reads_there z f actor (ChangeHost page change) id reads works = absurd (cc reads)
 reads_there z f actor (SetSlot i slot) id reads works = absurd (cc reads)
 reads_there z f actor (DeleteSlot i) id reads works = absurd (cc reads)
 reads_there z f actor (SetLog i on) id reads works = absurd (cc reads)
+reads_there z f actor (Migrate call) id reads works = absurd (cc reads)
 
 -- All dirty frames for which it asks are such as it may read, if each has a cause and none was overlooked.
 pub reads_dirty : (f : Facts) (past : Past) (command : Command) (id : ℕ) (slot : MemorySlot) → slot_of_id id f.slots ≡ Some slot

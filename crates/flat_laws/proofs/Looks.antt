@@ -4,8 +4,7 @@ use Rattle.core_views.specs.declared.actor.Actor.{Actor}
 use Rattle.core_views.specs.declared.answer.AnsweredLine.{AnsweredLine}
 use Rattle.core_views.specs.declared.event.Event.{Event}
 use Rattle.core_views.specs.declared.event.EventKind.{EventKind}
-use Rattle.core_views.specs.declared.event.EventKind.TheVariants.{LookedAtPause, LookedAtSlots, LookedAtHost, BroughtIn, Accessed, SlotChanged, HostChanged}
-use Rattle.core_views.specs.declared.event.EventKind.TheVariants.{Armed, Harvested}
+use Rattle.core_views.specs.declared.event.EventKind.TheVariants.{LookedAtPause, LookedAtSlots, LookedAtHost}
 use Rattle.core_views.specs.Flat.{Facts, Flat}
 use Rattle.core_views.specs.Events.{after, after_all, facts_after, facts_after_all}
 use Rattle.core_views.specs.Text.{answers_of, or_answered}
@@ -56,17 +55,3 @@ answers_without_looks (e ∷ es) =
 pub facts_behind : (es : List Event) (f : Flat) → (after_all es f).facts ≡ facts_after_all es f.facts
 facts_behind [] f = refl
 facts_behind (e ∷ es) f = facts_behind es (after e f)
-
--- No event pauses, and none ends a pause.
-still : (kind : EventKind) (f : Facts) → (facts_after kind f).paused ≡ f.paused
-still (Accessed gfn word op frame before) f = refl
-still (SlotChanged id slot) f = refl
-still (BroughtIn page) f = refl
-still (HostChanged page entry) f = refl
-still (Armed id all) f = refl
-still (Harvested id frames) f = refl
-still _ f = refl
-
-pub still_paused : (es : List Event) (f : Facts) → (facts_after_all es f).paused ≡ f.paused
-still_paused [] f = refl
-still_paused (e ∷ es) f = still_paused es (facts_after e.kind f) ∙ still e.kind f

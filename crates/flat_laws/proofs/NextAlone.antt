@@ -1,16 +1,16 @@
 -- What a line does next, alone: each event of its own that is allowed, and is no look, is the next one of the flat history. One lemma a form of line,
 -- and one of its answer.
-use Rattle.std.proofs.Common.{◌≡◌, ℕ, List, ◌∷◌, ◌++◌, ◌&&◌, ◌||◌, Bool, true, false, cond, not, refl, sym, ap, ◌∙◌, subst}
+use Rattle.std.proofs.Common.{◌≡◌, inl, inr, ℕ, List, ◌∷◌, ◌++◌, ◌&&◌, ◌||◌, Bool, true, false, cond, not, refl, sym, ap, ◌∙◌, subst}
 use Rattle.std.specs.Prelude.{Option, Some, None}
 use Rattle.core_views.specs.declared.answer.Answer.{Answer}
-use Rattle.core_views.specs.declared.answer.Answer.TheVariants.{Reached, Mmio, HostFault, Starved, Done, Moved, Bits, Refused}
+use Rattle.core_views.specs.declared.answer.Answer.TheVariants.{Reached, Mmio, HostFault, Starved, Paused, Done, Moved, Bits, Refused}
 use Rattle.core_views.specs.declared.answer.Refusal.TheVariants.{NoFrame}
 use Rattle.core_views.specs.declared.host.HostEntry.{HostEntry}
 use Rattle.core_views.specs.declared.event.Event.{Event}
 use Rattle.core_views.specs.declared.event.EventKind.{EventKind}
 use Rattle.core_views.specs.declared.event.EventKind.TheVariants.{Accessed, BroughtIn, Exited, HostChanged, SlotChanged, Armed, Taken, Harvested, Shown}
 use Rattle.core_views.specs.declared.trace.Command.{Command}
-use Rattle.core_views.specs.declared.trace.Command.TheVariants.{Access, ChangeHost, ClearLog, DeleteSlot, GetLog, SetLog, SetSlot}
+use Rattle.core_views.specs.declared.trace.Command.TheVariants.{Access, ChangeHost, ClearLog, DeleteSlot, GetLog, Migrate, SetLog, SetSlot}
 use Rattle.core_views.specs.declared.trace.HostChange.{HostChange}
 use Rattle.core_views.specs.declared.trace.HostChange.TheVariants.{Move, Evict, Protect, Allow}
 use Rattle.core_views.specs.declared.trace.Line.{Line}
@@ -27,15 +27,19 @@ use Rattle.core_views.specs.LogCommands.{asked_frames, bits_for, log_read}
 use Rattle.core_views.specs.Names.{frame_at, frame_for}
 use Rattle.core_views.specs.Past.{Past}
 use Rattle.core_views.specs.Flat.{Facts, Notes, LineUnderWay, Stage, Idle, Fresh, HasAccessed, HasLeft, HasChanged, HasArmed, HasTaken, HasRead}
-use Rattle.core_views.specs.Flat.{HasChangedHost}
-use Rattle.core_views.specs.Events.{facts_after, under_after}
+use Rattle.core_views.specs.Flat.{HasCalled, HasChangedHost, HasSetPause, HasTakenNext, HasToCopy, HasToRead}
+use Rattle.core_views.specs.Migrations.{is_paused}
+use Rattle.flat_laws.proofs.NextMigrations.{left_next, next_stage, rest_read}
+use Rattle.core_views.specs.Events.{facts_after, logs_left, stage_read, stage_taken, under_after}
 use Rattle.core_views.specs.Lawful.{BringsIn, HasWork, IsAllowed, MayLeave, MayRead, SawForbidden, Tells, slot_at, slot_change, slot_read}
 use Rattle.core_views.specs.FlatHistory.{by, answers, accessing, arming, bringing, harvest, moving, reaching, reading, doing, doing_by, rest_of}
+use Rattle.core_views.specs.FlatHistory.{copying, reading_logs, unless_paused}
 use Rattle.core_views.proofs.HostLines.{mapped}
 use Rattle.core_views.proofs.SlotChanges.{changes}
 
--- What the line noted is so now: the slots, and what the host allows. A page may have been brought in since by the line itself.
+-- What the line noted is so now: the pause, the slots, and what the host allows. A page may have been brought in since by the line itself.
 pub record AreExact (f : Facts) (notes : Notes) : Type 0 where
+  pub pause : (paused : Bool) → notes.paused ≡ Some paused → is_paused f.migration ≡ paused
   pub slots : (slots : Slots) → notes.slots ≡ Some slots → slots ≡ flat_slots f.slots
   pub host : (page : ℕ) (entry : HostEntry) → notes.host page ≡ Some entry → entry.writable ≡ (f.host page).writable
 
@@ -63,11 +67,18 @@ reached line gfn word op f (Some at) page frame before is named value_is =
     reached_at line gfn word op f at (is_denied op (f.host at)) (f.host at).present frame before refl named
     (ap (λ (p : ℕ). f.memory p word) (some_is at page is) ∙ value_is)
 
+-- an access goes on where the line saw no pause
+goes_past : (line : Line) (f : Facts) (notes : Notes) (rest : List Event) → AreExact f notes → notes.paused ≡ Some false
+    → unless_paused line (is_paused f.migration) rest ≡ rest
+goes_past line f notes rest exact runs = ap (λ b. unless_paused line b rest) (exact.pause false runs)
+
 pub access_is_next : (z : Sizes) (f : Facts) (past : Past) (u : LineUnderWay) (gfn word : ℕ) (op : Op) (frame before : ℕ)
+    → (u.stage ≡ Fresh → AreExact f u.notes)
     → IsAllowed z f past u.line.actor u (Accessed gfn word op frame before) → IsNext z f u (Accessed gfn word op frame before)
-access_is_next z f past u gfn word op frame before may =
+access_is_next z f past u gfn word op frame before exact may =
     rw (may.0) (rw (may.1)
-    (reached u.line gfn word op f (page_behind (flat_slots f.slots) gfn op) may.3.page frame before may.3.behind may.3.named may.3.value_is))
+    (goes_past u.line f u.notes _ (exact may.0) may.2
+    ∙ reached u.line gfn word op f (page_behind (flat_slots f.slots) gfn op) may.3.page frame before may.3.behind may.3.named may.3.value_is))
 
 -- the page is brought in, and then reached as it is now
 brought : (z : Sizes) (line : Line) (command : Command) (f : Facts) (notes : Notes) (page : ℕ) → AreExact f notes → BringsIn f command notes page
@@ -79,11 +90,13 @@ brought z line (Access gfn word op) f notes page exact saw =
     let frame : ℕ = (f.host page).frame in
     let before : ℕ = f.memory page word in
     let named : frame_for op (then_.host page) ≡ Some frame = ap (frame_for op) (mapped page (brought_in (f.host page)) f.host) ∙ rw (saw.allows) refl in
-    ap (accessing line gfn word op f) behind
+    goes_past line f notes _ exact saw.runs
+    ∙ (ap (accessing line gfn word op f) behind
     ∙ (ap (reaching line gfn word op f page) saw.allows
     ∙ (ap (λ (present : Bool). bringing line page present ++ (by line (Accessed gfn word op frame before) ∷ answers line (Reached frame before))) saw.absent
     ∙ sym (ap (λ (es : List Event). by line (BroughtIn page) ∷ es)
-    (reached line gfn word op then_ (page_behind (flat_slots f.slots) gfn op) page frame before behind (ap (frame_at then_.host op) behind ∙ named) refl))))
+    (ap (λ b. unless_paused line b (accessing line gfn word op then_ (page_behind (flat_slots f.slots) gfn op))) (exact.pause false saw.runs)
+    ∙ reached line gfn word op then_ (page_behind (flat_slots f.slots) gfn op) page frame before behind (ap (frame_at then_.host op) behind ∙ named) refl)))))
 brought z line _ f notes page exact may = absurd may
 
 pub bringing_is_next : (z : Sizes) (f : Facts) (past : Past) (u : LineUnderWay) (page : ℕ) → (u.stage ≡ Fresh → AreExact f u.notes)
@@ -103,9 +116,13 @@ forbidden line gfn word op f notes exact saw =
 -- a clause for each answer with which it may leave
 left : (z : Sizes) (line : Line) (command : Command) (f : Facts) (notes : Notes) (answer : Answer) → AreExact f notes → FallsAsFlat z f command (Exited answer)
     → MayLeave z f line.actor command notes answer → doing z line command f ≡ by line (Exited answer) ∷ answers line answer
+left z line (Access gfn word op) f notes Paused exact fed may =
+    ap (λ b. unless_paused line b (accessing line gfn word op f (page_behind (flat_slots f.slots) gfn op))) (exact.pause true may)
 left z line (Access gfn word op) f notes Mmio exact fed may =
-    ap (accessing line gfn word op f) (subst (λ (slots : Slots). page_behind slots gfn op ≡ None) (exact.slots may.slots may.noted) may.none)
-left z line (Access gfn word op) f notes HostFault exact fed may = forbidden line gfn word op f notes exact may
+    goes_past line f notes _ exact may.runs
+    ∙ ap (accessing line gfn word op f) (subst (λ (slots : Slots). page_behind slots gfn op ≡ None) (exact.slots may.slots may.noted) may.none)
+left z line (Access gfn word op) f notes HostFault exact fed may =
+    goes_past line f notes _ exact may.runs ∙ forbidden line gfn word op f notes exact may
 left z line command f notes Starved exact fed may = absurd (fed.0 refl)
 left z line (ChangeHost page Move) f notes (Refused NoFrame) exact fed may =
     ap (doing_by z line (ChangeHost page Move) f) may ∙ ap (moving line page f) fed.1
@@ -147,10 +164,18 @@ taken z line (ChangeHost page change) f id works is = absurd (cc is)
 taken z line (SetSlot i slot) f id works is = absurd (cc is)
 taken z line (DeleteSlot i) f id works is = absurd (cc is)
 taken z line (SetLog i on) f id works is = absurd (cc is)
+taken z line (Migrate call) f id works is = absurd (cc is)
 
 pub taking_is_next : (z : Sizes) (f : Facts) (past : Past) (u : LineUnderWay) (id : ℕ) → IsAllowed z f past u.line.actor u (Taken id)
     → IsNext z f u (Taken id)
-taking_is_next z f past u id may = rw (may.0) (taken z u.line u.line.command f id may.1 may.2)
+taking_is_next z f past u id (inl may) =
+    ap (λ (s : Stage). rest_of z u.line s f) may.0
+    ∙ (taken z u.line u.line.command f id may.1 may.2
+    ∙ ap (λ (read : Option ℕ). by u.line (Taken id) ∷ rest_of z u.line (stage_taken read (logs_left f.slots u.line.command u.stage) id) f) (sym may.2))
+taking_is_next z f past u id (inr may) =
+    left_next z u.line u.line.command u.stage f id may.ids refl may.works may.left
+    ∙ ap (λ (s : Stage). by u.line (Taken id) ∷ rest_of z u.line s f)
+    (sym (next_stage (log_read u.line.command) (logs_left f.slots u.line.command u.stage) may.ids id (ap log_read may.asked) may.left))
 
 read : (z : Sizes) (f : Facts) (past : Past) (line : Line) (stage : Stage) (id : ℕ) (frames : List ℕ) (takes : Bool)
     → MayRead z f past line.command stage id frames takes → frames ≡ asked_frames f.pending line.command (slot_of_id id f.slots)
@@ -165,7 +190,16 @@ read z f past line stage id frames takes may is =
 
 pub harvest_is_next : (z : Sizes) (f : Facts) (past : Past) (u : LineUnderWay) (id : ℕ) (frames : List ℕ)
     → FallsAsFlat z f u.line.command (Harvested id frames) → IsAllowed z f past u.line.actor u (Harvested id frames) → IsNext z f u (Harvested id frames)
-harvest_is_next z f past u id frames falls may = read z f past u.line u.stage id frames true may falls.2
+harvest_is_next z f past u id frames falls (inl may) =
+    read z f past u.line u.stage id frames true may falls.2
+    ∙ ap (λ (s : Stage). by u.line (Harvested id frames) ∷ rest_of z u.line (stage_read s frames (facts_after (Harvested id frames) f))
+    (facts_after (Harvested id frames) f)) (sym may.begun)
+harvest_is_next z f past u id frames falls (inr may) =
+    ap (λ (s : Stage). rest_of z u.line s f) may.begun
+    ∙ (ap (λ (xs : List ℕ). by u.line (Harvested id xs) ∷ reading_logs z u.line u.line.command may.ids (facts_after (Harvested id xs) f)) (sym falls.2)
+    ∙ (ap (λ (es : List Event). by u.line (Harvested id frames) ∷ es) (sym (rest_read z u.line may.ids (facts_after (Harvested id frames) f)))
+    ∙ ap (λ (s : Stage). by u.line (Harvested id frames) ∷ rest_of z u.line (stage_read s frames (facts_after (Harvested id frames) f))
+    (facts_after (Harvested id frames) f)) (sym may.begun)))
 
 pub showing_is_next : (z : Sizes) (f : Facts) (past : Past) (u : LineUnderWay) (id : ℕ) (frames : List ℕ)
     → FallsAsFlat z f u.line.command (Shown id frames) → IsAllowed z f past u.line.actor u (Shown id frames) → IsNext z f u (Shown id frames)
@@ -207,7 +241,7 @@ unarmed z line (Access gfn word op) is = refl
 unarmed z line _ is = refl
 
 -- a clause for each stage
-pub told : (z : Sizes) (line : Line) (stage : Stage) (f : Facts) (answer : Answer) → Tells z f.slots line.actor line.command stage answer
+pub told : (z : Sizes) (line : Line) (stage : Stage) (f : Facts) (answer : Answer) → Tells z f line.actor line.command stage answer
     → rest_of z line stage f ≡ answers line answer
 told z line Idle f answer tells = absurd tells
 told z line Fresh f answer tells = ap (doing_by z line line.command f) tells
@@ -217,4 +251,10 @@ told z line HasChanged f answer tells = unarmed z line line.command tells.1 ∙ 
 told z line HasArmed f answer tells = ap (answers line) (sym tells)
 told z line (HasTaken id) f answer tells = absurd tells
 told z line (HasRead frames) f answer tells = ap (answers line) (sym tells)
+told z line HasCalled f answer tells = ap (answers line) (sym tells)
+told z line HasSetPause f answer tells = absurd tells
+told z line (HasToRead ids) f answer tells = absurd tells
+told z line (HasTakenNext id ids) f answer tells = absurd tells
+told z line (HasToCopy frames count word) f answer tells =
+    ap (λ (xs : List ℕ). copying z line line.command xs count word f) tells.0 ∙ ap (answers line) (sym tells.1)
 told z line (HasChangedHost entry) f answer tells = ap (answers line) (sym tells)

@@ -2,14 +2,14 @@
 use Rattle.std.proofs.Common.{◌≡◌, ℕ, List, [], ◌∷◌, ◌++◌, Bool, true, false, cond, refl, ap, ◌∙◌, append_assoc}
 use Rattle.std.specs.Prelude.{Option, Some, None}
 use Rattle.core_views.specs.declared.answer.Answer.{Answer}
-use Rattle.core_views.specs.declared.answer.Answer.TheVariants.{Reached, Mmio, HostFault, Done, Moved, Bits, Refused}
+use Rattle.core_views.specs.declared.answer.Answer.TheVariants.{Reached, Mmio, HostFault, Paused, Done, Moved, Bits, Refused}
 use Rattle.core_views.specs.declared.answer.Refusal.TheVariants.{NoFrame, OutOfRange}
 use Rattle.core_views.specs.declared.event.Event.{Event}
 use Rattle.core_views.specs.declared.event.EventKind.{EventKind}
 use Rattle.core_views.specs.declared.event.EventKind.TheVariants.{Begun, LookedAtPause, LookedAtSlots, LookedAtHost, BroughtIn, Accessed, Exited, SlotChanged}
 use Rattle.core_views.specs.declared.event.EventKind.TheVariants.{HostChanged, Armed, Taken, Harvested, Shown, Answered}
 use Rattle.core_views.specs.declared.trace.Command.{Command}
-use Rattle.core_views.specs.declared.trace.Command.TheVariants.{Access, ChangeHost, ClearLog, GetLog, SetLog}
+use Rattle.core_views.specs.declared.trace.Command.TheVariants.{Access, ChangeHost, ClearLog, GetLog, Migrate, SetLog}
 use Rattle.core_views.specs.declared.trace.HostChange.{HostChange}
 use Rattle.core_views.specs.declared.trace.HostChange.TheVariants.{Move, Evict, Protect, Allow}
 use Rattle.core_views.specs.declared.trace.Line.{Line}
@@ -25,10 +25,12 @@ use Rattle.core_views.specs.Events.{facts_after_all}
 use Rattle.core_views.specs.Lawful.{answer_at_once, slot_change, slot_read}
 use Rattle.core_views.specs.LogCommands.{asked_frames, bits_for, is_all_set, takes_out}
 use Rattle.core_views.specs.FlatHistory.{by, answers, accessing, bringing, changing_host, moving, reaching, doing, doing_by, looks, looks_behind, alone}
-use Rattle.core_views.specs.FlatHistory.{arming, one_by_one, reading, working}
+use Rattle.core_views.specs.FlatHistory.{arming, one_by_one, reading, unless_paused, working}
+use Rattle.core_views.specs.Migrations.{is_paused}
 use Rattle.core_views.specs.Alone.{AreWithin, IsInside, StandsAlone, StandsFirst}
 use Rattle.core_views.proofs.HostLines.{owned_answer}
 use Rattle.core_views.proofs.SlotChanges.{changes}
+use Rattle.flat_laws.proofs.MigrationsStand.{Closed, migration_closed}
 
 -- events of one line, and further ones after them
 pub within_append : (line : Line) (xs ys : List Event) → AreWithin line xs → AreWithin line ys → AreWithin line (xs ++ ys)
@@ -57,12 +59,6 @@ stands_append (line ∷ lines) further h more stands then_ =
     (stands.0 ++ more, more_behind line h stands.0 more stands.1, stands_append lines further stands.0 more stands.2 then_)
 
 -- The flat history: an access, and a line that changes a slot.
-
-record Closed (line : Line) (es : List Event) : Type 0 where
-  within : List Event
-  answer : Answer
-  are_within : AreWithin line within
-  events_are : es ≡ within ++ answers line answer
 
 reaching_closed : (line : Line) (gfn word : ℕ) (op : Op) (f : Facts) (page : ℕ) (denied : Bool)
     → Closed line (by line LookedAtPause ∷ by line LookedAtSlots ∷ by line (LookedAtHost page) ∷ reaching line gfn word op f page denied)
@@ -102,6 +98,22 @@ accessing_closed line gfn word op f None = record {
   events_are = refl;
 }
 accessing_closed line gfn word op f (Some page) = reaching_closed line gfn word op f page (is_denied op (f.host page))
+
+unless_closed : (line : Line) (gfn word : ℕ) (op : Op) (f : Facts) (page : Option ℕ) (paused : Bool)
+    → Closed line (by line LookedAtPause ∷ by line LookedAtSlots ∷ (looks_behind line page ++ unless_paused line paused (accessing line gfn word op f page)))
+unless_closed line gfn word op f page false = accessing_closed line gfn word op f page
+unless_closed line gfn word op f None true = record {
+  within = by line LookedAtPause ∷ by line LookedAtSlots ∷ by line (Exited Paused) ∷ [];
+  answer = Paused;
+  are_within = (refl, tt, (refl, tt, (refl, tt, tt)));
+  events_are = refl;
+}
+unless_closed line gfn word op f (Some page) true = record {
+  within = by line LookedAtPause ∷ by line LookedAtSlots ∷ by line (LookedAtHost page) ∷ by line (Exited Paused) ∷ [];
+  answer = Paused;
+  are_within = (refl, tt, (refl, tt, (refl, tt, (refl, tt, tt))));
+  events_are = refl;
+}
 
 -- A line that changes a slot, or is answered at once.
 change_closed : (z : Sizes) (line : Line) (command : Command) (f : Facts) (change : ℕ × Option MemorySlot) (at_once : Option Answer)
@@ -172,12 +184,13 @@ owned_closed z line page change f true = host_closed z line page change f
 owned_closed z line page change f false = record { within = []; answer = Refused OutOfRange; are_within = tt; events_are = refl }
 
 doing_closed : (z : Sizes) (line : Line) (command : Command) (f : Facts) → Closed line (looks z line command f ++ doing z line command f)
-doing_closed z line (Access gfn word op) f = accessing_closed line gfn word op f (page_behind (flat_slots f.slots) gfn op)
+doing_closed z line (Access gfn word op) f = unless_closed line gfn word op f (page_behind (flat_slots f.slots) gfn op) (is_paused f.migration)
 doing_closed z line (ChangeHost page change) f = owned_closed z line page change f (is_own z line.actor page)
-doing_closed z line (GetLog id) f = read_closed z line (GetLog id) id f (answer_at_once z f.slots line.actor (GetLog id)) refl
+doing_closed z line (GetLog id) f = read_closed z line (GetLog id) id f (answer_at_once z f.slots f.migration line.actor (GetLog id)) refl
 doing_closed z line (ClearLog id first count words) f =
-    read_closed z line (ClearLog id first count words) id f (answer_at_once z f.slots line.actor (ClearLog id first count words)) refl
-doing_closed z line command f = change_closed z line command f _ (answer_at_once z f.slots line.actor command) refl
+    read_closed z line (ClearLog id first count words) id f (answer_at_once z f.slots f.migration line.actor (ClearLog id first count words)) refl
+doing_closed z line (Migrate call) f = migration_closed z line call f (answer_at_once z f.slots f.migration line.actor (Migrate call))
+doing_closed z line command f = change_closed z line command f _ (answer_at_once z f.slots f.migration line.actor command) refl
 
 alone_first : (z : Sizes) (line : Line) (f : Facts) (rest : List Event) → StandsFirst line (alone z line f ++ rest) rest
 alone_first z line f rest =

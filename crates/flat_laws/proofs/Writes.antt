@@ -5,7 +5,7 @@ use Rattle.std.proofs.lemmas.List.Elements.{All-contains, All-contains_itself, A
 use Rattle.core_views.specs.declared.actor.Actor.{Actor}
 use Rattle.core_views.specs.declared.event.Event.{Event}
 use Rattle.core_views.specs.declared.event.EventKind.{EventKind}
-use Rattle.core_views.specs.declared.event.EventKind.TheVariants.{Begun, Accessed, Exited, SlotChanged, HostChanged, Armed, Taken, Harvested, Shown, Answered}
+use Rattle.core_views.specs.declared.event.EventKind.TheVariants.{Begun, SlotChanged, Answered}
 use Rattle.core_views.specs.declared.sizes.Sizes.{Sizes}
 use Rattle.core_views.specs.declared.trace.Line.{Line}
 use Rattle.core_views.specs.Actors.{is_same}
@@ -16,6 +16,7 @@ use Rattle.core_views.specs.Lawful.{IsAllowed, IsLawful}
 use Rattle.core_views.specs.Alone.{IsInside}
 use Rattle.flat_laws.specs.Writes.{StaysWithin, HasBegunWrite, IsWriting}
 use Rattle.core_views.proofs.SameActor.{is_same_self, same_is}
+use Rattle.flat_laws.proofs.StagesGoOn.{is_busy, was_busy}
 
 pub apart_actors : {X : Type 0} (a b : Actor) → is_same a b ≡ false → a ≡ b → X
 apart_actors a b apart is = let same : is_same a b ≡ true = ap (is_same a) (sym is) ∙ is_same_self a in absurd (cc (apart, same))
@@ -35,7 +36,7 @@ cons_at y ys x (suc k) lt is = inr (k, omega arith, is)
 pub cons_cases : {X : Type 0} (y : X) (ys : List X) (x : X) → Contains (y ∷ ys) x → (y ≡ x) ⊎ Contains ys x
 cons_cases y ys x has = cons_at y ys x has.0 has.1 has.2
 
-filter_in : {X : Type 0} (test : X → Bool) (ys : List X) (x : X) → Contains ys x → test x ≡ true → Contains (filter test ys) x
+pub filter_in : {X : Type 0} (test : X → Bool) (ys : List X) (x : X) → Contains ys x → test x ≡ true → Contains (filter test ys) x
 filter_in test [] x has passes = absurd (omega (arith, has.1))
 filter_in test (y ∷ ys) x has passes = by (test y) refl (cons_cases y ys x has) (λ later. filter_in test ys x later passes)
   where
@@ -46,7 +47,7 @@ filter_in test (y ∷ ys) x has passes = by (test y) refl (cons_cases y ys x has
     by true is (inr later) rest = later_in y (filter test ys) x (rest later)
     by false is (inr later) rest = rest later
 
-filtered : {X : Type 0} (test : X → Bool) (ys : List X) (x : X) → Contains (filter test ys) x → Contains ys x × (test x ≡ true)
+pub filtered : {X : Type 0} (test : X → Bool) (ys : List X) (x : X) → Contains (filter test ys) x → Contains ys x × (test x ≡ true)
 filtered test ys x has = (
   All-contains (Contains ys) (filter test ys) x (All-filter test (Contains ys) ys (All-contains_itself ys)) has,
   All-contains (λ y. test y ≡ true) (filter test ys) x (filter_passes test ys) has,
@@ -192,29 +193,13 @@ line_writes : (z : Sizes) (f : Facts) (past : Past) (actor : Actor) (u : LineUnd
     → StandsAfter kind true gfn (IsWriting u gfn) → IsWriting (under_after kind f u) gfn
 line_writes z f past actor u (Begun line) gfn may stands = (λ e. absurd (cc e), stands)
 line_writes z f past actor u (Answered number answer) gfn may stands = absurd stands
-line_writes z f past actor u (Accessed g word op frame before) gfn may stands = (λ e. absurd (cc e), stands.1)
-line_writes z f past actor u (Exited answer) gfn may stands = (λ e. absurd (cc e), stands.1)
-line_writes z f past actor u (SlotChanged id slot) gfn may stands = (λ e. absurd (cc e), stands.1)
-line_writes z f past actor u (HostChanged page entry) gfn may stands = (λ e. absurd (cc e), stands.1)
-line_writes z f past actor u (Armed id all) gfn may stands = (λ e. absurd (cc e), stands.1)
-line_writes z f past actor u (Taken id) gfn may stands = (λ e. absurd (cc e), stands.1)
-line_writes z f past actor u (Harvested id frames) gfn may stands = (λ e. absurd (cc e), stands.1)
-line_writes z f past actor u (Shown id frames) gfn may stands = (λ e. absurd (cc e), stands.1)
-line_writes z f past actor u _ gfn may stands = stands
+line_writes z f past actor u kind gfn may stands = (is_busy z f past actor u kind tt may stands.0, stands.1)
 
 line_wrote : (z : Sizes) (f : Facts) (past : Past) (actor : Actor) (u : LineUnderWay) (kind : EventKind) (gfn : ℕ) → IsAllowed z f past actor u kind
     → IsWriting (under_after kind f u) gfn → StandsAfter kind true gfn (IsWriting u gfn)
 line_wrote z f past actor u (Begun line) gfn may writes = writes.1
 line_wrote z f past actor u (Answered number answer) gfn may writes = writes.0 refl
-line_wrote z f past actor u (Accessed g word op frame before) gfn may writes = (λ idle. let fresh = may.0 in absurd (cc (fresh, idle)), writes.1)
-line_wrote z f past actor u (Exited answer) gfn may writes = (λ idle. let fresh = may.0 in absurd (cc (fresh, idle)), writes.1)
-line_wrote z f past actor u (SlotChanged id slot) gfn may writes = (λ idle. let fresh = may.0 in absurd (cc (fresh, idle)), writes.1)
-line_wrote z f past actor u (HostChanged page entry) gfn may writes = (λ idle. let fresh = may.0 in absurd (cc (fresh, idle)), writes.1)
-line_wrote z f past actor u (Armed id all) gfn may writes = (λ idle. let changed = may.0 in absurd (cc (changed, idle)), writes.1)
-line_wrote z f past actor u (Taken id) gfn may writes = (λ idle. let fresh = may.0 in absurd (cc (fresh, idle)), writes.1)
-line_wrote z f past actor u (Harvested id frames) gfn may writes = (λ idle. let taken = may.begun in absurd (cc (taken, idle)), writes.1)
-line_wrote z f past actor u (Shown id frames) gfn may writes = (λ idle. let taken = may.begun in absurd (cc (taken, idle)), writes.1)
-line_wrote z f past actor u _ gfn may writes = writes
+line_wrote z f past actor u kind gfn may writes = (was_busy z f past actor u kind tt may, writes.1)
 
 -- An event of the actor itself: what stands after it is in the list.
 stands_in : (a : Actor) (kind : EventKind) (f : Facts) (past : Past) (gfn : ℕ) → StandsAfter kind true gfn (Contains past.writes (a, gfn))

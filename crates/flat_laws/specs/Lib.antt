@@ -4,3 +4,11 @@ pub mod Laws
 pub mod Unlawful
 pub mod SlotLines
 pub mod HostExamples
+pub mod Migrations
+pub mod MigrationTraces
+pub mod UnlawfulMigrations
+pub mod MigrationRaces
+pub mod Images
+pub mod MigrationPauses
+pub mod MigrationRules
+pub mod MigrationCounts

@@ -8,6 +8,7 @@ use Rattle.core_views.specs.declared.event.EventKind.TheVariants.{Armed, Begun, 
 use Rattle.core_views.specs.declared.sizes.Sizes.{Sizes}
 use Rattle.core_views.specs.declared.slot_set.MemorySlot.{MemorySlot}
 use Rattle.core_views.specs.declared.trace.Line.{Line}
+use Rattle.core_views.specs.Migrations.{is_stopped}
 use Rattle.core_views.specs.Slots.{contains}
 use Rattle.core_views.specs.SlotSets.{slot_of_id}
 use Rattle.core_views.specs.LogCommands.{is_among}
@@ -117,7 +118,7 @@ WrittenFramesAreKept =
     → (((after_all history first_flat).past.recent gfn ≡ true) ↔ WasWritten NoneIsTaken history gfn)
     × (((after_all history first_flat).past.causes gfn ≡ true) ↔ (WasWritten (NoneReadsOut gfn) history gfn ⊎ WasArmed history gfn))
 
--- As a log last began to be read the frame was dirty, and no actor had a line under way that writes it.
+-- As a log last began to be read the frame was dirty, and no actor had a line under way that writes it, unless the guest was stopped.
 pub record WasDue (history : List Event) (gfn : ℕ) : Type 0 where
   pub before : List Event
   pub actor : Actor
@@ -125,7 +126,7 @@ pub record WasDue (history : List Event) (gfn : ℕ) : Type 0 where
   pub since : List Event
   pub history_is : history ≡ before ++ (record { actor = actor; kind = Taken id } ∷ since)
   pub dirty : (after_all before first_flat).facts.pending gfn ≡ true
-  pub unwritten : (other : Actor) → HasBegunWrite before other gfn → ⊥
+  pub unwritten : is_stopped (after_all before first_flat).facts.migration ≡ false → (other : Actor) → HasBegunWrite before other gfn → ⊥
   pub last : NoneIsTaken since
 
 -- After every history, lawful or not, those are the frames that a reading must not leave out.

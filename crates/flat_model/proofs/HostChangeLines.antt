@@ -25,7 +25,7 @@ use Rattle.core_views.proofs.HostLines.{owned_answer}
 use Rattle.core_views.specs.Refusals.{is_logged}
 use Rattle.flat_model.specs.Dirty.{is_dirty}
 use Rattle.flat_model.specs.HostPages.{Changed, ChangesTo, entry_after, host_of}
-use Rattle.flat_model.specs.Kept.{GivesLine, Kept, facts_of, memory_of}
+use Rattle.flat_model.specs.Kept.{ContentWords, GivesLine, Kept, facts_of, memory_of}
 use Rattle.flat_model.specs.Steps.{ChangesHost}
 use Rattle.flat_model.proofs.SameFacts.{same_facts}
 
@@ -57,22 +57,22 @@ answered line answer = record { number = line.number; actor = line.actor; answer
 module _ (line : Line) (page : ℕ) (change : HostChange) (before after : Kept) (answer : Answer) where
   -- All else stays.
   with_host : (host : HostMap) → ((other : ℕ) → host_of after.changed other ≡ host other) → after.slots ≡ before.slots → after.words ≡ before.words
-      → after.dirty ≡ before.dirty → facts_of after ≡ (let facts : Facts = record (facts_of before) { host = host } in facts)
-  with_host host maps slots words dirty =
-      same_facts _ _ _ _ _ _ _ _ _ _ slots maps (λ p w. ap (λ (ws : List ((ℕ × ℕ) × ℕ)). memory_of ws p w) words) (λ id. ap (is_logged id) slots)
-      (λ gfn. ap (λ (frames : List ℕ). is_dirty frames gfn) dirty)
+      → after.dirty ≡ before.dirty → after.copies ≡ before.copies → facts_of after ≡ (let facts : Facts = record (facts_of before) { host = host } in facts)
+  with_host host maps slots words dirty copies =
+      same_facts _ _ _ _ _ _ _ _ _ _ _ _ slots maps (λ p w. ap (λ (ws : ContentWords). memory_of ws p w) words) (λ id. ap (is_logged id) slots)
+      (λ gfn. ap (λ (frames : List ℕ). is_dirty frames gfn) dirty) copies
 
   by_change : (o : Option HostEntry) → ChangesTo page change before.changed after.changed answer o → after.slots ≡ before.slots → after.words ≡ before.words
-      → after.dirty ≡ before.dirty
+      → after.dirty ≡ before.dirty → after.copies ≡ before.copies
       → alone before.sizes line (facts_of before) ≡ by line (Begun line) ∷ by line (LookedAtHost page) ∷ events_of line page change o
       → GivesLine before.sizes line (facts_of before) (facts_of after) answer
-  by_change None done slots words dirty whole = record {
-    leads = with_host (host_of before.changed) (λ p. ap (λ (c : Changed). host_of c p) done.1) slots words dirty
+  by_change None done slots words dirty copies whole = record {
+    leads = with_host (host_of before.changed) (λ p. ap (λ (c : Changed). host_of c p) done.1) slots words dirty copies
         ∙ sym (ap (λ (es : List Event). facts_after_all es (facts_of before)) whole);
     tells = ap answers_of whole ∙ ap (answered line) (sym done.0);
   }
-  by_change (Some entry) done slots words dirty whole = record {
-    leads = with_host (mapping page entry (host_of before.changed)) done.1 slots words dirty
+  by_change (Some entry) done slots words dirty copies whole = record {
+    leads = with_host (mapping page entry (host_of before.changed)) done.1 slots words dirty copies
         ∙ sym (ap (λ (es : List Event). facts_after_all es (facts_of before)) whole);
     tells = ap answers_of whole ∙ ap (answered line) (sym done.0);
   }
@@ -84,7 +84,7 @@ module _ (line : Line) (page : ℕ) (change : HostChange) (before after : Kept) 
     leads = ap facts_of done.1 ∙ sym (ap (λ (es : List Event). facts_after_all es (facts_of before)) whole);
     tells = ap answers_of whole ∙ ap (answered line) (sym done.0);
   }
-  by_owner true whole done = by_change (entry_after before.sizes (host_of before.changed) page change) done.0 done.1 done.2 done.3
+  by_owner true whole done = by_change (entry_after before.sizes (host_of before.changed) page change) done.0 done.1 done.2 done.3 done.4
       (whole ∙ ap (λ (es : List Event). by line (Begun line) ∷ by line (LookedAtHost page) ∷ es) (by_entry before.sizes line page change (facts_of before)))
 
   pub host_line : line.command ≡ ChangeHost page change → ChangesHost page change before after answer (is_own before.sizes line.actor page)

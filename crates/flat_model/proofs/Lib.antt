@@ -1,6 +1,8 @@
 pub mod AccessLines
 pub mod DirtySets
 pub mod Finds
+pub mod FreeLines
+pub mod Held
 pub mod Frames
 pub mod HostChangeLines
 pub mod HostFrames
@@ -8,8 +10,11 @@ pub mod HostLines
 pub mod LogLines
 pub mod LogWords
 pub mod MadeChanges
+pub mod MigrationLines
+pub mod MigrationWords
 pub mod SameFacts
 pub mod SlotLines
 pub mod SlotLogs
 pub mod SlotPages
+pub mod SlotsById
 pub mod Words

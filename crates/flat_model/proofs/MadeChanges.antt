@@ -4,7 +4,7 @@ use Rattle.std.proofs.lemmas.Bool.{eq-eqb}
 use Rattle.std.specs.Prelude.{Option, Some}
 use Rattle.core_views.specs.declared.slot_set.MemorySlot.{MemorySlot}
 use Rattle.core_views.specs.declared.trace.Command.{Command}
-use Rattle.core_views.specs.declared.trace.Command.TheVariants.{Access, ChangeHost, ClearLog, DeleteSlot, GetLog, SetLog, SetSlot}
+use Rattle.core_views.specs.declared.trace.Command.TheVariants.{Access, ChangeHost, ClearLog, DeleteSlot, GetLog, Migrate, SetLog, SetSlot}
 use Rattle.core_views.specs.SlotCommands.{slot_change, slots_after}
 use Rattle.core_views.specs.SlotSets.{changed_slots, slot_of_id}
 use Rattle.flat_model.specs.Dirty.{dirty_after, is_dirty}
@@ -19,6 +19,7 @@ pub record HasChanged (command : Command) (id : ℕ) (was now : Option MemorySlo
   pub slots : after.slots ≡ slots_after command before.slots
   pub changed : after.changed ≡ before.changed
   pub words : after.words ≡ before.words
+  pub copies : after.copies ≡ before.copies
   pub dirty : (gfn : ℕ) → is_dirty after.dirty gfn ≡ dirty_after before.sizes.mode command was now (is_dirty before.dirty) gfn
 
 module _ (command : Command) (id : ℕ) (was now : Option MemorySlot) (before after : Kept) (is : HasChanged command id was now before after) where
@@ -33,6 +34,7 @@ module _ (command : Command) (id : ℕ) (was now : Option MemorySlot) (before af
         is.slots,
         is.changed,
         is.words,
+        is.copies,
         λ gfn. is.dirty gfn
             ∙ ap₂ (λ (w n : Option MemorySlot). dirty_after before.sizes.mode command w n (is_dirty before.dirty) gfn) is.was_is there,
       )
@@ -52,4 +54,5 @@ makes_change (SetLog other on) id was now before after here is =
 makes_change (Access gfn word op) id was now before after here is = absurd here
 makes_change (ChangeHost page change) id was now before after here is = absurd here
 makes_change (GetLog other) id was now before after here is = absurd here
+makes_change (Migrate call) id was now before after here is = absurd here
 makes_change (ClearLog other first count words) id was now before after here is = absurd here

@@ -1,35 +1,55 @@
 -- When facts are the same, and what is kept of them.
-use Rattle.std.proofs.Common.{◌≡◌, ℕ, Bool, List, false}
+use Rattle.std.proofs.Common.{◌≡◌, ℕ, Bool, List, []}
 use Rattle.core_views.specs.declared.sizes.Sizes.{Sizes}
-use Rattle.core_views.specs.Flat.{Facts}
+use Rattle.core_views.specs.Flat.{Facts, first_facts}
+use Rattle.core_views.specs.declared.migration.Migration.TheVariants.{Unstarted}
 use Rattle.core_views.specs.Host.{HostMap}
 use Rattle.core_views.specs.Memory.{Memory}
 use Rattle.core_views.specs.Past.{FrameSet}
 use Rattle.core_views.specs.SlotSets.{MemorySlots}
 use Rattle.flat_model.specs.HostPages.{Changed}
-use Rattle.flat_model.specs.Kept.{Kept}
+use Rattle.flat_model.specs.Dirty.{is_dirty}
+use Rattle.flat_model.specs.Kept.{ContentWords, CopiesKept, Kept, facts_of, memory_of}
 
--- the facts between lines: nothing is paused
-abbrev pub facts_with : MemorySlots → HostMap → Memory → (ℕ → Bool) → FrameSet → Facts
-facts_with slots host memory armed pending =
-    record { slots = slots; host = host; memory = memory; paused = false; armed = armed; pending = pending }
+-- the facts with this migration
+abbrev pub facts_with : MemorySlots → HostMap → Memory → (ℕ → Bool) → FrameSet → CopiesKept → Facts
+facts_with slots host memory armed pending copies = record {
+  slots = slots;
+  host = host;
+  memory = memory;
+  migration = copies.state;
+  armed = armed;
+  pending = pending;
+  image = memory_of copies.image;
+  to_copy = is_dirty copies.to_copy;
+}
 
 pub same_facts : (slots slots' : MemorySlots) (host host' : HostMap) (memory memory' : Memory) (armed armed' : ℕ → Bool) (pending pending' : FrameSet)
-    → slots ≡ slots' → ((page : ℕ) → host page ≡ host' page) → ((page word : ℕ) → memory page word ≡ memory' page word)
+    (copies copies' : CopiesKept) → slots ≡ slots' → ((page : ℕ) → host page ≡ host' page) → ((page word : ℕ) → memory page word ≡ memory' page word)
     → ((id : ℕ) → armed id ≡ armed' id) → ((gfn : ℕ) → pending gfn ≡ pending' gfn)
-    → facts_with slots host memory armed pending ≡ facts_with slots' host' memory' armed' pending'
-same_facts slots slots' host host' memory memory' armed armed' pending pending' s h m a p =
+    → copies ≡ copies' → facts_with slots host memory armed pending copies ≡ facts_with slots' host' memory' armed' pending' copies'
+same_facts slots slots' host host' memory memory' armed armed' pending pending' copies copies' s h m a p c =
     λ i. record {
       slots = s i;
       host = λ page. h page i;
       memory = λ page word. m page word i;
-      paused = false;
+      migration = (c i).state;
       armed = λ id. a id i;
       pending = λ gfn. p gfn i;
+      image = memory_of (c i).image;
+      to_copy = is_dirty (c i).to_copy;
     }
 
-pub same_kept : (sizes : Sizes) (slots : MemorySlots) (changed : Changed) (words words' : List ((ℕ × ℕ) × ℕ)) (dirty dirty' : List ℕ)
+pub same_kept : (sizes : Sizes) (slots : MemorySlots) (changed : Changed) (words words' : ContentWords) (dirty dirty' : List ℕ) (copies : CopiesKept)
     → words ≡ words' → dirty ≡ dirty'
-    → (let before : Kept = record { sizes = sizes; slots = slots; changed = changed; words = words; dirty = dirty } in before)
-    ≡ (let after : Kept = record { sizes = sizes; slots = slots; changed = changed; words = words'; dirty = dirty' } in after)
-same_kept sizes slots changed words words' dirty dirty' w d = λ i. record { sizes = sizes; slots = slots; changed = changed; words = w i; dirty = d i }
+    → (let before : Kept = record { sizes = sizes; slots = slots; changed = changed; words = words; dirty = dirty; copies = copies } in before)
+    ≡ (let after : Kept = record { sizes = sizes; slots = slots; changed = changed; words = words'; dirty = dirty'; copies = copies } in after)
+same_kept sizes slots changed words words' dirty dirty' copies w d =
+    λ i. record { sizes = sizes; slots = slots; changed = changed; words = w i; dirty = d i; copies = copies }
+
+-- The facts at the start.
+pub start_facts : (sizes : Sizes) (slots : MemorySlots) (changed : Changed) (words : ContentWords) (dirty : List ℕ) (copies : CopiesKept) → slots ≡ []
+    → changed ≡ [] → words ≡ [] → dirty ≡ [] → copies ≡ record { state = Unstarted; image = []; to_copy = [] }
+    → facts_of (record { sizes = sizes; slots = slots; changed = changed; words = words; dirty = dirty; copies = copies }) ≡ first_facts
+start_facts sizes slots changed words dirty copies s c w d p =
+    λ i. facts_of (record { sizes = sizes; slots = s i; changed = c i; words = w i; dirty = d i; copies = p i })

@@ -1,5 +1,5 @@
 -- A slot line, alone: it changes its slot, or has nothing to do.
-use Rattle.std.proofs.Common.{◌≡◌, ◌==◌, ◌&&◌, ◌||◌, ◌++◌, ◌∷◌, not, ℕ, List, [], refl, sym, ap, subst, ◌∙◌}
+use Rattle.std.proofs.Common.{◌≡◌, ◌==◌, ◌&&◌, ◌||◌, ◌∷◌, not, ℕ, List, [], refl, sym, ap, subst, ◌∙◌}
 use Rattle.std.proofs.lemmas.Bool.{eq-eqb}
 use Rattle.std.proofs.lemmas.Option.{same_Some}
 use Rattle.std.specs.Prelude.{Bool, Option, Some, None, true, false, if◌then◌else◌}
@@ -12,11 +12,11 @@ use Rattle.core_views.specs.declared.event.Event.{Event}
 use Rattle.core_views.specs.declared.event.EventKind.TheVariants.{Begun, SlotChanged}
 use Rattle.core_views.specs.declared.slot_set.MemorySlot.{MemorySlot}
 use Rattle.core_views.specs.declared.trace.Command.{Command}
-use Rattle.core_views.specs.declared.trace.Command.TheVariants.{Access, ChangeHost, ClearLog, DeleteSlot, GetLog, SetLog, SetSlot}
+use Rattle.core_views.specs.declared.trace.Command.TheVariants.{Access, ChangeHost, ClearLog, DeleteSlot, GetLog, Migrate, SetLog, SetSlot}
 use Rattle.core_views.specs.declared.trace.Line.{Line}
 use Rattle.core_views.specs.Events.{facts_after_all, unlogged}
 use Rattle.core_views.specs.Flat.{Facts}
-use Rattle.core_views.specs.FlatHistory.{alone, answers, arming, by, doing, doing_by, looks}
+use Rattle.core_views.specs.FlatHistory.{alone, answers, arming, by, doing_by}
 use Rattle.core_views.specs.LogCommands.{is_all_set}
 use Rattle.core_views.specs.Past.{FrameSet, has_gfn}
 use Rattle.core_views.specs.Refusals.{is_logged}
@@ -26,7 +26,8 @@ use Rattle.core_views.specs.Text.{answers_of}
 use Rattle.core_views.proofs.SlotChanges.{changes}
 use Rattle.flat_model.specs.Dirty.{dirty_by, is_dirty}
 use Rattle.flat_model.specs.HostPages.{Changed, host_of}
-use Rattle.flat_model.specs.Kept.{GivesLine, Kept, facts_of, memory_of}
+use Rattle.flat_model.proofs.FreeLines.{IsFree, free_events, is_free}
+use Rattle.flat_model.specs.Kept.{ContentWords, GivesLine, Kept, facts_of, memory_of}
 use Rattle.flat_model.specs.Steps.{ChangesSlots, MakesChange}
 use Rattle.flat_model.proofs.SameFacts.{facts_with, same_facts}
 use Rattle.flat_model.proofs.SlotLogs.{changed_at, changed_or, has_log, logged_after, logged_so, new_log}
@@ -43,13 +44,14 @@ module _ (line : Line) (before after : Kept) (answer : Answer) where
   answered x = record { number = line.number; actor = line.actor; answer = x } ∷ []
 
   -- It makes no other events.
-  whole : (command : Command) → line.command ≡ command → changes_slot command ≡ true
+  whole : (command : Command) → line.command ≡ command → changes_slot command ≡ true → IsFree line.command before
       → alone before.sizes line f ≡ events_of command (change_at_once before.sizes command before.slots)
-  whole (Access gfn word op) is changes_ = absurd (cc changes_)
-  whole (ChangeHost page change) is changes_ = absurd (cc changes_)
-  whole (GetLog id) is changes_ = absurd (cc changes_)
-  whole (ClearLog id first count words) is changes_ = absurd (cc changes_)
-  whole command is changes_ = ap (λ (c : Command). by line (Begun line) ∷ (looks before.sizes line c f ++ doing before.sizes line c f)) is
+  whole (Access gfn word op) is changes_ free = absurd (cc changes_)
+  whole (ChangeHost page change) is changes_ free = absurd (cc changes_)
+  whole (GetLog id) is changes_ free = absurd (cc changes_)
+  whole (ClearLog id first count words) is changes_ free = absurd (cc changes_)
+  whole (Migrate call) is changes_ free = absurd (cc changes_)
+  whole command is changes_ free = is_free line before free ∙ ap (λ (c : Command). free_events before.sizes line c f) is
 
   -- the events of a change, and what comes of them
   abbrev made : Command → ℕ × Option MemorySlot → List Event
@@ -92,13 +94,13 @@ module _ (line : Line) (before after : Kept) (answer : Answer) where
 
   -- What comes of a change, with what it makes of logs and of dirty frames.
   comes : (change : ℕ × Option MemorySlot) (logged : ℕ → Bool) (pending : FrameSet) → after.slots ≡ changed_slots change.0 change.1 before.slots
-      → after.changed ≡ before.changed → after.words ≡ before.words
+      → after.changed ≡ before.changed → after.words ≡ before.words → after.copies ≡ before.copies
       → ((other : ℕ) → changed_or (change.0 == other) (has_log change.1) (is_logged other before.slots) ≡ logged other)
       → ((gfn : ℕ) → is_dirty after.dirty gfn ≡ pending gfn)
-      → facts_of after ≡ facts_with (changed_slots change.0 change.1 before.slots) f.host f.memory logged pending
-  comes change logged pending slots changed words logs dirty =
-      same_facts _ _ _ _ _ _ _ _ _ _ slots (λ p. ap (λ (c : Changed). host_of c p) changed) (λ p w. ap (λ (ws : List ((ℕ × ℕ) × ℕ)). memory_of ws p w) words)
-      (λ other. ap (is_logged other) slots ∙ logged_after other change.0 change.1 before.slots ∙ logs other) dirty
+      → facts_of after ≡ facts_with (changed_slots change.0 change.1 before.slots) f.host f.memory logged pending before.copies
+  comes change logged pending slots changed words copies logs dirty =
+      same_facts _ _ _ _ _ _ _ _ _ _ _ _ slots (λ p. ap (λ (c : Changed). host_of c p) changed) (λ p w. ap (λ (ws : ContentWords). memory_of ws p w) words)
+      (λ other. ap (is_logged other) slots ∙ logged_after other change.0 change.1 before.slots ∙ logs other) dirty copies
 
   unarmed : (command : Command) → arms command ≡ false → arming before.sizes line command ≡ answers line Done
   unarmed (SetLog id true) quiet = absurd (cc quiet)
@@ -106,6 +108,7 @@ module _ (line : Line) (before after : Kept) (answer : Answer) where
   unarmed (Access gfn word op) quiet = refl
   unarmed (ChangeHost page change) quiet = refl
   unarmed (GetLog id) quiet = refl
+  unarmed (Migrate call) quiet = refl
   unarmed (ClearLog id first count words) quiet = refl
   unarmed (SetSlot id slot) quiet = refl
   unarmed (DeleteSlot id) quiet = refl
@@ -118,10 +121,10 @@ module _ (line : Line) (before after : Kept) (answer : Answer) where
   does_quietly command change is works quiet done =
       let tail = unarmed command quiet in
       let events = λ (es : List Event). by line (Begun line) ∷ by line (SlotChanged change.0 change.1) ∷ es in (
-        comes change (disarmed change.0) (cleared change.0 change.1) (same_slots command change is done.0) done.1 done.2
+        comes change (disarmed change.0) (cleared change.0 change.1) (same_slots command change is done.0) done.1 done.2 done.3
             (λ other. disarmed_is (change.0 == other) (is_logged other before.slots) (has_log change.1)
             (new_log before.sizes command before.slots change is works ∙ quiet))
-            (λ gfn. done.3 gfn
+            (λ gfn. done.4 gfn
             ∙ ap (λ (b : Bool). dirty_by (b && is_all_set before.sizes.mode) (slot_of_id change.0 before.slots) change.1 f.pending gfn) quiet)
             ∙ sym (ap (λ (es : List Event). facts_after_all (events es) f) tail),
         ap (λ (es : List Event). answers_of (events es)) tail,
@@ -139,10 +142,10 @@ module _ (line : Line) (before after : Kept) (answer : Answer) where
       let slot : Option MemorySlot = logged_so true was in
       let there : slot_of_id id (changed_slots id slot before.slots) ≡ slot =
       changed_at id id slot before.slots ∙ ap (λ (b : Bool). changed_or b slot was) (eq-eqb id id refl) in (
-        comes (id, slot) (armed id) (begun id slot) done.0 done.1 done.2
+        comes (id, slot) (armed id) (begun id slot) done.0 done.1 done.2 done.3
             (λ other. armed_is (id == other) (is_logged other before.slots) (has_log slot)
             (new_log before.sizes (SetLog id true) before.slots (id, slot) refl works))
-            (λ gfn. done.3 gfn ∙ begun_is (is_all_set before.sizes.mode) (has_gfn was gfn) (has_gfn slot gfn) (f.pending gfn) (same_frames was gfn)
+            (λ gfn. done.4 gfn ∙ begun_is (is_all_set before.sizes.mode) (has_gfn was gfn) (has_gfn slot gfn) (f.pending gfn) (same_frames was gfn)
             ∙ sym (ap (λ (s : Option MemorySlot). if has_gfn s gfn then is_all_set before.sizes.mode else cleared id slot gfn) there)),
         refl,
       )
@@ -159,6 +162,7 @@ module _ (line : Line) (before after : Kept) (answer : Answer) where
   does_by (Access gfn word op) change is works done = absurd (cc is)
   does_by (ChangeHost page change_) change is works done = absurd (cc is)
   does_by (GetLog id) change is works done = absurd (cc is)
+  does_by (Migrate call) change is works done = absurd (cc is)
   does_by (ClearLog id first count words) change is works done = absurd (cc is)
 
   -- Its events make its change, and tell its answer.
@@ -181,11 +185,12 @@ module _ (line : Line) (before after : Kept) (answer : Answer) where
       let D = does command change is (change_at_once before.sizes command before.slots) refl made_ in
       record { leads = D.0 ∙ sym (ap (λ (es : List Event). facts_after_all es f) all); tells = ap answers_of all ∙ D.1 }
 
-  pub slot_line : (command : Command) → line.command ≡ command → changes_slot command ≡ true
+  pub slot_line : (command : Command) → line.command ≡ command → changes_slot command ≡ true → IsFree line.command before
       → ChangesSlots command before after answer (change_at_once before.sizes command before.slots)
       → GivesLine before.sizes line (facts_of before) (facts_of after) answer
-  slot_line (Access gfn word op) is changes_ made_ = absurd (cc changes_)
-  slot_line (ChangeHost page change) is changes_ made_ = absurd (cc changes_)
-  slot_line (GetLog id) is changes_ made_ = absurd (cc changes_)
-  slot_line (ClearLog id first count words) is changes_ made_ = absurd (cc changes_)
-  slot_line command is changes_ made_ = gives command _ refl (whole command is changes_) made_
+  slot_line (Access gfn word op) is changes_ free made_ = absurd (cc changes_)
+  slot_line (ChangeHost page change) is changes_ free made_ = absurd (cc changes_)
+  slot_line (GetLog id) is changes_ free made_ = absurd (cc changes_)
+  slot_line (ClearLog id first count words) is changes_ free made_ = absurd (cc changes_)
+  slot_line (Migrate call) is changes_ free made_ = absurd (cc changes_)
+  slot_line command is changes_ free made_ = gives command _ refl (whole command is changes_ free) made_

@@ -8,7 +8,7 @@ use Rattle.core_views.specs.declared.answer.Refusal.TheVariants.{Missing}
 use Rattle.core_views.specs.declared.sizes.Sizes.{Sizes}
 use Rattle.core_views.specs.declared.slot_set.MemorySlot.{MemorySlot}
 use Rattle.core_views.specs.declared.trace.Command.{Command}
-use Rattle.core_views.specs.declared.trace.Command.TheVariants.{Access, ChangeHost, ClearLog, DeleteSlot, GetLog, SetLog, SetSlot}
+use Rattle.core_views.specs.declared.trace.Command.TheVariants.{Access, ChangeHost, ClearLog, DeleteSlot, GetLog, Migrate, SetLog, SetSlot}
 use Rattle.core_views.specs.Refusals.{is_logged, log_refusal}
 use Rattle.core_views.specs.SlotCommands.{arms, change_at_once, slot_change}
 use Rattle.core_views.specs.Slots.{is_some_and}
@@ -60,6 +60,7 @@ pub new_log : (z : Sizes) (command : Command) (slots : MemorySlots) (change : �
 new_log z (Access gfn word op) slots change is works = absurd (cc is)
 new_log z (ChangeHost page change_) slots change is works = absurd (cc is)
 new_log z (GetLog id) slots change is works = absurd (cc is)
+new_log z (Migrate call) slots change is works = absurd (cc is)
 new_log z (ClearLog id first count words) slots change is works = absurd (cc is)
 new_log z (DeleteSlot id) slots change is works = ap (λ (c : ℕ × Option MemorySlot). has_log c.1) (sym (same_Some _ _ is))
 new_log z (SetSlot id slot) slots change is works =

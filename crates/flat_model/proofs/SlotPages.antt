@@ -9,7 +9,7 @@ use Rattle.std.proofs.lemmas.Map.Views.{All-values-insert_entry, IfSome-lookup_f
 use Rattle.core_views.specs.declared.sizes.Sizes.{Sizes}
 use Rattle.core_views.specs.declared.slot_set.MemorySlot.{MemorySlot}
 use Rattle.core_views.specs.declared.trace.Command.{Command}
-use Rattle.core_views.specs.declared.trace.Command.TheVariants.{Access, ChangeHost, ClearLog, DeleteSlot, GetLog, SetLog, SetSlot}
+use Rattle.core_views.specs.declared.trace.Command.TheVariants.{Access, ChangeHost, ClearLog, DeleteSlot, GetLog, Migrate, SetLog, SetSlot}
 use Rattle.core_views.specs.declared.trace.Slot.{Slot}
 use Rattle.core_views.specs.Refusals.{is_logged}
 use Rattle.core_views.specs.SlotCommands.{change_at_once, slots_after}
@@ -36,6 +36,7 @@ pub slots_fit : (z : Sizes) (command : Command) (slots : MemorySlots) → change
 slots_fit z (Access gfn word op) slots works all = all
 slots_fit z (ChangeHost page change) slots works all = all
 slots_fit z (GetLog id) slots works all = all
+slots_fit z (Migrate call) slots works all = all
 slots_fit z (ClearLog id first count words) slots works all = all
 slots_fit z (SetLog id on) slots works all = by (slot_of_id id slots) refl
   where

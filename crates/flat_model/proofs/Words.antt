@@ -1,5 +1,5 @@
 -- What is word_after_op at one word changes that word alone.
-use Rattle.std.proofs.Common.{◌≡◌, ◌&&◌, ◌||◌, ◌==◌, ℕ, List, Bool, true, false, cond, arith, refl, sym, ap, ap₂, ◌∙◌, subst}
+use Rattle.std.proofs.Common.{◌≡◌, ◌&&◌, ◌||◌, ◌==◌, ℕ, Bool, true, false, cond, arith, refl, sym, ap, ap₂, ◌∙◌, subst}
 use Rattle.std.proofs.lemmas.Bool.Decides.{nat_tests}
 use Rattle.std.specs.Prelude.{Option, Some, unwrap_or}
 use Rattle.std.specs.Map.{lookup}
@@ -13,15 +13,15 @@ use Rattle.core_views.specs.Memory.{Memory, with_word, word_after_op}
 use Rattle.core_views.specs.Slots.{is_write, page_behind}
 use Rattle.core_views.specs.SlotSets.{flat_slots}
 use Rattle.flat_model.specs.Dirty.{is_dirty, is_frame_logged}
-use Rattle.flat_model.specs.Kept.{Kept, is_place, memory_of}
+use Rattle.flat_model.specs.Kept.{ContentWords, Kept, is_place, memory_of}
 use Rattle.flat_model.specs.HostPages.{Maps, host_of}
-use Rattle.flat_model.specs.Steps.{Accesses, AccessesEntry, AccessesPage}
+use Rattle.flat_model.specs.Steps.{AccessesEntry, AccessesPage}
 
 value_at : (b : Bool) (x : ℕ) (o : Option ℕ) → unwrap_or (cond b (Some x) o) 0 ≡ cond b x (unwrap_or o 0)
 value_at true x o = refl
 value_at false x o = refl
 
-pub written : (page word x : ℕ) (before after : List ((ℕ × ℕ) × ℕ))
+pub written : (page word x : ℕ) (before after : ContentWords)
     → ((q : ℕ × ℕ) → lookup (is_place q) after ≡ cond (is_place (page, word) q) (Some x) (lookup (is_place q) before))
     → (p w : ℕ) → memory_of after p w ≡ with_word page word x (memory_of before) p w
 written page word x before after updates p w =
@@ -59,12 +59,13 @@ leaves false false here was is = refl
 -- What an access to a page gives that the host allows, from what it read and what stands there after it.
 pub reached : (gfn word : ℕ) (op : Op) (before after : Kept) (page value : ℕ) (entry : HostEntry)
     → Some page ≡ page_behind (flat_slots before.slots) gfn op → entry ≡ host_of before.changed page → is_denied op entry ≡ false
-    → value ≡ memory_of before.words page word → after.slots ≡ before.slots → Maps page (brought_in (host_of before.changed page)) before.changed after.changed
+    → value ≡ memory_of before.words page word → after.slots ≡ before.slots → after.copies ≡ before.copies
+    → Maps page (brought_in (host_of before.changed page)) before.changed after.changed
     → ((p w : ℕ) → memory_of after.words p w ≡ with_word page word (word_after_op op (memory_of before.words page word)) (memory_of before.words) p w)
     → ((other : ℕ) → is_dirty after.dirty other ≡ marked (is_frame_logged before.slots gfn) gfn op (is_dirty before.dirty) other)
-    → Accesses gfn word op before after (Reached entry.frame value)
-reached gfn word op before after page value entry behind entry_is allows is same maps words dirty =
+    → AccessesPage gfn word op before after (Reached entry.frame value) (page_behind (flat_slots before.slots) gfn op)
+reached gfn word op before after page value entry behind entry_is allows is same copies maps words dirty =
     subst (AccessesPage gfn word op before after (Reached entry.frame value)) behind
     (subst (λ (b : Bool). AccessesEntry gfn page word op before after (Reached entry.frame value) (host_of before.changed page) b)
     (sym allows ∙ ap (is_denied op) entry_is)
-    (ap₂ Reached (ap (λ (e : HostEntry). e.frame) entry_is) is, same, maps, words, dirty))
+    (ap₂ Reached (ap (λ (e : HostEntry). e.frame) entry_is) is, same, copies, maps, words, dirty))

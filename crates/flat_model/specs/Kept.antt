@@ -1,7 +1,8 @@
 -- What the interpreter keeps, and what it stands for.
-use Rattle.std.specs.Prelude.{◌≡◌, ℕ, List, [], ◌∷◌, Bool, false, ◌==◌, ◌&&◌, unwrap_or}
+use Rattle.std.specs.Prelude.{◌≡◌, ℕ, List, [], ◌∷◌, Bool, ◌==◌, ◌&&◌, unwrap_or}
 use Rattle.std.specs.Map.{lookup}
 use Rattle.core_views.specs.declared.answer.Answer.{Answer}
+use Rattle.core_views.specs.declared.migration.Migration.{Migration}
 use Rattle.core_views.specs.declared.trace.Command.{Command}
 use Rattle.core_views.specs.declared.trace.Command.TheVariants.{SetSlot}
 use Rattle.core_views.specs.declared.trace.Line.{Line}
@@ -17,31 +18,44 @@ use Rattle.core_views.specs.Text.{answers_of}
 use Rattle.flat_model.specs.Dirty.{is_dirty}
 use Rattle.flat_model.specs.HostPages.{Changed, host_of}
 
--- the machine's sizes, the slots by rising ID, the entries of the host pages that a line has changed, the words that were written, each at its host page
--- and word, and the dirty guest frames by rising number
+-- content words, each at its host page and word
+abbrev pub ContentWords : Type 0
+ContentWords = List ((ℕ × ℕ) × ℕ)
+
+-- how far the migration has come, the words that it has copied, and the guest frames that are yet to be copied, by rising number
+pub record CopiesKept : Type 0 where
+  pub state : Migration
+  pub image : ContentWords
+  pub to_copy : List ℕ
+
+-- the machine's sizes, the slots by rising ID, the entries of the host pages that a line has changed, the words that were written, the dirty guest frames by
+-- rising number, and the migration
 pub record Kept : Type 0 where
   pub sizes : Sizes
   pub slots : MemorySlots
   pub changed : Changed
-  pub words : List ((ℕ × ℕ) × ℕ)
+  pub words : ContentWords
   pub dirty : List ℕ
+  pub copies : CopiesKept
 
 abbrev pub is_place : ℕ × ℕ → ℕ × ℕ → Bool
 is_place x y = (x.0 == y.0) && (x.1 == y.1)
 
 -- A word that was not written is zero.
-abbrev pub memory_of : List ((ℕ × ℕ) × ℕ) → Memory
+abbrev pub memory_of : ContentWords → Memory
 memory_of words page word = unwrap_or (lookup (is_place (page, word)) words) 0
 
--- the flat facts that this stands for: between lines nothing is paused, and the writes of just those slots are logged that have a dirty log
+-- the flat facts that this stands for: the writes of just those slots are logged that have a dirty log
 abbrev pub facts_of : Kept → Facts
 facts_of kept = record {
   slots = kept.slots;
   host = host_of kept.changed;
   memory = memory_of kept.words;
-  paused = false;
+  migration = kept.copies.state;
   armed = λ id. is_logged id kept.slots;
   pending = is_dirty kept.dirty;
+  image = memory_of kept.copies.image;
+  to_copy = is_dirty kept.copies.to_copy;
 }
 
 -- The command's numbers are in the ranges of a line of a trace, as far as it matters here.

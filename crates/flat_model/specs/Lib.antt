@@ -1,3 +1,4 @@
+pub mod Copying
 pub mod Dirty
 pub mod Frames
 pub mod HostPages

@@ -14,7 +14,7 @@ use Rattle.flat_model.specs.Kept.{Kept}
 abbrev pub ReadsSlot : Command → Kept → Kept → Answer → Option MemorySlot → Type 0
 ReadsSlot command before after answer slot =
     (answer ≡ Bits (bits_for command slot (asked_frames (is_dirty before.dirty) command slot)))
-    × (after.slots ≡ before.slots) × (after.changed ≡ before.changed) × (after.words ≡ before.words)
+    × (after.slots ≡ before.slots) × (after.changed ≡ before.changed) × (after.words ≡ before.words) × (after.copies ≡ before.copies)
     × ((gfn : ℕ) → is_dirty after.dirty gfn
     ≡ left_dirty (takes_out before.sizes.mode command) (asked_frames (is_dirty before.dirty) command slot) (is_dirty before.dirty) gfn)
 

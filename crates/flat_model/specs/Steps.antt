@@ -2,7 +2,7 @@
 use Rattle.std.specs.Prelude.{◌≡◌, ◌+◌, ◌≤◌, ℕ, Bool, true, false, All, Option, Some, None}
 use Rattle.std.specs.Map.{values_of}
 use Rattle.core_views.specs.declared.answer.Answer.{Answer}
-use Rattle.core_views.specs.declared.answer.Answer.TheVariants.{Reached, Mmio, HostFault, Done, Refused}
+use Rattle.core_views.specs.declared.answer.Answer.TheVariants.{Reached, Mmio, HostFault, Paused, Done, Refused}
 use Rattle.core_views.specs.declared.answer.Refusal.{Refusal}
 use Rattle.core_views.specs.declared.answer.Refusal.TheVariants.{OutOfRange}
 use Rattle.core_views.specs.declared.host.HostEntry.{HostEntry}
@@ -14,6 +14,7 @@ use Rattle.core_views.specs.declared.trace.Op.{Op}
 use Rattle.core_views.specs.declared.trace.Slot.{Slot}
 use Rattle.core_views.specs.Host.{brought_in, is_denied}
 use Rattle.core_views.specs.Memory.{word_after_op, with_word}
+use Rattle.core_views.specs.Migrations.{is_paused}
 use Rattle.core_views.specs.Slots.{Slots, page_behind}
 use Rattle.core_views.specs.Events.{marked}
 use Rattle.core_views.specs.SlotSets.{flat_slots, slot_of_id}
@@ -41,7 +42,7 @@ IsChangeOf _ _ = ⊥
 abbrev pub MakesChange : Command → Kept → Kept → Option (ℕ × Option MemorySlot) → Type 0
 MakesChange command before after None = after ≡ before
 MakesChange command before after (Some (id, slot)) =
-    (after.slots ≡ slots_after command before.slots) × (after.changed ≡ before.changed) × (after.words ≡ before.words)
+    (after.slots ≡ slots_after command before.slots) × (after.changed ≡ before.changed) × (after.words ≡ before.words) × (after.copies ≡ before.copies)
     × ((gfn : ℕ) → is_dirty after.dirty gfn
     ≡ dirty_after before.sizes.mode command (slot_of_id id before.slots) slot (is_dirty before.dirty) gfn)
 
@@ -54,6 +55,7 @@ ChangesSlots command before after answer None = (answer ≡ Done) × MakesChange
 pub record HasStored (gfn page word : ℕ) (op : Op) (before after : Kept) : Type 0 where
   pub slots : after.slots ≡ before.slots
   pub changed : after.changed ≡ before.changed
+  pub copies : after.copies ≡ before.copies
   pub words : (p w : ℕ) → memory_of after.words p w ≡ with_word page word (word_after_op op (memory_of before.words page word)) (memory_of before.words) p w
   pub dirty : (other : ℕ) → is_dirty after.dirty other ≡ marked (is_frame_logged before.slots gfn) gfn op (is_dirty before.dirty) other
 
@@ -62,7 +64,7 @@ pub record HasStored (gfn page word : ℕ) (op : Op) (before after : Kept) : Typ
 abbrev pub AccessesEntry : ℕ → ℕ → ℕ → Op → Kept → Kept → Answer → HostEntry → Bool → Type 0
 AccessesEntry gfn page word op before after answer entry true = (answer ≡ HostFault) × (after ≡ before)
 AccessesEntry gfn page word op before after answer entry false =
-    (answer ≡ Reached entry.frame (memory_of before.words page word)) × (after.slots ≡ before.slots)
+    (answer ≡ Reached entry.frame (memory_of before.words page word)) × (after.slots ≡ before.slots) × (after.copies ≡ before.copies)
     × Maps page (brought_in entry) before.changed after.changed
     × ((p w : ℕ) → memory_of after.words p w ≡ with_word page word (word_after_op op (memory_of before.words page word)) (memory_of before.words) p w)
     × ((other : ℕ) → is_dirty after.dirty other ≡ marked (is_frame_logged before.slots gfn) gfn op (is_dirty before.dirty) other)
@@ -73,12 +75,17 @@ AccessesPage gfn word op before after answer None = (answer ≡ Mmio) × (after 
 AccessesPage gfn word op before after answer (Some page) =
     AccessesEntry gfn page word op before after answer (host_of before.changed page) (is_denied op (host_of before.changed page))
 
+-- While the guest is paused an access isn't made, and changes nothing.
+abbrev pub AccessesUnlessPaused : ℕ → ℕ → Op → Kept → Kept → Answer → Bool → Type 0
+AccessesUnlessPaused gfn word op before after answer true = (answer ≡ Paused) × (after ≡ before)
+AccessesUnlessPaused gfn word op before after answer false = AccessesPage gfn word op before after answer (page_behind (flat_slots before.slots) gfn op)
+
 abbrev pub Accesses : ℕ → ℕ → Op → Kept → Kept → Answer → Type 0
-Accesses gfn word op before after answer = AccessesPage gfn word op before after answer (page_behind (flat_slots before.slots) gfn op)
+Accesses gfn word op before after answer = AccessesUnlessPaused gfn word op before after answer (is_paused before.copies.state)
 
 -- A change of a page that isn't the actor's own is refused and changes nothing; any other changes that page alone.
 abbrev pub ChangesHost : ℕ → HostChange → Kept → Kept → Answer → Bool → Type 0
 ChangesHost page change before after answer false = (answer ≡ Refused OutOfRange) × (after ≡ before)
 ChangesHost page change before after answer true =
     ChangesEntries before.sizes page change before.changed after.changed answer × (after.slots ≡ before.slots) × (after.words ≡ before.words)
-    × (after.dirty ≡ before.dirty)
+    × (after.dirty ≡ before.dirty) × (after.copies ≡ before.copies)

@@ -1,4 +1,4 @@
-ghost use Rattle.std.specs.Prelude.{◌≡◌, ◌+◌, ◌*◌, ◌^◌, ◌≤◌, ◌==◌, ◌&&◌, ◌||◌, ℕ, nat_le, nat_lt, [], IfOk, IfSome, OnOk, OnErr, Some, true};
+ghost use Rattle.std.specs.Prelude.{◌≡◌, ◌+◌, ◌*◌, ◌^◌, ◌≤◌, ◌==◌, ◌&&◌, ◌||◌, ℕ, nat_le, nat_lt, not, [], All, IfOk, IfSome, OnOk, OnErr, Some, true};
 ghost use Rattle.std.specs.BTreeMap.{is_at};
 ghost use Rattle.std.specs.Bool.{OnFalse, OnTrue};
 ghost use Rattle.std.specs.Ordering.{nat_cmp};
@@ -6,9 +6,10 @@ ghost use Rattle.std.specs.Set.{remove_key};
 ghost use Rattle.core_views.specs.Events.{unlogged};
 ghost use Rattle.core_views.specs.LogCommands.{IsReadOf, asked_frames, bits_for};
 ghost use Rattle.core_views.specs.Past.{has_gfn};
+ghost use Rattle.flat_model.specs.Copying.{IsBelow, is_held};
 ghost use Rattle.flat_model.specs.Dirty.{dirty_by, is_bit_set, is_dirty, left_dirty, with_slot_dirty, word_of};
 
-use core_views::{Command, MemorySlot, NoMemory, Words};
+use core_views::{Command, MemorySlot, NoMemory, SlotSet, Words};
 use std::alloc::Global;
 use std::collections::BTreeSet;
 use std::marker::Model;
@@ -36,6 +37,18 @@ fn has_gfn(slot: &Option<MemorySlot>, gfn: u64) -> bool
         Some(found) => found.slot.contains(gfn),
         None => false,
     }
+}
+
+// Puts so many frames into the set, from the first on.
+fn insert_range(frames: &mut BTreeSet<u64>, first: u64, count: u64) -> Result<(), NoMemory>
+    requires { first + count ≤ 2 ^ 36 }
+    ensures { OnOk result ((gfn : ℕ) →
+        is_dirty frames.new.keys gfn ≡ ((nat_le first gfn && nat_lt gfn (first + count)) || is_dirty frames.old.keys gfn)) }
+{
+    for gfn in first..first + count {
+        frames.insert(gfn)?;
+    }
+    Ok(())
 }
 
 impl DirtyFrames {
@@ -102,6 +115,34 @@ impl DirtyFrames {
         }
     }
 
+    /// All frames of these slots.
+    pub fn of_slots(alloc: Global, slots: &[(u64, MemorySlot)]) -> Result<Self, NoMemory>
+        requires { All IsBelow slots.now }
+        ensures { IfOk result (λ frames. (gfn : ℕ) → is_dirty frames gfn ≡ is_held slots.now gfn) }
+    {
+        let mut frames = BTreeSet::new(alloc);
+        let mut rest = slots;
+        while let Some((entry, more)) = rest.split_first() {
+            insert_range(&mut frames, entry.1.slot.base, entry.1.slot.pages)?;
+            rest = more;
+        }
+        Ok(DirtyFrames { frames })
+    }
+
+    /// Whether this frame is dirty.
+    pub fn contains(&self, gfn: u64) -> bool
+        ensures { result ≡ is_dirty self.now gfn }
+    {
+        self.frames.contains(&gfn)
+    }
+
+    /// Makes all frames of these slots clean.
+    pub fn leave(&mut self, slots: &SlotSet)
+        ensures { (gfn : ℕ) → is_dirty self.new gfn ≡ (not (is_held slots.now gfn) && is_dirty self.old gfn) }
+    {
+        self.frames.retain(|gfn| slots.slot_of(*gfn).is_none());
+    }
+
     // Makes so many frames dirty, from the first on. Where memory is refused, nothing has
     // changed.
     fn add_frames(&mut self, first: u64, count: u64) -> Result<(), NoMemory>
@@ -110,9 +151,7 @@ impl DirtyFrames {
         ensures kept { OnErr result (self.new ≡ self.old) }
     {
         let mut frames = self.frames.clone()?;
-        for gfn in first..first + count {
-            frames.insert(gfn)?;
-        }
+        insert_range(&mut frames, first, count)?;
         self.frames = frames;
         Ok(())
     }

@@ -1,4 +1,4 @@
-ghost use Rattle.std.specs.Prelude.{◌≡◌, ◌==◌, ◌&&◌, ◌||◌, ℕ, IfOk, OnErr, OnOk, Some};
+ghost use Rattle.std.specs.Prelude.{◌≡◌, ◌==◌, ◌&&◌, ◌||◌, ℕ, All, IfOk, OnErr, OnOk, Some, length};
 ghost use Rattle.core_views.specs.Sizes.{sizes_of};
 ghost use Rattle.core_views.specs.Flat.{first_facts};
 ghost use Rattle.core_views.specs.HostChanges.{is_own};
@@ -7,15 +7,21 @@ ghost use Rattle.core_views.specs.Slots.{page_behind};
 ghost use Rattle.core_views.specs.SlotSets.{flat_slots};
 ghost use Rattle.core_views.specs.LogCommands.{log_read, read_refusal};
 ghost use Rattle.core_views.specs.Memory.{with_word};
+ghost use Rattle.core_views.specs.Migrations.{call_answer};
+ghost use Rattle.core_views.specs.declared.trace.MigrationCall.TheVariants.{Finish, Round};
+ghost use Rattle.flat_model.specs.Copying.{CopiesPages, IsBelow, IsCopied, Migrates, frames_left, image_after, with_page, with_pages};
 ghost use Rattle.flat_model.specs.Dirty.{is_dirty, is_frame_logged, sets_all};
 ghost use Rattle.flat_model.specs.Kept.{GivesLine, IsInRange, facts_of, memory_of};
 ghost use Rattle.flat_model.specs.LogSteps.{ReadsLog};
 ghost use Rattle.flat_model.specs.Steps.{Accesses, ChangesHost, ChangesSlots, HasStored, IsChangeOf};
 
+use crate::copies::Copies;
 use crate::dirty_frames::DirtyFrames;
 use crate::host_pages::HostPages;
+use crate::images::{frames_to_copy, image_words, slots_by_id};
 use core_views::{
-    Actor, Answer, Command, HostChange, Line, LogMode, NoMemory, Op, Refusal, Sizes, SlotSet, Trace,
+    Actor, Answer, Command, HostChange, Line, LogMode, MemorySlot, Migration, MigrationCall,
+    NoMemory, Op, Refusal, Sizes, SlotSet, Trace,
 };
 use std::alloc::Global;
 use std::collections::HashMap;
@@ -23,13 +29,14 @@ use std::marker::Model;
 
 /// Flat guest memory, as it is after some lines of a trace: its slots, what the
 /// host maps its pages to, the content words that were written, by host page and
-/// word, and the dirty guest frames.
+/// word, the dirty guest frames, and the migration of the guest.
 #[derive(Drop)]
 pub struct Plain {
     slots: SlotSet,
     host: HostPages,
     memory: HashMap<(u64, u8), u64>,
     dirty: DirtyFrames,
+    copies: Copies,
 }
 
 impl Model for Plain {
@@ -40,9 +47,16 @@ impl Model for Plain {
 
     ghost Value = { Kept };
 
-    ghost view = { λ p. record { sizes = p.host.sizes; slots = p.slots; changed = p.host.changed; words = p.memory.entries; dirty = p.dirty } };
+    ghost view = { λ p. record {
+      sizes = p.host.sizes;
+      slots = p.slots;
+      changed = p.host.changed;
+      words = p.memory.entries;
+      dirty = p.dirty;
+      copies = p.copies;
+    } };
 
-    ghost invariant = { λ p. (p.host.sizes.pages < 2 ^ 64) × AreSlotsOf p.host.sizes.pages (flat_slots p.slots) };
+    ghost invariant = { λ p. (p.host.sizes.pages < 2 ^ 64) × AreSlotsOf p.host.sizes.pages (flat_slots p.slots) × (p.host.sizes.words < 2 ^ 8) };
 }
 
 // Whether the line gives a slot a dirty log in which each page is dirty.
@@ -61,11 +75,14 @@ impl Plain {
         ensures start { IfOk result (λ plain. facts_of plain ≡ first_facts) }
         ensures sizes { IfOk result (λ plain. plain.sizes ≡ sizes_of trace.now.header) }
     {
+        // The invariant says that this is a number of 8 bits.
+        let _words = trace.header.words;
         Ok(Plain {
             slots: SlotSet::empty(),
             host: HostPages::at_start(alloc, Sizes::of(&trace.header)),
             memory: HashMap::new(alloc),
             dirty: DirtyFrames::none(alloc),
+            copies: Copies::none(alloc),
         })
     }
 
@@ -77,6 +94,9 @@ impl Plain {
         ensures kept { OnErr result (self.new ≡ self.old) }
         ensures sizes { self.new.sizes ≡ self.old.sizes }
     {
+        if line.command.is_barred() && self.copies.state().is_migrating() {
+            return Ok(Answer::Refused(Refusal::Migrating));
+        }
         match line.command {
             Command::Access { gfn, word, op } => self.access(gfn, word, op),
             Command::SetSlot { id, .. } | Command::DeleteSlot { id } => self.change_slots(line, id),
@@ -85,6 +105,7 @@ impl Plain {
             Command::GetLog { id } | Command::ClearLog { id, .. } => {
                 self.read_log(alloc, &line.command, id)
             }
+            Command::Migrate { call } => self.migrate(alloc, call),
         }
     }
 
@@ -133,6 +154,9 @@ impl Plain {
         ensures kept { OnErr result (self.new ≡ self.old) }
         ensures sizes { self.new.sizes ≡ self.old.sizes }
     {
+        if self.copies.state().is_paused() {
+            return Ok(Answer::Paused);
+        }
         let Some(page) = self.page_behind(gfn, op) else {
             return Ok(Answer::Mmio);
         };
@@ -156,7 +180,7 @@ impl Plain {
         ensures kept { OnErr result (self.new ≡ self.old) }
         ensures sizes { self.new.sizes ≡ self.old.sizes }
     {
-        let value = self.memory.get(&(page, word)).copied().unwrap_or(0);
+        let value = self.content(page, word);
         if !op.is_write() {
             return Ok(value);
         }
@@ -170,7 +194,8 @@ impl Plain {
         ensures words { OnOk result ((p w : ℕ) → memory_of self.new.words p w ≡ with_word page word value (memory_of self.old.words) p w) }
         ensures dirty { OnOk result ((other : ℕ) →
             is_dirty self.new.dirty other ≡ ((is_frame_logged self.old.slots gfn && (gfn == other)) || is_dirty self.old.dirty other)) }
-        ensures rest { OnOk result ((self.new.sizes ≡ self.old.sizes) × (self.new.slots ≡ self.old.slots) × (self.new.changed ≡ self.old.changed)) }
+        ensures rest { OnOk result ((self.new.sizes ≡ self.old.sizes) × (self.new.slots ≡ self.old.slots) × (self.new.changed ≡ self.old.changed)
+            × (self.new.copies ≡ self.old.copies)) }
         ensures kept { OnErr result (self.new ≡ self.old) }
     {
         let logged = self.is_logged(gfn);
@@ -184,6 +209,118 @@ impl Plain {
                 Err(refused.into())
             }
         }
+    }
+
+    // What the word of the host page holds.
+    fn content(&self, page: u64, word: u8) -> u64
+        ensures { result ≡ memory_of self.now.words page word }
+    {
+        self.memory.get(&(page, word)).copied().unwrap_or(0)
+    }
+
+    // Does what the call asks of the migration, if there is something to do.
+    fn migrate(&mut self, alloc: Global, call: MigrationCall) -> Result<Answer, NoMemory>
+        ensures migrates { IfOk result (λ answer. Migrates call self.old self.new answer (call_answer self.old.slots self.old.copies.state call)) }
+        ensures kept { OnErr result (self.new ≡ self.old) }
+        ensures sizes { self.new.sizes ≡ self.old.sizes }
+    {
+        if let Some(answer) = self.slots.call_answer(self.copies.state(), call) {
+            return Ok(answer);
+        }
+        match call {
+            MigrationCall::Start => {
+                let slots = slots_by_id(alloc, &self.slots)?;
+                self.copies.start(alloc, slots.as_slice())?;
+                Ok(Answer::Done)
+            }
+            MigrationCall::Round => self.round(alloc),
+            MigrationCall::Finish => self.finish(alloc),
+            MigrationCall::Resume => {
+                self.copies.resume();
+                Ok(Answer::Done)
+            }
+        }
+    }
+
+    // Reads the dirty logs of the slots, and copies their pages that are dirty or yet to be
+    // copied. Where memory is refused, nothing has changed.
+    fn round(&mut self, alloc: Global) -> Result<Answer, NoMemory>
+        ensures copies { IfOk result (CopiesPages Round self.old self.new) }
+        ensures kept { OnErr result (self.new ≡ self.old) }
+        ensures sizes { self.new.sizes ≡ self.old.sizes }
+    {
+        let slots = slots_by_id(alloc, &self.slots)?;
+        let (image, count) = self.next_image(alloc, slots.as_slice())?;
+        let state = self.copies.state();
+        self.put_image(state, image);
+        Ok(Answer::Copied(count))
+    }
+
+    // Stops the guest, and does the same. The answer is the image.
+    fn finish(&mut self, alloc: Global) -> Result<Answer, NoMemory>
+        ensures copies { IfOk result (CopiesPages Finish self.old self.new) }
+        ensures kept { OnErr result (self.new ≡ self.old) }
+        ensures sizes { self.new.sizes ≡ self.old.sizes }
+    {
+        let slots = slots_by_id(alloc, &self.slots)?;
+        let (image, _) = self.next_image(alloc, slots.as_slice())?;
+        let words = self.host.sizes().words as u8;
+        let answer = image_words(alloc, slots.as_slice(), words, &image)?;
+        self.put_image(Migration::Stopped, image);
+        Ok(Answer::Image(answer))
+    }
+
+    // The image, with the pages of these slots, which are all, that are dirty or yet to be
+    // copied; and how many pages these are.
+    fn next_image(
+        &self,
+        alloc: Global,
+        slots: &[(u64, MemorySlot)],
+    ) -> Result<(HashMap<(u64, u8), u64>, u64), NoMemory>
+        requires all { slots.now ≡ self.now.slots }
+        requires below { All IsBelow slots.now }
+        ensures image { IfOk result (λ found. memory_of found.0.entries ≡ image_after self.now) }
+        ensures count { IfOk result (λ found. found.1 ≡ length (frames_left self.now)) }
+    {
+        let frames = frames_to_copy(alloc, slots, &self.dirty, self.copies.to_copy())?;
+        let image = self.image_with(frames.as_slice())?;
+        Ok((image, frames.len() as u64))
+    }
+
+    // The pages of all slots are copied, into this image, and the migration has come so far.
+    fn put_image(&mut self, state: Migration, image: HashMap<(u64, u8), u64>)
+        ensures copied { IsCopied state image.entries self.old self.new }
+        ensures sizes { self.new.sizes ≡ self.old.sizes }
+    {
+        self.dirty.leave(&self.slots);
+        self.copies.copied(state, image, &self.slots);
+    }
+
+    // The image, with the pages behind these guest frames.
+    fn image_with(&self, frames: &[u64]) -> Result<HashMap<(u64, u8), u64>, NoMemory>
+        ensures { IfOk result (λ image. memory_of image.entries
+            ≡ with_pages self.now.sizes.words self.now.slots frames.now (memory_of self.now.words) (memory_of self.now.copies.image)) }
+    {
+        let mut image = self.copies.image().clone()?;
+        let mut rest = frames;
+        while let [gfn, more @ ..] = rest {
+            let page = self.page_behind(*gfn, Op::Read).unwrap_or(0);
+            self.copy_page(page, &mut image)?;
+            rest = more;
+        }
+        Ok(image)
+    }
+
+    // Copies the words of the page into the image.
+    fn copy_page(&self, page: u64, image: &mut HashMap<(u64, u8), u64>) -> Result<(), NoMemory>
+        ensures { OnOk result (memory_of image.new.entries
+            ≡ with_page self.now.sizes.words page (memory_of self.now.words) (memory_of image.old.entries)) }
+    {
+        let words = self.host.sizes().words as u8;
+        for word in 0..words.max(1) {
+            image.insert((page, word), self.content(page, word))?;
+        }
+        Ok(())
     }
 
     // Whether writes to the guest frame are logged.

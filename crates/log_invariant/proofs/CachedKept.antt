@@ -19,7 +19,6 @@ use Rattle.core_views.specs.declared.trace.Line.{Line}
 use Rattle.core_views.specs.Held.{Held}
 use Rattle.core_views.specs.Sizes.{actors_of}
 use Rattle.spte_words.specs.declared.area.Area.TheVariants as area
-use Rattle.spte_words.specs.Entries.{can_write}
 use Rattle.part_steps.specs.declared.part_step.PartStep.{PartStep}
 use Rattle.part_steps.specs.ControlBits.{has_to_flush}
 use Rattle.part_steps.specs.PartSteps.{needs_line}
@@ -50,7 +49,7 @@ use Rattle.mmu_core.proofs.machine.HandWith.{hand_with}
 use Rattle.mmu_core.proofs.machine.PartStepping.{IsPart}
 use Rattle.mmu_core.proofs.machine.Stepping.{IsStep}
 use Rattle.log_invariant.specs.Excuses.{ExcusesCached, FlushesLaterAt}
-use Rattle.log_invariant.specs.LogInvariant.{AreGuarded, LogInvariant}
+use Rattle.log_invariant.specs.LogInvariant.{AreGuarded, LogInvariant, UseIsGuarded}
 use Rattle.log_invariant.proofs.CachesCarried.{task_carried, AsksStill}
 use Rattle.log_invariant.proofs.CoveredKept.{AllGuarded, guarded_kept, idle_guarded_kept}
 use Rattle.log_invariant.proofs.LinePlaces.{idle_says}
@@ -81,8 +80,8 @@ carried_guarded z v w a c carries own cached k low still may =
     at_upd (λ k (b : Buffer Translation). k < z.vcpus → AsksStill (v.words area.State k) (w.words area.State k)
     → may_use (v.words area.State k) (v.hand k).topics.stay ≡ true → AreGuarded (AllGuarded z w (ExcusesCached k (w.words area.State k))) b.items)
     (λ i. (v.hand i).cached) a c
-    (λ low still may i d lt writes. carries a still low may _ (own low may i d lt writes))
-    (λ k ne low still may i d lt writes. carries k still low may _ (cached k low may i d lt writes)) k low still may
+    (λ low still may i d lt writes gfn over. carries a still low may gfn (own low may i d lt writes gfn over))
+    (λ k ne low still may i d lt writes gfn over. carries k still low may gfn (cached k low may i d lt writes gfn over)) k low still may
 
 -- ---- a step of a line
 
@@ -166,7 +165,7 @@ pub line_cached_kept : (z : Sizes) (v : View) (a : ℕ) (line : Line) (command :
     → Invariant z v → TopicsInvariant z v → LogInvariant z v → AllSetNow z (stepped a line command p v) → CachedNow z (stepped a line command p v)
 line_cached_kept z v a line command p small S I P G set k low =
     task_carried z v a c (hand_after line command p h x) (task_at p command h)
-    (λ t. can_write t.leaf ≡ true → AllGuarded z w (ExcusesCached k (w.words area.State k)) t.gfn) k (step_of z v a command p makes)
+    (UseIsGuarded (AllGuarded z w (ExcusesCached k (w.words area.State k)))) k (step_of z v a command p makes)
     (λ still may. carried_guarded z v w a c carries (λ lt was. line_guarded z v a P G S.there p command makes (G.cached a lt was)) G.cached k low still may)
   where
     h : Held
@@ -202,7 +201,7 @@ pub part_cached_kept : (z : Sizes) (v : View) (a : ℕ) (step : PartStep) (note 
     → has_line (v.hand a) ≡ false → Invariant z v → TopicsInvariant z v → LogInvariant z v → CachedNow z (part_stepped a step note v)
 part_cached_kept z v a step note S free none I P G k low =
     task_carried z v a h.cached h (part_task step (own_index h) h.topics note)
-    (λ t. can_write t.leaf ≡ true → AllGuarded z w (ExcusesCached k (w.words area.State k)) t.gfn) k (Makes step note S)
+    (UseIsGuarded (AllGuarded z w (ExcusesCached k (w.words area.State k)))) k (Makes step note S)
     (λ still may. carried_guarded z v w a h.cached carries (G.cached a) G.cached k low still may)
   where
     h : Held

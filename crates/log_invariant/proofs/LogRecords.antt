@@ -7,7 +7,7 @@ use Rattle.core_views.specs.declared.place.SlotField.TheVariants.{Flags}
 use Rattle.core_views.specs.declared.sizes.Sizes.{Sizes}
 use Rattle.core_views.specs.declared.slot_set.MemorySlot.{MemorySlot}
 use Rattle.core_views.specs.declared.trace.Command.{Command}
-use Rattle.core_views.specs.declared.trace.Command.TheVariants.{Access, ChangeHost, ClearLog, DeleteSlot, GetLog, SetLog, SetSlot}
+use Rattle.core_views.specs.declared.trace.Command.TheVariants.{Access, ChangeHost, ClearLog, DeleteSlot, GetLog, Migrate, SetLog, SetSlot}
 use Rattle.core_views.specs.declared.trace.Slot.{Slot as SlotOf}
 use Rattle.core_views.specs.Refusals.{is_logged, log_refusal}
 use Rattle.core_views.specs.SlotCommands.{arms, change_at_once, slot_armed}
@@ -80,4 +80,5 @@ armed_at z pool set (ChangeHost page change) slots R is works = absurd (cc is)
 armed_at z pool set (SetSlot id slot) slots R is works = absurd (cc is)
 armed_at z pool set (DeleteSlot id) slots R is works = absurd (cc is)
 armed_at z pool set (GetLog id) slots R is works = absurd (cc is)
+armed_at z pool set (Migrate call) slots R is works = absurd (cc is)
 armed_at z pool set (ClearLog id first count words) slots R is works = absurd (cc is)

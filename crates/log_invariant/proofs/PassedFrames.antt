@@ -1,5 +1,5 @@
 -- No links lead to a leaf that allows writes over a guest frame that a line which forbids them passes with its step.
-use Rattle.std.proofs.Common.{◌^◌, ◌∙◌, ◌≡◌, ◌≤◌, ap, arith, refl, subst, sym, ℕ}
+use Rattle.std.proofs.Common.{◌^◌, ◌∙◌, ◌≡◌, ◌≤◌, ap, refl, subst, sym, ℕ}
 use Rattle.std.specs.Prelude.{Bool, None, Option, Some, false, true}
 use Rattle.core_views.specs.Held.{Held}
 use Rattle.core_views.specs.declared.place.FrameRange.{FrameRange}
@@ -82,12 +82,9 @@ module _ (z : Sizes) (v : View) (a : ℕ) (note : ℕ) (P : TopicsInvariant z v)
       (DeniesPassed (place.SlotChange (change.WriteProtect range (protect.Walk true))) command (v.hand a)
       (part_topics (part.Sweep came) t (v.words area.Pool (pool_index (table_page (gone_up t.walk)) (entry_index came (gone_up t.walk).level)))).walk)
   sweep_denies S most K l j other R O passes =
-      passed_denies (tree_kept z v a (part.Sweep came) note S P) (omega (arith, few)) up at_up range.start came x (linked_page (kind_of up.level x))
+      passed_denies (tree_kept z v a (part.Sweep came) note S P) up at_up range.start came x (linked_page (kind_of up.level x))
       (K.on.over K.left).span K.on.from refl (swept_there _ false range _ (sweep_known false range t.walk x most K)) l j other R O passes.1 passes.2
     where
-      few : z.pool ≤ 16384
-      few = S.is_sizes.pool.1
-
       up : TableWalk
       up = gone_up t.walk
 
@@ -104,12 +101,9 @@ module _ (z : Sizes) (v : View) (a : ℕ) (note : ℕ) (P : TopicsInvariant z v)
       → AllOver P.up P.spot ((part_stepped a (part.Protect came) note v).words area.Pool) ((part_stepped a (part.Protect came) note v).words area.Root 0)
       (DeniesPassed (place.SlotChange (change.WriteProtect range protect.Protect)) command (v.hand a) (part_topics (part.Protect came) t 0).walk)
   protect_denies S K l j other R O passes =
-      passed_denies (tree_kept z v a (part.Protect came) note S P) (omega (arith, few)) t.walk ((P.held a S.there).table K.saw.over.there) range.start came
+      passed_denies (tree_kept z v a (part.Protect came) note S P) t.walk ((P.held a S.there).table K.saw.over.there) range.start came
       (without_write t.walk.entry) None K.saw.over.span K.from left K.saw.over.there l j other R O passes.1 passes.2
     where
-      few : z.pool ≤ 16384
-      few = S.is_sizes.pool.1
-
       left : (part_stepped a (part.Protect came) note v).words area.Pool (pool_index (table_page t.walk) (entry_index came t.walk.level))
           ≡ without_write t.walk.entry
       left =

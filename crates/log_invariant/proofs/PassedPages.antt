@@ -1,6 +1,6 @@
 -- A line that forbids writes page by page: over the guest frame of a page no links lead to a leaf that allows writes, once the line has come to an entry at
 -- which there is nothing to do, or has forbidden writes in the leaf.
-use Rattle.std.proofs.Common.{◌*◌, ◌+◌, ◌/◌, ◌^◌, ◌∙◌, ◌≡◌, ◌≤◌, ap, arith, refl, subst, sym, ℕ}
+use Rattle.std.proofs.Common.{◌*◌, ◌+◌, ◌/◌, ◌∙◌, ◌≡◌, ap, arith, refl, subst, sym, ℕ}
 use Rattle.std.specs.Prelude.{◌&&◌, Bool, None, Option, Some, false, if◌then◌else◌, true}
 use Rattle.core_views.specs.declared.sizes.Sizes.{Sizes}
 use Rattle.core_views.specs.declared.topics.TableWalk.{TableWalk}
@@ -34,14 +34,14 @@ abbrev DeniesAt : ℕ → TableWalk → ℕ → ℕ → ℕ → Type 0
 DeniesAt gfn after level other w = (other ≡ gfn) × ((has_entry after && is_done false after) ≡ true) → kind_of level w ≡ Leaf → can_write w ≡ true → ⊥
 
 -- So it is where the entry of the frame in a walk's table was loaded, or changed to this one.
-entry_denies : {pages root : ℕ} {role pool : ℕ → ℕ} {up : ℕ → Use} {spot : ℕ → Position} (T : TreePart pages root role pool up spot) (few : pages ≤ 2 ^ 32)
+entry_denies : {pages root : ℕ} {role pool : ℕ → ℕ} {up : ℕ → Use} {spot : ℕ → Position} (T : TreePart pages root role pool up spot)
     (walk : TableWalk) (at_walk : stands up spot (table_page walk) ≡ Some (at walk.level walk.prefix)) (gfn x : ℕ) (o : Option ℕ)
     → gfn / level_span walk.level / 512 ≡ walk.prefix → pool (pool_index (table_page walk) (entry_index gfn walk.level)) ≡ x
     → AllOver up spot pool root (DeniesAt gfn (gone_down o walk (entry_index gfn walk.level) x))
-entry_denies T few walk at_walk gfn x (Some page) span is l j other R O passed leaf writes =
+entry_denies T walk at_walk gfn x (Some page) span is l j other R O passed leaf writes =
     absurd (let none = (both_true false (is_done false (gone_down (Some page) walk (entry_index gfn walk.level) x)) passed.1).0 in cc none)
-entry_denies T few walk at_walk gfn x None span is l j other R O passed leaf writes =
-    none_allows T few walk at_walk (entry_index gfn walk.level) (omega arith)
+entry_denies T walk at_walk gfn x None span is l j other R O passed leaf writes =
+    none_allows T walk at_walk (entry_index gfn walk.level) (omega arith)
     (subst (λ w. has_done false (can_write w) (kind_of walk.level w) ≡ true) (sym is) done) l j other R O
     (ap (λ n. n / level_span walk.level) passed.0 ∙ over) leaf writes
   where
@@ -58,9 +58,6 @@ module _ (z : Sizes) (v : View) (a : ℕ) (P : TopicsInvariant z v) (gfn : ℕ) 
   abbrev t : Topics
   t = (v.hand a).topics
 
-  few : (step : PartStep) → IsPart z v a step → z.pool ≤ 2 ^ 32
-  few step S = let most = S.is_sizes.pool.1 in omega (arith, most)
-
   -- what is so after a step of the actor's
   abbrev Denies : PartStep → Type 0
   Denies step =
@@ -71,13 +68,13 @@ module _ (z : Sizes) (v : View) (a : ℕ) (P : TopicsInvariant z v) (gfn : ℕ) 
   next_denies : IsPart z v a (part.Walk gfn) → Denies (part.Walk gfn)
   next_denies S =
       let over = S.needs.0 in
-      entry_denies P.tree (few (part.Walk gfn) S) t.walk ((P.held a S.there).table over.there) gfn
+      entry_denies P.tree t.walk ((P.held a S.there).table over.there) gfn
       (v.words area.Pool (pool_index (table_page t.walk) (entry_index gfn t.walk.level))) (linked_page (kind_of t.walk.level _)) over.span refl
 
   anew_denies : IsPart z v a (part.WalkAnew gfn) → Denies (part.WalkAnew gfn)
   anew_denies S =
       let x : ℕ = v.words area.Pool (pool_index (table_page (at_top t.walk)) (entry_index gfn 4)) in
-      entry_denies P.tree (few (part.WalkAnew gfn) S) (at_top t.walk) (top_stands P.tree t (P.held a S.there) (P.paths a S.there) S.needs.there) gfn x
+      entry_denies P.tree (at_top t.walk) (top_stands P.tree t (P.held a S.there) (P.paths a S.there) S.needs.there) gfn x
       (linked_page (kind_of 4 x)) (over_top gfn t.walk S.needs.small).span refl
 
   pub walk_denies : (anew : Bool) → IsPart z v a (if anew then part.WalkAnew gfn else part.Walk gfn)
@@ -88,7 +85,7 @@ module _ (z : Sizes) (v : View) (a : ℕ) (P : TopicsInvariant z v) (gfn : ℕ) 
   -- It forbids writes in the leaf.
   pub leaf_denies : IsPart z v a (part.Protect gfn) → Denies (part.Protect gfn)
   leaf_denies S =
-      entry_denies (tree_kept z v a (part.Protect gfn) 0 S P) (few (part.Protect gfn) S) t.walk ((P.held a S.there).table S.needs.saw.over.there) gfn
+      entry_denies (tree_kept z v a (part.Protect gfn) 0 S P) t.walk ((P.held a S.there).table S.needs.saw.over.there) gfn
       (without_write t.walk.entry) None S.needs.saw.over.span left
     where
       left : (part_stepped a (part.Protect gfn) 0 v).words area.Pool (pool_index (table_page t.walk) (entry_index gfn t.walk.level))

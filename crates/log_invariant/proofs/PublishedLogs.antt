@@ -7,7 +7,7 @@ use Rattle.core_views.specs.declared.place.SlotChangePlace.TheVariants as change
 use Rattle.core_views.specs.declared.sizes.Sizes.{Sizes}
 use Rattle.core_views.specs.declared.slot_set.MemorySlot.{MemorySlot}
 use Rattle.core_views.specs.declared.trace.Command.{Command}
-use Rattle.core_views.specs.declared.trace.Command.TheVariants.{Access, ChangeHost, ClearLog, DeleteSlot, GetLog, SetLog, SetSlot}
+use Rattle.core_views.specs.declared.trace.Command.TheVariants.{Access, ChangeHost, ClearLog, DeleteSlot, GetLog, Migrate, SetLog, SetSlot}
 use Rattle.core_views.specs.declared.trace.Line.{Line}
 use Rattle.core_views.specs.declared.trace.Slot.{Slot as SlotOf}
 use Rattle.core_views.specs.Refusals.{is_logged}
@@ -117,6 +117,7 @@ keeps_recorded z (SetLog id on) slots changes works =
 keeps_recorded z (Access gfn word op) slots changes works = absurd (cc changes)
 keeps_recorded z (ChangeHost page change) slots changes works = absurd (cc changes)
 keeps_recorded z (GetLog id) slots changes works = absurd (cc changes)
+keeps_recorded z (Migrate call) slots changes works = absurd (cc changes)
 keeps_recorded z (ClearLog id first count words) slots changes works = absurd (cc changes)
 
 -- ---- of the words of both sets
@@ -208,4 +209,5 @@ armed_stays slots (ChangeHost page change) = refl
 armed_stays slots (SetSlot id new_) = refl
 armed_stays slots (DeleteSlot id) = refl
 armed_stays slots (GetLog id) = refl
+armed_stays slots (Migrate call) = refl
 armed_stays slots (ClearLog id first count words) = refl

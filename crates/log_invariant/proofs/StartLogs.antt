@@ -2,7 +2,6 @@
 use Rattle.core_views.specs.Held.{Held}
 use Rattle.core_views.specs.Sizes.{actor_at, actors_of}
 use Rattle.core_views.specs.declared.actor.Actor.TheVariants.{Manager}
-use Rattle.core_views.specs.declared.cache.Translation.{Translation}
 use Rattle.core_views.specs.declared.place.Place.TheVariants as place
 use Rattle.core_views.specs.declared.sizes.Sizes.{Sizes}
 use Rattle.core_views.specs.declared.trace.Line.{Line}
@@ -11,7 +10,7 @@ use Rattle.log_invariant.proofs.WithinKept.{manager_there}
 use Rattle.log_invariant.specs.Covered.{IsLoggedIn}
 use Rattle.log_invariant.specs.Excuses.{ExcusesCached}
 use Rattle.log_invariant.specs.LogBegins.{LogIsUnwatchedAt}
-use Rattle.log_invariant.specs.LogInvariant.{AreGuarded, FastWritesAt, IsGuardedIn, LogInvariant, HasArmedWordsAt}
+use Rattle.log_invariant.specs.LogInvariant.{AreGuarded, FastWritesAt, IsGuardedIn, LogInvariant, HasArmedWordsAt, UseIsGuarded}
 use Rattle.mmu_core.proofs.pages.AllOver.{absent_is}
 use Rattle.mmu_core.proofs.start.StartWords.{pool_word}
 use Rattle.mmu_core.proofs.start.Starts.{hand_is, none_live}
@@ -21,13 +20,13 @@ use Rattle.mmu_core.specs.machine.View.{view, word_in}
 use Rattle.mmu_core.specs.machine.Worlds.{IsStart}
 use Rattle.spte_words.proofs.ReadsEntries.{kind_of_absent}
 use Rattle.spte_words.specs.Areas.{pool_index}
-use Rattle.spte_words.specs.Entries.{can_write, kind_of}
+use Rattle.spte_words.specs.Entries.{kind_of}
 use Rattle.spte_words.specs.declared.area.Area.TheVariants as area
 use Rattle.spte_words.specs.declared.spte_kind.SpteKind.TheVariants.{Absent, Leaf}
 use Rattle.std.proofs.Common.{List, ap, arith, subst, sym, ℕ, ◌+◌, ◌<◌, ◌∙◌, ◌≡◌}
 use Rattle.std.proofs.lemmas.Bool.Decides.{nat_tests}
 use Rattle.std.proofs.lemmas.List.Elements.{All-nil}
-use Rattle.std.specs.Prelude.{None, Some, true}
+use Rattle.std.specs.Prelude.{None, Some}
 
 manager_at : (z : Sizes) → actor_at z (z.vcpus + z.hosts) ≡ Manager
 manager_at z = grind (arith, nat_tests)
@@ -77,5 +76,5 @@ module _ (z : Sizes) (lines : List Line) (w : World Held) (start : IsStart z lin
     leaves = λ up spot T table entry gfn hangs over leaf. absurd (no_leaf (spot table).level (pool_index table entry) leaf);
     cached = λ v low may.
         subst (AreGuarded (Guarded v)) (sym (ap (λ (x : Held). x.cached.items) (hand_is z lines w v start (omega (arith, low)))))
-        (All-nil (λ (t : Translation). can_write t.leaf ≡ true → Guarded v t.gfn));
+        (All-nil (UseIsGuarded (Guarded v)));
   }

@@ -1,5 +1,5 @@
 -- A sweep that forbids writes: over the guest frames that it passes with a step no links lead to a leaf that allows writes.
-use Rattle.std.proofs.Common.{◌*◌, ◌+◌, ◌-◌, ◌/◌, ◌<◌, ◌^◌, ◌∙◌, ◌≡◌, ◌≤◌, ◌⊎◌, ap, arith, inl, inr, refl, subst, sym, ℕ}
+use Rattle.std.proofs.Common.{◌*◌, ◌+◌, ◌-◌, ◌/◌, ◌<◌, ◌∙◌, ◌≡◌, ◌≤◌, ◌⊎◌, ap, arith, inl, inr, refl, subst, sym, ℕ}
 use Rattle.std.specs.Prelude.{◌&&◌, None, Option, Some, false, true}
 use Rattle.core_views.specs.declared.topics.TableWalk.{TableWalk}
 use Rattle.spte_words.proofs.Spans.{span_above, span_positive}
@@ -10,15 +10,12 @@ use Rattle.spte_words.specs.declared.spte_kind.SpteKind.TheVariants.{Absent, Fro
 use Rattle.part_steps.specs.PartTasks.{entry_index, table_page}
 use Rattle.part_steps.specs.SweepTopics.{entry_end, entry_start, has_done, has_entry, is_done, swept_to}
 use Rattle.part_steps.specs.WalkTopics.{gone_down}
-use Rattle.mmu_core.proofs.pages.AllOver.{reached_table}
-use Rattle.mmu_core.proofs.pages.NoneBelow.{leads_on, leaf_lowest, none_below}
-use Rattle.mmu_core.proofs.pages.Standing.{at_spot}
+use Rattle.mmu_core.proofs.pages.NoneBelow.{entry_over, leads_on, leaf_ends, none_below, one_end, over_frame}
 use Rattle.mmu_core.proofs.pages.SweptEntries.{below_swept, both_true, entry_below, in_entry, regrouped, starts_at}
-use Rattle.mmu_core.proofs.pages.TreePlaces.{all_reached, one_place, same_position}
 use Rattle.mmu_core.specs.invariant.AllOver.{AllOver}
-use Rattle.mmu_core.specs.invariant.TreePart.{Position, TreePart, Use, at, is_table, stands}
+use Rattle.mmu_core.specs.invariant.TreePart.{Position, TreePart, Use, at, stands}
 
-module _ {pages root : ℕ} {role pool : ℕ → ℕ} {up : ℕ → Use} {spot : ℕ → Position} (T : TreePart pages root role pool up spot) (few : pages ≤ 2 ^ 32)
+module _ {pages root : ℕ} {role pool : ℕ → ℕ} {up : ℕ → Use} {spot : ℕ → Position} (T : TreePart pages root role pool up spot)
     (walk : TableWalk) (at_walk : stands up spot (table_page walk) ≡ Some (at walk.level walk.prefix)) (index : ℕ) (low : index < 512) where
   -- the entry of the walk's table
   abbrev pub entry_at : ℕ
@@ -38,35 +35,25 @@ module _ {pages root : ℕ} {role pool : ℕ → ℕ} {up : ℕ → Use} {spot :
       -- It leads nowhere.
       led : leads_on (kind_of walk.level entry_at) ≡ false → ⊥
       led nowhere =
-          none_below T few (table_page walk) other walk.level (at_walk ∙ ap (λ r. Some (at walk.level r)) prefix)
+          none_below T (table_page walk) other walk.level (at_walk ∙ ap (λ r. Some (at walk.level r)) prefix)
           (ap (λ i. leads_on (kind_of walk.level (pool (pool_index (table_page walk) i)))) (sym same) ∙ nowhere) l j other R O refl leaf
 
       -- It is a leaf, and so the same one.
       met : kind_of walk.level entry_at ≡ Leaf → can_write entry_at ≡ true
-      met here = subst (λ k. can_write (pool (pool_index k index)) ≡ true) one (subst (λ i. can_write (pool (pool_index l i)) ≡ true) in_it writes)
+      met here =
+          ap (λ i. can_write (pool (pool_index (table_page walk) i))) same
+          ∙ ap (λ n. can_write (pool (pool_index (table_page walk) (entry_index other n)))) one.0
+          ∙ ap (λ k. can_write (pool (pool_index k (entry_index other (spot l).level)))) one.1
+          ∙ ap (λ i. can_write (pool (pool_index l i))) (sym at_l.1) ∙ writes
         where
-          lowest : walk.level ≡ 1
-          lowest = leaf_lowest T few (table_page walk) (at walk.level walk.prefix) index at_walk low here
+          at_l : (stands up spot l ≡ Some (over_frame (spot l).level other)) × (j ≡ entry_index other (spot l).level)
+          at_l = entry_over T l j other R O
 
-          at_l : stands up spot l ≡ Some (spot l)
-          at_l = at_spot up spot l (up l) refl (reached_table up root l (ap is_table T.top) R)
-
-          level : (spot l).level ≡ walk.level
-          level = leaf_lowest T few l (spot l) j at_l O.0 leaf ∙ sym lowest
-
-          place : other / level_span walk.level ≡ (spot l).prefix * 512 + j
-          place = subst (λ n. other / level_span n ≡ (spot l).prefix * 512 + j) level O.1
-
-          in_it : j ≡ index
-          in_it = let less = O.0 in omega (arith, place, over, low, less)
-
-          span : (spot l).prefix ≡ walk.prefix
-          span = let less = O.0 in omega (arith, place, over, low, less)
-
-          one : l ≡ table_page walk
+          one : (walk.level ≡ (spot l).level) × (table_page walk ≡ l)
           one =
-              one_place T l (table_page walk) (at walk.level walk.prefix) R (all_reached T (table_page walk) _ at_walk)
-              (at_l ∙ ap Some (same_position (spot l) (at walk.level walk.prefix) level span)) at_walk
+              one_end T (table_page walk) l other walk.level (spot l).level (at_walk ∙ ap (λ r. Some (at walk.level r)) prefix) at_l.0
+              (leaf_ends walk.level _ (ap (λ i. kind_of walk.level (pool (pool_index (table_page walk) i))) (sym same) ∙ here))
+              (leaf_ends (spot l).level _ (ap (λ i. kind_of (spot l).level (pool (pool_index l i))) (sym at_l.1) ∙ leaf))
 
       by : (k : SpteKind) → kind_of walk.level entry_at ≡ k → has_done false (can_write entry_at) k ≡ true → ⊥
       by (Table page) is done = absurd (cc done)
@@ -115,7 +102,7 @@ passed_over start gfn x o walk from most over first level other behind below = b
         case (inr lt) = let same = starts_at walk gfn x in absurd (omega (arith, lt, begins, same, behind))
 
 -- So no links lead to a leaf that allows writes over what is passed.
-module _ {pages root : ℕ} {role pool : ℕ → ℕ} {up : ℕ → Use} {spot : ℕ → Position} (T : TreePart pages root role pool up spot) (few : pages ≤ 2 ^ 32)
+module _ {pages root : ℕ} {role pool : ℕ → ℕ} {up : ℕ → Use} {spot : ℕ → Position} (T : TreePart pages root role pool up spot)
     (walk : TableWalk) (at_walk : stands up spot (table_page walk) ≡ Some (at walk.level walk.prefix)) where
   pub passed_denies : (start gfn x : ℕ) (o : Option ℕ) → gfn / level_span walk.level / 512 ≡ walk.prefix → start ≤ gfn
       → pool (pool_index (table_page walk) (entry_index gfn walk.level)) ≡ x → 1 ≤ (gone_down o walk (entry_index gfn walk.level) x).level
@@ -124,5 +111,5 @@ module _ {pages root : ℕ} {role pool : ℕ → ℕ} {up : ℕ → Use} {spot :
   passed_denies start gfn x o over first is level l j other R O behind below leaf writes =
       let there = T.there (table_page walk) _ at_walk in
       let passed = passed_over start gfn x o walk there.1 there.2 over first level other behind below in
-      none_allows T few walk at_walk (entry_index gfn walk.level) (omega arith)
+      none_allows T walk at_walk (entry_index gfn walk.level) (omega arith)
       (subst (λ w. has_done false (can_write w) (kind_of walk.level w) ≡ true) (sym is) passed.0) l j other R O passed.1 leaf writes

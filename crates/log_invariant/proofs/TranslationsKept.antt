@@ -1,6 +1,7 @@
 -- Each step keeps it that what a virtual processor may use of what it has cached, and which allows writes, is guarded.
 use Rattle.std.proofs.Common.{arith, inl, inr, refl, subst, sym, ℕ, ◌*◌, ◌+◌, ◌/◌, ◌<◌, ◌≡◌}
 use Rattle.std.specs.Prelude.{Bool, List, false, if◌then◌else◌, true}
+use Rattle.std.proofs.lemmas.Bool.Decides.{nat_tests}
 use Rattle.core_views.specs.declared.cache.Translation.{Translation}
 use Rattle.core_views.specs.declared.place.AccessPlace.TheVariants.{Walk}
 use Rattle.core_views.specs.declared.place.AccessPlace.{AccessPlace}
@@ -22,7 +23,7 @@ use Rattle.core_views.specs.Sizes.{actors_of}
 use Rattle.core_views.specs.Slots.{is_write}
 use Rattle.spte_words.specs.declared.area.Area.TheVariants as area
 use Rattle.spte_words.specs.Areas.{pool_index}
-use Rattle.spte_words.specs.Entries.{can_write, kind_of, level_span}
+use Rattle.spte_words.specs.Entries.{kind_of, level_span}
 use Rattle.part_steps.specs.declared.part_step.PartStep.TheVariants as part
 use Rattle.part_steps.specs.PartHoldings.{IsOver}
 use Rattle.part_steps.specs.PartTasks.{entry_index, table_page}
@@ -42,7 +43,7 @@ use Rattle.mmu_core.proofs.pages.Standing.{spot_of}
 use Rattle.mmu_core.proofs.pages.TreePlaces.{all_reached}
 use Rattle.log_invariant.specs.Excuses.{ExcusesCached, ExcusesLeaf, FlushesLaterAt}
 use Rattle.log_invariant.specs.LogBegins.{IsUnflushed, IsUnflushedAt}
-use Rattle.log_invariant.specs.LogInvariant.{AreGuarded, LeafIsGuarded, LogInvariant}
+use Rattle.log_invariant.specs.LogInvariant.{AreGuarded, LeafIsGuarded, LogInvariant, UseIsGuarded}
 use Rattle.log_invariant.specs.LogReads.{IsUnflushedBy}
 use Rattle.log_invariant.proofs.CachesCarried.{AsksStill}
 use Rattle.log_invariant.proofs.CoveredKept.{AllGuarded, IsGuardedNow}
@@ -105,15 +106,19 @@ module _ (z : Sizes) (v : View) (a : ℕ) (P : TopicsInvariant z v) (G : LogInva
   entry gfn = v.words area.Pool (pool_index (table_page walk) (entry_index gfn walk.level))
 
   -- A leaf that its walk finds is guarded.
-  entry_guarded : (gfn : ℕ) → IsOver gfn walk → LeafIsGuarded (AllGuarded z v ExcusesLeaf) walk.level gfn (entry gfn)
-  entry_guarded gfn over =
+  entry_guarded : (gfn other : ℕ) → IsOver gfn walk → other / level_span walk.level ≡ gfn / level_span walk.level
+      → LeafIsGuarded (AllGuarded z v ExcusesLeaf) walk.level other (entry gfn)
+  entry_guarded gfn other over same =
       let at_walk = (P.held a there).table over.there in
       let here : P.spot (table_page walk) ≡ at walk.level walk.prefix = (spot_of P.up P.spot (table_page walk) (at walk.level walk.prefix) at_walk).1 in
       let span = over.span in
-      subst (λ (p : Position). LeafIsGuarded (AllGuarded z v ExcusesLeaf) p.level gfn (entry gfn)) here
-      (G.leaves P.up P.spot P.tree (table_page walk) (entry_index gfn walk.level) gfn
-      (all_reached P.tree (table_page walk) (at walk.level walk.prefix) at_walk)
-      (omega arith, subst (λ (p : Position). gfn / level_span p.level ≡ p.prefix * 512 + entry_index gfn walk.level) (sym here) (omega (arith, span))))
+      subst (λ (p : Position). LeafIsGuarded (AllGuarded z v ExcusesLeaf) p.level other (entry gfn)) here
+      (G.leaves P.up P.spot P.tree (table_page walk) (entry_index gfn walk.level) other
+      (all_reached P.tree (table_page walk) (at walk.level walk.prefix) at_walk) (
+        omega arith,
+        subst (λ (p : Position). other / level_span p.level ≡ p.prefix * 512 + entry_index gfn walk.level) (sym here)
+            (omega (arith, span, same)),
+      ))
 
   -- The use of it is guarded, and so is that of each translation that is cached then.
   abbrev Guarded : List Translation → Type 0
@@ -128,11 +133,12 @@ module _ (z : Sizes) (v : View) (a : ℕ) (P : TopicsInvariant z v) (G : LogInva
       by false is = each
       by true is =
           let found = found_is_leaf (kind_of walk.level (entry gfn)) allowed is in
-          with_leaf_all (λ (t : Translation). can_write t.leaf ≡ true → AllGuarded z v (ExcusesCached a (v.words area.State a)) t.gfn)
-          gfn walk.level (entry gfn) h.cached
-          (λ writes. guarded_by z v ExcusesLeaf (ExcusesCached a (v.words area.State a)) gfn
-          (λ g. allowed_used g.state.place a (v.words area.State a) g.state.line.command g gfn)
-          (entry_guarded gfn S.needs.0 found writes)) each
+          with_leaf_all (UseIsGuarded (AllGuarded z v (ExcusesCached a (v.words area.State a)))) gfn walk.level (entry gfn) h.cached
+          (λ writes other covered.
+          let same : other / level_span walk.level ≡ gfn / level_span walk.level = grind (arith, nat_tests) in
+          guarded_by z v ExcusesLeaf (ExcusesCached a (v.words area.State a)) other
+          (λ g. allowed_used g.state.place a (v.words area.State a) g.state.line.command g other)
+          (entry_guarded gfn other S.needs.0 same found writes)) each
 
   access_guarded : (p : AccessPlace) (gfn word : ℕ) (op : Op) → MakesAt z v a (place.Access p) (Access gfn word op) → Guarded h.cached.items
       → Guarded (access_caches p h gfn op (answer_in (access_task p h gfn word op) v.words)).items

@@ -24,6 +24,7 @@ use Rattle.spte_words.specs.declared.spte_kind.SpteKind.TheVariants.{Leaf}
 use Rattle.spte_words.specs.Entries.{can_write, kind_of}
 use Rattle.part_steps.specs.LogHoldings.{is_in_log, log_end}
 use Rattle.part_steps.specs.SlotWords.{page_of}
+use Rattle.mmu_core.specs.lines.Cached.{covers}
 use Rattle.mmu_core.specs.invariant.AllOver.{AllOver}
 use Rattle.mmu_core.specs.invariant.InvalidatedPart.{may_use}
 use Rattle.mmu_core.specs.invariant.SlotSetPart.{IsLiveIn}
@@ -99,9 +100,13 @@ IsGuardedIn n log pool slots hand Excuses gfn =
 abbrev pub LeafIsGuarded : (ℕ → Type 0) → ℕ → ℕ → ℕ → Type 0
 LeafIsGuarded IsSo level gfn w = kind_of level w ≡ Leaf → can_write w ≡ true → IsSo gfn
 
--- A translation that allows writes.
+-- A translation that allows writes, of each guest frame that it covers.
+abbrev pub UseIsGuarded : (ℕ → Type 0) → Translation → Type 0
+UseIsGuarded IsSo t = can_write t.leaf ≡ true → (gfn : ℕ) → covers gfn t ≡ true → IsSo gfn
+
+-- So is each that is cached.
 abbrev pub AreGuarded : (ℕ → Type 0) → List Translation → Type 0
-AreGuarded IsSo cached = All (λ t. can_write t.leaf ≡ true → IsSo t.gfn) cached
+AreGuarded IsSo cached = All (UseIsGuarded IsSo) cached
 
 -- All parts, of the columns of words and the column of hands, of which the one after those of virtual processors and hosts is the manager's.
 pub record LogInvariantOf (z : Sizes) (root slots : ℕ) (states log role pool : ℕ → ℕ) (hand : ℕ → Held) : Type 0 where

@@ -1,5 +1,5 @@
 -- A reading of a log holds what it must, and no more, from what is kept of the history before it.
-use Rattle.std.proofs.Common.{◌≡◌, ◌-◌, ℕ, Bool, true, false, List, [], ◌∷◌, ◌++◌, append_assoc, refl, sym, ◌∙◌, subst}
+use Rattle.std.proofs.Common.{◌≡◌, ◌⊎◌, inl, inr, ◌-◌, ℕ, Bool, true, false, List, [], ◌∷◌, ◌++◌, append_assoc, refl, sym, ◌∙◌, subst}
 use Rattle.std.proofs.lemmas.Option.{same_Some}
 use Rattle.core_views.specs.declared.actor.Actor.{Actor}
 use Rattle.core_views.specs.declared.event.Event.{Event}
@@ -14,14 +14,16 @@ use Rattle.core_views.specs.Flat.{Facts, Flat, LineUnderWay, first_flat}
 use Rattle.core_views.specs.FlatHistory.{harvest}
 use Rattle.core_views.specs.Events.{after_all}
 use Rattle.core_views.specs.Lawful.{IsAllowed, IsLawful}
+use Rattle.core_views.specs.Migrations.{is_stopped}
 use Rattle.flat_laws.specs.Writes.{DueFramesAreKept, WrittenFramesAreKept}
 use Rattle.flat_laws.proofs.AloneIsLawful.{lawful_parts}
-use Rattle.log_laws.specs.HarvestLaws.{IsAskedFor, ReadingsAreCaused, ReadingsAreComplete, made_by}
+use Rattle.log_laws.specs.HarvestLaws.{IsAskedFor, IsStoppedAfter, NobodyWrites, ReadingsAreCaused, ReadingsAreComplete, made_by}
 
 -- Either kind of reading is a harvest.
 is_harvest : (z : Sizes) (f : Facts) (past : Past) (actor : Actor) (u : LineUnderWay) (id : ℕ) (takes : Bool) (frames : List ℕ)
     → IsAllowed z f past actor u (harvest takes id frames) → IsHarvest f past u.line.command id frames
-is_harvest z f past actor u id true frames may = may.harvest
+is_harvest z f past actor u id true frames (inl may) = may.harvest
+is_harvest z f past actor u id true frames (inr may) = may.harvest
 is_harvest z f past actor u id false frames may = may.harvest
 
 last_read : (z : Sizes) (history : List Event) (actor : Actor) (id : ℕ) (takes : Bool) (frames : List ℕ)
@@ -49,7 +51,20 @@ complete kept z before between actor id takes frames lawful none gfn dirty nobod
     subst (IsLawful z first_flat) (sym (append_assoc before (taken ∷ between) last)) lawful in
     must_hold (after_all history first_flat) actor id gfn frames (last_read z history actor id takes frames whole) asked
     ((kept history gfn).1
-    (record { before = before; actor = actor; id = id; since = between; history_is = refl; dirty = dirty; unwritten = nobody; last = none }))
+    (record {
+      before = before;
+      actor = actor;
+      id = id;
+      since = between;
+      history_is = refl;
+      dirty = dirty;
+      unwritten = λ goes. unwritten goes nobody;
+      last = none;
+    }))
+  where
+    unwritten : is_stopped (after_all before first_flat).facts.migration ≡ false → NobodyWrites before gfn ⊎ IsStoppedAfter before → NobodyWrites before gfn
+    unwritten goes (inl nobody_) = nobody_
+    unwritten goes (inr stopped) = absurd (cc (goes, stopped))
 
 pub caused : WrittenFramesAreKept → ReadingsAreCaused
 caused kept z before actor id takes frames lawful gfn among =

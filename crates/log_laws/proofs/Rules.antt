@@ -1,8 +1,11 @@
 -- What arming does, whole words, and which frames may be read.
-use Rattle.std.proofs.Common.{◌≡◌, ◌⊎◌, inl, inr, ◌+◌, ◌%◌, ◌==◌, ◌&&◌, ◌||◌, Bool, true, false, not, refl, ap, sym, arith}
+use Rattle.std.proofs.Common.{◌≡◌, ◌⊎◌, inl, inr, ◌+◌, ◌%◌, ◌==◌, ◌&&◌, ◌||◌, ℕ, List, Bool, true, false, not, refl, ap, sym, arith}
 use Rattle.std.specs.Prelude.{nat_lt, if◌then◌else◌}
 use Rattle.std.proofs.lemmas.Bool.{eq-eqb, eqb-true, ltb-false, ne_eqb, or_from, or_parts}
 use Rattle.std.proofs.lemmas.Bool.Decides.{nat_tests}
+use Rattle.core_views.specs.declared.event.Event.{Event}
+use Rattle.core_views.specs.declared.slot_set.MemorySlot.{MemorySlot}
+use Rattle.core_views.specs.declared.trace.Command.{Command}
 use Rattle.core_views.specs.Events.{after_all}
 use Rattle.core_views.specs.Flat.{Flat, first_flat}
 use Rattle.core_views.specs.FlatHistory.{harvest}
@@ -10,7 +13,7 @@ use Rattle.core_views.specs.Harvests.{IsHarvest}
 use Rattle.core_views.specs.Lawful.{IsAllowed, MayRead}
 use Rattle.core_views.specs.LogCommands.{is_bad_range}
 use Rattle.flat_laws.specs.Writes.{DueFramesAreKept, WrittenFramesAreKept}
-use Rattle.log_laws.specs.LogRules.{ArmingArms, AreWholeWords, BadRangesAreTold, SuchMayBeRead}
+use Rattle.log_laws.specs.LogRules.{ArmingArms, AreWholeWords, BadRangesAreTold, MayHold, SuchMayBeRead, SuchMayBeReadNext}
 
 pub arming : ArmingArms
 arming id all f = record {
@@ -61,23 +64,33 @@ ranges pages first count = (told, back)
         either (inl a) = inl (eq-eqb (count % 64) 0 a)
         either (inr b) = inr (eq-eqb (first + count) pages b)
 
+harvest_of : DueFramesAreKept → WrittenFramesAreKept → (h : List Event) (command : Command) (id : ℕ) (slot : MemorySlot) (frames : List ℕ)
+    → MayHold h command id slot frames → IsHarvest (after_all h first_flat).facts (after_all h first_flat).past command id frames
+harvest_of due written h command id slot frames M = record {
+  slot = slot;
+  there = M.there;
+  rising = M.rising;
+  asked = M.asked;
+  complete = λ gfn inside asked was. M.complete gfn inside asked ((due h gfn).0 was);
+  caused = λ gfn among. ((written h gfn).1).1 (M.caused gfn among);
+}
+
 pub such_may : DueFramesAreKept → WrittenFramesAreKept → SuchMayBeRead
-such_may due written z h actor id takes slot frames begun reads is M = by takes (record { begun = begun; reads = reads; takes = is; harvest = harvest_is })
+such_may due written z h actor id takes slot frames begun reads is M =
+    by takes (record { begun = begun; reads = reads; takes = is; harvest = harvest_of due written h (state.under actor).line.command id slot frames M })
   where
     state : Flat
     state = after_all h first_flat
 
-    harvest_is : IsHarvest state.facts state.past (state.under actor).line.command id frames
-    harvest_is = record {
-      slot = slot;
-      there = M.there;
-      rising = M.rising;
-      asked = M.asked;
-      complete = λ gfn inside asked was. M.complete gfn inside asked ((due h gfn).0 was);
-      caused = λ gfn among. ((written h gfn).1).1 (M.caused gfn among);
-    }
-
     by : (out : Bool) → MayRead z state.facts state.past (state.under actor).line.command (state.under actor).stage id frames out
         → IsAllowed z state.facts state.past actor (state.under actor) (harvest out id frames)
-    by true may = may
+    by true may = inl may
     by false may = may
+
+pub such_may_next : DueFramesAreKept → WrittenFramesAreKept → SuchMayBeReadNext
+such_may_next due written z h actor id ids slot frames begun M =
+    inr (record {
+      ids = ids;
+      begun = begun;
+      harvest = harvest_of due written h ((after_all h first_flat).under actor).line.command id slot frames M;
+    })

@@ -9,6 +9,7 @@ use Rattle.core_views.specs.declared.slot_set.MemorySlot.{MemorySlot}
 use Rattle.core_views.specs.declared.trace.Op.{Op}
 use Rattle.core_views.specs.Slots.{contains, is_write}
 use Rattle.core_views.specs.SlotSets.{slot_of_id}
+use Rattle.core_views.specs.Migrations.{is_migrating, is_stopped}
 use Rattle.core_views.specs.LogCommands.{asks_for, is_among}
 use Rattle.core_views.specs.Past.{has_gfn}
 use Rattle.core_views.specs.Flat.{Facts, Flat, first_flat}
@@ -32,13 +33,19 @@ pub record IsAskedFor (f : Flat) (actor : Actor) (id gfn : ℕ) : Type 0 where
 abbrev pub NobodyWrites : List Event → ℕ → Type 0
 NobodyWrites history gfn = (other : Actor) → HasBegunWrite history other gfn → ⊥
 
+-- After it the guest is stopped.
+abbrev pub IsStoppedAfter : List Event → Type 0
+IsStoppedAfter history = is_stopped (after_all history first_flat).facts.migration ≡ true
+
 -- An actor begins to read the log of the slot with the ID, and no log begins to be read after that until it has read these frames, which it takes out of
--- the log (`takes`), or leaves there. It has read each frame for which it asks that was dirty as it began, unless a line was under way then that writes it.
+-- the log (`takes`), or leaves there. It has read each frame for which it asks that was dirty as it began, unless a line was under way then that writes it,
+-- and the guest wasn't stopped.
 abbrev pub ReadingsAreComplete : Type 0
 ReadingsAreComplete =
     (z : Sizes) (before between : List Event) (actor : Actor) (id : ℕ) (takes : Bool) (frames : List ℕ)
     → IsLawful z first_flat (before ++ (made_by actor (Taken id) ∷ (between ++ (made_by actor (harvest takes id frames) ∷ []))))
-    → NoneIsTaken between → (gfn : ℕ) → (after_all before first_flat).facts.pending gfn ≡ true → NobodyWrites before gfn
+    → NoneIsTaken between → (gfn : ℕ) → (after_all before first_flat).facts.pending gfn ≡ true
+    → NobodyWrites before gfn ⊎ IsStoppedAfter before
     → IsAskedFor (after_all (before ++ (made_by actor (Taken id) ∷ between)) first_flat) actor id gfn
     → is_among gfn frames ≡ true
 
@@ -88,9 +95,11 @@ PendingIsArmed =
 abbrev pub ShownTakesNothing : Type 0
 ShownTakesNothing = (id : ℕ) (frames : List ℕ) (f : Facts) → facts_after (Shown id frames) f ≡ f
 
--- One that takes them out makes them clean, and each other frame stays as it was, as do all other facts.
+-- One that takes them out makes them clean, and each other frame stays as it was; they are to be copied where a migration goes on; and all other facts stay.
 abbrev pub HarvestedTakesItsFrames : Type 0
 HarvestedTakesItsFrames =
     (id : ℕ) (frames : List ℕ) (f : Facts)
-    → (facts_after (Harvested id frames) f ≡ record f { pending = (facts_after (Harvested id frames) f).pending })
+    → (facts_after (Harvested id frames) f
+    ≡ record f { pending = (facts_after (Harvested id frames) f).pending; to_copy = (facts_after (Harvested id frames) f).to_copy })
+    × ((gfn : ℕ) → (facts_after (Harvested id frames) f).to_copy gfn ≡ ((is_migrating f.migration && is_among gfn frames) || f.to_copy gfn))
     × ((gfn : ℕ) → (facts_after (Harvested id frames) f).pending gfn ≡ (not (is_among gfn frames) && f.pending gfn))

@@ -3,7 +3,7 @@ use Rattle.std.specs.Prelude.{◌≡◌, ◌≢◌, ◌⊎◌, ◌↔◌, ◌≤
 use Rattle.std.specs.List.Sorted.{IsStrictlyIncreasing}
 use Rattle.core_views.specs.declared.actor.Actor.{Actor}
 use Rattle.core_views.specs.declared.event.Event.{Event}
-use Rattle.core_views.specs.declared.event.EventKind.TheVariants.{Armed}
+use Rattle.core_views.specs.declared.event.EventKind.TheVariants.{Armed, Harvested}
 use Rattle.core_views.specs.declared.sizes.Sizes.{Sizes}
 use Rattle.core_views.specs.declared.slot_set.MemorySlot.{MemorySlot}
 use Rattle.core_views.specs.declared.trace.Command.{Command}
@@ -11,7 +11,7 @@ use Rattle.core_views.specs.Slots.{contains}
 use Rattle.core_views.specs.SlotSets.{slot_of_id}
 use Rattle.core_views.specs.LogCommands.{asks_for, is_among, is_bad_range, log_read, takes_out}
 use Rattle.core_views.specs.Past.{has_gfn}
-use Rattle.core_views.specs.Flat.{Facts, HasTaken, first_flat}
+use Rattle.core_views.specs.Flat.{Facts, HasTaken, HasTakenNext, first_flat}
 use Rattle.core_views.specs.FlatHistory.{harvest}
 use Rattle.core_views.specs.Events.{after_all, facts_after}
 use Rattle.core_views.specs.Lawful.{IsAllowed}
@@ -53,3 +53,10 @@ SuchMayBeRead =
     → takes_out z.mode ((after_all h first_flat).under actor).line.command ≡ takes
     → MayHold h ((after_all h first_flat).under actor).line.command id slot frames
     → IsAllowed z (after_all h first_flat).facts (after_all h first_flat).past actor ((after_all h first_flat).under actor) (harvest takes id frames)
+
+-- So may they by a line of a migration, which takes them out of the log.
+abbrev pub SuchMayBeReadNext : Type 0
+SuchMayBeReadNext =
+    (z : Sizes) (h : List Event) (actor : Actor) (id : ℕ) (ids : List ℕ) (slot : MemorySlot) (frames : List ℕ)
+    → ((after_all h first_flat).under actor).stage ≡ HasTakenNext id ids → MayHold h ((after_all h first_flat).under actor).line.command id slot frames
+    → IsAllowed z (after_all h first_flat).facts (after_all h first_flat).past actor ((after_all h first_flat).under actor) (Harvested id frames)

@@ -3,9 +3,9 @@ ghost use Rattle.log_laws.specs.HarvestLaws.{ReadingsAreCaused, ReadingsAreCompl
 ghost use Rattle.log_laws.specs.ClearTraces.{EachPagePrints, FirstRefusalPrints, ModesTell, OtherSlotPrints, SecondWordPrints, WholeWordsPrint};
 ghost use Rattle.log_laws.specs.LogTraces.{AllSetPrints, EndsPrint, GetPrints, ManualPrints};
 ghost use Rattle.log_laws.specs.LogTraces.{RangesPrint, ReadPrints, RefusalsPrint, WordsPrint};
-ghost use Rattle.log_laws.specs.LogRules.{ArmingArms, BadRangesAreTold, SuchMayBeRead};
+ghost use Rattle.log_laws.specs.LogRules.{ArmingArms, BadRangesAreTold, SuchMayBeRead, SuchMayBeReadNext};
 ghost use Rattle.log_laws.specs.LogWords.{ClearWordsTellFrames, GetWordsTellFrames};
-ghost use Rattle.log_laws.specs.OneReader.{LoneReadingsAreComplete, ReadingsAreApart};
+ghost use Rattle.log_laws.specs.OneReader.{LoneReadingsAreComplete, ReadingsAreApart, StoppedReadingsAreComplete};
 ghost use Rattle.log_laws.specs.UnlawfulReadings.{AutomaticGetTakesAll, LogBeginsAllSet, LogBeginsArmed};
 ghost use Rattle.log_laws.specs.UnlawfulReadings.{LogBeginsClean, ManualGetTakesNone, NextGetReadsIt, RaceIsLawful};
 ghost use Rattle.log_laws.specs.UnlawfulReadings.{TakenIsNotReadAgain, UnwrittenIsNotRead, WrittenIsNotLeftOut};
@@ -13,19 +13,21 @@ ghost use Rattle.log_laws.specs.UnlawfulReadings.{TakenIsNotReadAgain, Unwritten
 use flat_laws::writes_are_kept;
 
 /// A law about the readings of dirty logs, over all histories. In a lawful history a reading holds
-/// each frame for which its line asks that was dirty as the line began to read, with no line under
-/// way then that writes the frame (`complete`). It holds no other frame than one that was written,
-/// by a line that was under way since the reading began that took the frame out last, or one of a
-/// log that began with each page dirty; and only frames of the slot for which the line asks
-/// (`caused`). In any history a frame that is written while the writes of its slot are logged is
-/// dirty (`dirty`), until an event makes it clean (`clean`). In a lawful one each dirty frame is in
-/// a slot whose writes are logged (`armed`). A reading that takes no frame out changes no fact
-/// (`shown`), and one that does makes just its frames clean (`taken`) (api.rst, KVM_GET_DIRTY_LOG,
-/// KVM_CLEAR_DIRTY_LOG). Nothing more is asked of a reading: any frames that rise, for which the
-/// line asks, that have a cause, and of which none is left out that must not be, may be read
-/// (`such`). An event that arms a log does so for its slot alone (`arms`). And where one actor alone
-/// reads logs, as the manager does, no log begins to be read before its reading has ended (`apart`);
-/// so each of its readings is complete (`lone`).
+/// each frame for which its line asks that was dirty as the line began to read, unless a line was
+/// under way then that writes the frame, and the guest wasn't stopped (`complete`). It holds no
+/// other frame than one that was written, by a line that was under way since the reading began that
+/// took the frame out last, or one of a log that began with each page dirty; and only frames of the
+/// slot for which the line asks (`caused`). In any history a frame that is written while the writes
+/// of its slot are logged is dirty (`dirty`), until an event makes it clean (`clean`). In a lawful
+/// one each dirty frame is in a slot whose writes are logged (`armed`). A reading that takes no
+/// frame out changes no fact (`shown`), and one that does makes just its frames clean, and to be
+/// copied while a migration goes on (`taken`) (api.rst, KVM_GET_DIRTY_LOG, KVM_CLEAR_DIRTY_LOG).
+/// Nothing more is asked of a reading: any frames that rise, for which the line asks, that have a
+/// cause, and of which none is left out that must not be, may be read (`such`), by a line of a
+/// migration too (`next`). An event that arms a log does so for its slot alone (`arms`). And where
+/// one actor alone reads logs, as the manager does, no log begins to be read before its reading has
+/// ended (`apart`); so each of its readings is complete (`lone`), and, where the guest was stopped
+/// as it began, leaves out no dirty frame, whoever writes it (`stopped`).
 pub fn readings_tell_what_was_written()
     ensures complete { ReadingsAreComplete }
     ensures caused { ReadingsAreCaused }
@@ -38,6 +40,8 @@ pub fn readings_tell_what_was_written()
     ensures arms { ArmingArms }
     ensures apart { ReadingsAreApart }
     ensures lone { LoneReadingsAreComplete }
+    ensures stopped { StoppedReadingsAreComplete }
+    ensures next { SuchMayBeReadNext }
 {
     writes_are_kept();
 }

@@ -14,6 +14,7 @@ pub mod StatesPart
 pub mod AreUsed
 pub mod TreePart
 pub mod AllOver
+pub mod LowestPart
 pub mod PoolPart
 pub mod SearchPart
 pub mod HeldPart

@@ -23,7 +23,7 @@ ghost use Rattle.mmu_core.specs.lines.PartWaits.{WaitsSeeAnother};
 ghost use Rattle.mmu_laws.specs.flat.FlatLogs.{LogsAreFlat};
 ghost use Rattle.mmu_laws.specs.flat.Histories.{AnswersAreTold, EndsWhole, StaysWhole};
 ghost use Rattle.mmu_core.specs.invariant.Laws.{StaysSound, TellsLawfully};
-ghost use Rattle.mmu_laws.specs.leaves.LeafLaws.{CachedLeavesAgree, HeldLeavesAgree, LeavesAgree, UsedLeavesAgree};
+ghost use Rattle.mmu_laws.specs.leaves.LeafLaws.{CachedLeavesAgree, HeldLeavesAgree, LeavesAgree, LeavesAreLowest, UsedLeavesAgree};
 ghost use Rattle.mmu_laws.specs.leaves.OpenFrames.{OpenFramesAreFlushed, OpenFramesAreOfThePage, OpenFramesAreRecorded, OpenFramesAreZapped};
 ghost use Rattle.mmu_core.specs.alone.LineAlone.{LineBeginsAlone, LineEndsAlone, LineGoesThrough, NoneStarvedAlone};
 ghost use Rattle.mmu_core.specs.invariant.Scans.{StarvedLinesScan};
@@ -243,7 +243,8 @@ pub fn the_pool_is_enough()
 /// an access is about to touch is of the page that the slots give the guest frame, at the
 /// frame that the host gives this page. It is MMU-writable exactly where the slots give a
 /// write this page and the host allows it, host-writable exactly where the host does, and
-/// allows writes only where it is MMU-writable. A virtual processor may use all that it has
+/// allows writes only where it is MMU-writable. So it is at any level, and all of them are
+/// of the lowest one. A virtual processor may use all that it has
 /// cached while it is in the guest, or no flush is asked of it. What is cached else is of
 /// the lowest level too, at frames of the machine, and no other actor has anything cached
 /// (tdp_mmu.c, `tdp_mmu_map_handle_target_level`; mmu.rst, "Shadow pages"). Each guest
@@ -251,12 +252,14 @@ pub fn the_pool_is_enough()
 /// exactly the guest frames that the published slots give to its host page. Once its
 /// actor has asked for a first flush, no links lead such a guest frame from the root to a
 /// leaf. And a virtual processor whose flush was awaited, and which is in the guest or
-/// has no flush asked of it, has nothing cached of such a guest frame (kvm_main.c,
+/// has no flush asked of it, has nothing cached of such a guest frame. Both hold up to the
+/// publication of a slot set, where the invalidation is of a slot (kvm_main.c,
 /// `kvm_mmu_invalidate_range_add`; tdp_mmu.c, `kvm_tdp_mmu_unmap_gfn_range`;
 /// vcpu-requests.rst, `KVM_REQ_TLB_FLUSH`).
 pub fn leaves_agree()
     ensures standing { LeavesAgree }
     ensures held { HeldLeavesAgree }
+    ensures lowest { LeavesAreLowest }
     ensures cached { CachedLeavesAgree }
     ensures used { UsedLeavesAgree }
     ensures recorded { OpenFramesAreRecorded }

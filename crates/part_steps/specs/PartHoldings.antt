@@ -129,9 +129,10 @@ pub record MayPublish (t : Topics) : Type 0 where
   pub of_no_page : t.invalidations.opened ≡ true → t.invalidations.own.page ≡ None
   pub none_retired : t.retired ≡ None
 
--- A page is retired, one of the pool, and each other actor was watched since; the actor owns no page.
+-- A page is retired, one of the pool, and each other actor was watched since; the actor owns no page, and has no invalidation open.
 pub record MayGiveOld (h : Held) : Type 0 where
   pub leaves : is_some h.topics.retired ≡ true
   pub in_pool : page_retired h.topics.retired < h.state.sizes.pool
   pub owns_none : h.topics.owned ≡ None
   pub watched : actors_of h.state.sizes ≤ next_watched (own_index h) h.topics.watched
+  pub closed : h.topics.invalidations.opened ≡ false

@@ -68,6 +68,10 @@ page_of slot gfn = slot.host + (gfn - slot.base)
 abbrev pub may_write : Slot → ℕ → Bool
 may_write slot host = host_allows_write host && not slot.read_only
 
--- the leaf of a page in the slot, from its host word: with write permission, if it is asked for, where host and slot allow it
+-- the leaf of a level at this first frame, of pages in the slot with this host word: with write permission, if it is asked for, where host and slot allow it
+abbrev pub leaf_at : ℕ → ℕ → Bool → Slot → ℕ → ℕ
+leaf_at level first writes slot host = leaf_word level first (writes && may_write slot host) (host_allows_write host) (may_write slot host)
+
+-- the leaf of one page in the slot, from its host word
 abbrev pub leaf_of : Bool → Slot → ℕ → ℕ
-leaf_of writes slot host = leaf_word 1 (host_frame host) (writes && may_write slot host) (host_allows_write host) (may_write slot host)
+leaf_of writes slot host = leaf_at 1 (host_frame host) writes slot host

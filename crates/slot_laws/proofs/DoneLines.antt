@@ -4,22 +4,28 @@ use Rattle.std.specs.Prelude.{Option, Some, None, if◌then◌else◌}
 use Rattle.std.specs.Option.{option_map}
 use Rattle.core_views.specs.declared.actor.Actor.{Actor}
 use Rattle.core_views.specs.declared.answer.Answer.{Answer}
-use Rattle.core_views.specs.declared.answer.Answer.TheVariants.{Bits, Done, HostFault, Mmio, Moved, Reached, Refused, Starved}
+use Rattle.core_views.specs.declared.answer.Answer.TheVariants.{Done}
 use Rattle.core_views.specs.declared.answer.Refusal.{Refusal}
 use Rattle.core_views.specs.declared.event.Event.{Event}
 use Rattle.core_views.specs.declared.event.EventKind.{EventKind}
 use Rattle.core_views.specs.declared.event.EventKind.TheVariants.{Begun, LookedAtPause, LookedAtSlots, LookedAtHost, BroughtIn, Accessed, Exited, SlotChanged}
 use Rattle.core_views.specs.declared.event.EventKind.TheVariants.{HostChanged, Armed, Taken, Harvested, Shown, Answered}
+use Rattle.core_views.specs.declared.event.EventKind.TheVariants.{GuestStopped, MigrationStarted, PauseSet, Resumed, WordCopied}
+use Rattle.core_views.specs.declared.migration.Migration.{Migration}
+use Rattle.core_views.specs.declared.trace.MigrationCall.TheVariants.{Start, Finish, Resume}
+use Rattle.core_views.specs.Migrations.{is_migrating, or_barred}
+use Rattle.core_views.proofs.SlotChanges.{answered_by_slots}
 use Rattle.core_views.specs.declared.sizes.Sizes.{Sizes}
 use Rattle.core_views.specs.declared.slot_set.MemorySlot.{MemorySlot}
 use Rattle.core_views.specs.declared.trace.Command.{Command}
-use Rattle.core_views.specs.declared.trace.Command.TheVariants.{Access, ChangeHost, ClearLog, DeleteSlot, GetLog, SetLog, SetSlot}
+use Rattle.core_views.specs.declared.trace.Command.TheVariants.{Access}
 use Rattle.core_views.specs.declared.trace.Line.{Line}
 use Rattle.core_views.specs.Actors.{changed_at, is_same}
 use Rattle.core_views.specs.Alone.{IsInside}
 use Rattle.core_views.specs.Events.{after, after_all, under_after}
-use Rattle.core_views.specs.Flat.{Facts, Flat, Fresh, HasArmed, HasChanged, HasLeft, HasTaken, LineUnderWay, Notes, Stage, first_flat}
-use Rattle.core_views.specs.Lawful.{IsAllowed, IsLawful, MayLeave, Tells, answer_at_once}
+use Rattle.core_views.specs.Flat.{Facts, Flat, Fresh, HasArmed, HasChanged, HasLeft, HasSetPause, HasTakenNext, HasToCopy}
+use Rattle.core_views.specs.Flat.{LineUnderWay, Stage, first_flat}
+use Rattle.core_views.specs.Lawful.{IsAllowed, IsLawful, Tells, answer_at_once}
 use Rattle.core_views.specs.LogCommands.{log_read}
 use Rattle.core_views.specs.Past.{Past}
 use Rattle.core_views.specs.SlotCommands.{change_at_once, changes_slot, refused_or_done, slot_change}
@@ -29,6 +35,7 @@ use Rattle.core_views.proofs.SameActor.{changed_here, same_is}
 use Rattle.flat_laws.proofs.AloneIsLawful.{lawful_parts}
 use Rattle.flat_laws.proofs.Writes.{apart_actors}
 use Rattle.slot_laws.specs.DoneLines.{ChangesOnce, DoneComesOfOneChange, HasNothingToDo, LeavesSlots, NoneChanges, begins_after, by}
+use Rattle.slot_laws.proofs.SlotLineStages.{is_over, is_past, no_call, no_look, none_left, not_at, not_done, not_fresh, not_taken, reads_none}
 
 -- ---- what a slot line's own events are
 
@@ -44,43 +51,6 @@ data Own (line : Line) (f : Facts) (u : LineUnderWay) (kind : EventKind) : Type 
       → IsUnderWay line HasChanged (under_after kind f u) → Own line f u kind
   Leaves : (how : Answer) → how ≢ Done → ((own : Actor) → LeavesSlots own line.actor kind) → IsUnderWay line (HasLeft how) (under_after kind f u)
       → Own line f u kind
-
--- Only for want of a page a slot line is given up.
-not_done : (z : Sizes) (f : Facts) (actor : Actor) (command : Command) (notes : Notes) (answer : Answer) → changes_slot command ≡ true
-    → MayLeave z f actor command notes answer → answer ≢ Done
-not_done z f actor (SetSlot id slot) notes Done is may = absurd may
-not_done z f actor (DeleteSlot id) notes Done is may = absurd may
-not_done z f actor (SetLog id on) notes Done is may = absurd may
-not_done z f actor (Access gfn word op) notes answer is may = absurd (cc is)
-not_done z f actor (ChangeHost page change) notes answer is may = absurd (cc is)
-not_done z f actor (GetLog id) notes answer is may = absurd (cc is)
-not_done z f actor (ClearLog id first count words) notes answer is may = absurd (cc is)
-not_done z f actor command notes Starved is may = λ e. cc e
-not_done z f actor command notes Mmio is may = λ e. cc e
-not_done z f actor command notes HostFault is may = λ e. cc e
-not_done z f actor command notes (Reached frame value) is may = λ e. cc e
-not_done z f actor command notes (Moved frame) is may = λ e. cc e
-not_done z f actor command notes (Bits words) is may = λ e. cc e
-not_done z f actor command notes (Refused refusal) is may = λ e. cc e
-
--- A line that has changed its slot isn't fresh, and reads no log.
-not_fresh : (u : LineUnderWay) → (u.stage ≡ HasChanged) ⊎ (u.stage ≡ HasArmed) → u.stage ≡ Fresh → ⊥
-not_fresh u (inl changed) fresh = cc (changed, fresh)
-not_fresh u (inr armed) fresh = cc (armed, fresh)
-
-not_taken : (u : LineUnderWay) (id : ℕ) → (u.stage ≡ HasChanged) ⊎ (u.stage ≡ HasArmed) → u.stage ≡ HasTaken id → ⊥
-not_taken u id (inl changed) taken = cc (changed, taken)
-not_taken u id (inr armed) taken = cc (armed, taken)
-
--- It reads no log.
-reads_none : (command : Command) (id : ℕ) → changes_slot command ≡ true → log_read command ≡ Some id → ⊥
-reads_none (GetLog i) id is reads = cc is
-reads_none (ClearLog i first count words) id is reads = cc is
-reads_none (SetSlot i slot) id is reads = cc reads
-reads_none (DeleteSlot i) id is reads = cc reads
-reads_none (SetLog i on) id is reads = cc reads
-reads_none (Access gfn word op) id is reads = cc is
-reads_none (ChangeHost page change) id is reads = cc is
 
 module _ (z : Sizes) (line : Line) (changes : changes_slot line.command ≡ true) where
   own : (f : Facts) (past : Past) (u : LineUnderWay) (kind : EventKind) → IsAllowed z f past line.actor u kind → IsInside kind → IsUnderWay line Fresh u
@@ -98,8 +68,16 @@ module _ (z : Sizes) (line : Line) (changes : changes_slot line.command ≡ true
   own f past u (SlotChanged id slot) may inside U =
       Changes id slot refl (ap (λ (l : Line). slot_change f.slots l.command) (sym U.line_is) ∙ may.2) (record { line_is = U.line_is; stage_is = refl })
   own f past u (Armed id all) may inside U = let is = may.0 in let fresh = U.stage_is in absurd (cc (is, fresh))
-  own f past u (Taken id) may inside U = absurd (reads_none line.command id changes (ap (λ (l : Line). log_read l.command) (sym U.line_is) ∙ may.2))
-  own f past u (Harvested id frames) may inside U = let is = may.begun in let fresh = U.stage_is in absurd (cc (is, fresh))
+  own f past u (Taken id) (inl may) inside U = absurd (reads_none line.command id changes (ap (λ (l : Line). log_read l.command) (sym U.line_is) ∙ may.2))
+  own f past u (Taken id) (inr may) inside U =
+      absurd (no_call line.command u.line.command may.call (ap (λ (l : Line). l.command) (sym U.line_is)) may.asked changes)
+  own f past u (Harvested id frames) (inl may) inside U = let is = may.begun in let fresh = U.stage_is in absurd (cc (is, fresh))
+  own f past u (Harvested id frames) (inr may) inside U = let is = may.begun in let fresh = U.stage_is in absurd (cc (is, fresh))
+  own f past u MigrationStarted may inside U = absurd (no_call line.command u.line.command Start (ap (λ (l : Line). l.command) (sym U.line_is)) may.2 changes)
+  own f past u PauseSet may inside U = absurd (no_call line.command u.line.command Finish (ap (λ (l : Line). l.command) (sym U.line_is)) may.2 changes)
+  own f past u Resumed may inside U = absurd (no_call line.command u.line.command Resume (ap (λ (l : Line). l.command) (sym U.line_is)) may.2 changes)
+  own f past u GuestStopped may inside U = let fresh = U.stage_is in absurd (cc (may, fresh))
+  own f past u (WordCopied gfn page word value whole) may inside U = let is = may.left in let fresh = U.stage_is in absurd (cc (is, fresh))
   own f past u (Shown id frames) may inside U = let is = may.begun in let fresh = U.stage_is in absurd (cc (is, fresh))
   own f past u (HostChanged page entry) may inside U =
       let asked = may.1.asked in let is = ap (λ (l : Line). l.command) (sym U.line_is) ∙ asked in absurd (cc (is, changes))
@@ -113,13 +91,21 @@ module _ (z : Sizes) (line : Line) (changes : changes_slot line.command ≡ true
   armed_next f past u (Armed id all) may inside at o = (tt, refl)
   armed_next f past u LookedAtPause may inside at o = absurd (not_fresh u at may)
   armed_next f past u LookedAtSlots may inside at o = absurd (not_fresh u at may)
-  armed_next f past u (LookedAtHost page) may inside at o = absurd (not_fresh u at may)
+  armed_next f past u (LookedAtHost page) may inside at o = absurd (no_look u.stage (is_past u at) may)
+  armed_next f past u MigrationStarted may inside at o = absurd (not_fresh u at may.0)
+  armed_next f past u PauseSet may inside at o = absurd (not_fresh u at may.0)
+  armed_next f past u Resumed may inside at o = absurd (not_fresh u at may.0)
+  armed_next f past u GuestStopped may inside at o = absurd (not_at u.stage HasSetPause (is_past u at) may refl)
+  armed_next f past u (WordCopied gfn page word value whole) may inside at o =
+      absurd (not_at u.stage (HasToCopy (gfn ∷ may.frames) may.count word) (is_past u at) may.left refl)
   armed_next f past u (BroughtIn page) may inside at o = absurd (not_fresh u at may.0)
   armed_next f past u (Accessed gfn word op frame value) may inside at o = absurd (not_fresh u at may.0)
   armed_next f past u (Exited answer) may inside at o = absurd (not_fresh u at may.0)
   armed_next f past u (SlotChanged id slot) may inside at o = absurd (not_fresh u at may.0)
-  armed_next f past u (Taken id) may inside at o = absurd (not_fresh u at may.0)
-  armed_next f past u (Harvested id frames) may inside at o = absurd (not_taken u id at may.begun)
+  armed_next f past u (Taken id) (inl may) inside at o = absurd (not_fresh u at may.0)
+  armed_next f past u (Taken id) (inr may) inside at o = absurd (none_left f.slots u.line.command u.stage id may.ids (is_past u at) may.left)
+  armed_next f past u (Harvested id frames) (inl may) inside at o = absurd (not_taken u id at may.begun)
+  armed_next f past u (Harvested id frames) (inr may) inside at o = absurd (not_at u.stage (HasTakenNext id may.ids) (is_past u at) may.begun refl)
   armed_next f past u (Shown id frames) may inside at o = absurd (not_taken u id at may.begun)
   armed_next f past u (HostChanged page entry) may inside at o = absurd (not_fresh u at may.0)
 
@@ -131,13 +117,20 @@ module _ (z : Sizes) (line : Line) (changes : changes_slot line.command ≡ true
   left_ends f past u how (Armed id all) may inside at = let is = may.0 in cc (is, at)
   left_ends f past u how LookedAtPause may inside at = cc (may, at)
   left_ends f past u how LookedAtSlots may inside at = cc (may, at)
-  left_ends f past u how (LookedAtHost page) may inside at = cc (may, at)
+  left_ends f past u how (LookedAtHost page) may inside at = no_look u.stage (ap is_over at) may
+  left_ends f past u how MigrationStarted may inside at = let is = may.0 in cc (is, at)
+  left_ends f past u how PauseSet may inside at = let is = may.0 in cc (is, at)
+  left_ends f past u how Resumed may inside at = let is = may.0 in cc (is, at)
+  left_ends f past u how GuestStopped may inside at = cc (may, at)
+  left_ends f past u how (WordCopied gfn page word value whole) may inside at = let is = may.left in cc (is, at)
   left_ends f past u how (BroughtIn page) may inside at = let is = may.0 in cc (is, at)
   left_ends f past u how (Accessed gfn word op frame value) may inside at = let is = may.0 in cc (is, at)
   left_ends f past u how (Exited answer) may inside at = let is = may.0 in cc (is, at)
   left_ends f past u how (SlotChanged id slot) may inside at = let is = may.0 in cc (is, at)
-  left_ends f past u how (Taken id) may inside at = let is = may.0 in cc (is, at)
-  left_ends f past u how (Harvested id frames) may inside at = let is = may.begun in cc (is, at)
+  left_ends f past u how (Taken id) (inl may) inside at = let is = may.0 in cc (is, at)
+  left_ends f past u how (Taken id) (inr may) inside at = none_left f.slots u.line.command u.stage id may.ids (ap is_over at) may.left
+  left_ends f past u how (Harvested id frames) (inl may) inside at = let is = may.begun in cc (is, at)
+  left_ends f past u how (Harvested id frames) (inr may) inside at = let is = may.begun in cc (is, at)
   left_ends f past u how (Shown id frames) may inside at = let is = may.begun in cc (is, at)
   left_ends f past u how (HostChanged page entry) may inside at = let is = may.0 in cc (is, at)
 
@@ -173,7 +166,7 @@ module _ (z : Sizes) (line : Line) (changes : changes_slot line.command ≡ true
 
   given_up : (how : Answer) → how ≢ Done → (es : List Event) (f : Flat) → IsLawful z f (es ++ ends) → StaysWithin line.actor es → Stands (HasLeft how) f → ⊥
   given_up how other [] f lawful within U =
-      other (sym (subst (λ (s : Stage). Tells z f.facts.slots line.actor (f.under line.actor).line.command s Done) U.stage_is lawful.0.1))
+      other (sym (subst (λ (s : Stage). Tells z f.facts line.actor (f.under line.actor).line.command s Done) U.stage_is lawful.0.1))
   given_up how other (e ∷ es) f lawful within U =
       by_actor (is_same e.actor line.actor) refl (λ V. given_up how other es (after e f) lawful.1 within.1 V)
     where
@@ -207,23 +200,19 @@ module _ (z : Sizes) (line : Line) (changes : changes_slot line.command ≡ true
   -- ---- from its begin to its answer
 
   -- Done before it has changed anything it has nothing to do.
-  done_at_once : (slots : MemorySlots) (command : Command) → changes_slot command ≡ true → answer_at_once z slots line.actor command ≡ Some Done
-      → change_at_once z command slots ≡ Some None
-  done_at_once slots command is told = by_kind command is told
+  done_at_once : (slots : MemorySlots) (migration : Migration) (command : Command) → changes_slot command ≡ true
+      → answer_at_once z slots migration line.actor command ≡ Some Done → change_at_once z command slots ≡ Some None
+  done_at_once slots migration command is told =
+      not_barred (is_migrating migration) (change_at_once z command slots) (sym (answered_by_slots z slots migration line.actor command is) ∙ told)
     where
       not_refused : (o : Option (Option Refusal)) → option_map refused_or_done o ≡ Some Done → o ≡ Some None
       not_refused None e = absurd (cc e)
       not_refused (Some None) e = refl
       not_refused (Some (Some refusal)) e = absurd (cc e)
 
-      by_kind : (c : Command) → changes_slot c ≡ true → answer_at_once z slots line.actor c ≡ Some Done → change_at_once z c slots ≡ Some None
-      by_kind (SetSlot id slot) is e = not_refused (change_at_once z (SetSlot id slot) slots) e
-      by_kind (DeleteSlot id) is e = not_refused (change_at_once z (DeleteSlot id) slots) e
-      by_kind (SetLog id on) is e = not_refused (change_at_once z (SetLog id on) slots) e
-      by_kind (Access gfn word op) is e = absurd (cc is)
-      by_kind (ChangeHost page change) is e = absurd (cc is)
-      by_kind (GetLog id) is e = absurd (cc is)
-      by_kind (ClearLog id first count words) is e = absurd (cc is)
+      not_barred : (barred : Bool) (o : Option (Option Refusal)) → or_barred barred (option_map refused_or_done o) ≡ Some Done → o ≡ Some None
+      not_barred true o e = absurd (cc e)
+      not_barred false o e = not_refused o e
 
   abbrev Told : Flat → List Event → Type 0
   Told f es = ChangesOnce line f es ⊎ HasNothingToDo z line f es
@@ -261,9 +250,9 @@ module _ (z : Sizes) (line : Line) (changes : changes_slot line.command ≡ true
       inr (record {
         none = tt;
         done =
-            done_at_once f.facts.slots line.command changes
-            (ap (λ (l : Line). answer_at_once z f.facts.slots line.actor l.command) (sym U.line_is)
-            ∙ subst (λ (s : Stage). Tells z f.facts.slots line.actor (f.under line.actor).line.command s Done) U.stage_is lawful.0.1);
+            done_at_once f.facts.slots f.facts.migration line.command changes
+            (ap (λ (l : Line). answer_at_once z f.facts.slots f.facts.migration line.actor l.command) (sym U.line_is)
+            ∙ subst (λ (s : Stage). Tells z f.facts line.actor (f.under line.actor).line.command s Done) U.stage_is lawful.0.1);
       })
   told (e ∷ es) f lawful within U = by_actor (is_same e.actor line.actor) refl (λ V. told es (after e f) lawful.1 within.1 V)
     where

@@ -1,2 +1,3 @@
 pub mod SlotRules
+pub mod SlotLineStages
 pub mod DoneLines

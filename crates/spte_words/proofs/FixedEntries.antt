@@ -1,10 +1,11 @@
--- A leaf of the lowest level in which writes are allowed.
+-- A leaf in which writes are allowed.
 use Rattle.std.proofs.Common.{◌≡◌, ◌≢◌, ◌+◌, ◌-◌, ◌/◌, ◌%◌, ◌^◌, ◌<◌, ℕ, true, false, refl, arith, ap, ◌∙◌}
-use Rattle.std.specs.Prelude.{Bool, ◌==◌, if◌then◌else◌, not}
+use Rattle.std.specs.Prelude.{Bool, ◌==◌, ◌&&◌, ◌||◌, nat_lt, not}
 use Rattle.std.proofs.lemmas.Bool.Decides.{nat_tests}
-use Rattle.spte_words.specs.declared.spte_kind.SpteKind.TheVariants.{Absent, Frozen, Leaf}
+use Rattle.spte_words.specs.declared.spte_kind.SpteKind.TheVariants.{Leaf}
 use Rattle.spte_words.specs.Bits.{has_bit, bit_if}
 use Rattle.spte_words.specs.Entries.{can_write, frozen_word, is_leaf_at, kind_of, with_write, without_write}
+use Rattle.spte_words.proofs.ProtectedEntries.{leaf_bits}
 
 -- the word with bit 1 set, where it is clear
 fixed_is : (w : ℕ) → can_write w ≡ false → with_write w ≡ w + 2
@@ -22,28 +23,26 @@ fixed_can_write w denies = ap (has_bit 1) (fixed_is w denies) ∙ by (clear w de
     by : w / 2 % 2 ≡ 0 → has_bit 1 (w + 2) ≡ true
     by none = let one : (w + 2) / 2 % 2 ≡ 1 = omega (arith, none) in grind (arith, nat_tests)
 
-pub present_leaf : (w : ℕ) → kind_of 1 w ≡ Leaf → (w ≢ frozen_word) × (w / 2048 % 2 ≡ 1)
-unfolding kind_of is_leaf_at
-present_leaf w is = by (w == frozen_word) (has_bit 11 w) refl refl is
-  where
-    by : (frozen present : Bool) → (w == frozen_word) ≡ frozen → has_bit 11 w ≡ present
-        → (if frozen then Frozen else if present then Leaf else Absent) ≡ Leaf → (w ≢ frozen_word) × (w / 2048 % 2 ≡ 1)
-    by true present f p e = absurd (cc e)
-    by false true f p e = (grind (arith, nat_tests), grind (arith, nat_tests))
-    by false false f p e = absurd (cc e)
-
 -- It is a leaf still.
-pub fixed_kind : (w : ℕ) → kind_of 1 w ≡ Leaf → can_write w ≡ false → kind_of 1 (with_write w) ≡ Leaf
+pub fixed_kind : (level w : ℕ) → kind_of level w ≡ Leaf → can_write w ≡ false → kind_of level (with_write w) ≡ Leaf
 unfolding kind_of is_leaf_at frozen_word
-fixed_kind w is denies = ap (kind_of 1) (fixed_is w denies) ∙ by (clear w denies) (present_leaf w is).1
+fixed_kind level w is denies = ap (kind_of level) (fixed_is w denies) ∙ by (clear w denies)
   where
-    by : w / 2 % 2 ≡ 0 → w / 2048 % 2 ≡ 1 → kind_of 1 (w + 2) ≡ Leaf
-    by none one =
+    bits : (has_bit 11 w ≡ true) × ((nat_lt level 2 || (nat_lt level 4 && has_bit 7 w)) ≡ true)
+    bits = leaf_bits level w is
+
+    by : w / 2 % 2 ≡ 0 → kind_of level (w + 2) ≡ Leaf
+    by none =
+        let there = bits.0 in
+        let one : w / 2048 % 2 ≡ 1 = grind (arith, nat_tests) in
         let present : (w + 2) / 2048 % 2 ≡ 1 = omega (arith, none, one) in
         let other : w + 2 ≢ 0x5a0 = omega (arith, present) in
         let a : (w + 2 == 0x5a0) ≡ false = grind (arith, nat_tests) in
         let b : has_bit 11 (w + 2) ≡ true = grind (arith, nat_tests) in
-        rw (a, b) refl
+        let seventh : (w + 2) / 128 % 2 ≡ w / 128 % 2 = omega (arith, none) in
+        let leaf : (nat_lt level 2 || (nat_lt level 4 && has_bit 7 (w + 2))) ≡ true =
+        ap (λ n. nat_lt level 2 || (nat_lt level 4 && (n == 1))) seventh ∙ bits.1 in
+        rw (a, b, leaf) refl
 
 -- Without it, it is the word again.
 pub fixed_back : (w : ℕ) → can_write w ≡ false → without_write (with_write w) ≡ w

@@ -35,7 +35,7 @@ whole : (w : ℕ) → w - 0 ≡ w
 whole w = omega arith
 
 -- A leaf is present, and one at its level.
-leaf_bits : (level w : ℕ) → kind_of level w ≡ Leaf → (has_bit 11 w ≡ true) × (is_leaf_at level w ≡ true)
+pub leaf_bits : (level w : ℕ) → kind_of level w ≡ Leaf → (has_bit 11 w ≡ true) × (is_leaf_at level w ≡ true)
 unfolding kind_of
 leaf_bits level w is = by (w == frozen_word) (has_bit 11 w) (is_leaf_at level w) is
   where
@@ -46,6 +46,16 @@ leaf_bits level w is = by (w == frozen_word) (has_bit 11 w) (is_leaf_at level w)
     by false true true e = (refl, refl)
     by false true false e = absurd (cc e)
     by false false leaf e = absurd (cc e)
+
+-- So its level is one that has leaves.
+pub leaf_level : (level w : ℕ) → kind_of level w ≡ Leaf → level ≤ 3
+unfolding is_leaf_at
+leaf_level level w is = by (nat_lt level 2) (nat_lt level 4) (has_bit 7 w) refl refl (leaf_bits level w is).1
+  where
+    by : (low below large : Bool) → nat_lt level 2 ≡ low → nat_lt level 4 ≡ below → (low || (below && large)) ≡ true → level ≤ 3
+    by true below large one other e = grind (arith, nat_tests)
+    by false true large one other e = grind (arith, nat_tests)
+    by false false large one other e = absurd (cc e)
 
 -- It is a leaf still, and forbids writes.
 pub protected_kind : (level w : ℕ) → kind_of level w ≡ Leaf → kind_of level (without_write w) ≡ Leaf

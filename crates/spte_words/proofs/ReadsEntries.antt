@@ -140,6 +140,14 @@ kind_of_table level page from small =
     kind_at level (table_word page) false (table_not_frozen page) (table_present page) (table_is_none level page from)
     ∙ ap Table (omega (arith, table_frame page (omega arith)))
 
+-- It is one of some page, whatever page it links; so it is no leaf.
+pub kind_of_link : (level page : ℕ) → 2 ≤ level → kind_of level (table_word page) ≡ Table (frame_in (table_word page) % 2 ^ 32)
+kind_of_link level page from =
+    kind_at level (table_word page) false (table_not_frozen page) (table_present page) (table_is_none level page from)
+
+pub table_no_leaf : (level page : ℕ) → 2 ≤ level → kind_of level (table_word page) ≢ Leaf
+table_no_leaf level page from is = let links = kind_of_link level page from in cc (links, is)
+
 -- The absent word is absent.
 pub kind_of_absent : (level : ℕ) → kind_of level absent_word ≡ Absent
 unfolding kind_of absent_word frozen_word

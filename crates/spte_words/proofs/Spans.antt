@@ -1,7 +1,7 @@
 -- The spans of the levels: their numbers, and how far a child lies from its leaf's first frame.
 use Rattle.std.proofs.Common.{◌≡◌, ◌+◌, ◌*◌, ◌-◌, ◌^◌, ◌<◌, ◌≤◌, ◌%◌, ℕ, refl, arith}
 use Rattle.std.proofs.lemmas.Nat.{mod_below, pow-add}
-use Rattle.spte_words.specs.Entries.{mapped_frame, frame_in, level_span}
+use Rattle.spte_words.specs.Entries.{level_span}
 
 -- the four levels
 pub span_1 : level_span 1 ≡ 1
@@ -45,10 +45,10 @@ offset_small level gfn from to =
     let most : level_span level ≤ 134217728 = grind (arith, spans) in
     omega (arith, mod_below gfn (level_span level) least, most)
 
--- A leaf of level 1 has the frame of one guest frame, its own.
-pub mapped_frame_1 : (leaf gfn : ℕ) → mapped_frame 1 leaf gfn ≡ frame_in leaf
-unfolding mapped_frame level_span
-mapped_frame_1 leaf gfn = let least : gfn % 1 < 1 = mod_below gfn 1 (omega arith) in omega (arith, least)
+-- In a span of level 1 a guest frame is the first.
+pub offset_1 : (gfn : ℕ) → gfn % level_span 1 ≡ 0
+unfolding level_span
+offset_1 gfn = let least : gfn % 1 < 1 = mod_below gfn 1 (omega arith) in omega (arith, least)
 
 -- What the frame of a guest frame in the span of a leaf is told by.
 pub ruleset in_span = (span_positive, offset_small)

@@ -615,6 +615,7 @@ fn command_text(alloc: Global, command: &Command) -> Result<String, AllocError> 
         }
         Command::SetLog { id, on } => format!(in alloc; "log {id} {on}"),
         Command::GetLog { id } => format!(in alloc; "get {id}"),
+        Command::Migrate { call } => format!(in alloc; "migrate {call:?}"),
         Command::ClearLog {
             id,
             first,

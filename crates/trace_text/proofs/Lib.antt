@@ -1,1 +1,3 @@
+pub mod Images
+pub mod Numbers
 pub mod Tells

@@ -1,68 +1,22 @@
--- A printed line tells its parts: each number ends at the first byte that is no digit.
+-- A printed line tells its parts.
 use Rattle.std.specs.Prelude.{◌==◌, if◌then◌else◌, All, false}
-use Rattle.std.proofs.Common.{◌≡◌, ◌≤◌, ◌<◌, ◌^◌, ℕ, List, [], ◌∷◌, ◌++◌, codes, length, drop, get_or, arith, refl, sym, ap, ◌∙◌, append_assoc}
-use Rattle.std.proofs.lemmas.Fmt.{decimal_is_IsNumeral, decimal_injective, digits_is_IsNumeral}
+use Rattle.std.proofs.Common.{◌≡◌, ◌≤◌, ◌<◌, ◌^◌, ℕ, List, [], ◌∷◌, ◌++◌, codes, drop, get_or, arith, refl, sym, ap, ◌∙◌, append_assoc}
+use Rattle.std.proofs.lemmas.Fmt.{decimal_is_IsNumeral, digits_is_IsNumeral}
 use Rattle.std.proofs.lemmas.List.Elements.{All-head, All-tail}
 use Rattle.std.specs.Char.{digit_value}
 use Rattle.std.specs.Fmt.{decimal, digits}
-use Rattle.std.specs.Str.Parse.{AllDigits, digits_value}
+use Rattle.std.specs.Str.Parse.{digits_value}
 use Rattle.core_views.specs.Text.{actor_name, answer_text, bits_text, line_text}
 use Rattle.core_views.specs.declared.actor.Actor.{Actor}
 use Rattle.core_views.specs.declared.actor.Actor.TheVariants.{Vcpu, Host, Manager, Worker}
 use Rattle.core_views.specs.declared.answer.Answer.{Answer}
-use Rattle.core_views.specs.declared.answer.Answer.TheVariants.{Reached, Mmio, HostFault, Starved, Done, Moved, Bits, Refused}
+use Rattle.core_views.specs.declared.answer.Answer.TheVariants.{Reached, Mmio, HostFault, Starved, Paused, Done, Moved, Bits, Copied, Image, Refused}
 use Rattle.core_views.specs.declared.answer.Refusal.{Refusal}
 use Rattle.core_views.specs.declared.answer.Refusal.TheVariants.{BadId, TooLarge, Missing, Logged, NoLog, Resize, Fixed, Overlap, HostOverlap, OutOfRange}
-use Rattle.core_views.specs.declared.answer.Refusal.TheVariants.{NoFrame, BadRange}
+use Rattle.core_views.specs.declared.answer.Refusal.TheVariants.{NoFrame, BadRange, Migrating, NotLogged, NotStarted}
 use Rattle.trace_text.specs.Laws.{IsPrintable, AreNumbers, LinesTell}
-
--- The first items of equal lists, and what is after them.
-heads : (c d : ℕ) (r s : List ℕ) → c ∷ r ≡ d ∷ s → c ≡ d
-heads c d r s e = ap (λ l. get_or l 0 0) e
-
-tails : (c d : ℕ) (r s : List ℕ) → c ∷ r ≡ d ∷ s → r ≡ s
-tails c d r s e = ap (drop 1) e
-
--- Two bytes that differ are not equal.
-differ : (c d : ℕ) → (c ≡ d → ⊥) → c ≡ d → ⊥
-differ c d n e = n e
-
--- Digits of a base up to a byte that is none, and what comes from there on.
-parts : (base : ℕ) (xs ys r s : List ℕ) (c d : ℕ) → AllDigits base xs → AllDigits base ys → base ≤ digit_value c → base ≤ digit_value d
-    → xs ++ c ∷ r ≡ ys ++ d ∷ s → (xs ≡ ys) × (c ∷ r ≡ d ∷ s)
-parts base [] [] r s c d xd yd cs ds e = (refl, e)
-parts base [] (y ∷ ys) r s c d xd yd cs ds e =
-    let same : digit_value c ≡ digit_value y = ap digit_value (heads c y r (ys ++ d ∷ s) e) in
-    absurd (omega (arith, same, cs, yd.0))
-parts base (x ∷ xs) [] r s c d xd yd cs ds e =
-    let same : digit_value x ≡ digit_value d = ap digit_value (heads x d (xs ++ c ∷ r) s e) in
-    absurd (omega (arith, same, ds, xd.0))
-parts base (x ∷ xs) (y ∷ ys) r s c d xd yd cs ds e =
-    let same : x ≡ y = heads x y (xs ++ c ∷ r) (ys ++ d ∷ s) e in
-    let more = parts base xs ys r s c d xd.1 yd.1 cs ds (tails x y (xs ++ c ∷ r) (ys ++ d ∷ s) e) in
-    (rw (same, more.0) refl, more.1)
-
--- A number and the byte after it.
-number : (m n c d : ℕ) (r s : List ℕ) → m < 2 ^ 64 → n < 2 ^ 64 → 10 ≤ digit_value c → 10 ≤ digit_value d → decimal m ++ c ∷ r ≡ decimal n ++ d ∷ s
-    → (m ≡ n) × (r ≡ s)
-number m n c d r s mb nb cs ds e =
-    let p = parts 10 (decimal m) (decimal n) r s c d (decimal_is_IsNumeral m mb).0.1 (decimal_is_IsNumeral n nb).0.1 cs ds e in
-    (decimal_injective m n mb nb p.0, tails c d r s p.1)
-
--- A space is no digit.
-space : 10 ≤ digit_value 32
-space = omega arith
-
--- A number does not begin with a byte that is no digit.
-no_number : (n c d : ℕ) (r s : List ℕ) → n < 2 ^ 64 → 10 ≤ digit_value c → 10 ≤ digit_value d → decimal n ++ c ∷ r ≡ d ∷ s → ⊥
-no_number n c d r s nb cs ds e =
-    let p = parts 10 (decimal n) [] r s c d (decimal_is_IsNumeral n nb).0.1 tt cs ds e in
-    let some : length (decimal n) ≡ 0 = ap length p.0 in
-    omega (arith, some, (decimal_is_IsNumeral n nb).0.0)
-
--- A number of 8 bits is one of 64 bits.
-small : (n : ℕ) → n < 2 ^ 8 → n < 2 ^ 64
-small n b = omega (arith, b)
+use Rattle.trace_text.proofs.Images.{images_tell}
+use Rattle.trace_text.proofs.Numbers.{differ, heads, no_number, number, parts, small, space}
 
 -- An actor and the space after it.
 actor : (a b : Actor) (r s : List ℕ) → IsPrintable a → IsPrintable b → actor_name a ++ 32 ∷ r ≡ actor_name b ++ 32 ∷ s → (a ≡ b) × (r ≡ s)
@@ -97,14 +51,16 @@ moved_apart f g w fb gb e =
     let p = parts 10 (decimal f) (decimal g) [] behind 10 32 (decimal_is_IsNumeral f fb).0.1 (decimal_is_IsNumeral g gb).0.1 (omega arith) space e in
     differ 10 32 (omega arith) (heads 10 32 [] behind p.1)
 
--- The refusal whose name has these letters: the first one tells it, or the second or the fourth does.
+-- The refusal whose name has these letters: the first one tells it, or a later one does.
 by_letter : List ℕ → Refusal
 by_letter l =
     if get_or l 8 0 == 98 then (if get_or l 12 0 == 114 then BadRange else BadId) else
     if get_or l 8 0 == 116 then TooLarge else
-    if get_or l 8 0 == 109 then Missing else
+    if get_or l 8 0 == 109 then (if get_or l 10 0 == 115 then Missing else Migrating) else
     if get_or l 8 0 == 108 then Logged else
-    if get_or l 8 0 == 110 then (if get_or l 11 0 == 108 then NoLog else NoFrame) else
+    if get_or l 8 0 == 110 then (
+    if get_or l 10 0 == 116 then (if get_or l 12 0 == 108 then NotLogged else NotStarted) else (if get_or l 11 0 == 108 then NoLog else NoFrame)
+    ) else
     if get_or l 8 0 == 114 then Resize else
     if get_or l 8 0 == 102 then Fixed else
     if get_or l 8 0 == 111 then (if get_or l 9 0 == 118 then Overlap else OutOfRange) else
@@ -124,6 +80,9 @@ letter_tells HostOverlap = refl
 letter_tells OutOfRange = refl
 letter_tells NoFrame = refl
 letter_tells BadRange = refl
+letter_tells Migrating = refl
+letter_tells NotLogged = refl
+letter_tells NotStarted = refl
 
 -- Words of a dirty log in hexadecimal digits, each after a space, and the LF after them.
 abbrev words_text : List ℕ → List ℕ
@@ -172,9 +131,12 @@ first_byte (Reached frame value) = 102
 first_byte Mmio = 109
 first_byte HostFault = 104
 first_byte Starved = 115
+first_byte Paused = 112
 first_byte Done = 100
 first_byte (Moved frame) = 102
 first_byte (Bits words) = 98
+first_byte (Copied pages) = 99
+first_byte (Image words) = 105
 first_byte (Refused refusal) = 114
 
 first_is : (x : Answer) → get_or (answer_text x ++ 10 ∷ []) 0 0 ≡ first_byte x
@@ -182,9 +144,12 @@ first_is (Reached frame value) = refl
 first_is Mmio = refl
 first_is HostFault = refl
 first_is Starved = refl
+first_is Paused = refl
 first_is Done = refl
 first_is (Moved frame) = refl
 first_is (Bits words) = refl
+first_is (Copied pages) = refl
+first_is (Image words) = refl
 first_is (Refused refusal) = refl
 
 -- An answer and its LF.
@@ -197,12 +162,15 @@ answer (Reached f v) (Reached g w) xb yb e =
 answer Mmio Mmio xb yb e = refl
 answer HostFault HostFault xb yb e = refl
 answer Starved Starved xb yb e = refl
+answer Paused Paused xb yb e = refl
 answer Done Done xb yb e = refl
 answer (Moved f) (Moved g) xb yb e = ap Moved (number f g 10 10 [] [] xb yb (omega arith) (omega arith) (ap (drop 6) e)).0
 answer (Moved f) (Reached g w) xb yb e = absurd (moved_apart f g w xb yb.0 (ap (drop 6) e ∙ reached_is g w))
 answer (Reached f v) (Moved g) xb yb e = absurd (moved_apart g f v yb xb.0 (sym (ap (drop 6) e) ∙ reached_is f v))
 answer (Refused r) (Refused s) xb yb e = ap Refused (sym (letter_tells r) ∙ ap by_letter e ∙ letter_tells s)
 answer (Bits xs) (Bits ys) xb yb e = ap Bits (words_tell xs ys xb yb (ap (drop 4) e))
+answer (Copied m) (Copied n) xb yb e = ap Copied (number m n 10 10 [] [] xb yb (omega arith) (omega arith) (ap (drop 7) e)).0
+answer (Image xs) (Image ys) xb yb e = ap Image (images_tell xs ys xb yb (ap (drop 5) e))
 answer x y xb yb e = absurd (differ (first_byte x) (first_byte y) (omega arith) (sym (first_is x) ∙ ap (λ (l : List ℕ). get_or l 0 0) e ∙ first_is y))
 
 pub tells : LinesTell

@@ -1,5 +1,6 @@
 ghost use Rattle.std.specs.Prelude.{◌≡◌, ◌≢◌, ◌<◌, IfOk, OnErr, OnOk, Some, length, slice_get};
 ghost use Rattle.core_views.specs.declared.place.Place.TheVariants.{Between};
+ghost use Rattle.mmu_core.specs.machine.Worlds.{HandReached};
 ghost use Rattle.mmu_core.specs.machine.Turns.{IsAnswered, IsSameHand, line_of};
 ghost use Rattle.step_seats.specs.Moves.{KeepsRoom};
 ghost use Rattle.weave_engine.specs.Turns.{LineIsAlone, IsJobOf, RanAlone};
@@ -8,6 +9,7 @@ ghost use Rattle.step_seats.specs.LineTurns.{Says, TurnsLine, answer_given, turn
 use core_views::{Command, Hand, Line, NoMemory, Place};
 use dirty_log::LogJob;
 use host_events::HostJob;
+use mmu_core::rests;
 use slot_change::SlotJob;
 use step_seats::{Stepper, Turn};
 use vcpu_run::AccessJob;
@@ -24,9 +26,11 @@ pub enum LineJob {
 impl LineJob {
     /// The work on the hand's next line.
     fn of(hand: &Hand) -> LineJob
+        requires reached { ∥ HandReached hand.now.core ∥₁ }
         requires left { length hand.now.core.answers < length hand.now.core.lines }
         ensures { IsJobOf result (line_of hand.now.core) (length hand.now.core.answers) }
     {
+        rests(hand);
         let index = hand.answers().len();
         match &hand.line().command {
             Command::Access { gfn, word, op } => LineJob::Access(AccessJob {
@@ -40,6 +44,8 @@ impl LineJob {
                 LineJob::SlotChange(SlotJob { index })
             }
             Command::GetLog { .. } | Command::ClearLog { .. } => LineJob::Log(LogJob { index }),
+            // No line of a machine is one of a migration.
+            Command::Migrate { .. } => unreachable!(),
         }
     }
 

@@ -7,12 +7,15 @@
 //!   its log, and `clear ID FIRST PAGES WORD WORD`, which clears it for so many pages from one on whose bits
 //!   are set in two words;
 //! - `read GFN WORD`, `write GFN WORD VALUE` and `add GFN WORD VALUE`, of a virtual processor;
+//! - `start`, `round`, `finish` and `resume`, of the guest's migration;
 //! - `allow PAGE`, `protect PAGE`, `evict PAGE` and `move PAGE`, with `by` and the number of the host thread.
 ghost use Rattle.flat_model.specs.Kept.{IsInRange};
 
 use crate::expected::expect_rows;
 use crate::rows::{numbers, verb};
-use core_views::{Actor, Answer, Command, Header, HostChange, Line, Lines, Op, Slot, Trace, Words};
+use core_views::{
+    Actor, Answer, Command, Header, HostChange, Line, Lines, MigrationCall, Op, Slot, Trace, Words,
+};
 use flat_model::Plain;
 use std::alloc::Global;
 use std::test::Fail;
@@ -162,11 +165,22 @@ fn logged(alloc: Global, plain: &mut Plain, row: &str, numbers: &[u64]) -> Resul
     }
 }
 
+fn migrated(alloc: Global, plain: &mut Plain, word: &str) -> Result<Answer, Fail> {
+    let call = match word {
+        "start" => MigrationCall::Start,
+        "round" => MigrationCall::Round,
+        "finish" => MigrationCall::Finish,
+        _ => MigrationCall::Resume,
+    };
+    run(alloc, plain, Actor::Manager, Command::Migrate { call })
+}
+
 // What the row is answered.
 fn answer_to(alloc: Global, plain: &mut Plain, row: &str, numbers: &[u64]) -> Result<Answer, Fail> {
     match verb(row) {
         "slot" | "delete" => changed_slot(alloc, plain, row, numbers),
         "log" | "get" | "clear" => logged(alloc, plain, row, numbers),
+        "start" | "round" | "finish" | "resume" => migrated(alloc, plain, verb(row)),
         "allow" => changed_page(alloc, plain, HostChange::Allow, numbers),
         "protect" => changed_page(alloc, plain, HostChange::Protect, numbers),
         "evict" => changed_page(alloc, plain, HostChange::Evict, numbers),
@@ -477,4 +491,65 @@ get 3: bits 0x0 0x7fffffffc
 #[test]
 fn reads_and_clears_logs(rt: HostRuntime) -> Result<(), Fail> {
     expect_rows(&rt, first_other(rt.alloc(), LOGS), 96)
+}
+
+// All pages are copied first, and then those that were written since. An access in the pause is not made.
+//
+// Slots, their logs and reading these are barred while a migration goes on, and a round and its end without one.
+//
+// A page that moves, or is evicted, isn't copied again: its content stays. In the pause host threads go on.
+const MIGRATIONS: &str = "\
+--
+frames 1040 manual 0 hosts 0
+slot 0 0 16 0: done
+log 0 on: done
+write 2 0 7: frame 2 value 0
+start: done
+round: copied 16
+add 2 0 5: frame 2 value 7
+round: copied 1
+finish: image 0:2:0=12
+read 2 0: paused
+resume: done
+read 2 0: frame 2 value 12
+--
+frames 1040 manual 0 hosts 0
+slot 0 0 16 0: done
+get 0: refused no-log
+round: refused not-started
+start: refused not-logged
+get 5: refused missing
+log 0 on: done
+log 0 on: refused logged
+slot 0 32 16 0: refused logged
+start: done
+get 0: refused migrating
+finish: image
+resume: done
+log 0 off: done
+clear 0 0 16 0x1: refused no-log
+--
+frames 1040 manual 0 hosts 0
+slot 0 0 16 0: done
+log 0 on: done
+start: done
+write 3 1 9: frame 3 value 0
+round: copied 16
+move 3 by 0: frame 1024
+evict 5 by 0: done
+write 3 0 4: frame 1024 value 0
+round: copied 1
+write 5 1 8: frame 5 value 0
+finish: image 0:3:0=4 0:3:1=9 0:5:1=8
+read 3 0: paused
+evict 6 by 0: done
+finish: refused not-started
+resume: done
+resume: refused not-started
+read 3 1: frame 1024 value 9
+";
+
+#[test]
+fn answers_lines_of_a_migration(rt: HostRuntime) -> Result<(), Fail> {
+    expect_rows(&rt, first_other(rt.alloc(), MIGRATIONS), 42)
 }

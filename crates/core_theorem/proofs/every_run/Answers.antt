@@ -1,6 +1,6 @@
 use Rattle.std.proofs.Common.{[], ◌∷◌, ◌++◌, ap, sym, ◌∙◌, subst, ◌<◌, ℕ, ◌≡◌}
 use Rattle.core_views.specs.declared.host.HostEntry.{HostEntry}
-use Rattle.spte_words.specs.HostWords.{host_word, host_frame}
+use Rattle.spte_words.specs.HostWords.{host_allows_write, host_frame, host_present, host_word}
 use Rattle.spte_words.specs.declared.area.Area.TheVariants as area
 use Rattle.mmu_core.specs.machine.Enabled.{mmu}
 use Rattle.mmu_core.specs.machine.Machine.{run}
@@ -8,7 +8,7 @@ use Rattle.mmu_core.specs.machine.Worlds.{history}
 use Rattle.mmu_laws.proofs.turns.AnsweredRest.{answered_rests}
 use Rattle.mmu_laws.proofs.causes.Causes.{faults_begin_anew_by_cause}
 use Rattle.mmu_laws.proofs.flat.EveryHistory.{every_flat, every_history}
-use Rattle.mmu_laws.proofs.leaves.LeafLaws.{cached_leaves_agree, leaves_agree, used_leaves_agree}
+use Rattle.mmu_laws.proofs.leaves.LeafLaws.{cached_leaves_agree, leaves_agree, leaves_are_lowest, used_leaves_agree}
 use Rattle.mmu_laws.proofs.leaves.OpenFrames.{open_frames_are_flushed, open_frames_are_of_the_page, open_frames_are_recorded, open_frames_are_zapped}
 use Rattle.mmu_laws.proofs.causes.StarvedScan.{legal_parts, starved_lines_scan}
 use Rattle.mmu_core.proofs.pages.FrameUses.{frames_apart}
@@ -51,7 +51,10 @@ pub returns-clause-moved : goal.returns-clause-moved
 returns-clause-moved c = watched_hold_no_old_frame
 
 pub returns-clause-leaves : goal.returns-clause-leaves
-returns-clause-leaves c z lines w ss R gfn entry low leads leaf = leaves_agree z _ gfn entry (sound z lines w ss R) low leads leaf
+returns-clause-leaves c z lines w ss R gfn low entry small leads leaf = leaves_agree z _ gfn low entry (sound z lines w ss R) small leads leaf
+
+pub returns-clause-lowest : goal.returns-clause-lowest
+returns-clause-lowest c z lines w ss R gfn low entry small leads leaf = leaves_are_lowest z _ gfn low entry (sound z lines w ss R) small leads leaf
 
 pub returns-clause-held : goal.returns-clause-held
 returns-clause-held c = held_leaves_are_linked
@@ -71,8 +74,8 @@ returns-clause-scopes c z lines w ss R actor page there opened of_page =
     open_frames_are_of_the_page z _ actor page (sound z lines w ss R) there opened of_page
 
 pub returns-clause-zapped : goal.returns-clause-zapped
-returns-clause-zapped c z lines w ss R actor gfn entry there opened asked is_in leads leaf =
-    open_frames_are_zapped z _ actor gfn entry (sound z lines w ss R) there opened asked is_in leads leaf
+returns-clause-zapped c z lines w ss R actor gfn low entry there emptied asked is_in leads leaf =
+    open_frames_are_zapped z _ actor gfn low entry (sound z lines w ss R) there emptied asked is_in leads leaf
 
 pub returns-clause-flushed : goal.returns-clause-flushed
 returns-clause-flushed c z lines w ss R actor v there opened low awaited may =
@@ -123,7 +126,11 @@ returns-clause-facts c z lines w ss R =
     → ((after_all (history w ss) first_flat).facts.host page).frame ≡ host_frame (word_in z (run mmu w ss) area.Host page)
     = λ page there. ap (λ (e : HostEntry). e.frame) (F.host page there) in record {
       refines = F;
-      host = λ page there. (T.hosts page there).0 ∙ ap (λ (e : HostEntry). host_word e.frame e.present e.writable 1) (sym (F.host page there));
+      host = λ page there.
+          let found : ℕ = word_in z (run mmu w ss) area.Host page in
+          (T.hosts page there).0
+          ∙ ap (host_word (host_frame found) (host_present found) (host_allows_write found)) (T.lowest.hosts page there)
+          ∙ ap (λ (e : HostEntry). host_word e.frame e.present e.writable 1) (sym (F.host page there));
       frames = λ page there. subst (λ n. n < z.frames) (sym (frame page there)) (T.hosts page there).1;
       apart = λ page other low too same. frames_apart T.frames page other low too (sym (frame page low) ∙ (same ∙ frame other too));
     }

@@ -23,20 +23,18 @@ use Rattle.core_views.specs.Slots.{contains, is_write}
 use Rattle.core_views.specs.Traces.{IsCommandFor}
 use Rattle.spte_words.specs.declared.area.Area.TheVariants as area
 use Rattle.spte_words.specs.Areas.{content_index}
-use Rattle.spte_words.specs.Entries.{frame_in}
-use Rattle.spte_words.specs.HostWords.{host_allows_write, host_frame}
-use Rattle.spte_words.proofs.ReadsEntries.{leaf_frame}
+use Rattle.spte_words.specs.HostWords.{host_frame}
 use Rattle.part_steps.specs.declared.part_step.PartStep.{PartStep}
 use Rattle.part_steps.specs.declared.task.Task.{Task}
 use Rattle.part_steps.specs.FrameTopics.{is_uncopied}
 use Rattle.part_steps.specs.PartTasks.{page_looked, word_looked}
-use Rattle.part_steps.specs.SlotWords.{may_write, page_of}
+use Rattle.part_steps.specs.SlotWords.{page_of}
 use Rattle.part_steps.specs.Tasks.{kind_of_task, map_of}
 use Rattle.part_steps.specs.TopicSteps.{topics_after}
 use Rattle.mmu_core.specs.invariant.CachedPart.{IsLeafFor}
 use Rattle.mmu_core.specs.invariant.FramesPart.{CopiedPart, IsCopied}
 use Rattle.mmu_core.specs.invariant.Invariant.{Invariant, KnowsPart}
-use Rattle.mmu_core.specs.invariant.InvalidatedPart.{SlotGives, IsIn, may_use}
+use Rattle.mmu_core.specs.invariant.InvalidatedPart.{IsApart, SlotGives, may_use}
 use Rattle.mmu_core.specs.invariant.TopicsInvariant.{TopicsInvariant}
 use Rattle.mmu_core.specs.lines.AccessKnows.{AccessKnows}
 use Rattle.mmu_core.specs.lines.AccessSteps.{task_by, touch_of}
@@ -47,14 +45,15 @@ use Rattle.mmu_core.specs.machine.Steps.{idle_after}
 use Rattle.mmu_core.specs.machine.View.{View, answer_in, hand_after, part_stepped, stepped, upd, words_after}
 use Rattle.mmu_core.proofs.held.CopiedSteps.{MovesPage, most, moves_on, part_copied}
 pub use Rattle.mmu_core.proofs.held.CopiedSteps.{CopiedAt}
+use Rattle.mmu_core.proofs.held.Emptied.{page_emptied}
 use Rattle.mmu_core.proofs.held.FlushSteps.{FlushAt}
 use Rattle.mmu_core.proofs.held.FreshFrames.{behind_it}
 use Rattle.mmu_core.proofs.held.UsableKept.{UsableAt, used_agrees, vcpu_below}
 use Rattle.mmu_core.proofs.invariant.Kept.{makes_at}
 use Rattle.mmu_core.proofs.lines.AccessParts.{AreSmall}
-use Rattle.mmu_core.proofs.lines.CachedKept.{used_leaf}
+use Rattle.mmu_core.proofs.lines.CachedKept.{used_covers}
 use Rattle.mmu_core.proofs.lines.KnowsKept.{step_knows, step_leaves}
-use Rattle.mmu_core.proofs.lines.UsedTranslations.{lowest_frame}
+use Rattle.mmu_core.proofs.words.HostFrames.{leaf_maps}
 use Rattle.mmu_core.proofs.machine.PartStepping.{IsPart}
 use Rattle.mmu_core.proofs.machine.Stepping.{IsStep}
 use Rattle.mmu_core.proofs.machine.SumsBelow.{column}
@@ -83,14 +82,13 @@ module _ (z : Sizes) (v : View) (a gfn : ℕ) (write : Bool) (I : Invariant z v)
   abbrev used : Translation
   used = (v.hand a).state.used
 
-  found : (used.level ≡ 1) × IsLeafFor (v.words area.Pool) (v.words area.Host) (v.words area.Slots 0) gfn used.leaf
-  found = used_agrees z v a gfn write U low K.0.guest (I.cached a there) K.1
+  found : IsLeafFor (v.words area.Pool) (v.words area.Host) (v.words area.Slots 0) used.level gfn used.leaf
+  found = used_agrees z v a gfn write U low K.0.guest K.1
 
   touched_page : TouchedPage z v a gfn
   touched_page =
-      let L : IsLeafFor (v.words area.Pool) (v.words area.Host) (v.words area.Slots 0) gfn used.leaf = found.1 in
+      let L : IsLeafFor (v.words area.Pool) (v.words area.Host) (v.words area.Slots 0) used.level gfn used.leaf = found in
       let page : ℕ = page_of L.slot gfn in
-      let w : ℕ = v.words area.Host page in
       let fits : L.slot.host + L.slot.pages ≤ z.pages =
       subst (λ (s : SlotOf). s.host + s.pages ≤ z.pages) L.live.is (I.set_part.slots.fits L.id L.live.low L.live.live).pages in
       let in_ : page < z.pages = in_machine z gfn L.slot fits L.holds in
@@ -98,9 +96,7 @@ module _ (z : Sizes) (v : View) (a gfn : ℕ) (write : Bool) (I : Invariant z v)
       record {
         page = page;
         there = in_;
-        frame = lowest_frame gfn (v.hand a).state found.0 ∙ ap frame_in L.is
-            ∙ leaf_frame 1 (host_frame w) (L.writes && may_write L.slot w) (host_allows_write w) (may_write L.slot w)
-            (omega (arith, (P.hosts page in_).1, I.sizes.frames.1));
+        frame = leaf_maps (v.words area.Pool) (v.words area.Host) (v.words area.Slots 0) used.level gfn used.leaf L;
         gives = record { id = L.id; slot = L.slot; live = L.live; has = B.0; is = B.1 };
       }
 
@@ -108,13 +104,12 @@ module _ (z : Sizes) (v : View) (a gfn : ℕ) (write : Bool) (I : Invariant z v)
   not_moved : (i : ℕ) → i < actors_of z → (v.hand i).topics.invalidations.opened ≡ true → MovesPage z (v.words area.Host) (v.hand i).topics
       → touched_page.page ≢ page_looked (v.hand i).topics.host
   not_moved i lt opened M e =
-      let clean = (F i a lt low opened).awaits (omega (arith, low, M.asked)) (omega (arith, low, M.awaited))
+      let clean = (F i a lt low (page_emptied (v.hand i).topics _ opened M.invalid)).awaits (omega (arith, low, M.asked)) (omega (arith, low, M.awaited))
       (ap (may_use (v.words area.State a)) K.0.guest) in
-      let own_ = used_leaf (λ (t : Translation). IsIn (v.hand i).topics.invalidations.own t.gfn → ⊥) gfn write (v.hand a).cached.items used clean K.1
-      found.0 in
-      own_.1 (subst (IsIn (v.hand i).topics.invalidations.own) own_.0
+      let apart = used_covers (IsApart (v.hand i).topics.invalidations.own) gfn write (v.hand a).cached.items used clean K.1 in
+      apart.0 gfn apart.1
       ((P.scopes i _ lt opened M.invalid).covers gfn
-      (subst (λ p. SlotGives (v.words area.Pool) (v.words area.Slots 0) p gfn) e touched_page.gives)))
+      (subst (λ p. SlotGives (v.words area.Pool) (v.words area.Slots 0) p gfn) e touched_page.gives))
 
   -- So what is copied stays, where a word of the touched frame is stored.
   touch_copied : (word x : ℕ) → word < z.words → CopiedAt z v

@@ -16,7 +16,7 @@ use Rattle.spte_words.specs.Bits.{has_bit}
 use Rattle.part_steps.specs.ControlBits.{guest_bits, has_to_flush, request_bit, section_bit}
 use Rattle.part_steps.specs.PartTasks.{all_but}
 use Rattle.part_steps.specs.StayTopics.{no_flush}
-use Rattle.mmu_core.specs.invariant.InvalidatedPart.{IsClean, IsFlushed, IsIn, may_use}
+use Rattle.mmu_core.specs.invariant.InvalidatedPart.{IsApart, IsClean, IsFlushed, may_use}
 use Rattle.mmu_core.specs.invariant.StatesPart.{stay_bits}
 use Rattle.mmu_core.specs.lines.Cached.{asks_flush, flushed_by}
 use Rattle.mmu_core.proofs.machine.Columns.{same_or}
@@ -111,7 +111,7 @@ module _ {own_ : Invalidated} {asked awaited v state : ℕ} {stay : Stay} where
       clean lt = by (asks_flush state) refl
         where
           by : (b : Bool) → asks_flush state ≡ b → IsClean own_ (if b then buffer [] cached.capacity else cached).items
-          by true is = All-nil (λ (t : Translation). IsIn own_ t.gfn → ⊥)
+          by true is = All-nil (IsApart own_)
           by false is = F.asks lt is
 
   -- It leaves the guest, or a section; or begins one.

@@ -1,6 +1,7 @@
 -- Each step keeps what is said of flushes.
 use Rattle.std.proofs.Common.{◌≡◌, ◌+◌, ◌*◌, ◌/◌, ◌<◌, ℕ, ◌∷◌, refl, sym, subst, arith}
 use Rattle.std.specs.Prelude.{Bool, true, false, if◌then◌else◌}
+use Rattle.std.proofs.lemmas.Bool.Decides.{nat_tests}
 use Rattle.std.proofs.lemmas.List.Elements.{All-cons, All-take}
 use Rattle.circular_buffer.specs.Buffer.{Buffer}
 use Rattle.core_views.specs.declared.cache.Translation.{Translation}
@@ -33,7 +34,7 @@ use Rattle.part_steps.specs.PartTopics.{part_topics}
 use Rattle.part_steps.specs.Tasks.{kind_of_task}
 use Rattle.part_steps.specs.TopicSteps.{topics_after}
 use Rattle.mmu_core.specs.invariant.Invariant.{Invariant}
-use Rattle.mmu_core.specs.invariant.InvalidatedPart.{FlushPart, IsClean, IsIn, IsNoLeafIn}
+use Rattle.mmu_core.specs.invariant.InvalidatedPart.{FlushPart, IsApart, IsClean, IsNoLeafIn, has_emptied}
 use Rattle.mmu_core.specs.invariant.TopicsInvariant.{TopicsInvariant}
 use Rattle.mmu_core.specs.invariant.TreePart.{Position, at}
 use Rattle.mmu_core.specs.lines.AccessSteps.{access_caches, access_task, is_found, touch_of}
@@ -114,16 +115,20 @@ module _ (z : Sizes) (v : View) (a : ℕ) (I : TopicsInvariant z v) where
   entry gfn = v.words area.Pool (pool_index (table_page walk) (entry_index gfn walk.level))
 
   -- It is no leaf of a frame of an open invalidation of which a flush was asked for.
-  entry_clean : (gfn : ℕ) → a < actors_of z → IsOver gfn walk → (i : ℕ) → i < actors_of z → (v.hand i).topics.invalidations.opened ≡ true
-      → a < (v.hand i).topics.flush.asked → IsNoLeafIn (v.hand i).topics.invalidations.own walk.level gfn (entry gfn)
-  entry_clean gfn there over i lt opened asked =
+  entry_clean : (gfn other : ℕ) → a < actors_of z → IsOver gfn walk → other / level_span walk.level ≡ gfn / level_span walk.level → (i : ℕ)
+      → i < actors_of z → has_emptied (v.hand i).topics ≡ true
+      → a < (v.hand i).topics.flush.asked → IsNoLeafIn (v.hand i).topics.invalidations.own walk.level other (entry gfn)
+  entry_clean gfn other there over same i lt opened asked =
       let at_walk = (I.held a there).table over.there in
       let here : I.spot (table_page walk) ≡ at walk.level walk.prefix = (spot_of I.up I.spot (table_page walk) (at walk.level walk.prefix) at_walk).1 in
       let span = over.span in
-      subst (λ (p : Position). IsNoLeafIn (v.hand i).topics.invalidations.own p.level gfn (entry gfn)) here
-      (I.zapped i lt opened (omega (arith, asked)) (table_page walk) (entry_index gfn walk.level) gfn
-      (all_reached I.tree (table_page walk) (at walk.level walk.prefix) at_walk)
-      (omega arith, subst (λ (p : Position). gfn / level_span p.level ≡ p.prefix * 512 + entry_index gfn walk.level) (sym here) (omega (arith, span))))
+      subst (λ (p : Position). IsNoLeafIn (v.hand i).topics.invalidations.own p.level other (entry gfn)) here
+      (I.zapped i lt opened (omega (arith, asked)) (table_page walk) (entry_index gfn walk.level) other
+      (all_reached I.tree (table_page walk) (at walk.level walk.prefix) at_walk) (
+        omega arith,
+        subst (λ (p : Position). other / level_span p.level ≡ p.prefix * 512 + entry_index gfn walk.level) (sym here)
+            (omega (arith, span, same)),
+      ))
 
   -- So where a walk finds a leaf, and caches it, this is of none of these frames.
   pub walk_keeps : (gfn : ℕ) (allowed : Bool) → IsPart z v a (part.Walk gfn)
@@ -139,9 +144,10 @@ module _ (z : Sizes) (v : View) (a : ℕ) (I : TopicsInvariant z v) where
       by true is =
           let leaf : Translation = record { gfn = gfn; level = walk.level; leaf = entry gfn } in
           let found = found_is_leaf (kind_of walk.level (entry gfn)) allowed is in
-          let none : IsIn own_ gfn → ⊥ = λ among. entry_clean gfn S.there S.needs.0 i lt opened asked among found in
-          All-take (λ (t : Translation). IsIn own_ t.gfn → ⊥) h.cached.capacity (leaf ∷ h.cached.items)
-          (All-cons (λ (t : Translation). IsIn own_ t.gfn → ⊥) leaf h.cached.items none clean)
+          let none : IsApart own_ leaf = λ other covered among.
+          let same : other / level_span walk.level ≡ gfn / level_span walk.level = grind (arith, nat_tests) in
+          entry_clean gfn other S.there S.needs.0 same i lt opened asked among found in
+          All-take (IsApart own_) h.cached.capacity (leaf ∷ h.cached.items) (All-cons (IsApart own_) leaf h.cached.items none clean)
 
   -- No other step caches anything.
   access_keeps : (p : AccessPlace) (gfn word : ℕ) (op : Op) → MakesAt z v a (place.Access p) (Access gfn word op)

@@ -14,7 +14,7 @@ use Rattle.part_steps.specs.InvalidationHoldings.{knows_count}
 use Rattle.part_steps.specs.InvalidationRange.{gfn_behind}
 use Rattle.part_steps.specs.PartHoldings.{IsFresh, MayEnter}
 use Rattle.part_steps.specs.PartTasks.{word_looked}
-use Rattle.part_steps.specs.SlotWords.{leaf_of, page_of}
+use Rattle.part_steps.specs.SlotWords.{leaf_at, page_of}
 use Rattle.part_steps.specs.StayTopics.{has_lock}
 use Rattle.mmu_core.specs.invariant.InvalidatedPart.{SlotGives, IsIn}
 use Rattle.mmu_core.specs.invariant.InvalidationsPart.{knows_seq}
@@ -106,15 +106,17 @@ looked_word z v a gfn there I M =
         ((I.scopes j (page_of slot gfn) lt U.opened U.of_it).covers gfn given)
 
 -- A leaf agrees still where its page's host word stays.
-pub leaf_same : (pool host : ℕ → ℕ) (set page word gfn leaf : ℕ) → (L : IsLeafFor pool host set gfn leaf)
-    → (page_of L.slot gfn ≡ page → word ≡ host page) → IsLeafFor pool (upd host page word) set gfn leaf
-leaf_same pool host set page word gfn leaf L same = record {
+pub leaf_same : (pool host : ℕ → ℕ) (set page word level gfn leaf : ℕ) → (L : IsLeafFor pool host set level gfn leaf)
+    → (page_of L.slot gfn ≡ page → word ≡ host page) → IsLeafFor pool (upd host page word) set level gfn leaf
+leaf_same pool host set page word level gfn leaf L same = record {
   id = L.id;
   slot = L.slot;
   live = L.live;
   holds = L.holds;
   writes = L.writes;
-  is = L.is ∙ ap (leaf_of L.writes L.slot) (sym stays);
+  first = L.first;
+  is = L.is ∙ ap (leaf_at level L.first L.writes L.slot) (sym stays);
+  frame = ap host_frame stays ∙ L.frame;
   present = ap host_present stays ∙ L.present;
   small = subst (λ w. host_frame w < 2 ^ 40) (sym stays) L.small;
 }
@@ -127,10 +129,10 @@ leaf_same pool host set page word gfn leaf L same = record {
         by (inr ne) = upd_other host page (page_of L.slot gfn) word ne
 
 -- So it does where a page is brought in: of one that isn't present there is no leaf.
-pub leaf_brought : (pool host : ℕ → ℕ) (set page old_ gfn leaf : ℕ) → host_present old_ ≡ false → IsLeafFor pool host set gfn leaf
-    → IsLeafFor pool (upd host page (if host page == old_ then with_presence true old_ else host page)) set gfn leaf
-leaf_brought pool host set page old_ gfn leaf absent L =
-    leaf_same pool host set page _ gfn leaf L
+pub leaf_brought : (pool host : ℕ → ℕ) (set page old_ level gfn leaf : ℕ) → host_present old_ ≡ false → IsLeafFor pool host set level gfn leaf
+    → IsLeafFor pool (upd host page (if host page == old_ then with_presence true old_ else host page)) set level gfn leaf
+leaf_brought pool host set page old_ level gfn leaf absent L =
+    leaf_same pool host set page _ level gfn leaf L
     (λ e. lost (host page == old_) (λ won. grind (arith, nat_tests)) (ap (λ p. host_present (host p)) (sym e) ∙ L.present))
   where
     lost : (won : Bool) → (won ≡ true → host page ≡ old_) → host_present (host page) ≡ true → (if won then with_presence true old_ else host page) ≡ host page

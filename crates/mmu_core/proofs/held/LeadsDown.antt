@@ -42,4 +42,4 @@ entry_leads_down {up = up} {spot = spot} T k p j w small at_k (inr (inl link)) =
     let there = T.there link.page (at (p.level - 1) (p.prefix * 512 + j)) below in
     subst (λ x. LeadsDown (stands up spot) p j (linked_page (kind_of p.level x))) (sym link.is)
     (link_leads_down (stands up spot) p j link.page link.upper (omega (arith, small, there.0)) below)
-entry_leads_down {up = up} {spot = spot} T k p j w small at_k (inr (inr leaf)) = lowest_leads_down (stands up spot) p j w leaf.lowest
+entry_leads_down {up = up} {spot = spot} T k p j w small at_k (inr (inr leaf)) = subst (LeadsDown (stands up spot) p j) (sym (ap linked_page leaf)) tt

@@ -25,7 +25,7 @@ use Rattle.core_views.specs.Slots.{is_write}
 use Rattle.core_views.specs.Traces.{IsCommandFor}
 use Rattle.spte_words.specs.declared.area.Area.TheVariants as area
 use Rattle.spte_words.specs.Areas.{pool_index}
-use Rattle.spte_words.specs.Entries.{frame_in, kind_of}
+use Rattle.spte_words.specs.Entries.{kind_of}
 use Rattle.part_steps.specs.declared.part_step.PartStep.{PartStep}
 use Rattle.part_steps.specs.declared.part_step.PartStep.TheVariants as part
 use Rattle.part_steps.specs.declared.task.Task.{Task}
@@ -33,7 +33,7 @@ use Rattle.part_steps.specs.PartTasks.{entry_index, own_index, part_task, table_
 use Rattle.part_steps.specs.PartTopics.{part_topics}
 use Rattle.part_steps.specs.Tasks.{kind_of_task}
 use Rattle.part_steps.specs.TopicSteps.{topics_after}
-use Rattle.mmu_core.specs.invariant.CachedPart.{CachedPart, IsLeafFor}
+use Rattle.mmu_core.specs.invariant.CachedPart.{IsLeafFor, IsTranslationFor}
 use Rattle.mmu_core.specs.invariant.Invariant.{Invariant}
 use Rattle.mmu_core.specs.invariant.InvalidatedPart.{may_use}
 use Rattle.mmu_core.specs.invariant.TopicsInvariant.{TopicsInvariant}
@@ -50,7 +50,7 @@ pub use Rattle.mmu_core.proofs.held.UsableSteps.{UsableAt}
 use Rattle.mmu_core.proofs.invariant.Kept.{makes_at}
 use Rattle.mmu_core.proofs.invariant.QuietKept.{MakesAt}
 use Rattle.mmu_core.proofs.lines.AccessParts.{AreSmall}
-use Rattle.mmu_core.proofs.lines.CachedKept.{found_is_leaf, leaf_found, used_leaf, with_leaf_all, used_has}
+use Rattle.mmu_core.proofs.lines.CachedKept.{found_is_leaf, leaf_found, used_covers, with_leaf_all}
 use Rattle.mmu_core.proofs.lines.StepIn.{StepIn, Makes, Touches, step_of}
 use Rattle.mmu_core.proofs.machine.PartStepping.{IsPart}
 use Rattle.mmu_core.proofs.machine.Stepping.{IsStep}
@@ -129,8 +129,7 @@ module _ (z : Sizes) (v : View) (a : ℕ) (I : Invariant z v) (P : TopicsInvaria
       by false is = each
       by true is =
           let found = leaf_found z v a gfn there I P S.needs.0 (found_is_leaf (kind_of walk.level (entry gfn)) allowed is) in
-          with_leaf_all (λ (t : Translation). IsLeafFor (v.words area.Pool) (v.words area.Host) (v.words area.Slots 0) t.gfn t.leaf)
-          gfn walk.level (entry gfn) h.cached found.1 each
+          with_leaf_all (IsTranslationFor (v.words area.Pool) (v.words area.Host) (v.words area.Slots 0)) gfn walk.level (entry gfn) h.cached found each
 
   access_cached : (p : AccessPlace) (gfn word : ℕ) (op : Op) → IsCommandFor z h.state.actor (Access gfn word op)
       → MakesAt z v a (place.Access p) (Access gfn word op) → Caches z v a (access_caches p h gfn op (answer_in (access_task p h gfn word op) v.words))
@@ -170,16 +169,13 @@ part_usable_kept z v a step note S P F U =
 
 -- ---- What an access uses.
 
--- A translation that is used in the guest is of the lowest level, and its leaf is the one that slots and host give the guest frame.
+-- The leaf of a translation that is used in the guest is the one that slots and host give the guest frame.
 pub used_agrees : (z : Sizes) (v : View) (a gfn : ℕ) (write : Bool) → UsableAt z v → a < z.vcpus → (v.hand a).topics.stay ≡ Guest
-    → CachedPart z (v.hand a).cached.items → UsesTranslation gfn write (v.hand a)
-    → ((v.hand a).state.used.level ≡ 1)
-    × IsLeafFor (v.words area.Pool) (v.words area.Host) (v.words area.Slots 0) gfn (v.hand a).state.used.leaf
-used_agrees z v a gfn write U low guest each uses =
+    → UsesTranslation gfn write (v.hand a)
+    → IsLeafFor (v.words area.Pool) (v.words area.Host) (v.words area.Slots 0) (v.hand a).state.used.level gfn (v.hand a).state.used.leaf
+used_agrees z v a gfn write U low guest uses =
     let h : Held = v.hand a in
-    let t : Translation = h.state.used in
-    let IsLeaf : ℕ → ℕ → Type 0 = IsLeafFor (v.words area.Pool) (v.words area.Host) (v.words area.Slots 0) in
     let may : may_use (v.words area.State a) h.topics.stay ≡ true = ap (may_use (v.words area.State a)) guest in
-    let lowest : t.level ≡ 1 = (used_has (λ (t : Translation). (t.level ≡ 1) × (frame_in t.leaf < z.frames)) gfn write h.cached.items t each uses).0 in
-    let L = used_leaf (λ (t : Translation). IsLeaf t.gfn t.leaf) gfn write h.cached.items t (U.agrees a low may) uses lowest in
-    (lowest, subst (λ n. IsLeaf n t.leaf) (sym L.0) L.1)
+    let L = used_covers (IsTranslationFor (v.words area.Pool) (v.words area.Host) (v.words area.Slots 0)) gfn write h.cached.items h.state.used
+    (U.agrees a low may) uses in
+    L.0 gfn L.1

@@ -1,6 +1,6 @@
 -- Each step of a part keeps it that what a virtual processor may use of what it has cached agrees with slots and host.
 use Rattle.std.proofs.Common.{◌≡◌, ◌⊎◌, inl, inr, ◌<◌, ◌≤◌, ℕ, List, [], refl, sym, subst, ap, ◌∙◌, arith}
-use Rattle.std.specs.Prelude.{All, Bool, true, false, ◌≢◌, get_or, not, if◌then◌else◌}
+use Rattle.std.specs.Prelude.{All, Bool, true, false, ◌≢◌, not, if◌then◌else◌}
 use Rattle.std.proofs.lemmas.List.Elements.{All-nil}
 use Rattle.circular_buffer.specs.Buffer.{Buffer, buffer}
 use Rattle.core_views.specs.declared.cache.Translation.{Translation}
@@ -26,12 +26,13 @@ use Rattle.part_steps.specs.PartTasks.{page_looked, page_owned, part_task, word_
 use Rattle.part_steps.specs.PartTopics.{part_topics}
 use Rattle.part_steps.specs.SlotWords.{page_of}
 use Rattle.part_steps.specs.Tasks.{kind_of_task}
-use Rattle.mmu_core.specs.invariant.CachedPart.{AgreePart, IsLeafFor}
+use Rattle.mmu_core.specs.invariant.CachedPart.{AgreePart, IsLeafFor, IsTranslationFor}
 use Rattle.mmu_core.specs.invariant.InvalidatedPart.{SlotGives, IsClean, IsIn, IsOfPage, UsablePart, may_use}
 use Rattle.mmu_core.specs.invariant.SlotSetPart.{IsLiveIn}
 use Rattle.mmu_core.specs.invariant.TopicsInvariant.{TopicsInvariant}
 use Rattle.mmu_core.specs.lines.Cached.{asks_flush, flushed, flushed_by}
 use Rattle.mmu_core.specs.machine.View.{View, answer_in, part_stepped, upd, words_after}
+use Rattle.mmu_core.proofs.held.Emptied.{page_emptied, slot_emptied}
 use Rattle.mmu_core.proofs.held.FlushChanges.{begun_asks, cached_more, ended_asks, left_asks, none_asked, used_asked, used_gone}
 use Rattle.mmu_core.proofs.held.FlushSteps.{FlushAt, FlushFor, KeepsClean, asked_there}
 use Rattle.mmu_core.proofs.held.FreshFrames.{behind_it, leaf_brought, leaf_same}
@@ -51,9 +52,9 @@ Agrees words cached = AgreePart (words area.Pool) (words area.Host) (words area.
 -- ---- Slots and host change.
 
 -- An invalidation is of a page, and not of this guest frame: where the page's host word changes, the leaf of the guest frame is the same.
-leaf_elsewhere : (pool host : ℕ → ℕ) (set page x : ℕ) (own_ : Invalidated) (gfn leaf : ℕ) → IsOfPage pool set page own_
-    → (IsIn own_ gfn → ⊥) → IsLeafFor pool host set gfn leaf → IsLeafFor pool (upd host page x) set gfn leaf
-leaf_elsewhere pool host set page x own_ gfn leaf scope out L = leaf_same pool host set page x gfn leaf L (λ e. absurd (apart e))
+leaf_elsewhere : (pool host : ℕ → ℕ) (set page x : ℕ) (own_ : Invalidated) (level gfn leaf : ℕ) → IsOfPage pool set page own_
+    → (IsIn own_ gfn → ⊥) → IsLeafFor pool host set level gfn leaf → IsLeafFor pool (upd host page x) set level gfn leaf
+leaf_elsewhere pool host set page x own_ level gfn leaf scope out L = leaf_same pool host set page x level gfn leaf L (λ e. absurd (apart e))
   where
     apart : page_of L.slot gfn ≢ page
     apart e =
@@ -64,30 +65,31 @@ leaf_elsewhere pool host set page x own_ gfn leaf scope out L = leaf_same pool h
 -- So what is cached agrees still, where nothing of it is of the invalidation's frames.
 agree_elsewhere : (pool host : ℕ → ℕ) (set page x : ℕ) (own_ : Invalidated) (cached : List Translation) → IsOfPage pool set page own_
     → IsClean own_ cached → AgreePart pool host set cached → AgreePart pool (upd host page x) set cached
-agree_elsewhere pool host set page x own_ cached scope clean agrees k d lt =
-    leaf_elsewhere pool host set page x own_ _ _ scope (clean k d lt) (agrees k d lt)
+agree_elsewhere pool host set page x own_ cached scope clean agrees k d lt gfn over =
+    leaf_elsewhere pool host set page x own_ _ gfn _ scope (clean k d lt gfn over) (agrees k d lt gfn over)
 
 -- Another slot set is published: a slot that goes has none of what is cached.
 agree_published : (pool host : ℕ → ℕ) (vcpus set page : ℕ) (t : Topics) (cached : List Translation)
     → ((id : ℕ) (slot : SlotOf) → IsLiveIn pool set id slot → IsLiveIn pool page id slot ⊎ IsFlushedOut vcpus slot t)
     → (t.invalidations.opened ≡ true → vcpus ≤ t.flush.asked → vcpus ≤ t.flush.awaited → IsClean t.invalidations.own cached)
     → AgreePart pool host set cached → AgreePart pool host page cached
-agree_published pool host vcpus set page t cached stay clean agrees k d lt =
-    let L = agrees k d lt in record {
+agree_published pool host vcpus set page t cached stay clean agrees k d lt gfn over =
+    let L = agrees k d lt gfn over in record {
       id = L.id;
       slot = L.slot;
       live = by L.slot (stay L.id L.slot L.live) L.holds;
       holds = L.holds;
       writes = L.writes;
+      first = L.first;
       is = L.is;
+      frame = L.frame;
       present = L.present;
       small = L.small;
     }
   where
-    by : {id : ℕ} (slot : SlotOf) → IsLiveIn pool page id slot ⊎ IsFlushedOut vcpus slot t → contains (get_or cached k d).gfn slot ≡ true
-        → IsLiveIn pool page id slot
+    by : {id : ℕ} (slot : SlotOf) → IsLiveIn pool page id slot ⊎ IsFlushedOut vcpus slot t → contains gfn slot ≡ true → IsLiveIn pool page id slot
     by slot (inl same) holds = same
-    by slot (inr F) holds = absurd (clean F.opened F.asked F.awaited k d lt (flushed_within vcpus _ slot t F holds))
+    by slot (inr F) holds = absurd (clean F.opened F.asked F.awaited k d lt gfn over (flushed_within vcpus gfn slot t F holds))
 
 -- Where the step changes a host word, nothing cached is of the frames of this invalidation; nor where it publishes a slot set, if the invalidation is flushed.
 abbrev CleanFor : PartStep → ℕ → Topics → List Translation → Type 0
@@ -99,9 +101,9 @@ CleanFor _ vcpus t cached = Unit {0}
 -- Then what agrees agrees after the step.
 agrees_behind : (z : Sizes) (v : View) (a : ℕ) (step : PartStep) (note : ℕ) (cached : List Translation) → IsPart z v a step → TopicsInvariant z v
     → CleanFor step z.vcpus (v.hand a).topics cached → Agrees v.words cached → Agrees (part_stepped a step note v).words cached
-agrees_behind z v a part.Bring note cached S I clean agrees = λ k d lt.
-    leaf_brought (v.words area.Pool) (v.words area.Host) (v.words area.Slots 0) (page_looked (v.hand a).topics.host) (word_looked (v.hand a).topics.host) _ _
-    S.needs.absent (agrees k d lt)
+agrees_behind z v a part.Bring note cached S I clean agrees = λ k d lt gfn over.
+    leaf_brought (v.words area.Pool) (v.words area.Host) (v.words area.Slots 0) (page_looked (v.hand a).topics.host) (word_looked (v.hand a).topics.host)
+    _ gfn _ S.needs.absent (agrees k d lt gfn over)
 agrees_behind z v a (part.Change new_) note cached S I clean agrees =
     agree_elsewhere (v.words area.Pool) (v.words area.Host) (v.words area.Slots 0) (page_looked (v.hand a).topics.host) _ (v.hand a).topics.invalidations.own
     cached (I.scopes a _ S.there S.needs.0.opened S.needs.0.invalid) clean agrees
@@ -132,7 +134,7 @@ each_usable z v a words g own others none U = record {
 pub none_usable : (z : Sizes) (v : View) → ((i : ℕ) → i < actors_of z → (v.hand i).cached.items ≡ []) → UsableAt z v
 none_usable z v none = record {
   agrees = λ k low may. subst (Agrees v.words) (sym (none k (omega (arith, low))))
-      (All-nil (λ (t : Translation). IsLeafFor (v.words area.Pool) (v.words area.Host) (v.words area.Slots 0) t.gfn t.leaf));
+      (All-nil (IsTranslationFor (v.words area.Pool) (v.words area.Host) (v.words area.Slots 0)));
   others = λ i lt high. none i lt;
 }
 
@@ -193,8 +195,10 @@ module _ (z : Sizes) (v : View) (a note : ℕ) (c : Buffer Translation) (g : Hel
       → FlushFor h.topics k (before k) stay cached → may_use (before k) stay ≡ true → CleanFor step z.vcpus h.topics cached
   clean_for (part.Change new_) k stay S low F may =
       let sizes : h.state.sizes.vcpus ≡ z.vcpus = ap (λ (y : Sizes). y.vcpus) S.sizes in
-      (F S.needs.0.opened).awaits (omega (arith, low, sizes, S.needs.0.asked)) (omega (arith, low, sizes, S.needs.0.awaited)) may
-  clean_for part.Publish k stay S low F may = λ opened asked awaited. (F opened).awaits (omega (arith, low, asked)) (omega (arith, low, awaited)) may
+      (F (page_emptied h.topics _ S.needs.0.opened S.needs.0.invalid)).awaits (omega (arith, low, sizes, S.needs.0.asked))
+      (omega (arith, low, sizes, S.needs.0.awaited)) may
+  clean_for part.Publish k stay S low F may = λ opened asked awaited.
+      (F (slot_emptied h.topics opened S.needs.none_retired)).awaits (omega (arith, low, asked)) (omega (arith, low, awaited)) may
   clean_for _ k stay S low F may = tt
 
   agrees_after : (step : PartStep) (kept : List Translation) → IsPart z v a step → TopicsInvariant z v
@@ -272,7 +276,7 @@ module _ (z : Sizes) (v : View) (a note : ℕ) (c : Buffer Translation) (g : Hel
   part_usable step S I C F U = each_usable z v a (words step) (behind step) own others (λ high. flushed_none _ c _ (C.none high)) U
     where
       own : a < z.vcpus → may_use (states step a) (topics step).stay ≡ true → Agrees (words step) (cached step).items
-      own low = own_used (λ (t : Translation). IsLeafFor (words step area.Pool) (words step area.Host) (words step area.Slots 0) t.gfn t.leaf) step S
+      own low = own_used (IsTranslationFor (words step area.Pool) (words step area.Host) (words step area.Slots 0)) step S
           (λ asks may. agrees_after step c.items S I
           (clean_for step a h.topics.stay S low (λ opened. cached_more (C.keeps a S.there opened) (F a a S.there low opened)) may) (C.agrees low may))
 

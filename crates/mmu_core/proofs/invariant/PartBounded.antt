@@ -3,14 +3,12 @@ use Rattle.std.proofs.Common.{◌≡◌, ◌⊎◌, inl, inr, ◌<◌, ◌≤◌
 use Rattle.std.specs.Prelude.{Some, true}
 use Rattle.std.proofs.lemmas.Bool.{cases_lt}
 use Rattle.std.proofs.lemmas.List.Elements.{All-weaker}
-use Rattle.core_views.specs.declared.cache.Translation.{Translation}
 use Rattle.core_views.specs.declared.sizes.Sizes.{Sizes}
 use Rattle.core_views.specs.declared.topics.HostLook.{HostLook}
 use Rattle.core_views.specs.Held.{Held}
 use Rattle.core_views.specs.Sizes.{AreSizes, actors_of, index_of}
 use Rattle.spte_words.specs.declared.area.Area.TheVariants as area
 use Rattle.spte_words.specs.HostWords.{host_frame}
-use Rattle.spte_words.specs.Entries.{frame_in}
 use Rattle.part_steps.specs.PartBounds.{IsAtLeafLevel}
 use Rattle.part_steps.specs.PartBounds.{CountersPart}
 use Rattle.mmu_core.specs.invariant.HeldPart.{HeldPart, HoldsOld}
@@ -27,6 +25,7 @@ use Rattle.mmu_core.proofs.pages.Paths.{up_stands, whole_path}
 use Rattle.mmu_core.proofs.pages.PoolPages.{left_there, owned_there, slots_there}
 use Rattle.mmu_core.specs.machine.View.{View}
 use Rattle.mmu_core.proofs.held.OldSets.{held_are_slots}
+use Rattle.mmu_core.specs.invariant.CachedPart.{FitsMachine}
 
 pub part_rests_at : (z : Sizes) (v : View) (i : ℕ) → Invariant z v → TopicsInvariant z v → i < actors_of z → PartRests (v.hand i)
 part_rests_at z v i I P there = record {
@@ -50,7 +49,7 @@ part_rests_at z v i I P there = record {
   flags = (P.searches i there).before_flags;
   frames = λ whole. (found whole).frames;
   cache = subst (λ n. 1 ≤ n) (sym O.cache) I.sizes.cache.0;
-  levels = All-weaker (λ (t : Translation). (t.level ≡ 1) × (frame_in t.leaf < z.frames)) IsAtLeafLevel lowest h.cached.items (I.cached i there);
+  levels = All-weaker (FitsMachine z) IsAtLeafLevel (λ t fits. fits.level) h.cached.items (I.cached i there);
   looked = λ look is. subst (λ (y : Sizes). (look.page < y.pages) × (host_frame look.word < y.frames)) (sym same) (looked look is);
   saw_writer = λ word is. subst SawWriter is (P.saw_writer i there);
   owes = P.owed i there;
@@ -67,9 +66,6 @@ part_rests_at z v i I P there = record {
 
     H : HeldPart (stands P.up P.spot) h.topics
     H = P.held i there
-
-    lowest : (t : Translation) → (t.level ≡ 1) × (frame_in t.leaf < z.frames) → IsAtLeafLevel t
-    lowest t is = let one = is.0 in (omega (arith, one), omega (arith, one))
 
     level : (0 < h.topics.walk.level) ⊎ (h.topics.walk.level ≤ 0) → h.topics.walk.level ≤ 4
     level (inl from) = (P.tree.there _ _ (H.table from)).2

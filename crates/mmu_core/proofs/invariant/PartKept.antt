@@ -16,7 +16,7 @@ use Rattle.part_steps.specs.Tasks.{kind_of_task}
 use Rattle.mmu_core.specs.invariant.TopicsInvariant.{TopicsInvariant}
 use Rattle.mmu_core.specs.machine.View.{View, answer_in, part_stepped, upd}
 use Rattle.mmu_core.proofs.lines.CachedKept.{flushed_kept}
-use Rattle.std.proofs.Common.{◌≡◌, ℕ, sym, subst, ◌∙◌, ◌<◌}
+use Rattle.std.proofs.Common.{◌≡◌, ℕ, sym, subst, ◌∙◌}
 use Rattle.std.specs.Prelude.{false}
 use Rattle.core_views.specs.declared.trace.Command.{Command}
 use Rattle.core_views.specs.SlotSets.{MemorySlots}
@@ -31,7 +31,7 @@ use Rattle.mmu_core.proofs.words.PartWords.{role_stays, slots_are, slots_other_r
 use Rattle.mmu_core.proofs.slots.SlotsStay.{AllKnow, hand_moved, is_live_was, record_stays}
 use Rattle.mmu_core.proofs.machine.Which.{has_line_is}
 use Rattle.mmu_core.proofs.lines.UsedTranslations.{flushed_room}
-use Rattle.spte_words.specs.Entries.{frame_in}
+use Rattle.mmu_core.specs.invariant.CachedPart.{FitsMachine}
 
 -- a hand with other topics, and with other translations in its cache
 abbrev pub with_topics : Held → Topics → Buffer Translation → Held
@@ -106,4 +106,4 @@ part_keeps_lines z v a step note S free none I P knows =
     recorded slots R = record_stays set (v.words area.Pool) (words area.Pool) stays slots R
 
     cached : CachedPart z after.cached.items
-    cached = flushed_kept (λ (y : Translation). (y.level ≡ 1) × (frame_in y.leaf < z.frames)) (kind_of_task h.state.sizes t) h.cached x (I.cached a S.there)
+    cached = flushed_kept (FitsMachine z) (kind_of_task h.state.sizes t) h.cached x (I.cached a S.there)

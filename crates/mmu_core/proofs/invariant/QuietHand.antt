@@ -1,5 +1,5 @@
 -- A step of a part that publishes nothing, of a line that caches nothing, keeps the invariant: a form says of it what its hand holds after it.
-use Rattle.std.proofs.Common.{◌≡◌, ℕ, sym, subst, ap, ◌<◌}
+use Rattle.std.proofs.Common.{◌≡◌, ℕ, sym, subst, ap}
 use Rattle.std.specs.Prelude.{Some}
 use Rattle.circular_buffer.specs.Buffer.{Buffer}
 use Rattle.core_views.specs.declared.cache.Translation.{Translation}
@@ -30,7 +30,7 @@ use Rattle.mmu_core.proofs.lines.StepTopics.{topics_of_step}
 use Rattle.mmu_core.proofs.machine.HandWith.{hand_with}
 use Rattle.mmu_core.proofs.machine.Stepping.{IsStep}
 use Rattle.mmu_core.proofs.slots.SlotsStay.{AllKnow}
-use Rattle.spte_words.specs.Entries.{frame_in}
+use Rattle.mmu_core.specs.invariant.CachedPart.{FitsMachine}
 
 same_step : {s step : PartStep} → Some s ≡ Some step → s ≡ step
 same_step e = cc e
@@ -41,7 +41,7 @@ one_step P step so s is = subst P (same_step is) so
 
 -- What is cached stays, or is flushed.
 pub still_cached : (z : Sizes) (k : Kind) (c : Buffer Translation) (x : ℕ) → CachedPart z c.items → CachedPart z (flushed k c x).items
-still_cached z k c x each = flushed_kept (λ (t : Translation). (t.level ≡ 1) × (frame_in t.leaf < z.frames)) k c x each
+still_cached z k c x each = flushed_kept (FitsMachine z) k c x each
 
 -- ---- the step
 

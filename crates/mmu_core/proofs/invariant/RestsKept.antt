@@ -28,7 +28,6 @@ use Rattle.core_views.specs.Slots.{is_write}
 use Rattle.core_views.specs.Traces.{IsCommandFor}
 use Rattle.spte_words.specs.declared.area.Area.TheVariants as area
 use Rattle.spte_words.specs.Areas.{content_index, size_of}
-use Rattle.spte_words.specs.Entries.{frame_in}
 use Rattle.spte_words.proofs.Indices.{content_within}
 use Rattle.part_steps.specs.declared.part_step.PartStep.{PartStep}
 use Rattle.part_steps.specs.declared.part_step.PartStep.TheVariants as part
@@ -59,22 +58,21 @@ use Rattle.part_steps.specs.declared.task.Task.{Task}
 use Rattle.mmu_core.proofs.lines.Forms.{RestsOnPart, accepts_at, accepts_at_prop, other_rests}
 use Rattle.mmu_core.proofs.lines.ByStep.{StepAt, step_at, Makes, Touches}
 use Rattle.mmu_core.specs.invariant.Invariant.{Holds, Invariant, KnowsPart, CachedPart}
-use Rattle.mmu_core.proofs.lines.UsedTranslations.{lowest_frame, uses_stays}
-use Rattle.mmu_core.proofs.lines.CachedKept.{used_has}
-use Rattle.core_views.specs.declared.cache.Translation.{Translation}
+use Rattle.mmu_core.proofs.lines.UsedTranslations.{uses_stays}
+use Rattle.mmu_core.proofs.lines.CachedKept.{used_covers}
+use Rattle.mmu_core.specs.invariant.CachedPart.{FitsMachine}
 
 -- The next step of a line finds what it needs.
 access_rests : (p : AccessPlace) (z : Sizes) (h : Held) (gfn word : ℕ) (op : Op) → CachedPart z h.cached.items → h.state.sizes ≡ z
     → IsCommandFor z h.state.actor (Access gfn word op) → PartRests h → AccessKnows p gfn (is_write op) h
     → RestsOn (access_part p gfn h.topics) gfn (is_write op) h
 access_rests Touch z h gfn word op cached same may R K =
-    let used = used_has (λ (t : Translation). (t.level ≡ 1) × (frame_in t.leaf < z.frames)) gfn (is_write op) h.cached.items h.state.used cached K.1 in
-    let one = used.0 in
+    let used = used_covers (FitsMachine z) gfn (is_write op) h.cached.items h.state.used cached K.1 in
     record {
       guest = K.0.guest;
       uses = K.1;
-      level = (omega (arith, one), omega (arith, one));
-      frame = subst (λ (y : Sizes). frame_used gfn h.state < y.frames) (sym same) (subst (λ n. n < z.frames) (sym (lowest_frame gfn h.state one)) used.1);
+      level = used.0.level;
+      frame = subst (λ (y : Sizes). frame_used gfn h.state < y.frames) (sym same) (used.0.there gfn used.1);
     }
 access_rests (Enter again) z h gfn word op cached same may R K =
     let V = access_vcpu z h.state.actor gfn word op may in access_needs (Enter again) h gfn (is_write op) V.0 V.1 R K

@@ -1,4 +1,4 @@
--- What is cached: a leaf that a walk finds is the one that slots and host give; and each stays of the lowest level, at a frame of the machine.
+-- What is cached: a leaf that a walk finds is the one that slots and host give; and each stays of a level that has leaves, at frames of the machine.
 use Rattle.std.proofs.Common.{◌≡◌, ◌/◌, ◌<◌, ℕ, List, [], ◌∷◌, refl, sym, subst, ap, ◌∙◌, arith}
 use Rattle.std.proofs.lemmas.Bool.Decides.{nat_tests}
 use Rattle.std.proofs.lemmas.List.Elements.{All-cons, All-head, All-nil, All-tail, All-take}
@@ -24,13 +24,15 @@ use Rattle.spte_words.specs.declared.area.Area.TheVariants as area
 use Rattle.spte_words.specs.declared.spte_kind.SpteKind.{SpteKind}
 use Rattle.spte_words.specs.declared.spte_kind.SpteKind.TheVariants as entry_kind
 use Rattle.spte_words.specs.Areas.{pool_index}
-use Rattle.spte_words.specs.Entries.{kind_of, level_span, frame_in}
+use Rattle.spte_words.specs.Entries.{kind_of, level_span}
+use Rattle.spte_words.proofs.ProtectedEntries.{leaf_level}
 use Rattle.spte_words.proofs.Spans.{span_1}
 use Rattle.part_steps.specs.declared.task.Task.{Task}
 use Rattle.mmu_core.specs.lines.AccessSteps.{access_caches, access_task, is_found}
 use Rattle.mmu_core.specs.lines.Cached.{allows, asks_flush, covers, first_usable, flushed, flushed_by, is_usable, with_leaf}
 use Rattle.mmu_core.specs.lines.FaultSteps.{allows_access}
-use Rattle.mmu_core.specs.invariant.Invariant.{CachedPart, Invariant, IsLeafFor}
+use Rattle.mmu_core.specs.invariant.CachedPart.{FitsMachine, IsTranslationFor}
+use Rattle.mmu_core.specs.invariant.Invariant.{CachedPart, Invariant}
 use Rattle.mmu_core.specs.lines.AccessKnows.{AccessKnows}
 use Rattle.part_steps.specs.PartTasks.{entry_index, table_page}
 use Rattle.part_steps.specs.PartHoldings.{IsOver}
@@ -56,17 +58,21 @@ flushed_kept P k c v all = by (kind_named k.code)
 
 -- ---- a leaf that a walk finds
 
--- A leaf in the walk's table, at the guest frame's entry, is of the lowest level, and is the guest frame's.
+-- A leaf in the walk's table, at the guest frame's entry, is each one's that this entry is over.
 pub leaf_found : (z : Sizes) (v : View) (a gfn : ℕ) → a < actors_of z → Invariant z v → TopicsInvariant z v → IsOver gfn (v.hand a).topics.walk
     → kind_of (v.hand a).topics.walk.level
     (v.words area.Pool (pool_index (table_page (v.hand a).topics.walk) (entry_index gfn (v.hand a).topics.walk.level))) ≡ entry_kind.Leaf
-    → ((v.hand a).topics.walk.level ≡ 1) × IsLeafFor (v.words area.Pool) (v.words area.Host) (v.words area.Slots 0) gfn
-    (v.words area.Pool (pool_index (table_page (v.hand a).topics.walk) (entry_index gfn (v.hand a).topics.walk.level)))
-leaf_found z v a gfn lt I P over leaf =
+    → IsTranslationFor (v.words area.Pool) (v.words area.Host) (v.words area.Slots 0) (record {
+      gfn = gfn;
+      level = (v.hand a).topics.walk.level;
+      leaf = v.words area.Pool (pool_index (table_page (v.hand a).topics.walk) (entry_index gfn (v.hand a).topics.walk.level));
+    })
+leaf_found z v a gfn lt I P over leaf other covered =
     let walk : TableWalk = (v.hand a).topics.walk in
     let span = over.span in
-    leaf_for z v P (table_page walk) walk.level walk.prefix (entry_index gfn walk.level) gfn ((P.held a lt).table over.there) (omega arith)
-    (omega (arith, span)) leaf
+    let same : other / level_span walk.level ≡ gfn / level_span walk.level = grind (arith, nat_tests) in
+    leaf_for z v P (table_page walk) walk.level walk.prefix (entry_index gfn walk.level) other ((P.held a lt).table over.there) (omega arith)
+    (omega (arith, span, same)) leaf
 
 -- What a stay caches is a leaf.
 pub found_is_leaf : (k : SpteKind) (allowed : Bool) → is_found k allowed ≡ true → k ≡ entry_kind.Leaf
@@ -82,6 +88,10 @@ with_leaf_all P gfn level leaf c new_ each =
 
 -- ---- a translation that is used
 
+first_of : (a b : Bool) → (a && b) ≡ true → a ≡ true
+first_of true b e = refl
+first_of false b e = absurd (cc e)
+
 -- What is found in a list passes the test, and has what all have.
 pub found_has : {X : Type 0} (P : X → Type 0) (test : X → Bool) (ts : List X) (t : X) → All P ts → find test ts ≡ Some t → P t × (test t ≡ true)
 found_has P test [] t all is = absurd (cc is)
@@ -90,6 +100,12 @@ found_has P test (x ∷ xs) t all is = by (test x) refl (found_has P test xs t (
     by : (b : Bool) → test x ≡ b → (find test xs ≡ Some t → P t × (test t ≡ true)) → (if b then Some x else find test xs) ≡ Some t → P t × (test t ≡ true)
     by true passes rest here = let same : x ≡ t = cc here in (subst P same (All-head P x xs all), ap test (sym same) ∙ passes)
     by false fails rest there = rest there
+
+-- The one that is used covers the guest frame.
+pub used_covers : (P : Translation → Type 0) (gfn : ℕ) (write : Bool) (ts : List Translation) (t : Translation) → All P ts
+    → first_usable gfn write ts ≡ Some t → P t × (covers gfn t ≡ true)
+used_covers P gfn write ts t each is =
+    let F = found_has P (is_usable gfn write) ts t each is in (F.0, first_of (covers gfn t) (allows write t) F.1)
 
 -- Translations of the lowest level cover their own guest frame alone.
 covers_one : (gfn other level : ℕ) → level ≡ 1 → (gfn / level_span level == other / level_span level) ≡ true → other ≡ gfn
@@ -107,26 +123,7 @@ covers_not gfn t lowest apart = by (covers gfn t) refl
     by true is = absurd (apart (sym (covers_one gfn t.gfn t.level lowest is)))
     by false is = sym is
 
-first_of : (a b : Bool) → (a && b) ≡ true → a ≡ true
-first_of true b e = refl
-first_of false b e = absurd (cc e)
-
--- What all cached translations have, the one has that an access uses.
-pub used_has : (P : Translation → Type 0) (gfn : ℕ) (write : Bool) (ts : List Translation) (t : Translation) → All P ts
-    → first_usable gfn write ts ≡ Some t → P t
-used_has P gfn write ts t each is = (found_has P (is_usable gfn write) ts t each is).0
-
--- One that is of the lowest level is of the guest frame itself.
-pub used_leaf : (P : Translation → Type 0) (gfn : ℕ) (write : Bool) (ts : List Translation) (t : Translation) → All P ts → first_usable gfn write ts ≡ Some t
-    → t.level ≡ 1 → (gfn ≡ t.gfn) × P t
-used_leaf P gfn write ts t each is lowest =
-    let F = found_has P (is_usable gfn write) ts t each is in
-    (sym (covers_one gfn t.gfn t.level lowest (first_of (covers gfn t) (allows write t) F.1)), F.0)
-
 -- ---- after a step of an access
-
-abbrev FitsMachine : Sizes → Translation → Type 0
-FitsMachine z t = (t.level ≡ 1) × (frame_in t.leaf < z.frames)
 
 -- What an access caches is a leaf that its walk found, before what was cached.
 pub caches_kept : (z : Sizes) (v : View) (a : ℕ) (p : AccessPlace) (gfn word : ℕ) (op : Op) → a < actors_of z → Invariant z v → TopicsInvariant z v
@@ -147,14 +144,16 @@ caches_kept z v a (Walk again) gfn word op lt I P K =
     by : (b : Bool) → (b ≡ true → kind_of level w ≡ entry_kind.Leaf) → CachedPart z (if b then with_leaf gfn level w h.cached else h.cached).items
     by true leaf =
         let found = leaf_found z v a gfn lt I P K.1 (leaf refl) in
-        with_leaf_all (FitsMachine z) gfn level w h.cached (
-          found.0,
-          leaf_there z (v.words area.Slots 0) (v.words area.Role) (v.words area.Pool) (v.words area.Host) gfn w I.sizes I.set_part P.hosts found.1,
-        ) (I.cached a lt)
+        let fits : FitsMachine z (record { gfn = gfn; level = level; leaf = w }) = record {
+          level = (K.1.there, leaf_level level w (leaf refl));
+          there = λ other covered. leaf_there z (v.words area.Slots 0) (v.words area.Role) (v.words area.Pool) (v.words area.Host) level other w I.sizes
+              I.set_part P.hosts (found other covered);
+        } in
+        with_leaf_all (FitsMachine z) gfn level w h.cached fits (I.cached a lt)
     by false leaf = I.cached a lt
 caches_kept z v a _ gfn word op lt I P K = I.cached a lt
 
--- All that the actor has cached after its step is of the lowest level, at frames of the machine.
+-- All that the actor has cached after its step is of such a level, at frames of the machine.
 pub cached_kept : (z : Sizes) (v : View) (a : ℕ) (line : Line) (p : AccessPlace) (gfn word : ℕ) (op : Op) → a < actors_of z → Invariant z v
     → TopicsInvariant z v → AccessKnows p gfn (is_write op) (v.hand a)
     → CachedPart z (hand_after line (Access gfn word op) (place.Access p) (v.hand a) (answer_in (access_task p (v.hand a) gfn word op) v.words)).cached.items

@@ -21,7 +21,11 @@ use Rattle.core_views.specs.declared.place.Place.TheVariants as place
 use Rattle.core_views.specs.declared.sizes.Sizes.{Sizes}
 use Rattle.core_views.specs.declared.topics.Topics.{Topics}
 use Rattle.core_views.specs.declared.trace.Command.{Command}
-use Rattle.core_views.specs.declared.trace.Command.TheVariants.{Access, ChangeHost, ClearLog, DeleteSlot, GetLog, SetLog, SetSlot}
+use Rattle.core_views.specs.declared.actor.Actor.{Actor}
+use Rattle.core_views.specs.declared.actor.Actor.TheVariants.{Vcpu, Host, Manager, Worker}
+use Rattle.core_views.specs.declared.trace.Command.TheVariants.{Access, ChangeHost, ClearLog, DeleteSlot, GetLog, Migrate, SetLog, SetSlot}
+use Rattle.core_views.specs.declared.trace.MigrationCall.{MigrationCall}
+use Rattle.core_views.specs.Traces.{IsCommandFor}
 use Rattle.core_views.specs.LogCommands.{log_read, read_refusal, takes_out}
 use Rattle.core_views.specs.declared.trace.Op.{Op}
 use Rattle.core_views.specs.Held.{Held}
@@ -158,16 +162,24 @@ says_move page Evict = refl
 says_move page Protect = refl
 says_move page Allow = refl
 
+-- No line of a machine is one of a migration.
+pub no_migration : (z : Sizes) (actor : Actor) (call : MigrationCall) → IsCommandFor z actor (Migrate call) → ⊥
+no_migration z (Vcpu n) call may = may
+no_migration z (Host n) call may = may
+no_migration z Manager call may = may
+no_migration z (Worker n) call may = may
+
 -- Its actor, which was at rest and owned no frame, knows what its first place asks; each slot of its record has a page.
-pub first_known : (command : Command) (h : Held) → IsAtRest h.topics → h.topics.frames.owned ≡ None → HavePages h.slots
-    → KnowsPart (first_place h.state.sizes h.slots command) command h
-first_known (Access gfn word op) h R none some = R
-first_known (ChangeHost page change) h R none some = (R, says_move page change, none)
-first_known (GetLog id) h R none some = log_first_known (GetLog id) h refl R some
-first_known (ClearLog id first count words) h R none some = log_first_known (ClearLog id first count words) h refl R some
-first_known (SetSlot id slot) h R none some = (refl, slot_change_begins_known h.state.sizes (SetSlot id slot) h R)
-first_known (DeleteSlot id) h R none some = (refl, slot_change_begins_known h.state.sizes (DeleteSlot id) h R)
-first_known (SetLog id on) h R none some = (refl, slot_change_begins_known h.state.sizes (SetLog id on) h R)
+pub first_known : (z : Sizes) (actor : Actor) (command : Command) (h : Held) → IsCommandFor z actor command → IsAtRest h.topics
+    → h.topics.frames.owned ≡ None → HavePages h.slots → KnowsPart (first_place h.state.sizes h.slots command) command h
+first_known z actor (Access gfn word op) h may R none some = R
+first_known z actor (ChangeHost page change) h may R none some = (R, says_move page change, none)
+first_known z actor (GetLog id) h may R none some = log_first_known (GetLog id) h refl R some
+first_known z actor (ClearLog id first count words) h may R none some = log_first_known (ClearLog id first count words) h refl R some
+first_known z actor (SetSlot id slot) h may R none some = (refl, slot_change_begins_known h.state.sizes (SetSlot id slot) h R)
+first_known z actor (DeleteSlot id) h may R none some = (refl, slot_change_begins_known h.state.sizes (DeleteSlot id) h R)
+first_known z actor (SetLog id on) h may R none some = (refl, slot_change_begins_known h.state.sizes (SetLog id on) h R)
+first_known z actor (Migrate call) h may R none some = absurd (no_migration z actor call may)
 
 -- Alone, it knows what its first place asks of the words.
 pub first_alone : (z : Sizes) (slots : MemorySlots) (command : Command) (words : Area → ℕ → ℕ) (t : Topics)

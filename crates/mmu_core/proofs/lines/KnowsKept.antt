@@ -67,7 +67,8 @@ use Rattle.mmu_core.proofs.lines.LogFirst.{HavePages}
 use Rattle.mmu_core.proofs.lines.UsedTranslations.{CachesBehind, flushed_behind, newest_filled}
 use Rattle.mmu_core.proofs.words.SmallSlots.{has_page, record_is_so}
 use Rattle.mmu_core.proofs.words.PartTopics.{is_there, no_anew, no_sweep, part_topics_is}
-use Rattle.mmu_core.proofs.machine.Stepping.{IsStep}
+use Rattle.mmu_core.proofs.machine.Stepping.{IsStep, next_has}
+use Rattle.mmu_core.specs.machine.Steps.{next_line}
 use Rattle.mmu_core.proofs.machine.Which.{has_line_is}
 use Rattle.mmu_core.proofs.machine.HandWith.{hand_with}
 use Rattle.core_views.specs.SlotSets.{MemorySlots}
@@ -206,16 +207,18 @@ NeedsAt (place.Access p) command h = Unit {0}
 NeedsAt p command h = RestsAt p command h
 
 -- what a hand knows where its line stands, also where this is about to begin
-standing_known : (q : Place) (h : Held) → length h.answers < length h.lines → HavePages h.slots → KnowsPart q h.state.line.command h → RetiresPart q h.topics
+standing_known : (z : Sizes) (q : Place) (h : Held) → IsCommandFor z (next_line h).actor (next_line h).command → length h.answers < length h.lines
+    → HavePages h.slots → KnowsPart q h.state.line.command h → RetiresPart q h.topics
     → KnowsPart (standing q h.state.sizes h.slots (line_at q h).command) (line_at q h).command h
-standing_known place.Between h left some K L = first_known (line_at place.Between h).command h (K (has_line_is h left)) (L.frames refl) some
-standing_known _ h left some K L = K
+standing_known z place.Between h may left some K L =
+    first_known z (next_line h).actor (next_line h).command h may (K (has_line_is h left)) (L.frames refl) some
+standing_known z _ h may left some K L = K
 
 pub knows_at : (z : Sizes) (v : View) (a : ℕ) → Invariant z v → a < actors_of z → length (v.hand a).answers < length (v.hand a).lines
     → KnowsPart (place_at (v.hand a).state.place (v.hand a)) (line_at (v.hand a).state.place (v.hand a)).command (v.hand a)
 knows_at z v a I there left =
     let O = I.lines a there in
-    standing_known (v.hand a).state.place (v.hand a) left
+    standing_known z (v.hand a).state.place (v.hand a) (next_has (λ l. IsCommandFor z l.actor l.command) (v.hand a) O.allowed left) left
     (λ id slot. record_is_so (λ s. 1 ≤ s.pages) has_page z (v.hand a).lines (v.hand a).slots O.allowed O.set id slot) (I.knows a there) (I.leaves a there)
 
 pub step_knows : (z : Sizes) (v : View) (a : ℕ) (line : Line) (command : Command) (p : Place) → IsStep z v a line command p → Invariant z v

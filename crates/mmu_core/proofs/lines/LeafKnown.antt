@@ -192,7 +192,7 @@ pub fix_put : (gfn : ℕ) (write : Bool) (t : Topics) → MayFix gfn t → IsPut
 fix_put gfn write t M = record {
   over = M.saw.over;
   low = M.lowest;
-  leaf = fixed_kind t.walk.entry (ap (λ l. kind_of l t.walk.entry) (sym M.lowest) ∙ M.leaf) denies;
+  leaf = ap (λ l. kind_of l (leaf_fixed t)) (sym M.lowest) ∙ fixed_kind t.walk.level t.walk.entry M.leaf denies;
   allows = ap (λ (b : Bool). not write || b) writes ∙ either write;
   owes_none = M.owes_none;
 }

@@ -49,3 +49,12 @@ protect_few (protect.Walk true) y z range t most K =
     omega (arith, left)
 protect_few protect.Protect y z range t most K = let from = K.1.from in omega (arith, from)
 protect_few _ y z range t most K = omega arith
+
+-- At each place the actor has no invalidation open.
+pub kept_closed : (p : WriteProtectPlace) (z : Sizes) (range : FrameRange) (t : Topics) → WriteProtectKnows p z range t → t.invalidations.opened ≡ false
+kept_closed protect.Exclude z range t K = K.closed
+kept_closed (protect.Walk rooted) z range t K = K.0.with_lock.is
+kept_closed protect.Protect z range t K = K.0.with_lock.is
+kept_closed protect.Release z range t K = K.0.with_lock.is
+kept_closed protect.Ask z range t K = K.0.closed
+kept_closed protect.Await z range t K = K.0.closed

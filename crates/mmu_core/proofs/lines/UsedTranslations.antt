@@ -12,13 +12,12 @@ use Rattle.core_views.specs.declared.kind.StepKind.TheVariants as kind
 use Rattle.core_views.specs.declared.place.AccessPlace.{AccessPlace}
 use Rattle.core_views.specs.declared.place.AccessPlace.TheVariants.{Pause, Walk}
 use Rattle.core_views.specs.declared.trace.Op.{Op}
-use Rattle.core_views.specs.Held.{Held, State}
+use Rattle.core_views.specs.Held.{Held}
 use Rattle.core_views.specs.Kinds.{kind_named}
 use Rattle.core_views.specs.Slots.{is_write}
-use Rattle.spte_words.specs.Entries.{frame_in, kind_of, level_span, mapped_frame}
-use Rattle.spte_words.proofs.Spans.{mapped_frame_1}
+use Rattle.spte_words.specs.Entries.{kind_of, level_span}
 use Rattle.mmu_core.specs.lines.AccessSteps.{access_caches, access_task, is_found}
-use Rattle.mmu_core.specs.lines.Cached.{UsesTranslation, allows, asks_flush, covers, first_usable, flushed, flushed_by, frame_used, is_usable, with_leaf}
+use Rattle.mmu_core.specs.lines.Cached.{UsesTranslation, allows, asks_flush, covers, first_usable, flushed, flushed_by, is_usable, with_leaf}
 use Rattle.mmu_core.specs.lines.FaultSteps.{allows_access}
 use Rattle.mmu_core.specs.lines.AccessKnows.{RestsOn}
 use Rattle.part_steps.specs.declared.part_step.PartStep.{PartStep}
@@ -48,10 +47,6 @@ uses_allows gfn write h U = found_allows gfn write h.cached.items h.state.used U
 
 pub uses_stays : (gfn : ℕ) (write : Bool) (h : Held) → ∥ UsesTranslation gfn write h ∥₁ → UsesTranslation gfn write h
 uses_stays gfn write h x = ∥∥₁_elim x (hlevel props) (λ U. U)
-
--- By a leaf of the lowest level a guest frame has the leaf's own frame.
-pub lowest_frame : (gfn : ℕ) (s : State) → s.used.level ≡ 1 → frame_used gfn s ≡ frame_in s.used.leaf
-lowest_frame gfn s lowest = ap (λ level. mapped_frame level s.used.leaf gfn) lowest ∙ mapped_frame_1 s.used.leaf gfn
 
 -- ---- A leaf that a walk finds, which is cached before all others, is the newest.
 

@@ -1,9 +1,11 @@
--- What is said of the words of the parts and of what actors hold speaks of hands by their topics alone.
+-- What is said of the words of the parts and of what actors hold speaks of hands by their topics alone, but where it says
+-- that what they have cached is of the lowest level.
 use Rattle.std.proofs.Common.{◌≡◌, ◌<◌, ℕ, sym, subst}
 use Rattle.core_views.specs.declared.sizes.Sizes.{Sizes}
 use Rattle.core_views.specs.declared.topics.Topics.{Topics}
 use Rattle.core_views.specs.Held.{Held}
 use Rattle.core_views.specs.Sizes.{actors_of}
+use Rattle.mmu_core.specs.invariant.LowestPart.{AreLowest}
 use Rattle.mmu_core.specs.invariant.TopicsInvariant.{CountersPart, FilledPart, FramesPart, HeldPart, LockPart, LookPart, OwedPart}
 use Rattle.mmu_core.specs.invariant.TopicsInvariant.{OwnLooksPart, SawWriter, SearchPart}
 use Rattle.mmu_core.specs.invariant.TopicsInvariant.{StatesPart, TopicsInvariantOf, SetsPart, OldSetsPart, PathPart, UsePart, stands, CountPart}
@@ -13,8 +15,8 @@ use Rattle.mmu_core.specs.invariant.TopicsInvariant.{ScopePart, SweptPart, Zappe
 pub same_topics : (z : Sizes) (lock root slots seq count start end_ : ℕ) (states map frame_map host role pool : ℕ → ℕ) (hand other : ℕ → Held)
     → ◌≡◌ {A = ℕ → Topics} (λ i. (other i).topics) (λ i. (hand i).topics)
     → TopicsInvariantOf z lock root slots seq count start end_ states map frame_map host role pool hand
-    → TopicsInvariantOf z lock root slots seq count start end_ states map frame_map host role pool other
-same_topics z lock root slots seq count start end_ states map frame_map host role pool hand other same I = record {
+    → AreLowest (actors_of z) other → TopicsInvariantOf z lock root slots seq count start end_ states map frame_map host role pool other
+same_topics z lock root slots seq count start end_ states map frame_map host role pool hand other same I lowest = record {
   up = I.up;
   spot = I.spot;
   use_of = I.use_of;
@@ -46,6 +48,7 @@ same_topics z lock root slots seq count start end_ states map frame_map host rol
   scopes = subst (λ (t : ℕ → Topics). ScopePart (actors_of z) pool slots t) (sym same) I.scopes;
   swept = subst (λ (t : ℕ → Topics). SweptPart (actors_of z) I.up I.spot pool root t) (sym same) I.swept;
   zapped = subst (λ (t : ℕ → Topics). ZappedPart (actors_of z) I.up I.spot pool root t) (sym same) I.zapped;
+  lowest = record { leaves = I.lowest.leaves; cached = lowest; hosts = I.lowest.hosts };
   few_ended = I.few_ended;
   counters = subst (λ (t : ℕ → Topics). (i : ℕ) → i < actors_of z → CountersPart z (t i)) (sym same) I.counters;
 }

@@ -8,4 +8,4 @@ use Rattle.mmu_core.specs.invariant.InvalidationsPart.{IsEntryStill}
 -- A leaf is a leaf still.
 pub still_leaf : (level now_ seen : ℕ) → IsEntryStill level now_ seen → kind_of level seen ≡ Leaf → kind_of level now_ ≡ Leaf
 still_leaf level now_ seen (inl same) leaf = ap (kind_of level) same ∙ leaf
-still_leaf level now_ seen (inr A) leaf = ap (λ l. kind_of l now_) A.lowest ∙ ap (kind_of 1) A.is ∙ fixed_kind seen A.leaf A.denied
+still_leaf level now_ seen (inr A) leaf = ap (kind_of level) A.is ∙ fixed_kind level seen A.leaf A.denied

@@ -1,5 +1,5 @@
 -- Each leaf to which links lead from the root is the one that slots and host give the guest frames that it is over: each step of a part keeps it.
-use Rattle.std.proofs.Common.{◌≡◌, ◌+◌, ◌*◌, ◌/◌, ◌<◌, ℕ, refl, sym, subst, ap, ◌∙◌, arith, ◌≤◌, ◌⊎◌, ◌≢◌, inl, inr}
+use Rattle.std.proofs.Common.{◌≡◌, ◌+◌, ◌*◌, ◌/◌, ◌%◌, ◌<◌, ℕ, refl, sym, subst, ap, ◌∙◌, arith, ◌≤◌, ◌⊎◌, ◌≢◌, inl, inr}
 use Rattle.std.specs.Prelude.{◌-◌, Some, false, Bool, true, not, ◌&&◌, ◌^◌}
 use Rattle.core_views.specs.declared.sizes.Sizes.{Sizes}
 use Rattle.core_views.specs.declared.topics.Topics.{Topics}
@@ -9,11 +9,11 @@ use Rattle.spte_words.specs.Areas.{pool_index}
 use Rattle.spte_words.specs.Entries.{kind_of, level_span, can_write, host_writable, leaf_word, mmu_writable, with_write, without_write}
 use Rattle.spte_words.specs.HostWords.{host_present, host_allows_write, host_frame}
 use Rattle.spte_words.proofs.ReadsEntries.{kind_of_absent, kind_of_table, leaf_mmu_writable, leaf_with_write, leaf_without_write}
-use Rattle.spte_words.proofs.Spans.{span_1}
+use Rattle.spte_words.proofs.Spans.{offset_1, span_1}
 use Rattle.part_steps.specs.declared.part_step.PartStep.{PartStep}
 use Rattle.part_steps.specs.declared.part_step.PartStep.TheVariants as part
 use Rattle.part_steps.specs.PartTasks.{leaf_written, page_owned, word_looked, puts_write}
-use Rattle.part_steps.specs.SlotWords.{leaf_of, page_of, may_write}
+use Rattle.part_steps.specs.SlotWords.{leaf_at, leaf_of, page_of, may_write}
 use Rattle.mmu_core.specs.invariant.AllOver.{AllOver, IsEntryOver, LeafIsFor}
 use Rattle.mmu_core.specs.invariant.CachedPart.{IsLeafFor}
 use Rattle.mmu_core.specs.invariant.SlotSetPart.{IsLiveIn}
@@ -25,9 +25,11 @@ use Rattle.mmu_core.proofs.pages.OverSteps.{OfNewLeaf, over_step}
 use Rattle.mmu_core.proofs.slots.LiveStay.{StayLive, leaf_stays}
 use Rattle.mmu_core.proofs.slots.LiveStays.{live_in_stays, part_live_stays}
 use Rattle.mmu_core.proofs.machine.PartStepping.{IsFlushedOut, IsPart, changes_word, flushed_within, is_publish}
+use Rattle.mmu_core.proofs.words.HostFrames.{first_small}
 use Rattle.mmu_core.proofs.words.HostStays.{host_stays}
 use Rattle.mmu_core.proofs.words.PartWords.{areas_stay, slots_are, slots_behind}
 use Rattle.mmu_core.proofs.pages.Standing.{spot_after, spot_of, up_after}
+use Rattle.mmu_core.proofs.held.Emptied.{page_emptied, slot_emptied}
 use Rattle.mmu_core.proofs.held.FreshFrames.{found_live, behind_it, leaf_brought, leaf_same, looked_word}
 use Rattle.mmu_core.proofs.pages.TreePlaces.{all_reached}
 use Rattle.part_steps.specs.InvalidationRange.{page_looked}
@@ -53,16 +55,19 @@ stays_live z v a step note never S I =
     (part_live_stays z v a step note S I) live
 
 -- A leaf that slots and host give, with nothing but the write forbidden, is the one that allows it, once it is allowed.
-fixed_leaf : (pool host : ℕ → ℕ) (set gfn leaf : ℕ) → is_fixable leaf ≡ true → IsLeafFor pool host set gfn leaf → IsLeafFor pool host set gfn (with_write leaf)
-fixed_leaf pool host set gfn leaf fixable L = record {
+fixed_leaf : (pool host : ℕ → ℕ) (set level gfn leaf : ℕ) → is_fixable leaf ≡ true → IsLeafFor pool host set level gfn leaf
+    → IsLeafFor pool host set level gfn (with_write leaf)
+fixed_leaf pool host set level gfn leaf fixable L = record {
   id = L.id;
   slot = L.slot;
   live = L.live;
   holds = L.holds;
   writes = true;
+  first = L.first;
   is =
-      ap with_write L.is ∙ leaf_with_write 1 (host_frame word) (L.writes && may_write L.slot word) (host_allows_write word) (may_write L.slot word)
-      ∙ ap (λ (b : Bool). leaf_word 1 (host_frame word) b (host_allows_write word) (may_write L.slot word)) (sym may);
+      ap with_write L.is ∙ leaf_with_write level L.first (L.writes && may_write L.slot word) (host_allows_write word) (may_write L.slot word)
+      ∙ ap (λ (b : Bool). leaf_word level L.first b (host_allows_write word) (may_write L.slot word)) (sym may);
+  frame = L.frame;
   present = L.present;
   small = L.small;
 }
@@ -75,20 +80,24 @@ fixed_leaf pool host set gfn leaf fixable L = record {
 
     may : may_write L.slot word ≡ true
     may =
-        sym (leaf_mmu_writable 1 (host_frame word) (L.writes && may_write L.slot word) (host_allows_write word) (may_write L.slot word) L.small)
+        sym (leaf_mmu_writable level L.first (L.writes && may_write L.slot word) (host_allows_write word) (may_write L.slot word)
+        (first_small pool host set level gfn leaf L))
         ∙ ap mmu_writable (sym L.is) ∙ allows
 
 -- And it is one that slots and host give, once writes are forbidden in it.
-left_leaf_for : (pool host : ℕ → ℕ) (set gfn leaf : ℕ) → IsLeafFor pool host set gfn leaf → IsLeafFor pool host set gfn (without_write leaf)
-left_leaf_for pool host set gfn leaf L = record {
+left_leaf_for : (pool host : ℕ → ℕ) (set level gfn leaf : ℕ) → IsLeafFor pool host set level gfn leaf
+    → IsLeafFor pool host set level gfn (without_write leaf)
+left_leaf_for pool host set level gfn leaf L = record {
   id = L.id;
   slot = L.slot;
   live = L.live;
   holds = L.holds;
   writes = false;
+  first = L.first;
   is =
       ap without_write L.is
-      ∙ leaf_without_write 1 (host_frame word) (L.writes && may_write L.slot word) (host_allows_write word) (may_write L.slot word);
+      ∙ leaf_without_write level L.first (L.writes && may_write L.slot word) (host_allows_write word) (may_write L.slot word);
+  frame = L.frame;
   present = L.present;
   small = L.small;
 }
@@ -100,13 +109,12 @@ left_leaf_for pool host set gfn leaf L = record {
 new_leaf : (z : Sizes) (v : View) (a : ℕ) (step : PartStep) → IsPart z v a step → TopicsInvariant z v
     → OfNewLeaf step (v.hand a).topics v (LeafIsFor (v.words area.Pool) (v.words area.Host) (v.words area.Slots 0))
 new_leaf z v a (part.Fix gfn) S I = λ won other over was leaf.
-    let is = was S.needs.leaf in
-    (is.0, fixed_leaf (v.words area.Pool) (v.words area.Host) (v.words area.Slots 0) other _ S.needs.fixable is.1)
+    fixed_leaf (v.words area.Pool) (v.words area.Host) (v.words area.Slots 0) (v.hand a).topics.walk.level other _ S.needs.fixable (was S.needs.leaf)
 new_leaf z v a (part.Protect gfn) S I = λ found other leaf was now_.
-    let is = was leaf in (is.0, left_leaf_for (v.words area.Pool) (v.words area.Host) (v.words area.Slots 0) other found is.1)
+    left_leaf_for (v.words area.Pool) (v.words area.Host) (v.words area.Slots 0) (v.hand a).topics.walk.level other found (was leaf)
 new_leaf z v a (part.Leaf gfn write) S I =
     λ won other over leaf.
-    (S.needs.1, subst (λ g. IsLeafFor (v.words area.Pool) (v.words area.Host) (v.words area.Slots 0) g (leaf_written write t)) (sym (same other over)) own)
+    subst (λ g. IsLeafFor (v.words area.Pool) (v.words area.Host) (v.words area.Slots 0) t.walk.level g (leaf_written write t)) (sym (same other over)) own
   where
     t : Topics
     t = (v.hand a).topics
@@ -117,14 +125,20 @@ new_leaf z v a (part.Leaf gfn write) S I =
         let frames : other / 1 ≡ gfn / 1 = subst (λ n. other / n ≡ gfn / n) one over in
         omega (arith, frames)
 
-    own : IsLeafFor (v.words area.Pool) (v.words area.Host) (v.words area.Slots 0) gfn (leaf_written write t)
+    word : ℕ
+    word = v.words area.Host (page_of t.search.slot gfn)
+
+    own : IsLeafFor (v.words area.Pool) (v.words area.Host) (v.words area.Slots 0) t.walk.level gfn (leaf_written write t)
     own = let found = S.needs.0.looked_up in record {
       id = t.search.id - 1;
       slot = t.search.slot;
       live = found_live z v a gfn S.there I S.needs.0;
       holds = found.found.holds;
       writes = puts_write write t;
-      is = ap (leaf_of (puts_write write t) t.search.slot) (looked_word z v a gfn S.there I S.needs.0);
+      first = host_frame word;
+      is = ap (leaf_of (puts_write write t) t.search.slot) (looked_word z v a gfn S.there I S.needs.0)
+          ∙ ap (λ l. leaf_at l (host_frame word) (puts_write write t) t.search.slot word) (sym S.needs.1);
+      frame = let place : gfn % level_span t.walk.level ≡ 0 = ap (λ l. gfn % level_span l) S.needs.1 ∙ offset_1 gfn in omega (arith, place);
       present = ap host_present (sym (looked_word z v a gfn S.there I S.needs.0)) ∙ S.needs.0.present;
       small =
           let looked = ((I.looks a S.there).is_word _ found.host).1 in
@@ -153,8 +167,7 @@ quiet_leaves z v a step note S I other never =
     (sym (host_stays v a step note other))
     (subst (λ s. AllOver up spot (w.words area.Pool) (v.words area.Root 0) (LeafIsFor (w.words area.Pool) host s)) (sym (slots_are v a step note))
     (over_weaker up spot (w.words area.Pool) (v.words area.Root 0) (LeafIsFor before host set) (LeafIsFor (w.words area.Pool) host behind)
-    (λ level gfn word so leaf. let is = so leaf in
-    (is.0, leaf_stays before set (w.words area.Pool) behind (stays_live z v a step note never S I) host gfn word is.1))
+    (λ level gfn word so leaf. leaf_stays before set (w.words area.Pool) behind (stays_live z v a step note never S I) host level gfn word (so leaf))
     (over_step z v a step note S I (v.words area.Root 0) (LeafIsFor before host set) (ap is_table I.tree.top) (leaves_light before host set)
     (new_leaf z v a step S I) I.leaves))))
 
@@ -167,38 +180,40 @@ published_leaves z v a note S I =
     over_step z v a part.Publish note S I (v.words area.Root 0) (LeafIsFor (v.words area.Pool) (v.words area.Host) page) (ap is_table I.tree.top)
     (leaves_light (v.words area.Pool) (v.words area.Host) page) tt
     (λ table entry gfn R O leaf.
-    let is = I.leaves table entry gfn R O leaf in
-    (is.0, stays table entry gfn R O leaf is.1 (S.replaces.stay is.1.id is.1.slot is.1.live)))
+    let is = I.leaves table entry gfn R O leaf in stays table entry gfn R O leaf is (S.replaces.stay is.id is.slot is.live))
   where
     page : ℕ
     page = page_owned (v.hand a).topics.owned
 
     stays : (table entry gfn : ℕ) → HangsBelow I.up (v.words area.Root 0) table → IsEntryOver (I.spot table) entry gfn
         → kind_of (I.spot table).level (v.words area.Pool (pool_index table entry)) ≡ entry_kind.Leaf
-        → (L : IsLeafFor (v.words area.Pool) (v.words area.Host) (v.words area.Slots 0) gfn (v.words area.Pool (pool_index table entry)))
+        → (L : IsLeafFor (v.words area.Pool) (v.words area.Host) (v.words area.Slots 0) (I.spot table).level gfn
+        (v.words area.Pool (pool_index table entry)))
         → IsLiveIn (v.words area.Pool) page L.id L.slot ⊎ IsFlushedOut z.vcpus L.slot (v.hand a).topics
-        → IsLeafFor (v.words area.Pool) (v.words area.Host) page gfn (v.words area.Pool (pool_index table entry))
+        → IsLeafFor (v.words area.Pool) (v.words area.Host) page (I.spot table).level gfn (v.words area.Pool (pool_index table entry))
     stays table entry gfn R O leaf L (inl same) = record {
       id = L.id;
       slot = L.slot;
       live = same;
       holds = L.holds;
       writes = L.writes;
+      first = L.first;
       is = L.is;
+      frame = L.frame;
       present = L.present;
       small = L.small;
     }
     stays table entry gfn R O leaf L (inr F) =
         let some = S.is_sizes.some in
         let of_it = flushed_within z.vcpus gfn L.slot (v.hand a).topics F L.holds in
-        absurd (I.zapped a S.there F.opened (omega (arith, some, F.asked)) table entry gfn R O of_it leaf)
+        absurd (I.zapped a S.there (slot_emptied (v.hand a).topics F.opened S.needs.none_retired) (omega (arith, some, F.asked)) table entry gfn R O of_it leaf)
 
 -- Of a page that is changed there is no leaf: its guest frame was zapped.
 changed_leaves : (z : Sizes) (v : View) (a new_ note : ℕ) → IsPart z v a (part.Change new_) → (I : TopicsInvariant z v)
     → AllOver I.up I.spot (v.words area.Pool) (v.words area.Root 0)
     (LeafIsFor (v.words area.Pool) ((part_stepped a (part.Change new_) note v).words area.Host) (v.words area.Slots 0))
 changed_leaves z v a new_ note S I table entry gfn R O leaf =
-    let is = I.leaves table entry gfn R O leaf in (is.0, by is.1 (same_or (page_of is.1.slot gfn) page))
+    let is = I.leaves table entry gfn R O leaf in by is (same_or (page_of is.slot gfn) page)
   where
     page : ℕ
     page = page_looked (v.hand a).topics.host
@@ -212,16 +227,20 @@ changed_leaves z v a new_ note S I table entry gfn R O leaf =
         let all = subst (λ (y : Sizes). y.vcpus ≤ (v.hand a).topics.flush.asked) S.sizes S.needs.0.asked in
         omega (arith, some, all)
 
-    by : (L : IsLeafFor (v.words area.Pool) (v.words area.Host) (v.words area.Slots 0) gfn word) → (page_of L.slot gfn ≡ page) ⊎ (page_of L.slot gfn ≢ page)
-        → IsLeafFor (v.words area.Pool) ((part_stepped a (part.Change new_) note v).words area.Host) (v.words area.Slots 0) gfn word
+    level : ℕ
+    level = (I.spot table).level
+
+    by : (L : IsLeafFor (v.words area.Pool) (v.words area.Host) (v.words area.Slots 0) level gfn word)
+        → (page_of L.slot gfn ≡ page) ⊎ (page_of L.slot gfn ≢ page)
+        → IsLeafFor (v.words area.Pool) ((part_stepped a (part.Change new_) note v).words area.Host) (v.words area.Slots 0) level gfn word
     by L (inl e) =
         let B = behind_it L.slot gfn L.holds in
         let given : SlotGives (v.words area.Pool) (v.words area.Slots 0) (page_of L.slot gfn) gfn =
         record { id = L.id; slot = L.slot; live = L.live; has = B.0; is = B.1 } in
-        absurd (I.zapped a S.there S.needs.0.opened asked table entry gfn R O
+        absurd (I.zapped a S.there (page_emptied (v.hand a).topics page S.needs.0.opened S.needs.0.invalid) asked table entry gfn R O
         ((I.scopes a page S.there S.needs.0.opened S.needs.0.invalid).covers gfn
         (subst (λ p. SlotGives (v.words area.Pool) (v.words area.Slots 0) p gfn) e given)) leaf)
-    by L (inr ne) = leaf_same (v.words area.Pool) (v.words area.Host) (v.words area.Slots 0) page _ gfn word L (λ e. absurd (ne e))
+    by L (inr ne) = leaf_same (v.words area.Pool) (v.words area.Host) (v.words area.Slots 0) page _ level gfn word L (λ e. absurd (ne e))
 
 -- Of a page that is brought in there is none either: it wasn't present.
 brought_leaves : (z : Sizes) (v : View) (a note : ℕ) → IsPart z v a part.Bring → (I : TopicsInvariant z v)
@@ -230,11 +249,9 @@ brought_leaves : (z : Sizes) (v : View) (a note : ℕ) → IsPart z v a part.Bri
 brought_leaves z v a note S I =
     over_weaker I.up I.spot (v.words area.Pool) (v.words area.Root 0) (LeafIsFor (v.words area.Pool) (v.words area.Host) (v.words area.Slots 0))
     (LeafIsFor (v.words area.Pool) ((part_stepped a part.Bring note v).words area.Host) (v.words area.Slots 0))
-    (λ level gfn word so leaf. let is = so leaf in (
-      is.0,
-      leaf_brought (v.words area.Pool) (v.words area.Host) (v.words area.Slots 0)
-          (page_looked (v.hand a).topics.host) (word_looked (v.hand a).topics.host) gfn word S.needs.absent is.1,
-    )) I.leaves
+    (λ level gfn word so leaf.
+    leaf_brought (v.words area.Pool) (v.words area.Host) (v.words area.Slots 0) (page_looked (v.hand a).topics.host) (word_looked (v.hand a).topics.host)
+    level gfn word S.needs.absent (so leaf)) I.leaves
 
 pub leaves_kept : (z : Sizes) (v : View) (a : ℕ) (step : PartStep) (note : ℕ) → IsPart z v a step → (I : TopicsInvariant z v)
     → AllOver (up_after step a (v.hand a).topics v I.up) (spot_after step (v.hand a).topics v I.spot) ((part_stepped a step note v).words area.Pool)
@@ -249,7 +266,7 @@ leaves_kept z v a step note S I = quiet_leaves z v a step note S I refl refl
 pub leaf_for : (z : Sizes) (v : View) (I : TopicsInvariant z v) (k level prefix entry gfn : ℕ) → stands I.up I.spot k ≡ Some (at level prefix)
     → entry < 512 → gfn / level_span level ≡ prefix * 512 + entry
     → kind_of level (v.words area.Pool (pool_index k entry)) ≡ entry_kind.Leaf
-    → (level ≡ 1) × IsLeafFor (v.words area.Pool) (v.words area.Host) (v.words area.Slots 0) gfn (v.words area.Pool (pool_index k entry))
+    → IsLeafFor (v.words area.Pool) (v.words area.Host) (v.words area.Slots 0) level gfn (v.words area.Pool (pool_index k entry))
 leaf_for z v I k level prefix entry gfn at_k low over =
     let here : I.spot k ≡ at level prefix = (spot_of I.up I.spot k (at level prefix) at_k).1 in
     subst (λ (p : Position). LeafIsFor (v.words area.Pool) (v.words area.Host) (v.words area.Slots 0) p.level gfn (v.words area.Pool (pool_index k entry))) here

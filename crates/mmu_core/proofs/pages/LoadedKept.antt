@@ -127,15 +127,14 @@ others_apart z v a i step never S I lt ne alone from = by step never S
     by _ n T = tt
 
 -- Writes are allowed once in a leaf that was seen: where they were allowed since, it doesn't forbid them now.
-fixed_once : (level now_ after seen : ℕ) → level ≡ 1 → kind_of 1 now_ ≡ Leaf → can_write now_ ≡ false → after ≡ with_write now_
+fixed_once : (level now_ after seen : ℕ) → kind_of level now_ ≡ Leaf → can_write now_ ≡ false → after ≡ with_write now_
     → IsEntryStill level now_ seen → IsEntryStill level after seen
-fixed_once level now_ after seen low leaf denied is (inl same) = inr (record {
-  lowest = low;
-  leaf = ap (kind_of 1) (sym same) ∙ leaf;
+fixed_once level now_ after seen leaf denied is (inl same) = inr (record {
+  leaf = ap (kind_of level) (sym same) ∙ leaf;
   denied = ap can_write (sym same) ∙ denied;
   is = is ∙ ap with_write same;
 })
-fixed_once level now_ after seen low leaf denied is (inr A) = absurd (let may = ap can_write A.is ∙ fixed_can_write seen A.denied in cc (may, denied))
+fixed_once level now_ after seen leaf denied is (inr A) = absurd (let may = ap can_write A.is ∙ fixed_can_write seen A.denied in cc (may, denied))
 
 -- In the entry that was loaded a fast fault allows writes.
 fixed_loaded : (z : Sizes) (v : View) (a i gfn : ℕ) → IsPart z v a (part.Fix gfn) → TopicsInvariant z v → i < actors_of z
@@ -181,8 +180,8 @@ fixed_loaded z v a i gfn S I lt from low won is E = by won is (same_or at here)
         let s = same_pool_word (table_page walk) (table_page t.walk) walk.index (entry_index gfn t.walk.level) low (omega arith) e in
         let level : walk.level ≡ t.walk.level = one_level s.0 in
         let found : pool at ≡ t.walk.entry = ap pool e ∙ tells (entry_now gfn t v) t.walk.entry at_w in
-        fixed_once walk.level (pool at) (upd pool here (leaf_fixed t) at) walk.entry (level ∙ S.needs.lowest)
-        (ap (λ l. kind_of l (pool at)) (sym S.needs.lowest) ∙ ap (kind_of t.walk.level) found ∙ S.needs.leaf)
+        fixed_once walk.level (pool at) (upd pool here (leaf_fixed t) at) walk.entry
+        (ap (λ l. kind_of l (pool at)) level ∙ ap (kind_of t.walk.level) found ∙ S.needs.leaf)
         (ap can_write found ∙ is_not (can_write t.walk.entry) (both (not (can_write t.walk.entry)) _ S.needs.fixable).0)
         (ap (upd pool here (leaf_fixed t)) e ∙ upd_same pool here (leaf_fixed t) ∙ ap with_write (sym found)) E
 

@@ -12,11 +12,9 @@ use Rattle.part_steps.specs.declared.part_step.PartStep.TheVariants as part
 use Rattle.part_steps.specs.PartTasks.{entry_index, table_page}
 use Rattle.mmu_core.specs.invariant.InvalidationsPart.{IsEntryStill}
 use Rattle.mmu_core.specs.invariant.TopicsInvariant.{TopicsInvariant}
-use Rattle.mmu_core.specs.invariant.TreePart.{at}
 use Rattle.mmu_core.specs.machine.View.{View, part_stepped, upd}
 use Rattle.mmu_core.proofs.machine.PartStepping.{IsPart}
 use Rattle.mmu_core.proofs.pages.EntryStill.{still_leaf}
-use Rattle.mmu_core.proofs.pages.NoneBelow.{leaf_lowest}
 use Rattle.mmu_core.proofs.pages.Standing.{entry_now}
 
 -- Where a leaf allows no writes, it stays.
@@ -49,13 +47,6 @@ module _ (z : Sizes) (v : View) (a gfn : ℕ) (S : IsPart z v a (part.Protect gf
           → here walk_index ≡ (v.hand a).topics.walk.entry
       by (inl same) = sym (ap here S.needs.saw.loaded) ∙ same
       by (inr allows) = let denied = allows.denied in let writes = S.needs.writes in absurd (cc (denied, writes))
-
-  -- And it is of the lowest level.
-  pub at_lowest : TopicsInvariant z v → (v.hand a).topics.walk.level ≡ 1
-  at_lowest I =
-      let most = S.is_sizes.pool.1 in
-      leaf_lowest I.tree (omega (arith, most)) (table_page (v.hand a).topics.walk) (at (v.hand a).topics.walk.level (v.hand a).topics.walk.prefix) walk_index
-      ((I.held a S.there).table S.needs.saw.over.there) (omega arith) (found_leaf I)
 
   pub left_leaf : TopicsInvariant z v → kind_of (v.hand a).topics.walk.level (without_write (entry_now gfn (v.hand a).topics v)) ≡ Leaf
   left_leaf I = protected_kind (v.hand a).topics.walk.level (entry_now gfn (v.hand a).topics v) (found_leaf I)

@@ -1,6 +1,6 @@
 -- How far a sweep has come, by the entry that it has loaded last: up to there no links lead to a leaf of its frames.
 use Rattle.std.proofs.Math.Nat.{div-mul-le_self, div-lt_iff_lt-mul, le-div_iff_mul-le}
-use Rattle.std.proofs.Common.{◌≡◌, ◌⊎◌, inl, inr, ◌+◌, ◌-◌, ◌*◌, ◌/◌, ◌%◌, ◌^◌, ◌<◌, ◌≤◌, ℕ, refl, sym, subst, ap, ◌∙◌, arith}
+use Rattle.std.proofs.Common.{◌≡◌, ◌⊎◌, inl, inr, ◌+◌, ◌-◌, ◌*◌, ◌/◌, ◌%◌, ◌<◌, ◌≤◌, ℕ, refl, sym, subst, ap, ◌∙◌, arith}
 use Rattle.std.specs.Prelude.{Bool, true, false, ◌&&◌, nat_le, nat_lt, if◌then◌else◌, Option, Some, None}
 use Rattle.std.proofs.lemmas.Bool.{cases_lt}
 use Rattle.std.proofs.lemmas.Bool.Decides.{nat_tests}
@@ -72,7 +72,7 @@ in_entry gfn entry span some low high =
     omega (arith, from, to)
 
 module _ {pages root : ℕ} {role pool : ℕ → ℕ} {up : ℕ → Use} {spot : ℕ → Position} (T : TreePart pages root role pool up spot)
-    (few : pages ≤ 2 ^ 32) (own_ : Invalidated) (walk : TableWalk) (at_walk : stands up spot (table_page walk) ≡ Some (at walk.level walk.prefix)) where
+    (own_ : Invalidated) (walk : TableWalk) (at_walk : stands up spot (table_page walk) ≡ Some (at walk.level walk.prefix)) where
   abbrev pub k : ℕ
   k = table_page walk
 
@@ -90,7 +90,7 @@ module _ {pages root : ℕ} {role pool : ℕ → ℕ} {up : ℕ → Use} {spot :
           in_entry gfn (walk.prefix * 512 + index) (level_span walk.level) (span_positive walk.level there.1 there.2) (omega (arith, start, behind)) below in
           let prefix : walk.prefix ≡ gfn / level_span walk.level / 512 = omega (arith, over, low) in
           let same : index ≡ entry_index gfn walk.level = omega (arith, over, low) in
-          none_below T few k gfn walk.level (at_walk ∙ ap (λ r. Some (at walk.level r)) prefix)
+          none_below T k gfn walk.level (at_walk ∙ ap (λ r. Some (at walk.level r)) prefix)
           (ap (λ i. leads_on (kind_of walk.level (pool (pool_index k i)))) (sym same) ∙ nowhere) l j gfn R O refl leaf
 
   -- the walk after a load of the entry of this guest frame

@@ -1,5 +1,5 @@
 -- A sweep under the lock has left no leaf of the frames of its invalidation up to where it has come: each step of a part keeps it.
-use Rattle.std.proofs.Common.{◌≡◌, ◌≢◌, ◌⊎◌, inl, inr, ◌+◌, ◌*◌, ◌^◌, ◌<◌, ◌≤◌, ℕ, refl, sym, subst, ap, ◌∙◌, arith}
+use Rattle.std.proofs.Common.{◌≡◌, ◌≢◌, ◌⊎◌, inl, inr, ◌+◌, ◌*◌, ◌<◌, ◌≤◌, ℕ, refl, sym, subst, ap, ◌∙◌, arith}
 use Rattle.std.specs.Prelude.{Bool, true, false, ◌&&◌, ◌||◌, nat_lt, if◌then◌else◌, is_some, Some, None}
 use Rattle.core_views.specs.declared.sizes.Sizes.{Sizes}
 use Rattle.core_views.specs.declared.topics.Hold.{Hold}
@@ -72,9 +72,6 @@ module _ (z : Sizes) (v : View) (a note : ℕ) (step : PartStep) (S : IsPart z v
       ((part_stepped a step note v).words area.Pool) root (IsNoLeafBelow own_ to)) (sym (ap (λ (r : ℕ → ℕ). r 0) (areas_stay v a step note area.Root refl)))
       (over_step z v a step note S I (v.words area.Root 0) (IsNoLeafBelow own_ to) (ap is_table I.tree.top) (below_light own_ to) new_ A)
 
-few_pages : (z : Sizes) (v : View) (a : ℕ) (step : PartStep) → IsPart z v a step → z.pool ≤ 2 ^ 32
-few_pages z v a step S = let most = S.is_sizes.pool.1 in omega (arith, most)
-
 -- of the actor itself, after its step
 abbrev OwnSwept : (z : Sizes) (v : View) (a note : ℕ) (step : PartStep) (S : IsPart z v a step) → TopicsInvariant z v → Topics → Type 0
 OwnSwept z v a note step S I t =
@@ -101,7 +98,7 @@ sweep_own : (z : Sizes) (v : View) (a note gfn : ℕ) (S : IsPart z v a (part.Sw
     (v.words area.Pool (pool_index (table_page (gone_up (v.hand a).topics.walk)) (entry_index gfn (gone_up (v.hand a).topics.walk).level))))
 sweep_own z v a note gfn S I alone out opened from =
     still_below z v a note (part.Sweep gfn) S I t.invalidations.own _ tt
-    (loaded_swept I.tree (few_pages z v a (part.Sweep gfn) S) t.invalidations.own up at_up gfn _ S.needs.over.span before from)
+    (loaded_swept I.tree t.invalidations.own up at_up gfn _ S.needs.over.span before from)
   where
     t : Topics
     t = (v.hand a).topics
@@ -162,7 +159,7 @@ zap_own z v a note gfn S I alone out opened from l j other R O is_in below leaf 
 
     past : NowBelow z v a note (part.Zap gfn) S I t.invalidations.own (entry_end after)
     past =
-        past_entry (tree_kept z v a (part.Zap gfn) note S I) (few_pages z v a (part.Zap gfn) S) t.invalidations.own t.walk
+        past_entry (tree_kept z v a (part.Zap gfn) note S I) t.invalidations.own t.walk
         ((I.held a S.there).table S.needs.saw.over.there) index came (omega arith) nowhere start was
 
     by : (((has_entry after && is_done true after) ≡ true) × (other < entry_end after)) ⊎ (other < entry_start after) → ⊥

@@ -1,5 +1,5 @@
 -- Each step of a part keeps what the tables are.
-use Rattle.std.proofs.Common.{◌≡◌, ◌⊎◌, inl, inr, ◌+◌, ◌*◌, ◌/◌, ◌%◌, ◌^◌, ◌<◌, ◌≤◌, ℕ, refl, sym, subst, ap, ◌∙◌, arith}
+use Rattle.std.proofs.Common.{◌≡◌, inl, inr, ◌+◌, ◌*◌, ◌/◌, ◌%◌, ◌^◌, ◌<◌, ◌≤◌, ℕ, refl, sym, subst, ap, ◌∙◌, arith}
 use Rattle.std.specs.Prelude.{Bool, true, false, ◌-◌, ◌==◌, if◌then◌else◌, Some, ◌&&◌, not}
 use Rattle.core_views.specs.declared.sizes.Sizes.{Sizes}
 use Rattle.core_views.specs.declared.topics.Topics.{Topics}
@@ -31,7 +31,8 @@ use Rattle.mmu_core.proofs.pages.TreePlaces.{link_stands}
 use Rattle.mmu_core.proofs.pages.TreeStored.{entry_stored, table_linked, tree_moved}
 use Rattle.mmu_core.proofs.pages.UsesStay.{is_link, same_tables, stay_same, stood_same}
 use Rattle.mmu_core.proofs.pages.EntryStill.{still_leaf}
-use Rattle.mmu_core.proofs.pages.ProtectedLeaf.{at_lowest, left_leaf, pool_protected}
+use Rattle.mmu_core.proofs.pages.ProtectedLeaf.{found_leaf, left_leaf, pool_protected}
+use Rattle.mmu_core.proofs.pages.NoneBelow.{leaf_ends}
 use Rattle.spte_words.proofs.FixedEntries.{fixed_kind}
 use Rattle.mmu_core.proofs.lines.FaultSame.{both, is_not}
 use Rattle.core_views.specs.Sizes.{actors_of}
@@ -57,10 +58,7 @@ leaf_is write t lowest =
 
 -- And so is the leaf in which a fast one has allowed writes.
 pub fixed_is_leaf : {gfn : ℕ} (t : Topics) → MayFix gfn t → kind_of t.walk.level (leaf_fixed t) ≡ entry_kind.Leaf
-fixed_is_leaf t M =
-    ap (λ l. kind_of l (leaf_fixed t)) M.lowest
-    ∙ fixed_kind t.walk.entry (ap (λ l. kind_of l t.walk.entry) (sym M.lowest) ∙ M.leaf)
-    (is_not (can_write t.walk.entry) (both (not (can_write t.walk.entry)) _ M.fixable).0)
+fixed_is_leaf t M = fixed_kind t.walk.level t.walk.entry M.leaf (is_not (can_write t.walk.entry) (both (not (can_write t.walk.entry)) _ M.fixable).0)
 
 -- An entry above the lowest level whose kind is absent is the absent word.
 pub absent_entry : {pages root : ℕ} {role pool : ℕ → ℕ} {up : ℕ → Use} {spot : ℕ → Position} (T : TreePart pages root role pool up spot)
@@ -75,7 +73,7 @@ absent_entry {pages} {root} {role} {pool} {up} {spot} T k level prefix j at_k lo
         let links : kind_of level (pool (pool_index k j)) ≡ entry_kind.Table L.page =
         ap (kind_of level) L.is ∙ kind_of_table level L.page upper (omega (arith, few, there.0)) in
         absurd (cc (kind, links))
-    by (inr (inr L)) = absurd (omega (arith, L.lowest, upper))
+    by (inr (inr leaf)) = absurd (cc (kind, leaf))
 
 -- Where the step stores in no table, all tables stay.
 stay : (z : Sizes) (v : View) (a : ℕ) (step : PartStep) (note : ℕ) → IsPart z v a step → (I : TopicsInvariant z v) → is_link step ≡ false
@@ -145,7 +143,7 @@ module _ (z : Sizes) (v : View) (a gfn note : ℕ) (I : TopicsInvariant z v) whe
   leafed new_ false lt there low leaf = lost here I.tree
   leafed new_ true lt there low leaf =
       entry_stored I.tree (table_page t.walk) (at t.walk.level t.walk.prefix) index new_ ((I.held a lt).table there) (omega arith)
-      (record { entry = inr (inr (record { lowest = low; leaf = leaf })); no_link = inl low })
+      (record { entry = inr (inr leaf); no_link = λ page upper e. absurd (omega (arith, low, upper)) })
 
   -- A leaf in which writes are forbidden is one still.
   protected : (S : IsPart z v a (part.Protect gfn)) → TreePart z.pool (v.words area.Root 0) (v.words area.Role)
@@ -153,13 +151,13 @@ module _ (z : Sizes) (v : View) (a gfn note : ℕ) (I : TopicsInvariant z v) whe
   protected S =
       entry_stored I.tree (table_page t.walk) (at t.walk.level t.walk.prefix) index (without_write (entry_now gfn t v))
       ((I.held a S.there).table S.needs.saw.over.there) (omega arith)
-      (record { entry = inr (inr (record { lowest = at_lowest z v a gfn S I; leaf = left_leaf z v a gfn S I })); no_link = inl (at_lowest z v a gfn S I) })
+      (record { entry = inr (inr (left_leaf z v a gfn S I)); no_link = leaf_ends t.walk.level _ (found_leaf z v a gfn S I) })
 
   -- An entry of which a leaf was loaded that is there still is no link.
   zapped : (S : IsPart z v a (part.Zap gfn)) → TreePart z.pool (v.words area.Root 0) (v.words area.Role) (upd (v.words area.Pool) here 0) I.up I.spot
   zapped S =
       entry_stored I.tree (table_page t.walk) (at t.walk.level t.walk.prefix) index 0 at_walk (omega arith)
-      (record { entry = inl absent_is; no_link = by (I.tree.entries (table_page t.walk) (at t.walk.level t.walk.prefix) at_walk index (omega arith)) })
+      (record { entry = inl absent_is; no_link = leaf_ends t.walk.level _ leaf })
     where
       at_walk : stands I.up I.spot (table_page t.walk) ≡ Some (at t.walk.level t.walk.prefix)
       at_walk = (I.held a S.there).table S.needs.saw.over.there
@@ -169,17 +167,6 @@ module _ (z : Sizes) (v : View) (a gfn note : ℕ) (I : TopicsInvariant z v) whe
           let seen = S.needs.saw.loaded in
           ap (λ i. kind_of t.walk.level (v.words area.Pool (pool_index (table_page t.walk) i))) (sym seen)
           ∙ still_leaf t.walk.level _ t.walk.entry (I.loaded a S.there S.needs.alone S.needs.outside S.needs.saw.over.there (omega (arith, seen))) S.needs.leaf
-
-      by : EntryPart I.up (table_page t.walk) (at t.walk.level t.walk.prefix) index (v.words area.Pool here)
-          → (t.walk.level ≡ 1) ⊎ (v.words area.Pool here ≡ absent_word)
-      by (inl e) = inr e
-      by (inr (inl L)) =
-          let there = I.tree.there L.page (at (t.walk.level - 1) (t.walk.prefix * 512 + index))
-          (link_stands I.tree (table_page t.walk) (at t.walk.level t.walk.prefix) index (v.words area.Pool here) at_walk L) in
-          let links : kind_of t.walk.level (v.words area.Pool here) ≡ entry_kind.Table L.page =
-          ap (kind_of t.walk.level) L.is ∙ kind_of_table t.walk.level L.page L.upper (omega (arith, there.0, S.is_sizes.pool.1)) in
-          absurd (cc (leaf, links))
-      by (inr (inr L)) = inl L.lowest
 
 -- What the tables are after each step; the root stays.
 tree_behind : (z : Sizes) (v : View) (a : ℕ) (step : PartStep) (note : ℕ) → IsPart z v a step → (I : TopicsInvariant z v)

@@ -2,8 +2,8 @@
 use Rattle.std.proofs.Common.{◌≡◌, ◌⊎◌, inl, inr, ◌+◌, ◌*◌, ◌/◌, ◌%◌, ◌<◌, ◌≤◌, ℕ, zero, suc, refl, sym, subst, ap, ◌∙◌, arith}
 use Rattle.std.specs.Prelude.{true, ◌-◌, Some}
 use Rattle.spte_words.specs.Areas.{pool_index}
-use Rattle.spte_words.specs.Entries.{table_word}
-use Rattle.spte_words.proofs.ReadsEntries.{same_table, table_not_absent}
+use Rattle.spte_words.specs.Entries.{kind_of, table_word}
+use Rattle.spte_words.proofs.ReadsEntries.{same_table, table_no_leaf, table_not_absent}
 use Rattle.mmu_core.specs.invariant.TreePart.{EntryPart, IsUnder, LinksTo, Position, TreePart, Below, HangsBelow, Use, at, is_table, stands, through}
 use Rattle.mmu_core.specs.invariant.TreePart.Use.{Free, OldSet, Outside, Owned, Root, SlotSet, Under}
 use Rattle.mmu_core.proofs.pages.Standing.{at_spot, one_position, spot_of}
@@ -125,7 +125,9 @@ module _ {pages root : ℕ} {role pool : ℕ → ℕ} {up more : ℕ → Use} {s
           ap (stands more place) (same_table k L.page (sym V.link ∙ L.is))
           ∙ link_stands N m (at (p.level + 1) (p.prefix / 512)) j (pool (pool_index m j)) above L
           ∙ ap Some (same_position _ p (omega arith) (omega (arith, index)))
-      by (inr (inr F)) = absurd (let lowest = F.lowest in let least = (T.there k p at_k).1 in omega (arith, lowest, least))
+      by (inr (inr leaf)) =
+          let least = (T.there k p at_k).1 in
+          absurd (table_no_leaf (p.level + 1) k (omega (arith, least)) (ap (kind_of (p.level + 1)) (sym V.link) ∙ leaf))
 
   stands_within : (n k : ℕ) (p : Position) → 4 ≤ p.level + n → stands up spot k ≡ Some p → stands more place k ≡ Some p
   stands_within zero k p near at_k =

@@ -12,6 +12,10 @@ use Rattle.mmu_core.proofs.machine.Columns.{same_or, upd_other, upd_same}
 use Rattle.mmu_core.proofs.pages.Standing.{at_spot, one_position, spot_of}
 use Rattle.mmu_core.proofs.pages.TreePlaces.{same_position}
 
+-- The word is no link, as an entry of the level.
+abbrev pub IsEnd : ℕ → ℕ → Type 0
+IsEnd level w = (page : ℕ) → 2 ≤ level → w ≢ table_word page
+
 -- Each table stays what it was, where it was.
 pub record TablesStay (up more : ℕ → Use) (spot place : ℕ → Position) : Type 0 where
   pub use_ : (k : ℕ) → is_table (up k) ≡ true → more k ≡ up k
@@ -36,7 +40,7 @@ pub record IsNew (pages : ℕ) (role pool : ℕ → ℕ) (up : ℕ → Use) (spo
 -- What was stored in an entry makes it what it should be, and what was there was no link.
 pub record IsStored (up : ℕ → Use) (k : ℕ) (p : Position) (j old new_ : ℕ) : Type 0 where
   pub entry : EntryPart up k p j new_
-  pub no_link : (p.level ≡ 1) ⊎ (old ≡ absent_word)
+  pub no_link : IsEnd p.level old
 
 -- What is said of an entry holds where the tables stay.
 entry_stays : (up more : ℕ → Use) (spot place : ℕ → Position) (k : ℕ) (p : Position) (j w : ℕ) → TablesStay up more spot place → EntryPart up k p j w
@@ -88,11 +92,7 @@ module _ {pages root : ℕ} {role pool : ℕ → ℕ} {up : ℕ → Use} {spot :
       by : (after (pool_index k j) ≡ pool (pool_index k j)) ⊎ IsStored more k (at (p.level + 1) (p.prefix / 512)) j (pool (pool_index k j)) (after
           (pool_index k j)) → after (pool_index k j) ≡ table_word c
       by (inl same) = same ∙ V.link
-      by (inr stored) = none stored.no_link
-        where
-          none : (p.level + 1 ≡ 1) ⊎ (pool (pool_index k j) ≡ absent_word) → after (pool_index k j) ≡ table_word c
-          none (inl lowest) = absurd (omega (arith, lowest, from))
-          none (inr was) = absurd (table_not_absent c (sym V.link ∙ was))
+      by (inr stored) = absurd (stored.no_link c (omega (arith, from)) V.link)
 
   -- what stood before is under the entry that it was under
   was_under : (c k j : ℕ) → more c ≡ Under k j → stands up spot c ≡ Some (place c) → IsUnder after more place c (place c) k j
@@ -243,4 +243,7 @@ module _ {pages root : ℕ} {role pool : ℕ → ℕ} {up : ℕ → Use} {spot :
               (subst (IsNew pages role linked_words more place page) same new_one))
 
       stored : IsStored more k (at level prefix) j (pool (pool_index k j)) (table_word page)
-      stored = record { entry = inr (inl (record { page = page; upper = upper; is = refl; below = upd_same up page (Under k j) })); no_link = inr was }
+      stored = record {
+        entry = inr (inl (record { page = page; upper = upper; is = refl; below = upd_same up page (Under k j) }));
+        no_link = λ other from e. table_not_absent other (sym e ∙ was);
+      }

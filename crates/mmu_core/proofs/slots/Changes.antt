@@ -9,7 +9,7 @@ use Rattle.core_views.specs.declared.place.Place.{Place}
 use Rattle.core_views.specs.declared.sizes.Sizes.{Sizes}
 use Rattle.core_views.specs.declared.slot_set.MemorySlot.{MemorySlot}
 use Rattle.core_views.specs.declared.trace.Command.{Command}
-use Rattle.core_views.specs.declared.trace.Command.TheVariants.{Access, ChangeHost, ClearLog, DeleteSlot, GetLog, SetLog, SetSlot}
+use Rattle.core_views.specs.declared.trace.Command.TheVariants.{Access, ChangeHost, ClearLog, DeleteSlot, GetLog, Migrate, SetLog, SetSlot}
 use Rattle.core_views.specs.declared.trace.Line.{Line}
 use Rattle.core_views.specs.declared.trace.Slot.{Slot}
 use Rattle.core_views.specs.Held.{Held}
@@ -58,6 +58,7 @@ is_change (SetSlot id slot) slots is = refl
 is_change (DeleteSlot id) slots is = refl
 is_change (SetLog id on) slots is = refl
 is_change (GetLog id) slots is = is
+is_change (Migrate call) slots is = is
 is_change (ClearLog id first count words) slots is = is
 
 -- The words of the set that it fills are below 2 ^ 64.
@@ -71,6 +72,7 @@ change_small z lines actor (SetSlot id slot) slots is may allowed set j =
 change_small z lines actor (DeleteSlot id) slots is may allowed set j = set_word_fewer id slots j (record_small z lines slots allowed set)
 change_small z lines actor (SetLog id on) slots is may allowed set j = set_word_logged id on slots j (record_small z lines slots allowed set)
 change_small z lines actor (GetLog id) slots is may allowed set j = absurd (cc is)
+change_small z lines actor (Migrate call) slots is may allowed set j = absurd (cc is)
 change_small z lines actor (ClearLog id first count words) slots is may allowed set j = absurd (cc is)
 
 -- The manager's own record, where its hand makes a step of such a line.
@@ -194,6 +196,7 @@ change_publishes z v a line (SetLog id on) p S changes I owns works filled =
     slot_logged z (v.words area.Pool) (v.words area.Slots 0) (page_owned (v.hand a).topics.owned) id on was.slot (v.hand a).slots R was.is
     (filled_page (v.words area.Pool) (slots_after (SetLog id on) (v.hand a).slots) (v.hand a).topics owns filled)
 change_publishes z v a line (GetLog id) p S changes I owns works filled = absurd (cc changes)
+change_publishes z v a line (Migrate call) p S changes I owns works filled = absurd (cc changes)
 change_publishes z v a line (ClearLog id first count words) p S changes I owns works filled = absurd (cc changes)
 
 -- A slot of the record is live, and so it fits the machine.
@@ -241,6 +244,7 @@ invalidated_fits z pool set slots command slot R A is = by command is
     by (DeleteSlot id) is = at_id id (slot_of_id id slots) refl is
     by (SetLog id on) is = absurd (cc is)
     by (GetLog id) is = absurd (cc is)
+    by (Migrate call) is = absurd (cc is)
     by (ClearLog id first count words) is = absurd (cc is)
 
 -- So does the slot whose dirty log a line begins, and it has a page at least.
@@ -268,6 +272,7 @@ armed_fits z pool set lines slots command slot R A allowed by_lines is = by comm
     by (SetSlot id new_) is = absurd (cc is)
     by (DeleteSlot id) is = absurd (cc is)
     by (GetLog id) is = absurd (cc is)
+    by (Migrate call) is = absurd (cc is)
     by (ClearLog id first count words) is = absurd (cc is)
 
 -- The slots after the change were set by the hand's lines.
@@ -286,4 +291,5 @@ change_recorded h (SetLog id on) left is set = by (slot_of_id id h.slots) refl
     by (Some was) at =
         set_by_with h.lines id (record { slot = was.slot; logged = on }) h.slots (set_by_at h.lines id was h.slots at set) set
 change_recorded h (GetLog id) left is set = set
+change_recorded h (Migrate call) left is set = set
 change_recorded h (ClearLog id first count words) left is set = set

@@ -10,7 +10,7 @@ use Rattle.mmu_core.specs.invariant.Invariant.{IsLeafFor, IsLiveIn, SlotSetPart}
 use Rattle.part_steps.specs.SetWords.{set_role}
 use Rattle.mmu_core.specs.invariant.SlotSetPart.{AreSlots, Fits}
 use Rattle.part_steps.specs.SlotWords.{live_at, slot_at}
-use Rattle.mmu_core.specs.invariant.CachedPart.{AgreePart}
+use Rattle.mmu_core.specs.invariant.CachedPart.{AgreePart, IsTranslationFor}
 
 -- Each slot that is live in one slot set is live in another one, and the same.
 abbrev pub StayLive : (ℕ → ℕ) → ℕ → (ℕ → ℕ) → ℕ → Type 0
@@ -23,22 +23,24 @@ module _ (before : ℕ → ℕ) (set : ℕ) (after : ℕ → ℕ) (other : ℕ) 
   pub slot_stays : (id : ℕ) → id ≤ 31 → live_at before set id ≡ true → slot_at after other id ≡ slot_at before set id
   slot_stays id low live = (stay id (slot_at before set id) (record { low = low; live = live; is = refl })).is
 
-  pub leaf_stays : (host : ℕ → ℕ) (gfn leaf : ℕ) → IsLeafFor before host set gfn leaf → IsLeafFor after host other gfn leaf
-  leaf_stays host gfn leaf L = record {
+  pub leaf_stays : (host : ℕ → ℕ) (level gfn leaf : ℕ) → IsLeafFor before host set level gfn leaf → IsLeafFor after host other level gfn leaf
+  leaf_stays host level gfn leaf L = record {
     id = L.id;
     slot = L.slot;
     live = stay L.id L.slot L.live;
     holds = L.holds;
     writes = L.writes;
+    first = L.first;
     is = L.is;
+    frame = L.frame;
     present = L.present;
     small = L.small;
   }
 
   pub translations_stay : (host : ℕ → ℕ) (ts : List Translation) → AgreePart before host set ts → AgreePart after host other ts
   translations_stay host ts each =
-      All-weaker (λ (t : Translation). IsLeafFor before host set t.gfn t.leaf) (λ (t : Translation). IsLeafFor after host other t.gfn t.leaf)
-      (λ t is. leaf_stays host t.gfn t.leaf is) ts each
+      All-weaker (IsTranslationFor before host set) (IsTranslationFor after host other)
+      (λ t is gfn over. leaf_stays host t.level gfn t.leaf (is gfn over)) ts each
 
 -- Each live slot was live, and the same: they are slots of a set still.
 pub slots_stay : (z : Sizes) (before : ℕ → ℕ) (set : ℕ) (after : ℕ → ℕ) (other : ℕ) → StayLive after other before set → AreSlots z before set

@@ -7,7 +7,7 @@ use Rattle.core_views.specs.declared.sizes.Sizes.{Sizes}
 use Rattle.core_views.specs.declared.topics.Topics.{Topics}
 use Rattle.core_views.specs.declared.trace.Slot.{Slot}
 use Rattle.core_views.specs.declared.trace.Command.{Command}
-use Rattle.core_views.specs.declared.trace.Command.TheVariants.{Access, ChangeHost, ClearLog, DeleteSlot, GetLog, SetLog, SetSlot}
+use Rattle.core_views.specs.declared.trace.Command.TheVariants.{Access, ChangeHost, ClearLog, DeleteSlot, GetLog, Migrate, SetLog, SetSlot}
 use Rattle.core_views.specs.Held.{Held}
 use Rattle.core_views.specs.Sizes.{actors_of}
 use Rattle.core_views.specs.SlotCommands.{arms, slot_invalidated}
@@ -30,6 +30,7 @@ none_armed slots (ChangeHost page change) z some = refl
 none_armed slots (SetSlot id slot) z some = refl
 none_armed slots (DeleteSlot id) z some = refl
 none_armed slots (GetLog id) z some = refl
+none_armed slots (Migrate call) z some = refl
 none_armed slots (ClearLog id first count words) z some = refl
 
 -- What a command has at most, besides the claim and the set.
@@ -46,6 +47,7 @@ besides_few (ChangeHost page change) z = omega arith
 besides_few (SetSlot id slot) z = omega arith
 besides_few (DeleteSlot id) z = omega arith
 besides_few (GetLog id) z = omega arith
+besides_few (Migrate call) z = omega arith
 besides_few (ClearLog id first count words) z = omega arith
 
 -- What a line that begins a dirty log has at most, for its words and to forbid writes.
@@ -57,6 +59,7 @@ armed_most (ChangeHost page change) z is = absurd (cc is)
 armed_most (SetSlot id slot) z is = absurd (cc is)
 armed_most (DeleteSlot id) z is = absurd (cc is)
 armed_most (GetLog id) z is = absurd (cc is)
+armed_most (Migrate call) z is = absurd (cc is)
 armed_most (ClearLog id first count words) z is = absurd (cc is)
 
 -- Where it invalidates a slot it has as many as any.
@@ -67,6 +70,7 @@ invalidated_most slots (ChangeHost page change) z some = omega arith
 invalidated_most slots (SetSlot id slot) z some = omega arith
 invalidated_most slots (DeleteSlot id) z some = omega arith
 invalidated_most slots (GetLog id) z some = omega arith
+invalidated_most slots (Migrate call) z some = omega arith
 invalidated_most slots (ClearLog id first count words) z some = omega arith
 
 -- Few beside those of a claim, of 64 pages a word, of the invalidation of a slot, of five for each of its frames, or of its dirty log, and other actors.

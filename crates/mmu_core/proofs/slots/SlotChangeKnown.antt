@@ -48,14 +48,13 @@ use Rattle.mmu_core.specs.lines.FaultLaws.{CanAnswer}
 use Rattle.mmu_core.specs.lines.Forms.{KnowsPart, RetiresPart}
 use Rattle.mmu_core.specs.lines.InvalidateSteps.{begin_next, begin_part, end_next, end_part}
 use Rattle.mmu_core.specs.lines.SlotChangeKnows.{ArmsFitting, ArmsSlot, Fits, HasPublished, HoldsLock, IsInLog, SlotChangeKnows}
-use Rattle.mmu_core.specs.lines.SlotChangeSteps.{after_arm, after_grace, after_protect, after_role, after_set_begin, after_set_claim, arm_word, frames_of}
-use Rattle.mmu_core.specs.lines.SlotChangeSteps.{after_set_end, after_watch, log_target, slot_change_outcome, slot_change_part}
-use Rattle.mmu_core.specs.lines.SlotChangeSteps.{slot_or_none, slot_target}
+use Rattle.mmu_core.specs.lines.SlotChangeSteps.{after_arm, after_grace, after_protect, after_role, after_set_begin, after_set_claim, after_set_end}
+use Rattle.mmu_core.specs.lines.SlotChangeSteps.{after_watch, arm_word, frames_of, log_target, slot_change_outcome, slot_change_part, slot_or_none, slot_target}
 use Rattle.mmu_core.specs.declared.write_protect.WriteProtectNext.{WriteProtectNext}
 use Rattle.mmu_core.specs.declared.write_protect.WriteProtectNext.TheVariants as protects_next
 use Rattle.mmu_core.specs.lines.WriteProtectSteps.{protect_next, protect_part}
 use Rattle.mmu_core.proofs.lines.ProtectKnown.{ProtectComes, protect_known}
-use Rattle.mmu_core.proofs.lines.ProtectPlaces.{protect_leaves_pages}
+use Rattle.mmu_core.proofs.lines.ProtectPlaces.{kept_closed, protect_leaves_pages}
 use Rattle.mmu_core.proofs.lines.ClaimMade.{claim_made}
 use Rattle.mmu_core.proofs.lines.ClaimRests.{RestsAfterClaim, claim_rests}
 use Rattle.mmu_core.proofs.lines.EitherPlace.{one_place}
@@ -91,13 +90,14 @@ module _ (line : Line) (h : Held) (command : Command) (cached : Buffer Translati
   Knows p g = KnowsPart (place.SlotChange p) command g
 
   -- The retired page is kept with the steps that forbid writes.
-  still_given : (range : FrameRange) (p : WriteProtectPlace) (u : Topics) → LeavesPages h.topics u → MayGiveOld h
+  still_given : (range : FrameRange) (p : WriteProtectPlace) (u : Topics) → LeavesPages h.topics u → u.invalidations.opened ≡ false → MayGiveOld h
       → MayGiveOld (behind (WriteProtect range p) u)
-  still_given range p u L old = record {
+  still_given range p u L closed old = record {
     leaves = ap is_some L.retired ∙ old.leaves;
     in_pool = subst (λ o. page_retired o < h.state.sizes.pool) (sym L.retired) old.in_pool;
     owns_none = L.owned ∙ old.owns_none;
     watched = subst (λ n. actors_of h.state.sizes ≤ next_watched (own_index h) n) (sym L.watched) old.watched;
+    closed = closed;
   }
 
   claim_known : (p : SlotChangePlace) (next : ClaimNext) (u : Topics) → RestsAfterClaim Pages next h.state.sizes u
@@ -144,7 +144,7 @@ module _ (line : Line) (h : Held) (command : Command) (cached : Buffer Translati
       (changes, (K.0, K.1, watch_comes (own_index h) (actors_of h.state.sizes) h.topics v _ _ (watch.Again is) K.2, K.3, K.4))
   watch_known _ _ (watch.Next is lt) R K W closed = (changes, (K.0, K.1, lt, K.3, K.4))
   watch_known _ u (watch.Last is le) R K W closed = grace_known (slot_armed h.slots command) refl W R u K.0 closed
-      (record { leaves = K.1.leaves; in_pool = retired_below R K.1.leaves; owns_none = K.1.owns_none; watched = le })
+      (record { leaves = K.1.leaves; in_pool = retired_below R K.1.leaves; owns_none = K.1.owns_none; watched = le; closed = closed })
 
   -- the slot that is moved, if there is one
   abbrev moved : Option Slot
@@ -184,8 +184,8 @@ module _ (line : Line) (h : Held) (command : Command) (cached : Buffer Translati
   protect_comes : (range : FrameRange) (p : WriteProtectPlace) (next : WriteProtectNext) (u : Topics) → LeavesPages h.topics u
       → SlotChangeKnows (WriteProtect range p) command h → ProtectComes next h.state.sizes range u
       → Knows (after_protect range next) (behind (WriteProtect range p) u)
-  protect_comes range p (protects_next.Goes q) u L K C = (changes, (still_given range p u L K.0, C, K.2, K.3, K.4, K.5))
-  protect_comes range p protects_next.Over u L K C = (changes, (free_holds u C.free, still_given range p u L K.0))
+  protect_comes range p (protects_next.Goes q) u L K C = (changes, (still_given range p u L (kept_closed q h.state.sizes range u C) K.0, C, K.2, K.3, K.4, K.5))
+  protect_comes range p protects_next.Over u L K C = (changes, (free_holds u C.free, still_given range p u L C.closed K.0))
 
   -- after a step that begins its invalidation
   begin_comes : (p : BeginPlace) (next : BeginNext) (u : Topics) → LeavesPages h.topics u → SlotChangeKnows (Begin p) command h
@@ -294,7 +294,7 @@ module _ (line : Line) (h : Held) (command : Command) (cached : Buffer Translati
   slot_change_known Watch R K left W A = watch_known _ _ (watch_made h v) R K W (left.opens refl)
   slot_change_known Clear R K left W A =
       let owns_none = ap (λ o. filled_more o v) K.1.owns_none in
-      (changes, (K.0, record { leaves = K.1.leaves; in_pool = K.1.in_pool; owns_none = owns_none; watched = K.1.watched }))
+      (changes, (K.0, record { leaves = K.1.leaves; in_pool = K.1.in_pool; owns_none = owns_none; watched = K.1.watched; closed = K.1.closed }))
   slot_change_known Give R K left W A =
       let owes_none = R.owes (ap is_section K.0.outside) in
       record { outside = K.0.outside; loose = K.0.holds; owns_none = refl; owes_none = owes_none; no_table = K.0.no_table; no_set = K.0.no_set }

@@ -16,7 +16,7 @@ use Rattle.core_views.specs.declared.place.SlotChangePlace.TheVariants.{AtOnce, 
 use Rattle.core_views.specs.declared.slot_set.MemorySlot.{MemorySlot}
 use Rattle.core_views.specs.declared.trace.Slot.{Slot}
 use Rattle.core_views.specs.declared.trace.Command.{Command}
-use Rattle.core_views.specs.declared.trace.Command.TheVariants.{Access, ChangeHost, ClearLog, DeleteSlot, GetLog, SetLog, SetSlot}
+use Rattle.core_views.specs.declared.trace.Command.TheVariants.{Access, ChangeHost, ClearLog, DeleteSlot, GetLog, Migrate, SetLog, SetSlot}
 use Rattle.core_views.specs.Held.{Held}
 use Rattle.core_views.specs.SlotCommands.{slot_armed, slot_change}
 use Rattle.part_steps.specs.ControlBits.{has_to_flush}
@@ -71,6 +71,7 @@ module _ (h : Held) (command : Command) (v : ℕ) where
   arms_told (SetSlot id slot) = Nothing
   arms_told (DeleteSlot id) = Nothing
   arms_told (GetLog id) = Nothing
+  arms_told (Migrate call) = Nothing
   arms_told (ClearLog id first count words) = Nothing
 
   at_once_told : (now_ : Bool) → Told h v (place.SlotChange Publish) command (if now_ then armed true command else [])
@@ -86,6 +87,7 @@ module _ (h : Held) (command : Command) (v : ℕ) where
   clean_told range (SetSlot id slot) seen last = Nothing
   clean_told range (DeleteSlot id) seen last = Nothing
   clean_told range (GetLog id) seen last = Nothing
+  clean_told range (Migrate call) seen last = Nothing
   clean_told range (ClearLog id first count words) seen last = Nothing
 
   first_not : (a b : Bool) → (a || b) ≡ false → a ≡ false

@@ -1,7 +1,8 @@
 -- At the start what holds of the machine's parts holds.
 use Rattle.std.proofs.Common.{◌≡◌, inl, ◌<◌, ◌%◌, ℕ, List, refl, sym, subst, ap, ◌∙◌, arith}
 use Rattle.std.proofs.lemmas.Bool.Decides.{nat_tests}
-use Rattle.std.specs.Prelude.{Bool, true, false, ◌==◌, nat_le, nat_lt, Option, Some, None}
+use Rattle.std.proofs.lemmas.List.Elements.{All-nil}
+use Rattle.std.specs.Prelude.{All, Bool, true, false, ◌==◌, nat_le, nat_lt, Option, Some, None}
 use Rattle.core_views.specs.declared.sizes.Sizes.{Sizes}
 use Rattle.core_views.specs.declared.topics.OwnedPage.{OwnedPage}
 use Rattle.core_views.specs.declared.topics.Topics.{Topics}
@@ -9,17 +10,17 @@ use Rattle.core_views.specs.declared.trace.Line.{Line}
 use Rattle.core_views.specs.Held.{Held, first_topics}
 use Rattle.core_views.specs.Sizes.{actors_of}
 use Rattle.spte_words.specs.declared.area.Area.TheVariants as area
+use Rattle.spte_words.specs.declared.spte_kind.SpteKind.TheVariants.{Leaf}
 use Rattle.spte_words.specs.Areas.{pool_index}
 use Rattle.spte_words.specs.Entries.{absent_word, kind_of}
 use Rattle.spte_words.proofs.ReadsEntries.{kind_of_absent}
-use Rattle.mmu_core.specs.invariant.LockPart.{SawWriter}
 use Rattle.mmu_core.specs.machine.Enabled.{mmu}
 use Rattle.part_steps.specs.PartBounds.{CountersPart}
 use Rattle.mmu_core.specs.invariant.AreUsed.{AreUsed}
 use Rattle.mmu_core.specs.invariant.FramesPart.{FramesPart, frame_looked}
 use Rattle.mmu_core.specs.invariant.HeldPart.{HeldPart, PathPart}
-use Rattle.mmu_core.specs.invariant.InvalidationsPart.{CheckedPart, CountPart, LoadedPart}
-use Rattle.mmu_core.specs.invariant.LockPart.{LockPart, is_shared, readers, sharers, writers}
+use Rattle.mmu_core.specs.invariant.InvalidationsPart.{CheckedPart, CountPart, KnownRangePart, LoadedPart}
+use Rattle.mmu_core.specs.invariant.LockPart.{LockPart, SawWriter, is_shared, readers, sharers, writers}
 use Rattle.mmu_core.specs.machine.Machine.{World, hand_in}
 use Rattle.part_steps.specs.PartSteps.{IsAtRest, counts}
 use Rattle.mmu_core.specs.invariant.PoolPart.{UsePart, is_free, is_retired, is_owned, is_use, page_told}
@@ -32,14 +33,15 @@ use Rattle.mmu_core.specs.invariant.TreePart.{Position, TreePart, Use, stands}
 use Rattle.mmu_core.specs.invariant.TreePart.Use.{Free, OldSet, Outside, Owned, Root, SlotSet, Under}
 use Rattle.mmu_core.specs.machine.View.{view, word_in}
 use Rattle.mmu_core.specs.machine.Worlds.{AreStartWords, IsStart, free_bits}
+use Rattle.mmu_core.proofs.held.Emptied.{emptied_open}
 use Rattle.mmu_core.proofs.start.StartWords.{bits_behind, bits_below, bits_inside, frame_word, hand_is, map_word, pool_word, word_at_start}
 use Rattle.mmu_core.proofs.machine.SumsBelow.{sum_none}
 use Rattle.mmu_core.proofs.machine.ColumnsTell.{at_none, is_outside, no_outside, other}
 use Rattle.mmu_core.specs.invariant.InvalidatedPart.{PassedPart}
-use Rattle.mmu_core.specs.invariant.InvalidationsPart.{KnownRangePart}
 use Rattle.mmu_core.specs.invariant.HostWordsPart.{HostWordsPart, IsHostWord}
-use Rattle.spte_words.specs.HostWords.{host_frame, host_word}
-use Rattle.spte_words.proofs.ReadsHost.{host_has_frame}
+use Rattle.mmu_core.specs.invariant.LowestPart.{IsLowest}
+use Rattle.spte_words.specs.HostWords.{host_frame, host_level, host_word}
+use Rattle.spte_words.proofs.ReadsHost.{host_has_frame, host_has_level}
 use Rattle.mmu_core.proofs.words.HostStays.{is_word_of}
 use Rattle.core_views.specs.declared.topics.HostLook.{HostLook}
 use Rattle.mmu_core.proofs.start.StartFrames.{start_frames, start_use}
@@ -174,7 +176,8 @@ host_at_start z w p start lt =
 
 hosts_start : (z : Sizes) (lines : List Line) (w : World Held) → IsStart z lines w → HostWordsPart z (word_in z w area.Host)
 hosts_start z lines w start p lt =
-    subst (IsHostWord z.frames) (sym (host_at_start z w p start.words lt)) (is_word_of z.frames p true true (omega (arith, lt, start.sizes.frames.0)))
+    subst (IsHostWord z.frames) (sym (host_at_start z w p start.words lt))
+    (is_word_of z.frames p true true 1 (omega (arith, lt, start.sizes.frames.0)) (omega arith) (omega arith))
 
 frames_start : (z : Sizes) (lines : List Line) (w : World Held) → IsStart z lines w
     → FramesPart z (actors_of z) (word_in z w area.FrameMap) (word_in z w area.Host) (λ i. (hand_in mmu w i).topics.frames.owned)
@@ -252,8 +255,7 @@ start_topics z lines w start = record {
   uses = uses_start z lines w start;
   filled = λ i o lt is. absurd (owns_none z lines w i o start lt is);
   tree = tree_start z lines w start;
-  leaves = λ table entry gfn R O leaf. absurd (let none = ap (kind_of (start_spot table).level) (pool_word z w (pool_index table entry) start.words ∙ absent_is)
-      ∙ kind_of_absent (start_spot table).level in cc (none, leaf));
+  leaves = λ table entry gfn R O leaf. absurd (no_leaf (start_spot table).level table entry leaf);
   held =
       λ i lt. subst (HeldPart (stands (start_up z.pool) start_spot)) (sym (topics_are z lines w i start lt)) (held_first (stands (start_up z.pool) start_spot));
   paths = λ i lt. subst (λ (t : Topics). PathPart (stands (start_up z.pool) start_spot) t.walk) (sym (topics_are z lines w i start lt))
@@ -281,7 +283,17 @@ start_topics z lines w start = record {
   passed = λ i lt. subst (PassedPart (word_in z w area.Pool)) (sym (topics_are z lines w i start lt)) (λ alone. absurd (cc alone));
   scopes = λ i page lt is. absurd (none_open_yet z lines w i start lt is);
   swept = λ i lt alone out is. absurd (none_open_yet z lines w i start lt is);
-  zapped = λ i lt is asked. absurd (none_open_yet z lines w i start lt is);
+  zapped = λ i lt emptied asked. absurd (none_open_yet z lines w i start lt (emptied_open (hand_in mmu w i).topics emptied));
+  lowest = record {
+    leaves = λ table entry gfn R O leaf. absurd (no_leaf (start_spot table).level table entry leaf);
+    cached = λ i lt. subst (λ (h : Held). All IsLowest h.cached.items) (sym (hand_is z lines w i start lt)) (All-nil IsLowest);
+    hosts = λ p lt. ap host_level (host_at_start z w p start.words lt) ∙ host_has_level p true true 1 (omega arith);
+  };
   few_ended = let none = seq_start z lines w start in omega (arith, none);
   counters = λ i lt. subst (CountersPart z) (sym (topics_are z lines w i start lt)) (counters_first z);
 }
+  where
+    -- No entry is a leaf.
+    no_leaf : (level table entry : ℕ) → kind_of level (word_in z w area.Pool (pool_index table entry)) ≡ Leaf → ⊥
+    no_leaf level table entry leaf =
+        let none = ap (kind_of level) (pool_word z w (pool_index table entry) start.words ∙ absent_is) ∙ kind_of_absent level in cc (none, leaf)

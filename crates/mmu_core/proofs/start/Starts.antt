@@ -10,7 +10,6 @@ use Rattle.mmu_core.proofs.words.SlotLists.{none_below}
 use Rattle.std.specs.Prelude.{All, Bool, true, false, ◌==◌, nat_lt, if◌then◌else◌, slice_index}
 use Rattle.core_views.specs.declared.actor.Actor.{Actor}
 use Rattle.core_views.specs.declared.actor.Actor.TheVariants.{Vcpu, Host, Manager, Worker}
-use Rattle.core_views.specs.declared.cache.Translation.{Translation}
 use Rattle.core_views.specs.declared.sizes.Sizes.{Sizes}
 use Rattle.core_views.specs.declared.trace.Line.{Line}
 use Rattle.core_views.specs.Actors.{is_same}
@@ -21,7 +20,7 @@ use Rattle.core_views.specs.Whole.{lines_of}
 use Rattle.spte_words.specs.declared.area.Area.{Area}
 use Rattle.spte_words.specs.declared.area.Area.TheVariants as area
 use Rattle.spte_words.specs.Areas.{size_of}
-use Rattle.spte_words.specs.Entries.{absent_word, frame_in}
+use Rattle.spte_words.specs.Entries.{absent_word}
 use Rattle.spte_words.specs.Flags.{flags_live}
 use Rattle.spte_words.specs.Areas.{StandsSomewhere}
 use Rattle.spte_words.proofs.Places.{word_stands}
@@ -42,6 +41,8 @@ use Rattle.mmu_core.specs.invariant.Laws.{IsSound}
 use Rattle.mmu_core.proofs.held.UsableSteps.{none_usable}
 use Rattle.mmu_core.proofs.machine.Worlds.{good_run}
 use Rattle.part_steps.specs.SetWords.{set_role}
+use Rattle.mmu_core.specs.invariant.CachedPart.{FitsMachine}
+use Rattle.mmu_core.proofs.held.Emptied.{emptied_open}
 
 below : (a b : ℕ) → a < b → nat_lt a b ≡ true
 below a b lt = grind (arith, nat_tests)
@@ -198,7 +199,8 @@ start_good z lines w start = record {
     answered = λ i lt. subst (λ (h : Held). length h.answers ≤ length h.lines) (sym (hand_is z lines w i start lt)) (omega arith);
   };
   usable = none_usable z (view z w) (λ i lt. ap (λ (h : Held). h.cached.items) (hand_is z lines w i start lt));
-  flushes = λ i v lt low opened.
+  flushes = λ i v lt low emptied.
+      let opened = emptied_open (hand_in mmu w i).topics emptied in
       let closed : (hand_in mmu w i).topics.invalidations.opened ≡ false = ap (λ (h : Held). h.topics.invalidations.opened) (hand_is z lines w i start lt) in
       absurd (cc (closed, opened));
   copied = λ i o lt opened owned.
@@ -223,7 +225,7 @@ start_good z lines w start = record {
     leaves = λ i lt. subst (λ (h : Held). RetiresPart h.state.place h.topics) (sym (hand_is z lines w i start lt))
         (record { leaves = λ may. refl; opens = λ may. refl; frames = λ may. refl });
     cached = λ i lt. subst (λ (h : Held). CachedPart z h.cached.items) (sym (hand_is z lines w i start lt))
-        (All-nil (λ (t : Translation). (t.level ≡ 1) × (frame_in t.leaf < z.frames)));
+        (All-nil (FitsMachine z));
     recorded = λ i lt is. subst (λ (h : Held). RecordPart (word_in z w area.Pool) (word_in z w area.Slots 0) h.slots) (sym (hand_is z lines w i start lt))
         (record {
           same = sym (none_below (live_at (word_in z w area.Pool) (word_in z w area.Slots 0)) (memory_slot_at (word_in z w area.Pool)

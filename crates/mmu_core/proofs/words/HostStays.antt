@@ -27,42 +27,38 @@ host_stays v a _ note other = refl
 
 -- ---- host words
 
-pub is_word_of : (frames frame : ℕ) (present allowed : Bool) → frame < frames → IsHostWord frames (host_word frame present allowed 1)
-is_word_of frames frame present allowed low =
-    let w : ℕ = host_word frame present allowed 1 in
-    let same : host_frame w ≡ frame = host_has_frame frame present allowed 1 (omega arith) in (
-      ap (λ (n : ℕ). host_word n present allowed 1) (sym same)
-          ∙ (ap (λ (b : Bool). host_word (host_frame w) b allowed 1) (sym (host_is_present frame present allowed 1))
-          ∙ ap (λ (b : Bool). host_word (host_frame w) (host_present w) b 1) (sym (host_is_writable frame present allowed 1))),
+pub is_word_of : (frames frame : ℕ) (present allowed : Bool) (level : ℕ) → frame < frames → 1 ≤ level → level < 4
+    → IsHostWord frames (host_word frame present allowed level)
+is_word_of frames frame present allowed level low from few =
+    let w : ℕ = host_word frame present allowed level in
+    let same : host_frame w ≡ frame = host_has_frame frame present allowed level few in
+    let of_level : host_level w ≡ level = host_has_level frame present allowed level few in (
+      ap (λ (n : ℕ). host_word n present allowed level) (sym same)
+          ∙ (ap (λ (b : Bool). host_word (host_frame w) b allowed level) (sym (host_is_present frame present allowed level))
+          ∙ (ap (λ (b : Bool). host_word (host_frame w) (host_present w) b level) (sym (host_is_writable frame present allowed level))
+          ∙ ap (λ (n : ℕ). host_word (host_frame w) (host_present w) (host_allows_write w) n) (sym of_level))),
       omega (arith, same, low),
+      omega (arith, of_level, from),
     )
 
 -- With other bits a host word is one, and it names the same frame.
-level_low : (word : ℕ) → host_level word < 4
+pub level_low : (word : ℕ) → host_level word < 4
 unfolding host_level
 level_low word = omega arith
 
 pub same_frame : (word : ℕ) (present allowed : Bool) → host_frame (host_word (host_frame word) present allowed (host_level word)) ≡ host_frame word
 same_frame word present allowed = host_has_frame (host_frame word) present allowed (host_level word) (level_low word)
 
-lowest_level : (frames word : ℕ) → IsHostWord frames word → host_level word ≡ 1
-lowest_level frames word W =
-    ap host_level W.0 ∙ host_has_level (host_frame word) (host_present word) (host_allows_write word) 1 (omega arith)
-
 pub other_bits : (frames word : ℕ) (present allowed : Bool) → IsHostWord frames word
     → IsHostWord frames (host_word (host_frame word) present allowed (host_level word))
-other_bits frames word present allowed W =
-    subst (IsHostWord frames) (ap (λ (n : ℕ). host_word (host_frame word) present allowed n) (sym (lowest_level frames word W)))
-    (is_word_of frames (host_frame word) present allowed W.1)
+other_bits frames word present allowed W = is_word_of frames (host_frame word) present allowed (host_level word) W.1 W.2 (level_low word)
 
 -- At another frame it is one, too, and names this frame.
 pub moved_frame : (word frame : ℕ) → host_frame (with_frame frame word) ≡ frame
 moved_frame word frame = host_has_frame frame (host_present word) (host_allows_write word) (host_level word) (level_low word)
 
 pub other_frame : (frames word frame : ℕ) → frame < frames → IsHostWord frames word → IsHostWord frames (with_frame frame word)
-other_frame frames word frame low W =
-    subst (IsHostWord frames) (ap (λ (n : ℕ). host_word frame (host_present word) (host_allows_write word) n) (sym (lowest_level frames word W)))
-    (is_word_of frames frame (host_present word) (host_allows_write word) low)
+other_frame frames word frame low W = is_word_of frames frame (host_present word) (host_allows_write word) (host_level word) low W.2 (level_low word)
 
 -- What is so of each word that a change may put in place of another one: where no frame is owned, and where the page is moved into the one that is.
 pub each_revision : (words : ℕ) (owned : Option OwnedFrame) (word new_ : ℕ) (IsSo : ℕ → Type 0)

@@ -30,7 +30,7 @@ use Rattle.mmu_core.specs.invariant.SlotSetPart.{IsLiveIn}
 use Rattle.mmu_core.specs.machine.Machine.{World, hand_in}
 use Rattle.mmu_core.specs.alone.OthersRest.{OthersRest}
 use Rattle.mmu_core.specs.alone.SeenStands.{SeenStands}
-pub use Rattle.mmu_core.specs.alone.Leads.{LeadsTo, LeadsToLeaf}
+pub use Rattle.mmu_core.specs.alone.Leads.{EndsHere, LeadsTo, LeadsToLeaf, LinksOn}
 use Rattle.mmu_core.specs.lines.ScanPlaces.{BegunNext, HasBegun, OfPages}
 use Rattle.part_steps.specs.PartTasks.{entry_index, page_looked, part_task, table_page, word_looked}
 use Rattle.part_steps.specs.PartTopics.{part_topics}
@@ -125,13 +125,13 @@ FaultGoesThrough =
     → GoesThrough z (word_in z w) a (hand_in mmu w a).topics note p gfn write
 
 -- Links lead from the root to an entry exactly where they do so from this table.
-pub record LeadSame (pool : ℕ → ℕ) (root level page gfn entry : ℕ) : Type 0 where
-  pub below : LeadsTo pool 4 root gfn entry → LeadsTo pool level page gfn entry
-  pub above : LeadsTo pool level page gfn entry → LeadsTo pool 4 root gfn entry
+pub record LeadSame (pool : ℕ → ℕ) (root level page gfn at entry : ℕ) : Type 0 where
+  pub below : LeadsTo pool 4 root gfn at entry → LeadsTo pool level page gfn at entry
+  pub above : LeadsTo pool level page gfn at entry → LeadsTo pool 4 root gfn at entry
 
 -- Where a table stands over the guest frame, the links from the root lead through it.
 abbrev pub LeadsDown : Type 0
 LeadsDown =
-    (z : Sizes) (w : World Held) (gfn page level entry : ℕ) (sound : IsSound z w)
+    (z : Sizes) (w : World Held) (gfn page level low entry : ℕ) (sound : IsSound z w)
     → stands sound.topics.up sound.topics.spot page ≡ Some (at level (gfn / level_span level / 512))
-    → LeadSame (word_in z w area.Pool) (word_in z w area.Root 0) level page gfn entry
+    → LeadSame (word_in z w area.Pool) (word_in z w area.Root 0) level page gfn low entry

@@ -22,7 +22,7 @@ AllOver up spot pool m IsSo =
 
 -- A leaf is the one that slots and host give the guest frame.
 abbrev pub LeafIsFor : (ℕ → ℕ) → (ℕ → ℕ) → ℕ → ℕ → ℕ → ℕ → Type 0
-LeafIsFor pool host set level gfn w = kind_of level w ≡ Leaf → (level ≡ 1) × IsLeafFor pool host set gfn w
+LeafIsFor pool host set level gfn w = kind_of level w ≡ Leaf → IsLeafFor pool host set level gfn w
 
 -- What a leaf of any level says of a guest frame of its span: it names the frame of the page that slots and host give this guest frame, as far from
 -- the first one of its span as the guest frame is; and it allows no write that they don't allow.

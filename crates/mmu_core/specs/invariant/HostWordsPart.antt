@@ -1,15 +1,16 @@
 -- Host words: the host map. Each page has a frame, which no other page has. A page is taken away by its owner alone, and brought in by whoever faults
 -- there.
-use Rattle.std.specs.Prelude.{◌≡◌, ◌⊎◌, ◌<◌, ℕ, Bool, true, false, ◌&&◌, nat_le, ◌-◌, Some}
+use Rattle.std.specs.Prelude.{◌≡◌, ◌⊎◌, ◌<◌, ◌≤◌, ℕ, Bool, true, false, ◌&&◌, nat_le, ◌-◌, Some}
 use Rattle.core_views.specs.declared.sizes.Sizes.{Sizes}
 use Rattle.core_views.specs.declared.topics.HostLook.{HostLook}
 use Rattle.core_views.specs.declared.topics.Topics.{Topics}
 use Rattle.core_views.specs.Sizes.{is_threads}
-use Rattle.spte_words.specs.HostWords.{host_allows_write, host_frame, host_present, host_word, with_presence}
+use Rattle.spte_words.specs.HostWords.{host_allows_write, host_frame, host_level, host_present, host_word, with_presence}
 
--- The word maps a page, small, to one of so many frames; the page may be absent, and the word may forbid writes.
+-- The word maps a page, at one of the levels that have leaves, to one of so many frames; the page may be absent, and the word may forbid writes.
 abbrev pub IsHostWord : ℕ → ℕ → Type 0
-IsHostWord frames w = (w ≡ host_word (host_frame w) (host_present w) (host_allows_write w) 1) × (host_frame w < frames)
+IsHostWord frames w =
+    (w ≡ host_word (host_frame w) (host_present w) (host_allows_write w) (host_level w)) × (host_frame w < frames) × (1 ≤ host_level w)
 
 -- The host word is as it was seen, but that the page, which was absent, may have been brought in since.
 abbrev pub IsStill : ℕ → ℕ → Type 0

@@ -1,6 +1,6 @@
 -- Open invalidations: which guest frames they are of, and that from the sweep on no leaf of these is left, and nothing cached of them once a flush was awaited
 -- (mmu_notifier.rst; tdp_mmu.c, kvm_tdp_mmu_unmap_gfn_range; vcpu-requests.rst).
-use Rattle.std.specs.Prelude.{◌≡◌, ◌<◌, ◌≤◌, ◌^◌, ℕ, All, List, Bool, true, false, [], not, Some, is_some}
+use Rattle.std.specs.Prelude.{◌≡◌, ◌<◌, ◌≤◌, ◌^◌, ◌&&◌, ◌||◌, ℕ, All, List, Bool, true, false, [], not, Some, is_some}
 use Rattle.core_views.specs.declared.cache.Translation.{Translation}
 use Rattle.core_views.specs.declared.topics.Hold.TheVariants.{Exclusive}
 use Rattle.core_views.specs.declared.topics.Invalidated.{Invalidated}
@@ -18,7 +18,7 @@ use Rattle.mmu_core.specs.invariant.AllOver.{AllOver}
 use Rattle.mmu_core.specs.invariant.CachedPart.{AgreePart}
 use Rattle.mmu_core.specs.invariant.SlotSetPart.{IsLiveIn}
 use Rattle.mmu_core.specs.invariant.TreePart.{Position, Use}
-use Rattle.mmu_core.specs.lines.Cached.{asks_flush}
+use Rattle.mmu_core.specs.lines.Cached.{asks_flush, covers}
 
 -- The guest frame is one of those that the invalidation is of.
 abbrev pub IsIn : Invalidated → ℕ → Type 0
@@ -59,6 +59,11 @@ ScopePart n pool slots topics =
 
 -- ---- what is left of their frames
 
+-- The actor's own invalidation is open, and where it is of a slot, the slot set that takes the place of the one with this slot is yet to be published. (From
+-- then on a large leaf of a slot that was moved may reach over frames of its old place.)
+abbrev pub has_emptied : Topics → Bool
+has_emptied t = t.invalidations.opened && (is_some t.invalidations.own.page || not (is_some t.retired))
+
 -- The entry is no leaf of its guest frames.
 abbrev pub IsNoLeafIn : Invalidated → ℕ → ℕ → ℕ → Type 0
 IsNoLeafIn own_ level gfn w = IsIn own_ gfn → kind_of level w ≡ Leaf → ⊥
@@ -74,14 +79,18 @@ SweptPart n up spot pool root topics =
     → AllOver up spot pool root
     (IsNoLeafBelow (topics i).invalidations.own (swept_to true (topics i).invalidations.own.start (topics i).walk))
 
--- From the moment at which a first flush is asked for no links lead to a leaf of the frames of an open invalidation.
+-- From the moment at which a first flush is asked for no links lead to a leaf of the frames of an open invalidation; of a slot's, up to the publication.
 abbrev pub ZappedPart : ℕ → (ℕ → Use) → (ℕ → Position) → (ℕ → ℕ) → ℕ → (ℕ → Topics) → Type 0
 ZappedPart n up spot pool root topics =
-    (i : ℕ) → i < n → (topics i).invalidations.opened ≡ true → 1 ≤ (topics i).flush.asked → AllOver up spot pool root (IsNoLeafIn (topics i).invalidations.own)
+    (i : ℕ) → i < n → has_emptied (topics i) ≡ true → 1 ≤ (topics i).flush.asked → AllOver up spot pool root (IsNoLeafIn (topics i).invalidations.own)
 
--- What is cached is of none of its frames.
+-- The translation covers none of its frames.
+abbrev pub IsApart : Invalidated → Translation → Type 0
+IsApart own_ t = (gfn : ℕ) → covers gfn t ≡ true → IsIn own_ gfn → ⊥
+
+-- So does each that is cached.
 abbrev pub IsClean : Invalidated → List Translation → Type 0
-IsClean own_ cached = All (λ t. IsIn own_ t.gfn → ⊥) cached
+IsClean own_ cached = All (IsApart own_) cached
 
 -- What a virtual processor has cached may be used: it is in the guest, or no flush is asked of it.
 abbrev pub may_use : ℕ → Stay → Bool
@@ -100,9 +109,9 @@ pub record IsFlushed (own_ : Invalidated) (asked awaited v state : ℕ) (stay : 
   pub asks : v < asked → asks_flush state ≡ false → IsClean own_ cached
   pub awaits : v < asked → v < awaited → may_use state stay ≡ true → IsClean own_ cached
 
--- So are all, for each open invalidation.
+-- So are all, for each open invalidation; for a slot's, up to the publication.
 abbrev pub FlushPart : ℕ → ℕ → (ℕ → ℕ) → (ℕ → Held) → Type 0
 FlushPart n vcpus states hand =
-    (i v : ℕ) → i < n → v < vcpus → (hand i).topics.invalidations.opened ≡ true
+    (i v : ℕ) → i < n → v < vcpus → has_emptied (hand i).topics ≡ true
     → IsFlushed (hand i).topics.invalidations.own (hand i).topics.flush.asked (hand i).topics.flush.awaited v (states v) (hand v).topics.stay
     (hand v).cached.items

@@ -54,10 +54,9 @@ abbrev pub KnownRangePart : ℕ → ℕ → Topics → Type 0
 KnownRangePart start end_ t =
     has_lock t.hold ≡ true → t.invalidations.checked ≡ checked.All → 0 < t.invalidations.count → (t.invalidations.start ≡ start) × (t.invalidations.end ≡ end_)
 
--- A leaf of the lowest level that forbade writes was seen, and it is the same but for this now: a fast fault has allowed them in it.
+-- A leaf that forbade writes was seen, and it is the same but for this now: a fast fault has allowed them in it.
 pub record AllowsWrites (level now_ seen : ℕ) : Type 0 where
-  pub lowest : level ≡ 1
-  pub leaf : kind_of 1 seen ≡ Leaf
+  pub leaf : kind_of level seen ≡ Leaf
   pub denied : can_write seen ≡ false
   pub is : now_ ≡ with_write seen
 

@@ -13,6 +13,7 @@ pub use Rattle.mmu_core.specs.invariant.HeldPart.{HeldPart, HoldsOld, OldSetsPar
 pub use Rattle.mmu_core.specs.invariant.InvalidationsPart.{CheckedPart, CountPart, KnownRangePart, LoadedPart}
 pub use Rattle.mmu_core.specs.invariant.InvalidatedPart.{PassedPart, RangePart, ScopePart, SweptPart, ZappedPart}
 pub use Rattle.mmu_core.specs.invariant.LockPart.{LockPart, SawWriter}
+pub use Rattle.mmu_core.specs.invariant.LowestPart.{LowestPart}
 pub use Rattle.mmu_core.specs.invariant.PoolPart.{FilledPart, IsFilled, UsePart, is_retired}
 pub use Rattle.mmu_core.specs.invariant.SearchPart.{HeldSlotsPart, IsInvalidating, LookPart, SearchPart}
 pub use Rattle.mmu_core.specs.invariant.StatesPart.{StatesPart}
@@ -52,6 +53,7 @@ pub record TopicsInvariantOf (z : Sizes) (lock root slots seq count start end_ :
   pub scopes : ScopePart (actors_of z) pool slots (λ i. (hand i).topics)
   pub swept : SweptPart (actors_of z) up spot pool root (λ i. (hand i).topics)
   pub zapped : ZappedPart (actors_of z) up spot pool root (λ i. (hand i).topics)
+  pub lowest : LowestPart z up spot root host pool hand
   pub few_ended : seq < 2 ^ 40
   pub counters : (i : ℕ) → i < actors_of z → CountersPart z (hand i).topics
 

@@ -50,14 +50,9 @@ pub record LinksTo (up : ℕ → Use) (k : ℕ) (p : Position) (j w : ℕ) : Typ
   pub is : w ≡ table_word page
   pub below : up page ≡ Under k j
 
--- The entry of a table of the lowest level is a leaf.
-pub record IsLeafAt (p : Position) (w : ℕ) : Type 0 where
-  pub lowest : p.level ≡ 1
-  pub leaf : kind_of p.level w ≡ Leaf
-
--- An entry is absent, a link, or a leaf.
+-- An entry is absent, a link, or a leaf of its table's level.
 abbrev pub EntryPart : (ℕ → Use) → ℕ → Position → ℕ → ℕ → Type 0
-EntryPart up k p j w = (w ≡ absent_word) ⊎ LinksTo up k p j w ⊎ IsLeafAt p w
+EntryPart up k p j w = (w ≡ absent_word) ⊎ LinksTo up k p j w ⊎ (kind_of p.level w ≡ Leaf)
 
 -- The table that is page c and stands here is linked by entry j of page k, a table one level above, over its span.
 pub record IsUnder (pool : ℕ → ℕ) (up : ℕ → Use) (spot : ℕ → Position) (c : ℕ) (p : Position) (k j : ℕ) : Type 0 where

@@ -1,4 +1,7 @@
 -- In each lawful history a slot with a dirty log is armed, or a line under way has given it the log and hasn't armed it yet.
+use Rattle.core_views.specs.Events.{logs_left}
+use Rattle.core_views.specs.Lawful.{may_look}
+use Rattle.core_views.specs.declared.event.EventKind.TheVariants.{GuestStopped, MigrationStarted, PauseSet, Resumed, WordCopied}
 use Rattle.std.proofs.Common.{◌≡◌, ◌≢◌, ◌⊎◌, inl, inr, ℕ, List, [], ◌∷◌, refl, sym, subst, ap, ◌∙◌}
 use Rattle.std.proofs.lemmas.Bool.{eq-eqb, ne_eqb, or_left, or_right}
 use Rattle.std.proofs.lemmas.Option.{same_Some}
@@ -13,7 +16,7 @@ use Rattle.core_views.specs.declared.event.EventKind.TheVariants.{LookedAtHost, 
 use Rattle.core_views.specs.declared.sizes.Sizes.{Sizes}
 use Rattle.core_views.specs.declared.slot_set.MemorySlot.{MemorySlot}
 use Rattle.core_views.specs.declared.trace.Command.{Command}
-use Rattle.core_views.specs.declared.trace.Command.TheVariants.{Access, ChangeHost, ClearLog, GetLog, SetLog}
+use Rattle.core_views.specs.declared.trace.Command.TheVariants.{Access, ChangeHost, ClearLog, GetLog, Migrate, SetLog}
 use Rattle.core_views.specs.declared.trace.Slot.{Slot}
 use Rattle.core_views.specs.Actors.{is_same}
 use Rattle.core_views.specs.Events.{after, after_all, facts_after, under_after}
@@ -25,6 +28,7 @@ use Rattle.core_views.specs.SlotCommands.{after_change, arms, changes_slot, refu
 use Rattle.core_views.specs.Slots.{is_some_and}
 use Rattle.core_views.specs.SlotSets.{MemorySlots, changed_slots, slot_of_id}
 use Rattle.core_views.proofs.SameActor.{changed_here, same_is}
+use Rattle.core_views.proofs.Barred.{unbarred}
 use Rattle.core_views.proofs.SlotChanges.{answered_by_slots}
 use Rattle.mmu_core.proofs.machine.Columns.{same_or}
 use Rattle.log_invariant.proofs.LogRecords.{with_log}
@@ -48,20 +52,31 @@ does_nothing_else : (z : Sizes) (f : Facts) (past : Past) (actor : Actor) (u : L
 does_nothing_else z f past actor u (Armed i all) id may L =
     let is = may.1 in let asked = L.command in let same : i ≡ id = cc (is, asked) in (all, ap (λ n. Armed n all) same)
 does_nothing_else z f past actor u (Answered number answer) id may L =
-    let told = subst (λ stage. Tells z f.slots actor u.line.command stage answer) L.stage may.1 in
+    let told = subst (λ stage. Tells z f actor u.line.command stage answer) L.stage may.1 in
     let off = told.1 in let on : arms u.line.command ≡ true = ap arms L.command in absurd (cc (off, on))
 does_nothing_else z f past actor u (Begun line) id may L = absurd (let at = may.0 in let is = L.stage in cc (at, is))
 does_nothing_else z f past actor u LookedAtPause id may L = absurd (let is = L.stage in cc (may, is))
 does_nothing_else z f past actor u LookedAtSlots id may L = absurd (let is = L.stage in cc (may, is))
-does_nothing_else z f past actor u (LookedAtHost page) id may L = absurd (let is = L.stage in cc (may, is))
+does_nothing_else z f past actor u (LookedAtHost page) id may L = absurd (cc (subst (λ stage. may_look stage ≡ true) L.stage may))
 does_nothing_else z f past actor u (BroughtIn page) id may L = absurd (let at = may.0 in let is = L.stage in cc (at, is))
 does_nothing_else z f past actor u (Accessed gfn word op frame before) id may L = absurd (let at = may.0 in let is = L.stage in cc (at, is))
 does_nothing_else z f past actor u (Exited answer) id may L = absurd (let at = may.0 in let is = L.stage in cc (at, is))
 does_nothing_else z f past actor u (SlotChanged i slot) id may L = absurd (let at = may.0 in let is = L.stage in cc (at, is))
-does_nothing_else z f past actor u (Taken i) id may L = absurd (let at = may.0 in let is = L.stage in cc (at, is))
+does_nothing_else z f past actor u (Taken i) id may L = absurd (elim may [
+  | inl alone ↦ let at = alone.0 in let is = L.stage in cc (at, is)
+  | inr next ↦ cc (subst (λ stage. logs_left f.slots u.line.command stage ≡ i ∷ next.ids) L.stage next.left)
+])
 does_nothing_else z f past actor u (HostChanged page entry) id may L = absurd (let at = may.0 in let is = L.stage in cc (at, is))
-does_nothing_else z f past actor u (Harvested i frames) id may L = absurd (let at = may.begun in let is = L.stage in cc (at, is))
+does_nothing_else z f past actor u (Harvested i frames) id may L = absurd (elim may [
+  | inl alone ↦ let at = alone.begun in let is = L.stage in cc (at, is)
+  | inr next ↦ let at = next.begun in let is = L.stage in cc (at, is)
+])
 does_nothing_else z f past actor u (Shown i frames) id may L = absurd (let at = may.begun in let is = L.stage in cc (at, is))
+does_nothing_else z f past actor u MigrationStarted id may L = absurd (let at = may.0 in let is = L.stage in cc (at, is))
+does_nothing_else z f past actor u PauseSet id may L = absurd (let at = may.0 in let is = L.stage in cc (at, is))
+does_nothing_else z f past actor u GuestStopped id may L = absurd (let is = L.stage in cc (may, is))
+does_nothing_else z f past actor u (WordCopied gfn page word value whole) id may L = absurd (let at = may.left in let is = L.stage in cc (at, is))
+does_nothing_else z f past actor u Resumed id may L = absurd (let at = may.0 in let is = L.stage in cc (at, is))
 
 -- ---- a line that gives a log
 
@@ -69,6 +84,7 @@ changing : (command : Command) (slots : MemorySlots) (change : ℕ × Option Mem
 changing (Access gfn word op) slots change is = absurd (cc is)
 changing (ChangeHost page change_) slots change is = absurd (cc is)
 changing (GetLog id) slots change is = absurd (cc is)
+changing (Migrate call) slots change is = absurd (cc is)
 changing (ClearLog id first count words) slots change is = absurd (cc is)
 changing _ slots change is = refl
 
@@ -80,7 +96,7 @@ change_is : (z : Sizes) (f : Facts) (actor : Actor) (command : Command) (change 
     → slot_change f.slots command ≡ Some change → ChangeOf f.slots command
 change_is z f actor command change works is =
     let changes = changing command f.slots change is in
-    change_of z command f.slots changes (unanswered _ (sym (answered_by_slots z f.slots actor command changes) ∙ works))
+    change_of z command f.slots changes (unanswered _ (unbarred _ _ (sym (answered_by_slots z f.slots f.migration actor command changes) ∙ works)).1)
 
 armed_gives : (command : Command) (slots : MemorySlots) (change : ℕ × Option MemorySlot) (s : Slot) → slot_armed slots command ≡ Some s
     → slot_change slots command ≡ Some change → command ≡ SetLog change.0 true

@@ -1,5 +1,5 @@
 -- A fault that runs while all other actors rest never waits and never begins anew.
-use Rattle.std.proofs.Common.{◌≡◌, ◌≢◌, inl, inr, ◌+◌, ◌/◌, ◌^◌, ◌≤◌, ℕ, refl, sym, subst, ap, ◌∙◌, arith}
+use Rattle.std.proofs.Common.{◌≡◌, ◌≢◌, inr, ◌+◌, ◌/◌, ◌^◌, ◌≤◌, ℕ, refl, sym, subst, ap, ◌∙◌, arith}
 use Rattle.std.specs.Prelude.{Bool, true, false, ◌==◌, ◌&&◌, nat_lt, not, if◌then◌else◌, Option, Some, None}
 use Rattle.core_views.specs.declared.place.Cause.TheVariants.{Entry, Moved}
 use Rattle.core_views.specs.declared.place.CheckStage.TheVariants as stage
@@ -16,7 +16,6 @@ use Rattle.spte_words.specs.declared.spte_kind.SpteKind.TheVariants as entry_kin
 use Rattle.spte_words.specs.Areas.{pool_index}
 use Rattle.spte_words.specs.Entries.{kind_of, level_span}
 use Rattle.spte_words.specs.HostWords.{host_allows_write, host_present}
-use Rattle.spte_words.proofs.ReadsEntries.{kind_of_absent, kind_of_table}
 use Rattle.part_steps.specs.declared.task.Task.{Task}
 use Rattle.part_steps.specs.declared.part_step.PartStep.{PartStep}
 use Rattle.part_steps.specs.declared.part_step.PartStep.TheVariants as part
@@ -33,8 +32,8 @@ use Rattle.part_steps.specs.PartHoldings.{IsOver, HasToFill}
 use Rattle.part_steps.specs.PartTopics.{part_topics}
 use Rattle.part_steps.specs.SlotWords.{page_of}
 use Rattle.part_steps.specs.StayTopics.{may_search}
-use Rattle.mmu_core.specs.invariant.TreePart.{EntryPart, TreePart, at, stands}
-use Rattle.mmu_core.proofs.pages.TreePlaces.{all_reached, link_stands}
+use Rattle.mmu_core.specs.invariant.TreePart.{TreePart, at, stands}
+use Rattle.mmu_core.proofs.pages.TreePlaces.{all_reached}
 use Rattle.mmu_core.specs.machine.View.{answer_in, upd, view, word_in, words_after}
 use Rattle.mmu_core.proofs.invariant.AloneLaws.{lock_free}
 use Rattle.core_views.specs.declared.topics.Hold.{Hold}
@@ -60,9 +59,11 @@ use Rattle.mmu_laws.proofs.alone.FaultComes.{bring_alone, host_alone, share_alon
 use Rattle.mmu_laws.proofs.alone.FaultComes.{keeps_pages, link_alone, leaf_alone, is_it, tries_pages, trying_loose, fast_find_alone, fast_walk_alone}
 use Rattle.mmu_laws.proofs.alone.FaultComes.{over_alone}
 use Rattle.mmu_laws.proofs.alone.FaultComes.{entry_still}
+use Rattle.mmu_laws.proofs.causes.CauseSteps.{entry_unfrozen}
 use Rattle.core_views.specs.declared.topics.SlotSearch.{SlotSearch}
 use Rattle.core_views.specs.Slots.{contains}
 use Rattle.part_steps.specs.PageTopics.{searched}
+use Rattle.mmu_core.proofs.held.LowestKept.{lowest_leaf}
 
 module _ (z : Sizes) (w : World Held) (a gfn note : ℕ) (write : Bool) (p : FaultPlace) (R : FaultRunsAlone z w a p gfn write) where
   abbrev t : Topics
@@ -77,40 +78,32 @@ module _ (z : Sizes) (w : World Held) (a gfn note : ℕ) (write : Bool) (p : Fau
   abbrev index : ℕ
   index = entry_index gfn t.walk.level
 
-  -- the entry that is next is absent, a link, or a leaf of the lowest level
-  entry_is : 1 ≤ t.walk.level → EntryPart R.sound.topics.up page (at t.walk.level t.walk.prefix) index (words area.Pool (pool_index page index))
-  entry_is from = R.sound.topics.tree.entries page (at t.walk.level t.walk.prefix) ((R.sound.topics.held a R.there).table from) index (omega arith)
+  few : z.pool ≤ 2 ^ 32
+  few = let most = R.sound.holds.sizes.pool.1 in omega (arith, most)
 
-  kinds : EntryPart R.sound.topics.up page (at t.walk.level t.walk.prefix) index (words area.Pool (pool_index page index))
-      → ((kind_of t.walk.level (words area.Pool (pool_index page index)) ≡ entry_kind.Leaf) → t.walk.level ≡ 1)
-      × ((kind_of t.walk.level (words area.Pool (pool_index page index))) ≢ entry_kind.Frozen)
-  kinds (inl e) =
-      let none : kind_of t.walk.level (words area.Pool (pool_index page index)) ≡ entry_kind.Absent =
-      ap (kind_of t.walk.level) e ∙ kind_of_absent t.walk.level in
-      (λ leaf. absurd (cc (none, leaf)), λ frozen. cc (none, frozen))
-  kinds (inr (inl L)) =
-      let most = R.sound.holds.sizes.pool.1 in
-      let low =
-      (R.sound.topics.tree.there L.page _ (link_stands R.sound.topics.tree page (at t.walk.level t.walk.prefix) index
-      (words area.Pool (pool_index page index)) ((R.sound.topics.held a R.there).table (let upper = L.upper in omega (arith, upper))) L)).0 in
-      let links : kind_of t.walk.level (words area.Pool (pool_index page index)) ≡ entry_kind.Table L.page =
-      ap (kind_of t.walk.level) L.is ∙ kind_of_table t.walk.level L.page L.upper (omega (arith, low, most)) in
-      (λ leaf. absurd (cc (links, leaf)), λ frozen. cc (links, frozen))
-  kinds (inr (inr L)) = let leaf = L.leaf in (λ is. L.lowest, λ frozen. cc (leaf, frozen))
+  -- The entry that is next isn't frozen; and if it is a leaf, it is of the lowest level.
+  unfrozen : 1 ≤ t.walk.level → kind_of t.walk.level (words area.Pool (pool_index page index)) ≢ entry_kind.Frozen
+  unfrozen from =
+      let at_page = (R.sound.topics.held a R.there).table from in
+      entry_unfrozen R.sound.topics.tree page (at t.walk.level t.walk.prefix) index (words area.Pool (pool_index page index)) few at_page
+      (R.sound.topics.tree.entries page (at t.walk.level t.walk.prefix) at_page index (omega arith))
+
+  lowest_next : IsOver gfn t.walk → kind_of t.walk.level (words area.Pool (pool_index page index)) ≡ entry_kind.Leaf → t.walk.level ≡ 1
+  lowest_next over leaf =
+      let span = over.span in
+      lowest_leaf z (view z w) R.sound.topics page t.walk.level t.walk.prefix index gfn ((R.sound.topics.held a R.there).table over.there) (omega arith)
+      (omega (arith, span)) leaf
 
   -- where the walk's table stands
   stands_over : IsOver gfn t.walk → stands R.sound.topics.up R.sound.topics.spot page ≡ Some (at t.walk.level (gfn / level_span t.walk.level / 512))
   stands_over over = (R.sound.topics.held a R.there).table over.there ∙ ap (λ n. Some (at t.walk.level n)) (sym over.span)
 
-  lowest_over : IsOver gfn t.walk → t.walk.level ≡ 1 → stands R.sound.topics.up R.sound.topics.spot page ≡ Some (at 1 (gfn / level_span 1 / 512))
-  lowest_over over one = stands_over over ∙ ap (λ l. Some (at l (gfn / level_span l / 512))) one
-
-  few : z.pool ≤ 2 ^ 32
-  few = let most = R.sound.holds.sizes.pool.1 in omega (arith, most)
-
-  above_now : IsOver gfn t.walk → (e : ℕ) → t.walk.level ≡ 1 → LeadsTo (words area.Pool) 1 page gfn e → LeadsTo (words area.Pool) 4 (words area.Root 0) gfn e
-  above_now over e one leads =
-      (leads_same R.sound.topics.tree few gfn e 1 page (all_reached R.sound.topics.tree page _ (lowest_over over one)) (lowest_over over one)).above leads
+  -- Links lead from the root through it.
+  above_now : IsOver gfn t.walk → (e : ℕ) → LeadsTo (words area.Pool) t.walk.level page gfn t.walk.level e
+      → LeadsTo (words area.Pool) 4 (words area.Root 0) gfn t.walk.level e
+  above_now over e =
+      (leads_same R.sound.topics.tree few gfn t.walk.level e t.walk.level page (all_reached R.sound.topics.tree page _ (stands_over over))
+      (stands_over over)).above
 
   -- a fill leaves the entry
   fill_leaves_entry : (value : ℕ) → 1 ≤ t.walk.level → HasToFill t
@@ -132,19 +125,22 @@ module _ (z : Sizes) (w : World Held) (a gfn note : ℕ) (write : Bool) (p : Fau
         ap (λ (b : Bool). upd (words area.Pool) (pool_index page index) (if b then new_ else words area.Pool (pool_index page index)))
         (is_it (words area.Pool (pool_index page index)) t.walk.entry stands)
 
+    is_leaf : kind_of t.walk.level new_ ≡ entry_kind.Leaf
+    is_leaf = ap (λ l. kind_of l new_) low ∙ leaf
+
     tree_leafed : TreePart z.pool (words area.Root 0) (words area.Role) (leafed new_) R.sound.topics.up R.sound.topics.spot
     tree_leafed =
         subst (λ (pool : ℕ → ℕ). TreePart z.pool (words area.Root 0) (words area.Role) pool R.sound.topics.up R.sound.topics.spot) (sym stored)
         (entry_stored R.sound.topics.tree page (at t.walk.level t.walk.prefix) index new_
         ((R.sound.topics.held a R.there).table over.there) (omega arith)
-        (record { entry = inr (inr (record { lowest = low; leaf = ap (λ l. kind_of l new_) low ∙ leaf })); no_link = inl low }))
+        (record { entry = inr (inr is_leaf); no_link = λ other upper e. absurd (omega (arith, low, upper)) }))
 
     leaf_leads : LeadsToLeaf (leafed new_) 4 (words area.Root 0) gfn write
     leaf_leads =
-        installed (words area.Root 0) (words area.Slots 0) (leafed new_) (words area.Host) gfn write page t.walk.level new_ low
-        (leads_same tree_leafed few gfn new_ 1 page (all_reached R.sound.topics.tree page _ (lowest_over over low))
-        (lowest_over over low)).above
-        (ap (λ (pool : ℕ → ℕ). pool (pool_index page index)) stored ∙ upd_same (words area.Pool) (pool_index page index) new_) leaf allows
+        installed (words area.Root 0) (words area.Slots 0) (leafed new_) (words area.Host) gfn write page t.walk.level new_ over.there
+        (leads_same tree_leafed few gfn t.walk.level new_ t.walk.level page (all_reached R.sound.topics.tree page _ (stands_over over))
+        (stands_over over)).above
+        (ap (λ (pool : ℕ → ℕ). pool (pool_index page index)) stored ∙ upd_same (words area.Pool) (pool_index page index) new_) is_leaf allows
 
 -- ---- each place
 
@@ -205,10 +201,10 @@ next_alone z w a gfn note write (Walk true) R =
     let t : Topics = (hand_in mmu w a).topics in
     let over : IsOver gfn t.walk = R.knows.2 refl in
     let v : ℕ = word_in z w area.Pool (pool_index (table_page t.walk) (entry_index gfn t.walk.level)) in
-    let k = kinds z w a gfn note write (Walk true) R (entry_is z w a gfn note write (Walk true) R over.there) in
     walk_alone (word_in z w area.Root 0) (word_in z w area.Slots 0) (word_in z w area.Pool) (word_in z w area.Host) gfn write (kind_of t.walk.level v)
     z t v refl refl
-    (above_now z w a gfn note write (Walk true) R over v) k.0 k.1
+    (above_now z w a gfn note write (Walk true) R over v) (lowest_next z w a gfn note write (Walk true) R over)
+    (unfrozen z w a gfn note write (Walk true) R over.there)
 next_alone z w a gfn note write (Claim begun) R =
     let t : Topics = (hand_in mmu w a).topics in
     let step : PartStep = claim_part Pages begun t.claim in

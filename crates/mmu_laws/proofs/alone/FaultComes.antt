@@ -1,5 +1,5 @@
 -- What each place of a fault comes to that runs while all other actors rest, by what it finds there.
-use Rattle.std.proofs.Common.{◌≡◌, ◌≢◌, ℕ, refl, sym, subst, ap, arith}
+use Rattle.std.proofs.Common.{◌≡◌, ◌≢◌, ◌≤◌, ℕ, refl, sym, subst, ap, arith}
 use Rattle.std.specs.Prelude.{Bool, true, false, ◌==◌, if◌then◌else◌, Option, Some, None, is_some, ◌&&◌}
 use Rattle.std.proofs.lemmas.Bool.Decides.{nat_tests}
 use Rattle.core_views.specs.declared.place.CheckStage.TheVariants as stage
@@ -33,6 +33,7 @@ use Rattle.mmu_core.specs.invariant.TreePart.{stands}
 use Rattle.mmu_core.proofs.lines.FaultScans.{KeepsScan, fault_keeps, fault_maps_not, fault_tries, maps, page_maps_not}
 use Rattle.part_steps.specs.PartHoldings.{is_fixable}
 use Rattle.spte_words.specs.declared.area.Area.{Area}
+use Rattle.mmu_laws.proofs.leaves.LeadsDown.{leads_at}
 use Rattle.mmu_core.proofs.lines.ClaimMade.{ClaimMade}
 use Rattle.mmu_core.specs.machine.View.{words_after}
 use Rattle.part_steps.specs.declared.part_step.PartStep.{PartStep}
@@ -96,22 +97,22 @@ module _ (root set : ℕ) (pool host : ℕ → ℕ) (gfn : ℕ) (write : Bool) w
 
   -- ---- the walk
 
-  -- links lead to an entry of the walk's table, where this is of the lowest level
-  pub installed : (page level e : ℕ) → level ≡ 1 → (LeadsTo pool 1 page gfn e → LeadsTo pool 4 root gfn e)
-      → pool (pool_index page (entry_index gfn level)) ≡ e → kind_of 1 e ≡ entry_kind.Leaf → allows_access write e ≡ true
+  -- links lead to a leaf in the walk's table
+  pub installed : (page level e : ℕ) → 1 ≤ level → (LeadsTo pool level page gfn level e → LeadsTo pool 4 root gfn level e)
+      → pool (pool_index page (entry_index gfn level)) ≡ e → kind_of level e ≡ entry_kind.Leaf → allows_access write e ≡ true
       → LeadsToLeaf pool 4 root gfn write
-  installed page level e low above is leaf allows =
-      record { entry = e; leads = above (subst (λ l. pool (pool_index page (entry_index gfn l)) ≡ e) low is); leaf = leaf; allows = allows }
+  installed page level e from above is leaf allows =
+      record { at = level; entry = e; leads = above (leads_at pool level page gfn e from is leaf); leaf = leaf; allows = allows }
 
   pub walk_leaf : (lowest allows : Bool) (z : Sizes) (t : Topics) (v : ℕ) (end_ : FaultPlace) → (t.walk.level == 1) ≡ lowest
       → allows_access write v ≡ allows → kind_of t.walk.level v ≡ entry_kind.Leaf → pool (pool_index (table_page t.walk) (entry_index gfn t.walk.level)) ≡ v
-      → (t.walk.level ≡ 1 → LeadsTo pool 1 (table_page t.walk) gfn v → LeadsTo pool 4 root gfn v)
+      → (LeadsTo pool t.walk.level (table_page t.walk) gfn t.walk.level v → LeadsTo pool 4 root gfn t.walk.level v)
       → (kind_of t.walk.level v ≡ entry_kind.Leaf → t.walk.level ≡ 1)
       → FaultAlone (if lowest then (if allows then Unshare Installed else Leaf write) else end_) root set pool host gfn write
       (record t { walk = gone_down None t.walk (entry_index gfn t.walk.level) v })
   walk_leaf true true z t v end_ low may leaf is above only =
       let one : t.walk.level ≡ 1 = grind (arith, nat_tests) in
-      installed (table_page t.walk) t.walk.level v one (above one) is (subst (λ l. kind_of l v ≡ entry_kind.Leaf) one leaf) may
+      installed (table_page t.walk) t.walk.level v (omega (arith, one)) above is leaf may
   walk_leaf true false z t v end_ low may leaf is above only = is
   walk_leaf false allows z t v end_ low may leaf is above only = let one = only leaf in absurd (grind (arith, nat_tests))
 
@@ -123,7 +124,7 @@ module _ (root set : ℕ) (pool host : ℕ → ℕ) (gfn : ℕ) (write : Bool) w
 
   pub walk_alone : (k : SpteKind) (z : Sizes) (t : Topics) (v : ℕ) → kind_of t.walk.level v ≡ k
       → pool (pool_index (table_page t.walk) (entry_index gfn t.walk.level)) ≡ v
-      → (t.walk.level ≡ 1 → LeadsTo pool 1 (table_page t.walk) gfn v → LeadsTo pool 4 root gfn v)
+      → (LeadsTo pool t.walk.level (table_page t.walk) gfn t.walk.level v → LeadsTo pool 4 root gfn t.walk.level v)
       → (kind_of t.walk.level v ≡ entry_kind.Leaf → t.walk.level ≡ 1) → (kind_of t.walk.level v ≢ entry_kind.Frozen)
       → FaultAlone (walk_next k z gfn write t.walk v) root set pool host gfn write
       (record t { walk = gone_down (linked_page k) t.walk (entry_index gfn t.walk.level) v })

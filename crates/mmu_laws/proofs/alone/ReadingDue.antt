@@ -1,6 +1,7 @@
 -- What is dirty as a line that is alone begins to read a log must not be left out: no write is under way then.
-use Rattle.std.proofs.Common.{◌≡◌, ◌≢◌, ◌⊎◌, inl, inr, ◌<◌, List, ℕ, refl, subst, ap, ◌∙◌}
-use Rattle.std.specs.Prelude.{Bool, true, false, not, ◌&&◌, Some}
+use Rattle.core_views.specs.Migrations.{is_stopped}
+use Rattle.std.proofs.Common.{◌≡◌, ◌≢◌, ◌⊎◌, inl, inr, ◌<◌, List, ℕ, refl, sym, subst, ap, ◌∙◌}
+use Rattle.std.specs.Prelude.{Bool, true, false, not, ◌&&◌, ◌||◌, Some}
 use Rattle.core_views.specs.declared.actor.Actor.{Actor}
 use Rattle.core_views.specs.declared.event.EventKind.{EventKind}
 use Rattle.core_views.specs.declared.event.EventKind.TheVariants.{Taken}
@@ -10,10 +11,10 @@ use Rattle.core_views.specs.declared.trace.Command.{Command}
 use Rattle.core_views.specs.declared.trace.Command.TheVariants.{ClearLog, GetLog}
 use Rattle.core_views.specs.Actors.{is_same}
 use Rattle.core_views.specs.Events.{after, after_all}
-use Rattle.core_views.specs.Flat.{Flat, Idle, LineUnderWay}
-use Rattle.core_views.specs.Lawful.{IsLawful}
+use Rattle.core_views.specs.Flat.{Facts, Flat, Idle, LineUnderWay}
+use Rattle.core_views.specs.Lawful.{IsAllowed, IsLawful}
 use Rattle.core_views.specs.LogCommands.{log_read}
-use Rattle.core_views.specs.Past.{is_being_written, written_frame}
+use Rattle.core_views.specs.Past.{Past, is_being_written, written_frame}
 use Rattle.core_views.specs.Sizes.{actors_of}
 use Rattle.core_views.proofs.SameActor.{is_same_self, same_is}
 use Rattle.flat_laws.specs.Writes.{IsWriting}
@@ -31,6 +32,12 @@ reads_write_none : (command : Command) (id gfn : ℕ) → log_read command ≡ S
 reads_write_none (GetLog i) id gfn reads writes = cc writes
 reads_write_none (ClearLog i first count words) id gfn reads writes = cc writes
 reads_write_none _ id gfn reads writes = cc reads
+
+-- Nor does any line that begins to read one.
+taken_writes_none : (z : Sizes) (f : Facts) (past : Past) (actor : Actor) (u : LineUnderWay) (id gfn : ℕ) → IsAllowed z f past actor u (Taken id)
+    → written_frame u.line.command ≡ Some gfn → ⊥
+taken_writes_none z f past actor u id gfn (inl alone) writes = reads_write_none u.line.command id gfn alone.2 writes
+taken_writes_none z f past actor u id gfn (inr next) writes = cc (sym (ap written_frame next.asked) ∙ writes)
 
 -- No other line of the hands is under way.
 abbrev pub NoneElse : Sizes → View → ℕ → Type 0
@@ -57,7 +64,8 @@ module _ (z : Sizes) (v : View) (f : Flat) (a : ℕ) (F : FlatInvariant z v f) (
           under (ap (λ (y : Actor). (f.under y).stage) W.2 ∙ rests)
 
   module _ (kinds : List EventKind) (id : ℕ) (lines : AreOfLines f) (lawful : IsLawful z f (told actor kinds))
-      (reads : log_read ((after_all (told actor kinds) f).under actor).line.command ≡ Some id) where
+      (takes : IsAllowed z (after_all (told actor kinds) f).facts (after_all (told actor kinds) f).past actor ((after_all (told actor kinds) f).under actor)
+      (Taken id)) where
     abbrev g : Flat
     g = after_all (told actor kinds) f
 
@@ -77,7 +85,7 @@ module _ (z : Sizes) (v : View) (f : Flat) (a : ℕ) (F : FlatInvariant z v f) (
 
             which : (same : Bool) → is_same actor W.actor ≡ same → ⊥
             which true same =
-                reads_write_none (g.under actor).line.command id gfn reads
+                taken_writes_none z g.facts g.past actor (g.under actor) id gfn takes
                 (ap (λ (y : Actor). written_frame (g.under y).line.command) (same_is actor W.actor same) ∙ writes.1)
             which false apart =
                 others_idle W.actor apart
@@ -85,9 +93,10 @@ module _ (z : Sizes) (v : View) (f : Flat) (a : ℕ) (F : FlatInvariant z v f) (
 
     -- So what is dirty there is due once the reading begins.
     pub taken_due : (gfn : ℕ) → g.facts.pending gfn ≡ true → (after (record { actor = actor; kind = Taken id }) g).past.due gfn ≡ true
-    taken_due gfn is = both (g.facts.pending gfn) (is_being_written g.past.writes gfn) is (none_written gfn)
+    taken_due gfn is = both (g.facts.pending gfn) (is_stopped g.facts.migration) (is_being_written g.past.writes gfn) is (none_written gfn)
       where
-        both : (b c : Bool) → b ≡ true → c ≡ false → (b && not c) ≡ true
-        both true false is none = refl
-        both true true is none = absurd (cc none)
-        both false c is none = absurd (cc is)
+        both : (b s c : Bool) → b ≡ true → c ≡ false → (b && (s || not c)) ≡ true
+        both true true false is none = refl
+        both true false false is none = refl
+        both true s true is none = absurd (cc none)
+        both false s c is none = absurd (cc is)

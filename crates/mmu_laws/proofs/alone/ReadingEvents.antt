@@ -1,5 +1,7 @@
 -- What a line that is alone tells of its reading of a dirty log is just what is dirty.
-use Rattle.std.proofs.Common.{◌≡◌, ◌++◌, ◌∷◌, [], List, ℕ, refl, sym, ap, ◌∙◌}
+use Rattle.core_views.specs.Lawful.{MayHarvest}
+use Rattle.core_views.specs.Harvests.{IsHarvest, MayRead}
+use Rattle.std.proofs.Common.{◌≡◌, ◌⊎◌, inl, inr, ◌++◌, ◌∷◌, [], List, ℕ, refl, sym, ap, ◌∙◌}
 use Rattle.std.specs.Prelude.{Bool, true, false, not, ◌==◌, ◌||◌, if◌then◌else◌, Option, Some, None}
 use Rattle.core_views.specs.declared.actor.Actor.{Actor}
 use Rattle.core_views.specs.declared.event.Event.{Event}
@@ -112,6 +114,13 @@ module _ (z : Sizes) (v : View) (f : Flat) (a : ℕ) (line : Line) (p : LogPlace
   due_first : IsDue → (gfn : ℕ) → g.facts.pending gfn ≡ true → g.past.due gfn ≡ true
   due_first due gfn is = ap (λ (s : FrameSet). s gfn) first_due ∙ due gfn (sym (ap (λ (s : FrameSet). s gfn) first_pending) ∙ is)
 
+  harvest_of : (id : ℕ) (frames : List ℕ)
+      → MayRead z g.facts g.past (g.under actor).line.command (g.under actor).stage id frames true
+      ⊎ MayHarvest g.facts g.past (g.under actor).line.command (g.under actor).stage id frames
+      → IsHarvest g.facts g.past (g.under actor).line.command id frames
+  harvest_of id frames (inl alone) = alone.harvest
+  harvest_of id frames (inr next) = next.harvest
+
   -- It has read what it takes out.
   harvest_exact : (id : ℕ) (words : List ℕ) (o : Outcome) → AreDirty words → IsDue
       → IsLawful z f (told actor (first ++ (Harvested id (frames_read slot command words) ∷ answering o line)))
@@ -120,7 +129,7 @@ module _ (z : Sizes) (v : View) (f : Flat) (a : ℕ) (line : Line) (p : LogPlace
       let frames = frames_read slot command words in
       let parts = lawful_more z actor first (Harvested id frames ∷ answering o line) f lawful in
       after_first (Harvested id frames ∷ answering o line) (
-        exact_frames g (g.under actor).line.command id frames parts.1.0.harvest (due_first due) (frames_dirty words dirty),
+        exact_frames g (g.under actor).line.command id frames (harvest_of id frames parts.1.0) (due_first due) (frames_dirty words dirty),
         none_read_dirty actor (answering o line) (after (record { actor = actor; kind = Harvested id frames }) g) (answer_none o line),
       )
 
@@ -147,7 +156,7 @@ module _ (z : Sizes) (v : View) (f : Flat) (a : ℕ) (line : Line) (p : LogPlace
         tt,
         (
           exact_frames begun (begun.under actor).line.command id frames parts.1.1.0.harvest
-              (taken_due z v f a X.ready.flat X.exact X.idle first id X.ready.lines parts.0 parts.1.0.2) (frames_dirty words dirty),
+              (taken_due z v f a X.ready.flat X.exact X.idle first id X.ready.lines parts.0 parts.1.0) (frames_dirty words dirty),
           none_read_dirty actor (answering o line) (after (record { actor = actor; kind = Shown id frames }) begun) (answer_none o line),
         ),
       )

@@ -141,7 +141,7 @@ module _ (z : Sizes) (v : View) (f : Flat) (a : ℕ) (line : Line) (p : LogPlace
   begins_now q id lawful =
       let parts = lawful_more z actor first (Taken id ∷ []) f lawful in
       subst (IsTold q) (sym (told_more actor first (Taken id ∷ []) f))
-      (first_pending, λ b gfn is. taken_due z v f a X.ready.flat X.exact X.idle first id X.ready.lines parts.0 parts.1.0.2 gfn is)
+      (first_pending, λ b gfn is. taken_due z v f a X.ready.flat X.exact X.idle first id X.ready.lines parts.0 parts.1.0 gfn is)
 
   pub goes_still : (q : LogPlace) → log_next p command h x ≡ next.Goes q
       → (has_begun p ≡ true → (gfn : ℕ) → f.facts.pending gfn ≡ true → f.past.due gfn ≡ true) → GoesStill q

@@ -113,16 +113,15 @@ spared z a i h step note n same inside N R (inr apart) at =
     (subst (λ y. i < size_of (map_of y) a) (sym same) inside) (at ∙ ap (λ y. place_of (map_of y) a i) (sym same)) in
     absurd (apart P.0 P.1)
 
--- The entries of tables: none is frozen, and leaves are of the lowest level.
-pub entry_kinds : {pages root : ℕ} {role pool : ℕ → ℕ} {up : ℕ → Use} {spot : ℕ → Position} (T : TreePart pages root role pool up spot)
+-- No entry of a table is frozen.
+pub entry_unfrozen : {pages root : ℕ} {role pool : ℕ → ℕ} {up : ℕ → Use} {spot : ℕ → Position} (T : TreePart pages root role pool up spot)
     (k : ℕ) (p : Position) (j w : ℕ) → pages ≤ 2 ^ 32 → stands up spot k ≡ Some p → EntryPart up k p j w
-    → (kind_of p.level w ≡ entry_kind.Leaf → p.level ≡ 1) × (kind_of p.level w ≢ entry_kind.Frozen)
-entry_kinds T k p j w small at_k (inl e) =
-    let none : kind_of p.level w ≡ entry_kind.Absent = ap (kind_of p.level) e ∙ kind_of_absent p.level in
-    (λ leaf. absurd (cc (none, leaf)), λ frozen. cc (none, frozen))
-entry_kinds T k p j w small at_k (inr (inl L)) =
+    → kind_of p.level w ≢ entry_kind.Frozen
+entry_unfrozen T k p j w small at_k (inl e) =
+    let none : kind_of p.level w ≡ entry_kind.Absent = ap (kind_of p.level) e ∙ kind_of_absent p.level in λ frozen. cc (none, frozen)
+entry_unfrozen T k p j w small at_k (inr (inl L)) =
     let there = T.there L.page (at (p.level - 1) (p.prefix * 512 + j)) (link_stands T k p j w at_k L) in
     let links : kind_of p.level w ≡ entry_kind.Table L.page =
     ap (kind_of p.level) L.is ∙ kind_of_table p.level L.page L.upper (omega (arith, small, there.0)) in
-    (λ leaf. absurd (cc (links, leaf)), λ frozen. cc (links, frozen))
-entry_kinds T k p j w small at_k (inr (inr L)) = let leaf = L.leaf in (λ is. L.lowest, λ frozen. cc (leaf, frozen))
+    λ frozen. cc (links, frozen)
+entry_unfrozen T k p j w small at_k (inr (inr leaf)) = λ frozen. cc (leaf, frozen)

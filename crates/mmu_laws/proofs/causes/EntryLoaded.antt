@@ -20,7 +20,8 @@ use Rattle.part_steps.specs.PartHoldings.{HasToFill}
 use Rattle.mmu_core.specs.invariant.TreePart.{EntryPart, at}
 use Rattle.mmu_core.specs.machine.View.{view, word_in}
 use Rattle.mmu_core.proofs.invariant.AloneLaws.{part_found}
-use Rattle.mmu_laws.proofs.causes.CauseSteps.{Spares, entry_kinds}
+use Rattle.mmu_laws.proofs.causes.CauseSteps.{Spares, entry_unfrozen}
+use Rattle.mmu_core.proofs.held.LowestKept.{lowest_leaf}
 use Rattle.mmu_laws.proofs.causes.MadeSteps.{Makes, in_machine}
 use Rattle.mmu_core.proofs.words.PartWords.{walks_unowned}
 use Rattle.mmu_core.proofs.pages.Owned.{owned_some}
@@ -59,9 +60,13 @@ module _ (z : Sizes) (u : World Held) (s : Step Kind) (G : IsSound z u) (may : M
       let is : v ≡ word_in z u area.Pool (entry_at gfn) = ap (answered mmu u) M.is ∙ part_found z u a (part.Walk gfn) M.note G there M.needs in
       let most = G.holds.sizes.pool.1 in
       let at_page = (G.topics.held a there).table from in
-      entry_kinds G.topics.tree (table_page t.walk) (at t.walk.level t.walk.prefix) (entry_index gfn t.walk.level) v (omega (arith, most)) at_page
-      (subst (EntryPart G.topics.up (table_page t.walk) (at t.walk.level t.walk.prefix) (entry_index gfn t.walk.level)) (sym is)
-      (G.topics.tree.entries (table_page t.walk) (at t.walk.level t.walk.prefix) at_page (entry_index gfn t.walk.level) (low gfn)))
+      let span = M.needs.0.span in (
+        λ leaf. lowest_leaf z (view z u) G.topics (table_page t.walk) t.walk.level t.walk.prefix (entry_index gfn t.walk.level) gfn at_page (low gfn)
+            (omega (arith, span)) (ap (kind_of t.walk.level) (sym is) ∙ leaf),
+        entry_unfrozen G.topics.tree (table_page t.walk) (at t.walk.level t.walk.prefix) (entry_index gfn t.walk.level) v (omega (arith, most)) at_page
+            (subst (EntryPart G.topics.up (table_page t.walk) (at t.walk.level t.walk.prefix) (entry_index gfn t.walk.level)) (sym is)
+            (G.topics.tree.entries (table_page t.walk) (at t.walk.level t.walk.prefix) at_page (entry_index gfn t.walk.level) (low gfn))),
+      )
 
   pub fill_spares : (gfn value note : ℕ) → HasToFill t → 1 ≤ t.walk.level → Spares area.Pool (entry_at gfn) h (part.Fill value) note
   fill_spares gfn value note F from = inr (λ e here.

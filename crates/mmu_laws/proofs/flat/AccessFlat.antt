@@ -1,4 +1,5 @@
 -- What the steps of an access owe flat memory.
+use Rattle.core_views.proofs.Barred.{goes_on}
 use Rattle.core_views.specs.Held.{State}
 use Rattle.std.proofs.Common.{◌≡◌, ◌≢◌, ◌<◌, ℕ, [], ◌∷◌, refl, sym, subst, ap, ◌∙◌, arith}
 use Rattle.std.specs.Prelude.{Bool, true, false, ◌==◌, ◌&&◌, ◌||◌, not, if◌then◌else◌, Option, Some, None}
@@ -17,6 +18,7 @@ use Rattle.core_views.specs.declared.trace.Line.{Line}
 use Rattle.core_views.specs.declared.trace.Op.{Op}
 use Rattle.core_views.specs.declared.trace.Op.TheVariants.{Read, Write, Add}
 use Rattle.core_views.specs.Events.{touched}
+use Rattle.core_views.specs.Migrations.{is_paused}
 use Rattle.core_views.specs.Flat.{Facts, LineUnderWay, Stage}
 use Rattle.core_views.specs.Past.{Past}
 use Rattle.core_views.specs.Lawful.{Tells}
@@ -29,7 +31,7 @@ use Rattle.spte_words.specs.declared.area.Area.TheVariants as area
 use Rattle.spte_words.specs.declared.spte_kind.SpteKind.{SpteKind}
 use Rattle.spte_words.specs.declared.spte_kind.SpteKind.TheVariants as entry_kind
 use Rattle.spte_words.specs.Areas.{content_index}
-use Rattle.spte_words.specs.Entries.{frame_in, kind_of}
+use Rattle.spte_words.specs.Entries.{kind_of}
 use Rattle.part_steps.specs.declared.part_step.PartStep.{PartStep}
 use Rattle.part_steps.specs.declared.part_step.PartStep.TheVariants as part
 use Rattle.mmu_core.specs.lines.AccessSteps.{access_note, access_part, access_task, pause_next, task_by, touch_of, stay_next}
@@ -46,11 +48,12 @@ use Rattle.mmu_core.specs.machine.View.{View, answer_in, put, words_after}
 use Rattle.mmu_core.proofs.machine.Columns.{upd_same, upd_other}
 use Rattle.mmu_laws.proofs.flat.FaultFlat.{fault_goes}
 use Rattle.mmu_laws.proofs.flat.FlatSteps.{Goes, Leaves, Ready, StepGoes, answers_by, part_leaves, part_refines, refined_slots, refines_stay}
-use Rattle.mmu_laws.proofs.flat.PageFound.{frame_of_leaf, leaf_allows, page_in_machine, page_is_behind, word_in_page}
+use Rattle.mmu_laws.proofs.flat.PageFound.{leaf_allows, page_in_machine, page_is_behind, word_in_page}
 use Rattle.mmu_core.proofs.machine.PartStepping.{IsPart}
 use Rattle.mmu_core.proofs.machine.Stepping.{IsStep}
 use Rattle.mmu_core.proofs.slots.LiveStays.{access_never, access_quiet, is_bring}
-use Rattle.mmu_core.proofs.lines.UsedTranslations.{lowest_frame, uses_allows}
+use Rattle.mmu_core.proofs.lines.UsedTranslations.{uses_allows}
+use Rattle.mmu_core.proofs.words.HostFrames.{leaf_maps}
 use Rattle.core_views.specs.declared.actor.Actor.{Actor}
 use Rattle.mmu_core.proofs.held.UsableSteps.{UsableAt}
 use Rattle.mmu_core.proofs.pages.FrameUses.{frames_apart}
@@ -119,13 +122,14 @@ touches : (z : Sizes) (v : View) (a : ℕ) (line : Line) (gfn word : ℕ) (op : 
     → Touches z (v.words area.Host) (v.hand a).state gfn word op facts
 touches z v a line gfn word op facts u S I P U K R =
     let s : State = (v.hand a).state in
-    let used = used_agrees z v a gfn (is_write op) U (vcpu_low z v a line gfn word op (Touch) S I) K.0.guest (I.cached a S.there) K.1 in
-    let F : IsLeafFor (v.words area.Pool) (v.words area.Host) (v.words area.Slots 0) gfn s.used.leaf = used.1 in
+    let used = used_agrees z v a gfn (is_write op) U (vcpu_low z v a line gfn word op (Touch) S I) K.0.guest K.1 in
+    let F : IsLeafFor (v.words area.Pool) (v.words area.Host) (v.words area.Slots 0) s.used.level gfn s.used.leaf = used in
     let page : ℕ = page_of F.slot gfn in
     let page_in : page < z.pages = page_in_machine z (v.words area.Slots 0) (v.words area.Role) (v.words area.Pool) F.id gfn F.slot I.set_part F.live F.holds in
-    let frame : frame_used gfn s ≡ host_frame (v.words area.Host page) = lowest_frame gfn s used.0 ∙ ap frame_in F.is
-    ∙ frame_of_leaf z (v.words area.Host) F.writes F.slot page I.sizes P.hosts page_in in
-    let allowed = leaf_allows op F.writes F.slot (v.words area.Host page) s.used.leaf F.is (uses_allows gfn (is_write op) (v.hand a) K.1) in
+    let frame : frame_used gfn s ≡ host_frame (v.words area.Host page) =
+    leaf_maps (v.words area.Pool) (v.words area.Host) (v.words area.Slots 0) s.used.level gfn s.used.leaf F in
+    let allowed = leaf_allows op s.used.level F.first F.writes F.slot (v.words area.Host page) s.used.leaf F.is
+    (uses_allows gfn (is_write op) (v.hand a) K.1) in
     record {
       page = page;
       page_in = page_in;
@@ -165,6 +169,7 @@ touch_goes z v a line gfn word op facts past u after t S R distinct T slots_is p
         page = T.page;
         behind = T.behind_is;
         value_is = R.refines.memory T.page word T.page_in T.word_in ∙ ap (v.words area.Content) (sym T.index);
+        goes = goes_on facts.migration R.runs;
       },
     ),
     tt,
@@ -182,6 +187,7 @@ touch_goes z v a line gfn word op facts past u after t S R distinct T slots_is p
         R.refines.memory
         (rw T.index at here) (rw T.index at there)));
     paused = R.refines.paused ∙ ap (λ (g : ℕ → ℕ). not (g 0 == 0)) (sym pause_is);
+    idle = R.refines.idle;
   };
   under = (R.under.0, refl);
 }
@@ -242,7 +248,7 @@ module _ (z : Sizes) (v : View) (a : ℕ) (line : Line) (gfn word : ℕ) (facts 
   reached_owes op frame value S I P U part_ K R =
       answers_by z v a line (Access gfn word op) (access_task (Leave (leaving.Reached frame value)) (v.hand a) gfn word op) facts past u
       (part_refines z v a part.Leave 1 facts part_ P refl refl R.refines) (Reached frame value) R.under.0
-      (subst (λ (stage : Stage). Tells z facts.slots (v.hand a).state.actor u.line.command stage (Reached frame value)) (sym R.under.1) refl)
+      (subst (λ (stage : Stage). Tells z facts (v.hand a).state.actor u.line.command stage (Reached frame value)) (sym R.under.1) refl)
 
   -- The line looks at the pause, which isn't set.
   looks_at_pause : (op : Op) (again : Bool) → IsPart z v a part.Pause → TopicsInvariant z v
@@ -254,7 +260,7 @@ module _ (z : Sizes) (v : View) (a : ℕ) (line : Line) (gfn word : ℕ) (facts 
     under = (
       R.under.0,
       pause_under (words_behind op (Pause again) area.Pool) gfn op (held_behind op (Pause again))
-          (record u { notes = record u.notes { paused = Some facts.paused } }) again
+          (record u { notes = record u.notes { paused = Some (is_paused facts.migration) } }) again
           (first_usable gfn (is_write op) (v.hand a).cached.items) (R.under.1, ap Some R.runs),
     );
   }

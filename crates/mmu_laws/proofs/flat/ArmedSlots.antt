@@ -64,9 +64,9 @@ covered_slot z v f id G L on =
       logged = A.logged;
       leaves = λ up spot T table entry gfn hangs over leaf allows.
           all_covered z v id gfn A ExcusesLeaf ForbidsTakenAt (λ h. allow_begins h gfn) (G.leaves up spot T table entry gfn hangs over leaf allows);
-      cached = λ k low may i d lt allows.
-          all_covered z v id _ A (ExcusesCached k (v.words area.State k)) (λ p command h. FlushesTakenAt p command h k (v.words area.State k))
-          (λ h. use_begins k (v.words area.State k) h _) (G.cached k low may i d lt allows);
+      cached = λ k low may i d lt allows gfn over.
+          all_covered z v id gfn A (ExcusesCached k (v.words area.State k)) (λ p command h. FlushesTakenAt p command h k (v.words area.State k))
+          (λ h. use_begins k (v.words area.State k) h gfn) (G.cached k low may i d lt allows gfn over);
     }
 
 pub armed_slots_are_covered : ArmedSlotsAreCovered

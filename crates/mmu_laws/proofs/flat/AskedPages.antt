@@ -7,7 +7,7 @@ use Rattle.std.proofs.Common.{◌≡◌, ◌⊎◌, inl, inr, ◌+◌, ◌-◌, 
 use Rattle.std.specs.Int.{bit_at}
 use Rattle.std.specs.Prelude.{List, [], ◌∷◌, ◌++◌, get_or, is_some, length, nat_le, nat_lt, if◌then◌else◌}
 use Rattle.core_views.specs.declared.trace.Command.{Command}
-use Rattle.core_views.specs.declared.trace.Command.TheVariants.{ClearLog, GetLog}
+use Rattle.core_views.specs.declared.trace.Command.TheVariants.{ClearLog, GetLog, Migrate}
 use Rattle.core_views.specs.declared.trace.Slot.{Slot}
 use Rattle.core_views.specs.LogCommands.{asks_for, count_asked, first_asked, has_bit, log_read, low_bits, mask_asked, word_given}
 use Rattle.core_views.specs.Slots.{contains}
@@ -36,6 +36,7 @@ low_has n bit within lt = by (nat_le 64 n)
 -- What the command says of a page, and the bit that it gives for it.
 given_has : (command : Command) (page : ℕ) → asks_for command (first_asked command + page) ≡ true → bit_at (word_given command (page / 64)) (page % 64) ≡ 1
 given_has (GetLog id) page is = bit_at_ones 64 (page % 64) (omega arith)
+given_has (Migrate call) page is = bit_at_ones 64 (page % 64) (omega arith)
 given_has (ClearLog id first count words) page is =
     let more = (and_parts (nat_le first (first + page)) _ is).1 in
     let bit = (and_parts (nat_lt (first + page) (first + count)) _ more).1 in
@@ -114,6 +115,11 @@ pub record IsAskedFrame (slot : Slot) (command : Command) (gfn : ℕ) : Type 0 w
 pub asked_frame : (slot : Slot) (command : Command) (gfn : ℕ) → contains gfn slot ≡ true → asks_for command (gfn - slot.base) ≡ true
     → IsAskedFrame slot command gfn
 asked_frame slot (GetLog id) gfn has is = record {
+  page = gfn - slot.base;
+  is = let from : slot.base ≤ gfn = grind (arith, nat_tests) in omega (arith, from);
+  asked = record { low = grind (arith, nat_tests); asked = refl };
+}
+asked_frame slot (Migrate call) gfn has is = record {
   page = gfn - slot.base;
   is = let from : slot.base ≤ gfn = grind (arith, nat_tests) in omega (arith, from);
   asked = record { low = grind (arith, nat_tests); asked = refl };

@@ -94,6 +94,7 @@ module _ (z : Sizes) (v : View) (a : ℕ) (line : Line) (gfn word : ℕ) (op : O
         host = lost_maps z (v.words area.Host) facts.host R.refines.host page looked (with_presence true looked) is;
         memory = same_memory R;
         paused = R.refines.paused;
+        idle = R.refines.idle;
       }) (place.Access (Fault lost)) (R.under.0, (R.under.1.0, tt))
 
   -- Where it is won, it brings the page in, which is as it looked at it.
@@ -107,6 +108,7 @@ module _ (z : Sizes) (v : View) (a : ℕ) (line : Line) (gfn word : ℕ) (op : O
           (ap brought_in now_ ∙ sym (words_tell true 0 looked).presence);
       memory = same_memory R;
       paused = R.refines.paused;
+      idle = R.refines.idle;
     };
     under = (R.under.0, (R.under.1.0, saw_look R.under.1.0.1 R.under.1.1));
   }

@@ -1,4 +1,5 @@
 -- What the steps of a fault owe flat memory.
+use Rattle.core_views.specs.Lawful.{may_look}
 use Rattle.std.proofs.Common.{◌≡◌, ◌+◌, ◌<◌, ℕ, [], refl, sym, subst, ap, ◌∙◌, arith}
 use Rattle.std.specs.Prelude.{Bool, true, false, ◌==◌, ◌&&◌, nat_lt, not, if◌then◌else◌, Some}
 use Rattle.core_views.specs.declared.place.FaultPlace.{FaultPlace}
@@ -208,7 +209,7 @@ module _ (z : Sizes) (v : View) (a : ℕ) (line : Line) (gfn word : ℕ) (op : O
   looks_at_host S R =
       let low : page_found < z.pages = subst (λ (y : Sizes). page_found < y.pages) S.sizes S.needs.0 in
       record {
-        allowed = (R.under.1.0.0, tt);
+        allowed = (ap may_look R.under.1.0.0, tt);
         refines = R.refines;
         under = (
           R.under.0,

@@ -18,6 +18,7 @@ use Rattle.core_views.specs.declared.trace.Line.{Line}
 use Rattle.core_views.specs.declared.trace.Op.{Op}
 use Rattle.core_views.specs.Actors.{changed_at, is_same}
 use Rattle.core_views.specs.Events.{after, after_all, under_after}
+use Rattle.core_views.specs.Migrations.{is_paused}
 use Rattle.core_views.specs.Flat.{Flat, LineUnderWay, Idle}
 use Rattle.core_views.specs.Held.{Held, State}
 use Rattle.core_views.specs.Lawful.{IsLawful}
@@ -157,7 +158,7 @@ meets_begun z v f a line command p S I P part K U C W R others = (
         (f.under (v.hand i).state.actor) (λ k held. line_held z v a command p P part i k i_in apart held) (others i i_in apart))
 
 -- Where the pause's word is 0 nothing is paused.
-not_paused : (z : Sizes) (v : View) (f : Flat) → FlatInvariant z v f → v.words area.Pause 0 ≡ 0 → f.facts.paused ≡ false
+not_paused : (z : Sizes) (v : View) (f : Flat) → FlatInvariant z v f → v.words area.Pause 0 ≡ 0 → is_paused f.facts.migration ≡ false
 not_paused z v f F no_pause = F.refines.paused ∙ ap (λ n. not (n == 0)) no_pause
 
 ready_first : (z : Sizes) (v : View) (f : Flat) (a : ℕ) (line : Line) (command : Command) (p : Place) → IsStep z v a line command p

@@ -99,6 +99,7 @@ start_flat z lines w start = record {
     host = λ p lt. sym (entry_at_start z lines w start p lt);
     memory = λ p j lt below. sym (word_at_start z w area.Content _ 0 start.words (λ l. refl) (λ e. refl));
     paused = ap (λ n. not (n == 0)) (sym (word_at_start z w area.Pause 0 0 start.words (λ l. refl) (λ e. refl)));
+    idle = refl;
   };
   under =
       λ i lt. subst (λ (h : Held). UnderIs z (word_in z w area.Pool) h.state.place h.state.line.command h (first_flat.under h.state.actor))

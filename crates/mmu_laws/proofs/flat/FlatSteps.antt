@@ -43,6 +43,7 @@ use Rattle.mmu_core.proofs.words.SlotLists.{flat_below}
 use Rattle.mmu_core.proofs.slots.SlotsStay.{memory_below_stay}
 use Rattle.core_views.specs.Flat.{Facts, Fresh, LineUnderWay}
 use Rattle.core_views.specs.Lawful.{MayLeave, Tells}
+use Rattle.core_views.specs.Migrations.{is_paused}
 use Rattle.core_views.specs.Past.{Past}
 use Rattle.mmu_core.specs.lines.HostSteps.{entry_of}
 use Rattle.mmu_core.proofs.words.HostStays.{host_stays}
@@ -50,7 +51,7 @@ use Rattle.spte_words.specs.HostWords.{host_frame}
 
 -- The line has begun and stands at this place; the facts are what the words say, and nothing is paused.
 pub record Ready (z : Sizes) (v : View) (line : Line) (command : Command) (p : Place) (t : Topics) (facts : Facts) (u : LineUnderWay) : Type 0 where
-  pub runs : facts.paused ≡ false
+  pub runs : is_paused facts.migration ≡ false
   pub refines : Refines z (v.words area.Slots 0) (v.words area.Pool) (v.words area.Host) (v.words area.Content) (v.words area.Pause 0) facts
   pub under : UnderAt z (v.words area.Pool) p line command t u
 
@@ -134,6 +135,7 @@ refines_stay z before after facts L R = record {
       ∙ (sym (L.content p j lt below)
       ∙ sym (ap (λ (g : ℕ → ℕ). after area.Content (content_index (map_of z) (host_frame (g p)) j)) L.host));
   paused = R.paused ∙ ap (λ (g : ℕ → ℕ). not (g 0 == 0)) (sym L.pause);
+  idle = R.idle;
 }
 
 -- ---- a step that does this task
@@ -169,7 +171,7 @@ module _ (z : Sizes) (v : View) (a : ℕ) (line : Line) (command : Command) (tas
   goes_by next under = record { allowed = tt; refines = R; under = under }
 
   -- The line is answered, where its stage allows this answer.
-  pub answers_by : (answer : Answer) → u.line ≡ line → Tells z facts.slots (v.hand a).state.actor u.line.command u.stage answer
+  pub answers_by : (answer : Answer) → u.line ≡ line → Tells z facts (v.hand a).state.actor u.line.command u.stage answer
       → GoesBy z v a line command task place.Between (Answered line.number answer ∷ []) facts past u
   answers_by answer own tells = record { allowed = ((ap (λ (l : Line). l.number) (sym own), tells), tt); refines = R; under = refl }
 

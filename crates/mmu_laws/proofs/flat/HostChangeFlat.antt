@@ -115,6 +115,7 @@ module _ (z : Sizes) (v : View) (a : ℕ) (line : Line) (page : ℕ) (change : H
         (won_maps z (v.words area.Host) facts.host R.refines.host at_page looked put (entry_of put) won refl p lt);
     memory = same_memory K M C R;
     paused = R.refines.paused;
+    idle = R.refines.idle;
   }
 
   -- What its actor has looked up then: the word that it has put, or the one that it has found.
@@ -160,6 +161,7 @@ module _ (z : Sizes) (v : View) (a : ℕ) (line : Line) (page : ℕ) (change : H
         host = lost_maps z (v.words area.Host) facts.host R.refines.host at_page looked put lost;
         memory = same_memory K M C R;
         paused = R.refines.paused;
+        idle = R.refines.idle;
       }) (place.Host Change) (
         R.under.0,
         (

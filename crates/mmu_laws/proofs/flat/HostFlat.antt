@@ -1,4 +1,5 @@
 -- What the steps of a host line owe flat memory.
+use Rattle.core_views.specs.Lawful.{may_look}
 use Rattle.std.proofs.Common.{◌≡◌, ℕ, [], ◌∷◌, ◌++◌, Bool, true, false, refl, sym, subst, ap, ◌∙◌, eqb-true}
 use Rattle.std.specs.Prelude.{◌+◌, ◌==◌, if◌then◌else◌, nat_lt}
 use Rattle.core_views.specs.declared.answer.Answer.{Answer}
@@ -116,7 +117,7 @@ module _ (z : Sizes) (v : View) (a : ℕ) (line : Line) (page : ℕ) (change : H
       → GoesBy z v a line command (task (Look moving)) (place_after (after_look moving own))
       ((if own then LookedAtHost page ∷ [] else []) ++ answering (after_look moving own) line) facts past u
   look_goes moving true is S I R stands looked = record {
-    allowed = (R.under.1, tt);
+    allowed = (ap may_look R.under.1, tt);
     refines = stands;
     under = (
       R.under.0,
@@ -133,7 +134,7 @@ module _ (z : Sizes) (v : View) (a : ℕ) (line : Line) (page : ℕ) (change : H
   }
   look_goes moving false is S I R stands looked =
       answers_by z v a line command (task (Look moving)) facts past u stands (Refused OutOfRange) R.under.0
-      (subst (λ s. Tells z facts.slots h.state.actor u.line.command s (Refused OutOfRange)) (sym R.under.1)
+      (subst (λ s. Tells z facts h.state.actor u.line.command s (Refused OutOfRange)) (sym R.under.1)
       (host_at_once z v a line page change facts past u (Look moving) false S I R.under.0 is))
 
   -- What it holds after it has looked at its page.
@@ -170,7 +171,7 @@ module _ (z : Sizes) (v : View) (a : ℕ) (line : Line) (page : ℕ) (change : H
       → GoesBy z v a line command (task p) place.Between (answering (Ends answer) line) facts past u
   answered p answer S P M R other stage is =
       answers_by z v a line command (task p) facts past u (host_still z v a line page change facts past u p other M P R) answer R.under.0
-      (subst (λ s. Tells z facts.slots h.state.actor u.line.command s answer) (sym stage)
+      (subst (λ s. Tells z facts h.state.actor u.line.command s answer) (sym stage)
       (sym (ap (λ (c : Command). host_answer c (entry_of (word_looked h.topics.host))) (own_command p S R.under.0) ∙ is)))
 
   end_goes : (p : EndPlace) (next : EndNext) → HostKnows (End p) page change h → IsStep z v a line command (place.Host (End p)) → TopicsInvariant z v

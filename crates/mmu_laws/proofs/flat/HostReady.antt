@@ -80,9 +80,9 @@ module _ (z : Sizes) (v : View) (a : ℕ) (line : Line) (page : ℕ) (change : H
 
   -- What the line is answered at once, by whether the page is its actor's own.
   pub host_at_once : (p : HostPlace) (own : Bool) → IsStep z v a line (ChangeHost page change) (place.Host p) → Invariant z v → u.line ≡ line
-      → is_own h.state.sizes h.state.actor page ≡ own → answer_at_once z facts.slots h.state.actor u.line.command ≡ owned_answer own
+      → is_own h.state.sizes h.state.actor page ≡ own → answer_at_once z facts.slots facts.migration h.state.actor u.line.command ≡ owned_answer own
   host_at_once p own S I under is =
-      ap (answer_at_once z facts.slots h.state.actor) (ap (λ (l : Line). l.command) under ∙ S.command_is)
+      ap (answer_at_once z facts.slots facts.migration h.state.actor) (ap (λ (l : Line). l.command) under ∙ S.command_is)
       ∙ ap owned_answer (ap (λ (y : Sizes). is_own y h.state.actor page) (sym (I.lines a S.there).sizes) ∙ is)
 
   -- Its page is one of the machine's.

@@ -18,6 +18,7 @@ use Rattle.core_views.specs.Harvests.{IsHarvest, slot_read}
 use Rattle.core_views.specs.Held.{Held}
 use Rattle.core_views.specs.Lawful.{answer_at_once}
 use Rattle.core_views.specs.LogCommands.{bits_for, count_asked, first_asked, log_read, read_refusal, words_asked}
+use Rattle.core_views.specs.declared.migration.Migration.TheVariants.{Unstarted}
 use Rattle.core_views.specs.Past.{Past}
 use Rattle.core_views.specs.SlotSets.{MemorySlots}
 use Rattle.mmu_core.specs.lines.LogKnows.{AreAsked, Reads}
@@ -42,7 +43,7 @@ ReadsWell _ actor command h x f past = Unit {0}
 
 -- A line that reads a log is refused at once, or has something to do.
 pub reads_at_once : (z : Sizes) (slots : MemorySlots) (actor : Actor) (command : Command) → is_some (log_read command) ≡ true
-    → answer_at_once z slots actor command ≡ option_map (λ refusal. Refused refusal) (read_refusal command slots)
+    → answer_at_once z slots Unstarted actor command ≡ option_map (λ refusal. Refused refusal) (read_refusal command slots)
 reads_at_once z slots actor (GetLog id) reads = refl
 reads_at_once z slots actor (ClearLog id first count words) reads = refl
 reads_at_once z slots actor _ reads = absurd (cc reads)

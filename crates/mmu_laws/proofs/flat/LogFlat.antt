@@ -1,12 +1,14 @@
 -- What the steps of a line owe flat memory that reads a dirty log: it begins to read, and what it has read in the end it may read.
-use Rattle.std.proofs.Common.{◌≡◌, ◌+◌, ℕ, List, [], ◌∷◌, ◌++◌, refl, sym, subst, ap, ◌∙◌, length}
+use Rattle.core_views.specs.Events.{facts_after, logs_left, stage_read, stage_taken}
+use Rattle.mmu_laws.proofs.flat.Told.{line_behind}
+use Rattle.std.proofs.Common.{◌≡◌, inl, ◌+◌, ℕ, List, [], ◌∷◌, ◌++◌, refl, sym, subst, ap, ◌∙◌, length}
 use Rattle.std.specs.Option.{option_map}
 use Rattle.std.specs.Prelude.{Bool, true, false, ◌==◌, ◌||◌, not, nat_lt, if◌then◌else◌, Option, Some, None}
 use Rattle.core_views.specs.declared.actor.Actor.TheVariants.{Manager}
 use Rattle.core_views.specs.declared.answer.Answer.TheVariants.{Bits, Refused}
 use Rattle.core_views.specs.declared.answer.Refusal.{Refusal}
 use Rattle.core_views.specs.declared.event.EventKind.{EventKind}
-use Rattle.core_views.specs.declared.event.EventKind.TheVariants.{Answered, Shown, Taken}
+use Rattle.core_views.specs.declared.event.EventKind.TheVariants.{Answered, Harvested, Shown, Taken}
 use Rattle.core_views.specs.declared.place.LogPlace.{LogPlace}
 use Rattle.core_views.specs.declared.place.LogPlace.TheVariants.{AtOnce, Exclude, Take, Root, Walk, Protect, Release, Ask, Await, Peek}
 use Rattle.core_views.specs.declared.place.Place.{Place}
@@ -16,6 +18,8 @@ use Rattle.core_views.specs.declared.trace.Command.{Command}
 use Rattle.core_views.specs.declared.trace.Line.{Line}
 use Rattle.core_views.specs.declared.trace.Slot.{Slot}
 use Rattle.core_views.specs.Events.{past_after}
+use Rattle.core_views.specs.declared.migration.Migration.{Migration}
+use Rattle.core_views.specs.declared.migration.Migration.TheVariants.{Unstarted}
 use Rattle.core_views.specs.Flat.{Facts, Fresh, HasTaken, LineUnderWay, Stage}
 use Rattle.core_views.specs.Harvests.{IsHarvest, MayRead, slot_read}
 use Rattle.core_views.specs.Held.{Held}
@@ -93,9 +97,11 @@ module _ (z : Sizes) (v : View) (a : ℕ) (line : Line) (command : Command) (fac
   said p M = ap (λ (l : Line). l.command) M.ready.under.0 ∙ M.step.command_is
 
   at_once : (p : LogPlace) → Makes p → (r : Option Refusal) → read_refusal command h.slots ≡ r
-      → answer_at_once z facts.slots h.state.actor u.line.command ≡ option_map (λ refusal. Refused refusal) r
+      → answer_at_once z facts.slots facts.migration h.state.actor u.line.command ≡ option_map (λ refusal. Refused refusal) r
   at_once p M r is =
-      ap (answer_at_once z facts.slots h.state.actor) (said p M) ∙ ap (λ (slots : MemorySlots). answer_at_once z slots h.state.actor command) (same_slots p M)
+      ap (answer_at_once z facts.slots facts.migration h.state.actor) (said p M)
+      ∙ ap (λ (slots : MemorySlots). answer_at_once z slots facts.migration h.state.actor command) (same_slots p M)
+      ∙ ap (λ (m : Migration). answer_at_once z h.slots m h.state.actor command) M.ready.refines.idle
       ∙ reads_at_once z h.slots h.state.actor command (log_knows_reads p command h M.knows) ∙ ap (option_map (λ refusal. Refused refusal)) is
 
   still : (p : LogPlace) → Makes p → RefinesBy z v (task p) facts
@@ -125,13 +131,20 @@ module _ (z : Sizes) (v : View) (a : ℕ) (line : Line) (command : Command) (fac
     harvest = subst (λ c. IsHarvest facts after c id frames) (sym (said p M)) harvest;
   }
 
+  -- the line under way once it has begun to read the log of the slot
+  abbrev begun_by : ℕ → LineUnderWay
+  begun_by id = line_behind (Taken id ∷ []) facts u
+
+  begun_stage : (p : LogPlace) → Makes p → (id : ℕ) → log_read command ≡ Some id → (begun_by id).stage ≡ HasTaken id
+  begun_stage p M id reads = ap (λ o. stage_taken o (logs_left facts.slots u.line.command u.stage) id) (ap log_read (said p M) ∙ reads)
+
   -- ---- the steps that tell something
 
   refused : (refusal : Refusal) → Makes (AtOnce refusal)
       → StepGoes z v a line command (place.Log (AtOnce refusal)) facts past u
   refused refusal M =
       answers_by z v a line command (task (AtOnce refusal)) facts past u (still (AtOnce refusal) M) (Refused refusal) M.ready.under.0
-      (subst (λ stage. Tells z facts.slots h.state.actor u.line.command stage (Refused refusal)) (sym M.ready.under.1)
+      (subst (λ stage. Tells z facts h.state.actor u.line.command stage (Refused refusal)) (sym M.ready.under.1)
       (at_once (AtOnce refusal) M (Some refusal) M.knows.2))
 
   exclude_goes : Makes Exclude → StepGoes z v a line command (place.Log Exclude) facts past u
@@ -145,12 +158,12 @@ module _ (z : Sizes) (v : View) (a : ℕ) (line : Line) (command : Command) (fac
 
       begins : (b : Bool) → GoesBy z v a line command (task Exclude) (place.Log (if b then Take false else Root)) (Taken reads.0 ∷ []) facts past u
       begins b = record {
-        allowed = ((M.ready.under.1, at_once Exclude M None M.knows.1.0.accepted, ap log_read (said Exclude M) ∙ reads.1), tt);
+        allowed = (inl (M.ready.under.1, at_once Exclude M None M.knows.1.0.accepted, ap log_read (said Exclude M) ∙ reads.1), tt);
         refines = still Exclude M;
         under = (
           M.ready.under.0,
-          either_place (λ q. LogUnder q command (record u { stage = HasTaken reads.0 })) b (Take false) Root (reads.0, refl, reads.1)
-              (reads.0, refl, reads.1),
+          either_place (λ q. LogUnder q command (begun_by reads.0)) b (Take false) Root
+              (reads.0, begun_stage Exclude M reads.0 reads.1, reads.1) (reads.0, begun_stage Exclude M reads.0 reads.1, reads.1),
         );
       }
 
@@ -168,6 +181,10 @@ module _ (z : Sizes) (v : View) (a : ℕ) (line : Line) (command : Command) (fac
       to : Bool → Outcome
       to waits = after_log (if waits then comes.Goes Await else comes.Reads) h.harvest
 
+      -- the facts once they are read
+      read_facts : ℕ → Facts
+      read_facts id = facts_after (Harvested id frames) facts
+
       words : bits_for u.line.command (slot_read facts.slots u.line.command) frames ≡ h.harvest
       words = told_words Await h.harvest M M.knows.2.0 M.knows.3.read M.knows.3.asked
 
@@ -176,11 +193,18 @@ module _ (z : Sizes) (v : View) (a : ℕ) (line : Line) (command : Command) (fac
       by false =
           subst (λ o. Goes Await place.Between (harvested o frames ++ answering (after_log comes.Reads h.harvest) line)) (sym M.ready.under.1.2) (record {
             allowed = (
-              may_read Await u.stage past M.ready.under.1.0 frames true M M.ready.under.1.1 M.ready.under.1.2 M.knows.2.1
-                  (well M.ready.under.1.0 M.ready.under.1.2),
-              ((ap (λ (l : Line). l.number) (sym M.ready.under.0), ap Bits (sym words)), tt),
+              inl (may_read Await u.stage past M.ready.under.1.0 frames true M M.ready.under.1.1 M.ready.under.1.2 M.knows.2.1
+                  (well M.ready.under.1.0 M.ready.under.1.2)),
+              (
+                (
+                  ap (λ (l : Line). l.number) (sym M.ready.under.0),
+                  subst (λ stage. Tells z (read_facts M.ready.under.1.0) h.state.actor u.line.command
+                      (stage_read stage frames (read_facts M.ready.under.1.0)) (Bits h.harvest)) (sym M.ready.under.1.1) (ap Bits (sym words)),
+                ),
+                tt,
+              ),
             );
-            refines = let R = still Await M in record { slots = R.slots; host = R.host; memory = R.memory; paused = R.paused };
+            refines = let R = still Await M in record { slots = R.slots; host = R.host; memory = R.memory; paused = R.paused; idle = R.idle };
             under = refl;
           })
 
@@ -246,17 +270,17 @@ module _ (z : Sizes) (v : View) (a : ℕ) (line : Line) (command : Command) (fac
           ++ answering (after_log (if last then comes.Reads else comes.Goes (Peek true)) words) line)
       by false more =
           subst (λ o. Goes (Peek false) (place.Log (Peek true)) ((taken o ++ []) ++ [])) (sym reads.1) (record {
-            allowed = (begins, tt);
+            allowed = (inl begins, tt);
             refines = still (Peek false) M;
-            under = (M.ready.under.0, (reads.0, refl, reads.1));
+            under = (M.ready.under.0, (reads.0, begun_stage (Peek false) M reads.0 reads.1, reads.1));
           })
       by true last =
           let R = all_read false M last in
           subst (λ o. Goes (Peek false) place.Between ((taken o ++ shown o frames) ++ answering (after_log comes.Reads words) line)) (sym reads.1) (record {
             allowed = (
-              begins,
-              shown_allowed (Peek false) (HasTaken reads.0) (past_after h.state.actor (Taken reads.0) facts past) reads.0 words M refl reads.1 M.knows.1
-                  M.knows.2 R.read R.asked (well reads.0 reads.1 last),
+              inl begins,
+              shown_allowed (Peek false) (begun_by reads.0).stage (past_after h.state.actor (Taken reads.0) facts past) reads.0 words M
+                  (begun_stage (Peek false) M reads.0 reads.1) reads.1 M.knows.1 M.knows.2 R.read R.asked (well reads.0 reads.1 last),
             );
             refines = still (Peek false) M;
             under = refl;

@@ -11,13 +11,13 @@ use Rattle.core_views.specs.declared.trace.Slot.{Slot}
 use Rattle.core_views.specs.Sizes.{AreSizes}
 use Rattle.core_views.specs.Slots.{Slots, contains, is_write, page_behind, page_in, slot_of}
 use Rattle.core_views.specs.Traces.{IsCommandFor}
-use Rattle.spte_words.specs.Entries.{can_write, frame_in}
+use Rattle.spte_words.specs.Entries.{can_write}
 use Rattle.spte_words.specs.HostWords.{host_allows_write, host_frame}
-use Rattle.spte_words.proofs.ReadsEntries.{leaf_can_write, leaf_frame}
+use Rattle.spte_words.proofs.ReadsEntries.{leaf_can_write}
 use Rattle.mmu_core.specs.lines.FaultSteps.{allows_access}
 use Rattle.mmu_core.specs.invariant.Invariant.{IsLiveIn, SlotSetPart}
 use Rattle.mmu_core.specs.invariant.HostWordsPart.{HostWordsPart}
-use Rattle.part_steps.specs.SlotWords.{leaf_of, may_write, page_of, slot_at, slots_below}
+use Rattle.part_steps.specs.SlotWords.{leaf_at, may_write, page_of, slot_at, slots_below}
 use Rattle.mmu_core.proofs.words.SlotLists.{only_one_holds, page_allowed}
 
 pub contains_bounds : (gfn : ℕ) (slot : Slot) → contains gfn slot ≡ true → (slot.base ≤ gfn) × (gfn < slot.base + slot.pages)
@@ -43,12 +43,6 @@ page_in_machine z set role pool id gfn slot P L holds =
 pub frame_small : (z : Sizes) (host : ℕ → ℕ) (page : ℕ) → AreSizes z → HostWordsPart z host → page < z.pages → host_frame (host page) < 2 ^ 40
 frame_small z host page sizes P lt = omega (arith, (P page lt).1, sizes.frames.1)
 
-pub frame_of_leaf : (z : Sizes) (host : ℕ → ℕ) (writes : Bool) (slot : Slot) (page : ℕ) → AreSizes z → HostWordsPart z host → page < z.pages
-    → frame_in (leaf_of writes slot (host page)) ≡ host_frame (host page)
-frame_of_leaf z host writes slot page sizes P lt =
-    leaf_frame 1 (host_frame (host page)) (writes && may_write slot (host page)) (host_allows_write (host page)) (may_write slot (host page))
-    (frame_small z host page sizes P lt)
-
 -- A leaf that allows the access is of a slot that allows it, and of a host word that does.
 not_denied : (write writes host read_only : Bool) → (not write || (writes && (host && not read_only))) ≡ true
     → ((write && read_only) ≡ false) × ((write && not host) ≡ false)
@@ -58,12 +52,13 @@ not_denied true true false read_only e = absurd (cc e)
 not_denied true false host read_only e = absurd (cc e)
 not_denied false writes host read_only e = (refl, refl)
 
-pub leaf_allows : (op : Op) (writes : Bool) (slot : Slot) (host leaf : ℕ) → leaf ≡ leaf_of writes slot host → allows_access (is_write op) leaf ≡ true
+pub leaf_allows : (op : Op) (level first : ℕ) (writes : Bool) (slot : Slot) (host leaf : ℕ) → leaf ≡ leaf_at level first writes slot host
+    → allows_access (is_write op) leaf ≡ true
     → ((is_write op && slot.read_only) ≡ false) × ((is_write op && not (host_allows_write host)) ≡ false)
-leaf_allows op writes slot host leaf is allows =
+leaf_allows op level first writes slot host leaf is allows =
     not_denied (is_write op) writes (host_allows_write host) slot.read_only
     (subst (λ b. (not (is_write op) || b) ≡ true)
-    (ap can_write is ∙ leaf_can_write 1 (host_frame host) (writes && may_write slot host) (host_allows_write host) (may_write slot host)) allows)
+    (ap can_write is ∙ leaf_can_write level first (writes && may_write slot host) (host_allows_write host) (may_write slot host)) allows)
 
 -- The slots give the guest frame the page that was found.
 pub page_is_behind : (z : Sizes) (set : ℕ) (role pool : ℕ → ℕ) (id gfn : ℕ) (slot : Slot) (op : Op) (now_ : Slots) → SlotSetPart z set role pool

@@ -1,7 +1,8 @@
 -- A line begins to read a dirty log: what must not be left out is marked then, in the words that are to come.
-use Rattle.std.proofs.Common.{◌≡◌, ◌≢◌, ◌⊎◌, inl, inr, ◌<◌, [], ◌∷◌, ℕ, refl, sym, subst}
+use Rattle.core_views.specs.Migrations.{is_stopped}
+use Rattle.std.proofs.Common.{ap, ◌∙◌, ◌≡◌, ◌≢◌, ◌⊎◌, inl, inr, ◌<◌, [], ◌∷◌, ℕ, refl, sym, subst}
 use Rattle.std.proofs.lemmas.Bool.{and_parts, not-true}
-use Rattle.std.specs.Prelude.{Bool, true, false, not, Some}
+use Rattle.std.specs.Prelude.{◌||◌, Bool, true, false, not, Some}
 use Rattle.core_views.specs.declared.actor.Actor.{Actor}
 use Rattle.core_views.specs.declared.actor.Actor.TheVariants.{Manager}
 use Rattle.core_views.specs.declared.event.EventKind.TheVariants.{Begun, Taken}
@@ -124,12 +125,13 @@ module _ (z : Sizes) (v : View) (a : ℕ) (command : Command) (I : Invariant z v
       by (inr (j, lt, taken)) =
           absurd (none_taken gfn (subst (λ k. IsTaken (v.hand k) gfn) (taken_is z v a j gfn I there manager lt taken) taken))
 
-  pub begins_reading : (actor : Actor) (id : ℕ) (out : Bool)
+  pub begins_reading : (actor : Actor) (id : ℕ) (out : Bool) → is_stopped g.facts.migration ≡ false
       → HasReadTo log slot command out [] (first_word slot command) (past_after actor (Taken id) g.facts g.past)
-  begins_reading actor id out = record {
+  begins_reading actor id out goes = record {
     due = λ gfn has asks due.
-        let parts = and_parts (g.facts.pending gfn) (not (is_being_written g.past.writes gfn)) due in
-        inr (due_is_marked gfn has parts.0 (not-true (is_being_written g.past.writes gfn) parts.1), asked_from slot command R.whole gfn has asks);
+        let parts = and_parts (g.facts.pending gfn) (is_stopped g.facts.migration || not (is_being_written g.past.writes gfn)) due in
+        let unwritten = ap (λ (b : Bool). b || not (is_being_written g.past.writes gfn)) (sym goes) ∙ parts.1 in
+        inr (due_is_marked gfn has parts.0 (not-true (is_being_written g.past.writes gfn) unwritten), asked_from slot command R.whole gfn has asks);
     caused = λ gfn read. absurd (none_read slot command gfn read);
     recent = λ takes gfn read marked. absurd (none_read slot command gfn read);
   }

@@ -1,4 +1,5 @@
 -- What a line that reads a dirty log has read after each of its steps; and what it has read in the end it may read.
+use Rattle.core_views.specs.Migrations.{is_stopped}
 use Rattle.std.proofs.Common.{◌≡◌, ◌≤◌, ◌+◌, ◌++◌, List, [], ◌∷◌, ℕ, arith, refl, sym, ap, ◌∙◌}
 use Rattle.std.proofs.lemmas.Bool.Decides.{nat_tests}
 use Rattle.std.proofs.lemmas.Option.{same_Some}
@@ -110,6 +111,7 @@ module _ (z : Sizes) (v : View) (f : Flat) (a : ℕ) (line : Line) (command : Co
       (λ gfn T. let is = (taken_here z v a line command (place.Log p) S gfn T).0 in cc (none, is)) (named p S K) begun
       (begun_logs z v h.state.actor h.state.place line f ready.logs)
       (are_written z v a line command (place.Log p) f S ready.holds ready.covered ready.flat ready.lines) h.state.actor (named p S K).id out
+      (ap (λ (facts : Facts). is_stopped facts.migration) (begun_facts h.state.actor h.state.place line f) ∙ ap is_stopped ready.flat.refines.idle)
 
   -- Of the words that it has read by loads the next one is read.
   peeks : (begun_ : Bool) (S : IsMade (Peek begun_)) (g : Flat) → FlatLogs z v g

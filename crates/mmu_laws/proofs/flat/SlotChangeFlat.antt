@@ -11,9 +11,11 @@ use Rattle.core_views.specs.declared.place.SlotChangePlace.TheVariants.{Release,
 use Rattle.core_views.specs.declared.place.BeginPlace.TheVariants as begins
 use Rattle.core_views.specs.declared.place.EndPlace.TheVariants as ends
 use Rattle.core_views.specs.declared.sizes.Sizes.{Sizes}
-use Rattle.core_views.specs.declared.trace.Command.TheVariants.{Access, ChangeHost, ClearLog, DeleteSlot, GetLog, SetLog, SetSlot}
+use Rattle.core_views.specs.declared.trace.Command.TheVariants.{Access, ChangeHost, ClearLog, DeleteSlot, GetLog, Migrate, SetLog, SetSlot}
 use Rattle.core_views.specs.declared.trace.Line.{Line}
 use Rattle.core_views.specs.declared.trace.Command.{Command}
+use Rattle.core_views.specs.declared.migration.Migration.{Migration}
+use Rattle.core_views.specs.declared.migration.Migration.TheVariants.{Unstarted}
 use Rattle.core_views.specs.Flat.{Facts, LineUnderWay, Notes}
 use Rattle.core_views.specs.Flat as stage
 use Rattle.core_views.specs.declared.slot_set.MemorySlot.{MemorySlot}
@@ -86,11 +88,12 @@ module _ (z : Sizes) (v : View) (a : ℕ) (line : Line) (command : Command) (fac
 
   at_once : (p : SlotChangePlace) (answer : Option (Option Refusal)) → changes_slot command ≡ true
       → IsStep z v a line command (place.SlotChange p) → Invariant z v → ReadyAt p → change_at_once z command (v.hand a).slots ≡ answer
-      → answer_at_once z facts.slots (v.hand a).state.actor u.line.command ≡ option_map refused_or_done answer
+      → answer_at_once z facts.slots facts.migration (v.hand a).state.actor u.line.command ≡ option_map refused_or_done answer
   at_once p answer changes S I R is =
-      ap (answer_at_once z facts.slots (v.hand a).state.actor) (ap (λ (l : Line). l.command) R.under.0 ∙ S.command_is)
-      ∙ ap (λ (slots : MemorySlots). answer_at_once z slots (v.hand a).state.actor command) (same_record p S I R)
-      ∙ answered_by_slots z (v.hand a).slots (v.hand a).state.actor command changes
+      ap (answer_at_once z facts.slots facts.migration (v.hand a).state.actor) (ap (λ (l : Line). l.command) R.under.0 ∙ S.command_is)
+      ∙ ap (λ (slots : MemorySlots). answer_at_once z slots facts.migration (v.hand a).state.actor command) (same_record p S I R)
+      ∙ ap (λ (m : Migration). answer_at_once z (v.hand a).slots m (v.hand a).state.actor command) R.refines.idle
+      ∙ answered_by_slots z (v.hand a).slots Unstarted (v.hand a).state.actor command changes
       ∙ ap (option_map refused_or_done) is
 
   -- After a step that publishes nothing the words stand for the same facts.
@@ -110,6 +113,7 @@ module _ (z : Sizes) (v : View) (a : ℕ) (line : Line) (command : Command) (fac
   gives_up (Access gfn word op) notes is works = absurd (cc is)
   gives_up (ChangeHost page change) notes is works = absurd (cc is)
   gives_up (GetLog id) notes is works = absurd (cc is)
+  gives_up (Migrate call) notes is works = absurd (cc is)
   gives_up (ClearLog id first count words) notes is works = absurd (cc is)
   gives_up (SetSlot id slot) notes is works = works
   gives_up (DeleteSlot id) notes is works = works
@@ -136,7 +140,7 @@ module _ (z : Sizes) (v : View) (a : ℕ) (line : Line) (command : Command) (fac
   change_told None some is fresh works refines own said all mode = absurd (cc some)
   change_told (Some (id, slot)) some is fresh works refines own said false mode = record {
     allowed = ((fresh, works, is), tt);
-    refines = record { slots = refines.slots; host = refines.host; memory = refines.memory; paused = refines.paused };
+    refines = record { slots = refines.slots; host = refines.host; memory = refines.memory; paused = refines.paused; idle = refines.idle };
     under = (own, ap (λ (b : Bool). if b && arms command then stage.HasArmed else stage.HasChanged) mode);
   }
   change_told (Some (id, slot)) some is fresh works refines own said true mode = by command refl
@@ -147,7 +151,7 @@ module _ (z : Sizes) (v : View) (a : ℕ) (line : Line) (command : Command) (fac
           subst (λ es. GoesBy z v a line command (task Publish) (place.SlotChange Release) (changed (Some (id, slot)) ++ (es ++ [])) facts past u)
           (sym none) (record {
             allowed = ((fresh, works, is), tt);
-            refines = record { slots = refines.slots; host = refines.host; memory = refines.memory; paused = refines.paused };
+            refines = record { slots = refines.slots; host = refines.host; memory = refines.memory; paused = refines.paused; idle = refines.idle };
             under = (own, stage_is (ap arms is_ ∙ unarmed) (is_all_set z.mode));
           })
         where
@@ -162,7 +166,7 @@ module _ (z : Sizes) (v : View) (a : ℕ) (line : Line) (command : Command) (fac
           → GoesBy z v a line command (task Publish) (place.SlotChange Release) (changed (Some (id, slot)) ++ (armed true c ++ [])) facts past u
       by (SetLog at true) is_ = record {
         allowed = ((fresh, works, is), ((refl, ap (λ (l : Line). l.command) own ∙ said ∙ is_, mode), tt));
-        refines = record { slots = refines.slots; host = refines.host; memory = refines.memory; paused = refines.paused };
+        refines = record { slots = refines.slots; host = refines.host; memory = refines.memory; paused = refines.paused; idle = refines.idle };
         under = (
           own,
           ap (λ c. if arms c then stage.HasArmed else stage.HasChanged) (sym is_)
@@ -175,6 +179,7 @@ module _ (z : Sizes) (v : View) (a : ℕ) (line : Line) (command : Command) (fac
       by (SetSlot at new_) is_ = no_log (SetSlot at new_) is_ refl refl
       by (DeleteSlot at) is_ = no_log (DeleteSlot at) is_ refl refl
       by (GetLog at) is_ = no_log (GetLog at) is_ refl refl
+      by (Migrate call) is_ = no_log (Migrate call) is_ refl refl
       by (ClearLog at first count words) is_ = no_log (ClearLog at first count words) is_ refl refl
 
   publish_goes : changes_slot command ≡ true → IsStep z v a line command (place.SlotChange Publish) → Invariant z v → ReadyAt Publish → GoesAt Publish
@@ -187,6 +192,7 @@ module _ (z : Sizes) (v : View) (a : ℕ) (line : Line) (command : Command) (fac
         host = R.refines.host;
         memory = R.refines.memory;
         paused = R.refines.paused;
+        idle = R.refines.idle;
       })
       R.under.0 S.command_is (is_all_set (v.hand a).state.sizes.mode) (ap (λ (y : Sizes). is_all_set y.mode) (I.lines a S.there).sizes)
 
@@ -233,7 +239,7 @@ module _ (z : Sizes) (v : View) (a : ℕ) (line : Line) (command : Command) (fac
           → GoesBy z v a line command (task (WriteProtect range p)) (place.SlotChange Clear) (armed false c ++ []) facts past u
       by (SetLog at true) is on = record {
         allowed = ((R.under.1, ap (λ (l : Line). l.command) R.under.0 ∙ said ∙ is, sym none), tt);
-        refines = record { slots = stays.slots; host = stays.host; memory = stays.memory; paused = stays.paused };
+        refines = record { slots = stays.slots; host = stays.host; memory = stays.memory; paused = stays.paused; idle = stays.idle };
         under = (R.under.0, ap (λ (b : Bool). if b then stage.HasArmed else stage.HasChanged) (sym arms_));
       }
       by (SetLog at false) is on = absurd (cc on)
@@ -242,24 +248,25 @@ module _ (z : Sizes) (v : View) (a : ℕ) (line : Line) (command : Command) (fac
       by (SetSlot at new_) is on = absurd (cc on)
       by (DeleteSlot at) is on = absurd (cc on)
       by (GetLog at) is on = absurd (cc on)
+      by (Migrate call) is on = absurd (cc on)
       by (ClearLog at first count words) is on = absurd (cc on)
 
   -- Its answer is as its stage says.
-  done_told : (s : Stage) → s ≡ changed_stage true command → u.line.command ≡ command → Tells z facts.slots (v.hand a).state.actor u.line.command s Done
+  done_told : (s : Stage) → s ≡ changed_stage true command → u.line.command ≡ command → Tells z facts (v.hand a).state.actor u.line.command s Done
   done_told s is said = by (arms command) refl
     where
-      by : (b : Bool) → arms command ≡ b → Tells z facts.slots (v.hand a).state.actor u.line.command s Done
-      by true on = subst (λ x. Tells z facts.slots (v.hand a).state.actor u.line.command x Done)
+      by : (b : Bool) → arms command ≡ b → Tells z facts (v.hand a).state.actor u.line.command s Done
+      by true on = subst (λ x. Tells z facts (v.hand a).state.actor u.line.command x Done)
           (sym (is ∙ ap (λ (b : Bool). if b then stage.HasArmed else stage.HasChanged) on)) refl
       by false off =
-          subst (λ x. Tells z facts.slots (v.hand a).state.actor u.line.command x Done)
+          subst (λ x. Tells z facts (v.hand a).state.actor u.line.command x Done)
           (sym (is ∙ ap (λ (b : Bool). if b then stage.HasArmed else stage.HasChanged) off)) (refl, ap arms said ∙ off)
 
   pub slot_change_goes : (p : SlotChangePlace) → changes_slot command ≡ true → IsStep z v a line command (place.SlotChange p) → Invariant z v
       → TopicsInvariant z v → MakesAt p → ReadyAt p → GoesAt p
   slot_change_goes (AtOnce refusal) changes S I P M R =
       answers_by z v a line command (task (AtOnce refusal)) facts past u (still (AtOnce refusal) refl M P R) (refused_or_done refusal) R.under.0
-      (subst (λ s. Tells z facts.slots (v.hand a).state.actor u.line.command s (refused_or_done refusal)) (sym R.under.1)
+      (subst (λ s. Tells z facts (v.hand a).state.actor u.line.command s (refused_or_done refusal)) (sym R.under.1)
       (at_once (AtOnce refusal) (Some refusal) changes S I R S.holds))
   slot_change_goes (Claim begun) changes S I P M R =
       claim_goes begun (claim_next Pages begun (v.hand a).state.sizes (v.hand a).topics.claim (answer_in (task (Claim begun)) v.words))

@@ -36,14 +36,15 @@ use Rattle.mmu_core.specs.lines.AccessKnows.{AccessKnows}
 use Rattle.mmu_core.specs.machine.View.{View, stepped}
 use Rattle.mmu_core.proofs.held.UsableKept.{vcpu_below}
 use Rattle.mmu_core.proofs.lines.AccessParts.{AreSmall}
-use Rattle.mmu_core.proofs.lines.CachedKept.{found_has, used_has, used_leaf}
+use Rattle.mmu_core.specs.lines.Cached.{covers}
+use Rattle.mmu_core.proofs.lines.CachedKept.{found_has, used_covers}
 use Rattle.mmu_core.proofs.lines.EitherPlace.{either_place}
 use Rattle.mmu_core.proofs.lines.KnowsKept.{step_knows}
 use Rattle.mmu_core.proofs.lines.UsedTranslations.{uses_allows}
 use Rattle.mmu_core.proofs.machine.Stepping.{IsStep}
 use Rattle.log_invariant.specs.Covered.{IsCovered}
 use Rattle.log_invariant.specs.Excuses.{FlushesLaterAt, ExcusesCached}
-use Rattle.log_invariant.specs.LogInvariant.{IsGuardedIn, LogInvariant}
+use Rattle.log_invariant.specs.LogInvariant.{IsGuardedIn, LogInvariant, UseIsGuarded}
 use Rattle.log_invariant.specs.LogReads.{IsTakenAt}
 use Rattle.mmu_laws.specs.flat.FlatInvariant.{FlatInvariant}
 use Rattle.mmu_laws.specs.flat.FlatLogs.{FlatLogs, FlatLogsOf, ForbidsAt, IsArmedIn, IsBeginning, IsCoveredOrTaken, IsDirtyIn}
@@ -153,7 +154,7 @@ module _ (z : Sizes) (v : View) (a : ℕ) (line : Line) (gfn word : ℕ) (op : O
   K = step_knows z v a line (Access gfn word op) (place.Access access.Touch) S I
 
   used_guarded : is_write op ≡ true → Guarded gfn
-  used_guarded writes = subst Guarded (sym U.0) (U.1 can)
+  used_guarded writes = U.0 can gfn U.1
     where
       t : Translation
       t = h.state.used
@@ -165,11 +166,8 @@ module _ (z : Sizes) (v : View) (a : ℕ) (line : Line) (gfn word : ℕ) (op : O
       may : may_use (v.words area.State a) h.topics.stay ≡ true
       may = ap (may_use (v.words area.State a)) K.0.guest
 
-      lowest : t.level ≡ 1
-      lowest = used_has (λ (t : Translation). t.level ≡ 1) gfn (is_write op) h.cached.items t (λ k d lt. (I.cached a S.there k d lt).0) K.1
-
-      U : (gfn ≡ t.gfn) × (can_write t.leaf ≡ true → Guarded t.gfn)
-      U = used_leaf (λ (t : Translation). can_write t.leaf ≡ true → Guarded t.gfn) gfn (is_write op) h.cached.items t (G.cached a low may) K.1 lowest
+      U : UseIsGuarded Guarded t × (covers gfn t ≡ true)
+      U = used_covers (UseIsGuarded Guarded) gfn (is_write op) h.cached.items t (G.cached a low may) K.1
 
       can : can_write t.leaf ≡ true
       can = second (is_write op) (can_write t.leaf) (uses_allows gfn (is_write op) h K.1) writes

@@ -12,7 +12,7 @@ use Rattle.spte_words.specs.declared.spte_kind.SpteKind.{SpteKind}
 use Rattle.spte_words.specs.Areas.{pool_index}
 use Rattle.spte_words.specs.Entries.{kind_of, level_span}
 use Rattle.spte_words.proofs.ReadsEntries.{kind_of_absent, kind_of_table}
-use Rattle.mmu_core.specs.alone.FaultAlone.{LeadSame, LeadsTo, LeadsToLeaf}
+use Rattle.mmu_core.specs.alone.FaultAlone.{LeadSame, LeadsTo, LeadsToLeaf, LinksOn}
 use Rattle.mmu_core.specs.invariant.Laws.{IsSound}
 use Rattle.mmu_core.specs.machine.Machine.{World}
 use Rattle.part_steps.specs.PartTasks.{entry_index, table_page}
@@ -21,67 +21,103 @@ use Rattle.mmu_core.specs.invariant.TreePart.{EntryPart, Position, HangsBelow, T
 use Rattle.mmu_core.specs.machine.View.{word_in}
 use Rattle.mmu_core.proofs.pages.Standing.{one_position}
 use Rattle.mmu_core.proofs.pages.TreePlaces.{IsLinked, all_reached, link_stands, linked, root_stands}
-use Rattle.mmu_core.proofs.pages.NoneBelow.{span_up}
+use Rattle.mmu_core.proofs.pages.NoneBelow.{over_frame, span_up}
 
 pub same_page : {k l : ℕ} → Some k ≡ Some l → k ≡ l
 same_page e = cc e
 
+-- ---- one level down
+
+-- Behind a link links lead from the table below to where they lead from this one.
+leads_below : (pool : ℕ → ℕ) (level page gfn low e below : ℕ) → LinksOn pool (suc level) page gfn below → LeadsTo pool (suc level) page gfn low e
+    → LeadsTo pool level below gfn low e
+leads_below pool level page gfn low e below link (inl E) =
+    let none : linked_page (kind_of (suc level) (pool (pool_index page (entry_index gfn (suc level))))) ≡ None =
+    ap (λ w. linked_page (kind_of (suc level) w)) E.is ∙ E.no_link in
+    absurd (cc (none, link))
+leads_below pool level page gfn low e below link (inr down) =
+    subst (λ k. LeadsTo pool level k gfn low e) (same_page (sym down.1 ∙ link)) down.2
+
+-- To a leaf of this table they lead.
+pub leads_at : (pool : ℕ → ℕ) (level page gfn e : ℕ) → 1 ≤ level → pool (pool_index page (entry_index gfn level)) ≡ e → kind_of level e ≡ entry_kind.Leaf
+    → LeadsTo pool level page gfn level e
+leads_at pool zero page gfn e from is leaf = absurd (omega (arith, from))
+leads_at pool (suc level) page gfn e from is leaf = inl (record { here = refl; is = is; no_link = ap (λ (k : SpteKind). linked_page k) leaf })
+
 module _ {pages root : ℕ} {role pool : ℕ → ℕ} {up : ℕ → Use} {spot : ℕ → Position} (T : TreePart pages root role pool up spot)
-    (few : pages ≤ 2 ^ 32) (gfn entry : ℕ) where
+    (few : pages ≤ 2 ^ 32) (gfn : ℕ) where
   -- Behind a link of a table stands a table, one level below, at the span of this entry.
-  pub below_stands : (level prefix page below : ℕ) → stands up spot page ≡ Some (at (suc (suc level)) prefix)
-      → linked_page (kind_of (suc (suc level)) (pool (pool_index page (entry_index gfn (suc (suc level)))))) ≡ Some below
-      → stands up spot below ≡ Some (at (suc level) (prefix * 512 + entry_index gfn (suc (suc level))))
-  below_stands level prefix page below at_page link = by (T.entries page (at (suc (suc level)) prefix) at_page j (omega arith))
+  pub below_stands : (level prefix page below : ℕ) → stands up spot page ≡ Some (at level prefix) → LinksOn pool level page gfn below
+      → stands up spot below ≡ Some (at (level - 1) (prefix * 512 + entry_index gfn level))
+  below_stands level prefix page below at_page link = by (T.entries page (at level prefix) at_page j (omega arith))
     where
       j : ℕ
-      j = entry_index gfn (suc (suc level))
+      j = entry_index gfn level
 
       word : ℕ
       word = pool (pool_index page j)
 
-      by : EntryPart up page (at (suc (suc level)) prefix) j word → stands up spot below ≡ Some (at (suc level) (prefix * 512 + j))
+      by : EntryPart up page (at level prefix) j word → stands up spot below ≡ Some (at (level - 1) (prefix * 512 + j))
       by (inl e) =
-          let none : linked_page (kind_of (suc (suc level)) word) ≡ None =
-          ap (λ n. linked_page (kind_of (suc (suc level)) n)) e ∙ ap (λ (k : SpteKind). linked_page k) (kind_of_absent (suc (suc level))) in
+          let none : linked_page (kind_of level word) ≡ None =
+          ap (λ n. linked_page (kind_of level n)) e ∙ ap (λ (k : SpteKind). linked_page k) (kind_of_absent level) in
           absurd (cc (none, link))
       by (inr (inl L)) =
-          let stands_there = link_stands T page (at (suc (suc level)) prefix) j word at_page L in
+          let stands_there = link_stands T page (at level prefix) j word at_page L in
           let low = (T.there L.page _ stands_there).0 in
-          let links : linked_page (kind_of (suc (suc level)) word) ≡ Some L.page =
-          ap (λ n. linked_page (kind_of (suc (suc level)) n)) L.is
-          ∙ ap (λ (k : SpteKind). linked_page k) (kind_of_table (suc (suc level)) L.page L.upper (omega (arith, low, few))) in
-          ap (stands up spot) (same_page (sym link ∙ links)) ∙ stands_there ∙ ap (λ n. Some (at n (prefix * 512 + j))) (omega arith)
-      by (inr (inr L)) = let lowest : suc (suc level) ≡ 1 = L.lowest in absurd (omega (arith, lowest))
+          let links : linked_page (kind_of level word) ≡ Some L.page =
+          ap (λ n. linked_page (kind_of level n)) L.is
+          ∙ ap (λ (k : SpteKind). linked_page k) (kind_of_table level L.page L.upper (omega (arith, low, few))) in
+          ap (stands up spot) (same_page (sym link ∙ links)) ∙ stands_there
+      by (inr (inr leaf)) = let none : linked_page (kind_of level word) ≡ None = ap (λ (k : SpteKind). linked_page k) leaf in absurd (cc (none, link))
 
-  -- the table that is linked by an entry leads on where it is the guest frame's
-  one_down : (level page below : ℕ) → linked_page (kind_of (suc (suc level)) (pool (pool_index page (entry_index gfn (suc (suc level)))))) ≡ Some below
-      → LeadSame pool root (suc (suc level)) page gfn entry → LeadSame pool root (suc level) below gfn entry
+  -- So behind a link of a table over the guest frame stands a table over it.
+  pub one_below : (level page below : ℕ) → stands up spot page ≡ Some (over_frame level gfn) → LinksOn pool level page gfn below
+      → stands up spot below ≡ Some (over_frame (level - 1) gfn)
+  one_below level page below at_page link = stood ∙ ap (λ n. Some (at (level - 1) n)) span
+    where
+      stood : stands up spot below ≡ Some (at (level - 1) (gfn / level_span level / 512 * 512 + entry_index gfn level))
+      stood = below_stands level (gfn / level_span level / 512) page below at_page link
+
+      least : 1 ≤ level - 1
+      least = (T.there below _ stood).1
+
+      span : gfn / level_span level / 512 * 512 + entry_index gfn level ≡ gfn / level_span (level - 1) / 512
+      span =
+          let next : gfn / level_span (level - 1) / 512 ≡ gfn / level_span level =
+          span_up gfn (level - 1) least ∙ ap (λ n. gfn / level_span n) (omega (arith, least)) in
+          omega (arith, next)
+
+-- ---- from the root
+
+module _ {pages root : ℕ} {role pool : ℕ → ℕ} {up : ℕ → Use} {spot : ℕ → Position} (T : TreePart pages root role pool up spot)
+    (few : pages ≤ 2 ^ 32) (gfn low entry : ℕ) where
+  -- The table that is linked by an entry leads on where it is the guest frame's.
+  one_down : (level page below : ℕ) → LinksOn pool (suc level) page gfn below → LeadSame pool root (suc level) page gfn low entry
+      → LeadSame pool root level below gfn low entry
   one_down level page below link S = record {
-    below = λ from. let down = S.below from in subst (λ k. LeadsTo pool (suc level) k gfn entry) (same_page (sym down.1 ∙ link)) down.2;
-    above = λ leads. S.above (below, link, leads);
+    below = λ from. leads_below pool level page gfn low entry below link (S.below from);
+    above = λ leads. S.above (inr (below, link, leads));
   }
 
   -- So it is with each table over the guest frame, from the top level down.
-  leads_at_root : (level page : ℕ) → stands up spot page ≡ Some (at (suc level) (gfn / level_span (suc level) / 512)) → page ≡ root
-      → LeadSame pool root (suc level) page gfn entry
+  leads_at_root : (level page : ℕ) → stands up spot page ≡ Some (over_frame level gfn) → page ≡ root → LeadSame pool root level page gfn low entry
   leads_at_root level page at_page e =
-      let top : suc level ≡ 4 = ap (λ (p : Position). p.level) (one_position (sym at_page ∙ ap (stands up spot) e ∙ root_stands T)) in
-      subst (λ l. LeadSame pool root l page gfn entry) (sym top)
-      (subst (λ k. LeadSame pool root 4 k gfn entry) (sym e) (record { below = λ leads. leads; above = λ leads. leads }))
+      let top : level ≡ 4 = ap (λ (p : Position). p.level) (one_position (sym at_page ∙ ap (stands up spot) e ∙ root_stands T)) in
+      subst (λ l. LeadSame pool root l page gfn low entry) (sym top)
+      (subst (λ k. LeadSame pool root 4 k gfn low entry) (sym e) (record { below = λ leads. leads; above = λ leads. leads }))
 
-  -- the table's parent stands over the guest frame too, and its entry there is the link
-  parent_over : (level page links : ℕ) (L : IsLinked pool up spot root links page (at (suc level) (gfn / level_span (suc level) / 512)))
-      → stands up spot L.parent ≡ Some (at (suc (suc level)) (gfn / level_span (suc (suc level)) / 512))
+  -- The table's parent stands over the guest frame too, and its entry there is the link.
+  parent_over : (level page links : ℕ) (L : IsLinked pool up spot root links page (over_frame (suc level) gfn))
+      → stands up spot L.parent ≡ Some (over_frame (suc (suc level)) gfn)
   parent_over level page links L =
       let one : suc level + 1 ≡ suc (suc level) = omega arith in
       let span : gfn / level_span (suc level) / 512 ≡ gfn / level_span (suc (suc level)) =
       span_up gfn (suc level) (omega arith) ∙ ap (λ n. gfn / level_span n) one in
       L.above ∙ ap (λ n. Some (at n (gfn / level_span (suc level) / 512 / 512))) one ∙ ap (λ n. Some (at (suc (suc level)) (n / 512))) span
 
-  parent_links : (level page links : ℕ) → stands up spot page ≡ Some (at (suc level) (gfn / level_span (suc level) / 512))
-      → (L : IsLinked pool up spot root links page (at (suc level) (gfn / level_span (suc level) / 512)))
-      → linked_page (kind_of (suc (suc level)) (pool (pool_index L.parent (entry_index gfn (suc (suc level)))))) ≡ Some page
+  parent_links : (level page links : ℕ) → stands up spot page ≡ Some (over_frame (suc level) gfn)
+      → (L : IsLinked pool up spot root links page (over_frame (suc level) gfn)) → LinksOn pool (suc (suc level)) L.parent gfn page
   parent_links level page links at_page L =
       let one : suc level + 1 ≡ suc (suc level) = omega arith in
       let span : gfn / level_span (suc (suc level)) ≡ gfn / level_span (suc level) / 512 =
@@ -92,70 +128,68 @@ module _ {pages root : ℕ} {role pool : ℕ → ℕ} {up : ℕ → Use} {spot :
       (kind_of_table (suc (suc level)) page (omega arith) (let lt = (T.there page _ at_page).0 in omega (arith, lt, few)))
 
   -- The table is the root, or linked.
-  leads_from : (level page : ℕ) → HangsBelow up root page → stands up spot page ≡ Some (at (suc level) (gfn / level_span (suc level) / 512))
-      → ((k : ℕ) → suc level < 4 → HangsBelow up root k → stands up spot k ≡ Some (at (suc (suc level)) (gfn / level_span (suc (suc level)) / 512))
-      → LeadSame pool root (suc (suc level)) k gfn entry) → LeadSame pool root (suc level) page gfn entry
+  leads_from : (level page : ℕ) → HangsBelow up root page → stands up spot page ≡ Some (over_frame (suc level) gfn)
+      → ((k : ℕ) → suc level < 4 → HangsBelow up root k → stands up spot k ≡ Some (over_frame (suc (suc level)) gfn)
+      → LeadSame pool root (suc (suc level)) k gfn low entry) → LeadSame pool root (suc level) page gfn low entry
   leads_from level page R at_page over = by (linked T page _ R at_page)
     where
-      by : (page ≡ root) ⊎ ((links : ℕ) × IsLinked pool up spot root links page (at (suc level) (gfn / level_span (suc level) / 512)))
-          → LeadSame pool root (suc level) page gfn entry
-      by (inl e) = leads_at_root level page at_page e
+      by : (page ≡ root) ⊎ ((links : ℕ) × IsLinked pool up spot root links page (over_frame (suc level) gfn))
+          → LeadSame pool root (suc level) page gfn low entry
+      by (inl e) = leads_at_root (suc level) page at_page e
       by (inr found) =
           let L = found.1 in
-          one_down level L.parent page (parent_links level page found.0 at_page L)
+          one_down (suc level) L.parent page (parent_links level page found.0 at_page L)
           (over L.parent L.lower (found.0, L.chain) (parent_over level page found.0 L))
 
-  leads_by : (above level page : ℕ) → level + above ≡ 3 → HangsBelow up root page
-      → stands up spot page ≡ Some (at (suc level) (gfn / level_span (suc level) / 512)) → LeadSame pool root (suc level) page gfn entry
+  leads_by : (above level page : ℕ) → level + above ≡ 3 → HangsBelow up root page → stands up spot page ≡ Some (over_frame (suc level) gfn)
+      → LeadSame pool root (suc level) page gfn low entry
   leads_by zero level page levels R at_page = leads_from level page R at_page (λ k lower reached at_k. absurd (omega (arith, levels, lower)))
   leads_by (suc n) level page levels R at_page =
       leads_from level page R at_page (λ k lower reached at_k. leads_by n (suc level) k (omega (arith, levels)) reached at_k)
 
-  pub leads_same : (level page : ℕ) → HangsBelow up root page → stands up spot page ≡ Some (at level (gfn / level_span level / 512))
-      → LeadSame pool root level page gfn entry
-  leads_same zero page R at_page = absurd (let low = (T.there page _ at_page).1 in omega (arith, low))
+  pub leads_same : (level page : ℕ) → HangsBelow up root page → stands up spot page ≡ Some (over_frame level gfn)
+      → LeadSame pool root level page gfn low entry
+  leads_same zero page R at_page = absurd (let least = (T.there page _ at_page).1 in omega (arith, least))
   leads_same (suc level) page R at_page = leads_by (3 - level) level page (let most = (T.there page _ at_page).2 in omega (arith, most)) R at_page
 
-pub leads_down : (z : Sizes) (w : World Held) (gfn page level entry : ℕ) (sound : IsSound z w)
+pub leads_down : (z : Sizes) (w : World Held) (gfn page level low entry : ℕ) (sound : IsSound z w)
     → stands sound.topics.up sound.topics.spot page ≡ Some (at level (gfn / level_span level / 512))
-    → LeadSame (word_in z w area.Pool) (word_in z w area.Root 0) level page gfn entry
-leads_down z w gfn page level entry sound at_page =
+    → LeadSame (word_in z w area.Pool) (word_in z w area.Root 0) level page gfn low entry
+leads_down z w gfn page level low entry sound at_page =
     let I = sound.topics in
-    leads_same I.tree (let most = sound.holds.sizes.pool.1 in omega (arith, most)) gfn entry level page (all_reached I.tree page _ at_page) at_page
+    leads_same I.tree (let most = sound.holds.sizes.pool.1 in omega (arith, most)) gfn low entry level page (all_reached I.tree page _ at_page) at_page
 
 -- ---- the next entry on the way
 
 -- through a link, one level down
-leads_below : (pool : ℕ → ℕ) (level page gfn e below : ℕ) → 2 ≤ level
-    → linked_page (kind_of level (pool (pool_index page (entry_index gfn level)))) ≡ Some below
-    → LeadsTo pool level page gfn e → LeadsTo pool (level - 1) below gfn e
-leads_below pool zero page gfn e below upper link leads = absurd (omega (arith, upper))
-leads_below pool (suc zero) page gfn e below upper link leads = absurd (omega (arith, upper))
-leads_below pool (suc (suc level)) page gfn e below upper link leads =
-    let down : suc level ≡ suc (suc level) - 1 = omega arith in
-    subst (λ l. LeadsTo pool l below gfn e) down (subst (λ k. LeadsTo pool (suc level) k gfn e) (same_page (sym leads.1 ∙ link)) leads.2)
-
-pub leaf_below : (pool : ℕ → ℕ) (level page gfn below : ℕ) (write : Bool) → 2 ≤ level
-    → linked_page (kind_of level (pool (pool_index page (entry_index gfn level)))) ≡ Some below
+pub leaf_below : (pool : ℕ → ℕ) (level page gfn below : ℕ) (write : Bool) → 2 ≤ level → LinksOn pool level page gfn below
     → LeadsToLeaf pool level page gfn write → LeadsToLeaf pool (level - 1) below gfn write
-leaf_below pool level page gfn below write upper link L =
-    record { entry = L.entry; leads = leads_below pool level page gfn L.entry below upper link L.leads; leaf = L.leaf; allows = L.allows }
+leaf_below pool zero page gfn below write upper link L = absurd (omega (arith, upper))
+leaf_below pool (suc level) page gfn below write upper link L =
+    let down : level ≡ suc level - 1 = omega arith in
+    record {
+      at = L.at;
+      entry = L.entry;
+      leads = subst (λ l. LeadsTo pool l below gfn L.at L.entry) down (leads_below pool level page gfn L.at L.entry below link L.leads);
+      leaf = L.leaf;
+      allows = L.allows;
+    }
 
--- an entry that is no link is the leaf
-leads_here : (pool : ℕ → ℕ) (level page gfn e v : ℕ) → pool (pool_index page (entry_index gfn level)) ≡ v → linked_page (kind_of level v) ≡ None
-    → LeadsTo pool level page gfn e → (level ≡ 1) × (v ≡ e)
-leads_here pool zero page gfn e v here none leads = absurd leads
-leads_here pool (suc zero) page gfn e v here none leads = (refl, sym here ∙ leads)
-leads_here pool (suc (suc level)) page gfn e v here none leads =
-    let some : Some leads.0 ≡ None = sym leads.1 ∙ ap (λ n. linked_page (kind_of (suc (suc level)) n)) here ∙ none in
+-- an entry that is no link is the one to which links lead
+leads_here : (pool : ℕ → ℕ) (level page gfn low e v : ℕ) → pool (pool_index page (entry_index gfn level)) ≡ v → linked_page (kind_of level v) ≡ None
+    → LeadsTo pool level page gfn low e → (level ≡ low) × (v ≡ e)
+leads_here pool zero page gfn low e v here none leads = absurd leads
+leads_here pool (suc level) page gfn low e v here none (inl E) = (sym E.here, sym here ∙ E.is)
+leads_here pool (suc level) page gfn low e v here none (inr down) =
+    let some : Some down.0 ≡ None = sym down.1 ∙ ap (λ n. linked_page (kind_of (suc level) n)) here ∙ none in
     absurd (cc some)
 
 pub is_leaf_here : (pool : ℕ → ℕ) (level page gfn v : ℕ) (write : Bool) (k : SpteKind) → pool (pool_index page (entry_index gfn level)) ≡ v
     → kind_of level v ≡ k → linked_page k ≡ None
     → LeadsToLeaf pool level page gfn write → (k ≡ entry_kind.Leaf) × (allows_access write v ≡ true)
 is_leaf_here pool level page gfn v write k here is none L =
-    let E = leads_here pool level page gfn L.entry v here (ap (λ (x : SpteKind). linked_page x) is ∙ none) L.leads in
-    (sym is ∙ ap (λ l. kind_of l v) E.0 ∙ ap (kind_of 1) E.1 ∙ L.leaf, ap (allows_access write) E.1 ∙ L.allows)
+    let E = leads_here pool level page gfn L.at L.entry v here (ap (λ (x : SpteKind). linked_page x) is ∙ none) L.leads in
+    (sym is ∙ ap (λ l. kind_of l v) E.0 ∙ ap (kind_of L.at) E.1 ∙ L.leaf, ap (allows_access write) E.1 ∙ L.allows)
 
 -- the page of the table one level down
 pub down_page : (page v index : ℕ) (walk : TableWalk) → 2 ≤ walk.level → walk.level ≤ 4 → table_page (gone_down (Some page) walk index v) ≡ page

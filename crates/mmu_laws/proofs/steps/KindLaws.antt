@@ -43,9 +43,9 @@ use Rattle.mmu_core.proofs.machine.Which.{is_next, is_part}
 use Rattle.mmu_core.proofs.machine.Worlds.{Takes, TakesPart, are_small, takes}
 use Rattle.mmu_laws.specs.steps.InvalidationLaws.{BringsAbsentPage, BringsAreOfAbsentPages, ChangesAreInvalidated, ChangesOwnPage, ZapsAreOfOpenInvalidations}
 use Rattle.mmu_laws.specs.steps.InvalidationLaws.{ZapsOwnFrame}
-use Rattle.mmu_laws.proofs.causes.CauseSteps.{entry_kinds}
+use Rattle.mmu_core.proofs.held.LowestKept.{lowest_leaf}
 use Rattle.mmu_laws.proofs.causes.MadeSteps.{Makes, in_machine, own_sizes, word_on}
-use Rattle.mmu_laws.proofs.leaves.LeadsDown.{leads_down}
+use Rattle.mmu_laws.proofs.leaves.LeadsDown.{leads_at, leads_down}
 use Rattle.mmu_core.proofs.pages.EntryStill.{still_leaf}
 
 -- A step of this kind is one of a part.
@@ -120,15 +120,16 @@ module _ (z : Sizes) (w : World Held) (s : Step Kind) (G : IsSound z w) (may : M
   -- A leaf that was seen under the lock alone is one of the lowest level still, to which links lead, and what it was where it allowed writes.
   pub record SeenLeaf (gfn : ℕ) : Type 0 where
     pub lowest : t.walk.level ≡ 1
-    pub leads : LeadsTo pool 4 (word_in z w area.Root 0) gfn (entry gfn)
+    pub leads : LeadsTo pool 4 (word_in z w area.Root 0) gfn 1 (entry gfn)
     pub leaf : kind_of 1 (entry gfn) ≡ entry_kind.Leaf
     pub allows : can_write t.walk.entry ≡ true → can_write (entry gfn) ≡ true
 
   pub seen_leaf : (gfn : ℕ) → t.hold ≡ Exclusive → t.stay ≡ Outside → SawEntry gfn t.walk → kind_of t.walk.level t.walk.entry ≡ entry_kind.Leaf → SeenLeaf gfn
   seen_leaf gfn alone outside saw leaf = record {
     lowest = lowest;
-    leads = (leads_down z w gfn page t.walk.level (entry gfn) G stood).above (subst (λ l. LeadsTo pool l page gfn (entry gfn)) (sym lowest) refl);
-    leaf = subst (λ l. kind_of l (pool (pool_index page (entry_index gfn l))) ≡ entry_kind.Leaf) lowest here;
+    leads = (leads_down z w gfn page t.walk.level 1 (entry gfn) G stood).above
+        (subst (λ l. LeadsTo pool l page gfn 1 (entry gfn)) (sym lowest) (leads_at pool 1 page gfn (entry gfn) (omega arith) refl is_leaf));
+    leaf = is_leaf;
     allows = λ writes. subst (λ l. can_write (pool (pool_index page (entry_index gfn l))) ≡ true) lowest (allowed writes still);
   }
     where
@@ -157,10 +158,11 @@ module _ (z : Sizes) (w : World Held) (s : Step Kind) (G : IsSound z w) (may : M
 
       lowest : t.walk.level ≡ 1
       lowest =
-          let most = G.holds.sizes.pool.1 in
-          (entry_kinds G.topics.tree page (at t.walk.level t.walk.prefix) (entry_index gfn t.walk.level) (pool (pool_index page (entry_index gfn t.walk.level)))
-          (omega (arith, most)) at_page (G.topics.tree.entries page (at t.walk.level t.walk.prefix) at_page (entry_index gfn t.walk.level) (omega arith))).0
-          here
+          let span = saw.over.span in
+          lowest_leaf z (view z w) G.topics page t.walk.level t.walk.prefix (entry_index gfn t.walk.level) gfn at_page (omega arith) (omega (arith, span)) here
+
+      is_leaf : kind_of 1 (entry gfn) ≡ entry_kind.Leaf
+      is_leaf = subst (λ l. kind_of l (pool (pool_index page (entry_index gfn l))) ≡ entry_kind.Leaf) lowest here
 
   zaps_leaf : (gfn : ℕ) → Makes h s (part.Zap gfn) → ZapsOwnFrame z w s
   zaps_leaf gfn M =

@@ -20,15 +20,15 @@ use Rattle.core_views.specs.Sizes.{actors_of}
 use Rattle.core_views.specs.Slots.{is_write}
 use Rattle.spte_words.specs.declared.area.Area.{Area}
 use Rattle.spte_words.specs.declared.area.Area.TheVariants as area
-use Rattle.spte_words.specs.Areas.{pool_index}
-use Rattle.spte_words.specs.Entries.{level_span}
+use Rattle.spte_words.specs.declared.spte_kind.SpteKind.TheVariants as entry_kind
+use Rattle.spte_words.specs.Entries.{kind_of, level_span}
 use Rattle.mmu_core.specs.machine.Enabled.{mmu}
-use Rattle.mmu_core.specs.alone.FaultAlone.{EntryStands, LeadsTo, LeadsToLeaf}
+use Rattle.mmu_core.specs.alone.FaultAlone.{EntryStands, LeadsToLeaf}
 use Rattle.mmu_core.specs.lines.FaultKnows.{FaultEndKnows, FaultKnows, HasEntry}
 use Rattle.mmu_core.specs.lines.Forms.{KnowsPart}
 use Rattle.mmu_core.specs.invariant.Laws.{IsSound}
 use Rattle.mmu_core.specs.machine.Machine.{May, Step, World, effect, hand_in}
-use Rattle.part_steps.specs.PartTasks.{entry_index, table_page}
+use Rattle.part_steps.specs.PartTasks.{table_page}
 use Rattle.part_steps.specs.PartHoldings.{IsOver}
 use Rattle.mmu_core.specs.machine.Steps.{line_at, place_at, task_at}
 use Rattle.mmu_core.specs.invariant.TreePart.{at, stands}
@@ -36,7 +36,7 @@ use Rattle.mmu_laws.specs.turns.Removal.{StandsAt, WalksInstalled, ends_installe
 use Rattle.mmu_core.specs.machine.View.{View, answer_in, hand_after, word_in, words_after}
 use Rattle.mmu_laws.proofs.alone.GoesAlone.{topics_at}
 use Rattle.mmu_core.proofs.machine.Columns.{upd_same}
-use Rattle.mmu_laws.proofs.leaves.LeadsDown.{leads_down}
+use Rattle.mmu_laws.proofs.leaves.LeadsDown.{leads_at, leads_down}
 use Rattle.mmu_laws.proofs.turns.OwnServed.{Makes}
 use Rattle.mmu_core.proofs.machine.Worlds.{Takes, good_step}
 
@@ -72,13 +72,13 @@ entry_leads : (z : Sizes) (w : World Held) (a gfn : ℕ) (write : Bool) → IsSo
 entry_leads z w a gfn write G there H stands =
     let walk : TableWalk = (hand_in mmu w a).topics.walk in
     let pool : ℕ → ℕ = word_in z w area.Pool in
-    let here : LeadsTo pool walk.level (table_page walk) gfn walk.entry =
-    subst (λ l. LeadsTo pool l (table_page walk) gfn walk.entry) (sym H.lowest)
-    (subst (λ l. pool (pool_index (table_page walk) (entry_index gfn l)) ≡ walk.entry) H.lowest stands) in
+    let leaf : kind_of walk.level walk.entry ≡ entry_kind.Leaf = ap (λ l. kind_of l walk.entry) H.lowest ∙ H.leaf in
     record {
+      at = walk.level;
       entry = walk.entry;
-      leads = (leads_down z w gfn (table_page walk) walk.level walk.entry G (over_stands z w a gfn G there H.saw.over)).above here;
-      leaf = H.leaf;
+      leads = (leads_down z w gfn (table_page walk) walk.level walk.level walk.entry G (over_stands z w a gfn G there H.saw.over)).above
+          (leads_at pool walk.level (table_page walk) gfn walk.entry H.saw.over.there stands leaf);
+      leaf = leaf;
       allows = H.allows;
     }
 
@@ -91,9 +91,9 @@ walks_installed (place.Access (Walk again)) (Access of_line word op) z w a gfn w
     let L : Leads (word_in z w) of_line (is_write op) = subst (λ n. Leads (word_in z w) n (is_write op)) (sym stands_.1)
     (subst (Leads (word_in z w) gfn) (sym stands_.2) leads) in
     λ is. record {
+      at = L.at;
       entry = L.entry;
-      leads = (leads_down z w of_line (table_page walk) walk.level L.entry G (over_stands z w a of_line G there K.1)).below
-          L.leads;
+      leads = (leads_down z w of_line (table_page walk) walk.level L.at L.entry G (over_stands z w a of_line G there K.1)).below L.leads;
       leaf = L.leaf;
       allows = L.allows;
     }

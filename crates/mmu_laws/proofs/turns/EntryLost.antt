@@ -1,6 +1,6 @@
 -- Whether an installed entry, after which an access stands, was taken away: this is told by following the links. Where it wasn't, the walk finds it.
-use Rattle.std.proofs.Common.{◌≡◌, ◌<◌, ℕ, zero, suc, refl, ap, ◌∙◌}
-use Rattle.std.specs.Prelude.{Bool, true, false, ◌&&◌, not, Option, Some, None}
+use Rattle.std.proofs.Common.{◌≡◌, inl, inr, ◌<◌, ℕ, zero, suc, refl, sym, ap, ◌∙◌, arith}
+use Rattle.std.specs.Prelude.{Bool, true, false, ◌&&◌, not, Some}
 use Rattle.core_views.specs.declared.place.AccessPlace.TheVariants.{Enter, Pause, Root, Walk, Touch, Leave, Fault}
 use Rattle.core_views.specs.declared.place.Leaving.TheVariants as leaving
 use Rattle.core_views.specs.declared.place.Place.{Place}
@@ -21,7 +21,7 @@ use Rattle.spte_words.specs.Areas.{pool_index}
 use Rattle.spte_words.specs.Entries.{kind_of}
 use Rattle.part_steps.specs.PartTasks.{entry_index}
 use Rattle.part_steps.specs.WalkTopics.{linked_page}
-use Rattle.mmu_core.specs.alone.FaultAlone.{LeadsTo, LeadsToLeaf}
+use Rattle.mmu_core.specs.alone.FaultAlone.{LeadsTo, LeadsToLeaf, LinksOn}
 use Rattle.mmu_core.specs.invariant.Laws.{IsSound}
 use Rattle.mmu_core.specs.lines.FaultSteps.{allows_access}
 use Rattle.mmu_core.specs.lines.Forms.{KnowsPart, first_place}
@@ -30,59 +30,60 @@ use Rattle.mmu_core.specs.machine.Machine.{World, hand_in}
 use Rattle.mmu_core.specs.machine.Steps.{line_at, next_line, place_at}
 use Rattle.mmu_core.specs.machine.View.{word_in}
 use Rattle.mmu_laws.specs.turns.Removal.{WalksInstalled, is_installed}
+use Rattle.mmu_laws.proofs.leaves.LeadsDown.{leads_at}
 use Rattle.mmu_laws.proofs.turns.EntryLeads.{Leads, walks_installed}
 use Rattle.mmu_laws.proofs.turns.OwnServed.{Served}
 
 -- ---- whether links lead to a leaf
 
-abbrev leads_on : Option ℕ → (ℕ → Bool) → Bool
-leads_on None finds = false
-leads_on (Some below) finds = finds below
-
-abbrev is_leaf : SpteKind → Bool
-is_leaf entry_kind.Leaf = true
-is_leaf _ = false
+-- An entry of this kind is a leaf that allows the access, or links on to where this finds one.
+abbrev found_by : SpteKind → Bool → (ℕ → Bool) → Bool
+found_by (entry_kind.Table below) allowed finds = finds below
+found_by entry_kind.Leaf allowed finds = allowed
+found_by _ allowed finds = false
 
 -- They lead the guest frame from this table to a leaf that allows the access.
 abbrev pub finds_leaf : (ℕ → ℕ) → ℕ → ℕ → ℕ → Bool → Bool
 finds_leaf pool zero page gfn write = false
-finds_leaf pool (suc zero) page gfn write =
-    is_leaf (kind_of 1 (pool (pool_index page (entry_index gfn 1)))) && allows_access write (pool (pool_index page (entry_index gfn 1)))
-finds_leaf pool (suc (suc level)) page gfn write =
-    leads_on (linked_page (kind_of (suc (suc level)) (pool (pool_index page (entry_index gfn (suc (suc level)))))))
-    (λ below. finds_leaf pool (suc level) below gfn write)
+finds_leaf pool (suc level) page gfn write =
+    found_by (kind_of (suc level) (pool (pool_index page (entry_index gfn (suc level)))))
+    (allows_access write (pool (pool_index page (entry_index gfn (suc level))))) (λ below. finds_leaf pool level below gfn write)
 
-leaf_is : (k : SpteKind) (b : Bool) → (is_leaf k && b) ≡ true → (k ≡ entry_kind.Leaf) × (b ≡ true)
-leaf_is entry_kind.Leaf b is = (refl, is)
-leaf_is _ b is = absurd (cc is)
+links_to : (k : SpteKind) (below : ℕ) → linked_page k ≡ Some below → k ≡ entry_kind.Table below
+links_to (entry_kind.Table page) below is = let same : page ≡ below = cc is in ap entry_kind.Table same
+links_to _ below is = absurd (cc is)
 
 module _ (pool : ℕ → ℕ) (gfn : ℕ) (write : Bool) where
   found_leads : (level page : ℕ) → finds_leaf pool level page gfn write ≡ true → LeadsToLeaf pool level page gfn write
   found_leads zero page is = absurd (cc is)
-  found_leads (suc zero) page is =
-      let entry : ℕ = pool (pool_index page (entry_index gfn 1)) in
-      let L = leaf_is (kind_of 1 entry) (allows_access write entry) is in
-      record { entry = entry; leads = refl; leaf = L.0; allows = L.1 }
-  found_leads (suc (suc level)) page is =
-      by (linked_page (kind_of (suc (suc level)) (pool (pool_index page (entry_index gfn (suc (suc level))))))) refl is
-      (λ below e. found_leads (suc level) below e)
+  found_leads (suc level) page is = by (kind_of (suc level) entry) refl is (λ below e. found_leads level below e)
     where
-      by : (o : Option ℕ) → linked_page (kind_of (suc (suc level)) (pool (pool_index page (entry_index gfn (suc (suc level)))))) ≡ o
-          → leads_on o (λ below. finds_leaf pool (suc level) below gfn write) ≡ true
-          → ((below : ℕ) → finds_leaf pool (suc level) below gfn write ≡ true → LeadsToLeaf pool (suc level) below gfn write)
-          → LeadsToLeaf pool (suc (suc level)) page gfn write
-      by None links e lower = absurd (cc e)
-      by (Some below) links e lower = let L = lower below e in record { entry = L.entry; leads = (below, links, L.leads); leaf = L.leaf; allows = L.allows }
+      entry : ℕ
+      entry = pool (pool_index page (entry_index gfn (suc level)))
 
-  leads_found : (entry level page : ℕ) → kind_of 1 entry ≡ entry_kind.Leaf → allows_access write entry ≡ true → LeadsTo pool level page gfn entry
-      → finds_leaf pool level page gfn write ≡ true
-  leads_found entry zero page leaf allows leads = absurd leads
-  leads_found entry (suc zero) page leaf allows leads =
-      let is : is_leaf (kind_of 1 entry) ≡ true = ap (λ (k : SpteKind). is_leaf k) leaf in
-      ap (λ n. is_leaf (kind_of 1 n) && allows_access write n) leads ∙ ap (λ (b : Bool). b && allows_access write entry) is ∙ allows
-  leads_found entry (suc (suc level)) page leaf allows leads =
-      ap (λ (o : Option ℕ). leads_on o (λ below. finds_leaf pool (suc level) below gfn write)) leads.1
-      ∙ leads_found entry (suc level) leads.0 leaf allows leads.2
+      by : (k : SpteKind) → kind_of (suc level) entry ≡ k → found_by k (allows_access write entry) (λ below. finds_leaf pool level below gfn write) ≡ true
+          → ((below : ℕ) → finds_leaf pool level below gfn write ≡ true → LeadsToLeaf pool level below gfn write)
+          → LeadsToLeaf pool (suc level) page gfn write
+      by (entry_kind.Table below) at_k e lower =
+          let L = lower below e in
+          let links : LinksOn pool (suc level) page gfn below = ap (λ (x : SpteKind). linked_page x) at_k in
+          record { at = L.at; entry = L.entry; leads = inr (below, links, L.leads); leaf = L.leaf; allows = L.allows }
+      by entry_kind.Leaf at_k e lower =
+          record { at = suc level; entry = entry; leads = leads_at pool (suc level) page gfn entry (omega arith) refl at_k; leaf = at_k; allows = e }
+      by entry_kind.Absent at_k e lower = absurd (cc e)
+      by entry_kind.Frozen at_k e lower = absurd (cc e)
+
+  leads_found : (low entry level page : ℕ) → kind_of low entry ≡ entry_kind.Leaf → allows_access write entry ≡ true
+      → LeadsTo pool level page gfn low entry → finds_leaf pool level page gfn write ≡ true
+  leads_found low entry zero page leaf allows leads = absurd leads
+  leads_found low entry (suc level) page leaf allows (inl E) =
+      let found : ℕ = pool (pool_index page (entry_index gfn (suc level))) in
+      let is : kind_of (suc level) found ≡ entry_kind.Leaf = ap (kind_of (suc level)) E.is ∙ ap (λ l. kind_of l entry) (sym E.here) ∙ leaf in
+      ap (λ (k : SpteKind). found_by k (allows_access write found) (λ below. finds_leaf pool level below gfn write)) is ∙ ap (allows_access write) E.is ∙ allows
+  leads_found low entry (suc level) page leaf allows (inr down) =
+      let found : ℕ = pool (pool_index page (entry_index gfn (suc level))) in
+      ap (λ (k : SpteKind). found_by k (allows_access write found) (λ below. finds_leaf pool level below gfn write))
+      (links_to (kind_of (suc level) found) down.0 down.1) ∙ leads_found low entry level down.0 leaf allows down.2
 
 -- ---- whether an installed entry is lost
 
@@ -108,7 +109,7 @@ none_lost (place.Access p) (Access gfn word op) words S = by (is_installed p) S
     by : (b : Bool) → (b ≡ true → Leads words gfn (is_write op)) → (b && not (finds_leaf (words area.Pool) 4 (words area.Root 0) gfn (is_write op))) ≡ false
     by true S =
         let L = S refl in
-        ap (λ (b : Bool). not b) (leads_found (words area.Pool) gfn (is_write op) L.entry 4 (words area.Root 0) L.leaf L.allows L.leads)
+        ap (λ (b : Bool). not b) (leads_found (words area.Pool) gfn (is_write op) L.at L.entry 4 (words area.Root 0) L.leaf L.allows L.leads)
     by false S = refl
 none_lost _ _ words S = refl
 

@@ -11,7 +11,7 @@ use Rattle.spte_words.specs.declared.spte_kind.SpteKind.TheVariants as entry_kin
 use Rattle.spte_words.specs.Areas.{pool_index}
 use Rattle.spte_words.specs.Entries.{absent_word, kind_of, can_write, write_bit}
 use Rattle.spte_words.proofs.ReadsEntries.{kind_of_absent}
-use Rattle.mmu_core.specs.alone.FaultAlone.{LeadsTo}
+use Rattle.mmu_core.specs.alone.FaultAlone.{EndsHere, LeadsTo, LinksOn}
 use Rattle.part_steps.specs.PartTasks.{all_but, entry_index}
 use Rattle.part_steps.specs.WalkTopics.{linked_page}
 use Rattle.mmu_core.specs.invariant.TreePart.{Position, TreePart, at, Use, stands}
@@ -82,44 +82,51 @@ pub record TakesEntry (write : Bool) (task : Task) (stands : ℕ → Option Posi
 
 module _ {pages root : ℕ} {role before : ℕ → ℕ} {up : ℕ → Use} {spot : ℕ → Position} (T : TreePart pages root role before up spot) (after : ℕ → ℕ)
     (few : pages ≤ 2 ^ 32) (write : Bool) (task : Task)
-    (stay : EntriesStay write task (stands up spot) before after) (gfn entry : ℕ) where
+    (stay : EntriesStay write task (stands up spot) before after) (gfn low entry : ℕ) where
   abbrev Takes : Type 0
   Takes = TakesEntry write task (stands up spot) before gfn
 
-  -- Links lead to a leaf that allows writes if the one before did, where the access writes.
+  -- Links lead to a leaf of the same level that allows writes if the one before did, where the access writes.
   pub record LeadsOn (level page : ℕ) : Type 0 where
     pub leaf : ℕ
-    pub leads : LeadsTo after level page gfn leaf
-    pub is_leaf : kind_of 1 leaf ≡ entry_kind.Leaf
+    pub leads : LeadsTo after level page gfn low leaf
+    pub is_leaf : kind_of low leaf ≡ entry_kind.Leaf
     pub writes : write ≡ true → can_write entry ≡ true → can_write leaf ≡ true
 
-  lowest_stays : (prefix page : ℕ) → kind_of 1 entry ≡ entry_kind.Leaf → stands up spot page ≡ Some (at 1 prefix) → LeadsTo before 1 page gfn entry
-      → LeadsOn 1 page ⊎ Takes
-  lowest_stays prefix page leaf at_page leads = by (stay page (at 1 prefix) at_page (entry_index gfn 1) (omega arith))
+  -- where they end
+  end_stays : (level prefix page : ℕ) → kind_of low entry ≡ entry_kind.Leaf → stands up spot page ≡ Some (at (suc level) prefix)
+      → EndsHere before (suc level) page gfn low entry → LeadsOn (suc level) page ⊎ Takes
+  end_stays level prefix page leaf at_page E = by (stay page (at (suc level) prefix) at_page j (omega arith))
     where
-      by : EntryStays write task before after page (at 1 prefix) (entry_index gfn 1) → LeadsOn 1 page ⊎ Takes
-      by (inl same) = inl (record { leaf = entry; leads = same ∙ leads; is_leaf = leaf; writes = λ is w. w })
-      by (inr (inl was)) = let absent : kind_of 1 entry ≡ entry_kind.Absent = ap (kind_of 1) (sym leads ∙ was) ∙ kind_of_absent 1 in absurd (cc (absent, leaf))
-      by (inr (inr (inl Z))) = inr (record { level = 1; prefix = prefix; page = page; at_page = at_page; takes = Z })
+      j : ℕ
+      j = entry_index gfn (suc level)
+
+      by : EntryStays write task before after page (at (suc level) prefix) j → LeadsOn (suc level) page ⊎ Takes
+      by (inl same) = inl (record {
+        leaf = entry;
+        leads = inl (record { here = E.here; is = same ∙ E.is; no_link = E.no_link });
+        is_leaf = leaf;
+        writes = λ is w. w;
+      })
+      by (inr (inl was)) =
+          let absent : kind_of low entry ≡ entry_kind.Absent = ap (kind_of low) (sym E.is ∙ was) ∙ kind_of_absent low in absurd (cc (absent, leaf))
+      by (inr (inr (inl Z))) = inr (record { level = suc level; prefix = prefix; page = page; at_page = at_page; takes = Z })
       by (inr (inr (inr K))) = inl (record {
-        leaf = after (pool_index page (entry_index gfn 1));
-        leads = refl;
-        is_leaf = K.is_leaf;
-        writes = λ is w. K.writes is (ap can_write leads ∙ w);
+        leaf = after (pool_index page j);
+        leads = inl (record { here = E.here; is = refl; no_link = ap (λ (k : SpteKind). linked_page k) K.is_leaf });
+        is_leaf = ap (λ n. kind_of n (after (pool_index page j))) E.here ∙ K.is_leaf;
+        writes = λ is w. K.writes is (ap can_write E.is ∙ w);
       })
 
-  -- the link to a table, from an entry of a level
-  abbrev Links : (ℕ → ℕ) → ℕ → ℕ → ℕ → Type 0
-  Links pool level page below = linked_page (kind_of level (pool (pool_index page (entry_index gfn level)))) ≡ Some below
-
-  link_stays : (level prefix page below : ℕ) → stands up spot page ≡ Some (at level prefix) → Links before level page below
-      → Links after level page below ⊎ Takes
+  -- a link on the way
+  link_stays : (level prefix page below : ℕ) → stands up spot page ≡ Some (at level prefix) → LinksOn before level page gfn below
+      → LinksOn after level page gfn below ⊎ Takes
   link_stays level prefix page below at_page link = by (stay page (at level prefix) at_page j (omega arith))
     where
       j : ℕ
       j = entry_index gfn level
 
-      by : EntryStays write task before after page (at level prefix) j → Links after level page below ⊎ Takes
+      by : EntryStays write task before after page (at level prefix) j → LinksOn after level page gfn below ⊎ Takes
       by (inl same) = inl (ap (λ n. linked_page (kind_of level n)) same ∙ link)
       by (inr (inl was)) =
           let none : linked_page (kind_of level (before (pool_index page j))) ≡ None = ap (λ n. linked_page (kind_of level n)) was
@@ -130,16 +137,18 @@ module _ {pages root : ℕ} {role before : ℕ → ℕ} {up : ℕ → Use} {spot
           let none : linked_page (kind_of level (before (pool_index page j))) ≡ None = ap (λ (k : SpteKind). linked_page k) K.was_leaf in
           absurd (cc (none, link))
 
-  pub leads_stay : (level prefix page : ℕ) → kind_of 1 entry ≡ entry_kind.Leaf → stands up spot page ≡ Some (at (suc level) prefix)
-      → LeadsTo before (suc level) page gfn entry → LeadsOn (suc level) page ⊎ Takes
-  leads_stay zero prefix page leaf at_page leads = lowest_stays prefix page leaf at_page leads
-  leads_stay (suc level) prefix page leaf at_page leads =
-      both (link_stays (suc (suc level)) prefix page leads.0 at_page leads.1)
-      (leads_stay level (prefix * 512 + entry_index gfn (suc (suc level))) leads.0 leaf
-      (below_stands T few gfn entry level prefix page leads.0 at_page leads.1) leads.2)
+  pub leads_stay : (level prefix page : ℕ) → kind_of low entry ≡ entry_kind.Leaf → stands up spot page ≡ Some (at level prefix)
+      → LeadsTo before level page gfn low entry → LeadsOn level page ⊎ Takes
+  leads_stay zero prefix page leaf at_page leads = absurd leads
+  leads_stay (suc level) prefix page leaf at_page (inl E) = end_stays level prefix page leaf at_page E
+  leads_stay (suc level) prefix page leaf at_page (inr down) =
+      both (link_stays (suc level) prefix page down.0 at_page down.1)
+      (leads_stay level (prefix * 512 + entry_index gfn (suc level)) down.0 leaf
+      (below_stands T few gfn (suc level) prefix page down.0 at_page down.1
+      ∙ ap (λ n. Some (at n (prefix * 512 + entry_index gfn (suc level)))) (omega arith)) down.2)
     where
-      both : Links after (suc (suc level)) page leads.0 ⊎ Takes → LeadsOn (suc level) leads.0 ⊎ Takes → LeadsOn (suc (suc level)) page ⊎ Takes
+      both : LinksOn after (suc level) page gfn down.0 ⊎ Takes → LeadsOn level down.0 ⊎ Takes → LeadsOn (suc level) page ⊎ Takes
       both (inl link) (inl below) =
-          inl (record { leaf = below.leaf; leads = (leads.0, link, below.leads); is_leaf = below.is_leaf; writes = below.writes })
+          inl (record { leaf = below.leaf; leads = inr (down.0, link, below.leads); is_leaf = below.is_leaf; writes = below.writes })
       both (inl link) (inr Z) = inr Z
       both (inr Z) more = inr Z

@@ -92,7 +92,7 @@ module _ (access : Bool) (z : Sizes) (v : View) (a gfn : ℕ) (J : Invariant z v
           → (pool here ≡ absent_word) ⊎ (kind_of t.walk.level (pool here) ≡ entry_kind.Leaf)
       by (inl e) = inl e
       by (inr (inl L)) = absurd (let upper : 2 ≤ t.walk.level = L.upper in omega (arith, upper, low))
-      by (inr (inr L)) = inr L.leaf
+      by (inr (inr leaf)) = inr leaf
 
   -- A leaf is put where none was, or in place of one that allows no writes.
   leaf_was : (write : Bool) → IsPart z v a (part.Leaf gfn write) → (entry_now gfn t v == t.walk.entry) ≡ true
@@ -256,7 +256,7 @@ pub leads_or_takes : (z : Sizes) (w : World Held) (G : IsSound z w) (task : Task
     → LinksStay write task (stands G.topics.up G.topics.spot) (word_in z w) after → LeadsFromRoot z w gfn write
     → LeadsToLeaf (after area.Pool) 4 (after area.Root 0) gfn write ⊎ TakesEntry write task (stands G.topics.up G.topics.spot) (word_in z w area.Pool) gfn
 leads_or_takes z w G task after gfn write S L =
-    by (leads_stay I.tree (after area.Pool) (let most = G.holds.sizes.pool.1 in omega (arith, most)) write task S.entries gfn L.entry 3 0
+    by (leads_stay I.tree (after area.Pool) (let most = G.holds.sizes.pool.1 in omega (arith, most)) write task S.entries gfn L.at L.entry 4 0
     (word_in z w area.Root 0) L.leaf (root_stands I.tree) L.leads)
   where
     I : TopicsInvariant z (view z w)
@@ -267,12 +267,14 @@ leads_or_takes z w G task after gfn write S L =
     allows leaf true writes may = writes refl may
     allows leaf false writes may = refl
 
-    by : LeadsOn I.tree (after area.Pool) (let most = G.holds.sizes.pool.1 in omega (arith, most)) write task S.entries gfn L.entry 4 (word_in z w area.Root 0)
+    by : LeadsOn I.tree (after area.Pool) (let most = G.holds.sizes.pool.1 in omega (arith, most)) write task S.entries gfn L.at L.entry 4
+        (word_in z w area.Root 0)
         ⊎ TakesEntry write task (stands I.up I.spot) (word_in z w area.Pool) gfn
         → LeadsToLeaf (after area.Pool) 4 (after area.Root 0) gfn write ⊎ TakesEntry write task (stands I.up I.spot) (word_in z w area.Pool) gfn
     by (inl on) = inl (record {
+      at = L.at;
       entry = on.leaf;
-      leads = subst (λ k. LeadsTo (after area.Pool) 4 k gfn on.leaf) (sym S.root) on.leads;
+      leads = subst (λ k. LeadsTo (after area.Pool) 4 k gfn L.at on.leaf) (sym S.root) on.leads;
       leaf = on.is_leaf;
       allows = allows on.leaf write on.writes L.allows;
     })

@@ -25,7 +25,7 @@ use Rattle.core_views.specs.declared.trace.Command.{Command}
 use Rattle.core_views.specs.Held.{Held}
 use Rattle.core_views.specs.Sizes.{actors_of}
 use Rattle.core_views.specs.SlotCommands.{arms, slot_armed, slot_invalidated}
-use Rattle.core_views.specs.declared.trace.Command.TheVariants.{Access, ChangeHost, ClearLog, DeleteSlot, GetLog, SetLog, SetSlot}
+use Rattle.core_views.specs.declared.trace.Command.TheVariants.{Access, ChangeHost, ClearLog, DeleteSlot, GetLog, Migrate, SetLog, SetSlot}
 use Rattle.spte_words.specs.Areas.{words_of_bits}
 use Rattle.mmu_core.specs.declared.invalidate.BeginNext.{BeginNext}
 use Rattle.mmu_core.specs.declared.invalidate.BeginNext.TheVariants as begins_next
@@ -68,6 +68,7 @@ invalidates slots (ChangeHost page change) z some = refl
 invalidates slots (SetSlot id slot) z some = refl
 invalidates slots (DeleteSlot id) z some = refl
 invalidates slots (GetLog id) z some = refl
+invalidates slots (Migrate call) z some = refl
 invalidates slots (ClearLog id first count words) z some = refl
 
 arms_some : (slots : MemorySlots) (c : Command) → is_some (slot_armed slots c) ≡ true → arms c ≡ true
@@ -78,6 +79,7 @@ arms_some slots (ChangeHost page change) some = absurd (cc some)
 arms_some slots (SetSlot id slot) some = absurd (cc some)
 arms_some slots (DeleteSlot id) some = absurd (cc some)
 arms_some slots (GetLog id) some = absurd (cc some)
+arms_some slots (Migrate call) some = absurd (cc some)
 arms_some slots (ClearLog id first count words) some = absurd (cc some)
 
 -- after a step of its invalidation's begin, and of its end

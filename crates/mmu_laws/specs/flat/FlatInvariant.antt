@@ -22,6 +22,8 @@ use Rattle.core_views.specs.declared.trace.Op.{Op}
 use Rattle.core_views.specs.Flat.{Facts, Flat, LineUnderWay, Notes, Fresh, HasAccessed, HasChangedHost, Idle}
 use Rattle.core_views.specs.Held.{Held}
 use Rattle.core_views.specs.Host.{is_denied}
+use Rattle.core_views.specs.Migrations.{is_paused}
+use Rattle.core_views.specs.declared.migration.Migration.TheVariants.{Unstarted}
 use Rattle.core_views.specs.HostChanges.{Agree}
 use Rattle.core_views.specs.Lawful.{SawForbidden, SawNoPage, SawPage}
 use Rattle.core_views.specs.Sizes.{actors_of}
@@ -38,12 +40,13 @@ use Rattle.part_steps.specs.PartTasks.{page_looked, word_looked}
 pub use Rattle.mmu_laws.specs.flat.LineStages.{HasBegunToRead, LogUnder, SlotChangeUnder, changed_stage}
 
 -- The slots are the live ones of the published set, in this page, each with its dirty log or without; each host page is mapped as its word says;
--- the content words of its frame are its memory; and a pause is set where its word isn't 0.
+-- the content words of its frame are its memory; a pause is set where its word isn't 0; and no line has started a migration.
 pub record Refines (z : Sizes) (set : ℕ) (pool hosts content : ℕ → ℕ) (pause : ℕ) (f : Facts) : Type 0 where
   pub slots : f.slots ≡ memory_slots_below pool set 32
   pub host : (p : ℕ) → p < z.pages → f.host p ≡ entry_of (hosts p)
   pub memory : (p j : ℕ) → p < z.pages → j < z.words → f.memory p j ≡ content (content_index (map_of z) (host_frame (hosts p)) j)
-  pub paused : f.paused ≡ not (pause == 0)
+  pub paused : is_paused f.migration ≡ not (pause == 0)
+  pub idle : f.migration ≡ Unstarted
 
 -- The slots that the line looked at are those of the slot set that its search holds, and the ones that the search has passed don't hold
 -- the guest frame.

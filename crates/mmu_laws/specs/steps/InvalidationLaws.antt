@@ -64,7 +64,7 @@ pub record ZapsOwnFrame (z : Sizes) (w : World Held) (s : Step Kind) : Type 0 wh
   pub of_own : IsIn (held_by w s).invalidations.own gfn
   pub page : ℕ
   pub on : s.kind.word ≡ place (map_of z) area.Pool (pool_index page (entry_index gfn 1))
-  pub leads : LeadsTo (word_in z w area.Pool) 4 (word_in z w area.Root 0) gfn (word_in z w area.Pool (pool_index page (entry_index gfn 1)))
+  pub leads : LeadsTo (word_in z w area.Pool) 4 (word_in z w area.Root 0) gfn 1 (word_in z w area.Pool (pool_index page (entry_index gfn 1)))
   pub leaf : kind_of 1 (word_in z w area.Pool (pool_index page (entry_index gfn 1))) ≡ Leaf
 
 -- So is each step that zaps.

@@ -11,7 +11,7 @@ use Rattle.flat_laws.proofs.StandsAlone.{one_by_one_stands}
 use Rattle.flat_laws.proofs.laws.flat_history_is_lawful.Goals as goal
 
 pub returns-clause-lawful : goal.returns-clause-lawful
-returns-clause-lawful c h lines = one_by_one_lawful h lines first_flat (λ i. refl) refl (record { lines = first_of_lines; caused = first_caused })
+returns-clause-lawful c h lines = one_by_one_lawful h lines first_flat (λ i. refl) (record { lines = first_of_lines; caused = first_caused })
 
 pub returns-clause-whole : goal.returns-clause-whole
 returns-clause-whole c h lines = stands_whole lines (one_by_one h lines first_facts) (one_by_one_stands h lines first_facts)

@@ -1,5 +1,6 @@
-use Rattle.std.proofs.Common.{◌≡◌, ◌⊎◌, inl, inr, ℕ, List, Bool, true, false, refl}
-use Rattle.std.specs.Prelude.{Contains}
+use Rattle.std.proofs.Common.{◌≡◌, ◌⊎◌, inl, inr, ℕ, List, Bool, true, false, refl, ◌||◌}
+use Rattle.std.specs.Prelude.{Contains, not}
+use Rattle.core_views.specs.Migrations.{is_stopped}
 use Rattle.core_views.specs.declared.actor.Actor.{Actor}
 use Rattle.core_views.specs.declared.event.Event.{Event}
 use Rattle.core_views.specs.Flat.{first_flat}
@@ -98,6 +99,11 @@ returns-clause-written c history gfn = (
 
 -- ---- the frames that a reading must not leave out
 
+no_write : (stopped written : Bool) → stopped ≡ false → written ≡ true → (stopped || not written) ≡ true → ⊥
+no_write true written goes is open_ = cc goes
+no_write false true goes is open_ = cc open_
+no_write false false goes is open_ = cc is
+
 due : (history : List Event) (gfn : ℕ) → DueSince gfn history first_flat ⊎ ((first_flat.past.due gfn ≡ true) × NoneIsTaken history) → WasDue history gfn
 due history gfn (inl D) = record {
   before = D.before;
@@ -106,24 +112,25 @@ due history gfn (inl D) = record {
   since = D.since;
   history_is = D.are;
   dirty = D.dirty;
-  unwritten = λ other begun.
-      let writes = is_written (after_all D.before first_flat).past.writes other gfn (begun_is_in D.before other gfn first_flat begun) in
-      let none = D.unwritten in
-      absurd (cc (writes, none));
+  unwritten = λ goes other begun.
+      no_write (is_stopped (after_all D.before first_flat).facts.migration) (is_being_written (after_all D.before first_flat).past.writes gfn) goes
+      (is_written (after_all D.before first_flat).past.writes other gfn (begun_is_in D.before other gfn first_flat begun)) D.unwritten;
   last = D.last;
 }
 due history gfn (inr stood) = let there = stood.0 in absurd (cc there)
 
-unwritten : (before : List Event) (gfn : ℕ) → ((other : Actor) → HasBegunWrite before other gfn → ⊥)
-    → is_being_written (after_all before first_flat).past.writes gfn ≡ false
-unwritten before gfn none = by (is_being_written writes gfn) refl
+unwritten : (before : List Event) (gfn : ℕ)
+    → (is_stopped (after_all before first_flat).facts.migration ≡ false → (other : Actor) → HasBegunWrite before other gfn → ⊥)
+    → (is_stopped (after_all before first_flat).facts.migration || not (is_being_written (after_all before first_flat).past.writes gfn)) ≡ true
+unwritten before gfn none = by (is_stopped (after_all before first_flat).facts.migration) (is_being_written writes gfn) refl refl
   where
     writes : List (Actor × ℕ)
     writes = (after_all before first_flat).past.writes
 
-    by : (b : Bool) → is_being_written writes gfn ≡ b → is_being_written writes gfn ≡ false
-    by false is = is
-    by true is = let W = some_writes writes gfn is in absurd (none W.actor (has_begun before W.actor gfn W.has))
+    by : (stopped b : Bool) → is_stopped (after_all before first_flat).facts.migration ≡ stopped → is_being_written writes gfn ≡ b → (stopped || not b) ≡ true
+    by true b goes is = refl
+    by false false goes is = refl
+    by false true goes is = let W = some_writes writes gfn is in absurd (none goes W.actor (has_begun before W.actor gfn W.has))
 
 pub returns-clause-due : goal.returns-clause-due
 returns-clause-due c history gfn = (

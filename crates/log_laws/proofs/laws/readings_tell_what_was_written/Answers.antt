@@ -5,11 +5,11 @@ use Rattle.core_views.specs.Flat.{Flat, first_flat}
 use Rattle.core_views.specs.Events.{after, after_all}
 use Rattle.flat_laws.proofs.WrittenSince.{after_append}
 use Rattle.log_laws.specs.HarvestLaws.{IsMadeClean, MakesClean, made_by}
-use Rattle.log_laws.proofs.OneReader.{apart, lone_complete}
+use Rattle.log_laws.proofs.OneReader.{apart, lone_complete, stopped_complete}
 use Rattle.log_laws.proofs.Pending.{Cleaned, dirty_until, makes_clean, write_marks}
-use Rattle.log_laws.proofs.PendingArmed.{all_armed, armed_found, first_armed}
+use Rattle.flat_laws.proofs.PendingArmed.{all_armed, armed_found, first_armed}
 use Rattle.log_laws.proofs.Readings.{caused, complete}
-use Rattle.log_laws.proofs.Rules.{arming, such_may}
+use Rattle.log_laws.proofs.Rules.{arming, such_may, such_may_next}
 use Rattle.log_laws.proofs.laws.readings_tell_what_was_written.Goals as goal
 
 pub returns-clause-dirty : goal.returns-clause-dirty
@@ -66,3 +66,9 @@ returns-clause-apart c = apart
 
 pub returns-clause-lone : goal.returns-clause-lone
 returns-clause-lone c = lone_complete c.writes_are_kept.ensures.due
+
+pub returns-clause-stopped : goal.returns-clause-stopped
+returns-clause-stopped c = stopped_complete c.writes_are_kept.ensures.due
+
+pub returns-clause-next : goal.returns-clause-next
+returns-clause-next c = such_may_next c.writes_are_kept.ensures.due c.writes_are_kept.ensures.written

@@ -5,7 +5,7 @@ use Rattle.std.proofs.lemmas.Option.{same_Some}
 use Rattle.std.specs.Prelude.{Some, if◌then◌else◌}
 use Rattle.core_views.specs.declared.slot_set.MemorySlot.{MemorySlot}
 use Rattle.core_views.specs.declared.trace.Command.TheVariants.{GetLog}
-use Rattle.core_views.specs.Flat.{Facts, Flat, HasTaken, first_facts, first_flat}
+use Rattle.core_views.specs.Flat.{Facts, Flat, HasTaken, Stage, first_facts, first_flat}
 use Rattle.core_views.specs.Harvests.{IsHarvest}
 use Rattle.core_views.specs.LogCommands.{is_among, words_of}
 use Rattle.core_views.specs.Past.{Past}
@@ -21,7 +21,10 @@ use Rattle.core_views.specs.declared.trace.Op.{Op}
 use Rattle.core_views.specs.declared.trace.Op.TheVariants.{Write}
 use Rattle.core_views.specs.Events.{after_all}
 use Rattle.core_views.specs.FlatHistory.{by, one_by_one}
-use Rattle.core_views.specs.Lawful.{MayRead, Reaches}
+use Rattle.core_views.specs.declared.trace.Command.{Command}
+use Rattle.core_views.specs.LogCommands.{takes_out}
+use Rattle.core_views.specs.Migrations.{is_stopped}
+use Rattle.core_views.specs.Lawful.{MayHarvest, MayRead, Reaches}
 use Rattle.core_views.specs.Names.{named_frame}
 use Rattle.flat_laws.proofs.AloneIsLawful.{lawful_append, one_by_one_lawful, lawful_parts}
 use Rattle.flat_laws.proofs.Caused.{first_caused}
@@ -43,18 +46,31 @@ must_read f past id gfn frames slot H there has due =
     let same : H.slot ≡ slot = same_Some H.slot slot (sym H.there ∙ there) in
     H.complete gfn (ap (λ (m : MemorySlot). contains gfn m.slot) same ∙ has) refl due
 
+-- what a reading holds that is taken out of a log, whichever line makes it
+harvest_of : (z : Sizes) (f : Facts) (past : Past) (command : Command) (stage : Stage) (frames : List ℕ)
+    → MayRead z f past command stage 0 frames true ⊎ MayHarvest f past command stage 0 frames → IsHarvest f past command 0 frames
+harvest_of z f past command stage frames (inl may) = may.harvest
+harvest_of z f past command stage frames (inr may) = may.harvest
+
+-- A line that has begun to read one log is no line of a migration; it doesn't take out what it is not to.
+no_reading : (z : Sizes) (f : Facts) (past : Past) (command : Command) (id : ℕ) (frames : List ℕ) (out : Bool) → (takes_out z.mode command ≡ true → ⊥)
+    → MayRead z f past command (HasTaken id) 0 frames true ⊎ MayHarvest f past command (HasTaken id) 0 frames → ⊥
+no_reading z f past command id frames out never (inl may) = never may.takes
+no_reading z f past command id frames out never (inr may) = let is = may.begun in cc is
+
 pub returns-clause-left_out : goal.returns-clause-left_out
 returns-clause-left_out c lawful =
-    let read : is_among 1 [] ≡ true = must_read _ _ 0 1 [] logged_slot lawful.1.1.1.1.1.1.1.1.1.1.1.1.1.1.1.0.harvest refl refl refl in absurd (cc read)
+    let harvest = harvest_of _ _ _ _ _ _ lawful.1.1.1.1.1.1.1.1.1.1.1.1.1.1.1.0 in
+    let read : is_among 1 [] ≡ true = must_read _ _ 0 1 [] logged_slot harvest refl refl refl in absurd (cc read)
 
 pub returns-clause-unwritten : goal.returns-clause-unwritten
-returns-clause-unwritten c lawful = absurd (cc (lawful.1.1.1.1.1.1.1.1.1.0.harvest.caused 1 refl))
+returns-clause-unwritten c lawful = absurd (cc ((harvest_of _ _ _ _ _ _ lawful.1.1.1.1.1.1.1.1.1.0).caused 1 refl))
 
 pub returns-clause-again : goal.returns-clause-again
-returns-clause-again c lawful = absurd (cc (lawful.1.1.1.1.1.1.1.1.1.1.1.1.1.1.1.1.1.1.1.0.harvest.caused 1 refl))
+returns-clause-again c lawful = absurd (cc ((harvest_of _ _ _ _ _ _ lawful.1.1.1.1.1.1.1.1.1.1.1.1.1.1.1.1.1.1.1.0).caused 1 refl))
 
 pub returns-clause-manual : goal.returns-clause-manual
-returns-clause-manual c lawful = absurd (cc lawful.1.1.1.1.1.1.1.1.1.1.1.1.1.1.1.0.takes)
+returns-clause-manual c lawful = no_reading _ _ _ _ _ _ true (λ e. cc e) lawful.1.1.1.1.1.1.1.1.1.1.1.1.1.1.1.0
 
 pub returns-clause-automatic : goal.returns-clause-automatic
 returns-clause-automatic c lawful = absurd (cc lawful.1.1.1.1.1.1.1.1.1.1.1.1.1.1.1.0.takes)
@@ -162,24 +178,24 @@ got = after_all first_get written
 
 -- Either access reaches frame 1.
 reaches_one : (f : Facts) (op : Op) (value : ℕ) → named_frame (flat_slots f.slots) f.host 1 op ≡ Some 1 → page_behind (flat_slots f.slots) 1 op ≡ Some 1
-    → f.memory 1 0 ≡ value → Reaches f 1 0 op 1 value
-reaches_one f op value named behind is = record { named = named; page = 1; behind = behind; value_is = is }
+    → f.memory 1 0 ≡ value → is_stopped f.migration ≡ false → Reaches f 1 0 op 1 value
+reaches_one f op value named behind is goes = record { named = named; page = 1; behind = behind; value_is = is; goes = goes }
 
 pub returns-clause-race : goal.returns-clause-race
 unfolding words_of
 returns-clause-race c =
     lawful_append sizes race next_get first_flat
     (lawful_append sizes begins (looks ++ (other_writes ++ (first_get ++ writes))) first_flat
-    (one_by_one_lawful sizes (with_log 16 []) first_flat (λ i. refl) refl (record { lines = first_of_lines; caused = first_caused }))
+    (one_by_one_lawful sizes (with_log 16 []) first_flat (λ i. refl) (record { lines = first_of_lines; caused = first_caused }))
     (lawful_append sizes looks (other_writes ++ (first_get ++ writes)) begun ((refl, refl), (refl, (refl, (refl, tt))))
     (lawful_append sizes other_writes (first_get ++ writes) looked
-    ((refl, refl), (refl, (refl, (refl, ((refl, refl, refl, reaches_one looked.facts (Write 8) 0 refl refl refl), ((refl, refl), tt))))))
+    ((refl, refl), (refl, (refl, (refl, ((refl, refl, refl, reaches_one looked.facts (Write 8) 0 refl refl refl refl), ((refl, refl), tt))))))
     (lawful_append sizes first_get writes written
-    ((refl, refl), ((refl, refl, refl), (none_read _ _ refl (λ gfn. none_due (1 == gfn) _ _), ((refl, refl), tt))))
-    ((refl, refl, refl, reaches_one got.facts (Write 7) 8 refl refl refl), ((refl, refl), tt))))))
-    ((refl, refl), ((refl, refl, refl), (one_read _ _ refl (λ gfn. one_due (1 == gfn) _ _) refl, ((refl, refl), tt))))
+    ((refl, refl), (inl (refl, refl, refl), (inl (none_read _ _ refl (λ gfn. none_due (1 == gfn) _ _)), ((refl, refl), tt))))
+    ((refl, refl, refl, reaches_one got.facts (Write 7) 8 refl refl refl refl), ((refl, refl), tt))))))
+    ((refl, refl), (inl (refl, refl, refl), (inl (one_read _ _ refl (λ gfn. one_due (1 == gfn) _ _) refl), ((refl, refl), tt))))
 
 pub returns-clause-next : goal.returns-clause-next
 returns-clause-next c lawful =
     let then_ = (lawful_parts sizes race (get_of (log_line 7 (GetLog 0)) [] (0 ∷ [])) first_flat lawful).1 in
-    let read : is_among 1 [] ≡ true = must_read _ _ 0 1 [] logged_slot then_.1.1.0.harvest refl refl refl in absurd (cc read)
+    let read : is_among 1 [] ≡ true = must_read _ _ 0 1 [] logged_slot (harvest_of _ _ _ _ _ _ then_.1.1.0) refl refl refl in absurd (cc read)

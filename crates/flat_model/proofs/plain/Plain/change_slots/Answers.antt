@@ -18,6 +18,7 @@ invariant_of-self-2 c =
       c.self.invariant.0,
       subst (λ slots. AreSlotsOf z.pages (flat_slots slots)) (sym c.make_change.ensures)
           (slots_fit z command c.self.inside.slots works c.self.invariant.1),
+      c.self.invariant.2,
     )
 
 pub returns-clause-changes : goal.returns-clause-changes
@@ -27,9 +28,9 @@ returns-clause-changes c =
     let command = c.args.line.now.command in
     let works = ap (λ s. change_at_once s command c.self.inside.slots) (sym c.sizes-sizes.ensures) ∙ sym c.at_once.ensures ∙ c.in_default.is in
     let before : Kept =
-    record { sizes = z; slots = inside.slots; changed = inside.host.changed; words = inside.memory.entries; dirty = inside.dirty } in
+    record { sizes = z; slots = inside.slots; changed = inside.host.changed; words = inside.memory.entries; dirty = inside.dirty; copies = inside.copies } in
     let after : Kept =
-    record { sizes = z; slots = c.make_change.new.self; changed = before.changed; words = before.words; dirty = c.change_slot.new.self } in
+    record before { slots = c.make_change.new.self; dirty = c.change_slot.new.self } in
     let all_is = c.sets_all-all.ensures ∙ ap (λ (s : Sizes). sets_all s.mode command) c.sizes-sizes.ensures in
     rw (← c.self.view_is) (subst (ChangesSlots command before after Done) (sym works) (
       refl,
@@ -39,6 +40,7 @@ returns-clause-changes c =
         slots = c.make_change.ensures;
         changed = refl;
         words = refl;
+        copies = refl;
         dirty = λ gfn. c.in_ok-change_slot.ensures.dirty gfn
             ∙ ap (λ (all : Bool). dirty_by all c.get.result c.get-2.result (is_dirty before.dirty) gfn) all_is;
       }),

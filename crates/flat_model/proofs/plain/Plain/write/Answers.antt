@@ -13,7 +13,8 @@ returns-after-newly_dirty-clause-kept c =
     let inside = c.self.inside in
     elim c.if-newly_dirty.branch [
       | then-newly_dirty w ↦ w.self-is
-          ∙ same_kept inside.host.sizes inside.slots inside.host.changed _ _ _ _ c.in-Err.ensures.err (w.remove.ensures ∙ search rules) ∙ c.self.view_is
+          ∙ same_kept inside.host.sizes inside.slots inside.host.changed _ _ _ _ inside.copies c.in-Err.ensures.err (w.remove.ensures ∙ search rules)
+          ∙ c.self.view_is
       | else-newly_dirty w ↦ w.self-is
-          ∙ same_kept inside.host.sizes inside.slots inside.host.changed _ _ _ _ c.in-Err.ensures.err (search rules) ∙ c.self.view_is
+          ∙ same_kept inside.host.sizes inside.slots inside.host.changed _ _ _ _ inside.copies c.in-Err.ensures.err (search rules) ∙ c.self.view_is
     ]

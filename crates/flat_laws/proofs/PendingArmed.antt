@@ -12,7 +12,7 @@ use Rattle.core_views.specs.declared.answer.Refusal.{Refusal}
 use Rattle.core_views.specs.declared.sizes.Sizes.{Sizes}
 use Rattle.core_views.specs.declared.slot_set.MemorySlot.{MemorySlot}
 use Rattle.core_views.specs.declared.trace.Command.{Command}
-use Rattle.core_views.specs.declared.trace.Command.TheVariants.{Access, ChangeHost, ClearLog, DeleteSlot, GetLog, SetLog, SetSlot}
+use Rattle.core_views.specs.declared.trace.Command.TheVariants.{Access, ChangeHost, ClearLog, DeleteSlot, GetLog, Migrate, SetLog, SetSlot}
 use Rattle.core_views.specs.declared.trace.Op.{Op}
 use Rattle.core_views.specs.Slots.{contains, is_some_and, is_write}
 use Rattle.core_views.specs.SlotCommands.{at_once, is_unchanged, refused_or_done, slot_change}
@@ -22,9 +22,11 @@ use Rattle.core_views.specs.LogCommands.{is_among}
 use Rattle.core_views.specs.Past.{Past, has_gfn}
 use Rattle.core_views.specs.Flat.{Facts, Flat, LineUnderWay, first_flat}
 use Rattle.core_views.specs.Events.{after, after_all, facts_after, is_armed}
+use Rattle.core_views.specs.declared.event.EventKind.TheVariants.{GuestStopped, MigrationStarted, PauseSet, Resumed, WordCopied}
 use Rattle.core_views.specs.Lawful.{IsAllowed, IsLawful, HasWork}
+use Rattle.core_views.proofs.Barred.{unbarred}
 use Rattle.core_views.proofs.Sound.{passes}
-use Rattle.log_laws.proofs.SlotsApart.{Apart, FitsAt, RisesFrom, changed_apart, changed_elsewhere, changed_rises, holding_stands, meets_none, stands_held}
+use Rattle.flat_laws.proofs.SlotsApart.{Apart, FitsAt, RisesFrom, changed_apart, changed_elsewhere, changed_rises, holding_stands, meets_none, stands_held}
 
 -- The frame is in a slot whose writes are logged.
 pub record IsInArmed (f : Facts) (gfn : ℕ) : Type 0 where
@@ -70,6 +72,7 @@ fits z f actor (Access gfn word op) id slot apart works is = absurd (cc is)
 fits z f actor (ChangeHost page change) id slot apart works is = absurd (cc is)
 fits z f actor (GetLog i) id slot apart works is = absurd (cc is)
 fits z f actor (ClearLog i first count words) id slot apart works is = absurd (cc is)
+fits z f actor (Migrate call) id slot apart works is = absurd (cc is)
 fits z f actor (DeleteSlot i) id slot apart works is =
     subst (λ (o : Option MemorySlot). FitsAt id o f.slots) (ap (λ (change : ℕ × Option MemorySlot). change.1) (same_Some (i, None) (id, slot) is))
     (λ gfn j n ne at has here. absurd (cc here))
@@ -78,7 +81,7 @@ fits z f actor (SetSlot i s) id slot apart works is =
     let same : ◌≡◌ {A = ℕ × Option MemorySlot} (i, made) (id, slot) = same_Some (i, made) (id, slot) is in
     subst (λ (change : ℕ × Option MemorySlot). FitsAt change.0 change.1 f.slots) same
     (meets_none i s (is_logged i f.slots) f.slots
-    (passes z.pages i s f.slots (none_set (set_refusal z.pages i s f.slots) (is_unchanged (SetSlot i s) f.slots) works)).guest)
+    (passes z.pages i s f.slots (none_set (set_refusal z.pages i s f.slots) (is_unchanged (SetSlot i s) f.slots) (unbarred _ _ works).1)).guest)
 fits z f actor (SetLog i on) id slot apart works is = subst (λ (change : ℕ × Option MemorySlot). FitsAt change.0 change.1 f.slots) same keeps
   where
     made : Option MemorySlot
@@ -180,7 +183,7 @@ begun_armed f id all A = record { rising = A.rising; apart = A.apart; armed = ea
     each : (gfn : ℕ) → (facts_after (Armed id all) f).pending gfn ≡ true → IsInArmed (facts_after (Armed id all) f) gfn
     each gfn dirty = by gfn (slot_of_id id f.slots) refl (has_gfn (slot_of_id id f.slots) gfn) refl dirty
 
-armed_after : (z : Sizes) (f : Facts) (past : Past) (actor : Actor) (u : LineUnderWay) (kind : EventKind) → IsAllowed z f past actor u kind → AreArmed f
+pub armed_after : (z : Sizes) (f : Facts) (past : Past) (actor : Actor) (u : LineUnderWay) (kind : EventKind) → IsAllowed z f past actor u kind → AreArmed f
     → AreArmed (facts_after kind f)
 armed_after z f past actor u (Accessed gfn word op frame before) may A = accessed_armed f gfn word op frame before A
 armed_after z f past actor u (SlotChanged id slot) may A = changed_armed z f actor u.line.command id slot may.1 may.2 A
@@ -189,6 +192,12 @@ armed_after z f past actor u (Harvested id frames) may A =
     kept_armed f (facts_after (Harvested id frames) f) refl refl (λ gfn is. (and_parts (not (is_among gfn frames)) (f.pending gfn) is).1) A
 armed_after z f past actor u (BroughtIn page) may A = kept_armed f (facts_after (BroughtIn page) f) refl refl (λ gfn is. is) A
 armed_after z f past actor u (HostChanged page entry) may A = kept_armed f (facts_after (HostChanged page entry) f) refl refl (λ gfn is. is) A
+armed_after z f past actor u MigrationStarted may A = kept_armed f (facts_after MigrationStarted f) refl refl (λ gfn is. is) A
+armed_after z f past actor u PauseSet may A = kept_armed f (facts_after PauseSet f) refl refl (λ gfn is. is) A
+armed_after z f past actor u GuestStopped may A = kept_armed f (facts_after GuestStopped f) refl refl (λ gfn is. is) A
+armed_after z f past actor u (WordCopied gfn page word value whole) may A =
+    kept_armed f (facts_after (WordCopied gfn page word value whole) f) refl refl (λ gfn is. is) A
+armed_after z f past actor u Resumed may A = kept_armed f (facts_after Resumed f) refl refl (λ gfn is. is) A
 armed_after z f past actor u _ may A = A
 
 pub all_armed : (z : Sizes) (history : List Event) (f : Flat) → IsLawful z f history → AreArmed f.facts → AreArmed (after_all history f).facts

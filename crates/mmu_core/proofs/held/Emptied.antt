@@ -1,0 +1,39 @@
+-- Which open invalidations leave nothing of their frames: those of host pages, and those of slots up to the publication.
+use Rattle.std.proofs.Common.{◌≡◌, ℕ, refl, subst, ap, ◌∙◌}
+use Rattle.std.specs.Prelude.{Bool, true, false, ◌&&◌, ◌||◌, not, Option, Some, None, is_some}
+use Rattle.core_views.specs.declared.topics.OwnedPage.{OwnedPage}
+use Rattle.core_views.specs.declared.topics.Topics.{Topics}
+use Rattle.part_steps.specs.PageTopics.{given_back, still_retired}
+use Rattle.mmu_core.specs.invariant.InvalidatedPart.{has_emptied}
+use Rattle.mmu_core.proofs.lines.FaultSame.{both}
+
+pub emptied_open : (t : Topics) → has_emptied t ≡ true → t.invalidations.opened ≡ true
+emptied_open t is = (both t.invalidations.opened (is_some t.invalidations.own.page || not (is_some t.retired)) is).0
+
+pub page_emptied : (t : Topics) (page : ℕ) → t.invalidations.opened ≡ true → t.invalidations.own.page ≡ Some page → has_emptied t ≡ true
+page_emptied t page opened of_page =
+    ap (λ (b : Bool). b && (is_some t.invalidations.own.page || not (is_some t.retired))) opened
+    ∙ ap (λ (p : Option ℕ). is_some p || not (is_some t.retired)) of_page
+
+by_none : (p r : Option ℕ) → r ≡ None → (is_some p || not (is_some r)) ≡ true
+by_none (Some page) r none = refl
+by_none None r none = ap (λ (x : Option ℕ). not (is_some x)) none
+
+pub slot_emptied : (t : Topics) → t.invalidations.opened ≡ true → t.retired ≡ None → has_emptied t ≡ true
+slot_emptied t opened none =
+    ap (λ (b : Bool). b && (is_some t.invalidations.own.page || not (is_some t.retired))) opened ∙ by_none t.invalidations.own.page t.retired none
+
+-- Behind a publication it has none any more.
+pub published_none : (opened : Bool) (page : Option ℕ) → (opened ≡ true → page ≡ None) → (opened && (is_some page || false)) ≡ true → ⊥
+published_none true (Some page) none is = let no = none refl in cc no
+published_none true None none is = cc is
+published_none false page none is = cc is
+
+-- Who gives a page back that it owns has retired what it had.
+still_there : (owned : Option OwnedPage) (retired : Option ℕ) → is_some owned ≡ true → still_retired owned retired ≡ retired
+still_there None retired some = absurd (cc some)
+still_there (Some o) retired some = refl
+
+pub given_emptied : (t : Topics) → is_some t.owned ≡ true → has_emptied (given_back t) ≡ true → has_emptied t ≡ true
+given_emptied t some is =
+    subst (λ (r : Option ℕ). (t.invalidations.opened && (is_some t.invalidations.own.page || not (is_some r))) ≡ true) (still_there t.owned t.retired some) is
