@@ -87,7 +87,7 @@ ExcludesWhereOthersRest answer note before after = WherePartMade Exclude note be
 
 -- the seat of the machine's actor at a place, if it told neither the world nor the steps
 abbrev pub untold_in : Machine → ℕ → Seat
-untold_in m actor = record (seat_in m actor) { tells = record { world = None; steps = None } }
+untold_in m actor = record (seat_in m None actor) { tells = record { world = None; steps = None } }
 
 -- It holds of each world in which a writer's exchange may have been made with its answer, and of the world after it.
 abbrev pub OfEachExchange : Seat → Seat → (World Held → World Held → Type 0) → Type 0

@@ -12,7 +12,7 @@ use mmu_steps::allows;
 use part_steps::{PartStep, map_of};
 use std::alloc::Global;
 use std::test::Fail;
-use step_seats::{PlainMachine, Stepper, Turn, make_part};
+use step_seats::{MachineOwner, PlainMachine, Stepper, Turn, make_part};
 
 /// What comes of an act: some words, and up to four numbers after them.
 #[derive(Clone, Copy, Drop)]

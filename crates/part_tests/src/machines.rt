@@ -5,7 +5,7 @@ ghost use Rattle.core_views.specs.Sizes.{index_of};
 use core_views::Actor;
 use std::alloc::Global;
 use std::test::Fail;
-use step_seats::PlainMachine;
+use step_seats::{MachineOwner, PlainMachine};
 use tdp_io::MemSource;
 use trace_reader::{Read, read_trace};
 

@@ -12,7 +12,7 @@ use core_views::{Actor, Answer, Hand, NoMemory};
 use mmu_core::rests;
 use mmu_steps::next_kind;
 use std::test::Fail;
-use step_seats::{PlainMachine, Stepper};
+use step_seats::{MachineOwner, PlainMachine, Stepper};
 
 // The next step of the seat's line, through the bound, where it has one left.
 fn step<S: Stepper>(seat: &mut S) -> Result<Option<u64>, NoMemory>

@@ -8,12 +8,12 @@ ghost use Rattle.step_seats.specs.Frames.{frame_of};
 
 use core_views::{Hand, Kind, NoMemory};
 use mmu_lock::{Lock, try_exclusive};
-use step_seats::{ActorSeat, MachineFrame, Stepper};
+use step_seats::{ActorSeat, MachineFrame, PlainMachine, Stepper};
 
 /// The seat of an actor, which tells neither the world nor the steps.
 #[derive(Drop)]
 pub struct UntoldSeat<'a> {
-    pub seat: ActorSeat<'a>,
+    pub seat: ActorSeat<'a, PlainMachine>,
 }
 
 impl Stepper for UntoldSeat<'_> {

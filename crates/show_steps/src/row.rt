@@ -15,7 +15,7 @@ use mmu_core::rests;
 use mmu_steps::next_kind;
 use part_steps::map_of;
 use spte_words::{Area, WordMap};
-use step_seats::PlainMachine;
+use step_seats::{MachineOwner, PlainMachine};
 use step_text::{Ending, Row, WordPlace, place_of};
 
 // The place of a word, and that of the first one where there is no such word.

@@ -14,7 +14,7 @@ ghost use Rattle.show_steps.specs.Tells.{TellsAll, is_going};
 use crate::lines::{ended, going, put_item, put_open, put_rounds};
 use crate::row::{anew, next_row};
 use core_views::{Item, Line, NoMemory, Sizes};
-use step_seats::{PlainMachine, Turn};
+use step_seats::{MachineOwner, PlainMachine, Turn};
 use step_text::{Ending, Row};
 use tdp_io::{Sink, Stop, write_all};
 use weave_engine::{Printer, TurnPrinter, Turned, last_answer, run_by_turns, turn_on, write_piece};
@@ -71,7 +71,7 @@ fn is_going(turn: &Turn<()>) -> bool
     }
 }
 
-impl<K: Sink> TurnPrinter for StepPrinter<'_, K> {
+impl<K: Sink> TurnPrinter<PlainMachine> for StepPrinter<'_, K> {
     ghost ready = { λ p.
         MayPrint (printed_by (K.written p.out.now) (K.faults p.out.now) (K.failed p.out.now) (string_bytes p.waiting.now) p.sizes p.fills p.next) };
 
@@ -142,7 +142,7 @@ impl<K: Sink> TurnPrinter for StepPrinter<'_, K> {
     ) };
 }
 
-impl<K: Sink> Printer for StepPrinter<'_, K> {
+impl<K: Sink> Printer<PlainMachine> for StepPrinter<'_, K> {
     fn line(&mut self, machine: &mut PlainMachine, line: &Line) -> Result<(), Stop> {
         run_by_turns(self, machine, line)
     }

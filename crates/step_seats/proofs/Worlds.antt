@@ -1,20 +1,22 @@
--- The world of a plain machine before and after one step.
-use Rattle.std.proofs.Common.{◌≡◌, ◌<◌, ℕ, zero, suc, List, [], ◌∷◌, length, map, refl, ◌∙◌, ap, subst, sym, slice_index, slice_index_or, slice_set}
-use Rattle.std.proofs.Math.ListN.{length-map, get_or-map}
-use Rattle.std.proofs.lemmas.List.{get_or_read}
+-- The world of a machine before and after one step.
+use Rattle.std.proofs.Common.{◌≡◌, ◌<◌, ℕ, zero, suc, List, [], ◌∷◌, length, map, refl, ◌∙◌, ap, arith, subst, sym, slice_index, slice_index_or, slice_set}
+use Rattle.std.proofs.Common.{Some, None}
+use Rattle.std.proofs.Math.ListN.{length-map, length-set, get_or-map}
+use Rattle.std.proofs.lemmas.List.{get_or-set_same, get_or_read}
 use Rattle.std.proofs.Math.Seq.{map-set_same}
 use Rattle.core_views.specs.declared.kind.Kind.{Kind}
 use Rattle.core_views.specs.declared.sizes.Sizes.{Sizes}
-use Rattle.core_views.specs.Held.{Handful}
+use Rattle.core_views.specs.Held.{Held, Handful}
 use Rattle.core_views.specs.Sizes.{actors_of}
 use Rattle.core_views.specs.Kinds.{after, answer}
 use Rattle.mmu_core.specs.machine.Enabled.{Enabled, mmu}
-use Rattle.mmu_core.specs.machine.Machine.{Leads, May, effect, answered, hand_in}
+use Rattle.mmu_core.specs.machine.Machine.{Leads, May, World, effect, answered, hand_in}
 use Rattle.mmu_core.specs.machine.Steps.{next}
 use Rattle.mmu_core.specs.machine.Worlds.{HandReached}
 use Rattle.mmu_core.proofs.machine.Extend.{goes_on}
 use Rattle.mmu_core.proofs.machine.Sized.{as_many_as_actors, enabled_inside}
-use Rattle.step_seats.specs.Machines.{IsMachine, Machine, world_in}
+use Rattle.step_seats.specs.Acts.{Acts}
+use Rattle.step_seats.specs.Machines.{IsMachine, Machine, seat_in, world_in}
 use Rattle.std.proofs.lemmas.Grind.{merely}
 use Rattle.step_seats.specs.Frames.{frame_of, other_rooms, room_of}
 use Rattle.step_seats.specs.Where.{HasHand, IsMadeIn}
@@ -173,6 +175,21 @@ has_hand z words hands m i machine view there =
       is = sym (core_at words hands i);
     } in
     subst (λ (x : Machine). HasHand i (core_of (handful_in x.hands i)) (world_in x)) view inside
+
+-- The step is an act of the actor's seat.
+pub acts_by : (z : Sizes) (words : List ℕ) (hands : List Handful) (m : Machine) (i : ℕ) (k : Kind) (n v : ℕ) (h : Handful) → machine_of z words hands ≡ m
+    → i < length m.hands → Stepped m words hands i k n v h → IsMachine z (slice_set words k.word n) (slice_set hands i h)
+    → Acts k v (seat_in m None i) (seat_in (machine_of z (slice_set words k.word n) (slice_set hands i h)) None i)
+acts_by z words hands m i k n v h view there s machine =
+    let inside = there_inside z words hands m i view there in
+    let own : h ≡ handful_in (slice_set hands i h) i = sym (get_or-set_same hands i h no_hand inside) in
+    record {
+      hand = ap core_of (sym own) ∙ (s.made.hand ∙ ap (λ (x : ℕ). next (core_of (handful_in m.hands i)) k x) s.answers);
+      world = (s.may, s.answers, ap (λ (w : World Held). Some w) s.leaves);
+      steps = refl;
+      answers = (subst (λ (x : Handful). IsMadeIn k i (core_of (handful_in m.hands i)) (core_of x) (world_in m)) own s.made, s.answers);
+      has = has_hand _ _ _ _ i machine refl (omega (arith, length-set hands i h, inside));
+    }
 
 -- The world is as it was where a hand takes the place of one that holds the same.
 pub world_same : (z : Sizes) (words : List ℕ) (hands : List Handful) (m : Machine) (i : ℕ) (before h : Handful) → machine_of z words hands ≡ m

@@ -1,4 +1,4 @@
--- What the steps of one seat at a plain machine leave as it is.
+-- What the steps of one seat at a machine leave as it is.
 use Rattle.std.specs.Prelude.{ℕ, List, [], map, slice_set}
 use Rattle.core_views.specs.declared.sizes.Sizes.{Sizes}
 use Rattle.core_views.specs.Held.{Handful}

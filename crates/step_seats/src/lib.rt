@@ -2,6 +2,7 @@
 #![tactic(auto)]
 
 mod fault;
+mod owner;
 mod part;
 mod plain;
 mod seat;
@@ -10,6 +11,7 @@ mod stepper;
 mod turn;
 
 pub use fault::{fault_place, is_fast_place};
+pub use owner::MachineOwner;
 pub use part::make_part;
 pub use plain::PlainMachine;
 pub use seat::{ActorSeat, MachineFrame};

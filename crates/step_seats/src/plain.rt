@@ -1,17 +1,12 @@
 //! All words and hands under one owner.
-ghost use Rattle.std.specs.Prelude.{◌≡◌, ◌<◌, ◌≤◌, IfOk, OnErr, OnOk, length, slice_index, slice_set};
-ghost use Rattle.core_views.specs.Sizes.{AreSizes, actors_of, index_of, sizes_of};
+ghost use Rattle.std.specs.Prelude.{◌≡◌, ◌<◌, IfOk, length, slice_index};
+ghost use Rattle.core_views.specs.Sizes.{index_of, sizes_of};
 ghost use Rattle.core_views.specs.Traces.{IsTrace};
-ghost use Rattle.mmu_core.specs.machine.Enabled.{Enabled, mmu};
-ghost use Rattle.mmu_core.specs.machine.Machine.{May, answered, effect};
-ghost use Rattle.mmu_core.specs.machine.Steps.{next};
-ghost use Rattle.mmu_core.specs.machine.Worlds.{HandReached, IsStart};
-ghost use Rattle.step_seats.specs.Machines.{IsMachine, seat_in, world_in};
-ghost use Rattle.step_seats.specs.Moves.{HasItsRoom, KeepsRoom, handful_in, step_by};
-ghost use Rattle.step_seats.specs.Where.{HasHand, IsMadeIn};
+ghost use Rattle.mmu_core.specs.machine.Worlds.{IsStart};
+ghost use Rattle.step_seats.specs.Machines.{world_in};
 
-use crate::ActorSeat;
 use crate::start::{start_hands, start_words};
+use crate::{ActorSeat, MachineOwner};
 use core_views::{Actor, Closing, Hand, Kind, NoMemory, Sequence, Sizes, Trace};
 use mmu_steps::advance;
 use std::alloc::Global;
@@ -53,31 +48,6 @@ impl PlainMachine {
         })
     }
 
-    // Makes one step of the actor at this place.
-    #[inline(always)]
-    pub(crate) fn make_step(&mut self, index: usize, kind: Kind) -> u64
-        requires there { index < length self.old.hands }
-        requires enabled { Enabled (handful_in self.old.hands index).core kind }
-        requires reserved { 0 < (handful_in self.old.hands index).room }
-        ensures may { May mmu (world_in self.old) (step_by index kind) }
-        ensures answer { answered mmu (world_in self.old) kind ≡ result }
-        ensures world { world_in self.new ≡ effect mmu (world_in self.old) (step_by index kind) }
-        ensures hand { (handful_in self.new.hands index).core ≡ next (handful_in self.old.hands index).core kind result }
-        ensures room { KeepsRoom (seat_in self.old index) (seat_in self.new index) }
-        ensures made { IsMadeIn kind index (handful_in self.old.hands index).core (handful_in self.new.hands index).core (world_in self.old) }
-        ensures has { HasHand index (handful_in self.new.hands index).core (world_in self.new) }
-        ensures others { self.new.hands ≡ slice_set self.old.hands index (handful_in self.new.hands index) }
-        ensures same { (self.new.sizes ≡ self.old.sizes) × (length self.new.hands ≡ length self.old.hands) }
-    {
-        let word = kind.word as usize;
-        let found = self.words[word];
-        let answer = kind.answer(found);
-        self.words[word] = kind.after(found);
-        let hand = &mut self.hands[index];
-        advance(hand, kind, answer);
-        answer
-    }
-
     /// The value of a word, and 0 where there is no such word.
     pub fn word(&self, word: u32) -> u64
         ensures { result ≡ slice_index self.now.words word }
@@ -85,33 +55,8 @@ impl PlainMachine {
         self.words.get(word as usize).copied().unwrap_or(0)
     }
 
-    /// The hand of the actor at this place.
-    pub fn hand(&self, index: usize) -> &Hand
-        requires there { index < length self.now.hands }
-        ensures hand { result.now ≡ handful_in self.now.hands index }
-        ensures room { HasItsRoom (handful_in self.now.hands index).core (handful_in self.now.hands index).room }
-        ensures reached { ∥ HandReached (handful_in self.now.hands index).core ∥₁ }
-        ensures has { HasHand index (handful_in self.now.hands index).core (world_in self.now) }
-    {
-        &self.hands[index]
-    }
-
-    // Takes room for one more answer in the hand at this place.
-    pub(crate) fn reserve(&mut self, index: usize) -> Result<(), NoMemory>
-        requires there { index < length self.old.hands }
-        ensures world { world_in self.new ≡ world_in self.old }
-        ensures hand { (handful_in self.new.hands index).core ≡ (handful_in self.old.hands index).core }
-        ensures room { OnOk result (0 < (handful_in self.new.hands index).room) }
-        ensures refused { OnErr result (handful_in self.new.hands index ≡ handful_in self.old.hands index) }
-        ensures others { self.new.hands ≡ slice_set self.old.hands index (handful_in self.new.hands index) }
-        ensures same { (self.new.sizes ≡ self.old.sizes) × (length self.new.hands ≡ length self.old.hands) }
-    {
-        let hand = &mut self.hands[index];
-        hand.reserve()
-    }
-
     /// The seat of an actor that the machine has.
-    pub fn as_actor(&mut self, actor: Actor) -> ActorSeat<'_>
+    pub fn as_actor(&mut self, actor: Actor) -> ActorSeat<'_, PlainMachine>
         requires there { index_of self.old.sizes actor < length self.old.hands }
         ensures machine { result.machine.now ≡ self.old }
         ensures borrowed { result.machine.ghost_name ≡ self.entry.ghost_name }
@@ -124,17 +69,6 @@ impl PlainMachine {
         }
     }
 
-    /// The sizes of the machine. Some list of steps leads from a start of these
-    /// sizes to its words and hands.
-    pub fn sizes(&self) -> Sizes
-        ensures is { result ≡ self.now.sizes }
-        ensures reached { IsMachine self.now.sizes self.now.words self.now.hands }
-        ensures sizes { AreSizes self.now.sizes }
-        ensures count { length self.now.hands ≡ actors_of self.now.sizes }
-    {
-        self.sizes
-    }
-
     /// The words and the hands, once all steps are made.
     pub fn into_closing(self) -> Closing
         ensures words { result.words ≡ self.words }
@@ -145,5 +79,38 @@ impl PlainMachine {
             words: Sequence::from_vec(words),
             hands: Sequence::from_vec(hands),
         }
+    }
+}
+
+impl MachineOwner for PlainMachine {
+    ghost use Rattle.std.specs.Prelude.{None};
+
+    ghost machine = { λ m. m };
+
+    // It tells no steps.
+    ghost steps = { λ m. None };
+
+    #[inline(always)]
+    fn make_step(&mut self, index: usize, kind: Kind) -> u64 {
+        let word = kind.word as usize;
+        let found = self.words[word];
+        let answer = kind.answer(found);
+        self.words[word] = kind.after(found);
+        let hand = &mut self.hands[index];
+        advance(hand, kind, answer);
+        answer
+    }
+
+    fn hand(&self, index: usize) -> &Hand {
+        &self.hands[index]
+    }
+
+    fn reserve(&mut self, index: usize) -> Result<(), NoMemory> {
+        let hand = &mut self.hands[index];
+        hand.reserve()
+    }
+
+    fn sizes(&self) -> Sizes {
+        self.sizes
     }
 }

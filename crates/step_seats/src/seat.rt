@@ -1,13 +1,13 @@
-//! The seat of one actor at a plain machine.
+//! The seat of one actor at a machine with one owner.
 ghost use Rattle.std.specs.Prelude.{◌<◌, length};
 ghost use Rattle.step_seats.specs.Frames.{frame_of};
 ghost use Rattle.step_seats.specs.Machines.{seat_in};
 
-use crate::{PlainMachine, Stepper};
+use crate::{MachineOwner, Stepper};
 use core_views::{Hand, Kind, NoMemory};
 use std::marker::{Model, PhantomData};
 
-/// What the steps of a seat at a plain machine leave as it is: which machine it
+/// What the steps of a seat leave as it is: which owner of the machine it
 /// borrows, its sizes, and the room in the other hands. No value of it is made.
 pub struct MachineFrame {
     marker: PhantomData<()>,
@@ -23,18 +23,18 @@ impl Model for MachineFrame {
 
 /// The seat of the actor at this place among all actors of the machine.
 #[derive(Drop)]
-pub struct ActorSeat<'a> {
-    pub machine: &'a mut PlainMachine,
+pub struct ActorSeat<'a, M: MachineOwner> {
+    pub machine: &'a mut M,
     pub index: usize,
-    ghost there: { index < length machine.now.hands },
+    ghost there: { index < length (M.machine machine.now).hands },
 }
 
-impl Stepper for ActorSeat<'_> {
+impl<M: MachineOwner> Stepper for ActorSeat<'_, M> {
     type Frame = MachineFrame;
 
-    ghost seat = { λ s. seat_in s.machine.now s.index };
+    ghost seat = { λ s. seat_in (M.machine s.machine.now) (M.steps s.machine.now) s.index };
 
-    ghost frame = { λ s. frame_of s.machine.ghost_name s.machine.now s.index };
+    ghost frame = { λ s. frame_of s.machine.ghost_name (M.machine s.machine.now) s.index };
 
     #[inline(always)]
     fn act(&mut self, kind: Kind) -> u64 {

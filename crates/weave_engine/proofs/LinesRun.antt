@@ -2,7 +2,7 @@
 use Rattle.std.proofs.Common.{◌≡◌, ◌≢◌, ◌⊎◌, inl, inr, ◌<◌, ◌≤◌, ◌+◌, ℕ, suc, List, [], ◌∷◌, ◌++◌, length, length-append, take, get_or, refl, sym, ap}
 use Rattle.std.proofs.Common.{subst, ◌∙◌, append_assoc, arith}
 use Rattle.std.proofs.lemmas.List.{append-nil, get_or-set_other, take_all}
-use Rattle.std.specs.Prelude.{All, IfOk, Some, Result, Ok, Err}
+use Rattle.std.specs.Prelude.{All, IfOk, Option, Some, Result, Ok, Err}
 use Rattle.core_views.specs.declared.answer.Answer.{Answer}
 use Rattle.core_views.specs.declared.answer.AnsweredLine.{AnsweredLine}
 use Rattle.core_views.specs.declared.event.Event.{Event}
@@ -220,12 +220,13 @@ ran_all z lines i start w printed le B =
     subst (λ ls. (r : RunsLines z start ls w) × (printed ≡ text (history start r.steps))) (take_all i lines le) (B.ran, B.prints)
 
 -- A line that ran from a seat of the machine ran on the machine.
-ran_so : (answer : Answer) (line : Line) (z : Sizes) (actor : ℕ) (m n : Machine) (at to : ℕ) → LineAlone z (world_in m) actor → at ≡ actor
-    → (seat_in m at).hand ≡ hand_in mmu (world_in m) actor → (seat_in n to).hand ≡ hand_in mmu (world_in n) actor
-    → IsAnswered line answer (seat_in m at).hand (seat_in n to).hand → RanAlone line answer (seat_in m at) (seat_in n to)
-    → IsSameHand (seat_in m at).hand (seat_in n to).hand → RanOn z line answer actor (world_in m) (world_in n)
-ran_so answer line z actor m n at to alone same before after answered ran kept =
-    let h : Held = (seat_in m at).hand in
+ran_so : (answer : Answer) (line : Line) (z : Sizes) (actor : ℕ) (m n : Machine) (ss more : Option (List (Step Kind))) (at to : ℕ)
+    → LineAlone z (world_in m) actor → at ≡ actor
+    → (seat_in m ss at).hand ≡ hand_in mmu (world_in m) actor → (seat_in n more to).hand ≡ hand_in mmu (world_in n) actor
+    → IsAnswered line answer (seat_in m ss at).hand (seat_in n more to).hand → RanAlone line answer (seat_in m ss at) (seat_in n more to)
+    → IsSameHand (seat_in m ss at).hand (seat_in n more to).hand → RanOn z line answer actor (world_in m) (world_in n)
+ran_so answer line z actor m n ss more at to alone same before after answered ran kept =
+    let h : Held = (seat_in m ss at).hand in
     let sizes : h.state.sizes ≡ z = ap (λ (x : Held). x.state.sizes) before ∙ (alone.sound.holds.lines actor alone.there).sizes in
     record {
       steps = ran.steps;
@@ -237,14 +238,15 @@ ran_so answer line z actor m n at to alone same before after answered ran kept =
       same = subst (λ (x : Held). IsSameHand x (hand_in mmu (world_in n) actor)) before (subst (λ (x : Held). IsSameHand h x) after kept);
     }
 
-pub ran_on : (r : Result (Unit {0}) NoMemory) (line : Line) (z : Sizes) (actor : ℕ) (m n : Machine) (at to : ℕ) → LineAlone z (world_in m) actor → at ≡ actor
-    → (seat_in m at).hand ≡ hand_in mmu (world_in m) actor → (seat_in n to).hand ≡ hand_in mmu (world_in n) actor
-    → IfOk r (λ done. IsAnswered line (answer_given (seat_in m at).hand (seat_in n to).hand) (seat_in m at).hand (seat_in n to).hand)
-    → IfOk r (λ done. RanAlone line (answer_given (seat_in m at).hand (seat_in n to).hand) (seat_in m at) (seat_in n to))
-    → IsSameHand (seat_in m at).hand (seat_in n to).hand
+pub ran_on : (r : Result (Unit {0}) NoMemory) (line : Line) (z : Sizes) (actor : ℕ) (m n : Machine) (ss more : Option (List (Step Kind))) (at to : ℕ)
+    → LineAlone z (world_in m) actor → at ≡ actor
+    → (seat_in m ss at).hand ≡ hand_in mmu (world_in m) actor → (seat_in n more to).hand ≡ hand_in mmu (world_in n) actor
+    → IfOk r (λ done. IsAnswered line (answer_given (seat_in m ss at).hand (seat_in n more to).hand) (seat_in m ss at).hand (seat_in n more to).hand)
+    → IfOk r (λ done. RanAlone line (answer_given (seat_in m ss at).hand (seat_in n more to).hand) (seat_in m ss at) (seat_in n more to))
+    → IsSameHand (seat_in m ss at).hand (seat_in n more to).hand
     → IfOk r (λ done. RanOn z line (given_in actor (world_in m) (world_in n)) actor (world_in m) (world_in n))
-ran_on (Err e) line z actor m n at to alone same before after answered ran kept = tt
-ran_on (Ok done) line z actor m n at to alone same before after answered ran kept =
+ran_on (Err e) line z actor m n ss more at to alone same before after answered ran kept = tt
+ran_on (Ok done) line z actor m n ss more at to alone same before after answered ran kept =
     subst (λ (a : Answer). RanOn z line a actor (world_in m) (world_in n))
-    (ap (λ (x : Held). answer_given x (seat_in n to).hand) before ∙ ap (λ (x : Held). answer_given (hand_in mmu (world_in m) actor) x) after)
-    (ran_so (answer_given (seat_in m at).hand (seat_in n to).hand) line z actor m n at to alone same before after answered ran kept)
+    (ap (λ (x : Held). answer_given x (seat_in n more to).hand) before ∙ ap (λ (x : Held). answer_given (hand_in mmu (world_in m) actor) x) after)
+    (ran_so (answer_given (seat_in m ss at).hand (seat_in n more to).hand) line z actor m n ss more at to alone same before after answered ran kept)

@@ -2,12 +2,13 @@
 use Rattle.std.proofs.Common.{◌≡◌, ◌≢◌, ◌<◌, ◌≤◌, inl, inr, ℕ, List, [], ◌∷◌, ◌++◌, Result, Ok, Err, length, take, refl, sym, ap, subst, ◌∙◌, append_assoc}
 use Rattle.std.proofs.Math.Seq.{take-length}
 use Rattle.std.specs.declared.option.Option.{Option}
-use Rattle.std.specs.Prelude.{All, Some, None}
+use Rattle.std.specs.Prelude.{All, IfOk, OnErr, Some, None}
 use Rattle.std.proofs.lemmas.List.Elements.{All-take}
 use Rattle.core_views.specs.declared.answer.Answer.{Answer}
 use Rattle.core_views.specs.declared.answer.Answer.TheVariants.{Starved}
 use Rattle.core_views.specs.declared.event.Event.{Event}
 use Rattle.core_views.specs.declared.kind.Kind.{Kind}
+use Rattle.core_views.specs.declared.no_memory.NoMemory.{NoMemory as Refused}
 use Rattle.core_views.specs.declared.sizes.Sizes.{Sizes}
 use Rattle.core_views.specs.declared.trace.Line.{Line}
 use Rattle.core_views.specs.declared.trace.Trace.{Trace}
@@ -43,7 +44,7 @@ use Rattle.mmu_core.proofs.machine.Worlds.{good_run}
 use Rattle.tdp_io.specs.declared.sink.Stop.{Stop}
 use Rattle.tdp_io.specs.declared.sink.Stop.TheVariants.{Failed, NoMemory}
 use Rattle.weave_engine.specs.Marks.{Mark, Over, turns_from}
-use Rattle.weave_engine.specs.Printed.{PrintsLines, PrintsReplayed, ReplayPrinted}
+use Rattle.weave_engine.specs.Printed.{PrintsLines, PrintsReplayOn, PrintsReplayed, ReplayPrinted}
 use Rattle.weave_engine.specs.Replays.{EachRunsAlone, Replays, RunsAlone, RunsAsFlat, RunsLines}
 use Rattle.weave_engine.specs.Woven.{how_ended}
 use Rattle.weave_engine.specs.declared.ran.OpenLine.{OpenLine}
@@ -203,3 +204,8 @@ module _ {V : Type 0} (prints : V → List Mark → V → Type 0) (stops : V →
     replays_by (Ok (Some line)) how is puts = absurd puts
     replays_by (Err Failed) how is puts = let e : WriteFault ≡ how = cc is in subst (ReplayPrinted prints stops trace closing p q) e puts
     replays_by (Err NoMemory) how is puts = absurd (cc is)
+
+    pub replay_ends : (came : Result (Option OpenLine) Stop) (r : Result How Refused) → IfOk r (λ how. how_ended came ≡ Some how)
+        → OnErr r (how_ended came ≡ None) → PrintsReplayed prints stops trace closing p q came → PrintsReplayOn prints stops trace closing p q r
+    replay_ends came (Ok how) ran refused puts = replays_by came how ran puts
+    replay_ends came (Err e) ran refused puts = replay_refused came refused puts

@@ -16,7 +16,7 @@ use Rattle.mmu_core.specs.machine.Machine.{World, hand_in}
 use Rattle.mmu_core.specs.machine.Steps.{has_line}
 use Rattle.mmu_core.specs.machine.Worlds.{Reachable}
 use Rattle.mmu_core.proofs.machine.Which.{has_line_is}
-use Rattle.step_seats.specs.Machines.{Machine, seat_in, world_in}
+use Rattle.step_seats.specs.Machines.{Machine, world_in}
 use Rattle.step_seats.specs.Moves.{handful_in}
 use Rattle.step_seats.proofs.Worlds.{core_at}
 use Rattle.tdp_io.specs.declared.sink.Stop.{Stop}
@@ -176,7 +176,7 @@ module _ {V : Type 0} (prints : V → List Mark → V → Type 0) (stops : V →
             )
 
     pub turned_unprinted : (m : Machine) (u : World Held) (made : Result (Option TurnMade) NoMemory) → IfOk made (λ x. TurnedOn x actor (world_in m) u)
-        → OnErr made ((seat_in m actor).hand.state.place ≡ place.Between) → IsUnderWay (hand_in mmu (world_in m) actor).state.place
+        → OnErr made ((handful_in m.hands actor).core.state.place ≡ place.Between) → IsUnderWay (hand_in mmu (world_in m) actor).state.place
         → StopsIn stops z line actor w (world_in m) p stop q
         → StopsIn stops z line actor w u p stop q × (left_under_way (hand_in mmu u actor) < left_under_way (hand_in mmu (world_in m) actor))
     turned_unprinted m u made turned begins under (inl over) =

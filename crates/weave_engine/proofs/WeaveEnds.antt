@@ -1,14 +1,15 @@
 -- How a weave ended says how it was printed.
 use Rattle.std.proofs.Common.{◌≡◌, ℕ, List, Ok, Err, Result, subst}
-use Rattle.std.specs.Prelude.{Some, None}
+use Rattle.std.specs.Prelude.{IfOk, OnErr, Some, None}
 use Rattle.std.specs.declared.option.Option.{Option}
+use Rattle.core_views.specs.declared.no_memory.NoMemory.{NoMemory as Refused}
 use Rattle.core_views.specs.declared.trace.Trace.{Trace}
 use Rattle.core_views.specs.Held.{Held}
 use Rattle.mmu_core.specs.machine.Machine.{World}
 use Rattle.tdp_io.specs.declared.sink.Stop.{Stop}
 use Rattle.tdp_io.specs.declared.sink.Stop.TheVariants.{Failed, NoMemory}
 use Rattle.weave_engine.specs.Marks.{Mark}
-use Rattle.weave_engine.specs.Printed.{PrintsBy, PrintsUntil, PrintsWoven}
+use Rattle.weave_engine.specs.Printed.{PrintsBy, PrintsUntil, PrintsWeaveOn, PrintsWoven}
 use Rattle.weave_engine.specs.Woven.{how_ended}
 use Rattle.weave_engine.specs.declared.ran.OpenLine.{OpenLine}
 use Rattle.weave_engine.specs.declared.ran.How.{How}
@@ -30,3 +31,8 @@ module _ {V : Type 0} (prints : V → List Mark → V → Type 0) (stops : V →
   ends_refused (Ok (Some line)) is puts = absurd (cc is)
   ends_refused (Err Failed) is puts = absurd (cc is)
   ends_refused (Err NoMemory) is puts = puts
+
+  pub ends_on : (came : Result (Option OpenLine) Stop) (r : Result How Refused) → IfOk r (λ how. how_ended came ≡ Some how)
+      → OnErr r (how_ended came ≡ None) → PrintsWoven prints stops trace limit closing p q came → PrintsWeaveOn prints stops trace limit closing p q r
+  ends_on came (Ok how) ran refused puts = ends_by came how ran puts
+  ends_on came (Err e) ran refused puts = ends_refused came refused puts

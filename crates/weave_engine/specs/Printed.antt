@@ -44,6 +44,11 @@ module _ {V : Type 0} (prints : V → List Mark → V → Type 0) (stops : V →
   PrintsReplay trace p q (Ok ran) = ReplayPrinted trace (world_of ran.closing.words ran.closing.hands) p q ran.how
   PrintsReplay trace p q (Err e) = (closing : World Held) × PrintsReplayed trace closing p q (Err Full)
 
+  -- How a replay was printed on a machine that was given, which ended in this world.
+  abbrev pub PrintsReplayOn : Trace → World Held → V → V → Result How NoMemory → Type 0
+  PrintsReplayOn trace closing p q (Ok how) = ReplayPrinted trace closing p q how
+  PrintsReplayOn trace closing p q (Err e) = PrintsReplayed trace closing p q (Err Full)
+
   -- The trace was woven, and its marks were printed: each line is answered.
   abbrev pub PrintsAll : Trace → ℕ → World Held → V → V → Type 0
   PrintsAll trace limit closing p q =
@@ -77,3 +82,8 @@ module _ {V : Type 0} (prints : V → List Mark → V → Type 0) (stops : V →
   abbrev pub PrintsWeave : Trace → ℕ → V → V → Result Ran NoMemory → Type 0
   PrintsWeave trace limit p q (Ok ran) = PrintsBy trace limit (world_of ran.closing.words ran.closing.hands) p q ran.how
   PrintsWeave trace limit p q (Err e) = (closing : World Held) × PrintsUntil Full trace limit closing p q
+
+  -- How a weave was printed on a machine that was given, which ended in this world.
+  abbrev pub PrintsWeaveOn : Trace → ℕ → World Held → V → V → Result How NoMemory → Type 0
+  PrintsWeaveOn trace limit closing p q (Ok how) = PrintsBy trace limit closing p q how
+  PrintsWeaveOn trace limit closing p q (Err e) = PrintsUntil Full trace limit closing p q

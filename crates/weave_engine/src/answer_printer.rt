@@ -14,7 +14,7 @@ use crate::run_on::{answer_to, last_answer, run_on};
 use crate::turning::{Turned, turn_on};
 use crate::writing::put_answer;
 use core_views::{Item, Line, NoMemory};
-use step_seats::{PlainMachine, Turn};
+use step_seats::{MachineOwner, Turn};
 use tdp_io::{Sink, Stop, write_all};
 
 /// Puts out each answer when its line is answered, in pieces of 8,192 bytes or a little
@@ -46,7 +46,7 @@ pub fn push_open(text: &mut String, first: Option<&Line>) -> Result<(), NoMemory
     }
 }
 
-impl<K: Sink> TurnPrinter for AnswerPrinter<'_, K> {
+impl<M: MachineOwner, K: Sink> TurnPrinter<M> for AnswerPrinter<'_, K> {
     ghost ready = { λ p. (K.failed p.out.now ≡ false) × (length (string_bytes p.waiting.now) ≤ most_waiting) };
 
     ghost prints = { λ p marks q. PutsAnswers (K.written p.out.now) (K.written q.out.now) (string_bytes p.waiting.now) (string_bytes q.waiting.now) marks
@@ -55,7 +55,7 @@ impl<K: Sink> TurnPrinter for AnswerPrinter<'_, K> {
     ghost stops = { λ p marks stop q. StopsAnswers (K.written p.out.now) (K.written q.out.now) (string_bytes p.waiting.now) marks stop
         × FailedBy (K.faults p.out.now) (K.faults q.out.now) (K.failed q.out.now) stop × (q.out.ghost_name ≡ p.out.ghost_name) };
 
-    fn turn(&mut self, machine: &mut PlainMachine, index: usize) -> Result<Turned, Stop> {
+    fn turn(&mut self, machine: &mut M, index: usize) -> Result<Turned, Stop> {
         let Ok(made) = turn_on(machine, index) else {
             return Err(Stop::NoMemory);
         };
@@ -94,8 +94,8 @@ impl<K: Sink> TurnPrinter for AnswerPrinter<'_, K> {
     ) };
 }
 
-impl<K: Sink> Printer for AnswerPrinter<'_, K> {
-    fn line(&mut self, machine: &mut PlainMachine, line: &Line) -> Result<(), Stop> {
+impl<M: MachineOwner, K: Sink> Printer<M> for AnswerPrinter<'_, K> {
+    fn line(&mut self, machine: &mut M, line: &Line) -> Result<(), Stop> {
         let Ok(()) = run_on(machine, line) else {
             return Err(Stop::NoMemory);
         };

@@ -6,7 +6,7 @@ ghost use Rattle.mmu_core.specs.alone.LineAlone.{LineAlone};
 ghost use Rattle.mmu_core.specs.lines.Rests.{IsUnderWay};
 ghost use Rattle.mmu_core.specs.machine.Enabled.{mmu};
 ghost use Rattle.mmu_core.specs.machine.Machine.{hand_in};
-ghost use Rattle.step_seats.specs.Machines.{world_in};
+ghost use Rattle.step_seats.specs.Machines.{KeepsSizes, world_in};
 ghost use Rattle.step_seats.specs.Moves.{handful_in};
 ghost use Rattle.tdp_io.specs.declared.sink.Stop.{Stop as StopMade};
 ghost use Rattle.weave_engine.specs.Marks.{Mark};
@@ -15,13 +15,13 @@ ghost use Rattle.weave_engine.specs.Turned.{PrintsLine};
 use crate::printer::TurnPrinter;
 use crate::turning::{Turned, turn_on};
 use core_views::{Line, Place};
-use step_seats::PlainMachine;
+use step_seats::MachineOwner;
 use tdp_io::Stop;
 
 // Whether the actor at this place has a line under way.
-fn is_under_way(machine: &PlainMachine, index: usize) -> bool
-    requires there { index < length machine.now.hands }
-    ensures { IsTrue result ↔ IsUnderWay (hand_in mmu (world_in machine.now) index).state.place }
+fn is_under_way<M: MachineOwner>(machine: &M, index: usize) -> bool
+    requires there { index < length (M.machine machine.now).hands }
+    ensures { IsTrue result ↔ IsUnderWay (hand_in mmu (world_in (M.machine machine.now)) index).state.place }
 {
     !matches!(machine.hand(index).progress().place, Place::Between)
 }
@@ -31,21 +31,22 @@ fn is_under_way(machine: &PlainMachine, index: usize) -> bool
 /// line does not begin; where it stops later, the other turns are made all the same, and
 /// are not printed. This asks of the printer that where it stopped at some marks, it
 /// stopped at more marks, too: it printed a part of them.
-pub fn run_by_turns<P: TurnPrinter>(
+pub fn run_by_turns<M: MachineOwner, P: TurnPrinter<M>>(
     printer: &mut P,
-    machine: &mut PlainMachine,
+    machine: &mut M,
     line: &Line,
 ) -> Result<(), Stop>
     requires part { (p q : _) (marks more : List Mark) (stop : StopMade) → P.stops p marks stop q → P.stops p (marks ++ more) stop q }
-    requires there { index_of machine.old.sizes line.now.actor < length machine.old.hands }
-    requires idle { (handful_in machine.old.hands (index_of machine.old.sizes line.now.actor)).core.state.place ≡ Between }
-    requires next { slice_get (handful_in machine.old.hands (index_of machine.old.sizes line.now.actor)).core.lines
-        (length (handful_in machine.old.hands (index_of machine.old.sizes line.now.actor)).core.answers) ≡ Some line.now }
-    requires own { line.now.actor ≡ (handful_in machine.old.hands (index_of machine.old.sizes line.now.actor)).core.state.actor }
-    requires alone { LineAlone machine.old.sizes (world_in machine.old) (index_of machine.old.sizes line.now.actor) }
+    requires there { index_of (M.machine machine.old).sizes line.now.actor < length (M.machine machine.old).hands }
+    requires idle { (handful_in (M.machine machine.old).hands (index_of (M.machine machine.old).sizes line.now.actor)).core.state.place ≡ Between }
+    requires next { slice_get (handful_in (M.machine machine.old).hands (index_of (M.machine machine.old).sizes line.now.actor)).core.lines
+        (length (handful_in (M.machine machine.old).hands (index_of (M.machine machine.old).sizes line.now.actor)).core.answers) ≡ Some line.now }
+    requires own { line.now.actor ≡ (handful_in (M.machine machine.old).hands (index_of (M.machine machine.old).sizes line.now.actor)).core.state.actor }
+    requires alone { LineAlone (M.machine machine.old).sizes (world_in (M.machine machine.old)) (index_of (M.machine machine.old).sizes line.now.actor) }
     requires ready { P.ready printer.old }
-    ensures ran { PrintsLine P.prints P.stops machine.old.sizes line.now (world_in machine.old) (world_in machine.new) printer.old printer.new result }
-    ensures same { (machine.new.sizes ≡ machine.old.sizes) × (length machine.new.hands ≡ length machine.old.hands) }
+    ensures ran { PrintsLine P.prints P.stops (M.machine machine.old).sizes line.now (world_in (M.machine machine.old))
+        (world_in (M.machine machine.new)) printer.old printer.new result }
+    ensures same { KeepsSizes (M.machine machine.old) (M.machine machine.new) }
 {
     let index = machine.sizes().index_of(line.actor) as usize;
     let stop = loop {

@@ -4,7 +4,7 @@ ghost use Rattle.std.specs.Option.{option_copied};
 ghost use Rattle.core_views.specs.declared.place.Place.TheVariants.{Between};
 ghost use Rattle.core_views.specs.Sizes.{index_of};
 ghost use Rattle.mmu_core.specs.alone.LineAlone.{LineAlone};
-ghost use Rattle.step_seats.specs.Machines.{world_in};
+ghost use Rattle.step_seats.specs.Machines.{KeepsSizes, world_in};
 ghost use Rattle.step_seats.specs.Moves.{handful_in};
 ghost use Rattle.tdp_io.specs.declared.sink.Stop.{Stop as StopMade};
 ghost use Rattle.tdp_io.specs.declared.sink.Stop.TheVariants.{NoMemory};
@@ -13,12 +13,12 @@ ghost use Rattle.weave_engine.specs.Turned.{PrintsLine, PrintsTurn};
 
 use crate::turning::Turned;
 use core_views::{Item, Line};
-use step_seats::PlainMachine;
+use step_seats::MachineOwner;
 use tdp_io::Stop;
 
 /// Prints turns one by one. It makes them itself, so that it can look at the machine
 /// before a turn and after it.
-pub trait TurnPrinter {
+pub trait TurnPrinter<M: MachineOwner> {
     /// It may print more: no write of it has failed.
     ghost ready: { Self → Type 0 };
 
@@ -31,11 +31,11 @@ pub trait TurnPrinter {
 
     /// Makes the next turn of the actor at this place, where it has a line left, and
     /// prints it.
-    fn turn(&mut self, machine: &mut PlainMachine, index: usize) -> Result<Turned, Stop>
-        requires there { index < length machine.old.hands }
+    fn turn(&mut self, machine: &mut M, index: usize) -> Result<Turned, Stop>
+        requires there { index < length (M.machine machine.old).hands }
         requires ready { ready self.old }
-        ensures turned { PrintsTurn prints stops index (world_in machine.old) (world_in machine.new) self.old self.new result }
-        ensures same { (machine.new.sizes ≡ machine.old.sizes) × (length machine.new.hands ≡ length machine.old.hands) };
+        ensures turned { PrintsTurn prints stops index (world_in (M.machine machine.old)) (world_in (M.machine machine.new)) self.old self.new result }
+        ensures same { KeepsSizes (M.machine machine.old) (M.machine machine.new) };
 
     /// Where nothing is printed, it stays as it is.
     ghost nothing: { (p : Self) → ready p → prints p [] p };
@@ -55,19 +55,20 @@ pub trait TurnPrinter {
 
 /// Prints a whole run: its lines alone, its turns, where the turns of an item and those in
 /// rounds begin, and its end.
-pub trait Printer: TurnPrinter {
+pub trait Printer<M: MachineOwner>: TurnPrinter<M> {
     /// Runs the next line of an actor to its answer, while all other actors rest, and
     /// prints its turns.
-    fn line(&mut self, machine: &mut PlainMachine, line: &Line) -> Result<(), Stop>
-        requires there { index_of machine.old.sizes line.now.actor < length machine.old.hands }
-        requires idle { (handful_in machine.old.hands (index_of machine.old.sizes line.now.actor)).core.state.place ≡ Between }
-        requires next { slice_get (handful_in machine.old.hands (index_of machine.old.sizes line.now.actor)).core.lines
-            (length (handful_in machine.old.hands (index_of machine.old.sizes line.now.actor)).core.answers) ≡ Some line.now }
-        requires own { line.now.actor ≡ (handful_in machine.old.hands (index_of machine.old.sizes line.now.actor)).core.state.actor }
-        requires alone { LineAlone machine.old.sizes (world_in machine.old) (index_of machine.old.sizes line.now.actor) }
+    fn line(&mut self, machine: &mut M, line: &Line) -> Result<(), Stop>
+        requires there { index_of (M.machine machine.old).sizes line.now.actor < length (M.machine machine.old).hands }
+        requires idle { (handful_in (M.machine machine.old).hands (index_of (M.machine machine.old).sizes line.now.actor)).core.state.place ≡ Between }
+        requires next { slice_get (handful_in (M.machine machine.old).hands (index_of (M.machine machine.old).sizes line.now.actor)).core.lines
+            (length (handful_in (M.machine machine.old).hands (index_of (M.machine machine.old).sizes line.now.actor)).core.answers) ≡ Some line.now }
+        requires own { line.now.actor ≡ (handful_in (M.machine machine.old).hands (index_of (M.machine machine.old).sizes line.now.actor)).core.state.actor }
+        requires alone { LineAlone (M.machine machine.old).sizes (world_in (M.machine machine.old)) (index_of (M.machine machine.old).sizes line.now.actor) }
         requires ready { Self.ready self.old }
-        ensures ran { PrintsLine Self.prints Self.stops machine.old.sizes line.now (world_in machine.old) (world_in machine.new) self.old self.new result }
-        ensures same { (machine.new.sizes ≡ machine.old.sizes) × (length machine.new.hands ≡ length machine.old.hands) };
+        ensures ran { PrintsLine Self.prints Self.stops (M.machine machine.old).sizes line.now (world_in (M.machine machine.old))
+            (world_in (M.machine machine.new)) self.old self.new result }
+        ensures same { KeepsSizes (M.machine machine.old) (M.machine machine.new) };
 
     /// Says that the turns of this item begin.
     fn item(&mut self, item: &Item) -> Result<(), Stop>

@@ -3,32 +3,32 @@ ghost use Rattle.std.specs.Prelude.{◌≡◌, ◌≤◌, [], false, length, str
 ghost use Rattle.core_views.specs.Sizes.{sizes_of};
 ghost use Rattle.core_views.specs.Traces.{IsTrace};
 ghost use Rattle.mmu_core.specs.machine.Worlds.{IsStart};
-ghost use Rattle.step_seats.specs.Machines.{world_in};
-ghost use Rattle.weave_engine.specs.Printed.{PrintsLines, PrintsReplay, PrintsReplayed};
+ghost use Rattle.step_seats.specs.Machines.{KeepsSizes, world_in};
+ghost use Rattle.weave_engine.specs.Printed.{PrintsLines, PrintsReplay, PrintsReplayOn, PrintsReplayed};
 ghost use Rattle.weave_engine.specs.Writes.{WritesReplay};
 ghost use Rattle.weave_engine.specs.Woven.{RanFaults, ran_failed};
 
 use crate::answer_printer::AnswerPrinter;
 use crate::printer::Printer;
-use crate::ran::{OpenLine, Ran, how_of};
+use crate::ran::{How, OpenLine, Ran, how_of};
 use core_views::{Line, NoMemory, Trace};
 use std::alloc::Global;
-use step_seats::PlainMachine;
+use step_seats::{MachineOwner, PlainMachine};
 use tdp_io::{Sink, Stop};
 
 /// Runs the first lines one after another, each alone, and prints their turns.
-pub fn run_lines<P: Printer>(
-    machine: &mut PlainMachine,
+pub fn run_lines<M: MachineOwner, P: Printer<M>>(
+    machine: &mut M,
     lines: &[Line],
     count: usize,
     printer: &mut P,
 ) -> Result<(), Stop>
-    requires start { IsStart machine.old.sizes lines.now (world_in machine.old) }
+    requires start { IsStart (M.machine machine.old).sizes lines.now (world_in (M.machine machine.old)) }
     requires count { count ≤ length lines.now }
     requires ready { P.ready printer.old }
-    ensures prints { PrintsLines P.prints P.stops machine.old.sizes (world_in machine.old) lines.now count (world_in machine.new)
-        printer.old printer.new result }
-    ensures same { (machine.new.sizes ≡ machine.old.sizes) × (length machine.new.hands ≡ length machine.old.hands) }
+    ensures prints { PrintsLines P.prints P.stops (M.machine machine.old).sizes (world_in (M.machine machine.old)) lines.now count
+        (world_in (M.machine machine.new)) printer.old printer.new result }
+    ensures same { KeepsSizes (M.machine machine.old) (M.machine machine.new) }
 {
     for index in 0..count {
         printer.line(machine, &lines[index])?;
@@ -38,15 +38,15 @@ pub fn run_lines<P: Printer>(
 
 // Runs all lines of the trace on its machine, and prints their turns. It leaves no line
 // open.
-fn replay_on<P: Printer>(
-    machine: &mut PlainMachine,
+fn replay_on<M: MachineOwner, P: Printer<M>>(
+    machine: &mut M,
     trace: &Trace,
     printer: &mut P,
 ) -> Result<Option<OpenLine>, Stop>
-    requires sizes { machine.old.sizes ≡ sizes_of trace.now.header }
-    requires start { IsStart (sizes_of trace.now.header) trace.now.lines (world_in machine.old) }
+    requires sizes { (M.machine machine.old).sizes ≡ sizes_of trace.now.header }
+    requires start { IsStart (sizes_of trace.now.header) trace.now.lines (world_in (M.machine machine.old)) }
     requires ready { P.ready printer.old }
-    ensures { PrintsReplayed P.prints P.stops trace.now (world_in machine.new) printer.old printer.new result }
+    ensures { PrintsReplayed P.prints P.stops trace.now (world_in (M.machine machine.new)) printer.old printer.new result }
 {
     let lines = trace.lines.as_slice();
     run_lines(machine, lines, lines.len(), printer)?;
@@ -54,11 +54,28 @@ fn replay_on<P: Printer>(
     Ok(None)
 }
 
+/// Runs the lines of the trace on a machine that is at its start, one after another, each
+/// alone, and has their turns printed. It gives how it ended, which is never unfinished;
+/// the machine is then as it was after the last line, or after the line at which the
+/// printing failed.
+pub fn replay_machine<M: MachineOwner, P: Printer<M>>(
+    machine: &mut M,
+    trace: &Trace,
+    printer: &mut P,
+) -> Result<How, NoMemory>
+    requires sizes { (M.machine machine.old).sizes ≡ sizes_of trace.now.header }
+    requires start { IsStart (sizes_of trace.now.header) trace.now.lines (world_in (M.machine machine.old)) }
+    requires ready { P.ready printer.old }
+    ensures { PrintsReplayOn P.prints P.stops trace.now (world_in (M.machine machine.new)) printer.old printer.new result }
+{
+    how_of(replay_on(machine, trace, printer))
+}
+
 /// Runs the lines of the trace one after another, each alone, a step at a time over the
 /// words of the machine, and has their turns printed. It gives how it ended, which is
 /// never unfinished, and the words and hands at that moment: after the last line, or
 /// after the line at which the printing failed.
-pub fn replay_with<P: Printer>(
+pub fn replay_with<P: Printer<PlainMachine>>(
     alloc: Global,
     trace: &Trace,
     printer: &mut P,
@@ -68,7 +85,7 @@ pub fn replay_with<P: Printer>(
     ensures { PrintsReplay P.prints P.stops trace.now printer.old printer.new result }
 {
     let mut machine = PlainMachine::new(alloc, trace)?;
-    let how = how_of(replay_on(&mut machine, trace, printer))?;
+    let how = replay_machine(&mut machine, trace, printer)?;
     Ok(Ran {
         how,
         closing: machine.into_closing(),

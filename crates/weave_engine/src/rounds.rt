@@ -1,7 +1,7 @@
 //! Turns in rounds, once the schedule is over, and the line that they come to.
 ghost use Rattle.std.specs.Prelude.{◌≡◌, ◌<◌, length};
 ghost use Rattle.std.specs.Option.{option_copied};
-ghost use Rattle.step_seats.specs.Machines.{world_in};
+ghost use Rattle.step_seats.specs.Machines.{KeepsSizes, world_in};
 ghost use Rattle.weave_engine.specs.Turned.{PrintsRun};
 ghost use Rattle.weave_engine.specs.Marks.{Rounds};
 ghost use Rattle.weave_engine.specs.Turning.{AreMarkedAfter};
@@ -12,7 +12,7 @@ ghost use Rattle.weave_engine.specs.Weaves.{RunsAllRounds, RunsSomeRounds};
 use crate::printer::Printer;
 use crate::turning::Turned;
 use core_views::Line;
-use step_seats::PlainMachine;
+use step_seats::MachineOwner;
 use tdp_io::Stop;
 
 // The place after this one, of so many, round the order.
@@ -25,15 +25,16 @@ fn next_place(index: usize, count: usize) -> usize
 
 /// Turns of all actors in their order, one each, round and round, those without a
 /// line left out, until no line is left or `limit` turns were made.
-pub fn run_rounds<P: Printer>(
-    machine: &mut PlainMachine,
+pub fn run_rounds<M: MachineOwner, P: Printer<M>>(
+    machine: &mut M,
     limit: u64,
     printer: &mut P,
 ) -> Result<(), Stop>
     requires ready { P.ready printer.old }
-    ensures prints { PrintsRun P.prints P.stops (AreMarkedAfter Rounds (RunsAllRounds machine.old.sizes limit))
-        (AreMarkedAfter Rounds (RunsSomeRounds machine.old.sizes limit)) (world_in machine.old) (world_in machine.new) printer.old printer.new result }
-    ensures same { (machine.new.sizes ≡ machine.old.sizes) × (length machine.new.hands ≡ length machine.old.hands) }
+    ensures prints { PrintsRun P.prints P.stops (AreMarkedAfter Rounds (RunsAllRounds (M.machine machine.old).sizes limit))
+        (AreMarkedAfter Rounds (RunsSomeRounds (M.machine machine.old).sizes limit)) (world_in (M.machine machine.old))
+        (world_in (M.machine machine.new)) printer.old printer.new result }
+    ensures same { KeepsSizes (M.machine machine.old) (M.machine machine.new) }
 {
     printer.rounds()?;
     let count = machine.sizes().actors() as usize;
@@ -55,8 +56,8 @@ pub fn run_rounds<P: Printer>(
 }
 
 /// The first line of the file that has no answer.
-pub fn first_open(machine: &PlainMachine) -> Option<&Line>
-    ensures { FirstOpen machine.now.sizes (world_in machine.now) (option_copied result) }
+pub fn first_open<M: MachineOwner>(machine: &M) -> Option<&Line>
+    ensures { FirstOpen (M.machine machine.now).sizes (world_in (M.machine machine.now)) (option_copied result) }
 {
     let mut first: Option<&Line> = None;
     for index in 0..machine.sizes().actors() as usize {

@@ -5,7 +5,8 @@ ghost use Rattle.mmu_core.specs.machine.Enabled.{mmu};
 ghost use Rattle.mmu_core.specs.machine.Machine.{hand_in};
 ghost use Rattle.mmu_core.specs.machine.Steps.{has_line};
 ghost use Rattle.mmu_core.specs.machine.Turns.{IsSameHand, line_of};
-ghost use Rattle.step_seats.specs.Machines.{seat_in, world_in};
+ghost use Rattle.step_seats.specs.Machines.{KeepsSizes, world_in};
+ghost use Rattle.step_seats.specs.Moves.{handful_in};
 ghost use Rattle.step_seats.specs.LineTurns.{Says, TurnsLine, turn_told};
 ghost use Rattle.weave_engine.specs.Turned.{TurnedOn, TurnedTold, next_code_in};
 
@@ -13,7 +14,7 @@ use crate::job::next_job;
 use core_views::{Actor, NoMemory};
 use mmu_core::rests;
 use mmu_steps::next_kind;
-use step_seats::{ActorSeat, PlainMachine, Stepper, Turn};
+use step_seats::{ActorSeat, MachineOwner, Stepper, Turn};
 
 /// A turn that an actor has made: of which line, and how it ended. Where the line is
 /// answered, the actor's hand has the answer.
@@ -75,12 +76,12 @@ fn next_turn<S: Stepper>(s: &mut S) -> Result<Option<TurnMade>, NoMemory>
 
 /// Makes the next turn of the actor at this place, where it has a line left.
 /// Memory is refused only where this line begins; then nothing has changed.
-pub fn turn_on(machine: &mut PlainMachine, index: usize) -> Result<Option<TurnMade>, NoMemory>
-    requires there { index < length machine.old.hands }
-    ensures turned { IfOk result (λ made. TurnedOn made index (world_in machine.old) (world_in machine.new)) }
-    ensures begins { OnErr result ((seat_in machine.old index).hand.state.place ≡ Between) }
-    ensures refused { OnErr result (world_in machine.new ≡ world_in machine.old) }
-    ensures same { (machine.new.sizes ≡ machine.old.sizes) × (length machine.new.hands ≡ length machine.old.hands) }
+pub fn turn_on<M: MachineOwner>(machine: &mut M, index: usize) -> Result<Option<TurnMade>, NoMemory>
+    requires there { index < length (M.machine machine.old).hands }
+    ensures turned { IfOk result (λ made. TurnedOn made index (world_in (M.machine machine.old)) (world_in (M.machine machine.new))) }
+    ensures begins { OnErr result ((handful_in (M.machine machine.old).hands index).core.state.place ≡ Between) }
+    ensures refused { OnErr result (world_in (M.machine machine.new) ≡ world_in (M.machine machine.old)) }
+    ensures same { KeepsSizes (M.machine machine.old) (M.machine machine.new) }
 {
     let mut seat = ActorSeat { machine, index };
     next_turn(&mut seat)
@@ -88,9 +89,10 @@ pub fn turn_on(machine: &mut PlainMachine, index: usize) -> Result<Option<TurnMa
 
 /// The number of the kind of step that the actor at this place makes next, where
 /// it has a line left.
-pub fn next_code(machine: &PlainMachine, index: usize) -> u8
-    requires there { index < length machine.now.hands }
-    ensures { has_line (hand_in mmu (world_in machine.now) index) ≡ true → result ≡ next_code_in (hand_in mmu (world_in machine.now) index) }
+pub fn next_code<M: MachineOwner>(machine: &M, index: usize) -> u8
+    requires there { index < length (M.machine machine.now).hands }
+    ensures { has_line (hand_in mmu (world_in (M.machine machine.now)) index) ≡ true
+        → result ≡ next_code_in (hand_in mmu (world_in (M.machine machine.now)) index) }
 {
     let hand = machine.hand(index);
     if !hand.has_line() {

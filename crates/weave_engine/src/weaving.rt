@@ -5,33 +5,33 @@ ghost use Rattle.core_views.specs.Sizes.{sizes_of};
 ghost use Rattle.core_views.specs.Traces.{IsTrace};
 ghost use Rattle.mmu_core.specs.machine.Worlds.{IsStart};
 ghost use Rattle.step_seats.specs.Machines.{world_in};
-ghost use Rattle.weave_engine.specs.Printed.{PrintsWeave, PrintsWoven};
+ghost use Rattle.weave_engine.specs.Printed.{PrintsWeave, PrintsWeaveOn, PrintsWoven};
 ghost use Rattle.weave_engine.specs.Woven.{RanFaults, WritesWeave, ran_failed};
 
 use crate::answer_printer::AnswerPrinter;
 use crate::printer::Printer;
-use crate::ran::{OpenLine, Ran, how_of, open_line};
+use crate::ran::{How, OpenLine, Ran, how_of, open_line};
 use crate::replaying::run_lines;
 use crate::rounds::{first_open, run_rounds};
 use crate::schedule::run_items;
 use core_views::{NoMemory, Trace};
 use std::alloc::Global;
-use step_seats::PlainMachine;
+use step_seats::{MachineOwner, PlainMachine};
 use tdp_io::{Sink, Stop};
 
 // Runs the trace on its machine, and has its turns printed. It gives the first line that
 // has no answer, if there is one.
-fn weave_on<P: Printer>(
-    machine: &mut PlainMachine,
+fn weave_on<M: MachineOwner, P: Printer<M>>(
+    machine: &mut M,
     trace: &Trace,
     limit: u64,
     printer: &mut P,
 ) -> Result<Option<OpenLine>, Stop>
     requires trace { IsTrace trace.now }
-    requires sizes { machine.old.sizes ≡ sizes_of trace.now.header }
-    requires start { IsStart (sizes_of trace.now.header) trace.now.lines (world_in machine.old) }
+    requires sizes { (M.machine machine.old).sizes ≡ sizes_of trace.now.header }
+    requires start { IsStart (sizes_of trace.now.header) trace.now.lines (world_in (M.machine machine.old)) }
     requires ready { P.ready printer.old }
-    ensures { PrintsWoven P.prints P.stops trace.now limit (world_in machine.new) printer.old printer.new result }
+    ensures { PrintsWoven P.prints P.stops trace.now limit (world_in (M.machine machine.new)) printer.old printer.new result }
 {
     let lines = trace.lines.as_slice();
     let above = trace.go.unwrap_or(0) as usize;
@@ -43,12 +43,30 @@ fn weave_on<P: Printer>(
     Ok(open_line(first))
 }
 
+/// Runs the trace on a machine that is at its start, as `weave_with` does, and has each
+/// turn printed. It gives how it ended; the machine is then as it was after the last turn,
+/// or after the turn at which the printing failed.
+pub fn weave_machine<M: MachineOwner, P: Printer<M>>(
+    machine: &mut M,
+    trace: &Trace,
+    limit: u64,
+    printer: &mut P,
+) -> Result<How, NoMemory>
+    requires trace { IsTrace trace.now }
+    requires sizes { (M.machine machine.old).sizes ≡ sizes_of trace.now.header }
+    requires start { IsStart (sizes_of trace.now.header) trace.now.lines (world_in (M.machine machine.old)) }
+    requires ready { P.ready printer.old }
+    ensures { PrintsWeaveOn P.prints P.stops trace.now limit (world_in (M.machine machine.new)) printer.old printer.new result }
+{
+    how_of(weave_on(machine, trace, limit, printer))
+}
+
 /// Runs the trace a step a turn: the lines above `go` one after another, each
 /// alone; then the turns that the schedule's items name; then turns in rounds, at most
 /// `limit`, until each line is answered. It has each turn printed, and where the turns of
 /// an item begin, those in rounds, and the end. It gives how it ended, and the words and
 /// hands at that moment: where the printing failed, those after the turn at which it did.
-pub fn weave_with<P: Printer>(
+pub fn weave_with<P: Printer<PlainMachine>>(
     alloc: Global,
     trace: &Trace,
     limit: u64,
@@ -59,7 +77,7 @@ pub fn weave_with<P: Printer>(
     ensures { PrintsWeave P.prints P.stops trace.now limit printer.old printer.new result }
 {
     let mut machine = PlainMachine::new(alloc, trace)?;
-    let how = how_of(weave_on(&mut machine, trace, limit, printer))?;
+    let how = weave_machine(&mut machine, trace, limit, printer)?;
     Ok(Ran {
         how,
         closing: machine.into_closing(),

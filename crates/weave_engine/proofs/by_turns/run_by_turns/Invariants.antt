@@ -10,24 +10,26 @@ use Rattle.weave_engine.proofs.by_turns.run_by_turns.Given as goal
 
 abbrev pub invariant-loop-stop : goal.invariant-loop-stop
 invariant-loop-stop g l = record {
-  next : NextAlone l.fn.machine.sizes l.line l.index (world_in l.fn.machine);
-  put : TurnsPut g.P.TurnPrinter.prints l.line l.index (world_in l.fn.machine) (world_in l.machine) l.fn.printer l.printer;
-  at : l.index ≡ index_of l.fn.machine.sizes l.line.actor;
-  sizes : l.machine.sizes ≡ l.fn.machine.sizes;
-  hands : length l.machine.hands ≡ length l.fn.machine.hands;
+  next : NextAlone (g.M.MachineOwner.machine l.fn.machine).sizes l.line l.index (world_in (g.M.MachineOwner.machine l.fn.machine));
+  put : TurnsPut g.P.TurnPrinter.prints l.line l.index (world_in (g.M.MachineOwner.machine l.fn.machine)) (world_in (g.M.MachineOwner.machine l.machine))
+      l.fn.printer l.printer;
+  at : l.index ≡ index_of (g.M.MachineOwner.machine l.fn.machine).sizes l.line.actor;
+  sizes : (g.M.MachineOwner.machine l.machine).sizes ≡ (g.M.MachineOwner.machine l.fn.machine).sizes;
+  hands : length (g.M.MachineOwner.machine l.machine).hands ≡ length (g.M.MachineOwner.machine l.fn.machine).hands;
 }
 
 abbrev pub decreases-loop-stop : goal.decreases-loop-stop
-decreases-loop-stop g l = hand_left (hand_in mmu (world_in l.machine) l.index)
+decreases-loop-stop g l = hand_left (hand_in mmu (world_in (g.M.MachineOwner.machine l.machine)) l.index)
 
 abbrev pub invariant-loop-machine : goal.invariant-loop-machine
 invariant-loop-machine g l = record {
-  next : NextAlone l.fn.machine.sizes l.line l.index (world_in l.fn.machine);
-  stops_ : StopsIn g.P.TurnPrinter.stops l.fn.machine.sizes l.line l.index (world_in l.fn.machine) (world_in l.machine) l.fn.printer l.stop l.printer;
-  at : l.index ≡ index_of l.fn.machine.sizes l.line.actor;
-  sizes : l.machine.sizes ≡ l.fn.machine.sizes;
-  hands : length l.machine.hands ≡ length l.fn.machine.hands;
+  next : NextAlone (g.M.MachineOwner.machine l.fn.machine).sizes l.line l.index (world_in (g.M.MachineOwner.machine l.fn.machine));
+  stops_ : StopsIn g.P.TurnPrinter.stops (g.M.MachineOwner.machine l.fn.machine).sizes l.line l.index
+      (world_in (g.M.MachineOwner.machine l.fn.machine)) (world_in (g.M.MachineOwner.machine l.machine)) l.fn.printer l.stop l.printer;
+  at : l.index ≡ index_of (g.M.MachineOwner.machine l.fn.machine).sizes l.line.actor;
+  sizes : (g.M.MachineOwner.machine l.machine).sizes ≡ (g.M.MachineOwner.machine l.fn.machine).sizes;
+  hands : length (g.M.MachineOwner.machine l.machine).hands ≡ length (g.M.MachineOwner.machine l.fn.machine).hands;
 }
 
 abbrev pub decreases-loop-machine : goal.decreases-loop-machine
-decreases-loop-machine g l = left_under_way (hand_in mmu (world_in l.machine) l.index)
+decreases-loop-machine g l = left_under_way (hand_in mmu (world_in (g.M.MachineOwner.machine l.machine)) l.index)

@@ -1,7 +1,7 @@
 use Rattle.std.proofs.lemmas.Result.{err_from_is_err_and}
 use Rattle.step_seats.specs.Machines.{world_in}
 use Rattle.weave_engine.proofs.Coming.{Printing}
-use Rattle.weave_engine.proofs.Outputs.{no_replay, replay_refused, replays_by}
+use Rattle.weave_engine.proofs.Outputs.{no_replay}
 use Rattle.weave_engine.proofs.replaying.replay_with.Goals as goal
 
 pub returns-in_err-machine : goal.returns-in_err-machine
@@ -14,17 +14,7 @@ returns-in_err-machine g c =
 pub returns-in_err-how : goal.returns-in_err-how
 returns-in_err-how g c =
     let p = err_from_is_err_and c.from_residual-in_err-how.result c.from_residual-in_err-how.ensures.1 in
-    let w = world_in c.replay_on.new.machine in
-    let L : Printing g.P.TurnPrinter.prints g.P.TurnPrinter.stops = record { both = g.met.P.TurnPrinter.then; stopped = g.met.P.TurnPrinter.stopped } in
-    rw p.1 (
-      w,
-      replay_refused g.P.TurnPrinter.prints g.P.TurnPrinter.stops L c.args.trace.now w c.args.printer.now c.replay_on.new.printer c.replay_on.result
-          c.in_err-how.ensures.refused c.replay_on.ensures,
-    )
+    rw p.1 (world_in c.replay_machine.new.machine, c.in_err-how.ensures)
 
 pub returns : goal.returns
-returns g c =
-    let L : Printing g.P.TurnPrinter.prints g.P.TurnPrinter.stops = record { both = g.met.P.TurnPrinter.then; stopped = g.met.P.TurnPrinter.stopped } in
-    rw (c.into_closing.ensures.words, c.into_closing.ensures.hands)
-    (replays_by g.P.TurnPrinter.prints g.P.TurnPrinter.stops L c.args.trace.now (world_in c.replay_on.new.machine) c.args.printer.now c.replay_on.new.printer
-    c.replay_on.result c.in_ok-how.how c.in_ok-how.ensures.ran c.replay_on.ensures)
+returns g c = rw (c.into_closing.ensures.words, c.into_closing.ensures.hands) c.in_ok-how.ensures

@@ -10,10 +10,11 @@ use Rattle.weave_engine.proofs.FirstLines.{FirstBefore, looks_at, open_next}
 use Rattle.weave_engine.proofs.rounds.first_open.Goals as goal
 
 pub loop-index-preserved : goal.loop-index-preserved
-loop-index-preserved c =
-    let w = world_in c.args.machine.now in
+loop-index-preserved g c =
+    let M = g.M.MachineOwner in
+    let w = world_in (M.machine c.args.machine.now) in
     let i = c.loop-index.index in
-    let count : c.actors-index-end.result ≡ actors_of c.args.machine.now.sizes = rw c.sizes.ensures.is at c.actors-index-end.ensures in
+    let count : c.actors-index-end.result ≡ actors_of (M.machine c.args.machine.now).sizes = rw c.sizes.ensures.is at c.actors-index-end.ensures in
     let next : option_copied c.next_line.result ≡ open_next (hand_in mmu w i) = c.next_line.ensures
     ∙ ap (λ (x : Handful). open_next x.core) c.hand.ensures.hand ∙ ap (λ (x : Held). open_next x) (sym c.hand.ensures.has.is) in
     record {

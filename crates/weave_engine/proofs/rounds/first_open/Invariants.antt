@@ -6,7 +6,7 @@ use Rattle.weave_engine.proofs.FirstLines.{FirstBefore}
 use Rattle.weave_engine.proofs.rounds.first_open.Given as goal
 
 abbrev pub invariant-loop-index : goal.invariant-loop-index
-invariant-loop-index l = record {
-  first : FirstBefore (world_in l.fn.machine) l.index (option_copied l.first);
-  within : l.index ≤ actors_of l.fn.machine.sizes;
+invariant-loop-index g l = record {
+  first : FirstBefore (world_in (g.M.MachineOwner.machine l.fn.machine)) l.index (option_copied l.first);
+  within : l.index ≤ actors_of (g.M.MachineOwner.machine l.fn.machine).sizes;
 }

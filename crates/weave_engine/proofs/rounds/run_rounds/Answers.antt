@@ -13,50 +13,67 @@ use Rattle.weave_engine.proofs.rounds.run_rounds.Goals as goal
 
 pub returns-in_err-rounds-clause-prints : goal.returns-in_err-rounds-clause-prints
 returns-in_err-rounds-clause-prints g c =
+    let M = g.M.MachineOwner in
+    let z = (M.machine c.args.machine.now).sizes in
+    let start = world_in (M.machine c.args.machine.now) in
     let p = err_from_is_err_and c.from_residual.result c.from_residual.ensures.1 in
     rw (p.1, p.2) (
       [],
       [],
       Rounds ∷ [],
-      (no_rounds c.args.machine.now.sizes c.args.limit (world_in c.args.machine.now), refl),
-      comes_none (world_in c.args.machine.now),
+      (no_rounds z c.args.limit start, refl),
+      comes_none start,
       c.in_err-rounds.ensures,
     )
 
 pub loop-passed-init : goal.loop-passed-init
-loop-passed-init g c = record {
-  so_far =
-      so_far_none g.P.TurnPrinter.prints (AreMarkedAfter Rounds (InRounds c.args.machine.now.sizes 0 0 0)) (world_in c.args.machine.now) c.args.printer.now
-      c.rounds.new.self (Rounds ∷ []) (none_made c.args.machine.now.sizes (world_in c.args.machine.now), refl) c.in_ok-rounds.ensures;
-  within = omega arith;
-  few = omega arith;
-  sizes = refl;
-  hands = refl;
-}
+loop-passed-init g c =
+    let M = g.M.MachineOwner in
+    let z = (M.machine c.args.machine.now).sizes in
+    let start = world_in (M.machine c.args.machine.now) in
+    record {
+      so_far =
+          so_far_none g.P.TurnPrinter.prints (AreMarkedAfter Rounds (InRounds z 0 0 0)) start c.args.printer.now
+          c.rounds.new.self (Rounds ∷ []) (none_made z start, refl) c.in_ok-rounds.ensures;
+      within = omega arith;
+      few = omega arith;
+      sizes = refl;
+      hands = refl;
+    }
 
 pub returns-in_err-turn-clause-prints : goal.returns-in_err-turn-clause-prints
 returns-in_err-turn-clause-prints g c =
+    let M = g.M.MachineOwner in
+    let z = (M.machine c.args.machine.now).sizes in
+    let start = world_in (M.machine c.args.machine.now) in
+    let here = world_in (M.machine c.loop-passed.machine) in
+    let after_turn = world_in (M.machine c.turn.new.machine) in
     let i = c.loop-passed.invariant in
-    let some : c.loop-passed.passed < actors_of c.args.machine.now.sizes = rw (c.actors-count.ensures, c.sizes.ensures.is) at c.loop-passed-test.true in
+    let some : c.loop-passed.passed < actors_of z = rw (c.actors-count.ensures, c.sizes.ensures.is) at c.loop-passed-test.true in
     let p = err_from_is_err_and c.from_residual-in_err-turn.result c.from_residual-in_err-turn.ensures.1 in
     let L : Printing g.P.TurnPrinter.prints g.P.TurnPrinter.stops = record { both = g.met.P.TurnPrinter.then; stopped = g.met.P.TurnPrinter.stopped } in
-    rw (p.1, p.2) (rounds_stop g.P.TurnPrinter.prints g.P.TurnPrinter.stops L c.args.machine.now.sizes c.loop-passed.index c.loop-passed.passed
-    c.loop-passed.made c.next_place-index.result (world_in c.args.machine.now) (world_in c.loop-passed.machine) (world_in c.turn.new.machine)
+    rw (p.1, p.2) (rounds_stop g.P.TurnPrinter.prints g.P.TurnPrinter.stops L z c.loop-passed.index c.loop-passed.passed
+    c.loop-passed.made c.next_place-index.result start here after_turn
     c.args.printer.now c.loop-passed.printer c.turn.new.self i.so_far some c.args.limit c.in_err-turn.field-0.0 c.if-made-limit.true
     c.in_err-turn.ensures.turned)
 
 pub loop-passed-preserved-in-NoLine : goal.loop-passed-preserved-in-NoLine
 loop-passed-preserved-in-NoLine g c =
+    let M = g.M.MachineOwner in
+    let z = (M.machine c.args.machine.now).sizes in
+    let start = world_in (M.machine c.args.machine.now) in
+    let here = world_in (M.machine c.loop-passed.machine) in
+    let after_turn = world_in (M.machine c.turn.new.machine) in
     let i = c.loop-passed.invariant in
-    let some : c.loop-passed.passed < actors_of c.args.machine.now.sizes = rw (c.actors-count.ensures, c.sizes.ensures.is) at c.loop-passed-test.true in
-    let step : IsNextPlace (actors_of c.args.machine.now.sizes) c.loop-passed.index c.next_place-index.result =
+    let some : c.loop-passed.passed < actors_of z = rw (c.actors-count.ensures, c.sizes.ensures.is) at c.loop-passed-test.true in
+    let step : IsNextPlace (actors_of z) c.loop-passed.index c.next_place-index.result =
     rw (c.actors-count.ensures, c.sizes.ensures.is) at c.next_place-index.ensures in
     let turned = rw c.in-NoLine.is at c.in_ok-turn.ensures.turned in
     let L : Printing g.P.TurnPrinter.prints g.P.TurnPrinter.stops = record { both = g.met.P.TurnPrinter.then; stopped = g.met.P.TurnPrinter.stopped } in
     record {
       so_far =
-          passes g.P.TurnPrinter.prints g.P.TurnPrinter.stops L c.args.machine.now.sizes c.loop-passed.index c.loop-passed.passed c.loop-passed.made
-          c.next_place-index.result (world_in c.args.machine.now) (world_in c.loop-passed.machine) (world_in c.turn.new.machine) c.args.printer.now
+          passes g.P.TurnPrinter.prints g.P.TurnPrinter.stops L z c.loop-passed.index c.loop-passed.passed c.loop-passed.made
+          c.next_place-index.result start here after_turn c.args.printer.now
           c.loop-passed.printer c.turn.new.self i.so_far some step turned.0 turned.1 turned.2;
       within = omega (arith, c.loop-passed-test.true);
       few = i.few;
@@ -66,18 +83,23 @@ loop-passed-preserved-in-NoLine g c =
 
 pub loop-passed-preserved : goal.loop-passed-preserved
 loop-passed-preserved g c =
+    let M = g.M.MachineOwner in
+    let z = (M.machine c.args.machine.now).sizes in
+    let start = world_in (M.machine c.args.machine.now) in
+    let here = world_in (M.machine c.loop-passed.machine) in
+    let after_turn = world_in (M.machine c.turn.new.machine) in
     let i = c.loop-passed.invariant in
-    let some : c.loop-passed.passed < actors_of c.args.machine.now.sizes = rw (c.actors-count.ensures, c.sizes.ensures.is) at c.loop-passed-test.true in
-    let step : IsNextPlace (actors_of c.args.machine.now.sizes) c.loop-passed.index c.next_place-index.result =
+    let some : c.loop-passed.passed < actors_of z = rw (c.actors-count.ensures, c.sizes.ensures.is) at c.loop-passed-test.true in
+    let step : IsNextPlace (actors_of z) c.loop-passed.index c.next_place-index.result =
     rw (c.actors-count.ensures, c.sizes.ensures.is) at c.next_place-index.ensures in
     let L : Printing g.P.TurnPrinter.prints g.P.TurnPrinter.stops = record { both = g.met.P.TurnPrinter.then; stopped = g.met.P.TurnPrinter.stopped } in
     record {
       so_far =
-          turns g.P.TurnPrinter.prints g.P.TurnPrinter.stops L c.args.machine.now.sizes c.loop-passed.index c.loop-passed.passed c.loop-passed.made
-          c.next_place-index.result (world_in c.args.machine.now) (world_in c.loop-passed.machine) (world_in c.turn.new.machine) c.args.printer.now
+          turns g.P.TurnPrinter.prints g.P.TurnPrinter.stops L z c.loop-passed.index c.loop-passed.passed c.loop-passed.made
+          c.next_place-index.result start here after_turn c.args.printer.now
           c.loop-passed.printer c.turn.new.self i.so_far some step
-          (made_one g.P.TurnPrinter.prints g.P.TurnPrinter.stops L c.in_ok-turn.field-0 c.loop-passed.index (world_in c.loop-passed.machine)
-          (world_in c.turn.new.machine) c.loop-passed.printer c.turn.new.self c.in-Went.is c.in_ok-turn.ensures.turned);
+          (made_one g.P.TurnPrinter.prints g.P.TurnPrinter.stops L c.in_ok-turn.field-0 c.loop-passed.index here
+          after_turn c.loop-passed.printer c.turn.new.self c.in-Went.is c.in_ok-turn.ensures.turned);
       within = omega arith;
       few = omega (arith, c.if-made-limit.true);
       sizes = c.turn.ensures.same.0 ∙ i.sizes;
@@ -86,11 +108,15 @@ loop-passed-preserved g c =
 
 pub returns-after-loop-passed-clause-prints : goal.returns-after-loop-passed-clause-prints
 returns-after-loop-passed-clause-prints g c =
+    let M = g.M.MachineOwner in
+    let z = (M.machine c.args.machine.now).sizes in
+    let start = world_in (M.machine c.args.machine.now) in
+    let here = world_in (M.machine c.loop-passed.machine) in
     let i = c.loop-passed.invariant in
-    let count : c.actors-count.result ≡ actors_of c.args.machine.now.sizes = rw c.sizes.ensures.is at c.actors-count.ensures in
+    let count : c.actors-count.result ≡ actors_of z = rw c.sizes.ensures.is at c.actors-count.ensures in
     let L : Printing g.P.TurnPrinter.prints g.P.TurnPrinter.stops = record { both = g.met.P.TurnPrinter.then; stopped = g.met.P.TurnPrinter.stopped } in
-    rounds_over g.P.TurnPrinter.prints g.P.TurnPrinter.stops L c.args.machine.now.sizes c.args.limit c.loop-passed.index c.loop-passed.passed
-    c.loop-passed.made (world_in c.args.machine.now) (world_in c.loop-passed.machine) c.args.printer.now c.loop-passed.printer i.so_far i.few
+    rounds_over g.P.TurnPrinter.prints g.P.TurnPrinter.stops L z c.args.limit c.loop-passed.index c.loop-passed.passed
+    c.loop-passed.made start here c.args.printer.now c.loop-passed.printer i.so_far i.few
     (λ some more. omega (arith, some, count, c.loop-passed-test.false))
 
 pub turn-requires-clause-ready : goal.turn-requires-clause-ready

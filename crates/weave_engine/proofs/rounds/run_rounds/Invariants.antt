@@ -5,11 +5,12 @@ use Rattle.weave_engine.proofs.rounds.run_rounds.Given as goal
 
 abbrev pub invariant-loop-passed : goal.invariant-loop-passed
 invariant-loop-passed g l = record {
-  so_far : RoundsSoFar g.P.TurnPrinter.prints l.fn.machine.sizes l.index l.passed l.made (world_in l.fn.machine) (world_in l.machine) l.fn.printer l.printer;
+  so_far : RoundsSoFar g.P.TurnPrinter.prints (g.M.MachineOwner.machine l.fn.machine).sizes l.index l.passed l.made
+      (world_in (g.M.MachineOwner.machine l.fn.machine)) (world_in (g.M.MachineOwner.machine l.machine)) l.fn.printer l.printer;
   within : l.passed ≤ l.count;
   few : l.made ≤ l.fn.limit;
-  sizes : l.machine.sizes ≡ l.fn.machine.sizes;
-  hands : length l.machine.hands ≡ length l.fn.machine.hands;
+  sizes : (g.M.MachineOwner.machine l.machine).sizes ≡ (g.M.MachineOwner.machine l.fn.machine).sizes;
+  hands : length (g.M.MachineOwner.machine l.machine).hands ≡ length (g.M.MachineOwner.machine l.fn.machine).hands;
 }
 
 abbrev pub decreases-loop-passed : goal.decreases-loop-passed

@@ -4,10 +4,10 @@ use Rattle.weave_engine.specs.Given.{IsLastAnswer}
 use Rattle.weave_engine.proofs.run_on.last_answer.Goals as goal
 
 pub last_of-requires : goal.last_of-requires
-last_of-requires c =
+last_of-requires g c =
     subst (λ (h : Held). 0 < length h.answers) (c.hand.ensures.has.is ∙ ap (λ (x : Handful). x.core) (sym c.hand.ensures.hand)) c.requires.answered
 
 pub returns : goal.returns
-returns c =
+returns g c =
     subst (λ (h : Held). IsLastAnswer c.last_of.result.now h) (sym (c.hand.ensures.has.is ∙ ap (λ (x : Handful). x.core) (sym c.hand.ensures.hand)))
     c.last_of.ensures

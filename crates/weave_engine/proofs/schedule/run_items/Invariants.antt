@@ -6,8 +6,8 @@ use Rattle.weave_engine.proofs.schedule.run_items.Given as goal
 
 abbrev pub invariant-loop-item : goal.invariant-loop-item
 invariant-loop-item g l = record {
-  so_far : SoFar g.P.TurnPrinter.prints (RunsItems l.fn.machine.sizes (take l.item-index l.items)) (world_in l.fn.machine) (world_in l.machine) l.fn.printer
-      l.printer;
-  sizes : l.machine.sizes ≡ l.fn.machine.sizes;
-  hands : length l.machine.hands ≡ length l.fn.machine.hands;
+  so_far : SoFar g.P.TurnPrinter.prints (RunsItems (g.M.MachineOwner.machine l.fn.machine).sizes (take l.item-index l.items))
+      (world_in (g.M.MachineOwner.machine l.fn.machine)) (world_in (g.M.MachineOwner.machine l.machine)) l.fn.printer l.printer;
+  sizes : (g.M.MachineOwner.machine l.machine).sizes ≡ (g.M.MachineOwner.machine l.fn.machine).sizes;
+  hands : length (g.M.MachineOwner.machine l.machine).hands ≡ length (g.M.MachineOwner.machine l.fn.machine).hands;
 }

@@ -7,8 +7,9 @@ use Rattle.weave_engine.proofs.schedule.run_turns.Given as goal
 
 abbrev pub invariant-loop-made : goal.invariant-loop-made
 invariant-loop-made g l = record {
-  so_far : SoFar g.P.TurnPrinter.prints (AreMarked (TurnsMade l.fn.index l._made)) (world_in l.fn.machine) (world_in l.machine) l.fn.printer l.printer;
+  so_far : SoFar g.P.TurnPrinter.prints (AreMarked (TurnsMade l.fn.index l._made))
+      (world_in (g.M.MachineOwner.machine l.fn.machine)) (world_in (g.M.MachineOwner.machine l.machine)) l.fn.printer l.printer;
   within : l._made ≤ l.count;
-  sizes : l.machine.sizes ≡ l.fn.machine.sizes;
-  hands : length l.machine.hands ≡ length l.fn.machine.hands;
+  sizes : (g.M.MachineOwner.machine l.machine).sizes ≡ (g.M.MachineOwner.machine l.fn.machine).sizes;
+  hands : length (g.M.MachineOwner.machine l.machine).hands ≡ length (g.M.MachineOwner.machine l.fn.machine).hands;
 }

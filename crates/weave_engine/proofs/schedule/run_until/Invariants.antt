@@ -8,10 +8,11 @@ use Rattle.weave_engine.proofs.schedule.run_until.Given as goal
 
 abbrev pub invariant-loop : goal.invariant-loop
 invariant-loop g l = record {
-  so_far : SoFar g.P.TurnPrinter.prints (AreMarked (TurnsGoOn l.until l.fn.index)) (world_in l.fn.machine) (world_in l.machine) l.fn.printer l.printer;
-  sizes : l.machine.sizes ≡ l.fn.machine.sizes;
-  hands : length l.machine.hands ≡ length l.fn.machine.hands;
+  so_far : SoFar g.P.TurnPrinter.prints (AreMarked (TurnsGoOn l.until l.fn.index))
+      (world_in (g.M.MachineOwner.machine l.fn.machine)) (world_in (g.M.MachineOwner.machine l.machine)) l.fn.printer l.printer;
+  sizes : (g.M.MachineOwner.machine l.machine).sizes ≡ (g.M.MachineOwner.machine l.fn.machine).sizes;
+  hands : length (g.M.MachineOwner.machine l.machine).hands ≡ length (g.M.MachineOwner.machine l.fn.machine).hands;
 }
 
 abbrev pub decreases-loop : goal.decreases-loop
-decreases-loop g l = turns_left (world_in l.machine) l.fn.index
+decreases-loop g l = turns_left (world_in (g.M.MachineOwner.machine l.machine)) l.fn.index

@@ -7,6 +7,7 @@ use Rattle.weave_engine.proofs.Turns.{code_is}
 use Rattle.weave_engine.proofs.turning.next_code.Goals as goal
 
 pub returns : goal.returns
-returns c =
-    code_is c.hand-hand.result.now.core (hand_in mmu (world_in c.args.machine.now) c.args.index) c.next_kind.result
+returns g c =
+    let M = g.M.MachineOwner in
+    code_is c.hand-hand.result.now.core (hand_in mmu (world_in (M.machine c.args.machine.now)) c.args.index) c.next_kind.result
     (c.hand-hand.ensures.has.is ∙ ap (λ (x : Handful). x.core) (sym c.hand-hand.ensures.hand)) c.next_kind.ensures

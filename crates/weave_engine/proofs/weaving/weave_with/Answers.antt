@@ -1,7 +1,6 @@
 use Rattle.std.proofs.lemmas.Result.{err_from_is_err_and}
 use Rattle.step_seats.specs.Machines.{world_in}
 use Rattle.weave_engine.proofs.Coming.{Printing}
-use Rattle.weave_engine.proofs.WeaveEnds.{ends_by, ends_refused}
 use Rattle.weave_engine.proofs.WovenLaws.{no_machine}
 use Rattle.weave_engine.proofs.weaving.weave_with.Goals as goal
 
@@ -15,15 +14,7 @@ returns-in_err-machine g c =
 pub returns-in_err-how : goal.returns-in_err-how
 returns-in_err-how g c =
     let p = err_from_is_err_and c.from_residual-in_err-how.result c.from_residual-in_err-how.ensures.1 in
-    let w = world_in c.weave_on.new.machine in
-    rw p.1 (
-      w,
-      ends_refused g.P.TurnPrinter.prints g.P.TurnPrinter.stops c.args.trace.now c.args.limit w c.args.printer.now c.weave_on.new.printer c.weave_on.result
-          c.in_err-how.ensures.refused c.weave_on.ensures,
-    )
+    rw p.1 (world_in c.weave_machine.new.machine, c.in_err-how.ensures)
 
 pub returns : goal.returns
-returns g c =
-    rw (c.into_closing.ensures.words, c.into_closing.ensures.hands)
-    (ends_by g.P.TurnPrinter.prints g.P.TurnPrinter.stops c.args.trace.now c.args.limit (world_in c.weave_on.new.machine) c.args.printer.now
-    c.weave_on.new.printer c.weave_on.result c.in_ok-how.how c.in_ok-how.ensures.ran c.weave_on.ensures)
+returns g c = rw (c.into_closing.ensures.words, c.into_closing.ensures.hands) c.in_ok-how.ensures

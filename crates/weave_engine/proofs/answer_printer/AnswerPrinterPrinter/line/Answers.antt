@@ -15,10 +15,11 @@ use Rattle.weave_engine.proofs.answer_printer.AnswerPrinterPrinter.line.Goals as
 
 pub answer_to-answer-requires-clause-answered : goal.answer_to-answer-requires-clause-answered
 answer_to-answer-requires-clause-answered g c =
+    let M = g.M.MachineOwner in
     let line = c.args.line.now in
-    let z = c.args.machine.now.sizes in
-    let here = world_in c.args.machine.now in
-    let after = world_in c.run_on.new.machine in
+    let z = (M.machine c.args.machine.now).sizes in
+    let here = world_in (M.machine c.args.machine.now) in
+    let after = world_in (M.machine c.run_on.new.machine) in
     rw c.in-Ok.ensures.same.0 (some_answer line (given_in (index_of z line.actor) here after) (hand_in mmu here (index_of z line.actor))
     (hand_in mmu after (index_of z line.actor)) c.in-Ok.ensures.ran.answered)
 
@@ -34,11 +35,12 @@ returns-in_default-clause-ran g c = inl (
 
 pub returns-in_err-put_answer-clause-ran : goal.returns-in_err-put_answer-clause-ran
 returns-in_err-put_answer-clause-ran g c =
+    let M = g.M.MachineOwner in
     let p = err_from_is_err_and c.from_residual.result c.from_residual.ensures.1 in
     let line = c.args.line.now in
-    let z = c.args.machine.now.sizes in
-    let here = world_in c.args.machine.now in
-    let after = world_in c.run_on.new.machine in
+    let z = (M.machine c.args.machine.now).sizes in
+    let here = world_in (M.machine c.args.machine.now) in
+    let after = world_in (M.machine c.run_on.new.machine) in
     let own = c.in-Ok.ensures.ran in
     let last : IsLastAnswer c.answer_to-answer.result.now (hand_in mmu after (index_of z line.actor)) =
     subst (λ (y : Sizes). IsLastAnswer c.answer_to-answer.result.now (hand_in mmu after (index_of y line.actor))) c.in-Ok.ensures.same.0
@@ -60,10 +62,11 @@ returns-in_err-put_answer-clause-ran g c =
 
 pub returns-clause-ran : goal.returns-clause-ran
 returns-clause-ran g c =
+    let M = g.M.MachineOwner in
     let line = c.args.line.now in
-    let z = c.args.machine.now.sizes in
-    let here = world_in c.args.machine.now in
-    let after = world_in c.run_on.new.machine in
+    let z = (M.machine c.args.machine.now).sizes in
+    let here = world_in (M.machine c.args.machine.now) in
+    let after = world_in (M.machine c.run_on.new.machine) in
     let own = c.in-Ok.ensures.ran in
     let last : IsLastAnswer c.answer_to-answer.result.now (hand_in mmu after (index_of z line.actor)) =
     subst (λ (y : Sizes). IsLastAnswer c.answer_to-answer.result.now (hand_in mmu after (index_of y line.actor))) c.in-Ok.ensures.same.0

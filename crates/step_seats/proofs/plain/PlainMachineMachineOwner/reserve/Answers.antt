@@ -4,7 +4,7 @@ use Rattle.core_views.specs.Held.{Handful}
 use Rattle.step_seats.specs.Moves.{HasItsRoom, handful_in, no_hand}
 use Rattle.step_seats.proofs.Rooms.{reserve_has_room}
 use Rattle.step_seats.proofs.Worlds.{machine_same, there_inside, world_same}
-use Rattle.step_seats.proofs.plain.PlainMachine.reserve.Goals as goal
+use Rattle.step_seats.proofs.plain.PlainMachineMachineOwner.reserve.Goals as goal
 
 pub returns-clause-world : goal.returns-clause-world
 returns-clause-world c =

@@ -1,5 +1,5 @@
 use Rattle.step_seats.proofs.Worlds.{count_of_hands, machine_reached}
-use Rattle.step_seats.proofs.plain.PlainMachine.sizes.Goals as goal
+use Rattle.step_seats.proofs.plain.PlainMachineMachineOwner.sizes.Goals as goal
 
 pub returns-clause-count : goal.returns-clause-count
 returns-clause-count c =

@@ -1,6 +1,6 @@
 use Rattle.std.proofs.lemmas.Grind.{merely}
 use Rattle.step_seats.proofs.Worlds.{hand_reached, has_hand, has_room}
-use Rattle.step_seats.proofs.plain.PlainMachine.hand.Goals as goal
+use Rattle.step_seats.proofs.plain.PlainMachineMachineOwner.hand.Goals as goal
 
 pub returns-clause-reached : goal.returns-clause-reached
 returns-clause-reached c =

@@ -10,7 +10,7 @@ use Rattle.weave_engine.specs.Turned.{is_stop, turn_text}
 use Rattle.show_steps.specs.PutLaws.{nothing_put, nothing_stopped}
 use Rattle.show_steps.specs.Puts.{Printed, PutsSteps, printed_by}
 use Rattle.show_steps.proofs.TurnsTold.{goes_made, mark_put, mark_stopped, nothing_written, row_of_turn, stops_made, tells_all, turn_is, turn_puts}
-use Rattle.show_steps.proofs.step_printer.StepPrinterTurnPrinter.turn.Goals as goal
+use Rattle.show_steps.proofs.step_printer.StepPrinterTurnPrinterPlainMachine.turn.Goals as goal
 
 pub returns-then-not-has_line-clause-turned : goal.returns-then-not-has_line-clause-turned
 returns-then-not-has_line-clause-turned g c =
