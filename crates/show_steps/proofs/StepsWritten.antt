@@ -21,11 +21,12 @@ use Rattle.weave_engine.specs.Printed.{PrintsBy, PrintsReplay, PrintsReplayed, P
 use Rattle.weave_engine.specs.PrinterLaws.{over_append}
 use Rattle.weave_engine.specs.declared.ran.How.{How}
 use Rattle.weave_engine.specs.declared.ran.How.TheVariants.{Done, Unfinished, WriteFault}
+use Rattle.weave_engine.specs.declared.ran.OpenLine.{OpenLine}
 use Rattle.weave_engine.specs.declared.ran.Ran.{Ran}
 use Rattle.show_steps.specs.Lines.{coming_text, steps_text}
 use Rattle.show_steps.specs.Puts.{Printed, PutsSteps, StopsSteps}
 use Rattle.show_steps.specs.Run.{IsRunSoFar, WritesSome, WritesSteps}
-use Rattle.show_steps.specs.Statuses.{status_by, status_how}
+use Rattle.weave_engine.specs.Statuses.{status_by, status_how}
 use Rattle.show_steps.specs.declared.command.Command.TheVariants.{Replay, Weave}
 
 -- The printer has printed nothing, and prints for a machine of these sizes.
@@ -69,7 +70,7 @@ module _ {V : Type 0} (prints : V → List Mark → V → Type 0) (stops : V →
         (ms, inr (inl (closing, bytes, W, refl)), ends ms stop part)
     weave_until closing stop (inr (inr (bytes, line, W, part))) =
         let ms : List Mark = W.weaves.so_far.follows.marks ++ Over (Some line) ∷ [] in
-        (ms, inr (inr (closing, bytes, line, W, refl)), ends ms stop part)
+        (ms, inr (inr (line.actor, line.number, (closing, bytes, line, W, refl, refl, refl))), ends ms stop part)
 
     weave_by : (closing : World Held) (how : How) → PrintsBy prints stops trace limit closing p q how
         → WritesSteps Weave trace limit (given p) (given q) (status_how how)
@@ -77,8 +78,11 @@ module _ {V : Type 0} (prints : V → List Mark → V → Type 0) (stops : V →
         let ms = W.weaves.so_far.follows.marks in
         (ms ++ Over None ∷ [], (closing, bytes, W, refl), puts ms None put)
     weave_by closing (Unfinished actor number) (line, is, bytes, W, put) =
-        let ms = W.weaves.so_far.follows.marks in
-        (ms ++ Over (Some line) ∷ [], (closing, bytes, line, W, refl), puts ms (Some line) put)
+        let ms = W.weaves.so_far.follows.marks in (
+          ms ++ Over (Some line) ∷ [],
+          (closing, bytes, line, W, ap (λ (x : OpenLine). x.actor) is, ap (λ (x : OpenLine). x.number) is, refl),
+          puts ms (Some line) put,
+        )
     weave_by closing WriteFault until = weave_until closing Failed until
 
     pub weave_writes : (ran : Result Ran Refusal) → PrintsWeave prints stops trace limit p q ran

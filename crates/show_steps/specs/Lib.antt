@@ -5,5 +5,4 @@ pub mod Puts
 pub mod PutLaws
 pub mod Tells
 pub mod Output
-pub mod Statuses
 pub mod Run

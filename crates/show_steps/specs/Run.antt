@@ -2,6 +2,8 @@
 use Rattle.std.specs.Prelude.{◌≡◌, ◌⊎◌, ℕ, List, [], ◌∷◌, ◌++◌, codes, take, if◌then◌else◌, Option, Some, None, Result, Ok, Err}
 use Rattle.std.specs.Str.{bytes_eq}
 use Rattle.std.specs.Io.KnownBytes.{Appends}
+use Rattle.run_status.specs.Refusals.{refusal_text}
+use Rattle.core_views.specs.declared.actor.Actor.{Actor}
 use Rattle.core_views.specs.declared.trace.Line.{Line}
 use Rattle.core_views.specs.declared.trace.Trace.{Trace}
 use Rattle.core_views.specs.Held.{Held}
@@ -14,11 +16,11 @@ use Rattle.weave_engine.specs.Marks.{Mark, Over, turns_from}
 use Rattle.weave_engine.specs.Replays.{Replays}
 use Rattle.weave_engine.specs.Weaves.{WeavesAll, WeavesPart, WeavesSoFar}
 use Rattle.show_steps.specs.Lines.{steps_text}
-use Rattle.show_steps.specs.Output.{refusal_text, usage_text}
+use Rattle.show_steps.specs.Output.{usage_text}
 use Rattle.show_steps.specs.declared.command.Command.{Command}
 use Rattle.show_steps.specs.declared.command.Command.TheVariants.{Weave, Replay}
-use Rattle.show_steps.specs.declared.status.Status.{Status}
-use Rattle.show_steps.specs.declared.status.Status.TheVariants.{Done, Usage, Refused, ReadFault, WriteFault, Unfinished, NoMemory}
+use Rattle.run_status.specs.declared.status.Status.{Status}
+use Rattle.run_status.specs.declared.status.Status.TheVariants.{Done, Usage, Refused, ReadFault, WriteFault, Unfinished, NoMemory}
 
 abbrev pub command_named : List ℕ → Option Command
 command_named word = if bytes_eq word (codes "weave") then Some Weave else if bytes_eq word (codes "replay") then Some Replay else None
@@ -36,17 +38,19 @@ IsRun Weave trace limit marks =
 IsRun Replay trace limit marks =
     (closing : World Held) × (bytes : List ℕ) × (R : Replays trace trace.lines bytes closing) × (marks ≡ turns_from R.start R.runs.steps ++ Over None ∷ [])
 
--- These are the marks of a weave that used up its turns in rounds before each line was answered. A replay has no such end.
-abbrev pub IsOpenRun : Command → Trace → ℕ → List Mark → Type 0
-IsOpenRun Weave trace limit marks = (closing : World Held) × (bytes : List ℕ) × (line : Line) × (W : WeavesPart trace limit bytes closing line)
-    × (marks ≡ W.weaves.so_far.follows.marks ++ Over (Some line) ∷ [])
-IsOpenRun Replay trace limit marks = ⊥
+-- These are the marks of a weave that used up its turns in rounds before each line was answered: the first line of the file without an answer is this
+-- actor's, with this number. A replay has no such end.
+abbrev pub IsOpenRun : Command → Trace → ℕ → Actor → ℕ → List Mark → Type 0
+IsOpenRun Weave trace limit actor number marks =
+    (closing : World Held) × (bytes : List ℕ) × (line : Line) × (W : WeavesPart trace limit bytes closing line) × (line.actor ≡ actor)
+    × (line.number ≡ number) × (marks ≡ W.weaves.so_far.follows.marks ++ Over (Some line) ∷ [])
+IsOpenRun Replay trace limit actor number marks = ⊥
 
 -- These are the marks of such a run as far as it came.
 abbrev pub IsRunSoFar : Command → Trace → ℕ → List Mark → Type 0
 IsRunSoFar Weave trace limit marks =
     ((closing : World Held) × (bytes : List ℕ) × (W : WeavesSoFar trace limit bytes closing) × (marks ≡ W.follows.marks))
-    ⊎ (IsRun Weave trace limit marks ⊎ IsOpenRun Weave trace limit marks)
+    ⊎ (IsRun Weave trace limit marks ⊎ ((actor : Actor) × (number : ℕ) × IsOpenRun Weave trace limit actor number marks))
 IsRunSoFar Replay trace limit marks =
     ((closing : World Held) × (count : ℕ) × (bytes : List ℕ) × (R : Replays trace (take count trace.lines) bytes closing)
     × (marks ≡ turns_from R.start R.runs.steps)) ⊎ IsRun Replay trace limit marks
@@ -63,7 +67,7 @@ WritesSome Are trace before after = (marks : List Mark) × Are marks
 -- what was written of a run of a trace, by its status
 abbrev pub WritesSteps : Command → Trace → ℕ → Option (List ℕ) → Option (List ℕ) → Status → Type 0
 WritesSteps command trace limit before after Done = WritesWhole (IsRun command trace limit) trace before after
-WritesSteps command trace limit before after Unfinished = WritesWhole (IsOpenRun command trace limit) trace before after
+WritesSteps command trace limit before after (Unfinished actor line) = WritesWhole (IsOpenRun command trace limit actor line) trace before after
 WritesSteps command trace limit before after WriteFault = WritesSome (IsRunSoFar command trace limit) trace before after
 WritesSteps command trace limit before after NoMemory = WritesSome (IsRunSoFar command trace limit) trace before after
 WritesSteps command trace limit before after _ = ⊥
@@ -87,10 +91,10 @@ abbrev pub Prints : Option Command → ℕ → List ℕ → Option (List ℕ) �
 Prints asked limit input before after Done =
     (command : Command) × (trace : Trace) × Asks asked input command trace × WritesWhole (IsRun command trace limit) trace before after
 Prints asked limit input before after Usage = (asked ≡ None) × Appends before after usage_text
-Prints asked limit input before after Refused = (command : Command) × (asked ≡ Some command) × (line : ℕ) × (reason : Reason)
-    × (reading input ≡ Err (line, reason)) × Appends before after (refusal_text line reason)
+Prints asked limit input before after (Refused line reason) =
+    (command : Command) × (asked ≡ Some command) × (reading input ≡ Err (line, reason)) × Appends before after (refusal_text line reason)
 Prints asked limit input before after ReadFault = (command : Command) × (asked ≡ Some command) × (after ≡ before)
 Prints asked limit input before after WriteFault = WritesPart asked limit input before after
-Prints asked limit input before after Unfinished =
-    (command : Command) × (trace : Trace) × Asks asked input command trace × WritesWhole (IsOpenRun command trace limit) trace before after
+Prints asked limit input before after (Unfinished actor line) =
+    (command : Command) × (trace : Trace) × Asks asked input command trace × WritesWhole (IsOpenRun command trace limit actor line) trace before after
 Prints asked limit input before after NoMemory = (after ≡ before) ⊎ WritesPart asked limit input before after

@@ -6,7 +6,7 @@
 //! so many turns in rounds (`7 turns: `), or that a read or a write fails after so many (`0 reads: `, `1 writes: `).
 //! What stands after a line `..` is the end of what is printed.
 use crate::program::{run, run_within};
-use crate::status::Status;
+use run_status::Status;
 use std::alloc::Global;
 use std::process::Abort;
 use std::test::Fail;
@@ -16,10 +16,10 @@ fn status_name(status: Status) -> &'static str {
     match status {
         Status::Done => "done",
         Status::Usage => "usage",
-        Status::Refused => "refused",
+        Status::Refused { .. } => "refused",
         Status::ReadFault => "read-fault",
         Status::WriteFault => "write-fault",
-        Status::Unfinished => "unfinished",
+        Status::Unfinished { .. } => "unfinished",
         Status::NoMemory => "no-memory",
     }
 }

@@ -1,33 +1,22 @@
 //! The whole program, but for its source, its sink and its words.
-ghost use Rattle.std.specs.Prelude.{◌≡◌, [], IfOk, IfSome, None, false, map, string_bytes, take};
+ghost use Rattle.std.specs.Prelude.{◌≡◌, [], IfSome, None, false, map, string_bytes, take};
+ghost use Rattle.run_status.specs.Refusals.{rounds_limit};
+ghost use Rattle.run_status.specs.Statuses.{ReadCause, WriteCause, status_is_write_fault};
 ghost use Rattle.core_views.specs.Sizes.{sizes_of};
 ghost use Rattle.core_views.specs.Traces.{IsTrace};
-ghost use Rattle.show_steps.specs.Output.{refusal_text};
 ghost use Rattle.show_steps.specs.Puts.{MayPrint, printed_by};
 ghost use Rattle.show_steps.specs.Run.{Prints, WritesSteps, command_named as named, command_of};
-ghost use Rattle.show_steps.specs.Statuses.{ReadCause, WriteCause, WritesRefusal, WritesUsage, status_by, status_is_write_fault};
 
 use crate::command::Command;
-use crate::status::Status;
 use crate::step_printer::StepPrinter;
 use core_views::{NoMemory, Sizes, Trace};
-use std::alloc::{AllocError, Global};
-use tdp_io::{Sink, Source, Stop, write_all};
-use trace_reader::{Read, Reason, read_trace};
-use weave_engine::{How, Ran, replay_with, weave_with};
-
-/// The most turns in rounds that a weave makes.
-const ROUNDS: u64 = 10_000_000;
+use run_status::{ROUNDS, Status, refuse, usage};
+use std::alloc::Global;
+use tdp_io::{Sink, Source};
+use trace_reader::{Read, read_trace};
+use weave_engine::{replay_with, status_of, weave_with};
 
 const USAGE: &str = "usage: show_steps [weave | replay]\n";
-
-#[tactic(auto, unfolding(crate::specs::Output::refusal_text))]
-fn refusal(alloc: Global, line: u32, reason: Reason) -> Result<String, AllocError>
-    ensures { IfOk result (λ t. string_bytes t ≡ refusal_text line reason) }
-{
-    let name = reason.name();
-    format!(in alloc; "refused {line} {name}\n")
-}
 
 // The command that the words name, the program's name first, if they name one.
 fn asked(words: &[String]) -> Option<Command>
@@ -49,59 +38,6 @@ fn command_named(word: &str) -> Option<Command>
         Some(Command::Replay)
     } else {
         None
-    }
-}
-
-// The words are no command of the program.
-fn usage<K: Sink>(out: &mut K) -> Status
-    requires unfailed { K.failed out.old ≡ false }
-    ensures written { WritesUsage (K.written out.old) (K.written out.new) result }
-    ensures write { WriteCause (K.faults out.old) (K.faults out.new) result }
-    ensures failed { K.failed out.new ≡ status_is_write_fault result }
-{
-    match write_all(out, USAGE.as_bytes()) {
-        Ok(()) => Status::Usage,
-        Err(Stop::Failed) => Status::WriteFault,
-        Err(Stop::NoMemory) => Status::NoMemory,
-    }
-}
-
-// The input is refused at this line.
-fn refuse<K: Sink>(alloc: Global, line: u32, reason: Reason, out: &mut K) -> Status
-    requires unfailed { K.failed out.old ≡ false }
-    ensures written { WritesRefusal line reason (K.written out.old) (K.written out.new) result }
-    ensures write { WriteCause (K.faults out.old) (K.faults out.new) result }
-    ensures failed { K.failed out.new ≡ status_is_write_fault result }
-{
-    let Ok(text) = refusal(alloc, line, reason) else {
-        return Status::NoMemory;
-    };
-    match write_all(out, text.as_bytes()) {
-        Ok(()) => Status::Refused,
-        Err(Stop::Failed) => Status::WriteFault,
-        Err(Stop::NoMemory) => Status::NoMemory,
-    }
-}
-
-// How a run of the engine ended, as a status.
-fn status_of(ran: Result<Ran, NoMemory>) -> Status
-    ensures { result ≡ status_by ran }
-{
-    match ran {
-        Ok(Ran { how: How::Done, .. }) => Status::Done,
-        Ok(
-            Ran {
-                how: How::WriteFault,
-                ..
-            },
-        ) => Status::WriteFault,
-        Ok(
-            Ran {
-                how: How::Unfinished { .. },
-                ..
-            },
-        ) => Status::Unfinished,
-        Err(NoMemory) => Status::NoMemory,
     }
 }
 
@@ -172,7 +108,7 @@ pub fn run_within<S: Source, K: Sink>(
     ensures failed { K.failed out.new ≡ status_is_write_fault result }
 {
     let Some(command) = asked(words) else {
-        return usage(out);
+        return usage(USAGE, out);
     };
     match read_trace(alloc, src) {
         Err(NoMemory) => Status::NoMemory,
@@ -192,7 +128,7 @@ pub fn run_within<S: Source, K: Sink>(
 pub fn run<S: Source, K: Sink>(alloc: Global, words: &[String], src: &mut S, out: &mut K) -> Status
     requires unfailed { K.failed out.old ≡ false }
     ensures prints { IfSome (S.left src.old)
-        (λ input. Prints (command_of (map string_bytes words.now)) 10000000 (take 16777217 input) (K.written out.old) (K.written out.new) result) }
+        (λ input. Prints (command_of (map string_bytes words.now)) rounds_limit (take 16777217 input) (K.written out.old) (K.written out.new) result) }
     ensures read { ReadCause (S.faults src.old) (S.faults src.new) result }
     ensures write { WriteCause (K.faults out.old) (K.faults out.new) result }
     ensures failed { K.failed out.new ≡ status_is_write_fault result }

@@ -12,13 +12,15 @@ use Rattle.tdp_io.specs.declared.sink.Stop.TheVariants.{Failed, NoMemory as Full
 use Rattle.trace_reader.specs.Reading.{reading, IsTraceOf, IsRefusalOf}
 use Rattle.trace_reader.specs.declared.reason.Reason.{Reason}
 use Rattle.weave_engine.specs.Pieces.{LeavesFew}
-use Rattle.tdpmmu.specs.Output.{IsWrittenLine, check_text, refusal_text, usage_text}
+use Rattle.run_status.specs.Refusals.{refusal_text}
+use Rattle.run_status.specs.Statuses.{WritesRefusal, WritesUsage, status_ended}
+use Rattle.run_status.specs.declared.status.Status.{Status}
+use Rattle.run_status.specs.declared.status.Status.TheVariants.{Done, Usage, Refused, ReadFault, WriteFault, Unfinished, NoMemory}
+use Rattle.tdpmmu.specs.Output.{IsWrittenLine, check_text, usage_text}
 use Rattle.tdpmmu.specs.Run.{Around, IsInputOf, IsOutputOf, Prints, RunsTo, WasRead, WritesPrefix}
-use Rattle.tdpmmu.specs.Steps.{WritesOutput, WritesRefusal, WritesUsage, status_ended}
+use Rattle.tdpmmu.specs.Steps.{WritesOutput}
 use Rattle.tdpmmu.specs.declared.command.Command.{Command}
 use Rattle.tdpmmu.specs.declared.command.Command.TheVariants.{Check}
-use Rattle.tdpmmu.specs.declared.status.Status.{Status}
-use Rattle.tdpmmu.specs.declared.status.Status.TheVariants.{Done, Usage, Refused, ReadFault, WriteFault, Unfinished, NoMemory}
 
 whole_trace : (a : Around) (input : List ℕ) (trace : Trace) → IsTraceOf a.left a.left_after a.ended input trace → IsInputOf a input
 whole_trace a input trace read = record { taken = read.taken; small = let s = read.small in omega (arith, s); looked = inr (read.has_ended, read.at_end) }
@@ -145,7 +147,7 @@ usage_part : (stop : Stop) (asked : Option Command) (input : List ℕ) (before a
 usage_part stop asked input before after is prefix = rw is (usage_text, refl, whole_line before after usage_text (inr (inl refl)) prefix)
 
 pub usage_runs : (asked : Option Command) (a : Around) (status : Status) → asked ≡ None → Consumes a.left a.left_after []
-    → WritesUsage a.written a.written_after status → RunsTo asked a status
+    → WritesUsage usage_text a.written a.written_after status → RunsTo asked a status
 usage_runs asked a Usage is none writes = (is, none, writes)
 usage_runs asked a WriteFault is none writes = ([], rw is none, usage_part Failed asked [] a.written a.written_after is writes)
 usage_runs asked a NoMemory is none writes = inr ([], rw is none, usage_part Full asked [] a.written a.written_after is writes)
@@ -155,7 +157,7 @@ usage_runs asked a ReadFault is none writes = absurd writes
 usage_runs asked a (Unfinished actor line) is none writes = absurd writes
 
 usage_says : (asked : Option Command) (input : List ℕ) (before after : Option (List ℕ)) (status : Status) → asked ≡ None
-    → WritesUsage before after status → Prints asked input before after status
+    → WritesUsage usage_text before after status → Prints asked input before after status
 usage_says asked input before after Usage is writes = (is, writes)
 usage_says asked input before after WriteFault is writes = usage_part Failed asked input before after is writes
 usage_says asked input before after NoMemory is writes = inr (usage_part Full asked input before after is writes)
@@ -165,7 +167,7 @@ usage_says asked input before after ReadFault is writes = absurd writes
 usage_says asked input before after (Unfinished actor line) is writes = absurd writes
 
 pub usage_prints : (asked : Option Command) (left : Option (List ℕ)) (before after : Option (List ℕ)) (status : Status) → asked ≡ None
-    → WritesUsage before after status → IfSome left (λ input. Prints asked (take 16777217 input) before after status)
+    → WritesUsage usage_text before after status → IfSome left (λ input. Prints asked (take 16777217 input) before after status)
 usage_prints asked None before after status is writes = tt
 usage_prints asked (Some input) before after status is writes = usage_says asked (take 16777217 input) before after status is writes
 

@@ -7,6 +7,7 @@ use Rattle.core_views.specs.Held.{Held}
 use Rattle.mmu_core.specs.machine.Machine.{World}
 use Rattle.step_seats.specs.Moves.{world_of}
 use Rattle.weave_engine.specs.Pieces.{IsPrintedLine, LeavesFew, WritesMost}
+use Rattle.weave_engine.specs.Statuses.{status_by, status_how}
 use Rattle.weave_engine.specs.Weaves.{unfinished_text}
 use Rattle.weave_engine.specs.Writes.{ReplaysBy, WritesReplay}
 use Rattle.weave_engine.specs.Woven.{RanFaults, RoseBy, WritesBy, WritesWeave}
@@ -15,8 +16,9 @@ use Rattle.weave_engine.specs.declared.ran.How.TheVariants.{Done, Unfinished, Wr
 use Rattle.weave_engine.specs.declared.ran.OpenLine.{OpenLine}
 use Rattle.weave_engine.specs.declared.ran.Ran.{Ran}
 use Rattle.tdpmmu.specs.Output.{IsWrittenLine}
-use Rattle.tdpmmu.specs.Run.{WriteCause, rounds_limit}
-use Rattle.tdpmmu.specs.Steps.{WritesOutput, status_by, status_how}
+use Rattle.run_status.specs.Refusals.{rounds_limit}
+use Rattle.run_status.specs.Statuses.{WriteCause}
+use Rattle.tdpmmu.specs.Steps.{WritesOutput}
 use Rattle.tdpmmu.specs.declared.command.Command.TheVariants.{Replay, Weave}
 
 -- A line of a replay or a weave is a line of the program.

@@ -1,4 +1,3 @@
 pub mod Output
-pub mod ExitCodes
 pub mod Run
 pub mod Steps

@@ -2,15 +2,11 @@
 use Rattle.std.specs.Prelude.{◌≡◌, ◌⊎◌, ℕ, List, [], ◌∷◌, ◌++◌, codes}
 use Rattle.std.specs.Fmt.{decimal}
 use Rattle.trace_reader.specs.declared.reason.Reason.{Reason}
-use Rattle.trace_reader.specs.Reasons.{reason_name}
+use Rattle.run_status.specs.Refusals.{refusal_text}
 use Rattle.weave_engine.specs.Pieces.{IsPrintedLine}
 
 abbrev pub usage_text : List ℕ
 usage_text = codes "usage: tdpmmu check | replay | weave | live | gen N\n"
-
--- the first refused line, by its number and the reason
-unfoldable pub refusal_text : ℕ → Reason → List ℕ
-refusal_text line reason = codes "refused " ++ (decimal line ++ (codes " " ++ (reason_name reason ++ 10 ∷ [])))
 
 -- how many lines of the trace belong to an actor, and how many pool pages it needs
 unfoldable pub check_text : ℕ → ℕ → List ℕ

@@ -8,20 +8,20 @@ use Rattle.core_views.specs.declared.trace.Trace.{Trace}
 use Rattle.core_views.specs.Held.{Held}
 use Rattle.core_views.specs.Need.{need}
 use Rattle.mmu_core.specs.machine.Machine.{World}
-use Rattle.tdp_io.specs.Ends.{Rose}
 use Rattle.tdp_io.specs.declared.sink.Stop.{Stop}
 use Rattle.tdp_io.specs.declared.sink.Stop.TheVariants.{Failed, NoMemory as Full}
 use Rattle.trace_reader.specs.declared.reason.Reason.{Reason}
 use Rattle.trace_reader.specs.Reading.{reading, IsTraceOf, IsRefusalOf}
-use Rattle.tdpmmu.specs.Output.{IsWrittenLine, check_text, refusal_text, usage_text}
+use Rattle.run_status.specs.Refusals.{refusal_text, rounds_limit}
+use Rattle.run_status.specs.declared.status.Status.{Status}
+use Rattle.run_status.specs.declared.status.Status.TheVariants.{Done, Usage, Refused, ReadFault, WriteFault, Unfinished, NoMemory}
+use Rattle.tdpmmu.specs.Output.{IsWrittenLine, check_text, usage_text}
 use Rattle.weave_engine.specs.Pieces.{LeavesFew}
 use Rattle.weave_engine.specs.Replays.{Replays, ReplaysUntil}
 use Rattle.weave_engine.specs.Weaves.{WeavesAll, WeavesPart, unfinished_text}
 use Rattle.weave_engine.specs.Woven.{WeavesUntil}
 use Rattle.tdpmmu.specs.declared.command.Command.{Command}
 use Rattle.tdpmmu.specs.declared.command.Command.TheVariants.{Check, Replay, Weave}
-use Rattle.tdpmmu.specs.declared.status.Status.{Status}
-use Rattle.tdpmmu.specs.declared.status.Status.TheVariants.{Done, Usage, Refused, ReadFault, WriteFault, Unfinished, NoMemory}
 
 -- The words are the program's name and the name of a command.
 abbrev pub command_named : List ℕ → Option Command
@@ -34,10 +34,6 @@ command_named word =
 abbrev pub command_of : List (List ℕ) → Option Command
 command_of (name ∷ word ∷ []) = command_named word
 command_of _ = None
-
--- the most turns in rounds that a weave makes
-abbrev pub rounds_limit : ℕ
-rounds_limit = 10000000
 
 -- The whole output of a command on a trace: how long it is and what it needs; what a replay of all its lines prints, which is the
 -- text of its flat history where the pool has as many pages as it needs; or what a weave prints that answers all of them.
@@ -124,23 +120,3 @@ Prints asked input before after WriteFault = WritesPrefix Failed asked input bef
 Prints asked input before after NoMemory = (after ≡ before) ⊎ WritesPrefix Full asked input before after
 Prints asked input before after (Unfinished actor line) = (command : Command) × (asked ≡ Some command) × (trace : Trace) × (reading input ≡ Ok trace)
     × (bytes : List ℕ) × IsUnfinished command trace actor line bytes × Appends before after bytes
-
--- The count of failed reads rose where the status says that reading failed, and stayed at any other status.
-abbrev pub ReadCause : ℕ → ℕ → Status → Type 0
-ReadCause before now ReadFault = Rose before now
-ReadCause before now Done = now ≡ before
-ReadCause before now Usage = now ≡ before
-ReadCause before now (Refused line reason) = now ≡ before
-ReadCause before now WriteFault = now ≡ before
-ReadCause before now (Unfinished actor line) = now ≡ before
-ReadCause before now NoMemory = now ≡ before
-
--- The count of failed writes rose where the status says that writing failed, and stayed at any other status.
-abbrev pub WriteCause : ℕ → ℕ → Status → Type 0
-WriteCause before now WriteFault = Rose before now
-WriteCause before now Done = now ≡ before
-WriteCause before now Usage = now ≡ before
-WriteCause before now (Refused line reason) = now ≡ before
-WriteCause before now ReadFault = now ≡ before
-WriteCause before now (Unfinished actor line) = now ≡ before
-WriteCause before now NoMemory = now ≡ before

@@ -4,24 +4,13 @@
 
 mod command;
 mod program;
-mod status;
 
 use core_views::NoMemory;
 use program::run;
-use status::Status;
+use run_status::{Status, arguments};
+use std::io;
 use std::process::ExitCode;
-use std::{env, io};
 use tdp_io::{NoGate, StdSink, StdSource};
-
-// The words that the program was called with. Where one of them is no text,
-// they are no command: then there are none.
-fn arguments(rt: &HostRuntime) -> Result<Vec<String>, NoMemory> {
-    match env::args(rt) {
-        Ok(words) => Ok(words.collect(rt.alloc())?),
-        Err(error) if error.kind() == io::ErrorKind::OutOfMemory => Err(NoMemory),
-        Err(_) => Ok(Vec::new(rt.alloc())),
-    }
-}
 
 fn main(rt: HostRuntime) -> ExitCode {
     let status = match arguments(&rt) {

@@ -1,34 +1,23 @@
 ghost use Rattle.std.specs.Prelude.{◌≡◌, ◌≤◌, IfOk, IfSome, false, length, map, string_bytes, take};
+ghost use Rattle.run_status.specs.Statuses.{ReadCause, WriteCause, status_is_write_fault};
 ghost use Rattle.core_views.specs.Need.{need as need_of};
 ghost use Rattle.core_views.specs.Traces.{IsTrace};
-ghost use Rattle.tdpmmu.specs.Output.{check_text, refusal_text};
+ghost use Rattle.tdpmmu.specs.Output.{check_text};
 ghost use Rattle.tdp_io.specs.Ends.{Wrote, WroteFaults, is_failed};
-ghost use Rattle.tdpmmu.specs.ExitCodes.{status_is_write_fault};
-ghost use Rattle.tdpmmu.specs.Run.{command_named as named, command_of, Prints, ReadCause, RunsTo, WriteCause};
-ghost use Rattle.tdpmmu.specs.Steps.{WritesOutput, WritesRefusal, WritesUsage, status_by, status_ended};
+ghost use Rattle.tdpmmu.specs.Run.{command_named as named, command_of, Prints, RunsTo};
+ghost use Rattle.tdpmmu.specs.Steps.{WritesOutput};
 
 use crate::command::Command;
-use crate::status::Status;
 use core_views::{NoMemory, Trace};
+use run_status::{ROUNDS, Status, ended, refuse, usage};
 use std::alloc::{AllocError, Global};
 use std::sync::Wait;
 use std::thread::Threads;
 use tdp_io::{Gate, Sink, Source, Stop, write_all};
-use trace_reader::{Read, Reason, need, read_trace};
-use weave_engine::{How, Ran, replay, weave};
-
-/// The most turns in rounds that a weave makes.
-const ROUNDS: u64 = 10_000_000;
+use trace_reader::{Read, need, read_trace};
+use weave_engine::{replay, status_of, weave};
 
 const USAGE: &str = "usage: tdpmmu check | replay | weave | live | gen N\n";
-
-#[tactic(auto, unfolding(crate::specs::Output::refusal_text))]
-fn refusal(alloc: Global, line: u32, reason: Reason) -> Result<String, AllocError>
-    ensures { IfOk result (λ t. string_bytes t ≡ refusal_text line reason) }
-{
-    let name = reason.name();
-    format!(in alloc; "refused {line} {name}\n")
-}
 
 #[tactic(auto, unfolding(crate::specs::Output::check_text))]
 fn check_line(alloc: Global, lines: usize, need: u64) -> Result<String, AllocError>
@@ -77,70 +66,6 @@ fn command_named(word: &str) -> Option<Command>
     }
 }
 
-// The words are no command of the program.
-fn usage<K: Sink>(out: &mut K) -> Status
-    requires unfailed { K.failed out.old ≡ false }
-    ensures written { WritesUsage (K.written out.old) (K.written out.new) result }
-    ensures write { WriteCause (K.faults out.old) (K.faults out.new) result }
-    ensures failed { K.failed out.new ≡ status_is_write_fault result }
-{
-    match write_all(out, USAGE.as_bytes()) {
-        Ok(()) => Status::Usage,
-        Err(Stop::Failed) => Status::WriteFault,
-        Err(Stop::NoMemory) => Status::NoMemory,
-    }
-}
-
-// The input is refused at this line.
-fn refuse<K: Sink>(alloc: Global, line: u32, reason: Reason, out: &mut K) -> Status
-    requires unfailed { K.failed out.old ≡ false }
-    ensures written { WritesRefusal line reason (K.written out.old) (K.written out.new) result }
-    ensures write { WriteCause (K.faults out.old) (K.faults out.new) result }
-    ensures failed { K.failed out.new ≡ status_is_write_fault result }
-{
-    let Ok(text) = refusal(alloc, line, reason) else {
-        return Status::NoMemory;
-    };
-    match write_all(out, text.as_bytes()) {
-        Ok(()) => Status::Refused { line, reason },
-        Err(Stop::Failed) => Status::WriteFault,
-        Err(Stop::NoMemory) => Status::NoMemory,
-    }
-}
-
-// How a run of the engine ended, as a status.
-fn status_of(ran: Result<Ran, NoMemory>) -> Status
-    ensures { result ≡ status_by ran }
-{
-    match ran {
-        Ok(Ran { how: How::Done, .. }) => Status::Done,
-        Ok(
-            Ran {
-                how: How::WriteFault,
-                ..
-            },
-        ) => Status::WriteFault,
-        Ok(
-            Ran {
-                how: How::Unfinished { actor, line },
-                ..
-            },
-        ) => Status::Unfinished { actor, line },
-        Err(NoMemory) => Status::NoMemory,
-    }
-}
-
-// How a command ended that does all its work or stops.
-fn ended(written: Result<(), Stop>) -> Status
-    ensures { result ≡ status_ended written }
-{
-    match written {
-        Ok(()) => Status::Done,
-        Err(Stop::Failed) => Status::WriteFault,
-        Err(Stop::NoMemory) => Status::NoMemory,
-    }
-}
-
 // The input is this trace.
 fn run_trace<K: Sink>(alloc: Global, command: Command, trace: &Trace, out: &mut K) -> Status
     requires trace { IsTrace trace.now }
@@ -178,7 +103,7 @@ fn run_command<S: Source, K: Sink>(
     ensures failed { K.failed out.new ≡ status_is_write_fault result }
 {
     let Some(command) = asked(words) else {
-        return usage(out);
+        return usage(USAGE, out);
     };
     match read_trace(alloc, src) {
         Err(NoMemory) => Status::NoMemory,

@@ -1,7 +1,7 @@
 //! Whole runs of the program, over sources and sinks in memory.
 use crate::cases::{H, Way, expect, expect_all};
 use crate::program::run;
-use crate::status::Status;
+use run_status::Status;
 use std::alloc::Global;
 use std::sync::Wait;
 use std::test::Fail;

@@ -14,3 +14,4 @@ pub mod Woven
 pub mod Printed
 pub mod AnswerTexts
 pub mod PrinterLaws
+pub mod Statuses

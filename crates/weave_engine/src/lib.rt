@@ -21,7 +21,7 @@ pub use answer_printer::push_open;
 pub use by_turns::run_by_turns;
 pub use job::{LineJob, run_line, start_line};
 pub use printer::{Printer, TurnPrinter};
-pub use ran::{How, Ran};
+pub use ran::{How, Ran, status_of};
 pub use replaying::{replay, replay_machine, replay_with};
 pub use run_on::last_answer;
 pub use turning::{TurnMade, Turned, take_turn, turn_on};

@@ -1,9 +1,11 @@
 //! How a run of the engine ends, and what it leaves.
 ghost use Rattle.std.specs.Prelude.{◌≡◌, IfOk, OnErr, Some, None};
 ghost use Rattle.std.specs.Option.{option_copied, option_map};
+ghost use Rattle.weave_engine.specs.Statuses.{status_by};
 ghost use Rattle.weave_engine.specs.Woven.{how_ended, open_of};
 
 use core_views::{Actor, Closing, Line, NoMemory};
+use run_status::Status;
 use tdp_io::Stop;
 
 /// How a run of the engine ended.
@@ -59,5 +61,19 @@ pub fn how_of(came: Result<Option<OpenLine>, Stop>) -> Result<How, NoMemory>
         }),
         Err(Stop::Failed) => Ok(How::WriteFault),
         Err(Stop::NoMemory) => Err(NoMemory),
+    }
+}
+
+/// The status of a program whose run of the engine ended so.
+pub fn status_of(ran: Result<Ran, NoMemory>) -> Status
+    ensures { result ≡ status_by ran }
+{
+    let Ok(Ran { how, .. }) = ran else {
+        return Status::NoMemory;
+    };
+    match how {
+        How::Done => Status::Done,
+        How::WriteFault => Status::WriteFault,
+        How::Unfinished { actor, line } => Status::Unfinished { actor, line },
     }
 }

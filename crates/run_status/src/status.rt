@@ -1,10 +1,10 @@
 ghost use Rattle.std.specs.Prelude.{◌≡◌};
-ghost use Rattle.tdpmmu.specs.ExitCodes.{exit_code};
+ghost use Rattle.run_status.specs.Statuses.{exit_code};
 
 use core_views::Actor;
 use trace_reader::Reason;
 
-/// How a run ended.
+/// How a run of a program ended.
 #[derive(Clone, Copy, Debug, PartialEq, Eq, Drop)]
 pub enum Status {
     /// The command did all its work, and all of its output was written.
@@ -16,14 +16,12 @@ pub enum Status {
     Refused { line: u32, reason: Reason },
     /// Reading the trace failed. Nothing was written.
     ReadFault,
-    /// Writing failed. What was written is what the first lines or turns print, but
-    /// for at most 8,192 bytes and the last line of it.
+    /// Writing failed. What was written is how the whole output begins.
     WriteFault,
     /// The turns were used up before each line was answered: the first line of
     /// the file that has no answer.
     Unfinished { actor: Actor, line: u32 },
-    /// Memory was refused. What was written is nothing, or what the first lines or
-    /// turns print, but for at most 8,192 bytes and the last line of it.
+    /// Memory was refused. What was written is nothing, or how the whole output begins.
     NoMemory,
 }
 
