@@ -1,11 +1,10 @@
 -- What readings of dirty logs hold, in every run: laws of lawful histories, of those that runs tell.
 use Rattle.core_views.specs.LogCommands.{reads_logs}
 use Rattle.core_views.specs.Traces.{IsCommandFor}
-use Rattle.mmu_core.proofs.lines.Forms.{no_migration}
 use Rattle.core_views.specs.declared.trace.Command.{Command}
-use Rattle.core_views.specs.declared.trace.Command.TheVariants.{ClearLog, GetLog, Migrate}
+use Rattle.core_views.specs.declared.trace.Command.TheVariants.{Access, ChangeHost}
 use Rattle.std.proofs.Common.{◌≡◌, ◌⊎◌, inl, inr, ℕ, List, [], ◌∷◌, ◌++◌, refl, sym, subst, ap, ◌∙◌, append_assoc}
-use Rattle.std.specs.Prelude.{Option, Some, None, false, true}
+use Rattle.std.specs.Prelude.{Bool, false, true}
 use Rattle.core_views.specs.declared.actor.Actor.{Actor}
 use Rattle.core_views.specs.declared.actor.Actor.TheVariants.{Manager}
 use Rattle.core_views.specs.declared.event.Event.{Event}
@@ -22,8 +21,8 @@ use Rattle.core_views.specs.Flat.{first_flat}
 use Rattle.core_views.specs.FlatHistory.{harvest}
 use Rattle.core_views.specs.Held.{Held}
 use Rattle.core_views.specs.Lawful.{IsLawful}
-use Rattle.core_views.specs.LogCommands.{log_read}
 use Rattle.flat_laws.proofs.AloneIsLawful.{lawful_parts}
+use Rattle.flat_laws.specs.Images.{LeavesManaging, OnlyManages, manages}
 use Rattle.log_laws.specs.HarvestLaws.{IsMadeClean, ReadingsAreCaused, WrittenStaysDirty, made_by}
 use Rattle.log_laws.specs.OneReader.{LeavesReading, LoneReadingsAreComplete, OnlyReads}
 use Rattle.mmu_core.specs.declared.outcome.Outcome.{Outcome}
@@ -36,7 +35,6 @@ use Rattle.mmu_core.specs.machine.Outcomes.{answering}
 use Rattle.mmu_core.specs.machine.Steps.{beginning, events_of, line_at, place_at}
 use Rattle.mmu_core.specs.machine.View.{view}
 use Rattle.mmu_core.specs.machine.Worlds.{history}
-use Rattle.mmu_core.proofs.lines.LogMakes.{log_is_managers}
 use Rattle.mmu_core.proofs.machine.Stepping.{IsStep}
 use Rattle.mmu_core.proofs.machine.Which.{events_of_line, events_of_part, has_line_is}
 use Rattle.mmu_core.proofs.machine.Worlds.{Takes, TakesPart, good_step, takes}
@@ -45,11 +43,11 @@ use Rattle.mmu_laws.proofs.flat.EveryHistory.{every_history}
 use Rattle.mmu_laws.proofs.flat.Told.{told}
 use Rattle.mmu_laws.proofs.flat.Within.{AllWithin, tells_within}
 use Rattle.core_theorem.specs.Runs.{IsRun}
-use Rattle.core_theorem.specs.Readings.{OnlyTheManagerReads, ReadingsHaveCauses, ReadingsMissNone, ReadingsTellWrites, WrittenFramesAreKept}
+use Rattle.core_theorem.specs.Readings.{OnlyTheManagerManages, OnlyTheManagerReads, ReadingsHaveCauses, ReadingsMissNone, ReadingsTellWrites, WrittenFramesAreKept}
 
--- ---- who reads
+-- ---- who manages, and so who reads
 
-only_append : (xs ys : List Event) → OnlyReads Manager xs → OnlyReads Manager ys → OnlyReads Manager (xs ++ ys)
+only_append : (xs ys : List Event) → OnlyManages Manager xs → OnlyManages Manager ys → OnlyManages Manager (xs ++ ys)
 only_append [] ys front back = back
 only_append (x ∷ xs) ys front back = (front.0, only_append xs ys front.1 back)
 
@@ -58,42 +56,46 @@ only_parts [] ys only = (tt, only)
 only_parts (x ∷ xs) ys only = let rest = only_parts xs ys only.1 in ((only.0, rest.0), rest.1)
 
 -- An event that stands within a line, or is its answer, begins none.
-within_leaves : (actor : Actor) (kind : EventKind) → IsInside kind → LeavesReading Manager actor kind
+within_leaves : (actor : Actor) (kind : EventKind) → IsInside kind → LeavesManaging Manager actor kind
 within_leaves actor (Begun line) within = absurd within
 within_leaves actor _ within = tt
 
-all_leave : (actor : Actor) (kinds more : List EventKind) → AllWithin kinds → OnlyReads Manager (told actor more)
-    → OnlyReads Manager (told actor (kinds ++ more))
+all_leave : (actor : Actor) (kinds more : List EventKind) → AllWithin kinds → OnlyManages Manager (told actor more)
+    → OnlyManages Manager (told actor (kinds ++ more))
 all_leave actor [] more all rest = rest
 all_leave actor (kind ∷ kinds) more all rest = (within_leaves actor kind all.0, all_leave actor kinds more all.1 rest)
 
-answer_leaves : (actor : Actor) (o : Outcome) (line : Line) → OnlyReads Manager (told actor (answering o line))
+answer_leaves : (actor : Actor) (o : Outcome) (line : Line) → OnlyManages Manager (told actor (answering o line))
 answer_leaves actor (Goes p) line = tt
 answer_leaves actor (Ends answer) line = (tt, tt)
 
--- A line that its actor may begin reads a log only where the actor is the manager.
-begin_leaves : (actor : Actor) (stood : Place) (line : Line) (more : List EventKind) → (actor ≡ Manager) ⊎ (reads_logs line.command ≡ false)
-    → OnlyReads Manager (told actor more) → OnlyReads Manager (told actor (beginning stood line ++ more))
+begin_leaves : (actor : Actor) (stood : Place) (line : Line) (more : List EventKind) → (actor ≡ Manager) ⊎ (manages line.command ≡ false)
+    → OnlyManages Manager (told actor more) → OnlyManages Manager (told actor (beginning stood line ++ more))
 begin_leaves actor place.Between line more who rest = (who, rest)
 begin_leaves actor _ line more who rest = rest
 
-reader : (z : Sizes) (a : ℕ) (line : Line) (actor : Actor) (w : World Held) (p : Place) → IsStep z (view z w) a line line.command p → line.actor ≡ actor
-    → (actor ≡ Manager) ⊎ (reads_logs line.command ≡ false)
-reader z a line actor w p S own = by line.command refl S.allowed
+-- A line that its actor may begin manages only where the actor is the manager.
+may_manage : (z : Sizes) (actor : Actor) (command : Command) → manages command ≡ true → IsCommandFor z actor command → actor ≡ Manager
+may_manage z Manager command is may = refl
+may_manage z _ (Access gfn word op) is may = absurd (cc is)
+may_manage z _ (ChangeHost page change) is may = absurd (cc is)
+may_manage z _ _ is may = absurd may
+
+manager : (z : Sizes) (a : ℕ) (line : Line) (actor : Actor) (w : World Held) (p : Place) → IsStep z (view z w) a line line.command p → line.actor ≡ actor
+    → (actor ≡ Manager) ⊎ (manages line.command ≡ false)
+manager z a line actor w p S own = by (manages line.command) refl
   where
-    by : (c : Command) → line.command ≡ c → IsCommandFor z line.actor c → (actor ≡ Manager) ⊎ (reads_logs line.command ≡ false)
-    by (GetLog id) is may = inl (sym own ∙ log_is_managers z line.actor (GetLog id) refl may)
-    by (ClearLog id first count words) is may = inl (sym own ∙ log_is_managers z line.actor (ClearLog id first count words) refl may)
-    by (Migrate call) is may = absurd (no_migration z line.actor call may)
-    by _ is may = inr (ap reads_logs is)
+    by : (b : Bool) → manages line.command ≡ b → (actor ≡ Manager) ⊎ (manages line.command ≡ false)
+    by true is = inl (sym own ∙ may_manage z line.actor line.command is S.allowed)
+    by false is = inr is
 
 step_leaves : (z : Sizes) (w : World Held) (s : Step Kind) → (G : IsSound z w) → Takes z w s (hand_in mmu w s.actor) ⊎ TakesPart z w s (hand_in mmu w s.actor)
-    → OnlyReads Manager (events_of (hand_in mmu w s.actor) (answered mmu w s.kind))
-step_leaves z w s G (inr T) = subst (OnlyReads Manager) (sym (events_of_part (hand_in mmu w s.actor) (answered mmu w s.kind) T.none_left)) tt
+    → OnlyManages Manager (events_of (hand_in mmu w s.actor) (answered mmu w s.kind))
+step_leaves z w s G (inr T) = subst (OnlyManages Manager) (sym (events_of_part (hand_in mmu w s.actor) (answered mmu w s.kind) T.none_left)) tt
 step_leaves z w s G (inl T) =
-    subst (OnlyReads Manager) (sym (events_of_line h v (has_line_is h T.is_step.left)))
+    subst (OnlyManages Manager) (sym (events_of_line h v (has_line_is h T.is_step.left)))
     (begin_leaves h.state.actor h.state.place line (tells_at p line.command h v ++ answering o line)
-    (reader z s.actor line h.state.actor w p T.is_step T.is_step.own)
+    (manager z s.actor line h.state.actor w p T.is_step T.is_step.own)
     (all_leave h.state.actor (tells_at p line.command h v) (answering o line) (tells_within p line.command h v) (answer_leaves h.state.actor o line)))
   where
     h : Held
@@ -111,14 +113,32 @@ step_leaves z w s G (inl T) =
     o : Outcome
     o = outcome_at p line.command h v
 
-only_from : (z : Sizes) (w : World Held) (ss : List (Step Kind)) → IsSound z w → Legal mmu w ss → OnlyReads Manager (history w ss)
+only_from : (z : Sizes) (w : World Held) (ss : List (Step Kind)) → IsSound z w → Legal mmu w ss → OnlyManages Manager (history w ss)
 only_from z w [] G legal = tt
 only_from z w (s ∷ ss) G legal =
     only_append (events_of (hand_in mmu w s.actor) (answered mmu w s.kind)) (history (effect mmu w s) ss) (step_leaves z w s G (takes z w s G legal.0))
     (only_from z (effect mmu w s) ss (good_step z w s G legal.0) legal.1)
 
-pub only_the_manager_reads : OnlyTheManagerReads
-only_the_manager_reads z lines w ss R = only_from z w ss (start_good z lines w R.start) R.legal
+only_the_manager_manages : OnlyTheManagerManages
+only_the_manager_manages z lines w ss R = only_from z w ss (start_good z lines w R.start) R.legal
+
+-- A line that reads a log manages.
+reads_manage : (command : Command) → manages command ≡ false → reads_logs command ≡ false
+reads_manage (Access gfn word op) none = refl
+reads_manage (ChangeHost page change) none = refl
+reads_manage _ none = absurd (cc none)
+
+reading_left : (actor : Actor) (kind : EventKind) → LeavesManaging Manager actor kind → LeavesReading Manager actor kind
+reading_left actor (Begun line) (inl is) = inl is
+reading_left actor (Begun line) (inr none) = inr (reads_manage line.command none)
+reading_left actor _ leaves = tt
+
+all_left : (es : List Event) → OnlyManages Manager es → OnlyReads Manager es
+all_left [] only = tt
+all_left (e ∷ es) only = (reading_left e.actor e.kind only.0, all_left es only.1)
+
+only_the_manager_reads : OnlyTheManagerReads
+only_the_manager_reads z lines w ss R = all_left (history w ss) (only_the_manager_manages z lines w ss R)
 
 -- ---- the front of a run's history
 
@@ -166,4 +186,4 @@ module _ (lone : LoneReadingsAreComplete) (caused : ReadingsAreCaused) (dirty : 
       by (inr cleaned) = inr cleaned
 
   pub readings_tell_writes : ReadingsTellWrites
-  readings_tell_writes = record { only = only_the_manager_reads; complete = complete; caused = have_causes; written = written }
+  readings_tell_writes = record { manages = only_the_manager_manages; only = only_the_manager_reads; complete = complete; caused = have_causes; written = written }

@@ -13,7 +13,7 @@ use Rattle.mmu_core.specs.invariant.InvalidatedPart.{IsClean, IsIn, IsOfPage, ma
 use Rattle.mmu_core.specs.machine.Enabled.{mmu}
 use Rattle.mmu_core.specs.machine.Machine.{Step, World, hand_in, run}
 use Rattle.mmu_core.specs.machine.View.{word_in}
-use Rattle.mmu_laws.specs.leaves.OpenFrames.{HasEmptied, HasOpen, flush_of, own_of}
+use Rattle.mmu_laws.specs.leaves.OpenFrames.{KeepsEmpty, HasOpen, flush_of, own_of}
 use Rattle.core_theorem.specs.Runs.{IsRun}
 
 -- Each guest frame that an open invalidation is of lies in the range, and below 2 ^ 36.
@@ -34,7 +34,7 @@ OpenFramesAreOfThePage =
 abbrev pub OpenFramesAreZapped : Type 0
 OpenFramesAreZapped =
     (z : Sizes) (lines : List Line) (w : World Held) (ss : List (Step Kind)) → IsRun z lines w ss → (actor gfn at entry : ℕ) → actor < actors_of z
-    → HasEmptied (run mmu w ss) actor → 1 ≤ (flush_of (run mmu w ss) actor).asked → IsIn (own_of (run mmu w ss) actor) gfn
+    → KeepsEmpty (run mmu w ss) actor → 1 ≤ (flush_of (run mmu w ss) actor).asked → IsIn (own_of (run mmu w ss) actor) gfn
     → LeadsTo (word_in z (run mmu w ss) area.Pool) 4 (word_in z (run mmu w ss) area.Root 0) gfn at entry → kind_of at entry ≡ entry_kind.Leaf → ⊥
 
 -- A virtual processor that its actor has awaited has nothing cached of such a guest frame, where it may use what it has cached; of a slot's, up to the
@@ -42,6 +42,6 @@ OpenFramesAreZapped =
 abbrev pub OpenFramesAreFlushed : Type 0
 OpenFramesAreFlushed =
     (z : Sizes) (lines : List Line) (w : World Held) (ss : List (Step Kind)) → IsRun z lines w ss → (actor v : ℕ) → actor < actors_of z
-    → HasEmptied (run mmu w ss) actor → v < z.vcpus → v < (flush_of (run mmu w ss) actor).awaited
+    → KeepsEmpty (run mmu w ss) actor → v < z.vcpus → v < (flush_of (run mmu w ss) actor).awaited
     → may_use (word_in z (run mmu w ss) area.State v) (hand_in mmu (run mmu w ss) v).topics.stay ≡ true
     → IsClean (own_of (run mmu w ss) actor) (hand_in mmu (run mmu w ss) v).cached.items

@@ -15,6 +15,7 @@ use Rattle.core_views.specs.FlatHistory.{harvest}
 use Rattle.core_views.specs.Held.{Held}
 use Rattle.core_views.specs.LogCommands.{is_among}
 use Rattle.core_views.specs.Slots.{is_write}
+use Rattle.flat_laws.specs.Images.{OnlyManages}
 use Rattle.flat_laws.specs.Writes.{NoneReadsOut, WasArmed, WasWritten}
 use Rattle.log_laws.specs.HarvestLaws.{IsAskedFor, IsMadeClean, NobodyWrites, made_by}
 use Rattle.log_laws.specs.OneReader.{OnlyReads, StillReads}
@@ -22,7 +23,12 @@ use Rattle.mmu_core.specs.machine.Machine.{Step, World}
 use Rattle.mmu_core.specs.machine.Worlds.{history}
 use Rattle.core_theorem.specs.Runs.{IsRun}
 
--- Only the manager reads logs.
+-- Only the manager manages the guest: no other actor begins a line but accesses and changes of host pages.
+abbrev pub OnlyTheManagerManages : Type 0
+OnlyTheManagerManages =
+    (z : Sizes) (lines : List Line) (w : World Held) (ss : List (Step Kind)) → IsRun z lines w ss → OnlyManages Manager (history w ss)
+
+-- So it alone reads logs.
 abbrev pub OnlyTheManagerReads : Type 0
 OnlyTheManagerReads =
     (z : Sizes) (lines : List Line) (w : World Held) (ss : List (Step Kind)) → IsRun z lines w ss → OnlyReads Manager (history w ss)
@@ -58,6 +64,7 @@ WrittenFramesAreKept =
 
 -- All of these.
 pub record ReadingsTellWrites : Type 0 where
+  pub manages : OnlyTheManagerManages
   pub only : OnlyTheManagerReads
   pub complete : ReadingsMissNone
   pub caused : ReadingsHaveCauses

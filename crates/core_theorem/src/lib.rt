@@ -66,8 +66,8 @@ use log_laws::readings_tell_what_was_written;
 /// memory. `logs`: each guest frame that is dirty in flat memory is of a slot of which writes
 /// are logged, and its page's bit is set or an actor owes a mark for it; so it is of
 /// each linked leaf, and each translation that may be used, which allows writes in such a
-/// slot; and each bit that is set has a cause. `readings`: the manager alone reads logs; a reading
-/// has each frame for which its line asks that was dirty as it began, unless a line was under way
+/// slot; and each bit that is set has a cause. `readings`: the manager alone manages the guest, and
+/// so it alone reads logs; a reading has each frame for which its line asks that was dirty as it began, unless a line was under way
 /// then that writes the frame, and no other frame than one with a cause; and what is written
 /// while writes of its slot are logged is dirty, until a reading that is answered after the write
 /// has it, its slot is changed, or its log begins anew. `pause`: an access that is about to touch has looked at the pause since its

@@ -61,9 +61,9 @@ abbrev pub are_logged : MemorySlots → Bool
 are_logged slots = not (list_any (λ entry. not entry.1.logged) slots)
 
 -- There is no slot.
-abbrev pub is_nil : MemorySlots → Bool
-is_nil [] = true
-is_nil (slot ∷ slots) = false
+abbrev pub has_no_slot : MemorySlots → Bool
+has_no_slot [] = true
+has_no_slot (slot ∷ slots) = false
 
 -- what a round is answered at once, by whether the migration runs, and whether there is no slot: it is refused, or has no page to copy
 abbrev pub round_answer : Bool → Bool → Option Answer
@@ -73,7 +73,7 @@ round_answer true none = if none then Some (Copied 0) else None
 -- what a line of a migration is answered at once that isn't barred, or nothing, where it has something to do
 abbrev pub call_answer : MemorySlots → Migration → MigrationCall → Option Answer
 call_answer slots migration Start = if are_logged slots then None else Some (Refused NotLogged)
-call_answer slots migration Round = round_answer (is_running migration) (is_nil slots)
+call_answer slots migration Round = round_answer (is_running migration) (has_no_slot slots)
 call_answer slots migration Finish = if is_running migration then None else Some (Refused NotStarted)
 call_answer slots migration Resume = if is_stopped migration then None else Some (Refused NotStarted)
 

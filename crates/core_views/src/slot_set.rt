@@ -6,7 +6,7 @@ ghost use Rattle.core_views.specs.Slots.{share_guest_frames, share_host_pages, s
 ghost use Rattle.core_views.specs.SlotSets.{IsSlotSet, flat_slots, slot_of_id, slot_holding, without_slot_at};
 ghost use Rattle.core_views.specs.Refusals.{after_log, after_set, delete_refusal, is_logged, log_refusal, moves_logged, set_refusal, slot_from};
 ghost use Rattle.core_views.specs.SlotCommands.{stays};
-ghost use Rattle.core_views.specs.Migrations.{are_logged, is_nil};
+ghost use Rattle.core_views.specs.Migrations.{are_logged, has_no_slot};
 ghost use Rattle.core_views.specs.declared.slot_set.MemorySlot.{MemorySlot};
 
 use crate::{Refusal, Slot};
@@ -277,7 +277,7 @@ impl SlotSet {
 
     /// Whether there is no slot.
     pub fn is_empty(&self) -> bool
-        ensures { result ≡ is_nil self.now }
+        ensures { result ≡ has_no_slot self.now }
     {
         for (at, place) in self.places.iter().enumerate() {
             if place.is_some() {

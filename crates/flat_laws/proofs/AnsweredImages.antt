@@ -14,7 +14,7 @@ use Rattle.core_views.specs.Actors.{is_same}
 use Rattle.core_views.specs.Events.{after, after_all, facts_after, past_after, under_after}
 use Rattle.core_views.specs.Flat.{Facts, Flat, HasToCopy, LineUnderWay, first_flat}
 use Rattle.core_views.specs.Lawful.{IsAllowed, IsLawful, Tells}
-use Rattle.core_views.specs.Migrations.{image_words, is_migrating, is_nil, is_stopped}
+use Rattle.core_views.specs.Migrations.{image_words, is_migrating, has_no_slot, is_stopped}
 use Rattle.core_views.specs.Past.{Past}
 use Rattle.core_views.specs.Slots.{page_behind}
 use Rattle.core_views.specs.SlotSets.{MemorySlots, flat_slots, slot_holding}
@@ -137,7 +137,7 @@ answered_words_are_in_order z history migrator number words lawful only =
 
 -- ---- what is left
 
-nil_holds : {X : Type 0} (slots : MemorySlots) (gfn : ℕ) → is_nil slots ≡ true → is_some (slot_holding gfn slots) ≡ true → X
+nil_holds : {X : Type 0} (slots : MemorySlots) (gfn : ℕ) → has_no_slot slots ≡ true → is_some (slot_holding gfn slots) ≡ true → X
 nil_holds [] gfn nil there = absurd (cc there)
 nil_holds (e ∷ es) gfn nil there = absurd (cc nil)
 

@@ -19,7 +19,7 @@ use Rattle.core_views.specs.Flat.{Facts, Fresh, HasAccessed, HasArmed, HasCalled
 use Rattle.core_views.specs.HostChanges.{host_answer, host_refusal}
 use Rattle.core_views.specs.Lawful.{Tells, answer_at_once, answer_unbarred, copied_answer}
 use Rattle.core_views.specs.LogCommands.{read_refusal}
-use Rattle.core_views.specs.Migrations.{are_logged, call_answer, is_barred, is_migrating, is_nil, is_running, is_stopped, or_barred, round_answer}
+use Rattle.core_views.specs.Migrations.{are_logged, call_answer, is_barred, is_migrating, has_no_slot, is_running, is_stopped, or_barred, round_answer}
 use Rattle.core_views.specs.SlotCommands.{change_at_once, refused_or_done}
 use Rattle.core_views.specs.SlotSets.{MemorySlots}
 use Rattle.flat_laws.specs.MigrationCounts.{tells_copies}
@@ -38,13 +38,13 @@ changed_none nil None = tt
 changed_none nil (Some None) = λ copies. absurd (cc copies)
 changed_none nil (Some (Some refusal)) = λ copies. absurd (cc copies)
 
-called_none : (slots : MemorySlots) (migration : Migration) (call : MigrationCall) → OfNoSlot (is_nil slots) (call_answer slots migration call)
+called_none : (slots : MemorySlots) (migration : Migration) (call : MigrationCall) → OfNoSlot (has_no_slot slots) (call_answer slots migration call)
 called_none slots migration Start = by (are_logged slots)
   where
-    by : (b : Bool) → OfNoSlot (is_nil slots) (if b then None else Some (Refused NotLogged))
+    by : (b : Bool) → OfNoSlot (has_no_slot slots) (if b then None else Some (Refused NotLogged))
     by true = tt
     by false = λ copies. absurd (cc copies)
-called_none slots migration Round = by (is_running migration) (is_nil slots)
+called_none slots migration Round = by (is_running migration) (has_no_slot slots)
   where
     by : (b c : Bool) → OfNoSlot c (round_answer b c)
     by true true = λ copies. (refl, refl)
@@ -52,32 +52,32 @@ called_none slots migration Round = by (is_running migration) (is_nil slots)
     by false c = λ copies. absurd (cc copies)
 called_none slots migration Finish = by (is_running migration)
   where
-    by : (b : Bool) → OfNoSlot (is_nil slots) (if b then None else Some (Refused NotStarted))
+    by : (b : Bool) → OfNoSlot (has_no_slot slots) (if b then None else Some (Refused NotStarted))
     by true = tt
     by false = λ copies. absurd (cc copies)
 called_none slots migration Resume = by (is_stopped migration)
   where
-    by : (b : Bool) → OfNoSlot (is_nil slots) (if b then None else Some (Refused NotStarted))
+    by : (b : Bool) → OfNoSlot (has_no_slot slots) (if b then None else Some (Refused NotStarted))
     by true = tt
     by false = λ copies. absurd (cc copies)
 
 unbarred_none : (z : Sizes) (slots : MemorySlots) (migration : Migration) (actor : Actor) (command : Command)
-    → OfNoSlot (is_nil slots) (answer_unbarred z slots migration actor command)
-unbarred_none z slots migration actor (ChangeHost page change) = refused_none (is_nil slots) (host_refusal z actor page)
-unbarred_none z slots migration actor (GetLog id) = refused_none (is_nil slots) (read_refusal (GetLog id) slots)
-unbarred_none z slots migration actor (ClearLog id first count words) = refused_none (is_nil slots) (read_refusal (ClearLog id first count words) slots)
+    → OfNoSlot (has_no_slot slots) (answer_unbarred z slots migration actor command)
+unbarred_none z slots migration actor (ChangeHost page change) = refused_none (has_no_slot slots) (host_refusal z actor page)
+unbarred_none z slots migration actor (GetLog id) = refused_none (has_no_slot slots) (read_refusal (GetLog id) slots)
+unbarred_none z slots migration actor (ClearLog id first count words) = refused_none (has_no_slot slots) (read_refusal (ClearLog id first count words) slots)
 unbarred_none z slots migration actor (Migrate call) = called_none slots migration call
 unbarred_none z slots migration actor (Access gfn word op) = tt
-unbarred_none z slots migration actor (SetSlot id slot) = changed_none (is_nil slots) (change_at_once z (SetSlot id slot) slots)
-unbarred_none z slots migration actor (DeleteSlot id) = changed_none (is_nil slots) (change_at_once z (DeleteSlot id) slots)
-unbarred_none z slots migration actor (SetLog id on) = changed_none (is_nil slots) (change_at_once z (SetLog id on) slots)
+unbarred_none z slots migration actor (SetSlot id slot) = changed_none (has_no_slot slots) (change_at_once z (SetSlot id slot) slots)
+unbarred_none z slots migration actor (DeleteSlot id) = changed_none (has_no_slot slots) (change_at_once z (DeleteSlot id) slots)
+unbarred_none z slots migration actor (SetLog id on) = changed_none (has_no_slot slots) (change_at_once z (SetLog id on) slots)
 
 at_once_none : (z : Sizes) (slots : MemorySlots) (migration : Migration) (actor : Actor) (command : Command)
-    → OfNoSlot (is_nil slots) (answer_at_once z slots migration actor command)
+    → OfNoSlot (has_no_slot slots) (answer_at_once z slots migration actor command)
 at_once_none z slots migration actor command = by (is_barred command && is_migrating migration) (unbarred_none z slots migration actor command)
   where
-    by : (b : Bool) → OfNoSlot (is_nil slots) (answer_unbarred z slots migration actor command)
-        → OfNoSlot (is_nil slots) (or_barred b (answer_unbarred z slots migration actor command))
+    by : (b : Bool) → OfNoSlot (has_no_slot slots) (answer_unbarred z slots migration actor command)
+        → OfNoSlot (has_no_slot slots) (or_barred b (answer_unbarred z slots migration actor command))
     by true is = λ copies. absurd (cc copies)
     by false is = is
 
@@ -91,7 +91,7 @@ pub record HasCopied (z : Sizes) (f : Facts) (command : Command) (stage : Stage)
 -- There is no slot, and it has done nothing.
 pub record CopiesNone (f : Facts) (stage : Stage) (answer : Answer) : Type 0 where
   pub fresh : stage ≡ Fresh
-  pub nil : is_nil f.slots ≡ true
+  pub nil : has_no_slot f.slots ≡ true
   pub told : answer ≡ Copied 0
 
 none_told : {X : Type 0} (answer other : Answer) → answer ≡ other → tells_copies answer ≡ true → tells_copies other ≡ false → X
@@ -115,6 +115,6 @@ copies_told z f actor command (HasRead frames) answer tells copies left = none_t
 copies_told z f actor command (HasChangedHost entry) answer tells copies left = none_told _ _ tells copies (host_none command entry)
 copies_told z f actor command HasCalled answer tells copies left = none_told _ _ tells copies refl
 copies_told z f actor command Fresh answer tells copies left =
-    let none = subst (OfNoSlot (is_nil f.slots)) tells (at_once_none z f.slots f.migration actor command) copies in
+    let none = subst (OfNoSlot (has_no_slot f.slots)) tells (at_once_none z f.slots f.migration actor command) copies in
     inr (record { fresh = refl; nil = none.0; told = none.1 })
 copies_told z f actor command _ answer tells copies left = absurd tells

@@ -20,7 +20,7 @@ use Rattle.core_views.specs.Flat.{Facts, Fresh, HasAccessed, HasArmed, HasCalled
 use Rattle.core_views.specs.HostChanges.{host_answer, host_refusal}
 use Rattle.core_views.specs.Lawful.{MayLeave, Tells, answer_at_once, answer_unbarred, copied_answer}
 use Rattle.core_views.specs.LogCommands.{read_refusal}
-use Rattle.core_views.specs.Migrations.{are_logged, call_answer, image_words, is_barred, is_migrating, is_nil, is_running, is_stopped, or_barred, round_answer}
+use Rattle.core_views.specs.Migrations.{are_logged, call_answer, image_words, is_barred, is_migrating, has_no_slot, is_running, is_stopped, or_barred, round_answer}
 use Rattle.core_views.specs.SlotCommands.{change_at_once, refused_or_done}
 use Rattle.core_views.specs.SlotSets.{MemorySlots}
 use Rattle.flat_laws.specs.MigrationCounts.{tells_copies}
@@ -76,7 +76,7 @@ none_called slots migration Start = by (are_logged slots)
     by : (b : Bool) → IsNone (if b then None else Some (Refused NotLogged))
     by true = tt
     by false = refl
-none_called slots migration Round = by (is_running migration) (is_nil slots)
+none_called slots migration Round = by (is_running migration) (has_no_slot slots)
   where
     by : (b c : Bool) → IsNone (round_answer b c)
     by true true = refl

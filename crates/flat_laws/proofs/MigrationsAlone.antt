@@ -19,7 +19,7 @@ use Rattle.core_views.specs.declared.trace.Op.TheVariants.{Read}
 use Rattle.core_views.specs.declared.slot_set.MemorySlot.{MemorySlot}
 use Rattle.core_views.specs.Harvests.{IsHarvest}
 use Rattle.core_views.specs.LogCommands.{asked_frames, is_among, log_read}
-use Rattle.core_views.specs.Migrations.{frames_to_copy, is_nil, is_running, round_answer}
+use Rattle.core_views.specs.Migrations.{frames_to_copy, has_no_slot, is_running, round_answer}
 use Rattle.core_views.specs.Slots.{page_behind}
 use Rattle.core_views.specs.SlotSets.{MemorySlots, flat_slots, slot_holding, slot_of_id}
 use Rattle.core_views.specs.Flat.{Facts, LineUnderWay, Flat, Stage, Fresh, HasTakenNext, HasToCopy, HasToRead, no_notes}
@@ -175,7 +175,7 @@ record HasFirst (slots : MemorySlots) : Type 0 where
   ids : List ℕ
   is : keys_of slots ≡ id ∷ ids
 
-first_slot : (slots : MemorySlots) → is_nil slots ≡ false → HasFirst slots
+first_slot : (slots : MemorySlots) → has_no_slot slots ≡ false → HasFirst slots
 first_slot [] none = absurd (cc none)
 first_slot ((k, m) ∷ es) none = record { id = k; ids = keys_of es; is = refl }
 
@@ -187,7 +187,7 @@ some_slot true false is = refl
 round_closes : (z : Sizes) (line : Line) (facts : Facts) (f : Flat) → line.command ≡ Migrate Round → HasWork z facts line.actor (Migrate Round)
     → AreCaused f.facts f.past → IsAt line.actor facts (at_stage line Fresh) f → Closes z (reading_logs z line (Migrate Round) (keys_of facts.slots) facts) f
 round_closes z line facts f is works caused at =
-    let first = first_slot facts.slots (some_slot (is_running facts.migration) (is_nil facts.slots) works) in
+    let first = first_slot facts.slots (some_slot (is_running facts.migration) (has_no_slot facts.slots) works) in
     let there : AreThere facts.slots (first.id ∷ first.ids) = subst (λ (ids : List ℕ). AreThere facts.slots ids) first.is (all_there facts.slots) in
     subst (λ (ids : List ℕ). Closes z (reading_logs z line (Migrate Round) ids facts) f) (sym first.is)
     (taking_closes z line Round first.id first.ids Fresh facts f is there.0 (λ fresh. works) first.is caused

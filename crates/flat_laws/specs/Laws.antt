@@ -2,6 +2,7 @@
 use Rattle.std.specs.Prelude.{◌≡◌, ◌-◌, ◌^◌, ℕ, List, [], ◌∷◌, Bool, true, false, codes, ◌++◌}
 use Rattle.core_views.specs.declared.actor.Actor.TheVariants.{Vcpu, Manager}
 use Rattle.core_views.specs.declared.event.Event.{Event}
+use Rattle.core_views.specs.declared.trace.Command.{Command}
 use Rattle.core_views.specs.declared.trace.Command.TheVariants.{Access, SetSlot}
 use Rattle.core_views.specs.declared.sizes.LogMode.TheVariants.{Automatic}
 use Rattle.core_views.specs.declared.sizes.Sizes.{Sizes}
@@ -59,8 +60,11 @@ example_sizes = record {
 abbrev pub example_slot : ℕ → ℕ → Bool → Slot
 example_slot base host read_only = record { base = base; pages = 3; host = host; read_only = read_only }
 
+abbrev pub manage : ℕ → Command → Line
+manage number command = record { number = number; actor = Manager; command = command }
+
 abbrev pub manager_line : ℕ → ℕ → Slot → Line
-manager_line number id slot = record { number = number; actor = Manager; command = SetSlot id slot }
+manager_line number id slot = manage number (SetSlot id slot)
 
 abbrev pub access_line : ℕ → ℕ → ℕ → ℕ → Op → Line
 access_line number vcpu gfn word op = record { number = number; actor = Vcpu vcpu; command = Access gfn word op }

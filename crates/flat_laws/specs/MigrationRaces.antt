@@ -15,9 +15,9 @@ use Rattle.core_views.specs.FlatHistory.{by, one_by_one}
 use Rattle.core_views.specs.Lawful.{IsLawful}
 use Rattle.core_views.specs.Sizes.{sizes_of}
 use Rattle.core_views.specs.Text.{text}
-use Rattle.flat_laws.specs.Laws.{access_line}
+use Rattle.flat_laws.specs.Laws.{access_line, manage}
 use Rattle.flat_laws.specs.MigrationTraces.{wide_header}
-use Rattle.flat_laws.specs.Migrations.{call_line, manage, migration_sizes}
+use Rattle.flat_laws.specs.Migrations.{call_line, migration_sizes}
 use Rattle.flat_laws.specs.SlotLines.{open_slot}
 use Rattle.flat_laws.specs.UnlawfulMigrations.{started, write_reaches, written}
 

@@ -9,8 +9,8 @@ use Rattle.core_views.specs.Flat.{first_facts}
 use Rattle.core_views.specs.FlatHistory.{one_by_one}
 use Rattle.core_views.specs.Sizes.{sizes_of}
 use Rattle.core_views.specs.Text.{text}
-use Rattle.flat_laws.specs.Laws.{access_line}
-use Rattle.flat_laws.specs.Migrations.{call_line, manage, migration_sizes}
+use Rattle.flat_laws.specs.Laws.{access_line, manage}
+use Rattle.flat_laws.specs.Migrations.{call_line, migration_sizes}
 use Rattle.flat_laws.specs.SlotLines.{open_slot}
 
 -- 1024 host pages: tdp 1 vcpus 2 workers 1 pages 1024 frames 1040 words 1 pool 64 cache 64 manual 0 hosts 0

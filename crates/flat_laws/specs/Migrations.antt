@@ -1,10 +1,8 @@
 -- Closed traces of migrations, and the bytes that they print.
 use Rattle.std.specs.Prelude.{ℕ, ◌≡◌, List, [], ◌∷◌, ◌++◌, true, codes}
-use Rattle.core_views.specs.declared.actor.Actor.TheVariants.{Manager}
 use Rattle.core_views.specs.declared.sizes.LogMode.{LogMode}
 use Rattle.core_views.specs.declared.sizes.LogMode.TheVariants.{Automatic, ManualAllSet}
 use Rattle.core_views.specs.declared.sizes.Sizes.{Sizes}
-use Rattle.core_views.specs.declared.trace.Command.{Command}
 use Rattle.core_views.specs.declared.trace.Command.TheVariants.{GetLog, Migrate, SetLog, SetSlot}
 use Rattle.core_views.specs.declared.trace.Line.{Line}
 use Rattle.core_views.specs.declared.trace.MigrationCall.{MigrationCall}
@@ -13,7 +11,7 @@ use Rattle.core_views.specs.declared.trace.Op.TheVariants.{Add, Read, Write}
 use Rattle.core_views.specs.Flat.{first_facts}
 use Rattle.core_views.specs.FlatHistory.{one_by_one}
 use Rattle.core_views.specs.Text.{text}
-use Rattle.flat_laws.specs.Laws.{access_line}
+use Rattle.flat_laws.specs.Laws.{access_line, example_sizes, manage}
 use Rattle.flat_laws.specs.SlotLines.{open_slot}
 
 -- 64 host pages of one word each.
@@ -31,26 +29,12 @@ migration_sizes = record {
   first_pages = 0 ∷ 64 ∷ 64 ∷ 64 ∷ [];
 }
 
-abbrev pub manage : ℕ → Command → Line
-manage number command = record { number = number; actor = Manager; command = command }
-
 abbrev pub call_line : ℕ → MigrationCall → Line
 call_line number call = manage number (Migrate call)
 
 -- 128 host pages of two words each, in this mode of the log.
 abbrev pub paged_sizes : LogMode → Sizes
-paged_sizes mode = record {
-  pages = 128;
-  frames = 128;
-  words = 2;
-  pool = 4;
-  cache = 64;
-  vcpus = 2;
-  hosts = 1;
-  workers = 0;
-  mode = mode;
-  first_pages = 0 ∷ 128 ∷ 128 ∷ 128 ∷ [];
-}
+paged_sizes mode = record example_sizes { mode = mode }
 
 -- Slot 5 has guest frames 8 and 9, which are host pages 0 and 1; slot 1 has guest frames 32 to 34, which are host pages 64 to 66. Both have a dirty log.
 abbrev pub two_slots : List Line

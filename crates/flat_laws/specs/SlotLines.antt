@@ -2,7 +2,6 @@
 use Rattle.std.specs.Prelude.{◌≡◌, ◌≢◌, ◌-◌, ◌^◌, ℕ, List, [], ◌∷◌, ◌++◌, Bool, false, Option, Some, None, codes}
 use Rattle.std.specs.Option.{option_map}
 use Rattle.core_views.specs.declared.slot_set.MemorySlot.{MemorySlot}
-use Rattle.core_views.specs.declared.actor.Actor.TheVariants.{Manager}
 use Rattle.core_views.specs.declared.trace.Command.{Command}
 use Rattle.core_views.specs.declared.trace.Command.TheVariants.{DeleteSlot, SetLog, SetSlot}
 use Rattle.core_views.specs.declared.trace.Line.{Line}
@@ -10,7 +9,7 @@ use Rattle.core_views.specs.declared.trace.Op.TheVariants.{Read, Write}
 use Rattle.core_views.specs.declared.trace.Slot.{Slot}
 use Rattle.core_views.specs.Flat.{first_facts}
 use Rattle.core_views.specs.FlatHistory.{one_by_one}
-use Rattle.flat_laws.specs.Laws.{access_line, example_sizes, manager_line}
+use Rattle.flat_laws.specs.Laws.{access_line, example_sizes, manage, manager_line}
 use Rattle.core_views.specs.Refusals.{after_set}
 use Rattle.core_views.specs.SlotCommands.{slots_after}
 use Rattle.core_views.specs.SlotSets.{MemorySlots, slot_of_id}
@@ -78,7 +77,7 @@ abbrev pub FittingPrints : Type 0
 FittingPrints = text (one_by_one example_sizes fitting_lines first_facts) ≡ fitting_bytes
 
 abbrev pub deletion_line : ℕ → ℕ → Line
-deletion_line number id = record { number = number; actor = Manager; command = DeleteSlot id }
+deletion_line number id = manage number (DeleteSlot id)
 
 -- On the same machine: a slot that is set with another number of pages, with other host pages, and as it is; deletions of slots that aren't there; a write
 -- before a move to guest frames of which two are the slot's already, and reads where it was and where it is; its deletion; and another slot at its ID.

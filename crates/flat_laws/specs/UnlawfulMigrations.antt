@@ -14,8 +14,8 @@ use Rattle.core_views.specs.declared.trace.Op.TheVariants.{Read, Write}
 use Rattle.core_views.specs.Flat.{first_facts, first_flat}
 use Rattle.core_views.specs.FlatHistory.{by, one_by_one}
 use Rattle.core_views.specs.Lawful.{IsLawful}
-use Rattle.flat_laws.specs.Laws.{access_line}
-use Rattle.flat_laws.specs.Migrations.{call_line, manage, migration_sizes, paged_sizes, two_slots}
+use Rattle.flat_laws.specs.Laws.{access_line, manage}
+use Rattle.flat_laws.specs.Migrations.{call_line, migration_sizes, paged_sizes, two_slots}
 use Rattle.flat_laws.specs.SlotLines.{open_slot}
 
 -- These lines run alone; then this one begins, and does this. That is not allowed.

@@ -14,10 +14,10 @@ use Rattle.core_views.specs.declared.trace.Line.{Line}
 use Rattle.core_views.specs.declared.trace.Op.TheVariants.{Write}
 use Rattle.core_views.specs.Flat.{first_facts, first_flat}
 use Rattle.core_views.specs.FlatHistory.{answers, by, one_by_one}
-use Rattle.flat_laws.specs.Laws.{access_line}
+use Rattle.flat_laws.specs.Laws.{access_line, manage}
 use Rattle.core_views.specs.Lawful.{IsLawful}
 use Rattle.flat_laws.specs.SlotLines.{open_slot}
-use Rattle.log_laws.specs.LogTraces.{log_line, log_sizes, slot_of_pages, with_log}
+use Rattle.log_laws.specs.LogTraces.{log_sizes, slot_of_pages, with_log}
 
 -- The line begins, does these, and is answered so.
 abbrev pub whole_line : Line → List EventKind → Answer → List Event
@@ -35,26 +35,26 @@ write_line = access_line 4 0 1 0 (Write 7)
 -- The write was answered before the get began, which leaves its frame out.
 abbrev pub WrittenIsNotLeftOut : Type 0
 WrittenIsNotLeftOut =
-    IsUnlawfulIn Automatic (with_log 16 (write_line ∷ [])) (log_line 5 (GetLog 0)) (Taken 0 ∷ Harvested 0 [] ∷ []) (Bits (0 ∷ []))
+    IsUnlawfulIn Automatic (with_log 16 (write_line ∷ [])) (manage 5 (GetLog 0)) (Taken 0 ∷ Harvested 0 [] ∷ []) (Bits (0 ∷ []))
 
 -- Nobody wrote the frame that the get reads.
 abbrev pub UnwrittenIsNotRead : Type 0
-UnwrittenIsNotRead = IsUnlawfulIn Automatic (with_log 16 []) (log_line 4 (GetLog 0)) (Taken 0 ∷ Harvested 0 (1 ∷ []) ∷ []) (Bits (2 ∷ []))
+UnwrittenIsNotRead = IsUnlawfulIn Automatic (with_log 16 []) (manage 4 (GetLog 0)) (Taken 0 ∷ Harvested 0 (1 ∷ []) ∷ []) (Bits (2 ∷ []))
 
 -- The get before it took the frame out of the log, and nobody wrote it since.
 abbrev pub TakenIsNotReadAgain : Type 0
 TakenIsNotReadAgain =
-    IsUnlawfulIn Automatic (with_log 16 (write_line ∷ log_line 5 (GetLog 0) ∷ [])) (log_line 6 (GetLog 0)) (Taken 0 ∷ Harvested 0 (1 ∷ []) ∷ [])
+    IsUnlawfulIn Automatic (with_log 16 (write_line ∷ manage 5 (GetLog 0) ∷ [])) (manage 6 (GetLog 0)) (Taken 0 ∷ Harvested 0 (1 ∷ []) ∷ [])
     (Bits (2 ∷ []))
 
 -- A get of a manual log takes no frame out of it, and one of an automatic log leaves none there.
 abbrev pub ManualGetTakesNone : Type 0
 ManualGetTakesNone =
-    IsUnlawfulIn Manual (with_log 16 (write_line ∷ [])) (log_line 5 (GetLog 0)) (Taken 0 ∷ Harvested 0 (1 ∷ []) ∷ []) (Bits (2 ∷ []))
+    IsUnlawfulIn Manual (with_log 16 (write_line ∷ [])) (manage 5 (GetLog 0)) (Taken 0 ∷ Harvested 0 (1 ∷ []) ∷ []) (Bits (2 ∷ []))
 
 abbrev pub AutomaticGetTakesAll : Type 0
 AutomaticGetTakesAll =
-    IsUnlawfulIn Automatic (with_log 16 (write_line ∷ [])) (log_line 5 (GetLog 0)) (Taken 0 ∷ Shown 0 (1 ∷ []) ∷ []) (Bits (2 ∷ []))
+    IsUnlawfulIn Automatic (with_log 16 (write_line ∷ [])) (manage 5 (GetLog 0)) (Taken 0 ∷ Shown 0 (1 ∷ []) ∷ []) (Bits (2 ∷ []))
 
 -- the change of the slot of 16 pages that gives it a dirty log
 abbrev pub gets_log : EventKind
@@ -62,14 +62,14 @@ gets_log = SlotChanged 0 (Some (record { slot = open_slot 0 16 0; logged = true 
 
 -- The line that begins a log is done before writes are logged.
 abbrev pub LogBeginsArmed : Type 0
-LogBeginsArmed = IsUnlawfulIn Automatic (slot_of_pages 16 ∷ []) (log_line 3 (SetLog 0 true)) (gets_log ∷ []) Done
+LogBeginsArmed = IsUnlawfulIn Automatic (slot_of_pages 16 ∷ []) (manage 3 (SetLog 0 true)) (gets_log ∷ []) Done
 
 -- A log begins with no page dirty where each is to be, and with each page dirty where none is to be.
 abbrev pub LogBeginsAllSet : Type 0
-LogBeginsAllSet = IsUnlawfulIn ManualAllSet (slot_of_pages 16 ∷ []) (log_line 3 (SetLog 0 true)) (gets_log ∷ Armed 0 false ∷ []) Done
+LogBeginsAllSet = IsUnlawfulIn ManualAllSet (slot_of_pages 16 ∷ []) (manage 3 (SetLog 0 true)) (gets_log ∷ Armed 0 false ∷ []) Done
 
 abbrev pub LogBeginsClean : Type 0
-LogBeginsClean = IsUnlawfulIn Automatic (slot_of_pages 16 ∷ []) (log_line 3 (SetLog 0 true)) (gets_log ∷ Armed 0 true ∷ []) Done
+LogBeginsClean = IsUnlawfulIn Automatic (slot_of_pages 16 ∷ []) (manage 3 (SetLog 0 true)) (gets_log ∷ Armed 0 true ∷ []) Done
 
 -- v1 writes the frame that v0 writes.
 abbrev pub other_line : Line
@@ -85,13 +85,13 @@ race =
     one_by_one (log_sizes Automatic) (with_log 16 []) first_facts
     ++ (map (by write_line) (Begun write_line ∷ LookedAtPause ∷ LookedAtSlots ∷ LookedAtHost 1 ∷ [])
     ++ (whole_line other_line (LookedAtPause ∷ LookedAtSlots ∷ LookedAtHost 1 ∷ Accessed 1 0 (Write 8) 1 0 ∷ []) (Reached 1 0)
-    ++ (get_of (log_line 6 (GetLog 0)) [] (0 ∷ [])
+    ++ (get_of (manage 6 (GetLog 0)) [] (0 ∷ [])
     ++ map (by write_line) (Accessed 1 0 (Write 7) 1 8 ∷ Answered 4 (Reached 1 8) ∷ []))))
 
 -- The race is lawful, and so is it with a get after it that reads the frame.
 abbrev pub RaceIsLawful : Type 0
-RaceIsLawful = IsLawful (log_sizes Automatic) first_flat (race ++ get_of (log_line 7 (GetLog 0)) (1 ∷ []) (2 ∷ []))
+RaceIsLawful = IsLawful (log_sizes Automatic) first_flat (race ++ get_of (manage 7 (GetLog 0)) (1 ∷ []) (2 ∷ []))
 
 -- With a get after it that leaves the frame out too it is not.
 abbrev pub NextGetReadsIt : Type 0
-NextGetReadsIt = IsLawful (log_sizes Automatic) first_flat (race ++ get_of (log_line 7 (GetLog 0)) [] (0 ∷ [])) → ⊥
+NextGetReadsIt = IsLawful (log_sizes Automatic) first_flat (race ++ get_of (manage 7 (GetLog 0)) [] (0 ∷ [])) → ⊥

@@ -42,4 +42,4 @@ pub mod LowestKept
 pub mod TopicsKept
 pub mod ClaimGoes
 pub mod Scanned
-pub mod Emptied
+pub mod KeptEmpty

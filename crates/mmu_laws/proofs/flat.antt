@@ -52,3 +52,4 @@ pub mod HostEntries
 pub mod HostFlat
 pub mod HostChangeFlat
 pub mod HostReady
+pub mod LogReady

@@ -45,7 +45,7 @@ use Rattle.mmu_core.specs.machine.Steps.{idle_after}
 use Rattle.mmu_core.specs.machine.View.{View, answer_in, hand_after, part_stepped, stepped, upd, words_after}
 use Rattle.mmu_core.proofs.held.CopiedSteps.{MovesPage, most, moves_on, part_copied}
 pub use Rattle.mmu_core.proofs.held.CopiedSteps.{CopiedAt}
-use Rattle.mmu_core.proofs.held.Emptied.{page_emptied}
+use Rattle.mmu_core.proofs.held.KeptEmpty.{page_empty}
 use Rattle.mmu_core.proofs.held.FlushSteps.{FlushAt}
 use Rattle.mmu_core.proofs.held.FreshFrames.{behind_it}
 use Rattle.mmu_core.proofs.held.UsableKept.{UsableAt, used_agrees, vcpu_below}
@@ -104,7 +104,7 @@ module _ (z : Sizes) (v : View) (a gfn : ℕ) (write : Bool) (I : Invariant z v)
   not_moved : (i : ℕ) → i < actors_of z → (v.hand i).topics.invalidations.opened ≡ true → MovesPage z (v.words area.Host) (v.hand i).topics
       → touched_page.page ≢ page_looked (v.hand i).topics.host
   not_moved i lt opened M e =
-      let clean = (F i a lt low (page_emptied (v.hand i).topics _ opened M.invalid)).awaits (omega (arith, low, M.asked)) (omega (arith, low, M.awaited))
+      let clean = (F i a lt low (page_empty (v.hand i).topics _ opened M.invalid)).awaits (omega (arith, low, M.asked)) (omega (arith, low, M.awaited))
       (ap (may_use (v.words area.State a)) K.0.guest) in
       let apart = used_covers (IsApart (v.hand i).topics.invalidations.own) gfn write (v.hand a).cached.items used clean K.1 in
       apart.0 gfn apart.1

@@ -34,7 +34,7 @@ use Rattle.part_steps.specs.PartTopics.{part_topics}
 use Rattle.part_steps.specs.Tasks.{kind_of_task}
 use Rattle.part_steps.specs.TopicSteps.{topics_after}
 use Rattle.mmu_core.specs.invariant.Invariant.{Invariant}
-use Rattle.mmu_core.specs.invariant.InvalidatedPart.{FlushPart, IsApart, IsClean, IsNoLeafIn, has_emptied}
+use Rattle.mmu_core.specs.invariant.InvalidatedPart.{FlushPart, IsApart, IsClean, IsNoLeafIn, keeps_empty}
 use Rattle.mmu_core.specs.invariant.TopicsInvariant.{TopicsInvariant}
 use Rattle.mmu_core.specs.invariant.TreePart.{Position, at}
 use Rattle.mmu_core.specs.lines.AccessSteps.{access_caches, access_task, is_found, touch_of}
@@ -116,7 +116,7 @@ module _ (z : Sizes) (v : View) (a : ℕ) (I : TopicsInvariant z v) where
 
   -- It is no leaf of a frame of an open invalidation of which a flush was asked for.
   entry_clean : (gfn other : ℕ) → a < actors_of z → IsOver gfn walk → other / level_span walk.level ≡ gfn / level_span walk.level → (i : ℕ)
-      → i < actors_of z → has_emptied (v.hand i).topics ≡ true
+      → i < actors_of z → keeps_empty (v.hand i).topics ≡ true
       → a < (v.hand i).topics.flush.asked → IsNoLeafIn (v.hand i).topics.invalidations.own walk.level other (entry gfn)
   entry_clean gfn other there over same i lt opened asked =
       let at_walk = (I.held a there).table over.there in

@@ -20,8 +20,8 @@ use Rattle.part_steps.specs.PartTasks.{part_task}
 use Rattle.part_steps.specs.PartTopics.{part_topics}
 use Rattle.part_steps.specs.StayTopics.{no_flush}
 use Rattle.part_steps.specs.Tasks.{kind_of_task}
-use Rattle.mmu_core.specs.invariant.InvalidatedPart.{FlushPart, IsClean, IsFlushed, has_emptied}
-use Rattle.mmu_core.proofs.held.Emptied.{emptied_open, given_emptied, published_none}
+use Rattle.mmu_core.specs.invariant.InvalidatedPart.{FlushPart, IsClean, IsFlushed, keeps_empty}
+use Rattle.mmu_core.proofs.held.KeptEmpty.{empty_open, given_empty, published_none}
 use Rattle.mmu_core.specs.invariant.StatesPart.{stay_bits}
 use Rattle.mmu_core.specs.invariant.TopicsInvariant.{TopicsInvariant}
 use Rattle.mmu_core.specs.lines.Cached.{asks_flush, flushed}
@@ -39,12 +39,12 @@ FlushAt z v = FlushPart (actors_of z) z.vcpus (v.words area.State) v.hand
 -- what is said of one virtual processor, for the invalidation of an actor that holds these topics, if it has one open
 abbrev pub FlushFor : Topics → ℕ → ℕ → Stay → List Translation → Type 0
 FlushFor t v state stay cached =
-    has_emptied t ≡ true → IsFlushed t.invalidations.own t.flush.asked t.flush.awaited v state stay cached
+    keeps_empty t ≡ true → IsFlushed t.invalidations.own t.flush.asked t.flush.awaited v state stay cached
 
 -- Where actor a was asked for the flush of an open invalidation, and has cached nothing of its frames, it has nothing of them cached then.
 abbrev pub KeepsClean : Sizes → View → ℕ → Buffer Translation → Type 0
 KeepsClean z v a c =
-    (i : ℕ) → i < actors_of z → has_emptied (v.hand i).topics ≡ true → a < (v.hand i).topics.flush.asked
+    (i : ℕ) → i < actors_of z → keeps_empty (v.hand i).topics ≡ true → a < (v.hand i).topics.flush.asked
     → IsClean (v.hand i).topics.invalidations.own (v.hand a).cached.items → IsClean (v.hand i).topics.invalidations.own c.items
 
 -- It is said of each, where actor a has this hand now and the state words are these, if it is said of this actor and of each other virtual
@@ -176,7 +176,7 @@ module _ (z : Sizes) (v : View) (a note : ℕ) (c : Buffer Translation) (g : Hel
             → IsFlushed h.topics.invalidations.own h.topics.flush.asked h.topics.flush.awaited k state stay kept
         by true is =
             let none = counts_down h.topics.invalidations.opened h.topics.invalidations.count count is S.needs.is in
-            let opened = emptied_open (topics (part.SetCount count)) emptied in
+            let opened = empty_open (topics (part.SetCount count)) emptied in
             absurd (cc (none, opened))
         by false is = unasked h.topics.flush (S.needs.opens is).unasked
 
@@ -184,14 +184,14 @@ module _ (z : Sizes) (v : View) (a note : ℕ) (c : Buffer Translation) (g : Hel
         → FlushFor (topics step) k state stay kept
     topics_flushed part.Exclude k S shown F = locked_flushed k F
     topics_flushed (part.SetStart first gfn) k S shown F = λ emptied.
-        let closed = S.needs.0.opening.closed in let opened = emptied_open (topics (part.SetStart first gfn)) emptied in absurd (cc (closed, opened))
+        let closed = S.needs.0.opening.closed in let opened = empty_open (topics (part.SetStart first gfn)) emptied in absurd (cc (closed, opened))
     topics_flushed (part.SetEnd last gfn) k S shown F = λ emptied.
-        let closed = S.needs.0.opening.closed in let opened = emptied_open (topics (part.SetEnd last gfn)) emptied in absurd (cc (closed, opened))
+        let closed = S.needs.0.opening.closed in let opened = empty_open (topics (part.SetEnd last gfn)) emptied in absurd (cc (closed, opened))
     topics_flushed part.Publish k S shown F = λ emptied.
         absurd (published_none h.topics.invalidations.opened h.topics.invalidations.own.page S.needs.of_no_page emptied)
-    topics_flushed part.Give k S shown F = λ emptied. F (given_emptied h.topics S.needs.0 emptied)
+    topics_flushed part.Give k S shown F = λ emptied. F (given_empty h.topics S.needs.0 emptied)
     topics_flushed part.GiveOld k S shown F = λ emptied.
-        let closed = S.needs.closed in let opened = emptied_open (topics part.GiveOld) emptied in absurd (cc (closed, opened))
+        let closed = S.needs.closed in let opened = empty_open (topics part.GiveOld) emptied in absurd (cc (closed, opened))
     topics_flushed (part.SetCount count) k S shown F = counted_flushed count k S
     topics_flushed (part.Ask index) k S shown F = λ opened. asked_on index S.needs.next shown (F opened)
     topics_flushed (part.Await index) k S shown F = λ opened. awaited_on index (found (part.Await index)) S.needs.0 S.needs.1 shown (F opened)

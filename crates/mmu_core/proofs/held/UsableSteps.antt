@@ -32,7 +32,7 @@ use Rattle.mmu_core.specs.invariant.SlotSetPart.{IsLiveIn}
 use Rattle.mmu_core.specs.invariant.TopicsInvariant.{TopicsInvariant}
 use Rattle.mmu_core.specs.lines.Cached.{asks_flush, flushed, flushed_by}
 use Rattle.mmu_core.specs.machine.View.{View, answer_in, part_stepped, upd, words_after}
-use Rattle.mmu_core.proofs.held.Emptied.{page_emptied, slot_emptied}
+use Rattle.mmu_core.proofs.held.KeptEmpty.{page_empty, slot_empty}
 use Rattle.mmu_core.proofs.held.FlushChanges.{begun_asks, cached_more, ended_asks, left_asks, none_asked, used_asked, used_gone}
 use Rattle.mmu_core.proofs.held.FlushSteps.{FlushAt, FlushFor, KeepsClean, asked_there}
 use Rattle.mmu_core.proofs.held.FreshFrames.{behind_it, leaf_brought, leaf_same}
@@ -195,10 +195,10 @@ module _ (z : Sizes) (v : View) (a note : ℕ) (c : Buffer Translation) (g : Hel
       → FlushFor h.topics k (before k) stay cached → may_use (before k) stay ≡ true → CleanFor step z.vcpus h.topics cached
   clean_for (part.Change new_) k stay S low F may =
       let sizes : h.state.sizes.vcpus ≡ z.vcpus = ap (λ (y : Sizes). y.vcpus) S.sizes in
-      (F (page_emptied h.topics _ S.needs.0.opened S.needs.0.invalid)).awaits (omega (arith, low, sizes, S.needs.0.asked))
+      (F (page_empty h.topics _ S.needs.0.opened S.needs.0.invalid)).awaits (omega (arith, low, sizes, S.needs.0.asked))
       (omega (arith, low, sizes, S.needs.0.awaited)) may
   clean_for part.Publish k stay S low F may = λ opened asked awaited.
-      (F (slot_emptied h.topics opened S.needs.none_retired)).awaits (omega (arith, low, asked)) (omega (arith, low, awaited)) may
+      (F (slot_empty h.topics opened S.needs.none_retired)).awaits (omega (arith, low, asked)) (omega (arith, low, awaited)) may
   clean_for _ k stay S low F may = tt
 
   agrees_after : (step : PartStep) (kept : List Translation) → IsPart z v a step → TopicsInvariant z v

@@ -29,7 +29,7 @@ use Rattle.mmu_core.proofs.words.HostFrames.{first_small}
 use Rattle.mmu_core.proofs.words.HostStays.{host_stays}
 use Rattle.mmu_core.proofs.words.PartWords.{areas_stay, slots_are, slots_behind}
 use Rattle.mmu_core.proofs.pages.Standing.{spot_after, spot_of, up_after}
-use Rattle.mmu_core.proofs.held.Emptied.{page_emptied, slot_emptied}
+use Rattle.mmu_core.proofs.held.KeptEmpty.{page_empty, slot_empty}
 use Rattle.mmu_core.proofs.held.FreshFrames.{found_live, behind_it, leaf_brought, leaf_same, looked_word}
 use Rattle.mmu_core.proofs.pages.TreePlaces.{all_reached}
 use Rattle.part_steps.specs.InvalidationRange.{page_looked}
@@ -206,7 +206,7 @@ published_leaves z v a note S I =
     stays table entry gfn R O leaf L (inr F) =
         let some = S.is_sizes.some in
         let of_it = flushed_within z.vcpus gfn L.slot (v.hand a).topics F L.holds in
-        absurd (I.zapped a S.there (slot_emptied (v.hand a).topics F.opened S.needs.none_retired) (omega (arith, some, F.asked)) table entry gfn R O of_it leaf)
+        absurd (I.zapped a S.there (slot_empty (v.hand a).topics F.opened S.needs.none_retired) (omega (arith, some, F.asked)) table entry gfn R O of_it leaf)
 
 -- Of a page that is changed there is no leaf: its guest frame was zapped.
 changed_leaves : (z : Sizes) (v : View) (a new_ note : ℕ) → IsPart z v a (part.Change new_) → (I : TopicsInvariant z v)
@@ -237,7 +237,7 @@ changed_leaves z v a new_ note S I table entry gfn R O leaf =
         let B = behind_it L.slot gfn L.holds in
         let given : SlotGives (v.words area.Pool) (v.words area.Slots 0) (page_of L.slot gfn) gfn =
         record { id = L.id; slot = L.slot; live = L.live; has = B.0; is = B.1 } in
-        absurd (I.zapped a S.there (page_emptied (v.hand a).topics page S.needs.0.opened S.needs.0.invalid) asked table entry gfn R O
+        absurd (I.zapped a S.there (page_empty (v.hand a).topics page S.needs.0.opened S.needs.0.invalid) asked table entry gfn R O
         ((I.scopes a page S.there S.needs.0.opened S.needs.0.invalid).covers gfn
         (subst (λ p. SlotGives (v.words area.Pool) (v.words area.Slots 0) p gfn) e given)) leaf)
     by L (inr ne) = leaf_same (v.words area.Pool) (v.words area.Host) (v.words area.Slots 0) page _ level gfn word L (λ e. absurd (ne e))

@@ -20,8 +20,8 @@ use Rattle.part_steps.specs.PartTasks.{part_task}
 use Rattle.part_steps.specs.PartTopics.{part_topics}
 use Rattle.part_steps.specs.StayTopics.{has_lock, no_flush}
 use Rattle.mmu_core.specs.invariant.AllOver.{AllOver}
-use Rattle.mmu_core.specs.invariant.InvalidatedPart.{IsIn, IsNoLeafIn, ZappedPart, has_emptied}
-use Rattle.mmu_core.proofs.held.Emptied.{emptied_open, given_emptied, published_none}
+use Rattle.mmu_core.specs.invariant.InvalidatedPart.{IsIn, IsNoLeafIn, ZappedPart, keeps_empty}
+use Rattle.mmu_core.proofs.held.KeptEmpty.{empty_open, given_empty, published_none}
 use Rattle.mmu_core.specs.invariant.TopicsInvariant.{TopicsInvariant}
 use Rattle.mmu_core.specs.invariant.TreePart.{is_table}
 use Rattle.mmu_core.specs.machine.View.{View, answer_in, part_stepped}
@@ -97,37 +97,37 @@ asked_before false f asked = asked
 -- So it is before the step of what is open after it, and of a new leaf.
 abbrev OwnZapped : (z : Sizes) (v : View) → ℕ → PartStep → TopicsInvariant z v → Topics → Type 0
 OwnZapped z v a step I t =
-    has_emptied t ≡ true → 1 ≤ t.flush.asked → ZappedIn z v I t.invalidations.own × OfNewLeaf step (v.hand a).topics v (IsNoLeafIn t.invalidations.own)
+    keeps_empty t ≡ true → 1 ≤ t.flush.asked → ZappedIn z v I t.invalidations.own × OfNewLeaf step (v.hand a).topics v (IsNoLeafIn t.invalidations.own)
 
 own_zapped : (z : Sizes) (v : View) (a note : ℕ) (step : PartStep) → IsPart z v a step → (I : TopicsInvariant z v)
     → OwnZapped z v a step I (part_topics step (v.hand a).topics (answer_in (part_task step a (v.hand a).topics note) v.words))
 own_zapped z v a note (part.Ask index) S I = λ is_open asked. (by is_open (same_or (v.hand a).topics.flush.asked 0), tt)
   where
-    by : has_emptied (v.hand a).topics ≡ true → ((v.hand a).topics.flush.asked ≡ 0) ⊎ ((v.hand a).topics.flush.asked ≢ 0)
+    by : keeps_empty (v.hand a).topics ≡ true → ((v.hand a).topics.flush.asked ≡ 0) ⊎ ((v.hand a).topics.flush.asked ≢ 0)
         → ZappedIn z v I (v.hand a).topics.invalidations.own
-    by is_open (inl none) = swept_zapped z v a index S I (emptied_open (v.hand a).topics is_open) none
+    by is_open (inl none) = swept_zapped z v a index S I (empty_open (v.hand a).topics is_open) none
     by is_open (inr some) = I.zapped a S.there is_open (omega (arith, some))
 own_zapped z v a note part.Exclude S I = λ is_open asked. (I.zapped a S.there is_open (asked_before _ (v.hand a).topics.flush asked), tt)
 own_zapped z v a note (part.Leaf gfn write) S I = λ is_open asked.
-    (I.zapped a S.there is_open asked, new_leaf z v a a (part.Leaf gfn write) S I S.there (emptied_open (v.hand a).topics is_open))
+    (I.zapped a S.there is_open asked, new_leaf z v a a (part.Leaf gfn write) S I S.there (empty_open (v.hand a).topics is_open))
 own_zapped z v a note (part.Fix gfn) S I = λ is_open asked.
-    (I.zapped a S.there is_open asked, new_leaf z v a a (part.Fix gfn) S I S.there (emptied_open (v.hand a).topics is_open))
+    (I.zapped a S.there is_open asked, new_leaf z v a a (part.Fix gfn) S I S.there (empty_open (v.hand a).topics is_open))
 own_zapped z v a note (part.Protect gfn) S I = λ is_open.
-    absurd (let none = S.needs.none_open in let opened = emptied_open (v.hand a).topics is_open in cc (none, opened))
+    absurd (let none = S.needs.none_open in let opened = empty_open (v.hand a).topics is_open in cc (none, opened))
 own_zapped z v a note (part.SetEnd last gfn) S I = λ is_open.
-    let opened = emptied_open (part_topics (part.SetEnd last gfn) (v.hand a).topics 0) is_open in
+    let opened = empty_open (part_topics (part.SetEnd last gfn) (v.hand a).topics 0) is_open in
     absurd (let closed = S.needs.0.opening.closed in cc (closed, opened))
 own_zapped z v a note (part.SetStart first gfn) S I = λ is_open.
-    let opened = emptied_open (part_topics (part.SetStart first gfn) (v.hand a).topics 0) is_open in
+    let opened = empty_open (part_topics (part.SetStart first gfn) (v.hand a).topics 0) is_open in
     absurd (let closed = S.needs.0.opening.closed in cc (closed, opened))
 own_zapped z v a note (part.SetCount count) S I = λ is_open asked.
-    absurd (counted_unasked count (v.hand a).topics S.needs (emptied_open (part_topics (part.SetCount count) (v.hand a).topics
+    absurd (counted_unasked count (v.hand a).topics S.needs (empty_open (part_topics (part.SetCount count) (v.hand a).topics
     (answer_in (part_task (part.SetCount count) a (v.hand a).topics note) v.words)) is_open) asked)
 own_zapped z v a note part.Publish S I = λ is_open.
     absurd (published_none (v.hand a).topics.invalidations.opened (v.hand a).topics.invalidations.own.page S.needs.of_no_page is_open)
-own_zapped z v a note part.Give S I = λ is_open asked. (I.zapped a S.there (given_emptied (v.hand a).topics S.needs.0 is_open) asked, tt)
+own_zapped z v a note part.Give S I = λ is_open asked. (I.zapped a S.there (given_empty (v.hand a).topics S.needs.0 is_open) asked, tt)
 own_zapped z v a note part.GiveOld S I = λ is_open.
-    absurd (let closed = S.needs.closed in let opened = emptied_open (part_topics part.GiveOld (v.hand a).topics 0) is_open in cc (closed, opened))
+    absurd (let closed = S.needs.closed in let opened = empty_open (part_topics part.GiveOld (v.hand a).topics 0) is_open in cc (closed, opened))
 own_zapped z v a note _ S I = λ is_open asked. (I.zapped a S.there is_open asked, tt)
 
 -- ---- Each step.
@@ -139,7 +139,7 @@ zapped_kept z v a step note S I =
     behind_step (λ (w : View). (i : ℕ) → IsKept i (w.hand i)) z v a step note S
     (at_upd IsKept v.hand a _ (λ lt is_open asked. let own = own_zapped z v a note step S I is_open asked in carried behind.invalidations.own own.0 own.1)
     (λ i ne lt is_open asked. carried (v.hand i).topics.invalidations.own (I.zapped i lt is_open asked)
-    (new_leaf z v a i step S I lt (emptied_open (v.hand i).topics is_open))))
+    (new_leaf z v a i step S I lt (empty_open (v.hand i).topics is_open))))
   where
     behind : Topics
     behind = part_topics step (v.hand a).topics (answer_in (part_task step a (v.hand a).topics note) v.words)
@@ -151,7 +151,7 @@ zapped_kept z v a step note S I =
 
     IsKept : ℕ → Held → Type 0
     IsKept i h =
-        i < actors_of z → has_emptied h.topics ≡ true → 1 ≤ h.topics.flush.asked
+        i < actors_of z → keeps_empty h.topics ≡ true → 1 ≤ h.topics.flush.asked
         → IsZapped ((part_stepped a step note v).words area.Root) h.topics.invalidations.own
 
     carried : (own_ : Invalidated) → ZappedIn z v I own_ → OfNewLeaf step (v.hand a).topics v (IsNoLeafIn own_)

@@ -33,7 +33,7 @@ use Rattle.mmu_core.specs.invariant.TreePart.{Position, TreePart, Use, stands}
 use Rattle.mmu_core.specs.invariant.TreePart.Use.{Free, OldSet, Outside, Owned, Root, SlotSet, Under}
 use Rattle.mmu_core.specs.machine.View.{view, word_in}
 use Rattle.mmu_core.specs.machine.Worlds.{AreStartWords, IsStart, free_bits}
-use Rattle.mmu_core.proofs.held.Emptied.{emptied_open}
+use Rattle.mmu_core.proofs.held.KeptEmpty.{empty_open}
 use Rattle.mmu_core.proofs.start.StartWords.{bits_behind, bits_below, bits_inside, frame_word, hand_is, map_word, pool_word, word_at_start}
 use Rattle.mmu_core.proofs.machine.SumsBelow.{sum_none}
 use Rattle.mmu_core.proofs.machine.ColumnsTell.{at_none, is_outside, no_outside, other}
@@ -283,7 +283,7 @@ start_topics z lines w start = record {
   passed = λ i lt. subst (PassedPart (word_in z w area.Pool)) (sym (topics_are z lines w i start lt)) (λ alone. absurd (cc alone));
   scopes = λ i page lt is. absurd (none_open_yet z lines w i start lt is);
   swept = λ i lt alone out is. absurd (none_open_yet z lines w i start lt is);
-  zapped = λ i lt emptied asked. absurd (none_open_yet z lines w i start lt (emptied_open (hand_in mmu w i).topics emptied));
+  zapped = λ i lt emptied asked. absurd (none_open_yet z lines w i start lt (empty_open (hand_in mmu w i).topics emptied));
   lowest = record {
     leaves = λ table entry gfn R O leaf. absurd (no_leaf (start_spot table).level table entry leaf);
     cached = λ i lt. subst (λ (h : Held). All IsLowest h.cached.items) (sym (hand_is z lines w i start lt)) (All-nil IsLowest);

@@ -42,7 +42,7 @@ use Rattle.mmu_core.proofs.held.UsableSteps.{none_usable}
 use Rattle.mmu_core.proofs.machine.Worlds.{good_run}
 use Rattle.part_steps.specs.SetWords.{set_role}
 use Rattle.mmu_core.specs.invariant.CachedPart.{FitsMachine}
-use Rattle.mmu_core.proofs.held.Emptied.{emptied_open}
+use Rattle.mmu_core.proofs.held.KeptEmpty.{empty_open}
 
 below : (a b : ℕ) → a < b → nat_lt a b ≡ true
 below a b lt = grind (arith, nat_tests)
@@ -200,7 +200,7 @@ start_good z lines w start = record {
   };
   usable = none_usable z (view z w) (λ i lt. ap (λ (h : Held). h.cached.items) (hand_is z lines w i start lt));
   flushes = λ i v lt low emptied.
-      let opened = emptied_open (hand_in mmu w i).topics emptied in
+      let opened = empty_open (hand_in mmu w i).topics emptied in
       let closed : (hand_in mmu w i).topics.invalidations.opened ≡ false = ap (λ (h : Held). h.topics.invalidations.opened) (hand_is z lines w i start lt) in
       absurd (cc (closed, opened));
   copied = λ i o lt opened owned.

@@ -59,10 +59,10 @@ ScopePart n pool slots topics =
 
 -- ---- what is left of their frames
 
--- The actor's own invalidation is open, and where it is of a slot, the slot set that takes the place of the one with this slot is yet to be published. (From
--- then on a large leaf of a slot that was moved may reach over frames of its old place.)
-abbrev pub has_emptied : Topics → Bool
-has_emptied t = t.invalidations.opened && (is_some t.invalidations.own.page || not (is_some t.retired))
+-- The actor's own invalidation is open, and no leaf may be put at its frames once they are swept: where it is of a slot, the slot set that takes the place of
+-- the one with this slot is yet to be published. (From then on a large leaf of a slot that was moved would reach over frames of its old place.)
+abbrev pub keeps_empty : Topics → Bool
+keeps_empty t = t.invalidations.opened && (is_some t.invalidations.own.page || not (is_some t.retired))
 
 -- The entry is no leaf of its guest frames.
 abbrev pub IsNoLeafIn : Invalidated → ℕ → ℕ → ℕ → Type 0
@@ -82,7 +82,7 @@ SweptPart n up spot pool root topics =
 -- From the moment at which a first flush is asked for no links lead to a leaf of the frames of an open invalidation; of a slot's, up to the publication.
 abbrev pub ZappedPart : ℕ → (ℕ → Use) → (ℕ → Position) → (ℕ → ℕ) → ℕ → (ℕ → Topics) → Type 0
 ZappedPart n up spot pool root topics =
-    (i : ℕ) → i < n → has_emptied (topics i) ≡ true → 1 ≤ (topics i).flush.asked → AllOver up spot pool root (IsNoLeafIn (topics i).invalidations.own)
+    (i : ℕ) → i < n → keeps_empty (topics i) ≡ true → 1 ≤ (topics i).flush.asked → AllOver up spot pool root (IsNoLeafIn (topics i).invalidations.own)
 
 -- The translation covers none of its frames.
 abbrev pub IsApart : Invalidated → Translation → Type 0
@@ -112,6 +112,6 @@ pub record IsFlushed (own_ : Invalidated) (asked awaited v state : ℕ) (stay : 
 -- So are all, for each open invalidation; for a slot's, up to the publication.
 abbrev pub FlushPart : ℕ → ℕ → (ℕ → ℕ) → (ℕ → Held) → Type 0
 FlushPart n vcpus states hand =
-    (i v : ℕ) → i < n → v < vcpus → has_emptied (hand i).topics ≡ true
+    (i v : ℕ) → i < n → v < vcpus → keeps_empty (hand i).topics ≡ true
     → IsFlushed (hand i).topics.invalidations.own (hand i).topics.flush.asked (hand i).topics.flush.awaited v (states v) (hand v).topics.stay
     (hand v).cached.items

@@ -1,10 +1,7 @@
 -- What the steps of a line owe flat memory that reads a dirty log: it begins to read, and what it has read in the end it may read.
-use Rattle.core_views.specs.Events.{facts_after, logs_left, stage_read, stage_taken}
-use Rattle.mmu_laws.proofs.flat.Told.{line_behind}
+use Rattle.core_views.specs.Events.{facts_after, stage_read}
 use Rattle.std.proofs.Common.{◌≡◌, inl, ◌+◌, ℕ, List, [], ◌∷◌, ◌++◌, refl, sym, subst, ap, ◌∙◌, length}
-use Rattle.std.specs.Option.{option_map}
 use Rattle.std.specs.Prelude.{Bool, true, false, ◌==◌, ◌||◌, not, nat_lt, if◌then◌else◌, Option, Some, None}
-use Rattle.core_views.specs.declared.actor.Actor.TheVariants.{Manager}
 use Rattle.core_views.specs.declared.answer.Answer.TheVariants.{Bits, Refused}
 use Rattle.core_views.specs.declared.answer.Refusal.{Refusal}
 use Rattle.core_views.specs.declared.event.EventKind.{EventKind}
@@ -18,15 +15,12 @@ use Rattle.core_views.specs.declared.trace.Command.{Command}
 use Rattle.core_views.specs.declared.trace.Line.{Line}
 use Rattle.core_views.specs.declared.trace.Slot.{Slot}
 use Rattle.core_views.specs.Events.{past_after}
-use Rattle.core_views.specs.declared.migration.Migration.{Migration}
-use Rattle.core_views.specs.declared.migration.Migration.TheVariants.{Unstarted}
 use Rattle.core_views.specs.Flat.{Facts, Fresh, HasTaken, LineUnderWay, Stage}
-use Rattle.core_views.specs.Harvests.{IsHarvest, MayRead, slot_read}
+use Rattle.core_views.specs.Harvests.{IsHarvest, slot_read}
 use Rattle.core_views.specs.Held.{Held}
-use Rattle.core_views.specs.Lawful.{HasWork, Tells, answer_at_once}
-use Rattle.core_views.specs.LogCommands.{bits_for, log_read, read_refusal, takes_out, words_asked}
+use Rattle.core_views.specs.Lawful.{HasWork, Tells}
+use Rattle.core_views.specs.LogCommands.{bits_for, log_read, takes_out, words_asked}
 use Rattle.core_views.specs.Past.{Past}
-use Rattle.core_views.specs.SlotSets.{MemorySlots}
 use Rattle.spte_words.specs.declared.spte_kind.SpteKind.{SpteKind}
 use Rattle.spte_words.specs.Entries.{kind_of}
 use Rattle.part_steps.specs.ControlBits.{has_to_flush}
@@ -38,25 +32,22 @@ use Rattle.mmu_core.specs.invariant.Invariant.{Invariant}
 use Rattle.mmu_core.specs.invariant.TopicsInvariant.{TopicsInvariant}
 use Rattle.mmu_core.specs.lines.LogKnows.{AreAsked, HasRead as HasReadAll, LogKnows, Reads}
 use Rattle.mmu_core.specs.lines.LogOutcomes.{after_log}
-use Rattle.mmu_core.specs.lines.LogSteps.{after_entry, after_page, awaits_last, frames_read, log_note, log_part, next_page, read_more}
+use Rattle.mmu_core.specs.lines.LogSteps.{after_entry, after_page, awaits_last, frames_read, log_part, next_page, read_more}
 use Rattle.mmu_core.specs.lines.LogSteps.{reads_last, slot_asked}
 use Rattle.mmu_core.specs.lines.LogTells.{harvested, shown, taken}
 use Rattle.mmu_core.specs.machine.Outcomes.{answering, place_after}
-use Rattle.mmu_core.specs.machine.Steps.{task_at}
-use Rattle.mmu_core.specs.machine.View.{View, answer_in}
+use Rattle.mmu_core.specs.machine.View.{View}
 use Rattle.mmu_core.proofs.lines.EitherPlace.{either_place}
 use Rattle.mmu_core.proofs.lines.LogKnownWords.{reads_all}
-use Rattle.mmu_core.proofs.lines.LogMakes.{log_is_managers}
-use Rattle.mmu_core.proofs.lines.LogPlaces.{log_plain}
-use Rattle.mmu_core.proofs.lines.LogTold.{log_knows_reads}
 use Rattle.mmu_core.proofs.machine.ColumnsTell.{some_is}
 use Rattle.mmu_core.proofs.machine.PartStepping.{IsPart}
 use Rattle.mmu_core.proofs.machine.Stepping.{IsStep}
 use Rattle.mmu_laws.specs.flat.FlatInvariant.{LogUnder}
-use Rattle.mmu_laws.proofs.flat.FlatSteps.{GoesBy, Ready, RefinesBy, StepGoes, answers_by, goes_by, part_refines}
-use Rattle.mmu_laws.proofs.flat.LogAnswers.{ReadsWell, reads_at_once, words_told}
+use Rattle.mmu_laws.proofs.flat.FlatSteps.{GoesBy, RefinesBy, StepGoes, answers_by}
+use Rattle.mmu_laws.proofs.flat.LogAnswers.{ReadsWell}
 use Rattle.mmu_laws.proofs.flat.PagePlaces.{each_entry, each_page}
 use Rattle.mmu_laws.proofs.flat.Told.{AreAllowed}
+use Rattle.mmu_laws.proofs.flat.LogReady as ready
 
 module _ (z : Sizes) (v : View) (a : ℕ) (line : Line) (command : Command) (facts : Facts) (past : Past) (u : LineUnderWay) where
   abbrev h : Held
@@ -66,77 +57,28 @@ module _ (z : Sizes) (v : View) (a : ℕ) (line : Line) (command : Command) (fac
   slot = slot_asked h command
 
   abbrev task : LogPlace → Task
-  task p = task_at (place.Log p) command h
+  task p = ready.task z v a line command facts past u p
 
   abbrev x : LogPlace → ℕ
-  x p = answer_in (task p) v.words
-
-  abbrev ReadyAt : LogPlace → Type 0
-  ReadyAt p = Ready z v line command (place.Log p) h.topics facts u
+  x p = ready.x z v a line command facts past u p
 
   abbrev Goes : LogPlace → Place → List EventKind → Type 0
-  Goes p next kinds = GoesBy z v a line command (task p) next kinds facts past u
+  Goes p next kinds = ready.Goes z v a line command facts past u p next kinds
 
-  -- what the step of a place is to go on with
-  record Makes (p : LogPlace) : Type 0 where
-    step : IsStep z v a line command (place.Log p)
-    is : Invariant z v
-    topics : TopicsInvariant z v
-    part : IsPart z v a (log_part p h command)
-    knows : LogKnows p command h
-    ready : ReadyAt p
-
-  -- Flat memory has the slots of the manager's record, and so answers at once as it does.
-  same_slots : (p : LogPlace) → Makes p → facts.slots ≡ h.slots
-  same_slots p M =
-      let manager : h.state.actor ≡ Manager =
-      sym M.step.own ∙ log_is_managers z line.actor command (log_knows_reads p command h M.knows) M.step.allowed in
-      M.ready.refines.slots ∙ sym (M.is.recorded a M.step.there manager).same
-
-  said : (p : LogPlace) → Makes p → u.line.command ≡ command
-  said p M = ap (λ (l : Line). l.command) M.ready.under.0 ∙ M.step.command_is
-
-  at_once : (p : LogPlace) → Makes p → (r : Option Refusal) → read_refusal command h.slots ≡ r
-      → answer_at_once z facts.slots facts.migration h.state.actor u.line.command ≡ option_map (λ refusal. Refused refusal) r
-  at_once p M r is =
-      ap (answer_at_once z facts.slots facts.migration h.state.actor) (said p M)
-      ∙ ap (λ (slots : MemorySlots). answer_at_once z slots facts.migration h.state.actor command) (same_slots p M)
-      ∙ ap (λ (m : Migration). answer_at_once z h.slots m h.state.actor command) M.ready.refines.idle
-      ∙ reads_at_once z h.slots h.state.actor command (log_knows_reads p command h M.knows) ∙ ap (option_map (λ refusal. Refused refusal)) is
+  abbrev Makes : LogPlace → Type 0
+  Makes p = ready.Makes z v a line command facts past u p
 
   still : (p : LogPlace) → Makes p → RefinesBy z v (task p) facts
-  still p M =
-      let plain = log_plain p h command in
-      part_refines z v a (log_part p h command) (log_note p h command) facts M.part M.topics plain.never plain.quiet M.ready.refines
+  still p M = ready.still z v a line command facts past u p M
 
-  -- It tells nothing, where it goes on at this place.
   quiet : (p next : LogPlace) → Makes p → LogUnder next command u → Goes p (place.Log next) []
-  quiet p next M under = goes_by z v a line command (task p) facts past u (still p M) (place.Log next) (M.ready.under.0, under)
+  quiet p next M under = ready.quiet z v a line command facts past u p next M under
 
-  -- These frames are read in the end: they are what the line's words say.
-  told_words : (p : LogPlace) (words : List ℕ) → Makes p → Reads command h → length words ≡ words_asked command slot → AreAsked slot command words
-      → bits_for u.line.command (slot_read facts.slots u.line.command) (frames_read slot command words) ≡ words
-  told_words p words M K long asked =
-      ap (λ c. bits_for c (slot_read facts.slots c) (frames_read slot command words)) (said p M)
-      ∙ ap (λ (slots : MemorySlots). bits_for command (slot_read slots command) (frames_read slot command words)) (same_slots p M)
-      ∙ words_told command h words K long asked
-
-  may_read : (p : LogPlace) (stage : Stage) (after : Past) (id : ℕ) (frames : List ℕ) (out : Bool) → Makes p → stage ≡ HasTaken id
-      → log_read command ≡ Some id → takes_out h.state.sizes.mode command ≡ out → IsHarvest facts after command id frames
-      → MayRead z facts after u.line.command stage id frames out
-  may_read p stage after id frames out M begun reads takes harvest = record {
-    begun = begun;
-    reads = ap log_read (said p M) ∙ reads;
-    takes = ap (takes_out z.mode) (said p M) ∙ ap (λ (y : Sizes). takes_out y.mode command) (sym (M.is.lines a M.step.there).sizes) ∙ takes;
-    harvest = subst (λ c. IsHarvest facts after c id frames) (sym (said p M)) harvest;
-  }
-
-  -- the line under way once it has begun to read the log of the slot
   abbrev begun_by : ℕ → LineUnderWay
-  begun_by id = line_behind (Taken id ∷ []) facts u
+  begun_by id = ready.begun_by z v a line command facts past u id
 
   begun_stage : (p : LogPlace) → Makes p → (id : ℕ) → log_read command ≡ Some id → (begun_by id).stage ≡ HasTaken id
-  begun_stage p M id reads = ap (λ o. stage_taken o (logs_left facts.slots u.line.command u.stage) id) (ap log_read (said p M) ∙ reads)
+  begun_stage p M id reads = ready.begun_stage z v a line command facts past u p M id reads
 
   -- ---- the steps that tell something
 
@@ -145,7 +87,7 @@ module _ (z : Sizes) (v : View) (a : ℕ) (line : Line) (command : Command) (fac
   refused refusal M =
       answers_by z v a line command (task (AtOnce refusal)) facts past u (still (AtOnce refusal) M) (Refused refusal) M.ready.under.0
       (subst (λ stage. Tells z facts h.state.actor u.line.command stage (Refused refusal)) (sym M.ready.under.1)
-      (at_once (AtOnce refusal) M (Some refusal) M.knows.2))
+      (ready.at_once z v a line command facts past u (AtOnce refusal) M (Some refusal) M.knows.2))
 
   exclude_goes : Makes Exclude → StepGoes z v a line command (place.Log Exclude) facts past u
   exclude_goes M = by (x Exclude == 0)
@@ -158,7 +100,7 @@ module _ (z : Sizes) (v : View) (a : ℕ) (line : Line) (command : Command) (fac
 
       begins : (b : Bool) → GoesBy z v a line command (task Exclude) (place.Log (if b then Take false else Root)) (Taken reads.0 ∷ []) facts past u
       begins b = record {
-        allowed = (inl (M.ready.under.1, at_once Exclude M None M.knows.1.0.accepted, ap log_read (said Exclude M) ∙ reads.1), tt);
+        allowed = (inl (M.ready.under.1, ready.at_once z v a line command facts past u Exclude M None M.knows.1.0.accepted, ap log_read (ready.said z v a line command facts past u Exclude M) ∙ reads.1), tt);
         refines = still Exclude M;
         under = (
           M.ready.under.0,
@@ -186,14 +128,14 @@ module _ (z : Sizes) (v : View) (a : ℕ) (line : Line) (command : Command) (fac
       read_facts id = facts_after (Harvested id frames) facts
 
       words : bits_for u.line.command (slot_read facts.slots u.line.command) frames ≡ h.harvest
-      words = told_words Await h.harvest M M.knows.2.0 M.knows.3.read M.knows.3.asked
+      words = ready.told_words z v a line command facts past u Await h.harvest M M.knows.2.0 M.knows.3.read M.knows.3.asked
 
       by : (waits : Bool) → Goes Await (place_after (to waits)) ((if waits then [] else harvested (log_read command) frames) ++ answering (to waits) line)
       by true = quiet Await Await M M.ready.under.1
       by false =
           subst (λ o. Goes Await place.Between (harvested o frames ++ answering (after_log comes.Reads h.harvest) line)) (sym M.ready.under.1.2) (record {
             allowed = (
-              inl (may_read Await u.stage past M.ready.under.1.0 frames true M M.ready.under.1.1 M.ready.under.1.2 M.knows.2.1
+              inl (ready.may_read z v a line command facts past u Await u.stage past M.ready.under.1.0 frames true M M.ready.under.1.1 M.ready.under.1.2 M.knows.2.1
                   (well M.ready.under.1.0 M.ready.under.1.2)),
               (
                 (
@@ -215,8 +157,8 @@ module _ (z : Sizes) (v : View) (a : ℕ) (line : Line) (command : Command) (fac
       → AreAllowed z h.state.actor (Shown id (frames_read slot command words) ∷ Answered line.number (Bits words) ∷ []) facts after
       (record u { stage = stage })
   shown_allowed p stage after id words M begun reads K takes long asked harvest = (
-    may_read p stage after id (frames_read slot command words) false M begun reads takes harvest,
-    ((ap (λ (l : Line). l.number) (sym M.ready.under.0), ap Bits (sym (told_words p words M K long asked))), tt),
+    ready.may_read z v a line command facts past u p stage after id (frames_read slot command words) false M begun reads takes harvest,
+    ((ap (λ (l : Line). l.number) (sym M.ready.under.0), ap Bits (sym (ready.told_words z v a line command facts past u p words M K long asked))), tt),
   )
 
   all_read : (begun : Bool) → Makes (Peek begun) → reads_last begun slot command h.topics ≡ true
@@ -262,7 +204,7 @@ module _ (z : Sizes) (v : View) (a : ℕ) (line : Line) (command : Command) (fac
       frames = frames_read slot command words
 
       begins : (u.stage ≡ Fresh) × HasWork z facts h.state.actor u.line.command × (log_read u.line.command ≡ Some reads.0)
-      begins = (M.ready.under.1, at_once (Peek false) M None M.knows.1.accepted, ap log_read (said (Peek false) M) ∙ reads.1)
+      begins = (M.ready.under.1, ready.at_once z v a line command facts past u (Peek false) M None M.knows.1.accepted, ap log_read (ready.said z v a line command facts past u (Peek false) M) ∙ reads.1)
 
       by : (last : Bool) → reads_last false slot command h.topics ≡ last
           → Goes (Peek false) (place_after (after_log (if last then comes.Reads else comes.Goes (Peek true)) words))
@@ -318,7 +260,7 @@ module _ (z : Sizes) (v : View) (a : ℕ) (line : Line) (command : Command) (fac
   goes_by_place (Peek false) M well = peek_first M well
 
   pub log_goes_on : (p : LogPlace) → IsStep z v a line command (place.Log p) → Invariant z v → TopicsInvariant z v → IsPart z v a (log_part p h command)
-      → LogKnows p command h → ReadsWell (place.Log p) h.state.actor command h (x p) facts past → ReadyAt p
+      → LogKnows p command h → ReadsWell (place.Log p) h.state.actor command h (x p) facts past → ready.ReadyAt z v a line command facts past u p
       → StepGoes z v a line command (place.Log p) facts past u
   log_goes_on p S I P part K well R =
       goes_by_place p (record { step = S; is = I; topics = P; part = part; knows = K; ready = R }) well

@@ -11,7 +11,7 @@ use Rattle.core_views.specs.declared.place.SlotChangePlace.TheVariants.{Release,
 use Rattle.core_views.specs.declared.place.BeginPlace.TheVariants as begins
 use Rattle.core_views.specs.declared.place.EndPlace.TheVariants as ends
 use Rattle.core_views.specs.declared.sizes.Sizes.{Sizes}
-use Rattle.core_views.specs.declared.trace.Command.TheVariants.{Access, ChangeHost, ClearLog, DeleteSlot, GetLog, Migrate, SetLog, SetSlot}
+use Rattle.core_views.specs.declared.trace.Command.TheVariants.{DeleteSlot, SetLog, SetSlot}
 use Rattle.core_views.specs.declared.trace.Line.{Line}
 use Rattle.core_views.specs.declared.trace.Command.{Command}
 use Rattle.core_views.specs.declared.migration.Migration.{Migration}
@@ -110,14 +110,10 @@ module _ (z : Sizes) (v : View) (a : ℕ) (line : Line) (command : Command) (fac
   -- A line that has something to do may be given up where no page is free.
   gives_up : (c : Command) (notes : Notes) → changes_slot c ≡ true → HasWork z facts (v.hand a).state.actor c
       → MayLeave z facts (v.hand a).state.actor c notes Starved
-  gives_up (Access gfn word op) notes is works = absurd (cc is)
-  gives_up (ChangeHost page change) notes is works = absurd (cc is)
-  gives_up (GetLog id) notes is works = absurd (cc is)
-  gives_up (Migrate call) notes is works = absurd (cc is)
-  gives_up (ClearLog id first count words) notes is works = absurd (cc is)
   gives_up (SetSlot id slot) notes is works = works
   gives_up (DeleteSlot id) notes is works = works
   gives_up (SetLog id on) notes is works = works
+  gives_up _ notes is works = absurd (cc is)
 
   -- A claim goes on, or there is no page free.
   claim_goes : (begun : Bool) (next : ClaimNext) → changes_slot u.line.command ≡ true → HasWork z facts (v.hand a).state.actor u.line.command
@@ -173,14 +169,7 @@ module _ (z : Sizes) (v : View) (a : ℕ) (line : Line) (command : Command) (fac
               ∙ ap (λ (b : Bool). if b && arms command then stage.HasArmed else stage.HasChanged) mode,
         );
       }
-      by (SetLog at false) is_ = no_log (SetLog at false) is_ refl refl
-      by (Access gfn word op) is_ = no_log (Access gfn word op) is_ refl refl
-      by (ChangeHost page change) is_ = no_log (ChangeHost page change) is_ refl refl
-      by (SetSlot at new_) is_ = no_log (SetSlot at new_) is_ refl refl
-      by (DeleteSlot at) is_ = no_log (DeleteSlot at) is_ refl refl
-      by (GetLog at) is_ = no_log (GetLog at) is_ refl refl
-      by (Migrate call) is_ = no_log (Migrate call) is_ refl refl
-      by (ClearLog at first count words) is_ = no_log (ClearLog at first count words) is_ refl refl
+      by c is_ = no_log c is_ refl refl
 
   publish_goes : changes_slot command ≡ true → IsStep z v a line command (place.SlotChange Publish) → Invariant z v → ReadyAt Publish → GoesAt Publish
   publish_goes changes S I R = let same = same_record Publish S I R in
@@ -242,14 +231,7 @@ module _ (z : Sizes) (v : View) (a : ℕ) (line : Line) (command : Command) (fac
         refines = record { slots = stays.slots; host = stays.host; memory = stays.memory; paused = stays.paused; idle = stays.idle };
         under = (R.under.0, ap (λ (b : Bool). if b then stage.HasArmed else stage.HasChanged) (sym arms_));
       }
-      by (SetLog at false) is on = absurd (cc on)
-      by (Access gfn word op) is on = absurd (cc on)
-      by (ChangeHost page change) is on = absurd (cc on)
-      by (SetSlot at new_) is on = absurd (cc on)
-      by (DeleteSlot at) is on = absurd (cc on)
-      by (GetLog at) is on = absurd (cc on)
-      by (Migrate call) is on = absurd (cc on)
-      by (ClearLog at first count words) is on = absurd (cc on)
+      by _ is on = absurd (cc on)
 
   -- Its answer is as its stage says.
   done_told : (s : Stage) → s ≡ changed_stage true command → u.line.command ≡ command → Tells z facts (v.hand a).state.actor u.line.command s Done

@@ -19,8 +19,8 @@ use Rattle.mmu_core.specs.machine.View.{word_in}
 use Rattle.mmu_core.proofs.pages.NoneBelow.{over_frame}
 use Rattle.mmu_core.proofs.pages.Standing.{spot_of}
 use Rattle.mmu_core.proofs.pages.TreePlaces.{all_reached}
-use Rattle.mmu_laws.specs.leaves.OpenFrames.{HasEmptied, HasOpen, flush_of, own_of}
-use Rattle.mmu_core.proofs.held.Emptied.{emptied_open}
+use Rattle.mmu_laws.specs.leaves.OpenFrames.{KeepsEmpty, HasOpen, flush_of, own_of}
+use Rattle.mmu_core.proofs.held.KeptEmpty.{empty_open}
 use Rattle.mmu_laws.proofs.leaves.LeafLaws.{from_root}
 
 pub open_frames_are_recorded : (z : Sizes) (w : World Held) (actor gfn : ℕ) → IsSound z w → actor < actors_of z → HasOpen w actor → IsIn (own_of w actor) gfn
@@ -31,12 +31,12 @@ pub open_frames_are_of_the_page : (z : Sizes) (w : World Held) (actor page : ℕ
     → (own_of w actor).page ≡ Some page → IsOfPage (word_in z w area.Pool) (word_in z w area.Slots 0) page (own_of w actor)
 open_frames_are_of_the_page z w actor page sound lt opened of_page = sound.topics.scopes actor page lt opened of_page
 
-pub open_frames_are_zapped : (z : Sizes) (w : World Held) (actor gfn low entry : ℕ) → IsSound z w → actor < actors_of z → HasEmptied w actor
+pub open_frames_are_zapped : (z : Sizes) (w : World Held) (actor gfn low entry : ℕ) → IsSound z w → actor < actors_of z → KeepsEmpty w actor
     → 1 ≤ (flush_of w actor).asked → IsIn (own_of w actor) gfn → LeadsTo (word_in z w area.Pool) 4 (word_in z w area.Root 0) gfn low entry
     → kind_of low entry ≡ entry_kind.Leaf → ⊥
 open_frames_are_zapped z w actor gfn low entry sound lt emptied asked is_in leads leaf =
     let I = sound.topics in
-    let small = (I.ranges actor gfn lt (emptied_open (hand_in mmu w actor).topics emptied) is_in).2 in
+    let small = (I.ranges actor gfn lt (empty_open (hand_in mmu w actor).topics emptied) is_in).2 in
     let end_ = from_root I.tree (let most = sound.holds.sizes.pool.1 in omega (arith, most)) gfn low entry small leads in
     let here : I.spot end_.0 ≡ over_frame low gfn = (spot_of I.up I.spot end_.0 _ end_.1).1 in
     subst (λ (p : Position). IsNoLeafIn (own_of w actor) p.level gfn (word_in z w area.Pool (pool_index end_.0 (entry_index gfn low)))) here
@@ -44,7 +44,7 @@ open_frames_are_zapped z w actor gfn low entry sound lt emptied asked is_in lead
     (omega arith, subst (λ (p : Position). gfn / level_span p.level ≡ p.prefix * 512 + entry_index gfn low) (sym here) (omega arith)))
     is_in (ap (kind_of low) end_.2 ∙ leaf)
 
-pub open_frames_are_flushed : (z : Sizes) (w : World Held) (actor v : ℕ) → IsSound z w → actor < actors_of z → HasEmptied w actor → v < z.vcpus
+pub open_frames_are_flushed : (z : Sizes) (w : World Held) (actor v : ℕ) → IsSound z w → actor < actors_of z → KeepsEmpty w actor → v < z.vcpus
     → v < (flush_of w actor).awaited → may_use (word_in z w area.State v) (hand_in mmu w v).topics.stay ≡ true
     → IsClean (own_of w actor) (hand_in mmu w v).cached.items
 open_frames_are_flushed z w actor v sound lt emptied there awaited may =

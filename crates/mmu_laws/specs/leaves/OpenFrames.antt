@@ -11,7 +11,7 @@ use Rattle.spte_words.specs.declared.area.Area.TheVariants as area
 use Rattle.spte_words.specs.declared.spte_kind.SpteKind.TheVariants as entry_kind
 use Rattle.spte_words.specs.Entries.{kind_of}
 use Rattle.mmu_core.specs.alone.FaultAlone.{LeadsTo}
-use Rattle.mmu_core.specs.invariant.InvalidatedPart.{IsClean, IsIn, IsOfPage, has_emptied, may_use}
+use Rattle.mmu_core.specs.invariant.InvalidatedPart.{IsClean, IsIn, IsOfPage, keeps_empty, may_use}
 use Rattle.mmu_core.specs.invariant.Laws.{IsSound}
 use Rattle.mmu_core.specs.machine.Enabled.{mmu}
 use Rattle.mmu_core.specs.machine.Machine.{World, hand_in}
@@ -41,18 +41,18 @@ OpenFramesAreOfThePage =
     → IsOfPage (word_in z w area.Pool) (word_in z w area.Slots 0) page (own_of w actor)
 
 -- It is open, of a host page; or it is of a slot, and its actor has yet to publish the slot set that takes the place of the one with this slot.
-abbrev pub HasEmptied : World Held → ℕ → Type 0
-HasEmptied w actor = has_emptied (hand_in mmu w actor).topics ≡ true
+abbrev pub KeepsEmpty : World Held → ℕ → Type 0
+KeepsEmpty w actor = keeps_empty (hand_in mmu w actor).topics ≡ true
 
 -- Once its actor has asked for a first flush, no links lead such a guest frame from the root to a leaf; of a slot's, up to the publication.
 abbrev pub OpenFramesAreZapped : Type 0
 OpenFramesAreZapped =
-    (z : Sizes) (w : World Held) (actor gfn at entry : ℕ) → IsSound z w → actor < actors_of z → HasEmptied w actor → 1 ≤ (flush_of w actor).asked
+    (z : Sizes) (w : World Held) (actor gfn at entry : ℕ) → IsSound z w → actor < actors_of z → KeepsEmpty w actor → 1 ≤ (flush_of w actor).asked
     → IsIn (own_of w actor) gfn → LeadsTo (word_in z w area.Pool) 4 (word_in z w area.Root 0) gfn at entry → kind_of at entry ≡ entry_kind.Leaf → ⊥
 
 -- A virtual processor that its actor has awaited has nothing cached of such a guest frame, where it may use what it has cached; of a slot's, up to the
 -- publication.
 abbrev pub OpenFramesAreFlushed : Type 0
 OpenFramesAreFlushed =
-    (z : Sizes) (w : World Held) (actor v : ℕ) → IsSound z w → actor < actors_of z → HasEmptied w actor → v < z.vcpus → v < (flush_of w actor).awaited
+    (z : Sizes) (w : World Held) (actor v : ℕ) → IsSound z w → actor < actors_of z → KeepsEmpty w actor → v < z.vcpus → v < (flush_of w actor).awaited
     → may_use (word_in z w area.State v) (hand_in mmu w v).topics.stay ≡ true → IsClean (own_of w actor) (hand_in mmu w v).cached.items

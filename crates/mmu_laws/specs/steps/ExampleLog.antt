@@ -1,6 +1,5 @@
 -- A run in which a slot gets a dirty log while a fault is under way that has found none, and writes are logged.
 use Rattle.std.specs.Prelude.{◌≡◌, List, [], ◌∷◌, ◌++◌, replicate, codes, ℕ, Bool, Some, false, true}
-use Rattle.core_views.specs.declared.actor.Actor.TheVariants.{Manager}
 use Rattle.core_views.specs.declared.answer.Answer.TheVariants.{Done, Reached}
 use Rattle.core_views.specs.declared.event.Event.{Event}
 use Rattle.core_views.specs.declared.event.EventKind.TheVariants.{Accessed, Answered, Armed, Begun, LookedAtHost, LookedAtPause, LookedAtSlots, SlotChanged}
@@ -9,7 +8,7 @@ use Rattle.core_views.specs.declared.trace.Line.{Line}
 use Rattle.core_views.specs.declared.trace.Op.TheVariants.{Write}
 use Rattle.core_views.specs.FlatHistory.{by}
 use Rattle.core_views.specs.Text.{text}
-use Rattle.flat_laws.specs.Laws.{access_line, example_slot}
+use Rattle.flat_laws.specs.Laws.{access_line, example_slot, manage}
 use Rattle.spte_words.specs.declared.area.Area.TheVariants as area
 use Rattle.spte_words.specs.Areas.{pool_index}
 use Rattle.spte_words.specs.Entries.{leaf_word}
@@ -22,7 +21,7 @@ abbrev pub write_beside : Line
 write_beside = access_line 4 1 7 1 (Write 5)
 
 abbrev pub log_line : ℕ → Bool → Line
-log_line number on = record { number = number; actor = Manager; command = SetLog 0 on }
+log_line number on = manage number (SetLog 0 on)
 
 abbrev pub log_on : Line
 log_on = log_line 5 true

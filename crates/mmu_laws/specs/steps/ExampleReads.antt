@@ -1,17 +1,15 @@
 -- Runs in which a dirty log is read while its slot is written, and in which one is shown and cleared by hand.
 use Rattle.std.specs.Prelude.{◌≡◌, List, [], ◌∷◌, ◌++◌, replicate, codes, ℕ, Some, false, true}
-use Rattle.core_views.specs.declared.actor.Actor.TheVariants.{Manager}
 use Rattle.core_views.specs.declared.answer.Answer.TheVariants.{Bits, Done, Reached}
 use Rattle.core_views.specs.declared.event.Event.{Event}
 use Rattle.core_views.specs.declared.event.EventKind.TheVariants.{Accessed, Answered, Armed, Begun, Harvested, LookedAtHost, LookedAtPause, LookedAtSlots}
 use Rattle.core_views.specs.declared.event.EventKind.TheVariants.{Shown, SlotChanged, Taken}
-use Rattle.core_views.specs.declared.trace.Command.{Command}
 use Rattle.core_views.specs.declared.trace.Command.TheVariants.{ClearLog, GetLog}
 use Rattle.core_views.specs.declared.trace.Line.{Line}
 use Rattle.core_views.specs.declared.trace.Op.TheVariants.{Write}
 use Rattle.core_views.specs.FlatHistory.{by}
 use Rattle.core_views.specs.Text.{text}
-use Rattle.flat_laws.specs.Laws.{access_line, example_slot}
+use Rattle.flat_laws.specs.Laws.{access_line, example_slot, manage}
 use Rattle.spte_words.specs.declared.area.Area.TheVariants as area
 use Rattle.spte_words.specs.Areas.{pool_index}
 use Rattle.spte_words.specs.Entries.{leaf_word}
@@ -29,14 +27,11 @@ log_begun = log_line 4 true
 abbrev pub write_read : Line
 write_read = access_line 5 0 6 0 (Write 9)
 
-abbrev pub read_line : ℕ → Command → Line
-read_line number command = record { number = number; actor = Manager; command = command }
-
 abbrev pub get_before : Line
-get_before = read_line 6 (GetLog 0)
+get_before = manage 6 (GetLog 0)
 
 abbrev pub get_after : Line
-get_after = read_line 7 (GetLog 0)
+get_after = manage 7 (GetLog 0)
 
 abbrev pub read_lines : List Line
 read_lines = set_line ∷ write_first ∷ log_begun ∷ write_read ∷ get_before ∷ get_after ∷ []
@@ -83,13 +78,13 @@ read_events =
 
 -- Each of the three pages is dirty as the log begins; a get shows them, a clear takes the second one, and a get shows the others.
 abbrev pub show_all : Line
-show_all = read_line 4 (GetLog 0)
+show_all = manage 4 (GetLog 0)
 
 abbrev pub clear_second : Line
-clear_second = read_line 5 (ClearLog 0 0 3 (2 ∷ []))
+clear_second = manage 5 (ClearLog 0 0 3 (2 ∷ []))
 
 abbrev pub show_others : Line
-show_others = read_line 6 (GetLog 0)
+show_others = manage 6 (GetLog 0)
 
 abbrev pub log_shown : Line
 log_shown = log_line 3 true

@@ -9,6 +9,7 @@ use Rattle.core_views.specs.Flat.{Facts, Flat, HasTaken, Stage, first_facts, fir
 use Rattle.core_views.specs.Harvests.{IsHarvest}
 use Rattle.core_views.specs.LogCommands.{is_among, words_of}
 use Rattle.core_views.specs.Past.{Past}
+use Rattle.flat_laws.specs.Laws.{manage}
 use Rattle.flat_laws.specs.SlotLines.{open_slot}
 use Rattle.core_views.specs.Slots.{contains, page_behind}
 use Rattle.core_views.specs.SlotSets.{flat_slots, slot_of_id}
@@ -29,7 +30,7 @@ use Rattle.core_views.specs.Names.{named_frame}
 use Rattle.flat_laws.proofs.AloneIsLawful.{lawful_append, one_by_one_lawful, lawful_parts}
 use Rattle.flat_laws.proofs.Caused.{first_caused}
 use Rattle.flat_laws.proofs.Writes.{first_of_lines}
-use Rattle.log_laws.specs.LogTraces.{log_line, log_sizes, with_log}
+use Rattle.log_laws.specs.LogTraces.{log_sizes, with_log}
 use Rattle.log_laws.specs.UnlawfulReadings.{get_of, other_line, race, whole_line, write_line}
 use Rattle.log_laws.proofs.laws.unlawful_readings_are_refused.Goals as goal
 
@@ -154,13 +155,13 @@ abbrev other_writes : List Event
 other_writes = whole_line other_line (LookedAtPause ∷ LookedAtSlots ∷ LookedAtHost 1 ∷ Accessed 1 0 (Write 8) 1 0 ∷ []) (Reached 1 0)
 
 abbrev first_get : List Event
-first_get = get_of (log_line 6 (GetLog 0)) [] (0 ∷ [])
+first_get = get_of (manage 6 (GetLog 0)) [] (0 ∷ [])
 
 abbrev writes : List Event
 writes = map (by write_line) (Accessed 1 0 (Write 7) 1 8 ∷ Answered 4 (Reached 1 8) ∷ [])
 
 abbrev next_get : List Event
-next_get = get_of (log_line 7 (GetLog 0)) (1 ∷ []) (2 ∷ [])
+next_get = get_of (manage 7 (GetLog 0)) (1 ∷ []) (2 ∷ [])
 
 -- the states between them
 
@@ -197,5 +198,5 @@ returns-clause-race c =
 
 pub returns-clause-next : goal.returns-clause-next
 returns-clause-next c lawful =
-    let then_ = (lawful_parts sizes race (get_of (log_line 7 (GetLog 0)) [] (0 ∷ [])) first_flat lawful).1 in
+    let then_ = (lawful_parts sizes race (get_of (manage 7 (GetLog 0)) [] (0 ∷ [])) first_flat lawful).1 in
     let read : is_among 1 [] ≡ true = must_read _ _ 0 1 [] logged_slot (harvest_of _ _ _ _ _ _ then_.1.1.0) refl refl refl in absurd (cc read)

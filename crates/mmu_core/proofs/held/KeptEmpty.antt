@@ -4,14 +4,14 @@ use Rattle.std.specs.Prelude.{Bool, true, false, ◌&&◌, ◌||◌, not, Option
 use Rattle.core_views.specs.declared.topics.OwnedPage.{OwnedPage}
 use Rattle.core_views.specs.declared.topics.Topics.{Topics}
 use Rattle.part_steps.specs.PageTopics.{given_back, still_retired}
-use Rattle.mmu_core.specs.invariant.InvalidatedPart.{has_emptied}
+use Rattle.mmu_core.specs.invariant.InvalidatedPart.{keeps_empty}
 use Rattle.mmu_core.proofs.lines.FaultSame.{both}
 
-pub emptied_open : (t : Topics) → has_emptied t ≡ true → t.invalidations.opened ≡ true
-emptied_open t is = (both t.invalidations.opened (is_some t.invalidations.own.page || not (is_some t.retired)) is).0
+pub empty_open : (t : Topics) → keeps_empty t ≡ true → t.invalidations.opened ≡ true
+empty_open t is = (both t.invalidations.opened (is_some t.invalidations.own.page || not (is_some t.retired)) is).0
 
-pub page_emptied : (t : Topics) (page : ℕ) → t.invalidations.opened ≡ true → t.invalidations.own.page ≡ Some page → has_emptied t ≡ true
-page_emptied t page opened of_page =
+pub page_empty : (t : Topics) (page : ℕ) → t.invalidations.opened ≡ true → t.invalidations.own.page ≡ Some page → keeps_empty t ≡ true
+page_empty t page opened of_page =
     ap (λ (b : Bool). b && (is_some t.invalidations.own.page || not (is_some t.retired))) opened
     ∙ ap (λ (p : Option ℕ). is_some p || not (is_some t.retired)) of_page
 
@@ -19,11 +19,11 @@ by_none : (p r : Option ℕ) → r ≡ None → (is_some p || not (is_some r)) �
 by_none (Some page) r none = refl
 by_none None r none = ap (λ (x : Option ℕ). not (is_some x)) none
 
-pub slot_emptied : (t : Topics) → t.invalidations.opened ≡ true → t.retired ≡ None → has_emptied t ≡ true
-slot_emptied t opened none =
+pub slot_empty : (t : Topics) → t.invalidations.opened ≡ true → t.retired ≡ None → keeps_empty t ≡ true
+slot_empty t opened none =
     ap (λ (b : Bool). b && (is_some t.invalidations.own.page || not (is_some t.retired))) opened ∙ by_none t.invalidations.own.page t.retired none
 
--- Behind a publication it has none any more.
+-- After a publication it has none any more.
 pub published_none : (opened : Bool) (page : Option ℕ) → (opened ≡ true → page ≡ None) → (opened && (is_some page || false)) ≡ true → ⊥
 published_none true (Some page) none is = let no = none refl in cc no
 published_none true None none is = cc is
@@ -34,6 +34,6 @@ still_there : (owned : Option OwnedPage) (retired : Option ℕ) → is_some owne
 still_there None retired some = absurd (cc some)
 still_there (Some o) retired some = refl
 
-pub given_emptied : (t : Topics) → is_some t.owned ≡ true → has_emptied (given_back t) ≡ true → has_emptied t ≡ true
-given_emptied t some is =
+pub given_empty : (t : Topics) → is_some t.owned ≡ true → keeps_empty (given_back t) ≡ true → keeps_empty t ≡ true
+given_empty t some is =
     subst (λ (r : Option ℕ). (t.invalidations.opened && (is_some t.invalidations.own.page || not (is_some r))) ≡ true) (still_there t.owned t.retired some) is
