@@ -7,8 +7,8 @@ ghost use Rattle.step_seats.specs.PartTurns.{MadeTelling};
 
 use crate::lock::{try_exclusive, unlock};
 use core_views::Seen;
-use mmu_steps::{part_rests, part_waits};
-use part_steps::{PartStep, map_of};
+use mmu_steps::{part_rests, saw_open};
+use part_steps::map_of;
 use spte_words::Area;
 use step_seats::Stepper;
 
@@ -40,7 +40,7 @@ pub fn release<S: Stepper>(s: &mut S, note: u64) -> Option<Seen>
     part_rests(hand);
     let word = map_of(&hand.progress().sizes).word_of_count(0);
     let value = hand.topics().invalidations.count;
-    let waits = part_waits(PartStep::Release, hand.topics(), 0);
+    let waits = saw_open(&hand.topics().invalidations);
     unlock(s, note);
     if waits {
         Some(Seen { word, value })

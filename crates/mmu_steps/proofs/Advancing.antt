@@ -38,13 +38,18 @@ use Rattle.mmu_core.proofs.machine.Sized.{loads_keep_sizes}
 use Rattle.mmu_core.specs.machine.Steps.{has_line, held_after, idle_after, line_after, line_at, next, next_line, place_at, standing, task_at, task_of}
 use Rattle.part_steps.specs.TopicSteps.{HasRoom, topics_after}
 use Rattle.mmu_core.proofs.machine.Views.{named_is}
-use Rattle.mmu_core.proofs.machine.Which.{next_of_line, next_of_part}
+use Rattle.mmu_core.proofs.machine.Which.{is_next, next_of_line, next_of_part}
+use Rattle.mmu_core.specs.lines.Delays.{line_waits}
 use Rattle.part_steps.specs.PartSteps.{needs_line}
 
 pub enabled_sizes : (h : Held) (k : Kind) → Enabled h k → AreSizes h.state.sizes
 unfolding Enabled
 enabled_sizes h k (inl e) = e.rests.part.sizes
 enabled_sizes h k (inr e) = e.sizes
+
+-- Where a line is left, the hand holds what this line rests on.
+pub line_rests : (h : Held) (k : Kind) → Enabled h k → has_line h ≡ true → Rests h
+line_rests h k e has = (is_next h k e has).rests
 
 -- the span of a guest frame is a small number
 pub span_small : (gfn : ℕ) (walk : TableWalk) → IsOver gfn walk → walk.prefix < 2 ^ 36
@@ -143,6 +148,13 @@ module _ (h : Held) (rests : has_line h ≡ true → Rests h) (has : has_line h 
   made_here x v made =
       made ∙ ap (λ (q : Place). line_after (next_line h) q h v) (sym place_here)
       ∙ ap (λ (l : Line). line_after l (place_at h.state.place h) h v) (sym same_line)
+
+  -- The step waits as the line does at this place.
+  pub waits_here : (waits : Bool) (v : ℕ) → waits ≡ line_waits (place_at h.state.place h) (line_at h.state.place h).command h v
+      → waits ≡ line_waits p (next_line h).command h v
+  waits_here waits v is =
+      is ∙ ap (λ (q : Place). line_waits q (line_at h.state.place h).command h v) place_here
+      ∙ ap (λ (l : Line). line_waits p l.command h v) same_line
 
 -- Behind the line's step, where a line is left, come the flush and the topics, and make the hand that the step leads to.
 module _ (h g : Held) (k : Kind) (v : ℕ) (enabled : Enabled h k)

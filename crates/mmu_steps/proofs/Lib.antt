@@ -4,3 +4,4 @@ pub mod FirstUsable
 pub mod LineMade
 pub mod LogMade
 pub mod SweptBounds
+pub mod KindWaits

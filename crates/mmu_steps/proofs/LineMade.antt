@@ -1,5 +1,5 @@
 -- The hand that a line's step makes, field by field.
-use Rattle.std.specs.Prelude.{◌≢◌, Bool}
+use Rattle.std.specs.Prelude.{◌≢◌, Bool, ◌&&◌, ◌||◌}
 use Rattle.std.proofs.Common.{◌≡◌, ℕ, suc, List, [], ◌∷◌, ◌++◌, length, refl, sym, ap, ◌∙◌, arith}
 use Rattle.std.proofs.lemmas.List.{length_push}
 use Rattle.circular_buffer.specs.Buffer.{Buffer}
@@ -21,7 +21,7 @@ use Rattle.core_views.specs.Held.{Held, line_under, next_line, progress_of}
 use Rattle.core_views.specs.SlotSets.{MemorySlots}
 use Rattle.mmu_core.specs.declared.outcome.Outcome.{Outcome}
 use Rattle.mmu_core.specs.lines.AccessSteps.{access_caches}
-use Rattle.mmu_core.specs.lines.Delays.{counted, delays_counted, is_delay, steps_counted}
+use Rattle.mmu_core.specs.lines.Delays.{begins_anew, counted, delays_counted, is_delay, leaves_to_fault, line_waits, steps_counted, walks_again}
 use Rattle.mmu_core.specs.lines.Rests.{IsUnderWay}
 use Rattle.mmu_core.specs.machine.Steps.{delays_at, line_after}
 use Rattle.mmu_core.specs.lines.Forms.{caches_at, loads_at, outcome_at, reads_at, records_at}
@@ -99,6 +99,12 @@ line_made h f line p q l v used slots o delay steps delays answers o_is used_is 
 
     cached : Held
     cached = with_cached h (caches_at p line.command h v) (records_at p line.command h.slots)
+
+-- The step is a delay of its line where it waits, by the line's own command.
+pub delay_is : (p : Place) (c d : Command) (h : Held) (o : Outcome) (v : ℕ) (waits delay : Bool) → c ≡ d → waits ≡ line_waits p d h v
+    → delay ≡ (waits || (begins_anew p || (walks_again p && leaves_to_fault o))) → delay ≡ is_delay p c h o v
+delay_is p c d h o v waits delay same waits_is is =
+    is ∙ ap (λ (b : Bool). b || (begins_anew p || (walks_again p && leaves_to_fault o))) (waits_is ∙ ap (λ (x : Command). line_waits p x h v) (sym same))
 
 -- What was read stays where the line reads no log.
 pub reads_same : (p : Place) (command : Command) (h : Held) (v : ℕ) → ((q : LogPlace) → p ≢ place.Log q) → reads_at p command h v ≡ h.harvest

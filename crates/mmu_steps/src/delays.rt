@@ -1,12 +1,9 @@
 //! What a line counts: its steps since it began or since its last delay, and
 //! its delays.
-ghost use Rattle.std.specs.Prelude.{◌≡◌};
-ghost use Rattle.mmu_core.specs.lines.Delays.{begins_anew, counted, delays_counted, is_delay, leaves_to_fault, one_more, steps_counted, walks_again};
-ghost use Rattle.mmu_core.specs.lines.Forms.{RestsAt};
-ghost use Rattle.part_steps.specs.PartBounds.{PartRests};
+ghost use Rattle.std.specs.Prelude.{◌≡◌, ◌&&◌, ◌||◌};
+ghost use Rattle.mmu_core.specs.lines.Delays.{begins_anew, counted, delays_counted, leaves_to_fault, one_more, steps_counted, walks_again};
 
-use crate::waits::line_waits;
-use core_views::{AccessPlace, FaultEnd, FaultPlace, Hand, Leaving, Line, Place};
+use core_views::{AccessPlace, FaultEnd, FaultPlace, Hand, Leaving, Place};
 use mmu_core::Outcome;
 
 // The line's fault ends with the step of this place, and begins anew.
@@ -41,20 +38,10 @@ fn leaves_to_fault(outcome: &Outcome) -> bool
 
 /// The step of this place is a delay of its line: the line waits, its fault
 /// begins anew, or the stay after an installed entry finds no translation.
-pub(crate) fn is_delay(
-    place: Place,
-    line: &Line,
-    hand: &Hand,
-    outcome: &Outcome,
-    found: u64,
-) -> bool
-    requires part { PartRests hand.now.core }
-    requires rests { RestsAt place line.now.command hand.now.core }
-    ensures { result ≡ is_delay place line.now.command hand.now.core outcome.now found }
+pub(crate) fn is_delay(waits: bool, place: Place, outcome: &Outcome) -> bool
+    ensures { result ≡ (waits || (begins_anew place || (walks_again place && leaves_to_fault outcome.now))) }
 {
-    line_waits(place, line, hand, found)
-        || begins_anew(place)
-        || walks_again(place) && leaves_to_fault(outcome)
+    waits || begins_anew(place) || walks_again(place) && leaves_to_fault(outcome)
 }
 
 // What has been counted where the line's next step comes.

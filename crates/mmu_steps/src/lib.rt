@@ -29,4 +29,4 @@ pub use log::{log_frame, log_place, log_step, note as log_note};
 pub use parts::{allows, may_make, part_rests};
 pub use slot_change::{arm_step, change_place, note as change_note};
 pub use step::{advance, asks_flush, next_kind, next_step};
-pub use waits::{part_waits, waits_by};
+pub use waits::{Waiting, saw_open};

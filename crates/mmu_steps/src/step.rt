@@ -6,6 +6,7 @@ ghost use Rattle.core_views.specs.Sizes.{AreSizes};
 ghost use Rattle.core_views.specs.Traces.{IsCommandFor};
 ghost use Rattle.mmu_core.specs.lines.Forms.{AcceptsAt, RestsAt, part_at, caches_at, first_place, loads_at, outcome_at, records_at};
 ghost use Rattle.mmu_core.specs.lines.AccessSteps.{use_found};
+ghost use Rattle.mmu_core.specs.lines.Delays.{line_waits};
 ghost use Rattle.mmu_core.specs.lines.Rests.{IsUnderWay, Rests};
 ghost use Rattle.mmu_core.specs.machine.Enabled.{Enabled};
 ghost use Rattle.mmu_core.specs.machine.Steps.{has_line, line_after, line_at, next, next_line, place_at, standing, task_at};
@@ -18,7 +19,7 @@ ghost use Rattle.part_steps.specs.TopicSteps.{HasRoom, topics_after};
 ghost use Rattle.spte_words.specs.Areas.{size_of};
 
 use crate::delays::{delays_behind, is_delay, steps_behind};
-use crate::waits::line_waits;
+use crate::waits::Waiting;
 use crate::{access, host, log, slot_change};
 use core_views::{
     AccessPlace, Answer, AnsweredLine, Command, Hand, Kind, Line, LogPlace, Place, StepKind,
@@ -189,7 +190,7 @@ fn used_behind(found: Option<Translation>, hand: &Hand) -> Translation
 
 // The effect of a line's step on the hand, but for its topics and for a flush, where it reads
 // no log.
-fn advance_line(hand: &mut Hand, place: Place, found: u64)
+fn advance_line(hand: &mut Hand, place: Place, waits: bool, found: u64)
     requires left { length hand.old.core.answers < length hand.old.core.lines }
     requires part { PartRests hand.old.core }
     requires line { IsCommandFor hand.old.core.state.sizes (next_line hand.old.core).actor (next_line hand.old.core).command }
@@ -197,6 +198,7 @@ fn advance_line(hand: &mut Hand, place: Place, found: u64)
     requires begun { IsUnderWay place }
     requires accepts { AcceptsAt place (next_line hand.old.core).command hand.old.core.state.sizes hand.old.core.slots }
     requires other { (p : LogPlace) → place ≢ at.Log p }
+    requires waits { waits ≡ line_waits place (next_line hand.old.core).command hand.old.core found }
     requires room { 0 < hand.old.room }
     ensures core { hand.new.core ≡ line_after (next_line hand.old.core) place hand.old.core found }
     ensures room { length hand.new.core.answers + hand.new.room ≡ length hand.old.core.answers + hand.old.room }
@@ -205,7 +207,7 @@ fn advance_line(hand: &mut Hand, place: Place, found: u64)
     let (number, actor) = (line.number, line.actor);
     let (outcome, translation) = outcome(place, line, hand, found);
     let used = used_behind(translation, hand);
-    let delay = is_delay(place, line, hand, &outcome, found);
+    let delay = is_delay(waits, place, &outcome);
     let steps = steps_behind(delay, hand);
     let delays = delays_behind(delay, hand);
     record_step(place, hand);
@@ -224,10 +226,11 @@ fn advance_line(hand: &mut Hand, place: Place, found: u64)
 }
 
 // The effect of a step of a line that reads a log on the hand, but for its topics.
-fn advance_log(hand: &mut Hand, place: LogPlace, found: u64)
+fn advance_log(hand: &mut Hand, place: LogPlace, waits: bool, found: u64)
     requires left { length hand.old.core.answers < length hand.old.core.lines }
     requires part { PartRests hand.old.core }
     requires rests { RestsAt (at.Log place) (next_line hand.old.core).command hand.old.core }
+    requires waits { waits ≡ line_waits (at.Log place) (next_line hand.old.core).command hand.old.core found }
     requires room { 0 < hand.old.room }
     ensures core { hand.new.core ≡ line_after (next_line hand.old.core) (at.Log place) hand.old.core found }
     ensures room { length hand.new.core.answers + hand.new.room ≡ length hand.old.core.answers + hand.old.room }
@@ -235,9 +238,8 @@ fn advance_log(hand: &mut Hand, place: LogPlace, found: u64)
     let line = hand.line();
     let (number, actor) = (line.number, line.actor);
     let next = log::next(place, &line.command, hand, found);
-    let delay = line_waits(Place::Log(place), line, hand, found);
-    let steps = steps_behind(delay, hand);
-    let delays = delays_behind(delay, hand);
+    let steps = steps_behind(waits, hand);
+    let delays = delays_behind(waits, hand);
     let used = hand.progress().used;
     log::read(place, hand, found);
     match next {
@@ -260,8 +262,8 @@ fn advance_log(hand: &mut Hand, place: LogPlace, found: u64)
 
 // The step of the hand's line, where it has one left.
 #[inline(never)]
-fn step_line(hand: &mut Hand, found: u64)
-    requires rests { has_line hand.old.core ≡ true → Rests hand.old.core }
+fn step_line(hand: &mut Hand, kind: Kind, found: u64)
+    requires enabled { Enabled hand.old.core kind }
     requires room { 0 < hand.old.room }
     ensures line { has_line hand.old.core ≡ true → hand.new.core
         ≡ line_after (line_at hand.old.core.state.place hand.old.core) (place_at hand.old.core.state.place hand.old.core) hand.old.core found }
@@ -269,10 +271,11 @@ fn step_line(hand: &mut Hand, found: u64)
     ensures room { length hand.new.core.answers + hand.new.room ≡ length hand.old.core.answers + hand.old.room }
 {
     if hand.has_line() {
+        let waits = Waiting::of(kind, hand).waits(found);
         let place = place_of(hand, hand.line());
         match place {
-            Place::Log(place) => advance_log(hand, place, found),
-            _ => advance_line(hand, place, found),
+            Place::Log(place) => advance_log(hand, place, waits, found),
+            _ => advance_line(hand, place, waits, found),
         }
     }
 }
@@ -317,7 +320,7 @@ pub fn advance(hand: &mut Hand, kind: Kind, found: u64)
     ensures core { hand.new.core ≡ next hand.old.core kind found }
     ensures room { length hand.new.core.answers + hand.new.room ≡ length hand.old.core.answers + hand.old.room }
 {
-    step_line(hand, found);
+    step_line(hand, kind, found);
     flush(hand, kind, found);
     advance_topics(hand, kind, found);
 }

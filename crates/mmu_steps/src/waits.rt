@@ -1,14 +1,13 @@
 //! Which steps wait for another actor.
-ghost use Rattle.std.specs.Prelude.{◌≡◌, ◌<◌, Some};
-ghost use Rattle.mmu_core.specs.lines.Delays.{line_waits, waits_by};
-ghost use Rattle.mmu_core.specs.lines.PartWaits.{own_open, part_waits, saw_open};
-ghost use Rattle.mmu_core.specs.lines.Forms.{RestsAt};
-ghost use Rattle.part_steps.specs.declared.part_step.PartStep.TheVariants.{Claim, Frame};
-ghost use Rattle.part_steps.specs.PartBounds.{PartRests};
+ghost use Rattle.std.specs.Prelude.{◌≡◌, ◌<◌, length};
+ghost use Rattle.core_views.specs.Sizes.{AreSizes};
+ghost use Rattle.mmu_core.specs.lines.PartWaits.{own_open, saw_open};
+ghost use Rattle.mmu_core.specs.machine.Enabled.{Enabled};
+ghost use Rattle.mmu_steps.specs.Waits.{HasTried, WaitsAsLine, seen_in, waiting_at, waits};
 
-use crate::step::part_of;
-use core_views::{Checked, Hand, Hold, Invalidations, Line, Place, Topics};
-use part_steps::{PartStep, has_to_flush, in_section, is_won};
+use core_views::{Checked, Hand, Hold, Invalidations, Kind, MapClaim, Seen, StepKind};
+use part_steps::{has_to_flush, in_section, is_won, map_of};
+use spte_words::Area;
 
 // How many are open of the actor's own.
 pub(crate) fn own_open(invalidations: &Invalidations) -> u64
@@ -17,53 +16,103 @@ pub(crate) fn own_open(invalidations: &Invalidations) -> u64
     if invalidations.opened { 1 } else { 0 }
 }
 
-// It saw that others are open.
-fn saw_open(invalidations: &Invalidations) -> bool
+/// Under the lock it saw that invalidations of others are open.
+pub fn saw_open(invalidations: &Invalidations) -> bool
     ensures { result ≡ saw_open invalidations.now }
 {
     invalidations.checked == Checked::Count && own_open(invalidations) < invalidations.count
 }
 
-/// The step waits for another actor: it takes back the try for the lock that
-/// found a writer, the page or frame that it tries is gone, it finds the lock taken, it
-/// gives the lock back under which it saw invalidations of others open, it finds another
-/// actor in the guest or in a section, or a virtual processor that has yet to flush.
-pub fn part_waits(step: PartStep, topics: &Topics, found: u64) -> bool
-    requires seen { step ≡ Claim → 0 < topics.now.claim.seen }
-    requires frame_seen { step ≡ Frame → 0 < topics.now.frames.claim.seen }
-    ensures { result ≡ part_waits step topics.now found }
-{
-    match step {
-        PartStep::Unshare => matches!(topics.hold, Hold::Owing(_)),
-        PartStep::Claim => !is_won(&topics.claim, found),
-        PartStep::Frame => !is_won(&topics.frames.claim, found),
-        PartStep::Exclude => found != 0,
-        PartStep::Release => saw_open(&topics.invalidations),
-        PartStep::Watch(_) => in_section(found),
-        PartStep::Await(_) => has_to_flush(found),
-        _ => false,
-    }
+/// When a step waits for another actor, told before it is made.
+#[derive(Clone, Copy, Drop)]
+pub enum Waiting {
+    /// It never waits.
+    Never,
+    /// It waits whatever it finds, since its actor has seen this before.
+    Always(Seen),
+    /// Where the page or the frame that it tries is gone.
+    Unwon(MapClaim),
+    /// Where the lock is held.
+    Locked,
+    /// Where another actor is in a section or in the guest.
+    InSection,
+    /// Where a virtual processor is in the guest, and has yet to flush.
+    Unflushed,
 }
 
-/// The step of a line waits, which is the step of a part or none; the touch of a
-/// content word never does.
-pub fn waits_by(step: Option<PartStep>, topics: &Topics, found: u64) -> bool
-    requires seen { step ≡ Some Claim → 0 < topics.now.claim.seen }
-    requires frame_seen { step ≡ Some Frame → 0 < topics.now.frames.claim.seen }
-    ensures { result ≡ waits_by step topics.now found }
-{
-    match step {
-        Some(step) => part_waits(step, topics, found),
-        None => false,
+impl Waiting {
+    // By the kind of a step.
+    fn by_kind(kind: StepKind, hand: &Hand) -> Self
+        requires { AreSizes hand.now.core.state.sizes }
+        ensures { result ≡ waiting_at kind hand.now.core }
+    {
+        let topics = hand.topics();
+        let sizes = &hand.progress().sizes;
+        match kind {
+            StepKind::Unshare => match topics.hold {
+                Hold::Owing(value) => Waiting::Always(Seen {
+                    word: map_of(sizes).word_of(Area::Lock, 0),
+                    value,
+                }),
+                _ => Waiting::Never,
+            },
+            StepKind::Release => {
+                if saw_open(&topics.invalidations) {
+                    Waiting::Always(Seen {
+                        word: map_of(sizes).word_of(Area::Count, 0),
+                        value: topics.invalidations.count,
+                    })
+                } else {
+                    Waiting::Never
+                }
+            }
+            StepKind::Claim => Waiting::Unwon(topics.claim),
+            StepKind::Frame => Waiting::Unwon(topics.frames.claim),
+            StepKind::Exclude => Waiting::Locked,
+            StepKind::Watch => Waiting::InSection,
+            StepKind::Await => Waiting::Unflushed,
+            _ => Waiting::Never,
+        }
     }
-}
 
-/// The step of a line waits for another actor, where it found this: it is the
-/// step of a part that waits, whatever the line is.
-pub(crate) fn line_waits(place: Place, line: &Line, hand: &Hand, found: u64) -> bool
-    requires part { PartRests hand.now.core }
-    requires rests { RestsAt place line.now.command hand.now.core }
-    ensures { result ≡ line_waits place line.now.command hand.now.core found }
-{
-    waits_by(part_of(place, line, hand), hand.topics(), found)
+    /// When the hand's next step waits, which is this one: it takes back the try for the lock
+    /// that found a writer, the page or frame that it tries is gone, it finds the lock taken, it
+    /// gives the lock back under which it saw invalidations of others open, it finds another
+    /// actor in the guest or in a section, or a virtual processor that has yet to flush.
+    pub fn of(kind: Kind, hand: &Hand) -> Self
+        requires left { length hand.now.core.answers < length hand.now.core.lines }
+        requires enabled { Enabled hand.now.core kind }
+        ensures tried { HasTried result }
+        ensures waits { WaitsAsLine result kind hand.now.core }
+    {
+        Waiting::by_kind(kind.named(), hand)
+    }
+
+    /// Whether the step waits that answered `found`.
+    pub fn waits(&self, found: u64) -> bool
+        requires { HasTried self.now }
+        ensures { result ≡ waits self.now found }
+    {
+        match self {
+            Waiting::Never => false,
+            Waiting::Always(_) => true,
+            Waiting::Unwon(claim) => !is_won(claim, found),
+            Waiting::Locked => found != 0,
+            Waiting::InSection => in_section(found),
+            Waiting::Unflushed => has_to_flush(found),
+        }
+    }
+
+    /// What it has then seen, and in which word.
+    pub fn seen(&self, kind: Kind, found: u64) -> Seen
+        ensures { result ≡ seen_in self.now kind found }
+    {
+        match self {
+            Waiting::Always(seen) => *seen,
+            _ => Seen {
+                word: kind.word,
+                value: found,
+            },
+        }
+    }
 }

@@ -9,5 +9,6 @@ pub mod Found
 pub mod ToldWords
 pub mod LineParts
 pub mod LineTurns
+pub mod OneTurn
 pub mod FaultTurns
 pub mod Answering

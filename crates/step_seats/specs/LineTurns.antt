@@ -7,9 +7,11 @@ use Rattle.core_views.specs.declared.answer.AnsweredLine.{AnsweredLine}
 use Rattle.core_views.specs.declared.hand.Seen.{Seen}
 use Rattle.core_views.specs.declared.kind.Kind.{Kind}
 use Rattle.core_views.specs.declared.place.AccessPlace.TheVariants.{Fault}
+use Rattle.core_views.specs.declared.place.Cause.{Cause}
 use Rattle.core_views.specs.declared.place.FaultEnd.TheVariants as end_of
 use Rattle.core_views.specs.declared.place.FaultNext.{FaultNext}
 use Rattle.core_views.specs.declared.place.FaultNext.TheVariants as next_of
+use Rattle.core_views.specs.declared.place.FaultPlace.TheVariants as fault
 use Rattle.core_views.specs.declared.place.Place.{Place}
 use Rattle.core_views.specs.declared.place.Place.TheVariants as place
 use Rattle.core_views.specs.declared.trace.Command.{Command}
@@ -23,11 +25,10 @@ use Rattle.mmu_core.specs.lines.AccessSteps.{behind_fault}
 use Rattle.mmu_core.specs.machine.Enabled.{Enabled}
 use Rattle.mmu_core.specs.lines.FaultSteps.{fault_next}
 use Rattle.mmu_core.specs.alone.LineAlone.{line_waits}
-use Rattle.mmu_core.specs.lines.Forms.{part_at, outcome_at}
-use Rattle.mmu_core.specs.lines.PartWaits.{part_seen}
-use Rattle.part_steps.specs.declared.part_step.PartStep.{PartStep}
+use Rattle.mmu_core.specs.lines.Forms.{outcome_at}
 use Rattle.mmu_core.specs.machine.Steps.{next, place_at}
 use Rattle.mmu_core.specs.machine.Turns.{GoesOn, IsAnswered, line_of}
+pub use Rattle.mmu_steps.specs.Waits.{line_seen, seen_by}
 use Rattle.step_seats.specs.Moves.{Adds, ToldBy}
 use Rattle.step_seats.specs.Seats.{Seat}
 use Rattle.step_seats.specs.Where.{AnsweredThere}
@@ -75,14 +76,10 @@ abbrev pub line_turn : Place → Command → Held → ℕ → Turn Answer
 line_turn (place.Access (Fault p)) (Access gfn word op) h v = fault_turn (fault_next p h.state.sizes gfn (is_write op) h.topics v)
 line_turn p command h v = turn_of (outcome_at p command h v)
 
--- what the step of a line has seen that waits, which is the step of a part
-abbrev pub seen_by : Option PartStep → Held → ℕ → Seen
-seen_by (Some step) h v = part_seen step h v
-seen_by None h v = record { word = 0; value = 0 }
-
--- what it has seen where an actor is in its way
-abbrev pub line_seen : Place → Command → Held → ℕ → Seen
-line_seen p command h v = seen_by (part_at p command h) h v
+-- why an access begins anew with the step of this place, where its fault ends so
+abbrev pub cause_at : Place → Option Cause
+cause_at (place.Access (Fault (fault.End (end_of.Retry fast cause)))) = Some cause
+cause_at _ = None
 
 -- The turn waits exactly where its step waits for another actor, and says what it has seen; where it doesn't wait it answers so.
 abbrev pub WaitsElse : Turn Answer → Bool → Seen → Turn Answer → Type 0

@@ -2,6 +2,7 @@
 #![tactic(auto)]
 
 mod fault;
+mod line_turn;
 mod owner;
 mod part;
 mod plain;
@@ -11,6 +12,7 @@ mod stepper;
 mod turn;
 
 pub use fault::{fault_place, is_fast_place};
+pub use line_turn::{take_turn, turn_line};
 pub use owner::MachineOwner;
 pub use part::make_part;
 pub use plain::PlainMachine;

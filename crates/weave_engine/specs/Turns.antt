@@ -1,27 +1,14 @@
--- What a job is for, and what the line that it runs alone makes of the seat that it has.
-use Rattle.core_views.specs.HostChanges.{changes_host}
-use Rattle.std.specs.Prelude.{◌≡◌, ◌++◌, ℕ, List, Some, IfSome, is_some, true}
+-- What a line that runs alone makes of its actor's seat.
+use Rattle.std.specs.Prelude.{◌≡◌, ◌++◌, List, Some, IfSome}
 use Rattle.core_views.specs.declared.answer.Answer.{Answer}
 use Rattle.core_views.specs.declared.kind.Kind.{Kind}
-use Rattle.core_views.specs.declared.trace.Command.TheVariants as command
 use Rattle.core_views.specs.declared.trace.Line.{Line}
 use Rattle.core_views.specs.Held.{Held}
-use Rattle.core_views.specs.LogCommands.{log_read}
-use Rattle.core_views.specs.SlotCommands.{changes_slot}
 use Rattle.mmu_core.specs.machine.Enabled.{mmu}
 use Rattle.mmu_core.specs.alone.LineAlone.{LineAlone}
 use Rattle.mmu_core.specs.machine.Machine.{Step, World, hand_in, run}
 use Rattle.step_seats.specs.Seats.{Seat}
 use Rattle.weave_engine.specs.Replays.{RunsAlone}
-use Rattle.weave_engine.specs.declared.job.LineJob.{LineJob}
-use Rattle.weave_engine.specs.declared.job.LineJob.TheVariants.{Access, SlotChange, Host, Log}
-
--- The job is for this line, which so many lines of its actor come before.
-abbrev pub IsJobOf : LineJob → Line → ℕ → Type 0
-IsJobOf (Access job) line before = (job.index ≡ before) × (line.command ≡ command.Access job.gfn job.word job.op)
-IsJobOf (SlotChange job) line before = (job.index ≡ before) × (changes_slot line.command ≡ true)
-IsJobOf (Host job) line before = (job.index ≡ before) × (changes_host line.command ≡ true)
-IsJobOf (Log job) line before = (job.index ≡ before) × (is_some (log_read line.command) ≡ true)
 
 -- The seat tells a world, whose hand its actor has, and in it the actor's line is alone.
 pub record LineIsAlone (seat : Seat) : Type 0 where

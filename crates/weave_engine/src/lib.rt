@@ -4,9 +4,9 @@
 //! (KVM's locking.rst and tdp_mmu.c for what a step is).
 #![tactic(auto)]
 
+mod alone;
 mod answer_printer;
 mod by_turns;
-mod job;
 mod printer;
 mod ran;
 mod replaying;
@@ -17,13 +17,13 @@ mod turning;
 mod weaving;
 mod writing;
 
+pub use alone::run_line;
 pub use answer_printer::push_open;
 pub use by_turns::run_by_turns;
-pub use job::{LineJob, run_line, start_line};
 pub use printer::{Printer, TurnPrinter};
 pub use ran::{How, Ran, status_of};
 pub use replaying::{replay, replay_machine, replay_with};
 pub use run_on::last_answer;
-pub use turning::{TurnMade, Turned, take_turn, turn_on};
+pub use turning::{TurnMade, Turned, turn_on};
 pub use weaving::{weave, weave_machine, weave_with};
 pub use writing::write_piece;

@@ -10,7 +10,7 @@ ghost use Rattle.step_seats.specs.Moves.{handful_in};
 ghost use Rattle.weave_engine.specs.Given.{IsLastAnswer, given_in};
 ghost use Rattle.weave_engine.specs.Replays.{RanOn};
 
-use crate::job::run_line;
+use crate::alone::run_line;
 use core_views::{Actor, Answer, Hand, Line, NoMemory};
 use step_seats::{ActorSeat, MachineOwner};
 

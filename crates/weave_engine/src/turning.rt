@@ -4,17 +4,14 @@ ghost use Rattle.core_views.specs.declared.place.Place.TheVariants.{Between};
 ghost use Rattle.mmu_core.specs.machine.Enabled.{mmu};
 ghost use Rattle.mmu_core.specs.machine.Machine.{hand_in};
 ghost use Rattle.mmu_core.specs.machine.Steps.{has_line};
-ghost use Rattle.mmu_core.specs.machine.Turns.{IsSameHand, line_of};
 ghost use Rattle.step_seats.specs.Machines.{KeepsSizes, world_in};
 ghost use Rattle.step_seats.specs.Moves.{handful_in};
-ghost use Rattle.step_seats.specs.LineTurns.{Says, TurnsLine, turn_told};
 ghost use Rattle.weave_engine.specs.Turned.{TurnedOn, TurnedTold, next_code_in};
 
-use crate::job::next_job;
 use core_views::{Actor, NoMemory};
 use mmu_core::rests;
 use mmu_steps::next_kind;
-use step_seats::{ActorSeat, MachineOwner, Stepper, Turn};
+use step_seats::{ActorSeat, MachineOwner, Stepper, Turn, take_turn};
 
 /// A turn that an actor has made: of which line, and how it ended. Where the line is
 /// answered, the actor's hand has the answer.
@@ -34,22 +31,6 @@ pub enum Turned {
     Went,
     /// It made a step, with which its line is answered, waits or begins anew.
     Stopped,
-}
-
-/// Makes the actor's next turn, which is one of the hand's next line. Where memory is
-/// refused no step is made; a turn of a line that is under way takes none.
-pub fn take_turn<S: Stepper>(s: &mut S) -> Result<Turn<()>, NoMemory>
-    requires left { length (S.seat s.old).hand.answers < length (S.seat s.old).hand.lines }
-    ensures turns { IfOk result (λ turn. TurnsLine (turn_told turn (S.seat s.old).hand (S.seat s.new).hand) (S.seat s.old) (S.seat s.new)) }
-    ensures says { IfOk result (λ turn. Says (turn_told turn (S.seat s.old).hand (S.seat s.new).hand) (line_of (S.seat s.old).hand)
-        (S.seat s.old).hand (S.seat s.new).hand) }
-    ensures hand { IsSameHand (S.seat s.old).hand (S.seat s.new).hand }
-    ensures begins { OnErr result ((S.seat s.old).hand.state.place ≡ Between) }
-    ensures refused { OnErr result (((S.seat s.new).hand ≡ (S.seat s.old).hand) × ((S.seat s.new).tells ≡ (S.seat s.old).tells)) }
-    ensures same { ((S.seat s.new).actor ≡ (S.seat s.old).actor) × (S.frame s.new ≡ S.frame s.old) }
-{
-    let mut job = next_job(s)?;
-    Ok(job.turn(s))
 }
 
 // Makes the actor's next turn, where it has a line left. Memory is refused only

@@ -1,9 +1,5 @@
 use Rattle.mmu_steps.proofs.Advancing.{advanced, room_still, sizes_still}
-use Rattle.mmu_core.proofs.machine.Which.{is_next}
 use Rattle.mmu_steps.proofs.step.advance.Goals as goal
-
-pub step_line-requires-clause-rests : goal.step_line-requires-clause-rests
-step_line-requires-clause-rests c = λ has. (is_next c.args.hand.now.core c.args.kind c.requires.enabled has).rests
 
 pub advance_topics-requires-clause-sizes : goal.advance_topics-requires-clause-sizes
 advance_topics-requires-clause-sizes c =

@@ -1,7 +1,7 @@
 use Rattle.std.proofs.Common.{length, ap, refl, subst, sym, ◌∙◌}
 use Rattle.core_views.specs.declared.place.Place.TheVariants.{Between}
 use Rattle.core_views.specs.declared.trace.Line.{Line}
-use Rattle.core_views.specs.Held.{Held, answered, line_under}
+use Rattle.core_views.specs.Held.{Held, answered, line_under, next_line}
 use Rattle.mmu_core.specs.declared.outcome.Outcome.{Outcome}
 use Rattle.mmu_core.specs.declared.outcome.Outcome.TheVariants.{Ends}
 use Rattle.mmu_core.specs.lines.Forms.{records_at}
@@ -9,7 +9,7 @@ use Rattle.mmu_core.specs.machine.Outcomes.{answers_after, place_after}
 use Rattle.mmu_core.specs.machine.Steps.{line_after}
 use Rattle.mmu_core.proofs.lines.Forms.{outcome_goes}
 use Rattle.mmu_core.proofs.machine.GoesOn.{GoesUnderWay}
-use Rattle.mmu_steps.proofs.LineMade.{filled_is, line_ends, line_goes, line_made, reads_same}
+use Rattle.mmu_steps.proofs.LineMade.{delay_is, filled_is, line_ends, line_goes, line_made, reads_same}
 use Rattle.mmu_steps.proofs.step.advance_line.Goals as goal
 
 pub returns-in-Goes-clause-core : goal.returns-in-Goes-clause-core
@@ -26,7 +26,9 @@ returns-in-Goes-clause-core c =
     ∙ line_made h filled line c.args.place c.in-Goes.place (line_under c.in-Goes.place filled.lines (length filled.answers)) c.args.found
     c.used_behind-used.result (records_at c.args.place line.command h.slots) c.outcome-outcome.result.0 c.is_delay-delay.result c.steps_behind-steps.result
     c.delays_behind-delays.result filled.answers
-    c.outcome-outcome.ensures.outcome (c.used_behind-used.ensures ∙ c.outcome-outcome.ensures.used) c.is_delay-delay.ensures c.steps_behind-steps.ensures
+    c.outcome-outcome.ensures.outcome (c.used_behind-used.ensures ∙ c.outcome-outcome.ensures.used)
+    (delay_is c.args.place line.command (next_line h).command h c.outcome-outcome.result.0 c.args.found c.args.waits c.is_delay-delay.result
+    (ap (λ (l : Line). l.command) c.line-line.ensures.next) c.requires.waits c.is_delay-delay.ensures) c.steps_behind-steps.ensures
     c.delays_behind-delays.ensures refl f_is (sym (ap place_after c.in-Goes.is))
     (ap (λ (x : Held). x.answers) f_is ∙ sym (ap (λ (o : Outcome). answers_after o line h.answers) c.in-Goes.is))
     (ap (λ (x : Held). line_under c.in-Goes.place x.lines (length x.answers)) f_is ∙ (line_goes c.in-Goes.place h under ∙ sym c.line-line.ensures.next)) reads
@@ -46,7 +48,9 @@ returns-in-Ends-clause-core c =
     ∙ line_made h filled line c.args.place Between (line_under Between filled.lines (length answers)) c.args.found
     c.used_behind-used.result (records_at c.args.place line.command h.slots) c.outcome-outcome.result.0 c.is_delay-delay.result c.steps_behind-steps.result
     c.delays_behind-delays.result answers
-    c.outcome-outcome.ensures.outcome (c.used_behind-used.ensures ∙ c.outcome-outcome.ensures.used) c.is_delay-delay.ensures c.steps_behind-steps.ensures
+    c.outcome-outcome.ensures.outcome (c.used_behind-used.ensures ∙ c.outcome-outcome.ensures.used)
+    (delay_is c.args.place line.command (next_line h).command h c.outcome-outcome.result.0 c.args.found c.args.waits c.is_delay-delay.result
+    (ap (λ (l : Line). l.command) c.line-line.ensures.next) c.requires.waits c.is_delay-delay.ensures) c.steps_behind-steps.ensures
     c.delays_behind-delays.ensures refl f_is (sym (ap place_after c.in-Ends.is))
     (ap (λ (x : Held). answers_after (Ends c.in-Ends.answer) line x.answers) f_is
     ∙ sym (ap (λ (o : Outcome). answers_after o line h.answers) c.in-Ends.is))

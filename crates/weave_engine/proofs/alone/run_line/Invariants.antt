@@ -1,14 +1,12 @@
 use Rattle.std.proofs.Common.{◌≡◌, ◌<◌, length}
 use Rattle.mmu_core.specs.alone.LineAlone.{hand_left}
-use Rattle.weave_engine.specs.Turns.{IsJobOf}
 use Rattle.weave_engine.proofs.PartRuns.{PartRun}
-use Rattle.weave_engine.proofs.job.run_line.Given as goal
+use Rattle.weave_engine.proofs.alone.run_line.Given as goal
 
 abbrev pub invariant-loop : goal.invariant-loop
 invariant-loop g l = record {
   part : PartRun l.line (g.S.Stepper.seat l.fn.s).actor (g.S.Stepper.seat l.fn.s) (g.S.Stepper.seat l.s);
   reserved : 0 < (g.S.Stepper.seat l.s).room;
-  job : IsJobOf l.job l.line (length (g.S.Stepper.seat l.s).hand.answers);
   left : length (g.S.Stepper.seat l.s).hand.answers < length (g.S.Stepper.seat l.s).hand.lines;
   actor : (g.S.Stepper.seat l.s).actor ≡ (g.S.Stepper.seat l.fn.s).actor;
   frame : g.S.Stepper.frame l.s ≡ g.S.Stepper.frame l.fn.s;
