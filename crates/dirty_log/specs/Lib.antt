@@ -1,2 +1,1 @@
 pub mod LogWords
-pub mod Places

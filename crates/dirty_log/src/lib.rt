@@ -6,7 +6,6 @@
 #![tactic(auto)]
 
 mod job;
-mod places;
 mod words;
 
 pub use job::LogJob;

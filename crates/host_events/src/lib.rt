@@ -6,6 +6,5 @@
 #![tactic(auto)]
 
 mod job;
-mod places;
 
 pub use job::HostJob;

@@ -3,16 +3,12 @@ ghost use Rattle.std.specs.Prelude.{IfSome};
 ghost use Rattle.job_tests.specs.Faults.{StandsIn};
 
 use core_views::{AccessPlace, Answer, Cause, Command, FaultPlace, Hand, Place};
-use dirty_log::LogJob;
 use fast_fault::{FastFaulted, FastJob};
 use fault_install::{FaultJob, Faulted};
-use host_events::HostJob;
 use part_tests::{make_steps, told};
-use slot_change::SlotJob;
 use std::alloc::Global;
 use std::test::Fail;
-use step_seats::{Stepper, Turn, is_fast_place};
-use vcpu_run::AccessJob;
+use step_seats::{Stepper, Turn, is_fast_place, take_turn};
 
 /// What is run by turns.
 #[derive(Clone, Copy, Drop)]
@@ -23,29 +19,12 @@ pub enum Work {
     Fault { fast: bool },
 }
 
-// Makes a turn of the seat's next line, by the job of its form, if there is one.
+// Makes a turn of the seat's next line, if there is one.
 fn line_turn<S: Stepper>(s: &mut S) -> Result<Option<Turn<Answer>>, Fail> {
-    s.reserve()?;
-    let hand = s.hand();
-    if !hand.has_line() {
+    if !s.hand().has_line() {
         return Ok(None);
     }
-    let index = hand.answers().len();
-    let said = match &hand.line().command {
-        Command::Access { gfn, word, op } => {
-            let mut job = AccessJob {
-                index,
-                gfn: *gfn,
-                word: *word,
-                op: *op,
-            };
-            job.turn(s)
-        }
-        Command::ChangeHost { .. } => HostJob { index }.turn(s),
-        Command::SetSlot { .. } | Command::DeleteSlot { .. } => SlotJob { index }.turn(s),
-        Command::GetLog { .. } | Command::ClearLog { .. } => LogJob { index }.turn(s),
-        _ => return Ok(None),
-    };
+    let said = take_turn(s)?;
     Ok(Some(told(said, s.hand())?))
 }
 

@@ -11,19 +11,15 @@ use mmu_core::rests;
 use mmu_steps::{allows, next_kind, next_step, part_rests};
 use part_steps::{PartStep, part_kind};
 use std::test::Fail;
-use step_seats::{PlainMachine, Stepper, Turn, make_part};
+use step_seats::{PlainMachine, Stepper, Turn, make_part, take_turn};
 
 /// Makes so many steps of the seat's lines, or those that are left: how many it made.
 pub fn make_steps<S: Stepper>(seat: &mut S, most: u64) -> Result<u64, NoMemory> {
     for made in 0..most {
-        seat.reserve()?;
-        let hand = seat.hand();
-        if hand.next_line().is_none() {
+        if !seat.hand().has_line() {
             return Ok(made);
         }
-        rests(hand);
-        let kind = next_kind(hand);
-        let _ = seat.act(kind);
+        let _ = take_turn(seat)?;
     }
     Ok(most)
 }

@@ -6,7 +6,5 @@
 #![tactic(auto)]
 
 mod job;
-mod places;
-mod write_protect;
 
 pub use job::SlotJob;

@@ -1,3 +1,1 @@
-pub mod Accessing
-pub mod FaultTurns
 pub mod ToldCauses
