@@ -4,7 +4,7 @@ use Rattle.std.specs.Prelude.{Bool}
 use Rattle.core_views.specs.declared.answer.Answer.{Answer}
 use Rattle.core_views.specs.declared.hand.Seen.{Seen}
 use Rattle.core_views.specs.declared.place.AccessPlace.{AccessPlace}
-use Rattle.core_views.specs.declared.place.AccessPlace.TheVariants.{Enter, Leave, Fault}
+use Rattle.core_views.specs.declared.place.AccessPlace.TheVariants.{Leave, Fault}
 use Rattle.core_views.specs.declared.place.FaultEnd.{FaultEnd}
 use Rattle.core_views.specs.declared.place.FaultEnd.TheVariants as end_of
 use Rattle.core_views.specs.declared.place.FaultNext.TheVariants.{Ends}
@@ -62,14 +62,12 @@ module _ (job : AccessJob) (h : Held) where
   given_cause (Retry why) waits way t gives cause = subst (λ (x : Turn Answer). HasItsCause x job h) (sym gives.1) cause
   given_cause (Done answer) waits way t gives cause = subst (λ (x : Turn Answer). HasItsCause x job h) (sym gives.1) cause
 
-  pub told_cause : (turn : Turn Answer) (v : ℕ) (c : Command) → c ≡ Access job.gfn job.word job.op
-      → RestsAt (place_at h.state.place h) c h → KnowsPart (place_at h.state.place h) c h
-      → WaitsElse turn (line_waits (place_at h.state.place h) c h v) (line_seen (place_at h.state.place h) c h v) (line_turn (place_at h.state.place h) c h v)
-      → HasItsCause turn job h
+  abbrev p : Place
+  p = place_at h.state.place h
+
+  pub told_cause : (turn : Turn Answer) (v : ℕ) (c : Command) → c ≡ Access job.gfn job.word job.op → RestsAt p c h → KnowsPart p c h
+      → WaitsElse turn (line_waits p c h v) (line_seen p c h v) (line_turn p c h v) → HasItsCause turn job h
   told_cause turn v c is R K gives =
       given_cause turn (line_waits p c h v) (line_seen p c h v) (line_turn p c h v) gives
       (subst (λ (x : Command). HasItsCause (line_turn p x h v) job h) (sym is)
       (place_cause p v (subst (λ (x : Command). RestsAt p x h) is R) (subst (λ (x : Command). KnowsPart p x h) is K)))
-    where
-      abbrev p : Place
-      p = place_at h.state.place h

@@ -21,7 +21,7 @@ loop-init g c =
     record {
       part = (part_starts c.args.line.now (g.S.Stepper.seat c.args.s.now) _ e.hand e.told
           c.requires.idle c.requires.next c.requires.alone).0;
-      reserved = e.reserved;
+      reserved = c.in_ok-reserve.ensures.room;
       left = rw e.hand below;
       actor = e.same.0;
       frame = e.same.1;
