@@ -19,7 +19,7 @@ function unfolded(line, pieces, count, i, text) {
 }
 
 function bad(reason) {
-  print "0\t" FILENAME ":" FNR "\tbad\t\t" reason "\n"
+  print "0\t" FILENAME ":" FNR "\tbad\t-\t" reason "\n"
   is_bad = 1
 }
 
