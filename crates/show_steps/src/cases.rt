@@ -1,28 +1,14 @@
 //! Tables of cases, as text. A case is the lines of a trace, and then for each way in which the program is called
-//! on it a line `== CALL`, a line with how it ends, as a word and as a number, and what it prints. Then comes a line
-//! `--`. Calls of which the same comes stand in one line, parted by ` | `.
+//! on it a line `== CALL`, a line with the number of its exit status, and what it prints. Then comes a line `--`.
 //!
 //! A call is the words that the program is called with, or `.` if there are none. Before them may stand that it has
 //! so many turns in rounds (`7 turns: `), or that a read or a write fails after so many (`0 reads: `, `1 writes: `).
-//! What stands after a line `..` is the end of what is printed.
 use crate::program::{run, run_within};
 use run_status::Status;
 use std::alloc::Global;
 use std::process::Abort;
 use std::test::Fail;
 use tdp_io::{MemSink, MemSource};
-
-fn status_name(status: Status) -> &'static str {
-    match status {
-        Status::Done => "done",
-        Status::Usage => "usage",
-        Status::Refused { .. } => "refused",
-        Status::ReadFault => "read-fault",
-        Status::WriteFault => "write-fault",
-        Status::Unfinished { .. } => "unfinished",
-        Status::NoMemory => "no-memory",
-    }
-}
 
 // How many of these the call says that it has.
 fn limit(call: &str, of: &str) -> Option<u64> {
@@ -65,62 +51,27 @@ fn outcome(alloc: Global, call: &str, input: &str) -> Result<(Status, MemSink), 
     Ok((status, out))
 }
 
-// The same as text.
+// The number of the exit status with which the program ends that is called so on this input, and what it prints.
 fn told(alloc: Global, call: &str, input: &str) -> Result<String, Fail> {
     let (status, out) = outcome(alloc, call, input)?;
-    let name = status_name(status);
     let code = status.code();
     let text = String::from_utf8_lossy(alloc, out.bytes())?;
-    Ok(format!(in alloc; "{name} {code}\n{text}")?)
-}
-
-// Whether what came is what was wanted.
-fn is_so(came: &str, wanted: &str) -> bool {
-    match wanted.split_once("..\n") {
-        Some((status, end)) => came.starts_with(status) && came.ends_with(end),
-        None => came == wanted,
-    }
-}
-
-// What comes of the first of these calls of which something else comes. It counts the others.
-fn other_of_calls(
-    alloc: Global,
-    input: &str,
-    calls: &str,
-    wanted: &str,
-    count: &mut usize,
-) -> Result<String, Fail> {
-    for call in calls.split(" | ") {
-        let came = told(alloc, call, input)?;
-        if !is_so(&came, wanted) {
-            return Ok(format!(in alloc; "{call}\n{came}")?);
-        }
-        *count = count.saturating_add(1);
-    }
-    Ok(String::new(alloc))
-}
-
-// The same of a case.
-fn other_of_case(alloc: Global, case: &str, count: &mut usize) -> Result<String, Fail> {
-    let (input, parts) = case.split_once("== ").unwrap_or((case, ""));
-    for part in parts.split("== ") {
-        if let Some((calls, wanted)) = part.split_once('\n') {
-            let other = other_of_calls(alloc, input, calls, wanted, count)?;
-            if !other.is_empty() {
-                return Ok(other);
-            }
-        }
-    }
-    Ok(String::new(alloc))
+    Ok(format!(in alloc; "{code}\n{text}")?)
 }
 
 // How many runs come out as they stand in the table, and the first one that doesn't, with what comes of it.
 fn first_other(alloc: Global, table: &str) -> Result<(usize, String), Fail> {
     let mut count = 0usize;
     for case in table.split("--\n") {
-        let other = other_of_case(alloc, case, &mut count)?;
-        if !other.is_empty() {
-            return Ok((count, other));
+        let (input, parts) = case.split_once("== ").unwrap_or((case, ""));
+        for part in parts.split("== ") {
+            if let Some((call, wanted)) = part.split_once('\n') {
+                let came = told(alloc, call, input)?;
+                if came.as_str() != wanted {
+                    return Ok((count, format!(in alloc; "{call}\n{came}")?));
+                }
+                count = count.saturating_add(1);
+            }
         }
     }
     Ok((count, String::new(alloc)))
@@ -133,8 +84,11 @@ pub fn expect_all<R: Abort>(rt: &R, alloc: Global, table: &str, count: usize) ->
     Ok(())
 }
 
-/// What is printed where the second write fails, beside the whole text.
-pub fn first_piece(alloc: Global, input: &str) -> Result<String, Fail> {
+/// What comes where the first read fails, and where the first write does; and what is printed where the second write
+/// fails, beside the whole text.
+pub fn failing_ends(alloc: Global, input: &str) -> Result<String, Fail> {
+    let unread = told(alloc, "0 reads: show_steps", input)?;
+    let unwritten = told(alloc, "0 writes: show_steps", input)?;
     let whole = told(alloc, "show_steps replay", input)?;
     let piece = told(alloc, "1 writes: show_steps replay", input)?;
     let (done, whole) = whole.split_once('\n').unwrap_or((&whole, ""));
@@ -143,7 +97,7 @@ pub fn first_piece(alloc: Global, input: &str) -> Result<String, Fail> {
     let is_large = 8192 <= piece.len();
     let is_part = piece.len() < whole.len();
     Ok(format!(in alloc;
-        "{done}, {failed}, begins the whole: {begins}, 8192 bytes or more: {is_large}, shorter: {is_part}"
+        "{unread}{unwritten}{done}, {failed}, begins the whole: {begins}, 8192 bytes or more: {is_large}, shorter: {is_part}"
     )?)
 }
 

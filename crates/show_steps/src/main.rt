@@ -30,12 +30,4 @@ fn main(rt: HostRuntime) -> ExitCode {
 #[cfg(test)]
 mod cases;
 #[cfg(test)]
-mod fast_steps;
-#[cfg(test)]
-mod fill_tests;
-#[cfg(test)]
-mod race_steps;
-#[cfg(test)]
-mod short_steps;
-#[cfg(test)]
 mod tests;

@@ -25,36 +25,6 @@ fn main(rt: HostRuntime) -> ExitCode {
 }
 
 #[cfg(test)]
-mod cases;
-#[cfg(test)]
-mod fast_schedules;
-#[cfg(test)]
-mod host_schedules;
-#[cfg(test)]
-mod host_traces;
-#[cfg(test)]
 mod limits;
 #[cfg(test)]
-mod log_schedules;
-#[cfg(test)]
-mod move_schedules;
-#[cfg(test)]
-mod move_traces;
-#[cfg(test)]
-mod plain_tests;
-#[cfg(test)]
-mod reading_schedules;
-#[cfg(test)]
-mod reading_traces;
-#[cfg(test)]
-mod schedules;
-#[cfg(test)]
-mod slot_schedules;
-#[cfg(test)]
-mod slot_traces;
-#[cfg(test)]
-mod small_pools;
-#[cfg(test)]
 mod tests;
-#[cfg(test)]
-mod traces;

@@ -1,0 +1,154 @@
+# Makes of files of cases what each run is given and has to print: in the folder `to` the files trace/N and wanted/N, of which
+# the last line is the exit status. Prints a line for each run: N, where its case stands, how its output is compared, the
+# program, and the words that it is called with. README.md says what a file of cases is.
+
+BEGIN {
+  ORS = ""
+  split("check replay weave alone any-cache refused cut rows flat calls", names, " ")
+  for (i in names) is_way[names[i]] = 1
+}
+
+# The line with an end for each `;`, after which a space doesn't count.
+function unfolded(line, pieces, count, i, text) {
+  count = split(line, pieces, ";")
+  for (i = 1; i <= count; i++) {
+    sub(/^ /, "", pieces[i])
+    text = text pieces[i] "\n"
+  }
+  return text
+}
+
+function bad(reason) {
+  print "0\t" FILENAME ":" FNR "\tbad\t-\t" reason "\n"
+  is_bad = 1
+}
+
+function put(text, file) {
+  print text > file
+  close(file)
+}
+
+# A run: how its output is compared, the words of the call, the input, and what comes.
+function run(how, words, input, text, status) {
+  put(input, to "/trace/" ++runs)
+  put(text "status " status "\n", to "/wanted/" runs)
+  print runs "\t" at "\t" how "\t" program "\t" words "\n"
+}
+
+function run_any_cache(input, text, small, place, need) {
+  place = index(text, "ok ")
+  if (place) {
+    need = substr(text, place)
+    text = substr(text, 1, place - 1)
+    run("whole", "tdpmmu check", input, need, 0)
+  }
+  place = index(input, " cache 64 ")
+  small = place ? substr(input, 1, place - 1) " cache 1 " substr(input, place + 10) : ""
+  run("whole", "tdpmmu replay", input, text, 0)
+  run("whole", "tdpmmu replay", small, text, 0)
+}
+
+# The runs of a part of a case of calls: its first line says how they end.
+function run_calls(calls, text, pieces, count, i, status, how) {
+  status = text
+  sub(/\n.*/, "", status)
+  sub(/^.* /, "", status)
+  sub(/^[^\n]*\n/, "", text)
+  how = sub(/^\.\.\n/, "", text) ? "end" : "whole"
+  count = split(calls, pieces, / \| /)
+  for (i = 1; i <= count; i++) run(how, pieces[i], lines, text, status)
+}
+
+# The sizes stand for a header with the pool and the caches that the case is read with.
+function run_flat(sizes, rest, hosts) {
+  sizes = rest = lines
+  sub(/\n.*/, "", sizes)
+  sub(/^[^\n]*\n/, "", rest)
+  hosts = sub(/ hosts .*/, "", sizes) ? substr(lines, length(sizes) + 8) : "0\n"
+  sub(/\n.*/, "", hosts)
+  run("flat", "tdpmmu replay", "tdp 1 " sizes " pool 64 cache 64 manual 0 hosts " hosts "\n" rest, "", 0)
+}
+
+function run_rows(text, pieces, count, i) {
+  count = split(lines, pieces, "\n")
+  for (i = 1; i < count; i++) {
+    at = FILENAME ":" row_line[i]
+    run("whole", "tdpmmu weave", header before (pieces[i] == "." ? "" : unfolded(pieces[i])) after, text, 0)
+  }
+}
+
+function run_case(text, input) {
+  input = lines ~ /^tdp / ? lines : header lines
+  if (way == "alone") {
+    run("whole", "tdpmmu weave", input "go\n", text, 0)
+    run("whole", "tdpmmu replay", input, text, 0)
+  } else if (way == "any-cache") run_any_cache(input, text)
+  else if (way == "refused") run("whole", "tdpmmu replay", input, text, 3)
+  else if (way == "cut") run("whole", "tdpmmu replay", substr(input, 1, length(input) - 1), text, 3)
+  else if (way == "rows") run_rows(text)
+  else run("whole", "tdpmmu " way, input, text, 0)
+}
+
+function begin_case() {
+  lines = text = calls = ""
+  rows = parts = begun = is_bad = 0
+}
+
+# What stands since the last part of the case, if that is one of calls, has an end.
+function end_part() {
+  if (parts && way == "calls") run_calls(calls, text)
+  text = ""
+}
+
+FNR == 1 {
+  if (begun) bad("the file before ends within a case")
+  begin_case()
+  way = ""
+}
+
+/^\/\// || ($0 == "" && !(way == "flat" && begun)) { next }
+
+/^@ / {
+  if (begun) bad("a setting within a case")
+  if ($2 == "header") header = substr($0, 10) "\n"
+  else if ($2 == "before") before = unfolded(substr($0, 10))
+  else if ($2 == "after") after = unfolded(substr($0, 9))
+  else {
+    way = $2
+    program = way == "calls" ? $3 : "tdpmmu"
+    header = before = after = ""
+    if (!(way in is_way)) bad("no way to run a case")
+  }
+  next
+}
+
+!begun {
+  begun = 1
+  at = FILENAME ":" FNR
+}
+
+$0 == "--" {
+  if (way == "flat") run_flat()
+  else if (!parts) bad("a case without a line ==")
+  else if (way == "calls") end_part()
+  else run_case(text)
+  begin_case()
+  next
+}
+
+$1 == "==" && way != "flat" {
+  end_part()
+  parts++
+  calls = substr($0, 4)
+  if (way != "calls" && parts > 1) bad("a case with two lines ==")
+  next
+}
+
+parts { text = text (way == "calls" ? $0 "\n" : unfolded($0)); next }
+
+{
+  if (way == "rows") row_line[++rows] = FNR
+  lines = lines (way == "rows" || way == "flat" || way == "calls" ? $0 "\n" : unfolded($0))
+}
+
+END { if (begun) bad("the last file ends within a case") }
