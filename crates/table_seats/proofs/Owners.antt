@@ -71,7 +71,7 @@ module _ (m : OwnerView) (o : OwnsAll m) where
   pub keeps_each : (i : ℕ) → i < length hs → Keeps t i
   keeps_each i lt = keeps_held t.hands i (handful_in hs i) (held_each i lt)
 
-  by_alone : Bool → Option (World Held)
+  abbrev by_alone : Bool → Option (World Held)
   by_alone alone = if alone then Some ended else None
 
   told_is : world_told t.knows ≡ Some (world_in (machine_of m))

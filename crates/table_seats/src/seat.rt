@@ -70,9 +70,9 @@ impl<'b> TableSeat<'b> {
 
     /// The pass, once the actor has made its steps.
     pub fn into_pass(self) -> Pass
-        ensures pass { result ≡ self.pass }
-        ensures fits { Fits self.board.now result }
-        ensures keeps { Keeps result self.actor }
+        ensures pass { result ≡ self.entry.pass }
+        ensures fits { Fits self.entry.board.now result }
+        ensures keeps { Keeps result self.entry.actor }
     {
         self.pass
     }

@@ -16,7 +16,7 @@ seen z b t = record { sizes = z; board = b; pass = t }
 pub reserve-reserved-requires : goal.reserve-reserved-requires
 reserve-reserved-requires c =
     let m = seen c.self.inside.sizes c.self.inside.board c.self.inside.pass in
-    keeps_each m c.self.invariant c.args.index (subst (λ (x : OwnerView). c.args.index < length (machine_of x).hands) (sym c.self.view_is) c.requires.there)
+    record { keeps = keeps_each m c.self.invariant c.args.index (subst (λ (x : OwnerView). c.args.index < length (machine_of x).hands) (sym c.self.view_is) c.requires.there) }
 
 pub invariant_of-self : goal.invariant_of-self
 invariant_of-self c =
