@@ -1,13 +1,14 @@
 -- The hands that a pass keeps, beside those in its seat's view.
-use Rattle.std.proofs.Common.{◌≡◌, ℕ, zero, suc, ◌<◌, ◌≢◌, List, [], ◌∷◌, ◌++◌, map, length, get_or, set, sym, refl, ap, ◌∙◌, subst, arith, Option, Some, None, length-set, replicate, ◌≤◌, unwrap_or}
-use Rattle.std.specs.Prelude.{true}
+use Rattle.std.proofs.Common.{◌≡◌, ℕ, zero, suc, ◌+◌, ◌<◌, ◌≢◌, List, [], ◌∷◌, ◌++◌, map, length, get_or, set, sym, refl, ap, ◌∙◌, subst, arith, Option, Some, None, length-set, replicate, ◌≤◌, unwrap_or, take, add-one}
+use Rattle.std.specs.Prelude.{is_some, true}
 use Rattle.std.proofs.lemmas.Bool.{false≢true}
 use mathlib.Core.Option.{some, none, some-injective, some-ne-none}
 use lib.ListN.{get_elem?}
 use Rattle.core_views.specs.Held.{Held, Handful}
 use Rattle.table_seats.specs.Rule.{Holds, only, nones, overlay, either_hand}
 use Rattle.step_seats.specs.Moves.{core_of, no_hand}
-use Rattle.table_seats.specs.Passes.{core_in, hand_at, hand_in_place, has_hand}
+use Rattle.table_seats.specs.Boards.{AllHands}
+use Rattle.table_seats.specs.Passes.{core_in, hand_at, hand_in_place}
 use Rattle.atomic_table.proofs.Lists.{set_here}
 use Rattle.table_seats.proofs.HandLists.{some-held, none-held, at_below}
 
@@ -94,27 +95,27 @@ hand_is (x ∷ xs) zero h e = ap (λ (y : Option Handful). unwrap_or y no_hand) 
 hand_is (x ∷ xs) (suc a) h e = hand_is xs a h e
 
 -- The pass keeps the hand that is read.
-pub kept : (hands : List (Option Handful)) (a : ℕ) → has_hand (get_or hands a None) ≡ true → Holds hands a (hand_at hands a)
+pub kept : (hands : List (Option Handful)) (a : ℕ) → is_some (get_or hands a None) ≡ true → Holds hands a (hand_at hands a)
 kept [] a e = absurd (false≢true e)
 kept (None ∷ xs) zero e = absurd (false≢true e)
 kept (Some h ∷ xs) zero e = refl
 kept (x ∷ xs) (suc a) e = kept xs a e
 
-pub keeps_held : (hands : List (Option Handful)) (a : ℕ) (h : Handful) → Holds hands a h → has_hand (get_or hands a None) ≡ true
+pub keeps_held : (hands : List (Option Handful)) (a : ℕ) (h : Handful) → Holds hands a h → is_some (get_or hands a None) ≡ true
 keeps_held [] a h e = absurd (some-ne-none (Some h) (sym e))
-keeps_held (x ∷ xs) zero h e = ap has_hand (some-injective x (Some h) e)
+keeps_held (x ∷ xs) zero h e = ap is_some (some-injective x (Some h) e)
 keeps_held (x ∷ xs) (suc a) h e = keeps_held xs a h e
 
 -- The place of a hand that the pass keeps is one of its places.
 pub slot_below : (len : ℕ) (inside shown : List (Option Handful)) (a : ℕ) → len ≡ length inside → inside ≡ shown
-    → has_hand (get_or shown a None) ≡ true → a < len
+    → is_some (get_or shown a None) ≡ true → a < len
 slot_below len inside shown a n is keeps =
     let b = at_below shown a (Some (hand_at shown a)) (kept shown a keeps) in
     let e = ap (λ (l : List (Option Handful)). length l) is in
     omega (arith, n, b, e)
 
 -- It is read there.
-pub read_as : (inside shown : List (Option Handful)) (a : ℕ) (r : Option Handful) → inside ≡ shown → has_hand (get_or shown a None) ≡ true
+pub read_as : (inside shown : List (Option Handful)) (a : ℕ) (r : Option Handful) → inside ≡ shown → is_some (get_or shown a None) ≡ true
     → r ≡ get_or inside a r → r ≡ Some (hand_at shown a)
 read_as inside shown a r is keeps get =
     held_get inside a (hand_at shown a) r (subst (λ (l : List (Option Handful)). Holds l a (hand_at shown a)) (sym is) (kept shown a keeps)) get
@@ -125,7 +126,7 @@ pub record Picked (inside shown : List (Option Handful)) (a : ℕ) (h : Handful)
   pub is : hand_at shown a ≡ h
 
 pub picked : (inside shown : List (Option Handful)) (a : ℕ) (h : Handful) (r : Option Handful) → inside ≡ shown
-    → has_hand (get_or shown a None) ≡ true → r ≡ get_or inside a r → r ≡ Some h → Picked inside shown a h
+    → is_some (get_or shown a None) ≡ true → r ≡ get_or inside a r → r ≡ Some h → Picked inside shown a h
 picked inside shown a h r is keeps get found =
     let e : hand_at shown a ≡ h = some-held (sym (read_as inside shown a r is keeps get) ∙ found) in
     record {
@@ -149,3 +150,18 @@ set-same (x ∷ xs) (suc a) h g e is = ap (λ (l : List (Option Held)). core_in 
 pub places-are : (hs : List Handful) → map hand_in_place (map Some hs) ≡ hs
 places-are [] = refl
 places-are (h ∷ hs) = ap (λ (l : List Handful). h ∷ l) (places-are hs)
+
+is_there : (x r : Option Handful) → r ≡ x → is_some r ≡ true → x ≡ Some (hand_in_place x)
+is_there None r e is = absurd (false≢true (ap is_some (sym e) ∙ is))
+is_there (Some h) r e is = refl
+
+-- One hand more stands in its place.
+pub all-further : (l : List (Option Handful)) (i : ℕ) (r : Option Handful) → r ≡ get_or l i r → is_some r ≡ true → AllHands (take i l) → AllHands (take (i + 1) l)
+all-further l i r get there all = rw add-one (go l i get all) where
+  go : (l : List (Option Handful)) (i : ℕ) → r ≡ get_or l i r → AllHands (take i l) → AllHands (take (suc i) l)
+  go [] i get all = refl
+  go (x ∷ l) zero get all = λ j. is_there x r get there j ∷ []
+  go (x ∷ l) (suc i) get all =
+      let first : x ≡ Some (hand_in_place x) = cc in
+      let rest : take i l ≡ map Some (map hand_in_place (take i l)) = cc in
+      λ j. first j ∷ go l i get rest j

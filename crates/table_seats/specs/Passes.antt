@@ -1,5 +1,5 @@
 -- What contracts see of a pass: whose table it is for, what its seat knows, and the hands that it keeps.
-use Rattle.std.specs.Prelude.{◌≡◌, ℕ, Bool, false, true, List, Option, Some, None, map, slice_set, if◌then◌else◌, unwrap_or, slice_index_or}
+use Rattle.std.specs.Prelude.{◌≡◌, ℕ, true, List, Option, Some, None, map, slice_set, if◌then◌else◌, is_some, unwrap_or, slice_index_or}
 use Rattle.atomic_table.specs.Seated.{TableId}
 use Rattle.core_views.specs.declared.kind.Kind.{Kind}
 use Rattle.core_views.specs.Held.{Held, Handful}
@@ -25,14 +25,9 @@ pub record PassView : Type 0 where
   pub knows : Known
   pub hands : List (Option Handful)
 
--- whether a hand stands in a place
-abbrev pub has_hand : Option Handful → Bool
-has_hand None = false
-has_hand (Some h) = true
-
 -- The pass keeps the actor's hand.
 abbrev pub Keeps : PassView → ℕ → Type 0
-Keeps t actor = has_hand (slice_index_or t.hands actor None) ≡ true
+Keeps t actor = is_some (slice_index_or t.hands actor None) ≡ true
 
 -- what stands in a hand's place, where a hand stands there
 abbrev pub hand_in_place : Option Handful → Handful

@@ -9,8 +9,10 @@ mod machine;
 mod pass;
 mod rule;
 mod seat;
+mod threads;
 
 pub use board::Board;
 pub use machine::TableMachine;
 pub use pass::Pass;
 pub use seat::{TableFrame, TableSeat};
+pub use threads::cross_threads;

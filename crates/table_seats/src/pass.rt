@@ -1,8 +1,9 @@
 //! A pass to a board: the hands of some actors.
-ghost use Rattle.std.specs.Prelude.{◌≡◌, ◌<◌, IfSome, OnErr, OnOk};
+ghost use Rattle.std.specs.Prelude.{◌≡◌, ◌<◌, IfSome, OnErr, OnOk, true};
 ghost use Rattle.mmu_core.specs.machine.Worlds.{HandReached};
 ghost use Rattle.step_seats.specs.Moves.{HasItsRoom};
 ghost use Rattle.step_seats.specs.Where.{HasHand};
+ghost use Rattle.table_seats.specs.Boards.{AllHands};
 ghost use Rattle.table_seats.specs.Passes.{IsPass, Keeps, PutsHand, hand_at, world_told};
 
 use crate::rule::View;
@@ -20,6 +21,7 @@ pub struct Pass {
 
 impl Model for Pass {
     ghost use Rattle.std.specs.Prelude.{◌≡◌, []};
+    ghost use Rattle.table_seats.specs.Boards.{AllHands};
     ghost use Rattle.table_seats.specs.Passes.{IsPass, PassView};
 
     ghost Value = { PassView };
@@ -30,6 +32,25 @@ impl Model for Pass {
 }
 
 impl Pass {
+    /// Whether the pass keeps the actor's hand.
+    pub fn keeps(&self, actor: usize) -> bool
+        ensures { result ≡ true → Keeps self.now actor }
+    {
+        matches!(self.hands.get(actor), Some(Some(_)))
+    }
+
+    /// Whether the pass keeps the hand of every actor.
+    pub fn has_all(&self) -> bool
+        ensures { result ≡ true → AllHands self.now.hands }
+    {
+        for place in &self.hands {
+            if place.is_none() {
+                return false;
+            }
+        }
+        true
+    }
+
     // What always holds of a pass.
     #[inline(always)]
     pub(crate) fn holds(&self)
