@@ -1,0 +1,13 @@
+pub mod HandLists
+pub mod Runs
+pub mod KeepsSteps
+pub mod KeepsSplits
+pub mod KeepsJoins
+pub mod EachCall
+pub mod Closes
+pub mod Sits
+pub mod Slots
+pub mod Passes
+pub mod Crossing
+pub mod Opening
+pub mod Owners

@@ -1,0 +1,12 @@
+use Rattle.std.proofs.Common.{◌≡◌, subst, true}
+use Rattle.table_seats.specs.Boards.{AllHands, Fits}
+use Rattle.table_seats.proofs.machine.TableMachine.into_parts.Goals as goal
+
+pub returns-clause-fits : goal.returns-clause-fits
+returns-clause-fits c = c.self.invariant.fits
+
+pub returns-clause-full : goal.returns-clause-full
+returns-clause-full c = c.self.invariant.all
+
+pub returns-clause-alone : goal.returns-clause-alone
+returns-clause-alone c = c.self.invariant.alone

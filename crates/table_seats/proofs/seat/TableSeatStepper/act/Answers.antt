@@ -1,0 +1,14 @@
+use Rattle.std.proofs.Common.{refl}
+use Rattle.table_seats.proofs.Passes.{put_fits, put_keeps, put_others}
+use Rattle.table_seats.proofs.seat.TableSeatStepper.act.Goals as goal
+
+pub invariant_of-self : goal.invariant_of-self
+invariant_of-self c =
+    let s = c.args.self.now in
+    record {
+      fits = put_fits s.pass c.act.new.pass s.actor c.act.ensures.put s.board.now s.fits;
+      keeps = put_keeps s.pass c.act.new.pass s.actor c.act.ensures.put s.keeps;
+    }
+
+pub returns-clause-same : goal.returns-clause-same
+returns-clause-same c = let s = c.args.self.now in (refl, put_others s.pass c.act.new.pass s.actor c.act.ensures.put s.board.now)
