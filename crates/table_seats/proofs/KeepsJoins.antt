@@ -1,15 +1,15 @@
 -- A join keeps the rule of the table.
-use Rattle.std.proofs.Common.{◌≡◌, ℕ, zero, suc, ◌+◌, ◌<◌, ◌≢◌, ◌⊎◌, ◌^◌, Bool, true, false, List, [], ◌∷◌, ◌++◌, map, length, get_or, set, sym, refl, ap, ◌∙◌, inl, inr, ⊎_elim, subst, arith, Option, Some, None, length-set, length-append, if◌then◌else◌}
-use mathlib.Core.Option.{some, none, some-injective, some-ne-none}
+use Rattle.std.proofs.Common.{◌≡◌, ℕ, ◌<◌, ◌≢◌, ◌⊎◌, true, false, List, [], length, set, sym, refl, ap, ◌∙◌, inl, inr, ⊎_elim, subst, arith, Option, Some}
+use mathlib.Core.Option.{some, some-injective, some-ne-none}
 use mathlib.Core.Logic.{dite}
 use native.Mathlib.Decide.{ℕ_discrete}
 use lib.ListN.{get_elem?}
-use Rattle.atomic_table.specs.Table.{State, Me, keeps, Allows, Splits, Joins, opening}
-use Rattle.atomic_table.proofs.Lists.{at_set, set_here, set_else, at_map, at_longer, at_last}
-use Rattle.mmu_core.specs.machine.Machine.{Core, World, Step, Leads, May, answered, effect, run, Legal}
-use Rattle.table_seats.specs.Rule.{View, Holds, Reached, at_past, stepped, world, step_of, first_view, only, overlay, without, with_only, joined, spent, Kept, moved, Acted}
-use Rattle.table_seats.proofs.Runs.{run-snoc, legal-snoc, effect-is, may_of, leads_of, reached-words, reached-hands}
-use Rattle.table_seats.proofs.HandLists.{at_below, at_one, at_end, some-held, none-held, put_held, cut_held, only_held, only_here, only-length, overlay_held, overlay_that, overlay_this, overlay-length, all_held, map-some}
+use Rattle.atomic_table.specs.Table.{State, Joins}
+use Rattle.atomic_table.proofs.Lists.{at_set, set_here, set_else}
+use Rattle.mmu_core.specs.machine.Machine.{Core, World}
+use Rattle.table_seats.specs.Rule.{View, Holds, joined, spent, Kept}
+use Rattle.table_seats.proofs.Runs.{reached-hands}
+use Rattle.table_seats.proofs.HandLists.{at_below, overlay_held, overlay_that, overlay_this, overlay-length}
 
 module _ {H K : Type 0} (C : Core H K) where
   abbrev V : Type 0

@@ -1,12 +1,9 @@
 -- A board with its first pass is a machine.
-use Rattle.std.proofs.Common.{◌≡◌, ◌<◌, ◌∙◌, ℕ, zero, suc, true, Bool, List, [], ◌∷◌, Option, Some, None, ap, arith, get_or, length, length-set, map, refl, set, subst, sym}
+use Rattle.std.proofs.Common.{◌≡◌, ◌<◌, ◌∙◌, ℕ, true, Bool, List, Option, Some, None, ap, length, length-set, map, refl, set, subst, sym}
 use Rattle.std.specs.Prelude.{IfSome, if◌then◌else◌}
 use Rattle.std.proofs.Math.ListN.{length-map, get_or-map}
 use Rattle.std.proofs.lemmas.List.{map-set}
-use mathlib.Core.Option.{some}
-use lib.ListN.{get_elem?}
 use Rattle.atomic_table.proofs.Lists.{at_map}
-use Rattle.core_views.specs.declared.sizes.Sizes.{Sizes}
 use Rattle.core_views.specs.Held.{Held, Handful}
 use Rattle.core_views.specs.declared.trace.Trace.{Trace}
 use Rattle.core_views.specs.Sizes.{AreSizes, actors_of, sizes_of}
@@ -14,12 +11,11 @@ use Rattle.mmu_core.specs.machine.Worlds.{IsStart}
 use Rattle.mmu_core.specs.machine.Enabled.{mmu}
 use Rattle.mmu_core.specs.machine.Machine.{Leads, World}
 use Rattle.mmu_core.proofs.machine.Extend.{as_many_hands, leads_to_end, stays, then}
-use Rattle.step_seats.specs.Machines.{IsMachine, Machine, seat_in, world_in}
-use Rattle.step_seats.specs.Moves.{EachHasRoom, HasItsRoom, cores_of, core_of, handful_in, no_hand}
-use Rattle.step_seats.specs.Seats.{Seat}
+use Rattle.step_seats.specs.Machines.{IsMachine, seat_in, world_in}
+use Rattle.step_seats.specs.Moves.{cores_of, core_of, handful_in, no_hand}
 use Rattle.step_seats.specs.Where.{HasHand}
 use Rattle.step_seats.proofs.Worlds.{count_of_hands}
-use Rattle.table_seats.specs.Boards.{AllHands, BoardView, Fits, IsFirst, begun}
+use Rattle.table_seats.specs.Boards.{IsFirst, begun}
 use Rattle.table_seats.specs.Owners.{OwnerView, OwnsAll, ReachedFrom, machine_of}
 use Rattle.table_seats.specs.Passes.{IsPass, Keeps, Known, PassView, PutsHand, core_in, hand_at, hand_in_place, seat_of, steps_told, world_after, world_told}
 use Rattle.table_seats.specs.Rule.{Holds}

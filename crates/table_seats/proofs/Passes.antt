@@ -1,15 +1,13 @@
 -- What a pass tells of the hands that it keeps, before a step and after it.
-use Rattle.std.proofs.Common.{◌≡◌, ◌<◌, ◌+◌, ◌∙◌, ⊎_elim, ℕ, List, ◌++◌, ◌∷◌, [], Option, Some, None, ap, arith, get_or, length, length-set, map, refl, set, set-set, subst, sym}
-use Rattle.std.specs.Prelude.{Bool, IfSome, OnErr, OnOk, Result, Ok, Err, false, if◌then◌else◌, true}
+use Rattle.std.proofs.Common.{◌≡◌, ◌<◌, ◌+◌, ◌∙◌, ⊎_elim, ℕ, List, ◌++◌, ◌∷◌, [], Option, Some, None, ap, length, length-set, map, refl, set, set-set, subst, sym}
+use Rattle.std.specs.Prelude.{Bool, IfSome, OnErr, Result, Ok, Err, false, if◌then◌else◌, true}
 use Rattle.std.proofs.lemmas.Grind.{merely}
 use Rattle.std.proofs.lemmas.List.{map-set}
-use mathlib.Core.Option.{some}
-use lib.ListN.{get_elem?}
 use Rattle.atomic_table.specs.Seated.{TableId}
 use Rattle.core_views.specs.declared.kind.Kind.{Kind}
 use Rattle.core_views.specs.Held.{Held, Handful}
 use Rattle.mmu_core.specs.machine.Enabled.{Enabled, mmu}
-use Rattle.mmu_core.specs.machine.Machine.{Leads, May, Step, World, answered, effect, hand_in, run}
+use Rattle.mmu_core.specs.machine.Machine.{Leads, May, World, answered, run}
 use Rattle.mmu_core.specs.machine.Steps.{next}
 use Rattle.mmu_core.specs.machine.Worlds.{HandReached, Reachable}
 use Rattle.mmu_core.proofs.machine.Extend.{as_many_words, leads_to_end, then}
@@ -18,12 +16,12 @@ use Rattle.step_seats.specs.Acts.{Acts}
 use Rattle.step_seats.specs.Moves.{Adds, HasItsRoom, KeepsRoom, ToldBy}
 use Rattle.step_seats.specs.Seats.{Seat}
 use Rattle.step_seats.specs.Where.{HasHand, IsMadeIn, OfWorld}
-use Rattle.step_seats.proofs.Rooms.{next_has_room, reserve_has_room}
+use Rattle.step_seats.proofs.Rooms.{next_has_room}
 use Rattle.table_seats.specs.Boards.{BoardView, Fits, around}
-use Rattle.table_seats.specs.Rule.{Acted, Holds, step_of, moved}
+use Rattle.table_seats.specs.Rule.{Acted, Holds, step_of}
 use Rattle.table_seats.specs.Passes.{IsPass, Keeps, Known, PassView, PutsHand, core_in, hand_at, seat_of, steps_told, world_told}
 use Rattle.atomic_table.proofs.Lists.{set_here}
-use Rattle.table_seats.proofs.HandLists.{at_below, put_held, some-held}
+use Rattle.table_seats.proofs.HandLists.{at_below, put_held}
 use Rattle.table_seats.proofs.Runs.{has_is, run-snoc}
 use Rattle.table_seats.proofs.Sits.{sits_after}
 use Rattle.table_seats.proofs.Slots.{cores_at, hand_is, hand_put, held_put, keeps_held, kept, set-same}

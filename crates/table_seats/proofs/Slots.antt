@@ -1,16 +1,15 @@
 -- The hands that a pass keeps, beside those in its seat's view.
-use Rattle.std.proofs.Common.{◌≡◌, ℕ, zero, suc, ◌+◌, ◌<◌, ◌≢◌, List, [], ◌∷◌, ◌++◌, map, length, get_or, set, sym, refl, ap, ◌∙◌, subst, arith, Option, Some, None, length-set, replicate, ◌≤◌, unwrap_or, take, add-one}
+use Rattle.std.proofs.Common.{◌≡◌, ℕ, zero, suc, ◌+◌, ◌<◌, List, [], ◌∷◌, ◌++◌, map, length, get_or, set, sym, refl, ap, ◌∙◌, subst, arith, Option, Some, None, replicate, unwrap_or, take, add-one}
 use Rattle.std.specs.Prelude.{is_some, true}
 use Rattle.std.proofs.lemmas.Bool.{false≢true}
-use mathlib.Core.Option.{some, none, some-injective, some-ne-none}
-use lib.ListN.{get_elem?}
+use mathlib.Core.Option.{some, some-injective, some-ne-none}
 use Rattle.core_views.specs.Held.{Held, Handful}
 use Rattle.table_seats.specs.Rule.{Holds, only, nones, overlay, either_hand}
 use Rattle.step_seats.specs.Moves.{core_of, no_hand}
 use Rattle.table_seats.specs.Boards.{AllHands}
 use Rattle.table_seats.specs.Passes.{core_in, hand_at, hand_in_place}
 use Rattle.atomic_table.proofs.Lists.{set_here}
-use Rattle.table_seats.proofs.HandLists.{some-held, none-held, at_below}
+use Rattle.table_seats.proofs.HandLists.{some-held, at_below}
 
 module _ {H : Type 0} where
   pub held_get : (l : List (Option H)) (a : ℕ) (h : H) (r : Option H) → Holds l a h → r ≡ get_or l a r → r ≡ Some h

@@ -1,4 +1,4 @@
-use Rattle.std.proofs.Common.{◌≡◌, ℕ, ap, sym, ◌∙◌, List, ◌∷◌, ◌++◌, Option, None, map, Some}
+use Rattle.std.proofs.Common.{ap, sym, ◌∙◌, List, ◌∷◌, ◌++◌, Option, map}
 use Rattle.core_views.specs.Held.{Handful}
 use Rattle.table_seats.specs.Passes.{hand_in_place}
 use Rattle.table_seats.proofs.Slots.{no_gap}

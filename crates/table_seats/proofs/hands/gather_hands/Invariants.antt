@@ -1,4 +1,4 @@
-use Rattle.std.proofs.Common.{◌≡◌, map, Some, ◌≤◌, ◌+◌, ◌++◌, length, vec_capacity, vec_len}
+use Rattle.std.proofs.Common.{◌≡◌, map, Some, ◌≤◌, ◌++◌, length, vec_capacity}
 use Rattle.table_seats.proofs.hands.gather_hands.Given as goal
 
 abbrev pub invariant-loop-place : goal.invariant-loop-place

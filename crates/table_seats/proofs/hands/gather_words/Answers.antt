@@ -1,4 +1,4 @@
-use Rattle.std.proofs.Common.{◌≡◌, ℕ, ◌+◌, ap, sym, ◌∙◌, List, [], ◌∷◌, ◌++◌, take, vec_capacity, vec_len, ◌≤◌, arith}
+use Rattle.std.proofs.Common.{ℕ, ap, sym, ◌∙◌, List, [], ◌∷◌, ◌++◌, arith}
 use Rattle.std.specs.Slots.{slots_items}
 use Rattle.table_seats.proofs.HandLists.{take-more}
 use Rattle.table_seats.proofs.hands.gather_words.Goals as goal

@@ -1,6 +1,5 @@
-use Rattle.std.proofs.Common.{◌≡◌, ℕ, ◌<◌, ◌+◌, ◌≤◌, arith, ap, sym, ◌∙◌, subst, refl, List, ◌∷◌, [], ◌++◌, Option, Some, None, length, set, rules, length-append}
+use Rattle.std.proofs.Common.{◌≡◌, ℕ, ◌<◌, ◌+◌, arith, ap, sym, ◌∙◌, refl, List, ◌∷◌, [], ◌++◌, Option, length, length-append}
 use Rattle.core_views.specs.Held.{Handful}
-use Rattle.table_seats.specs.Rule.{overlay}
 use Rattle.table_seats.proofs.HandLists.{overlay-length}
 use Rattle.table_seats.proofs.Slots.{overlay-nil, brings, leaves, none_of}
 use Rattle.table_seats.proofs.hands.merge.Goals as goal

@@ -1,7 +1,6 @@
-use Rattle.std.proofs.Common.{◌≡◌, ℕ, ◌<◌, ◌+◌, ◌≤◌, arith, ap, sym, ◌∙◌, subst, refl, List, ◌∷◌, [], ◌++◌, Option, Some, None, length, set, rules, replicate}
+use Rattle.std.proofs.Common.{◌≡◌, ℕ, arith, ap, ◌∙◌, List, Option, Some, None, length, set, replicate}
 use Rattle.std.proofs.lemmas.List.{length-replicate}
 use Rattle.core_views.specs.Held.{Handful}
-use Rattle.table_seats.specs.Rule.{only}
 use Rattle.table_seats.proofs.HandLists.{at_below}
 use Rattle.table_seats.proofs.Slots.{held_get, only-is}
 use Rattle.table_seats.proofs.hands.take_hand.Goals as goal

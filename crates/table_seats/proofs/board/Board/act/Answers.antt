@@ -1,4 +1,4 @@
-use Rattle.std.proofs.Common.{◌≡◌, ◌<◌, ◌∙◌, ℕ, List, Option, Some, ap, length, set, subst, sym, refl}
+use Rattle.std.proofs.Common.{◌≡◌, ◌<◌, ◌∙◌, Some, ap, length, set, subst, sym, refl}
 use Rattle.core_views.specs.Held.{Handful}
 use Rattle.mmu_core.specs.machine.Enabled.{Enabled, mmu}
 use Rattle.mmu_core.specs.machine.Machine.{World}

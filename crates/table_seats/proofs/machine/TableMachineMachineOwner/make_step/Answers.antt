@@ -3,7 +3,7 @@ use Rattle.core_views.specs.declared.sizes.Sizes.{Sizes}
 use Rattle.core_views.specs.Held.{Handful}
 use Rattle.mmu_core.specs.machine.Enabled.{Enabled}
 use Rattle.step_seats.specs.Acts.{Acts}
-use Rattle.step_seats.specs.Machines.{KeepsSizes, Machine, seat_in}
+use Rattle.step_seats.specs.Machines.{KeepsSizes, seat_in}
 use Rattle.step_seats.specs.Moves.{KeepsRoom, handful_in}
 use Rattle.step_seats.specs.Seats.{Seat}
 use Rattle.table_seats.specs.Boards.{BoardView}

@@ -1,9 +1,6 @@
-use Rattle.std.proofs.Common.{◌≡◌, ◌∙◌, ℕ, List, Option, Some, ap, subst, sym}
+use Rattle.std.proofs.Common.{◌∙◌, ap, subst, sym}
 use Rattle.std.specs.Prelude.{IfSome}
 use Rattle.std.proofs.lemmas.Grind.{merely}
-use Rattle.core_views.specs.Held.{Handful}
-use Rattle.mmu_core.specs.machine.Worlds.{HandReached}
-use Rattle.step_seats.specs.Moves.{HasItsRoom}
 use Rattle.step_seats.specs.Where.{HasHand}
 use Rattle.table_seats.specs.Rule.{Holds}
 use Rattle.table_seats.specs.Passes.{PassView, hand_at, world_told}

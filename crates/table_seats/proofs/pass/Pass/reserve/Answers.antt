@@ -1,4 +1,4 @@
-use Rattle.std.proofs.Common.{◌≡◌, ◌<◌, ◌∙◌, ℕ, List, Option, Some, ap, refl, set, subst, sym}
+use Rattle.std.proofs.Common.{◌<◌, ◌∙◌, Some, ap, refl, set, subst, sym}
 use Rattle.std.specs.Prelude.{OnOk}
 use Rattle.core_views.specs.Held.{Handful}
 use Rattle.step_seats.proofs.Rooms.{reserve_has_room}

@@ -1,9 +1,8 @@
-use Rattle.std.proofs.Common.{◌≡◌, ◌≤◌, ◌∙◌, ℕ, List, Option, ap, arith, length, subst, sym}
-use Rattle.core_views.specs.Held.{Held, Handful}
+use Rattle.std.proofs.Common.{◌∙◌, List, Option, ap, arith, length, subst, sym}
+use Rattle.core_views.specs.Held.{Handful}
 use Rattle.mmu_core.specs.machine.Enabled.{mmu}
 use Rattle.table_seats.specs.Boards.{begun}
 use Rattle.table_seats.specs.Boards.{BoardView}
-use Rattle.table_seats.specs.Rule.{joined, overlay}
 use Rattle.table_seats.specs.Passes.{IsPass, Known, PassView}
 use Rattle.table_seats.proofs.Crossing.{pass_joined}
 use Rattle.table_seats.proofs.HandLists.{overlay-length}

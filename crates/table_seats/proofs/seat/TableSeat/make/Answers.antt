@@ -1,7 +1,6 @@
 use Rattle.std.proofs.Common.{◌≡◌, ◌<◌, ◌∙◌, ◌∷◌, [], ℕ, List, Option, Some, ap, length, map, subst, sym}
 use Rattle.core_views.specs.Held.{Handful}
 use Rattle.mmu_core.specs.machine.Enabled.{mmu}
-use Rattle.step_seats.specs.Machines.{IsMachine}
 use Rattle.table_seats.specs.Boards.{begun}
 use Rattle.table_seats.specs.Rule.{Kept, first_view}
 use Rattle.table_seats.specs.Passes.{IsPass, Known}
