@@ -14,7 +14,7 @@ use Rattle.table_seats.specs.Passes.{IsPass}
 use Rattle.table_seats.proofs.HandLists.{all_held, at_below}
 use Rattle.table_seats.proofs.Runs.{at_or}
 use Rattle.table_seats.proofs.Sits.{sits_first}
-use Rattle.table_seats.proofs.Slots.{cores-all}
+use Rattle.table_seats.proofs.Places.{cores-all}
 
 -- The root is a word.
 some_in_all : (z : Sizes) → 0 < total (map_of z)

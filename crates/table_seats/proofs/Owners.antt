@@ -22,7 +22,7 @@ use Rattle.table_seats.specs.Rule.{Holds}
 use Rattle.table_seats.proofs.Closes.{same_hands}
 use Rattle.table_seats.proofs.Passes.{put_fits}
 use Rattle.table_seats.proofs.Runs.{or_at}
-use Rattle.table_seats.proofs.Slots.{cores-all, keeps_held, places-are}
+use Rattle.table_seats.proofs.Places.{cores-all, keeps_held, places-are}
 
 -- The hand of the machine at a place is the pass's.
 pub handful_is : (hands : List (Option Handful)) (i : ℕ) → handful_in (map hand_in_place hands) i ≡ hand_at hands i
@@ -117,13 +117,13 @@ module _ (m : OwnerView) (o : OwnsAll m) where
     abbrev hand : Handful
     hand = hand_at after.hands i
 
-    abbrev pub then_ : OwnerView
-    then_ = record { sizes = m.sizes; board = m.board; pass = after }
+    abbrev pub owner_after : OwnerView
+    owner_after = record { sizes = m.sizes; board = m.board; pass = after }
 
     as_put : map hand_in_place after.hands ≡ set hs i hand
     as_put = ap (map hand_in_place) put.hands ∙ map-set hand_in_place t.hands i (Some hand)
 
-    pub owns_after : after.knows.alone ≡ true → IsPass after.knows after.hands → OwnsAll then_
+    pub owns_after : after.knows.alone ≡ true → IsPass after.knows after.hands → OwnsAll owner_after
     owns_after alone is = record {
       fits = put_fits t after i put m.board o.fits;
       alone = alone;
@@ -134,11 +134,11 @@ module _ (m : OwnerView) (o : OwnsAll m) where
       began = subst (λ (w : World Held). ReachedFrom m.sizes w) (sym put.start) o.began;
     }
 
-    pub others_stay : (machine_of then_).hands ≡ set hs i (handful_in (machine_of then_).hands i)
+    pub others_stay : (machine_of owner_after).hands ≡ set hs i (handful_in (machine_of owner_after).hands i)
     others_stay = as_put ∙ ap (λ (h : Handful). set hs i h) (sym (handful_is after.hands i))
 
-    pub as_many : length (machine_of then_).hands ≡ length hs
-    as_many = ap (λ (l : List Handful). length l) others_stay ∙ length-set hs i (handful_in (machine_of then_).hands i)
+    pub as_many : length (machine_of owner_after).hands ≡ length hs
+    as_many = ap (λ (l : List Handful). length l) others_stay ∙ length-set hs i (handful_in (machine_of owner_after).hands i)
 
 -- ## The first pass of a trace's board
 

@@ -4,7 +4,7 @@ use Rattle.std.proofs.lemmas.List.{take_all}
 use Rattle.core_views.specs.Held.{Handful}
 use Rattle.table_seats.specs.Boards.{AllHands}
 use Rattle.table_seats.specs.Passes.{PassView}
-use Rattle.table_seats.proofs.Slots.{all-further}
+use Rattle.table_seats.proofs.Places.{all-further}
 use Rattle.table_seats.proofs.pass.Pass.has_all.Goals as goal
 
 pub loop-place-preserved : goal.loop-place-preserved

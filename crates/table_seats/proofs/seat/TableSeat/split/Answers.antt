@@ -4,7 +4,7 @@ use Rattle.table_seats.specs.Boards.{BoardView}
 use Rattle.table_seats.specs.Rule.{Holds, only, with_only, without}
 use Rattle.table_seats.specs.Passes.{hand_at, IsPass, Known, PassView}
 use Rattle.table_seats.proofs.HandLists.{only-length}
-use Rattle.table_seats.proofs.Slots.{kept}
+use Rattle.table_seats.proofs.Places.{kept}
 use Rattle.table_seats.proofs.Crossing.{pass_only, pass_without}
 use Rattle.table_seats.proofs.seat.TableSeat.split.Goals as goal
 
