@@ -12,3 +12,5 @@ mod host_move_tests;
 mod host_tests;
 #[cfg(test)]
 mod pool_tests;
+#[cfg(test)]
+mod table_tests;

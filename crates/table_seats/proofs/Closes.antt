@@ -1,5 +1,5 @@
 -- What the last state of a table shows, where one seat holds every hand.
-use Rattle.std.proofs.Common.{◌≡◌, ℕ, zero, suc, ◌+◌, ◌<◌, true, List, [], ◌∷◌, map, length, sym, refl, ap, ◌∙◌, subst, arith, Option, Some, None}
+use Rattle.std.proofs.Common.{◌≡◌, ℕ, suc, true, List, [], ◌∷◌, map, length, sym, refl, ap, ◌∙◌, subst, arith, Some}
 use mathlib.Core.Option.{some, some-injective, some-ne-none}
 use lib.ListN.{get_elem?}
 use Rattle.atomic_table.specs.Table.{Final, Seen, State}
@@ -13,7 +13,8 @@ pub same_hands : {H : Type 0} (xs ys : List H) → length xs ≡ length ys → (
 same_hands [] [] l f = refl
 same_hands [] (y ∷ ys) l f = absurd (some-ne-none y (sym (f 0 y refl)))
 same_hands (x ∷ xs) [] l f = absurd (omega arith)
-same_hands {H} (x ∷ xs) (y ∷ ys) l f = let e = some-injective x y (f 0 y refl) in let t = same_hands xs ys (omega arith) (λ a h hold. f (suc a) h hold) in λ i. e i ∷ t i
+same_hands {H} (x ∷ xs) (y ∷ ys) l f =
+    let e = some-injective x y (f 0 y refl) in let t = same_hands xs ys (omega arith) (λ a h hold. f (suc a) h hold) in λ i. e i ∷ t i
 
 module _ {H K : Type 0} (C : Core H K) where
   -- the words and the hands are reached, and before the first split they are where the past leads

@@ -1,14 +1,13 @@
 -- A pass, after a hand went out of it or another pass's hands came to it.
-use Rattle.std.proofs.Common.{◌≡◌, ◌∙◌, ⊎_elim, ℕ, List, None, Option, ap, map, set, subst, sym}
+use Rattle.std.proofs.Common.{◌≡◌, ◌∙◌, ⊎_elim, ℕ, List, None, Option, ap, set}
 use Rattle.std.proofs.lemmas.List.{map-set}
 use Rattle.core_views.specs.Held.{Held, Handful}
 use Rattle.mmu_core.specs.machine.Enabled.{mmu}
-use Rattle.step_seats.specs.Moves.{HasItsRoom}
-use Rattle.table_seats.specs.Rule.{Holds, joined, only, overlay, with_only, without}
+use Rattle.table_seats.specs.Rule.{joined, only, overlay, with_only, without}
 use Rattle.table_seats.specs.Passes.{IsPass, Known, core_in}
 use Rattle.table_seats.proofs.HandLists.{cut_held, only_held, overlay_held}
 use Rattle.table_seats.proofs.Sits.{sits_joined, sits_only, sits_without}
-use Rattle.table_seats.proofs.Slots.{cores-only, cores-overlay}
+use Rattle.table_seats.proofs.Places.{cores-only, cores-overlay}
 
 pub pass_only : (v : Known) (hands : List (Option Handful)) → IsPass v hands → (a : ℕ) → IsPass (with_only a v) (only hands a)
 pass_only v hands p a = record {

@@ -1,5 +1,5 @@
 -- A call of the table for each operation.
-use Rattle.std.proofs.Common.{◌≡◌, ℕ, ◌<◌, true, length, ap, refl, sym, ◌∙◌, subst}
+use Rattle.std.proofs.Common.{◌≡◌, ℕ, ◌<◌, true, length, ap, refl, ◌∙◌, subst}
 use Rattle.std.specs.Prelude.{Bool, false, if◌then◌else◌}
 use prog.Atomic.{either}
 use Rattle.atomic_table.specs.Table.{Allows, Me, State}

@@ -1,21 +1,22 @@
 -- A split keeps the rule of the table.
-use Rattle.std.proofs.Common.{◌≡◌, ℕ, zero, suc, ◌+◌, ◌<◌, ◌≢◌, ◌⊎◌, ◌^◌, Bool, true, false, List, [], ◌∷◌, ◌++◌, map, length, get_or, set, sym, refl, ap, ◌∙◌, inl, inr, ⊎_elim, subst, arith, Option, Some, None, length-set, length-append, if◌then◌else◌}
-use mathlib.Core.Option.{some, none, some-injective, some-ne-none}
+use Rattle.std.proofs.Common.{◌≡◌, ℕ, ◌≢◌, ◌⊎◌, true, false, List, [], ◌∷◌, ◌++◌, length, set, sym, refl, ap, ◌∙◌, inl, inr, ⊎_elim, subst, arith}
+use Rattle.std.proofs.Common.{None, length-set}
+use mathlib.Core.Option.{some, some-injective}
 use mathlib.Core.Logic.{dite}
 use native.Mathlib.Decide.{ℕ_discrete}
 use lib.ListN.{get_elem?}
-use Rattle.atomic_table.specs.Table.{State, Me, keeps, Allows, Splits, Joins, opening}
-use Rattle.atomic_table.proofs.Lists.{at_set, set_here, set_else, at_map, at_longer, at_last}
-use Rattle.mmu_core.specs.machine.Machine.{Core, World, Step, Leads, May, answered, effect, run, Legal}
-use Rattle.table_seats.specs.Rule.{View, Holds, Reached, at_past, stepped, world, step_of, first_view, only, overlay, without, with_only, joined, spent, Kept, moved, Acted}
-use Rattle.table_seats.proofs.Runs.{run-snoc, legal-snoc, effect-is, may_of, leads_of, reached-words, reached-hands}
-use Rattle.table_seats.proofs.HandLists.{at_below, at_one, at_end, some-held, none-held, put_held, cut_held, only_held, only_here, only-length, overlay_held, overlay_that, overlay_this, overlay-length, all_held, map-some}
+use Rattle.atomic_table.specs.Table.{State, Splits}
+use Rattle.atomic_table.proofs.Lists.{at_set, set_here, set_else, at_longer, at_last}
+use Rattle.mmu_core.specs.machine.Machine.{Core, World}
+use Rattle.table_seats.specs.Rule.{View, Holds, only, without, with_only, Kept}
+use Rattle.table_seats.proofs.HandLists.{at_below, at_end, cut_held, only_held, only_here, only-length}
 
 module _ {H K : Type 0} (C : Core H K) where
   abbrev V : Type 0
   V = View H K
 
-  module _ (start : World H) (words : List ℕ) (views : List V) (r : Kept C start words views) (id : ℕ) (v : V) (at : get_elem? views id ≡ some v) (live : v.live ≡ true) (a : ℕ) where
+  module _ (start : World H) (words : List ℕ) (views : List V) (r : Kept C start words views) (id : ℕ) (v : V) (at : get_elem? views id ≡ some v)
+      (live : v.live ≡ true) (a : ℕ) where
     abbrev left : V
     left = without a v
 
@@ -45,15 +46,24 @@ module _ {H K : Type 0} (C : Core H K) where
     cut_alone i w (is_right e f) al = let x : false ≡ true = ap (λ (z : V). z.alone) f ∙ al in cc
 
     cut_keeps : (i : ℕ) (w : V) → Cut i w → w.live ≡ true → (w.past ≡ r.past) × (w.start ≡ start) × (length w.held ≡ length start.hands)
-    cut_keeps i w (is_left e f) l = let s = r.keeps id v at live in (ap (λ (x : V). x.past) (sym f) ∙ s.0, ap (λ (x : V). x.start) (sym f) ∙ s.1, ap (λ (x : V). length x.held) (sym f) ∙ (length-set v.held a None ∙ s.2))
+    cut_keeps i w (is_left e f) l =
+        let s = r.keeps id v at live in
+        (ap (λ (x : V). x.past) (sym f) ∙ s.0, ap (λ (x : V). x.start) (sym f) ∙ s.1, ap (λ (x : V). length x.held) (sym f) ∙ (length-set v.held a None ∙ s.2))
     cut_keeps i w (is_other ne e) l = r.keeps i w e l
-    cut_keeps i w (is_right e f) l = let s = r.keeps id v at live in (ap (λ (x : V). x.past) (sym f) ∙ s.0, ap (λ (x : V). x.start) (sym f) ∙ s.1, ap (λ (x : V). length x.held) (sym f) ∙ (only-length v.held a ∙ s.2))
+    cut_keeps i w (is_right e f) l =
+        let s = r.keeps id v at live in
+        (ap (λ (x : V). x.past) (sym f) ∙ s.0, ap (λ (x : V). x.start) (sym f) ∙ s.1, ap (λ (x : V). length x.held) (sym f) ∙ (only-length v.held a ∙ s.2))
 
     -- the seat that held before what a view holds now, and where that is the right one it is the actor's
-    cut_before : (i : ℕ) (w : V) (b : ℕ) (g : H) → Cut i w → Holds w.held b g → (i₀ : ℕ) × (w₀ : V) × (get_elem? views i₀ ≡ some w₀) × Holds w₀.held b g × (((i ≡ i₀) × (i₀ ≡ id → b ≢ a)) ⊎ ((i ≡ length views) × (i₀ ≡ id) × (b ≡ a)))
-    cut_before i w b g (is_left e f) hold = let c = cut_held v.held a b g (subst (λ (x : V). Holds x.held b g) (sym f) hold) in (id, v, at, c.1, inl (e, λ _. c.0))
+    cut_before : (i : ℕ) (w : V) (b : ℕ) (g : H) → Cut i w → Holds w.held b g
+        → (i₀ : ℕ) × (w₀ : V) × (get_elem? views i₀ ≡ some w₀) × Holds w₀.held b g ×
+        (((i ≡ i₀) × (i₀ ≡ id → b ≢ a)) ⊎ ((i ≡ length views) × (i₀ ≡ id) × (b ≡ a)))
+    cut_before i w b g (is_left e f) hold =
+        let c = cut_held v.held a b g (subst (λ (x : V). Holds x.held b g) (sym f) hold) in (id, v, at, c.1, inl (e, λ _. c.0))
     cut_before i w b g (is_other ne e) hold = (i, w, e, hold, inl (refl, λ q. absurd (ne q)))
-    cut_before i w b g (is_right e f) hold = let o = only_held v.held a b g (subst (λ (x : V). Holds x.held b g) (sym f) hold) in (id, v, at, subst (λ (c : ℕ). Holds v.held c g) (sym o.0) o.1, inr (e, refl, o.0))
+    cut_before i w b g (is_right e f) hold =
+        let o = only_held v.held a b g (subst (λ (x : V). Holds x.held b g) (sym f) hold) in
+        (id, v, at, subst (λ (c : ℕ). Holds v.held c g) (sym o.0) o.1, inr (e, refl, o.0))
 
     cut_once : (i j : ℕ) (x y : V) (b : ℕ) (f g : H) → get_elem? cut i ≡ some x → get_elem? cut j ≡ some y → Holds x.held b f → Holds y.held b g → i ≡ j
     cut_once i j x y b f g e e' p q =
@@ -71,9 +81,16 @@ module _ {H K : Type 0} (C : Core H K) where
 
     cut_somewhere : (b : ℕ) (g : H) → get_elem? r.hands b ≡ some g → (i : ℕ) × (w : V) × (get_elem? cut i ≡ some w) × Holds w.held b g
     cut_somewhere b g e = let s = r.somewhere b g e in dite (ℕ_discrete s.0 id)
-        (λ same. let is : s.1 ≡ v = some-injective s.1 v (sym s.2 ∙ (ap (get_elem? views) same ∙ at)) in let hold : Holds v.held b g = subst (λ (x : V). Holds x.held b g) is s.3 in
+        (λ same. let is : s.1 ≡ v = some-injective s.1 v (sym s.2 ∙ (ap (get_elem? views) same ∙ at)) in
+        let hold : Holds v.held b g = subst (λ (x : V). Holds x.held b g) is s.3 in
         dite (ℕ_discrete b a)
-        (λ own. (length views, right, at_last (set views id left) right (length views) cut_length, subst (λ (c : ℕ). Holds (only v.held a) c g) (sym own) (only_here v.held a g (subst (λ (c : ℕ). Holds v.held c g) own hold))))
+        (λ own. (
+          length views,
+          right,
+          at_last (set views id left) right (length views) cut_length,
+          subst (λ (c : ℕ). Holds (only v.held a) c g) (sym own)
+              (only_here v.held a g (subst (λ (c : ℕ). Holds v.held c g) own hold)),
+        ))
         (λ ne. (id, left, at_left, set_else v.held a b None ne ∙ hold)))
         (λ ne. (s.0, s.1, at_longer (set views id left) (right ∷ []) s.0 s.1 (set_else views id s.0 left ne ∙ s.2), s.3))
 
@@ -89,5 +106,6 @@ module _ {H K : Type 0} (C : Core H K) where
       somewhere = cut_somewhere;
     }
 
-  pub splits : (start : World H) (id : ℕ) (v : V) → v.live ≡ true → (a : ℕ) → Splits (λ (s : State (Unit {0}) V). Kept C start s.words s.views) id v (without a v) (with_only a v)
+  pub splits : (start : World H) (id : ℕ) (v : V) → v.live ≡ true → (a : ℕ)
+      → Splits (λ (s : State (Unit {0}) V). Kept C start s.words s.views) id v (without a v) (with_only a v)
   splits start id v live a s r at = cut_kept start s.words s.views r id v at live a

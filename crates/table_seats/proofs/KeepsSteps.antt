@@ -1,21 +1,23 @@
 -- The first seat, and each step of an actor, keep the rule of the table.
-use Rattle.std.proofs.Common.{◌≡◌, ℕ, zero, suc, ◌+◌, ◌<◌, ◌≢◌, ◌⊎◌, ◌^◌, Bool, true, false, List, [], ◌∷◌, ◌++◌, map, length, get_or, set, sym, refl, ap, ◌∙◌, inl, inr, ⊎_elim, subst, arith, Option, Some, None, length-set, length-append, if◌then◌else◌}
-use mathlib.Core.Option.{some, none, some-injective, some-ne-none}
+use Rattle.std.proofs.Common.{◌≡◌, ℕ, ◌<◌, ◌≢◌, Bool, true, false, List, [], ◌∷◌, ◌++◌, length, get_or, set, sym, refl, ap, ◌∙◌, ⊎_elim, subst, arith}
+use Rattle.std.proofs.Common.{Some, length-set, if◌then◌else◌}
+use mathlib.Core.Option.{some, some-injective}
 use mathlib.Core.Logic.{dite}
 use native.Mathlib.Decide.{ℕ_discrete}
 use lib.ListN.{get_elem?}
-use Rattle.atomic_table.specs.Table.{State, Me, keeps, Allows, Splits, Joins, opening}
-use Rattle.atomic_table.proofs.Lists.{at_set, set_here, set_else, at_map, at_longer, at_last}
-use Rattle.mmu_core.specs.machine.Machine.{Core, World, Step, Leads, May, answered, effect, run, Legal}
-use Rattle.table_seats.specs.Rule.{View, Holds, Reached, at_past, stepped, world, step_of, first_view, only, overlay, without, with_only, joined, spent, Kept, moved, Acted}
-use Rattle.table_seats.proofs.Runs.{run-snoc, legal-snoc, effect-is, may_of, leads_of, reached-words, reached-hands}
-use Rattle.table_seats.proofs.HandLists.{at_below, at_one, at_end, some-held, none-held, put_held, cut_held, only_held, only_here, only-length, overlay_held, overlay_that, overlay_this, overlay-length, all_held, map-some}
+use Rattle.atomic_table.specs.Table.{State, Me, keeps, Allows}
+use Rattle.atomic_table.proofs.Lists.{at_set, set_here, set_else, at_map}
+use Rattle.mmu_core.specs.machine.Machine.{Core, World, Step, Leads, May, effect, run, Legal}
+use Rattle.table_seats.specs.Rule.{View, Holds, Reached, at_past, stepped, world, step_of, first_view, Kept, moved, Acted}
+use Rattle.table_seats.proofs.Runs.{run-snoc, legal-snoc, effect-is, may_of, leads_of, reached-words}
+use Rattle.table_seats.proofs.HandLists.{at_below, at_one, put_held, all_held, map-some}
 
 module _ {H K : Type 0} (C : Core H K) where
   abbrev V : Type 0
   V = View H K
 
-  module _ (start : World H) (words : List ℕ) (views : List V) (r : Kept C start words views) (id : ℕ) (v : V) (at : get_elem? views id ≡ some v) (live : v.live ≡ true)
+  module _ (start : World H) (words : List ℕ) (views : List V) (r : Kept C start words views) (id : ℕ) (v : V) (at : get_elem? views id ≡ some v)
+      (live : v.live ≡ true)
       (a : ℕ) (h : H) (has : Holds v.held a h) (k : K) (may : C.Enabled h k) (inside : C.word k < length start.words) where
     abbrev n : ℕ
     n = get_or words (C.word k) 0
@@ -48,17 +50,22 @@ module _ {H K : Type 0} (C : Core H K) where
         let m : May C (run C start v.past) (step_of a k) = subst (λ (w : World H). May C w (step_of a k)) (t.0 ∙ ap (run C start) (sym p)) mayed in
         let legal : Legal C start (v.past ++ step_of a k ∷ []) = legal-snoc C start v.past (step_of a k) (subst (Legal C start) (sym p) t.1) m in
         let is : run C start (v.past ++ step_of a k ∷ []) ≡ world words' hands' =
-        run-snoc C start v.past (step_of a k) ∙ (ap (λ (w : World H). effect C w (step_of a k)) (ap (run C start) p ∙ sym t.0) ∙ effect-is C words r.hands a h k there) in
+        run-snoc C start v.past (step_of a k) ∙ (ap (λ (w : World H). effect C w (step_of a k)) (ap (run C start) p ∙ sym t.0)
+        ∙ effect-is C words r.hands a h k there) in
         subst (Reached C start (v.past ++ step_of a k ∷ [])) is (at_past legal)
     step_reached false e =
         let p = (r.keeps id v at live).0 in
-        subst (Reached C start v.past) (effect-is C words r.hands a h k there) (stepped (step_of a k) (subst (λ (ss : List (Step K)). Reached C start ss (world words r.hands)) (sym p) r.reached) mayed)
+        subst (Reached C start v.past) (effect-is C words r.hands a h k there)
+        (stepped (step_of a k) (subst (λ (ss : List (Step K)). Reached C start ss (world words r.hands)) (sym p) r.reached) mayed)
 
-    step_alone : (b : Bool) → v.alone ≡ b → b ≡ true → (world words' hands' ≡ run C start (if b then v.past ++ step_of a k ∷ [] else v.past)) × Legal C start (if b then v.past ++ step_of a k ∷ [] else v.past)
+    step_alone : (b : Bool) → v.alone ≡ b → b ≡ true
+        → (world words' hands' ≡ run C start (if b then v.past ++ step_of a k ∷ [] else v.past)) × Legal C start
+        (if b then v.past ++ step_of a k ∷ [] else v.past)
     step_alone true e _ =
         let t = r.alone id v at e in let p = (r.keeps id v at live).0 in
         let m : May C (run C start v.past) (step_of a k) = subst (λ (w : World H). May C w (step_of a k)) (t.0 ∙ ap (run C start) (sym p)) mayed in (
-          sym (run-snoc C start v.past (step_of a k) ∙ (ap (λ (w : World H). effect C w (step_of a k)) (ap (run C start) p ∙ sym t.0) ∙ effect-is C words r.hands a h k there)),
+          sym (run-snoc C start v.past (step_of a k) ∙ (ap (λ (w : World H). effect C w (step_of a k)) (ap (run C start) p ∙ sym t.0)
+              ∙ effect-is C words r.hands a h k there)),
           legal-snoc C start v.past (step_of a k) (subst (Legal C start) (sym p) t.1) m,
         )
     step_alone false e f = cc
@@ -68,7 +75,8 @@ module _ {H K : Type 0} (C : Core H K) where
     others false e i ne w f = sym (r.keeps id v at live).0
 
     -- who holds a hand after the step held one before
-    held_before : (i : ℕ) (w : V) (b : ℕ) (g : H) → get_elem? (set views id v') i ≡ some w → Holds w.held b g → (w₀ : V) × (g₀ : H) × (get_elem? views i ≡ some w₀) × Holds w₀.held b g₀
+    held_before : (i : ℕ) (w : V) (b : ℕ) (g : H) → get_elem? (set views id v') i ≡ some w → Holds w.held b g
+        → (w₀ : V) × (g₀ : H) × (get_elem? views i ≡ some w₀) × Holds w₀.held b g₀
     held_before i w b g e hold = ⊎_elim
         (λ t. let hold' : Holds v'.held b g = subst (λ (x : V). Holds x.held b g) (sym t.1) hold in
         let at' : get_elem? views i ≡ some v = ap (get_elem? views) t.0 ∙ at in
@@ -88,7 +96,13 @@ module _ {H K : Type 0} (C : Core H K) where
     step_somewhere b g e =
         let here : get_elem? (set views id v') id ≡ some v' = set_here views id v' (at_below views id v at) in
         ⊎_elim
-        (λ t. (id, v', here, ap (get_elem? v'.held) t.0 ∙ (set_here v.held a (Some (C.next h k m)) (at_below v.held a (Some h) has) ∙ ap (λ (x : H). some (Some x)) t.1)))
+        (λ t. (
+          id,
+          v',
+          here,
+          ap (get_elem? v'.held) t.0 ∙ (set_here v.held a (Some (C.next h k m)) (at_below v.held a (Some h) has)
+              ∙ ap (λ (x : H). some (Some x)) t.1),
+        ))
         (λ t. let s = r.somewhere b g t.1 in dite (ℕ_discrete s.0 id)
         (λ same. let is : s.1 ≡ v = some-injective s.1 v (sym s.2 ∙ (ap (get_elem? views) same ∙ at)) in
         (id, v', here, set_else v.held a b (Some (C.next h k m)) t.0 ∙ subst (λ (x : V). Holds x.held b g) is s.3))
@@ -101,17 +115,24 @@ module _ {H K : Type 0} (C : Core H K) where
       hands = hands';
       reached = step_reached v.alone refl;
       alone = λ i w e al. ⊎_elim
-          (λ t. let al' : v.alone ≡ true = ap (λ (x : V). x.alone) t.1 ∙ al in let s = step_alone v.alone refl al' in (s.0, s.1, length-set views id v' ∙ (r.alone id v at al').2))
+          (λ t. let al' : v.alone ≡ true = ap (λ (x : V). x.alone) t.1
+          ∙ al in let s = step_alone v.alone refl al' in (s.0, s.1, length-set views id v' ∙ (r.alone id v at al').2))
           (λ t. absurd (t.0 (lone i w t.1 al))) (at_set views id i v' w e);
       keeps = λ i w e l. ⊎_elim
-          (λ t. let s = r.keeps id v at live in (ap (λ (x : V). x.past) (sym t.1), ap (λ (x : V). x.start) (sym t.1) ∙ s.1, ap (λ (x : V). length x.held) (sym t.1) ∙ (length-set v.held a _ ∙ s.2)))
+          (λ t. let s = r.keeps id v at live in (
+            ap (λ (x : V). x.past) (sym t.1),
+            ap (λ (x : V). x.start) (sym t.1)
+                ∙ s.1,
+            ap (λ (x : V). length x.held) (sym t.1) ∙ (length-set v.held a _ ∙ s.2),
+          ))
           (λ t. let s = r.keeps i w t.1 l in (s.0 ∙ others v.alone refl i t.0 w t.1, s.1, s.2)) (at_set views id i v' w e);
       owns = step_owns;
       once = λ i j x y b f g e e' p q. let s = held_before i x b f e p in let t = held_before j y b g e' q in r.once i j s.0 t.0 b s.1 t.1 s.2 t.2 s.3 t.3;
       somewhere = step_somewhere;
     }
 
-  module _ (start : World H) (slots id : ℕ) (me : Me (Unit {0}) V) (live : me.0.live ≡ true) (a : ℕ) (h : H) (has : Holds me.0.held a h) (k : K) (may : C.Enabled h k) (inside : C.word k < length start.words) where
+  module _ (start : World H) (slots id : ℕ) (me : Me (Unit {0}) V) (live : me.0.live ≡ true) (a : ℕ) (h : H) (has : Holds me.0.held a h) (k : K)
+      (may : C.Enabled h k) (inside : C.word k < length start.words) where
     abbrev v : V
     v = me.0
 
@@ -124,7 +145,8 @@ module _ {H K : Type 0} (C : Core H K) where
           moved C a h k (C.answer k n) v,
           keeps,
           tt,
-          subst (λ (z : ℕ). Kept C start (set s.words (C.word k) z) (set s.views id (moved C a h k (C.answer k n) v))) (sym (is n)) (step_keeps start s.words s.views r id v at live a h has k may inside),
+          subst (λ (z : ℕ). Kept C start (set s.words (C.word k) z) (set s.views id (moved C a h k (C.answer k n) v))) (sym (is n))
+              (step_keeps start s.words s.views r id v at live a h has k may inside),
           (
             record {
               view = ap (λ (z : ℕ). moved C a h k z v) (sym (says n));
@@ -145,7 +167,8 @@ module _ {H K : Type 0} (C : Core H K) where
     hands = start.hands;
     reached = at_past tt;
     alone = λ i w e al. (refl, tt, refl);
-    keeps = λ i w e l. let is = at_one (first_view start) i w e in (ap (λ (x : V). x.past) (sym is), ap (λ (x : V). x.start) (sym is), ap (λ (x : V). length x.held) (sym is) ∙ map-some start.hands);
+    keeps = λ i w e l. let is = at_one (first_view start) i w e in
+        (ap (λ (x : V). x.past) (sym is), ap (λ (x : V). x.start) (sym is), ap (λ (x : V). length x.held) (sym is) ∙ map-some start.hands);
     owns = λ i w a h e hold. all_held start.hands a h (subst (λ (x : V). Holds x.held a h) (sym (at_one (first_view start) i w e)) hold);
     once = λ i j v w a g h e e' _ _. let p = at_below (first_view start ∷ []) i v e in let q = at_below (first_view start ∷ []) j w e' in omega arith;
     somewhere = λ a h e. (0, first_view start, refl, at_map Some start.hands a h e);

@@ -6,7 +6,7 @@ pub mod KeepsJoins
 pub mod EachCall
 pub mod Closes
 pub mod Sits
-pub mod Slots
+pub mod Places
 pub mod Passes
 pub mod Crossing
 pub mod Opening

@@ -1,23 +1,20 @@
 -- The board of a machine, and the pass with all its hands.
-use Rattle.std.proofs.Common.{◌≡◌, ◌<◌, ◌≤◌, ◌∙◌, ◌+◌, ℕ, zero, suc, List, [], ◌∷◌, Option, Some, None, ap, arith, length, map, refl, subst, sym}
-use mathlib.Core.Option.{some, some-injective, some-ne-none}
-use lib.ListN.{get_elem?}
+use Rattle.std.proofs.Common.{◌≡◌, ◌<◌, ℕ, List, Some, arith, length, map, refl, subst, sym}
 use Rattle.core_views.specs.declared.sizes.Sizes.{Sizes}
 use Rattle.core_views.specs.declared.hand.Closing.{Closing}
-use Rattle.core_views.specs.Held.{Held, Handful}
+use Rattle.core_views.specs.Held.{Handful}
 use Rattle.spte_words.specs.Areas.{total}
 use Rattle.part_steps.specs.Tasks.{map_of}
 use Rattle.mmu_core.specs.machine.Enabled.{mmu}
-use Rattle.mmu_core.specs.machine.Machine.{World}
 use Rattle.mmu_core.proofs.machine.Sized.{as_many_as_mapped}
 use Rattle.step_seats.specs.Machines.{IsMachine}
-use Rattle.step_seats.specs.Moves.{EachHasRoom, HasItsRoom, core_of, cores_of, handful_in, no_hand, world_of}
-use Rattle.table_seats.specs.Rule.{Holds, first_view}
-use Rattle.table_seats.specs.Passes.{IsPass, core_in}
-use Rattle.table_seats.proofs.HandLists.{all_held, at_below, some-held}
+use Rattle.step_seats.specs.Moves.{HasItsRoom, no_hand, world_of}
+use Rattle.table_seats.specs.Rule.{first_view}
+use Rattle.table_seats.specs.Passes.{IsPass}
+use Rattle.table_seats.proofs.HandLists.{all_held, at_below}
 use Rattle.table_seats.proofs.Runs.{at_or}
 use Rattle.table_seats.proofs.Sits.{sits_first}
-use Rattle.table_seats.proofs.Slots.{cores-all}
+use Rattle.table_seats.proofs.Places.{cores-all}
 
 -- The root is a word.
 some_in_all : (z : Sizes) → 0 < total (map_of z)

@@ -1,12 +1,9 @@
 -- A board with its first pass is a machine.
-use Rattle.std.proofs.Common.{◌≡◌, ◌<◌, ◌∙◌, ℕ, zero, suc, true, Bool, List, [], ◌∷◌, Option, Some, None, ap, arith, get_or, length, length-set, map, refl, set, subst, sym}
+use Rattle.std.proofs.Common.{◌≡◌, ◌<◌, ◌∙◌, ℕ, true, Bool, List, Option, Some, None, ap, length, length-set, map, refl, set, subst, sym}
 use Rattle.std.specs.Prelude.{IfSome, if◌then◌else◌}
 use Rattle.std.proofs.Math.ListN.{length-map, get_or-map}
 use Rattle.std.proofs.lemmas.List.{map-set}
-use mathlib.Core.Option.{some}
-use lib.ListN.{get_elem?}
 use Rattle.atomic_table.proofs.Lists.{at_map}
-use Rattle.core_views.specs.declared.sizes.Sizes.{Sizes}
 use Rattle.core_views.specs.Held.{Held, Handful}
 use Rattle.core_views.specs.declared.trace.Trace.{Trace}
 use Rattle.core_views.specs.Sizes.{AreSizes, actors_of, sizes_of}
@@ -14,19 +11,18 @@ use Rattle.mmu_core.specs.machine.Worlds.{IsStart}
 use Rattle.mmu_core.specs.machine.Enabled.{mmu}
 use Rattle.mmu_core.specs.machine.Machine.{Leads, World}
 use Rattle.mmu_core.proofs.machine.Extend.{as_many_hands, leads_to_end, stays, then}
-use Rattle.step_seats.specs.Machines.{IsMachine, Machine, seat_in, world_in}
-use Rattle.step_seats.specs.Moves.{EachHasRoom, HasItsRoom, cores_of, core_of, handful_in, no_hand}
-use Rattle.step_seats.specs.Seats.{Seat}
+use Rattle.step_seats.specs.Machines.{IsMachine, seat_in, world_in}
+use Rattle.step_seats.specs.Moves.{cores_of, core_of, handful_in, no_hand}
 use Rattle.step_seats.specs.Where.{HasHand}
 use Rattle.step_seats.proofs.Worlds.{count_of_hands}
-use Rattle.table_seats.specs.Boards.{AllHands, BoardView, Fits, IsFirst, begun}
+use Rattle.table_seats.specs.Boards.{IsFirst, begun}
 use Rattle.table_seats.specs.Owners.{OwnerView, OwnsAll, ReachedFrom, machine_of}
 use Rattle.table_seats.specs.Passes.{IsPass, Keeps, Known, PassView, PutsHand, core_in, hand_at, hand_in_place, seat_of, steps_told, world_after, world_told}
 use Rattle.table_seats.specs.Rule.{Holds}
 use Rattle.table_seats.proofs.Closes.{same_hands}
 use Rattle.table_seats.proofs.Passes.{put_fits}
 use Rattle.table_seats.proofs.Runs.{or_at}
-use Rattle.table_seats.proofs.Slots.{cores-all, keeps_held, places-are}
+use Rattle.table_seats.proofs.Places.{cores-all, keeps_held, places-are}
 
 -- The hand of the machine at a place is the pass's.
 pub handful_is : (hands : List (Option Handful)) (i : ℕ) → handful_in (map hand_in_place hands) i ≡ hand_at hands i
@@ -121,13 +117,13 @@ module _ (m : OwnerView) (o : OwnsAll m) where
     abbrev hand : Handful
     hand = hand_at after.hands i
 
-    abbrev pub then_ : OwnerView
-    then_ = record { sizes = m.sizes; board = m.board; pass = after }
+    abbrev pub owner_after : OwnerView
+    owner_after = record { sizes = m.sizes; board = m.board; pass = after }
 
     as_put : map hand_in_place after.hands ≡ set hs i hand
     as_put = ap (map hand_in_place) put.hands ∙ map-set hand_in_place t.hands i (Some hand)
 
-    pub owns_after : after.knows.alone ≡ true → IsPass after.knows after.hands → OwnsAll then_
+    pub owns_after : after.knows.alone ≡ true → IsPass after.knows after.hands → OwnsAll owner_after
     owns_after alone is = record {
       fits = put_fits t after i put m.board o.fits;
       alone = alone;
@@ -138,11 +134,11 @@ module _ (m : OwnerView) (o : OwnsAll m) where
       began = subst (λ (w : World Held). ReachedFrom m.sizes w) (sym put.start) o.began;
     }
 
-    pub others_stay : (machine_of then_).hands ≡ set hs i (handful_in (machine_of then_).hands i)
+    pub others_stay : (machine_of owner_after).hands ≡ set hs i (handful_in (machine_of owner_after).hands i)
     others_stay = as_put ∙ ap (λ (h : Handful). set hs i h) (sym (handful_is after.hands i))
 
-    pub as_many : length (machine_of then_).hands ≡ length hs
-    as_many = ap (λ (l : List Handful). length l) others_stay ∙ length-set hs i (handful_in (machine_of then_).hands i)
+    pub as_many : length (machine_of owner_after).hands ≡ length hs
+    as_many = ap (λ (l : List Handful). length l) others_stay ∙ length-set hs i (handful_in (machine_of owner_after).hands i)
 
 -- ## The first pass of a trace's board
 

@@ -1,15 +1,14 @@
 -- What a pass tells of the hands that it keeps, before a step and after it.
-use Rattle.std.proofs.Common.{◌≡◌, ◌<◌, ◌+◌, ◌∙◌, ⊎_elim, ℕ, List, ◌++◌, ◌∷◌, [], Option, Some, None, ap, arith, get_or, length, length-set, map, refl, set, set-set, subst, sym}
-use Rattle.std.specs.Prelude.{Bool, IfSome, OnErr, OnOk, Result, Ok, Err, false, if◌then◌else◌, true}
+use Rattle.std.proofs.Common.{◌≡◌, ◌<◌, ◌+◌, ◌∙◌, ⊎_elim, ℕ, List, ◌++◌, ◌∷◌, [], Option, Some, None, ap, length, length-set, map, refl, set, set-set}
+use Rattle.std.proofs.Common.{subst, sym}
+use Rattle.std.specs.Prelude.{Bool, IfSome, OnErr, Result, Ok, Err, false, if◌then◌else◌, true}
 use Rattle.std.proofs.lemmas.Grind.{merely}
 use Rattle.std.proofs.lemmas.List.{map-set}
-use mathlib.Core.Option.{some}
-use lib.ListN.{get_elem?}
 use Rattle.atomic_table.specs.Seated.{TableId}
 use Rattle.core_views.specs.declared.kind.Kind.{Kind}
 use Rattle.core_views.specs.Held.{Held, Handful}
 use Rattle.mmu_core.specs.machine.Enabled.{Enabled, mmu}
-use Rattle.mmu_core.specs.machine.Machine.{Leads, May, Step, World, answered, effect, hand_in, run}
+use Rattle.mmu_core.specs.machine.Machine.{Leads, May, World, answered, run}
 use Rattle.mmu_core.specs.machine.Steps.{next}
 use Rattle.mmu_core.specs.machine.Worlds.{HandReached, Reachable}
 use Rattle.mmu_core.proofs.machine.Extend.{as_many_words, leads_to_end, then}
@@ -18,15 +17,15 @@ use Rattle.step_seats.specs.Acts.{Acts}
 use Rattle.step_seats.specs.Moves.{Adds, HasItsRoom, KeepsRoom, ToldBy}
 use Rattle.step_seats.specs.Seats.{Seat}
 use Rattle.step_seats.specs.Where.{HasHand, IsMadeIn, OfWorld}
-use Rattle.step_seats.proofs.Rooms.{next_has_room, reserve_has_room}
+use Rattle.step_seats.proofs.Rooms.{next_has_room}
 use Rattle.table_seats.specs.Boards.{BoardView, Fits, around}
-use Rattle.table_seats.specs.Rule.{Acted, Holds, step_of, moved}
+use Rattle.table_seats.specs.Rule.{Acted, Holds, step_of}
 use Rattle.table_seats.specs.Passes.{IsPass, Keeps, Known, PassView, PutsHand, core_in, hand_at, seat_of, steps_told, world_told}
 use Rattle.atomic_table.proofs.Lists.{set_here}
-use Rattle.table_seats.proofs.HandLists.{at_below, put_held, some-held}
+use Rattle.table_seats.proofs.HandLists.{at_below, put_held}
 use Rattle.table_seats.proofs.Runs.{has_is, run-snoc}
 use Rattle.table_seats.proofs.Sits.{sits_after}
-use Rattle.table_seats.proofs.Slots.{cores_at, hand_is, hand_put, held_put, keeps_held, kept, set-same}
+use Rattle.table_seats.proofs.Places.{cores_at, hand_is, hand_put, held_put, keeps_held, kept, set-same}
 
 pub reachable_of : (s w : World Held) → Reachable s → Leads mmu s w → Reachable w
 reachable_of s w r l = record { sizes = r.sizes; lines = r.lines; start = r.start; is_start = r.is_start; leads = (then) mmu r.start s w r.leads l }
@@ -152,7 +151,8 @@ module _ (v : Known) (hands : List (Option Handful)) (p : IsPass v hands) (a : �
   seat_after : (id : TableId) → seat_now g w ≡ seat_of (record { table = id; knows = w; hands = hands' }) a
   seat_after id = λ i. seat_now (sym (hand_is hands' a g holds_after) i) w
 
-  pub acts_of : (id : TableId) → Acts k n (seat_of (record { table = id; knows = v; hands = hands }) a) (seat_of (record { table = id; knows = w; hands = hands' }) a)
+  pub acts_of : (id : TableId)
+      → Acts k n (seat_of (record { table = id; knows = v; hands = hands }) a) (seat_of (record { table = id; knows = w; hands = hands' }) a)
   acts_of id = subst (λ (x : Seat × Seat). Acts k n x.0 x.1) (λ i. (seat_before id i, seat_after id i)) acts_now
 
   pub keeps_room : (id : TableId)
@@ -204,9 +204,9 @@ module _ (before after : PassView) (a : ℕ) (put : PutsHand before after a) whe
       λ i. record { board = b; others = others i }
 
 -- The hand of an actor is put in its place.
-pub puts : (before after : PassView) (a : ℕ) (slots : List (Option Handful)) (h g : Handful) → after.table ≡ before.table
+pub puts : (before after : PassView) (a : ℕ) (hands : List (Option Handful)) (h g : Handful) → after.table ≡ before.table
     → after.knows.start ≡ before.knows.start
-    → slots ≡ before.hands → Holds slots a h → after.hands ≡ set slots a (Some g) → PutsHand before after a
-puts before after a slots h g table start inside hold is =
-    let own : g ≡ hand_at after.hands a = sym (ap (λ (l : List (Option Handful)). hand_at l a) is ∙ hand_put slots a h g hold) in
+    → hands ≡ before.hands → Holds hands a h → after.hands ≡ set hands a (Some g) → PutsHand before after a
+puts before after a hands h g table start inside hold is =
+    let own : g ≡ hand_at after.hands a = sym (ap (λ (l : List (Option Handful)). hand_at l a) is ∙ hand_put hands a h g hold) in
     record { table = table; start = start; hands = is ∙ (λ i. set (inside i) a (Some (own i))) }

@@ -1,11 +1,11 @@
 -- What a view tells of its hands, after each move of the table.
-use Rattle.std.proofs.Common.{◌≡◌, ◌≢◌, ◌⊎◌, ℕ, List, [], ◌∷◌, ◌++◌, map, get_or, set, sym, refl, ap, ◌∙◌, inl, inr, ⊎_elim, subst, Option, Some, None}
+use Rattle.std.proofs.Common.{◌≡◌, ℕ, List, [], ◌∷◌, ◌++◌, set, sym, refl, ap, ◌∙◌, ⊎_elim, subst, Option, Some}
 use Rattle.std.specs.Prelude.{Bool, true, false, if◌then◌else◌}
 use mathlib.Core.Option.{some}
 use lib.ListN.{get_elem?}
-use Rattle.mmu_core.specs.machine.Machine.{Core, Leads, Legal, May, Step, World, answered, effect, run}
+use Rattle.mmu_core.specs.machine.Machine.{Core, Legal, May, Step, World, effect, run}
 use Rattle.mmu_core.proofs.machine.Extend.{goes_on, stays}
-use Rattle.table_seats.specs.Rule.{Acted, Holds, Sits, Stands, View, step_of, joined, moved, only, first_view, overlay, with_only, without}
+use Rattle.table_seats.specs.Rule.{Acted, Holds, Sits, Stands, View, step_of, joined, first_view, with_only, without}
 use Rattle.table_seats.proofs.HandLists.{all_held, cut_held, only_held, overlay_held, put_held}
 use Rattle.table_seats.proofs.Runs.{legal-snoc, other_after, own_after, run-snoc}
 

@@ -18,7 +18,7 @@ pub record BoardView : Type 0 where
   pub table : TableId
   pub start : Closing
 
--- The table has a word for each of the start, at least one, and no slot.
+-- The table has a word for each of the start, at least one, and nothing beside its words.
 pub record IsBoard (id : TableId) (start : Closing) : Type 0 where
   pub words : id.words ≡ length start.words
   pub some : 0 < id.words

@@ -1,7 +1,7 @@
 -- A board with its first pass, as the owner of all words and hands of a machine.
-use Rattle.std.specs.Prelude.{◌≡◌, List, Option, map, true}
+use Rattle.std.specs.Prelude.{◌≡◌, map, true}
 use Rattle.core_views.specs.declared.sizes.Sizes.{Sizes}
-use Rattle.core_views.specs.Held.{Held, Handful}
+use Rattle.core_views.specs.Held.{Held}
 use Rattle.mmu_core.specs.machine.Machine.{World}
 use Rattle.mmu_core.specs.machine.Worlds.{Reachable}
 use Rattle.step_seats.specs.Machines.{Machine}

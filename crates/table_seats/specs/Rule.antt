@@ -1,5 +1,5 @@
 -- The rule of a table whose words, and the hands in whose views, are the words and hands of a machine; for any machine.
-use Rattle.std.specs.Prelude.{◌≡◌, ◌<◌, ℕ, zero, suc, Bool, true, false, List, [], ◌∷◌, ◌++◌, length, map, slice_set, if◌then◌else◌, Option, Some, None}
+use Rattle.std.specs.Prelude.{◌≡◌, ℕ, zero, suc, Bool, true, false, List, [], ◌∷◌, ◌++◌, length, map, slice_set, if◌then◌else◌, Option, Some, None}
 use mathlib.Core.Option.{some}
 use lib.ListN.{get_elem?}
 use Rattle.mmu_core.specs.machine.Machine.{Core, Leads, Legal, May, Step, World, answered, effect, run}

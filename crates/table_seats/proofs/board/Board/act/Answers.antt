@@ -1,4 +1,4 @@
-use Rattle.std.proofs.Common.{◌≡◌, ◌<◌, ◌∙◌, ℕ, List, Option, Some, ap, length, set, subst, sym, refl}
+use Rattle.std.proofs.Common.{◌≡◌, ◌<◌, ◌∙◌, Some, ap, length, set, subst, sym, refl}
 use Rattle.core_views.specs.Held.{Handful}
 use Rattle.mmu_core.specs.machine.Enabled.{Enabled, mmu}
 use Rattle.mmu_core.specs.machine.Machine.{World}
@@ -8,12 +8,12 @@ use Rattle.table_seats.specs.Boards.{BoardView}
 use Rattle.table_seats.specs.Passes.{Known, PassView, hand_at, seat_of}
 use Rattle.table_seats.specs.Rule.{moved}
 use Rattle.table_seats.proofs.Passes.{acts_of, holds_core, keeps_room, pass_after, pass_inside, puts}
-use Rattle.table_seats.proofs.Slots.{picked, read_as, slot_below}
+use Rattle.table_seats.proofs.Places.{picked, read_as, place_below}
 use Rattle.table_seats.proofs.board.Board.act.Goals as goal
 
 pub index_mut-requires : goal.index_mut-requires
 index_mut-requires c =
-    slot_below _ c.pass.inside.hands.items c.args.pass.now.hands c.args.actor c.pass.inside.hands.ok.0 (ap (λ (x : PassView). x.hands) c.pass.view_is)
+    place_below _ c.pass.inside.hands.items c.args.pass.now.hands c.args.actor c.pass.inside.hands.ok.0 (ap (λ (x : PassView). x.hands) c.pass.view_is)
     c.requires.keeps
 
 pub unreachable-requires : goal.unreachable-requires

@@ -1,5 +1,3 @@
-use Rattle.std.proofs.Common.{◌≡◌, subst, true}
-use Rattle.table_seats.specs.Boards.{AllHands, Fits}
 use Rattle.table_seats.proofs.machine.TableMachine.into_parts.Goals as goal
 
 pub returns-clause-fits : goal.returns-clause-fits

@@ -1,4 +1,4 @@
-use Rattle.std.proofs.Common.{◌≡◌, ◌<◌, ◌∙◌, ap, length, subst, sym}
+use Rattle.std.proofs.Common.{◌<◌, ◌∙◌, ap, length, subst, sym}
 use Rattle.core_views.specs.declared.sizes.Sizes.{Sizes}
 use Rattle.core_views.specs.Held.{Handful}
 use Rattle.mmu_core.specs.machine.Worlds.{HandReached}
@@ -17,7 +17,10 @@ seen z b t = record { sizes = z; board = b; pass = t }
 pub hand-requires : goal.hand-requires
 hand-requires c =
     let m = seen c.self.inside.sizes c.self.inside.board c.self.inside.pass in
-    record { keeps = keeps_each m c.self.invariant c.args.index (subst (λ (x : OwnerView). c.args.index < length (machine_of x).hands) (sym c.self.view_is) c.requires.there) }
+    record {
+      keeps = keeps_each m c.self.invariant c.args.index
+          (subst (λ (x : OwnerView). c.args.index < length (machine_of x).hands) (sym c.self.view_is) c.requires.there);
+    }
 
 pub returns-clause-hand : goal.returns-clause-hand
 returns-clause-hand c =

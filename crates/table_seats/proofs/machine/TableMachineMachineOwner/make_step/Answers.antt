@@ -3,13 +3,13 @@ use Rattle.core_views.specs.declared.sizes.Sizes.{Sizes}
 use Rattle.core_views.specs.Held.{Handful}
 use Rattle.mmu_core.specs.machine.Enabled.{Enabled}
 use Rattle.step_seats.specs.Acts.{Acts}
-use Rattle.step_seats.specs.Machines.{KeepsSizes, Machine, seat_in}
+use Rattle.step_seats.specs.Machines.{KeepsSizes, seat_in}
 use Rattle.step_seats.specs.Moves.{KeepsRoom, handful_in}
 use Rattle.step_seats.specs.Seats.{Seat}
 use Rattle.table_seats.specs.Boards.{BoardView}
 use Rattle.table_seats.specs.Owners.{OwnerView, machine_of}
 use Rattle.table_seats.specs.Passes.{Known, PassView, steps_told}
-use Rattle.table_seats.proofs.Owners.{as_many, handful_is, keeps_each, others_stay, owns_after, seat_is, then_}
+use Rattle.table_seats.proofs.Owners.{as_many, handful_is, keeps_each, others_stay, owns_after, seat_is, owner_after}
 use Rattle.table_seats.proofs.machine.TableMachineMachineOwner.make_step.Goals as goal
 
 abbrev seen : Sizes → BoardView → PassView → OwnerView
@@ -44,7 +44,12 @@ returns-clause-acts c =
     let act = c.act-answer in
     let owns = owns_after m c.self.invariant act.new.pass c.args.index act.ensures.put
     (ap (λ (v : Known). v.alone) act.ensures.knows ∙ c.self.invariant.alone) c.holds.ensures in
-    let acts = subst (λ (s : Seat × Seat). Acts c.args.kind act.result s.0 s.1) (λ i. (seat_is m c.self.invariant c.args.index i, seat_is (then_ m c.self.invariant act.new.pass c.args.index act.ensures.put) owns c.args.index i)) act.ensures.acts in
+    let acts = subst (λ (s : Seat × Seat). Acts c.args.kind act.result s.0 s.1)
+    (λ i. (
+      seat_is m c.self.invariant c.args.index i,
+      seat_is
+          (owner_after m c.self.invariant act.new.pass c.args.index act.ensures.put) owns c.args.index i,
+    )) act.ensures.acts in
     subst
     (λ (x : OwnerView). Acts c.args.kind act.result (seat_in (machine_of x) (steps_told x.pass.knows) c.args.index)
     (seat_in (machine_of (seen m.sizes m.board act.new.pass)) (steps_told act.new.pass.knows) c.args.index)) c.self.view_is acts
@@ -55,7 +60,12 @@ returns-clause-room c =
     let act = c.act-answer in
     let owns = owns_after m c.self.invariant act.new.pass c.args.index act.ensures.put
     (ap (λ (v : Known). v.alone) act.ensures.knows ∙ c.self.invariant.alone) c.holds.ensures in
-    let room = subst (λ (s : Seat × Seat). KeepsRoom s.0 s.1) (λ i. (seat_is m c.self.invariant c.args.index i, seat_is (then_ m c.self.invariant act.new.pass c.args.index act.ensures.put) owns c.args.index i)) act.ensures.room in
+    let room = subst (λ (s : Seat × Seat). KeepsRoom s.0 s.1)
+    (λ i. (
+      seat_is m c.self.invariant c.args.index i,
+      seat_is
+          (owner_after m c.self.invariant act.new.pass c.args.index act.ensures.put) owns c.args.index i,
+    )) act.ensures.room in
     subst
     (λ (x : OwnerView). KeepsRoom (seat_in (machine_of x) (steps_told x.pass.knows) c.args.index)
     (seat_in (machine_of (seen m.sizes m.board act.new.pass)) (steps_told act.new.pass.knows) c.args.index)) c.self.view_is room

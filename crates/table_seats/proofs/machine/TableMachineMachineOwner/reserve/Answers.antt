@@ -7,7 +7,7 @@ use Rattle.step_seats.specs.Moves.{handful_in}
 use Rattle.table_seats.specs.Boards.{BoardView}
 use Rattle.table_seats.specs.Owners.{OwnerView, machine_of}
 use Rattle.table_seats.specs.Passes.{Known, PassView, steps_told, world_after}
-use Rattle.table_seats.proofs.Owners.{as_many, handful_is, keeps_each, others_stay, owns_after, then_, world_is}
+use Rattle.table_seats.proofs.Owners.{as_many, handful_is, keeps_each, others_stay, owns_after, owner_after, world_is}
 use Rattle.table_seats.proofs.machine.TableMachineMachineOwner.reserve.Goals as goal
 
 abbrev seen : Sizes → BoardView → PassView → OwnerView
@@ -16,7 +16,10 @@ seen z b t = record { sizes = z; board = b; pass = t }
 pub reserve-reserved-requires : goal.reserve-reserved-requires
 reserve-reserved-requires c =
     let m = seen c.self.inside.sizes c.self.inside.board c.self.inside.pass in
-    record { keeps = keeps_each m c.self.invariant c.args.index (subst (λ (x : OwnerView). c.args.index < length (machine_of x).hands) (sym c.self.view_is) c.requires.there) }
+    record {
+      keeps = keeps_each m c.self.invariant c.args.index
+          (subst (λ (x : OwnerView). c.args.index < length (machine_of x).hands) (sym c.self.view_is) c.requires.there);
+    }
 
 pub invariant_of-self : goal.invariant_of-self
 invariant_of-self c =
@@ -32,7 +35,7 @@ returns-clause-world c =
     let took = c.reserve-reserved in
     let owns = owns_after m c.self.invariant took.new.self c.args.index took.ensures.put
     (ap (λ (v : Known). v.alone) took.ensures.knows ∙ c.self.invariant.alone) c.holds.ensures in
-    let after = then_ m c.self.invariant took.new.self c.args.index took.ensures.put in
+    let after = owner_after m c.self.invariant took.new.self c.args.index took.ensures.put in
     sym (world_is after owns)
     ∙ (ap world_after took.ensures.knows ∙ (world_is m c.self.invariant ∙ ap (λ (x : OwnerView). world_in (machine_of x)) c.self.view_is))
 

@@ -1,20 +1,17 @@
-use Rattle.std.proofs.Common.{◌≡◌, ◌∙◌, ℕ, List, Option, Some, ap, subst, sym}
+use Rattle.std.proofs.Common.{◌∙◌, ap, subst, sym}
 use Rattle.std.specs.Prelude.{IfSome}
 use Rattle.std.proofs.lemmas.Grind.{merely}
-use Rattle.core_views.specs.Held.{Handful}
-use Rattle.mmu_core.specs.machine.Worlds.{HandReached}
-use Rattle.step_seats.specs.Moves.{HasItsRoom}
 use Rattle.step_seats.specs.Where.{HasHand}
 use Rattle.table_seats.specs.Rule.{Holds}
 use Rattle.table_seats.specs.Passes.{PassView, hand_at, world_told}
 use Rattle.table_seats.proofs.HandLists.{some-held}
-use Rattle.table_seats.proofs.Slots.{kept, read_as, slot_below}
+use Rattle.table_seats.proofs.Places.{kept, read_as, place_below}
 use Rattle.table_seats.proofs.Passes.{pass_has, pass_reached}
 use Rattle.table_seats.proofs.pass.Pass.hand.Goals as goal
 
 pub index-requires : goal.index-requires
 index-requires c =
-    slot_below _ c.self.inside.hands.items c.args.self.now.hands c.args.actor c.self.inside.hands.ok.0 (ap (λ (x : PassView). x.hands) c.self.view_is)
+    place_below _ c.self.inside.hands.items c.args.self.now.hands c.args.actor c.self.inside.hands.ok.0 (ap (λ (x : PassView). x.hands) c.self.view_is)
     c.requires.keeps
 
 pub unreachable-requires : goal.unreachable-requires

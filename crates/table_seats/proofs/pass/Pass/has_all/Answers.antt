@@ -1,10 +1,10 @@
-use Rattle.std.proofs.Common.{◌≡◌, ◌≤◌, List, Option, ap, refl, sym, subst, true, length, get_or, take, ◌∙◌}
+use Rattle.std.proofs.Common.{◌≡◌, ◌≤◌, List, Option, ap, subst, true, length, get_or, ◌∙◌}
 use Rattle.std.specs.Prelude.{is_some, not}
 use Rattle.std.proofs.lemmas.List.{take_all}
 use Rattle.core_views.specs.Held.{Handful}
 use Rattle.table_seats.specs.Boards.{AllHands}
 use Rattle.table_seats.specs.Passes.{PassView}
-use Rattle.table_seats.proofs.Slots.{all-further}
+use Rattle.table_seats.proofs.Places.{all-further}
 use Rattle.table_seats.proofs.pass.Pass.has_all.Goals as goal
 
 pub loop-place-preserved : goal.loop-place-preserved

@@ -1,4 +1,4 @@
-use Rattle.std.proofs.Common.{◌≡◌, take}
+use Rattle.std.proofs.Common.{take}
 use Rattle.table_seats.specs.Boards.{AllHands}
 use Rattle.table_seats.proofs.pass.Pass.has_all.Given as goal
 

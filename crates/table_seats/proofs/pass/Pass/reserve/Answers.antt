@@ -1,15 +1,15 @@
-use Rattle.std.proofs.Common.{◌≡◌, ◌<◌, ◌∙◌, ℕ, List, Option, Some, ap, refl, set, subst, sym}
+use Rattle.std.proofs.Common.{◌<◌, ◌∙◌, Some, ap, refl, set, subst, sym}
 use Rattle.std.specs.Prelude.{OnOk}
 use Rattle.core_views.specs.Held.{Handful}
 use Rattle.step_seats.proofs.Rooms.{reserve_has_room}
 use Rattle.table_seats.specs.Passes.{PassView, hand_at}
 use Rattle.table_seats.proofs.Passes.{pass_reserved, puts, room_refused}
-use Rattle.table_seats.proofs.Slots.{hand_put, picked, read_as, slot_below}
+use Rattle.table_seats.proofs.Places.{hand_put, picked, read_as, place_below}
 use Rattle.table_seats.proofs.pass.Pass.reserve.Goals as goal
 
 pub index_mut-requires : goal.index_mut-requires
 index_mut-requires c =
-    slot_below _ c.self.inside.hands.items c.args.self.now.hands c.args.actor c.self.inside.hands.ok.0 (ap (λ (x : PassView). x.hands) c.self.view_is)
+    place_below _ c.self.inside.hands.items c.args.self.now.hands c.args.actor c.self.inside.hands.ok.0 (ap (λ (x : PassView). x.hands) c.self.view_is)
     c.requires.keeps
 
 pub unreachable-requires : goal.unreachable-requires
@@ -26,7 +26,8 @@ invariant_of-self c =
     let p = picked i.hands.items c.args.self.now.hands c.args.actor c.in-Some.hand c.index_mut.result.now
     (ap (λ (x : PassView). x.hands) c.self.view_is) keeps c.index_mut.ensures.value c.in-Some.is in
     let rooms = c.self.invariant.1.rooms c.args.actor c.in-Some.hand p.hold in
-    let room = reserve_has_room c.reserve.result c.in-Some.hand c.reserve.new.self c.reserve.ensures.core c.reserve.ensures.room c.reserve.ensures.refused rooms in
+    let room = reserve_has_room c.reserve.result c.in-Some.hand c.reserve.new.self c.reserve.ensures.core c.reserve.ensures.room c.reserve.ensures.refused
+    rooms in
     let after = pass_reserved i.seat.me.0 i.hands.items c.self.invariant.1 c.args.actor c.in-Some.hand p.hold c.reserve.new.self c.reserve.ensures.core room in
     (c.self.invariant.0, after)
 

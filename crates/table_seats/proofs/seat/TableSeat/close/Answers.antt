@@ -1,4 +1,4 @@
-use Rattle.std.proofs.Common.{◌≡◌, ◌<◌, ◌∙◌, ◌++◌, ℕ, List, Option, Some, ap, arith, map, subst, sym, true}
+use Rattle.std.proofs.Common.{◌≡◌, ◌∙◌, ℕ, List, ap, arith, map, subst, sym}
 use Rattle.core_views.specs.declared.kind.Kind.{Kind}
 use Rattle.core_views.specs.Held.{Held, Handful}
 use Rattle.mmu_core.specs.machine.Enabled.{mmu}
@@ -10,7 +10,7 @@ use Rattle.table_seats.specs.Boards.{BoardView, Explained}
 use Rattle.table_seats.specs.Passes.{PassView, core_in}
 use Rattle.table_seats.proofs.Closes.{closes}
 use Rattle.table_seats.proofs.Runs.{steps_of}
-use Rattle.table_seats.proofs.Slots.{cores-all}
+use Rattle.table_seats.proofs.Places.{cores-all}
 use Rattle.table_seats.proofs.seat.TableSeat.close.Goals as goal
 
 pub free-requires : goal.free-requires
@@ -25,7 +25,12 @@ returns-clause-explained c =
     c.close_with-closed.ensures.values.2).0 in
     let t = steps_of mmu r in
     subst (λ (z : Closing × List (Step Kind) × List ℕ × List Handful). Explained (begun z.0) z.1 z.2 z.3)
-    (λ i. (ap (λ (p : BoardView). p.start) c.board.view_is i, ap (λ (t : PassView). t.knows.past) c.pass.view_is i, (sym c.gather_words.ensures ∙ sym c.from_vec.ensures) i, sym c.from_vec-2.ensures i))
+    (λ i. (
+      ap (λ (p : BoardView). p.start) c.board.view_is i,
+      ap (λ (t : PassView). t.knows.past) c.pass.view_is i,
+      (sym c.gather_words.ensures ∙ sym c.from_vec.ensures) i,
+      sym c.from_vec-2.ensures i,
+    ))
     (record { more = t.0; legal = t.1; ends = t.2 })
 
 pub returns-clause-told : goal.returns-clause-told
@@ -37,4 +42,9 @@ returns-clause-told c al =
     c.close_with-closed.ensures.values.2).1 (ap (λ (t : PassView). t.knows.alone) c.pass.view_is ∙ al) in
     ap (λ (w : World Held). run mmu w c.args.pass.knows.past) c.requires.fits.start
     ∙ subst (λ (z : Closing × List (Step Kind) × List ℕ × List Handful). run mmu (begun z.0) z.1 ≡ world_of z.2 z.3)
-    (λ i. (ap (λ (p : BoardView). p.start) c.board.view_is i, ap (λ (t : PassView). t.knows.past) c.pass.view_is i, (sym c.gather_words.ensures ∙ sym c.from_vec.ensures) i, sym c.from_vec-2.ensures i)) r
+    (λ i. (
+      ap (λ (p : BoardView). p.start) c.board.view_is i,
+      ap (λ (t : PassView). t.knows.past) c.pass.view_is i,
+      (sym c.gather_words.ensures ∙ sym c.from_vec.ensures) i,
+      sym c.from_vec-2.ensures i,
+    )) r

@@ -1,9 +1,8 @@
-use Rattle.std.proofs.Common.{◌≡◌, ◌≤◌, ◌∙◌, ℕ, List, Option, ap, arith, length, subst, sym}
-use Rattle.core_views.specs.Held.{Held, Handful}
+use Rattle.std.proofs.Common.{◌∙◌, List, Option, ap, arith, length, subst, sym}
+use Rattle.core_views.specs.Held.{Handful}
 use Rattle.mmu_core.specs.machine.Enabled.{mmu}
 use Rattle.table_seats.specs.Boards.{begun}
 use Rattle.table_seats.specs.Boards.{BoardView}
-use Rattle.table_seats.specs.Rule.{joined, overlay}
 use Rattle.table_seats.specs.Passes.{IsPass, Known, PassView}
 use Rattle.table_seats.proofs.Crossing.{pass_joined}
 use Rattle.table_seats.proofs.HandLists.{overlay-length}
@@ -29,7 +28,8 @@ join_seat-requires c =
 pub invariant_of-pass : goal.invariant_of-pass
 invariant_of-pass c =
     let me = c.join_seat.ensures.2 in
-    let same = ap (λ (t : PassView). t.knows.start) c.other.view_is ∙ (c.requires.other.start ∙ sym (ap (λ (t : PassView). t.knows.start) c.pass.view_is ∙ c.requires.fits.start)) in (
+    let same = ap (λ (t : PassView). t.knows.start) c.other.view_is
+    ∙ (c.requires.other.start ∙ sym (ap (λ (t : PassView). t.knows.start) c.pass.view_is ∙ c.requires.fits.start)) in (
       ap (λ m. m.1) me ∙ c.pass.invariant.0,
       subst (λ (x : Known × List (Option Handful)). IsPass x.0 x.1) (λ i. (sym (ap (λ m. m.0) me) i, sym c.merge.ensures i))
           (pass_joined c.pass.inside.seat.me.0 c.other.inside.seat.me.0 c.pass.inside.hands.items c.other.inside.hands.items same c.pass.invariant.1
@@ -44,5 +44,6 @@ returns-clause-fits c =
       start = ap (λ m. m.0.start) me ∙ (ap (λ (t : PassView). t.knows.start) c.pass.view_is ∙ c.requires.fits.start);
       wide =
           ap (λ (l : List (Option Handful)). length l) c.merge.ensures
-          ∙ (overlay-length c.pass.inside.hands.items c.other.inside.hands.items ∙ (ap (λ (t : PassView). length t.hands) c.pass.view_is ∙ c.requires.fits.wide));
+          ∙ (overlay-length c.pass.inside.hands.items c.other.inside.hands.items
+          ∙ (ap (λ (t : PassView). length t.hands) c.pass.view_is ∙ c.requires.fits.wide));
     }

@@ -1,7 +1,6 @@
 use Rattle.std.proofs.Common.{◌≡◌, ◌<◌, ◌∙◌, ◌∷◌, [], ℕ, List, Option, Some, ap, length, map, subst, sym}
 use Rattle.core_views.specs.Held.{Handful}
 use Rattle.mmu_core.specs.machine.Enabled.{mmu}
-use Rattle.step_seats.specs.Machines.{IsMachine}
 use Rattle.table_seats.specs.Boards.{begun}
 use Rattle.table_seats.specs.Rule.{Kept, first_view}
 use Rattle.table_seats.specs.Passes.{IsPass, Known}
@@ -18,7 +17,8 @@ pub invariant_of-result : goal.invariant_of-result
 invariant_of-result c =
     let t = c.in_ok-table.ensures {u = tt} in
     let start = c.into_closing-start.result in
-    let m = begins c.in_ok-machine.machine.sizes c.in_ok-machine.machine.words c.in_ok-machine.machine.hands start c.sizes.ensures.reached c.into_closing-start.ensures.words
+    let before = c.in_ok-machine.machine in
+    let m = begins before.sizes before.words before.hands start c.sizes.ensures.reached c.into_closing-start.ensures.words
     c.into_closing-start.ensures.hands in
     let words : c.in_ok-table.table.shared.table_id.words ≡ length start.words = t.0 ∙ ap (λ (ws : List ℕ). length ws) c.as_slice.ensures in
     record {
@@ -31,7 +31,8 @@ pub invariant_of-result-2 : goal.invariant_of-result-2
 invariant_of-result-2 c =
     let t = c.in_ok-table.ensures {u = tt} in
     let start = c.into_closing-start.result in
-    let m = begins c.in_ok-machine.machine.sizes c.in_ok-machine.machine.words c.in_ok-machine.machine.hands start c.sizes.ensures.reached c.into_closing-start.ensures.words
+    let before = c.in_ok-machine.machine in
+    let m = begins before.sizes before.words before.hands start c.sizes.ensures.reached c.into_closing-start.ensures.words
     c.into_closing-start.ensures.hands in
     let hands : c.in_ok-hands.hands.items ≡ map Some start.hands =
     c.in_ok-hands.ensures {u = tt} ∙ ap (λ (l : List Handful). map Some l) c.into_vec.ensures in (

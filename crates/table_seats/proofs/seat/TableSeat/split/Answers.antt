@@ -1,10 +1,10 @@
-use Rattle.std.proofs.Common.{◌≡◌, ◌∙◌, ℕ, List, None, Option, ap, length, length-set, map, refl, set, subst, sym}
-use Rattle.core_views.specs.Held.{Held, Handful}
-use Rattle.table_seats.specs.Boards.{BoardView, Fits}
+use Rattle.std.proofs.Common.{◌∙◌, List, None, Option, ap, length, length-set, set, subst, sym}
+use Rattle.core_views.specs.Held.{Handful}
+use Rattle.table_seats.specs.Boards.{BoardView}
 use Rattle.table_seats.specs.Rule.{Holds, only, with_only, without}
-use Rattle.table_seats.specs.Passes.{hand_at, IsPass, Known, PassView, core_in}
+use Rattle.table_seats.specs.Passes.{hand_at, IsPass, Known, PassView}
 use Rattle.table_seats.proofs.HandLists.{only-length}
-use Rattle.table_seats.proofs.Slots.{kept, cores-only}
+use Rattle.table_seats.proofs.Places.{kept}
 use Rattle.table_seats.proofs.Crossing.{pass_only, pass_without}
 use Rattle.table_seats.proofs.seat.TableSeat.split.Goals as goal
 

@@ -1,16 +1,16 @@
 -- The hands that a pass keeps, beside those in its seat's view.
-use Rattle.std.proofs.Common.{◌≡◌, ℕ, zero, suc, ◌+◌, ◌<◌, ◌≢◌, List, [], ◌∷◌, ◌++◌, map, length, get_or, set, sym, refl, ap, ◌∙◌, subst, arith, Option, Some, None, length-set, replicate, ◌≤◌, unwrap_or, take, add-one}
+use Rattle.std.proofs.Common.{◌≡◌, ℕ, zero, suc, ◌+◌, ◌<◌, List, [], ◌∷◌, ◌++◌, map, length, get_or, set, sym, refl, ap, ◌∙◌, subst, arith, Option}
+use Rattle.std.proofs.Common.{Some, None, replicate, unwrap_or, take, add-one}
 use Rattle.std.specs.Prelude.{is_some, true}
 use Rattle.std.proofs.lemmas.Bool.{false≢true}
-use mathlib.Core.Option.{some, none, some-injective, some-ne-none}
-use lib.ListN.{get_elem?}
+use mathlib.Core.Option.{some, some-injective, some-ne-none}
 use Rattle.core_views.specs.Held.{Held, Handful}
 use Rattle.table_seats.specs.Rule.{Holds, only, nones, overlay, either_hand}
 use Rattle.step_seats.specs.Moves.{core_of, no_hand}
 use Rattle.table_seats.specs.Boards.{AllHands}
 use Rattle.table_seats.specs.Passes.{core_in, hand_at, hand_in_place}
 use Rattle.atomic_table.proofs.Lists.{set_here}
-use Rattle.table_seats.proofs.HandLists.{some-held, none-held, at_below}
+use Rattle.table_seats.proofs.HandLists.{some-held, at_below}
 
 module _ {H : Type 0} where
   pub held_get : (l : List (Option H)) (a : ℕ) (h : H) (r : Option H) → Holds l a h → r ≡ get_or l a r → r ≡ Some h
@@ -63,13 +63,15 @@ only-is {H} (x ∷ xs) zero h e = λ i. sym (some-injective x (Some h) e) i ∷ 
 only-is {H} (x ∷ xs) (suc a) h e = ap (λ (l : List (Option H)). None ∷ l) (only-is xs a h e)
 
 -- a turn of the loop that brings hands over
-pub brings : {H : Type 0} (now yielded items : List (Option H)) (at : ℕ) (slot : Option H) (h : H) → items ≡ overlay now yielded → at ≡ length yielded → length yielded < length now → slot ≡ Some h
-    → set items at (Some h) ≡ overlay now (yielded ++ slot ∷ [])
-brings now yielded items at slot h is place lt held =
-    (λ i. set (is i) (place i) (Some h)) ∙ (sym (overlay-snoc now yielded h lt) ∙ ap (λ s. overlay now (yielded ++ s ∷ [])) (sym held))
+pub brings : {H : Type 0} (now yielded items : List (Option H)) (at : ℕ) (place : Option H) (h : H) → items ≡ overlay now yielded → at ≡ length yielded
+    → length yielded < length now → place ≡ Some h
+    → set items at (Some h) ≡ overlay now (yielded ++ place ∷ [])
+brings now yielded items at place h is count lt held =
+    (λ i. set (is i) (count i) (Some h)) ∙ (sym (overlay-snoc now yielded h lt) ∙ ap (λ s. overlay now (yielded ++ s ∷ [])) (sym held))
 
-pub leaves : {H : Type 0} (now yielded items : List (Option H)) (slot : Option H) → items ≡ overlay now yielded → slot ≡ None → items ≡ overlay now (yielded ++ slot ∷ [])
-leaves now yielded items slot is held = is ∙ (sym (overlay-none now yielded) ∙ ap (λ s. overlay now (yielded ++ s ∷ [])) (sym held))
+pub leaves : {H : Type 0} (now yielded items : List (Option H)) (place : Option H) → items ≡ overlay now yielded → place ≡ None
+    → items ≡ overlay now (yielded ++ place ∷ [])
+leaves now yielded items place is held = is ∙ (sym (overlay-none now yielded) ∙ ap (λ s. overlay now (yielded ++ s ∷ [])) (sym held))
 
 pub none_of : {H : Type 0} (x : Option H) → ((h : H) → x ≡ Some h → ⊥) → x ≡ None
 none_of None f = refl
@@ -107,9 +109,9 @@ keeps_held (x ∷ xs) zero h e = ap is_some (some-injective x (Some h) e)
 keeps_held (x ∷ xs) (suc a) h e = keeps_held xs a h e
 
 -- The place of a hand that the pass keeps is one of its places.
-pub slot_below : (len : ℕ) (inside shown : List (Option Handful)) (a : ℕ) → len ≡ length inside → inside ≡ shown
+pub place_below : (len : ℕ) (inside shown : List (Option Handful)) (a : ℕ) → len ≡ length inside → inside ≡ shown
     → is_some (get_or shown a None) ≡ true → a < len
-slot_below len inside shown a n is keeps =
+place_below len inside shown a n is keeps =
     let b = at_below shown a (Some (hand_at shown a)) (kept shown a keeps) in
     let e = ap (λ (l : List (Option Handful)). length l) is in
     omega (arith, n, b, e)
@@ -141,7 +143,8 @@ hand_put hands a h g e = hand_is (set hands a (Some g)) a g (set_here hands a (S
 pub held_put : (hands : List (Option Handful)) (a : ℕ) (h g : Handful) → Holds hands a h → Holds (set hands a (Some g)) a g
 held_put hands a h g e = set_here hands a (Some g) (at_below hands a (Some h) e)
 
-pub set-same : (hands : List (Option Handful)) (a : ℕ) (h g : Handful) → Holds hands a h → g.core ≡ h.core → map core_in (set hands a (Some g)) ≡ map core_in hands
+pub set-same : (hands : List (Option Handful)) (a : ℕ) (h g : Handful) → Holds hands a h → g.core ≡ h.core
+    → map core_in (set hands a (Some g)) ≡ map core_in hands
 set-same [] a h g e is = refl
 set-same (x ∷ xs) zero h g e is = λ i. (ap (λ (c : Held). Some c) is ∙ ap core_in (sym (some-injective x (Some h) e))) i ∷ map core_in xs
 set-same (x ∷ xs) (suc a) h g e is = ap (λ (l : List (Option Held)). core_in x ∷ l) (set-same xs a h g e is)
@@ -156,7 +159,8 @@ is_there None r e is = absurd (false≢true (ap is_some (sym e) ∙ is))
 is_there (Some h) r e is = refl
 
 -- One hand more stands in its place.
-pub all-further : (l : List (Option Handful)) (i : ℕ) (r : Option Handful) → r ≡ get_or l i r → is_some r ≡ true → AllHands (take i l) → AllHands (take (i + 1) l)
+pub all-further : (l : List (Option Handful)) (i : ℕ) (r : Option Handful) → r ≡ get_or l i r → is_some r ≡ true → AllHands (take i l)
+    → AllHands (take (i + 1) l)
 all-further l i r get there all = rw add-one (go l i get all) where
   go : (l : List (Option Handful)) (i : ℕ) → r ≡ get_or l i r → AllHands (take i l) → AllHands (take (suc i) l)
   go [] i get all = refl
