@@ -5,7 +5,7 @@ use Rattle.std.proofs.lemmas.Bool.Decides.{nat_tests}
 use Rattle.std.proofs.lemmas.Option.{none-some, same_Some}
 use Rattle.std.specs.Prelude.{Option, Some, None, find}
 use Rattle.core_views.specs.Slots.{contains}
-use Rattle.core_views.specs.declared.slot_set.MemorySlot.{MemorySlot}
+use Rattle.core_views.specs.declared.memory_slot.MemorySlot.{MemorySlot}
 use Rattle.core_views.specs.SlotSets.{IsSlotSet, MemorySlots, slot_of_id, slot_holding}
 use Rattle.core_views.specs.Places.{Places, none_below, slots_from}
 use Rattle.core_views.proofs.Sound.{by_test}

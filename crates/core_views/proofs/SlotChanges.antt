@@ -7,7 +7,7 @@ use Rattle.core_views.specs.declared.answer.Refusal.TheVariants.{Missing}
 use Rattle.core_views.specs.declared.event.EventKind.TheVariants.{SlotChanged}
 use Rattle.core_views.specs.declared.migration.Migration.{Migration}
 use Rattle.core_views.specs.Migrations.{is_migrating, or_barred}
-use Rattle.core_views.specs.declared.slot_set.MemorySlot.{MemorySlot}
+use Rattle.core_views.specs.declared.memory_slot.MemorySlot.{MemorySlot}
 use Rattle.core_views.specs.declared.trace.Command.{Command}
 use Rattle.core_views.specs.declared.actor.Actor.TheVariants.{Manager}
 use Rattle.core_views.specs.declared.trace.Command.TheVariants.{Access, ChangeHost, ClearLog, GetLog, Migrate, SetLog, SetSlot}

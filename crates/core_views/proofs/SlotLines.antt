@@ -7,7 +7,7 @@ use Rattle.std.specs.Cmp.{ranks}
 use Rattle.std.specs.Ordering.{MatchOrdering, match_ordering, nat_cmp}
 use Rattle.std.specs.declared.cmp.Ordering.{Ordering}
 use Rattle.std.specs.declared.cmp.Ordering.TheVariants.{Less, Equal, Greater}
-use Rattle.core_views.specs.declared.slot_set.MemorySlot.{MemorySlot}
+use Rattle.core_views.specs.declared.memory_slot.MemorySlot.{MemorySlot}
 use Rattle.core_views.specs.declared.trace.Command.TheVariants.{SetLog}
 use Rattle.core_views.specs.SlotCommands.{slots_after}
 use Rattle.core_views.specs.SlotSets.{MemorySlots, changed_slots, slot_of_id, with_slot_at, without_slot_at}

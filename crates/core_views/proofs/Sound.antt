@@ -14,7 +14,7 @@ use Rattle.core_views.specs.declared.answer.Refusal.TheVariants.{BadId, TooLarge
 use Rattle.core_views.specs.declared.trace.Slot.{Slot}
 use Rattle.core_views.specs.Slots.{changes_fixed, contains, first_of, has_host_page, is_some_and, is_too_large, meets_guest_frames, meets_host_pages}
 use Rattle.core_views.specs.Slots.{resizes, share_guest_frames, share_host_pages, slot_with_id, Slots}
-use Rattle.core_views.specs.declared.slot_set.MemorySlot.{MemorySlot}
+use Rattle.core_views.specs.declared.memory_slot.MemorySlot.{MemorySlot}
 use Rattle.core_views.specs.SlotSets.{IsSlotSet, MemorySlots, flat_slots, slot_of_id}
 use Rattle.core_views.specs.Places.{Places, found, slots_from}
 use Rattle.core_views.specs.Refusals.{delete_refusal, is_logged, moves_logged, set_refusal}

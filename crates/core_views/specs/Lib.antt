@@ -31,4 +31,3 @@ pub mod StepCodes
 pub mod Kinds
 pub mod FirstTopics
 pub mod Held
-pub mod Rows

@@ -8,7 +8,7 @@ use Rattle.core_views.specs.declared.answer.Refusal.TheVariants.{BadRange, Missi
 use Rattle.core_views.specs.declared.sizes.LogMode.{LogMode}
 use Rattle.core_views.specs.declared.sizes.LogMode.TheVariants.{Automatic, ManualAllSet}
 use Rattle.core_views.specs.declared.sizes.Sizes.{Sizes}
-use Rattle.core_views.specs.declared.slot_set.MemorySlot.{MemorySlot}
+use Rattle.core_views.specs.declared.memory_slot.MemorySlot.{MemorySlot}
 use Rattle.core_views.specs.declared.trace.Command.{Command}
 use Rattle.core_views.specs.declared.trace.Command.TheVariants.{ClearLog, GetLog, Migrate}
 use Rattle.core_views.specs.declared.trace.Slot.{Slot}

@@ -5,7 +5,7 @@ use Rattle.std.specs.Option.{option_map}
 use Rattle.core_views.specs.declared.answer.Answer.{Answer}
 use Rattle.core_views.specs.declared.answer.Answer.TheVariants.{Done, Refused}
 use Rattle.core_views.specs.declared.answer.Refusal.{Refusal}
-use Rattle.core_views.specs.declared.slot_set.MemorySlot.{MemorySlot}
+use Rattle.core_views.specs.declared.memory_slot.MemorySlot.{MemorySlot}
 use Rattle.core_views.specs.declared.sizes.Sizes.{Sizes}
 use Rattle.core_views.specs.declared.trace.Command.{Command}
 use Rattle.core_views.specs.declared.trace.Slot.{Slot}

@@ -6,7 +6,7 @@ use std::fmt;
 /// Who makes a line's steps: a virtual processor (0 to 15), a host thread that
 /// owns host pages (0 to 3), the one manager (the process that holds the VM's
 /// file descriptor), or a worker of the hypervisor (0 to 3).
-#[derive(Clone, Copy, Debug, PartialEq, Eq, Drop)]
+#[derive(Clone, Copy, PartialEq, Eq, Drop)]
 pub enum Actor {
     Vcpu(u8),
     Host(u8),

@@ -7,7 +7,7 @@ use crate::{Actor, Image, ImageWord, Sequence, Words};
 use std::fmt;
 
 /// What a line of the trace is answered.
-#[derive(Clone, Debug, PartialEq, Eq, Drop)]
+#[derive(Clone, Drop)]
 pub enum Answer {
     /// An access reached this host frame; `value` is the content word before it.
     Reached { frame: u64, value: u64 },
@@ -36,7 +36,7 @@ pub enum Answer {
 }
 
 /// Why a line is refused when it is run.
-#[derive(Clone, Copy, Debug, PartialEq, Eq, Drop)]
+#[derive(Clone, Copy, PartialEq, Eq, Drop)]
 pub enum Refusal {
     /// The slot's ID is above 31.
     BadId,
@@ -111,7 +111,7 @@ impl Refusal {
 }
 
 /// A line that was answered: its number in the file, its actor, its answer.
-#[derive(Clone, Debug, PartialEq, Eq, Drop)]
+#[derive(Clone, Drop)]
 pub struct AnsweredLine {
     pub number: u32,
     pub actor: Actor,

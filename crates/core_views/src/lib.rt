@@ -6,17 +6,16 @@ mod actor;
 mod answer;
 mod cache;
 mod event;
-mod hand;
 mod host;
 mod kind;
 mod log_commands;
+mod memory_slot;
 mod migration;
 mod no_memory;
 mod place;
+mod progress;
 mod sequence;
 mod sizes;
-mod slot_commands;
-mod slot_set;
 mod topics;
 mod trace;
 
@@ -24,18 +23,18 @@ pub use actor::Actor;
 pub use answer::{Answer, Answered, AnsweredLine, Refusal};
 pub use cache::{Cache, Translation};
 pub use event::{Event, EventKind};
-pub use hand::{Closing, Hand, Hands, Progress, Seen};
 pub use host::HostEntry;
 pub use kind::{Kind, Operation, StepKind};
+pub use memory_slot::MemorySlot;
 pub use migration::{Image, ImageWord, Migration};
 pub use no_memory::NoMemory;
 pub use place::{
     AccessPlace, BeginPlace, Cause, CheckStage, EndPlace, FaultEnd, FaultNext, FaultPlace,
     FrameRange, HostPlace, Leaving, LogPlace, Place, SlotChangePlace, SlotField, WriteProtectPlace,
 };
+pub use progress::{Progress, Seen};
 pub use sequence::Sequence;
 pub use sizes::{LogMode, Sizes};
-pub use slot_set::{MemorySlot, SlotSet};
 pub use topics::{
     Checked, Flush, Frames, Hold, HostLook, Invalidated, Invalidations, MapClaim, OwnedFrame,
     OwnedPage, SlotSearch, Stay, TableWalk, Topics,

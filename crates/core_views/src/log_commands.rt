@@ -1,12 +1,10 @@
 //! What a line asks of a dirty log, and why it may not have it: a clause for each command that
 //! reads one.
-ghost use Rattle.std.specs.Prelude.{◌≡◌, IfOk, Some};
-ghost use Rattle.std.specs.Result.{result_err};
-ghost use Rattle.core_views.specs.LogCommands.{IsReadOf, asks_for, count_asked, first_asked, has_bit, is_bad_range, log_read, low_bits};
-ghost use Rattle.core_views.specs.LogCommands.{mask_asked, most_words, read_refusal, takes_out};
-ghost use Rattle.core_views.specs.SlotSets.{slot_of_id};
+ghost use Rattle.std.specs.Prelude.{◌≡◌, Some};
+ghost use Rattle.core_views.specs.LogCommands.{asks_for, count_asked, first_asked, has_bit, log_read, low_bits};
+ghost use Rattle.core_views.specs.LogCommands.{mask_asked, most_words, takes_out};
 
-use crate::{Command, LogMode, MemorySlot, Refusal, Sizes, Slot, SlotSet};
+use crate::{Command, LogMode, Sizes, Slot};
 
 /// Pages of a word of a dirty log.
 const WORD_PAGES: u64 = 64;
@@ -28,16 +26,6 @@ fn low_bits(count: u64) -> u64
     } else {
         (1 << count) - 1
     }
-}
-
-// Whether these pages aren't whole words of the log of a slot with so many pages.
-fn is_bad_range(pages: u64, first: u64, count: u64) -> bool
-    ensures { result ≡ is_bad_range pages first count }
-{
-    first % WORD_PAGES != 0
-        || count > pages
-        || first > pages - count
-        || (count % WORD_PAGES != 0 && first + count != pages)
 }
 
 impl Command {
@@ -130,30 +118,5 @@ impl Sizes {
             Command::ClearLog { count, .. } => (*count / WORD_PAGES) as usize + 1,
             _ => 0,
         }
-    }
-}
-
-impl SlotSet {
-    /// The slot with this ID, whose log the line reads. Refused: `Missing` where no slot has the
-    /// ID, else `NoLog` where the slot has no dirty log, else `BadRange` where a clear is of pages
-    /// that aren't whole words of the log.
-    pub fn to_read(&self, command: &Command, id: u64) -> Result<MemorySlot, Refusal>
-        requires { log_read command.now ≡ Some id }
-        ensures refusal { result_err result ≡ read_refusal command.now self.now }
-        ensures slot { IfOk result (λ slot. slot_of_id id self.now ≡ Some slot) }
-        ensures fits { IfOk result (λ slot. IsReadOf command.now slot.slot) }
-    {
-        let Some(found) = self.get(id) else {
-            return Err(Refusal::Missing);
-        };
-        if !found.logged {
-            return Err(Refusal::NoLog);
-        }
-        if let Command::ClearLog { first, count, .. } = command
-            && is_bad_range(found.slot.pages, *first, *count)
-        {
-            return Err(Refusal::BadRange);
-        }
-        Ok(found)
     }
 }

@@ -1,13 +1,13 @@
 ghost use Rattle.std.specs.Prelude.{◌≡◌, Some};
 ghost use Rattle.core_views.specs.Text.{image_word_text};
-ghost use Rattle.core_views.specs.Migrations.{call_answer, is_barred, is_migrating, is_paused, is_running, is_stopped};
+ghost use Rattle.core_views.specs.Migrations.{is_barred, is_migrating, is_paused, is_running, is_stopped};
 
-use crate::{Answer, Command, MigrationCall, Refusal, Sequence, SlotSet};
+use crate::{Command, MigrationCall, Sequence};
 use std::fmt;
 
 /// How far the migration of the guest has come: its pages are copied while it runs, and the
 /// last ones once it has been stopped.
-#[derive(Clone, Copy, Debug, PartialEq, Eq, Drop)]
+#[derive(Clone, Copy, PartialEq, Eq, Drop)]
 pub enum Migration {
     /// None was started, or the guest was resumed since.
     Unstarted,
@@ -64,7 +64,7 @@ impl Migration {
 
 /// A content word of the image of guest memory that isn't 0: of a slot, by its ID, of a
 /// page of it, counted from its first, and which word of the page it is.
-#[derive(Clone, Copy, Debug, PartialEq, Eq, Drop)]
+#[derive(Clone, Copy, PartialEq, Eq, Drop)]
 pub struct ImageWord {
     pub id: u64,
     pub page: u64,
@@ -100,29 +100,6 @@ impl Command {
             Command::GetLog { .. } | Command::ClearLog { .. } => true,
             Command::Migrate { call } => *call == MigrationCall::Start,
             Command::Access { .. } | Command::ChangeHost { .. } => false,
-        }
-    }
-}
-
-impl SlotSet {
-    /// What a line of a migration is answered that has nothing to do, and isn't barred: it is
-    /// refused, or, where there is no slot, a round has copied no page.
-    pub fn call_answer(&self, migration: Migration, call: MigrationCall) -> Option<Answer>
-        ensures { result ≡ call_answer self.now migration call }
-    {
-        match call {
-            MigrationCall::Start if self.are_logged() => None,
-            MigrationCall::Start => Some(Answer::Refused(Refusal::NotLogged)),
-            MigrationCall::Round if !migration.is_running() => {
-                Some(Answer::Refused(Refusal::NotStarted))
-            }
-            MigrationCall::Round if self.is_empty() => Some(Answer::Copied(0)),
-            MigrationCall::Round => None,
-            MigrationCall::Finish if migration.is_running() => None,
-            MigrationCall::Resume if migration.is_stopped() => None,
-            MigrationCall::Finish | MigrationCall::Resume => {
-                Some(Answer::Refused(Refusal::NotStarted))
-            }
         }
     }
 }

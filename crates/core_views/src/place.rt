@@ -1,5 +1,5 @@
 /// Where an actor's line stands in the order of its steps: which step is next.
-#[derive(Clone, Copy, PartialEq, Eq, Drop)]
+#[derive(Clone, Copy, Drop)]
 pub enum Place {
     /// No line is under way.
     Between,
@@ -19,7 +19,7 @@ pub enum SlotField {
 }
 
 /// What becomes of an access after its stay in the guest.
-#[derive(Clone, Copy, PartialEq, Eq, Drop)]
+#[derive(Clone, Copy, Drop)]
 pub enum Leaving {
     /// It reached its word, and is answered so.
     Reached { frame: u64, value: u64 },
@@ -30,7 +30,7 @@ pub enum Leaving {
 
 /// The steps of a guest access, in their order: stays in the guest, and between
 /// them faults. `again` says that a fault of this line has installed an entry.
-#[derive(Clone, Copy, PartialEq, Eq, Drop)]
+#[derive(Clone, Copy, Drop)]
 pub enum AccessPlace {
     /// Enters the guest.
     Enter { again: bool },
@@ -53,7 +53,7 @@ pub enum AccessPlace {
 /// old page given back after a grace period (kvm_main.c, `kvm_swap_active_memslots`).
 /// Where a slot is moved or deleted, this stands within an invalidation of the slot's
 /// guest frames (`kvm_invalidate_memslot`).
-#[derive(Clone, Copy, PartialEq, Eq, Drop)]
+#[derive(Clone, Copy, Drop)]
 pub enum SlotChangePlace {
     /// It has nothing to do, which is known before its first step: it is refused,
     /// or, with no refusal, leaves the slots as they are.
@@ -108,7 +108,7 @@ pub struct FrameRange {
 /// `kvm_mmu_slot_remove_write_access`; tdp_mmu.c, `kvm_tdp_mmu_wrprot_slot`): under the lock
 /// alone the leaves of its guest frames forbid writes, and then what virtual processors have
 /// cached is flushed.
-#[derive(Clone, Copy, PartialEq, Eq, Drop)]
+#[derive(Clone, Copy, Drop)]
 pub enum WriteProtectPlace {
     /// Tries to take the lock alone.
     Exclude,
@@ -183,7 +183,7 @@ pub enum EndPlace {
 /// to the page. A line that moves the page claims a frame before, into which it copies the
 /// page's words within the invalidation, and gives the old frame back after a grace period
 /// (page_migration.rst).
-#[derive(Clone, Copy, PartialEq, Eq, Drop)]
+#[derive(Clone, Copy, Drop)]
 pub enum HostPlace {
     /// Loads the host word of the page; where the page isn't the actor's own, the line is
     /// refused with this step.
@@ -211,7 +211,7 @@ pub enum HostPlace {
 /// reads, it does so under the lock alone, and forbids writes to each page that it took; then
 /// what virtual processors have cached is flushed. A get in the manual modes loads the words
 /// alone (`KVM_CAP_MANUAL_DIRTY_LOG_PROTECT2`).
-#[derive(Clone, Copy, PartialEq, Eq, Drop)]
+#[derive(Clone, Copy, Drop)]
 pub enum LogPlace {
     /// It is refused, which is known before its first step.
     AtOnce(crate::Refusal),
@@ -264,7 +264,7 @@ pub enum Cause {
 }
 
 /// What a fault ends with.
-#[derive(Clone, Copy, PartialEq, Eq, Drop)]
+#[derive(Clone, Copy, Drop)]
 pub enum FaultEnd {
     /// An entry that allows the access stands.
     Installed,
@@ -285,7 +285,7 @@ pub enum FaultEnd {
 }
 
 /// The word that a check of a look-up loads next.
-#[derive(Clone, Copy, Debug, PartialEq, Eq, Drop)]
+#[derive(Clone, Copy, PartialEq, Eq, Drop)]
 pub enum CheckStage {
     /// How many invalidations are open.
     Count,
@@ -299,7 +299,7 @@ pub enum CheckStage {
 
 /// The steps of a fault, in their order (tdp_mmu.c, `kvm_tdp_mmu_map`); and those of a fast one,
 /// which allows the write in a leaf that stands, without the lock (locking.rst, "Fast page fault").
-#[derive(Clone, Copy, PartialEq, Eq, Drop)]
+#[derive(Clone, Copy, Drop)]
 pub enum FaultPlace {
     /// Begins a section.
     Begin,

@@ -46,7 +46,7 @@ pub struct SlotSearch {
 }
 
 /// A host word, and the page that it is of.
-#[derive(Clone, Copy, Debug, PartialEq, Eq, Drop)]
+#[derive(Clone, Copy, PartialEq, Eq, Drop)]
 pub struct HostLook {
     pub page: u64,
     pub word: u64,
@@ -168,7 +168,7 @@ pub struct OwnedPage {
 
 /// A frame that an actor owns alone: claimed, or that of a page which it has moved away, and
 /// not given back.
-#[derive(Clone, Copy, Debug, PartialEq, Eq, Drop)]
+#[derive(Clone, Copy, PartialEq, Eq, Drop)]
 pub struct OwnedFrame {
     pub frame: u64,
     /// How many of its words are filled with those of a page.

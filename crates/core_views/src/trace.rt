@@ -3,7 +3,7 @@ ghost use Rattle.core_views.specs.Memory.{word_after_op};
 ghost use Rattle.core_views.specs.Slots.{contains, has_host_page, is_write};
 
 use crate::{Actor, Sequence};
-use std::alloc::Global;
+use std::alloc::{AllocError, Global};
 
 /// Numbers that a header lists.
 pub type Words = Sequence<u64>;
@@ -12,7 +12,7 @@ pub type Words = Sequence<u64>;
 pub type Lines = Sequence<Line>;
 
 /// What a guest access does to its content word.
-#[derive(Clone, Copy, Debug, PartialEq, Eq, Drop)]
+#[derive(Clone, Copy, PartialEq, Eq, Drop)]
 pub enum Op {
     Read,
     /// Stores this number.
@@ -46,7 +46,7 @@ impl Op {
 
 /// A memory slot (KVM's api.rst, `KVM_SET_USER_MEMORY_REGION`): guest frames
 /// `base` up to `base + pages` are the host pages from `host` on.
-#[derive(Clone, Copy, Debug, PartialEq, Eq, Drop)]
+#[derive(Clone, Copy, PartialEq, Eq, Drop)]
 pub struct Slot {
     /// The first guest frame number.
     pub base: u64,
@@ -77,7 +77,7 @@ impl Slot {
 /// What a host thread does to one of its pages. It is what KVM's MMU notifiers tell of
 /// (api.rst, `KVM_CAP_SYNC_MMU`: changes in the backing of a slot are reflected into
 /// the guest).
-#[derive(Clone, Copy, Debug, PartialEq, Eq, Drop)]
+#[derive(Clone, Copy, PartialEq, Eq, Drop)]
 pub enum HostChange {
     /// Copies it to a frame that no page names, and names that.
     Move,
@@ -103,7 +103,7 @@ pub enum MigrationCall {
 }
 
 /// What a line asks for: one variant for each form of line.
-#[derive(Clone, Debug, PartialEq, Eq, Drop)]
+#[derive(Drop)]
 pub enum Command {
     /// A guest access to content word `word` of guest frame `gfn`: one aligned
     /// 8-byte read, write or add at byte address `4096 * gfn + 8 * word`.
@@ -152,9 +152,47 @@ pub enum Command {
     },
 }
 
+// By hand: in the derived one each number has a `?` of its own, which takes long to prove.
+impl Clone for Command {
+    ghost is_clone = { λ v w. w ≡ v };
+
+    fn clone(&self) -> Result<Self, AllocError> {
+        Ok(match self {
+            Command::Access { gfn, word, op } => Command::Access {
+                gfn: *gfn,
+                word: *word,
+                op: *op,
+            },
+            Command::SetSlot { id, slot } => Command::SetSlot {
+                id: *id,
+                slot: *slot,
+            },
+            Command::DeleteSlot { id } => Command::DeleteSlot { id: *id },
+            Command::ChangeHost { page, change } => Command::ChangeHost {
+                page: *page,
+                change: *change,
+            },
+            Command::SetLog { id, on } => Command::SetLog { id: *id, on: *on },
+            Command::GetLog { id } => Command::GetLog { id: *id },
+            Command::ClearLog {
+                id,
+                first,
+                count,
+                words,
+            } => Command::ClearLog {
+                id: *id,
+                first: *first,
+                count: *count,
+                words: words.clone()?,
+            },
+            Command::Migrate { call } => Command::Migrate { call: *call },
+        })
+    }
+}
+
 /// A line of the trace: its number in the file (the header is line 1), its
 /// actor, and what it asks for.
-#[derive(Clone, Debug, PartialEq, Eq, Drop)]
+#[derive(Clone, Drop)]
 pub struct Line {
     pub number: u32,
     pub actor: Actor,
@@ -189,7 +227,7 @@ pub struct Header {
 
 /// How long the turns of a schedule item go on. They end before where the actor
 /// has no line left.
-#[derive(Clone, Copy, Debug, PartialEq, Eq, Drop)]
+#[derive(Clone, Copy, PartialEq, Eq, Drop)]
 pub enum Until {
     /// So many turns, 1 to 10,000,000.
     Turns(u32),
@@ -200,7 +238,7 @@ pub enum Until {
 }
 
 /// An item of the schedule: whose turns are next, and until when.
-#[derive(Clone, Copy, Debug, PartialEq, Eq, Drop)]
+#[derive(Clone, Copy, PartialEq, Eq, Drop)]
 pub struct Item {
     pub actor: Actor,
     pub until: Until,

@@ -1,7 +1,7 @@
 -- What the answer of a fast fault's turn rests on, from the step that it made.
 use Rattle.std.proofs.Common.{◌≡◌, ◌∙◌, ℕ, None, refl, sym, subst}
 use Rattle.std.specs.Prelude.{Bool, true, false}
-use Rattle.core_views.specs.declared.hand.Seen.{Seen}
+use Rattle.core_views.specs.declared.progress.Seen.{Seen}
 use Rattle.core_views.specs.declared.place.AccessPlace.TheVariants.{Fault}
 use Rattle.core_views.specs.declared.place.FaultEnd.{FaultEnd}
 use Rattle.core_views.specs.declared.place.FaultEnd.TheVariants as end_of

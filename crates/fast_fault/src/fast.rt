@@ -11,9 +11,8 @@ ghost use Rattle.step_seats.specs.declared.turn.Turn.TheVariants.{More};
 use core_views::{AccessPlace, FaultEnd, FaultPlace};
 use grace_period::{begin, end};
 use memslots::{Find, Sought};
-use mmu_steps::{access_note, part_rests};
 use part_steps::PartStep;
-use step_seats::{Stepper, Turn, fault_place, make_part};
+use step_seats::{Stepper, Turn, access_note, fault_place, make_part, part_rests};
 use tdp_walk::Walk;
 
 /// What a fast fault answers.

@@ -16,10 +16,11 @@ use invalidate_seq::{Check, Snapshot};
 use memslots::{Find, Sought};
 use mmu_core::FreeMap;
 use mmu_lock::{try_shared, unlock};
-use mmu_steps::{access_note, part_rests};
-use part_steps::{PartStep, map_of, page_of, page_owned};
+use part_steps::{PartStep, map_of};
 use spte_words::Area;
-use step_seats::{Stepper, Turn, fault_place, make_part};
+use step_seats::{
+    Stepper, Turn, access_note, fault_place, make_part, page_of, page_owned, part_rests,
+};
 use table_pool::{Claim, Fill, Give};
 use tdp_walk::Walk;
 

@@ -10,7 +10,7 @@ use Rattle.core_views.specs.declared.event.EventKind.TheVariants.{Taken, Harvest
 use Rattle.core_views.specs.declared.trace.Command.{Command}
 use Rattle.core_views.specs.declared.sizes.Sizes.{Sizes}
 use Rattle.core_views.specs.declared.trace.Line.{Line}
-use Rattle.core_views.specs.declared.slot_set.MemorySlot.{MemorySlot}
+use Rattle.core_views.specs.declared.memory_slot.MemorySlot.{MemorySlot}
 use Rattle.core_views.specs.Harvests.{IsHarvest}
 use Rattle.core_views.specs.Past.{Past}
 use Rattle.core_views.specs.Flat.{Facts, LineUnderWay, Flat, Fresh, HasTaken, Stage, no_notes}

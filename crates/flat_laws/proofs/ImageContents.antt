@@ -6,7 +6,7 @@ use Rattle.std.specs.List.{range_with_len}
 use Rattle.std.proofs.lemmas.Bool.{cases_eq, cond-false, cond-true, eq-eqb, eqb-true, ne_eqb}
 use Rattle.std.proofs.lemmas.Option.{same_Some}
 use Rattle.core_views.specs.declared.migration.ImageWord.{ImageWord}
-use Rattle.core_views.specs.declared.slot_set.MemorySlot.{MemorySlot}
+use Rattle.core_views.specs.declared.memory_slot.MemorySlot.{MemorySlot}
 use Rattle.core_views.specs.declared.trace.Slot.{Slot}
 use Rattle.core_views.specs.Memory.{Memory}
 use Rattle.core_views.specs.Migrations.{image_words, page_words, slot_words}

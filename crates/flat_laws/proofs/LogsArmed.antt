@@ -12,7 +12,7 @@ use Rattle.core_views.specs.declared.event.EventKind.{EventKind}
 use Rattle.core_views.specs.declared.event.EventKind.TheVariants.{Answered, Armed, Begun, GuestStopped, Harvested, LookedAtHost, LookedAtPause}
 use Rattle.core_views.specs.declared.event.EventKind.TheVariants.{LookedAtSlots, Shown, SlotChanged, Taken, WordCopied}
 use Rattle.core_views.specs.declared.sizes.Sizes.{Sizes}
-use Rattle.core_views.specs.declared.slot_set.MemorySlot.{MemorySlot}
+use Rattle.core_views.specs.declared.memory_slot.MemorySlot.{MemorySlot}
 use Rattle.core_views.specs.declared.trace.Command.{Command}
 use Rattle.core_views.specs.declared.trace.Command.TheVariants.{Access, ChangeHost, ClearLog, DeleteSlot, GetLog, Migrate, SetLog, SetSlot}
 use Rattle.core_views.specs.Events.{facts_after, is_armed, under_after}

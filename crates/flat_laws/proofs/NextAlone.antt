@@ -19,7 +19,7 @@ use Rattle.core_views.specs.declared.sizes.Sizes.{Sizes}
 use Rattle.core_views.specs.Host.{brought_in, is_denied}
 use Rattle.core_views.specs.HostChanges.{Changes, host_answer}
 use Rattle.core_views.specs.Alone.{FallsAsFlat}
-use Rattle.core_views.specs.declared.slot_set.MemorySlot.{MemorySlot}
+use Rattle.core_views.specs.declared.memory_slot.MemorySlot.{MemorySlot}
 use Rattle.core_views.specs.Slots.{Slots, is_write, page_behind}
 use Rattle.core_views.specs.SlotSets.{flat_slots, slot_of_id}
 use Rattle.core_views.specs.SlotCommands.{arms}

@@ -10,7 +10,7 @@ use Rattle.std.specs.Ordering.{MatchOrdering, match_ordering, nat_cmp}
 use Rattle.std.specs.declared.cmp.Ordering.{Ordering}
 use Rattle.std.specs.declared.cmp.Ordering.TheVariants.{Less, Equal, Greater}
 use Rattle.std.specs.Prelude.{Option, Some, None, if◌then◌else◌, nat_le, nat_lt}
-use Rattle.core_views.specs.declared.slot_set.MemorySlot.{MemorySlot}
+use Rattle.core_views.specs.declared.memory_slot.MemorySlot.{MemorySlot}
 use Rattle.core_views.specs.declared.trace.Slot.{Slot}
 use Rattle.core_views.specs.Past.{has_gfn}
 use Rattle.core_views.specs.Slots.{contains, share_guest_frames}

@@ -5,7 +5,7 @@ use Rattle.std.proofs.lemmas.Bool.{and_parts, eq-eqb, eqb-true, or_cases, or_fro
 use Rattle.core_views.specs.declared.actor.Actor.{Actor}
 use Rattle.core_views.specs.declared.event.EventKind.{EventKind}
 use Rattle.core_views.specs.declared.event.EventKind.TheVariants.{Begun, SlotChanged, Armed, Taken, Harvested, Answered}
-use Rattle.core_views.specs.declared.slot_set.MemorySlot.{MemorySlot}
+use Rattle.core_views.specs.declared.memory_slot.MemorySlot.{MemorySlot}
 use Rattle.core_views.specs.SlotSets.{slot_of_id}
 use Rattle.core_views.specs.LogCommands.{is_among}
 use Rattle.core_views.specs.Past.{FrameSet, Past, counted_anew, is_being_written, has_gfn, of_others, past_begun, with_guest_frame, written_frame}

@@ -1,7 +1,7 @@
 -- What a slot line makes of the slots of flat memory; slots that just fit, or are one page too large; and slots that are set again, moved and deleted.
 use Rattle.std.specs.Prelude.{◌≡◌, ◌≢◌, ◌-◌, ◌^◌, ℕ, List, [], ◌∷◌, ◌++◌, Bool, false, Option, Some, None, codes}
 use Rattle.std.specs.Option.{option_map}
-use Rattle.core_views.specs.declared.slot_set.MemorySlot.{MemorySlot}
+use Rattle.core_views.specs.declared.memory_slot.MemorySlot.{MemorySlot}
 use Rattle.core_views.specs.declared.trace.Command.{Command}
 use Rattle.core_views.specs.declared.trace.Command.TheVariants.{DeleteSlot, SetLog, SetSlot}
 use Rattle.core_views.specs.declared.trace.Line.{Line}

@@ -6,7 +6,7 @@ use Rattle.std.proofs.Math.Nat.{pow-suc}
 use Rattle.std.proofs.Math.Pow.{pow_mono}
 use Rattle.std.specs.List.{range_with_len}
 use Rattle.std.specs.Prelude.{Some, if◌then◌else◌, map}
-use Rattle.core_views.specs.declared.slot_set.MemorySlot.{MemorySlot}
+use Rattle.core_views.specs.declared.memory_slot.MemorySlot.{MemorySlot}
 use Rattle.core_views.specs.declared.trace.Command.{Command}
 use Rattle.core_views.specs.LogCommands.{IsReadOf, asked_frames, asks_for, bits_for, count_asked, first_asked, is_among, number_of, words_of}
 use Rattle.core_views.specs.Past.{FrameSet}

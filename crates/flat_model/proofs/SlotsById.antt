@@ -10,7 +10,7 @@ use Rattle.std.proofs.lemmas.Option.{same_Some}
 use Rattle.std.specs.List.{AllPairs}
 use Rattle.std.specs.Map.{keys_of, values_of}
 use Rattle.std.specs.Prelude.{All, Some, None, filter}
-use Rattle.core_views.specs.declared.slot_set.MemorySlot.{MemorySlot}
+use Rattle.core_views.specs.declared.memory_slot.MemorySlot.{MemorySlot}
 use Rattle.core_views.specs.SlotSets.{IsSlotSet, MemorySlots, flat_slots, slot_of_id}
 use Rattle.flat_model.specs.Copying.{FitsIn}
 use Rattle.flat_model.specs.Steps.{AreSlotsOf, IsSlotOf}

@@ -5,7 +5,7 @@ use Rattle.core_views.specs.declared.answer.Answer.TheVariants.{Copied, Done, Im
 use Rattle.core_views.specs.declared.migration.ImageWord.{ImageWord}
 use Rattle.core_views.specs.declared.migration.Migration.{Migration}
 use Rattle.core_views.specs.declared.migration.Migration.TheVariants.{Running, Stopped, Unstarted}
-use Rattle.core_views.specs.declared.slot_set.MemorySlot.{MemorySlot}
+use Rattle.core_views.specs.declared.memory_slot.MemorySlot.{MemorySlot}
 use Rattle.core_views.specs.declared.trace.MigrationCall.{MigrationCall}
 use Rattle.core_views.specs.declared.trace.MigrationCall.TheVariants.{Finish, Resume, Round, Start}
 use Rattle.core_views.specs.declared.trace.Op.TheVariants.{Read}

@@ -4,7 +4,8 @@ ghost use Rattle.flat_model.specs.Copying.{IsBelow, is_held};
 ghost use Rattle.flat_model.specs.Dirty.{is_dirty};
 
 use crate::dirty_frames::DirtyFrames;
-use core_views::{MemorySlot, Migration, NoMemory, SlotSet};
+use core_views::{MemorySlot, Migration, NoMemory};
+use hands::SlotSet;
 use std::alloc::Global;
 use std::collections::HashMap;
 use std::marker::Model;

@@ -9,7 +9,8 @@ ghost use Rattle.core_views.specs.Past.{has_gfn};
 ghost use Rattle.flat_model.specs.Copying.{IsBelow, is_held};
 ghost use Rattle.flat_model.specs.Dirty.{dirty_by, is_bit_set, is_dirty, left_dirty, with_slot_dirty, word_of};
 
-use core_views::{Command, MemorySlot, NoMemory, SlotSet, Words};
+use core_views::{Command, MemorySlot, NoMemory, Words};
+use hands::SlotSet;
 use std::alloc::Global;
 use std::collections::BTreeSet;
 use std::marker::Model;

@@ -6,7 +6,8 @@ ghost use Rattle.flat_model.specs.Copying.{FitsIn, IsBelow, is_either, is_printe
 ghost use Rattle.flat_model.specs.Kept.{memory_of};
 
 use crate::dirty_frames::DirtyFrames;
-use core_views::{Image, ImageWord, MemorySlot, NoMemory, Slot, SlotSet};
+use core_views::{Image, ImageWord, MemorySlot, NoMemory, Slot};
+use hands::SlotSet;
 use std::alloc::Global;
 use std::collections::HashMap;
 

@@ -21,8 +21,9 @@ use crate::host_pages::HostPages;
 use crate::images::{frames_to_copy, image_words, slots_by_id};
 use core_views::{
     Actor, Answer, Command, HostChange, Line, LogMode, MemorySlot, Migration, MigrationCall,
-    NoMemory, Op, Refusal, Sizes, SlotSet, Trace,
+    NoMemory, Op, Refusal, Sizes, Trace,
 };
+use hands::SlotSet;
 use std::alloc::Global;
 use std::collections::HashMap;
 use std::marker::Model;

@@ -8,11 +8,10 @@ ghost use Rattle.step_seats.specs.Moves.{KeepsRoom};
 ghost use Rattle.step_seats.specs.PartTurns.{TurnsPart, waits};
 ghost use Rattle.step_seats.specs.declared.turn.Turn.TheVariants.{More};
 
-use core_views::{Hand, Seen};
-use mmu_steps::part_rests;
-use part_steps::{PartStep, in_section, map_of, next_watched};
+use core_views::Seen;
+use part_steps::{PartStep, map_of};
 use std::marker::Model;
-use step_seats::{Stepper, Turn, make_part};
+use step_seats::{Hand, Stepper, Turn, in_section, make_part, next_watched, part_rests};
 
 /// A watch of all other actors, one after another in the order of their state
 /// words: each is looked at until it is seen in no section and not in the guest

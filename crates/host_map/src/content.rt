@@ -6,9 +6,8 @@ ghost use Rattle.mmu_core.specs.machine.Enabled.{Enabled};
 ghost use Rattle.step_seats.specs.Moves.{KeepsRoom};
 
 use core_views::{Kind, Op, Sizes, StepKind};
-use mmu_steps::part_rests;
 use part_steps::map_of;
-use step_seats::Stepper;
+use step_seats::{Stepper, part_rests};
 
 /// The operation on a word of a frame, as the words of the machine see it.
 fn touch_kind(sizes: &Sizes, frame: u64, word: u8, op: Op, note: u64) -> Kind

@@ -7,8 +7,8 @@ ghost use Rattle.spte_words.specs.HostWords.{with_presence};
 ghost use Rattle.step_seats.specs.Moves.{KeepsRoom};
 ghost use Rattle.step_seats.specs.PartTurns.{MadePart};
 
-use part_steps::{PartStep, word_looked};
-use step_seats::{Stepper, make_part};
+use part_steps::PartStep;
+use step_seats::{Stepper, make_part, word_looked};
 
 /// Loads the host word of a host page (below the pages of the machine), keeps it
 /// with its page, and answers it: whether the page is present and writable, the

@@ -18,9 +18,8 @@ ghost use Rattle.invalidate_seq.specs.Invalidating.{
 };
 
 use core_views::Invalidations;
-use mmu_steps::part_rests;
 use part_steps::{PartStep, end_with, start_with};
-use step_seats::{Stepper, Turn, make_part};
+use step_seats::{Stepper, Turn, make_part, part_rests};
 
 /// Which word the begin of an invalidation loads or stores next, under the lock alone.
 #[derive(Clone, Copy, Drop)]

@@ -7,9 +7,8 @@ ghost use Rattle.step_seats.specs.declared.turn.Turn.TheVariants.{More};
 ghost use Rattle.invalidate_seq.specs.Invalidating.{KeepsWord, Shuts, shut_after, shut_at, shut_step, shut_turn, shut_word, shuts_left};
 
 use core_views::Invalidations;
-use mmu_steps::part_rests;
 use part_steps::PartStep;
-use step_seats::{Stepper, Turn, make_part};
+use step_seats::{Stepper, Turn, make_part, part_rests};
 
 /// Which word the end of an invalidation loads or stores next, under the lock alone.
 #[derive(Clone, Copy, Drop)]

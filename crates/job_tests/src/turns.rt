@@ -2,13 +2,13 @@
 ghost use Rattle.std.specs.Prelude.{IfSome};
 ghost use Rattle.job_tests.specs.Faults.{StandsIn};
 
-use core_views::{AccessPlace, Answer, Cause, Command, FaultPlace, Hand, Place};
+use core_views::{AccessPlace, Answer, Cause, Command, FaultPlace, Place};
 use fast_fault::{FastFaulted, FastJob};
 use fault_install::{FaultJob, Faulted};
 use part_tests::{make_steps, told};
 use std::alloc::Global;
 use std::test::Fail;
-use step_seats::{Stepper, Turn, is_fast_place, take_turn};
+use step_seats::{Hand, Stepper, Turn, is_fast_place, take_turn};
 
 /// What is run by turns.
 #[derive(Clone, Copy, Drop)]
@@ -155,9 +155,13 @@ fn turn<S: Stepper>(alloc: Global, s: &mut S, work: Work) -> Result<Option<Strin
 
 // Whether the hand's line stands at this place of its fault.
 fn stands_at(hand: &Hand, stop: Option<FaultPlace>) -> bool {
+    let Place::Access(AccessPlace::Fault(place)) = hand.progress().place else {
+        return false;
+    };
     match stop {
-        Some(place) => hand.progress().place == Place::Access(AccessPlace::Fault(place)),
-        None => false,
+        Some(FaultPlace::Link) => matches!(place, FaultPlace::Link),
+        Some(FaultPlace::Bring) => matches!(place, FaultPlace::Bring),
+        _ => false,
     }
 }
 

@@ -5,7 +5,7 @@ use Rattle.core_views.specs.declared.actor.Actor.{Actor}
 use Rattle.core_views.specs.declared.event.Event.{Event}
 use Rattle.core_views.specs.declared.event.EventKind.TheVariants.{Taken}
 use Rattle.core_views.specs.declared.sizes.Sizes.{Sizes}
-use Rattle.core_views.specs.declared.slot_set.MemorySlot.{MemorySlot}
+use Rattle.core_views.specs.declared.memory_slot.MemorySlot.{MemorySlot}
 use Rattle.core_views.specs.Slots.{contains}
 use Rattle.core_views.specs.Harvests.{IsHarvest}
 use Rattle.core_views.specs.LogCommands.{asks_for, is_among}

@@ -1,6 +1,6 @@
 -- What the words tell that a line answers which has read a dirty log: a bit for each page, bit 0 of the first word first.
 use Rattle.std.specs.Prelude.{◌≡◌, ◌+◌, ◌/◌, ◌^◌, ◌<◌, ◌≤◌, ℕ, All, Bool, List, Some, false, length}
-use Rattle.core_views.specs.declared.slot_set.MemorySlot.{MemorySlot}
+use Rattle.core_views.specs.declared.memory_slot.MemorySlot.{MemorySlot}
 use Rattle.core_views.specs.declared.trace.Command.TheVariants.{ClearLog, GetLog}
 use Rattle.core_views.specs.LogCommands.{bits_for, has_bit, is_among}
 

@@ -6,12 +6,12 @@ ghost use Rattle.mmu_core.specs.lines.ClaimSteps.{claim_part};
 ghost use Rattle.mmu_core.specs.machine.MayMake.{MayMake};
 
 use crate::expected::expect_all;
-use core_views::{Actor, Answer, Hand, MapClaim, Refusal};
+use core_views::{Actor, Answer, MapClaim, Refusal};
 use mmu_core::FreeMap;
 use part_steps::PartStep;
 use part_tests::{Acts, Came, is_next, make_steps};
 use std::test::Fail;
-use step_seats::{PlainMachine, Stepper, Turn};
+use step_seats::{Hand, PlainMachine, Stepper, Turn};
 use table_pool::{Claim, Claimed};
 
 // Headers with 70 frames, 71 and 72.

@@ -2,12 +2,12 @@
 
 use crate::expected::expect_all;
 use crate::host_tests::{change_next, run};
-use core_views::{Actor, Hand, OwnedFrame};
+use core_views::{Actor, OwnedFrame};
 use host_map::{copy, frame_give, store};
 use part_steps::PartStep;
 use part_tests::{Acts, Came, HEAD_OF_POOL_8, go_to, is_next};
 use std::test::Fail;
-use step_seats::{PlainMachine, Stepper};
+use step_seats::{Hand, PlainMachine, Stepper};
 
 // Copies the content word with this index, where the line's steps lead to that.
 fn copy_next<S: Stepper>(seat: &mut S, index: u64) -> Came {

@@ -4,14 +4,12 @@ ghost use Rattle.core_views.specs.Sizes.{AreSizes};
 ghost use Rattle.host_map.specs.Touching.{touch_kind};
 
 use crate::expected::expect_all;
-use core_views::{Actor, Hand, HostLook, Kind, Op, Sizes, StepKind};
+use core_views::{Actor, HostLook, Kind, Op, Sizes, StepKind};
 use host_map::{Changed, bring_in, change, load, look, touch};
-use mmu_core::rests;
-use mmu_steps::{allows, next_kind, part_rests};
 use part_steps::{PartStep, map_of};
 use part_tests::{Acts, Came, HEAD_OF_POOL_8, go_to, is_next, make_steps};
 use std::test::Fail;
-use step_seats::{PlainMachine, Stepper};
+use step_seats::{Hand, PlainMachine, Stepper, allows, next_kind, part_rests, rests};
 
 // The operation on a word of a frame, as the words of the machine see it.
 fn touch_kind(sizes: &Sizes, frame: u64, word: u8, op: Op) -> Kind

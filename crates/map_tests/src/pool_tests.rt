@@ -10,14 +10,13 @@ ghost use Rattle.table_pool.specs.Pages.{fill_step};
 use crate::expected::expect_all;
 use core_views::Actor;
 use mmu_core::FreeMap;
-use mmu_steps::{allows, part_rests};
-use part_steps::{PartStep, map_of, words_filled};
+use part_steps::{PartStep, map_of};
 use part_tests::{Acts, Came, HEAD};
 use spte_words::Area;
 use std::alloc::Global;
 use std::process::Abort;
 use std::test::Fail;
-use step_seats::{PlainMachine, Stepper, Turn};
+use step_seats::{PlainMachine, Stepper, Turn, allows, part_rests, words_filled};
 use table_pool::{Claim, Claimed, Fill, Give};
 
 // Takes room for a step, and looks whether the hand allows it.

@@ -4,14 +4,12 @@ ghost use Rattle.std.specs.Prelude.{◌≡◌, IfOk};
 ghost use Rattle.core_views.specs.Traces.{IsTrace};
 ghost use Rattle.table_seats.specs.Boards.{Fits};
 
-use core_views::{Answer, Closing, Hand, NoMemory, Trace};
-use mmu_core::rests;
-use mmu_steps::next_kind;
+use core_views::{Answer, NoMemory, Trace};
 use part_tests::HEAD;
 use std::alloc::Global;
 use std::process::Abort;
 use std::test::Fail;
-use step_seats::Stepper;
+use step_seats::{Closing, Hand, Stepper, next_kind, rests};
 use table_seats::{Board, Pass, TableSeat};
 use tdp_io::MemSource;
 use trace_reader::{Read, read_trace};

@@ -16,9 +16,8 @@ ghost use Rattle.memslots.specs.Finding.{
 };
 
 use core_views::{Slot, SlotField, SlotSearch};
-use mmu_steps::part_rests;
 use part_steps::PartStep;
-use step_seats::{Stepper, Turn, make_part};
+use step_seats::{Stepper, Turn, make_part, part_rests};
 
 /// How many IDs there are.
 const IDS: u64 = 32;
@@ -45,7 +44,7 @@ impl Sought {
 }
 
 /// The slot that a search has found.
-#[derive(Clone, Copy, Debug, PartialEq, Eq, Drop)]
+#[derive(Clone, Copy, PartialEq, Eq, Drop)]
 pub struct FoundSlot {
     /// Its ID, 0 to 31.
     pub id: u64,

@@ -4,5 +4,6 @@
 
 mod find;
 
-pub use core_views::{MemorySlot, SlotSet};
+pub use core_views::MemorySlot;
 pub use find::{Find, FoundSlot, Sought};
+pub use step_seats::SlotSet;

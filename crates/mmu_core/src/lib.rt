@@ -5,7 +5,6 @@
 
 mod claim;
 mod invalidate;
-mod laws;
 mod log_next;
 mod outcome;
 mod share;
@@ -15,7 +14,6 @@ mod write_protect;
 
 pub use claim::{ClaimNext, FreeMap};
 pub use invalidate::{BeginNext, EndNext};
-pub use laws::{knows, rests};
 pub use log_next::LogNext;
 pub use outcome::Outcome;
 pub use share::ShareNext;

@@ -7,10 +7,9 @@ ghost use Rattle.step_seats.specs.PartTurns.{MadeTelling};
 
 use crate::lock::{try_exclusive, unlock};
 use core_views::Seen;
-use mmu_steps::{part_rests, saw_open};
 use part_steps::map_of;
 use spte_words::Area;
-use step_seats::Stepper;
+use step_seats::{Stepper, part_rests, saw_open};
 
 /// Tries to hold the lock alone, and says what is in the way: the lock's word, where it isn't 0.
 /// It takes no memory.

@@ -19,9 +19,8 @@ ghost use Rattle.step_seats.specs.PartTurns.{MadePart, MakesPart};
 ghost use Rattle.step_seats.specs.declared.turn.Turn.TheVariants.{More};
 
 use core_views::{Hold, Seen};
-use mmu_steps::part_rests;
-use part_steps::{PartStep, has_writer};
-use step_seats::{Stepper, Turn, make_part};
+use part_steps::PartStep;
+use step_seats::{Stepper, Turn, has_writer, make_part, part_rests};
 
 /// What came of trying for the lock.
 #[derive(Clone, Copy, Debug, PartialEq, Eq, Drop)]

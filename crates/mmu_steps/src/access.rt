@@ -16,11 +16,11 @@ ghost use Rattle.spte_words.specs.declared.area.Area.TheVariants.{Content};
 use crate::cached::lookup;
 use crate::fault;
 use core_views::{
-    AccessPlace, Answer, FaultEnd, FaultNext, FaultPlace, Hand, Leaving, Op, Place, StepKind,
-    Translation,
+    AccessPlace, Answer, FaultEnd, FaultNext, FaultPlace, Leaving, Op, Place, StepKind, Translation,
 };
 use mmu_core::Outcome;
-use part_steps::{PartStep, Task, map_of, part_task};
+use part_steps::{PartStep, Task, map_of};
+use part_twins::{Hand, part_task};
 use spte_words::{Area, Spte, SpteKind};
 
 // The touch of a content word.

@@ -6,7 +6,8 @@ ghost use Rattle.mmu_core.specs.lines.ClaimSteps.{claim_next, claim_part, loads_
 
 use core_views::{MapClaim, Sizes};
 use mmu_core::{ClaimNext, FreeMap};
-use part_steps::{PartStep, is_won};
+use part_steps::PartStep;
+use part_twins::is_won;
 
 fn tries_one(begun: bool, claim: &MapClaim) -> bool
     ensures { result ≡ tries_one begun claim.now }

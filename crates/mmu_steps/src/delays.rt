@@ -3,8 +3,9 @@
 ghost use Rattle.std.specs.Prelude.{◌≡◌, ◌&&◌, ◌||◌};
 ghost use Rattle.mmu_core.specs.lines.Delays.{begins_anew, counted, delays_counted, leaves_to_fault, one_more, steps_counted, walks_again};
 
-use core_views::{AccessPlace, FaultEnd, FaultPlace, Hand, Leaving, Place};
+use core_views::{AccessPlace, FaultEnd, FaultPlace, Leaving, Place};
 use mmu_core::Outcome;
+use part_twins::Hand;
 
 // The line's fault ends with the step of this place, and begins anew.
 fn begins_anew(place: Place) -> bool

@@ -18,13 +18,12 @@ ghost use Rattle.spte_words.specs.Entries.{kind_of};
 use crate::claim::{claim_next, claim_part};
 use crate::share::{is_owing, share_next, share_part};
 use core_views::{
-    Cause, CheckStage, FaultEnd, FaultNext, FaultPlace, Hand, HostLook, Sizes, SlotField,
-    SlotSearch, TableWalk, Topics,
+    Cause, CheckStage, FaultEnd, FaultNext, FaultPlace, HostLook, Sizes, SlotField, SlotSearch,
+    TableWalk, Topics,
 };
 use mmu_core::{ClaimNext, FreeMap, ShareNext};
-use part_steps::{
-    PartStep, entry_index, is_fixable, map_of, page_of, search, table_page, words_filled,
-};
+use part_steps::{PartStep, map_of};
+use part_twins::{Hand, entry_index, is_fixable, page_of, search, table_page, words_filled};
 use spte_words::{Area, HostWord, Spte, SpteKind};
 
 /// How many words of a table's page are entries.

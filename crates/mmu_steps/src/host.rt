@@ -19,10 +19,11 @@ use crate::claim::{claim_next, claim_part, loads_last_word};
 use crate::invalidate::{begin_next, begin_part, end_next, end_part};
 use crate::watch::{looked_at, watch_next};
 use core_views::{
-    Answer, BeginPlace, Command, EndPlace, Hand, HostChange, HostPlace, Place, Refusal, Topics,
+    Answer, BeginPlace, Command, EndPlace, HostChange, HostPlace, Place, Refusal, Topics,
 };
 use mmu_core::{BeginNext, ClaimNext, EndNext, FreeMap, Outcome, WatchNext};
-use part_steps::{PartStep, Target, Task, frame_owned, part_task, word_looked, words_moved};
+use part_steps::{PartStep, Target, Task};
+use part_twins::{Hand, frame_owned, part_task, word_looked, words_moved};
 use spte_words::HostWord;
 
 // The host word that the change puts in place of another one, where this frame is owned.

@@ -11,7 +11,8 @@ ghost use Rattle.part_steps.specs.SweepTopics.{swept_to};
 use crate::sweep::{after_entry, after_leaf};
 use core_views::{BeginPlace, EndPlace, FrameRange, Invalidated, Sizes, SlotSearch, Topics};
 use mmu_core::{BeginNext, EndNext, SweepNext};
-use part_steps::{PartStep, Target, has_to_flush, search, swept_to};
+use part_steps::{PartStep, Target};
+use part_twins::{has_to_flush, search, swept_to};
 
 // After a word of the slots.
 fn search_next(target: &Target, found: &SlotSearch) -> BeginPlace

@@ -1,6 +1,7 @@
 //! The running twins of the machine's definitions: which step a hand allows, and what it
 //! does to the hand. The order of the steps, and what holds at every moment, `mmu_core`
 //! has.
+//! It passes on what the crates above need of the code below: a crate above lists this one alone.
 #![tactic(auto)]
 
 mod access;
@@ -11,6 +12,7 @@ mod dirty_pages;
 mod fault;
 mod host;
 mod invalidate;
+mod laws;
 mod log;
 mod parts;
 mod share;
@@ -25,7 +27,12 @@ pub use access::{access_note, frame_used};
 pub use cached::lookup;
 pub use fault::entry_word;
 pub use host::{host_place, note as host_note, word_put, word_to_copy, word_to_store};
+pub use laws::{knows, rests};
 pub use log::{log_frame, log_place, log_step, note as log_note};
+pub use part_twins::{
+    Closing, Hand, SLOT_SET_ROLE, SlotSet, WRITER, has_to_flush, has_writer, in_section,
+    needs_line, next_watched, page_of, page_owned, part_kind, swept_to, word_looked, words_filled,
+};
 pub use parts::{allows, may_make, part_rests};
 pub use slot_change::{arm_step, change_place, note as change_note};
 pub use step::{advance, asks_flush, next_kind, next_step};

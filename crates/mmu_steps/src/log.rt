@@ -20,9 +20,10 @@ ghost use Rattle.spte_words.specs.Areas.{size_of};
 
 use crate::dirty_pages::first_dirty;
 use crate::slot_change::{log_begin, slot_or_none};
-use core_views::{Command, Hand, LogPlace, Place, Sizes, Slot, SlotSet, TableWalk, Topics};
+use core_views::{Command, LogPlace, Place, Sizes, Slot, TableWalk, Topics};
 use mmu_core::LogNext;
-use part_steps::{PartStep, Task, has_entry, has_to_flush, part_task};
+use part_steps::{PartStep, Task};
+use part_twins::{Hand, SlotSet, has_entry, has_to_flush, part_task};
 use spte_words::{Spte, SpteKind};
 
 /// Where the line begins, by the manager's own record of the slots.

@@ -5,8 +5,8 @@ ghost use Rattle.part_steps.specs.PartBounds.{PartRests};
 ghost use Rattle.part_steps.specs.PartSteps.{PartNeeds, has_line, needs_line};
 ghost use Rattle.mmu_core.specs.machine.Worlds.{HandReached};
 
-use core_views::Hand;
-use part_steps::{PartStep, has_needs, needs_line};
+use part_steps::PartStep;
+use part_twins::{Hand, has_needs, needs_line};
 
 /// A hand with no line left may make each step of a part that it holds the needs
 /// of, but for those of lines alone.

@@ -6,7 +6,8 @@ ghost use Rattle.mmu_core.specs.lines.ShareSteps.{share_next, share_part};
 
 use core_views::Hold;
 use mmu_core::ShareNext;
-use part_steps::{PartStep, has_writer};
+use part_steps::PartStep;
+use part_twins::has_writer;
 
 /// The line is to take itself out of the lock's readers.
 pub(crate) fn is_owing(hold: Hold) -> bool

@@ -24,11 +24,12 @@ use crate::waits::own_open;
 use crate::watch::{looked_at, watch_next};
 use crate::write_protect::{protect_next, protect_part};
 use core_views::{
-    Answer, BeginPlace, Command, EndPlace, FrameRange, Hand, LogMode, Place, Sizes, Slot,
-    SlotChangePlace, SlotSet, Topics, WriteProtectPlace,
+    Answer, BeginPlace, Command, EndPlace, FrameRange, LogMode, Place, Sizes, Slot,
+    SlotChangePlace, Topics, WriteProtectPlace,
 };
 use mmu_core::{BeginNext, ClaimNext, EndNext, FreeMap, Outcome, WatchNext, WriteProtectNext};
-use part_steps::{PartStep, SLOT_SET_ROLE, Target, Task, part_task, set_word, words_filled};
+use part_steps::{PartStep, Target, Task};
+use part_twins::{Hand, SLOT_SET_ROLE, SlotSet, part_task, set_word, words_filled};
 
 /// How many words of a slot set's page are filled.
 const WORDS: u64 = 512;

@@ -22,11 +22,11 @@ use crate::delays::{delays_behind, is_delay, steps_behind};
 use crate::waits::Waiting;
 use crate::{access, host, log, slot_change};
 use core_views::{
-    AccessPlace, Answer, AnsweredLine, Command, Hand, Kind, Line, LogPlace, Place, StepKind,
-    Translation,
+    AccessPlace, Answer, AnsweredLine, Command, Kind, Line, LogPlace, Place, StepKind, Translation,
 };
 use mmu_core::{LogNext, Outcome};
-use part_steps::{PartStep, Task, kind_of, step_topics};
+use part_steps::{PartStep, Task};
+use part_twins::{Hand, kind_of, step_topics};
 
 // Where a line begins.
 fn first(hand: &Hand, line: &Line) -> Place

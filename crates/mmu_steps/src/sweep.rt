@@ -10,7 +10,7 @@ ghost use Rattle.mmu_core.specs.lines.SweepSteps.{sweep_next, swept_on};
 
 use core_views::{FrameRange, TableWalk};
 use mmu_core::SweepNext;
-use part_steps::{entry_index, has_entry, is_done, sweep_on, swept_to};
+use part_twins::{entry_index, has_entry, is_done, sweep_on, swept_to};
 
 // After an entry of the sweep for these frames, where the walk has come to this.
 fn sweep_next(zaps: bool, range: FrameRange, walk: &TableWalk) -> SweepNext

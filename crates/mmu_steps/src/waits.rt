@@ -5,8 +5,9 @@ ghost use Rattle.mmu_core.specs.lines.PartWaits.{own_open, saw_open};
 ghost use Rattle.mmu_core.specs.machine.Enabled.{Enabled};
 ghost use Rattle.mmu_steps.specs.Waits.{HasTried, WaitsAsLine, seen_in, waiting_at, waits};
 
-use core_views::{Checked, Hand, Hold, Invalidations, Kind, MapClaim, Seen, StepKind};
-use part_steps::{has_to_flush, in_section, is_won, map_of};
+use core_views::{Checked, Hold, Invalidations, Kind, MapClaim, Seen, StepKind};
+use part_steps::map_of;
+use part_twins::{Hand, has_to_flush, in_section, is_won};
 use spte_words::Area;
 
 // How many are open of the actor's own.

@@ -4,9 +4,8 @@ ghost use Rattle.std.specs.Prelude.{◌≡◌};
 ghost use Rattle.mmu_core.specs.lines.WatchSteps.{looked_at, watch_next};
 ghost use Rattle.part_steps.specs.PartBounds.{PartRests};
 
-use core_views::Hand;
 use mmu_core::WatchNext;
-use part_steps::{in_section, next_watched};
+use part_twins::{Hand, in_section, next_watched};
 
 /// The actor that the watch looks at next.
 pub(crate) fn looked_at(hand: &Hand) -> u64

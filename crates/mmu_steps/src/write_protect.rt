@@ -10,7 +10,8 @@ ghost use Rattle.mmu_core.specs.lines.WriteProtectSteps.{protect_next, protect_p
 use crate::sweep::{after_entry, after_leaf};
 use core_views::{FrameRange, Sizes, Topics, WriteProtectPlace};
 use mmu_core::{SweepNext, WriteProtectNext};
-use part_steps::{PartStep, has_to_flush, swept_to};
+use part_steps::PartStep;
+use part_twins::{has_to_flush, swept_to};
 use spte_words::Spte;
 
 /// The step of this place, where writes to these guest frames are to be forbidden.

@@ -1,6 +1,6 @@
 -- The page of a slot set: four words for each ID, and its role.
 use Rattle.std.specs.Prelude.{◌≡◌, ◌/◌, ◌%◌, ◌<◌, ℕ, true, ◌==◌, if◌then◌else◌, Option, Some, None}
-use Rattle.core_views.specs.declared.slot_set.MemorySlot.{MemorySlot}
+use Rattle.core_views.specs.declared.memory_slot.MemorySlot.{MemorySlot}
 use Rattle.core_views.specs.declared.topics.OwnedPage.{OwnedPage}
 use Rattle.core_views.specs.SlotSets.{MemorySlots, slot_of_id}
 use Rattle.spte_words.specs.Areas.{pool_index}

@@ -1,10 +1,10 @@
 //! What a line invalidates, and the range of guest frames of the open invalidations (KVM's
 //! kvm_main.c, `kvm_mmu_invalidate_range_add`).
-ghost use Rattle.std.specs.Prelude.{◌≡◌, ◌≤◌, ◌<◌, ◌+◌, ◌^◌};
-ghost use Rattle.part_steps.specs.InvalidationRange.{HasSmallSlot, IsSmall, end_with, gfn_behind, has_found, has_found_looked, has_searched};
-ghost use Rattle.part_steps.specs.InvalidationRange.{page_aimed, page_looked, page_of_look, range_end, range_start, start_with, target_end, target_start};
+ghost use Rattle.std.specs.Prelude.{◌≡◌, ◌<◌, ◌+◌, ◌^◌};
+ghost use Rattle.part_steps.specs.InvalidationRange.{HasSmallSlot, IsSmall, end_with, gfn_behind, has_found, has_searched};
+ghost use Rattle.part_steps.specs.InvalidationRange.{range_end, range_start, start_with, target_end, target_start};
 
-use core_views::{HostLook, Invalidations, Slot, SlotSearch, Topics};
+use core_views::{Invalidations, Slot, SlotSearch, Topics};
 
 /// How many slots a set has.
 const SLOTS: u64 = 32;
@@ -16,23 +16,6 @@ pub enum Target {
     Page(u64),
     /// The guest frames of this slot, which is to be moved or deleted.
     Slot(Slot),
-}
-
-// The host page that was looked at last.
-pub(crate) fn page_looked(host: Option<HostLook>) -> u64
-    ensures { result ≡ page_looked host }
-{
-    match host {
-        Some(look) => look.page,
-        None => 0,
-    }
-}
-
-// The same, if one was.
-fn page_of_look(host: Option<HostLook>) -> Option<u64>
-    ensures { result ≡ page_of_look host }
-{
-    Some(host?.page)
 }
 
 /// The guest frame that the slot gives to the host page.
@@ -48,24 +31,6 @@ pub fn has_found(page: u64, search: &SlotSearch) -> bool
     ensures { result ≡ has_found page search.now }
 {
     search.whole && search.slot.has_host_page(page)
-}
-
-// The host page that the actor may change, if it may change one.
-pub(crate) fn page_aimed(topics: &Topics) -> Option<u64>
-    ensures { result ≡ page_aimed topics.now }
-{
-    if topics.owned.is_some() {
-        None
-    } else {
-        page_of_look(topics.host)
-    }
-}
-
-// Whether the search has found the slot with this page.
-pub(crate) fn has_found_looked(topics: &Topics) -> bool
-    ensures { result ≡ has_found_looked topics.now }
-{
-    page_aimed(topics).is_some() && has_found(page_looked(topics.host), &topics.search)
 }
 
 impl Target {

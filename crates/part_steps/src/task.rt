@@ -1,9 +1,9 @@
-ghost use Rattle.std.specs.Prelude.{◌≡◌, ◌<◌};
+ghost use Rattle.std.specs.Prelude.{◌≡◌};
 ghost use Rattle.core_views.specs.Sizes.{AreSizes};
-ghost use Rattle.part_steps.specs.Tasks.{kind_of_task, loads, map_of};
-ghost use Rattle.spte_words.specs.Areas.{IsWordMap, size_of, total};
+ghost use Rattle.part_steps.specs.Tasks.{loads, map_of};
+ghost use Rattle.spte_words.specs.Areas.{IsWordMap};
 
-use core_views::{Kind, Sizes, StepKind};
+use core_views::{Sizes, StepKind};
 use spte_words::{Area, WordMap};
 
 /// Where the words of a machine of these sizes stand.
@@ -49,22 +49,5 @@ impl Task {
             written: 0,
             may_end,
         }
-    }
-}
-
-/// The step as the words of the machine see it.
-#[inline(always)]
-pub fn kind_of(sizes: &Sizes, task: &Task) -> Kind
-    requires sizes { AreSizes sizes.now }
-    requires within { task.now.index < size_of (map_of sizes.now) task.now.area }
-    ensures is { result ≡ kind_of_task sizes.now task.now }
-    ensures inside { result.word < total (map_of sizes.now) }
-{
-    Kind {
-        code: task.kind.code(),
-        word: map_of(sizes).word_of(task.area, task.index),
-        old: task.expected,
-        new: task.written,
-        note: task.may_end,
     }
 }

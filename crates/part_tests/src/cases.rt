@@ -8,11 +8,10 @@ ghost use Rattle.core_views.specs.Sizes.{index_of};
 
 use crate::{expect_actor, machine_of};
 use core_views::{Actor, Seen};
-use mmu_steps::allows;
 use part_steps::{PartStep, map_of};
 use std::alloc::Global;
 use std::test::Fail;
-use step_seats::{MachineOwner, PlainMachine, Stepper, Turn, make_part};
+use step_seats::{MachineOwner, PlainMachine, Stepper, Turn, allows, make_part};
 
 /// What comes of an act: some words, and up to four numbers after them.
 #[derive(Clone, Copy, Drop)]

@@ -2,10 +2,9 @@
 use crate::expected::expect_all;
 use crate::{Acts, Came, HEAD};
 use core_views::Actor;
-use mmu_steps::allows;
-use part_steps::{PartStep, needs_line};
+use part_steps::PartStep;
 use std::test::Fail;
-use step_seats::{PlainMachine, Stepper, make_part};
+use step_seats::{PlainMachine, Stepper, allows, make_part, needs_line};
 
 // Whether the hand allows that writes are allowed in a leaf, or that a page is marked.
 fn may<S: Stepper>(seat: &mut S) -> Came {

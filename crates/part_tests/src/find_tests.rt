@@ -3,10 +3,9 @@ use crate::expected::expect_all;
 use crate::{Acts, Came, HEAD, make, make_steps};
 use core_views::{Actor, Stay};
 use memslots::{Find, FoundSlot, Sought};
-use mmu_steps::allows;
 use part_steps::PartStep;
 use std::test::Fail;
-use step_seats::{PlainMachine, Stepper, Turn};
+use step_seats::{PlainMachine, Stepper, Turn, allows};
 
 // The next turn of the search, where the hand allows its step.
 fn turn<S: Stepper>(find: &mut Find, seat: &mut S) -> Option<Turn<Option<FoundSlot>>> {

@@ -6,14 +6,13 @@ ghost use Rattle.part_steps.specs.PartBounds.{PartRests};
 
 use crate::expected::expect_all;
 use crate::{Acts, Came, HEAD};
-use core_views::{Actor, Hand};
+use core_views::Actor;
 use grace_period::{Watch, begin, end};
-use mmu_steps::{allows, part_rests};
-use part_steps::{PartStep, next_watched};
+use part_steps::PartStep;
 use std::alloc::Global;
 use std::process::Abort;
 use std::test::Fail;
-use step_seats::{PlainMachine, Stepper, make_part};
+use step_seats::{Hand, PlainMachine, Stepper, allows, make_part, next_watched, part_rests};
 
 // The step on the actor's own state word, where it is allowed.
 fn go<S: Stepper>(seat: &mut S, step: PartStep) -> Came {

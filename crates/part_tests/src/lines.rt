@@ -6,12 +6,13 @@ ghost use Rattle.mmu_core.specs.machine.MayMake.{MayMake};
 ghost use Rattle.mmu_core.specs.machine.Worlds.{HandReached};
 
 use crate::expect_actor;
-use core_views::{Actor, Answer, Hand, NoMemory};
-use mmu_core::rests;
-use mmu_steps::{allows, next_kind, next_step, part_rests};
-use part_steps::{PartStep, part_kind};
+use core_views::{Actor, Answer, NoMemory};
+use part_steps::PartStep;
 use std::test::Fail;
-use step_seats::{PlainMachine, Stepper, Turn, make_part, take_turn};
+use step_seats::{
+    Hand, PlainMachine, Stepper, Turn, allows, make_part, next_kind, next_step, part_kind,
+    part_rests, rests, take_turn,
+};
 
 /// Makes so many steps of the seat's lines, or those that are left: how many it made.
 pub fn make_steps<S: Stepper>(seat: &mut S, most: u64) -> Result<u64, NoMemory> {

@@ -4,10 +4,9 @@ use crate::untold::{UntoldSeat, exclusive_untold};
 use crate::{Acts, Came, HEAD};
 use core_views::{Actor, Hold};
 use mmu_lock::{Lock, try_exclusive, try_shared, unlock};
-use mmu_steps::allows;
-use part_steps::{PartStep, WRITER};
+use part_steps::PartStep;
 use std::test::Fail;
-use step_seats::{PlainMachine, Stepper, Turn};
+use step_seats::{PlainMachine, Stepper, Turn, WRITER, allows};
 
 // What a try for the lock came to: the word that it found, where others have it.
 fn tried(lock: Lock) -> Came {

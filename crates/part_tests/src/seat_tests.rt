@@ -8,11 +8,9 @@ ghost use Rattle.step_seats.specs.Told.{WorldLeadsOn};
 
 use crate::expected::expect_all;
 use crate::{Acts, Came, HEAD};
-use core_views::{Actor, Answer, Hand, NoMemory};
-use mmu_core::rests;
-use mmu_steps::next_kind;
+use core_views::{Actor, Answer, NoMemory};
 use std::test::Fail;
-use step_seats::{MachineOwner, PlainMachine, Stepper};
+use step_seats::{Hand, MachineOwner, PlainMachine, Stepper, next_kind, rests};
 
 // The next step of the seat's line, through the bound, where it has one left.
 fn step<S: Stepper>(seat: &mut S) -> Result<Option<u64>, NoMemory>

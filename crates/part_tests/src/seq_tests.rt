@@ -3,10 +3,9 @@ use crate::expected::expect_all;
 use crate::{Acts, Came, HEAD, make};
 use core_views::{Actor, CheckStage, Hold, Invalidated, Invalidations};
 use invalidate_seq::{Check, Checked, Snapshot};
-use mmu_steps::allows;
 use part_steps::PartStep;
 use std::test::Fail;
-use step_seats::{PlainMachine, Stepper, Turn};
+use step_seats::{PlainMachine, Stepper, Turn, allows};
 
 fn checked(turn: &Turn<Checked>) -> Came {
     match turn {

@@ -5,10 +5,9 @@ ghost use Rattle.mmu_core.specs.machine.MayMake.{MayMake};
 use crate::expected::expect_all;
 use crate::{Acts, Came, HEAD};
 use core_views::Actor;
-use mmu_steps::allows;
 use part_steps::PartStep;
 use std::test::Fail;
-use step_seats::{PlainMachine, Stepper};
+use step_seats::{PlainMachine, Stepper, allows};
 use vcpu_tlb::{Entered, enter, leave, paused};
 
 // Whether the seat may make the step, for which it has taken room.

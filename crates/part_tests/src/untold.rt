@@ -6,9 +6,9 @@ ghost use Rattle.mmu_lock.specs.Locking.{ExchangedUntold, untold_in};
 ghost use Rattle.part_steps.specs.declared.part_step.PartStep.TheVariants.{Exclude};
 ghost use Rattle.step_seats.specs.Frames.{frame_of};
 
-use core_views::{Hand, Kind, NoMemory};
+use core_views::{Kind, NoMemory};
 use mmu_lock::{Lock, try_exclusive};
-use step_seats::{ActorSeat, MachineFrame, PlainMachine, Stepper};
+use step_seats::{ActorSeat, Hand, MachineFrame, PlainMachine, Stepper};
 
 /// The seat of an actor, which tells neither the world nor the steps.
 #[derive(Drop)]

@@ -2,10 +2,9 @@
 use crate::expected::expect_all;
 use crate::{Acts, Came, HEAD, make};
 use core_views::{Actor, Stay};
-use mmu_steps::allows;
 use part_steps::PartStep;
 use std::test::Fail;
-use step_seats::{PlainMachine, Stepper, Turn};
+use step_seats::{PlainMachine, Stepper, Turn, allows};
 use tdp_walk::{Walk, Walked};
 
 // What a turn said.

@@ -8,13 +8,12 @@ ghost use Rattle.range_notifier.specs.Notifying.{BeginsNext, NeverWaits, IsInBeg
 ghost use Rattle.step_seats.specs.Moves.{KeepsRoom};
 ghost use Rattle.step_seats.specs.PartTurns.{MadeTelling, MakesPart};
 
-use core_views::{BeginPlace, Hand, HostPlace, Place, Seen, Slot, SlotChangePlace};
+use core_views::{BeginPlace, HostPlace, Place, Seen, Slot, SlotChangePlace};
 use invalidate_seq::{Open, OpenStage};
 use memslots::{Find, Sought};
 use mmu_lock::{exclude, release};
-use mmu_steps::part_rests;
-use part_steps::{Target, map_of, swept_to};
-use step_seats::{Stepper, Turn};
+use part_steps::{Target, map_of};
+use step_seats::{Hand, Stepper, Turn, part_rests, swept_to};
 use tdp_walk::{Walk, sweep_entry, zap};
 use vcpu_tlb::{ask_flush, await_flush};
 

@@ -4,10 +4,10 @@ ghost use Rattle.range_notifier.specs.Notifying.{EndsNext, IsInEnd, TurnsEnd, en
 ghost use Rattle.step_seats.specs.Moves.{KeepsRoom};
 ghost use Rattle.step_seats.specs.PartTurns.{MadeTelling, MakesPart};
 
-use core_views::{EndPlace, Hand, HostPlace, Place, Seen, SlotChangePlace};
+use core_views::{EndPlace, HostPlace, Place, Seen, SlotChangePlace};
 use invalidate_seq::{Shut, ShutStage};
 use mmu_lock::{exclude, release};
-use step_seats::{Stepper, Turn};
+use step_seats::{Hand, Stepper, Turn};
 
 /// The end of an invalidation, a step a turn. Where it stands is kept in the hand whose
 /// line it is of.

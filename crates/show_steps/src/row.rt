@@ -11,11 +11,9 @@ ghost use Rattle.step_text.specs.Endings.{ending_text};
 ghost use Rattle.show_steps.specs.Rows.{cause_text, is_on_entry, place_in, role_of, role_shown, row_of};
 
 use core_views::{Cause, Sizes, StepKind};
-use mmu_core::rests;
-use mmu_steps::next_kind;
 use part_steps::map_of;
 use spte_words::{Area, WordMap};
-use step_seats::{MachineOwner, PlainMachine};
+use step_seats::{MachineOwner, PlainMachine, next_kind, rests};
 use step_text::{Ending, Row, WordPlace, place_of};
 
 // The place of a word, and that of the first one where there is no such word.

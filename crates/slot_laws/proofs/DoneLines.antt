@@ -16,7 +16,7 @@ use Rattle.core_views.specs.declared.trace.MigrationCall.TheVariants.{Start, Fin
 use Rattle.core_views.specs.Migrations.{is_migrating, or_barred}
 use Rattle.core_views.proofs.SlotChanges.{answered_by_slots}
 use Rattle.core_views.specs.declared.sizes.Sizes.{Sizes}
-use Rattle.core_views.specs.declared.slot_set.MemorySlot.{MemorySlot}
+use Rattle.core_views.specs.declared.memory_slot.MemorySlot.{MemorySlot}
 use Rattle.core_views.specs.declared.trace.Command.{Command}
 use Rattle.core_views.specs.declared.trace.Command.TheVariants.{Access}
 use Rattle.core_views.specs.declared.trace.Line.{Line}

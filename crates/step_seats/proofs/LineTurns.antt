@@ -10,7 +10,7 @@ use Rattle.core_views.specs.declared.place.AccessPlace.TheVariants.{Enter, Fault
 use Rattle.core_views.specs.declared.answer.Answer.{Answer}
 use Rattle.core_views.specs.declared.answer.Answer.TheVariants as answers
 use Rattle.core_views.specs.declared.answer.AnsweredLine.{AnsweredLine}
-use Rattle.core_views.specs.declared.hand.Seen.{Seen}
+use Rattle.core_views.specs.declared.progress.Seen.{Seen}
 use Rattle.core_views.specs.declared.place.Cause.{Cause}
 use Rattle.core_views.specs.declared.place.FaultEnd.{FaultEnd}
 use Rattle.core_views.specs.declared.place.FaultEnd.TheVariants as end_of

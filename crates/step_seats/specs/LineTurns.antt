@@ -4,7 +4,7 @@ use Rattle.core_views.specs.declared.actor.Actor.TheVariants.{Manager}
 use Rattle.core_views.specs.declared.answer.Answer.{Answer}
 use Rattle.core_views.specs.declared.answer.Answer.TheVariants.{Mmio}
 use Rattle.core_views.specs.declared.answer.AnsweredLine.{AnsweredLine}
-use Rattle.core_views.specs.declared.hand.Seen.{Seen}
+use Rattle.core_views.specs.declared.progress.Seen.{Seen}
 use Rattle.core_views.specs.declared.kind.Kind.{Kind}
 use Rattle.core_views.specs.declared.place.AccessPlace.TheVariants.{Fault}
 use Rattle.core_views.specs.declared.place.Cause.{Cause}

@@ -7,7 +7,8 @@ ghost use Rattle.mmu_core.specs.machine.Steps.{place_at};
 ghost use Rattle.mmu_core.specs.machine.Worlds.{HandReached};
 ghost use Rattle.step_seats.specs.FaultTurns.{IsAtFaultPlace, StandsInFault, is_fast_place};
 
-use core_views::{AccessPlace, FaultEnd, FaultPlace, Hand, Place};
+use core_views::{AccessPlace, FaultEnd, FaultPlace, Place};
+use mmu_steps::Hand;
 
 /// Whether the place is one of a fast fault (locking.rst, "Fast page fault").
 pub fn is_fast_place(place: FaultPlace) -> bool

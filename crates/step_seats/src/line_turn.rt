@@ -8,8 +8,7 @@ ghost use Rattle.step_seats.specs.Moves.{KeepsRoom};
 
 use crate::{Stepper, Turn};
 use core_views::{AccessPlace, Cause, FaultEnd, FaultPlace, NoMemory, Place};
-use mmu_core::rests;
-use mmu_steps::{Waiting, next_kind};
+use mmu_steps::{Waiting, next_kind, rests};
 
 // Why an access begins anew with the step of this place, if it does.
 fn cause_of(place: Place) -> Option<Cause>

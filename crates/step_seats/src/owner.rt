@@ -8,7 +8,8 @@ ghost use Rattle.step_seats.specs.Machines.{IsMachine, KeepsSizes, seat_in, worl
 ghost use Rattle.step_seats.specs.Moves.{HasItsRoom, KeepsRoom, handful_in};
 ghost use Rattle.step_seats.specs.Where.{HasHand};
 
-use core_views::{Hand, Kind, NoMemory, Sizes};
+use core_views::{Kind, NoMemory, Sizes};
+use mmu_steps::Hand;
 
 /// Whoever owns all words and hands of a machine, and makes the steps of its
 /// actors one after another.

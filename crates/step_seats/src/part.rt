@@ -5,8 +5,8 @@ ghost use Rattle.step_seats.specs.PartTurns.{MadePart};
 ghost use Rattle.step_seats.specs.Where.{HasHand};
 
 use crate::Stepper;
-use mmu_steps::part_rests;
-use part_steps::{PartStep, part_kind};
+use mmu_steps::{part_kind, part_rests};
+use part_steps::PartStep;
 
 /// Makes this step of a part of the machine, and answers what it found in its
 /// word (a store: what it wrote).

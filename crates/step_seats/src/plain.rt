@@ -7,8 +7,8 @@ ghost use Rattle.step_seats.specs.Machines.{world_in};
 
 use crate::start::{start_hands, start_words};
 use crate::{ActorSeat, MachineOwner};
-use core_views::{Actor, Closing, Hand, Kind, NoMemory, Sequence, Sizes, Trace};
-use mmu_steps::advance;
+use core_views::{Actor, Kind, NoMemory, Sequence, Sizes, Trace};
+use mmu_steps::{Closing, Hand, advance};
 use std::alloc::Global;
 use std::marker::Model;
 

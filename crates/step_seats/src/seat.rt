@@ -4,7 +4,8 @@ ghost use Rattle.step_seats.specs.Frames.{frame_of};
 ghost use Rattle.step_seats.specs.Machines.{seat_in};
 
 use crate::{MachineOwner, Stepper};
-use core_views::{Hand, Kind, NoMemory};
+use core_views::{Kind, NoMemory};
+use mmu_steps::Hand;
 use std::marker::{Model, PhantomData};
 
 /// What the steps of a seat leave as it is: which owner of the machine it

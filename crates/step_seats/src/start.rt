@@ -9,8 +9,9 @@ ghost use Rattle.mmu_core.specs.machine.Worlds.{AreStartWords, free_bits, least,
 ghost use Rattle.spte_words.specs.Areas.{size_of};
 ghost use Rattle.step_seats.specs.Moves.{cores_of};
 
-use core_views::{Actor, Hand, Line, NoMemory, Sizes};
-use part_steps::{SLOT_SET_ROLE, map_of};
+use core_views::{Actor, Line, NoMemory, Sizes};
+use mmu_steps::{Hand, SLOT_SET_ROLE};
+use part_steps::map_of;
 use spte_words::{Area, HostWord};
 use std::alloc::Global;
 

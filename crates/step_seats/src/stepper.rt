@@ -5,7 +5,8 @@ ghost use Rattle.step_seats.specs.Acts.{Acts};
 ghost use Rattle.step_seats.specs.Moves.{HasItsRoom, KeepsRoom};
 ghost use Rattle.step_seats.specs.Where.{HasHand};
 
-use core_views::{Hand, Kind, NoMemory};
+use core_views::{Kind, NoMemory};
+use mmu_steps::Hand;
 
 /// The seat of one actor at the words of the machine: it makes the steps of
 /// its actor's hand, one word at a time.

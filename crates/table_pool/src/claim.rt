@@ -26,11 +26,10 @@ ghost use Rattle.table_pool.specs.Claims.{
 };
 ghost use Rattle.table_pool.specs.declared.claim.Claimed.TheVariants.{Got};
 
-use core_views::{Hand, MapClaim, Seen, Sizes, Topics};
+use core_views::{MapClaim, Seen, Sizes, Topics};
 use mmu_core::FreeMap;
-use mmu_steps::part_rests;
 use part_steps::{PartStep, map_of};
-use step_seats::{Stepper, Turn, make_part};
+use step_seats::{Hand, Stepper, Turn, make_part, part_rests};
 
 // The page, or the frame, that the actor owns.
 fn got_in(map: FreeMap, topics: &Topics) -> Option<u64>

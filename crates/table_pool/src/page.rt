@@ -7,9 +7,8 @@ ghost use Rattle.step_seats.specs.PartTurns.{MadePart, MakesPart, WherePartMade}
 ghost use Rattle.step_seats.specs.declared.turn.Turn.TheVariants.{More, Done};
 ghost use Rattle.table_pool.specs.Pages.{FillTurn, FillsWhereMade, FreesPage, GivesPage, fill_step, words_left};
 
-use mmu_steps::part_rests;
-use part_steps::{PartStep, part_kind, words_filled};
-use step_seats::{Stepper, Turn, make_part};
+use part_steps::PartStep;
+use step_seats::{Stepper, Turn, make_part, part_kind, part_rests, words_filled};
 
 /// How many words of a page are filled before its role.
 const WORDS: u64 = 512;

@@ -1,7 +1,7 @@
 -- The board of a machine, and the pass with all its hands.
 use Rattle.std.proofs.Common.{◌≡◌, ◌<◌, ℕ, List, Some, arith, length, map, refl, subst, sym}
 use Rattle.core_views.specs.declared.sizes.Sizes.{Sizes}
-use Rattle.core_views.specs.declared.hand.Closing.{Closing}
+use Rattle.hands.specs.declared.hand.Closing.{Closing}
 use Rattle.core_views.specs.Held.{Handful}
 use Rattle.spte_words.specs.Areas.{total}
 use Rattle.part_steps.specs.Tasks.{map_of}

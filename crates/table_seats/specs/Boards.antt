@@ -1,7 +1,7 @@
 -- What contracts see of a board: its table, and the words and hands with which it began.
 use Rattle.std.specs.Prelude.{◌≡◌, ◌<◌, ◌++◌, [], ℕ, List, Option, None, Some, length, map, slice_set}
 use Rattle.atomic_table.specs.Seated.{TableId}
-use Rattle.core_views.specs.declared.hand.Closing.{Closing}
+use Rattle.hands.specs.declared.hand.Closing.{Closing}
 use Rattle.core_views.specs.declared.kind.Kind.{Kind}
 use Rattle.core_views.specs.Held.{Held, Handful}
 use Rattle.mmu_core.specs.machine.Enabled.{mmu}

@@ -11,10 +11,10 @@ use crate::Pass;
 use crate::calls::perform;
 use crate::rule::{Law, View};
 use atomic_table::Table;
-use core_views::{Closing, Kind};
-use mmu_steps::advance;
+use core_views::Kind;
 use std::alloc::Global;
 use std::marker::{Brand, Model};
+use step_seats::{Closing, advance};
 
 /// The words of a machine in one table, which threads may share.
 #[derive(Drop)]

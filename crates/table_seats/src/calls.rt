@@ -5,7 +5,8 @@ ghost use Rattle.table_seats.specs.Rule.{Acted, Holds, with_only, without};
 
 use crate::rule::{Chosen, Cuts, Does, Law, View};
 use atomic_table::{Seat, Shared};
-use core_views::{Closing, Hand, Kind, Operation};
+use core_views::{Kind, Operation};
+use step_seats::{Closing, Hand};
 
 // The words of a board, as threads share them.
 pub(crate) type Words = Shared<(), View, Closing, Law>;

@@ -6,8 +6,9 @@ ghost use Rattle.table_seats.specs.Boards.{AllHands};
 ghost use Rattle.table_seats.specs.Rule.{Holds, only, overlay};
 
 use atomic_table::Closed;
-use core_views::{Hand, NoMemory};
+use core_views::NoMemory;
 use std::alloc::Global;
+use step_seats::Hand;
 
 // Each hand at the place of its actor.
 pub(crate) fn deal(alloc: Global, hands: Vec<Hand>) -> Result<Vec<Option<Hand>>, NoMemory>

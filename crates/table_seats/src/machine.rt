@@ -9,10 +9,10 @@ ghost use Rattle.table_seats.specs.Owners.{machine_of};
 ghost use Rattle.table_seats.specs.Passes.{steps_told};
 
 use crate::{Board, Pass, TableSeat};
-use core_views::{Hand, Kind, NoMemory, Sizes, Trace};
+use core_views::{Kind, NoMemory, Sizes, Trace};
 use std::alloc::Global;
 use std::marker::Model;
-use step_seats::MachineOwner;
+use step_seats::{Hand, MachineOwner};
 
 /// A board with its first pass, which keeps every hand: its actors take their steps one
 /// after another, each by one call of the table.

@@ -8,8 +8,9 @@ ghost use Rattle.table_seats.specs.Passes.{IsPass, Keeps, PutsHand, hand_at, wor
 
 use crate::rule::View;
 use atomic_table::Seat;
-use core_views::{Hand, NoMemory};
+use core_views::NoMemory;
 use std::marker::Model;
+use step_seats::Hand;
 
 /// The hands of some actors, each at the place of its actor, and what they tell of the
 /// board. Each hand of a board is in one of its passes.

@@ -1,7 +1,7 @@
 //! What a seat of the table knows, and the rule of the table.
 use atomic_table::{Join, Play, Split, TableRule};
-use core_views::Closing;
 use std::marker::{Brand, Model, PhantomData};
+use step_seats::Closing;
 
 /// What a seat of the table knows. No value of it is made.
 pub struct View {

@@ -14,10 +14,10 @@ use crate::hands::{deal, gather_hands, gather_words, merge, take_hand};
 use crate::rule::Glues;
 use crate::{Board, Pass};
 use atomic_table::Table;
-use core_views::{Closing, Hand, Kind, NoMemory, Sequence, Trace};
+use core_views::{Kind, NoMemory, Sequence, Trace};
 use std::alloc::Global;
 use std::marker::{Brand, Model, PhantomData};
-use step_seats::{MachineOwner, PlainMachine, Stepper};
+use step_seats::{Closing, Hand, MachineOwner, PlainMachine, Stepper};
 
 /// What the steps of a seat leave as it is: the board, and the other hands of the pass. No
 /// value of it is made.

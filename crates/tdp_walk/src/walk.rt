@@ -7,10 +7,9 @@ ghost use Rattle.step_seats.specs.PartTurns.{MadePart, MakesPart};
 ghost use Rattle.step_seats.specs.declared.turn.Turn.TheVariants.{More};
 ghost use Rattle.tdp_walk.specs.Walks.{FindsRoot, Looks, WalksAnewWhereMade, WasNextWord, walk_turns, walk_step, walked_anew};
 
-use mmu_steps::part_rests;
 use part_steps::PartStep;
 use spte_words::{Spte, SpteKind};
-use step_seats::{Stepper, Turn, make_part};
+use step_seats::{Stepper, Turn, make_part, part_rests};
 
 /// What a walk ended at, and the level of the table that the entry stands in:
 /// 4 at the root, 1 at the lowest.

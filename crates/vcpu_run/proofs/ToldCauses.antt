@@ -2,7 +2,7 @@
 use Rattle.std.proofs.Common.{◌≡◌, ℕ, sym, subst}
 use Rattle.std.specs.Prelude.{Bool}
 use Rattle.core_views.specs.declared.answer.Answer.{Answer}
-use Rattle.core_views.specs.declared.hand.Seen.{Seen}
+use Rattle.core_views.specs.declared.progress.Seen.{Seen}
 use Rattle.core_views.specs.declared.place.AccessPlace.{AccessPlace}
 use Rattle.core_views.specs.declared.place.AccessPlace.TheVariants.{Leave, Fault}
 use Rattle.core_views.specs.declared.place.FaultEnd.{FaultEnd}

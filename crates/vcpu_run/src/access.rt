@@ -6,8 +6,7 @@ ghost use Rattle.step_seats.specs.LineTurns.{Says, TurnsLine, turn_told};
 ghost use Rattle.vcpu_run.specs.Accesses.{HasItsCause};
 
 use core_views::Op;
-use mmu_core::{knows, rests};
-use step_seats::{Stepper, Turn, turn_line};
+use step_seats::{Stepper, Turn, knows, rests, turn_line};
 
 /// The access of one line, a step a turn. Where it stands is kept in the hand of
 /// its virtual processor, which drives the job.

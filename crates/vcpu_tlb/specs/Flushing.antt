@@ -1,6 +1,6 @@
 -- A flush that another actor asks the virtual processors for, and awaits (vcpu-requests.rst, KVM_REQ_TLB_FLUSH; kvm_main.c, kvm_flush_remote_tlbs).
 use Rattle.std.specs.Prelude.{◌≡◌, ◌+◌, ℕ, Option, Some, None, true, if◌then◌else◌}
-use Rattle.core_views.specs.declared.hand.Seen.{Seen}
+use Rattle.core_views.specs.declared.progress.Seen.{Seen}
 use Rattle.core_views.specs.declared.sizes.Sizes.{Sizes}
 use Rattle.core_views.specs.declared.topics.Topics.{Topics}
 use Rattle.core_views.specs.Held.{Held}

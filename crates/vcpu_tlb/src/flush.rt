@@ -6,8 +6,8 @@ ghost use Rattle.step_seats.specs.PartTurns.{MakesPart};
 ghost use Rattle.vcpu_tlb.specs.Flushing.{AnswersAwait, AsksFlush, Awaits, asked_up_to, await_way, awaited_up_to, count_awaited};
 
 use core_views::Seen;
-use part_steps::{PartStep, has_to_flush};
-use step_seats::{Stepper, make_part};
+use part_steps::PartStep;
+use step_seats::{Stepper, has_to_flush, make_part};
 
 /// What a look at a virtual processor found that was asked for a flush.
 #[derive(Clone, Copy, Debug, PartialEq, Eq, Drop)]

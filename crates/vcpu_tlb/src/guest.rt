@@ -7,9 +7,8 @@ ghost use Rattle.step_seats.specs.Moves.{KeepsRoom};
 ghost use Rattle.step_seats.specs.PartTurns.{MadePart, MakesPart};
 ghost use Rattle.vcpu_tlb.specs.Entering.{AnswersPause, AnswersState, Enters, KeepsAsking, TellsGuest, TellsOutside, cached_behind};
 
-use mmu_steps::asks_flush;
 use part_steps::PartStep;
-use step_seats::{Stepper, make_part};
+use step_seats::{Stepper, asks_flush, make_part};
 
 /// What a virtual processor found as it entered the guest.
 #[derive(Clone, Copy, Debug, PartialEq, Eq, Drop)]

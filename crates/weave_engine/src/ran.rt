@@ -4,8 +4,9 @@ ghost use Rattle.std.specs.Option.{option_copied, option_map};
 ghost use Rattle.weave_engine.specs.Statuses.{status_by};
 ghost use Rattle.weave_engine.specs.Woven.{how_ended, open_of};
 
-use core_views::{Actor, Closing, Line, NoMemory};
+use core_views::{Actor, Line, NoMemory};
 use run_status::Status;
+use step_seats::Closing;
 use tdp_io::Stop;
 
 /// How a run of the engine ended.

@@ -11,8 +11,8 @@ ghost use Rattle.weave_engine.specs.Given.{IsLastAnswer, given_in};
 ghost use Rattle.weave_engine.specs.Replays.{RanOn};
 
 use crate::alone::run_line;
-use core_views::{Actor, Answer, Hand, Line, NoMemory};
-use step_seats::{ActorSeat, MachineOwner};
+use core_views::{Actor, Answer, Line, NoMemory};
+use step_seats::{ActorSeat, Hand, MachineOwner};
 
 /// Runs the next line of an actor of the machine to its answer, which the actor's hand
 /// has then, while all other actors rest. Where the memory that it needs is refused,

@@ -9,9 +9,7 @@ ghost use Rattle.step_seats.specs.Moves.{handful_in};
 ghost use Rattle.weave_engine.specs.Turned.{TurnedOn, TurnedTold, next_code_in};
 
 use core_views::{Actor, NoMemory};
-use mmu_core::rests;
-use mmu_steps::next_kind;
-use step_seats::{ActorSeat, MachineOwner, Stepper, Turn, take_turn};
+use step_seats::{ActorSeat, MachineOwner, Stepper, Turn, next_kind, rests, take_turn};
 
 /// A turn that an actor has made: of which line, and how it ended. Where the line is
 /// answered, the actor's hand has the answer.

@@ -8,7 +8,8 @@
 
 use crate::expected::expect_rows;
 use crate::rows::{numbers, verb};
-use core_views::{Command, LogMode, Sizes, Slot, SlotSet, Words};
+use core_views::{Command, LogMode, Sizes, Slot, Words};
+use hands::SlotSet;
 use std::alloc::Global;
 use std::test::Fail;
 

@@ -2,7 +2,8 @@
 //! guest frame.
 
 use crate::expected::expect;
-use core_views::{MemorySlot, Refusal, Slot, SlotSet};
+use core_views::{MemorySlot, Refusal, Slot};
+use hands::SlotSet;
 use std::test::Fail;
 
 // How many guest frames there are.

@@ -5,7 +5,7 @@ use Rattle.core_views.specs.declared.trace.Command.{Command}
 use Rattle.core_views.specs.declared.trace.Slot.{Slot}
 use Rattle.core_views.specs.SlotCommands.{arms, slot_armed, slot_invalidated, slots_after}
 use Rattle.core_views.specs.SlotSets.{MemorySlots, slot_of_id}
-use Rattle.core_views.specs.declared.slot_set.MemorySlot.{MemorySlot}
+use Rattle.core_views.specs.declared.memory_slot.MemorySlot.{MemorySlot}
 use Rattle.std.specs.Option.{option_map}
 use Rattle.core_views.specs.declared.trace.Command.TheVariants.{Access, ChangeHost, ClearLog, DeleteSlot, GetLog, Migrate, SetLog, SetSlot}
 use Rattle.mmu_core.specs.lines.SlotChangeKnows.{ArmsThere}

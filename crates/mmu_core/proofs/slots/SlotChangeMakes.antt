@@ -34,7 +34,7 @@ use Rattle.core_views.specs.declared.answer.Refusal.TheVariants.{Logged, Missing
 use Rattle.core_views.specs.declared.place.FrameRange.{FrameRange}
 use Rattle.core_views.specs.declared.place.WriteProtectPlace.{WriteProtectPlace}
 use Rattle.core_views.specs.declared.place.WriteProtectPlace.TheVariants as protect
-use Rattle.core_views.specs.declared.slot_set.MemorySlot.{MemorySlot}
+use Rattle.core_views.specs.declared.memory_slot.MemorySlot.{MemorySlot}
 use Rattle.core_views.specs.declared.trace.Command.TheVariants.{Access, ChangeHost, ClearLog, DeleteSlot, GetLog, Migrate, SetLog, SetSlot}
 use Rattle.core_views.specs.Refusals.{is_logged, log_refusal}
 use Rattle.core_views.specs.Slots.{first_of, is_some_and}

@@ -7,7 +7,7 @@ use Rattle.core_views.specs.declared.sizes.Sizes.{Sizes}
 use Rattle.core_views.specs.declared.trace.Command.{Command}
 use Rattle.core_views.specs.declared.trace.Slot.{Slot}
 use Rattle.core_views.specs.SlotCommands.{arms, slot_armed}
-use Rattle.core_views.specs.declared.slot_set.MemorySlot.{MemorySlot}
+use Rattle.core_views.specs.declared.memory_slot.MemorySlot.{MemorySlot}
 use Rattle.core_views.specs.SlotSets.{MemorySlots, slot_of_id}
 pub use Rattle.mmu_core.specs.invariant.SlotSetPart.{Fits}
 use Rattle.part_steps.specs.LogHoldings.{is_in_log, is_unlogged_word, log_begin, log_end}

@@ -1,6 +1,6 @@
 -- Which steps of the parts wait for another actor, by what their actor holds and what they answer; and what such a step has seen.
 use Rattle.std.specs.Prelude.{◌≡◌, ◌≢◌, ◌<◌, ℕ, Bool, true, false, ◌==◌, ◌&&◌, not, nat_lt}
-use Rattle.core_views.specs.declared.hand.Seen.{Seen}
+use Rattle.core_views.specs.declared.progress.Seen.{Seen}
 use Rattle.core_views.specs.declared.topics.Checked.{Checked}
 use Rattle.core_views.specs.declared.topics.Checked.TheVariants.{Count}
 use Rattle.core_views.specs.declared.topics.Hold.{Hold}

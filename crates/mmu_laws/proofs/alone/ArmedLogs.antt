@@ -14,7 +14,7 @@ use Rattle.core_views.specs.declared.event.EventKind.{EventKind}
 use Rattle.core_views.specs.declared.event.EventKind.TheVariants.{Accessed, Answered, Armed, Begun, BroughtIn, Exited, Harvested, HostChanged}
 use Rattle.core_views.specs.declared.event.EventKind.TheVariants.{LookedAtHost, LookedAtPause, LookedAtSlots, Shown, SlotChanged, Taken}
 use Rattle.core_views.specs.declared.sizes.Sizes.{Sizes}
-use Rattle.core_views.specs.declared.slot_set.MemorySlot.{MemorySlot}
+use Rattle.core_views.specs.declared.memory_slot.MemorySlot.{MemorySlot}
 use Rattle.core_views.specs.declared.trace.Command.{Command}
 use Rattle.core_views.specs.declared.trace.Command.TheVariants.{Access, ChangeHost, ClearLog, GetLog, Migrate, SetLog}
 use Rattle.core_views.specs.declared.trace.Slot.{Slot}

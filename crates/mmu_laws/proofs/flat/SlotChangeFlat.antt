@@ -18,7 +18,7 @@ use Rattle.core_views.specs.declared.migration.Migration.{Migration}
 use Rattle.core_views.specs.declared.migration.Migration.TheVariants.{Unstarted}
 use Rattle.core_views.specs.Flat.{Facts, LineUnderWay, Notes}
 use Rattle.core_views.specs.Flat as stage
-use Rattle.core_views.specs.declared.slot_set.MemorySlot.{MemorySlot}
+use Rattle.core_views.specs.declared.memory_slot.MemorySlot.{MemorySlot}
 use Rattle.core_views.specs.Lawful.{HasWork, MayLeave, Tells, answer_at_once, slot_change}
 use Rattle.core_views.specs.LogCommands.{is_all_set}
 use Rattle.core_views.specs.SlotCommands.{after_change, arms, change_at_once, changes_slot, refused_or_done, slot_armed, slot_change, slot_invalidated}

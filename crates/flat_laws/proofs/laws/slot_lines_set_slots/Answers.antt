@@ -12,7 +12,7 @@ use Rattle.core_views.specs.declared.answer.AnsweredLine.{AnsweredLine}
 use Rattle.core_views.specs.declared.answer.Refusal.TheVariants.{BadId, Fixed, Missing, Resize, TooLarge}
 use Rattle.core_views.specs.FlatHistory.{one_by_one}
 use Rattle.flat_laws.specs.Laws.{example_sizes}
-use Rattle.core_views.specs.declared.slot_set.MemorySlot.{MemorySlot}
+use Rattle.core_views.specs.declared.memory_slot.MemorySlot.{MemorySlot}
 use Rattle.core_views.specs.Refusals.{is_logged}
 use Rattle.core_views.specs.Slots.{is_some_and}
 use Rattle.flat_laws.specs.SlotLines.{fitting_lines, fitting_bytes, has_log, whole_lines, whole_bytes}

@@ -1,5 +1,5 @@
 use Rattle.std.proofs.Common.{ap, ◌∙◌}
-use Rattle.core_views.specs.declared.hand.Progress.{Progress}
+use Rattle.core_views.specs.declared.progress.Progress.{Progress}
 use Rattle.core_views.specs.Held.{Held, progress_of}
 use Rattle.host_map.specs.Touching.{touch_kind}
 use Rattle.host_map.proofs.Touches.{touches}

@@ -1,5 +1,5 @@
 use Rattle.std.proofs.Common.{◌∙◌, ap, sym}
-use Rattle.core_views.specs.declared.hand.Progress.{Progress}
+use Rattle.core_views.specs.declared.progress.Progress.{Progress}
 use Rattle.core_views.specs.declared.place.AccessPlace.{AccessPlace}
 use Rattle.core_views.specs.declared.place.Place.TheVariants.{Access}
 use Rattle.core_views.specs.declared.trace.Line.{Line}

@@ -1,5 +1,5 @@
 use Rattle.std.proofs.Common.{◌<◌, sym, subst, ap, ◌∙◌}
-use Rattle.core_views.specs.declared.hand.Progress.{Progress}
+use Rattle.core_views.specs.declared.progress.Progress.{Progress}
 use Rattle.core_views.specs.declared.topics.HostLook.{HostLook}
 use Rattle.core_views.specs.declared.topics.Topics.{Topics}
 use Rattle.part_steps.specs.Tasks.{map_of}

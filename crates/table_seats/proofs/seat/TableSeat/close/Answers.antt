@@ -3,7 +3,7 @@ use Rattle.core_views.specs.declared.kind.Kind.{Kind}
 use Rattle.core_views.specs.Held.{Held, Handful}
 use Rattle.mmu_core.specs.machine.Enabled.{mmu}
 use Rattle.mmu_core.specs.machine.Machine.{Step, World, run}
-use Rattle.core_views.specs.declared.hand.Closing.{Closing}
+use Rattle.hands.specs.declared.hand.Closing.{Closing}
 use Rattle.table_seats.specs.Boards.{begun}
 use Rattle.step_seats.specs.Moves.{cores_of, world_of}
 use Rattle.table_seats.specs.Boards.{BoardView, Explained}

@@ -1,0 +1,19 @@
+//! The running twins of the steps of the machine's parts: `part_steps` says which word each is
+//! on and what it does there, and what it needs of the hand that makes it.
+//! It passes on what is done to what is held of the parts, and hands: a crate above lists this one alone.
+#![tactic(auto)]
+
+mod needs;
+mod part_step;
+mod slot_words;
+mod task;
+
+pub use hands::{Closing, Hand, SlotSet};
+pub use needs::{has_needs, needs_line, next_watched};
+pub use part_step::{page_owned, part_kind, part_task, table_page, word_looked, words_filled};
+pub use slot_words::{SLOT_SET_ROLE, is_fixable, page_of, set_word};
+pub use task::kind_of;
+pub use topic_twins::{
+    WRITER, entry_index, frame_owned, has_entry, has_to_flush, has_writer, in_section, is_done,
+    is_won, search, step_topics, sweep_on, swept_to, words_moved,
+};
