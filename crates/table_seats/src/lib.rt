@@ -4,9 +4,9 @@
 
 mod board;
 mod calls;
-mod hands;
 mod machine;
 mod pass;
+mod pass_hands;
 mod rule;
 mod seat;
 mod threads;

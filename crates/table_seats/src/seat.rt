@@ -10,7 +10,7 @@ ghost use Rattle.table_seats.specs.Passes.{Keeps, seat_of, world_after};
 ghost use Rattle.table_seats.specs.Rule.{joined, only, overlay, with_only, without};
 
 use crate::calls::cut;
-use crate::hands::{deal, gather_hands, gather_words, merge, take_hand};
+use crate::pass_hands::{deal, gather_hands, gather_words, merge, take_hand};
 use crate::rule::Glues;
 use crate::{Board, Pass};
 use atomic_table::Table;

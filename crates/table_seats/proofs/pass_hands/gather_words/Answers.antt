@@ -1,7 +1,7 @@
 use Rattle.std.proofs.Common.{ℕ, ap, sym, ◌∙◌, List, [], ◌∷◌, ◌++◌, arith}
 use Rattle.std.specs.Slots.{slots_items}
 use Rattle.table_seats.proofs.HandLists.{take-more}
-use Rattle.table_seats.proofs.hands.gather_words.Goals as goal
+use Rattle.table_seats.proofs.pass_hands.gather_words.Goals as goal
 
 pub loop-i-preserved : goal.loop-i-preserved
 loop-i-preserved c =

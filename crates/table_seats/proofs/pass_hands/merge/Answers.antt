@@ -2,8 +2,8 @@ use Rattle.std.proofs.Common.{◌≡◌, ℕ, ◌<◌, ◌+◌, arith, ap, sym, 
 use Rattle.core_views.specs.Held.{Handful}
 use Rattle.table_seats.proofs.HandLists.{overlay-length}
 use Rattle.table_seats.proofs.Places.{overlay-nil, brings, leaves, none_of}
-use Rattle.table_seats.proofs.hands.merge.Goals as goal
-use Rattle.table_seats.proofs.hands.merge.Goals.{in-Some-place+in-Some-1, in-Some-place+in-None-1, in_default}
+use Rattle.table_seats.proofs.pass_hands.merge.Goals as goal
+use Rattle.table_seats.proofs.pass_hands.merge.Goals.{in-Some-place+in-Some-1, in-Some-place+in-None-1, in_default}
 
 pub loop-place-init : goal.loop-place-init
 loop-place-init c =

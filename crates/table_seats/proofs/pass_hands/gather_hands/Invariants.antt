@@ -1,5 +1,5 @@
 use Rattle.std.proofs.Common.{◌≡◌, map, Some, ◌≤◌, ◌++◌, length, vec_capacity}
-use Rattle.table_seats.proofs.hands.gather_hands.Given as goal
+use Rattle.table_seats.proofs.pass_hands.gather_hands.Given as goal
 
 abbrev pub invariant-loop-place : goal.invariant-loop-place
 invariant-loop-place l =

@@ -1,6 +1,6 @@
 use Rattle.std.proofs.Common.{◌≡◌, length, ◌+◌, ◌≤◌}
 use Rattle.table_seats.specs.Rule.{overlay}
-use Rattle.table_seats.proofs.hands.merge.Given as goal
+use Rattle.table_seats.proofs.pass_hands.merge.Given as goal
 
 abbrev pub invariant-loop-place : goal.invariant-loop-place
 invariant-loop-place l =

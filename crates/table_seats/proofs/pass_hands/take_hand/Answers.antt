@@ -3,7 +3,7 @@ use Rattle.std.proofs.lemmas.List.{length-replicate}
 use Rattle.core_views.specs.Held.{Handful}
 use Rattle.table_seats.proofs.HandLists.{at_below}
 use Rattle.table_seats.proofs.Places.{held_get, only-is}
-use Rattle.table_seats.proofs.hands.take_hand.Goals as goal
+use Rattle.table_seats.proofs.pass_hands.take_hand.Goals as goal
 
 pub index_mut-requires : goal.index_mut-requires
 index_mut-requires c =

@@ -2,7 +2,7 @@ use Rattle.std.proofs.Common.{ap, sym, ◌∙◌, List, ◌∷◌, ◌++◌, Opt
 use Rattle.core_views.specs.Held.{Handful}
 use Rattle.table_seats.specs.Passes.{hand_in_place}
 use Rattle.table_seats.proofs.Places.{no_gap}
-use Rattle.table_seats.proofs.hands.gather_hands.Goals as goal
+use Rattle.table_seats.proofs.pass_hands.gather_hands.Goals as goal
 
 pub unreachable-requires : goal.unreachable-requires
 unreachable-requires c =
