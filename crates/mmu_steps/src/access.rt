@@ -3,14 +3,14 @@ ghost use Rattle.std.specs.Prelude.{◌≡◌, ◌<◌, IfSome};
 ghost use Rattle.core_views.specs.Slots.{is_write};
 ghost use Rattle.mmu_core.specs.lines.FaultSteps.{allows_access};
 ghost use Rattle.spte_words.specs.Entries.{kind_of};
-ghost use Rattle.mmu_core.specs.lines.AccessSteps.{access_caches, access_loads, access_note, access_outcome, access_part, access_task, behind_fault};
+ghost use Rattle.mmu_core.specs.lines.AccessSteps.{access_caches, access_loads, access_note, access_outcome, access_part, behind_fault};
 ghost use Rattle.mmu_core.specs.lines.AccessSteps.{touch_of, use_found, stay_next};
 ghost use Rattle.part_steps.specs.PartBounds.{IsAtLeafLevel, PartRests};
 ghost use Rattle.mmu_core.specs.lines.Cached.{allows, covers, first_usable, frame_used, is_usable};
 ghost use Rattle.part_steps.specs.PartSteps.{PartNeeds};
-ghost use Rattle.mmu_core.specs.lines.AccessKnows.{RestsOn};
+ghost use Rattle.mmu_core.specs.lines.AccessKnows.{RestsOn, TouchNeeds};
 ghost use Rattle.part_steps.specs.Tasks.{map_of};
-ghost use Rattle.spte_words.specs.Areas.{size_of};
+ghost use Rattle.spte_words.specs.Areas.{content_index, size_of};
 ghost use Rattle.spte_words.specs.declared.area.Area.TheVariants.{Content};
 
 use crate::cached::lookup;
@@ -23,8 +23,8 @@ use part_steps::{PartStep, Task, map_of};
 use part_twins::{Hand, part_task};
 use spte_words::{Area, Spte, SpteKind};
 
-// The touch of a content word.
-fn touch(op: Op, index: u64) -> Task
+// The touch of the content word with this index.
+fn touch_at(op: Op, index: u64) -> Task
     ensures task { result ≡ touch_of op index }
     ensures word { (result.area ≡ Content) × (result.index ≡ index) }
 {
@@ -43,13 +43,27 @@ fn touch(op: Op, index: u64) -> Task
     }
 }
 
-/// The frame of the guest frame by the translation in use.
-pub fn frame_used(hand: &Hand, gfn: u64) -> u64
+// The frame of the guest frame by the translation in use.
+fn frame_used(hand: &Hand, gfn: u64) -> u64
     requires { IsAtLeafLevel hand.now.core.state.used }
     ensures { result ≡ frame_used gfn hand.now.core.state }
 {
     let used = hand.progress().used;
     Spte::from_word(used.leaf).mapped_frame(used.level as u8, gfn)
+}
+
+/// What the guest touches with the step of an access that is no step of a part: the word of the
+/// frame, by the translation in use.
+pub(crate) fn touch(hand: &Hand, gfn: u64, word: u8, op: Op) -> Task
+    requires part { PartRests hand.now.core }
+    requires touch { TouchNeeds gfn (is_write op) hand.now.core }
+    requires word { word < hand.now.core.state.sizes.words }
+    ensures task { result ≡ touch_of op (content_index (map_of hand.now.core.state.sizes) (frame_used gfn hand.now.core.state) word) }
+    ensures within { result.index < size_of (map_of hand.now.core.state.sizes) result.area }
+{
+    let frame = frame_used(hand, gfn);
+    let map = map_of(&hand.progress().sizes);
+    touch_at(op, map.content_index(frame, word))
 }
 
 /// The step of this place, but for the touch.
@@ -83,25 +97,6 @@ pub fn access_note(place: AccessPlace) -> u64
         },
         _ => 0,
     }
-}
-
-/// What the step of this place is to do.
-#[tactic(auto, using(mmu_core::proofs::lines::UsedTranslations::part_needs))]
-pub(crate) fn task(place: AccessPlace, hand: &Hand, gfn: u64, word: u8, op: Op) -> Task
-    requires rests { RestsOn (access_part place gfn hand.now.core.topics) gfn (is_write op) hand.now.core }
-    requires part { PartRests hand.now.core }
-    requires word { word < hand.now.core.state.sizes.words }
-    ensures task { result ≡ access_task place hand.now.core gfn word op }
-    ensures within { result.index < size_of (map_of hand.now.core.state.sizes) result.area }
-{
-    if let Some(step) = part(place, gfn, hand) {
-        return part_task(hand, step, access_note(place));
-    }
-    let frame = frame_used(hand, gfn);
-    touch(
-        op,
-        map_of(&hand.progress().sizes).content_index(frame, word),
-    )
 }
 
 /// Caches the leaf that the step of this place found, where it allows the access.

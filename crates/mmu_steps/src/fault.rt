@@ -181,7 +181,7 @@ fn check_next(stage: CheckStage, gfn: u64, topics: &Topics, found: u64) -> Fault
 }
 
 /// Where the guest frame's entry of the walk's table stands among all words.
-pub fn entry_word(sizes: &Sizes, gfn: u64, walk: &TableWalk) -> u32
+pub(crate) fn entry_word(sizes: &Sizes, gfn: u64, walk: &TableWalk) -> u32
     requires sizes { AreSizes sizes.now }
     requires from { 1 ≤ walk.now.level }
     requires to { walk.now.level ≤ 4 }

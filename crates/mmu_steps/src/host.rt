@@ -41,7 +41,7 @@ fn revised(change: HostChange, frame: u64, word: u64) -> u64
 }
 
 /// The host word that the line puts in place of the one that it looked at.
-pub fn word_put(change: HostChange, topics: &Topics) -> u64
+pub(crate) fn word_put(change: HostChange, topics: &Topics) -> u64
     requires { (o : OwnedFrame) → topics.now.frames.owned ≡ Some o → o.frame < 2 ^ 52 }
     ensures { result ≡ word_put change topics.now }
 {
@@ -51,7 +51,7 @@ pub fn word_put(change: HostChange, topics: &Topics) -> u64
 
 /// The content word that a move copies next.
 #[tactic(auto, unfolding(spte_words::specs::HostWords::host_frame))]
-pub fn word_to_copy(hand: &Hand) -> u64
+pub(crate) fn word_to_copy(hand: &Hand) -> u64
     requires { PartRests hand.now.core }
     ensures { result ≡ word_to_copy hand.now.core }
 {
@@ -61,7 +61,7 @@ pub fn word_to_copy(hand: &Hand) -> u64
 }
 
 /// The content word in which it stores it.
-pub fn word_to_store(hand: &Hand) -> u64
+pub(crate) fn word_to_store(hand: &Hand) -> u64
     requires { PartRests hand.now.core }
     ensures { result ≡ word_to_store hand.now.core }
 {
@@ -109,7 +109,7 @@ pub(crate) fn part(place: HostPlace, page: u64, change: HostChange, hand: &Hand)
 }
 
 /// 1 where the line may end with the step of this place, else 0.
-pub fn note(place: HostPlace, page: u64, hand: &Hand) -> u64
+pub(crate) fn note(place: HostPlace, page: u64, hand: &Hand) -> u64
     requires { PartRests hand.now.core }
     ensures { result ≡ host_note place page hand.now.core }
 {
@@ -125,21 +125,6 @@ pub fn note(place: HostPlace, page: u64, hand: &Hand) -> u64
         _ => false,
     };
     if may_end { 1 } else { 0 }
-}
-
-/// What the step of this place is to do.
-pub(crate) fn task(place: HostPlace, page: u64, change: HostChange, hand: &Hand) -> Task
-    requires part { PartRests hand.now.core }
-    requires needs { PartNeeds (host_part place page change hand.now.core) hand.now.core }
-    ensures task { result
-        ≡ part_task (host_part place page change hand.now.core) (own_index hand.now.core) hand.now.core.topics (host_note place page hand.now.core) }
-    ensures within { result.index < size_of (map_of hand.now.core.state.sizes) result.area }
-{
-    part_task(
-        hand,
-        part(place, page, change, hand),
-        note(place, page, hand),
-    )
 }
 
 // After a step of its claim.
@@ -229,20 +214,4 @@ pub(crate) fn outcome(
         }
     };
     Outcome::Goes(Place::Host(next))
-}
-
-/// Where the line that changes a host page and is the hand's next one stands.
-pub fn host_place(hand: &Hand) -> HostPlace
-    requires rests { Rests hand.now.core }
-    requires changes { changes_host (line_of hand.now.core).command ≡ true }
-    ensures { place_at hand.now.core.state.place hand.now.core ≡ place.Host result }
-{
-    match hand.progress().place {
-        Place::Between => match hand.next_line() {
-            Some(line) => first(&line.command),
-            None => unreachable!(),
-        },
-        Place::Host(place) => place,
-        _ => unreachable!(),
-    }
 }

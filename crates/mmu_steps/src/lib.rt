@@ -23,17 +23,12 @@ mod waits;
 mod watch;
 mod write_protect;
 
-pub use access::{access_note, frame_used};
-pub use cached::lookup;
-pub use fault::entry_word;
-pub use host::{host_place, note as host_note, word_put, word_to_copy, word_to_store};
+pub use access::access_note;
 pub use laws::{knows, rests};
-pub use log::{log_frame, log_place, log_step, note as log_note};
 pub use part_twins::{
     Closing, Hand, SLOT_SET_ROLE, SlotSet, WRITER, has_to_flush, has_writer, in_section,
     needs_line, next_watched, page_of, page_owned, part_kind, swept_to, word_looked, words_filled,
 };
-pub use parts::{allows, may_make, part_rests};
-pub use slot_change::{arm_step, change_place, note as change_note};
+pub use parts::{allows, part_rests};
 pub use step::{advance, asks_flush, next_kind, next_step};
 pub use waits::{Waiting, saw_open};

@@ -97,7 +97,7 @@ fn reads_last(begun: bool, slot: &Slot, command: &Command, topics: &Topics) -> b
 }
 
 /// The guest frame of a page, counted from the first one for which it asks.
-pub fn log_frame(page: u64, hand: &Hand, command: &Command) -> u64
+pub(crate) fn log_frame(page: u64, hand: &Hand, command: &Command) -> u64
     requires { frame_asked (slot_asked hand.now.core command.now) command.now page < 2 ^ 64 }
     ensures { result ≡ frame_asked (slot_asked hand.now.core command.now) command.now page }
 {
@@ -118,7 +118,7 @@ fn walk_part(walk: &TableWalk, gfn: u64) -> PartStep
 }
 
 /// The step of this place.
-pub fn log_step(place: LogPlace, hand: &Hand, command: &Command) -> PartStep
+pub(crate) fn log_step(place: LogPlace, hand: &Hand, command: &Command) -> PartStep
     requires needs { PartNeeds (log_part place hand.now.core command.now) hand.now.core }
     ensures { result ≡ log_part place hand.now.core command.now }
 {
@@ -152,7 +152,7 @@ fn awaits_last(hand: &Hand) -> bool
 }
 
 /// 1 where the line may end with the step of this place, else 0.
-pub fn note(place: LogPlace, hand: &Hand, command: &Command) -> u64
+pub(crate) fn note(place: LogPlace, hand: &Hand, command: &Command) -> u64
     ensures { result ≡ log_note place hand.now.core command.now }
 {
     let may_end = match place {
@@ -164,21 +164,6 @@ pub fn note(place: LogPlace, hand: &Hand, command: &Command) -> u64
         _ => false,
     };
     if may_end { 1 } else { 0 }
-}
-
-/// What the step of this place is to do.
-pub(crate) fn task(place: LogPlace, hand: &Hand, command: &Command) -> Task
-    requires part { PartRests hand.now.core }
-    requires needs { PartNeeds (log_part place hand.now.core command.now) hand.now.core }
-    ensures task { result
-        ≡ part_task (log_part place hand.now.core command.now) (own_index hand.now.core) hand.now.core.topics (log_note place hand.now.core command.now) }
-    ensures within { result.index < size_of (map_of hand.now.core.state.sizes) result.area }
-{
-    part_task(
-        hand,
-        log_step(place, hand, command),
-        note(place, hand, command),
-    )
 }
 
 // From this page on: to the next leaf, or the lock is given back.
@@ -287,24 +272,5 @@ pub(crate) fn read(place: LogPlace, hand: &mut Hand, found: u64)
         LogPlace::Exclude => hand.clear_harvest(),
         LogPlace::Take { begun } | LogPlace::Peek { begun } => read_more(begun, hand, found),
         _ => {}
-    }
-}
-
-/// Where the line that reads a log and is the hand's next one stands.
-pub fn log_place(hand: &Hand) -> LogPlace
-    requires rests { Rests hand.now.core }
-    requires reads { is_some (log_read (line_of hand.now.core).command) ≡ true }
-    ensures { place_at hand.now.core.state.place hand.now.core ≡ place.Log result }
-{
-    match hand.progress().place {
-        Place::Between => match hand.next_line() {
-            Some(line) => match line.command.log_read() {
-                Some(id) => first(&hand.progress().sizes, hand.slots(), &line.command, id),
-                None => unreachable!(),
-            },
-            None => unreachable!(),
-        },
-        Place::Log(place) => place,
-        _ => unreachable!(),
     }
 }

@@ -10,7 +10,7 @@ use part_twins::{Hand, has_needs, needs_line};
 
 /// A hand with no line left may make each step of a part that it holds the needs
 /// of, but for those of lines alone.
-pub fn may_make(hand: &Hand, step: PartStep, note: u64)
+pub(crate) fn may_make(hand: &Hand, step: PartStep, note: u64)
     requires rests { PartRests hand.now.core }
     requires idle { has_line hand.now.core ≡ false }
     requires free { needs_line step ≡ false }

@@ -112,7 +112,7 @@ fn arm_part(begun: bool, sizes: &Sizes, slot: &Slot, topics: &Topics) -> PartSte
 }
 
 /// The step that sets the next word of the dirty log that the line begins.
-pub fn arm_step(begun: bool, hand: &Hand, command: &Command) -> PartStep
+pub(crate) fn arm_step(begun: bool, hand: &Hand, command: &Command) -> PartStep
     requires rests { SlotChangeRests (change_at.Arm begun) command.now hand.now.core }
     ensures { result ≡ slot_change_part (change_at.Arm begun) hand.now.core command.now }
 {
@@ -161,7 +161,7 @@ pub(crate) fn part(place: SlotChangePlace, hand: &Hand, command: &Command) -> Pa
 }
 
 /// 1 where the line may end with the step of this place, else 0.
-pub fn note(place: SlotChangePlace, hand: &Hand) -> u64
+pub(crate) fn note(place: SlotChangePlace, hand: &Hand) -> u64
     requires { PartRests hand.now.core }
     ensures { result ≡ slot_change_note place hand.now.core }
 {
@@ -178,17 +178,6 @@ pub fn note(place: SlotChangePlace, hand: &Hand) -> u64
         }
         _ => 0,
     }
-}
-
-/// What the step of this place is to do.
-pub(crate) fn task(place: SlotChangePlace, hand: &Hand, command: &Command) -> Task
-    requires part { PartRests hand.now.core }
-    requires needs { PartNeeds (slot_change_part place hand.now.core command.now) hand.now.core }
-    requires rests { SlotChangeRests place command.now hand.now.core }
-    ensures task { result ≡ slot_change_task place hand.now.core command.now }
-    ensures within { result.index < size_of (map_of hand.now.core.state.sizes) result.area }
-{
-    part_task(hand, part(place, hand, command), note(place, hand))
 }
 
 /// Makes in the manager's own record what the step of this place changes there.
@@ -349,20 +338,4 @@ pub(crate) fn outcome(place: SlotChangePlace, command: &Command, hand: &Hand, fo
         SlotChangePlace::Clear => SlotChangePlace::Give,
         SlotChangePlace::Give => return Outcome::Ends(Answer::Done),
     }))
-}
-
-/// Where the line that changes a slot and is the hand's next one stands.
-pub fn change_place(hand: &Hand) -> SlotChangePlace
-    requires rests { Rests hand.now.core }
-    requires changes { changes_slot (line_of hand.now.core).command ≡ true }
-    ensures { place_at hand.now.core.state.place hand.now.core ≡ place.SlotChange result }
-{
-    match hand.progress().place {
-        Place::Between => match hand.next_line() {
-            Some(line) => first(&hand.progress().sizes, hand.slots(), &line.command),
-            None => unreachable!(),
-        },
-        Place::SlotChange(place) => place,
-        _ => unreachable!(),
-    }
 }

@@ -4,7 +4,7 @@ ghost use Rattle.core_views.specs.declared.place.LogPlace.{LogPlace};
 ghost use Rattle.core_views.specs.declared.place.Place.TheVariants as at;
 ghost use Rattle.core_views.specs.Sizes.{AreSizes};
 ghost use Rattle.core_views.specs.Traces.{IsCommandFor};
-ghost use Rattle.mmu_core.specs.lines.Forms.{AcceptsAt, RestsAt, part_at, caches_at, first_place, loads_at, outcome_at, records_at};
+ghost use Rattle.mmu_core.specs.lines.Forms.{AcceptsAt, RestsAt, caches_at, first_place, loads_at, note_at, outcome_at, part_at, records_at};
 ghost use Rattle.mmu_core.specs.lines.AccessSteps.{use_found};
 ghost use Rattle.mmu_core.specs.lines.Delays.{line_waits};
 ghost use Rattle.mmu_core.specs.lines.Rests.{IsUnderWay, Rests};
@@ -26,7 +26,7 @@ use core_views::{
 };
 use mmu_core::{LogNext, Outcome};
 use part_steps::{PartStep, Task};
-use part_twins::{Hand, kind_of, step_topics};
+use part_twins::{Hand, kind_of, part_task, step_topics};
 
 // Where a line begins.
 fn first(hand: &Hand, line: &Line) -> Place
@@ -57,24 +57,33 @@ fn place_of(hand: &Hand, line: &Line) -> Place
     }
 }
 
+// 1 where the line may end with the step of this place, else 0.
+fn note(place: Place, hand: &Hand, line: &Line) -> u64
+    requires part { PartRests hand.now.core }
+    ensures { result ≡ note_at place line.now.command hand.now.core }
+{
+    match (place, &line.command) {
+        (Place::Access(place), Command::Access { .. }) => access::access_note(place),
+        (Place::SlotChange(place), _) => slot_change::note(place, hand),
+        (Place::Host(place), Command::ChangeHost { page, .. }) => host::note(place, *page, hand),
+        (Place::Log(place), command) => log::note(place, hand, command),
+        _ => 0,
+    }
+}
+
 // What the step of a place is to do.
 fn task(place: Place, hand: &Hand, line: &Line) -> Task
     requires part { PartRests hand.now.core }
     requires line { IsCommandFor hand.now.core.state.sizes line.now.actor line.now.command }
     requires rests { RestsAt place line.now.command hand.now.core }
-    requires begun { IsUnderWay place }
     ensures task { result ≡ task_at place line.now.command hand.now.core }
     ensures within { result.index < size_of (map_of hand.now.core.state.sizes) result.area }
 {
-    match (place, &line.command) {
-        (Place::Access(place), Command::Access { gfn, word, op }) => {
-            access::task(place, hand, *gfn, *word, *op)
-        }
-        (Place::SlotChange(place), command) => slot_change::task(place, hand, command),
-        (Place::Host(place), Command::ChangeHost { page, change }) => {
-            host::task(place, *page, *change, hand)
-        }
-        (Place::Log(place), command) => log::task(place, hand, command),
+    if let Some(step) = part_of(place, line, hand) {
+        return part_task(hand, step, note(place, hand, line));
+    }
+    match &line.command {
+        Command::Access { gfn, word, op } => access::touch(hand, *gfn, *word, *op),
         _ => unreachable!(),
     }
 }
