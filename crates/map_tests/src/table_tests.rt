@@ -52,14 +52,14 @@ fn run(alloc: Global, trace: &Trace) -> Result<Option<Closing>, NoMemory>
     requires trace { IsTrace trace.now }
 {
     let (board, mut pass) = TableSeat::make(alloc, trace)?;
-    for _ in 0..5 {
+    for _step in 0..5 {
         pass = step_with(&board, pass, FIRST)?;
     }
     if !pass.keeps(SECOND) {
         return Ok(None);
     }
     let mut own = TableSeat::split(alloc, &board, &mut pass, SECOND)?;
-    for _ in 0..50 {
+    for _turn in 0..50 {
         own = step_with(&board, own, SECOND)?;
         pass = step_with(&board, pass, FIRST)?;
     }
