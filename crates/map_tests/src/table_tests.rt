@@ -48,22 +48,31 @@ fn step_with(board: &Board, pass: Pass, actor: usize) -> Result<Pass, NoMemory>
 
 // Five steps of the first processor; then its pass and one with the hand of the second make
 // steps by turns, until neither has a line left, and come together.
+fn part_and_join(alloc: Global, board: &Board, mut pass: Pass) -> Result<Pass, NoMemory>
+    requires fits { Fits board.now pass }
+    ensures fits { IfOk result (λ p. Fits board.now p) }
+{
+    for _step in 0..5 {
+        pass = step_with(board, pass, FIRST)?;
+    }
+    if !pass.keeps(SECOND) {
+        return Ok(pass);
+    }
+    let mut own = TableSeat::split(alloc, board, &mut pass, SECOND)?;
+    for _turn in 0..50 {
+        own = step_with(board, own, SECOND)?;
+        pass = step_with(board, pass, FIRST)?;
+    }
+    TableSeat::join(board, &mut pass, own);
+    Ok(pass)
+}
+
+// The same at the start of a trace, and the close.
 fn run(alloc: Global, trace: &Trace) -> Result<Option<Closing>, NoMemory>
     requires trace { IsTrace trace.now }
 {
-    let (board, mut pass) = TableSeat::make(alloc, trace)?;
-    for _step in 0..5 {
-        pass = step_with(&board, pass, FIRST)?;
-    }
-    if !pass.keeps(SECOND) {
-        return Ok(None);
-    }
-    let mut own = TableSeat::split(alloc, &board, &mut pass, SECOND)?;
-    for _turn in 0..50 {
-        own = step_with(&board, own, SECOND)?;
-        pass = step_with(&board, pass, FIRST)?;
-    }
-    TableSeat::join(&board, &mut pass, own);
+    let (board, pass) = TableSeat::make(alloc, trace)?;
+    let pass = part_and_join(alloc, &board, pass)?;
     if !pass.has_all() {
         return Ok(None);
     }

@@ -1,5 +1,5 @@
 //! A pass to a board: the hands of some actors.
-ghost use Rattle.std.specs.Prelude.{◌≡◌, ◌<◌, IfSome, OnErr, OnOk, true};
+ghost use Rattle.std.specs.Prelude.{◌≡◌, ◌<◌, IfSome, None, OnErr, OnOk, is_some, slice_index_or, true};
 ghost use Rattle.mmu_core.specs.machine.Worlds.{HandReached};
 ghost use Rattle.step_seats.specs.Moves.{HasItsRoom};
 ghost use Rattle.step_seats.specs.Where.{HasHand};
@@ -35,7 +35,7 @@ impl Model for Pass {
 impl Pass {
     /// Whether the pass keeps the actor's hand.
     pub fn keeps(&self, actor: usize) -> bool
-        ensures { result ≡ true → Keeps self.now actor }
+        ensures { result ≡ is_some (slice_index_or self.now.hands actor None) }
     {
         matches!(self.hands.get(actor), Some(Some(_)))
     }

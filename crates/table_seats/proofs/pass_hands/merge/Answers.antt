@@ -1,4 +1,4 @@
-use Rattle.std.proofs.Common.{◌≡◌, ℕ, ◌<◌, ◌+◌, arith, ap, sym, ◌∙◌, refl, List, ◌∷◌, [], ◌++◌, Option, length, length-append}
+use Rattle.std.proofs.Common.{◌≡◌, ◌<◌, ◌+◌, arith, ap, sym, ◌∙◌, refl, List, ◌∷◌, [], ◌++◌, Option, length, length-append}
 use Rattle.core_views.specs.Held.{Handful}
 use Rattle.table_seats.proofs.HandLists.{overlay-length}
 use Rattle.table_seats.proofs.Places.{overlay-nil, brings, leaves, none_of}

@@ -1,5 +1,5 @@
 use Rattle.table_seats.specs.Boards.{Fits}
-use Rattle.map_tests.proofs.table_tests.run.Given as goal
+use Rattle.map_tests.proofs.table_tests.part_and_join.Given as goal
 
 abbrev pub invariant-loop-step : goal.invariant-loop-step
 invariant-loop-step l = Fits l.board l.pass
