@@ -72,7 +72,10 @@ impl TableMachine {
         ensures { world_of result.words result.hands ≡ world_in (machine_of self) }
     {
         let TableMachine {
-            board, pass, room, ..
+            board,
+            pass,
+            room,
+            ..
         } = self;
         room.close(board, pass)
     }

@@ -1,5 +1,5 @@
 -- What a run writes whose answers are printed.
-use Rattle.std.proofs.Common.{arith, ◌≡◌, inl, inr, ℕ, List, [], ◌∷◌, ◌++◌, Result, Ok, Err, refl, take, sym, ap, subst, ◌∙◌}
+use Rattle.std.proofs.Common.{◌≡◌, ◌≤◌, inl, inr, ℕ, List, [], ◌∷◌, ◌++◌, Result, Ok, Err, arith, length, refl, take, sym, ap, subst, ◌∙◌}
 use Rattle.std.proofs.lemmas.List.{append-nil}
 use Rattle.std.specs.Prelude.{Bool, Some, None}
 use Rattle.std.specs.declared.option.Option.{Option}
@@ -15,7 +15,7 @@ use Rattle.tdp_io.specs.declared.sink.Stop.{Stop}
 use Rattle.tdp_io.specs.declared.sink.Stop.TheVariants.{Failed, NoMemory}
 use Rattle.weave_engine.specs.AnswerTexts.{FailedBy, MayStopAt, NoneFailed, PutsAnswers, StopsAnswers, answers_text}
 use Rattle.weave_engine.specs.Marks.{Mark, Over, turns_from}
-use Rattle.weave_engine.specs.Pieces.{WritesMost}
+use Rattle.weave_engine.specs.Pieces.{WritesMost, most_waiting}
 use Rattle.weave_engine.specs.Printed.{PrintsBy, PrintsReplayOn, PrintsReplayed, PrintsUntil, PrintsWeave, ReplayPrinted}
 use Rattle.weave_engine.specs.Replays.{Replays}
 use Rattle.weave_engine.specs.Weaves.{WeavesSoFar, open_text, unfinished_text}
@@ -175,4 +175,8 @@ pub nothing_replayed : (trace : Trace) → IsTrace trace → (before : Option (L
     → (closing : World Held) × WritesLines trace closing before before (Err NoMemory)
 nothing_replayed trace good before =
     let N = none_replayed trace good in
-    (N.0, ([], inl (0, N.1.0, tt), none_stopped before [] (omega arith).most))
+    let few : length empty ≤ most_waiting = omega arith in
+    (N.0, ([], inl (0, N.1, tt), (none_stopped before [] few).most))
+  where
+    empty : List ℕ
+    empty = []

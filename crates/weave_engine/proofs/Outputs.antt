@@ -141,8 +141,8 @@ module _ {V : Type 0} (prints : V → List Mark → V → Type 0) (stops : V →
       → (closing : World Held) × PrintsReplayed prints stops trace closing p q (Err NoMemory)
   no_replay p q good none =
       let N = none_replayed trace good in
-      let stopped = subst (λ (ss : List (Step Kind)). stops p (turns_from N.1.0.start ss) NoMemory q) (sym N.1.1) none in
-      (N.0, inl (0, [], N.1.0, stopped))
+      let stopped = subst (λ (ss : List (Step Kind)). stops p (turns_from N.1.start ss) NoMemory q) (sym N.2) none in
+      (N.0, inl (0, [], N.1, stopped))
 
   module _ (z : Sizes) (lines : List Line) (start end_ : World Held) (p q : V) (sizes : z ≡ sizes_of trace.header) (are : lines ≡ trace.lines)
       (is_start : IsStart (sizes_of trace.header) trace.lines start) where
