@@ -7,6 +7,7 @@ mod calls;
 mod machine;
 mod pass;
 mod pass_hands;
+mod room;
 mod rule;
 mod seat;
 mod threads;

@@ -4,33 +4,38 @@ ghost use Rattle.core_views.specs.Sizes.{sizes_of};
 ghost use Rattle.core_views.specs.Traces.{IsTrace};
 ghost use Rattle.mmu_core.specs.machine.Worlds.{IsStart};
 ghost use Rattle.step_seats.specs.Machines.{world_in};
+ghost use Rattle.step_seats.specs.Moves.{world_of};
 ghost use Rattle.table_seats.specs.Boards.{AllHands, Fits};
 ghost use Rattle.table_seats.specs.Owners.{machine_of};
 ghost use Rattle.table_seats.specs.Passes.{steps_told};
 
+use crate::room::Room;
 use crate::{Board, Pass, TableSeat};
 use core_views::{Kind, NoMemory, Sizes, Trace};
 use std::alloc::Global;
 use std::marker::Model;
-use step_seats::{Hand, MachineOwner};
+use step_seats::{Closing, Hand, MachineOwner};
 
 /// A board with its first pass, which keeps every hand: its actors take their steps one
-/// after another, each by one call of the table.
+/// after another, each by one call of the table. The memory for the words and hands at the
+/// end is taken at the start.
 #[derive(Drop)]
 pub struct TableMachine {
     sizes: Sizes,
     board: Board,
     pass: Pass,
+    room: Room,
 }
 
 impl Model for TableMachine {
     ghost use Rattle.table_seats.specs.Owners.{OwnerView, OwnsAll};
+    ghost use Rattle.table_seats.specs.Rooms.{HasRoom};
 
     ghost Value = { OwnerView };
 
     ghost view = { λ m. record { sizes = m.sizes; board = m.board; pass = m.pass } };
 
-    ghost invariant = { λ m. OwnsAll (record { sizes = m.sizes; board = m.board; pass = m.pass }) };
+    ghost invariant = { λ m. OwnsAll (record { sizes = m.sizes; board = m.board; pass = m.pass }) × HasRoom m.board m.room };
 }
 
 impl TableMachine {
@@ -42,10 +47,12 @@ impl TableMachine {
     {
         let (board, pass) = TableSeat::make(alloc, trace)?;
         pass.holds();
+        let room = Room::take(alloc, &board, &pass)?;
         Ok(TableMachine {
             sizes: Sizes::of(&trace.header),
             board,
             pass,
+            room,
         })
     }
 
@@ -58,6 +65,19 @@ impl TableMachine {
     {
         let TableMachine { board, pass, .. } = self;
         (board, pass)
+    }
+
+    /// The words and the hands, once all steps are made.
+    pub fn into_closing(self) -> Closing
+        ensures { world_of result.words result.hands ≡ world_in (machine_of self) }
+    {
+        let TableMachine {
+            board,
+            pass,
+            room,
+            ..
+        } = self;
+        room.close(board, pass)
     }
 }
 

@@ -10,11 +10,12 @@ ghost use Rattle.table_seats.specs.Passes.{Keeps, seat_of, world_after};
 ghost use Rattle.table_seats.specs.Rule.{joined, only, overlay, with_only, without};
 
 use crate::calls::cut;
-use crate::pass_hands::{deal, gather_hands, gather_words, merge, take_hand};
+use crate::pass_hands::{deal, merge, take_hand};
+use crate::room::Room;
 use crate::rule::Glues;
 use crate::{Board, Pass};
 use atomic_table::Table;
-use core_views::{Kind, NoMemory, Sequence, Trace};
+use core_views::{Kind, NoMemory, Trace};
 use std::alloc::Global;
 use std::marker::{Brand, Model, PhantomData};
 use step_seats::{Closing, Hand, MachineOwner, PlainMachine, Stepper};
@@ -120,27 +121,10 @@ impl<'b> TableSeat<'b> {
         ensures told { IfOk result (λ c. pass.knows.alone ≡ true → world_after pass.knows ≡ world_of c.words c.hands) }
         ensures refused { IfErr result (λ r. (r.0 ≡ board) × (r.1 ≡ pass)) }
     {
-        let count = board.table.word_count();
-        let width = pass.hands.len();
-        let Ok(mut words) = Vec::with_capacity(alloc, count) else {
+        let Ok(room) = Room::take(alloc, &board, &pass) else {
             return Err((board, pass));
         };
-        let Ok(mut hands) = Vec::with_capacity(alloc, width) else {
-            return Err((board, pass));
-        };
-        let Board { table } = board;
-        let Pass {
-            seat,
-            hands: places,
-        } = pass;
-        let closed = table.close_with(seat);
-        gather_words(&closed, &mut words, count);
-        closed.free();
-        gather_hands(places, &mut hands);
-        Ok(Closing {
-            words: Sequence::from_vec(words),
-            hands: Sequence::from_vec(hands),
-        })
+        Ok(room.close(board, pass))
     }
 }
 

@@ -13,9 +13,10 @@ use run_status::{ROUNDS, Status, ended, refuse, usage};
 use std::alloc::{AllocError, Global};
 use std::sync::Wait;
 use std::thread::Threads;
+use table_replay::replay;
 use tdp_io::{Gate, Sink, Source, Stop, write_all};
 use trace_reader::{Read, need, read_trace};
-use weave_engine::{replay, status_of, weave};
+use weave_engine::{status_of, weave};
 
 const USAGE: &str = "usage: tdpmmu check | replay | weave | live | gen N\n";
 

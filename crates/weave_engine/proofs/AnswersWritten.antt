@@ -1,5 +1,5 @@
 -- What a run writes whose answers are printed.
-use Rattle.std.proofs.Common.{◌≡◌, inl, inr, ℕ, List, [], ◌∷◌, ◌++◌, Result, Ok, Err, refl, take, sym, ap, subst, ◌∙◌}
+use Rattle.std.proofs.Common.{◌≡◌, ◌≤◌, inl, inr, ℕ, List, [], ◌∷◌, ◌++◌, Result, Ok, Err, arith, length, refl, take, sym, ap, subst, ◌∙◌}
 use Rattle.std.proofs.lemmas.List.{append-nil}
 use Rattle.std.specs.Prelude.{Bool, Some, None}
 use Rattle.std.specs.declared.option.Option.{Option}
@@ -8,24 +8,26 @@ use Rattle.core_views.specs.declared.no_memory.NoMemory.{NoMemory as Refused}
 use Rattle.core_views.specs.declared.trace.Line.{Line}
 use Rattle.core_views.specs.declared.trace.Trace.{Trace}
 use Rattle.core_views.specs.Held.{Held}
+use Rattle.core_views.specs.Traces.{IsTrace}
 use Rattle.mmu_core.specs.machine.Machine.{World}
 use Rattle.step_seats.specs.Moves.{world_of}
 use Rattle.tdp_io.specs.declared.sink.Stop.{Stop}
 use Rattle.tdp_io.specs.declared.sink.Stop.TheVariants.{Failed, NoMemory}
 use Rattle.weave_engine.specs.AnswerTexts.{FailedBy, MayStopAt, NoneFailed, PutsAnswers, StopsAnswers, answers_text}
 use Rattle.weave_engine.specs.Marks.{Mark, Over, turns_from}
-use Rattle.weave_engine.specs.Pieces.{WritesMost}
-use Rattle.weave_engine.specs.Printed.{PrintsBy, PrintsReplay, PrintsReplayed, PrintsUntil, PrintsWeave, ReplayPrinted}
+use Rattle.weave_engine.specs.Pieces.{WritesMost, most_waiting}
+use Rattle.weave_engine.specs.Printed.{PrintsBy, PrintsReplayOn, PrintsReplayed, PrintsUntil, PrintsWeave, ReplayPrinted}
 use Rattle.weave_engine.specs.Replays.{Replays}
 use Rattle.weave_engine.specs.Weaves.{WeavesSoFar, open_text, unfinished_text}
-use Rattle.weave_engine.specs.Woven.{RanFaults, RoseBy, WritesBy, WritesUntil, WritesWeave, ended_by_write_fault, ran_failed}
-use Rattle.weave_engine.specs.Writes.{ReplaysBy, WritesLines, WritesReplay}
+use Rattle.weave_engine.specs.Woven.{EndFaults, RanFaults, RoseBy, WritesBy, WritesUntil, WritesWeave, end_failed, ended_by_write_fault, ran_failed}
+use Rattle.weave_engine.specs.Writes.{ReplaysBy, WritesLines, WritesReplayOn}
 use Rattle.weave_engine.specs.declared.ran.How.{How}
 use Rattle.weave_engine.specs.declared.ran.How.TheVariants.{Done, Unfinished, WriteFault}
 use Rattle.weave_engine.specs.declared.ran.Ran.{Ran}
-use Rattle.weave_engine.specs.PrinterLaws.{answers_append}
+use Rattle.weave_engine.specs.PrinterLaws.{answers_append, none_stopped}
 use Rattle.weave_engine.proofs.AnswerTexts.{may_stop, text_of_marks, wrote_all}
 use Rattle.weave_engine.proofs.Marks.{follows_are, turns_are}
+use Rattle.weave_engine.proofs.Outputs.{none_replayed}
 
 -- A printer is known by what its sink was given, what waits, and whether and how often writing failed.
 module _ {V : Type 0} (prints : V → List Mark → V → Type 0) (stops : V → List Mark → Stop → V → Type 0) (given : V → Option (List ℕ)) (waits : V → List ℕ)
@@ -163,12 +165,18 @@ module _ {V : Type 0} (prints : V → List Mark → V → Type 0) (stops : V →
     replay_fails (Unfinished actor number) none = absurd none
     replay_fails WriteFault until = let P = replay_fails_until Failed until in (P.0, P.1)
 
-  pub replay_writes : (ran : Result Ran Refused) → PrintsReplay prints stops trace p q ran
-      → WritesReplay trace (given p) (given q) ran × RanFaults (faults p) (faults q) ran × (failed q ≡ ran_failed ran) × Same p q
-  replay_writes (Ok ran) printed =
-      let closing = world_of ran.closing.words ran.closing.hands in
-      let F = replay_fails closing ran.how printed in
-      (replay_by closing ran.how printed, F.0.0, F.0.1, F.1)
-  replay_writes (Err e) (closing, until) =
-      let F = replay_fails_until closing NoMemory until in
-      ((closing, replay_until closing NoMemory until), F.0.0, F.0.1, F.1)
+    pub replay_writes : (r : Result How Refused) → PrintsReplayOn prints stops trace closing p q r
+        → WritesReplayOn trace closing (given p) (given q) r × EndFaults (faults p) (faults q) r × (failed q ≡ end_failed r) × Same p q
+    replay_writes (Ok how) printed = let F = replay_fails how printed in (replay_by how printed, F.0.0, F.0.1, F.1)
+    replay_writes (Err e) until = let F = replay_fails_until NoMemory until in (replay_until NoMemory until, F.0.0, F.0.1, F.1)
+
+-- Nothing ran, and nothing was written.
+pub nothing_replayed : (trace : Trace) → IsTrace trace → (before : Option (List ℕ))
+    → (closing : World Held) × WritesLines trace closing before before (Err NoMemory)
+nothing_replayed trace good before =
+    let N = none_replayed trace good in
+    let few : length empty ≤ most_waiting = omega arith in
+    (N.0, ([], inl (0, N.1, tt), (none_stopped before [] few).most))
+  where
+    empty : List ℕ
+    empty = []

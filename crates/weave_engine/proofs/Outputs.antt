@@ -125,17 +125,24 @@ replays trace lines start end_ printed is_start r prints =
         (lines_read_exactly (sizes_of trace.header) trace.lines start is_start lines r.steps r.each).reads) in
         record { none_starved = fed; same = G.shown; prints = prints ∙ G.prints }
 
+-- No line of a trace has run.
+pub none_replayed : (trace : Trace) → IsTrace trace
+    → (closing : World Held) × (R : Replays trace (take 0 trace.lines) [] closing) × (R.runs.steps ≡ [])
+unfolding replays
+none_replayed trace good =
+    let z : Sizes = sizes_of trace.header in
+    let made = a_start z trace.lines (header_sizes trace.header good.header) good.lines good.few in
+    let B = between_at_start z trace.lines made.0 made.1 in
+    (made.0, replays trace (take 0 trace.lines) made.0 made.0 [] made.1 B.ran B.prints, none_ran z trace.lines made.0 made.1)
+
 module _ {V : Type 0} (prints : V → List Mark → V → Type 0) (stops : V → List Mark → Stop → V → Type 0) (L : Printing prints stops) (trace : Trace) where
   -- The machine of a trace wasn't made: nothing ran, and nothing was printed.
   pub no_replay : (p q : V) → IsTrace trace → stops p [] NoMemory q
       → (closing : World Held) × PrintsReplayed prints stops trace closing p q (Err NoMemory)
-  unfolding replays
   no_replay p q good none =
-      let z : Sizes = sizes_of trace.header in
-      let made = a_start z trace.lines (header_sizes trace.header good.header) good.lines good.few in
-      let B = between_at_start z trace.lines made.0 made.1 in
-      let stopped = subst (λ (ss : List (Step Kind)). stops p (turns_from made.0 ss) NoMemory q) (sym (none_ran z trace.lines made.0 made.1)) none in
-      (made.0, inl (0, [], replays trace (take 0 trace.lines) made.0 made.0 [] made.1 B.ran B.prints, stopped))
+      let N = none_replayed trace good in
+      let stopped = subst (λ (ss : List (Step Kind)). stops p (turns_from N.1.start ss) NoMemory q) (sym N.2) none in
+      (N.0, inl (0, [], N.1, stopped))
 
   module _ (z : Sizes) (lines : List Line) (start end_ : World Held) (p q : V) (sizes : z ≡ sizes_of trace.header) (are : lines ≡ trace.lines)
       (is_start : IsStart (sizes_of trace.header) trace.lines start) where

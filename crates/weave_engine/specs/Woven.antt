@@ -89,3 +89,12 @@ RoseBy before now (Unfinished actor line) = now ≡ before
 abbrev pub RanFaults : ℕ → ℕ → Result Ran NoMemory → Type 0
 RanFaults before now (Ok ran) = RoseBy before now ran.how
 RanFaults before now (Err e) = now ≡ before
+
+-- The same of a run on a machine that was given.
+abbrev pub end_failed : Result How NoMemory → Bool
+end_failed (Ok how) = ended_by_write_fault how
+end_failed (Err e) = false
+
+abbrev pub EndFaults : ℕ → ℕ → Result How NoMemory → Type 0
+EndFaults before now (Ok how) = RoseBy before now how
+EndFaults before now (Err e) = now ≡ before

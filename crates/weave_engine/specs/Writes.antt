@@ -38,3 +38,8 @@ ReplaysBy trace closing before after (Unfinished actor line) = ⊥
 abbrev pub WritesReplay : Trace → Option (List ℕ) → Option (List ℕ) → Result Ran NoMemory → Type 0
 WritesReplay trace before after (Ok ran) = ReplaysBy trace (world_of ran.closing.words ran.closing.hands) before after ran.how
 WritesReplay trace before after (Err e) = (closing : World Held) × WritesLines trace closing before after (Err Full)
+
+-- What a replay wrote on a machine that was given, which ended in this world.
+abbrev pub WritesReplayOn : Trace → World Held → Option (List ℕ) → Option (List ℕ) → Result How NoMemory → Type 0
+WritesReplayOn trace closing before after (Ok how) = ReplaysBy trace closing before after how
+WritesReplayOn trace closing before after (Err e) = WritesLines trace closing before after (Err Full)

@@ -5,8 +5,8 @@ ghost use Rattle.core_views.specs.Traces.{IsTrace};
 ghost use Rattle.mmu_core.specs.machine.Worlds.{IsStart};
 ghost use Rattle.step_seats.specs.Machines.{KeepsSizes, world_in};
 ghost use Rattle.weave_engine.specs.Printed.{PrintsLines, PrintsReplay, PrintsReplayOn, PrintsReplayed};
-ghost use Rattle.weave_engine.specs.Writes.{WritesReplay};
-ghost use Rattle.weave_engine.specs.Woven.{RanFaults, ran_failed};
+ghost use Rattle.weave_engine.specs.Writes.{WritesReplayOn};
+ghost use Rattle.weave_engine.specs.Woven.{EndFaults, end_failed};
 
 use crate::answer_printer::AnswerPrinter;
 use crate::printer::Printer;
@@ -93,38 +93,45 @@ pub fn replay_with<P: Printer<PlainMachine>>(
 }
 
 // The same with a printer of answers, which has written all that it was told at the end.
-fn replay_answers<K: Sink>(
-    alloc: Global,
+fn replay_answers<M: MachineOwner, K: Sink>(
+    machine: &mut M,
     trace: &Trace,
     printer: &mut AnswerPrinter<'_, K>,
-) -> Result<Ran, NoMemory>
-    requires trace { IsTrace trace.now }
+) -> Result<How, NoMemory>
+    requires sizes { (M.machine machine.old).sizes ≡ sizes_of trace.now.header }
+    requires start { IsStart (sizes_of trace.now.header) trace.now.lines (world_in (M.machine machine.old)) }
     requires unfailed { K.failed printer.old.out.now ≡ false }
     requires fresh { string_bytes printer.old.waiting.now ≡ [] }
-    ensures writes { WritesReplay trace.now (K.written printer.old.out.now) (K.written printer.new.out.now) result }
-    ensures faults { RanFaults (K.faults printer.old.out.now) (K.faults printer.new.out.now) result }
-    ensures failed { K.failed printer.new.out.now ≡ ran_failed result }
+    ensures writes { WritesReplayOn trace.now (world_in (M.machine machine.new)) (K.written printer.old.out.now) (K.written printer.new.out.now) result }
+    ensures faults { EndFaults (K.faults printer.old.out.now) (K.faults printer.new.out.now) result }
+    ensures failed { K.failed printer.new.out.now ≡ end_failed result }
     ensures same { printer.new.out.ghost_name ≡ printer.old.out.ghost_name }
 {
-    replay_with(alloc, trace, printer)
+    replay_machine(machine, trace, printer)
 }
 
-/// Runs the lines of the trace one after another, each alone, a step at a time
-/// over the words of the machine, and writes what they are answered. It gives how it
-/// ended, which is never unfinished, and the words and hands at that moment: after
-/// the last line, or after the line with whose answer a write failed. Then nothing more
-/// is written, and at most 8,192 bytes and the last line are missing.
-pub fn replay<K: Sink>(alloc: Global, trace: &Trace, out: &mut K) -> Result<Ran, NoMemory>
-    requires trace { IsTrace trace.now }
+/// Runs the lines of the trace on a machine that is at its start, one after another, each
+/// alone, a step at a time, and writes what they are answered. It gives how it ended,
+/// which is never unfinished; the machine is then as it was after the last line, or after
+/// the line with whose answer a write failed. Then nothing more is written, and at most
+/// 8,192 bytes and the last line are missing.
+pub fn replay_answers_on<M: MachineOwner, K: Sink>(
+    alloc: Global,
+    machine: &mut M,
+    trace: &Trace,
+    out: &mut K,
+) -> Result<How, NoMemory>
+    requires sizes { (M.machine machine.old).sizes ≡ sizes_of trace.now.header }
+    requires start { IsStart (sizes_of trace.now.header) trace.now.lines (world_in (M.machine machine.old)) }
     requires unfailed { K.failed out.old ≡ false }
-    ensures writes { WritesReplay trace.now (K.written out.old) (K.written out.new) result }
-    ensures faults { RanFaults (K.faults out.old) (K.faults out.new) result }
-    ensures failed { K.failed out.new ≡ ran_failed result }
+    ensures writes { WritesReplayOn trace.now (world_in (M.machine machine.new)) (K.written out.old) (K.written out.new) result }
+    ensures faults { EndFaults (K.faults out.old) (K.faults out.new) result }
+    ensures failed { K.failed out.new ≡ end_failed result }
 {
     let mut waiting = String::new(alloc);
     let mut printer = AnswerPrinter {
         out,
         waiting: &mut waiting,
     };
-    replay_answers(alloc, trace, &mut printer)
+    replay_answers(machine, trace, &mut printer)
 }

@@ -1,4 +1,5 @@
 use Rattle.std.proofs.Common.{◌≡◌, List, string_bytes}
+use Rattle.step_seats.specs.Machines.{world_in}
 use Rattle.tdp_io.specs.declared.sink.Stop.{Stop}
 use Rattle.weave_engine.specs.AnswerTexts.{FailedBy, NoneFailed, PutsAnswers, StopsAnswers}
 use Rattle.weave_engine.specs.Marks.{Mark}
@@ -18,5 +19,6 @@ returns g c =
     let R =
     replay_writes prints stops (λ p. g.K.Sink.written p.out.now) (λ p. string_bytes p.waiting.now) (λ p. g.K.Sink.faults p.out.now)
     (λ p. g.K.Sink.failed p.out.now) (λ p q. q.out.ghost_name ≡ p.out.ghost_name) (λ p q ms put. put) (λ p q ms stop most. most) c.args.trace.now
-    c.args.printer.now c.replay_with.new.printer c.requires.fresh c.replay_with.result c.replay_with.ensures in
+    c.args.printer.now c.replay_machine.new.printer c.requires.fresh (world_in (g.M.MachineOwner.machine c.replay_machine.new.machine)) c.replay_machine.result
+    c.replay_machine.ensures in
     record { writes = R.0; faults = R.1; failed = R.2; same = R.3 }

@@ -18,7 +18,7 @@ pub hand-requires : goal.hand-requires
 hand-requires c =
     let m = seen c.self.inside.sizes c.self.inside.board c.self.inside.pass in
     record {
-      keeps = keeps_each m c.self.invariant c.args.index
+      keeps = keeps_each m c.self.invariant.0 c.args.index
           (subst (λ (x : OwnerView). c.args.index < length (machine_of x).hands) (sym c.self.view_is) c.requires.there);
     }
 
@@ -41,4 +41,4 @@ pub returns-clause-has : goal.returns-clause-has
 returns-clause-has c =
     let m = seen c.self.inside.sizes c.self.inside.board c.self.inside.pass in
     subst (λ (x : OwnerView). HasHand c.args.index (handful_in (machine_of x).hands c.args.index).core (world_in (machine_of x))) c.self.view_is
-    (has_each m c.self.invariant c.args.index c.hand.ensures.has)
+    (has_each m c.self.invariant.0 c.args.index c.hand.ensures.has)

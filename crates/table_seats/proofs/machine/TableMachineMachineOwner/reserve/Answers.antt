@@ -17,7 +17,7 @@ pub reserve-reserved-requires : goal.reserve-reserved-requires
 reserve-reserved-requires c =
     let m = seen c.self.inside.sizes c.self.inside.board c.self.inside.pass in
     record {
-      keeps = keeps_each m c.self.invariant c.args.index
+      keeps = keeps_each m c.self.invariant.0 c.args.index
           (subst (λ (x : OwnerView). c.args.index < length (machine_of x).hands) (sym c.self.view_is) c.requires.there);
     }
 
@@ -25,19 +25,19 @@ pub invariant_of-self : goal.invariant_of-self
 invariant_of-self c =
     let m = seen c.self.inside.sizes c.self.inside.board c.self.inside.pass in
     let took = c.reserve-reserved in
-    let owns = owns_after m c.self.invariant took.new.self c.args.index took.ensures.put
-    (ap (λ (v : Known). v.alone) took.ensures.knows ∙ c.self.invariant.alone) c.holds.ensures in
-    owns
+    let owns = owns_after m c.self.invariant.0 took.new.self c.args.index took.ensures.put
+    (ap (λ (v : Known). v.alone) took.ensures.knows ∙ c.self.invariant.0.alone) c.holds.ensures in
+    (owns, c.self.invariant.1)
 
 pub returns-clause-world : goal.returns-clause-world
 returns-clause-world c =
     let m = seen c.self.inside.sizes c.self.inside.board c.self.inside.pass in
     let took = c.reserve-reserved in
-    let owns = owns_after m c.self.invariant took.new.self c.args.index took.ensures.put
-    (ap (λ (v : Known). v.alone) took.ensures.knows ∙ c.self.invariant.alone) c.holds.ensures in
-    let after = owner_after m c.self.invariant took.new.self c.args.index took.ensures.put in
+    let owns = owns_after m c.self.invariant.0 took.new.self c.args.index took.ensures.put
+    (ap (λ (v : Known). v.alone) took.ensures.knows ∙ c.self.invariant.0.alone) c.holds.ensures in
+    let after = owner_after m c.self.invariant.0 took.new.self c.args.index took.ensures.put in
     sym (world_is after owns)
-    ∙ (ap world_after took.ensures.knows ∙ (world_is m c.self.invariant ∙ ap (λ (x : OwnerView). world_in (machine_of x)) c.self.view_is))
+    ∙ (ap world_after took.ensures.knows ∙ (world_is m c.self.invariant.0 ∙ ap (λ (x : OwnerView). world_in (machine_of x)) c.self.view_is))
 
 pub returns-clause-steps : goal.returns-clause-steps
 returns-clause-steps c = ap steps_told c.reserve-reserved.ensures.knows ∙ ap (λ (x : OwnerView). steps_told x.pass.knows) c.self.view_is
@@ -69,10 +69,10 @@ returns-clause-others c =
     let m = seen c.self.inside.sizes c.self.inside.board c.self.inside.pass in
     let after = (machine_of (seen m.sizes m.board c.reserve-reserved.new.self)).hands in
     subst (λ (x : OwnerView). after ≡ set (machine_of x).hands c.args.index (handful_in after c.args.index)) c.self.view_is
-    (others_stay m c.self.invariant c.reserve-reserved.new.self c.args.index c.reserve-reserved.ensures.put)
+    (others_stay m c.self.invariant.0 c.reserve-reserved.new.self c.args.index c.reserve-reserved.ensures.put)
 
 pub returns-clause-same : goal.returns-clause-same
 returns-clause-same c =
     let m = seen c.self.inside.sizes c.self.inside.board c.self.inside.pass in
     subst (λ (x : OwnerView). KeepsSizes (machine_of x) (machine_of (seen m.sizes m.board c.reserve-reserved.new.self))) c.self.view_is
-    (refl, as_many m c.self.invariant c.reserve-reserved.new.self c.args.index c.reserve-reserved.ensures.put)
+    (refl, as_many m c.self.invariant.0 c.reserve-reserved.new.self c.args.index c.reserve-reserved.ensures.put)

@@ -11,7 +11,7 @@ use Rattle.table_seats.specs.Passes.{PassView, core_in}
 use Rattle.table_seats.proofs.Closes.{closes}
 use Rattle.table_seats.proofs.Runs.{steps_of}
 use Rattle.table_seats.proofs.Places.{cores-all}
-use Rattle.table_seats.proofs.seat.TableSeat.close.Goals as goal
+use Rattle.table_seats.proofs.room.Room.close.Goals as goal
 
 pub free-requires : goal.free-requires
 free-requires c k lt = let n = c.close_with-closed.ensures.counts.1 in let m = c.board.invariant.slots in absurd (omega (arith, lt, n, m))
