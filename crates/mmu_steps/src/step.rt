@@ -28,7 +28,8 @@ use mmu_core::{LogNext, Outcome};
 use part_steps::{PartStep, Task};
 use part_twins::{Hand, kind_of, part_task, step_topics};
 
-// Where a line begins.
+// Where a line begins. (Few steps begin one: kept out of the way of the others.)
+#[inline(never)]
 fn first(hand: &Hand, line: &Line) -> Place
     ensures { result ≡ first_place hand.now.core.state.sizes hand.now.core.slots line.now.command }
 {
@@ -47,6 +48,7 @@ fn first(hand: &Hand, line: &Line) -> Place
 }
 
 // Where the line of the hand's next step stands.
+#[inline(always)]
 fn place_of(hand: &Hand, line: &Line) -> Place
     ensures { result ≡ standing hand.now.core.state.place hand.now.core.state.sizes hand.now.core.slots line.now.command }
 {
