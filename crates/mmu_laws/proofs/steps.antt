@@ -7,6 +7,8 @@ pub mod StepLaws
 pub mod KindLaws
 pub mod LogKinds
 pub mod AllowedWords
+mod MayTells
+mod ReadingEvents
 pub mod EventLaws
 pub mod InvalidationLaws
 pub mod PublicationLaws

@@ -156,7 +156,11 @@ pub fn the_steps_can_be_made()
 /// tells of the pause, of slots, host pages or memory is of the word that the step is on,
 /// and of what it found and left there. A dirty log is told to begin by a publication, or, where
 /// no page is dirty then, by the `await` of the last flush, of an actor that has watched each
-/// other one since its publication. The sequence number of invalidations is raised by
+/// other one since its publication. A reading of a dirty log is told to begin by the step
+/// that gets the lock alone, or, where it takes nothing out, by the load of its first word; and what
+/// was read is told by the `await` of the last flush, or by the load of the last word, with the answer:
+/// the bits of these frames (kvm_main.c, `kvm_get_dirty_log_protect`). An exit is told with the
+/// answer, too. The sequence number of invalidations is raised by
 /// one, and only by an actor that has the lock alone and an invalidation open; how many
 /// are open rises by one with such an actor's own one, and falls by one with it, once the
 /// number was raised (kvm_main.c, `kvm_mmu_invalidate_begin`, `kvm_mmu_invalidate_end`). A

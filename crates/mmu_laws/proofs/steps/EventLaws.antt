@@ -1,14 +1,11 @@
 -- Each event that a step tells is of its word, and of what it finds and leaves there.
-use Rattle.core_views.specs.declared.event.EventKind.TheVariants.{Harvested, Shown, Taken}
-use Rattle.core_views.specs.declared.place.LogPlace.{LogPlace}
-use Rattle.mmu_core.proofs.lines.LogTold.{log_tells_so}
 use Rattle.std.proofs.Common.{◌≡◌, ◌≤◌, ◌<◌, ◌+◌, eqb-true, ℕ, List, [], ◌∷◌, refl, sym, subst, ap, arith}
 use Rattle.std.proofs.lemmas.List.Elements.{All-append, All-cons, All-map, All-nil}
 use Rattle.std.specs.Prelude.{All, Bool, Option, Some, true, false, ◌==◌, nat_lt, if◌then◌else◌}
 use Rattle.std.proofs.lemmas.Bool.Decides.{nat_tests}
 use Rattle.core_views.specs.declared.event.Event.{Event}
 use Rattle.core_views.specs.declared.event.EventKind.{EventKind}
-use Rattle.core_views.specs.declared.event.EventKind.TheVariants.{SlotChanged, Answered, Begun, BroughtIn, Exited, HostChanged, LookedAtHost}
+use Rattle.core_views.specs.declared.event.EventKind.TheVariants.{SlotChanged, BroughtIn, HostChanged, LookedAtHost}
 use Rattle.core_views.specs.declared.kind.Kind.{Kind}
 use Rattle.core_views.specs.declared.place.AccessPlace.{AccessPlace}
 use Rattle.core_views.specs.declared.place.AccessPlace.TheVariants.{Fault, Pause, Touch}
@@ -24,7 +21,6 @@ use Rattle.core_views.specs.declared.sizes.Sizes.{Sizes}
 use Rattle.core_views.specs.declared.trace.Command.{Command}
 use Rattle.core_views.specs.declared.trace.Command.TheVariants.{Access, ChangeHost}
 use Rattle.core_views.specs.declared.trace.HostChange.{HostChange}
-use Rattle.core_views.specs.declared.trace.Line.{Line}
 use Rattle.core_views.specs.declared.trace.Op.{Op}
 use Rattle.core_views.specs.declared.trace.Op.TheVariants.{Add, Read, Write}
 use Rattle.core_views.specs.Held.{Held, has_line}
@@ -34,7 +30,6 @@ use Rattle.mmu_core.specs.lines.AccessKnows.{AccessKnows}
 use Rattle.spte_words.specs.HostWords.{host_present}
 use Rattle.mmu_laws.proofs.steps.AllowedWords.{words_tell}
 use Rattle.mmu_core.specs.declared.outcome.Outcome.{Outcome}
-use Rattle.mmu_core.specs.declared.outcome.Outcome.TheVariants.{Ends, Goes}
 use Rattle.mmu_core.specs.invariant.Laws.{IsSound}
 use Rattle.part_steps.specs.PartTasks.{page_looked, word_looked}
 use Rattle.mmu_core.specs.lines.Forms.{KnowsPart, note_at, outcome_at, part_at, tells_at}
@@ -45,8 +40,7 @@ use Rattle.mmu_core.proofs.lines.SimplePlaces.{Told, Nothing, Arms, ArmsClean, E
 use Rattle.part_steps.specs.declared.part_step.PartStep.{PartStep}
 use Rattle.mmu_core.specs.machine.Enabled.{mmu}
 use Rattle.mmu_core.specs.machine.Machine.{May, Step, World, answered, hand_in}
-use Rattle.mmu_core.specs.machine.Outcomes.{answering}
-use Rattle.mmu_core.specs.lines.AccessSteps.{exiting, fault_over, task_by}
+use Rattle.mmu_core.specs.lines.AccessSteps.{fault_over, task_by}
 use Rattle.mmu_core.specs.lines.HostKnows.{HostKnows}
 use Rattle.mmu_core.specs.lines.HostSteps.{entry_of, host_outcome, word_put}
 use Rattle.core_views.specs.declared.kind.StepKind.TheVariants as kind
@@ -62,71 +56,49 @@ use Rattle.mmu_core.specs.machine.View.{view}
 use Rattle.mmu_core.proofs.lines.KnowsKept.{knows_at}
 use Rattle.mmu_core.proofs.machine.Which.{is_next}
 use Rattle.part_steps.specs.Tasks.{kind_of_task}
-use Rattle.mmu_laws.specs.steps.EventLaws.{HasAwaited, IsOfKindOn, MayTell}
-
-module _ (z : Sizes) (h : Held) (v : ℕ) where
-  -- What a step of this hand with these numbers may tell, all of it.
-  abbrev AllMay : Kind → List EventKind → Type 0
-  AllMay k events = All (MayTell z h k v) events
-
-  one : (k : Kind) (event : EventKind) → MayTell z h k v event → AllMay k (event ∷ [])
-  one k event may = All-cons (MayTell z h k v) event [] may (All-nil (MayTell z h k v))
-
-  none : (k : Kind) → AllMay k []
-  none k = All-nil (MayTell z h k v)
-
-  begins_so : (k : Kind) (p : Place) (line : Line) → AllMay k (beginning p line)
-  begins_so k place.Between line = one k (Begun line) tt
-  begins_so k _ line = none k
-
-  answers_so : (k : Kind) (o : Outcome) (line : Line) → AllMay k (answering o line)
-  answers_so k (Goes p) line = none k
-  answers_so k (Ends answer) line = one k (Answered line.number answer) tt
-
-  exits_so : (k : Kind) (o : Outcome) → AllMay k (exiting o)
-  exits_so k (Goes p) = none k
-  exits_so k (Ends answer) = one k (Exited answer) tt
-
--- ---- by the form of the line
+use Rattle.mmu_laws.specs.steps.EventLaws.{HasAwaited, IsOfKindOn, MayTell, MayTellOf}
+use Rattle.mmu_laws.proofs.steps.MayTells.{AllMay, answers_so, begins_so, exits_so, none, one}
+use Rattle.mmu_laws.proofs.steps.ReadingEvents.{log_told}
 
 module _ (h : Held) (v : ℕ) where
   abbrev z : Sizes
   z = h.state.sizes
 
   abbrev AllTold : Place → Command → Type 0
-  AllTold p command = AllMay z h v (kind_of_task z (task_at p command h)) (tells_at p command h v)
+  AllTold p command = AllMay z h v command (outcome_at p command h v) (kind_of_task z (task_at p command h)) (tells_at p command h v)
 
   touch_told : (gfn word : ℕ) (op : Op) → AllTold (place.Access Touch) (Access gfn word op)
-  touch_told gfn word Read = one z h v _ _ (record { at = record { kind_is = refl; on = refl }; finds = refl })
-  touch_told gfn word (Write x) = one z h v _ _ (record { at = record { kind_is = refl; on = refl }; finds = refl })
-  touch_told gfn word (Add x) = one z h v _ _ (record { at = record { kind_is = refl; on = refl }; finds = refl })
+  touch_told gfn word Read = one z h v _ _ _ _ (record { at = record { kind_is = refl; on = refl }; finds = refl })
+  touch_told gfn word (Write x) = one z h v _ _ _ _ (record { at = record { kind_is = refl; on = refl }; finds = refl })
+  touch_told gfn word (Add x) = one z h v _ _ _ _ (record { at = record { kind_is = refl; on = refl }; finds = refl })
 
   find_told : (begun : Bool) (gfn word : ℕ) (op : Op) → AllTold (place.Access (Fault (fault.Find begun))) (Access gfn word op)
-  find_told true gfn word op = none z h v _
-  find_told false gfn word op = one z h v _ _ (record { kind_is = refl; on = refl })
+  find_told true gfn word op = none z h v _ _ _
+  find_told false gfn word op = one z h v _ _ _ _ (record { kind_is = refl; on = refl })
 
   bring_told : (won : Bool) (gfn word : ℕ) (op : Op) → (v == word_looked h.topics.host) ≡ won → host_present (word_looked h.topics.host) ≡ false
-      → AllMay z h v (kind_of_task z (task_at (place.Access (Fault fault.Bring)) (Access gfn word op) h))
+      → AllMay z h v (Access gfn word op) (outcome_at (place.Access (Fault fault.Bring)) (Access gfn word op) h v)
+      (kind_of_task z (task_at (place.Access (Fault fault.Bring)) (Access gfn word op) h))
       (if won then BroughtIn (page_looked h.topics.host) ∷ [] else [])
   bring_told true gfn word op is absent =
-      one z h v _ _ (record {
+      one z h v _ _ _ _ (record {
         at = record { kind_is = refl; on = refl };
         won = eqb-true v (word_looked h.topics.host) is;
         absent = absent;
         leaves = (words_tell true 0 (word_looked h.topics.host)).presence;
       })
-  bring_told false gfn word op is absent = none z h v _
+  bring_told false gfn word op is absent = none z h v _ _ _
 
   access_told : (p : AccessPlace) (gfn word : ℕ) (op : Op) → AccessKnows p gfn (is_write op) h → AllTold (place.Access p) (Access gfn word op)
-  access_told (Pause again) gfn word op K = one z h v _ _ (record { kind_is = refl; on = refl })
+  access_told (Pause again) gfn word op K = one z h v _ _ _ _ (record { kind_is = refl; on = refl })
   access_told Touch gfn word op K = touch_told gfn word op
   access_told (Fault (fault.Find begun)) gfn word op K = find_told begun gfn word op
-  access_told (Fault (fault.FastFind true)) gfn word op K = none z h v _
-  access_told (Fault (fault.FastFind false)) gfn word op K = one z h v _ _ (record { kind_is = refl; on = refl })
-  access_told (Fault fault.Host) gfn word op K = one z h v _ _ (record { kind_is = refl; on = refl })
+  access_told (Fault (fault.FastFind true)) gfn word op K = none z h v _ _ _
+  access_told (Fault (fault.FastFind false)) gfn word op K = one z h v _ _ _ _ (record { kind_is = refl; on = refl })
+  access_told (Fault fault.Host) gfn word op K = one z h v _ _ _ _ (record { kind_is = refl; on = refl })
   access_told (Fault fault.Bring) gfn word op K = bring_told (v == word_looked h.topics.host) gfn word op refl K.1.presence
-  access_told (Fault (fault.End e)) gfn word op K = exits_so z h v _ (fault_over e)
-  access_told _ gfn word op K = none z h v _
+  access_told (Fault (fault.End e)) gfn word op K = exits_so z h v _ _ (fault_over e)
+  access_told _ gfn word op K = none z h v _ _ _
 
   -- A step that publishes is of the set's word.
   publishes : (p : Place) (command : Command) → part_at p command h ≡ Some part.Publish
@@ -142,55 +114,51 @@ module _ (h : Held) (v : ℕ) where
       let lt = K.1.1.2 in
       let all : z.vcpus ≤ h.topics.flush.awaited + 1 = grind (arith, nat_tests) in
       record {
-        at = record { kind_is = refl; on = refl };
-        seen = seen;
-        loose = K.1.1.0.free.loose;
-        asked = K.1.1.1;
-        last = omega (arith, lt, all);
+        flushed = record {
+          at = record { kind_is = refl; on = refl };
+          seen = seen;
+          loose = K.1.1.0.free.loose;
+          asked = K.1.1.1;
+          last = omega (arith, lt, all);
+        };
         watched = K.1.0;
       }
 
-  look_told : (own : Bool) (page : ℕ) → is_own z h.state.actor page ≡ own
-      → AllMay z h v (kind_of_task z (part_task (if own then part.Host page else part.Seq) (own_index h) h.topics (if own then 0 else 1)))
+  look_told : (own : Bool) (page : ℕ) (command : Command) (o : Outcome) → is_own z h.state.actor page ≡ own
+      → AllMay z h v command o (kind_of_task z (part_task (if own then part.Host page else part.Seq) (own_index h) h.topics (if own then 0 else 1)))
       (if own then LookedAtHost page ∷ [] else [])
-  look_told true page is = one z h v _ _ (record { kind_is = refl; on = refl })
-  look_told false page is = none z h v _
+  look_told true page command o is = one z h v _ _ _ _ (record { kind_is = refl; on = refl })
+  look_told false page command o is = none z h v _ _ _
 
   exchange_told : (won : Bool) (page : ℕ) (change : HostChange) → (v == word_looked h.topics.host) ≡ won → page_looked h.topics.host ≡ page
-      → AllMay z h v (kind_of_task z (task_at (place.Host host_at.Change) (ChangeHost page change) h))
+      → AllMay z h v (ChangeHost page change) (outcome_at (place.Host host_at.Change) (ChangeHost page change) h v)
+      (kind_of_task z (task_at (place.Host host_at.Change) (ChangeHost page change) h))
       (if won then HostChanged page (entry_of (word_put change h.topics)) ∷ [] else [])
   exchange_told true page change is at =
-      one z h v _ _ (record {
+      one z h v _ _ _ _ (record {
         at = record { kind_is = refl; on = ap (λ (i : ℕ). place_of (map_of z) area.Host i) at };
         won = eqb-true v (word_looked h.topics.host) is;
         leaves = refl;
       })
-  exchange_told false page change is at = none z h v _
+  exchange_told false page change is at = none z h v _ _ _
 
   host_told : (p : HostPlace) (page : ℕ) (change : HostChange) → HostKnows p page change h → AllTold (place.Host p) (ChangeHost page change)
-  host_told (host_at.Look moving) page change K = look_told (is_own z h.state.actor page) page refl
-  host_told (host_at.Claim begun) page change K = exits_so z h v _ (host_outcome (host_at.Claim begun) page h v)
+  host_told (host_at.Look moving) page change K = look_told (is_own z h.state.actor page) page _ _ refl
+  host_told (host_at.Claim begun) page change K = exits_so z h v _ _ (host_outcome (host_at.Claim begun) page h v)
   host_told host_at.Change page change K = exchange_told (v == word_looked h.topics.host) page change refl K.0.at
-  host_told _ page change K = none z h v _
-
-  -- What is told of a reading may be told of each step.
-  log_told : (p : LogPlace) (command : Command) → AllTold (place.Log p) command
-  log_told p command =
-      let k : Kind = kind_of_task z (task_at (place.Log p) command h) in
-      log_tells_so (AllMay z h v k) (none z h v k) (λ id. one z h v k (Taken id) tt) (λ id frames. one z h v k (Harvested id frames) tt)
-      (λ id frames. one z h v k (Shown id frames) tt)
-      (λ id frames. All-cons (MayTell z h k v) (Taken id) (Shown id frames ∷ []) tt (one z h v k (Shown id frames) tt)) p command h v
+  host_told _ page change K = none z h v _ _ _
 
   line_told : (p : Place) (command : Command) (kinds : List EventKind) → Told h v p command kinds → KnowsPart p command h
-      → AllMay z h v (kind_of_task z (task_at p command h)) kinds
-  line_told p command _ Nothing K = none z h v _
-  line_told p command _ (Exit no_frame) K = exits_so z h v _ (outcome_at p command h v)
-  line_told p command _ (Arms id at) K = one z h v _ _ (publishes p command at)
-  line_told _ command _ (ArmsClean range id seen last) K = one z h v _ _ (awaited_last range command K seen last)
+      → AllMay z h v command (outcome_at p command h v) (kind_of_task z (task_at p command h)) kinds
+  line_told p command _ Nothing K = none z h v _ _ _
+  line_told p command _ (Exit no_frame) K = exits_so z h v _ _ (outcome_at p command h v)
+  line_told p command _ (Arms id at) K = one z h v _ _ _ _ (publishes p command at)
+  line_told _ command _ (ArmsClean range id seen last) K = one z h v _ _ _ _ (awaited_last range command K seen last)
   line_told p command _ (Change id slot at more) K =
-      All-cons (MayTell z h (kind_of_task z (task_at p command h)) v) (SlotChanged id slot) _ (publishes p command at) (line_told p command _ more K)
+      All-cons (MayTellOf z h command (outcome_at p command h v) (kind_of_task z (task_at p command h)) v) (SlotChanged id slot) _
+      (publishes p command at) (line_told p command _ more K)
   line_told _ _ _ (OfAccess p gfn word op) K = access_told p gfn word op K
-  line_told _ command _ (OfLog p) K = log_told p command
+  line_told _ command _ (OfLog p) K = log_told h v p command K
   line_told _ _ _ (OfHost p page change) K = host_told p page change K
 
   -- with its line's begin and its answer
@@ -198,11 +166,12 @@ module _ (h : Held) (v : ℕ) where
       → All (λ (e : Event). MayTell z h (kind_of_task z (task_of h)) v e.kind) (events_by true h v)
   all_told K =
       let p : Place = place_at h.state.place h in
+      let c : Command = (line_of h).command in
+      let o : Outcome = outcome_at p c h v in
       let k : Kind = kind_of_task z (task_of h) in
       All-map (λ (e : Event). MayTell z h k v e.kind) (λ (event : EventKind). record { actor = h.state.actor; kind = event }) _
-      (All-append (MayTell z h k v) (beginning h.state.place (line_of h)) _ (begins_so z h v k h.state.place (line_of h))
-      (All-append (MayTell z h k v) (tells_at p (line_of h).command h v) _ (line_told p (line_of h).command _ (place_tells p (line_of h).command h v) K)
-      (answers_so z h v k (outcome_at p (line_of h).command h v) (line_of h))))
+      (All-append (MayTell z h k v) (beginning h.state.place (line_of h)) _ (begins_so z h v c o k h.state.place (line_of h))
+      (All-append (MayTell z h k v) (tells_at p c h v) _ (line_told p c _ (place_tells p c h v) K) (answers_so z h v c k o (line_of h))))
 
 pub events_are_of_their_steps : (z : Sizes) (w : World Held) (s : Step Kind) → IsSound z w → May mmu w s
     → All (λ (e : Event). MayTell z (hand_in mmu w s.actor) s.kind (answered mmu w s.kind) e.kind) (events_of (hand_in mmu w s.actor) (answered mmu w s.kind))
