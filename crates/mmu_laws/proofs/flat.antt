@@ -53,3 +53,4 @@ pub mod HostFlat
 pub mod HostChangeFlat
 pub mod HostReady
 pub mod LogReady
+pub mod LogCommandLaws

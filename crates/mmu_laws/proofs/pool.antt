@@ -3,3 +3,4 @@ pub mod RetiredPages
 pub mod Pigeonhole
 pub mod TablesWanted
 pub mod WantedSpans
+pub mod NeedCounts

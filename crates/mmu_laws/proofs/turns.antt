@@ -19,3 +19,4 @@ pub mod OwnTurns
 pub mod Removal
 pub mod Nearer
 pub mod BeginNearer
+pub mod FewSteps

@@ -3,3 +3,4 @@ pub mod FlatInvariant
 pub mod Histories
 pub mod FlatLogs
 pub mod ArmedSlots
+pub mod LogCommandLaws

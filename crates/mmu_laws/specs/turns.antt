@@ -1,3 +1,4 @@
 pub mod Breaking
 pub mod Removal
 pub mod TurnLaws
+pub mod FewSteps

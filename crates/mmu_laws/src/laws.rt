@@ -1,6 +1,7 @@
 ghost use Rattle.mmu_laws.specs.flat.ArmedSlots.{ArmedSlotsAreCovered};
 ghost use Rattle.mmu_laws.specs.causes.Causes.{FaultsBeginAnewByCause};
 ghost use Rattle.mmu_laws.specs.pool.Enough.{EachTableIsWanted, EnoughPages, TablesAreForTheirSpans};
+ghost use Rattle.mmu_laws.specs.pool.NeedCounts.{NeedIsCounted, OneSlotNeedsSeven};
 ghost use Rattle.mmu_laws.specs.alone.LowestFrames.{MovesAloneTakeLowest};
 ghost use Rattle.mmu_laws.specs.alone.ReadingsAlone.{ReadingsAloneAreExact};
 ghost use Rattle.mmu_laws.specs.steps.CanStep.{EachMayStep, EveryMachineStarts};
@@ -20,6 +21,7 @@ ghost use Rattle.mmu_laws.specs.steps.ExampleWaits.{ExampleWaits};
 ghost use Rattle.mmu_core.specs.alone.FaultAlone.{FaultGoesThrough, LeadsDown};
 ghost use Rattle.mmu_core.specs.lines.FaultLaws.{FaultIsBounded, FaultMeetsNeeds, FaultStaysKnown, FaultStepsFall, PartsAnswer};
 ghost use Rattle.mmu_core.specs.lines.PartWaits.{WaitsSeeAnother};
+ghost use Rattle.mmu_laws.specs.flat.LogCommandLaws.{BadRangesAreRefused, ClearsAskForNamed, GetsAskForAll};
 ghost use Rattle.mmu_laws.specs.flat.FlatLogs.{LogsAreFlat};
 ghost use Rattle.mmu_laws.specs.flat.Histories.{AnswersAreTold, EndsWhole, StaysWhole};
 ghost use Rattle.mmu_core.specs.invariant.Laws.{StaysSound, TellsLawfully};
@@ -35,6 +37,7 @@ ghost use Rattle.mmu_laws.specs.steps.LogLaws.{WordsAreSetBeforeTheirLog, Writes
 ghost use Rattle.mmu_laws.specs.steps.PublicationLaws.{OthersLeaveSlots, PublicationsAreInvalidated};
 ghost use Rattle.mmu_laws.specs.steps.StepLaws.{EnteringFlushes, NotesTellEnds, OthersCacheOneAtMost, RevisedWordsTell, StepsAreOnTheirAreas};
 ghost use Rattle.mmu_laws.specs.turns.Breaking.{BreakingChangesEntries};
+ghost use Rattle.mmu_laws.specs.turns.FewSteps.{FewSteps};
 ghost use Rattle.mmu_laws.specs.turns.Removal.{InstalledEntriesServe, LeavesStay};
 ghost use Rattle.mmu_laws.specs.turns.TurnLaws.{DelaysWaitBeginAnewOrMiss, StepsAreBounded, StepsAreCounted, TurnsAreBounded, TurnsComeNearer};
 ghost use Rattle.mmu_laws.specs.causes.Waits.{BetweenLinesSawNothing, StartsSawNothing, StepWaitsAreByCause};
@@ -234,11 +237,15 @@ pub fn a_fault_goes_on()
 /// below guest frame 2^36), and this span is the one that it stands at; and where
 /// the pool has as many pages as `need` says, and no actor owns one, some page of
 /// it is free, so that who claims one then is not starved (tdp_mmu.c,
-/// `kvm_tdp_mmu_map`; mmu.rst, "Translation").
+/// `kvm_tdp_mmu_map`; mmu.rst, "Translation"). `need` is four, and one for each span of 2^27, of
+/// 2^18 and of 2^9 guest frames in which such a slot line has pages, each counted once: seven
+/// for a trace of one slot, below guest frame 512.
 pub fn the_pool_is_enough()
     ensures wanted { EachTableIsWanted }
     ensures own_spans { TablesAreForTheirSpans }
     ensures enough { EnoughPages }
+    ensures counted { NeedIsCounted }
+    ensures seven { OneSlotNeedsSeven }
 {}
 
 /// Leaves agree with slots and host, in every sound world: each one to which links lead a
@@ -333,8 +340,23 @@ pub fn turns_come_to_an_end()
 /// installed entry that finds no translation which allows the access), and its
 /// delays, of which it counts no more than 2^64 - 1. Behind every list of steps
 /// these steps are at most as many as the line's command allows (`most_steps`), and
-/// while the line is under way, so they are together with those that it has left.
+/// while the line is under way, so they are together with those that it has left. For a command of one
+/// page, or one that ends a dirty log, these are at most 8,192, one for each pool page and one for each frame; for
+/// each other one at most 16 times the sum of 512 for each pool page, a page's words and eight for each
+/// host page, one for each frame, and 4,096.
 pub fn steps_are_bounded()
     ensures bounded { StepsAreBounded }
     ensures counted { StepsAreCounted }
+    ensures few { FewSteps }
+{}
+
+/// What a get and a clear of a dirty log ask for, in numbers. A get asks for each page of its slot; a clear
+/// for a page exactly where this lies in the range that it names, and its bit is set in its
+/// words. A clear of a slot with a dirty log is refused for its range exactly where this begins within a
+/// word of the log or past the slot's pages, has more pages than there are from there on, or ends within
+/// a word and not with the slot (api.rst, KVM_GET_DIRTY_LOG, KVM_CLEAR_DIRTY_LOG).
+pub fn readings_ask_for_their_pages()
+    ensures gets { GetsAskForAll }
+    ensures clears { ClearsAskForNamed }
+    ensures refused { BadRangesAreRefused }
 {}

@@ -17,7 +17,7 @@ count_le (suc n) test = omega (arith, count_le n test, bit_le (test n))
     bit_le false = omega arith
 
 -- the places that pass the test, but for one
-abbrev but_for : ℕ → (ℕ → Bool) → ℕ → Bool
+abbrev pub but_for : ℕ → (ℕ → Bool) → ℕ → Bool
 but_for x test i = test i && not (i == x)
 
 other_counts : (i x : ℕ) (b : Bool) → i ≢ x → one_if (b && not (i == x)) ≡ one_if b
@@ -31,7 +31,7 @@ unfolding count_below
 count_behind zero x test le = refl
 count_behind (suc m) x test le = omega (arith, count_behind m x test (omega arith), other_counts m x (test m) (omega arith))
 
-count_without : (m x : ℕ) (test : ℕ → Bool) → x < m → test x ≡ true → count_below m (but_for x test) + 1 ≡ count_below m test
+pub count_without : (m x : ℕ) (test : ℕ → Bool) → x < m → test x ≡ true → count_below m (but_for x test) + 1 ≡ count_below m test
 unfolding count_below
 count_without zero x test lt passes = absurd (omega arith)
 count_without (suc m) x test lt passes = by (same_or m x) (λ below. count_without m x test below passes)
@@ -43,7 +43,7 @@ count_without (suc m) x test lt passes = by (same_or m x) (λ below. count_witho
         omega (arith, count_behind m x test (omega arith), own_counts m x (test m) e, own)
     by (inr ne) before = omega (arith, before (omega arith), other_counts m x (test m) ne)
 
-still_passes : (i x : ℕ) (b : Bool) → b ≡ true → i ≢ x → (b && not (i == x)) ≡ true
+pub still_passes : (i x : ℕ) (b : Bool) → b ≡ true → i ≢ x → (b && not (i == x)) ≡ true
 still_passes i x b passes ne = grind (arith, nat_tests)
 
 -- Each of the pages below n that counts stands at a place below m that passes, and no two at one.

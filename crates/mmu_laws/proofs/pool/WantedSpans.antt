@@ -119,7 +119,7 @@ counts z gfn slot fits holds = counted slot.base slot.pages slot.host z.pages gf
 met : (base end from past gfn : ℕ) → from ≤ gfn → gfn < past → (nat_le base gfn && nat_lt gfn end) ≡ true → (nat_lt base past && nat_lt from end) ≡ true
 met base end from past gfn le lt holds = grind (arith, nat_tests)
 
-meets_span : (span gfn index : ℕ) (slot : Slot) → 0 < span → gfn / span ≡ index → contains gfn slot ≡ true → meets span index slot ≡ true
+pub meets_span : (span gfn index : ℕ) (slot : Slot) → 0 < span → gfn / span ≡ index → contains gfn slot ≡ true → meets span index slot ≡ true
 meets_span span gfn index slot pos is holds = subst (λ i. meets span i slot ≡ true) is
     (met slot.base (slot.base + slot.pages) (gfn / span * span) ((gfn / span + 1) * span) gfn (div-mul-le_self gfn span)
     ((div-lt_iff_lt-mul {k = span} {x = gfn} {y = gfn / span + 1} pos).0 (omega arith)) holds)
