@@ -27,3 +27,4 @@ pub mod ExampleEvictRun
 pub mod ExampleMoveRun
 pub mod ExampleOverlapRun
 pub mod ExampleSlotsRun
+pub mod TouchLaws

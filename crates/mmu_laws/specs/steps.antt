@@ -18,3 +18,4 @@ pub mod ExampleEvict
 pub mod ExampleMove
 pub mod ExampleOverlap
 pub mod ExampleSlots
+pub mod TouchLaws

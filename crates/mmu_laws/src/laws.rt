@@ -30,6 +30,7 @@ ghost use Rattle.mmu_laws.specs.leaves.OpenFrames.{OpenFramesAreFlushed, OpenFra
 ghost use Rattle.mmu_core.specs.alone.LineAlone.{LineBeginsAlone, LineEndsAlone, LineGoesThrough, NoneStarvedAlone};
 ghost use Rattle.mmu_core.specs.invariant.Scans.{StarvedLinesScan};
 ghost use Rattle.mmu_laws.specs.steps.EventLaws.{EventsAreOfTheirSteps};
+ghost use Rattle.mmu_laws.specs.steps.TouchLaws.{TouchesAreTold};
 ghost use Rattle.mmu_laws.specs.steps.InvalidationLaws.{BringsAreOfAbsentPages, ChangesAreInvalidated, InvalidationsAreCounted};
 ghost use Rattle.mmu_laws.specs.steps.InvalidationLaws.{SequenceIsRaised, ZapsAreOfOpenInvalidations};
 ghost use Rattle.mmu_laws.specs.steps.LogLaws.{AllowedWritesAreOwed, MarksAreOfOwedPages, MarksStayOwed, SectionsEndWithNoneOwed};
@@ -163,7 +164,7 @@ pub fn the_steps_can_be_made()
 /// that gets the lock alone, or, where it takes nothing out, by the load of its first word; and what
 /// was read is told by the `await` of the last flush, or by the load of the last word, with the answer:
 /// the bits of these frames (kvm_main.c, `kvm_get_dirty_log_protect`). An exit is told with the
-/// answer, too. The sequence number of invalidations is raised by
+/// answer, too. And each step with which a guest touches memory tells this access. The sequence number of invalidations is raised by
 /// one, and only by an actor that has the lock alone and an invalidation open; how many
 /// are open rises by one with such an actor's own one, and falls by one with it, once the
 /// number was raised (kvm_main.c, `kvm_mmu_invalidate_begin`, `kvm_mmu_invalidate_end`). A
@@ -188,6 +189,7 @@ pub fn steps_tell_what_they_are()
     ensures caches { OthersCacheOneAtMost }
     ensures revised { RevisedWordsTell }
     ensures events { EventsAreOfTheirSteps }
+    ensures touches { TouchesAreTold }
     ensures raised { SequenceIsRaised }
     ensures counted { InvalidationsAreCounted }
     ensures zaps { ZapsAreOfOpenInvalidations }

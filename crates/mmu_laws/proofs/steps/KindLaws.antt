@@ -1,6 +1,6 @@
 -- What a hand holds that makes a step of a kind: which step of a part it is, what this needs, and so what is zapped, changed and brought in.
 use Rattle.std.proofs.Common.{◌≡◌, ◌≢◌, ◌⊎◌, inl, inr, ◌<◌, ◌≤◌, ◌/◌, ℕ, refl, sym, subst, ap, ◌∙◌, arith}
-use Rattle.std.specs.Prelude.{true, Some, Option, None, is_some, Bool, false}
+use Rattle.std.specs.Prelude.{true, Some, Option, None, is_some, false}
 use Rattle.core_views.specs.declared.kind.Kind.{Kind}
 use Rattle.core_views.specs.declared.kind.StepKind.{StepKind}
 use Rattle.core_views.specs.declared.kind.StepKind.TheVariants as kind
@@ -43,6 +43,7 @@ use Rattle.mmu_core.proofs.machine.Which.{is_next, is_part}
 use Rattle.mmu_core.proofs.machine.Worlds.{Takes, TakesPart, are_small, takes}
 use Rattle.mmu_laws.specs.steps.InvalidationLaws.{BringsAbsentPage, BringsAreOfAbsentPages, ChangesAreInvalidated, ChangesOwnPage, ZapsAreOfOpenInvalidations}
 use Rattle.mmu_laws.specs.steps.InvalidationLaws.{ZapsOwnFrame}
+use Rattle.mmu_laws.specs.steps.TouchLaws.{touches}
 use Rattle.mmu_core.proofs.held.LowestKept.{lowest_leaf}
 use Rattle.mmu_laws.proofs.causes.MadeSteps.{Makes, in_machine, own_sizes, word_on}
 use Rattle.mmu_laws.proofs.leaves.LeadsDown.{leads_at, leads_down}
@@ -52,17 +53,11 @@ use Rattle.mmu_core.proofs.pages.EntryStill.{still_leaf}
 abbrev pub IsOfPart : StepKind → Type 0
 IsOfPart k = (op : Op) (index : ℕ) → (touch_of op index).kind ≢ k
 
--- It is, unless it is a read, a write or an add.
-abbrev pub is_touch : StepKind → Bool
-is_touch kind.Read = true
-is_touch kind.Write = true
-is_touch kind.Add = true
-is_touch _ = false
-
-pub no_touch : (k : StepKind) → is_touch k ≡ false → IsOfPart k
-no_touch k other Read index is = let touch = ap is_touch is in cc (touch, other)
-no_touch k other (Write x) index is = let touch = ap is_touch is in cc (touch, other)
-no_touch k other (Add x) index is = let touch = ap is_touch is in cc (touch, other)
+-- It is, unless a guest touches memory with it.
+pub no_touch : (k : StepKind) → touches k ≡ false → IsOfPart k
+no_touch k other Read index is = let touch = ap touches is in cc (touch, other)
+no_touch k other (Write x) index is = let touch = ap touches is in cc (touch, other)
+no_touch k other (Add x) index is = let touch = ap touches is in cc (touch, other)
 
 module _ (z : Sizes) (w : World Held) (s : Step Kind) (G : IsSound z w) (may : May mmu w s) where
   abbrev pub h : Held

@@ -6,6 +6,7 @@ use Rattle.mmu_laws.proofs.steps.EventLaws.{events_are_of_their_steps}
 use Rattle.mmu_laws.proofs.steps.AllowedWords.{words_tell}
 use Rattle.mmu_laws.proofs.steps.Notes.{notes_tell_ends}
 use Rattle.mmu_laws.proofs.steps.StepLaws.{entering_flushes, others_cache_one, steps_are_on_their_areas}
+use Rattle.mmu_laws.proofs.steps.TouchLaws.{touches_are_told}
 use Rattle.mmu_laws.proofs.laws.steps_tell_what_they_are.Goals as goal
 use Rattle.mmu_laws.proofs.steps.KindLaws.{brings_are_of_absent_pages, changes_are_invalidated, zaps_are_of_open_invalidations}
 
@@ -65,3 +66,6 @@ returns-clause-stays_owed c = marks_stay_owed
 
 pub returns-clause-paid : goal.returns-clause-paid
 returns-clause-paid c = sections_end_with_none_owed
+
+pub returns-clause-touches : goal.returns-clause-touches
+returns-clause-touches c = touches_are_told
