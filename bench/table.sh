@@ -35,7 +35,7 @@ for row in spread warm hosts gets; do
   table_time=$(seconds replay) vector_time=$(seconds weave)
   cmp "$folder/printed.replay" "$folder/printed.weave"
   awk -v row="$row" -v a="$table" -v b="$vector" -v c="$table_time" -v d="$vector_time" -v most="$most" 'BEGIN {
-    printf "%-8s %16.1f %7.1f %6.2f %16.2f %7.2f %6.2f%s\n", row, a, b, a / b, c, d, c / d, a / b > most ? "  above " most : ""
+    printf "%-8s %16.1f %7.1f %6.2f %16.2f %7.2f %6.2f%s\n", row, a, b, a / b, c, d, c / d, (a / b > most ? "  above " most : "")
   }'
 done
 echo 'tdp 1 vcpus 1 workers 0 pages 1048576 frames 1048576 words 8 pool 16384 cache 64 manual 0 hosts 0' > "$folder/trace"
