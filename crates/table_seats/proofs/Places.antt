@@ -1,7 +1,7 @@
 -- The hands that a pass keeps, beside those in its seat's view.
 use Rattle.std.proofs.Common.{◌≡◌, ℕ, zero, suc, ◌+◌, ◌<◌, List, [], ◌∷◌, ◌++◌, map, length, get_or, set, sym, refl, ap, ◌∙◌, subst, arith, Option}
 use Rattle.std.proofs.Common.{Some, None, replicate, unwrap_or, take, add-one}
-use Rattle.std.specs.Prelude.{is_some, true}
+use Rattle.std.specs.Prelude.{drop, false, is_some, true}
 use Rattle.std.proofs.lemmas.Bool.{false≢true}
 use mathlib.Core.Option.{some, some-injective, some-ne-none}
 use Rattle.core_views.specs.Held.{Held, Handful}
@@ -169,3 +169,11 @@ all-further l i r get there all = rw add-one (go l i get all) where
       let first : x ≡ Some (hand_in_place x) = cc in
       let rest : take i l ≡ map Some (map hand_in_place (take i l)) = cc in
       λ j. first j ∷ go l i get rest j
+
+-- Where nothing stands in a place, not every hand is there.
+pub no-gap : (l : List (Option Handful)) (i : ℕ) (r : Option Handful) → i < length l → r ≡ get_or l i r → is_some r ≡ false → AllHands l → ⊥
+no-gap [] i r lt at gap all = absurd (omega (arith, lt))
+no-gap (x ∷ l) zero r lt at gap all =
+    let there : is_some x ≡ true = ap (λ (k : List (Option Handful)). is_some (get_or k 0 None)) all in
+    absurd (cc (at, there, gap))
+no-gap (x ∷ l) (suc i) r lt at gap all = no-gap l i r (omega (arith, lt)) at gap (ap (drop 1) all)

@@ -1,5 +1,5 @@
 //! A pass to a board: the hands of some actors.
-ghost use Rattle.std.specs.Prelude.{◌≡◌, ◌<◌, IfSome, None, OnErr, OnOk, is_some, slice_index_or, true};
+ghost use Rattle.std.specs.Prelude.{◌≡◌, ◌<◌, IfSome, None, OnErr, OnOk, false, is_some, slice_index_or, true};
 ghost use Rattle.mmu_core.specs.machine.Worlds.{HandReached};
 ghost use Rattle.step_seats.specs.Moves.{HasItsRoom};
 ghost use Rattle.step_seats.specs.Where.{HasHand};
@@ -42,7 +42,8 @@ impl Pass {
 
     /// Whether the pass keeps the hand of every actor.
     pub fn has_all(&self) -> bool
-        ensures { result ≡ true → AllHands self.now.hands }
+        ensures all { result ≡ true → AllHands self.now.hands }
+        ensures misses { result ≡ false → AllHands self.now.hands → ⊥ }
     {
         for place in &self.hands {
             if place.is_none() {
