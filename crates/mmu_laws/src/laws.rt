@@ -21,7 +21,7 @@ ghost use Rattle.mmu_laws.specs.steps.ExampleWaits.{ExampleWaits};
 ghost use Rattle.mmu_core.specs.alone.FaultAlone.{FaultGoesThrough, LeadsDown};
 ghost use Rattle.mmu_core.specs.lines.FaultLaws.{FaultIsBounded, FaultMeetsNeeds, FaultStaysKnown, FaultStepsFall, PartsAnswer};
 ghost use Rattle.mmu_core.specs.lines.PartWaits.{WaitsSeeAnother};
-ghost use Rattle.mmu_laws.specs.flat.LogCommandLaws.{BadRangesAreRefused, ClearsAskForNamed, GetsAskForAll};
+ghost use Rattle.mmu_laws.specs.flat.LogCommandLaws.{BadRangesAreRefused, ClearsAskForNamed, GetsAskForAll, ReadingsAreOfLogs};
 ghost use Rattle.mmu_laws.specs.flat.FlatLogs.{LogsAreFlat};
 ghost use Rattle.mmu_laws.specs.flat.Histories.{AnswersAreTold, EndsWhole, StaysWhole};
 ghost use Rattle.mmu_core.specs.invariant.Laws.{StaysSound, TellsLawfully};
@@ -352,13 +352,15 @@ pub fn steps_are_bounded()
     ensures few { FewSteps }
 {}
 
-/// What a get and a clear of a dirty log ask for, in numbers. A get asks for each page of its slot; a clear
-/// for a page exactly where this lies in the range that it names, and its bit is set in its
-/// words. A clear of a slot with a dirty log is refused for its range exactly where this begins within a
-/// word of the log or past the slot's pages, has more pages than there are from there on, or ends within
-/// a word and not with the slot (api.rst, KVM_GET_DIRTY_LOG, KVM_CLEAR_DIRTY_LOG).
+/// What a get and a clear of a dirty log ask for, in numbers, and why they are refused. A get asks for
+/// each page of its slot; a clear for a page exactly where this lies in the range that it names,
+/// and its bit is set in its words. Both are refused where the slot is missing, or has no dirty log; a get for
+/// nothing else. A clear of a slot with a dirty log is refused for its range exactly where this begins
+/// within a word of the log or past the slot's pages, has more pages than there are from there on, or
+/// ends within a word and not with the slot (api.rst, KVM_GET_DIRTY_LOG, KVM_CLEAR_DIRTY_LOG).
 pub fn readings_ask_for_their_pages()
     ensures gets { GetsAskForAll }
     ensures clears { ClearsAskForNamed }
+    ensures logs { ReadingsAreOfLogs }
     ensures refused { BadRangesAreRefused }
 {}

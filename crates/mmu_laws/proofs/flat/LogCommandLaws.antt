@@ -9,7 +9,7 @@ use Rattle.core_views.specs.LogCommands.{is_bad_range, read_refusal}
 use Rattle.core_views.specs.Refusals.{is_logged}
 use Rattle.core_views.specs.Slots.{first_of, is_some_and}
 use Rattle.core_views.specs.SlotSets.{slot_of_id}
-use Rattle.mmu_laws.specs.flat.LogCommandLaws.{BadRangesAreRefused, ClearsAskForNamed, GetsAskForAll, IsBadRange}
+use Rattle.mmu_laws.specs.flat.LogCommandLaws.{BadRangesAreRefused, ClearsAskForNamed, GetsAskForAll, ReadingsAreOfLogs, IsBadRange}
 
 pub gets_ask_for_all : GetsAskForAll
 gets_ask_for_all id page = refl
@@ -30,6 +30,15 @@ clears_ask_for_named id first count words page = (
       ),
   λ n. asked first count page _ n.from n.to n.bit,
 )
+
+-- ---- a slot without a log
+
+pub readings_are_of_logs : ReadingsAreOfLogs
+readings_are_of_logs id first count words slots = record {
+  missing = λ is. (rw is refl, rw is refl);
+  no_log = λ slot is off. (rw (is, off) refl, rw (is, off) refl);
+  accepted = λ slot is on. rw (is, on) refl;
+}
 
 -- ---- a range
 

@@ -1,6 +1,6 @@
 -- What the lines that read a dirty log ask for, and when a clear is refused for its range, in numbers (api.rst, KVM_GET_DIRTY_LOG, KVM_CLEAR_DIRTY_LOG).
-use Rattle.std.specs.Prelude.{◌≡◌, ◌≢◌, ◌⊎◌, ◌<◌, ◌≤◌, ◌+◌, ◌-◌, ◌/◌, ◌%◌, ◌^◌, ℕ, List, true, Some, None, get_or}
-use Rattle.core_views.specs.declared.answer.Refusal.TheVariants.{BadRange}
+use Rattle.std.specs.Prelude.{◌≡◌, ◌≢◌, ◌⊎◌, ◌<◌, ◌≤◌, ◌+◌, ◌-◌, ◌/◌, ◌%◌, ◌^◌, ℕ, List, false, true, Some, None, get_or}
+use Rattle.core_views.specs.declared.answer.Refusal.TheVariants.{BadRange, Missing, NoLog}
 use Rattle.core_views.specs.declared.memory_slot.MemorySlot.{MemorySlot}
 use Rattle.core_views.specs.declared.trace.Command.TheVariants.{ClearLog, GetLog}
 use Rattle.core_views.specs.LogCommands.{asks_for, read_refusal}
@@ -29,6 +29,17 @@ ClearsAskForNamed =
 abbrev pub IsBadRange : ℕ → ℕ → ℕ → Type 0
 IsBadRange pages first count =
     (first % 64 ≢ 0) ⊎ ((pages < first) ⊎ ((pages - first < count) ⊎ ((count % 64 ≢ 0) × (first + count ≢ pages))))
+
+-- Where no slot has the ID, a get and a clear are refused for that; where the slot has no dirty log, for that; and where it has one, a get isn't refused.
+pub record AreOfLogs (id first count : ℕ) (words : List ℕ) (slots : MemorySlots) : Type 0 where
+  pub missing : slot_of_id id slots ≡ None
+      → (read_refusal (GetLog id) slots ≡ Some Missing) × (read_refusal (ClearLog id first count words) slots ≡ Some Missing)
+  pub no_log : (slot : MemorySlot) → slot_of_id id slots ≡ Some slot → slot.logged ≡ false
+      → (read_refusal (GetLog id) slots ≡ Some NoLog) × (read_refusal (ClearLog id first count words) slots ≡ Some NoLog)
+  pub accepted : (slot : MemorySlot) → slot_of_id id slots ≡ Some slot → slot.logged ≡ true → read_refusal (GetLog id) slots ≡ None
+
+abbrev pub ReadingsAreOfLogs : Type 0
+ReadingsAreOfLogs = (id first count : ℕ) (words : List ℕ) (slots : MemorySlots) → AreOfLogs id first count words slots
 
 -- A clear of a slot with a dirty log is refused for its range where this is bad, and for nothing else.
 abbrev pub BadRangesAreRefused : Type 0

@@ -1,4 +1,4 @@
-use Rattle.mmu_laws.proofs.flat.LogCommandLaws.{bad_ranges_are_refused, clears_ask_for_named, gets_ask_for_all}
+use Rattle.mmu_laws.proofs.flat.LogCommandLaws.{bad_ranges_are_refused, clears_ask_for_named, gets_ask_for_all, readings_are_of_logs}
 use Rattle.mmu_laws.proofs.laws.readings_ask_for_their_pages.Goals as goal
 
 pub returns-clause-gets : goal.returns-clause-gets
@@ -9,3 +9,6 @@ returns-clause-clears c = clears_ask_for_named
 
 pub returns-clause-refused : goal.returns-clause-refused
 returns-clause-refused c = bad_ranges_are_refused
+
+pub returns-clause-logs : goal.returns-clause-logs
+returns-clause-logs c = readings_are_of_logs
