@@ -1,6 +1,6 @@
 //! One turn of a line, whatever its form: the order of its steps is `mmu_steps`'s, and nothing of
 //! it is said here.
-ghost use Rattle.std.specs.Prelude.{◌≡◌, ◌<◌, IfOk, OnErr, OnOk, length};
+ghost use Rattle.std.specs.Prelude.{◌≡◌, ◌≢◌, ◌<◌, IfOk, OnErr, OnOk, length};
 ghost use Rattle.core_views.specs.declared.place.Place.TheVariants.{Between};
 ghost use Rattle.mmu_core.specs.machine.Turns.{IsSameHand, line_of};
 ghost use Rattle.step_seats.specs.LineTurns.{Says, TurnsLine, cause_at, turn_told};
@@ -71,6 +71,8 @@ fn make_ready<S: Stepper>(s: &mut S) -> Result<(), NoMemory>
     requires left { length (S.seat s.old).hand.answers < length (S.seat s.old).hand.lines }
     ensures reserved { OnOk result (0 < (S.seat s.new).room) }
     ensures begins { OnErr result ((S.seat s.old).hand.state.place ≡ Between) }
+    ensures under_way { (S.seat s.old).hand.state.place ≢ Between → (S.seat s.new).room ≡ (S.seat s.old).room }
+    ensures refused { OnErr result ((S.seat s.new).room ≡ (S.seat s.old).room) }
     ensures hand { (S.seat s.new).hand ≡ (S.seat s.old).hand }
     ensures told { (S.seat s.new).tells ≡ (S.seat s.old).tells }
     ensures same { ((S.seat s.new).actor ≡ (S.seat s.old).actor) × (S.frame s.new ≡ S.frame s.old) }
@@ -90,7 +92,9 @@ pub fn take_turn<S: Stepper>(s: &mut S) -> Result<Turn<()>, NoMemory>
         (S.seat s.old).hand (S.seat s.new).hand) }
     ensures hand { IsSameHand (S.seat s.old).hand (S.seat s.new).hand }
     ensures begins { OnErr result ((S.seat s.old).hand.state.place ≡ Between) }
-    ensures refused { OnErr result (((S.seat s.new).hand ≡ (S.seat s.old).hand) × ((S.seat s.new).tells ≡ (S.seat s.old).tells)) }
+    ensures room { IfOk result (λ _. (S.seat s.old).hand.state.place ≢ Between → KeepsRoom (S.seat s.old) (S.seat s.new)) }
+    ensures refused { OnErr result (((S.seat s.new).hand ≡ (S.seat s.old).hand) × ((S.seat s.new).tells ≡ (S.seat s.old).tells)
+        × ((S.seat s.new).room ≡ (S.seat s.old).room)) }
     ensures same { ((S.seat s.new).actor ≡ (S.seat s.old).actor) × (S.frame s.new ≡ S.frame s.old) }
 {
     make_ready(s)?;
