@@ -43,7 +43,8 @@ use Rattle.mmu_laws.proofs.flat.EveryHistory.{every_history}
 use Rattle.mmu_laws.proofs.flat.Told.{told}
 use Rattle.mmu_laws.proofs.flat.Within.{AllWithin, tells_within}
 use Rattle.core_theorem.specs.Runs.{IsRun}
-use Rattle.core_theorem.specs.Readings.{OnlyTheManagerManages, OnlyTheManagerReads, ReadingsHaveCauses, ReadingsMissNone, ReadingsTellWrites, WrittenFramesAreKept}
+use Rattle.core_theorem.specs.Readings.{OnlyTheManagerManages, OnlyTheManagerReads, ReadingsHaveCauses, ReadingsMissNone, ReadingsTellWrites}
+use Rattle.core_theorem.specs.Readings.{WrittenFramesAreKept}
 
 -- ---- who manages, and so who reads
 
@@ -186,4 +187,10 @@ module _ (lone : LoneReadingsAreComplete) (caused : ReadingsAreCaused) (dirty : 
       by (inr cleaned) = inr cleaned
 
   pub readings_tell_writes : ReadingsTellWrites
-  readings_tell_writes = record { manages = only_the_manager_manages; only = only_the_manager_reads; complete = complete; caused = have_causes; written = written }
+  readings_tell_writes = record {
+    manages = only_the_manager_manages;
+    only = only_the_manager_reads;
+    complete = complete;
+    caused = have_causes;
+    written = written;
+  }

@@ -1,6 +1,6 @@
 -- What a fast fault has done which ends with its write allowed: in the section that it is about to end its own exchange has allowed writes in the very word
 -- that it had read, and where its slot has a dirty log it has marked the page (locking.rst, "Fast page fault").
-use Rattle.std.specs.Prelude.{◌≡◌, ◌<◌, ℕ, List, Bool, Some, true}
+use Rattle.std.specs.Prelude.{◌≡◌, ◌<◌, ℕ, Bool, Some, true}
 use Rattle.core_views.specs.declared.kind.Kind.{Kind}
 use Rattle.core_views.specs.declared.kind.StepKind.TheVariants as kind
 use Rattle.core_views.specs.declared.place.AccessPlace.TheVariants.{Fault}
@@ -10,7 +10,6 @@ use Rattle.core_views.specs.declared.place.Place.TheVariants as place
 use Rattle.core_views.specs.declared.sizes.Sizes.{Sizes}
 use Rattle.core_views.specs.declared.topics.TableWalk.{TableWalk}
 use Rattle.core_views.specs.declared.trace.Command.TheVariants.{Access}
-use Rattle.core_views.specs.declared.trace.Line.{Line}
 use Rattle.core_views.specs.declared.trace.Op.{Op}
 use Rattle.core_views.specs.Held.{Held}
 use Rattle.core_views.specs.Kinds.{code_of}
@@ -21,7 +20,7 @@ use Rattle.mmu_core.specs.lines.FaultSteps.{entry_word}
 use Rattle.mmu_core.specs.machine.Enabled.{mmu}
 use Rattle.mmu_core.specs.machine.Machine.{Step, World, hand_in, run}
 use Rattle.mmu_laws.specs.causes.Causes.{Finds, HasMade, Leaves, StaysInSection}
-use Rattle.core_theorem.specs.Runs.{IsRun}
+use Rattle.core_theorem.specs.Runs.{InEveryRun}
 
 -- what the actor's walk has come to in this world
 abbrev pub walk_in : World Held → ℕ → TableWalk
@@ -45,8 +44,8 @@ pub record MarksFrame (actor gfn : ℕ) (w : World Held) (s : Step Kind) : Type 
 
 -- Where a fault is about to end its section with its write allowed, and the page marked or not, its actor has allowed it in this very section, and marked it.
 abbrev pub FixedFaultsHaveAllowed : Type 0
-FixedFaultsHaveAllowed =
-    (z : Sizes) (lines : List Line) (w : World Held) (ss : List (Step Kind)) → IsRun z lines w ss → (actor : ℕ) → actor < actors_of z
+FixedFaultsHaveAllowed = InEveryRun (λ z w ss.
+    (actor : ℕ) → actor < actors_of z
     → (gfn word : ℕ) (op : Op) (marked : Bool) → (hand_in mmu (run mmu w ss) actor).state.place ≡ place.Access (Fault (End (Fixed marked)))
     → (hand_in mmu (run mmu w ss) actor).state.line.command ≡ Access gfn word op
-    → HasMade (AllowsWrite z actor gfn) (StaysInSection actor) w ss × (marked ≡ true → HasMade (MarksFrame actor gfn) (StaysInSection actor) w ss)
+    → HasMade (AllowsWrite z actor gfn) (StaysInSection actor) w ss × (marked ≡ true → HasMade (MarksFrame actor gfn) (StaysInSection actor) w ss))

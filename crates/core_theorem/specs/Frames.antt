@@ -22,7 +22,7 @@ use Rattle.mmu_core.specs.invariant.PoolPart.{is_free}
 use Rattle.mmu_core.specs.machine.Enabled.{mmu}
 use Rattle.mmu_core.specs.machine.Machine.{Step, World, effect, hand_in, run}
 use Rattle.mmu_core.specs.machine.View.{word_in}
-use Rattle.core_theorem.specs.Runs.{IsRun}
+use Rattle.core_theorem.specs.Runs.{AfterEveryRun, IsRun}
 
 -- The actor owns this frame.
 pub record OwnsFrame (frame : ℕ) (h : Held) : Type 0 where
@@ -44,13 +44,11 @@ pub record FramesAreUsed (z : Sizes) (w : World Held) : Type 0 where
   pub only : (frame : ℕ) (use_ : FrameUse) → IsFrameUsedFor z w frame use_ → use_of frame ≡ use_
 
 abbrev pub EachFrameHasOneUse : Type 0
-EachFrameHasOneUse = (z : Sizes) (lines : List Line) (w : World Held) (ss : List (Step Kind)) → IsRun z lines w ss → FramesAreUsed z (run mmu w ss)
+EachFrameHasOneUse = AfterEveryRun (λ z w. FramesAreUsed z w)
 
 -- While its actor's invalidation is open, each word that a move has copied is the page's.
 abbrev pub CopiedWordsAreThePages : Type 0
-CopiedWordsAreThePages =
-    (z : Sizes) (lines : List Line) (w : World Held) (ss : List (Step Kind)) → IsRun z lines w ss
-    → CopiedPart z (actors_of z) (word_in z (run mmu w ss) area.Content) (λ i. (hand_in mmu (run mmu w ss) i).topics)
+CopiedWordsAreThePages = AfterEveryRun (λ z w. CopiedPart z (actors_of z) (word_in z w area.Content) (λ i. (hand_in mmu w i).topics))
 
 -- The step, made in this world, is a claim that wins this frame.
 pub record WinsFrame (frame : ℕ) (w : World Held) (s : Step Kind) : Type 0 where
@@ -87,7 +85,7 @@ FramesAreReusedAlone =
 
 -- No actor that a watch has passed, since the watcher has moved a page out of a frame, has looked at a page there in the section that it is in.
 abbrev pub WatchedHoldNoOldFrame : Type 0
-WatchedHoldNoOldFrame =
-    (z : Sizes) (lines : List Line) (w : World Held) (ss : List (Step Kind)) → IsRun z lines w ss → (watcher other frame : ℕ) → watcher < actors_of z
-    → other < actors_of z → OwnsFrame frame (hand_in mmu (run mmu w ss) watcher) → other < (hand_in mmu (run mmu w ss) watcher).topics.watched
-    → LooksAtFrame frame (hand_in mmu (run mmu w ss) other).topics → ⊥
+WatchedHoldNoOldFrame = AfterEveryRun (λ z w.
+    (watcher other frame : ℕ) → watcher < actors_of z
+    → other < actors_of z → OwnsFrame frame (hand_in mmu w watcher) → other < (hand_in mmu w watcher).topics.watched
+    → LooksAtFrame frame (hand_in mmu w other).topics → ⊥)

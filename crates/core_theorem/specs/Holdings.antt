@@ -22,7 +22,7 @@ use Rattle.mmu_core.specs.machine.Turns.{outcome_of}
 use Rattle.mmu_core.specs.machine.View.{word_in}
 use Rattle.mmu_core.specs.invariant.HeldPart.{SetsPart}
 use Rattle.core_theorem.specs.Pages.{Owns}
-use Rattle.core_theorem.specs.Runs.{IsRun}
+use Rattle.core_theorem.specs.Runs.{AfterEveryRun, IsRun}
 use Rattle.core_theorem.specs.Walks.{HoldsAt, table_at}
 
 -- What is so of each page that an actor holds: of the tables that its walk has gone through and the one that it has come to, of the slot
@@ -34,24 +34,22 @@ pub record OfEachHeld (IsSo : ℕ → Type 0) (t : Topics) : Type 0 where
 
 -- No page that an actor holds is free.
 abbrev pub NoneHoldsFreePages : Type 0
-NoneHoldsFreePages =
-    (z : Sizes) (lines : List Line) (w : World Held) (ss : List (Step Kind)) → IsRun z lines w ss → (actor : ℕ) → actor < actors_of z
-    → OfEachHeld (λ page. is_free (word_in z (run mmu w ss) area.PoolMap) page ≡ false) (hand_in mmu (run mmu w ss) actor).topics
+NoneHoldsFreePages = AfterEveryRun (λ z w.
+    (actor : ℕ) → actor < actors_of z
+    → OfEachHeld (λ page. is_free (word_in z w area.PoolMap) page ≡ false) (hand_in mmu w actor).topics)
 
 -- The slot set that an actor holds is the published one; or it is an old one, which the actor holds in a section, and which is retired by
 -- another actor, whose watch hasn't passed this one since.
 abbrev pub HeldSetsAreKnown : Type 0
-HeldSetsAreKnown =
-    (z : Sizes) (lines : List Line) (w : World Held) (ss : List (Step Kind)) → IsRun z lines w ss
-    → SetsPart (actors_of z) (word_in z (run mmu w ss) area.Slots 0) (λ i. (hand_in mmu (run mmu w ss) i).topics)
+HeldSetsAreKnown = AfterEveryRun (λ z w. SetsPart (actors_of z) (word_in z w area.Slots 0) (λ i. (hand_in mmu w i).topics))
 
 -- So whom a watch has passed holds no slot set that the watcher has taken out of use.
 abbrev pub WatchedHoldNoOldSet : Type 0
-WatchedHoldNoOldSet =
-    (z : Sizes) (lines : List Line) (w : World Held) (ss : List (Step Kind)) → IsRun z lines w ss → (watcher other page : ℕ) → watcher < actors_of z
+WatchedHoldNoOldSet = AfterEveryRun (λ z w.
+    (watcher other page : ℕ) → watcher < actors_of z
     → other < actors_of z
-    → (hand_in mmu (run mmu w ss) watcher).topics.retired ≡ Some page → other < (hand_in mmu (run mmu w ss) watcher).topics.watched
-    → (hand_in mmu (run mmu w ss) other).topics.search.set ≢ Some page
+    → (hand_in mmu w watcher).topics.retired ≡ Some page → other < (hand_in mmu w watcher).topics.watched
+    → (hand_in mmu w other).topics.search.set ≢ Some page)
 
 -- The step, made in this world, is a claim that wins this page.
 pub record Wins (page : ℕ) (w : World Held) (s : Step Kind) : Type 0 where

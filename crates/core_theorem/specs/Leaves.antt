@@ -1,11 +1,9 @@
 -- Leaves after a run: what is linked, what walks come to, what is cached and what an access uses agrees with slots and host.
-use Rattle.std.specs.Prelude.{◌≡◌, ◌/◌, ◌^◌, ◌<◌, ℕ, List, true}
-use Rattle.core_views.specs.declared.kind.Kind.{Kind}
+use Rattle.std.specs.Prelude.{◌≡◌, ◌/◌, ◌^◌, ◌<◌, ℕ, true}
 use Rattle.core_views.specs.declared.place.AccessPlace.TheVariants.{Touch}
 use Rattle.core_views.specs.declared.place.Place.TheVariants as place
 use Rattle.core_views.specs.declared.sizes.Sizes.{Sizes}
 use Rattle.core_views.specs.declared.trace.Command.TheVariants.{Access}
-use Rattle.core_views.specs.declared.trace.Line.{Line}
 use Rattle.core_views.specs.declared.trace.Op.{Op}
 use Rattle.core_views.specs.Held.{Held}
 use Rattle.core_views.specs.Sizes.{actors_of}
@@ -17,9 +15,9 @@ use Rattle.mmu_core.specs.machine.Enabled.{mmu}
 use Rattle.mmu_core.specs.alone.FaultAlone.{LeadsTo}
 use Rattle.mmu_core.specs.lines.FaultSteps.{allows_access}
 use Rattle.mmu_laws.specs.leaves.LeafLaws.{CachedAgrees, LeafAgrees}
-use Rattle.mmu_core.specs.machine.Machine.{Step, World, hand_in, run}
+use Rattle.mmu_core.specs.machine.Machine.{World, hand_in}
 use Rattle.mmu_core.specs.machine.View.{word_in}
-use Rattle.core_theorem.specs.Runs.{IsRun}
+use Rattle.core_theorem.specs.Runs.{AfterEveryRun}
 use Rattle.core_theorem.specs.Walks.{HoldsAt, span_at, table_at, walk_of}
 
 -- In this world the leaf, of this level, is of the page that the slots give the guest frame, and maps it to the frame that the host gives the page.
@@ -28,36 +26,36 @@ Agrees z w level gfn leaf = LeafAgrees (word_in z w area.Slots 0) (word_in z w a
 
 -- Each leaf to which links lead a guest frame from the root agrees.
 abbrev pub LinkedLeavesAgree : Type 0
-LinkedLeavesAgree =
-    (z : Sizes) (lines : List Line) (w : World Held) (ss : List (Step Kind)) → IsRun z lines w ss → (gfn at entry : ℕ) → gfn < 2 ^ 36
-    → LeadsTo (word_in z (run mmu w ss) area.Pool) 4 (word_in z (run mmu w ss) area.Root 0) gfn at entry → kind_of at entry ≡ entry_kind.Leaf
-    → Agrees z (run mmu w ss) at gfn entry
+LinkedLeavesAgree = AfterEveryRun (λ z w.
+    (gfn at entry : ℕ) → gfn < 2 ^ 36
+    → LeadsTo (word_in z w area.Pool) 4 (word_in z w area.Root 0) gfn at entry → kind_of at entry ≡ entry_kind.Leaf
+    → Agrees z w at gfn entry)
 
 -- So does each leaf to which links lead from a table that a walk holds, for a guest frame of this table's span.
 abbrev pub HeldLeavesAgree : Type 0
-HeldLeavesAgree =
-    (z : Sizes) (lines : List Line) (w : World Held) (ss : List (Step Kind)) → IsRun z lines w ss → (actor level gfn at entry : ℕ) → actor < actors_of z
-    → HoldsAt level (walk_of (run mmu w ss) actor) → gfn < 2 ^ 36 → gfn / level_span level / 512 ≡ span_at level (walk_of (run mmu w ss) actor)
-    → LeadsTo (word_in z (run mmu w ss) area.Pool) level (table_at level (walk_of (run mmu w ss) actor)) gfn at entry
-    → kind_of at entry ≡ entry_kind.Leaf → Agrees z (run mmu w ss) at gfn entry
+HeldLeavesAgree = AfterEveryRun (λ z w.
+    (actor level gfn at entry : ℕ) → actor < actors_of z
+    → HoldsAt level (walk_of w actor) → gfn < 2 ^ 36 → gfn / level_span level / 512 ≡ span_at level (walk_of w actor)
+    → LeadsTo (word_in z w area.Pool) level (table_at level (walk_of w actor)) gfn at entry
+    → kind_of at entry ≡ entry_kind.Leaf → Agrees z w at gfn entry)
 
 -- Each leaf to which links lead a guest frame from the root is of the lowest level: no step puts a larger one.
 abbrev pub LeavesAreLowest : Type 0
-LeavesAreLowest =
-    (z : Sizes) (lines : List Line) (w : World Held) (ss : List (Step Kind)) → IsRun z lines w ss → (gfn at entry : ℕ) → gfn < 2 ^ 36
-    → LeadsTo (word_in z (run mmu w ss) area.Pool) 4 (word_in z (run mmu w ss) area.Root 0) gfn at entry → kind_of at entry ≡ entry_kind.Leaf → at ≡ 1
+LeavesAreLowest = AfterEveryRun (λ z w.
+    (gfn at entry : ℕ) → gfn < 2 ^ 36
+    → LeadsTo (word_in z w area.Pool) 4 (word_in z w area.Root 0) gfn at entry → kind_of at entry ≡ entry_kind.Leaf → at ≡ 1)
 
 -- Each translation that a virtual processor has cached, and may use, agrees; all that is cached is of the lowest level, at frames of the machine; and other
 -- actors have nothing cached.
 abbrev pub TranslationsAgree : Type 0
-TranslationsAgree =
-    (z : Sizes) (lines : List Line) (w : World Held) (ss : List (Step Kind)) → IsRun z lines w ss → (actor : ℕ) → actor < actors_of z
-    → CachedAgrees z (run mmu w ss) actor
+TranslationsAgree = AfterEveryRun (λ z w.
+    (actor : ℕ) → actor < actors_of z
+    → CachedAgrees z w actor)
 
 -- The leaf by which an access is about to touch agrees, allows the access, and is of the lowest level.
 abbrev pub UsedLeavesAgree : Type 0
-UsedLeavesAgree =
-    (z : Sizes) (lines : List Line) (w : World Held) (ss : List (Step Kind)) → IsRun z lines w ss → (actor gfn word : ℕ) (op : Op) → actor < actors_of z
-    → (hand_in mmu (run mmu w ss) actor).state.place ≡ place.Access Touch → (hand_in mmu (run mmu w ss) actor).state.line.command ≡ Access gfn word op
-    → Agrees z (run mmu w ss) (hand_in mmu (run mmu w ss) actor).state.used.level gfn (hand_in mmu (run mmu w ss) actor).state.used.leaf
-    × (allows_access (is_write op) (hand_in mmu (run mmu w ss) actor).state.used.leaf ≡ true) × ((hand_in mmu (run mmu w ss) actor).state.used.level ≡ 1)
+UsedLeavesAgree = AfterEveryRun (λ z w.
+    (actor gfn word : ℕ) (op : Op) → actor < actors_of z
+    → (hand_in mmu w actor).state.place ≡ place.Access Touch → (hand_in mmu w actor).state.line.command ≡ Access gfn word op
+    → Agrees z w (hand_in mmu w actor).state.used.level gfn (hand_in mmu w actor).state.used.leaf
+    × (allows_access (is_write op) (hand_in mmu w actor).state.used.leaf ≡ true) × ((hand_in mmu w actor).state.used.level ≡ 1))

@@ -1,22 +1,20 @@
 -- Pool pages: what each of them is used for after a run.
-use Rattle.std.specs.Prelude.{◌≡◌, ◌<◌, ◌≤◌, ℕ, List, true, Some}
-use Rattle.core_views.specs.declared.kind.Kind.{Kind}
+use Rattle.std.specs.Prelude.{◌≡◌, ◌<◌, ◌≤◌, ℕ, true, Some}
 use Rattle.core_views.specs.declared.sizes.Sizes.{Sizes}
 use Rattle.core_views.specs.declared.topics.OwnedPage.{OwnedPage}
-use Rattle.core_views.specs.declared.trace.Line.{Line}
 use Rattle.core_views.specs.Held.{Held}
 use Rattle.core_views.specs.Sizes.{actors_of}
 use Rattle.spte_words.specs.declared.area.Area.TheVariants as area
 use Rattle.spte_words.specs.Areas.{pool_index}
 use Rattle.spte_words.specs.Entries.{table_word}
 use Rattle.mmu_core.specs.machine.Enabled.{mmu}
-use Rattle.mmu_core.specs.machine.Machine.{Step, World, hand_in, run}
+use Rattle.mmu_core.specs.machine.Machine.{World, hand_in}
 use Rattle.mmu_core.specs.invariant.PoolPart.{is_free}
 use Rattle.mmu_core.specs.invariant.AllOver.{AllOver, LeafIsFor}
 use Rattle.mmu_core.specs.invariant.TreePart.{Position, TreePart, Use, stands}
 use Rattle.mmu_core.specs.invariant.TreePart.Use.{Free, OldSet, Outside, Owned, Root, SlotSet, Under}
 use Rattle.mmu_core.specs.machine.View.{word_in}
-use Rattle.core_theorem.specs.Runs.{IsRun}
+use Rattle.core_theorem.specs.Runs.{AfterEveryRun}
 
 -- The actor owns this page.
 pub record Owns (page : ℕ) (h : Held) : Type 0 where
@@ -57,4 +55,4 @@ pub record PagesAreUsed (z : Sizes) (w : World Held) : Type 0 where
   pub apart : (k l : ℕ) (p : Position) → stands up spot k ≡ Some p → stands up spot l ≡ Some p → k ≡ l
 
 abbrev pub EachPageHasOneUse : Type 0
-EachPageHasOneUse = (z : Sizes) (lines : List Line) (w : World Held) (ss : List (Step Kind)) → IsRun z lines w ss → PagesAreUsed z (run mmu w ss)
+EachPageHasOneUse = AfterEveryRun (λ z w. PagesAreUsed z w)

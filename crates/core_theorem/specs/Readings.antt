@@ -21,17 +21,15 @@ use Rattle.log_laws.specs.HarvestLaws.{IsAskedFor, IsMadeClean, NobodyWrites, ma
 use Rattle.log_laws.specs.OneReader.{OnlyReads, StillReads}
 use Rattle.mmu_core.specs.machine.Machine.{Step, World}
 use Rattle.mmu_core.specs.machine.Worlds.{history}
-use Rattle.core_theorem.specs.Runs.{IsRun}
+use Rattle.core_theorem.specs.Runs.{InEveryRun, IsRun}
 
 -- Only the manager manages the guest: no other actor begins a line but accesses and changes of host pages.
 abbrev pub OnlyTheManagerManages : Type 0
-OnlyTheManagerManages =
-    (z : Sizes) (lines : List Line) (w : World Held) (ss : List (Step Kind)) → IsRun z lines w ss → OnlyManages Manager (history w ss)
+OnlyTheManagerManages = InEveryRun (λ z w ss. OnlyManages Manager (history w ss))
 
 -- So it alone reads logs.
 abbrev pub OnlyTheManagerReads : Type 0
-OnlyTheManagerReads =
-    (z : Sizes) (lines : List Line) (w : World Held) (ss : List (Step Kind)) → IsRun z lines w ss → OnlyReads Manager (history w ss)
+OnlyTheManagerReads = InEveryRun (λ z w ss. OnlyReads Manager (history w ss))
 
 -- The manager begins to read the log of the slot with the ID, and the next reading that it ends has these frames, which it takes out of the log (`takes`), or
 -- leaves there. It has each frame for which its line asks that was dirty as it began, unless a line was under way then that writes the frame.

@@ -20,9 +20,17 @@ pub record IsRun (z : Sizes) (lines : List Line) (w : World Held) (ss : List (St
   pub start : IsStart z lines w
   pub legal : Legal mmu w ss
 
+-- It is so in every run: of every machine, from its start on, with any list of steps that may be made.
+abbrev pub InEveryRun : (Sizes → World Held → List (Step Kind) → Type 0) → Type 0
+InEveryRun P = (z : Sizes) (lines : List Line) (w : World Held) (ss : List (Step Kind)) → IsRun z lines w ss → P z w ss
+
+-- It is so of the world after every run.
+abbrev pub AfterEveryRun : (Sizes → World Held → Type 0) → Type 0
+AfterEveryRun P = InEveryRun (λ z w ss. P z (run mmu w ss))
+
 -- What a run tells is what flat guest memory allows, event by event.
 abbrev pub TellsLawfully : Type 0
-TellsLawfully = (z : Sizes) (lines : List Line) (w : World Held) (ss : List (Step Kind)) → IsRun z lines w ss → IsLawful z first_flat (history w ss)
+TellsLawfully = InEveryRun (λ z w ss. IsLawful z first_flat (history w ss))
 
 -- The words of this world stand for these facts: published slots with their logs, the content words of the pages' frames, and the pause; each host word is
 -- what the host maps its page to; and no two pages have one frame.
@@ -34,6 +42,4 @@ pub record StandsForFacts (z : Sizes) (w : World Held) (f : Facts) : Type 0 wher
 
 -- The words after a run stand for the facts that its history gives.
 abbrev pub WordsStandForFacts : Type 0
-WordsStandForFacts =
-    (z : Sizes) (lines : List Line) (w : World Held) (ss : List (Step Kind)) → IsRun z lines w ss
-    → StandsForFacts z (run mmu w ss) (after_all (history w ss) first_flat).facts
+WordsStandForFacts = InEveryRun (λ z w ss. StandsForFacts z (run mmu w ss) (after_all (history w ss) first_flat).facts)

@@ -15,7 +15,7 @@ use Rattle.mmu_core.specs.machine.Machine.{Step, World, answered, effect, hand_i
 use Rattle.mmu_core.specs.machine.Steps.{delays_at, has_line, place_at}
 use Rattle.mmu_core.specs.machine.Sums.{one_if, sum_below}
 use Rattle.mmu_core.specs.machine.Turns.{line_of}
-use Rattle.core_theorem.specs.Runs.{IsRun}
+use Rattle.core_theorem.specs.Runs.{AfterEveryRun, IsRun}
 
 -- A line is under way there.
 abbrev pub is_under_way : Place → Bool
@@ -121,6 +121,6 @@ AllStepsAreFew =
 -- What a hand has counted of its line's steps, since the line began or since its last delay, is no more than the line's command allows, after any
 -- run.
 abbrev pub CountsAreFew : Type 0
-CountsAreFew =
-    (z : Sizes) (lines : List Line) (w : World Held) (ss : List (Step Kind)) → IsRun z lines w ss → (actor : ℕ) → actor < actors_of z
-    → (hand_in mmu (run mmu w ss) actor).state.steps ≤ most_steps z (hand_in mmu (run mmu w ss) actor).state.line.command
+CountsAreFew = AfterEveryRun (λ z w.
+    (actor : ℕ) → actor < actors_of z
+    → (hand_in mmu w actor).state.steps ≤ most_steps z (hand_in mmu w actor).state.line.command)

@@ -1,20 +1,18 @@
 -- The tables that a walk holds after a run: those that it has gone through, and the one that it has come to.
-use Rattle.std.specs.Prelude.{◌≡◌, ◌<◌, ◌≤◌, ℕ, List, Some}
-use Rattle.core_views.specs.declared.kind.Kind.{Kind}
+use Rattle.std.specs.Prelude.{◌≡◌, ◌<◌, ◌≤◌, ℕ, Some}
 use Rattle.core_views.specs.declared.sizes.Sizes.{Sizes}
 use Rattle.core_views.specs.declared.topics.TableWalk.{TableWalk}
-use Rattle.core_views.specs.declared.trace.Line.{Line}
 use Rattle.core_views.specs.Held.{Held}
 use Rattle.core_views.specs.Sizes.{actors_of}
 use Rattle.spte_words.specs.declared.area.Area.TheVariants as area
 use Rattle.mmu_core.specs.invariant.AllOver.{AllOver, LeavesSay}
 use Rattle.mmu_core.specs.machine.View.{word_in}
 use Rattle.mmu_core.specs.machine.Enabled.{mmu}
-use Rattle.mmu_core.specs.machine.Machine.{Step, World, hand_in, run}
+use Rattle.mmu_core.specs.machine.Machine.{World, hand_in}
 use Rattle.mmu_core.specs.invariant.TreePart.{at, stands}
 pub use Rattle.mmu_core.specs.invariant.HeldPart.{span_at, table_at}
 use Rattle.core_theorem.specs.Pages.{PagesAreUsed}
-use Rattle.core_theorem.specs.Runs.{IsRun}
+use Rattle.core_theorem.specs.Runs.{AfterEveryRun}
 
 -- the walk of an actor
 abbrev pub walk_of : World Held → ℕ → TableWalk
@@ -41,6 +39,4 @@ pub record PagesAreHeld (z : Sizes) (w : World Held) (pages : PagesAreUsed z w) 
 
 -- Whatever account is given of the pages after a run, the walks hold their tables in it.
 abbrev pub WalksHoldTables : Type 0
-WalksHoldTables =
-    (z : Sizes) (lines : List Line) (w : World Held) (ss : List (Step Kind)) → IsRun z lines w ss
-    → (pages : PagesAreUsed z (run mmu w ss)) → PagesAreHeld z (run mmu w ss) pages
+WalksHoldTables = AfterEveryRun (λ z w. (pages : PagesAreUsed z w) → PagesAreHeld z w pages)

@@ -1,6 +1,6 @@
 //! Leaves, translations and look-ups in every run.
 ghost use Rattle.core_theorem.specs.Leaves.{HeldLeavesAgree, LeavesAreLowest, LinkedLeavesAgree, TranslationsAgree, UsedLeavesAgree};
-ghost use Rattle.core_theorem.specs.LookUps.{FoundSlotsAreHeld, HeldSlotsStand, LookedUpPagesStand};
+ghost use Rattle.core_theorem.specs.LookUps.{FoundSlotsAreHeld, FreshLookUpsAreTrue, HeldSlotsStand, LookedUpPagesStand};
 ghost use Rattle.core_theorem.specs.OpenFrames.{OpenFramesAreFlushed, OpenFramesAreOfThePage, OpenFramesAreRecorded, OpenFramesAreZapped};
 
 /// What leaves and cached translations say is what slots and host say, in every run, and what was
@@ -21,7 +21,12 @@ ghost use Rattle.core_theorem.specs.OpenFrames.{OpenFramesAreFlushed, OpenFrames
 /// that has a guest frame in this set is live in the published one, and the same, while the sequence
 /// number is the one that the actor took before and no invalidation of the frame is open that has yet
 /// to raise it. `looked`: so is what an actor has looked up of a host page, while no invalidation of
-/// the page is; but an absent page may have been brought in.
+/// the page is; but an absent page may have been brought in. `fresh`: where an access stands in its
+/// fault after the check under the lock, and up to the exchange that puts the leaf, this is so without
+/// these premises: its actor shares the lock, nobody's open invalidation is of the guest frame, the slot
+/// that it has found has the guest frame, and is live in the published set, and the same, and what it
+/// has seen of the page behind the guest frame is the page's host word, with the page in memory; and
+/// both allow the write, if the access is one (locking.rst, `mmu_invalidate_retry_gfn`).
 pub fn every_run_leaves()
     ensures leaves { LinkedLeavesAgree }
     ensures held { HeldLeavesAgree }
@@ -35,4 +40,5 @@ pub fn every_run_leaves()
     ensures found { FoundSlotsAreHeld }
     ensures held_slots { HeldSlotsStand }
     ensures looked { LookedUpPagesStand }
+    ensures fresh { FreshLookUpsAreTrue }
 {}

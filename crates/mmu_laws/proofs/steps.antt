@@ -18,10 +18,14 @@ pub mod PageFillers
 pub mod FilledRounds
 pub mod FoldedRuns
 pub mod ComputedRuns
+pub mod ExampleTightRun
 pub mod ExampleHostRun
 pub mod ExampleProtectRun
 pub mod ExampleLogRun
 pub mod ExampleLogAllRun
+pub mod ExampleMissesRun
+pub mod ExampleApartRun
+pub mod ExampleLeafRun
 pub mod ExampleReadsRun
 pub mod ExampleEvictRun
 pub mod ExampleMoveRun

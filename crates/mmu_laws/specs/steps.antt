@@ -8,11 +8,15 @@ pub mod ExampleSteps
 pub mod ExampleRuns
 pub mod ExampleStarves
 pub mod ExampleRaces
+pub mod ExampleTight
 pub mod ExampleWaits
 pub mod ExampleHost
 pub mod ExampleProtect
 pub mod ExampleLog
 pub mod ExampleLogAll
+pub mod ExampleMisses
+pub mod ExampleApart
+pub mod ExampleLeaf
 pub mod ExampleReads
 pub mod ExampleEvict
 pub mod ExampleMove

@@ -12,11 +12,15 @@ ghost use Rattle.mmu_laws.specs.steps.ExampleMove.{ExampleMove};
 ghost use Rattle.mmu_laws.specs.steps.ExampleOverlap.{ExampleOverlap};
 ghost use Rattle.mmu_laws.specs.steps.ExampleLog.{ExampleLog};
 ghost use Rattle.mmu_laws.specs.steps.ExampleLogAll.{ExampleLogAll};
+ghost use Rattle.mmu_laws.specs.steps.ExampleApart.{ExampleApart};
+ghost use Rattle.mmu_laws.specs.steps.ExampleLeaf.{ExampleLeaf};
+ghost use Rattle.mmu_laws.specs.steps.ExampleMisses.{ExampleMisses};
 ghost use Rattle.mmu_laws.specs.steps.ExampleReads.{ExampleReads};
 ghost use Rattle.mmu_laws.specs.steps.ExampleProtect.{ExampleProtect};
 ghost use Rattle.mmu_laws.specs.steps.ExampleRaces.{ExampleRaces};
 ghost use Rattle.mmu_laws.specs.steps.ExampleRuns.{ExamplePrints, ExampleRuns};
 ghost use Rattle.mmu_laws.specs.steps.ExampleStarves.{ExampleStarves};
+ghost use Rattle.mmu_laws.specs.steps.ExampleTight.{ExampleTight};
 ghost use Rattle.mmu_laws.specs.steps.ExampleWaits.{ExampleWaits};
 ghost use Rattle.mmu_core.specs.alone.FaultAlone.{FaultGoesThrough, LeadsDown};
 ghost use Rattle.mmu_core.specs.lines.FaultLaws.{FaultIsBounded, FaultMeetsNeeds, FaultStaysKnown, FaultStepsFall, PartsAnswer};
@@ -99,7 +103,9 @@ pub fn each_delay_has_its_cause()
 /// whose fault fills and links three tables and puts the leaf; then accesses that
 /// walk to this leaf or go by what is cached, and a write that a read-only slot
 /// refuses. In a pool that is too small an access is starved, and a slot line
-/// after it; where two processors write to one guest frame at a time, one
+/// after it, and in one of a page less than its lines need, one of two writes to a guest frame is,
+/// while a slot line has the old slot set still, and with the page more both go through;
+/// where two processors write to one guest frame at a time, one
 /// waits and begins anew; and a slot line beside a write waits for the page that the
 /// processor takes, for the lock that it shares, and until it has left the guest. A host
 /// thread's line zaps the leaf that a processor has cached, waits until this one has left the
@@ -127,12 +133,18 @@ pub fn each_delay_has_its_cause()
 /// log begins, each has its bit, and no write is forbidden. A get beside a write whose mark is owed
 /// reads nothing; the next one takes the mark, and forbids writes in the leaf again. And where a log
 /// is read by hand, a get shows each page, a clear takes one, and the next get shows the others.
+/// Where writes are forbidden in a leaf after a fault that has found them allowed there, the stay after it
+/// misses; and of two fast faults that have loaded a leaf one allows writes in it, and the exchange of
+/// the other one is lost, whose processor then writes before the page is marked. And a fault that finds the
+/// lock held waits for it, and goes through while an invalidation of another guest frame is open;
+/// and where two faults come to one absent leaf, one puts it, and the other one begins anew.
 pub fn the_steps_can_be_made()
     ensures starts { EveryMachineStarts }
     ensures goes_on { EachMayStep }
     ensures example { ExampleRuns }
     ensures prints { ExamplePrints }
     ensures starves { ExampleStarves }
+    ensures tight { ExampleTight }
     ensures races { ExampleRaces }
     ensures slot_waits { ExampleWaits }
     ensures host { ExampleHost }
@@ -144,6 +156,9 @@ pub fn the_steps_can_be_made()
     ensures log { ExampleLog }
     ensures log_all { ExampleLogAll }
     ensures reads { ExampleReads }
+    ensures misses { ExampleMisses }
+    ensures apart { ExampleApart }
+    ensures leaf { ExampleLeaf }
 {}
 
 /// What a step's numbers tell of it: each step that a hand allows is on a word of the

@@ -100,7 +100,14 @@ module _ (z : Sizes) (v : View) (a : ℕ) (line : Line) (command : Command) (fac
 
       begins : (b : Bool) → GoesBy z v a line command (task Exclude) (place.Log (if b then Take false else Root)) (Taken reads.0 ∷ []) facts past u
       begins b = record {
-        allowed = (inl (M.ready.under.1, ready.at_once z v a line command facts past u Exclude M None M.knows.1.0.accepted, ap log_read (ready.said z v a line command facts past u Exclude M) ∙ reads.1), tt);
+        allowed = (
+          inl (
+            M.ready.under.1,
+            ready.at_once z v a line command facts past u Exclude M None M.knows.1.0.accepted,
+            ap log_read (ready.said z v a line command facts past u Exclude M) ∙ reads.1,
+          ),
+          tt,
+        );
         refines = still Exclude M;
         under = (
           M.ready.under.0,
@@ -135,7 +142,8 @@ module _ (z : Sizes) (v : View) (a : ℕ) (line : Line) (command : Command) (fac
       by false =
           subst (λ o. Goes Await place.Between (harvested o frames ++ answering (after_log comes.Reads h.harvest) line)) (sym M.ready.under.1.2) (record {
             allowed = (
-              inl (ready.may_read z v a line command facts past u Await u.stage past M.ready.under.1.0 frames true M M.ready.under.1.1 M.ready.under.1.2 M.knows.2.1
+              inl (ready.may_read z v a line command facts past u Await u.stage past M.ready.under.1.0 frames true M M.ready.under.1.1 M.ready.under.1.2
+                  M.knows.2.1
                   (well M.ready.under.1.0 M.ready.under.1.2)),
               (
                 (
@@ -204,7 +212,11 @@ module _ (z : Sizes) (v : View) (a : ℕ) (line : Line) (command : Command) (fac
       frames = frames_read slot command words
 
       begins : (u.stage ≡ Fresh) × HasWork z facts h.state.actor u.line.command × (log_read u.line.command ≡ Some reads.0)
-      begins = (M.ready.under.1, ready.at_once z v a line command facts past u (Peek false) M None M.knows.1.accepted, ap log_read (ready.said z v a line command facts past u (Peek false) M) ∙ reads.1)
+      begins = (
+        M.ready.under.1,
+        ready.at_once z v a line command facts past u (Peek false) M None M.knows.1.accepted,
+        ap log_read (ready.said z v a line command facts past u (Peek false) M) ∙ reads.1,
+      )
 
       by : (last : Bool) → reads_last false slot command h.topics ≡ last
           → Goes (Peek false) (place_after (after_log (if last then comes.Reads else comes.Goes (Peek true)) words))

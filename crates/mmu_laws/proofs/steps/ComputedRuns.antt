@@ -1,7 +1,8 @@
--- Runs from a start, by computation of folded turns: what they tell, what an actor counts in them, and what a word holds after them.
+-- Runs from a start, by computation of folded turns: what they tell, what an actor counts in them, what a word holds after them, and where a line stands.
 use Rattle.std.proofs.Common.{◌≡◌, ◌≤◌, ℕ, List, length, sym, subst, ap, ◌∙◌}
 use Rattle.std.specs.Prelude.{All, true}
 use Rattle.core_views.specs.declared.event.Event.{Event}
+use Rattle.core_views.specs.declared.place.Place.{Place}
 use Rattle.core_views.specs.declared.sizes.Sizes.{Sizes}
 use Rattle.core_views.specs.declared.trace.Line.{Line}
 use Rattle.core_views.specs.Held.{Held}
@@ -15,7 +16,7 @@ use Rattle.mmu_core.specs.machine.View.{View, view}
 use Rattle.mmu_core.specs.machine.Worlds.{IsStart}
 use Rattle.mmu_core.proofs.start.Starts.{start_good}
 use Rattle.mmu_core.proofs.start.StartViews.{a_start, start_view, start_view_is}
-use Rattle.mmu_laws.specs.steps.ExampleSteps.{RunDelays, RunLeaves, RunTells, turns_of}
+use Rattle.mmu_laws.specs.steps.ExampleSteps.{RunDelays, RunLeaves, RunStands, RunTells, turns_of}
 use Rattle.mmu_laws.proofs.steps.FoldedRuns.{all_fold, fits_all, leads_all, tells_all, turns}
 use Rattle.mmu_laws.proofs.steps.ViewRuns.{HaveLines, Runs, tale, turned_all, turns_are, turns_lead}
 
@@ -93,4 +94,17 @@ run_leaves z lines ts a index value sizes allowed few fits holds =
       is_start = S.is_start;
       legal = (turns_are z S.world (turns ts) S.good S.have).0;
       holds = ap (λ (v : View). v.words a index) S.leads ∙ holds;
+    }
+
+-- Where a line stands after them, it stands after a run of worlds.
+pub run_stands : (z : Sizes) (lines : List Line) (ts : List (ℕ × List ℕ)) (actor : ℕ) (here : Place) → AreSizes z → All (May z) lines
+    → length lines ≤ 1000000 → fits_all z ts (start_view z lines) ≡ true → ((leads_all ts (start_view z lines)).hand actor).state.place ≡ here
+    → RunStands z lines (turns ts) actor here
+run_stands z lines ts actor here sizes allowed few fits stands =
+    let S = started z lines ts sizes allowed few fits in
+    record {
+      start = S.world;
+      is_start = S.is_start;
+      legal = (turns_are z S.world (turns ts) S.good S.have).0;
+      stands = ap (λ (v : View). (v.hand actor).state.place) S.leads ∙ stands;
     }

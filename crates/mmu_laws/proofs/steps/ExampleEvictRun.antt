@@ -56,69 +56,57 @@ rounds_to_forbid steps = rounds_to_write ++ (steps_of 50 2 ∷ steps_of 17 1 ∷
 abbrev evict_rounds : List (ℕ × List ℕ)
 evict_rounds = rounds_to_forbid 8 ++ (steps_of 41 1 ∷ [])
 
--- where the page is taken away
-evicted :
-    (fits_all run_sizes rounds_to_evict begun ≡ true)
-    × (word_after rounds_to_evict area.Host 65 ≡ host_word 65 false true 1)
-    × (word_after rounds_to_evict area.Pool (pool_index 4 6) ≡ 0)
-    × (word_after rounds_to_evict area.Content (content_index (map_of run_sizes) 65 0) ≡ 7)
-unfolding flushed topics_after place kind_of level_span table_word frozen_word content_index pool_index absent_word frame_in mapped_frame leaf_word flags_live
-    flags_read_only flags_word host_allows_write host_frame host_present host_level host_word can_write is_leaf_at flags_logged count_trailing_zeros
-evicted = (refl, refl, refl, refl)
+-- The checkpoints of the run: what holds after so many of its steps.
+record Checkpoints : Type 0 where
+  -- where the page is taken away
+  evicted :
+      (fits_all run_sizes rounds_to_evict begun ≡ true)
+      × (word_after rounds_to_evict area.Host 65 ≡ host_word 65 false true 1)
+      × (word_after rounds_to_evict area.Pool (pool_index 4 6) ≡ 0)
+      × (word_after rounds_to_evict area.Content (content_index (map_of run_sizes) 65 0) ≡ 7)
+  -- where it is brought in
+  brought :
+      (fits_all run_sizes rounds_to_bring begun ≡ true)
+      × (word_after rounds_to_bring area.Host 65 ≡ host_word 65 true true 1)
+  -- where the second processor has read
+  read :
+      (fits_all run_sizes rounds_to_read begun ≡ true)
+      × (word_after rounds_to_read area.Pool (pool_index 4 6) ≡ leaf_word 1 65 true true true)
+  -- up to the write for which the page was brought in
+  written :
+      (fits_all run_sizes rounds_to_write begun ≡ true)
+      × (tells_all rounds_to_write begun ≡ events_to_write)
+      × (delays_after rounds_to_write 1 ≡ 1)
+  -- after the exchange that is lost
+  lost :
+      (fits_all run_sizes (rounds_to_forbid 1) begun ≡ true)
+      × (word_after (rounds_to_forbid 1) area.Host 65 ≡ host_word 65 true true 1)
+  -- after the next one
+  won :
+      (fits_all run_sizes (rounds_to_forbid 2) begun ≡ true)
+      × (word_after (rounds_to_forbid 2) area.Host 65 ≡ host_word 65 true false 1)
+  -- the whole run
+  whole :
+      (fits_all run_sizes evict_rounds begun ≡ true)
+      × (tells_all evict_rounds begun ≡ evict_events)
+      × (delays_after evict_rounds 1 ≡ 1)
+      × (delays_after evict_rounds 2 ≡ 0)
+      × (word_after evict_rounds area.Pool (pool_index 4 6) ≡ leaf_word 1 65 false false false)
+      × (word_after evict_rounds area.Seq 0 ≡ 3)
+      × (word_after evict_rounds area.Count 0 ≡ 0)
 
--- where it is brought in
-brought :
-    (fits_all run_sizes rounds_to_bring begun ≡ true)
-    × (word_after rounds_to_bring area.Host 65 ≡ host_word 65 true true 1)
+checkpoints : Checkpoints
 unfolding flushed topics_after place kind_of level_span table_word frozen_word content_index pool_index absent_word frame_in mapped_frame leaf_word flags_live
     flags_read_only flags_word host_allows_write host_frame host_present host_level host_word can_write is_leaf_at flags_logged count_trailing_zeros
-brought = (refl, refl)
-
--- where the second processor has read
-read :
-    (fits_all run_sizes rounds_to_read begun ≡ true)
-    × (word_after rounds_to_read area.Pool (pool_index 4 6) ≡ leaf_word 1 65 true true true)
-unfolding flushed topics_after place kind_of level_span table_word frozen_word content_index pool_index absent_word frame_in mapped_frame leaf_word flags_live
-    flags_read_only flags_word host_allows_write host_frame host_present host_level host_word can_write is_leaf_at flags_logged count_trailing_zeros
-read = (refl, refl)
-
--- up to the write for which the page was brought in
-written :
-    (fits_all run_sizes rounds_to_write begun ≡ true)
-    × (tells_all rounds_to_write begun ≡ events_to_write)
-    × (delays_after rounds_to_write 1 ≡ 1)
-unfolding flushed topics_after place kind_of level_span table_word frozen_word content_index pool_index absent_word frame_in mapped_frame leaf_word flags_live
-    flags_read_only flags_word host_allows_write host_frame host_present host_level host_word can_write is_leaf_at flags_logged count_trailing_zeros
-written = (refl, refl, refl)
-
--- after the exchange that is lost
-lost :
-    (fits_all run_sizes (rounds_to_forbid 1) begun ≡ true)
-    × (word_after (rounds_to_forbid 1) area.Host 65 ≡ host_word 65 true true 1)
-unfolding flushed topics_after place kind_of level_span table_word frozen_word content_index pool_index absent_word frame_in mapped_frame leaf_word flags_live
-    flags_read_only flags_word host_allows_write host_frame host_present host_level host_word can_write is_leaf_at flags_logged count_trailing_zeros
-lost = (refl, refl)
-
--- after the next one
-won :
-    (fits_all run_sizes (rounds_to_forbid 2) begun ≡ true)
-    × (word_after (rounds_to_forbid 2) area.Host 65 ≡ host_word 65 true false 1)
-unfolding flushed topics_after place kind_of level_span table_word frozen_word content_index pool_index absent_word frame_in mapped_frame leaf_word flags_live
-    flags_read_only flags_word host_allows_write host_frame host_present host_level host_word can_write is_leaf_at flags_logged count_trailing_zeros
-won = (refl, refl)
-
--- the whole run
-whole :
-    (fits_all run_sizes evict_rounds begun ≡ true)
-    × (tells_all evict_rounds begun ≡ evict_events)
-    × (delays_after evict_rounds 1 ≡ 1)
-    × (delays_after evict_rounds 2 ≡ 0)
-    × (word_after evict_rounds area.Pool (pool_index 4 6) ≡ leaf_word 1 65 false false false)
-    × (word_after evict_rounds area.Seq 0 ≡ 3)
-    × (word_after evict_rounds area.Count 0 ≡ 0)
-unfolding flushed topics_after place kind_of level_span table_word frozen_word content_index pool_index absent_word frame_in mapped_frame leaf_word flags_live
-    flags_read_only flags_word host_allows_write host_frame host_present host_level host_word can_write is_leaf_at flags_logged count_trailing_zeros
-whole = (refl, refl, refl, refl, refl, refl, refl)
+checkpoints = record {
+  evicted = (refl, refl, refl, refl);
+  brought = (refl, refl);
+  read = (refl, refl);
+  written = (refl, refl, refl);
+  lost = (refl, refl);
+  won = (refl, refl);
+  whole = (refl, refl, refl, refl, refl, refl, refl);
+}
 
 evict_allowed : All (May run_sizes) evict_lines
 evict_allowed =
@@ -162,18 +150,18 @@ leaves rounds a index value = run_leaves run_sizes evict_lines rounds a index va
 
 pub example_evict : ExampleEvict
 example_evict = (
-  counts rounds_to_write events_to_write 1 1 written.0 written.1 written.2,
-  counts evict_rounds evict_events 1 1 whole.0 whole.1 whole.2,
-  counts evict_rounds evict_events 2 0 whole.0 whole.1 whole.3,
-  leaves rounds_to_evict area.Host 65 (host_word 65 false true 1) evicted.0 evicted.1,
-  leaves rounds_to_evict area.Pool (pool_index 4 6) 0 evicted.0 evicted.2,
-  leaves rounds_to_evict area.Content (content_index (map_of run_sizes) 65 0) 7 evicted.0 evicted.3,
-  leaves rounds_to_bring area.Host 65 (host_word 65 true true 1) brought.0 brought.1,
-  leaves rounds_to_read area.Pool (pool_index 4 6) (leaf_word 1 65 true true true) read.0 read.1,
-  leaves (rounds_to_forbid 1) area.Host 65 (host_word 65 true true 1) lost.0 lost.1,
-  leaves (rounds_to_forbid 2) area.Host 65 (host_word 65 true false 1) won.0 won.1,
-  leaves evict_rounds area.Pool (pool_index 4 6) (leaf_word 1 65 false false false) whole.0 whole.4,
-  leaves evict_rounds area.Seq 0 3 whole.0 whole.5,
-  leaves evict_rounds area.Count 0 0 whole.0 whole.6,
+  counts rounds_to_write events_to_write 1 1 checkpoints.written.0 checkpoints.written.1 checkpoints.written.2,
+  counts evict_rounds evict_events 1 1 checkpoints.whole.0 checkpoints.whole.1 checkpoints.whole.2,
+  counts evict_rounds evict_events 2 0 checkpoints.whole.0 checkpoints.whole.1 checkpoints.whole.3,
+  leaves rounds_to_evict area.Host 65 (host_word 65 false true 1) checkpoints.evicted.0 checkpoints.evicted.1,
+  leaves rounds_to_evict area.Pool (pool_index 4 6) 0 checkpoints.evicted.0 checkpoints.evicted.2,
+  leaves rounds_to_evict area.Content (content_index (map_of run_sizes) 65 0) 7 checkpoints.evicted.0 checkpoints.evicted.3,
+  leaves rounds_to_bring area.Host 65 (host_word 65 true true 1) checkpoints.brought.0 checkpoints.brought.1,
+  leaves rounds_to_read area.Pool (pool_index 4 6) (leaf_word 1 65 true true true) checkpoints.read.0 checkpoints.read.1,
+  leaves (rounds_to_forbid 1) area.Host 65 (host_word 65 true true 1) checkpoints.lost.0 checkpoints.lost.1,
+  leaves (rounds_to_forbid 2) area.Host 65 (host_word 65 true false 1) checkpoints.won.0 checkpoints.won.1,
+  leaves evict_rounds area.Pool (pool_index 4 6) (leaf_word 1 65 false false false) checkpoints.whole.0 checkpoints.whole.4,
+  leaves evict_rounds area.Seq 0 3 checkpoints.whole.0 checkpoints.whole.5,
+  leaves evict_rounds area.Count 0 0 checkpoints.whole.0 checkpoints.whole.6,
   evict_prints,
 )

@@ -40,43 +40,40 @@ rounds_to_zap steps = steps_of 524 3 ∷ steps_of 1581 0 ∷ steps_of 2 0 ∷ st
 abbrev host_rounds : List (ℕ × List ℕ)
 host_rounds = steps_of 524 3 ∷ steps_of 1581 0 ∷ steps_of 2 0 ∷ steps_of 20 2 ∷ steps_of 2 0 ∷ steps_of 3 2 ∷ steps_of 21 1 ∷ steps_of 7 2 ∷ steps_of 37 1 ∷ []
 
--- before the leaf is zapped
-before_zap :
-    (fits_all run_sizes (rounds_to_zap 16) begun ≡ true)
-    × (word_after (rounds_to_zap 16) area.Pool (pool_index 4 6) ≡ leaf_word 1 65 true true true)
-unfolding flushed topics_after place kind_of level_span table_word frozen_word content_index pool_index absent_word frame_in mapped_frame leaf_word flags_live
-    flags_read_only flags_word host_allows_write host_frame host_present host_level host_word can_write is_leaf_at flags_logged count_trailing_zeros
-before_zap = (refl, refl)
+-- The checkpoints of the run: what holds after so many of its steps.
+record Checkpoints : Type 0 where
+  -- before the leaf is zapped
+  before_zap :
+      (fits_all run_sizes (rounds_to_zap 16) begun ≡ true)
+      × (word_after (rounds_to_zap 16) area.Pool (pool_index 4 6) ≡ leaf_word 1 65 true true true)
+  -- after it
+  zapped :
+      (fits_all run_sizes (rounds_to_zap 17) begun ≡ true)
+      × (word_after (rounds_to_zap 17) area.Pool (pool_index 4 6) ≡ 0)
+      × (word_after (rounds_to_zap 17) area.Count 0 ≡ 1)
+      × (word_after (rounds_to_zap 17) area.RangeStart 0 ≡ 6)
+      × (word_after (rounds_to_zap 17) area.RangeEnd 0 ≡ 7)
+  -- where the first processor is asked for a flush
+  asked :
+      (fits_all run_sizes (rounds_to_zap 18) begun ≡ true)
+      × (word_after (rounds_to_zap 18) area.State 0 ≡ 7)
+  -- the whole run
+  whole :
+      (fits_all run_sizes host_rounds begun ≡ true)
+      × (tells_all host_rounds begun ≡ host_events)
+      × (delays_after host_rounds 2 ≡ 1)
+      × (word_after host_rounds area.Seq 0 ≡ 1)
+      × (word_after host_rounds area.Count 0 ≡ 0)
 
--- after it
-zapped :
-    (fits_all run_sizes (rounds_to_zap 17) begun ≡ true)
-    × (word_after (rounds_to_zap 17) area.Pool (pool_index 4 6) ≡ 0)
-    × (word_after (rounds_to_zap 17) area.Count 0 ≡ 1)
-    × (word_after (rounds_to_zap 17) area.RangeStart 0 ≡ 6)
-    × (word_after (rounds_to_zap 17) area.RangeEnd 0 ≡ 7)
+checkpoints : Checkpoints
 unfolding flushed topics_after place kind_of level_span table_word frozen_word content_index pool_index absent_word frame_in mapped_frame leaf_word flags_live
     flags_read_only flags_word host_allows_write host_frame host_present host_level host_word can_write is_leaf_at flags_logged count_trailing_zeros
-zapped = (refl, refl, refl, refl, refl)
-
--- where the first processor is asked for a flush
-asked :
-    (fits_all run_sizes (rounds_to_zap 18) begun ≡ true)
-    × (word_after (rounds_to_zap 18) area.State 0 ≡ 7)
-unfolding flushed topics_after place kind_of level_span table_word frozen_word content_index pool_index absent_word frame_in mapped_frame leaf_word flags_live
-    flags_read_only flags_word host_allows_write host_frame host_present host_level host_word can_write is_leaf_at flags_logged count_trailing_zeros
-asked = (refl, refl)
-
--- the whole run
-whole :
-    (fits_all run_sizes host_rounds begun ≡ true)
-    × (tells_all host_rounds begun ≡ host_events)
-    × (delays_after host_rounds 2 ≡ 1)
-    × (word_after host_rounds area.Seq 0 ≡ 1)
-    × (word_after host_rounds area.Count 0 ≡ 0)
-unfolding flushed topics_after place kind_of level_span table_word frozen_word content_index pool_index absent_word frame_in mapped_frame leaf_word flags_live
-    flags_read_only flags_word host_allows_write host_frame host_present host_level host_word can_write is_leaf_at flags_logged count_trailing_zeros
-whole = (refl, refl, refl, refl, refl)
+checkpoints = record {
+  before_zap = (refl, refl);
+  zapped = (refl, refl, refl, refl, refl);
+  asked = (refl, refl);
+  whole = (refl, refl, refl, refl, refl);
+}
 
 host_allowed : All (May run_sizes) host_lines
 host_allowed =
@@ -111,14 +108,14 @@ leaves rounds a index value = run_leaves run_sizes host_lines rounds a index val
 
 pub example_host : ExampleHost
 example_host = (
-  counts host_rounds host_events 2 1 whole.0 whole.1 whole.2,
-  leaves (rounds_to_zap 16) area.Pool (pool_index 4 6) (leaf_word 1 65 true true true) before_zap.0 before_zap.1,
-  leaves (rounds_to_zap 17) area.Pool (pool_index 4 6) 0 zapped.0 zapped.1,
-  leaves (rounds_to_zap 17) area.Count 0 1 zapped.0 zapped.2,
-  leaves (rounds_to_zap 17) area.RangeStart 0 6 zapped.0 zapped.3,
-  leaves (rounds_to_zap 17) area.RangeEnd 0 7 zapped.0 zapped.4,
-  leaves (rounds_to_zap 18) area.State 0 7 asked.0 asked.1,
-  leaves host_rounds area.Seq 0 1 whole.0 whole.3,
-  leaves host_rounds area.Count 0 0 whole.0 whole.4,
+  counts host_rounds host_events 2 1 checkpoints.whole.0 checkpoints.whole.1 checkpoints.whole.2,
+  leaves (rounds_to_zap 16) area.Pool (pool_index 4 6) (leaf_word 1 65 true true true) checkpoints.before_zap.0 checkpoints.before_zap.1,
+  leaves (rounds_to_zap 17) area.Pool (pool_index 4 6) 0 checkpoints.zapped.0 checkpoints.zapped.1,
+  leaves (rounds_to_zap 17) area.Count 0 1 checkpoints.zapped.0 checkpoints.zapped.2,
+  leaves (rounds_to_zap 17) area.RangeStart 0 6 checkpoints.zapped.0 checkpoints.zapped.3,
+  leaves (rounds_to_zap 17) area.RangeEnd 0 7 checkpoints.zapped.0 checkpoints.zapped.4,
+  leaves (rounds_to_zap 18) area.State 0 7 checkpoints.asked.0 checkpoints.asked.1,
+  leaves host_rounds area.Seq 0 1 checkpoints.whole.0 checkpoints.whole.3,
+  leaves host_rounds area.Count 0 0 checkpoints.whole.0 checkpoints.whole.4,
   host_prints,
 )

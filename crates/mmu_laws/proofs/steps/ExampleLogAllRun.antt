@@ -39,34 +39,32 @@ all_rounds steps = steps_of 524 3 ∷ steps_of 1581 0 ∷ steps_of steps 3 ∷ [
 abbrev wide_rounds : List (ℕ × List ℕ)
 wide_rounds = steps_of 1041 3 ∷ []
 
--- where the log begins with each page dirty
-set_all :
-    (fits_all all_set_sizes (all_rounds 516) begun ≡ true)
-    × (word_after (all_rounds 516) begun area.Log 1 ≡ 7)
-unfolding flushed topics_after place kind_of level_span table_word frozen_word content_index pool_index absent_word frame_in mapped_frame leaf_word flags_live
-    flags_read_only flags_word host_allows_write host_frame host_present host_level host_word can_write is_leaf_at flags_logged count_trailing_zeros
-    without_write
-set_all = (refl, refl)
+-- The checkpoints of the run: what holds after so many of its steps.
+record Checkpoints : Type 0 where
+  -- where the log begins with each page dirty
+  set_all :
+      (fits_all all_set_sizes (all_rounds 516) begun ≡ true)
+      × (word_after (all_rounds 516) begun area.Log 1 ≡ 7)
+  all_whole :
+      (fits_all all_set_sizes (all_rounds 525) begun ≡ true)
+      × (tells_all (all_rounds 525) begun ≡ all_set_events)
+      × (((leads_all (all_rounds 525) begun).hand 3).state.delays ≡ 0)
+      × (word_after (all_rounds 525) begun area.Pool (pool_index 4 6) ≡ leaf_word 1 65 true true true)
+  -- where the log has two words
+  wide :
+      (fits_all all_set_sizes wide_rounds wide_begun ≡ true)
+      × (word_after wide_rounds wide_begun area.Log 0 ≡ 2 ^ 64 - 1)
+      × (word_after wide_rounds wide_begun area.Log 1 ≡ 2 ^ 36 - 1)
 
-all_whole :
-    (fits_all all_set_sizes (all_rounds 525) begun ≡ true)
-    × (tells_all (all_rounds 525) begun ≡ all_set_events)
-    × (((leads_all (all_rounds 525) begun).hand 3).state.delays ≡ 0)
-    × (word_after (all_rounds 525) begun area.Pool (pool_index 4 6) ≡ leaf_word 1 65 true true true)
+checkpoints : Checkpoints
 unfolding flushed topics_after place kind_of level_span table_word frozen_word content_index pool_index absent_word frame_in mapped_frame leaf_word flags_live
     flags_read_only flags_word host_allows_write host_frame host_present host_level host_word can_write is_leaf_at flags_logged count_trailing_zeros
     without_write
-all_whole = (refl, refl, refl, refl)
-
--- where the log has two words
-wide :
-    (fits_all all_set_sizes wide_rounds wide_begun ≡ true)
-    × (word_after wide_rounds wide_begun area.Log 0 ≡ 2 ^ 64 - 1)
-    × (word_after wide_rounds wide_begun area.Log 1 ≡ 2 ^ 36 - 1)
-unfolding flushed topics_after place kind_of level_span table_word frozen_word content_index pool_index absent_word frame_in mapped_frame leaf_word flags_live
-    flags_read_only flags_word host_allows_write host_frame host_present host_level host_word can_write is_leaf_at flags_logged count_trailing_zeros
-    without_write
-wide = (refl, refl, refl)
+checkpoints = record {
+  set_all = (refl, refl);
+  all_whole = (refl, refl, refl, refl);
+  wide = (refl, refl, refl);
+}
 
 all_allowed : All (May all_set_sizes) all_set_lines
 all_allowed =
@@ -99,10 +97,11 @@ all_in_range =
 
 pub example_log_all : ExampleLogAll
 example_log_all = (
-  run_delays all_set_sizes all_set_lines (all_rounds 525) all_set_events 3 0 all_in_range all_allowed (omega arith) all_whole.0 all_whole.1 all_whole.2,
-  run_leaves all_set_sizes all_set_lines (all_rounds 516) area.Log 1 7 all_in_range all_allowed (omega arith) set_all.0 set_all.1,
-  run_leaves all_set_sizes wide_lines wide_rounds area.Log 0 (2 ^ 64 - 1) all_in_range wide_allowed (omega arith) wide.0 wide.1,
-  run_leaves all_set_sizes wide_lines wide_rounds area.Log 1 (2 ^ 36 - 1) all_in_range wide_allowed (omega arith) wide.0 wide.2,
+  run_delays all_set_sizes all_set_lines (all_rounds 525) all_set_events 3 0
+      all_in_range all_allowed (omega arith) checkpoints.all_whole.0 checkpoints.all_whole.1 checkpoints.all_whole.2,
+  run_leaves all_set_sizes all_set_lines (all_rounds 516) area.Log 1 7 all_in_range all_allowed (omega arith) checkpoints.set_all.0 checkpoints.set_all.1,
+  run_leaves all_set_sizes wide_lines wide_rounds area.Log 0 (2 ^ 64 - 1) all_in_range wide_allowed (omega arith) checkpoints.wide.0 checkpoints.wide.1,
+  run_leaves all_set_sizes wide_lines wide_rounds area.Log 1 (2 ^ 36 - 1) all_in_range wide_allowed (omega arith) checkpoints.wide.0 checkpoints.wide.2,
   run_leaves all_set_sizes all_set_lines (all_rounds 525) area.Pool (pool_index 4 6) (leaf_word 1 65 true true true) all_in_range all_allowed (omega arith)
-      all_whole.0 all_whole.3,
+      checkpoints.all_whole.0 checkpoints.all_whole.3,
 )

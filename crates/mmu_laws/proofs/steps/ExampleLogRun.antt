@@ -48,95 +48,65 @@ log_rounds = rounds_to_write 31 ++ (steps_of 524 3 ∷ [])
 abbrev rounds_again : ℕ → List (ℕ × List ℕ)
 rounds_again steps = log_rounds ++ (steps_of steps 3 ∷ [])
 
--- before the first leaf forbids writes, and after it
-first_before :
-    (fits_all run_sizes (rounds_to_log 9) begun ≡ true)
-    × (word_after (rounds_to_log 9) begun area.Pool (pool_index 4 6) ≡ leaf_word 1 65 true true true)
-unfolding flushed topics_after place kind_of level_span table_word frozen_word content_index pool_index absent_word frame_in mapped_frame leaf_word flags_live
-    flags_read_only flags_word host_allows_write host_frame host_present host_level host_word can_write is_leaf_at flags_logged count_trailing_zeros
-    without_write
-first_before = (refl, refl)
+-- The checkpoints of the run: what holds after so many of its steps.
+record Checkpoints : Type 0 where
+  -- before the first leaf forbids writes, and after it
+  first_before :
+      (fits_all run_sizes (rounds_to_log 9) begun ≡ true)
+      × (word_after (rounds_to_log 9) begun area.Pool (pool_index 4 6) ≡ leaf_word 1 65 true true true)
+  first_forbids :
+      (fits_all run_sizes (rounds_to_log 10) begun ≡ true)
+      × (word_after (rounds_to_log 10) begun area.Pool (pool_index 4 6) ≡ leaf_word 1 65 false true true)
+  -- the same of the second one
+  second_before :
+      (fits_all run_sizes (rounds_to_log 11) begun ≡ true)
+      × (word_after (rounds_to_log 11) begun area.Pool (pool_index 4 7) ≡ leaf_word 1 66 true true true)
+  second_forbids :
+      (fits_all run_sizes (rounds_to_log 12) begun ≡ true)
+      × (word_after (rounds_to_log 12) begun area.Pool (pool_index 4 7) ≡ leaf_word 1 66 false true true)
+  -- up to the begin of the log
+  logged :
+      (fits_all run_sizes (rounds_to_log 19) begun ≡ true)
+      × (tells_all (rounds_to_log 19) begun ≡ events_to_log)
+      × (delays_after (rounds_to_log 19) begun 3 ≡ 1)
+  -- where the write owes its mark, and after it
+  owes :
+      (fits_all run_sizes (rounds_to_write 20) begun ≡ true)
+      × (word_after (rounds_to_write 20) begun area.Pool (pool_index 4 6) ≡ leaf_word 1 65 true true true)
+      × (word_after (rounds_to_write 20) begun area.Log 1 ≡ 0)
+  marked :
+      (fits_all run_sizes (rounds_to_write 21) begun ≡ true)
+      × (word_after (rounds_to_write 21) begun area.Log 1 ≡ 2)
+  -- the whole run
+  whole :
+      (fits_all run_sizes log_rounds begun ≡ true)
+      × (tells_all log_rounds begun ≡ log_events)
+      × (delays_after log_rounds begun 3 ≡ 0)
+      × (word_after log_rounds begun area.Pool (pool_index 4 7) ≡ leaf_word 1 66 false true true)
+  -- before the log's word is set as it begins again, and after it
+  before_again :
+      (fits_all run_sizes (rounds_again 515) begun ≡ true)
+      × (word_after (rounds_again 515) begun area.Log 1 ≡ 2)
+  again :
+      (fits_all run_sizes (rounds_again 516) begun ≡ true)
+      × (word_after (rounds_again 516) begun area.Log 1 ≡ 0)
 
-first_forbids :
-    (fits_all run_sizes (rounds_to_log 10) begun ≡ true)
-    × (word_after (rounds_to_log 10) begun area.Pool (pool_index 4 6) ≡ leaf_word 1 65 false true true)
-unfolding flushed topics_after place kind_of level_span table_word frozen_word content_index pool_index absent_word frame_in mapped_frame leaf_word flags_live
-    flags_read_only flags_word host_allows_write host_frame host_present host_level host_word can_write is_leaf_at flags_logged count_trailing_zeros
-    without_write
-first_forbids = (refl, refl)
-
--- the same of the second one
-second_before :
-    (fits_all run_sizes (rounds_to_log 11) begun ≡ true)
-    × (word_after (rounds_to_log 11) begun area.Pool (pool_index 4 7) ≡ leaf_word 1 66 true true true)
-unfolding flushed topics_after place kind_of level_span table_word frozen_word content_index pool_index absent_word frame_in mapped_frame leaf_word flags_live
-    flags_read_only flags_word host_allows_write host_frame host_present host_level host_word can_write is_leaf_at flags_logged count_trailing_zeros
-    without_write
-second_before = (refl, refl)
-
-second_forbids :
-    (fits_all run_sizes (rounds_to_log 12) begun ≡ true)
-    × (word_after (rounds_to_log 12) begun area.Pool (pool_index 4 7) ≡ leaf_word 1 66 false true true)
-unfolding flushed topics_after place kind_of level_span table_word frozen_word content_index pool_index absent_word frame_in mapped_frame leaf_word flags_live
-    flags_read_only flags_word host_allows_write host_frame host_present host_level host_word can_write is_leaf_at flags_logged count_trailing_zeros
-    without_write
-second_forbids = (refl, refl)
-
--- up to the begin of the log
-logged :
-    (fits_all run_sizes (rounds_to_log 19) begun ≡ true)
-    × (tells_all (rounds_to_log 19) begun ≡ events_to_log)
-    × (delays_after (rounds_to_log 19) begun 3 ≡ 1)
-unfolding flushed topics_after place kind_of level_span table_word frozen_word content_index pool_index absent_word frame_in mapped_frame leaf_word flags_live
-    flags_read_only flags_word host_allows_write host_frame host_present host_level host_word can_write is_leaf_at flags_logged count_trailing_zeros
-    without_write
-logged = (refl, refl, refl)
-
--- where the write owes its mark, and after it
-owes :
-    (fits_all run_sizes (rounds_to_write 20) begun ≡ true)
-    × (word_after (rounds_to_write 20) begun area.Pool (pool_index 4 6) ≡ leaf_word 1 65 true true true)
-    × (word_after (rounds_to_write 20) begun area.Log 1 ≡ 0)
+checkpoints : Checkpoints
 unfolding flushed topics_after place kind_of level_span table_word frozen_word content_index pool_index absent_word frame_in mapped_frame leaf_word flags_live
     flags_read_only flags_word host_allows_write host_frame host_present host_level host_word can_write is_leaf_at flags_logged count_trailing_zeros
     without_write with_write host_writable mmu_writable
-owes = (refl, refl, refl)
-
-marked :
-    (fits_all run_sizes (rounds_to_write 21) begun ≡ true)
-    × (word_after (rounds_to_write 21) begun area.Log 1 ≡ 2)
-unfolding flushed topics_after place kind_of level_span table_word frozen_word content_index pool_index absent_word frame_in mapped_frame leaf_word flags_live
-    flags_read_only flags_word host_allows_write host_frame host_present host_level host_word can_write is_leaf_at flags_logged count_trailing_zeros
-    without_write with_write host_writable mmu_writable
-marked = (refl, refl)
-
--- the whole run
-whole :
-    (fits_all run_sizes log_rounds begun ≡ true)
-    × (tells_all log_rounds begun ≡ log_events)
-    × (delays_after log_rounds begun 3 ≡ 0)
-    × (word_after log_rounds begun area.Pool (pool_index 4 7) ≡ leaf_word 1 66 false true true)
-unfolding flushed topics_after place kind_of level_span table_word frozen_word content_index pool_index absent_word frame_in mapped_frame leaf_word flags_live
-    flags_read_only flags_word host_allows_write host_frame host_present host_level host_word can_write is_leaf_at flags_logged count_trailing_zeros
-    without_write with_write host_writable mmu_writable
-whole = (refl, refl, refl, refl)
-
--- before the log's word is set as it begins again, and after it
-before_again :
-    (fits_all run_sizes (rounds_again 515) begun ≡ true)
-    × (word_after (rounds_again 515) begun area.Log 1 ≡ 2)
-unfolding flushed topics_after place kind_of level_span table_word frozen_word content_index pool_index absent_word frame_in mapped_frame leaf_word flags_live
-    flags_read_only flags_word host_allows_write host_frame host_present host_level host_word can_write is_leaf_at flags_logged count_trailing_zeros
-    without_write with_write host_writable mmu_writable
-before_again = (refl, refl)
-
-again :
-    (fits_all run_sizes (rounds_again 516) begun ≡ true)
-    × (word_after (rounds_again 516) begun area.Log 1 ≡ 0)
-unfolding flushed topics_after place kind_of level_span table_word frozen_word content_index pool_index absent_word frame_in mapped_frame leaf_word flags_live
-    flags_read_only flags_word host_allows_write host_frame host_present host_level host_word can_write is_leaf_at flags_logged count_trailing_zeros
-    without_write with_write host_writable mmu_writable
-again = (refl, refl)
+checkpoints = record {
+  first_before = (refl, refl);
+  first_forbids = (refl, refl);
+  second_before = (refl, refl);
+  second_forbids = (refl, refl);
+  logged = (refl, refl, refl);
+  owes = (refl, refl, refl);
+  marked = (refl, refl);
+  whole = (refl, refl, refl, refl);
+  before_again = (refl, refl);
+  again = (refl, refl);
+}
 
 log_allowed : All (May run_sizes) log_lines
 log_allowed =
@@ -175,17 +145,17 @@ leaves rounds a index value = run_leaves run_sizes log_lines rounds a index valu
 
 pub example_log : ExampleLog
 example_log = (
-  counts (rounds_to_log 19) events_to_log 3 1 logged.0 logged.1 logged.2,
-  counts log_rounds log_events 3 0 whole.0 whole.1 whole.2,
-  leaves (rounds_to_log 9) area.Pool (pool_index 4 6) (leaf_word 1 65 true true true) first_before.0 first_before.1,
-  leaves (rounds_to_log 10) area.Pool (pool_index 4 6) (leaf_word 1 65 false true true) first_forbids.0 first_forbids.1,
-  leaves (rounds_to_log 11) area.Pool (pool_index 4 7) (leaf_word 1 66 true true true) second_before.0 second_before.1,
-  leaves (rounds_to_log 12) area.Pool (pool_index 4 7) (leaf_word 1 66 false true true) second_forbids.0 second_forbids.1,
-  leaves (rounds_to_write 20) area.Pool (pool_index 4 6) (leaf_word 1 65 true true true) owes.0 owes.1,
-  leaves (rounds_to_write 20) area.Log 1 0 owes.0 owes.2,
-  leaves (rounds_to_write 21) area.Log 1 2 marked.0 marked.1,
-  leaves log_rounds area.Pool (pool_index 4 7) (leaf_word 1 66 false true true) whole.0 whole.3,
-  leaves (rounds_again 515) area.Log 1 2 before_again.0 before_again.1,
-  leaves (rounds_again 516) area.Log 1 0 again.0 again.1,
+  counts (rounds_to_log 19) events_to_log 3 1 checkpoints.logged.0 checkpoints.logged.1 checkpoints.logged.2,
+  counts log_rounds log_events 3 0 checkpoints.whole.0 checkpoints.whole.1 checkpoints.whole.2,
+  leaves (rounds_to_log 9) area.Pool (pool_index 4 6) (leaf_word 1 65 true true true) checkpoints.first_before.0 checkpoints.first_before.1,
+  leaves (rounds_to_log 10) area.Pool (pool_index 4 6) (leaf_word 1 65 false true true) checkpoints.first_forbids.0 checkpoints.first_forbids.1,
+  leaves (rounds_to_log 11) area.Pool (pool_index 4 7) (leaf_word 1 66 true true true) checkpoints.second_before.0 checkpoints.second_before.1,
+  leaves (rounds_to_log 12) area.Pool (pool_index 4 7) (leaf_word 1 66 false true true) checkpoints.second_forbids.0 checkpoints.second_forbids.1,
+  leaves (rounds_to_write 20) area.Pool (pool_index 4 6) (leaf_word 1 65 true true true) checkpoints.owes.0 checkpoints.owes.1,
+  leaves (rounds_to_write 20) area.Log 1 0 checkpoints.owes.0 checkpoints.owes.2,
+  leaves (rounds_to_write 21) area.Log 1 2 checkpoints.marked.0 checkpoints.marked.1,
+  leaves log_rounds area.Pool (pool_index 4 7) (leaf_word 1 66 false true true) checkpoints.whole.0 checkpoints.whole.3,
+  leaves (rounds_again 515) area.Log 1 2 checkpoints.before_again.0 checkpoints.before_again.1,
+  leaves (rounds_again 516) area.Log 1 0 checkpoints.again.0 checkpoints.again.1,
   log_prints,
 )

@@ -50,54 +50,48 @@ rounds_to_move steps = rounds_to_watch ++ (steps_of 5 1 ∷ steps_of 3 2 ∷ ste
 abbrev move_rounds : List (ℕ × List ℕ)
 move_rounds = rounds_to_move 40 ++ (steps_of 36 0 ∷ [])
 
--- where the first move waits
-watched :
-    (fits_all move_sizes rounds_to_watch begun ≡ true)
-    × (word_after rounds_to_watch area.Host 66 ≡ host_word 128 true true 1)
-    × (word_after rounds_to_watch area.Seq 0 ≡ 1)
-    × (word_after rounds_to_watch area.FrameMap 2 ≡ 0)
-unfolding flushed topics_after place kind_of level_span table_word frozen_word content_index pool_index absent_word frame_in mapped_frame leaf_word flags_live
-    flags_read_only flags_word host_allows_write host_frame host_present host_level host_word can_write is_leaf_at flags_logged count_trailing_zeros
-watched = (refl, refl, refl, refl)
+-- The checkpoints of the run: what holds after so many of its steps.
+record Checkpoints : Type 0 where
+  -- where the first move waits
+  watched :
+      (fits_all move_sizes rounds_to_watch begun ≡ true)
+      × (word_after rounds_to_watch area.Host 66 ≡ host_word 128 true true 1)
+      × (word_after rounds_to_watch area.Seq 0 ≡ 1)
+      × (word_after rounds_to_watch area.FrameMap 2 ≡ 0)
+  -- where the content is copied, and the page is at its old frame
+  copied :
+      (fits_all move_sizes (rounds_to_move 29) begun ≡ true)
+      × (word_after (rounds_to_move 29) area.Content (content_index (map_of move_sizes) 66 0) ≡ 7)
+      × (word_after (rounds_to_move 29) area.Host 65 ≡ host_word 65 true true 1)
+  -- where it is at the new one
+  moved :
+      (fits_all move_sizes (rounds_to_move 30) begun ≡ true)
+      × (word_after (rounds_to_move 30) area.Host 65 ≡ host_word 66 true true 1)
+  -- the whole run
+  whole :
+      (fits_all move_sizes move_rounds begun ≡ true)
+      × (tells_all move_rounds begun ≡ move_events)
+      × (delays_after move_rounds 1 ≡ 1)
+      × (delays_after move_rounds 0 ≡ 0)
+      × (word_after move_rounds area.Pool (pool_index 4 6) ≡ leaf_word 1 66 true true true)
+      × (word_after move_rounds area.Seq 0 ≡ 2)
+      × (word_after move_rounds area.Count 0 ≡ 0)
+      × (word_after move_rounds area.FrameMap 1 ≡ 2)
+  -- where no frame is free
+  refused :
+      (fits_all run_sizes (steps_of 3 2 ∷ []) (start_view run_sizes (move_none ∷ [])) ≡ true)
+      × (tells_all (steps_of 3 2 ∷ []) (start_view run_sizes (move_none ∷ [])) ≡ none_events)
 
--- where the content is copied, and the page is at its old frame
-copied :
-    (fits_all move_sizes (rounds_to_move 29) begun ≡ true)
-    × (word_after (rounds_to_move 29) area.Content (content_index (map_of move_sizes) 66 0) ≡ 7)
-    × (word_after (rounds_to_move 29) area.Host 65 ≡ host_word 65 true true 1)
+checkpoints : Checkpoints
 unfolding flushed topics_after place kind_of level_span table_word frozen_word content_index pool_index absent_word frame_in mapped_frame leaf_word flags_live
     flags_read_only flags_word host_allows_write host_frame host_present host_level host_word can_write is_leaf_at flags_logged count_trailing_zeros
-copied = (refl, refl, refl)
-
--- where it is at the new one
-moved :
-    (fits_all move_sizes (rounds_to_move 30) begun ≡ true)
-    × (word_after (rounds_to_move 30) area.Host 65 ≡ host_word 66 true true 1)
-unfolding flushed topics_after place kind_of level_span table_word frozen_word content_index pool_index absent_word frame_in mapped_frame leaf_word flags_live
-    flags_read_only flags_word host_allows_write host_frame host_present host_level host_word can_write is_leaf_at flags_logged count_trailing_zeros
-moved = (refl, refl)
-
--- the whole run
-whole :
-    (fits_all move_sizes move_rounds begun ≡ true)
-    × (tells_all move_rounds begun ≡ move_events)
-    × (delays_after move_rounds 1 ≡ 1)
-    × (delays_after move_rounds 0 ≡ 0)
-    × (word_after move_rounds area.Pool (pool_index 4 6) ≡ leaf_word 1 66 true true true)
-    × (word_after move_rounds area.Seq 0 ≡ 2)
-    × (word_after move_rounds area.Count 0 ≡ 0)
-    × (word_after move_rounds area.FrameMap 1 ≡ 2)
-unfolding flushed topics_after place kind_of level_span table_word frozen_word content_index pool_index absent_word frame_in mapped_frame leaf_word flags_live
-    flags_read_only flags_word host_allows_write host_frame host_present host_level host_word can_write is_leaf_at flags_logged count_trailing_zeros
-whole = (refl, refl, refl, refl, refl, refl, refl, refl)
-
--- where no frame is free
-refused :
-    (fits_all run_sizes (steps_of 3 2 ∷ []) (start_view run_sizes (move_none ∷ [])) ≡ true)
-    × (tells_all (steps_of 3 2 ∷ []) (start_view run_sizes (move_none ∷ [])) ≡ none_events)
-unfolding flushed topics_after place kind_of level_span table_word frozen_word content_index pool_index absent_word frame_in mapped_frame leaf_word flags_live
-    flags_read_only flags_word host_allows_write host_frame host_present host_level host_word can_write is_leaf_at flags_logged count_trailing_zeros
-refused = (refl, refl)
+checkpoints = record {
+  watched = (refl, refl, refl, refl);
+  copied = (refl, refl, refl);
+  moved = (refl, refl);
+  whole = (refl, refl, refl, refl, refl, refl, refl, refl);
+  refused = (refl, refl);
+}
 
 move_allowed : All (May move_sizes) move_lines
 move_allowed =
@@ -145,19 +139,19 @@ leaves rounds a index value = run_leaves move_sizes move_lines rounds a index va
 
 pub example_move : ExampleMove
 example_move = (
-  counts move_rounds move_events 1 1 whole.0 whole.1 whole.2,
-  counts move_rounds move_events 0 0 whole.0 whole.1 whole.3,
-  leaves rounds_to_watch area.Host 66 (host_word 128 true true 1) watched.0 watched.1,
-  leaves rounds_to_watch area.Seq 0 1 watched.0 watched.2,
-  leaves rounds_to_watch area.FrameMap 2 0 watched.0 watched.3,
-  leaves (rounds_to_move 29) area.Content (content_index (map_of move_sizes) 66 0) 7 copied.0 copied.1,
-  leaves (rounds_to_move 29) area.Host 65 (host_word 65 true true 1) copied.0 copied.2,
-  leaves (rounds_to_move 30) area.Host 65 (host_word 66 true true 1) moved.0 moved.1,
-  leaves move_rounds area.Pool (pool_index 4 6) (leaf_word 1 66 true true true) whole.0 whole.4,
-  leaves move_rounds area.Seq 0 2 whole.0 whole.5,
-  leaves move_rounds area.Count 0 0 whole.0 whole.6,
-  leaves move_rounds area.FrameMap 1 2 whole.0 whole.7,
+  counts move_rounds move_events 1 1 checkpoints.whole.0 checkpoints.whole.1 checkpoints.whole.2,
+  counts move_rounds move_events 0 0 checkpoints.whole.0 checkpoints.whole.1 checkpoints.whole.3,
+  leaves rounds_to_watch area.Host 66 (host_word 128 true true 1) checkpoints.watched.0 checkpoints.watched.1,
+  leaves rounds_to_watch area.Seq 0 1 checkpoints.watched.0 checkpoints.watched.2,
+  leaves rounds_to_watch area.FrameMap 2 0 checkpoints.watched.0 checkpoints.watched.3,
+  leaves (rounds_to_move 29) area.Content (content_index (map_of move_sizes) 66 0) 7 checkpoints.copied.0 checkpoints.copied.1,
+  leaves (rounds_to_move 29) area.Host 65 (host_word 65 true true 1) checkpoints.copied.0 checkpoints.copied.2,
+  leaves (rounds_to_move 30) area.Host 65 (host_word 66 true true 1) checkpoints.moved.0 checkpoints.moved.1,
+  leaves move_rounds area.Pool (pool_index 4 6) (leaf_word 1 66 true true true) checkpoints.whole.0 checkpoints.whole.4,
+  leaves move_rounds area.Seq 0 2 checkpoints.whole.0 checkpoints.whole.5,
+  leaves move_rounds area.Count 0 0 checkpoints.whole.0 checkpoints.whole.6,
+  leaves move_rounds area.FrameMap 1 2 checkpoints.whole.0 checkpoints.whole.7,
   move_prints,
-  run_tells run_sizes (move_none ∷ []) (steps_of 3 2 ∷ []) none_events run_in_range none_allowed (omega arith) refused.0 refused.1,
+  run_tells run_sizes (move_none ∷ []) (steps_of 3 2 ∷ []) none_events run_in_range none_allowed (omega arith) checkpoints.refused.0 checkpoints.refused.1,
   none_prints,
 )

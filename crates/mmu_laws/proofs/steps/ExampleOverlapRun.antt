@@ -54,68 +54,62 @@ rounds_to_none = rounds_to_one ++ (steps_of 13 0 ∷ steps_of 7 3 ∷ steps_of 5
 abbrev overlap_rounds : List (ℕ × List ℕ)
 overlap_rounds = rounds_to_none ++ (steps_of 1581 0 ∷ steps_of 10 4 ∷ [])
 
--- where the first host thread's invalidation is open
-first_is_open :
-    (fits_all overlap_sizes rounds_to_first begun ≡ true)
-    × (word_after rounds_to_first area.Count 0 ≡ 1)
-    × (word_after rounds_to_first area.RangeStart 0 ≡ 5)
-    × (word_after rounds_to_first area.RangeEnd 0 ≡ 6)
-unfolding flushed topics_after place kind_of level_span table_word frozen_word content_index pool_index absent_word frame_in mapped_frame leaf_word flags_live
-    flags_read_only flags_word host_allows_write host_frame host_present host_level host_word can_write is_leaf_at flags_logged count_trailing_zeros
-first_is_open = (refl, refl, refl, refl)
+-- The checkpoints of the run: what holds after so many of its steps.
+record Checkpoints : Type 0 where
+  -- where the first host thread's invalidation is open
+  first_is_open :
+      (fits_all overlap_sizes rounds_to_first begun ≡ true)
+      × (word_after rounds_to_first area.Count 0 ≡ 1)
+      × (word_after rounds_to_first area.RangeStart 0 ≡ 5)
+      × (word_after rounds_to_first area.RangeEnd 0 ≡ 6)
+  -- where both are
+  both_are_open :
+      (fits_all overlap_sizes rounds_to_both begun ≡ true)
+      × (tells_all rounds_to_both begun ≡ events_to_both)
+      × (delays_after rounds_to_both 0 ≡ 1)
+      × (delays_after rounds_to_both 4 ≡ 1)
+      × (word_after rounds_to_both area.Count 0 ≡ 2)
+      × (word_after rounds_to_both area.RangeStart 0 ≡ 5)
+      × (word_after rounds_to_both area.RangeEnd 0 ≡ 8)
+  -- where the second one's alone is
+  one_is_open :
+      (fits_all overlap_sizes rounds_to_one begun ≡ true)
+      × (tells_all rounds_to_one begun ≡ events_to_one)
+      × (delays_after rounds_to_one 0 ≡ 2)
+      × (delays_after rounds_to_one 4 ≡ 2)
+      × (word_after rounds_to_one area.Seq 0 ≡ 1)
+      × (word_after rounds_to_one area.Count 0 ≡ 1)
+      × (word_after rounds_to_one area.RangeStart 0 ≡ 5)
+      × (word_after rounds_to_one area.RangeEnd 0 ≡ 8)
+  -- where none is any more
+  none_is_open :
+      (fits_all overlap_sizes rounds_to_none begun ≡ true)
+      × (tells_all rounds_to_none begun ≡ events_to_none)
+      × (delays_after rounds_to_none 0 ≡ 3)
+      × (word_after rounds_to_none area.Seq 0 ≡ 2)
+      × (word_after rounds_to_none area.Count 0 ≡ 0)
+      × (word_after rounds_to_none area.Slots 0 ≡ 2)
+  -- the whole run
+  all_are_answered :
+      (fits_all overlap_sizes overlap_rounds begun ≡ true)
+      × (tells_all overlap_rounds begun ≡ overlap_events)
+      × (delays_after overlap_rounds 0 ≡ 3)
+      × (delays_after overlap_rounds 2 ≡ 0)
+      × (delays_after overlap_rounds 3 ≡ 1)
+      × (delays_after overlap_rounds 4 ≡ 2)
+      × (word_after overlap_rounds area.Slots 0 ≡ 1)
+      × (word_after overlap_rounds area.Pool (pool_index 5 6) ≡ leaf_word 1 65 true true true)
 
--- where both are
-both_are_open :
-    (fits_all overlap_sizes rounds_to_both begun ≡ true)
-    × (tells_all rounds_to_both begun ≡ events_to_both)
-    × (delays_after rounds_to_both 0 ≡ 1)
-    × (delays_after rounds_to_both 4 ≡ 1)
-    × (word_after rounds_to_both area.Count 0 ≡ 2)
-    × (word_after rounds_to_both area.RangeStart 0 ≡ 5)
-    × (word_after rounds_to_both area.RangeEnd 0 ≡ 8)
+checkpoints : Checkpoints
 unfolding flushed topics_after place kind_of level_span table_word frozen_word content_index pool_index absent_word frame_in mapped_frame leaf_word flags_live
     flags_read_only flags_word host_allows_write host_frame host_present host_level host_word can_write is_leaf_at flags_logged count_trailing_zeros
-both_are_open = (refl, refl, refl, refl, refl, refl, refl)
-
--- where the second one's alone is
-one_is_open :
-    (fits_all overlap_sizes rounds_to_one begun ≡ true)
-    × (tells_all rounds_to_one begun ≡ events_to_one)
-    × (delays_after rounds_to_one 0 ≡ 2)
-    × (delays_after rounds_to_one 4 ≡ 2)
-    × (word_after rounds_to_one area.Seq 0 ≡ 1)
-    × (word_after rounds_to_one area.Count 0 ≡ 1)
-    × (word_after rounds_to_one area.RangeStart 0 ≡ 5)
-    × (word_after rounds_to_one area.RangeEnd 0 ≡ 8)
-unfolding flushed topics_after place kind_of level_span table_word frozen_word content_index pool_index absent_word frame_in mapped_frame leaf_word flags_live
-    flags_read_only flags_word host_allows_write host_frame host_present host_level host_word can_write is_leaf_at flags_logged count_trailing_zeros
-one_is_open = (refl, refl, refl, refl, refl, refl, refl, refl)
-
--- where none is any more
-none_is_open :
-    (fits_all overlap_sizes rounds_to_none begun ≡ true)
-    × (tells_all rounds_to_none begun ≡ events_to_none)
-    × (delays_after rounds_to_none 0 ≡ 3)
-    × (word_after rounds_to_none area.Seq 0 ≡ 2)
-    × (word_after rounds_to_none area.Count 0 ≡ 0)
-    × (word_after rounds_to_none area.Slots 0 ≡ 2)
-unfolding flushed topics_after place kind_of level_span table_word frozen_word content_index pool_index absent_word frame_in mapped_frame leaf_word flags_live
-    flags_read_only flags_word host_allows_write host_frame host_present host_level host_word can_write is_leaf_at flags_logged count_trailing_zeros
-none_is_open = (refl, refl, refl, refl, refl, refl)
-
--- the whole run
-all_are_answered :
-    (fits_all overlap_sizes overlap_rounds begun ≡ true)
-    × (tells_all overlap_rounds begun ≡ overlap_events)
-    × (delays_after overlap_rounds 0 ≡ 3)
-    × (delays_after overlap_rounds 2 ≡ 0)
-    × (delays_after overlap_rounds 3 ≡ 1)
-    × (delays_after overlap_rounds 4 ≡ 2)
-    × (word_after overlap_rounds area.Slots 0 ≡ 1)
-    × (word_after overlap_rounds area.Pool (pool_index 5 6) ≡ leaf_word 1 65 true true true)
-unfolding flushed topics_after place kind_of level_span table_word frozen_word content_index pool_index absent_word frame_in mapped_frame leaf_word flags_live
-    flags_read_only flags_word host_allows_write host_frame host_present host_level host_word can_write is_leaf_at flags_logged count_trailing_zeros
-all_are_answered = (refl, refl, refl, refl, refl, refl, refl, refl)
+checkpoints = record {
+  first_is_open = (refl, refl, refl, refl);
+  both_are_open = (refl, refl, refl, refl, refl, refl, refl);
+  one_is_open = (refl, refl, refl, refl, refl, refl, refl, refl);
+  none_is_open = (refl, refl, refl, refl, refl, refl);
+  all_are_answered = (refl, refl, refl, refl, refl, refl, refl, refl);
+}
 
 -- Each thread's first page isn't after the next one's.
 firsts_rise : (host : ℕ) → first_page_in (0 ∷ 66 ∷ 128 ∷ 128 ∷ []) 128 host ≤ first_page_in (0 ∷ 66 ∷ 128 ∷ 128 ∷ []) 128 (host + 1)
@@ -181,11 +175,11 @@ leaves rounds a index value = run_leaves overlap_sizes overlap_lines rounds a in
 
 pub example_overlap : ExampleOverlap
 example_overlap =
-    let (first_have, first_count, first_start, first_end) = first_is_open in
-    let (both_have, both_tale, both_read, both_set, both_count, both_start, both_end) = both_are_open in
-    let (one_have, one_tale, one_read, one_set, one_seq, one_count, one_start, one_end) = one_is_open in
-    let (none_have, none_tale, none_read, none_seq, none_count, none_slots) = none_is_open in
-    let (all_have, all_tale, all_read, all_below, all_above, all_set, all_slots, all_leaf) = all_are_answered in (
+    let (first_have, first_count, first_start, first_end) = checkpoints.first_is_open in
+    let (both_have, both_tale, both_read, both_set, both_count, both_start, both_end) = checkpoints.both_are_open in
+    let (one_have, one_tale, one_read, one_set, one_seq, one_count, one_start, one_end) = checkpoints.one_is_open in
+    let (none_have, none_tale, none_read, none_seq, none_count, none_slots) = checkpoints.none_is_open in
+    let (all_have, all_tale, all_read, all_below, all_above, all_set, all_slots, all_leaf) = checkpoints.all_are_answered in (
       counts rounds_to_both events_to_both 0 1 both_have both_tale both_read,
       counts rounds_to_both events_to_both 4 1 both_have both_tale both_set,
       counts rounds_to_one events_to_one 0 2 one_have one_tale one_read,

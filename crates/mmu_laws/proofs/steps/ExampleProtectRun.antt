@@ -48,58 +48,49 @@ rounds_to_allow = rounds_to_fault ++ (steps_of 28 2 ∷ [])
 abbrev protect_rounds : List (ℕ × List ℕ)
 protect_rounds = rounds_to_allow ++ (steps_of 36 1 ∷ [])
 
--- before the leaf is zapped
-before_zap :
-    (fits_all run_sizes (rounds_to_protect 16) begun ≡ true)
-    × (word_after (rounds_to_protect 16) area.Pool (pool_index 4 6) ≡ leaf_word 1 65 true true true)
-unfolding flushed topics_after place kind_of level_span table_word frozen_word content_index pool_index absent_word frame_in mapped_frame leaf_word flags_live
-    flags_read_only flags_word host_allows_write host_frame host_present host_level host_word can_write is_leaf_at flags_logged count_trailing_zeros
-before_zap = (refl, refl)
+-- The checkpoints of the run: what holds after so many of its steps.
+record Checkpoints : Type 0 where
+  -- before the leaf is zapped
+  before_zap :
+      (fits_all run_sizes (rounds_to_protect 16) begun ≡ true)
+      × (word_after (rounds_to_protect 16) area.Pool (pool_index 4 6) ≡ leaf_word 1 65 true true true)
+  -- after it
+  zapped :
+      (fits_all run_sizes (rounds_to_protect 17) begun ≡ true)
+      × (word_after (rounds_to_protect 17) area.Pool (pool_index 4 6) ≡ 0)
+  -- where the host word forbids writes
+  forbidden :
+      (fits_all run_sizes (rounds_to_protect 29) begun ≡ true)
+      × (word_after (rounds_to_protect 29) area.Host 65 ≡ host_word 65 true false 1)
+  -- up to the fault that the host word ends
+  faulted :
+      (fits_all run_sizes rounds_to_fault begun ≡ true)
+      × (tells_all rounds_to_fault begun ≡ events_to_fault)
+      × (delays_after rounds_to_fault 1 ≡ 1)
+  -- where the host word allows writes again
+  allowed :
+      (fits_all run_sizes rounds_to_allow begun ≡ true)
+      × (word_after rounds_to_allow area.Host 65 ≡ host_word 65 true true 1)
+  -- the whole run
+  whole :
+      (fits_all run_sizes protect_rounds begun ≡ true)
+      × (tells_all protect_rounds begun ≡ protect_events)
+      × (delays_after protect_rounds 1 ≡ 0)
+      × (word_after protect_rounds area.Pool (pool_index 4 6) ≡ leaf_word 1 65 true true true)
+      × (word_after protect_rounds area.Seq 0 ≡ 2)
+      × (word_after protect_rounds area.Count 0 ≡ 0)
 
--- after it
-zapped :
-    (fits_all run_sizes (rounds_to_protect 17) begun ≡ true)
-    × (word_after (rounds_to_protect 17) area.Pool (pool_index 4 6) ≡ 0)
+checkpoints : Checkpoints
 unfolding flushed topics_after place kind_of level_span table_word frozen_word content_index pool_index absent_word frame_in mapped_frame leaf_word flags_live
     flags_read_only flags_word host_allows_write host_frame host_present host_level host_word can_write is_leaf_at flags_logged count_trailing_zeros
-zapped = (refl, refl)
-
--- where the host word forbids writes
-forbidden :
-    (fits_all run_sizes (rounds_to_protect 29) begun ≡ true)
-    × (word_after (rounds_to_protect 29) area.Host 65 ≡ host_word 65 true false 1)
-unfolding flushed topics_after place kind_of level_span table_word frozen_word content_index pool_index absent_word frame_in mapped_frame leaf_word flags_live
-    flags_read_only flags_word host_allows_write host_frame host_present host_level host_word can_write is_leaf_at flags_logged count_trailing_zeros
-forbidden = (refl, refl)
-
--- up to the fault that the host word ends
-faulted :
-    (fits_all run_sizes rounds_to_fault begun ≡ true)
-    × (tells_all rounds_to_fault begun ≡ events_to_fault)
-    × (delays_after rounds_to_fault 1 ≡ 1)
-unfolding flushed topics_after place kind_of level_span table_word frozen_word content_index pool_index absent_word frame_in mapped_frame leaf_word flags_live
-    flags_read_only flags_word host_allows_write host_frame host_present host_level host_word can_write is_leaf_at flags_logged count_trailing_zeros
-faulted = (refl, refl, refl)
-
--- where the host word allows writes again
-allowed :
-    (fits_all run_sizes rounds_to_allow begun ≡ true)
-    × (word_after rounds_to_allow area.Host 65 ≡ host_word 65 true true 1)
-unfolding flushed topics_after place kind_of level_span table_word frozen_word content_index pool_index absent_word frame_in mapped_frame leaf_word flags_live
-    flags_read_only flags_word host_allows_write host_frame host_present host_level host_word can_write is_leaf_at flags_logged count_trailing_zeros
-allowed = (refl, refl)
-
--- the whole run
-whole :
-    (fits_all run_sizes protect_rounds begun ≡ true)
-    × (tells_all protect_rounds begun ≡ protect_events)
-    × (delays_after protect_rounds 1 ≡ 0)
-    × (word_after protect_rounds area.Pool (pool_index 4 6) ≡ leaf_word 1 65 true true true)
-    × (word_after protect_rounds area.Seq 0 ≡ 2)
-    × (word_after protect_rounds area.Count 0 ≡ 0)
-unfolding flushed topics_after place kind_of level_span table_word frozen_word content_index pool_index absent_word frame_in mapped_frame leaf_word flags_live
-    flags_read_only flags_word host_allows_write host_frame host_present host_level host_word can_write is_leaf_at flags_logged count_trailing_zeros
-whole = (refl, refl, refl, refl, refl, refl)
+checkpoints = record {
+  before_zap = (refl, refl);
+  zapped = (refl, refl);
+  forbidden = (refl, refl);
+  faulted = (refl, refl, refl);
+  allowed = (refl, refl);
+  whole = (refl, refl, refl, refl, refl, refl);
+}
 
 protect_allowed : All (May run_sizes) protect_lines
 protect_allowed =
@@ -136,14 +127,14 @@ leaves rounds a index value = run_leaves run_sizes protect_lines rounds a index 
 
 pub example_protect : ExampleProtect
 example_protect = (
-  counts rounds_to_fault events_to_fault 1 1 faulted.0 faulted.1 faulted.2,
-  counts protect_rounds protect_events 1 0 whole.0 whole.1 whole.2,
-  leaves (rounds_to_protect 16) area.Pool (pool_index 4 6) (leaf_word 1 65 true true true) before_zap.0 before_zap.1,
-  leaves (rounds_to_protect 17) area.Pool (pool_index 4 6) 0 zapped.0 zapped.1,
-  leaves (rounds_to_protect 29) area.Host 65 (host_word 65 true false 1) forbidden.0 forbidden.1,
-  leaves rounds_to_allow area.Host 65 (host_word 65 true true 1) allowed.0 allowed.1,
-  leaves protect_rounds area.Pool (pool_index 4 6) (leaf_word 1 65 true true true) whole.0 whole.3,
-  leaves protect_rounds area.Seq 0 2 whole.0 whole.4,
-  leaves protect_rounds area.Count 0 0 whole.0 whole.5,
+  counts rounds_to_fault events_to_fault 1 1 checkpoints.faulted.0 checkpoints.faulted.1 checkpoints.faulted.2,
+  counts protect_rounds protect_events 1 0 checkpoints.whole.0 checkpoints.whole.1 checkpoints.whole.2,
+  leaves (rounds_to_protect 16) area.Pool (pool_index 4 6) (leaf_word 1 65 true true true) checkpoints.before_zap.0 checkpoints.before_zap.1,
+  leaves (rounds_to_protect 17) area.Pool (pool_index 4 6) 0 checkpoints.zapped.0 checkpoints.zapped.1,
+  leaves (rounds_to_protect 29) area.Host 65 (host_word 65 true false 1) checkpoints.forbidden.0 checkpoints.forbidden.1,
+  leaves rounds_to_allow area.Host 65 (host_word 65 true true 1) checkpoints.allowed.0 checkpoints.allowed.1,
+  leaves protect_rounds area.Pool (pool_index 4 6) (leaf_word 1 65 true true true) checkpoints.whole.0 checkpoints.whole.3,
+  leaves protect_rounds area.Seq 0 2 checkpoints.whole.0 checkpoints.whole.4,
+  leaves protect_rounds area.Count 0 0 checkpoints.whole.0 checkpoints.whole.5,
   protect_prints,
 )

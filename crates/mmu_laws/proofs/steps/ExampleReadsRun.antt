@@ -44,59 +44,45 @@ read_rounds steps = steps_of 524 3 ∷ steps_of 1581 0 ∷ steps_of 539 3 ∷ st
 abbrev show_rounds : List (ℕ × List ℕ)
 show_rounds = steps_of 524 3 ∷ steps_of 525 3 ∷ steps_of 1 3 ∷ steps_of 9 3 ∷ steps_of 1 3 ∷ []
 
--- before the second get takes the mark, and after it
-marked :
-    (fits_all run_sizes (read_rounds 1) begun ≡ true)
-    × (word_after (read_rounds 1) begun area.Log 1 ≡ 2)
-unfolding flushed topics_after place kind_of level_span table_word frozen_word content_index pool_index absent_word frame_in mapped_frame leaf_word flags_live
-    flags_read_only flags_word host_allows_write host_frame host_present host_level host_word can_write is_leaf_at flags_logged count_trailing_zeros
-    without_write with_write host_writable mmu_writable
-marked = (refl, refl)
+-- The checkpoints of the run: what holds after so many of its steps.
+record Checkpoints : Type 0 where
+  -- before the second get takes the mark, and after it
+  marked :
+      (fits_all run_sizes (read_rounds 1) begun ≡ true)
+      × (word_after (read_rounds 1) begun area.Log 1 ≡ 2)
+  taken :
+      (fits_all run_sizes (read_rounds 2) begun ≡ true)
+      × (word_after (read_rounds 2) begun area.Log 1 ≡ 0)
+  -- before its leaf forbids writes, and after it
+  allows :
+      (fits_all run_sizes (read_rounds 7) begun ≡ true)
+      × (word_after (read_rounds 7) begun area.Pool (pool_index 4 6) ≡ leaf_word 1 65 true true true)
+  forbids :
+      (fits_all run_sizes (read_rounds 8) begun ≡ true)
+      × (word_after (read_rounds 8) begun area.Pool (pool_index 4 6) ≡ leaf_word 1 65 false true true)
+  -- the whole runs
+  whole :
+      (fits_all run_sizes (read_rounds 13) begun ≡ true)
+      × (tells_all (read_rounds 13) begun ≡ read_events)
+      × (((leads_all (read_rounds 13) begun).hand 3).state.delays ≡ 0)
+  shown :
+      (fits_all all_set_sizes show_rounds show_begun ≡ true)
+      × (tells_all show_rounds show_begun ≡ show_events)
+      × (((leads_all show_rounds show_begun).hand 3).state.delays ≡ 0)
+      × (word_after show_rounds show_begun area.Log 1 ≡ 5)
 
-taken :
-    (fits_all run_sizes (read_rounds 2) begun ≡ true)
-    × (word_after (read_rounds 2) begun area.Log 1 ≡ 0)
+checkpoints : Checkpoints
 unfolding flushed topics_after place kind_of level_span table_word frozen_word content_index pool_index absent_word frame_in mapped_frame leaf_word flags_live
     flags_read_only flags_word host_allows_write host_frame host_present host_level host_word can_write is_leaf_at flags_logged count_trailing_zeros
     without_write with_write host_writable mmu_writable
-taken = (refl, refl)
-
--- before its leaf forbids writes, and after it
-allows :
-    (fits_all run_sizes (read_rounds 7) begun ≡ true)
-    × (word_after (read_rounds 7) begun area.Pool (pool_index 4 6) ≡ leaf_word 1 65 true true true)
-unfolding flushed topics_after place kind_of level_span table_word frozen_word content_index pool_index absent_word frame_in mapped_frame leaf_word flags_live
-    flags_read_only flags_word host_allows_write host_frame host_present host_level host_word can_write is_leaf_at flags_logged count_trailing_zeros
-    without_write with_write host_writable mmu_writable
-allows = (refl, refl)
-
-forbids :
-    (fits_all run_sizes (read_rounds 8) begun ≡ true)
-    × (word_after (read_rounds 8) begun area.Pool (pool_index 4 6) ≡ leaf_word 1 65 false true true)
-unfolding flushed topics_after place kind_of level_span table_word frozen_word content_index pool_index absent_word frame_in mapped_frame leaf_word flags_live
-    flags_read_only flags_word host_allows_write host_frame host_present host_level host_word can_write is_leaf_at flags_logged count_trailing_zeros
-    without_write with_write host_writable mmu_writable
-forbids = (refl, refl)
-
--- the whole runs
-whole :
-    (fits_all run_sizes (read_rounds 13) begun ≡ true)
-    × (tells_all (read_rounds 13) begun ≡ read_events)
-    × (((leads_all (read_rounds 13) begun).hand 3).state.delays ≡ 0)
-unfolding flushed topics_after place kind_of level_span table_word frozen_word content_index pool_index absent_word frame_in mapped_frame leaf_word flags_live
-    flags_read_only flags_word host_allows_write host_frame host_present host_level host_word can_write is_leaf_at flags_logged count_trailing_zeros
-    without_write with_write host_writable mmu_writable
-whole = (refl, refl, refl)
-
-shown :
-    (fits_all all_set_sizes show_rounds show_begun ≡ true)
-    × (tells_all show_rounds show_begun ≡ show_events)
-    × (((leads_all show_rounds show_begun).hand 3).state.delays ≡ 0)
-    × (word_after show_rounds show_begun area.Log 1 ≡ 5)
-unfolding flushed topics_after place kind_of level_span table_word frozen_word content_index pool_index absent_word frame_in mapped_frame leaf_word flags_live
-    flags_read_only flags_word host_allows_write host_frame host_present host_level host_word can_write is_leaf_at flags_logged count_trailing_zeros
-    without_write with_write host_writable mmu_writable
-shown = (refl, refl, refl, refl)
+checkpoints = record {
+  marked = (refl, refl);
+  taken = (refl, refl);
+  allows = (refl, refl);
+  forbids = (refl, refl);
+  whole = (refl, refl, refl);
+  shown = (refl, refl, refl, refl);
+}
 
 read_allowed : All (May run_sizes) read_lines
 read_allowed =
@@ -123,14 +109,16 @@ show_prints = refl
 
 pub example_reads : ExampleReads
 example_reads = (
-  run_delays run_sizes read_lines (read_rounds 13) read_events 3 0 run_in_range read_allowed (omega arith) whole.0 whole.1 whole.2,
-  run_leaves run_sizes read_lines (read_rounds 1) area.Log 1 2 run_in_range read_allowed (omega arith) marked.0 marked.1,
-  run_leaves run_sizes read_lines (read_rounds 2) area.Log 1 0 run_in_range read_allowed (omega arith) taken.0 taken.1,
-  run_leaves run_sizes read_lines (read_rounds 7) area.Pool (pool_index 4 6) (leaf_word 1 65 true true true) run_in_range read_allowed (omega arith) allows.0
-      allows.1,
-  run_leaves run_sizes read_lines (read_rounds 8) area.Pool (pool_index 4 6) (leaf_word 1 65 false true true) run_in_range read_allowed (omega arith) forbids.0
-      forbids.1,
-  run_delays all_set_sizes show_lines show_rounds show_events 3 0 all_in_range show_allowed (omega arith) shown.0 shown.1 shown.2,
-  run_leaves all_set_sizes show_lines show_rounds area.Log 1 5 all_in_range show_allowed (omega arith) shown.0 shown.3,
+  run_delays run_sizes read_lines (read_rounds 13) read_events 3 0
+      run_in_range read_allowed (omega arith) checkpoints.whole.0 checkpoints.whole.1 checkpoints.whole.2,
+  run_leaves run_sizes read_lines (read_rounds 1) area.Log 1 2 run_in_range read_allowed (omega arith) checkpoints.marked.0 checkpoints.marked.1,
+  run_leaves run_sizes read_lines (read_rounds 2) area.Log 1 0 run_in_range read_allowed (omega arith) checkpoints.taken.0 checkpoints.taken.1,
+  run_leaves run_sizes read_lines (read_rounds 7) area.Pool (pool_index 4 6) (leaf_word 1 65 true true true)
+      run_in_range read_allowed (omega arith) checkpoints.allows.0 checkpoints.allows.1,
+  run_leaves run_sizes read_lines (read_rounds 8) area.Pool (pool_index 4 6) (leaf_word 1 65 false true true)
+      run_in_range read_allowed (omega arith) checkpoints.forbids.0 checkpoints.forbids.1,
+  run_delays all_set_sizes show_lines show_rounds show_events 3 0
+      all_in_range show_allowed (omega arith) checkpoints.shown.0 checkpoints.shown.1 checkpoints.shown.2,
+  run_leaves all_set_sizes show_lines show_rounds area.Log 1 5 all_in_range show_allowed (omega arith) checkpoints.shown.0 checkpoints.shown.3,
   show_prints,
 )

@@ -7,6 +7,7 @@ use Rattle.std.proofs.lemmas.Fmt.{decimal_digit}
 use Rattle.mmu_laws.proofs.steps.Decimals.{two_digits}
 use Rattle.std.specs.Prelude.{All, Option, codes, true, unwrap_or}
 use Rattle.std.proofs.lemmas.List.Elements.{All-cons, All-nil}
+use Rattle.core_views.specs.declared.trace.Line.{Line}
 use Rattle.core_views.specs.Sizes.{AreSizes, first_page_in}
 use Rattle.core_views.specs.Text.{line_text, text}
 use Rattle.spte_words.specs.Areas.{content_index, place, pool_index}
@@ -55,20 +56,26 @@ firsts_rise (suc (suc (suc n))) = let last = past (suc (suc (suc n)) + 1) (omega
     from_third zero = refl
     from_third (suc m) = past (suc (suc (suc (suc m)))) (omega arith)
 
--- So many frames are in their range, and the other sizes, too.
-pub frames_in_range : (frames : ℕ) → 128 ≤ frames → frames ≤ 1000 → AreSizes (record run_sizes { frames = frames })
-frames_in_range frames least most = record {
+-- So many frames and pages of the pool are in their ranges, and the other sizes, too.
+sizes_in_range : (frames pool : ℕ) → 128 ≤ frames → frames ≤ 1000 → 4 ≤ pool → pool ≤ 1000 → AreSizes (record run_sizes { frames = frames; pool = pool })
+sizes_in_range frames pool least most some few = record {
   actors = record { vcpus = omega arith; hosts = omega arith; workers = omega arith };
   some = omega arith;
   pages = (omega arith, omega arith);
   frames = (omega (arith, least), omega (arith, most));
   words = (omega arith, omega arith);
   content = omega (arith, most);
-  pool = (omega arith, omega arith);
+  pool = (omega (arith, some), omega (arith, few));
   cache = (omega arith, omega arith);
   firsts = four (λ page. page ≤ 128) 0 128 128 128 (omega arith) (omega arith) (omega arith) (omega arith);
   rising = record { each = firsts_rise };
 }
+
+pub frames_in_range : (frames : ℕ) → 128 ≤ frames → frames ≤ 1000 → AreSizes (record run_sizes { frames = frames })
+frames_in_range frames least most = sizes_in_range frames 7 least most (omega arith) (omega arith)
+
+pub pool_in_range : (pool : ℕ) → 4 ≤ pool → pool ≤ 1000 → AreSizes (record run_sizes { pool = pool })
+pool_in_range pool some few = sizes_in_range 128 pool (omega arith) (omega arith) some few
 
 pub run_in_range : AreSizes run_sizes
 run_in_range = frames_in_range 128 (omega arith) (omega arith)
@@ -129,20 +136,6 @@ unfolding flushed topics_after place kind_of level_span table_word frozen_word c
     flags_read_only flags_word host_allows_write host_frame host_present host_word can_write is_leaf_at flags_logged count_trailing_zeros
 small_whole = (refl, refl)
 
-small_in_range : AreSizes small_sizes
-small_in_range = record {
-  actors = record { vcpus = omega arith; hosts = omega arith; workers = omega arith };
-  some = omega arith;
-  pages = (omega arith, omega arith);
-  frames = (omega arith, omega arith);
-  words = (omega arith, omega arith);
-  content = omega arith;
-  pool = (omega arith, omega arith);
-  cache = (omega arith, omega arith);
-  firsts = four (λ page. page ≤ 128) 0 128 128 128 (omega arith) (omega arith) (omega arith) (omega arith);
-  rising = record { each = firsts_rise };
-}
-
 small_allowed : All (May small_sizes) small_lines
 small_allowed =
     All-cons (May small_sizes) set_line (starved_line ∷ starved_set_line ∷ []) may_set
@@ -155,7 +148,8 @@ small_prints = simp (decimal_digit 0 (lit< tt), decimal_digit 2 (lit< tt), decim
 
 pub example_starves : ExampleStarves
 example_starves = (
-  run_tells small_sizes small_lines small_rounds small_events small_in_range small_allowed (omega arith) small_whole.0 small_whole.1,
+  run_tells small_sizes small_lines small_rounds small_events (pool_in_range 4 (omega arith) (omega arith))
+      small_allowed (omega arith) small_whole.0 small_whole.1,
   small_prints,
 )
 
@@ -172,11 +166,12 @@ unfolding flushed topics_after place kind_of level_span table_word frozen_word c
     flags_read_only flags_word host_allows_write host_frame host_present host_word can_write is_leaf_at flags_logged count_trailing_zeros
 race_whole = (refl, refl)
 
-race_allowed : All (May run_sizes) race_lines
-race_allowed =
-    All-cons (May run_sizes) set_line (first_line ∷ second_line ∷ []) may_set
-    (All-cons (May run_sizes) first_line (second_line ∷ []) (omega arith, omega arith, omega arith)
-    (All-cons (May run_sizes) second_line [] (omega arith, omega arith, omega arith) (All-nil (May run_sizes))))
+pub race_allowed : (pool : ℕ) → All (May (record run_sizes { pool = pool })) race_lines
+race_allowed pool =
+    let May_in : Line → Type 0 = May (record run_sizes { pool = pool }) in
+    All-cons May_in set_line (first_line ∷ second_line ∷ []) may_set
+    (All-cons May_in first_line (second_line ∷ []) (omega arith, omega arith, omega arith)
+    (All-cons May_in second_line [] (omega arith, omega arith, omega arith) (All-nil May_in)))
 
 race_prints : text race_events ≡ codes "2 vm done\n3 v0 frame 65 value 0\n4 v1 frame 65 value 7\n"
 unfolding line_text
@@ -192,7 +187,7 @@ race_prints = simp (
 
 pub example_races : ExampleRaces
 example_races = (
-  run_tells run_sizes race_lines race_rounds race_events run_in_range race_allowed (omega arith) race_whole.0 race_whole.1,
+  run_tells run_sizes race_lines race_rounds race_events run_in_range (race_allowed 7) (omega arith) race_whole.0 race_whole.1,
   race_prints,
 )
 

@@ -54,79 +54,64 @@ rounds_to_wait = rounds_to_cache ++ (steps_of 567 3 ∷ [])
 abbrev slots_rounds : List (ℕ × List ℕ)
 slots_rounds = rounds_to_wait ++ (steps_of 2 0 ∷ steps_of 18 3 ∷ steps_of 44 1 ∷ [])
 
--- before the move zaps the leaf
-before_zap :
-    (fits_all run_sizes (rounds_to_move 562) begun ≡ true)
-    × (word_after (rounds_to_move 562) area.Pool (pool_index 4 6) ≡ leaf_word 1 65 true true true)
-unfolding flushed topics_after place kind_of level_span table_word frozen_word content_index pool_index absent_word frame_in mapped_frame leaf_word flags_live
-    flags_read_only flags_word host_allows_write host_frame host_present host_level host_word can_write is_leaf_at flags_logged count_trailing_zeros
-before_zap = (refl, refl)
+-- The checkpoints of the run: what holds after so many of its steps.
+record Checkpoints : Type 0 where
+  -- before the move zaps the leaf
+  before_zap :
+      (fits_all run_sizes (rounds_to_move 562) begun ≡ true)
+      × (word_after (rounds_to_move 562) area.Pool (pool_index 4 6) ≡ leaf_word 1 65 true true true)
+  -- after it
+  zapped :
+      (fits_all run_sizes (rounds_to_move 563) begun ≡ true)
+      × (word_after (rounds_to_move 563) area.Pool (pool_index 4 6) ≡ 0)
+      × (word_after (rounds_to_move 563) area.RangeStart 0 ≡ 5)
+      × (word_after (rounds_to_move 563) area.RangeEnd 0 ≡ 8)
+  -- before the move publishes its set
+  before_publication :
+      (fits_all run_sizes (rounds_to_move 571) begun ≡ true)
+      × (word_after (rounds_to_move 571) area.Slots 0 ≡ 2)
+  -- after it
+  published :
+      (fits_all run_sizes (rounds_to_move 572) begun ≡ true)
+      × (word_after (rounds_to_move 572) area.Slots 0 ≡ 5)
+      × (word_after (rounds_to_move 572) area.Count 0 ≡ 1)
+      × (word_after (rounds_to_move 572) area.Seq 0 ≡ 0)
+  -- after the read beside the move
+  read :
+      (fits_all run_sizes rounds_to_read begun ≡ true)
+      × (tells_all rounds_to_read begun ≡ events_to_read)
+      × (delays_after rounds_to_read 1 ≡ 1)
+  -- where the next read has cached its leaf
+  cached :
+      (fits_all run_sizes rounds_to_cache begun ≡ true)
+      × (word_after rounds_to_cache area.Seq 0 ≡ 1)
+  -- where the deletion waits for it
+  waits :
+      (fits_all run_sizes rounds_to_wait begun ≡ true)
+      × (word_after rounds_to_wait area.Pool (pool_index 4 7) ≡ 0)
+      × (word_after rounds_to_wait area.Slots 0 ≡ 5)
+  -- the whole run
+  whole :
+      (fits_all run_sizes slots_rounds begun ≡ true)
+      × (tells_all slots_rounds begun ≡ slots_events)
+      × (delays_after slots_rounds 3 ≡ 1)
+      × (word_after slots_rounds area.Slots 0 ≡ 2)
+      × (word_after slots_rounds area.Seq 0 ≡ 2)
+      × (word_after slots_rounds area.Count 0 ≡ 0)
 
--- after it
-zapped :
-    (fits_all run_sizes (rounds_to_move 563) begun ≡ true)
-    × (word_after (rounds_to_move 563) area.Pool (pool_index 4 6) ≡ 0)
-    × (word_after (rounds_to_move 563) area.RangeStart 0 ≡ 5)
-    × (word_after (rounds_to_move 563) area.RangeEnd 0 ≡ 8)
+checkpoints : Checkpoints
 unfolding flushed topics_after place kind_of level_span table_word frozen_word content_index pool_index absent_word frame_in mapped_frame leaf_word flags_live
     flags_read_only flags_word host_allows_write host_frame host_present host_level host_word can_write is_leaf_at flags_logged count_trailing_zeros
-zapped = (refl, refl, refl, refl)
-
--- before the move publishes its set
-before_publication :
-    (fits_all run_sizes (rounds_to_move 571) begun ≡ true)
-    × (word_after (rounds_to_move 571) area.Slots 0 ≡ 2)
-unfolding flushed topics_after place kind_of level_span table_word frozen_word content_index pool_index absent_word frame_in mapped_frame leaf_word flags_live
-    flags_read_only flags_word host_allows_write host_frame host_present host_level host_word can_write is_leaf_at flags_logged count_trailing_zeros
-before_publication = (refl, refl)
-
--- after it
-published :
-    (fits_all run_sizes (rounds_to_move 572) begun ≡ true)
-    × (word_after (rounds_to_move 572) area.Slots 0 ≡ 5)
-    × (word_after (rounds_to_move 572) area.Count 0 ≡ 1)
-    × (word_after (rounds_to_move 572) area.Seq 0 ≡ 0)
-unfolding flushed topics_after place kind_of level_span table_word frozen_word content_index pool_index absent_word frame_in mapped_frame leaf_word flags_live
-    flags_read_only flags_word host_allows_write host_frame host_present host_level host_word can_write is_leaf_at flags_logged count_trailing_zeros
-published = (refl, refl, refl, refl)
-
--- after the read beside the move
-read :
-    (fits_all run_sizes rounds_to_read begun ≡ true)
-    × (tells_all rounds_to_read begun ≡ events_to_read)
-    × (delays_after rounds_to_read 1 ≡ 1)
-unfolding flushed topics_after place kind_of level_span table_word frozen_word content_index pool_index absent_word frame_in mapped_frame leaf_word flags_live
-    flags_read_only flags_word host_allows_write host_frame host_present host_level host_word can_write is_leaf_at flags_logged count_trailing_zeros
-read = (refl, refl, refl)
-
--- where the next read has cached its leaf
-cached :
-    (fits_all run_sizes rounds_to_cache begun ≡ true)
-    × (word_after rounds_to_cache area.Seq 0 ≡ 1)
-unfolding flushed topics_after place kind_of level_span table_word frozen_word content_index pool_index absent_word frame_in mapped_frame leaf_word flags_live
-    flags_read_only flags_word host_allows_write host_frame host_present host_level host_word can_write is_leaf_at flags_logged count_trailing_zeros
-cached = (refl, refl)
-
--- where the deletion waits for it
-waits :
-    (fits_all run_sizes rounds_to_wait begun ≡ true)
-    × (word_after rounds_to_wait area.Pool (pool_index 4 7) ≡ 0)
-    × (word_after rounds_to_wait area.Slots 0 ≡ 5)
-unfolding flushed topics_after place kind_of level_span table_word frozen_word content_index pool_index absent_word frame_in mapped_frame leaf_word flags_live
-    flags_read_only flags_word host_allows_write host_frame host_present host_level host_word can_write is_leaf_at flags_logged count_trailing_zeros
-waits = (refl, refl, refl)
-
--- the whole run
-whole :
-    (fits_all run_sizes slots_rounds begun ≡ true)
-    × (tells_all slots_rounds begun ≡ slots_events)
-    × (delays_after slots_rounds 3 ≡ 1)
-    × (word_after slots_rounds area.Slots 0 ≡ 2)
-    × (word_after slots_rounds area.Seq 0 ≡ 2)
-    × (word_after slots_rounds area.Count 0 ≡ 0)
-unfolding flushed topics_after place kind_of level_span table_word frozen_word content_index pool_index absent_word frame_in mapped_frame leaf_word flags_live
-    flags_read_only flags_word host_allows_write host_frame host_present host_level host_word can_write is_leaf_at flags_logged count_trailing_zeros
-whole = (refl, refl, refl, refl, refl, refl)
+checkpoints = record {
+  before_zap = (refl, refl);
+  zapped = (refl, refl, refl, refl);
+  before_publication = (refl, refl);
+  published = (refl, refl, refl, refl);
+  read = (refl, refl, refl);
+  cached = (refl, refl);
+  waits = (refl, refl, refl);
+  whole = (refl, refl, refl, refl, refl, refl);
+}
 
 slots_allowed : All (May run_sizes) slots_lines
 slots_allowed =
@@ -173,21 +158,21 @@ leaves rounds a index value = run_leaves run_sizes slots_lines rounds a index va
 
 pub example_slots : ExampleSlots
 example_slots = (
-  counts rounds_to_read events_to_read 1 1 read.0 read.1 read.2,
-  counts slots_rounds slots_events 3 1 whole.0 whole.1 whole.2,
-  leaves (rounds_to_move 562) area.Pool (pool_index 4 6) (leaf_word 1 65 true true true) before_zap.0 before_zap.1,
-  leaves (rounds_to_move 563) area.Pool (pool_index 4 6) 0 zapped.0 zapped.1,
-  leaves (rounds_to_move 563) area.RangeStart 0 5 zapped.0 zapped.2,
-  leaves (rounds_to_move 563) area.RangeEnd 0 8 zapped.0 zapped.3,
-  leaves (rounds_to_move 571) area.Slots 0 2 before_publication.0 before_publication.1,
-  leaves (rounds_to_move 572) area.Slots 0 5 published.0 published.1,
-  leaves (rounds_to_move 572) area.Count 0 1 published.0 published.2,
-  leaves (rounds_to_move 572) area.Seq 0 0 published.0 published.3,
-  leaves rounds_to_cache area.Seq 0 1 cached.0 cached.1,
-  leaves rounds_to_wait area.Pool (pool_index 4 7) 0 waits.0 waits.1,
-  leaves rounds_to_wait area.Slots 0 5 waits.0 waits.2,
-  leaves slots_rounds area.Slots 0 2 whole.0 whole.3,
-  leaves slots_rounds area.Seq 0 2 whole.0 whole.4,
-  leaves slots_rounds area.Count 0 0 whole.0 whole.5,
+  counts rounds_to_read events_to_read 1 1 checkpoints.read.0 checkpoints.read.1 checkpoints.read.2,
+  counts slots_rounds slots_events 3 1 checkpoints.whole.0 checkpoints.whole.1 checkpoints.whole.2,
+  leaves (rounds_to_move 562) area.Pool (pool_index 4 6) (leaf_word 1 65 true true true) checkpoints.before_zap.0 checkpoints.before_zap.1,
+  leaves (rounds_to_move 563) area.Pool (pool_index 4 6) 0 checkpoints.zapped.0 checkpoints.zapped.1,
+  leaves (rounds_to_move 563) area.RangeStart 0 5 checkpoints.zapped.0 checkpoints.zapped.2,
+  leaves (rounds_to_move 563) area.RangeEnd 0 8 checkpoints.zapped.0 checkpoints.zapped.3,
+  leaves (rounds_to_move 571) area.Slots 0 2 checkpoints.before_publication.0 checkpoints.before_publication.1,
+  leaves (rounds_to_move 572) area.Slots 0 5 checkpoints.published.0 checkpoints.published.1,
+  leaves (rounds_to_move 572) area.Count 0 1 checkpoints.published.0 checkpoints.published.2,
+  leaves (rounds_to_move 572) area.Seq 0 0 checkpoints.published.0 checkpoints.published.3,
+  leaves rounds_to_cache area.Seq 0 1 checkpoints.cached.0 checkpoints.cached.1,
+  leaves rounds_to_wait area.Pool (pool_index 4 7) 0 checkpoints.waits.0 checkpoints.waits.1,
+  leaves rounds_to_wait area.Slots 0 5 checkpoints.waits.0 checkpoints.waits.2,
+  leaves slots_rounds area.Slots 0 2 checkpoints.whole.0 checkpoints.whole.3,
+  leaves slots_rounds area.Seq 0 2 checkpoints.whole.0 checkpoints.whole.4,
+  leaves slots_rounds area.Count 0 0 checkpoints.whole.0 checkpoints.whole.5,
   slots_print,
 )

@@ -64,7 +64,8 @@ module _ (h : Held) (v : ℕ) (before after : List EventKind) where
 
   abbrev Tells : Place → Command → Type 0
   Tells p command =
-      TellsAccess z h (kind_of_task z (task_at p command h)) v (map (λ kind. record { actor = h.state.actor; kind = kind }) (before ++ (tells_at p command h v ++ after)))
+      TellsAccess z h (kind_of_task z (task_at p command h)) v
+      (map (λ kind. record { actor = h.state.actor; kind = kind }) (before ++ (tells_at p command h v ++ after)))
 
   not_by : {A : Type 0} (step : PartStep) (note : ℕ) → touches (part_task step (own_index h) h.topics note).kind ≡ true → A
   not_by step note is = let not = part_touches_not step (own_index h) h.topics note in absurd (cc (not, is))

@@ -1,10 +1,11 @@
--- Runs from a start, each step of them the next one of an actor: what they tell, and how often the last line was delayed. And the machine and
--- the slots of the examples.
+-- Runs from a start, each step of them the next one of an actor: what they tell, how often the last line was delayed, what a word holds after them, and where a
+-- line stands. And the machine and the slots of the examples.
 use Rattle.spte_words.specs.declared.area.Area.{Area}
 use Rattle.mmu_core.specs.machine.View.{word_in}
 use Rattle.std.specs.Prelude.{◌≡◌, ℕ, List, [], ◌∷◌, true, false, Option, Some}
 use Rattle.core_views.specs.declared.event.Event.{Event}
 use Rattle.core_views.specs.declared.kind.Kind.{Kind}
+use Rattle.core_views.specs.declared.place.Place.{Place}
 use Rattle.core_views.specs.declared.sizes.Sizes.{Sizes}
 use Rattle.core_views.specs.declared.trace.Line.{Line}
 use Rattle.core_views.specs.declared.memory_slot.MemorySlot.{MemorySlot}
@@ -39,6 +40,13 @@ pub record RunLeaves (z : Sizes) (lines : List Line) (order : List ℕ) (a : Are
   pub is_start : IsStart z lines start
   pub legal : Legal mmu start (turns_of z start order)
   pub holds : word_in z (run mmu start (turns_of z start order)) a index ≡ value
+
+-- From a start with these lines the next steps of actors in this order can be made, and after them the line of the actor at this place stands here.
+pub record RunStands (z : Sizes) (lines : List Line) (order : List ℕ) (actor : ℕ) (here : Place) : Type 0 where
+  pub start : World Held
+  pub is_start : IsStart z lines start
+  pub legal : Legal mmu start (turns_of z start order)
+  pub stands : (hand_in mmu (run mmu start (turns_of z start order)) actor).state.place ≡ here
 
 -- A machine whose pool has as many pages as the lines below need: four, and one for a table of each level below the root.
 abbrev pub run_sizes : Sizes

@@ -1,6 +1,6 @@
 use Rattle.mmu_laws.proofs.leaves.LeafLaws.{cached_leaves_agree, leaves_agree, leaves_are_lowest, used_leaves_agree}
 use Rattle.mmu_laws.proofs.leaves.OpenFrames.{open_frames_are_flushed, open_frames_are_of_the_page, open_frames_are_recorded, open_frames_are_zapped}
-use Rattle.core_theorem.proofs.LookUps.{found_slots_are_held, held_slots_stand, looked_up_pages_stand}
+use Rattle.core_theorem.proofs.LookUps.{found_slots_are_held, fresh_look_ups_are_true, held_slots_stand, looked_up_pages_stand}
 use Rattle.core_theorem.proofs.Runs.{sound}
 use Rattle.core_theorem.proofs.WalksKept.{held_leaves_are_linked}
 use Rattle.core_theorem.proofs.leaves.every_run_leaves.Goals as goal
@@ -44,3 +44,6 @@ returns-clause-held_slots c = held_slots_stand
 
 pub returns-clause-looked : goal.returns-clause-looked
 returns-clause-looked c = looked_up_pages_stand
+
+pub returns-clause-fresh : goal.returns-clause-fresh
+returns-clause-fresh c = fresh_look_ups_are_true

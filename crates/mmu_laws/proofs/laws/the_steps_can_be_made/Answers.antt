@@ -1,12 +1,16 @@
 use Rattle.mmu_laws.proofs.steps.ExampleHostRun.{example_host}
 use Rattle.mmu_laws.proofs.steps.ExampleLogRun.{example_log}
 use Rattle.mmu_laws.proofs.steps.ExampleLogAllRun.{example_log_all}
+use Rattle.mmu_laws.proofs.steps.ExampleApartRun.{example_apart}
+use Rattle.mmu_laws.proofs.steps.ExampleLeafRun.{example_leaf}
+use Rattle.mmu_laws.proofs.steps.ExampleMissesRun.{example_misses}
 use Rattle.mmu_laws.proofs.steps.ExampleReadsRun.{example_reads}
 use Rattle.mmu_laws.proofs.steps.ExampleProtectRun.{example_protect}
 use Rattle.mmu_laws.proofs.steps.ExampleEvictRun.{example_evict}
 use Rattle.mmu_laws.proofs.steps.ExampleSlotsRun.{example_slots}
 use Rattle.mmu_laws.proofs.steps.ExampleMoveRun.{example_move}
 use Rattle.mmu_laws.proofs.steps.ExampleOverlapRun.{example_overlap}
+use Rattle.mmu_laws.proofs.steps.ExampleTightRun.{example_tight}
 use Rattle.mmu_core.specs.machine.Enabled.{mmu}
 use Rattle.mmu_core.specs.machine.Machine.{run}
 use Rattle.mmu_laws.proofs.steps.CanStep.{may_step}
@@ -31,6 +35,9 @@ returns-clause-prints c = example_prints
 
 pub returns-clause-starves : goal.returns-clause-starves
 returns-clause-starves c = example_starves
+
+pub returns-clause-tight : goal.returns-clause-tight
+returns-clause-tight c = example_tight
 
 pub returns-clause-races : goal.returns-clause-races
 returns-clause-races c = example_races
@@ -64,3 +71,12 @@ returns-clause-log_all c = example_log_all
 
 pub returns-clause-reads : goal.returns-clause-reads
 returns-clause-reads c = example_reads
+
+pub returns-clause-misses : goal.returns-clause-misses
+returns-clause-misses c = example_misses
+
+pub returns-clause-apart : goal.returns-clause-apart
+returns-clause-apart c = example_apart
+
+pub returns-clause-leaf : goal.returns-clause-leaf
+returns-clause-leaf c = example_leaf
