@@ -8,7 +8,7 @@ use Rattle.atomic_table.specs.Seated.{TableId}
 use Rattle.core_views.specs.declared.kind.Kind.{Kind}
 use Rattle.core_views.specs.Held.{Held, Handful}
 use Rattle.mmu_core.specs.machine.Enabled.{Enabled, mmu}
-use Rattle.mmu_core.specs.machine.Machine.{Leads, May, World, answered, run}
+use Rattle.mmu_core.specs.machine.Machine.{Leads, May, Step, World, answered, run}
 use Rattle.mmu_core.specs.machine.Steps.{next}
 use Rattle.mmu_core.specs.machine.Worlds.{HandReached, Reachable}
 use Rattle.mmu_core.proofs.machine.Extend.{as_many_words, leads_to_end, then}
@@ -19,8 +19,8 @@ use Rattle.step_seats.specs.Seats.{Seat}
 use Rattle.step_seats.specs.Where.{HasHand, IsMadeIn, OfWorld}
 use Rattle.step_seats.proofs.Rooms.{next_has_room}
 use Rattle.table_seats.specs.Boards.{BoardView, Fits, around}
-use Rattle.table_seats.specs.Rule.{Acted, Holds, step_of}
-use Rattle.table_seats.specs.Passes.{IsPass, Keeps, Known, PassView, PutsHand, core_in, hand_at, seat_of, steps_told, world_told}
+use Rattle.table_seats.specs.Rule.{Acted, Holds, moved, step_of}
+use Rattle.table_seats.specs.Passes.{IsPass, Keeps, Known, PassView, PutsHand, core_in, hand_at, seat_of, steps_before_split, steps_told, world_told}
 use Rattle.atomic_table.proofs.Lists.{set_here}
 use Rattle.table_seats.proofs.HandLists.{at_below, put_held}
 use Rattle.table_seats.proofs.Runs.{has_is, run-snoc}
@@ -196,12 +196,21 @@ module _ (before after : PassView) (a : ℕ) (put : PutsHand before after a) whe
       (subst (λ (l : List (Option Handful)). Holds l a (hand_at after.hands a)) (sym put.hands)
       (held_put before.hands a (hand_at before.hands a) (hand_at after.hands a) (kept before.hands a keeps)))
 
-  -- Nothing else has changed.
-  pub put_others : (b : BoardView) → around b after a ≡ around b before a
-  put_others b =
+  -- Nothing else has changed, where it is told of the same steps before the first split.
+  pub put_others : (b : BoardView) → steps_before_split after.knows ≡ steps_before_split before.knows → around b after a ≡ around b before a
+  put_others b split =
       let none : Option Handful = None in
       let others = ap (λ (l : List (Option Handful)). set l a none) put.hands ∙ set-set before.hands a (Some (hand_at after.hands a)) none in
-      λ i. record { board = b; others = others i }
+      λ i. record { board = b; others = others i; split = split i }
+
+-- A step leaves the steps before the first split as they are.
+step_after_split : (alone : Bool) (past more : List (Step Kind))
+    → (if alone then None else Some (if alone then more else past)) ≡ (if alone then None else Some past)
+step_after_split true past more = refl
+step_after_split false past more = refl
+
+pub moved_split : (a : ℕ) (h : Held) (k : Kind) (n : ℕ) (v : Known) → steps_before_split (moved mmu a h k n v) ≡ steps_before_split v
+moved_split a h k n v = step_after_split v.alone v.past (v.past ++ step_of a k ∷ [])
 
 -- The hand of an actor is put in its place.
 pub puts : (before after : PassView) (a : ℕ) (hands : List (Option Handful)) (h g : Handful) → after.table ≡ before.table

@@ -7,7 +7,7 @@ use Rattle.core_views.specs.Held.{Held, Handful}
 use Rattle.mmu_core.specs.machine.Enabled.{mmu}
 use Rattle.mmu_core.specs.machine.Machine.{Legal, Step, World, run}
 use Rattle.step_seats.specs.Moves.{world_of}
-use Rattle.table_seats.specs.Passes.{PassView, hand_in_place}
+use Rattle.table_seats.specs.Passes.{PassView, hand_in_place, steps_before_split}
 use Rattle.table_seats.specs.Rule.{first_view}
 
 -- the world of these words and hands
@@ -46,13 +46,15 @@ pub record Explained (start : World Held) (past : List (Step Kind)) (words : Lis
   pub legal : Legal mmu start (past ++ more)
   pub ends : run mmu start (past ++ more) ≡ world_of words hands
 
--- what the steps of a seat leave as it is: the board, and the other hands of the pass; nothing stands in the own place
+-- what the steps of a seat leave as it is: the board, the other hands of the pass, and the steps that were made before a hand was split off, once one was;
+-- nothing stands in the own place
 pub record Around : Type 0 where
   pub board : BoardView
   pub others : List (Option Handful)
+  pub split : Option (List (Step Kind))
 
 abbrev pub around : BoardView → PassView → ℕ → Around
-around b t actor = record { board = b; others = slice_set t.hands actor None }
+around b t actor = record { board = b; others = slice_set t.hands actor None; split = steps_before_split t.knows }
 
 -- the frame of no seat
 abbrev pub nowhere : Around
@@ -63,4 +65,5 @@ nowhere = record {
         start = record { words = []; hands = [] };
       };
   others = [];
+  split = None;
 }

@@ -48,6 +48,10 @@ world_told v = if v.alone then Some (world_after v) else None
 abbrev pub steps_told : Known → Option (List (Step Kind))
 steps_told v = if v.alone then Some v.past else None
 
+-- the steps made before the first hand was split off, once one was
+abbrev pub steps_before_split : Known → Option (List (Step Kind))
+steps_before_split v = if v.alone then None else Some v.past
+
 -- the seat of an actor whose hand the pass keeps
 abbrev pub seat_of : PassView → ℕ → Seat
 seat_of t actor =

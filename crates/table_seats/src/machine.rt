@@ -7,7 +7,7 @@ ghost use Rattle.step_seats.specs.Machines.{world_in};
 ghost use Rattle.step_seats.specs.Moves.{world_of};
 ghost use Rattle.table_seats.specs.Boards.{AllHands, Fits};
 ghost use Rattle.table_seats.specs.Owners.{machine_of};
-ghost use Rattle.table_seats.specs.Passes.{steps_told};
+ghost use Rattle.table_seats.specs.Passes.{steps_told, world_after};
 
 use crate::room::Room;
 use crate::{Board, Pass, TableSeat};
@@ -62,6 +62,7 @@ impl TableMachine {
         ensures fits { Fits result.0 result.1 }
         ensures full { AllHands result.1.hands }
         ensures alone { result.1.knows.alone ≡ true }
+        ensures world { world_after result.1.knows ≡ world_in (machine_of self) }
     {
         let TableMachine { board, pass, .. } = self;
         (board, pass)

@@ -4,6 +4,7 @@ ghost use Rattle.core_views.specs.Sizes.{sizes_of};
 ghost use Rattle.core_views.specs.Traces.{IsTrace};
 ghost use Rattle.mmu_core.specs.machine.Enabled.{mmu};
 ghost use Rattle.mmu_core.specs.machine.Worlds.{IsStart};
+ghost use Rattle.step_seats.specs.Machines.{IsMachine};
 ghost use Rattle.step_seats.specs.Moves.{world_of};
 ghost use Rattle.table_seats.specs.Boards.{AllHands, Explained, Fits, IsFirst, around, begun};
 ghost use Rattle.table_seats.specs.Passes.{Keeps, seat_of, world_after};
@@ -20,8 +21,8 @@ use std::alloc::Global;
 use std::marker::{Brand, Model, PhantomData};
 use step_seats::{Closing, Hand, MachineOwner, PlainMachine, Stepper};
 
-/// What the steps of a seat leave as it is: the board, and the other hands of the pass. No
-/// value of it is made.
+/// What the steps of a seat leave as it is: the board, the other hands of the pass, and what
+/// was done before the first split. No value of it is made.
 pub struct TableFrame {
     marker: PhantomData<()>,
 }
@@ -32,6 +33,13 @@ impl Model for TableFrame {
     ghost Value = { Around };
 
     ghost view = { λ _. nowhere };
+}
+
+// What always holds of a machine: steps lead to its words and hands from a start.
+fn holds(machine: &PlainMachine)
+    ensures { IsMachine machine.now.sizes machine.now.words machine.now.hands }
+{
+    machine.sizes();
 }
 
 /// The seat of one actor at a board. It has the pass that keeps the actor's hand.
@@ -52,7 +60,7 @@ impl<'b> TableSeat<'b> {
         ensures first { IfOk result (λ r. IsFirst r.0 r.1) }
     {
         let machine = PlainMachine::new(alloc, trace)?;
-        machine.sizes();
+        holds(&machine);
         let start = machine.into_closing();
         let (table, seat) = Table::of_words(alloc, start.words.as_slice(), &start)?;
         let Closing { hands, .. } = start;

@@ -23,7 +23,7 @@ use Rattle.step_seats.specs.Machines.{Machine, world_in}
 use Rattle.step_seats.specs.Moves.{core_of, handful_in}
 use Rattle.step_seats.proofs.Worlds.{core_at}
 use Rattle.weave_engine.proofs.FileOrder.{maker_is, maker_there, next_is}
-use Rattle.weave_engine.proofs.LinesRun.{AreBehind}
+use Rattle.weave_engine.proofs.LinesRun.{AreBehind, IsBetween, sound_between}
 
 -- The next line's hand: it is the machine's, nothing is under way in it, and the line is its next one.
 pub record IsReady (z : Sizes) (line : Line) (w : World Held) : Type 0 where
@@ -80,3 +80,11 @@ ready_on z lines i m same count lt may behind sound rest =
           (slice_get_within (hand_in mmu (world_in m) (index_of z line.actor)).lines (length (hand_in mmu (world_in m) (index_of z line.actor)).answers) line
           R.next) R.idle).0;
     }
+
+-- the same where the first lines have run since the machine was at its start
+pub ready_between : (z : Sizes) (lines : List Line) (i : ℕ) (first here : Machine) (printed : List ℕ) → IsStart z lines (world_in first) → here.sizes ≡ z
+    → length here.hands ≡ length first.hands → i < length lines → IsBetween z lines i (world_in first) (world_in here) printed
+    → IsReadyOn here (get_or lines i no_line)
+ready_between z lines i first here printed start same count lt B =
+    ready_on z lines i here same (count ∙ hands_at_start z lines first start) lt (start.allowed i no_line lt) B.behind
+    (sound_between z lines i (world_in first) (world_in here) printed start B) B.rest

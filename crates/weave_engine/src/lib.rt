@@ -22,7 +22,7 @@ pub use answer_printer::push_open;
 pub use by_turns::run_by_turns;
 pub use printer::{Printer, TurnPrinter};
 pub use ran::{How, Ran, status_of};
-pub use replaying::{replay_answers_on, replay_machine, replay_with};
+pub use replaying::{replay_answers_on, replay_machine, replay_with, run_alone};
 pub use run_on::last_answer;
 pub use turning::{TurnMade, Turned, turn_on};
 pub use weaving::{weave, weave_machine, weave_with};

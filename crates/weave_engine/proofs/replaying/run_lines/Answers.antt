@@ -9,8 +9,8 @@ use Rattle.step_seats.specs.Machines.{world_in}
 use Rattle.weave_engine.specs.Marks.{turns_from}
 use Rattle.weave_engine.proofs.Coming.{Printing}
 use Rattle.weave_engine.proofs.LinesPut.{lines_end, lines_stop, one_line_put}
-use Rattle.weave_engine.proofs.LinesRun.{between_at_start, none_ran, sound_between}
-use Rattle.weave_engine.proofs.ReadyLines.{hands_at_start, ready_on}
+use Rattle.weave_engine.proofs.LinesRun.{between_at_start, none_ran}
+use Rattle.weave_engine.proofs.ReadyLines.{ready_between}
 use Rattle.weave_engine.proofs.replaying.run_lines.Goals as goal
 
 pub loop-index-init : goal.loop-index-init
@@ -39,82 +39,47 @@ read lines i line is lt = get_or_read_under lines i (length lines) line no_line 
 pub line-requires-clause-there : goal.line-requires-clause-there
 line-requires-clause-there g c =
     let M = g.M.MachineOwner in
-    let z = (M.machine c.args.machine.now).sizes in
-    let start = world_in (M.machine c.args.machine.now) in
-    let here = world_in (M.machine c.loop-index.machine) in
     let i = c.loop-index.invariant in
-    let B = i.so_far.between in
-    rw (read c.args.lines.now c.loop-index.index c.index-lines-index.result c.index-lines-index.is (omega (arith, c.loop-index-test.true, c.requires.count)))
-    ((ready_on z c.args.lines.now c.loop-index.index (M.machine c.loop-index.machine) i.sizes
-    (i.count ∙ hands_at_start z c.args.lines.now (M.machine c.args.machine.now) c.requires.start)
-    (omega (arith, c.loop-index-test.true, c.requires.count))
-    (c.requires.start.allowed c.loop-index.index no_line (omega (arith, c.loop-index-test.true, c.requires.count))) B.behind
-    (sound_between z c.args.lines.now c.loop-index.index start here
-    i.so_far.printed c.requires.start B) B.rest).there)
+    let lt : c.loop-index.index < length c.args.lines.now = omega (arith, c.loop-index-test.true, c.requires.count) in
+    rw (read c.args.lines.now c.loop-index.index c.index-lines-index.result c.index-lines-index.is lt)
+    ((ready_between (M.machine c.args.machine.now).sizes c.args.lines.now c.loop-index.index (M.machine c.args.machine.now) (M.machine c.loop-index.machine)
+    i.so_far.printed c.requires.start i.sizes i.count lt i.so_far.between).there)
 
 pub line-requires-clause-idle : goal.line-requires-clause-idle
 line-requires-clause-idle g c =
     let M = g.M.MachineOwner in
-    let z = (M.machine c.args.machine.now).sizes in
-    let start = world_in (M.machine c.args.machine.now) in
-    let here = world_in (M.machine c.loop-index.machine) in
     let i = c.loop-index.invariant in
-    let B = i.so_far.between in
-    rw (read c.args.lines.now c.loop-index.index c.index-lines-index.result c.index-lines-index.is (omega (arith, c.loop-index-test.true, c.requires.count)))
-    ((ready_on z c.args.lines.now c.loop-index.index (M.machine c.loop-index.machine) i.sizes
-    (i.count ∙ hands_at_start z c.args.lines.now (M.machine c.args.machine.now) c.requires.start)
-    (omega (arith, c.loop-index-test.true, c.requires.count))
-    (c.requires.start.allowed c.loop-index.index no_line (omega (arith, c.loop-index-test.true, c.requires.count))) B.behind
-    (sound_between z c.args.lines.now c.loop-index.index start here
-    i.so_far.printed c.requires.start B) B.rest).idle)
+    let lt : c.loop-index.index < length c.args.lines.now = omega (arith, c.loop-index-test.true, c.requires.count) in
+    rw (read c.args.lines.now c.loop-index.index c.index-lines-index.result c.index-lines-index.is lt)
+    ((ready_between (M.machine c.args.machine.now).sizes c.args.lines.now c.loop-index.index (M.machine c.args.machine.now) (M.machine c.loop-index.machine)
+    i.so_far.printed c.requires.start i.sizes i.count lt i.so_far.between).idle)
 
 pub line-requires-clause-next : goal.line-requires-clause-next
 line-requires-clause-next g c =
     let M = g.M.MachineOwner in
-    let z = (M.machine c.args.machine.now).sizes in
-    let start = world_in (M.machine c.args.machine.now) in
-    let here = world_in (M.machine c.loop-index.machine) in
     let i = c.loop-index.invariant in
-    let B = i.so_far.between in
-    rw (read c.args.lines.now c.loop-index.index c.index-lines-index.result c.index-lines-index.is (omega (arith, c.loop-index-test.true, c.requires.count)))
-    ((ready_on z c.args.lines.now c.loop-index.index (M.machine c.loop-index.machine) i.sizes
-    (i.count ∙ hands_at_start z c.args.lines.now (M.machine c.args.machine.now) c.requires.start)
-    (omega (arith, c.loop-index-test.true, c.requires.count))
-    (c.requires.start.allowed c.loop-index.index no_line (omega (arith, c.loop-index-test.true, c.requires.count))) B.behind
-    (sound_between z c.args.lines.now c.loop-index.index start here
-    i.so_far.printed c.requires.start B) B.rest).next)
+    let lt : c.loop-index.index < length c.args.lines.now = omega (arith, c.loop-index-test.true, c.requires.count) in
+    rw (read c.args.lines.now c.loop-index.index c.index-lines-index.result c.index-lines-index.is lt)
+    ((ready_between (M.machine c.args.machine.now).sizes c.args.lines.now c.loop-index.index (M.machine c.args.machine.now) (M.machine c.loop-index.machine)
+    i.so_far.printed c.requires.start i.sizes i.count lt i.so_far.between).next)
 
 pub line-requires-clause-own : goal.line-requires-clause-own
 line-requires-clause-own g c =
     let M = g.M.MachineOwner in
-    let z = (M.machine c.args.machine.now).sizes in
-    let start = world_in (M.machine c.args.machine.now) in
-    let here = world_in (M.machine c.loop-index.machine) in
     let i = c.loop-index.invariant in
-    let B = i.so_far.between in
-    rw (read c.args.lines.now c.loop-index.index c.index-lines-index.result c.index-lines-index.is (omega (arith, c.loop-index-test.true, c.requires.count)))
-    ((ready_on z c.args.lines.now c.loop-index.index (M.machine c.loop-index.machine) i.sizes
-    (i.count ∙ hands_at_start z c.args.lines.now (M.machine c.args.machine.now) c.requires.start)
-    (omega (arith, c.loop-index-test.true, c.requires.count))
-    (c.requires.start.allowed c.loop-index.index no_line (omega (arith, c.loop-index-test.true, c.requires.count))) B.behind
-    (sound_between z c.args.lines.now c.loop-index.index start here
-    i.so_far.printed c.requires.start B) B.rest).own)
+    let lt : c.loop-index.index < length c.args.lines.now = omega (arith, c.loop-index-test.true, c.requires.count) in
+    rw (read c.args.lines.now c.loop-index.index c.index-lines-index.result c.index-lines-index.is lt)
+    ((ready_between (M.machine c.args.machine.now).sizes c.args.lines.now c.loop-index.index (M.machine c.args.machine.now) (M.machine c.loop-index.machine)
+    i.so_far.printed c.requires.start i.sizes i.count lt i.so_far.between).own)
 
 pub line-requires-clause-alone : goal.line-requires-clause-alone
 line-requires-clause-alone g c =
     let M = g.M.MachineOwner in
-    let z = (M.machine c.args.machine.now).sizes in
-    let start = world_in (M.machine c.args.machine.now) in
-    let here = world_in (M.machine c.loop-index.machine) in
     let i = c.loop-index.invariant in
-    let B = i.so_far.between in
-    rw (read c.args.lines.now c.loop-index.index c.index-lines-index.result c.index-lines-index.is (omega (arith, c.loop-index-test.true, c.requires.count)))
-    ((ready_on z c.args.lines.now c.loop-index.index (M.machine c.loop-index.machine) i.sizes
-    (i.count ∙ hands_at_start z c.args.lines.now (M.machine c.args.machine.now) c.requires.start)
-    (omega (arith, c.loop-index-test.true, c.requires.count))
-    (c.requires.start.allowed c.loop-index.index no_line (omega (arith, c.loop-index-test.true, c.requires.count))) B.behind
-    (sound_between z c.args.lines.now c.loop-index.index start here
-    i.so_far.printed c.requires.start B) B.rest).alone)
+    let lt : c.loop-index.index < length c.args.lines.now = omega (arith, c.loop-index-test.true, c.requires.count) in
+    rw (read c.args.lines.now c.loop-index.index c.index-lines-index.result c.index-lines-index.is lt)
+    ((ready_between (M.machine c.args.machine.now).sizes c.args.lines.now c.loop-index.index (M.machine c.args.machine.now) (M.machine c.loop-index.machine)
+    i.so_far.printed c.requires.start i.sizes i.count lt i.so_far.between).alone)
 
 pub line-requires-clause-ready : goal.line-requires-clause-ready
 line-requires-clause-ready g c =

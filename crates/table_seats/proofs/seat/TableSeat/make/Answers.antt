@@ -18,7 +18,7 @@ invariant_of-result c =
     let t = c.in_ok-table.ensures {u = tt} in
     let start = c.into_closing-start.result in
     let before = c.in_ok-machine.machine in
-    let m = begins before.sizes before.words before.hands start c.sizes.ensures.reached c.into_closing-start.ensures.words
+    let m = begins before.sizes before.words before.hands start c.holds.ensures c.into_closing-start.ensures.words
     c.into_closing-start.ensures.hands in
     let words : c.in_ok-table.table.shared.table_id.words ≡ length start.words = t.0 ∙ ap (λ (ws : List ℕ). length ws) c.as_slice.ensures in
     record {
@@ -32,7 +32,7 @@ invariant_of-result-2 c =
     let t = c.in_ok-table.ensures {u = tt} in
     let start = c.into_closing-start.result in
     let before = c.in_ok-machine.machine in
-    let m = begins before.sizes before.words before.hands start c.sizes.ensures.reached c.into_closing-start.ensures.words
+    let m = begins before.sizes before.words before.hands start c.holds.ensures c.into_closing-start.ensures.words
     c.into_closing-start.ensures.hands in
     let hands : c.in_ok-hands.hands.items ≡ map Some start.hands =
     c.in_ok-hands.ensures {u = tt} ∙ ap (λ (l : List Handful). map Some l) c.into_vec.ensures in (

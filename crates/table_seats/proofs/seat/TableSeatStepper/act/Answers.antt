@@ -1,5 +1,6 @@
-use Rattle.std.proofs.Common.{refl}
-use Rattle.table_seats.proofs.Passes.{put_fits, put_keeps, put_others}
+use Rattle.std.proofs.Common.{◌∙◌, ap, refl}
+use Rattle.table_seats.specs.Passes.{hand_at, steps_before_split}
+use Rattle.table_seats.proofs.Passes.{moved_split, put_fits, put_keeps, put_others}
 use Rattle.table_seats.proofs.seat.TableSeatStepper.act.Goals as goal
 
 pub invariant_of-self : goal.invariant_of-self
@@ -11,4 +12,7 @@ invariant_of-self c =
     }
 
 pub returns-clause-same : goal.returns-clause-same
-returns-clause-same c = let s = c.args.self.now in (refl, put_others s.pass c.act.new.pass s.actor c.act.ensures.put s.board.now)
+returns-clause-same c =
+    let s = c.args.self.now in
+    let split = ap steps_before_split c.act.ensures.knows ∙ moved_split s.actor (hand_at s.pass.hands s.actor).core c.args.kind c.act.result s.pass.knows in
+    (refl, put_others s.pass c.act.new.pass s.actor c.act.ensures.put s.board.now split)

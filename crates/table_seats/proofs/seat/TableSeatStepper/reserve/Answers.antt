@@ -1,7 +1,7 @@
 use Rattle.std.proofs.Common.{Result, Ok, Err, ◌≡◌, ap, refl}
 use Rattle.std.specs.Prelude.{OnErr}
 use Rattle.core_views.specs.Held.{Handful}
-use Rattle.table_seats.specs.Passes.{Known, hand_at, steps_told, world_told}
+use Rattle.table_seats.specs.Passes.{Known, hand_at, steps_before_split, steps_told, world_told}
 use Rattle.table_seats.proofs.Passes.{put_fits, put_keeps, put_others}
 use Rattle.table_seats.proofs.seat.TableSeatStepper.reserve.Goals as goal
 
@@ -26,4 +26,6 @@ pub returns-clause-told : goal.returns-clause-told
 returns-clause-told c = ap (λ (v : Known). record { world = world_told v; steps = steps_told v }) c.reserve.ensures.knows
 
 pub returns-clause-same : goal.returns-clause-same
-returns-clause-same c = let s = c.args.self.now in (refl, put_others s.pass c.reserve.new.self s.actor c.reserve.ensures.put s.board.now)
+returns-clause-same c =
+    let s = c.args.self.now in
+    (refl, put_others s.pass c.reserve.new.self s.actor c.reserve.ensures.put s.board.now (ap steps_before_split c.reserve.ensures.knows))
