@@ -7,6 +7,7 @@ use Rattle.core_views.specs.declared.trace.Line.{Line}
 use Rattle.core_views.specs.declared.trace.Trace.{Trace}
 use Rattle.core_views.specs.Held.{Held}
 use Rattle.core_views.specs.Need.{need}
+use Rattle.live_engine.specs.Lives.{LivesAll, LivesUntil}
 use Rattle.mmu_core.specs.machine.Machine.{World}
 use Rattle.tdp_io.specs.declared.sink.Stop.{Stop}
 use Rattle.tdp_io.specs.declared.sink.Stop.TheVariants.{Failed, NoMemory as Full}
@@ -21,7 +22,7 @@ use Rattle.weave_engine.specs.Replays.{Replays, ReplaysUntil}
 use Rattle.weave_engine.specs.Weaves.{WeavesAll, WeavesPart, unfinished_text}
 use Rattle.weave_engine.specs.Woven.{WeavesUntil}
 use Rattle.tdpmmu.specs.declared.command.Command.{Command}
-use Rattle.tdpmmu.specs.declared.command.Command.TheVariants.{Check, Replay, Weave}
+use Rattle.tdpmmu.specs.declared.command.Command.TheVariants.{Check, Replay, Weave, Live}
 
 -- The words are the program's name and the name of a command.
 abbrev pub command_named : List ℕ → Option Command
@@ -29,6 +30,7 @@ command_named word =
     if bytes_eq word (codes "check") then Some Check else
     if bytes_eq word (codes "replay") then Some Replay else
     if bytes_eq word (codes "weave") then Some Weave else
+    if bytes_eq word (codes "live") then Some Live else
     None
 
 abbrev pub command_of : List (List ℕ) → Option Command
@@ -36,11 +38,12 @@ command_of (name ∷ word ∷ []) = command_named word
 command_of _ = None
 
 -- The whole output of a command on a trace: how long it is and what it needs; what a replay of all its lines prints, which is the
--- text of its flat history where the pool has as many pages as it needs; or what a weave prints that answers all of them.
+-- text of its flat history where the pool has as many pages as it needs; what a weave prints that answers all of them; or what a live run prints.
 abbrev pub IsOutput : Command → Trace → List ℕ → Type 0
 IsOutput Check trace bytes = bytes ≡ check_text (length trace.lines) (need trace.header trace.lines)
 IsOutput Replay trace bytes = (closing : World Held) × Replays trace trace.lines bytes closing
 IsOutput Weave trace bytes = (closing : World Held) × WeavesAll trace rounds_limit bytes closing
+IsOutput Live trace bytes = (closing : World Held) × LivesAll trace bytes closing
 
 -- The output of a weave that ran out of turns in rounds: what it printed, and the first line of the file that has no answer.
 abbrev pub IsUnfinished : Command → Trace → Actor → ℕ → List ℕ → Type 0
@@ -50,11 +53,12 @@ IsUnfinished Weave trace actor number text =
 IsUnfinished _ trace actor number text = ⊥
 
 -- The output of a command that stopped for this, which may have come to only some of the trace's lines: where a write failed, to a line's
--- answer or to the end.
+-- answer or to the end. A live run writes at its end: there it is the first part of what it had to write.
 abbrev pub IsOutputUntil : Stop → Command → Trace → List ℕ → Type 0
 IsOutputUntil stop Check trace bytes = IsOutput Check trace bytes
 IsOutputUntil stop Replay trace bytes = (closing : World Held) × ReplaysUntil stop trace closing bytes
 IsOutputUntil stop Weave trace bytes = (closing : World Held) × WeavesUntil stop trace rounds_limit closing bytes
+IsOutputUntil stop Live trace bytes = LivesUntil stop trace bytes
 
 -- the output, so far, of a command for what an input says
 abbrev pub IsOutputOf : Stop → Command → Result Trace (ℕ × Reason) → List ℕ → Type 0
@@ -66,7 +70,8 @@ abbrev pub IsOutputOn : Stop → Option Command → List ℕ → List ℕ → Ty
 IsOutputOn stop (Some command) input bytes = IsOutputOf stop command (reading input) bytes
 IsOutputOn stop None input bytes = bytes ≡ usage_text
 
--- A prefix of such an output was written, which lacks at most 8,192 bytes and the output's last line.
+-- A prefix of such an output was written, which lacks at most 8,192 bytes and the output's last line; of a live run, whose output is any first part here, that
+-- says that some first bytes of what it had to write were written.
 abbrev pub WritesPrefix : Stop → Option Command → List ℕ → Option (List ℕ) → Option (List ℕ) → Type 0
 WritesPrefix stop asked input before after = (bytes : List ℕ) × IsOutputOn stop asked input bytes × LeavesFew IsWrittenLine before after bytes
 

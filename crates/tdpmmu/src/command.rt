@@ -10,4 +10,7 @@ pub enum Command {
     /// in the order of the schedule and then in rounds, and print what they are
     /// answered, in the order of the answers.
     Weave,
+    /// Run the lines above `go` alone, in file order, then all others with a thread for
+    /// each actor, and print what all lines are answered, in file order, and guest memory.
+    Live,
 }

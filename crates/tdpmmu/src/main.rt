@@ -25,6 +25,8 @@ fn main(rt: HostRuntime) -> ExitCode {
 }
 
 #[cfg(test)]
+mod gates;
+#[cfg(test)]
 mod limits;
 #[cfg(test)]
 mod tests;

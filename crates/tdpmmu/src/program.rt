@@ -5,10 +5,11 @@ ghost use Rattle.core_views.specs.Traces.{IsTrace};
 ghost use Rattle.tdpmmu.specs.Output.{check_text};
 ghost use Rattle.tdp_io.specs.Ends.{Wrote, WroteFaults, is_failed};
 ghost use Rattle.tdpmmu.specs.Run.{command_named as named, command_of, Prints, RunsTo};
-ghost use Rattle.tdpmmu.specs.Steps.{WritesOutput};
+ghost use Rattle.tdpmmu.specs.Steps.{WritesLive, WritesOutput};
 
 use crate::command::Command;
 use core_views::{NoMemory, Trace};
+use live_engine::live;
 use run_status::{ROUNDS, Status, ended, refuse, usage};
 use std::alloc::{AllocError, Global};
 use std::sync::Wait;
@@ -62,13 +63,42 @@ fn command_named(word: &str) -> Option<Command>
         Some(Command::Replay)
     } else if word == "weave" {
         Some(Command::Weave)
+    } else if word == "live" {
+        Some(Command::Live)
     } else {
         None
     }
 }
 
+// Runs the trace with a thread for each actor, and writes what that leaves.
+fn run_live<R: Threads + Wait + Sync, K: Sink, G: Gate + Sync>(
+    rt: &R,
+    alloc: Global,
+    trace: &Trace,
+    out: &mut K,
+    gate: &G,
+) -> Result<(), Stop>
+    requires trace { IsTrace trace.now }
+    requires unfailed { K.failed out.old ≡ false }
+    ensures bytes { WritesLive trace.now (K.written out.old) (K.written out.new) result }
+    ensures faults { WroteFaults (K.faults out.old) (K.faults out.new) result }
+    ensures failed { K.failed out.new ≡ is_failed result }
+{
+    let Ok(gathered) = live(rt, alloc, trace, gate) else {
+        return Err(Stop::NoMemory);
+    };
+    write_all(out, gathered.text.as_bytes())
+}
+
 // The input is this trace.
-fn run_trace<K: Sink>(alloc: Global, command: Command, trace: &Trace, out: &mut K) -> Status
+fn run_trace<R: Threads + Wait + Sync, K: Sink, G: Gate + Sync>(
+    rt: &R,
+    alloc: Global,
+    command: Command,
+    trace: &Trace,
+    out: &mut K,
+    gate: &G,
+) -> Status
     requires trace { IsTrace trace.now }
     requires unfailed { K.failed out.old ≡ false }
     ensures written { WritesOutput command trace.now (K.written out.old) (K.written out.new) result }
@@ -79,15 +109,31 @@ fn run_trace<K: Sink>(alloc: Global, command: Command, trace: &Trace, out: &mut 
         Command::Check => ended(check(alloc, trace, out)),
         Command::Replay => status_of(replay(alloc, trace, out)),
         Command::Weave => status_of(weave(alloc, trace, ROUNDS, out)),
+        Command::Live => ended(run_live(rt, alloc, trace, out, gate)),
     }
 }
 
-// The whole program but for its threads: nothing here waits, so it returns.
-fn run_command<S: Source, K: Sink>(
+/// The whole program: runs the command that `words` name, the program's name
+/// first, on the trace that `src` has left, and writes to `out` all that there
+/// is to say. Today the commands are `check`, `replay`, `weave` and `live`; any other words
+/// are answered by the usage line. `live` runs each actor in a thread of its own where threads
+/// can be made, and passes `gate` before each turn. It isn't proved to return; what runs the
+/// other commands is.
+/// No write to `out` may have failed before.
+///
+/// The status says how it went, and each has its cause: `ReadFault` comes only where
+/// the count of faults of `src` rose, or stood at 2^64 - 1, and `WriteFault` exactly
+/// where a write to `out` failed. After that nothing was written. At `WriteFault`, and at
+/// `NoMemory` but where nothing is written, what the first lines or turns print is written
+/// but for at most 8,192 bytes and its last line; of `live`, which writes at its end, some
+/// first part.
+pub fn run<R: Threads + Wait + Sync, S: Source, K: Sink, G: Gate + Sync>(
+    rt: &R,
     alloc: Global,
     words: &[String],
     src: &mut S,
     out: &mut K,
+    gate: &G,
 ) -> Status
     requires unfailed { K.failed out.old ≡ false }
     ensures runs { RunsTo (command_of (map string_bytes words.now)) (record {
@@ -110,42 +156,6 @@ fn run_command<S: Source, K: Sink>(
         Err(NoMemory) => Status::NoMemory,
         Ok(Read::ReadFault) => Status::ReadFault,
         Ok(Read::Refused { line, reason }) => refuse(alloc, line, reason, out),
-        Ok(Read::Trace(trace)) => run_trace(alloc, command, &trace, out),
+        Ok(Read::Trace(trace)) => run_trace(rt, alloc, command, &trace, out, gate),
     }
-}
-
-/// The whole program: runs the command that `words` name, the program's name
-/// first, on the trace that `src` has left, and writes to `out` all that there
-/// is to say. Today the commands are `check`, `replay` and `weave`; any other words
-/// are answered by the usage line. `rt` and `gate` are for commands that start threads.
-/// No write to `out` may have failed before.
-///
-/// The status says how it went, and each has its cause: `ReadFault` comes only where
-/// the count of faults of `src` rose, or stood at 2^64 - 1, and `WriteFault` exactly
-/// where a write to `out` failed. After that nothing was written. At `WriteFault`, and at
-/// `NoMemory` but where nothing is written, what the first lines or turns print is written
-/// but for at most 8,192 bytes and its last line.
-pub fn run<R: Threads + Wait + Sync, S: Source, K: Sink, G: Gate + Sync>(
-    _rt: &R,
-    alloc: Global,
-    words: &[String],
-    src: &mut S,
-    out: &mut K,
-    _gate: &G,
-) -> Status
-    requires unfailed { K.failed out.old ≡ false }
-    ensures runs { RunsTo (command_of (map string_bytes words.now)) (record {
-      left = S.left src.old;
-      left_after = S.left src.new;
-      ended = S.ended src.new;
-      written = K.written out.old;
-      written_after = K.written out.new;
-    }) result }
-    ensures prints { IfSome (S.left src.old)
-        (λ input. Prints (command_of (map string_bytes words.now)) (take 16777217 input) (K.written out.old) (K.written out.new) result) }
-    ensures read { ReadCause (S.faults src.old) (S.faults src.new) result }
-    ensures write { WriteCause (K.faults out.old) (K.faults out.new) result }
-    ensures failed { K.failed out.new ≡ status_is_write_fault result }
-{
-    run_command(alloc, words, src, out)
 }

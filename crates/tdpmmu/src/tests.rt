@@ -57,11 +57,14 @@ fn ends<R: Threads + Wait + Sync>(
 fn all_end_so<R: Threads + Wait + Sync>(rt: &R, alloc: Global) -> Result<bool, Fail> {
     let replay = ["tdpmmu", "replay"].as_slice();
     let weave = ["tdpmmu", "weave"].as_slice();
+    let live = ["tdpmmu", "live"].as_slice();
     Ok(
         ends(rt, alloc, Failing::Nothing, &[], ONE_WRITE, 2, USAGE)?
             && ends(rt, alloc, Failing::FirstRead, replay, ONE_WRITE, 4, "")?
             && ends(rt, alloc, Failing::FirstWrite, replay, ONE_WRITE, 5, "")?
             && ends(rt, alloc, Failing::FirstWrite, weave, ONE_WRITE, 5, "")?
+            && ends(rt, alloc, Failing::FirstRead, live, ONE_WRITE, 4, "")?
+            && ends(rt, alloc, Failing::FirstWrite, live, ONE_WRITE, 5, "")?
             && ends(rt, alloc, Failing::FirstWrite, weave, HEADLESS, 5, "")?,
     )
 }

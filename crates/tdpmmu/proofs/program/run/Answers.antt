@@ -3,7 +3,7 @@ use Rattle.std.proofs.KnownBytes.{Consumes-nil}
 use Rattle.std.proofs.lemmas.Grind.{common_steps}
 use Rattle.tdpmmu.specs.Run.{Around, command_of}
 use Rattle.tdpmmu.proofs.Runs.{refused_prints, refused_runs, trace_prints, trace_runs, usage_prints, usage_runs}
-use Rattle.tdpmmu.proofs.program.run_command.Goals as goal
+use Rattle.tdpmmu.proofs.program.run.Goals as goal
 
 pub returns-in-Ok-Trace-clause-runs : goal.returns-in-Ok-Trace-clause-runs
 returns-in-Ok-Trace-clause-runs g c =

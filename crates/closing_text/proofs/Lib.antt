@@ -1,0 +1,4 @@
+pub mod Actors
+pub mod ByLine
+pub mod ImageTexts
+pub mod Prefixes

@@ -1,0 +1,3 @@
+pub mod Words
+pub mod Accesses
+pub mod Example
