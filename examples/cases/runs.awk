@@ -1,10 +1,11 @@
 # Makes of files of cases what each run is given and has to print: in the folder `to` the files trace/N and wanted/N, of which
-# the last line is the exit status. Prints a line for each run: N, where its case stands, how its output is compared, the
-# program, and the words that it is called with. README.md says what a file of cases is.
+# the last line is the exit status, and allowed/N.1, N.2 and so on where any of several outputs may come. Prints a line for each
+# run: N, where its case stands, how its output is compared, the program, and the words that it is called with. README.md says
+# what a file of cases is.
 
 BEGIN {
   ORS = ""
-  split("check replay weave alone any-cache refused cut rows flat calls", names, " ")
+  split("check replay weave live alone any-cache refused cut rows flat calls", names, " ")
   for (i in names) is_way[names[i]] = 1
 }
 
@@ -77,6 +78,13 @@ function run_rows(text, pieces, count, i) {
   }
 }
 
+# Any of the outputs may come.
+function run_live(input, i) {
+  input = lines ~ /^tdp / ? lines : header lines
+  run("any", "tdpmmu live", input, allowed[1], 0)
+  for (i = 1; i <= parts; i++) put(allowed[i] "status 0\n", to "/allowed/" runs "." i)
+}
+
 function run_case(text, input) {
   input = lines ~ /^tdp / ? lines : header lines
   if (way == "alone") {
@@ -94,9 +102,10 @@ function begin_case() {
   rows = parts = begun = is_bad = 0
 }
 
-# What stands since the last part of the case, if that is one of calls, has an end.
+# What stands since the last part of the case, if that may have several, has an end.
 function end_part() {
   if (parts && way == "calls") run_calls(calls, text)
+  if (parts && way == "live") allowed[parts] = text
   text = ""
 }
 
@@ -131,6 +140,7 @@ $0 == "--" {
   if (way == "flat") run_flat()
   else if (!parts) bad("a case without a line ==")
   else if (way == "calls") end_part()
+  else if (way == "live") { end_part(); run_live() }
   else run_case(text)
   begin_case()
   next
@@ -140,7 +150,7 @@ $1 == "==" && way != "flat" {
   end_part()
   parts++
   calls = substr($0, 4)
-  if (way != "calls" && parts > 1) bad("a case with two lines ==")
+  if (way != "calls" && way != "live" && parts > 1) bad("a case with two lines ==")
   next
 }
 
