@@ -26,6 +26,7 @@ use Rattle.closing_text.proofs.Prefixes.{one_more, passing_more, passing_next, p
 pub record ArePut (z : Sizes) (lines : List Line) (hands : List Handful) (done : ℕ) (put : List ℕ) (answers : List AnsweredLine) : Type 0 where
   pub count : length put ≡ actors_of z
   pub numbers : map (λ x. x.number) answers ≡ map (λ line. line.number) (take done lines)
+  pub actors : map (λ x. x.actor) answers ≡ map (λ line. line.actor) (take done lines)
   pub so_many : (i : ℕ) → i < actors_of z → slice_index put i ≡ length (lines_of (actor_at z i) (take done lines))
   pub each : (i : ℕ) (h : Handful) → slice_get hands i ≡ Some h
       → filter (λ x. is_same (actor_at z i) x.actor) answers ≡ take (slice_index put i) h.core.answers
@@ -39,6 +40,7 @@ none_put z lines hands put all is =
     record {
       count = ap length is ∙ length-replicate (actors_of z) 0;
       numbers = refl;
+      actors = refl;
       so_many = zero_at;
       each = λ i h at. let low = slice_get_within hands i h at in
           ap (λ (n : ℕ). take n h.core.answers) (sym (zero_at i (omega (arith, low, all.count))));
@@ -106,14 +108,13 @@ told_actor : (actor : Actor) (lines : List Line) (answers : List AnsweredLine) (
 told_actor actor lines answers n told own is =
     subst (λ (x : AnsweredLine). x.actor ≡ actor) (get_or_from_slice_get answers n told told is) (own.own n told (slice_get_within answers n told is))
 
-numbers_more : (lines : List Line) (done : ℕ) (answers : List AnsweredLine) (line : Line) (told : AnsweredLine) → slice_get lines done ≡ Some line
-    → told.number ≡ line.number → map (λ x. x.number) answers ≡ map (λ x. x.number) (take done lines)
-    → map (λ x. x.number) (answers ++ told ∷ []) ≡ map (λ x. x.number) (take (done + 1) lines)
-numbers_more lines done answers line told at same before =
-    let of_answer : AnsweredLine → ℕ = λ x. x.number in
-    let of_line : Line → ℕ = λ x. x.number in
-    map-append of_answer answers (told ∷ []) ∙ ap (λ (xs : List ℕ). xs ++ told.number ∷ []) before
-    ∙ ap (λ (n : ℕ). map of_line (take done lines) ++ n ∷ []) same ∙ sym (map-append of_line (take done lines) (line ∷ []))
+-- What the answers tell is what the lines tell, with one more of each, where those tell the same.
+alike_more : {A : Type 0} → (of_answer : AnsweredLine → A) (of_line : Line → A) (lines : List Line) (done : ℕ) (answers : List AnsweredLine) (line : Line)
+    (told : AnsweredLine) → slice_get lines done ≡ Some line → of_answer told ≡ of_line line → map of_answer answers ≡ map of_line (take done lines)
+    → map of_answer (answers ++ told ∷ []) ≡ map of_line (take (done + 1) lines)
+alike_more of_answer of_line lines done answers line told at same before =
+    map-append of_answer answers (told ∷ []) ∙ ap (λ xs. xs ++ of_answer told ∷ []) before
+    ∙ ap (λ x. map of_line (take done lines) ++ x ∷ []) same ∙ sym (map-append of_line (take done lines) (line ∷ []))
     ∙ sym (ap (map of_line) (one_more lines done line at))
 
 -- so many answers, with the one more of the actor at this place
@@ -187,7 +188,8 @@ put_more z lines hands done put answers line told all is so_far answer =
     let tells : told.actor ≡ line.actor = told_actor (actor_at z p) lines h.core.answers (slice_index put p) told own answer.is ∙ is.who in
     record {
       count = length-set put p (slice_index put p + 1) ∙ so_far.count;
-      numbers = numbers_more lines done answers line told is.at number so_far.numbers;
+      numbers = alike_more (λ x. x.number) (λ x. x.number) lines done answers line told is.at number so_far.numbers;
+      actors = alike_more (λ x. x.actor) (λ x. x.actor) lines done answers line told is.at tells so_far.actors;
       so_many = λ i lt. so_many_more z lines done put line i is so_far.count so_far.so_many lt;
       each = λ i g at.
           let within = slice_get_within hands i g at in
@@ -201,6 +203,7 @@ pub all_put : (z : Sizes) (lines : List Line) (hands : List Handful) (done : ℕ
     → length lines ≤ done → ArePut z lines hands done put answers → AreByLine z lines hands answers
 all_put z lines hands done put answers all le so_far = record {
   numbers = so_far.numbers ∙ ap (map (λ (x : Line). x.number)) (take_all done lines le);
+  actors = so_far.actors ∙ ap (map (λ (x : Line). x.actor)) (take_all done lines le);
   each = λ i h at.
       let low = slice_get_within hands i h at in
       let many = as_many (actor_at z i) lines h.core.answers (all.each i h at) in

@@ -22,9 +22,10 @@ pub record AllHaveAnswered (z : Sizes) (lines : List Line) (hands : List Handful
   pub actors : All (λ line. HasActor z line.actor) lines
   pub each : (i : ℕ) (h : Handful) → slice_get hands i ≡ Some h → HasAnsweredAll (actor_at z i) lines h.core.answers
 
--- The answers are those of these lines, in their order, and each actor's are those of its hand, in its order.
+-- The answers are those of these lines, in their order: each has its line's number and actor, and each actor's are those of its hand, in its order.
 pub record AreByLine (z : Sizes) (lines : List Line) (hands : List Handful) (answers : List AnsweredLine) : Type 0 where
   pub numbers : map (λ x. x.number) answers ≡ map (λ line. line.number) lines
+  pub actors : map (λ x. x.actor) answers ≡ map (λ line. line.actor) lines
   pub each : (i : ℕ) (h : Handful) → slice_get hands i ≡ Some h → filter (λ x. is_same (actor_at z i) x.actor) answers ≡ h.core.answers
 
 -- This is the first answer of the hand at this place that isn't put, where so many of each hand's are put.

@@ -85,6 +85,7 @@ module _ (trace : Trace) (words : List ℕ) (hands : List Handful) (L : Lives tr
       → AreInFileOrder z trace.lines (told_by trace (world_of words hands) L) answers
   in_file_order answers B = record {
     numbers = B.numbers;
+    actors = B.actors;
     each = λ i lt.
         let there : i < length hands = omega (arith, lt, count) in
         let is = slice_get-get_or hands i no_hand there in

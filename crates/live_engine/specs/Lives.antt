@@ -29,10 +29,11 @@ use Rattle.weave_engine.specs.Replays.{RunsLines}
 use Rattle.weave_engine.specs.Weaves.{StarvedLinesScanIn, lines_above}
 use Rattle.word_laws.specs.Accesses.{accesses_by, told as told_of, told_in}
 
--- The history answers each line of the trace; these are its answers in file order: the numbers are those of the lines, and each actor's answers are those
--- that the history gives it, in its order.
+-- The history answers each line of the trace; these are its answers in file order: each has the number and the actor of its line, and each actor's answers
+-- are those that the history gives it, in its order.
 pub record AreInFileOrder (z : Sizes) (lines : List Line) (told : List Event) (answers : List AnsweredLine) : Type 0 where
   pub numbers : map (λ x. x.number) answers ≡ map (λ line. line.number) lines
+  pub actors : map (λ x. x.actor) answers ≡ map (λ line. line.actor) lines
   pub each : (i : ℕ) → i < actors_of z → filter (λ x. is_same (actor_at z i) x.actor) answers ≡ answers_by (actor_at z i) told
 
 -- the answers, and the words of guest memory after the history

@@ -1,5 +1,5 @@
 -- What a live run wrote is what the program owes.
-use Rattle.std.proofs.Common.{◌≡◌, ◌∙◌, inl, inr, ℕ, List, [], Result, Ok, Err, ap, arith, length, refl, subst, sym, take}
+use Rattle.std.proofs.Common.{inl, inr, ℕ, List, [], Result, Ok, Err, arith, length, refl, subst, sym, take}
 use Rattle.std.proofs.KnownBytes.{Appends-nil}
 use Rattle.std.proofs.Math.Seq.{take-length}
 use Rattle.std.proofs.lemmas.List.{append-nil}

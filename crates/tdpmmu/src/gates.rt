@@ -105,14 +105,10 @@ impl Calls {
             (Order::Crossing, 5) => self.made(4) >= 2,
             (Order::Crossing, 6) => self.made(7) > 0,
             (Order::Crossing | Order::Four, _) => true,
-            (Order::Together, _) => {
-                self.made(5) > 0 && self.made(6) > 0 && self.made(7) > 0 && self.made(8) > 0
-            }
+            (Order::Together, _) => self.have_come(order),
         }
     }
-}
 
-impl Calls {
     // Whether all turns have come that the order is about.
     fn have_come(&self, order: Order) -> bool {
         match order {
