@@ -5,7 +5,7 @@ ghost use Rattle.core_views.specs.Text.{image_text, image_word_text};
 ghost use Rattle.flat_model.specs.Copying.{is_printed};
 ghost use Rattle.closing_text.specs.MemoryText.{AreAllWords, HaveHostPages, content_in, frame_in, memory_in, memory_text};
 
-use core_views::{ImageWord, NoMemory, Sizes, Slot};
+use core_views::{ImageWord, NoMemory, SLOTS, Sizes, Slot};
 use hands::SlotSet;
 use part_steps::map_of;
 use spte_words::{Area, HostWord};
@@ -24,7 +24,7 @@ pub fn push_memory(
         ≡ string_bytes text.old ++ memory_text (image_words sizes.now.words (memory_in sizes.now words.now) slots.now)) }
 {
     write!(text, "memory")?;
-    for id in 0..32 {
+    for id in 0..SLOTS {
         if let Some(found) = slots.get(id) {
             push_slot(text, sizes, words, id, &found.slot)?;
         }

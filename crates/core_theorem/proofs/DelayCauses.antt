@@ -31,7 +31,7 @@ use Rattle.mmu_laws.specs.turns.Removal.{StayMisses}
 use Rattle.mmu_laws.specs.turns.TurnLaws.{counts_as_delay}
 use Rattle.core_theorem.proofs.TakenAway.{misses_entry}
 use Rattle.mmu_laws.proofs.causes.Causes.{faults_begin_anew_by_cause}
-use Rattle.mmu_laws.proofs.causes.EachFault.{is_access}
+use Rattle.mmu_laws.proofs.forms.access.EachFault.{is_access}
 use Rattle.mmu_laws.proofs.causes.SawNothing.{between_lines_saw_nothing, line_left_before, starts_saw_nothing as seen_at_start}
 use Rattle.mmu_laws.proofs.causes.StarvedScan.{legal_parts}
 use Rattle.mmu_core.proofs.start.Starts.{hand_is}

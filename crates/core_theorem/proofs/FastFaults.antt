@@ -1,7 +1,8 @@
--- A fast fault that ends with its write allowed has allowed it itself, in the section that it is about to end, and marked the page where its slot has a log.
-use Rattle.std.proofs.Common.{◌≡◌, ◌≢◌, ℕ, List, [], ◌∷◌, ◌++◌, refl, ap, ◌∙◌}
+-- A fast fault that ends with its write allowed has allowed it itself, in the section that it is about to end, and marked the page where its slot has a log;
+-- and another one has found no slot, or no leaf in which it could.
+use Rattle.std.proofs.Common.{◌≡◌, ◌≢◌, ◌⊎◌, ℕ, List, [], ◌∷◌, ◌++◌, inl, inr, refl, ap, subst, ◌∙◌}
 use Rattle.std.proofs.lemmas.Bool.{eqb-true}
-use Rattle.std.specs.Prelude.{Bool, true, false, not, nat_le, nat_lt, ◌==◌, ◌&&◌, ◌+◌, if◌then◌else◌}
+use Rattle.std.specs.Prelude.{Bool, true, false, not, nat_le, nat_lt, ◌==◌, ◌&&◌, ◌||◌, ◌+◌, if◌then◌else◌}
 use Rattle.core_views.specs.declared.kind.Kind.{Kind}
 use Rattle.core_views.specs.declared.place.Cause.TheVariants.{Entry, Moved, Open}
 use Rattle.core_views.specs.declared.place.CheckStage.{CheckStage}
@@ -19,7 +20,7 @@ use Rattle.core_views.specs.Kinds.{after}
 use Rattle.core_views.specs.Slots.{contains}
 use Rattle.spte_words.specs.declared.spte_kind.SpteKind.{SpteKind}
 use Rattle.spte_words.specs.declared.spte_kind.SpteKind.TheVariants as entry_kind
-use Rattle.spte_words.specs.Entries.{kind_of, with_write}
+use Rattle.spte_words.specs.Entries.{can_write, host_writable, kind_of, mmu_writable, with_write}
 use Rattle.part_steps.specs.declared.part_step.PartStep.TheVariants as part
 use Rattle.spte_words.specs.HostWords.{host_allows_write, host_present}
 use Rattle.part_steps.specs.PageTopics.{searched}
@@ -30,18 +31,22 @@ use Rattle.mmu_core.specs.declared.share.ShareNext.{ShareNext}
 use Rattle.mmu_core.specs.declared.share.ShareNext.TheVariants as shares
 use Rattle.mmu_core.specs.declared.claim.FreeMap.TheVariants.{Pages}
 use Rattle.mmu_core.specs.invariant.Laws.{IsSound}
-use Rattle.mmu_core.specs.lines.FaultKnows.{FaultKnows}
-use Rattle.mmu_core.specs.lines.FaultSteps.{after_claim, after_share, check_next, exchange_lost, fast_walk_next, fault_next, fault_part, put_next, walk_next}
-use Rattle.mmu_core.specs.lines.FaultSteps.{allows_access, claim_next, entry_word, found_next, host_word_at, is_fast, is_last_word, page_next, search_next}
-use Rattle.mmu_core.specs.lines.FaultSteps.{share_next, snapshot_taken}
+use Rattle.mmu_core.specs.forms.access.FaultKnows.{FaultKnows, SawNotFast, forbids_more}
+use Rattle.mmu_core.specs.forms.access.FaultSteps.{after_claim, after_share, check_next, exchange_lost, fast_walk_next, fault_next, fault_part, put_next}
+use Rattle.mmu_core.specs.forms.access.FaultSteps.{walk_next}
+use Rattle.mmu_core.specs.forms.access.FaultSteps.{allows_access, claim_next, entry_word, found_next, host_word_at, is_fast, is_last_word, page_next}
+use Rattle.mmu_core.specs.forms.access.FaultSteps.{search_next}
+use Rattle.mmu_core.specs.forms.access.FaultSteps.{share_next, snapshot_taken}
 use Rattle.mmu_core.specs.machine.Enabled.{mmu}
 use Rattle.mmu_core.specs.machine.Machine.{May, Step, World, answered, found, hand_in, run}
 use Rattle.mmu_core.proofs.start.Starts.{hand_is, start_good}
 use Rattle.mmu_laws.specs.causes.Causes.{HasMade, StaysInSection}
 use Rattle.mmu_laws.proofs.causes.Changes.{made_longer, made_now}
-use Rattle.mmu_laws.proofs.causes.EachFault.{AreSeen, NextIs, Sights, each_fault}
+use Rattle.mmu_laws.proofs.forms.access.EachFault.{AreSeen, NextIs, Sights, each_fault}
 use Rattle.mmu_laws.proofs.causes.MadeSteps.{Makes, exchange_finds, stays_in, word_on}
-use Rattle.core_theorem.specs.FastFaults.{AllowsWrite, FixedFaultsHaveAllowed, MarksFrame}
+use Rattle.core_theorem.specs.FastFaults.{AllowsWrite, FixedFaultsHaveAllowed, IsSearchedInVain, MarksFrame, OtherFastFaultsSawWhy, SawNothingToAllow}
+use Rattle.core_theorem.proofs.LookUps.{knows_fault}
+use Rattle.core_theorem.proofs.Runs.{sound}
 
 -- The actor has allowed the write in the section in which the steps end, and has marked the frame's page there.
 abbrev Allowed : Sizes → World Held → ℕ → ℕ → List (Step Kind) → Type 0
@@ -250,3 +255,32 @@ pub fixed_faults_have_allowed : FixedFaultsHaveAllowed
 fixed_faults_have_allowed z lines w ss R actor there gfn word op marked stands command =
     each_fault z w (HasDone z w) (faults_do z w) ss actor gfn word op (fault.End (Fixed marked)) (start_good z lines w R.start) R.legal
     (ap (λ (h : Held). h.state.place) (hand_is z lines w actor R.start there)) stands command
+
+-- ---- a fast fault that allows no write
+
+not_both : (lowest writes host mmu_ : Bool) → lowest ≡ true → (not writes && (host && mmu_)) ≡ true
+    → (not lowest || (writes || (not host || not mmu_))) ≡ true → ⊥
+not_both true false true true low fixable forbids = cc forbids
+not_both true false true false low fixable forbids = cc fixable
+not_both true false false mmu_ low fixable forbids = cc fixable
+not_both true true host mmu_ low fixable forbids = cc fixable
+not_both false writes host mmu_ low fixable forbids = cc low
+
+saw_why : (entry gfn : ℕ) (t : Topics) → SawNotFast entry gfn t
+    → ((entry ≡ 0) × IsSearchedInVain gfn t.search) ⊎ SawNothingToAllow entry gfn t.walk
+saw_why entry gfn t (inl N) =
+    inl (N.0, record { over = N.1.over; not_found = λ whole has. N.1.not_found (record { whole = whole; holds = has }) })
+saw_why entry gfn t (inr S) = inr (record {
+  is_entry = S.0;
+  loaded = S.1;
+  stays = λ leaf low fixable.
+      not_both (t.walk.level == 1) (can_write entry) (host_writable entry) (mmu_writable entry) (ap (λ n. n == 1) low) fixable
+      (subst (λ k. forbids_more k t.walk.level entry ≡ true) leaf S.2);
+})
+
+pub other_fast_faults_saw_why : OtherFastFaultsSawWhy
+other_fast_faults_saw_why z lines w ss R actor there gfn word op entry stands command =
+    let h : Held = hand_in mmu (run mmu w ss) actor in
+    saw_why entry gfn h.topics
+    (knows_fault h h.state.place h.state.line.command (fault.End (NotFast entry)) gfn word op stands command
+    ((sound z lines w ss R).holds.knows actor there)).2

@@ -1,6 +1,7 @@
 pub mod WalksKept
 pub mod Pages
 pub mod Frames
+pub mod FramesReused
 pub mod SamePages
 pub mod LookUps
 pub mod Holdings
@@ -19,3 +20,4 @@ pub mod DelayCauses
 pub mod PauseSeen
 pub mod FastFaults
 pub mod Readings
+pub mod AnsweredReadings

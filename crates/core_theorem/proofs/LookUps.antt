@@ -27,8 +27,8 @@ use Rattle.mmu_core.specs.invariant.InvalidationsPart.{knows_seq}
 use Rattle.mmu_core.specs.invariant.Laws.{IsSound}
 use Rattle.mmu_core.specs.invariant.SearchPart.{IsInvalidating, IsOnPage}
 use Rattle.mmu_core.specs.invariant.SlotSetPart.{IsLiveIn}
-use Rattle.mmu_core.specs.lines.FaultHolds.{Entering}
-use Rattle.mmu_core.specs.lines.FaultKnows.{FaultKnows}
+use Rattle.mmu_core.specs.forms.access.FaultHolds.{Entering}
+use Rattle.mmu_core.specs.forms.access.FaultKnows.{FaultKnows}
 use Rattle.mmu_core.specs.lines.Forms.{KnowsPart}
 use Rattle.mmu_core.specs.machine.Enabled.{mmu}
 use Rattle.mmu_core.specs.machine.Machine.{World, hand_in, run}
@@ -70,7 +70,7 @@ is_entering Link z gfn write t is K = K.0
 is_entering (Leaf writes) z gfn write t is K = K.0
 is_entering _ z gfn write t is K = absurd (cc is)
 
-knows_fault : (h : Held) (q : Place) (c : Command) (p : FaultPlace) (gfn word : ℕ) (op : Op) → q ≡ place.Access (Fault p) → c ≡ Access gfn word op
+pub knows_fault : (h : Held) (q : Place) (c : Command) (p : FaultPlace) (gfn word : ℕ) (op : Op) → q ≡ place.Access (Fault p) → c ≡ Access gfn word op
     → KnowsPart q c h → FaultKnows p h.state.sizes gfn (is_write op) h.topics
 knows_fault h q c p gfn word op at is knows =
     subst (λ (d : Command). KnowsPart (place.Access (Fault p)) d h) is (subst (λ (r : Place). KnowsPart r c h) at knows)

@@ -26,11 +26,11 @@ use Rattle.spte_words.specs.declared.spte_kind.SpteKind.{SpteKind}
 use Rattle.spte_words.specs.declared.spte_kind.SpteKind.TheVariants as entry_kind
 use Rattle.spte_words.specs.Entries.{kind_of}
 use Rattle.part_steps.specs.declared.part_step.PartStep.TheVariants as part
-use Rattle.mmu_core.specs.lines.AccessSteps.{access_outcome, behind_fault, pause_next, stay_next}
-use Rattle.mmu_core.specs.lines.Cached.{first_usable}
+use Rattle.mmu_core.specs.forms.access.AccessSteps.{access_outcome, behind_fault, pause_next, stay_next}
+use Rattle.mmu_core.specs.forms.access.Cached.{first_usable}
 use Rattle.mmu_laws.specs.causes.Causes.{HasMade}
 use Rattle.mmu_core.specs.machine.Enabled.{mmu}
-use Rattle.mmu_core.specs.lines.FaultSteps.{allows_access, fault_next}
+use Rattle.mmu_core.specs.forms.access.FaultSteps.{allows_access, fault_next}
 use Rattle.mmu_core.specs.invariant.Laws.{IsSound}
 use Rattle.mmu_core.specs.machine.Machine.{May, Step, World, answered, hand_in, run}
 use Rattle.mmu_core.specs.machine.Outcomes.{place_after}

@@ -9,7 +9,7 @@ use Rattle.core_views.specs.declared.actor.Actor.{Actor}
 use Rattle.core_views.specs.declared.actor.Actor.TheVariants.{Manager}
 use Rattle.core_views.specs.declared.event.Event.{Event}
 use Rattle.core_views.specs.declared.event.EventKind.{EventKind}
-use Rattle.core_views.specs.declared.event.EventKind.TheVariants.{Accessed, Begun, Taken}
+use Rattle.core_views.specs.declared.event.EventKind.TheVariants.{Accessed, Begun, Harvested, Taken}
 use Rattle.core_views.specs.declared.kind.Kind.{Kind}
 use Rattle.core_views.specs.declared.place.Place.{Place}
 use Rattle.core_views.specs.declared.place.Place.TheVariants as place
@@ -23,7 +23,8 @@ use Rattle.core_views.specs.Held.{Held}
 use Rattle.core_views.specs.Lawful.{IsLawful}
 use Rattle.flat_laws.proofs.AloneIsLawful.{lawful_parts}
 use Rattle.flat_laws.specs.Images.{LeavesManaging, OnlyManages, manages}
-use Rattle.log_laws.specs.HarvestLaws.{IsMadeClean, ReadingsAreCaused, WrittenStaysDirty, made_by}
+use Rattle.log_laws.specs.HarvestLaws.{ReadingsAreCaused, made_by}
+use Rattle.log_laws.specs.LoggedWrites.{IsLogEnded, IsTakenOut, LoggedWritesAreKept}
 use Rattle.log_laws.specs.OneReader.{LeavesReading, LoneReadingsAreComplete, OnlyReads}
 use Rattle.mmu_core.specs.declared.outcome.Outcome.{Outcome}
 use Rattle.mmu_core.specs.declared.outcome.Outcome.TheVariants.{Ends, Goes}
@@ -43,8 +44,9 @@ use Rattle.mmu_laws.proofs.flat.EveryHistory.{every_history}
 use Rattle.mmu_laws.proofs.flat.Told.{told}
 use Rattle.mmu_laws.proofs.flat.Within.{AllWithin, tells_within}
 use Rattle.core_theorem.specs.Runs.{IsRun}
-use Rattle.core_theorem.specs.Readings.{OnlyTheManagerManages, OnlyTheManagerReads, ReadingsHaveCauses, ReadingsMissNone, ReadingsTellWrites}
-use Rattle.core_theorem.specs.Readings.{WrittenFramesAreKept}
+use Rattle.core_theorem.specs.Readings.{IsInAnsweredReading, OnlyTheManagerManages, OnlyTheManagerReads, ReadingsHaveCauses, ReadingsMissNone}
+use Rattle.core_theorem.specs.Readings.{ReadingsTellWrites, WrittenFramesAreKept, answer_with}
+use Rattle.core_theorem.proofs.AnsweredReadings.{reading_answered}
 
 -- ---- who manages, and so who reads
 
@@ -152,7 +154,7 @@ lawful_front z lines w ss front rest e R is =
 
 -- ---- the laws of readings, of runs
 
-module _ (lone : LoneReadingsAreComplete) (caused : ReadingsAreCaused) (dirty : WrittenStaysDirty) where
+module _ (lone : LoneReadingsAreComplete) (caused : ReadingsAreCaused) (kept : LoggedWritesAreKept) where
   complete : ReadingsMissNone
   complete z lines w ss before between rest id takes frames R is still gfn pending nobody asked =
       lone z before between Manager id takes frames
@@ -176,15 +178,43 @@ module _ (lone : LoneReadingsAreComplete) (caused : ReadingsAreCaused) (dirty : 
 
   written : WrittenFramesAreKept
   written z lines w ss before since actor gfn word op frame value R is writes armed =
-      by (dirty before since actor gfn word op frame value writes armed)
+      by (kept z before since Manager actor gfn word op frame value (subst (IsLawful z first_flat) is (every_history z lines w ss R.start R.legal))
+      (subst (OnlyManages Manager) is (only_the_manager_manages z lines w ss R)) writes armed)
     where
       access : Event
       access = made_by actor (Accessed gfn word op frame value)
 
-      by : ((after_all (before ++ (access ∷ since)) first_flat).facts.pending gfn ≡ true) ⊎ IsMadeClean (before ++ (access ∷ [])) since gfn
-          → ((after_all (history w ss) first_flat).facts.pending gfn ≡ true) ⊎ IsMadeClean (before ++ (access ∷ [])) since gfn
+      -- A reading that takes the frame out is answered.
+      read : IsTakenOut since gfn → IsInAnsweredReading (before ++ (access ∷ [])) since gfn
+      read T = record {
+        before = T.before;
+        actor = T.actor;
+        id = T.id;
+        frames = T.frames;
+        rest = answer.0;
+        since_is = T.since_is ∙ ap (λ (xs : List Event). T.before ++ (harvested ∷ xs)) answer.1;
+        has = T.has;
+      }
+        where
+          harvested : Event
+          harvested = made_by T.actor (Harvested T.id T.frames)
+
+          whole : history w ss ≡ ((before ++ (access ∷ [])) ++ T.before) ++ (harvested ∷ T.rest)
+          whole =
+              is ∙ ap (λ (xs : List Event). before ++ (access ∷ xs)) T.since_is
+              ∙ sym (append_assoc (before ++ (access ∷ [])) T.before (harvested ∷ T.rest) ∙ append_assoc before (access ∷ []) (T.before ++ (harvested ∷
+              T.rest)))
+
+          answer : (more : List Event) × (T.rest ≡ answer_with ((before ++ (access ∷ [])) ++ T.before) T.actor T.frames ∷ more)
+          answer = reading_answered z lines w ss ((before ++ (access ∷ [])) ++ T.before) T.rest T.actor T.id T.frames R whole
+
+      by : ((after_all (before ++ (access ∷ since)) first_flat).facts.pending gfn ≡ true)
+          ⊎ (IsTakenOut since gfn ⊎ IsLogEnded (before ++ (access ∷ [])) since gfn)
+          → ((after_all (history w ss) first_flat).facts.pending gfn ≡ true)
+          ⊎ (IsInAnsweredReading (before ++ (access ∷ [])) since gfn ⊎ IsLogEnded (before ++ (access ∷ [])) since gfn)
       by (inl is_dirty) = inl (ap (λ (h : List Event). (after_all h first_flat).facts.pending gfn) is ∙ is_dirty)
-      by (inr cleaned) = inr cleaned
+      by (inr (inl T)) = inr (inl (read T))
+      by (inr (inr E)) = inr (inr E)
 
   pub readings_tell_writes : ReadingsTellWrites
   readings_tell_writes = record {

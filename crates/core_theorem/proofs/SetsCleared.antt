@@ -1,8 +1,8 @@
 -- What a step leaves of the role of an old slot set's page, where a slot line is about to give the page back.
 use Rattle.mmu_core.specs.declared.log_next.LogNext.{LogNext}
 use Rattle.mmu_core.specs.declared.log_next.LogNext.TheVariants as reads_next
-use Rattle.mmu_core.specs.lines.LogOutcomes.{after_log}
-use Rattle.mmu_core.specs.lines.LogSteps.{log_next, log_reads}
+use Rattle.mmu_core.specs.forms.log.LogOutcomes.{after_log}
+use Rattle.mmu_core.specs.forms.log.LogSteps.{log_next, log_reads}
 use Rattle.core_views.specs.SlotCommands.{changes_slot, slot_armed, slot_invalidated}
 use Rattle.core_views.specs.LogCommands.{is_all_set}
 use Rattle.core_views.specs.declared.place.FrameRange.{FrameRange}
@@ -11,7 +11,7 @@ use Rattle.core_views.specs.declared.trace.Slot.{Slot}
 use Rattle.part_steps.specs.LogHoldings.{log_end}
 use Rattle.mmu_core.specs.declared.write_protect.WriteProtectNext.{WriteProtectNext}
 use Rattle.mmu_core.specs.declared.write_protect.WriteProtectNext.TheVariants as protects_next
-use Rattle.mmu_core.specs.lines.WriteProtectSteps.{protect_next}
+use Rattle.mmu_core.specs.orders.WriteProtectSteps.{protect_next}
 use Rattle.std.proofs.Common.{◌≡◌, ◌≢◌, ◌<◌, ℕ, List, refl, sym, subst, ap, ◌∙◌}
 use Rattle.std.specs.Prelude.{Bool, true, false, ◌+◌, ◌==◌, nat_lt, if◌then◌else◌, Option, Some, None, is_some}
 use Rattle.core_views.specs.declared.place.Place.{Place}
@@ -41,8 +41,8 @@ use Rattle.part_steps.specs.TopicSteps.{topics_after}
 use Rattle.mmu_core.specs.declared.claim.ClaimNext.{ClaimNext}
 use Rattle.mmu_core.specs.declared.claim.ClaimNext.TheVariants as claims
 use Rattle.mmu_core.specs.declared.claim.FreeMap.TheVariants.{Pages}
-use Rattle.mmu_core.specs.lines.AccessSteps.{touch_of}
-use Rattle.mmu_core.specs.lines.ClaimSteps.{claim_next}
+use Rattle.mmu_core.specs.forms.access.AccessSteps.{touch_of}
+use Rattle.mmu_core.specs.orders.ClaimSteps.{claim_next}
 use Rattle.mmu_core.specs.invariant.Invariant.{Invariant, KnowsPart}
 use Rattle.mmu_core.specs.machine.Outcomes.{place_after}
 use Rattle.mmu_core.specs.lines.PartAt.{task_at}
@@ -51,9 +51,10 @@ use Rattle.mmu_core.specs.declared.invalidate.BeginNext.{BeginNext}
 use Rattle.mmu_core.specs.declared.invalidate.BeginNext.TheVariants as begins_next
 use Rattle.mmu_core.specs.declared.invalidate.EndNext.{EndNext}
 use Rattle.mmu_core.specs.declared.invalidate.EndNext.TheVariants as ends_next
-use Rattle.mmu_core.specs.lines.InvalidateSteps.{begin_next, end_next}
-use Rattle.mmu_core.specs.lines.SlotChangeSteps.{after_grace, after_protect, after_set_begin, after_set_end, arm_word, frames_of, log_target, slot_target}
-use Rattle.mmu_core.specs.lines.SlotChangeSteps.{after_set_claim, watch_next, slot_change_note, slot_change_outcome, slot_change_task}
+use Rattle.mmu_core.specs.orders.InvalidateSteps.{begin_next, end_next}
+use Rattle.mmu_core.specs.forms.slot_change.SlotChangeSteps.{after_grace, after_protect, after_set_begin, after_set_end, arm_word, frames_of, log_target}
+use Rattle.mmu_core.specs.forms.slot_change.SlotChangeSteps.{slot_target}
+use Rattle.mmu_core.specs.forms.slot_change.SlotChangeSteps.{after_set_claim, watch_next, slot_change_note, slot_change_outcome, slot_change_task}
 use Rattle.mmu_core.specs.invariant.TopicsInvariant.{TopicsInvariant}
 use Rattle.mmu_core.specs.machine.View.{View, answer_in, stepped, upd, words_after, hand_after}
 use Rattle.mmu_core.proofs.machine.Columns.{upd_other, upd_same}

@@ -22,14 +22,14 @@ use Rattle.mmu_core.specs.invariant.Invariant.{KnowsPart, UnderWay, RetiresPart}
 use Rattle.mmu_core.specs.invariant.Laws.{IsSound}
 use Rattle.mmu_core.specs.machine.Machine.{May, Step, World, hand_in}
 use Rattle.mmu_core.specs.lines.PartAt.{task_at}
-use Rattle.mmu_core.specs.lines.InvalidateSteps.{end_part}
-use Rattle.mmu_core.specs.lines.WriteProtectSteps.{protect_part}
+use Rattle.mmu_core.specs.orders.InvalidateSteps.{end_part}
+use Rattle.mmu_core.specs.orders.WriteProtectSteps.{protect_part}
 use Rattle.core_views.specs.declared.place.FrameRange.{FrameRange}
 use Rattle.core_views.specs.declared.place.WriteProtectPlace.{WriteProtectPlace}
 use Rattle.core_views.specs.declared.place.WriteProtectPlace.TheVariants as protect
-use Rattle.mmu_core.specs.lines.SlotChangeSteps.{slot_change_task}
+use Rattle.mmu_core.specs.forms.slot_change.SlotChangeSteps.{slot_change_task}
 use Rattle.mmu_core.specs.machine.Steps.{line_at, place_at, task_of}
-use Rattle.mmu_core.specs.lines.SlotChangeKnows.{SlotChangeKnows}
+use Rattle.mmu_core.specs.forms.slot_change.SlotChangeKnows.{SlotChangeKnows}
 use Rattle.mmu_core.proofs.machine.Which.{has_line_is, is_next}
 
 -- A page is given back while one is retired: this one, at the last place of a slot line, after the watch.

@@ -16,7 +16,7 @@ use Rattle.mmu_core.proofs.machine.Worlds.{good_run}
 use Rattle.mmu_laws.specs.turns.Breaking.{ForbidsWrites, TakesAway, TakesLeaf}
 use Rattle.mmu_laws.specs.turns.Removal.{LostEntry, StandsSinceFault, StayMisses, Throughout, is_since_fault}
 use Rattle.mmu_laws.proofs.causes.StarvedScan.{legal_parts}
-use Rattle.mmu_laws.proofs.turns.OwnTakesNone.{own_takes_none}
+use Rattle.mmu_laws.proofs.forms.access.OwnTakesNone.{own_takes_none}
 use Rattle.core_theorem.specs.Delays.{MissesEntry, WasTakenAway}
 
 taken_leaf : (k : StepKind) (z : Sizes) (gfn : ℕ) (write : Bool) (w : World Held) (s : Step Kind) → TakesAway k z gfn write w s

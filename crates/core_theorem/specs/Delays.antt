@@ -23,7 +23,7 @@ use Rattle.mmu_laws.specs.causes.Causes.{IsCaused}
 use Rattle.mmu_core.specs.machine.Enabled.{mmu}
 use Rattle.mmu_core.specs.machine.Machine.{Step, World, answered, hand_in, run}
 use Rattle.mmu_core.specs.declared.claim.FreeMap.{FreeMap}
-use Rattle.mmu_core.specs.lines.ClaimSteps.{map_words}
+use Rattle.mmu_core.specs.orders.ClaimSteps.{map_words}
 use Rattle.mmu_core.specs.lines.ScanPlaces.{answer_without}
 use Rattle.mmu_core.specs.lines.PartWaits.{SawAnother, part_seen, part_waits}
 use Rattle.mmu_core.specs.invariant.Scans.{EndsWithScan}

@@ -1,26 +1,29 @@
 -- What a fast fault has done which ends with its write allowed: in the section that it is about to end its own exchange has allowed writes in the very word
--- that it had read, and where its slot has a dirty log it has marked the page (locking.rst, "Fast page fault").
-use Rattle.std.specs.Prelude.{◌≡◌, ◌<◌, ℕ, Bool, Some, true}
+-- that it had read, and where its slot has a dirty log it has marked the page; and what another one has seen (locking.rst, "Fast page fault").
+use Rattle.std.specs.Prelude.{◌≡◌, ◌⊎◌, ◌<◌, ℕ, Bool, Some, true}
 use Rattle.core_views.specs.declared.kind.Kind.{Kind}
 use Rattle.core_views.specs.declared.kind.StepKind.TheVariants as kind
 use Rattle.core_views.specs.declared.place.AccessPlace.TheVariants.{Fault}
-use Rattle.core_views.specs.declared.place.FaultEnd.TheVariants.{Fixed}
+use Rattle.core_views.specs.declared.place.FaultEnd.TheVariants.{Fixed, NotFast}
 use Rattle.core_views.specs.declared.place.FaultPlace.TheVariants.{End}
 use Rattle.core_views.specs.declared.place.Place.TheVariants as place
 use Rattle.core_views.specs.declared.sizes.Sizes.{Sizes}
+use Rattle.core_views.specs.declared.topics.SlotSearch.{SlotSearch}
 use Rattle.core_views.specs.declared.topics.TableWalk.{TableWalk}
 use Rattle.core_views.specs.declared.trace.Command.TheVariants.{Access}
 use Rattle.core_views.specs.declared.trace.Op.{Op}
 use Rattle.core_views.specs.Held.{Held}
 use Rattle.core_views.specs.Kinds.{code_of}
 use Rattle.core_views.specs.Sizes.{actors_of}
-use Rattle.spte_words.specs.Entries.{with_write}
+use Rattle.core_views.specs.Slots.{contains}
+use Rattle.spte_words.specs.declared.spte_kind.SpteKind.TheVariants.{Leaf}
+use Rattle.spte_words.specs.Entries.{kind_of, with_write}
 use Rattle.part_steps.specs.PartHoldings.{SawEntry, is_fixable}
-use Rattle.mmu_core.specs.lines.FaultSteps.{entry_word}
+use Rattle.mmu_core.specs.forms.access.FaultSteps.{entry_word}
 use Rattle.mmu_core.specs.machine.Enabled.{mmu}
 use Rattle.mmu_core.specs.machine.Machine.{Step, World, hand_in, run}
 use Rattle.mmu_laws.specs.causes.Causes.{Finds, HasMade, Leaves, StaysInSection}
-use Rattle.core_theorem.specs.Runs.{InEveryRun}
+use Rattle.core_theorem.specs.Runs.{AfterEveryRun, InEveryRun}
 
 -- what the actor's walk has come to in this world
 abbrev pub walk_in : World Held → ℕ → TableWalk
@@ -49,3 +52,23 @@ FixedFaultsHaveAllowed = InEveryRun (λ z w ss.
     → (gfn word : ℕ) (op : Op) (marked : Bool) → (hand_in mmu (run mmu w ss) actor).state.place ≡ place.Access (Fault (End (Fixed marked)))
     → (hand_in mmu (run mmu w ss) actor).state.line.command ≡ Access gfn word op
     → HasMade (AllowsWrite z actor gfn) (StaysInSection actor) w ss × (marked ≡ true → HasMade (MarksFrame actor gfn) (StaysInSection actor) w ss))
+
+-- The search has come after the last slot, and the slot that it has loaded last isn't the guest frame's either.
+pub record IsSearchedInVain (gfn : ℕ) (search : SlotSearch) : Type 0 where
+  pub over : search.id ≡ 32
+  pub not_found : search.whole ≡ true → contains gfn search.slot ≡ true → ⊥
+
+-- The walk has loaded this word as the guest frame's entry, and it is no leaf of the lowest level that forbids nothing but the write.
+pub record SawNothingToAllow (entry gfn : ℕ) (walk : TableWalk) : Type 0 where
+  pub is_entry : SawEntry gfn walk
+  pub loaded : walk.entry ≡ entry
+  pub stays : kind_of walk.level entry ≡ Leaf → walk.level ≡ 1 → is_fixable entry ≡ true → ⊥
+
+-- Where a fast fault is about to give up, its search of the slots was in vain, and the word that it tells is 0; or this word is the guest
+-- frame's entry, in which a fast fault can't allow the write.
+abbrev pub OtherFastFaultsSawWhy : Type 0
+OtherFastFaultsSawWhy = AfterEveryRun (λ z w.
+    (actor : ℕ) → actor < actors_of z
+    → (gfn word : ℕ) (op : Op) (entry : ℕ) → (hand_in mmu w actor).state.place ≡ place.Access (Fault (End (NotFast entry)))
+    → (hand_in mmu w actor).state.line.command ≡ Access gfn word op
+    → ((entry ≡ 0) × IsSearchedInVain gfn (hand_in mmu w actor).topics.search) ⊎ SawNothingToAllow entry gfn (walk_in w actor))

@@ -1,5 +1,5 @@
 -- Frames of the host: what each of them is used for after a run, what moves have copied, and how frames are taken and given back.
-use Rattle.std.specs.Prelude.{◌≡◌, ◌≢◌, ◌<◌, ◌≤◌, ℕ, All, List, [], ◌∷◌, ◌++◌, true, Some}
+use Rattle.std.specs.Prelude.{◌≡◌, ◌≢◌, ◌⊎◌, ◌<◌, ◌≤◌, ℕ, All, List, [], ◌∷◌, ◌++◌, true, Some}
 use Rattle.core_views.specs.declared.kind.Kind.{Kind}
 use Rattle.core_views.specs.declared.kind.StepKind.TheVariants as kind
 use Rattle.core_views.specs.declared.sizes.Sizes.{Sizes}
@@ -13,7 +13,7 @@ use Rattle.core_views.specs.Kinds.{code_of}
 use Rattle.core_views.specs.Sizes.{actors_of}
 use Rattle.spte_words.specs.declared.area.Area.TheVariants as area
 use Rattle.spte_words.specs.Entries.{mapped_frame}
-use Rattle.mmu_core.specs.lines.Cached.{covers}
+use Rattle.mmu_core.specs.forms.access.Cached.{covers}
 use Rattle.spte_words.specs.HostWords.{host_frame}
 use Rattle.mmu_core.specs.invariant.FramesPart.{CopiedPart, FrameUse}
 use Rattle.mmu_core.specs.invariant.FramesPart.FrameUse.{Free, Outside, Page, Owned}
@@ -22,6 +22,7 @@ use Rattle.mmu_core.specs.invariant.PoolPart.{is_free}
 use Rattle.mmu_core.specs.machine.Enabled.{mmu}
 use Rattle.mmu_core.specs.machine.Machine.{Step, World, effect, hand_in, run}
 use Rattle.mmu_core.specs.machine.View.{word_in}
+use Rattle.mmu_laws.specs.leaves.LoadedLeaves.{HasLeafTo, LoadedLeavesPart}
 use Rattle.core_theorem.specs.Runs.{AfterEveryRun, IsRun}
 
 -- The actor owns this frame.
@@ -67,11 +68,18 @@ pub record LooksAtFrame (frame : ℕ) (t : Topics) : Type 0 where
   pub is : t.host ≡ Some look
   pub of_frame : host_frame look.word ≡ frame
 
--- No other actor owns the frame, or has looked at a page there in the section that it is in; no translation to it is cached that its virtual processor may use;
--- and no host page names it.
+-- The frame to which a leaf leads that an actor's walk holds is a page's; or another actor owns it, and hasn't watched this one since a page was moved out of
+-- it.
+abbrev pub LoadedLeavesAreKept : Type 0
+LoadedLeavesAreKept = AfterEveryRun (λ z w. LoadedLeavesPart z (word_in z w area.Host) (λ i. (hand_in mmu w i).topics))
+
+-- No other actor owns the frame, or has looked at a page there in the section that it is in, or has a walk that holds a leaf which leads there; no translation
+-- to
+-- it is cached that its virtual processor may use; and no host page names it.
 pub record IsNobodyElses (z : Sizes) (actor frame : ℕ) (w : World Held) : Type 0 where
   pub others : (other : ℕ) → other < actors_of z → other ≢ actor → OwnsFrame frame (hand_in mmu w other) → ⊥
   pub looks : (other : ℕ) → other < actors_of z → other ≢ actor → LooksAtFrame frame (hand_in mmu w other).topics → ⊥
+  pub loads : (other : ℕ) → other < actors_of z → other ≢ actor → HasLeafTo frame (hand_in mmu w other).topics.walk → ⊥
   pub unused : (vcpu : ℕ) → vcpu < z.vcpus → may_use (word_in z w area.State vcpu) (hand_in mmu w vcpu).topics.stay ≡ true
       → All (λ t. (gfn : ℕ) → covers gfn t ≡ true → mapped_frame t.level t.leaf gfn ≢ frame) (hand_in mmu w vcpu).cached.items
   pub pages : (page : ℕ) → page < z.pages → host_frame (word_in z w area.Host page) ≢ frame
@@ -83,9 +91,11 @@ FramesAreReusedAlone =
     → (WinsFrame frame (run mmu w ss) s → IsNobodyElses z s.actor frame (run mmu w ss))
     × (GivesFrame frame (run mmu w ss) s → IsNobodyElses z s.actor frame (run mmu w ss))
 
--- No actor that a watch has passed, since the watcher has moved a page out of a frame, has looked at a page there in the section that it is in.
+-- No actor that a watch has passed, since the watcher has moved a page out of a frame, has looked at a page there in the section that it is in, or has a walk
+-- that
+-- holds a leaf which leads there.
 abbrev pub WatchedHoldNoOldFrame : Type 0
 WatchedHoldNoOldFrame = AfterEveryRun (λ z w.
     (watcher other frame : ℕ) → watcher < actors_of z
     → other < actors_of z → OwnsFrame frame (hand_in mmu w watcher) → other < (hand_in mmu w watcher).topics.watched
-    → LooksAtFrame frame (hand_in mmu w other).topics → ⊥)
+    → LooksAtFrame frame (hand_in mmu w other).topics ⊎ HasLeafTo frame (hand_in mmu w other).topics.walk → ⊥)

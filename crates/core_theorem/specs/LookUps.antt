@@ -1,6 +1,5 @@
 -- What actors have looked up of slots and host, since they took the sequence number, is so still (mmu_notifier.rst).
-use Rattle.std.specs.Prelude.{◌≡◌, ◌-◌, ◌<◌, ℕ, Bool, List, true, false, Some}
-use Rattle.core_views.specs.declared.kind.Kind.{Kind}
+use Rattle.std.specs.Prelude.{◌≡◌, ◌-◌, ◌<◌, ℕ, Bool, true, false, Some}
 use Rattle.core_views.specs.declared.place.AccessPlace.TheVariants.{Fault}
 use Rattle.core_views.specs.declared.place.FaultPlace.{FaultPlace}
 use Rattle.core_views.specs.declared.place.FaultPlace.TheVariants.{Walk, Claim, Fill, Role, Link, Leaf}
@@ -10,7 +9,6 @@ use Rattle.core_views.specs.declared.topics.Hold.TheVariants.{Shared}
 use Rattle.core_views.specs.declared.topics.HostLook.{HostLook}
 use Rattle.core_views.specs.declared.topics.SlotSearch.{SlotSearch}
 use Rattle.core_views.specs.declared.trace.Command.TheVariants.{Access}
-use Rattle.core_views.specs.declared.trace.Line.{Line}
 use Rattle.core_views.specs.declared.trace.Op.{Op}
 use Rattle.core_views.specs.Held.{Held}
 use Rattle.core_views.specs.Sizes.{actors_of}
@@ -24,7 +22,7 @@ use Rattle.mmu_core.specs.invariant.InvalidatedPart.{IsIn}
 use Rattle.mmu_core.specs.invariant.SearchPart.{HeldSlotsPart, IsInvalidating, IsOnPage}
 use Rattle.mmu_core.specs.invariant.SlotSetPart.{AreSlots, IsLiveIn}
 use Rattle.mmu_core.specs.machine.Enabled.{mmu}
-use Rattle.mmu_core.specs.machine.Machine.{Step, World, hand_in, run}
+use Rattle.mmu_core.specs.machine.Machine.{World, hand_in}
 use Rattle.mmu_core.specs.machine.View.{word_in}
 use Rattle.core_theorem.specs.Runs.{AfterEveryRun}
 

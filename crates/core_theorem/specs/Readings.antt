@@ -3,21 +3,24 @@
 use Rattle.std.specs.Prelude.{◌≡◌, ◌⊎◌, ℕ, Bool, List, [], ◌∷◌, ◌++◌, true}
 use Rattle.core_views.specs.declared.actor.Actor.{Actor}
 use Rattle.core_views.specs.declared.actor.Actor.TheVariants.{Manager}
+use Rattle.core_views.specs.declared.answer.Answer.TheVariants.{Bits}
 use Rattle.core_views.specs.declared.event.Event.{Event}
-use Rattle.core_views.specs.declared.event.EventKind.TheVariants.{Accessed, Taken}
+use Rattle.core_views.specs.declared.event.EventKind.TheVariants.{Accessed, Answered, Harvested, Taken}
 use Rattle.core_views.specs.declared.kind.Kind.{Kind}
 use Rattle.core_views.specs.declared.sizes.Sizes.{Sizes}
 use Rattle.core_views.specs.declared.trace.Line.{Line}
 use Rattle.core_views.specs.declared.trace.Op.{Op}
 use Rattle.core_views.specs.Events.{after_all, is_armed}
-use Rattle.core_views.specs.Flat.{first_flat}
+use Rattle.core_views.specs.Flat.{Flat, LineUnderWay, first_flat}
 use Rattle.core_views.specs.FlatHistory.{harvest}
 use Rattle.core_views.specs.Held.{Held}
-use Rattle.core_views.specs.LogCommands.{is_among}
+use Rattle.core_views.specs.Lawful.{slot_read}
+use Rattle.core_views.specs.LogCommands.{bits_for, is_among}
 use Rattle.core_views.specs.Slots.{is_write}
 use Rattle.flat_laws.specs.Images.{OnlyManages}
 use Rattle.flat_laws.specs.Writes.{NoneReadsOut, WasArmed, WasWritten}
-use Rattle.log_laws.specs.HarvestLaws.{IsAskedFor, IsMadeClean, NobodyWrites, made_by}
+use Rattle.log_laws.specs.HarvestLaws.{IsAskedFor, NobodyWrites, made_by}
+use Rattle.log_laws.specs.LoggedWrites.{IsLogEnded}
 use Rattle.log_laws.specs.OneReader.{OnlyReads, StillReads}
 use Rattle.mmu_core.specs.machine.Machine.{Step, World}
 use Rattle.mmu_core.specs.machine.Worlds.{history}
@@ -50,15 +53,34 @@ ReadingsHaveCauses =
     → is_among gfn frames ≡ true
     → (WasWritten (NoneReadsOut gfn) before gfn ⊎ WasArmed before gfn) × IsAskedFor (after_all before first_flat) actor id gfn
 
--- A frame that is written, while writes of its slot are logged, is dirty from then on; or since then a reading took it out, its slot was changed, or its log
--- began anew.
+-- the event with which this actor's line is answered, after this history, with the bits of the frames that it has read
+abbrev pub answer_with : List Event → Actor → List ℕ → Event
+answer_with history actor frames =
+    let f : Flat = after_all history first_flat in
+    let u : LineUnderWay = f.under actor in
+    made_by actor (Answered u.line.number (Bits (bits_for u.line.command (slot_read f.facts.slots u.line.command) frames)))
+
+-- Among these events, which come after this history, a reading takes the frame out of a log, and its line is answered at once, with the bits of all that it
+-- took out.
+pub record IsInAnsweredReading (history since : List Event) (gfn : ℕ) : Type 0 where
+  pub before : List Event
+  pub actor : Actor
+  pub id : ℕ
+  pub frames : List ℕ
+  pub rest : List Event
+  pub since_is : since ≡ before ++ (made_by actor (Harvested id frames) ∷ answer_with (history ++ before) actor frames ∷ rest)
+  pub has : is_among gfn frames ≡ true
+
+-- A frame that is written while writes of its slot are logged is dirty from then on, or it is in a reading that is answered after the write, or the logging of
+-- its slot has ended since. Nothing else makes it clean: no other change of the slot, and no log that begins.
 abbrev pub WrittenFramesAreKept : Type 0
 WrittenFramesAreKept =
     (z : Sizes) (lines : List Line) (w : World Held) (ss : List (Step Kind)) (before since : List Event) (actor : Actor) (gfn word : ℕ) (op : Op)
     (frame value : ℕ) → IsRun z lines w ss → history w ss ≡ before ++ (made_by actor (Accessed gfn word op frame value) ∷ since) → is_write op ≡ true
     → is_armed (after_all before first_flat).facts.slots (after_all before first_flat).facts.armed gfn ≡ true
     → ((after_all (history w ss) first_flat).facts.pending gfn ≡ true)
-    ⊎ IsMadeClean (before ++ (made_by actor (Accessed gfn word op frame value) ∷ [])) since gfn
+    ⊎ (IsInAnsweredReading (before ++ (made_by actor (Accessed gfn word op frame value) ∷ [])) since gfn
+    ⊎ IsLogEnded (before ++ (made_by actor (Accessed gfn word op frame value) ∷ [])) since gfn)
 
 -- All of these.
 pub record ReadingsTellWrites : Type 0 where

@@ -1,5 +1,6 @@
 //! The uses of pages and frames in every run.
-ghost use Rattle.core_theorem.specs.Frames.{CopiedWordsAreThePages, EachFrameHasOneUse, FramesAreReusedAlone, WatchedHoldNoOldFrame};
+ghost use Rattle.core_theorem.specs.Frames.{CopiedWordsAreThePages, EachFrameHasOneUse, FramesAreReusedAlone, LoadedLeavesAreKept};
+ghost use Rattle.core_theorem.specs.Frames.{WatchedHoldNoOldFrame};
 ghost use Rattle.core_theorem.specs.Holdings.{PagesAreReusedAlone, ReturnedSetsAreCleared};
 ghost use Rattle.core_theorem.specs.Pages.{EachPageHasOneUse};
 ghost use Rattle.core_theorem.specs.Walks.{WalksHoldTables};
@@ -17,9 +18,12 @@ ghost use Rattle.core_theorem.specs.Walks.{WalksHoldTables};
 /// holds. `cleared`: where an old slot set is given back to the pool, its role word is 0. `frames`:
 /// each frame is exactly one of free, that of one host page, owned by one actor, and none of the
 /// machine. `copied`: while its actor's invalidation is open, each word that a move has copied is the
-/// page's. `frame_reuse`: a frame that is claimed or given back nobody else owns or has looked at in
-/// its section, no translation that may be used is to it, and no host page names it. `moved`: whom a
-/// watch has passed since a page was moved out of a frame has looked at no page there.
+/// page's. `loaded`: the frame to which a leaf leads that an actor's walk holds, in its section or stay
+/// or under the lock, is a page's, or another actor owns it that hasn't watched this one since a page
+/// was moved out of it. `frame_reuse`: a frame that is claimed or given back nobody else owns or has
+/// looked at in its section, no walk of another actor holds a leaf that leads there, no translation
+/// that may be used is to it, and no host page names it. `moved`: whom a watch has passed since a page
+/// was moved out of a frame has looked at no page there, and its walk holds no such leaf.
 pub fn every_run_pages()
     ensures pages { EachPageHasOneUse }
     ensures walks { WalksHoldTables }
@@ -27,6 +31,7 @@ pub fn every_run_pages()
     ensures cleared { ReturnedSetsAreCleared }
     ensures frames { EachFrameHasOneUse }
     ensures copied { CopiedWordsAreThePages }
+    ensures loaded { LoadedLeavesAreKept }
     ensures frame_reuse { FramesAreReusedAlone }
     ensures moved { WatchedHoldNoOldFrame }
 {}

@@ -8,6 +8,8 @@ use Rattle.core_views.specs.declared.trace.Command.TheVariants.{Access, ChangeHo
 use Rattle.core_views.specs.declared.trace.Header.{Header}
 use Rattle.core_views.specs.declared.trace.Item.{Item}
 use Rattle.core_views.specs.declared.trace.Line.{Line}
+use Rattle.core_views.specs.declared.trace.Op.{Op}
+use Rattle.core_views.specs.declared.trace.Op.TheVariants.{Add, Read, Write}
 use Rattle.core_views.specs.declared.trace.Slot.{Slot}
 use Rattle.core_views.specs.declared.trace.Trace.{Trace}
 use Rattle.core_views.specs.declared.trace.Until.{Until}
@@ -23,9 +25,15 @@ pub record IsSlotInRange (slot : Slot) : Type 0 where
   pub host : slot.host < 2 ^ 36
   pub aligned : slot.host % 64 ≡ 0
 
+-- The number that the operation writes or adds, if it does, has 64 bits.
+abbrev pub WritesOneWord : Op → Type 0
+WritesOneWord Read = Unit {0}
+WritesOneWord (Write x) = x < 2 ^ 64
+WritesOneWord (Add x) = x < 2 ^ 64
+
 -- The actor makes such lines, and the machine has it; the line's numbers are in their ranges.
 abbrev pub IsCommandFor : Sizes → Actor → Command → Type 0
-IsCommandFor z (Vcpu n) (Access gfn word op) = (n < z.vcpus) × (gfn < 2 ^ 36) × (word < z.words)
+IsCommandFor z (Vcpu n) (Access gfn word op) = (n < z.vcpus) × (gfn < 2 ^ 36) × (word < z.words) × WritesOneWord op
 IsCommandFor z Manager (SetSlot id slot) = IsSlotInRange slot
 IsCommandFor z Manager (DeleteSlot id) = Unit {0}
 IsCommandFor z Manager (SetLog id on) = Unit {0}

@@ -25,7 +25,8 @@ pub use cache::{Cache, Translation};
 pub use event::{Event, EventKind};
 pub use host::HostEntry;
 pub use kind::{Kind, Operation, StepKind};
-pub use memory_slot::MemorySlot;
+pub use log_commands::WORD_PAGES;
+pub use memory_slot::{MemorySlot, SLOTS};
 pub use migration::{Image, ImageWord, Migration};
 pub use no_memory::NoMemory;
 pub use place::{

@@ -6,8 +6,8 @@ ghost use Rattle.core_views.specs.LogCommands.{mask_asked, most_words, takes_out
 
 use crate::{Command, LogMode, Sizes, Slot};
 
-/// Pages of a word of a dirty log.
-const WORD_PAGES: u64 = 64;
+/// How many pages a word of a dirty log has: a bit for each.
+pub const WORD_PAGES: u64 = 64;
 
 // Whether the bit is set, of words of 64 bits each, the first word first.
 fn has_bit(words: &[u64], bit: u64) -> bool

@@ -20,7 +20,8 @@ use Rattle.core_views.specs.Flat.{Facts, Fresh, HasAccessed, HasArmed, HasCalled
 use Rattle.core_views.specs.HostChanges.{host_answer, host_refusal}
 use Rattle.core_views.specs.Lawful.{MayLeave, Tells, answer_at_once, answer_unbarred, copied_answer}
 use Rattle.core_views.specs.LogCommands.{read_refusal}
-use Rattle.core_views.specs.Migrations.{are_logged, call_answer, image_words, is_barred, is_migrating, has_no_slot, is_running, is_stopped, or_barred, round_answer}
+use Rattle.core_views.specs.Migrations.{are_logged, call_answer, has_no_slot, image_words, is_barred, is_migrating, is_running}
+use Rattle.core_views.specs.Migrations.{is_stopped, or_barred, round_answer}
 use Rattle.core_views.specs.SlotCommands.{change_at_once, refused_or_done}
 use Rattle.core_views.specs.SlotSets.{MemorySlots}
 use Rattle.flat_laws.specs.MigrationCounts.{tells_copies}

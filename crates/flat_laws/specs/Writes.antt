@@ -112,8 +112,8 @@ pub record WasArmed (history : List Event) (gfn : ℕ) : Type 0 where
   pub left : NoneTakesOut gfn since
 
 -- After every history, lawful or not, those are the frames that were written lately, and the ones that have a cause to stand in a log.
-abbrev pub WrittenFramesAreKept : Type 0
-WrittenFramesAreKept =
+abbrev pub WritesAreRecorded : Type 0
+WritesAreRecorded =
     (history : List Event) (gfn : ℕ)
     → (((after_all history first_flat).past.recent gfn ≡ true) ↔ WasWritten NoneIsTaken history gfn)
     × (((after_all history first_flat).past.causes gfn ≡ true) ↔ (WasWritten (NoneReadsOut gfn) history gfn ⊎ WasArmed history gfn))

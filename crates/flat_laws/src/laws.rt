@@ -3,7 +3,7 @@ ghost use Rattle.flat_laws.specs.ReachedWrites.{OnlyWritesChange, OnlyWritesCoun
 ghost use Rattle.flat_laws.specs.SlotLines.{DeletesAtItsId, FittingPrints, KeepsOtherIds, LogsAtItsId, SetsAsRecord, SetsAtItsId, WholePrints};
 ghost use Rattle.flat_laws.specs.HostExamples.{FullPrints, HostPrints, PresentIsNotBroughtIn, AbsentIsNotReached, DeniedIsNotBroughtIn};
 ghost use Rattle.flat_laws.specs.HostExamples.{NamedIsNotTaken, OthersAreNotChanged, UnseenIsNotChanged};
-ghost use Rattle.flat_laws.specs.Writes.{DueFramesAreKept, WritesAreBegun, WritesAreUnderWay, WrittenFramesAreKept};
+ghost use Rattle.flat_laws.specs.Writes.{DueFramesAreKept, WritesAreBegun, WritesAreUnderWay, WritesAreRecorded};
 ghost use Rattle.flat_laws.specs.Images.{AnsweredImagesAreMemory, AnsweredWordsAreInOrder, AnsweredWordsAreMemory, MigrationsAreImaged};
 ghost use Rattle.flat_laws.specs.MigrationCounts.{CopiedTellsPages, NoneIsLeftToCopy};
 ghost use Rattle.flat_laws.specs.MigrationRules.{CopyKeepsGuest, FramesOfOneRise, FramesOfSlotsAreCopied, PausesMoveAlone, StartMarksPages};
@@ -83,7 +83,7 @@ pub fn unlawful_histories_are_refused()
 pub fn writes_are_kept()
     ensures begun { WritesAreBegun }
     ensures under { WritesAreUnderWay }
-    ensures written { WrittenFramesAreKept }
+    ensures written { WritesAreRecorded }
     ensures due { DueFramesAreKept }
 {}
 

@@ -6,7 +6,7 @@ ghost use Rattle.flat_model.specs.Copying.{FitsIn, IsBelow, is_either, is_printe
 ghost use Rattle.flat_model.specs.Kept.{memory_of};
 
 use crate::dirty_frames::DirtyFrames;
-use core_views::{Image, ImageWord, MemorySlot, NoMemory, Slot};
+use core_views::{Image, ImageWord, MemorySlot, NoMemory, SLOTS, Slot};
 use hands::SlotSet;
 use std::alloc::Global;
 use std::collections::HashMap;
@@ -18,7 +18,7 @@ pub fn slots_by_id(alloc: Global, slots: &SlotSet) -> Result<Vec<(u64, MemorySlo
     ensures sound { OnOk result (IsSlotSet slots.now) }
 {
     let mut found = Vec::new(alloc);
-    for id in 0..32 {
+    for id in 0..SLOTS {
         if let Some(slot) = slots.get(id) {
             found.push((id, slot))?;
         }

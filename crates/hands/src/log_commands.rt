@@ -6,10 +6,7 @@ ghost use Rattle.core_views.specs.LogCommands.{read_refusal};
 ghost use Rattle.core_views.specs.SlotSets.{slot_of_id};
 
 use crate::SlotSet;
-use core_views::{Command, MemorySlot, Refusal};
-
-/// Pages of a word of a dirty log.
-const WORD_PAGES: u64 = 64;
+use core_views::{Command, MemorySlot, Refusal, WORD_PAGES};
 
 // Whether these pages aren't whole words of the log of a slot with so many pages.
 fn is_bad_range(pages: u64, first: u64, count: u64) -> bool

@@ -9,11 +9,8 @@ ghost use Rattle.core_views.specs.SlotCommands.{stays};
 ghost use Rattle.core_views.specs.Migrations.{are_logged, has_no_slot};
 ghost use Rattle.core_views.specs.declared.memory_slot.MemorySlot.{MemorySlot};
 
-use core_views::{MemorySlot, Refusal, Slot};
+use core_views::{MemorySlot, Refusal, SLOTS, Slot};
 use std::marker::Model;
-
-/// How many slots a set may hold; their IDs are 0 to 31.
-const SLOTS: u64 = 32;
 
 /// How many guest frames there are.
 const GUEST_FRAMES: u64 = 1 << 36;

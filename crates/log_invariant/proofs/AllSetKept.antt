@@ -27,12 +27,12 @@ use Rattle.log_invariant.proofs.LogWords.{idle_off_log, is_on_log, log_same, mar
 use Rattle.log_invariant.proofs.PublishedLogs.{armed_stays}
 use Rattle.log_invariant.proofs.StepPlaces.{of_hand}
 use Rattle.log_invariant.specs.Covered.{is_marked}
-use Rattle.log_invariant.specs.LogBegins.{LogIsUnwatched, LogIsUnwatchedAt, is_unwatched}
+use Rattle.log_invariant.specs.forms.slot_change.LogBegins.{LogIsUnwatched, LogIsUnwatchedAt, is_unwatched}
 use Rattle.log_invariant.specs.LogInvariant.{LogInvariant}
 use Rattle.mmu_core.proofs.held.FreshFrames.{behind_it}
 use Rattle.mmu_core.proofs.held.OthersStay.{retires_none}
 use Rattle.mmu_core.proofs.invariant.Kept.{line_knows}
-use Rattle.mmu_core.proofs.lines.AccessParts.{AreSmall}
+use Rattle.mmu_core.proofs.forms.access.AccessParts.{AreSmall}
 use Rattle.mmu_core.proofs.lines.EitherPlace.{each_watch, either_place}
 use Rattle.mmu_core.proofs.lines.KnowsKept.{knows_after, step_knows, step_leaves}
 use Rattle.mmu_core.proofs.lines.LinesKept.{one_manager}
@@ -40,8 +40,8 @@ use Rattle.mmu_core.proofs.lines.StepIn.{Makes, StepIn, Touches, step_in}
 use Rattle.mmu_core.proofs.machine.Columns.{at_upd}
 use Rattle.mmu_core.proofs.machine.PartStepping.{IsPart}
 use Rattle.mmu_core.proofs.machine.Stepping.{IsStep}
-use Rattle.mmu_core.proofs.slots.SlotChangeKept.{change_hand}
-use Rattle.mmu_core.proofs.slots.SlotChangePlaces.{change_never, is_publication}
+use Rattle.mmu_core.proofs.forms.slot_change.SlotChangeKept.{change_hand}
+use Rattle.mmu_core.proofs.forms.slot_change.SlotChangePlaces.{change_never, is_publication}
 use Rattle.mmu_core.specs.declared.invalidate.EndNext.TheVariants as ends_next
 use Rattle.mmu_core.specs.declared.invalidate.EndNext.{EndNext}
 use Rattle.mmu_core.specs.declared.write_protect.WriteProtectNext.TheVariants as protects_next
@@ -49,13 +49,13 @@ use Rattle.mmu_core.specs.declared.write_protect.WriteProtectNext.{WriteProtectN
 use Rattle.mmu_core.specs.invariant.Invariant.{Invariant, OwnLines}
 use Rattle.mmu_core.specs.invariant.TopicsInvariant.{TopicsInvariant}
 use Rattle.mmu_core.specs.lines.Forms.{KnowsPart, first_place, outcome_at}
-use Rattle.mmu_core.specs.lines.InvalidateSteps.{end_next, end_part}
-use Rattle.mmu_core.specs.lines.SlotChangeKnows.{slot_change_retires}
-use Rattle.mmu_core.specs.lines.SlotChangeSteps.{after_grace, after_protect, after_set_end, frames_of, slot_change_first, slot_change_note}
-use Rattle.mmu_core.specs.lines.SlotChangeSteps.{slot_change_outcome, slot_change_part, slot_change_task}
-use Rattle.mmu_core.specs.lines.SlotTargets.{arm_bits}
-use Rattle.mmu_core.specs.lines.WatchSteps.{watch_next}
-use Rattle.mmu_core.specs.lines.WriteProtectSteps.{protect_next}
+use Rattle.mmu_core.specs.orders.InvalidateSteps.{end_next, end_part}
+use Rattle.mmu_core.specs.forms.slot_change.SlotChangeKnows.{slot_change_retires}
+use Rattle.mmu_core.specs.forms.slot_change.SlotChangeSteps.{after_grace, after_protect, after_set_end, frames_of, slot_change_first, slot_change_note}
+use Rattle.mmu_core.specs.forms.slot_change.SlotChangeSteps.{slot_change_outcome, slot_change_part, slot_change_task}
+use Rattle.mmu_core.specs.forms.slot_change.SlotTargets.{arm_bits}
+use Rattle.mmu_core.specs.orders.WatchSteps.{watch_next}
+use Rattle.mmu_core.specs.orders.WriteProtectSteps.{protect_next}
 use Rattle.mmu_core.specs.machine.Outcomes.{place_after}
 use Rattle.mmu_core.specs.machine.Steps.{has_line, idle_after, task_at}
 use Rattle.mmu_core.specs.machine.View.{View, answer_in, hand_after, part_stepped, stepped, words_after}

@@ -1,8 +1,8 @@
 -- The bits of the words of a log that is to begin: each page of the slot has one where all are to be dirty, and no other page has any.
 use Rattle.core_views.specs.Slots.{has_host_page}
 use Rattle.core_views.specs.declared.trace.Slot.{Slot}
-use Rattle.mmu_core.specs.lines.ArmKnows.{IsInLog}
-use Rattle.mmu_core.specs.lines.SlotTargets.{arm_bits}
+use Rattle.mmu_core.specs.forms.slot_change.ArmKnows.{IsInLog}
+use Rattle.mmu_core.specs.forms.slot_change.SlotTargets.{arm_bits}
 use Rattle.part_steps.specs.LogHoldings.{is_in_log, log_begin}
 use Rattle.spte_words.specs.Bits.{has_bit}
 use Rattle.std.proofs.Common.{ap, arith, refl, ℕ, ◌%◌, ◌*◌, ◌+◌, ◌-◌, ◌/◌, ◌<◌, ◌^◌, ◌≡◌, ◌≤◌}

@@ -18,9 +18,9 @@ use Rattle.mmu_core.proofs.machine.Stepping.{IsStep}
 use Rattle.mmu_core.proofs.slots.Changes.{change_is_managers}
 use Rattle.mmu_core.proofs.slots.SlotChangeArms.{armed_is}
 use Rattle.mmu_core.specs.invariant.Invariant.{Invariant}
-use Rattle.mmu_core.specs.lines.ArmKnows.{IsInLog}
-use Rattle.mmu_core.specs.lines.SlotChangeSteps.{log_target, slot_or_none}
-use Rattle.mmu_core.specs.lines.SlotTargets.{arm_bits}
+use Rattle.mmu_core.specs.forms.slot_change.ArmKnows.{IsInLog}
+use Rattle.mmu_core.specs.forms.slot_change.SlotChangeSteps.{log_target, slot_or_none}
+use Rattle.mmu_core.specs.forms.slot_change.SlotTargets.{arm_bits}
 use Rattle.mmu_core.specs.machine.View.{View}
 use Rattle.part_steps.specs.LogHoldings.{log_end}
 use Rattle.spte_words.specs.declared.area.Area.TheVariants as area

@@ -16,10 +16,10 @@ use Rattle.log_invariant.specs.Covered.{IsLoggedIn}
 use Rattle.log_invariant.specs.LogInvariant.{HasArmedWordsAt}
 use Rattle.mmu_core.proofs.invariant.Kept.{manager_retires}
 use Rattle.mmu_core.proofs.lines.LinesKept.{one_manager}
-use Rattle.mmu_core.proofs.slots.SlotChangeKept.{change_hand}
+use Rattle.mmu_core.proofs.forms.slot_change.SlotChangeKept.{change_hand}
 use Rattle.mmu_core.specs.invariant.Invariant.{Holds, Invariant, KnowsPart, RetiresPart}
-use Rattle.mmu_core.specs.lines.ArmKnows.{IsInLog}
-use Rattle.mmu_core.specs.lines.SlotTargets.{log_target, slot_or_none}
+use Rattle.mmu_core.specs.forms.slot_change.ArmKnows.{IsInLog}
+use Rattle.mmu_core.specs.forms.slot_change.SlotTargets.{log_target, slot_or_none}
 use Rattle.mmu_core.specs.machine.View.{View}
 use Rattle.part_steps.specs.SlotWords.{slot_index}
 use Rattle.spte_words.specs.Flags.{flags_logged}

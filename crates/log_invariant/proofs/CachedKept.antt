@@ -1,6 +1,6 @@
 -- Each step keeps it that what a virtual processor may use of what it has cached is guarded.
-use Rattle.std.proofs.Common.{ap, arith, inl, inr, subst, sym, ℕ, ◌<◌, ◌∙◌, ◌≡◌}
-use Rattle.std.specs.Prelude.{false, true}
+use Rattle.std.proofs.Common.{ap, arith, inl, inr, refl, subst, sym, ℕ, ◌<◌, ◌∙◌, ◌≡◌}
+use Rattle.std.specs.Prelude.{None, Option, Some, false, true}
 use Rattle.circular_buffer.specs.Buffer.{Buffer}
 use Rattle.core_views.specs.declared.cache.Translation.{Translation}
 use Rattle.core_views.specs.declared.place.FrameRange.{FrameRange}
@@ -22,16 +22,19 @@ use Rattle.spte_words.specs.declared.area.Area.TheVariants as area
 use Rattle.part_steps.specs.declared.part_step.PartStep.{PartStep}
 use Rattle.part_steps.specs.ControlBits.{has_to_flush}
 use Rattle.part_steps.specs.PartSteps.{needs_line}
+use Rattle.part_steps.specs.declared.task.Task.{Task}
 use Rattle.part_steps.specs.PartTasks.{own_index, part_task}
 use Rattle.part_steps.specs.Tasks.{kind_of_task}
 use Rattle.mmu_core.specs.invariant.InvalidatedPart.{may_use}
 use Rattle.mmu_core.specs.invariant.Invariant.{Invariant}
 use Rattle.mmu_core.specs.invariant.TopicsInvariant.{TopicsInvariant}
-use Rattle.mmu_core.specs.lines.Cached.{flushed}
-use Rattle.mmu_core.specs.lines.Forms.{caches_at, outcome_at, first_place}
-use Rattle.mmu_core.specs.lines.PartAt.{task_at}
-use Rattle.mmu_core.specs.lines.SlotChangeSteps.{slot_change_outcome, slot_change_task}
-use Rattle.mmu_core.specs.lines.WriteProtectSteps.{protect_part}
+use Rattle.mmu_core.specs.forms.access.Cached.{flushed}
+use Rattle.mmu_core.specs.lines.Forms.{RestsAt, caches_at, first_place, note_at, outcome_at}
+use Rattle.mmu_core.specs.forms.access.AccessSteps.{task_by}
+use Rattle.mmu_core.specs.forms.log.LogSteps.{log_next, log_part}
+use Rattle.mmu_core.specs.lines.PartAt.{task_at, touch_at}
+use Rattle.mmu_core.specs.forms.slot_change.SlotChangeSteps.{slot_change_outcome, slot_change_task}
+use Rattle.mmu_core.specs.orders.WriteProtectSteps.{protect_part}
 use Rattle.mmu_core.specs.machine.Outcomes.{place_after}
 use Rattle.mmu_core.specs.machine.Steps.{has_line}
 use Rattle.mmu_core.specs.machine.View.{View, answer_in, hand_after, part_stepped, stepped, upd, words_after}
@@ -40,15 +43,15 @@ use Rattle.mmu_core.proofs.held.FlushSteps.{asked_there}
 use Rattle.mmu_core.proofs.held.UsableSteps.{asks_of}
 use Rattle.mmu_core.proofs.invariant.Kept.{makes_at, needs_at}
 use Rattle.mmu_core.proofs.invariant.QuietKept.{MakesAt}
-use Rattle.mmu_core.proofs.lines.AccessParts.{AreSmall}
-use Rattle.mmu_core.proofs.lines.KnowsKept.{step_knows}
+use Rattle.mmu_core.proofs.forms.access.AccessParts.{AreSmall}
+use Rattle.mmu_core.proofs.lines.KnowsKept.{NeedsAt, step_knows}
 use Rattle.mmu_core.proofs.lines.StepIn.{Makes, step_of}
 use Rattle.mmu_core.proofs.lines.StepTopics.{topics_of_step}
 use Rattle.mmu_core.proofs.machine.Columns.{at_upd, upd_same}
 use Rattle.mmu_core.proofs.machine.HandWith.{hand_with}
-use Rattle.mmu_core.proofs.machine.PartStepping.{IsPart}
+use Rattle.mmu_core.proofs.machine.PartStepping.{IsPart, behind_part}
 use Rattle.mmu_core.proofs.machine.Stepping.{IsStep}
-use Rattle.log_invariant.specs.Excuses.{ExcusesCached, FlushesLaterAt}
+use Rattle.log_invariant.specs.Excuses.{ExcusesCached, forbidding, forbidding_at}
 use Rattle.log_invariant.specs.LogInvariant.{AreGuarded, LogInvariant, UseIsGuarded}
 use Rattle.log_invariant.proofs.CachesCarried.{task_carried, AsksStill}
 use Rattle.log_invariant.proofs.CoveredKept.{AllGuarded, guarded_kept, idle_guarded_kept}
@@ -57,10 +60,13 @@ use Rattle.log_invariant.proofs.LogsBegun.{AllSetNow, begun_guarded}
 use Rattle.log_invariant.proofs.StepPlaces.{of_hand}
 pub use Rattle.log_invariant.proofs.TranslationsKept.{CachedNow}
 use Rattle.log_invariant.proofs.TranslationsKept.{line_guarded, still_excused}
-use Rattle.log_invariant.proofs.UsesExcused.{MayUseAt, ShowsFlushAt, allows_use, excused_at, ShowsFlush}
-use Rattle.log_invariant.proofs.LogExcuse.{taken_forbids}
-use Rattle.log_invariant.proofs.LogUses.{ShowsFlushBy, log_used, no_frames}
-use Rattle.mmu_core.specs.lines.LogSteps.{log_note}
+use Rattle.log_invariant.proofs.forms.slot_change.UsesExcused.{MayUseAt, ShowsFlushAt, allows_use, excused_at, ShowsFlush}
+use Rattle.log_invariant.proofs.forms.log.ReadingExcuses.{said_next, taken_forbids}
+use Rattle.mmu_core.proofs.forms.log.ReadingPlaces.{IsOfReading, after_reading, reading_is}
+use Rattle.mmu_core.specs.forms.log.Readings.{Reading, reading_at}
+use Rattle.log_invariant.specs.Forbidding.{FlushesLater}
+use Rattle.log_invariant.specs.forms.log.LogReads.{taken_of}
+use Rattle.log_invariant.proofs.forms.log.LogUses.{ShowsFlushBy, log_used, no_frames}
 
 -- ---- carried over a step
 
@@ -101,14 +107,56 @@ line_tells z v a note k protect.Await range P lt may = (
 )
 line_tells z v a note k _ range P lt may = tt
 
--- So they say where a line reads a log.
-log_tells : (z : Sizes) (v : View) (a : ℕ) (command : Command) (k : ℕ) (p : LogPlace) → TopicsInvariant z v → k < actors_of z
+-- So they say where a reading is under way.
+log_tells : (z : Sizes) (v : View) (a note k : ℕ) (p : LogPlace) (command : Command) → TopicsInvariant z v → k < actors_of z
     → may_use (v.words area.State k) (v.hand k).topics.stay ≡ true
-    → ShowsFlushBy p (v.hand a).topics k (answer_in (task_at (place.Log p) command (v.hand a)) v.words) (v.words area.State k)
-    (words_after (task_at (place.Log p) command (v.hand a)) v.words area.State k)
-log_tells z v a command k log.Ask P lt may = line_tells z v a 0 k protect.Ask no_frames P lt may
-log_tells z v a command k log.Await P lt may = line_tells z v a (log_note log.Await (v.hand a) command) k protect.Await no_frames P lt may
-log_tells z v a command k _ P lt may = tt
+    → ShowsFlushBy p (v.hand a).topics k
+    (answer_in (part_task (log_part p (v.hand a) command) (own_index (v.hand a)) (v.hand a).topics note) v.words) (v.words area.State k)
+    (words_after (part_task (log_part p (v.hand a) command) (own_index (v.hand a)) (v.hand a).topics note) v.words area.State k)
+log_tells z v a note k log.Ask command P lt may = line_tells z v a note k protect.Ask no_frames P lt may
+log_tells z v a note k log.Await command P lt may = line_tells z v a note k protect.Await no_frames P lt may
+log_tells z v a note k _ command P lt may = tt
+
+reading_rests : (p : Place) (command : Command) (h : Held) (r : Reading) → reading_at p command h ≡ Some r → NeedsAt p command h → RestsAt p command h
+reading_rests (place.Access p) command h r is needs = absurd (cc is)
+reading_rests _ command h r is needs = needs
+
+-- What the reading under way excuses it excuses after the step.
+reading_used : (z : Sizes) (v : View) (a : ℕ) (line : Line) (command : Command) (p : Place) → IsStep z v a line command p → Invariant z v
+    → TopicsInvariant z v → NeedsAt p command (v.hand a) → (k gfn : ℕ) → k < z.vcpus → may_use (v.words area.State k) (v.hand k).topics.stay ≡ true
+    → (o : Option Reading) → reading_at p command (v.hand a) ≡ o → FlushesLater (taken_of o (v.hand a)) k (v.words area.State k) gfn
+    → FlushesLater (forbidding_at (place_after (outcome_at p command (v.hand a) (answer_in (task_at p command (v.hand a)) v.words))) command
+    (hand_after line command p (v.hand a) (answer_in (task_at p command (v.hand a)) v.words))) k ((stepped a line command p v).words area.State k) gfn
+reading_used z v a line command p S I P needs k gfn low may None is W = absurd W.0
+reading_used z v a line command p S I P needs k gfn low may (Some r) is W =
+    said_next (λ f. FlushesLater f k now_ gfn) p command h x r is g (log_next r.place r.command h x) refl
+    (log_used r.command h x g k (v.words area.State k) now_ gfn (subst (λ (y : Sizes). k < y.vcpus) (sym (I.lines a S.there).sizes) low) r.place
+    (there.knows (step_knows z v a line command p S I)) (after_reading line p command h x r is)
+    (ap (λ (t : Topics). t.flush) (topics_of_step p command h x (reading_rests p command h r is needs))
+    ∙ ap (λ (s : Option PartStep). (behind_part s h.topics x).flush) there.part)
+    (subst (λ (task : Task). ShowsFlushBy r.place h.topics k (answer_in task v.words) (v.words area.State k) (words_after task v.words area.State k))
+    (sym task_is) (log_tells z v a (note_at p command h) k r.place r.command P (omega (arith, low)) may)) W) (λ none. none.0)
+  where
+    h : Held
+    h = v.hand a
+
+    x : ℕ
+    x = answer_in (task_at p command h) v.words
+
+    g : Held
+    g = hand_after line command p h x
+
+    now_ : ℕ
+    now_ = (stepped a line command p v).words area.State k
+
+    there : IsOfReading p command h r
+    there = reading_is p command h r is
+
+    step : PartStep
+    step = log_part r.place h r.command
+
+    task_is : task_at p command h ≡ part_task step (own_index h) h.topics (note_at p command h)
+    task_is = ap (λ (s : Option PartStep). task_by s h (note_at p command h) (touch_at command h)) there.part
 
 -- What the own line excuses it excuses after its step.
 uses_excused : (z : Sizes) (v : View) (a : ℕ) (line : Line) (command : Command) (p : Place) → IsStep z v a line command p → Invariant z v
@@ -129,7 +177,7 @@ uses_excused z v a line command p S I P k gfn low may excuse =
     none : (q : Place) (c : Command) → MayUseAt k (v.words area.State k) place.Between h.state.line.command h gfn
         → MayUseAt k (v.words area.State k) q c h gfn
     none q c (inl opens) = absurd opens.0
-    none q c (inr flushes) = absurd flushes
+    none q c (inr flushes) = absurd flushes.0
 
     told : (p : SlotChangePlace) → ShowsFlushAt p h.topics k (answer_in (slot_change_task p h command) v.words) (v.words area.State k)
         (words_after (slot_change_task p h command) v.words area.State k)
@@ -148,17 +196,9 @@ uses_excused z v a line command p S I P k gfn low may excuse =
         (excused_at line h command c k x (v.words area.State k) ((stepped a line command (place.SlotChange p) v).words area.State k) gfn
         (subst (λ (y : Sizes). k < y.vcpus) (sym (I.lines a S.there).sizes) low) p
         (step_knows z v a line command (place.SlotChange p) S I).1 (told p) excuse)
-    by (place.Log p) S (inr flushes) =
-        let x : ℕ = answer_in (task_at (place.Log p) command h) v.words in
-        let c : Buffer Translation = flushed (kind_of_task h.state.sizes (task_at (place.Log p) command h)) h.cached x in
-        let now_ : ℕ = (stepped a line command (place.Log p) v).words area.State k in
-        inr (subst (λ (t : Topics). FlushesLaterAt (place_after (outcome_at (place.Log p) command h x)) command
-        (hand_with line command (place.Log p) h t c x) k now_ gfn)
-        (sym (topics_of_step (place.Log p) command h x (needs_at z v a line command (place.Log p) S I P)))
-        (log_used line h command c k x (v.words area.State k) now_ gfn (subst (λ (y : Sizes). k < y.vcpus) (sym (I.lines a S.there).sizes) low) p
-        (step_knows z v a line command (place.Log p) S I) (log_tells z v a command k p P (omega (arith, low)) may) flushes))
     by _ S (inl opens) = absurd opens.0
-    by _ S (inr flushes) = absurd flushes
+    by p S (inr flushes) =
+        inr (reading_used z v a line command p S I P (needs_at z v a line command p S I P) k gfn low may (reading_at p command h) refl flushes)
 
 -- Each step of a line keeps it, where each page is marked after it of a slot whose log begins so.
 pub line_cached_kept : (z : Sizes) (v : View) (a : ℕ) (line : Line) (command : Command) (p : Place) → AreSmall v → IsStep z v a line command p
@@ -189,8 +229,7 @@ line_cached_kept z v a line command p small S I P G set k low =
           others = λ j lt ne excuse. still_excused k (v.words area.State k) (w.words area.State k) (v.hand j) gfn still excuse;
           own = λ id slot logged holds excuse. inr (a, S.there, uses_excused z v a line command p S I P k gfn low may excuse);
         })
-        (λ takes T. inr (allows_use (w.hand a).state.place k (w.words area.State k) (w.hand a).state.line.command (w.hand a) gfn
-        (taken_forbids p takes v a line command gfn T)))
+        (λ takes T. inr (allows_use (forbidding (w.hand a)) k (w.words area.State k) gfn (taken_forbids p v a line command gfn takes S.command_is T)))
         (λ slot begins holds. begun_guarded z v a line command p S I (ExcusesCached k (w.words area.State k)) gfn slot (λ g opens clean. inl (opens, clean)) set
         begins holds) guarded
 
@@ -215,7 +254,7 @@ part_cached_kept z v a step note S free none I P G k low =
       where
         by : MayUseAt k state place.Between h.state.line.command h gfn → ⊥
         by (inl opens) = opens.0
-        by (inr flushes) = flushes
+        by (inr flushes) = flushes.0
 
     carries : Carries z v w
     carries k still low may gfn guarded =

@@ -16,8 +16,8 @@ use Rattle.part_steps.specs.PartTopics.{part_topics}
 use Rattle.part_steps.specs.Tasks.{kind_of_task}
 use Rattle.part_steps.specs.TopicSteps.{topics_after}
 use Rattle.mmu_core.specs.invariant.InvalidatedPart.{may_use}
-use Rattle.mmu_core.specs.lines.AccessSteps.{touch_of}
-use Rattle.mmu_core.specs.lines.Cached.{asks_flush, flushed}
+use Rattle.mmu_core.specs.forms.access.AccessSteps.{touch_of}
+use Rattle.mmu_core.specs.forms.access.Cached.{asks_flush, flushed}
 use Rattle.mmu_core.specs.machine.View.{View, answer_in, upd, words_after}
 use Rattle.mmu_core.proofs.held.UsableSteps.{other_asks, other_used, own_used}
 use Rattle.mmu_core.proofs.lines.StepIn.{Makes, StepIn, Touches}

@@ -1,6 +1,7 @@
 -- What is covered stays covered, by each step; and which slots have a dirty log after it.
 use Rattle.std.proofs.Common.{◌≡◌, ◌≢◌, ◌⊎◌, ◌<◌, ℕ, inl, inr, refl, sym, subst, ap, ◌∙◌}
-use Rattle.std.specs.Prelude.{Some, true, false, Option}
+use Rattle.std.specs.Prelude.{Bool, None, Option, Some, false, true}
+use Rattle.core_views.specs.declared.place.LogPlace.{LogPlace}
 use Rattle.core_views.specs.declared.place.LogPlace.TheVariants as log
 use Rattle.core_views.specs.declared.place.Place.{Place}
 use Rattle.core_views.specs.declared.place.Place.TheVariants as place
@@ -19,13 +20,13 @@ use Rattle.part_steps.specs.PartSteps.{needs_line}
 use Rattle.mmu_core.specs.invariant.Invariant.{Invariant}
 use Rattle.mmu_core.specs.invariant.TopicsInvariant.{TopicsInvariant}
 use Rattle.mmu_core.specs.machine.View.{View, part_stepped, stepped, answer_in, hand_after, upd, words_after}
-use Rattle.mmu_core.specs.lines.LogSteps.{log_part, read_more, slot_asked}
-use Rattle.mmu_core.proofs.lines.AccessParts.{AreSmall}
+use Rattle.mmu_core.specs.forms.log.LogSteps.{log_part, read_more, slot_asked}
+use Rattle.mmu_core.proofs.forms.access.AccessParts.{AreSmall}
 use Rattle.mmu_core.proofs.machine.PartStepping.{IsPart, idle_never}
 use Rattle.mmu_core.proofs.machine.Stepping.{IsStep}
 use Rattle.log_invariant.specs.Covered.{IsCovered, IsLoggedIn, IsOwed, is_marked}
 use Rattle.log_invariant.specs.LogInvariant.{IsGuarded, IsGuardedIn, LogInvariant}
-use Rattle.log_invariant.specs.LogReads.{IsRead, IsTaken}
+use Rattle.log_invariant.specs.forms.log.LogReads.{HasTakenOut, IsRead}
 use Rattle.log_invariant.proofs.HeldLogs.{IsLoggedNow, marked_is_live, set_logged_was}
 use Rattle.core_views.specs.declared.topics.Topics.{Topics}
 use Rattle.core_views.specs.declared.trace.Op.{Op}
@@ -37,7 +38,7 @@ use Rattle.part_steps.specs.PartTopics.{part_topics}
 use Rattle.part_steps.specs.SlotWords.{page_of, slot_at}
 use Rattle.part_steps.specs.Tasks.{kind_of_task}
 use Rattle.part_steps.specs.TopicSteps.{topics_after}
-use Rattle.mmu_core.specs.lines.AccessSteps.{touch_of}
+use Rattle.mmu_core.specs.forms.access.AccessSteps.{touch_of}
 use Rattle.mmu_core.specs.lines.Forms.{part_at}
 use Rattle.mmu_core.specs.lines.PartAt.{task_at}
 use Rattle.mmu_core.proofs.invariant.Kept.{makes_at}
@@ -49,8 +50,11 @@ use Rattle.mmu_core.proofs.words.PartTopics.{is_there, part_topics_is}
 use Rattle.mmu_core.proofs.words.PartWords.{slots_are, slots_same}
 use Rattle.log_invariant.proofs.LogWords.{idle_no_mark, idle_off_log, log_same, marked_kept, marked_now, touch_leaves_log}
 use Rattle.log_invariant.proofs.PublishedLogs.{published_logs}
-use Rattle.log_invariant.proofs.StepPlaces.{StepAt, Makes, Touches, publishes_none, step_at, takes, takes_bits, takes_none}
-use Rattle.log_invariant.proofs.TakenFrames.{left_or_read, read_taken}
+use Rattle.log_invariant.proofs.StepPlaces.{StepAt, Makes, Touches, publishes_none, step_at, takes, takes_bits, takes_none, takes_of}
+use Rattle.log_invariant.proofs.forms.log.TakenFrames.{left_or_read, read_taken}
+use Rattle.log_invariant.proofs.forms.log.PassedFrames.{topics_then}
+use Rattle.mmu_core.proofs.forms.log.ReadingPlaces.{reading_is}
+use Rattle.mmu_core.specs.forms.log.Readings.{Reading, reading_at}
 use Rattle.mmu_core.proofs.held.OwedKept.{is_mark, owed_stays}
 
 -- ---- which slots have a log
@@ -62,11 +66,9 @@ pub record PublishesLog (v : View) (a : ℕ) (command : Command) (p : Place) (sl
 
 -- So it had it where the published set is the same, and its words stay.
 logged_stays : (v : View) (words : Area → ℕ → ℕ) (id : ℕ) (slot : SlotOf) → words area.Slots 0 ≡ v.words area.Slots 0
-    → SetStays (v.words area.Slots 0) (v.words area.Pool) (words area.Pool) → IsLoggedIn (words area.Pool) (words area.Slots 0) id slot
-    → IsLoggedNow v id slot
+    → SetStays (v.words area.Slots 0) (v.words area.Pool) (words area.Pool) → IsLoggedIn (words area.Pool) (words area.Slots 0) id slot → IsLoggedNow v id slot
 logged_stays v words id slot same stays logged =
-    set_logged_was (v.words area.Slots 0) (v.words area.Pool) (words area.Pool) id slot stays
-    (subst (λ s. IsLoggedIn (words area.Pool) s id slot) same logged)
+    set_logged_was (v.words area.Slots 0) (v.words area.Pool) (words area.Pool) id slot stays (subst (λ s. IsLoggedIn (words area.Pool) s id slot) same logged)
 
 -- A slot that has a log after a step had it before, or the step is a line's publication that begins it.
 pub logged_before : (z : Sizes) (v : View) (a : ℕ) (line : Line) (command : Command) (p : Place) → AreSmall v → IsStep z v a line command p → Invariant z v
@@ -113,8 +115,7 @@ pub found_same : (z : Sizes) (v : View) (i id gfn : ℕ) (slot : SlotOf) → i <
 found_same z v i id gfn slot lt I P G logged holds owed =
     let M = marked_is_live z v i gfn lt I P G owed in
     let L = logged.live in
-    let same : M.id ≡ id =
-    I.set_part.slots.guest_apart gfn M.id id M.live.low L.low M.live.live L.live (ap (contains gfn) M.live.is ∙ M.found.holds)
+    let same : M.id ≡ id = I.set_part.slots.guest_apart gfn M.id id M.live.low L.low M.live.live L.live (ap (contains gfn) M.live.is ∙ M.found.holds)
     (ap (contains gfn) L.is ∙ holds) in
     sym M.live.is ∙ ap (slot_at (v.words area.Pool) (v.words area.Slots 0)) same ∙ L.is
 
@@ -180,35 +181,45 @@ covered_kept z v a line command p small S I P G keeps id gfn slot logged holds c
 -- And so it does with each step, unless the line has taken its page then.
 pub covered_or_taken : (z : Sizes) (v : View) (a : ℕ) (line : Line) (command : Command) (p : Place) → AreSmall v → IsStep z v a line command p → Invariant z v
     → TopicsInvariant z v → LogInvariant z v → (id gfn : ℕ) (slot : SlotOf) → IsLoggedNow v id slot → contains gfn slot ≡ true → IsCoveredNow z v slot gfn
-    → IsCoveredNow z (stepped a line command p v) slot gfn ⊎ IsTaken ((stepped a line command p v).hand a) gfn
-covered_or_taken z v a line command (place.Log (log.Take begun)) small S I P G id gfn slot logged holds (inl marked) =
-    by (left_or_read z v a line command begun S I id gfn slot logged holds marked)
+    → IsCoveredNow z (stepped a line command p v) slot gfn ⊎ HasTakenOut ((stepped a line command p v).hand a) gfn
+covered_or_taken z v a line command p small S I P G id gfn slot logged holds covered = by_reading (reading_at p command h) refl
   where
     h : Held
     h = v.hand a
 
     x : ℕ
-    x = answer_in (task_at (place.Log (log.Take begun)) command h) v.words
+    x = answer_in (task_at p command h) v.words
 
     w : View
-    w = stepped a line command (place.Log (log.Take begun)) v
+    w = stepped a line command p v
 
-    by : (is_marked (w.words area.Log) (page_of slot gfn) ≡ true)
-        ⊎ IsRead (slot_asked h command) command (read_more begun (slot_asked h command) command h x) gfn
-        → IsCoveredNow z w slot gfn ⊎ IsTaken (w.hand a) gfn
-    by (inl still) = inl (inl still)
-    by (inr read) =
-        inr (subst (λ (k : Held). IsTaken k gfn) (sym (upd_same v.hand a (hand_after line command (place.Log (log.Take begun)) h x)))
-        (read_taken line command begun h x gfn read S.command_is))
-covered_or_taken z v a line command (place.Log (log.Take begun)) small S I P G id gfn slot logged holds (inr (i, lt, owed)) =
-    let h : Held = v.hand a in
-    let step : PartStep = log_part (log.Take begun) h command in
-    let M : IsPart z v a step = makes_at z v a line command (place.Log (log.Take begun)) small S I P step refl in
-    let x : ℕ = answer_in (task_at (place.Log (log.Take begun)) command h) v.words in
-    inl (inr (owes_still z v a step 0 M refl gfn i lt owed (hand_after line command (place.Log (log.Take begun)) h x) x
-    (part_topics_is h.state.sizes step (own_index h) h.topics 0 x (is_there step h M.needs))))
-covered_or_taken z v a line command p small S I P G id gfn slot logged holds covered =
-    inl (covered_kept z v a line command p small S I P G (λ step. takes_none p command (v.hand a) step refl) id gfn slot logged holds covered)
+    Stays : Type 0
+    Stays = IsCoveredNow z w slot gfn ⊎ HasTakenOut (w.hand a) gfn
+
+    none : takes p command h ≡ false → Stays
+    none never = inl (covered_kept z v a line command p small S I P G (λ step. takes_none p command h step never) id gfn slot logged holds covered)
+
+    takes_it : (c : Command) (begun : Bool) → reading_at p command h ≡ Some (record { place = log.Take begun; command = c }) → IsCoveredNow z v slot gfn → Stays
+    takes_it c begun at (inl marked) = by (left_or_read z v a line command p c begun at S I id gfn slot logged holds marked)
+      where
+        by : (is_marked (w.words area.Log) (page_of slot gfn) ≡ true) ⊎ IsRead (slot_asked h c) c (read_more begun (slot_asked h c) c h x) gfn → Stays
+        by (inl still) = inl (inl still)
+        by (inr read) =
+            inr (subst (λ (k : Held). HasTakenOut k gfn) (sym (upd_same v.hand a (hand_after line command p h x)))
+            (read_taken line command p h x c begun at gfn read S.command_is))
+    takes_it c begun at (inr (i, lt, owed)) =
+        let there = reading_is p command h _ at in
+        let step : PartStep = log_part (log.Take begun) h c in
+        let M : IsPart z v a step = makes_at z v a line command p small S I P step there.part in
+        inl (inr (owes_still z v a step 0 M refl gfn i lt owed (hand_after line command p h x) x (topics_then v a line command p step there.part M.needs)))
+
+    at_place : (q : LogPlace) (c : Command) → reading_at p command h ≡ Some (record { place = q; command = c }) → Stays
+    at_place (log.Take begun) c at = takes_it c begun at covered
+    at_place _ c at = none (ap takes_of at)
+
+    by_reading : (o : Option Reading) → reading_at p command h ≡ o → Stays
+    by_reading None at = none (ap takes_of at)
+    by_reading (Some r) at = at_place r.place r.command at
 
 pub idle_covered_kept : (z : Sizes) (v : View) (a : ℕ) (step : PartStep) (note : ℕ) → IsPart z v a step → needs_line step ≡ false
     → (gfn : ℕ) (slot : SlotOf) → IsCoveredNow z v slot gfn → IsCoveredNow z (part_stepped a step note v) slot gfn
@@ -248,25 +259,27 @@ guarded_by z v w a gfn Before After excuses id slot logged holds kept same (inr 
 -- What is covered is guarded after a step, where the line excuses what it takes with it.
 covered_guards : (z : Sizes) (v : View) (a : ℕ) (line : Line) (command : Command) (p : Place) → AreSmall v → IsStep z v a line command p → Invariant z v
     → TopicsInvariant z v → LogInvariant z v → (gfn : ℕ) (After : Held → ℕ → Type 0)
-    → (takes p ≡ true → IsTaken ((stepped a line command p v).hand a) gfn → After ((stepped a line command p v).hand a) gfn) → (id : ℕ) (slot : SlotOf)
+    → (takes p command (v.hand a) ≡ true → HasTakenOut ((stepped a line command p v).hand a) gfn → After ((stepped a line command p v).hand a) gfn) → (id : ℕ)
+    (slot : SlotOf)
     → IsLoggedNow v id slot → contains gfn slot ≡ true → IsCoveredNow z v slot gfn → IsGuardedNow z (stepped a line command p v) After slot gfn
-covered_guards z v a line command (place.Log (log.Take begun)) small S I P G gfn After taken id slot logged holds covered =
-    by (covered_or_taken z v a line command (place.Log (log.Take begun)) small S I P G id gfn slot logged holds covered)
+covered_guards z v a line command p small S I P G gfn After taken id slot logged holds covered = by (takes p command (v.hand a)) refl
   where
     w : View
-    w = stepped a line command (place.Log (log.Take begun)) v
+    w = stepped a line command p v
 
-    by : IsCoveredNow z w slot gfn ⊎ IsTaken (w.hand a) gfn → IsGuardedNow z w After slot gfn
-    by (inl still) = inl still
-    by (inr is) = inr (a, S.there, taken refl is)
-covered_guards z v a line command p small S I P G gfn After taken id slot logged holds covered =
-    inl (covered_kept z v a line command p small S I P G (λ step. takes_none p command (v.hand a) step refl) id gfn slot logged holds covered)
+    or_taken : takes p command (v.hand a) ≡ true → IsCoveredNow z w slot gfn ⊎ HasTakenOut (w.hand a) gfn → IsGuardedNow z w After slot gfn
+    or_taken is (inl still) = inl still
+    or_taken is (inr out) = inr (a, S.there, taken is out)
+
+    by : (b : Bool) → takes p command (v.hand a) ≡ b → IsGuardedNow z w After slot gfn
+    by true is = or_taken is (covered_or_taken z v a line command p small S I P G id gfn slot logged holds covered)
+    by false never =
+        inl (covered_kept z v a line command p small S I P G (λ step. takes_none p command (v.hand a) step never) id gfn slot logged holds covered)
 
 -- So what is guarded stays guarded, where a write in a slot is guarded whose log the publication begins.
 pub guarded_kept : (z : Sizes) (v : View) (a : ℕ) (line : Line) (command : Command) (p : Place) → AreSmall v → IsStep z v a line command p → Invariant z v
-    → TopicsInvariant z v → LogInvariant z v → (gfn : ℕ) (Before After : Held → ℕ → Type 0)
-    → ExcusesStay z v (stepped a line command p v) a gfn Before After
-    → (takes p ≡ true → IsTaken ((stepped a line command p v).hand a) gfn → After ((stepped a line command p v).hand a) gfn)
+    → TopicsInvariant z v → LogInvariant z v → (gfn : ℕ) (Before After : Held → ℕ → Type 0) → ExcusesStay z v (stepped a line command p v) a gfn Before After
+    → (takes p command (v.hand a) ≡ true → HasTakenOut ((stepped a line command p v).hand a) gfn → After ((stepped a line command p v).hand a) gfn)
     → ((slot : SlotOf) → PublishesLog v a command p slot → contains gfn slot ≡ true → IsGuardedNow z (stepped a line command p v) After slot gfn)
     → AllGuarded z v Before gfn → AllGuarded z (stepped a line command p v) After gfn
 guarded_kept z v a line command p small S I P G gfn Before After excuses taken begun guarded id slot logged holds =
@@ -284,5 +297,4 @@ pub idle_guarded_kept : (z : Sizes) (v : View) (a : ℕ) (step : PartStep) (note
 idle_guarded_kept z v a step note S free P gfn Before After excuses guarded id slot logged holds =
     let had = idle_logged_before z v a step note S free P id slot logged in
     guarded_by z v (part_stepped a step note v) a gfn Before After excuses id slot had holds
-    (λ covered. inl (idle_covered_kept z v a step note S free gfn slot covered))
-    (λ j ne. upd_other v.hand a j _ ne) (guarded id slot had holds)
+    (λ covered. inl (idle_covered_kept z v a step note S free gfn slot covered)) (λ j ne. upd_other v.hand a j _ ne) (guarded id slot had holds)

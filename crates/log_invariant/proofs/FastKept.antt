@@ -33,32 +33,32 @@ use Rattle.mmu_core.specs.declared.outcome.Outcome.{Outcome}
 use Rattle.mmu_core.specs.declared.outcome.Outcome.TheVariants.{Goes}
 use Rattle.mmu_core.specs.declared.share.ShareNext.{ShareNext}
 use Rattle.mmu_core.specs.declared.share.ShareNext.TheVariants as shares
-use Rattle.mmu_core.specs.lines.AccessSteps.{access_outcome, behind_fault, pause_next, stay_next}
-use Rattle.mmu_core.specs.lines.Cached.{first_usable}
-use Rattle.mmu_core.specs.lines.FaultSteps.{after_claim, after_share, allows_access, fault_next, walk_next, found_next}
+use Rattle.mmu_core.specs.forms.access.AccessSteps.{access_outcome, behind_fault, pause_next, stay_next}
+use Rattle.mmu_core.specs.forms.access.Cached.{first_usable}
+use Rattle.mmu_core.specs.forms.access.FaultSteps.{after_claim, after_share, allows_access, fault_next, walk_next, found_next}
 use Rattle.mmu_core.specs.lines.Forms.{first_place, outcome_at}
 use Rattle.mmu_core.proofs.lines.Forms.{outcome_apart}
 use Rattle.mmu_core.specs.machine.Outcomes.{place_after}
 use Rattle.mmu_core.specs.machine.View.{View, part_stepped, stepped, answer_in}
 use Rattle.mmu_core.proofs.lines.EitherPlace.{either_place}
-use Rattle.mmu_core.proofs.lines.HostPlaces.{host_goes}
+use Rattle.mmu_core.proofs.forms.host.HostPlaces.{host_goes}
 use Rattle.mmu_core.proofs.machine.Columns.{at_upd}
 use Rattle.mmu_core.proofs.machine.GoesOn.{GoesToNoAccess, simple_is_no_access}
 use Rattle.mmu_core.proofs.machine.Stepping.{IsStep}
-use Rattle.mmu_core.proofs.slots.SlotChangePlaces.{slot_change_goes}
-use Rattle.log_invariant.specs.LogInvariant.{FastWritesAt, is_fast_place}
+use Rattle.mmu_core.proofs.forms.slot_change.SlotChangePlaces.{slot_change_goes}
+use Rattle.log_invariant.specs.LogInvariant.{FastWritesAt, is_within_fast}
 use Rattle.log_invariant.proofs.StepPlaces.{of_hand}
 use Rattle.core_views.specs.declared.topics.SlotSearch.{SlotSearch}
 use Rattle.core_views.specs.declared.topics.TableWalk.{TableWalk}
 use Rattle.spte_words.specs.HostWords.{host_allows_write, host_present}
 use Rattle.part_steps.specs.PageTopics.{searched}
 use Rattle.part_steps.specs.PartTasks.{word_looked, words_filled}
-use Rattle.mmu_core.specs.lines.CheckSteps.{snapshot_taken}
-use Rattle.mmu_core.specs.lines.ClaimSteps.{claim_next}
-use Rattle.mmu_core.specs.lines.FastSteps.{is_last_word}
-use Rattle.mmu_core.specs.lines.HostSteps.{host_outcome}
-use Rattle.mmu_core.specs.lines.ShareSteps.{share_next}
-use Rattle.mmu_core.specs.lines.SlotChangeSteps.{slot_change_outcome}
+use Rattle.mmu_core.specs.forms.access.CheckSteps.{snapshot_taken}
+use Rattle.mmu_core.specs.orders.ClaimSteps.{claim_next}
+use Rattle.mmu_core.specs.forms.access.FastSteps.{is_last_word}
+use Rattle.mmu_core.specs.forms.host.HostSteps.{host_outcome}
+use Rattle.mmu_core.specs.orders.ShareSteps.{share_next}
+use Rattle.mmu_core.specs.forms.slot_change.SlotChangeSteps.{slot_change_outcome}
 use Rattle.mmu_core.specs.lines.PartAt.{task_at}
 use Rattle.mmu_core.specs.declared.claim.FreeMap.TheVariants.{Pages}
 
@@ -78,11 +78,11 @@ fast_here z v a line command p S F = of_hand z v a line command p S FastWritesAt
 -- ---- a fault that isn't fast
 
 abbrev is_fast_next : FaultNext → Bool
-is_fast_next (next_of.Goes p) = is_fast_place p
+is_fast_next (next_of.Goes p) = is_within_fast p
 is_fast_next (next_of.Ends e) = false
 
 abbrev IsSlow : FaultPlace → Type 0
-IsSlow p = is_fast_place p ≡ false
+IsSlow p = is_within_fast p ≡ false
 
 -- one of two places, and one of three
 slow_one : (b : Bool) (p q : FaultPlace) → IsSlow p → IsSlow q → IsSlow (if b then p else q)
@@ -152,11 +152,11 @@ behind_writes (next_of.Ends end_of.Starved) gfn word op writes = tt
 behind_writes (next_of.Ends (end_of.Fixed marked)) gfn word op writes = tt
 behind_writes (next_of.Ends (end_of.Retry fast cause)) gfn word op writes = tt
 
-fault_writes : (p : FaultPlace) (z : Sizes) (gfn : ℕ) (op : Op) (t : Topics) (v : ℕ) → (is_fast_place p ≡ true → is_write op ≡ true)
+fault_writes : (p : FaultPlace) (z : Sizes) (gfn : ℕ) (op : Op) (t : Topics) (v : ℕ) → (is_within_fast p ≡ true → is_write op ≡ true)
     → is_fast_next (fault_next p z gfn (is_write op) t v) ≡ true → is_write op ≡ true
-fault_writes p z gfn op t v writes fast = by (is_fast_place p) refl
+fault_writes p z gfn op t v writes fast = by (is_within_fast p) refl
   where
-    by : (b : Bool) → is_fast_place p ≡ b → is_write op ≡ true
+    by : (b : Bool) → is_within_fast p ≡ b → is_write op ≡ true
     by true is = writes is
     by false is = absurd (let slow = slow_stays p z gfn (is_write op) t v is in cc (slow, fast))
 

@@ -25,11 +25,11 @@ use Rattle.mmu_core.specs.invariant.SlotSetPart.{IsLiveIn}
 use Rattle.mmu_core.specs.invariant.TopicsInvariant.{TopicsInvariant}
 use Rattle.mmu_core.specs.machine.View.{View}
 use Rattle.log_invariant.specs.Covered.{IsLoggedIn}
-use Rattle.log_invariant.specs.LogBegins.{LogIsUnwatched, LogIsUnwatchedAt, is_unwatched}
+use Rattle.log_invariant.specs.forms.slot_change.LogBegins.{LogIsUnwatched, LogIsUnwatchedAt, is_unwatched}
 use Rattle.log_invariant.specs.LogInvariant.{LogInvariant, KeepsLogs, IsMarkingAt}
 use Rattle.mmu_core.specs.invariant.HeldPart.{HoldsOld}
 use Rattle.mmu_core.specs.invariant.SearchPart.{SearchPart}
-use Rattle.mmu_core.specs.lines.SlotChangeKnows.{SlotChangeKnows}
+use Rattle.mmu_core.specs.forms.slot_change.SlotChangeKnows.{SlotChangeKnows}
 use Rattle.spte_words.specs.Flags.{flags_logged}
 use Rattle.part_steps.specs.SlotWords.{slot_at, slot_index}
 use Rattle.mmu_core.proofs.held.InSection.{all_passed}

@@ -23,7 +23,7 @@ use Rattle.mmu_core.proofs.words.PartWords.{areas_stay}
 use Rattle.mmu_core.specs.invariant.AllOver.{AllOver}
 use Rattle.mmu_core.specs.invariant.TopicsInvariant.{TopicsInvariant}
 use Rattle.mmu_core.specs.invariant.TreePart.{Position, TreePart, Use, is_table}
-use Rattle.mmu_core.specs.lines.AccessSteps.{touch_of}
+use Rattle.mmu_core.specs.forms.access.AccessSteps.{touch_of}
 use Rattle.mmu_core.specs.machine.View.{View, part_stepped, words_after}
 use Rattle.log_invariant.proofs.Accounts.{all_accounts}
 use Rattle.log_invariant.specs.LogInvariant.{LeafIsGuarded}

@@ -16,17 +16,21 @@ use Rattle.log_invariant.proofs.HeldLogs.{IsLoggedNow, SomeLogIsUnwatched, found
 use Rattle.log_invariant.proofs.LeafClaims.{LeavesAre, OfNewWrites, leaves_weaker, part_leaves, touch_leaves}
 use Rattle.log_invariant.proofs.LogsBegun.{AllSetNow, begun_guarded}
 use Rattle.log_invariant.proofs.OpeningSlot.{opening_is}
-use Rattle.log_invariant.proofs.OwnExcuse.{AllowsAt, PassesAt, change_excuse}
-use Rattle.log_invariant.proofs.PassedFrames.{topics_made}
-use Rattle.log_invariant.proofs.LogExcuse.{log_excuse, taken_forbids}
+use Rattle.log_invariant.proofs.OwnExcuse.{AllowsAt, PassesAt, PassesOf, change_excuse, passed_there}
+use Rattle.log_invariant.proofs.forms.log.PassedFrames.{topics_made, topics_then}
+use Rattle.log_invariant.proofs.forms.log.LogExcuse.{log_excuse, taken_next}
+use Rattle.log_invariant.proofs.forms.log.ReadingExcuses.{said_next, taken_forbids}
+use Rattle.mmu_core.proofs.forms.log.ReadingPlaces.{IsOfReading, after_reading, reading_is}
+use Rattle.mmu_core.specs.forms.log.Readings.{Reading, reading_at}
 use Rattle.log_invariant.proofs.StepPlaces.{Makes, StepAt, Touches, of_hand, step_at, takes, takes_bits}
-use Rattle.log_invariant.specs.Excuses.{ExcusesLeaf, ForbidsLaterAt}
+use Rattle.log_invariant.specs.Excuses.{ExcusesLeaf}
+use Rattle.log_invariant.specs.Forbidding.{ForbidsLater}
 use Rattle.log_invariant.specs.LogInvariant.{LogInvariant}
-use Rattle.log_invariant.specs.LogReads.{IsTaken}
+use Rattle.log_invariant.specs.forms.log.LogReads.{HasTakenOut, taken_of}
 use Rattle.mmu_core.proofs.held.OwedKept.{mark_owed}
 use Rattle.mmu_core.proofs.invariant.Kept.{makes_at}
 use Rattle.mmu_core.proofs.invariant.QuietKept.{MakesAt}
-use Rattle.mmu_core.proofs.lines.AccessParts.{AreSmall}
+use Rattle.mmu_core.proofs.forms.access.AccessParts.{AreSmall}
 use Rattle.mmu_core.proofs.lines.KnowsKept.{step_knows, step_leaves}
 use Rattle.mmu_core.proofs.machine.Columns.{same_or, upd_other, upd_same}
 use Rattle.mmu_core.proofs.machine.PartStepping.{is_publish}
@@ -34,9 +38,9 @@ use Rattle.mmu_core.proofs.machine.Stepping.{IsStep}
 use Rattle.mmu_core.specs.invariant.Invariant.{Invariant}
 use Rattle.mmu_core.specs.invariant.TopicsInvariant.{TopicsInvariant}
 use Rattle.mmu_core.specs.lines.Forms.{RetiresPart, first_place, outcome_at, part_at}
-use Rattle.mmu_core.specs.lines.LogSteps.{log_part}
+use Rattle.mmu_core.specs.forms.log.LogSteps.{log_next, log_part}
 use Rattle.mmu_core.specs.lines.PartAt.{task_at}
-use Rattle.mmu_core.specs.lines.SlotChangeSteps.{slot_change_part}
+use Rattle.mmu_core.specs.forms.slot_change.SlotChangeSteps.{slot_change_part}
 use Rattle.mmu_core.specs.machine.Outcomes.{place_after}
 use Rattle.mmu_core.specs.machine.View.{View, answer_in, hand_after, stepped, words_after}
 use Rattle.part_steps.specs.PartHoldings.{FoundSlot, IsOver}
@@ -48,7 +52,7 @@ use Rattle.part_steps.specs.declared.task.Task.{Task}
 use Rattle.spte_words.specs.Entries.{can_write}
 use Rattle.std.proofs.Common.{◌<◌, ◌∙◌, ◌≡◌, ◌≢◌, ◌⊎◌, ap, arith, inl, inr, refl, subst, sym, ℕ}
 use Rattle.std.proofs.lemmas.Bool.Decides.{nat_tests}
-use Rattle.std.specs.Prelude.{◌==◌, Bool, Some, false, true}
+use Rattle.std.specs.Prelude.{◌==◌, Bool, None, Option, Some, false, true}
 
 -- What the part of the invariant on leaves says of a view.
 abbrev pub LeavesNow : Sizes → View → Type 0
@@ -65,6 +69,36 @@ ExcusesOrPasses v a line command p gfn =
     AllowsAt (place_after (outcome_at p command (v.hand a) x)) command (hand_after line command p (v.hand a) x) gfn
     ⊎ PassesAt p command (v.hand a) (hand_after line command p (v.hand a) x).topics.walk gfn
 
+-- What the reading under way excuses before the step, it excuses after it, or passes it.
+reading_excuse : (z : Sizes) (v : View) (a : ℕ) (line : Line) (command : Command) (p : Place) → IsStep z v a line command p → Invariant z v
+    → MakesAt z v a p command → (gfn : ℕ) (o : Option Reading) → reading_at p command (v.hand a) ≡ o → ForbidsLater (taken_of o (v.hand a)) gfn
+    → ExcusesOrPasses v a line command p gfn
+reading_excuse z v a line command p S I makes gfn None is W = absurd W.0
+reading_excuse z v a line command p S I makes gfn (Some r) is W =
+    by (log_excuse r.command h x g gfn r.place (after_reading line p command h x r is)
+    (ap (λ (t : Topics). t.walk) (topics_then v a line command p (log_part r.place h r.command) there.part (makes _ there.part).needs))
+    (there.knows (step_knows z v a line command p S I)) (has.leaves there.retires_none) (has.opens there.opens_none) W)
+  where
+    h : Held
+    h = v.hand a
+
+    x : ℕ
+    x = answer_in (task_at p command h) v.words
+
+    g : Held
+    g = hand_after line command p h x
+
+    there : IsOfReading p command h r
+    there = reading_is p command h r is
+
+    has : RetiresPart p h.topics
+    has = step_leaves z v a line command p S I
+
+    by : ForbidsLater (taken_next (log_next r.place r.command h x) r.command g) gfn ⊎ PassesOf (Some r) h g.topics.walk gfn
+        → ExcusesOrPasses v a line command p gfn
+    by (inl forbids) = inl (inr (said_next (λ f. ForbidsLater f gfn) p command h x r is g (log_next r.place r.command h x) refl forbids (λ none. none.0)))
+    by (inr passes) = inr (passed_there p command h r g.topics.walk gfn is passes)
+
 -- What it excuses before its step, it excuses after it, or passes it.
 own_excuse : (z : Sizes) (v : View) (a : ℕ) (line : Line) (command : Command) (p : Place) → IsStep z v a line command p → Invariant z v
     → MakesAt z v a p command → (gfn : ℕ) → AllowsAt p command (v.hand a) gfn → ExcusesOrPasses v a line command p gfn
@@ -74,31 +108,8 @@ own_excuse z v a line command (place.SlotChange q) S I makes gfn excuse =
       sizes = refl;
       walk = ap (λ (t : Topics). t.walk) (topics_made v a line command (place.SlotChange q) (slot_change_part q (v.hand a) command) refl (makes _ refl).needs);
     }) excuse
-own_excuse z v a line command (place.Log q) S I makes gfn (inr W) =
-    by (log_excuse command h x g gfn q (record {
-      slots = refl;
-      words = refl;
-      walk = ap (λ (t : Topics). t.walk) (topics_made v a line command (place.Log q) (log_part q h command) refl (makes _ refl).needs);
-    }) (step_knows z v a line command (place.Log q) S I) (leaves.leaves refl) (leaves.opens refl) W)
-  where
-    h : Held
-    h = v.hand a
-
-    x : ℕ
-    x = answer_in (task_at (place.Log q) command h) v.words
-
-    g : Held
-    g = hand_after line command (place.Log q) h x
-
-    leaves : RetiresPart (place.Log q) h.topics
-    leaves = step_leaves z v a line command (place.Log q) S I
-
-    by : ForbidsLaterAt (place_after (outcome_at (place.Log q) command h x)) command g gfn ⊎ PassesAt (place.Log q) command h g.topics.walk gfn
-        → ExcusesOrPasses v a line command (place.Log q) gfn
-    by (inl forbids) = inl (inr forbids)
-    by (inr passes) = inr passes
-own_excuse z v a line command _ S I makes gfn (inl O) = absurd O.0
-own_excuse z v a line command _ S I makes gfn (inr W) = absurd W
+own_excuse z v a line command p S I makes gfn (inl O) = absurd O.0
+own_excuse z v a line command p S I makes gfn (inr W) = reading_excuse z v a line command p S I makes gfn (reading_at p command (v.hand a)) refl W
 
 module _ (z : Sizes) (v : View) (a : ℕ) (line : Line) (command : Command) (p : Place) (small : AreSmall v) (S : IsStep z v a line command p)
     (I : Invariant z v) (P : TopicsInvariant z v) (G : LogInvariant z v) (all_marked : AllSetNow z (stepped a line command p v)) where
@@ -131,7 +142,7 @@ module _ (z : Sizes) (v : View) (a : ℕ) (line : Line) (command : Command) (p :
     where
       none : (q : Place) (c : Command) → AllowsAt place.Between h.state.line.command h gfn → AllowsAt q c h gfn
       none q c (inl O) = absurd O.0
-      none q c (inr W) = absurd W
+      none q c (inr W) = absurd W.0
 
   makes : MakesAt z v a p command
   makes = makes_at z v a line command p small S I P
@@ -142,8 +153,8 @@ module _ (z : Sizes) (v : View) (a : ℕ) (line : Line) (command : Command) (p :
       (own_excuse z v a line command p S I makes gfn (at_place gfn excuse))
 
   -- So does what it takes with it.
-  taken_after : (gfn : ℕ) → takes p ≡ true → IsTaken (w.hand a) gfn → After (w.hand a) gfn
-  taken_after gfn is T = inl (inr (taken_forbids p is v a line command gfn T))
+  taken_after : (gfn : ℕ) → takes p command h ≡ true → HasTakenOut (w.hand a) gfn → After (w.hand a) gfn
+  taken_after gfn is T = inl (inr (taken_forbids p v a line command gfn is S.command_is T))
 
   -- So what a hand excused before the step is guarded after it.
   excused : (j gfn : ℕ) (slot : SlotOf) → j < actors_of z → ExcusesLeaf (v.hand j) gfn → IsGuardedNow z w After slot gfn

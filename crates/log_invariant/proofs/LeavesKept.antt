@@ -12,10 +12,10 @@ use Rattle.log_invariant.proofs.LeafGuards.{ExcusedOrPassed, LeavesNow, guarded_
 use Rattle.log_invariant.proofs.LinePlaces.{idle_says}
 use Rattle.log_invariant.proofs.LogsBegun.{AllSetNow}
 use Rattle.log_invariant.proofs.OwnExcuse.{AllowsAt}
-use Rattle.log_invariant.proofs.PassedFrames.{none_passed}
+use Rattle.log_invariant.proofs.forms.log.PassedFrames.{none_passed}
 use Rattle.log_invariant.specs.Excuses.{ExcusesLeaf}
 use Rattle.log_invariant.specs.LogInvariant.{LogInvariant}
-use Rattle.mmu_core.proofs.lines.AccessParts.{AreSmall}
+use Rattle.mmu_core.proofs.forms.access.AccessParts.{AreSmall}
 use Rattle.mmu_core.proofs.machine.PartStepping.{IsPart}
 use Rattle.mmu_core.proofs.machine.Stepping.{IsStep}
 use Rattle.mmu_core.specs.invariant.Invariant.{Invariant}
@@ -38,7 +38,7 @@ idle_excuses z v a gfn I lt none =
   where
     by : AllowsAt place.Between (v.hand a).state.line.command (v.hand a) gfn → ⊥
     by (inl opens) = opens.0
-    by (inr sweeps) = sweeps
+    by (inr sweeps) = sweeps.0
 
 -- It puts no leaf.
 idle_new : (step : PartStep) (t : Topics) (v : View) (IsSo : ℕ → Type 0) → needs_line step ≡ false → OfNewWrites step t v IsSo

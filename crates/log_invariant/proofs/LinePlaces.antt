@@ -7,7 +7,7 @@ use Rattle.core_views.specs.declared.place.Place.{Place}
 use Rattle.core_views.specs.declared.sizes.Sizes.{Sizes}
 use Rattle.core_views.specs.declared.trace.Command.TheVariants.{Access, ChangeHost, ClearLog, GetLog}
 use Rattle.core_views.specs.declared.trace.Command.{Command}
-use Rattle.mmu_core.proofs.lines.LogTold.{log_knows_reads}
+use Rattle.mmu_core.proofs.forms.log.LogTold.{log_knows_reads}
 use Rattle.mmu_core.proofs.machine.Which.{has_line_is}
 use Rattle.mmu_core.specs.invariant.Invariant.{Holds, KnowsPart, UnderWay}
 use Rattle.mmu_core.specs.lines.Rests.{IsUnderWay}

@@ -16,7 +16,7 @@ use Rattle.mmu_core.specs.machine.Enabled.{mmu}
 use Rattle.mmu_core.specs.machine.Machine.{Legal, May, Step, World, effect, hand_in, run}
 use Rattle.mmu_core.specs.machine.Steps.{has_line, line_at, place_at}
 use Rattle.mmu_core.specs.machine.View.{View, part_stepped, stepped, view}
-use Rattle.mmu_core.proofs.lines.AccessParts.{AreSmall}
+use Rattle.mmu_core.proofs.forms.access.AccessParts.{AreSmall}
 use Rattle.mmu_core.proofs.machine.PartStepping.{IsPart}
 use Rattle.mmu_core.proofs.machine.Stepping.{IsStep}
 use Rattle.mmu_core.proofs.machine.Worlds.{Takes, TakesPart, are_small, good_run, good_step, takes}

@@ -21,7 +21,7 @@ use Rattle.mmu_core.specs.machine.View.{View, answer_in, hand_after, stepped}
 use Rattle.mmu_core.proofs.machine.Columns.{upd_same}
 use Rattle.mmu_core.proofs.machine.Stepping.{IsStep}
 use Rattle.log_invariant.specs.Covered.{is_marked}
-use Rattle.log_invariant.specs.LogBegins.{BeginsClean, LogIsUnwatched}
+use Rattle.log_invariant.specs.forms.slot_change.LogBegins.{BeginsClean, LogIsUnwatched}
 use Rattle.log_invariant.proofs.CoveredKept.{IsGuardedNow, PublishesLog}
 use Rattle.log_invariant.proofs.PublishedLogs.{armed_stays}
 

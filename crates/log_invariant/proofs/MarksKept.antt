@@ -29,15 +29,15 @@ use Rattle.part_steps.specs.SlotWords.{may_write}
 use Rattle.part_steps.specs.WalkTopics.{owed_after}
 use Rattle.mmu_core.specs.invariant.Invariant.{Invariant, KnowsPart}
 use Rattle.mmu_core.specs.invariant.TopicsInvariant.{TopicsInvariant}
-use Rattle.mmu_core.specs.lines.FaultSteps.{exchange_lost, put_next}
+use Rattle.mmu_core.specs.forms.access.FaultSteps.{exchange_lost, put_next}
 use Rattle.mmu_core.specs.lines.Forms.{outcome_at, part_at}
 use Rattle.mmu_core.specs.lines.PartAt.{task_at}
 use Rattle.mmu_core.specs.machine.Outcomes.{place_after}
 use Rattle.mmu_core.specs.machine.View.{View, answer_in, part_stepped, stepped}
 use Rattle.mmu_core.proofs.invariant.Kept.{makes_at}
-use Rattle.mmu_core.proofs.lines.AccessParts.{AreSmall}
+use Rattle.mmu_core.proofs.forms.access.AccessParts.{AreSmall}
 use Rattle.mmu_core.proofs.lines.KnowsKept.{step_knows}
-use Rattle.mmu_core.proofs.lines.LeafKnown.{lowest_frame, upper_owes_none}
+use Rattle.mmu_core.proofs.forms.access.LeafKnown.{lowest_frame, upper_owes_none}
 use Rattle.mmu_core.proofs.machine.Columns.{at_upd}
 use Rattle.mmu_core.proofs.machine.PartStepping.{IsPart, behind_part}
 use Rattle.mmu_core.proofs.machine.Stepping.{IsStep}

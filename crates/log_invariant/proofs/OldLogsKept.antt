@@ -32,7 +32,7 @@ use Rattle.mmu_core.specs.machine.Steps.{line_at}
 use Rattle.mmu_core.specs.machine.View.{View, answer_in, hand_after, part_stepped, stepped, upd, words_after}
 use Rattle.mmu_core.proofs.held.OldSets.{retired_words_stay, was_retired}
 use Rattle.mmu_core.proofs.invariant.Kept.{manager_retires}
-use Rattle.mmu_core.proofs.lines.AccessParts.{AreSmall}
+use Rattle.mmu_core.proofs.forms.access.AccessParts.{AreSmall}
 use Rattle.mmu_core.proofs.lines.KnowsKept.{step_knows, touch_topics}
 use Rattle.mmu_core.proofs.lines.LinesKept.{one_manager}
 use Rattle.mmu_core.proofs.machine.Columns.{at_upd}

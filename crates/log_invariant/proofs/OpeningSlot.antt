@@ -17,11 +17,11 @@ use Rattle.core_views.specs.declared.trace.Slot.{Slot as SlotOf}
 use Rattle.spte_words.specs.declared.area.Area.TheVariants as area
 use Rattle.part_steps.specs.SlotWords.{slot_at}
 use Rattle.mmu_core.proofs.slots.SetFilled.{recorded_live}
-use Rattle.mmu_core.proofs.slots.SlotChangeKept.{change_hand}
+use Rattle.mmu_core.proofs.forms.slot_change.SlotChangeKept.{change_hand}
 use Rattle.mmu_core.specs.invariant.Invariant.{Invariant, KnowsPart, RecordPart}
 use Rattle.mmu_core.specs.invariant.SlotSetPart.{IsLiveIn}
 use Rattle.mmu_core.specs.machine.View.{View}
-use Rattle.log_invariant.specs.LogBegins.{LogIsUnwatched, LogIsUnwatchedAt}
+use Rattle.log_invariant.specs.forms.slot_change.LogBegins.{LogIsUnwatched, LogIsUnwatchedAt}
 
 -- The slot is live in the set that the record is of.
 armed_live : (pool : ℕ → ℕ) (set : ℕ) (slots : MemorySlots) (command : Command) (slot : SlotOf) → RecordPart pool set slots

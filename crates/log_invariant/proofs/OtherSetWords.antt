@@ -17,8 +17,8 @@ use Rattle.mmu_core.proofs.machine.Columns.{upd_other}
 use Rattle.mmu_core.proofs.machine.PartStepping.{IsPart}
 use Rattle.mmu_core.specs.invariant.Invariant.{Invariant}
 use Rattle.mmu_core.specs.invariant.TopicsInvariant.{TopicsInvariant}
-use Rattle.mmu_core.specs.lines.ArmKnows.{IsInLog}
-use Rattle.mmu_core.specs.lines.SlotTargets.{log_target}
+use Rattle.mmu_core.specs.forms.slot_change.ArmKnows.{IsInLog}
+use Rattle.mmu_core.specs.forms.slot_change.SlotTargets.{log_target}
 use Rattle.mmu_core.specs.machine.View.{View, words_after}
 use Rattle.part_steps.specs.PartTasks.{own_index, page_owed, part_task}
 use Rattle.part_steps.specs.declared.part_step.PartStep.TheVariants as part

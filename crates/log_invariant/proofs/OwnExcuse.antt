@@ -2,7 +2,7 @@
 use Rattle.std.proofs.Common.{◌+◌, ◌<◌, ◌≡◌, ◌≤◌, ◌⊎◌, arith, inl, inr, refl, subst, sym, ℕ}
 use Rattle.std.proofs.lemmas.Bool.{cases_lt}
 use Rattle.std.proofs.lemmas.Bool.Decides.{nat_tests}
-use Rattle.std.specs.Prelude.{◌&&◌, ◌==◌, Bool, Option, Some, false, if◌then◌else◌, nat_le, not, true}
+use Rattle.std.specs.Prelude.{◌&&◌, ◌==◌, Bool, None, Option, Some, false, if◌then◌else◌, nat_le, not, true}
 use Rattle.core_views.specs.Held.{Held}
 use Rattle.core_views.specs.LogCommands.{is_all_set}
 use Rattle.core_views.specs.SlotCommands.{slot_armed}
@@ -24,34 +24,51 @@ use Rattle.part_steps.specs.PartTopics.{part_topics}
 use Rattle.part_steps.specs.StayTopics.{may_walk}
 use Rattle.part_steps.specs.SweepTopics.{entry_start, has_entry, is_done, swept_to}
 use Rattle.mmu_core.proofs.lines.EitherPlace.{each_watch, either_place}
-use Rattle.mmu_core.proofs.lines.FaultSame.{over_it}
+use Rattle.mmu_core.proofs.forms.access.FaultSame.{over_it}
 use Rattle.mmu_core.specs.declared.invalidate.EndNext.{EndNext}
 use Rattle.mmu_core.specs.declared.invalidate.EndNext.TheVariants as ends_next
 use Rattle.mmu_core.specs.declared.sweep.SweepNext.TheVariants.{Entry, Leaf, Over}
 use Rattle.mmu_core.specs.declared.watch.WatchNext.{WatchNext}
-use Rattle.mmu_core.specs.lines.InvalidateSteps.{end_next}
-use Rattle.mmu_core.specs.lines.SlotChangeSteps.{after_grace, after_protect, after_set_end, after_watch, frames_of, slot_change_outcome, slot_change_part}
-use Rattle.mmu_core.specs.lines.SlotChangeSteps.{slot_change_records}
-use Rattle.mmu_core.specs.lines.SweepSteps.{protected_at, sweep_next, swept_on}
-use Rattle.mmu_core.specs.lines.WatchSteps.{watch_next}
-use Rattle.mmu_core.specs.lines.WriteProtectSteps.{protect_next, protect_sweeps, protect_swept}
+use Rattle.mmu_core.specs.orders.InvalidateSteps.{end_next}
+use Rattle.mmu_core.specs.forms.slot_change.SlotChangeSteps.{after_grace, after_protect, after_set_end, after_watch, frames_of, slot_change_outcome}
+use Rattle.mmu_core.specs.forms.slot_change.SlotChangeSteps.{slot_change_part}
+use Rattle.mmu_core.specs.forms.slot_change.SlotChangeSteps.{slot_change_records}
+use Rattle.mmu_core.specs.orders.SweepSteps.{protected_at, sweep_next, swept_on}
+use Rattle.mmu_core.specs.orders.WatchSteps.{watch_next}
+use Rattle.mmu_core.specs.orders.WriteProtectSteps.{protect_next, protect_sweeps, protect_swept}
 use Rattle.mmu_core.specs.machine.Outcomes.{place_after}
-use Rattle.mmu_core.specs.lines.LogSteps.{slot_asked}
-use Rattle.log_invariant.proofs.LogExcuse.{IsPassedBy}
-use Rattle.log_invariant.specs.Excuses.{ForbidsLaterAt}
-use Rattle.log_invariant.specs.LogBegins.{BeginsClean, IsAmong, IsUnsweptAt, LogIsUnwatchedAt, is_unwatched}
+use Rattle.mmu_core.specs.forms.log.LogSteps.{slot_asked}
+use Rattle.mmu_core.specs.forms.log.Readings.{Reading, reading_at}
+use Rattle.log_invariant.proofs.forms.log.LogExcuse.{IsPassedBy}
+use Rattle.log_invariant.specs.Excuses.{forbidding_at}
+use Rattle.log_invariant.specs.Forbidding.{ForbidsLater, IsUnpassed}
+use Rattle.log_invariant.specs.forms.slot_change.LogBegins.{BeginsClean, IsAmong, LogIsUnwatchedAt, is_unwatched, swept_so_far}
 
 -- What a hand excuses, of its place.
 abbrev pub AllowsAt : Place → Command → Held → ℕ → Type 0
-AllowsAt p command h gfn = (LogIsUnwatchedAt p command h gfn × BeginsClean h) ⊎ ForbidsLaterAt p command h gfn
+AllowsAt p command h gfn = (LogIsUnwatchedAt p command h gfn × BeginsClean h) ⊎ ForbidsLater (forbidding_at p command h) gfn
+
+-- The reading passes the guest frame's page.
+abbrev pub PassesOf : Option Reading → Held → TableWalk → ℕ → Type 0
+PassesOf None h after gfn = ⊥
+PassesOf (Some r) h after gfn = IsPassedBy r.place (slot_asked h r.command) r.command after gfn
 
 -- The guest frame is one that the line passes with the step of its place, with this hand before it and this walk after it: its sweep comes past the frame, or
 -- it has come to the leaf of the frame's page.
 abbrev pub PassesAt : Place → Command → Held → TableWalk → ℕ → Type 0
 PassesAt (place.SlotChange (change.WriteProtect range p)) command h after gfn =
     (protect_sweeps p ≡ true) × (swept_to false range.start h.topics.walk ≤ gfn) × (gfn < swept_to false range.start after)
-PassesAt (place.Log p) command h after gfn = IsPassedBy p (slot_asked h command) command after gfn
-PassesAt _ command h after gfn = ⊥
+PassesAt p command h after gfn = PassesOf (reading_at p command h) h after gfn
+
+pub passed_there : (p : Place) (command : Command) (h : Held) (r : Reading) (after : TableWalk) (gfn : ℕ) → reading_at p command h ≡ Some r
+    → PassesOf (Some r) h after gfn → PassesAt p command h after gfn
+passed_there (place.SlotChange (change.WriteProtect range p)) command h r after gfn is so = absurd (cc is)
+passed_there p command h r after gfn is so = subst (λ (o : Option Reading). PassesOf o h after gfn) (sym is) so
+
+pub passed_of : (p : Place) (command : Command) (h : Held) (r : Reading) (after : TableWalk) (gfn : ℕ) → reading_at p command h ≡ Some r
+    → PassesAt p command h after gfn → PassesOf (Some r) h after gfn
+passed_of (place.SlotChange (change.WriteProtect range p)) command h r after gfn is so = absurd (cc is)
+passed_of p command h r after gfn is so = subst (λ (o : Option Reading). PassesOf o h after gfn) is so
 
 -- The hand after the step of a place, of what an excuse speaks of.
 pub record Follows (q : SlotChangePlace) (command : Command) (h : Held) (x : ℕ) (g : Held) : Type 0 where
@@ -72,18 +89,18 @@ root_from b from root walk = by (nat_le from (entry_start (at_root b walk root))
 -- Where it hasn't come past a guest frame of its frames, it isn't over.
 goes_on : (range : FrameRange) (walk : TableWalk) (command : Command) (h : Held) (gfn : ℕ) → h.topics.walk ≡ walk → IsAmong range gfn
     → swept_to false range.start walk ≤ gfn
-    → ForbidsLaterAt (place.SlotChange (change.WriteProtect range (protect_swept (sweep_next false range walk)))) command h gfn
+    → ForbidsLater (forbidding_at (place.SlotChange (change.WriteProtect range (protect_swept (sweep_next false range walk)))) command h) gfn
 goes_on range walk command h gfn is among left = by (nat_le range.end (swept_to false range.start walk)) refl
   where
     unswept : swept_to false range.start h.topics.walk ≤ gfn
     unswept = subst (λ w. swept_to false range.start w ≤ gfn) (sym is) left
 
     by : (over : Bool) → nat_le range.end (swept_to false range.start walk) ≡ over
-        → ForbidsLaterAt (place.SlotChange (change.WriteProtect range
-        (protect_swept (if over then Over else if has_entry walk && not (is_done false walk) then Leaf else Entry)))) command h gfn
+        → ForbidsLater (forbidding_at (place.SlotChange (change.WriteProtect range
+        (protect_swept (if over then Over else if has_entry walk && not (is_done false walk) then Leaf else Entry)))) command h) gfn
     by true e = absurd (let all : range.end ≤ swept_to false range.start walk = grind (arith, nat_tests) in let to = among.1 in omega (arith, all, left, to))
     by false e =
-        either_place (λ n. ForbidsLaterAt (place.SlotChange (change.WriteProtect range (protect_swept n))) command h gfn)
+        either_place (λ n. ForbidsLater (forbidding_at (place.SlotChange (change.WriteProtect range (protect_swept n))) command h) gfn)
         (has_entry walk && not (is_done false walk)) Leaf Entry (among, unswept) (among, unswept)
 
 -- It comes past the guest frame with its step, or goes on before it.
@@ -100,12 +117,12 @@ swept_excuse range p before walk command h gfn sweeps is among left = by (cases_
     by (inr ge) = inl (inr (goes_on range walk command h gfn is among ge))
 
 protect_excuse : (p : WriteProtectPlace) (range : FrameRange) (command : Command) (h : Held) (x : ℕ) (g : Held) (gfn : ℕ)
-    → Follows (change.WriteProtect range p) command h x g → IsAmong range gfn → IsUnsweptAt p range h.topics.walk gfn
+    → Follows (change.WriteProtect range p) command h x g → IsAmong range gfn → IsUnpassed (swept_so_far p range h.topics) gfn
     → AllowsAt (place.SlotChange (after_protect range (protect_next p h.state.sizes range h.topics x))) command g gfn
     ⊎ PassesAt (place.SlotChange (change.WriteProtect range p)) command h g.topics.walk gfn
 protect_excuse protect.Exclude range command h x g gfn F among left =
-    inl (inr (either_place (λ n. ForbidsLaterAt (place.SlotChange (change.WriteProtect range n)) command g gfn) (x == 0) (protect.Walk false) protect.Exclude
-    (among, tt) (among, tt)))
+    inl (inr (either_place (λ n. ForbidsLater (forbidding_at (place.SlotChange (change.WriteProtect range n)) command g) gfn) (x == 0) (protect.Walk false)
+    protect.Exclude (among, omega arith) (among, omega arith)))
 protect_excuse (protect.Walk false) range command h x g gfn F among left =
     inl (inr (
       among,
@@ -136,7 +153,7 @@ watched_excuse n z armed command h g gfn slot is clean holds still =
     subst (λ (o : Option SlotOf). AllowsAt (place.SlotChange (after_watch z o n)) command g gfn) (sym is)
     (each_watch (λ q. AllowsAt (place.SlotChange q) command g gfn) n change.Watch (after_grace z (Some slot)) still
     (subst (λ b. AllowsAt (place.SlotChange (if b then change.Clear else change.WriteProtect (frames_of slot) protect.Exclude)) command g gfn) (sym clean)
-    (inr (let O = over_it slot.base gfn (slot.base + slot.pages) holds in (O, tt)))))
+    (inr (let O = over_it slot.base gfn (slot.base + slot.pages) holds in (O, omega arith)))))
 
 -- ---- each place
 
@@ -158,8 +175,8 @@ change_excuse change.Watch command h x g gfn F (inl O) =
     (opens change.Watch change.Watch command h g gfn refl F.slots F.sizes O.0 O.1))
 change_excuse (change.WriteProtect range p) command h x g gfn F (inr W) = protect_excuse p range command h x g gfn F W.0 W.1
 change_excuse (change.WriteProtect range p) command h x g gfn F (inl O) = absurd (let no = O.0.0 in cc no)
-change_excuse change.Release command h x g gfn F (inr W) = absurd W
-change_excuse (change.End p) command h x g gfn F (inr W) = absurd W
-change_excuse change.Watch command h x g gfn F (inr W) = absurd W
+change_excuse change.Release command h x g gfn F (inr W) = absurd W.0
+change_excuse (change.End p) command h x g gfn F (inr W) = absurd W.0
+change_excuse change.Watch command h x g gfn F (inr W) = absurd W.0
 change_excuse _ command h x g gfn F (inl O) = absurd (let no = O.0.0 in cc no)
-change_excuse _ command h x g gfn F (inr W) = absurd W
+change_excuse _ command h x g gfn F (inr W) = absurd W.0

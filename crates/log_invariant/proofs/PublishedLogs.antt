@@ -28,7 +28,7 @@ use Rattle.mmu_core.proofs.lines.KnowsKept.{step_knows}
 use Rattle.mmu_core.proofs.machine.Columns.{same_or}
 use Rattle.mmu_core.proofs.machine.Stepping.{IsStep}
 use Rattle.mmu_core.proofs.slots.SetFilled.{filled_page, none_live, record_at, recorded_live, set_other, some_live, some_memory_slot, some_slot, taken_other}
-use Rattle.mmu_core.proofs.slots.SlotChangeKept.{record_of}
+use Rattle.mmu_core.proofs.forms.slot_change.SlotChangeKept.{record_of}
 use Rattle.log_invariant.specs.Covered.{IsLoggedIn}
 use Rattle.log_invariant.specs.LogInvariant.{KeepsLogs}
 use Rattle.std.proofs.lemmas.Bool.Decides.{nat_tests}

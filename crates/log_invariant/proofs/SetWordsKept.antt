@@ -26,7 +26,7 @@ use Rattle.log_invariant.proofs.OtherSetWords.{task_sets}
 use Rattle.log_invariant.proofs.StepPlaces.{of_hand}
 use Rattle.log_invariant.specs.LogInvariant.{LogInvariant, HasArmedWordsAt}
 use Rattle.mmu_core.proofs.invariant.Kept.{line_knows}
-use Rattle.mmu_core.proofs.lines.AccessParts.{AreSmall}
+use Rattle.mmu_core.proofs.forms.access.AccessParts.{AreSmall}
 use Rattle.mmu_core.proofs.lines.EitherPlace.{each_claim, each_watch, either_place}
 use Rattle.mmu_core.proofs.lines.KnowsKept.{knows_after, step_knows}
 use Rattle.mmu_core.proofs.lines.StepIn.{step_in}
@@ -34,8 +34,8 @@ use Rattle.mmu_core.proofs.machine.Columns.{at_upd, same_or, upd_other, upd_same
 use Rattle.mmu_core.proofs.machine.PartStepping.{IsPart}
 use Rattle.mmu_core.proofs.machine.Stepping.{IsStep}
 use Rattle.mmu_core.proofs.slots.SlotChangeArms.{none_moved}
-use Rattle.mmu_core.proofs.slots.SlotChangeKept.{record_of}
-use Rattle.mmu_core.proofs.slots.SlotChangeMakes.{change_needs}
+use Rattle.mmu_core.proofs.forms.slot_change.SlotChangeKept.{record_of}
+use Rattle.mmu_core.proofs.forms.slot_change.SlotChangeMakes.{change_needs}
 use Rattle.mmu_core.proofs.words.PartTopics.{is_there, part_topics_is}
 use Rattle.mmu_core.specs.declared.claim.FreeMap.TheVariants.{Pages}
 use Rattle.mmu_core.specs.declared.invalidate.BeginNext.TheVariants as begins_next
@@ -46,16 +46,16 @@ use Rattle.mmu_core.specs.declared.write_protect.WriteProtectNext.TheVariants as
 use Rattle.mmu_core.specs.declared.write_protect.WriteProtectNext.{WriteProtectNext}
 use Rattle.mmu_core.specs.invariant.Invariant.{Invariant}
 use Rattle.mmu_core.specs.invariant.TopicsInvariant.{TopicsInvariant}
-use Rattle.mmu_core.specs.lines.ArmKnows.{IsInLog}
-use Rattle.mmu_core.specs.lines.ClaimSteps.{claim_next}
+use Rattle.mmu_core.specs.forms.slot_change.ArmKnows.{IsInLog}
+use Rattle.mmu_core.specs.orders.ClaimSteps.{claim_next}
 use Rattle.mmu_core.specs.lines.Forms.{first_place, outcome_at}
-use Rattle.mmu_core.specs.lines.InvalidateSteps.{begin_next, end_next}
+use Rattle.mmu_core.specs.orders.InvalidateSteps.{begin_next, end_next}
 use Rattle.mmu_core.specs.lines.PartAt.{task_at}
-use Rattle.mmu_core.specs.lines.SlotChangeSteps.{after_grace, after_protect, after_role, after_set_begin, after_set_end, arm_word, frames_of}
-use Rattle.mmu_core.specs.lines.SlotChangeSteps.{slot_change_first, slot_change_outcome, slot_change_part, slot_change_task, slot_target}
-use Rattle.mmu_core.specs.lines.SlotTargets.{arm_bits, log_target}
-use Rattle.mmu_core.specs.lines.WatchSteps.{watch_next}
-use Rattle.mmu_core.specs.lines.WriteProtectSteps.{protect_next}
+use Rattle.mmu_core.specs.forms.slot_change.SlotChangeSteps.{after_grace, after_protect, after_role, after_set_begin, after_set_end, arm_word, frames_of}
+use Rattle.mmu_core.specs.forms.slot_change.SlotChangeSteps.{slot_change_first, slot_change_outcome, slot_change_part, slot_change_task, slot_target}
+use Rattle.mmu_core.specs.forms.slot_change.SlotTargets.{arm_bits, log_target}
+use Rattle.mmu_core.specs.orders.WatchSteps.{watch_next}
+use Rattle.mmu_core.specs.orders.WriteProtectSteps.{protect_next}
 use Rattle.mmu_core.specs.machine.Outcomes.{place_after}
 use Rattle.mmu_core.specs.machine.Steps.{has_line, idle_after}
 use Rattle.mmu_core.specs.machine.View.{View, answer_in, hand_after, part_stepped, stepped, upd, words_after}

@@ -9,7 +9,7 @@ use Rattle.core_views.specs.declared.trace.Slot.{Slot as SlotOf}
 use Rattle.log_invariant.proofs.WithinKept.{manager_there}
 use Rattle.log_invariant.specs.Covered.{IsLoggedIn}
 use Rattle.log_invariant.specs.Excuses.{ExcusesCached}
-use Rattle.log_invariant.specs.LogBegins.{LogIsUnwatchedAt}
+use Rattle.log_invariant.specs.forms.slot_change.LogBegins.{LogIsUnwatchedAt}
 use Rattle.log_invariant.specs.LogInvariant.{AreGuarded, FastWritesAt, IsGuardedIn, LogInvariant, HasArmedWordsAt, UseIsGuarded}
 use Rattle.mmu_core.proofs.pages.AllOver.{absent_is}
 use Rattle.mmu_core.proofs.start.StartWords.{pool_word}

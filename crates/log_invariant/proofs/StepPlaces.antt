@@ -39,22 +39,23 @@ use Rattle.part_steps.specs.PartTasks.{own_index, part_task}
 use Rattle.mmu_core.specs.declared.claim.FreeMap.TheVariants as free
 use Rattle.mmu_core.specs.invariant.Invariant.{Invariant}
 use Rattle.mmu_core.specs.invariant.TopicsInvariant.{TopicsInvariant}
-use Rattle.mmu_core.specs.lines.AccessSteps.{access_part, task_by, touch_of}
-use Rattle.mmu_core.specs.lines.FaultSteps.{fault_part}
+use Rattle.mmu_core.specs.forms.access.AccessSteps.{access_part, task_by, touch_of}
+use Rattle.mmu_core.specs.forms.access.FaultSteps.{fault_part}
 use Rattle.mmu_core.specs.lines.Forms.{note_at, part_at, first_place}
-use Rattle.mmu_core.specs.lines.LogSteps.{log_part}
-use Rattle.mmu_core.specs.lines.HostSteps.{host_part}
-use Rattle.mmu_core.specs.lines.InvalidateSteps.{begin_part, end_part}
+use Rattle.mmu_core.specs.forms.log.LogSteps.{log_part}
+use Rattle.mmu_core.specs.forms.host.HostSteps.{host_part}
+use Rattle.mmu_core.specs.orders.InvalidateSteps.{begin_part, end_part}
 use Rattle.mmu_core.specs.lines.PartAt.{task_at, touch_at}
-use Rattle.mmu_core.specs.lines.SlotChangeSteps.{slot_change_part, slot_target}
-use Rattle.mmu_core.specs.lines.WriteProtectSteps.{protect_part}
+use Rattle.mmu_core.specs.forms.log.Readings.{Reading, reading_at}
+use Rattle.mmu_core.specs.forms.slot_change.SlotChangeSteps.{slot_change_part, slot_target}
+use Rattle.mmu_core.specs.orders.WriteProtectSteps.{protect_part}
 use Rattle.mmu_core.specs.machine.View.{View}
 use Rattle.mmu_core.proofs.invariant.Kept.{makes_at}
 use Rattle.mmu_core.proofs.invariant.QuietKept.{touched}
-use Rattle.mmu_core.proofs.lines.AccessParts.{AreSmall}
-use Rattle.mmu_core.proofs.lines.ClaimMade.{claim_is}
+use Rattle.mmu_core.proofs.forms.access.AccessParts.{AreSmall}
+use Rattle.mmu_core.proofs.orders.ClaimMade.{claim_is}
 use Rattle.mmu_core.proofs.lines.EitherPlace.{either_place}
-use Rattle.mmu_core.proofs.lines.ShareMade.{share_is}
+use Rattle.mmu_core.proofs.orders.ShareMade.{share_is}
 use Rattle.mmu_core.proofs.machine.PartStepping.{IsPart, is_publish, behind_part}
 use Rattle.mmu_core.proofs.machine.Stepping.{IsStep}
 use Rattle.part_steps.specs.Tasks.{kind_of_task}
@@ -233,17 +234,25 @@ none_usual test never p command h usual = by (part_at p command h) (usual_by p c
     by None e = refl
     by (Some step) e = never step e
 
--- ---- a line takes bits of the log at one place alone
+-- ---- a line takes bits of the log at one place of a reading alone
 
-abbrev pub takes : Place → Bool
-takes (place.Log (log.Take begun)) = true
-takes _ = false
+abbrev pub takes_there : LogPlace → Bool
+takes_there (log.Take begun) = true
+takes_there _ = false
+
+abbrev pub takes_of : Option Reading → Bool
+takes_of None = false
+takes_of (Some r) = takes_there r.place
+
+-- The reading that is under way takes bits with its step.
+abbrev pub takes : Place → Command → Held → Bool
+takes p command h = takes_of (reading_at p command h)
 
 none_taken : (step : PartStep) → is_special step ≡ false → takes_bits step ≡ false
 none_taken (part.Take word mask) usual = absurd (cc usual)
 none_taken _ usual = refl
 
-takes_at : (p : Place) (command : Command) (h : Held) → takes p ≡ false → by_test takes_bits (part_at p command h) ≡ false
+takes_at : (p : Place) (command : Command) (h : Held) → takes p command h ≡ false → by_test takes_bits (part_at p command h) ≡ false
 takes_at (place.Access (access.Fault (fault.Leaf writes))) (Access gfn word op) h other = refl
 takes_at (place.Access (access.Fault (fault.Leaf writes))) command h other = refl
 takes_at (place.Access (access.Fault fault.Fix)) (Access gfn word op) h other = refl
@@ -254,7 +263,8 @@ takes_at (place.SlotChange change.Publish) command h other = refl
 takes_at (place.Log (log.Take begun)) command h other = absurd (cc other)
 takes_at p command h other = none_usual takes_bits none_taken p command h refl
 
-pub takes_none : (p : Place) (command : Command) (h : Held) (step : PartStep) → takes p ≡ false → part_at p command h ≡ Some step → takes_bits step ≡ false
+pub takes_none : (p : Place) (command : Command) (h : Held) (step : PartStep) → takes p command h ≡ false → part_at p command h ≡ Some step → takes_bits step ≡
+    false
 takes_none p command h step other is = sym (ap (by_test takes_bits) is) ∙ takes_at p command h other
 
 -- ---- a line publishes a slot set at one place alone

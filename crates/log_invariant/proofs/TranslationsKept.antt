@@ -5,13 +5,8 @@ use Rattle.std.proofs.lemmas.Bool.Decides.{nat_tests}
 use Rattle.core_views.specs.declared.cache.Translation.{Translation}
 use Rattle.core_views.specs.declared.place.AccessPlace.TheVariants.{Walk}
 use Rattle.core_views.specs.declared.place.AccessPlace.{AccessPlace}
-use Rattle.core_views.specs.declared.place.LogPlace.{LogPlace}
-use Rattle.core_views.specs.declared.place.LogPlace.TheVariants as log
 use Rattle.core_views.specs.declared.place.Place.TheVariants as place
 use Rattle.core_views.specs.declared.place.Place.{Place}
-use Rattle.core_views.specs.declared.place.SlotChangePlace.TheVariants as change
-use Rattle.core_views.specs.declared.place.WriteProtectPlace.TheVariants as protect
-use Rattle.core_views.specs.declared.place.WriteProtectPlace.{WriteProtectPlace}
 use Rattle.core_views.specs.declared.sizes.Sizes.{Sizes}
 use Rattle.core_views.specs.declared.topics.Flush.{Flush}
 use Rattle.core_views.specs.declared.topics.TableWalk.{TableWalk}
@@ -30,24 +25,23 @@ use Rattle.part_steps.specs.PartTasks.{entry_index, table_page}
 use Rattle.mmu_core.specs.invariant.InvalidatedPart.{may_use}
 use Rattle.mmu_core.specs.invariant.TopicsInvariant.{TopicsInvariant}
 use Rattle.mmu_core.specs.invariant.TreePart.{Position, at}
-use Rattle.mmu_core.specs.lines.AccessSteps.{access_caches, access_task, is_found}
-use Rattle.mmu_core.specs.lines.Cached.{with_leaf}
-use Rattle.mmu_core.specs.lines.FaultSteps.{allows_access}
+use Rattle.mmu_core.specs.forms.access.AccessSteps.{access_caches, access_task, is_found}
+use Rattle.mmu_core.specs.forms.access.Cached.{with_leaf}
+use Rattle.mmu_core.specs.forms.access.FaultSteps.{allows_access}
 use Rattle.mmu_core.specs.lines.Forms.{caches_at}
 use Rattle.mmu_core.specs.lines.PartAt.{task_at}
 use Rattle.mmu_core.specs.machine.View.{View, answer_in}
 use Rattle.mmu_core.proofs.invariant.QuietKept.{MakesAt}
-use Rattle.mmu_core.proofs.lines.CachedKept.{found_is_leaf, with_leaf_all}
+use Rattle.mmu_core.proofs.forms.access.CachedKept.{found_is_leaf, with_leaf_all}
 use Rattle.mmu_core.proofs.machine.PartStepping.{IsPart}
 use Rattle.mmu_core.proofs.pages.Standing.{spot_of}
 use Rattle.mmu_core.proofs.pages.TreePlaces.{all_reached}
-use Rattle.log_invariant.specs.Excuses.{ExcusesCached, ExcusesLeaf, FlushesLaterAt}
-use Rattle.log_invariant.specs.LogBegins.{IsUnflushed, IsUnflushedAt}
+use Rattle.log_invariant.specs.Excuses.{ExcusesCached, ExcusesLeaf, forbidding}
+use Rattle.log_invariant.specs.Forbidding.{PassedTo, FlushesLater, Forbidding, HowFar, IsUnflushed, MayHaveCached, PassedAll}
 use Rattle.log_invariant.specs.LogInvariant.{AreGuarded, LeafIsGuarded, LogInvariant, UseIsGuarded}
-use Rattle.log_invariant.specs.LogReads.{IsUnflushedBy}
 use Rattle.log_invariant.proofs.CachesCarried.{AsksStill}
 use Rattle.log_invariant.proofs.CoveredKept.{AllGuarded, IsGuardedNow}
-use Rattle.log_invariant.proofs.UsesExcused.{allowed_used}
+use Rattle.log_invariant.proofs.forms.slot_change.UsesExcused.{allowed_used}
 
 -- So it is in a view.
 abbrev pub CachedNow : Sizes → View → Type 0
@@ -70,27 +64,16 @@ still_asked : (flush : Flush) (k state now_ : ℕ) → AsksStill state now_ → 
 still_asked flush k state now_ still (inl le) = inl le
 still_asked flush k state now_ still (inr U) = inr (U.0, still U.1)
 
-still_unflushed : (p : WriteProtectPlace) (flush : Flush) (k state now_ : ℕ) → AsksStill state now_
-    → IsUnflushedAt p flush k state → IsUnflushedAt p flush k now_
-still_unflushed protect.Ask flush k state now_ still U = still_asked flush k state now_ still U
-still_unflushed protect.Await flush k state now_ still U = still_asked flush k state now_ still U
-still_unflushed _ flush k state now_ still U = tt
-
-still_unflushed_by : (p : LogPlace) (flush : Flush) (k state now_ : ℕ) → AsksStill state now_ → IsUnflushedBy p flush k state → IsUnflushedBy p flush k now_
-still_unflushed_by log.Ask flush k state now_ still U = still_asked flush k state now_ still U
-still_unflushed_by log.Await flush k state now_ still U = still_asked flush k state now_ still U
-still_unflushed_by _ flush k state now_ still U = tt
-
-still_flushes : (p : Place) (k state now_ : ℕ) (command : Command) (h : Held) (gfn : ℕ) → AsksStill state now_ → FlushesLaterAt p command h k state gfn
-    → FlushesLaterAt p command h k now_ gfn
-still_flushes (place.SlotChange (change.WriteProtect range p)) k state now_ command h gfn still F =
-    (F.0, still_unflushed p h.topics.flush k state now_ still F.1)
-still_flushes (place.Log p) k state now_ command h gfn still F = (F.0, still_unflushed_by p h.topics.flush k state now_ still F.1)
-still_flushes _ k state now_ command h gfn still F = absurd F
+still_flushes : (f : Forbidding) (k state now_ gfn : ℕ) → AsksStill state now_ → FlushesLater f k state gfn → FlushesLater f k now_ gfn
+still_flushes f k state now_ gfn still later = (later.0, by f.how_far later.1)
+  where
+    by : (far : HowFar) → MayHaveCached far k state → MayHaveCached far k now_
+    by (PassedTo frame) any = tt
+    by (PassedAll flush) U = still_asked flush k state now_ still U
 
 pub still_excused : (k state now_ : ℕ) (h : Held) (gfn : ℕ) → AsksStill state now_ → ExcusesCached k state h gfn → ExcusesCached k now_ h gfn
 still_excused k state now_ h gfn still (inl opens) = inl opens
-still_excused k state now_ h gfn still (inr F) = inr (still_flushes h.state.place k state now_ h.state.line.command h gfn still F)
+still_excused k state now_ h gfn still (inr F) = inr (still_flushes (forbidding h) k state now_ gfn still F)
 
 -- ---- what an access caches
 

@@ -21,7 +21,7 @@ use Rattle.log_invariant.proofs.PublishedLogs.{logged_recorded}
 use Rattle.log_invariant.proofs.WordsApart.{live_aligned, words_apart}
 use Rattle.log_invariant.specs.Covered.{is_marked}
 use Rattle.log_invariant.specs.LogInvariant.{LogInvariant}
-use Rattle.mmu_core.proofs.lines.AccessParts.{AreSmall}
+use Rattle.mmu_core.proofs.forms.access.AccessParts.{AreSmall}
 use Rattle.mmu_core.proofs.lines.StepIn.{Makes, StepIn, Touches, step_in}
 use Rattle.mmu_core.proofs.machine.Columns.{at_upd, same_or, upd_other}
 use Rattle.mmu_core.proofs.machine.HandAfter.{loads_same}
@@ -29,7 +29,7 @@ use Rattle.mmu_core.proofs.machine.PartStepping.{IsPart}
 use Rattle.mmu_core.proofs.machine.Stepping.{IsStep}
 use Rattle.mmu_core.specs.invariant.Invariant.{Invariant}
 use Rattle.mmu_core.specs.invariant.TopicsInvariant.{TopicsInvariant}
-use Rattle.mmu_core.specs.lines.ArmKnows.{IsInLog}
+use Rattle.mmu_core.specs.forms.slot_change.ArmKnows.{IsInLog}
 use Rattle.mmu_core.specs.machine.Steps.{task_at}
 use Rattle.mmu_core.specs.machine.View.{View, answer_in, part_stepped, stepped, words_after}
 use Rattle.part_steps.specs.LogHoldings.{is_in_log}

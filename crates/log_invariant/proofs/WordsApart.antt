@@ -9,7 +9,7 @@ use Rattle.core_views.specs.Sizes.{actors_of}
 use Rattle.spte_words.specs.declared.area.Area.TheVariants as area
 use Rattle.part_steps.specs.LogHoldings.{is_in_log}
 use Rattle.mmu_core.specs.invariant.Invariant.{Invariant, IsLiveIn, RecordPart}
-use Rattle.mmu_core.specs.lines.ArmKnows.{IsInLog}
+use Rattle.mmu_core.specs.forms.slot_change.ArmKnows.{IsInLog}
 use Rattle.mmu_core.specs.machine.View.{View}
 use Rattle.mmu_core.proofs.slots.LogsApart.{logs_apart}
 use Rattle.mmu_core.proofs.words.SmallSlots.{aligned, record_is_so}

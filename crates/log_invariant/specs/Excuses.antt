@@ -1,37 +1,29 @@
--- What excuses a write that nothing covers, in a slot with a dirty log: the line that begins the log, or the one that has taken the page out of it, up to when
--- it has forbidden writes in the leaf (tdp_mmu.c, kvm_tdp_mmu_wrprot_slot, kvm_tdp_mmu_clear_dirty_pt_masked), and up to when each virtual processor has
--- flushed what it had cached (vcpu-requests.rst, KVM_REQ_TLB_FLUSH).
+-- What excuses a write that nothing covers, in a slot with a dirty log: a line that begins the log, or reads it and has taken the page out of it, up to when it
+-- has forbidden writes in the leaf, and up to when each virtual processor has flushed what it had cached.
 use Rattle.std.specs.Prelude.{◌⊎◌, ℕ}
 use Rattle.core_views.specs.declared.place.Place.{Place}
 use Rattle.core_views.specs.declared.place.Place.TheVariants as place
-use Rattle.core_views.specs.declared.place.SlotChangePlace.TheVariants as change
 use Rattle.core_views.specs.declared.trace.Command.{Command}
 use Rattle.core_views.specs.Held.{Held}
-use Rattle.mmu_core.specs.lines.LogSteps.{slot_asked}
-use Rattle.log_invariant.specs.LogBegins.{BeginsClean, IsAmong, IsUnflushedAt, IsUnsweptAt, LogIsUnwatched}
-use Rattle.log_invariant.specs.LogReads.{IsTakenAt, IsUnflushedBy, IsUnprotectedAt}
+use Rattle.log_invariant.specs.Forbidding.{FlushesLater, Forbidding, ForbidsLater}
+use Rattle.log_invariant.specs.forms.slot_change.LogBegins.{BeginsClean, LogIsUnwatched, begun_at}
+use Rattle.log_invariant.specs.forms.log.LogReads.{taken_at}
 
--- ---- a leaf may allow writes
+-- the guest frames in whose leaves a line forbids writes at this place: those of the log that it begins, or those that the reading under way has taken
+abbrev pub forbidding_at : Place → Command → Held → Forbidding
+forbidding_at (place.SlotChange p) command h = begun_at (place.SlotChange p) h.topics
+forbidding_at p command h = taken_at p command h
 
--- The line that stands there has yet to forbid writes to the guest frame: its sweep hasn't come past the frame, or it has taken the frame's page and not come
--- to the leaf.
-abbrev pub ForbidsLaterAt : Place → Command → Held → ℕ → Type 0
-ForbidsLaterAt (place.SlotChange (change.WriteProtect range p)) command h gfn = IsAmong range gfn × IsUnsweptAt p range h.topics.walk gfn
-ForbidsLaterAt (place.Log p) command h gfn = IsTakenAt (place.Log p) command h gfn × IsUnprotectedAt p (slot_asked h command) command gfn
-ForbidsLaterAt _ command h gfn = ⊥
+-- those of the hand's line
+abbrev pub forbidding : Held → Forbidding
+forbidding h = forbidding_at h.state.place h.state.line.command h
 
--- The hand's line has yet to forbid writes to the guest frame.
+-- The hand's line excuses a leaf of the guest frame that allows writes: others may not know yet of the log that it begins clean, or it has yet to forbid writes
+-- in the leaf.
 abbrev pub ExcusesLeaf : Held → ℕ → Type 0
-ExcusesLeaf h gfn = (LogIsUnwatched h gfn × BeginsClean h) ⊎ ForbidsLaterAt h.state.place h.state.line.command h gfn
+ExcusesLeaf h gfn = (LogIsUnwatched h gfn × BeginsClean h) ⊎ ForbidsLater (forbidding h) gfn
 
--- ---- a virtual processor may use what it has cached
-
--- The line that stands there has yet to see that virtual processor v, with this state word, has flushed what it had cached of the guest frame.
-abbrev pub FlushesLaterAt : Place → Command → Held → ℕ → ℕ → ℕ → Type 0
-FlushesLaterAt (place.SlotChange (change.WriteProtect range p)) command h v state gfn = IsAmong range gfn × IsUnflushedAt p h.topics.flush v state
-FlushesLaterAt (place.Log p) command h v state gfn = IsTakenAt (place.Log p) command h gfn × IsUnflushedBy p h.topics.flush v state
-FlushesLaterAt _ command h v state gfn = ⊥
-
--- The hand's line has yet to see that nothing of the guest frame is left which virtual processor v, with this state word, has cached.
+-- It excuses such a leaf that virtual processor v, with this state word, has cached and may use: by the log that it begins clean, or since it has yet to see
+-- v's flush.
 abbrev pub ExcusesCached : ℕ → ℕ → Held → ℕ → Type 0
-ExcusesCached v state h gfn = (LogIsUnwatched h gfn × BeginsClean h) ⊎ FlushesLaterAt h.state.place h.state.line.command h v state gfn
+ExcusesCached v state h gfn = (LogIsUnwatched h gfn × BeginsClean h) ⊎ FlushesLater (forbidding h) v state gfn

@@ -1,6 +1,6 @@
 pub mod Covered
+pub mod Forbidding
 pub mod Excuses
-pub mod LogBegins
 pub mod LogInvariant
-pub mod LogReads
 pub mod Laws
+pub mod forms

@@ -24,17 +24,17 @@ use Rattle.spte_words.specs.declared.spte_kind.SpteKind.TheVariants.{Leaf}
 use Rattle.spte_words.specs.Entries.{can_write, kind_of}
 use Rattle.part_steps.specs.LogHoldings.{is_in_log, log_end}
 use Rattle.part_steps.specs.SlotWords.{page_of}
-use Rattle.mmu_core.specs.lines.Cached.{covers}
+use Rattle.mmu_core.specs.forms.access.Cached.{covers}
 use Rattle.mmu_core.specs.invariant.AllOver.{AllOver}
 use Rattle.mmu_core.specs.invariant.InvalidatedPart.{may_use}
 use Rattle.mmu_core.specs.invariant.SlotSetPart.{IsLiveIn}
 use Rattle.mmu_core.specs.invariant.TreePart.{Position, TreePart, Use}
-use Rattle.mmu_core.specs.lines.ArmKnows.{IsInLog}
-use Rattle.mmu_core.specs.lines.SlotTargets.{arm_bits, log_target}
+use Rattle.mmu_core.specs.forms.slot_change.ArmKnows.{IsInLog}
+use Rattle.mmu_core.specs.forms.slot_change.SlotTargets.{arm_bits, log_target}
 use Rattle.mmu_core.specs.machine.View.{View}
 use Rattle.log_invariant.specs.Covered.{IsCovered, IsLoggedIn, is_marked}
 use Rattle.log_invariant.specs.Excuses.{ExcusesCached, ExcusesLeaf}
-use Rattle.log_invariant.specs.LogBegins.{LogIsUnwatched}
+use Rattle.log_invariant.specs.forms.slot_change.LogBegins.{LogIsUnwatched}
 
 -- ---- who marks
 
@@ -43,18 +43,18 @@ abbrev pub IsMarkingAt : Place → Command → ℕ → Type 0
 IsMarkingAt (place.Access (access.Fault (fault.Mark fast))) (Access at word op) gfn = (at ≡ gfn) × (is_write op ≡ true)
 IsMarkingAt _ command gfn = ⊥
 
--- A place of a fast fault.
-abbrev pub is_fast_place : FaultPlace → Bool
-is_fast_place fault.FastBegin = true
-is_fast_place (fault.FastFind begun) = true
-is_fast_place (fault.FastWalk rooted) = true
-is_fast_place fault.Fix = true
-is_fast_place (fault.Mark fast) = fast
-is_fast_place _ = false
+-- A place of a fast fault before its end.
+abbrev pub is_within_fast : FaultPlace → Bool
+is_within_fast fault.FastBegin = true
+is_within_fast (fault.FastFind begun) = true
+is_within_fast (fault.FastWalk rooted) = true
+is_within_fast fault.Fix = true
+is_within_fast (fault.Mark fast) = fast
+is_within_fast _ = false
 
 -- A fast fault, and a stay that ends with one, is of an access that writes.
 abbrev pub FastWritesAt : Place → Command → Type 0
-FastWritesAt (place.Access (access.Fault p)) (Access gfn word op) = is_fast_place p ≡ true → is_write op ≡ true
+FastWritesAt (place.Access (access.Fault p)) (Access gfn word op) = is_within_fast p ≡ true → is_write op ≡ true
 FastWritesAt (place.Access (access.Leave (Faults fast))) (Access gfn word op) = fast ≡ true → is_write op ≡ true
 FastWritesAt _ command = Unit {0}
 

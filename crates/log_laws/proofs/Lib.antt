@@ -3,3 +3,5 @@ pub mod Pending
 pub mod Readings
 pub mod Rules
 pub mod OneReader
+pub mod LoggedSlots
+pub mod LoggedWrites

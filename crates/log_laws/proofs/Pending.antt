@@ -15,7 +15,7 @@ use Rattle.core_views.specs.Events.{after, after_all, facts_after, is_armed, mar
 use Rattle.log_laws.specs.HarvestLaws.{CleanIsNotDirty, MakesClean}
 
 -- A dirty frame is made clean by the event, or is dirty after it.
-stays_dirty : (kind : EventKind) (f : Facts) (gfn : ℕ) → f.pending gfn ≡ true → ((facts_after kind f).pending gfn ≡ true) ⊎ MakesClean gfn f kind
+pub stays_dirty : (kind : EventKind) (f : Facts) (gfn : ℕ) → f.pending gfn ≡ true → ((facts_after kind f).pending gfn ≡ true) ⊎ MakesClean gfn f kind
 stays_dirty (Accessed g word op frame before) f gfn is = inl (or_right ((is_armed f.slots f.armed g && is_write op) && (g == gfn)) (f.pending gfn) is)
 stays_dirty (SlotChanged id slot) f gfn is = by (has_gfn (slot_of_id id f.slots) gfn || has_gfn slot gfn) refl
   where

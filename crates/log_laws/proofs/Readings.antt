@@ -15,7 +15,7 @@ use Rattle.core_views.specs.FlatHistory.{harvest}
 use Rattle.core_views.specs.Events.{after_all}
 use Rattle.core_views.specs.Lawful.{IsAllowed, IsLawful}
 use Rattle.core_views.specs.Migrations.{is_stopped}
-use Rattle.flat_laws.specs.Writes.{DueFramesAreKept, WrittenFramesAreKept}
+use Rattle.flat_laws.specs.Writes.{DueFramesAreKept, WritesAreRecorded}
 use Rattle.flat_laws.proofs.AloneIsLawful.{lawful_parts}
 use Rattle.log_laws.specs.HarvestLaws.{IsAskedFor, IsStoppedAfter, NobodyWrites, ReadingsAreCaused, ReadingsAreComplete, made_by}
 
@@ -66,7 +66,7 @@ complete kept z before between actor id takes frames lawful none gfn dirty nobod
     unwritten goes (inl nobody_) = nobody_
     unwritten goes (inr stopped) = absurd (cc (goes, stopped))
 
-pub caused : WrittenFramesAreKept → ReadingsAreCaused
+pub caused : WritesAreRecorded → ReadingsAreCaused
 caused kept z before actor id takes frames lawful gfn among =
     let H = last_read z before actor id takes frames lawful in (
       (kept before gfn).1.0 (H.caused gfn among),

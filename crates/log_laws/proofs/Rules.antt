@@ -12,7 +12,7 @@ use Rattle.core_views.specs.FlatHistory.{harvest}
 use Rattle.core_views.specs.Harvests.{IsHarvest}
 use Rattle.core_views.specs.Lawful.{IsAllowed, MayRead}
 use Rattle.core_views.specs.LogCommands.{is_bad_range}
-use Rattle.flat_laws.specs.Writes.{DueFramesAreKept, WrittenFramesAreKept}
+use Rattle.flat_laws.specs.Writes.{DueFramesAreKept, WritesAreRecorded}
 use Rattle.log_laws.specs.LogRules.{ArmingArms, AreWholeWords, BadRangesAreTold, MayHold, SuchMayBeRead, SuchMayBeReadNext}
 
 pub arming : ArmingArms
@@ -64,7 +64,7 @@ ranges pages first count = (told, back)
         either (inl a) = inl (eq-eqb (count % 64) 0 a)
         either (inr b) = inr (eq-eqb (first + count) pages b)
 
-harvest_of : DueFramesAreKept → WrittenFramesAreKept → (h : List Event) (command : Command) (id : ℕ) (slot : MemorySlot) (frames : List ℕ)
+harvest_of : DueFramesAreKept → WritesAreRecorded → (h : List Event) (command : Command) (id : ℕ) (slot : MemorySlot) (frames : List ℕ)
     → MayHold h command id slot frames → IsHarvest (after_all h first_flat).facts (after_all h first_flat).past command id frames
 harvest_of due written h command id slot frames M = record {
   slot = slot;
@@ -75,7 +75,7 @@ harvest_of due written h command id slot frames M = record {
   caused = λ gfn among. ((written h gfn).1).1 (M.caused gfn among);
 }
 
-pub such_may : DueFramesAreKept → WrittenFramesAreKept → SuchMayBeRead
+pub such_may : DueFramesAreKept → WritesAreRecorded → SuchMayBeRead
 such_may due written z h actor id takes slot frames begun reads is M =
     by takes (record { begun = begun; reads = reads; takes = is; harvest = harvest_of due written h (state.under actor).line.command id slot frames M })
   where
@@ -87,7 +87,7 @@ such_may due written z h actor id takes slot frames begun reads is M =
     by true may = inl may
     by false may = may
 
-pub such_may_next : DueFramesAreKept → WrittenFramesAreKept → SuchMayBeReadNext
+pub such_may_next : DueFramesAreKept → WritesAreRecorded → SuchMayBeReadNext
 such_may_next due written z h actor id ids slot frames begun M =
     inr (record {
       ids = ids;

@@ -5,3 +5,4 @@ pub mod UnlawfulReadings
 pub mod ClearTraces
 pub mod LogRules
 pub mod OneReader
+pub mod LoggedWrites

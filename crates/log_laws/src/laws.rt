@@ -5,6 +5,7 @@ ghost use Rattle.log_laws.specs.LogTraces.{AllSetPrints, EndsPrint, GetPrints, M
 ghost use Rattle.log_laws.specs.LogTraces.{RangesPrint, ReadPrints, RefusalsPrint, WordsPrint};
 ghost use Rattle.log_laws.specs.LogRules.{ArmingArms, BadRangesAreTold, SuchMayBeRead, SuchMayBeReadNext};
 ghost use Rattle.log_laws.specs.LogWords.{ClearWordsTellFrames, GetWordsTellFrames};
+ghost use Rattle.log_laws.specs.LoggedWrites.{LoggedSlotsStand, LoggedWritesAreKept, LogsBeginOnce};
 ghost use Rattle.log_laws.specs.OneReader.{LoneReadingsAreComplete, ReadingsAreApart, StoppedReadingsAreComplete};
 ghost use Rattle.log_laws.specs.UnlawfulReadings.{AutomaticGetTakesAll, LogBeginsAllSet, LogBeginsArmed};
 ghost use Rattle.log_laws.specs.UnlawfulReadings.{LogBeginsClean, ManualGetTakesNone, NextGetReadsIt, RaceIsLawful};
@@ -45,6 +46,17 @@ pub fn readings_tell_what_was_written()
 {
     writes_are_kept();
 }
+
+/// A law about what is written while writes of its slot are logged, over lawful histories in which
+/// one actor alone manages the guest, as the manager does. Such a frame is dirty from the write on,
+/// unless a reading takes it out of the log, or a line takes the slot's dirty log
+/// away (`kept`). No other line changes a slot whose writes are logged, nor sets one that has a frame
+/// of it (`stand`), and a log begins only where its slot's writes aren't logged (`once`).
+pub fn logged_writes_are_kept()
+    ensures kept { LoggedWritesAreKept }
+    ensures stand { LoggedSlotsStand }
+    ensures once { LogsBeginOnce }
+{}
 
 /// A law about the words of 64 bits that a line answers which reads a log. A get's have a bit for
 /// each page of the slot (`get`), and a clear's one for each of its pages (`clear`). Each is set

@@ -6,6 +6,6 @@
 mod laws;
 
 pub use laws::{
-    log_lines_print, log_words_tell_frames, more_log_lines_print, readings_tell_what_was_written,
-    unlawful_readings_are_refused,
+    log_lines_print, log_words_tell_frames, logged_writes_are_kept, more_log_lines_print,
+    readings_tell_what_was_written, unlawful_readings_are_refused,
 };

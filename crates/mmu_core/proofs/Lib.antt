@@ -6,3 +6,5 @@ pub mod held
 pub mod lines
 pub mod slots
 pub mod invariant
+pub mod orders
+pub mod forms

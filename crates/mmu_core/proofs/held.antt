@@ -17,7 +17,6 @@ pub mod HeldKept
 pub mod InvalidationsKept
 pub mod KnownRange
 pub mod LockKept
-pub mod MovingPlaces
 pub mod OpenFrames
 pub mod FreshFrames
 pub mod OldSets

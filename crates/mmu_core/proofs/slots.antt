@@ -5,15 +5,6 @@ pub mod LiveStays
 pub mod SetFilled
 pub mod SetPublished
 pub mod MadeWay
-pub mod SlotChangeKept
-pub mod SlotChangeKnown
-pub mod SlotChangeMakes
-pub mod SlotChangeNeeds
-pub mod SlotChangeRetires
-pub mod SlotChangePlaces
-pub mod SlotChangeCounted
-pub mod SlotChangeTold
 pub mod SlotChangeArms
 pub mod LogsApart
 pub mod SlotsStay
-pub mod SlotChangeClaims

@@ -2,3 +2,5 @@ pub mod machine
 pub mod lines
 pub mod invariant
 pub mod alone
+pub mod orders
+pub mod forms

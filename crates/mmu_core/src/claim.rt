@@ -2,7 +2,7 @@
 //! several kinds of line.
 ghost use Rattle.std.specs.Prelude.{◌≡◌, ◌<◌, ◌^◌};
 ghost use Rattle.core_views.specs.Sizes.{AreSizes};
-ghost use Rattle.mmu_core.specs.lines.ClaimSteps.{claim_over, load_part, map_area, map_words, try_part};
+ghost use Rattle.mmu_core.specs.orders.ClaimSteps.{claim_over, load_part, map_area, map_words, try_part};
 
 use core_views::{MapClaim, Sizes, Topics};
 use part_steps::{PartStep, map_of};

@@ -1,4 +1,4 @@
-pub mod Forms
+pub mod EachForm
 pub mod flat
 pub mod alone
 pub mod turns
@@ -6,3 +6,4 @@ pub mod causes
 pub mod pool
 pub mod leaves
 pub mod steps
+pub mod forms

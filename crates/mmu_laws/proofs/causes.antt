@@ -1,14 +1,10 @@
 pub mod ActorSaw
 pub mod EntryLoaded
-pub mod CauseOwn
-pub mod CausePlaces
 pub mod CauseSteps
 pub mod Causes
 pub mod Changes
 pub mod ClaimSeen
-pub mod EachFault
 pub mod EachLine
-pub mod Entries
 pub mod FindsOthers
 pub mod MadeSteps
 pub mod ScanPlaces

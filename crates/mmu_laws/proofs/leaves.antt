@@ -1,3 +1,8 @@
 pub mod LeadsDown
 pub mod LeafLaws
 pub mod OpenFrames
+pub mod OwnLeaves
+pub mod TopicRuns
+pub mod SharedLeaves
+pub mod LoadedLeaves
+pub mod LoadedRuns

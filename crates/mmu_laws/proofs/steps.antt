@@ -1,14 +1,13 @@
 pub mod CanStep
 pub mod Decimals
 pub mod ExampleRun
-pub mod AwaitNotes
 pub mod Notes
 pub mod StepLaws
+pub mod ReleaseLaws
 pub mod KindLaws
 pub mod LogKinds
 pub mod AllowedWords
-mod MayTells
-mod ReadingEvents
+pub mod MayTells
 pub mod EventLaws
 pub mod InvalidationLaws
 pub mod PublicationLaws
@@ -26,7 +25,6 @@ pub mod ExampleLogAllRun
 pub mod ExampleMissesRun
 pub mod ExampleApartRun
 pub mod ExampleLeafRun
-pub mod ExampleReadsRun
 pub mod ExampleEvictRun
 pub mod ExampleMoveRun
 pub mod ExampleOverlapRun

@@ -5,3 +5,4 @@ pub mod turns
 pub mod pool
 pub mod leaves
 pub mod steps
+pub mod forms

@@ -3,4 +3,3 @@ pub mod FlatInvariant
 pub mod Histories
 pub mod FlatLogs
 pub mod ArmedSlots
-pub mod LogCommandLaws

@@ -17,7 +17,6 @@ pub mod ExampleLogAll
 pub mod ExampleMisses
 pub mod ExampleApart
 pub mod ExampleLeaf
-pub mod ExampleReads
 pub mod ExampleEvict
 pub mod ExampleMove
 pub mod ExampleOverlap

@@ -3,7 +3,7 @@ ghost use Rattle.mmu_laws.specs.causes.Causes.{FaultsBeginAnewByCause};
 ghost use Rattle.mmu_laws.specs.pool.Enough.{EachTableIsWanted, EnoughPages, TablesAreForTheirSpans};
 ghost use Rattle.mmu_laws.specs.pool.NeedCounts.{NeedIsCounted, OneSlotNeedsSeven};
 ghost use Rattle.mmu_laws.specs.alone.LowestFrames.{MovesAloneTakeLowest};
-ghost use Rattle.mmu_laws.specs.alone.ReadingsAlone.{ReadingsAloneAreExact};
+ghost use Rattle.mmu_laws.specs.forms.log.ReadingsAlone.{ReadingsAloneAreExact};
 ghost use Rattle.mmu_laws.specs.steps.CanStep.{EachMayStep, EveryMachineStarts};
 ghost use Rattle.mmu_laws.specs.steps.ExampleHost.{ExampleHost};
 ghost use Rattle.mmu_laws.specs.steps.ExampleEvict.{ExampleEvict};
@@ -15,7 +15,9 @@ ghost use Rattle.mmu_laws.specs.steps.ExampleLogAll.{ExampleLogAll};
 ghost use Rattle.mmu_laws.specs.steps.ExampleApart.{ExampleApart};
 ghost use Rattle.mmu_laws.specs.steps.ExampleLeaf.{ExampleLeaf};
 ghost use Rattle.mmu_laws.specs.steps.ExampleMisses.{ExampleMisses};
-ghost use Rattle.mmu_laws.specs.steps.ExampleReads.{ExampleReads};
+ghost use Rattle.mmu_laws.specs.forms.log.ExampleReads.{ExampleReads};
+ghost use Rattle.mmu_laws.specs.forms.log.ExampleOwed.{ExampleOwed};
+ghost use Rattle.mmu_laws.specs.forms.log.ExampleManual.{ExampleManual};
 ghost use Rattle.mmu_laws.specs.steps.ExampleProtect.{ExampleProtect};
 ghost use Rattle.mmu_laws.specs.steps.ExampleRaces.{ExampleRaces};
 ghost use Rattle.mmu_laws.specs.steps.ExampleRuns.{ExamplePrints, ExampleRuns};
@@ -23,9 +25,9 @@ ghost use Rattle.mmu_laws.specs.steps.ExampleStarves.{ExampleStarves};
 ghost use Rattle.mmu_laws.specs.steps.ExampleTight.{ExampleTight};
 ghost use Rattle.mmu_laws.specs.steps.ExampleWaits.{ExampleWaits};
 ghost use Rattle.mmu_core.specs.alone.FaultAlone.{FaultGoesThrough, LeadsDown};
-ghost use Rattle.mmu_core.specs.lines.FaultLaws.{FaultIsBounded, FaultMeetsNeeds, FaultStaysKnown, FaultStepsFall, PartsAnswer};
+ghost use Rattle.mmu_core.specs.forms.access.FaultLaws.{FaultIsBounded, FaultMeetsNeeds, FaultStaysKnown, FaultStepsFall, PartsAnswer};
 ghost use Rattle.mmu_core.specs.lines.PartWaits.{WaitsSeeAnother};
-ghost use Rattle.mmu_laws.specs.flat.LogCommandLaws.{BadRangesAreRefused, ClearsAskForNamed, GetsAskForAll, ReadingsAreOfLogs};
+ghost use Rattle.mmu_laws.specs.forms.log.LogCommandLaws.{BadRangesAreRefused, ClearsAskForNamed, GetsAskForAll, ReadingsAreOfLogs};
 ghost use Rattle.mmu_laws.specs.flat.FlatLogs.{LogsAreFlat};
 ghost use Rattle.mmu_laws.specs.flat.Histories.{AnswersAreTold, EndsWhole, StaysWhole};
 ghost use Rattle.mmu_core.specs.invariant.Laws.{StaysSound, TellsLawfully};
@@ -36,7 +38,7 @@ ghost use Rattle.mmu_core.specs.invariant.Scans.{StarvedLinesScan};
 ghost use Rattle.mmu_laws.specs.steps.EventLaws.{EventsAreOfTheirSteps};
 ghost use Rattle.mmu_laws.specs.steps.TouchLaws.{TouchesAreTold};
 ghost use Rattle.mmu_laws.specs.steps.InvalidationLaws.{BringsAreOfAbsentPages, ChangesAreInvalidated, InvalidationsAreCounted};
-ghost use Rattle.mmu_laws.specs.steps.InvalidationLaws.{SequenceIsRaised, ZapsAreOfOpenInvalidations};
+ghost use Rattle.mmu_laws.specs.steps.InvalidationLaws.{ReleasesLeaveNothing, SequenceIsRaised, ZapsAreOfOpenInvalidations};
 ghost use Rattle.mmu_laws.specs.steps.LogLaws.{AllowedWritesAreOwed, MarksAreOfOwedPages, MarksStayOwed, SectionsEndWithNoneOwed};
 ghost use Rattle.mmu_laws.specs.steps.LogLaws.{WordsAreSetBeforeTheirLog, WritesAreForbiddenInLeaves};
 ghost use Rattle.mmu_laws.specs.steps.PublicationLaws.{OthersLeaveSlots, PublicationsAreInvalidated};
@@ -135,7 +137,11 @@ pub fn each_delay_has_its_cause()
 /// is read by hand, a get shows each page, a clear takes one, and the next get shows the others.
 /// Where writes are forbidden in a leaf after a fault that has found them allowed there, the stay after it
 /// misses; and of two fast faults that have loaded a leaf one allows writes in it, and the exchange of
-/// the other one is lost, whose processor then writes before the page is marked. And a fault that finds the
+/// the other one is lost, whose processor then writes before the page is marked. A get that comes between
+/// this write and the mark waits for the processor that wrote, which is in the guest again, and its answer
+/// leaves the page out; the next get has it. Where a get takes nothing out of a log, one shows a write and
+/// a clear takes it; and once the log has ended, a write meets the leaf in which the clear has forbidden
+/// writes: its fast fault allows them and marks nothing. And a fault that finds the
 /// lock held waits for it, and goes through while an invalidation of another guest frame is open;
 /// and where two faults come to one absent leaf, one puts it, and the other one begins anew.
 pub fn the_steps_can_be_made()
@@ -156,6 +162,8 @@ pub fn the_steps_can_be_made()
     ensures log { ExampleLog }
     ensures log_all { ExampleLogAll }
     ensures reads { ExampleReads }
+    ensures owed { ExampleOwed }
+    ensures manual { ExampleManual }
     ensures misses { ExampleMisses }
     ensures apart { ExampleApart }
     ensures leaf { ExampleLeaf }
@@ -187,6 +195,10 @@ pub fn the_steps_can_be_made()
 /// invalidation. One that changes a host word, whatever it leaves there, is of a page of its
 /// actor's own, while this actor's invalidation of the page is open and flushed. And one that
 /// brings a page in is in a section, of the page that its actor looked at and saw absent. A step
+/// that gives back the lock which its actor has alone leaves no end of an invalidation half done, so
+/// that number and count change in one holding, and none open that isn't flushed; and a line leaves
+/// nothing to do at the entry that it loaded last. (That its sweep or its reading is through, `armed`
+/// of `every_list_of_steps` says.) A step
 /// that forbids writes is on a leaf to which links lead a guest frame, and which allows them, and
 /// takes its Writable bit away; one that allows writes in a leaf of a slot with a dirty log leaves
 /// its actor owing a mark, which stays owed up to the mark, and no section ends before it; one
@@ -210,6 +222,7 @@ pub fn steps_tell_what_they_are()
     ensures zaps { ZapsAreOfOpenInvalidations }
     ensures changes { ChangesAreInvalidated }
     ensures brings { BringsAreOfAbsentPages }
+    ensures releases { ReleasesLeaveNothing }
     ensures forbids { WritesAreForbiddenInLeaves }
     ensures owes { AllowedWritesAreOwed }
     ensures stays_owed { MarksStayOwed }

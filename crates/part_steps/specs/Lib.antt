@@ -17,6 +17,7 @@ pub mod PartHoldings
 pub mod SweepHoldings
 pub mod InvalidationHoldings
 pub mod FrameHoldings
+pub mod LockHoldings
 pub mod LogHoldings
 pub mod PartSteps
 pub mod PartTopics

@@ -21,6 +21,7 @@ use Rattle.part_steps.specs.PartHoldings.{next_watched, OwnsPage, HasToFill, Has
 use Rattle.part_steps.specs.PartHoldings.{MayFix, MayGiveOld, MayMark, MayPublish, SawNoWrites}
 use Rattle.part_steps.specs.InvalidationHoldings.{MayAsk, MayChange, MayCount, MayEndInvalidation, MaySetEnd, MaySetStart}
 use Rattle.part_steps.specs.SweepHoldings.{MaySweep, MayWalkAnew, MayZap}
+use Rattle.part_steps.specs.LockHoldings.{MayRelease}
 use Rattle.part_steps.specs.LogHoldings.{MayArm, MayProtect, MayReadLog, MayTake}
 use Rattle.part_steps.specs.InvalidationRange.{has_found_looked}
 use Rattle.part_steps.specs.SweepTopics.{is_sweeping, walks_anew}
@@ -83,15 +84,14 @@ PartNeeds part.End h = (h.topics.stay ≡ Section) × (h.topics.owed ≡ None)
 PartNeeds part.Share h = h.topics.hold ≡ Loose
 PartNeeds part.Unshare h = counts h.topics.hold ≡ true
 PartNeeds part.Exclude h = h.topics.hold ≡ Loose
-PartNeeds part.Release h = h.topics.hold ≡ Exclusive
+PartNeeds part.Release h = MayRelease h
 PartNeeds (part.Map word) h = (h.topics.owned ≡ None) × (word < words_of_bits h.state.sizes.pool) × GoesOnToWord word h.topics.claim
 PartNeeds part.Claim h = (h.topics.owned ≡ None) × (0 < h.topics.claim.seen) × (h.topics.claim.at < words_of_bits h.state.sizes.pool)
 PartNeeds (part.Fill value) h = HasToFill h.topics × (value < 2 ^ 64) × (page_owned h.topics.owned < h.state.sizes.pool)
 PartNeeds (part.Role value) h = HasRoleToSet h.topics × (value < 2 ^ 64) × (page_owned h.topics.owned < h.state.sizes.pool)
 PartNeeds part.Give h = OwnsPage h.topics × (is_alone h.topics.hold ≡ false)
 PartNeeds part.Slots h = Unit {0}
-PartNeeds part.Slot h =
-    HoldsSet h.topics × (h.topics.search.id ≤ 31) × ((is_alone h.topics.hold && has_found_looked h.topics) ≡ false)
+PartNeeds part.Slot h = HoldsSet h.topics × (h.topics.search.id ≤ 31) × ((is_alone h.topics.hold && has_found_looked h.topics) ≡ false)
 PartNeeds part.Seq h = Unit {0}
 PartNeeds part.Count h = Unit {0}
 PartNeeds part.RangeStart h = Unit {0}

@@ -4,10 +4,7 @@ ghost use Rattle.std.specs.Prelude.{◌≡◌, ◌<◌, ◌+◌, ◌^◌};
 ghost use Rattle.part_steps.specs.InvalidationRange.{HasSmallSlot, IsSmall, end_with, gfn_behind, has_found, has_searched};
 ghost use Rattle.part_steps.specs.InvalidationRange.{range_end, range_start, start_with, target_end, target_start};
 
-use core_views::{Invalidations, Slot, SlotSearch, Topics};
-
-/// How many slots a set has.
-const SLOTS: u64 = 32;
+use core_views::{Invalidations, SLOTS, Slot, SlotSearch, Topics};
 
 /// What a line invalidates: guest frames that are to be zapped and flushed before it goes on.
 #[derive(Clone, Copy, Drop)]

@@ -1,6 +1,7 @@
 //! Whether a hand holds what a step of a part needs that no line makes.
 ghost use Rattle.std.specs.Prelude.{◌≡◌, ◌≢◌, ◌⊎◌, ◌≤◌, ◌<◌, ◌^◌, true, false};
 ghost use Rattle.part_steps.specs.PartBounds.{PartRests};
+ghost use Rattle.part_steps.specs.LockHoldings.{MayRelease};
 ghost use Rattle.part_steps.specs.PartTasks.{page_owned};
 ghost use Rattle.part_steps.specs.PartHoldings.{IsOver, next_watched};
 ghost use Rattle.part_steps.specs.PartSteps.{PartNeeds, needs_line};
@@ -10,7 +11,7 @@ use crate::part_step::words_filled;
 use core_views::{Actor, Hold, MapClaim, OwnedPage, Stay, TableWalk};
 use hands::Hand;
 use part_steps::{PartStep, map_of};
-use spte_words::Area;
+use spte_words::{Area, ENTRIES};
 use topic_twins::{has_found_looked, is_sweeping, span_of, walks_anew};
 
 // Whether the claim goes on to this word of the map.
@@ -26,7 +27,7 @@ fn is_over(gfn: u64, walk: &TableWalk) -> bool
     requires { walk.now.level ≤ 4 }
     ensures { result ≡ true → IsOver gfn walk.now }
 {
-    gfn < 1 << 36 && walk.level >= 1 && span_of(gfn, walk.level) / 512 == walk.prefix
+    gfn < 1 << 36 && walk.level >= 1 && span_of(gfn, walk.level) / ENTRIES == walk.prefix
 }
 
 // Whether the page that is owned is one of the pool.
@@ -37,6 +38,14 @@ fn is_of_pool(pool: u64, owned: Option<OwnedPage>) -> bool
         Some(owned) => owned.page < pool,
         None => pool > 0,
     }
+}
+
+// Whether the lock may be given back that a hand has alone which has no line left.
+fn may_release(hand: &Hand) -> bool
+    ensures { result ≡ true → MayRelease hand.now.core }
+{
+    let topics = hand.topics();
+    topics.hold == Hold::Exclusive && !topics.invalidations.opened && !hand.has_line()
 }
 
 /// Whether the step is one of lines alone, which no actor makes that has no line
@@ -81,7 +90,7 @@ pub fn has_needs(hand: &Hand, step: PartStep) -> bool
         PartStep::End => topics.stay == Stay::Section && topics.owed.is_none(),
         PartStep::Share | PartStep::Exclude => topics.hold == Hold::Loose,
         PartStep::Unshare => matches!(topics.hold, Hold::Shared | Hold::Owing(_)),
-        PartStep::Release => topics.hold == Hold::Exclusive,
+        PartStep::Release => may_release(hand),
         PartStep::Map(word) => {
             topics.owned.is_none()
                 && word < map.size_of(Area::PoolMap) as u64
@@ -92,11 +101,11 @@ pub fn has_needs(hand: &Hand, step: PartStep) -> bool
         }
         PartStep::Fill(_) => {
             topics.owned.is_some()
-                && words_filled(topics.owned) < 512
+                && words_filled(topics.owned) < ENTRIES
                 && is_of_pool(sizes.pool, topics.owned)
         }
         PartStep::Role(_) => {
-            words_filled(topics.owned) == 512 && is_of_pool(sizes.pool, topics.owned)
+            words_filled(topics.owned) == ENTRIES && is_of_pool(sizes.pool, topics.owned)
         }
         PartStep::Give => topics.owned.is_some() && topics.hold != Hold::Exclusive,
         PartStep::Slot => {

@@ -1,3 +1,4 @@
 pub mod SlotRules
 pub mod Starving
 pub mod DoneLines
+pub mod OneChange

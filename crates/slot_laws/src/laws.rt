@@ -1,4 +1,5 @@
 ghost use Rattle.slot_laws.specs.DoneLines.{DoneComesOfOneChange};
+ghost use Rattle.slot_laws.specs.OneChange.{HostLinesTell, LinesUnderWayHaveBegun, SlotLinesTell};
 ghost use Rattle.slot_laws.specs.SlotRules.{DeletionsAreOfSlots, DoneAtOnceChangesNone, SetSlotsKeepShapes, WorkChangesOne};
 ghost use Rattle.slot_laws.specs.Starving.{MissingCannotStarve, UnchangedCannotStarve};
 
@@ -27,4 +28,15 @@ pub fn done_lines_have_changed_once()
 pub fn idle_slot_lines_cannot_starve()
     ensures unchanged { UnchangedCannotStarve }
     ensures missing { MissingCannotStarve }
+{}
+
+/// A law about lawful histories. Between its begin and its answer a slot line that is answered done has
+/// changed its slot once, as it asks, or has nothing to do; and any other answer comes of no change
+/// (`slots`). A host line that isn't refused has changed its host page once, as it asks, and is answered
+/// so, and one that is refused has changed none (`hosts`). Each line that is under way has begun, and its
+/// actor has answered none since (`begun`).
+pub fn lines_change_once()
+    ensures slots { SlotLinesTell }
+    ensures hosts { HostLinesTell }
+    ensures begun { LinesUnderWayHaveBegun }
 {}

@@ -19,4 +19,4 @@ pub use laws::{
 pub use slot_flags::SlotFlags;
 pub use spte::{Spte, WRITE};
 pub use spte_kind::SpteKind;
-pub use word_map::WordMap;
+pub use word_map::{ENTRIES, WordMap};

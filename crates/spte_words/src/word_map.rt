@@ -3,6 +3,9 @@ ghost use Rattle.spte_words.specs.Areas.{IsWordMap, size_of, place, total, conte
 
 use crate::Area;
 
+/// How many words a page of the pool has, and so how many entries a table.
+pub const ENTRIES: u64 = 512;
+
 /// The sizes of a machine, from which the place of each word follows.
 #[derive(Clone, Copy, Drop)]
 pub struct WordMap {
@@ -55,7 +58,7 @@ impl WordMap {
             Area::Log => words_of_bits(self.pages),
             Area::Host => self.pages,
             Area::Role => self.pool,
-            Area::Pool => 512 * self.pool,
+            Area::Pool => ENTRIES * self.pool,
             Area::Content => self.words * self.frames,
         };
         size as u32
@@ -117,7 +120,7 @@ impl WordMap {
         requires { IsWordMap self.now }
         ensures { result ≡ place self.now Area.Content 0 }
     {
-        self.pool_pages() + 512 * self.pool
+        self.pool_pages() + ENTRIES * self.pool
     }
 
     // Where the area begins.
@@ -322,7 +325,7 @@ impl WordMap {
         ensures index { result ≡ pool_index page i }
         ensures within { result < size_of self.now Area.Pool }
     {
-        512 * page + i
+        ENTRIES * page + i
     }
 
     /// The area that this word (below `total`) is in, and which of its words

@@ -7,7 +7,7 @@ ghost use Rattle.step_text.specs.Names.{area_name, bracketed, paged_text, words_
 
 use crate::span::Span;
 use core_views::{NoMemory, Sizes};
-use spte_words::{Area, WordMap};
+use spte_words::{Area, ENTRIES, WordMap};
 
 /// The place of a word in the memory of a machine.
 #[derive(Clone, Copy, Drop)]
@@ -122,7 +122,7 @@ pub(crate) fn push_words(
             };
             write!(text, "{name}[{span}]")?
         }
-        Area::Pool => push_paged(text, name, 512, place.index, count)?,
+        Area::Pool => push_paged(text, name, ENTRIES, place.index, count)?,
         Area::Content => push_paged(text, name, sizes.words.max(1), place.index, count)?,
         _ => write!(text, "{name}")?,
     }

@@ -2,7 +2,7 @@ ghost use Rattle.std.specs.Prelude.{◌≡◌, ◌≤◌, ◌<◌, ◌/◌, ◌%
 ghost use Rattle.part_steps.specs.PartTasks.{entry_index};
 ghost use Rattle.spte_words.specs.Entries.{level_span};
 
-use spte_words::Spte;
+use spte_words::{ENTRIES, Spte};
 
 /// The span of entries of the level that the guest frame is in.
 pub fn span_of(gfn: u64, level: u8) -> u64
@@ -20,5 +20,5 @@ pub fn entry_index(gfn: u64, level: u8) -> u64
     ensures is { result ≡ entry_index gfn level }
     ensures below { result < 512 }
 {
-    span_of(gfn, level) % 512
+    span_of(gfn, level) % ENTRIES
 }

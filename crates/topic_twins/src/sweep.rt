@@ -9,7 +9,7 @@ ghost use Rattle.part_steps.specs.WalkTopics.{walked};
 use crate::spans::entry_index;
 use crate::topics::walk;
 use core_views::{Hold, Stay, TableWalk, Topics};
-use spte_words::{Spte, SpteKind};
+use spte_words::{ENTRIES, Spte, SpteKind};
 
 // The walk that has come to the last entry of its table goes on in the table above, at the
 // entry that links to its own.
@@ -19,8 +19,8 @@ fn go_up_once(walk: &mut TableWalk)
 {
     if walk.index == 511 && walk.level < 4 {
         walk.level += 1;
-        walk.index = walk.prefix % 512;
-        walk.prefix /= 512;
+        walk.index = walk.prefix % ENTRIES;
+        walk.prefix /= ENTRIES;
     }
 }
 
@@ -51,7 +51,7 @@ pub fn begin_anew(walk: &mut TableWalk)
 {
     walk.level = 4;
     walk.prefix = 0;
-    walk.index = 512;
+    walk.index = ENTRIES;
 }
 
 // Whether the actor has the lock alone, outside of every section, sweeps nothing, and has loaded
@@ -69,7 +69,7 @@ pub fn walks_anew(topics: &Topics) -> bool
 pub fn has_entry(walk: &TableWalk) -> bool
     ensures { result ≡ has_entry walk.now }
 {
-    walk.index < 512
+    walk.index < ENTRIES
 }
 
 /// Whether a sweep, which zaps leaves or forbids writes in them, has nothing to do at it: it is no
@@ -94,7 +94,7 @@ fn entry_start(walk: &TableWalk) -> u64
     ensures { result ≡ entry_start walk.now }
 {
     let index = if has_entry(walk) { walk.index } else { 0 };
-    (walk.prefix * 512 + index) * Spte::level_span(walk.level)
+    (walk.prefix * ENTRIES + index) * Spte::level_span(walk.level)
 }
 
 // The guest frame after the entry that was loaded last.
@@ -106,7 +106,7 @@ fn entry_end(walk: &TableWalk) -> u64
     requires small { entry_end walk.now < 2 ^ 64 }
     ensures { result ≡ entry_end walk.now }
 {
-    (walk.prefix * 512 + walk.index + 1) * Spte::level_span(walk.level)
+    (walk.prefix * ENTRIES + walk.index + 1) * Spte::level_span(walk.level)
 }
 
 /// The guest frame to which a sweep from `from` on has come.

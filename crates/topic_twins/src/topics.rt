@@ -25,7 +25,7 @@ use core_views::{
     SlotSearch, Stay, StepKind, TableWalk, Topics,
 };
 use part_steps::map_of;
-use spte_words::{Area, HostWord, SlotFlags, Spte, SpteKind};
+use spte_words::{Area, ENTRIES, HostWord, SlotFlags, Spte, SpteKind};
 
 fn may_walk(stay: Stay, hold: Hold) -> bool
     ensures { result ≡ may_walk stay hold }
@@ -80,8 +80,8 @@ fn go_down(walk: &mut TableWalk, page: u64, index: u64, entry: u64)
         _ => {}
     }
     walk.level = walk.level.saturating_sub(1);
-    walk.prefix = walk.prefix * 512 + index;
-    walk.index = 512;
+    walk.prefix = walk.prefix * ENTRIES + index;
+    walk.index = ENTRIES;
     walk.entry = entry;
 }
 
@@ -130,7 +130,7 @@ fn index_in_page(sizes: &Sizes, word: u32) -> u64
     ensures is { result ≡ index_in_page sizes.now word }
     ensures below { result < 512 }
 {
-    word.saturating_sub(map_of(sizes).word_of(Area::Pool, 0)) as u64 % 512
+    word.saturating_sub(map_of(sizes).word_of(Area::Pool, 0)) as u64 % ENTRIES
 }
 
 // The walk from which the next entry is loaded.
@@ -168,7 +168,7 @@ fn owe_mark(owed: &mut Option<u64>, at: &TableWalk, won: bool, logged: bool, ind
     ensures { owed.new ≡ owed_after won logged at.now index new owed.old }
 {
     if won && at.level == 1 && logged && Spte::from_word(new).is_writable() {
-        *owed = Some(at.prefix * 512 + index);
+        *owed = Some(at.prefix * ENTRIES + index);
     }
 }
 
@@ -269,8 +269,8 @@ fn fill(owned: &mut Option<OwnedPage>, found: u64)
     ensures { owned.new ≡ filled_more owned.old found }
 {
     if let Some(page) = owned {
-        page.absent = page.absent && (page.filled >= 512 || found == 0);
-        if page.filled == 512 {
+        page.absent = page.absent && (page.filled >= ENTRIES || found == 0);
+        if page.filled == ENTRIES {
             page.role = found;
         }
         page.filled += 1;
@@ -486,7 +486,7 @@ fn control(sizes: &Sizes, word: u32, topics: &mut Topics, found: u64)
         };
         topics.walk.prefix = 0;
         topics.walk.root = found;
-        topics.walk.index = 512;
+        topics.walk.index = ENTRIES;
     }
     if is_word_of(Area::Slots, word) {
         let held = may_search(topics.stay, topics.hold);

@@ -91,7 +91,7 @@ read_found : (h : Header) (who : List ℕ) (rest : List (List ℕ)) (p : Actor �
 unfolding read_form
 read_found h who (x ∷ []) p e = access_found h who x (who ∷ codes "read" ∷ x ∷ []) p _ e (λ i gfn word name known s low small e1.
     let same : (Vcpu i, Access gfn word Read) ≡ p = cc in
-    subst (IsPairSaid h (who ∷ codes "read" ∷ x ∷ [])) same ((known, low, small), (x, rw name refl, s)))
+    subst (IsPairSaid h (who ∷ codes "read" ∷ x ∷ [])) same ((known, low, small, tt), (x, rw name refl, s)))
 read_found h who [] p e = absurd (let no : ⊥ = cc in no)
 read_found h who (x ∷ y ∷ more) p e = absurd (let no : ⊥ = cc in no)
 
@@ -100,8 +100,9 @@ write_found : (h : Header) (who : List ℕ) (rest : List (List ℕ)) (p : Actor 
 unfolding write_form
 write_found h who (x ∷ y ∷ []) p e = access_found h who x (who ∷ codes "write" ∷ x ∷ y ∷ []) p _ e (λ i gfn word name known s low small e1.
     then_ok (number y) _ p e1 (λ k is_k e2.
+    let spelled = number_found y k is_k in
     let same : (Vcpu i, Access gfn word (Write k)) ≡ p = cc in
-    subst (IsPairSaid h (who ∷ codes "write" ∷ x ∷ y ∷ [])) same ((known, low, small), (x, y, rw name refl, s, number_found y k is_k))))
+    subst (IsPairSaid h (who ∷ codes "write" ∷ x ∷ y ∷ [])) same ((known, low, small, spelled.0), (x, y, rw name refl, s, spelled))))
 write_found h who [] p e = absurd (let no : ⊥ = cc in no)
 write_found h who (x ∷ []) p e = absurd (let no : ⊥ = cc in no)
 write_found h who (x ∷ y ∷ v ∷ more) p e = absurd (let no : ⊥ = cc in no)
@@ -111,8 +112,9 @@ add_found : (h : Header) (who : List ℕ) (rest : List (List ℕ)) (p : Actor ×
 unfolding add_form
 add_found h who (x ∷ y ∷ []) p e = access_found h who x (who ∷ codes "add" ∷ x ∷ y ∷ []) p _ e (λ i gfn word name known s low small e1.
     then_ok (number y) _ p e1 (λ k is_k e2.
+    let spelled = number_found y k is_k in
     let same : (Vcpu i, Access gfn word (Add k)) ≡ p = cc in
-    subst (IsPairSaid h (who ∷ codes "add" ∷ x ∷ y ∷ [])) same ((known, low, small), (x, y, rw name refl, s, number_found y k is_k))))
+    subst (IsPairSaid h (who ∷ codes "add" ∷ x ∷ y ∷ [])) same ((known, low, small, spelled.0), (x, y, rw name refl, s, spelled))))
 add_found h who [] p e = absurd (let no : ⊥ = cc in no)
 add_found h who (x ∷ []) p e = absurd (let no : ⊥ = cc in no)
 add_found h who (x ∷ y ∷ v ∷ more) p e = absurd (let no : ⊥ = cc in no)
@@ -134,11 +136,11 @@ pub access_reads : (h : Header) (words : List (List ℕ)) (i gfn word : ℕ) (op
     → IsCommandOf h (Vcpu i) (Access gfn word op) → AreCommandWords words (Vcpu i) (Access gfn word op)
     → by_form h words ≡ Ok (Vcpu i, Access gfn word op)
 unfolding by_form by_command read_form write_form add_form
-access_reads h words i gfn word Read vcpus few (known, low, small) (x, e, s) =
+access_reads h words i gfn word Read vcpus few (known, low, small, fits) (x, e, s) =
     rw (e, vcpu_named h i known vcpus, address_spelled h x gfn word s low small few) refl
-access_reads h words i gfn word (Write v) vcpus few (known, low, small) (x, y, e, s, t) =
+access_reads h words i gfn word (Write v) vcpus few (known, low, small, fits) (x, y, e, s, t) =
     rw (e, vcpu_named h i known vcpus, address_spelled h x gfn word s low small few, number_spelled y v t) refl
-access_reads h words i gfn word (Add v) vcpus few (known, low, small) (x, y, e, s, t) =
+access_reads h words i gfn word (Add v) vcpus few (known, low, small, fits) (x, y, e, s, t) =
     rw (e, vcpu_named h i known vcpus, address_spelled h x gfn word s low small few, number_spelled y v t) refl
 
 -- They are of its form, and words.

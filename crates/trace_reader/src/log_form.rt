@@ -11,11 +11,8 @@ use crate::Reason;
 use crate::form::{is, number_of};
 use crate::number::number;
 use crate::refusal::ReadError;
-use core_views::{Actor, Command, Words};
+use core_views::{Actor, Command, WORD_PAGES, Words};
 use std::alloc::Global;
-
-/// Pages of a word of a dirty log.
-const WORD_PAGES: u64 = 64;
 
 // The slot's ID, where it is the only word after the command's.
 #[tactic(auto, unfolding(crate::specs::Forms::id_form))]

@@ -13,7 +13,7 @@ use Rattle.core_views.specs.Lawful.{IsAllowed, IsLawful, Reaches}
 use Rattle.core_views.specs.Memory.{word_after_op}
 use Rattle.core_views.specs.Slots.{is_some_and, page_behind}
 use Rattle.core_views.specs.SlotSets.{flat_slots}
-use Rattle.word_laws.specs.Words.{HasNext, Touches, is_on, leaves, left_by, op_on}
+use Rattle.word_laws.specs.Words.{HasNext, Touches, is_on, only_reads, left_by, op_on}
 use Rattle.word_laws.proofs.WordOps.{left_after, left_after_all, left_by_reads}
 
 -- What comes after the front of a lawful history is lawful in the state that the front leads to.
@@ -75,7 +75,7 @@ next_finds z f history page word op found ops next_op next_found lawful N =
     (found_is z page word start N.access (N.between ++ (N.next ∷ N.later)) op found lawful_from N.touches)
 
 pub own_found : (z : Sizes) (f : Flat) (history : List Event) (page word : ℕ) (op : Op) (found : ℕ) (ops : List Op) (next_op : Op) (next_found : ℕ)
-    → IsLawful z f history → HasNext page word f history op found ops next_op next_found → All (λ x. leaves x ≡ true) ops
+    → IsLawful z f history → HasNext page word f history op found ops next_op next_found → All (λ x. only_reads x ≡ true) ops
     → next_found ≡ word_after_op op found
 own_found z f history page word op found ops next_op next_found lawful N reads =
     next_finds z f history page word op found ops next_op next_found lawful N ∙ left_by_reads ops (word_after_op op found) reads

@@ -15,7 +15,7 @@ use Rattle.core_views.specs.Flat.{Facts, Flat}
 use Rattle.core_views.specs.Memory.{Memory, word_after_op}
 use Rattle.core_views.specs.Slots.{is_some_and, page_behind}
 use Rattle.core_views.specs.SlotSets.{flat_slots}
-use Rattle.word_laws.specs.Words.{added_by, leaves, left_by, op_on, ops_on, stores}
+use Rattle.word_laws.specs.Words.{added_by, only_reads, left_by, op_on, ops_on, stores}
 
 left_append : (front back : List Op) (x : ℕ) → left_by (front ++ back) x ≡ left_by back (left_by front x)
 left_append [] back x = refl
@@ -61,13 +61,13 @@ left_after_all page word (e ∷ es) f =
 -- ---- what operations of one sort leave
 
 -- Operations that leave the word as it is do so one after another.
-pub left_by_reads : (ops : List Op) (x : ℕ) → All (λ op. leaves op ≡ true) ops → left_by ops x ≡ x
+pub left_by_reads : (ops : List Op) (x : ℕ) → All (λ op. only_reads op ≡ true) ops → left_by ops x ≡ x
 left_by_reads [] x are = refl
 left_by_reads (op ∷ ops) x are =
-    ap (λ (y : ℕ). left_by ops y) (is_read op (All-head (λ o. leaves o ≡ true) op ops are))
-    ∙ left_by_reads ops x (All-tail (λ o. leaves o ≡ true) op ops are)
+    ap (λ (y : ℕ). left_by ops y) (is_read op (All-head (λ o. only_reads o ≡ true) op ops are))
+    ∙ left_by_reads ops x (All-tail (λ o. only_reads o ≡ true) op ops are)
   where
-    is_read : (o : Op) → leaves o ≡ true → word_after_op o x ≡ x
+    is_read : (o : Op) → only_reads o ≡ true → word_after_op o x ≡ x
     is_read Read leaves_ = refl
     is_read (Write y) leaves_ = absurd (cc leaves_)
     is_read (Add y) leaves_ = absurd (cc leaves_)

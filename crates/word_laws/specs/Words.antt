@@ -44,9 +44,9 @@ stores (Write x) = true
 stores _ = false
 
 -- The operation leaves the word as it is.
-abbrev pub leaves : Op → Bool
-leaves Read = true
-leaves _ = false
+abbrev pub only_reads : Op → Bool
+only_reads Read = true
+only_reads _ = false
 
 -- A word holds after a history what it held before, as each access of it changed that, in the order of the history.
 abbrev pub WordsHoldWhatIsLeft : Type 0
@@ -89,5 +89,5 @@ AccessesFindWhatWasLeft =
 -- In such a history it finds just what the earlier one left, where nobody wrote or added since. So a read of an actor gives what the actor wrote itself.
 abbrev pub OwnIsFound : Type 0
 OwnIsFound = (z : Sizes) (f : Flat) (history : List Event) (page word : ℕ) (op : Op) (found : ℕ) (ops : List Op) (next_op : Op) (next_found : ℕ)
-    → IsLawful z f history → HasNext page word f history op found ops next_op next_found → All (λ x. leaves x ≡ true) ops
+    → IsLawful z f history → HasNext page word f history op found ops next_op next_found → All (λ x. only_reads x ≡ true) ops
     → next_found ≡ word_after_op op found

@@ -21,7 +21,7 @@ use Rattle.part_steps.specs.PartTasks.{part_kind}
 use Rattle.part_steps.specs.PartSteps.{GoesOnToWord, PartNeeds}
 use Rattle.part_steps.specs.PartTopics.{part_topics}
 use Rattle.mmu_core.specs.invariant.Scans.{FindsNoneFree, LoadsMap, OwnsNone}
-use Rattle.mmu_core.specs.lines.ClaimSteps.{FreeMap, Pages, Frames, claim_over, load_part, map_area, map_words}
+use Rattle.mmu_core.specs.orders.ClaimSteps.{FreeMap, Pages, Frames, claim_over, load_part, map_area, map_words}
 use Rattle.mmu_core.specs.machine.Steps.{has_line, next, next_by, nobody}
 use Rattle.part_steps.specs.Tasks.{map_of}
 use Rattle.part_steps.specs.PageTopics.{is_won, tried, unseen}

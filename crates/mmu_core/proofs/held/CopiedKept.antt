@@ -36,9 +36,9 @@ use Rattle.mmu_core.specs.invariant.FramesPart.{CopiedPart, IsCopied}
 use Rattle.mmu_core.specs.invariant.Invariant.{Invariant, KnowsPart}
 use Rattle.mmu_core.specs.invariant.InvalidatedPart.{IsApart, SlotGives, may_use}
 use Rattle.mmu_core.specs.invariant.TopicsInvariant.{TopicsInvariant}
-use Rattle.mmu_core.specs.lines.AccessKnows.{AccessKnows}
-use Rattle.mmu_core.specs.lines.AccessSteps.{task_by, touch_of}
-use Rattle.mmu_core.specs.lines.Cached.{frame_used}
+use Rattle.mmu_core.specs.forms.access.AccessKnows.{AccessKnows}
+use Rattle.mmu_core.specs.forms.access.AccessSteps.{task_by, touch_of}
+use Rattle.mmu_core.specs.forms.access.Cached.{frame_used}
 use Rattle.mmu_core.specs.lines.Forms.{note_at, part_at}
 use Rattle.mmu_core.specs.lines.PartAt.{task_at, touch_at}
 use Rattle.mmu_core.specs.machine.Steps.{idle_after}
@@ -50,8 +50,8 @@ use Rattle.mmu_core.proofs.held.FlushSteps.{FlushAt}
 use Rattle.mmu_core.proofs.held.FreshFrames.{behind_it}
 use Rattle.mmu_core.proofs.held.UsableKept.{UsableAt, used_agrees, vcpu_below}
 use Rattle.mmu_core.proofs.invariant.Kept.{makes_at}
-use Rattle.mmu_core.proofs.lines.AccessParts.{AreSmall}
-use Rattle.mmu_core.proofs.lines.CachedKept.{used_covers}
+use Rattle.mmu_core.proofs.forms.access.AccessParts.{AreSmall}
+use Rattle.mmu_core.proofs.forms.access.CachedKept.{used_covers}
 use Rattle.mmu_core.proofs.lines.KnowsKept.{step_knows, step_leaves}
 use Rattle.mmu_core.proofs.words.HostFrames.{leaf_maps}
 use Rattle.mmu_core.proofs.machine.PartStepping.{IsPart}
@@ -60,7 +60,7 @@ use Rattle.mmu_core.proofs.machine.SumsBelow.{column}
 use Rattle.mmu_core.proofs.machine.Which.{has_line_is}
 use Rattle.mmu_core.proofs.pages.CopiedWords.{FrameStays, copied_stays, none_copied, stored_elsewhere}
 use Rattle.mmu_core.proofs.pages.FrameUses.{frames_apart, owned_of_no_page}
-use Rattle.mmu_core.proofs.held.MovingPlaces.{CopiesAt, copies_at, movers, moving_left, moving_step}
+use Rattle.mmu_core.proofs.forms.host.MovingPlaces.{CopiesAt, copies_at, movers, moving_left, moving_step}
 
 -- ---- a touch
 

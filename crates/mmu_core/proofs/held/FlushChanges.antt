@@ -18,7 +18,7 @@ use Rattle.part_steps.specs.PartTasks.{all_but}
 use Rattle.part_steps.specs.StayTopics.{no_flush}
 use Rattle.mmu_core.specs.invariant.InvalidatedPart.{IsApart, IsClean, IsFlushed, may_use}
 use Rattle.mmu_core.specs.invariant.StatesPart.{stay_bits}
-use Rattle.mmu_core.specs.lines.Cached.{asks_flush, flushed_by}
+use Rattle.mmu_core.specs.forms.access.Cached.{asks_flush, flushed_by}
 use Rattle.mmu_core.proofs.machine.Columns.{same_or}
 
 -- ---- Bit 2 of a state word.

@@ -24,7 +24,7 @@ use Rattle.mmu_core.specs.invariant.InvalidatedPart.{FlushPart, IsClean, IsFlush
 use Rattle.mmu_core.proofs.held.KeptEmpty.{empty_open, given_empty, published_none}
 use Rattle.mmu_core.specs.invariant.StatesPart.{stay_bits}
 use Rattle.mmu_core.specs.invariant.TopicsInvariant.{TopicsInvariant}
-use Rattle.mmu_core.specs.lines.Cached.{asks_flush, flushed}
+use Rattle.mmu_core.specs.forms.access.Cached.{asks_flush, flushed}
 use Rattle.mmu_core.specs.machine.View.{View, answer_in, upd, words_after}
 use Rattle.mmu_core.proofs.held.FlushChanges.{asked_word, begun_asks, ended_asks, left_asks}
 use Rattle.mmu_core.proofs.held.FlushChanges.{asked_on, awaited_on, cached_more, entered, goes, requested, unasked}

@@ -6,7 +6,7 @@ use Rattle.core_views.specs.declared.sizes.Sizes.{Sizes}
 use Rattle.core_views.specs.declared.topics.Hold.{Hold}
 use Rattle.core_views.specs.declared.topics.Hold.TheVariants.{Exclusive}
 use Rattle.core_views.specs.declared.topics.Stay.{Stay}
-use Rattle.core_views.specs.declared.topics.Stay.TheVariants.{Section}
+use Rattle.core_views.specs.declared.topics.Stay.TheVariants.{Guest, Outside, Section}
 use Rattle.core_views.specs.declared.topics.Topics.{Topics}
 use Rattle.core_views.specs.Held.{Held}
 use Rattle.core_views.specs.Sizes.{actors_of}
@@ -16,7 +16,7 @@ use Rattle.part_steps.specs.PartHoldings.{next_watched}
 use Rattle.part_steps.specs.PartTasks.{own_index}
 use Rattle.mmu_core.specs.invariant.StatesPart.{stay_bits}
 use Rattle.mmu_core.specs.invariant.TopicsInvariant.{TopicsInvariant}
-use Rattle.part_steps.specs.StayTopics.{may_search, is_alone}
+use Rattle.part_steps.specs.StayTopics.{may_search, is_alone, is_outside}
 use Rattle.part_steps.specs.ControlBits.{in_section}
 use Rattle.mmu_core.specs.machine.View.{View}
 use Rattle.mmu_core.proofs.machine.Columns.{same_or}
@@ -52,7 +52,7 @@ holder_in_section z v a i k there lt ne I alone held =
     by true e = e
     by false e = absurd (let none = (I.held i lt).no_set e in cc (held, none))
 
--- ---- A watch comes past nobody who is in a section.
+-- ---- A watch comes past nobody who is in the guest or in a section.
 
 next_before : (own w i : ℕ) → w ≤ i → i ≢ own → next_watched own w ≤ i
 next_before own w i le ne = by (w == own) (λ e. grind (arith, nat_tests))
@@ -61,8 +61,10 @@ next_before own w i le ne = by (w == own) (λ e. grind (arith, nat_tests))
     by true is = let e = is refl in omega (arith, le, ne, e)
     by false is = le
 
-section_shows : (x : ℕ) → x < 8 → x % 4 ≡ 2 → in_section x ≡ true
-section_shows x lt is = grind (arith, nat_tests)
+inside_shows : (stay : Stay) (x : ℕ) → x < 8 → x % 4 ≡ stay_bits stay → is_outside stay ≡ false → in_section x ≡ true
+inside_shows Guest x lt is inside = grind (arith, nat_tests)
+inside_shows Section x lt is inside = grind (arith, nat_tests)
+inside_shows Outside x lt is inside = absurd (cc inside)
 
 passed_not : (b : Bool) (index i : ℕ) → index ≤ i → (index ≡ i → b ≡ true) → index + (if b then 0 else 1) ≤ i
 passed_not true index i le here = omega (arith, le)
@@ -72,13 +74,14 @@ passed_not false index i le here = by (same_or index i)
     by (inl e) = let is = here e in absurd (cc is)
     by (inr ne) = omega (arith, le, ne)
 
--- A watch passes nobody who is in a section.
-pub watch_passes_none : (z : Sizes) (v : View) (a index : ℕ) → IsPart z v a (part.Watch index) → TopicsInvariant z v → (i : ℕ) → i ≢ a → i < actors_of z
-    → (v.hand i).topics.stay ≡ Section → (v.hand a).topics.watched ≤ i → index + (if in_section (v.words area.State index) then 0 else 1) ≤ i
-watch_passes_none z v a index S I i ne lt section unwatched =
+-- A watch passes nobody who is in the guest or in a section.
+pub watch_passes_nobody : (z : Sizes) (v : View) (a index : ℕ) → IsPart z v a (part.Watch index) → TopicsInvariant z v → (i : ℕ) → i ≢ a → i < actors_of z
+    → is_outside (v.hand i).topics.stay ≡ false → (v.hand a).topics.watched ≤ i
+    → index + (if in_section (v.words area.State index) then 0 else 1) ≤ i
+watch_passes_nobody z v a index S I i ne lt inside unwatched =
     let W = I.states_part i lt in
     passed_not (in_section (v.words area.State index)) index i (reached S.needs.2)
-    (λ same. ap (λ j. in_section (v.words area.State j)) same ∙ section_shows (v.words area.State i) W.0 (W.1 ∙ ap stay_bits section))
+    (λ same. ap (λ j. in_section (v.words area.State j)) same ∙ inside_shows (v.hand i).topics.stay (v.words area.State i) W.0 W.1 inside)
   where
     own : ℕ
     own = own_index (v.hand a)
@@ -93,6 +96,10 @@ watch_passes_none z v a index S I i ne lt section unwatched =
     reached : (index ≡ next_watched own 0) ⊎ (index ≡ next_watched own (v.hand a).topics.watched) → index ≤ i
     reached (inl e) = by 0 (omega arith) e
     reached (inr e) = by (v.hand a).topics.watched unwatched e
+
+pub watch_passes_none : (z : Sizes) (v : View) (a index : ℕ) → IsPart z v a (part.Watch index) → TopicsInvariant z v → (i : ℕ) → i ≢ a → i < actors_of z
+    → (v.hand i).topics.stay ≡ Section → (v.hand a).topics.watched ≤ i → index + (if in_section (v.words area.State index) then 0 else 1) ≤ i
+watch_passes_none z v a index S I i ne lt section unwatched = watch_passes_nobody z v a index S I i ne lt (ap is_outside section) unwatched
 
 -- Who has watched all others has passed each of them.
 pub all_passed : (z : Sizes) (h : Held) (a i : ℕ) → h.state.sizes ≡ z → own_index h ≡ a → actors_of h.state.sizes ≤ next_watched (own_index h) h.topics.watched

@@ -5,7 +5,7 @@ use Rattle.core_views.specs.declared.topics.OwnedPage.{OwnedPage}
 use Rattle.core_views.specs.declared.topics.Topics.{Topics}
 use Rattle.part_steps.specs.PageTopics.{given_back, still_retired}
 use Rattle.mmu_core.specs.invariant.InvalidatedPart.{keeps_empty}
-use Rattle.mmu_core.proofs.lines.FaultSame.{both}
+use Rattle.mmu_core.proofs.forms.access.FaultSame.{both}
 
 pub empty_open : (t : Topics) → keeps_empty t ≡ true → t.invalidations.opened ≡ true
 empty_open t is = (both t.invalidations.opened (is_some t.invalidations.own.page || not (is_some t.retired)) is).0

@@ -128,7 +128,7 @@ exclude_kept z v a note S I = here (eqb_tells (v.words area.Lock 0) 0)
 release_kept : (z : Sizes) (v : View) (a note : ℕ) → LockBehind z v a note part.Release
 release_kept z v a note S I =
     subst (λ w. LockPart (actors_of z) w (λ i. ((part_behind a part.Release note v).hand i).topics.hold)) (sym (and_mask (v.words area.Lock 0) 63))
-    (release (actors_of z) (v.words area.Lock 0) _ _ I.lock_part (moved z v.hand a _ Exclusive Loose S.is_sizes S.there S.needs refl))
+    (release (actors_of z) (v.words area.Lock 0) _ _ I.lock_part (moved z v.hand a _ Exclusive Loose S.is_sizes S.there S.needs.alone refl))
 
 lock_behind : (z : Sizes) (v : View) (a note : ℕ) (step : PartStep) → LockBehind z v a note step
 lock_behind z v a note part.Share = share_kept z v a note

@@ -56,11 +56,11 @@ dropped_look : (drops : Bool) (host : Option HostLook) (stay : Stay) (k : ℕ) �
 dropped_look true host stay k e = absurd (cc e)
 dropped_look false host stay k e = e
 
-copied_number : (o : Option OwnedFrame) (v : ℕ) → number_owned (word_copied o v) ≡ number_owned o
+pub copied_number : (o : Option OwnedFrame) (v : ℕ) → number_owned (word_copied o v) ≡ number_owned o
 copied_number None v = refl
 copied_number (Some o) v = refl
 
-stored_number : (o : Option OwnedFrame) → number_owned (word_stored o) ≡ number_owned o
+pub stored_number : (o : Option OwnedFrame) → number_owned (word_stored o) ≡ number_owned o
 stored_number None = refl
 stored_number (Some o) = refl
 
@@ -82,7 +82,7 @@ module _ (z : Sizes) (v : View) (a : ℕ) (h : Held) (I : TopicsInvariant z v) w
 -- ---- A host word is exchanged.
 
 -- What becomes of the page's frame and of the one that is owned: they stay, or each of them is the other's, and nobody was watched since.
-abbrev Turns : ℕ → ℕ → Option ℕ → Option ℕ → ℕ → Type 0
+abbrev pub Turns : ℕ → ℕ → Option ℕ → Option ℕ → ℕ → Type 0
 Turns old now_ had has watched = ((now_ ≡ old) × (has ≡ had)) ⊎ ((has ≡ Some old) × (had ≡ Some now_) × (watched ≡ 0))
 
 -- The actor has looked at the page that it exchanged, which has this word then.
@@ -141,7 +141,7 @@ brought_looked z v a note S I =
     ))
 
 -- The frame of a page that is moved is owned by who moves it, and the one that this has owned is the page's.
-changed_turns : (z : Sizes) (v : View) (a new_ : ℕ) → IsPart z v a (part.Change new_) → (x : Option OwnedFrame) (won : Bool)
+pub changed_turns : (z : Sizes) (v : View) (a new_ : ℕ) → IsPart z v a (part.Change new_) → (x : Option OwnedFrame) (won : Bool)
     → (v.hand a).topics.frames.owned ≡ x
     → (won ≡ true → v.words area.Host (page_looked (v.hand a).topics.host) ≡ word_looked (v.hand a).topics.host)
     → Turns (host_frame (v.words area.Host (page_looked (v.hand a).topics.host)))

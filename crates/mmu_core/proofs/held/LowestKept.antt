@@ -35,14 +35,14 @@ use Rattle.mmu_core.specs.invariant.Invariant.{Invariant, KnowsPart}
 use Rattle.mmu_core.specs.invariant.LowestPart.{AreLowest, IsLowest, LeafIsLowest, LowestPart}
 use Rattle.mmu_core.specs.invariant.TopicsInvariant.{TopicsInvariant}
 use Rattle.mmu_core.specs.invariant.TreePart.{Position, at, is_table, stands}
-use Rattle.mmu_core.specs.lines.AccessKnows.{AccessKnows}
-use Rattle.mmu_core.specs.lines.AccessSteps.{access_caches, access_task, is_found}
-use Rattle.mmu_core.specs.lines.Cached.{with_leaf}
-use Rattle.mmu_core.specs.lines.FaultSteps.{allows_access}
+use Rattle.mmu_core.specs.forms.access.AccessKnows.{AccessKnows}
+use Rattle.mmu_core.specs.forms.access.AccessSteps.{access_caches, access_task, is_found}
+use Rattle.mmu_core.specs.forms.access.Cached.{with_leaf}
+use Rattle.mmu_core.specs.forms.access.FaultSteps.{allows_access}
 use Rattle.mmu_core.specs.lines.Forms.{caches_at}
 use Rattle.mmu_core.specs.machine.Steps.{idle_after, task_at}
 use Rattle.mmu_core.specs.machine.View.{View, answer_in, hand_after, part_stepped, stepped, upd}
-use Rattle.mmu_core.proofs.lines.CachedKept.{flushed_kept, found_is_leaf, with_leaf_all}
+use Rattle.mmu_core.proofs.forms.access.CachedKept.{flushed_kept, found_is_leaf, with_leaf_all}
 use Rattle.mmu_core.proofs.lines.KnowsKept.{step_knows}
 use Rattle.mmu_core.proofs.machine.Columns.{at_upd}
 use Rattle.mmu_core.proofs.machine.PartStepping.{IsPart}

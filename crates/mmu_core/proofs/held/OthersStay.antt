@@ -10,8 +10,8 @@ use Rattle.core_views.specs.Sizes.{actors_of}
 use Rattle.spte_words.specs.declared.area.Area.TheVariants as area
 use Rattle.spte_words.specs.Areas.{content_index}
 use Rattle.part_steps.specs.declared.part_step.PartStep.{PartStep}
-use Rattle.mmu_core.specs.lines.Cached.{frame_used}
-use Rattle.mmu_core.specs.lines.AccessSteps.{access_note, access_part, access_task, task_by, touch_of}
+use Rattle.mmu_core.specs.forms.access.Cached.{frame_used}
+use Rattle.mmu_core.specs.forms.access.AccessSteps.{access_note, access_part, access_task, task_by, touch_of}
 use Rattle.part_steps.specs.PartTasks.{own_index, part_task}
 use Rattle.part_steps.specs.Tasks.{kind_of_task, map_of}
 use Rattle.mmu_core.specs.invariant.TopicsInvariant.{TopicsInvariant}

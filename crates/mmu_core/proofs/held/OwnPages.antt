@@ -16,7 +16,7 @@ use Rattle.part_steps.specs.PartTasks.{page_looked}
 use Rattle.mmu_core.specs.invariant.HostWordsPart.{IsStill, owns_page}
 use Rattle.mmu_core.specs.invariant.TopicsInvariant.{TopicsInvariant}
 use Rattle.mmu_core.specs.machine.View.{View}
-use Rattle.mmu_core.proofs.lines.FaultSame.{both}
+use Rattle.mmu_core.proofs.forms.access.FaultSame.{both}
 use Rattle.mmu_core.proofs.machine.PartStepping.{IsPart}
 
 -- A page that is an actor's own is owned at the actor's place.

@@ -19,7 +19,7 @@ use Rattle.mmu_core.specs.machine.Enabled.{mmu}
 use Rattle.mmu_core.specs.invariant.Laws.{IsSound}
 use Rattle.mmu_core.specs.machine.Machine.{Legal, May, Step, World, answered, effect, hand_in, run}
 use Rattle.mmu_core.specs.invariant.Scans.{ClaimsScanOnce, ClaimsSeeEachWord, EndsWithScan, FindsNoneFree, LoadsMap, OwnsNone, SawNoneFree}
-use Rattle.mmu_core.specs.lines.ClaimSteps.{FreeMap, Pages, Frames, claim_over, map_area, map_words}
+use Rattle.mmu_core.specs.orders.ClaimSteps.{FreeMap, Pages, Frames, claim_over, map_area, map_words}
 use Rattle.part_steps.specs.Tasks.{map_of}
 use Rattle.part_steps.specs.TopicSteps.{topics_after}
 use Rattle.mmu_core.proofs.machine.Columns.{same_or}
@@ -28,7 +28,7 @@ use Rattle.mmu_core.proofs.machine.LineRuns.{own_hand}
 use Rattle.mmu_core.proofs.start.Starts.{start_good}
 use Rattle.mmu_core.proofs.start.StartWords.{hand_is}
 use Rattle.mmu_core.proofs.machine.Worlds.{good_step}
-use Rattle.mmu_core.proofs.lines.ClaimMade.{words_there}
+use Rattle.mmu_core.proofs.orders.ClaimMade.{words_there}
 use Rattle.mmu_core.proofs.held.ClaimGoes.{loaded_first, next_topics, at_in, GoesTo, goes, first_owns_none}
 
 -- ---- scans, a step longer

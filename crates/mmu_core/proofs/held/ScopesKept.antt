@@ -36,7 +36,7 @@ use Rattle.mmu_core.proofs.words.PartWords.{slots_are, slots_same}
 use Rattle.part_steps.specs.StayTopics.{has_lock}
 use Rattle.part_steps.specs.PartTopics.{part_topics}
 use Rattle.part_steps.specs.PartTasks.{part_task}
-use Rattle.mmu_core.proofs.lines.FaultSame.{both}
+use Rattle.mmu_core.proofs.forms.access.FaultSame.{both}
 
 -- Where the same slots are live, it is of the same frames.
 same_scope : (before after : ℕ → ℕ) (set other page : ℕ) (own_ : Invalidated) → StayLive before set after other → StayLive after other before set

@@ -11,7 +11,7 @@ use Rattle.core_views.specs.Held.{Held}
 use Rattle.core_views.specs.Sizes.{actors_of}
 use Rattle.part_steps.specs.declared.task.Task.{Task}
 use Rattle.part_steps.specs.declared.part_step.PartStep.{PartStep}
-use Rattle.mmu_core.specs.lines.AccessSteps.{touch_of}
+use Rattle.mmu_core.specs.forms.access.AccessSteps.{touch_of}
 use Rattle.mmu_core.specs.invariant.Invariant.{Invariant}
 use Rattle.mmu_core.specs.invariant.LowestPart.{AreLowest}
 use Rattle.mmu_core.specs.machine.Steps.{idle_after, task_at}
@@ -19,7 +19,7 @@ use Rattle.part_steps.specs.Tasks.{kind_of_task}
 use Rattle.part_steps.specs.TopicSteps.{topics_after}
 use Rattle.mmu_core.specs.invariant.TopicsInvariant.{TopicsInvariant}
 use Rattle.mmu_core.specs.machine.View.{View, answer_in, hand_after, part_stepped, stepped, upd, words_after}
-use Rattle.mmu_core.proofs.lines.AccessParts.{AreSmall}
+use Rattle.mmu_core.proofs.forms.access.AccessParts.{AreSmall}
 use Rattle.mmu_core.proofs.pages.FilledKept.{filled_kept}
 use Rattle.mmu_core.proofs.pages.FramesKept.{frames_kept, use_after}
 use Rattle.mmu_core.proofs.held.CountersKept.{counters_kept}

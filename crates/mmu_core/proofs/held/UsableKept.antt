@@ -37,9 +37,9 @@ use Rattle.mmu_core.specs.invariant.CachedPart.{IsLeafFor, IsTranslationFor}
 use Rattle.mmu_core.specs.invariant.Invariant.{Invariant}
 use Rattle.mmu_core.specs.invariant.InvalidatedPart.{may_use}
 use Rattle.mmu_core.specs.invariant.TopicsInvariant.{TopicsInvariant}
-use Rattle.mmu_core.specs.lines.AccessSteps.{access_caches, access_task, is_found, touch_of}
-use Rattle.mmu_core.specs.lines.Cached.{UsesTranslation, flushed, with_leaf}
-use Rattle.mmu_core.specs.lines.FaultSteps.{allows_access}
+use Rattle.mmu_core.specs.forms.access.AccessSteps.{access_caches, access_task, is_found, touch_of}
+use Rattle.mmu_core.specs.forms.access.Cached.{UsesTranslation, flushed, with_leaf}
+use Rattle.mmu_core.specs.forms.access.FaultSteps.{allows_access}
 use Rattle.mmu_core.specs.lines.Forms.{caches_at}
 use Rattle.mmu_core.specs.lines.PartAt.{task_at}
 use Rattle.mmu_core.specs.machine.View.{View, answer_in, hand_after, part_stepped, stepped, upd, words_after}
@@ -49,8 +49,8 @@ use Rattle.mmu_core.proofs.held.UsableSteps.{Agrees, Caches, has_cached, part_us
 pub use Rattle.mmu_core.proofs.held.UsableSteps.{UsableAt}
 use Rattle.mmu_core.proofs.invariant.Kept.{makes_at}
 use Rattle.mmu_core.proofs.invariant.QuietKept.{MakesAt}
-use Rattle.mmu_core.proofs.lines.AccessParts.{AreSmall}
-use Rattle.mmu_core.proofs.lines.CachedKept.{found_is_leaf, leaf_found, used_covers, with_leaf_all}
+use Rattle.mmu_core.proofs.forms.access.AccessParts.{AreSmall}
+use Rattle.mmu_core.proofs.forms.access.CachedKept.{found_is_leaf, leaf_found, used_covers, with_leaf_all}
 use Rattle.mmu_core.proofs.lines.StepIn.{StepIn, Makes, Touches, step_of}
 use Rattle.mmu_core.proofs.machine.PartStepping.{IsPart}
 use Rattle.mmu_core.proofs.machine.Stepping.{IsStep}

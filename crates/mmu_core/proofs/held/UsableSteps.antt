@@ -30,7 +30,7 @@ use Rattle.mmu_core.specs.invariant.CachedPart.{AgreePart, IsLeafFor, IsTranslat
 use Rattle.mmu_core.specs.invariant.InvalidatedPart.{SlotGives, IsClean, IsIn, IsOfPage, UsablePart, may_use}
 use Rattle.mmu_core.specs.invariant.SlotSetPart.{IsLiveIn}
 use Rattle.mmu_core.specs.invariant.TopicsInvariant.{TopicsInvariant}
-use Rattle.mmu_core.specs.lines.Cached.{asks_flush, flushed, flushed_by}
+use Rattle.mmu_core.specs.forms.access.Cached.{asks_flush, flushed, flushed_by}
 use Rattle.mmu_core.specs.machine.View.{View, answer_in, part_stepped, upd, words_after}
 use Rattle.mmu_core.proofs.held.KeptEmpty.{page_empty, slot_empty}
 use Rattle.mmu_core.proofs.held.FlushChanges.{begun_asks, cached_more, ended_asks, left_asks, none_asked, used_asked, used_gone}

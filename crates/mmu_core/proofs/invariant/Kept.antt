@@ -1,12 +1,12 @@
 -- The step of a line, by its form: a step of a part is one that its actor may make, and the invariant holds after it.
-use Rattle.mmu_core.proofs.lines.HostMakes.{makes_host}
-use Rattle.mmu_core.specs.lines.HostSteps.{host_part}
-use Rattle.mmu_core.proofs.lines.HostKept.{own_host, host_kept}
-use Rattle.mmu_core.proofs.lines.LogKept.{own_log, log_kept}
-use Rattle.mmu_core.proofs.lines.LogMakes.{log_fits, log_rests, makes_log}
-use Rattle.mmu_core.specs.lines.LogSteps.{log_part, slot_asked}
+use Rattle.mmu_core.proofs.forms.host.HostMakes.{makes_host}
+use Rattle.mmu_core.specs.forms.host.HostSteps.{host_part}
+use Rattle.mmu_core.proofs.forms.host.HostKept.{own_host, host_kept}
+use Rattle.mmu_core.proofs.forms.log.LogKept.{own_log, log_kept}
+use Rattle.mmu_core.proofs.forms.log.LogMakes.{log_fits, log_rests, makes_log}
+use Rattle.mmu_core.specs.forms.log.LogSteps.{log_part, slot_asked}
 use Rattle.mmu_core.specs.invariant.SlotSetPart.{Fits}
-use Rattle.mmu_core.proofs.lines.HostNeeds.{host_needs}
+use Rattle.mmu_core.proofs.forms.host.HostNeeds.{host_needs}
 use Rattle.std.proofs.Common.{◌≡◌, ℕ, refl, subst, sym, ◌<◌}
 use Rattle.std.specs.Prelude.{Some}
 use Rattle.core_views.specs.declared.actor.Actor.TheVariants.{Manager}
@@ -19,19 +19,19 @@ use Rattle.core_views.specs.declared.trace.Command.TheVariants.{Access, ChangeHo
 use Rattle.core_views.specs.declared.trace.Line.{Line}
 use Rattle.core_views.specs.declared.place.SlotChangePlace.{SlotChangePlace}
 use Rattle.mmu_core.specs.lines.Forms.{outcome_at}
-use Rattle.mmu_core.specs.lines.SlotChangeSteps.{slot_change_part, slot_change_task}
+use Rattle.mmu_core.specs.forms.slot_change.SlotChangeSteps.{slot_change_part, slot_change_task}
 use Rattle.mmu_core.specs.invariant.Invariant.{Invariant, KnowsPart, RetiresPart, OwnLines}
 use Rattle.mmu_core.specs.invariant.TopicsInvariant.{TopicsInvariant}
 use Rattle.mmu_core.specs.machine.View.{View, stepped, hand_after, answer_in}
-use Rattle.mmu_core.proofs.lines.AccessKept.{access_kept}
+use Rattle.mmu_core.proofs.forms.access.AccessKept.{access_kept}
 use Rattle.mmu_core.proofs.lines.KnowsKept.{KnowsAfter, KnowsBehind, NeedsAt, access_vcpu, knows_after, own_access, step_knows, step_leaves}
 pub use Rattle.mmu_core.proofs.invariant.QuietKept.{MakesAt}
-use Rattle.mmu_core.proofs.slots.SlotChangeKept.{change_hand, slot_change_kept}
-use Rattle.mmu_core.proofs.slots.SlotChangeMakes.{change_needs, change_replaces, change_rests, change_said, own_slot_change}
-use Rattle.mmu_core.proofs.slots.SlotChangeKnown.{WordsSay}
+use Rattle.mmu_core.proofs.forms.slot_change.SlotChangeKept.{change_hand, slot_change_kept}
+use Rattle.mmu_core.proofs.forms.slot_change.SlotChangeMakes.{change_needs, change_replaces, change_rests, change_said, own_slot_change}
+use Rattle.mmu_core.proofs.forms.slot_change.SlotChangeKnown.{WordsSay}
 use Rattle.mmu_core.proofs.invariant.QuietHand.{one_step}
 use Rattle.mmu_core.proofs.machine.Stepping.{IsStep}
-use Rattle.mmu_core.proofs.lines.AccessParts.{AreSmall, makes_parts, may_make}
+use Rattle.mmu_core.proofs.forms.access.AccessParts.{AreSmall, makes_parts, may_make}
 use Rattle.mmu_core.proofs.machine.PartStepping.{IsPart}
 use Rattle.part_steps.specs.PartBounds.{PartRests}
 use Rattle.mmu_core.proofs.invariant.PartBounded.{part_rests_at}

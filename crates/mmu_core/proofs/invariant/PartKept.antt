@@ -15,7 +15,7 @@ use Rattle.mmu_core.specs.machine.Steps.{idle_after}
 use Rattle.part_steps.specs.Tasks.{kind_of_task}
 use Rattle.mmu_core.specs.invariant.TopicsInvariant.{TopicsInvariant}
 use Rattle.mmu_core.specs.machine.View.{View, answer_in, part_stepped, upd}
-use Rattle.mmu_core.proofs.lines.CachedKept.{flushed_kept}
+use Rattle.mmu_core.proofs.forms.access.CachedKept.{flushed_kept}
 use Rattle.std.proofs.Common.{◌≡◌, ℕ, sym, subst, ◌∙◌}
 use Rattle.std.specs.Prelude.{false}
 use Rattle.core_views.specs.declared.trace.Command.{Command}
@@ -30,7 +30,7 @@ use Rattle.mmu_core.proofs.machine.PartStepping.{IsPart, idle_never, is_publish,
 use Rattle.mmu_core.proofs.words.PartWords.{role_stays, slots_are, slots_other_role, slots_same}
 use Rattle.mmu_core.proofs.slots.SlotsStay.{AllKnow, hand_moved, is_live_was, record_stays}
 use Rattle.mmu_core.proofs.machine.Which.{has_line_is}
-use Rattle.mmu_core.proofs.lines.UsedTranslations.{flushed_room}
+use Rattle.mmu_core.proofs.forms.access.UsedTranslations.{flushed_room}
 use Rattle.mmu_core.specs.invariant.CachedPart.{FitsMachine}
 
 -- a hand with other topics, and with other translations in its cache

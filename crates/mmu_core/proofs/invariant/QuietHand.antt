@@ -18,13 +18,13 @@ use Rattle.part_steps.specs.TopicSteps.{topics_after}
 use Rattle.mmu_core.specs.declared.outcome.Outcome.{Outcome}
 use Rattle.mmu_core.specs.invariant.Invariant.{CachedPart, Holds, Invariant, RetiresPart}
 use Rattle.mmu_core.specs.invariant.TopicsInvariant.{TopicsInvariant}
-use Rattle.mmu_core.specs.lines.Cached.{flushed}
+use Rattle.mmu_core.specs.forms.access.Cached.{flushed}
 use Rattle.mmu_core.specs.lines.Forms.{RestsAt, caches_at, outcome_at, part_at, records_at}
 use Rattle.mmu_core.specs.lines.PartAt.{task_at}
 use Rattle.mmu_core.specs.machine.Outcomes.{place_after}
 use Rattle.mmu_core.specs.machine.View.{View, answer_in, stepped, words_after}
 use Rattle.mmu_core.proofs.invariant.QuietKept.{MakesAt, NeverPublishes, SetsStay, quiet_kept, sets_stay}
-use Rattle.mmu_core.proofs.lines.CachedKept.{flushed_kept}
+use Rattle.mmu_core.proofs.forms.access.CachedKept.{flushed_kept}
 use Rattle.mmu_core.proofs.machine.PartStepping.{behind_part}
 use Rattle.mmu_core.proofs.lines.StepTopics.{topics_of_step}
 use Rattle.mmu_core.proofs.machine.HandWith.{hand_with}

@@ -18,18 +18,18 @@ use Rattle.spte_words.specs.declared.area.Area.TheVariants as area
 use Rattle.part_steps.specs.declared.part_step.PartStep.{PartStep}
 use Rattle.part_steps.specs.declared.task.Task.{Task}
 use Rattle.part_steps.specs.Tasks.{kind_of_task, map_of}
-use Rattle.mmu_core.specs.lines.Cached.{frame_used}
+use Rattle.mmu_core.specs.forms.access.Cached.{frame_used}
 use Rattle.mmu_core.specs.declared.outcome.Outcome.{Outcome}
 use Rattle.mmu_core.specs.invariant.Invariant.{CachedPart, Holds, Invariant, InvariantOf, IsSetBy, RetiresPart, OwnLines, RecordPart}
 use Rattle.mmu_core.specs.invariant.TopicsInvariant.{TopicsInvariant}
-use Rattle.mmu_core.specs.lines.AccessSteps.{task_by, touch_of}
+use Rattle.mmu_core.specs.forms.access.AccessSteps.{task_by, touch_of}
 use Rattle.mmu_core.specs.lines.Forms.{note_at, part_at, caches_at, outcome_at, records_at}
 use Rattle.mmu_core.specs.lines.PartAt.{task_at, touch_at}
 use Rattle.mmu_core.specs.machine.Steps.{state_at}
 use Rattle.mmu_core.specs.machine.View.{View, answer_in, hand_after, stepped, upd, words_after}
 use Rattle.mmu_core.proofs.held.OthersStay.{owned_stays}
 use Rattle.mmu_core.proofs.lines.LinesKept.{lines_behind}
-use Rattle.mmu_core.proofs.lines.UsedTranslations.{flushed_room}
+use Rattle.mmu_core.proofs.forms.access.UsedTranslations.{flushed_room}
 use Rattle.mmu_core.proofs.machine.HandAfter.{IsSameState, loads_same}
 use Rattle.mmu_core.proofs.machine.PartStepping.{IsPart, is_publish}
 use Rattle.mmu_core.proofs.machine.Stepping.{IsStep}

@@ -21,7 +21,7 @@ use Rattle.core_views.specs.declared.trace.Command.{Command}
 use Rattle.core_views.specs.declared.trace.Command.TheVariants.{Access, ChangeHost}
 use Rattle.core_views.specs.declared.trace.Line.{Line}
 use Rattle.core_views.specs.declared.trace.Op.{Op}
-use Rattle.core_views.specs.declared.trace.Op.TheVariants.{Read}
+use Rattle.core_views.specs.declared.trace.Op.TheVariants.{Add, Read, Write}
 use Rattle.core_views.specs.Held.{Held}
 use Rattle.core_views.specs.Sizes.{actors_of}
 use Rattle.core_views.specs.Slots.{is_write}
@@ -31,9 +31,9 @@ use Rattle.spte_words.specs.Areas.{content_index, size_of}
 use Rattle.spte_words.proofs.Indices.{content_within}
 use Rattle.part_steps.specs.declared.part_step.PartStep.{PartStep}
 use Rattle.part_steps.specs.declared.part_step.PartStep.TheVariants as part
-use Rattle.mmu_core.specs.lines.Cached.{frame_used}
-use Rattle.mmu_core.specs.lines.AccessSteps.{access_part, touch_of}
-use Rattle.mmu_core.specs.lines.AccessKnows.{AccessKnows, RestsOn}
+use Rattle.mmu_core.specs.forms.access.Cached.{frame_used}
+use Rattle.mmu_core.specs.forms.access.AccessSteps.{access_part, touch_of}
+use Rattle.mmu_core.specs.forms.access.AccessKnows.{AccessKnows, RestsOn}
 use Rattle.part_steps.specs.PartBounds.{PartRests}
 use Rattle.part_steps.specs.PartTasks.{own_index}
 use Rattle.part_steps.specs.PartHoldings.{FoundSlot, IsFresh, LookedUp, MayEnter, next_watched}
@@ -58,8 +58,8 @@ use Rattle.part_steps.specs.declared.task.Task.{Task}
 use Rattle.mmu_core.proofs.lines.Forms.{RestsOnPart, accepts_at, accepts_at_prop, other_rests}
 use Rattle.mmu_core.proofs.lines.ByStep.{StepAt, step_at, Makes, Touches}
 use Rattle.mmu_core.specs.invariant.Invariant.{Holds, Invariant, KnowsPart, CachedPart}
-use Rattle.mmu_core.proofs.lines.UsedTranslations.{uses_stays}
-use Rattle.mmu_core.proofs.lines.CachedKept.{used_covers}
+use Rattle.mmu_core.proofs.forms.access.UsedTranslations.{uses_stays}
+use Rattle.mmu_core.proofs.forms.access.CachedKept.{used_covers}
 use Rattle.mmu_core.specs.invariant.CachedPart.{FitsMachine}
 
 -- The next step of a line finds what it needs.
@@ -221,7 +221,9 @@ at_stays (place.Access p) _ h x = prop_stays (hlevel props) x
 at_stays p command h x = other_stays p command h (other_rests p command h tt) x
 
 command_prop : (z : Sizes) (actor : Actor) (command : Command) → IsProp (IsCommandFor z actor command)
-command_prop z (Vcpu n) (Access gfn word op) = hlevel props
+command_prop z (Vcpu n) (Access gfn word Read) = hlevel props
+command_prop z (Vcpu n) (Access gfn word (Write x)) = hlevel props
+command_prop z (Vcpu n) (Access gfn word (Add x)) = hlevel props
 command_prop z _ (Access gfn word op) = hlevel props
 command_prop z (Host n) (ChangeHost page Allow) = hlevel props
 command_prop z (Host n) (ChangeHost page Move) = hlevel props

@@ -8,7 +8,8 @@ use Rattle.part_steps.specs.declared.part_step.PartStep.TheVariants as part
 use Rattle.part_steps.specs.PartSteps.{IsFree}
 use Rattle.part_steps.specs.PartTopics.{part_topics}
 use Rattle.part_steps.specs.StayTopics.{is_outside, is_section, kept_search, kept_walk, let_go}
-use Rattle.mmu_core.specs.lines.InvalidateKnows.{HasLockAlone, IsAloneWith, IsSweeping}
+use Rattle.mmu_core.specs.orders.InvalidateKnows.{HasLockAlone, IsAloneWith, IsSweeping}
+use Rattle.mmu_core.specs.lines.LockKnows.{HoldsLock}
 
 -- Who is free and tries to have the lock alone has it where nobody held it, and else is free still.
 pub alone_taken : (opened : Bool) (t : Topics) (v : ℕ) → IsFree t → t.invalidations.opened ≡ opened → (v == 0) ≡ true
@@ -26,6 +27,15 @@ alone_tried t v K held =
       no_table = K.no_table;
       no_set = K.no_set;
     }
+
+-- Who has it so holds no table and no slot set.
+pub alone_holds : (t : Topics) (v : ℕ) → IsFree t → (v == 0) ≡ true → HoldsLock Exclusive (part_topics part.Exclude t v)
+alone_holds t v K free = record {
+  outside = K.outside;
+  holds = ap (λ (b : Bool). if b then Exclusive else t.hold) free;
+  no_table = K.no_table;
+  no_set = K.no_set;
+}
 
 -- Who gives the lock back is free.
 pub alone_let_go : (t : Topics) → HasLockAlone t → IsFree (let_go t)

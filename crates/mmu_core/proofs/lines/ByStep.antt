@@ -15,13 +15,13 @@ use Rattle.part_steps.specs.declared.task.Task.{Task}
 use Rattle.part_steps.specs.PartTasks.{own_index, part_task}
 use Rattle.part_steps.specs.PartSteps.{PartNeeds}
 use Rattle.part_steps.specs.Tasks.{map_of}
-use Rattle.mmu_core.specs.lines.Cached.{frame_used}
-use Rattle.mmu_core.specs.lines.AccessSteps.{access_note, access_part, task_by, touch_of}
+use Rattle.mmu_core.specs.forms.access.Cached.{frame_used}
+use Rattle.mmu_core.specs.forms.access.AccessSteps.{access_note, access_part, task_by, touch_of}
 use Rattle.mmu_core.specs.lines.Forms.{note_at, part_at, RestsAt}
 use Rattle.mmu_core.specs.lines.PartAt.{task_at, touch_at}
-use Rattle.mmu_core.specs.lines.AccessKnows.{RestsOn, TouchNeeds}
+use Rattle.mmu_core.specs.forms.access.AccessKnows.{RestsOn, TouchNeeds}
 use Rattle.mmu_core.proofs.lines.Forms.{RestsOnPart, other_rests}
-use Rattle.mmu_core.proofs.lines.UsedTranslations.{part_needs}
+use Rattle.mmu_core.proofs.forms.access.UsedTranslations.{part_needs}
 
 pub data StepAt (command : Command) (h : Held) : Task → Type 0 where
   Makes : (step : PartStep) (note : ℕ) → PartNeeds step h → StepAt command h (part_task step (own_index h) h.topics note)

@@ -1,5 +1,5 @@
 -- How the lines of every form claim a page or a frame: each step is one of a claim, or another one.
-use Rattle.mmu_core.proofs.lines.HostClaims.{host_claims_or_not}
+use Rattle.mmu_core.proofs.forms.host.HostClaims.{host_claims_or_not}
 use Rattle.std.proofs.Common.{◌⊎◌, ℕ}
 use Rattle.core_views.specs.declared.place.Place.{Place}
 use Rattle.core_views.specs.declared.place.Place.TheVariants as place
@@ -7,7 +7,7 @@ use Rattle.core_views.specs.declared.trace.Command.{Command}
 use Rattle.core_views.specs.declared.trace.Command.TheVariants.{Access, ChangeHost}
 use Rattle.core_views.specs.Held.{Held}
 use Rattle.mmu_core.specs.lines.Forms.{RestsAt}
-use Rattle.mmu_core.proofs.lines.AccessClaims.{access_claims_or_not}
+use Rattle.mmu_core.proofs.forms.access.AccessClaims.{access_claims_or_not}
 use Rattle.mmu_core.proofs.lines.LineClaims.{Claims, ClaimsNot}
 use Rattle.mmu_core.proofs.lines.Forms.{simple_place}
 

@@ -9,8 +9,8 @@ use Rattle.mmu_core.specs.declared.outcome.Outcome.{Outcome}
 use Rattle.mmu_core.specs.declared.outcome.Outcome.TheVariants.{Goes, Ends}
 use Rattle.mmu_core.specs.declared.watch.WatchNext.{WatchNext}
 use Rattle.mmu_core.specs.declared.watch.WatchNext.TheVariants as watches
-use Rattle.mmu_core.specs.lines.ClaimSteps.{FreeMap, Pages, Frames, claim_outcome}
-use Rattle.mmu_core.specs.lines.WatchSteps.{watch_place}
+use Rattle.mmu_core.specs.orders.ClaimSteps.{FreeMap, Pages, Frames, claim_outcome}
+use Rattle.mmu_core.specs.orders.WatchSteps.{watch_place}
 
 -- one of two places, by a test
 pub either_place : {A : Type 0} (P : A → Type 0) (b : Bool) (p q : A) → P p → P q → P (if b then p else q)

@@ -1,7 +1,7 @@
 -- What is so of the lines of every form: the one place where it is told by the form. A form of line writes a clause in each of these.
-use Rattle.mmu_core.specs.lines.HostKnows.{HostRests, is_move}
-use Rattle.mmu_core.specs.lines.HostSteps.{host_part}
-use Rattle.mmu_core.proofs.lines.HostPlaces.{host_goes, host_knows_prop, host_free, host_fed, host_rests_prop}
+use Rattle.mmu_core.specs.forms.host.HostKnows.{HostRests, is_move}
+use Rattle.mmu_core.specs.forms.host.HostSteps.{host_part}
+use Rattle.mmu_core.proofs.forms.host.HostPlaces.{host_goes, host_knows_prop, host_free, host_fed, host_rests_prop}
 use Rattle.core_views.specs.declared.trace.HostChange.{HostChange}
 use Rattle.core_views.specs.declared.trace.HostChange.TheVariants.{Move, Evict, Protect, Allow}
 use Rattle.std.proofs.Common.{◌≡◌, ◌⊎◌, inl, inr, ℕ, refl, ◌≢◌, Bool}
@@ -39,27 +39,27 @@ use Rattle.part_steps.specs.PartSteps.{IsAtRest, PartNeeds}
 use Rattle.mmu_core.specs.lines.Forms.{KnowsPart, Holds, part_at, AcceptsAt, RestsAt, first_place, outcome_at, tells_at}
 use Rattle.spte_words.specs.declared.area.Area.{Area}
 use Rattle.mmu_core.specs.alone.AloneKnows.{FormAlone}
-use Rattle.mmu_core.specs.lines.AccessSteps.{access_outcome, behind_fault, fault_over}
+use Rattle.mmu_core.specs.forms.access.AccessSteps.{access_outcome, behind_fault, fault_over}
 use Rattle.mmu_core.specs.declared.outcome.Outcome.TheVariants.{Ends}
 use Rattle.mmu_core.specs.lines.Delays.{line_waits, begins_anew}
-use Rattle.mmu_core.specs.lines.FaultSteps.{fault_next}
+use Rattle.mmu_core.specs.forms.access.FaultSteps.{fault_next}
 use Rattle.mmu_core.specs.lines.Rests.{IsUnderWay}
-use Rattle.mmu_core.specs.lines.SlotChangeKnows.{SlotChangeRests}
-use Rattle.mmu_core.specs.lines.SlotChangeSteps.{slot_change_part}
+use Rattle.mmu_core.specs.forms.slot_change.SlotChangeKnows.{SlotChangeRests}
+use Rattle.mmu_core.specs.forms.slot_change.SlotChangeSteps.{slot_change_part}
 use Rattle.mmu_core.proofs.machine.GoesOn.{GoesToNoAccess, GoesUnderWay, IsNoAccess, IsSimple, simple_is_no_access}
 use Rattle.mmu_core.proofs.slots.LiveStays.{OwnedStays}
-use Rattle.mmu_core.proofs.slots.SlotChangePlaces.{accepts_prop, change_accepts, slot_change_begins, slot_change_begins_known}
-use Rattle.mmu_core.proofs.slots.SlotChangePlaces.{slot_change_goes, slot_change_knows_prop, slot_change_rests_prop, slot_change_stays}
-use Rattle.mmu_core.proofs.slots.SlotChangeTold.{slot_change_free, slot_change_simple}
-use Rattle.mmu_core.proofs.slots.SlotChangeClaims.{begins_without_scan}
-use Rattle.mmu_core.proofs.lines.HostClaims.{host_begins_without}
-use Rattle.mmu_core.proofs.lines.LogFirst.{HavePages, log_first_known}
-use Rattle.mmu_core.proofs.lines.LogTold.{log_fed, log_free, log_goes, log_knows_prop, log_knows_reads, log_rests_prop, log_scans_none, log_simple}
-use Rattle.mmu_core.specs.lines.LogKnows.{LogRests}
-use Rattle.mmu_core.specs.lines.LogSteps.{log_first, log_next, log_part, log_reads}
+use Rattle.mmu_core.proofs.forms.slot_change.SlotChangePlaces.{accepts_prop, change_accepts, slot_change_begins, slot_change_begins_known}
+use Rattle.mmu_core.proofs.forms.slot_change.SlotChangePlaces.{slot_change_goes, slot_change_knows_prop, slot_change_rests_prop, slot_change_stays}
+use Rattle.mmu_core.proofs.forms.slot_change.SlotChangeTold.{slot_change_free, slot_change_simple}
+use Rattle.mmu_core.proofs.forms.slot_change.SlotChangeClaims.{begins_without_scan}
+use Rattle.mmu_core.proofs.forms.host.HostClaims.{host_begins_without}
+use Rattle.mmu_core.proofs.forms.log.LogFirst.{HavePages, log_first_known}
+use Rattle.mmu_core.proofs.forms.log.LogTold.{log_fed, log_free, log_goes, log_knows_prop, log_knows_reads, log_rests_prop, log_scans_none, log_simple}
+use Rattle.mmu_core.specs.forms.log.LogKnows.{LogRests}
+use Rattle.mmu_core.specs.forms.log.LogSteps.{log_first, log_next, log_part, log_reads}
 use Rattle.mmu_core.proofs.lines.SimplePlaces.{SimplePlace, Told, Nothing, Arms, ArmsClean, Exit, Change, OfAccess, OfHost, OfLog, between_simple}
-use Rattle.mmu_core.proofs.lines.AccessEnds.{AreFed, access_fed, access_free, exit_fed}
-use Rattle.mmu_core.specs.lines.ClaimSteps.{FreeMap, Pages, Frames}
+use Rattle.mmu_core.proofs.forms.access.AccessEnds.{AreFed, access_fed, access_free, exit_fed}
+use Rattle.mmu_core.specs.orders.ClaimSteps.{FreeMap, Pages, Frames}
 use Rattle.mmu_core.specs.lines.ScanPlaces.{HasScan}
 use Rattle.core_views.specs.declared.event.EventKind.{EventKind}
 

@@ -35,14 +35,15 @@ use Rattle.mmu_core.specs.declared.outcome.Outcome.TheVariants.{Goes, Ends}
 use Rattle.part_steps.specs.declared.task.Task.{Task}
 use Rattle.part_steps.specs.declared.part_step.PartStep.{PartStep}
 use Rattle.part_steps.specs.declared.part_step.PartStep.TheVariants as part
-use Rattle.mmu_core.specs.lines.AccessSteps.{access_note, access_outcome, access_part, access_task, behind_fault, is_found, use_found, pause_next, task_by}
-use Rattle.mmu_core.specs.lines.AccessSteps.{touch_of, stay_next}
-use Rattle.mmu_core.specs.lines.Cached.{first_usable, flushed, with_leaf}
-use Rattle.mmu_core.specs.lines.FaultKnows.{KnowsNext}
-use Rattle.mmu_core.specs.lines.FaultLaws.{CanAnswer}
-use Rattle.mmu_core.specs.lines.FaultSteps.{allows_access, fault_next}
+use Rattle.mmu_core.specs.forms.access.AccessSteps.{access_note, access_outcome, access_part, access_task, behind_fault, is_found, use_found, pause_next}
+use Rattle.mmu_core.specs.forms.access.AccessSteps.{task_by}
+use Rattle.mmu_core.specs.forms.access.AccessSteps.{touch_of, stay_next}
+use Rattle.mmu_core.specs.forms.access.Cached.{first_usable, flushed, with_leaf}
+use Rattle.mmu_core.specs.forms.access.FaultKnows.{KnowsNext}
+use Rattle.mmu_core.specs.forms.access.FaultLaws.{CanAnswer}
+use Rattle.mmu_core.specs.forms.access.FaultSteps.{allows_access, fault_next}
 use Rattle.mmu_core.specs.invariant.Invariant.{Invariant, KnowsPart, UnderWay, RetiresPart}
-use Rattle.mmu_core.specs.lines.AccessKnows.{AccessKnows, InGuest}
+use Rattle.mmu_core.specs.forms.access.AccessKnows.{AccessKnows, InGuest}
 use Rattle.mmu_core.specs.lines.Forms.{RetiresPart, RestsAt, caches_at, first_place, outcome_at}
 use Rattle.part_steps.specs.PartBounds.{PartRests}
 use Rattle.part_steps.specs.PartTasks.{entry_index, own_index}
@@ -59,12 +60,12 @@ use Rattle.part_steps.specs.TopicSteps.{topics_after}
 use Rattle.mmu_core.specs.machine.View.{View, answer_in, hand_after, part_stepped}
 use Rattle.mmu_core.proofs.machine.Columns.{at_upd}
 use Rattle.mmu_core.proofs.machine.PartStepping.{behind_part}
-use Rattle.mmu_core.proofs.lines.FaultKnown.{fault_known, parts_answer}
-use Rattle.mmu_core.proofs.lines.WalkKnown.{above_lowest, gone_over, root_over}
-use Rattle.mmu_core.proofs.lines.FaultNeeds.{fault_needs}
+use Rattle.mmu_core.proofs.forms.access.FaultKnown.{fault_known, parts_answer}
+use Rattle.mmu_core.proofs.forms.access.WalkKnown.{above_lowest, gone_over, root_over}
+use Rattle.mmu_core.proofs.forms.access.FaultNeeds.{fault_needs}
 use Rattle.mmu_core.proofs.lines.Forms.{first_known}
-use Rattle.mmu_core.proofs.lines.LogFirst.{HavePages}
-use Rattle.mmu_core.proofs.lines.UsedTranslations.{CachesBehind, flushed_behind, newest_filled}
+use Rattle.mmu_core.proofs.forms.log.LogFirst.{HavePages}
+use Rattle.mmu_core.proofs.forms.access.UsedTranslations.{CachesBehind, flushed_behind, newest_filled}
 use Rattle.mmu_core.proofs.words.SmallSlots.{has_page, record_is_so}
 use Rattle.mmu_core.proofs.words.PartTopics.{is_there, no_anew, no_sweep, part_topics_is}
 use Rattle.mmu_core.proofs.machine.Stepping.{IsStep, next_has}

@@ -32,12 +32,12 @@ use Rattle.spte_words.specs.declared.spte_kind.SpteKind.{SpteKind}
 use Rattle.spte_words.specs.declared.spte_kind.SpteKind.TheVariants as entry_kind
 use Rattle.spte_words.specs.Entries.{kind_of}
 use Rattle.spte_words.specs.HostWords.{host_allows_write}
-use Rattle.mmu_core.specs.lines.FaultKnows.{CheckKnows, FaultEndKnows, Entering, FaultKnows, FoundNoPage, HasCause, HostForbids, IsInTheWay}
-use Rattle.mmu_core.specs.lines.FaultKnows.{IsHostWordMoved, IsLostFix, LookedFor, Sharing, IsRetry, SawNotFast}
-use Rattle.mmu_core.specs.lines.FaultSteps.{host_word_at}
-use Rattle.mmu_core.specs.lines.AccessKnows.{AccessKnows}
+use Rattle.mmu_core.specs.forms.access.FaultKnows.{CheckKnows, FaultEndKnows, Entering, FaultKnows, FoundNone, FoundNoPage, HasCause, HostForbids, IsInTheWay}
+use Rattle.mmu_core.specs.forms.access.FaultKnows.{IsHostWordMoved, IsLostFix, LookedFor, Sharing, IsRetry, SawNotFast}
+use Rattle.mmu_core.specs.forms.access.FaultSteps.{host_word_at}
+use Rattle.mmu_core.specs.forms.access.AccessKnows.{AccessKnows}
 use Rattle.mmu_core.specs.lines.Forms.{KnowsPart}
-use Rattle.part_steps.specs.PartHoldings.{LookedUp}
+use Rattle.part_steps.specs.PartHoldings.{FoundSlot, LookedUp}
 use Rattle.part_steps.specs.PartTasks.{word_looked}
 use Rattle.part_steps.specs.SlotWords.{page_of}
 use Rattle.part_steps.proofs.EntryTopics.{looked_at}
@@ -49,7 +49,7 @@ use Rattle.mmu_core.proofs.lines.Forms.{knows_prop}
 use Rattle.mmu_core.proofs.lines.KnowsKept.{knows_at}
 use Rattle.mmu_core.proofs.invariant.RestsKept.{either_stays, fresh_stays, looked_stays, or_not, prop_stays, same_look}
 use Rattle.mmu_core.proofs.start.Starts.{reached_good}
-use Rattle.mmu_core.proofs.lines.UsedTranslations.{uses_stays}
+use Rattle.mmu_core.proofs.forms.access.UsedTranslations.{uses_stays}
 
 -- what can be decided of two facts, of how far a check has come, and of an entry
 both_or : {A B : Type 0} → A ⊎ (A → ⊥) → B ⊎ (B → ⊥) → (A × B) ⊎ (A × B → ⊥)
@@ -112,19 +112,36 @@ check_stays stage.Count gfn n x = tt
 check_stays stage.Seq gfn n x = either_stays (both_or (is_count n.checked) (same_or n.count 0)) (range_stays gfn n) x
 check_stays _ gfn n x = prop_stays (hlevel props) x
 
+-- Whether a search of all slots found none for the guest frame.
+found_or_not : (gfn : ℕ) (t : Topics) → FoundSlot gfn t ⊎ (FoundSlot gfn t → ⊥)
+found_or_not gfn t = by t.search.whole (contains gfn t.search.slot) refl refl
+  where
+    by : (whole holds : Bool) → t.search.whole ≡ whole → contains gfn t.search.slot ≡ holds → FoundSlot gfn t ⊎ (FoundSlot gfn t → ⊥)
+    by true true w c = inl (record { whole = w; holds = c })
+    by true false w c = inr (λ F. let e = F.holds in cc (e, c))
+    by false holds w c = inr (λ F. let e = F.whole in cc (e, w))
+
+none_or_not : (gfn : ℕ) (t : Topics) → FoundNone gfn t ⊎ (FoundNone gfn t → ⊥)
+none_or_not gfn t = by (same_or t.search.id 32) (found_or_not gfn t)
+  where
+    by : (t.search.id ≡ 32) ⊎ (t.search.id ≢ 32) → FoundSlot gfn t ⊎ (FoundSlot gfn t → ⊥) → FoundNone gfn t ⊎ (FoundNone gfn t → ⊥)
+    by (inl over) (inr never) = inl (record { over = over; not_found = never })
+    by (inl over) (inl found) = inr (λ N. N.not_found found)
+    by (inr before) f = inr (λ N. before N.over)
+
 -- what an end rests on
 no_page_stays : (gfn : ℕ) (write : Bool) (t : Topics) → ∥ FoundNoPage gfn write t ∥₁ → FoundNoPage gfn write t
-no_page_stays gfn write t x = by (same_or t.search.id 32)
+no_page_stays gfn write t x = by (none_or_not gfn t)
   where
-    by : (t.search.id ≡ 32) ⊎ (t.search.id ≢ 32) → FoundNoPage gfn write t
-    by (inl behind) = inr behind
-    by (inr before) = inl (∥∥₁_elim x (hlevel props) (⊎_elim (λ found. found) (λ behind. absurd (before behind))))
+    by : FoundNone gfn t ⊎ (FoundNone gfn t → ⊥) → FoundNoPage gfn write t
+    by (inl none) = inr none
+    by (inr some) = inl (∥∥₁_elim x (hlevel props) (⊎_elim (λ found. found) (λ none. absurd (some none))))
 
 not_fast_stays : (word gfn : ℕ) (t : Topics) → ∥ SawNotFast word gfn t ∥₁ → SawNotFast word gfn t
-not_fast_stays word gfn t x = by (both_or (same_or word 0) (same_or t.search.id 32))
+not_fast_stays word gfn t x = by (both_or (same_or word 0) (none_or_not gfn t))
   where
     NoSlot : Type 0
-    NoSlot = (word ≡ 0) × (t.search.id ≡ 32)
+    NoSlot = (word ≡ 0) × FoundNone gfn t
 
     by : NoSlot ⊎ (NoSlot → ⊥) → SawNotFast word gfn t
     by (inl none) = inl none

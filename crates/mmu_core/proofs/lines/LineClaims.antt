@@ -15,16 +15,16 @@ use Rattle.mmu_core.specs.declared.outcome.Outcome.{Outcome}
 use Rattle.mmu_core.specs.declared.outcome.Outcome.TheVariants.{Ends}
 use Rattle.mmu_core.specs.declared.claim.ClaimNext.{ClaimNext}
 use Rattle.mmu_core.specs.declared.claim.ClaimNext.TheVariants as claims
-use Rattle.mmu_core.specs.lines.ClaimSteps.{FreeMap, Pages, Frames, claim_next, claim_outcome, claim_over, claim_part, loads_last_word, map_words}
-use Rattle.mmu_core.specs.lines.ClaimSteps.{try_part, word_after_load}
+use Rattle.mmu_core.specs.orders.ClaimSteps.{FreeMap, Pages, Frames, claim_next, claim_outcome, claim_over, claim_part, loads_last_word, map_words}
+use Rattle.mmu_core.specs.orders.ClaimSteps.{try_part, word_after_load}
 use Rattle.mmu_core.specs.lines.Delays.{line_waits}
 use Rattle.mmu_core.specs.lines.Forms.{note_at, part_at, KnowsPart, outcome_at}
-use Rattle.mmu_core.specs.lines.AccessSteps.{ends_with}
+use Rattle.mmu_core.specs.forms.access.AccessSteps.{ends_with}
 use Rattle.mmu_core.specs.lines.ScanPlaces.{answer_without, ends_with_claim, HasScan, claim_at}
 use Rattle.mmu_core.specs.machine.Outcomes.{place_after}
-use Rattle.mmu_core.proofs.lines.ClaimMade.{ClaimMade, claim_made}
-use Rattle.mmu_core.proofs.lines.ClaimMade as made
-use Rattle.mmu_core.proofs.lines.FaultScans.{KeepsScan, claim_keeps, claim_tries, maps, try_maps}
+use Rattle.mmu_core.proofs.orders.ClaimMade.{ClaimMade, claim_made}
+use Rattle.mmu_core.proofs.orders.ClaimMade as made
+use Rattle.mmu_core.proofs.forms.access.FaultScans.{KeepsScan, claim_keeps, claim_tries, maps, try_maps}
 use Rattle.mmu_core.proofs.machine.PartStepping.{behind_part}
 
 -- The step of the line keeps its scan of the map, or begins one.

@@ -10,8 +10,8 @@ use Rattle.part_steps.specs.declared.part_step.PartStep.TheVariants as part
 use Rattle.part_steps.specs.PartTasks.{part_kind}
 use Rattle.part_steps.specs.PartSteps.{PartNeeds}
 use Rattle.part_steps.specs.Tasks.{kind_of_task}
-use Rattle.mmu_core.specs.lines.AccessSteps.{task_by}
-use Rattle.mmu_core.specs.lines.ClaimSteps.{FreeMap, Pages, Frames, claim_over, try_part}
+use Rattle.mmu_core.specs.forms.access.AccessSteps.{task_by}
+use Rattle.mmu_core.specs.orders.ClaimSteps.{FreeMap, Pages, Frames, claim_over, try_part}
 use Rattle.mmu_core.specs.lines.Delays.{line_waits, waits_by}
 use Rattle.mmu_core.specs.machine.Enabled.{IsNext}
 use Rattle.mmu_core.specs.lines.Forms.{note_at, part_at, RestsAt}

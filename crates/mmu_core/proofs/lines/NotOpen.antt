@@ -8,10 +8,10 @@ use Rattle.part_steps.specs.declared.part_step.PartStep.{PartStep}
 use Rattle.part_steps.specs.declared.part_step.PartStep.TheVariants as part
 use Rattle.part_steps.specs.PartTopics.{part_topics}
 use Rattle.part_steps.specs.ControlTopics.{range_checked, seq_checked, start_checked}
-use Rattle.mmu_core.specs.lines.ClaimSteps.{FreeMap, Pages, Frames, claim_over}
+use Rattle.mmu_core.specs.orders.ClaimSteps.{FreeMap, Pages, Frames, claim_over}
 use Rattle.mmu_core.specs.lines.PartWaits.{saw_open, was_counted, own_open}
 use Rattle.part_steps.specs.StayTopics.{has_lock}
-use Rattle.mmu_core.proofs.lines.FaultScans.{maps}
+use Rattle.mmu_core.proofs.forms.access.FaultScans.{maps}
 use Rattle.part_steps.specs.ControlTopics.{end_known, start_known}
 
 -- After a load of the range or of the sequence number the check is further than the count, or begins anew.

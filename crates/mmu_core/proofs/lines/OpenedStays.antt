@@ -13,8 +13,8 @@ use Rattle.part_steps.specs.PartTasks.{own_index, part_task}
 use Rattle.part_steps.specs.PartTopics.{part_topics}
 use Rattle.part_steps.specs.Tasks.{kind_of_task, map_of}
 use Rattle.part_steps.specs.TopicSteps.{topics_after}
-use Rattle.mmu_core.specs.lines.AccessSteps.{access_note, access_part, access_task, task_by, touch_of}
-use Rattle.mmu_core.specs.lines.Cached.{frame_used}
+use Rattle.mmu_core.specs.forms.access.AccessSteps.{access_note, access_part, access_task, task_by, touch_of}
+use Rattle.mmu_core.specs.forms.access.Cached.{frame_used}
 use Rattle.mmu_core.proofs.lines.KnowsKept.{touch_topics}
 use Rattle.mmu_core.proofs.machine.PartStepping.{is_told}
 use Rattle.mmu_core.proofs.slots.LiveStays.{access_untold}

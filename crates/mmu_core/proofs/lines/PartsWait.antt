@@ -7,7 +7,7 @@ use Rattle.core_views.specs.declared.topics.Hold.TheVariants.{Owing}
 use Rattle.core_views.specs.declared.topics.Invalidations.{Invalidations}
 use Rattle.core_views.specs.declared.topics.Topics.{Topics}
 use Rattle.part_steps.specs.declared.part_step.PartStep.{PartStep}
-use Rattle.mmu_core.specs.lines.FaultSteps.{share_part}
+use Rattle.mmu_core.specs.forms.access.FaultSteps.{share_part}
 use Rattle.mmu_core.specs.lines.PartWaits.{is_owing, part_waits, saw_open, was_counted, own_open}
 
 -- A try for the lock waits where it takes itself back.

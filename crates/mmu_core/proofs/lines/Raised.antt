@@ -26,21 +26,21 @@ use Rattle.part_steps.specs.declared.part_step.PartStep.TheVariants as part
 use Rattle.part_steps.specs.StayTopics.{has_lock}
 use Rattle.mmu_core.specs.invariant.InvalidationsPart.{has_raised, knows_seq}
 use Rattle.mmu_core.specs.invariant.TopicsInvariant.{TopicsInvariant}
-use Rattle.mmu_core.specs.lines.AccessSteps.{access_part}
+use Rattle.mmu_core.specs.forms.access.AccessSteps.{access_part}
 use Rattle.mmu_core.specs.lines.Forms.{outcome_at, part_at}
-use Rattle.mmu_core.specs.lines.InvalidateSteps.{begin_part}
+use Rattle.mmu_core.specs.orders.InvalidateSteps.{begin_part}
 use Rattle.mmu_core.specs.lines.Rests.{IsUnderWay}
 use Rattle.mmu_core.specs.machine.Outcomes.{answers_after, place_after}
 use Rattle.mmu_core.specs.machine.Steps.{standing}
 use Rattle.mmu_core.specs.machine.Sums.{one_if}
 use Rattle.mmu_core.specs.machine.View.{View}
-use Rattle.mmu_core.proofs.lines.AccessParts.{AreSmall}
-use Rattle.mmu_core.proofs.lines.ClaimMade.{claim_is}
+use Rattle.mmu_core.proofs.forms.access.AccessParts.{AreSmall}
+use Rattle.mmu_core.proofs.orders.ClaimMade.{claim_is}
 use Rattle.mmu_core.proofs.lines.EitherPlace.{each_watch, either_place}
 use Rattle.mmu_core.specs.declared.invalidate.EndNext.TheVariants as ends_next
-use Rattle.mmu_core.specs.lines.ClaimSteps.{Frames}
-use Rattle.mmu_core.specs.lines.HostSteps.{after_end, moves}
-use Rattle.mmu_core.specs.lines.WatchSteps.{watch_next}
+use Rattle.mmu_core.specs.orders.ClaimSteps.{Frames}
+use Rattle.mmu_core.specs.forms.host.HostSteps.{after_end, moves}
+use Rattle.mmu_core.specs.orders.WatchSteps.{watch_next}
 use Rattle.part_steps.specs.PartTasks.{word_looked}
 use Rattle.spte_words.specs.HostWords.{host_frame}
 use Rattle.mmu_core.proofs.lines.LinesKept.{answers_length}

@@ -22,10 +22,10 @@ use Rattle.core_views.specs.declared.trace.Op.{Op}
 use Rattle.core_views.specs.Held.{Held}
 use Rattle.part_steps.specs.declared.part_step.PartStep.TheVariants as part
 use Rattle.mmu_core.specs.declared.outcome.Outcome.TheVariants.{Ends}
-use Rattle.mmu_core.specs.lines.AccessSteps.{access_tells, exiting}
+use Rattle.mmu_core.specs.forms.access.AccessSteps.{access_tells, exiting}
 use Rattle.mmu_core.specs.lines.Forms.{RestsAt, outcome_at, part_at, tells_at}
-use Rattle.mmu_core.specs.lines.HostSteps.{host_tells}
-use Rattle.mmu_core.specs.lines.LogTells.{log_tells}
+use Rattle.mmu_core.specs.forms.host.HostSteps.{host_tells}
+use Rattle.mmu_core.specs.forms.log.LogTells.{log_tells}
 use Rattle.mmu_core.proofs.lines.LineClaims.{Claims, ClaimsNot, no_claim_between, no_scan_between, to_no_scan}
 use Rattle.mmu_core.proofs.machine.GoesOn.{GoesToSimple}
 use Rattle.mmu_core.proofs.machine.PartStepping.{raises}

@@ -11,12 +11,12 @@ use Rattle.part_steps.specs.declared.task.Task.{Task}
 use Rattle.part_steps.specs.PartTasks.{own_index, part_task}
 use Rattle.mmu_core.specs.lines.Forms.{note_at, part_at}
 pub use Rattle.mmu_core.proofs.lines.StepTopics.{topics_of_step}
-use Rattle.mmu_core.specs.lines.AccessSteps.{task_by, touch_of}
+use Rattle.mmu_core.specs.forms.access.AccessSteps.{task_by, touch_of}
 use Rattle.mmu_core.specs.invariant.Invariant.{Invariant}
 use Rattle.mmu_core.specs.lines.PartAt.{task_at, touch_at}
 use Rattle.mmu_core.specs.invariant.TopicsInvariant.{TopicsInvariant}
 use Rattle.mmu_core.specs.machine.View.{View}
-use Rattle.mmu_core.proofs.lines.AccessParts.{AreSmall}
+use Rattle.mmu_core.proofs.forms.access.AccessParts.{AreSmall}
 use Rattle.mmu_core.proofs.invariant.Kept.{makes_at}
 use Rattle.mmu_core.proofs.invariant.QuietKept.{MakesAt, touched}
 use Rattle.mmu_core.proofs.machine.PartStepping.{IsPart}

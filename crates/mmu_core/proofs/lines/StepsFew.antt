@@ -1,6 +1,6 @@
 -- How many steps a line of each form has left: no more than its command allows, and at each place one.
 use Rattle.spte_words.specs.Areas.{words_of_bits}
-use Rattle.mmu_core.proofs.lines.HostPlaces.{host_few, some_host_left}
+use Rattle.mmu_core.proofs.forms.host.HostPlaces.{host_few, some_host_left}
 use Rattle.std.proofs.Common.{◌<◌, ◌≤◌, ℕ, arith, ◌+◌, ◌*◌}
 use Rattle.std.specs.Prelude.{true, false}
 use Rattle.core_views.specs.declared.place.Place.{Place}
@@ -14,10 +14,10 @@ use Rattle.core_views.specs.Sizes.{AreSizes}
 use Rattle.mmu_core.specs.lines.Forms.{KnowsPart, Holds, steps_left}
 use Rattle.mmu_core.specs.lines.Bounds.{most_steps}
 use Rattle.mmu_core.specs.lines.Rests.{IsUnderWay}
-use Rattle.mmu_core.proofs.lines.AccessLeft.{access_few, some_access_left}
-use Rattle.mmu_core.proofs.slots.SlotChangeCounted.{slot_change_few, some_change_left}
-use Rattle.mmu_core.proofs.lines.LogFalls.{log_few, some_log_left}
-use Rattle.mmu_core.proofs.lines.LogTold.{log_knows_reads}
+use Rattle.mmu_core.proofs.forms.access.AccessLeft.{access_few, some_access_left}
+use Rattle.mmu_core.proofs.forms.slot_change.SlotChangeCounted.{slot_change_few, some_change_left}
+use Rattle.mmu_core.proofs.forms.log.LogFalls.{log_few, some_log_left}
+use Rattle.mmu_core.proofs.forms.log.LogTold.{log_knows_reads}
 
 -- No more than its command allows.
 pub place_few : (p : Place) (command : Command) (z : Sizes) (pool : ℕ → ℕ) (set : ℕ) (h : Held) → Holds z pool set p command h → KnowsPart p command h

@@ -22,7 +22,7 @@ use Rattle.mmu_core.specs.declared.outcome.Outcome.TheVariants.{Goes, Ends}
 use Rattle.mmu_core.specs.invariant.Invariant.{Invariant, OwnLines, UnderWay}
 use Rattle.mmu_core.specs.invariant.InvalidationsPart.{EndsPart, has_raised, knows_seq, lines_raised}
 use Rattle.mmu_core.specs.invariant.TopicsInvariant.{TopicsInvariant}
-use Rattle.mmu_core.specs.lines.AccessSteps.{task_by, touch_of}
+use Rattle.mmu_core.specs.forms.access.AccessSteps.{task_by, touch_of}
 use Rattle.mmu_core.specs.lines.Forms.{note_at, outcome_at, part_at}
 use Rattle.mmu_core.specs.lines.PartAt.{task_at, touch_at}
 use Rattle.mmu_core.specs.machine.Outcomes.{answers_after}
@@ -30,7 +30,7 @@ use Rattle.mmu_core.specs.machine.Sums.{one_if, sum_below}
 use Rattle.mmu_core.specs.machine.View.{View, answer_in, hand_after, part_stepped, stepped, words_after}
 use Rattle.mmu_core.proofs.invariant.Kept.{makes_at}
 use Rattle.mmu_core.proofs.invariant.QuietKept.{touched}
-use Rattle.mmu_core.proofs.lines.AccessParts.{AreSmall}
+use Rattle.mmu_core.proofs.forms.access.AccessParts.{AreSmall}
 use Rattle.mmu_core.proofs.lines.LinesKept.{answers_length}
 use Rattle.mmu_core.proofs.lines.Raised.{raised_before, raised_on}
 use Rattle.mmu_core.proofs.machine.PartStepping.{raises, rises}

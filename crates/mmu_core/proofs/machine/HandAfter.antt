@@ -13,7 +13,7 @@ use Rattle.core_views.specs.declared.trace.Op.{Op}
 use Rattle.core_views.specs.Held.{Held, State}
 use Rattle.mmu_core.specs.declared.outcome.Outcome.{Outcome}
 use Rattle.mmu_core.specs.declared.outcome.Outcome.TheVariants.{Goes, Ends}
-use Rattle.mmu_core.specs.lines.AccessSteps.{access_loads}
+use Rattle.mmu_core.specs.forms.access.AccessSteps.{access_loads}
 use Rattle.mmu_core.specs.machine.Steps.{has_line, held_after, line_at, next, next_by, place_at}
 use Rattle.mmu_core.specs.lines.Forms.{loads_at}
 use Rattle.mmu_core.proofs.lines.Forms.{outcome_goes}

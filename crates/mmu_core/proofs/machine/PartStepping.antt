@@ -12,11 +12,11 @@ use Rattle.part_steps.specs.PartTasks.{IsWithin, own_index, page_owned, part_tas
 use Rattle.part_steps.specs.PartSteps.{PartNeeds, needs_line}
 use Rattle.part_steps.specs.PartTopics.{part_topics}
 use Rattle.std.specs.Prelude.{Option, Some, None}
-pub use Rattle.mmu_core.specs.lines.InvalidateKnows.{IsFlushedOut}
+pub use Rattle.mmu_core.specs.orders.InvalidateKnows.{IsFlushedOut}
 use Rattle.mmu_core.specs.invariant.SlotSetPart.{AreSlots, IsLiveIn}
 use Rattle.mmu_core.specs.invariant.InvalidatedPart.{IsIn}
 use Rattle.mmu_core.specs.machine.View.{View}
-use Rattle.mmu_core.proofs.lines.FaultSame.{over_it}
+use Rattle.mmu_core.proofs.forms.access.FaultSame.{over_it}
 use Rattle.core_views.specs.Slots.{contains, has_host_page}
 
 -- No two slots in this set have a host page in common.

@@ -21,7 +21,7 @@ use Rattle.spte_words.proofs.Places.{place_below}
 use Rattle.part_steps.specs.declared.task.Task.{Task}
 use Rattle.part_steps.specs.PartTasks.{own_index, part_task}
 use Rattle.mmu_core.proofs.words.PartIndex.{index_same}
-use Rattle.mmu_core.specs.lines.AccessSteps.{access_loads}
+use Rattle.mmu_core.specs.forms.access.AccessSteps.{access_loads}
 use Rattle.mmu_core.specs.machine.Enabled.{Enabled, IsNext, IsPartStep, mmu}
 use Rattle.mmu_core.specs.machine.Machine.{World, Step, effect, run, hand_in, May, Legal, Leads}
 use Rattle.mmu_core.specs.machine.Steps.{has_line, line_at, next, next_by, place_at}

@@ -8,7 +8,7 @@ use Rattle.core_views.specs.declared.kind.Operation.TheVariants as operation
 use Rattle.core_views.specs.Kinds.{after, operation_of_code, word_after}
 use Rattle.mmu_core.specs.invariant.InvalidationsPart.{EndsPart}
 use Rattle.mmu_core.specs.invariant.Laws.{IsSound}
-use Rattle.mmu_core.proofs.lines.AccessParts.{AreSmall}
+use Rattle.mmu_core.proofs.forms.access.AccessParts.{AreSmall}
 use Rattle.mmu_core.proofs.held.CopiedKept.{CopiedAt, line_copied_kept, part_copied_kept}
 use Rattle.mmu_core.proofs.held.FlushKept.{FlushAt, line_flushes_kept, part_flushes_kept}
 use Rattle.mmu_core.proofs.held.UsableKept.{UsableAt, line_usable_kept, part_usable_kept}

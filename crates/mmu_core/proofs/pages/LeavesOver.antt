@@ -36,7 +36,7 @@ use Rattle.part_steps.specs.InvalidationRange.{page_looked}
 use Rattle.mmu_core.specs.invariant.InvalidatedPart.{SlotGives}
 use Rattle.mmu_core.proofs.machine.Columns.{same_or}
 use Rattle.part_steps.specs.PartHoldings.{is_fixable}
-use Rattle.mmu_core.proofs.lines.FaultSame.{both}
+use Rattle.mmu_core.proofs.forms.access.FaultSame.{both}
 
 -- It says nothing of what is no leaf.
 pub leaves_light : (pool host : ℕ → ℕ) (set : ℕ) → IsLight (LeafIsFor pool host set)
@@ -85,7 +85,7 @@ fixed_leaf pool host set level gfn leaf fixable L = record {
         ∙ ap mmu_writable (sym L.is) ∙ allows
 
 -- And it is one that slots and host give, once writes are forbidden in it.
-left_leaf_for : (pool host : ℕ → ℕ) (set level gfn leaf : ℕ) → IsLeafFor pool host set level gfn leaf
+pub left_leaf_for : (pool host : ℕ → ℕ) (set level gfn leaf : ℕ) → IsLeafFor pool host set level gfn leaf
     → IsLeafFor pool host set level gfn (without_write leaf)
 left_leaf_for pool host set level gfn leaf L = record {
   id = L.id;

@@ -36,7 +36,7 @@ use Rattle.mmu_core.specs.invariant.TreePart.{Position, stands}
 use Rattle.mmu_core.proofs.pages.ProtectedLeaf.{found_same, pool_protected}
 use Rattle.mmu_core.proofs.pages.Standing.{entry_now, one_position}
 use Rattle.mmu_core.proofs.machine.ColumnsTell.{tells}
-use Rattle.mmu_core.proofs.lines.FaultSame.{both, is_not}
+use Rattle.mmu_core.proofs.forms.access.FaultSame.{both, is_not}
 use Rattle.spte_words.proofs.Indices.{same_pool_word}
 
 -- of a view, whose words of the pool are these

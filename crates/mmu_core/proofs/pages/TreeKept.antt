@@ -34,7 +34,7 @@ use Rattle.mmu_core.proofs.pages.EntryStill.{still_leaf}
 use Rattle.mmu_core.proofs.pages.ProtectedLeaf.{found_leaf, left_leaf, pool_protected}
 use Rattle.mmu_core.proofs.pages.NoneBelow.{leaf_ends}
 use Rattle.spte_words.proofs.FixedEntries.{fixed_kind}
-use Rattle.mmu_core.proofs.lines.FaultSame.{both, is_not}
+use Rattle.mmu_core.proofs.forms.access.FaultSame.{both, is_not}
 use Rattle.core_views.specs.Sizes.{actors_of}
 
 absent_is : 0 ≡ absent_word

@@ -24,20 +24,20 @@ use Rattle.spte_words.specs.declared.area.Area.TheVariants as area
 use Rattle.spte_words.specs.Areas.{content_index, pool_index}
 use Rattle.spte_words.specs.Flags.{flags_live, flags_read_only}
 use Rattle.part_steps.specs.declared.part_step.PartStep.{PartStep}
-use Rattle.mmu_core.specs.lines.Cached.{frame_used}
-use Rattle.mmu_core.specs.lines.AccessSteps.{access_note, access_part, task_by, touch_of}
-use Rattle.mmu_core.specs.lines.FaultSteps.{fault_part}
+use Rattle.mmu_core.specs.forms.access.Cached.{frame_used}
+use Rattle.mmu_core.specs.forms.access.AccessSteps.{access_note, access_part, task_by, touch_of}
+use Rattle.mmu_core.specs.forms.access.FaultSteps.{fault_part}
 use Rattle.mmu_core.specs.declared.claim.FreeMap.TheVariants as free
 use Rattle.part_steps.specs.SlotWords.{field_number, live_at, slot_at, slot_index}
 use Rattle.part_steps.specs.Tasks.{map_of}
 use Rattle.mmu_core.specs.invariant.TopicsInvariant.{TopicsInvariant}
 use Rattle.mmu_core.specs.invariant.SlotSetPart.{IsLiveIn}
 use Rattle.mmu_core.specs.machine.View.{View, part_stepped, stepped, words_after}
-use Rattle.mmu_core.proofs.lines.ClaimMade.{claim_is}
+use Rattle.mmu_core.proofs.orders.ClaimMade.{claim_is}
 use Rattle.mmu_core.proofs.lines.EitherPlace.{either_place}
 use Rattle.mmu_core.proofs.machine.PartStepping.{IsPart, brings, is_publish, is_told, never_told, changes_word, quiet_told}
 use Rattle.mmu_core.proofs.words.PartWords.{fill_elsewhere}
-use Rattle.mmu_core.proofs.lines.ShareMade.{share_is}
+use Rattle.mmu_core.proofs.orders.ShareMade.{share_is}
 use Rattle.mmu_core.proofs.words.SlotFields.{is_number, same_slot}
 
 -- Each word of a slot that is live in the slot set of a page stays as it is.

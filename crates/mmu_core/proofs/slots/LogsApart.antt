@@ -11,7 +11,7 @@ use Rattle.core_views.specs.Traces.{IsCommandFor}
 use Rattle.part_steps.specs.LogHoldings.{is_in_log}
 use Rattle.mmu_core.specs.invariant.Invariant.{IsSetBy, RecordPart}
 use Rattle.mmu_core.specs.invariant.SlotSetPart.{AreSlots, IsLiveIn}
-use Rattle.mmu_core.specs.lines.SlotChangeKnows.{IsInLog}
+use Rattle.mmu_core.specs.forms.slot_change.SlotChangeKnows.{IsInLog}
 use Rattle.mmu_core.proofs.slots.SetFilled.{recorded_live}
 use Rattle.mmu_core.proofs.words.SmallSlots.{aligned, has_page, record_is_so}
 

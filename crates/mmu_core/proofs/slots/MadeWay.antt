@@ -14,15 +14,16 @@ use Rattle.part_steps.specs.declared.invalidations.Target.TheVariants as aim
 use Rattle.part_steps.specs.declared.part_step.PartStep.TheVariants as part
 use Rattle.part_steps.specs.ControlTopics.{count_checked}
 use Rattle.part_steps.specs.InvalidationRange.{IsAimed, page_of_look}
+use Rattle.part_steps.specs.LockHoldings.{HasFlushedAll}
 use Rattle.part_steps.specs.PartHoldings.{OwnsSet, own_open}
 use Rattle.part_steps.specs.PartSteps.{IsFree}
 use Rattle.part_steps.specs.PartTopics.{part_topics}
 use Rattle.part_steps.specs.StayTopics.{no_flush}
-use Rattle.mmu_core.specs.lines.InvalidateKnows.{FramesAre, IsFlushedOut, IsOpen}
+use Rattle.mmu_core.specs.orders.InvalidateKnows.{FramesAre, IsFlushedOut, IsOpen}
 use Rattle.mmu_core.specs.lines.LockKnows.{HoldsLock}
 use Rattle.mmu_core.specs.lines.PartWaits.{saw_open, was_counted}
-use Rattle.mmu_core.specs.lines.SlotChangeKnows.{Fits, HasMadeWay}
-use Rattle.mmu_core.specs.lines.SlotChangeSteps.{slot_or_none}
+use Rattle.mmu_core.specs.forms.slot_change.SlotChangeKnows.{Fits, HasMadeWay}
+use Rattle.mmu_core.specs.forms.slot_change.SlotChangeSteps.{slot_or_none}
 use Rattle.mmu_core.proofs.pages.Owned.{some_filled}
 
 -- ---- the slot that is moved
@@ -108,6 +109,11 @@ way_tried z moved t v W =
 pub way_unraised : (z : Sizes) (moved : Option Slot) (t : Topics) → HasMadeWay z moved t → t.invalidations.opened ≡ true → t.invalidations.raised ≡ false
 way_unraised z None t W is = let none = W.opened in absurd (cc (none, is))
 way_unraised z (Some slot) t W is = (W.flushed slot refl).unraised
+
+-- And each virtual processor was asked for a flush, and awaited.
+pub way_flushed : (z : Sizes) (moved : Option Slot) (t : Topics) → HasMadeWay z moved t → HasFlushedAll z.vcpus t
+way_flushed z None t W is = let none = W.opened in absurd (cc (none, is))
+way_flushed z (Some slot) t W is = let F = W.flushed slot refl in (F.asked, F.awaited)
 
 -- ---- how many are open
 

@@ -8,7 +8,7 @@ use Rattle.core_views.specs.SlotSets.{MemorySlots, slot_of_id}
 use Rattle.core_views.specs.declared.memory_slot.MemorySlot.{MemorySlot}
 use Rattle.std.specs.Option.{option_map}
 use Rattle.core_views.specs.declared.trace.Command.TheVariants.{Access, ChangeHost, ClearLog, DeleteSlot, GetLog, Migrate, SetLog, SetSlot}
-use Rattle.mmu_core.specs.lines.SlotChangeKnows.{ArmsThere}
+use Rattle.mmu_core.specs.forms.slot_change.SlotChangeKnows.{ArmsThere}
 use Rattle.core_views.proofs.SlotLines.{log_here, logged_so}
 
 -- A slot whose dirty log begins is one that the line arms, and no such line moves a slot.

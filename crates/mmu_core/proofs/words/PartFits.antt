@@ -35,7 +35,7 @@ use Rattle.mmu_core.proofs.pages.Owned.{owned_some, some_filled}
 use Rattle.mmu_core.proofs.words.HostStays.{each_revision}
 use Rattle.spte_words.specs.Entries.{can_write, write_bit}
 use Rattle.spte_words.proofs.FixedEntries.{fixed_fits}
-use Rattle.mmu_core.proofs.lines.FaultSame.{both, is_not, over_it}
+use Rattle.mmu_core.proofs.forms.access.FaultSame.{both, is_not, over_it}
 
 pub is_number : (f : SlotField) → field_number f ≤ 3
 is_number field.Base = omega arith

@@ -16,7 +16,7 @@ use Rattle.spte_words.specs.Areas.{number_of, place, pool_index, words_of_bits}
 use Rattle.spte_words.specs.Entries.{without_write}
 use Rattle.spte_words.proofs.Indices.{pool_within}
 use Rattle.part_steps.specs.declared.task.Task.{Task}
-use Rattle.mmu_core.specs.lines.Cached.{flushed}
+use Rattle.mmu_core.specs.forms.access.Cached.{flushed}
 use Rattle.part_steps.specs.declared.part_step.PartStep.{PartStep}
 use Rattle.part_steps.specs.declared.part_step.PartStep.TheVariants as part
 use Rattle.part_steps.specs.PartTasks.{entry_index, entry_task, leaf_written, link_written, part_task, table_page, word_looked, page_looked}

@@ -22,8 +22,8 @@ use Rattle.spte_words.specs.HostWords.{host_allows_write}
 use Rattle.part_steps.specs.declared.task.Task.{Task}
 use Rattle.part_steps.specs.declared.part_step.PartStep.{PartStep}
 use Rattle.mmu_core.specs.machine.Enabled.{mmu}
-use Rattle.mmu_core.specs.lines.FaultKnows.{FaultKnows}
-use Rattle.mmu_core.specs.lines.FaultSteps.{fault_next, fault_part}
+use Rattle.mmu_core.specs.forms.access.FaultKnows.{FaultKnows}
+use Rattle.mmu_core.specs.forms.access.FaultSteps.{fault_next, fault_part}
 use Rattle.mmu_core.specs.lines.PartWaits.{part_waits}
 use Rattle.mmu_core.specs.invariant.Laws.{IsSound}
 use Rattle.mmu_core.specs.invariant.SlotSetPart.{IsLiveIn}

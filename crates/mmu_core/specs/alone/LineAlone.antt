@@ -15,12 +15,11 @@ use Rattle.mmu_core.specs.declared.outcome.Outcome.{Outcome}
 use Rattle.mmu_core.specs.declared.outcome.Outcome.TheVariants.{Goes, Ends}
 use Rattle.mmu_core.specs.alone.AloneKnows.{AloneKnows}
 use Rattle.mmu_core.specs.lines.Bounds.{most_steps}
-use Rattle.mmu_core.specs.lines.ClaimSteps.{FreeMap, map_area, map_words}
+use Rattle.mmu_core.specs.orders.ClaimSteps.{FreeMap, map_area, map_words}
 use Rattle.mmu_core.specs.lines.ScanPlaces.{answer_without}
 use Rattle.mmu_core.specs.lines.Forms.{steps_left}
 pub use Rattle.mmu_core.specs.lines.Delays.{line_waits}
 use Rattle.mmu_core.specs.machine.Enabled.{mmu}
-use Rattle.mmu_core.specs.machine.NextSteps.{HasLineThatFits}
 use Rattle.mmu_core.specs.alone.SeenStands.{NoneFreeBefore}
 use Rattle.mmu_core.specs.invariant.Laws.{IsSound}
 use Rattle.mmu_core.specs.machine.Machine.{Legal, May, Step, World, answered, effect, hand_in, run}
@@ -83,9 +82,9 @@ pub record EndsAlone (z : Sizes) (w : World Held) (a : ℕ) : Type 0 where
   pub sound : IsSound z (run mmu w steps)
   pub rest : AllRest (run mmu w steps)
 
--- A line alone, that writes a number of 64 bits if it writes, can be run to its answer.
+-- A line alone can be run to its answer.
 abbrev pub LineEndsAlone : Type 0
-LineEndsAlone = (z : Sizes) (w : World Held) (a : ℕ) → LineAlone z w a → HasLineThatFits (hand_in mmu w a) → EndsAlone z w a
+LineEndsAlone = (z : Sizes) (w : World Held) (a : ℕ) → LineAlone z w a → EndsAlone z w a
 
 -- Where the pool has as many pages as the trace needs at most, no line that runs alone is starved.
 abbrev pub NoneStarvedAlone : Type 0

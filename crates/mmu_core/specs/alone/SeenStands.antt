@@ -6,7 +6,7 @@ use Rattle.core_views.specs.declared.topics.MapClaim.{MapClaim}
 use Rattle.core_views.specs.declared.topics.Stay.TheVariants.{Section}
 use Rattle.core_views.specs.declared.topics.Topics.{Topics}
 use Rattle.part_steps.specs.StayTopics.{has_lock}
-use Rattle.mmu_core.specs.lines.ClaimSteps.{FreeMap, claim_over, map_area}
+use Rattle.mmu_core.specs.orders.ClaimSteps.{FreeMap, claim_over, map_area}
 use Rattle.mmu_core.specs.lines.PartWaits.{is_owing, saw_open}
 
 -- The words of the map up to this one are 0: no page or frame of theirs is free.

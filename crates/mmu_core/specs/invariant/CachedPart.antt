@@ -5,7 +5,7 @@ use Rattle.core_views.specs.declared.sizes.Sizes.{Sizes}
 use Rattle.core_views.specs.declared.trace.Slot.{Slot as SlotOf}
 use Rattle.core_views.specs.Slots.{contains}
 use Rattle.mmu_core.specs.invariant.SlotSetPart.{IsLiveIn}
-use Rattle.mmu_core.specs.lines.Cached.{covers}
+use Rattle.mmu_core.specs.forms.access.Cached.{covers}
 use Rattle.part_steps.specs.PartBounds.{IsAtLeafLevel}
 use Rattle.part_steps.specs.SlotWords.{leaf_at, page_of}
 use Rattle.spte_words.specs.Entries.{level_span, mapped_frame}

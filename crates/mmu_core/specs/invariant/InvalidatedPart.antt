@@ -18,7 +18,7 @@ use Rattle.mmu_core.specs.invariant.AllOver.{AllOver}
 use Rattle.mmu_core.specs.invariant.CachedPart.{AgreePart}
 use Rattle.mmu_core.specs.invariant.SlotSetPart.{IsLiveIn}
 use Rattle.mmu_core.specs.invariant.TreePart.{Position, Use}
-use Rattle.mmu_core.specs.lines.Cached.{asks_flush, covers}
+use Rattle.mmu_core.specs.forms.access.Cached.{asks_flush, covers}
 
 -- The guest frame is one of those that the invalidation is of.
 abbrev pub IsIn : Invalidated → ℕ → Type 0

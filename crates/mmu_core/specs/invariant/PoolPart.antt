@@ -24,8 +24,8 @@ abbrev pub is_retired : Option ℕ → ℕ → Bool
 is_retired retired k = is_number (λ (page : ℕ). page) retired k
 
 -- Actor i, of n, has retired the page.
-abbrev pub leaves : ℕ → (ℕ → Option ℕ) → ℕ → ℕ → Bool
-leaves n retired i k = has_at is_retired n retired i k
+abbrev pub has_retired : ℕ → (ℕ → Option ℕ) → ℕ → ℕ → Bool
+has_retired n retired i k = has_at is_retired n retired i k
 
 -- Two uses are one.
 abbrev pub is_use : Use → Use → Bool
@@ -44,7 +44,7 @@ abbrev pub page_told : ℕ → ℕ → ℕ → (ℕ → ℕ) → (ℕ → Option
 page_told n pages slots map owned retired up Free k = is_free map k
 page_told n pages slots map owned retired up (Owned i) k = owns n owned i k
 page_told n pages slots map owned retired up SlotSet k = slots == k
-page_told n pages slots map owned retired up (OldSet i) k = leaves n retired i k
+page_told n pages slots map owned retired up (OldSet i) k = has_retired n retired i k
 page_told n pages slots map owned retired up Outside k = nat_le pages k
 page_told n pages slots map owned retired up Root k = is_use Root (up k)
 page_told n pages slots map owned retired up (Under page entry) k = is_use (Under page entry) (up k)

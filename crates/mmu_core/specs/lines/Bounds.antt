@@ -9,8 +9,8 @@ use Rattle.core_views.specs.declared.topics.Topics.{Topics}
 use Rattle.core_views.specs.declared.trace.Command.{Command}
 use Rattle.core_views.specs.declared.trace.Command.TheVariants.{Access, ChangeHost, ClearLog, GetLog, SetLog}
 use Rattle.spte_words.specs.Areas.{words_of_bits}
-use Rattle.mmu_core.specs.lines.FaultLeft.{fault_left}
-pub use Rattle.mmu_core.specs.lines.SearchLeft.{look_left}
+use Rattle.mmu_core.specs.forms.access.FaultLeft.{fault_left}
+pub use Rattle.mmu_core.specs.forms.access.SearchLeft.{look_left}
 
 -- An access that finds no translation faults once, fast and then whole, and then finds the leaf in another stay: what is left of it from each place on. A
 -- walk goes through four tables at most.

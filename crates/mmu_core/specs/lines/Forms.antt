@@ -1,6 +1,6 @@
 -- What each form of line says at its places: a clause a form in each table. The tables are filled in by the form's own files.
-use Rattle.mmu_core.specs.lines.HostKnows.{HostKnows, HostRests}
-use Rattle.mmu_core.specs.lines.HostSteps.{host_left, host_note, host_outcome, host_part, host_tells}
+use Rattle.mmu_core.specs.forms.host.HostKnows.{HostKnows, HostRests}
+use Rattle.mmu_core.specs.forms.host.HostSteps.{host_left, host_note, host_outcome, host_part, host_tells}
 use Rattle.core_views.specs.declared.place.HostPlace.TheVariants as host
 use Rattle.std.specs.Prelude.{◌≡◌, ℕ, List, [], Option, Some, is_some, true, false}
 use Rattle.circular_buffer.specs.Buffer.{Buffer}
@@ -24,20 +24,20 @@ use Rattle.part_steps.specs.declared.part_step.PartStep.TheVariants as part
 use Rattle.part_steps.specs.PartSteps.{IsAtRest, PartNeeds, has_line}
 use Rattle.mmu_core.specs.declared.outcome.Outcome.{Outcome}
 use Rattle.mmu_core.specs.declared.outcome.Outcome.TheVariants.{Goes}
-use Rattle.mmu_core.specs.lines.AccessKnows.{AccessKnows, RestsOn}
-use Rattle.mmu_core.specs.lines.AccessSteps.{access_caches, access_loads, access_note, access_outcome, access_part, access_tells}
+use Rattle.mmu_core.specs.forms.access.AccessKnows.{AccessKnows, RestsOn}
+use Rattle.mmu_core.specs.forms.access.AccessSteps.{access_caches, access_loads, access_note, access_outcome, access_part, access_tells}
 use Rattle.mmu_core.specs.lines.Bounds.{access_left}
-use Rattle.mmu_core.specs.lines.LogKnows.{LogKnows, LogRests}
-use Rattle.mmu_core.specs.lines.LogLeft.{log_left}
-use Rattle.mmu_core.specs.lines.LogOutcomes.{after_log, harvest_after}
-use Rattle.mmu_core.specs.lines.LogSteps.{log_first, log_next, log_note, log_part, log_reads}
-use Rattle.mmu_core.specs.lines.LogTells.{log_tells}
+use Rattle.mmu_core.specs.forms.log.LogKnows.{LogKnows, LogRests}
+use Rattle.mmu_core.specs.forms.log.LogLeft.{log_left}
+use Rattle.mmu_core.specs.forms.log.LogOutcomes.{after_log, harvest_after}
+use Rattle.mmu_core.specs.forms.log.LogSteps.{log_first, log_next, log_note, log_part, log_reads}
+use Rattle.mmu_core.specs.forms.log.LogTells.{log_tells}
 pub use Rattle.mmu_core.specs.lines.MayHave.{RetiresPart, may_open, may_own_frame, may_retire}
-use Rattle.mmu_core.specs.lines.SlotChangeKnows.{RecordAccepts, SlotChangeHolds, SlotChangeKnows, SlotChangeRests}
-use Rattle.mmu_core.specs.lines.SlotChangeLeft.{slot_change_left}
-use Rattle.mmu_core.specs.lines.SlotChangeSteps.{slot_change_first, slot_change_note, slot_change_outcome, slot_change_part}
-use Rattle.mmu_core.specs.lines.SlotChangeSteps.{slot_change_records}
-use Rattle.mmu_core.specs.lines.SlotChangeTells.{slot_change_tells}
+use Rattle.mmu_core.specs.forms.slot_change.SlotChangeKnows.{RecordAccepts, SlotChangeHolds, SlotChangeKnows, SlotChangeRests}
+use Rattle.mmu_core.specs.forms.slot_change.SlotChangeLeft.{slot_change_left}
+use Rattle.mmu_core.specs.forms.slot_change.SlotChangeSteps.{slot_change_first, slot_change_note, slot_change_outcome, slot_change_part}
+use Rattle.mmu_core.specs.forms.slot_change.SlotChangeSteps.{slot_change_records}
+use Rattle.mmu_core.specs.forms.slot_change.SlotChangeTells.{slot_change_tells}
 
 -- ---- the order of its steps
 

@@ -3,8 +3,8 @@ use Rattle.std.specs.Prelude.{◌≡◌, Bool, None, false}
 use Rattle.core_views.specs.declared.place.Place.{Place}
 use Rattle.core_views.specs.declared.place.Place.TheVariants as place
 use Rattle.core_views.specs.declared.topics.Topics.{Topics}
-use Rattle.mmu_core.specs.lines.HostKnows.{host_opens, host_owns_frame}
-use Rattle.mmu_core.specs.lines.SlotChangeKnows.{slot_change_opens, slot_change_retires}
+use Rattle.mmu_core.specs.forms.host.HostKnows.{host_opens, host_owns_frame}
+use Rattle.mmu_core.specs.forms.slot_change.SlotChangeKnows.{slot_change_opens, slot_change_retires}
 
 -- Its actor may have a page that is retired, an open invalidation, or a frame.
 abbrev pub may_retire : Place → Bool

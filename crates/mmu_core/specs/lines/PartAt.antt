@@ -6,8 +6,8 @@ use Rattle.core_views.specs.Held.{Held}
 use Rattle.spte_words.specs.Areas.{content_index}
 use Rattle.part_steps.specs.declared.task.Task.{Task}
 use Rattle.part_steps.specs.Tasks.{map_of, no_task}
-use Rattle.mmu_core.specs.lines.AccessSteps.{task_by, touch_of}
-use Rattle.mmu_core.specs.lines.Cached.{frame_used}
+use Rattle.mmu_core.specs.forms.access.AccessSteps.{task_by, touch_of}
+use Rattle.mmu_core.specs.forms.access.Cached.{frame_used}
 use Rattle.mmu_core.specs.lines.Forms.{note_at, part_at}
 
 -- what the guest touches for the command, through the leaf that its access uses

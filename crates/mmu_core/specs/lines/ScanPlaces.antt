@@ -13,7 +13,7 @@ use Rattle.core_views.specs.declared.place.HostPlace.TheVariants as host
 use Rattle.core_views.specs.declared.place.SlotChangePlace.TheVariants as change
 use Rattle.core_views.specs.declared.answer.Answer.{Answer}
 use Rattle.core_views.specs.declared.answer.Refusal.TheVariants.{NoFrame}
-pub use Rattle.mmu_core.specs.lines.ClaimSteps.{FreeMap, Pages, Frames}
+pub use Rattle.mmu_core.specs.orders.ClaimSteps.{FreeMap, Pages, Frames}
 
 -- At the claim of a page, or of a frame: whether it has loaded a word of the map.
 abbrev pub claim_at : FreeMap → Place → Option Bool

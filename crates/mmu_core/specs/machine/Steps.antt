@@ -15,7 +15,7 @@ pub use Rattle.core_views.specs.Held.{line_at, next_line}
 use Rattle.core_views.specs.Sizes.{no_sizes}
 use Rattle.core_views.specs.SlotSets.{MemorySlots}
 use Rattle.part_steps.specs.declared.task.Task.{Task}
-use Rattle.mmu_core.specs.lines.Cached.{flushed}
+use Rattle.mmu_core.specs.forms.access.Cached.{flushed}
 pub use Rattle.part_steps.specs.PartSteps.{has_line}
 use Rattle.mmu_core.specs.lines.Delays.{counted, delays_counted, is_delay, steps_counted}
 use Rattle.mmu_core.specs.lines.Forms.{caches_at, first_place, loads_at, outcome_at, reads_at, records_at, tells_at}

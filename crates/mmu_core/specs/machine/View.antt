@@ -11,7 +11,7 @@ use Rattle.core_views.specs.Kinds.{operation_of, word_after, word_answered}
 use Rattle.spte_words.specs.declared.area.Area.{Area}
 use Rattle.spte_words.specs.Areas.{number_of, place, size_of}
 use Rattle.part_steps.specs.declared.task.Task.{Task}
-use Rattle.mmu_core.specs.lines.Cached.{flushed}
+use Rattle.mmu_core.specs.forms.access.Cached.{flushed}
 use Rattle.mmu_core.specs.machine.Enabled.{mmu}
 use Rattle.mmu_core.specs.machine.Machine.{World, hand_in}
 use Rattle.mmu_core.specs.lines.Forms.{caches_at, outcome_at, reads_at, records_at}

@@ -29,7 +29,7 @@ use Rattle.mmu_core.specs.machine.Steps.{line_at, place_at, standing, task_at}
 use Rattle.mmu_core.specs.machine.Outcomes.{answers_after, place_after}
 use Rattle.mmu_core.specs.machine.Turns.{line_of, outcome_of}
 use Rattle.mmu_core.specs.machine.View.{View, answer_in, hand_after, view, word_in, words_after}
-use Rattle.mmu_laws.proofs.Forms.{slot_fits}
+use Rattle.mmu_laws.proofs.EachForm.{slot_fits}
 use Rattle.mmu_laws.proofs.alone.AloneStep.{alone_step}
 use Rattle.mmu_laws.proofs.alone.GoesAlone.{GoesAlone, GoesOnAlone, topics_at}
 use Rattle.mmu_core.proofs.lines.Forms.{begins_without}

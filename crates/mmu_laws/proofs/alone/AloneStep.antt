@@ -18,7 +18,7 @@ use Rattle.core_views.specs.Sizes.{actors_of, index_of}
 use Rattle.core_views.specs.Traces.{IsCommandFor}
 use Rattle.spte_words.specs.declared.area.Area.{Area}
 use Rattle.part_steps.specs.declared.part_step.PartStep.{PartStep}
-use Rattle.mmu_core.specs.lines.AccessSteps.{task_by, touch_of}
+use Rattle.mmu_core.specs.forms.access.AccessSteps.{task_by, touch_of}
 use Rattle.mmu_core.specs.alone.AloneKnows.{AloneKnows, FormAlone}
 use Rattle.mmu_core.specs.machine.Enabled.{mmu}
 use Rattle.mmu_core.specs.lines.Forms.{KnowsPart, RetiresPart, steps_left, note_at, part_at, RestsAt, outcome_at}
@@ -34,7 +34,7 @@ use Rattle.mmu_core.specs.declared.outcome.Outcome.{Outcome}
 use Rattle.mmu_core.specs.declared.outcome.Outcome.TheVariants.{Goes, Ends}
 use Rattle.mmu_core.specs.declared.claim.FreeMap.{FreeMap}
 use Rattle.mmu_core.specs.declared.claim.FreeMap.TheVariants.{Frames, Pages}
-use Rattle.mmu_core.specs.lines.ClaimSteps.{claim_over, map_area, map_words, try_part}
+use Rattle.mmu_core.specs.orders.ClaimSteps.{claim_over, map_area, map_words, try_part}
 use Rattle.mmu_core.specs.lines.Delays.{begins_anew, leaves_to_fault, line_waits, walks_again, waits_by}
 use Rattle.mmu_core.specs.lines.PartAt.{touch_at}
 use Rattle.mmu_core.specs.lines.PartWaits.{part_waits}
@@ -53,13 +53,13 @@ use Rattle.mmu_core.proofs.machine.PartStepping.{behind_part}
 use Rattle.mmu_core.proofs.lines.StepIn.{topics_of_step}
 use Rattle.mmu_core.proofs.machine.GoesOn.{GoesUnderWay}
 use Rattle.mmu_laws.specs.turns.Removal.{WalksInstalled}
-use Rattle.mmu_laws.proofs.Forms.{SlotFits}
+use Rattle.mmu_laws.proofs.EachForm.{SlotFits}
 use Rattle.mmu_laws.proofs.alone.GoesAlone.{GoesAlone, GoesOnAlone, topics_at}
-use Rattle.mmu_laws.proofs.alone.HostLines.{host_form}
+use Rattle.mmu_laws.proofs.forms.host.HostLines.{host_form}
 use Rattle.mmu_laws.proofs.alone.PartAlone.{part_goes_alone, seen_on}
-use Rattle.mmu_laws.proofs.turns.StayNearer.{Nearer}
+use Rattle.mmu_laws.proofs.forms.access.StayNearer.{Nearer}
 use Rattle.mmu_laws.proofs.turns.TurnsNearer.{no_miss, none_of, place_nearer}
-use Rattle.mmu_laws.proofs.alone.AccessAlone.{FormNext, KnowsAfter, access_form, simple_form}
+use Rattle.mmu_laws.proofs.forms.access.AccessAlone.{FormNext, KnowsAfter, access_form, simple_form}
 use Rattle.mmu_core.proofs.held.OwnPages.{own_words}
 
 -- ---- what an access knows and never does alone

@@ -30,15 +30,15 @@ use Rattle.log_invariant.specs.LogInvariant.{IsMarkingAt}
 use Rattle.log_invariant.proofs.CoveredKept.{PublishesLog, logged_before}
 use Rattle.log_invariant.proofs.HeldLogs.{IsLoggedNow}
 use Rattle.log_invariant.proofs.StepPlaces.{of_hand, publishes, step_at}
-use Rattle.mmu_laws.specs.alone.ReadingsAlone.{WritesLater, WritesLaterAt}
+use Rattle.mmu_laws.specs.forms.log.ReadingsAlone.{WritesLater, WritesLaterAt}
 use Rattle.mmu_laws.specs.flat.FlatInvariant.{UnderAt}
 use Rattle.mmu_laws.proofs.alone.ArmedLogs.{ArmsLater}
-use Rattle.mmu_laws.proofs.alone.DirtyKept.{StaysPending, dirty_stays}
-use Rattle.mmu_laws.proofs.alone.ReadingDue.{others_idle}
-use Rattle.mmu_laws.proofs.alone.ReadingSteps.{StepsAlone}
+use Rattle.mmu_laws.proofs.forms.log.DirtyKept.{StaysPending, dirty_stays}
+use Rattle.mmu_laws.proofs.forms.log.ReadingDue.{others_idle}
+use Rattle.mmu_laws.proofs.forms.log.LoneReadingSteps.{StepsAlone}
 use Rattle.mmu_laws.proofs.alone.ToldFlat.{step_facts}
-use Rattle.mmu_laws.proofs.alone.WritesLater.{marks_on, writes_on}
-use Rattle.mmu_laws.proofs.alone.WrittenDirty.{logged_armed}
+use Rattle.mmu_laws.proofs.forms.access.WritesLater.{marks_on, writes_on}
+use Rattle.mmu_laws.proofs.forms.access.WrittenDirty.{logged_armed}
 use Rattle.mmu_laws.proofs.flat.BeginningsKept.{StandsAt, stands_at}
 use Rattle.mmu_laws.proofs.flat.FlatKept.{told_events}
 use Rattle.mmu_laws.proofs.flat.LogsStill.{MarksPage, bit_at, same_frame}

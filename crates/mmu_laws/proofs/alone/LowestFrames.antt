@@ -45,12 +45,12 @@ use Rattle.mmu_core.specs.declared.outcome.Outcome.TheVariants.{Ends}
 use Rattle.mmu_core.specs.invariant.FramesPart.{FrameUse}
 use Rattle.mmu_core.specs.invariant.Laws.{IsSound}
 use Rattle.mmu_core.specs.invariant.PoolPart.{is_free}
-use Rattle.mmu_core.specs.lines.AccessSteps.{exiting}
+use Rattle.mmu_core.specs.forms.access.AccessSteps.{exiting}
 use Rattle.mmu_core.specs.declared.claim.FreeMap.TheVariants.{Frames}
-use Rattle.mmu_core.specs.lines.ClaimSteps.{claim_next}
+use Rattle.mmu_core.specs.orders.ClaimSteps.{claim_next}
 use Rattle.mmu_core.specs.lines.Forms.{KnowsPart, outcome_at, tells_at}
-use Rattle.mmu_core.specs.lines.HostKnows.{HostKnows}
-use Rattle.mmu_core.specs.lines.HostSteps.{after_frame_claim, entry_of, word_put}
+use Rattle.mmu_core.specs.forms.host.HostKnows.{HostKnows}
+use Rattle.mmu_core.specs.forms.host.HostSteps.{after_frame_claim, entry_of, word_put}
 use Rattle.mmu_core.specs.machine.Enabled.{mmu}
 use Rattle.mmu_core.specs.machine.Machine.{Legal, May, Step, World, answered, effect, hand_in, run}
 use Rattle.mmu_core.specs.machine.Outcomes.{answering}

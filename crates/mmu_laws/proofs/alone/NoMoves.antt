@@ -1,6 +1,6 @@
 -- Which events are no move of a page, nor a move that is refused a frame: all that lines tell but at the claim of a frame and at the exchange of a host word.
 use Rattle.core_views.specs.declared.trace.Command.TheVariants.{ClearLog, GetLog}
-use Rattle.mmu_core.proofs.lines.LogTold.{log_tells_so}
+use Rattle.mmu_core.proofs.forms.log.LogTold.{log_tells_so}
 use Rattle.std.proofs.Common.{◌≡◌, ◌≢◌, List, [], ◌∷◌, ◌++◌, ℕ, refl}
 use Rattle.std.specs.Prelude.{Bool, true, false, ◌==◌}
 use Rattle.core_views.specs.declared.actor.Actor.{Actor}
@@ -30,7 +30,7 @@ use Rattle.core_views.specs.SlotSets.{MemorySlots}
 use Rattle.part_steps.specs.PartTasks.{page_looked, word_looked}
 use Rattle.mmu_core.specs.declared.outcome.Outcome.{Outcome}
 use Rattle.mmu_core.specs.declared.outcome.Outcome.TheVariants.{Goes, Ends}
-use Rattle.mmu_core.specs.lines.AccessSteps.{access_tells, exiting, fault_over}
+use Rattle.mmu_core.specs.forms.access.AccessSteps.{access_tells, exiting, fault_over}
 use Rattle.mmu_core.specs.lines.Forms.{first_place, outcome_at, tells_at}
 use Rattle.mmu_core.specs.machine.Outcomes.{answering}
 use Rattle.mmu_core.specs.machine.Steps.{beginning}

@@ -18,9 +18,9 @@ use Rattle.core_views.specs.HostChanges.{is_own}
 use Rattle.part_steps.specs.PartTasks.{page_looked, word_looked}
 use Rattle.mmu_core.specs.declared.outcome.Outcome.{Outcome}
 use Rattle.mmu_core.specs.declared.outcome.Outcome.TheVariants.{Goes, Ends}
-use Rattle.mmu_core.specs.lines.AccessSteps.{access_tells, exiting, fault_over}
+use Rattle.mmu_core.specs.forms.access.AccessSteps.{access_tells, exiting, fault_over}
 use Rattle.mmu_core.specs.lines.Forms.{outcome_at, tells_at}
-use Rattle.mmu_core.specs.lines.HostSteps.{entry_of, host_outcome, host_tells, word_put}
+use Rattle.mmu_core.specs.forms.host.HostSteps.{entry_of, host_outcome, host_tells, word_put}
 use Rattle.mmu_core.proofs.lines.EitherPlace.{either_place}
 use Rattle.mmu_core.proofs.lines.Forms.{place_tells}
 use Rattle.mmu_core.proofs.lines.SimplePlaces.{Told, Nothing, Arms, ArmsClean, Exit, Change, OfAccess, OfHost, OfLog}

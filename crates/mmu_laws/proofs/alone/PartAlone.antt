@@ -25,17 +25,17 @@ use Rattle.mmu_core.specs.alone.SeenStands.{NoneFreeBefore, ScanStands, SeenStan
 use Rattle.mmu_core.specs.invariant.Laws.{IsSound}
 use Rattle.mmu_core.specs.declared.claim.FreeMap.{FreeMap}
 use Rattle.mmu_core.specs.declared.claim.FreeMap.TheVariants.{Frames, Pages}
-use Rattle.mmu_core.specs.lines.ClaimSteps.{claim_over, map_area, try_part}
+use Rattle.mmu_core.specs.orders.ClaimSteps.{claim_over, map_area, try_part}
 use Rattle.mmu_core.specs.lines.PartWaits.{is_owing, part_waits, saw_open}
 use Rattle.mmu_core.specs.machine.Enabled.{mmu}
 use Rattle.mmu_core.specs.machine.Machine.{World, hand_in}
 use Rattle.mmu_core.specs.machine.View.{answer_in, word_in, words_after}
 use Rattle.mmu_core.proofs.invariant.AloneLaws.{lock_free, outside_word}
-use Rattle.mmu_core.proofs.lines.ClaimMade.{saw_bit}
-use Rattle.mmu_core.proofs.lines.FaultScans.{KeepsScan, gives}
-use Rattle.mmu_core.proofs.lines.FaultScans as scans
-use Rattle.mmu_core.proofs.lines.ShareMade.{no_writer}
-use Rattle.mmu_laws.proofs.alone.FaultComes.{is_it}
+use Rattle.mmu_core.proofs.orders.ClaimMade.{saw_bit}
+use Rattle.mmu_core.proofs.forms.access.FaultScans.{KeepsScan, gives}
+use Rattle.mmu_core.proofs.forms.access.FaultScans as scans
+use Rattle.mmu_core.proofs.orders.ShareMade.{no_writer}
+use Rattle.mmu_laws.proofs.forms.access.FaultComes.{is_it}
 use Rattle.mmu_laws.proofs.alone.OthersOpen.{flushed_alone, none_more, own_alone}
 use Rattle.mmu_core.proofs.lines.NotOpen.{closed_on}
 
@@ -121,7 +121,7 @@ module _ (z : Sizes) (w : World Held) (a note : ℕ) (sound : IsSound z w) (othe
         ap not (ap (is_won t.frames.claim) ((S.scan Frames (tries Frames refl)).seen N.1)
         ∙ saw_bit t.frames.claim N.1 (sound.topics.counters a there).frames.seen)
     part_goes_alone part.Exclude N tries = ap not (is_it (found part.Exclude) 0 (lock_free z w a sound there others N))
-    part_goes_alone part.Release N tries = S.saw_closed (ap (λ (x : Hold). has_lock x) N)
+    part_goes_alone part.Release N tries = S.saw_closed (ap (λ (x : Hold). has_lock x) N.alone)
     part_goes_alone (part.Watch index) N tries =
         outside_word z w a index sound others (subst (λ (y : Sizes). index < actors_of y) (sound.holds.lines a there).sizes N.0) (λ e. N.1 (e ∙ sym own))
     part_goes_alone (part.Await index) N tries =

@@ -26,7 +26,7 @@ use Rattle.part_steps.specs.TopicSteps.{topics_after}
 use Rattle.mmu_laws.specs.causes.Causes.{Finds}
 use Rattle.mmu_core.specs.declared.claim.FreeMap.{FreeMap}
 use Rattle.mmu_core.specs.declared.claim.FreeMap.TheVariants.{Frames, Pages}
-use Rattle.mmu_core.specs.lines.ClaimSteps.{claim_over, map_area, map_words}
+use Rattle.mmu_core.specs.orders.ClaimSteps.{claim_over, map_area, map_words}
 use Rattle.mmu_core.specs.machine.Enabled.{mmu}
 use Rattle.mmu_core.specs.invariant.Laws.{IsSound}
 use Rattle.mmu_core.specs.machine.Machine.{Legal, May, Step, World, answered, effect, hand_in, run}

@@ -17,10 +17,10 @@ use Rattle.mmu_core.specs.machine.Enabled.{mmu}
 use Rattle.mmu_core.specs.invariant.Laws.{IsSound}
 use Rattle.mmu_core.specs.machine.Machine.{Step, World, hand_in, run}
 use Rattle.mmu_core.specs.machine.Steps.{nobody}
-use Rattle.mmu_laws.proofs.causes.CauseOwn.{own_saw}
-use Rattle.mmu_laws.proofs.causes.CausePlaces.{CauseSaw, FaultSaw, others_saw}
-use Rattle.mmu_laws.proofs.causes.EachFault.{AreSeen, each_fault}
-use Rattle.mmu_laws.proofs.causes.Entries.{IsOfFrame, cause_of_frame}
+use Rattle.mmu_laws.proofs.forms.access.CauseOwn.{own_saw}
+use Rattle.mmu_laws.proofs.forms.access.CausePlaces.{CauseSaw, FaultSaw, others_saw}
+use Rattle.mmu_laws.proofs.forms.access.EachFault.{AreSeen, each_fault}
+use Rattle.mmu_laws.proofs.forms.access.Entries.{IsOfFrame, cause_of_frame}
 use Rattle.mmu_core.proofs.machine.Worlds.{good_run}
 
 causes_seen : (z : Sizes) (w : World Held) → AreSeen z w (λ actor. FaultSaw z actor w)

@@ -23,12 +23,12 @@ use Rattle.part_steps.specs.PartTasks.{all_but, part_kind}
 use Rattle.part_steps.specs.Tasks.{map_of}
 use Rattle.mmu_core.specs.declared.claim.FreeMap.{FreeMap}
 use Rattle.mmu_core.specs.declared.claim.FreeMap.TheVariants.{Frames, Pages}
-use Rattle.mmu_core.specs.lines.ClaimSteps.{claim_over, load_part, map_area, map_words, try_part}
+use Rattle.mmu_core.specs.orders.ClaimSteps.{claim_over, load_part, map_area, map_words, try_part}
 use Rattle.mmu_laws.specs.causes.Waits.{IsOffWord, IsTaken, word_of_map}
 use Rattle.part_steps.specs.PageTopics.{is_won, tried_bit}
 use Rattle.mmu_laws.proofs.causes.Changes.{Knows, knows_now, was_changed}
-use Rattle.mmu_core.proofs.lines.ClaimMade.{saw_bit}
-use Rattle.mmu_core.proofs.lines.FaultSame.{is_not}
+use Rattle.mmu_core.proofs.orders.ClaimMade.{saw_bit}
+use Rattle.mmu_core.proofs.forms.access.FaultSame.{is_not}
 use Rattle.mmu_laws.proofs.causes.CauseSteps.{IsExchange, IsLoad}
 use Rattle.mmu_laws.proofs.causes.MadeSteps.{Makes, exchange_finds, load_keeps, own_rests, own_sizes, word_on}
 

@@ -1,7 +1,7 @@
 -- Whom a step of an actor finds in its way: who has the lock where its word isn't 0, and who is inside where its state word says so.
 use Rattle.spte_words.specs.Bits.{has_bit}
 use Rattle.mmu_core.specs.invariant.StatesPart.{stay_bits}
-use Rattle.mmu_core.proofs.lines.FaultSame.{both}
+use Rattle.mmu_core.proofs.forms.access.FaultSame.{both}
 use Rattle.std.specs.Prelude.{◌%◌}
 use Rattle.core_views.specs.declared.topics.Stay.TheVariants.{Guest, Outside, Section}
 use Rattle.std.proofs.Common.{◌≡◌, ◌≢◌, ◌⊎◌, inl, inr, ◌<◌, ◌≤◌, ◌+◌, ◌*◌, ◌^◌, ℕ, refl, sym, subst, ap, ◌∙◌, arith}

@@ -22,9 +22,9 @@ use Rattle.mmu_core.specs.declared.claim.ClaimNext.{ClaimNext}
 use Rattle.mmu_core.specs.declared.claim.ClaimNext.TheVariants as claims
 use Rattle.mmu_core.specs.declared.claim.FreeMap.{FreeMap}
 use Rattle.mmu_core.specs.declared.claim.FreeMap.TheVariants.{Frames, Pages}
-use Rattle.mmu_core.specs.lines.ClaimSteps.{claim_next, claim_over, claim_part, load_part, map_word, map_words, word_after_load}
-use Rattle.mmu_core.proofs.lines.ClaimMade.{ClaimMade, claim_made, claim_seen, won_over}
-use Rattle.mmu_core.proofs.lines.ClaimMade as made
+use Rattle.mmu_core.specs.orders.ClaimSteps.{claim_next, claim_over, claim_part, load_part, map_word, map_words, word_after_load}
+use Rattle.mmu_core.proofs.orders.ClaimMade.{ClaimMade, claim_made, claim_seen, won_over}
+use Rattle.mmu_core.proofs.orders.ClaimMade as made
 use Rattle.mmu_core.specs.lines.Forms.{KnowsPart, outcome_at, part_at, RestsAt}
 use Rattle.mmu_core.specs.invariant.Laws.{IsSound}
 use Rattle.mmu_core.specs.machine.Machine.{Legal, May, Step, World, effect, hand_in, run}
@@ -37,7 +37,7 @@ use Rattle.mmu_core.specs.declared.outcome.Outcome.{Outcome}
 use Rattle.part_steps.specs.StayTopics.{has_lock}
 use Rattle.mmu_core.proofs.lines.ByStep.{step_needs}
 use Rattle.mmu_core.proofs.lines.ClaimPlaces.{claims_or_not}
-use Rattle.mmu_core.proofs.lines.FaultScans.{frame_maps_not, maps, page_maps_not}
+use Rattle.mmu_core.proofs.forms.access.FaultScans.{frame_maps_not, maps, page_maps_not}
 use Rattle.mmu_core.proofs.lines.LineClaims.{Claims, ClaimsNot, LeadsFromClaim, maps_by, no_claim_between, one_claim}
 use Rattle.mmu_core.proofs.machine.PartStepping.{behind_part}
 use Rattle.mmu_core.proofs.lines.NotOpen.{closed_without, unseen_on}

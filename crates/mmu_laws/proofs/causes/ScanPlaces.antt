@@ -14,7 +14,7 @@ use Rattle.core_views.specs.SlotSets.{MemorySlots}
 use Rattle.core_views.specs.Sizes.{actors_of}
 use Rattle.spte_words.specs.Areas.{place as place_of}
 use Rattle.part_steps.specs.declared.task.Task.{Task}
-use Rattle.mmu_core.specs.lines.AccessSteps.{task_by}
+use Rattle.mmu_core.specs.forms.access.AccessSteps.{task_by}
 use Rattle.mmu_core.specs.machine.Enabled.{IsNext, mmu}
 use Rattle.mmu_core.specs.invariant.Laws.{IsSound}
 use Rattle.mmu_core.specs.machine.Machine.{May, Step, World, answered, effect, hand_in}
@@ -31,13 +31,13 @@ use Rattle.part_steps.specs.declared.part_step.PartStep.{PartStep}
 use Rattle.mmu_core.specs.lines.PartAt.{touch_at}
 use Rattle.mmu_core.specs.declared.claim.FreeMap.{FreeMap}
 use Rattle.mmu_core.specs.declared.claim.FreeMap.TheVariants.{Pages, Frames}
-use Rattle.mmu_core.specs.lines.ClaimSteps.{claim_over, load_part, map_area, map_words}
+use Rattle.mmu_core.specs.orders.ClaimSteps.{claim_over, load_part, map_area, map_words}
 use Rattle.mmu_core.specs.lines.ScanPlaces.{HasScan, answer_without}
 use Rattle.mmu_core.proofs.lines.ClaimPlaces.{claims_or_not}
 use Rattle.mmu_core.proofs.lines.Forms.{begins_without}
 use Rattle.mmu_core.proofs.lines.LineClaims.{ComesToEnd, KeepsAt, keeps_scan, starves}
-use Rattle.mmu_core.proofs.lines.FaultScans.{KeepsScan}
-use Rattle.mmu_core.proofs.lines.FaultScans as scans
+use Rattle.mmu_core.proofs.forms.access.FaultScans.{KeepsScan}
+use Rattle.mmu_core.proofs.forms.access.FaultScans as scans
 use Rattle.mmu_core.proofs.lines.KnowsKept.{knows_at}
 use Rattle.mmu_core.specs.machine.View.{view}
 use Rattle.mmu_laws.proofs.turns.TurnsNearer.{has_left}

@@ -31,7 +31,7 @@ use Rattle.mmu_core.proofs.machine.Worlds.{good_run, good_step}
 use Rattle.core_views.specs.declared.trace.Line.{Line}
 use Rattle.core_views.specs.Flat.{no_line}
 use Rattle.mmu_core.specs.declared.claim.FreeMap.{FreeMap}
-use Rattle.mmu_core.specs.lines.ClaimSteps.{claim_over, map_words}
+use Rattle.mmu_core.specs.orders.ClaimSteps.{claim_over, map_words}
 use Rattle.mmu_core.specs.lines.ScanPlaces.{HasScan, answer_without}
 use Rattle.mmu_core.proofs.lines.LineClaims.{no_scan_between}
 use Rattle.mmu_laws.proofs.causes.ScanPlaces.{IsStarved, own_scans, stands_or_loads, starved_by}

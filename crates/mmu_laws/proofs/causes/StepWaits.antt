@@ -50,7 +50,7 @@ module _ (z : Sizes) (w : World Held) (ss : List (Step Kind)) (s : Step Kind) (G
   caused part.Claim M is S = is_taken z w ss s G may Pages is M (S.claim Pages M.needs.1)
   caused part.Frame M is S = is_taken z w ss s G may Frames is M (S.claim Frames M.needs.1)
   caused part.Exclude M is S = lock_taken z u s G may M is
-  caused part.Release M is S = saw_some M.needs is S
+  caused part.Release M is S = saw_some M.needs.alone is S
   caused (part.Await index) M is S = to_flush z u s G may index M is
   caused (part.Watch index) M is S = other_inside z u s G may index M is
   caused _ M is S = absurd (cc is)

@@ -10,7 +10,7 @@ use Rattle.part_steps.specs.declared.part_step.PartStep.TheVariants as part
 use Rattle.part_steps.specs.ControlBits.{has_writer}
 use Rattle.part_steps.specs.PageTopics.{is_won}
 use Rattle.mmu_core.specs.lines.PartWaits.{WaitsSeeAnother, is_owing, saw_open, was_counted, word_owed, own_open}
-use Rattle.mmu_core.proofs.lines.FaultSame.{both, is_not}
+use Rattle.mmu_core.proofs.forms.access.FaultSame.{both, is_not}
 
 -- It takes itself out of the lock's readers.
 owes : (hold : Hold) (h : Held) → h.topics.hold ≡ hold → is_owing hold ≡ true → ((word : ℕ) → h.topics.hold ≡ Owing word → has_writer word ≡ true)

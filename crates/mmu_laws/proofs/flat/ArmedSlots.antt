@@ -4,7 +4,6 @@ use Rattle.std.specs.Prelude.{true}
 use Rattle.core_views.specs.declared.sizes.Sizes.{Sizes}
 use Rattle.core_views.specs.declared.place.Place.{Place}
 use Rattle.core_views.specs.declared.place.Place.TheVariants as place
-use Rattle.core_views.specs.declared.place.SlotChangePlace.TheVariants.{WriteProtect}
 use Rattle.core_views.specs.declared.trace.Command.{Command}
 use Rattle.core_views.specs.Events.{after_all}
 use Rattle.core_views.specs.Flat.{Flat, first_flat}
@@ -15,41 +14,41 @@ use Rattle.mmu_core.specs.machine.Enabled.{mmu}
 use Rattle.mmu_core.specs.machine.Machine.{run}
 use Rattle.mmu_core.specs.machine.View.{View, view}
 use Rattle.mmu_core.specs.machine.Worlds.{history}
-use Rattle.log_invariant.specs.Excuses.{ExcusesLeaf, ExcusesCached, ForbidsLaterAt}
+use Rattle.log_invariant.specs.Excuses.{ExcusesCached, ExcusesLeaf, forbidding_at}
+use Rattle.log_invariant.specs.Forbidding.{FlushesLater, ForbidsLater}
+use Rattle.log_invariant.specs.forms.slot_change.LogBegins.{begun_at}
+use Rattle.log_invariant.specs.forms.log.LogReads.{taken_at, taken_out}
 use Rattle.log_invariant.specs.LogInvariant.{IsGuarded, IsGuardedIn, LogInvariant}
 use Rattle.log_invariant.proofs.LogRuns.{writes_are_covered}
-use Rattle.mmu_laws.specs.flat.ArmedSlots.{ArmedSlotsAreCovered, FlushesTakenAt, ForbidsTakenAt, IsCoveredOf, IsCoveredSlot}
-use Rattle.mmu_laws.specs.flat.FlatLogs.{FlatLogs, ForbidsAt, IsArmedIn, IsBeginning}
+use Rattle.mmu_laws.specs.flat.ArmedSlots.{ArmedSlotsAreCovered, IsCoveredOf, IsCoveredSlot}
+use Rattle.mmu_laws.specs.flat.FlatLogs.{FlatLogs, IsArmedIn, IsBeginning}
 use Rattle.mmu_laws.proofs.flat.EveryLog.{every_log}
-use Rattle.mmu_laws.proofs.flat.TouchLogs.{use_begins}
+use Rattle.mmu_laws.proofs.forms.access.TouchLogs.{use_begins}
 
 -- Whose line may still allow writes to a guest frame is to begin a log of its slot, or has taken the frame out of it.
-sweep_forbids : (p : Place) (command : Command) (h : Held) (gfn : ℕ) → ForbidsLaterAt p command h gfn → ForbidsAt p gfn ⊎ ForbidsTakenAt p command h gfn
-sweep_forbids (place.SlotChange (WriteProtect range q)) command h gfn later = inl later.0
-sweep_forbids (place.Log p) command h gfn later = inr later
-sweep_forbids _ command h gfn later = absurd later
+forbids_taken : (p : Place) (command : Command) (h : Held) (gfn : ℕ) → ForbidsLater (forbidding_at p command h) gfn
+    → (begun_at p h.topics).Has gfn ⊎ ForbidsLater (taken_at p command h) gfn
+forbids_taken (place.SlotChange q) command h gfn later = inl later.0
+forbids_taken _ command h gfn later = inr later
 
-allow_begins : (h : Held) (gfn : ℕ) → ExcusesLeaf h gfn → IsBeginning h gfn ⊎ ForbidsTakenAt h.state.place h.state.line.command h gfn
+allow_begins : (h : Held) (gfn : ℕ) → ExcusesLeaf h gfn → IsBeginning h gfn ⊎ ForbidsLater (taken_out h) gfn
 allow_begins h gfn (inl opens) = inl (inl opens)
-allow_begins h gfn (inr later) = by (sweep_forbids h.state.place h.state.line.command h gfn later)
+allow_begins h gfn (inr later) = by (forbids_taken h.state.place h.state.line.command h gfn later)
   where
-    by : ForbidsAt h.state.place gfn ⊎ ForbidsTakenAt h.state.place h.state.line.command h gfn
-        → IsBeginning h gfn ⊎ ForbidsTakenAt h.state.place h.state.line.command h gfn
-    by (inl forbids) = inl (inr forbids)
+    by : (begun_at h.state.place h.topics).Has gfn ⊎ ForbidsLater (taken_out h) gfn → IsBeginning h gfn ⊎ ForbidsLater (taken_out h) gfn
+    by (inl begins) = inl (inr begins)
     by (inr taken) = inr taken
 
 -- So where none is to begin it, what is guarded is covered, or taken.
 all_covered : (z : Sizes) (v : View) (id gfn : ℕ) (A : IsArmedIn (actors_of z) (v.words area.Pool) (v.words area.Slots 0) v.hand id)
-    (Excuses : Held → ℕ → Type 0) (ExcusesAt : Place → Command → Held → ℕ → Type 0)
-    → ((h : Held) → Excuses h gfn → IsBeginning h gfn ⊎ ExcusesAt h.state.place h.state.line.command h gfn)
-    → IsGuardedIn (actors_of z) (v.words area.Log) (v.words area.Pool) (v.words area.Slots 0) v.hand Excuses gfn → IsCoveredOf z v ExcusesAt A.slot gfn
-all_covered z v id gfn A Excuses ExcusesAt begins guarded has = by (guarded id A.slot A.logged has)
+    (Excuses Taken : Held → ℕ → Type 0) → ((h : Held) → Excuses h gfn → IsBeginning h gfn ⊎ Taken h gfn)
+    → IsGuardedIn (actors_of z) (v.words area.Log) (v.words area.Pool) (v.words area.Slots 0) v.hand Excuses gfn → IsCoveredOf z v Taken A.slot gfn
+all_covered z v id gfn A Excuses Taken begins guarded has = by (guarded id A.slot A.logged has)
   where
     Covered : Type 0
-    Covered = IsGuarded (actors_of z) (v.words area.Log) v.hand (λ h. ExcusesAt h.state.place h.state.line.command h) A.slot gfn
+    Covered = IsGuarded (actors_of z) (v.words area.Log) v.hand Taken A.slot gfn
 
-    excused : (j : ℕ) → j < actors_of z → IsBeginning (v.hand j) gfn ⊎ ExcusesAt (v.hand j).state.place (v.hand j).state.line.command (v.hand j) gfn
-        → Covered
+    excused : (j : ℕ) → j < actors_of z → IsBeginning (v.hand j) gfn ⊎ Taken (v.hand j) gfn → Covered
     excused j lt (inl B) = absurd (A.begun j gfn lt has B)
     excused j lt (inr taken) = inr (j, lt, taken)
 
@@ -63,9 +62,10 @@ covered_slot z v f id G L on =
       slot = A.slot;
       logged = A.logged;
       leaves = λ up spot T table entry gfn hangs over leaf allows.
-          all_covered z v id gfn A ExcusesLeaf ForbidsTakenAt (λ h. allow_begins h gfn) (G.leaves up spot T table entry gfn hangs over leaf allows);
+          all_covered z v id gfn A ExcusesLeaf (λ h. ForbidsLater (taken_out h)) (λ h. allow_begins h gfn) (G.leaves up spot T table entry gfn hangs over leaf
+          allows);
       cached = λ k low may i d lt allows gfn over.
-          all_covered z v id gfn A (ExcusesCached k (v.words area.State k)) (λ p command h. FlushesTakenAt p command h k (v.words area.State k))
+          all_covered z v id gfn A (ExcusesCached k (v.words area.State k)) (λ h. FlushesLater (taken_out h) k (v.words area.State k))
           (λ h. use_begins k (v.words area.State k) h gfn) (G.cached k low may i d lt allows gfn over);
     }
 

@@ -31,24 +31,24 @@ use Rattle.mmu_core.specs.declared.write_protect.WriteProtectNext.{WriteProtectN
 use Rattle.mmu_core.specs.declared.write_protect.WriteProtectNext.TheVariants as protects_next
 use Rattle.mmu_core.specs.invariant.Invariant.{Invariant}
 use Rattle.mmu_core.specs.invariant.TopicsInvariant.{TopicsInvariant}
-use Rattle.mmu_core.specs.lines.SlotChangeSteps.{after_protect}
-use Rattle.mmu_core.specs.lines.SlotChangeTells.{armed, protect_tells}
-use Rattle.mmu_core.specs.lines.WriteProtectSteps.{protect_next}
+use Rattle.mmu_core.specs.forms.slot_change.SlotChangeSteps.{after_protect}
+use Rattle.mmu_core.specs.forms.slot_change.SlotChangeTells.{arming, protect_tells}
+use Rattle.mmu_core.specs.orders.WriteProtectSteps.{protect_next}
 use Rattle.mmu_core.specs.machine.Steps.{task_at}
 use Rattle.mmu_core.specs.machine.View.{View, answer_in, hand_after, stepped}
-use Rattle.mmu_core.proofs.lines.AccessParts.{AreSmall}
+use Rattle.mmu_core.proofs.forms.access.AccessParts.{AreSmall}
 use Rattle.mmu_core.proofs.lines.KnowsKept.{step_knows}
 use Rattle.mmu_core.proofs.machine.Columns.{upd_same}
 use Rattle.mmu_core.proofs.machine.Stepping.{IsStep}
 use Rattle.mmu_core.proofs.slots.Changes.{change_is_managers}
-use Rattle.mmu_core.proofs.slots.SlotChangeKept.{record_of}
+use Rattle.mmu_core.proofs.forms.slot_change.SlotChangeKept.{record_of}
 use Rattle.log_invariant.specs.LogInvariant.{LogInvariant}
 use Rattle.log_invariant.proofs.PublishedLogs.{HasLog, recorded_logged}
 use Rattle.mmu_laws.specs.flat.FlatInvariant.{FlatInvariant}
 use Rattle.mmu_laws.specs.flat.FlatLogs.{FlatLogs, FlatLogsOf, IsArmedIn, IsBeginning, IsDirtyIn}
 use Rattle.mmu_laws.proofs.flat.BeginningsKept.{beginning_before, beginning_is, told_later}
 use Rattle.mmu_laws.proofs.flat.FlatKept.{told_events}
-use Rattle.mmu_laws.proofs.flat.GivenLogs.{HasGiven, LogsGiven, given_here}
+use Rattle.mmu_laws.proofs.forms.slot_change.GivenLogs.{HasGiven, LogsGiven, given_here}
 use Rattle.mmu_laws.proofs.flat.LogBeginnings.{none_begins}
 use Rattle.mmu_laws.proofs.flat.LogsStill.{logged_still, logs_still}
 use Rattle.mmu_laws.proofs.flat.Told.{told}
@@ -155,7 +155,7 @@ module _ (z : Sizes) (v : View) (a : ℕ) (line : Line) (command : Command) (ran
       still : FlatLogs z behind f
       still = logs_still z v a line command p refl small S I P G f F lines are L refl
 
-      begins : next ≡ protects_next.Over → (c : Command) → command ≡ c → FlatLogs z behind (after_all (told h.state.actor (armed false c ++ [])) f)
+      begins : next ≡ protects_next.Over → (c : Command) → command ≡ c → FlatLogs z behind (after_all (told h.state.actor (arming false c ++ [])) f)
       begins over (SetLog id true) same =
           clean_armed (actors_of z) (behind.words area.Log) (behind.words area.Pool) (behind.words area.Slots 0) behind.hand f h.state.actor id still
           (begun_log over id same)

@@ -2,7 +2,7 @@
 use Rattle.core_views.specs.declared.answer.Refusal.{Refusal}
 use Rattle.core_views.specs.declared.place.LogPlace.TheVariants as log
 use Rattle.core_views.specs.LogCommands.{read_refusal, takes_out}
-use Rattle.mmu_core.specs.lines.LogSteps.{log_first}
+use Rattle.mmu_core.specs.forms.log.LogSteps.{log_first}
 use Rattle.core_views.specs.declared.trace.Command.TheVariants.{ClearLog, GetLog}
 use Rattle.std.proofs.Common.{◌≡◌, inl, inr, ◌<◌, ◌++◌, [], ℕ, List, refl, sym, subst, ap, ◌∙◌}
 use Rattle.std.specs.Prelude.{Bool, true, false, Option, Some, None}
@@ -25,7 +25,7 @@ use Rattle.core_views.specs.SlotCommands.{change_at_once, slot_armed}
 use Rattle.core_views.specs.SlotSets.{MemorySlots}
 use Rattle.mmu_core.specs.invariant.Invariant.{Invariant, KnowsPart}
 use Rattle.mmu_core.specs.lines.Forms.{first_place, outcome_at, records_at}
-use Rattle.mmu_core.specs.lines.SlotChangeSteps.{slot_change_first}
+use Rattle.mmu_core.specs.forms.slot_change.SlotChangeSteps.{slot_change_first}
 use Rattle.mmu_core.specs.lines.Rests.{IsUnderWay}
 use Rattle.mmu_core.specs.machine.Outcomes.{place_after}
 use Rattle.mmu_core.specs.machine.Steps.{beginning, line_at, place_at, task_at}
@@ -34,13 +34,16 @@ use Rattle.mmu_core.proofs.lines.LinesKept.{one_manager}
 use Rattle.mmu_core.proofs.machine.Columns.{at_upd}
 use Rattle.mmu_core.proofs.machine.HandAfter.{loads_same}
 use Rattle.mmu_core.proofs.machine.Stepping.{IsStep}
-use Rattle.mmu_core.proofs.slots.SlotChangeKept.{change_hand}
-use Rattle.log_invariant.specs.LogBegins.{LogIsUnwatchedAt}
+use Rattle.mmu_core.proofs.forms.slot_change.SlotChangeKept.{change_hand}
+use Rattle.log_invariant.specs.forms.slot_change.LogBegins.{LogIsUnwatchedAt, begun_at}
+use Rattle.core_views.specs.declared.topics.Topics.{Topics}
 use Rattle.log_invariant.proofs.StepPlaces.{publishes}
 use Rattle.mmu_laws.specs.flat.FlatLogs.{IsBeginning}
 use Rattle.mmu_laws.proofs.flat.FlatKept.{told_events, told_kinds}
 use Rattle.mmu_laws.proofs.flat.Told.{told}
 use Rattle.mmu_laws.proofs.flat.LogBeginnings.{BeginsAt, begins_before, may_begin, none_begins}
+use Rattle.mmu_core.specs.forms.log.Readings.{Reading, has_begun, reading_at}
+use Rattle.core_views.specs.declared.place.LogPlace.{LogPlace}
 
 -- ---- where a line stands
 
@@ -71,6 +74,20 @@ begins_first z slots (GetLog id) = first_log (read_refusal (GetLog id) slots) (t
 begins_first z slots (ClearLog id first count words) =
     first_log (read_refusal (ClearLog id first count words) slots) (takes_out z.mode (ClearLog id first count words))
 begins_first z slots command = first_change (change_at_once z command slots)
+
+-- No line begins at a place of a reading that has begun to read.
+pub begun_later : (p : Place) (command : Command) (h : Held) (r : Reading) → reading_at p command h ≡ Some r → has_begun r.place ≡ true → is_first p ≡ false
+begun_later p command h r is begun = by p is
+  where
+    never : (q : LogPlace) → has_begun q ≡ false → Some (record { place = q; command = command }) ≡ Some r → ⊥
+    never q none e = let same : q ≡ r.place = cc e in let is_so = ap has_begun same in cc (none, is_so, begun)
+
+    by : (p : Place) → reading_at p command h ≡ Some r → is_first p ≡ false
+    by (place.Log (log.AtOnce refusal)) e = absurd (never (log.AtOnce refusal) refl e)
+    by (place.Log log.Exclude) e = absurd (never log.Exclude refl e)
+    by (place.Log (log.Peek false)) e = absurd (never (log.Peek false) refl e)
+    by (place.Log _) e = refl
+    by _ e = absurd (cc e)
 
 -- The hand's line is under way, at the place.
 pub record StandsAt (h : Held) (line : Line) (command : Command) (p : Place) : Type 0 where
@@ -122,12 +139,17 @@ opens_same (place.SlotChange p) c d g h gfn said same o =
     (o.0, o.1, ap (slot_armed h.slots) (sym said) ∙ ap (λ (slots : MemorySlots). slot_armed slots c) (sym same) ∙ o.2, o.3)
 opens_same _ c d g h gfn said same o = absurd o
 
+-- Of which frames a log begins doesn't depend on what is held.
+begun_same : (q : Place) (t u : Topics) (gfn : ℕ) → (begun_at q t).Has gfn → (begun_at q u).Has gfn
+begun_same (place.SlotChange (change.WriteProtect range p)) t u gfn has = has
+begun_same _ t u gfn has = absurd has
+
 -- A hand that opens a log, or forbids writes, by its place and what it is said to hold.
 pub begins_same : (q : Place) (c d : Command) (g h : Held) (gfn : ℕ) → c ≡ d → g.slots ≡ h.slots → g.state.sizes ≡ h.state.sizes → BeginsAt q c g gfn
     → BeginsAt q d h gfn
 begins_same q c d g h gfn said same sizes (inl o) =
     inl (opens_same q c d g h gfn said same o.0, ap (λ (y : Sizes). is_all_set y.mode) (sym sizes) ∙ o.1)
-begins_same q c d g h gfn said same sizes (inr f) = inr f
+begins_same q c d g h gfn said same sizes (inr has) = inr (begun_same q g.topics h.topics gfn has)
 
 -- A line that is to begin a log stands where none begins.
 begins_later : (p : Place) → may_begin p ≡ true → is_first p ≡ false

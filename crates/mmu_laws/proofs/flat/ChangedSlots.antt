@@ -26,7 +26,7 @@ use Rattle.flat_laws.proofs.Written.{armed_there, causes_keep}
 use Rattle.part_steps.specs.SlotWords.{page_of}
 use Rattle.mmu_core.specs.invariant.Invariant.{RecordPart}
 use Rattle.mmu_core.specs.invariant.SlotSetPart.{AreSlots, IsLiveIn}
-use Rattle.mmu_core.specs.lines.SlotChangeTells.{armed}
+use Rattle.mmu_core.specs.forms.slot_change.SlotChangeTells.{arming}
 use Rattle.mmu_core.proofs.machine.Columns.{same_or}
 use Rattle.mmu_core.proofs.slots.SetFilled.{recorded_live, set_other, taken_other}
 use Rattle.log_invariant.specs.Covered.{IsCovered, IsLoggedIn, is_marked}
@@ -45,7 +45,7 @@ pub record ChangeOf (slots : MemorySlots) (command : Command) : Type 0 where
   pub others : (i : ℕ) → i ≢ id → slot_of_id i (slots_after command slots) ≡ slot_of_id i slots
   pub begins : (s : SlotOf) → slot ≡ Some (with_log true s) → slot_armed slots command ≡ Some s
   pub begun : (s : SlotOf) → slot_armed slots command ≡ Some s → slot ≡ Some (with_log true s)
-  pub tells : armed true command ≡ (if arms command then Armed id true ∷ [] else [])
+  pub tells : arming true command ≡ (if arms command then Armed id true ∷ [] else [])
 
 log_of : (o : Option MemorySlot) (s : SlotOf) → o ≡ Some (with_log true s) → is_some_and (λ (m : MemorySlot). m.logged) o ≡ true
 log_of o s e = ap (is_some_and (λ (m : MemorySlot). m.logged)) e

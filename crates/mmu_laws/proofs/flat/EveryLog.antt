@@ -31,12 +31,12 @@ use Rattle.mmu_laws.specs.flat.FlatInvariant.{FlatInvariant}
 use Rattle.mmu_laws.specs.flat.FlatLogs.{FlatLogs, LogsAreFlat}
 use Rattle.mmu_laws.proofs.flat.FlatKept.{flat_kept, told_events, told_is_events}
 use Rattle.mmu_laws.proofs.flat.FlatRuns.{after_append, part_keeps_flat, start_flat}
-use Rattle.mmu_laws.proofs.flat.GivenLogs.{HasGiven, LogsGiven, given_kept, idle_given_kept}
+use Rattle.mmu_laws.proofs.forms.slot_change.GivenLogs.{HasGiven, LogsGiven, given_kept, idle_given_kept}
 use Rattle.mmu_laws.proofs.flat.LogsKept.{ReadyLogs, logs_kept}
 use Rattle.mmu_laws.proofs.flat.LogsStill.{idle_logs_still}
-use Rattle.mmu_laws.proofs.flat.ReadingEnds.{reads_well_at}
-use Rattle.mmu_laws.proofs.flat.Readings.{HasReadAt, Readings}
-use Rattle.mmu_laws.proofs.flat.ReadingsKept.{idle_readings_kept, readings_kept}
+use Rattle.mmu_laws.proofs.forms.log.ReadingEnds.{reads_well_at}
+use Rattle.mmu_laws.proofs.forms.log.Readings.{ReadSoFarAt, Readings}
+use Rattle.mmu_laws.proofs.forms.log.ReadingsKept.{idle_readings_kept, readings_kept}
 
 -- A sound world that stands for a flat state, with its dirty logs.
 pub record LogsHold (z : Sizes) (w : World Held) (f : Flat) : Type 0 where
@@ -173,7 +173,7 @@ start_hold z lines w start = record {
     caused = λ gfn id slot logged has marked.
         let none = none_live z w (word_in z w area.Slots 0) id start.words in let live = logged.live.live in absurd (cc (none, live));
   };
-  reads = λ i lt. subst (λ (h : Held). HasReadAt h.state.place h.state.line.command h (word_in z w area.Log) first_flat.past)
+  reads = λ i lt. subst (λ (h : Held). ReadSoFarAt h.state.place h.state.line.command h (word_in z w area.Log) first_flat.past)
       (sym (hand_is z lines w i start lt)) tt;
 }
 

@@ -27,7 +27,7 @@ use Rattle.core_views.specs.Sizes.{actors_of, index_of}
 use Rattle.core_views.proofs.SameActor.{changed_here}
 use Rattle.spte_words.specs.declared.area.Area.{Area}
 use Rattle.spte_words.specs.declared.area.Area.TheVariants as area
-use Rattle.mmu_core.specs.lines.AccessSteps.{access_loads}
+use Rattle.mmu_core.specs.forms.access.AccessSteps.{access_loads}
 use Rattle.mmu_laws.specs.flat.FlatInvariant.{FlatInvariant, Refines, UnderIs}
 use Rattle.mmu_core.specs.invariant.Invariant.{Invariant}
 use Rattle.mmu_core.specs.lines.Forms.{KnowsPart, first_place, outcome_at, tells_at, loads_at}
@@ -38,8 +38,8 @@ use Rattle.mmu_core.specs.invariant.TopicsInvariant.{TopicsInvariant}
 use Rattle.mmu_core.specs.machine.View.{View, answer_in, hand_after, stepped, words_after}
 use Rattle.mmu_core.proofs.machine.Columns.{at_upd}
 use Rattle.mmu_laws.proofs.flat.FlatSteps.{Ready, StepGoes, UnderAt}
-use Rattle.mmu_laws.proofs.flat.LogAnswers.{ReadsWell}
-use Rattle.mmu_laws.proofs.Forms.{first_at, step_goes}
+use Rattle.mmu_laws.proofs.forms.log.LogAnswers.{ReadsWell}
+use Rattle.mmu_laws.proofs.EachForm.{first_at, step_goes}
 use Rattle.mmu_core.proofs.machine.Which.{events_of_line, has_line_is}
 use Rattle.mmu_core.proofs.invariant.Kept.{MakesAt}
 use Rattle.mmu_core.proofs.machine.Stepping.{IsStep}

@@ -32,7 +32,7 @@ use Rattle.mmu_core.proofs.start.Starts.{hand_is, none_live, word_at_start}
 use Rattle.mmu_core.proofs.machine.Which.{has_line_is}
 use Rattle.mmu_laws.proofs.flat.FlatStill.{others_held, under_still}
 use Rattle.mmu_core.proofs.machine.PartStepping.{IsPart, idle_never, idle_quiet}
-use Rattle.mmu_core.specs.lines.HostSteps.{entry_of}
+use Rattle.mmu_core.specs.forms.host.HostSteps.{entry_of}
 use Rattle.core_views.specs.Host.{own_frames}
 use Rattle.spte_words.specs.HostWords.{host_word}
 use Rattle.std.proofs.lemmas.Bool.Decides.{nat_tests}

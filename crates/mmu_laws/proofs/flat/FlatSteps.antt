@@ -45,7 +45,7 @@ use Rattle.core_views.specs.Flat.{Facts, Fresh, LineUnderWay}
 use Rattle.core_views.specs.Lawful.{MayLeave, Tells}
 use Rattle.core_views.specs.Migrations.{is_paused}
 use Rattle.core_views.specs.Past.{Past}
-use Rattle.mmu_core.specs.lines.HostSteps.{entry_of}
+use Rattle.mmu_core.specs.forms.host.HostSteps.{entry_of}
 use Rattle.mmu_core.proofs.words.HostStays.{host_stays}
 use Rattle.spte_words.specs.HostWords.{host_frame}
 

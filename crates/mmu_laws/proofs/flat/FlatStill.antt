@@ -28,7 +28,7 @@ use Rattle.mmu_core.specs.machine.Steps.{task_at}
 use Rattle.part_steps.specs.declared.task.Task.{Task}
 use Rattle.mmu_core.specs.invariant.TopicsInvariant.{TopicsInvariant}
 use Rattle.mmu_core.specs.machine.View.{View, part_stepped, words_after}
-use Rattle.mmu_laws.proofs.flat.AccessFlat.{IsPartOr}
+use Rattle.mmu_laws.proofs.forms.access.AccessFlat.{IsPartOr}
 use Rattle.mmu_core.proofs.machine.Columns.{upd_other}
 use Rattle.mmu_core.proofs.slots.LiveStays.{SetStays, touch_leaves_pool}
 use Rattle.mmu_core.proofs.machine.PartStepping.{IsPart}

@@ -1,8 +1,8 @@
 -- Where a line stands that is to begin a log for flat memory: no step but a publication leads to such a place from another one, and the line is the manager's.
 use Rattle.mmu_core.specs.declared.log_next.LogNext.{LogNext}
 use Rattle.mmu_core.specs.declared.log_next.LogNext.TheVariants as reads_next
-use Rattle.mmu_core.specs.lines.LogOutcomes.{after_log}
-use Rattle.mmu_core.specs.lines.LogSteps.{log_next, log_reads}
+use Rattle.mmu_core.specs.forms.log.LogOutcomes.{after_log}
+use Rattle.mmu_core.specs.forms.log.LogSteps.{log_next, log_reads}
 use Rattle.std.proofs.Common.{◌≡◌, ◌⊎◌, inl, inr, ◌+◌, ℕ, refl, subst, arith}
 use Rattle.std.proofs.lemmas.Bool.Decides.{nat_tests}
 use Rattle.std.specs.Prelude.{List, Bool, true, false, ◌==◌, nat_lt, if◌then◌else◌, is_some, Option, Some, None}
@@ -44,25 +44,24 @@ use Rattle.mmu_core.specs.declared.outcome.Outcome.{Outcome}
 use Rattle.mmu_core.specs.declared.outcome.Outcome.TheVariants.{Goes, Ends}
 use Rattle.mmu_core.specs.declared.write_protect.WriteProtectNext.{WriteProtectNext}
 use Rattle.mmu_core.specs.declared.write_protect.WriteProtectNext.TheVariants as protects_next
-use Rattle.mmu_core.specs.lines.AccessSteps.{access_outcome, behind_fault, fault_over}
+use Rattle.mmu_core.specs.forms.access.AccessSteps.{access_outcome, behind_fault, fault_over}
 use Rattle.mmu_core.specs.declared.claim.FreeMap.TheVariants.{Frames, Pages}
-use Rattle.mmu_core.specs.lines.ClaimSteps.{claim_next}
-use Rattle.mmu_core.specs.lines.FaultSteps.{fault_next}
+use Rattle.mmu_core.specs.orders.ClaimSteps.{claim_next}
+use Rattle.mmu_core.specs.forms.access.FaultSteps.{fault_next}
 use Rattle.mmu_core.specs.lines.Forms.{outcome_at}
-use Rattle.mmu_core.specs.lines.HostSteps.{host_outcome, moves}
-use Rattle.mmu_core.specs.lines.InvalidateSteps.{begin_next, end_next}
-use Rattle.mmu_core.specs.lines.SlotChangeSteps.{after_grace, after_protect, after_set_begin, after_set_end, arm_word, frames_of, log_target}
-use Rattle.mmu_core.specs.lines.SlotChangeSteps.{slot_change_outcome, slot_target, watch_next}
-use Rattle.mmu_core.specs.lines.WriteProtectSteps.{protect_next}
+use Rattle.mmu_core.specs.forms.host.HostSteps.{host_outcome, moves}
+use Rattle.mmu_core.specs.orders.InvalidateSteps.{begin_next, end_next}
+use Rattle.mmu_core.specs.forms.slot_change.SlotChangeSteps.{after_grace, after_protect, after_set_begin, after_set_end, arm_word, frames_of, log_target}
+use Rattle.mmu_core.specs.forms.slot_change.SlotChangeSteps.{slot_change_outcome, slot_target, watch_next}
+use Rattle.mmu_core.specs.orders.WriteProtectSteps.{protect_next}
 use Rattle.mmu_core.specs.machine.Outcomes.{place_after}
 use Rattle.mmu_core.proofs.lines.EitherPlace.{each_claim, each_watch, either_place, one_place}
-use Rattle.log_invariant.specs.LogBegins.{BeginsClean, LogIsUnwatchedAt, is_unwatched}
+use Rattle.log_invariant.specs.forms.slot_change.LogBegins.{BeginsClean, LogIsUnwatchedAt, begun_at, is_unwatched}
 use Rattle.log_invariant.proofs.StepPlaces.{publishes}
-use Rattle.mmu_laws.specs.flat.FlatLogs.{ForbidsAt}
 
 -- A line stands at the place, by its hand's record, and its log is to begin.
 abbrev pub BeginsAt : Place → Command → Held → ℕ → Type 0
-BeginsAt p command h gfn = (LogIsUnwatchedAt p command h gfn × BeginsClean h) ⊎ ForbidsAt p gfn
+BeginsAt p command h gfn = (LogIsUnwatchedAt p command h gfn × BeginsClean h) ⊎ (begun_at p h.topics).Has gfn
 
 -- It is one of the places where a line may be so.
 abbrev pub may_begin : Place → Bool

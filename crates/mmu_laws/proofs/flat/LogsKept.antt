@@ -23,7 +23,7 @@ use Rattle.mmu_core.specs.lines.Forms.{outcome_at, tells_at}
 use Rattle.mmu_core.specs.machine.Outcomes.{answering}
 use Rattle.mmu_core.specs.machine.Steps.{beginning, task_at}
 use Rattle.mmu_core.specs.machine.View.{View, answer_in, stepped}
-use Rattle.mmu_core.proofs.lines.AccessParts.{AreSmall}
+use Rattle.mmu_core.proofs.forms.access.AccessParts.{AreSmall}
 use Rattle.mmu_core.proofs.machine.Stepping.{IsStep}
 use Rattle.log_invariant.specs.LogInvariant.{LogInvariant}
 use Rattle.log_invariant.proofs.StepPlaces.{publishes}
@@ -31,14 +31,14 @@ use Rattle.mmu_laws.specs.flat.FlatInvariant.{FlatInvariant}
 use Rattle.mmu_laws.specs.flat.FlatLogs.{FlatLogs}
 use Rattle.mmu_laws.proofs.flat.AwaitLogs.{await_logs}
 use Rattle.mmu_laws.proofs.flat.FlatKept.{told_events, told_kinds}
-use Rattle.mmu_laws.proofs.flat.GivenLogs.{LogsGiven}
-use Rattle.mmu_laws.proofs.flat.HarvestLogs.{harvest_logs}
+use Rattle.mmu_laws.proofs.forms.slot_change.GivenLogs.{LogsGiven}
+use Rattle.mmu_laws.proofs.forms.log.HarvestLogs.{harvest_logs}
 use Rattle.mmu_laws.proofs.flat.LogsStill.{logs_still}
-use Rattle.mmu_laws.proofs.flat.PublishLogs.{publish_logs}
+use Rattle.mmu_laws.proofs.forms.slot_change.PublishLogs.{publish_logs}
 use Rattle.mmu_laws.proofs.flat.QuietKinds.{answers_quiet, begins_quiet, quiet_append, quiet_told, tells_of_logs, tells_quiet}
-use Rattle.mmu_laws.proofs.flat.Readings.{Readings}
-use Rattle.mmu_laws.proofs.flat.TakenStays.{ends_taking}
-use Rattle.mmu_laws.proofs.flat.TouchLogs.{touch_logs}
+use Rattle.mmu_laws.proofs.forms.log.Readings.{Readings}
+use Rattle.mmu_laws.proofs.forms.log.TakenStays.{ends_taking}
+use Rattle.mmu_laws.proofs.forms.access.TouchLogs.{touch_logs}
 
 -- What holds of a view and its flat state before a step.
 pub record ReadyLogs (z : Sizes) (v : View) (f : Flat) : Type 0 where
@@ -59,7 +59,7 @@ KeptLogs z v f a line command p = FlatLogs z (stepped a line command p v) (after
 
 -- A step that tells nothing of logs.
 quiet_logs : (z : Sizes) (v : View) (f : Flat) (a : ℕ) (line : Line) (command : Command) (p : Place) → IsStep z v a line command p → ReadyLogs z v f
-    → tells_of_logs p ≡ false → publishes p ≡ false → ends_taking p ≡ false → KeptLogs z v f a line command p
+    → tells_of_logs p ≡ false → publishes p ≡ false → ends_taking p command (v.hand a) ≡ false → KeptLogs z v f a line command p
 quiet_logs z v f a line command p S R quiet never on =
     let x : ℕ = answer_in (task_at p command (v.hand a)) v.words in
     let behind : View = stepped a line command p v in
@@ -85,5 +85,5 @@ logs_kept z v f a line command (place.SlotChange change.Publish) S R kept covere
 logs_kept z v f a line command (place.SlotChange (change.WriteProtect range protect.Await)) S R kept covered =
     await_logs z v a line command range R.small S R.holds R.topics R.covered R.given f R.flat R.lines R.caused R.logs
 logs_kept z v f a line command (place.Log Await) S R kept covered =
-    harvest_logs z v a line command R.small S R.holds R.topics R.covered f R.flat R.lines R.caused R.logs R.reads
+    harvest_logs z v a line command (place.Log Await) command R.small refl S R.holds R.topics R.covered f R.flat R.lines R.caused R.logs R.reads
 logs_kept z v f a line command p S R kept covered = quiet_logs z v f a line command p S R refl refl refl

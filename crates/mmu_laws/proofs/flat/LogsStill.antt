@@ -40,7 +40,7 @@ use Rattle.mmu_core.specs.machine.View.{View, answer_in, part_stepped, stepped, 
 use Rattle.mmu_core.proofs.held.FreshFrames.{behind_it}
 use Rattle.mmu_core.proofs.invariant.Kept.{makes_at}
 use Rattle.mmu_core.proofs.invariant.QuietKept.{SetsStay, sets_stay}
-use Rattle.mmu_core.proofs.lines.AccessParts.{AreSmall}
+use Rattle.mmu_core.proofs.forms.access.AccessParts.{AreSmall}
 use Rattle.mmu_core.proofs.machine.Columns.{at_upd, upd_other}
 use Rattle.mmu_core.proofs.machine.ColumnsTell.{some_is}
 use Rattle.mmu_core.proofs.machine.PartStepping.{IsPart, idle_never}
@@ -50,7 +50,7 @@ use Rattle.mmu_core.proofs.slots.SlotsStay.{is_live_stays, word_stays}
 use Rattle.mmu_core.proofs.words.PartWords.{slots_are, slots_same}
 use Rattle.log_invariant.specs.Covered.{IsLoggedIn, is_marked}
 use Rattle.log_invariant.specs.LogInvariant.{IsMarkingAt, LogInvariant}
-use Rattle.log_invariant.specs.LogReads.{IsTaken, IsTakenAt}
+use Rattle.log_invariant.specs.forms.log.LogReads.{HasTakenOut, taken_at}
 use Rattle.log_invariant.proofs.CoveredKept.{PublishesLog, idle_covered_kept, idle_logged_before, logged_before}
 use Rattle.log_invariant.proofs.HeldLogs.{FoundLive, IsLoggedNow, marked_is_live}
 use Rattle.log_invariant.proofs.LogBits.{was_marked, was_there}
@@ -59,8 +59,8 @@ use Rattle.log_invariant.proofs.StepPlaces.{StepAt, Makes, Touches, publishes, p
 use Rattle.mmu_laws.specs.flat.FlatInvariant.{FlatInvariant, UnderAt}
 use Rattle.mmu_laws.specs.flat.FlatLogs.{FlatLogs, IsArmedIn, IsBeginning, IsCoveredOrTaken, IsDirtyIn}
 use Rattle.mmu_laws.proofs.flat.BeginningsKept.{begins_same, beginning_before}
-use Rattle.mmu_laws.proofs.flat.PageFound.{contains_bounds}
-use Rattle.mmu_laws.proofs.flat.TakenStays.{cover_stays, ends_taking, taken_stays}
+use Rattle.mmu_laws.proofs.forms.access.PageFound.{contains_bounds}
+use Rattle.mmu_laws.proofs.forms.log.TakenStays.{cover_stays, ends_taking, taken_stays}
 
 -- ---- a published slot keeps its log
 
@@ -177,7 +177,7 @@ module _ (z : Sizes) (v : View) (a : ℕ) (line : Line) (command : Command) (p :
       by (inr X) = absurd (let is = ap publishes X.at in cc (is, never))
 
   -- A frame that is dirty, of an armed slot, is so after it, if it stays taken where the actor has taken it.
-  pub dirty_still : (armed : ℕ → Bool) (gfn : ℕ) → (IsTaken (v.hand a) gfn → IsTaken (after.hand a) gfn)
+  pub dirty_still : (armed : ℕ → Bool) (gfn : ℕ) → (HasTakenOut (v.hand a) gfn → HasTakenOut (after.hand a) gfn)
       → IsDirtyIn (actors_of z) (v.words area.Log) (v.words area.Pool) (v.words area.Slots 0) v.hand armed gfn
       → IsDirtyIn (actors_of z) (after.words area.Log) (after.words area.Pool) (after.words area.Slots 0) after.hand armed gfn
   dirty_still armed gfn stays D = record {
@@ -229,7 +229,7 @@ module _ (z : Sizes) (v : View) (a : ℕ) (line : Line) (command : Command) (p :
         by (inr written) = written.1
 
     -- The logs of flat memory are the same, where the line doesn't end with a reading.
-    pub logs_still : ends_taking p ≡ false → FlatLogs z after f
+    pub logs_still : ends_taking p command (v.hand a) ≡ false → FlatLogs z after f
     logs_still on = record {
       armed = armed_still;
       dirty = λ gfn is. dirty_still f.facts.armed gfn (taken_stays z v a line command p S gfn on) (L.dirty gfn is);
@@ -244,13 +244,13 @@ idle_cover_stays : (z : Sizes) (v : View) (a : ℕ) (step : PartStep) (note : �
     → IsCoveredOrTaken (actors_of z) ((part_stepped a step note v).words area.Log) (part_stepped a step note v).hand slot gfn
 idle_cover_stays z v a step note S free gfn slot (inl is) = inl (idle_covered_kept z v a step note S free gfn slot is)
 idle_cover_stays z v a step note S free gfn slot (inr (j, lt, taken)) =
-    inr (j, lt, at_upd (λ i (g : Held). IsTaken (v.hand i) gfn → IsTaken g gfn) v.hand a _ (idle_taken (v.hand a).state.place) (λ i apart T. T) j taken)
+    inr (j, lt, at_upd (λ i (g : Held). HasTakenOut (v.hand i) gfn → HasTakenOut g gfn) v.hand a _ (idle_taken (v.hand a).state.place) (λ i apart T. T) j taken)
   where
     task : Task
     task = part_task step (own_index (v.hand a)) (v.hand a).topics note
 
-    idle_taken : (q : Place) → IsTakenAt q (v.hand a).state.line.command (v.hand a) gfn
-        → IsTakenAt q (v.hand a).state.line.command (idle_after (v.hand a) (kind_of_task (v.hand a).state.sizes task) (answer_in task v.words)) gfn
+    idle_taken : (q : Place) → (taken_at q (v.hand a).state.line.command (v.hand a)).Has gfn
+        → (taken_at q (v.hand a).state.line.command (idle_after (v.hand a) (kind_of_task (v.hand a).state.sizes task) (answer_in task v.words))).Has gfn
     idle_taken (place.Log q) T = T
     idle_taken _ T = absurd T
 

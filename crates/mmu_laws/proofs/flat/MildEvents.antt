@@ -24,8 +24,8 @@ use Rattle.flat_laws.proofs.Written.{causes_keep, recent_keep}
 use Rattle.part_steps.specs.PartTasks.{page_looked, word_looked}
 use Rattle.mmu_core.specs.declared.outcome.Outcome.{Outcome}
 use Rattle.mmu_core.specs.declared.outcome.Outcome.TheVariants.{Goes, Ends}
-use Rattle.mmu_core.specs.lines.AccessSteps.{access_tells, exiting, fault_over}
-use Rattle.mmu_core.specs.lines.HostSteps.{entry_of, host_outcome, host_tells, word_put}
+use Rattle.mmu_core.specs.forms.access.AccessSteps.{access_tells, exiting, fault_over}
+use Rattle.mmu_core.specs.forms.host.HostSteps.{entry_of, host_outcome, host_tells, word_put}
 use Rattle.mmu_core.specs.machine.Outcomes.{answering}
 use Rattle.mmu_core.specs.machine.Steps.{beginning}
 use Rattle.mmu_core.proofs.lines.EitherPlace.{either_place}

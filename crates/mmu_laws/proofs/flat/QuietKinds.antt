@@ -3,8 +3,8 @@ use Rattle.core_views.specs.declared.place.LogPlace.{LogPlace}
 use Rattle.core_views.specs.declared.place.LogPlace.TheVariants as log
 use Rattle.core_views.specs.declared.trace.Slot.{Slot as SlotOf}
 use Rattle.core_views.specs.LogCommands.{log_read}
-use Rattle.mmu_core.specs.lines.LogSteps.{frames_read, read_more, reads_last, slot_asked}
-use Rattle.mmu_core.specs.lines.LogTells.{log_tells, shown, taken}
+use Rattle.mmu_core.specs.forms.log.LogSteps.{frames_read, read_more, reads_last, slot_asked}
+use Rattle.mmu_core.specs.forms.log.LogTells.{log_tells, shown, taken}
 use Rattle.std.proofs.Common.{◌≡◌, ℕ, List, [], ◌∷◌, ◌++◌}
 use Rattle.std.specs.Prelude.{◌==◌, Bool, true, false, if◌then◌else◌, Option, Some, None}
 use Rattle.core_views.specs.declared.actor.Actor.{Actor}
@@ -34,11 +34,11 @@ use Rattle.flat_laws.proofs.Written.{causes_keep}
 use Rattle.part_steps.specs.PartTasks.{page_looked, word_looked}
 use Rattle.mmu_core.specs.declared.outcome.Outcome.{Outcome}
 use Rattle.mmu_core.specs.declared.outcome.Outcome.TheVariants.{Goes, Ends}
-use Rattle.mmu_core.specs.lines.AccessSteps.{access_tells, exiting, fault_over}
+use Rattle.mmu_core.specs.forms.access.AccessSteps.{access_tells, exiting, fault_over}
 use Rattle.mmu_core.specs.lines.Forms.{tells_at}
-use Rattle.mmu_core.specs.lines.HostSteps.{entry_of, host_outcome, host_tells, word_put}
-use Rattle.mmu_core.specs.lines.SlotChangeSteps.{slot_change_outcome}
-use Rattle.mmu_core.specs.lines.SlotChangeTells.{slot_change_tells}
+use Rattle.mmu_core.specs.forms.host.HostSteps.{entry_of, host_outcome, host_tells, word_put}
+use Rattle.mmu_core.specs.forms.slot_change.SlotChangeSteps.{slot_change_outcome}
+use Rattle.mmu_core.specs.forms.slot_change.SlotChangeTells.{slot_change_tells}
 use Rattle.mmu_core.specs.machine.Outcomes.{answering}
 use Rattle.mmu_core.specs.machine.Steps.{beginning}
 use Rattle.mmu_core.proofs.lines.EitherPlace.{either_place}

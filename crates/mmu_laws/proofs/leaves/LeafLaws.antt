@@ -23,7 +23,7 @@ use Rattle.spte_words.proofs.ReadsEntries.{leaf_can_write, leaf_host_writable, l
 use Rattle.spte_words.proofs.Spans.{span_4}
 use Rattle.mmu_core.specs.machine.Enabled.{mmu}
 use Rattle.mmu_core.specs.alone.FaultAlone.{LeadsTo}
-use Rattle.mmu_core.specs.lines.FaultSteps.{allows_access}
+use Rattle.mmu_core.specs.forms.access.FaultSteps.{allows_access}
 use Rattle.mmu_core.specs.invariant.Invariant.{IsLeafFor, KnowsPart, SlotSetPart}
 use Rattle.mmu_core.specs.invariant.Laws.{IsSound}
 use Rattle.mmu_core.specs.invariant.LowestPart.{IsLowest}
@@ -43,12 +43,12 @@ use Rattle.mmu_core.proofs.pages.NoneBelow.{over_frame}
 use Rattle.mmu_laws.proofs.leaves.LeadsDown.{leads_down, one_below}
 use Rattle.mmu_core.proofs.words.HostFrames.{first_small, leaf_maps}
 use Rattle.mmu_core.proofs.words.SlotLists.{only_one_holds}
-use Rattle.mmu_core.proofs.lines.CachedKept.{used_covers}
-use Rattle.mmu_core.proofs.lines.UsedTranslations.{uses_allows}
+use Rattle.mmu_core.proofs.forms.access.CachedKept.{used_covers}
+use Rattle.mmu_core.proofs.forms.access.UsedTranslations.{uses_allows}
 use Rattle.mmu_core.proofs.machine.Stepping.{line_allowed}
 use Rattle.mmu_core.proofs.held.UsableKept.{vcpu_below, used_agrees}
 use Rattle.core_views.specs.Traces.{IsCommandFor}
-use Rattle.mmu_core.proofs.lines.FaultSame.{both}
+use Rattle.mmu_core.proofs.forms.access.FaultSame.{both}
 
 -- A write gets the page of its slot, where the slot isn't read-only.
 gets_page : (write read_only : Bool) (page : ℕ) → write ≡ true → is_some (if write && read_only then None else Some page) ≡ not read_only

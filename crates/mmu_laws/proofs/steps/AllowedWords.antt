@@ -3,7 +3,7 @@ use Rattle.std.proofs.Common.{◌≡◌, ◌<◌, ℕ, ap, ◌∙◌, arith}
 use Rattle.std.specs.Prelude.{Bool}
 use Rattle.spte_words.specs.HostWords.{host_allows_write, host_frame, host_level, host_present, host_word}
 use Rattle.spte_words.proofs.ReadsHost.{host_has_frame, host_has_level, host_is_present, host_is_writable}
-use Rattle.mmu_core.specs.lines.HostSteps.{entry_of}
+use Rattle.mmu_core.specs.forms.host.HostSteps.{entry_of}
 use Rattle.mmu_laws.specs.steps.StepLaws.{WordsTell}
 
 level_low : (word : ℕ) → host_level word < 4

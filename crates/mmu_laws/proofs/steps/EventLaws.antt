@@ -26,7 +26,7 @@ use Rattle.core_views.specs.declared.trace.Op.TheVariants.{Add, Read, Write}
 use Rattle.core_views.specs.Held.{Held, has_line}
 use Rattle.core_views.specs.HostChanges.{is_own}
 use Rattle.core_views.specs.Slots.{is_write}
-use Rattle.mmu_core.specs.lines.AccessKnows.{AccessKnows}
+use Rattle.mmu_core.specs.forms.access.AccessKnows.{AccessKnows}
 use Rattle.spte_words.specs.HostWords.{host_present}
 use Rattle.mmu_laws.proofs.steps.AllowedWords.{words_tell}
 use Rattle.mmu_core.specs.declared.outcome.Outcome.{Outcome}
@@ -40,9 +40,9 @@ use Rattle.mmu_core.proofs.lines.SimplePlaces.{Told, Nothing, Arms, ArmsClean, E
 use Rattle.part_steps.specs.declared.part_step.PartStep.{PartStep}
 use Rattle.mmu_core.specs.machine.Enabled.{mmu}
 use Rattle.mmu_core.specs.machine.Machine.{May, Step, World, answered, hand_in}
-use Rattle.mmu_core.specs.lines.AccessSteps.{fault_over, task_by}
-use Rattle.mmu_core.specs.lines.HostKnows.{HostKnows}
-use Rattle.mmu_core.specs.lines.HostSteps.{entry_of, host_outcome, word_put}
+use Rattle.mmu_core.specs.forms.access.AccessSteps.{fault_over, task_by}
+use Rattle.mmu_core.specs.forms.host.HostKnows.{HostKnows}
+use Rattle.mmu_core.specs.forms.host.HostSteps.{entry_of, host_outcome, word_put}
 use Rattle.core_views.specs.declared.kind.StepKind.TheVariants as kind
 use Rattle.spte_words.specs.Areas.{place as place_of}
 use Rattle.spte_words.specs.declared.area.Area.TheVariants as area
@@ -58,7 +58,7 @@ use Rattle.mmu_core.proofs.machine.Which.{is_next}
 use Rattle.part_steps.specs.Tasks.{kind_of_task}
 use Rattle.mmu_laws.specs.steps.EventLaws.{HasAwaited, IsOfKindOn, MayTell, MayTellOf}
 use Rattle.mmu_laws.proofs.steps.MayTells.{AllMay, answers_so, begins_so, exits_so, none, one}
-use Rattle.mmu_laws.proofs.steps.ReadingEvents.{log_told}
+use Rattle.mmu_laws.proofs.forms.log.ReadingEvents.{log_told}
 
 module _ (h : Held) (v : ℕ) where
   abbrev z : Sizes

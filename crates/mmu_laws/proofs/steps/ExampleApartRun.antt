@@ -16,7 +16,7 @@ use Rattle.spte_words.specs.Entries.{absent_word, can_write, frame_in, frozen_wo
 use Rattle.spte_words.specs.Flags.{flags_live, flags_logged, flags_read_only, flags_word}
 use Rattle.spte_words.specs.HostWords.{host_allows_write, host_frame, host_level, host_present, host_word}
 use Rattle.part_steps.specs.TopicSteps.{topics_after}
-use Rattle.mmu_core.specs.lines.Cached.{flushed}
+use Rattle.mmu_core.specs.forms.access.Cached.{flushed}
 use Rattle.mmu_core.specs.machine.View.{View}
 use Rattle.mmu_core.proofs.start.StartViews.{start_view}
 use Rattle.mmu_laws.specs.steps.ExampleApart.{ExampleApart, apart_events, apart_lines, beside_allow}
@@ -84,7 +84,7 @@ whole = (refl, refl, refl)
 apart_allowed : All (May run_sizes) apart_lines
 apart_allowed =
     All-cons (May run_sizes) set_line (write_first ∷ beside_allow ∷ []) may_set
-    (All-cons (May run_sizes) write_first (beside_allow ∷ []) (omega arith, omega arith, omega arith)
+    (All-cons (May run_sizes) write_first (beside_allow ∷ []) (omega arith, omega arith, omega arith, omega arith)
     (All-cons (May run_sizes) beside_allow [] (omega arith) (All-nil (May run_sizes))))
 
 apart_prints : text apart_events ≡ codes "2 vm done\n3 v0 frame 65 value 0\n4 h0 done\n"

@@ -3,7 +3,7 @@ use Rattle.part_steps.specs.TopicSteps.{topics_after}
 use Rattle.part_steps.specs.Tasks.{map_of}
 use Rattle.std.proofs.lemmas.Fmt.{decimal_digit}
 use Rattle.std.proofs.lemmas.List.Elements.{All-cons, All-nil}
-use Rattle.mmu_core.specs.lines.Cached.{flushed}
+use Rattle.mmu_core.specs.forms.access.Cached.{flushed}
 use Rattle.std.proofs.Common.{ℕ, List, ◌≡◌, ◌++◌, [], ◌∷◌, refl, arith, lit<, lit≤}
 use Rattle.std.specs.Prelude.{All, true, false, codes}
 use Rattle.spte_words.specs.Areas.{content_index, place, pool_index}
@@ -112,13 +112,13 @@ evict_allowed : All (May run_sizes) evict_lines
 evict_allowed =
     All-cons (May run_sizes) set_line (write_first ∷ evict_line ∷ bring_line ∷ late_line ∷ evict_again ∷ forbid_line ∷ read_between ∷ []) may_set
     (All-cons (May run_sizes) write_first (evict_line ∷ bring_line ∷ late_line ∷ evict_again ∷ forbid_line ∷ read_between ∷ [])
-    (omega arith, omega arith, omega arith)
+    (omega arith, omega arith, omega arith, omega arith)
     (All-cons (May run_sizes) evict_line (bring_line ∷ late_line ∷ evict_again ∷ forbid_line ∷ read_between ∷ []) (omega arith)
-    (All-cons (May run_sizes) bring_line (late_line ∷ evict_again ∷ forbid_line ∷ read_between ∷ []) (omega arith, omega arith, omega arith)
-    (All-cons (May run_sizes) late_line (evict_again ∷ forbid_line ∷ read_between ∷ []) (omega arith, omega arith, omega arith)
+    (All-cons (May run_sizes) bring_line (late_line ∷ evict_again ∷ forbid_line ∷ read_between ∷ []) (omega arith, omega arith, omega arith, omega arith)
+    (All-cons (May run_sizes) late_line (evict_again ∷ forbid_line ∷ read_between ∷ []) (omega arith, omega arith, omega arith, tt)
     (All-cons (May run_sizes) evict_again (forbid_line ∷ read_between ∷ []) (omega arith)
     (All-cons (May run_sizes) forbid_line (read_between ∷ []) (omega arith)
-    (All-cons (May run_sizes) read_between [] (omega arith, omega arith, omega arith) (All-nil (May run_sizes)))))))))
+    (All-cons (May run_sizes) read_between [] (omega arith, omega arith, omega arith, tt) (All-nil (May run_sizes)))))))))
 
 evict_prints : text evict_events
     ≡ codes "2 vm done\n3 v0 frame 65 value 0\n4 h0 done\n6 v1 frame 65 value 7\n5 v0 frame 65 value 7\n"

@@ -2,7 +2,7 @@
 use Rattle.part_steps.specs.TopicSteps.{topics_after}
 use Rattle.std.proofs.lemmas.Fmt.{decimal_digit}
 use Rattle.std.proofs.lemmas.List.Elements.{All-cons, All-nil}
-use Rattle.mmu_core.specs.lines.Cached.{flushed}
+use Rattle.mmu_core.specs.forms.access.Cached.{flushed}
 use Rattle.std.proofs.Common.{◌≡◌, [], ◌∷◌, refl, arith, lit<, lit≤, List, ℕ}
 use Rattle.std.specs.Prelude.{All, true, codes}
 use Rattle.spte_words.specs.Areas.{content_index, place, pool_index}
@@ -78,10 +78,10 @@ checkpoints = record {
 host_allowed : All (May run_sizes) host_lines
 host_allowed =
     All-cons (May run_sizes) set_line (write_first ∷ read_cached ∷ allow_line ∷ read_again ∷ []) may_set
-    (All-cons (May run_sizes) write_first (read_cached ∷ allow_line ∷ read_again ∷ []) (omega arith, omega arith, omega arith)
-    (All-cons (May run_sizes) read_cached (allow_line ∷ read_again ∷ []) (omega arith, omega arith, omega arith)
+    (All-cons (May run_sizes) write_first (read_cached ∷ allow_line ∷ read_again ∷ []) (omega arith, omega arith, omega arith, omega arith)
+    (All-cons (May run_sizes) read_cached (allow_line ∷ read_again ∷ []) (omega arith, omega arith, omega arith, tt)
     (All-cons (May run_sizes) allow_line (read_again ∷ []) (omega arith)
-    (All-cons (May run_sizes) read_again [] (omega arith, omega arith, omega arith) (All-nil (May run_sizes))))))
+    (All-cons (May run_sizes) read_again [] (omega arith, omega arith, omega arith, tt) (All-nil (May run_sizes))))))
 
 host_prints : text host_events ≡ codes "2 vm done\n3 v0 frame 65 value 0\n4 v0 frame 65 value 7\n5 h0 done\n6 v1 frame 65 value 7\n"
 unfolding line_text

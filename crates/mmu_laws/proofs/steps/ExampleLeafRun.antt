@@ -15,7 +15,7 @@ use Rattle.spte_words.specs.Entries.{absent_word, can_write, frame_in, frozen_wo
 use Rattle.spte_words.specs.Flags.{flags_live, flags_logged, flags_read_only, flags_word}
 use Rattle.spte_words.specs.HostWords.{host_allows_write, host_frame, host_level, host_present, host_word}
 use Rattle.part_steps.specs.TopicSteps.{topics_after}
-use Rattle.mmu_core.specs.lines.Cached.{flushed}
+use Rattle.mmu_core.specs.forms.access.Cached.{flushed}
 use Rattle.mmu_core.specs.machine.View.{View}
 use Rattle.mmu_core.proofs.start.StartViews.{start_view}
 use Rattle.mmu_laws.specs.steps.ExampleLeaf.{ExampleLeaf, early_line, late_end, late_line, leaf_events, leaf_lines, table_line}
@@ -67,9 +67,9 @@ whole = (refl, refl, refl)
 leaf_allowed : All (May run_sizes) leaf_lines
 leaf_allowed =
     All-cons (May run_sizes) set_line (table_line ∷ late_line ∷ early_line ∷ []) may_set
-    (All-cons (May run_sizes) table_line (late_line ∷ early_line ∷ []) (omega arith, omega arith, omega arith)
-    (All-cons (May run_sizes) late_line (early_line ∷ []) (omega arith, omega arith, omega arith)
-    (All-cons (May run_sizes) early_line [] (omega arith, omega arith, omega arith) (All-nil (May run_sizes)))))
+    (All-cons (May run_sizes) table_line (late_line ∷ early_line ∷ []) (omega arith, omega arith, omega arith, omega arith)
+    (All-cons (May run_sizes) late_line (early_line ∷ []) (omega arith, omega arith, omega arith, omega arith)
+    (All-cons (May run_sizes) early_line [] (omega arith, omega arith, omega arith, omega arith) (All-nil (May run_sizes)))))
 
 leaf_prints : text leaf_events ≡ codes "2 vm done\n3 v0 frame 66 value 0\n5 v0 frame 65 value 0\n4 v1 frame 65 value 9\n"
 unfolding line_text

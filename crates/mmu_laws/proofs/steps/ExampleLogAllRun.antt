@@ -1,7 +1,7 @@
 -- The runs in which a slot gets a dirty log with each page dirty at once, by computation.
 use Rattle.part_steps.specs.TopicSteps.{topics_after}
 use Rattle.std.proofs.lemmas.List.Elements.{All-cons, All-nil}
-use Rattle.mmu_core.specs.lines.Cached.{flushed}
+use Rattle.mmu_core.specs.forms.access.Cached.{flushed}
 use Rattle.std.proofs.Common.{ℕ, List, ◌≡◌, ◌-◌, ◌^◌, [], ◌∷◌, refl, arith}
 use Rattle.std.specs.Prelude.{All, true}
 use Rattle.spte_words.specs.Areas.{content_index, place, pool_index}
@@ -70,7 +70,7 @@ all_allowed : All (May all_set_sizes) all_set_lines
 all_allowed =
     All-cons (May all_set_sizes) set_line (write_first ∷ log_all ∷ [])
     (record { some = omega arith; pages = omega arith; base = omega arith; host = omega arith; aligned = omega arith })
-    (All-cons (May all_set_sizes) write_first (log_all ∷ []) (omega arith, omega arith, omega arith)
+    (All-cons (May all_set_sizes) write_first (log_all ∷ []) (omega arith, omega arith, omega arith, omega arith)
     (All-cons (May all_set_sizes) log_all [] tt (All-nil (May all_set_sizes))))
 
 wide_allowed : All (May all_set_sizes) wide_lines

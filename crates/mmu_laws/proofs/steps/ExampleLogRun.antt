@@ -2,7 +2,7 @@
 use Rattle.part_steps.specs.TopicSteps.{topics_after}
 use Rattle.std.proofs.lemmas.Fmt.{decimal_digit}
 use Rattle.std.proofs.lemmas.List.Elements.{All-cons, All-nil}
-use Rattle.mmu_core.specs.lines.Cached.{flushed}
+use Rattle.mmu_core.specs.forms.access.Cached.{flushed}
 use Rattle.std.proofs.Common.{ℕ, List, ◌≡◌, [], ◌∷◌, refl, arith, lit<, lit≤, ◌++◌}
 use Rattle.std.specs.Prelude.{All, true, false, codes}
 use Rattle.spte_words.specs.Areas.{content_index, place, pool_index}
@@ -111,10 +111,10 @@ checkpoints = record {
 log_allowed : All (May run_sizes) log_lines
 log_allowed =
     All-cons (May run_sizes) set_line (write_first ∷ write_beside ∷ log_on ∷ write_logged ∷ log_off ∷ log_again ∷ []) may_set
-    (All-cons (May run_sizes) write_first (write_beside ∷ log_on ∷ write_logged ∷ log_off ∷ log_again ∷ []) (omega arith, omega arith, omega arith)
-    (All-cons (May run_sizes) write_beside (log_on ∷ write_logged ∷ log_off ∷ log_again ∷ []) (omega arith, omega arith, omega arith)
+    (All-cons (May run_sizes) write_first (write_beside ∷ log_on ∷ write_logged ∷ log_off ∷ log_again ∷ []) (omega arith, omega arith, omega arith, omega arith)
+    (All-cons (May run_sizes) write_beside (log_on ∷ write_logged ∷ log_off ∷ log_again ∷ []) (omega arith, omega arith, omega arith, omega arith)
     (All-cons (May run_sizes) log_on (write_logged ∷ log_off ∷ log_again ∷ []) tt
-    (All-cons (May run_sizes) write_logged (log_off ∷ log_again ∷ []) (omega arith, omega arith, omega arith)
+    (All-cons (May run_sizes) write_logged (log_off ∷ log_again ∷ []) (omega arith, omega arith, omega arith, omega arith)
     (All-cons (May run_sizes) log_off (log_again ∷ []) tt
     (All-cons (May run_sizes) log_again [] tt (All-nil (May run_sizes))))))))
 

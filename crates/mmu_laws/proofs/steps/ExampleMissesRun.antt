@@ -18,7 +18,7 @@ use Rattle.spte_words.specs.Entries.{table_word, with_write, without_write, host
 use Rattle.spte_words.specs.Flags.{flags_live, flags_logged, flags_read_only, flags_word}
 use Rattle.spte_words.specs.HostWords.{host_allows_write, host_frame, host_level, host_present, host_word}
 use Rattle.part_steps.specs.TopicSteps.{topics_after}
-use Rattle.mmu_core.specs.lines.Cached.{flushed}
+use Rattle.mmu_core.specs.forms.access.Cached.{flushed}
 use Rattle.mmu_core.specs.machine.View.{View}
 use Rattle.mmu_core.proofs.start.StartViews.{start_view}
 use Rattle.mmu_laws.specs.steps.ExampleHost.{write_first}
@@ -117,10 +117,10 @@ whole = (refl, refl, refl, refl)
 miss_allowed : All (May run_sizes) miss_lines
 miss_allowed =
     All-cons (May run_sizes) set_line (write_first ∷ missing_line ∷ log_on ∷ write_logged ∷ []) may_set
-    (All-cons (May run_sizes) write_first (missing_line ∷ log_on ∷ write_logged ∷ []) (omega arith, omega arith, omega arith)
-    (All-cons (May run_sizes) missing_line (log_on ∷ write_logged ∷ []) (omega arith, omega arith, omega arith)
+    (All-cons (May run_sizes) write_first (missing_line ∷ log_on ∷ write_logged ∷ []) (omega arith, omega arith, omega arith, omega arith)
+    (All-cons (May run_sizes) missing_line (log_on ∷ write_logged ∷ []) (omega arith, omega arith, omega arith, omega arith)
     (All-cons (May run_sizes) log_on (write_logged ∷ []) tt
-    (All-cons (May run_sizes) write_logged [] (omega arith, omega arith, omega arith) (All-nil (May run_sizes))))))
+    (All-cons (May run_sizes) write_logged [] (omega arith, omega arith, omega arith, omega arith) (All-nil (May run_sizes))))))
 
 miss_prints : text miss_events ≡ codes "2 vm done\n3 v0 frame 65 value 0\n5 vm done\n4 v1 frame 65 value 7\n6 v0 frame 65 value 5\n"
 unfolding line_text

@@ -3,7 +3,7 @@ use Rattle.part_steps.specs.TopicSteps.{topics_after}
 use Rattle.part_steps.specs.Tasks.{map_of}
 use Rattle.std.proofs.lemmas.Fmt.{decimal_digit}
 use Rattle.std.proofs.lemmas.List.Elements.{All-cons, All-nil}
-use Rattle.mmu_core.specs.lines.Cached.{flushed}
+use Rattle.mmu_core.specs.forms.access.Cached.{flushed}
 use Rattle.std.proofs.Common.{ℕ, List, ◌≡◌, [], ◌∷◌, refl, arith, lit<, lit≤, ◌++◌}
 use Rattle.std.specs.Prelude.{All, true, codes}
 use Rattle.core_views.specs.Sizes.{AreSizes}
@@ -97,11 +97,11 @@ move_allowed : All (May move_sizes) move_lines
 move_allowed =
     All-cons (May move_sizes) set_line (write_first ∷ read_seven ∷ move_seven ∷ move_six ∷ read_six ∷ [])
     (record { some = omega arith; pages = omega arith; base = omega arith; host = omega arith; aligned = omega arith })
-    (All-cons (May move_sizes) write_first (read_seven ∷ move_seven ∷ move_six ∷ read_six ∷ []) (omega arith, omega arith, omega arith)
-    (All-cons (May move_sizes) read_seven (move_seven ∷ move_six ∷ read_six ∷ []) (omega arith, omega arith, omega arith)
+    (All-cons (May move_sizes) write_first (read_seven ∷ move_seven ∷ move_six ∷ read_six ∷ []) (omega arith, omega arith, omega arith, omega arith)
+    (All-cons (May move_sizes) read_seven (move_seven ∷ move_six ∷ read_six ∷ []) (omega arith, omega arith, omega arith, tt)
     (All-cons (May move_sizes) move_seven (move_six ∷ read_six ∷ []) (omega arith)
     (All-cons (May move_sizes) move_six (read_six ∷ []) (omega arith)
-    (All-cons (May move_sizes) read_six [] (omega arith, omega arith, omega arith) (All-nil (May move_sizes)))))))
+    (All-cons (May move_sizes) read_six [] (omega arith, omega arith, omega arith, tt) (All-nil (May move_sizes)))))))
 
 none_allowed : All (May run_sizes) (move_none ∷ [])
 none_allowed = All-cons (May run_sizes) move_none [] (omega arith) (All-nil (May run_sizes))

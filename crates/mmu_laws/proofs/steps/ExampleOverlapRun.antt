@@ -5,7 +5,7 @@ use Rattle.std.proofs.lemmas.Fmt.{decimal_digit}
 use Rattle.std.proofs.lemmas.Option.{slice_get_past}
 use Rattle.std.proofs.lemmas.List.Elements.{All-cons, All-nil}
 use Rattle.core_views.proofs.HeaderSizes.{four}
-use Rattle.mmu_core.specs.lines.Cached.{flushed}
+use Rattle.mmu_core.specs.forms.access.Cached.{flushed}
 use Rattle.mmu_core.specs.machine.View.{View}
 use Rattle.std.proofs.Common.{ℕ, zero, suc, List, ◌≤◌, ◌+◌, ◌≡◌, [], ◌∷◌, refl, ap, arith, lit<, lit≤, ◌++◌}
 use Rattle.std.specs.Prelude.{All, Option, true, codes, unwrap_or}
@@ -148,7 +148,7 @@ overlap_allowed =
     (All-cons (May overlap_sizes) set_read_only_line (protect_below ∷ evict_above ∷ read_inside ∷ []) may_set_read_only
     (All-cons (May overlap_sizes) protect_below (evict_above ∷ read_inside ∷ []) (omega arith)
     (All-cons (May overlap_sizes) evict_above (read_inside ∷ []) (omega arith)
-    (All-cons (May overlap_sizes) read_inside [] (omega arith, omega arith, omega arith) (All-nil (May overlap_sizes))))))
+    (All-cons (May overlap_sizes) read_inside [] (omega arith, omega arith, omega arith, tt) (All-nil (May overlap_sizes))))))
 
 overlap_prints : text overlap_events ≡ codes "2 vm done\n4 h0 done\n5 h1 done\n6 v0 frame 65 value 0\n3 vm done\n"
 unfolding line_text

@@ -2,7 +2,7 @@
 use Rattle.part_steps.specs.TopicSteps.{topics_after}
 use Rattle.std.proofs.lemmas.Fmt.{decimal_digit}
 use Rattle.std.proofs.lemmas.List.Elements.{All-cons, All-nil}
-use Rattle.mmu_core.specs.lines.Cached.{flushed}
+use Rattle.mmu_core.specs.forms.access.Cached.{flushed}
 use Rattle.std.proofs.Common.{ℕ, List, ◌≡◌, [], ◌∷◌, refl, arith, lit<, lit≤, ◌++◌}
 use Rattle.std.specs.Prelude.{All, true, false, codes}
 use Rattle.spte_words.specs.Areas.{content_index, place, pool_index}
@@ -95,11 +95,11 @@ checkpoints = record {
 protect_allowed : All (May run_sizes) protect_lines
 protect_allowed =
     All-cons (May run_sizes) set_line (write_first ∷ denied_line ∷ protect_line ∷ allow_again ∷ write_again ∷ []) may_set
-    (All-cons (May run_sizes) write_first (denied_line ∷ protect_line ∷ allow_again ∷ write_again ∷ []) (omega arith, omega arith, omega arith)
-    (All-cons (May run_sizes) denied_line (protect_line ∷ allow_again ∷ write_again ∷ []) (omega arith, omega arith, omega arith)
+    (All-cons (May run_sizes) write_first (denied_line ∷ protect_line ∷ allow_again ∷ write_again ∷ []) (omega arith, omega arith, omega arith, omega arith)
+    (All-cons (May run_sizes) denied_line (protect_line ∷ allow_again ∷ write_again ∷ []) (omega arith, omega arith, omega arith, omega arith)
     (All-cons (May run_sizes) protect_line (allow_again ∷ write_again ∷ []) (omega arith)
     (All-cons (May run_sizes) allow_again (write_again ∷ []) (omega arith)
-    (All-cons (May run_sizes) write_again [] (omega arith, omega arith, omega arith) (All-nil (May run_sizes)))))))
+    (All-cons (May run_sizes) write_again [] (omega arith, omega arith, omega arith, omega arith) (All-nil (May run_sizes)))))))
 
 protect_prints : text protect_events ≡ codes "2 vm done\n3 v0 frame 65 value 0\n5 h0 done\n4 v1 hostfault\n6 h0 done\n7 v1 frame 65 value 7\n"
 unfolding line_text

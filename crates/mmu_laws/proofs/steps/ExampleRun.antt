@@ -21,7 +21,7 @@ use Rattle.mmu_laws.specs.steps.ExampleRuns.{run_events, run_lines, sum_line, wr
 use Rattle.mmu_laws.specs.steps.ExampleStarves.{ExampleStarves, small_events, small_lines, small_sizes, starved_line, starved_set_line}
 use Rattle.mmu_laws.specs.steps.ExampleSteps.{run_sizes, set_line, set_read_only_line}
 use Rattle.mmu_laws.specs.steps.ExampleWaits.{ExampleWaits, beside_line, wait_events, wait_lines}
-use Rattle.mmu_core.specs.lines.Cached.{flushed}
+use Rattle.mmu_core.specs.forms.access.Cached.{flushed}
 use Rattle.part_steps.specs.TopicSteps.{topics_after}
 use Rattle.mmu_core.proofs.start.StartViews.{start_view}
 use Rattle.mmu_laws.proofs.steps.ComputedRuns.{May, run_delays, run_tells}
@@ -93,13 +93,14 @@ run_allowed =
     (All-cons (May run_sizes) set_read_only_line (outsider_line ∷ write_line ∷ reader_line ∷ add_line ∷ sum_line ∷ other_slot_line ∷ forbidden_line ∷ [])
     may_set_read_only
     (All-cons (May run_sizes) outsider_line (write_line ∷ reader_line ∷ add_line ∷ sum_line ∷ other_slot_line ∷ forbidden_line ∷ [])
-    (omega arith, omega arith, omega arith)
-    (All-cons (May run_sizes) write_line (reader_line ∷ add_line ∷ sum_line ∷ other_slot_line ∷ forbidden_line ∷ []) (omega arith, omega arith, omega arith)
-    (All-cons (May run_sizes) reader_line (add_line ∷ sum_line ∷ other_slot_line ∷ forbidden_line ∷ []) (omega arith, omega arith, omega arith)
-    (All-cons (May run_sizes) add_line (sum_line ∷ other_slot_line ∷ forbidden_line ∷ []) (omega arith, omega arith, omega arith)
-    (All-cons (May run_sizes) sum_line (other_slot_line ∷ forbidden_line ∷ []) (omega arith, omega arith, omega arith)
-    (All-cons (May run_sizes) other_slot_line (forbidden_line ∷ []) (omega arith, omega arith, omega arith)
-    (All-cons (May run_sizes) forbidden_line [] (omega arith, omega arith, omega arith) (All-nil (May run_sizes))))))))))
+    (omega arith, omega arith, omega arith, omega arith)
+    (All-cons (May run_sizes) write_line (reader_line ∷ add_line ∷ sum_line ∷ other_slot_line ∷ forbidden_line ∷ [])
+    (omega arith, omega arith, omega arith, omega arith)
+    (All-cons (May run_sizes) reader_line (add_line ∷ sum_line ∷ other_slot_line ∷ forbidden_line ∷ []) (omega arith, omega arith, omega arith, tt)
+    (All-cons (May run_sizes) add_line (sum_line ∷ other_slot_line ∷ forbidden_line ∷ []) (omega arith, omega arith, omega arith, omega arith)
+    (All-cons (May run_sizes) sum_line (other_slot_line ∷ forbidden_line ∷ []) (omega arith, omega arith, omega arith, tt)
+    (All-cons (May run_sizes) other_slot_line (forbidden_line ∷ []) (omega arith, omega arith, omega arith, tt)
+    (All-cons (May run_sizes) forbidden_line [] (omega arith, omega arith, omega arith, omega arith) (All-nil (May run_sizes))))))))))
 
 pub example_runs : ExampleRuns
 example_runs = run_tells run_sizes run_lines run_rounds run_events run_in_range run_allowed (omega arith) run_whole.0 run_whole.1
@@ -139,7 +140,7 @@ small_whole = (refl, refl)
 small_allowed : All (May small_sizes) small_lines
 small_allowed =
     All-cons (May small_sizes) set_line (starved_line ∷ starved_set_line ∷ []) may_set
-    (All-cons (May small_sizes) starved_line (starved_set_line ∷ []) (omega arith, omega arith, omega arith)
+    (All-cons (May small_sizes) starved_line (starved_set_line ∷ []) (omega arith, omega arith, omega arith, omega arith)
     (All-cons (May small_sizes) starved_set_line [] may_set_read_only (All-nil (May small_sizes))))
 
 small_prints : text small_events ≡ codes "2 vm done\n3 v0 starved\n4 vm starved\n"
@@ -170,8 +171,8 @@ pub race_allowed : (pool : ℕ) → All (May (record run_sizes { pool = pool }))
 race_allowed pool =
     let May_in : Line → Type 0 = May (record run_sizes { pool = pool }) in
     All-cons May_in set_line (first_line ∷ second_line ∷ []) may_set
-    (All-cons May_in first_line (second_line ∷ []) (omega arith, omega arith, omega arith)
-    (All-cons May_in second_line [] (omega arith, omega arith, omega arith) (All-nil May_in)))
+    (All-cons May_in first_line (second_line ∷ []) (omega arith, omega arith, omega arith, omega arith)
+    (All-cons May_in second_line [] (omega arith, omega arith, omega arith, omega arith) (All-nil May_in)))
 
 race_prints : text race_events ≡ codes "2 vm done\n3 v0 frame 65 value 0\n4 v1 frame 65 value 7\n"
 unfolding line_text
@@ -209,7 +210,7 @@ wait_allowed : All (May run_sizes) wait_lines
 wait_allowed =
     All-cons (May run_sizes) set_line (set_read_only_line ∷ beside_line ∷ []) may_set
     (All-cons (May run_sizes) set_read_only_line (beside_line ∷ []) may_set_read_only
-    (All-cons (May run_sizes) beside_line [] (omega arith, omega arith, omega arith) (All-nil (May run_sizes))))
+    (All-cons (May run_sizes) beside_line [] (omega arith, omega arith, omega arith, omega arith) (All-nil (May run_sizes))))
 
 pub example_waits : ExampleWaits
 example_waits = run_delays run_sizes wait_lines wait_rounds wait_events 3 3 run_in_range wait_allowed (omega arith) wait_whole.0 wait_whole.1 wait_whole.2

@@ -2,7 +2,7 @@
 use Rattle.part_steps.specs.TopicSteps.{topics_after}
 use Rattle.std.proofs.lemmas.Fmt.{decimal_digit}
 use Rattle.std.proofs.lemmas.List.Elements.{All-cons, All-nil}
-use Rattle.mmu_core.specs.lines.Cached.{flushed}
+use Rattle.mmu_core.specs.forms.access.Cached.{flushed}
 use Rattle.std.proofs.Common.{ℕ, List, ◌≡◌, ◌++◌, [], ◌∷◌, refl, arith, lit<, lit≤}
 use Rattle.std.specs.Prelude.{All, true, codes}
 use Rattle.spte_words.specs.Areas.{content_index, place, pool_index}
@@ -117,13 +117,13 @@ slots_allowed : All (May run_sizes) slots_lines
 slots_allowed =
     All-cons (May run_sizes) set_line (write_first ∷ move_line ∷ read_beside ∷ same_line ∷ delete_line ∷ read_inside ∷ read_gone ∷ []) may_set
     (All-cons (May run_sizes) write_first (move_line ∷ read_beside ∷ same_line ∷ delete_line ∷ read_inside ∷ read_gone ∷ [])
-    (omega arith, omega arith, omega arith)
+    (omega arith, omega arith, omega arith, omega arith)
     (All-cons (May run_sizes) move_line (read_beside ∷ same_line ∷ delete_line ∷ read_inside ∷ read_gone ∷ []) may_move
-    (All-cons (May run_sizes) read_beside (same_line ∷ delete_line ∷ read_inside ∷ read_gone ∷ []) (omega arith, omega arith, omega arith)
+    (All-cons (May run_sizes) read_beside (same_line ∷ delete_line ∷ read_inside ∷ read_gone ∷ []) (omega arith, omega arith, omega arith, tt)
     (All-cons (May run_sizes) same_line (delete_line ∷ read_inside ∷ read_gone ∷ []) may_move
     (All-cons (May run_sizes) delete_line (read_inside ∷ read_gone ∷ []) tt
-    (All-cons (May run_sizes) read_inside (read_gone ∷ []) (omega arith, omega arith, omega arith)
-    (All-cons (May run_sizes) read_gone [] (omega arith, omega arith, omega arith) (All-nil (May run_sizes)))))))))
+    (All-cons (May run_sizes) read_inside (read_gone ∷ []) (omega arith, omega arith, omega arith, tt)
+    (All-cons (May run_sizes) read_gone [] (omega arith, omega arith, omega arith, tt) (All-nil (May run_sizes)))))))))
   where
     may_move : May run_sizes move_line
     may_move = record { some = omega arith; pages = omega arith; base = omega arith; host = omega arith; aligned = refl }

@@ -13,7 +13,7 @@ use Rattle.spte_words.specs.Flags.{flags_live, flags_logged, flags_read_only, fl
 use Rattle.spte_words.specs.HostWords.{host_allows_write, host_frame, host_present, host_word}
 use Rattle.part_steps.specs.TopicSteps.{topics_after}
 use Rattle.flat_laws.specs.Laws.{example_slot}
-use Rattle.mmu_core.specs.lines.Cached.{flushed}
+use Rattle.mmu_core.specs.forms.access.Cached.{flushed}
 use Rattle.mmu_core.specs.machine.View.{View}
 use Rattle.mmu_core.proofs.start.StartViews.{start_view}
 use Rattle.mmu_laws.specs.steps.ExampleRaces.{race_lines}

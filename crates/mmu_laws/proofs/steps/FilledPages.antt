@@ -1,5 +1,6 @@
 -- What the next fills of a page make of words and hands, all of them at once.
-use Rattle.std.proofs.Common.{◌≡◌, ◌≢◌, ◌⊎◌, inl, inr, ◌+◌, ◌*◌, ◌-◌, ◌^◌, ◌<◌, ◌≤◌, ℕ, zero, suc, List, [], ◌∷◌, ◌++◌, refl, sym, subst, ap, ◌∙◌, arith}
+use Rattle.std.proofs.Common.{◌≡◌, ◌≢◌, ◌⊎◌, inl, inr, ◌+◌, ◌*◌, ◌-◌, ◌^◌, ◌<◌, ◌≤◌, ℕ, zero, suc, List, [], ◌∷◌, ◌++◌}
+use Rattle.std.proofs.Common.{length, refl, sym, subst, ap, ◌∙◌, arith}
 use Rattle.std.specs.Prelude.{Bool, true, false, ◌&&◌, ◌==◌, nat_le, nat_lt, Some, if◌then◌else◌}
 use Rattle.std.proofs.lemmas.Bool.Decides.{nat_tests}
 use Rattle.core_views.specs.declared.event.Event.{Event}
@@ -12,7 +13,6 @@ use Rattle.core_views.specs.Sizes.{actors_of}
 use Rattle.spte_words.specs.declared.area.Area.{Area}
 use Rattle.spte_words.specs.declared.area.Area.TheVariants as area
 use Rattle.spte_words.specs.Areas.{number_of, pool_index}
-use Rattle.mmu_core.specs.machine.NextSteps.{HasLineThatFits}
 use Rattle.mmu_core.specs.machine.View.{View, put, upd}
 use Rattle.mmu_core.proofs.machine.Columns.{same_or, upd_same}
 use Rattle.mmu_laws.specs.steps.ExampleRaces.{in_turn}
@@ -195,9 +195,6 @@ nothing_stored hand a i x e = by (same_or i a)
     by (inl is) = ap hand is ∙ (e ∙ sym (ap (upd hand a x) is ∙ upd_same hand a x))
     by (inr ne) = grind (arith, nat_tests)
 
-fits_too : (p : Place) (command : Command) (o : OwnedPage) (steps : ℕ) (h : Held) → HasLineThatFits h → HasLineThatFits (at_fill p command o steps h)
-fits_too p command o steps h L = record { left = L.left; fits = L.fits }
-
 -- what the first fill makes
 abbrev first_filled : Filler → ℕ → Held → ℕ → View → View
 first_filled F steps h a v = record {
@@ -206,14 +203,15 @@ first_filled F steps h a v = record {
 }
 
 -- The first fill can be made, and the others after it.
-one_and_more : (z : Sizes) (F : Filler) (n a steps : ℕ) (h : Held) (v : View) → FillsOne F h → a < actors_of z → HasLineThatFits h
-    → IsFilling F steps h (v.hand a) → F.owned.filled + suc n ≤ 512 → F.owned.page < h.state.sizes.pool → steps + suc n ≤ 2 ^ 64 - 1
+one_and_more : (z : Sizes) (F : Filler) (n a steps : ℕ) (h : Held) (v : View) → FillsOne F h → a < actors_of z
+    → length h.answers < length h.lines → IsFilling F steps h (v.hand a) → F.owned.filled + suc n ≤ 512
+    → F.owned.page < h.state.sizes.pool → steps + suc n ≤ 2 ^ 64 - 1
     → Runs z (first_filled F steps h a v) (in_turn n (a ∷ [])) (filled (one_filled F) n (steps + 1) h a (first_filled F steps h a v)) []
     → Runs z v (in_turn (suc n) (a ∷ [])) (filled F (suc n) steps h a v) []
 one_and_more z F n a steps h v S there L is room page few rest = record {
   have = (
     there,
-    subst HasLineThatFits (sym here) (fits_too (F.place true) F.command o steps h L),
+    subst (λ (g : Held). length g.answers < length g.lines) (sym here) L,
     subst (λ (w : View). HaveLines z w (in_turn n (a ∷ []))) (sym goes) rest.have,
   );
   leads = ap (λ (w : View). turned_all w (in_turn n (a ∷ []))) goes ∙ (rest.leads ∙ same);
@@ -240,8 +238,9 @@ one_and_more z F n a steps h v S there L is room page few rest = record {
           (hand_filled F (suc n) steps h) (one_made F n steps h) s;
     }
 
-pub fills_run : (z : Sizes) (F : Filler) (n a steps : ℕ) (h : Held) (v : View) → FillsOne F h → a < actors_of z → HasLineThatFits h
-    → IsFilling F steps h (v.hand a) → F.owned.filled + n ≤ 512 → F.owned.page < h.state.sizes.pool → steps + n ≤ 2 ^ 64 - 1
+pub fills_run : (z : Sizes) (F : Filler) (n a steps : ℕ) (h : Held) (v : View) → FillsOne F h → a < actors_of z
+    → length h.answers < length h.lines → IsFilling F steps h (v.hand a) → F.owned.filled + n ≤ 512
+    → F.owned.page < h.state.sizes.pool → steps + n ≤ 2 ^ 64 - 1
     → Runs z v (in_turn n (a ∷ [])) (filled F n steps h a v) []
 fills_run z F zero a steps h v S there L is room page few = record {
   have = tt;

@@ -1,5 +1,5 @@
 -- What two actors make that fill a page each in turn: as if one of them filled first, and then the other one.
-use Rattle.std.proofs.Common.{◌≡◌, ◌≢◌, ◌+◌, ◌-◌, ◌^◌, ◌<◌, ◌≤◌, ℕ, zero, suc, [], ◌∷◌, refl, sym, subst, ap, ◌∙◌, arith}
+use Rattle.std.proofs.Common.{◌≡◌, ◌≢◌, ◌+◌, ◌-◌, ◌^◌, ◌<◌, ◌≤◌, ℕ, zero, suc, [], ◌∷◌, length, refl, sym, subst, ap, ◌∙◌, arith}
 use Rattle.std.specs.Prelude.{Bool, true, false, ◌==◌}
 use Rattle.std.proofs.lemmas.Bool.Decides.{nat_tests}
 use Rattle.core_views.specs.declared.sizes.Sizes.{Sizes}
@@ -8,7 +8,6 @@ use Rattle.core_views.specs.Sizes.{actors_of}
 use Rattle.spte_words.specs.declared.area.Area.{Area}
 use Rattle.spte_words.specs.declared.area.Area.TheVariants as area
 use Rattle.spte_words.specs.Areas.{number_of}
-use Rattle.mmu_core.specs.machine.NextSteps.{HasLineThatFits}
 use Rattle.mmu_core.specs.machine.View.{View, upd}
 use Rattle.mmu_core.proofs.machine.Columns.{upd_other, upd_same}
 use Rattle.mmu_laws.specs.steps.ExampleRaces.{in_turn}
@@ -20,7 +19,7 @@ use Rattle.mmu_laws.proofs.steps.ViewRuns.{Runs, run_on}
 pub record CanFill (z : Sizes) (F : Filler) (n a steps : ℕ) (h : Held) (v : View) : Type 0 where
   pub fills_one : FillsOne F h
   pub there : a < actors_of z
-  pub line : HasLineThatFits h
+  pub line : length h.answers < length h.lines
   pub is : IsFilling F steps h (v.hand a)
   pub room : F.owned.filled + n ≤ 512
   pub page : F.owned.page < h.state.sizes.pool

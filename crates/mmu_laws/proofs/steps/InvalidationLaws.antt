@@ -24,7 +24,7 @@ use Rattle.core_views.specs.Sizes.{actors_of}
 use Rattle.part_steps.specs.PartTasks.{own_index, part_task}
 use Rattle.mmu_core.specs.invariant.InvalidationsPart.{CheckedPart, knows_seq}
 use Rattle.mmu_core.specs.invariant.Laws.{IsSound}
-use Rattle.mmu_core.specs.lines.AccessSteps.{touch_of}
+use Rattle.mmu_core.specs.forms.access.AccessSteps.{touch_of}
 use Rattle.mmu_core.specs.machine.Enabled.{mmu}
 use Rattle.mmu_core.specs.machine.Machine.{May, Step, World, effect, hand_in}
 use Rattle.mmu_core.specs.machine.Steps.{line_at, place_at, task_of}

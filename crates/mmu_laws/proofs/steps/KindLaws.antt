@@ -12,7 +12,7 @@ use Rattle.core_views.specs.declared.topics.Topics.{Topics}
 use Rattle.core_views.specs.declared.trace.Line.{Line}
 use Rattle.core_views.specs.declared.trace.Op.{Op}
 use Rattle.core_views.specs.declared.trace.Op.TheVariants.{Add, Read, Write}
-use Rattle.core_views.specs.Held.{Held}
+use Rattle.core_views.specs.Held.{Held, has_line}
 use Rattle.core_views.specs.HostChanges.{is_own}
 use Rattle.core_views.specs.Kinds.{kind_named}
 use Rattle.core_views.specs.Sizes.{actors_of}
@@ -24,6 +24,7 @@ use Rattle.spte_words.specs.Entries.{can_write, kind_of, level_span}
 use Rattle.part_steps.specs.declared.part_step.PartStep.{PartStep}
 use Rattle.part_steps.specs.declared.part_step.PartStep.TheVariants as part
 use Rattle.part_steps.specs.declared.task.Task.{Task}
+use Rattle.part_steps.specs.LockHoldings.{MayRelease}
 use Rattle.part_steps.specs.PartHoldings.{SawEntry}
 use Rattle.part_steps.specs.PartTasks.{entry_index, own_index, page_looked, part_task, table_page, word_looked}
 use Rattle.part_steps.specs.Tasks.{kind_of_task, map_of}
@@ -31,7 +32,7 @@ use Rattle.mmu_core.specs.alone.FaultAlone.{LeadsTo}
 use Rattle.mmu_core.specs.invariant.InvalidationsPart.{IsEntryStill}
 use Rattle.mmu_core.specs.invariant.Laws.{IsSound}
 use Rattle.mmu_core.specs.invariant.TreePart.{at, stands}
-use Rattle.mmu_core.specs.lines.AccessSteps.{touch_of}
+use Rattle.mmu_core.specs.forms.access.AccessSteps.{touch_of}
 use Rattle.mmu_core.specs.machine.Enabled.{IsPartStep, mmu}
 use Rattle.mmu_core.specs.machine.Machine.{May, Step, World, hand_in}
 use Rattle.mmu_core.specs.machine.Steps.{line_at, place_at, task_of}
@@ -42,7 +43,8 @@ use Rattle.mmu_core.proofs.machine.Views.{named_is}
 use Rattle.mmu_core.proofs.machine.Which.{is_next, is_part}
 use Rattle.mmu_core.proofs.machine.Worlds.{Takes, TakesPart, are_small, takes}
 use Rattle.mmu_laws.specs.steps.InvalidationLaws.{BringsAbsentPage, BringsAreOfAbsentPages, ChangesAreInvalidated, ChangesOwnPage, ZapsAreOfOpenInvalidations}
-use Rattle.mmu_laws.specs.steps.InvalidationLaws.{ZapsOwnFrame}
+use Rattle.mmu_laws.specs.steps.InvalidationLaws.{HasNoneLeft, ReleasesLeaveNothing, ZapsOwnFrame}
+use Rattle.mmu_laws.proofs.steps.ReleaseLaws.{none_left}
 use Rattle.mmu_laws.specs.steps.TouchLaws.{touches}
 use Rattle.mmu_core.proofs.held.LowestKept.{lowest_leaf}
 use Rattle.mmu_laws.proofs.causes.MadeSteps.{Makes, in_machine, own_sizes, word_on}
@@ -221,6 +223,12 @@ module _ (z : Sizes) (w : World Held) (s : Step Kind) (G : IsSound z w) (may : M
   bringing (part.Fill value) M is = absurd (cc is)
   bringing _ M is = absurd (cc is)
 
+  releasing : (step : PartStep) (M : Makes h s step) → (part_task step (own_index h) t M.note).kind ≡ kind.Release
+      → MayRelease h × (has_line h ≡ true → HasNoneLeft t)
+  releasing part.Release M is = (M.needs, none_left h M.needs)
+  releasing (part.Fill value) M is = absurd (cc is)
+  releasing _ M is = absurd (cc is)
+
 pub zaps_are_of_open_invalidations : ZapsAreOfOpenInvalidations
 zaps_are_of_open_invalidations z w s G may named =
     let M = made z w s G may kind.Zap (no_touch kind.Zap refl) named in zapping z w s G may M.step M.makes M.kind_is
@@ -228,6 +236,10 @@ zaps_are_of_open_invalidations z w s G may named =
 pub changes_are_invalidated : ChangesAreInvalidated
 changes_are_invalidated z w s G may named =
     let M = made z w s G may kind.Change (no_touch kind.Change refl) named in changing z w s G may M.step M.makes M.kind_is
+
+pub releases_leave_nothing : ReleasesLeaveNothing
+releases_leave_nothing z w s G may named =
+    let M = made z w s G may kind.Release (no_touch kind.Release refl) named in releasing z w s G may M.step M.makes M.kind_is
 
 pub brings_are_of_absent_pages : BringsAreOfAbsentPages
 brings_are_of_absent_pages z w s G may named =

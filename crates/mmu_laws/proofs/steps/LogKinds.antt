@@ -25,7 +25,7 @@ use Rattle.part_steps.specs.declared.part_step.PartStep.{PartStep}
 use Rattle.part_steps.specs.declared.part_step.PartStep.TheVariants as part
 use Rattle.part_steps.specs.declared.task.Task.{Task}
 use Rattle.mmu_core.specs.invariant.Laws.{IsSound}
-use Rattle.mmu_core.specs.lines.AccessSteps.{touch_of}
+use Rattle.mmu_core.specs.forms.access.AccessSteps.{touch_of}
 use Rattle.mmu_core.specs.machine.Enabled.{IsPartStep, mmu}
 use Rattle.mmu_core.specs.machine.Machine.{May, Step, World, hand_in, answered, effect}
 use Rattle.mmu_core.specs.machine.Steps.{line_at, next, place_at, task_of}

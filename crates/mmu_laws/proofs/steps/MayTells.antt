@@ -14,7 +14,7 @@ use Rattle.core_views.specs.Held.{Held}
 use Rattle.mmu_core.specs.declared.outcome.Outcome.{Outcome}
 use Rattle.mmu_core.specs.declared.outcome.Outcome.TheVariants.{Ends, Goes}
 use Rattle.mmu_core.specs.machine.Outcomes.{answering}
-use Rattle.mmu_core.specs.lines.AccessSteps.{exiting}
+use Rattle.mmu_core.specs.forms.access.AccessSteps.{exiting}
 use Rattle.mmu_core.specs.machine.Steps.{beginning}
 use Rattle.mmu_laws.specs.steps.EventLaws.{MayTellOf}
 

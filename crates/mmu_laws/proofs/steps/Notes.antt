@@ -22,11 +22,11 @@ use Rattle.part_steps.specs.PartTasks.{own_index, part_task}
 use Rattle.part_steps.specs.Tasks.{kind_of_task, map_of}
 use Rattle.mmu_core.specs.declared.claim.ClaimNext.{ClaimNext}
 use Rattle.mmu_core.specs.declared.outcome.Outcome.{Outcome}
-use Rattle.mmu_core.specs.lines.AccessSteps.{ends_with, task_by}
+use Rattle.mmu_core.specs.forms.access.AccessSteps.{ends_with, task_by}
 use Rattle.mmu_core.specs.declared.claim.FreeMap.{FreeMap}
 use Rattle.mmu_core.specs.declared.claim.FreeMap.TheVariants.{Frames, Pages}
-use Rattle.mmu_core.specs.lines.ClaimSteps.{claim_next, claim_over, claim_part, load_part, loads_last_word, map_area, map_word, map_words}
-use Rattle.mmu_core.specs.lines.ClaimSteps.{tries_one, try_part}
+use Rattle.mmu_core.specs.orders.ClaimSteps.{claim_next, claim_over, claim_part, load_part, loads_last_word, map_area, map_word, map_words}
+use Rattle.mmu_core.specs.orders.ClaimSteps.{tries_one, try_part}
 use Rattle.mmu_core.specs.lines.Forms.{note_at, part_at, RestsAt, outcome_at}
 use Rattle.mmu_core.specs.lines.PartAt.{touch_at}
 use Rattle.mmu_core.specs.lines.ScanPlaces.{claim_at, ends_with_claim}
@@ -36,13 +36,13 @@ use Rattle.mmu_core.specs.machine.Turns.{line_of, outcome_of}
 use Rattle.mmu_core.proofs.machine.ColumnsTell.{some_is}
 use Rattle.mmu_core.proofs.invariant.QuietKept.{touched}
 use Rattle.mmu_core.proofs.lines.ByStep.{step_needs}
-use Rattle.mmu_core.proofs.lines.ClaimMade.{ClaimMade, claim_made}
-use Rattle.mmu_core.proofs.lines.ClaimMade as made
+use Rattle.mmu_core.proofs.orders.ClaimMade.{ClaimMade, claim_made}
+use Rattle.mmu_core.proofs.orders.ClaimMade as made
 use Rattle.mmu_core.proofs.lines.ClaimPlaces.{claims_or_not}
 use Rattle.mmu_core.proofs.lines.LineClaims.{Claims, ClaimsNot, HasNote, MayEnd, ends_after, note_by, one_claim}
 use Rattle.mmu_core.proofs.machine.Which.{is_next}
 use Rattle.mmu_laws.specs.steps.StepLaws.{AwaitsLast, LoadsLastWord, NoteTells}
-use Rattle.mmu_laws.proofs.steps.AwaitNotes.{await_tells, awaits_or_not, awaits_without, may_end_awaits}
+use Rattle.mmu_laws.proofs.forms.log.AwaitNotes.{await_tells, awaits_or_not, awaits_without, may_end_awaits}
 use Rattle.mmu_laws.proofs.steps.StepLaws.{tells_part, tells_touch}
 
 -- ---- the map of a claim

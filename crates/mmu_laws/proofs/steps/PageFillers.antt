@@ -24,7 +24,7 @@ use Rattle.part_steps.specs.SetWords.{set_word}
 use Rattle.part_steps.specs.Tasks.{map_of}
 use Rattle.part_steps.specs.ControlBits.{is_content}
 use Rattle.part_steps.specs.TopicSteps.{topics_after, word_filled}
-use Rattle.mmu_core.specs.lines.Cached.{flushed}
+use Rattle.mmu_core.specs.forms.access.Cached.{flushed}
 use Rattle.mmu_core.specs.lines.Delays.{one_more}
 use Rattle.mmu_core.specs.lines.Forms.{outcome_at, tells_at}
 use Rattle.mmu_core.specs.machine.Outcomes.{answering}

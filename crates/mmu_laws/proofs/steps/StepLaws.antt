@@ -25,10 +25,10 @@ use Rattle.spte_words.specs.Entries.{kind_of}
 use Rattle.part_steps.specs.declared.task.Task.{Task}
 use Rattle.part_steps.specs.declared.part_step.PartStep.{PartStep}
 use Rattle.part_steps.specs.declared.part_step.PartStep.TheVariants as part
-use Rattle.mmu_core.specs.lines.AccessSteps.{access_caches, is_found, touch_of}
-use Rattle.mmu_core.specs.lines.Cached.{asks_flush, flushed, flushed_by, with_leaf}
+use Rattle.mmu_core.specs.forms.access.AccessSteps.{access_caches, is_found, touch_of}
+use Rattle.mmu_core.specs.forms.access.Cached.{asks_flush, flushed, flushed_by, with_leaf}
 use Rattle.mmu_core.specs.machine.Enabled.{Enabled}
-use Rattle.mmu_core.specs.lines.FaultSteps.{allows_access}
+use Rattle.mmu_core.specs.forms.access.FaultSteps.{allows_access}
 use Rattle.part_steps.specs.PartTasks.{own_index, part_task}
 use Rattle.mmu_laws.specs.steps.StepLaws.{CachesOneAtMost, IsOn, IsOnItsArea}
 use Rattle.mmu_core.specs.lines.Forms.{caches_at, RestsAt}

@@ -23,9 +23,9 @@ use Rattle.part_steps.specs.declared.part_step.PartStep.TheVariants as part
 use Rattle.part_steps.specs.declared.task.Task.{Task}
 use Rattle.part_steps.specs.PartTasks.{own_index, part_task}
 use Rattle.part_steps.specs.Tasks.{kind_of_task}
-use Rattle.mmu_core.specs.lines.AccessSteps.{task_by, touch_of}
-use Rattle.mmu_core.specs.lines.Cached.{frame_used}
-use Rattle.mmu_core.specs.lines.FaultSteps.{fault_part}
+use Rattle.mmu_core.specs.forms.access.AccessSteps.{task_by, touch_of}
+use Rattle.mmu_core.specs.forms.access.Cached.{frame_used}
+use Rattle.mmu_core.specs.forms.access.FaultSteps.{fault_part}
 use Rattle.mmu_core.specs.lines.Forms.{RestsAt, note_at, outcome_at, tells_at}
 use Rattle.mmu_core.specs.lines.PartAt.{task_at, touch_at}
 use Rattle.mmu_core.specs.machine.Enabled.{mmu}

@@ -1,21 +1,18 @@
 -- The turns_of of some actors, over words and hands as columns: what they tell, and that they can be made.
-use Rattle.std.proofs.Common.{◌≡◌, ◌^◌, ◌<◌, ℕ, List, [], ◌∷◌, ◌++◌, length, refl, sym, subst, ap, ◌∙◌, arith}
+use Rattle.std.proofs.Common.{◌≡◌, ◌<◌, ℕ, List, [], ◌∷◌, ◌++◌, length, refl, sym, subst, ap, ◌∙◌, arith}
 use Rattle.std.specs.Prelude.{Bool, true, false, ◌&&◌, nat_lt}
 use Rattle.std.proofs.lemmas.Bool.Decides.{nat_tests}
 use Rattle.std.proofs.lemmas.List.{append_assoc}
 use Rattle.core_views.specs.declared.event.Event.{Event}
 use Rattle.core_views.specs.declared.sizes.Sizes.{Sizes}
-use Rattle.core_views.specs.declared.trace.Command.{Command}
-use Rattle.core_views.specs.declared.trace.Command.TheVariants.{Access}
-use Rattle.core_views.specs.declared.trace.Op.TheVariants.{Add, Read, Write}
 use Rattle.core_views.specs.Held.{Held}
 use Rattle.core_views.specs.Sizes.{actors_of}
 use Rattle.mmu_core.specs.machine.Enabled.{mmu}
-use Rattle.mmu_core.specs.machine.NextSteps.{HasLineThatFits, WritesOneWord, next_step}
+use Rattle.mmu_core.specs.machine.NextSteps.{next_step}
 use Rattle.mmu_laws.specs.steps.ExampleSteps.{turns_of}
 use Rattle.mmu_core.specs.invariant.Laws.{IsSound}
 use Rattle.mmu_core.specs.machine.Machine.{Legal, World, answered, effect, hand_in, run}
-use Rattle.mmu_core.specs.machine.Steps.{events_of, line_at, next_line, place_at}
+use Rattle.mmu_core.specs.machine.Steps.{events_of, line_at, place_at}
 use Rattle.mmu_core.specs.machine.View.{View, stepped, view}
 use Rattle.mmu_core.specs.machine.Worlds.{history}
 use Rattle.mmu_laws.proofs.steps.CanStep.{may_step}
@@ -42,20 +39,13 @@ tale v (a ∷ actors) = tells v a ++ tale (turned v a) actors
 -- Each of them has a line left when its turn comes.
 abbrev pub HaveLines : Sizes → View → List ℕ → Type 0
 HaveLines z v [] = Unit {0}
-HaveLines z v (a ∷ actors) = (a < actors_of z) × HasLineThatFits (v.hand a) × HaveLines z (turned v a) actors
+HaveLines z v (a ∷ actors) = (a < actors_of z) × (length (v.hand a).answers < length (v.hand a).lines) × HaveLines z (turned v a) actors
 
 -- the same, as a test
-abbrev writes_one_word : Command → Bool
-writes_one_word (Access gfn word Read) = true
-writes_one_word (Access gfn word (Write x)) = nat_lt x (2 ^ 64)
-writes_one_word (Access gfn word (Add x)) = nat_lt x (2 ^ 64)
-writes_one_word _ = true
-
 abbrev pub have_lines : Sizes → View → List ℕ → Bool
 have_lines z v [] = true
 have_lines z v (a ∷ actors) =
-    (nat_lt a (actors_of z) && (nat_lt (length (v.hand a).answers) (length (v.hand a).lines) && writes_one_word (next_line (v.hand a)).command))
-    && have_lines z (turned v a) actors
+    (nat_lt a (actors_of z) && nat_lt (length (v.hand a).answers) (length (v.hand a).lines)) && have_lines z (turned v a) actors
 
 pub both : (a b : Bool) → (a && b) ≡ true → (a ≡ true) × (b ≡ true)
 both true b e = (refl, e)
@@ -64,25 +54,14 @@ both false b e = absurd (cc)
 pub below : (a b : ℕ) → nat_lt a b ≡ true → a < b
 below a b e = grind (arith, nat_tests)
 
-writes : (command : Command) → writes_one_word command ≡ true → WritesOneWord command
-writes (Access gfn word Read) e = tt
-writes (Access gfn word (Write x)) e = below x (2 ^ 64) e
-writes (Access gfn word (Add x)) e = below x (2 ^ 64) e
-writes _ e = tt
-
 pub have_lines_by : (z : Sizes) (v : View) (actors : List ℕ) → have_lines z v actors ≡ true → HaveLines z v actors
 have_lines_by z v [] e = tt
 have_lines_by z v (a ∷ actors) e =
     let h : Held = v.hand a in
     let now_ =
-    both (nat_lt a (actors_of z) && (nat_lt (length h.answers) (length h.lines) && writes_one_word (next_line h).command))
-    (have_lines z (turned v a) actors) e in
-    let there = both (nat_lt a (actors_of z)) (nat_lt (length h.answers) (length h.lines) && writes_one_word (next_line h).command) now_.0 in
-    let has = both (nat_lt (length h.answers) (length h.lines)) (writes_one_word (next_line h).command) there.1 in (
-      below a (actors_of z) there.0,
-      record { left = below (length h.answers) (length h.lines) has.0; fits = writes (next_line h).command has.1 },
-      have_lines_by z (turned v a) actors now_.1,
-    )
+    both (nat_lt a (actors_of z) && nat_lt (length h.answers) (length h.lines)) (have_lines z (turned v a) actors) e in
+    let there = both (nat_lt a (actors_of z)) (nat_lt (length h.answers) (length h.lines)) now_.0 in
+    (below a (actors_of z) there.0, below (length h.answers) (length h.lines) there.1, have_lines_by z (turned v a) actors now_.1)
 
 -- Their steps can be made, and tell that.
 pub turns_are : (z : Sizes) (w : World Held) (actors : List ℕ) → IsSound z w → HaveLines z (view z w) actors
@@ -91,7 +70,7 @@ turns_are z w [] G have = (tt, refl)
 turns_are z w (a ∷ actors) G have =
     let h : Held = hand_in mmu w a in
     let may = may_step z w a G have.0 have.1 in
-    let T = takes_line z w (next_step z w a) G may (is_next h (next_step z w a).kind may.enabled (has_line_is h have.1.left)) in
+    let T = takes_line z w (next_step z w a) G may (is_next h (next_step z w a).kind may.enabled (has_line_is h have.1)) in
     let rest =
     turns_are z (effect mmu w (next_step z w a)) actors (good_step z w (next_step z w a) G may)
     (subst (λ (v : View). HaveLines z v actors) (sym T.leads) have.2) in
@@ -112,7 +91,7 @@ pub turns_lead : (z : Sizes) (w : World Held) (actors : List ℕ) → IsSound z 
 turns_lead z w [] G have = refl
 turns_lead z w (a ∷ actors) G have =
     let may = may_step z w a G have.0 have.1 in
-    let T = takes_line z w (next_step z w a) G may (is_next (hand_in mmu w a) (next_step z w a).kind may.enabled (has_line_is (hand_in mmu w a) have.1.left)) in
+    let T = takes_line z w (next_step z w a) G may (is_next (hand_in mmu w a) (next_step z w a).kind may.enabled (has_line_is (hand_in mmu w a) have.1)) in
     turns_lead z (effect mmu w (next_step z w a)) actors (good_step z w (next_step z w a) G may)
     (subst (λ (v : View). HaveLines z v actors) (sym T.leads) have.2)
     ∙ ap (λ (v : View). turned_all v actors) T.leads

@@ -22,20 +22,20 @@ use Rattle.part_steps.specs.PartTopics.{part_topics}
 use Rattle.part_steps.specs.StayTopics.{may_search, may_walk}
 use Rattle.mmu_core.specs.declared.invalidate.BeginNext.{BeginNext}
 use Rattle.mmu_core.specs.declared.invalidate.BeginNext.TheVariants as begins_next
-use Rattle.mmu_core.specs.lines.FaultLeft.{find_left}
-use Rattle.mmu_core.specs.lines.InvalidateKnows.{BeginKnows}
-use Rattle.mmu_core.specs.lines.InvalidateLeft.{begin_left}
-use Rattle.mmu_core.specs.lines.InvalidateSteps.{begin_next, begin_part, search_next}
+use Rattle.mmu_core.specs.forms.access.FaultLeft.{find_left}
+use Rattle.mmu_core.specs.orders.InvalidateKnows.{BeginKnows}
+use Rattle.mmu_core.specs.orders.InvalidateLeft.{begin_left}
+use Rattle.mmu_core.specs.orders.InvalidateSteps.{begin_next, begin_part, search_next}
 use Rattle.mmu_core.specs.lines.PartWaits.{part_waits}
-use Rattle.mmu_core.specs.lines.SearchLeft.{look_left}
+use Rattle.mmu_core.specs.forms.access.SearchLeft.{look_left}
 use Rattle.mmu_core.proofs.lines.EitherPlace.{either_place, one_place}
-use Rattle.mmu_core.proofs.lines.SearchFalls.{flags_fall}
-use Rattle.mmu_core.proofs.lines.HostPlaces.{look_some}
-use Rattle.mmu_core.proofs.lines.SearchKnown.{may_search_alone, may_walk_alone, not_either}
-use Rattle.mmu_core.proofs.lines.BeginSweeps.{frames_low, root_less, swept_falls}
-use Rattle.mmu_core.proofs.lines.SweepFalls.{leaf_falls, sweep_falls}
-use Rattle.mmu_core.proofs.lines.SweptSteps.{zapped_done}
-use Rattle.mmu_core.specs.lines.SweepSteps.{range_of}
+use Rattle.mmu_core.proofs.forms.access.SearchFalls.{flags_fall}
+use Rattle.mmu_core.proofs.forms.host.HostPlaces.{look_some}
+use Rattle.mmu_core.proofs.orders.SearchKnown.{may_search_alone, may_walk_alone, not_either}
+use Rattle.mmu_core.proofs.orders.BeginSweeps.{frames_low, root_less, swept_falls}
+use Rattle.mmu_core.proofs.orders.SweepFalls.{leaf_falls, sweep_falls}
+use Rattle.mmu_core.proofs.orders.SweptSteps.{zapped_done}
+use Rattle.mmu_core.specs.orders.SweepSteps.{range_of}
 
 -- how many steps the line has left after a step of the begin
 abbrev pub begin_left_after : BeginNext → Sizes → ℕ → Topics → ℕ

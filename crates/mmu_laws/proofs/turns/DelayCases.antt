@@ -29,7 +29,7 @@ use Rattle.mmu_laws.specs.turns.TurnLaws.{DelaysWaitBeginAnewOrMiss, TurnsComeNe
 use Rattle.mmu_core.specs.machine.Turns.{line_of, outcome_of}
 use Rattle.mmu_core.specs.machine.View.{answer_in, view, word_in}
 use Rattle.mmu_core.specs.machine.Worlds.{IsStart}
-use Rattle.mmu_laws.proofs.turns.InstalledEntries.{installed_since}
+use Rattle.mmu_laws.proofs.forms.access.InstalledEntries.{installed_since}
 use Rattle.mmu_core.proofs.lines.KnowsKept.{knows_at}
 use Rattle.mmu_laws.proofs.causes.StarvedScan.{legal_parts}
 use Rattle.core_views.specs.Sizes.{actors_of}

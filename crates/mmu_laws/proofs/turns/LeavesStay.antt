@@ -17,7 +17,7 @@ use Rattle.spte_words.specs.Entries.{absent_word, kind_of, can_write, without_wr
 use Rattle.mmu_core.proofs.pages.ProtectedLeaf.{denied_same, found_leaf, left_leaf, pool_protected}
 use Rattle.part_steps.specs.declared.part_step.PartStep.{PartStep}
 use Rattle.part_steps.specs.declared.part_step.PartStep.TheVariants as part
-use Rattle.mmu_core.specs.lines.AccessSteps.{touch_of}
+use Rattle.mmu_core.specs.forms.access.AccessSteps.{touch_of}
 use Rattle.mmu_core.specs.alone.FaultAlone.{LeadsTo, LeadsToLeaf}
 use Rattle.mmu_core.specs.invariant.Invariant.{Invariant}
 use Rattle.mmu_core.specs.invariant.Laws.{IsSound}
@@ -37,10 +37,10 @@ use Rattle.mmu_core.proofs.machine.SumsBelow.{upd_id}
 use Rattle.mmu_core.proofs.pages.TreeKept.{absent_entry, fixed_is_leaf, leaf_is}
 use Rattle.part_steps.specs.declared.task.Task.{Task}
 use Rattle.mmu_core.proofs.lines.StepIn.{StepIn, Makes, Touches}
-use Rattle.mmu_core.proofs.lines.FaultSame.{both, is_not}
+use Rattle.mmu_core.proofs.forms.access.FaultSame.{both, is_not}
 use Rattle.spte_words.proofs.FixedEntries.{fixed_can_write}
 use Rattle.mmu_core.proofs.pages.EntryStill.{still_leaf}
-use Rattle.mmu_core.specs.lines.FaultSteps.{allows_access}
+use Rattle.mmu_core.specs.forms.access.FaultSteps.{allows_access}
 use Rattle.core_views.specs.Sizes.{actors_of}
 pub use Rattle.mmu_laws.proofs.turns.LeadsStay.{EntriesStay, EntryStays, IsLeafStill, IsProtected, IsTakenAway, IsZapped, LinksStay, TakesEntry, taken_kind}
 pub use Rattle.mmu_laws.proofs.turns.LeadsStay.{takes_entries}

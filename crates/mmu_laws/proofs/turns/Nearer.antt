@@ -14,11 +14,11 @@ use Rattle.mmu_core.specs.declared.outcome.Outcome.TheVariants.{Goes, Ends}
 use Rattle.mmu_core.specs.declared.watch.WatchNext.{WatchNext}
 use Rattle.mmu_core.specs.declared.watch.WatchNext.TheVariants as watches
 use Rattle.mmu_core.specs.declared.claim.FreeMap.{FreeMap}
-use Rattle.mmu_core.specs.lines.ClaimSteps.{claim_left, claim_outcome, claim_over}
+use Rattle.mmu_core.specs.orders.ClaimSteps.{claim_left, claim_outcome, claim_over}
 use Rattle.mmu_core.specs.lines.Forms.{steps_left}
-use Rattle.mmu_core.specs.lines.WatchSteps.{watch_place}
-use Rattle.mmu_core.proofs.lines.ClaimMade.{claim_left_after}
-use Rattle.mmu_core.proofs.lines.WatchMade.{watch_left_after}
+use Rattle.mmu_core.specs.orders.WatchSteps.{watch_place}
+use Rattle.mmu_core.proofs.orders.ClaimMade.{claim_left_after}
+use Rattle.mmu_core.proofs.orders.WatchMade.{watch_left_after}
 
 -- Where the line goes on it has fewer than n steps left.
 abbrev pub Nearer : Outcome → Command → Sizes → Topics → ℕ → Type 0

@@ -37,11 +37,11 @@ use Rattle.mmu_laws.specs.turns.Removal.{StandsInstalled, is_installed}
 use Rattle.mmu_laws.specs.turns.TurnLaws.{begins_anew, stands_at}
 use Rattle.mmu_laws.proofs.turns.DelayCases.{Misses, misses_at}
 use Rattle.mmu_laws.proofs.turns.EntriesTaken.{leaf_stays_or_breaks}
-use Rattle.mmu_laws.proofs.turns.EntryLeads.{Leads, makes_leads}
-use Rattle.mmu_laws.proofs.turns.OwnServed.{Served, own_served, served_on, standing_served}
-use Rattle.mmu_laws.proofs.turns.OwnTakesNone.{own_takes_none}
+use Rattle.mmu_laws.proofs.forms.access.EntryLeads.{Leads, makes_leads}
+use Rattle.mmu_laws.proofs.forms.access.OwnServed.{Served, own_served, served_on, standing_served}
+use Rattle.mmu_laws.proofs.forms.access.OwnTakesNone.{own_takes_none}
 use Rattle.mmu_laws.proofs.turns.TurnsNearer.{finds_nearer, hand_behind, no_miss, same_sizes, taken}
-use Rattle.mmu_laws.proofs.turns.EntryLost.{faults_lost, is_lost, lost_line, none_lost, served_of, standing_walk, walks_served}
+use Rattle.mmu_laws.proofs.forms.access.EntryLost.{faults_lost, is_lost, lost_line, none_lost, served_of, standing_walk, walks_served}
 
 -- ---- how many steps a line has left, where only its own actor makes steps
 

@@ -36,7 +36,7 @@ use Rattle.mmu_core.proofs.machine.Columns.{at_upd}
 use Rattle.mmu_core.proofs.invariant.PartBounded.{part_rests_at}
 use Rattle.mmu_core.proofs.start.StartWords.{hand_is}
 use Rattle.mmu_core.proofs.start.Starts.{reached_good, start_good}
-use Rattle.mmu_laws.proofs.turns.StayNearer.{Nearer}
+use Rattle.mmu_laws.proofs.forms.access.StayNearer.{Nearer}
 use Rattle.mmu_laws.proofs.turns.TurnsNearer.{hand_behind, nearer_here, same_sizes}
 use Rattle.mmu_core.proofs.machine.Which.{has_line_is, is_next}
 use Rattle.mmu_core.proofs.machine.Worlds.{Takes, TakesPart, good_run, good_step, takes, takes_line}

@@ -23,12 +23,12 @@ use Rattle.spte_words.specs.Areas.{pool_index}
 use Rattle.spte_words.specs.Entries.{kind_of}
 use Rattle.mmu_core.specs.declared.outcome.Outcome.{Outcome}
 use Rattle.mmu_core.specs.declared.outcome.Outcome.TheVariants.{Goes}
-use Rattle.mmu_core.specs.lines.AccessSteps.{stay_next}
+use Rattle.mmu_core.specs.forms.access.AccessSteps.{stay_next}
 use Rattle.mmu_core.specs.lines.Forms.{KnowsPart, RestsAt, RetiresPart, steps_left, outcome_at}
 use Rattle.mmu_core.specs.lines.Delays.{leaves_to_fault, walks_again}
 use Rattle.mmu_core.specs.alone.FaultAlone.{LeadsToLeaf}
 use Rattle.mmu_core.specs.machine.Enabled.{mmu}
-use Rattle.mmu_core.specs.lines.FaultSteps.{allows_access}
+use Rattle.mmu_core.specs.forms.access.FaultSteps.{allows_access}
 use Rattle.mmu_core.specs.invariant.Laws.{IsSound}
 use Rattle.mmu_core.specs.alone.LineAlone.{hand_left, line_waits}
 use Rattle.mmu_core.specs.machine.Machine.{May, Step, World, answered, effect, hand_in}
@@ -46,9 +46,9 @@ use Rattle.mmu_core.proofs.lines.Forms.{first_no_end, outcome_goes}
 use Rattle.mmu_core.proofs.machine.GoesOn.{GoesUnderWay}
 use Rattle.mmu_core.proofs.lines.KnowsKept.{knows_at, step_leaves}
 use Rattle.mmu_core.proofs.invariant.PartBounded.{part_rests_at}
-use Rattle.mmu_laws.proofs.turns.StayNearer.{Nearer}
-use Rattle.mmu_laws.proofs.Forms.{SlotFits, form_nearer, slot_fits}
-use Rattle.mmu_laws.proofs.turns.HostNearer.{finds_at}
+use Rattle.mmu_laws.proofs.forms.access.StayNearer.{Nearer}
+use Rattle.mmu_laws.proofs.EachForm.{SlotFits, form_nearer, slot_fits}
+use Rattle.mmu_laws.proofs.forms.host.HostNearer.{finds_at}
 use Rattle.mmu_laws.proofs.alone.GoesAlone.{topics_at}
 use Rattle.mmu_core.proofs.lines.StepIn.{topics_of_step}
 use Rattle.mmu_core.specs.lines.Rests.{IsUnderWay}

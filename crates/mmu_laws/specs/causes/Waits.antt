@@ -29,7 +29,7 @@ use Rattle.part_steps.specs.ControlBits.{has_writer}
 use Rattle.mmu_laws.specs.causes.Causes.{Finds, HasMade, WasChanged}
 use Rattle.mmu_core.specs.declared.claim.FreeMap.{FreeMap}
 use Rattle.mmu_core.specs.declared.claim.FreeMap.TheVariants.{Frames, Pages}
-use Rattle.mmu_core.specs.lines.ClaimSteps.{claim_over, map_area}
+use Rattle.mmu_core.specs.orders.ClaimSteps.{claim_over, map_area}
 use Rattle.mmu_core.specs.machine.Enabled.{mmu}
 use Rattle.mmu_core.specs.invariant.Laws.{IsSound}
 use Rattle.mmu_core.specs.machine.Machine.{Legal, Step, World, answered, hand_in, run}

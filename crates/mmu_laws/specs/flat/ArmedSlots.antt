@@ -2,9 +2,6 @@
 -- (locking.rst, "Fast page fault"; tdp_mmu.c, kvm_tdp_mmu_wrprot_slot); or the line that reads the log has taken the page out of it, and has yet to come to its
 -- leaf, or to see the flush (kvm_main.c, kvm_get_dirty_log_protect).
 use Rattle.std.specs.Prelude.{◌≡◌, ◌<◌, List, ℕ, true}
-use Rattle.core_views.specs.declared.place.Place.{Place}
-use Rattle.core_views.specs.declared.place.Place.TheVariants as place
-use Rattle.core_views.specs.declared.trace.Command.{Command}
 use Rattle.core_views.specs.declared.kind.Kind.{Kind}
 use Rattle.core_views.specs.declared.sizes.Sizes.{Sizes}
 use Rattle.core_views.specs.declared.trace.Line.{Line}
@@ -23,24 +20,13 @@ use Rattle.mmu_core.specs.machine.Machine.{Legal, Step, World, run}
 use Rattle.mmu_core.specs.machine.View.{View, view}
 use Rattle.mmu_core.specs.machine.Worlds.{IsStart, history}
 use Rattle.log_invariant.specs.Covered.{IsLoggedIn}
-use Rattle.log_invariant.specs.Excuses.{FlushesLaterAt, ForbidsLaterAt}
+use Rattle.log_invariant.specs.Forbidding.{FlushesLater, ForbidsLater}
 use Rattle.log_invariant.specs.LogInvariant.{AreGuarded, IsGuarded, LeafIsGuarded}
-
--- The line that stands there has taken the guest frame out of its log, and has yet to forbid writes in its leaf.
-abbrev pub ForbidsTakenAt : Place → Command → Held → ℕ → Type 0
-ForbidsTakenAt (place.Log p) command h gfn = ForbidsLaterAt (place.Log p) command h gfn
-ForbidsTakenAt _ command h gfn = ⊥
-
--- It has yet to see that virtual processor v, with this state word, has flushed what it had cached of the frame.
-abbrev pub FlushesTakenAt : Place → Command → Held → ℕ → ℕ → ℕ → Type 0
-FlushesTakenAt (place.Log p) command h v state gfn = FlushesLaterAt (place.Log p) command h v state gfn
-FlushesTakenAt _ command h v state gfn = ⊥
+use Rattle.log_invariant.specs.forms.log.LogReads.{taken_out}
 
 -- If the slot has the guest frame, a write to it is covered; or the line of some hand excuses it.
-abbrev pub IsCoveredOf : Sizes → View → (Place → Command → Held → ℕ → Type 0) → SlotOf → ℕ → Type 0
-IsCoveredOf z v ExcusesAt slot gfn =
-    contains gfn slot ≡ true
-    → IsGuarded (actors_of z) (v.words area.Log) v.hand (λ h. ExcusesAt h.state.place h.state.line.command h) slot gfn
+abbrev pub IsCoveredOf : Sizes → View → (Held → ℕ → Type 0) → SlotOf → ℕ → Type 0
+IsCoveredOf z v Excuses slot gfn = contains gfn slot ≡ true → IsGuarded (actors_of z) (v.words area.Log) v.hand Excuses slot gfn
 
 -- The published slot with this ID has a log; each leaf of its frames to which links lead from the root, in each account of the tables, is covered if it allows
 -- writes; and so is each translation of them that a virtual processor may use.
@@ -48,9 +34,9 @@ pub record IsCoveredSlot (z : Sizes) (v : View) (id : ℕ) : Type 0 where
   pub slot : SlotOf
   pub logged : IsLoggedIn (v.words area.Pool) (v.words area.Slots 0) id slot
   pub leaves : (up : ℕ → Use) (spot : ℕ → Position) → TreePart z.pool (v.words area.Root 0) (v.words area.Role) (v.words area.Pool) up spot
-      → AllOver up spot (v.words area.Pool) (v.words area.Root 0) (LeafIsGuarded (IsCoveredOf z v ForbidsTakenAt slot))
+      → AllOver up spot (v.words area.Pool) (v.words area.Root 0) (LeafIsGuarded (IsCoveredOf z v (λ h. ForbidsLater (taken_out h)) slot))
   pub cached : (k : ℕ) → k < z.vcpus → may_use (v.words area.State k) (v.hand k).topics.stay ≡ true
-      → AreGuarded (IsCoveredOf z v (λ p command h. FlushesTakenAt p command h k (v.words area.State k)) slot) (v.hand k).cached.items
+      → AreGuarded (IsCoveredOf z v (λ h. FlushesLater (taken_out h) k (v.words area.State k)) slot) (v.hand k).cached.items
 
 -- So is each slot of which the flat state logs writes that the history of a list of steps leaves, whatever the steps.
 abbrev pub ArmedSlotsAreCovered : Type 0

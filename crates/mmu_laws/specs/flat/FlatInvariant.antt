@@ -35,9 +35,10 @@ use Rattle.part_steps.specs.SlotWords.{memory_slots_below, page_of, slots_below}
 use Rattle.part_steps.specs.Tasks.{map_of}
 use Rattle.mmu_core.specs.machine.View.{View}
 use Rattle.core_views.specs.declared.host.HostEntry.{HostEntry}
-use Rattle.mmu_core.specs.lines.HostSteps.{entry_of}
+use Rattle.mmu_core.specs.forms.host.HostSteps.{entry_of}
 use Rattle.part_steps.specs.PartTasks.{page_looked, word_looked}
-pub use Rattle.mmu_laws.specs.flat.LineStages.{HasBegunToRead, LogUnder, SlotChangeUnder, changed_stage}
+pub use Rattle.mmu_laws.specs.flat.LineStages.{SlotChangeUnder, changed_stage}
+pub use Rattle.mmu_laws.specs.forms.log.LogStages.{HasBegunToRead, LogUnder}
 
 -- The slots are the live ones of the published set, in this page, each with its dirty log or without; each host page is mapped as its word says;
 -- the content words of its frame are its memory; a pause is set where its word isn't 0; and no line has started a migration.

@@ -1,9 +1,6 @@
 -- Dirty logs of flat memory, and the words: of which slots writes are logged, what is dirty, and why a bit is set (api.rst, KVM_GET_DIRTY_LOG).
 use Rattle.std.specs.Prelude.{◌≡◌, ◌<◌, ◌⊎◌, List, ℕ, Bool, true}
 use Rattle.core_views.specs.declared.kind.Kind.{Kind}
-use Rattle.core_views.specs.declared.place.Place.{Place}
-use Rattle.core_views.specs.declared.place.Place.TheVariants as place
-use Rattle.core_views.specs.declared.place.SlotChangePlace.TheVariants.{WriteProtect}
 use Rattle.core_views.specs.declared.sizes.Sizes.{Sizes}
 use Rattle.core_views.specs.declared.trace.Line.{Line}
 use Rattle.core_views.specs.declared.trace.Slot.{Slot as SlotOf}
@@ -19,18 +16,15 @@ use Rattle.mmu_core.specs.machine.Machine.{Legal, Step, World, run}
 use Rattle.mmu_core.specs.machine.View.{View, view}
 use Rattle.mmu_core.specs.machine.Worlds.{IsStart, history}
 use Rattle.log_invariant.specs.Covered.{IsLoggedIn, is_marked}
-use Rattle.log_invariant.specs.LogBegins.{BeginsClean, IsAmong, LogIsUnwatched}
+use Rattle.log_invariant.specs.forms.slot_change.LogBegins.{BeginsClean, LogIsUnwatched, begun_at}
 use Rattle.log_invariant.specs.LogInvariant.{IsGuarded}
-use Rattle.log_invariant.specs.LogReads.{IsTaken}
+use Rattle.log_invariant.specs.forms.log.LogReads.{HasTakenOut}
 
--- The line forbids writes to the guest frame, or flushes it, as its log is to begin.
-abbrev pub ForbidsAt : Place → ℕ → Type 0
-ForbidsAt (place.SlotChange (WriteProtect range p)) gfn = IsAmong range gfn
-ForbidsAt _ gfn = ⊥
-
--- The hand's line has published a slot with the guest frame, whose log hasn't begun yet for flat memory.
+-- The hand's line has published a slot with the guest frame, whose log hasn't begun yet for flat memory: others may not know of it, or the line forbids writes
+-- to
+-- the frame, or flushes it.
 abbrev pub IsBeginning : Held → ℕ → Type 0
-IsBeginning h gfn = (LogIsUnwatched h gfn × BeginsClean h) ⊎ ForbidsAt h.state.place gfn
+IsBeginning h gfn = (LogIsUnwatched h gfn × BeginsClean h) ⊎ (begun_at h.state.place h.topics).Has gfn
 
 -- The slot with the ID, of which flat memory logs writes, has a log in the published set, and no hand's line is to begin it yet.
 pub record IsArmedIn (n : ℕ) (pool : ℕ → ℕ) (slots : ℕ) (hand : ℕ → Held) (id : ℕ) : Type 0 where
@@ -40,7 +34,7 @@ pub record IsArmedIn (n : ℕ) (pool : ℕ → ℕ) (slots : ℕ) (hand : ℕ �
 
 -- The page of the guest frame is marked, or a mark is owed for the frame; or the line of some hand has taken it out of the log, and isn't answered yet.
 abbrev pub IsCoveredOrTaken : ℕ → (ℕ → ℕ) → (ℕ → Held) → SlotOf → ℕ → Type 0
-IsCoveredOrTaken n log hand slot gfn = IsGuarded n log hand IsTaken slot gfn
+IsCoveredOrTaken n log hand slot gfn = IsGuarded n log hand HasTakenOut slot gfn
 
 -- The guest frame is one of such a slot, and so covered or taken.
 pub record IsDirtyIn (n : ℕ) (log pool : ℕ → ℕ) (slots : ℕ) (hand : ℕ → Held) (armed : ℕ → Bool) (gfn : ℕ) : Type 0 where

@@ -15,8 +15,8 @@ use Rattle.spte_words.specs.Entries.{can_write, host_writable, kind_of, mapped_f
 use Rattle.spte_words.specs.HostWords.{host_allows_write, host_frame, host_present}
 use Rattle.mmu_core.specs.machine.Enabled.{mmu}
 use Rattle.mmu_core.specs.alone.FaultAlone.{LeadsTo}
-use Rattle.mmu_core.specs.lines.Cached.{covers}
-use Rattle.mmu_core.specs.lines.FaultSteps.{allows_access}
+use Rattle.mmu_core.specs.forms.access.Cached.{covers}
+use Rattle.mmu_core.specs.forms.access.FaultSteps.{allows_access}
 use Rattle.mmu_core.specs.invariant.CachedPart.{FitsMachine}
 use Rattle.mmu_core.specs.invariant.InvalidatedPart.{may_use}
 use Rattle.mmu_core.specs.invariant.Laws.{IsSound}

@@ -9,7 +9,7 @@ use Rattle.core_views.specs.Traces.{IsCommandFor}
 use Rattle.mmu_core.specs.machine.Enabled.{mmu}
 use Rattle.mmu_core.specs.machine.Machine.{Legal, May, Step, World, hand_in, run}
 use Rattle.mmu_core.specs.machine.Worlds.{IsStart}
-use Rattle.mmu_core.specs.machine.NextSteps.{HasLineThatFits, next_step}
+use Rattle.mmu_core.specs.machine.NextSteps.{next_step}
 
 -- Every machine has a start, with all lines that a trace may have.
 abbrev pub EveryMachineStarts : Type 0
@@ -21,4 +21,5 @@ EveryMachineStarts =
 abbrev pub EachMayStep : Type 0
 EachMayStep =
     (z : Sizes) (lines : List Line) (w : World Held) (ss : List (Step Kind)) (actor : ℕ) → IsStart z lines w → Legal mmu w ss → actor < actors_of z
-    → HasLineThatFits (hand_in mmu (run mmu w ss) actor) → May mmu (run mmu w ss) (next_step z (run mmu w ss) actor)
+    → length (hand_in mmu (run mmu w ss) actor).answers < length (hand_in mmu (run mmu w ss) actor).lines
+    → May mmu (run mmu w ss) (next_step z (run mmu w ss) actor)

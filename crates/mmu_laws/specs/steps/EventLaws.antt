@@ -28,8 +28,8 @@ use Rattle.part_steps.specs.Tasks.{map_of}
 use Rattle.mmu_core.specs.declared.outcome.Outcome.{Outcome}
 use Rattle.mmu_core.specs.declared.outcome.Outcome.TheVariants.{Ends}
 use Rattle.mmu_core.specs.invariant.Laws.{IsSound}
-use Rattle.mmu_core.specs.lines.HostSteps.{entry_of}
-use Rattle.mmu_core.specs.lines.LogSteps.{first_word, frames_read, slot_asked, word_end}
+use Rattle.mmu_core.specs.forms.host.HostSteps.{entry_of}
+use Rattle.mmu_core.specs.forms.log.LogSteps.{first_word, frames_read, slot_asked, word_end}
 use Rattle.mmu_core.specs.machine.Enabled.{mmu}
 use Rattle.mmu_core.specs.machine.Machine.{May, Step, World, answered, hand_in}
 use Rattle.mmu_core.specs.machine.Steps.{events_of}

@@ -1,5 +1,6 @@
 -- Which steps change the sequence number of invalidations, and how many are open (kvm_main.c, mmu_invalidate_seq and mmu_invalidate_in_progress); which
--- leaves are zapped (tdp_mmu.c, kvm_tdp_mmu_unmap_gfn_range); and which host words are changed within them, or brought in.
+-- leaves are zapped (tdp_mmu.c, kvm_tdp_mmu_unmap_gfn_range); which host words are changed within them, or brought in; and what is done where the lock is given
+-- back.
 use Rattle.std.specs.Prelude.{◌≡◌, ◌⊎◌, ◌+◌, ◌-◌, ◌≤◌, ℕ, true, false, if◌then◌else◌, Some}
 use Rattle.core_views.specs.declared.kind.Kind.{Kind}
 use Rattle.core_views.specs.declared.kind.StepKind.TheVariants as kind
@@ -7,7 +8,7 @@ use Rattle.core_views.specs.declared.sizes.Sizes.{Sizes}
 use Rattle.core_views.specs.declared.topics.Hold.TheVariants.{Exclusive}
 use Rattle.core_views.specs.declared.topics.Stay.TheVariants.{Section}
 use Rattle.core_views.specs.declared.topics.Topics.{Topics}
-use Rattle.core_views.specs.Held.{Held}
+use Rattle.core_views.specs.Held.{Held, has_line}
 use Rattle.core_views.specs.HostChanges.{is_own}
 use Rattle.core_views.specs.Kinds.{kind_named}
 use Rattle.spte_words.specs.declared.area.Area.TheVariants as area
@@ -15,7 +16,11 @@ use Rattle.spte_words.specs.declared.spte_kind.SpteKind.TheVariants.{Leaf}
 use Rattle.spte_words.specs.Areas.{place, pool_index}
 use Rattle.spte_words.specs.Entries.{kind_of}
 use Rattle.spte_words.specs.HostWords.{host_present, with_presence}
+use Rattle.part_steps.specs.InvalidationHoldings.{MayCount, MaySetEnd, MaySetStart}
+use Rattle.part_steps.specs.LockHoldings.{MayRelease}
+use Rattle.part_steps.specs.LogHoldings.{MayProtect}
 use Rattle.part_steps.specs.PartTasks.{entry_index}
+use Rattle.part_steps.specs.SweepHoldings.{MayZap}
 use Rattle.part_steps.specs.Tasks.{map_of}
 use Rattle.mmu_core.specs.alone.FaultAlone.{LeadsTo}
 use Rattle.mmu_core.specs.invariant.InvalidatedPart.{IsIn}
@@ -54,6 +59,22 @@ abbrev pub InvalidationsAreCounted : Type 0
 InvalidationsAreCounted =
     (z : Sizes) (w : World Held) (s : Step Kind) → IsSound z w → May mmu w s
     → (word_in z (effect mmu w s) area.Count 0 ≡ word_in z w area.Count 0) ⊎ CountsInvalidation z w s
+
+-- The actor may neither store an end of a range nor a count, nor zap a leaf, nor forbid writes in one.
+pub record HasNoneLeft (t : Topics) : Type 0 where
+  pub no_start : (first gfn : ℕ) → MaySetStart first gfn t → ⊥
+  pub no_end : (last gfn : ℕ) → MaySetEnd last gfn t → ⊥
+  pub no_count : (count : ℕ) → MayCount count t → ⊥
+  pub no_zap : (gfn : ℕ) → MayZap gfn t → ⊥
+  pub no_protect : (gfn : ℕ) → MayProtect gfn t → ⊥
+
+-- A step that gives back the lock which its actor has alone leaves no end of an invalidation half done, so no step on the lock stands between the one that
+-- raises the number and the one that lowers the count; what is open is flushed; and a line has no end of a range and no count left to store, no leaf to zap,
+-- and none to forbid writes in.
+abbrev pub ReleasesLeaveNothing : Type 0
+ReleasesLeaveNothing =
+    (z : Sizes) (w : World Held) (s : Step Kind) → IsSound z w → May mmu w s → kind_named s.kind.code ≡ kind.Release
+    → MayRelease (hand_in mmu w s.actor) × (has_line (hand_in mmu w s.actor) ≡ true → HasNoneLeft (held_by w s))
 
 -- The actor has the lock alone, and its own invalidation is open; the step's word is the entry of the lowest level to which links lead from the root a guest
 -- frame that this invalidation is of, and a leaf.

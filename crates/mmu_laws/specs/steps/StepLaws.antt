@@ -15,12 +15,12 @@ use Rattle.spte_words.specs.declared.area.Area.{Area}
 use Rattle.spte_words.specs.declared.area.Area.TheVariants as area
 use Rattle.spte_words.specs.Areas.{place, size_of}
 use Rattle.spte_words.specs.HostWords.{host_level, with_frame, with_presence, with_writes}
-use Rattle.mmu_core.specs.lines.HostSteps.{entry_of}
+use Rattle.mmu_core.specs.forms.host.HostSteps.{entry_of}
 use Rattle.mmu_core.specs.declared.outcome.Outcome.{Outcome}
-use Rattle.mmu_core.specs.lines.AccessSteps.{ends_with}
-use Rattle.mmu_core.specs.lines.Cached.{asks_flush, with_leaf}
+use Rattle.mmu_core.specs.forms.access.AccessSteps.{ends_with}
+use Rattle.mmu_core.specs.forms.access.Cached.{asks_flush, with_leaf}
 use Rattle.mmu_core.specs.declared.claim.FreeMap.{FreeMap}
-use Rattle.mmu_core.specs.lines.ClaimSteps.{map_area, map_words}
+use Rattle.mmu_core.specs.orders.ClaimSteps.{map_area, map_words}
 use Rattle.mmu_core.specs.lines.ScanPlaces.{ends_with_claim}
 use Rattle.mmu_core.specs.machine.Enabled.{Enabled}
 use Rattle.mmu_core.specs.machine.Steps.{has_line, next, place_at}

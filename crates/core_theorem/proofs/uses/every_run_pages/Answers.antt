@@ -1,4 +1,5 @@
-use Rattle.core_theorem.proofs.Frames.{copied_words_are_the_pages, frames_are_reused_alone, frames_are_used, watched_hold_no_old_frame}
+use Rattle.core_theorem.proofs.Frames.{copied_words_are_the_pages, frames_are_used, loaded_leaves_kept, watched_hold_no_old_frame}
+use Rattle.core_theorem.proofs.FramesReused.{frames_are_reused_alone}
 use Rattle.core_theorem.proofs.Holdings.{pages_are_reused_alone}
 use Rattle.core_theorem.proofs.Pages.{pages_are_used}
 use Rattle.core_theorem.proofs.Runs.{sound}
@@ -23,6 +24,9 @@ returns-clause-frames c z lines w ss R = frames_are_used z _ (sound z lines w ss
 
 pub returns-clause-copied : goal.returns-clause-copied
 returns-clause-copied c = copied_words_are_the_pages
+
+pub returns-clause-loaded : goal.returns-clause-loaded
+returns-clause-loaded c = loaded_leaves_kept
 
 pub returns-clause-frame_reuse : goal.returns-clause-frame_reuse
 returns-clause-frame_reuse c = frames_are_reused_alone

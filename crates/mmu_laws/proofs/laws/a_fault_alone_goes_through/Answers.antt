@@ -1,4 +1,4 @@
-use Rattle.mmu_laws.proofs.alone.FaultAlone.{goes_through}
+use Rattle.mmu_laws.proofs.forms.access.FaultAlone.{goes_through}
 use Rattle.mmu_laws.proofs.leaves.LeadsDown.{leads_down}
 use Rattle.mmu_laws.proofs.laws.a_fault_alone_goes_through.Goals as goal
 

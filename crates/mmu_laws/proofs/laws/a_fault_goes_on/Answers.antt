@@ -1,6 +1,6 @@
-use Rattle.mmu_core.proofs.lines.FaultFalls.{fault_falls, fault_is_bounded}
-use Rattle.mmu_core.proofs.lines.FaultKnown.{fault_known, parts_answer}
-use Rattle.mmu_core.proofs.lines.FaultNeeds.{fault_needs}
+use Rattle.mmu_core.proofs.forms.access.FaultFalls.{fault_falls, fault_is_bounded}
+use Rattle.mmu_core.proofs.forms.access.FaultKnown.{fault_known, parts_answer}
+use Rattle.mmu_core.proofs.forms.access.FaultNeeds.{fault_needs}
 use Rattle.mmu_laws.proofs.causes.WaitsSee.{waits_see_another}
 use Rattle.mmu_laws.proofs.laws.a_fault_goes_on.Goals as goal
 

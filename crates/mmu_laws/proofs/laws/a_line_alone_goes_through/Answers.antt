@@ -2,7 +2,7 @@ use Rattle.mmu_laws.proofs.alone.AloneEnds.{ends_alone}
 use Rattle.mmu_laws.proofs.alone.AloneEnough.{none_starved}
 use Rattle.mmu_laws.proofs.alone.AloneRuns.{begins_alone, steps_alone}
 use Rattle.mmu_laws.proofs.alone.LowestFrames.{moves_take_lowest}
-use Rattle.mmu_laws.proofs.alone.ReadingsAlone.{readings_alone_are_exact}
+use Rattle.mmu_laws.proofs.forms.log.ReadingsAlone.{readings_alone_are_exact}
 use Rattle.mmu_laws.proofs.laws.a_line_alone_goes_through.Goals as goal
 
 pub returns-clause-through : goal.returns-clause-through

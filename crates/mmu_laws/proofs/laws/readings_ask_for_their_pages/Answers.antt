@@ -1,4 +1,4 @@
-use Rattle.mmu_laws.proofs.flat.LogCommandLaws.{bad_ranges_are_refused, clears_ask_for_named, gets_ask_for_all, readings_are_of_logs}
+use Rattle.mmu_laws.proofs.forms.log.LogCommandLaws.{bad_ranges_are_refused, clears_ask_for_named, gets_ask_for_all, readings_are_of_logs}
 use Rattle.mmu_laws.proofs.laws.readings_ask_for_their_pages.Goals as goal
 
 pub returns-clause-gets : goal.returns-clause-gets

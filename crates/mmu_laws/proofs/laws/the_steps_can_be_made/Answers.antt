@@ -4,7 +4,9 @@ use Rattle.mmu_laws.proofs.steps.ExampleLogAllRun.{example_log_all}
 use Rattle.mmu_laws.proofs.steps.ExampleApartRun.{example_apart}
 use Rattle.mmu_laws.proofs.steps.ExampleLeafRun.{example_leaf}
 use Rattle.mmu_laws.proofs.steps.ExampleMissesRun.{example_misses}
-use Rattle.mmu_laws.proofs.steps.ExampleReadsRun.{example_reads}
+use Rattle.mmu_laws.proofs.forms.log.ExampleReadsRun.{example_reads}
+use Rattle.mmu_laws.proofs.forms.log.ExampleOwedRun.{example_owed}
+use Rattle.mmu_laws.proofs.forms.log.ExampleManualRun.{example_manual}
 use Rattle.mmu_laws.proofs.steps.ExampleProtectRun.{example_protect}
 use Rattle.mmu_laws.proofs.steps.ExampleEvictRun.{example_evict}
 use Rattle.mmu_laws.proofs.steps.ExampleSlotsRun.{example_slots}
@@ -71,6 +73,12 @@ returns-clause-log_all c = example_log_all
 
 pub returns-clause-reads : goal.returns-clause-reads
 returns-clause-reads c = example_reads
+
+pub returns-clause-owed : goal.returns-clause-owed
+returns-clause-owed c = example_owed
+
+pub returns-clause-manual : goal.returns-clause-manual
+returns-clause-manual c = example_manual
 
 pub returns-clause-misses : goal.returns-clause-misses
 returns-clause-misses c = example_misses

@@ -1,4 +1,4 @@
-use Rattle.mmu_laws.proofs.turns.InstalledEntries.{installed_serve}
+use Rattle.mmu_laws.proofs.forms.access.InstalledEntries.{installed_serve}
 use Rattle.mmu_laws.proofs.turns.EntriesTaken.{breaking_changes_entries, leaves_stay}
 use Rattle.mmu_laws.proofs.turns.StepsBounded.{turns_bounded}
 use Rattle.mmu_laws.proofs.turns.DelayCases.{turns_come_nearer}

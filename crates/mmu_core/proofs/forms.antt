@@ -1,0 +1,4 @@
+pub mod access
+pub mod host
+pub mod log
+pub mod slot_change

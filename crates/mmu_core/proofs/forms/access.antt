@@ -1,0 +1,17 @@
+pub mod AccessClaims
+pub mod AccessEnds
+pub mod AccessKept
+pub mod AccessLeft
+pub mod AccessParts
+pub mod CachedKept
+pub mod FastKnown
+pub mod FaultFalls
+pub mod FaultKnown
+pub mod FaultNeeds
+pub mod FaultSame
+pub mod FaultScans
+pub mod LeafKnown
+pub mod LookKnown
+pub mod SearchFalls
+pub mod UsedTranslations
+pub mod WalkKnown

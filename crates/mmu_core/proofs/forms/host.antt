@@ -1,0 +1,9 @@
+pub mod HostClaims
+pub mod HostKept
+pub mod HostKnown
+pub mod HostMakes
+pub mod HostMoves
+pub mod HostNeeds
+pub mod HostPlaces
+pub mod HostRetires
+pub mod MovingPlaces

@@ -1,0 +1,11 @@
+pub mod LogFalls
+pub mod LogFirst
+pub mod LogKept
+pub mod LogKnown
+pub mod LogKnownWalks
+pub mod LogKnownWords
+pub mod LogMakes
+pub mod LogNeeds
+pub mod LogPlaces
+pub mod LogTold
+pub mod ReadingPlaces

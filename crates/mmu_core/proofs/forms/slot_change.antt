@@ -1,0 +1,9 @@
+pub mod SlotChangeClaims
+pub mod SlotChangeCounted
+pub mod SlotChangeKept
+pub mod SlotChangeKnown
+pub mod SlotChangeMakes
+pub mod SlotChangeNeeds
+pub mod SlotChangePlaces
+pub mod SlotChangeRetires
+pub mod SlotChangeTold

@@ -1,0 +1,17 @@
+pub mod BeginSweeps
+pub mod ClaimMade
+pub mod ClaimRests
+pub mod ShareMade
+pub mod WatchMade
+pub mod InvalidatePlaces
+pub mod InvalidateNeeds
+pub mod InvalidateKnown
+pub mod ProtectPlaces
+pub mod ProtectKnown
+pub mod SearchKnown
+pub mod SweepKnown
+pub mod SweepFalls
+pub mod SweepSpans
+pub mod SweepWalks
+pub mod SweptSteps
+pub mod FillMade

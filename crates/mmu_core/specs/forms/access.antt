@@ -1,0 +1,11 @@
+pub mod AccessSteps
+pub mod AccessKnows
+pub mod Cached
+pub mod CheckSteps
+pub mod FastSteps
+pub mod FaultHolds
+pub mod FaultKnows
+pub mod FaultLaws
+pub mod FaultLeft
+pub mod FaultSteps
+pub mod SearchLeft

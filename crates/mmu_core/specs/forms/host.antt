@@ -1,0 +1,2 @@
+pub mod HostSteps
+pub mod HostKnows

@@ -1,0 +1,6 @@
+pub mod LogSteps
+pub mod LogKnows
+pub mod LogLeft
+pub mod LogOutcomes
+pub mod LogTells
+pub mod Readings

@@ -1,0 +1,10 @@
+pub mod ClaimSteps
+pub mod ShareSteps
+pub mod WatchSteps
+pub mod InvalidateSteps
+pub mod InvalidateLeft
+pub mod InvalidateKnows
+pub mod SweepSteps
+pub mod SweepKnows
+pub mod WriteProtectSteps
+pub mod WriteProtectKnows

@@ -1,0 +1,6 @@
+pub mod LogCommandLaws
+pub mod LogStages
+pub mod ReadingsAlone
+pub mod ExampleReads
+pub mod ExampleOwed
+pub mod ExampleManual

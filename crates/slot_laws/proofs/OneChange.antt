@@ -1,0 +1,176 @@
+-- A line changes a slot or a host page once at most, and its answer says whether it did.
+use Rattle.std.proofs.Common.{◌≡◌, ◌⊎◌, inl, inr, ℕ, Bool, true, false, List, [], ◌∷◌, refl, sym, ap, ◌∙◌, subst}
+use Rattle.std.specs.Prelude.{Option, Some, None}
+use Rattle.core_views.specs.declared.actor.Actor.{Actor}
+use Rattle.core_views.specs.declared.event.Event.{Event}
+use Rattle.core_views.specs.declared.event.EventKind.{EventKind}
+use Rattle.core_views.specs.declared.event.EventKind.TheVariants.{Begun, LookedAtPause, LookedAtSlots, LookedAtHost, BroughtIn, Accessed, Exited, SlotChanged}
+use Rattle.core_views.specs.declared.event.EventKind.TheVariants.{HostChanged, Armed, Taken, Harvested, Shown, Answered}
+use Rattle.core_views.specs.declared.event.EventKind.TheVariants.{GuestStopped, MigrationStarted, PauseSet, Resumed, WordCopied}
+use Rattle.core_views.specs.declared.host.HostEntry.{HostEntry}
+use Rattle.core_views.specs.declared.sizes.Sizes.{Sizes}
+use Rattle.core_views.specs.declared.trace.Command.{Command}
+use Rattle.core_views.specs.declared.trace.Line.{Line}
+use Rattle.core_views.specs.Actors.{is_same}
+use Rattle.core_views.specs.Alone.{IsInside}
+use Rattle.core_views.specs.Events.{after, after_all, facts_after, logs_left, stage_copied, stage_read, stage_taken, to_read_or_copy, under_after}
+use Rattle.core_views.specs.Flat.{Facts, Flat, HasArmed, HasChanged, HasChangedHost, HasTakenNext, HasToCopy}
+use Rattle.core_views.specs.Flat.{LineUnderWay, Stage}
+use Rattle.core_views.specs.Lawful.{IsAllowed, IsLawful, MayHarvest, MayRead}
+use Rattle.core_views.specs.LogCommands.{log_read}
+use Rattle.core_views.specs.Past.{Past}
+use Rattle.core_views.specs.SlotSets.{MemorySlots}
+use Rattle.core_views.proofs.SameActor.{same_is}
+use Rattle.flat_laws.specs.Writes.{StaysWithin}
+use Rattle.flat_laws.proofs.Writes.{apart_actors}
+use Rattle.slot_laws.specs.OneChange.{AsksFor, TellsNoChange, TellsOne, is_change}
+use Rattle.slot_laws.proofs.BegunLines.{here, same_line, there}
+
+-- ---- what a line at a stage has changed
+
+-- none; or one, with the entry that it has given to a host page, if it is of one
+abbrev pub made : Stage → Option (Option HostEntry)
+made HasChanged = Some None
+made HasArmed = Some None
+made (HasChangedHost entry) = Some (Some entry)
+made _ = None
+
+abbrev pub entry_told : EventKind → Option HostEntry
+entry_told (HostChanged page entry) = Some entry
+entry_told _ = None
+
+-- After an event of its own it has made a change that it asks for, its first one, or as many as before.
+data Own (z : Sizes) (f : Facts) (u : LineUnderWay) (kind : EventKind) : Type 0 where
+  Keeps : is_change kind ≡ false → made (under_after kind f u).stage ≡ made u.stage → Own z f u kind
+  Makes : made u.stage ≡ None → made (under_after kind f u).stage ≡ Some (entry_told kind) → AsksFor z f u.line.command kind → Own z f u kind
+
+taken_none : (read : Option ℕ) (left : List ℕ) (id : ℕ) → made (stage_taken read left id) ≡ None
+taken_none None left id = refl
+taken_none (Some other) left id = refl
+
+to_none : (ids : List ℕ) (f : Facts) → made (to_read_or_copy ids f) ≡ None
+to_none [] f = refl
+to_none (id ∷ ids) f = refl
+
+read_none : (stage : Stage) (frames : List ℕ) (f : Facts) → made (stage_read stage frames f) ≡ None
+read_none (HasTakenNext id ids) frames f = to_none ids f
+read_none _ frames f = refl
+
+left_none : (slots : MemorySlots) (command : Command) (stage : Stage) (id : ℕ) (ids : List ℕ) → logs_left slots command stage ≡ id ∷ ids → made stage ≡ None
+left_none slots command HasChanged id ids left = absurd (cc left)
+left_none slots command HasArmed id ids left = absurd (cc left)
+left_none slots command (HasChangedHost entry) id ids left = absurd (cc left)
+left_none slots command _ id ids left = refl
+
+copied_none : (whole : Bool) (gfn : ℕ) (frames : List ℕ) (count word : ℕ) → made (stage_copied whole (HasToCopy (gfn ∷ frames) count word)) ≡ None
+copied_none true gfn frames count word = refl
+copied_none false gfn frames count word = refl
+
+begun_none : (z : Sizes) (f : Facts) (past : Past) (u : LineUnderWay) (id : ℕ) (frames : List ℕ)
+    → MayRead z f past u.line.command u.stage id frames true ⊎ MayHarvest f past u.line.command u.stage id frames → made u.stage ≡ None
+begun_none z f past u id frames (inl M) = ap made M.begun
+begun_none z f past u id frames (inr M) = ap made M.begun
+
+own : (z : Sizes) (f : Facts) (past : Past) (actor : Actor) (u : LineUnderWay) (kind : EventKind) → IsAllowed z f past actor u kind → IsInside kind
+    → Own z f u kind
+own z f past actor u (Begun l) may inside = absurd inside
+own z f past actor u (Answered number answer) may inside = absurd inside
+own z f past actor u LookedAtPause may inside = Keeps refl refl
+own z f past actor u LookedAtSlots may inside = Keeps refl refl
+own z f past actor u (LookedAtHost page) may inside = Keeps refl refl
+own z f past actor u (BroughtIn page) may inside = Keeps refl refl
+own z f past actor u (Accessed gfn word op frame value) may inside = Keeps refl (sym (ap made may.0))
+own z f past actor u (Exited answer) may inside = Keeps refl (sym (ap made may.0))
+own z f past actor u (SlotChanged id slot) may inside = Makes (ap made may.0) refl may.2
+own z f past actor u (Armed id all) may inside = Keeps refl (sym (ap made may.0))
+own z f past actor u (Taken id) (inl may) inside =
+    Keeps refl (taken_none (log_read u.line.command) (logs_left f.slots u.line.command u.stage) id ∙ sym (ap made may.0))
+own z f past actor u (Taken id) (inr may) inside =
+    Keeps refl (taken_none (log_read u.line.command) (logs_left f.slots u.line.command u.stage) id
+    ∙ sym (left_none f.slots u.line.command u.stage id may.ids may.left))
+own z f past actor u (Harvested id frames) may inside =
+    Keeps refl (read_none u.stage frames (facts_after (Harvested id frames) f) ∙ sym (begun_none z f past u id frames may))
+own z f past actor u (Shown id frames) may inside = Keeps refl (sym (ap made may.begun))
+own z f past actor u (HostChanged page entry) may inside = Makes (ap made may.0) refl (may.1.change, may.1.asked, may.1.changes)
+own z f past actor u MigrationStarted may inside = Keeps refl (sym (ap made may.0))
+own z f past actor u PauseSet may inside = Keeps refl (sym (ap made may.0))
+own z f past actor u GuestStopped may inside = Keeps refl (to_none _ _ ∙ sym (ap made may))
+own z f past actor u (WordCopied gfn page word value whole) may inside =
+    Keeps refl (ap (λ (s : Stage). made (stage_copied whole s)) may.left ∙ copied_none whole gfn may.frames may.count word ∙ sym (ap made may.left))
+own z f past actor u Resumed may inside = Keeps refl (sym (ap made may.0))
+
+-- ---- over its events, and those of others between them
+
+abbrev pub made_by : Line → Flat → Option (Option HostEntry)
+made_by line f = made (f.under line.actor).stage
+
+-- None of the events is a change by the line, and it has changed what it had; or one is, and it had changed nothing before.
+pub data Walked (z : Sizes) (line : Line) (f : Flat) (es : List Event) : Type 0 where
+  None_ : TellsNoChange line.actor es → made_by line (after_all es f) ≡ made_by line f → Walked z line f es
+  One_ : (kind : EventKind) → TellsOne z line kind f es → made_by line f ≡ None → made_by line (after_all es f) ≡ Some (entry_told kind) → Walked z line f es
+
+module _ (z : Sizes) (line : Line) where
+  abbrev under_in : Flat → LineUnderWay
+  under_in f = f.under line.actor
+
+  abbrev made_in : Flat → Option (Option HostEntry)
+  made_in f = made_by line f
+
+  keeps_on : (e : Event) (es : List Event) (f : Flat) → (e.actor ≡ line.actor → is_change e.kind ≡ false) → made_in (after e f) ≡ made_in f
+      → Walked z line (after e f) es → Walked z line f (e ∷ es)
+  keeps_on e es f leaves same (None_ none end_) = None_ (leaves, none) (end_ ∙ same)
+  keeps_on e es f leaves same (One_ kind T none end_) = One_ kind (record {
+    early = e ∷ T.early;
+    late = T.late;
+    events_are = ap (λ (xs : List Event). e ∷ xs) T.events_are;
+    asked = T.asked;
+    none_early = (leaves, T.none_early);
+    none_late = T.none_late;
+  }) (sym same ∙ none) end_
+
+  makes_now : (e : Event) (es : List Event) (f : Flat) → e.actor ≡ line.actor → made_in f ≡ None → made_in (after e f) ≡ Some (entry_told e.kind)
+      → AsksFor z f.facts line.command e.kind → Walked z line (after e f) es → Walked z line f (e ∷ es)
+  makes_now e es f mine none makes asks (None_ leaves end_) = One_ e.kind (record {
+    early = [];
+    late = es;
+    events_are = ap (λ (a : Actor). record { actor = a; kind = e.kind } ∷ es) mine;
+    asked = asks;
+    none_early = tt;
+    none_late = leaves;
+  }) none (end_ ∙ makes)
+  makes_now e es f mine none makes asks (One_ kind T none_yet end_) = absurd (cc (none_yet, makes))
+
+  pub walked : (es : List Event) (f : Flat) → IsLawful z f es → StaysWithin line.actor es → (under_in f).line ≡ line → Walked z line f es
+  walked [] f lawful within is = None_ tt refl
+  walked (e ∷ es) f lawful within is = by_actor (is_same e.actor line.actor) refl (λ more. walked es (after e f) lawful.1 within.1 more)
+    where
+      by_own : e.actor ≡ line.actor → Own z f.facts (under_in f) e.kind → Walked z line (after e f) es → Walked z line f (e ∷ es)
+      by_own mine (Keeps leaves same) more =
+          keeps_on e es f (λ own_. leaves) (ap (λ (u : LineUnderWay). made u.stage) (here z line.actor e f mine) ∙ same) more
+      by_own mine (Makes none makes asks) more =
+          makes_now e es f mine none (ap (λ (u : LineUnderWay). made u.stage) (here z line.actor e f mine) ∙ makes)
+          (subst (λ (l : Line). AsksFor z f.facts l.command e.kind) is asks) more
+
+      by_actor : (b : Bool) → is_same e.actor line.actor ≡ b → ((under_in (after e f)).line ≡ line → Walked z line (after e f) es) → Walked z line f (e ∷ es)
+      by_actor true same more =
+          let mine : e.actor ≡ line.actor = same_is e.actor line.actor same in
+          let inside : IsInside e.kind = within.0 mine in
+          by_own mine
+          (own z f.facts f.past line.actor (under_in f) e.kind (subst (λ (x : Actor). IsAllowed z f.facts f.past x (f.under x) e.kind) mine lawful.0) inside)
+          (more (ap (λ (u : LineUnderWay). u.line) (here z line.actor e f mine) ∙ same_line e.kind f.facts (under_in f) inside ∙ is))
+      by_actor false apart more =
+          keeps_on e es f (λ mine. absurd (apart_actors e.actor line.actor apart mine))
+          (ap (λ (u : LineUnderWay). made u.stage) (there z line.actor e f apart))
+          (more (ap (λ (u : LineUnderWay). u.line) (there z line.actor e f apart) ∙ is))
+
+  -- The line under way stays this one.
+  pub line_stays : (es : List Event) (f : Flat) → StaysWithin line.actor es → (under_in f).line ≡ line → (under_in (after_all es f)).line ≡ line
+  line_stays [] f within is = is
+  line_stays (e ∷ es) f within is = by (is_same e.actor line.actor) refl (λ more. line_stays es (after e f) within.1 more)
+    where
+      by : (b : Bool) → is_same e.actor line.actor ≡ b → ((under_in (after e f)).line ≡ line → (under_in (after_all es (after e f))).line ≡ line)
+          → (under_in (after_all es (after e f))).line ≡ line
+      by true same more =
+          let mine : e.actor ≡ line.actor = same_is e.actor line.actor same in
+          more (ap (λ (u : LineUnderWay). u.line) (here z line.actor e f mine) ∙ same_line e.kind f.facts (under_in f) (within.0 mine) ∙ is)
+      by false apart more = more (ap (λ (u : LineUnderWay). u.line) (there z line.actor e f apart) ∙ is)
