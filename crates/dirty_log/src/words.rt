@@ -3,7 +3,7 @@ ghost use Rattle.std.specs.Prelude.{◌≡◌, ◌+◌, ◌<◌};
 ghost use Rattle.mmu_core.specs.machine.MayMake.{MayMake};
 ghost use Rattle.part_steps.specs.declared.part_step.PartStep.TheVariants.{Peek, Take};
 ghost use Rattle.dirty_log.specs.LogWords.{LoadsWhereMade, TakesWhereMade, read_up_to};
-ghost use Rattle.step_seats.specs.Moves.{KeepsRoom};
+ghost use Rattle.step_seats.specs.Moves.{KeepsSeat};
 ghost use Rattle.step_seats.specs.PartTurns.{MadePart};
 
 use part_steps::PartStep;
@@ -19,8 +19,7 @@ pub fn take_bits<S: Stepper>(s: &mut S, word: u64, mask: u64, note: u64) -> u64
     ensures step { MadePart (Take word mask) note result (S.seat s.old) (S.seat s.new) }
     ensures read { (S.seat s.new).hand.topics ≡ read_up_to (word + 1) (S.seat s.old).hand.topics }
     ensures told { TakesWhereMade word mask result note (S.seat s.old) (S.seat s.new) }
-    ensures room { KeepsRoom (S.seat s.old) (S.seat s.new) }
-    ensures same { ((S.seat s.new).actor ≡ (S.seat s.old).actor) × (S.frame s.new ≡ S.frame s.old) }
+    ensures keeps { KeepsSeat (S.seat s.old) (S.seat s.new) (S.frame s.old) (S.frame s.new) }
 {
     make_part(s, PartStep::Take { word, mask }, note)
 }
@@ -33,8 +32,7 @@ pub fn load_bits<S: Stepper>(s: &mut S, word: u64, note: u64) -> u64
     ensures step { MadePart (Peek word) note result (S.seat s.old) (S.seat s.new) }
     ensures read { (S.seat s.new).hand.topics ≡ read_up_to (word + 1) (S.seat s.old).hand.topics }
     ensures told { LoadsWhereMade word result note (S.seat s.old) (S.seat s.new) }
-    ensures room { KeepsRoom (S.seat s.old) (S.seat s.new) }
-    ensures same { ((S.seat s.new).actor ≡ (S.seat s.old).actor) × (S.frame s.new ≡ S.frame s.old) }
+    ensures keeps { KeepsSeat (S.seat s.old) (S.seat s.new) (S.frame s.old) (S.frame s.new) }
 {
     make_part(s, PartStep::Peek(word), note)
 }

@@ -10,7 +10,7 @@ use Rattle.core_views.specs.declared.place.FaultPlace.{FaultPlace}
 use Rattle.core_views.specs.declared.place.FaultPlace.TheVariants.{End, FastBegin, FastFind, FastWalk, Fix, Mark}
 use Rattle.core_views.specs.declared.place.Place.TheVariants as place
 use Rattle.core_views.specs.Held.{Held}
-use Rattle.mmu_core.specs.lines.FaultKnows.{FaultEndKnows, Retries}
+use Rattle.mmu_core.specs.forms.access.FaultKnows.{FaultEndKnows, Retries}
 use Rattle.mmu_core.specs.machine.Steps.{place_at}
 use Rattle.step_seats.specs.FaultTurns.{FaultAnswersBy, IsAtFaultPlace, MakesFaultStep, WaitsBy, as_end, end_turn, is_fast_place}
 use Rattle.step_seats.specs.Seats.{Seat}

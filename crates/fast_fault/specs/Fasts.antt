@@ -5,7 +5,7 @@ use Rattle.core_views.specs.declared.place.FaultEnd.TheVariants as end_of
 use Rattle.core_views.specs.declared.place.FaultPlace.{FaultPlace}
 use Rattle.core_views.specs.declared.place.FaultPlace.TheVariants.{End}
 use Rattle.core_views.specs.Held.{Held}
-use Rattle.mmu_core.specs.lines.FaultKnows.{HasFixed, Retries, SawNotFast}
+use Rattle.mmu_core.specs.forms.access.FaultKnows.{HasFixed, Retries, SawNotFast}
 use Rattle.step_seats.specs.FaultTurns.{StandsInFault, is_fast_place}
 use Rattle.step_seats.specs.declared.turn.Turn.{Turn}
 use Rattle.step_seats.specs.declared.turn.Turn.TheVariants.{More, Wait, Retry, Done}

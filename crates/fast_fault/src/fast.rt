@@ -2,9 +2,9 @@ ghost use Rattle.std.specs.Prelude.{◌≡◌, ◌<◌, true};
 ghost use Rattle.core_views.specs.declared.place.FaultPlace.TheVariants as at;
 ghost use Rattle.fast_fault.specs.Fasts.{FastRestsOn, LeadsOn, StandsInFast, end_told};
 ghost use Rattle.mmu_core.specs.alone.LineAlone.{hand_left};
-ghost use Rattle.mmu_core.specs.lines.FaultSteps.{fault_part};
+ghost use Rattle.mmu_core.specs.forms.access.FaultSteps.{fault_part};
 ghost use Rattle.step_seats.specs.FaultTurns.{IsAtFaultPlace, MakesFaultStep, TurnsFault, as_end, end_turn, is_fast_place};
-ghost use Rattle.step_seats.specs.Moves.{KeepsRoom};
+ghost use Rattle.step_seats.specs.Moves.{KeepsSeat};
 ghost use Rattle.step_seats.specs.PartTurns.{MakesPart};
 ghost use Rattle.step_seats.specs.declared.turn.Turn.TheVariants.{More};
 
@@ -56,8 +56,7 @@ impl FastJob {
         requires leads_on { LeadsOn place }
         requires reserved { 0 < (S.seat s.old).room }
         ensures makes { MakesPart (fault_part place self.now.gfn (S.seat s.old).hand.topics) note (S.seat s.old) (S.seat s.new) }
-        ensures room { KeepsRoom (S.seat s.old) (S.seat s.new) }
-        ensures same { ((S.seat s.new).actor ≡ (S.seat s.old).actor) × (S.frame s.new ≡ S.frame s.old) }
+        ensures keeps { KeepsSeat (S.seat s.old) (S.seat s.new) (S.frame s.old) (S.frame s.new) }
     {
         let gfn = self.gfn;
         match place {
@@ -85,8 +84,7 @@ impl FastJob {
         requires fast { is_fast_place (at.End ended) ≡ true }
         requires reserved { 0 < (S.seat s.old).room }
         ensures makes { MakesFaultStep (at.End ended) self.now.gfn self.now.write (as_end end_told result) note (S.seat s.old) (S.seat s.new) }
-        ensures room { KeepsRoom (S.seat s.old) (S.seat s.new) }
-        ensures same { ((S.seat s.new).actor ≡ (S.seat s.old).actor) × (S.frame s.new ≡ S.frame s.old) }
+        ensures keeps { KeepsSeat (S.seat s.old) (S.seat s.new) (S.frame s.old) (S.frame s.new) }
     {
         end(s, note);
         end_turn(ended)
@@ -98,8 +96,7 @@ impl FastJob {
         requires fast { is_fast_place place ≡ true }
         requires reserved { 0 < (S.seat s.old).room }
         ensures makes { MakesFaultStep place self.now.gfn self.now.write (as_end end_told result) note (S.seat s.old) (S.seat s.new) }
-        ensures room { KeepsRoom (S.seat s.old) (S.seat s.new) }
-        ensures same { ((S.seat s.new).actor ≡ (S.seat s.old).actor) × (S.frame s.new ≡ S.frame s.old) }
+        ensures keeps { KeepsSeat (S.seat s.old) (S.seat s.new) (S.frame s.old) (S.frame s.new) }
     {
         match place {
             FaultPlace::End(ended) => self.end(s, ended, note),
@@ -120,8 +117,7 @@ impl FastJob {
         ensures turned { TurnsFault self.now.gfn self.now.write (as_end end_told result) (S.seat s.old) (S.seat s.new) }
         ensures rests_on { FastRestsOn result self.now (S.seat s.old).hand }
         ensures nearer { result ≡ More → hand_left (S.seat s.new).hand < hand_left (S.seat s.old).hand }
-        ensures room { KeepsRoom (S.seat s.old) (S.seat s.new) }
-        ensures same { ((S.seat s.new).actor ≡ (S.seat s.old).actor) × (S.frame s.new ≡ S.frame s.old) }
+        ensures keeps { KeepsSeat (S.seat s.old) (S.seat s.new) (S.frame s.old) (S.frame s.new) }
     {
         let hand = s.hand();
         part_rests(hand);

@@ -2,9 +2,9 @@ ghost use Rattle.std.specs.Prelude.{◌≡◌, ◌<◌, false};
 ghost use Rattle.core_views.specs.declared.place.FaultPlace.TheVariants as at;
 ghost use Rattle.fault_install.specs.Faults.{ComesAfterCheck, LeadsOn, StandsInLine, end_told};
 ghost use Rattle.mmu_core.specs.alone.LineAlone.{hand_left};
-ghost use Rattle.mmu_core.specs.lines.FaultSteps.{fault_part};
+ghost use Rattle.mmu_core.specs.forms.access.FaultSteps.{fault_part};
 ghost use Rattle.step_seats.specs.FaultTurns.{IsAtFaultPlace, MakesFaultStep, TurnsFault, as_end, is_fast_place};
-ghost use Rattle.step_seats.specs.Moves.{KeepsRoom};
+ghost use Rattle.step_seats.specs.Moves.{KeepsSeat};
 ghost use Rattle.step_seats.specs.PartTurns.{MakesPart};
 ghost use Rattle.step_seats.specs.declared.turn.Turn.TheVariants.{More};
 
@@ -57,8 +57,7 @@ impl FaultJob {
         requires whole { is_fast_place place ≡ false }
         requires reserved { 0 < (S.seat s.old).room }
         ensures makes { MakesPart (fault_part place self.now.gfn (S.seat s.old).hand.topics) note (S.seat s.old) (S.seat s.new) }
-        ensures room { KeepsRoom (S.seat s.old) (S.seat s.new) }
-        ensures same { ((S.seat s.new).actor ≡ (S.seat s.old).actor) × (S.frame s.new ≡ S.frame s.old) }
+        ensures keeps { KeepsSeat (S.seat s.old) (S.seat s.new) (S.frame s.old) (S.frame s.new) }
     {
         let gfn = self.gfn;
         match place {
@@ -93,8 +92,7 @@ impl FaultJob {
         requires checked { ComesAfterCheck place }
         requires reserved { 0 < (S.seat s.old).room }
         ensures makes { MakesPart (fault_part place self.now.gfn (S.seat s.old).hand.topics) note (S.seat s.old) (S.seat s.new) }
-        ensures room { KeepsRoom (S.seat s.old) (S.seat s.new) }
-        ensures same { ((S.seat s.new).actor ≡ (S.seat s.old).actor) × (S.frame s.new ≡ S.frame s.old) }
+        ensures keeps { KeepsSeat (S.seat s.old) (S.seat s.new) (S.frame s.old) (S.frame s.new) }
     {
         let gfn = self.gfn;
         let topics = s.hand().topics();
@@ -132,8 +130,7 @@ impl FaultJob {
         requires is_at { IsAtFaultPlace at.Share self.now.gfn self.now.write note (S.seat s.old).hand }
         requires reserved { 0 < (S.seat s.old).room }
         ensures makes { MakesFaultStep at.Share self.now.gfn self.now.write (as_end end_told result) note (S.seat s.old) (S.seat s.new) }
-        ensures room { KeepsRoom (S.seat s.old) (S.seat s.new) }
-        ensures same { ((S.seat s.new).actor ≡ (S.seat s.old).actor) × (S.frame s.new ≡ S.frame s.old) }
+        ensures keeps { KeepsSeat (S.seat s.old) (S.seat s.new) (S.frame s.old) (S.frame s.new) }
     {
         part_rests(s.hand());
         let word = map_of(&s.hand().progress().sizes).word_of(Area::Lock, 0);
@@ -145,8 +142,7 @@ impl FaultJob {
         requires is_at { IsAtFaultPlace (at.Claim begun) self.now.gfn self.now.write note (S.seat s.old).hand }
         requires reserved { 0 < (S.seat s.old).room }
         ensures makes { MakesFaultStep (at.Claim begun) self.now.gfn self.now.write (as_end end_told result) note (S.seat s.old) (S.seat s.new) }
-        ensures room { KeepsRoom (S.seat s.old) (S.seat s.new) }
-        ensures same { ((S.seat s.new).actor ≡ (S.seat s.old).actor) × (S.frame s.new ≡ S.frame s.old) }
+        ensures keeps { KeepsSeat (S.seat s.old) (S.seat s.new) (S.frame s.old) (S.frame s.new) }
     {
         let mut claim = Claim {
             map: FreeMap::Pages,
@@ -161,8 +157,7 @@ impl FaultJob {
         requires whole { is_fast_place (at.End ended) ≡ false }
         requires reserved { 0 < (S.seat s.old).room }
         ensures makes { MakesFaultStep (at.End ended) self.now.gfn self.now.write (as_end end_told result) note (S.seat s.old) (S.seat s.new) }
-        ensures room { KeepsRoom (S.seat s.old) (S.seat s.new) }
-        ensures same { ((S.seat s.new).actor ≡ (S.seat s.old).actor) × (S.frame s.new ≡ S.frame s.old) }
+        ensures keeps { KeepsSeat (S.seat s.old) (S.seat s.new) (S.frame s.old) (S.frame s.new) }
     {
         end(s, note);
         end_turn(ended)
@@ -175,8 +170,7 @@ impl FaultJob {
         requires whole { is_fast_place place ≡ false }
         requires reserved { 0 < (S.seat s.old).room }
         ensures makes { MakesFaultStep place self.now.gfn self.now.write (as_end end_told result) note (S.seat s.old) (S.seat s.new) }
-        ensures room { KeepsRoom (S.seat s.old) (S.seat s.new) }
-        ensures same { ((S.seat s.new).actor ≡ (S.seat s.old).actor) × (S.frame s.new ≡ S.frame s.old) }
+        ensures keeps { KeepsSeat (S.seat s.old) (S.seat s.new) (S.frame s.old) (S.frame s.new) }
     {
         match place {
             FaultPlace::Share => self.share(s, note),
@@ -198,8 +192,7 @@ impl FaultJob {
         requires reserved { 0 < (S.seat s.old).room }
         ensures turned { TurnsFault self.now.gfn self.now.write (as_end end_told result) (S.seat s.old) (S.seat s.new) }
         ensures nearer { result ≡ More → hand_left (S.seat s.new).hand < hand_left (S.seat s.old).hand }
-        ensures room { KeepsRoom (S.seat s.old) (S.seat s.new) }
-        ensures same { ((S.seat s.new).actor ≡ (S.seat s.old).actor) × (S.frame s.new ≡ S.frame s.old) }
+        ensures keeps { KeepsSeat (S.seat s.old) (S.seat s.new) (S.frame s.old) (S.frame s.new) }
     {
         let hand = s.hand();
         part_rests(hand);

@@ -4,7 +4,7 @@ ghost use Rattle.grace_period.specs.Sections.{TellsItsBegin, TellsItsEnd};
 ghost use Rattle.mmu_core.specs.machine.MayMake.{MayMake};
 ghost use Rattle.part_steps.specs.StayTopics.{begun};
 ghost use Rattle.part_steps.specs.declared.part_step.PartStep.TheVariants.{Begin, End};
-ghost use Rattle.step_seats.specs.Moves.{KeepsRoom};
+ghost use Rattle.step_seats.specs.Moves.{KeepsSeat};
 ghost use Rattle.step_seats.specs.PartTurns.{MakesPart};
 
 use part_steps::PartStep;
@@ -18,8 +18,7 @@ pub fn begin<S: Stepper>(s: &mut S, note: u64)
     ensures step { MakesPart Begin note (S.seat s.old) (S.seat s.new) }
     ensures begun { (S.seat s.new).hand.topics ≡ begun Section (S.seat s.old).hand.topics }
     ensures told { TellsItsBegin note (S.seat s.old) (S.seat s.new) }
-    ensures room { KeepsRoom (S.seat s.old) (S.seat s.new) }
-    ensures same { ((S.seat s.new).actor ≡ (S.seat s.old).actor) × (S.frame s.new ≡ S.frame s.old) }
+    ensures keeps { KeepsSeat (S.seat s.old) (S.seat s.new) (S.frame s.old) (S.frame s.new) }
 {
     let _ = make_part(s, PartStep::Begin, note);
 }
@@ -32,8 +31,7 @@ pub fn end<S: Stepper>(s: &mut S, note: u64)
     ensures step { MakesPart End note (S.seat s.old) (S.seat s.new) }
     ensures ended { (S.seat s.new).hand.topics ≡ begun Outside (S.seat s.old).hand.topics }
     ensures told { TellsItsEnd note (S.seat s.old) (S.seat s.new) }
-    ensures room { KeepsRoom (S.seat s.old) (S.seat s.new) }
-    ensures same { ((S.seat s.new).actor ≡ (S.seat s.old).actor) × (S.frame s.new ≡ S.frame s.old) }
+    ensures keeps { KeepsSeat (S.seat s.old) (S.seat s.new) (S.frame s.old) (S.frame s.new) }
 {
     let _ = make_part(s, PartStep::End, note);
 }

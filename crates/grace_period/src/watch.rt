@@ -4,7 +4,7 @@ ghost use Rattle.mmu_core.specs.machine.MayMake.{MayMake};
 ghost use Rattle.part_steps.specs.PartBounds.{PartRests};
 ghost use Rattle.part_steps.specs.PartSteps.{PartNeeds};
 ghost use Rattle.part_steps.specs.declared.part_step.PartStep.TheVariants as part;
-ghost use Rattle.step_seats.specs.Moves.{KeepsRoom};
+ghost use Rattle.step_seats.specs.Moves.{KeepsSeat};
 ghost use Rattle.step_seats.specs.PartTurns.{TurnsPart, waits};
 ghost use Rattle.step_seats.specs.declared.turn.Turn.TheVariants.{More};
 
@@ -77,8 +77,7 @@ impl Watch {
         ensures looked { self.new.has_looked ≡ true }
         ensures nearer { result ≡ More → actors_left self.new (S.seat s.new).hand < actors_left self.old (S.seat s.old).hand }
         ensures alone { GoesOnWhereOthersRest result self.old note (S.seat s.old) (S.seat s.new) }
-        ensures room { KeepsRoom (S.seat s.old) (S.seat s.new) }
-        ensures same { ((S.seat s.new).actor ≡ (S.seat s.old).actor) × (S.frame s.new ≡ S.frame s.old) }
+        ensures keeps { KeepsSeat (S.seat s.old) (S.seat s.new) (S.frame s.old) (S.frame s.new) }
     {
         let hand = s.hand();
         part_rests(hand);

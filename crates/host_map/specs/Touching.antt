@@ -12,7 +12,7 @@ use Rattle.spte_words.specs.declared.area.Area.TheVariants as area
 use Rattle.spte_words.specs.Areas.{content_index, place}
 use Rattle.spte_words.specs.HostWords.{host_frame, with_presence}
 use Rattle.part_steps.specs.FrameTopics.{frame_left}
-use Rattle.mmu_core.specs.lines.AccessSteps.{touch_of}
+use Rattle.mmu_core.specs.forms.access.AccessSteps.{touch_of}
 use Rattle.mmu_core.specs.machine.Machine.{World}
 use Rattle.part_steps.specs.Tasks.{kind_of_task, map_of}
 use Rattle.part_steps.specs.declared.part_step.PartStep.{PartStep}

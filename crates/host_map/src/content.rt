@@ -3,7 +3,7 @@ ghost use Rattle.core_views.specs.Sizes.{AreSizes};
 ghost use Rattle.core_views.specs.declared.trace.Op.TheVariants.{Read};
 ghost use Rattle.host_map.specs.Touching.{LeavesWords, Touches, touch_kind};
 ghost use Rattle.mmu_core.specs.machine.Enabled.{Enabled};
-ghost use Rattle.step_seats.specs.Moves.{KeepsRoom};
+ghost use Rattle.step_seats.specs.Moves.{KeepsSeat};
 
 use core_views::{Kind, Op, Sizes, StepKind};
 use part_steps::map_of;
@@ -40,8 +40,7 @@ pub fn touch<S: Stepper>(s: &mut S, frame: u64, word: u8, op: Op, note: u64) -> 
     requires enabled { Enabled (S.seat s.old).hand (touch_kind (S.seat s.old).hand.state.sizes frame word op note) }
     requires reserved { 0 < (S.seat s.old).room }
     ensures touches { Touches frame word op note result (S.seat s.old) (S.seat s.new) }
-    ensures room { KeepsRoom (S.seat s.old) (S.seat s.new) }
-    ensures same { ((S.seat s.new).actor ≡ (S.seat s.old).actor) × (S.frame s.new ≡ S.frame s.old) }
+    ensures keeps { KeepsSeat (S.seat s.old) (S.seat s.new) (S.frame s.old) (S.frame s.new) }
 {
     let hand = s.hand();
     part_rests(hand);
@@ -58,8 +57,7 @@ pub fn load<S: Stepper>(s: &mut S, frame: u64, word: u8, note: u64) -> u64
     requires reserved { 0 < (S.seat s.old).room }
     ensures touches { Touches frame word Read note result (S.seat s.old) (S.seat s.new) }
     ensures words { LeavesWords frame word note (S.seat s.old) (S.seat s.new) }
-    ensures room { KeepsRoom (S.seat s.old) (S.seat s.new) }
-    ensures same { ((S.seat s.new).actor ≡ (S.seat s.old).actor) × (S.frame s.new ≡ S.frame s.old) }
+    ensures keeps { KeepsSeat (S.seat s.old) (S.seat s.new) (S.frame s.old) (S.frame s.new) }
 {
     touch(s, frame, word, Op::Read, note)
 }

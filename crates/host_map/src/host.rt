@@ -4,7 +4,7 @@ ghost use Rattle.mmu_core.specs.machine.MayMake.{MayMake};
 ghost use Rattle.part_steps.specs.declared.part_step.PartStep.TheVariants.{Bring, Change, Host};
 ghost use Rattle.part_steps.specs.PartTasks.{word_looked};
 ghost use Rattle.spte_words.specs.HostWords.{with_presence};
-ghost use Rattle.step_seats.specs.Moves.{KeepsRoom};
+ghost use Rattle.step_seats.specs.Moves.{KeepsSeat};
 ghost use Rattle.step_seats.specs.PartTurns.{MadePart};
 
 use part_steps::PartStep;
@@ -20,8 +20,7 @@ pub fn look<S: Stepper>(s: &mut S, page: u64, note: u64) -> u64
     ensures step { MadePart (Host page) note result (S.seat s.old) (S.seat s.new) }
     ensures host { (S.seat s.new).hand.topics ≡ record (S.seat s.old).hand.topics { host = Some (record { page = page; word = result }) } }
     ensures told { WasHostWord page note result (S.seat s.old) (S.seat s.new) }
-    ensures room { KeepsRoom (S.seat s.old) (S.seat s.new) }
-    ensures same { ((S.seat s.new).actor ≡ (S.seat s.old).actor) × (S.frame s.new ≡ S.frame s.old) }
+    ensures keeps { KeepsSeat (S.seat s.old) (S.seat s.new) (S.frame s.old) (S.frame s.new) }
 {
     make_part(s, PartStep::Host(page), note)
 }
@@ -43,8 +42,7 @@ fn exchange<S: Stepper>(s: &mut S, step: PartStep, note: u64) -> Changed
     ensures step { MakesExchange step note result (S.seat s.old) (S.seat s.new) }
     ensures host { (S.seat s.new).hand.topics ≡ after_exchange step result (S.seat s.old).hand.topics }
     ensures told { LeavesHostWord result step note (S.seat s.old) (S.seat s.new) }
-    ensures room { KeepsRoom (S.seat s.old) (S.seat s.new) }
-    ensures same { ((S.seat s.new).actor ≡ (S.seat s.old).actor) × (S.frame s.new ≡ S.frame s.old) }
+    ensures keeps { KeepsSeat (S.seat s.old) (S.seat s.new) (S.frame s.old) (S.frame s.new) }
 {
     let looked = word_looked(s.hand().topics().host);
     let seen = make_part(s, step, note);
@@ -67,8 +65,7 @@ pub fn bring_in<S: Stepper>(s: &mut S, note: u64) -> Changed
     ensures host { (S.seat s.new).hand.topics
         ≡ holding_word (with_presence true (word_looked (S.seat s.old).hand.topics.host)) result (S.seat s.old).hand.topics }
     ensures told { LeavesHostWord result Bring note (S.seat s.old) (S.seat s.new) }
-    ensures room { KeepsRoom (S.seat s.old) (S.seat s.new) }
-    ensures same { ((S.seat s.new).actor ≡ (S.seat s.old).actor) × (S.frame s.new ≡ S.frame s.old) }
+    ensures keeps { KeepsSeat (S.seat s.old) (S.seat s.new) (S.frame s.old) (S.frame s.new) }
 {
     exchange(s, PartStep::Bring, note)
 }
@@ -84,8 +81,7 @@ pub fn change<S: Stepper>(s: &mut S, word: u64, note: u64) -> Changed
     ensures step { MakesExchange (Change word) note result (S.seat s.old) (S.seat s.new) }
     ensures host { (S.seat s.new).hand.topics ≡ holding_changed word result (S.seat s.old).hand.topics }
     ensures told { LeavesHostWord result (Change word) note (S.seat s.old) (S.seat s.new) }
-    ensures room { KeepsRoom (S.seat s.old) (S.seat s.new) }
-    ensures same { ((S.seat s.new).actor ≡ (S.seat s.old).actor) × (S.frame s.new ≡ S.frame s.old) }
+    ensures keeps { KeepsSeat (S.seat s.old) (S.seat s.new) (S.frame s.old) (S.frame s.new) }
 {
     exchange(s, PartStep::Change(word), note)
 }

@@ -9,7 +9,7 @@ ghost use Rattle.host_map.specs.Moving.{
 };
 ghost use Rattle.mmu_core.specs.machine.MayMake.{MayMake};
 ghost use Rattle.part_steps.specs.declared.part_step.PartStep.TheVariants.{Copy, GiveFrame, Store};
-ghost use Rattle.step_seats.specs.Moves.{KeepsRoom};
+ghost use Rattle.step_seats.specs.Moves.{KeepsSeat};
 ghost use Rattle.step_seats.specs.PartTurns.{MadePart, MakesPart};
 
 use part_steps::PartStep;
@@ -25,8 +25,7 @@ pub fn copy<S: Stepper>(s: &mut S, index: u64, note: u64) -> u64
     ensures step { MadePart (Copy index) note result (S.seat s.old) (S.seat s.new) }
     ensures held { (S.seat s.new).hand.topics ≡ holding_copy result (S.seat s.old).hand.topics }
     ensures told { CopiedNextWord index note result (S.seat s.old) (S.seat s.new) }
-    ensures room { KeepsRoom (S.seat s.old) (S.seat s.new) }
-    ensures same { ((S.seat s.new).actor ≡ (S.seat s.old).actor) × (S.frame s.new ≡ S.frame s.old) }
+    ensures keeps { KeepsSeat (S.seat s.old) (S.seat s.new) (S.frame s.old) (S.frame s.new) }
 {
     make_part(s, PartStep::Copy(index), note)
 }
@@ -39,8 +38,7 @@ pub fn store<S: Stepper>(s: &mut S, index: u64, note: u64)
     ensures step { MakesPart (Store index) note (S.seat s.old) (S.seat s.new) }
     ensures held { (S.seat s.new).hand.topics ≡ holding_stored (S.seat s.old).hand.topics }
     ensures writes { StoresWhereMade index note (S.seat s.old) (S.seat s.new) }
-    ensures room { KeepsRoom (S.seat s.old) (S.seat s.new) }
-    ensures same { ((S.seat s.new).actor ≡ (S.seat s.old).actor) × (S.frame s.new ≡ S.frame s.old) }
+    ensures keeps { KeepsSeat (S.seat s.old) (S.seat s.new) (S.frame s.old) (S.frame s.new) }
 {
     let _ = make_part(s, PartStep::Store(index), note);
 }
@@ -53,8 +51,7 @@ pub fn frame_give<S: Stepper>(s: &mut S, note: u64)
     ensures step { MakesPart GiveFrame note (S.seat s.old) (S.seat s.new) }
     ensures held { (S.seat s.new).hand.topics ≡ holding_no_frame (S.seat s.old).hand.topics }
     ensures frees { FreesWhereMade note (S.seat s.old) (S.seat s.new) }
-    ensures room { KeepsRoom (S.seat s.old) (S.seat s.new) }
-    ensures same { ((S.seat s.new).actor ≡ (S.seat s.old).actor) × (S.frame s.new ≡ S.frame s.old) }
+    ensures keeps { KeepsSeat (S.seat s.old) (S.seat s.new) (S.frame s.old) (S.frame s.new) }
 {
     let _ = make_part(s, PartStep::GiveFrame, note);
 }

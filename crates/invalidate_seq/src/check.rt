@@ -2,7 +2,7 @@ ghost use Rattle.std.specs.Prelude.{◌≡◌, ◌<◌, true, is_some};
 ghost use Rattle.mmu_core.specs.machine.MayMake.{MayMake};
 ghost use Rattle.part_steps.specs.StayTopics.{has_lock};
 ghost use Rattle.mmu_core.specs.machine.View.{word_in};
-ghost use Rattle.step_seats.specs.Moves.{KeepsRoom};
+ghost use Rattle.step_seats.specs.Moves.{KeepsSeat};
 ghost use Rattle.step_seats.specs.PartTurns.{MakesPart, WherePartMade};
 ghost use Rattle.step_seats.specs.declared.turn.Turn.TheVariants.{More};
 ghost use Rattle.invalidate_seq.specs.Checks.{ChecksBy, LoadsOnly, Stands, StandsBehind, WasStageWord, load_of, check_turns};
@@ -107,8 +107,7 @@ impl Check {
         ensures stands { result ≡ More → Stands self.new.stage self.new.gfn (S.seat s.new).hand.topics.invalidations }
         ensures gfn { self.new.gfn ≡ self.old.gfn }
         ensures nearer { result ≡ More → check_turns self.new.stage < check_turns self.old.stage }
-        ensures room { KeepsRoom (S.seat s.old) (S.seat s.new) }
-        ensures same { ((S.seat s.new).actor ≡ (S.seat s.old).actor) × (S.frame s.new ≡ S.frame s.old) }
+        ensures keeps { KeepsSeat (S.seat s.old) (S.seat s.new) (S.frame s.old) (S.frame s.new) }
     {
         let _ = make_part(s, step(self.stage), note);
         let kept = s.hand().topics().invalidations;

@@ -2,7 +2,7 @@ ghost use Rattle.std.specs.Prelude.{◌≡◌, ◌+◌, ◌<◌, ◌^◌};
 ghost use Rattle.core_views.specs.declared.topics.Hold.TheVariants.{Exclusive};
 ghost use Rattle.mmu_core.specs.machine.MayMake.{MayMake};
 ghost use Rattle.part_steps.specs.InvalidationRange.{end_with, start_with};
-ghost use Rattle.step_seats.specs.Moves.{KeepsRoom};
+ghost use Rattle.step_seats.specs.Moves.{KeepsSeat};
 ghost use Rattle.step_seats.specs.PartTurns.{MakesPart};
 ghost use Rattle.step_seats.specs.declared.turn.Turn.TheVariants.{More};
 ghost use Rattle.invalidate_seq.specs.Invalidating.{
@@ -125,8 +125,7 @@ impl Open {
         ensures answers { result ≡ open_turn self.old.stage }
         ensures goes_on { self.new ≡ record self.old { stage = open_after self.old.stage (S.seat s.new).hand.topics.invalidations.count } }
         ensures nearer { result ≡ More → opens_left self.new.stage < opens_left self.old.stage }
-        ensures room { KeepsRoom (S.seat s.old) (S.seat s.new) }
-        ensures same { ((S.seat s.new).actor ≡ (S.seat s.old).actor) × (S.frame s.new ≡ S.frame s.old) }
+        ensures keeps { KeepsSeat (S.seat s.old) (S.seat s.new) (S.frame s.old) (S.frame s.new) }
     {
         let hand = s.hand();
         part_rests(hand);

@@ -1,7 +1,7 @@
 ghost use Rattle.std.specs.Prelude.{◌≡◌, ◌<◌, ◌^◌, true};
 ghost use Rattle.core_views.specs.declared.topics.Hold.TheVariants.{Exclusive};
 ghost use Rattle.mmu_core.specs.machine.MayMake.{MayMake};
-ghost use Rattle.step_seats.specs.Moves.{KeepsRoom};
+ghost use Rattle.step_seats.specs.Moves.{KeepsSeat};
 ghost use Rattle.step_seats.specs.PartTurns.{MakesPart};
 ghost use Rattle.step_seats.specs.declared.turn.Turn.TheVariants.{More};
 ghost use Rattle.invalidate_seq.specs.Invalidating.{KeepsWord, Shuts, shut_after, shut_at, shut_step, shut_turn, shut_word, shuts_left};
@@ -85,8 +85,7 @@ impl Shut {
         ensures answers { result ≡ shut_turn self.old.stage }
         ensures goes_on { self.new ≡ record { stage = shut_after self.old.stage } }
         ensures nearer { result ≡ More → shuts_left self.new.stage < shuts_left self.old.stage }
-        ensures room { KeepsRoom (S.seat s.old) (S.seat s.new) }
-        ensures same { ((S.seat s.new).actor ≡ (S.seat s.old).actor) × (S.frame s.new ≡ S.frame s.old) }
+        ensures keeps { KeepsSeat (S.seat s.old) (S.seat s.new) (S.frame s.old) (S.frame s.new) }
     {
         let hand = s.hand();
         part_rests(hand);

@@ -2,7 +2,7 @@ ghost use Rattle.std.specs.Prelude.{◌≡◌, ◌<◌};
 ghost use Rattle.core_views.specs.declared.topics.Hold.TheVariants.{Loose};
 ghost use Rattle.mmu_core.specs.machine.MayMake.{MayMake};
 ghost use Rattle.part_steps.specs.declared.part_step.PartStep.TheVariants as PartStep;
-ghost use Rattle.step_seats.specs.Moves.{KeepsRoom};
+ghost use Rattle.step_seats.specs.Moves.{KeepsSeat};
 ghost use Rattle.step_seats.specs.PartTurns.{MakesPart};
 ghost use Rattle.invalidate_seq.specs.Checks.{TakesSnapshot, WasSequence};
 
@@ -29,8 +29,7 @@ impl Snapshot {
         ensures step { MakesPart PartStep.Seq note (S.seat s.old) (S.seat s.new) }
         ensures taken { TakesSnapshot result (S.seat s.old).hand.topics (S.seat s.new).hand.topics }
         ensures word { WasSequence note (S.seat s.old) (S.seat s.new) }
-        ensures room { KeepsRoom (S.seat s.old) (S.seat s.new) }
-        ensures same { ((S.seat s.new).actor ≡ (S.seat s.old).actor) × (S.frame s.new ≡ S.frame s.old) }
+        ensures keeps { KeepsSeat (S.seat s.old) (S.seat s.new) (S.frame s.old) (S.frame s.new) }
     {
         Turn::Done(make_part(s, PartStep::Seq, note))
     }

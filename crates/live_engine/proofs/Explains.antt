@@ -39,9 +39,9 @@ use Rattle.step_seats.proofs.Worlds.{core_at}
 use Rattle.table_seats.specs.Boards.{BoardView, Explained, begun}
 use Rattle.table_seats.specs.Passes.{PassView}
 use Rattle.table_seats.specs.Rule.{Holds}
-use Rattle.weave_engine.specs.Replays.{RunsLines}
-use Rattle.weave_engine.specs.Weaves.{lines_above}
-use Rattle.weave_engine.proofs.BeforeSteps.{few_answers, no_line_all}
+use Rattle.turn_loops.specs.Replays.{RunsLines}
+use Rattle.turn_loops.specs.Weaves.{lines_above}
+use Rattle.turn_loops.proofs.BeforeSteps.{few_answers, no_line_all}
 use Rattle.weave_engine.proofs.StarvedScans.{starved_scan}
 use Rattle.live_workers.specs.Crews.{IsCollected}
 use Rattle.live_engine.specs.Lives.{DelaysAreCaused, Lives}

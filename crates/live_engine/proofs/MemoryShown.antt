@@ -31,7 +31,7 @@ use Rattle.mmu_core.proofs.start.Starts.{start_good}
 use Rattle.mmu_laws.specs.flat.FlatInvariant.{FlatInvariant}
 use Rattle.mmu_laws.proofs.flat.EveryAnswer.{start_follows}
 use Rattle.mmu_laws.proofs.flat.EveryHistory.{every_flat}
-use Rattle.weave_engine.proofs.FileOrder.{maker_is, maker_there}
+use Rattle.turn_loops.proofs.FileOrder.{maker_is, maker_there}
 use Rattle.closing_text.specs.MemoryText.{AreAllWords, HaveHostPages, frame_in, memory_in}
 use Rattle.live_engine.proofs.SameMemory.{same_memory}
 

@@ -25,8 +25,8 @@ use Rattle.mmu_core.specs.machine.Worlds.{IsStart, history}
 use Rattle.mmu_laws.specs.flat.Histories.{answers_by}
 use Rattle.tdp_io.specs.declared.sink.Stop.{Stop}
 use Rattle.tdp_io.specs.declared.sink.Stop.TheVariants.{Failed, NoMemory}
-use Rattle.weave_engine.specs.Replays.{RunsLines}
-use Rattle.weave_engine.specs.Weaves.{StarvedLinesScanIn, lines_above}
+use Rattle.turn_loops.specs.Replays.{RunsLines}
+use Rattle.turn_loops.specs.Weaves.{StarvedLinesScanIn, lines_above}
 use Rattle.word_laws.specs.Accesses.{accesses_by, told as told_of, told_in}
 
 -- The history answers each line of the trace; these are its answers in file order: each has the number and the actor of its line, and each actor's answers

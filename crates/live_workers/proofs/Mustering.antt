@@ -17,8 +17,8 @@ use Rattle.table_seats.specs.Boards.{AllHands, BoardView, Fits, begun}
 use Rattle.table_seats.specs.Owners.{OwnerView, machine_of}
 use Rattle.table_seats.specs.Passes.{Known, PassView, hand_in_place, steps_before_split, world_after}
 use Rattle.table_seats.specs.Rule.{Holds}
-use Rattle.weave_engine.specs.Replays.{RunsLines}
-use Rattle.weave_engine.specs.Weaves.{lines_above}
+use Rattle.turn_loops.specs.Replays.{RunsLines}
+use Rattle.turn_loops.specs.Weaves.{lines_above}
 use Rattle.live_workers.specs.Crews.{HasBegun}
 
 -- Where every hand is there, so is each.

@@ -11,8 +11,8 @@ use Rattle.mmu_core.specs.machine.Worlds.{IsStart}
 use Rattle.table_seats.specs.Boards.{AllHands, BoardView, Fits, begun}
 use Rattle.table_seats.specs.Passes.{PassView, steps_before_split}
 use Rattle.table_seats.specs.Rule.{Holds}
-use Rattle.weave_engine.specs.Replays.{RunsLines}
-use Rattle.weave_engine.specs.Weaves.{lines_above}
+use Rattle.turn_loops.specs.Replays.{RunsLines}
+use Rattle.turn_loops.specs.Weaves.{lines_above}
 use Rattle.live_workers.specs.Posts.{AllHaveRun, AreReady, Post}
 use Rattle.live_workers.specs.declared.crew.Crew.{Crew}
 

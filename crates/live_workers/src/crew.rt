@@ -19,7 +19,7 @@ use std::thread::Threads;
 use step_seats::MachineOwner;
 use table_seats::{Board, Pass, TableMachine, TableSeat};
 use tdp_io::Gate;
-use weave_engine::run_alone;
+use turn_loops::run_alone;
 
 /// A board, its first pass, whose hands are all with workers, and these: one for each actor, in
 /// the order v0.., h0.., vm, w0...

@@ -2,7 +2,7 @@
 //! machine with 70 pages: word 1 of the map of frames has a bit for each frame after them.
 ghost use Rattle.std.specs.Prelude.{◌≡◌, IfSome};
 ghost use Rattle.mmu_core.specs.declared.claim.FreeMap.TheVariants.{Frames};
-ghost use Rattle.mmu_core.specs.lines.ClaimSteps.{claim_part};
+ghost use Rattle.mmu_core.specs.orders.ClaimSteps.{claim_part};
 ghost use Rattle.mmu_core.specs.machine.MayMake.{MayMake};
 
 use crate::expected::expect_all;

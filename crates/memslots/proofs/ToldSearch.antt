@@ -31,7 +31,7 @@ use Rattle.step_seats.specs.Where.{HasHand}
 use Rattle.step_seats.specs.declared.turn.Turn.{Turn}
 use Rattle.memslots.specs.declared.find.Find.{Find}
 use Rattle.memslots.specs.declared.find.FoundSlot.{FoundSlot}
-use Rattle.memslots.specs.Finding.{FindsIn, HasLoaded, IsPublished, IsSearchFor, Searches, SearchesIn, find_step, is_sought}
+use Rattle.memslots.specs.Finding.{FindsIn, HasLoaded, HoldsPublished, IsSearchFor, Searches, SearchesIn, find_step, is_sought}
 use Rattle.step_seats.proofs.Where.{telling, where_made}
 use Rattle.step_seats.proofs.Found.{Answers, found_told}
 use Rattle.memslots.proofs.Searching.{finds_by}
@@ -92,9 +92,9 @@ set_loaded before after v held made = ap (λ (t : Topics). t.search.set) made �
 
 pub set_published : (job : Find) (note found : ℕ) (before after : Seat) → job.begun ≡ false
     → may_search before.hand.topics.stay before.hand.topics.hold ≡ true → MadePart part.Slots note found before after
-    → WherePartMade (find_step job) note before after (IsPublished before.hand after.hand)
+    → WherePartMade (find_step job) note before after (HoldsPublished before.hand after.hand)
 set_published job note found before after not_yet held made =
-    subst (λ (b : Bool). WherePartMade (if b then part.Slot else part.Slots) note before after (IsPublished before.hand after.hand)) (sym not_yet)
+    subst (λ (b : Bool). WherePartMade (if b then part.Slot else part.Slots) note before after (HoldsPublished before.hand after.hand)) (sym not_yet)
     (where_made made (λ w at has. set_loaded before.hand.topics after.hand.topics found held made.topics
     ∙ ap Some (found_told part.Slots note found (telling w before) _ at tt)))
 

@@ -102,9 +102,9 @@ abbrev pub SearchesWhereMade : Find → ℕ → Seat → Seat → Turn (Option F
 SearchesWhereMade job note before after turn = WherePartMade (find_step job) note before after (SearchesIn job before.hand after.hand turn)
 
 -- The slot set that is held now is the one that is published in the world before the step.
-abbrev pub IsPublished : Held → Held → World Held → World Held → Type 0
-IsPublished before after w v = after.topics.search.set ≡ Some (word_in before.state.sizes w area.Slots 0)
+abbrev pub HoldsPublished : Held → Held → World Held → World Held → Type 0
+HoldsPublished before after w v = after.topics.search.set ≡ Some (word_in before.state.sizes w area.Slots 0)
 
 -- A search that begins holds the slot set that was published where its step was made.
 abbrev pub BeginsInPublished : Find → ℕ → Seat → Seat → Type 0
-BeginsInPublished job note before after = job.begun ≡ false → WherePartMade (find_step job) note before after (IsPublished before.hand after.hand)
+BeginsInPublished job note before after = job.begun ≡ false → WherePartMade (find_step job) note before after (HoldsPublished before.hand after.hand)

@@ -2,7 +2,7 @@ ghost use Rattle.std.specs.Prelude.{◌≡◌, ◌<◌, ◌≤◌, true, false, 
 ghost use Rattle.core_views.specs.declared.place.SlotField.TheVariants.{Host};
 ghost use Rattle.mmu_core.specs.machine.MayMake.{MayMake};
 ghost use Rattle.part_steps.specs.StayTopics.{may_search};
-ghost use Rattle.step_seats.specs.Moves.{KeepsRoom};
+ghost use Rattle.step_seats.specs.Moves.{KeepsSeat};
 ghost use Rattle.step_seats.specs.PartTurns.{MakesPart};
 ghost use Rattle.step_seats.specs.declared.turn.Turn.TheVariants.{More};
 ghost use Rattle.memslots.specs.Finding.{
@@ -15,12 +15,9 @@ ghost use Rattle.memslots.specs.Finding.{
   find_turns,
 };
 
-use core_views::{Slot, SlotField, SlotSearch};
+use core_views::{SLOTS, Slot, SlotField, SlotSearch};
 use part_steps::PartStep;
 use step_seats::{Stepper, Turn, make_part, part_rests};
-
-/// How many IDs there are.
-const IDS: u64 = 32;
 
 /// What a slot set is searched for: the slot that has it.
 #[derive(Clone, Copy, Debug, PartialEq, Eq, Drop)]
@@ -91,7 +88,7 @@ impl Find {
                 logged: after.logged,
             }));
         }
-        if after.id == IDS {
+        if after.id == SLOTS {
             Turn::Done(None)
         } else {
             Turn::More
@@ -114,8 +111,7 @@ impl Find {
         ensures now { SearchesWhereMade self.old note (S.seat s.old) (S.seat s.new) result }
         ensures goes_on { self.new ≡ record { sought = self.old.sought; begun = true } }
         ensures nearer { result ≡ More → find_turns self.new (S.seat s.new).hand.topics.search < find_turns self.old (S.seat s.old).hand.topics.search }
-        ensures room { KeepsRoom (S.seat s.old) (S.seat s.new) }
-        ensures same { ((S.seat s.new).actor ≡ (S.seat s.old).actor) × (S.frame s.new ≡ S.frame s.old) }
+        ensures keeps { KeepsSeat (S.seat s.old) (S.seat s.new) (S.frame s.old) (S.frame s.new) }
     {
         if !self.begun {
             let _ = make_part(s, PartStep::Slots, note);

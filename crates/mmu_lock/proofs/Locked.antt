@@ -17,7 +17,7 @@ use Rattle.step_seats.specs.PartTurns.{MadePart}
 use Rattle.step_seats.specs.Seats.{Seat}
 use Rattle.step_seats.proofs.AloneTold.{share_free}
 use Rattle.mmu_lock.specs.Locking.{held_alone, holding}
-use Rattle.mmu_core.specs.lines.ShareSteps.{share_left, share_part}
+use Rattle.mmu_core.specs.orders.ShareSteps.{share_left, share_part}
 
 -- Who isn't owing wants to share, and holds nothing of the lock.
 pub wants_share : (h : Held) (note : ℕ) → ((w : ℕ) → h.topics.hold ≡ Owing w → ⊥) → MayMake (share_part h.topics.hold) note h

@@ -9,7 +9,7 @@ use Rattle.part_steps.specs.declared.part_step.PartStep.TheVariants.{Exclude, Re
 use Rattle.part_steps.specs.StayTopics.{flush_kept, let_go, unchecked}
 use Rattle.part_steps.specs.ControlBits.{has_writer}
 use Rattle.mmu_core.specs.alone.OthersRest.{NoOtherHasLock, NoneHasLockAlone, OthersRest}
-use Rattle.mmu_core.specs.lines.ShareSteps.{share_part}
+use Rattle.mmu_core.specs.orders.ShareSteps.{share_part}
 use Rattle.mmu_core.specs.machine.Enabled.{mmu}
 use Rattle.mmu_core.specs.machine.Machine.{World, effect}
 use Rattle.part_steps.specs.PartTasks.{part_kind}

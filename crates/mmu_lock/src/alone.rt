@@ -2,7 +2,7 @@
 ghost use Rattle.std.specs.Prelude.{◌≡◌, ◌<◌};
 ghost use Rattle.mmu_core.specs.machine.MayMake.{MayMake};
 ghost use Rattle.part_steps.specs.declared.part_step.PartStep.TheVariants.{Exclude, Release};
-ghost use Rattle.step_seats.specs.Moves.{KeepsRoom};
+ghost use Rattle.step_seats.specs.Moves.{KeepsSeat};
 ghost use Rattle.step_seats.specs.PartTurns.{MadeTelling};
 
 use crate::lock::{try_exclusive, unlock};
@@ -17,8 +17,7 @@ pub fn exclude<S: Stepper>(s: &mut S, note: u64) -> Option<Seen>
     requires may { MayMake Exclude note (S.seat s.old).hand }
     requires reserved { 0 < (S.seat s.old).room }
     ensures makes { MadeTelling result Exclude note (S.seat s.old) (S.seat s.new) }
-    ensures room { KeepsRoom (S.seat s.old) (S.seat s.new) }
-    ensures same { ((S.seat s.new).actor ≡ (S.seat s.old).actor) × (S.frame s.new ≡ S.frame s.old) }
+    ensures keeps { KeepsSeat (S.seat s.old) (S.seat s.new) (S.frame s.old) (S.frame s.new) }
 {
     part_rests(s.hand());
     let word = map_of(&s.hand().progress().sizes).word_of(Area::Lock, 0);
@@ -32,8 +31,7 @@ pub fn release<S: Stepper>(s: &mut S, note: u64) -> Option<Seen>
     requires may { MayMake Release note (S.seat s.old).hand }
     requires reserved { 0 < (S.seat s.old).room }
     ensures makes { MadeTelling result Release note (S.seat s.old) (S.seat s.new) }
-    ensures room { KeepsRoom (S.seat s.old) (S.seat s.new) }
-    ensures same { ((S.seat s.new).actor ≡ (S.seat s.old).actor) × (S.frame s.new ≡ S.frame s.old) }
+    ensures keeps { KeepsSeat (S.seat s.old) (S.seat s.new) (S.frame s.old) (S.frame s.new) }
 {
     let hand = s.hand();
     part_rests(hand);

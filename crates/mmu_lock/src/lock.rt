@@ -13,8 +13,8 @@ ghost use Rattle.mmu_lock.specs.Locking.{
   lock_way,
   unlock_step,
 };
-ghost use Rattle.mmu_core.specs.lines.ShareSteps.{share_left, share_part};
-ghost use Rattle.step_seats.specs.Moves.{KeepsRoom};
+ghost use Rattle.mmu_core.specs.orders.ShareSteps.{share_left, share_part};
+ghost use Rattle.step_seats.specs.Moves.{KeepsSeat};
 ghost use Rattle.step_seats.specs.PartTurns.{MadePart, MakesPart};
 ghost use Rattle.step_seats.specs.declared.turn.Turn.TheVariants.{More};
 
@@ -59,8 +59,7 @@ pub fn try_shared<S: Stepper>(s: &mut S, note: u64) -> Turn<Lock>
     ensures nearer { result ≡ More → share_left (S.seat s.new).hand.topics.hold < share_left (S.seat s.old).hand.topics.hold }
     ensures shared { SharesBesideNoWriter result note (S.seat s.old) (S.seat s.new) }
     ensures alone { SharesWhereOthersRest result note (S.seat s.old) (S.seat s.new) }
-    ensures room { KeepsRoom (S.seat s.old) (S.seat s.new) }
-    ensures same { ((S.seat s.new).actor ≡ (S.seat s.old).actor) × (S.frame s.new ≡ S.frame s.old) }
+    ensures keeps { KeepsSeat (S.seat s.old) (S.seat s.new) (S.frame s.old) (S.frame s.new) }
 {
     let hand = s.hand();
     part_rests(hand);
@@ -85,8 +84,7 @@ pub fn try_exclusive<S: Stepper>(s: &mut S, note: u64) -> Lock
     ensures tried { TriedExclusive result (S.seat s.old).hand.topics (S.seat s.new).hand.topics }
     ensures sole { ExcludesAllOthers result note (S.seat s.old) (S.seat s.new) }
     ensures alone { ExcludesWhereOthersRest result note (S.seat s.old) (S.seat s.new) }
-    ensures room { KeepsRoom (S.seat s.old) (S.seat s.new) }
-    ensures same { ((S.seat s.new).actor ≡ (S.seat s.old).actor) × (S.frame s.new ≡ S.frame s.old) }
+    ensures keeps { KeepsSeat (S.seat s.old) (S.seat s.new) (S.frame s.old) (S.frame s.new) }
 {
     let word = make_part(s, PartStep::Exclude, note);
     if word == 0 {
@@ -102,8 +100,7 @@ pub fn unlock<S: Stepper>(s: &mut S, note: u64)
     requires reserved { 0 < (S.seat s.old).room }
     ensures step { MakesPart (unlock_step (S.seat s.old).hand.topics.hold) note (S.seat s.old) (S.seat s.new) }
     ensures gave_back { GaveBack (S.seat s.old).hand.topics (S.seat s.new).hand.topics }
-    ensures room { KeepsRoom (S.seat s.old) (S.seat s.new) }
-    ensures same { ((S.seat s.new).actor ≡ (S.seat s.old).actor) × (S.frame s.new ≡ S.frame s.old) }
+    ensures keeps { KeepsSeat (S.seat s.old) (S.seat s.new) (S.frame s.old) (S.frame s.new) }
 {
     let step = match s.hand().topics().hold {
         Hold::Exclusive => PartStep::Release,

@@ -11,7 +11,7 @@ use Rattle.core_views.specs.declared.trace.Line.{Line}
 use Rattle.core_views.specs.declared.trace.Op.{Op}
 use Rattle.core_views.specs.declared.trace.Op.TheVariants.{Read}
 use Rattle.part_steps.specs.declared.task.Task.{Task}
-use Rattle.mmu_core.specs.lines.AccessSteps.{touch_of}
+use Rattle.mmu_core.specs.forms.access.AccessSteps.{touch_of}
 use Rattle.std.proofs.lemmas.Bool.Decides.{nat_tests}
 use Rattle.core_views.specs.Held.{Held}
 use Rattle.core_views.specs.Kinds.{kind_named}
@@ -27,7 +27,7 @@ use Rattle.part_steps.specs.PartSteps.{PartNeeds}
 use Rattle.mmu_core.specs.lines.Forms.{AcceptsAt, RestsAt}
 use Rattle.mmu_core.specs.lines.Rests.{IsUnderWay, Rests}
 use Rattle.mmu_core.proofs.machine.Stepping.{is_begun}
-use Rattle.mmu_core.specs.lines.Cached.{flushed}
+use Rattle.mmu_core.specs.forms.access.Cached.{flushed}
 use Rattle.part_steps.specs.PartBounds.{FrameCountersPart, PartRests}
 use Rattle.part_steps.specs.FrameTopics.{words_moved}
 use Rattle.core_views.specs.declared.topics.Frames.{Frames}

@@ -20,7 +20,7 @@ use Rattle.core_views.specs.declared.progress.Progress.{Progress}
 use Rattle.core_views.specs.Held.{Held, line_under, next_line, progress_of}
 use Rattle.core_views.specs.SlotSets.{MemorySlots}
 use Rattle.mmu_core.specs.declared.outcome.Outcome.{Outcome}
-use Rattle.mmu_core.specs.lines.AccessSteps.{access_caches}
+use Rattle.mmu_core.specs.forms.access.AccessSteps.{access_caches}
 use Rattle.mmu_core.specs.lines.Delays.{begins_anew, counted, delays_counted, is_delay, leaves_to_fault, line_waits, steps_counted, walks_again}
 use Rattle.mmu_core.specs.lines.Rests.{IsUnderWay}
 use Rattle.mmu_core.specs.machine.Steps.{delays_at, line_after}

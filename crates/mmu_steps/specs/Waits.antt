@@ -61,7 +61,9 @@ unshares _ z = Never
 abbrev pub waiting_at : StepKind → Held → Waiting
 waiting_at kind.Unshare h = unshares h.topics.hold h.state.sizes
 waiting_at kind.Release h =
-    if saw_open h.topics.invalidations then Always (record { word = place (map_of h.state.sizes) area.Count 0; value = h.topics.invalidations.count }) else Never
+    if saw_open h.topics.invalidations
+    then Always (record { word = place (map_of h.state.sizes) area.Count 0; value = h.topics.invalidations.count })
+    else Never
 waiting_at kind.Claim h = Unwon h.topics.claim
 waiting_at kind.Frame h = Unwon h.topics.frames.claim
 waiting_at kind.Exclude h = Locked

@@ -4,31 +4,18 @@
 //! It passes on what the crates above need of the code below: a crate above lists this one alone.
 #![tactic(auto)]
 
-mod access;
-mod cached;
-mod claim;
 mod delays;
-mod dirty_pages;
-mod fault;
-mod host;
-mod invalidate;
 mod laws;
-mod log;
 mod parts;
-mod share;
-mod slot_change;
 mod step;
-mod sweep;
 mod waits;
-mod watch;
-mod write_protect;
 
-pub use access::access_note;
+pub use access_twins::{access_note, asks_flush};
 pub use laws::{knows, rests};
 pub use part_twins::{
     Closing, Hand, SLOT_SET_ROLE, SlotSet, WRITER, has_to_flush, has_writer, in_section,
     needs_line, next_watched, page_of, page_owned, part_kind, swept_to, word_looked, words_filled,
 };
 pub use parts::{allows, part_rests};
-pub use step::{advance, asks_flush, next_kind, next_step};
+pub use step::{advance, next_kind, next_step};
 pub use waits::{Waiting, saw_open};

@@ -5,12 +5,12 @@ ghost use Rattle.core_views.specs.declared.place.Place.TheVariants as at;
 ghost use Rattle.core_views.specs.Sizes.{AreSizes};
 ghost use Rattle.core_views.specs.Traces.{IsCommandFor};
 ghost use Rattle.mmu_core.specs.lines.Forms.{AcceptsAt, RestsAt, caches_at, first_place, loads_at, note_at, outcome_at, part_at, records_at};
-ghost use Rattle.mmu_core.specs.lines.AccessSteps.{use_found};
+ghost use Rattle.mmu_core.specs.forms.access.AccessSteps.{use_found};
 ghost use Rattle.mmu_core.specs.lines.Delays.{line_waits};
 ghost use Rattle.mmu_core.specs.lines.Rests.{IsUnderWay, Rests};
 ghost use Rattle.mmu_core.specs.machine.Enabled.{Enabled};
 ghost use Rattle.mmu_core.specs.machine.Steps.{has_line, line_after, line_at, next, next_line, place_at, standing, task_at};
-ghost use Rattle.mmu_core.specs.lines.Cached.{asks_flush, flushed};
+ghost use Rattle.mmu_core.specs.forms.access.Cached.{flushed};
 ghost use Rattle.part_steps.specs.declared.part_step.PartStep.TheVariants.{Claim, Frame};
 ghost use Rattle.part_steps.specs.PartBounds.{PartRests};
 ghost use Rattle.core_views.specs.Kinds.{kind_named};
@@ -20,9 +20,14 @@ ghost use Rattle.spte_words.specs.Areas.{size_of};
 
 use crate::delays::{delays_behind, is_delay, steps_behind};
 use crate::waits::Waiting;
-use crate::{access, host, log, slot_change};
+use access_twins::{access_caches, access_note, access_outcome, access_part, flush, touch};
 use core_views::{
-    AccessPlace, Answer, AnsweredLine, Command, Kind, Line, LogPlace, Place, StepKind, Translation,
+    AccessPlace, Answer, AnsweredLine, Command, Kind, Line, LogPlace, Place, Translation,
+};
+use manager_twins::{
+    host_first, host_note, host_outcome, host_part, log_first, log_next, log_note, log_reads,
+    log_step, record_change, slot_change_first, slot_change_note, slot_change_outcome,
+    slot_change_part,
 };
 use mmu_core::{LogNext, Outcome};
 use part_steps::{PartStep, Task};
@@ -35,14 +40,14 @@ fn first(hand: &Hand, line: &Line) -> Place
 {
     match &line.command {
         Command::Access { .. } => Place::Access(AccessPlace::Enter { again: false }),
-        Command::ChangeHost { .. } => Place::Host(host::first(&line.command)),
+        Command::ChangeHost { .. } => Place::Host(host_first(&line.command)),
         Command::GetLog { id } | Command::ClearLog { id, .. } => {
             let sizes = &hand.progress().sizes;
-            Place::Log(log::first(sizes, hand.slots(), &line.command, *id))
+            Place::Log(log_first(sizes, hand.slots(), &line.command, *id))
         }
         command => {
             let sizes = &hand.progress().sizes;
-            Place::SlotChange(slot_change::first(sizes, hand.slots(), command))
+            Place::SlotChange(slot_change_first(sizes, hand.slots(), command))
         }
     }
 }
@@ -65,10 +70,10 @@ fn note(place: Place, hand: &Hand, line: &Line) -> u64
     ensures { result ≡ note_at place line.now.command hand.now.core }
 {
     match (place, &line.command) {
-        (Place::Access(place), Command::Access { .. }) => access::access_note(place),
-        (Place::SlotChange(place), _) => slot_change::note(place, hand),
-        (Place::Host(place), Command::ChangeHost { page, .. }) => host::note(place, *page, hand),
-        (Place::Log(place), command) => log::note(place, hand, command),
+        (Place::Access(place), Command::Access { .. }) => access_note(place),
+        (Place::SlotChange(place), _) => slot_change_note(place, hand),
+        (Place::Host(place), Command::ChangeHost { page, .. }) => host_note(place, *page, hand),
+        (Place::Log(place), command) => log_note(place, hand, command),
         _ => 0,
     }
 }
@@ -85,7 +90,7 @@ fn task(place: Place, hand: &Hand, line: &Line) -> Task
         return part_task(hand, step, note(place, hand, line));
     }
     match &line.command {
-        Command::Access { gfn, word, op } => access::touch(hand, *gfn, *word, *op),
+        Command::Access { gfn, word, op } => touch(hand, *gfn, *word, *op),
         _ => unreachable!(),
     }
 }
@@ -105,7 +110,7 @@ pub fn next_kind(hand: &Hand) -> Kind
 
 /// The step of a part that a line makes at this place; `None` where the guest
 /// touches a content word.
-#[tactic(auto, using(mmu_core::proofs::lines::UsedTranslations::part_needs, mmu_core::proofs::lines::LineWaits::claims_seen))]
+#[tactic(auto, using(mmu_core::proofs::forms::access::UsedTranslations::part_needs, mmu_core::proofs::lines::LineWaits::claims_seen))]
 pub(crate) fn part_of(place: Place, line: &Line, hand: &Hand) -> Option<PartStep>
     requires part { PartRests hand.now.core }
     requires rests { RestsAt place line.now.command hand.now.core }
@@ -114,12 +119,12 @@ pub(crate) fn part_of(place: Place, line: &Line, hand: &Hand) -> Option<PartStep
     ensures frame_seen { result ≡ Some Frame → 0 < hand.now.core.topics.frames.claim.seen }
 {
     match (place, &line.command) {
-        (Place::Access(place), Command::Access { gfn, .. }) => access::part(place, *gfn, hand),
-        (Place::SlotChange(place), command) => Some(slot_change::part(place, hand, command)),
+        (Place::Access(place), Command::Access { gfn, .. }) => access_part(place, *gfn, hand),
+        (Place::SlotChange(place), command) => Some(slot_change_part(place, hand, command)),
         (Place::Host(place), Command::ChangeHost { page, change }) => {
-            Some(host::part(place, *page, *change, hand))
+            Some(host_part(place, *page, *change, hand))
         }
-        (Place::Log(place), command) => Some(log::log_step(place, hand, command)),
+        (Place::Log(place), command) => Some(log_step(place, hand, command)),
         _ => Some(PartStep::Seq),
     }
 }
@@ -148,7 +153,7 @@ fn fill_cache(place: Place, hand: &mut Hand, found: u64)
     };
     if let Command::Access { gfn, op, .. } = &hand.line().command {
         let (gfn, op) = (*gfn, *op);
-        access::fill_cache(AccessPlace::Walk { again }, hand, gfn, op, found);
+        access_caches(AccessPlace::Walk { again }, hand, gfn, op, found);
     }
 }
 
@@ -161,7 +166,7 @@ fn record_step(place: Place, hand: &mut Hand)
     ensures room { hand.new.room ≡ hand.old.room }
 {
     if let Place::SlotChange(place) = place {
-        slot_change::record_change(place, hand);
+        record_change(place, hand);
     }
 }
 
@@ -176,13 +181,13 @@ fn outcome(place: Place, line: &Line, hand: &Hand, found: u64) -> (Outcome, Opti
 {
     match (place, &line.command) {
         (Place::Access(place), Command::Access { gfn, op, .. }) => {
-            access::outcome(place, hand, *gfn, *op, found)
+            access_outcome(place, hand, *gfn, *op, found)
         }
         (Place::SlotChange(place), command) => {
-            (slot_change::outcome(place, command, hand, found), None)
+            (slot_change_outcome(place, command, hand, found), None)
         }
         (Place::Host(place), Command::ChangeHost { page, change }) => {
-            (host::outcome(place, *page, *change, hand, found), None)
+            (host_outcome(place, *page, *change, hand, found), None)
         }
         (Place::Log(_), _) => unreachable!(),
         _ => (Outcome::Goes(place), None),
@@ -248,11 +253,11 @@ fn advance_log(hand: &mut Hand, place: LogPlace, waits: bool, found: u64)
 {
     let line = hand.line();
     let (number, actor) = (line.number, line.actor);
-    let next = log::next(place, &line.command, hand, found);
+    let next = log_next(place, &line.command, hand, found);
     let steps = steps_behind(waits, hand);
     let delays = delays_behind(waits, hand);
     let used = hand.progress().used;
-    log::read(place, hand, found);
+    log_reads(place, hand, found);
     match next {
         LogNext::Goes(place) => hand.go_on(Place::Log(place), used, steps, delays),
         LogNext::Refused(refusal) => {
@@ -301,25 +306,6 @@ fn advance_topics(hand: &mut Hand, kind: Kind, found: u64)
 {
     let sizes = hand.progress().sizes;
     step_topics(&sizes, kind, hand.topics_mut(), found);
-}
-
-/// Whether a flush is asked for, by an actor's state word: its bit 2.
-pub fn asks_flush(state: u64) -> bool
-    ensures { result ≡ asks_flush state }
-{
-    state / (1 << 2) % 2 == 1
-}
-
-// The effect of a step on what is cached, where a flush was asked for.
-#[inline(always)]
-#[tactic(auto, unfolding(mmu_core::specs::lines::Cached::flushed))]
-fn flush(hand: &mut Hand, kind: Kind, found: u64)
-    ensures core { hand.new.core ≡ record hand.old.core { cached = flushed kind hand.old.core.cached found } }
-    ensures room { hand.new.room ≡ hand.old.room }
-{
-    if kind.named() == StepKind::Enter && asks_flush(found) {
-        hand.cache_mut().clear();
-    }
 }
 
 /// Makes the effect of a step on the hand, where the step answered `found`.

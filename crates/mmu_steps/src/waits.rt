@@ -6,16 +6,10 @@ ghost use Rattle.mmu_core.specs.machine.Enabled.{Enabled};
 ghost use Rattle.mmu_steps.specs.Waits.{HasTried, WaitsAsLine, seen_in, waiting_at, waits};
 
 use core_views::{Checked, Hold, Invalidations, Kind, MapClaim, Seen, StepKind};
+use order_twins::own_open;
 use part_steps::map_of;
 use part_twins::{Hand, has_to_flush, in_section, is_won};
 use spte_words::Area;
-
-// How many are open of the actor's own.
-pub(crate) fn own_open(invalidations: &Invalidations) -> u64
-    ensures { result ≡ own_open invalidations.now }
-{
-    if invalidations.opened { 1 } else { 0 }
-}
 
 /// Under the lock it saw that invalidations of others are open.
 pub fn saw_open(invalidations: &Invalidations) -> bool

@@ -9,9 +9,9 @@ use Rattle.core_views.specs.Held.{Held}
 use Rattle.core_views.specs.Slots.{is_write}
 use Rattle.part_steps.specs.declared.part_step.PartStep.{PartStep}
 use Rattle.part_steps.specs.PartSteps.{PartNeeds}
-use Rattle.mmu_core.specs.lines.AccessSteps.{access_part}
+use Rattle.mmu_core.specs.forms.access.AccessSteps.{access_part}
 use Rattle.mmu_core.specs.lines.Forms.{RestsAt, part_at}
-use Rattle.mmu_core.proofs.lines.UsedTranslations.{part_needs}
+use Rattle.mmu_core.proofs.forms.access.UsedTranslations.{part_needs}
 
 needs_at : (p : Place) (c : Command) (h : Held) → RestsAt p c h → IfSome (part_at p c h) (λ s. PartNeeds s h)
 needs_at (place.Access p) (Access gfn word op) h R = part_needs (access_part p gfn h.topics) gfn (is_write op) h R

@@ -18,8 +18,8 @@ use Rattle.mmu_core.specs.declared.invalidate.BeginNext.{BeginNext}
 use Rattle.mmu_core.specs.declared.invalidate.BeginNext.TheVariants as begins_next
 use Rattle.mmu_core.specs.declared.invalidate.EndNext.{EndNext}
 use Rattle.mmu_core.specs.declared.invalidate.EndNext.TheVariants as ends_next
-use Rattle.mmu_core.specs.lines.InvalidateKnows.{BeginKnows, EndKnows}
-use Rattle.mmu_core.specs.lines.InvalidateSteps.{begin_next, begin_part, end_next, end_part}
+use Rattle.mmu_core.specs.orders.InvalidateKnows.{BeginKnows, EndKnows}
+use Rattle.mmu_core.specs.orders.InvalidateSteps.{begin_next, begin_part, end_next, end_part}
 use Rattle.mmu_core.specs.machine.MayMake.{MayMake}
 use Rattle.part_steps.specs.declared.invalidations.Target.{Target}
 use Rattle.part_steps.specs.InvalidationRange.{IsSmall}

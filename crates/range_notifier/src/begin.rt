@@ -1,11 +1,11 @@
 ghost use Rattle.std.specs.Prelude.{◌≡◌, ◌<◌, ◌≤◌, ◌^◌, Some, None, true, false};
 ghost use Rattle.core_views.specs.declared.place.BeginPlace.TheVariants as at;
-ghost use Rattle.mmu_core.specs.lines.InvalidateSteps.{begin_part};
+ghost use Rattle.mmu_core.specs.orders.InvalidateSteps.{begin_part};
 ghost use Rattle.part_steps.specs.declared.invalidations.Target.TheVariants as aim;
 ghost use Rattle.part_steps.specs.PartBounds.{PartRests};
 ghost use Rattle.part_steps.specs.SweepTopics.{swept_to};
 ghost use Rattle.range_notifier.specs.Notifying.{BeginsNext, NeverWaits, IsInBegin, TurnsBegin, begin_at, opens_at};
-ghost use Rattle.step_seats.specs.Moves.{KeepsRoom};
+ghost use Rattle.step_seats.specs.Moves.{KeepsSeat};
 ghost use Rattle.step_seats.specs.PartTurns.{MadeTelling, MakesPart};
 
 use core_views::{BeginPlace, HostPlace, Place, Seen, Slot, SlotChangePlace};
@@ -71,8 +71,7 @@ impl BeginJob {
         requires is_in { IsInBegin (at.Find begun) self.now.target note (S.seat s.old).hand }
         requires reserved { 0 < (S.seat s.old).room }
         ensures makes { MakesPart (begin_part (at.Find begun) self.now.target (S.seat s.old).hand.topics) note (S.seat s.old) (S.seat s.new) }
-        ensures room { KeepsRoom (S.seat s.old) (S.seat s.new) }
-        ensures same { ((S.seat s.new).actor ≡ (S.seat s.old).actor) × (S.frame s.new ≡ S.frame s.old) }
+        ensures keeps { KeepsSeat (S.seat s.old) (S.seat s.new) (S.frame s.old) (S.frame s.new) }
     {
         let page = match self.target {
             Target::Page(page) => page,
@@ -90,8 +89,7 @@ impl BeginJob {
         requires is_in { IsInBegin (opens_at stage) self.now.target note (S.seat s.old).hand }
         requires reserved { 0 < (S.seat s.old).room }
         ensures makes { MakesPart (begin_part (opens_at stage) self.now.target (S.seat s.old).hand.topics) note (S.seat s.old) (S.seat s.new) }
-        ensures room { KeepsRoom (S.seat s.old) (S.seat s.new) }
-        ensures same { ((S.seat s.new).actor ≡ (S.seat s.old).actor) × (S.frame s.new ≡ S.frame s.old) }
+        ensures keeps { KeepsSeat (S.seat s.old) (S.seat s.new) (S.frame s.old) (S.frame s.new) }
     {
         part_rests(s.hand());
         let search = &s.hand().topics().search;
@@ -105,8 +103,7 @@ impl BeginJob {
         requires is_in { IsInBegin (at.Walk rooted) self.now.target note (S.seat s.old).hand }
         requires reserved { 0 < (S.seat s.old).room }
         ensures makes { MakesPart (begin_part (at.Walk rooted) self.now.target (S.seat s.old).hand.topics) note (S.seat s.old) (S.seat s.new) }
-        ensures room { KeepsRoom (S.seat s.old) (S.seat s.new) }
-        ensures same { ((S.seat s.new).actor ≡ (S.seat s.old).actor) × (S.frame s.new ≡ S.frame s.old) }
+        ensures keeps { KeepsSeat (S.seat s.old) (S.seat s.new) (S.frame s.old) (S.frame s.new) }
     {
         if rooted {
             part_rests(s.hand());
@@ -122,8 +119,7 @@ impl BeginJob {
         requires is_in { IsInBegin at.Zap self.now.target note (S.seat s.old).hand }
         requires reserved { 0 < (S.seat s.old).room }
         ensures makes { MakesPart (begin_part at.Zap self.now.target (S.seat s.old).hand.topics) note (S.seat s.old) (S.seat s.new) }
-        ensures room { KeepsRoom (S.seat s.old) (S.seat s.new) }
-        ensures same { ((S.seat s.new).actor ≡ (S.seat s.old).actor) × (S.frame s.new ≡ S.frame s.old) }
+        ensures keeps { KeepsSeat (S.seat s.old) (S.seat s.new) (S.frame s.old) (S.frame s.new) }
     {
         part_rests(s.hand());
         let gfn = swept_frame(s.hand());
@@ -136,8 +132,7 @@ impl BeginJob {
         requires is_in { IsInBegin at.Await self.now.target note (S.seat s.old).hand }
         requires reserved { 0 < (S.seat s.old).room }
         ensures makes { MadeTelling result (begin_part at.Await self.now.target (S.seat s.old).hand.topics) note (S.seat s.old) (S.seat s.new) }
-        ensures room { KeepsRoom (S.seat s.old) (S.seat s.new) }
-        ensures same { ((S.seat s.new).actor ≡ (S.seat s.old).actor) × (S.frame s.new ≡ S.frame s.old) }
+        ensures keeps { KeepsSeat (S.seat s.old) (S.seat s.new) (S.frame s.old) (S.frame s.new) }
     {
         let hand = s.hand();
         part_rests(hand);
@@ -152,8 +147,7 @@ impl BeginJob {
         requires goes_on { NeverWaits place }
         requires reserved { 0 < (S.seat s.old).room }
         ensures makes { MakesPart (begin_part place self.now.target (S.seat s.old).hand.topics) note (S.seat s.old) (S.seat s.new) }
-        ensures room { KeepsRoom (S.seat s.old) (S.seat s.new) }
-        ensures same { ((S.seat s.new).actor ≡ (S.seat s.old).actor) × (S.frame s.new ≡ S.frame s.old) }
+        ensures keeps { KeepsSeat (S.seat s.old) (S.seat s.new) (S.frame s.old) (S.frame s.new) }
     {
         match place {
             BeginPlace::Find { begun } => self.find(s, begun, note),
@@ -175,8 +169,7 @@ impl BeginJob {
         requires is_in { IsInBegin place self.now.target note (S.seat s.old).hand }
         requires reserved { 0 < (S.seat s.old).room }
         ensures makes { MadeTelling result (begin_part place self.now.target (S.seat s.old).hand.topics) note (S.seat s.old) (S.seat s.new) }
-        ensures room { KeepsRoom (S.seat s.old) (S.seat s.new) }
-        ensures same { ((S.seat s.new).actor ≡ (S.seat s.old).actor) × (S.frame s.new ≡ S.frame s.old) }
+        ensures keeps { KeepsSeat (S.seat s.old) (S.seat s.new) (S.frame s.old) (S.frame s.new) }
     {
         match place {
             BeginPlace::Exclude => exclude(s, note),
@@ -193,14 +186,14 @@ impl BeginJob {
     /// invalidation: it takes the lock alone, searches the slots for the target, widens the
     /// range of open invalidations to the target's guest frames and counts one more, zaps their
     /// leaves, asks each virtual processor for a flush and awaits it, and gives the lock back.
-    /// `Done` once the lock is given back. `Wait` where the lock's word isn't 0, or a virtual
-    /// processor is in the guest and has yet to flush; never `Retry`. It takes no memory.
+    /// `Done` once the lock is given back; `begins_leave_nothing` of `job_laws` says what it makes
+    /// sure of. `Wait` where the lock's word isn't 0, or a virtual processor is in the guest
+    /// and has yet to flush; never `Retry`. It takes no memory.
     pub fn turn<S: Stepper>(&self, s: &mut S, note: u64) -> Turn<()>
         requires next { BeginsNext self.now note (S.seat s.old).hand }
         requires reserved { 0 < (S.seat s.old).room }
         ensures turned { TurnsBegin self.now result note (S.seat s.old) (S.seat s.new) }
-        ensures room { KeepsRoom (S.seat s.old) (S.seat s.new) }
-        ensures same { ((S.seat s.new).actor ≡ (S.seat s.old).actor) × (S.frame s.new ≡ S.frame s.old) }
+        ensures keeps { KeepsSeat (S.seat s.old) (S.seat s.new) (S.frame s.old) (S.frame s.new) }
     {
         let Some(place) = place_of(s.hand()) else {
             unreachable!()

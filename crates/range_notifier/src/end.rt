@@ -1,7 +1,7 @@
 ghost use Rattle.std.specs.Prelude.{◌≡◌, ◌<◌};
-ghost use Rattle.mmu_core.specs.lines.InvalidateSteps.{end_part};
+ghost use Rattle.mmu_core.specs.orders.InvalidateSteps.{end_part};
 ghost use Rattle.range_notifier.specs.Notifying.{EndsNext, IsInEnd, TurnsEnd, end_at, shuts_at};
-ghost use Rattle.step_seats.specs.Moves.{KeepsRoom};
+ghost use Rattle.step_seats.specs.Moves.{KeepsSeat};
 ghost use Rattle.step_seats.specs.PartTurns.{MadeTelling, MakesPart};
 
 use core_views::{EndPlace, HostPlace, Place, Seen, SlotChangePlace};
@@ -30,8 +30,7 @@ fn shut<S: Stepper>(s: &mut S, stage: ShutStage, note: u64)
     requires is_in { IsInEnd (shuts_at stage) note (S.seat s.old).hand }
     requires reserved { 0 < (S.seat s.old).room }
     ensures makes { MakesPart (end_part (shuts_at stage) (S.seat s.old).hand.topics) note (S.seat s.old) (S.seat s.new) }
-    ensures room { KeepsRoom (S.seat s.old) (S.seat s.new) }
-    ensures same { ((S.seat s.new).actor ≡ (S.seat s.old).actor) × (S.frame s.new ≡ S.frame s.old) }
+    ensures keeps { KeepsSeat (S.seat s.old) (S.seat s.new) (S.frame s.old) (S.frame s.new) }
 {
     let mut shut = Shut { stage };
     let _ = shut.turn(s, note);
@@ -42,8 +41,7 @@ fn step<S: Stepper>(s: &mut S, place: EndPlace, note: u64) -> Option<Seen>
     requires is_in { IsInEnd place note (S.seat s.old).hand }
     requires reserved { 0 < (S.seat s.old).room }
     ensures makes { MadeTelling result (end_part place (S.seat s.old).hand.topics) note (S.seat s.old) (S.seat s.new) }
-    ensures room { KeepsRoom (S.seat s.old) (S.seat s.new) }
-    ensures same { ((S.seat s.new).actor ≡ (S.seat s.old).actor) × (S.frame s.new ≡ S.frame s.old) }
+    ensures keeps { KeepsSeat (S.seat s.old) (S.seat s.new) (S.frame s.old) (S.frame s.new) }
 {
     let stage = match place {
         EndPlace::Exclude => return exclude(s, note),
@@ -60,14 +58,13 @@ fn step<S: Stepper>(s: &mut S, place: EndPlace, note: u64) -> Option<Seen>
 impl EndJob {
     /// Makes the next step of the hand's line, which stands in the end of its invalidation:
     /// it takes the lock alone, raises the sequence number, counts one less, and gives the
-    /// lock back. `Done` once the lock is given back. `Wait` where the lock's word isn't 0;
-    /// never `Retry`. It takes no memory.
+    /// lock back. `Done` once the lock is given back; `ends_raise_once` of `job_laws` says
+    /// what it makes sure of. `Wait` where the lock's word isn't 0; never `Retry`. It takes no memory.
     pub fn turn<S: Stepper>(&self, s: &mut S, note: u64) -> Turn<()>
         requires next { EndsNext note (S.seat s.old).hand }
         requires reserved { 0 < (S.seat s.old).room }
         ensures turned { TurnsEnd result note (S.seat s.old) (S.seat s.new) }
-        ensures room { KeepsRoom (S.seat s.old) (S.seat s.new) }
-        ensures same { ((S.seat s.new).actor ≡ (S.seat s.old).actor) × (S.frame s.new ≡ S.frame s.old) }
+        ensures keeps { KeepsSeat (S.seat s.old) (S.seat s.new) (S.frame s.old) (S.frame s.new) }
     {
         let Some(place) = place_of(s.hand()) else {
             unreachable!()

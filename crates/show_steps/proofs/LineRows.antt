@@ -15,7 +15,7 @@ use Rattle.spte_words.specs.declared.area.Area.{Area}
 use Rattle.spte_words.specs.declared.area.Area.TheVariants as area
 use Rattle.spte_words.specs.Areas.{number_of}
 use Rattle.step_text.specs.declared.row.Row.{Row}
-use Rattle.weave_engine.specs.Marks.{Mark, Made, Begins, Rounds, Over}
+use Rattle.turn_loops.specs.Marks.{Mark, Made, Begins, Rounds, Over}
 use Rattle.show_steps.specs.Laws.{each_turn, next_of, rows_made, rows_told}
 use Rattle.show_steps.specs.Lines.{Entry, Turns, Text, entries, goes_on, is_next_word, joined, with_more}
 use Rattle.show_steps.specs.Rows.{ended_text, place_in, role_shown, row_of, turn_in}

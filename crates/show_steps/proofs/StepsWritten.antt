@@ -16,7 +16,7 @@ use Rattle.step_text.specs.declared.row.Row.{Row}
 use Rattle.tdp_io.specs.Ends.{AppendsPrefix}
 use Rattle.tdp_io.specs.declared.sink.Stop.{Stop}
 use Rattle.tdp_io.specs.declared.sink.Stop.TheVariants.{Failed, NoMemory as Full}
-use Rattle.weave_engine.specs.Marks.{Mark, Over, turns_from}
+use Rattle.turn_loops.specs.Marks.{Mark, Over, turns_from}
 use Rattle.weave_engine.specs.Printed.{PrintsBy, PrintsReplay, PrintsReplayed, PrintsUntil, PrintsWeave, ReplayPrinted}
 use Rattle.weave_engine.specs.PrinterLaws.{over_append}
 use Rattle.weave_engine.specs.declared.ran.How.{How}

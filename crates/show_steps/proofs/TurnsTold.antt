@@ -20,9 +20,9 @@ use Rattle.tdp_io.specs.Ends.{AppendsPrefix, WroteFaults, is_failed}
 use Rattle.tdp_io.specs.declared.sink.Stop.{Stop}
 use Rattle.tdp_io.specs.declared.sink.Stop.TheVariants.{NoMemory}
 use Rattle.weave_engine.specs.AnswerTexts.{ends_over}
-use Rattle.weave_engine.specs.Given.{given_in, told_in}
-use Rattle.weave_engine.specs.Marks.{Mark, Made}
-use Rattle.weave_engine.specs.Turned.{IsTurnOf, MakesTurn, turn_text}
+use Rattle.turn_loops.specs.Given.{given_in, told_in}
+use Rattle.turn_loops.specs.Marks.{Mark, Made}
+use Rattle.turn_loops.specs.Turned.{IsTurnOf, MakesTurn, turn_text}
 use Rattle.weave_engine.specs.Writes.{Buffers}
 use Rattle.show_steps.specs.Lines.{Entry, Turns, Text, PutsEntry, after_fills, coming_text, entries, fills_text, joined, lines_text}
 use Rattle.show_steps.specs.PutLaws.{longer, none_written}

@@ -2,7 +2,7 @@
 use Rattle.std.specs.Prelude.{◌≡◌, ◌+◌, ℕ, zero, suc, List, [], ◌∷◌, ◌++◌}
 use Rattle.core_views.specs.declared.sizes.Sizes.{Sizes}
 use Rattle.step_text.specs.declared.row.Row.{Row}
-use Rattle.weave_engine.specs.Marks.{Mark, Made, Begins, Rounds, Over}
+use Rattle.turn_loops.specs.Marks.{Mark, Made, Begins, Rounds, Over}
 use Rattle.show_steps.specs.Lines.{Entry, Turns, Text, entries}
 use Rattle.show_steps.specs.Rows.{row_of}
 

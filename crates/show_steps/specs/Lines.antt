@@ -11,8 +11,8 @@ use Rattle.step_text.specs.declared.ending.Ending.{Ending}
 use Rattle.step_text.specs.declared.ending.Ending.TheVariants.{GoesOn}
 use Rattle.step_text.specs.declared.row.Row.{Row}
 use Rattle.step_text.specs.Rows.{item_text, row_text, rounds_text}
-use Rattle.weave_engine.specs.Marks.{Mark, Made, Begins, Rounds, Over}
-use Rattle.weave_engine.specs.Weaves.{open_text}
+use Rattle.turn_loops.specs.Marks.{Mark, Made, Begins, Rounds, Over}
+use Rattle.turn_loops.specs.Weaves.{open_text}
 use Rattle.show_steps.specs.Rows.{ended_text, row_of, turn_in}
 
 -- how many words a page of the area has: of the pool, of a frame; the words of other areas are in no page

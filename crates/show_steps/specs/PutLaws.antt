@@ -10,7 +10,7 @@ use Rattle.tdp_io.specs.Ends.{AppendsPrefix, WroteFaults}
 use Rattle.tdp_io.specs.declared.sink.Stop.{Stop}
 use Rattle.tdp_io.specs.declared.sink.Stop.TheVariants.{NoMemory}
 use Rattle.weave_engine.specs.AnswerTexts.{ends_over}
-use Rattle.weave_engine.specs.Marks.{Mark}
+use Rattle.turn_loops.specs.Marks.{Mark}
 use Rattle.weave_engine.specs.PrinterLaws.{over_append}
 use Rattle.show_steps.specs.Lines.{coming_text}
 use Rattle.show_steps.specs.Puts.{MayPrint, Printed, PutsSteps, StopsSteps}

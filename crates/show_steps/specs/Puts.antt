@@ -7,7 +7,7 @@ use Rattle.step_text.specs.declared.row.Row.{Row}
 use Rattle.tdp_io.specs.Ends.{AppendsPrefix, WroteFaults, is_failed}
 use Rattle.tdp_io.specs.declared.sink.Stop.{Stop}
 use Rattle.weave_engine.specs.AnswerTexts.{ends_over}
-use Rattle.weave_engine.specs.Marks.{Mark}
+use Rattle.turn_loops.specs.Marks.{Mark}
 use Rattle.show_steps.specs.Lines.{coming_text}
 
 -- what is known of a printer: what its sink was given, whether and how often writing failed; the text that waits, the stores that may

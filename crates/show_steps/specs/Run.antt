@@ -12,9 +12,9 @@ use Rattle.mmu_core.specs.machine.Machine.{World}
 use Rattle.tdp_io.specs.Ends.{AppendsPrefix}
 use Rattle.trace_reader.specs.declared.reason.Reason.{Reason}
 use Rattle.trace_reader.specs.Reading.{reading}
-use Rattle.weave_engine.specs.Marks.{Mark, Over, turns_from}
-use Rattle.weave_engine.specs.Replays.{Replays}
-use Rattle.weave_engine.specs.Weaves.{WeavesAll, WeavesPart, WeavesSoFar}
+use Rattle.turn_loops.specs.Marks.{Mark, Over, turns_from}
+use Rattle.turn_loops.specs.Replays.{Replays}
+use Rattle.turn_loops.specs.Weaves.{WeavesAll, WeavesPart, WeavesSoFar}
 use Rattle.show_steps.specs.Lines.{steps_text}
 use Rattle.show_steps.specs.Output.{usage_text}
 use Rattle.show_steps.specs.declared.command.Command.{Command}

@@ -3,12 +3,12 @@ ghost use Rattle.std.specs.Prelude.{◌≡◌, ◌++◌, [], IfOk, None, OnOk, s
 ghost use Rattle.std.specs.Option.{option_copied};
 ghost use Rattle.step_text.specs.Endings.{ending_text};
 ghost use Rattle.step_text.specs.Rows.{item_text, rounds_text};
-ghost use Rattle.weave_engine.specs.Weaves.{open_text};
+ghost use Rattle.turn_loops.specs.Weaves.{open_text};
 ghost use Rattle.core_views.specs.Actors.{is_same};
 ghost use Rattle.show_steps.specs.Lines.{IsTold, PutsEntry, Turns, fills_text, goes_on, is_next_word, page_words};
 
 use core_views::{Actor, Item, Line, NoMemory, Sizes, StepKind};
-use spte_words::Area;
+use spte_words::{Area, ENTRIES};
 use step_text::{Ending, Row, push_item, push_rounds, push_row};
 use weave_engine::push_open;
 
@@ -17,7 +17,7 @@ fn page_words(sizes: &Sizes, area: Area) -> u64
     ensures { result ≡ page_words sizes.now area }
 {
     match area {
-        Area::Pool => 512,
+        Area::Pool => ENTRIES,
         Area::Content => sizes.words.max(1),
         _ => 1,
     }

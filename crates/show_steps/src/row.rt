@@ -12,7 +12,7 @@ ghost use Rattle.show_steps.specs.Rows.{cause_text, is_on_entry, place_in, role_
 
 use core_views::{Cause, Sizes, StepKind};
 use part_steps::map_of;
-use spte_words::{Area, WordMap};
+use spte_words::{Area, ENTRIES, WordMap};
 use step_seats::{MachineOwner, PlainMachine, next_kind, rests};
 use step_text::{Ending, Row, WordPlace, place_of};
 
@@ -45,11 +45,11 @@ fn role_of(machine: &PlainMachine, sizes: &Sizes, at: WordPlace) -> u64
     requires { AreSizes sizes.now }
     ensures { result ≡ role_of sizes.now (world_in machine.now) at }
 {
-    let page = at.index / 512;
-    if at.area.number() != Area::Pool.number() || page as u64 >= sizes.pool {
+    let page = at.index as u64 / ENTRIES;
+    if at.area.number() != Area::Pool.number() || page >= sizes.pool {
         return 0;
     }
-    machine.word(map_of(sizes).word_of(Area::Role, page as u64))
+    machine.word(map_of(sizes).word_of(Area::Role, page))
 }
 
 // The role that says what an entry's words mean.

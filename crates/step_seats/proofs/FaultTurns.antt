@@ -26,12 +26,12 @@ use Rattle.part_steps.specs.PartBounds.{PartRests}
 use Rattle.part_steps.specs.PartTasks.{own_index, part_kind}
 use Rattle.part_steps.specs.PartSteps.{PartNeeds}
 use Rattle.mmu_core.specs.alone.LineAlone.{hand_left}
-use Rattle.mmu_core.specs.lines.AccessSteps.{access_note, behind_fault}
+use Rattle.mmu_core.specs.forms.access.AccessSteps.{access_note, behind_fault}
 use Rattle.mmu_core.specs.lines.Forms.{KnowsPart, outcome_at, steps_left}
-use Rattle.mmu_core.specs.lines.FaultKnows.{FaultEndKnows, FaultKnows, KnowsNext}
-use Rattle.mmu_core.specs.lines.FaultLaws.{CanAnswer}
-use Rattle.mmu_core.specs.lines.FaultLeft.{fault_left, next_left}
-use Rattle.mmu_core.specs.lines.FaultSteps.{fault_next, fault_part}
+use Rattle.mmu_core.specs.forms.access.FaultKnows.{FaultEndKnows, FaultKnows, KnowsNext}
+use Rattle.mmu_core.specs.forms.access.FaultLaws.{CanAnswer}
+use Rattle.mmu_core.specs.forms.access.FaultLeft.{fault_left, next_left}
+use Rattle.mmu_core.specs.forms.access.FaultSteps.{fault_next, fault_part}
 use Rattle.mmu_core.specs.lines.PartWaits.{part_seen, part_waits}
 use Rattle.mmu_core.specs.lines.Rests.{Rests}
 use Rattle.mmu_core.specs.machine.Enabled.{mmu}
@@ -43,8 +43,8 @@ use Rattle.mmu_core.specs.machine.Turns.{line_of}
 use Rattle.mmu_core.specs.machine.View.{word_in}
 use Rattle.mmu_core.specs.machine.Worlds.{HandReached}
 use Rattle.mmu_core.proofs.invariant.HandLeft.{left_there}
-use Rattle.mmu_core.proofs.lines.FaultFalls.{fault_falls}
-use Rattle.mmu_core.proofs.lines.FaultKnown.{fault_known, parts_answer}
+use Rattle.mmu_core.proofs.forms.access.FaultFalls.{fault_falls}
+use Rattle.mmu_core.proofs.forms.access.FaultKnown.{fault_known, parts_answer}
 use Rattle.mmu_core.proofs.lines.KnowsKept.{access_vcpu}
 use Rattle.mmu_core.proofs.lines.KnowsStay.{reached_knows}
 use Rattle.mmu_core.proofs.machine.HandAfter.{next_same}

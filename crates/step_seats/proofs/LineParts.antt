@@ -9,7 +9,7 @@ use Rattle.part_steps.specs.declared.task.Task.{Task}
 use Rattle.part_steps.specs.PartTasks.{own_index, part_kind, part_task}
 use Rattle.part_steps.specs.PartSteps.{PartNeeds}
 use Rattle.part_steps.specs.Tasks.{kind_of_task, map_of}
-use Rattle.mmu_core.specs.lines.AccessSteps.{task_by}
+use Rattle.mmu_core.specs.forms.access.AccessSteps.{task_by}
 use Rattle.mmu_core.specs.lines.Forms.{note_at, part_at, RestsAt}
 use Rattle.mmu_core.specs.lines.PartAt.{touch_at}
 use Rattle.mmu_core.specs.lines.Rests.{Rests}

@@ -22,8 +22,8 @@ use Rattle.core_views.specs.Held.{Held}
 use Rattle.core_views.specs.Slots.{is_write}
 use Rattle.core_views.specs.SlotSets.{MemorySlots}
 use Rattle.mmu_core.specs.alone.LineAlone.{line_waits}
-use Rattle.mmu_core.specs.lines.AccessSteps.{behind_fault}
-use Rattle.mmu_core.specs.lines.FaultSteps.{fault_next}
+use Rattle.mmu_core.specs.forms.access.AccessSteps.{behind_fault}
+use Rattle.mmu_core.specs.forms.access.FaultSteps.{fault_next}
 use Rattle.mmu_core.specs.lines.Forms.{RestsAt, first_place, outcome_at}
 use Rattle.mmu_core.specs.lines.Rests.{Rests}
 use Rattle.mmu_core.specs.machine.Enabled.{Enabled}

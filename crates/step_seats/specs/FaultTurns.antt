@@ -13,9 +13,9 @@ use Rattle.core_views.specs.declared.trace.Command.TheVariants.{Access}
 use Rattle.core_views.specs.declared.trace.Op.{Op}
 use Rattle.core_views.specs.Held.{Held}
 use Rattle.core_views.specs.Slots.{is_write}
-use Rattle.mmu_core.specs.lines.AccessSteps.{access_note, behind_fault}
-use Rattle.mmu_core.specs.lines.FaultKnows.{FaultEndKnows, FaultKnows, KnowsNext}
-use Rattle.mmu_core.specs.lines.FaultSteps.{fault_next, fault_part}
+use Rattle.mmu_core.specs.forms.access.AccessSteps.{access_note, behind_fault}
+use Rattle.mmu_core.specs.forms.access.FaultKnows.{FaultEndKnows, FaultKnows, KnowsNext}
+use Rattle.mmu_core.specs.forms.access.FaultSteps.{fault_next, fault_part}
 use Rattle.mmu_core.specs.lines.PartWaits.{part_seen, part_waits}
 use Rattle.mmu_core.specs.machine.MayMake.{MayMake}
 use Rattle.mmu_core.specs.machine.Outcomes.{place_after}

@@ -21,9 +21,9 @@ use Rattle.core_views.specs.Held.{Held}
 use Rattle.core_views.specs.Slots.{is_write}
 use Rattle.mmu_core.specs.declared.outcome.Outcome.{Outcome}
 use Rattle.mmu_core.specs.declared.outcome.Outcome.TheVariants.{Goes, Ends}
-use Rattle.mmu_core.specs.lines.AccessSteps.{behind_fault}
+use Rattle.mmu_core.specs.forms.access.AccessSteps.{behind_fault}
 use Rattle.mmu_core.specs.machine.Enabled.{Enabled}
-use Rattle.mmu_core.specs.lines.FaultSteps.{fault_next}
+use Rattle.mmu_core.specs.forms.access.FaultSteps.{fault_next}
 use Rattle.mmu_core.specs.alone.LineAlone.{line_waits}
 use Rattle.mmu_core.specs.lines.Forms.{outcome_at}
 use Rattle.mmu_core.specs.machine.Steps.{next, place_at}

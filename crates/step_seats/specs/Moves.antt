@@ -27,6 +27,12 @@ Adds None actor kind after = after ≡ None
 abbrev pub KeepsRoom : Seat → Seat → Type 0
 KeepsRoom before after = length after.hand.answers + after.room ≡ length before.hand.answers + before.room
 
+-- A step leaves the seat's actor and its frame as they were, and an answer takes the room of one.
+pub record KeepsSeat {F : Type 0} (before after : Seat) (frame_before frame_after : F) : Type 0 where
+  pub room : KeepsRoom before after
+  pub actor : after.actor ≡ before.actor
+  pub frame : frame_after ≡ frame_before
+
 -- A line that is under way has the room for its answer.
 abbrev pub HasItsRoom : Held → ℕ → Type 0
 HasItsRoom hand room = IsUnderWay hand.state.place → 0 < room

@@ -2,7 +2,7 @@
 ghost use Rattle.std.specs.Prelude.{◌≡◌};
 ghost use Rattle.core_views.specs.declared.place.AccessPlace.TheVariants.{Fault};
 ghost use Rattle.core_views.specs.declared.place.Place.TheVariants as Place;
-ghost use Rattle.mmu_core.specs.lines.AccessSteps.{access_note};
+ghost use Rattle.mmu_core.specs.forms.access.AccessSteps.{access_note};
 ghost use Rattle.mmu_core.specs.machine.Steps.{place_at};
 ghost use Rattle.mmu_core.specs.machine.Worlds.{HandReached};
 ghost use Rattle.step_seats.specs.FaultTurns.{IsAtFaultPlace, StandsInFault, is_fast_place};

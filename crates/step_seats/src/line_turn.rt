@@ -4,7 +4,7 @@ ghost use Rattle.std.specs.Prelude.{◌≡◌, ◌≢◌, ◌<◌, IfOk, OnErr, 
 ghost use Rattle.core_views.specs.declared.place.Place.TheVariants.{Between};
 ghost use Rattle.mmu_core.specs.machine.Turns.{IsSameHand, line_of};
 ghost use Rattle.step_seats.specs.LineTurns.{Says, TurnsLine, cause_at, turn_told};
-ghost use Rattle.step_seats.specs.Moves.{KeepsRoom};
+ghost use Rattle.step_seats.specs.Moves.{KeepsSeat, KeepsRoom};
 
 use crate::{Stepper, Turn};
 use core_views::{AccessPlace, Cause, FaultEnd, FaultPlace, NoMemory, Place};
@@ -27,8 +27,7 @@ fn make_turn<S: Stepper>(s: &mut S) -> Turn<()>
     requires left { length (S.seat s.old).hand.answers < length (S.seat s.old).hand.lines }
     requires reserved { 0 < (S.seat s.old).room }
     ensures turns { TurnsLine (turn_told result (S.seat s.old).hand (S.seat s.new).hand) (S.seat s.old) (S.seat s.new) }
-    ensures room { KeepsRoom (S.seat s.old) (S.seat s.new) }
-    ensures same { ((S.seat s.new).actor ≡ (S.seat s.old).actor) × (S.frame s.new ≡ S.frame s.old) }
+    ensures keeps { KeepsSeat (S.seat s.old) (S.seat s.new) (S.frame s.old) (S.frame s.new) }
 {
     let hand = s.hand();
     rests(hand);
@@ -59,8 +58,7 @@ pub fn turn_line<S: Stepper>(s: &mut S) -> Turn<()>
     ensures turns { TurnsLine (turn_told result (S.seat s.old).hand (S.seat s.new).hand) (S.seat s.old) (S.seat s.new) }
     ensures says { Says (turn_told result (S.seat s.old).hand (S.seat s.new).hand) (line_of (S.seat s.old).hand) (S.seat s.old).hand (S.seat s.new).hand }
     ensures hand { IsSameHand (S.seat s.old).hand (S.seat s.new).hand }
-    ensures room { KeepsRoom (S.seat s.old) (S.seat s.new) }
-    ensures same { ((S.seat s.new).actor ≡ (S.seat s.old).actor) × (S.frame s.new ≡ S.frame s.old) }
+    ensures keeps { KeepsSeat (S.seat s.old) (S.seat s.new) (S.frame s.old) (S.frame s.new) }
 {
     make_turn(s)
 }

@@ -1,6 +1,6 @@
 ghost use Rattle.std.specs.Prelude.{◌≡◌, ◌<◌, IfSome};
 ghost use Rattle.mmu_core.specs.machine.MayMake.{MayMake};
-ghost use Rattle.step_seats.specs.Moves.{KeepsRoom};
+ghost use Rattle.step_seats.specs.Moves.{KeepsSeat};
 ghost use Rattle.step_seats.specs.PartTurns.{MadePart};
 ghost use Rattle.step_seats.specs.Where.{HasHand};
 
@@ -16,8 +16,7 @@ pub fn make_part<S: Stepper>(s: &mut S, step: PartStep, note: u64) -> u64
     requires reserved { 0 < (S.seat s.old).room }
     ensures made { MadePart step note result (S.seat s.old) (S.seat s.new) }
     ensures has { IfSome (S.seat s.new).tells.world (HasHand (S.seat s.new).actor (S.seat s.new).hand) }
-    ensures room { KeepsRoom (S.seat s.old) (S.seat s.new) }
-    ensures same { ((S.seat s.new).actor ≡ (S.seat s.old).actor) × (S.frame s.new ≡ S.frame s.old) }
+    ensures keeps { KeepsSeat (S.seat s.old) (S.seat s.new) (S.frame s.old) (S.frame s.new) }
 {
     let hand = s.hand();
     part_rests(hand);

@@ -2,7 +2,7 @@ ghost use Rattle.std.specs.Prelude.{◌≡◌, ◌<◌, IfSome, OnErr, OnOk};
 ghost use Rattle.mmu_core.specs.machine.Enabled.{Enabled};
 ghost use Rattle.mmu_core.specs.machine.Worlds.{HandReached};
 ghost use Rattle.step_seats.specs.Acts.{Acts};
-ghost use Rattle.step_seats.specs.Moves.{HasItsRoom, KeepsRoom};
+ghost use Rattle.step_seats.specs.Moves.{HasItsRoom, KeepsSeat};
 ghost use Rattle.step_seats.specs.Where.{HasHand};
 
 use core_views::{Kind, NoMemory};
@@ -28,8 +28,7 @@ pub trait Stepper {
         requires enabled { Enabled (seat self.old).hand kind }
         requires reserved { 0 < (seat self.old).room }
         ensures acts { Acts kind result (seat self.old) (seat self.new) }
-        ensures room { KeepsRoom (seat self.old) (seat self.new) }
-        ensures same { ((seat self.new).actor ≡ (seat self.old).actor) × (frame self.new ≡ frame self.old) };
+        ensures keeps { KeepsSeat (seat self.old) (seat self.new) (frame self.old) (frame self.new) };
 
     /// The hand as it is. What its line needs was taken as this line began.
     fn hand(&self) -> &Hand

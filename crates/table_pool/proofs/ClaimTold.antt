@@ -14,7 +14,7 @@ use Rattle.part_steps.specs.PartTasks.{own_index, part_task}
 use Rattle.part_steps.specs.PartSteps.{PartNeeds}
 use Rattle.mmu_core.specs.declared.claim.FreeMap.{FreeMap}
 use Rattle.mmu_core.specs.invariant.PoolPart.{is_free}
-use Rattle.mmu_core.specs.lines.ClaimSteps.{claim_over, load_part, map_area, try_part}
+use Rattle.mmu_core.specs.orders.ClaimSteps.{claim_over, load_part, map_area, try_part}
 use Rattle.part_steps.specs.PageTopics.{is_won, tried, tried_bit}
 use Rattle.mmu_core.specs.machine.View.{answer_in, word_in}
 use Rattle.mmu_core.proofs.words.PoolBits.{page_free}

@@ -6,7 +6,7 @@ use Rattle.core_views.specs.declared.topics.Topics.{Topics}
 use Rattle.spte_words.specs.Bits.{has_bit}
 use Rattle.part_steps.specs.PageTopics.{is_won, tried_bit}
 use Rattle.part_steps.specs.PartTopics.{part_topics}
-use Rattle.mmu_core.specs.lines.ClaimSteps.{try_part}
+use Rattle.mmu_core.specs.orders.ClaimSteps.{try_part}
 use Rattle.mmu_core.specs.lines.PartWaits.{part_waits}
 use Rattle.step_seats.specs.PartTurns.{waits}
 use Rattle.step_seats.specs.declared.turn.Turn.{Turn}

@@ -21,7 +21,7 @@ use Rattle.part_steps.specs.Tasks.{map_of}
 use Rattle.mmu_core.specs.declared.claim.FreeMap.{FreeMap}
 use Rattle.mmu_core.specs.declared.claim.FreeMap.TheVariants.{Pages, Frames}
 use Rattle.mmu_core.specs.invariant.Scans.{OwnsNone}
-use Rattle.mmu_core.specs.lines.ClaimSteps.{claim_over, load_part, map_area, map_word, map_words, try_part}
+use Rattle.mmu_core.specs.orders.ClaimSteps.{claim_over, load_part, map_area, map_word, map_words, try_part}
 use Rattle.mmu_core.specs.machine.Steps.{has_line}
 use Rattle.part_steps.specs.PageTopics.{is_won, tried_bit}
 use Rattle.mmu_core.specs.machine.Worlds.{HandReached}

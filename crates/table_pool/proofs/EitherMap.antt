@@ -14,7 +14,7 @@ use Rattle.part_steps.specs.PartTopics.{part_topics}
 use Rattle.mmu_core.specs.declared.claim.FreeMap.{FreeMap}
 use Rattle.mmu_core.specs.declared.claim.FreeMap.TheVariants.{Pages, Frames}
 use Rattle.mmu_core.specs.invariant.Scans.{OwnsNone}
-use Rattle.mmu_core.specs.lines.ClaimSteps.{claim_over, load_part, map_area, map_words, try_part}
+use Rattle.mmu_core.specs.orders.ClaimSteps.{claim_over, load_part, map_area, map_words, try_part}
 use Rattle.mmu_core.specs.lines.PartWaits.{part_waits}
 use Rattle.mmu_core.specs.machine.View.{answer_in, words_after}
 use Rattle.mmu_core.proofs.machine.Columns.{upd_same}

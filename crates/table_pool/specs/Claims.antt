@@ -11,7 +11,7 @@ use Rattle.part_steps.specs.declared.part_step.PartStep.{PartStep}
 use Rattle.mmu_core.specs.machine.Machine.{World}
 use Rattle.part_steps.specs.PartTopics.{part_topics}
 use Rattle.mmu_core.specs.declared.claim.FreeMap.{FreeMap}
-use Rattle.mmu_core.specs.lines.ClaimSteps.{claim_left, claim_over, claim_part, map_area, map_word, map_words, tries_one, try_part}
+use Rattle.mmu_core.specs.orders.ClaimSteps.{claim_left, claim_over, claim_part, map_area, map_word, map_words, tries_one, try_part}
 use Rattle.mmu_core.specs.invariant.Scans.{OwnsNone}
 use Rattle.part_steps.specs.Tasks.{map_of}
 use Rattle.part_steps.specs.PageTopics.{tried_bit}

@@ -11,7 +11,7 @@ use Rattle.mmu_core.specs.machine.View.{word_in}
 use Rattle.mmu_core.specs.invariant.PoolPart.{is_free}
 use Rattle.mmu_core.specs.declared.claim.FreeMap.{FreeMap}
 use Rattle.mmu_core.specs.declared.claim.FreeMap.TheVariants.{Pages, Frames}
-use Rattle.mmu_core.specs.lines.ClaimSteps.{map_area}
+use Rattle.mmu_core.specs.orders.ClaimSteps.{map_area}
 
 -- what is held with this claim
 abbrev pub with_claim : FreeMap → MapClaim → Topics → Topics

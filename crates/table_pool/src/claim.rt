@@ -3,11 +3,11 @@ ghost use Rattle.core_views.specs.Sizes.{AreSizes};
 ghost use Rattle.part_steps.specs.PartTopics.{part_topics};
 ghost use Rattle.mmu_core.specs.declared.claim.FreeMap.TheVariants.{Pages};
 ghost use Rattle.mmu_core.specs.invariant.Scans.{OwnsNone};
-ghost use Rattle.mmu_core.specs.lines.ClaimSteps.{claim_over, map_words};
+ghost use Rattle.mmu_core.specs.orders.ClaimSteps.{claim_over, map_words};
 ghost use Rattle.mmu_core.specs.machine.MayMake.{MayMake};
 ghost use Rattle.mmu_core.specs.machine.Steps.{has_line};
 ghost use Rattle.mmu_core.specs.machine.Worlds.{HandReached};
-ghost use Rattle.step_seats.specs.Moves.{KeepsRoom};
+ghost use Rattle.step_seats.specs.Moves.{KeepsSeat};
 ghost use Rattle.step_seats.specs.PartTurns.{TurnsPart, waits};
 ghost use Rattle.step_seats.specs.declared.turn.Turn.TheVariants.{More, Done};
 ghost use Rattle.table_pool.specs.Maps.{got_in};
@@ -141,8 +141,7 @@ impl Claim {
         ensures stands { SawWhatStands self.old note (S.seat s.old) (S.seat s.new) }
         ensures alone { GoesOnWhereSawStands result self.old note (S.seat s.old) (S.seat s.new) }
         ensures nearer { result ≡ More → IsNearer self.old self.new (S.seat s.old) (S.seat s.new) }
-        ensures room { KeepsRoom (S.seat s.old) (S.seat s.new) }
-        ensures same { ((S.seat s.new).actor ≡ (S.seat s.old).actor) × (S.frame s.new ≡ S.frame s.old) }
+        ensures keeps { KeepsSeat (S.seat s.old) (S.seat s.new) (S.frame s.old) (S.frame s.new) }
     {
         part_rests(s.hand());
         let sizes = s.hand().progress().sizes;

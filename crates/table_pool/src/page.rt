@@ -2,22 +2,20 @@ ghost use Rattle.std.specs.Prelude.{◌≡◌, ◌<◌, None};
 ghost use Rattle.mmu_core.specs.machine.MayMake.{MayMake};
 ghost use Rattle.part_steps.specs.PartTasks.{page_owned, words_filled};
 ghost use Rattle.part_steps.specs.declared.part_step.PartStep.TheVariants as part;
-ghost use Rattle.step_seats.specs.Moves.{KeepsRoom};
+ghost use Rattle.step_seats.specs.Moves.{KeepsSeat};
 ghost use Rattle.step_seats.specs.PartTurns.{MadePart, MakesPart, WherePartMade};
 ghost use Rattle.step_seats.specs.declared.turn.Turn.TheVariants.{More, Done};
 ghost use Rattle.table_pool.specs.Pages.{FillTurn, FillsWhereMade, FreesPage, GivesPage, fill_step, words_left};
 
 use part_steps::PartStep;
+use spte_words::ENTRIES;
 use step_seats::{Stepper, Turn, make_part, part_kind, part_rests, words_filled};
-
-/// How many words of a page are filled before its role.
-const WORDS: u64 = 512;
 
 // The step that fills a page of which so many words are filled.
 fn fill_step(filled: u64, value: u64) -> PartStep
     ensures { result ≡ fill_step filled value }
 {
-    if filled == WORDS {
+    if filled == ENTRIES {
         PartStep::Role(value)
     } else {
         PartStep::Fill(value)
@@ -30,8 +28,7 @@ fn fill_next<S: Stepper>(s: &mut S, value: u64, note: u64)
     requires may { MayMake (fill_step (words_filled (S.seat s.old).hand.topics.owned) value) note (S.seat s.old).hand }
     requires reserved { 0 < (S.seat s.old).room }
     ensures made { MadePart (fill_step (words_filled (S.seat s.old).hand.topics.owned) value) note value (S.seat s.old) (S.seat s.new) }
-    ensures room { KeepsRoom (S.seat s.old) (S.seat s.new) }
-    ensures same { ((S.seat s.new).actor ≡ (S.seat s.old).actor) × (S.frame s.new ≡ S.frame s.old) }
+    ensures keeps { KeepsSeat (S.seat s.old) (S.seat s.new) (S.frame s.old) (S.frame s.new) }
 {
     let hand = s.hand();
     part_rests(hand);
@@ -68,12 +65,11 @@ impl Fill {
         ensures writes { FillsWhereMade self.old.page value note (S.seat s.old) (S.seat s.new) }
         ensures page { self.new ≡ self.old }
         ensures nearer { result ≡ More → words_left (S.seat s.new).hand.topics < words_left (S.seat s.old).hand.topics }
-        ensures room { KeepsRoom (S.seat s.old) (S.seat s.new) }
-        ensures same { ((S.seat s.new).actor ≡ (S.seat s.old).actor) × (S.frame s.new ≡ S.frame s.old) }
+        ensures keeps { KeepsSeat (S.seat s.old) (S.seat s.new) (S.frame s.old) (S.frame s.new) }
     {
         let filled = words_filled(s.hand().topics().owned);
         fill_next(s, value, note);
-        if filled == WORDS {
+        if filled == ENTRIES {
             Turn::Done(())
         } else {
             Turn::More
@@ -105,8 +101,7 @@ impl Give {
         ensures turned { GivesPage result (S.seat s.old).hand.topics (S.seat s.new).hand.topics }
         ensures frees { WherePartMade part.Give note (S.seat s.old) (S.seat s.new) (FreesPage (S.seat s.old).hand.state.sizes self.old.page) }
         ensures page { self.new ≡ self.old }
-        ensures room { KeepsRoom (S.seat s.old) (S.seat s.new) }
-        ensures same { ((S.seat s.new).actor ≡ (S.seat s.old).actor) × (S.frame s.new ≡ S.frame s.old) }
+        ensures keeps { KeepsSeat (S.seat s.old) (S.seat s.new) (S.frame s.old) (S.frame s.new) }
     {
         let _ = make_part(s, PartStep::Give, note);
         Turn::Done(())

@@ -1,7 +1,7 @@
 ghost use Rattle.std.specs.Prelude.{◌≡◌, ◌<◌};
 ghost use Rattle.mmu_core.specs.machine.MayMake.{MayMake};
 ghost use Rattle.part_steps.specs.declared.part_step.PartStep.TheVariants.{Protect, Sweep, Zap};
-ghost use Rattle.step_seats.specs.Moves.{KeepsRoom};
+ghost use Rattle.step_seats.specs.Moves.{KeepsSeat};
 ghost use Rattle.step_seats.specs.PartTurns.{MadePart};
 ghost use Rattle.tdp_walk.specs.Sweeps.{ProtectsWhereMade, SweepsWhereMade, ZapsWhereMade, protected, swept, zapped};
 
@@ -19,8 +19,7 @@ pub fn sweep_entry<S: Stepper>(s: &mut S, gfn: u64, note: u64) -> u64
     ensures step { MadePart (Sweep gfn) note result (S.seat s.old) (S.seat s.new) }
     ensures walk { (S.seat s.new).hand.topics ≡ swept gfn result (S.seat s.old).hand.topics }
     ensures told { SweepsWhereMade gfn result note (S.seat s.old) (S.seat s.new) }
-    ensures room { KeepsRoom (S.seat s.old) (S.seat s.new) }
-    ensures same { ((S.seat s.new).actor ≡ (S.seat s.old).actor) × (S.frame s.new ≡ S.frame s.old) }
+    ensures keeps { KeepsSeat (S.seat s.old) (S.seat s.new) (S.frame s.old) (S.frame s.new) }
 {
     make_part(s, PartStep::Sweep(gfn), note)
 }
@@ -36,8 +35,7 @@ pub fn zap<S: Stepper>(s: &mut S, gfn: u64, note: u64) -> u64
     ensures step { MadePart (Zap gfn) note result (S.seat s.old) (S.seat s.new) }
     ensures walk { (S.seat s.new).hand.topics ≡ zapped gfn (S.seat s.old).hand.topics }
     ensures told { ZapsWhereMade gfn result note (S.seat s.old) (S.seat s.new) }
-    ensures room { KeepsRoom (S.seat s.old) (S.seat s.new) }
-    ensures same { ((S.seat s.new).actor ≡ (S.seat s.old).actor) × (S.frame s.new ≡ S.frame s.old) }
+    ensures keeps { KeepsSeat (S.seat s.old) (S.seat s.new) (S.frame s.old) (S.frame s.new) }
 {
     make_part(s, PartStep::Zap(gfn), note)
 }
@@ -53,8 +51,7 @@ pub fn forbid_writes<S: Stepper>(s: &mut S, gfn: u64, note: u64) -> u64
     ensures step { MadePart (Protect gfn) note result (S.seat s.old) (S.seat s.new) }
     ensures walk { (S.seat s.new).hand.topics ≡ protected gfn (S.seat s.old).hand.topics }
     ensures told { ProtectsWhereMade gfn result note (S.seat s.old) (S.seat s.new) }
-    ensures room { KeepsRoom (S.seat s.old) (S.seat s.new) }
-    ensures same { ((S.seat s.new).actor ≡ (S.seat s.old).actor) × (S.frame s.new ≡ S.frame s.old) }
+    ensures keeps { KeepsSeat (S.seat s.old) (S.seat s.new) (S.frame s.old) (S.frame s.new) }
 {
     make_part(s, PartStep::Protect(gfn), note)
 }

@@ -2,7 +2,7 @@ ghost use Rattle.std.specs.Prelude.{◌≡◌, ◌<◌, ◌^◌, true, false};
 ghost use Rattle.mmu_core.specs.machine.MayMake.{MayMake};
 ghost use Rattle.part_steps.specs.declared.part_step.PartStep.TheVariants.{WalkAnew};
 ghost use Rattle.part_steps.specs.StayTopics.{may_walk};
-ghost use Rattle.step_seats.specs.Moves.{KeepsRoom};
+ghost use Rattle.step_seats.specs.Moves.{KeepsSeat};
 ghost use Rattle.step_seats.specs.PartTurns.{MadePart, MakesPart};
 ghost use Rattle.step_seats.specs.declared.turn.Turn.TheVariants.{More};
 ghost use Rattle.tdp_walk.specs.Walks.{FindsRoot, Looks, WalksAnewWhereMade, WasNextWord, walk_turns, walk_step, walked_anew};
@@ -56,8 +56,7 @@ impl Walk {
         ensures word { WasNextWord self.old note (S.seat s.old) (S.seat s.new) }
         ensures goes_on { self.new ≡ record { gfn = self.old.gfn; rooted = true } }
         ensures nearer { result ≡ More → walk_turns self.new (S.seat s.new).hand.topics.walk < walk_turns self.old (S.seat s.old).hand.topics.walk }
-        ensures room { KeepsRoom (S.seat s.old) (S.seat s.new) }
-        ensures same { ((S.seat s.new).actor ≡ (S.seat s.old).actor) × (S.frame s.new ≡ S.frame s.old) }
+        ensures keeps { KeepsSeat (S.seat s.old) (S.seat s.new) (S.frame s.old) (S.frame s.new) }
     {
         if !self.rooted {
             let _ = make_part(s, PartStep::Root, note);
@@ -86,8 +85,7 @@ pub fn walk_anew<S: Stepper>(s: &mut S, gfn: u64, note: u64) -> u64
     ensures step { MadePart (WalkAnew gfn) note result (S.seat s.old) (S.seat s.new) }
     ensures walk { (S.seat s.new).hand.topics ≡ walked_anew gfn result (S.seat s.old).hand.topics }
     ensures told { WalksAnewWhereMade gfn result note (S.seat s.old) (S.seat s.new) }
-    ensures room { KeepsRoom (S.seat s.old) (S.seat s.new) }
-    ensures same { ((S.seat s.new).actor ≡ (S.seat s.old).actor) × (S.frame s.new ≡ S.frame s.old) }
+    ensures keeps { KeepsSeat (S.seat s.old) (S.seat s.new) (S.frame s.old) (S.frame s.new) }
 {
     make_part(s, PartStep::WalkAnew(gfn), note)
 }

@@ -8,7 +8,7 @@ use Rattle.mmu_core.specs.machine.Machine.{World}
 use Rattle.step_seats.specs.Moves.{world_of}
 use Rattle.weave_engine.specs.Pieces.{IsPrintedLine, LeavesFew, WritesMost}
 use Rattle.weave_engine.specs.Statuses.{status_by, status_how}
-use Rattle.weave_engine.specs.Weaves.{unfinished_text}
+use Rattle.turn_loops.specs.Weaves.{unfinished_text}
 use Rattle.weave_engine.specs.Writes.{ReplaysBy, WritesReplay}
 use Rattle.weave_engine.specs.Woven.{RanFaults, RoseBy, WritesBy, WritesWeave}
 use Rattle.weave_engine.specs.declared.ran.How.{How}

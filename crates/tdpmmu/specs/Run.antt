@@ -18,8 +18,8 @@ use Rattle.run_status.specs.declared.status.Status.{Status}
 use Rattle.run_status.specs.declared.status.Status.TheVariants.{Done, Usage, Refused, ReadFault, WriteFault, Unfinished, NoMemory}
 use Rattle.tdpmmu.specs.Output.{IsWrittenLine, check_text, usage_text}
 use Rattle.weave_engine.specs.Pieces.{LeavesFew}
-use Rattle.weave_engine.specs.Replays.{Replays, ReplaysUntil}
-use Rattle.weave_engine.specs.Weaves.{WeavesAll, WeavesPart, unfinished_text}
+use Rattle.turn_loops.specs.Replays.{Replays, ReplaysUntil}
+use Rattle.turn_loops.specs.Weaves.{WeavesAll, WeavesPart, unfinished_text}
 use Rattle.weave_engine.specs.Woven.{WeavesUntil}
 use Rattle.tdpmmu.specs.declared.command.Command.{Command}
 use Rattle.tdpmmu.specs.declared.command.Command.TheVariants.{Check, Replay, Weave, Live}

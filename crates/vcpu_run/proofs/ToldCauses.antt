@@ -18,8 +18,8 @@ use Rattle.core_views.specs.declared.trace.Command.TheVariants.{Access}
 use Rattle.core_views.specs.Held.{Held}
 use Rattle.core_views.specs.Slots.{is_write}
 use Rattle.mmu_core.specs.alone.LineAlone.{line_waits}
-use Rattle.mmu_core.specs.lines.FaultKnows.{FaultEndKnows, FaultKnows}
-use Rattle.mmu_core.specs.lines.FaultSteps.{fault_next}
+use Rattle.mmu_core.specs.forms.access.FaultKnows.{FaultEndKnows, FaultKnows}
+use Rattle.mmu_core.specs.forms.access.FaultSteps.{fault_next}
 use Rattle.mmu_core.specs.lines.Forms.{KnowsPart, RestsAt}
 use Rattle.mmu_core.specs.machine.Steps.{place_at}
 use Rattle.mmu_core.specs.machine.Turns.{line_of}

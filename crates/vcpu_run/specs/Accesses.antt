@@ -4,7 +4,7 @@ use Rattle.core_views.specs.declared.answer.Answer.TheVariants.{Mmio, HostFault,
 use Rattle.core_views.specs.declared.place.FaultEnd.TheVariants as end_of
 use Rattle.core_views.specs.Held.{Held}
 use Rattle.core_views.specs.Slots.{is_write}
-use Rattle.mmu_core.specs.lines.FaultKnows.{FaultEndKnows, HasCause}
+use Rattle.mmu_core.specs.forms.access.FaultKnows.{FaultEndKnows, HasCause}
 use Rattle.step_seats.specs.declared.turn.Turn.{Turn}
 use Rattle.step_seats.specs.declared.turn.Turn.TheVariants.{Retry, Done}
 use Rattle.vcpu_run.specs.declared.access.AccessJob.{AccessJob}

@@ -1,7 +1,7 @@
 ghost use Rattle.std.specs.Prelude.{◌≡◌, ◌<◌, length};
 ghost use Rattle.core_views.specs.declared.trace.Command.TheVariants.{Access};
 ghost use Rattle.mmu_core.specs.machine.Turns.{IsSameHand, line_of};
-ghost use Rattle.step_seats.specs.Moves.{KeepsRoom};
+ghost use Rattle.step_seats.specs.Moves.{KeepsSeat};
 ghost use Rattle.step_seats.specs.LineTurns.{Says, TurnsLine, turn_told};
 ghost use Rattle.vcpu_run.specs.Accesses.{HasItsCause};
 
@@ -33,8 +33,7 @@ impl AccessJob {
         ensures cause { HasItsCause (turn_told result (S.seat s.old).hand (S.seat s.new).hand) self (S.seat s.old).hand }
         ensures says { Says (turn_told result (S.seat s.old).hand (S.seat s.new).hand) (line_of (S.seat s.old).hand) (S.seat s.old).hand (S.seat s.new).hand }
         ensures hand { IsSameHand (S.seat s.old).hand (S.seat s.new).hand }
-        ensures room { KeepsRoom (S.seat s.old) (S.seat s.new) }
-        ensures same { ((S.seat s.new).actor ≡ (S.seat s.old).actor) × (S.frame s.new ≡ S.frame s.old) }
+        ensures keeps { KeepsSeat (S.seat s.old) (S.seat s.new) (S.frame s.old) (S.frame s.new) }
     {
         let hand = s.hand();
         rests(hand);

@@ -14,8 +14,8 @@ use Rattle.core_views.specs.Held.{Held}
 use Rattle.core_views.specs.Kinds.{code_of}
 use Rattle.part_steps.specs.declared.part_step.PartStep.{PartStep}
 use Rattle.part_steps.specs.declared.part_step.PartStep.TheVariants as part
-use Rattle.mmu_core.specs.lines.AccessSteps.{access_caches, access_task}
-use Rattle.mmu_core.specs.lines.Cached.{asks_flush, flushed}
+use Rattle.mmu_core.specs.forms.access.AccessSteps.{access_caches, access_task}
+use Rattle.mmu_core.specs.forms.access.Cached.{asks_flush, flushed}
 use Rattle.mmu_core.specs.machine.Enabled.{Enabled, IsNext}
 use Rattle.mmu_core.specs.machine.MayMake.{MayMake}
 use Rattle.part_steps.specs.PartTasks.{own_index, part_kind, part_task}

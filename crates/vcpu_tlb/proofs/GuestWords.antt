@@ -32,7 +32,7 @@ use Rattle.mmu_core.proofs.machine.Worlds.{good_step}
 use Rattle.step_seats.specs.Moves.{ToldBy, step_by}
 use Rattle.step_seats.specs.Where.{HasHand}
 use Rattle.vcpu_tlb.specs.declared.guest.Entered.TheVariants.{In, Flushed}
-use Rattle.mmu_core.specs.lines.Cached.{asks_flush}
+use Rattle.mmu_core.specs.forms.access.Cached.{asks_flush}
 use Rattle.vcpu_tlb.specs.Entering.{answer_to, state_in}
 
 -- The state word of an actor's hand is the one at its place.

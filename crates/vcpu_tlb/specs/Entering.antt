@@ -4,7 +4,7 @@ use Rattle.circular_buffer.specs.Buffer.{Buffer, buffer}
 use Rattle.core_views.specs.Held.{Held}
 use Rattle.spte_words.specs.declared.area.Area.TheVariants as area
 use Rattle.part_steps.specs.declared.part_step.PartStep.TheVariants as part
-use Rattle.mmu_core.specs.lines.Cached.{asks_flush}
+use Rattle.mmu_core.specs.forms.access.Cached.{asks_flush}
 use Rattle.mmu_core.specs.machine.Machine.{World}
 use Rattle.part_steps.specs.PartTasks.{own_index}
 use Rattle.mmu_core.specs.machine.View.{word_in}

@@ -8,7 +8,7 @@ use Rattle.spte_words.specs.declared.area.Area.TheVariants as area
 use Rattle.spte_words.specs.Bits.{has_bit}
 use Rattle.part_steps.specs.ControlBits.{has_to_flush}
 use Rattle.part_steps.specs.declared.part_step.PartStep.TheVariants as part
-use Rattle.mmu_core.specs.lines.Cached.{asks_flush}
+use Rattle.mmu_core.specs.forms.access.Cached.{asks_flush}
 use Rattle.mmu_core.specs.machine.Machine.{World}
 use Rattle.mmu_core.specs.machine.View.{word_in}
 use Rattle.step_seats.specs.PartTurns.{MadePart, WherePartMade}

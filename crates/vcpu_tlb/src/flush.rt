@@ -1,7 +1,7 @@
 ghost use Rattle.std.specs.Prelude.{◌≡◌, ◌+◌, ◌<◌};
 ghost use Rattle.mmu_core.specs.machine.MayMake.{MayMake};
 ghost use Rattle.part_steps.specs.declared.part_step.PartStep.TheVariants.{Ask, Await};
-ghost use Rattle.step_seats.specs.Moves.{KeepsRoom};
+ghost use Rattle.step_seats.specs.Moves.{KeepsSeat};
 ghost use Rattle.step_seats.specs.PartTurns.{MakesPart};
 ghost use Rattle.vcpu_tlb.specs.Flushing.{AnswersAwait, AsksFlush, Awaits, asked_up_to, await_way, awaited_up_to, count_awaited};
 
@@ -44,8 +44,7 @@ pub fn ask_flush<S: Stepper>(s: &mut S, index: u64, note: u64)
     ensures step { MakesPart (Ask index) note (S.seat s.old) (S.seat s.new) }
     ensures asked { (S.seat s.new).hand.topics ≡ asked_up_to (index + 1) (S.seat s.old).hand.topics }
     ensures told { AsksFlush index note (S.seat s.old) (S.seat s.new) }
-    ensures room { KeepsRoom (S.seat s.old) (S.seat s.new) }
-    ensures same { ((S.seat s.new).actor ≡ (S.seat s.old).actor) × (S.frame s.new ≡ S.frame s.old) }
+    ensures keeps { KeepsSeat (S.seat s.old) (S.seat s.new) (S.frame s.old) (S.frame s.new) }
 {
     let _ = make_part(s, PartStep::Ask(index), note);
 }
@@ -60,8 +59,7 @@ pub fn await_flush<S: Stepper>(s: &mut S, index: u64, note: u64) -> Awaited
     ensures step { Awaits index note result (S.seat s.old) (S.seat s.new) }
     ensures awaited { (S.seat s.new).hand.topics ≡ awaited_up_to (count_awaited result index) (S.seat s.old).hand.topics }
     ensures told { AnswersAwait result index note (S.seat s.old) (S.seat s.new) }
-    ensures room { KeepsRoom (S.seat s.old) (S.seat s.new) }
-    ensures same { ((S.seat s.new).actor ≡ (S.seat s.old).actor) × (S.frame s.new ≡ S.frame s.old) }
+    ensures keeps { KeepsSeat (S.seat s.old) (S.seat s.new) (S.frame s.old) (S.frame s.new) }
 {
     let state = make_part(s, PartStep::Await(index), note);
     if has_to_flush(state) {

@@ -3,7 +3,7 @@ ghost use Rattle.core_views.specs.declared.topics.Stay.TheVariants as Stay;
 ghost use Rattle.mmu_core.specs.machine.MayMake.{MayMake};
 ghost use Rattle.part_steps.specs.StayTopics.{begun};
 ghost use Rattle.part_steps.specs.declared.part_step.PartStep.TheVariants.{Enter, Leave, Pause};
-ghost use Rattle.step_seats.specs.Moves.{KeepsRoom};
+ghost use Rattle.step_seats.specs.Moves.{KeepsSeat};
 ghost use Rattle.step_seats.specs.PartTurns.{MadePart, MakesPart};
 ghost use Rattle.vcpu_tlb.specs.Entering.{AnswersPause, AnswersState, Enters, KeepsAsking, TellsGuest, TellsOutside, cached_behind};
 
@@ -31,8 +31,7 @@ pub fn enter<S: Stepper>(s: &mut S, note: u64) -> Entered
     ensures stay { (S.seat s.new).hand.topics ≡ begun Stay.Guest (S.seat s.old).hand.topics }
     ensures asked { AnswersState result note (S.seat s.old) (S.seat s.new) }
     ensures state { TellsGuest note (S.seat s.old) (S.seat s.new) }
-    ensures room { KeepsRoom (S.seat s.old) (S.seat s.new) }
-    ensures same { ((S.seat s.new).actor ≡ (S.seat s.old).actor) × (S.frame s.new ≡ S.frame s.old) }
+    ensures keeps { KeepsSeat (S.seat s.old) (S.seat s.new) (S.frame s.old) (S.frame s.new) }
 {
     let state = make_part(s, PartStep::Enter, note);
     if asks_flush(state) {
@@ -52,8 +51,7 @@ pub fn paused<S: Stepper>(s: &mut S, note: u64) -> bool
     ensures pause { (S.seat s.new).hand.topics ≡ record (S.seat s.old).hand.topics { pause = (S.seat s.new).hand.topics.pause } }
     ensures answer { result ≡ not ((S.seat s.new).hand.topics.pause == 0) }
     ensures told { AnswersPause result note (S.seat s.old) (S.seat s.new) }
-    ensures room { KeepsRoom (S.seat s.old) (S.seat s.new) }
-    ensures same { ((S.seat s.new).actor ≡ (S.seat s.old).actor) × (S.frame s.new ≡ S.frame s.old) }
+    ensures keeps { KeepsSeat (S.seat s.old) (S.seat s.new) (S.frame s.old) (S.frame s.new) }
 {
     make_part(s, PartStep::Pause, note) != 0
 }
@@ -69,8 +67,7 @@ pub fn leave<S: Stepper>(s: &mut S, note: u64)
     ensures stay { (S.seat s.new).hand.topics ≡ begun Stay.Outside (S.seat s.old).hand.topics }
     ensures clear { TellsOutside note (S.seat s.old) (S.seat s.new) }
     ensures asked { KeepsAsking note (S.seat s.old) (S.seat s.new) }
-    ensures room { KeepsRoom (S.seat s.old) (S.seat s.new) }
-    ensures same { ((S.seat s.new).actor ≡ (S.seat s.old).actor) × (S.frame s.new ≡ S.frame s.old) }
+    ensures keeps { KeepsSeat (S.seat s.old) (S.seat s.new) (S.frame s.old) (S.frame s.new) }
 {
     let _ = make_part(s, PartStep::Leave, note);
 }

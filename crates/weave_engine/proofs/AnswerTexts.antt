@@ -21,16 +21,16 @@ use Rattle.tdp_io.specs.Ends.{AppendsPrefix}
 use Rattle.tdp_io.specs.declared.sink.Stop.{Stop}
 use Rattle.tdp_io.specs.declared.sink.Stop.TheVariants.{Failed, NoMemory}
 use Rattle.weave_engine.specs.AnswerTexts.{MayStopAt, PutsAnswers, PutsText, StopsAnswers, answers_text, ends_over}
-use Rattle.weave_engine.specs.Marks.{Mark, Made, Begins, Rounds, Over, turns_from}
+use Rattle.turn_loops.specs.Marks.{Mark, Made, Begins, Rounds, Over, turns_from}
 use Rattle.weave_engine.specs.Pieces.{IsPrintedLine, WritesMost, most_waiting}
 use Rattle.weave_engine.specs.PrinterLaws.{answers_append, few_last, over_append}
-use Rattle.weave_engine.specs.Replays.{RanOn}
-use Rattle.weave_engine.specs.Turned.{MakesTurn}
-use Rattle.weave_engine.specs.Turning.{AnswersLine, EndsWithAnswer, MayStop}
-use Rattle.weave_engine.specs.Weaves.{open_text}
+use Rattle.turn_loops.specs.Replays.{RanOn}
+use Rattle.turn_loops.specs.Turned.{MakesTurn}
+use Rattle.turn_loops.specs.Turning.{AnswersLine, EndsWithAnswer, MayStop}
+use Rattle.turn_loops.specs.Weaves.{open_text}
 use Rattle.weave_engine.specs.Writes.{Buffers}
-use Rattle.weave_engine.proofs.Marks.{AreOf, turns_append, turns_are}
-use Rattle.weave_engine.proofs.Stopping.{answer_behind}
+use Rattle.turn_loops.proofs.Marks.{AreOf, turns_append, turns_are}
+use Rattle.turn_loops.proofs.Stopping.{answer_behind}
 
 -- The text of the marks of steps is the text of what these tell.
 pub text_of_marks : (w : World Held) (ss : List (Step Kind)) (ms : List Mark) → AreOf w ss ms → answers_text ms ≡ text (history w ss)

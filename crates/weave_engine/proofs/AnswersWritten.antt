@@ -14,11 +14,11 @@ use Rattle.step_seats.specs.Moves.{world_of}
 use Rattle.tdp_io.specs.declared.sink.Stop.{Stop}
 use Rattle.tdp_io.specs.declared.sink.Stop.TheVariants.{Failed, NoMemory}
 use Rattle.weave_engine.specs.AnswerTexts.{FailedBy, MayStopAt, NoneFailed, PutsAnswers, StopsAnswers, answers_text}
-use Rattle.weave_engine.specs.Marks.{Mark, Over, turns_from}
+use Rattle.turn_loops.specs.Marks.{Mark, Over, turns_from}
 use Rattle.weave_engine.specs.Pieces.{WritesMost, most_waiting}
 use Rattle.weave_engine.specs.Printed.{PrintsBy, PrintsReplayOn, PrintsReplayed, PrintsUntil, PrintsWeave, ReplayPrinted}
-use Rattle.weave_engine.specs.Replays.{Replays}
-use Rattle.weave_engine.specs.Weaves.{WeavesSoFar, open_text, unfinished_text}
+use Rattle.turn_loops.specs.Replays.{Replays}
+use Rattle.turn_loops.specs.Weaves.{WeavesSoFar, open_text, unfinished_text}
 use Rattle.weave_engine.specs.Woven.{EndFaults, RanFaults, RoseBy, WritesBy, WritesUntil, WritesWeave, end_failed, ended_by_write_fault, ran_failed}
 use Rattle.weave_engine.specs.Writes.{ReplaysBy, WritesLines, WritesReplayOn}
 use Rattle.weave_engine.specs.declared.ran.How.{How}
@@ -26,7 +26,7 @@ use Rattle.weave_engine.specs.declared.ran.How.TheVariants.{Done, Unfinished, Wr
 use Rattle.weave_engine.specs.declared.ran.Ran.{Ran}
 use Rattle.weave_engine.specs.PrinterLaws.{answers_append, none_stopped}
 use Rattle.weave_engine.proofs.AnswerTexts.{may_stop, text_of_marks, wrote_all}
-use Rattle.weave_engine.proofs.Marks.{follows_are, turns_are}
+use Rattle.turn_loops.proofs.Marks.{follows_are, turns_are}
 use Rattle.weave_engine.proofs.Outputs.{none_replayed}
 
 -- A printer is known by what its sink was given, what waits, and whether and how often writing failed.

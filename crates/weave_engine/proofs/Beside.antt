@@ -42,14 +42,14 @@ use Rattle.core_theorem.specs.Turns.{lines_answered, lines_in}
 use Rattle.core_theorem.proofs.ActorSums.{sum_plus, sum_same}
 use Rattle.core_theorem.proofs.Begins.{begins_bounded, begun_in, bounds_left, chosen_bounded, chosen_more, lines_are_open}
 use Rattle.core_theorem.proofs.Turns.{IsReached, open_in, reached_behind, steps_are_few}
-use Rattle.weave_engine.specs.Beside.{AreForDelays, delays_of}
-use Rattle.weave_engine.specs.Replays.{RunsLines}
-use Rattle.weave_engine.specs.Rounds.{RunsRounds}
-use Rattle.weave_engine.specs.Marks.{Mark}
-use Rattle.weave_engine.specs.Turning.{AreTurns, RunsItems}
-use Rattle.weave_engine.specs.Weaves.{FollowsBoth, FollowsSoFar, lines_below}
+use Rattle.turn_loops.specs.Beside.{AreForDelays, delays_of}
+use Rattle.turn_loops.specs.Replays.{RunsLines}
+use Rattle.turn_loops.specs.Rounds.{RunsRounds}
+use Rattle.turn_loops.specs.Marks.{Mark}
+use Rattle.turn_loops.specs.Turning.{AreTurns, RunsItems}
+use Rattle.turn_loops.specs.Weaves.{FollowsBoth, FollowsSoFar, lines_below}
 use Rattle.weave_engine.proofs.DelaysBelow.{AreBelow, delays_below, sum_bound}
-use Rattle.weave_engine.proofs.FileOrder.{maker_is, maker_there}
+use Rattle.turn_loops.proofs.FileOrder.{maker_is, maker_there}
 
 -- ---- turns are steps of lines
 

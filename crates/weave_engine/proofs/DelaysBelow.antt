@@ -29,7 +29,7 @@ use Rattle.mmu_laws.proofs.flat.EveryAnswer.{run_follows}
 use Rattle.mmu_core.proofs.machine.Stepping.{line_is_next}
 use Rattle.mmu_core.proofs.machine.Worlds.{good_step}
 use Rattle.core_theorem.specs.Turns.{bound_of, bounds_of, delays_line, hand_delays}
-use Rattle.weave_engine.specs.Beside.{delays_of, is_numbered}
+use Rattle.turn_loops.specs.Beside.{delays_of, is_numbered}
 
 -- ---- sums over lines
 

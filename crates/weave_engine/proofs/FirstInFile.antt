@@ -35,9 +35,9 @@ use Rattle.mmu_core.specs.machine.Worlds.{IsStart, history}
 use Rattle.mmu_laws.proofs.flat.EveryAnswer.{start_follows}
 use Rattle.mmu_core.proofs.start.Starts.{same_actor}
 use Rattle.mmu_laws.proofs.flat.WholeSoFar.{stays_whole}
-use Rattle.weave_engine.specs.Turning.{HasLineLeft}
-use Rattle.weave_engine.specs.FirstOpen.{IsFirstInFile, IsFirstOpen, numbers_answered}
-use Rattle.weave_engine.proofs.FileOrder.{maker_is, maker_there, next_is}
+use Rattle.turn_loops.specs.Turning.{HasLineLeft}
+use Rattle.turn_loops.specs.FirstOpen.{IsFirstInFile, IsFirstOpen, numbers_answered}
+use Rattle.turn_loops.proofs.FileOrder.{maker_is, maker_there, next_is}
 
 -- Each line has a number below those of all later ones.
 abbrev Rise : List Line → Type 0

@@ -1,5 +1,5 @@
 -- How the replay of a trace is printed, from the lines that ran: lawful, whole, and flat where the pool is large enough.
-use Rattle.std.proofs.Common.{◌≡◌, ◌≢◌, ◌<◌, ◌≤◌, inl, inr, ℕ, List, [], ◌∷◌, ◌++◌, Result, Ok, Err, length, take, refl, sym, ap, subst, ◌∙◌, append_assoc}
+use Rattle.std.proofs.Common.{◌≡◌, ◌≢◌, ◌<◌, ◌≤◌, inl, inr, ℕ, List, [], ◌∷◌, ◌++◌, Result, Ok, Err, length, take, refl, sym, ap, subst, ◌∙◌}
 use Rattle.std.proofs.Math.Seq.{take-length}
 use Rattle.std.specs.declared.option.Option.{Option}
 use Rattle.std.specs.Prelude.{All, IfOk, OnErr, Some, None}
@@ -15,7 +15,6 @@ use Rattle.core_views.specs.declared.trace.Trace.{Trace}
 use Rattle.core_views.specs.Alone.{NoneStarved, TakeLowest}
 use Rattle.flat_laws.proofs.FallsAsFlat.{all_fall}
 use Rattle.core_views.specs.Traces.{IsCommandFor}
-use Rattle.std.proofs.lemmas.List.{append-nil}
 use Rattle.core_views.specs.Flat.{first_flat}
 use Rattle.core_views.specs.Held.{Held}
 use Rattle.core_views.specs.Lawful.{IsLawful}
@@ -29,6 +28,7 @@ use Rattle.core_views.proofs.HeaderSizes.{header_sizes}
 use Rattle.spte_words.specs.declared.area.Area.TheVariants as area
 use Rattle.mmu_core.specs.declared.claim.FreeMap.TheVariants.{Pages}
 use Rattle.mmu_core.specs.machine.Enabled.{mmu}
+use Rattle.mmu_laws.specs.forms.log.ReadingsAlone.{ReadsExactly}
 use Rattle.mmu_laws.specs.pool.Enough.{HasFreePage}
 use Rattle.mmu_core.specs.machine.Machine.{Legal, Step, World, hand_in, run}
 use Rattle.mmu_core.specs.machine.View.{word_in}
@@ -43,17 +43,19 @@ use Rattle.mmu_core.proofs.start.StartViews.{a_start}
 use Rattle.mmu_core.proofs.machine.Worlds.{good_run}
 use Rattle.tdp_io.specs.declared.sink.Stop.{Stop}
 use Rattle.tdp_io.specs.declared.sink.Stop.TheVariants.{Failed, NoMemory}
-use Rattle.weave_engine.specs.Marks.{Mark, Over, turns_from}
-use Rattle.weave_engine.specs.Printed.{PrintsLines, PrintsReplayOn, PrintsReplayed, ReplayPrinted}
-use Rattle.weave_engine.specs.Replays.{EachRunsAlone, Replays, RunsAlone, RunsAsFlat, RunsLines}
+use Rattle.turn_loops.specs.Marks.{Mark, Over, turns_from}
+use Rattle.turn_loops.specs.Printed.{PrintsLines}
+use Rattle.weave_engine.specs.Printed.{PrintsReplayOn, PrintsReplayed, ReplayPrinted}
+use Rattle.turn_loops.specs.Replays.{EachRunsAlone, Replays, RunsAlone, RunsAsFlat, RunsLines}
 use Rattle.weave_engine.specs.Woven.{how_ended}
 use Rattle.weave_engine.specs.declared.ran.OpenLine.{OpenLine}
 use Rattle.weave_engine.specs.declared.ran.How.{How}
 use Rattle.weave_engine.specs.declared.ran.How.TheVariants.{Done, WriteFault}
-use Rattle.weave_engine.proofs.Fed.{fed_append}
-use Rattle.weave_engine.proofs.Coming.{Printing}
-use Rattle.weave_engine.proofs.LinesRun.{between_at_start, none_ran}
-use Rattle.weave_engine.proofs.ReadsAlone.{lines_read_exactly}
+use Rattle.turn_loops.proofs.Fed.{fed_append}
+use Rattle.turn_loops.proofs.Coming.{Printing}
+use Rattle.turn_loops.proofs.LinesRun.{between_at_start, none_ran}
+use Rattle.weave_engine.proofs.LowestAlone.{lines_take_lowest}
+use Rattle.turn_loops.proofs.ReadsAlone.{lines_read_exactly}
 
 -- Lines that run alone, after steps from a trace's start, aren't starved where the pool has as many pages as the trace needs.
 module _ (trace : Trace) (start : World Held) (is_start : IsStart (sizes_of trace.header) trace.lines start)
@@ -87,19 +89,6 @@ module _ (trace : Trace) (start : World Held) (is_start : IsStart (sizes_of trac
       subst (λ (es : List Event). NoneStarved es) (sym (ap (history w) are ∙ history_append w own rest))
       (fed_append (history w own) (history (run mmu w own) rest) (ran.none_starved (not_starved done own line answer legal ran)) later)
 
--- And their moves take the lowest frame that no page names.
-each_lowest : (z : Sizes) (all : List Line) (start : World Held) → IsStart z all start → (done : List (Step Kind)) (lines : List Line) (ss : List (Step Kind))
-    → Legal mmu start done → TakeLowest z first_flat (history start done) → EachRunsAlone z (run mmu start done) lines ss
-    → TakeLowest z first_flat (history start (done ++ ss))
-each_lowest z all start is_start done [] ss legal takes none =
-    subst (λ (l : List (Step Kind)). TakeLowest z first_flat (history start l)) (sym (ap (λ (l : List (Step Kind)). done ++ l) none ∙ append-nil done)) takes
-each_lowest z all start is_start done (line ∷ lines) ss legal takes (own, rest, answer, are, ran, each) =
-    let both : run mmu start (done ++ own) ≡ run mmu (run mmu start done) own = run-append mmu start done own in
-    subst (λ (l : List (Step Kind)). TakeLowest z first_flat (history start l))
-    (append_assoc done own rest ∙ ap (λ (l : List (Step Kind)). done ++ l) (sym are))
-    (each_lowest z all start is_start (done ++ own) lines rest (legal-append mmu start done own legal ran.runs.legal)
-    (ran.lowest all start done is_start legal refl takes) (subst (λ (x : World Held). EachRunsAlone z x lines rest) (sym both) each))
-
 -- Lines that ran alone from a trace's start are a replay of them.
 pub replays : (trace : Trace) (lines : List Line) (start end_ : World Held) (printed : List ℕ) → IsStart (sizes_of trace.header) trace.lines start
     → (r : RunsLines (sizes_of trace.header) start lines end_) → printed ≡ text (history start r.steps) → Replays trace lines printed end_
@@ -113,16 +102,22 @@ replays trace lines start end_ printed is_start r prints =
       lawful = lawful;
       whole = stands_whole lines (history start r.steps) r.alone;
       prints = prints;
+      lowest = lowest;
+      exact = exact;
       flat = λ enough. as_flat lawful (each_fed trace start is_start enough [] lines r.steps tt r.each);
     }
   where
+    lowest : TakeLowest (sizes_of trace.header) first_flat (history start r.steps)
+    lowest = lines_take_lowest (sizes_of trace.header) trace.lines start is_start lines r.steps r.each
+
+    exact : ReadsExactly (sizes_of trace.header) start r.steps
+    exact = lines_read_exactly (sizes_of trace.header) trace.lines start is_start lines r.steps r.each
+
     as_flat : IsLawful (sizes_of trace.header) first_flat (history start r.steps) → NoneStarved (history start r.steps)
         → RunsAsFlat (sizes_of trace.header) lines printed (history start r.steps)
     as_flat lawful fed =
         let G = goes_as_flat (sizes_of trace.header) lines (history start r.steps) first_flat (λ i. refl) lawful r.alone
-        (all_fall (sizes_of trace.header) first_flat (history start r.steps) fed
-        (each_lowest (sizes_of trace.header) trace.lines start is_start [] lines r.steps tt tt r.each)
-        (lines_read_exactly (sizes_of trace.header) trace.lines start is_start lines r.steps r.each).reads) in
+        (all_fall (sizes_of trace.header) first_flat (history start r.steps) fed lowest exact.reads) in
         record { none_starved = fed; same = G.shown; prints = prints ∙ G.prints }
 
 -- No line of a trace has run.

@@ -10,7 +10,7 @@ use Rattle.mmu_core.specs.machine.Worlds.{IsStart}
 use Rattle.mmu_laws.proofs.causes.StarvedScan.{legal_parts, starved_lines_scan}
 use Rattle.mmu_core.proofs.start.Starts.{start_good}
 use Rattle.mmu_core.proofs.machine.Worlds.{good_run}
-use Rattle.weave_engine.specs.Weaves.{StarvedLinesScanIn}
+use Rattle.turn_loops.specs.Weaves.{StarvedLinesScanIn}
 
 pub starved_scan : (z : Sizes) (lines : List Line) (start : World Held) (steps : List (Step Kind)) → IsStart z lines start → Legal mmu start steps
     → StarvedLinesScanIn z start steps

@@ -8,7 +8,7 @@ use Rattle.core_views.specs.Held.{Held}
 use Rattle.mmu_core.specs.machine.Machine.{World}
 use Rattle.tdp_io.specs.declared.sink.Stop.{Stop}
 use Rattle.tdp_io.specs.declared.sink.Stop.TheVariants.{Failed, NoMemory}
-use Rattle.weave_engine.specs.Marks.{Mark}
+use Rattle.turn_loops.specs.Marks.{Mark}
 use Rattle.weave_engine.specs.Printed.{PrintsBy, PrintsUntil, PrintsWeaveOn, PrintsWoven}
 use Rattle.weave_engine.specs.Woven.{how_ended}
 use Rattle.weave_engine.specs.declared.ran.OpenLine.{OpenLine}

@@ -25,23 +25,26 @@ use Rattle.mmu_core.proofs.start.StartViews.{a_start}
 use Rattle.mmu_laws.proofs.flat.WholeSoFar.{stays_whole}
 use Rattle.tdp_io.specs.declared.sink.Stop.{Stop}
 use Rattle.tdp_io.specs.declared.sink.Stop.TheVariants.{NoMemory as Full}
-use Rattle.weave_engine.specs.Marks.{Mark, Rounds, Over, PrintsMarks, turns_from}
-use Rattle.weave_engine.specs.Printed.{PrintsLines, PrintsUntil, PrintsWoven}
-use Rattle.weave_engine.specs.Replays.{RunsLines}
-use Rattle.weave_engine.specs.Turned.{ComesTo, PrintsRun}
-use Rattle.weave_engine.specs.Rounds.{AllAnswered}
-use Rattle.weave_engine.specs.Turning.{AreMarkedAfter, HasNoLineLeft, RunsItems, RunsItemsSoFar}
-use Rattle.weave_engine.specs.Weaves.{FollowsBoth, FollowsSoFar, RunsAllRounds, RunsSomeRounds, Weaves, WeavesAll, WeavesPart, WeavesSoFar, lines_above}
-use Rattle.weave_engine.specs.FirstOpen.{FirstOpen, IsFirstOpen}
+use Rattle.turn_loops.specs.Marks.{Mark, Rounds, Over, PrintsMarks, turns_from}
+use Rattle.turn_loops.specs.Printed.{PrintsLines}
+use Rattle.weave_engine.specs.Printed.{PrintsUntil, PrintsWoven}
+use Rattle.turn_loops.specs.Replays.{RunsLines}
+use Rattle.turn_loops.specs.Turned.{ComesTo, PrintsRun}
+use Rattle.turn_loops.specs.Rounds.{AllAnswered}
+use Rattle.turn_loops.specs.Turning.{AreMarkedAfter, HasNoLineLeft, RunsItems, RunsItemsSoFar}
+use Rattle.turn_loops.specs.Weaves.{FollowsBoth, FollowsSoFar, RunsAllRounds, RunsSomeRounds, Weaves, WeavesAll, WeavesPart, WeavesSoFar, lines_above}
+use Rattle.turn_loops.specs.FirstOpen.{FirstOpen, IsFirstOpen}
 use Rattle.weave_engine.specs.Woven.{open_of}
 use Rattle.weave_engine.proofs.Beside.{turns_delayed}
-use Rattle.weave_engine.proofs.Coming.{Printing, comes_then}
+use Rattle.turn_loops.proofs.Coming.{Printing, comes_then}
 use Rattle.weave_engine.proofs.FirstInFile.{first_in_file}
-use Rattle.weave_engine.proofs.FirstLines.{absurd_line}
-use Rattle.weave_engine.proofs.ItemLists.{all_so_far}
-use Rattle.weave_engine.proofs.LinesRun.{between_at_start, none_ran}
+use Rattle.turn_loops.proofs.FirstLines.{absurd_line}
+use Rattle.turn_loops.proofs.ItemLists.{all_so_far}
+use Rattle.turn_loops.proofs.LinesRun.{between_at_start, none_ran}
+use Rattle.weave_engine.proofs.LowestAlone.{lines_take_lowest}
+use Rattle.turn_loops.proofs.ReadsAlone.{lines_read_exactly}
 use Rattle.weave_engine.proofs.StarvedScans.{starved_scan}
-use Rattle.weave_engine.proofs.BeforeSteps.{few_answers, no_line_all, no_rounds, none_so_far}
+use Rattle.turn_loops.proofs.BeforeSteps.{few_answers, no_line_all, no_rounds, none_so_far}
 
 module _ (trace : Trace) (limit : ℕ) (start : World Held) (is_start : IsStart (sizes_of trace.header) trace.lines start) where
   abbrev z : Sizes
@@ -62,6 +65,8 @@ module _ (trace : Trace) (limit : ℕ) (start : World Held) (is_start : IsStart 
         (stays_whole z trace.lines start ss is_start C.legal);
     starved = starved_scan z trace.lines start ss is_start C.legal;
     prints = C.prints;
+    lowest = lines_take_lowest z trace.lines start is_start (take F.above trace.lines) F.alone.steps F.alone.each;
+    exact = lines_read_exactly z trace.lines start is_start (take F.above trace.lines) F.alone.steps F.alone.each;
   }
 
   -- Some lines above `go` ran, and nothing more.

@@ -6,10 +6,10 @@ use Rattle.mmu_core.specs.machine.Worlds.{history}
 use Rattle.tdp_io.specs.declared.sink.Stop.{Stop}
 use Rattle.tdp_io.specs.declared.sink.Stop.TheVariants.{Failed, NoMemory}
 use Rattle.tdp_io.specs.Ends.{WroteFaults, is_failed}
-use Rattle.weave_engine.specs.Marks.{Mark, Made, Begins, Rounds, Over}
+use Rattle.turn_loops.specs.Marks.{Mark, Made, Begins, Rounds, Over}
 use Rattle.weave_engine.specs.Pieces.{WritesMost, most_waiting}
-use Rattle.weave_engine.specs.Turning.{AnswersLine}
-use Rattle.weave_engine.specs.Weaves.{open_text}
+use Rattle.turn_loops.specs.Turning.{AnswersLine}
+use Rattle.turn_loops.specs.Weaves.{open_text}
 
 abbrev pub answer_text_of : Mark → List ℕ
 answer_text_of (Made before step) = text (history before (step ∷ []))

@@ -1,14 +1,4 @@
-pub mod Marks
-pub mod Given
-pub mod Replays
-pub mod Turns
 pub mod Writes
-pub mod Turning
-pub mod Rounds
-pub mod Turned
-pub mod Beside
-pub mod FirstOpen
-pub mod Weaves
 pub mod Pieces
 pub mod Woven
 pub mod Printed

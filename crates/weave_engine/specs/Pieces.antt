@@ -5,7 +5,7 @@ use Rattle.core_views.specs.declared.actor.Actor.{Actor}
 use Rattle.core_views.specs.declared.answer.Answer.{Answer}
 use Rattle.core_views.specs.declared.trace.Line.{Line}
 use Rattle.core_views.specs.Text.{line_text}
-use Rattle.weave_engine.specs.Weaves.{unfinished_text}
+use Rattle.turn_loops.specs.Weaves.{unfinished_text}
 
 -- at most so many bytes wait to be written, between two answers
 abbrev pub most_waiting : ℕ

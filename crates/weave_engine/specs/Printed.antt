@@ -1,7 +1,6 @@
 -- What the engine's own functions promise each other of what is printed, whoever prints it.
-use Rattle.std.specs.Prelude.{◌≡◌, ◌≤◌, ◌⊎◌, ℕ, List, [], ◌∷◌, ◌++◌, Option, Some, None, Result, Ok, Err, take}
+use Rattle.std.specs.Prelude.{◌≡◌, ◌⊎◌, ℕ, List, [], ◌∷◌, ◌++◌, Option, Some, None, Result, Ok, Err, take}
 use Rattle.core_views.specs.declared.no_memory.NoMemory.{NoMemory}
-use Rattle.core_views.specs.declared.sizes.Sizes.{Sizes}
 use Rattle.core_views.specs.declared.trace.Line.{Line}
 use Rattle.core_views.specs.declared.trace.Trace.{Trace}
 use Rattle.core_views.specs.Held.{Held}
@@ -9,9 +8,9 @@ use Rattle.mmu_core.specs.machine.Machine.{World}
 use Rattle.step_seats.specs.Moves.{world_of}
 use Rattle.tdp_io.specs.declared.sink.Stop.{Stop}
 use Rattle.tdp_io.specs.declared.sink.Stop.TheVariants.{Failed, NoMemory as Full}
-use Rattle.weave_engine.specs.Marks.{Mark, Over, turns_from}
-use Rattle.weave_engine.specs.Replays.{Replays, RunsLines}
-use Rattle.weave_engine.specs.Weaves.{WeavesAll, WeavesPart, WeavesSoFar}
+use Rattle.turn_loops.specs.Marks.{Mark, Over, turns_from}
+use Rattle.turn_loops.specs.Replays.{Replays}
+use Rattle.turn_loops.specs.Weaves.{WeavesAll, WeavesPart, WeavesSoFar}
 use Rattle.weave_engine.specs.Woven.{open_of}
 use Rattle.weave_engine.specs.declared.ran.How.{How}
 use Rattle.weave_engine.specs.declared.ran.How.TheVariants.{Done, WriteFault, Unfinished}
@@ -19,13 +18,8 @@ use Rattle.weave_engine.specs.declared.ran.OpenLine.{OpenLine}
 use Rattle.weave_engine.specs.declared.ran.Ran.{Ran}
 
 module _ {V : Type 0} (prints : V → List Mark → V → Type 0) (stops : V → List Mark → Stop → V → Type 0) where
-  -- The first lines ran one after another, each alone, from this world to that one, and their turns were printed; or fewer of them ran so.
-  abbrev pub PrintsLines : Sizes → World Held → List Line → ℕ → World Held → V → V → Result (Unit {0}) Stop → Type 0
-  PrintsLines z start lines count end_ p q (Ok u) = (r : RunsLines z start (take count lines) end_) × prints p (turns_from start r.steps) q
-  PrintsLines z start lines count end_ p q (Err stop) =
-      (ran : ℕ) × (ran ≤ count) × (r : RunsLines z start (take ran lines) end_) × stops p (turns_from start r.steps) stop q
-
-  -- All lines of a trace ran so, and their turns were printed; or, where that stopped, some of them, or all and the end was being printed.
+  -- All lines of a trace ran one after another, each alone, and their turns were printed; or, where that stopped, some of them, or all and the
+  -- end was being printed.
   abbrev pub PrintsReplayed : Trace → World Held → V → V → Result (Option OpenLine) Stop → Type 0
   PrintsReplayed trace closing p q (Ok (Some line)) = ⊥
   PrintsReplayed trace closing p q (Ok None) =

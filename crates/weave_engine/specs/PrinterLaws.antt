@@ -10,7 +10,7 @@ use Rattle.tdp_io.specs.Ends.{AppendsPrefix}
 use Rattle.tdp_io.specs.declared.sink.Stop.{Stop}
 use Rattle.tdp_io.specs.declared.sink.Stop.TheVariants.{Failed, NoMemory}
 use Rattle.weave_engine.specs.AnswerTexts.{MayStopAt, PutsAnswers, StopsAnswers, answer_text_of, answers_text, ends_over}
-use Rattle.weave_engine.specs.Marks.{Mark}
+use Rattle.turn_loops.specs.Marks.{Mark}
 use Rattle.weave_engine.specs.Pieces.{IsPrintedLine, WritesMost, most_waiting}
 use Rattle.weave_engine.specs.Writes.{Buffers}
 

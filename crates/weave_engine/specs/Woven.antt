@@ -11,8 +11,8 @@ use Rattle.tdp_io.specs.Ends.{Rose}
 use Rattle.tdp_io.specs.declared.sink.Stop.{Stop}
 use Rattle.tdp_io.specs.declared.sink.Stop.TheVariants.{Failed, NoMemory as Full}
 use Rattle.weave_engine.specs.Pieces.{WritesMost}
-use Rattle.weave_engine.specs.Turning.{MayStop}
-use Rattle.weave_engine.specs.Weaves.{WeavesAll, WeavesPart, WeavesSoFar, unfinished_text}
+use Rattle.turn_loops.specs.Turning.{MayStop}
+use Rattle.turn_loops.specs.Weaves.{WeavesAll, WeavesPart, WeavesSoFar, unfinished_text}
 use Rattle.weave_engine.specs.declared.ran.How.{How}
 use Rattle.weave_engine.specs.declared.ran.How.TheVariants.{Done, WriteFault, Unfinished}
 use Rattle.weave_engine.specs.declared.ran.OpenLine.{OpenLine}

@@ -10,7 +10,7 @@ use Rattle.tdp_io.specs.Ends.{AppendsPrefix}
 use Rattle.tdp_io.specs.declared.sink.Stop.{Stop}
 use Rattle.tdp_io.specs.declared.sink.Stop.TheVariants.{Failed, NoMemory as Full}
 use Rattle.weave_engine.specs.Pieces.{WritesMost, most_waiting}
-use Rattle.weave_engine.specs.Replays.{Replays, ReplaysUntil}
+use Rattle.turn_loops.specs.Replays.{Replays, ReplaysUntil}
 use Rattle.weave_engine.specs.declared.ran.How.{How}
 use Rattle.weave_engine.specs.declared.ran.How.TheVariants.{Done, WriteFault, Unfinished}
 use Rattle.weave_engine.specs.declared.ran.OpenLine.{OpenLine}

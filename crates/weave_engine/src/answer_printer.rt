@@ -5,17 +5,15 @@ ghost use Rattle.core_views.specs.Text.{line_text};
 ghost use Rattle.tdp_io.specs.Ends.{Wrote, WroteFaults, is_failed};
 ghost use Rattle.weave_engine.specs.AnswerTexts.{FailedBy, NoneFailed, PutsAnswers, StopsAnswers};
 ghost use Rattle.weave_engine.specs.Pieces.{most_waiting};
-ghost use Rattle.weave_engine.specs.Weaves.{open_text, unfinished_text};
+ghost use Rattle.turn_loops.specs.Weaves.{open_text, unfinished_text};
 ghost use Rattle.std.proofs.Common.{◌∙◌, refl, subst};
 ghost use Rattle.weave_engine.specs.PrinterLaws.{both_put, none_put, none_stopped, stops_put};
 
-use crate::printer::{Printer, TurnPrinter};
-use crate::run_on::{answer_to, last_answer, run_on};
-use crate::turning::{Turned, turn_on};
 use crate::writing::put_answer;
 use core_views::{Item, Line, NoMemory};
 use step_seats::{MachineOwner, Turn};
 use tdp_io::{Sink, Stop, write_all};
+use turn_loops::{Printer, TurnPrinter, Turned, answer_to, last_answer, run_on, turn_on};
 
 /// Puts out each answer when its line is answered, in pieces of 8,192 bytes or a little
 /// more, and at the end.
@@ -26,7 +24,7 @@ pub struct AnswerPrinter<'a, K> {
 }
 
 // Puts which line is the first without an answer.
-#[tactic(auto, unfolding(crate::specs::Weaves::unfinished_text))]
+#[tactic(auto, unfolding(turn_loops::specs::Weaves::unfinished_text))]
 fn push_unfinished(text: &mut String, line: &Line) -> Result<(), NoMemory>
     ensures { OnOk result (string_bytes text.new ≡ string_bytes text.old ++ unfinished_text line.now) }
 {

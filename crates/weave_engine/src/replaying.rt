@@ -1,61 +1,20 @@
 //! The command `replay`: each line of the trace alone, in file order.
-ghost use Rattle.std.specs.Prelude.{◌≡◌, ◌≤◌, [], OnOk, false, length, string_bytes, take};
+ghost use Rattle.std.specs.Prelude.{◌≡◌, [], false, string_bytes};
 ghost use Rattle.core_views.specs.Sizes.{sizes_of};
 ghost use Rattle.core_views.specs.Traces.{IsTrace};
 ghost use Rattle.mmu_core.specs.machine.Worlds.{IsStart};
-ghost use Rattle.step_seats.specs.Machines.{KeepsSizes, world_in};
-ghost use Rattle.weave_engine.specs.Printed.{PrintsLines, PrintsReplay, PrintsReplayOn, PrintsReplayed};
-ghost use Rattle.weave_engine.specs.Replays.{RunsLines};
+ghost use Rattle.step_seats.specs.Machines.{world_in};
+ghost use Rattle.weave_engine.specs.Printed.{PrintsReplay, PrintsReplayOn, PrintsReplayed};
 ghost use Rattle.weave_engine.specs.Writes.{WritesReplayOn};
 ghost use Rattle.weave_engine.specs.Woven.{EndFaults, end_failed};
 
 use crate::answer_printer::AnswerPrinter;
-use crate::printer::Printer;
 use crate::ran::{How, OpenLine, Ran, how_of};
-use crate::run_on::run_on;
-use core_views::{Line, NoMemory, Trace};
+use core_views::{NoMemory, Trace};
 use std::alloc::Global;
 use step_seats::{MachineOwner, PlainMachine};
 use tdp_io::{Sink, Stop};
-
-/// Runs the first lines one after another, each alone, and prints their turns.
-pub fn run_lines<M: MachineOwner, P: Printer<M>>(
-    machine: &mut M,
-    lines: &[Line],
-    count: usize,
-    printer: &mut P,
-) -> Result<(), Stop>
-    requires start { IsStart (M.machine machine.old).sizes lines.now (world_in (M.machine machine.old)) }
-    requires count { count ≤ length lines.now }
-    requires ready { P.ready printer.old }
-    ensures prints { PrintsLines P.prints P.stops (M.machine machine.old).sizes (world_in (M.machine machine.old)) lines.now count
-        (world_in (M.machine machine.new)) printer.old printer.new result }
-    ensures same { KeepsSizes (M.machine machine.old) (M.machine machine.new) }
-{
-    for index in 0..count {
-        printer.line(machine, &lines[index])?;
-    }
-    Ok(())
-}
-
-/// Runs the first lines one after another, each alone, and prints nothing. Where memory for a
-/// line is refused, the lines before it have run.
-pub fn run_alone<M: MachineOwner>(
-    machine: &mut M,
-    lines: &[Line],
-    count: usize,
-) -> Result<(), NoMemory>
-    requires start { IsStart (M.machine machine.old).sizes lines.now (world_in (M.machine machine.old)) }
-    requires count { count ≤ length lines.now }
-    ensures ran { OnOk result (RunsLines (M.machine machine.old).sizes (world_in (M.machine machine.old)) (take count lines.now)
-        (world_in (M.machine machine.new))) }
-    ensures same { KeepsSizes (M.machine machine.old) (M.machine machine.new) }
-{
-    for index in 0..count {
-        run_on(machine, &lines[index])?;
-    }
-    Ok(())
-}
+use turn_loops::{Printer, run_lines};
 
 // Runs all lines of the trace on its machine, and prints their turns. It leaves no line
 // open.

@@ -9,15 +9,12 @@ ghost use Rattle.weave_engine.specs.Printed.{PrintsWeave, PrintsWeaveOn, PrintsW
 ghost use Rattle.weave_engine.specs.Woven.{RanFaults, WritesWeave, ran_failed};
 
 use crate::answer_printer::AnswerPrinter;
-use crate::printer::Printer;
 use crate::ran::{How, OpenLine, Ran, how_of, open_line};
-use crate::replaying::run_lines;
-use crate::rounds::{first_open, run_rounds};
-use crate::schedule::run_items;
 use core_views::{NoMemory, Trace};
 use std::alloc::Global;
 use step_seats::{MachineOwner, PlainMachine};
 use tdp_io::{Sink, Stop};
+use turn_loops::{Printer, first_open, run_items, run_lines, run_rounds};
 
 // Runs the trace on its machine, and has its turns printed. It gives the first line that
 // has no answer, if there is one.

@@ -5,7 +5,7 @@ use Rattle.core_views.specs.Sizes.{actors_of, sizes_of}
 use Rattle.mmu_core.specs.machine.Worlds.{IsStart}
 use Rattle.step_seats.specs.Machines.{world_in}
 use Rattle.table_seats.specs.Owners.{machine_of}
-use Rattle.weave_engine.specs.Replays.{RunsLines}
+use Rattle.turn_loops.specs.Replays.{RunsLines}
 use Rattle.live_workers.proofs.Mustering.{above_fits, as_in_world, begun_by, wide_as}
 use Rattle.live_workers.proofs.crew.muster.Goals as goal
 

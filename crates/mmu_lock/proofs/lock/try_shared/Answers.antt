@@ -44,8 +44,7 @@ returns-then-has_writer g c =
       alone = λ loose. where_made shares
           (λ w at has others. absurd
           (not_free c.make_part-2.result seen (free_where _ _ _ (telling w (g.S.Stepper.seat c.args.s.now)) _ wants.0 at loose others)));
-      room = c.make_part-2.ensures.room;
-      same = c.make_part-2.ensures.same;
+      keeps = c.make_part-2.ensures.keeps;
     }
 
 pub returns-else-has_writer : goal.returns-else-has_writer
@@ -67,6 +66,5 @@ returns-else-has_writer g c =
       nearer = λ e. absurd (cc e);
       shared = λ e. where_made shares (λ w at has. shared_told (Some _) _ _ has (ap (λ (t : Topics). t.hold) is));
       alone = λ loose. where_made shares (λ w at has others. refl);
-      room = c.make_part-2.ensures.room;
-      same = c.make_part-2.ensures.same;
+      keeps = c.make_part-2.ensures.keeps;
     }

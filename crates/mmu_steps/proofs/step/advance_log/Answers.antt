@@ -6,7 +6,7 @@ use Rattle.core_views.specs.declared.place.Place.TheVariants.{Between, Log}
 use Rattle.core_views.specs.declared.trace.Line.{Line}
 use Rattle.core_views.specs.Held.{Handful, Held, answered}
 use Rattle.mmu_core.specs.lines.Delays.{line_waits}
-use Rattle.mmu_steps.proofs.LogMade.{log_answered, log_goes, log_refused, stands_at}
+use Rattle.mmu_steps.proofs.forms.log.LogMade.{log_answered, log_goes, log_refused, stands_at}
 use Rattle.mmu_steps.proofs.step.advance_log.Goals as goal
 
 pub returns-in-Goes-clause-core : goal.returns-in-Goes-clause-core
@@ -14,7 +14,8 @@ returns-in-Goes-clause-core c =
     c.go_on.ensures.core
     ∙ log_goes c.args.hand.now.core c.read.new.hand.core c.line-line.result.now c.args.place c.args.found c.next-next.result c.args.waits
     c.steps_behind-steps.result c.delays_behind-delays.result c.progress.result.now.used c.line-line.ensures.next c.next-next.ensures
-    (c.requires.waits ∙ ap (λ (l : Line). line_waits (Log c.args.place) l.command c.args.hand.now.core c.args.found) (sym c.line-line.ensures.next)) c.steps_behind-steps.ensures c.delays_behind-delays.ensures (ap (λ (p : Progress). p.used) c.progress.ensures)
+    (c.requires.waits ∙ ap (λ (l : Line). line_waits (Log c.args.place) l.command c.args.hand.now.core c.args.found) (sym c.line-line.ensures.next))
+    c.steps_behind-steps.ensures c.delays_behind-delays.ensures (ap (λ (p : Progress). p.used) c.progress.ensures)
     c.read.ensures.core c.in-Goes.place c.in-Goes.is
 
 pub returns-in-Refused-clause-core : goal.returns-in-Refused-clause-core
@@ -26,7 +27,8 @@ returns-in-Refused-clause-core c =
     ∙ ap (λ (x : Held). stands_at x Between c.progress.result.now.used c.steps_behind-steps.result c.delays_behind-delays.result) c.clear_harvest.ensures.core)
     ∙ log_refused c.args.hand.now.core c.read.new.hand.core line c.args.place c.args.found c.next-next.result c.args.waits
     c.steps_behind-steps.result c.delays_behind-delays.result c.progress.result.now.used c.line-line.ensures.next c.next-next.ensures
-    (c.requires.waits ∙ ap (λ (l : Line). line_waits (Log c.args.place) l.command c.args.hand.now.core c.args.found) (sym c.line-line.ensures.next)) c.steps_behind-steps.ensures c.delays_behind-delays.ensures (ap (λ (p : Progress). p.used) c.progress.ensures)
+    (c.requires.waits ∙ ap (λ (l : Line). line_waits (Log c.args.place) l.command c.args.hand.now.core c.args.found) (sym c.line-line.ensures.next))
+    c.steps_behind-steps.ensures c.delays_behind-delays.ensures (ap (λ (p : Progress). p.used) c.progress.ensures)
     c.read.ensures.core c.in-Refused.refusal c.in-Refused.is
 
 pub returns-in-Reads-clause-core : goal.returns-in-Reads-clause-core
@@ -37,5 +39,6 @@ returns-in-Reads-clause-core c =
     c.go_on-in-Reads.ensures.core
     ∙ log_answered c.args.hand.now.core c.read.new.hand.core line c.args.place c.args.found c.next-next.result c.args.waits
     c.steps_behind-steps.result c.delays_behind-delays.result c.progress.result.now.used c.line-line.ensures.next c.next-next.ensures
-    (c.requires.waits ∙ ap (λ (l : Line). line_waits (Log c.args.place) l.command c.args.hand.now.core c.args.found) (sym c.line-line.ensures.next)) c.steps_behind-steps.ensures c.delays_behind-delays.ensures (ap (λ (p : Progress). p.used) c.progress.ensures)
+    (c.requires.waits ∙ ap (λ (l : Line). line_waits (Log c.args.place) l.command c.args.hand.now.core c.args.found) (sym c.line-line.ensures.next))
+    c.steps_behind-steps.ensures c.delays_behind-delays.ensures (ap (λ (p : Progress). p.used) c.progress.ensures)
     c.read.ensures.core c.in-Reads.is

@@ -1,7 +1,7 @@
 use Rattle.std.proofs.Common.{◌≡◌, List, string_bytes}
 use Rattle.core_views.specs.Sizes.{sizes_of}
 use Rattle.tdp_io.specs.declared.sink.Stop.{Stop}
-use Rattle.weave_engine.specs.Marks.{Mark}
+use Rattle.turn_loops.specs.Marks.{Mark}
 use Rattle.show_steps.specs.Puts.{Printed, PutsSteps, StopsSteps, printed_by}
 use Rattle.show_steps.specs.declared.step_printer.StepPrinter.{StepPrinter}
 use Rattle.show_steps.proofs.StepsWritten.{IsFresh, part_written, replay_writes, weave_writes, whole_written}

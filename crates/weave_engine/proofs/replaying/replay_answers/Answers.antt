@@ -2,7 +2,7 @@ use Rattle.std.proofs.Common.{◌≡◌, List, string_bytes}
 use Rattle.step_seats.specs.Machines.{world_in}
 use Rattle.tdp_io.specs.declared.sink.Stop.{Stop}
 use Rattle.weave_engine.specs.AnswerTexts.{FailedBy, NoneFailed, PutsAnswers, StopsAnswers}
-use Rattle.weave_engine.specs.Marks.{Mark}
+use Rattle.turn_loops.specs.Marks.{Mark}
 use Rattle.weave_engine.specs.declared.answer_printer.AnswerPrinter.{AnswerPrinter}
 use Rattle.weave_engine.proofs.AnswersWritten.{replay_writes}
 use Rattle.weave_engine.proofs.replaying.replay_answers.Goals as goal

@@ -1,5 +1,5 @@
 use Rattle.step_seats.specs.Machines.{world_in}
-use Rattle.weave_engine.proofs.Coming.{Printing}
+use Rattle.turn_loops.proofs.Coming.{Printing}
 use Rattle.weave_engine.proofs.Outputs.{replay_ends}
 use Rattle.weave_engine.proofs.replaying.replay_machine.Goals as goal
 

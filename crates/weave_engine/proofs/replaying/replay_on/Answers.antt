@@ -1,8 +1,8 @@
 use Rattle.std.proofs.Common.{length, refl}
 use Rattle.std.proofs.lemmas.Result.{err_from_is_err_and}
 use Rattle.step_seats.specs.Machines.{world_in}
-use Rattle.weave_engine.specs.Marks.{turns_from}
-use Rattle.weave_engine.proofs.Coming.{Printing}
+use Rattle.turn_loops.specs.Marks.{turns_from}
+use Rattle.turn_loops.proofs.Coming.{Printing}
 use Rattle.weave_engine.proofs.Outputs.{replay_over, replay_stopped, replay_stopped_over}
 use Rattle.weave_engine.proofs.replaying.replay_on.Goals as goal
 

@@ -1,7 +1,7 @@
 use Rattle.std.proofs.Common.{◌≡◌, List, string_bytes}
 use Rattle.tdp_io.specs.declared.sink.Stop.{Stop}
 use Rattle.weave_engine.specs.AnswerTexts.{FailedBy, NoneFailed, PutsAnswers, StopsAnswers}
-use Rattle.weave_engine.specs.Marks.{Mark}
+use Rattle.turn_loops.specs.Marks.{Mark}
 use Rattle.weave_engine.specs.declared.answer_printer.AnswerPrinter.{AnswerPrinter}
 use Rattle.weave_engine.proofs.AnswersWritten.{weave_writes}
 use Rattle.weave_engine.proofs.weaving.weave_answers.Goals as goal

@@ -1,8 +1,8 @@
 use Rattle.std.proofs.lemmas.Result.{err_from_is_err_and}
 use Rattle.std.specs.Option.{option_copied}
 use Rattle.step_seats.specs.Machines.{world_in}
-use Rattle.weave_engine.specs.Marks.{turns_from}
-use Rattle.weave_engine.proofs.Coming.{Printing}
+use Rattle.turn_loops.specs.Marks.{turns_from}
+use Rattle.turn_loops.proofs.Coming.{Printing}
 use Rattle.weave_engine.proofs.WovenLaws.{ends_open, stopped_in_items, stopped_in_lines, stopped_in_rounds, stops_open}
 use Rattle.weave_engine.proofs.weaving.weave_on.Goals as goal
 

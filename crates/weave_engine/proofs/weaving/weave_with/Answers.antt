@@ -1,6 +1,6 @@
 use Rattle.std.proofs.lemmas.Result.{err_from_is_err_and}
 use Rattle.step_seats.specs.Machines.{world_in}
-use Rattle.weave_engine.proofs.Coming.{Printing}
+use Rattle.turn_loops.proofs.Coming.{Printing}
 use Rattle.weave_engine.proofs.WovenLaws.{no_machine}
 use Rattle.weave_engine.proofs.weaving.weave_with.Goals as goal
 

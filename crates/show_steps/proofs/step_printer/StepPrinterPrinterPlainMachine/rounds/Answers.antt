@@ -2,7 +2,7 @@ use Rattle.std.proofs.Common.{◌≡◌, List, ◌∷◌, ◌++◌, refl, string
 use Rattle.std.proofs.lemmas.Result.{err_from_is_err_and}
 use Rattle.std.specs.Prelude.{None}
 use Rattle.step_text.specs.Rows.{rounds_text}
-use Rattle.weave_engine.specs.Marks.{Mark, Rounds}
+use Rattle.turn_loops.specs.Marks.{Mark, Rounds}
 use Rattle.show_steps.specs.Lines.{coming_text, entries}
 use Rattle.show_steps.specs.Puts.{Printed, printed_by}
 use Rattle.show_steps.proofs.TurnsTold.{mark_put, mark_stopped, text_puts}

@@ -4,9 +4,9 @@ use Rattle.step_seats.specs.Machines.{world_in}
 use Rattle.core_views.specs.declared.kind.Kind.{Kind}
 use Rattle.core_views.specs.Held.{Held, has_line}
 use Rattle.mmu_core.specs.machine.Machine.{Step}
-use Rattle.weave_engine.specs.Given.{told_in}
-use Rattle.weave_engine.specs.Marks.{Made}
-use Rattle.weave_engine.specs.Turned.{is_stop, turn_text}
+use Rattle.turn_loops.specs.Given.{told_in}
+use Rattle.turn_loops.specs.Marks.{Made}
+use Rattle.turn_loops.specs.Turned.{is_stop, turn_text}
 use Rattle.show_steps.specs.PutLaws.{nothing_put, nothing_stopped}
 use Rattle.show_steps.specs.Puts.{Printed, PutsSteps, printed_by}
 use Rattle.show_steps.proofs.TurnsTold.{goes_made, mark_put, mark_stopped, nothing_written, row_of_turn, stops_made, tells_all, turn_is, turn_puts}

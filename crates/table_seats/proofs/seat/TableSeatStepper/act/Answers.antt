@@ -11,8 +11,12 @@ invariant_of-self c =
       keeps = put_keeps s.pass c.act.new.pass s.actor c.act.ensures.put s.keeps;
     }
 
-pub returns-clause-same : goal.returns-clause-same
-returns-clause-same c =
+pub returns-clause-keeps : goal.returns-clause-keeps
+returns-clause-keeps c =
     let s = c.args.self.now in
     let split = ap steps_before_split c.act.ensures.knows ∙ moved_split s.actor (hand_at s.pass.hands s.actor).core c.args.kind c.act.result s.pass.knows in
-    (refl, put_others s.pass c.act.new.pass s.actor c.act.ensures.put s.board.now split)
+    record {
+      room = c.act.ensures.room;
+      actor = refl;
+      frame = put_others s.pass c.act.new.pass s.actor c.act.ensures.put s.board.now split;
+    }

@@ -6,11 +6,11 @@ use Rattle.core_views.specs.Sizes.{index_of}
 use Rattle.mmu_core.specs.machine.Enabled.{mmu}
 use Rattle.mmu_core.specs.machine.Machine.{hand_in}
 use Rattle.step_seats.specs.Machines.{world_in}
-use Rattle.weave_engine.specs.Given.{IsLastAnswer, given_in}
-use Rattle.weave_engine.specs.Replays.{RanOn}
+use Rattle.turn_loops.specs.Given.{IsLastAnswer, given_in}
+use Rattle.turn_loops.specs.Replays.{RanOn}
 use Rattle.weave_engine.specs.PrinterLaws.{none_stopped}
 use Rattle.weave_engine.proofs.AnswerTexts.{line_put, line_stopped}
-use Rattle.weave_engine.proofs.Turns.{some_answer}
+use Rattle.turn_loops.proofs.Turns.{some_answer}
 use Rattle.weave_engine.proofs.answer_printer.AnswerPrinterPrinter.line.Goals as goal
 
 pub answer_to-answer-requires-clause-answered : goal.answer_to-answer-requires-clause-answered

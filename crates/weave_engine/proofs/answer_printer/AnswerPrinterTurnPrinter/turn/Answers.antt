@@ -5,7 +5,7 @@ use Rattle.core_views.specs.Text.{line_text}
 use Rattle.step_seats.specs.Machines.{world_in}
 use Rattle.weave_engine.specs.PrinterLaws.{nothing_buffered}
 use Rattle.weave_engine.proofs.AnswerTexts.{turn_put, turn_stopped}
-use Rattle.weave_engine.proofs.Turns.{done_has, done_made, more_made, waiting_made}
+use Rattle.turn_loops.proofs.Turns.{done_has, done_made, more_made, waiting_made}
 use Rattle.weave_engine.proofs.answer_printer.AnswerPrinterTurnPrinter.turn.Goals as goal
 
 pub last_answer-answer-requires-clause-answered : goal.last_answer-answer-requires-clause-answered

@@ -1,0 +1,12 @@
+//! The running twins of a guest access: its stays in the guest, its faults and fast faults, and
+//! what is cached.
+#![tactic(auto)]
+
+mod access;
+mod cached;
+mod fault;
+
+pub use access::{
+    access_note, fill_cache as access_caches, outcome as access_outcome, part as access_part, touch,
+};
+pub use cached::{asks_flush, flush};

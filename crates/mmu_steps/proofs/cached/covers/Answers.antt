@@ -1,5 +1,0 @@
-use Rattle.mmu_core.proofs.lines.CachedKept.{covers_not}
-use Rattle.mmu_steps.proofs.cached.covers.Goals as goal
-
-pub returns-then-translation-eq1 : goal.returns-then-translation-eq1
-returns-then-translation-eq1 c = covers_not c.args.gfn c.args.translation.now c.if-translation-eq1.true c.if-gfn-translation.false

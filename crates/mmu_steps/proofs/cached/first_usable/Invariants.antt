@@ -1,7 +1,0 @@
--- None of the translations so far is usable.
-use Rattle.std.proofs.Common.{◌≡◌, drop}
-use Rattle.mmu_core.specs.lines.Cached.{first_usable}
-use Rattle.mmu_steps.proofs.cached.first_usable.Given as goal
-
-abbrev pub invariant-loop-translation : goal.invariant-loop-translation
-invariant-loop-translation l = first_usable l.gfn l.write l.translations ≡ first_usable l.gfn l.write (drop l.translation-index l.translations)

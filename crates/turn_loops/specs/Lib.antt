@@ -1,0 +1,11 @@
+pub mod Marks
+pub mod Given
+pub mod Replays
+pub mod Turns
+pub mod Turning
+pub mod Rounds
+pub mod Turned
+pub mod Beside
+pub mod FirstOpen
+pub mod Weaves
+pub mod Printed
