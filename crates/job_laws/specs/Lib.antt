@@ -1,0 +1,4 @@
+pub mod Begun
+pub mod Ended
+pub mod OneChange
+pub mod ReadOut

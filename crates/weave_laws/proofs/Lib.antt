@@ -1,0 +1,11 @@
+pub mod SameStarts
+pub mod SameSteps
+pub mod SameLines
+pub mod SameWeaves
+pub mod OrderRuns
+pub mod LinesGoThrough
+pub mod ComputedLines
+pub mod AboveRuns
+pub mod OrderWeaves
+pub mod ExampleWeave
+pub mod ExampleLostWrite
