@@ -138,6 +138,7 @@ impl Hand {
 
     /// The line stands at this place from now on, uses this translation, and has counted so
     /// many steps and delays.
+    #[inline(always)]
     pub fn go_on(&mut self, place: Place, used: Translation, steps: u64, delays: u64)
         ensures core { self.new.core ≡ record self.old.core {
           state = state_of (record (progress_of self.old.core.state) { place = place; used = used; steps = steps; delays = delays })

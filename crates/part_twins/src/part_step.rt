@@ -11,6 +11,7 @@ ghost use Rattle.part_steps.specs.PartTasks.{page_owed, page_owned, page_retired
 ghost use Rattle.part_steps.specs.PartTasks.{exchanges_host, part_kind, part_task, set_held, stores_bound, table_page, word_looked, words_filled, works};
 ghost use Rattle.part_steps.specs.PartSteps.{PartNeeds};
 ghost use Rattle.part_steps.specs.SlotWords.{slot_index};
+ghost use Rattle.part_steps.specs.SweepTopics.{at_top, gone_up};
 ghost use Rattle.spte_words.specs.Entries.{table_word, write_bit};
 ghost use Rattle.spte_words.specs.HostWords.{host_frame, with_presence};
 ghost use Rattle.part_steps.specs.Tasks.{loads, map_of};
@@ -180,6 +181,34 @@ fn walk(map: &WordMap, walk: &TableWalk, gfn: u64, note: u64) -> Task
 {
     let index = map.pool_index(table_page(walk), entry_index(gfn, walk.level));
     Task::load(StepKind::Walk, Area::Pool, index, note)
+}
+
+// Loads it where a sweep goes on. (Few steps do: kept out of the way of the others.)
+#[inline(never)]
+fn sweep(map: &WordMap, from: &TableWalk, gfn: u64, note: u64) -> Task
+    requires map { IsWordMap map.now }
+    requires from { 1 ≤ (gone_up from.now).level }
+    requires to { (gone_up from.now).level ≤ 4 }
+    requires page { table_page (gone_up from.now) < map.now.pool }
+    ensures task { result ≡ loads StepKind.Walk Area.Pool (pool_index (table_page (gone_up from.now)) (entry_index gfn (gone_up from.now).level)) note }
+    ensures within { result.index < size_of map.now result.area }
+{
+    let mut at = *from;
+    go_up(&mut at);
+    walk(map, &at, gfn, note)
+}
+
+// Loads it where a walk begins anew at its root.
+#[inline(never)]
+fn walk_anew(map: &WordMap, from: &TableWalk, gfn: u64, note: u64) -> Task
+    requires map { IsWordMap map.now }
+    requires page { table_page (at_top from.now) < map.now.pool }
+    ensures task { result ≡ loads StepKind.Walk Area.Pool (pool_index (table_page (at_top from.now)) (entry_index gfn 4)) note }
+    ensures within { result.index < size_of map.now result.area }
+{
+    let mut at = *from;
+    begin_anew(&mut at);
+    walk(map, &at, gfn, note)
 }
 
 // Exchanges the guest frame's entry in the table that the walk has come to.
@@ -406,16 +435,8 @@ pub fn part_task(hand: &Hand, step: PartStep, note: u64) -> Task
         PartStep::RangeEnd => Task::load(StepKind::Control, Area::RangeEnd, 0, note),
         PartStep::Root => Task::load(StepKind::Control, Area::Root, 0, note),
         PartStep::Walk(gfn) => walk(map, &topics.walk, gfn, note),
-        PartStep::Sweep(gfn) => {
-            let mut at = topics.walk;
-            go_up(&mut at);
-            walk(map, &at, gfn, note)
-        }
-        PartStep::WalkAnew(gfn) => {
-            let mut at = topics.walk;
-            begin_anew(&mut at);
-            walk(map, &at, gfn, note)
-        }
+        PartStep::Sweep(gfn) => sweep(map, &topics.walk, gfn, note),
+        PartStep::WalkAnew(gfn) => walk_anew(map, &topics.walk, gfn, note),
         PartStep::Link(gfn) => enter(map, &topics.walk, gfn, link(topics.owned), note),
         PartStep::Leaf { gfn, write } => enter(map, &topics.walk, gfn, leaf(topics, write), note),
         PartStep::Fix(gfn) => enter(map, &topics.walk, gfn, fixed(topics), note),

@@ -1,7 +1,6 @@
 -- What the turn of any line answers, by how its step goes.
-use Rattle.std.proofs.Common.{◌≡◌, ◌≤◌, ◌<◌, ℕ, List, length, get_or, refl, sym, subst, ap, ◌∙◌}
+use Rattle.std.proofs.Common.{◌≡◌, ◌≤◌, ◌<◌, ℕ, List, length, get_or, refl, sym, ap, ◌∙◌}
 use Rattle.std.specs.Prelude.{Bool, true, false, Option, Some, None}
-use Rattle.core_views.specs.declared.answer.Answer.{Answer}
 use Rattle.core_views.specs.declared.answer.AnsweredLine.{AnsweredLine}
 use Rattle.core_views.specs.declared.progress.Seen.{Seen}
 use Rattle.core_views.specs.declared.kind.Kind.{Kind}
@@ -16,8 +15,7 @@ use Rattle.core_views.specs.declared.place.Place.{Place}
 use Rattle.core_views.specs.declared.place.Place.TheVariants as place
 use Rattle.core_views.specs.declared.sizes.Sizes.{Sizes}
 use Rattle.core_views.specs.declared.trace.Command.{Command}
-use Rattle.core_views.specs.declared.trace.Command.TheVariants.{Access, ChangeHost, ClearLog, GetLog}
-use Rattle.core_views.specs.declared.trace.Op.{Op}
+use Rattle.core_views.specs.declared.trace.Command.TheVariants.{Access}
 use Rattle.core_views.specs.Held.{Held}
 use Rattle.core_views.specs.Slots.{is_write}
 use Rattle.core_views.specs.SlotSets.{MemorySlots}
@@ -28,14 +26,13 @@ use Rattle.mmu_core.specs.lines.Forms.{RestsAt, first_place, outcome_at}
 use Rattle.mmu_core.specs.lines.Rests.{Rests}
 use Rattle.mmu_core.specs.machine.Enabled.{Enabled}
 use Rattle.mmu_core.specs.machine.Steps.{place_at, standing}
-use Rattle.mmu_core.specs.machine.Turns.{line_of, outcome_of}
+use Rattle.mmu_core.specs.machine.Turns.{line_of}
 use Rattle.mmu_steps.specs.declared.waits.Waiting.{Waiting}
 use Rattle.mmu_steps.specs.Waits.{WaitsAsLine, seen_in, waits}
 use Rattle.step_seats.specs.Acts.{Acts}
 use Rattle.step_seats.specs.Seats.{Seat}
-use Rattle.step_seats.specs.declared.turn.Turn.{Turn}
 use Rattle.step_seats.specs.declared.turn.Turn.TheVariants.{More, Wait, Retry, Done}
-use Rattle.step_seats.specs.LineTurns.{MakesLine, TurnsLine, cause_at, fault_turn, line_seen, line_turn, turn_of, turn_told}
+use Rattle.step_seats.specs.LineTurns.{MakesLine, TurnsLine, cause_at, fault_turn, line_turn, turn_of, turn_told}
 use Rattle.step_seats.proofs.Answering.{turn_is_done, turn_is_more}
 use Rattle.step_seats.proofs.LineTurns.{turns_told}
 

@@ -1,10 +1,9 @@
--- The words of the start, made one after another; and the machine that they are with the hands of the start.
-use Rattle.std.proofs.Common.{refl, zero, suc, slice_index_or, All, ◌≡◌, ◌<◌, ◌≤◌, ◌+◌, ◌++◌, ◌⊎◌, inl, inr, ℕ, List, [], ◌∷◌, length, length-append}
-use Rattle.std.proofs.Common.{slice_index, ◌∙◌, ap, sym, subst, arith}
+-- The machine that the words and the hands of a start are.
+use Rattle.std.proofs.Common.{refl, zero, suc, slice_index_or, All, ◌≡◌, ◌<◌, ◌≤◌, ◌++◌, ◌⊎◌, inl, inr, ℕ, List, [], ◌∷◌, length}
+use Rattle.std.proofs.Common.{◌∙◌, ap, sym, subst, arith}
 use Rattle.std.proofs.Math.ListN.{get_or-append, length-map}
 use Rattle.std.proofs.Math.Seq.{get_or-append_seam}
 use Rattle.std.proofs.lemmas.Bool.{cases_lt}
-use Rattle.std.proofs.lemmas.Bool.Decides.{nat_tests}
 use Rattle.core_views.specs.declared.sizes.Sizes.{Sizes}
 use Rattle.core_views.specs.declared.trace.Line.{Line}
 use Rattle.core_views.specs.declared.trace.Trace.{Trace}
@@ -16,57 +15,13 @@ use Rattle.core_views.specs.Traces.{IsCommandFor, IsTrace}
 use Rattle.core_views.specs.Whole.{lines_of}
 use Rattle.core_views.proofs.HeaderSizes.{header_sizes}
 use Rattle.mmu_core.specs.machine.Enabled.{mmu}
-use Rattle.part_steps.specs.Tasks.{map_of}
-use Rattle.mmu_core.specs.machine.Worlds.{AreStartWords, IsStart, least, start_hands, start_word}
+use Rattle.mmu_core.specs.machine.Worlds.{AreStartWords, IsStart, start_hands}
 use Rattle.mmu_core.proofs.machine.Extend.{stays}
 use Rattle.mmu_core.proofs.machine.Sized.{count_at_start}
 use Rattle.mmu_core.specs.machine.Steps.{nobody}
 use Rattle.step_seats.proofs.Worlds.{core_at}
-use Rattle.spte_words.specs.declared.area.Area.{Area}
-use Rattle.spte_words.specs.declared.word_map.WordMap.{WordMap}
-use Rattle.spte_words.specs.Areas.{place, size_of, total}
-use Rattle.spte_words.proofs.Places.{place_below, places_apart}
 use Rattle.step_seats.specs.Machines.{IsMachine}
 use Rattle.step_seats.specs.Moves.{EachHasRoom, core_of, cores_of, handful_in, world_of}
-
-pub least_rises : (n a b : ℕ) → a ≤ b → least n a ≤ least n b
-least_rises n a b le = grind (arith, nat_tests)
-
--- The words below a place are those of the start, and there are no others.
-pub record StartsBelow (z : Sizes) (word : ℕ) (words : List ℕ) : Type 0 where
-  pub count : length words ≡ word
-  pub each : (area : Area) (i : ℕ) → i < size_of (map_of z) area → place (map_of z) area i < word
-      → slice_index words (place (map_of z) area i) ≡ start_word z area i
-
-pub none_below : (z : Sizes) → StartsBelow z 0 []
-none_below z = record { count = cc; each = λ area i within below. absurd (omega arith) }
-
-pub one_more : (z : Sizes) (word : ℕ) (words : List ℕ) (area : Area) (i n : ℕ) → StartsBelow z word words → i < size_of (map_of z) area
-    → place (map_of z) area i ≡ word → n ≡ start_word z area i → StartsBelow z (word + 1) (words ++ n ∷ [])
-one_more z word words area i n made within at is = record { count = omega (arith, length-append words (n ∷ []), made.count); each = each }
-  where
-    m : WordMap
-    m = map_of z
-
-    Holds : Area → ℕ → Type 0
-    Holds a j = slice_index (words ++ n ∷ []) (place m a j) ≡ start_word z a j
-
-    last : slice_index (words ++ n ∷ []) (place m area i) ≡ n
-    last = ap (slice_index (words ++ n ∷ [])) (at ∙ sym made.count) ∙ get_or-append_seam words n [] 0
-
-    each : (a : Area) (j : ℕ) → j < size_of m a → place m a j < word + 1 → Holds a j
-    each a j inside below = order (cases_lt (place m a j) word)
-      where
-        same : (a ≡ area) × (j ≡ i) → Holds a j
-        same e = subst (λ x. Holds x j) (sym e.0) (subst (Holds area) (sym e.1) (last ∙ is))
-
-        order : (place m a j < word) ⊎ (word ≤ place m a j) → Holds a j
-        order (inl lt) = get_or-append words (n ∷ []) 0 (place m a j) (omega (arith, lt, made.count)) ∙ made.each a j inside lt
-        order (inr le) = same (places_apart m a area j i inside within (omega (arith, le, below, at)))
-
-pub all_made : (z : Sizes) (word : ℕ) (words : List ℕ) → word ≡ total (map_of z) → StartsBelow z word words → AreStartWords z words
-all_made z word words all made =
-    record { count = made.count ∙ all; each = λ area i within. made.each area i within (omega (arith, all, place_below (map_of z) area i within)) }
 
 hand_among : (z : Sizes) (lines : List Line) (n i : ℕ) (d : Held) → i < n
     → slice_index_or (start_hands z lines n) i d ≡ first_held z (actor_at z i) (lines_of (actor_at z i) lines)

@@ -1,11 +1,12 @@
 -- What one act of a seat does to the world that it tells, and to the steps that it tells.
-use Rattle.std.specs.Prelude.{◌≡◌, ◌<◌, ◌+◌, ℕ, List, [], ◌∷◌, ◌++◌, length, map, slice_index_or, Option, Some, None}
+use Rattle.std.specs.Prelude.{◌≡◌, ◌<◌, ◌+◌, ℕ, List, [], ◌∷◌, ◌++◌, length, slice_index_or, Option, Some, None}
 use Rattle.core_views.specs.declared.kind.Kind.{Kind}
 use Rattle.core_views.specs.Held.{Held, Handful}
 use Rattle.mmu_core.specs.machine.Machine.{Step, World, May, answered, effect}
 use Rattle.mmu_core.specs.machine.Enabled.{mmu}
 use Rattle.mmu_core.specs.machine.Steps.{nobody}
 use Rattle.mmu_core.specs.lines.Rests.{IsUnderWay}
+pub use Rattle.hands.specs.Cores.{core_of, cores_of}
 use Rattle.step_seats.specs.Seats.{Seat}
 
 abbrev pub step_by : ℕ → Kind → Step Kind
@@ -36,13 +37,6 @@ pub record KeepsSeat {F : Type 0} (before after : Seat) (frame_before frame_afte
 -- A line that is under way has the room for its answer.
 abbrev pub HasItsRoom : Held → ℕ → Type 0
 HasItsRoom hand room = IsUnderWay hand.state.place → 0 < room
-
--- a hand without its room
-abbrev pub core_of : Handful → Held
-core_of h = h.core
-
-abbrev pub cores_of : List Handful → List Held
-cores_of hands = map core_of hands
 
 -- the world of these words and hands
 abbrev pub world_of : List ℕ → List Handful → World Held

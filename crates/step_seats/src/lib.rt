@@ -8,12 +8,12 @@ mod owner;
 mod part;
 mod plain;
 mod seat;
-mod start;
 mod stepper;
 mod turn;
 
 pub use fault::{fault_place, is_fast_place};
 pub use line_turn::{take_turn, turn_line};
+pub use machine_start::{start_hands, start_words};
 pub use mmu_steps::{
     Closing, Hand, SlotSet, WRITER, access_note, advance, allows, asks_flush, has_to_flush,
     has_writer, in_section, knows, needs_line, next_kind, next_step, next_watched, page_of,
@@ -23,6 +23,5 @@ pub use owner::MachineOwner;
 pub use part::make_part;
 pub use plain::PlainMachine;
 pub use seat::{ActorSeat, MachineFrame};
-pub use start::{start_hands, start_words};
 pub use stepper::Stepper;
 pub use turn::Turn;

@@ -5,9 +5,9 @@ ghost use Rattle.core_views.specs.Traces.{IsTrace};
 ghost use Rattle.mmu_core.specs.machine.Worlds.{IsStart};
 ghost use Rattle.step_seats.specs.Machines.{world_in};
 
-use crate::start::{start_hands, start_words};
 use crate::{ActorSeat, MachineOwner};
 use core_views::{Actor, Kind, NoMemory, Sequence, Sizes, Trace};
+use machine_start::{start_hands, start_words};
 use mmu_steps::{Closing, Hand, advance};
 use std::alloc::Global;
 use std::marker::Model;

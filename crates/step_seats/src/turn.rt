@@ -4,7 +4,7 @@ ghost use Rattle.step_seats.specs.PartTurns.{in_way};
 use core_views::{Cause, Seen};
 
 /// How a turn of a job or a part ended. A turn makes one step.
-#[derive(Clone, Copy, PartialEq, Eq, Drop)]
+#[derive(Clone, Copy, Drop)]
 pub enum Turn<T> {
     /// There is more to do.
     More,

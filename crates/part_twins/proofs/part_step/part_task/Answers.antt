@@ -1,11 +1,12 @@
 use Rattle.core_views.specs.declared.progress.Progress.{Progress}
-use Rattle.std.proofs.Common.{◌<◌, subst, sym}
+use Rattle.std.proofs.Common.{◌<◌, refl, subst, sym}
 use Rattle.spte_words.specs.Areas.{size_of}
 use Rattle.part_steps.specs.declared.task.Task.{Task}
 use Rattle.part_steps.specs.PartSteps.{PartNeeds}
 use Rattle.part_steps.specs.Tasks.{map_of}
 use Rattle.part_steps.proofs.EntryTopics.{looked_frame, swept_page}
 use Rattle.part_steps.specs.PartTasks.{table_page}
+use Rattle.part_steps.specs.SweepTopics.{gone_up}
 use Rattle.spte_words.specs.declared.word_map.WordMap.{WordMap}
 use Rattle.part_steps.proofs.FrameWords.{copied_within, stored_within}
 use Rattle.part_twins.proofs.part_step.part_task.Goals as goal
@@ -17,11 +18,11 @@ leaf-requires-clause-frame c =
     (subst (λ s. PartNeeds s c.args.hand.now.core) c.in-Leaf.is c.requires.needs).0.looked_up c.requires.rests
 
 -- The table from which a sweep goes on is a page of the pool.
-pub walk-requires-in-Sweep-clause-page : goal.walk-requires-in-Sweep-clause-page
-walk-requires-in-Sweep-clause-page c =
-    subst (λ (m : WordMap). table_page c.go_up.new.walk < m.pool) (sym c.map_of.ensures.is)
-    (subst (λ (p : Progress). table_page c.go_up.new.walk < p.sizes.pool) (sym c.progress.ensures)
-    (swept_page c.args.hand.now.core c.topics-topics.result.now c.go_up.new.walk c.in-Sweep.gfn c.topics-topics.ensures c.go_up.ensures.up
+pub sweep-requires-clause-page : goal.sweep-requires-clause-page
+sweep-requires-clause-page c =
+    subst (λ (m : WordMap). table_page (gone_up c.topics-topics.result.now.walk) < m.pool) (sym c.map_of.ensures.is)
+    (subst (λ (p : Progress). table_page (gone_up c.topics-topics.result.now.walk) < p.sizes.pool) (sym c.progress.ensures)
+    (swept_page c.args.hand.now.core c.topics-topics.result.now (gone_up c.topics-topics.result.now.walk) c.in-Sweep.gfn c.topics-topics.ensures refl
     (subst (λ s. PartNeeds s c.args.hand.now.core) c.in-Sweep.is c.requires.needs) c.requires.rests))
 
 -- The words that a move copies and stores are words of frames of the machine.

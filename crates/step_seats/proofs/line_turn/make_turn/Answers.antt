@@ -1,6 +1,5 @@
 use Rattle.std.proofs.Common.{ap, length}
 use Rattle.core_views.specs.declared.progress.Progress.{Progress}
-use Rattle.core_views.specs.declared.place.Place.{Place}
 use Rattle.step_seats.proofs.OneTurn.{turn_anew, turn_done, turn_more, turn_waits}
 use Rattle.step_seats.proofs.line_turn.make_turn.Goals as goal
 

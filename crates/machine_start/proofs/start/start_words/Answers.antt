@@ -1,7 +1,7 @@
 use Rattle.std.proofs.Common.{◌∙◌, ap, arith}
 use Rattle.spte_words.specs.Areas.{total}
-use Rattle.step_seats.proofs.Starts.{all_made, one_more}
-use Rattle.step_seats.proofs.start.start_words.Goals as goal
+use Rattle.machine_start.proofs.Starts.{all_made, one_more}
+use Rattle.machine_start.proofs.start.start_words.Goals as goal
 
 pub loop-word-preserved : goal.loop-word-preserved
 loop-word-preserved c =

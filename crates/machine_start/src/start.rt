@@ -7,11 +7,11 @@ ghost use Rattle.core_views.specs.Whole.{lines_of};
 ghost use Rattle.part_steps.specs.Tasks.{map_of};
 ghost use Rattle.mmu_core.specs.machine.Worlds.{AreStartWords, free_bits, least, start_hands, start_word};
 ghost use Rattle.spte_words.specs.Areas.{size_of};
-ghost use Rattle.step_seats.specs.Moves.{cores_of};
+ghost use Rattle.hands.specs.Cores.{cores_of};
 
 use core_views::{Actor, Line, NoMemory, Sizes};
-use mmu_steps::{Hand, SLOT_SET_ROLE};
 use part_steps::map_of;
+use part_twins::{Hand, SLOT_SET_ROLE};
 use spte_words::{Area, HostWord};
 use std::alloc::Global;
 

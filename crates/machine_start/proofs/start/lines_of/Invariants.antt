@@ -1,6 +1,6 @@
 use Rattle.std.proofs.Common.{◌≡◌, take}
 use Rattle.core_views.specs.Whole.{lines_of}
-use Rattle.step_seats.proofs.start.lines_of.Given as goal
+use Rattle.machine_start.proofs.start.lines_of.Given as goal
 
 -- The actor's lines before this one are there.
 abbrev pub invariant-loop-line : goal.invariant-loop-line

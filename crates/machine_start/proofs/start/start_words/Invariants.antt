@@ -1,5 +1,5 @@
-use Rattle.step_seats.proofs.Starts.{StartsBelow}
-use Rattle.step_seats.proofs.start.start_words.Given as goal
+use Rattle.machine_start.proofs.Starts.{StartsBelow}
+use Rattle.machine_start.proofs.start.start_words.Given as goal
 
 -- Each word below this one is made.
 abbrev pub invariant-loop-word : goal.invariant-loop-word

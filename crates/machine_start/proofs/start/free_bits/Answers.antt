@@ -1,7 +1,7 @@
 use Rattle.std.proofs.Common.{◌≤◌, ◌^◌, arith}
 use Rattle.std.proofs.Math.Nat.{pow-le-pow_right}
-use Rattle.step_seats.proofs.Starts.{least_rises}
-use Rattle.step_seats.proofs.start.free_bits.Goals as goal
+use Rattle.machine_start.proofs.Starts.{least_rises}
+use Rattle.machine_start.proofs.start.free_bits.Goals as goal
 
 -- No more bits are in use than there are.
 pub overflow_sub-result : goal.overflow_sub-result
