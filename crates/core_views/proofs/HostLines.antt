@@ -17,10 +17,14 @@ owned_answer own = option_map (λ refusal. Refused refusal) (first_of ((not own,
 pub mapped : (page : ℕ) (entry : HostEntry) (host : HostMap) → mapping page entry host page ≡ entry
 mapped page entry host = rw (eq-eqb page page refl) refl
 
--- A page that is brought in allows what it allowed, and so does each other.
-pub still_writable : (host : HostMap) (page other : ℕ) → (host other).writable ≡ (mapping page (brought_in (host page)) host other).writable
-still_writable host page other = by_page (page == other) (eqb-true page other)
+-- The two allow the same, and are of one level.
+abbrev pub IsAlike : HostEntry → HostEntry → Type 0
+IsAlike entry other = (entry.writable ≡ other.writable) × (entry.level ≡ other.level)
+
+-- A page that is brought in allows what it allowed, and is of its level, and so is each other.
+pub still_alike : (host : HostMap) (page other : ℕ) → IsAlike (host other) (mapping page (brought_in (host page)) host other)
+still_alike host page other = by_page (page == other) (eqb-true page other)
   where
-    by_page : (b : Bool) → (b ≡ true → page ≡ other) → (host other).writable ≡ (cond b (brought_in (host page)) (host other)).writable
-    by_page true same = ap (λ (p : ℕ). (host p).writable) (sym (same refl))
-    by_page false same = refl
+    by_page : (b : Bool) → (b ≡ true → page ≡ other) → IsAlike (host other) (cond b (brought_in (host page)) (host other))
+    by_page true same = (ap (λ (p : ℕ). (host p).writable) (sym (same refl)), ap (λ (p : ℕ). (host p).level) (sym (same refl)))
+    by_page false same = (refl, refl)

@@ -31,7 +31,7 @@ pub data Stage : Type 0 where
   Idle : Stage  -- no line is under way
   Fresh : Stage  -- begun, and nothing done yet
   HasAccessed : (frame value : ℕ) → Stage  -- its access was made
-  HasLeft : (answer : Answer) → Stage  -- it was given up: its access left the guest, or no pool page or frame was free
+  HasLeft : (answer : Answer) → Stage  -- it was given up: its access left the guest, its page is huge, or no pool page or frame was free
   HasChanged : Stage  -- its change of a slot took effect
   HasArmed : Stage  -- so it did, and the slot's writes are logged since
   HasTaken : (id : ℕ) → Stage  -- it has begun to read the log of this slot
@@ -61,7 +61,7 @@ pub record Flat : Type 0 where
   pub past : Past
   pub under : Actor → LineUnderWay
 
--- At the start there is no slot, each host page is present and writable at its own frame, all content is zero, nothing is migrated, and no log is kept.
+-- At the start there is no slot, each host page is present, writable and small, at its own frame, all content is zero, nothing is migrated, and no log is kept.
 abbrev pub first_facts : Facts
 first_facts = record {
   slots = [];

@@ -2,7 +2,7 @@
 use Rattle.std.specs.Prelude.{ℕ, List, [], ◌∷◌, ◌++◌, Bool, true, false, Option, Some, None, if◌then◌else◌}
 use Rattle.core_views.specs.declared.answer.Answer.{Answer}
 use Rattle.core_views.specs.declared.answer.Answer.TheVariants.{Reached, Mmio, HostFault, Paused, Done, Moved, Bits, Refused}
-use Rattle.core_views.specs.declared.answer.Refusal.TheVariants.{NoFrame}
+use Rattle.core_views.specs.declared.answer.Refusal.TheVariants.{IsHuge, NoFrame}
 use Rattle.core_views.specs.declared.event.Event.{Event}
 use Rattle.core_views.specs.declared.event.EventKind.{EventKind}
 use Rattle.core_views.specs.declared.event.EventKind.TheVariants.{Begun, LookedAtPause, LookedAtSlots, LookedAtHost, BroughtIn, Accessed, Exited, SlotChanged}
@@ -18,7 +18,7 @@ use Rattle.core_views.specs.declared.trace.Line.{Line}
 use Rattle.core_views.specs.declared.trace.Op.{Op}
 use Rattle.core_views.specs.declared.memory_slot.MemorySlot.{MemorySlot}
 use Rattle.core_views.specs.declared.trace.Trace.{Trace}
-use Rattle.core_views.specs.Host.{is_denied}
+use Rattle.core_views.specs.Host.{is_denied, is_huge}
 use Rattle.core_views.specs.HostChanges.{host_answer, is_own, lowest_free}
 use Rattle.core_views.specs.Slots.{page_behind}
 use Rattle.core_views.specs.SlotSets.{flat_slots}
@@ -84,11 +84,16 @@ changing_host z line page Evict f = by line (HostChanged page (record (f.host pa
 changing_host z line page Protect f = by line (HostChanged page (record (f.host page) { writable = false })) ∷ answers line Done
 changing_host z line page Allow f = by line (HostChanged page (record (f.host page) { writable = true })) ∷ answers line Done
 
+-- But a page that the host maps with others, as one large page, stays as it is.
+abbrev pub unless_huge : Line → Bool → List Event → List Event
+unless_huge line true rest = by line (Exited (Refused IsHuge)) ∷ answers line (Refused IsHuge)
+unless_huge line false rest = rest
+
 -- what a line does that has something to do
 abbrev pub working : Sizes → Line → Command → Facts → List Event
 working z line (Access gfn word op) f =
     unless_paused line (is_paused f.migration) (accessing line gfn word op f (page_behind (flat_slots f.slots) gfn op))
-working z line (ChangeHost page change) f = changing_host z line page change f
+working z line (ChangeHost page change) f = unless_huge line (is_huge (f.host page)) (changing_host z line page change f)
 working z line (GetLog id) f = by line (Taken id) ∷ reading z line (GetLog id) id f
 working z line (ClearLog id first count words) f = by line (Taken id) ∷ reading z line (ClearLog id first count words) id f
 working z line (Migrate call) f = migrating z line call f

@@ -53,9 +53,10 @@ Changes z host page Evict entry = entry ≡ record (host page) { present = false
 Changes z host page Protect entry = entry ≡ record (host page) { writable = false }
 Changes z host page Allow entry = entry ≡ record (host page) { writable = true }
 
--- The two name one frame and allow the same. An access of a guest may bring the page in at any time, so it may be present now where it was seen absent.
+-- The two name one frame, allow the same and are of one level. An access of a guest may bring the page in at any time, so it may be present now where it
+-- was seen absent.
 abbrev pub Agree : HostEntry → HostEntry → Type 0
-Agree seen now = (seen.frame ≡ now.frame) × (seen.writable ≡ now.writable) × (seen.present ≡ true → now.present ≡ true)
+Agree seen now = (seen.frame ≡ now.frame) × (seen.writable ≡ now.writable) × (seen.level ≡ now.level) × (seen.present ≡ true → now.present ≡ true)
 
 -- what a host line is answered that has given its page this entry
 abbrev pub host_answer : Command → HostEntry → Answer

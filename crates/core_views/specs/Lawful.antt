@@ -3,7 +3,7 @@ use Rattle.std.specs.Prelude.{◌≡◌, ◌⊎◌, ℕ, Bool, List, [], ◌∷�
 use Rattle.core_views.specs.declared.actor.Actor.{Actor}
 use Rattle.core_views.specs.declared.answer.Answer.{Answer}
 use Rattle.core_views.specs.declared.answer.Answer.TheVariants.{Reached, Mmio, HostFault, Starved, Paused, Done, Bits, Refused}
-use Rattle.core_views.specs.declared.answer.Refusal.TheVariants.{NoFrame}
+use Rattle.core_views.specs.declared.answer.Refusal.TheVariants.{IsHuge, NoFrame}
 use Rattle.core_views.specs.declared.event.Event.{Event}
 use Rattle.core_views.specs.declared.event.EventKind.{EventKind}
 use Rattle.core_views.specs.declared.event.EventKind.TheVariants.{Begun, LookedAtPause, LookedAtSlots, LookedAtHost, BroughtIn, Accessed, Exited, SlotChanged}
@@ -22,6 +22,7 @@ use Rattle.core_views.specs.Slots.{page_behind}
 use Rattle.core_views.specs.SlotSets.{flat_slots}
 use Rattle.core_views.specs.SlotCommands.{arms}
 use Rattle.core_views.specs.LogCommands.{bits_for, is_all_set, log_read}
+use Rattle.core_views.specs.Host.{is_huge}
 use Rattle.core_views.specs.HostChanges.{Agree, Changes, host_answer}
 use Rattle.core_views.specs.Names.{named_frame}
 use Rattle.core_views.specs.Past.{Past}
@@ -29,7 +30,7 @@ use Rattle.core_views.specs.Flat.{Facts, Notes, LineUnderWay, Flat, Stage, Idle,
 use Rattle.core_views.specs.Flat.{HasCalled, HasChangedHost, HasSetPause, HasTakenNext, HasToCopy, HasToRead}
 use Rattle.core_views.specs.Events.{after}
 pub use Rattle.core_views.specs.Harvests.{IsHarvest, MayRead, slot_at, slot_read}
-pub use Rattle.core_views.specs.Seen.{SawAbsent, SawForbidden, SawNoPage, SawPage}
+pub use Rattle.core_views.specs.Seen.{SawAbsent, SawForbidden, SawHuge, SawNoPage, SawPage, SawSmall}
 pub use Rattle.core_views.specs.SlotCommands.{slot_change}
 pub use Rattle.core_views.specs.AtOnce.{answer_unbarred, answer_at_once, HasWork}
 pub use Rattle.core_views.specs.Copies.{CopiesNext, MayHarvest, MayReadNext, copied_answer}
@@ -47,19 +48,21 @@ abbrev pub BringsIn : Facts → Command → Notes → ℕ → Type 0
 BringsIn f (Access gfn word op) notes page = SawAbsent f notes gfn op page
 BringsIn _ _ _ _ = ⊥
 
--- The line is one of the page's owner and asks for this change of it, has something to do, and looked at the page, which has since been brought in
--- at most.
+-- The line is one of the page's owner and asks for this change of it, has something to do, and looked at the page, which was small, and has since been
+-- brought in at most.
 pub record MayChangeHost (z : Sizes) (f : Facts) (actor : Actor) (command : Command) (notes : Notes) (page : ℕ) (entry : HostEntry) : Type 0 where
   pub change : HostChange
   pub asked : command ≡ ChangeHost page change
   pub works : HasWork z f actor command
   pub seen : HostEntry
   pub looked : notes.host page ≡ Some seen
+  pub small : is_huge seen ≡ false
   pub agrees : Agree seen (f.host page)
   pub changes : Changes z f.host page change entry
 
 -- The actor's line under way may be given up with this answer. That no pool page was free is no fact of flat memory, nor that no free frame was found for
--- a move. But a line that has nothing to do wants none, and an access wants a pool page, for a table, only once it has seen its page.
+-- a move. But a line that has nothing to do wants none, an access wants a pool page, for a table, only once it has seen its page, and a move a frame once it
+-- has seen that its page is small.
 abbrev pub MayLeave : Sizes → Facts → Actor → Command → Notes → Answer → Type 0
 MayLeave z f actor (Access gfn word op) notes Paused = notes.paused ≡ Some true
 MayLeave z f actor (Access gfn word op) notes Mmio = SawNoPage notes gfn op
@@ -68,7 +71,8 @@ MayLeave z f actor (Access gfn word op) notes Starved = HasWork z f actor (Acces
 MayLeave z f actor (SetSlot id slot) notes Starved = HasWork z f actor (SetSlot id slot)
 MayLeave z f actor (DeleteSlot id) notes Starved = HasWork z f actor (DeleteSlot id)
 MayLeave z f actor (SetLog id on) notes Starved = HasWork z f actor (SetLog id on)
-MayLeave z f actor (ChangeHost page Move) notes (Refused NoFrame) = HasWork z f actor (ChangeHost page Move)
+MayLeave z f actor (ChangeHost page change) notes (Refused IsHuge) = HasWork z f actor (ChangeHost page change) × SawHuge notes page
+MayLeave z f actor (ChangeHost page Move) notes (Refused NoFrame) = HasWork z f actor (ChangeHost page Move) × SawSmall notes page
 MayLeave _ _ _ _ _ _ = ⊥
 
 -- The line's own events tell this answer, or it has none, and is answered so at once.

@@ -8,7 +8,7 @@ use Rattle.core_views.specs.declared.answer.AnsweredLine.{AnsweredLine}
 use Rattle.core_views.specs.declared.answer.Answer.TheVariants.{Reached, Mmio, HostFault, Starved, Paused, Done, Moved, Bits, Copied, Image, Refused}
 use Rattle.core_views.specs.declared.answer.Refusal.{Refusal}
 use Rattle.core_views.specs.declared.answer.Refusal.TheVariants.{BadId, TooLarge, Missing, Logged, NoLog, Resize, Fixed, Overlap, HostOverlap, OutOfRange}
-use Rattle.core_views.specs.declared.answer.Refusal.TheVariants.{NoFrame, BadRange, Migrating, NotLogged, NotStarted}
+use Rattle.core_views.specs.declared.answer.Refusal.TheVariants.{IsHuge, NotAligned, NoFrame, BadRange, Migrating, NotLogged, NotStarted}
 use Rattle.core_views.specs.declared.migration.ImageWord.{ImageWord}
 use Rattle.core_views.specs.declared.event.Event.{Event}
 use Rattle.core_views.specs.declared.event.EventKind.{EventKind}
@@ -31,6 +31,8 @@ refusal_name Fixed = codes "fixed"
 refusal_name Overlap = codes "overlap"
 refusal_name HostOverlap = codes "host-overlap"
 refusal_name OutOfRange = codes "out-of-range"
+refusal_name IsHuge = codes "is-huge"
+refusal_name NotAligned = codes "not-aligned"
 refusal_name NoFrame = codes "no-frame"
 refusal_name BadRange = codes "bad-range"
 refusal_name Migrating = codes "migrating"

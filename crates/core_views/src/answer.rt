@@ -60,6 +60,10 @@ pub enum Refusal {
     HostOverlap,
     /// The page isn't one of the host thread's own.
     OutOfRange,
+    /// The host maps the page and others of its run as one large page.
+    IsHuge,
+    /// The pages of the run can't be mapped as one large page.
+    NotAligned,
     /// Each frame is named by some page, so none is free for a move.
     NoFrame,
     /// The pages to be cleared aren't whole words of the slot's log.
@@ -101,6 +105,8 @@ impl Refusal {
             Refusal::Overlap => "overlap",
             Refusal::HostOverlap => "host-overlap",
             Refusal::OutOfRange => "out-of-range",
+            Refusal::IsHuge => "is-huge",
+            Refusal::NotAligned => "not-aligned",
             Refusal::NoFrame => "no-frame",
             Refusal::BadRange => "bad-range",
             Refusal::Migrating => "migrating",

@@ -1,3 +1,6 @@
+ghost use Rattle.std.specs.Prelude.{◌≡◌};
+ghost use Rattle.core_views.specs.Host.{is_huge};
+
 /// What the host maps one of its pages to (mmu.rst, "Translation").
 #[derive(Clone, Copy, Drop)]
 pub struct HostEntry {
@@ -8,4 +11,16 @@ pub struct HostEntry {
     pub present: bool,
     /// Whether the host allows writes to the page.
     pub writable: bool,
+    /// How much the host maps as one: 1 for the page alone, 2 for the 512 pages of its
+    /// run, 3 for 262,144 (mmu.rst, "Large pages").
+    pub level: u8,
+}
+
+impl HostEntry {
+    /// Whether the host maps the page and others of its run as one large page.
+    pub fn is_huge(&self) -> bool
+        ensures { result ≡ is_huge self.now }
+    {
+        self.level > 1
+    }
 }

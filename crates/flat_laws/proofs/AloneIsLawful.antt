@@ -1,19 +1,14 @@
 -- A line that runs alone, from a state in which no line is under way, is lawful, and leaves none under way.
-use Rattle.std.proofs.Common.{◌≡◌, ℕ, List, [], ◌∷◌, ◌++◌, Bool, true, false, cond, refl, sym, ap, ◌∙◌, subst}
-use Rattle.std.proofs.lemmas.Bool.{eq-eqb}
+use Rattle.std.proofs.Common.{◌≡◌, ℕ, List, [], ◌∷◌, ◌++◌, Bool, true, false, refl, sym, ap, ◌∙◌, subst}
 use Rattle.std.specs.Prelude.{Option, Some, None}
 use Rattle.core_views.specs.declared.answer.Answer.{Answer}
-use Rattle.core_views.specs.declared.answer.Answer.TheVariants.{Reached, Mmio, HostFault, Paused, Done, Refused}
-use Rattle.core_views.specs.declared.answer.Refusal.TheVariants.{NoFrame, OutOfRange}
-use Rattle.core_views.specs.declared.host.HostEntry.{HostEntry}
+use Rattle.core_views.specs.declared.answer.Answer.TheVariants.{Reached, Mmio, HostFault, Paused, Done}
 use Rattle.core_views.specs.declared.event.Event.{Event}
 use Rattle.core_views.specs.declared.event.EventKind.{EventKind}
 use Rattle.core_views.specs.declared.event.EventKind.TheVariants.{Begun, LookedAtPause, LookedAtSlots, LookedAtHost, BroughtIn, Accessed, Exited, SlotChanged}
-use Rattle.core_views.specs.declared.event.EventKind.TheVariants.{HostChanged, Armed}
+use Rattle.core_views.specs.declared.event.EventKind.TheVariants.{Armed}
 use Rattle.core_views.specs.declared.trace.Command.{Command}
 use Rattle.core_views.specs.declared.trace.Command.TheVariants.{Access, ChangeHost, ClearLog, GetLog, Migrate, SetLog}
-use Rattle.core_views.specs.declared.trace.HostChange.{HostChange}
-use Rattle.core_views.specs.declared.trace.HostChange.TheVariants.{Move, Evict, Protect, Allow}
 use Rattle.core_views.specs.declared.sizes.Sizes.{Sizes}
 use Rattle.core_views.specs.declared.trace.Line.{Line}
 use Rattle.core_views.specs.declared.trace.Op.{Op}
@@ -21,24 +16,24 @@ use Rattle.core_views.specs.declared.memory_slot.MemorySlot.{MemorySlot}
 use Rattle.core_views.specs.Slots.{page_behind}
 use Rattle.core_views.specs.SlotSets.{flat_slots}
 use Rattle.core_views.specs.Host.{HostNotes, brought_in, is_denied, mapping, with_entry}
-use Rattle.core_views.specs.HostChanges.{Changes, host_answer, is_own, lowest_free}
+use Rattle.core_views.specs.HostChanges.{is_own}
 use Rattle.core_views.specs.Names.{frame_at, frame_for}
 use Rattle.core_views.specs.Flat.{Facts, LineUnderWay, Flat, Fresh, HasChanged, no_notes}
 use Rattle.core_views.specs.Events.{after, after_all, facts_after, facts_after_all}
-use Rattle.core_views.specs.Lawful.{HasWork, IsLawful, MayChangeHost, SawAbsent, SawForbidden, SawNoPage, answer_at_once, slot_change}
+use Rattle.core_views.specs.Lawful.{HasWork, IsLawful, SawAbsent, SawForbidden, SawNoPage, answer_at_once, slot_change}
 use Rattle.core_views.specs.LogCommands.{is_all_set}
 use Rattle.core_views.specs.SlotCommands.{arms}
-use Rattle.core_views.specs.FlatHistory.{by, answers, accessing, bringing, changing_host, moving, reaching, doing, doing_by, rest_of, looks, looks_behind}
+use Rattle.core_views.specs.FlatHistory.{by, answers, accessing, bringing, reaching, doing, doing_by, rest_of, looks, looks_behind}
 use Rattle.core_views.specs.FlatHistory.{alone, arming, one_by_one, unless_paused, working}
 use Rattle.core_views.specs.Migrations.{is_paused}
 use Rattle.core_views.proofs.Barred.{goes_on}
-use Rattle.core_views.proofs.HostLines.{owned_answer, mapped}
-use Rattle.core_views.proofs.LowestFrames.{free_is}
+use Rattle.core_views.proofs.HostLines.{mapped}
 use Rattle.core_views.proofs.SlotChanges.{changes}
 use Rattle.flat_laws.proofs.Caused.{AreCaused, all_caused, caused_after}
 use Rattle.flat_laws.proofs.Writes.{AreOfLines, all_of_lines}
 use Rattle.flat_laws.proofs.AloneSteps.{AllIdle, Closes, IsAt, allowed, answered, more, step}
 use Rattle.flat_laws.proofs.AloneReads.{read_or_answer}
+use Rattle.flat_laws.proofs.HostAlone.{host_closes, seen}
 use Rattle.flat_laws.proofs.MigrationsAlone.{caused_at, migrates_or_answers}
 
 -- An access looks at the pause, at the slots, and at the host page that they give it.
@@ -46,9 +41,6 @@ use Rattle.flat_laws.proofs.MigrationsAlone.{caused_at, migrates_or_answers}
 abbrev noted : Line → Facts → HostNotes → LineUnderWay
 noted line facts host =
     record { line = line; stage = Fresh; notes = record { paused = Some (is_paused facts.migration); slots = Some (flat_slots facts.slots); host = host } }
-
-seen : (page : ℕ) (entry : HostEntry) (host : HostNotes) → with_entry page entry host page ≡ Some entry
-seen page entry host = rw (eq-eqb page page refl) refl
 
 -- It reaches the page's word, where the page is present and nothing forbids it.
 access_at : (z : Sizes) (line : Line) (gfn word : ℕ) (op : Op) (facts : Facts) (page frame : ℕ) (u : LineUnderWay) (f : Flat)
@@ -188,61 +180,6 @@ change_or_answer z line command facts f change changed is at = by_answer (answer
         → Closes z (doing_by z line command facts answer) f
     by_answer None works = change_closes z line command facts f change changed works is at
     by_answer (Some answer) says = answered z line answer facts _ f at refl (rw is says)
-
--- A host line looks at its page, and changes it.
-
-abbrev looked : Line → Facts → ℕ → LineUnderWay
-looked line facts page = record { line = line; stage = Fresh; notes = record no_notes { host = with_entry page (facts.host page) no_notes.host } }
-
-may_change : (z : Sizes) (line : Line) (page : ℕ) (change : HostChange) (facts : Facts) (entry : HostEntry) → is_own z line.actor page ≡ true
-    → Changes z facts.host page change entry → MayChangeHost z facts line.actor (ChangeHost page change) (looked line facts page).notes page entry
-may_change z line page change facts entry own changed = record {
-  change = change;
-  asked = refl;
-  works = rw own refl;
-  seen = facts.host page;
-  looked = seen page (facts.host page) no_notes.host;
-  agrees = (refl, refl, λ there. there);
-  changes = changed;
-}
-
-changed_closes : (z : Sizes) (line : Line) (page : ℕ) (change : HostChange) (facts : Facts) (entry : HostEntry) (f : Flat) → is_own z line.actor page ≡ true
-    → line.command ≡ ChangeHost page change → Changes z facts.host page change entry → IsAt line.actor facts (looked line facts page) f
-    → Closes z (by line (HostChanged page entry) ∷ answers line (host_answer (ChangeHost page change) entry)) f
-changed_closes z line page change facts entry f own is changed at =
-    let event : EventKind = HostChanged page entry in
-    more z (by line event) (answers line (host_answer (ChangeHost page change) entry)) f
-    (allowed z line.actor event facts _ f at (refl, rw is (may_change z line page change facts entry own changed)))
-    (answered z line (host_answer (ChangeHost page change) entry) (facts_after event facts) _ _ (step line.actor event facts _ f at) refl (rw is refl))
-
-move_closes : (z : Sizes) (line : Line) (page : ℕ) (facts : Facts) (free : Option ℕ) (f : Flat) → lowest_free z facts.host ≡ free
-    → is_own z line.actor page ≡ true → line.command ≡ ChangeHost page Move → IsAt line.actor facts (looked line facts page) f
-    → Closes z (moving line page facts free) f
-move_closes z line page facts None f none own is at =
-    more z (by line (Exited (Refused NoFrame))) (answers line (Refused NoFrame)) f
-    (allowed z line.actor (Exited (Refused NoFrame)) facts _ f at (refl, rw is (rw own refl)))
-    (answered z line (Refused NoFrame) facts _ _ (step line.actor (Exited (Refused NoFrame)) facts _ f at) refl refl)
-move_closes z line page facts (Some frame) f found own is at =
-    let free = free_is z facts.host frame found in
-    changed_closes z line page Move facts (record (facts.host page) { frame = frame }) f own is (refl, free.0, free.1) at
-
-change_closes_host : (z : Sizes) (line : Line) (page : ℕ) (change : HostChange) (facts : Facts) (f : Flat) → is_own z line.actor page ≡ true
-    → line.command ≡ ChangeHost page change → IsAt line.actor facts (looked line facts page) f → Closes z (changing_host z line page change facts) f
-change_closes_host z line page Move facts f own is at = move_closes z line page facts (lowest_free z facts.host) f refl own is at
-change_closes_host z line page Evict facts f own is at = changed_closes z line page Evict facts _ f own is refl at
-change_closes_host z line page Protect facts f own is at = changed_closes z line page Protect facts _ f own is refl at
-change_closes_host z line page Allow facts f own is at = changed_closes z line page Allow facts _ f own is refl at
-
--- the whole of a host line after its begin, by whether the page is the actor's own
-host_closes : (z : Sizes) (line : Line) (page : ℕ) (change : HostChange) (facts : Facts) (f : Flat) (own : Bool) → is_own z line.actor page ≡ own
-    → line.command ≡ ChangeHost page change → IsAt line.actor facts (record { line = line; stage = Fresh; notes = no_notes }) f
-    → Closes z (cond own (by line (LookedAtHost page) ∷ []) []
-    ++ doing_by z line (ChangeHost page change) facts (owned_answer own)) f
-host_closes z line page change facts f true own is at =
-    more z (by line (LookedAtHost page)) (changing_host z line page change facts) f
-    (allowed z line.actor (LookedAtHost page) facts _ f at refl)
-    (change_closes_host z line page change facts _ own is (step line.actor (LookedAtHost page) facts _ f at))
-host_closes z line page change facts f false own is at = answered z line (Refused OutOfRange) facts _ f at refl (rw (is, own) refl)
 
 doing_closes : (z : Sizes) (line : Line) (command : Command) (facts : Facts) (f : Flat) → line.command ≡ command → AreCaused f.facts f.past
     → IsAt line.actor facts (record { line = line; stage = Fresh; notes = no_notes }) f → Closes z (looks z line command facts ++ doing z line command facts) f

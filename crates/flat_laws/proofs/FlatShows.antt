@@ -12,7 +12,7 @@ use Rattle.core_views.specs.declared.trace.Line.{Line}
 use Rattle.core_views.specs.declared.trace.Op.{Op}
 use Rattle.core_views.specs.declared.memory_slot.MemorySlot.{MemorySlot}
 use Rattle.core_views.specs.declared.sizes.Sizes.{Sizes}
-use Rattle.core_views.specs.Host.{is_denied}
+use Rattle.core_views.specs.Host.{is_denied, is_huge}
 use Rattle.core_views.specs.HostChanges.{is_own, lowest_free}
 use Rattle.core_views.specs.Slots.{page_behind}
 use Rattle.core_views.specs.SlotSets.{flat_slots}
@@ -20,7 +20,7 @@ use Rattle.core_views.specs.Flat.{Facts, Fresh}
 use Rattle.core_views.specs.Events.{facts_after_all}
 use Rattle.core_views.specs.Lawful.{answer_at_once, slot_change}
 use Rattle.core_views.specs.FlatHistory.{by, accessing, bringing, changing_host, moving, reaching, doing, doing_by, rest_of, looks, looks_behind, alone}
-use Rattle.core_views.specs.FlatHistory.{answers, arming, harvest, one_by_one, reading, unless_paused, working}
+use Rattle.core_views.specs.FlatHistory.{answers, arming, harvest, one_by_one, reading, unless_huge, unless_paused, working}
 use Rattle.core_views.specs.Migrations.{is_paused}
 use Rattle.flat_laws.proofs.MigrationsStand.{migration_shows}
 use Rattle.core_views.specs.LogCommands.{takes_out}
@@ -92,11 +92,17 @@ host_shows z line page Evict f = refl
 host_shows z line page Protect f = refl
 host_shows z line page Allow f = refl
 
+-- by whether the page is part of a large one
+unless_huge_shows : (z : Sizes) (line : Line) (page : ℕ) (change : HostChange) (f : Facts) (huge : Bool)
+    → without_looks (unless_huge line huge (changing_host z line page change f)) ≡ unless_huge line huge (changing_host z line page change f)
+unless_huge_shows z line page change f true = refl
+unless_huge_shows z line page change f false = host_shows z line page change f
+
 -- by whether the page is the actor's own
 owned_shows : (z : Sizes) (line : Line) (page : ℕ) (change : HostChange) (f : Facts) (own : Bool)
     → without_looks (cond own (by line (LookedAtHost page) ∷ []) [] ++ doing_by z line (ChangeHost page change) f (owned_answer own))
     ≡ doing_by z line (ChangeHost page change) f (owned_answer own)
-owned_shows z line page change f true = host_shows z line page change f
+owned_shows z line page change f true = unless_huge_shows z line page change f (is_huge (f.host page))
 owned_shows z line page change f false = refl
 
 doing_shows : (z : Sizes) (line : Line) (command : Command) (f : Facts)

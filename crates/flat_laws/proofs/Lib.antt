@@ -1,6 +1,7 @@
 pub mod StagesGoOn
 pub mod AloneSteps
 pub mod AloneReads
+pub mod HostAlone
 pub mod AloneIsLawful
 pub mod AloneIsWhole
 pub mod Looks

@@ -28,7 +28,7 @@ use Rattle.flat_laws.proofs.AloneSteps.{AllIdle, IsAt, step, at_end}
 use Rattle.flat_laws.proofs.NextAlone.{AreExact, IsNext, access_is_next, arming_is_next, bringing_is_next, exit_is_next, harvest_is_next, told}
 use Rattle.flat_laws.proofs.NextAlone.{host_change_is_next, showing_is_next, slot_change_is_next, taking_is_next}
 use Rattle.flat_laws.proofs.NextMigrations.{copying_is_next, pausing_is_next, resuming_is_next, starting_is_next, stopping_is_next}
-use Rattle.core_views.proofs.HostLines.{still_writable}
+use Rattle.core_views.proofs.HostLines.{IsAlike, still_alike}
 
 abbrev pub under_way : Line → Stage → Notes → LineUnderWay
 under_way line stage notes = record { line = line; stage = stage; notes = notes }
@@ -80,12 +80,14 @@ shown_event z line rest es stage notes f kind is_shown is ends = record {
 }
 
 -- Where one more host page was looked at, each that was is so still.
-noted_host : (f : Facts) (page : ℕ) (host : HostNotes) (other : ℕ) (entry : HostEntry) → (host other ≡ Some entry → entry.writable ≡ (f.host other).writable)
-    → with_entry page (f.host page) host other ≡ Some entry → entry.writable ≡ (f.host other).writable
+noted_host : (f : Facts) (page : ℕ) (host : HostNotes) (other : ℕ) (entry : HostEntry) → (host other ≡ Some entry → IsAlike entry (f.host other))
+    → with_entry page (f.host page) host other ≡ Some entry → IsAlike entry (f.host other)
 noted_host f page host other entry before noted = by_page (page == other) (eqb-true page other) noted
   where
-    by_page : (b : Bool) → (b ≡ true → page ≡ other) → cond b (Some (f.host page)) (host other) ≡ Some entry → entry.writable ≡ (f.host other).writable
-    by_page true same is = ap (λ (e : HostEntry). e.writable) (sym (same_Some (f.host page) entry is) ∙ ap f.host (same refl))
+    by_page : (b : Bool) → (b ≡ true → page ≡ other) → cond b (Some (f.host page)) (host other) ≡ Some entry → IsAlike entry (f.host other)
+    by_page true same is =
+        let now_ : entry ≡ f.host other = sym (same_Some (f.host page) entry is) ∙ ap f.host (same refl) in
+        (ap (λ (e : HostEntry). e.writable) now_, ap (λ (e : HostEntry). e.level) now_)
     by_page false same is = before is
 
 -- A line that has done something of a migration isn't fresh.
@@ -177,7 +179,10 @@ one_event z line rest es (BroughtIn page) within leads stage notes f is lawful f
     let exact_then : stage ≡ Fresh → AreExact (facts_after kind f.facts) notes = λ fresh. record {
       pause = (is.exact fresh).pause;
       slots = (is.exact fresh).slots;
-      host = λ other entry noted. (is.exact fresh).host other entry noted ∙ still_writable f.facts.host page other;
+      host = λ other entry noted.
+          let was = (is.exact fresh).host other entry noted in
+          let still = still_alike f.facts.host page other in
+          (was.0 ∙ still.0, was.1 ∙ still.1);
     } in
     shown_event z line rest es stage notes f kind refl
     (bringing_is_next z f.facts f.past (under_way line stage notes) page is.exact (allowed z line stage notes f kind is lawful.0))

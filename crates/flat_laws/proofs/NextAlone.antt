@@ -1,10 +1,10 @@
 -- What a line does next, alone: each event of its own that is allowed, and is no look, is the next one of the flat history. One lemma a form of line,
 -- and one of its answer.
 use Rattle.std.proofs.Common.{◌≡◌, inl, inr, ℕ, List, ◌∷◌, ◌++◌, ◌&&◌, ◌||◌, Bool, true, false, cond, not, refl, sym, ap, ◌∙◌, subst}
-use Rattle.std.specs.Prelude.{Option, Some, None}
+use Rattle.std.specs.Prelude.{Option, Some, None, nat_lt}
 use Rattle.core_views.specs.declared.answer.Answer.{Answer}
 use Rattle.core_views.specs.declared.answer.Answer.TheVariants.{Reached, Mmio, HostFault, Starved, Paused, Done, Moved, Bits, Refused}
-use Rattle.core_views.specs.declared.answer.Refusal.TheVariants.{NoFrame}
+use Rattle.core_views.specs.declared.answer.Refusal.TheVariants.{IsHuge, NoFrame}
 use Rattle.core_views.specs.declared.host.HostEntry.{HostEntry}
 use Rattle.core_views.specs.declared.event.Event.{Event}
 use Rattle.core_views.specs.declared.event.EventKind.{EventKind}
@@ -16,7 +16,7 @@ use Rattle.core_views.specs.declared.trace.HostChange.TheVariants.{Move, Evict, 
 use Rattle.core_views.specs.declared.trace.Line.{Line}
 use Rattle.core_views.specs.declared.trace.Op.{Op}
 use Rattle.core_views.specs.declared.sizes.Sizes.{Sizes}
-use Rattle.core_views.specs.Host.{brought_in, is_denied}
+use Rattle.core_views.specs.Host.{brought_in, is_denied, is_huge}
 use Rattle.core_views.specs.HostChanges.{Changes, host_answer}
 use Rattle.core_views.specs.Alone.{FallsAsFlat}
 use Rattle.core_views.specs.declared.memory_slot.MemorySlot.{MemorySlot}
@@ -31,17 +31,18 @@ use Rattle.core_views.specs.Flat.{HasCalled, HasChangedHost, HasSetPause, HasTak
 use Rattle.core_views.specs.Migrations.{is_paused}
 use Rattle.flat_laws.proofs.NextMigrations.{left_next, next_stage, rest_read}
 use Rattle.core_views.specs.Events.{facts_after, logs_left, stage_read, stage_taken, under_after}
-use Rattle.core_views.specs.Lawful.{BringsIn, HasWork, IsAllowed, MayLeave, MayRead, SawForbidden, Tells, slot_at, slot_change, slot_read}
+use Rattle.core_views.specs.Lawful.{BringsIn, HasWork, IsAllowed, MayLeave, MayRead, SawForbidden, SawHuge, Tells, slot_at, slot_change, slot_read}
 use Rattle.core_views.specs.FlatHistory.{by, answers, accessing, arming, bringing, harvest, moving, reaching, reading, doing, doing_by, rest_of}
-use Rattle.core_views.specs.FlatHistory.{copying, reading_logs, unless_paused}
-use Rattle.core_views.proofs.HostLines.{mapped}
+use Rattle.core_views.specs.FlatHistory.{changing_host, copying, reading_logs, unless_huge, unless_paused}
+use Rattle.core_views.proofs.HostLines.{IsAlike, mapped}
 use Rattle.core_views.proofs.SlotChanges.{changes}
 
--- What the line noted is so now: the pause, the slots, and what the host allows. A page may have been brought in since by the line itself.
+-- What the line noted is so now: the pause, the slots, and what the host allows and how much it maps as one. A page may have been brought in since by the
+-- line itself.
 pub record AreExact (f : Facts) (notes : Notes) : Type 0 where
   pub pause : (paused : Bool) → notes.paused ≡ Some paused → is_paused f.migration ≡ paused
   pub slots : (slots : Slots) → notes.slots ≡ Some slots → slots ≡ flat_slots f.slots
-  pub host : (page : ℕ) (entry : HostEntry) → notes.host page ≡ Some entry → entry.writable ≡ (f.host page).writable
+  pub host : (page : ℕ) (entry : HostEntry) → notes.host page ≡ Some entry → IsAlike entry (f.host page)
 
 -- What is left of the line begins with this event.
 abbrev pub IsNext : Sizes → Facts → LineUnderWay → EventKind → Type 0
@@ -110,8 +111,21 @@ forbidden line gfn word op f notes exact saw =
     let behind : page_behind (flat_slots f.slots) gfn op ≡ Some saw.page =
     subst (λ (slots : Slots). page_behind slots gfn op ≡ Some saw.page) (exact.slots saw.slots saw.noted) saw.behind in
     let denies : is_denied op (f.host saw.page) ≡ true =
-    subst (λ (b : Bool). (is_write op && not b) ≡ true) (exact.host saw.page saw.entry saw.looked) saw.forbids in
+    subst (λ (b : Bool). (is_write op && not b) ≡ true) (exact.host saw.page saw.entry saw.looked).0 saw.forbids in
     ap (accessing line gfn word op f) behind ∙ ap (reaching line gfn word op f saw.page) denies
+
+-- a host page is as much of a large one as it was noted
+size_noted : (f : Facts) (notes : Notes) (page : ℕ) (entry : HostEntry) (huge : Bool) → AreExact f notes → notes.host page ≡ Some entry
+    → is_huge entry ≡ huge → is_huge (f.host page) ≡ huge
+size_noted f notes page entry huge exact looked is = ap (nat_lt 1) (sym (exact.host page entry looked).1) ∙ is
+
+-- so a host line that noted its page as part of a large one is refused
+huge : (z : Sizes) (line : Line) (page : ℕ) (change : HostChange) (f : Facts) (notes : Notes) → AreExact f notes
+    → HasWork z f line.actor (ChangeHost page change) → SawHuge notes page
+    → doing z line (ChangeHost page change) f ≡ by line (Exited (Refused IsHuge)) ∷ answers line (Refused IsHuge)
+huge z line page change f notes exact works saw =
+    ap (doing_by z line (ChangeHost page change) f) works
+    ∙ ap (λ b. unless_huge line b (changing_host z line page change f)) (size_noted f notes page saw.entry true exact saw.looked saw.huge)
 
 -- a clause for each answer with which it may leave
 left : (z : Sizes) (line : Line) (command : Command) (f : Facts) (notes : Notes) (answer : Answer) → AreExact f notes → FallsAsFlat z f command (Exited answer)
@@ -124,8 +138,14 @@ left z line (Access gfn word op) f notes Mmio exact fed may =
 left z line (Access gfn word op) f notes HostFault exact fed may =
     goes_past line f notes _ exact may.runs ∙ forbidden line gfn word op f notes exact may
 left z line command f notes Starved exact fed may = absurd (fed.0 refl)
+left z line (ChangeHost page Move) f notes (Refused IsHuge) exact fed may = huge z line page Move f notes exact may.0 may.1
+left z line (ChangeHost page Evict) f notes (Refused IsHuge) exact fed may = huge z line page Evict f notes exact may.0 may.1
+left z line (ChangeHost page Protect) f notes (Refused IsHuge) exact fed may = huge z line page Protect f notes exact may.0 may.1
+left z line (ChangeHost page Allow) f notes (Refused IsHuge) exact fed may = huge z line page Allow f notes exact may.0 may.1
 left z line (ChangeHost page Move) f notes (Refused NoFrame) exact fed may =
-    ap (doing_by z line (ChangeHost page Move) f) may ∙ ap (moving line page f) fed.1
+    ap (doing_by z line (ChangeHost page Move) f) may.0
+    ∙ (ap (λ b. unless_huge line b (changing_host z line page Move f)) (size_noted f notes page may.1.entry false exact may.1.looked may.1.small)
+    ∙ ap (moving line page f) fed.1)
 left z line (ChangeHost page Evict) f notes _ exact fed may = absurd may
 left z line (ChangeHost page Protect) f notes _ exact fed may = absurd may
 left z line (ChangeHost page Allow) f notes _ exact fed may = absurd may
@@ -208,18 +228,14 @@ showing_is_next z f past u id frames falls may = read z f past u.line u.stage id
 -- A line that changes a host page: its change.
 
 -- a clause for each change
-changed_host : (z : Sizes) (line : Line) (page : ℕ) (change : HostChange) (f : Facts) (entry : HostEntry) → HasWork z f line.actor (ChangeHost page change)
+changed_host : (z : Sizes) (line : Line) (page : ℕ) (change : HostChange) (f : Facts) (entry : HostEntry)
     → FallsAsFlat z f (ChangeHost page change) (HostChanged page entry) → Changes z f.host page change entry
-    → doing z line (ChangeHost page change) f ≡ by line (HostChanged page entry) ∷ answers line (host_answer (ChangeHost page change) entry)
-changed_host z line page Move f entry works falls is =
-    ap (doing_by z line (ChangeHost page Move) f) works
-    ∙ (ap (moving line page f) falls.1 ∙ ap (λ (e : HostEntry). by line (HostChanged page e) ∷ answers line (Moved entry.frame)) (sym is.0))
-changed_host z line page Evict f entry works falls is =
-    ap (doing_by z line (ChangeHost page Evict) f) works ∙ ap (λ (e : HostEntry). by line (HostChanged page e) ∷ answers line Done) (sym is)
-changed_host z line page Protect f entry works falls is =
-    ap (doing_by z line (ChangeHost page Protect) f) works ∙ ap (λ (e : HostEntry). by line (HostChanged page e) ∷ answers line Done) (sym is)
-changed_host z line page Allow f entry works falls is =
-    ap (doing_by z line (ChangeHost page Allow) f) works ∙ ap (λ (e : HostEntry). by line (HostChanged page e) ∷ answers line Done) (sym is)
+    → changing_host z line page change f ≡ by line (HostChanged page entry) ∷ answers line (host_answer (ChangeHost page change) entry)
+changed_host z line page Move f entry falls is =
+    ap (moving line page f) falls.1 ∙ ap (λ (e : HostEntry). by line (HostChanged page e) ∷ answers line (Moved entry.frame)) (sym is.0)
+changed_host z line page Evict f entry falls is = ap (λ (e : HostEntry). by line (HostChanged page e) ∷ answers line Done) (sym is)
+changed_host z line page Protect f entry falls is = ap (λ (e : HostEntry). by line (HostChanged page e) ∷ answers line Done) (sym is)
+changed_host z line page Allow f entry falls is = ap (λ (e : HostEntry). by line (HostChanged page e) ∷ answers line Done) (sym is)
 
 pub host_change_is_next : (z : Sizes) (f : Facts) (past : Past) (u : LineUnderWay) (page : ℕ) (entry : HostEntry)
     → FallsAsFlat z f u.line.command (HostChanged page entry)
@@ -229,7 +245,9 @@ host_change_is_next z f past u page entry falls may =
     let falls_so = subst (λ (c : Command). FallsAsFlat z f c (HostChanged page entry)) may.1.asked falls in
     rw (may.0)
     (subst (λ (c : Command). doing z u.line c f ≡ by u.line (HostChanged page entry) ∷ answers u.line (host_answer c entry)) (sym may.1.asked)
-    (changed_host z u.line page may.1.change f entry works falls_so may.1.changes))
+    (ap (doing_by z u.line (ChangeHost page may.1.change) f) works
+    ∙ (ap (λ b. unless_huge u.line b (changing_host z u.line page may.1.change f)) (ap (nat_lt 1) (sym may.1.agrees.2) ∙ may.1.small)
+    ∙ changed_host z u.line page may.1.change f entry falls_so may.1.changes)))
 
 -- The answer: what the line's stage tells, or what it is answered at once.
 

@@ -3,7 +3,7 @@ use Rattle.std.proofs.Common.{◌≡◌, ℕ, List, [], ◌∷◌, ◌++◌, Boo
 use Rattle.std.specs.Prelude.{Option, Some, None}
 use Rattle.core_views.specs.declared.answer.Answer.{Answer}
 use Rattle.core_views.specs.declared.answer.Answer.TheVariants.{Reached, Mmio, HostFault, Paused, Done, Moved, Bits, Refused}
-use Rattle.core_views.specs.declared.answer.Refusal.TheVariants.{NoFrame, OutOfRange}
+use Rattle.core_views.specs.declared.answer.Refusal.TheVariants.{IsHuge, NoFrame, OutOfRange}
 use Rattle.core_views.specs.declared.event.Event.{Event}
 use Rattle.core_views.specs.declared.event.EventKind.{EventKind}
 use Rattle.core_views.specs.declared.event.EventKind.TheVariants.{Begun, LookedAtPause, LookedAtSlots, LookedAtHost, BroughtIn, Accessed, Exited, SlotChanged}
@@ -16,7 +16,7 @@ use Rattle.core_views.specs.declared.trace.Line.{Line}
 use Rattle.core_views.specs.declared.trace.Op.{Op}
 use Rattle.core_views.specs.declared.memory_slot.MemorySlot.{MemorySlot}
 use Rattle.core_views.specs.declared.sizes.Sizes.{Sizes}
-use Rattle.core_views.specs.Host.{is_denied}
+use Rattle.core_views.specs.Host.{is_denied, is_huge}
 use Rattle.core_views.specs.HostChanges.{is_own, lowest_free}
 use Rattle.core_views.specs.Slots.{page_behind}
 use Rattle.core_views.specs.SlotSets.{flat_slots}
@@ -25,7 +25,7 @@ use Rattle.core_views.specs.Events.{facts_after_all}
 use Rattle.core_views.specs.Lawful.{answer_at_once, slot_change, slot_read}
 use Rattle.core_views.specs.LogCommands.{asked_frames, bits_for, is_all_set, takes_out}
 use Rattle.core_views.specs.FlatHistory.{by, answers, accessing, bringing, changing_host, moving, reaching, doing, doing_by, looks, looks_behind, alone}
-use Rattle.core_views.specs.FlatHistory.{arming, one_by_one, reading, unless_paused, working}
+use Rattle.core_views.specs.FlatHistory.{arming, one_by_one, reading, unless_huge, unless_paused, working}
 use Rattle.core_views.specs.Migrations.{is_paused}
 use Rattle.core_views.specs.Alone.{AreWithin, IsInside, StandsAlone, StandsFirst}
 use Rattle.core_views.proofs.HostLines.{owned_answer}
@@ -178,9 +178,14 @@ host_closed z line page Evict f = looked_closed line page _ Done tt
 host_closed z line page Protect f = looked_closed line page _ Done tt
 host_closed z line page Allow f = looked_closed line page _ Done tt
 
+unless_huge_closed : (z : Sizes) (line : Line) (page : ℕ) (change : HostChange) (f : Facts) (huge : Bool)
+    → Closed line (by line (LookedAtHost page) ∷ unless_huge line huge (changing_host z line page change f))
+unless_huge_closed z line page change f true = looked_closed line page (Exited (Refused IsHuge)) (Refused IsHuge) tt
+unless_huge_closed z line page change f false = host_closed z line page change f
+
 owned_closed : (z : Sizes) (line : Line) (page : ℕ) (change : HostChange) (f : Facts) (own : Bool)
     → Closed line (cond own (by line (LookedAtHost page) ∷ []) [] ++ doing_by z line (ChangeHost page change) f (owned_answer own))
-owned_closed z line page change f true = host_closed z line page change f
+owned_closed z line page change f true = unless_huge_closed z line page change f (is_huge (f.host page))
 owned_closed z line page change f false = record { within = []; answer = Refused OutOfRange; are_within = tt; events_are = refl }
 
 doing_closed : (z : Sizes) (line : Line) (command : Command) (f : Facts) → Closed line (looks z line command f ++ doing z line command f)

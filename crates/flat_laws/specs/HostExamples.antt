@@ -108,14 +108,15 @@ DeniedIsNotBroughtIn =
 -- A page is moved to a frame that another one names.
 abbrev pub NamedIsNotTaken : Type 0
 NamedIsNotTaken =
-    IsUnlawfulAfter [] (host_line 2 0 1 Move) (LookedAtHost 1 ∷ HostChanged 1 (record { frame = 2; present = true; writable = true }) ∷ []) (Moved 2)
+    IsUnlawfulAfter [] (host_line 2 0 1 Move)
+    (LookedAtHost 1 ∷ HostChanged 1 (record { frame = 2; present = true; writable = true; level = 1 }) ∷ []) (Moved 2)
 
 -- A host thread changes a page of another one.
 abbrev pub OthersAreNotChanged : Type 0
 OthersAreNotChanged =
-    IsUnlawfulAfter [] (host_line 2 1 1 Allow) (LookedAtHost 1 ∷ HostChanged 1 (record { frame = 1; present = true; writable = true }) ∷ []) Done
+    IsUnlawfulAfter [] (host_line 2 1 1 Allow) (LookedAtHost 1 ∷ HostChanged 1 (record { frame = 1; present = true; writable = true; level = 1 }) ∷ []) Done
 
 -- It looks at another page than it changes.
 abbrev pub UnseenIsNotChanged : Type 0
 UnseenIsNotChanged =
-    IsUnlawfulAfter [] (host_line 2 0 1 Allow) (LookedAtHost 0 ∷ HostChanged 1 (record { frame = 1; present = true; writable = true }) ∷ []) Done
+    IsUnlawfulAfter [] (host_line 2 0 1 Allow) (LookedAtHost 0 ∷ HostChanged 1 (record { frame = 1; present = true; writable = true; level = 1 }) ∷ []) Done

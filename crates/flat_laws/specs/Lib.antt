@@ -4,6 +4,7 @@ pub mod Laws
 pub mod Unlawful
 pub mod SlotLines
 pub mod HostExamples
+pub mod LargePages
 pub mod Migrations
 pub mod MigrationTraces
 pub mod UnlawfulMigrations

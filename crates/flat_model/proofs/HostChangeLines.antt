@@ -17,14 +17,14 @@ use Rattle.core_views.specs.declared.trace.Line.{Line}
 use Rattle.core_views.specs.declared.sizes.Sizes.{Sizes}
 use Rattle.core_views.specs.Events.{facts_after_all}
 use Rattle.core_views.specs.Flat.{Facts}
-use Rattle.core_views.specs.FlatHistory.{alone, answers, by, changing_host, doing, doing_by, looks, moving}
-use Rattle.core_views.specs.Host.{HostMap, mapping}
+use Rattle.core_views.specs.FlatHistory.{alone, answers, by, changing_host, doing, doing_by, looks, moving, unless_huge}
+use Rattle.core_views.specs.Host.{HostMap, is_huge, mapping}
 use Rattle.core_views.specs.HostChanges.{host_answer, is_own, lowest_free}
 use Rattle.core_views.specs.Text.{answers_of}
 use Rattle.core_views.proofs.HostLines.{owned_answer}
 use Rattle.core_views.specs.Refusals.{is_logged}
 use Rattle.flat_model.specs.Dirty.{is_dirty}
-use Rattle.flat_model.specs.HostPages.{Changed, ChangesTo, entry_after, host_of}
+use Rattle.flat_model.specs.HostPages.{Changed, ChangesTo, ChangesUnlessHuge, entry_after, host_of}
 use Rattle.flat_model.specs.Kept.{ContentWords, GivesLine, Kept, facts_of, memory_of}
 use Rattle.flat_model.specs.Steps.{ChangesHost}
 use Rattle.flat_model.proofs.SameFacts.{same_facts}
@@ -77,6 +77,21 @@ module _ (line : Line) (page : ℕ) (change : HostChange) (before after : Kept) 
     tells = ap answers_of whole ∙ ap (answered line) (sym done.0);
   }
 
+  -- by whether the page is part of a large one
+  by_size : (huge : Bool) → ChangesUnlessHuge before.sizes page change before.changed after.changed answer huge → after.slots ≡ before.slots
+      → after.words ≡ before.words → after.dirty ≡ before.dirty → after.copies ≡ before.copies
+      → alone before.sizes line (facts_of before) ≡ by line (Begun line) ∷ by line (LookedAtHost page)
+      ∷ unless_huge line huge (changing_host before.sizes line page change (facts_of before))
+      → GivesLine before.sizes line (facts_of before) (facts_of after) answer
+  by_size true done slots words dirty copies whole = record {
+    leads = with_host (host_of before.changed) (λ p. ap (λ (c : Changed). host_of c p) done.1) slots words dirty copies
+        ∙ sym (ap (λ (es : List Event). facts_after_all es (facts_of before)) whole);
+    tells = ap answers_of whole ∙ ap (answered line) (sym done.0);
+  }
+  by_size false done slots words dirty copies whole =
+      by_change (entry_after before.sizes (host_of before.changed) page change) done slots words dirty copies
+      (whole ∙ ap (λ (es : List Event). by line (Begun line) ∷ by line (LookedAtHost page) ∷ es) (by_entry before.sizes line page change (facts_of before)))
+
   by_owner : (own : Bool) → alone before.sizes line (facts_of before) ≡ whole_of before.sizes line page change (facts_of before) own
       → ChangesHost page change before after answer own
       → GivesLine before.sizes line (facts_of before) (facts_of after) answer
@@ -84,8 +99,7 @@ module _ (line : Line) (page : ℕ) (change : HostChange) (before after : Kept) 
     leads = ap facts_of done.1 ∙ sym (ap (λ (es : List Event). facts_after_all es (facts_of before)) whole);
     tells = ap answers_of whole ∙ ap (answered line) (sym done.0);
   }
-  by_owner true whole done = by_change (entry_after before.sizes (host_of before.changed) page change) done.0 done.1 done.2 done.3 done.4
-      (whole ∙ ap (λ (es : List Event). by line (Begun line) ∷ by line (LookedAtHost page) ∷ es) (by_entry before.sizes line page change (facts_of before)))
+  by_owner true whole done = by_size (is_huge (host_of before.changed page)) done.0 done.1 done.2 done.3 done.4 whole
 
   pub host_line : line.command ≡ ChangeHost page change → ChangesHost page change before after answer (is_own before.sizes line.actor page)
       → GivesLine before.sizes line (facts_of before) (facts_of after) answer

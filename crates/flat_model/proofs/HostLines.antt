@@ -7,7 +7,7 @@ use Rattle.std.specs.List.{list_any}
 use Rattle.std.specs.Map.{lookup}
 use Rattle.std.specs.Option.{option_map}
 use Rattle.std.specs.Ordering.{nat_cmp}
-use Rattle.std.specs.Prelude.{Some, Option, unwrap_or}
+use Rattle.std.specs.Prelude.{Some, None, Option, unwrap_or}
 use Rattle.core_views.specs.declared.answer.Answer.TheVariants.{Done, Moved, Refused}
 use Rattle.core_views.specs.declared.answer.Refusal.TheVariants.{NoFrame}
 use Rattle.core_views.specs.declared.host.HostEntry.{HostEntry}
@@ -15,6 +15,7 @@ use Rattle.core_views.specs.declared.sizes.Sizes.{Sizes}
 use Rattle.core_views.specs.declared.trace.Command.TheVariants.{ChangeHost}
 use Rattle.core_views.specs.declared.trace.HostChange.{HostChange}
 use Rattle.core_views.specs.declared.trace.HostChange.TheVariants.{Move}
+use Rattle.core_views.specs.Host.{brought_in, own_frames}
 use Rattle.core_views.specs.HostChanges.{host_answer}
 use Rattle.flat_model.specs.Frames.{Frames, is_spare}
 use Rattle.flat_model.specs.HostPages.{AreFree, Changed, ChangesEntries, ChangesTo, Maps, entry_after, host_of}
@@ -28,8 +29,18 @@ value_at false entry own o = refl
 pub put : (page : ℕ) (entry : HostEntry) (before after : Changed)
     → ((q : ℕ) → lookup (λ other. q == other) after ≡ cond (page == q) (Some entry) (lookup (λ other. q == other) before)) → Maps page entry before after
 put page entry before after updates q =
-    ap (λ (o : Option HostEntry). unwrap_or o (record { frame = q; present = true; writable = true })) (updates q)
-    ∙ value_at (page == q) entry (record { frame = q; present = true; writable = true }) (lookup (λ other. q == other) before)
+    ap (λ (o : Option HostEntry). unwrap_or o (record { frame = q; present = true; writable = true; level = 1 })) (updates q)
+    ∙ value_at (page == q) entry (record { frame = q; present = true; writable = true; level = 1 }) (lookup (λ other. q == other) before)
+
+-- A page that no line has changed is present, so to bring it in changes nothing.
+pub unchanged : (page : ℕ) (before : Changed) → lookup (λ other. page == other) before ≡ None
+    → Maps page (brought_in (host_of before page)) before before
+unchanged page before none other = elim (eqb_tells page other) [
+  | inl same ↦ sym (ap (λ (b : Bool). cond b (brought_in (host_of before page)) (host_of before other)) same.0
+      ∙ (ap (λ (o : Option HostEntry). brought_in (unwrap_or o (own_frames page))) none
+      ∙ (sym (ap (λ (o : Option HostEntry). unwrap_or o (own_frames page)) none) ∙ ap (host_of before) same.1)))
+  | inr unlike ↦ sym (ap (λ (b : Bool). cond b (brought_in (host_of before page)) (host_of before other)) unlike.0)
+]
 
 -- Where a page keeps its frame, or isn't one of the machine's, the same frames are free.
 pub same_frame : (pages page : ℕ) (entry : HostEntry) (before after : Changed) (frames : Frames) → (page < pages → entry.frame ≡ (host_of before page).frame)

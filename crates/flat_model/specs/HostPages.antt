@@ -1,10 +1,10 @@
 -- What the host maps its pages to, as the interpreter keeps it, and what changes it.
-use Rattle.std.specs.Prelude.{◌≡◌, ◌<◌, ◌==◌, ℕ, List, true, false, not, Option, Some, None, unwrap_or}
+use Rattle.std.specs.Prelude.{◌≡◌, ◌<◌, ◌==◌, ℕ, Bool, List, true, false, not, Option, Some, None, unwrap_or}
 use Rattle.std.specs.Map.{lookup}
 use Rattle.std.specs.Option.{option_map}
 use Rattle.core_views.specs.declared.answer.Answer.{Answer}
 use Rattle.core_views.specs.declared.answer.Answer.TheVariants.{Refused}
-use Rattle.core_views.specs.declared.answer.Refusal.TheVariants.{NoFrame}
+use Rattle.core_views.specs.declared.answer.Refusal.TheVariants.{IsHuge, NoFrame}
 use Rattle.core_views.specs.declared.host.HostEntry.{HostEntry}
 use Rattle.core_views.specs.declared.sizes.Sizes.{Sizes}
 use Rattle.core_views.specs.declared.trace.Command.TheVariants.{ChangeHost}
@@ -51,3 +51,8 @@ ChangesTo page change before after answer (Some entry) = (answer ≡ host_answer
 -- On a machine of these sizes the change of the page leads from these entries to those, and is answered so.
 abbrev pub ChangesEntries : Sizes → ℕ → HostChange → Changed → Changed → Answer → Type 0
 ChangesEntries z page change before after answer = ChangesTo page change before after answer (entry_after z (host_of before) page change)
+
+-- But a page that the host maps with others, as one large page, stays as it is, and the change is refused.
+abbrev pub ChangesUnlessHuge : Sizes → ℕ → HostChange → Changed → Changed → Answer → Bool → Type 0
+ChangesUnlessHuge z page change before after answer true = (answer ≡ Refused IsHuge) × (after ≡ before)
+ChangesUnlessHuge z page change before after answer false = ChangesEntries z page change before after answer

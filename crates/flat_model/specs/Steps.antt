@@ -12,7 +12,7 @@ use Rattle.core_views.specs.declared.trace.Command.TheVariants.{DeleteSlot, SetL
 use Rattle.core_views.specs.declared.trace.HostChange.{HostChange}
 use Rattle.core_views.specs.declared.trace.Op.{Op}
 use Rattle.core_views.specs.declared.trace.Slot.{Slot}
-use Rattle.core_views.specs.Host.{brought_in, is_denied}
+use Rattle.core_views.specs.Host.{brought_in, is_denied, is_huge}
 use Rattle.core_views.specs.Memory.{word_after_op, with_word}
 use Rattle.core_views.specs.Migrations.{is_paused}
 use Rattle.core_views.specs.Slots.{Slots, page_behind}
@@ -21,7 +21,7 @@ use Rattle.core_views.specs.SlotSets.{flat_slots, slot_of_id}
 use Rattle.core_views.specs.SlotCommands.{refused_or_done, slot_change, slots_after}
 use Rattle.flat_model.specs.Dirty.{dirty_after, is_dirty, is_frame_logged}
 use Rattle.flat_model.specs.Kept.{Kept, memory_of}
-use Rattle.flat_model.specs.HostPages.{ChangesEntries, Maps, host_of}
+use Rattle.flat_model.specs.HostPages.{ChangesUnlessHuge, Maps, host_of}
 
 -- The slot's host pages are among so many.
 pub record IsSlotOf (pages : ℕ) (slot : Slot) : Type 0 where
@@ -83,9 +83,9 @@ AccessesUnlessPaused gfn word op before after answer false = AccessesPage gfn wo
 abbrev pub Accesses : ℕ → ℕ → Op → Kept → Kept → Answer → Type 0
 Accesses gfn word op before after answer = AccessesUnlessPaused gfn word op before after answer (is_paused before.copies.state)
 
--- A change of a page that isn't the actor's own is refused and changes nothing; any other changes that page alone.
+-- A change of a page that isn't the actor's own, or is part of a large one, is refused and changes nothing; any other changes that page alone.
 abbrev pub ChangesHost : ℕ → HostChange → Kept → Kept → Answer → Bool → Type 0
 ChangesHost page change before after answer false = (answer ≡ Refused OutOfRange) × (after ≡ before)
 ChangesHost page change before after answer true =
-    ChangesEntries before.sizes page change before.changed after.changed answer × (after.slots ≡ before.slots) × (after.words ≡ before.words)
-    × (after.dirty ≡ before.dirty) × (after.copies ≡ before.copies)
+    ChangesUnlessHuge before.sizes page change before.changed after.changed answer (is_huge (host_of before.changed page)) × (after.slots ≡ before.slots)
+    × (after.words ≡ before.words) × (after.dirty ≡ before.dirty) × (after.copies ≡ before.copies)

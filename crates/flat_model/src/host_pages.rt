@@ -1,7 +1,7 @@
 ghost use Rattle.std.specs.Prelude.{◌≡◌, [], IfOk, OnErr};
-ghost use Rattle.core_views.specs.Host.{brought_in};
+ghost use Rattle.core_views.specs.Host.{brought_in, is_huge};
 ghost use Rattle.core_views.specs.declared.trace.HostChange.TheVariants.{Move};
-ghost use Rattle.flat_model.specs.HostPages.{ChangesEntries, Maps, host_of};
+ghost use Rattle.flat_model.specs.HostPages.{ChangesEntries, ChangesUnlessHuge, Maps, host_of};
 
 use crate::free_frames::FreeFrames;
 use core_views::{Answer, HostChange, HostEntry, NoMemory, Refusal, Sizes};
@@ -55,13 +55,27 @@ impl HostPages {
             frame: page,
             present: true,
             writable: true,
+            level: 1,
         };
         self.changed.get(&page).copied().unwrap_or(own)
     }
 
-    /// Changes the entry of the page, and gives the answer of the line that asked
-    /// for it. Where memory is refused, nothing has changed.
+    /// Changes the entry of the page, unless it is part of a large one, and gives the answer
+    /// of the line that asked for it. Where memory is refused, nothing has changed.
     pub fn change(&mut self, page: u64, change: HostChange) -> Result<Answer, NoMemory>
+        ensures changes { let huge = is_huge (host_of self.old.changed page) in
+            IfOk result (λ answer. ChangesUnlessHuge self.old.sizes page change self.old.changed self.new.changed answer huge) }
+        ensures kept { OnErr result (self.new ≡ self.old) }
+        ensures sizes { self.new.sizes ≡ self.old.sizes }
+    {
+        if self.entry_of(page).is_huge() {
+            return Ok(Answer::Refused(Refusal::IsHuge));
+        }
+        self.revise(page, change)
+    }
+
+    // Changes the entry of the page, which is a small one.
+    fn revise(&mut self, page: u64, change: HostChange) -> Result<Answer, NoMemory>
         ensures changes { IfOk result (ChangesEntries self.old.sizes page change self.old.changed self.new.changed) }
         ensures kept { OnErr result (self.new ≡ self.old) }
         ensures sizes { self.new.sizes ≡ self.old.sizes }

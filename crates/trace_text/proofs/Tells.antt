@@ -13,7 +13,7 @@ use Rattle.core_views.specs.declared.answer.Answer.{Answer}
 use Rattle.core_views.specs.declared.answer.Answer.TheVariants.{Reached, Mmio, HostFault, Starved, Paused, Done, Moved, Bits, Copied, Image, Refused}
 use Rattle.core_views.specs.declared.answer.Refusal.{Refusal}
 use Rattle.core_views.specs.declared.answer.Refusal.TheVariants.{BadId, TooLarge, Missing, Logged, NoLog, Resize, Fixed, Overlap, HostOverlap, OutOfRange}
-use Rattle.core_views.specs.declared.answer.Refusal.TheVariants.{NoFrame, BadRange, Migrating, NotLogged, NotStarted}
+use Rattle.core_views.specs.declared.answer.Refusal.TheVariants.{IsHuge, NotAligned, NoFrame, BadRange, Migrating, NotLogged, NotStarted}
 use Rattle.trace_text.specs.Laws.{IsPrintable, AreNumbers, LinesTell}
 use Rattle.trace_text.proofs.Images.{images_tell}
 use Rattle.trace_text.proofs.Numbers.{differ, heads, no_number, number, parts, small, space}
@@ -59,10 +59,12 @@ by_letter l =
     if get_or l 8 0 == 109 then (if get_or l 10 0 == 115 then Missing else Migrating) else
     if get_or l 8 0 == 108 then Logged else
     if get_or l 8 0 == 110 then (
-    if get_or l 10 0 == 116 then (if get_or l 12 0 == 108 then NotLogged else NotStarted) else (if get_or l 11 0 == 108 then NoLog else NoFrame)
+    if get_or l 10 0 == 116 then (if get_or l 12 0 == 108 then NotLogged else if get_or l 12 0 == 97 then NotAligned else NotStarted) else
+    (if get_or l 11 0 == 108 then NoLog else NoFrame)
     ) else
     if get_or l 8 0 == 114 then Resize else
     if get_or l 8 0 == 102 then Fixed else
+    if get_or l 8 0 == 105 then IsHuge else
     if get_or l 8 0 == 111 then (if get_or l 9 0 == 118 then Overlap else OutOfRange) else
     HostOverlap
 
@@ -78,6 +80,8 @@ letter_tells Fixed = refl
 letter_tells Overlap = refl
 letter_tells HostOverlap = refl
 letter_tells OutOfRange = refl
+letter_tells IsHuge = refl
+letter_tells NotAligned = refl
 letter_tells NoFrame = refl
 letter_tells BadRange = refl
 letter_tells Migrating = refl

@@ -272,6 +272,8 @@ fn names_each_refusal(rt: HostRuntime) -> Result<(), Fail> {
         (Refusal::Fixed, "fixed"),
         (Refusal::Overlap, "overlap"),
         (Refusal::HostOverlap, "host-overlap"),
+        (Refusal::IsHuge, "is-huge"),
+        (Refusal::NotAligned, "not-aligned"),
     ];
     expect(&rt, (first_misnamed(&names), true));
     Ok(())

@@ -12,12 +12,15 @@ level_low word = omega arith
 
 -- what a host word is made of, as an entry
 pub entry_made : (frame : ℕ) (present allowed : Bool) (level : ℕ) → level < 4
-    → entry_of (host_word frame present allowed level) ≡ record { frame = frame; present = present; writable = allowed }
+    → entry_of (host_word frame present allowed level) ≡ record { frame = frame; present = present; writable = allowed; level = level }
 entry_made frame present allowed level low =
     let put : ℕ = host_word frame present allowed level in
-    ap (λ (f : ℕ). record { frame = f; present = host_present put; writable = host_allows_write put }) (host_has_frame frame present allowed level low)
-    ∙ (ap (λ (b : Bool). record { frame = frame; present = b; writable = host_allows_write put }) (host_is_present frame present allowed level)
-    ∙ ap (λ (b : Bool). record { frame = frame; present = present; writable = b }) (host_is_writable frame present allowed level))
+    ap (λ (f : ℕ). record { frame = f; present = host_present put; writable = host_allows_write put; level = host_level put })
+    (host_has_frame frame present allowed level low)
+    ∙ (ap (λ (b : Bool). record { frame = frame; present = b; writable = host_allows_write put; level = host_level put })
+    (host_is_present frame present allowed level)
+    ∙ (ap (λ (b : Bool). record { frame = frame; present = present; writable = b; level = host_level put }) (host_is_writable frame present allowed level)
+    ∙ ap (λ (l : ℕ). record { frame = frame; present = present; writable = allowed; level = l }) (host_has_level frame present allowed level low)))
 
 pub words_tell : (one : Bool) (frame word : ℕ) → WordsTell one frame word
 words_tell one frame word = record {

@@ -109,14 +109,18 @@ AccessUnder pool (access.Fault p) gfn op t u = Runs u × NotedAt pool p gfn op t
 AccessUnder pool (access.Leave (leaving.Reached frame value)) gfn op t u = u.stage ≡ HasAccessed frame value
 AccessUnder pool _ gfn op t u = Runs u
 
--- A host line has done nothing yet, up to its change, and from its first step on it has looked at its page, which its word maps so, but that the page may have
--- been brought in since; after it, it has changed the page, to the word that it has put.
+-- The line has noted its page, which is small, as its word was when it was looked at, but that the page may have been brought in since.
+abbrev pub HasNoted : ℕ → Topics → Notes → Type 0
+HasNoted page t notes = (seen : HostEntry) × (notes.host page ≡ Some seen) × Agree seen (entry_of (word_looked t.host)) × (seen.level ≡ 1)
+
+-- A host line has done nothing yet, up to its change, and from its first step on it has looked at its page, which is small, and which its word maps so, but
+-- that the page may have been brought in since; after it, it has changed the page, to the word that it has put.
 abbrev pub HostUnder : HostPlace → ℕ → Topics → LineUnderWay → Type 0
 HostUnder (host_at.Look moving) page t u = u.stage ≡ Fresh
 HostUnder (host_at.End p) page t u = u.stage ≡ HasChangedHost (entry_of (word_looked t.host))
 HostUnder host_at.Watch page t u = u.stage ≡ HasChangedHost (entry_of (word_looked t.host))
 HostUnder host_at.Free page t u = u.stage ≡ HasChangedHost (entry_of (word_looked t.host))
-HostUnder _ page t u = (u.stage ≡ Fresh) × ((seen : HostEntry) × (u.notes.host page ≡ Some seen) × Agree seen (entry_of (word_looked t.host)))
+HostUnder _ page t u = (u.stage ≡ Fresh) × HasNoted page t u.notes
 
 -- The line under way is this one, with this command, at this place, and its actor holds these topics.
 abbrev pub UnderAt : Sizes → (ℕ → ℕ) → Place → Line → Command → Topics → LineUnderWay → Type 0

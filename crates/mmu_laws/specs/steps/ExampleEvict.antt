@@ -80,7 +80,7 @@ events_to_write =
     ∷ by write_first (Answered 3 (Reached 65 0))
     ∷ by evict_line (Begun evict_line)
     ∷ by evict_line (LookedAtHost 65)
-    ∷ by evict_line (HostChanged 65 (record { frame = 65; present = false; writable = true }))
+    ∷ by evict_line (HostChanged 65 (record { frame = 65; present = false; writable = true; level = 1 }))
     ∷ by evict_line (Answered 4 Done)
     ∷ by bring_line (Begun bring_line)
     ∷ by bring_line LookedAtPause
@@ -107,7 +107,7 @@ evict_events =
     events_to_write
     ++ (by evict_again (Begun evict_again)
     ∷ by evict_again (LookedAtHost 65)
-    ∷ by evict_again (HostChanged 65 (record { frame = 65; present = false; writable = true }))
+    ∷ by evict_again (HostChanged 65 (record { frame = 65; present = false; writable = true; level = 1 }))
     ∷ by evict_again (Answered 7 Done)
     ∷ by forbid_line (Begun forbid_line)
     ∷ by forbid_line (LookedAtHost 65)
@@ -116,7 +116,7 @@ evict_events =
     ∷ by read_between LookedAtSlots
     ∷ by read_between (LookedAtHost 65)
     ∷ by read_between (BroughtIn 65)
-    ∷ by forbid_line (HostChanged 65 (record { frame = 65; present = true; writable = false }))
+    ∷ by forbid_line (HostChanged 65 (record { frame = 65; present = true; writable = false; level = 1 }))
     ∷ by forbid_line (Answered 8 Done)
     ∷ by read_between LookedAtPause
     ∷ by read_between LookedAtSlots

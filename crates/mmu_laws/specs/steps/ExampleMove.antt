@@ -76,7 +76,7 @@ move_events =
     ∷ by read_seven (LookedAtHost 66)
     ∷ by move_seven (Begun move_seven)
     ∷ by move_seven (LookedAtHost 66)
-    ∷ by move_seven (HostChanged 66 (record { frame = 128; present = true; writable = true }))
+    ∷ by move_seven (HostChanged 66 (record { frame = 128; present = true; writable = true; level = 1 }))
     ∷ by move_seven (Answered 5 (Moved 128))
     ∷ by read_seven LookedAtPause
     ∷ by read_seven LookedAtSlots
@@ -86,7 +86,7 @@ move_events =
     ∷ by read_seven (Answered 4 (Reached 128 0))
     ∷ by move_six (Begun move_six)
     ∷ by move_six (LookedAtHost 65)
-    ∷ by move_six (HostChanged 65 (record { frame = 66; present = true; writable = true }))
+    ∷ by move_six (HostChanged 65 (record { frame = 66; present = true; writable = true; level = 1 }))
     ∷ by move_six (Answered 6 (Moved 66))
     ∷ by read_six (Begun read_six)
     ∷ by read_six LookedAtPause

@@ -78,7 +78,7 @@ events_to_both =
 abbrev pub events_to_one : List Event
 events_to_one =
     events_to_both
-    ++ (by protect_below (HostChanged 64 (record { frame = 64; present = true; writable = false }))
+    ++ (by protect_below (HostChanged 64 (record { frame = 64; present = true; writable = false; level = 1 }))
     ∷ by protect_below (Answered 4 Done)
     ∷ by read_inside LookedAtPause
     ∷ by read_inside LookedAtSlots
@@ -91,7 +91,7 @@ events_to_none =
     ++ (by read_inside LookedAtPause
     ∷ by read_inside LookedAtSlots
     ∷ by read_inside (LookedAtHost 65)
-    ∷ by evict_above (HostChanged 66 (record { frame = 66; present = false; writable = true }))
+    ∷ by evict_above (HostChanged 66 (record { frame = 66; present = false; writable = true; level = 1 }))
     ∷ by evict_above (Answered 5 Done)
     ∷ [])
 

@@ -71,7 +71,7 @@ events_to_fault =
     ∷ by write_first (Answered 3 (Reached 65 0))
     ∷ by protect_line (Begun protect_line)
     ∷ by protect_line (LookedAtHost 65)
-    ∷ by protect_line (HostChanged 65 (record { frame = 65; present = true; writable = false }))
+    ∷ by protect_line (HostChanged 65 (record { frame = 65; present = true; writable = false; level = 1 }))
     ∷ by protect_line (Answered 5 Done)
     ∷ by denied_line LookedAtPause
     ∷ by denied_line LookedAtSlots

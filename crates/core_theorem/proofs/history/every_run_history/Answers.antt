@@ -1,6 +1,6 @@
 use Rattle.std.proofs.Common.{ap, sym, ◌∙◌, subst, ◌<◌, ℕ, ◌≡◌}
 use Rattle.core_views.specs.declared.host.HostEntry.{HostEntry}
-use Rattle.spte_words.specs.HostWords.{host_allows_write, host_frame, host_present, host_word}
+use Rattle.spte_words.specs.HostWords.{host_frame}
 use Rattle.spte_words.specs.declared.area.Area.TheVariants as area
 use Rattle.mmu_core.specs.machine.Enabled.{mmu}
 use Rattle.mmu_core.specs.machine.Machine.{run}
@@ -8,6 +8,7 @@ use Rattle.mmu_core.specs.machine.Worlds.{history}
 use Rattle.mmu_laws.proofs.flat.EveryHistory.{every_flat, every_history}
 use Rattle.mmu_core.proofs.pages.FrameUses.{frames_apart}
 use Rattle.core_theorem.proofs.Runs.{sound}
+use Rattle.core_theorem.specs.Runs.{word_of_entry}
 use Rattle.core_views.specs.Flat.{first_flat}
 use Rattle.core_views.specs.Events.{after_all}
 use Rattle.mmu_core.specs.machine.View.{word_in}
@@ -25,10 +26,8 @@ returns-clause-facts c z lines w ss R =
     = λ page there. ap (λ (e : HostEntry). e.frame) (F.host page there) in record {
       refines = F;
       host = λ page there.
-          let found : ℕ = word_in z (run mmu w ss) area.Host page in
-          (T.hosts page there).0
-          ∙ ap (host_word (host_frame found) (host_present found) (host_allows_write found)) (T.lowest.hosts page there)
-          ∙ ap (λ (e : HostEntry). host_word e.frame e.present e.writable 1) (sym (F.host page there));
+          (T.hosts page there).0 ∙ ap word_of_entry (sym (F.host page there));
+      small = λ page there. ap (λ (e : HostEntry). e.level) (F.host page there) ∙ T.lowest.hosts page there;
       frames = λ page there. subst (λ n. n < z.frames) (sym (frame page there)) (T.hosts page there).1;
       apart = λ page other low too same. frames_apart T.frames page other low too (sym (frame page low) ∙ (same ∙ frame other too));
     }

@@ -68,11 +68,12 @@ asked_change _ = Move
 
 -- Frame 2 is named by page 2.
 no_move : (change : HostChange) → ChangeHost 1 Move ≡ ChangeHost 1 change
-    → Changes host_sizes own_frames 1 change (record { frame = 2; present = true; writable = true }) → ⊥
+    → Changes host_sizes own_frames 1 change (record { frame = 2; present = true; writable = true; level = 1 }) → ⊥
 unfolding asked_change
 no_move change asked is =
     let taken =
-    subst (λ (x : HostChange). Changes host_sizes own_frames 1 x (record { frame = 2; present = true; writable = true })) (sym (ap asked_change asked)) is in
+    subst (λ (x : HostChange). Changes host_sizes own_frames 1 x (record { frame = 2; present = true; writable = true; level = 1 }))
+    (sym (ap asked_change asked)) is in
     absurd (cc taken.2)
 
 pub returns-clause-named : goal.returns-clause-named

@@ -31,7 +31,7 @@ use Rattle.part_steps.specs.declared.part_step.PartStep.{PartStep}
 use Rattle.part_steps.specs.declared.part_step.PartStep.TheVariants as part
 use Rattle.part_steps.specs.FrameTopics.{frame_owned, words_moved}
 use Rattle.part_steps.specs.PartTasks.{word_looked}
-use Rattle.spte_words.specs.HostWords.{host_allows_write, host_frame, host_present, with_frame, with_presence, with_writes}
+use Rattle.spte_words.specs.HostWords.{host_allows_write, host_frame, host_level, host_present, with_frame, with_presence, with_writes}
 use Rattle.spte_words.specs.Areas.{words_of_bits}
 use Rattle.mmu_core.specs.declared.claim.ClaimNext.{ClaimNext}
 use Rattle.mmu_core.specs.declared.watch.WatchNext.{WatchNext}
@@ -43,7 +43,7 @@ use Rattle.mmu_core.specs.orders.InvalidateSteps.{begin_next, begin_part, end_ne
 
 -- the entry that a host word is
 abbrev pub entry_of : ℕ → HostEntry
-entry_of word = record { frame = host_frame word; present = host_present word; writable = host_allows_write word }
+entry_of word = record { frame = host_frame word; present = host_present word; writable = host_allows_write word; level = host_level word }
 
 -- the host word that the change puts in place of another one, where this frame is owned
 abbrev pub revised : HostChange → ℕ → ℕ → ℕ

@@ -62,7 +62,7 @@ use Rattle.mmu_core.specs.forms.host.HostSteps.{entry_of}
 use Rattle.core_views.specs.Traces.{IsCommandFor}
 use Rattle.mmu_core.proofs.held.UsableKept.{used_agrees}
 use Rattle.core_views.specs.Sizes.{index_of}
-use Rattle.spte_words.specs.HostWords.{host_allows_write, host_frame}
+use Rattle.spte_words.specs.HostWords.{host_allows_write, host_frame, host_level}
 use Rattle.core_views.specs.declared.actor.Actor.TheVariants.{Vcpu}
 use Rattle.core_views.specs.declared.actor.Actor.TheVariants as actors
 
@@ -88,9 +88,9 @@ walk_under pool gfn op t u again entry_kind.Leaf allowed runs = leaf_under pool 
 walk_under pool gfn op t u again _ allowed runs = runs
 
 -- A page that is present, and of which the host forbids nothing to the operation, names its frame.
-frame_named : (op : Op) (frame : ℕ) (writable : Bool) → (is_write op && not writable) ≡ false
-    → frame_for op (record { frame = frame; present = true; writable = writable }) ≡ Some frame
-frame_named op frame writable allowed = ap (λ (b : Bool). if b || not true then None else Some frame) allowed
+frame_named : (op : Op) (frame : ℕ) (writable : Bool) (level : ℕ) → (is_write op && not writable) ≡ false
+    → frame_for op (record { frame = frame; present = true; writable = writable; level = level }) ≡ Some frame
+frame_named op frame writable level allowed = ap (λ (b : Bool). if b || not true then None else Some frame) allowed
 
 -- what a touch finds: the page behind the guest frame, and its word in memory
 record Touches (z : Sizes) (host : ℕ → ℕ) (s : State) (gfn word : ℕ) (op : Op) (facts : Facts) : Type 0 where
@@ -138,8 +138,9 @@ touches z v a line gfn word op facts u S I P U K R =
       named =
           let word : ℕ = v.words area.Host page in
           ap (frame_for op) (R.refines.host page page_in)
-          ∙ (ap (λ (b : Bool). frame_for op (record { frame = host_frame word; present = b; writable = host_allows_write word })) F.present
-          ∙ frame_named op (host_frame word) (host_allows_write word) allowed.1);
+          ∙ (ap (λ (b : Bool). frame_for op (record { frame = host_frame word; present = b; writable = host_allows_write word; level = host_level word }))
+          F.present
+          ∙ frame_named op (host_frame word) (host_allows_write word) (host_level word) allowed.1);
       behind_is =
           page_is_behind z (v.words area.Slots 0) (v.words area.Role) (v.words area.Pool) F.id gfn F.slot op (flat_slots facts.slots)
           I.set_part F.live F.holds allowed.0 (refined_slots z (v.words area.Slots 0) (v.words area.Pool) (v.words area.Host) (v.words area.Content)

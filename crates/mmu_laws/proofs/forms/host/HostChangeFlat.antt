@@ -1,6 +1,6 @@
 -- What the exchange of a host word owes flat memory: its page is changed so, and memory stays, since a page that is moved has its words in its new frame.
 use Rattle.std.proofs.Common.{◌≡◌, ◌<◌, ℕ, [], ◌∷◌, Bool, true, false, refl, sym, subst, ap, ◌∙◌}
-use Rattle.std.specs.Prelude.{◌==◌, if◌then◌else◌, Some}
+use Rattle.std.specs.Prelude.{◌==◌, if◌then◌else◌, Some, nat_lt}
 use Rattle.core_views.specs.declared.event.EventKind.TheVariants.{HostChanged}
 use Rattle.core_views.specs.declared.place.EndPlace.TheVariants as ends
 use Rattle.core_views.specs.declared.place.HostPlace.TheVariants.{Change, End}
@@ -142,6 +142,7 @@ module _ (z : Sizes) (v : View) (a : ℕ) (line : Line) (page : ℕ) (change : H
               works = host_at_once z v a line page change facts past u Change true S I R.under.0 K.0.own_;
               seen = R.under.1.1.0;
               looked = R.under.1.1.1;
+              small = ap (nat_lt 1) R.under.1.1.3;
               agrees = subst (Agree R.under.1.1.0) (sym now_) R.under.1.1.2;
               changes = revised_entry change frame looked z facts.host page now_ (frame_free K S.there P R);
             },
@@ -171,6 +172,7 @@ module _ (z : Sizes) (v : View) (a : ℕ) (line : Line) (page : ℕ) (change : H
             R.under.1.1.1,
             subst (λ w. Agree R.under.1.1.0 (entry_of w)) (sym (looked_now M false lost))
                 (still_agree R.under.1.1.0 looked (v.words area.Host at_page) R.under.1.1.2 (change_finds z v a page change P M)),
+            R.under.1.1.3,
           ),
         ),
       )

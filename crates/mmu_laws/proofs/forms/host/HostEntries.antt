@@ -59,10 +59,11 @@ answers_moved _ page entry moves = absurd (cc moves)
 -- What was seen agrees with what is, where the two are the same.
 pub same_agree : (seen now_ : HostEntry) → seen ≡ now_ → Agree seen now_
 same_agree seen now_ is =
-    (ap (λ (e : HostEntry). e.frame) is, ap (λ (e : HostEntry). e.writable) is, λ there. sym (ap (λ (e : HostEntry). e.present) is) ∙ there)
+    (ap (λ (e : HostEntry). e.frame) is, ap (λ (e : HostEntry). e.writable) is, ap (λ (e : HostEntry). e.level) is,
+    λ there. sym (ap (λ (e : HostEntry). e.present) is) ∙ there)
 
 -- And where the page was brought in since.
 pub still_agree : (seen : HostEntry) (word now_ : ℕ) → Agree seen (entry_of word) → IsStill word now_ → Agree seen (entry_of now_)
 still_agree seen word now_ A (inl same) = subst (λ w. Agree seen (entry_of w)) same A
 still_agree seen word now_ A (inr brought) =
-    subst (Agree seen) (sym (ap entry_of brought.1 ∙ (words_tell true 0 word).presence)) (A.0, A.1, λ there. refl)
+    subst (Agree seen) (sym (ap entry_of brought.1 ∙ (words_tell true 0 word).presence)) (A.0, A.1, A.2, λ there. refl)

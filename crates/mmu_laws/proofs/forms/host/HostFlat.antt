@@ -6,6 +6,7 @@ use Rattle.core_views.specs.declared.answer.Answer.{Answer}
 use Rattle.core_views.specs.declared.answer.Answer.TheVariants.{Done, Moved, Refused}
 use Rattle.core_views.specs.declared.answer.Refusal.TheVariants.{NoFrame, OutOfRange}
 use Rattle.core_views.specs.declared.event.EventKind.TheVariants.{HostChanged, LookedAtHost}
+use Rattle.core_views.specs.declared.host.HostEntry.{HostEntry}
 use Rattle.core_views.specs.declared.place.BeginPlace.TheVariants as begins
 use Rattle.core_views.specs.declared.place.EndPlace.{EndPlace}
 use Rattle.core_views.specs.declared.place.EndPlace.TheVariants as ends
@@ -59,7 +60,7 @@ use Rattle.mmu_core.proofs.forms.host.HostKept.{is_change}
 use Rattle.mmu_core.proofs.forms.host.HostKnown.{begin_leaves_host, end_leaves_host}
 use Rattle.mmu_core.proofs.machine.PartStepping.{IsPart}
 use Rattle.mmu_core.proofs.machine.Stepping.{IsStep}
-use Rattle.mmu_laws.specs.flat.FlatInvariant.{HostUnder}
+use Rattle.mmu_laws.specs.flat.FlatInvariant.{HasNoted, HostUnder}
 use Rattle.mmu_laws.proofs.forms.access.FaultNotes.{entry_noted}
 use Rattle.mmu_laws.proofs.flat.FlatSteps.{GoesBy, RefinesBy, StepGoes, answers_by, leaves_by}
 use Rattle.mmu_laws.proofs.forms.host.HostChangeFlat.{change_lost, change_won}
@@ -68,11 +69,12 @@ use Rattle.mmu_laws.proofs.forms.host.HostReady.{HasLooked, HostTask, ReadyHost,
 use Rattle.mmu_laws.proofs.forms.host.HostReady.{host_tells_none}
 use Rattle.mmu_laws.proofs.forms.host.HostReady.{looked_still, noted_still}
 
--- A line that moves its page, and has work, may be given up where no frame is free.
-gives_up : (z : Sizes) (facts : Facts) (h : Held) (page : ℕ) (change : HostChange) (notes : Notes) → is_move change ≡ true
-    → HasWork z facts h.state.actor (ChangeHost page change) → MayLeave z facts h.state.actor (ChangeHost page change) notes (Refused NoFrame)
-gives_up z facts h page Move notes moves works = works
-gives_up z facts h page _ notes moves works = absurd (cc moves)
+-- A line that moves its page, which is small, and has work, may be given up where no frame is free.
+gives_up : (z : Sizes) (facts : Facts) (h : Held) (page : ℕ) (change : HostChange) (notes : Notes) (t : Topics) → is_move change ≡ true
+    → HasWork z facts h.state.actor (ChangeHost page change) → HasNoted page t notes
+    → MayLeave z facts h.state.actor (ChangeHost page change) notes (Refused NoFrame)
+gives_up z facts h page Move notes t moves works N = (works, record { entry = N.0; looked = N.1; small = ap (nat_lt 1) N.3 })
+gives_up z facts h page _ notes t moves works N = absurd (cc moves)
 
 module _ (z : Sizes) (v : View) (a : ℕ) (line : Line) (page : ℕ) (change : HostChange) (facts : Facts) (past : Past) (u : LineUnderWay) where
   abbrev command : Command
@@ -114,10 +116,11 @@ module _ (z : Sizes) (v : View) (a : ℕ) (line : Line) (page : ℕ) (change : H
 
   -- It looks at its page, or is refused.
   look_goes : (moving own : Bool) → is_own h.state.sizes h.state.actor page ≡ own → IsStep z v a line command (place.Host (Look moving)) → Invariant z v
-      → ReadyAt (Look moving) → RefinesBy z v (task (Look moving)) facts → (own ≡ true → word_looked (after (Look moving)).host ≡ v.words area.Host page)
+      → TopicsInvariant z v → ReadyAt (Look moving) → RefinesBy z v (task (Look moving)) facts
+      → (own ≡ true → word_looked (after (Look moving)).host ≡ v.words area.Host page)
       → GoesBy z v a line command (task (Look moving)) (place_after (after_look moving own))
       ((if own then LookedAtHost page ∷ [] else []) ++ answering (after_look moving own) line) facts past u
-  look_goes moving true is S I R stands looked = record {
+  look_goes moving true is S I P R stands looked = record {
     allowed = (ap may_look R.under.1, tt);
     refines = stands;
     under = (
@@ -129,11 +132,13 @@ module _ (z : Sizes) (v : View) (a : ℕ) (line : Line) (page : ℕ) (change : H
           entry_noted page (facts.host page) u.notes.host,
           same_agree (facts.host page) (entry_of (word_looked (after (Look moving)).host))
               (R.refines.host page (host_page_low z v a line page change facts past u I S.there is) ∙ ap entry_of (sym (looked refl))),
+          ap (λ (e : HostEntry). e.level) (R.refines.host page (host_page_low z v a line page change facts past u I S.there is))
+              ∙ P.lowest.hosts page (host_page_low z v a line page change facts past u I S.there is),
         ),
       ),
     );
   }
-  look_goes moving false is S I R stands looked =
+  look_goes moving false is S I P R stands looked =
       answers_by z v a line command (task (Look moving)) facts past u stands (Refused OutOfRange) R.under.0
       (subst (λ s. Tells z facts h.state.actor u.line.command s (Refused OutOfRange)) (sym R.under.1)
       (host_at_once z v a line page change facts past u (Look moving) false S I R.under.0 is))
@@ -161,8 +166,8 @@ module _ (z : Sizes) (v : View) (a : ℕ) (line : Line) (page : ℕ) (change : H
       let own : u.line.command ≡ command = own_command (Claim begun) S R.under.0 in
       leaves_by z v a line command (task (Claim begun)) facts past u (host_still z v a line page change facts past u (Claim begun) refl M P R) (Refused NoFrame)
       R.under.0 R.under.1.0
-      (subst (λ c. MayLeave z facts h.state.actor c u.notes (Refused NoFrame)) (sym own) (gives_up z facts h page change u.notes K.2.moves
-      (subst (HasWork z facts h.state.actor) own (host_at_once z v a line page change facts past u (Claim begun) true S I R.under.0 K.1.own_))))
+      (subst (λ c. MayLeave z facts h.state.actor c u.notes (Refused NoFrame)) (sym own) (gives_up z facts h page change u.notes (after (Claim begun)) K.2.moves
+      (subst (HasWork z facts h.state.actor) own (host_at_once z v a line page change facts past u (Claim begun) true S I R.under.0 K.1.own_)) L.1))
 
   -- ---- the end
 
@@ -205,7 +210,7 @@ module _ (z : Sizes) (v : View) (a : ℕ) (line : Line) (page : ℕ) (change : H
   pub host_goes_on : (p : HostPlace) → HostKnows p page change h → IsStep z v a line command (place.Host p) → Invariant z v → TopicsInvariant z v
       → CopiedAt z v → Made p → ReadyAt p → StepGoes z v a line command (place.Host p) facts past u
   host_goes_on (Look moving) K S I P C M R =
-      look_goes moving (is_own h.state.sizes h.state.actor page) refl S I R (host_still z v a line page change facts past u (Look moving) refl M P R)
+      look_goes moving (is_own h.state.sizes h.state.actor page) refl S I P R (host_still z v a line page change facts past u (Look moving) refl M P R)
       (looked_now moving M)
   host_goes_on (Claim begun) K S I P C M R =
       let x : ℕ = found (Claim begun) in

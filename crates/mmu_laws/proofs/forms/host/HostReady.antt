@@ -1,6 +1,5 @@
 -- What each step of a host line owes flat memory that tells nothing, and what is so at each of its places.
 use Rattle.std.proofs.Common.{◌≡◌, ◌<◌, ℕ, [], Bool, true, false, Some, sym, subst, ap, ◌∙◌}
-use Rattle.core_views.specs.declared.host.HostEntry.{HostEntry}
 use Rattle.core_views.specs.declared.place.HostPlace.{HostPlace}
 use Rattle.core_views.specs.declared.place.Place.TheVariants as place
 use Rattle.core_views.specs.declared.sizes.Sizes.{Sizes}
@@ -27,12 +26,12 @@ use Rattle.mmu_core.proofs.forms.host.HostNeeds.{own_low}
 use Rattle.mmu_core.proofs.machine.PartStepping.{IsPart}
 use Rattle.mmu_core.proofs.machine.Stepping.{IsStep}
 use Rattle.mmu_core.proofs.words.PartTopics.{is_there, part_topics_is}
-use Rattle.mmu_laws.specs.flat.FlatInvariant.{HostUnder}
+use Rattle.mmu_laws.specs.flat.FlatInvariant.{HasNoted, HostUnder}
 use Rattle.mmu_laws.proofs.flat.FlatSteps.{GoesBy, Ready, RefinesBy, goes_by, part_refines, topics_by}
 
--- The line has looked at its page, which its word maps so, but that the page may have been brought in since; it has done nothing yet.
+-- The line has looked at its page, which is small, and has done nothing yet.
 abbrev pub HasLooked : ℕ → Topics → LineUnderWay → Type 0
-HasLooked page t u = (u.stage ≡ Fresh) × ((seen : HostEntry) × (u.notes.host page ≡ Some seen) × Agree seen (entry_of (word_looked t.host)))
+HasLooked page t u = (u.stage ≡ Fresh) × HasNoted page t u.notes
 
 module _ (z : Sizes) (v : View) (a : ℕ) (line : Line) (page : ℕ) (change : HostChange) (facts : Facts) (past : Past) (u : LineUnderWay) where
   abbrev h : Held
@@ -76,7 +75,7 @@ module _ (z : Sizes) (v : View) (a : ℕ) (line : Line) (page : ℕ) (change : H
 
   -- So what the line has noted of its page stays.
   pub noted_still : (p : HostPlace) → word_looked (host_after p).host ≡ word_looked h.topics.host → HasLooked page h.topics u → HasLooked page (host_after p) u
-  noted_still p same L = (L.0, (L.1.0, L.1.1, subst (λ w. Agree L.1.0 (entry_of w)) (sym same) L.1.2))
+  noted_still p same L = (L.0, (L.1.0, L.1.1, subst (λ w. Agree L.1.0 (entry_of w)) (sym same) L.1.2, L.1.3))
 
   -- What the line is answered at once, by whether the page is its actor's own.
   pub host_at_once : (p : HostPlace) (own : Bool) → IsStep z v a line (ChangeHost page change) (place.Host p) → Invariant z v → u.line ≡ line

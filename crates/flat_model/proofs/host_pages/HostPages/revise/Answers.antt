@@ -5,8 +5,8 @@ use Rattle.core_views.specs.declared.trace.HostChange.{HostChange}
 use Rattle.core_views.specs.HostChanges.{host_answer}
 use Rattle.flat_model.specs.HostPages.{entry_after, host_of}
 use Rattle.flat_model.proofs.HostLines.{keeping, put, same_frame}
-use Rattle.flat_model.proofs.host_pages.HostPages.change.Goals as goal
-use Rattle.flat_model.proofs.host_pages.HostPages.change.Goals.{in-Evict, in-Protect, in-Allow}
+use Rattle.flat_model.proofs.host_pages.HostPages.revise.Goals as goal
+use Rattle.flat_model.proofs.host_pages.HostPages.revise.Goals.{in-Evict, in-Protect, in-Allow}
 
 -- The page keeps its frame.
 same : (c : goal.In_ok-insert) → c.match-change.entry.frame ≡ (host_of c.self.inside.changed.entries c.args.page).frame

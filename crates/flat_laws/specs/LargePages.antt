@@ -1,0 +1,53 @@
+-- Closed histories over pages that the host maps as one large page: what lines print that would change one of them alone, and what they may not do.
+use Rattle.std.specs.Prelude.{◌≡◌, List, [], ◌∷◌, ◌++◌, true, false, map, codes}
+use Rattle.core_views.specs.declared.answer.Answer.{Answer}
+use Rattle.core_views.specs.declared.answer.Answer.TheVariants.{Done, Refused}
+use Rattle.core_views.specs.declared.answer.Refusal.TheVariants.{IsHuge, NoFrame}
+use Rattle.core_views.specs.declared.event.EventKind.{EventKind}
+use Rattle.core_views.specs.declared.event.EventKind.TheVariants.{Begun, LookedAtHost, Exited, HostChanged}
+use Rattle.core_views.specs.declared.trace.HostChange.TheVariants.{Move, Evict, Protect, Allow}
+use Rattle.core_views.specs.declared.trace.Line.{Line}
+use Rattle.core_views.specs.Flat.{Facts, Flat, first_facts, first_flat}
+use Rattle.core_views.specs.FlatHistory.{answers, by, one_by_one}
+use Rattle.core_views.specs.Host.{own_frames}
+use Rattle.core_views.specs.Lawful.{IsLawful}
+use Rattle.core_views.specs.Text.{text}
+use Rattle.flat_laws.specs.HostExamples.{host_line, host_sizes}
+
+-- Each page is part of a large one, of 512 pages.
+abbrev pub large_facts : Facts
+large_facts = record first_facts { host = λ page. record (own_frames page) { level = 2 } }
+
+abbrev pub large_flat : Flat
+large_flat = record first_flat { facts = large_facts }
+
+-- None of them is moved, evicted, protected or allowed. Whose it is is looked at before.
+abbrev pub large_example : List Line
+large_example =
+    host_line 2 0 1 Move ∷ host_line 3 0 1 Evict ∷ host_line 4 0 1 Protect ∷ host_line 5 0 1 Allow ∷ host_line 6 0 2 Move ∷ host_line 7 1 2 Move ∷ []
+
+abbrev pub LargePrints : Type 0
+LargePrints = text (one_by_one host_sizes large_example large_facts)
+    ≡ codes "2 h0 refused is-huge\n3 h0 refused is-huge\n4 h0 refused is-huge\n5 h0 refused is-huge\n"
+    ++ codes "6 h0 refused out-of-range\n7 h1 refused is-huge\n"
+
+-- From this state the line begins, does this, and is answered so. That is not allowed.
+abbrev pub IsUnlawfulFrom : Flat → Line → List EventKind → Answer → Type 0
+IsUnlawfulFrom f line kinds answer = IsLawful host_sizes f (by line (Begun line) ∷ (map (by line) kinds ++ answers line answer)) → ⊥
+
+-- A line changes a page that is part of a large one.
+abbrev pub LargeIsNotChanged : Type 0
+LargeIsNotChanged =
+    IsUnlawfulFrom large_flat (host_line 2 0 1 Evict)
+    (LookedAtHost 1 ∷ HostChanged 1 (record { frame = 1; present = false; writable = true; level = 2 }) ∷ []) Done
+
+-- A line finds no frame for such a page.
+abbrev pub LargeWantsNoFrame : Type 0
+LargeWantsNoFrame = IsUnlawfulFrom large_flat (host_line 2 0 1 Move) (LookedAtHost 1 ∷ Exited (Refused NoFrame) ∷ []) (Refused NoFrame)
+
+-- A line is refused as if its page were part of a large one; and without a look at it.
+abbrev pub SmallIsChanged : Type 0
+SmallIsChanged = IsUnlawfulFrom first_flat (host_line 2 0 1 Evict) (LookedAtHost 1 ∷ Exited (Refused IsHuge) ∷ []) (Refused IsHuge)
+
+abbrev pub LargeIsLookedAt : Type 0
+LargeIsLookedAt = IsUnlawfulFrom large_flat (host_line 2 0 1 Evict) (Exited (Refused IsHuge) ∷ []) (Refused IsHuge)
