@@ -38,6 +38,7 @@ use Rattle.mmu_core.proofs.held.OldSets.{held_are_slots}
 use Rattle.mmu_core.proofs.words.HostStays.{still_present}
 use Rattle.core_theorem.specs.LookUps.{FoundSlotsAreHeld, FreshLookUpsAreTrue, HeldSlotsStand, IsTrueLookUp, LookedUpPagesStand, has_checked}
 use Rattle.core_theorem.proofs.Runs.{sound}
+use Rattle.mmu_core.proofs.held.PageRuns.{some_run}
 
 pub found_slots_are_held : FoundSlotsAreHeld
 found_slots_are_held z lines w ss R actor there whole =
@@ -113,7 +114,8 @@ module _ (z : Sizes) (w : World Held) (a gfn : ℕ) (write : Bool) (G : IsSound 
       let B = behind_it slot gfn L.found.holds in
       let given : SlotGives (word_in z w area.Pool) (word_in z w area.Slots 0) page gfn =
       record { id = t.search.id - 1; slot = slot; live = live; has = B.0; is = B.1 } in
-      none_over i low U.opened ((G.topics.scopes i page low U.opened U.of_it).covers gfn given)
+      none_over i low U.opened
+      ((G.topics.scopes i low U.opened (some_run page (hand_in mmu w i).topics.invalidations.own.pages U.of_it)).covers page gfn U.of_it given)
 
   same_word : L.word ≡ host page
   same_word =

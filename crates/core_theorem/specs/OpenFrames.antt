@@ -5,12 +5,13 @@ use Rattle.spte_words.specs.declared.area.Area.TheVariants as area
 use Rattle.spte_words.specs.declared.spte_kind.SpteKind.TheVariants as entry_kind
 use Rattle.spte_words.specs.Entries.{kind_of}
 use Rattle.mmu_core.specs.alone.FaultAlone.{LeadsTo}
-use Rattle.mmu_core.specs.invariant.InvalidatedPart.{IsClean, IsIn, IsOfPage, may_use}
+use Rattle.mmu_core.specs.invariant.InvalidatedPart.{IsClean, IsIn, IsOfPages, may_use}
 use Rattle.mmu_core.specs.machine.Enabled.{mmu}
 use Rattle.mmu_core.specs.machine.Machine.{hand_in}
 use Rattle.mmu_core.specs.machine.View.{word_in}
 use Rattle.mmu_laws.specs.leaves.OpenFrames.{KeepsEmpty, HasOpen, flush_of, own_of}
 use Rattle.core_theorem.specs.Runs.{AfterEveryRun}
+use Rattle.core_views.specs.declared.topics.PageRun.{PageRun}
 
 -- Each guest frame that an open invalidation is of lies in the range, and below 2 ^ 36.
 abbrev pub OpenFramesAreRecorded : Type 0
@@ -19,12 +20,12 @@ OpenFramesAreRecorded = AfterEveryRun (λ z w.
     → HasOpen w actor → IsIn (own_of w actor) gfn
     → (word_in z w area.RangeStart 0 ≤ gfn) × (gfn < word_in z w area.RangeEnd 0) × (gfn < 2 ^ 36))
 
--- Where it is of a host page, it is of the guest frames that the published slots give to this page, and of no others.
-abbrev pub OpenFramesAreOfThePage : Type 0
-OpenFramesAreOfThePage = AfterEveryRun (λ z w.
-    (actor page : ℕ) → actor < actors_of z
-    → HasOpen w actor → (own_of w actor).page ≡ Some page
-    → IsOfPage (word_in z w area.Pool) (word_in z w area.Slots 0) page (own_of w actor))
+-- Where it is of a run of host pages, it is of the guest frames that the published slots give to these pages, and of no others; and the run is one page.
+abbrev pub OpenFramesAreOfThePages : Type 0
+OpenFramesAreOfThePages = AfterEveryRun (λ z w.
+    (actor : ℕ) (run : PageRun) → actor < actors_of z
+    → HasOpen w actor → (own_of w actor).pages ≡ Some run
+    → (run.level ≡ 1) × IsOfPages (word_in z w area.Pool) (word_in z w area.Slots 0) (own_of w actor))
 
 -- Once its actor has asked for a first flush, no links lead such a guest frame from the root to a leaf; of a slot's, up to the publication.
 abbrev pub OpenFramesAreZapped : Type 0

@@ -1,7 +1,7 @@
 //! Leaves, translations and look-ups in every run.
 ghost use Rattle.core_theorem.specs.Leaves.{HeldLeavesAgree, LeavesAreLowest, LinkedLeavesAgree, TranslationsAgree, UsedLeavesAgree};
 ghost use Rattle.core_theorem.specs.LookUps.{FoundSlotsAreHeld, FreshLookUpsAreTrue, HeldSlotsStand, LookedUpPagesStand};
-ghost use Rattle.core_theorem.specs.OpenFrames.{OpenFramesAreFlushed, OpenFramesAreOfThePage, OpenFramesAreRecorded, OpenFramesAreZapped};
+ghost use Rattle.core_theorem.specs.OpenFrames.{OpenFramesAreFlushed, OpenFramesAreOfThePages, OpenFramesAreRecorded, OpenFramesAreZapped};
 
 /// What leaves and cached translations say is what slots and host say, in every run, and what was
 /// looked up stands while nothing invalidates it (mmu.rst; mmu_notifier.rst).
@@ -34,7 +34,7 @@ pub fn every_run_leaves()
     ensures translations { TranslationsAgree }
     ensures used { UsedLeavesAgree }
     ensures recorded { OpenFramesAreRecorded }
-    ensures scopes { OpenFramesAreOfThePage }
+    ensures scopes { OpenFramesAreOfThePages }
     ensures zapped { OpenFramesAreZapped }
     ensures flushed { OpenFramesAreFlushed }
     ensures found { FoundSlotsAreHeld }

@@ -26,7 +26,7 @@ no_invalidations = record {
   seq = 0;
   checked = Nothing;
   opened = false;
-  own = record { page = None; start = 0; end = 0 };
+  own = record { pages = None; start = 0; end = 0 };
   raised = false;
 }
 

@@ -38,7 +38,7 @@ pub use sequence::Sequence;
 pub use sizes::{LogMode, Sizes};
 pub use topics::{
     Checked, Flush, Frames, Hold, HostLook, Invalidated, Invalidations, MapClaim, OwnedFrame,
-    OwnedPage, SlotSearch, Stay, TableWalk, Topics,
+    OwnedPage, PageRun, SlotSearch, Stay, TableWalk, Topics,
 };
 pub use trace::{
     Command, Header, HostChange, Item, Items, Line, Lines, MigrationCall, Op, Slot, Trace, Until,

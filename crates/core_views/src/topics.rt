@@ -71,13 +71,23 @@ pub enum Checked {
     Seq,
 }
 
-/// What an invalidation is of: the guest frame that a slot gives to a host page, or those of
+/// Host pages, one after the other, that are changed as one: an aligned run of them, which is a
+/// span of the level.
+#[derive(Clone, Copy, PartialEq, Eq, Drop)]
+pub struct PageRun {
+    /// The first page.
+    pub first: u64,
+    /// The level: 1 where it is one page.
+    pub level: u8,
+}
+
+/// What an invalidation is of: the guest frames that slots give to host pages, or those of
 /// a slot, from the first up to, but without, the one after the last. None where `end` is
 /// `start`.
 #[derive(Clone, Copy, PartialEq, Eq, Drop)]
 pub struct Invalidated {
-    /// The host page that is to change; `None` where a slot is to be moved or deleted.
-    pub page: Option<u64>,
+    /// The host pages that are to change; `None` where a slot is to be moved or deleted.
+    pub pages: Option<PageRun>,
     /// The first guest frame.
     pub start: u64,
     /// The guest frame after the last one.
@@ -250,7 +260,7 @@ impl Topics {
                 checked: Checked::Nothing,
                 opened: false,
                 own: Invalidated {
-                    page: None,
+                    pages: None,
                     start: 0,
                     end: 0,
                 },

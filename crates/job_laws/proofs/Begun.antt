@@ -3,7 +3,7 @@ use Rattle.std.proofs.Common.{◌≡◌, ◌≢◌, ◌⊎◌, inl, inr, ◌<◌
 use Rattle.std.proofs.lemmas.List.Elements.{All-weaker}
 use Rattle.std.proofs.Math.Logic.{∥∥₁_elim}
 use Rattle.std.proofs.Props.{props}
-use Rattle.std.specs.Prelude.{Bool, Some, true, false, if◌then◌else◌, ◌==◌, ◌&&◌, not}
+use Rattle.std.specs.Prelude.{Bool, Some, true, false, if◌then◌else◌, ◌==◌, ◌&&◌, not, Option, is_some}
 use Rattle.core_views.specs.declared.kind.Kind.{Kind}
 use Rattle.core_views.specs.declared.place.BeginPlace.{BeginPlace}
 use Rattle.core_views.specs.declared.place.BeginPlace.TheVariants as begins
@@ -21,7 +21,7 @@ use Rattle.part_steps.specs.declared.invalidations.Target.{Target}
 use Rattle.part_steps.specs.declared.invalidations.Target.TheVariants as aim
 use Rattle.part_steps.specs.declared.part_step.PartStep.{PartStep}
 use Rattle.part_steps.specs.declared.part_step.PartStep.TheVariants as part
-use Rattle.part_steps.specs.InvalidationRange.{page_of_target}
+use Rattle.part_steps.specs.InvalidationRange.{page_of_target, IsOnRun, run_or_none}
 use Rattle.part_steps.specs.PartSteps.{PartNeeds}
 use Rattle.part_steps.specs.PartTasks.{part_kind}
 use Rattle.part_steps.specs.PartTopics.{part_topics}
@@ -51,6 +51,7 @@ use Rattle.range_notifier.specs.declared.begin.BeginJob.{BeginJob}
 use Rattle.range_notifier.specs.Notifying.{BeginsAt, BeginsNext, IsInBegin, TurnsBegin, begin_at}
 use Rattle.job_laws.specs.Begun.{BegunFramesAreEmpty, DoneHasBegun, InvalidationHasBegun, IsOfTarget, NothingIsLeft, StaysBegun}
 use Rattle.job_laws.proofs.Told.{IsToldPart, IsToldStep, told_part}
+use Rattle.core_views.specs.declared.topics.PageRun.{PageRun}
 
 -- ---- an open invalidation whose frames are flushed
 
@@ -157,9 +158,10 @@ nothing_left target z w a own_ sound lt E some empty covers_all = record {
 
 -- The frames are those of the target.
 covers_target : (target : Target) (z : Sizes) (w : World Held) (a : ℕ) → IsSound z w → a < actors_of z
-    → (hand_in mmu w a).topics.invalidations.opened ≡ true → (hand_in mmu w a).topics.invalidations.own.page ≡ page_of_target target
+    → (hand_in mmu w a).topics.invalidations.opened ≡ true → (hand_in mmu w a).topics.invalidations.own.pages ≡ run_or_none (page_of_target target)
     → FramesAre target (hand_in mmu w a).topics.invalidations.own → CoversTarget target z w (hand_in mmu w a).topics.invalidations.own
-covers_target (aim.Page page) z w a sound lt opened of_page few gfn of_it = (sound.topics.scopes a page lt opened of_page).covers gfn of_it
+covers_target (aim.Page page) z w a sound lt opened of_pages few gfn of_it =
+    (sound.topics.scopes a lt opened (ap (λ (o : Option PageRun). is_some o) of_pages)).covers page gfn (subst (IsOnRun page) (sym of_pages) refl) of_it
 covers_target (aim.Slot slot) z w a sound lt opened of_page few gfn of_it =
     let start = few.0 in let end_ = few.1 in let low = of_it.0 in let high = of_it.1 in (omega (arith, start, low), omega (arith, end_, high))
 
@@ -264,7 +266,7 @@ module _ (job : BeginJob) (note : ℕ) (before after : Seat) (w : World Held) (D
       subst (λ (z : Sizes). NothingIsLeft job.target z (run mmu w ss)) (sym L.0)
       (nothing_left job.target r.sizes (run mmu w ss) before.actor before.hand.topics.invalidations.own sound L.1.there E.0 sound.holds.sizes.some E.1
       (covers_target job.target r.sizes (run mmu w ss) before.actor sound L.1.there E.0.opened
-      (ap (λ (o : Invalidated). o.page) E.0.own_is ∙ D.knows.1.of_page) (subst (FramesAre job.target) (sym E.0.own_is) D.knows.1.few)))
+      (ap (λ (o : Invalidated). o.pages) E.0.own_is ∙ D.knows.1.of_pages) (subst (FramesAre job.target) (sym E.0.own_is) D.knows.1.few)))
 
   left_told : (ss : List (Step Kind)) → Legal mmu w ss → StaysBegun w ss before.actor → NothingIsLeft job.target before.hand.state.sizes (run mmu w ss)
   left_told ss legal stays = record {

@@ -1,20 +1,21 @@
 -- What is said of the guest frames of leaves that allow writes, in each account of the tables, is so after each step, if it is so of the leaf that it puts.
-use Rattle.std.proofs.Common.{◌≡◌, ap, refl, subst, sym, ℕ}
+use Rattle.std.proofs.Common.{◌≡◌, ◌-◌, ◌∙◌, ap, refl, subst, sym, ℕ}
 use Rattle.std.specs.Prelude.{true}
 use Rattle.core_views.specs.declared.sizes.Sizes.{Sizes}
 use Rattle.core_views.specs.declared.topics.Topics.{Topics}
 use Rattle.core_views.specs.declared.trace.Op.{Op}
 use Rattle.core_views.specs.declared.trace.Op.TheVariants.{Read}
+use Rattle.spte_words.proofs.ChildEntries.{child_can_write}
 use Rattle.spte_words.proofs.ProtectedEntries.{protected_denies}
 use Rattle.spte_words.proofs.ReadsEntries.{kind_of_absent, kind_of_table}
 use Rattle.spte_words.specs.Entries.{can_write}
 use Rattle.spte_words.specs.declared.area.Area.{Area}
 use Rattle.spte_words.specs.declared.area.Area.TheVariants as area
-use Rattle.part_steps.specs.PartTasks.{leaf_fixed, leaf_written}
+use Rattle.part_steps.specs.PartTasks.{entry_index, leaf_fixed, leaf_written}
 use Rattle.part_steps.specs.declared.part_step.PartStep.{PartStep}
 use Rattle.part_steps.specs.declared.part_step.PartStep.TheVariants as part
 use Rattle.mmu_core.proofs.machine.PartStepping.{IsPart}
-use Rattle.mmu_core.proofs.pages.AllOver.{IsLight, over_weaker}
+use Rattle.mmu_core.proofs.pages.AllOver.{IsInherited, IsLight, over_weaker}
 use Rattle.mmu_core.proofs.pages.OverSteps.{OfNewLeaf, over_step}
 use Rattle.mmu_core.proofs.pages.Standing.{entry_now, spot_after, up_after}
 use Rattle.mmu_core.proofs.pages.TreeKept.{tree_kept}
@@ -34,6 +35,10 @@ guarded_light IsSo = record {
   absent = λ level gfn leaf. absurd (let none = kind_of_absent level in cc (none, leaf));
   link = λ level gfn page upper small leaf. absurd (let links = kind_of_table level page upper small in cc (links, leaf));
 }
+
+-- A child allows writes where its leaf does.
+pub guarded_inherited : (IsSo : ℕ → Type 0) → IsInherited (LeafIsGuarded IsSo)
+guarded_inherited IsSo level gfn leaf upper most is so child writes = so is (sym (child_can_write level leaf (entry_index gfn (level - 1))) ∙ writes)
 
 -- It is said of each leaf that allows writes, of these words.
 abbrev pub LeavesAre : Sizes → (Area → ℕ → ℕ) → (ℕ → Type 0) → Type 0

@@ -30,7 +30,10 @@ pub mod LooksKept
 pub mod OwnLooksKept
 pub mod OwnPages
 pub mod PassedKept
+pub mod PageRuns
 pub mod ScopesKept
+pub mod SlotScopesKept
+pub mod RunsKept
 pub mod InSection
 pub mod Retired
 pub mod SetsKept

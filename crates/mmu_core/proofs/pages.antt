@@ -6,6 +6,8 @@ pub mod FrameUses
 pub mod FramesKept
 pub mod FramesTurn
 pub mod LeavesOver
+pub mod SplitLeaves
+pub mod RunLeaves
 pub mod EntryStill
 pub mod ProtectedLeaf
 pub mod LoadedKept

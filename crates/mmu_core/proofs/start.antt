@@ -1,4 +1,5 @@
 pub mod StartFrames
+pub mod StartHosts
 pub mod StartPages
 pub mod StartTopics
 pub mod StartViews

@@ -17,6 +17,7 @@ pub mod AllOver
 pub mod LowestPart
 pub mod PoolPart
 pub mod SearchPart
+pub mod RunsPart
 pub mod HeldPart
 pub mod Grace
 pub mod Scans

@@ -32,7 +32,7 @@ ghost use Rattle.mmu_laws.specs.flat.FlatLogs.{LogsAreFlat};
 ghost use Rattle.mmu_laws.specs.flat.Histories.{AnswersAreTold, EndsWhole, StaysWhole};
 ghost use Rattle.mmu_core.specs.invariant.Laws.{StaysSound, TellsLawfully};
 ghost use Rattle.mmu_laws.specs.leaves.LeafLaws.{CachedLeavesAgree, HeldLeavesAgree, LeavesAgree, LeavesAreLowest, UsedLeavesAgree};
-ghost use Rattle.mmu_laws.specs.leaves.OpenFrames.{OpenFramesAreFlushed, OpenFramesAreOfThePage, OpenFramesAreRecorded, OpenFramesAreZapped};
+ghost use Rattle.mmu_laws.specs.leaves.OpenFrames.{OpenFramesAreFlushed, OpenFramesAreOfThePages, OpenFramesAreRecorded, OpenFramesAreZapped};
 ghost use Rattle.mmu_core.specs.alone.LineAlone.{LineBeginsAlone, LineEndsAlone, LineGoesThrough, NoneStarvedAlone};
 ghost use Rattle.mmu_core.specs.invariant.Scans.{StarvedLinesScan};
 ghost use Rattle.mmu_laws.specs.steps.EventLaws.{EventsAreOfTheirSteps};
@@ -304,7 +304,7 @@ pub fn leaves_agree()
     ensures cached { CachedLeavesAgree }
     ensures used { UsedLeavesAgree }
     ensures recorded { OpenFramesAreRecorded }
-    ensures scopes { OpenFramesAreOfThePage }
+    ensures scopes { OpenFramesAreOfThePages }
     ensures zapped { OpenFramesAreZapped }
     ensures flushed { OpenFramesAreFlushed }
 {}

@@ -12,6 +12,7 @@ use Rattle.core_views.specs.declared.topics.SlotSearch.{SlotSearch}
 use Rattle.core_views.specs.declared.topics.TableWalk.{TableWalk}
 use Rattle.core_views.specs.declared.topics.Topics.{Topics}
 use Rattle.spte_words.specs.declared.area.Area.TheVariants as area
+use Rattle.part_steps.specs.InvalidationRange.{run_or_none}
 use Rattle.part_steps.specs.StayTopics.{has_lock, is_loose, may_walk, may_search, kept_search}
 use Rattle.part_steps.specs.ControlBits.{frames_begin, is_frame_map, is_pool_map, is_word_of, map_begins}
 
@@ -80,7 +81,7 @@ checked_stored word c =
 -- What an actor's own invalidation is of, after a store of an end of the range with this end of its own: from the start on of this host page, if it is of one.
 abbrev pub own_stored : ℕ → ℕ → Option ℕ → Invalidated → Invalidated
 own_stored word bound page own = record {
-  page = if is_word_of area.RangeStart word then page else own.page;
+  pages = if is_word_of area.RangeStart word then run_or_none page else own.pages;
   start = if is_word_of area.RangeStart word then bound else own.start;
   end = if is_word_of area.RangeEnd word then bound else own.end;
 }

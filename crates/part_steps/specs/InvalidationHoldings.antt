@@ -1,6 +1,6 @@
 -- What a hand holds that a step of an invalidation needs, and the change of a host page within one (kvm_main.c, kvm_mmu_invalidate_begin and
 -- kvm_mmu_invalidate_end).
-use Rattle.std.specs.Prelude.{◌≡◌, ◌+◌, ◌-◌, ◌<◌, ◌≤◌, ◌^◌, ℕ, Bool, true, false, ◌==◌, nat_lt, if◌then◌else◌, is_some, Some}
+use Rattle.std.specs.Prelude.{◌≡◌, ◌+◌, ◌-◌, ◌<◌, ◌≤◌, ◌^◌, ℕ, Bool, true, false, ◌==◌, nat_lt, if◌then◌else◌, is_some}
 use Rattle.core_views.specs.declared.topics.Checked.{Checked}
 use Rattle.core_views.specs.declared.topics.Checked.TheVariants as checked
 use Rattle.core_views.specs.declared.topics.Hold.TheVariants.{Exclusive, Loose}
@@ -9,8 +9,8 @@ use Rattle.core_views.specs.declared.topics.Topics.{Topics}
 use Rattle.core_views.specs.Held.{Held}
 use Rattle.core_views.specs.HostChanges.{is_own}
 use Rattle.part_steps.specs.declared.invalidations.Target.{Target}
-use Rattle.part_steps.specs.InvalidationRange.{IsAimed, has_searched, invalidated_by, is_within_range, page_looked, page_of_target, range_end, range_start}
-use Rattle.part_steps.specs.InvalidationRange.{target_end, target_start}
+use Rattle.part_steps.specs.InvalidationRange.{IsAimed, IsOnRun, has_searched, invalidated_by, is_within_range, page_looked, page_of_target}
+use Rattle.part_steps.specs.InvalidationRange.{range_end, range_start, run_or_none, target_end, target_start}
 use Rattle.part_steps.specs.FrameTopics.{is_uncopied}
 use Rattle.part_steps.specs.PartHoldings.{HoldsSet}
 use Rattle.part_steps.specs.StayTopics.{no_flush}
@@ -61,7 +61,7 @@ pub record MaySetEnd (end_ gfn : ℕ) (t : Topics) : Type 0 where
   pub target : Target
   pub opening : IsOpening target t
   pub widened : has_widened t.invalidations.checked t.invalidations.count ≡ true
-  pub page : t.invalidations.own.page ≡ page_of_target target
+  pub pages : t.invalidations.own.pages ≡ run_or_none (page_of_target target)
   pub start : t.invalidations.own.start ≡ target_start target t.search
   pub own_ : end_ ≡ target_end target t.search
   pub is : gfn ≡ range_end target t
@@ -101,14 +101,14 @@ pub record MayAsk (index : ℕ) (h : Held) : Type 0 where
 
 -- ---- between begin and end
 
--- A host page may be changed: it is the actor's own, was looked up, and is the one that the actor's own open invalidation is of; and each virtual processor was
+-- A host page may be changed: it is the actor's own, was looked up, and is one that the actor's own open invalidation is of; and each virtual processor was
 -- asked for a flush, and awaited.
 pub record MayChange (h : Held) : Type 0 where
   pub looked : is_some h.topics.host ≡ true
   pub own_ : is_own h.state.sizes h.state.actor (page_looked h.topics.host) ≡ true
   pub opened : h.topics.invalidations.opened ≡ true
   pub unraised : h.topics.invalidations.raised ≡ false
-  pub invalid : h.topics.invalidations.own.page ≡ Some (page_looked h.topics.host)
+  pub invalid : IsOnRun (page_looked h.topics.host) h.topics.invalidations.own.pages
   pub asked : h.state.sizes.vcpus ≤ h.topics.flush.asked
   pub awaited : h.state.sizes.vcpus ≤ h.topics.flush.awaited
 

@@ -1,13 +1,15 @@
 -- What a line invalidates, and the range of open invalidations as an actor stores it that opens one (kvm_main.c, kvm_mmu_invalidate_range_add).
-use Rattle.std.specs.Prelude.{◌≡◌, ◌≤◌, ◌^◌, ◌+◌, ◌-◌, ℕ, Bool, true, ◌==◌, ◌&&◌, ◌||◌, nat_le, nat_lt, not, if◌then◌else◌, Option, Some, None, is_some}
+use Rattle.std.specs.Prelude.{◌≡◌, ◌≤◌, ◌^◌, ◌+◌, ◌-◌, ◌/◌, ℕ, Bool, true, ◌==◌, ◌&&◌, ◌||◌, nat_le, nat_lt, not, if◌then◌else◌, Option, Some, None, is_some}
 use Rattle.std.specs.Option.{option_map}
 use Rattle.core_views.specs.declared.topics.HostLook.{HostLook}
 use Rattle.core_views.specs.declared.topics.Invalidated.{Invalidated}
 use Rattle.core_views.specs.declared.topics.Invalidations.{Invalidations}
+use Rattle.core_views.specs.declared.topics.PageRun.{PageRun}
 use Rattle.core_views.specs.declared.topics.SlotSearch.{SlotSearch}
 use Rattle.core_views.specs.declared.topics.Topics.{Topics}
 use Rattle.core_views.specs.declared.trace.Slot.{Slot}
 use Rattle.core_views.specs.Slots.{has_host_page}
+use Rattle.spte_words.specs.Entries.{level_span}
 use Rattle.part_steps.specs.declared.invalidations.Target.{Target}
 use Rattle.part_steps.specs.declared.invalidations.Target.TheVariants as aim
 
@@ -42,6 +44,18 @@ abbrev pub page_of_target : Target → Option ℕ
 page_of_target (aim.Page page) = Some page
 page_of_target (aim.Slot slot) = None
 
+-- the run that is this one page, if there is one
+abbrev pub run_of : ℕ → PageRun
+run_of page = record { first = page; level = 1 }
+
+abbrev pub run_or_none : Option ℕ → Option PageRun
+run_or_none page = option_map run_of page
+
+-- The host page is one of the run's, if there is one.
+abbrev pub IsOnRun : ℕ → Option PageRun → Type 0
+IsOnRun page None = ⊥
+IsOnRun page (Some run) = page / level_span run.level ≡ run.first / level_span run.level
+
 -- The target is the host page that the actor may change; or a slot, where it may change none.
 abbrev pub IsAimed : Target → Topics → Type 0
 IsAimed target t = page_aimed t ≡ page_of_target target
@@ -71,7 +85,7 @@ target_end (aim.Slot slot) search = slot.base + slot.pages
 
 -- what an invalidation of the target is of, by the search of the slots
 abbrev pub invalidated_by : Target → SlotSearch → Invalidated
-invalidated_by target search = record { page = page_of_target target; start = target_start target search; end = target_end target search }
+invalidated_by target search = record { pages = run_or_none (page_of_target target); start = target_start target search; end = target_end target search }
 
 -- ---- the range of the open ones
 

@@ -126,7 +126,7 @@ pub record MayPublish (t : Topics) : Type 0 where
   pub alone : t.hold ≡ Exclusive
   pub looked : t.invalidations.checked ≡ checked.Count
   pub none_open : t.invalidations.count ≡ own_open t.invalidations
-  pub of_no_page : t.invalidations.opened ≡ true → t.invalidations.own.page ≡ None
+  pub of_no_page : t.invalidations.opened ≡ true → t.invalidations.own.pages ≡ None
   pub none_retired : t.retired ≡ None
 
 -- A page is retired, one of the pool, and each other actor was watched since; the actor owns no page, and has no invalidation open.

@@ -9,7 +9,7 @@ use Rattle.part_steps.specs.declared.part_step.PartStep.TheVariants as part
 use Rattle.spte_words.specs.Entries.{without_write}
 use Rattle.spte_words.specs.HostWords.{host_frame, with_presence}
 use Rattle.part_steps.specs.FrameTopics.{frame_after, frame_given, frame_tried, word_copied, word_stored}
-use Rattle.part_steps.specs.InvalidationRange.{page_aimed}
+use Rattle.part_steps.specs.InvalidationRange.{page_aimed, run_or_none}
 use Rattle.part_steps.specs.PartTasks.{entry_index, leaf_fixed, leaf_written, link_written, page_looked, word_looked}
 use Rattle.part_steps.specs.StayTopics.{begun, flush_kept, has_lock, is_loose, kept_search, let_go, may_search, may_walk, unchecked}
 use Rattle.part_steps.specs.SweepTopics.{at_top, gone_up}
@@ -92,7 +92,7 @@ part_topics (part.SetStart first gfn) t v =
       invalidations = record t.invalidations {
         start = v;
         checked = start_known t.invalidations.checked;
-        own = record { page = page_aimed t; start = first; end = t.invalidations.own.end };
+        own = record { pages = run_or_none (page_aimed t); start = first; end = t.invalidations.own.end };
       };
     }
 part_topics (part.SetEnd last gfn) t v =

@@ -108,7 +108,7 @@ fn said_at(stage: CheckStage, gfn: u64) -> Option<Turn<Checked>> {
         checked: core_views::Checked::Range,
         opened: false,
         own: Invalidated {
-            page: None,
+            pages: None,
             start: 0,
             end: 0,
         },

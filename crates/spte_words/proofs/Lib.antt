@@ -1,6 +1,7 @@
 pub mod Spans
 pub mod ReadsBits
 pub mod ReadsEntries
+pub mod ChildEntries
 pub mod ProtectedEntries
 pub mod FixedEntries
 pub mod ReadsHost

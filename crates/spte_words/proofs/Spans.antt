@@ -1,5 +1,7 @@
 -- The spans of the levels: their numbers, and how far a child lies from its leaf's first frame.
-use Rattle.std.proofs.Common.{◌≡◌, ◌+◌, ◌*◌, ◌-◌, ◌^◌, ◌<◌, ◌≤◌, ◌%◌, ℕ, refl, arith}
+use Rattle.std.proofs.Common.{◌≡◌, ◌+◌, ◌*◌, ◌-◌, ◌^◌, ◌<◌, ◌≤◌, ◌%◌, ℕ, Bool, true, false, refl, sym, subst, arith}
+use Rattle.std.specs.Prelude.{◌==◌}
+use Rattle.std.proofs.lemmas.Bool.Decides.{nat_tests}
 use Rattle.std.proofs.lemmas.Nat.{mod_below, pow-add}
 use Rattle.spte_words.specs.Entries.{level_span}
 
@@ -21,6 +23,19 @@ unfolding level_span
 span_4 = refl
 
 pub ruleset spans = (span_1, span_2, span_3, span_4)
+
+-- What holds of the span of each of them.
+pub each_span : (P : ℕ → Type 0) → P 1 → P 512 → P 262144 → P 134217728 → (level : ℕ) → 1 ≤ level → level ≤ 4 → P (level_span level)
+each_span P one two three four level from to = by (level == 1) (level == 2) (level == 3) refl refl refl
+  where
+    at : (n : ℕ) → level ≡ n → P (level_span n) → P (level_span level)
+    at n is p = subst (λ l. P (level_span l)) (sym is) p
+
+    by : (a b c : Bool) → (level == 1) ≡ a → (level == 2) ≡ b → (level == 3) ≡ c → P (level_span level)
+    by true b c is other last = at 1 (grind (arith, nat_tests)) (subst P (sym span_1) one)
+    by false true c is other last = at 2 (grind (arith, nat_tests)) (subst P (sym span_2) two)
+    by false false true is other last = at 3 (grind (arith, nat_tests)) (subst P (sym span_3) three)
+    by false false false is other last = at 4 (grind (arith, nat_tests)) (subst P (sym span_4) four)
 
 one_more : (k : ℕ) → 512 ^ (k + 1) ≡ 512 * 512 ^ k
 one_more k = omega (arith, pow-add 512 k 1)

@@ -67,3 +67,7 @@ without_write word = word - bit_if 1 (can_write word)
 -- the leaf of page i of a large leaf's span, one level down
 unfoldable pub child_word : ℕ → ℕ → ℕ → ℕ
 child_word level word i = leaf_word (level - 1) (frame_in word + i * level_span (level - 1)) (can_write word) (host_writable word) (mmu_writable word)
+
+-- the one that is over a guest frame of the span
+abbrev pub child_over : ℕ → ℕ → ℕ → ℕ
+child_over level word gfn = child_word level word (gfn / level_span (level - 1) % 512)

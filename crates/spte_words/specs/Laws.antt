@@ -5,7 +5,7 @@ use Rattle.spte_words.specs.declared.area.Area.TheVariants.{Root, Host, Pool, Co
 use Rattle.spte_words.specs.declared.spte_kind.SpteKind.TheVariants.{Absent, Frozen, Leaf, Table}
 use Rattle.spte_words.specs.declared.word_map.WordMap.{WordMap}
 use Rattle.spte_words.specs.Entries.{absent_word, frozen_word, table_word, leaf_word, frame_in, can_write, host_writable, mmu_writable, kind_of}
-use Rattle.spte_words.specs.Entries.{with_write, without_write, child_word, level_span}
+use Rattle.spte_words.specs.Entries.{with_write, without_write, child_over, child_word, level_span, mapped_frame}
 use Rattle.spte_words.specs.HostWords.{host_word, host_present, host_allows_write, host_level, host_frame}
 use Rattle.spte_words.specs.Flags.{flags_word, flags_live, flags_read_only, flags_logged}
 use Rattle.spte_words.specs.Areas.{IsWordMap, areas, number_of, size_of, place, total, content_index, pool_index, StandsSomewhere}
@@ -58,6 +58,14 @@ ChildrenAreLeaves =
     (level frame i : ℕ) (w hw mw : Bool)
     → frame < 2 ^ 40
     → child_word level (leaf_word level frame w hw mw) i ≡ leaf_word (level - 1) (frame + i * level_span (level - 1)) w hw mw
+
+-- The child over a guest frame is a leaf that maps it where the large leaf does, with the same permissions.
+abbrev pub ChildrenMapAlike : Type 0
+ChildrenMapAlike =
+    (level word gfn : ℕ) → 2 ≤ level → level ≤ 3 → frame_in word + 2 ^ 18 ≤ 2 ^ 40
+    → (kind_of (level - 1) (child_over level word gfn) ≡ Leaf)
+    × (mapped_frame (level - 1) (child_over level word gfn) gfn ≡ mapped_frame level word gfn) × (can_write (child_over level word gfn) ≡ can_write word)
+    × (host_writable (child_over level word gfn) ≡ host_writable word) × (mmu_writable (child_over level word gfn) ≡ mmu_writable word)
 
 -- A level's span is 512 spans of the level below, and a span of level 1 is one page.
 abbrev pub SpansNest : Type 0

@@ -1,4 +1,5 @@
-ghost use Rattle.spte_words.specs.Laws.{LeavesTell, LinksTell, OthersTell, KindsDiffer, WriteIsOneBit, ChildrenAreLeaves, SpansNest, ExampleEntries};
+ghost use Rattle.spte_words.specs.Laws.{LeavesTell, LinksTell, OthersTell, KindsDiffer, WriteIsOneBit, ChildrenAreLeaves, ChildrenMapAlike};
+ghost use Rattle.spte_words.specs.Laws.{SpansNest, ExampleEntries};
 ghost use Rattle.spte_words.specs.Laws.{HostWordsTell, FirstHostWords, FlagsTell, AreasFollow, PlacesDiffer, PlacesFill, PlacesFit};
 ghost use Rattle.spte_words.specs.Laws.{ContentIndicesDiffer, PoolIndicesDiffer, ExamplePlaces};
 
@@ -12,6 +13,7 @@ pub fn entries_tell_what_they_are()
     ensures differ { KindsDiffer }
     ensures write { WriteIsOneBit }
     ensures children { ChildrenAreLeaves }
+    ensures children_map { ChildrenMapAlike }
     ensures spans { SpansNest }
     ensures examples { ExampleEntries }
 {}

@@ -2,9 +2,9 @@
 //! kvm_main.c, `kvm_mmu_invalidate_range_add`).
 ghost use Rattle.std.specs.Prelude.{◌≡◌};
 ghost use Rattle.part_steps.specs.InvalidationRange.{has_found, has_found_looked};
-ghost use Rattle.part_steps.specs.InvalidationRange.{page_aimed, page_looked, page_of_look};
+ghost use Rattle.part_steps.specs.InvalidationRange.{page_aimed, page_looked, page_of_look, run_or_none};
 
-use core_views::{HostLook, Topics};
+use core_views::{HostLook, PageRun, Topics};
 use part_steps::has_found;
 
 // The host page that was looked at last.
@@ -33,6 +33,16 @@ pub(crate) fn page_aimed(topics: &Topics) -> Option<u64>
     } else {
         page_of_look(topics.host)
     }
+}
+
+// The run that is this one page, if there is one.
+pub(crate) fn run_or_none(page: Option<u64>) -> Option<PageRun>
+    ensures { result ≡ run_or_none page }
+{
+    Some(PageRun {
+        first: page?,
+        level: 1,
+    })
 }
 
 // Whether the search has found the slot with this page.

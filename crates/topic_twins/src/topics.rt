@@ -18,7 +18,7 @@ ghost use Rattle.part_steps.specs.TopicSteps.{HasRoom, host_begins, host_changed
 
 use crate::control_words::{has_lock, has_to_flush, has_writer, in_section, is_word_of};
 use crate::frames::{claim_frame, copy_word, give_frame, move_frame, store_word};
-use crate::invalidations::page_aimed;
+use crate::invalidations::{page_aimed, run_or_none};
 use crate::sweep::{begin_anew, go_up, is_sweeping, walks_anew};
 use core_views::{
     Checked, Flush, Hold, HostLook, Invalidations, Kind, MapClaim, OwnedPage, Sizes, SlotField,
@@ -398,7 +398,7 @@ fn store(word: u32, own: u64, page: Option<u64>, invalidations: &mut Invalidatio
     } else if is_word_of(Area::RangeStart, word) {
         invalidations.start = written;
         invalidations.checked = start_known(invalidations.checked);
-        invalidations.own.page = page;
+        invalidations.own.pages = run_or_none(page);
         invalidations.own.start = own;
     } else if is_word_of(Area::RangeEnd, word) {
         invalidations.end = written;

@@ -61,6 +61,7 @@ use Rattle.mmu_core.proofs.machine.Which.{has_line_is}
 use Rattle.mmu_core.proofs.pages.CopiedWords.{FrameStays, copied_stays, none_copied, stored_elsewhere}
 use Rattle.mmu_core.proofs.pages.FrameUses.{frames_apart, owned_of_no_page}
 use Rattle.mmu_core.proofs.forms.host.MovingPlaces.{CopiesAt, copies_at, movers, moving_left, moving_step}
+use Rattle.mmu_core.proofs.held.PageRuns.{some_run}
 
 -- ---- a touch
 
@@ -108,7 +109,8 @@ module _ (z : Sizes) (v : View) (a gfn : ℕ) (write : Bool) (I : Invariant z v)
       (ap (may_use (v.words area.State a)) K.0.guest) in
       let apart = used_covers (IsApart (v.hand i).topics.invalidations.own) gfn write (v.hand a).cached.items used clean K.1 in
       apart.0 gfn apart.1
-      ((P.scopes i _ lt opened M.invalid).covers gfn
+      ((P.scopes i lt opened (some_run (page_looked (v.hand i).topics.host) (v.hand i).topics.invalidations.own.pages M.invalid)).covers
+      (page_looked (v.hand i).topics.host) gfn M.invalid
       (subst (λ p. SlotGives (v.words area.Pool) (v.words area.Slots 0) p gfn) e touched_page.gives))
 
   -- So what is copied stays, where a word of the touched frame is stored.

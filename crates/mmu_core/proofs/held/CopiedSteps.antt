@@ -29,6 +29,7 @@ use Rattle.mmu_core.proofs.pages.FrameUses.{one_frame_owner, owned_of_no_page}
 use Rattle.mmu_core.proofs.pages.FramesKept.{brought_frame}
 use Rattle.mmu_core.proofs.machine.ColumnsTell.{some_is}
 use Rattle.mmu_core.proofs.words.PartTopics.{behind_step, part_behind, part_hand}
+use Rattle.part_steps.specs.InvalidationRange.{IsOnRun}
 
 -- what is copied, in a view
 abbrev pub CopiedAt : Sizes → View → Type 0
@@ -40,7 +41,7 @@ CopiedAt z v = CopiedPart z (actors_of z) (v.words area.Content) (λ i. (v.hand 
 pub record MovesPage (z : Sizes) (host : ℕ → ℕ) (t : Topics) : Type 0 where
   pub there : page_looked t.host < z.pages
   pub frame : host_frame (word_looked t.host) ≡ host_frame (host (page_looked t.host))
-  pub invalid : t.invalidations.own.page ≡ Some (page_looked t.host)
+  pub invalid : IsOnRun (page_looked t.host) t.invalidations.own.pages
   pub asked : z.vcpus ≤ t.flush.asked
   pub awaited : z.vcpus ≤ t.flush.awaited
 

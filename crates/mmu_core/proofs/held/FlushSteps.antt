@@ -188,7 +188,7 @@ module _ (z : Sizes) (v : View) (a note : ℕ) (c : Buffer Translation) (g : Hel
     topics_flushed (part.SetEnd last gfn) k S shown F = λ emptied.
         let closed = S.needs.0.opening.closed in let opened = empty_open (topics (part.SetEnd last gfn)) emptied in absurd (cc (closed, opened))
     topics_flushed part.Publish k S shown F = λ emptied.
-        absurd (published_none h.topics.invalidations.opened h.topics.invalidations.own.page S.needs.of_no_page emptied)
+        absurd (published_none h.topics.invalidations.opened h.topics.invalidations.own.pages S.needs.of_no_page emptied)
     topics_flushed part.Give k S shown F = λ emptied. F (given_empty h.topics S.needs.0 emptied)
     topics_flushed part.GiveOld k S shown F = λ emptied.
         let closed = S.needs.closed in let opened = empty_open (topics part.GiveOld) emptied in absurd (cc (closed, opened))

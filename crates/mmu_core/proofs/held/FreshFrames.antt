@@ -26,6 +26,7 @@ use Rattle.mmu_core.specs.invariant.CachedPart.{IsLeafFor}
 use Rattle.mmu_core.proofs.machine.Columns.{same_or, upd_other, upd_same}
 use Rattle.mmu_core.proofs.held.OpenFrames.{none_opened}
 use Rattle.mmu_core.proofs.words.HostStays.{still_present}
+use Rattle.mmu_core.proofs.held.PageRuns.{some_run}
 
 -- A guest frame that was checked under the lock is in no open invalidation.
 pub fresh_in_none : (z : Sizes) (v : View) (a i gfn : ℕ) → TopicsInvariant z v → a < actors_of z → i < actors_of z
@@ -103,7 +104,7 @@ looked_word z v a gfn there I M =
         let given : SlotGives (v.words area.Pool) (v.words area.Slots 0) (page_of slot gfn) gfn =
         record { id = t.search.id - 1; slot = slot; live = found_live z v a gfn there I M; has = B.0; is = B.1 } in
         fresh_in_none z v a j gfn I there lt lock M.fresh U.opened
-        ((I.scopes j (page_of slot gfn) lt U.opened U.of_it).covers gfn given)
+        ((I.scopes j lt U.opened (some_run (page_of slot gfn) (v.hand j).topics.invalidations.own.pages U.of_it)).covers (page_of slot gfn) gfn U.of_it given)
 
 -- A leaf agrees still where its page's host word stays.
 pub leaf_same : (pool host : ℕ → ℕ) (set page word level gfn leaf : ℕ) → (L : IsLeafFor pool host set level gfn leaf)

@@ -1,14 +1,13 @@
 -- Each step keeps it that leaves, linked and cached, and host words are of the lowest level.
 use Rattle.std.proofs.Common.{◌≡◌, ◌+◌, ◌*◌, ◌/◌, ◌<◌, ℕ, refl, sym, subst, ap, ◌∙◌, arith}
-use Rattle.std.specs.Prelude.{All, Bool, true, false, ◌==◌, if◌then◌else◌, Option, Some}
-use Rattle.std.proofs.lemmas.Bool.Decides.{nat_tests}
+use Rattle.std.specs.Prelude.{All, Bool, true, false, if◌then◌else◌, Option, Some, None}
 use Rattle.core_views.specs.declared.kind.Kind.{Kind}
 use Rattle.core_views.specs.declared.place.AccessPlace.{AccessPlace}
 use Rattle.core_views.specs.declared.place.AccessPlace.TheVariants.{Walk}
 use Rattle.core_views.specs.declared.place.Place.{Place}
 use Rattle.core_views.specs.declared.place.Place.TheVariants as place
 use Rattle.core_views.specs.declared.sizes.Sizes.{Sizes}
-use Rattle.core_views.specs.declared.topics.OwnedFrame.{OwnedFrame}
+use Rattle.core_views.specs.declared.topics.PageRun.{PageRun}
 use Rattle.core_views.specs.declared.topics.TableWalk.{TableWalk}
 use Rattle.core_views.specs.declared.trace.Command.{Command}
 use Rattle.core_views.specs.declared.trace.Command.TheVariants.{Access}
@@ -21,14 +20,13 @@ use Rattle.spte_words.specs.declared.area.Area.TheVariants as area
 use Rattle.spte_words.specs.declared.spte_kind.SpteKind.TheVariants as entry_kind
 use Rattle.spte_words.specs.Areas.{pool_index}
 use Rattle.spte_words.specs.Entries.{kind_of, level_span}
-use Rattle.spte_words.specs.HostWords.{host_allows_write, host_frame, host_level, host_present}
+use Rattle.spte_words.specs.HostWords.{host_level}
 use Rattle.spte_words.proofs.ReadsEntries.{kind_of_absent, kind_of_table}
-use Rattle.spte_words.proofs.ReadsHost.{host_has_level}
 use Rattle.part_steps.specs.declared.part_step.PartStep.{PartStep}
 use Rattle.part_steps.specs.declared.part_step.PartStep.TheVariants as part
-use Rattle.part_steps.specs.FrameHoldings.{revises}
+use Rattle.part_steps.specs.InvalidationRange.{page_aimed, run_or_none}
 use Rattle.part_steps.specs.PartHoldings.{IsOver}
-use Rattle.part_steps.specs.PartTasks.{entry_index, page_looked, table_page, word_looked}
+use Rattle.part_steps.specs.PartTasks.{entry_index, table_page}
 use Rattle.part_steps.specs.Tasks.{kind_of_task}
 use Rattle.mmu_core.specs.invariant.AllOver.{AllOver}
 use Rattle.mmu_core.specs.invariant.Invariant.{Invariant, KnowsPart}
@@ -43,15 +41,17 @@ use Rattle.mmu_core.specs.lines.Forms.{caches_at}
 use Rattle.mmu_core.specs.machine.Steps.{idle_after, task_at}
 use Rattle.mmu_core.specs.machine.View.{View, answer_in, hand_after, part_stepped, stepped, upd}
 use Rattle.mmu_core.proofs.forms.access.CachedKept.{flushed_kept, found_is_leaf, with_leaf_all}
+use Rattle.mmu_core.proofs.held.Invalidating.{topics_now}
 use Rattle.mmu_core.proofs.lines.KnowsKept.{step_knows}
 use Rattle.mmu_core.proofs.machine.Columns.{at_upd}
 use Rattle.mmu_core.proofs.machine.PartStepping.{IsPart}
 use Rattle.mmu_core.proofs.machine.Stepping.{IsStep}
-use Rattle.mmu_core.proofs.pages.AllOver.{IsLight}
+use Rattle.mmu_core.proofs.pages.AllOver.{IsInherited, IsLight}
 use Rattle.mmu_core.proofs.pages.OverSteps.{OfNewLeaf, over_step}
 use Rattle.mmu_core.proofs.pages.Standing.{spot_after, spot_of, up_after}
 use Rattle.mmu_core.proofs.pages.TreePlaces.{all_reached}
-use Rattle.mmu_core.proofs.words.HostStays.{each_revision, level_low}
+use Rattle.mmu_core.proofs.words.HostStays.{levels_stay}
+use Rattle.mmu_core.proofs.words.PartTopics.{behind_step}
 use Rattle.mmu_core.proofs.words.PartWords.{areas_stay}
 
 -- ---- linked leaves
@@ -62,6 +62,10 @@ lowest_light = record {
   absent = λ level gfn leaf. let none = kind_of_absent level in absurd (cc (none, leaf));
   link = λ level gfn page upper small leaf. let links = kind_of_table level page upper small in absurd (cc (links, leaf));
 }
+
+-- Of no large leaf it is so.
+pub lowest_inherited : IsInherited LeafIsLowest
+lowest_inherited level gfn leaf upper most is so = absurd (let lowest = so is in omega (arith, upper, lowest))
 
 -- The leaf that is put is of the lowest level.
 new_lowest : (z : Sizes) (v : View) (a : ℕ) (step : PartStep) → IsPart z v a step → OfNewLeaf step (v.hand a).topics v LeafIsLowest
@@ -143,45 +147,28 @@ stepped_lowest z v a line command p S I P =
 
 -- ---- host words
 
--- What a change puts in place of a host word is of its level.
-revised_level : (words : ℕ) (owned : Option OwnedFrame) (word new_ : ℕ) → revises words owned word new_ ≡ true → host_level new_ ≡ host_level word
-revised_level words owned word new_ is =
-    each_revision words owned word new_ (λ n. host_level n ≡ host_level word)
-    (λ none allowed. host_has_level (host_frame word) (host_present word) allowed (host_level word) (level_low word))
-    (λ none. host_has_level (host_frame word) false (host_allows_write word) (host_level word) (level_low word))
-    (λ o is_owned full. host_has_level o.frame (host_present word) (host_allows_write word) (host_level word) (level_low word)) is
-
--- So is what an exchange leaves.
-exchanged_level : (found old_ new_ : ℕ) → host_level new_ ≡ host_level old_ → host_level (if found == old_ then new_ else found) ≡ host_level found
-exchanged_level found old_ new_ same = by (found == old_) (λ e. grind (arith, nat_tests))
-  where
-    by : (won : Bool) → (won ≡ true → found ≡ old_) → host_level (if won then new_ else found) ≡ host_level found
-    by true is = same ∙ ap host_level (sym (is refl))
-    by false is = refl
-
 hosts_lowest : (z : Sizes) (v : View) (a : ℕ) (step : PartStep) (note : ℕ) → IsPart z v a step → TopicsInvariant z v
     → (q : ℕ) → q < z.pages → host_level ((part_stepped a step note v).words area.Host q) ≡ 1
-hosts_lowest z v a step note S I = by step S
+hosts_lowest z v a step note S I q there = levels_stay z v a step note S q ∙ I.lowest.hosts q there
+
+-- ---- runs that are invalidated
+
+-- A run of which an invalidation may begin is one page.
+one_page : (page : Option ℕ) (run : PageRun) → run_or_none page ≡ Some run → run.level ≡ 1
+one_page None run is = absurd (cc is)
+one_page (Some page) run is = let one : 1 ≡ run.level = cc is in sym one
+
+pub runs_lowest : (z : Sizes) (v : View) (a : ℕ) (step : PartStep) (note : ℕ) → IsPart z v a step → TopicsInvariant z v
+    → (i : ℕ) (run : PageRun) → i < actors_of z → ((part_stepped a step note v).hand i).topics.invalidations.own.pages ≡ Some run → run.level ≡ 1
+runs_lowest z v a step note S I =
+    behind_step (λ (w : View). (i : ℕ) (run : PageRun) → i < actors_of z → (w.hand i).topics.invalidations.own.pages ≡ Some run → run.level ≡ 1)
+    z v a step note S
+    (λ i run. at_upd (λ i (k : Held). i < actors_of z → k.topics.invalidations.own.pages ≡ Some run → run.level ≡ 1) v.hand a _
+    (λ there. own run step) (λ i ne. I.lowest.runs i run) i)
   where
-    host : ℕ → ℕ
-    host = v.words area.Host
-
-    page : ℕ
-    page = page_looked (v.hand a).topics.host
-
-    looked : ℕ
-    looked = word_looked (v.hand a).topics.host
-
-    put : (new_ : ℕ) → host_level new_ ≡ host_level looked → (q : ℕ) → q < z.pages
-        → host_level (upd host page (if host page == looked then new_ else host page) q) ≡ 1
-    put new_ same =
-        at_upd (λ (q w : ℕ). q < z.pages → host_level w ≡ 1) host page _
-        (λ there. exchanged_level (host page) looked new_ same ∙ I.lowest.hosts page there) (λ q ne there. I.lowest.hosts q there)
-
-    by : (step : PartStep) → IsPart z v a step → (q : ℕ) → q < z.pages → host_level ((part_stepped a step note v).words area.Host q) ≡ 1
-    by part.Bring S = put _ (host_has_level (host_frame looked) true (host_allows_write looked) (host_level looked) (level_low looked))
-    by (part.Change new_) S = put new_ (revised_level (v.hand a).state.sizes.words (v.hand a).topics.frames.owned looked new_ S.needs.1)
-    by _ S = I.lowest.hosts
+    own : (run : PageRun) (step : PartStep) → (topics_now v a note step).invalidations.own.pages ≡ Some run → run.level ≡ 1
+    own run (part.SetStart first gfn) = one_page (page_aimed (v.hand a).topics) run
+    own run _ = I.lowest.runs a run S.there
 
 -- ---- each step of a part
 
@@ -192,4 +179,5 @@ lowest_kept z v a step note S I = record {
   leaves = leaves_lowest z v a step note S I;
   cached = idle_lowest (actors_of z) v.hand a _ _ I.lowest.cached;
   hosts = hosts_lowest z v a step note S I;
+  runs = runs_lowest z v a step note S I;
 }

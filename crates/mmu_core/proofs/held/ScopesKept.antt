@@ -18,14 +18,14 @@ use Rattle.part_steps.specs.declared.part_step.PartStep.TheVariants as part
 use Rattle.part_steps.specs.declared.invalidations.Target.{Target}
 use Rattle.part_steps.specs.declared.invalidations.Target.TheVariants as aim
 use Rattle.part_steps.specs.InvalidationHoldings.{IsOpening, MayOpen, knows_count}
-use Rattle.part_steps.specs.InvalidationRange.{gfn_behind, has_found, invalidated_by, page_looked, page_of_look}
+use Rattle.part_steps.specs.InvalidationRange.{gfn_behind, has_found, invalidated_by, page_looked, page_of_look, run_of}
 use Rattle.mmu_core.specs.invariant.HeldPart.{HoldsOld}
-use Rattle.mmu_core.specs.invariant.InvalidatedPart.{IsOfPage, ScopePart}
+use Rattle.mmu_core.specs.invariant.InvalidatedPart.{IsOfPages, ScopePart, SlotGives}
 use Rattle.mmu_core.specs.invariant.SlotSetPart.{IsLiveIn}
 use Rattle.mmu_core.specs.invariant.TopicsInvariant.{TopicsInvariant}
-use Rattle.mmu_core.specs.machine.Sums.{one_if}
 use Rattle.mmu_core.specs.machine.View.{View, part_stepped, answer_in}
 use Rattle.mmu_core.proofs.held.OpenFrames.{opened_by, others_closed}
+use Rattle.mmu_core.proofs.held.PageRuns.{this_page}
 use Rattle.mmu_core.proofs.machine.Columns.{at_upd}
 use Rattle.mmu_core.proofs.machine.PartStepping.{AreApart, IsPart, is_publish}
 use Rattle.mmu_core.proofs.slots.LiveStay.{StayLive}
@@ -39,11 +39,14 @@ use Rattle.part_steps.specs.PartTasks.{part_task}
 use Rattle.mmu_core.proofs.forms.access.FaultSame.{both}
 
 -- Where the same slots are live, it is of the same frames.
-same_scope : (before after : ℕ → ℕ) (set other page : ℕ) (own_ : Invalidated) → StayLive before set after other → StayLive after other before set
-    → IsOfPage before set page own_ → IsOfPage after other page own_
-same_scope before after set other page own_ on back O = record {
-  covers = λ gfn G. O.covers gfn (record { id = G.id; slot = G.slot; live = back G.id G.slot G.live; has = G.has; is = G.is });
-  only = λ gfn within. let G = O.only gfn within in record { id = G.id; slot = G.slot; live = on G.id G.slot G.live; has = G.has; is = G.is };
+same_scope : (before after : ℕ → ℕ) (set other : ℕ) (own_ : Invalidated) → StayLive before set after other → StayLive after other before set
+    → IsOfPages before set own_ → IsOfPages after other own_
+same_scope before after set other own_ on back O = record {
+  covers = λ page gfn in_run G. O.covers page gfn in_run (record { id = G.id; slot = G.slot; live = back G.id G.slot G.live; has = G.has; is = G.is });
+  only = λ gfn within.
+      let P = O.only gfn within in
+      let G = P.2 in
+      (P.0, P.1, record { id = G.id; slot = G.slot; live = on G.id G.slot G.live; has = G.has; is = G.is });
 }
 
 -- What the search has found is of the frames that the slots of its set give to the page.
@@ -51,23 +54,26 @@ scope_found : (pool : ℕ → ℕ) (set page : ℕ) (found : Bool) (id : ℕ) (s
     → start ≡ (if found then gfn_behind page slot else 0) → end_ ≡ (if found then gfn_behind page slot + 1 else 0)
     → (found ≡ true → IsLiveIn pool set id slot × (has_host_page page slot ≡ true))
     → (found ≡ false → (i : ℕ) (other : SlotOf) → IsLiveIn pool set i other → has_host_page page other ≡ true → ⊥)
-    → IsOfPage pool set page (record { page = Some page; start = start; end = end_ })
+    → IsOfPages pool set (record { pages = Some (run_of page); start = start; end = end_ })
 scope_found pool set page true id slot start end_ apart starts ends there none =
     let T = there refl in
     record {
-      covers =
-          λ gfn G. let same = ap (gfn_behind page) (apart page G.id id G.slot slot G.live T.0 G.has T.1) in let is = G.is in
+      covers = λ other gfn on given.
+          let G = subst (λ p. SlotGives pool set p gfn) (this_page other page on) given in
+          let same = ap (gfn_behind page) (apart page G.id id G.slot slot G.live T.0 G.has T.1) in
+          let is = G.is in
           (omega (arith, is, same, starts), omega (arith, is, same, ends));
-      only = λ gfn within. record {
+      only = λ gfn within. (page, refl, record {
         id = id;
         slot = slot;
         live = T.0;
         has = T.1;
         is = let low = within.0 in let high = within.1 in omega (arith, low, high, starts, ends);
-      };
+      });
     }
 scope_found pool set page false id slot start end_ apart starts ends there none = record {
-  covers = λ gfn G. absurd (none refl G.id G.slot G.live G.has);
+  covers = λ other gfn on given.
+      let G = subst (λ p. SlotGives pool set p gfn) (this_page other page on) given in absurd (none refl G.id G.slot G.live G.has);
   only = λ gfn within. absurd (let low = within.0 in let high = within.1 in omega (arith, low, high, starts, ends));
 }
 
@@ -91,9 +97,9 @@ module _ (z : Sizes) (v : View) (a : ℕ) (I : TopicsInvariant z v) (there : a <
       by (inr H) = absurd (let inside = H.section in cc (out, inside))
 
   page_scope : (page : ℕ) → IsOpening (aim.Page page) t → t.invalidations.own ≡ invalidated_by (aim.Page page) t.search
-      → AreApart (v.words area.Pool) (v.words area.Slots 0) → IsOfPage (v.words area.Pool) (v.words area.Slots 0) page t.invalidations.own
+      → AreApart (v.words area.Pool) (v.words area.Slots 0) → IsOfPages (v.words area.Pool) (v.words area.Slots 0) t.invalidations.own
   page_scope page O own_ apart =
-      subst (IsOfPage (v.words area.Pool) (v.words area.Slots 0) page) (sym own_)
+      subst (IsOfPages (v.words area.Pool) (v.words area.Slots 0)) (sym own_)
       (scope_found (v.words area.Pool) (v.words area.Slots 0) page (has_found page t.search) (t.search.id - 1) t.search.slot _ _ apart refl refl
       (λ e. let B = both t.search.whole (has_host_page page t.search.slot) e in (found B.0, B.1)) passed)
     where
@@ -131,19 +137,14 @@ module _ (z : Sizes) (v : View) (a : ℕ) (I : TopicsInvariant z v) (there : a <
           or_over true y e over = absurd (cc e)
           or_over false y e over = over
 
-  opens_scope : MayOpen t → AreApart (v.words area.Pool) (v.words area.Slots 0) → (page : ℕ) → t.invalidations.own.page ≡ Some page
-      → IsOfPage (v.words area.Pool) (v.words area.Slots 0) page t.invalidations.own
-  opens_scope M apart page is = by M.target M.opening M.own_
+  opens_scope : MayOpen t → AreApart (v.words area.Pool) (v.words area.Slots 0) → is_some t.invalidations.own.pages ≡ true
+      → IsOfPages (v.words area.Pool) (v.words area.Slots 0) t.invalidations.own
+  opens_scope M apart some = by M.target M.opening M.own_
     where
       by : (target : Target) → IsOpening target t → t.invalidations.own ≡ invalidated_by target t.search
-          → IsOfPage (v.words area.Pool) (v.words area.Slots 0) page t.invalidations.own
-      by (aim.Slot slot) O own_ = absurd (let none = ap (λ (n : Invalidated). n.page) own_ in cc (none, is))
-      by (aim.Page other) O own_ =
-          let same = sym (ap (λ (n : Invalidated). n.page) own_) ∙ is in
-          subst (λ p. IsOfPage (v.words area.Pool) (v.words area.Slots 0) p t.invalidations.own) (same_some same) (page_scope other O own_ apart)
-        where
-          same_some : {x y : ℕ} → Some x ≡ Some y → x ≡ y
-          same_some e = cc e
+          → IsOfPages (v.words area.Pool) (v.words area.Slots 0) t.invalidations.own
+      by (aim.Slot slot) O own_ = absurd (let none = ap (λ (n : Invalidated). is_some n.pages) own_ in cc (none, some))
+      by (aim.Page page) O own_ = page_scope page O own_ apart
 
 -- of the words as they were
 abbrev ScopesIn : Sizes → (ℕ → ℕ) → ℕ → View → Type 0
@@ -152,47 +153,46 @@ ScopesIn z pool slots v = ScopePart (actors_of z) pool slots (λ i. (v.hand i).t
 scopes_behind : (z : Sizes) (v : View) (a note : ℕ) (step : PartStep) → IsPart z v a step → TopicsInvariant z v
     → ScopesIn z (v.words area.Pool) (v.words area.Slots 0) (part_behind a step note v)
 scopes_behind z v a note step S I =
-    λ i page lt is of_page.
-    at_upd (λ i (k : Held). i < actors_of z → k.topics.invalidations.opened ≡ true → k.topics.invalidations.own.page ≡ Some page
-    → IsOfPage (v.words area.Pool) (v.words area.Slots 0) page k.topics.invalidations.own) v.hand a _
-    (λ lt. own page step S) (λ i ne lt is of_page. I.scopes i page lt is of_page) i lt is of_page
+    at_upd (λ i (k : Held). i < actors_of z → k.topics.invalidations.opened ≡ true → is_some k.topics.invalidations.own.pages ≡ true
+    → IsOfPages (v.words area.Pool) (v.words area.Slots 0) k.topics.invalidations.own) v.hand a _ (λ lt. own step S) (λ i ne. I.scopes i)
   where
-    own : (page : ℕ) (step : PartStep) → IsPart z v a step
+    own : (step : PartStep) → IsPart z v a step
         → (part_topics step (v.hand a).topics (answer_in (part_task step a (v.hand a).topics note) v.words)).invalidations.opened ≡ true
-        → (part_topics step (v.hand a).topics (answer_in (part_task step a (v.hand a).topics note) v.words)).invalidations.own.page ≡ Some page
-        → IsOfPage (v.words area.Pool) (v.words area.Slots 0) page
+        → is_some (part_topics step (v.hand a).topics (answer_in (part_task step a (v.hand a).topics note) v.words)).invalidations.own.pages ≡ true
+        → IsOfPages (v.words area.Pool) (v.words area.Slots 0)
         (part_topics step (v.hand a).topics (answer_in (part_task step a (v.hand a).topics note) v.words)).invalidations.own
-    own page (part.SetStart first gfn) T is = absurd (let closed = T.needs.0.opening.closed in cc (is, closed))
-    own page (part.SetEnd last gfn) T is = absurd (let closed = T.needs.0.opening.closed in cc (is, closed))
-    own page (part.SetCount count) T more =
-        opens_scope z v a I T.there (T.needs.opens (opened_by z v a I T.there (v.hand a).topics.invalidations.opened count refl T.needs.is more)) T.replaces
-        page
-    own page _ T is = I.scopes a page T.there is
+    own (part.SetStart first gfn) T is = absurd (let closed = T.needs.0.opening.closed in cc (is, closed))
+    own (part.SetEnd last gfn) T is = absurd (let closed = T.needs.0.opening.closed in cc (is, closed))
+    own (part.SetCount count) T more =
+        opens_scope z v a I T.there (T.needs.opens (opened_by z v a I T.there (v.hand a).topics.invalidations.opened count refl T.needs.is more))
+        T.replaces.apart
+    own _ T is = I.scopes a T.there is
 
 -- No actor has an invalidation of a host page open.
 abbrev NoneOfPage : Sizes → View → Type 0
 NoneOfPage z v =
-    (i page : ℕ) → i < actors_of z → (v.hand i).topics.invalidations.opened ≡ true → (v.hand i).topics.invalidations.own.page ≡ Some page → ⊥
+    (i : ℕ) → i < actors_of z → (v.hand i).topics.invalidations.opened ≡ true → is_some (v.hand i).topics.invalidations.own.pages ≡ true → ⊥
 
--- A slot set is published where no invalidation is open but the publisher's own, which is of no host page.
+-- A slot set is published where no invalidation is open but the publisher's own,
+pub none_beside : (z : Sizes) (v : View) (a : ℕ) → IsPart z v a part.Publish → TopicsInvariant z v → (i : ℕ) → i ≢ a → i < actors_of z
+    → (v.hand i).topics.invalidations.opened ≡ true → ⊥
+none_beside z v a S I i ne lt =
+    others_closed (actors_of z) (v.words area.Count 0) (λ j. (v.hand j).topics.invalidations.opened) a i S.there lt ne I.counts
+    (sym ((I.checks a S.there).counted (ap has_lock S.needs.alone) (ap knows_count S.needs.looked)) ∙ S.needs.none_open)
+
+-- which is of no host page.
 none_published : (z : Sizes) (v : View) (a note : ℕ) (step : PartStep) → IsPart z v a step → TopicsInvariant z v → is_publish step ≡ true
     → NoneOfPage z (part_behind a step note v)
-none_published z v a note part.Publish S I is = λ i page.
-    at_upd (λ i (k : Held). i < actors_of z → k.topics.invalidations.opened ≡ true → k.topics.invalidations.own.page ≡ Some page → ⊥) v.hand a _
-    (λ lt opened of_page. absurd (let none = S.needs.of_no_page opened in cc (none, of_page))) (λ i ne lt opened of_page. never i ne lt opened) i
-  where
-    own_count : v.words area.Count 0 ≡ one_if (v.hand a).topics.invalidations.opened
-    own_count = sym ((I.checks a S.there).counted (ap has_lock S.needs.alone) (ap knows_count S.needs.looked)) ∙ S.needs.none_open
-
-    never : (i : ℕ) → i ≢ a → i < actors_of z → (v.hand i).topics.invalidations.opened ≡ true → ⊥
-    never i ne lt =
-        others_closed (actors_of z) (v.words area.Count 0) (λ j. (v.hand j).topics.invalidations.opened) a i S.there lt ne I.counts own_count
+none_published z v a note part.Publish S I is =
+    at_upd (λ i (k : Held). i < actors_of z → k.topics.invalidations.opened ≡ true → is_some k.topics.invalidations.own.pages ≡ true → ⊥) v.hand a _
+    (λ lt opened some. absurd (let none = ap is_some (S.needs.of_no_page opened) in cc (none, some)))
+    (λ i ne lt opened some. none_beside z v a S I i ne lt opened)
 none_published z v a note _ S I is = absurd (cc is)
 
 pub scopes_kept : (z : Sizes) (v : View) (a : ℕ) (step : PartStep) (note : ℕ) → IsPart z v a step → TopicsInvariant z v
     → ScopePart (actors_of z) ((part_stepped a step note v).words area.Pool) ((part_stepped a step note v).words area.Slots 0)
     (λ i. ((part_stepped a step note v).hand i).topics)
-scopes_kept z v a step note S I i page lt opened of_page = by (is_publish step) refl
+scopes_kept z v a step note S I i lt opened some = by (is_publish step) refl
   where
     after : ℕ → ℕ
     after = (part_stepped a step note v).words area.Pool
@@ -201,12 +201,12 @@ scopes_kept z v a step note S I i page lt opened of_page = by (is_publish step) 
     stays = published_stays z v a step note S I
 
     by : (b : Bool) → is_publish step ≡ b
-        → IsOfPage after ((part_stepped a step note v).words area.Slots 0) page ((part_stepped a step note v).hand i).topics.invalidations.own
+        → IsOfPages after ((part_stepped a step note v).words area.Slots 0) ((part_stepped a step note v).hand i).topics.invalidations.own
     by true is =
-        absurd (behind_step (NoneOfPage z) z v a step note S (none_published z v a note step S I is) i page lt opened of_page)
+        absurd (behind_step (NoneOfPage z) z v a step note S (none_published z v a note step S I is) i lt opened some)
     by false is =
-        subst (λ s. IsOfPage after s page ((part_stepped a step note v).hand i).topics.invalidations.own)
+        subst (λ s. IsOfPages after s ((part_stepped a step note v).hand i).topics.invalidations.own)
         (sym (slots_are v a step note ∙ slots_same step (v.hand a).topics (v.words area.Slots 0) is))
-        (same_scope (v.words area.Pool) after (v.words area.Slots 0) (v.words area.Slots 0) page _
+        (same_scope (v.words area.Pool) after (v.words area.Slots 0) (v.words area.Slots 0) _
         (is_live_stays (v.words area.Slots 0) (v.words area.Pool) after stays) (is_live_was (v.words area.Slots 0) (v.words area.Pool) after stays)
-        (behind_step (ScopesIn z (v.words area.Pool) (v.words area.Slots 0)) z v a step note S (scopes_behind z v a note step S I) i page lt opened of_page))
+        (behind_step (ScopesIn z (v.words area.Pool) (v.words area.Slots 0)) z v a step note S (scopes_behind z v a note step S I) i lt opened some))

@@ -55,6 +55,8 @@ use Rattle.mmu_core.proofs.pages.SweptKept.{swept_kept}
 use Rattle.mmu_core.proofs.pages.ZappedKept.{zapped_kept}
 use Rattle.mmu_core.proofs.held.PassedKept.{passed_kept}
 use Rattle.mmu_core.proofs.held.ScopesKept.{scopes_kept}
+use Rattle.mmu_core.proofs.held.SlotScopesKept.{slot_scopes_kept}
+use Rattle.mmu_core.proofs.held.RunsKept.{runs_kept, small_changes_kept}
 
 -- Each step of a part does.
 pub topics_part_kept : (z : Sizes) (v : View) (a : ℕ) (step : PartStep) (note : ℕ) → IsPart z v a step → TopicsInvariant z v
@@ -89,6 +91,9 @@ topics_part_kept z v a step note S I = record {
   ranges = ranges_kept z v a step note S I;
   passed = passed_kept z v a step note S I;
   scopes = scopes_kept z v a step note S I;
+  slot_scopes = slot_scopes_kept z v a step note S I;
+  runs = runs_kept z v a step note S I;
+  small_changes = small_changes_kept z v a step note S I;
   swept = swept_kept z v a step note S I;
   zapped = zapped_kept z v a step note S I;
   lowest = lowest_kept z v a step note S I;

@@ -27,7 +27,7 @@ use Rattle.part_steps.specs.PartTopics.{part_topics}
 use Rattle.part_steps.specs.SlotWords.{page_of}
 use Rattle.part_steps.specs.Tasks.{kind_of_task}
 use Rattle.mmu_core.specs.invariant.CachedPart.{AgreePart, IsLeafFor, IsTranslationFor}
-use Rattle.mmu_core.specs.invariant.InvalidatedPart.{SlotGives, IsClean, IsIn, IsOfPage, UsablePart, may_use}
+use Rattle.mmu_core.specs.invariant.InvalidatedPart.{SlotGives, IsClean, IsIn, IsOfPages, UsablePart, may_use}
 use Rattle.mmu_core.specs.invariant.SlotSetPart.{IsLiveIn}
 use Rattle.mmu_core.specs.invariant.TopicsInvariant.{TopicsInvariant}
 use Rattle.mmu_core.specs.forms.access.Cached.{asks_flush, flushed, flushed_by}
@@ -40,6 +40,8 @@ use Rattle.mmu_core.proofs.machine.Columns.{at_upd, same_or, upd_other, upd_same
 use Rattle.mmu_core.proofs.machine.PartStepping.{IsFlushedOut, IsPart, flushed_within}
 use Rattle.mmu_core.proofs.slots.LiveStay.{translations_stay}
 use Rattle.mmu_core.proofs.slots.LiveStays.{live_in_stays, part_live_stays}
+use Rattle.mmu_core.proofs.held.PageRuns.{some_run}
+use Rattle.part_steps.specs.InvalidationRange.{IsOnRun}
 
 -- what may be used of what is cached, in a view
 abbrev pub UsableAt : Sizes → View → Type 0
@@ -52,21 +54,21 @@ Agrees words cached = AgreePart (words area.Pool) (words area.Host) (words area.
 -- ---- Slots and host change.
 
 -- An invalidation is of a page, and not of this guest frame: where the page's host word changes, the leaf of the guest frame is the same.
-leaf_elsewhere : (pool host : ℕ → ℕ) (set page x : ℕ) (own_ : Invalidated) (level gfn leaf : ℕ) → IsOfPage pool set page own_
+leaf_elsewhere : (pool host : ℕ → ℕ) (set page x : ℕ) (own_ : Invalidated) (level gfn leaf : ℕ) → IsOfPages pool set own_ → IsOnRun page own_.pages
     → (IsIn own_ gfn → ⊥) → IsLeafFor pool host set level gfn leaf → IsLeafFor pool (upd host page x) set level gfn leaf
-leaf_elsewhere pool host set page x own_ level gfn leaf scope out L = leaf_same pool host set page x level gfn leaf L (λ e. absurd (apart e))
+leaf_elsewhere pool host set page x own_ level gfn leaf scope on out L = leaf_same pool host set page x level gfn leaf L (λ e. absurd (apart e))
   where
     apart : page_of L.slot gfn ≢ page
     apart e =
         let B = behind_it L.slot gfn L.holds in
         let given : SlotGives pool set (page_of L.slot gfn) gfn = record { id = L.id; slot = L.slot; live = L.live; has = B.0; is = B.1 } in
-        out (scope.covers gfn (subst (λ p. SlotGives pool set p gfn) e given))
+        out (scope.covers page gfn on (subst (λ p. SlotGives pool set p gfn) e given))
 
 -- So what is cached agrees still, where nothing of it is of the invalidation's frames.
-agree_elsewhere : (pool host : ℕ → ℕ) (set page x : ℕ) (own_ : Invalidated) (cached : List Translation) → IsOfPage pool set page own_
+agree_elsewhere : (pool host : ℕ → ℕ) (set page x : ℕ) (own_ : Invalidated) (cached : List Translation) → IsOfPages pool set own_ → IsOnRun page own_.pages
     → IsClean own_ cached → AgreePart pool host set cached → AgreePart pool (upd host page x) set cached
-agree_elsewhere pool host set page x own_ cached scope clean agrees k d lt gfn over =
-    leaf_elsewhere pool host set page x own_ _ gfn _ scope (clean k d lt gfn over) (agrees k d lt gfn over)
+agree_elsewhere pool host set page x own_ cached scope on clean agrees k d lt gfn over =
+    leaf_elsewhere pool host set page x own_ _ gfn _ scope on (clean k d lt gfn over) (agrees k d lt gfn over)
 
 -- Another slot set is published: a slot that goes has none of what is cached.
 agree_published : (pool host : ℕ → ℕ) (vcpus set page : ℕ) (t : Topics) (cached : List Translation)
@@ -106,7 +108,8 @@ agrees_behind z v a part.Bring note cached S I clean agrees = λ k d lt gfn over
     _ gfn _ S.needs.absent (agrees k d lt gfn over)
 agrees_behind z v a (part.Change new_) note cached S I clean agrees =
     agree_elsewhere (v.words area.Pool) (v.words area.Host) (v.words area.Slots 0) (page_looked (v.hand a).topics.host) _ (v.hand a).topics.invalidations.own
-    cached (I.scopes a _ S.there S.needs.0.opened S.needs.0.invalid) clean agrees
+    cached (I.scopes a S.there S.needs.0.opened (some_run (page_looked (v.hand a).topics.host) (v.hand a).topics.invalidations.own.pages S.needs.0.invalid))
+    S.needs.0.invalid clean agrees
 agrees_behind z v a part.Publish note cached S I clean agrees =
     agree_published (v.words area.Pool) (v.words area.Host) z.vcpus (v.words area.Slots 0) (page_owned (v.hand a).topics.owned) (v.hand a).topics cached
     S.replaces.stay clean agrees

@@ -61,6 +61,7 @@ use Rattle.mmu_core.specs.invariant.Invariant.{Holds, Invariant, KnowsPart, Cach
 use Rattle.mmu_core.proofs.forms.access.UsedTranslations.{uses_stays}
 use Rattle.mmu_core.proofs.forms.access.CachedKept.{used_covers}
 use Rattle.mmu_core.specs.invariant.CachedPart.{FitsMachine}
+use Rattle.mmu_core.proofs.held.PageRuns.{on_run_prop}
 
 -- The next step of a line finds what it needs.
 access_rests : (p : AccessPlace) (z : Sizes) (h : Held) (gfn word : ℕ) (op : Op) → CachedPart z h.cached.items → h.state.sizes ≡ z
@@ -197,7 +198,7 @@ needs_stay (part.SetStart first gfn) h x =
 needs_stay (part.SetEnd last gfn) h x =
     (end_stays last gfn h.topics (∥∥₁_map x (λ N. N.0)), ∥∥₁_elim x (hlevel props) (λ N. N.1), ∥∥₁_elim x (hlevel props) (λ N. N.2))
 needs_stay (part.SetCount count) h x = count_stays count h.topics x
-needs_stay _ h x = prop_stays (hlevel props) x
+needs_stay _ h x = prop_stays (hlevel (props, on_run_prop)) x
 
 on_stays : (s : Option PartStep) (gfn : ℕ) (write : Bool) (h : Held) → ∥ RestsOn s gfn write h ∥₁ → RestsOn s gfn write h
 on_stays None gfn write h x =

@@ -15,7 +15,7 @@ use Rattle.part_steps.specs.declared.invalidations.Target.{Target}
 use Rattle.part_steps.specs.declared.invalidations.Target.TheVariants as aim
 use Rattle.part_steps.specs.FrameTopics.{is_uncopied}
 use Rattle.part_steps.specs.InvalidationHoldings.{IsOpening, MayCount, MayOpen, MaySetEnd, MaySetStart, has_counted, has_widened}
-use Rattle.part_steps.specs.InvalidationRange.{has_found, has_searched, invalidated_by, is_within_range, page_aimed, page_of_target}
+use Rattle.part_steps.specs.InvalidationRange.{has_found, has_searched, invalidated_by, is_within_range, page_aimed, page_of_target, run_or_none}
 use Rattle.part_steps.specs.InvalidationRange.{end_with, lesser, range_end, range_start, start_with, target_end, target_start}
 use Rattle.part_steps.specs.StayTopics.{no_flush}
 
@@ -109,7 +109,7 @@ range_ends target other t S =
 
 abbrev EndOf : Target → ℕ → ℕ → Topics → Type 0
 EndOf target last gfn t =
-    IsOpening target t × (has_widened t.invalidations.checked t.invalidations.count ≡ true) × (t.invalidations.own.page ≡ page_of_target target)
+    IsOpening target t × (has_widened t.invalidations.checked t.invalidations.count ≡ true) × (t.invalidations.own.pages ≡ run_or_none (page_of_target target))
     × (t.invalidations.own.start ≡ target_start target t.search) × (last ≡ target_end target t.search) × (gfn ≡ range_end target t)
 
 end_prop : (target : Target) (last gfn : ℕ) (t : Topics) → IsProp (EndOf target last gfn t)
@@ -120,7 +120,7 @@ end_of : (last gfn : ℕ) (t : Topics) → MaySetEnd last gfn t
 end_of last gfn t M =
     subst (λ e. EndOf (target_of (page_aimed t) t.invalidations.own.start (e - t.invalidations.own.start) t.search.slot) last gfn t) (sym M.own_)
     (subst (λ s. EndOf (target_of (page_aimed t) s (target_end M.target t.search - s) t.search.slot) last gfn t) (sym M.start)
-    (S.opening, M.widened, M.page ∙ sym S.page, M.start ∙ sym S.start, M.own_ ∙ sym S.end_, M.is ∙ range_ends M.target _ t S))
+    (S.opening, M.widened, M.pages ∙ ap run_or_none (sym S.page), M.start ∙ sym S.start, M.own_ ∙ sym S.end_, M.is ∙ range_ends M.target _ t S))
   where
     S : IsSame M.target
         (target_of (page_aimed t) (target_start M.target t.search) (target_end M.target t.search - target_start M.target t.search) t.search.slot) t
@@ -130,7 +130,7 @@ pub end_stays : (last gfn : ℕ) (t : Topics) → ∥ MaySetEnd last gfn t ∥�
 end_stays last gfn t x =
     let target : Target = target_of (page_aimed t) t.invalidations.own.start (last - t.invalidations.own.start) t.search.slot in
     let all : EndOf target last gfn t = ∥∥₁_elim x (end_prop target last gfn t) (end_of last gfn t) in
-    record { target = target; opening = all.0; widened = all.1; page = all.2; start = all.3; own_ = all.4; is = all.5 }
+    record { target = target; opening = all.0; widened = all.1; pages = all.2; start = all.3; own_ = all.4; is = all.5 }
 
 -- ---- The count.
 
@@ -156,7 +156,7 @@ open_of t M =
     S = same_target M.target t M.opening
 
     same : invalidated_by M.target t.search ≡ invalidated_by other t.search
-    same = λ i. record { page = sym S.page i; start = sym S.start i; end = sym S.end_ i }
+    same = λ i. record { pages = run_or_none (sym S.page i); start = sym S.start i; end = sym S.end_ i }
 
 open_stays : (t : Topics) → ∥ MayOpen t ∥₁ → MayOpen t
 open_stays t x =

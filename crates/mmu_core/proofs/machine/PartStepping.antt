@@ -16,6 +16,7 @@ pub use Rattle.mmu_core.specs.orders.InvalidateKnows.{IsFlushedOut}
 use Rattle.mmu_core.specs.invariant.SlotSetPart.{AreSlots, IsLiveIn}
 use Rattle.mmu_core.specs.invariant.InvalidatedPart.{IsIn}
 use Rattle.mmu_core.specs.machine.View.{View}
+use Rattle.mmu_core.specs.invariant.RunsPart.{IsOfSlot}
 use Rattle.mmu_core.proofs.forms.access.FaultSame.{over_it}
 use Rattle.core_views.specs.Slots.{contains, has_host_page}
 
@@ -46,11 +47,17 @@ flushed_within vcpus gfn slot t F holds =
     let last = F.end_ in
     (omega (arith, O.0, first), omega (arith, O.1, last))
 
--- What a line says of its own step: a slot set that is published has each slot of the one before it, or has flushed it out; where one more invalidation is
--- counted, no two published slots share a host page; and the sequence number stays far below 2 ^ 64.
+-- The actor's own invalidation may be counted with the open ones: no two published slots share a host page, and where it is of no host page it is of one of
+-- these slots.
+pub record MayInvalidate (pool : ℕ → ℕ) (slots : ℕ) (t : Topics) : Type 0 where
+  pub apart : AreApart pool slots
+  pub of_slot : t.invalidations.opened ≡ false → t.invalidations.own.pages ≡ None → IsOfSlot pool slots t.invalidations.own
+
+-- What a line says of its own step: a slot set that is published has each slot of the one before it, or has flushed it out; one more invalidation may be
+-- counted; and the sequence number stays far below 2 ^ 64.
 abbrev pub Replaces : Sizes → PartStep → (ℕ → ℕ) → ℕ → Topics → Type 0
 Replaces z part.Publish pool slots t = MayReplace z pool slots (page_owned t.owned) t
-Replaces z (part.SetCount count) pool slots t = AreApart pool slots
+Replaces z (part.SetCount count) pool slots t = MayInvalidate pool slots t
 Replaces z (part.SetSeq seq) pool slots t = seq < 2 ^ 40
 Replaces z _ pool slots t = Unit {0}
 

@@ -34,13 +34,15 @@ use Rattle.mmu_core.specs.orders.InvalidateSteps.{begin_next, begin_part, end_ne
 use Rattle.mmu_core.proofs.lines.EitherPlace.{one_place}
 use Rattle.core_views.specs.declared.topics.Invalidated.{Invalidated}
 use Rattle.part_steps.specs.InvalidationHoldings.{has_counted, has_widened}
-use Rattle.part_steps.specs.InvalidationRange.{HasSmallSlot, IsAimed, IsSmall, end_with, greater, has_searched, invalidated_by, is_within_range, lesser}
+use Rattle.part_steps.specs.InvalidationRange.{HasSmallSlot, IsAimed, IsSmall, end_with, greater, has_searched, invalidated_by, is_within_range}
+use Rattle.part_steps.specs.InvalidationRange.{lesser, run_or_none}
 use Rattle.part_steps.specs.InvalidationRange.{page_of_target, start_with}
 use Rattle.mmu_core.proofs.orders.BeginSweeps.{entry_known, root_begins, zap_known}
 use Rattle.mmu_core.proofs.orders.SearchKnown.{may_search_alone, may_walk_alone, none_searched, same_searches, search_known, slots_loaded}
 use Rattle.mmu_core.proofs.lines.AloneKnown.{alone_holds, alone_let_go, alone_taken, alone_tried, same_alone}
 use Rattle.mmu_core.specs.lines.LockKnows.{HoldsLock}
 use Rattle.part_steps.specs.SweepTopics.{is_clear}
+use Rattle.core_views.specs.declared.topics.PageRun.{PageRun}
 
 -- ---- what is known after it
 
@@ -48,7 +50,7 @@ use Rattle.part_steps.specs.SweepTopics.{is_clear}
 abbrev pub BeginComes : BeginNext → Sizes → Target → Topics → Type 0
 BeginComes (begins_next.Goes p) z target t = BeginKnows p z target t
 BeginComes begins_next.Begun z target t =
-    IsOpen t × (t.invalidations.own.page ≡ page_of_target target) × (z.vcpus ≤ t.flush.asked) × (z.vcpus ≤ t.flush.awaited)
+    IsOpen t × (t.invalidations.own.pages ≡ run_or_none (page_of_target target)) × (z.vcpus ≤ t.flush.asked) × (z.vcpus ≤ t.flush.awaited)
     × FramesAre target t.invalidations.own
 
 abbrev pub EndComes : EndNext → Topics → Type 0
@@ -135,9 +137,9 @@ low_enough first last n = by (nat_lt first last) (n.count == 0)
     by true true = le_itself first
     by true false = lesser_le n.start first
 
-high_enough : (page : Option ℕ) (first last : ℕ) (n : Invalidations) → starts_low first last n ≡ true
-    → is_within_range (record { page = page; start = first; end = last }) (record n { end = end_with first last n }) ≡ true
-high_enough page first last n low = by (nat_lt first last) (n.count == 0) low
+high_enough : (pages : Option PageRun) (first last : ℕ) (n : Invalidations) → starts_low first last n ≡ true
+    → is_within_range (record { pages = pages; start = first; end = last }) (record n { end = end_with first last n }) ≡ true
+high_enough pages first last n low = by (nat_lt first last) (n.count == 0) low
   where
     and_then : (a : Bool) {b : Bool} → a ≡ true → b ≡ true → (a && b) ≡ true
     and_then true one other = other
@@ -188,21 +190,21 @@ begin_known begins.RangeEnd z target t v sizes small aimed frames most K A = (
 begin_known begins.SetStart z target t v sizes small aimed frames most K A = (
   same_searched target t _ refl refl refl refl refl refl K.0,
   widened_after t.invalidations.checked t.invalidations.count K.1,
-  aimed,
+  ap run_or_none aimed,
   refl,
   ap (λ n. starts_low (target_start target t.search) (target_end target t.search) (record t.invalidations { start = n })) A
       ∙ low_enough (target_start target t.search) (target_end target t.search) t.invalidations,
 )
 begin_known begins.SetEnd z target t v sizes small aimed frames most K A =
     let own_ : record t.invalidations.own { end = target_end target t.search } ≡ invalidated_by target t.search =
-    ap (λ p. record { page = p; start = t.invalidations.own.start; end = target_end target t.search }) K.2
-    ∙ ap (λ n. record { page = page_of_target target; start = n; end = target_end target t.search }) K.3 in (
+    ap (λ p. record { pages = p; start = t.invalidations.own.start; end = target_end target t.search }) K.2
+    ∙ ap (λ n. record { pages = run_or_none (page_of_target target); start = n; end = target_end target t.search }) K.3 in (
       same_searched target t _ refl refl refl refl refl refl K.0,
       range_after t.invalidations.checked t.invalidations.count K.1,
       own_,
       ap (λ (o : Invalidated). is_within_range o (record t.invalidations { end = v })) own_
           ∙ ap (λ n. is_within_range (invalidated_by target t.search) (record t.invalidations { end = n })) A
-          ∙ high_enough (page_of_target target) (target_start target t.search) (target_end target t.search) t.invalidations K.4,
+          ∙ high_enough (run_or_none (page_of_target target)) (target_start target t.search) (target_end target t.search) t.invalidations K.4,
     )
 begin_known begins.SetCount z target t v sizes small aimed frames most K A = (
   record {
@@ -217,7 +219,7 @@ begin_known begins.SetCount z target t v sizes small aimed frames most K A = (
       unasked = K.0.searches.sweeping.unasked;
     };
     of_own = record {
-      of_page = ap (λ (o : Invalidated). o.page) K.2;
+      of_pages = ap (λ (o : Invalidated). o.pages) K.2;
       few = subst (FramesAre target) (sym K.2) (frames_are target t small frames);
       unraised = refl;
       unchecked = refl;
@@ -238,7 +240,7 @@ begin_known begins.Ask z target t v sizes small aimed frames most K A =
     (λ e. (same_alone true t _ refl refl refl K.0, K.1, grind (arith, nat_tests), omega (arith, none, some), K.5))
 begin_known begins.Await z target t v sizes small aimed frames most K A = await_known (has_to_flush v) z target t K.0 K.1 K.2 K.3 K.4
 begin_known begins.Release z target t v sizes small aimed frames most K A =
-    (record { rests = alone_let_go t K.0.alone; opened = K.0.is; unraised = K.1.unraised }, K.1.of_page, let asked = K.2 in omega (arith, asked), K.3, K.1.few)
+    (record { rests = alone_let_go t K.0.alone; opened = K.0.is; unraised = K.1.unraised }, K.1.of_pages, let asked = K.2 in omega (arith, asked), K.3, K.1.few)
 
 seq_known : (k : Hold) (t : Topics) (v : ℕ) → k ≡ Exclusive → IsAloneWith true t → t.invalidations.checked ≡ checked.Nothing → t.invalidations.raised ≡ false
     → HoldsLock Exclusive t → EndKnows ends.SetSeq (record t {

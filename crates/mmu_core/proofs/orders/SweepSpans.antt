@@ -1,22 +1,7 @@
 -- Tables, their entries and the guest frames that these are over, at each of the four levels.
-use Rattle.std.proofs.lemmas.Bool.Decides.{nat_tests}
-use Rattle.std.proofs.Common.{◌≡◌, ◌+◌, ◌*◌, ◌/◌, ◌%◌, ◌^◌, ◌<◌, ◌≤◌, ℕ, Bool, true, false, refl, arith, subst, sym}
-use Rattle.std.specs.Prelude.{◌==◌}
+use Rattle.std.proofs.Common.{◌≡◌, ◌+◌, ◌*◌, ◌/◌, ◌%◌, ◌^◌, ◌<◌, ◌≤◌, ℕ, arith}
 use Rattle.spte_words.specs.Entries.{level_span}
-use Rattle.spte_words.proofs.Spans.{span_1, span_2, span_3, span_4}
-
--- What holds of the span of each of the four levels.
-each_span : (P : ℕ → Type 0) → P 1 → P 512 → P 262144 → P 134217728 → (level : ℕ) → 1 ≤ level → level ≤ 4 → P (level_span level)
-each_span P one two three four level from to = by (level == 1) (level == 2) (level == 3) refl refl refl
-  where
-    at : (n : ℕ) → level ≡ n → P (level_span n) → P (level_span level)
-    at n is p = subst (λ l. P (level_span l)) (sym is) p
-
-    by : (a b c : Bool) → (level == 1) ≡ a → (level == 2) ≡ b → (level == 3) ≡ c → P (level_span level)
-    by true b c is other last = at 1 (grind (arith, nat_tests)) (subst P (sym span_1) one)
-    by false true c is other last = at 2 (grind (arith, nat_tests)) (subst P (sym span_2) two)
-    by false false true is other last = at 3 (grind (arith, nat_tests)) (subst P (sym span_3) three)
-    by false false false is other last = at 4 (grind (arith, nat_tests)) (subst P (sym span_4) four)
+use Rattle.spte_words.proofs.Spans.{each_span}
 
 -- A table over a guest frame begins no higher than it.
 abbrev pub TableBelow : ℕ → Type 0

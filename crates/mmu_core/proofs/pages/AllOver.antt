@@ -1,8 +1,9 @@
 -- What is said of all entries below a table stays so after each step of a part, if it says nothing of what is no leaf, and holds of the leaf that is put.
-use Rattle.std.proofs.Common.{◌≡◌, ◌≢◌, ◌⊎◌, inl, inr, ◌^◌, ◌<◌, ◌≤◌, ℕ, zero, suc, refl, sym, subst, ap, ◌∙◌}
+use Rattle.std.proofs.Common.{◌≡◌, ◌≢◌, ◌⊎◌, inl, inr, ◌-◌, ◌^◌, ◌<◌, ◌≤◌, ℕ, zero, suc, refl, sym, subst, ap, ◌∙◌}
 use Rattle.std.specs.Prelude.{Bool, true, false, if◌then◌else◌}
 use Rattle.spte_words.specs.Areas.{pool_index}
-use Rattle.spte_words.specs.Entries.{absent_word, table_word}
+use Rattle.spte_words.specs.declared.spte_kind.SpteKind.TheVariants.{Leaf}
+use Rattle.spte_words.specs.Entries.{absent_word, child_over, kind_of, table_word}
 use Rattle.spte_words.proofs.Indices.{same_pool_word}
 use Rattle.mmu_core.specs.invariant.AllOver.{AllOver, IsEntryOver}
 use Rattle.mmu_core.specs.invariant.TreePart.{Below, Position, HangsBelow, TreePart, Use, is_table, through}
@@ -21,6 +22,12 @@ absent_is = refl
 pub record IsLight (IsSo : ℕ → ℕ → ℕ → Type 0) : Type 0 where
   pub absent : (level gfn : ℕ) → IsSo level gfn absent_word
   pub link : (level gfn page : ℕ) → 2 ≤ level → page < 2 ^ 32 → IsSo level gfn (table_word page)
+
+-- A claim that the child of a large leaf inherits, of each guest frame that the child is over.
+abbrev pub IsInherited : (ℕ → ℕ → ℕ → Type 0) → Type 0
+IsInherited IsSo =
+    (level gfn leaf : ℕ) → 2 ≤ level → level ≤ 4 → kind_of level leaf ≡ Leaf → IsSo level gfn leaf
+    → IsSo (level - 1) gfn (child_over level leaf gfn)
 
 pub over_weaker : (up : ℕ → Use) (spot : ℕ → Position) (pool : ℕ → ℕ) (m : ℕ) (IsSo IsThen : ℕ → ℕ → ℕ → Type 0)
     → ((level gfn w : ℕ) → IsSo level gfn w → IsThen level gfn w) → AllOver up spot pool m IsSo → AllOver up spot pool m IsThen
@@ -44,7 +51,7 @@ reached_table up m l table R = by R.0 R.1
     by (suc links) hangs = by_use (up l) (Below up m links) hangs
 
 -- What is under an entry hangs by one link more than the table of this entry.
-through_of : (u : Use) (P : ℕ → Type 0) → through u P → (page entry : ℕ) × (u ≡ Under page entry) × P page
+pub through_of : (u : Use) (P : ℕ → Type 0) → through u P → (page entry : ℕ) × (u ≡ Under page entry) × P page
 through_of (Under page entry) P hangs = (page, entry, refl, hangs)
 through_of Free P hangs = absurd hangs
 through_of Root P hangs = absurd hangs
@@ -81,7 +88,7 @@ same_below up more m same (suc links) l hangs =
 -- Where one table more is below a table, what is reached was reached, or is this table.
 module _ {pages root : ℕ} {role pool : ℕ → ℕ} {up : ℕ → Use} {spot : ℕ → Position} (T : TreePart pages root role pool up spot) (page : ℕ)
     (use_ : Use) (none : is_table (up page) ≡ false) (m : ℕ) where
-  more_below : (links l : ℕ) → Below (upd up page use_) m links l → Below up m links l ⊎ (l ≡ page)
+  pub more_below : (links l : ℕ) → Below (upd up page use_) m links l → Below up m links l ⊎ (l ≡ page)
   more_below zero l e = inl e
   more_below (suc links) l hangs = by (same_or l page) (λ k. more_below links k)
     where

@@ -37,6 +37,7 @@ use Rattle.mmu_core.specs.invariant.InvalidatedPart.{SlotGives}
 use Rattle.mmu_core.proofs.machine.Columns.{same_or}
 use Rattle.part_steps.specs.PartHoldings.{is_fixable}
 use Rattle.mmu_core.proofs.forms.access.FaultSame.{both}
+use Rattle.mmu_core.proofs.held.PageRuns.{some_run}
 
 -- It says nothing of what is no leaf.
 pub leaves_light : (pool host : ℕ → ℕ) (set : ℕ) → IsLight (LeafIsFor pool host set)
@@ -238,7 +239,7 @@ changed_leaves z v a new_ note S I table entry gfn R O leaf =
         let given : SlotGives (v.words area.Pool) (v.words area.Slots 0) (page_of L.slot gfn) gfn =
         record { id = L.id; slot = L.slot; live = L.live; has = B.0; is = B.1 } in
         absurd (I.zapped a S.there (page_empty (v.hand a).topics page S.needs.0.opened S.needs.0.invalid) asked table entry gfn R O
-        ((I.scopes a page S.there S.needs.0.opened S.needs.0.invalid).covers gfn
+        ((I.scopes a S.there S.needs.0.opened (some_run page (v.hand a).topics.invalidations.own.pages S.needs.0.invalid)).covers page gfn S.needs.0.invalid
         (subst (λ p. SlotGives (v.words area.Pool) (v.words area.Slots 0) p gfn) e given)) leaf)
     by L (inr ne) = leaf_same (v.words area.Pool) (v.words area.Host) (v.words area.Slots 0) page _ level gfn word L (λ e. absurd (ne e))
 

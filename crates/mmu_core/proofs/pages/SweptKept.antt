@@ -33,7 +33,7 @@ use Rattle.mmu_core.proofs.held.InvalidationsKept.{alone_holds}
 use Rattle.mmu_core.proofs.held.OpenFrames.{opened_by}
 use Rattle.mmu_core.proofs.machine.Columns.{at_upd, upd_same}
 use Rattle.mmu_core.proofs.machine.PartStepping.{IsPart}
-use Rattle.mmu_core.proofs.pages.AllOver.{IsLight, absent_is}
+use Rattle.mmu_core.proofs.pages.AllOver.{IsInherited, IsLight, absent_is}
 use Rattle.mmu_core.proofs.pages.OverSteps.{OfNewLeaf, over_step}
 use Rattle.mmu_core.proofs.pages.Paths.{up_stands}
 use Rattle.mmu_core.proofs.pages.Standing.{spot_after, up_after}
@@ -49,6 +49,10 @@ below_light own_ to = record {
   absent = λ level gfn is_in below leaf. let none = kind_of_absent level in cc (none, leaf);
   link = λ level gfn page upper small is_in below leaf. let links = kind_of_table level page upper small in cc (links, leaf);
 }
+
+-- Where a leaf is none, its child is none.
+pub below_inherited : (own_ : Invalidated) (to : ℕ) → IsInherited (IsNoLeafBelow own_ to)
+below_inherited own_ to level gfn leaf upper most is so is_in below child = so is_in below is
 
 -- ---- The actor's own.
 

@@ -27,7 +27,7 @@ use Rattle.mmu_core.specs.invariant.TreePart.{is_table}
 use Rattle.mmu_core.specs.machine.View.{View, answer_in, part_stepped}
 use Rattle.mmu_core.proofs.machine.Columns.{at_upd, same_or}
 use Rattle.mmu_core.proofs.machine.PartStepping.{IsPart}
-use Rattle.mmu_core.proofs.pages.AllOver.{IsLight}
+use Rattle.mmu_core.proofs.pages.AllOver.{IsInherited, IsLight}
 use Rattle.mmu_core.proofs.pages.OverSteps.{OfNewLeaf, over_step}
 use Rattle.mmu_core.proofs.pages.Standing.{spot_after, up_after}
 use Rattle.mmu_core.proofs.words.PartTopics.{behind_step}
@@ -40,6 +40,10 @@ no_leaf_light own_ = record {
   absent = λ level gfn is_in leaf. let none = kind_of_absent level in cc (none, leaf);
   link = λ level gfn page upper small is_in leaf. let links = kind_of_table level page upper small in cc (links, leaf);
 }
+
+-- Where a leaf is none, its child is none.
+pub no_leaf_inherited : (own_ : Invalidated) → IsInherited (IsNoLeafIn own_)
+no_leaf_inherited own_ level gfn leaf upper most is so is_in child = so is_in is
 
 -- ---- A new leaf is of none of the frames.
 
@@ -124,7 +128,7 @@ own_zapped z v a note (part.SetCount count) S I = λ is_open asked.
     absurd (counted_unasked count (v.hand a).topics S.needs (empty_open (part_topics (part.SetCount count) (v.hand a).topics
     (answer_in (part_task (part.SetCount count) a (v.hand a).topics note) v.words)) is_open) asked)
 own_zapped z v a note part.Publish S I = λ is_open.
-    absurd (published_none (v.hand a).topics.invalidations.opened (v.hand a).topics.invalidations.own.page S.needs.of_no_page is_open)
+    absurd (published_none (v.hand a).topics.invalidations.opened (v.hand a).topics.invalidations.own.pages S.needs.of_no_page is_open)
 own_zapped z v a note part.Give S I = λ is_open asked. (I.zapped a S.there (given_empty (v.hand a).topics S.needs.0 is_open) asked, tt)
 own_zapped z v a note part.GiveOld S I = λ is_open.
     absurd (let closed = S.needs.closed in let opened = empty_open (part_topics part.GiveOld (v.hand a).topics 0) is_open in cc (closed, opened))

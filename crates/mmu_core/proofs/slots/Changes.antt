@@ -225,19 +225,19 @@ some_slot test ((k, n) ∷ es) id m is so = by (k == id) is (some_slot test es i
     by true e rest = ap (λ (b : Bool). b || list_any (λ entry. test entry.1) es) (ap test (same e) ∙ so)
     by false e rest = second (test n) _ (rest e so)
 
--- So does the slot that a line moves or deletes.
-pub invalidated_fits : (z : Sizes) (pool : ℕ → ℕ) (set : ℕ) (slots : MemorySlots) (command : Command) (slot : Slot) → RecordPart pool set slots
-    → AreSlots z pool set → slot_invalidated slots command ≡ Some slot → Fits z slot
-invalidated_fits z pool set slots command slot R A is = by command is
+-- So is the slot that a line moves or deletes.
+pub invalidated_live : (pool : ℕ → ℕ) (set : ℕ) (slots : MemorySlots) (command : Command) (slot : Slot) → RecordPart pool set slots
+    → slot_invalidated slots command ≡ Some slot → (id : ℕ) × IsLiveIn pool set id slot
+invalidated_live pool set slots command slot R is = by command is
   where
-    at_id : (id : ℕ) (m : Option MemorySlot) → slot_of_id id slots ≡ m → option_map (λ was. was.slot) m ≡ Some slot → Fits z slot
+    at_id : (id : ℕ) (m : Option MemorySlot) → slot_of_id id slots ≡ m → option_map (λ was. was.slot) m ≡ Some slot → (id : ℕ) × IsLiveIn pool set id slot
     at_id id None at none = absurd (cc none)
-    at_id id (Some was) at some = subst (Fits z) (same some) (recorded_fits z pool set id slots was R A at)
+    at_id id (Some was) at some = (id, subst (IsLiveIn pool set id) (same some) (recorded_live pool set id slots was R at))
       where
         same : {x y : Slot} → Some x ≡ Some y → x ≡ y
         same e = cc e
 
-    by : (command : Command) → slot_invalidated slots command ≡ Some slot → Fits z slot
+    by : (command : Command) → slot_invalidated slots command ≡ Some slot → (id : ℕ) × IsLiveIn pool set id slot
     by (Access gfn word op) is = absurd (cc is)
     by (ChangeHost page change) is = absurd (cc is)
     by (SetSlot id new_) is = at_id id (slot_of_id id slots) refl is
@@ -247,7 +247,12 @@ invalidated_fits z pool set slots command slot R A is = by command is
     by (Migrate call) is = absurd (cc is)
     by (ClearLog id first count words) is = absurd (cc is)
 
--- So does the slot whose dirty log a line begins, and it has a page at least.
+pub invalidated_fits : (z : Sizes) (pool : ℕ → ℕ) (set : ℕ) (slots : MemorySlots) (command : Command) (slot : Slot) → RecordPart pool set slots
+    → AreSlots z pool set → slot_invalidated slots command ≡ Some slot → Fits z slot
+invalidated_fits z pool set slots command slot R A is =
+    let L = (invalidated_live pool set slots command slot R is).1 in subst (Fits z) L.is (A.fits _ L.low L.live)
+
+-- The slot whose dirty log a line begins fits the machine, too, and it has a page at least.
 pub armed_fits : (z : Sizes) (pool : ℕ → ℕ) (set : ℕ) (lines : List Line) (slots : MemorySlots) (command : Command) (slot : Slot) → RecordPart pool set slots
     → AreSlots z pool set → All (λ line. IsCommandFor z line.actor line.command) lines → All (IsSetBy lines) slots → slot_armed slots command ≡ Some slot
     → Fits z slot × (1 ≤ slot.pages)

@@ -55,7 +55,7 @@ way_free z moved t none closed = record {
 }
 
 -- Its invalidation has begun.
-pub way_begun : (z : Sizes) (moved : Option Slot) (t : Topics) → is_some moved ≡ true → IsOpen t → t.invalidations.own.page ≡ None
+pub way_begun : (z : Sizes) (moved : Option Slot) (t : Topics) → is_some moved ≡ true → IsOpen t → t.invalidations.own.pages ≡ None
     → FramesAre (aim.Slot (slot_or_none moved)) t.invalidations.own
     → z.vcpus ≤ t.flush.asked → z.vcpus ≤ t.flush.awaited → HasMadeWay z moved t
 way_begun z None t some O none F asked awaited = absurd (cc some)
@@ -81,7 +81,7 @@ pub way_still : (z : Sizes) (moved : Option Slot) (t u : Topics) → u.invalidat
     → (t.invalidations.opened ≡ true → u.flush ≡ t.flush) → HasMadeWay z moved t → HasMadeWay z moved u
 way_still z moved t u open_ raised own_ flush W = record {
   opened = open_ ∙ W.opened;
-  of_no_page = λ is. ap (λ (o : Invalidated). o.page) own_ ∙ W.of_no_page (sym open_ ∙ is);
+  of_no_page = λ is. ap (λ (o : Invalidated). o.pages) own_ ∙ W.of_no_page (sym open_ ∙ is);
   flushed = λ slot is.
       let F = W.flushed slot is in
       let same = flush F.opened in

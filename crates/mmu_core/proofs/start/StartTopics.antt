@@ -32,19 +32,18 @@ use Rattle.part_steps.specs.StayTopics.{is_alone}
 use Rattle.mmu_core.specs.invariant.TreePart.{Position, TreePart, Use, stands}
 use Rattle.mmu_core.specs.invariant.TreePart.Use.{Free, OldSet, Outside, Owned, Root, SlotSet, Under}
 use Rattle.mmu_core.specs.machine.View.{view, word_in}
-use Rattle.mmu_core.specs.machine.Worlds.{AreStartWords, IsStart, free_bits}
+use Rattle.mmu_core.specs.machine.Worlds.{IsStart, free_bits}
 use Rattle.mmu_core.proofs.held.KeptEmpty.{empty_open}
 use Rattle.mmu_core.proofs.start.StartWords.{bits_behind, bits_below, bits_inside, frame_word, hand_is, map_word, pool_word, word_at_start}
 use Rattle.mmu_core.proofs.machine.SumsBelow.{sum_none}
 use Rattle.mmu_core.proofs.machine.ColumnsTell.{at_none, is_outside, no_outside, other}
 use Rattle.mmu_core.specs.invariant.InvalidatedPart.{PassedPart}
-use Rattle.mmu_core.specs.invariant.HostWordsPart.{HostWordsPart, IsHostWord}
 use Rattle.mmu_core.specs.invariant.LowestPart.{IsLowest}
-use Rattle.spte_words.specs.HostWords.{host_frame, host_level, host_word}
-use Rattle.spte_words.proofs.ReadsHost.{host_has_frame, host_has_level}
-use Rattle.mmu_core.proofs.words.HostStays.{is_word_of}
+use Rattle.spte_words.specs.HostWords.{host_frame}
+use Rattle.spte_words.proofs.ReadsHost.{host_has_frame}
 use Rattle.core_views.specs.declared.topics.HostLook.{HostLook}
 use Rattle.mmu_core.proofs.start.StartFrames.{start_frames, start_use}
+use Rattle.mmu_core.proofs.start.StartHosts.{host_at_start, hosts_start, levels_start, small_runs}
 use Rattle.mmu_core.proofs.start.StartPages.{each_page, none_under, only_zero, root_only, start_spot, start_up}
 
 -- what actors hold of the parts: nothing
@@ -168,17 +167,6 @@ look_first : (z : Sizes) (n seq : ℕ) (host : ℕ → ℕ) (topics : ℕ → To
 look_first z n seq host topics =
     record { there = λ look e. absurd (cc e); is_word = λ look e. absurd (cc e); still = λ look s e. absurd (cc e); snapshot = λ s e. absurd (cc e) }
 
--- Each host word maps its page to its own frame, and allows writes.
-host_at_start : (z : Sizes) (w : World Held) (p : ℕ) → AreStartWords z w.words → p < z.pages → word_in z w area.Host p ≡ host_word p true true 1
-host_at_start z w p start lt =
-    word_at_start z w area.Host p (host_word p true true 1) start (λ l. refl)
-    (λ e. absurd (let t : nat_lt p z.pages ≡ true = grind (arith, nat_tests) in cc (e, t)))
-
-hosts_start : (z : Sizes) (lines : List Line) (w : World Held) → IsStart z lines w → HostWordsPart z (word_in z w area.Host)
-hosts_start z lines w start p lt =
-    subst (IsHostWord z.frames) (sym (host_at_start z w p start.words lt))
-    (is_word_of z.frames p true true 1 (omega (arith, lt, start.sizes.frames.0)) (omega arith) (omega arith))
-
 frames_start : (z : Sizes) (lines : List Line) (w : World Held) → IsStart z lines w
     → FramesPart z (actors_of z) (word_in z w area.FrameMap) (word_in z w area.Host) (λ i. (hand_in mmu w i).topics.frames.owned)
     (start_use z.pages z.frames)
@@ -281,13 +269,17 @@ start_topics z lines w start = record {
   loaded = λ i lt. subst (LoadedPart (word_in z w area.Pool)) (sym (topics_are z lines w i start lt)) (loaded_first (word_in z w area.Pool));
   ranges = λ i gfn lt is within. absurd (none_open_yet z lines w i start lt is);
   passed = λ i lt. subst (PassedPart (word_in z w area.Pool)) (sym (topics_are z lines w i start lt)) (λ alone. absurd (cc alone));
-  scopes = λ i page lt is. absurd (none_open_yet z lines w i start lt is);
+  scopes = λ i lt is. absurd (none_open_yet z lines w i start lt is);
   swept = λ i lt alone out is. absurd (none_open_yet z lines w i start lt is);
   zapped = λ i lt emptied asked. absurd (none_open_yet z lines w i start lt (empty_open (hand_in mmu w i).topics emptied));
+  slot_scopes = λ i lt is. absurd (none_open_yet z lines w i start lt is);
+  runs = small_runs z _ _ _ (levels_start z lines w start);
+  small_changes = λ i page lt is. absurd (none_open_yet z lines w i start lt is);
   lowest = record {
     leaves = λ table entry gfn R O leaf. absurd (no_leaf (start_spot table).level table entry leaf);
     cached = λ i lt. subst (λ (h : Held). All IsLowest h.cached.items) (sym (hand_is z lines w i start lt)) (All-nil IsLowest);
-    hosts = λ p lt. ap host_level (host_at_start z w p start.words lt) ∙ host_has_level p true true 1 (omega arith);
+    hosts = levels_start z lines w start;
+    runs = λ i run lt is. let none = ap (λ (t : Topics). t.invalidations.own.pages) (topics_are z lines w i start lt) in absurd (cc (none, is));
   };
   few_ended = let none = seq_start z lines w start in omega (arith, none);
   counters = λ i lt. subst (CountersPart z) (sym (topics_are z lines w i start lt)) (counters_first z);

@@ -156,6 +156,24 @@ still_brought seen found old_ absent still = by (found == old_) (λ e. grind (ar
         ap host_present brought.1 ∙ host_is_present (host_frame seen) true (host_allows_write seen) (host_level seen) in
         absurd (cc (gone, here))
 
+-- What was seen tells its level, its frame and whether it allows writes; and that it is present, where it was.
+pub still_level : (seen now_ : ℕ) → IsStill seen now_ → host_level now_ ≡ host_level seen
+still_level seen now_ (inl same) = ap host_level (sym same)
+still_level seen now_ (inr brought) =
+    ap host_level brought.1 ∙ host_has_level (host_frame seen) true (host_allows_write seen) (host_level seen) (level_low seen)
+
+pub still_frame : (seen now_ : ℕ) → IsStill seen now_ → host_frame now_ ≡ host_frame seen
+still_frame seen now_ (inl same) = ap host_frame (sym same)
+still_frame seen now_ (inr brought) = ap host_frame brought.1 ∙ same_frame seen true (host_allows_write seen)
+
+pub still_writes : (seen now_ : ℕ) → IsStill seen now_ → host_allows_write now_ ≡ host_allows_write seen
+still_writes seen now_ (inl same) = ap host_allows_write (sym same)
+still_writes seen now_ (inr brought) =
+    ap host_allows_write brought.1 ∙ host_is_writable (host_frame seen) true (host_allows_write seen) (host_level seen)
+
+pub still_there : (seen now_ : ℕ) → IsStill seen now_ → host_present seen ≡ true → host_present now_ ≡ true
+still_there seen now_ still there = ap host_present (sym (still_present seen now_ still there)) ∙ there
+
 -- Each host word stays one of its page.
 pub hosts_kept : (z : Sizes) (v : View) (a : ℕ) (step : PartStep) (note : ℕ) → IsPart z v a step → TopicsInvariant z v
     → HostWordsPart z ((part_stepped a step note v).words area.Host)
@@ -169,3 +187,44 @@ seq_rises z v a (part.SetSeq seq) note S I =
     let loaded = (I.checks a S.there).numbered (ap has_lock S.needs.0.alone) (ap knows_seq S.needs.0.loaded) in
     omega (arith, is, loaded)
 seq_rises z v a _ note S I = omega arith
+
+-- ---- the level of a mapping
+
+-- What a change puts in place of a host word is of its level.
+revised_level : (words : ℕ) (owned : Option OwnedFrame) (word new_ : ℕ) → revises words owned word new_ ≡ true → host_level new_ ≡ host_level word
+revised_level words owned word new_ is =
+    each_revision words owned word new_ (λ n. host_level n ≡ host_level word)
+    (λ none allowed. host_has_level (host_frame word) (host_present word) allowed (host_level word) (level_low word))
+    (λ none. host_has_level (host_frame word) false (host_allows_write word) (host_level word) (level_low word))
+    (λ o is_owned full. host_has_level o.frame (host_present word) (host_allows_write word) (host_level word) (level_low word)) is
+
+-- So is what an exchange leaves.
+exchanged_level : (found old_ new_ : ℕ) → host_level new_ ≡ host_level old_ → host_level (if found == old_ then new_ else found) ≡ host_level found
+exchanged_level found old_ new_ same = by (found == old_) (λ e. grind (arith, nat_tests))
+  where
+    by : (won : Bool) → (won ≡ true → found ≡ old_) → host_level (if won then new_ else found) ≡ host_level found
+    by true is = same ∙ ap host_level (sym (is refl))
+    by false is = refl
+
+-- Each step of a part leaves each page at its level.
+pub levels_stay : (z : Sizes) (v : View) (a : ℕ) (step : PartStep) (note : ℕ) → IsPart z v a step
+    → (q : ℕ) → host_level ((part_stepped a step note v).words area.Host q) ≡ host_level (v.words area.Host q)
+levels_stay z v a step note S = by step S
+  where
+    host : ℕ → ℕ
+    host = v.words area.Host
+
+    page : ℕ
+    page = page_looked (v.hand a).topics.host
+
+    looked : ℕ
+    looked = word_looked (v.hand a).topics.host
+
+    put : (new_ : ℕ) → host_level new_ ≡ host_level looked → (q : ℕ)
+        → host_level (upd host page (if host page == looked then new_ else host page) q) ≡ host_level (host q)
+    put new_ same = at_upd (λ (q w : ℕ). host_level w ≡ host_level (host q)) host page _ (exchanged_level (host page) looked new_ same) (λ q ne. refl)
+
+    by : (step : PartStep) → IsPart z v a step → (q : ℕ) → host_level ((part_stepped a step note v).words area.Host q) ≡ host_level (host q)
+    by part.Bring S = put _ (host_has_level (host_frame looked) true (host_allows_write looked) (host_level looked) (level_low looked))
+    by (part.Change new_) S = put new_ (revised_level (v.hand a).state.sizes.words (v.hand a).topics.frames.owned looked new_ S.needs.1)
+    by _ S = λ q. refl

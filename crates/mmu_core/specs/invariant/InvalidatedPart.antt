@@ -12,7 +12,7 @@ use Rattle.core_views.specs.Held.{Held}
 use Rattle.core_views.specs.Slots.{has_host_page}
 use Rattle.spte_words.specs.declared.spte_kind.SpteKind.TheVariants.{Leaf}
 use Rattle.spte_words.specs.Entries.{kind_of}
-use Rattle.part_steps.specs.InvalidationRange.{gfn_behind, page_aimed, page_looked}
+use Rattle.part_steps.specs.InvalidationRange.{IsOnRun, gfn_behind, page_aimed, page_looked}
 use Rattle.part_steps.specs.SweepTopics.{swept_to}
 use Rattle.mmu_core.specs.invariant.AllOver.{AllOver}
 use Rattle.mmu_core.specs.invariant.CachedPart.{AgreePart}
@@ -46,23 +46,23 @@ pub record SlotGives (pool : ℕ → ℕ) (set page gfn : ℕ) : Type 0 where
   pub has : has_host_page page slot ≡ true
   pub is : gfn ≡ gfn_behind page slot
 
--- The invalidation is of the guest frames that the slots give to this host page, and of no others.
-pub record IsOfPage (pool : ℕ → ℕ) (set page : ℕ) (own_ : Invalidated) : Type 0 where
-  pub covers : (gfn : ℕ) → SlotGives pool set page gfn → IsIn own_ gfn
-  pub only : (gfn : ℕ) → IsIn own_ gfn → SlotGives pool set page gfn
+-- The invalidation is of the guest frames that the slots give to the host pages of its run, and of no others.
+pub record IsOfPages (pool : ℕ → ℕ) (set : ℕ) (own_ : Invalidated) : Type 0 where
+  pub covers : (page gfn : ℕ) → IsOnRun page own_.pages → SlotGives pool set page gfn → IsIn own_ gfn
+  pub only : (gfn : ℕ) → IsIn own_ gfn → (page : ℕ) × IsOnRun page own_.pages × SlotGives pool set page gfn
 
--- So is each open one of a host page, of the published slots.
+-- So is each open one of host pages, of the published slots.
 abbrev pub ScopePart : ℕ → (ℕ → ℕ) → ℕ → (ℕ → Topics) → Type 0
 ScopePart n pool slots topics =
-    (i page : ℕ) → i < n → (topics i).invalidations.opened ≡ true → (topics i).invalidations.own.page ≡ Some page
-    → IsOfPage pool slots page (topics i).invalidations.own
+    (i : ℕ) → i < n → (topics i).invalidations.opened ≡ true → is_some (topics i).invalidations.own.pages ≡ true
+    → IsOfPages pool slots (topics i).invalidations.own
 
 -- ---- what is left of their frames
 
 -- The actor's own invalidation is open, and no leaf may be put at its frames once they are swept: where it is of a slot, the slot set that takes the place of
 -- the one with this slot is yet to be published. (From then on a large leaf of a slot that was moved would reach over frames of its old place.)
 abbrev pub keeps_empty : Topics → Bool
-keeps_empty t = t.invalidations.opened && (is_some t.invalidations.own.page || not (is_some t.retired))
+keeps_empty t = t.invalidations.opened && (is_some t.invalidations.own.pages || not (is_some t.retired))
 
 -- The entry is no leaf of its guest frames.
 abbrev pub IsNoLeafIn : Invalidated → ℕ → ℕ → ℕ → Type 0

@@ -10,6 +10,7 @@ use Rattle.core_views.specs.declared.topics.Topics.{Topics}
 use Rattle.core_views.specs.declared.trace.Slot.{Slot as SlotOf}
 use Rattle.core_views.specs.Slots.{contains}
 use Rattle.spte_words.specs.Flags.{flags_logged}
+use Rattle.part_steps.specs.InvalidationRange.{IsOnRun}
 use Rattle.part_steps.specs.SlotWords.{live_at, slot_at, slot_index}
 use Rattle.mmu_core.specs.invariant.HostWordsPart.{IsHostWord, IsStill}
 use Rattle.mmu_core.specs.invariant.InvalidatedPart.{IsIn}
@@ -52,7 +53,7 @@ pub record IsInvalidating (IsOf : Invalidated → Type 0) (t : Topics) : Type 0 
 
 -- An invalidation is on the host page; or on the guest frame.
 abbrev pub IsOnPage : ℕ → Invalidated → Type 0
-IsOnPage page own_ = own_.page ≡ Some page
+IsOnPage page own_ = IsOnRun page own_.pages
 
 abbrev pub IsOnFrame : ℕ → Invalidated → Type 0
 IsOnFrame gfn own_ = IsIn own_ gfn

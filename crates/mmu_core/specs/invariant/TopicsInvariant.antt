@@ -15,6 +15,7 @@ pub use Rattle.mmu_core.specs.invariant.InvalidatedPart.{PassedPart, RangePart, 
 pub use Rattle.mmu_core.specs.invariant.LockPart.{LockPart, SawWriter}
 pub use Rattle.mmu_core.specs.invariant.LowestPart.{LowestPart}
 pub use Rattle.mmu_core.specs.invariant.PoolPart.{FilledPart, IsFilled, UsePart, is_retired}
+pub use Rattle.mmu_core.specs.invariant.RunsPart.{RunsPart, SlotScopePart, SmallChangesPart}
 pub use Rattle.mmu_core.specs.invariant.SearchPart.{HeldSlotsPart, IsInvalidating, LookPart, SearchPart}
 pub use Rattle.mmu_core.specs.invariant.StatesPart.{StatesPart}
 pub use Rattle.mmu_core.specs.invariant.TreePart.{Position, TreePart, Use, stands}
@@ -51,8 +52,11 @@ pub record TopicsInvariantOf (z : Sizes) (lock root slots seq count start end_ :
   pub ranges : RangePart (actors_of z) start end_ (λ i. (hand i).topics)
   pub passed : (i : ℕ) → i < actors_of z → PassedPart pool (hand i).topics
   pub scopes : ScopePart (actors_of z) pool slots (λ i. (hand i).topics)
+  pub slot_scopes : SlotScopePart (actors_of z) pool slots (λ i. (hand i).topics)
   pub swept : SweptPart (actors_of z) up spot pool root (λ i. (hand i).topics)
   pub zapped : ZappedPart (actors_of z) up spot pool root (λ i. (hand i).topics)
+  pub runs : RunsPart z (actors_of z) host (λ i. (hand i).topics)
+  pub small_changes : SmallChangesPart (actors_of z) host (λ i. (hand i).topics)
   pub lowest : LowestPart z up spot root host pool hand
   pub few_ended : seq < 2 ^ 40
   pub counters : (i : ℕ) → i < actors_of z → CountersPart z (hand i).topics

@@ -16,7 +16,7 @@ use Rattle.part_steps.specs.declared.invalidations.Target.{Target}
 use Rattle.part_steps.specs.declared.invalidations.Target.TheVariants as aim
 use Rattle.part_steps.specs.InvalidationHoldings.{has_counted, has_widened}
 use Rattle.part_steps.specs.SweepHoldings.{IsSwept}
-use Rattle.part_steps.specs.InvalidationRange.{has_searched, invalidated_by, is_within_range, page_of_target, target_end, target_start}
+use Rattle.part_steps.specs.InvalidationRange.{has_searched, invalidated_by, is_within_range, page_of_target, run_or_none, target_end, target_start}
 use Rattle.part_steps.specs.PartHoldings.{HoldsSet}
 use Rattle.mmu_core.specs.orders.SweepKnows.{IsAtEntry, IsAtLeaf}
 use Rattle.mmu_core.specs.orders.SweepSteps.{range_of}
@@ -63,7 +63,7 @@ starts_low first last n = not (nat_lt first last) || nat_le n.start first
 -- Its own invalidation is of the target's frames, which are few enough, and it hasn't raised the sequence number for it yet, nor loaded a word of the
 -- invalidations since.
 pub record IsOfOwn (target : Target) (n : Invalidations) : Type 0 where
-  pub of_page : n.own.page ≡ page_of_target target
+  pub of_pages : n.own.pages ≡ run_or_none (page_of_target target)
   pub few : FramesAre target n.own
   pub unraised : n.raised ≡ false
   pub unchecked : n.checked ≡ checked.Nothing
@@ -82,8 +82,8 @@ BeginKnows begins.RangeStart z target t = HasSearched target t × (t.invalidatio
 BeginKnows begins.RangeEnd z target t = HasSearched target t × (t.invalidations.checked ≡ checked.Start) × (0 < t.invalidations.count)
 BeginKnows begins.SetStart z target t = HasSearched target t × (has_counted t.invalidations.checked t.invalidations.count ≡ true)
 BeginKnows begins.SetEnd z target t =
-    HasSearched target t × (has_widened t.invalidations.checked t.invalidations.count ≡ true) × (t.invalidations.own.page ≡ page_of_target target)
-    × (t.invalidations.own.start ≡ target_start target t.search)
+    HasSearched target t × (has_widened t.invalidations.checked t.invalidations.count ≡ true)
+    × (t.invalidations.own.pages ≡ run_or_none (page_of_target target)) × (t.invalidations.own.start ≡ target_start target t.search)
     × (starts_low (target_start target t.search) (target_end target t.search) t.invalidations ≡ true)
 BeginKnows begins.SetCount z target t =
     HasSearched target t × (t.invalidations.checked ≡ checked.Range) × (t.invalidations.own ≡ invalidated_by target t.search)

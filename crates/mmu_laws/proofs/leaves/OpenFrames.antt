@@ -1,6 +1,6 @@
 -- What an open invalidation makes sure of its guest frames, from the invariant.
 use Rattle.std.proofs.Common.{◌≡◌, ◌+◌, ◌*◌, ◌/◌, ◌^◌, ◌<◌, ◌≤◌, ℕ, sym, subst, ap, ◌∙◌, arith}
-use Rattle.std.specs.Prelude.{Some, true}
+use Rattle.std.specs.Prelude.{Some, true, Option, is_some}
 use Rattle.core_views.specs.declared.sizes.Sizes.{Sizes}
 use Rattle.core_views.specs.Held.{Held}
 use Rattle.core_views.specs.Sizes.{actors_of}
@@ -10,7 +10,7 @@ use Rattle.spte_words.specs.Areas.{pool_index}
 use Rattle.spte_words.specs.Entries.{kind_of, level_span}
 use Rattle.part_steps.specs.PartTasks.{entry_index}
 use Rattle.mmu_core.specs.alone.FaultAlone.{LeadsTo}
-use Rattle.mmu_core.specs.invariant.InvalidatedPart.{IsClean, IsIn, IsNoLeafIn, IsOfPage, may_use}
+use Rattle.mmu_core.specs.invariant.InvalidatedPart.{IsClean, IsIn, IsNoLeafIn, IsOfPages, may_use}
 use Rattle.mmu_core.specs.invariant.Laws.{IsSound}
 use Rattle.mmu_core.specs.invariant.TreePart.{Position}
 use Rattle.mmu_core.specs.machine.Enabled.{mmu}
@@ -22,14 +22,16 @@ use Rattle.mmu_core.proofs.pages.TreePlaces.{all_reached}
 use Rattle.mmu_laws.specs.leaves.OpenFrames.{KeepsEmpty, HasOpen, flush_of, own_of}
 use Rattle.mmu_core.proofs.held.KeptEmpty.{empty_open}
 use Rattle.mmu_laws.proofs.leaves.LeafLaws.{from_root}
+use Rattle.core_views.specs.declared.topics.PageRun.{PageRun}
 
 pub open_frames_are_recorded : (z : Sizes) (w : World Held) (actor gfn : ℕ) → IsSound z w → actor < actors_of z → HasOpen w actor → IsIn (own_of w actor) gfn
     → (word_in z w area.RangeStart 0 ≤ gfn) × (gfn < word_in z w area.RangeEnd 0) × (gfn < 2 ^ 36)
 open_frames_are_recorded z w actor gfn sound lt opened is_in = sound.topics.ranges actor gfn lt opened is_in
 
-pub open_frames_are_of_the_page : (z : Sizes) (w : World Held) (actor page : ℕ) → IsSound z w → actor < actors_of z → HasOpen w actor
-    → (own_of w actor).page ≡ Some page → IsOfPage (word_in z w area.Pool) (word_in z w area.Slots 0) page (own_of w actor)
-open_frames_are_of_the_page z w actor page sound lt opened of_page = sound.topics.scopes actor page lt opened of_page
+pub open_frames_are_of_the_pages : (z : Sizes) (w : World Held) (actor : ℕ) (run : PageRun) → IsSound z w → actor < actors_of z → HasOpen w actor
+    → (own_of w actor).pages ≡ Some run → (run.level ≡ 1) × IsOfPages (word_in z w area.Pool) (word_in z w area.Slots 0) (own_of w actor)
+open_frames_are_of_the_pages z w actor run sound lt opened is =
+    (sound.topics.lowest.runs actor run lt is, sound.topics.scopes actor lt opened (ap (λ (o : Option PageRun). is_some o) is))
 
 pub open_frames_are_zapped : (z : Sizes) (w : World Held) (actor gfn low entry : ℕ) → IsSound z w → actor < actors_of z → KeepsEmpty w actor
     → 1 ≤ (flush_of w actor).asked → IsIn (own_of w actor) gfn → LeadsTo (word_in z w area.Pool) 4 (word_in z w area.Root 0) gfn low entry

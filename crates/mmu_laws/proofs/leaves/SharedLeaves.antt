@@ -46,6 +46,7 @@ use Rattle.mmu_core.proofs.slots.LiveStays.{live_in_stays, part_live_stays}
 use Rattle.mmu_core.proofs.words.PartTopics.{behind_step, part_behind, stepped_hand}
 use Rattle.mmu_laws.proofs.leaves.OwnLeaves.{StandsThere, gone_found}
 use Rattle.mmu_laws.proofs.leaves.TopicRuns.{SaidOf}
+use Rattle.mmu_core.proofs.held.PageRuns.{some_run}
 
 -- Who holds the lock so, is there and walks so shares the lock outside, and has loaded a leaf which is over the guest frame.
 pub record SharesLeaf (gfn : ℕ) (hold : Hold) (stay : Stay) (walk : TableWalk) : Type 0 where
@@ -214,7 +215,8 @@ module _ (z : Sizes) (v : View) (a note : ℕ) where
           let given : SlotGives (v.words area.Pool) (v.words area.Slots 0) (page_of L.slot gfn) gfn =
           record { id = L.id; slot = L.slot; live = L.live; has = B.0; is = B.1 } in
           absurd (U a S.there (page_empty t (page_looked t.host) S.needs.0.opened S.needs.0.invalid) asked
-          ((I.scopes a (page_looked t.host) S.there S.needs.0.opened S.needs.0.invalid).covers gfn
+          ((I.scopes a S.there S.needs.0.opened (some_run (page_looked t.host) t.invalidations.own.pages S.needs.0.invalid)).covers (page_looked t.host) gfn
+          S.needs.0.invalid
           (subst (λ p. SlotGives (v.words area.Pool) (v.words area.Slots 0) p gfn) e given)))
       by (inr ne) = leaf_same (v.words area.Pool) (v.words area.Host) (v.words area.Slots 0) (page_looked t.host) _ level gfn leaf L (λ e. absurd (ne e))
   given_stays step level gfn leaf S I none U L =

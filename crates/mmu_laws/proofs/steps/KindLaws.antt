@@ -50,6 +50,7 @@ use Rattle.mmu_core.proofs.held.LowestKept.{lowest_leaf}
 use Rattle.mmu_laws.proofs.causes.MadeSteps.{Makes, in_machine, own_sizes, word_on}
 use Rattle.mmu_laws.proofs.leaves.LeadsDown.{leads_at, leads_down}
 use Rattle.mmu_core.proofs.pages.EntryStill.{still_leaf}
+use Rattle.mmu_core.proofs.held.PageRuns.{one_run}
 
 -- A step of this kind is one of a part.
 abbrev pub IsOfPart : StepKind → Type 0
@@ -187,7 +188,8 @@ module _ (z : Sizes) (w : World Held) (s : Step Kind) (G : IsSound z w) (may : M
         own_ = subst (λ (y : Sizes). is_own y h.state.actor (page_looked t.host) ≡ true) same N.own_;
         opened = N.opened;
         unraised = N.unraised;
-        invalid = N.invalid;
+        invalid =
+            one_run (page_looked t.host) t.invalidations.own.pages (λ run. G.topics.lowest.runs s.actor run (omega (arith, may.there, G.hands))) N.invalid;
         asked = subst (λ (y : Sizes). y.vcpus ≤ t.flush.asked) same N.asked;
         awaited = subst (λ (y : Sizes). y.vcpus ≤ t.flush.awaited) same N.awaited;
       }

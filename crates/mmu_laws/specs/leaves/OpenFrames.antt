@@ -11,11 +11,12 @@ use Rattle.spte_words.specs.declared.area.Area.TheVariants as area
 use Rattle.spte_words.specs.declared.spte_kind.SpteKind.TheVariants as entry_kind
 use Rattle.spte_words.specs.Entries.{kind_of}
 use Rattle.mmu_core.specs.alone.FaultAlone.{LeadsTo}
-use Rattle.mmu_core.specs.invariant.InvalidatedPart.{IsClean, IsIn, IsOfPage, keeps_empty, may_use}
+use Rattle.mmu_core.specs.invariant.InvalidatedPart.{IsClean, IsIn, IsOfPages, keeps_empty, may_use}
 use Rattle.mmu_core.specs.invariant.Laws.{IsSound}
 use Rattle.mmu_core.specs.machine.Enabled.{mmu}
 use Rattle.mmu_core.specs.machine.Machine.{World, hand_in}
 use Rattle.mmu_core.specs.machine.View.{word_in}
+use Rattle.core_views.specs.declared.topics.PageRun.{PageRun}
 
 -- what the actor's own invalidation is of, and the flushes that it asked for and awaited
 abbrev pub own_of : World Held → ℕ → Invalidated
@@ -34,11 +35,11 @@ OpenFramesAreRecorded =
     (z : Sizes) (w : World Held) (actor gfn : ℕ) → IsSound z w → actor < actors_of z → HasOpen w actor → IsIn (own_of w actor) gfn
     → (word_in z w area.RangeStart 0 ≤ gfn) × (gfn < word_in z w area.RangeEnd 0) × (gfn < 2 ^ 36)
 
--- Where it is of a host page, it is of the guest frames that the published slots give to this page, and of no others.
-abbrev pub OpenFramesAreOfThePage : Type 0
-OpenFramesAreOfThePage =
-    (z : Sizes) (w : World Held) (actor page : ℕ) → IsSound z w → actor < actors_of z → HasOpen w actor → (own_of w actor).page ≡ Some page
-    → IsOfPage (word_in z w area.Pool) (word_in z w area.Slots 0) page (own_of w actor)
+-- Where it is of a run of host pages, it is of the guest frames that the published slots give to these pages, and of no others; and the run is one page.
+abbrev pub OpenFramesAreOfThePages : Type 0
+OpenFramesAreOfThePages =
+    (z : Sizes) (w : World Held) (actor : ℕ) (run : PageRun) → IsSound z w → actor < actors_of z → HasOpen w actor → (own_of w actor).pages ≡ Some run
+    → (run.level ≡ 1) × IsOfPages (word_in z w area.Pool) (word_in z w area.Slots 0) (own_of w actor)
 
 -- It is open, of a host page; or it is of a slot, and its actor has yet to publish the slot set that takes the place of the one with this slot.
 abbrev pub KeepsEmpty : World Held → ℕ → Type 0

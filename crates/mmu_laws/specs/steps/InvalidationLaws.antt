@@ -28,6 +28,7 @@ use Rattle.mmu_core.specs.invariant.Laws.{IsSound}
 use Rattle.mmu_core.specs.machine.Enabled.{mmu}
 use Rattle.mmu_core.specs.machine.Machine.{May, Step, World, effect, hand_in}
 use Rattle.mmu_core.specs.machine.View.{word_in}
+use Rattle.part_steps.specs.InvalidationRange.{run_of}
 
 -- what the actor holds that makes the step
 abbrev pub held_by : World Held → Step Kind → Topics
@@ -101,7 +102,7 @@ pub record ChangesOwnPage (z : Sizes) (w : World Held) (s : Step Kind) : Type 0 
   pub own_ : is_own z (hand_in mmu w s.actor).state.actor page ≡ true
   pub opened : (held_by w s).invalidations.opened ≡ true
   pub unraised : (held_by w s).invalidations.raised ≡ false
-  pub invalid : (held_by w s).invalidations.own.page ≡ Some page
+  pub invalid : (held_by w s).invalidations.own.pages ≡ Some (run_of page)
   pub asked : z.vcpus ≤ (held_by w s).flush.asked
   pub awaited : z.vcpus ≤ (held_by w s).flush.awaited
 

@@ -32,7 +32,7 @@ StaysAsPublished z w s id slot =
 pub record HasInvalidated (z : Sizes) (slot : Slot) (t : Topics) : Type 0 where
   pub opened : t.invalidations.opened ≡ true
   pub unraised : t.invalidations.raised ≡ false
-  pub of_no_page : t.invalidations.own.page ≡ None
+  pub of_no_page : t.invalidations.own.pages ≡ None
   pub start : t.invalidations.own.start ≡ slot.base
   pub end_ : t.invalidations.own.end ≡ slot.base + slot.pages
   pub asked : z.vcpus ≤ t.flush.asked

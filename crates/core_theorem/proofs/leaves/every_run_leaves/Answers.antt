@@ -1,5 +1,5 @@
 use Rattle.mmu_laws.proofs.leaves.LeafLaws.{cached_leaves_agree, leaves_agree, leaves_are_lowest, used_leaves_agree}
-use Rattle.mmu_laws.proofs.leaves.OpenFrames.{open_frames_are_flushed, open_frames_are_of_the_page, open_frames_are_recorded, open_frames_are_zapped}
+use Rattle.mmu_laws.proofs.leaves.OpenFrames.{open_frames_are_flushed, open_frames_are_of_the_pages, open_frames_are_recorded, open_frames_are_zapped}
 use Rattle.core_theorem.proofs.LookUps.{found_slots_are_held, fresh_look_ups_are_true, held_slots_stand, looked_up_pages_stand}
 use Rattle.core_theorem.proofs.Runs.{sound}
 use Rattle.core_theorem.proofs.WalksKept.{held_leaves_are_linked}
@@ -25,8 +25,8 @@ pub returns-clause-recorded : goal.returns-clause-recorded
 returns-clause-recorded c z lines w ss R actor gfn there opened is_in = open_frames_are_recorded z _ actor gfn (sound z lines w ss R) there opened is_in
 
 pub returns-clause-scopes : goal.returns-clause-scopes
-returns-clause-scopes c z lines w ss R actor page there opened of_page =
-    open_frames_are_of_the_page z _ actor page (sound z lines w ss R) there opened of_page
+returns-clause-scopes c z lines w ss R actor run there opened is =
+    open_frames_are_of_the_pages z _ actor run (sound z lines w ss R) there opened is
 
 pub returns-clause-zapped : goal.returns-clause-zapped
 returns-clause-zapped c z lines w ss R actor gfn low entry there emptied asked is_in leads leaf =

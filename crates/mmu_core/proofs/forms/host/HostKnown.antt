@@ -58,6 +58,8 @@ use Rattle.mmu_core.proofs.lines.LockHeld.{rests_by_seq}
 use Rattle.mmu_core.proofs.orders.WatchMade.{WatchMade, watch_begins, watch_comes, watch_made}
 use Rattle.mmu_core.proofs.orders.WatchMade as made
 use Rattle.mmu_core.proofs.machine.HandWith.{hand_with}
+use Rattle.part_steps.specs.InvalidationRange.{IsOnRun}
+use Rattle.core_views.specs.declared.topics.Invalidations.{Invalidations}
 
 -- What an invalidation's steps leave: what the line has looked up.
 pub begin_leaves_host : (p : BeginPlace) (target : Target) (t : Topics) (v : ℕ) → (part_topics (begin_part p target t) t v).host ≡ t.host
@@ -129,7 +131,7 @@ module _ (line : Line) (h : Held) (page : ℕ) (change : HostChange) (cached : B
   begin_comes p begins_next.Begun u same leaves L some O none C =
       let frames = leaves.frames in
       let flushed : HasFlushed page (behind (Begin p) u) =
-      record { owns_none = leaves.owned ∙ none; opened = C.0; invalid = C.1; asked = C.2; awaited = C.3 } in
+      record { owns_none = leaves.owned ∙ none; opened = C.0; invalid = subst (IsOnRun page) (sym C.1) refl; asked = C.2; awaited = C.3 } in
       let looks = looks_still (Begin p) u same L in
       let owns : OwnsToMove change u.frames.owned = subst (λ (f : HeldFrames). OwnsToMove change f.owned) (sym frames) O in
       let same_owned = ap (λ (f : HeldFrames). is_some f.owned) frames in
@@ -164,7 +166,7 @@ module _ (line : Line) (h : Held) (page : ℕ) (change : HostChange) (cached : B
   flushed_still p u stay hold owned walk search own_ flush F = record {
     owns_none = owned ∙ F.owns_none;
     opened = open_still h.topics u stay hold walk search own_ F.opened;
-    invalid = ap (λ n. n.own.page) own_ ∙ F.invalid;
+    invalid = subst (λ (n : Invalidations). IsOnRun page n.own.pages) (sym own_) F.invalid;
     asked = subst (λ f. h.state.sizes.vcpus ≤ f.asked) (sym flush) F.asked;
     awaited = subst (λ f. h.state.sizes.vcpus ≤ f.awaited) (sym flush) F.awaited;
   }

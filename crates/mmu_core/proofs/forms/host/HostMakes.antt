@@ -9,6 +9,8 @@ use Rattle.core_views.specs.declared.place.HostPlace.TheVariants.{Look, Claim, B
 use Rattle.core_views.specs.declared.place.Place.TheVariants as place
 use Rattle.core_views.specs.declared.sizes.Sizes.{Sizes}
 use Rattle.core_views.specs.declared.topics.HostLook.{HostLook}
+use Rattle.core_views.specs.declared.topics.Invalidated.{Invalidated}
+use Rattle.core_views.specs.declared.topics.Topics.{Topics}
 use Rattle.core_views.specs.declared.trace.Command.TheVariants.{ChangeHost}
 use Rattle.core_views.specs.declared.trace.HostChange.{HostChange}
 use Rattle.core_views.specs.declared.trace.Line.{Line}
@@ -31,7 +33,7 @@ use Rattle.mmu_core.proofs.orders.ClaimMade.{claim_is}
 use Rattle.mmu_core.proofs.forms.host.HostNeeds.{host_needs}
 use Rattle.mmu_core.proofs.lines.Raised.{few_raised}
 use Rattle.mmu_core.proofs.lines.KnowsKept.{step_knows}
-use Rattle.mmu_core.proofs.machine.PartStepping.{IsPart, Replaces, AreApart}
+use Rattle.mmu_core.proofs.machine.PartStepping.{IsPart, MayInvalidate, Replaces, AreApart}
 use Rattle.mmu_core.proofs.machine.Stepping.{IsStep}
 use Rattle.mmu_core.specs.invariant.SlotSetPart.{SlotSetPart}
 use Rattle.core_views.specs.Slots.{has_host_page}
@@ -45,6 +47,10 @@ slots_apart z set role pool P page i j slot other live also has too =
     P.slots.host_apart page i j live.low also.low live.live also.live (ap (has_host_page page) live.is ∙ has) (ap (has_host_page page) also.is ∙ too) in
     sym live.is ∙ ap (slot_at pool set) same ∙ also.is
 
+-- Who ends an invalidation counts none more.
+pub closes_own : (pool : ℕ → ℕ) (slots : ℕ) (t : Topics) → AreApart pool slots → t.invalidations.opened ≡ true → MayInvalidate pool slots t
+closes_own pool slots t apart opened = record { apart = apart; of_slot = λ closed of_none. absurd (cc (opened, closed)) }
+
 module _ (z : Sizes) (v : View) (a : ℕ) (page : ℕ) (change : HostChange) where
   abbrev Says : PartStep → Type 0
   Says step = Replaces z step (v.words area.Pool) (v.words area.Slots 0) (v.hand a).topics
@@ -55,9 +61,14 @@ module _ (z : Sizes) (v : View) (a : ℕ) (page : ℕ) (change : HostChange) whe
   host_says (Look moving) small I P there K = either_place Says (is_own (v.hand a).state.sizes (v.hand a).state.actor page) (part.Host page) part.Seq tt tt
   host_says (Begin (begins.Find begun)) small I P there K = either_place Says begun part.Slot part.Slots tt tt
   host_says (Begin (begins.Walk rooted)) small I P there K = either_place Says rooted (part.Sweep _) part.Root tt tt
-  host_says (Begin begins.SetCount) small I P there K = slots_apart z (v.words area.Slots 0) (v.words area.Role) (v.words area.Pool) I.set_part
+  host_says (Begin begins.SetCount) small I P there K = record {
+    apart = slots_apart z (v.words area.Slots 0) (v.words area.Role) (v.words area.Pool) I.set_part;
+    of_slot = λ closed of_none. absurd (let is = ap (λ (n : Invalidated). n.pages) K.1.2 in cc (is, of_none));
+  }
   host_says (Begin _) small I P there K = tt
-  host_says (End ends.SetCount) small I P there K = slots_apart z (v.words area.Slots 0) (v.words area.Role) (v.words area.Pool) I.set_part
+  host_says (End ends.SetCount) small I P there K =
+      closes_own (v.words area.Pool) (v.words area.Slots 0) (v.hand a).topics
+      (slots_apart z (v.words area.Slots 0) (v.words area.Role) (v.words area.Pool) I.set_part) K.1.0.is
   host_says (End ends.SetSeq) small I P there K = few_raised z v a small P there K.1.0.alone.alone K.1.1
   host_says (End ends.Exclude) small I P there K = tt
   host_says (End _) small I P there K = tt

@@ -20,7 +20,7 @@ use Rattle.core_views.specs.Sizes.{AreSizes, first_page_in}
 use Rattle.part_steps.specs.declared.invalidations.Target.TheVariants as aim
 use Rattle.part_steps.specs.declared.part_step.PartStep.TheVariants as part
 use Rattle.part_steps.specs.InvalidationHoldings.{MayChange}
-use Rattle.part_steps.specs.InvalidationRange.{IsAimed, page_looked, page_of_look}
+use Rattle.part_steps.specs.InvalidationRange.{IsAimed, page_looked, page_of_look, IsOnRun}
 use Rattle.part_steps.specs.PartBounds.{PartRests}
 use Rattle.part_steps.specs.PartSteps.{PartNeeds}
 use Rattle.part_steps.specs.PartTasks.{own_index, word_looked}
@@ -78,7 +78,7 @@ may_change page h L F = record {
   own_ = ap (is_own h.state.sizes h.state.actor) L.at ∙ L.own_;
   opened = F.opened.opened;
   unraised = F.opened.unraised;
-  invalid = F.invalid ∙ ap Some (sym L.at);
+  invalid = subst (λ p. IsOnRun p h.topics.invalidations.own.pages) (sym L.at) F.invalid;
   asked = F.asked;
   awaited = F.awaited;
 }

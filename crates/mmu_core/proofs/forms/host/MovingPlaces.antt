@@ -1,5 +1,5 @@
 -- Who has copied something of a page: an actor that moves it, by the place of its line.
-use Rattle.std.proofs.Common.{◌≡◌, ◌⊎◌, inl, inr, ◌<◌, ℕ, length, refl, sym, subst, ap, ◌∙◌}
+use Rattle.std.proofs.Common.{◌≡◌, ◌⊎◌, inl, inr, ◌<◌, ℕ, length, refl, sym, subst, ap}
 use Rattle.std.specs.Prelude.{Bool, true, false, Some}
 use Rattle.core_views.specs.declared.place.HostPlace.{HostPlace}
 use Rattle.core_views.specs.declared.place.HostPlace.TheVariants as host
@@ -23,6 +23,7 @@ use Rattle.mmu_core.specs.forms.host.HostKnows.{HasFlushed, HostKnows, LooksAt}
 use Rattle.mmu_core.specs.machine.View.{View}
 use Rattle.mmu_core.proofs.held.CopiedSteps.{Movers, MovesPage, moves_on, moves_page}
 use Rattle.mmu_core.proofs.invariant.QuietHand.{one_step}
+use Rattle.part_steps.specs.InvalidationRange.{IsOnRun}
 
 -- The line is at a place of a copy, or of a change.
 abbrev pub is_moving : Place → Bool
@@ -37,7 +38,7 @@ may_change page h L F = record {
   own_ = subst (λ p. is_own h.state.sizes h.state.actor p ≡ true) (sym L.at) L.own_;
   opened = F.opened.opened;
   unraised = F.opened.unraised;
-  invalid = F.invalid ∙ ap Some (sym L.at);
+  invalid = subst (λ p. IsOnRun p h.topics.invalidations.own.pages) (sym L.at) F.invalid;
   asked = F.asked;
   awaited = F.awaited;
 }

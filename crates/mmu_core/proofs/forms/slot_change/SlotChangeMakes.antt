@@ -1,19 +1,20 @@
 -- A line that changes a slot makes steps that it may make: it has what each needs, says of it what is to be said, and knows after it what its next place asks.
 use Rattle.core_views.specs.Sizes.{actors_of}
-use Rattle.part_steps.specs.declared.invalidations.Target.{Target}
+use Rattle.part_steps.specs.declared.invalidations.Target.TheVariants as aim
 use Rattle.part_steps.specs.declared.part_step.PartStep.{PartStep}
 use Rattle.part_steps.specs.declared.part_step.PartStep.TheVariants as part
 use Rattle.part_steps.specs.PartHoldings.{own_open}
 use Rattle.mmu_core.specs.orders.ClaimSteps.{Pages}
-use Rattle.mmu_core.specs.orders.InvalidateKnows.{IsFlushedOut}
+use Rattle.mmu_core.specs.orders.InvalidateKnows.{BeginKnows, IsFlushedOut}
 use Rattle.mmu_core.specs.orders.InvalidateSteps.{begin_part}
 use Rattle.mmu_core.specs.forms.slot_change.SlotChangeKnows.{ArmsSlot, Fits, IsInLog, SlotChangeRests}
 use Rattle.mmu_core.specs.machine.Sums.{one_if}
 use Rattle.mmu_core.proofs.forms.access.AccessParts.{AreSmall}
 use Rattle.mmu_core.proofs.orders.ClaimMade.{claim_is}
-use Rattle.mmu_core.proofs.forms.host.HostMakes.{slots_apart}
+use Rattle.mmu_core.proofs.forms.host.HostMakes.{closes_own, slots_apart}
 use Rattle.mmu_core.proofs.lines.Raised.{few_raised}
 use Rattle.mmu_core.proofs.machine.SumsBelow.{sum_ge}
+use Rattle.core_views.specs.declared.topics.Invalidated.{Invalidated}
 use Rattle.core_views.specs.declared.topics.Topics.{Topics}
 use Rattle.std.proofs.lemmas.Bool.Decides.{nat_tests}
 use Rattle.std.proofs.Common.{◌≡◌, ◌<◌, ◌≤◌, ◌⊎◌, inl, inr, ℕ, refl, sym, subst, ap, ◌∙◌, arith}
@@ -38,10 +39,10 @@ use Rattle.core_views.specs.declared.memory_slot.MemorySlot.{MemorySlot}
 use Rattle.core_views.specs.declared.trace.Command.TheVariants.{Access, ChangeHost, ClearLog, DeleteSlot, GetLog, Migrate, SetLog, SetSlot}
 use Rattle.core_views.specs.Refusals.{is_logged, log_refusal}
 use Rattle.core_views.specs.Slots.{first_of, is_some_and}
-use Rattle.core_views.specs.SlotSets.{slot_of_id}
+use Rattle.core_views.specs.SlotSets.{MemorySlots, slot_of_id}
 use Rattle.core_views.proofs.SlotChanges.{logged_there, none_refused}
 use Rattle.part_steps.specs.LogHoldings.{is_in_log, log_begin, log_end}
-use Rattle.mmu_core.specs.invariant.Invariant.{RecordPart}
+use Rattle.mmu_core.specs.invariant.Invariant.{IsLiveIn, RecordPart}
 use Rattle.mmu_core.specs.orders.WriteProtectSteps.{protect_part}
 use Rattle.std.specs.Option.{option_map}
 use Rattle.spte_words.specs.declared.area.Area.{Area}
@@ -50,7 +51,8 @@ use Rattle.part_steps.specs.PartTasks.{own_index, page_owned, words_filled}
 use Rattle.mmu_core.specs.forms.slot_change.SlotChangeSteps.{slot_change_note, slot_change_part, slot_change_task, slot_or_none, slot_target}
 use Rattle.mmu_core.specs.invariant.TopicsInvariant.{TopicsInvariant}
 use Rattle.mmu_core.specs.machine.View.{View, answer_in}
-use Rattle.mmu_core.proofs.slots.Changes.{Publishes, armed_fits, change_is_managers, change_small, invalidated_fits, recorded_fits, some_slot}
+use Rattle.mmu_core.proofs.slots.Changes.{Publishes, armed_fits, change_is_managers, change_small, invalidated_fits, invalidated_live}
+use Rattle.mmu_core.proofs.slots.Changes.{recorded_fits, some_slot}
 use Rattle.mmu_core.proofs.words.SmallSlots.{has_page, record_is_so}
 use Rattle.mmu_core.proofs.slots.LogsApart.{logs_apart}
 use Rattle.mmu_core.proofs.machine.PartStepping.{AreApart, Replaces}
@@ -92,16 +94,35 @@ change_replaced z v a line command S I = record {
     by slot (inl stays) = inl stays
     by slot (inr moves) = inr (flushed slot moves)
 
--- No two published slots share a host page, and the sequence number is small, where a step of an invalidation is to say so.
+-- The slot that a line moves or deletes, if it does so, is live.
+way_live : (pool : ℕ → ℕ) (set : ℕ) (slots : MemorySlots) (command : Command) → RecordPart pool set slots → is_some (slot_invalidated slots command) ≡ true
+    → (id : ℕ) × IsLiveIn pool set id (slot_or_none (slot_invalidated slots command))
+way_live pool set slots command R some = by (slot_invalidated slots command) refl some
+  where
+    by : (o : Option Slot) → slot_invalidated slots command ≡ o → is_some o ≡ true → (id : ℕ) × IsLiveIn pool set id (slot_or_none o)
+    by None is some = absurd (cc some)
+    by (Some slot) is some = invalidated_live pool set slots command slot R is
+
+-- One more invalidation may be counted, and the sequence number is small, where a step of an invalidation is to say so.
 module _ (z : Sizes) (v : View) (a : ℕ) (t : Topics) where
   abbrev Says : PartStep → Type 0
   Says step = Replaces z step (v.words area.Pool) (v.words area.Slots 0) t
 
-  begin_replaces : (p : BeginPlace) (target : Target) → AreApart (v.words area.Pool) (v.words area.Slots 0) → Says (begin_part p target t)
-  begin_replaces (begins.Find begun) target apart = either_place Says begun part.Slot part.Slots tt tt
-  begin_replaces (begins.Walk rooted) target apart = either_place Says rooted (part.Sweep _) part.Root tt tt
-  begin_replaces begins.SetCount target apart = apart
-  begin_replaces _ target apart = tt
+  begin_replaces : (p : BeginPlace) (slot : Slot) → AreApart (v.words area.Pool) (v.words area.Slots 0)
+      → (id : ℕ) × IsLiveIn (v.words area.Pool) (v.words area.Slots 0) id slot → BeginKnows p z (aim.Slot slot) t → Says (begin_part p (aim.Slot slot) t)
+  begin_replaces (begins.Find begun) slot apart L K = either_place Says begun part.Slot part.Slots tt tt
+  begin_replaces (begins.Walk rooted) slot apart L K = either_place Says rooted (part.Sweep _) part.Root tt tt
+  begin_replaces begins.SetCount slot apart L K = record {
+    apart = apart;
+    of_slot = λ closed of_none. record {
+      id = L.0;
+      slot = slot;
+      live = L.1;
+      start = ap (λ (n : Invalidated). n.start) K.2;
+      end_ = ap (λ (n : Invalidated). n.end) K.2;
+    };
+  }
+  begin_replaces _ slot apart L K = tt
 
   protect_replaces : (p : WriteProtectPlace) (range : FrameRange) → Says (protect_part p range t)
   protect_replaces (protect.Walk rooted) range = either_place Says rooted (part.Sweep _) part.Root tt tt
@@ -114,11 +135,16 @@ change_replaces z v a line Publish command small S I P = change_replaced z v a l
 change_replaces z v a line (Claim begun) command small S I P =
     claim_is (Says z v a (v.hand a).topics) Pages begun (v.hand a).topics.claim tt (λ word. tt)
 change_replaces z v a line (Begin p) command small S I P =
-    begin_replaces z v a (v.hand a).topics p (slot_target (v.hand a) command)
+    let K = (step_knows z v a line command (place.SlotChange (Begin p)) S I).1 in
+    begin_replaces z v a (v.hand a).topics p (slot_or_none (slot_invalidated (v.hand a).slots command))
     (slots_apart z (v.words area.Slots 0) (v.words area.Role) (v.words area.Pool) I.set_part)
+    (way_live (v.words area.Pool) (v.words area.Slots 0) (v.hand a).slots command (record_of z v a line command (Begin p) S I) K.2)
+    (subst (λ (y : Sizes). BeginKnows p y (slot_target (v.hand a) command) (v.hand a).topics) (I.lines a S.there).sizes K.1)
 change_replaces z v a line (WriteProtect range p) command small S I P = protect_replaces z v a (v.hand a).topics p range
 change_replaces z v a line (End ends.SetCount) command small S I P =
-    slots_apart z (v.words area.Slots 0) (v.words area.Role) (v.words area.Pool) I.set_part
+    closes_own (v.words area.Pool) (v.words area.Slots 0) (v.hand a).topics
+    (slots_apart z (v.words area.Slots 0) (v.words area.Role) (v.words area.Pool) I.set_part)
+    (step_knows z v a line command (place.SlotChange (End ends.SetCount)) S I).1.0.0.is
 change_replaces z v a line (End ends.SetSeq) command small S I P =
     let K = (step_knows z v a line command (place.SlotChange (End ends.SetSeq)) S I).1.0 in few_raised z v a small P S.there K.0.alone.alone K.1
 change_replaces z v a line (End _) command small S I P = tt

@@ -1,5 +1,5 @@
 -- What a line knows that changes a host page, at each of its places, from what its actor holds alone.
-use Rattle.std.specs.Prelude.{◌≡◌, ◌<◌, ◌≤◌, ℕ, Bool, true, false, Option, Some, None, is_some}
+use Rattle.std.specs.Prelude.{◌≡◌, ◌<◌, ◌≤◌, ℕ, Bool, true, false, Option, None, is_some}
 use Rattle.core_views.specs.declared.place.EndPlace.TheVariants as ends
 use Rattle.core_views.specs.declared.place.HostPlace.{HostPlace}
 use Rattle.core_views.specs.declared.place.HostPlace.TheVariants.{Look, Claim, Begin, Copy, Store, Change, End, Watch, Free}
@@ -12,6 +12,7 @@ use Rattle.core_views.specs.HostChanges.{is_own}
 use Rattle.core_views.specs.Sizes.{actors_of}
 use Rattle.spte_words.specs.Areas.{words_of_bits}
 use Rattle.part_steps.specs.declared.invalidations.Target.TheVariants as aim
+use Rattle.part_steps.specs.InvalidationRange.{IsOnRun}
 use Rattle.part_steps.specs.FrameHoldings.{MayGiveFrame}
 use Rattle.part_steps.specs.FrameTopics.{copy_held, is_uncopied, words_moved}
 use Rattle.part_steps.specs.PartSteps.{IsAtRest}
@@ -35,7 +36,7 @@ pub record LooksAt (page : ℕ) (h : Held) : Type 0 where
 pub record HasFlushed (page : ℕ) (h : Held) : Type 0 where
   pub owns_none : h.topics.owned ≡ None
   pub opened : IsOpen h.topics
-  pub invalid : h.topics.invalidations.own.page ≡ Some page
+  pub invalid : IsOnRun page h.topics.invalidations.own.pages
   pub asked : h.state.sizes.vcpus ≤ h.topics.flush.asked
   pub awaited : h.state.sizes.vcpus ≤ h.topics.flush.awaited
 

@@ -46,7 +46,7 @@ is_of_frames _ = false
 -- no invalidation of the actor's own is open.
 pub record HasMadeWay (z : Sizes) (invalidated : Option Slot) (t : Topics) : Type 0 where
   pub opened : t.invalidations.opened ≡ is_some invalidated
-  pub of_no_page : t.invalidations.opened ≡ true → t.invalidations.own.page ≡ None
+  pub of_no_page : t.invalidations.opened ≡ true → t.invalidations.own.pages ≡ None
   pub flushed : (slot : Slot) → invalidated ≡ Some slot → IsFlushedOut z.vcpus slot t
 
 -- what it knows at each place

@@ -1,5 +1,5 @@
 use Rattle.mmu_laws.proofs.leaves.LeafLaws.{cached_leaves_agree, held_leaves_agree, leaves_agree, leaves_are_lowest, used_leaves_agree}
-use Rattle.mmu_laws.proofs.leaves.OpenFrames.{open_frames_are_flushed, open_frames_are_of_the_page, open_frames_are_recorded, open_frames_are_zapped}
+use Rattle.mmu_laws.proofs.leaves.OpenFrames.{open_frames_are_flushed, open_frames_are_of_the_pages, open_frames_are_recorded, open_frames_are_zapped}
 use Rattle.mmu_laws.proofs.laws.leaves_agree.Goals as goal
 
 pub returns-clause-standing : goal.returns-clause-standing
@@ -21,7 +21,7 @@ pub returns-clause-recorded : goal.returns-clause-recorded
 returns-clause-recorded c = open_frames_are_recorded
 
 pub returns-clause-scopes : goal.returns-clause-scopes
-returns-clause-scopes c = open_frames_are_of_the_page
+returns-clause-scopes c = open_frames_are_of_the_pages
 
 pub returns-clause-zapped : goal.returns-clause-zapped
 returns-clause-zapped c = open_frames_are_zapped

@@ -1,10 +1,11 @@
-use Rattle.std.proofs.Common.{refl}
-use Rattle.spte_words.specs.Entries.{leaf_word, table_word}
+use Rattle.std.proofs.Common.{◌+◌, ◌-◌, ◌*◌, ◌/◌, ◌%◌, ◌^◌, ◌<◌, ◌≤◌, refl, arith}
+use Rattle.spte_words.specs.Entries.{frame_in, leaf_word, level_span, table_word}
+use Rattle.spte_words.proofs.ChildEntries.{child_can_write, child_host_writable, child_kind, child_maps, child_mmu_writable}
 use Rattle.spte_words.proofs.ReadsEntries.{leaf_fits, table_fits, leaf_can_write, leaf_host_writable, leaf_mmu_writable, leaf_frame}
 use Rattle.spte_words.proofs.ReadsEntries.{absent_not_frozen, leaf_not_absent, leaf_not_frozen, table_not_absent, table_not_frozen, leaf_not_table}
 use Rattle.spte_words.proofs.ReadsEntries.{kind_of_leaf, kind_of_table, kind_of_absent, kind_of_frozen, frozen_from_kind, leaf_with_write}
 use Rattle.spte_words.proofs.ReadsEntries.{leaf_without_write, child_of_leaf}
-use Rattle.spte_words.proofs.Spans.{span_1, span_above}
+use Rattle.spte_words.proofs.Spans.{child_within, span_1, span_above}
 use Rattle.spte_words.proofs.laws.entries_tell_what_they_are.Goals as goal
 
 pub returns-clause-leaves : goal.returns-clause-leaves
@@ -38,6 +39,18 @@ returns-clause-write c level frame w hw mw = (leaf_with_write level frame w hw m
 
 pub returns-clause-children : goal.returns-clause-children
 returns-clause-children c = child_of_leaf
+
+pub returns-clause-children_map : goal.returns-clause-children_map
+returns-clause-children_map c level word gfn from to room =
+    let small : frame_in word + gfn / level_span (level - 1) % 512 * level_span (level - 1) < 2 ^ 40 =
+    let within = child_within level (gfn / level_span (level - 1) % 512) from to (omega arith) in omega (arith, within, room) in
+    let most : level ≤ 4 = omega (arith, to) in (
+      child_kind level word (gfn / level_span (level - 1) % 512) from most,
+      child_maps level word gfn from most small,
+      child_can_write level word (gfn / level_span (level - 1) % 512),
+      child_host_writable level word (gfn / level_span (level - 1) % 512) small,
+      child_mmu_writable level word (gfn / level_span (level - 1) % 512) small,
+    )
 
 pub returns-clause-spans : goal.returns-clause-spans
 returns-clause-spans c = (span_1, span_above)
