@@ -19,9 +19,10 @@ use Rattle.mmu_core.proofs.pages.AllOver.{IsInherited, IsLight, over_weaker}
 use Rattle.mmu_core.proofs.pages.OverSteps.{OfNewLeaf, over_step}
 use Rattle.mmu_core.proofs.pages.Standing.{entry_now, spot_after, up_after}
 use Rattle.mmu_core.proofs.pages.TreeKept.{tree_kept}
-use Rattle.mmu_core.proofs.pages.ZappedKept.{one_frame}
+use Rattle.mmu_core.proofs.held.WalkSpans.{one_frame}
 use Rattle.mmu_core.proofs.words.PartWords.{areas_stay}
 use Rattle.mmu_core.specs.invariant.AllOver.{AllOver}
+use Rattle.mmu_core.specs.invariant.RunsPart.{IsInRun}
 use Rattle.mmu_core.specs.invariant.TopicsInvariant.{TopicsInvariant}
 use Rattle.mmu_core.specs.invariant.TreePart.{Position, TreePart, Use, is_table}
 use Rattle.mmu_core.specs.forms.access.AccessSteps.{touch_of}
@@ -52,16 +53,16 @@ leaves_weaker z words IsSo IsThen weaker A up spot T =
     over_weaker up spot (words area.Pool) (words area.Root 0) (LeafIsGuarded IsSo) (LeafIsGuarded IsThen)
     (λ level gfn word so leaf writes. weaker gfn (so leaf writes)) (A up spot T)
 
--- What is owed of a leaf that allows writes and is put by an exchange that is won.
+-- What is owed of a leaf that allows writes and is put by an exchange that is won: of each guest frame that it is over.
 abbrev pub OfNewWrites : PartStep → Topics → View → (ℕ → Type 0) → Type 0
-OfNewWrites (part.Leaf gfn write) t v IsSo = entry_now gfn t v ≡ t.walk.entry → can_write (leaf_written write t) ≡ true → IsSo gfn
+OfNewWrites (part.Leaf gfn write) t v IsSo =
+    entry_now gfn t v ≡ t.walk.entry → can_write (leaf_written gfn write t) ≡ true → (other : ℕ) → IsInRun t.walk.level gfn other → IsSo other
 OfNewWrites (part.Fix gfn) t v IsSo = entry_now gfn t v ≡ t.walk.entry → can_write (leaf_fixed t) ≡ true → IsSo gfn
 OfNewWrites _ t v IsSo = Unit {0}
 
 new_leaf : (z : Sizes) (v : View) (a : ℕ) (step : PartStep) → IsPart z v a step → (IsSo : ℕ → Type 0) → OfNewWrites step (v.hand a).topics v IsSo
     → OfNewLeaf step (v.hand a).topics v (LeafIsGuarded IsSo)
-new_leaf z v a (part.Leaf gfn write) S IsSo new_ = λ won other over leaf writes.
-    subst IsSo (sym (one_frame (v.hand a).topics.walk.level other gfn S.needs.1 over)) (new_ won writes)
+new_leaf z v a (part.Leaf gfn write) S IsSo new_ = λ won other over leaf writes. new_ won writes other over
 new_leaf z v a (part.Fix gfn) S IsSo new_ = λ won other over was leaf writes.
     subst IsSo (sym (one_frame (v.hand a).topics.walk.level other gfn S.needs.lowest over)) (new_ won writes)
 new_leaf z v a (part.Protect gfn) S IsSo new_ = λ found other leaf was left writes.

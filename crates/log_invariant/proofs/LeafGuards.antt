@@ -32,6 +32,8 @@ use Rattle.mmu_core.proofs.invariant.Kept.{makes_at}
 use Rattle.mmu_core.proofs.invariant.QuietKept.{MakesAt}
 use Rattle.mmu_core.proofs.forms.access.AccessParts.{AreSmall}
 use Rattle.mmu_core.proofs.lines.KnowsKept.{step_knows, step_leaves}
+use Rattle.mmu_core.proofs.held.WalkSpans.{one_frame}
+use Rattle.mmu_core.proofs.pages.PutLeaves.{run_holds}
 use Rattle.mmu_core.proofs.machine.Columns.{same_or, upd_other, upd_same}
 use Rattle.mmu_core.proofs.machine.PartStepping.{is_publish}
 use Rattle.mmu_core.proofs.machine.Stepping.{IsStep}
@@ -44,13 +46,15 @@ use Rattle.mmu_core.specs.forms.slot_change.SlotChangeSteps.{slot_change_part}
 use Rattle.mmu_core.specs.machine.Outcomes.{place_after}
 use Rattle.mmu_core.specs.machine.View.{View, answer_in, hand_after, stepped, words_after}
 use Rattle.part_steps.specs.PartHoldings.{FoundSlot, IsOver}
+use Rattle.part_steps.specs.RunHoldings.{MapsRun}
 use Rattle.part_steps.specs.PartTasks.{entry_index, leaf_fixed, leaf_written}
 use Rattle.part_steps.specs.PartTopics.{exchanged}
 use Rattle.part_steps.specs.declared.part_step.PartStep.TheVariants as part
 use Rattle.part_steps.specs.declared.part_step.PartStep.{PartStep}
 use Rattle.part_steps.specs.declared.task.Task.{Task}
 use Rattle.spte_words.specs.Entries.{can_write}
-use Rattle.std.proofs.Common.{◌<◌, ◌∙◌, ◌≡◌, ◌≢◌, ◌⊎◌, ap, arith, inl, inr, refl, subst, sym, ℕ}
+use Rattle.std.proofs.Common.{◌<◌, ◌≤◌, ◌∙◌, ◌≡◌, ◌≢◌, ◌⊎◌, ap, arith, inl, inr, refl, subst, sym, ℕ}
+use Rattle.std.proofs.lemmas.Bool.{cases_lt}
 use Rattle.std.proofs.lemmas.Bool.Decides.{nat_tests}
 use Rattle.std.specs.Prelude.{◌==◌, Bool, None, Option, Some, false, true}
 
@@ -214,6 +218,14 @@ module _ (z : Sizes) (v : View) (a : ℕ) (line : Line) (command : Command) (p :
       ∙ mark_owed (found == h.topics.walk.entry) h.topics.search.logged h.topics.walk gfn new_ h.topics.owed (grind (arith, nat_tests)) logged lowest over
       writes
 
+  -- In a slot with a dirty log a leaf is put at the lowest level.
+  lowest_logged : (gfn : ℕ) (t : Topics) → IsOver gfn t.walk → MapsRun gfn t → t.search.logged ≡ true → t.walk.level ≡ 1
+  lowest_logged gfn t over R logged = by (cases_lt 1 t.walk.level)
+    where
+      by : (1 < t.walk.level) ⊎ (t.walk.level ≤ 1) → t.walk.level ≡ 1
+      by (inl above) = absurd (let none = R.no_log (omega (arith, above)) in cc (none, logged))
+      by (inr lowest) = let from = over.there in omega (arith, lowest, from)
+
   publishes_none : (step : PartStep) → part_at p command h ≡ Some step → is_publish step ≡ false → (slot : SlotOf) → PublishesLog v a command p slot → ⊥
   publishes_none step is never slot B =
       let at = ap (λ q. part_at q command h) B.at in
@@ -225,10 +237,15 @@ module _ (z : Sizes) (v : View) (a : ℕ) (line : Line) (command : Command) (p :
   takes_none step is never s at = let same : s ≡ step = cc (is, at) in ap takes_bits same ∙ never
 
   new_writes : (step : PartStep) → part_at p command h ≡ Some step → OfNewWrites step h.topics v (AllGuarded z w After)
-  new_writes (part.Leaf gfn write) is = λ won writes.
+  new_writes (part.Leaf gfn write) is = λ won writes other in_run.
       let M = makes (part.Leaf gfn write) is in
-      new_guards gfn M.needs.0.looked_up.found
-      (owes gfn (leaf_written write h.topics) _ M.needs.1 M.needs.0.saw.over won writes (topics_made v a line command p _ is M.needs))
+      let found : FoundSlot other h.topics =
+      record { whole = M.needs.0.looked_up.found.whole; holds = run_holds gfn other h.topics M.needs.0 M.needs.1 in_run } in
+      new_guards other found
+      (λ logged.
+      let lowest : h.topics.walk.level ≡ 1 = lowest_logged gfn h.topics M.needs.0.saw.over M.needs.1 logged in
+      let same : gfn ≡ other = sym (one_frame h.topics.walk.level other gfn lowest in_run) in
+      owes gfn (leaf_written gfn write h.topics) _ lowest M.needs.0.saw.over won writes (topics_made v a line command p _ is M.needs) logged ∙ ap Some same)
       (publishes_none (part.Leaf gfn write) is refl) (takes_none (part.Leaf gfn write) is refl)
   new_writes (part.Fix gfn) is = λ won writes.
       let M = makes (part.Fix gfn) is in

@@ -1,6 +1,6 @@
 -- Who owes a mark stands where its access marks its page: each step keeps it. A mark comes to be owed by a leaf that is put, or fixed, for a write.
 use Rattle.std.proofs.Common.{◌≡◌, ◌<◌, ◌+◌, ◌*◌, ◌==◌, ◌&&◌, ◌||◌, not, ℕ, refl, sym, subst, ap, ◌∙◌}
-use Rattle.std.specs.Prelude.{Bool, true, false, Option, Some, None, if◌then◌else◌}
+use Rattle.std.specs.Prelude.{◌-◌, ◌%◌, Bool, true, false, Option, Some, None, if◌then◌else◌}
 use Rattle.core_views.specs.declared.place.AccessPlace.TheVariants as access
 use Rattle.core_views.specs.declared.place.FaultPlace.{FaultPlace}
 use Rattle.core_views.specs.declared.place.FaultPlace.TheVariants as fault
@@ -17,7 +17,7 @@ use Rattle.core_views.specs.declared.trace.Op.{Op}
 use Rattle.core_views.specs.Held.{Held}
 use Rattle.core_views.specs.Sizes.{actors_of}
 use Rattle.core_views.specs.Slots.{is_write}
-use Rattle.spte_words.specs.Entries.{can_write}
+use Rattle.spte_words.specs.Entries.{can_write, level_span}
 use Rattle.spte_words.specs.HostWords.{host_allows_write, host_frame}
 use Rattle.spte_words.proofs.ReadsEntries.{leaf_can_write}
 use Rattle.part_steps.specs.declared.part_step.PartStep.{PartStep}
@@ -78,12 +78,12 @@ owes_now won logged new_ index gfn t none owed = by won (t.walk.level == 1) logg
     by true true true false wins is allows e = absurd (never e)
 
 -- A leaf that is put in a slot with a dirty log allows writes only for a write.
-put_for_write : (writes : Bool) (t : Topics) → t.search.logged ≡ true → can_write (leaf_written writes t) ≡ true → writes ≡ true
-put_for_write true t logged allows = refl
-put_for_write false t logged allows =
+put_for_write : (gfn : ℕ) (writes : Bool) (t : Topics) → t.search.logged ≡ true → can_write (leaf_written gfn writes t) ≡ true → writes ≡ true
+put_for_write gfn true t logged allows = refl
+put_for_write gfn false t logged allows =
     absurd (by t.search.logged logged
-    (sym (leaf_can_write 1 (host_frame word) ((false || not t.search.logged) && may_write t.search.slot word) (host_allows_write word)
-    (may_write t.search.slot word)) ∙ allows))
+    (sym (leaf_can_write t.walk.level (host_frame word - gfn % level_span t.walk.level)
+    ((false || not t.search.logged) && may_write t.search.slot word) (host_allows_write word) (may_write t.search.slot word)) ∙ allows))
   where
     word : ℕ
     word = word_looked t.host
@@ -143,10 +143,10 @@ marks_after : (p : Place) (command : Command) (h : Held) (x gfn : ℕ) → Knows
 marks_after (place.Access (access.Fault (fault.Leaf writes))) (Access at word op) h x gfn K F needs was owed =
     let N = needs (part.Leaf at writes) refl in
     let t : Topics = h.topics in
-    let W = owes_now (x == t.walk.entry) t.search.logged (leaf_written writes t) (entry_index at t.walk.level) gfn t N.0.owes_none owed in
-    let for_write : writes ≡ true = put_for_write writes t W.logged_is W.allows in
+    let W = owes_now (x == t.walk.entry) t.search.logged (leaf_written at writes t) (entry_index at t.walk.level) gfn t N.0.owes_none owed in
+    let for_write : writes ≡ true = put_for_write at writes t W.logged_is W.allows in
     marks_next false (x == t.walk.entry) (writes && t.search.logged) (fault.Unshare (exchange_lost false h.state.sizes at t.walk x)) at word op gfn W.wins
-    (ap (λ b. b && t.search.logged) for_write ∙ W.logged_is) (sym (lowest_frame at t.walk N.0.saw.over N.1) ∙ W.frame) (sym K.4 ∙ for_write)
+    (ap (λ b. b && t.search.logged) for_write ∙ W.logged_is) (sym (lowest_frame at t.walk N.0.saw.over K.3) ∙ W.frame) (sym K.4 ∙ for_write)
 marks_after (place.Access (access.Fault fault.Fix)) (Access at word op) h x gfn K F needs was owed =
     let N = needs (part.Fix at) refl in
     let t : Topics = h.topics in

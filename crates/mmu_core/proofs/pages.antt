@@ -8,6 +8,7 @@ pub mod FramesTurn
 pub mod LeavesOver
 pub mod SplitLeaves
 pub mod RunLeaves
+pub mod PutLeaves
 pub mod EntryStill
 pub mod ProtectedLeaf
 pub mod LoadedKept
@@ -15,6 +16,7 @@ pub mod NoneBelow
 pub mod SweptEntries
 pub mod SweptKept
 pub mod ZappedKept
+pub mod NewLeaves
 pub mod OwnedBehind
 pub mod PoolKept
 pub mod PoolPages

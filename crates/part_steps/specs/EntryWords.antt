@@ -22,13 +22,13 @@ entry_index gfn level = gfn / level_span level % 512
 abbrev pub puts_write : Bool → Topics → Bool
 puts_write write t = write || not t.search.logged
 
--- what a link to the owned page is, and the leaf of the page that was looked up, for an access that writes or doesn't; and the leaf that was seen, which
--- allows writes now
+-- what a link to the owned page is, and the leaf over the guest frame's run, by the page that was looked up, for an access that writes or doesn't; and the
+-- leaf that was seen, which allows writes now
 abbrev pub link_written : Topics → ℕ
 link_written t = table_word (page_owned t.owned)
 
-abbrev pub leaf_written : Bool → Topics → ℕ
-leaf_written write t = leaf_of (puts_write write t) t.search.slot (word_looked t.host)
+abbrev pub leaf_written : ℕ → Bool → Topics → ℕ
+leaf_written gfn write t = leaf_of t.walk.level gfn (puts_write write t) t.search.slot (word_looked t.host)
 
 abbrev pub leaf_fixed : Topics → ℕ
 leaf_fixed t = with_write t.walk.entry

@@ -1,5 +1,5 @@
 -- What a hand holds that a step of a part needs: of pages, of the walk, of the look-up and of the invalidations.
-use Rattle.std.specs.Prelude.{◌≡◌, ◌+◌, ◌/◌, ◌^◌, ◌<◌, ◌≤◌, ◌⊎◌, ℕ, Bool, true, false, ◌==◌, ◌&&◌, not, if◌then◌else◌, Some, None, is_some}
+use Rattle.std.specs.Prelude.{◌≡◌, ◌≢◌, ◌+◌, ◌/◌, ◌^◌, ◌<◌, ◌≤◌, ◌⊎◌, ℕ, Bool, true, false, ◌==◌, ◌&&◌, not, if◌then◌else◌, Some, None, is_some}
 use Rattle.core_views.specs.declared.topics.Checked.TheVariants as checked
 use Rattle.core_views.specs.declared.topics.Hold.TheVariants.{Loose, Shared, Exclusive}
 use Rattle.core_views.specs.declared.topics.Invalidations.{Invalidations}
@@ -10,10 +10,11 @@ use Rattle.core_views.specs.Held.{Held}
 use Rattle.core_views.specs.Sizes.{actors_of}
 use Rattle.core_views.specs.Slots.{contains}
 use Rattle.spte_words.specs.declared.spte_kind.SpteKind.TheVariants.{Leaf}
-use Rattle.spte_words.specs.Entries.{can_write, host_writable, kind_of, level_span, mmu_writable}
+use Rattle.spte_words.specs.Entries.{can_write, host_writable, kind_of, level_span, mmu_writable, table_word}
 use Rattle.spte_words.specs.HostWords.{host_present}
 use Rattle.part_steps.specs.SetWords.{set_role}
 use Rattle.part_steps.specs.SlotWords.{page_of}
+pub use Rattle.part_steps.specs.RunHoldings.{MapsRun}
 use Rattle.part_steps.specs.PartTasks.{entry_index, number_or_none, words_filled, is_absent, role_filled, own_index, page_retired, word_looked}
 
 -- the actor whose state word comes next, where those before this place were looked at: each but the own
@@ -88,6 +89,10 @@ pub record MayEnter (gfn : ℕ) (t : Topics) : Type 0 where
 -- The entry that was loaded isn't a leaf that allows writes.
 abbrev pub SawNoWrites : TableWalk → Type 0
 SawNoWrites walk = kind_of walk.level walk.entry ≡ Leaf → can_write walk.entry ≡ false
+
+-- The word is no link, as an entry of the level.
+abbrev pub IsEnd : ℕ → ℕ → Type 0
+IsEnd level w = (page : ℕ) → 2 ≤ level → w ≢ table_word page
 
 -- The leaf forbids writes, which slot and host allow (locking.rst, "Fast page fault").
 abbrev pub is_fixable : ℕ → Bool

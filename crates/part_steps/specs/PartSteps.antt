@@ -18,7 +18,7 @@ use Rattle.part_steps.specs.declared.part_step.PartStep.TheVariants as part
 use Rattle.part_steps.specs.PartTasks.{own_index, page_owned, word_looked}
 use Rattle.part_steps.specs.FrameHoldings.{MayCopy, MayGiveFrame, MayStore, revises}
 use Rattle.part_steps.specs.PartHoldings.{next_watched, OwnsPage, HasToFill, HasRoleToSet, HoldsSet, IsOver, MayBring, OwnsTable, MayEnter}
-use Rattle.part_steps.specs.PartHoldings.{MayFix, MayGiveOld, MayMark, MayPublish, SawNoWrites}
+use Rattle.part_steps.specs.PartHoldings.{IsEnd, MapsRun, MayFix, MayGiveOld, MayMark, MayPublish, SawNoWrites}
 use Rattle.part_steps.specs.InvalidationHoldings.{MayAsk, MayChange, MayCount, MayEndInvalidation, MaySetEnd, MaySetStart}
 use Rattle.part_steps.specs.SweepHoldings.{MaySweep, MayWalkAnew, MayZap}
 use Rattle.part_steps.specs.LockHoldings.{MayRelease}
@@ -103,7 +103,7 @@ PartNeeds (part.WalkAnew gfn) h = MayWalkAnew gfn h.topics
 PartNeeds (part.Link gfn) h =
     MayEnter gfn h.topics × (2 ≤ h.topics.walk.level) × (kind_of h.topics.walk.level h.topics.walk.entry ≡ entry_kind.Absent)
     × OwnsTable (h.topics.walk.level - 1) h.topics
-PartNeeds (part.Leaf gfn write) h = MayEnter gfn h.topics × (h.topics.walk.level ≡ 1) × SawNoWrites h.topics.walk
+PartNeeds (part.Leaf gfn write) h = MayEnter gfn h.topics × MapsRun gfn h.topics × SawNoWrites h.topics.walk × IsEnd h.topics.walk.level h.topics.walk.entry
 PartNeeds (part.Fix gfn) h = MayFix gfn h.topics
 PartNeeds part.Mark h = MayMark h.topics
 PartNeeds (part.Host page) h = (page < h.state.sizes.pages) × (is_alone h.topics.hold ≡ false)

@@ -87,7 +87,7 @@ part_task (part.Sweep gfn) own t note =
     loads kind.Walk area.Pool (pool_index (table_page (gone_up t.walk)) (entry_index gfn (gone_up t.walk).level)) note
 part_task (part.WalkAnew gfn) own t note = loads kind.Walk area.Pool (pool_index (table_page (at_top t.walk)) (entry_index gfn 4)) note
 part_task (part.Link gfn) own t note = entry_task gfn (link_written t) t.walk note
-part_task (part.Leaf gfn write) own t note = entry_task gfn (leaf_written write t) t.walk note
+part_task (part.Leaf gfn write) own t note = entry_task gfn (leaf_written gfn write t) t.walk note
 part_task (part.Fix gfn) own t note = entry_task gfn (leaf_fixed t) t.walk note
 part_task part.Mark own t note = works kind.Mark area.Log (page_owed t / 64) (2 ^ (page_owed t % 64)) note
 part_task (part.Host page) own t note = loads kind.Host area.Host page note

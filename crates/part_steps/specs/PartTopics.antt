@@ -79,7 +79,7 @@ part_topics (part.Walk gfn) t v = record t { walk = walked t.walk (entry_index g
 part_topics (part.Sweep gfn) t v = record t { walk = walked (gone_up t.walk) (entry_index gfn (gone_up t.walk).level) v }
 part_topics (part.WalkAnew gfn) t v = record t { walk = walked (at_top t.walk) (entry_index gfn 4) v }
 part_topics (part.Link gfn) t v = exchanged (v == t.walk.entry) (entry_index gfn t.walk.level) (link_written t) t v
-part_topics (part.Leaf gfn write) t v = exchanged (v == t.walk.entry) (entry_index gfn t.walk.level) (leaf_written write t) t v
+part_topics (part.Leaf gfn write) t v = exchanged (v == t.walk.entry) (entry_index gfn t.walk.level) (leaf_written gfn write t) t v
 part_topics (part.Fix gfn) t v = exchanged (v == t.walk.entry) (entry_index gfn t.walk.level) (leaf_fixed t) t v
 part_topics part.Mark t v = record t { owed = None }
 part_topics (part.Host page) t v = record t { host = Some (record { page = page; word = v }) }

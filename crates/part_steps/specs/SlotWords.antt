@@ -1,5 +1,5 @@
 -- The words of a slot in a slot set, and the leaf of a host page in a slot.
-use Rattle.std.specs.Prelude.{◌≡◌, ◌<◌, ◌≤◌, ◌+◌, ◌-◌, ◌*◌, ℕ, List, [], ◌∷◌, ◌++◌, zero, suc, Bool, true, false, ◌&&◌, not, if◌then◌else◌}
+use Rattle.std.specs.Prelude.{◌≡◌, ◌<◌, ◌≤◌, ◌+◌, ◌-◌, ◌*◌, ◌%◌, ℕ, List, [], ◌∷◌, ◌++◌, zero, suc, Bool, true, false, ◌&&◌, not, if◌then◌else◌}
 use Rattle.core_views.specs.declared.place.SlotField.{SlotField}
 use Rattle.core_views.specs.declared.place.SlotField.TheVariants.{Base, Pages, Host, Flags}
 use Rattle.core_views.specs.declared.trace.Slot.{Slot}
@@ -7,7 +7,7 @@ use Rattle.core_views.specs.declared.memory_slot.MemorySlot.{MemorySlot}
 use Rattle.core_views.specs.Slots.{Slots, contains}
 use Rattle.core_views.specs.SlotSets.{MemorySlots}
 use Rattle.spte_words.specs.Areas.{pool_index}
-use Rattle.spte_words.specs.Entries.{leaf_word}
+use Rattle.spte_words.specs.Entries.{leaf_word, level_span}
 use Rattle.spte_words.specs.Flags.{flags_live, flags_logged, flags_read_only}
 use Rattle.spte_words.specs.HostWords.{host_frame, host_allows_write}
 
@@ -72,6 +72,6 @@ may_write slot host = host_allows_write host && not slot.read_only
 abbrev pub leaf_at : ℕ → ℕ → Bool → Slot → ℕ → ℕ
 leaf_at level first writes slot host = leaf_word level first (writes && may_write slot host) (host_allows_write host) (may_write slot host)
 
--- the leaf of one page in the slot, from its host word
-abbrev pub leaf_of : Bool → Slot → ℕ → ℕ
-leaf_of writes slot host = leaf_at 1 (host_frame host) writes slot host
+-- the leaf of a level over the run of a guest frame, from the host word of the guest frame's page: its own frame is that of the run's first page
+abbrev pub leaf_of : ℕ → ℕ → Bool → Slot → ℕ → ℕ
+leaf_of level gfn writes slot host = leaf_at level (host_frame host - gfn % level_span level) writes slot host

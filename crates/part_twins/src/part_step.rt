@@ -242,16 +242,19 @@ fn link(owned: Option<OwnedPage>) -> u64
     Spte::table(page as u32).word()
 }
 
-// The leaf of the page that was looked up.
-fn leaf(topics: &Topics, write: bool) -> u64
+// The leaf over the guest frame's run, by the page that was looked up.
+fn leaf(topics: &Topics, gfn: u64, write: bool) -> u64
+    requires from { 1 ≤ topics.now.walk.level }
+    requires to { topics.now.walk.level ≤ 4 }
     requires frame { host_frame (word_looked topics.now.host) < 2 ^ 40 }
     requires looked { is_some topics.now.host ≡ true }
-    ensures { result ≡ leaf_written write topics.now }
+    ensures { result ≡ leaf_written gfn write topics.now }
 {
     let Some(HostLook { word, .. }) = topics.host else {
         unreachable!()
     };
-    leaf_of(write || !topics.search.logged, &topics.search.slot, word)
+    let writes = write || !topics.search.logged;
+    leaf_of(topics.walk.level, gfn, writes, &topics.search.slot, word)
 }
 
 // The leaf that was seen, which allows writes now.
@@ -438,7 +441,13 @@ pub fn part_task(hand: &Hand, step: PartStep, note: u64) -> Task
         PartStep::Sweep(gfn) => sweep(map, &topics.walk, gfn, note),
         PartStep::WalkAnew(gfn) => walk_anew(map, &topics.walk, gfn, note),
         PartStep::Link(gfn) => enter(map, &topics.walk, gfn, link(topics.owned), note),
-        PartStep::Leaf { gfn, write } => enter(map, &topics.walk, gfn, leaf(topics, write), note),
+        PartStep::Leaf { gfn, write } => enter(
+            map,
+            &topics.walk,
+            gfn,
+            leaf(topics, gfn, write),
+            note,
+        ),
         PartStep::Fix(gfn) => enter(map, &topics.walk, gfn, fixed(topics), note),
         PartStep::Mark => mark(topics, note),
         PartStep::Host(page) => Task::load(StepKind::Host, Area::Host, page, note),

@@ -131,14 +131,18 @@ pub fn is_fixable(leaf: Spte) -> bool
     !leaf.is_writable() && leaf.is_host_writable() && leaf.is_mmu_writable()
 }
 
-/// The leaf of a page in the slot, from its host word: with write permission, if it is
-/// asked for, where host and slot allow it.
-pub(crate) fn leaf_of(writes: bool, slot: &Slot, host: u64) -> u64
-    requires { host_frame host < 2 ^ 40 }
-    ensures { result ≡ leaf_of writes slot.now host }
+/// The leaf of a level over the run of a guest frame, from the host word of the guest
+/// frame's page: with write permission, if it is asked for, where host and slot allow it.
+#[tactic(auto, using(spte_words::proofs::Spans::span_positive))]
+pub(crate) fn leaf_of(level: u8, gfn: u64, writes: bool, slot: &Slot, host: u64) -> u64
+    requires frame { host_frame host < 2 ^ 40 }
+    requires from { 1 ≤ level }
+    requires to { level ≤ 4 }
+    ensures { result ≡ leaf_of level gfn writes slot.now host }
 {
     let host = HostWord::from_word(host);
     let writable = host.is_writable() && !slot.read_only;
     let host_allows = host.is_writable();
-    Spte::leaf(1, host.frame(), writes && writable, host_allows, writable).word()
+    let first = host.frame().saturating_sub(gfn % Spte::level_span(level));
+    Spte::leaf(level, first, writes && writable, host_allows, writable).word()
 }

@@ -1,5 +1,5 @@
 -- Each step of a part keeps what is said of what actors hold of tables and slot sets, and of their counters.
-use Rattle.std.proofs.Common.{◌≡◌, ◌-◌, ◌^◌, ◌<◌, ◌≤◌, ℕ, refl, sym, ap, ◌∙◌, arith}
+use Rattle.std.proofs.Common.{◌≡◌, ◌-◌, ◌^◌, ◌<◌, ◌≤◌, ℕ, refl, sym, subst, ap, ◌∙◌, arith}
 use Rattle.std.specs.Prelude.{Bool, true, false, ◌==◌, Option, Some, None, is_some}
 use Rattle.core_views.specs.declared.sizes.Sizes.{Sizes}
 use Rattle.core_views.specs.declared.topics.Hold.TheVariants.{Exclusive}
@@ -9,6 +9,7 @@ use Rattle.core_views.specs.declared.topics.Topics.{Topics}
 use Rattle.core_views.specs.Held.{Held}
 use Rattle.core_views.specs.Sizes.{actors_of}
 use Rattle.spte_words.specs.declared.area.Area.TheVariants as area
+use Rattle.spte_words.specs.declared.spte_kind.SpteKind.TheVariants.{Leaf}
 use Rattle.spte_words.specs.Entries.{kind_of}
 use Rattle.part_steps.specs.declared.part_step.PartStep.{PartStep}
 use Rattle.part_steps.specs.declared.part_step.PartStep.TheVariants as part
@@ -32,7 +33,8 @@ use Rattle.mmu_core.proofs.pages.TreePlaces.{root_stands}
 use Rattle.mmu_core.proofs.pages.UsesStay.{stays_standing}
 use Rattle.mmu_core.proofs.pages.Owned.{table_owned}
 use Rattle.mmu_core.proofs.pages.Paths.{top_stands, up_stands}
-use Rattle.mmu_core.proofs.held.LeadsDown.{LeadsDown, entry_leads_down, link_leads_down, lowest_leads_down}
+use Rattle.mmu_core.proofs.pages.NewLeaves.{fixed_is_leaf, leaf_is}
+use Rattle.mmu_core.proofs.held.LeadsDown.{LeadsDown, entry_leads_down, link_leads_down}
 use Rattle.mmu_core.proofs.held.HeldTopics.{never_or, begun_held, shared_held, excluded_held, let_go_held, root_held, slots_held, slot_held, snapshot_held}
 use Rattle.mmu_core.proofs.held.HeldTopics.{same_held, held_stays, gone_held}
 
@@ -143,13 +145,13 @@ link_held z v a note gfn S I =
 
 -- A leaf is put, or writes are allowed in one.
 put_held : (z : Sizes) (v : View) (a gfn new_ : ℕ) → a < actors_of z → (I : TopicsInvariant z v) → 1 ≤ (v.hand a).topics.walk.level
-    → (v.hand a).topics.walk.level ≡ 1
+    → kind_of (v.hand a).topics.walk.level new_ ≡ Leaf
     → HeldPart (stands I.up I.spot) (exchanged (entry_now gfn (v.hand a).topics v == (v.hand a).topics.walk.entry)
     (entry_index gfn (v.hand a).topics.walk.level) new_ (v.hand a).topics (entry_now gfn (v.hand a).topics v))
-put_held z v a gfn new_ lt I there low =
+put_held z v a gfn new_ lt I there leaf =
     let t : Topics = (v.hand a).topics in
     exchanged_held (stands I.up I.spot) t (entry_now gfn t v == t.walk.entry) (entry_index gfn t.walk.level) new_ _ (walk_level z v a lt I there)
-    (λ is. lowest_leads_down (stands I.up I.spot) (at t.walk.level t.walk.prefix) (entry_index gfn t.walk.level) new_ low) (I.held a lt)
+    (λ is. subst (LeadsDown (stands I.up I.spot) (at t.walk.level t.walk.prefix) (entry_index gfn t.walk.level)) (sym (ap linked_page leaf)) tt) (I.held a lt)
 
 held_behind : (z : Sizes) (v : View) (a note : ℕ) (step : PartStep) → HeldBehind z v a note step
 held_behind z v a note part.Enter = λ S I. still_held z v a part.Enter _ S I (begun_held (stands I.up I.spot) Guest (v.hand a).topics)
@@ -179,9 +181,11 @@ held_behind z v a note (part.Sweep gfn) = sweep_held z v a note gfn
 held_behind z v a note (part.WalkAnew gfn) = anew_held z v a note gfn
 held_behind z v a note (part.Link gfn) = link_held z v a note gfn
 held_behind z v a note (part.Leaf gfn write) = λ S I.
-    still_held z v a (part.Leaf gfn write) _ S I (put_held z v a gfn (leaf_written write (v.hand a).topics) S.there I S.needs.0.saw.over.there S.needs.1)
+    still_held z v a (part.Leaf gfn write) _ S I (put_held z v a gfn (leaf_written gfn write (v.hand a).topics) S.there I S.needs.0.saw.over.there
+    (leaf_is gfn write (v.hand a).topics S.needs.0.saw.over.there S.needs.1.most))
 held_behind z v a note (part.Fix gfn) = λ S I.
-    still_held z v a (part.Fix gfn) _ S I (put_held z v a gfn (leaf_fixed (v.hand a).topics) S.there I S.needs.saw.over.there S.needs.lowest)
+    still_held z v a (part.Fix gfn) _ S I (put_held z v a gfn (leaf_fixed (v.hand a).topics) S.there I S.needs.saw.over.there
+    (fixed_is_leaf (v.hand a).topics S.needs))
 held_behind z v a note (part.Zap gfn) = λ S I.
     still_held z v a (part.Zap gfn) _ S I (gone_held (stands I.up I.spot) (v.hand a).topics _ _ 0 None refl refl refl refl
     (walk_level z v a S.there I S.needs.saw.over.there) tt (I.held a S.there))

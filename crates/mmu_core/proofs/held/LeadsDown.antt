@@ -1,9 +1,7 @@
 -- Where the entries of tables lead to.
-use Rattle.std.proofs.Common.{◌≡◌, inl, inr, ◌+◌, ◌-◌, ◌*◌, ◌^◌, ◌<◌, ◌≤◌, ℕ, refl, sym, subst, ap, ◌∙◌, arith}
-use Rattle.std.specs.Prelude.{Bool, true, false, ◌==◌, if◌then◌else◌, Option, Some, None}
-use Rattle.spte_words.specs.declared.spte_kind.SpteKind.TheVariants.{Absent, Frozen, Leaf}
-use Rattle.spte_words.specs.Bits.{has_bit}
-use Rattle.spte_words.specs.Entries.{frozen_word, is_leaf_at, kind_of, table_word}
+use Rattle.std.proofs.Common.{◌≡◌, inl, inr, ◌+◌, ◌-◌, ◌*◌, ◌^◌, ◌<◌, ◌≤◌, ℕ, sym, subst, ap, ◌∙◌, arith}
+use Rattle.std.specs.Prelude.{Option, Some, None}
+use Rattle.spte_words.specs.Entries.{kind_of, table_word}
 use Rattle.spte_words.proofs.ReadsEntries.{kind_of_absent, kind_of_table}
 use Rattle.part_steps.specs.WalkTopics.{linked_page}
 use Rattle.mmu_core.specs.invariant.TreePart.{EntryPart, Position, TreePart, Use, at, stands}
@@ -13,19 +11,6 @@ use Rattle.mmu_core.proofs.pages.TreePlaces.{link_stands}
 abbrev pub LeadsDown : (ℕ → Option Position) → Position → ℕ → Option ℕ → Type 0
 LeadsDown stands p j None = Unit {0}
 LeadsDown stands p j (Some page) = (2 ≤ p.level) × (stands page ≡ Some (at (p.level - 1) (p.prefix * 512 + j)))
-
--- An entry of the lowest level is no link.
-lowest_leads : (w : ℕ) → linked_page (kind_of 1 w) ≡ None
-unfolding kind_of is_leaf_at
-lowest_leads w = by (w == frozen_word) (has_bit 11 w)
-  where
-    by : (frozen present : Bool) → linked_page (if frozen then Frozen else if present then Leaf else Absent) ≡ None
-    by true present = refl
-    by false true = refl
-    by false false = refl
-
-pub lowest_leads_down : (stands : ℕ → Option Position) (p : Position) (j w : ℕ) → p.level ≡ 1 → LeadsDown stands p j (linked_page (kind_of p.level w))
-lowest_leads_down stands p j w lowest = subst (LeadsDown stands p j) (sym (ap (λ level. linked_page (kind_of level w)) lowest ∙ lowest_leads w)) tt
 
 -- A link leads to its page.
 pub link_leads_down : (stands : ℕ → Option Position) (p : Position) (j page : ℕ) → 2 ≤ p.level → page < 2 ^ 32

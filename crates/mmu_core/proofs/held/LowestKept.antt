@@ -9,6 +9,7 @@ use Rattle.core_views.specs.declared.place.Place.TheVariants as place
 use Rattle.core_views.specs.declared.sizes.Sizes.{Sizes}
 use Rattle.core_views.specs.declared.topics.PageRun.{PageRun}
 use Rattle.core_views.specs.declared.topics.TableWalk.{TableWalk}
+use Rattle.core_views.specs.declared.topics.Topics.{Topics}
 use Rattle.core_views.specs.declared.trace.Command.{Command}
 use Rattle.core_views.specs.declared.trace.Command.TheVariants.{Access}
 use Rattle.core_views.specs.declared.trace.Line.{Line}
@@ -26,7 +27,8 @@ use Rattle.part_steps.specs.declared.part_step.PartStep.{PartStep}
 use Rattle.part_steps.specs.declared.part_step.PartStep.TheVariants as part
 use Rattle.part_steps.specs.InvalidationRange.{page_aimed, run_or_none}
 use Rattle.part_steps.specs.PartHoldings.{IsOver}
-use Rattle.part_steps.specs.PartTasks.{entry_index, table_page}
+use Rattle.part_steps.specs.PartTasks.{entry_index, table_page, word_looked}
+use Rattle.part_steps.specs.SlotWords.{page_of}
 use Rattle.part_steps.specs.Tasks.{kind_of_task}
 use Rattle.mmu_core.specs.invariant.AllOver.{AllOver}
 use Rattle.mmu_core.specs.invariant.Invariant.{Invariant, KnowsPart}
@@ -47,6 +49,8 @@ use Rattle.mmu_core.proofs.machine.Columns.{at_upd}
 use Rattle.mmu_core.proofs.machine.PartStepping.{IsPart}
 use Rattle.mmu_core.proofs.machine.Stepping.{IsStep}
 use Rattle.mmu_core.proofs.pages.AllOver.{IsInherited, IsLight}
+use Rattle.mmu_core.proofs.held.FreshFrames.{looked_word}
+use Rattle.mmu_core.proofs.pages.PutLeaves.{run_mapped}
 use Rattle.mmu_core.proofs.pages.OverSteps.{OfNewLeaf, over_step}
 use Rattle.mmu_core.proofs.pages.Standing.{spot_after, spot_of, up_after}
 use Rattle.mmu_core.proofs.pages.TreePlaces.{all_reached}
@@ -68,11 +72,18 @@ pub lowest_inherited : IsInherited LeafIsLowest
 lowest_inherited level gfn leaf upper most is so = absurd (let lowest = so is in omega (arith, upper, lowest))
 
 -- The leaf that is put is of the lowest level.
-new_lowest : (z : Sizes) (v : View) (a : ℕ) (step : PartStep) → IsPart z v a step → OfNewLeaf step (v.hand a).topics v LeafIsLowest
-new_lowest z v a (part.Fix gfn) S = λ won other over was leaf. S.needs.lowest
-new_lowest z v a (part.Protect gfn) S = λ found other leaf was now_. was leaf
-new_lowest z v a (part.Leaf gfn write) S = λ won other over leaf. S.needs.1
-new_lowest z v a _ S = tt
+new_lowest : (z : Sizes) (v : View) (a : ℕ) (step : PartStep) → IsPart z v a step → TopicsInvariant z v → OfNewLeaf step (v.hand a).topics v LeafIsLowest
+new_lowest z v a (part.Fix gfn) S I = λ won other over was leaf. S.needs.lowest
+new_lowest z v a (part.Protect gfn) S I = λ found other leaf was now_. was leaf
+new_lowest z v a (part.Leaf gfn write) S I = λ won other over leaf.
+    let t : Topics = (v.hand a).topics in
+    let page = (I.looks a S.there).there (record { page = page_of t.search.slot gfn; word = S.needs.0.looked_up.word }) S.needs.0.looked_up.host in
+    let small : host_level (word_looked t.host) ≡ 1 =
+    ap host_level (looked_word z v a gfn S.there I S.needs.0) ∙ I.lowest.hosts (page_of t.search.slot gfn) page in
+    let from = S.needs.0.saw.over.there in
+    let most = run_mapped z v a gfn write other S I in
+    omega (arith, from, most, small)
+new_lowest z v a _ S I = tt
 
 leaves_lowest : (z : Sizes) (v : View) (a : ℕ) (step : PartStep) (note : ℕ) → IsPart z v a step → (I : TopicsInvariant z v)
     → AllOver (up_after step a (v.hand a).topics v I.up) (spot_after step (v.hand a).topics v I.spot) ((part_stepped a step note v).words area.Pool)
@@ -81,7 +92,7 @@ leaves_lowest z v a step note S I =
     let w : View = part_stepped a step note v in
     subst (λ (r : ℕ → ℕ). AllOver (up_after step a (v.hand a).topics v I.up) (spot_after step (v.hand a).topics v I.spot) (w.words area.Pool) (r 0)
     LeafIsLowest) (sym (areas_stay v a step note area.Root refl))
-    (over_step z v a step note S I (v.words area.Root 0) LeafIsLowest (ap is_table I.tree.top) lowest_light (new_lowest z v a step S) I.lowest.leaves)
+    (over_step z v a step note S I (v.words area.Root 0) LeafIsLowest (ap is_table I.tree.top) lowest_light (new_lowest z v a step S I) I.lowest.leaves)
 
 -- A leaf in a table that stands here is of the lowest level.
 pub lowest_leaf : (z : Sizes) (v : View) (I : TopicsInvariant z v) (k level prefix entry gfn : ℕ) → stands I.up I.spot k ≡ Some (at level prefix)

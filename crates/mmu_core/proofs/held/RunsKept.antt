@@ -26,7 +26,7 @@ use Rattle.mmu_core.proofs.held.OpenFrames.{opened_by}
 use Rattle.mmu_core.proofs.held.PageRuns.{this_page}
 use Rattle.mmu_core.proofs.machine.Columns.{at_upd}
 use Rattle.mmu_core.proofs.machine.PartStepping.{IsPart}
-use Rattle.mmu_core.proofs.pages.ZappedKept.{one_frame}
+use Rattle.mmu_core.proofs.held.WalkSpans.{one_frame}
 use Rattle.mmu_core.proofs.words.HostStays.{levels_stay, still_brought, still_frame, still_level, still_there, still_writes}
 use Rattle.mmu_core.proofs.words.PartTopics.{behind_step, part_behind}
 

@@ -1,18 +1,25 @@
 -- The span of a walk's table is one of those of its level, after each step of the walk.
-use Rattle.std.proofs.Common.{◌≡◌, ◌+◌, ◌*◌, ◌/◌, ◌%◌, ◌^◌, ◌<◌, ◌≤◌, ℕ, arith}
+use Rattle.std.proofs.Common.{◌≡◌, ◌+◌, ◌*◌, ◌/◌, ◌%◌, ◌^◌, ◌<◌, ◌≤◌, ℕ, subst, ap, ◌∙◌, arith}
 use Rattle.std.specs.Prelude.{Bool, true, false, Option, Some, None}
 use Rattle.core_views.specs.declared.topics.Stay.{Stay}
 use Rattle.core_views.specs.declared.topics.Stay.TheVariants.{Outside}
 use Rattle.core_views.specs.declared.topics.TableWalk.{TableWalk}
 use Rattle.core_views.specs.declared.topics.Topics.{Topics}
 use Rattle.spte_words.specs.Entries.{kind_of, level_span}
-use Rattle.spte_words.proofs.Spans.{span_4}
+use Rattle.spte_words.proofs.Spans.{span_1, span_4}
 use Rattle.part_steps.specs.ControlTopics.{at_root}
 use Rattle.part_steps.specs.PartHoldings.{IsOver}
 use Rattle.part_steps.specs.PartTasks.{entry_index}
 use Rattle.part_steps.specs.StayTopics.{let_go}
 use Rattle.part_steps.specs.SweepTopics.{at_top}
 use Rattle.part_steps.specs.WalkTopics.{gone_down, linked_page, swapped}
+
+-- An entry of the lowest level is over one guest frame.
+pub one_frame : (level other gfn : ℕ) → level ≡ 1 → other / level_span level ≡ gfn / level_span level → other ≡ gfn
+one_frame level other gfn lowest over =
+    let one : level_span level ≡ 1 = ap level_span lowest ∙ span_1 in
+    let frames : other / 1 ≡ gfn / 1 = subst (λ n. other / n ≡ gfn / n) one over in
+    omega (arith, frames)
 
 -- The span of a walk's table is one of those of its level.
 abbrev pub SpanFits : TableWalk → Type 0

@@ -186,8 +186,12 @@ needs_stay (part.Link gfn) h x = (
   ∥∥₁_elim x (hlevel props) (λ N. N.2),
   ∥∥₁_elim x (hlevel props) (λ N. N.3),
 )
-needs_stay (part.Leaf gfn write) h x =
-    (enter_stays gfn h.topics (∥∥₁_map x (λ N. N.0)), ∥∥₁_elim x (hlevel props) (λ N. N.1), ∥∥₁_elim x (hlevel props) (λ N. N.2))
+needs_stay (part.Leaf gfn write) h x = (
+  enter_stays gfn h.topics (∥∥₁_map x (λ N. N.0)),
+  ∥∥₁_elim x (hlevel props) (λ N. N.1),
+  ∥∥₁_elim x (hlevel props) (λ N. N.2),
+  ∥∥₁_elim x (hlevel props) (λ N. N.3),
+)
 needs_stay (part.Watch index) h x = (
   ∥∥₁_elim x (hlevel props) (λ N. N.0),
   ∥∥₁_elim x (hlevel props) (λ N. N.1),

@@ -68,6 +68,7 @@ pub record IsPart (z : Sizes) (v : View) (a : ℕ) (step : PartStep) : Type 0 wh
   pub sizes : (v.hand a).state.sizes ≡ z
   pub own_place : own_index (v.hand a) ≡ a
   pub needs : PartNeeds step (v.hand a)
+  pub slots : AreSlots z (v.words area.Pool) (v.words area.Slots 0)
   pub replaces : Replaces z step (v.words area.Pool) (v.words area.Slots 0) (v.hand a).topics
   pub within : IsWithin (v.hand a) step
   pub small : (b : Area) (i : ℕ) → v.words b i < 2 ^ 64

@@ -170,6 +170,7 @@ takes_part z w s G may N =
       note = N.note;
       is_part = record {
         is_sizes = G.holds.sizes;
+        slots = G.holds.set_part.slots;
         there = there;
         sizes = same;
         own_place = ap (λ y. index_of y h.state.actor) same ∙ O.index;

@@ -20,6 +20,7 @@ use Rattle.mmu_core.specs.invariant.TopicsInvariant.{TopicsInvariant}
 use Rattle.mmu_core.specs.machine.View.{View, answer_in, part_stepped, upd}
 use Rattle.mmu_core.proofs.machine.Columns.{at_upd, same_or, upd_same}
 use Rattle.mmu_core.proofs.pages.Owned.{OwnsWhole, table_owned}
+use Rattle.mmu_core.proofs.pages.NewLeaves.{fixed_is_leaf, leaf_is}
 use Rattle.mmu_core.proofs.pages.OwnedBehind.{leaf_stored, link_stored}
 use Rattle.mmu_core.proofs.machine.PartStepping.{IsPart}
 use Rattle.mmu_core.proofs.words.PartTopics.{is_there, part_topics_is}
@@ -139,12 +140,13 @@ own_filled z v a (part.Link gfn) note S I o is =
     unlinked false mine owned e = owned ∙ e
 own_filled z v a (part.Leaf gfn write) note S I o is =
     let t : Topics = (v.hand a).topics in
-    let owned : t.owned ≡ Some o = sym (leaf_stored t _ (entry_now gfn t v == t.walk.entry) S.needs.1) ∙ is in
+    let owned : t.owned ≡ Some o = sym (leaf_stored t _ (entry_now gfn t v == t.walk.entry)
+    (leaf_is gfn write t S.needs.0.saw.over.there S.needs.1.most)) ∙ is in
     still_filled z v a (part.Leaf gfn write) note S o (λ e. walks_unowned z v a S.there I S.needs.0.saw.over.there a o S.there owned (sym e)) tt
     (I.filled a o S.there owned)
 own_filled z v a (part.Fix gfn) note S I o is =
     let t : Topics = (v.hand a).topics in
-    let owned : t.owned ≡ Some o = sym (leaf_stored t _ (entry_now gfn t v == t.walk.entry) S.needs.lowest) ∙ is in
+    let owned : t.owned ≡ Some o = sym (leaf_stored t _ (entry_now gfn t v == t.walk.entry) (fixed_is_leaf t S.needs)) ∙ is in
     still_filled z v a (part.Fix gfn) note S o (λ e. walks_unowned z v a S.there I S.needs.saw.over.there a o S.there owned (sym e)) tt
     (I.filled a o S.there owned)
 own_filled z v a (part.Zap gfn) note S I o is =

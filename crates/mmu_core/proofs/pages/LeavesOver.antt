@@ -1,19 +1,17 @@
 -- Each leaf to which links lead from the root is the one that slots and host give the guest frames that it is over: each step of a part keeps it.
-use Rattle.std.proofs.Common.{◌≡◌, ◌+◌, ◌*◌, ◌/◌, ◌%◌, ◌<◌, ℕ, refl, sym, subst, ap, ◌∙◌, arith, ◌≤◌, ◌⊎◌, ◌≢◌, inl, inr}
-use Rattle.std.specs.Prelude.{◌-◌, Some, false, Bool, true, not, ◌&&◌, ◌^◌}
+use Rattle.std.proofs.Common.{◌≡◌, ◌+◌, ◌*◌, ◌/◌, ◌<◌, ℕ, refl, sym, subst, ap, ◌∙◌, arith, ◌≤◌, ◌⊎◌, ◌≢◌, inl, inr}
+use Rattle.std.specs.Prelude.{◌-◌, Some, false, Bool, true, not, ◌&&◌}
 use Rattle.core_views.specs.declared.sizes.Sizes.{Sizes}
-use Rattle.core_views.specs.declared.topics.Topics.{Topics}
 use Rattle.spte_words.specs.declared.area.Area.TheVariants as area
 use Rattle.spte_words.specs.declared.spte_kind.SpteKind.TheVariants as entry_kind
 use Rattle.spte_words.specs.Areas.{pool_index}
 use Rattle.spte_words.specs.Entries.{kind_of, level_span, can_write, host_writable, leaf_word, mmu_writable, with_write, without_write}
-use Rattle.spte_words.specs.HostWords.{host_present, host_allows_write, host_frame}
+use Rattle.spte_words.specs.HostWords.{host_allows_write}
 use Rattle.spte_words.proofs.ReadsEntries.{kind_of_absent, kind_of_table, leaf_mmu_writable, leaf_with_write, leaf_without_write}
-use Rattle.spte_words.proofs.Spans.{offset_1, span_1}
 use Rattle.part_steps.specs.declared.part_step.PartStep.{PartStep}
 use Rattle.part_steps.specs.declared.part_step.PartStep.TheVariants as part
-use Rattle.part_steps.specs.PartTasks.{leaf_written, page_owned, word_looked, puts_write}
-use Rattle.part_steps.specs.SlotWords.{leaf_at, leaf_of, page_of, may_write}
+use Rattle.part_steps.specs.PartTasks.{page_owned, word_looked}
+use Rattle.part_steps.specs.SlotWords.{page_of, may_write}
 use Rattle.mmu_core.specs.invariant.AllOver.{AllOver, IsEntryOver, LeafIsFor}
 use Rattle.mmu_core.specs.invariant.CachedPart.{IsLeafFor}
 use Rattle.mmu_core.specs.invariant.SlotSetPart.{IsLiveIn}
@@ -30,7 +28,8 @@ use Rattle.mmu_core.proofs.words.HostStays.{host_stays}
 use Rattle.mmu_core.proofs.words.PartWords.{areas_stay, slots_are, slots_behind}
 use Rattle.mmu_core.proofs.pages.Standing.{spot_after, spot_of, up_after}
 use Rattle.mmu_core.proofs.held.KeptEmpty.{page_empty, slot_empty}
-use Rattle.mmu_core.proofs.held.FreshFrames.{found_live, behind_it, leaf_brought, leaf_same, looked_word}
+use Rattle.mmu_core.proofs.held.FreshFrames.{behind_it, leaf_brought, leaf_same}
+use Rattle.mmu_core.proofs.pages.PutLeaves.{put_leaf}
 use Rattle.mmu_core.proofs.pages.TreePlaces.{all_reached}
 use Rattle.part_steps.specs.InvalidationRange.{page_looked}
 use Rattle.mmu_core.specs.invariant.InvalidatedPart.{SlotGives}
@@ -106,46 +105,14 @@ left_leaf_for pool host set level gfn leaf L = record {
     word : ℕ
     word = host (page_of L.slot gfn)
 
--- A new leaf is the one for the guest frame that its fault is for.
+-- A new leaf is the one for each guest frame of its run.
 new_leaf : (z : Sizes) (v : View) (a : ℕ) (step : PartStep) → IsPart z v a step → TopicsInvariant z v
     → OfNewLeaf step (v.hand a).topics v (LeafIsFor (v.words area.Pool) (v.words area.Host) (v.words area.Slots 0))
 new_leaf z v a (part.Fix gfn) S I = λ won other over was leaf.
     fixed_leaf (v.words area.Pool) (v.words area.Host) (v.words area.Slots 0) (v.hand a).topics.walk.level other _ S.needs.fixable (was S.needs.leaf)
 new_leaf z v a (part.Protect gfn) S I = λ found other leaf was now_.
     left_leaf_for (v.words area.Pool) (v.words area.Host) (v.words area.Slots 0) (v.hand a).topics.walk.level other found (was leaf)
-new_leaf z v a (part.Leaf gfn write) S I =
-    λ won other over leaf.
-    subst (λ g. IsLeafFor (v.words area.Pool) (v.words area.Host) (v.words area.Slots 0) t.walk.level g (leaf_written write t)) (sym (same other over)) own
-  where
-    t : Topics
-    t = (v.hand a).topics
-
-    same : (other : ℕ) → other / level_span t.walk.level ≡ gfn / level_span t.walk.level → other ≡ gfn
-    same other over =
-        let one : level_span t.walk.level ≡ 1 = ap level_span S.needs.1 ∙ span_1 in
-        let frames : other / 1 ≡ gfn / 1 = subst (λ n. other / n ≡ gfn / n) one over in
-        omega (arith, frames)
-
-    word : ℕ
-    word = v.words area.Host (page_of t.search.slot gfn)
-
-    own : IsLeafFor (v.words area.Pool) (v.words area.Host) (v.words area.Slots 0) t.walk.level gfn (leaf_written write t)
-    own = let found = S.needs.0.looked_up in record {
-      id = t.search.id - 1;
-      slot = t.search.slot;
-      live = found_live z v a gfn S.there I S.needs.0;
-      holds = found.found.holds;
-      writes = puts_write write t;
-      first = host_frame word;
-      is = ap (leaf_of (puts_write write t) t.search.slot) (looked_word z v a gfn S.there I S.needs.0)
-          ∙ ap (λ l. leaf_at l (host_frame word) (puts_write write t) t.search.slot word) (sym S.needs.1);
-      frame = let place : gfn % level_span t.walk.level ≡ 0 = ap (λ l. gfn % level_span l) S.needs.1 ∙ offset_1 gfn in omega (arith, place);
-      present = ap host_present (sym (looked_word z v a gfn S.there I S.needs.0)) ∙ S.needs.0.present;
-      small =
-          let looked = ((I.looks a S.there).is_word _ found.host).1 in
-          subst (λ w. host_frame w < 2 ^ 40) (ap word_looked (sym found.host) ∙ looked_word z v a gfn S.there I S.needs.0)
-          (omega (arith, looked, S.is_sizes.frames.1));
-    }
+new_leaf z v a (part.Leaf gfn write) S I = λ won other over leaf. put_leaf z v a gfn write other S I over
 new_leaf z v a _ S I = tt
 
 -- After a step that publishes no slot set and changes no host word.

@@ -8,6 +8,7 @@ use Rattle.spte_words.specs.Areas.{pool_index}
 use Rattle.spte_words.specs.Entries.{kind_of, level_span, table_word}
 use Rattle.spte_words.proofs.ReadsEntries.{kind_of_link, table_no_leaf}
 use Rattle.spte_words.proofs.Spans.{span_above}
+use Rattle.part_steps.specs.PartHoldings.{IsEnd}
 use Rattle.part_steps.specs.PartTasks.{entry_index}
 use Rattle.part_steps.specs.SweepTopics.{has_done}
 use Rattle.spte_words.specs.declared.spte_kind.SpteKind.{SpteKind}
@@ -15,7 +16,6 @@ use Rattle.mmu_core.specs.invariant.AllOver.{AllOver, IsEntryOver}
 use Rattle.mmu_core.specs.invariant.TreePart.{Position, HangsBelow, TreePart, Use, at, is_table, stands}
 use Rattle.mmu_core.proofs.pages.AllOver.{reached_table}
 use Rattle.mmu_core.proofs.pages.Standing.{at_spot, one_position}
-use Rattle.mmu_core.proofs.pages.TreeStored.{IsEnd}
 use Rattle.mmu_core.proofs.pages.TreePlaces.{IsLinked, all_reached, linked, one_place, root_stands}
 
 -- The entry is a link or a leaf.

@@ -34,7 +34,7 @@ use Rattle.mmu_core.proofs.pages.AllOver.{IsLight, absent_is, same_below, over_g
 abbrev pub OfNewLeaf : PartStep → Topics → View → (ℕ → ℕ → ℕ → Type 0) → Type 0
 OfNewLeaf (part.Leaf gfn write) t v IsSo =
     entry_now gfn t v ≡ t.walk.entry → (other : ℕ) → other / level_span t.walk.level ≡ gfn / level_span t.walk.level
-    → IsSo t.walk.level other (leaf_written write t)
+    → IsSo t.walk.level other (leaf_written gfn write t)
 OfNewLeaf (part.Fix gfn) t v IsSo =
     entry_now gfn t v ≡ t.walk.entry → (other : ℕ) → other / level_span t.walk.level ≡ gfn / level_span t.walk.level → IsSo t.walk.level other t.walk.entry
     → IsSo t.walk.level other (leaf_fixed t)
@@ -150,7 +150,7 @@ pub over_step : (z : Sizes) (v : View) (a : ℕ) (step : PartStep) (note : ℕ) 
     ((part_stepped a step note v).words area.Pool) m IsSo
 over_step z v a (part.Link gfn) note S I m IsSo table light new_ A = link_over z v a I m IsSo table light A gfn note S
 over_step z v a (part.Leaf gfn write) note S I m IsSo table light new_ A =
-    put_over z v a I m IsSo table light A gfn (leaf_written write (v.hand a).topics) S.there S.needs.0.saw.over (λ is other over was. new_ is other over)
+    put_over z v a I m IsSo table light A gfn (leaf_written gfn write (v.hand a).topics) S.there S.needs.0.saw.over (λ is other over was. new_ is other over)
 over_step z v a (part.Fix gfn) note S I m IsSo table light new_ A =
     put_over z v a I m IsSo table light A gfn (leaf_fixed (v.hand a).topics) S.there S.needs.saw.over new_
 over_step z v a (part.Fill value) note S I m IsSo table light new_ A =

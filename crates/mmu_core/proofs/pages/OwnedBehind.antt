@@ -1,12 +1,11 @@
 -- What leaves after a step of a part, and the page that its actor owns after it has stored a leaf or a link.
-use Rattle.std.proofs.Common.{◌≡◌, ◌^◌, ◌<◌, ◌≤◌, ℕ, refl, ap, ◌∙◌, arith}
-use Rattle.std.specs.Prelude.{Bool, true, false, ◌==◌, if◌then◌else◌, Option, Some, None}
+use Rattle.std.proofs.Common.{◌≡◌, ◌^◌, ◌<◌, ◌≤◌, ℕ, refl, ap, arith}
+use Rattle.std.specs.Prelude.{Bool, true, false, if◌then◌else◌, Option, Some, None}
 use Rattle.core_views.specs.declared.sizes.Sizes.{Sizes}
 use Rattle.core_views.specs.declared.topics.OwnedPage.{OwnedPage}
 use Rattle.core_views.specs.declared.topics.Topics.{Topics}
 use Rattle.spte_words.specs.declared.spte_kind.SpteKind.TheVariants as entry_kind
-use Rattle.spte_words.specs.Bits.{has_bit}
-use Rattle.spte_words.specs.Entries.{frozen_word, is_leaf_at, kind_of}
+use Rattle.spte_words.specs.Entries.{kind_of}
 use Rattle.spte_words.proofs.ReadsEntries.{kind_of_table}
 use Rattle.part_steps.specs.declared.part_step.PartStep.{PartStep}
 use Rattle.part_steps.specs.declared.part_step.PartStep.TheVariants as part
@@ -29,19 +28,10 @@ unfolding topics_after
 retired_is part.Publish z own t note v = refl
 retired_is _ z own t note v = refl
 
--- An entry of the lowest level is no link: who stores a leaf owns what it owned.
-no_link : (w : ℕ) → linked_page (kind_of 1 w) ≡ None
-unfolding kind_of is_leaf_at
-no_link w = by (w == frozen_word) (has_bit 11 w)
-  where
-    by : (frozen present : Bool) → linked_page (if frozen then entry_kind.Frozen else if present then entry_kind.Leaf else entry_kind.Absent) ≡ None
-    by true present = refl
-    by false true = refl
-    by false false = refl
-
-pub leaf_stored : (t : Topics) (new_ : ℕ) (won : Bool) → t.walk.level ≡ 1 → still_owned won t.walk new_ t.owned ≡ t.owned
-leaf_stored t new_ false lowest = refl
-leaf_stored t new_ true lowest = ap (λ page. unless_linked page t.owned) (ap (λ l. linked_page (kind_of l new_)) lowest ∙ no_link new_)
+-- A leaf is no link: who stores one owns what it owned.
+pub leaf_stored : (t : Topics) (new_ : ℕ) (won : Bool) → kind_of t.walk.level new_ ≡ entry_kind.Leaf → still_owned won t.walk new_ t.owned ≡ t.owned
+leaf_stored t new_ false leaf = refl
+leaf_stored t new_ true leaf = ap (λ k. unless_linked (linked_page k) t.owned) leaf
 
 -- Who links its page owns none, where the link was stored.
 pub link_stored : (t : Topics) (o : OwnedPage) (won : Bool) → 2 ≤ t.walk.level → t.owned ≡ Some o → o.page < 2 ^ 32

@@ -201,7 +201,7 @@ part_goes (part.Walk gfn) t v from = down_goes (linked_page (kind_of t.walk.leve
 part_goes (part.Sweep gfn) t v from = sweep_goes t.walk _ v from (omega arith)
 part_goes (part.WalkAnew gfn) t v from = anew_goes t.walk (entry_index gfn 4) v (omega arith) from.0 from.1 from.2
 part_goes (part.Link gfn) t v from = swap_goes (v == t.walk.entry) t.walk _ (link_written t) v (omega arith)
-part_goes (part.Leaf gfn write) t v from = swap_goes (v == t.walk.entry) t.walk _ (leaf_written write t) v (omega arith)
+part_goes (part.Leaf gfn write) t v from = swap_goes (v == t.walk.entry) t.walk _ (leaf_written gfn write t) v (omega arith)
 part_goes (part.Fix gfn) t v from = swap_goes (v == t.walk.entry) t.walk _ (leaf_fixed t) v (omega arith)
 part_goes (part.Zap gfn) t v from = down_goes None t.walk _ 0 (omega arith)
 part_goes (part.Protect gfn) t v from = down_goes None t.walk _ (without_write t.walk.entry) (omega arith)

@@ -17,6 +17,7 @@ use Rattle.mmu_core.specs.invariant.TopicsInvariant.{TopicsInvariant}
 use Rattle.mmu_core.specs.invariant.TreePart.{Use}
 use Rattle.mmu_core.specs.invariant.TreePart.Use.{Free, OldSet, SlotSet, Under}
 use Rattle.mmu_core.specs.machine.View.{View, part_stepped, upd}
+use Rattle.mmu_core.proofs.pages.NewLeaves.{fixed_is_leaf, leaf_is}
 use Rattle.mmu_core.proofs.pages.OwnedBehind.{leaf_stored, link_stored}
 use Rattle.mmu_core.proofs.machine.ColumnsTell.{some_is}
 use Rattle.mmu_core.proofs.machine.PartStepping.{IsPart}
@@ -103,10 +104,12 @@ uses_after z v a (part.Link gfn) note S I =
     (link_kept I.uses a S.there owns.owned won (table_page t.walk) (entry_index gfn t.walk.level) owns.is)))
 uses_after z v a (part.Leaf gfn write) note S I =
     own_alone z v a (part.Leaf gfn write) note I.up refl
-    (uses_stay I.uses a S.there _ _ (λ k. refl) (λ k. ap (λ o. is_owned o k) (leaf_stored (v.hand a).topics _ _ S.needs.1)))
+    (uses_stay I.uses a S.there _ _ (λ k. refl) (λ k. ap (λ o. is_owned o k) (leaf_stored (v.hand a).topics _ _
+    (leaf_is gfn write (v.hand a).topics S.needs.0.saw.over.there S.needs.1.most))))
 uses_after z v a (part.Fix gfn) note S I =
     own_alone z v a (part.Fix gfn) note I.up refl
-    (uses_stay I.uses a S.there _ _ (λ k. refl) (λ k. ap (λ o. is_owned o k) (leaf_stored (v.hand a).topics _ _ S.needs.lowest)))
+    (uses_stay I.uses a S.there _ _ (λ k. refl) (λ k. ap (λ o. is_owned o k) (leaf_stored (v.hand a).topics _ _
+    (fixed_is_leaf (v.hand a).topics S.needs))))
 uses_after z v a part.Clear note S I =
     own_alone z v a part.Clear note I.up refl (uses_stay I.uses a S.there _ _ (λ k. refl) (filled_owned (v.hand a).topics.owned _))
 uses_after z v a (part.Fill value) note S I =

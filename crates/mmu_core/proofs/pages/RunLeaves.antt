@@ -18,11 +18,12 @@ use Rattle.spte_words.proofs.Spans.{each_span}
 use Rattle.part_steps.specs.InvalidationRange.{IsOnRun, gfn_behind}
 use Rattle.part_steps.specs.PartHoldings.{MayEnter}
 use Rattle.part_steps.specs.PartTasks.{word_looked}
+use Rattle.part_steps.specs.RunHoldings.{HasRun}
 use Rattle.part_steps.specs.SlotWords.{leaf_at, page_of, slot_at}
 use Rattle.part_steps.specs.StayTopics.{has_lock}
 use Rattle.mmu_core.specs.invariant.CachedPart.{IsLeafFor}
 use Rattle.mmu_core.specs.invariant.InvalidatedPart.{SlotGives, IsIn, keeps_empty}
-use Rattle.mmu_core.specs.invariant.RunsPart.{HasRun, IsInRun, IsOneRun}
+use Rattle.mmu_core.specs.invariant.RunsPart.{IsInRun, IsOneRun}
 use Rattle.mmu_core.specs.invariant.SearchPart.{IsInvalidating, IsOnPage}
 use Rattle.mmu_core.specs.invariant.SlotSetPart.{AreSlots, IsLiveIn}
 use Rattle.mmu_core.specs.invariant.TopicsInvariant.{TopicsInvariant}
@@ -30,7 +31,7 @@ use Rattle.mmu_core.specs.machine.View.{View}
 use Rattle.mmu_core.proofs.held.PageRuns.{some_run}
 use Rattle.mmu_core.proofs.held.KeptEmpty.{empty_open, empty_slot}
 use Rattle.mmu_core.proofs.held.FreshFrames.{behind_it, found_live, fresh_in_none, looked_word}
-use Rattle.mmu_core.proofs.pages.ZappedKept.{one_frame}
+use Rattle.mmu_core.proofs.held.WalkSpans.{one_frame}
 
 -- ---- places in runs
 
@@ -41,7 +42,7 @@ RunPlaces s =
     (base pages host gfn other : ℕ) → other / s ≡ gfn / s → base + gfn % s ≤ gfn → gfn + s ≤ base + pages + gfn % s → (host + (gfn - base)) % s ≡ gfn % s
     → (base ≤ other) × (other < base + pages) × ((host + (other - base)) / s ≡ (host + (gfn - base)) / s) × ((host + (other - base)) % s ≡ other % s)
 
-run_places : (level : ℕ) → 1 ≤ level → level ≤ 4 → RunPlaces (level_span level)
+pub run_places : (level : ℕ) → 1 ≤ level → level ≤ 4 → RunPlaces (level_span level)
 run_places =
     each_span RunPlaces
     (λ b p h g o run from to at. (omega (arith, run, from), omega (arith, run, from, to), omega (arith, run, from, at), omega (arith, run, from, at)))
@@ -64,13 +65,13 @@ BeginsRun s = (page : ℕ) → (page - page % s) / s ≡ page / s
 begins_run : (level : ℕ) → 1 ≤ level → level ≤ 4 → BeginsRun (level_span level)
 begins_run = each_span BeginsRun (λ page. omega arith) (λ page. omega arith) (λ page. omega arith) (λ page. omega arith)
 
-holds_between : (slot : SlotOf) (gfn : ℕ) → slot.base ≤ gfn → gfn < slot.base + slot.pages → contains gfn slot ≡ true
+pub holds_between : (slot : SlotOf) (gfn : ℕ) → slot.base ≤ gfn → gfn < slot.base + slot.pages → contains gfn slot ≡ true
 holds_between slot gfn from to = by slot.base slot.pages from to
   where
     by : (base pages : ℕ) → base ≤ gfn → gfn < base + pages → (nat_le base gfn && nat_lt gfn (base + pages)) ≡ true
     by base pages low high = grind (arith, nat_tests)
 
-between : (slot : SlotOf) (gfn : ℕ) → contains gfn slot ≡ true → (slot.base ≤ gfn) × (gfn < slot.base + slot.pages)
+pub between : (slot : SlotOf) (gfn : ℕ) → contains gfn slot ≡ true → (slot.base ≤ gfn) × (gfn < slot.base + slot.pages)
 between slot gfn holds = by slot.base slot.pages holds
   where
     by : (base pages : ℕ) → (nat_le base gfn && nat_lt gfn (base + pages)) ≡ true → (base ≤ gfn) × (gfn < base + pages)

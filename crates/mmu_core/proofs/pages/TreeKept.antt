@@ -1,20 +1,18 @@
 -- Each step of a part keeps what the tables are.
 use Rattle.std.proofs.Common.{◌≡◌, inl, inr, ◌+◌, ◌*◌, ◌/◌, ◌%◌, ◌^◌, ◌<◌, ◌≤◌, ℕ, refl, sym, subst, ap, ◌∙◌, arith}
-use Rattle.std.specs.Prelude.{Bool, true, false, ◌-◌, ◌==◌, if◌then◌else◌, Some, ◌&&◌, not}
+use Rattle.std.specs.Prelude.{Bool, true, false, ◌-◌, ◌==◌, if◌then◌else◌, Some}
 use Rattle.core_views.specs.declared.sizes.Sizes.{Sizes}
 use Rattle.core_views.specs.declared.topics.Topics.{Topics}
 use Rattle.spte_words.specs.declared.area.Area.TheVariants as area
 use Rattle.spte_words.specs.declared.spte_kind.SpteKind.TheVariants as entry_kind
 use Rattle.spte_words.specs.Areas.{pool_index}
-use Rattle.spte_words.specs.Entries.{absent_word, kind_of, level_span, can_write, without_write}
-use Rattle.spte_words.proofs.ReadsEntries.{kind_of_leaf, kind_of_table}
-use Rattle.spte_words.specs.HostWords.{host_allows_write, host_frame}
-use Rattle.part_steps.specs.SlotWords.{may_write}
+use Rattle.spte_words.specs.Entries.{absent_word, kind_of, level_span, without_write}
+use Rattle.spte_words.proofs.ReadsEntries.{kind_of_table}
 use Rattle.spte_words.proofs.Spans.{span_1}
 use Rattle.part_steps.specs.declared.part_step.PartStep.{PartStep}
 use Rattle.part_steps.specs.declared.part_step.PartStep.TheVariants as part
-use Rattle.part_steps.specs.PartTasks.{entry_index, is_absent, leaf_written, link_written, page_owned, table_page, word_looked, leaf_fixed, puts_write}
-use Rattle.part_steps.specs.PartHoldings.{MayEnter, MayFix}
+use Rattle.part_steps.specs.PartTasks.{entry_index, is_absent, leaf_written, link_written, page_owned, table_page, leaf_fixed}
+use Rattle.part_steps.specs.PartHoldings.{IsEnd, MayEnter}
 use Rattle.mmu_core.specs.invariant.PoolPart.{IsFilled}
 use Rattle.mmu_core.specs.invariant.TopicsInvariant.{TopicsInvariant}
 use Rattle.mmu_core.specs.invariant.TreePart.{EntryPart, Position, TreePart, Use, at, is_table, stands}
@@ -33,8 +31,7 @@ use Rattle.mmu_core.proofs.pages.UsesStay.{is_link, same_tables, stay_same, stoo
 use Rattle.mmu_core.proofs.pages.EntryStill.{still_leaf}
 use Rattle.mmu_core.proofs.pages.ProtectedLeaf.{found_leaf, left_leaf, pool_protected}
 use Rattle.mmu_core.proofs.pages.NoneBelow.{leaf_ends}
-use Rattle.spte_words.proofs.FixedEntries.{fixed_kind}
-use Rattle.mmu_core.proofs.forms.access.FaultSame.{both, is_not}
+use Rattle.mmu_core.proofs.pages.NewLeaves.{fixed_is_leaf, leaf_is}
 use Rattle.core_views.specs.Sizes.{actors_of}
 
 absent_is : 0 ≡ absent_word
@@ -47,18 +44,6 @@ span_lowest gfn level prefix lowest over =
     let one : level_span level ≡ 1 = ap level_span lowest ∙ span_1 in
     let own : gfn / level_span level ≡ gfn = ap (λ n. gfn / n) one ∙ omega arith in
     omega (arith, own, over)
-
--- What a fault puts into a table of the lowest level is a leaf.
-pub leaf_is : (write : Bool) (t : Topics) → t.walk.level ≡ 1 → kind_of t.walk.level (leaf_written write t) ≡ entry_kind.Leaf
-leaf_is write t lowest =
-    let word : ℕ = word_looked t.host in
-    ap (λ l. kind_of l (leaf_written write t)) lowest
-    ∙ kind_of_leaf 1 (host_frame word) (puts_write write t && may_write t.search.slot word) (host_allows_write word) (may_write t.search.slot word)
-    (omega arith) (omega arith)
-
--- And so is the leaf in which a fast one has allowed writes.
-pub fixed_is_leaf : {gfn : ℕ} (t : Topics) → MayFix gfn t → kind_of t.walk.level (leaf_fixed t) ≡ entry_kind.Leaf
-fixed_is_leaf t M = fixed_kind t.walk.level t.walk.entry M.leaf (is_not (can_write t.walk.entry) (both (not (can_write t.walk.entry)) _ M.fixable).0)
 
 -- An entry above the lowest level whose kind is absent is the absent word.
 pub absent_entry : {pages root : ℕ} {role pool : ℕ → ℕ} {up : ℕ → Use} {spot : ℕ → Position} (T : TreePart pages root role pool up spot)
@@ -138,12 +123,12 @@ module _ (z : Sizes) (v : View) (a gfn note : ℕ) (I : TopicsInvariant z v) whe
       filled : IsFilled (v.words area.Role) (v.words area.Pool) owns.owned
       filled = I.filled a owns.owned S.there owns.is
 
-  leafed : (new_ : ℕ) (won : Bool) → a < actors_of z → 1 ≤ t.walk.level → t.walk.level ≡ 1 → kind_of t.walk.level new_ ≡ entry_kind.Leaf
-      → TreePart z.pool (v.words area.Root 0) (v.words area.Role) (exchanged won new_) I.up I.spot
-  leafed new_ false lt there low leaf = lost here I.tree
-  leafed new_ true lt there low leaf =
+  leafed : (new_ : ℕ) (won : Bool) → (entry_now gfn t v == t.walk.entry) ≡ won → a < actors_of z → 1 ≤ t.walk.level → IsEnd t.walk.level t.walk.entry
+      → kind_of t.walk.level new_ ≡ entry_kind.Leaf → TreePart z.pool (v.words area.Root 0) (v.words area.Role) (exchanged won new_) I.up I.spot
+  leafed new_ false is lt there ends leaf = lost here I.tree
+  leafed new_ true is lt there ends leaf =
       entry_stored I.tree (table_page t.walk) (at t.walk.level t.walk.prefix) index new_ ((I.held a lt).table there) (omega arith)
-      (record { entry = inr (inr leaf); no_link = λ page upper e. absurd (omega (arith, low, upper)) })
+      (record { entry = inr (inr leaf); no_link = subst (IsEnd t.walk.level) (sym (tells (entry_now gfn t v) t.walk.entry is)) ends })
 
   -- A leaf in which writes are forbidden is one still.
   protected : (S : IsPart z v a (part.Protect gfn)) → TreePart z.pool (v.words area.Root 0) (v.words area.Role)
@@ -175,11 +160,11 @@ tree_behind : (z : Sizes) (v : View) (a : ℕ) (step : PartStep) (note : ℕ) �
 tree_behind z v a (part.Link gfn) note S I =
     linked z v a gfn note I S (entry_now gfn (v.hand a).topics v == (v.hand a).topics.walk.entry) refl
 tree_behind z v a (part.Leaf gfn write) note S I =
-    leafed z v a gfn note I (leaf_written write (v.hand a).topics) (entry_now gfn (v.hand a).topics v == (v.hand a).topics.walk.entry) S.there
-    S.needs.0.saw.over.there S.needs.1 (leaf_is write (v.hand a).topics S.needs.1)
+    leafed z v a gfn note I (leaf_written gfn write (v.hand a).topics) (entry_now gfn (v.hand a).topics v == (v.hand a).topics.walk.entry) refl S.there
+    S.needs.0.saw.over.there S.needs.3 (leaf_is gfn write (v.hand a).topics S.needs.0.saw.over.there S.needs.1.most)
 tree_behind z v a (part.Fix gfn) note S I =
-    leafed z v a gfn note I (leaf_fixed (v.hand a).topics) (entry_now gfn (v.hand a).topics v == (v.hand a).topics.walk.entry) S.there
-    S.needs.saw.over.there S.needs.lowest (fixed_is_leaf (v.hand a).topics S.needs)
+    leafed z v a gfn note I (leaf_fixed (v.hand a).topics) (entry_now gfn (v.hand a).topics v == (v.hand a).topics.walk.entry) refl S.there
+    S.needs.saw.over.there (leaf_ends (v.hand a).topics.walk.level (v.hand a).topics.walk.entry S.needs.leaf) (fixed_is_leaf (v.hand a).topics S.needs)
 tree_behind z v a (part.Fill value) note S I =
     stay z v a (part.Fill value) note S I refl (λ k p is. (λ o owns. table_not_owned I.uses I.spot k p is a o S.there owns, tt))
 tree_behind z v a (part.Role value) note S I =

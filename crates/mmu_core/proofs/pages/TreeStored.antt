@@ -5,16 +5,13 @@ use Rattle.spte_words.specs.Areas.{pool_index}
 use Rattle.spte_words.specs.Entries.{absent_word, table_word}
 use Rattle.spte_words.proofs.Indices.{same_pool_word}
 use Rattle.spte_words.proofs.ReadsEntries.{table_not_absent}
+use Rattle.part_steps.specs.PartHoldings.{IsEnd}
 use Rattle.mmu_core.specs.invariant.TreePart.{EntryPart, IsUnder, Position, TreePart, Use, at, is_table, stands}
 use Rattle.mmu_core.specs.invariant.TreePart.Use.{Root, Under}
 use Rattle.mmu_core.specs.machine.View.{upd}
 use Rattle.mmu_core.proofs.machine.Columns.{same_or, upd_other, upd_same}
 use Rattle.mmu_core.proofs.pages.Standing.{at_spot, one_position, spot_of}
 use Rattle.mmu_core.proofs.pages.TreePlaces.{same_position}
-
--- The word is no link, as an entry of the level.
-abbrev pub IsEnd : ℕ → ℕ → Type 0
-IsEnd level w = (page : ℕ) → 2 ≤ level → w ≢ table_word page
 
 -- Each table stays what it was, where it was.
 pub record TablesStay (up more : ℕ → Use) (spot place : ℕ → Position) : Type 0 where

@@ -1,5 +1,5 @@
 -- From the moment at which a first flush is asked for no links lead to a leaf of the frames of an open invalidation: each step of a part keeps it.
-use Rattle.std.proofs.Common.{◌≡◌, ◌≢◌, ◌⊎◌, inl, inr, ◌+◌, ◌-◌, ◌/◌, ◌<◌, ◌≤◌, ℕ, refl, sym, subst, ap, ◌∙◌, arith}
+use Rattle.std.proofs.Common.{◌≡◌, ◌≢◌, ◌⊎◌, inl, inr, ◌+◌, ◌-◌, ◌<◌, ◌≤◌, ℕ, refl, sym, subst, ap, ◌∙◌, arith}
 use Rattle.std.specs.Prelude.{Bool, true, false, nat_lt, if◌then◌else◌}
 use Rattle.std.proofs.lemmas.Bool.Decides.{nat_tests}
 use Rattle.core_views.specs.declared.sizes.Sizes.{Sizes}
@@ -9,18 +9,16 @@ use Rattle.core_views.specs.declared.topics.Topics.{Topics}
 use Rattle.core_views.specs.Held.{Held}
 use Rattle.core_views.specs.Sizes.{actors_of}
 use Rattle.spte_words.specs.declared.area.Area.TheVariants as area
-use Rattle.spte_words.specs.Entries.{level_span}
 use Rattle.spte_words.proofs.ReadsEntries.{kind_of_absent, kind_of_table}
-use Rattle.spte_words.proofs.Spans.{span_1}
 use Rattle.part_steps.specs.declared.part_step.PartStep.{PartStep}
 use Rattle.part_steps.specs.declared.part_step.PartStep.TheVariants as part
 use Rattle.part_steps.specs.InvalidationHoldings.{MayCount}
 use Rattle.part_steps.specs.SweepHoldings.{HasSwept}
 use Rattle.part_steps.specs.PartTasks.{part_task}
 use Rattle.part_steps.specs.PartTopics.{part_topics}
-use Rattle.part_steps.specs.StayTopics.{has_lock, no_flush}
+use Rattle.part_steps.specs.StayTopics.{no_flush}
 use Rattle.mmu_core.specs.invariant.AllOver.{AllOver}
-use Rattle.mmu_core.specs.invariant.InvalidatedPart.{IsIn, IsNoLeafIn, ZappedPart, keeps_empty}
+use Rattle.mmu_core.specs.invariant.InvalidatedPart.{IsNoLeafIn, ZappedPart, keeps_empty}
 use Rattle.mmu_core.proofs.held.KeptEmpty.{empty_open, given_empty, published_none}
 use Rattle.mmu_core.specs.invariant.TopicsInvariant.{TopicsInvariant}
 use Rattle.mmu_core.specs.invariant.TreePart.{is_table}
@@ -32,7 +30,7 @@ use Rattle.mmu_core.proofs.pages.OverSteps.{OfNewLeaf, over_step}
 use Rattle.mmu_core.proofs.pages.Standing.{spot_after, up_after}
 use Rattle.mmu_core.proofs.words.PartTopics.{behind_step}
 use Rattle.mmu_core.proofs.words.PartWords.{areas_stay}
-use Rattle.mmu_core.proofs.held.FreshFrames.{fresh_in_none}
+use Rattle.mmu_core.proofs.pages.PutLeaves.{put_meets_none}
 
 -- It says nothing of what is no leaf.
 no_leaf_light : (own_ : Invalidated) → IsLight (IsNoLeafIn own_)
@@ -47,22 +45,12 @@ no_leaf_inherited own_ level gfn leaf upper most is so is_in child = so is_in is
 
 -- ---- A new leaf is of none of the frames.
 
--- An entry of the lowest level is over one guest frame.
-pub one_frame : (level other gfn : ℕ) → level ≡ 1 → other / level_span level ≡ gfn / level_span level → other ≡ gfn
-one_frame level other gfn lowest over =
-    let one : level_span level ≡ 1 = ap level_span lowest ∙ span_1 in
-    let frames : other / 1 ≡ gfn / 1 = subst (λ n. other / n ≡ gfn / n) one over in
-    omega (arith, frames)
-
 new_leaf : (z : Sizes) (v : View) (a i : ℕ) (step : PartStep) → IsPart z v a step → TopicsInvariant z v → i < actors_of z
-    → (v.hand i).topics.invalidations.opened ≡ true → OfNewLeaf step (v.hand a).topics v (IsNoLeafIn (v.hand i).topics.invalidations.own)
-new_leaf z v a i (part.Fix gfn) S I lt is_open = λ won other over none is_in leaf. none is_in S.needs.leaf
-new_leaf z v a i (part.Protect gfn) S I lt is_open = λ found other was none is_in leaf. none is_in was
-new_leaf z v a i (part.Leaf gfn write) S I lt is_open = λ won other over is_in leaf.
-    let same : other ≡ gfn = one_frame (v.hand a).topics.walk.level other gfn S.needs.1 over in
-    fresh_in_none z v a i gfn I S.there lt (ap has_lock S.needs.0.shares) S.needs.0.fresh is_open
-    (subst (IsIn (v.hand i).topics.invalidations.own) same is_in)
-new_leaf z v a i _ S I lt is_open = tt
+    → keeps_empty (v.hand i).topics ≡ true → OfNewLeaf step (v.hand a).topics v (IsNoLeafIn (v.hand i).topics.invalidations.own)
+new_leaf z v a i (part.Fix gfn) S I lt empty = λ won other over none is_in leaf. none is_in S.needs.leaf
+new_leaf z v a i (part.Protect gfn) S I lt empty = λ found other was none is_in leaf. none is_in was
+new_leaf z v a i (part.Leaf gfn write) S I lt empty = λ won other over is_in leaf. put_meets_none z v a gfn write other S I i lt over empty is_in
+new_leaf z v a i _ S I lt empty = tt
 
 -- ---- The actor's own.
 
@@ -113,9 +101,9 @@ own_zapped z v a note (part.Ask index) S I = λ is_open asked. (by is_open (same
     by is_open (inr some) = I.zapped a S.there is_open (omega (arith, some))
 own_zapped z v a note part.Exclude S I = λ is_open asked. (I.zapped a S.there is_open (asked_before _ (v.hand a).topics.flush asked), tt)
 own_zapped z v a note (part.Leaf gfn write) S I = λ is_open asked.
-    (I.zapped a S.there is_open asked, new_leaf z v a a (part.Leaf gfn write) S I S.there (empty_open (v.hand a).topics is_open))
+    (I.zapped a S.there is_open asked, new_leaf z v a a (part.Leaf gfn write) S I S.there is_open)
 own_zapped z v a note (part.Fix gfn) S I = λ is_open asked.
-    (I.zapped a S.there is_open asked, new_leaf z v a a (part.Fix gfn) S I S.there (empty_open (v.hand a).topics is_open))
+    (I.zapped a S.there is_open asked, new_leaf z v a a (part.Fix gfn) S I S.there is_open)
 own_zapped z v a note (part.Protect gfn) S I = λ is_open.
     absurd (let none = S.needs.none_open in let opened = empty_open (v.hand a).topics is_open in cc (none, opened))
 own_zapped z v a note (part.SetEnd last gfn) S I = λ is_open.
@@ -143,7 +131,7 @@ zapped_kept z v a step note S I =
     behind_step (λ (w : View). (i : ℕ) → IsKept i (w.hand i)) z v a step note S
     (at_upd IsKept v.hand a _ (λ lt is_open asked. let own = own_zapped z v a note step S I is_open asked in carried behind.invalidations.own own.0 own.1)
     (λ i ne lt is_open asked. carried (v.hand i).topics.invalidations.own (I.zapped i lt is_open asked)
-    (new_leaf z v a i step S I lt (empty_open (v.hand i).topics is_open))))
+    (new_leaf z v a i step S I lt is_open)))
   where
     behind : Topics
     behind = part_topics step (v.hand a).topics (answer_in (part_task step a (v.hand a).topics note) v.words)

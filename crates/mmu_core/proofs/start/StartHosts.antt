@@ -15,7 +15,7 @@ use Rattle.mmu_core.specs.machine.Machine.{World}
 use Rattle.mmu_core.specs.machine.View.{word_in}
 use Rattle.mmu_core.specs.machine.Worlds.{AreStartWords, IsStart}
 use Rattle.mmu_core.proofs.held.RunsKept.{alone_alike}
-use Rattle.mmu_core.proofs.pages.ZappedKept.{one_frame}
+use Rattle.mmu_core.proofs.held.WalkSpans.{one_frame}
 use Rattle.mmu_core.proofs.start.StartWords.{word_at_start}
 use Rattle.mmu_core.proofs.words.HostStays.{is_word_of}
 
@@ -38,4 +38,5 @@ pub small_runs : (z : Sizes) (n : ℕ) (host : ℕ → ℕ) (topics : ℕ → To
 small_runs z n host topics small page level other there none from large in_run =
     let one = small page there in
     let lowest : level ≤ 1 = omega (arith, one, large) in
-    subst (λ q. (q < z.pages) × IsOneRun level host page q) (sym (one_frame level other page (omega (arith, from, lowest)) in_run)) (there, alone_alike level host page lowest)
+    subst (λ q. (q < z.pages) × IsOneRun level host page q) (sym (one_frame level other page (omega (arith, from, lowest)) in_run))
+    (there, alone_alike level host page lowest)

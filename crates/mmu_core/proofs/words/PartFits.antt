@@ -1,6 +1,6 @@
 -- The word of each step of a part is one of its area, and what it writes has 64 bits.
 use Rattle.std.proofs.Common.{◌≡◌, ◌<◌, ◌≤◌, ◌^◌, ◌%◌, ◌+◌, ◌-◌, ◌*◌, ℕ, refl, sym, subst, ap, arith, Bool}
-use Rattle.std.specs.Prelude.{Bool, true, false, Some, None, is_some, Option, if◌then◌else◌, ◌&&◌, not}
+use Rattle.std.specs.Prelude.{Bool, true, false, Some, None, is_some, Option, if◌then◌else◌, ◌&&◌, not, ◌-◌, ◌%◌}
 use Rattle.std.proofs.Math.Pow.{pow-lt}
 use Rattle.core_views.specs.declared.place.SlotField.{SlotField}
 use Rattle.core_views.specs.declared.place.SlotField.TheVariants as field
@@ -33,7 +33,7 @@ use Rattle.part_steps.specs.Tasks.{map_of}
 use Rattle.part_steps.specs.PageTopics.{tried_bit}
 use Rattle.mmu_core.proofs.pages.Owned.{owned_some, some_filled}
 use Rattle.mmu_core.proofs.words.HostStays.{each_revision}
-use Rattle.spte_words.specs.Entries.{can_write, write_bit}
+use Rattle.spte_words.specs.Entries.{can_write, level_span, write_bit}
 use Rattle.spte_words.proofs.FixedEntries.{fixed_fits}
 use Rattle.mmu_core.proofs.forms.access.FaultSame.{both, is_not, over_it}
 
@@ -156,12 +156,12 @@ link_small h O R =
     let page = page_there h (some_filled h.topics.owned 513 O.whole (omega arith)) R in
     table_fits (page_owned h.topics.owned) (omega (arith, page, R.sizes.pool.1))
 
-leaf_small : {gfn : ℕ} (h : Held) (write : Bool) → LookedUp gfn h.topics → PartRests h → leaf_written write h.topics < 2 ^ 64
-leaf_small h write U R =
+leaf_small : (gfn : ℕ) (h : Held) (write : Bool) → LookedUp gfn h.topics → PartRests h → leaf_written gfn write h.topics < 2 ^ 64
+leaf_small gfn h write U R =
     let looked = R.looked _ U.host in
-    subst (λ o. leaf_of (puts_write write h.topics) h.topics.search.slot (word_looked o) < 2 ^ 64) (sym U.host)
-    (leaf_fits 1 (host_frame U.word) (puts_write write h.topics && may_write h.topics.search.slot U.word) (host_allows_write U.word)
-    (may_write h.topics.search.slot U.word)
+    subst (λ o. leaf_of h.topics.walk.level gfn (puts_write write h.topics) h.topics.search.slot (word_looked o) < 2 ^ 64) (sym U.host)
+    (leaf_fits h.topics.walk.level (host_frame U.word - gfn % level_span h.topics.walk.level)
+    (puts_write write h.topics && may_write h.topics.search.slot U.word) (host_allows_write U.word) (may_write h.topics.search.slot U.word)
     (omega (arith, looked.1, R.sizes.frames.1)))
 
 -- A page that is published is one of the pool.
@@ -211,7 +211,7 @@ part_small (part.Fill value) h note N R = N.1
 part_small (part.Role value) h note N R = N.1
 part_small part.Give h note N R = power_small (page_owned h.topics.owned % 64) (omega arith)
 part_small (part.Link gfn) h note N R = link_small h N.3 R
-part_small (part.Leaf gfn write) h note N R = leaf_small h write N.0.looked_up R
+part_small (part.Leaf gfn write) h note N R = leaf_small gfn h write N.0.looked_up R
 part_small (part.Fix gfn) h note N R =
     fixed_fits h.topics.walk.entry R.counters.entry (is_not (can_write h.topics.walk.entry) (both (not (can_write h.topics.walk.entry)) _ N.fixable).0)
 part_small part.Mark h note N R = power_small (page_owed h.topics % 64) (omega arith)

@@ -157,7 +157,7 @@ part_topics_is z (part.Sweep gfn) own t note v there = walk_topics z gfn (gone_u
 part_topics_is z (part.WalkAnew gfn) own t note v there =
     walk_topics z gfn (at_top t.walk) t note v there.0 (walks_from t false there.1 ∙ ap (λ (b : Bool). if b then at_top t.walk else t.walk) there.2)
 part_topics_is z (part.Link gfn) own t note v there = swap_topics z gfn (link_written t) note t v there
-part_topics_is z (part.Leaf gfn write) own t note v there = swap_topics z gfn (leaf_written write t) note t v there
+part_topics_is z (part.Leaf gfn write) own t note v there = swap_topics z gfn (leaf_written gfn write t) note t v there
 part_topics_is z (part.Fix gfn) own t note v there = swap_topics z gfn (leaf_fixed t) note t v there
 part_topics_is z (part.Host page) own t note v there = ap (λ p. record t { host = Some (record { page = p; word = v }) }) (behind_host z page)
 part_topics_is z (part.Watch index) own t note v there = ap (λ i. record t { watched = i + (if in_section v then 0 else 1) }) (state_place z index)

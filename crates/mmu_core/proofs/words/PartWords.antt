@@ -197,7 +197,7 @@ page_stays z v a (part.Fill value) note S k differs j low =
     fill_leaves (page_owned t.owned) (words_filled t.owned) value (v.words area.Pool) k j S.needs.0.1 low (λ e d. owned_elsewhere t S.needs.0.0 k differs e)
 page_stays z v a (part.Link gfn) note S k differs j low = entry_leaves gfn (link_written (v.hand a).topics) note (v.hand a).topics.walk v.words k j low differs
 page_stays z v a (part.Leaf gfn write) note S k differs j low =
-    entry_leaves gfn (leaf_written write (v.hand a).topics) note (v.hand a).topics.walk v.words k j low differs
+    entry_leaves gfn (leaf_written gfn write (v.hand a).topics) note (v.hand a).topics.walk v.words k j low differs
 page_stays z v a (part.Fix gfn) note S k differs j low = entry_leaves gfn (leaf_fixed (v.hand a).topics) note (v.hand a).topics.walk v.words k j low differs
 page_stays z v a (part.Zap gfn) note S k differs j low = entry_apart gfn 0 (v.hand a).topics.walk (v.words area.Pool) k j low differs
 page_stays z v a (part.Protect gfn) note S k differs j low = entry_apart gfn _ (v.hand a).topics.walk (v.words area.Pool) k j low differs

@@ -9,7 +9,6 @@ use Rattle.spte_words.specs.Entries.{level_span}
 use Rattle.spte_words.specs.HostWords.{host_allows_write, host_frame, host_level, host_present}
 use Rattle.mmu_core.specs.invariant.SearchPart.{IsInvalidating, IsOnPage}
 use Rattle.mmu_core.specs.invariant.SlotSetPart.{IsLiveIn}
-use Rattle.part_steps.specs.SlotWords.{page_of}
 
 -- Of pages, or of guest frames: one more of the aligned run that is a span of the level.
 abbrev pub IsInRun : ℕ → ℕ → ℕ → Type 0
@@ -48,9 +47,3 @@ abbrev pub SlotScopePart : ℕ → (ℕ → ℕ) → ℕ → (ℕ → Topics) �
 SlotScopePart n pool slots topics =
     (i : ℕ) → i < n → (topics i).invalidations.opened ≡ true → (topics i).invalidations.own.pages ≡ None → (topics i).retired ≡ None
     → IsOfSlot pool slots (topics i).invalidations.own
-
--- The slot has all frames of the guest frame's run; and the guest frame is as far from the first of its run as its page is from the first of the page's.
-pub record HasRun (level gfn : ℕ) (slot : SlotOf) : Type 0 where
-  pub from : slot.base + gfn % level_span level ≤ gfn
-  pub to : gfn + level_span level ≤ slot.base + slot.pages + gfn % level_span level
-  pub alike : page_of slot gfn % level_span level ≡ gfn % level_span level

@@ -23,6 +23,7 @@ use Rattle.mmu_core.specs.invariant.Invariant.{Invariant}
 use Rattle.mmu_core.specs.invariant.Laws.{IsSound}
 use Rattle.mmu_core.specs.machine.Machine.{World}
 use Rattle.mmu_laws.specs.turns.Removal.{LeadsFromRoot}
+use Rattle.part_steps.specs.PartHoldings.{IsEnd}
 use Rattle.part_steps.specs.PartTasks.{entry_index, leaf_written, link_written, table_page, part_task, own_index, leaf_fixed}
 use Rattle.mmu_core.specs.invariant.TopicsInvariant.{TopicsInvariant}
 use Rattle.mmu_core.specs.invariant.TreePart.{EntryPart, Position, at, stands}
@@ -34,7 +35,8 @@ use Rattle.mmu_core.proofs.words.PartWords.{areas_stay, page_stays}
 use Rattle.mmu_core.proofs.pages.PoolPages.{table_not_owned}
 use Rattle.mmu_core.proofs.pages.Standing.{entry_now}
 use Rattle.mmu_core.proofs.machine.SumsBelow.{upd_id}
-use Rattle.mmu_core.proofs.pages.TreeKept.{absent_entry, fixed_is_leaf, leaf_is}
+use Rattle.mmu_core.proofs.pages.NewLeaves.{fixed_is_leaf, leaf_is}
+use Rattle.mmu_core.proofs.pages.TreeKept.{absent_entry}
 use Rattle.part_steps.specs.declared.task.Task.{Task}
 use Rattle.mmu_core.proofs.lines.StepIn.{StepIn, Makes, Touches}
 use Rattle.mmu_core.proofs.forms.access.FaultSame.{both, is_not}
@@ -84,29 +86,32 @@ module _ (access : Bool) (z : Sizes) (v : View) (a gfn : ℕ) (J : Invariant z v
       ((I.held a S.there).table S.needs.0.saw.over.there) (omega arith) S.needs.1 (omega (arith, S.is_sizes.pool.1))
       (ap (kind_of t.walk.level) (tells (entry_now gfn t v) t.walk.entry is) ∙ S.needs.2)
 
-  -- Where an entry of the lowest level isn't absent it is a leaf.
-  lowest_was : a < actors_of z → 1 ≤ t.walk.level → t.walk.level ≡ 1 → (pool here ≡ absent_word) ⊎ (kind_of t.walk.level (pool here) ≡ entry_kind.Leaf)
-  lowest_was lt there low = by (I.tree.entries (table_page t.walk) (at t.walk.level t.walk.prefix) ((I.held a lt).table there) index (omega arith))
+  -- Where an entry that is no link isn't absent it is a leaf.
+  end_was : a < actors_of z → 1 ≤ t.walk.level → IsEnd t.walk.level (pool here)
+      → (pool here ≡ absent_word) ⊎ (kind_of t.walk.level (pool here) ≡ entry_kind.Leaf)
+  end_was lt there ends = by (I.tree.entries (table_page t.walk) (at t.walk.level t.walk.prefix) ((I.held a lt).table there) index (omega arith))
     where
       by : EntryPart I.up (table_page t.walk) (at t.walk.level t.walk.prefix) index (pool here)
           → (pool here ≡ absent_word) ⊎ (kind_of t.walk.level (pool here) ≡ entry_kind.Leaf)
       by (inl e) = inl e
-      by (inr (inl L)) = absurd (let upper : 2 ≤ t.walk.level = L.upper in omega (arith, upper, low))
+      by (inr (inl L)) = absurd (ends L.page L.upper L.is)
       by (inr (inr leaf)) = inr leaf
 
   -- A leaf is put where none was, or in place of one that allows no writes.
   leaf_was : (write : Bool) → IsPart z v a (part.Leaf gfn write) → (entry_now gfn t v == t.walk.entry) ≡ true
-      → Exchanges access t.walk.level (pool here) (leaf_written write t)
-  leaf_was write S won = by (lowest_was S.there S.needs.0.saw.over.there S.needs.1)
+      → Exchanges access t.walk.level (pool here) (leaf_written gfn write t)
+  leaf_was write S won = by (end_was S.there S.needs.0.saw.over.there (subst (IsEnd t.walk.level) (sym found) S.needs.3))
     where
       found : pool here ≡ t.walk.entry
       found = tells (entry_now gfn t v) t.walk.entry won
 
-      by : (pool here ≡ absent_word) ⊎ (kind_of t.walk.level (pool here) ≡ entry_kind.Leaf) → Exchanges access t.walk.level (pool here) (leaf_written write t)
+      by : (pool here ≡ absent_word) ⊎ (kind_of t.walk.level (pool here) ≡ entry_kind.Leaf)
+          → Exchanges access t.walk.level (pool here) (leaf_written gfn write t)
       by (inl none) = inr (inl none)
       by (inr leaf) =
           let denies : can_write (pool here) ≡ false = ap can_write found ∙ S.needs.2 (ap (kind_of t.walk.level) (sym found) ∙ leaf) in
-          inr (inr (record { was_leaf = leaf; is_leaf = leaf_is write t S.needs.1; writes = λ is w. absurd (cc (w, denies)) }))
+          let puts : kind_of t.walk.level (leaf_written gfn write t) ≡ entry_kind.Leaf = leaf_is gfn write t S.needs.0.saw.over.there S.needs.1.most in
+          inr (inr (record { was_leaf = leaf; is_leaf = puts; writes = λ is w. absurd (cc (w, denies)) }))
 
   -- Writes are allowed in a leaf.
   fix_was : IsPart z v a (part.Fix gfn) → (entry_now gfn t v == t.walk.entry) ≡ true → Exchanges access t.walk.level (pool here) (leaf_fixed t)
@@ -216,7 +221,7 @@ part_entries_stay access z v a (part.Link gfn) note S J I k p is j low =
     put_stays access z v a gfn J I (task_in v a (part.Link gfn) note) (link_written (v.hand a).topics) S.there S.needs.0.saw.over.there
     (λ won. inr (inl (link_was access z v a gfn J I S won))) k p is j low
 part_entries_stay access z v a (part.Leaf gfn write) note S J I k p is j low =
-    put_stays access z v a gfn J I (task_in v a (part.Leaf gfn write) note) (leaf_written write (v.hand a).topics) S.there S.needs.0.saw.over.there
+    put_stays access z v a gfn J I (task_in v a (part.Leaf gfn write) note) (leaf_written gfn write (v.hand a).topics) S.there S.needs.0.saw.over.there
     (leaf_was access z v a gfn J I write S) k p is j low
 part_entries_stay access z v a (part.Fix gfn) note S J I k p is j low =
     put_stays access z v a gfn J I (task_in v a (part.Fix gfn) note) (leaf_fixed (v.hand a).topics) S.there S.needs.saw.over.there

@@ -36,6 +36,7 @@ pub may_make : (z : Sizes) (v : View) (a : ℕ) (step : PartStep) → AreSmall v
     → PartNeeds step (v.hand a) → Replaces z step (v.words area.Pool) (v.words area.Slots 0) (v.hand a).topics → IsPart z v a step
 may_make z v a step small I P there needs replaces = record {
   is_sizes = I.sizes;
+  slots = I.set_part.slots;
   there = there;
   sizes = O.sizes;
   own_place = own_place;

@@ -16,6 +16,7 @@ use Rattle.mmu_core.specs.forms.access.FaultSteps.{Pages, check_part, fault_part
 use Rattle.part_steps.specs.PartBounds.{PartRests}
 use Rattle.part_steps.specs.PartHoldings.{FoundSlot, MayEnter, SawEntry}
 use Rattle.part_steps.specs.PartSteps.{PartNeeds, counts}
+use Rattle.part_steps.specs.RunHoldings.{MapsRun}
 use Rattle.part_steps.specs.PartTasks.{page_owned, words_filled, number_or_none}
 use Rattle.part_steps.specs.SlotWords.{page_of}
 use Rattle.mmu_core.proofs.orders.ClaimMade.{claim_needs}
@@ -44,6 +45,15 @@ may_enter gfn write t E S = record {
   present = E.sharing.looked.presence;
   saw = S;
   owes_none = E.sharing.owes_none;
+}
+
+-- At the lowest level a leaf is over one page.
+maps_one : (gfn : ℕ) (t : Topics) → t.walk.level ≡ 1 → MapsRun gfn t
+maps_one gfn t lowest = record {
+  most = omega (arith, lowest);
+  run = λ upper. absurd (omega (arith, upper, lowest));
+  large = λ upper. absurd (omega (arith, upper, lowest));
+  no_log = λ upper. absurd (omega (arith, upper, lowest));
 }
 
 -- A page that is owned is one of the pool; so is one that is filled but for its role.
@@ -77,7 +87,8 @@ fault_needs Fill h gfn write small R K = (K.2, omega arith, owned_below h R K.2.
 fault_needs Role h gfn write small R K = (K.2, omega (arith, R.level), owned_below h R (full_owns h.topics.owned K.2))
 fault_needs Link h gfn write small R K = (may_enter gfn write h.topics K.0 K.1.saw, K.1.upper, K.1.absent, K.2)
 fault_needs (Give e) h gfn write small R K = (K.2, ap is_alone K.1)
-fault_needs (Leaf writes) h gfn write small R K = (may_enter gfn write h.topics K.0 K.2, K.3, K.5)
+fault_needs (Leaf writes) h gfn write small R K =
+    (may_enter gfn write h.topics K.0 K.2, maps_one gfn h.topics K.3, K.5, λ page upper e. let lowest = K.3 in omega (arith, upper, lowest))
 fault_needs (Unshare e) h gfn write small R K = ap (λ (x : Hold). counts x) K.1
 fault_needs (End e) h gfn write small R K = (K.0.section, K.0.owes_none)
 fault_needs FastBegin h gfn write small R K = K.outside

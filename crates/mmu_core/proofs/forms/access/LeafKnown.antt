@@ -1,5 +1,5 @@
 -- What a fault knows after it has put a leaf, or allowed writes in one, and after it has marked the page.
-use Rattle.std.proofs.Common.{◌≡◌, ◌≢◌, inl, ◌+◌, ◌*◌, ◌/◌, ◌%◌, ◌≤◌, ℕ, refl, sym, subst, ap, ◌∙◌, arith}
+use Rattle.std.proofs.Common.{◌≡◌, ◌≢◌, inl, ◌+◌, ◌-◌, ◌*◌, ◌/◌, ◌%◌, ◌≤◌, ℕ, refl, sym, subst, ap, ◌∙◌, arith}
 use Rattle.std.specs.Prelude.{Bool, true, false, ◌==◌, ◌&&◌, ◌||◌, not, if◌then◌else◌, Option, Some, None}
 use Rattle.std.proofs.lemmas.Bool.Decides.{nat_tests}
 use Rattle.core_views.specs.declared.place.FaultPlace.TheVariants.{End, Unshare}
@@ -14,15 +14,16 @@ use Rattle.spte_words.specs.declared.spte_kind.SpteKind.TheVariants as entry_kin
 use Rattle.spte_words.specs.Entries.{can_write, kind_of, level_span, with_write, without_write}
 use Rattle.spte_words.specs.HostWords.{host_allows_write, host_frame}
 use Rattle.spte_words.proofs.FixedEntries.{fixed_back, fixed_can_write, fixed_kind}
-use Rattle.spte_words.proofs.ReadsEntries.{kind_of_leaf, leaf_can_write}
+use Rattle.spte_words.proofs.ReadsEntries.{leaf_can_write}
 use Rattle.spte_words.proofs.Spans.{span_1}
 use Rattle.mmu_core.specs.forms.access.FaultKnows.{Entering, FastFound, FaultKnows, HasEntry, IsFixed, Marks}
 use Rattle.mmu_core.specs.forms.access.FaultSteps.{allows_access, entry_word, exchange_lost, over_next, put_next}
 use Rattle.part_steps.specs.PartHoldings.{IsOver, LookedUp, MayFix, SawEntry, is_fixable}
 use Rattle.part_steps.specs.PartTasks.{entry_index, leaf_fixed, leaf_written, puts_write, word_looked}
 use Rattle.part_steps.specs.PartTopics.{exchanged}
-use Rattle.part_steps.specs.SlotWords.{leaf_of, may_write}
+use Rattle.part_steps.specs.SlotWords.{leaf_at, leaf_of, may_write}
 use Rattle.part_steps.specs.WalkTopics.{gone_down, linked_page, owed_after, unless_linked}
+use Rattle.mmu_core.proofs.pages.NewLeaves.{leaf_is}
 use Rattle.mmu_core.proofs.forms.access.FaultSame.{both, is_not, same_entry, same_found, same_inside, whole_anew}
 use Rattle.mmu_core.proofs.forms.access.WalkKnown.{saw_it}
 
@@ -99,12 +100,12 @@ has_entry gfn new_ v write marks t P = record { saw = saw_it gfn new_ t.walk P.o
 
 -- ---- the leaf of a fault
 
-pub allowed_leaf : (write puts : Bool) (slot : Slot) (word : ℕ) → (write ≡ true → puts ≡ true)
-    → (write ≡ true → (slot.read_only ≡ false) × (host_allows_write word ≡ true)) → allows_access write (leaf_of puts slot word) ≡ true
-allowed_leaf false puts slot word asks may = refl
-allowed_leaf true puts slot word asks may =
+pub allowed_leaf : (level first : ℕ) (write puts : Bool) (slot : Slot) (word : ℕ) → (write ≡ true → puts ≡ true)
+    → (write ≡ true → (slot.read_only ≡ false) × (host_allows_write word ≡ true)) → allows_access write (leaf_at level first puts slot word) ≡ true
+allowed_leaf level first false puts slot word asks may = refl
+allowed_leaf level first true puts slot word asks may =
     let M = may refl in
-    leaf_can_write 1 (host_frame word) (puts && may_write slot word) (host_allows_write word) (may_write slot word)
+    leaf_can_write level first (puts && may_write slot word) (host_allows_write word) (may_write slot word)
     ∙ ap (λ (b : Bool). b && may_write slot word) (asks refl)
     ∙ ap (λ (b : Bool). b && not slot.read_only) M.1 ∙ ap (λ (b : Bool). not b) M.0
 
@@ -113,24 +114,24 @@ asked_puts true t is = refl
 asked_puts false t is = absurd (cc is)
 
 -- In a slot with a dirty log a leaf allows writes where one is asked for.
-leaf_marks : (writes logged : Bool) (slot : Slot) (word : ℕ) → (writes ≡ true → may_write slot word ≡ true)
-    → (logged && can_write (leaf_of (writes || not logged) slot word)) ≡ (writes && logged)
-leaf_marks true true slot word may =
-    leaf_can_write 1 (host_frame word) (may_write slot word) (host_allows_write word) (may_write slot word) ∙ may refl
-leaf_marks true false slot word may = refl
-leaf_marks false true slot word may = leaf_can_write 1 (host_frame word) false (host_allows_write word) (may_write slot word)
-leaf_marks false false slot word may = refl
+leaf_marks : (level first : ℕ) (writes logged : Bool) (slot : Slot) (word : ℕ) → (writes ≡ true → may_write slot word ≡ true)
+    → (logged && can_write (leaf_at level first (writes || not logged) slot word)) ≡ (writes && logged)
+leaf_marks level first true true slot word may =
+    leaf_can_write level first (may_write slot word) (host_allows_write word) (may_write slot word) ∙ may refl
+leaf_marks level first true false slot word may = refl
+leaf_marks level first false true slot word may = leaf_can_write level first false (host_allows_write word) (may_write slot word)
+leaf_marks level first false false slot word may = refl
 
-pub leaf_put : (gfn : ℕ) (write : Bool) (t : Topics) → Entering gfn write t → SawEntry gfn t.walk → t.walk.level ≡ 1 → IsPut gfn write t (leaf_written write t)
+pub leaf_put : (gfn : ℕ) (write : Bool) (t : Topics) → Entering gfn write t → SawEntry gfn t.walk → t.walk.level ≡ 1
+    → IsPut gfn write t (leaf_written gfn write t)
 leaf_put gfn write t E S low = record {
   over = S.over;
   low = low;
-  leaf =
-      kind_of_leaf 1 (host_frame (word_looked t.host)) (puts_write write t && may_write t.search.slot (word_looked t.host))
-      (host_allows_write (word_looked t.host)) (may_write t.search.slot (word_looked t.host)) (omega arith) (omega arith);
+  leaf = ap (λ l. kind_of l (leaf_written gfn write t)) (sym low) ∙ leaf_is gfn write t (omega (arith, low)) (omega (arith, low));
   allows =
-      ap (λ (x : Option HostLook). allows_access write (leaf_of (puts_write write t) t.search.slot (word_looked x))) L.host
-      ∙ allowed_leaf write (puts_write write t) t.search.slot L.word (asked_puts write t) E.sharing.looked.allowed;
+      ap (λ (x : Option HostLook). allows_access write (leaf_of t.walk.level gfn (puts_write write t) t.search.slot (word_looked x))) L.host
+      ∙ allowed_leaf t.walk.level (host_frame L.word - gfn % level_span t.walk.level) write (puts_write write t) t.search.slot L.word (asked_puts write t)
+      E.sharing.looked.allowed;
   owes_none = E.sharing.owes_none;
 }
   where
@@ -138,8 +139,9 @@ leaf_put gfn write t E S low = record {
     L = E.sharing.looked.looked_up
 
 pub puts_marks : (gfn : ℕ) (write : Bool) (t : Topics) → Entering gfn write t
-    → (t.search.logged && can_write (leaf_written write t)) ≡ (write && t.search.logged)
-puts_marks gfn write t E = leaf_marks write t.search.logged t.search.slot (word_looked t.host) may
+    → (t.search.logged && can_write (leaf_written gfn write t)) ≡ (write && t.search.logged)
+puts_marks gfn write t E =
+    leaf_marks t.walk.level (host_frame (word_looked t.host) - gfn % level_span t.walk.level) write t.search.logged t.search.slot (word_looked t.host) may
   where
     may : write ≡ true → may_write t.search.slot (word_looked t.host) ≡ true
     may w =
@@ -169,15 +171,15 @@ leaf_ends false z gfn new_ v write t logged E none P = (
 pub leaf_known : (b writes : Bool) (z : Sizes) (gfn : ℕ) (write : Bool) (t : Topics) (v : ℕ) → (v == t.walk.entry) ≡ b → Entering gfn write t → t.owned ≡ None
     → SawEntry gfn t.walk → t.walk.level ≡ 1 → writes ≡ write
     → FaultKnows (if b then put_next false (writes && t.search.logged) else Unshare (exchange_lost false z gfn t.walk v)) z gfn write
-    (exchanged b (entry_index gfn t.walk.level) (leaf_written writes t) t v)
+    (exchanged b (entry_index gfn t.walk.level) (leaf_written gfn writes t) t v)
 leaf_known true writes z gfn write t v is E none S low same = subst
-    (λ (w : Bool). FaultKnows (put_next false (w && t.search.logged)) z gfn write (exchanged true (entry_index gfn t.walk.level) (leaf_written w t) t v))
+    (λ (w : Bool). FaultKnows (put_next false (w && t.search.logged)) z gfn write (exchanged true (entry_index gfn t.walk.level) (leaf_written gfn w t) t v))
     (sym same)
     (subst (λ (u : Topics). FaultKnows (put_next false (write && t.search.logged)) z gfn write u)
-    (sym (put_is gfn (leaf_written write t) v write (write && t.search.logged) t P (puts_marks gfn write t E)))
-    (leaf_ends (write && t.search.logged) z gfn (leaf_written write t) v write t (λ is. (both write t.search.logged is).1) E none P))
+    (sym (put_is gfn (leaf_written gfn write t) v write (write && t.search.logged) t P (puts_marks gfn write t E)))
+    (leaf_ends (write && t.search.logged) z gfn (leaf_written gfn write t) v write t (λ is. (both write t.search.logged is).1) E none P))
   where
-    P : IsPut gfn write t (leaf_written write t)
+    P : IsPut gfn write t (leaf_written gfn write t)
     P = leaf_put gfn write t E S low
 leaf_known false writes z gfn write t v is E none S low same = (
   record { section = E.sharing.section; owns_none = none; owes_none = E.sharing.owes_none },

@@ -160,11 +160,11 @@ fault_sees fault.Link z own gfn note write t words not_ K =
 fault_sees (fault.Give e) z own gfn note write t words not_ K = λ is. absurd (cc (not_, is))
 fault_sees (fault.Leaf writes) z own gfn note write t words not_ K =
     let v : ℕ = words area.Pool (pool_index (table_page t.walk) (entry_index gfn t.walk.level)) in
-    let P : IsPut gfn write t (leaf_written writes t) =
-    subst (λ (b : Bool). IsPut gfn write t (leaf_written b t)) (sym K.4) (leaf_put gfn write t K.0 K.2 K.3) in
-    let marks : (t.search.logged && can_write (leaf_written writes t)) ≡ (writes && t.search.logged) =
-    subst (λ (b : Bool). (t.search.logged && can_write (leaf_written b t)) ≡ (b && t.search.logged)) (sym K.4) (puts_marks gfn write t K.0) in
-    exchange_sees (v == t.walk.entry) gfn (leaf_written writes t) v write false (writes && t.search.logged) t (words area.Pool)
+    let P : IsPut gfn write t (leaf_written gfn writes t) =
+    subst (λ (b : Bool). IsPut gfn write t (leaf_written gfn b t)) (sym K.4) (leaf_put gfn write t K.0 K.2 K.3) in
+    let marks : (t.search.logged && can_write (leaf_written gfn writes t)) ≡ (writes && t.search.logged) =
+    subst (λ (b : Bool). (t.search.logged && can_write (leaf_written gfn b t)) ≡ (b && t.search.logged)) (sym K.4) (puts_marks gfn write t K.0) in
+    exchange_sees (v == t.walk.entry) gfn (leaf_written gfn writes t) v write false (writes && t.search.logged) t (words area.Pool)
     (fault.Unshare (exchange_lost false z gfn t.walk v)) refl P marks
 fault_sees fault.Fix z own gfn note write t words not_ K =
     let v : ℕ = words area.Pool (pool_index (table_page t.walk) (entry_index gfn t.walk.level)) in

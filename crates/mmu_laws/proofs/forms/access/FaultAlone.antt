@@ -236,11 +236,11 @@ next_alone z w a gfn note write (Leaf writes) R =
     let t : Topics = (hand_in mmu w a).topics in
     let v : ℕ = word_in z w area.Pool (pool_index (table_page t.walk) (entry_index gfn t.walk.level)) in
     let after : Area → ℕ → ℕ = words_after (part_task (part.Leaf gfn writes) a t note) (word_in z w) in
-    let P : IsPut gfn write t (leaf_written writes t) =
-    subst (λ (b : Bool). IsPut gfn write t (leaf_written b t)) (sym R.knows.4) (leaf_put gfn write t R.knows.0 R.knows.2 R.knows.3) in
+    let P : IsPut gfn write t (leaf_written gfn writes t) =
+    subst (λ (b : Bool). IsPut gfn write t (leaf_written gfn b t)) (sym R.knows.4) (leaf_put gfn write t R.knows.0 R.knows.2 R.knows.3) in
     leaf_alone (after area.Root 0) (after area.Slots 0) (after area.Pool) (after area.Host) gfn write (v == t.walk.entry) false
     (writes && t.search.logged) (Unshare (exchange_lost false z gfn t.walk v)) (part_topics (part.Leaf gfn writes) t v) (is_it v t.walk.entry R.alone)
-    (leaf_leads z w a gfn note write (Leaf writes) R (leaf_written writes t) P.over P.low P.leaf P.allows R.alone)
+    (leaf_leads z w a gfn note write (Leaf writes) R (leaf_written gfn writes t) P.over P.low P.leaf P.allows R.alone)
 next_alone z w a gfn note write Fix R =
     let t : Topics = (hand_in mmu w a).topics in
     let v : ℕ = word_in z w area.Pool (pool_index (table_page t.walk) (entry_index gfn t.walk.level)) in
