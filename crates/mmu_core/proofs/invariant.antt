@@ -8,3 +8,4 @@ pub mod QuietKept
 pub mod RestsKept
 pub mod TargetStays
 pub mod QuietHand
+pub mod FormKept

@@ -18,3 +18,4 @@ pub mod ReleaseNeeds
 pub mod AloneKnown
 pub mod OpenedStays
 pub mod StepsFew
+pub mod FormLaws

@@ -3,7 +3,7 @@ pub mod PartWaits
 pub mod Delays
 pub mod Rests
 pub mod LockKnows
-pub mod MayHave
+pub mod Form
 pub mod Forms
 pub mod Bounds
 pub mod ScanPlaces

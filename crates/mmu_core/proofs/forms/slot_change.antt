@@ -7,3 +7,4 @@ pub mod SlotChangeNeeds
 pub mod SlotChangePlaces
 pub mod SlotChangeRetires
 pub mod SlotChangeTold
+pub mod SlotChangeKeeps

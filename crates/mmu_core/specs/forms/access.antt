@@ -9,3 +9,4 @@ pub mod FaultLaws
 pub mod FaultLeft
 pub mod FaultSteps
 pub mod SearchLeft
+pub mod AccessForm

@@ -1,2 +1,3 @@
 pub mod HostSteps
 pub mod HostKnows
+pub mod HostForm

@@ -4,3 +4,4 @@ pub mod LogLeft
 pub mod LogOutcomes
 pub mod LogTells
 pub mod Readings
+pub mod LogForm

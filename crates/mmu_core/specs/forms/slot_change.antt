@@ -4,3 +4,4 @@ pub mod SlotTargets
 pub mod ArmKnows
 pub mod SlotChangeLeft
 pub mod SlotChangeKnows
+pub mod SlotChangeForm

@@ -19,6 +19,18 @@ use Rattle.mmu_core.specs.lines.Delays.{waits_by}
 use Rattle.mmu_core.specs.forms.access.FaultSteps.{fault_next, fault_part}
 use Rattle.mmu_core.specs.lines.PartWaits.{part_waits}
 use Rattle.part_steps.specs.PartTasks.{page_looked, word_looked}
+use Rattle.std.proofs.Props.{props}
+use Rattle.core_views.specs.declared.place.FaultEnd.{FaultEnd}
+use Rattle.core_views.specs.declared.place.FaultEnd.TheVariants as end_of
+use Rattle.core_views.specs.declared.place.FaultNext.{FaultNext}
+use Rattle.core_views.specs.declared.place.FaultNext.TheVariants as next_of
+use Rattle.core_views.specs.declared.place.Leaving.TheVariants as leaving
+use Rattle.core_views.specs.declared.place.Place.TheVariants as place
+use Rattle.core_views.specs.declared.trace.Command.{Command}
+use Rattle.core_views.specs.declared.trace.Command.TheVariants.{Access}
+use Rattle.mmu_core.proofs.lines.FormLaws.{FormLaws}
+use Rattle.mmu_core.proofs.lines.SimplePlaces.{Nothing, OfAccess}
+use Rattle.mmu_core.proofs.machine.GoesOn.{GoesUnderWay}
 
 -- ---- it doesn't wait
 
@@ -62,3 +74,49 @@ access_fed (Fault fault.Host) h gfn word op v other = (λ e. absurd (cc e), tt)
 access_fed (Fault fault.Bring) h gfn word op v other = brought_fed (v == word_looked h.topics.host) (page_looked h.topics.host)
 access_fed (Fault (fault.End end_)) h gfn word op v other = exit_fed (fault_over end_) other
 access_fed _ h gfn word op v other = tt
+
+-- ---- all that laws ask of it
+
+-- ---- where it goes on to
+
+fault_over_goes : (e : FaultEnd) → GoesUnderWay (fault_over e)
+fault_over_goes end_of.Installed = tt
+fault_over_goes _ = tt
+
+fault_goes : (n : FaultNext) → GoesUnderWay (behind_fault n)
+fault_goes (next_of.Goes p) = tt
+fault_goes (next_of.Ends e) = fault_over_goes e
+
+access_goes : (p : AccessPlace) (h : Held) (gfn : ℕ) (op : Op) (v : ℕ) → GoesUnderWay (access_outcome p h gfn op v)
+access_goes (Leave (leaving.Reached frame value)) h gfn op v = tt
+access_goes (Leave (leaving.Faults fast)) h gfn op v = tt
+access_goes (Fault p) h gfn op v = fault_goes (fault_next p h.state.sizes gfn (is_write op) h.topics v)
+access_goes _ h gfn op v = tt
+
+pub access_laws : (p : AccessPlace) (c : Command) → FormLaws (place.Access p) c
+access_laws p (Access gfn word op) = record {
+  goes = λ h v begun. access_goes p h gfn op v;
+  apart = λ h v other. absurd other;
+  simple = λ h v is. absurd is;
+  rests = λ h other. absurd other;
+  knows_prop = λ h other. absurd other;
+  no_access = λ h other begun is K. absurd other;
+  stays = λ z before set after other h own e. tt;
+  accepts = λ z pool set h e. tt;
+  accepts_prop = λ z slots. hlevel props;
+  free = λ h v answer R e. access_free p h gfn op v answer e;
+  told = λ h v. OfAccess p gfn word op;
+}
+access_laws p _ = record {
+  goes = λ h v begun. tt;
+  apart = λ h v other. absurd other;
+  simple = λ h v is. absurd is;
+  rests = λ h other. absurd other;
+  knows_prop = λ h other. absurd other;
+  no_access = λ h other begun is K. absurd other;
+  stays = λ z before set after other h own e. absurd e;
+  accepts = λ z pool set h e. tt;
+  accepts_prop = λ z slots. hlevel props;
+  free = λ h v answer R e. absurd R;
+  told = λ h v. Nothing;
+}

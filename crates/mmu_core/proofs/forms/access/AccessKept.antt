@@ -30,6 +30,13 @@ use Rattle.mmu_core.proofs.slots.SlotsStay.{AllKnow}
 use Rattle.mmu_core.proofs.held.OthersStay.{access_leaves_none}
 use Rattle.mmu_core.proofs.lines.KnowsKept.{step_leaves}
 use Rattle.mmu_core.proofs.forms.access.UsedTranslations.{caches_room}
+use Rattle.std.proofs.Common.{subst}
+use Rattle.core_views.specs.declared.trace.Command.{Command}
+use Rattle.core_views.specs.Traces.{IsCommandFor}
+use Rattle.mmu_core.proofs.forms.access.AccessParts.{makes_parts}
+use Rattle.mmu_core.proofs.invariant.FormKept.{FormKept}
+use Rattle.mmu_core.proofs.invariant.PartBounded.{part_rests_at}
+use Rattle.mmu_core.proofs.lines.KnowsKept.{access_vcpu, own_access, step_knows}
 
 -- An access has loaded nothing that its places speak of.
 fault_holds : (z : Sizes) (pool : ℕ → ℕ) (set : ℕ) (n : FaultNext) (gfn word : ℕ) (op : Op) (g : Held)
@@ -75,3 +82,23 @@ access_kept z v a line p gfn word op S I P K makes knows =
 
     x : ℕ
     x = answer_in (access_task p h gfn word op) v.words
+
+-- ---- all of it
+
+pub access_keeps : (p : AccessPlace) (c : Command) → FormKept (place.Access p) c
+access_keeps p (Access gfn word op) = record {
+  needs = λ z v a line S I P. tt;
+  knows = λ z v a line S I P there.
+      let V = access_vcpu z (v.hand a).state.actor gfn word op (subst (λ x. IsCommandFor z x (Access gfn word op)) S.own S.allowed) in
+      own_access p line (v.hand a) gfn word op v.words V.0 V.1 (part_rests_at z v a I P there)
+      (step_knows z v a line (Access gfn word op) (place.Access p) S I);
+  makes = λ z v a line small S I P. makes_parts z v a line p gfn word op small S I P;
+  kept = λ z v a line S I P makes knows.
+      access_kept z v a line p gfn word op S I P (step_knows z v a line (Access gfn word op) (place.Access p) S I) makes knows;
+}
+access_keeps p _ = record {
+  needs = λ z v a line S I P. tt;
+  knows = λ z v a line S I P there. absurd S.holds;
+  makes = λ z v a line small S I P. absurd S.holds;
+  kept = λ z v a line S I P makes knows. absurd S.holds;
+}

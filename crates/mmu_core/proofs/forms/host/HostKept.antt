@@ -41,6 +41,10 @@ use Rattle.mmu_core.proofs.lines.StepTopics.{knows_by}
 use Rattle.mmu_core.proofs.invariant.PartBounded.{part_rests_at}
 use Rattle.mmu_core.proofs.machine.PartStepping.{is_publish, changes_word}
 use Rattle.spte_words.specs.declared.area.Area.TheVariants as area
+use Rattle.core_views.specs.declared.trace.Command.{Command}
+use Rattle.mmu_core.proofs.forms.host.HostMakes.{makes_host}
+use Rattle.mmu_core.proofs.invariant.FormKept.{FormKept}
+use Rattle.mmu_core.proofs.machine.PartStepping.{IsPart}
 
 -- It publishes nothing.
 begin_never : (begun : Bool) (p q : PartStep) → is_publish p ≡ false → is_publish q ≡ false → is_publish (if begun then p else q) ≡ false
@@ -114,3 +118,23 @@ own_host p line h page change words R K left =
     let A = parts_answer (host_part p page change h) (own_index h) h.topics (host_note p page h) words in
     knows_by (place.Host p) line (ChangeHost page change) h v (host_needs p h page change R K)
     (λ cached. host_known line h page change cached v p R K left.opens A)
+
+-- ---- all of it
+
+pub host_keeps : (p : HostPlace) (c : Command) → FormKept (place.Host p) c
+host_keeps p (ChangeHost page change) = record {
+  needs = λ z v a line S I P.
+      host_needs p (v.hand a) page change (part_rests_at z v a I P S.there) (step_knows z v a line (ChangeHost page change) (place.Host p) S I);
+  knows = λ z v a line S I P there.
+      own_host p line (v.hand a) page change v.words (part_rests_at z v a I P there) (step_knows z v a line (ChangeHost page change) (place.Host p) S I)
+      (step_leaves z v a line (ChangeHost page change) (place.Host p) S I);
+  makes = λ z v a line small S I P.
+      one_step (IsPart z v a) (host_part p page change (v.hand a)) (makes_host z v a line p page change small S I P);
+  kept = λ z v a line S I P makes knows. host_kept z v a line p page change S I P makes knows;
+}
+host_keeps p _ = record {
+  needs = λ z v a line S I P. absurd S.holds;
+  knows = λ z v a line S I P there. absurd S.holds;
+  makes = λ z v a line small S I P. absurd S.holds;
+  kept = λ z v a line S I P makes knows. absurd S.holds;
+}

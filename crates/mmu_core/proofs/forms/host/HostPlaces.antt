@@ -2,7 +2,7 @@
 use Rattle.part_steps.specs.PartTasks.{word_looked}
 use Rattle.std.proofs.Props.{props}
 use Rattle.mmu_core.proofs.forms.access.AccessEnds.{AreFed}
-use Rattle.std.proofs.Common.{◌≡◌, ◌≤◌, ◌<◌, ◌+◌, ◌-◌, ◌*◌, ◌∷◌, [], ℕ, Bool, true, false, refl, arith}
+use Rattle.std.proofs.Common.{◌≡◌, ◌≤◌, ◌<◌, ◌+◌, ◌-◌, ◌*◌, ◌∷◌, [], ℕ, Bool, true, false, refl, arith, inl, inr}
 use Rattle.std.specs.Prelude.{◌==◌, if◌then◌else◌, None}
 use Rattle.core_views.specs.declared.answer.Answer.{Answer}
 use Rattle.core_views.specs.declared.answer.Answer.TheVariants.{Done, Refused}
@@ -44,6 +44,10 @@ use Rattle.mmu_core.proofs.lines.EitherPlace.{each_claim, either_place}
 use Rattle.mmu_core.proofs.lines.PartsWait.{neither_waits}
 use Rattle.mmu_core.proofs.machine.GoesOn.{GoesToNoAccess, GoesUnderWay}
 use Rattle.mmu_core.proofs.held.PageRuns.{on_run_prop}
+use Rattle.core_views.specs.declared.trace.Command.{Command}
+use Rattle.core_views.specs.declared.trace.Command.TheVariants.{ChangeHost}
+use Rattle.mmu_core.proofs.lines.FormLaws.{FormLaws}
+use Rattle.mmu_core.proofs.lines.SimplePlaces.{Nothing, OfHost}
 
 -- ---- where it goes on to
 
@@ -194,3 +198,40 @@ pub host_rests_prop : (p : HostPlace) (h : Held) → IsProp (HostRests p h)
 host_rests_prop (End ends.Release) h = hlevel props
 host_rests_prop (End _) h = hlevel props
 host_rests_prop _ h = hlevel props
+
+-- ---- all that laws ask of it
+
+pub host_laws : (p : HostPlace) (c : Command) → FormLaws (place.Host p) c
+host_laws p (ChangeHost page change) = record {
+  goes = λ h v begun. (host_goes p page h v).0;
+  apart = λ h v other. (host_goes p page h v).1;
+  simple = λ h v is. absurd is;
+  rests = λ h other. inr (record {
+    step = host_part p page change h;
+    at = refl;
+    more = HostRests p h;
+    more_prop = host_rests_prop p h;
+    needs = λ R. R;
+    rests = λ N M. (N, M);
+  });
+  knows_prop = λ h other. host_knows_prop p page change h;
+  no_access = λ h other begun is K. absurd is;
+  stays = λ z before set after other h own e. tt;
+  accepts = λ z pool set h e. tt;
+  accepts_prop = λ z slots. hlevel props;
+  free = λ h v answer R e. host_free p page change h v answer R.1 e;
+  told = λ h v. OfHost p page change;
+}
+host_laws p _ = record {
+  goes = λ h v begun. tt;
+  apart = λ h v other. tt;
+  simple = λ h v is. absurd is;
+  rests = λ h other. inl (λ R. absurd R);
+  knows_prop = λ h other. hlevel props;
+  no_access = λ h other begun is K. absurd K;
+  stays = λ z before set after other h own e. absurd e;
+  accepts = λ z pool set h e. tt;
+  accepts_prop = λ z slots. hlevel props;
+  free = λ h v answer R e. absurd R;
+  told = λ h v. Nothing;
+}

@@ -39,6 +39,11 @@ use Rattle.mmu_core.proofs.machine.HandWith.{hand_with}
 use Rattle.mmu_core.proofs.machine.PartStepping.{is_publish}
 use Rattle.mmu_core.proofs.machine.Stepping.{IsStep}
 use Rattle.mmu_core.proofs.slots.SlotsStay.{AllKnow}
+use Rattle.mmu_core.proofs.forms.log.LogMakes.{log_fits, makes_log}
+use Rattle.mmu_core.proofs.invariant.FormKept.{FormKept}
+use Rattle.mmu_core.proofs.invariant.PartBounded.{part_rests_at}
+use Rattle.mmu_core.proofs.lines.KnowsKept.{step_knows}
+use Rattle.mmu_core.proofs.machine.PartStepping.{IsPart}
 
 -- ---- what its actor knows
 
@@ -128,3 +133,15 @@ log_kept z v a line p command S I P makes knows =
           (ap (λ f. f.owned) left.frames ∙ L.frames refl);
       holds = λ cached. log_holds n words command _ z _ (v.words area.Slots 0);
     }) knows
+
+-- ---- all of it
+
+pub log_keeps : (p : LogPlace) (c : Command) → FormKept (place.Log p) c
+log_keeps p c = record {
+  needs = λ z v a line S I P. log_rests z v a line p c S I;
+  knows = λ z v a line S I P there.
+      own_log p line c (v.hand a) v.words (part_rests_at z v a I P there) (step_knows z v a line c (place.Log p) S I)
+      (step_leaves z v a line c (place.Log p) S I) (log_rests z v a line p c S I) (log_fits z v a line p c S I);
+  makes = λ z v a line small S I P. one_step (IsPart z v a) (log_part p (v.hand a) c) (makes_log z v a line p c S I small P);
+  kept = λ z v a line S I P makes knows. log_kept z v a line p c S I P makes knows;
+}

@@ -1,23 +1,19 @@
 -- What is so of each step of a line that reads a dirty log: where it waits, what it isn't, and what it leaves.
-use Rattle.std.proofs.Common.{◌≡◌, ℕ, Bool, true, false, refl, ap}
-use Rattle.std.specs.Prelude.{◌==◌, ◌&&◌, ◌||◌, not, nat_lt, if◌then◌else◌}
+use Rattle.std.proofs.Common.{◌≡◌, ℕ, Bool, true, false, refl}
+use Rattle.std.specs.Prelude.{◌==◌, ◌||◌, not, if◌then◌else◌}
 use Rattle.core_views.specs.declared.place.LogPlace.{LogPlace}
 use Rattle.core_views.specs.declared.place.LogPlace.TheVariants.{AtOnce, Exclude, Walk, Release, Await, Peek}
-use Rattle.core_views.specs.declared.topics.Checked.{Checked}
-use Rattle.core_views.specs.declared.topics.Checked.TheVariants as checked
 use Rattle.core_views.specs.declared.topics.Invalidations.{Invalidations}
 use Rattle.core_views.specs.declared.trace.Command.{Command}
 use Rattle.core_views.specs.Held.{Held}
 use Rattle.part_steps.specs.declared.part_step.PartStep.TheVariants as part
 use Rattle.part_steps.specs.ControlBits.{has_to_flush}
-use Rattle.part_steps.specs.ControlTopics.{seq_checked}
 use Rattle.part_steps.specs.PartTopics.{part_topics}
-use Rattle.part_steps.specs.StayTopics.{has_lock}
 use Rattle.part_steps.specs.SweepTopics.{has_entry}
 use Rattle.mmu_core.specs.declared.log_next.LogNext.{LogNext}
 use Rattle.mmu_core.specs.declared.log_next.LogNext.TheVariants as next
 use Rattle.mmu_core.specs.forms.log.LogSteps.{awaits_last, log_next, log_part}
-use Rattle.mmu_core.specs.lines.PartWaits.{own_open, part_waits, saw_open, was_counted}
+use Rattle.mmu_core.specs.lines.PartWaits.{part_waits, saw_open}
 use Rattle.mmu_core.proofs.lines.EitherPlace.{either_place}
 use Rattle.mmu_core.proofs.orders.InvalidatePlaces.{IsPlain, LeavesPages}
 use Rattle.mmu_core.proofs.lines.PartsWait.{neither_waits}
@@ -36,27 +32,6 @@ log_waits_at _ n v = false
 pub log_waits : (p : LogPlace) (h : Held) (command : Command) (v : ℕ) → part_waits (log_part p h command) h.topics v ≡ log_waits_at p h.topics.invalidations v
 log_waits (Walk page) h command v = neither_waits (has_entry h.topics.walk) (part.WalkAnew _) (part.Walk _) h.topics v refl refl
 log_waits _ h command v = refl
-
--- It has seen none where it has loaded no count since it took the lock, which no step of it does.
-pub saw_none : (n : Invalidations) → was_counted n.checked ≡ false → saw_open n ≡ false
-saw_none n none = ap (λ (b : Bool). b && nat_lt (own_open n) n.count) none
-
-seq_uncounted : (locked : Bool) (count : ℕ) (c : Checked) → was_counted (seq_checked locked count c) ≡ false
-seq_uncounted locked count checked.Count =
-    either_place (λ c. was_counted c ≡ false) (count == 0) checked.All checked.Nothing refl refl
-seq_uncounted locked count checked.Nothing = either_place (λ c. was_counted c ≡ false) locked checked.Seq checked.Nothing refl refl
-seq_uncounted locked count _ = refl
-
-pub log_uncounted : (p : LogPlace) (h : Held) (command : Command) (v : ℕ) → was_counted h.topics.invalidations.checked ≡ false
-    → was_counted (part_topics (log_part p h command) h.topics v).invalidations.checked ≡ false
-log_uncounted (AtOnce refusal) h command v none =
-    seq_uncounted (has_lock h.topics.hold) h.topics.invalidations.count h.topics.invalidations.checked
-log_uncounted Exclude h command v none = refl
-log_uncounted (Walk page) h command v none =
-    either_place (λ step. was_counted (part_topics step h.topics v).invalidations.checked ≡ false) (has_entry h.topics.walk) (part.WalkAnew _) (part.Walk _)
-    none none
-log_uncounted Release h command v none = refl
-log_uncounted _ h command v none = none
 
 -- ---- how it ends
 

@@ -18,7 +18,7 @@ use Rattle.core_views.specs.declared.trace.Slot.{Slot}
 use Rattle.core_views.specs.declared.trace.Command.{Command}
 use Rattle.core_views.specs.declared.trace.Command.TheVariants.{Access, ChangeHost, ClearLog, DeleteSlot, GetLog, Migrate, SetLog, SetSlot}
 use Rattle.core_views.specs.Held.{Held}
-use Rattle.core_views.specs.SlotCommands.{slot_armed, slot_change}
+use Rattle.core_views.specs.SlotCommands.{slot_armed, slot_change, changes_slot}
 use Rattle.part_steps.specs.ControlBits.{has_to_flush}
 use Rattle.mmu_core.specs.declared.outcome.Outcome.TheVariants.{Ends}
 use Rattle.mmu_core.specs.orders.ClaimSteps.{Pages, claim_next}
@@ -41,7 +41,12 @@ use Rattle.mmu_core.proofs.machine.PartStepping.{rises}
 use Rattle.mmu_core.proofs.lines.SimplePlaces.{SimplePlace, Told, RaisesOn, Nothing, Arms, ArmsClean, Exit, Change, none_raised}
 use Rattle.mmu_core.proofs.forms.slot_change.SlotChangeClaims.{change_claims_or_not}
 use Rattle.mmu_core.specs.forms.access.AccessSteps.{exiting}
-use Rattle.mmu_core.proofs.forms.slot_change.SlotChangePlaces.{slot_change_goes}
+use Rattle.mmu_core.proofs.forms.slot_change.SlotChangePlaces.{slot_change_goes, accepts_prop, change_accepts, slot_change_knows_prop, slot_change_rests_prop}
+use Rattle.mmu_core.specs.forms.slot_change.SlotChangeKnows.{SlotChangeRests}
+use Rattle.mmu_core.specs.lines.Forms.{KnowsPart, outcome_at}
+use Rattle.mmu_core.proofs.forms.slot_change.SlotChangePlaces.{slot_change_stays}
+use Rattle.mmu_core.proofs.lines.FormLaws.{FormLaws, IsAccess, rests_on}
+use Rattle.mmu_core.proofs.machine.GoesOn.{simple_is_no_access}
 
 -- ---- how it ends
 
@@ -170,3 +175,26 @@ module _ (h : Held) (command : Command) (v : ℕ) where
     raises = change_raises p;
     claims = λ R. change_claims_or_not command h v p;
   }
+
+-- ---- all that laws ask of it
+
+no_access_changes : (p : SlotChangePlace) (c : Command) (h : Held) → IsAccess c → KnowsPart (place.SlotChange p) c h → ⊥
+no_access_changes p (Access gfn word op) h is K = cc K.0
+no_access_changes p _ h is K = absurd is
+
+pub slot_change_laws : (p : SlotChangePlace) (c : Command) → FormLaws (place.SlotChange p) c
+slot_change_laws p c = record {
+  goes = λ h v begun. (slot_change_goes p c h v).0;
+  apart = λ h v other. simple_is_no_access (outcome_at (place.SlotChange p) c h v) (slot_change_simple h c v p).goes;
+  simple = λ h v is. slot_change_simple h c v p;
+  rests = λ h other.
+      rests_on (place.SlotChange p) c h (changes_slot c) (slot_change_part p h c) (SlotChangeRests p c h) refl (slot_change_rests_prop p c h)
+      (λ R. R) (λ R. R);
+  knows_prop = λ h other. slot_change_knows_prop p c h;
+  no_access = λ h other begun is K. no_access_changes p c h is K;
+  stays = λ z before set after other h own e. slot_change_stays z before after h own p c e;
+  accepts = λ z pool set h e. change_accepts p c z pool h e;
+  accepts_prop = λ z slots. accepts_prop p z c slots;
+  free = λ h v answer R e. slot_change_free p h c v answer e;
+  told = λ h v. (slot_change_simple h c v p).tells;
+}
